@@ -1,0 +1,5 @@
+pub mod PathOrder
+pub mod BusNumbers
+pub mod Levels
+pub mod Packing
+pub mod Routes

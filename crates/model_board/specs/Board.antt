@@ -1,0 +1,46 @@
+-- A board: the functions that stand at its paths, and the bus numbers that follow from them alone.
+--     Part, Path      a device and function of one bus; the parts from bus 0 down
+--     Board      rows of a path and a declaration, in path order
+--     secondary, subordinate, bus_of      bus numbers, as counts of bridges
+--     root_pin      where an interrupt pin reaches bus 0
+use Rattle.std.specs.Prelude.{List, [], ◌≡◌, Bool, true, false, ◌&&◌, ◌==◌, not, filter, IsTrue, ◌⊎◌}
+use Rattle.std.specs.List.{list_any}
+use Rattle.model_registers.specs.Lists.{Each, EachPair}
+use Rattle.model_registers.specs.Declarations.{Endpoint, Bridge}
+use Rattle.model_board.specs.Paths.{Path, path_eq, path_before, parent, last_part, function_zero, IsPath}
+
+pub data Decl : Type 0 where
+  endpoint : Endpoint → Decl
+  bridge : Bridge → Decl
+
+abbrev pub is_bridge : Decl → Bool
+is_bridge (endpoint d) = false
+is_bridge (bridge d) = true
+
+pub record Row : Type 0 where
+  pub path : Path
+  pub decl : Decl
+
+abbrev pub Board : Type 0
+Board = List Row
+
+-- the rows of the bus behind a bridge; [] names bus 0
+abbrev pub rows_on : Board → Path → Board
+rows_on b bus = filter (λ r. path_eq (parent r.path) bus) b
+
+abbrev pub stands_at : Board → Path → Bool
+stands_at b p = list_any (λ r. path_eq r.path p) b
+
+abbrev pub is_bridge_at : Board → Path → Bool
+is_bridge_at b p = list_any (λ r. is_bridge r.decl && path_eq r.path p) b
+
+-- another function stands in the device
+abbrev pub is_shared : Board → Path → Bool
+is_shared b p = list_any (λ r. path_eq (parent r.path) (parent p) && ((last_part r.path).device == (last_part p).device) && not (path_eq r.path p)) b
+
+-- lawful places: no path twice, each path behind a bridge of the board or on bus 0, and a function 0 in each device
+pub record IsBoard (b : Board) : Type 0 where
+  pub paths : Each (λ r. IsPath r.path) b
+  pub in_order : EachPair (λ r s. IsTrue (path_before r.path s.path)) b
+  pub behind_bridges : Each (λ r. (parent r.path ≡ []) ⊎ IsTrue (is_bridge_at b (parent r.path))) b
+  pub function_zeros : Each (λ r. IsTrue (stands_at b (function_zero r.path))) b

@@ -1,0 +1,25 @@
+-- Bus numbers, as counts of bridges: PCI-to-PCI Bridge Architecture 1.2, chapter 3.2.5.
+--     secondary, subordinate b p      the first and the last bus number behind the bridge at p
+--     bus_behind, bus_of      the number of the bus behind a bridge; the bus that a function stands on
+--     Enumerates      the numbers suffice
+use Rattle.std.specs.Prelude.{[], ◌∷◌, ℕ, ◌+◌, ◌&&◌, ◌≤◌, count_by}
+use Rattle.model_board.specs.Paths.{Path, path_before, leads_to, parent}
+use Rattle.model_board.specs.Board.{is_bridge, Board}
+
+abbrev pub secondary : Board → Path → ℕ
+secondary b p = 1 + count_by (λ r. is_bridge r.decl && path_before r.path p) b
+
+abbrev pub subordinate : Board → Path → ℕ
+subordinate b p = secondary b p + count_by (λ r. is_bridge r.decl && leads_to p r.path) b
+
+-- the number of the bus behind a bridge; [] names bus 0
+abbrev pub bus_behind : Board → Path → ℕ
+bus_behind b [] = 0
+bus_behind b (p ∷ ps) = secondary b (p ∷ ps)
+
+-- the bus that a function stands on; a bridge's Primary
+abbrev pub bus_of : Board → Path → ℕ
+bus_of b p = bus_behind b (parent p)
+
+abbrev pub Enumerates : Board → Type 0
+Enumerates b = count_by (λ r. is_bridge r.decl) b ≤ 255

@@ -1,0 +1,16 @@
+pub mod Paths
+pub mod Board
+pub mod BusNumbers
+pub mod Interrupts
+pub mod State
+pub mod Windows
+pub mod Claims
+pub mod Cycles
+pub mod Pools
+pub mod Placement
+pub mod Layout
+pub mod SetUp
+pub mod Packing
+pub mod Levels
+pub mod Numbering
+pub mod Reach

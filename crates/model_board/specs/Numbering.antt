@@ -1,0 +1,13 @@
+-- Bus numbers as counts say where a bridge stands: the numbers behind a bridge are those of the bridges that it leads to.
+use Rattle.std.specs.Prelude.{◌<◌, ◌≤◌, IsTrue, IsFalse}
+use Rattle.model_board.specs.Paths.{Path, path_before, leads_to}
+use Rattle.model_board.specs.Board.{Board, is_bridge_at, IsBoard}
+use Rattle.model_board.specs.BusNumbers.{secondary, subordinate}
+
+pub record NumbersLead (b : Board) (r q : Path) : Type 0 where
+  pub inside : IsTrue (leads_to r q) → (secondary b r < secondary b q) × (secondary b q ≤ subordinate b r)
+  pub earlier : IsTrue (path_before q r) → secondary b q < secondary b r
+  pub later : IsTrue (path_before r q) → IsFalse (leads_to r q) → subordinate b r < secondary b q
+
+abbrev pub Numbering : Type 0
+Numbering = (b : Board) → IsBoard b → (r q : Path) → IsTrue (is_bridge_at b r) → IsTrue (is_bridge_at b q) → NumbersLead b r q

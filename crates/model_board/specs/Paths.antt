@@ -1,0 +1,64 @@
+-- Where a function stands: the devices and functions from bus 0 down.
+--     Part, Path      a device and function of one bus; the parts from bus 0 down
+--     path_before, leads_to      path order; a path is a proper beginning of another
+--     parent, last_part      the bridge above; the device and function on its own bus
+use Rattle.std.specs.Prelude.{List, [], ◌∷◌, ℕ, ◌<◌, Bool, true, false, ◌&&◌, ◌==◌, ◌≤◌, length, ◌||◌, nat_lt}
+use Rattle.model_registers.specs.Lists.{Each}
+
+pub record Part : Type 0 where
+  pub device : ℕ
+  pub function : ℕ
+
+abbrev pub Path : Type 0
+Path = List Part
+
+abbrev pub part_eq : Part → Part → Bool
+part_eq p q = p.device == q.device && p.function == q.function
+
+abbrev pub part_before : Part → Part → Bool
+part_before p q = nat_lt p.device q.device || (p.device == q.device && nat_lt p.function q.function)
+
+abbrev pub path_eq : Path → Path → Bool
+path_eq [] [] = true
+path_eq [] (q ∷ qs) = false
+path_eq (p ∷ ps) [] = false
+path_eq (p ∷ ps) (q ∷ qs) = part_eq p q && path_eq ps qs
+
+-- path order: part by part, and a path before its extensions
+abbrev pub path_before : Path → Path → Bool
+path_before [] [] = false
+path_before [] (q ∷ qs) = true
+path_before (p ∷ ps) [] = false
+path_before (p ∷ ps) (q ∷ qs) = part_before p q || (part_eq p q && path_before ps qs)
+
+-- the first path is a proper beginning of the second
+abbrev pub leads_to : Path → Path → Bool
+leads_to [] [] = false
+leads_to [] (q ∷ qs) = true
+leads_to (p ∷ ps) [] = false
+leads_to (p ∷ ps) (q ∷ qs) = part_eq p q && leads_to ps qs
+
+-- the path without its last part: the bridge above, or [] for bus 0
+abbrev pub parent : Path → Path
+parent [] = []
+parent (p ∷ []) = []
+parent (p ∷ q ∷ ps) = p ∷ parent (q ∷ ps)
+
+abbrev pub last_part : Path → Part
+last_part [] = record { device = 0; function = 0 }
+last_part (p ∷ []) = p
+last_part (p ∷ q ∷ ps) = last_part (q ∷ ps)
+
+abbrev pub function_zero : Path → Path
+function_zero [] = []
+function_zero (p ∷ []) = record p { function = 0 } ∷ []
+function_zero (p ∷ q ∷ ps) = p ∷ function_zero (q ∷ ps)
+
+pub record IsPart (p : Part) : Type 0 where
+  pub device_fits : p.device < 16
+  pub function_fits : p.function < 8
+
+pub record IsPath (p : Path) : Type 0 where
+  pub some : 0 < length p
+  pub few : length p ≤ 16
+  pub parts : Each IsPart p

@@ -1,0 +1,23 @@
+-- With the board's bus numbers in its bridges, a configuration cycle reaches the function that the numbers name.
+use Rattle.std.specs.Prelude.{List, ◌≡◌, Some, map, IsTrue}
+use Rattle.model_registers.specs.Lists.{Each}
+use Rattle.model_board.specs.Paths.{Path, last_part}
+use Rattle.model_board.specs.Board.{is_bridge, Row, Board, stands_at, IsBoard}
+use Rattle.model_board.specs.BusNumbers.{secondary, subordinate, bus_of}
+use Rattle.model_board.specs.State.{BoardFunction}
+use Rattle.model_board.specs.Cycles.{secondary_register, subordinate_register, BusAddress, reached}
+
+abbrev pub row_at : BoardFunction → Row
+row_at f = record { path = f.path; decl = f.decl }
+
+-- the functions of the board, with its numbers in the bridges, whatever else their cells hold
+pub record HasNumbers (b : Board) (fs : List BoardFunction) : Type 0 where
+  pub rows : map row_at fs ≡ b
+  pub numbers : Each (λ f. IsTrue (is_bridge f.decl) → (secondary_register f.file ≡ secondary b f.path) × (subordinate_register f.file ≡ subordinate b f.path)) fs
+
+abbrev pub address_of : Board → Path → BusAddress
+address_of b p = record { bus = bus_of b p; part = last_part p }
+
+abbrev pub ReachedByNumbers : Type 0
+ReachedByNumbers = (b : Board) → IsBoard b → (fs : List BoardFunction) → HasNumbers b fs → (p : Path) → IsTrue (stands_at b p)
+    → (f : BoardFunction) × (reached fs (address_of b p) ≡ Some f) × (f.path ≡ p)

@@ -1,0 +1,61 @@
+-- The register state that set-up leaves: all cells at reset, but for bus numbers, Command, base registers and windows.
+use Rattle.std.specs.Prelude.{List, [], ◌∷◌, ℕ, ◌-◌, ◌+◌, ◌*◌, Bool, if◌then◌else◌, map}
+use Rattle.std.specs.List.{list_any}
+use Rattle.model_registers.specs.Registers.{File}
+use Rattle.model_registers.specs.Declarations.{Region, Endpoint}
+use Rattle.model_registers.specs.EndpointTable.{endpoint_file, endpoint_reset}
+use Rattle.model_registers.specs.BridgeTable.{Span, Routing, bridge_file, bridge_reset}
+use Rattle.model_registers.specs.Decoding.{Space, io, memory, space_of, same_space}
+use Rattle.model_board.specs.Paths.{Path}
+use Rattle.model_board.specs.Board.{Decl, endpoint, bridge, Board, is_shared}
+use Rattle.model_board.specs.BusNumbers.{secondary, subordinate, bus_of}
+use Rattle.model_board.specs.State.{State}
+use Rattle.model_board.specs.Pools.{Pool, io_pool, mem_pool, pref_pool, unit_of, Apertures, bridges_above, pool_of}
+use Rattle.model_board.specs.Placement.{Item, need, items_on, bus_first, region_first}
+
+-- the place of a region, in its pool
+abbrev pub first_of : Board → Apertures → Path → Region → ℕ
+first_of b a p r = region_first b a (pool_of a (bridges_above b p) r.kind) p r.index
+
+abbrev pub opens : Endpoint → Space → Bool
+opens d space = list_any (λ r. same_space (space_of r.kind) space) d.regions
+
+abbrev pub command_of : Endpoint → ℕ
+command_of d = (if opens d io then 1 else 0) + (if opens d memory then 2 else 0)
+
+-- a window without items has its base in the last unit that the register names, and its limit at 0
+abbrev pub span_of : ℕ → ℕ → ℕ → List Item → Span
+span_of unit closed first [] = record { first = closed * unit; last = 0 }
+span_of unit closed first (i ∷ is) = record { first = first; last = first + need unit (i ∷ is) - 1 }
+
+abbrev pub window_span : Board → Apertures → Pool → ℕ → Path → Span
+window_span b a pool closed p = span_of (unit_of pool) closed (bus_first b a pool p) (items_on b a pool p)
+
+abbrev pub routing_of : Board → Apertures → Path → Routing
+routing_of b a p = record {
+  command = 3;
+  primary = bus_of b p;
+  secondary = secondary b p;
+  subordinate = subordinate b p;
+  io = window_span b a io_pool 0xf p;
+  mem = window_span b a mem_pool 0xfff p;
+  pref = window_span b a pref_pool 0xfff p;
+}
+
+abbrev pub set_up_file : Board → Apertures → Path → Decl → File
+set_up_file b a p (endpoint d) = endpoint_file d (is_shared b p) (command_of d) (first_of b a p)
+set_up_file b a p (bridge d) = bridge_file d (is_shared b p) (routing_of b a p)
+
+abbrev pub reset_file : Board → Path → Decl → File
+reset_file b p (endpoint d) = endpoint_reset d (is_shared b p)
+reset_file b p (bridge d) = bridge_reset d (is_shared b p)
+
+-- no latch is set, and each function has its cells
+abbrev pub state_of : Board → (Path → Decl → File) → State
+state_of b file = record { functions = map (λ r. record { path = r.path; decl = r.decl; file = file r.path r.decl }) b; latch = 0 }
+
+abbrev pub reset_state : Board → State
+reset_state b = state_of b (reset_file b)
+
+abbrev pub set_up_state : Board → Apertures → State
+set_up_state b a = state_of b (set_up_file b a)

@@ -1,0 +1,13 @@
+pub mod Accesses
+pub mod LoneGuest
+pub mod Text
+pub mod Numbers
+pub mod Grammar
+pub mod World
+pub mod Agreement
+pub mod HostReads
+pub mod Replies
+pub mod Output
+pub mod Report
+pub mod Worlds
+pub mod Examples

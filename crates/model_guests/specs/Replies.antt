@@ -1,0 +1,30 @@
+-- Replies as text.
+--     reply_text, line_text      a reply; a reply under the name of who is told
+use Rattle.std.specs.Prelude.{[], ◌∷◌, ℕ, zero, suc, ◌+◌, ◌*◌, ◌/◌, ◌%◌, false, ◌==◌, if◌then◌else◌, ◌++◌, codes, decimal}
+use Rattle.std.specs.Fmt.{digit_glyph}
+use Rattle.model_guests.specs.Accesses.{Reply, answered, done, refused}
+use Rattle.model_guests.specs.Text.{Text}
+use Rattle.model_guests.specs.Grammar.{Who, guest, host, nobody, bad}
+
+abbrev pub hex_digits : ℕ → ℕ → Text
+hex_digits zero n = []
+hex_digits (suc k) n = hex_digits k (n / 16) ++ digit_glyph false (n % 16) ∷ []
+
+abbrev pub refusal_words : ℕ → Text
+refusal_words n =
+    if n == 301 then codes "misaligned" else (if n == 302 then codes "width" else (if n == 303 then codes "range"
+    else (if n == 401 then codes "bad line" else (if n == 402 then codes "unknown guest" else (if n == 403 then codes "long line"
+    else (if n == 601 then codes "empty slot" else codes "slot taken"))))))
+
+abbrev pub reply_text : Reply → Text
+reply_text (answered v w) = codes "0x" ++ hex_digits (2 * w) v
+reply_text done = codes "ok"
+reply_text (refused n) = codes "refused " ++ decimal n ++ codes " " ++ refusal_words n
+
+abbrev pub who_text : Who → Text
+who_text (guest name) = name
+who_text host = codes "host"
+who_text nobody = codes "?"
+
+abbrev pub line_text : Who → Reply → Text
+line_text who r = who_text who ++ codes ": " ++ reply_text r

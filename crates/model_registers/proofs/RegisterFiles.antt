@@ -1,0 +1,135 @@
+-- Laws of register files.
+use Rattle.std.proofs.Common.{◌≡◌, ℕ, zero, suc, ◌+◌, ◌-◌, ◌*◌, ◌/◌, ◌%◌, ◌^◌, ◌<◌, Bool, true, false, cond, [], ◌∷◌, ◌++◌, refl, sym, ap, ap₂, ◌∙◌, subst, arith, eqb}
+use Rattle.std.specs.Prelude.{bit_and, bit_or}
+use Rattle.std.specs.Int.Bits.{or_zero_r, and_zero_r, and_le_l}
+use Rattle.std.proofs.lemmas.Bool.Decides.{nat_tests}
+use Rattle.std.proofs.lemmas.Bool.{eqb-true}
+use Rattle.std.proofs.lemmas.Nat.{or_mod, and_mod, and_mask, or_shr, and_shr}
+use Rattle.std.proofs.Math.Arith.{mod-mul}
+use Rattle.std.proofs.Math.Nat.{pow-suc, one-le-pow, mod-one, mod-eq_of_lt}
+use Rattle.model_registers.specs.Cell.{Cell, no_cell, written}
+use Rattle.model_registers.specs.Registers.{Place, config, block, place_eq, Entry, File, cell_at, changed, field, number, write, all_bytes}
+use Rattle.model_registers.specs.RegisterLaws.{ChangeAtPlace, FieldReads, FieldWrites, merged}
+use Rattle.model_registers.proofs.Tests.{left_true, right_true}
+
+place_same : (p q : Place) → place_eq p q ≡ true → p ≡ q
+place_same (config a) (config b) h = ap config (eqb-true a b h)
+place_same (block n a) (block m b) h = ap₂ block (eqb-true n m (left_true (eqb n m) (eqb a b) h)) (eqb-true a b (right_true (eqb n m) (eqb a b) h))
+place_same (config a) (block m b) h = cc
+place_same (block n a) (config b) h = cc
+
+change_cases : (f : Cell → Cell) (e : Entry) (es : File) (p q : Place) (t u : Bool) → place_eq e.place p ≡ t → place_eq p q ≡ u
+    → cell_at (changed f p es) q ≡ cond u (f (cell_at es q)) (cell_at es q)
+    → cell_at (cond t (record e { cell = f e.cell }) e ∷ changed f p es) q ≡ cond u (f (cell_at (e ∷ es) q)) (cell_at (e ∷ es) q)
+change_cases f e es p q true true ep pq more =
+    let eq : place_eq e.place q ≡ true = subst (λ (x : Place). place_eq x q ≡ true) (sym (place_same e.place p ep)) pq in rw eq
+change_cases f e es p q true false ep pq more =
+    let eq : place_eq e.place q ≡ false = subst (λ (x : Place). place_eq x q ≡ false) (sym (place_same e.place p ep)) pq in rw eq more
+change_cases f e es p q false true ep pq more =
+    let eq : place_eq e.place q ≡ false = subst (λ (x : Place). place_eq e.place x ≡ false) (place_same p q pq) ep in rw eq more
+change_cases f e es p q false false ep pq more = ap (cond (place_eq e.place q) e.cell) more
+
+empty_cases : (f : Cell → Cell) (u : Bool) → f no_cell ≡ no_cell → no_cell ≡ cond u (f no_cell) no_cell
+empty_cases f true h = sym h
+empty_cases f false h = refl
+
+pub change_at_place : ChangeAtPlace
+change_at_place f h [] p q = empty_cases f (place_eq p q) h
+change_at_place f h (e ∷ es) p q = change_cases f e es p q (place_eq e.place p) (place_eq p q) refl refl (change_at_place f h es p q)
+
+-- ---- registers of several bytes
+
+self : (a : ℕ) → eqb a a ≡ true
+self a = grind (arith, nat_tests)
+
+above : (a b : ℕ) → b < a → eqb a b ≡ false
+above a b h = grind (arith, nat_tests)
+
+below : (a b : ℕ) → b < a → eqb b a ≡ false
+below a b h = grind (arith, nat_tests)
+
+-- reading above an entry passes it by
+read_past : (w a b : ℕ) (c : Cell) (file : File) → b < a → number (record { place = config b; cell = c } ∷ file) (config a) w ≡ number file (config a) w
+read_past zero a b c file h = refl
+read_past (suc w) a b c file h =
+    let e : eqb b a ≡ false = below a b h in
+    ap₂ (λ x y. x + 256 * y) (rw e) (read_past w (a + 1) b c file (omega arith))
+
+read_here : (a : ℕ) (c : Cell) (file : File) → cell_at (record { place = config a; cell = c } ∷ file) (config a) ≡ c
+read_here a c file = let e : eqb a a ≡ true = self a in rw e
+
+low_byte : (w v : ℕ) → v % 256 + 256 * (v / 256 % 256 ^ w) ≡ v % 256 ^ suc w
+low_byte w v =
+    let some : 0 < 256 ^ w = one-le-pow w 256 (omega arith) in
+    let split : v % (256 ^ w * 256) ≡ (v / 256 % 256 ^ w) * 256 + v % 256 = mod-mul v some (omega arith) in
+    let turned : v % 256 + 256 * (v / 256 % 256 ^ w) ≡ (v / 256 % 256 ^ w) * 256 + v % 256 = omega arith in
+    turned ∙ sym split ∙ ap (λ n. v % n) (sym (pow-suc 256 w))
+
+pub field_reads : FieldReads
+field_reads zero a v m w1c rest = sym (mod-one v)
+field_reads (suc w) a v m w1c rest =
+    let c : Cell = record { value = v % 256; writable = m % 256; clearable = w1c % 256 } in
+    let file : File = field (config (a + 1)) w (v / 256) (m / 256) (w1c / 256) ++ rest in
+    ap₂ (λ x y. x + 256 * y) (ap (λ (k : Cell). k.value) (read_here a c file))
+    (read_past w (a + 1) a c file (omega arith) ∙ field_reads w (a + 1) (v / 256) (m / 256) (w1c / 256) rest)
+    ∙ low_byte w v
+
+-- a change below a register leaves it
+change_below : (f : Cell → Cell) (w a b v m c : ℕ) → b < a → changed f (config b) (field (config a) w v m c) ≡ field (config a) w v m c
+change_below f zero a b v m c h = refl
+change_below f (suc w) a b v m c h =
+    let e : eqb a b ≡ false = above a b h in
+    let cell : Cell = record { value = v % 256; writable = m % 256; clearable = c % 256 } in
+    ap₂ (λ (t : Bool) (file : File). cond t (record { place = config a; cell = f cell }) (record { place = config a; cell = cell }) ∷ file) e
+    (change_below f w (a + 1) b (v / 256) (m / 256) (c / 256) (omega arith))
+
+write_past : (w a b x : ℕ) (c : Cell) (file : File) → b < a → write (all_bytes w) x (config a) (record { place = config b; cell = c } ∷ file) ≡ record { place = config b; cell = c } ∷ write (all_bytes w) x (config a) file
+write_past zero a b x c file h = refl
+write_past (suc w) a b x c file h =
+    let e : eqb b a ≡ false = below a b h in
+    let next : File = changed (written (x % 256)) (config a) file in
+    ap (λ (t : Bool). write (all_bytes w) (x / 256) (config (a + 1)) (cond t (record { place = config b; cell = written (x % 256) c }) (record { place = config b; cell = c }) ∷ next)) e
+    ∙ write_past w (a + 1) b (x / 256) c next (omega arith)
+
+kept : (v m : ℕ) → bit_and (bit_and (v % 256) (255 - m)) 255 ≡ bit_and (v % 256) (255 - m)
+kept v m =
+    let y : ℕ = bit_and (v % 256) (255 - m) in
+    let small : y < 256 = omega (arith, and_le_l (v % 256) (255 - m)) in
+    and_mask y 8 ∙ mod-eq_of_lt small
+
+none_cleared : (v z : ℕ) → bit_and (bit_and v 0) z ≡ 0
+none_cleared v z = ap (λ t. bit_and t z) (and_zero_r v)
+
+rest_low : (w m : ℕ) → m < 256 ^ suc w → 255 - m % 256 ≡ (256 ^ suc w - 1 - m) % 256
+rest_low w m h = omega (arith, pow-suc 256 w)
+
+rest_high : (w m : ℕ) → m < 256 ^ suc w → 256 ^ w - 1 - m / 256 ≡ (256 ^ suc w - 1 - m) / 256
+rest_high w m h = omega (arith, pow-suc 256 w)
+
+merged_low : (w v x m : ℕ) → m < 256 ^ suc w
+    → bit_or (bit_or (bit_and (bit_and (v % 256) (255 - m % 256)) 255) (bit_and (x % 256) (m % 256))) (bit_and (bit_and (v % 256) 0) (255 - x % 256)) ≡ merged (suc w) v x m % 256
+merged_low w v x m h =
+    let rest : ℕ = 256 ^ suc w - 1 - m in
+    ap₂ bit_or (ap₂ bit_or (kept v (m % 256)) refl) (none_cleared (v % 256) (255 - x % 256))
+    ∙ or_zero_r (bit_or (bit_and (v % 256) (255 - m % 256)) (bit_and (x % 256) (m % 256)))
+    ∙ ap₂ bit_or (ap (bit_and (v % 256)) (rest_low w m h) ∙ sym (and_mod v rest 8)) (sym (and_mod x m 8))
+    ∙ sym (or_mod (bit_and v rest) (bit_and x m) 8)
+
+merged_high : (w v x m : ℕ) → m < 256 ^ suc w → merged w (v / 256) (x / 256) (m / 256) ≡ merged (suc w) v x m / 256
+merged_high w v x m h =
+    let rest : ℕ = 256 ^ suc w - 1 - m in
+    ap₂ bit_or (ap (bit_and (v / 256)) (rest_high w m h) ∙ sym (and_shr v rest 8)) (sym (and_shr x m 8))
+    ∙ sym (or_shr (bit_and v rest) (bit_and x m) 8)
+
+pub field_writes : FieldWrites
+field_writes zero a v m x h = refl
+field_writes (suc w) a v m x h =
+    let e : eqb a a ≡ true = self a in
+    let small : m / 256 < 256 ^ w = omega (arith, pow-suc 256 w, h) in
+    let cell : Cell = record { value = v % 256; writable = m % 256; clearable = 0 } in
+    let file : File = field (config (a + 1)) w (v / 256) (m / 256) 0 in
+    ap₂ (λ (t : Bool) (rest : File). write (all_bytes w) (x / 256) (config (a + 1)) (cond t (record { place = config a; cell = written (x % 256) cell }) (record { place = config a; cell = cell }) ∷ rest)) e
+    (change_below (written (x % 256)) w (a + 1) a (v / 256) (m / 256) 0 (omega arith))
+    ∙ write_past w (a + 1) a (x / 256) (written (x % 256) cell) file (omega arith)
+    ∙ ap₂ (λ (n : ℕ) (rest : File). record { place = config a; cell = record { value = n; writable = m % 256; clearable = 0 } } ∷ rest) (merged_low w v x m h)
+    (field_writes w (a + 1) (v / 256) (m / 256) (x / 256) small ∙ ap (λ n. field (config (a + 1)) w n (m / 256) 0) (merged_high w v x m h))

@@ -1,0 +1,82 @@
+-- What a board declares of its functions: PCI Local Bus 3.0, chapter 6; PCI-to-PCI Bridge Architecture 1.2, chapter 3.
+--     Kind, Region      what a base address register opens, with its size and the cells at its beginning
+--     Endpoint, Bridge      the declared values of a function
+use Rattle.std.specs.Prelude.{List, ◌≡◌, ℕ, ◌+◌, Bool, ◌≤◌, length, ◌^◌}
+use Rattle.model_registers.specs.Lists.{Each, EachPair}
+use Rattle.model_registers.specs.Cell.{Cell}
+
+-- a memory region is prefetchable or not
+pub data Kind : Type 0 where
+  io_kind : Kind
+  mem32 : Bool → Kind
+  mem64 : Bool → Kind
+
+-- the region of one base address register, with the cells at its beginning
+pub record Region : Type 0 where
+  pub index : ℕ
+  pub kind : Kind
+  pub size : ℕ
+  pub cells : List Cell
+
+-- how many registers a region takes
+abbrev pub registers_of : Kind → ℕ
+registers_of io_kind = 1
+registers_of (mem32 pref) = 1
+registers_of (mem64 pref) = 2
+
+abbrev pub least_size : Kind → ℕ
+least_size io_kind = 4
+least_size (mem32 pref) = 16
+least_size (mem64 pref) = 16
+
+abbrev pub greatest_size : Kind → ℕ
+greatest_size io_kind = 256
+greatest_size (mem32 pref) = 2 ^ 31
+greatest_size (mem64 pref) = 2 ^ 40
+
+pub record IsLawfulRegion (r : Region) : Type 0 where
+  pub registers : r.index + registers_of r.kind ≤ 6
+  pub power : (k : ℕ) × (r.size ≡ 2 ^ k)
+  pub not_less : least_size r.kind ≤ r.size
+  pub not_more : r.size ≤ greatest_size r.kind
+  pub block_fits : length r.cells ≤ r.size
+
+-- lawful regions, in the order of their registers, none shared
+pub record HasLawfulRegions (rs : List Region) : Type 0 where
+  pub each : Each IsLawfulRegion rs
+  pub in_order : EachPair (λ r s. r.index + registers_of r.kind ≤ s.index) rs
+
+pub record ConfigBlock : Type 0 where
+  pub offset : ℕ
+  pub cells : List Cell
+
+pub record Endpoint : Type 0 where
+  pub vendor : ℕ
+  pub device : ℕ
+  pub revision : ℕ
+  pub class : ℕ
+  pub subvendor : ℕ
+  pub subsystem : ℕ
+  pub pin : ℕ
+  pub min_gnt : ℕ
+  pub max_lat : ℕ
+  pub status : ℕ
+  pub regions : List Region
+  pub blocks : List ConfigBlock
+
+pub data IoDecode : Type 0 where
+  no_io : IoDecode
+  io16 : IoDecode
+  io32 : IoDecode
+
+pub data PrefDecode : Type 0 where
+  no_pref : PrefDecode
+  pref32 : PrefDecode
+  pref64 : PrefDecode
+
+pub record Bridge : Type 0 where
+  pub vendor : ℕ
+  pub device : ℕ
+  pub revision : ℕ
+  pub io : IoDecode
+  pub pref : PrefDecode

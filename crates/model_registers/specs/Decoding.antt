@@ -1,0 +1,62 @@
+-- Which addresses one function decodes by its own registers: PCI Local Bus 3.0, chapter 6.2.5.
+--     base      the address that a base address register holds
+--     decodes      a region decodes an address
+--     lone_claim      the first region, by register, that decodes an address
+use Rattle.std.specs.Prelude.{ℕ, ◌-◌, bit_and, ◌+◌, ◌*◌, ◌/◌, Bool, true, false, ◌&&◌, ◌==◌, if◌then◌else◌, not, nat_lt, nat_le, Option, Some, None}
+use Rattle.model_registers.specs.Lists.{first_some}
+use Rattle.model_registers.specs.Registers.{config, File, number}
+use Rattle.model_registers.specs.Declarations.{Kind, io_kind, mem32, mem64, Region, Endpoint}
+use Rattle.model_registers.specs.EndpointTable.{base_register}
+
+pub data Space : Type 0 where
+  io : Space
+  memory : Space
+
+-- a function as a guest sees it: its declaration and its cells
+pub record Function : Type 0 where
+  pub decl : Endpoint
+  pub file : File
+
+abbrev pub space_of : Kind → Space
+space_of io_kind = io
+space_of (mem32 pref) = memory
+space_of (mem64 pref) = memory
+
+abbrev pub same_space : Space → Space → Bool
+same_space io io = true
+same_space memory memory = true
+same_space io memory = false
+same_space memory io = false
+
+-- the base that the registers name now, type bits taken as 0
+abbrev pub base : File → ℕ → Kind → ℕ
+base file n io_kind = number file (base_register n) 4 / 4 * 4
+base file n (mem32 pref) = number file (base_register n) 4 / 16 * 16
+base file n (mem64 pref) = number file (base_register n) 8 / 16 * 16
+
+-- the bit of the Command register that opens a space
+abbrev pub command_bit : Space → ℕ
+command_bit io = 1
+command_bit memory = 2
+
+abbrev pub is_open : File → Space → Bool
+is_open file space = not (bit_and (number file (config 4) 2) (command_bit space) == 0)
+
+-- the region decodes the address; the sum is in whole numbers
+abbrev pub decodes : File → Space → ℕ → Region → Bool
+decodes file space a r =
+    is_open file space && same_space (space_of r.kind) space
+    && nat_le (base file r.index r.kind) a && nat_lt a (base file r.index r.kind + r.size)
+
+-- where in a function an access lands: a region's index and the offset in it
+pub record Hit : Type 0 where
+  pub index : ℕ
+  pub offset : ℕ
+
+abbrev pub hit_of : File → Space → ℕ → Region → Option Hit
+hit_of file space a r =
+    if decodes file space a r then Some (record { index = r.index; offset = a - base file r.index r.kind }) else None
+
+-- the claim of the function: regions stand in the order of their registers
+abbrev pub lone_claim : Function → Space → ℕ → Option Hit
+lone_claim f space a = first_some (hit_of f.file space a) f.decl.regions

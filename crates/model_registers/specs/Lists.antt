@@ -1,0 +1,21 @@
+-- Facts on lists, by recursion: proofs by induction take them apart.
+use Rattle.std.specs.Prelude.{List, [], ◌∷◌, ⊤, Option, Some, None}
+
+-- P of each element
+abbrev pub Each : {A : Type 0} → (A → Type 0) → List A → Type 0
+Each P [] = ⊤
+Each P (x ∷ xs) = P x × Each P xs
+
+-- R of each element and each later one
+abbrev pub EachPair : {A : Type 0} → (A → A → Type 0) → List A → Type 0
+EachPair R [] = ⊤
+EachPair R (x ∷ xs) = Each (R x) xs × EachPair R xs
+
+-- the first that is there
+abbrev pub first_of_two : {A : Type 0} → Option A → Option A → Option A
+first_of_two None y = y
+first_of_two (Some x) y = Some x
+
+abbrev pub first_some : {A B : Type 0} → (A → Option B) → List A → Option B
+first_some f [] = None
+first_some f (x ∷ xs) = first_of_two (f x) (first_some f xs)
