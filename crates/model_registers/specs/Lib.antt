@@ -1,6 +1,7 @@
 pub mod Lists
 pub mod Cell
 pub mod Registers
+pub mod ByteEnables
 pub mod Declarations
 pub mod EndpointTable
 pub mod BridgeTable

@@ -70,3 +70,12 @@ field p (suc w) v rw w1c =
 abbrev pub cells_from : Place → List Cell → File
 cells_from p [] = []
 cells_from p (c ∷ cs) = record { place = p; cell = c } ∷ cells_from (after p) cs
+
+abbrev pub offset_of : Place → ℕ
+offset_of (config a) = a
+offset_of (block n a) = a
+
+-- the cells of a file as those of a region's block, at the same offsets
+abbrev pub in_region : ℕ → File → File
+in_region n [] = []
+in_region n (e ∷ es) = record e { place = block n (offset_of e.place) } ∷ in_region n es
