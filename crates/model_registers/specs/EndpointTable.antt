@@ -1,6 +1,6 @@
 -- The registers of an endpoint: PCI Local Bus 3.0, chapter 6.
 --     base_cells      a base address register, with its base and type bits
---     header_cells      the registers of the header, without base address registers
+--     header_cells, config_cells      the header without base address registers; the same with the device's own blocks
 --     endpoint_file      all cells of an endpoint with a Command and bases, all others at reset
 --     endpoint_reset      all cells at reset
 use Rattle.std.specs.Prelude.{ℕ, ◌-◌, ◌+◌, ◌*◌, Bool, if◌then◌else◌, ◌^◌, ◌++◌, flat_map}
@@ -37,14 +37,17 @@ header_cells d shared command =
     ++ field (config 0x3c) 1 0 0xff 0 ++ field (config 0x3d) 1 d.pin 0 0
     ++ field (config 0x3e) 1 d.min_gnt 0 0 ++ field (config 0x3f) 1 d.max_lat 0 0
 
+-- the configuration cells with this Command, without base address registers
+abbrev pub config_cells : Endpoint → Bool → ℕ → File
+config_cells d shared command = header_cells d shared command ++ flat_map block_cells d.blocks
+
 -- the cells of an endpoint with this Command and these bases, all others at reset
 abbrev pub endpoint_file : Endpoint → Bool → ℕ → (Region → ℕ) → File
-endpoint_file d shared command bases =
-    header_cells d shared command ++ (flat_map (region_cells bases) d.regions ++ flat_map block_cells d.blocks)
+endpoint_file d shared command bases = config_cells d shared command ++ flat_map (region_cells bases) d.regions
 
 abbrev pub endpoint_reset : Endpoint → Bool → File
 endpoint_reset d shared = endpoint_file d shared 0 (λ r. 0)
 
 -- the configuration cells at reset, without base address registers
 abbrev pub config_reset : Endpoint → Bool → File
-config_reset d shared = header_cells d shared 0 ++ flat_map block_cells d.blocks
+config_reset d shared = config_cells d shared 0
