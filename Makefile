@@ -1,6 +1,32 @@
 # What a newcomer needs: `make demo` and `make test`. Both need the kit alone.
-.PHONY: test
+SHELL := bash
+.SHELLFLAGS := -eu -o pipefail -c
+JOBS := $(shell nproc)
+# the lines of a check that tell how far it is: one as a crate begins, one as it is done
+PROGRESS := grep --line-buffered -E '^(== |[a-z_]+: |[0-9]+ of )|error|not proved'
+
+.PHONY: demo test build try clean
+
+# Proves and builds the program, and runs a script over the demo board.
+demo: build
+	@echo; echo '$$ cat examples/demo.script'; cat examples/demo.script
+	@echo; echo '$$ ./pciguest demo < examples/demo.script'; ./pciguest demo < examples/demo.script
 
 # The gate: every proof from nothing, the must-fail edits, the tests and the programs.
 test:
 	rt ci
+
+# Leaves the proved program as ./pciguest.
+build:
+	@rt all check --jobs $(JOBS) 2>&1 | $(PROGRESS)
+	@cd crates/pciguest && rt run -- demo < /dev/null > out/build.log 2>&1 || { cat out/build.log; exit 1; }
+	@cp crates/pciguest/out/pciguest pciguest
+	@echo 'pciguest: proved and built'
+
+# The demo in about a minute: nothing is proved.
+try:
+	@echo 'This run proves nothing: it only compiles the program and runs it. `make demo` proves it first.'
+	@cd crates/pciguest && rt try -- demo < ../../examples/demo.script
+
+clean:
+	rm -rf crates/*/out pciguest
