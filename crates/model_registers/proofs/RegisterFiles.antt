@@ -12,7 +12,7 @@ use Rattle.model_registers.specs.Registers.{Place, config, block, place_eq, Entr
 use Rattle.model_registers.specs.RegisterLaws.{ChangeAtPlace, FieldReads, FieldWrites, merged}
 use Rattle.model_registers.proofs.Tests.{left_true, right_true}
 
-place_same : (p q : Place) → place_eq p q ≡ true → p ≡ q
+pub place_same : (p q : Place) → place_eq p q ≡ true → p ≡ q
 place_same (config a) (config b) h = ap config (eqb-true a b h)
 place_same (block n a) (block m b) h = ap₂ block (eqb-true n m (left_true (eqb n m) (eqb a b) h)) (eqb-true a b (right_true (eqb n m) (eqb a b) h))
 place_same (config a) (block m b) h = cc
@@ -39,13 +39,13 @@ change_at_place f h (e ∷ es) p q = change_cases f e es p q (place_eq e.place p
 
 -- ---- registers of several bytes
 
-self : (a : ℕ) → eqb a a ≡ true
+pub self : (a : ℕ) → eqb a a ≡ true
 self a = grind (arith, nat_tests)
 
-above : (a b : ℕ) → b < a → eqb a b ≡ false
+pub above : (a b : ℕ) → b < a → eqb a b ≡ false
 above a b h = grind (arith, nat_tests)
 
-below : (a b : ℕ) → b < a → eqb b a ≡ false
+pub below : (a b : ℕ) → b < a → eqb b a ≡ false
 below a b h = grind (arith, nat_tests)
 
 -- reading above an entry passes it by
@@ -55,10 +55,10 @@ read_past (suc w) a b c file h =
     let e : eqb b a ≡ false = below a b h in
     ap₂ (λ x y. x + 256 * y) (rw e) (read_past w (a + 1) b c file (omega arith))
 
-read_here : (a : ℕ) (c : Cell) (file : File) → cell_at (record { place = config a; cell = c } ∷ file) (config a) ≡ c
+pub read_here : (a : ℕ) (c : Cell) (file : File) → cell_at (record { place = config a; cell = c } ∷ file) (config a) ≡ c
 read_here a c file = let e : eqb a a ≡ true = self a in rw e
 
-low_byte : (w v : ℕ) → v % 256 + 256 * (v / 256 % 256 ^ w) ≡ v % 256 ^ suc w
+pub low_byte : (w v : ℕ) → v % 256 + 256 * (v / 256 % 256 ^ w) ≡ v % 256 ^ suc w
 low_byte w v =
     let some : 0 < 256 ^ w = one-le-pow w 256 (omega arith) in
     let split : v % (256 ^ w * 256) ≡ (v / 256 % 256 ^ w) * 256 + v % 256 = mod-mul v some (omega arith) in
@@ -91,7 +91,7 @@ write_past (suc w) a b x c file h =
     ap (λ (t : Bool). write (all_bytes w) (x / 256) (config (a + 1)) (cond t (record { place = config b; cell = written (x % 256) c }) (record { place = config b; cell = c }) ∷ next)) e
     ∙ write_past w (a + 1) b (x / 256) c next (omega arith)
 
-kept : (v m : ℕ) → bit_and (bit_and (v % 256) (255 - m)) 255 ≡ bit_and (v % 256) (255 - m)
+pub kept : (v m : ℕ) → bit_and (bit_and (v % 256) (255 - m)) 255 ≡ bit_and (v % 256) (255 - m)
 kept v m =
     let y : ℕ = bit_and (v % 256) (255 - m) in
     let small : y < 256 = omega (arith, and_le_l (v % 256) (255 - m)) in
@@ -106,7 +106,7 @@ rest_low w m h = omega (arith, pow-suc 256 w)
 rest_high : (w m : ℕ) → m < 256 ^ suc w → 256 ^ w - 1 - m / 256 ≡ (256 ^ suc w - 1 - m) / 256
 rest_high w m h = omega (arith, pow-suc 256 w)
 
-merged_low : (w v x m : ℕ) → m < 256 ^ suc w
+pub merged_low : (w v x m : ℕ) → m < 256 ^ suc w
     → bit_or (bit_or (bit_and (bit_and (v % 256) (255 - m % 256)) 255) (bit_and (x % 256) (m % 256))) (bit_and (bit_and (v % 256) 0) (255 - x % 256)) ≡ merged (suc w) v x m % 256
 merged_low w v x m h =
     let rest : ℕ = 256 ^ suc w - 1 - m in
@@ -115,7 +115,7 @@ merged_low w v x m h =
     ∙ ap₂ bit_or (ap (bit_and (v % 256)) (rest_low w m h) ∙ sym (and_mod v rest 8)) (sym (and_mod x m 8))
     ∙ sym (or_mod (bit_and v rest) (bit_and x m) 8)
 
-merged_high : (w v x m : ℕ) → m < 256 ^ suc w → merged w (v / 256) (x / 256) (m / 256) ≡ merged (suc w) v x m / 256
+pub merged_high : (w v x m : ℕ) → m < 256 ^ suc w → merged w (v / 256) (x / 256) (m / 256) ≡ merged (suc w) v x m / 256
 merged_high w v x m h =
     let rest : ℕ = 256 ^ suc w - 1 - m in
     ap₂ bit_or (ap (bit_and (v / 256)) (rest_high w m h) ∙ sym (and_shr v rest 8)) (sym (and_shr x m 8))

@@ -1,5 +1,6 @@
 -- The registers of a bridge: PCI-to-PCI Bridge Architecture 1.2, chapter 3.2.
 --     Routing      what set-up writes into a bridge
+--     bridge_header      the registers of the header, without windows
 --     bridge_file, bridge_reset      the cells of a bridge with a routing, and at reset
 use Rattle.std.specs.Prelude.{[], ℕ, ◌+◌, ◌*◌, ◌/◌, ◌%◌, Bool, ◌^◌, ◌++◌}
 use Rattle.model_registers.specs.Registers.{config, File, field}
@@ -40,16 +41,19 @@ pref_cells pref32 s = field (config 0x24) 2 (address_bits (2 ^ 20) s.first 0) 0x
 pref_cells pref64 s = field (config 0x24) 2 (address_bits (2 ^ 20) s.first 1) 0xfff0 0 ++ field (config 0x26) 2 (address_bits (2 ^ 20) s.last 1) 0xfff0 0
     ++ field (config 0x28) 4 (s.first / 2 ^ 32) 0xffffffff 0 ++ field (config 0x2c) 4 (s.last / 2 ^ 32) 0xffffffff 0
 
--- the cells of a bridge with this routing, all others at reset
-abbrev pub bridge_file : Bridge → Bool → Routing → File
-bridge_file d shared r =
+-- the header with this routing, without windows
+abbrev pub bridge_header : Bridge → Bool → Routing → File
+bridge_header d shared r =
     field (config 0x00) 2 d.vendor 0 0 ++ field (config 0x02) 2 d.device 0 0
     ++ field (config 0x04) 2 r.command 0x0147 0 ++ field (config 0x06) 2 0 0 0xf900
     ++ field (config 0x08) 1 d.revision 0 0 ++ field (config 0x09) 3 0x060400 0 0
     ++ field (config 0x0c) 2 0 0xffff 0 ++ field (config 0x0e) 1 (header_type 1 shared) 0 0
     ++ field (config 0x18) 1 r.primary 0xff 0 ++ field (config 0x19) 1 r.secondary 0xff 0 ++ field (config 0x1a) 1 r.subordinate 0xff 0
     ++ field (config 0x1b) 1 0 0xff 0 ++ field (config 0x1e) 2 0 0 0xf900 ++ field (config 0x3c) 1 0 0xff 0
-    ++ (mem_cells r.mem ++ io_cells d.io r.io ++ pref_cells d.pref r.pref)
+
+-- the cells of a bridge with this routing, all others at reset
+abbrev pub bridge_file : Bridge → Bool → Routing → File
+bridge_file d shared r = bridge_header d shared r ++ (mem_cells r.mem ++ io_cells d.io r.io ++ pref_cells d.pref r.pref)
 
 abbrev pub no_span : Span
 no_span = record { first = 0; last = 0 }

@@ -1,10 +1,45 @@
 -- The four byte enables of a cycle, lowest byte first: PCI Local Bus 3.0, chapter 3.2.2.
 --     lanes be      the four enables that the bits 0 to 3 of a number say
-use Rattle.std.specs.Prelude.{ℕ, ◌==◌, Bool, List, [], ◌∷◌}
+--     enabled_bytes ons n      a number with 0 in each byte that is not enabled
+--     enables_of off w      the enables of w bytes from an offset on, in the word of that offset
+--     into_lanes off v, from_lanes off w word      a number moved to those lanes, and taken from them
+--     word_of p      the place of the word in which a place lies
+--     enabled_bits enables      the bits of the enabled bytes
+use Rattle.std.specs.Prelude.{◌≡◌, ◌≤◌, ℕ, ◌+◌, ◌-◌, ◌*◌, ◌/◌, ◌%◌, ◌^◌, ◌==◌, ◌⊎◌, if◌then◌else◌, Bool, List, [], ◌∷◌}
 use Rattle.std.specs.Int.{bit_at}
+use Rattle.model_registers.specs.Registers.{Place, config, block}
 
 abbrev pub is_enabled : ℕ → ℕ → Bool
 is_enabled be lane = bit_at be lane == 1
 
 abbrev pub lanes : ℕ → List Bool
 lanes be = is_enabled be 0 ∷ is_enabled be 1 ∷ is_enabled be 2 ∷ is_enabled be 3 ∷ []
+
+abbrev pub enabled_bytes : List Bool → ℕ → ℕ
+enabled_bytes [] n = 0
+enabled_bytes (on ∷ ons) n = (if on then n % 256 else 0) + 256 * enabled_bytes ons (n / 256)
+
+-- an access is 1, 2 or 4 bytes wide, at a multiple of its width
+abbrev pub IsWidth : ℕ → Type 0
+IsWidth w = (w ≡ 1) ⊎ ((w ≡ 2) ⊎ (w ≡ 4))
+
+-- w bytes from an offset on lie in one word
+abbrev pub LiesInWord : ℕ → ℕ → Type 0
+LiesInWord off w = off % 4 + w ≤ 4
+
+abbrev pub enables_of : ℕ → ℕ → ℕ
+enables_of off w = (2 ^ w - 1) * 2 ^ (off % 4)
+
+abbrev pub into_lanes : ℕ → ℕ → ℕ
+into_lanes off v = v * 256 ^ (off % 4) % 2 ^ 32
+
+abbrev pub from_lanes : ℕ → ℕ → ℕ → ℕ
+from_lanes off w word = word / 256 ^ (off % 4) % 256 ^ w
+
+abbrev pub word_of : Place → Place
+word_of (config a) = config (a / 4 * 4)
+word_of (block n a) = block n (a / 4 * 4)
+
+abbrev pub enabled_bits : List Bool → ℕ
+enabled_bits [] = 0
+enabled_bits (on ∷ ons) = (if on then 255 else 0) + 256 * enabled_bits ons

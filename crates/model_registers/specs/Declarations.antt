@@ -1,5 +1,6 @@
 -- What a board declares of its functions: PCI Local Bus 3.0, chapter 6; PCI-to-PCI Bridge Architecture 1.2, chapter 3.
---     Kind, Region      what a base address register opens, with its size and the cells at its beginning
+--     Kind, Bar      what a base address register opens, with its size
+--     Region      such a register's index, and the cells at the beginning of what it opens
 --     Endpoint, Bridge      the declared values of a function
 use Rattle.std.specs.Prelude.{List, ◌≡◌, ℕ, ◌+◌, Bool, ◌≤◌, length, ◌^◌}
 use Rattle.model_registers.specs.Lists.{Each, EachPair}
@@ -10,6 +11,11 @@ pub data Kind : Type 0 where
   io_kind : Kind
   mem32 : Bool → Kind
   mem64 : Bool → Kind
+
+-- what a base address register opens
+pub record Bar : Type 0 where
+  pub kind : Kind
+  pub size : ℕ
 
 -- the region of one base address register, with the cells at its beginning
 pub record Region : Type 0 where
@@ -34,11 +40,15 @@ greatest_size io_kind = 256
 greatest_size (mem32 pref) = 2 ^ 31
 greatest_size (mem64 pref) = 2 ^ 40
 
+-- a power of two within the limits of the kind
+pub record IsLawfulSize (kind : Kind) (size : ℕ) : Type 0 where
+  pub power : (k : ℕ) × (size ≡ 2 ^ k)
+  pub not_less : least_size kind ≤ size
+  pub not_more : size ≤ greatest_size kind
+
 pub record IsLawfulRegion (r : Region) : Type 0 where
   pub registers : r.index + registers_of r.kind ≤ 6
-  pub power : (k : ℕ) × (r.size ≡ 2 ^ k)
-  pub not_less : least_size r.kind ≤ r.size
-  pub not_more : r.size ≤ greatest_size r.kind
+  pub size_is_lawful : IsLawfulSize r.kind r.size
   pub block_fits : length r.cells ≤ r.size
 
 -- lawful regions, in the order of their registers, none shared

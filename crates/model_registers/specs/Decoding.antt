@@ -1,12 +1,13 @@
 -- Which addresses one function decodes by its own registers: PCI Local Bus 3.0, chapter 6.2.5.
 --     base      the address that a base address register holds
 --     decodes      a region decodes an address
---     lone_claim      the first region, by register, that decodes an address
-use Rattle.std.specs.Prelude.{ℕ, ◌-◌, bit_and, ◌+◌, ◌*◌, ◌/◌, Bool, true, false, ◌&&◌, ◌==◌, if◌then◌else◌, not, nat_lt, nat_le, Option, Some, None}
+--     standing, hit_at      a register as it stands, and what decodes by it
+--     first_hit, lone_claim      the first region, by register, that decodes an address
+use Rattle.std.specs.Prelude.{ℕ, ◌-◌, bit_and, ◌+◌, ◌*◌, ◌/◌, Bool, true, false, ◌&&◌, ◌==◌, if◌then◌else◌, List, not, nat_lt, nat_le, Option, Some, None}
 use Rattle.model_registers.specs.Lists.{first_some}
 use Rattle.model_registers.specs.Registers.{config, File, number}
 use Rattle.model_registers.specs.Declarations.{Kind, io_kind, mem32, mem64, Region, Endpoint}
-use Rattle.model_registers.specs.EndpointTable.{base_register}
+use Rattle.model_registers.specs.EndpointTable.{base_register, BaseAddress}
 
 pub data Space : Type 0 where
   io : Space
@@ -57,6 +58,20 @@ abbrev pub hit_of : File → Space → ℕ → Region → Option Hit
 hit_of file space a r =
     if decodes file space a r then Some (record { index = r.index; offset = a - base file r.index r.kind }) else None
 
+-- a region's register as it stands now
+abbrev pub standing : File → Region → BaseAddress
+standing file r = record { index = r.index; kind = r.kind; size = r.size; base = base file r.index r.kind }
+
+-- the hit in a region, by the word of the Command register and the base alone
+abbrev pub hit_at : ℕ → Space → ℕ → BaseAddress → Option Hit
+hit_at command space a b =
+    if not (bit_and command (command_bit space) == 0) && same_space (space_of b.kind) space && nat_le b.base a && nat_lt a (b.base + b.size)
+    then Some (record { index = b.index; offset = a - b.base }) else None
+
+-- the first of these regions that decodes the address
+abbrev pub first_hit : File → List Region → Space → ℕ → Option Hit
+first_hit file rs space a = first_some (hit_of file space a) rs
+
 -- the claim of the function: regions stand in the order of their registers
 abbrev pub lone_claim : Function → Space → ℕ → Option Hit
-lone_claim f space a = first_some (hit_of f.file space a) f.decl.regions
+lone_claim f space a = first_hit f.file f.decl.regions space a

@@ -2,8 +2,16 @@ pub mod Lists
 pub mod Cell
 pub mod Registers
 pub mod ByteEnables
+pub mod AccessLaws
+pub mod FileLaws
 pub mod Declarations
+pub mod Apertures
+pub mod DeclarationRules
 pub mod EndpointTable
 pub mod BridgeTable
 pub mod Decoding
+pub mod Windows
 pub mod RegisterLaws
+pub mod Sizing
+pub mod BaseLaws
+pub mod DecodingLaws

@@ -1,5 +1,6 @@
 -- Facts on lists, by recursion: proofs by induction take them apart.
-use Rattle.std.specs.Prelude.{List, [], ◌∷◌, ⊤, Option, Some, None}
+use Rattle.std.specs.Prelude.{List, [], ◌∷◌, ⊤, Bool, true, ◌&&◌, Option, Some, None}
+use Rattle.std.specs.List.{list_all}
 
 -- P of each element
 abbrev pub Each : {A : Type 0} → (A → Type 0) → List A → Type 0
@@ -10,6 +11,11 @@ Each P (x ∷ xs) = P x × Each P xs
 abbrev pub EachPair : {A : Type 0} → (A → A → Type 0) → List A → Type 0
 EachPair R [] = ⊤
 EachPair R (x ∷ xs) = Each (R x) xs × EachPair R xs
+
+-- the same as a test
+abbrev pub all_pairs : {A : Type 0} → (A → A → Bool) → List A → Bool
+all_pairs test [] = true
+all_pairs test (x ∷ xs) = list_all (test x) xs && all_pairs test xs
 
 -- the first that is there
 abbrev pub first_of_two : {A : Type 0} → Option A → Option A → Option A

@@ -1,7 +1,8 @@
 -- Laws of register files.
-use Rattle.std.specs.Prelude.{◌≡◌, ℕ, ◌-◌, ◌<◌, bit_and, bit_or, ◌+◌, ◌%◌, if◌then◌else◌, ◌^◌, ◌++◌}
+use Rattle.std.specs.Prelude.{List, Bool, length, ◌≡◌, ℕ, ◌-◌, ◌<◌, bit_and, bit_or, ◌%◌, if◌then◌else◌, ◌^◌, ◌++◌}
 use Rattle.model_registers.specs.Cell.{Cell, no_cell}
-use Rattle.model_registers.specs.Registers.{Place, config, place_eq, File, cell_at, changed, write, all_bytes, number, field}
+use Rattle.model_registers.specs.Registers.{Place, config, place_eq, File, cell_at, changed, read, write, all_bytes, number, field}
+use Rattle.model_registers.specs.ByteEnables.{enabled_bits}
 
 -- a change of one cell is seen at its place and nowhere else
 abbrev pub ChangeAtPlace : Type 0
@@ -17,3 +18,16 @@ merged w v x rw = bit_or (bit_and v (256 ^ w - 1 - rw)) (bit_and x rw)
 
 abbrev pub FieldWrites : Type 0
 FieldWrites = (w a v rw x : ℕ) → rw < 256 ^ w → write (all_bytes w) x (config a) (field (config a) w v rw 0) ≡ field (config a) w (merged w v x rw) rw 0
+
+-- a file of two parts is written part by part
+abbrev pub WritesInParts : Type 0
+WritesInParts = (enables : List Bool) (x : ℕ) (p : Place) (one two : File) → write enables x p (one ++ two) ≡ write enables x p one ++ write enables x p two
+
+-- by byte enables: a read shows the enabled bytes, and a write sets the writable bits of the enabled bytes
+abbrev pub EnabledFieldReads : Type 0
+EnabledFieldReads = (enables : List Bool) (a v rw w1c : ℕ) (rest : File)
+    → read (field (config a) (length enables) v rw w1c ++ rest) (config a) enables ≡ bit_and v (enabled_bits enables)
+
+abbrev pub EnabledFieldWrites : Type 0
+EnabledFieldWrites = (enables : List Bool) (a v rw x : ℕ) → rw < 256 ^ length enables
+    → write enables x (config a) (field (config a) (length enables) v rw 0) ≡ field (config a) (length enables) (merged (length enables) v x (bit_and rw (enabled_bits enables))) rw 0

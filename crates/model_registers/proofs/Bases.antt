@@ -1,0 +1,323 @@
+-- Base address registers: what a write leaves, and what a read shows.
+use Rattle.std.proofs.Common.{◌≡◌, ℕ, ◌+◌, ◌-◌, ◌*◌, ◌/◌, ◌%◌, ◌^◌, ◌<◌, ◌≤◌, ◌⊎◌, inl, inr, Bool, true, false, ◌&&◌, List, [], ◌∷◌, ◌++◌, length, map, refl, sym, ap, ap₂, ◌∙◌, subst, arith, eqb}
+use Rattle.std.specs.Prelude.{bit_and, bit_or}
+use Rattle.std.specs.Int.Bits.{or_zero_r, and_zero_r}
+use Rattle.std.proofs.lemmas.Nat.{and_mask, and_block, or_block, or_lt, and_le_l, and_le_r, and_comm, mod_low, pow-add, pow_pos, shr_split, mod_below, pow_below, shr_below, shl_below}
+use Rattle.std.proofs.lemmas.Bool.{cases_lt, cases_eq, cond-true, cond-false, eq-eqb, ne_eqb, and_from, and_left, and_right}
+use Rattle.std.proofs.Math.Nat.{mod-eq_of_lt, add-zero, mul-le-mul_right, mul_assoc}
+use Rattle.std.proofs.lemmas.Nat.Bits.{and_high}
+use Rattle.model_registers.specs.Registers.{config, File, read, write, field}
+use Rattle.model_registers.specs.Lists.{Each}
+use Rattle.model_registers.specs.ByteEnables.{is_enabled, enabled_bits}
+use Rattle.model_registers.specs.RegisterLaws.{merged}
+use Rattle.model_registers.specs.Declarations.{Kind, io_kind, mem32, mem64, registers_of, IsLawfulSize}
+use Rattle.model_registers.specs.EndpointTable.{base_register, type_bits, base_width, BaseAddress, register_cells, base_file, IsLawfulBase}
+use Rattle.model_registers.specs.BaseLaws.{shown, word_at, overwritten, rebased, rewritten, ReadsOfBases, WritesOfBases}
+use Rattle.model_registers.proofs.EnabledBytes.{read_field, write_field}
+use Rattle.model_registers.proofs.Parts.{IsApart, read_apart, write_apart, write_append, write_none, read_none}
+
+-- what such a mask leaves: all k low bits, and the high ones that q lacks
+rest_of_blocks : (q d n : ℕ) → 0 < n → (q + 1 + d) * n - 1 - q * n ≡ d * n + (n - 1)
+rest_of_blocks q d n h = omega arith
+
+rest_of_mask : (j k q : ℕ) → q < 2 ^ j → 2 ^ (j + k) - 1 - q * 2 ^ k ≡ (2 ^ j - 1 - q) * 2 ^ k + (2 ^ k - 1)
+rest_of_mask j k q h =
+    let whole : 2 ^ j ≡ q + 1 + (2 ^ j - 1 - q) = omega arith in
+    ap (λ n. n - 1 - q * 2 ^ k) (pow-add 2 j k ∙ ap (λ n. n * 2 ^ k) whole) ∙ rest_of_blocks q (2 ^ j - 1 - q) (2 ^ k) (pow_pos k)
+
+-- where the mask has no bit below k, a write passes by the k low bits
+block_merged : (j k q b t x : ℕ) → q < 2 ^ j → t < 2 ^ k
+    → overwritten (j + k) (b * 2 ^ k + t) x (q * 2 ^ k) ≡ bit_or (bit_and b (2 ^ j - 1 - q)) (bit_and (x / 2 ^ k) q) * 2 ^ k + t
+block_merged j k q b t x hq ht =
+    let some : 0 < 2 ^ k = pow_pos k in
+    let low : bit_and t (2 ^ k - 1) ≡ t = and_mask t k ∙ mod-eq_of_lt ht in
+    let kept : bit_and (b * 2 ^ k + t) (2 ^ (j + k) - 1 - q * 2 ^ k) ≡ bit_and b (2 ^ j - 1 - q) * 2 ^ k + t =
+    ap (bit_and (b * 2 ^ k + t)) (rest_of_mask j k q hq) ∙ and_block k b (2 ^ j - 1 - q) t (2 ^ k - 1) ht (omega arith) ∙ ap (λ n. bit_and b (2 ^ j - 1 - q) * 2 ^ k + n) low in
+    let taken : bit_and x (q * 2 ^ k) ≡ bit_and (x / 2 ^ k) q * 2 ^ k + 0 =
+    ap₂ bit_and (sym (shr_split x k)) (sym (add-zero (q * 2 ^ k)))
+    ∙ and_block k (x / 2 ^ k) q (x % 2 ^ k) 0 (mod_below x (2 ^ k) some) some ∙ ap (λ n. bit_and (x / 2 ^ k) q * 2 ^ k + n) (and_zero_r (x % 2 ^ k)) in
+    ap₂ bit_or kept taken ∙ or_block k (bit_and b (2 ^ j - 1 - q)) (bit_and (x / 2 ^ k) q) t 0 ht some
+    ∙ ap (λ n. bit_or (bit_and b (2 ^ j - 1 - q)) (bit_and (x / 2 ^ k) q) * 2 ^ k + n) (or_zero_r t)
+
+-- the mask of a region's base: the bits at and above the size, where they are enabled
+mask_block : (j k e : ℕ) → bit_and (2 ^ (j + k) - 2 ^ k) e ≡ e / 2 ^ k % 2 ^ j * 2 ^ k
+mask_block j k e = and_comm (2 ^ (j + k) - 2 ^ k) e ∙ and_high e j k
+
+-- ---- a lawful base
+
+pub size_limits : (kind : Kind) (size : ℕ) → IsLawfulSize kind size → (size < 2 ^ base_width kind) × (type_bits kind < size)
+size_limits io_kind size h = (omega arith, omega arith)
+size_limits (mem32 true) size h = (omega arith, omega arith)
+size_limits (mem32 false) size h = (omega arith, omega arith)
+size_limits (mem64 true) size h = (omega arith, omega arith)
+size_limits (mem64 false) size h = (omega arith, omega arith)
+
+exponent_below : (k w : ℕ) → 2 ^ k < 2 ^ w → k ≤ w
+exponent_below k w h = elim (cases_lt w k) [ inl above ↦ absurd (omega (arith, pow_below w k above)) | inr within ↦ within ]
+
+-- the exponents of a size and of what is left of the base's width
+record Parts (b : BaseAddress) : Type 0 where
+  j : ℕ
+  k : ℕ
+  width : base_width b.kind ≡ j + k
+  size : b.size ≡ 2 ^ k
+  types : type_bits b.kind < 2 ^ k
+
+parts : (b : BaseAddress) → IsLawfulBase b → Parts b
+parts b lawful =
+    let power : (k : ℕ) × (b.size ≡ 2 ^ k) = lawful.size_is_lawful.power in
+    let limits : (b.size < 2 ^ base_width b.kind) × (type_bits b.kind < b.size) = size_limits b.kind b.size lawful.size_is_lawful in
+    let within : power.0 ≤ base_width b.kind = exponent_below power.0 (base_width b.kind) (subst (λ n. n < 2 ^ base_width b.kind) power.1 limits.0) in
+    record {
+      j = base_width b.kind - power.0;
+      k = power.0;
+      width = omega arith;
+      size = power.1;
+      types = subst (λ n. type_bits b.kind < n) power.1 limits.1;
+    }
+
+-- a base leaves room for its region
+pub base_room : (b : BaseAddress) → IsLawfulBase b → b.base + b.size ≤ 2 ^ base_width b.kind
+base_room b lawful =
+    let p : Parts b = parts b lawful in
+    let aligned : b.base % 2 ^ p.k ≡ 0 = subst (λ n. b.base % n ≡ 0) p.size lawful.aligned in
+    let fits : b.base < 2 ^ (p.j + p.k) = subst (λ w. b.base < 2 ^ w) p.width lawful.fits in
+    let whole : b.base ≡ b.base / 2 ^ p.k * 2 ^ p.k = omega (arith, shr_split b.base p.k) in
+    let high : b.base / 2 ^ p.k + 1 ≤ 2 ^ p.j = omega (arith, shr_below b.base p.j p.k fits) in
+    let room : (b.base / 2 ^ p.k + 1) * 2 ^ p.k ≤ 2 ^ p.j * 2 ^ p.k = mul-le-mul_right (2 ^ p.k) high in
+    subst (λ w. b.base + b.size ≤ 2 ^ w) (sym p.width) (omega (arith, p.size, whole, room, pow-add 2 p.j p.k))
+
+-- a base is a multiple of each power of two up to its size
+pub base_multiple : (b : BaseAddress) → IsLawfulBase b → (i : ℕ) → 2 ^ i ≤ b.size → b.base % 2 ^ i ≡ 0
+base_multiple b lawful i h =
+    let p : Parts b = parts b lawful in
+    let within : i ≤ p.k = elim (cases_lt p.k i) [ inl above ↦ absurd (omega (arith, p.size, pow_below p.k i above)) | inr le ↦ le ] in
+    let aligned : b.base % 2 ^ p.k ≡ 0 = subst (λ n. b.base % n ≡ 0) p.size lawful.aligned in
+    let whole : b.base ≡ b.base / 2 ^ p.k * 2 ^ p.k = omega (arith, shr_split b.base p.k) in
+    let split : 2 ^ p.k ≡ 2 ^ (p.k - i) * 2 ^ i = ap (λ n. 2 ^ n) (omega arith) ∙ pow-add 2 (p.k - i) i in
+    ap (λ n. n % 2 ^ i) (whole ∙ ap (λ n. b.base / 2 ^ p.k * n) split ∙ sym (mul_assoc (b.base / 2 ^ p.k) (2 ^ (p.k - i)) (2 ^ i)) ∙ sym (add-zero _))
+    ∙ mod_low (b.base / 2 ^ p.k * 2 ^ (p.k - i)) i 0 (pow_pos i)
+
+-- the high part of the base after a write
+high_part : ℕ → ℕ → ℕ → ℕ → ℕ → ℕ
+high_part j k base x e = bit_or (bit_and (base / 2 ^ k) (2 ^ j - 1 - e / 2 ^ k % 2 ^ j)) (bit_and (x / 2 ^ k) (e / 2 ^ k % 2 ^ j))
+
+merged_types : (j k base x e t : ℕ) → base % 2 ^ k ≡ 0 → t < 2 ^ k → overwritten (j + k) (base + t) x (bit_and (2 ^ (j + k) - 2 ^ k) e) ≡ high_part j k base x e * 2 ^ k + t
+unfolding high_part
+merged_types j k base x e t aligned ht =
+    let some : 0 < 2 ^ j = pow_pos j in
+    let whole : base ≡ base / 2 ^ k * 2 ^ k = omega (arith, shr_split base k) in
+    ap₂ (λ n m. overwritten (j + k) (n + t) x m) whole (mask_block j k e)
+    ∙ block_merged j k (e / 2 ^ k % 2 ^ j) (base / 2 ^ k) t x (mod_below (e / 2 ^ k) (2 ^ j) some) ht
+
+-- a write leaves the type bits
+rebased_types : (b : BaseAddress) → IsLawfulBase b → (x e : ℕ) → overwritten (base_width b.kind) (b.base + type_bits b.kind) x (bit_and (2 ^ base_width b.kind - b.size) e) ≡ rebased b x e + type_bits b.kind
+rebased_types b lawful x e =
+    let p : Parts b = parts b lawful in
+    let aligned : b.base % 2 ^ p.k ≡ 0 = subst (λ n. b.base % n ≡ 0) p.size lawful.aligned in
+    let at : (t : ℕ) → t < 2 ^ p.k → overwritten (base_width b.kind) (b.base + t) x (bit_and (2 ^ base_width b.kind - b.size) e) ≡ high_part p.j p.k b.base x e * 2 ^ p.k + t =
+    λ t h. ap₂ (λ w size. overwritten w (b.base + t) x (bit_and (2 ^ w - size) e)) p.width p.size ∙ merged_types p.j p.k b.base x e t aligned h in
+    let bare : rebased b x e ≡ high_part p.j p.k b.base x e * 2 ^ p.k + 0 = ap (λ n. overwritten (base_width b.kind) n x (bit_and (2 ^ base_width b.kind - b.size) e)) (sym (add-zero b.base)) ∙ at 0 (pow_pos p.k) in
+    at (type_bits b.kind) p.types ∙ omega (arith, bare)
+
+-- and a base that its registers can hold
+pub rebased_lawful : (b : BaseAddress) → IsLawfulBase b → (x e : ℕ) → IsLawfulBase (record b { base = rebased b x e })
+unfolding high_part
+rebased_lawful b lawful x e =
+    let p : Parts b = parts b lawful in
+    let aligned : b.base % 2 ^ p.k ≡ 0 = subst (λ n. b.base % n ≡ 0) p.size lawful.aligned in
+    let fits : b.base < 2 ^ (p.j + p.k) = subst (λ w. b.base < 2 ^ w) p.width lawful.fits in
+    let bare : rebased b x e ≡ high_part p.j p.k b.base x e * 2 ^ p.k + 0 =
+    ap₂ (λ w size. overwritten w b.base x (bit_and (2 ^ w - size) e)) p.width p.size ∙ ap (λ n. overwritten (p.j + p.k) n x (bit_and (2 ^ (p.j + p.k) - 2 ^ p.k) e)) (sym (add-zero b.base))
+    ∙ merged_types p.j p.k b.base x e 0 aligned (pow_pos p.k) in
+    let kept : bit_and (b.base / 2 ^ p.k) (2 ^ p.j - 1 - e / 2 ^ p.k % 2 ^ p.j) < 2 ^ p.j = omega (arith, shr_below b.base p.j p.k fits, and_le_l (b.base / 2 ^ p.k) (2 ^ p.j - 1 - e / 2 ^ p.k % 2 ^ p.j)) in
+    let taken : bit_and (x / 2 ^ p.k) (e / 2 ^ p.k % 2 ^ p.j) < 2 ^ p.j = omega (arith, mod_below (e / 2 ^ p.k) (2 ^ p.j) (pow_pos p.j), and_le_r (x / 2 ^ p.k) (e / 2 ^ p.k % 2 ^ p.j)) in
+    let high : high_part p.j p.k b.base x e < 2 ^ p.j = or_lt p.j (bit_and (b.base / 2 ^ p.k) (2 ^ p.j - 1 - e / 2 ^ p.k % 2 ^ p.j)) (bit_and (x / 2 ^ p.k) (e / 2 ^ p.k % 2 ^ p.j)) kept taken in
+    record {
+      size_is_lawful = lawful.size_is_lawful;
+      aligned = ap₂ (λ n m. n % m) bare p.size ∙ mod_low (high_part p.j p.k b.base x e) p.k 0 (pow_pos p.k);
+      fits = subst (λ w. rebased b x e < 2 ^ w) (sym p.width) (omega (arith, bare, shl_below (high_part p.j p.k b.base x e) p.j p.k high));
+    }
+
+-- ---- the registers
+
+whole_bits : (kind : Kind) (v x m : ℕ) → merged (4 * registers_of kind) v x m ≡ overwritten (base_width kind) v x m
+whole_bits io_kind v x m = refl
+whole_bits (mem32 pref) v x m = refl
+whole_bits (mem64 pref) v x m = refl
+
+pub whole_bound : (kind : Kind) → 256 ^ (4 * registers_of kind) ≡ 2 ^ base_width kind
+whole_bound io_kind = refl
+whole_bound (mem32 pref) = refl
+whole_bound (mem64 pref) = refl
+
+-- a write of all bytes of a base
+pub write_whole : (b : BaseAddress) → IsLawfulBase b → (ons : List Bool) → length ons ≡ 4 * registers_of b.kind → (x : ℕ)
+    → write ons x (base_register b.index) (register_cells b) ≡ register_cells (record b { base = rebased b x (enabled_bits ons) })
+write_whole b lawful ons len x =
+    let limits : (b.size < 2 ^ base_width b.kind) × (type_bits b.kind < b.size) = size_limits b.kind b.size lawful.size_is_lawful in
+    let rw' : ℕ = 2 ^ base_width b.kind - b.size in
+    let v : ℕ = b.base + type_bits b.kind in
+    let fits : rw' < 256 ^ (4 * registers_of b.kind) = omega (arith, whole_bound b.kind) in
+    let stored : rw' < 256 ^ (4 * registers_of b.kind) → write ons x (base_register b.index) (field (base_register b.index) (4 * registers_of b.kind) v rw' 0)
+    ≡ field (base_register b.index) (4 * registers_of b.kind) (merged (4 * registers_of b.kind) v x (bit_and rw' (enabled_bits ons))) rw' 0 =
+    subst (λ w. rw' < 256 ^ w → write ons x (base_register b.index) (field (base_register b.index) w v rw' 0) ≡ field (base_register b.index) w (merged w v x (bit_and rw' (enabled_bits ons))) rw' 0)
+    len (write_field ons (0x10 + 4 * b.index) v rw' x) in
+    stored fits
+    ∙ ap (λ n. field (base_register b.index) (4 * registers_of b.kind) n rw' 0) (whole_bits b.kind v x (bit_and rw' (enabled_bits ons)) ∙ rebased_types b lawful x (enabled_bits ons))
+
+-- four byte enables, and the same of the lower or of the upper half of eight bytes
+abbrev pub four : Bool → Bool → Bool → Bool → List Bool
+four a b c d = a ∷ b ∷ c ∷ d ∷ []
+
+abbrev lower : Bool → Bool → Bool → Bool → List Bool
+lower a b c d = a ∷ b ∷ c ∷ d ∷ false ∷ false ∷ false ∷ false ∷ []
+
+abbrev upper : Bool → Bool → Bool → Bool → List Bool
+upper a b c d = false ∷ false ∷ false ∷ false ∷ a ∷ b ∷ c ∷ d ∷ []
+
+upper_bits : (a b c d : Bool) → enabled_bits (upper a b c d) ≡ enabled_bits (four a b c d) * 2 ^ 32
+upper_bits a b c d = omega arith
+
+write_upper : (a b c d : Bool) (x n : ℕ) (file : File) → write (upper a b c d) (x * 2 ^ 32) (base_register n) file ≡ write (four a b c d) x (base_register (n + 1)) file
+write_upper a b c d x n file = ap₂ (λ y q. write (four a b c d) y (config q) file) (omega arith) (omega arith)
+
+read_upper : (a b c d : Bool) (n : ℕ) (file : File) → read file (base_register n) (upper a b c d) ≡ read file (base_register (n + 1)) (four a b c d) * 2 ^ 32
+read_upper a b c d n file =
+    let next : read file (config (0x10 + 4 * n + 1 + 1 + 1 + 1)) (four a b c d) ≡ read file (base_register (n + 1)) (four a b c d) = ap (λ q. read file (config q) (four a b c d)) (omega arith) in
+    omega (arith, next)
+
+-- where a register of four bytes lies in a region's registers
+data Side (reg : ℕ) (b : BaseAddress) : Type 0 where
+  low : reg ≡ b.index → Side reg b
+  high : reg ≡ b.index + 1 → registers_of b.kind ≡ 2 → Side reg b
+  apart : (reg ≡ b.index → ⊥) → ((registers_of b.kind ≡ 2) → reg ≡ b.index + 1 → ⊥) → Side reg b
+
+one_or_two : (kind : Kind) → (registers_of kind ≡ 1) ⊎ (registers_of kind ≡ 2)
+one_or_two io_kind = inl refl
+one_or_two (mem32 pref) = inl refl
+one_or_two (mem64 pref) = inr refl
+
+side : (reg : ℕ) (b : BaseAddress) → Side reg b
+side reg b = elim (cases_eq reg b.index) [
+  | inl e ↦ low e
+  | inr n ↦ elim (one_or_two b.kind) [
+    | inl one ↦ apart n (λ two. absurd (omega arith))
+    | inr two ↦ elim (cases_eq reg (b.index + 1)) [ inl e ↦ high e two | inr m ↦ apart n (λ t. m) ]
+  ]
+]
+
+apart_from : (reg : ℕ) (b : BaseAddress) → (reg ≡ b.index → ⊥) → ((registers_of b.kind ≡ 2) → reg ≡ b.index + 1 → ⊥) → IsApart 4 (0x10 + 4 * reg) (0x10 + 4 * b.index) (4 * registers_of b.kind)
+apart_from reg b n m = elim (one_or_two b.kind) [
+  | inl one ↦ elim (cases_lt reg b.index) [ inl below ↦ inl (omega arith) | inr above ↦ inr (omega (arith, n)) ]
+  | inr two ↦ elim (cases_lt reg b.index) [ inl below ↦ inl (omega arith) | inr above ↦ inr (omega (arith, n, m two)) ]
+]
+
+-- the base after a write, by the register's side
+pub rewritten_low : (reg : ℕ) (ons : List Bool) (x : ℕ) (b : BaseAddress) → reg ≡ b.index → rewritten reg ons x b ≡ record b { base = rebased b x (enabled_bits ons) }
+rewritten_low reg ons x b e = ap (λ n. record b { base = n }) (cond-true (eqb reg b.index) _ _ (eq-eqb reg b.index e))
+
+pub rewritten_high : (reg : ℕ) (ons : List Bool) (x : ℕ) (b : BaseAddress) → reg ≡ b.index + 1 → registers_of b.kind ≡ 2 → rewritten reg ons x b ≡ record b { base = rebased b (x * 2 ^ 32) (enabled_bits ons * 2 ^ 32) }
+rewritten_high reg ons x b e two =
+    ap (λ n. record b { base = n })
+    (cond-false (eqb reg b.index) _ _ (ne_eqb reg b.index (λ same. omega arith))
+    ∙ cond-true (eqb (registers_of b.kind) 2 && eqb reg (b.index + 1)) _ _ (and_from _ _ (eq-eqb (registers_of b.kind) 2 two) (eq-eqb reg (b.index + 1) e)))
+
+not_wide : (reg : ℕ) (b : BaseAddress) → (registers_of b.kind ≡ 2 → reg ≡ b.index + 1 → ⊥) → (eqb (registers_of b.kind) 2 && eqb reg (b.index + 1)) ≡ false
+not_wide reg b m = elim (one_or_two b.kind) [
+  | inl one ↦ and_left _ _ (ne_eqb (registers_of b.kind) 2 (λ two. omega arith))
+  | inr two ↦ and_right _ _ (ne_eqb reg (b.index + 1) (m two))
+]
+
+pub rewritten_apart : (reg : ℕ) (ons : List Bool) (x : ℕ) (b : BaseAddress) → (reg ≡ b.index → ⊥) → (registers_of b.kind ≡ 2 → reg ≡ b.index + 1 → ⊥) → rewritten reg ons x b ≡ b
+rewritten_apart reg ons x b n m =
+    ap (λ n. record b { base = n }) (cond-false (eqb reg b.index) _ _ (ne_eqb reg b.index n) ∙ cond-false (eqb (registers_of b.kind) 2 && eqb reg (b.index + 1)) _ _ (not_wide reg b m))
+
+write_low : (b : BaseAddress) → IsLawfulBase b → (p q r s : Bool) (x : ℕ)
+    → write (four p q r s) x (base_register b.index) (register_cells b) ≡ register_cells (record b { base = rebased b x (enabled_bits (four p q r s)) })
+write_low b lawful p q r s x = elim (one_or_two b.kind) [
+  | inl one ↦ write_whole b lawful (four p q r s) (omega arith) x
+  | inr two ↦ write_whole b lawful (lower p q r s) (omega arith) x
+]
+
+write_high : (b : BaseAddress) → IsLawfulBase b → registers_of b.kind ≡ 2 → (p q r s : Bool) (x : ℕ)
+    → write (four p q r s) x (base_register (b.index + 1)) (register_cells b) ≡ register_cells (record b { base = rebased b (x * 2 ^ 32) (enabled_bits (four p q r s) * 2 ^ 32) })
+write_high b lawful two p q r s x =
+    sym (write_upper p q r s x b.index (register_cells b)) ∙ write_whole b lawful (upper p q r s) (omega arith) (x * 2 ^ 32)
+    ∙ ap (λ e. register_cells (record b { base = rebased b (x * 2 ^ 32) e })) (upper_bits p q r s)
+
+pub write_one : (b : BaseAddress) → IsLawfulBase b → (p q r s : Bool) (x reg : ℕ) → write (four p q r s) x (base_register reg) (register_cells b) ≡ register_cells (rewritten reg (four p q r s) x b)
+write_one b lawful p q r s x reg = elim (side reg b) [
+  | low e ↦ ap (λ n. write (four p q r s) x (base_register n) (register_cells b)) e ∙ write_low b lawful p q r s x ∙ ap register_cells (sym (rewritten_low reg (four p q r s) x b e))
+  | high e two ↦ ap (λ n. write (four p q r s) x (base_register n) (register_cells b)) e ∙ write_high b lawful two p q r s x ∙ ap register_cells (sym (rewritten_high reg (four p q r s) x b e two))
+  | apart n m ↦ write_apart (four p q r s) x (0x10 + 4 * reg) (4 * registers_of b.kind) (0x10 + 4 * b.index) (b.base + type_bits b.kind) (2 ^ base_width b.kind - b.size) 0 (apart_from reg b n m)
+      ∙ ap register_cells (sym (rewritten_apart reg (four p q r s) x b n m))
+]
+
+pub rewritten_lawful : (reg : ℕ) (ons : List Bool) (x : ℕ) (b : BaseAddress) → IsLawfulBase b → IsLawfulBase (rewritten reg ons x b)
+rewritten_lawful reg ons x b lawful = elim (side reg b) [
+  | low e ↦ subst IsLawfulBase (sym (rewritten_low reg ons x b e)) (rebased_lawful b lawful x (enabled_bits ons))
+  | high e two ↦ subst IsLawfulBase (sym (rewritten_high reg ons x b e two)) (rebased_lawful b lawful (x * 2 ^ 32) (enabled_bits ons * 2 ^ 32))
+  | apart n m ↦ subst IsLawfulBase (sym (rewritten_apart reg ons x b n m)) lawful
+]
+
+-- every register of a file of base address registers
+pub write_bases : (bs : List BaseAddress) → Each IsLawfulBase bs → (p q r s : Bool) (x reg : ℕ) → write (four p q r s) x (base_register reg) (base_file bs) ≡ base_file (map (rewritten reg (four p q r s) x) bs)
+write_bases [] lawful p q r s x reg = write_none (four p q r s) x (base_register reg)
+write_bases (b ∷ bs) lawful p q r s x reg =
+    write_append (four p q r s) x (base_register reg) (register_cells b) (base_file bs)
+    ∙ ap₂ (λ (one more : File). one ++ more) (write_one b lawful.0 p q r s x reg) (write_bases bs lawful.1 p q r s x reg)
+
+-- ---- reading
+
+read_whole : (b : BaseAddress) (rest : File) (ons : List Bool) → length ons ≡ 4 * registers_of b.kind → read (register_cells b ++ rest) (base_register b.index) ons ≡ bit_and (shown b) (enabled_bits ons)
+read_whole b rest ons len =
+    subst (λ w. read (field (base_register b.index) w (shown b) (2 ^ base_width b.kind - b.size) 0 ++ rest) (base_register b.index) ons ≡ bit_and (shown b) (enabled_bits ons)) len
+    (read_field ons (0x10 + 4 * b.index) (shown b) (2 ^ base_width b.kind - b.size) 0 rest)
+
+pub read_low : (b : BaseAddress) (rest : File) (p q r s : Bool) → read (register_cells b ++ rest) (base_register b.index) (four p q r s) ≡ bit_and (shown b) (enabled_bits (four p q r s))
+read_low b rest p q r s = elim (one_or_two b.kind) [
+  | inl one ↦ read_whole b rest (four p q r s) (omega arith)
+  | inr two ↦ read_whole b rest (lower p q r s) (omega arith)
+]
+
+and_upper : (v e : ℕ) → bit_and v (e * 2 ^ 32) ≡ bit_and (v / 2 ^ 32) e * 2 ^ 32
+and_upper v e =
+    ap₂ bit_and (sym (shr_split v 32)) (sym (add-zero (e * 2 ^ 32))) ∙ and_block 32 (v / 2 ^ 32) e (v % 2 ^ 32) 0 (mod_below v (2 ^ 32) (pow_pos 32)) (pow_pos 32)
+    ∙ omega (arith, and_zero_r (v % 2 ^ 32))
+
+pub read_high : (b : BaseAddress) → registers_of b.kind ≡ 2 → (rest : File) (p q r s : Bool) → read (register_cells b ++ rest) (base_register (b.index + 1)) (four p q r s) ≡ bit_and (shown b / 2 ^ 32) (enabled_bits (four p q r s))
+read_high b two rest p q r s =
+    let whole : read (register_cells b ++ rest) (base_register b.index) (upper p q r s) ≡ bit_and (shown b) (enabled_bits (upper p q r s)) = read_whole b rest (upper p q r s) (omega arith) in
+    let turned : bit_and (shown b) (enabled_bits (upper p q r s)) ≡ bit_and (shown b / 2 ^ 32) (enabled_bits (four p q r s)) * 2 ^ 32 =
+    ap (bit_and (shown b)) (upper_bits p q r s) ∙ and_upper (shown b) (enabled_bits (four p q r s)) in
+    omega (arith, read_upper p q r s b.index (register_cells b ++ rest))
+
+pub word_low : (reg : ℕ) (b : BaseAddress) (bs : List BaseAddress) → reg ≡ b.index → word_at reg (b ∷ bs) ≡ shown b
+word_low reg b bs e = cond-true (eqb reg b.index) _ _ (eq-eqb reg b.index e)
+
+pub word_high : (reg : ℕ) (b : BaseAddress) (bs : List BaseAddress) → reg ≡ b.index + 1 → registers_of b.kind ≡ 2 → word_at reg (b ∷ bs) ≡ shown b / 2 ^ 32
+word_high reg b bs e two =
+    cond-false (eqb reg b.index) _ _ (ne_eqb reg b.index (λ same. omega arith))
+    ∙ cond-true (eqb (registers_of b.kind) 2 && eqb reg (b.index + 1)) _ _ (and_from _ _ (eq-eqb (registers_of b.kind) 2 two) (eq-eqb reg (b.index + 1) e))
+
+pub word_apart : (reg : ℕ) (b : BaseAddress) (bs : List BaseAddress) → (reg ≡ b.index → ⊥) → (registers_of b.kind ≡ 2 → reg ≡ b.index + 1 → ⊥) → word_at reg (b ∷ bs) ≡ word_at reg bs
+word_apart reg b bs n m = cond-false (eqb reg b.index) _ _ (ne_eqb reg b.index n) ∙ cond-false (eqb (registers_of b.kind) 2 && eqb reg (b.index + 1)) _ _ (not_wide reg b m)
+
+pub read_bases : (bs : List BaseAddress) (p q r s : Bool) (reg : ℕ) → read (base_file bs) (base_register reg) (four p q r s) ≡ bit_and (word_at reg bs) (enabled_bits (four p q r s))
+read_bases [] p q r s reg = read_none (four p q r s) (base_register reg)
+read_bases (b ∷ bs) p q r s reg = elim (side reg b) [
+  | low e ↦ ap (λ n. read (register_cells b ++ base_file bs) (base_register n) (four p q r s)) e ∙ read_low b (base_file bs) p q r s
+      ∙ ap (λ n. bit_and n (enabled_bits (four p q r s))) (sym (word_low reg b bs e))
+  | high e two ↦ ap (λ n. read (register_cells b ++ base_file bs) (base_register n) (four p q r s)) e ∙ read_high b two (base_file bs) p q r s
+      ∙ ap (λ n. bit_and n (enabled_bits (four p q r s))) (sym (word_high reg b bs e two))
+  | apart n m ↦ read_apart (four p q r s) (0x10 + 4 * reg) (4 * registers_of b.kind) (0x10 + 4 * b.index) (shown b) (2 ^ base_width b.kind - b.size) 0 (base_file bs) (apart_from reg b n m)
+      ∙ read_bases bs p q r s reg ∙ ap (λ n. bit_and n (enabled_bits (four p q r s))) (sym (word_apart reg b bs n m))
+]
+
+pub reads_of_bases : ReadsOfBases
+reads_of_bases bs be reg = read_bases bs (is_enabled be 0) (is_enabled be 1) (is_enabled be 2) (is_enabled be 3) reg
+
+pub writes_of_bases : WritesOfBases
+writes_of_bases bs lawful be x reg =
+    write_bases bs lawful.each (is_enabled be 0) (is_enabled be 1) (is_enabled be 2) (is_enabled be 3) x reg

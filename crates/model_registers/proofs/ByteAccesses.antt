@@ -1,0 +1,274 @@
+-- A number of 1, 2 or 4 bytes is the enabled bytes of the word in which it lies.
+use Rattle.std.proofs.Common.{◌≡◌, inl, inr, ℕ, zero, suc, ◌+◌, ◌-◌, ◌*◌, ◌/◌, ◌%◌, ◌^◌, ◌<◌, ◌≤◌, Bool, true, false, cond, List, [], ◌∷◌, ◌++◌, replicate, refl, sym, ap, ap₂, ◌∙◌, subst, arith}
+use Rattle.std.proofs.Math.Nat.{pow-suc, one-le-pow, div-div-eq-div-mul, mul-div_cancel, mod-one, mul_comm}
+use Rattle.model_registers.proofs.RegisterFiles.{low_byte}
+use Rattle.std.specs.Prelude.{⊤}
+use Rattle.model_registers.specs.Cell.{written}
+use Rattle.model_registers.specs.Registers.{Place, config, block, place_eq, after, offset_of, File, cell_at, changed, read, write, number, all_bytes, all_ones}
+use Rattle.model_registers.specs.ByteEnables.{lanes, enabled_bytes, LiesInWord, enables_of, into_lanes, from_lanes, word_of}
+use Rattle.model_registers.specs.AccessLaws.{AlignedLiesInWord, NumberByLanes, LanesFit, NumberFromWord, AllOnesByLanes, WriteByLanes, DisabledRead, DisabledStay, HoldsBytes, NumberFits, ReadsEnabled}
+
+pub aligned_lies_in_word : AlignedLiesInWord
+aligned_lies_in_word a w (inl e) h = let P : ℕ → Type 0 = λ n. a % 4 + n ≤ 4 in subst P (sym e) (omega arith)
+aligned_lies_in_word a w (inr (inl e)) h =
+    let P : ℕ → Type 0 = λ n. a % n ≡ 0 → a % 4 + n ≤ 4 in
+    let two : a % 2 ≡ 0 → a % 4 + 2 ≤ 4 = λ even. omega arith in subst P (sym e) two h
+aligned_lies_in_word a w (inr (inr e)) h =
+    let P : ℕ → Type 0 = λ n. a % n ≡ 0 → a % 4 + n ≤ 4 in
+    let four : a % 4 ≡ 0 → a % 4 + 4 ≤ 4 = λ whole. omega arith in subst P (sym e) four h
+
+-- ---- lanes that are not enabled
+
+pub disabled_read : DisabledRead
+disabled_read zero file p = refl
+disabled_read (suc k) file p = let more : read file (after p) (replicate k false) ≡ 0 = disabled_read k file (after p) in omega arith
+
+pub disabled_stay : DisabledStay
+disabled_stay zero v file p = refl
+disabled_stay (suc k) v file p = disabled_stay k (v / 256) file (after p)
+
+-- the place k bytes further on
+abbrev pub further : ℕ → Place → Place
+further zero p = p
+further (suc k) p = further k (after p)
+
+-- l disabled lanes, w enabled ones and k disabled ones
+abbrev pub lanes_of : ℕ → ℕ → ℕ → List Bool
+lanes_of l w k = replicate l false ++ (replicate w true ++ replicate k false)
+
+read_enabled : (w k : ℕ) (file : File) (p : Place) → read file p (replicate w true ++ replicate k false) ≡ number file p w
+read_enabled zero k file p = disabled_read k file p
+read_enabled (suc w) k file p = ap (λ n. (cell_at file p).value + 256 * n) (read_enabled w k file (after p))
+
+shift_one : (n l : ℕ) → 0 + 256 * (n * 256 ^ l) ≡ n * 256 ^ suc l
+shift_one n l = rw (pow-suc 256 l) (let c : ℕ = 256 ^ l in let same : 0 + 256 * (n * c) ≡ n * (c * 256) = omega arith in same)
+
+read_lanes : (l w k : ℕ) (file : File) (p : Place) → read file p (lanes_of l w k) ≡ number file (further l p) w * 256 ^ l
+read_lanes zero w k file p = read_enabled w k file p ∙ (let n : ℕ = number file p w in let same : n ≡ n * 1 = omega arith in same)
+read_lanes (suc l) w k file p = ap (λ n. 0 + 256 * n) (read_lanes l w k file (after p)) ∙ shift_one (number file (further l (after p)) w) l
+
+write_enabled : (w k v : ℕ) (file : File) (p : Place) → write (replicate w true ++ replicate k false) v p file ≡ write (all_bytes w) v p file
+write_enabled zero k v file p = disabled_stay k v file p
+write_enabled (suc w) k v file p = write_enabled w k (v / 256) (changed (written (v % 256)) p file) (after p)
+
+quotient : (v l : ℕ) → v / 256 / 256 ^ l ≡ v / 256 ^ suc l
+quotient v l = div-div-eq-div-mul v 256 (256 ^ l) ∙ ap (λ n. v / n) (mul_comm 256 (256 ^ l) ∙ sym (pow-suc 256 l))
+
+write_lanes : (l w k v : ℕ) (file : File) (p : Place) → write (lanes_of l w k) v p file ≡ write (all_bytes w) (v / 256 ^ l) (further l p) file
+write_lanes zero w k v file p = write_enabled w k v file p ∙ ap (λ n. write (all_bytes w) n p file) (let same : v ≡ v / 1 = omega arith in same)
+write_lanes (suc l) w k v file p = write_lanes l w k (v / 256) file (after p) ∙ ap (λ n. write (all_bytes w) n (further l (after p)) file) (quotient v l)
+
+-- ---- the enables of a number
+
+enable_table : (l w : ℕ) → l + w ≤ 4 → lanes ((2 ^ w - 1) * 2 ^ l) ≡ lanes_of l w (4 - (l + w))
+enable_table zero zero h = refl
+enable_table zero (suc zero) h = refl
+enable_table zero (suc (suc zero)) h = refl
+enable_table zero (suc (suc (suc zero))) h = refl
+enable_table zero (suc (suc (suc (suc zero)))) h = refl
+enable_table (suc zero) zero h = refl
+enable_table (suc zero) (suc zero) h = refl
+enable_table (suc zero) (suc (suc zero)) h = refl
+enable_table (suc zero) (suc (suc (suc zero))) h = refl
+enable_table (suc (suc zero)) zero h = refl
+enable_table (suc (suc zero)) (suc zero) h = refl
+enable_table (suc (suc zero)) (suc (suc zero)) h = refl
+enable_table (suc (suc (suc zero))) zero h = refl
+enable_table (suc (suc (suc zero))) (suc zero) h = refl
+enable_table (suc (suc (suc (suc zero)))) zero h = refl
+enable_table zero (suc (suc (suc (suc (suc w))))) h = absurd (omega arith)
+enable_table (suc zero) (suc (suc (suc (suc w)))) h = absurd (omega arith)
+enable_table (suc (suc zero)) (suc (suc (suc w))) h = absurd (omega arith)
+enable_table (suc (suc (suc zero))) (suc (suc w)) h = absurd (omega arith)
+enable_table (suc (suc (suc (suc zero)))) (suc w) h = absurd (omega arith)
+enable_table (suc (suc (suc (suc (suc l))))) w h = absurd (omega arith)
+
+further-config : (l a : ℕ) → further l (config a) ≡ config (a + l)
+further-config zero a = ap config (omega arith)
+further-config (suc l) a = further-config l (a + 1) ∙ ap config (omega arith)
+
+further-block : (l n a : ℕ) → further l (block n a) ≡ block n (a + l)
+further-block zero n a = ap (block n) (omega arith)
+further-block (suc l) n a = further-block l n (a + 1) ∙ ap (block n) (omega arith)
+
+in_word : (p : Place) → further (offset_of p % 4) (word_of p) ≡ p
+in_word (config a) = further-config (a % 4) (a / 4 * 4) ∙ ap config (omega arith)
+in_word (block n a) = further-block (a % 4) n (a / 4 * 4) ∙ ap (block n) (omega arith)
+
+unshifted : (n l : ℕ) → n * 256 ^ l / 256 ^ l ≡ n
+unshifted n l = mul-div_cancel n (one-le-pow l 256 (omega arith))
+
+pub number_by_lanes : NumberByLanes
+number_by_lanes file p w within =
+    let l : ℕ = offset_of p % 4 in
+    sym (ap (λ ons. read file (word_of p) ons / 256 ^ l) (enable_table l w within)
+    ∙ ap (λ n. n / 256 ^ l) (read_lanes l w (4 - (l + w)) file (word_of p))
+    ∙ unshifted (number file (further l (word_of p)) w) l
+    ∙ ap (λ q. number file q w) (in_word p))
+
+-- ---- writes
+
+-- a write of w bytes takes those of the number alone
+write_same : (w x y : ℕ) (p : Place) (file : File) → x % 256 ^ w ≡ y % 256 ^ w → write (all_bytes w) x p file ≡ write (all_bytes w) y p file
+write_same zero x y p file h = refl
+write_same (suc w) x y p file h =
+    let parts : x % 256 + 256 * (x / 256 % 256 ^ w) ≡ y % 256 + 256 * (y / 256 % 256 ^ w) = low_byte w x ∙ h ∙ sym (low_byte w y) in
+    let first : x % 256 ≡ y % 256 = omega arith in
+    let rest : x / 256 % 256 ^ w ≡ y / 256 % 256 ^ w = omega arith in
+    ap (λ b. write (all_bytes w) (x / 256) (after p) (changed (written b) p file)) first
+    ∙ write_same w (x / 256) (y / 256) (after p) (changed (written (y % 256)) p file) rest
+
+lane_table : (l w v : ℕ) → l + w ≤ 4 → v * 256 ^ l % 2 ^ 32 / 256 ^ l % 256 ^ w ≡ v % 256 ^ w
+lane_table zero zero v h = omega arith
+lane_table zero (suc zero) v h = omega arith
+lane_table zero (suc (suc zero)) v h = omega arith
+lane_table zero (suc (suc (suc zero))) v h = omega arith
+lane_table zero (suc (suc (suc (suc zero)))) v h = omega arith
+lane_table (suc zero) zero v h = omega arith
+lane_table (suc zero) (suc zero) v h = omega arith
+lane_table (suc zero) (suc (suc zero)) v h = omega arith
+lane_table (suc zero) (suc (suc (suc zero))) v h = omega arith
+lane_table (suc (suc zero)) zero v h = omega arith
+lane_table (suc (suc zero)) (suc zero) v h = omega arith
+lane_table (suc (suc zero)) (suc (suc zero)) v h = omega arith
+lane_table (suc (suc (suc zero))) zero v h = omega arith
+lane_table (suc (suc (suc zero))) (suc zero) v h = omega arith
+lane_table (suc (suc (suc (suc zero)))) zero v h = omega arith
+lane_table zero (suc (suc (suc (suc (suc w))))) v h = absurd (omega arith)
+lane_table (suc zero) (suc (suc (suc (suc w)))) v h = absurd (omega arith)
+lane_table (suc (suc zero)) (suc (suc (suc w))) v h = absurd (omega arith)
+lane_table (suc (suc (suc zero))) (suc (suc w)) v h = absurd (omega arith)
+lane_table (suc (suc (suc (suc zero)))) (suc w) v h = absurd (omega arith)
+lane_table (suc (suc (suc (suc (suc l))))) w v h = absurd (omega arith)
+
+pub write_by_lanes : WriteByLanes
+write_by_lanes file p w v within =
+    let l : ℕ = offset_of p % 4 in
+    sym (ap (λ ons. write ons (into_lanes (offset_of p) v) (word_of p) file) (enable_table l w within)
+    ∙ write_lanes l w (4 - (l + w)) (into_lanes (offset_of p) v) file (word_of p)
+    ∙ ap (λ q. write (all_bytes w) (into_lanes (offset_of p) v / 256 ^ l) q file) (in_word p)
+    ∙ write_same w (into_lanes (offset_of p) v / 256 ^ l) v p file (lane_table l w v within))
+
+-- ---- the bytes of a word
+
+enabled_low : (w k n : ℕ) → enabled_bytes (replicate w true ++ replicate k false) n ≡ n % 256 ^ w
+enabled_low zero zero n = sym (mod-one n)
+enabled_low zero (suc k) n = let more : enabled_bytes (replicate k false) (n / 256) ≡ n / 256 % 1 = enabled_low zero k (n / 256) in omega arith
+enabled_low (suc w) k n = ap (λ m. n % 256 + 256 * m) (enabled_low w k (n / 256)) ∙ low_byte w n
+
+enabled_lanes : (l w k n : ℕ) → enabled_bytes (lanes_of l w k) n ≡ (n / 256 ^ l % 256 ^ w) * 256 ^ l
+enabled_lanes zero w k n = enabled_low w k n ∙ (let same : n % 256 ^ w ≡ (n / 1 % 256 ^ w) * 1 = ap (λ m. m % 256 ^ w) (let one : n ≡ n / 1 = omega arith in one) ∙ sym (omega arith) in same)
+enabled_lanes (suc l) w k n =
+    ap (λ m. 0 + 256 * m) (enabled_lanes l w k (n / 256)) ∙ shift_one (n / 256 / 256 ^ l % 256 ^ w) l ∙ ap (λ m. (m % 256 ^ w) * 256 ^ suc l) (quotient n l)
+
+pub lanes_fit : LanesFit
+lanes_fit off w word within only =
+    let l : ℕ = off % 4 in
+    let is : word ≡ (word / 256 ^ l % 256 ^ w) * 256 ^ l =
+    only ∙ ap (λ ons. enabled_bytes ons word) (enable_table l w within) ∙ enabled_lanes l w (4 - (l + w)) word in
+    sym (ap (λ m. m / 256 ^ l) is ∙ unshifted (word / 256 ^ l % 256 ^ w) l)
+
+pub number_from_word : NumberFromWord
+number_from_word file p w word within is only =
+    lanes_fit (offset_of p) w word within only ∙ ap (λ n. n / 256 ^ (offset_of p % 4)) is ∙ sym (number_by_lanes file p w within)
+
+ones_table : (l w : ℕ) → l + w ≤ 4 → (2 ^ 32 - 1) / 256 ^ l % 256 ^ w ≡ all_ones w
+ones_table zero zero h = refl
+ones_table zero (suc zero) h = refl
+ones_table zero (suc (suc zero)) h = refl
+ones_table zero (suc (suc (suc zero))) h = refl
+ones_table zero (suc (suc (suc (suc zero)))) h = refl
+ones_table (suc zero) zero h = refl
+ones_table (suc zero) (suc zero) h = refl
+ones_table (suc zero) (suc (suc zero)) h = refl
+ones_table (suc zero) (suc (suc (suc zero))) h = refl
+ones_table (suc (suc zero)) zero h = refl
+ones_table (suc (suc zero)) (suc zero) h = refl
+ones_table (suc (suc zero)) (suc (suc zero)) h = refl
+ones_table (suc (suc (suc zero))) zero h = refl
+ones_table (suc (suc (suc zero))) (suc zero) h = refl
+ones_table (suc (suc (suc (suc zero)))) zero h = refl
+ones_table zero (suc (suc (suc (suc (suc w))))) h = absurd (omega arith)
+ones_table (suc zero) (suc (suc (suc (suc w)))) h = absurd (omega arith)
+ones_table (suc (suc zero)) (suc (suc (suc w))) h = absurd (omega arith)
+ones_table (suc (suc (suc zero))) (suc (suc w)) h = absurd (omega arith)
+ones_table (suc (suc (suc (suc zero)))) (suc w) h = absurd (omega arith)
+ones_table (suc (suc (suc (suc (suc l))))) w h = absurd (omega arith)
+
+pub all_ones_by_lanes : AllOnesByLanes
+all_ones_by_lanes off w within = ones_table (off % 4) w within
+
+-- ---- files whose cells are bytes
+
+value_fits : (file : File) → HoldsBytes file → (p : Place) → (cell_at file p).value < 256
+value_fits [] h p = omega arith
+value_fits (e ∷ es) h p = fits_at (place_eq e.place p) (value_fits es h.1 p) where
+  fits_at : (t : Bool) → (cell_at es p).value < 256 → (cond t e.cell (cell_at es p)).value < 256
+  fits_at true rest = h.0
+  fits_at false rest = rest
+
+pub number_fits : NumberFits
+number_fits file h p zero = omega arith
+number_fits file h p (suc w) =
+    let first : (cell_at file p).value < 256 = value_fits file h p in
+    let rest : number file (after p) w < 256 ^ w = number_fits file h (after p) w in
+    omega (arith, pow-suc 256 w)
+
+enabled_more : (ons : List Bool) (x rest : ℕ) → x < 256 → rest ≡ enabled_bytes ons rest → enabled_bytes ons ((x + 256 * rest) / 256) ≡ rest
+enabled_more ons x rest h is = ap (enabled_bytes ons) (let high : (x + 256 * rest) / 256 ≡ rest = omega arith in high) ∙ sym is
+
+-- each byte that a read takes is a byte
+abbrev pub TakesBytes : File → Place → List Bool → Type 0
+TakesBytes file p [] = ⊤
+TakesBytes file p (on ∷ ons) = (cond on (cell_at file p).value 0 < 256) × TakesBytes file (after p) ons
+
+pub read_takes_bytes : (file : File) (p : Place) (ons : List Bool) → TakesBytes file p ons → read file p ons ≡ enabled_bytes ons (read file p ons)
+read_takes_bytes file p [] h = refl
+read_takes_bytes file p (on ∷ ons) h = enabled_at on h.0 (read_takes_bytes file (after p) ons h.1) where
+  x : ℕ
+  x = (cell_at file p).value
+
+  rest : ℕ
+  rest = read file (after p) ons
+
+  enabled_at : (t : Bool) → cond t x 0 < 256 → rest ≡ enabled_bytes ons rest → cond t x 0 + 256 * rest ≡ cond t ((cond t x 0 + 256 * rest) % 256) 0 + 256 * enabled_bytes ons ((cond t x 0 + 256 * rest) / 256)
+  enabled_at true small is =
+      let low : x ≡ (x + 256 * rest) % 256 = omega arith in
+      ap₂ (λ a b. a + 256 * b) low (sym (enabled_more ons x rest small is))
+  enabled_at false small is = ap (λ b. 0 + 256 * b) (sym (enabled_more ons 0 rest (omega arith) is))
+
+takes_bytes : (file : File) → HoldsBytes file → (p : Place) (ons : List Bool) → TakesBytes file p ons
+takes_bytes file h p [] = tt
+takes_bytes file h p (on ∷ ons) = (takes_at on (value_fits file h p), takes_bytes file h (after p) ons) where
+  takes_at : (t : Bool) → (cell_at file p).value < 256 → cond t (cell_at file p).value 0 < 256
+  takes_at true small = small
+  takes_at false small = omega arith
+
+pub reads_enabled : ReadsEnabled
+reads_enabled file h p ons = read_takes_bytes file p ons (takes_bytes file h p ons)
+
+-- ---- an access in code: its offset a, width n, enables, word and lanes are known by equations
+
+enables_given : (off w a n be : ℕ) → a ≡ off → n ≡ w → be ≡ enables_of a n → lanes be ≡ lanes (enables_of off w)
+enables_given off w a n be is wide on = ap lanes (on ∙ ap₂ enables_of is wide)
+
+pub number_of_access : (file : File) (p at : Place) (w a n be word out : ℕ) → LiesInWord (offset_of p) w → a ≡ offset_of p → n ≡ w → at ≡ word_of p
+    → be ≡ enables_of a n → word ≡ read file at (lanes be) → word ≡ enabled_bytes (lanes be) word → out ≡ from_lanes a n word → out ≡ number file p w
+number_of_access file p at w a n be word out within is wide place on reads only gives =
+    let ons : lanes be ≡ lanes (enables_of (offset_of p) w) = enables_given (offset_of p) w a n be is wide on in
+    gives ∙ ap₂ (λ x m. from_lanes x m word) is wide
+    ∙ number_from_word file p w word within (reads ∙ ap₂ (read file) place ons) (only ∙ ap (λ l. enabled_bytes l word) ons)
+
+pub write_of_access : (file : File) (p at : Place) (w v a n be word : ℕ) → LiesInWord (offset_of p) w → a ≡ offset_of p → n ≡ w → at ≡ word_of p
+    → be ≡ enables_of a n → word ≡ into_lanes a v → write (lanes be) word at file ≡ write (all_bytes w) v p file
+write_of_access file p at w v a n be word within is wide place on moved =
+    ap₂ (λ l x. write l x at file) (enables_given (offset_of p) w a n be is wide on) (moved ∙ ap (λ x. into_lanes x v) is)
+    ∙ ap (λ q. write (lanes (enables_of (offset_of p) w)) (into_lanes (offset_of p) v) q file) place
+    ∙ sym (write_by_lanes file p w v within)
+
+-- the word's place as code writes it
+pub word_of-config : (a : ℕ) → config (a - a % 4) ≡ word_of (config a)
+word_of-config a = ap config (omega arith)
+
+pub word_of-block : (n a : ℕ) → block n (a - a % 4) ≡ word_of (block n a)
+word_of-block n a = ap (block n) (omega arith)

@@ -1,0 +1,52 @@
+-- `Each`: maps, tests, permutations and filters.
+use Rattle.std.proofs.Common.{◌≡◌, zero, suc, Bool, true, ◌&&◌, List, [], ◌∷◌, refl, ap₂, arith}
+use Rattle.std.specs.Prelude.{IsTrue}
+use Rattle.std.specs.List.{All, list_all}
+use Rattle.std.specs.List.Sorted.{IsPermutation}
+use Rattle.std.proofs.lemmas.List.Sorted.{All-permutation}
+use Rattle.model_registers.specs.Lists.{Each, EachPair, all_pairs}
+use Rattle.model_registers.proofs.Tests.{left_true, right_true}
+
+pub each_map : {A : Type 0} (P Q : A → Type 0) (xs : List A) → ((x : A) → P x → Q x) → Each P xs → Each Q xs
+each_map P Q [] f h = tt
+each_map P Q (x ∷ xs) f h = (f x h.0, each_map P Q xs f h.1)
+
+pub each_both : {A : Type 0} (P Q : A → Type 0) (xs : List A) → Each P xs → Each Q xs → Each (λ x. P x × Q x) xs
+each_both P Q [] h k = tt
+each_both P Q (x ∷ xs) h k = ((h.0, k.0), each_both P Q xs h.1 k.1)
+
+pub each_test : {A : Type 0} (p : A → Bool) (xs : List A) → list_all p xs ≡ true → Each (λ x. IsTrue (p x)) xs
+each_test p [] h = tt
+each_test p (x ∷ xs) h = (left_true (p x) (list_all p xs) h, each_test p xs (right_true (p x) (list_all p xs) h))
+
+pub pairs_test : {A : Type 0} (p : A → A → Bool) (xs : List A) → all_pairs p xs ≡ true → EachPair (λ x y. IsTrue (p x y)) xs
+pairs_test p [] h = tt
+pairs_test p (x ∷ xs) h =
+    (each_test (p x) xs (left_true (list_all (p x) xs) (all_pairs p xs) h), pairs_test p xs (right_true (list_all (p x) xs) (all_pairs p xs) h))
+
+pub all-each : {A : Type 0} (P : A → Type 0) (xs : List A) → Each P xs → All P xs
+all-each P [] h k d lt = absurd (omega arith)
+all-each P (x ∷ xs) h zero d lt = h.0
+all-each P (x ∷ xs) h (suc k) d lt = all-each P xs h.1 k d (omega arith)
+
+pub each-all : {A : Type 0} (P : A → Type 0) (xs : List A) → All P xs → Each P xs
+each-all P [] h = tt
+each-all P (x ∷ xs) h = (h 0 x (omega arith), each-all P xs (λ k d lt. h (suc k) d (omega arith)))
+
+pub each_permutation : {A : Type 0} (P : A → Type 0) (xs ys : List A) → IsPermutation xs ys → Each P xs → Each P ys
+each_permutation P xs ys h e = each-all P ys (All-permutation P xs ys h (all-each P xs e))
+
+pub both_true : (a b : Bool) → a ≡ true → b ≡ true → (a && b) ≡ true
+both_true a b h k = ap₂ (λ x y. x && y) h k
+
+pub test_each : {A : Type 0} (p : A → Bool) (xs : List A) → Each (λ x. IsTrue (p x)) xs → list_all p xs ≡ true
+test_each p [] h = refl
+test_each p (x ∷ xs) h = both_true (p x) (list_all p xs) h.0 (test_each p xs h.1)
+
+pub test_pairs : {A : Type 0} (p : A → A → Bool) (xs : List A) → EachPair (λ x y. IsTrue (p x y)) xs → all_pairs p xs ≡ true
+test_pairs p [] h = refl
+test_pairs p (x ∷ xs) h = both_true (list_all (p x) xs) (all_pairs p xs) (test_each (p x) xs h.0) (test_pairs p xs h.1)
+
+pub pairs_map : {A : Type 0} (R S : A → A → Type 0) (xs : List A) → ((x y : A) → R x y → S x y) → EachPair R xs → EachPair S xs
+pairs_map R S [] f h = tt
+pairs_map R S (x ∷ xs) f h = (each_map (R x) (S x) xs (f x) h.0, pairs_map R S xs f h.1)

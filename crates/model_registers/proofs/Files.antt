@@ -1,0 +1,166 @@
+-- Joined files, and the cells of a block as those of a region.
+use Rattle.std.proofs.Common.{◌≡◌, ◌≢◌, ℕ, ◌+◌, ◌*◌, ◌/◌, ◌%◌, Bool, true, false, ◌||◌, ◌&&◌, cond, eqb, [], ◌∷◌, ◌++◌, refl, sym, ap, ap₂, ◌∙◌, subst}
+use Rattle.std.proofs.lemmas.Bool.{ne_eqb, eq-eqb, or_parts}
+use Rattle.model_registers.specs.Cell.{Cell, no_cell, written}
+use Rattle.model_registers.specs.Registers.{Place, config, block, place_eq, after, offset_of, Entry, File, cell_at, changed, write, in_region}
+use Rattle.model_registers.specs.FileLaws.{has_place, IsConfig, IsConfigFile, JoinedCell, JoinedChange, JoinedWrite, ReadNone, WriteNone, ReadSecond, ReadFirst, PlacesStay, RegionCells, RegionCell, RegionRead, RegionChange, RegionWrite, RegionHasNoConfig, RegionHasNoOther, ConfigHasNoBlock, ConfigStays}
+
+-- ---- joined files
+
+pub joined_cell : JoinedCell
+joined_cell [] ys p = refl
+joined_cell (e ∷ es) ys p = here (place_eq e.place p) (joined_cell es ys p) where
+  here : (t : Bool) → cell_at (es ++ ys) p ≡ cond (has_place es p) (cell_at es p) (cell_at ys p)
+      → cond t e.cell (cell_at (es ++ ys) p) ≡ cond (t || has_place es p) (cond t e.cell (cell_at es p)) (cell_at ys p)
+  here true rest = refl
+  here false rest = rest
+
+pub joined_change : JoinedChange
+joined_change f p [] ys = refl
+joined_change f p (e ∷ es) ys = ap (λ (file : File). cond (place_eq e.place p) (record e { cell = f e.cell }) e ∷ file) (joined_change f p es ys)
+
+pub joined_write : JoinedWrite
+joined_write [] v p xs ys = refl
+joined_write (true ∷ ons) v p xs ys =
+    ap (write ons (v / 256) (after p)) (joined_change (written (v % 256)) p xs ys)
+    ∙ joined_write ons (v / 256) (after p) (changed (written (v % 256)) p xs) (changed (written (v % 256)) p ys)
+joined_write (false ∷ ons) v p xs ys = joined_write ons (v / 256) (after p) xs ys
+
+-- a place without a cell
+pub cell_none : (file : File) (p : Place) → has_place file p ≡ false → cell_at file p ≡ no_cell
+cell_none [] p h = refl
+cell_none (e ∷ es) p h =
+    let parts = or_parts (place_eq e.place p) (has_place es p) h in
+    let past : place_eq e.place p ≡ false = parts.0 in rw past (cell_none es p parts.1)
+
+pub change_none : (f : Cell → Cell) (file : File) (p : Place) → has_place file p ≡ false → changed f p file ≡ file
+change_none f [] p h = refl
+change_none f (e ∷ es) p h =
+    let parts = or_parts (place_eq e.place p) (has_place es p) h in
+    ap₂ (λ (t : Bool) (file : File). cond t (record e { cell = f e.cell }) e ∷ file) parts.0 (change_none f es p parts.1)
+
+pub read_none : ReadNone
+read_none [] p file h = refl
+read_none (true ∷ ons) p file h =
+    ap₂ (λ (c : Cell) n. c.value + 256 * n) (cell_none file p (h.0 refl)) (read_none ons (after p) file h.1)
+read_none (false ∷ ons) p file h = ap (λ n. 0 + 256 * n) (read_none ons (after p) file h.1)
+
+pub write_none : WriteNone
+write_none [] v p file h = refl
+write_none (true ∷ ons) v p file h =
+    ap (write ons (v / 256) (after p)) (change_none (written (v % 256)) file p (h.0 refl)) ∙ write_none ons (v / 256) (after p) file h.1
+write_none (false ∷ ons) v p file h = write_none ons (v / 256) (after p) file h.1
+
+pub read_second : ReadSecond
+read_second [] p xs ys h = refl
+read_second (true ∷ ons) p xs ys h =
+    let past : has_place xs p ≡ false = h.0 refl in
+    ap₂ (λ (c : Cell) n. c.value + 256 * n) (joined_cell xs ys p ∙ ap (λ (t : Bool). cond t (cell_at xs p) (cell_at ys p)) past) (read_second ons (after p) xs ys h.1)
+read_second (false ∷ ons) p xs ys h = ap (λ n. 0 + 256 * n) (read_second ons (after p) xs ys h.1)
+
+first_cell : (xs ys : File) (p : Place) → has_place ys p ≡ false → cell_at (xs ++ ys) p ≡ cell_at xs p
+first_cell xs ys p none = joined_cell xs ys p ∙ here (has_place xs p) refl where
+  here : (t : Bool) → has_place xs p ≡ t → cond t (cell_at xs p) (cell_at ys p) ≡ cell_at xs p
+  here true h = refl
+  here false h = cell_none ys p none ∙ sym (cell_none xs p h)
+
+pub read_first : ReadFirst
+read_first [] p xs ys h = refl
+read_first (true ∷ ons) p xs ys h = ap₂ (λ (c : Cell) n. c.value + 256 * n) (first_cell xs ys p (h.0 refl)) (read_first ons (after p) xs ys h.1)
+read_first (false ∷ ons) p xs ys h = ap (λ n. 0 + 256 * n) (read_first ons (after p) xs ys h.1)
+
+same_place : (t : Bool) (e : Entry) (c : Cell) → (cond t (record e { cell = c }) e).place ≡ e.place
+same_place true e c = refl
+same_place false e c = refl
+
+pub change_keeps_places : (f : Cell → Cell) (p q : Place) (file : File) → has_place (changed f p file) q ≡ has_place file q
+change_keeps_places f p q [] = refl
+change_keeps_places f p q (e ∷ es) =
+    ap₂ (λ (r : Place) (t : Bool). place_eq r q || t) (same_place (place_eq e.place p) e (f e.cell)) (change_keeps_places f p q es)
+
+pub places_stay : PlacesStay
+places_stay [] v p q file = refl
+places_stay (true ∷ ons) v p q file = places_stay ons (v / 256) (after p) q (changed (written (v % 256)) p file) ∙ change_keeps_places (written (v % 256)) p q file
+places_stay (false ∷ ons) v p q file = places_stay ons (v / 256) (after p) q file
+
+-- ---- configuration cells
+
+config_changed : (f : Cell → Cell) (p : Place) (file : File) → IsConfigFile file → IsConfigFile (changed f p file)
+config_changed f p [] h = tt
+config_changed f p (e ∷ es) h = (subst IsConfig (sym (same_place (place_eq e.place p) e (f e.cell))) h.0, config_changed f p es h.1)
+
+pub config_stays : ConfigStays
+config_stays [] v p file h = h
+config_stays (true ∷ ons) v p file h = config_stays ons (v / 256) (after p) (changed (written (v % 256)) p file) (config_changed (written (v % 256)) p file h)
+config_stays (false ∷ ons) v p file h = config_stays ons (v / 256) (after p) file h
+
+config_is_no_block : (q : Place) (n a : ℕ) → IsConfig q → place_eq q (block n a) ≡ false
+config_is_no_block (config b) n a h = refl
+config_is_no_block (block m b) n a h = absurd h
+
+config_without_block : (file : File) (n a : ℕ) → IsConfigFile file → has_place file (block n a) ≡ false
+config_without_block [] n a h = refl
+config_without_block (e ∷ es) n a h = ap₂ (λ (s t : Bool). s || t) (config_is_no_block e.place n a h.0) (config_without_block es n a h.1)
+
+pub config_has_no_block : ConfigHasNoBlock
+config_has_no_block [] n a file h = tt
+config_has_no_block (on ∷ ons) n a file h = (λ _. config_without_block file n a h, config_has_no_block ons n (a + 1) file h)
+
+-- ---- regions
+
+region_without_config : (file : File) (n a : ℕ) → has_place (in_region n file) (config a) ≡ false
+region_without_config [] n a = refl
+region_without_config (e ∷ es) n a = region_without_config es n a
+
+pub region_has_no_config : RegionHasNoConfig
+region_has_no_config [] n a file = tt
+region_has_no_config (on ∷ ons) n a file = (λ _. region_without_config file n a, region_has_no_config ons n (a + 1) file)
+
+region_without_other : (file : File) (n m a : ℕ) → n ≢ m → has_place (in_region n file) (block m a) ≡ false
+region_without_other [] n m a h = refl
+region_without_other (e ∷ es) n m a h =
+    ap₂ (λ (s t : Bool). (s && eqb (offset_of e.place) a) || t) (ne_eqb n m h) (region_without_other es n m a h)
+
+pub region_has_no_other : RegionHasNoOther
+region_has_no_other [] n m a file h = tt
+region_has_no_other (on ∷ ons) n m a file h = (λ _. region_without_other file n m a h, region_has_no_other ons n m (a + 1) file h)
+
+-- in a region an offset is that of configuration space
+at_offset : (q : Place) (n a : ℕ) → IsConfig q → place_eq (block n (offset_of q)) (block n a) ≡ place_eq q (config a)
+at_offset (config b) n a h = ap (λ (t : Bool). t && eqb b a) (eq-eqb n n refl)
+at_offset (block m b) n a h = absurd h
+
+pub region_cells : RegionCells
+region_cells n a [] = refl
+region_cells n a (c ∷ cs) = ap (λ (file : File). record { place = block n a; cell = c } ∷ file) (region_cells n (a + 1) cs)
+
+pub region_cell : RegionCell
+region_cell n a [] h = refl
+region_cell n a (e ∷ es) h = ap₂ (λ (t : Bool) (c : Cell). cond t e.cell c) (at_offset e.place n a h.0) (region_cell n a es h.1)
+
+pub region_read : RegionRead
+region_read [] n a file h = refl
+region_read (true ∷ ons) n a file h = ap₂ (λ (c : Cell) k. c.value + 256 * k) (region_cell n a file h) (region_read ons n (a + 1) file h)
+region_read (false ∷ ons) n a file h = ap (λ k. 0 + 256 * k) (region_read ons n (a + 1) file h)
+
+changed_entry : (n : ℕ) (t : Bool) (e : Entry) (c : Cell)
+    → let moved : Entry = record e { place = block n (offset_of e.place) } in
+    let one : Entry = cond t (record e { cell = c }) e in
+    cond t (record moved { cell = c }) moved ≡ record one { place = block n (offset_of one.place) }
+changed_entry n true e c = refl
+changed_entry n false e c = refl
+
+pub region_change : RegionChange
+region_change f n a [] h = refl
+region_change f n a (e ∷ es) h =
+    let moved : Entry = record e { place = block n (offset_of e.place) } in
+    ap₂ (λ (d : Entry) (file : File). d ∷ file)
+    (ap (λ (t : Bool). cond t (record moved { cell = f e.cell }) moved) (at_offset e.place n a h.0) ∙ changed_entry n (place_eq e.place (config a)) e (f e.cell))
+    (region_change f n a es h.1)
+
+pub region_write : RegionWrite
+region_write [] v n a file h = refl
+region_write (true ∷ ons) v n a file h =
+    ap (write ons (v / 256) (block n (a + 1))) (region_change (written (v % 256)) n a file h)
+    ∙ region_write ons (v / 256) n (a + 1) (changed (written (v % 256)) (config a) file) (config_changed (written (v % 256)) (config a) file h)
+region_write (false ∷ ons) v n a file h = region_write ons (v / 256) n (a + 1) file h

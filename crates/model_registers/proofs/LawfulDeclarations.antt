@@ -1,0 +1,142 @@
+-- A declaration that breaks no rule is lawful, and a lawful one breaks none.
+use Rattle.std.proofs.Common.{◌≡◌, ◌+◌, ◌<◌, ◌≤◌, ◌^◌, Bool, true, false, ◌&&◌, List, [], ◌∷◌, length, eqb, leb, ltb, None, refl}
+use Rattle.std.specs.Prelude.{IsTrue, bit_and}
+use Rattle.std.specs.List.{list_all}
+use Rattle.std.specs.List.Sorted.{IsPermutation, IsNonDecreasingBy}
+use Rattle.std.proofs.lemmas.Bool.{leb-true, ltb-true, eqb-true, le-leb, lt-ltb, eq-eqb}
+use Rattle.model_registers.specs.Lists.{Each, all_pairs}
+use Rattle.model_registers.specs.Declarations.{Region, registers_of, IsLawfulSize, IsLawfulRegion, ConfigBlock, Endpoint}
+use Rattle.model_registers.specs.DeclarationRules.{first_broken, is_config_block, has_own_registers, has_lawful_numbers, blocks_apart, endpoint_rules, IsConfigBlock, FitsRegisters, IsLawfulEndpoint}
+use Rattle.model_registers.proofs.Tests.{left_true, right_true}
+use Rattle.model_registers.proofs.EachLemmas.{each_map, each_both, each_test, each_permutation, pairs_test, both_true, test_each, test_pairs}
+use Rattle.model_registers.proofs.RegisterOrder.{in_header, sorted_are_lawful, lawful_have_own_registers}
+
+-- the four tests of an endpoint
+record Passes (d : Endpoint) : Type 0 where
+  numbers : has_lawful_numbers d ≡ true
+  registers : has_own_registers d.regions ≡ true
+  sizes : list_all (λ r. leb (length r.cells) r.size) d.regions ≡ true
+  blocks : all_pairs blocks_apart d.blocks ≡ true
+
+four_hold : (a b c e : Bool) → first_broken ((104, a) ∷ (106, b) ∷ (107, c) ∷ (112, e) ∷ []) ≡ None → (a ≡ true) × ((b ≡ true) × ((c ≡ true) × (e ≡ true)))
+four_hold true true true true h = (refl, (refl, (refl, refl)))
+four_hold true true true false h = cc
+four_hold true true false e h = cc
+four_hold true false c e h = cc
+four_hold false b c e h = cc
+
+passes : (d : Endpoint) → first_broken (endpoint_rules d) ≡ None → Passes d
+passes d h =
+    let p = four_hold (has_lawful_numbers d) (has_own_registers d.regions) (list_all (λ r. leb (length r.cells) r.size) d.regions) (all_pairs blocks_apart d.blocks) h in
+    record { numbers = p.0; registers = p.1.0; sizes = p.1.1.0; blocks = p.1.1.1 }
+
+pub own_registers : (d : Endpoint) → first_broken (endpoint_rules d) ≡ None → has_own_registers d.regions ≡ true
+own_registers d h = (passes d h).registers
+
+record Numbers (d : Endpoint) : Type 0 where
+  vendor : d.vendor < 0xffff
+  class : d.class < 2 ^ 24
+  pin : d.pin ≤ 4
+  status : bit_and d.status 0xf900 ≡ d.status
+  short : Each (λ r. length r.cells ≤ 4096) d.regions
+  blocks : Each IsConfigBlock d.blocks
+
+config_block : (b : ConfigBlock) → is_config_block b ≡ true → IsConfigBlock b
+config_block b h =
+    let x = left_true (leb 0x40 b.offset && ltb 0 (length b.cells)) (leb (b.offset + length b.cells) 0x100) h in
+    record {
+      begins = leb-true _ _ (left_true (leb 0x40 b.offset) (ltb 0 (length b.cells)) x);
+      not_empty = ltb-true _ _ (right_true (leb 0x40 b.offset) (ltb 0 (length b.cells)) x);
+      ends = leb-true _ _ (right_true (leb 0x40 b.offset && ltb 0 (length b.cells)) (leb (b.offset + length b.cells) 0x100) h);
+    }
+
+numbers : (d : Endpoint) → has_lawful_numbers d ≡ true → Numbers d
+numbers d h =
+    let a = ltb d.vendor 0xffff in
+    let b = ltb d.class (2 ^ 24) in
+    let c = leb d.pin 4 in
+    let e = eqb (bit_and d.status 0xf900) d.status in
+    let f = list_all (λ r. leb (length r.cells) 4096) d.regions in
+    let g = list_all is_config_block d.blocks in
+    let abcef = left_true (a && b && c && e && f) g h in
+    let abce = left_true (a && b && c && e) f abcef in
+    let abc = left_true (a && b && c) e abce in
+    let ab = left_true (a && b) c abc in
+    record {
+      vendor = ltb-true _ _ (left_true a b ab);
+      class = ltb-true _ _ (right_true a b ab);
+      pin = leb-true _ _ (right_true (a && b) c abc);
+      status = eqb-true _ _ (right_true (a && b && c) e abce);
+      short =
+          each_map (λ (r : Region). IsTrue (leb (length r.cells) 4096)) (λ r. length r.cells ≤ 4096) d.regions (λ r p. leb-true _ _ p)
+          (each_test (λ r. leb (length r.cells) 4096) d.regions (right_true (a && b && c && e) f abcef));
+      blocks =
+          each_map (λ (x : ConfigBlock). IsTrue (is_config_block x)) IsConfigBlock d.blocks config_block
+          (each_test is_config_block d.blocks (right_true (a && b && c && e && f) g h));
+    }
+
+lawful_regions : (rs : List Region) → has_own_registers rs ≡ true → list_all (λ r. leb (length r.cells) r.size) rs ≡ true → Each (λ (r : Region). IsLawfulSize r.kind r.size) rs → Each IsLawfulRegion rs
+lawful_regions rs own fit sizes =
+    each_map (λ (r : Region). (r.index + registers_of r.kind ≤ 6) × (IsLawfulSize r.kind r.size × IsTrue (leb (length r.cells) r.size))) IsLawfulRegion rs
+    (λ r p. record { registers = p.0; size_is_lawful = p.1.0; block_fits = leb-true _ _ p.1.1 })
+    (each_both (λ (r : Region). r.index + registers_of r.kind ≤ 6) (λ r. IsLawfulSize r.kind r.size × IsTrue (leb (length r.cells) r.size)) rs (in_header rs own)
+    (each_both (λ (r : Region). IsLawfulSize r.kind r.size) (λ r. IsTrue (leb (length r.cells) r.size)) rs sizes (each_test (λ r. leb (length r.cells) r.size) rs fit)))
+
+-- an endpoint that breaks no rule, with its regions sorted
+pub sorted_is_lawful : (d : Endpoint) (ys : List Region) → FitsRegisters d → Each (λ (r : Region). IsLawfulSize r.kind r.size) d.regions → first_broken (endpoint_rules d) ≡ None
+    → IsPermutation d.regions ys → IsNonDecreasingBy (λ (r : Region). r.index) ys → IsLawfulEndpoint (record d { regions = ys })
+sorted_is_lawful d ys fits sizes none perm sorted =
+    let p = passes d none in
+    let n = numbers d p.numbers in
+    record {
+      fits = record {
+        device = fits.device;
+        revision = fits.revision;
+        subvendor = fits.subvendor;
+        subsystem = fits.subsystem;
+        min_gnt = fits.min_gnt;
+        max_lat = fits.max_lat;
+      };
+      vendor = n.vendor;
+      class = n.class;
+      pin = n.pin;
+      status = n.status;
+      regions = sorted_are_lawful d.regions ys perm sorted p.registers (lawful_regions d.regions p.registers p.sizes sizes);
+      region_blocks = each_permutation (λ (r : Region). length r.cells ≤ 4096) d.regions ys perm n.short;
+      config_blocks = n.blocks;
+      blocks_apart = pairs_test blocks_apart d.blocks p.blocks;
+    }
+
+-- ---- a lawful declaration breaks no rule
+
+config_block_test : (b : ConfigBlock) → IsConfigBlock b → is_config_block b ≡ true
+config_block_test b h =
+    both_true (leb 0x40 b.offset && ltb 0 (length b.cells)) (leb (b.offset + length b.cells) 0x100)
+    (both_true (leb 0x40 b.offset) (ltb 0 (length b.cells)) (le-leb _ _ h.begins) (lt-ltb _ _ h.not_empty)) (le-leb _ _ h.ends)
+
+numbers_test : (d : Endpoint) → IsLawfulEndpoint d → has_lawful_numbers d ≡ true
+numbers_test d h =
+    let a = ltb d.vendor 0xffff in
+    let b = ltb d.class (2 ^ 24) in
+    let c = leb d.pin 4 in
+    let e = eqb (bit_and d.status 0xf900) d.status in
+    let f = list_all (λ r. leb (length r.cells) 4096) d.regions in
+    let g = list_all is_config_block d.blocks in
+    both_true (a && b && c && e && f) g
+    (both_true (a && b && c && e) f
+    (both_true (a && b && c) e (both_true (a && b) c (both_true a b (lt-ltb _ _ h.vendor) (lt-ltb _ _ h.class)) (le-leb _ _ h.pin)) (eq-eqb _ _ h.status))
+    (test_each (λ r. leb (length r.cells) 4096) d.regions
+    (each_map (λ (r : Region). length r.cells ≤ 4096) (λ r. IsTrue (leb (length r.cells) 4096)) d.regions (λ r p. le-leb _ _ p) h.region_blocks)))
+    (test_each is_config_block d.blocks (each_map IsConfigBlock (λ b. IsTrue (is_config_block b)) d.blocks config_block_test h.config_blocks))
+
+sizes_test : (rs : List Region) → Each IsLawfulRegion rs → list_all (λ r. leb (length r.cells) r.size) rs ≡ true
+sizes_test rs h =
+    test_each (λ r. leb (length r.cells) r.size) rs (each_map IsLawfulRegion (λ r. IsTrue (leb (length r.cells) r.size)) rs (λ r l. le-leb _ _ l.block_fits) h)
+
+none_broken : (a b c e : Bool) → a ≡ true → b ≡ true → c ≡ true → e ≡ true → first_broken ((104, a) ∷ (106, b) ∷ (107, c) ∷ (112, e) ∷ []) ≡ None
+none_broken a b c e h k l m = rw (h, k, l, m)
+
+pub lawful_breaks_none : (d : Endpoint) → IsLawfulEndpoint d → first_broken (endpoint_rules d) ≡ None
+lawful_breaks_none d h =
+    none_broken (has_lawful_numbers d) (has_own_registers d.regions) (list_all (λ r. leb (length r.cells) r.size) d.regions) (all_pairs blocks_apart d.blocks) (numbers_test d h)
+    (lawful_have_own_registers d.regions h.regions) (sizes_test d.regions h.regions.each) (test_pairs blocks_apart d.blocks h.blocks_apart)

@@ -1,0 +1,81 @@
+-- Which declarations are lawful, and which rule a declaration breaks first. The numbers are those of the board file's refusals.
+--     first_broken      the number of the first rule whose test fails
+--     endpoint_rules, bridge_rules      the rules of a declaration, in the order in which they are judged
+--     in_register_order      regions in the order of their registers
+--     IsLawfulEndpoint, IsLawfulBridge      what holds of a declaration that keeps the rules
+use Rattle.std.specs.Prelude.{List, [], ◌∷◌, ◌≡◌, ℕ, ◌+◌, ◌^◌, ◌<◌, ◌≤◌, ◌==◌, Bool, ◌&&◌, ◌||◌, nat_lt, nat_le, IsTrue, if◌then◌else◌, Option, Some, None, length, filter, flat_map, count_by, bit_and}
+use Rattle.std.specs.List.{list_all}
+use Rattle.model_registers.specs.Lists.{Each, EachPair, all_pairs}
+use Rattle.model_registers.specs.Declarations.{registers_of, Region, HasLawfulRegions, ConfigBlock, Endpoint, Bridge}
+
+abbrev pub first_broken : List (ℕ × Bool) → Option ℕ
+first_broken [] = None
+first_broken (rule ∷ rules) = if rule.1 then first_broken rules else Some rule.0
+
+-- the device's own registers lie at 40h to FFh
+abbrev pub is_config_block : ConfigBlock → Bool
+is_config_block b = nat_le 0x40 b.offset && nat_lt 0 (length b.cells) && nat_le (b.offset + length b.cells) 0x100
+
+-- Vendor ID FFFFh says that no function is there
+abbrev pub has_lawful_numbers : Endpoint → Bool
+has_lawful_numbers d =
+    nat_lt d.vendor 0xffff && nat_lt d.class (2 ^ 24) && nat_le d.pin 4 && (bit_and d.status 0xf900 == d.status)
+    && list_all (λ r. nat_le (length r.cells) 4096) d.regions && list_all is_config_block d.blocks
+
+-- a 64-bit region uses two registers
+abbrev pub uses : ℕ → Region → Bool
+uses n r = nat_le r.index n && nat_lt n (r.index + registers_of r.kind)
+
+-- each region has its registers among the six, and no register is used twice
+abbrev pub has_own_registers : List Region → Bool
+has_own_registers rs =
+    list_all (λ r. nat_le (r.index + registers_of r.kind) 6) rs
+    && list_all (λ n. nat_le (count_by (uses n) rs) 1) (0 ∷ 1 ∷ 2 ∷ 3 ∷ 4 ∷ 5 ∷ [])
+
+abbrev pub blocks_apart : ConfigBlock → ConfigBlock → Bool
+blocks_apart b c = nat_le (b.offset + length b.cells) c.offset || nat_le (c.offset + length c.cells) b.offset
+
+abbrev pub endpoint_rules : Endpoint → List (ℕ × Bool)
+endpoint_rules d =
+    (104, has_lawful_numbers d) ∷ (106, has_own_registers d.regions)
+    ∷ (107, list_all (λ r. nat_le (length r.cells) r.size) d.regions) ∷ (112, all_pairs blocks_apart d.blocks) ∷ []
+
+abbrev pub bridge_rules : Bridge → List (ℕ × Bool)
+bridge_rules d = (104, nat_lt d.vendor 0xffff) ∷ []
+
+-- the region of register 0, then that of register 1, and so on
+abbrev pub in_register_order : List Region → List Region
+in_register_order rs = flat_map (λ n. filter (λ r. r.index == n) rs) (0 ∷ 1 ∷ 2 ∷ 3 ∷ 4 ∷ 5 ∷ [])
+
+abbrev pub with_ordered_regions : Endpoint → Endpoint
+with_ordered_regions d = record d { regions = in_register_order d.regions }
+
+pub record IsConfigBlock (b : ConfigBlock) : Type 0 where
+  pub begins : 0x40 ≤ b.offset
+  pub not_empty : 0 < length b.cells
+  pub ends : b.offset + length b.cells ≤ 0x100
+
+-- the numbers that may have any value of their registers
+pub record FitsRegisters (d : Endpoint) : Type 0 where
+  pub device : d.device < 2 ^ 16
+  pub revision : d.revision < 2 ^ 8
+  pub subvendor : d.subvendor < 2 ^ 16
+  pub subsystem : d.subsystem < 2 ^ 16
+  pub min_gnt : d.min_gnt < 2 ^ 8
+  pub max_lat : d.max_lat < 2 ^ 8
+
+pub record IsLawfulEndpoint (d : Endpoint) : Type 0 where
+  pub fits : FitsRegisters d
+  pub vendor : d.vendor < 0xffff
+  pub class : d.class < 2 ^ 24
+  pub pin : d.pin ≤ 4
+  pub status : bit_and d.status 0xf900 ≡ d.status
+  pub regions : HasLawfulRegions d.regions
+  pub region_blocks : Each (λ r. length r.cells ≤ 4096) d.regions
+  pub config_blocks : Each IsConfigBlock d.blocks
+  pub blocks_apart : EachPair (λ b c. IsTrue (blocks_apart b c)) d.blocks
+
+pub record IsLawfulBridge (d : Bridge) : Type 0 where
+  pub vendor : d.vendor < 0xffff
+  pub device : d.device < 2 ^ 16
+  pub revision : d.revision < 2 ^ 8

@@ -1,0 +1,34 @@
+-- What a bridge's window registers name: PCI-to-PCI Bridge Architecture 1.2, chapter 3.2.5.
+--     Window      a first and a last address, both included
+--     io_window, mem_window, pref_window      the addresses that the registers name now; Command does not count
+use Rattle.std.specs.Prelude.{ℕ, ◌+◌, ◌*◌, ◌/◌, if◌then◌else◌, ◌^◌, nat_le, Option, Some, None}
+use Rattle.model_registers.specs.Registers.{config, File, number}
+use Rattle.model_registers.specs.Declarations.{IoDecode, no_io, io16, io32, PrefDecode, no_pref, pref32, pref64}
+
+-- the first and last address, both included
+pub record Window : Type 0 where
+  pub first : ℕ
+  pub last : ℕ
+
+-- a base above its limit names no window
+abbrev pub window : ℕ → ℕ → Option Window
+window first last = if nat_le first last then Some (record { first = first; last = last }) else None
+
+-- a window register of w bytes holds in its bits above 3 the address bits from a power of two on
+abbrev pub window_bits : File → ℕ → ℕ → ℕ → ℕ
+window_bits file off w unit = number file (config off) w / 16 * unit
+
+abbrev pub io_window : IoDecode → File → Option Window
+io_window no_io file = None
+io_window io16 file = window (window_bits file 0x1c 1 (2 ^ 12)) (window_bits file 0x1d 1 (2 ^ 12) + 0xfff)
+io_window io32 file = window (number file (config 0x30) 2 * 2 ^ 16 + window_bits file 0x1c 1 (2 ^ 12))
+    (number file (config 0x32) 2 * 2 ^ 16 + window_bits file 0x1d 1 (2 ^ 12) + 0xfff)
+
+abbrev pub mem_window : File → Option Window
+mem_window file = window (window_bits file 0x20 2 (2 ^ 20)) (window_bits file 0x22 2 (2 ^ 20) + 0xfffff)
+
+abbrev pub pref_window : PrefDecode → File → Option Window
+pref_window no_pref file = None
+pref_window pref32 file = window (window_bits file 0x24 2 (2 ^ 20)) (window_bits file 0x26 2 (2 ^ 20) + 0xfffff)
+pref_window pref64 file = window (number file (config 0x28) 4 * 2 ^ 32 + window_bits file 0x24 2 (2 ^ 20))
+    (number file (config 0x2c) 4 * 2 ^ 32 + window_bits file 0x26 2 (2 ^ 20) + 0xfffff)
