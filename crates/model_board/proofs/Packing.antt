@@ -156,13 +156,13 @@ descends_in_order (i ∷ is) = descends_inserted i (in_order is) (descends_in_or
 
 -- ---- powers of two
 
-abbrev Divides : ℕ → ℕ → Type 0
+abbrev pub Divides : ℕ → ℕ → Type 0
 Divides a n = (k : ℕ) × (n ≡ k * a)
 
-divides_add : (a m n : ℕ) → Divides a m → Divides a n → Divides a (m + n)
+pub divides_add : (a m n : ℕ) → Divides a m → Divides a n → Divides a (m + n)
 divides_add a m n h k = (h.0 + k.0, omega (arith, h.1, k.1))
 
-divides_chain : (a b n : ℕ) → Divides a b → Divides b n → Divides a n
+pub divides_chain : (a b n : ℕ) → Divides a b → Divides b n → Divides a n
 divides_chain a b n h k = (k.0 * h.0, k.1 ∙ ap (λ x. k.0 * x) h.1 ∙ sym (mul_assoc k.0 h.0 a))
 
 smaller_cases : (j k : ℕ) (b : Bool) → nat_le j k ≡ b → 2 ^ j ≤ 2 ^ k → Divides (2 ^ j) (2 ^ k)
@@ -174,13 +174,13 @@ smaller_cases j k false e h =
     let gt : k < j = leb-false j k e in
     absurd (omega (arith, pow-lt gt))
 
-smaller_divides : (j k : ℕ) → 2 ^ j ≤ 2 ^ k → Divides (2 ^ j) (2 ^ k)
+pub smaller_divides : (j k : ℕ) → 2 ^ j ≤ 2 ^ k → Divides (2 ^ j) (2 ^ k)
 smaller_divides j k h = smaller_cases j k (nat_le j k) refl h
 
-powers_divide : (a b : ℕ) → IsPowerOfTwo a → IsPowerOfTwo b → a ≤ b → Divides a b
+pub powers_divide : (a b : ℕ) → IsPowerOfTwo a → IsPowerOfTwo b → a ≤ b → Divides a b
 powers_divide a b p q h = rw (p.1, q.1) (smaller_divides p.0 q.0 (rw (p.1, q.1) at h))
 
-power_positive : (a : ℕ) → IsPowerOfTwo a → 0 < a
+pub power_positive : (a : ℕ) → IsPowerOfTwo a → 0 < a
 power_positive a p = rw p.1 (pow_pos p.0)
 
 round_up_multiple : (a n : ℕ) → 0 < a → Divides a n → round_up a n ≡ n
@@ -236,7 +236,7 @@ flat_need_lem unit is h regions = record {
 
 -- ---- on a bus
 
-unit_positive : (pool : Pool) → 0 < unit_of pool
+pub unit_positive : (pool : Pool) → 0 < unit_of pool
 unit_positive io_pool = omega arith
 unit_positive mem_pool = omega arith
 unit_positive pref_pool = omega arith
@@ -276,10 +276,10 @@ flat_need_on_bus b a pool bus plain sizes =
 
 -- ---- spots of one bus
 
-round_up_not_before : (a n : ℕ) → 0 < a → n ≤ round_up a n
+pub round_up_not_before : (a n : ℕ) → 0 < a → n ≤ round_up a n
 round_up_not_before a n h = omega (arith, lt-div-mul-add {a = n + (a - 1)} h)
 
-round_up_is_multiple : (a n : ℕ) → round_up a n % a ≡ 0
+pub round_up_is_multiple : (a n : ℕ) → round_up a n % a ≡ 0
 round_up_is_multiple a n = mul-mod_left ((n + (a - 1)) / a) a
 
 end_not_before : (n : ℕ) (is : List Item) → Each (λ i. 0 < i.align) is → n ≤ end_from n is
@@ -299,9 +299,12 @@ run_from n (i ∷ is) h =
       apart = (each_map (λ s. (first + i.size ≤ s.first) × (spot_end s ≤ end_from (first + i.size) is)) (λ s. first + i.size ≤ s.first) (spots_from (first + i.size) is) (λ s p. p.0) rest.within, rest.apart);
     }
 
+pub run_in_order : (is : List Item) → Each (λ i. 0 < i.align) is → IsRun 0 (end_from 0 (in_order is)) (spots is)
+run_in_order is positive = run_from 0 (in_order is) (each_in_order (λ i. 0 < i.align) is positive)
+
 pub compact_is_run : CompactIsRun
 compact_is_run unit is h positive =
-    let run : IsRun 0 (end_from 0 (in_order is)) (spots is) = run_from 0 (in_order is) (each_in_order (λ i. 0 < i.align) is positive) in
+    let run : IsRun 0 (end_from 0 (in_order is)) (spots is) = run_in_order is positive in
     let up : end_from 0 (in_order is) ≤ need unit is = round_up_not_before unit (end_from 0 (in_order is)) h in
     record {
       aligned = run.aligned;

@@ -1,8 +1,8 @@
--- A board: the functions that stand at its paths, and the bus numbers that follow from them alone.
---     Part, Path      a device and function of one bus; the parts from bus 0 down
---     Board      rows of a path and a declaration, in path order
---     secondary, subordinate, bus_of      bus numbers, as counts of bridges
---     root_pin      where an interrupt pin reaches bus 0
+-- A board: the functions that stand at its paths.
+--     Decl      what is declared at a path: an endpoint or a bridge
+--     Row, Board      a path with its declaration; rows in path order
+--     rows_on, is_shared      the functions of one bus; another function stands in the same device
+--     IsBoard      no path twice, each path behind a bridge or on bus 0, and a function 0 in each device
 use Rattle.std.specs.Prelude.{List, [], ◌≡◌, Bool, true, false, ◌&&◌, ◌==◌, not, filter, IsTrue, ◌⊎◌}
 use Rattle.std.specs.List.{list_any}
 use Rattle.model_registers.specs.Lists.{Each, EachPair}

@@ -1,12 +1,13 @@
 -- Which region an address finds, in any register state: PCI-to-PCI Bridge Architecture 1.2, chapter 4.
 --     Claim      a function's path, a region's register and an offset in the region
 --     is_forwarded      each bridge of the path forwards the address
+--     claims      all claims, in path order, then by register
 --     first_claim      the first claim in path order, then by register
-use Rattle.std.specs.Prelude.{List, ℕ, Bool, if◌then◌else◌, not, ◌||◌, Option, Some, None}
+use Rattle.std.specs.Prelude.{List, [], ℕ, Bool, if◌then◌else◌, not, ◌||◌, Option, Some, None, map, flat_map}
 use Rattle.std.specs.List.{list_all}
-use Rattle.std.specs.Option.{option_map_or}
+use Rattle.std.specs.Option.{option_map_or, option_to_list}
 use Rattle.model_registers.specs.Lists.{first_some}
-use Rattle.model_registers.specs.Decoding.{Space, Hit, lone_claim}
+use Rattle.model_registers.specs.Decoding.{Space, Hit, hit_of, lone_claim}
 use Rattle.model_board.specs.Paths.{Path, leads_to}
 use Rattle.model_board.specs.Board.{endpoint, bridge}
 use Rattle.model_board.specs.State.{BoardFunction}
@@ -20,12 +21,23 @@ pub record Claim : Type 0 where
 abbrev pub is_forwarded : List BoardFunction → Path → Space → ℕ → Bool
 is_forwarded fs p space a = list_all (λ f. not (leads_to f.path p) || forwards space a f) fs
 
+abbrev pub claim_at : Path → Hit → Claim
+claim_at p h = record { path = p; index = h.index; offset = h.offset }
+
+-- the regions of an endpoint that decode the address, each with the offset in it
+abbrev pub endpoint_hits : BoardFunction → Space → ℕ → List Hit
+endpoint_hits f space a = elim f.decl [ endpoint d ↦ flat_map (λ r. option_to_list (hit_of f.file space a r)) d.regions | bridge d ↦ [] ]
+
+abbrev pub claims_of : List BoardFunction → Space → ℕ → BoardFunction → List Claim
+claims_of fs space a f = if is_forwarded fs f.path space a then map (claim_at f.path) (endpoint_hits f space a) else []
+
+-- all claims, in path order, and then by register
+abbrev pub claims : List BoardFunction → Space → ℕ → List Claim
+claims fs space a = flat_map (claims_of fs space a) fs
+
 -- an endpoint's claim by its own registers, where each bridge of its path forwards the address
 abbrev pub endpoint_hit : BoardFunction → Space → ℕ → Option Hit
 endpoint_hit f space a = elim f.decl [ endpoint d ↦ lone_claim (record { decl = d; file = f.file }) space a | bridge d ↦ None ]
-
-abbrev pub claim_at : Path → Hit → Claim
-claim_at p h = record { path = p; index = h.index; offset = h.offset }
 
 abbrev pub claim_of : List BoardFunction → Space → ℕ → BoardFunction → Option Claim
 claim_of fs space a f = if is_forwarded fs f.path space a then option_map_or (λ (h : Hit). Some (claim_at f.path h)) (endpoint_hit f space a) None else None

@@ -1,19 +1,15 @@
--- What any placement of regions and windows must keep, and the compact placement as rows.
+-- What any placement of regions and windows must keep, and the rows of compact placement
+-- (windows: PCI-to-PCI Bridge Architecture 1.2, chapter 3.2.5).
 --     LayoutRow      a region or a window at a path, with its pool, first address and size
 --     IsLawful      aligned, inside the aperture, inside the windows above, and apart
---     layout      the rows of compact placement, bus by bus
-use Rattle.std.specs.Prelude.{List, [], ◌∷◌, ◌≡◌, ℕ, ◌+◌, ◌%◌, Bool, false, ◌&&◌, ◌≤◌, flat_map, map, filter, IsTrue, ◌⊎◌, MatchOption}
+--     bus_rows, pool_rows, layout      the rows of compact placement, bus by bus, as they stand on each bus
+use Rattle.std.specs.Prelude.{List, [], ◌∷◌, ◌≡◌, ℕ, ◌+◌, ◌%◌, Bool, false, ◌&&◌, ◌≤◌, ◌++◌, flat_map, map, filter, IsTrue, ◌⊎◌, MatchOption}
 use Rattle.std.specs.List.{list_any}
 use Rattle.model_registers.specs.Lists.{Each, EachPair}
-use Rattle.model_registers.specs.Declarations.{Region}
 use Rattle.model_board.specs.Paths.{Path, path_eq, leads_to, parent}
-use Rattle.model_board.specs.Board.{Decl, endpoint, bridge, Board}
-use Rattle.model_board.specs.Pools.{Pool, io_pool, mem_pool, pref_pool, same_pool, unit_of, Apertures, bridges_above, pool_of, aperture_of}
-use Rattle.model_board.specs.Placement.{Item, need, items_on, bus_first, region_first}
-
-pub data Placed : Type 0 where
-  a_region : ℕ → Placed
-  a_window : Placed
+use Rattle.model_board.specs.Board.{is_bridge, Board}
+use Rattle.model_board.specs.Pools.{Pool, io_pool, mem_pool, pref_pool, same_pool, unit_of, Apertures, aperture_of}
+use Rattle.model_board.specs.Placement.{Placed, a_region, a_window, Spot, spots, items_on, bus_first}
 
 pub record LayoutRow : Type 0 where
   pub path : Path
@@ -22,6 +18,7 @@ pub record LayoutRow : Type 0 where
   pub first : ℕ
   pub size : ℕ
 
+-- a region stands at a multiple of its size; a window begins at and extends over whole units
 abbrev pub IsAligned : LayoutRow → Placed → Type 0
 IsAligned r (a_region n) = r.first % r.size ≡ 0
 IsAligned r a_window = (r.first % unit_of r.pool ≡ 0) × (r.size % unit_of r.pool ≡ 0)
@@ -29,6 +26,7 @@ IsAligned r a_window = (r.first % unit_of r.pool ≡ 0) × (r.size % unit_of r.p
 abbrev pub IsInside : ℕ → ℕ → LayoutRow → Type 0
 IsInside first end r = (first ≤ r.first) × (r.first + r.size ≤ end)
 
+-- w is the window of r's pool of a bridge above r
 abbrev pub is_window_over : LayoutRow → LayoutRow → Bool
 is_window_over r w = elim w.what [ a_region n ↦ false | a_window ↦ same_pool w.pool r.pool && leads_to w.path r.path ]
 
@@ -46,16 +44,19 @@ pub record IsLawful (b : Board) (a : Apertures) (rows : List LayoutRow) : Type 0
   pub under_windows : Each (IsUnderWindows b rows) rows
   pub apart : EachPair (λ r s. IsTrue (same_pool r.pool s.pool && path_eq (parent r.path) (parent s.path)) → AreApart r s) rows
 
-abbrev pub region_row : Board → Apertures → Pool → Path → Region → LayoutRow
-region_row b a pool p r = record { path = p; what = a_region r.index; pool = pool; first = region_first b a pool p r.index; size = r.size }
+-- what stands at a spot of the bus that begins at n
+abbrev pub row_of : Pool → Path → ℕ → Spot → LayoutRow
+row_of pool bus n s = record { path = bus ++ s.item.part ∷ []; what = s.item.what; pool = pool; first = n + s.first; size = s.item.size }
 
-abbrev pub window_rows : Board → Apertures → Pool → Path → List Item → List LayoutRow
-window_rows b a pool p [] = []
-window_rows b a pool p (i ∷ is) = record { path = p; what = a_window; pool = pool; first = bus_first b a pool p; size = need (unit_of pool) (i ∷ is) } ∷ []
+abbrev pub bus_rows : Board → Apertures → Pool → Path → List LayoutRow
+bus_rows b a pool bus = map (row_of pool bus (bus_first b a pool bus)) (spots (items_on b a pool bus))
 
-abbrev pub rows_of : Board → Apertures → Pool → Path → Decl → List LayoutRow
-rows_of b a pool p (endpoint d) = map (region_row b a pool p) (filter (λ r. same_pool (pool_of a (bridges_above b p) r.kind) pool) d.regions)
-rows_of b a pool p (bridge d) = window_rows b a pool p (items_on b a pool p)
+-- bus 0, and the bus behind each bridge, in path order
+abbrev pub buses : Board → List Path
+buses b = [] ∷ map (λ r. r.path) (filter (λ r. is_bridge r.decl) b)
+
+abbrev pub pool_rows : Board → Apertures → Pool → List LayoutRow
+pool_rows b a pool = flat_map (bus_rows b a pool) (buses b)
 
 abbrev pub layout : Board → Apertures → List LayoutRow
-layout b a = flat_map (λ pool. flat_map (λ r. rows_of b a pool r.path r.decl) b) (io_pool ∷ mem_pool ∷ pref_pool ∷ [])
+layout b a = flat_map (pool_rows b a) (io_pool ∷ mem_pool ∷ pref_pool ∷ [])

@@ -1,21 +1,39 @@
--- Where set-up places regions and windows, one pool at a time, as offsets on each bus.
---     pool_of      the pool of a region
---     items_on      what stands on a bus: its regions of the pool, and the windows of its bridges that have items
+-- Where set-up places regions and windows, one pool at a time (this project's own rule; a window extends over whole units:
+-- PCI-to-PCI Bridge Architecture 1.2, chapter 3.2.5).
+--     Placed, Item      the region of a register or a bridge's window; one of them on a bus, with its alignment and size
+--     in_order      items by alignment descending, then device, function and register
+--     Spot, spots      an item and its offset on the bus; the items one after the other
 --     need, alignment      size and alignment of a bus's window
+--     items_on      what stands on a bus: its regions of the pool, and the windows of its bridges that have items
 --     fits      whether a pool fits its aperture
 --     bus_first, region_first      addresses
---     IsLawful      the rules of any layout, compact or not
-use Rattle.std.specs.Prelude.{List, [], ◌∷◌, ℕ, ◌-◌, zero, suc, ◌+◌, ◌*◌, ◌/◌, Bool, true, ◌&&◌, ◌==◌, if◌then◌else◌, ◌++◌, flat_map, ◌||◌, nat_lt, nat_le, map, filter, max}
+use Rattle.std.specs.Prelude.{List, [], ◌∷◌, ℕ, ◌-◌, zero, suc, ◌+◌, ◌*◌, ◌/◌, Bool, true, false, ◌&&◌, ◌==◌, if◌then◌else◌, ◌++◌, flat_map, ◌||◌, nat_lt, nat_le, map, filter, max}
 use Rattle.std.specs.Option.{option_map_or}
 use Rattle.model_registers.specs.Declarations.{Region, Endpoint}
 use Rattle.model_board.specs.Paths.{Part, Path, part_eq, parent, last_part}
 use Rattle.model_board.specs.Board.{endpoint, bridge, Row, Board, rows_on}
 use Rattle.model_board.specs.Pools.{Pool, same_pool, unit_of, Aperture, Apertures, bridges_above, pool_of, aperture_of}
 
--- a region, or the window of a bridge (with index 0), by its function on the bus
+-- what is placed: the region of a base address register, or the window of a bridge
+pub data Placed : Type 0 where
+  a_region : ℕ → Placed
+  a_window : Placed
+
+abbrev pub same_placed : Placed → Placed → Bool
+same_placed (a_region n) (a_region m) = n == m
+same_placed a_window a_window = true
+same_placed (a_region n) a_window = false
+same_placed a_window (a_region m) = false
+
+-- the register that tells items of one function apart; a bridge has one item at most
+abbrev pub register_of : Placed → ℕ
+register_of (a_region n) = n
+register_of a_window = 0
+
+-- what one function of a bus has there
 pub record Item : Type 0 where
   pub part : Part
-  pub index : ℕ
+  pub what : Placed
   pub align : ℕ
   pub size : ℕ
 
@@ -24,7 +42,7 @@ abbrev pub stands_before : Item → Item → Bool
 stands_before i j =
     nat_lt j.align i.align || (i.align == j.align && (nat_lt i.part.device j.part.device
     || (i.part.device == j.part.device && (nat_lt i.part.function j.part.function
-    || (i.part.function == j.part.function && nat_lt i.index j.index)))))
+    || (i.part.function == j.part.function && nat_lt (register_of i.what) (register_of j.what))))))
 
 abbrev pub inserted : Item → List Item → List Item
 inserted i [] = i ∷ []
@@ -59,10 +77,14 @@ spots_from n (i ∷ is) = record { item = i; first = round_up i.align n } ∷ sp
 abbrev pub spots : List Item → List Spot
 spots is = spots_from 0 (in_order is)
 
--- the offset of the item with this part and index
-abbrev pub offset_in : List Spot → Part → ℕ → ℕ
-offset_in [] p k = 0
-offset_in (s ∷ ss) p k = if part_eq s.item.part p && s.item.index == k then s.first else offset_in ss p k
+-- the item is what the function at this part has
+abbrev pub is_item : Part → Placed → Item → Bool
+is_item p w i = part_eq i.part p && same_placed i.what w
+
+-- its offset on the bus
+abbrev pub offset_in : List Spot → Part → Placed → ℕ
+offset_in [] p w = 0
+offset_in (s ∷ ss) p w = if is_item p w s.item then s.first else offset_in ss p w
 
 abbrev pub need : ℕ → List Item → ℕ
 need unit is = round_up unit (end_from 0 (in_order is))
@@ -72,7 +94,7 @@ alignment unit [] = unit
 alignment unit (i ∷ is) = max i.align (alignment unit is)
 
 abbrev pub region_item : Part → Region → Item
-region_item p r = record { part = p; index = r.index; align = r.size; size = r.size }
+region_item p r = record { part = p; what = a_region r.index; align = r.size; size = r.size }
 
 abbrev pub region_items : Board → Apertures → Pool → Path → Endpoint → List Item
 region_items b a pool p d =
@@ -81,7 +103,7 @@ region_items b a pool p d =
 -- a bus without items has no window
 abbrev pub window_items : ℕ → Part → List Item → List Item
 window_items unit p [] = []
-window_items unit p (i ∷ is) = record { part = p; index = 0; align = alignment unit (i ∷ is); size = need unit (i ∷ is) } ∷ []
+window_items unit p (i ∷ is) = record { part = p; what = a_window; align = alignment unit (i ∷ is); size = need unit (i ∷ is) } ∷ []
 
 abbrev pub items_of : Board → Apertures → Pool → (Path → List Item) → Row → List Item
 items_of b a pool behind r =
@@ -110,16 +132,16 @@ fits_items a pool (i ∷ is) = nat_le (root_first a pool (i ∷ is) + end_from 0
 abbrev pub fits : Board → Apertures → Pool → Bool
 fits b a pool = fits_items a pool (items_on b a pool [])
 
-abbrev pub offset_on : Board → Apertures → Pool → Path → Part → ℕ → ℕ
-offset_on b a pool bus p k = offset_in (spots (items_on b a pool bus)) p k
+abbrev pub offset_on : Board → Apertures → Pool → Path → Part → Placed → ℕ
+offset_on b a pool bus p w = offset_in (spots (items_on b a pool bus)) p w
 
 -- the first address of a bus in a pool, on the way from the bus `above` at `n` down the parts
 abbrev pub first_below : Board → Apertures → Pool → ℕ → Path → Path → ℕ
 first_below b a pool n above [] = n
-first_below b a pool n above (p ∷ ps) = first_below b a pool (n + offset_on b a pool above p 0) (above ++ p ∷ []) ps
+first_below b a pool n above (p ∷ ps) = first_below b a pool (n + offset_on b a pool above p a_window) (above ++ p ∷ []) ps
 
 abbrev pub bus_first : Board → Apertures → Pool → Path → ℕ
 bus_first b a pool bus = first_below b a pool (root_first a pool (items_on b a pool [])) [] bus
 
 abbrev pub region_first : Board → Apertures → Pool → Path → ℕ → ℕ
-region_first b a pool p k = bus_first b a pool (parent p) + offset_on b a pool (parent p) (last_part p) k
+region_first b a pool p k = bus_first b a pool (parent p) + offset_on b a pool (parent p) (last_part p) (a_region k)

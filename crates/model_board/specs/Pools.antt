@@ -1,5 +1,6 @@
 -- Which aperture a region is placed in.
---     Pool, Apertures      I/O, memory and prefetchable memory; their addresses
+--     Pool      I/O, memory and prefetchable memory
+--     Aperture, Apertures      the addresses that set-up may give out
 --     pool_of      the pool of a region, by its kind, the apertures and the bridges above it
 --     has_io_paths      each I/O region stands behind bridges with I/O windows alone
 use Rattle.std.specs.Prelude.{List, [], ◌∷◌, ℕ, Bool, true, false, ◌&&◌, if◌then◌else◌, ◌^◌, flat_map, not, ◌||◌, nat_lt, Option, Some, None, filter}
@@ -7,6 +8,7 @@ use Rattle.std.specs.List.{list_any, list_all}
 use Rattle.model_registers.specs.Declarations.{Kind, io_kind, mem32, mem64, IoDecode, no_io, io16, io32, PrefDecode, no_pref, pref32, pref64, Bridge}
 use Rattle.model_board.specs.Paths.{Path, leads_to}
 use Rattle.model_board.specs.Board.{Decl, endpoint, bridge, Row, Board}
+pub use Rattle.model_registers.specs.Apertures.{Aperture, Apertures}
 
 pub data Pool : Type 0 where
   io_pool : Pool
@@ -23,16 +25,6 @@ abbrev pub unit_of : Pool → ℕ
 unit_of io_pool = 2 ^ 12
 unit_of mem_pool = 2 ^ 20
 unit_of pref_pool = 2 ^ 20
-
--- first and last address
-pub record Aperture : Type 0 where
-  pub first : ℕ
-  pub last : ℕ
-
-pub record Apertures : Type 0 where
-  pub io : Aperture
-  pub mem : Aperture
-  pub pref : Option Aperture
 
 -- the declarations of the bridges that a path goes through
 abbrev pub bridge_of : Row → List Bridge

@@ -1,11 +1,11 @@
 -- With the board's bus numbers in its bridges, a configuration cycle reaches the function that the numbers name.
-use Rattle.std.specs.Prelude.{List, ◌≡◌, Some, map, IsTrue}
+use Rattle.std.specs.Prelude.{ℕ, List, [], ◌≡◌, Some, map, IsTrue}
 use Rattle.model_registers.specs.Lists.{Each}
-use Rattle.model_board.specs.Paths.{Path, last_part}
+use Rattle.model_board.specs.Paths.{Part, Path, last_part}
 use Rattle.model_board.specs.Board.{is_bridge, Row, Board, stands_at, IsBoard}
 use Rattle.model_board.specs.BusNumbers.{secondary, subordinate, bus_of}
 use Rattle.model_board.specs.State.{BoardFunction}
-use Rattle.model_board.specs.Cycles.{secondary_register, subordinate_register, BusAddress, reached}
+use Rattle.model_board.specs.Cycles.{secondary_register, subordinate_register, BusAddress, is_route, ends_in, reached}
 
 abbrev pub row_at : BoardFunction → Row
 row_at f = record { path = f.path; decl = f.decl }
@@ -21,3 +21,11 @@ address_of b p = record { bus = bus_of b p; part = last_part p }
 abbrev pub ReachedByNumbers : Type 0
 ReachedByNumbers = (b : Board) → IsBoard b → (fs : List BoardFunction) → HasNumbers b fs → (p : Path) → IsTrue (stands_at b p)
     → (f : BoardFunction) × (reached fs (address_of b p) ≡ Some f) × (f.path ≡ p)
+
+-- and no other number reaches a function
+abbrev pub OnlyNamed : Type 0
+OnlyNamed = (b : Board) → IsBoard b → (fs : List BoardFunction) → HasNumbers b fs → (at : BusAddress) (f : BoardFunction) → reached fs at ≡ Some f → at ≡ address_of b f.path
+
+-- whatever the bridges hold, at most one way leads to a bus's device and function
+abbrev pub OneRoute : Type 0
+OneRoute = (fs : List BoardFunction) (n : ℕ) (t : Part) (p q : Path) → IsTrue (is_route fs n [] p) → IsTrue (is_route fs n [] q) → IsTrue (ends_in p t) → IsTrue (ends_in q t) → p ≡ q

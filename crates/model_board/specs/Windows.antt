@@ -1,41 +1,13 @@
--- Which addresses a bridge forwards: PCI-to-PCI Bridge Architecture 1.2, chapters 3.2.5 and 4.
---     Window      a first and a last address, both included
---     io_window, mem_window, pref_window      what a bridge's registers name
+-- Which addresses a bridge forwards: PCI-to-PCI Bridge Architecture 1.2, chapter 4.
+--     is_in_window      a window of the space holds an address
 --     forwards      a bridge forwards an address
-use Rattle.std.specs.Prelude.{ℕ, ◌+◌, ◌*◌, ◌/◌, Bool, false, ◌&&◌, if◌then◌else◌, ◌^◌, ◌||◌, nat_le, Option, Some, None}
-use Rattle.model_registers.specs.Registers.{config, File, number}
-use Rattle.model_registers.specs.Declarations.{IoDecode, no_io, io16, io32, PrefDecode, no_pref, pref32, pref64, Bridge}
+use Rattle.std.specs.Prelude.{ℕ, Bool, false, ◌&&◌, ◌||◌, nat_le, Option, Some, None}
+use Rattle.model_registers.specs.Registers.{File}
+use Rattle.model_registers.specs.Declarations.{Bridge}
 use Rattle.model_registers.specs.Decoding.{Space, io, memory, is_open}
 use Rattle.model_board.specs.Board.{endpoint, bridge}
 use Rattle.model_board.specs.State.{BoardFunction}
-
--- the first and last address, both included
-pub record Window : Type 0 where
-  pub first : ℕ
-  pub last : ℕ
-
--- a base above its limit names no window
-abbrev pub window : ℕ → ℕ → Option Window
-window first last = if nat_le first last then Some (record { first = first; last = last }) else None
-
--- a window register of w bytes holds address bits from `at` on in its bits above 3
-abbrev pub window_bits : File → ℕ → ℕ → ℕ → ℕ
-window_bits file off w unit = number file (config off) w / 16 * unit
-
-abbrev pub io_window : IoDecode → File → Option Window
-io_window no_io file = None
-io_window io16 file = window (window_bits file 0x1c 1 (2 ^ 12)) (window_bits file 0x1d 1 (2 ^ 12) + 0xfff)
-io_window io32 file = window (number file (config 0x30) 2 * 2 ^ 16 + window_bits file 0x1c 1 (2 ^ 12))
-    (number file (config 0x32) 2 * 2 ^ 16 + window_bits file 0x1d 1 (2 ^ 12) + 0xfff)
-
-abbrev pub mem_window : File → Option Window
-mem_window file = window (window_bits file 0x20 2 (2 ^ 20)) (window_bits file 0x22 2 (2 ^ 20) + 0xfffff)
-
-abbrev pub pref_window : PrefDecode → File → Option Window
-pref_window no_pref file = None
-pref_window pref32 file = window (window_bits file 0x24 2 (2 ^ 20)) (window_bits file 0x26 2 (2 ^ 20) + 0xfffff)
-pref_window pref64 file = window (number file (config 0x28) 4 * 2 ^ 32 + window_bits file 0x24 2 (2 ^ 20))
-    (number file (config 0x2c) 4 * 2 ^ 32 + window_bits file 0x26 2 (2 ^ 20) + 0xfffff)
+pub use Rattle.model_registers.specs.Windows.{Window, window, window_bits, io_window, mem_window, pref_window}
 
 abbrev pub is_in : ℕ → Option Window → Bool
 is_in a None = false

@@ -4,8 +4,13 @@
 
 ghost use Rattle.model_board.specs.Levels.{ItemsByBus};
 ghost use Rattle.model_board.specs.Numbering.{Numbering};
+ghost use Rattle.model_board.specs.OrderLaws.{OneOrder, OrderIsSorted};
 ghost use Rattle.model_board.specs.Packing.{CompactIsRun, FlatNeedOnBus};
-ghost use Rattle.model_board.specs.Reach.{ReachedByNumbers};
+ghost use Rattle.model_board.specs.PlacementLaws.{LayoutIsLawful, PoolsAreLawful, RowsAreDeclared};
+ghost use Rattle.model_board.specs.Reach.{OneRoute, OnlyNamed, ReachedByNumbers};
+ghost use Rattle.model_board.specs.RoutingLaws.{ClaimsByRouting, FirstByRouting, ForwardedByRouting, RoutingOfCells, RoutingOfChange, SameClaims};
+ghost use Rattle.model_board.specs.UniqueClaimant.{ClaimInAnyOrder, RowsArePlaced, UniqueClaimant};
+ghost use Rattle.model_board.specs.WindowLaws.{ClosedWindows, NamedSpans, SetUpWindows};
 
 /// On a bus without bridges the compact placement takes the sum of the sizes rounded up to the
 /// unit, and no lawful placement takes fewer units.
@@ -29,7 +34,67 @@ pub fn compact_is_run()
 {}
 
 /// With the board's bus numbers in its bridges, a configuration cycle reaches the function that the
-/// numbers name.
+/// numbers name, and no other number reaches a function. Whatever the bridges hold, at most one way
+/// leads anywhere.
 pub fn reached_by_numbers()
-    ensures { ReachedByNumbers }
+    ensures named { ReachedByNumbers }
+    ensures only_named { OnlyNamed }
+    ensures one_route { OneRoute }
+{}
+
+/// Compact placement takes the items of a bus in sorted order, and however they are sorted they come in
+/// that order.
+pub fn items_in_order()
+    ensures sorted { OrderIsSorted }
+    ensures only { OneOrder }
+{}
+
+/// Where a pool fits, the rows of its compact placement are lawful: regions and windows are aligned,
+/// inside the aperture, inside the windows of every bridge above them, and apart; and so are the rows
+/// of the whole layout where every pool fits.
+pub fn placement_is_lawful()
+    ensures each_pool { PoolsAreLawful }
+    ensures whole { LayoutIsLawful }
+{}
+
+/// Each region of the board has one row of compact placement, at the address that set-up gives it;
+/// each bridge has one in each pool in which items stand behind it; and no other row stands.
+pub fn rows_are_declared()
+    ensures { RowsAreDeclared }
+{}
+
+/// A window without items, as set-up leaves its registers, forwards no address, in each decode of its
+/// bridge.
+pub fn closed_windows()
+    ensures { ClosedWindows }
+{}
+
+/// A window's registers name exactly the span of whole units that was written, within the reach of
+/// the bridge's decode; so on a board that fits, after set-up, each bridge's windows are those that
+/// placement gave it.
+pub fn named_windows()
+    ensures spans { NamedSpans }
+    ensures set_up { SetUpWindows }
+{}
+
+/// Routing registers alone decide where an address goes: which paths it is forwarded to, all its
+/// claims, and the first of them. Two states whose routing registers hold the same bytes have the
+/// same routing, whatever else their cells hold, so a change of other cells keeps it.
+pub fn routing_decides()
+    ensures forwarded { ForwardedByRouting }
+    ensures claims { ClaimsByRouting }
+    ensures first { FirstByRouting }
+    ensures same { SameClaims }
+    ensures cells { RoutingOfCells }
+    ensures change { RoutingOfChange }
+{}
+
+/// After set-up, and in every state with its routing registers, an address has the claim of the
+/// placed region that holds it and no other. Each byte of a placed region is claimed there, through
+/// every bridge above, and no two placed regions of one space share an address. So a list of the
+/// placed regions has the same claim in any order, and the rows of the layout are such a list.
+pub fn unique_claimant()
+    ensures claims { UniqueClaimant }
+    ensures any_order { ClaimInAnyOrder }
+    ensures rows { RowsArePlaced }
 {}

@@ -1,5 +1,11 @@
-use Rattle.model_board.proofs.Routes.{reached_by_numbers}
+use Rattle.std.proofs.Common.{[]}
+use Rattle.model_board.proofs.OnlyNamed.{only_named}
+use Rattle.model_board.proofs.Routes.{one_route, reached_by_numbers}
 use Rattle.model_board.proofs.reached_by_numbers.Goals as goal
 
 pub returns : goal.returns
-returns c = reached_by_numbers
+returns c = record {
+  named = reached_by_numbers;
+  only_named = only_named;
+  one_route = λ fs n t p q h k e d. one_route fs n t p q [] h k e d;
+}

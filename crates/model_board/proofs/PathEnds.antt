@@ -1,0 +1,89 @@
+-- The last part of a path, and what leads to a path.
+use Rattle.std.proofs.Common.{◌≡◌, ◌+◌, ◌≤◌, ◌<◌, ◌⊎◌, inl, inr, Bool, true, false, ◌&&◌, [], ◌∷◌, ◌++◌, length, refl, ap, ap₂, arith}
+use Rattle.std.proofs.lemmas.Bool.Decides.{nat_tests}
+use Rattle.model_board.specs.Paths.{Part, Path, part_eq, path_eq, path_before, leads_to, parent, last_part}
+use Rattle.model_board.proofs.PathOrder.{one, before_trans, path_same}
+use Rattle.model_registers.proofs.Tests.{left_true, right_true}
+
+pub part_self : (a : Part) → part_eq a a ≡ true
+part_self a = grind (arith, nat_tests)
+
+pub path_self : (p : Path) → path_eq p p ≡ true
+path_self [] = refl
+path_self (a ∷ p) = rw (part_self a) (path_self p)
+
+-- a path is its parent and its last part
+pub snoc : (p : Path) → 0 < length p → p ≡ parent p ++ last_part p ∷ []
+snoc [] h = absurd (omega arith)
+snoc (a ∷ []) h = refl
+snoc (a ∷ b ∷ p) h = ap (λ (q : Path). a ∷ q) (snoc (b ∷ p) (omega arith))
+
+pub parent_snoc : (bus : Path) (p : Part) → parent (bus ++ p ∷ []) ≡ bus
+parent_snoc [] p = refl
+parent_snoc (a ∷ []) p = refl
+parent_snoc (a ∷ b ∷ bus) p = ap (λ (q : Path). a ∷ q) (parent_snoc (b ∷ bus) p)
+
+pub last_snoc : (bus : Path) (p : Part) → last_part (bus ++ p ∷ []) ≡ p
+last_snoc [] p = refl
+last_snoc (a ∷ []) p = refl
+last_snoc (a ∷ b ∷ bus) p = last_snoc (b ∷ bus) p
+
+pub length_snoc : (bus : Path) (p : Part) → length (bus ++ p ∷ []) ≡ length bus + 1
+length_snoc [] p = refl
+length_snoc (a ∷ bus) p = omega (arith, length_snoc bus p)
+
+-- what leads to a path on a bus leads to the bus, or is it
+pub leads_up : (q bus : Path) (p : Part) → leads_to q (bus ++ p ∷ []) ≡ true → (q ≡ bus) ⊎ (leads_to q bus ≡ true)
+leads_up [] [] p h = inl refl
+leads_up [] (b ∷ bus) p h = inr refl
+leads_up (a ∷ []) [] p h = let e : leads_to [] [] ≡ true = right_true (part_eq a p) (leads_to [] []) h in cc
+leads_up (a ∷ c ∷ q) [] p h = let e : leads_to (c ∷ q) [] ≡ true = right_true (part_eq a p) (leads_to (c ∷ q) []) h in cc
+leads_up (a ∷ q) (b ∷ bus) p h = by_part (left_true (part_eq a b) (leads_to q (bus ++ p ∷ [])) h) (leads_up q bus p (right_true (part_eq a b) (leads_to q (bus ++ p ∷ [])) h))
+  where
+    by_part : part_eq a b ≡ true → (q ≡ bus) ⊎ (leads_to q bus ≡ true) → (a ∷ q ≡ b ∷ bus) ⊎ ((part_eq a b && leads_to q bus) ≡ true)
+    by_part e (inl same) = let eq : path_eq (a ∷ q) (b ∷ bus) ≡ true = rw (e, same) (path_self bus) in inl (path_same (a ∷ q) (b ∷ bus) eq)
+    by_part e (inr leads) = inr (rw (e, leads))
+
+pub leads_self : (q : Path) (p : Part) → leads_to q (q ++ p ∷ []) ≡ true
+leads_self [] p = refl
+leads_self (a ∷ q) p = rw (part_self a) (leads_self q p)
+
+-- no path is before itself
+pub not_before_itself : (p : Path) → path_before p p ≡ true → ⊥
+not_before_itself p h =
+    let bound : one (path_before p p) + one (path_eq p p) ≤ one (path_before p p) = before_trans p p p h in
+    let self : path_eq p p ≡ true = path_self p in
+    let bad : 1 + 1 ≤ 1 = rw (h, self) at bound in
+    omega arith
+
+-- paths of one bus are equal where their last parts are
+pub path_eq-snoc : (bus : Path) (p q : Part) → path_eq (bus ++ p ∷ []) (bus ++ q ∷ []) ≡ part_eq p q
+path_eq-snoc [] p q = and_true (part_eq p q)
+  where
+    and_true : (t : Bool) → (t && true) ≡ t
+    and_true true = refl
+    and_true false = refl
+path_eq-snoc (a ∷ bus) p q = rw (part_self a) (path_eq-snoc bus p q)
+
+pub path_eq-sym : (p q : Path) → path_eq p q ≡ path_eq q p
+path_eq-sym [] [] = refl
+path_eq-sym [] (b ∷ q) = refl
+path_eq-sym (a ∷ p) [] = refl
+path_eq-sym (a ∷ p) (b ∷ q) = ap₂ ◌&&◌ (part_eq-sym a b) (path_eq-sym p q)
+  where
+    part_eq-sym : (a b : Part) → part_eq a b ≡ part_eq b a
+    part_eq-sym a b = grind (arith, nat_tests)
+
+-- what leads to a path that leads on leads on too
+pub leads_trans : (p q r : Path) → leads_to p q ≡ true → leads_to q r ≡ true → leads_to p r ≡ true
+leads_trans [] [] r h k = k
+leads_trans [] (b ∷ q) [] h k = cc
+leads_trans [] (b ∷ q) (c ∷ r) h k = refl
+leads_trans (a ∷ p) [] r h k = cc
+leads_trans (a ∷ p) (b ∷ q) [] h k = cc
+leads_trans (a ∷ p) (b ∷ q) (c ∷ r) h k =
+    let here : part_eq a c ≡ true = part_trans a b c (left_true (part_eq a b) (leads_to p q) h) (left_true (part_eq b c) (leads_to q r) k) in
+    rw (here, leads_trans p q r (right_true (part_eq a b) (leads_to p q) h) (right_true (part_eq b c) (leads_to q r) k))
+  where
+    part_trans : (a b c : Part) → part_eq a b ≡ true → part_eq b c ≡ true → part_eq a c ≡ true
+    part_trans a b c h k = grind (arith, nat_tests)

@@ -1,0 +1,60 @@
+-- After set-up every address has at most one claim, and each byte of a placed region has its own: PCI-to-PCI Bridge Architecture 1.2, chapter 4.
+--     CanBePlaced      lawful declarations and apertures, I/O paths, and room in all three pools
+--     HasUniqueClaims      the claims are those of the placed regions
+--     UniqueClaimant      with the routing registers of set-up they are
+--     ClaimInAnyOrder      a list of the placed regions in any order has the same claim
+--     RowsArePlaced      the regions among the rows of the layout are the placed regions
+use Rattle.std.specs.Prelude.{List, ◌≡◌, ℕ, ◌<◌, ◌+◌, ◌≤◌, Some, IsTrue, ◌⊎◌, ◌↔◌, ⊤}
+use Rattle.std.specs.Option.{option_to_list}
+use Rattle.model_registers.specs.Lists.{Each, EachPair, first_some}
+use Rattle.model_registers.specs.Decoding.{Space, same_space}
+use Rattle.model_board.specs.Board.{Decl, endpoint, bridge, Board, IsBoard}
+use Rattle.model_board.specs.State.{BoardFunction}
+use Rattle.model_board.specs.Claims.{is_forwarded, claims, first_claim}
+use Rattle.model_board.specs.Pools.{Pool, Apertures, has_io_paths}
+use Rattle.model_board.specs.Placement.{fits}
+use Rattle.model_board.specs.Layout.{layout}
+use Rattle.model_board.specs.Members.{IsIn}
+use Rattle.model_board.specs.SetUp.{set_up_state}
+use Rattle.model_board.specs.Routing.{routing}
+use Rattle.model_board.specs.PlacedRegions.{PlacedRegion, placed_regions, placed_rows, claim_in, placed_claim}
+use Rattle.model_board.specs.Lawful.{HasLawfulDecls, AreLawful}
+
+-- the device's own registers stand from 40h on
+abbrev pub HasOwnBlocks : Decl → Type 0
+HasOwnBlocks (endpoint d) = Each (λ k. 0x40 ≤ k.offset) d.blocks
+HasOwnBlocks (bridge d) = ⊤
+
+pub record CanBePlaced (b : Board) (a : Apertures) : Type 0 where
+  pub places : IsBoard b
+  pub declarations : HasLawfulDecls b
+  pub blocks : Each (λ r. HasOwnBlocks r.decl) b
+  pub apertures : AreLawful a
+  pub io_paths : IsTrue (has_io_paths b)
+  pub room : (pool : Pool) → IsTrue (fits b a pool)
+
+-- a byte of a placed region is claimed there, through every bridge above
+pub record IsClaimed (fs : List BoardFunction) (r : PlacedRegion) (k : ℕ) : Type 0 where
+  pub forwarded : IsTrue (is_forwarded fs r.path r.space (r.first + k))
+  pub claimed : first_claim fs r.space (r.first + k) ≡ Some (record { path = r.path; index = r.index; offset = k })
+
+-- they share no address
+abbrev pub ShareNone : PlacedRegion → PlacedRegion → Type 0
+ShareNone r s = IsTrue (same_space r.space s.space) → (r.first + r.size ≤ s.first) ⊎ (s.first + s.size ≤ r.first)
+
+pub record HasUniqueClaims (b : Board) (a : Apertures) (fs : List BoardFunction) : Type 0 where
+  -- an address has the claim of the placed region that holds it, and no other
+  pub only : (space : Space) (n : ℕ) → claims fs space n ≡ option_to_list (placed_claim b a space n)
+  pub first : (space : Space) (n : ℕ) → first_claim fs space n ≡ placed_claim b a space n
+  pub each_byte : Each (λ r. (k : ℕ) → k < r.size → IsClaimed fs r k) (placed_regions b a)
+  pub apart : EachPair ShareNone (placed_regions b a)
+
+abbrev pub UniqueClaimant : Type 0
+UniqueClaimant = (b : Board) (a : Apertures) → CanBePlaced b a → (fs : List BoardFunction) → routing fs ≡ routing (set_up_state b a).functions → HasUniqueClaims b a fs
+
+abbrev pub ClaimInAnyOrder : Type 0
+ClaimInAnyOrder = (b : Board) (a : Apertures) → CanBePlaced b a → (qs : List PlacedRegion) → ((q : PlacedRegion) → IsIn q qs ↔ IsIn q (placed_regions b a))
+    → (space : Space) (n : ℕ) → first_some (claim_in space n) qs ≡ placed_claim b a space n
+
+abbrev pub RowsArePlaced : Type 0
+RowsArePlaced = (b : Board) (a : Apertures) → IsBoard b → HasLawfulDecls b → (q : PlacedRegion) → IsIn q (placed_rows (layout b a)) ↔ IsIn q (placed_regions b a)
