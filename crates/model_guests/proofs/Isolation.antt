@@ -1,103 +1,29 @@
 -- Each guest's reply lines are those of its own functions over its own lines.
-use Rattle.std.proofs.Common.{◌≡◌, ℕ, Bool, true, false, not, ◌&&◌, ◌||◌, cond, List, [], ◌∷◌, ◌++◌, Some, None, Option, refl, sym, ap, ◌∙◌, subst, arith, eqb}
-use Rattle.std.specs.Prelude.{codes, IsTrue, drop, nat_le, length}
-use Rattle.std.specs.List.{list_all, starts_with, cons_option}
-use Rattle.model_registers.specs.Lists.{Each}
+use Rattle.std.proofs.Common.{◌≡◌, Bool, true, false, not, ◌&&◌, cond, List, [], ◌∷◌, ◌++◌, Some, None, Option, append-nil, append_assoc, refl, sym, ap, ◌∙◌, eqb}
+use Rattle.std.specs.Prelude.{codes, IsTrue, drop, filter}
+use Rattle.std.specs.List.{starts_with, cons_option}
 use Rattle.std.specs.Str.{bytes_eq}
-use Rattle.std.proofs.lemmas.Bool.Decides.{nat_tests}
 use Rattle.std.proofs.lemmas.Slice.Eq.{bytes_eq-Decides}
 use Rattle.std.proofs.lemmas.List.Elements.{filter-append, filter_map-append}
+use Rattle.model_registers.specs.Lists.{Each}
 use Rattle.model_registers.specs.Declarations.{Endpoint}
+use Rattle.model_registers.proofs.Tests.{left_true, right_true}
 use Rattle.model_guests.specs.LoneGuest.{Slots, slots_after, after_event, answer, reset_slots}
 use Rattle.model_guests.specs.Accesses.{Event, refused}
 use Rattle.model_guests.specs.Text.{Text, lines, words}
 use Rattle.model_guests.specs.Grammar.{guest, host, nobody, Meaning, nothing, guest_event, host_read, bad, meaning, meaning_of_words, event_of, event_or_bad, read_or_bad, host_read_of, HostRead, own_lines, is_own_line, has_first_word, is_comment, has_name, is_long}
-use Rattle.model_guests.specs.World.{World, names, declarations}
-use Rattle.model_guests.specs.Output.{output_after, written_by, reply_lines, lone_output, lone_reply, lone_after, lone_event, slots_now, events_of, event_by}
+use Rattle.model_guests.specs.World.{World, names, declarations, is_name, HasLawfulNames}
+use Rattle.model_guests.specs.Output.{output_after, written_by, lone_output, lone_after_lines, lone_reply, lone_after, lone_event, slots_now, events_of, event_by}
 use Rattle.model_guests.specs.Replies.{line_text, reply_text}
 use Rattle.model_guests.specs.HostReads.{host_answer}
 use Rattle.model_guests.specs.Agreement.{agreed_state}
-use Rattle.model_guests.specs.Worlds.{is_name, is_name_byte, is_letter, HasLawfulNames, IsIsolated, TwoWorlds}
+use Rattle.model_guests.specs.Worlds.{Isolated, TwoWorlds}
+use Rattle.model_guests.proofs.Names.{lacks, not_true, NameFacts, named_facts, begins, equal_texts, same_text}
+use Rattle.model_guests.proofs.OutputLines.{lines_of_output}
 
-left_true : (a b : Bool) → (a && b) ≡ true → a ≡ true
-left_true true b h = refl
-left_true false b h = h
-
-right_true : (a b : Bool) → (a && b) ≡ true → b ≡ true
-right_true true b h = h
-right_true false b h = cc
-
-not_true : (a : Bool) → not a ≡ true → a ≡ false
-not_true true h = cc
-not_true false h = refl
-
-both : (a b : Bool) → a ≡ true → b ≡ true → (a && b) ≡ true
-both a b h k = rw (h, k)
-
-abbrev no_colon : Text → Bool
-no_colon [] = true
-no_colon (c ∷ cs) = not (eqb c 58) && no_colon cs
-
--- what a lawful name is not
-record NameFacts (n : Text) : Type 0 where
-  no_colon : no_colon n ≡ true
-  not_host : bytes_eq n (codes "host") ≡ false
-  not_nobody : bytes_eq n (codes "?") ≡ false
-  not_comment : is_comment n ≡ false
-
-name_byte : (c : ℕ) → is_name_byte c ≡ true → not (eqb c 58) ≡ true
-name_byte c h = grind (arith, nat_tests)
-
-name_bytes : (cs : Text) → list_all is_name_byte cs ≡ true → no_colon cs ≡ true
-name_bytes [] h = refl
-name_bytes (c ∷ cs) h =
-    both (not (eqb c 58)) (no_colon cs) (name_byte c (left_true (is_name_byte c) (list_all is_name_byte cs) h)) (name_bytes cs (right_true (is_name_byte c) (list_all is_name_byte cs) h))
-
-letter_no_colon : (c : ℕ) → is_letter c ≡ true → not (eqb c 58) ≡ true
-letter_no_colon c h = grind (arith, nat_tests)
-
-letter_not_mark : (c : ℕ) → is_letter c ≡ true → eqb c 63 ≡ false
-letter_not_mark c h = grind (arith, nat_tests)
-
-letter_not_hash : (c : ℕ) → is_letter c ≡ true → eqb c 35 ≡ false
-letter_not_hash c h = grind (arith, nat_tests)
-
-name_facts : (n : Text) → is_name n ≡ true → NameFacts n
-name_facts [] h = cc
-name_facts (c ∷ cs) h =
-    let short : Bool = nat_le (length cs) 15 in
-    let other : Bool = not (bytes_eq (c ∷ cs) (codes "host")) in
-    let bytes : Bool = list_all is_name_byte cs in
-    let three : (is_letter c && bytes && short) ≡ true = left_true (is_letter c && bytes && short) other h in
-    let two : (is_letter c && bytes) ≡ true = left_true (is_letter c && bytes) short three in
-    let letter : is_letter c ≡ true = left_true (is_letter c) bytes two in
-    let rest : bytes ≡ true = right_true (is_letter c) bytes two in
-    let mark : eqb c 63 ≡ false = letter_not_mark c letter in
-    record {
-      no_colon = both (not (eqb c 58)) (no_colon cs) (letter_no_colon c letter) (name_bytes cs rest);
-      not_host = not_true (bytes_eq (c ∷ cs) (codes "host")) (right_true (is_letter c && bytes && short) other h);
-      not_nobody = rw mark;
-      not_comment = letter_not_hash c letter;
-    }
-
-eqb_turned : (a b : ℕ) → eqb a b ≡ false → eqb b a ≡ false
-eqb_turned a b h = grind (arith, nat_tests)
-
--- a line begins with a name, a colon and a space where its own name is that name
-begins : (x y r : Text) → no_colon x ≡ true → no_colon y ≡ true → starts_with eqb ((x ++ codes ": ") ++ r) (y ++ codes ": ") ≡ bytes_eq y x
-begins [] [] r h k = refl
-begins [] (c ∷ cs) r h k =
-    let e : eqb c 58 ≡ false = not_true (eqb c 58) (left_true (not (eqb c 58)) (no_colon cs) k) in rw e
-begins (d ∷ ds) [] r h k =
-    let e : eqb 58 d ≡ false = eqb_turned d 58 (not_true (eqb d 58) (left_true (not (eqb d 58)) (no_colon ds) h)) in rw e
-begins (d ∷ ds) (c ∷ cs) r h k =
-    ap (λ b. eqb c d && b) (begins ds cs r (right_true (not (eqb d 58)) (no_colon ds) h) (right_true (not (eqb c 58)) (no_colon cs) k))
-
-equal_texts : (a b : Text) → bytes_eq a b ≡ true → a ≡ b
-equal_texts a b h = (bytes_eq-Decides a b).0 h
-
-same_text : (a : Text) → bytes_eq a a ≡ true
-same_text a = (bytes_eq-Decides a a).1 refl
+-- the lines that begin with the name, a colon and a space
+abbrev replies_in : Text → List Text → List Text
+replies_in name ls = filter (λ l. starts_with eqb l (name ++ codes ": ")) ls
 
 -- ---- what one more line does to a guest's slots
 
@@ -137,11 +63,11 @@ event_of_own : (name : Text) (o : Option Event) → event_by name (event_or_bad 
 event_of_own name None = refl
 event_of_own name (Some e) = let same = same_text name in rw same
 
-begins_own : (name r : Text) → no_colon name ≡ true → starts_with eqb ((name ++ codes ": ") ++ r) (name ++ codes ": ") ≡ true
+begins_own : (name r : Text) → lacks 58 name ≡ true → starts_with eqb ((name ++ codes ": ") ++ r) (name ++ codes ": ") ≡ true
 begins_own name r h = begins name name r h h ∙ same_text name
 
 own_written : (w : World) (before : List Text) (name : Text) (o : Option Event) → NameFacts name
-    → reply_lines name (written_by w before (event_or_bad name o)) ≡ line_text (guest name) (lone_reply (slots_now w before name) o) ∷ []
+    → replies_in name (written_by w before (event_or_bad name o)) ≡ line_text (guest name) (lone_reply (slots_now w before name) o) ∷ []
 own_written w before name None facts = let e = begins_own name (reply_text (refused 401)) facts.no_colon in rw e
 own_written w before name (Some event) facts = let e = begins_own name (reply_text (answer (slots_now w before name) event)) facts.no_colon in rw e
 
@@ -150,13 +76,13 @@ own_written w before name (Some event) facts = let e = begins_own name (reply_te
 -- what it means has nothing to do with the name
 abbrev Foreign : Text → Meaning → Type 0
 Foreign name nothing = Unit {0}
-Foreign name (guest_event n e) = (bytes_eq name n ≡ false) × (no_colon n ≡ true)
+Foreign name (guest_event n e) = (bytes_eq name n ≡ false) × (lacks 58 n ≡ true)
 Foreign name (host_read r) = Unit {0}
-Foreign name (bad (guest n) k) = (bytes_eq name n ≡ false) × (no_colon n ≡ true)
+Foreign name (bad (guest n) k) = (bytes_eq name n ≡ false) × (lacks 58 n ≡ true)
 Foreign name (bad host k) = Unit {0}
 Foreign name (bad nobody k) = Unit {0}
 
-foreign_event : (name n : Text) (o : Option Event) → bytes_eq name n ≡ false → no_colon n ≡ true → Foreign name (event_or_bad n o)
+foreign_event : (name n : Text) (o : Option Event) → bytes_eq name n ≡ false → lacks 58 n ≡ true → Foreign name (event_or_bad n o)
 foreign_event name n None h k = (h, k)
 foreign_event name n (Some e) h k = (h, k)
 
@@ -165,21 +91,12 @@ foreign_read name None = tt
 foreign_read name (Some r) = tt
 
 -- by the three tests that `meaning_of_words` makes of the first word
-foreign_cases : (name n : Text) (e : Option Event) (r : Option HostRead) (c h g : Bool) → bytes_eq name n ≡ false → (g ≡ true → no_colon n ≡ true)
+foreign_cases : (name n : Text) (e : Option Event) (r : Option HostRead) (c h g : Bool) → bytes_eq name n ≡ false → (g ≡ true → lacks 58 n ≡ true)
     → Foreign name (cond c nothing (cond h (read_or_bad r) (cond g (event_or_bad n e) (bad nobody 402))))
 foreign_cases name n e r true h g d k = tt
 foreign_cases name n e r false true g d k = foreign_read name r
 foreign_cases name n e r false false true d k = foreign_event name n e d (k refl)
 foreign_cases name n e r false false false d k = tt
-
--- a name of the world has no colon
-named : (ns : List Text) (n : Text) → Each (λ m. IsTrue (is_name m)) ns → has_name ns n ≡ true → no_colon n ≡ true
-named [] n all h = cc
-named (m ∷ ns) n all h = named_cases (bytes_eq m n) refl h (named ns n all.1)
-  where
-    named_cases : (b : Bool) → bytes_eq m n ≡ b → (b || has_name ns n) ≡ true → (has_name ns n ≡ true → no_colon n ≡ true) → no_colon n ≡ true
-    named_cases true e k more = subst (λ (t : Text). no_colon t ≡ true) (equal_texts m n e) (name_facts m all.0).no_colon
-    named_cases false e k more = more k
 
 other_way : (a b : Text) → bytes_eq a b ≡ false → bytes_eq b a ≡ false
 other_way a b h = other_cases (bytes_eq b a) refl
@@ -194,7 +111,7 @@ foreign_words : (ns : List Text) (name : Text) (ws : List Text) → Each (λ m. 
     → Foreign name (meaning_of_words ns ws)
 foreign_words ns name [] all first = tt
 foreign_words ns name (w ∷ ws) all first =
-    foreign_cases name w (event_of ws) (host_read_of ws) (is_comment w) (bytes_eq w (codes "host")) (has_name ns w) (other_way w name first) (named ns w all)
+    foreign_cases name w (event_of ws) (host_read_of ws) (is_comment w) (bytes_eq w (codes "host")) (has_name ns w) (other_way w name first) (λ h. (named_facts ns w all h).no_colon)
 
 foreign_long : (ns : List Text) (name : Text) (ws : List Text) (long : Bool) → Each (λ m. IsTrue (is_name m)) ns → (not long && has_first_word name ws) ≡ false
     → Foreign name (cond long (bad nobody 403) (meaning_of_words ns ws))
@@ -210,10 +127,10 @@ no_event name (guest_event n e) f = let other : bytes_eq n name ≡ false = othe
 no_event name (host_read r) f = refl
 no_event name (bad who k) f = refl
 
-other_line : (name n r : Text) → no_colon name ≡ true → no_colon n ≡ true → bytes_eq name n ≡ false → reply_lines name (((n ++ codes ": ") ++ r) ∷ []) ≡ []
+other_line : (name n r : Text) → lacks 58 name ≡ true → lacks 58 n ≡ true → bytes_eq name n ≡ false → replies_in name (((n ++ codes ": ") ++ r) ∷ []) ≡ []
 other_line name n r h k d = let e : starts_with eqb ((n ++ codes ": ") ++ r) (name ++ codes ": ") ≡ false = begins n name r k h ∙ d in rw e
 
-nothing_written : (w : World) (before : List Text) (name : Text) (m : Meaning) → NameFacts name → Foreign name m → reply_lines name (written_by w before m) ≡ []
+nothing_written : (w : World) (before : List Text) (name : Text) (m : Meaning) → NameFacts name → Foreign name m → replies_in name (written_by w before m) ≡ []
 nothing_written w before name nothing facts f = refl
 nothing_written w before name (guest_event n e) facts f = other_line name n (reply_text (answer (slots_now w before n) e)) facts.no_colon f.1 f.0
 nothing_written w before name (host_read r) facts f = other_line name (codes "host") (reply_text (host_answer (agreed_state w (slots_now w before)) r)) facts.no_colon refl facts.not_host
@@ -223,43 +140,62 @@ nothing_written w before name (bad nobody k) facts f = other_line name (codes "?
 
 -- ---- the whole script
 
-isolated_from : (w : World) (name : Text) → HasLawfulNames w → NameFacts name → has_name (names w) name ≡ true → (before ls : List Text)
-    → reply_lines name (output_after w before ls) ≡ lone_output name (slots_now w before name) (own_lines name ls)
-isolated_from w name lawful facts h before [] = refl
-isolated_from w name lawful facts h before (l ∷ ls) =
+-- an own line does to the guest's slots what it does in a world of no one else, and a line of another does nothing
+slots_by_line : (w : World) (name : Text) → HasLawfulNames w → NameFacts name → has_name (names w) name ≡ true → (before : List Text) (l : Text) (own : Bool) → is_own_line name l ≡ own
+    → slots_now w (before ++ l ∷ []) name ≡ cond own (lone_after (slots_now w before name) (lone_event l)) (slots_now w before name)
+slots_by_line w name lawful facts h before l true e =
+    slots_step w name before l
+    ∙ ap (λ (x : Meaning). lone_after (slots_now w before name) (event_by name x)) (own_meaning (names w) name l facts h e)
+    ∙ ap (lone_after (slots_now w before name)) (event_of_own name (lone_event l))
+slots_by_line w name lawful facts h before l false e =
+    slots_step w name before l
+    ∙ ap (lone_after (slots_now w before name)) (no_event name (meaning (names w) l) (foreign_line (names w) name l lawful e))
+
+replies_from : (w : World) (name : Text) → HasLawfulNames w → NameFacts name → has_name (names w) name ≡ true → (before ls : List Text)
+    → replies_in name (output_after w before ls) ≡ lone_output name (slots_now w before name) (own_lines name ls)
+replies_from w name lawful facts h before [] = refl
+replies_from w name lawful facts h before (l ∷ ls) =
     filter-append (λ t. starts_with eqb t (name ++ codes ": ")) (written_by w before (meaning (names w) l)) (output_after w (before ++ l ∷ []) ls)
-    ∙ step (is_own_line name l) refl (isolated_from w name lawful facts h (before ++ l ∷ []) ls)
+    ∙ step (is_own_line name l) refl (replies_from w name lawful facts h (before ++ l ∷ []) ls)
   where
     step : (own : Bool) → is_own_line name l ≡ own
-        → reply_lines name (output_after w (before ++ l ∷ []) ls) ≡ lone_output name (slots_now w (before ++ l ∷ []) name) (own_lines name ls)
-        → reply_lines name (written_by w before (meaning (names w) l)) ++ reply_lines name (output_after w (before ++ l ∷ []) ls)
+        → replies_in name (output_after w (before ++ l ∷ []) ls) ≡ lone_output name (slots_now w (before ++ l ∷ []) name) (own_lines name ls)
+        → replies_in name (written_by w before (meaning (names w) l)) ++ replies_in name (output_after w (before ++ l ∷ []) ls)
         ≡ lone_output name (slots_now w before name) (cond own (l ∷ own_lines name ls) (own_lines name ls))
     step true e rest =
         let m = own_meaning (names w) name l facts h e in
-        let line = ap (λ (x : Meaning). reply_lines name (written_by w before x)) m ∙ own_written w before name (lone_event l) facts in
-        let slots = slots_step w name before l ∙ ap (λ (x : Meaning). lone_after (slots_now w before name) (event_by name x)) m ∙ ap (lone_after (slots_now w before name)) (event_of_own name (lone_event l)) in
-        ap (λ (x : List Text). x ++ reply_lines name (output_after w (before ++ l ∷ []) ls)) line
-        ∙ ap (λ (x : List Text). line_text (guest name) (lone_reply (slots_now w before name) (lone_event l)) ∷ x) (rest ∙ ap (λ (s : Slots). lone_output name s (own_lines name ls)) slots)
+        let line = ap (λ (x : Meaning). replies_in name (written_by w before x)) m ∙ own_written w before name (lone_event l) facts in
+        ap (λ (x : List Text). x ++ replies_in name (output_after w (before ++ l ∷ []) ls)) line
+        ∙ ap (λ (x : List Text). line_text (guest name) (lone_reply (slots_now w before name) (lone_event l)) ∷ x)
+        (rest ∙ ap (λ (s : Slots). lone_output name s (own_lines name ls)) (slots_by_line w name lawful facts h before l true e))
     step false e rest =
-        let f = foreign_line (names w) name l lawful e in
-        let slots = slots_step w name before l ∙ ap (lone_after (slots_now w before name)) (no_event name (meaning (names w) l) f) in
-        ap (λ (x : List Text). x ++ reply_lines name (output_after w (before ++ l ∷ []) ls)) (nothing_written w before name (meaning (names w) l) facts f)
-        ∙ (rest ∙ ap (λ (s : Slots). lone_output name s (own_lines name ls)) slots)
+        ap (λ (x : List Text). x ++ replies_in name (output_after w (before ++ l ∷ []) ls)) (nothing_written w before name (meaning (names w) l) facts (foreign_line (names w) name l lawful e))
+        ∙ (rest ∙ ap (λ (s : Slots). lone_output name s (own_lines name ls)) (slots_by_line w name lawful facts h before l false e))
 
-named_lawful : (ns : List Text) (n : Text) → Each (λ m. IsTrue (is_name m)) ns → has_name ns n ≡ true → is_name n ≡ true
-named_lawful [] n all h = cc
-named_lawful (m ∷ ns) n all h = cases (bytes_eq m n) refl h (named_lawful ns n all.1)
+files_from : (w : World) (name : Text) → HasLawfulNames w → NameFacts name → has_name (names w) name ≡ true → (before ls : List Text)
+    → slots_now w (before ++ ls) name ≡ lone_after_lines (slots_now w before name) (own_lines name ls)
+files_from w name lawful facts h before [] = ap (λ (t : List Text). slots_now w t name) (append-nil before)
+files_from w name lawful facts h before (l ∷ ls) =
+    ap (λ (t : List Text). slots_now w t name) (sym (append_assoc before (l ∷ []) ls))
+    ∙ files_from w name lawful facts h (before ++ l ∷ []) ls
+    ∙ step (is_own_line name l) refl
   where
-    cases : (b : Bool) → bytes_eq m n ≡ b → (b || has_name ns n) ≡ true → (has_name ns n ≡ true → is_name n ≡ true) → is_name n ≡ true
-    cases true e k more = subst (λ (t : Text). is_name t ≡ true) (equal_texts m n e) all.0
-    cases false e k more = more k
+    step : (own : Bool) → is_own_line name l ≡ own
+        → lone_after_lines (slots_now w (before ++ l ∷ []) name) (own_lines name ls) ≡ lone_after_lines (slots_now w before name) (cond own (l ∷ own_lines name ls) (own_lines name ls))
+    step true e = ap (λ (s : Slots). lone_after_lines s (own_lines name ls)) (slots_by_line w name lawful facts h before l true e)
+    step false e = ap (λ (s : Slots). lone_after_lines s (own_lines name ls)) (slots_by_line w name lawful facts h before l false e)
 
-pub isolated : (w : World) → HasLawfulNames w → IsIsolated w
-isolated w lawful name script h = isolated_from w name lawful (name_facts name (named_lawful (names w) name lawful h)) h [] (lines script)
+pub isolated : Isolated
+isolated w lawful name script h =
+    let facts : NameFacts name = named_facts (names w) name lawful h in
+    record {
+      replies = ap (replies_in name) (lines_of_output w lawful script) ∙ replies_from w name lawful facts h [] (lines script);
+      files = files_from w name lawful facts h [] (lines script);
+    }
 
 pub two_worlds_lem : TwoWorlds
 two_worlds_lem name v w s t lawful_v lawful_w agree =
-    isolated v lawful_v name s agree.in_first
+    (isolated v lawful_v name s agree.in_first).replies
     ∙ ap (λ (ds : List (Option Endpoint)). lone_output name (reset_slots ds) (own_lines name (lines s))) agree.declarations
     ∙ ap (λ (ls : List Text). lone_output name (reset_slots (declarations w name)) ls) agree.lines
-    ∙ sym (isolated w lawful_w name t agree.in_second)
+    ∙ sym (isolated w lawful_w name t agree.in_second).replies

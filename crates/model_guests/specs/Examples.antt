@@ -1,104 +1,101 @@
--- Boards of the worked rows.
-use Rattle.std.specs.Prelude.{List, [], ◌∷◌, ℕ, zero, suc, ◌+◌, ◌/◌, ◌%◌, true, false, replicate, ◌^◌, ◌++◌, Some, codes}
-use Rattle.model_registers.specs.Declarations.{io_kind, mem32, mem64, Region, Endpoint, no_io, io16, no_pref, pref64, Bridge}
-use Rattle.model_board.specs.Paths.{Part}
+-- Boards with guests at which the definitions are computed.
+--     main_world      the main board with two guests
+--     second_world      the functions of the first guest at other places, beside other functions
+--     demo_world      one endpoint without regions, and one guest
+--     wide_world      an endpoint with a region of each kind and each field of the header declared, and one guest
+--     deep_world, chain_world, high_world      a bridge behind a bridge; fifteen bridges, each behind the one before; the last unit below 4 GB
+use Rattle.std.specs.Prelude.{List, [], ◌∷◌, ℕ, true, false, ◌^◌, ◌++◌, Some, None, codes}
+use Rattle.model_registers.specs.Cell.{Cell, constant}
+use Rattle.model_registers.specs.Declarations.{io_kind, mem32, mem64, Endpoint, Bridge}
+use Rattle.model_board.specs.Paths.{Path}
 use Rattle.model_board.specs.Board.{endpoint, bridge, Board}
 use Rattle.model_board.specs.Pools.{Apertures}
-use Rattle.model_guests.specs.World.{World}
+use Rattle.model_board.specs.Examples.{part, function_at, aperture, plain, first_endpoint, third_endpoint, main_bridge, main_board, main_board_with, main_apertures, memory_bridge, memory_of, chain}
+use Rattle.model_guests.specs.World.{Guest, World}
 
-abbrev pub part : ℕ → ℕ → Part
-part d f = record { device = d; function = f }
+abbrev pub on_bus_0 : ℕ → Path
+on_bus_0 d = part d 0 ∷ []
 
-abbrev pub plain : ℕ → ℕ → ℕ → List Region → Endpoint
-plain id status pin regions = record {
-  vendor = 0x1234;
-  device = id;
-  revision = 0;
-  class = 0xff0000;
-  subvendor = 0;
-  subsystem = 0;
-  pin = pin;
-  min_gnt = 0;
-  max_lat = 0;
-  status = status;
-  regions = regions;
-  blocks = [];
-}
+abbrev pub behind : ℕ → ℕ → Path
+behind d e = part d 0 ∷ part e 0 ∷ []
 
-abbrev pub first_endpoint : Endpoint
-first_endpoint = plain 1 0x8000 1 (
-    record { index = 0; kind = io_kind; size = 32; cells = [] }
-    ∷ record { index = 1; kind = mem32 false; size = 4096; cells = replicate 64 (record { value = 0; writable = 0xff; clearable = 0 }) } ∷ [])
+-- ---- the main board
 
-abbrev pub main_bridge : Bridge
-main_bridge = record { vendor = 0x1234; device = 2; revision = 0; io = io16; pref = pref64 }
+abbrev pub main_guests : List Guest
+main_guests = record { name = codes "a"; slots = on_bus_0 1 ∷ behind 2 1 ∷ [] } ∷ record { name = codes "b"; slots = behind 2 0 ∷ [] } ∷ []
 
-abbrev pub second_endpoint : Endpoint
-second_endpoint = plain 3 0 0 (
-    record { index = 0; kind = mem32 false; size = 0x100000; cells = [] } ∷ record { index = 1; kind = io_kind; size = 8; cells = [] } ∷ [])
-
-abbrev pub third_endpoint : Endpoint
-third_endpoint = plain 4 0 1 (
-    record { index = 0; kind = mem64 true; size = 0x1000000; cells = replicate 16 (record { value = 0xa5; writable = 0; clearable = 0 }) } ∷ [])
-
-abbrev pub main_board : Board
-main_board =
-    record { path = part 1 0 ∷ []; decl = endpoint first_endpoint }
-    ∷ record { path = part 2 0 ∷ []; decl = bridge main_bridge }
-    ∷ record { path = part 2 0 ∷ part 0 0 ∷ []; decl = endpoint second_endpoint }
-    ∷ record { path = part 2 0 ∷ part 1 0 ∷ []; decl = endpoint third_endpoint } ∷ []
-
-abbrev pub main_apertures : Apertures
-main_apertures = record {
-  io = record { first = 0x1000; last = 0xffff };
-  mem = record { first = 0xc0000000; last = 0xdfffffff };
-  pref = Some (record { first = 0x400000000; last = 0x4ffffffff });
-}
+-- with another bridge and other apertures
+abbrev pub main_world_with : Bridge → Apertures → World
+main_world_with d a = record { board = main_board_with d; apertures = a; guests = main_guests }
 
 abbrev pub main_world : World
-main_world = record {
-  board = main_board;
-  apertures = main_apertures;
-  guests = record { name = codes "a"; slots = (part 1 0 ∷ []) ∷ (part 2 0 ∷ part 1 0 ∷ []) ∷ [] }
-      ∷ record { name = codes "b"; slots = (part 2 0 ∷ part 0 0 ∷ []) ∷ [] } ∷ [];
-}
+main_world = main_world_with main_bridge main_apertures
 
--- two bridges, each over 16 MB and 1 MB
-abbrev pub pair_behind : ℕ → Board
-pair_behind d =
-    record { path = part d 0 ∷ []; decl = bridge (record { vendor = 0x1234; device = 2; revision = 0; io = no_io; pref = no_pref }) }
-    ∷ record { path = part d 0 ∷ part 0 0 ∷ []; decl = endpoint (plain 3 0 0 (record { index = 0; kind = mem32 false; size = 2 ^ 24; cells = [] } ∷ [])) }
-    ∷ record { path = part d 0 ∷ part 1 0 ∷ []; decl = endpoint (plain 3 0 0 (record { index = 0; kind = mem32 false; size = 2 ^ 20; cells = [] } ∷ [])) } ∷ []
-
--- row 16: the functions of guest a at other places, beside other functions
 abbrev pub second_world : World
 second_world = record {
   board =
-      record { path = part 0 0 ∷ []; decl = endpoint third_endpoint }
-      ∷ record { path = part 4 0 ∷ []; decl = bridge main_bridge }
-      ∷ record { path = part 4 0 ∷ part 5 0 ∷ []; decl = endpoint first_endpoint }
-      ∷ record { path = part 4 0 ∷ part 5 1 ∷ []; decl = endpoint (plain 9 0 0 []) } ∷ [];
+      function_at (on_bus_0 0) (endpoint third_endpoint)
+      ∷ function_at (on_bus_0 4) (bridge main_bridge)
+      ∷ function_at (behind 4 5) (endpoint first_endpoint)
+      ∷ function_at (part 4 0 ∷ part 5 1 ∷ []) (endpoint (plain 9 0 0 [])) ∷ [];
   apertures = main_apertures;
-  guests = record { name = codes "a"; slots = (part 4 0 ∷ part 5 0 ∷ []) ∷ (part 0 0 ∷ []) ∷ [] } ∷ record { name = codes "b"; slots = [] } ∷ [];
+  guests = record { name = codes "a"; slots = behind 4 5 ∷ on_bus_0 0 ∷ [] } ∷ record { name = codes "b"; slots = [] } ∷ [];
 }
 
--- the main board with another bridge
-abbrev pub main_board_with : Bridge → Board
-main_board_with d =
-    record { path = part 1 0 ∷ []; decl = endpoint first_endpoint }
-    ∷ record { path = part 2 0 ∷ []; decl = bridge d }
-    ∷ record { path = part 2 0 ∷ part 0 0 ∷ []; decl = endpoint second_endpoint }
-    ∷ record { path = part 2 0 ∷ part 1 0 ∷ []; decl = endpoint third_endpoint } ∷ []
+-- with a bridge and an endpoint behind the bridge
+abbrev pub deep_world : World
+deep_world = record main_world {
+  board = main_board ++ function_at (behind 2 3) (bridge memory_bridge) ∷ function_at (part 2 0 ∷ part 3 0 ∷ part 1 0 ∷ []) (endpoint (plain 6 0 4 [])) ∷ [];
+}
 
-abbrev pub main_world_with : Bridge → World
-main_world_with d = record main_world { board = main_board_with d }
+-- ---- one endpoint
 
--- 128 bridges on bus 0, and one behind each but the last
-abbrev pub many_pairs : ℕ → Board
-many_pairs zero = []
-many_pairs (suc n) = many_pairs n ++
-    record { path = part (n / 8) (n % 8) ∷ []; decl = bridge main_bridge }
-    ∷ record { path = part (n / 8) (n % 8) ∷ part 0 0 ∷ []; decl = bridge main_bridge } ∷ []
+abbrev pub demo_world : World
+demo_world = record {
+  board = function_at (on_bus_0 1) (endpoint (plain 1 0x8000 1 [])) ∷ [];
+  apertures = record main_apertures { pref = None };
+  guests = record { name = codes "a"; slots = on_bus_0 1 ∷ [] } ∷ [];
+}
 
-abbrev pub many_bridges : Board
-many_bridges = many_pairs 127 ++ record { path = part 15 7 ∷ []; decl = bridge main_bridge } ∷ []
+abbrev pub writable_byte : Cell
+writable_byte = record { value = 0; writable = 0xff; clearable = 0 }
+
+-- at 40h two registers of the device: one that is read and written in part, and one that the device raises
+abbrev pub wide_endpoint : Endpoint
+wide_endpoint = record {
+  vendor = 0x1af4;
+  device = 0x1041;
+  revision = 0x5a;
+  class = 0x020080;
+  subvendor = 0x9abc;
+  subsystem = 0xdef0;
+  pin = 3;
+  min_gnt = 0x11;
+  max_lat = 0x22;
+  status = 0xf900;
+  regions = record { index = 0; kind = io_kind; size = 256; cells = constant 0x10 ∷ constant 0x11 ∷ [] }
+      ∷ record { index = 1; kind = mem32 true; size = 16; cells = writable_byte ∷ [] }
+      ∷ record { index = 2; kind = mem64 false; size = 2 ^ 20; cells = constant 0x20 ∷ [] }
+      ∷ record { index = 4; kind = mem64 true; size = 2 ^ 33; cells = constant 0x40 ∷ [] } ∷ [];
+  blocks = record { offset = 0x40; cells = record { value = 0x5a; writable = 0x0f; clearable = 0 } ∷ record { value = 0x81; writable = 0; clearable = 0xc1 } ∷ [] }
+      ∷ record { offset = 0xff; cells = constant 0x7e ∷ [] } ∷ [];
+}
+
+abbrev pub wide_world : World
+wide_world = record {
+  board = function_at (on_bus_0 3) (endpoint wide_endpoint) ∷ [];
+  apertures = record main_apertures { pref = Some (aperture 0x800000000 0xfffffffff) };
+  guests = record { name = codes "a"; slots = on_bus_0 3 ∷ [] } ∷ [];
+}
+
+-- ---- boards without guests
+
+abbrev pub bare : Board → World
+bare b = record { board = b; apertures = main_apertures; guests = [] }
+
+-- an endpoint with an interrupt at the end of a path of sixteen parts
+abbrev pub chain_world : World
+chain_world = bare (chain 15 (plain 6 0 1 []))
+
+abbrev pub high_world : World
+high_world = record (bare (chain 1 (memory_of 0x100000))) { apertures = record main_apertures { mem = aperture 0xfff00000 0xffffffff } }

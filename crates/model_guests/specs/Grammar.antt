@@ -1,6 +1,7 @@
 -- What the lines of a script mean.
---     event_of, host_read_of      the words of a line after its first
---     meaning names line      an event of a guest, a host read, a refusal, or nothing
+--     event_of      the words of a guest's line after its name
+--     HostRead, host_read_of      a read by the host; the words of its line after `host`
+--     Who, Meaning, meaning names line      an event of a guest, a host read, a refusal under a name, or nothing
 --     own_lines      the lines that begin with a guest's name
 use Rattle.std.specs.Prelude.{List, [], ◌∷◌, ℕ, Bool, false, ◌&&◌, ◌==◌, if◌then◌else◌, length, ◌^◌, not, nat_lt, Option, Some, None, filter, codes, option_and_then}
 use Rattle.std.specs.List.{list_any}
@@ -11,19 +12,24 @@ use Rattle.model_guests.specs.Accesses.{Target, configuration, port, address, Op
 use Rattle.model_guests.specs.Text.{Text, words}
 use Rattle.model_guests.specs.Numbers.{below, digits_in, number_of}
 
+-- what is made of a number, if it is one
 abbrev pub given : {A : Type 0} → Option ℕ → (ℕ → Option A) → Option A
 given o f = option_and_then f o
 
+-- the form of a line whose first word is this one
 abbrev pub on_word : {A : Type 0} → Text → Text → Option A → Option A
 on_word w op form = if bytes_eq w op then form else None
 
+-- slot, offset and width
 abbrev pub to_configuration : Text → Text → Text → Op → Option Event
 to_configuration s o w op = given (number_of s) (λ slot. given (number_of o) (λ off. given (number_of w) (λ width.
     Some (access (record { target = configuration slot off; width = width; op = op })))))
 
+-- port or address, and width
 abbrev pub to_space : (ℕ → Target) → Text → Text → Op → Option Event
 to_space target a w op = given (number_of a) (λ n. given (number_of w) (λ width. Some (access (record { target = target n; width = width; op = op }))))
 
+-- a value of 32 bits
 abbrev pub value_of : Text → (Op → Option Event) → Option Event
 value_of v form = given (below (2 ^ 32) (number_of v)) (λ n. form (writes n))
 
@@ -37,11 +43,12 @@ raise_part w =
     else (if bytes_eq w (codes "bar4") then Some (in_region 4)
     else (if bytes_eq w (codes "bar5") then Some (in_region 5) else None))))))
 
+-- slot, place, offset and mask of one byte
 abbrev pub to_raise : Text → Text → Text → Text → Option Event
 to_raise s p o m = given (number_of s) (λ slot. option_and_then (λ (part : RaisePlace). given (number_of o) (λ off. given (below 256 (number_of m)) (λ mask.
     Some (raises (record { slot = slot; part = part; offset = off; mask = mask }))))) (raise_part p))
 
--- the words of a guest's line after its name
+-- NAME ir PORT W, NAME mr ADDR W; NAME cr SLOT OFF W, NAME iw PORT W V, NAME mw ADDR W V; NAME cw SLOT OFF W V, NAME raise SLOT P OFF MASK
 abbrev pub event_of : List Text → Option Event
 event_of (op ∷ a ∷ w ∷ []) = first_of_two (on_word op (codes "ir") (to_space port a w reads)) (on_word op (codes "mr") (to_space address a w reads))
 event_of (op ∷ a ∷ b ∷ c ∷ []) = first_of_two (on_word op (codes "cr") (to_configuration a b c reads))
@@ -62,7 +69,7 @@ pub record HostRead : Type 0 where
 abbrev pub hex_pair : ℕ → ℕ → Option ℕ
 hex_pair a b = digits_in 16 (a ∷ b ∷ [])
 
--- BB:DD.F
+-- BB:DD.F, with hexadecimal bus and device
 abbrev pub bus_address : Text → Option BusAddress
 bus_address (a ∷ b ∷ colon ∷ c ∷ d ∷ dot ∷ f ∷ []) =
     if colon == 58 && dot == 46 then
@@ -74,11 +81,13 @@ bus_address _ = None
 abbrev pub host_at : (ℕ → HostTarget) → Text → Text → Option HostRead
 host_at target a w = given (number_of a) (λ n. given (number_of w) (λ width. Some (record { target = target n; width = width })))
 
+-- host ir PORT W, host mr ADDR W; host cr BB:DD.F OFF W
 abbrev pub host_read_of : List Text → Option HostRead
 host_read_of (op ∷ a ∷ w ∷ []) = first_of_two (on_word op (codes "ir") (host_at host_port a w)) (on_word op (codes "mr") (host_at host_address a w))
 host_read_of (op ∷ a ∷ b ∷ w ∷ []) = on_word op (codes "cr") (option_and_then (λ (at : BusAddress). host_at (host_configuration at) b w) (bus_address a))
 host_read_of _ = None
 
+-- under whose name a line answers
 pub data Who : Type 0 where
   guest : Text → Who
   host : Who
@@ -101,11 +110,12 @@ read_or_bad (Some r) = host_read r
 abbrev pub has_name : List Text → Text → Bool
 has_name names w = list_any (λ n. bytes_eq n w) names
 
+-- the word begins with #
 abbrev pub is_comment : Text → Bool
 is_comment [] = false
 is_comment (c ∷ cs) = c == 35
 
--- by the first word
+-- by the first word: a comment, `host`, a guest's name, or nobody's
 abbrev pub meaning_of_words : List Text → List Text → Meaning
 meaning_of_words names [] = nothing
 meaning_of_words names (w ∷ ws) =
@@ -113,9 +123,11 @@ meaning_of_words names (w ∷ ws) =
     else (if bytes_eq w (codes "host") then read_or_bad (host_read_of ws)
     else (if has_name names w then event_or_bad w (event_of ws) else bad nobody 402))
 
+-- more than 200 bytes, the line feed not counted
 abbrev pub is_long : Text → Bool
 is_long line = nat_lt 200 (length line)
 
+-- a long line is bad whatever stands in it
 abbrev pub meaning : List Text → Text → Meaning
 meaning names line = if is_long line then bad nobody 403 else meaning_of_words names (words line)
 

@@ -4,7 +4,9 @@ pub mod Text
 pub mod Numbers
 pub mod Grammar
 pub mod World
+pub mod OwnCopies
 pub mod Agreement
+pub mod AgreementLaws
 pub mod HostReads
 pub mod Replies
 pub mod Output

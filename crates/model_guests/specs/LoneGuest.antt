@@ -1,7 +1,10 @@
 -- What one guest's functions do when nothing else exists: no bus, no bridge, no physical address.
---     Access, Event, Reply      what a guest does, and what it is told
---     answer, after_event      the reply to an event and the slots after it
+--     fault_of, raise_fault      the checks of an access and of a raise
+--     Slots      32 slots, each empty or with a function: its declaration and its register file
+--     landing      where an access lands; regions decode by their own registers, as in PCI Local Bus 3.0, chapter 6.2.5
+--     answer, after_event      the reply to an event, and the slots after it
 --     replies, slots_after      the same along a list of events
+--     reset_slots      the slots at reset
 use Rattle.std.specs.Prelude.{List, [], ◌∷◌, ℕ, ◌-◌, ◌+◌, ◌%◌, Bool, false, ◌&&◌, ◌==◌, if◌then◌else◌, replicate, length, ◌^◌, ◌++◌, not, ◌||◌, nat_lt, nat_le, Option, Some, None, map, slice_get, slice_set, unwrap_or, is_some, option_map}
 use Rattle.std.specs.List.{list_any}
 use Rattle.std.specs.Option.{option_map_or}
@@ -12,25 +15,25 @@ use Rattle.model_registers.specs.EndpointTable.{endpoint_reset}
 use Rattle.model_registers.specs.Decoding.{Space, io, memory, Function, Hit, lone_claim}
 use Rattle.model_guests.specs.Accesses.{Target, configuration, port, address, Op, reads, writes, Access, RaisePlace, in_config, in_region, Raise, Event, access, raises, Reply, answered, done, refused}
 
+-- the three checks of any access, in their order: the width, the alignment of its place, the range
+abbrev pub access_fault : ℕ → ℕ → Bool → Option ℕ
+access_fault width at out_of_range =
+    if not (width == 1 || width == 2 || width == 4) then Some 302
+    else (if not (at % width == 0) then Some 301
+    else (if out_of_range then Some 303 else None))
+
 abbrev pub place_number : Target → ℕ
 place_number (configuration slot off) = off
 place_number (port a) = a
 place_number (address a) = a
 
-abbrev pub out_of_range : Target → Bool
-out_of_range (configuration slot off) = nat_le 32 slot || nat_le 256 off
-out_of_range (port a) = nat_le (2 ^ 32) a
-out_of_range (address a) = false
-
--- width, then alignment, then range
-abbrev pub width_fault : ℕ → Bool
-width_fault w = not (w == 1 || w == 2 || w == 4)
+abbrev pub is_out_of_range : Target → Bool
+is_out_of_range (configuration slot off) = nat_le 32 slot || nat_le 256 off
+is_out_of_range (port a) = nat_le (2 ^ 32) a
+is_out_of_range (address a) = false
 
 abbrev pub fault_of : Access → Option ℕ
-fault_of a =
-    if width_fault a.width then Some 302
-    else (if not (place_number a.target % a.width == 0) then Some 301
-    else (if out_of_range a.target then Some 303 else None))
+fault_of a = access_fault a.width (place_number a.target) (is_out_of_range a.target)
 
 abbrev pub Slots : Type 0
 Slots = List (Option Function)
@@ -74,27 +77,22 @@ effect reads w slots l = slots
 effect (writes v) w slots None = slots
 effect (writes v) w slots (Some l) = with_file (write (all_bytes w) v l.place) l.slot slots
 
--- the place of a raise in a function, if its offset lies in it
+-- the place that a raise names in a function, unless its offset lies past the end
 abbrev pub raise_place : Function → RaisePlace → ℕ → Option Place
 raise_place f in_config off = if nat_lt off 256 then Some (config off) else None
 raise_place f (in_region n) off =
     if list_any (λ r. r.index == n && nat_lt off r.size) f.decl.regions then Some (block n off) else None
 
--- the checks of a raise, in their order
 abbrev pub raise_landing : Option Function → Raise → Option Place
 raise_landing None r = None
 raise_landing (Some f) r = raise_place f r.part r.offset
 
+-- the checks of a raise, in their order: the slot's number, the slot's function, the place in it
 abbrev pub raise_fault : Slots → Raise → Option ℕ
 raise_fault slots r =
     if nat_le 32 r.slot then Some 303
     else (if not (is_some (slot_at slots r.slot)) then Some 601
-    else (if is_some (raise_landing (slot_at slots r.slot) r) then None else Some 303))
-
--- a guest's own copies: Command, header type and base registers, which the device can't raise
-abbrev pub is_own : Place → Bool
-is_own (config off) = off == 4 || off == 5 || off == 0x0e || (nat_le 0x10 off && nat_lt off 0x28)
-is_own (block n off) = false
+    else (if not (is_some (raise_landing (slot_at slots r.slot) r)) then Some 303 else None))
 
 abbrev pub event_fault : Slots → Event → Option ℕ
 event_fault slots (access a) = fault_of a

@@ -1,15 +1,14 @@
 -- What a script writes: each guest's replies are those of its own functions alone, and a host read shows the board.
---     World      a board with its apertures and guests
---     agreed_state      the register state that agrees with the guests' files
---     output      the text of a script
---     lone_output      the text of one guest's own lines, over its functions alone
-use Rattle.std.specs.Prelude.{List, [], ◌∷◌, ◌+◌, ◌==◌, if◌then◌else◌, ◌++◌, flat_map, Option, Some, None, filter, drop, codes, filter_map}
+--     slots_now      a guest's slots after the lines so far
+--     output      the text that a script writes
+--     reply_lines      the lines of a text that speak to a guest
+--     lone_lines, lone_slots      what a guest's own lines write over its own functions alone, and what they leave there
+use Rattle.std.specs.Prelude.{List, [], ◌∷◌, ◌==◌, if◌then◌else◌, ◌++◌, Option, Some, None, filter, drop, codes, filter_map}
 use Rattle.std.specs.List.{starts_with}
 use Rattle.std.specs.Str.{bytes_eq}
-use Rattle.model_registers.specs.Registers.{number}
 use Rattle.model_guests.specs.Accesses.{Event, Reply, refused}
 use Rattle.model_guests.specs.LoneGuest.{Slots, answer, after_event, slots_after, reset_slots}
-use Rattle.model_guests.specs.Text.{Text, lines, words}
+use Rattle.model_guests.specs.Text.{Text, lines, words, text_of_lines}
 use Rattle.model_guests.specs.Grammar.{event_of, guest, host, Meaning, nothing, guest_event, host_read, bad, meaning, own_lines}
 use Rattle.model_guests.specs.World.{World, names, declarations}
 use Rattle.model_guests.specs.Agreement.{agreed_state}
@@ -43,15 +42,14 @@ output_after w before (l ∷ ls) = written_by w before (meaning (names w) l) ++ 
 abbrev pub output_lines : World → Text → List Text
 output_lines w script = output_after w [] (lines script)
 
--- each line ends with LF
 abbrev pub output : World → Text → Text
-output w script = flat_map (λ l. l ++ 10 ∷ []) (output_lines w script)
+output w script = text_of_lines (output_lines w script)
 
--- the output lines that begin with the name, a colon and a space
-abbrev pub reply_lines : Text → List Text → List Text
-reply_lines name ls = filter (λ l. starts_with ◌==◌ l (name ++ codes ": ")) ls
+-- the lines of a text that begin with the name, a colon and a space
+abbrev pub reply_lines : Text → Text → List Text
+reply_lines name text = filter (λ l. starts_with ◌==◌ l (name ++ codes ": ")) (lines text)
 
--- the reply to an own line, and the slots after it
+-- the reply to an own line, and the slots after it; a line that is no event is a bad line
 abbrev pub lone_reply : Slots → Option Event → Reply
 lone_reply slots None = refused 401
 lone_reply slots (Some e) = answer slots e
@@ -68,5 +66,13 @@ abbrev pub lone_output : Text → Slots → List Text → List Text
 lone_output name slots [] = []
 lone_output name slots (l ∷ ls) = line_text (guest name) (lone_reply slots (lone_event l)) ∷ lone_output name (lone_after slots (lone_event l)) ls
 
+abbrev pub lone_after_lines : Slots → List Text → Slots
+lone_after_lines slots [] = slots
+lone_after_lines slots (l ∷ ls) = lone_after_lines (lone_after slots (lone_event l)) ls
+
+-- a script of one guest, whose functions are all that there is
 abbrev pub lone_lines : World → Text → Text → List Text
 lone_lines w name script = lone_output name (reset_slots (declarations w name)) (own_lines name (lines script))
+
+abbrev pub lone_slots : World → Text → Text → Slots
+lone_slots w name script = lone_after_lines (reset_slots (declarations w name)) (own_lines name (lines script))

@@ -1,11 +1,14 @@
 -- Replies as text.
+--     hex_digits      a number in a fixed count of lower-case digits
+--     refusal_words      what each number of a refusal says
 --     reply_text, line_text      a reply; a reply under the name of who is told
-use Rattle.std.specs.Prelude.{[], ◌∷◌, ℕ, zero, suc, ◌+◌, ◌*◌, ◌/◌, ◌%◌, false, ◌==◌, if◌then◌else◌, ◌++◌, codes, decimal}
+use Rattle.std.specs.Prelude.{[], ◌∷◌, ℕ, zero, suc, ◌*◌, ◌/◌, ◌%◌, false, ◌==◌, if◌then◌else◌, ◌++◌, codes, decimal}
 use Rattle.std.specs.Fmt.{digit_glyph}
 use Rattle.model_guests.specs.Accesses.{Reply, answered, done, refused}
 use Rattle.model_guests.specs.Text.{Text}
-use Rattle.model_guests.specs.Grammar.{Who, guest, host, nobody, bad}
+use Rattle.model_guests.specs.Grammar.{Who, guest, host, nobody}
 
+-- the lowest k hexadecimal digits of n
 abbrev pub hex_digits : ℕ → ℕ → Text
 hex_digits zero n = []
 hex_digits (suc k) n = hex_digits k (n / 16) ++ digit_glyph false (n % 16) ∷ []

@@ -1,4 +1,7 @@
--- The text of `list`: functions, windows, interrupts and guests of a board.
+-- The report of a board that is set up: functions in path order with their regions and interrupts, windows, and guests.
+--     function_lines      an endpoint with its regions and its interrupt, or a bridge with its buses and windows
+--     slot_lines      the slots of a guest
+--     report      the whole text
 use Rattle.std.specs.Prelude.{List, [], ◌∷◌, ℕ, ◌-◌, zero, suc, ◌+◌, true, false, ◌++◌, flat_map, not, map, count_by, codes, decimal}
 use Rattle.std.specs.Fmt.{digits}
 use Rattle.std.specs.List.{join_with_byte}
@@ -10,13 +13,11 @@ use Rattle.model_board.specs.Interrupts.{root_pin}
 use Rattle.model_board.specs.Pools.{Pool, io_pool, mem_pool, pref_pool, unit_of, Apertures}
 use Rattle.model_board.specs.Placement.{Item, need, items_on, bus_first}
 use Rattle.model_board.specs.SetUp.{first_of}
-use Rattle.model_guests.specs.Text.{Text}
+use Rattle.model_guests.specs.Text.{Text, text_of_lines}
 use Rattle.model_guests.specs.World.{World}
 use Rattle.model_guests.specs.Replies.{hex_digits}
 
-abbrev pub pad : Text
-pad = codes "  "
-
+-- without leading zeros
 abbrev pub hexadecimal : ℕ → Text
 hexadecimal n = codes "0x" ++ digits 16 false n
 
@@ -26,6 +27,7 @@ part_text p = decimal p.device ++ codes "." ++ decimal p.function
 abbrev pub path_text : Path → Text
 path_text p = join_with_byte 47 (map part_text p)
 
+-- BB:DD.F
 abbrev pub address_text : Board → Path → Text
 address_text b p = hex_digits 2 (bus_of b p) ++ codes ":" ++ hex_digits 2 (last_part p).device ++ codes "." ++ decimal (last_part p).function
 
@@ -36,6 +38,7 @@ kind_text (mem32 true) = codes "mem32p"
 kind_text (mem64 false) = codes "mem64"
 kind_text (mem64 true) = codes "mem64p"
 
+-- INTA to INTD
 abbrev pub pin_text : ℕ → Text
 pin_text pin = codes "INT" ++ (64 + pin) ∷ []
 
@@ -50,14 +53,16 @@ abbrev pub root_device : Path → ℕ
 root_device [] = 0
 root_device (p ∷ ps) = p.device
 
+-- no line for pin 0
 abbrev pub pin_lines : Path → ℕ → List Text
 pin_lines p zero = []
 pin_lines p (suc n) = (codes "  irq " ++ pin_text (suc n) ++ codes " at " ++ decimal (root_device p) ++ codes " " ++ pin_text (root_pin p (suc n))) ∷ []
 
+-- no line for a window without items
 abbrev pub window_line : Text → Pool → ℕ → List Item → List Text
 window_line name pool first [] = []
 window_line name pool first (i ∷ is) =
-    (pad ++ name ++ codes " " ++ hexadecimal first ++ codes " " ++ hexadecimal (first + need (unit_of pool) (i ∷ is) - 1)) ∷ []
+    (codes "  " ++ name ++ codes " " ++ hexadecimal first ++ codes " " ++ hexadecimal (first + need (unit_of pool) (i ∷ is) - 1)) ∷ []
 
 abbrev pub window_lines : Board → Apertures → Path → Text → Pool → List Text
 window_lines b a p name pool = window_line name pool (bus_first b a pool p) (items_on b a pool p)
@@ -82,4 +87,4 @@ report_lines w =
     ++ flat_map (λ g. slot_lines g.name 0 g.slots) w.guests
 
 abbrev pub report : World → Text
-report w = flat_map (λ l. l ++ 10 ∷ []) (report_lines w)
+report w = text_of_lines (report_lines w)

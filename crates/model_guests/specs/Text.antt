@@ -1,6 +1,7 @@
--- Texts, cut into lines and words.
---     pieces, lines, words      a text cut at bytes of a kind
-use Rattle.std.specs.Prelude.{List, [], ◌∷◌, ℕ, Bool, ◌==◌, if◌then◌else◌, length, not, ◌||◌, filter}
+-- Texts, as bytes, cut into lines and words.
+--     lines, words      the parts of a text that LF ends; the parts of a line between space, tab and CR
+--     text_of_lines      lines put together, each ended by LF
+use Rattle.std.specs.Prelude.{List, [], ◌∷◌, ℕ, Bool, ◌==◌, ◌++◌, if◌then◌else◌, length, not, ◌||◌, filter, flat_map}
 
 abbrev pub Text : Type 0
 Text = List ℕ
@@ -14,9 +15,17 @@ abbrev pub pieces : (ℕ → Bool) → Text → List Text
 pieces ends [] = []
 pieces ends (c ∷ cs) = if ends c then [] ∷ pieces ends cs else onto c (pieces ends cs)
 
-abbrev pub lines : Text → List Text
-lines text = pieces (λ c. c == 10) text
+-- LF
+abbrev pub ends_line : ℕ → Bool
+ends_line c = c == 10
 
+abbrev pub lines : Text → List Text
+lines text = pieces ends_line text
+
+abbrev pub text_of_lines : List Text → Text
+text_of_lines ls = flat_map (λ l. l ++ 10 ∷ []) ls
+
+-- space, tab or CR
 abbrev pub is_blank : ℕ → Bool
 is_blank c = c == 32 || c == 9 || c == 13
 

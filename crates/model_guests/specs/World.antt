@@ -1,12 +1,15 @@
 -- A board with its apertures and guests.
 --     Guest, World      a name with the paths of its slots; a board, its apertures and guests
---     declarations      what a guest's slots hold
-use Rattle.std.specs.Prelude.{List, [], Option, Some, None, map, find}
+--     paths_of, declarations      the paths of a guest's slots, and what stands there
+--     HasLawfulNames, HasLawfulGuests, IsLawfulWorld      what holds of any board and guests that a board file gives
+use Rattle.std.specs.Prelude.{List, [], ◌∷◌, ℕ, Bool, false, ◌&&◌, ◌||◌, ◌+◌, ◌≤◌, ◌⊎◌, ⊤, length, not, nat_le, Option, Some, None, map, find, flat_map, codes, IsTrue, IsFalse, IsSome}
+use Rattle.std.specs.List.{list_all}
 use Rattle.std.specs.Option.{option_map_or}
 use Rattle.std.specs.Str.{bytes_eq}
-use Rattle.model_registers.specs.Declarations.{Endpoint}
+use Rattle.model_registers.specs.Lists.{Each, EachPair}
+use Rattle.model_registers.specs.Declarations.{HasLawfulRegions, ConfigBlock, Endpoint}
 use Rattle.model_board.specs.Paths.{Path, path_eq}
-use Rattle.model_board.specs.Board.{endpoint, bridge, Row, Board}
+use Rattle.model_board.specs.Board.{Decl, endpoint, bridge, Row, Board, IsBoard}
 use Rattle.model_board.specs.Pools.{Apertures}
 use Rattle.model_guests.specs.Text.{Text}
 
@@ -26,9 +29,59 @@ names w = map (λ g. g.name) w.guests
 abbrev pub endpoint_of : Row → Option Endpoint
 endpoint_of r = elim r.decl [ endpoint d ↦ Some d | bridge d ↦ None ]
 
+-- the endpoint that stands at a path
 abbrev pub declared : Board → Path → Option Endpoint
 declared b p = option_map_or endpoint_of (find (λ r. path_eq r.path p) b) None
 
--- the declarations of a guest's slots
+-- the paths of a guest's slots, slot 0 first
+abbrev pub paths_of : World → Text → List Path
+paths_of w name = option_map_or (λ (g : Guest). g.slots) (find (λ g. bytes_eq g.name name) w.guests) []
+
+-- what stands there
 abbrev pub declarations : World → Text → List (Option Endpoint)
-declarations w name = option_map_or (λ (g : Guest). map (declared w.board) g.slots) (find (λ g. bytes_eq g.name name) w.guests) []
+declarations w name = map (declared w.board) (paths_of w name)
+
+abbrev pub is_letter : ℕ → Bool
+is_letter c = nat_le 97 c && nat_le c 122
+
+abbrev pub is_name_byte : ℕ → Bool
+is_name_byte c = is_letter c || (nat_le 48 c && nat_le c 57)
+
+-- a lower-case letter, then at most 15 letters and digits; not `host`
+abbrev pub is_name : Text → Bool
+is_name [] = false
+is_name (c ∷ cs) = is_letter c && list_all is_name_byte cs && nat_le (length cs) 15 && not (bytes_eq (c ∷ cs) (codes "host"))
+
+abbrev pub HasLawfulNames : World → Type 0
+HasLawfulNames w = Each (λ n. IsTrue (is_name n)) (names w)
+
+-- the paths in all slots, guest after guest
+abbrev pub given_paths : World → List Path
+given_paths w = flat_map (λ g. g.slots) w.guests
+
+-- lawful names, none twice; at most 32 slots each, each with an endpoint of the board, and none in two slots
+pub record HasLawfulGuests (w : World) : Type 0 where
+  pub lawful_names : HasLawfulNames w
+  pub names_apart : EachPair (λ m n. IsFalse (bytes_eq m n)) (names w)
+  pub few_slots : Each (λ g. length g.slots ≤ 32) w.guests
+  pub endpoints : Each (λ p. IsSome (declared w.board p)) (given_paths w)
+  pub paths_apart : EachPair (λ p q. IsFalse (path_eq p q)) (given_paths w)
+
+-- the device's own registers lie from 40h on, and no two blocks of them have an offset in common
+abbrev pub BlocksApart : ConfigBlock → ConfigBlock → Type 0
+BlocksApart b c = (b.offset + length b.cells ≤ c.offset) ⊎ (c.offset + length c.cells ≤ b.offset)
+
+-- so no two registers of an endpoint stand at one place
+pub record HasLawfulPlaces (d : Endpoint) : Type 0 where
+  pub regions : HasLawfulRegions d.regions
+  pub blocks : Each (λ b. 0x40 ≤ b.offset) d.blocks
+  pub blocks_apart : EachPair BlocksApart d.blocks
+
+abbrev pub IsLawfulFunction : Decl → Type 0
+IsLawfulFunction (endpoint d) = HasLawfulPlaces d
+IsLawfulFunction (bridge d) = ⊤
+
+pub record IsLawfulWorld (w : World) : Type 0 where
+  pub board : IsBoard w.board
+  pub functions : Each (λ r. IsLawfulFunction r.decl) w.board
+  pub guests : HasLawfulGuests w

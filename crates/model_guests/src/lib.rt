@@ -1,16 +1,38 @@
 //! What guests, their scripts and replies are, as definitions, and laws about them.
 #![tactic(auto)]
 
-ghost use Rattle.model_guests.specs.World.{World};
-ghost use Rattle.model_guests.specs.Worlds.{HasLawfulNames, IsIsolated, TwoWorlds};
+ghost use Rattle.model_guests.specs.AgreementLaws.{AgreedStateAgrees, AgreedStateIsOnly, AgreesAtReset, ChangesOneFunction, CopiesNeverRise, RaisesAlike, WritesAlike};
+ghost use Rattle.model_guests.specs.Worlds.{Isolated, TwoWorlds};
 
 /// To each guest a script's replies are those of its own functions, as lone register files, to its
-/// own lines alone.
+/// own lines alone, and these lines alone decide what the files hold.
 pub fn isolated()
-    ensures { (w : World) → HasLawfulNames w → IsIsolated w }
+    ensures { Isolated }
 {}
 
 /// Boards and scripts that agree on a guest's functions and lines give it equal reply lines.
 pub fn two_worlds()
     ensures { TwoWorlds }
+{}
+
+/// Whatever the guests did, just one state of the board agrees with their files; before they did
+/// anything it is the state that set-up leaves.
+pub fn agreement_is_one()
+    ensures agrees { AgreedStateAgrees }
+    ensures is_only { AgreedStateIsOnly }
+    ensures at_reset { AgreesAtReset }
+{}
+
+/// When a guest's file changes, the agreed state changes at that function alone: a write or raise
+/// reaches it by the bytes of which the guest has no copy, and by no others.
+pub fn agreement_follows()
+    ensures writes { WritesAlike }
+    ensures raises { RaisesAlike }
+    ensures one_function { ChangesOneFunction }
+{}
+
+/// No device raises bits of the registers of which a guest has copies: a raise there changes nothing
+/// in the guest's file either.
+pub fn copies_never_rise()
+    ensures { CopiesNeverRise }
 {}

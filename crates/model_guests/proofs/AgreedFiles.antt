@@ -1,0 +1,203 @@
+-- The file that agrees with a guest's file: what it holds, that it is the only one, and how it changes.
+use Rattle.std.proofs.Common.{◌≡◌, ℕ, ◌/◌, ◌%◌, Bool, true, false, not, ◌&&◌, ◌||◌, cond, List, [], ◌∷◌, refl, sym, ap, ap₂, ◌∙◌, subst, arith, eqb}
+use Rattle.std.specs.Prelude.{IsFalse}
+use Rattle.std.specs.List.{list_any}
+use Rattle.std.specs.Int.Bits.{and_zero_r}
+use Rattle.std.proofs.lemmas.Bool.{eqb-true}
+use Rattle.std.proofs.lemmas.Bool.Decides.{nat_tests}
+use Rattle.model_registers.specs.Lists.{Each, EachPair}
+use Rattle.model_registers.specs.Cell.{Cell, no_cell, written, raised}
+use Rattle.model_registers.specs.Registers.{Place, config, block, place_eq, after, Entry, File, cell_at, changed, write, raise}
+use Rattle.model_registers.proofs.RegisterFiles.{change_at_place}
+use Rattle.model_registers.proofs.Tests.{left_true, right_true}
+use Rattle.model_guests.specs.OwnCopies.{is_own, handed_on}
+use Rattle.model_guests.specs.Agreement.{agreed_file}
+use Rattle.model_guests.proofs.DistinctPlaces.{HasDistinctPlaces}
+use Rattle.model_guests.specs.AgreementLaws.{places_of, HoldsFile, WritesAlike, RaisesAlike}
+
+-- ---- places
+
+pub same_place : (p q : Place) → place_eq p q ≡ true → p ≡ q
+same_place (config a) (config b) h = ap config (eqb-true a b h)
+same_place (block n a) (block m b) h = ap₂ block (eqb-true n m (left_true (eqb n m) (eqb a b) h)) (eqb-true a b (right_true (eqb n m) (eqb a b) h))
+same_place (config a) (block m b) h = cc
+same_place (block n a) (config b) h = cc
+
+pub place_self : (p : Place) → place_eq p p ≡ true
+place_self (config a) = grind (arith, nat_tests)
+place_self (block n a) = grind (arith, nat_tests)
+
+place_turned : (p q : Place) → place_eq p q ≡ place_eq q p
+place_turned (config a) (config b) = grind (arith, nat_tests)
+place_turned (block n a) (block m b) = grind (arith, nat_tests)
+place_turned (config a) (block m b) = refl
+place_turned (block n a) (config b) = refl
+
+other_place : (p q : Place) → is_own p ≡ true → is_own q ≡ false → place_eq p q ≡ false
+other_place p q h k = cases (place_eq p q) refl
+  where
+    cases : (t : Bool) → place_eq p q ≡ t → t ≡ false
+    cases false e = refl
+    cases true e = let same = ap is_own (same_place p q e) in cc
+
+-- ---- what the agreed file holds
+
+abbrev agreed_entry : File → Entry → Entry
+agreed_entry own e = cond (is_own e.place) e (record e { cell = cell_at own e.place })
+
+entry_place : (own : File) (e : Entry) (t : Bool) → is_own e.place ≡ t → (agreed_entry own e).place ≡ e.place
+entry_place own e true h = rw h
+entry_place own e false h = rw h
+
+pub agreed_places : (left own : File) → places_of (agreed_file left own) ≡ places_of left
+agreed_places [] own = refl
+agreed_places (e ∷ es) own = ap₂ (λ (p : Place) (ps : List Place). p ∷ ps) (entry_place own e (is_own e.place) refl) (agreed_places es own)
+
+-- a place of the guest's copies
+agreed_kept : (left own : File) (p : Place) → is_own p ≡ true → cell_at (agreed_file left own) p ≡ cell_at left p
+agreed_kept [] own p h = refl
+agreed_kept (e ∷ es) own p h = cases (is_own e.place) refl (place_eq e.place p) refl (agreed_kept es own p h)
+  where
+    cases : (t : Bool) → is_own e.place ≡ t → (u : Bool) → place_eq e.place p ≡ u → cell_at (agreed_file es own) p ≡ cell_at es p
+        → cell_at (agreed_file (e ∷ es) own) p ≡ cell_at (e ∷ es) p
+    cases true i u k more = rw i (ap (λ (c : Cell). cond (place_eq e.place p) e.cell c) more)
+    cases false i true k more = let same = ap is_own (same_place e.place p k) in cc
+    cases false i false k more = rw (i, k) more
+
+abbrev stands : Place → List Place → Bool
+stands p ps = list_any (λ q. place_eq q p) ps
+
+absent : (file : File) (p : Place) → stands p (places_of file) ≡ false → cell_at file p ≡ no_cell
+absent [] p h = refl
+absent (e ∷ es) p h = cases (place_eq e.place p) refl h (absent es p)
+  where
+    cases : (t : Bool) → place_eq e.place p ≡ t → (t || stands p (places_of es)) ≡ false → (stands p (places_of es) ≡ false → cell_at es p ≡ no_cell)
+        → cond t e.cell (cell_at es p) ≡ no_cell
+    cases true k h more = cc
+    cases false k h more = more h
+
+-- every other place
+agreed_where : (left own : File) (p : Place) → is_own p ≡ false → cell_at (agreed_file left own) p ≡ cond (stands p (places_of left)) (cell_at own p) no_cell
+agreed_where [] own p h = refl
+agreed_where (e ∷ es) own p h = cases (is_own e.place) refl (place_eq e.place p) refl (agreed_where es own p h)
+  where
+    cases : (t : Bool) → is_own e.place ≡ t → (u : Bool) → place_eq e.place p ≡ u → cell_at (agreed_file es own) p ≡ cond (stands p (places_of es)) (cell_at own p) no_cell
+        → cell_at (agreed_file (e ∷ es) own) p ≡ cond (u || stands p (places_of es)) (cell_at own p) no_cell
+    cases true i true k more = let same = ap is_own (same_place e.place p k) in cc
+    cases true i false k more = rw (i, k) more
+    cases false i true k more = rw (i, k) (ap (cell_at own) (same_place e.place p k))
+    cases false i false k more = rw (i, k) more
+
+agreed_shared : (left own : File) (p : Place) → places_of own ≡ places_of left → is_own p ≡ false → cell_at (agreed_file left own) p ≡ cell_at own p
+agreed_shared left own p same h = agreed_where left own p h ∙ cases (stands p (places_of left)) refl
+  where
+    cases : (t : Bool) → stands p (places_of left) ≡ t → cond t (cell_at own p) no_cell ≡ cell_at own p
+    cases true k = refl
+    cases false k = sym (absent own p (ap (stands p) same ∙ k))
+
+pub agreed_holds : (left own : File) → places_of own ≡ places_of left → HoldsFile left own (agreed_file left own)
+agreed_holds left own same = record {
+  places = agreed_places left own;
+  kept = λ p h. agreed_kept left own p h;
+  shared = λ p h. agreed_shared left own p same h;
+}
+
+-- ---- no other file holds that
+
+tail_cells : (e d : Entry) (es ds : File) → e.place ≡ d.place → (ps : List Place) → Each (λ p. IsFalse (place_eq e.place p)) ps
+    → Each (λ p. cell_at (e ∷ es) p ≡ cell_at (d ∷ ds) p) ps → Each (λ p. cell_at es p ≡ cell_at ds p) ps
+tail_cells e d es ds same [] apart cells = tt
+tail_cells e d es ds same (p ∷ ps) apart cells =
+    let first : place_eq e.place p ≡ false = apart.0 in
+    let second : place_eq d.place p ≡ false = ap (λ (q : Place). place_eq q p) (sym same) ∙ first in
+    (rw second at (rw first at cells.0), tail_cells e d es ds same ps apart.1 cells.1)
+
+-- files with the same places, none twice, and with the same cells there
+same_files : (f g : File) → places_of f ≡ places_of g → HasDistinctPlaces f → Each (λ p. cell_at f p ≡ cell_at g p) (places_of f) → f ≡ g
+same_files [] [] same distinct cells = refl
+same_files [] (d ∷ ds) same distinct cells = cc
+same_files (e ∷ es) [] same distinct cells = cc
+same_files (e ∷ es) (d ∷ ds) same distinct cells =
+    let place : e.place ≡ d.place = cc in
+    let places : places_of es ≡ places_of ds = cc in
+    let here : place_eq e.place e.place ≡ true = place_self e.place in
+    let there : place_eq d.place e.place ≡ true = ap (λ (q : Place). place_eq q e.place) (sym place) ∙ here in
+    let cell : e.cell ≡ d.cell = rw there at (rw here at cells.0) in
+    ap₂ (λ (x : Entry) (xs : File). x ∷ xs) (λ i. record { place = place i; cell = cell i })
+    (same_files es ds places distinct.1 (tail_cells e d es ds place (places_of es) distinct.0 cells.1))
+
+each_of : (P : Place → Type 0) → ((p : Place) → P p) → (ps : List Place) → Each P ps
+each_of P h [] = tt
+each_of P h (p ∷ ps) = (h p, each_of P h ps)
+
+pub only_file : (left own now : File) → HasDistinctPlaces left → HoldsFile left own now → now ≡ agreed_file left own
+only_file left own now distinct holds =
+    same_files now (agreed_file left own) (holds.places ∙ sym (agreed_places left own))
+    (subst (λ (ps : List Place). EachPair (λ p q. IsFalse (place_eq p q)) ps) (sym holds.places) distinct)
+    (each_of (λ p. cell_at now p ≡ cell_at (agreed_file left own) p) (λ p. cases p (is_own p) refl (stands p (places_of left)) refl) (places_of now))
+  where
+    cases : (p : Place) (t : Bool) → is_own p ≡ t → (u : Bool) → stands p (places_of left) ≡ u → cell_at now p ≡ cell_at (agreed_file left own) p
+    cases p true h u k = holds.kept p h ∙ sym (agreed_kept left own p h)
+    cases p false h true k = holds.shared p h ∙ sym (agreed_where left own p h ∙ ap (λ t. cond t (cell_at own p) no_cell) k)
+    cases p false h false k = absent now p (ap (stands p) holds.places ∙ k) ∙ sym (agreed_where left own p h ∙ ap (λ t. cond t (cell_at own p) no_cell) k)
+
+-- ---- changes
+
+-- a guest's copy is nothing of the board's
+own_entry : (f : Cell → Cell) → f no_cell ≡ no_cell → (p : Place) → is_own p ≡ true → (own : File) (e : Entry) (t : Bool) → is_own e.place ≡ t
+    → agreed_entry (changed f p own) e ≡ agreed_entry own e
+own_entry f none p h own e true i = rw i
+own_entry f none p h own e false i =
+    let apart : place_eq p e.place ≡ false = other_place p e.place h i in
+    let cell : cell_at (changed f p own) e.place ≡ cell_at own e.place = change_at_place f none own p e.place ∙ ap (λ t. cond t (f (cell_at own e.place)) (cell_at own e.place)) apart in
+    rw (i, cell)
+
+pub own_change : (f : Cell → Cell) → f no_cell ≡ no_cell → (p : Place) → is_own p ≡ true → (left own : File) → agreed_file left (changed f p own) ≡ agreed_file left own
+own_change f none p h [] own = refl
+own_change f none p h (e ∷ es) own = ap₂ (λ (x : Entry) (xs : File). x ∷ xs) (own_entry f none p h own e (is_own e.place) refl) (own_change f none p h es own)
+
+abbrev changed_entry : (Cell → Cell) → Place → Entry → Entry
+changed_entry f p e = cond (place_eq e.place p) (record e { cell = f e.cell }) e
+
+board_entry : (f : Cell → Cell) → f no_cell ≡ no_cell → (p : Place) → is_own p ≡ false → (own : File) (e : Entry) (t : Bool) → is_own e.place ≡ t → (u : Bool) → place_eq e.place p ≡ u
+    → agreed_entry (changed f p own) e ≡ changed_entry f p (agreed_entry own e)
+board_entry f none p h own e true i true k = let same = ap is_own (same_place e.place p k) in cc
+board_entry f none p h own e true i false k = rw (i, k)
+board_entry f none p h own e false i u k =
+    let turned : place_eq p e.place ≡ u = place_turned p e.place ∙ k in
+    let cell : cell_at (changed f p own) e.place ≡ cond u (f (cell_at own e.place)) (cell_at own e.place) = change_at_place f none own p e.place ∙ ap (λ t. cond t (f (cell_at own e.place)) (cell_at own e.place)) turned in
+    rw (i, cell, k) (by_test u)
+  where
+    by_test : (t : Bool) → record e { cell = cond t (f (cell_at own e.place)) (cell_at own e.place) } ≡ cond t (record e { cell = f (cell_at own e.place) }) (record e { cell = cell_at own e.place })
+    by_test true = refl
+    by_test false = refl
+
+pub board_change : (f : Cell → Cell) → f no_cell ≡ no_cell → (p : Place) → is_own p ≡ false → (left own : File) → agreed_file left (changed f p own) ≡ changed f p (agreed_file left own)
+board_change f none p h [] own = refl
+board_change f none p h (e ∷ es) own =
+    ap₂ (λ (x : Entry) (xs : File). x ∷ xs) (board_entry f none p h own e (is_own e.place) refl (place_eq e.place p) refl) (board_change f none p h es own)
+
+written_nothing : (b : ℕ) → written b no_cell ≡ no_cell
+written_nothing b = rw (and_zero_r b)
+
+raised_nothing : (m : ℕ) → raised m no_cell ≡ no_cell
+raised_nothing m = rw (and_zero_r m)
+
+pub writes_alike : WritesAlike
+writes_alike [] v p left own = refl
+writes_alike (on ∷ ons) v p left own =
+    writes_alike ons (v / 256) (after p) left (cond on (changed (written (v % 256)) p own) own)
+    ∙ ap (write (handed_on (after p) ons) (v / 256) (after p)) (first on (is_own p) refl)
+  where
+    first : (on t : Bool) → is_own p ≡ t
+        → agreed_file left (cond on (changed (written (v % 256)) p own) own) ≡ cond (on && not t) (changed (written (v % 256)) p (agreed_file left own)) (agreed_file left own)
+    first false t h = refl
+    first true true h = own_change (written (v % 256)) (written_nothing (v % 256)) p h left own
+    first true false h = board_change (written (v % 256)) (written_nothing (v % 256)) p h left own
+
+pub raises_alike : RaisesAlike
+raises_alike m p left own = cases (is_own p) refl
+  where
+    cases : (t : Bool) → is_own p ≡ t → agreed_file left (raise m p own) ≡ cond t (agreed_file left own) (raise m p (agreed_file left own))
+    cases true h = own_change (raised m) (raised_nothing m) p h left own
+    cases false h = board_change (raised m) (raised_nothing m) p h left own

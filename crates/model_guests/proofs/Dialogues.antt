@@ -1,0 +1,38 @@
+-- Scripts with what they write, line by line.
+--     ◌▷◌      a line of a script, and the line that it writes
+--     Shows      on a board with its guests
+--     Dialogue      the same, and each guest's own lines say the same over its functions alone
+use Prim.Native.String.{String}
+use Rattle.std.specs.Prelude.{List, ◌≡◌, map, filter, codes}
+use Rattle.model_registers.specs.Lists.{Each}
+use Rattle.model_guests.specs.Text.{Text, text_of_lines}
+use Rattle.model_guests.specs.Grammar.{is_own_line}
+use Rattle.model_guests.specs.LoneGuest.{reset_slots}
+use Rattle.model_guests.specs.World.{Guest, World, declarations}
+use Rattle.model_guests.specs.Output.{output, lone_output}
+
+pub record Exchange : Type 0 where
+  pub line : Text
+  pub reply : Text
+
+infix 70 ◌▷◌
+abbrev pub ◌▷◌ : String → String → Exchange
+line ▷ reply = record { line = codes line; reply = codes reply }
+
+abbrev pub lines_of : List Exchange → List Text
+lines_of es = map (λ e. e.line) es
+
+abbrev pub replies_of : List Exchange → List Text
+replies_of es = map (λ e. e.reply) es
+
+abbrev pub Shows : World → List Exchange → Type 0
+Shows w es = output w (text_of_lines (lines_of es)) ≡ text_of_lines (replies_of es)
+
+abbrev pub own_exchanges : Text → List Exchange → List Exchange
+own_exchanges name es = filter (λ e. is_own_line name e.line) es
+
+abbrev pub ShowsAlone : World → List Exchange → Guest → Type 0
+ShowsAlone w es g = lone_output g.name (reset_slots (declarations w g.name)) (lines_of (own_exchanges g.name es)) ≡ replies_of (own_exchanges g.name es)
+
+abbrev pub Dialogue : World → List Exchange → Type 0
+Dialogue w es = Shows w es × Each (ShowsAlone w es) w.guests

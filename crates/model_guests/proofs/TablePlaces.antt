@@ -1,0 +1,154 @@
+-- The table of an endpoint after set-up and at reset: the same places, and the same cells but for those of which a guest has copies.
+use Rattle.std.proofs.Common.{◌≡◌, ℕ, zero, suc, ◌+◌, ◌*◌, ◌/◌, ◌≤◌, ◌<◌, Bool, true, false, cond, List, [], ◌∷◌, ◌++◌, refl, sym, ap, ap₂, ◌∙◌, arith}
+use Rattle.std.specs.Prelude.{flat_map, ⊤, IsFalse}
+use Rattle.std.proofs.lemmas.Bool.Decides.{nat_tests}
+use Rattle.model_registers.specs.Lists.{Each}
+use Rattle.model_registers.specs.Cell.{Cell}
+use Rattle.model_registers.specs.Registers.{Place, config, place_eq, Entry, File, cell_at, field}
+use Rattle.model_registers.specs.Declarations.{Kind, io_kind, mem32, mem64, registers_of, Region, Endpoint, IsLawfulRegion}
+use Rattle.model_registers.specs.EndpointTable.{base_cells, region_cells, block_cells, header_cells, config_cells, endpoint_file, endpoint_reset}
+use Rattle.model_guests.specs.OwnCopies.{is_own}
+use Rattle.model_guests.specs.Agreement.{agreed_file}
+use Rattle.model_guests.proofs.DistinctPlaces.{HasDistinctPlaces}
+use Rattle.model_guests.specs.AgreementLaws.{places_of}
+use Rattle.model_guests.proofs.AgreedFiles.{place_self}
+
+-- entry by entry: the same place, and the same cell unless the guest has a copy of it
+pub record AlikeEntries (own left : Entry) : Type 0 where
+  pub place : own.place ≡ left.place
+  pub cell : is_own left.place ≡ false → own.cell ≡ left.cell
+
+abbrev pub Alike : File → File → Type 0
+Alike [] [] = ⊤
+Alike [] (l ∷ ls) = ⊥
+Alike (o ∷ os) [] = ⊥
+Alike (o ∷ os) (l ∷ ls) = AlikeEntries o l × Alike os ls
+
+alike_append : (a b c d : File) → Alike a b → Alike c d → Alike (a ++ c) (b ++ d)
+alike_append [] [] c d h k = k
+alike_append [] (l ∷ ls) c d h k = absurd h
+alike_append (o ∷ os) [] c d h k = absurd h
+alike_append (o ∷ os) (l ∷ ls) c d h k = (h.0, alike_append os ls c d h.1 k)
+
+alike_self : (file : File) → Alike file file
+alike_self [] = tt
+alike_self (e ∷ es) = (record { place = refl; cell = λ h. refl }, alike_self es)
+
+pub alike_places : (a b : File) → Alike a b → places_of a ≡ places_of b
+alike_places [] [] h = refl
+alike_places [] (l ∷ ls) h = absurd h
+alike_places (o ∷ os) [] h = absurd h
+alike_places (o ∷ os) (l ∷ ls) h = ap₂ (λ (p : Place) (ps : List Place). p ∷ ps) h.0.place (alike_places os ls h.1)
+
+base_is_own : (a : ℕ) → 0x10 ≤ a → a < 0x28 → is_own (config a) ≡ true
+base_is_own a h k = grind (arith, nat_tests)
+
+-- a register of which the guest has a copy, with two values
+alike_registers : (w a v u m c : ℕ) → 0x10 ≤ a → a + w ≤ 0x28 → Alike (field (config a) w v m c) (field (config a) w u m c)
+alike_registers zero a v u m c h k = tt
+alike_registers (suc w) a v u m c h k =
+    let own : is_own (config a) ≡ true = base_is_own a h (omega arith) in
+    (record { place = refl; cell = λ e. absurd_own own e }, alike_registers w (a + 1) (v / 256) (u / 256) (m / 256) (c / 256) (omega arith) (omega arith))
+  where
+    absurd_own : {A : Type 0} → is_own (config a) ≡ true → is_own (config a) ≡ false → A
+    absurd_own h k = cc
+
+alike_bases : (n : ℕ) (kind : Kind) (size b c : ℕ) → n + registers_of kind ≤ 6 → Alike (base_cells n kind size b) (base_cells n kind size c)
+alike_bases n io_kind size b c h = alike_registers 4 (0x10 + 4 * n) _ _ _ 0 (omega arith) (omega arith)
+alike_bases n (mem32 pref) size b c h = alike_registers 4 (0x10 + 4 * n) _ _ _ 0 (omega arith) (omega arith)
+alike_bases n (mem64 pref) size b c h = alike_registers 8 (0x10 + 4 * n) _ _ _ 0 (omega arith) (omega arith)
+
+alike_regions : (bases : Region → ℕ) (rs : List Region) → Each IsLawfulRegion rs → Alike (flat_map (region_cells (λ r. 0)) rs) (flat_map (region_cells bases) rs)
+alike_regions bases [] all = tt
+alike_regions bases (r ∷ rs) all =
+    alike_append (region_cells (λ r. 0) r) (region_cells bases r) _ _
+    (alike_append (base_cells r.index r.kind r.size 0) (base_cells r.index r.kind r.size (bases r)) _ _ (alike_bases r.index r.kind r.size 0 (bases r) all.0.registers) (alike_self _))
+    (alike_regions bases rs all.1)
+
+same_entry : {e : Entry} → AlikeEntries e e
+same_entry = record { place = refl; cell = λ h. refl }
+
+own_entry : {a : ℕ} {c d : Cell} → is_own (config a) ≡ true → AlikeEntries (record { place = config a; cell = c }) (record { place = config a; cell = d })
+own_entry own = record { place = refl; cell = λ h. cc }
+
+-- Command at 04h and 05h, and the header type at 0Eh
+alike_headers : (d : Endpoint) (shared : Bool) (command : ℕ) → Alike (header_cells d false 0) (header_cells d shared command)
+alike_headers d shared command = (
+  same_entry,
+  (
+    same_entry,
+    (
+      same_entry,
+      (
+        same_entry,
+        (
+          own_entry refl,
+          (
+            own_entry refl,
+            (
+              same_entry,
+              (
+                same_entry,
+                (
+                  same_entry,
+                  (
+                    same_entry,
+                    (
+                      same_entry,
+                      (
+                        same_entry,
+                        (
+                          same_entry,
+                          (
+                            same_entry,
+                            (
+                              own_entry refl,
+                              (same_entry, (same_entry, (same_entry, (same_entry, (same_entry, (same_entry, (same_entry, (same_entry, tt)))))))),
+                            ),
+                          ),
+                        ),
+                      ),
+                    ),
+                  ),
+                ),
+              ),
+            ),
+          ),
+        ),
+      ),
+    ),
+  ),
+)
+
+pub alike_tables : (d : Endpoint) (shared : Bool) (command : ℕ) (bases : Region → ℕ) → Each IsLawfulRegion d.regions
+    → Alike (endpoint_reset d false) (endpoint_file d shared command bases)
+alike_tables d shared command bases registers =
+    alike_append (config_cells d false 0) (config_cells d shared command) _ _
+    (alike_append (header_cells d false 0) (header_cells d shared command) _ _ (alike_headers d shared command) (alike_self (flat_map block_cells d.blocks)))
+    (alike_regions bases d.regions registers)
+
+-- ---- a file at reset, put into the table that set-up left
+
+-- where no place stands twice, each entry is found by its place
+found_entries : (file : File) → HasDistinctPlaces file → Each (λ e. cell_at file e.place ≡ e.cell) file
+found_entries [] distinct = tt
+found_entries (e ∷ es) distinct = (rw (place_self e.place), later es distinct.0 (found_entries es distinct.1))
+  where
+    later : (ds : File) → Each (λ p. IsFalse (place_eq e.place p)) (places_of ds) → Each (λ d. cell_at es d.place ≡ d.cell) ds → Each (λ d. cell_at (e ∷ es) d.place ≡ d.cell) ds
+    later [] apart found = tt
+    later (d ∷ ds) apart found = let other : place_eq e.place d.place ≡ false = apart.0 in (rw other found.0, later ds apart.1 found.1)
+
+agreed_entries : (full own left : File) → Alike own left → Each (λ e. cell_at full e.place ≡ e.cell) own → agreed_file left full ≡ left
+agreed_entries full [] [] alike found = refl
+agreed_entries full [] (l ∷ ls) alike found = absurd alike
+agreed_entries full (o ∷ os) [] alike found = absurd alike
+agreed_entries full (o ∷ os) (l ∷ ls) alike found = ap₂ (λ (e : Entry) (es : File). e ∷ es) (here (is_own l.place) refl) (agreed_entries full os ls alike.1 found.1)
+  where
+    here : (t : Bool) → is_own l.place ≡ t → cond t l (record l { cell = cell_at full l.place }) ≡ l
+    here true h = refl
+    here false h =
+        let cell : cell_at full l.place ≡ l.cell = ap (cell_at full) (sym alike.0.place) ∙ found.0 ∙ alike.0.cell h in
+        ap (λ (c : Cell). record l { cell = c }) cell
+
+pub agreed_at_reset : (own left : File) → HasDistinctPlaces own → Alike own left → agreed_file left own ≡ left
+agreed_at_reset own left distinct alike = agreed_entries own own left alike (found_entries own distinct)

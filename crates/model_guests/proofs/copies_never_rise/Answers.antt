@@ -1,0 +1,5 @@
+use Rattle.model_guests.proofs.CopiesNeverRise as rises
+use Rattle.model_guests.proofs.copies_never_rise.Goals as goal
+
+pub returns : goal.returns
+returns c = rises.copies_never_rise
