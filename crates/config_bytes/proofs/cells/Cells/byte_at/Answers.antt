@@ -1,0 +1,8 @@
+use Rattle.config_bytes.proofs.Tables.{IsConfigFile-view}
+use Rattle.config_bytes.proofs.cells.Cells.byte_at.Goals as goal
+
+pub returns-then-enabled-clause-places : goal.returns-then-enabled-clause-places
+returns-then-enabled-clause-places c = IsConfigFile-view c.self.inside.table.items c.self.inside.initial.items c.args.self.now c.self.view_is
+
+pub returns-else-enabled-clause-places : goal.returns-else-enabled-clause-places
+returns-else-enabled-clause-places c = IsConfigFile-view c.self.inside.table.items c.self.inside.initial.items c.args.self.now c.self.view_is

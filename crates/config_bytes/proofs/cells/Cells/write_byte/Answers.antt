@@ -1,0 +1,39 @@
+use Rattle.std.proofs.Common.{◌≡◌, true, false, ◌∙◌, refl}
+use Rattle.std.proofs.Math.ListN.{set}
+use Rattle.std.proofs.lemmas.List.{length-set}
+use Rattle.model_registers.specs.Cell.{written}
+use Rattle.config_bytes.proofs.Tables.{ChangesAt, written-no_cell, put_changes, IsTable-changed, IsConfigFile-from, IsConfigFile-view, view_changes, view_past, view_past_if}
+use Rattle.config_bytes.proofs.cells.Cells.write_byte.Goals as goal
+use Rattle.config_bytes.proofs.cells.Cells.write_byte.Goals.{else-at-len-via-then-at-len+else-enabled, else-at-len-via-else-at-len}
+
+changes : (c : goal.After-self-1) → ChangesAt (written c.args.byte) c.args.off c.self.inside.table.items (set c.self.inside.table.items c.from-at.result c.written.result)
+changes c =
+    put_changes (written c.args.byte) c.self.inside.table.items c.len.result c.from-at.result c.args.off c.written.result c.index.result.now
+    (c.len.ensures ∙ c.self.inside.table.ok.0) c.from-at.ensures c.if-at-len.true c.index.ensures c.written.ensures
+
+pub invariant_of-self : goal.invariant_of-self
+invariant_of-self c =
+    IsTable-changed (written c.args.byte) c.args.off c.self.inside.table.items (set c.self.inside.table.items c.from-at.result c.written.result)
+    c.self.inside.initial.items (written-no_cell c.args.byte) (length-set c.self.inside.table.items c.from-at.result c.written.result) (changes c) c.self.invariant
+
+pub returns-then-enabled-clause-cells : goal.returns-then-enabled-clause-cells
+returns-then-enabled-clause-cells c =
+    let on : c.args.enabled ≡ true = c.if-enabled.true in
+    rw on (view_changes (written c.args.byte) c.self.inside.table.items (set c.self.inside.table.items c.from-at.result c.written.result)
+    c.self.inside.initial.items c.args.off c.args.self.now (changes c) c.self.view_is)
+
+pub returns-else-at-len-clause-cells : goal.returns-else-at-len-clause-cells
+returns-else-at-len-clause-cells c =
+    elim c.else-at-len.branch [
+      | else-at-len-via-then-at-len+else-enabled w ↦ let off : c.args.enabled ≡ false = w.if-enabled.false in rw off refl
+      | else-at-len-via-else-at-len w ↦ view_past_if c.args.enabled (written c.args.byte) c.args.off c.args.self.now
+          (view_past (written c.args.byte) c.self.inside.table.items c.self.inside.initial.items c.len.result c.from-at.result c.args.off c.args.self.now
+          (written-no_cell c.args.byte) (c.len.ensures ∙ c.self.inside.table.ok.0) c.from-at.ensures w.if-at-len.false c.self.view_is)
+    ]
+
+pub returns-then-enabled-clause-places : goal.returns-then-enabled-clause-places
+returns-then-enabled-clause-places c =
+    IsConfigFile-from (set c.self.inside.table.items c.from-at.result c.written.result) c.self.inside.initial.items
+
+pub returns-else-at-len-clause-places : goal.returns-else-at-len-clause-places
+returns-else-at-len-clause-places c = IsConfigFile-view c.self.inside.table.items c.self.inside.initial.items c.args.self.now c.self.view_is

@@ -1,0 +1,46 @@
+-- A file of cells by configuration offset.
+--     CellFile      the cells as they are, and as they were made
+--     file_of cs      offsets with cells, as a register file
+--     HasDistinctOffsets cs      no two cells stand at one offset
+--     offsets_from a cs      cells at the offsets from a on
+--     IsTable      a table by offset shows the cells of a file: no access looks at all of them
+use Rattle.std.specs.Prelude.{◌≡◌, ◌≢◌, ◌<◌, ℕ, ◌+◌, List, [], ◌∷◌, length, slice_set, slice_index_or}
+use Rattle.model_registers.specs.Lists.{Each, EachPair}
+use Rattle.model_registers.specs.Cell.{Cell, no_cell}
+use Rattle.model_registers.specs.Registers.{config, File, cell_at}
+
+pub record CellFile : Type 0 where
+  pub now : File
+  pub initial : File
+
+abbrev pub file_of : List (ℕ × Cell) → File
+file_of [] = []
+file_of (c ∷ cs) = record { place = config c.0; cell = c.1 } ∷ file_of cs
+
+abbrev pub HasDistinctOffsets : List (ℕ × Cell) → Type 0
+HasDistinctOffsets cs = EachPair (λ c d. c.0 ≢ d.0) cs
+
+-- cells one after the other, from an offset on
+abbrev pub offsets_from : ℕ → List Cell → List (ℕ × Cell)
+offsets_from a [] = []
+offsets_from a (c ∷ cs) = (a, c) ∷ offsets_from (a + 1) cs
+
+-- the cell that a table holds at an offset
+abbrev pub table_at : List Cell → ℕ → Cell
+table_at table off = slice_index_or table off no_cell
+
+-- the table's cells, at the offsets and in the order of a list
+abbrev pub file_from : List Cell → List (ℕ × Cell) → File
+file_from table [] = []
+file_from table (c ∷ cs) = record { place = config c.0; cell = table_at table c.0 } ∷ file_from table cs
+
+-- a table after each cell of a list is put at its offset
+abbrev pub placed : List (ℕ × Cell) → List Cell → List Cell
+placed [] table = table
+placed (c ∷ cs) table = placed cs (slice_set table c.0 c.1)
+
+-- the table has room for the offsets of the list, and shows their file at every offset
+pub record IsTable (table : List Cell) (cs : List (ℕ × Cell)) : Type 0 where
+  pub distinct : HasDistinctOffsets cs
+  pub room : Each (λ c. c.0 < length table) cs
+  pub shows : (off : ℕ) → table_at table off ≡ cell_at (file_from table cs) (config off)

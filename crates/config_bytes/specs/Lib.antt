@@ -1,0 +1,2 @@
+pub mod CellFile
+pub mod OffsetLaws

@@ -1,0 +1,162 @@
+//! The cells of one function's configuration space, or of one region's block.
+ghost use Rattle.std.specs.Prelude.{◌≡◌, ◌<◌, ◌%◌, ◌^◌, All, IfOk, length, if◌then◌else◌};
+ghost use Rattle.model_registers.specs.Cell.{written};
+ghost use Rattle.model_registers.specs.Lists.{Each};
+ghost use Rattle.model_registers.specs.Registers.{config, changed, read, write, raise, cell_at};
+ghost use Rattle.model_registers.specs.ByteEnables.{enabled_bytes, is_enabled, lanes};
+ghost use Rattle.model_registers.specs.FileLaws.{IsConfigFile};
+ghost use Rattle.config_bytes.specs.CellFile.{HasDistinctOffsets, file_of, placed};
+
+use crate::cell::Cell;
+use byteorder::{ByteOrder, LittleEndian};
+use std::alloc::{AllocError, Global};
+use std::marker::Model;
+
+/// Cells by offset, and what they were at the beginning (PCI Local Bus 3.0, chapter 6). An offset
+/// without a cell reads 0, and drops writes and raises. Only `new` takes memory.
+///
+/// Every access of the simulator ends here. So the cells stand in a table by offset, where an access
+/// finds its bytes at once, however many cells there are: no list is searched. A gap of the table holds
+/// a cell that reads 0 and never changes, so no access asks whether an offset has a cell. `initial`
+/// holds the offsets in the order given, for the file that callers see, and the cells for `reset`.
+#[derive(Drop)]
+pub struct Cells {
+    table: Vec<Cell>,
+    initial: Vec<(u16, Cell)>,
+}
+
+impl Model for Cells {
+    ghost use Rattle.config_bytes.specs.CellFile.{CellFile, IsTable, file_from, file_of};
+
+    ghost Value = { CellFile };
+
+    ghost view = { λ f. record { now = file_from f.table.items f.initial.items; initial = file_of f.initial.items } };
+
+    ghost invariant = { λ f. IsTable f.table.items f.initial.items };
+}
+
+/// Whether the byte lane is enabled.
+fn is_enabled(be: u8, lane: u8) -> bool
+    requires { lane < 4 }
+    ensures { result ≡ is_enabled be lane }
+{
+    (be >> lane) & 1 == 1
+}
+
+/// A length that has room for each offset.
+fn table_length(cells: &[(u16, Cell)]) -> usize
+    ensures { All (λ c. c.0 < result) cells.now }
+{
+    cells
+        .iter()
+        .map(|(off, _)| usize::from(*off) + 1)
+        .max()
+        .unwrap_or(0)
+}
+
+/// Puts each cell into the table at its offset.
+fn place(table: &mut [Cell], cells: &[(u16, Cell)])
+    requires { Each (λ c. c.0 < length table.old) cells.now }
+    ensures { table.new ≡ placed cells.now table.old }
+{
+    for (off, cell) in cells {
+        table[usize::from(*off)] = *cell;
+    }
+}
+
+impl Cells {
+    /// The cells at these offsets, 0 to 65535 in any order, of which no two are the same. The table has
+    /// a cell for each offset up to the highest.
+    pub fn new(alloc: Global, cells: &[(u16, Cell)]) -> Result<Cells, AllocError>
+        requires { HasDistinctOffsets cells.now }
+        ensures cells { IfOk result (λ f. f ≡ record { now = file_of cells.now; initial = file_of cells.now }) }
+        ensures places { IfOk result (λ f. IsConfigFile f.now) }
+    {
+        let initial = Vec::from_slice(alloc, cells)?;
+        let mut table = vec![in alloc; Cell::fixed(0); table_length(cells)]?;
+        place(table.as_mut_slice(), cells);
+        Ok(Cells { table, initial })
+    }
+
+    /// The byte at an offset, where it is enabled, else 0.
+    fn byte_at(&self, off: u16, enabled: bool) -> u8
+        ensures byte { result ≡ (if enabled then (cell_at self.now.now (config off)).value else 0) }
+        ensures places { IsConfigFile self.now.now }
+    {
+        let value = self
+            .table
+            .get(usize::from(off))
+            .map_or(0, |cell| cell.value());
+        if enabled { value } else { 0 }
+    }
+
+    /// The little-endian word at `off`, a multiple of 4. Bit n of `be`, 0 to 3, enables the byte at
+    /// `off + n` (PCI Local Bus 3.0, chapter 3.2.2); a byte that is not enabled reads 0.
+    pub fn read(&self, off: u16, be: u8) -> u32
+        requires { off % 4 ≡ 0 }
+        ensures word { result ≡ read self.now.now (config off) (lanes be) }
+        ensures enabled { result ≡ enabled_bytes (lanes be) result }
+
+        // A register of 16 bits in the low half of a word fits its type.
+        ensures low { be < 4 → result < 2 ^ 16 }
+        ensures places { IsConfigFile self.now.now }
+    {
+        let bytes = [
+            self.byte_at(off, is_enabled(be, 0)),
+            self.byte_at(off + 1, is_enabled(be, 1)),
+            self.byte_at(off + 2, is_enabled(be, 2)),
+            self.byte_at(off + 3, is_enabled(be, 3)),
+        ];
+        LittleEndian::read_u32(&bytes)
+    }
+
+    /// Writes a byte to the cell at an offset, where it is enabled.
+    fn write_byte(&mut self, off: u16, enabled: bool, byte: u8)
+        ensures cells { self.new ≡ record self.old {
+          now =
+              if enabled then changed (written byte) (config off) self.old.now else self.old.now;
+        } }
+        ensures places { IsConfigFile self.new.now }
+    {
+        let at = usize::from(off);
+        if at < self.table.len() && enabled {
+            self.table[at] = self.table[at].written(byte);
+        }
+    }
+
+    /// Writes the bytes of the little-endian `data` that `be` enables, at `off`, a multiple of 4. Each
+    /// changes its cell by the cell's masks, and all other cells stay.
+    pub fn write(&mut self, off: u16, be: u8, data: u32)
+        requires { off % 4 ≡ 0 }
+        ensures cells { self.new ≡ record self.old { now = write (lanes be) «data» (config off) self.old.now } }
+        ensures places { IsConfigFile self.new.now }
+    {
+        let mut bytes = [0; 4];
+        LittleEndian::write_u32(&mut bytes, data);
+        let [first, second, third, fourth] = bytes;
+        self.write_byte(off, is_enabled(be, 0), first);
+        self.write_byte(off + 1, is_enabled(be, 1), second);
+        self.write_byte(off + 2, is_enabled(be, 2), third);
+        self.write_byte(off + 3, is_enabled(be, 3), fourth);
+    }
+
+    /// Raises the bits of `mask` that writing a one clears, in the cell at `off`. All other cells
+    /// stay.
+    pub fn raise(&mut self, off: u16, mask: u8)
+        ensures cells { self.new ≡ record self.old { now = raise mask (config off) self.old.now } }
+        ensures places { IsConfigFile self.new.now }
+    {
+        let at = usize::from(off);
+        if at < self.table.len() {
+            self.table[at] = self.table[at].raised(mask);
+        }
+    }
+
+    /// Goes back to the cells that `new` was given.
+    pub fn reset(&mut self)
+        ensures cells { self.new ≡ record self.old { now = self.old.initial } }
+        ensures places { IsConfigFile self.new.now }
+    {
+        place(self.table.as_mut_slice(), self.initial.as_slice());
+    }
+}

@@ -1,0 +1,27 @@
+//! The cells of configuration space and of regions, and files of them (PCI Local Bus 3.0, chapter 6).
+#![tactic(auto)]
+
+ghost use Rattle.config_bytes.specs.OffsetLaws.{FileOfAppend, FileOfOffsets, FileOfConfig, WithinWider, WithinAppend, WithinOffsets, DistinctAppend, DistinctPush, DistinctOffsets};
+
+mod cell;
+mod cells;
+mod lanes;
+#[cfg(test)]
+mod tests;
+
+pub use cell::{Cell, CellFault};
+pub use cells::Cells;
+pub use lanes::{enables_of, from_lanes, into_lanes};
+
+/// Lists of offsets with cells: the files that they are, and when no two cells stand at one offset.
+pub fn lists_of_offsets()
+    ensures file_of_append { FileOfAppend }
+    ensures file_of_offsets { FileOfOffsets }
+    ensures file_of_config { FileOfConfig }
+    ensures within_wider { WithinWider }
+    ensures within_append { WithinAppend }
+    ensures within_offsets { WithinOffsets }
+    ensures distinct_append { DistinctAppend }
+    ensures distinct_push { DistinctPush }
+    ensures distinct_offsets { DistinctOffsets }
+{}
