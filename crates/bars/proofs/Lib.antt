@@ -1,0 +1,5 @@
+pub mod Powers
+pub mod Regions
+pub mod Splits
+pub mod Decodes
+pub mod Masks

@@ -1,0 +1,5 @@
+pub mod Kinds
+pub mod Resets
+pub mod Slots
+pub mod Parts
+pub mod Hits
