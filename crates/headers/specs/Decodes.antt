@@ -1,0 +1,40 @@
+-- The words of the program and of the definitions for the decode of a bridge's windows.
+--     io_decode_of, named_io_decode      of the I/O window, from the program's word and back
+--     pref_decode_of, named_pref_decode      of the prefetchable window
+--     bridge_of      a bridge with these declared values
+use Rattle.std.specs.Prelude.{ℕ}
+use Rattle.model_registers.specs.Declarations.{no_io, io16, io32, no_pref, pref32, pref64}
+use Rattle.model_registers.specs.Declarations as model
+use Rattle.headers.specs.declared.decodes.IoDecode.{IoDecode}
+use Rattle.headers.specs.declared.decodes.IoDecode.TheVariants as io
+use Rattle.headers.specs.declared.decodes.PrefDecode.{PrefDecode}
+use Rattle.headers.specs.declared.decodes.PrefDecode.TheVariants as pref
+
+abbrev pub io_decode_of : IoDecode → model.IoDecode
+io_decode_of io.Unimplemented = no_io
+io_decode_of io.Bits16 = io16
+io_decode_of io.Bits32 = io32
+
+abbrev pub named_io_decode : model.IoDecode → IoDecode
+named_io_decode no_io = io.Unimplemented
+named_io_decode io16 = io.Bits16
+named_io_decode io32 = io.Bits32
+
+abbrev pub pref_decode_of : PrefDecode → model.PrefDecode
+pref_decode_of pref.Unimplemented = no_pref
+pref_decode_of pref.Bits32 = pref32
+pref_decode_of pref.Bits64 = pref64
+
+abbrev pub named_pref_decode : model.PrefDecode → PrefDecode
+named_pref_decode no_pref = pref.Unimplemented
+named_pref_decode pref32 = pref.Bits32
+named_pref_decode pref64 = pref.Bits64
+
+abbrev pub bridge_of : ℕ → ℕ → ℕ → IoDecode → PrefDecode → model.Bridge
+bridge_of vendor device revision io pref = record {
+  vendor = vendor;
+  device = device;
+  revision = revision;
+  io = io_decode_of io;
+  pref = pref_decode_of pref;
+}

@@ -1,0 +1,93 @@
+//! What a board declares of a bridge.
+ghost use Rattle.std.specs.Prelude.{◌≡◌, IfOk, option_map};
+ghost use Rattle.std.specs.Result.{result_err};
+ghost use Rattle.model_registers.specs.DeclarationRules.{first_broken, bridge_rules, IsLawfulBridge};
+ghost use Rattle.headers.specs.Decodes.{bridge_of, io_decode_of, pref_decode_of};
+ghost use Rattle.headers.specs.Faults.{number_of};
+
+use crate::decodes::{IoDecode, PrefDecode};
+use crate::fault::DeclFault;
+use std::marker::Model;
+
+/// A bridge whose declared values keep the rules: no vendor is FFFFh.
+#[derive(Clone, Copy, Debug)]
+pub struct BridgeDecl {
+    vendor: u16,
+    device: u16,
+    revision: u8,
+    io: IoDecode,
+    pref: PrefDecode,
+}
+
+impl Model for BridgeDecl {
+    ghost use Rattle.model_registers.specs.Declarations.{Bridge};
+    ghost use Rattle.model_registers.specs.DeclarationRules.{IsLawfulBridge};
+    ghost use Rattle.headers.specs.Decodes.{bridge_of, named_io_decode, named_pref_decode};
+
+    ghost Value = { Bridge };
+
+    ghost view = { λ d. bridge_of d.vendor d.device d.revision d.io d.pref };
+
+    ghost invariant = { λ d. IsLawfulBridge (bridge_of d.vendor d.device d.revision d.io d.pref) };
+
+    ghost inverse = { λ v. record { vendor = v.vendor; device = v.device; revision = v.revision; io = named_io_decode v.io; pref = named_pref_decode v.pref } };
+}
+
+impl BridgeDecl {
+    /// The declaration with these values. The vendor FFFFh is refused with 104.
+    pub fn new(
+        vendor: u16,
+        device: u16,
+        revision: u8,
+        io: IoDecode,
+        pref: PrefDecode,
+    ) -> Result<BridgeDecl, DeclFault>
+        ensures refused { option_map number_of (result_err result) ≡ first_broken (bridge_rules (bridge_of vendor device revision io pref)) }
+        ensures declared { IfOk result (λ d. d ≡ bridge_of vendor device revision io pref) }
+        ensures lawful { IfOk result IsLawfulBridge }
+    {
+        if vendor == 0xffff {
+            return Err(DeclFault::Number);
+        }
+        Ok(BridgeDecl {
+            vendor,
+            device,
+            revision,
+            io,
+            pref,
+        })
+    }
+
+    pub fn vendor(&self) -> u16
+        ensures value { result ≡ self.now.vendor }
+        ensures lawful { IsLawfulBridge self.now }
+    {
+        self.vendor
+    }
+
+    pub fn device(&self) -> u16
+        ensures { result ≡ self.now.device }
+    {
+        self.device
+    }
+
+    pub fn revision(&self) -> u8
+        ensures { result ≡ self.now.revision }
+    {
+        self.revision
+    }
+
+    /// How the bridge decodes I/O addresses.
+    pub fn io(&self) -> IoDecode
+        ensures { io_decode_of result ≡ self.now.io }
+    {
+        self.io
+    }
+
+    /// How the bridge decodes prefetchable memory.
+    pub fn pref(&self) -> PrefDecode
+        ensures { pref_decode_of result ≡ self.now.pref }
+    {
+        self.pref
+    }
+}

@@ -1,0 +1,69 @@
+//! Registers of a device's own in configuration space.
+ghost use Rattle.std.specs.Prelude.{◌≡◌};
+ghost use Rattle.std.specs.List.{list_all};
+ghost use Rattle.model_registers.specs.Lists.{all_pairs};
+ghost use Rattle.model_registers.specs.DeclarationRules.{is_config_block, blocks_apart};
+
+use config_bytes::Cell;
+use std::marker::Model;
+
+/// The cells from the offset `off` on. In a lawful declaration they lie at 40h to FFh, and there is
+/// at least one.
+#[derive(Debug, Drop)]
+pub struct ConfigBlock {
+    pub off: u16,
+    pub block: Vec<Cell>,
+}
+
+impl Model for ConfigBlock {
+    ghost use Rattle.model_registers.specs.Declarations.{ConfigBlock};
+
+    ghost Value = { ConfigBlock };
+
+    ghost view = { λ b. record { offset = b.off; cells = b.block.items } };
+}
+
+impl ConfigBlock {
+    fn is_lawful(&self) -> bool
+        ensures { result ≡ is_config_block self.now }
+    {
+        let off = usize::from(self.off);
+        let len = self.block.len();
+        off >= 0x40 && len > 0 && off + len <= 0x100
+    }
+
+    fn is_apart(&self, other: &ConfigBlock) -> bool
+        ensures { result ≡ blocks_apart self.now other.now }
+    {
+        let off = usize::from(self.off);
+        let other_off = usize::from(other.off);
+        off + self.block.len() <= other_off || other_off + other.block.len() <= off
+    }
+
+    fn is_apart_from_all(&self, others: &[ConfigBlock]) -> bool
+        ensures { result ≡ list_all (blocks_apart self.now) others.now }
+    {
+        others.iter().all(|other| self.is_apart(other))
+    }
+}
+
+/// Whether each block lies at 40h to FFh.
+pub(crate) fn are_lawful(blocks: &[ConfigBlock]) -> bool
+    ensures { result ≡ list_all is_config_block blocks.now }
+{
+    blocks.iter().all(|block| block.is_lawful())
+}
+
+/// Whether no offset belongs to two blocks.
+pub(crate) fn are_apart(blocks: &[ConfigBlock]) -> bool
+    ensures { result ≡ all_pairs blocks_apart blocks.now }
+{
+    let mut left = blocks;
+    while let Some((first, rest)) = left.split_first() {
+        if !first.is_apart_from_all(rest) {
+            return false;
+        }
+        left = rest;
+    }
+    true
+}

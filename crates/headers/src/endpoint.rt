@@ -1,0 +1,73 @@
+//! Endpoints, which have headers of type 0 (PCI Local Bus 3.0, chapter 6.1).
+ghost use Rattle.std.specs.Prelude.{◌≡◌, ◌++◌, IfOk, OnOk, flat_map};
+ghost use Rattle.model_registers.specs.Lists.{Each};
+ghost use Rattle.model_registers.specs.DeclarationRules.{IsConfigBlock};
+ghost use Rattle.model_registers.specs.EndpointTable.{block_cells, header_cells, config_reset};
+ghost use Rattle.config_bytes.specs.CellFile.{file_of};
+
+use crate::config_block::ConfigBlock;
+use crate::endpoint_decl::EndpointDecl;
+use crate::row::Access::{Clear, ReadOnly, Write};
+use crate::row::Row;
+use crate::table::{header_type, push_block, push_rows};
+use config_bytes::{Cell, Cells};
+use std::alloc::{AllocError, Global};
+
+/// An endpoint's registers.
+pub struct Endpoint;
+
+/// Appends the cells of the device's own registers.
+fn push_blocks(cells: &mut Vec<(u16, Cell)>, blocks: &[ConfigBlock]) -> Result<(), AllocError>
+    requires { Each IsConfigBlock blocks.now }
+    ensures { OnOk result (file_of cells.new.items ≡ file_of cells.old.items ++ flat_map block_cells blocks.now) }
+{
+    let mut left = blocks;
+    while let Some((first, rest)) = left.split_first() {
+        push_block(cells, first.off, &first.block)?;
+        left = rest;
+    }
+    Ok(())
+}
+
+/// Appends the cells of the header, without base address registers.
+fn push_header(
+    cells: &mut Vec<(u16, Cell)>,
+    decl: &EndpointDecl,
+    multi: bool,
+) -> Result<(), AllocError>
+    ensures { OnOk result (file_of cells.new.items ≡ file_of cells.old.items ++ header_cells decl.now multi 0) }
+{
+    let values = decl.values();
+    push_rows(
+        cells,
+        &[
+            Row(0x00, 2, u32::from(values.vendor), ReadOnly),
+            Row(0x02, 2, u32::from(values.device), ReadOnly),
+            Row(0x04, 2, 0, Write(0x0547)),
+            Row(0x06, 2, u32::from(values.status), Clear(0xf900)),
+            Row(0x08, 1, u32::from(values.revision), ReadOnly),
+            Row(0x09, 3, values.class, ReadOnly),
+            Row(0x0c, 2, 0, Write(0xffff)),
+            Row(0x0e, 1, header_type(0, multi), ReadOnly),
+            Row(0x2c, 2, u32::from(values.subvendor), ReadOnly),
+            Row(0x2e, 2, u32::from(values.subsystem), ReadOnly),
+            Row(0x3c, 1, 0, Write(0xff)),
+            Row(0x3d, 1, u32::from(values.pin), ReadOnly),
+            Row(0x3e, 1, u32::from(values.min_gnt), ReadOnly),
+            Row(0x3f, 1, u32::from(values.max_lat), ReadOnly),
+        ],
+    )
+}
+
+impl Endpoint {
+    /// The cells of an endpoint at reset, without its base address registers. `multi` says that its
+    /// device has two functions or more.
+    pub fn cells(alloc: Global, decl: &EndpointDecl, multi: bool) -> Result<Cells, AllocError>
+        ensures { IfOk result (λ f. f ≡ record { now = config_reset decl.now multi; initial = config_reset decl.now multi }) }
+    {
+        let mut cells = Vec::new(alloc);
+        push_header(&mut cells, decl, multi)?;
+        push_blocks(&mut cells, &decl.values().config)?;
+        Cells::new(alloc, &cells)
+    }
+}

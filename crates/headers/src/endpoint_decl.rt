@@ -1,0 +1,123 @@
+//! What a board declares of an endpoint.
+ghost use Rattle.std.specs.Prelude.{◌≡◌, IfNone, IfOk, option_map};
+ghost use Rattle.std.specs.Result.{result_err};
+ghost use Rattle.model_registers.specs.Lists.{Each};
+ghost use Rattle.model_registers.specs.Declarations.{IsLawfulSize};
+ghost use Rattle.model_registers.specs.DeclarationRules.{first_broken, has_lawful_numbers, has_own_registers, endpoint_rules, with_ordered_regions, IsLawfulEndpoint};
+ghost use Rattle.headers.specs.Faults.{number_of};
+
+use crate::config_block::{self, ConfigBlock};
+use crate::fault::DeclFault;
+use crate::region::{self, Region};
+use std::marker::Model;
+
+/// What a board says of an endpoint, not yet judged. Regions and blocks may stand in any order.
+#[derive(Debug, Drop)]
+pub struct EndpointValues {
+    pub vendor: u16,
+    pub device: u16,
+    pub revision: u8,
+    pub class: u32,
+    pub subvendor: u16,
+    pub subsystem: u16,
+    pub pin: u8,
+    pub min_gnt: u8,
+    pub max_lat: u8,
+    pub status: u16,
+    pub bar: Vec<Region>,
+    pub config: Vec<ConfigBlock>,
+}
+
+impl Model for EndpointValues {
+    ghost use Rattle.model_registers.specs.Declarations.{Endpoint};
+
+    ghost Value = { Endpoint };
+
+    ghost use Rattle.model_registers.specs.DeclarationRules.{FitsRegisters};
+    ghost use Rattle.headers.specs.Values.{endpoint_of};
+
+    ghost view = { endpoint_of };
+
+    ghost invariant = { λ v. FitsRegisters (endpoint_of v) };
+}
+
+impl EndpointValues {
+    fn has_lawful_numbers(&self) -> bool
+        ensures { result ≡ has_lawful_numbers self.now }
+    {
+        self.vendor < 0xffff
+            && self.class < 1 << 24
+            && self.pin <= 4
+            && self.status & 0xf900 == self.status
+            && region::blocks_are_short(&self.bar)
+            && config_block::are_lawful(&self.config)
+    }
+
+    fn has_own_registers(&self) -> bool
+        ensures { result ≡ has_own_registers self.now.regions }
+    {
+        region::are_in_header(&self.bar) && region::use_registers_once(&self.bar)
+    }
+
+    /// The first rule that the values break.
+    fn broken_rule(&self) -> Option<DeclFault>
+        ensures first { option_map number_of result ≡ first_broken (endpoint_rules self.now) }
+        ensures sizes { IfNone result (Each (λ r. IsLawfulSize r.kind r.size) self.now.regions) }
+    {
+        if !self.has_lawful_numbers() {
+            Some(DeclFault::Number)
+        } else if !self.has_own_registers() {
+            Some(DeclFault::Register)
+        } else if !region::blocks_fit(&self.bar) {
+            Some(DeclFault::Size)
+        } else if !config_block::are_apart(&self.config) {
+            Some(DeclFault::CellMasks)
+        } else {
+            None
+        }
+    }
+}
+
+/// An endpoint whose declared values keep the rules. Its regions stand in the order of their
+/// registers.
+#[derive(Debug, Drop)]
+pub struct EndpointDecl {
+    values: EndpointValues,
+}
+
+impl Model for EndpointDecl {
+    ghost use Rattle.model_registers.specs.Declarations.{Endpoint};
+    ghost use Rattle.model_registers.specs.DeclarationRules.{IsLawfulEndpoint};
+
+    ghost Value = { Endpoint };
+
+    ghost view = { λ d. d.values };
+
+    ghost invariant = { λ d. IsLawfulEndpoint d.values };
+}
+
+impl EndpointDecl {
+    /// The declaration with these values, or the first rule that they break, in the order 104, 106,
+    /// 107, 112.
+    pub fn new(values: EndpointValues) -> Result<EndpointDecl, DeclFault>
+        ensures refused { option_map number_of (result_err result) ≡ first_broken (endpoint_rules values) }
+        ensures declared { IfOk result (λ d. d ≡ with_ordered_regions values) }
+        ensures lawful { IfOk result IsLawfulEndpoint }
+        ensures complete { IsLawfulEndpoint values → result ≡ Ok values }
+    {
+        if let Some(fault) = values.broken_rule() {
+            return Err(fault);
+        }
+        let mut values = values;
+        values.bar.sort_unstable_by_key(|region| region.index);
+        Ok(EndpointDecl { values })
+    }
+
+    /// The declared values, with the regions in the order of their registers.
+    pub fn values(&self) -> &EndpointValues
+        ensures values { result.now ≡ self.now }
+        ensures lawful { IsLawfulEndpoint self.now }
+    {
+        &self.values
+    }
+}

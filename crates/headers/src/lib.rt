@@ -1,0 +1,34 @@
+//! The headers of PCI functions: what a board declares of endpoints and bridges, their registers at
+//! reset, and what the registers say (PCI Local Bus 3.0, chapter 6; PCI-to-PCI Bridge Architecture
+//! 1.2, chapter 3).
+#![tactic(auto)]
+
+mod apertures;
+mod bridge;
+mod bridge_decl;
+mod config_block;
+mod decodes;
+mod endpoint;
+mod endpoint_decl;
+mod fault;
+mod place;
+mod region;
+mod registers;
+mod row;
+mod table;
+mod windows;
+mod words;
+
+pub use apertures::{Aperture, ApertureFault, Apertures};
+pub use bridge::Bridge;
+pub use bridge_decl::BridgeDecl;
+pub use config_block::ConfigBlock;
+pub use decodes::{IoDecode, PrefDecode};
+pub use endpoint::Endpoint;
+pub use endpoint_decl::{EndpointDecl, EndpointValues};
+pub use fault::DeclFault;
+pub use place::Place;
+pub use region::Region;
+pub use registers::{Command, Status};
+pub use windows::{io_window, mem_window, pref_window};
+pub use words::{command, status};

@@ -1,0 +1,79 @@
+//! The Command and Status registers as sets of flags (PCI Local Bus 3.0, chapters 6.2.2 and 6.2.3).
+ghost use Rattle.std.specs.Prelude.{⊤, [], ◌∷◌, codes};
+
+use bitflags::{Flag, Flags, bitflag_items};
+
+/// The Command register, by the bits that endpoints and bridges implement here; all others are
+/// read-only 0. A bridge has no `INTERRUPT_DISABLE`.
+#[derive(Clone, Copy, PartialEq, Eq, Debug)]
+pub struct Command(pub u16);
+
+bitflag_items! {
+    impl Command: u16 {
+        const IO_SPACE = 0x0001;
+        const MEMORY_SPACE = 0x0002;
+        const BUS_MASTER = 0x0004;
+        const PARITY_ERROR_RESPONSE = 0x0040;
+        const SERR_ENABLE = 0x0100;
+        const INTERRUPT_DISABLE = 0x0400;
+    }
+}
+
+impl Flags for Command {
+    type Bits = u16;
+
+    ghost exact = { ⊤ };
+
+    ghost table = { (codes "IO_SPACE", 0x0001) ∷ (codes "MEMORY_SPACE", 0x0002) ∷ (codes "BUS_MASTER", 0x0004) ∷ (codes "PARITY_ERROR_RESPONSE", 0x0040) ∷ (codes "SERR_ENABLE", 0x0100) ∷ (codes "INTERRUPT_DISABLE", 0x0400) ∷ [] };
+
+    ghost set_of = { λ c. c.0 };
+
+    fn flags<'a>() -> &'a [Flag<Command>] {
+        Command::FLAGS
+    }
+
+    fn bits(&self) -> u16 {
+        self.0
+    }
+
+    fn from_bits_retain(bits: u16) -> Command {
+        Command(bits)
+    }
+}
+
+/// The Status register, by the bits that the function sets and that writing a one clears.
+#[derive(Clone, Copy, PartialEq, Eq, Debug)]
+pub struct Status(pub u16);
+
+bitflag_items! {
+    impl Status: u16 {
+        const MASTER_DATA_PARITY_ERROR = 0x0100;
+        const SIGNALED_TARGET_ABORT = 0x0800;
+        const RECEIVED_TARGET_ABORT = 0x1000;
+        const RECEIVED_MASTER_ABORT = 0x2000;
+        const SIGNALED_SYSTEM_ERROR = 0x4000;
+        const DETECTED_PARITY_ERROR = 0x8000;
+    }
+}
+
+impl Flags for Status {
+    type Bits = u16;
+
+    ghost exact = { ⊤ };
+
+    ghost table = { (codes "MASTER_DATA_PARITY_ERROR", 0x0100) ∷ (codes "SIGNALED_TARGET_ABORT", 0x0800) ∷ (codes "RECEIVED_TARGET_ABORT", 0x1000) ∷ (codes "RECEIVED_MASTER_ABORT", 0x2000) ∷ (codes "SIGNALED_SYSTEM_ERROR", 0x4000) ∷ (codes "DETECTED_PARITY_ERROR", 0x8000) ∷ [] };
+
+    ghost set_of = { λ s. s.0 };
+
+    fn flags<'a>() -> &'a [Flag<Status>] {
+        Status::FLAGS
+    }
+
+    fn bits(&self) -> u16 {
+        self.0
+    }
+
+    fn from_bits_retain(bits: u16) -> Status {
+        Status(bits)
+    }
+}

@@ -1,0 +1,62 @@
+//! Lists of cells from rows and blocks.
+ghost use Rattle.std.specs.Prelude.{◌≡◌, ◌+◌, ◌≤◌, ◌++◌, OnOk, length, flat_map};
+ghost use Rattle.model_registers.specs.Registers.{config, cells_from};
+ghost use Rattle.model_registers.specs.EndpointTable.{header_type};
+ghost use Rattle.config_bytes.specs.CellFile.{file_of};
+ghost use Rattle.headers.specs.Rows.{row_cells};
+
+use crate::row::Row;
+use config_bytes::Cell;
+use std::alloc::AllocError;
+
+/// The Header Type register: the layout, and in bit 7 whether the device has more functions (PCI
+/// Local Bus 3.0, chapter 6.2.1).
+pub(crate) fn header_type(layout: u8, multi: bool) -> u32
+    ensures { result ≡ header_type layout multi }
+{
+    u32::from(layout) + if multi { 0x80 } else { 0 }
+}
+
+/// Appends the register's cells, lowest byte first.
+fn push_row(cells: &mut Vec<(u16, Cell)>, row: Row) -> Result<(), AllocError>
+    ensures { OnOk result (file_of cells.new.items ≡ file_of cells.old.items ++ row_cells row) }
+{
+    let Row(off, width, mut value, mut access) = row;
+    for byte in 0..width {
+        cells.push((u16::from(off) + u16::from(byte), access.cell(value)))?;
+        value /= 256;
+        access = access.above();
+    }
+    Ok(())
+}
+
+/// Appends the cells of registers.
+pub(crate) fn push_rows(cells: &mut Vec<(u16, Cell)>, rows: &[Row]) -> Result<(), AllocError>
+    ensures { OnOk result (file_of cells.new.items ≡ file_of cells.old.items ++ flat_map row_cells rows.now) }
+{
+    let mut left = rows;
+    while let Some((row, rest)) = left.split_first() {
+        push_row(cells, *row)?;
+        left = rest;
+    }
+    Ok(())
+}
+
+/// Appends a block's cells, from the offset `off` on.
+pub(crate) fn push_block(
+    cells: &mut Vec<(u16, Cell)>,
+    off: u16,
+    block: &[Cell],
+) -> Result<(), AllocError>
+    requires { off + length block.now ≤ 0x100 }
+    ensures { OnOk result (file_of cells.new.items ≡ file_of cells.old.items ++ cells_from (config off) block.now) }
+{
+    let mut left = block;
+    let mut at = off;
+    while let Some((cell, rest)) = left.split_first() {
+        cells.push((at, *cell))?;
+        at += 1;
+        left = rest;
+    }
+    Ok(())
+}

@@ -1,0 +1,72 @@
+//! The addresses that a bridge's window registers name (PCI-to-PCI Bridge Architecture 1.2, chapters
+//! 3.2.5.6 to 3.2.5.10). Each window is its first and last address, both included, or `None` where it
+//! is unimplemented or its base is above its limit. The Command register does not count here.
+ghost use Rattle.std.specs.Prelude.{◌≡◌, ◌≤◌, ◌<◌, ◌^◌, option_map};
+ghost use Rattle.model_registers.specs.ByteEnables.{LiesInWord};
+ghost use Rattle.model_registers.specs.Windows.{io_window, mem_window, pref_window, window, window_bits};
+ghost use Rattle.headers.specs.Spans.{span_of};
+
+use crate::bridge_decl::BridgeDecl;
+use crate::decodes::{IoDecode, PrefDecode};
+use crate::words::number;
+use config_bytes::Cells;
+
+/// A window is empty where its base is above its limit.
+fn window(first: u64, last: u64) -> Option<(u64, u64)>
+    ensures { result ≡ option_map span_of (window first last) }
+{
+    if first <= last {
+        Some((first, last))
+    } else {
+        None
+    }
+}
+
+/// The address bits in a window register: its bits above 3, in units of `unit`.
+fn address(cells: &Cells, off: u16, width: u16, unit: u64) -> u64
+    requires lane { LiesInWord off width }
+    requires width { width ≤ 2 }
+    requires unit { unit ≤ 2 ^ 20 }
+    ensures value { result ≡ window_bits cells.now.now off width unit }
+    ensures fits { result < 2 ^ 32 }
+{
+    u64::from(number(cells, off, width)) / 16 * unit
+}
+
+/// The I/O window. With 16-bit decode the upper address bits are 0.
+pub fn io_window(cells: &Cells, decl: &BridgeDecl) -> Option<(u64, u64)>
+    ensures { result ≡ option_map span_of (io_window decl.now.io cells.now.now) }
+{
+    let (upper_first, upper_last) = match decl.io() {
+        IoDecode::Unimplemented => return None,
+        IoDecode::Bits16 => (0, 0),
+        IoDecode::Bits32 => (number(cells, 0x30, 2), number(cells, 0x32, 2)),
+    };
+    let first = (u64::from(upper_first) << 16) + address(cells, 0x1c, 1, 1 << 12);
+    let last = (u64::from(upper_last) << 16) + address(cells, 0x1d, 1, 1 << 12) + 0xfff;
+    window(first, last)
+}
+
+/// The memory window.
+pub fn mem_window(cells: &Cells, _decl: &BridgeDecl) -> Option<(u64, u64)>
+    ensures { result ≡ option_map span_of (mem_window cells.now.now) }
+{
+    window(
+        address(cells, 0x20, 2, 1 << 20),
+        address(cells, 0x22, 2, 1 << 20) + 0xf_ffff,
+    )
+}
+
+/// The prefetchable memory window. With 32-bit decode the upper address bits are 0.
+pub fn pref_window(cells: &Cells, decl: &BridgeDecl) -> Option<(u64, u64)>
+    ensures { result ≡ option_map span_of (pref_window decl.now.pref cells.now.now) }
+{
+    let (upper_first, upper_last) = match decl.pref() {
+        PrefDecode::Unimplemented => return None,
+        PrefDecode::Bits32 => (0, 0),
+        PrefDecode::Bits64 => (number(cells, 0x28, 4), number(cells, 0x2c, 4)),
+    };
+    let first = (u64::from(upper_first) << 32) + address(cells, 0x24, 2, 1 << 20);
+    let last = (u64::from(upper_last) << 32) + address(cells, 0x26, 2, 1 << 20) + 0xf_ffff;
+    window(first, last)
+}

@@ -1,0 +1,31 @@
+//! Registers of a function's cells as numbers.
+ghost use Rattle.std.specs.Prelude.{◌≡◌, ◌<◌, ◌^◌};
+ghost use Rattle.model_registers.specs.Registers.{config, number};
+ghost use Rattle.model_registers.specs.ByteEnables.{LiesInWord};
+
+use crate::registers::{Command, Status};
+use config_bytes::{Cells, enables_of, from_lanes};
+
+/// The little-endian number of `width` bytes at `off`, which lie in one word.
+pub(crate) fn number(cells: &Cells, off: u16, width: u16) -> u32
+    requires { LiesInWord off width }
+    ensures value { result ≡ number cells.now.now (config off) width }
+    ensures fits { result < 256 ^ width }
+{
+    let word = cells.read(off / 4 * 4, enables_of(u64::from(off), u64::from(width)));
+    from_lanes(u64::from(off), u64::from(width), word)
+}
+
+/// The Command register, the word at 04h (PCI Local Bus 3.0, chapter 6.2.2).
+pub fn command(cells: &Cells) -> Command
+    ensures { result.0 ≡ number cells.now.now (config 0x04) 2 }
+{
+    Command(number(cells, 0x04, 2) as u16)
+}
+
+/// The Status register, the word at 06h (PCI Local Bus 3.0, chapter 6.2.3).
+pub fn status(cells: &Cells) -> Status
+    ensures { result.0 ≡ number cells.now.now (config 0x06) 2 }
+{
+    Status(number(cells, 0x06, 2) as u16)
+}
