@@ -1,0 +1,10 @@
+pub mod Accesses
+pub mod Ends
+pub mod Faults
+pub mod Forms
+pub mod Lines
+pub mod LoneRuns
+pub mod LoneFunctions
+pub mod LoneSlots
+pub mod Replies
+pub mod Serving

@@ -1,0 +1,27 @@
+//! Scripts of accesses: what their lines mean, and their runs over a guest's functions.
+#![tactic(auto)]
+
+mod access;
+mod ends;
+mod fakes;
+mod forms;
+mod line;
+mod lone;
+mod numbers;
+mod place;
+mod replies;
+mod running;
+mod serving;
+mod words;
+
+pub use access::{Access, At, Bdf, HostAccess, HostAt, Op, Reply};
+pub use ends::{Failed, Reader, Writer};
+pub use fakes::{FakeReader, FakeWriter};
+pub use line::{Line, Names, What, Who, parse_line};
+pub use lone::Lone;
+pub use place::Place;
+pub use running::{RunFault, run};
+pub use serving::served;
+
+#[cfg(test)]
+mod tests;
