@@ -1,0 +1,60 @@
+//! The program: a board, its guests and a script of their accesses.
+#![tactic(auto)]
+
+mod choice;
+mod demo;
+mod fault;
+mod streams;
+#[cfg(test)]
+mod tests;
+
+use crate::choice::{Choice, choose};
+use crate::demo::demo;
+use crate::fault::Fault;
+use crate::streams::{InputStream, OutputStream};
+use std::alloc::Global;
+use std::process::ExitCode;
+use std::rt::Env;
+use std::{env, io};
+
+/// The program's name and its words.
+fn words_given(rt: &(impl Env + AllocGlobal)) -> Result<Vec<String>, Fault> {
+    let Ok(words) = env::args(rt) else {
+        return Err(Fault::Usage);
+    };
+    words.collect(rt.alloc()).map_err(|_| Fault::WordMemory)
+}
+
+/// Does what the words ask.
+fn serve(rt: &(impl Env + AllocGlobal + Input + Print)) -> Result<(), Fault> {
+    let alloc = rt.alloc();
+    let words = words_given(rt)?;
+    let mut texts = Vec::new(alloc);
+    for word in &words {
+        if texts.push(word.as_str()).is_err() {
+            return Err(Fault::WordMemory);
+        }
+    }
+    match choose(alloc, texts.as_slice())? {
+        Choice::Help(text) => rt.print(text.as_str()).map_err(|_| Fault::Write),
+        Choice::Demo => {
+            let mut reader = InputStream::new(rt.reader());
+            let Ok(mut writer) = OutputStream::new(alloc, io::writer(rt)) else {
+                return Err(Fault::ScriptMemory);
+            };
+            demo(alloc, &mut reader, &mut writer)
+        }
+    }
+}
+
+fn main(rt: HostRuntime) -> ExitCode {
+    match serve(&rt) {
+        Ok(()) => ExitCode::SUCCESS,
+        Err(fault) => {
+            let number = fault.number();
+            let words = fault.words();
+            let _ = eprintln!(rt; "pciguest: fault {number} {words}");
+            ExitCode::FAILURE
+        }
+    }
+}
