@@ -10,6 +10,7 @@ pub mod TablePlaces
 pub mod CopiesNeverRise
 pub mod AgreedChanges
 pub mod AgreedStates
+pub mod LawfulWorlds
 pub mod Dialogues
 pub mod RowsOfBaseRegisters
 pub mod RowsOfHeaders
