@@ -10,6 +10,7 @@ use Rattle.model_registers.specs.Cell.{Cell, written, raised}
 use Rattle.model_registers.specs.Lists.{Each}
 use Rattle.model_registers.specs.Registers.{Place, config, block, place_eq, after, Entry, File, changed, write, raise, all_bytes, field, cells_from}
 use Rattle.model_registers.specs.Declarations.{Kind, io_kind, mem32, mem64, Region, ConfigBlock, Endpoint}
+use Rattle.model_registers.specs.DeclarationRules.{IsLawfulEndpoint}
 use Rattle.model_registers.specs.EndpointTable.{base_cells, region_cells, block_cells, header_cells, config_cells, endpoint_reset}
 use Rattle.model_registers.specs.Decoding.{Function}
 use Rattle.model_registers.proofs.Tests.{left_true, right_true}
@@ -18,7 +19,8 @@ use Rattle.model_board.specs.Board.{Decl, endpoint, bridge, Board}
 use Rattle.model_guests.specs.Accesses.{Event, access, raises, Op, reads, writes}
 use Rattle.model_guests.specs.LoneGuest.{Slots, slot_at, with_file, Landing, landing, effect, raise_landing, event_fault, affected, after_event, slots_after, reset_function, reset_slots}
 use Rattle.model_guests.specs.OwnCopies.{is_own}
-use Rattle.model_guests.specs.World.{endpoint_of, declared, paths_of, declarations, HasLawfulPlaces, IsLawfulFunction}
+use Rattle.model_guests.specs.World.{endpoint_of, declared, paths_of, declarations, IsLawfulFunction}
+use Rattle.model_guests.proofs.DistinctPlaces.{own_blocks}
 use Rattle.model_guests.proofs.ListFacts.{each_append}
 use Rattle.model_guests.proofs.AgreedFiles.{same_place}
 use Rattle.model_guests.specs.AgreementLaws.{slots_by, CopiesNeverRise}
@@ -113,10 +115,10 @@ regions_low (r ∷ rs) =
     each_append (λ e. stays_low e ≡ true) (region_cells (λ r. 0) r) (flat_map (region_cells (λ r. 0)) rs)
     (each_append (λ e. stays_low e ≡ true) (base_cells r.index r.kind r.size 0) (cells_from (block r.index 0) r.cells) (bases_low r.index r.kind r.size) (region_block_low r.index 0 r.cells)) (regions_low rs)
 
-reset_low : (d : Endpoint) → HasLawfulPlaces d → StaysLow (endpoint_reset d false)
+reset_low : (d : Endpoint) → IsLawfulEndpoint d → StaysLow (endpoint_reset d false)
 reset_low d lawful =
     each_append (λ e. stays_low e ≡ true) (config_cells d false 0) (flat_map (region_cells (λ r. 0)) d.regions)
-    (each_append (λ e. stays_low e ≡ true) (header_cells d false 0) (flat_map block_cells d.blocks) (header_low d) (blocks_low d.blocks lawful.blocks)) (regions_low d.regions)
+    (each_append (λ e. stays_low e ≡ true) (header_cells d false 0) (flat_map block_cells d.blocks) (header_low d) (blocks_low d.blocks (own_blocks d lawful))) (regions_low d.regions)
 
 -- ---- all slots, after any events
 
@@ -163,19 +165,19 @@ events_low slots (e ∷ es) low = events_low (after_event slots e) es (here (is_
 
 -- ---- slots at reset
 
-declared_lawful : (b : Board) → Each (λ r. IsLawfulFunction r.decl) b → (p : Path) → MatchOption (declared b p) ⊤ HasLawfulPlaces
+declared_lawful : (b : Board) → Each (λ r. IsLawfulFunction r.decl) b → (p : Path) → MatchOption (declared b p) ⊤ IsLawfulEndpoint
 declared_lawful [] lawful p = tt
 declared_lawful (r ∷ rs) lawful p = cases (path_eq r.path p) (declared_lawful rs lawful.1 p)
   where
-    of_decl : (decl : Decl) → IsLawfulFunction decl → MatchOption (endpoint_of (record { path = r.path; decl = decl })) ⊤ HasLawfulPlaces
+    of_decl : (decl : Decl) → IsLawfulFunction decl → MatchOption (endpoint_of (record { path = r.path; decl = decl })) ⊤ IsLawfulEndpoint
     of_decl (endpoint d) h = h
     of_decl (bridge d) h = tt
 
-    cases : (t : Bool) → MatchOption (declared rs p) ⊤ HasLawfulPlaces → MatchOption (option_map_or endpoint_of (cond t (Some r) (find (λ s. path_eq s.path p) rs)) None) ⊤ HasLawfulPlaces
+    cases : (t : Bool) → MatchOption (declared rs p) ⊤ IsLawfulEndpoint → MatchOption (option_map_or endpoint_of (cond t (Some r) (find (λ s. path_eq s.path p) rs)) None) ⊤ IsLawfulEndpoint
     cases true more = of_decl r.decl lawful.0
     cases false more = more
 
-function_low : (o : Option Endpoint) → MatchOption o ⊤ HasLawfulPlaces → MatchOption (reset_function o) ⊤ (λ f. StaysLow f.file)
+function_low : (o : Option Endpoint) → MatchOption o ⊤ IsLawfulEndpoint → MatchOption (reset_function o) ⊤ (λ f. StaysLow f.file)
 function_low None h = tt
 function_low (Some d) h = reset_low d h
 

@@ -1,15 +1,47 @@
 -- No place of an endpoint's file stands twice: registers and blocks are runs of places, and no two runs meet.
-use Rattle.std.proofs.Common.{◌≡◌, ℕ, zero, suc, ◌+◌, ◌*◌, ◌≤◌, ◌<◌, ◌⊎◌, inl, inr, Bool, false, List, [], ◌∷◌, ◌++◌, length, refl, sym, ap, ap₂, ◌∙◌, subst, arith, eqb}
-use Rattle.std.specs.Prelude.{flat_map, IsFalse}
+use Rattle.std.proofs.Common.{◌≡◌, ℕ, zero, suc, ◌+◌, ◌*◌, ◌≤◌, ◌<◌, ◌⊎◌, inl, inr, Bool, true, false, ◌||◌, List, [], ◌∷◌, ◌++◌, length, refl, sym, ap, ap₂, ◌∙◌, subst, arith, eqb, leb}
+use Rattle.std.specs.Prelude.{flat_map, IsTrue, IsFalse}
+use Rattle.std.proofs.lemmas.Bool.{leb-true}
 use Rattle.std.proofs.lemmas.Bool.Decides.{nat_tests}
 use Rattle.model_registers.specs.Cell.{Cell}
 use Rattle.model_registers.specs.Lists.{Each, EachPair}
 use Rattle.model_registers.specs.Registers.{Place, config, block, place_eq, after, File, cells_from}
-use Rattle.model_registers.specs.Declarations.{Kind, io_kind, mem32, mem64, registers_of, Region, ConfigBlock, Endpoint, IsLawfulRegion}
+use Rattle.model_registers.specs.Declarations.{Kind, io_kind, mem32, mem64, registers_of, Region, ConfigBlock, Endpoint, IsLawfulRegion, HasLawfulRegions}
+use Rattle.model_registers.specs.DeclarationRules.{blocks_apart, IsConfigBlock, IsLawfulEndpoint}
 use Rattle.model_registers.specs.EndpointTable.{base_register, base_cells, region_cells, block_cells, header_cells, config_cells, endpoint_file}
+use Rattle.model_registers.proofs.EachLemmas.{each_map, pairs_map}
 use Rattle.model_guests.specs.AgreementLaws.{places_of}
-use Rattle.model_guests.specs.World.{BlocksApart, HasLawfulPlaces}
-use Rattle.model_guests.proofs.ListFacts.{each_append, each_weaker}
+use Rattle.model_guests.proofs.ListFacts.{each_append}
+
+-- ---- what a lawful declaration says of places
+
+abbrev BlocksApart : ConfigBlock → ConfigBlock → Type 0
+BlocksApart b c = (b.offset + length b.cells ≤ c.offset) ⊎ (c.offset + length c.cells ≤ b.offset)
+
+record HasLawfulPlaces (d : Endpoint) : Type 0 where
+  regions : HasLawfulRegions d.regions
+  blocks : Each (λ b. 0x40 ≤ b.offset) d.blocks
+  blocks_apart : EachPair BlocksApart d.blocks
+
+by_test : (b c : ConfigBlock) → IsTrue (blocks_apart b c) → BlocksApart b c
+by_test b c h = cases (leb (b.offset + length b.cells) c.offset) (leb (c.offset + length c.cells) b.offset) refl refl h
+  where
+    cases : (s t : Bool) → leb (b.offset + length b.cells) c.offset ≡ s → leb (c.offset + length c.cells) b.offset ≡ t → (s || t) ≡ true → BlocksApart b c
+    cases true t e f h = inl (leb-true (b.offset + length b.cells) c.offset e)
+    cases false true e f h = inr (leb-true (c.offset + length c.cells) b.offset f)
+    cases false false e f h = cc
+
+pub own_blocks : (d : Endpoint) → IsLawfulEndpoint d → Each (λ b. 0x40 ≤ b.offset) d.blocks
+own_blocks d lawful = each_map IsConfigBlock (λ b. 0x40 ≤ b.offset) d.blocks (λ b h. h.begins) lawful.config_blocks
+
+lawful_places : (d : Endpoint) → IsLawfulEndpoint d → HasLawfulPlaces d
+lawful_places d lawful = record {
+  regions = lawful.regions;
+  blocks = own_blocks d lawful;
+  blocks_apart = pairs_map (λ b c. IsTrue (blocks_apart b c)) BlocksApart d.blocks by_test lawful.blocks_apart;
+}
+
+-- ---- runs of places
 
 -- n places, one after the other
 abbrev run : Place → ℕ → List Place
@@ -63,9 +95,9 @@ block_and_config r a (suc m) b n = (one n b, block_and_config r (a + 1) m b n)
     one zero b = tt
     one (suc n) b = (refl, one n (b + 1))
 
-blocks_apart : (r a m s b n : ℕ) → r < s → AllApart (run (block r a) m) (run (block s b) n)
-blocks_apart r a zero s b n h = tt
-blocks_apart r a (suc m) s b n h = (one n b, blocks_apart r (a + 1) m s b n h)
+runs_apart : (r a m s b n : ℕ) → r < s → AllApart (run (block r a) m) (run (block s b) n)
+runs_apart r a zero s b n h = tt
+runs_apart r a (suc m) s b n h = (one n b, runs_apart r (a + 1) m s b n h)
   where
     not_same : (r s a b : ℕ) → r < s → place_eq (block r a) (block s b) ≡ false
     not_same r s a b h = grind (arith, nat_tests)
@@ -214,13 +246,13 @@ regions_apart r s h =
     (apart_from_both (base_run_of r) (base_run_of s) other (bases_apart r.index (registers_of r.kind) s.index (registers_of s.kind) h)
     (config_and_block (0x10 + 4 * r.index) (4 * registers_of r.kind) s.index 0 (length s.cells)))
     (apart_from_both own (base_run_of s) other (block_and_config r.index 0 (length r.cells) (0x10 + 4 * s.index) (4 * registers_of s.kind))
-    (blocks_apart r.index 0 (length r.cells) s.index 0 (length s.cells) later))
+    (runs_apart r.index 0 (length r.cells) s.index 0 (length s.cells) later))
 
 blocks_distinct : (bs : List ConfigBlock) → EachPair BlocksApart bs → EachPair Apart (flat_map block_run_of bs)
 blocks_distinct [] apart = tt
 blocks_distinct (b ∷ bs) apart =
     pairs_append (block_run_of b) (flat_map block_run_of bs) (config_run b.offset (length b.cells)) (blocks_distinct bs apart.1)
-    (apart_from_all block_run_of (block_run_of b) bs (each_weaker (BlocksApart b) (λ c. AllApart (block_run_of b) (block_run_of c)) bs (λ c h. configs_apart b.offset (length b.cells) c.offset (length c.cells) h) apart.0))
+    (apart_from_all block_run_of (block_run_of b) bs (each_map (BlocksApart b) (λ c. AllApart (block_run_of b) (block_run_of c)) bs (λ c h. configs_apart b.offset (length b.cells) c.offset (length c.cells) h) apart.0))
 
 regions_distinct : (rs : List Region) → EachPair (λ r s. r.index + registers_of r.kind ≤ s.index) rs → EachPair Apart (flat_map region_run_of rs)
 regions_distinct [] apart = tt
@@ -229,17 +261,17 @@ regions_distinct (r ∷ rs) apart =
     (pairs_append (base_run_of r) (run (block r.index 0) (length r.cells)) (config_run (0x10 + 4 * r.index) (4 * registers_of r.kind)) (block_run r.index 0 (length r.cells))
     (config_and_block (0x10 + 4 * r.index) (4 * registers_of r.kind) r.index 0 (length r.cells)))
     (regions_distinct rs apart.1)
-    (apart_from_all region_run_of (region_run_of r) rs (each_weaker (λ s. r.index + registers_of r.kind ≤ s.index) (λ s. AllApart (region_run_of r) (region_run_of s)) rs (λ s h. regions_apart r s h) apart.0))
+    (apart_from_all region_run_of (region_run_of r) rs (each_map (λ s. r.index + registers_of r.kind ≤ s.index) (λ s. AllApart (region_run_of r) (region_run_of s)) rs (λ s h. regions_apart r s h) apart.0))
 
 blocks_and_regions : (bs : List ConfigBlock) (rs : List Region) → Each (λ b. 0x40 ≤ b.offset) bs → Each IsLawfulRegion rs → AllApart (flat_map block_run_of bs) (flat_map region_run_of rs)
 blocks_and_regions [] rs h k = tt
 blocks_and_regions (b ∷ bs) rs h k =
     both_apart (block_run_of b) (flat_map block_run_of bs) (flat_map region_run_of rs)
-    (apart_from_all region_run_of (block_run_of b) rs (each_weaker IsLawfulRegion (λ r. AllApart (block_run_of b) (region_run_of r)) rs (λ r l. block_and_region b r h.0 l) k))
+    (apart_from_all region_run_of (block_run_of b) rs (each_map IsLawfulRegion (λ r. AllApart (block_run_of b) (region_run_of r)) rs (λ r l. block_and_region b r h.0 l) k))
     (blocks_and_regions bs rs h.1 k)
 
-pub distinct_places : (d : Endpoint) → HasLawfulPlaces d → (shared : Bool) (command : ℕ) (bases : Region → ℕ) → HasDistinctPlaces (endpoint_file d shared command bases)
-distinct_places d lawful shared command bases = subst (EachPair Apart) (sym (endpoint_places d shared command bases)) all
+distinct : (d : Endpoint) → HasLawfulPlaces d → (shared : Bool) (command : ℕ) (bases : Region → ℕ) → HasDistinctPlaces (endpoint_file d shared command bases)
+distinct d lawful shared command bases = subst (EachPair Apart) (sym (endpoint_places d shared command bases)) all
   where
     blocks : List Place
     blocks = flat_map block_run_of d.blocks
@@ -248,8 +280,11 @@ distinct_places d lawful shared command bases = subst (EachPair Apart) (sym (end
     all =
         pairs_append (header_run ++ blocks) (flat_map region_run_of d.regions)
         (pairs_append header_run blocks header_distinct (blocks_distinct d.blocks lawful.blocks_apart)
-        (apart_from_all block_run_of header_run d.blocks (each_weaker (λ b. 0x40 ≤ b.offset) (λ b. AllApart header_run (block_run_of b)) d.blocks (λ b h. header_and_block b h) lawful.blocks)))
+        (apart_from_all block_run_of header_run d.blocks (each_map (λ b. 0x40 ≤ b.offset) (λ b. AllApart header_run (block_run_of b)) d.blocks (λ b h. header_and_block b h) lawful.blocks)))
         (regions_distinct d.regions lawful.regions.in_order)
         (both_apart header_run blocks (flat_map region_run_of d.regions)
-        (apart_from_all region_run_of header_run d.regions (each_weaker IsLawfulRegion (λ r. AllApart header_run (region_run_of r)) d.regions (λ r h. header_and_region r h) lawful.regions.each))
+        (apart_from_all region_run_of header_run d.regions (each_map IsLawfulRegion (λ r. AllApart header_run (region_run_of r)) d.regions (λ r h. header_and_region r h) lawful.regions.each))
         (blocks_and_regions d.blocks d.regions lawful.blocks lawful.regions.each))
+
+pub distinct_places : (d : Endpoint) → IsLawfulEndpoint d → (shared : Bool) (command : ℕ) (bases : Region → ℕ) → HasDistinctPlaces (endpoint_file d shared command bases)
+distinct_places d lawful shared command bases = distinct d (lawful_places d lawful) shared command bases

@@ -13,7 +13,8 @@ use Rattle.model_guests.specs.LoneGuest.{Slots, slot_at, with_file}
 use Rattle.model_guests.specs.Text.{Text}
 use Rattle.model_guests.specs.World.{Guest}
 use Rattle.model_guests.specs.Agreement.{file_in}
-use Rattle.model_guests.proofs.ListFacts.{each_at, each_parts, each_weaker, PairParts, pair_parts}
+use Rattle.model_registers.proofs.EachLemmas.{each_map}
+use Rattle.model_guests.proofs.ListFacts.{each_at, each_parts, PairParts, pair_parts}
 use Rattle.model_guests.proofs.Names.{equal_texts, same_text}
 
 -- ---- one guest
@@ -192,7 +193,7 @@ file_found (g ∷ gs) slots name n p f apart at there = cases (bytes_eq g.name n
         rw here
     cases false e at more =
         let none : Each (λ q. path_eq q p ≡ false) g.slots =
-        each_weaker (λ x. Each (λ y. IsFalse (path_eq x y)) (flat_map (λ (h : Guest). h.slots) gs)) (λ x. path_eq x p ≡ false) g.slots
+        each_map (λ x. Each (λ y. IsFalse (path_eq x y)) (flat_map (λ (h : Guest). h.slots) gs)) (λ x. path_eq x p ≡ false) g.slots
         (λ x h. of_slot (λ y. path_eq x y ≡ false) gs name n p h at) parts.across in
         let here : file_in g.slots (slots g.name) p ≡ None = no_file g.slots (slots g.name) p none in
         rw here (more at there)

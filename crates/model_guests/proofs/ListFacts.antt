@@ -11,10 +11,6 @@ pub each_parts : {A : Type 0} (P : A → Type 0) (xs ys : List A) → Each P (xs
 each_parts P [] ys h = (tt, h)
 each_parts P (x ∷ xs) ys h = let more = each_parts P xs ys h.1 in ((h.0, more.0), more.1)
 
-pub each_weaker : {A : Type 0} (P Q : A → Type 0) (xs : List A) → ((x : A) → P x → Q x) → Each P xs → Each Q xs
-each_weaker P Q [] f h = tt
-each_weaker P Q (x ∷ xs) f h = (f x h.0, each_weaker P Q xs f h.1)
-
 pub each_at : {A : Type 0} (P : A → Type 0) (xs : List A) (n : ℕ) (x : A) → Each P xs → slice_get xs n ≡ Some x → P x
 each_at P [] n x all at = cc
 each_at P (y ∷ ys) zero x all at = let same : y ≡ x = cc in subst P same all.0

@@ -1,12 +1,13 @@
--- Small tables and limits: sizes of regions, a guest's copies, slots, byte enables and bridges.
+-- Small tables and limits: sizes of regions, a guest's copies, slots, byte enables, bridges and apertures.
 use Rattle.std.proofs.Common.{◌≡◌, ℕ, List, [], ◌∷◌, ◌++◌, true, false, length, refl}
-use Rattle.std.specs.Prelude.{filter, codes, ◌^◌, count_by}
+use Rattle.std.specs.Prelude.{filter, map, codes, ◌^◌, count_by, Some, None}
 use Rattle.std.specs.List.{range_with_len}
 use Rattle.model_registers.specs.Registers.{config, block}
 use Rattle.model_registers.specs.Declarations.{Kind, io_kind, mem32, mem64, registers_of, least_size, greatest_size}
 use Rattle.model_registers.specs.ByteEnables.{lanes}
+use Rattle.model_registers.specs.Apertures.{Apertures, are_lawful}
 use Rattle.model_board.specs.Board.{bridge, is_bridge, Board}
-use Rattle.model_board.specs.Examples.{part, function_at, main_bridge, many_bridges}
+use Rattle.model_board.specs.Examples.{part, function_at, aperture, main_bridge, main_apertures, many_bridges}
 use Rattle.model_guests.specs.LoneGuest.{reset_slots}
 use Rattle.model_guests.specs.OwnCopies.{is_own, handed_on}
 use Rattle.model_guests.specs.World.{declarations}
@@ -49,3 +50,31 @@ count_of_bridges b = count_by (λ r. is_bridge r.decl) b
 
 pub bridges_that_have_numbers : count_of_bridges many_bridges ∷ count_of_bridges (many_bridges ++ function_at (part 15 7 ∷ part 0 0 ∷ []) (bridge main_bridge) ∷ []) ∷ [] ≡ 255 ∷ 256 ∷ []
 bridges_that_have_numbers = refl
+
+-- ---- apertures
+
+abbrev with_io : ℕ → ℕ → Apertures
+with_io first last = record main_apertures { io = aperture first last }
+
+abbrev with_mem : ℕ → ℕ → Apertures
+with_mem first last = record main_apertures { mem = aperture first last }
+
+abbrev with_pref : ℕ → ℕ → Apertures
+with_pref first last = record main_apertures { pref = Some (aperture first last) }
+
+-- whole units of 4 KB, without the first and up to FFFFh
+pub io_apertures : map are_lawful (main_apertures ∷ with_io 0x1000 0x1fff ∷ with_io 0 0xffff ∷ with_io 0x1000 0x10fff ∷ with_io 0x1800 0x27ff ∷ with_io 0x1000 0x17ff ∷ with_io 0x2000 0x1fff ∷ [])
+    ≡ true ∷ true ∷ false ∷ false ∷ false ∷ false ∷ false ∷ []
+io_apertures = refl
+
+-- whole units of 1 MB below 4 GB
+pub mem_apertures : map are_lawful (with_mem 0 0xfffff ∷ with_mem 0xfff00000 0xffffffff ∷ with_mem 0xfff00000 0x1000fffff ∷ with_mem 0x80000 0x17ffff ∷ with_mem 0 0xeffff ∷ with_mem 0x100000 0xfffff ∷ [])
+    ≡ true ∷ true ∷ false ∷ false ∷ false ∷ false ∷ []
+mem_apertures = refl
+
+-- or none; on one side of 4 GB, and without an address of the memory aperture
+pub pref_apertures :
+    map are_lawful (record main_apertures { pref = None } ∷ with_pref 0xe0000000 0xffffffff ∷ with_pref 0xb0000000 0xbfffffff ∷ with_pref 0x100000000 0x1000fffff ∷ [])
+    ++ map are_lawful (with_pref 0xfff00000 0x1000fffff ∷ with_pref 0xdff00000 0xefffffff ∷ with_pref 0xb0000000 0xc00fffff ∷ with_pref 0x400080000 0x40017ffff ∷ with_pref 0x400100000 0x4000fffff ∷ [])
+    ≡ true ∷ true ∷ true ∷ true ∷ false ∷ false ∷ false ∷ false ∷ false ∷ []
+pref_apertures = refl

@@ -2,12 +2,13 @@
 --     Guest, World      a name with the paths of its slots; a board, its apertures and guests
 --     paths_of, declarations      the paths of a guest's slots, and what stands there
 --     HasLawfulNames, HasLawfulGuests, IsLawfulWorld      what holds of any board and guests that a board file gives
-use Rattle.std.specs.Prelude.{List, [], ◌∷◌, ℕ, Bool, false, ◌&&◌, ◌||◌, ◌+◌, ◌≤◌, ◌⊎◌, ⊤, length, not, nat_le, Option, Some, None, map, find, flat_map, codes, IsTrue, IsFalse, IsSome}
+use Rattle.std.specs.Prelude.{List, [], ◌∷◌, ℕ, Bool, false, ◌&&◌, ◌||◌, ◌≤◌, ⊤, length, not, nat_le, Option, Some, None, map, find, flat_map, codes, IsTrue, IsFalse, IsSome}
 use Rattle.std.specs.List.{list_all}
 use Rattle.std.specs.Option.{option_map_or}
 use Rattle.std.specs.Str.{bytes_eq}
 use Rattle.model_registers.specs.Lists.{Each, EachPair}
-use Rattle.model_registers.specs.Declarations.{HasLawfulRegions, ConfigBlock, Endpoint}
+use Rattle.model_registers.specs.Declarations.{Endpoint}
+use Rattle.model_registers.specs.DeclarationRules.{IsLawfulEndpoint}
 use Rattle.model_board.specs.Paths.{Path, path_eq}
 use Rattle.model_board.specs.Board.{Decl, endpoint, bridge, Row, Board, IsBoard}
 use Rattle.model_board.specs.Pools.{Apertures}
@@ -67,18 +68,9 @@ pub record HasLawfulGuests (w : World) : Type 0 where
   pub endpoints : Each (λ p. IsSome (declared w.board p)) (given_paths w)
   pub paths_apart : EachPair (λ p q. IsFalse (path_eq p q)) (given_paths w)
 
--- the device's own registers lie from 40h on, and no two blocks of them have an offset in common
-abbrev pub BlocksApart : ConfigBlock → ConfigBlock → Type 0
-BlocksApart b c = (b.offset + length b.cells ≤ c.offset) ⊎ (c.offset + length c.cells ≤ b.offset)
-
--- so no two registers of an endpoint stand at one place
-pub record HasLawfulPlaces (d : Endpoint) : Type 0 where
-  pub regions : HasLawfulRegions d.regions
-  pub blocks : Each (λ b. 0x40 ≤ b.offset) d.blocks
-  pub blocks_apart : EachPair BlocksApart d.blocks
-
+-- of bridges nothing is needed
 abbrev pub IsLawfulFunction : Decl → Type 0
-IsLawfulFunction (endpoint d) = HasLawfulPlaces d
+IsLawfulFunction (endpoint d) = IsLawfulEndpoint d
 IsLawfulFunction (bridge d) = ⊤
 
 pub record IsLawfulWorld (w : World) : Type 0 where
