@@ -17,12 +17,13 @@ use std::process::ExitCode;
 use std::rt::Env;
 use std::{env, io};
 
-/// The program's name and its words.
+/// The program's name and its words. A word that is no text is none that the program takes.
 fn words_given(rt: &(impl Env + AllocGlobal)) -> Result<Vec<String>, Fault> {
-    let Ok(words) = env::args(rt) else {
-        return Err(Fault::Usage);
-    };
-    words.collect(rt.alloc()).map_err(|_| Fault::WordMemory)
+    match env::args(rt) {
+        Ok(words) => words.collect(rt.alloc()).map_err(|_| Fault::WordMemory),
+        Err(error) if error.kind() == io::ErrorKind::OutOfMemory => Err(Fault::WordMemory),
+        Err(_) => Err(Fault::Usage),
+    }
 }
 
 /// Does what the words ask.
