@@ -12,7 +12,7 @@ use Rattle.bars.specs.Slots.{placed, bases_from, with_no_base_in}
 use Rattle.bars.specs.Resets.{reset_from, at_reset, with_no_base}
 
 -- a mask of 64 bits clears the same bits of a number of 32 bits
-and_narrow : (v m : ℕ) → v < 2 ^ 32 → m < 2 ^ 32 → bit_and v (2 ^ 64 - 1 - m) ≡ bit_and v (2 ^ 32 - 1 - m)
+pub and_narrow : (v m : ℕ) → v < 2 ^ 32 → m < 2 ^ 32 → bit_and v (2 ^ 64 - 1 - m) ≡ bit_and v (2 ^ 32 - 1 - m)
 and_narrow v m hv hm =
     ap₂ bit_and (omega arith) (omega arith) ∙ and_block 32 0 (2 ^ 32 - 1) v (2 ^ 32 - 1 - m) hv (omega arith) ∙ omega arith
 

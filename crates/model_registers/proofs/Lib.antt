@@ -10,3 +10,4 @@ pub mod EnabledBytes
 pub mod Bases
 pub mod Hits
 pub mod Sizes
+pub mod Owned

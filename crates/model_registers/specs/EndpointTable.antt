@@ -44,6 +44,10 @@ base_file bs = flat_map register_cells bs
 abbrev pub opened : BaseAddress → Region
 opened b = record { index = b.index; kind = b.kind; size = b.size; cells = [] }
 
+-- a region's register at reset
+abbrev pub closed : Region → BaseAddress
+closed r = record { index = r.index; kind = r.kind; size = r.size; base = 0 }
+
 -- a size that the kind allows, and a base that the registers can hold
 pub record IsLawfulBase (b : BaseAddress) : Type 0 where
   pub size_is_lawful : IsLawfulSize b.kind b.size

@@ -15,3 +15,4 @@ pub mod RegisterLaws
 pub mod Sizing
 pub mod BaseLaws
 pub mod DecodingLaws
+pub mod OwnCopies

@@ -19,10 +19,6 @@ merged w v x rw = bit_or (bit_and v (256 ^ w - 1 - rw)) (bit_and x rw)
 abbrev pub FieldWrites : Type 0
 FieldWrites = (w a v rw x : ℕ) → rw < 256 ^ w → write (all_bytes w) x (config a) (field (config a) w v rw 0) ≡ field (config a) w (merged w v x rw) rw 0
 
--- a file of two parts is written part by part
-abbrev pub WritesInParts : Type 0
-WritesInParts = (enables : List Bool) (x : ℕ) (p : Place) (one two : File) → write enables x p (one ++ two) ≡ write enables x p one ++ write enables x p two
-
 -- by byte enables: a read shows the enabled bytes, and a write sets the writable bits of the enabled bytes
 abbrev pub EnabledFieldReads : Type 0
 EnabledFieldReads = (enables : List Bool) (a v rw w1c : ℕ) (rest : File)

@@ -5,10 +5,11 @@ ghost use Rattle.std.specs.Prelude.{◌≡◌, ℕ};
 ghost use Rattle.model_registers.specs.Cell.{no_cell, written};
 ghost use Rattle.model_registers.specs.AccessLaws.{AlignedLiesInWord, NumberByLanes, LanesFit, NumberFromWord, AllOnesByLanes, WriteByLanes, DisabledRead, DisabledStay, NumberFits, ReadsEnabled};
 ghost use Rattle.model_registers.specs.FileLaws.{JoinedCell, JoinedChange, JoinedWrite, ReadNone, WriteNone, ReadSecond, ReadFirst, PlacesStay, RegionCells, RegionCell, RegionRead, RegionChange, RegionWrite, RegionHasNoConfig, RegionHasNoOther, ConfigHasNoBlock, ConfigStays};
-ghost use Rattle.model_registers.specs.RegisterLaws.{ChangeAtPlace, FieldReads, FieldWrites, WritesInParts, EnabledFieldReads, EnabledFieldWrites};
+ghost use Rattle.model_registers.specs.RegisterLaws.{ChangeAtPlace, FieldReads, FieldWrites, EnabledFieldReads, EnabledFieldWrites};
 ghost use Rattle.model_registers.specs.BaseLaws.{ReadsOfBases, WritesOfBases};
 ghost use Rattle.model_registers.specs.Sizing.{SizesRead};
 ghost use Rattle.model_registers.specs.DecodingLaws.{HitsByBases, HitsOfRegisters};
+ghost use Rattle.model_registers.specs.OwnCopies.{OwnReads, OwnWrites, OwnStay, OwnHits, ResetHoldsOwn};
 
 /// A place without a cell drops writes.
 pub fn no_cell_drops_writes()
@@ -68,9 +69,8 @@ pub fn region_files()
     ensures config_stays { ConfigStays }
 {}
 
-/// The same by byte enables, and in a file of several parts.
+/// Registers of several bytes by byte enables.
 pub fn enabled_bytes()
-    ensures parts { WritesInParts }
     ensures reads { EnabledFieldReads }
     ensures writes { EnabledFieldWrites }
 {}
@@ -86,4 +86,14 @@ pub fn base_registers()
 pub fn decoding()
     ensures by_bases { HitsByBases }
     ensures of_registers { HitsOfRegisters }
+{}
+
+/// A function's file in two parts: a guest's own copies, and the cells that its accesses are handed on
+/// to.
+pub fn own_copies()
+    ensures reads { OwnReads }
+    ensures writes { OwnWrites }
+    ensures stay { OwnStay }
+    ensures hits { OwnHits }
+    ensures reset { ResetHoldsOwn }
 {}

@@ -1,0 +1,154 @@
+-- The own copies in numbers: what a word of them reads, and what a write leaves.
+use Rattle.std.proofs.Common.{◌≡◌, ℕ, ◌+◌, ◌-◌, ◌*◌, ◌/◌, ◌^◌, ◌<◌, ◌≤◌, ◌⊎◌, inl, inr, Bool, true, false, List, [], ◌∷◌, ◌++◌, length, map, sym, subst, ap, ap₂, ◌∙◌, arith, lit<, lit≤, zero-add}
+use Rattle.std.specs.Prelude.{bit_and, bit_or}
+use Rattle.std.proofs.lemmas.Nat.{and_block, and_le_l, and_le_r, or_lt}
+use Rattle.model_registers.specs.Lists.{Each}
+use Rattle.model_registers.specs.Registers.{config, File, read, write}
+use Rattle.model_registers.specs.ByteEnables.{is_enabled, lanes, enabled_bits}
+use Rattle.model_registers.specs.RegisterLaws.{merged}
+use Rattle.model_registers.specs.Declarations.{registers_of, IsLawfulRegion}
+use Rattle.model_registers.specs.EndpointTable.{base_register, base_width, type_bits, BaseAddress, register_cells, base_file, command_cells, opened}
+use Rattle.model_registers.specs.OwnCopies.{OwnCopies, own_file, IsLawfulOwn}
+use Rattle.guest_functions.specs.declared.word.Word.{Word}
+use Rattle.guest_functions.specs.declared.word.Word.TheVariants.{HeaderType, Other}
+use Rattle.guest_functions.specs.Words.{IsAt, IsOther}
+use Rattle.model_registers.proofs.Bases.{four}
+use Rattle.model_registers.proofs.EnabledBytes.{read_field, write_field}
+use Rattle.model_registers.proofs.Parts.{IsApart, read_apart, write_apart, write_append, write_none, read_none, read_above, field_below}
+
+-- ---- words without base address registers
+
+base_apart : (b : BaseAddress) (n off : ℕ) → b.index + registers_of b.kind ≤ 6 → (off + n ≤ 0x10) ⊎ (0x28 ≤ off) → IsApart n off (0x10 + 4 * b.index) (4 * registers_of b.kind)
+base_apart b n off within (inl low) = inl (omega arith)
+base_apart b n off within (inr high) = inr (omega arith)
+
+bases_unread : (bs : List BaseAddress) → Each IsLawfulRegion (map opened bs) → (ons : List Bool) (off : ℕ) → (off + length ons ≤ 0x10) ⊎ (0x28 ≤ off) → read (base_file bs) (config off) ons ≡ 0
+bases_unread [] lawful ons off h = read_none ons (config off)
+bases_unread (b ∷ bs) lawful ons off h =
+    read_apart ons off (4 * registers_of b.kind) (0x10 + 4 * b.index) (b.base + type_bits b.kind) (2 ^ base_width b.kind - b.size) 0 (base_file bs) (base_apart b (length ons) off lawful.0.registers h)
+    ∙ bases_unread bs lawful.1 ons off h
+
+bases_unwritten : (bs : List BaseAddress) → Each IsLawfulRegion (map opened bs) → (ons : List Bool) (x off : ℕ) → (off + length ons ≤ 0x10) ⊎ (0x28 ≤ off) → write ons x (config off) (base_file bs) ≡ base_file bs
+bases_unwritten [] lawful ons x off h = write_none ons x (config off)
+bases_unwritten (b ∷ bs) lawful ons x off h =
+    write_append ons x (config off) (register_cells b) (base_file bs)
+    ∙ ap₂ (λ (one more : File). one ++ more)
+    (write_apart ons x off (4 * registers_of b.kind) (0x10 + 4 * b.index) (b.base + type_bits b.kind) (2 ^ base_width b.kind - b.size) 0 (base_apart b (length ons) off lawful.0.registers h))
+    (bases_unwritten bs lawful.1 ons x off h)
+
+-- ---- a word of no own copies with cells
+
+pub record IsAway (off : ℕ) : Type 0 where
+  pub command : (off + 4 ≤ 4) ⊎ (6 ≤ off)
+  pub bases : (off + 4 ≤ 0x10) ⊎ (0x28 ≤ off)
+
+apart_from_command : (off : ℕ) → (off + 4 ≤ 4) ⊎ (6 ≤ off) → IsApart 4 off 4 2
+apart_from_command off (inl low) = inl low
+apart_from_command off (inr high) = inr high
+
+pub away_read : (own : OwnCopies) → IsLawfulOwn own → (p q r s : Bool) (off : ℕ) → IsAway off → read (own_file own) (config off) (four p q r s) ≡ 0
+away_read own lawful p q r s off h =
+    read_apart (four p q r s) off 2 4 own.command 0x0547 0 (base_file own.bases) (apart_from_command off h.command)
+    ∙ bases_unread own.bases lawful.each (four p q r s) off h.bases
+
+pub away_write : (own : OwnCopies) → IsLawfulOwn own → (p q r s : Bool) (x off : ℕ) → IsAway off → write (four p q r s) x (config off) (own_file own) ≡ own_file own
+away_write own lawful p q r s x off h =
+    write_append (four p q r s) x (config off) (command_cells own.command) (base_file own.bases)
+    ∙ ap₂ (λ (one more : File). one ++ more) (write_apart (four p q r s) x off 2 4 own.command 0x0547 0 (apart_from_command off h.command))
+    (bases_unwritten own.bases lawful.each (four p q r s) x off h.bases)
+
+-- ---- base address registers
+
+pub base_read : (own : OwnCopies) (ons : List Bool) (reg : ℕ) → read (own_file own) (base_register reg) ons ≡ read (base_file own.bases) (base_register reg) ons
+base_read own ons reg = read_above (command_cells own.command) 6 (field_below 2 4 own.command 0x0547 0 6 (omega arith)) ons (base_file own.bases) (0x10 + 4 * reg) (omega arith)
+
+pub base_write : (own : OwnCopies) (p q r s : Bool) (x reg : ℕ) → write (four p q r s) x (base_register reg) (own_file own) ≡ command_cells own.command ++ write (four p q r s) x (base_register reg) (base_file own.bases)
+base_write own p q r s x reg =
+    write_append (four p q r s) x (base_register reg) (command_cells own.command) (base_file own.bases)
+    ∙ ap (λ (one : File). one ++ write (four p q r s) x (base_register reg) (base_file own.bases)) (write_apart (four p q r s) x (0x10 + 4 * reg) 2 4 own.command 0x0547 0 (inr (omega arith)))
+
+-- ---- Command
+
+-- the enabled bits of a word, by its halves
+low_bits : (p q : Bool) → enabled_bits (p ∷ q ∷ []) < 2 ^ 16
+low_bits true true = lit< tt
+low_bits true false = lit< tt
+low_bits false true = lit< tt
+low_bits false false = lit< tt
+
+halves : (p q r s : Bool) → enabled_bits (four p q r s) ≡ enabled_bits (r ∷ s ∷ []) * 2 ^ 16 + enabled_bits (p ∷ q ∷ [])
+halves p q r s = omega arith
+
+and_low : (c : ℕ) → c < 2 ^ 16 → (p q r s : Bool) → bit_and c (enabled_bits (four p q r s)) ≡ bit_and c (enabled_bits (p ∷ q ∷ []))
+and_low c h p q r s =
+    let whole : c ≡ 0 * 2 ^ 16 + c = omega arith in
+    ap₂ bit_and whole (halves p q r s) ∙ and_block 16 0 (enabled_bits (r ∷ s ∷ [])) c (enabled_bits (p ∷ q ∷ [])) h (low_bits p q)
+    ∙ zero-add (bit_and c (enabled_bits (p ∷ q ∷ [])))
+
+pub command_read : (own : OwnCopies) → IsLawfulOwn own → own.command < 2 ^ 16 → (p q r s : Bool) → read (own_file own) (config 4) (four p q r s) ≡ bit_and own.command (enabled_bits (four p q r s))
+command_read own lawful small p q r s =
+    let low : read (own_file own) (config 4) (p ∷ q ∷ []) ≡ bit_and own.command (enabled_bits (p ∷ q ∷ [])) = read_field (p ∷ q ∷ []) 4 own.command 0x0547 0 (base_file own.bases) in
+    let high : read (own_file own) (config 6) (r ∷ s ∷ []) ≡ 0 =
+    read_apart (r ∷ s ∷ []) 6 2 4 own.command 0x0547 0 (base_file own.bases) (inr (lit≤ tt)) ∙ bases_unread own.bases lawful.each (r ∷ s ∷ []) 6 (inl (lit≤ tt)) in
+    let split : read (own_file own) (config 4) (four p q r s) ≡ read (own_file own) (config 4) (p ∷ q ∷ []) = omega (arith, high) in
+    split ∙ low ∙ sym (and_low own.command small p q r s)
+
+pub command_write : (own : OwnCopies) → IsLawfulOwn own → (p q r s : Bool) (x : ℕ) → write (four p q r s) x (config 4) (own_file own)
+    ≡ own_file (record own { command = merged 2 own.command x (bit_and 0x0547 (enabled_bits (four p q r s))) })
+command_write own lawful p q r s x =
+    let mask : ℕ = bit_and 0x0547 (enabled_bits (p ∷ q ∷ [])) in
+    let stored : write (p ∷ q ∷ []) x (config 4) (command_cells own.command) ≡ command_cells (merged 2 own.command x mask) = write_field (p ∷ q ∷ []) 4 own.command 0x0547 x (lit< tt) in
+    let command : write (four p q r s) x (config 4) (command_cells own.command) ≡ command_cells (merged 2 own.command x (bit_and 0x0547 (enabled_bits (four p q r s)))) =
+    ap (write (r ∷ s ∷ []) (x / 256 / 256) (config 6)) stored
+    ∙ write_apart (r ∷ s ∷ []) (x / 256 / 256) 6 2 4 (merged 2 own.command x mask) 0x0547 0 (inr (lit≤ tt))
+    ∙ ap (λ m. command_cells (merged 2 own.command x m)) (sym (and_low 0x0547 (lit< tt) p q r s)) in
+    write_append (four p q r s) x (config 4) (command_cells own.command) (base_file own.bases)
+    ∙ ap₂ (λ (one more : File). one ++ more) command (bases_unwritten own.bases lawful.each (four p q r s) x 4 (inl (lit≤ tt)))
+
+-- Command after a write, in 32 bits
+pub written_in_32 : (c x m : ℕ) → c < 2 ^ 16 → m < 2 ^ 16 → bit_or (bit_and c (2 ^ 32 - 1 - m)) (bit_and x m) ≡ merged 2 c x m
+written_in_32 c x m hc hm =
+    let rest : 2 ^ 32 - 1 - m ≡ (2 ^ 16 - 1) * 2 ^ 16 + (2 ^ 16 - 1 - m) = omega arith in
+    let whole : c ≡ 0 * 2 ^ 16 + c = omega arith in
+    ap (λ n. bit_or n (bit_and x m)) (ap₂ bit_and whole rest ∙ and_block 16 0 (2 ^ 16 - 1) c (2 ^ 16 - 1 - m) hc (omega arith) ∙ zero-add (bit_and c (2 ^ 16 - 1 - m)))
+
+pub command_fits : (c x m : ℕ) → c < 2 ^ 16 → m < 2 ^ 16 → bit_or (bit_and c (2 ^ 32 - 1 - m)) (bit_and x m) < 2 ^ 16
+command_fits c x m hc hm = or_lt 16 (bit_and c (2 ^ 32 - 1 - m)) (bit_and x m) (omega (arith, and_le_l c (2 ^ 32 - 1 - m))) (omega (arith, and_le_r x m))
+
+-- ---- by the word at an offset
+
+away_of_header_type : (off : ℕ) → off ≡ 0x0c → IsAway off
+away_of_header_type off e = record { command = inr (omega arith); bases = inl (omega arith) }
+
+away_of_other : (off : ℕ) → IsOther off → IsAway off
+away_of_other off (inl e) = record { command = inl (omega arith); bases = inl (omega arith) }
+away_of_other off (inr (inl e)) = record { command = inr (omega arith); bases = inl (omega arith) }
+away_of_other off (inr (inr h)) = record { command = inr (omega arith); bases = inr h }
+
+pub is_away : (off : ℕ) (w : Word) → IsAt off w → (w ≡ HeaderType) ⊎ (w ≡ Other) → IsAway off
+is_away off w at (inl e) = away_of_header_type off (subst (IsAt off) e at)
+is_away off w at (inr e) = away_of_other off (subst (IsAt off) e at)
+
+pub at_command : (own : OwnCopies) → IsLawfulOwn own → own.command < 2 ^ 16 → (be off : ℕ) → off ≡ 4 → bit_and own.command (enabled_bits (lanes be)) ≡ read (own_file own) (config off) (lanes be)
+at_command own lawful small be off e =
+    sym (command_read own lawful small (is_enabled be 0) (is_enabled be 1) (is_enabled be 2) (is_enabled be 3)) ∙ ap (λ a. read (own_file own) (config a) (lanes be)) (sym e)
+
+pub at_base : (own : OwnCopies) (be off reg : ℕ) → off ≡ 0x10 + 4 * reg → read (base_file own.bases) (base_register reg) (lanes be) ≡ read (own_file own) (config off) (lanes be)
+at_base own be off reg e = sym (base_read own (lanes be) reg) ∙ ap (λ a. read (own_file own) (config a) (lanes be)) (sym e)
+
+pub at_away : (own : OwnCopies) → IsLawfulOwn own → (be off : ℕ) → IsAway off → 0 ≡ read (own_file own) (config off) (lanes be)
+at_away own lawful be off away = sym (away_read own lawful (is_enabled be 0) (is_enabled be 1) (is_enabled be 2) (is_enabled be 3) off away)
+
+pub store_command : (own : OwnCopies) → IsLawfulOwn own → (be x off : ℕ) → off ≡ 4
+    → own_file (record own { command = merged 2 own.command x (bit_and 0x0547 (enabled_bits (lanes be))) }) ≡ write (lanes be) x (config off) (own_file own)
+store_command own lawful be x off e =
+    sym (command_write own lawful (is_enabled be 0) (is_enabled be 1) (is_enabled be 2) (is_enabled be 3) x) ∙ ap (λ a. write (lanes be) x (config a) (own_file own)) (sym e)
+
+pub store_base : (own : OwnCopies) (bases : List BaseAddress) (be x off reg : ℕ) → off ≡ 0x10 + 4 * reg → base_file bases ≡ write (lanes be) x (base_register reg) (base_file own.bases)
+    → own_file (record own { bases = bases }) ≡ write (lanes be) x (config off) (own_file own)
+store_base own bases be x off reg e stored =
+    ap (λ (f : File). command_cells own.command ++ f) stored
+    ∙ sym (base_write own (is_enabled be 0) (is_enabled be 1) (is_enabled be 2) (is_enabled be 3) x reg) ∙ ap (λ a. write (lanes be) x (config a) (own_file own)) (sym e)
+
+pub store_away : (own : OwnCopies) → IsLawfulOwn own → (be x off : ℕ) → IsAway off → own_file own ≡ write (lanes be) x (config off) (own_file own)
+store_away own lawful be x off away = sym (away_write own lawful (is_enabled be 0) (is_enabled be 1) (is_enabled be 2) (is_enabled be 3) x off away)

@@ -1,0 +1,22 @@
+-- The words of configuration space, by what a guest has of them.
+--     IsAt off w      the word at an offset is w
+--     own_lanes w      the byte enables of its own copies
+use Rattle.std.specs.Prelude.{◌≡◌, ◌≤◌, ◌<◌, ℕ, ◌+◌, ◌*◌, ◌⊎◌}
+use Rattle.guest_functions.specs.declared.word.Word.{Word}
+use Rattle.guest_functions.specs.declared.word.Word.TheVariants.{Command, HeaderType, Base, Other}
+
+-- the words without own copies: below Command, between Status and the header type's word, above the base address registers
+abbrev pub IsOther : ℕ → Type 0
+IsOther off = (off ≡ 0) ⊎ ((off ≡ 8) ⊎ (0x28 ≤ off))
+
+abbrev pub IsAt : ℕ → Word → Type 0
+IsAt off Command = off ≡ 4
+IsAt off HeaderType = off ≡ 0x0c
+IsAt off (Base reg) = (off ≡ 0x10 + 4 * reg) × (reg < 6)
+IsAt off Other = IsOther off
+
+abbrev pub own_lanes : Word → ℕ
+own_lanes Command = 3
+own_lanes HeaderType = 4
+own_lanes (Base reg) = 15
+own_lanes Other = 0

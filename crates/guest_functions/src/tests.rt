@@ -1,0 +1,21 @@
+use crate::VirtualFunction;
+use bars::{BarDecl, Kind, Space};
+
+/// Command, its read-only bits, the bytes that are handed on, and what is decoded.
+#[test]
+fn own_copies(rt: HostRuntime) {
+    let ports = BarDecl::new(Kind::Io, 32).expect(&rt, "lawful");
+    let memory = BarDecl::new(Kind::Mem32 { pref: false }, 4096).expect(&rt, "lawful");
+    let mut function = VirtualFunction::new([Some(ports), Some(memory), None, None, None, None]);
+    assert!(rt; function.config_read(0x00, 0b1111) == (0, 0b1111));
+    assert!(rt; function.config_read(0x04, 0b1111) == (0, 0b1100));
+    assert!(rt; function.config_read(0x0c, 0b0101) == (0, 0b0001));
+    assert!(rt; function.config_write(0x04, 0b1111, 0xffff_ffff) == 0b1100);
+    assert!(rt; function.config_read(0x04, 0b0011) == (0x0547, 0));
+    assert!(rt; function.config_write(0x14, 0b1111, 0x8000_0fff) == 0);
+    assert!(rt; function.config_read(0x14, 0b1111) == (0x8000_0000, 0));
+    assert!(rt; function.decode(Space::Mem, 0x8000_0010) == Some((1, 0x10)));
+    assert!(rt; function.decode(Space::Io, 0x1f) == Some((0, 0x1f)));
+    assert!(rt; function.config_write(0x04, 0b0001, 0x02) == 0);
+    assert!(rt; function.decode(Space::Io, 0x1f).is_none());
+}

@@ -1,0 +1,112 @@
+//! A guest's own copies of Command, header type and base address registers.
+ghost use Rattle.std.specs.Prelude.{◌≡◌, ◌≤◌, ◌<◌, ◌+◌, ◌%◌, false, if◌then◌else◌, map, bit_and};
+ghost use Rattle.model_registers.specs.Lists.{Each};
+ghost use Rattle.model_registers.specs.Registers.{Place, config, File, cell_at, read, write};
+ghost use Rattle.model_registers.specs.ByteEnables.{lanes, enabled_bits};
+ghost use Rattle.model_registers.specs.RegisterLaws.{merged};
+ghost use Rattle.model_registers.specs.Declarations.{Endpoint, HasLawfulRegions};
+ghost use Rattle.model_registers.specs.EndpointTable.{opened, closed, endpoint_reset};
+ghost use Rattle.model_registers.specs.Decoding.{Function, lone_claim};
+ghost use Rattle.model_registers.specs.OwnCopies.{is_own, own_file, HoldsOwn, handed_on, bare};
+ghost use Rattle.bars.specs.Kinds.{named_space};
+ghost use Rattle.bars.specs.Hits.{named_hit};
+ghost use Rattle.bars.specs.Resets.{at_reset};
+
+use crate::word::Word;
+use bars::{BarDecl, Bars, Space, enabled_bits};
+use std::marker::Model;
+
+/// The bits of Command that software sets: 0, 1, 2, 6, 8 and 10 (PCI Local Bus Specification 3.0,
+/// section 6.2.2).
+const COMMAND_WRITABLE: u32 = 0x0547;
+
+/// A function in a guest's slot. The guest's Command and base address registers are kept here, and so
+/// decide what the guest's accesses decode; the header type always reads 00h, whatever else the device
+/// holds. Accesses to all other registers are handed on to the board.
+#[derive(Debug, Drop)]
+pub struct VirtualFunction {
+    command: u16,
+    bars: Bars,
+}
+
+impl Model for VirtualFunction {
+    ghost use Rattle.std.specs.Prelude.{map};
+    ghost use Rattle.model_registers.specs.Declarations.{HasLawfulRegions};
+    ghost use Rattle.model_registers.specs.EndpointTable.{opened};
+    ghost use Rattle.model_registers.specs.OwnCopies.{OwnCopies};
+
+    ghost Value = { OwnCopies };
+
+    ghost view = { λ f. record { command = f.command; bases = f.bars } };
+
+    ghost invariant = { λ f. HasLawfulRegions (map opened f.bars) };
+}
+
+/// Command after a write of the enabled bytes of its word.
+fn command_written(command: u16, be: u8, value: u32) -> u16
+    ensures { result ≡ merged 2 command value (bit_and 0x0547 (enabled_bits (lanes be))) }
+{
+    let mask = COMMAND_WRITABLE & enabled_bits(be);
+    ((u32::from(command) & !mask) | (value & mask)) as u16
+}
+
+impl VirtualFunction {
+    /// A function with these declarations of base address registers, with all own copies at reset.
+    pub fn new(decls: [Option<BarDecl>; 6]) -> VirtualFunction
+        requires { HasLawfulRegions (map opened (at_reset decls)) }
+        ensures copies { result ≡ record { command = 0; bases = at_reset decls } }
+        ensures reset { (d : Endpoint) → Each (λ b. 0x40 ≤ b.offset) d.blocks → map closed d.regions ≡ at_reset decls → HoldsOwn (endpoint_reset d false) result }
+    {
+        VirtualFunction {
+            command: 0,
+            bars: Bars::new(decls),
+        }
+    }
+
+    /// What the own copies among the enabled bytes of a word show, with 0 in all other bytes, and the
+    /// byte enables that are handed on.
+    pub fn config_read(&self, off: u16, be: u8) -> (u32, u8)
+        requires aligned { off % 4 ≡ 0 }
+        requires in_range { off < 256 }
+        ensures own { result.0 ≡ read (own_file self.now) (config off) (lanes be) }
+        ensures others { lanes result.1 ≡ handed_on (config off) (lanes be) }
+        ensures four { result.1 < 16 }
+        ensures together { (file : File) → HoldsOwn file self.now → read file (config off) (lanes be) ≡ result.0 + read file (config off) (lanes result.1) }
+    {
+        let word = Word::at(off);
+        let own = match word {
+            Word::Command => u32::from(self.command) & enabled_bits(be),
+            Word::Base(reg) => self.bars.read(reg, be),
+            Word::HeaderType | Word::Other => 0,
+        };
+        (own, word.handed_on(off, be))
+    }
+
+    /// Writes the own copies among the enabled bytes of a word, and gives the byte enables that are
+    /// handed on.
+    pub fn config_write(&mut self, off: u16, be: u8, value: u32) -> u8
+        requires aligned { off % 4 ≡ 0 }
+        requires in_range { off < 256 }
+        ensures own { own_file self.new ≡ write (lanes be) value (config off) (own_file self.old) }
+        ensures regions { map opened self.new.bases ≡ map opened self.old.bases }
+        ensures others { lanes result ≡ handed_on (config off) (lanes be) }
+        ensures four { result < 16 }
+        ensures together { (file : File) → HoldsOwn file self.old → (p : Place) → cell_at (write (lanes be) value (config off) file) p ≡ (if is_own p then cell_at (own_file self.new) p else cell_at (write (lanes result) value (config off) file) p) }
+    {
+        let word = Word::at(off);
+        match word {
+            Word::Command => self.command = command_written(self.command, be, value),
+            Word::Base(reg) => self.bars.write(reg, be, value),
+            Word::HeaderType | Word::Other => {}
+        }
+        word.handed_on(off, be)
+    }
+
+    /// The least register whose region decodes an address by the guest's own Command and bases, and the
+    /// offset in the region.
+    pub fn decode(&self, space: Space, addr: u64) -> Option<(u8, u64)>
+        ensures { (f : Function) → HoldsOwn f.file self.now → map bare f.decl.regions ≡ map opened self.now.bases → named_hit result ≡ lone_claim f (named_space space) addr }
+    {
+        self.bars.decode(space, addr, self.command)
+    }
+}

@@ -1,0 +1,293 @@
+-- A function's file, parted into a guest's own copies and all other cells.
+use Rattle.std.proofs.Common.{◌≡◌, ℕ, zero, suc, ◌+◌, ◌*◌, ◌/◌, ◌%◌, ◌<◌, ◌≤◌, ◌⊎◌, inl, inr, Bool, true, false, not, ◌&&◌, ◌||◌, cond, List, [], ◌∷◌, ◌++◌, length, map, refl, sym, ap, ap₂, ◌∙◌, subst, arith, eqb, leb, ltb, append_assoc, ◌-◌, ◌^◌, lit<}
+use Rattle.std.specs.Prelude.{bit_and, bit_or, flat_map}
+use Rattle.std.specs.Int.Bits.{or_zero_r, and_zero_r}
+use Rattle.std.proofs.lemmas.Bool.{cases_lt, cases_Bool, or_parts, and_cases, eqb-false, leb-false, ltb-false, or_right, and_from, le-leb, lt-ltb, or_cases, and_parts, eqb-true, leb-true, ltb-true, ne_eqb}
+use Rattle.model_registers.specs.Lists.{Each, first_some}
+use Rattle.model_registers.specs.Cell.{Cell, no_cell, written, raised}
+use Rattle.model_registers.specs.Registers.{Place, config, block, place_eq, after, File, cell_at, changed, read, write, all_bytes, number, field, cells_from}
+use Rattle.model_registers.specs.Declarations.{Endpoint, ConfigBlock, Kind, io_kind, mem32, mem64, Region, registers_of, IsLawfulRegion}
+use Rattle.model_registers.specs.EndpointTable.{BaseAddress, base_width, type_bits, register_cells, base_file, command_cells, opened, closed, region_cells, block_cells, header_cells, endpoint_reset}
+use Rattle.model_registers.specs.Decoding.{base, standing, hit_at}
+use Rattle.model_registers.specs.OwnCopies.{is_own, OwnCopies, own_file, HoldsOwn, handed_on, IsLawfulOwn, OwnReads, OwnWrites, OwnStay, bare, OwnHits, ResetHoldsOwn}
+use Rattle.model_registers.proofs.RegisterFiles.{place_same, change_at_place, above}
+use Rattle.model_registers.proofs.Hits.{hits_by_bases}
+use Rattle.model_registers.proofs.Parts.{IsOutside, cell_outside}
+
+-- ---- writes
+
+no_cell_stays : (b : ℕ) → written b no_cell ≡ no_cell
+no_cell_stays b = ap (λ n. record { value = n; writable = 0; clearable = 0 }) (ap (λ n. bit_or n 0) (and_zero_r b) ∙ or_zero_r 0)
+
+-- a cell after a write, by its place
+after_write : List Bool → ℕ → Place → Place → Cell → Cell
+after_write [] x p q c = c
+after_write (on ∷ ons) x p q c = after_write ons (x / 256) (after p) q (cond (on && place_eq p q) (written (x % 256) c) c)
+
+cell_after : (ons : List Bool) (x : ℕ) (p q : Place) (file : File) → cell_at (write ons x p file) q ≡ after_write ons x p q (cell_at file q)
+unfolding after_write
+cell_after [] x p q file = refl
+cell_after (true ∷ ons) x p q file =
+    cell_after ons (x / 256) (after p) q (changed (written (x % 256)) p file) ∙ ap (after_write ons (x / 256) (after p) q) (change_at_place (written (x % 256)) (no_cell_stays (x % 256)) file p q)
+cell_after (false ∷ ons) x p q file = cell_after ons (x / 256) (after p) q file
+
+right_false : (s t : Bool) → t ≡ false → (s && t) ≡ false
+right_false true t h = h
+right_false false t h = refl
+
+-- a cell that is no own copy takes what is handed on, and no more
+not_owned : (p q : Place) → is_own q ≡ false → (on : Bool) → (on && place_eq p q) ≡ (on && not (is_own p) && place_eq p q)
+not_owned p q other false = refl
+not_owned p q other true = elim (cases_Bool (place_eq p q)) [
+  | inl same ↦
+      let own : is_own p ≡ false = ap is_own (place_same p q same) ∙ other in
+      ap (λ (t : Bool). not t && place_eq p q) (sym own)
+  | inr apart ↦ ap (λ (t : Bool). true && t) apart ∙ sym (right_false (not (is_own p)) (place_eq p q) apart)
+]
+
+other_after : (ons : List Bool) (x : ℕ) (p q : Place) (c : Cell) → is_own q ≡ false → after_write ons x p q c ≡ after_write (handed_on p ons) x p q c
+unfolding after_write
+other_after [] x p q c other = refl
+other_after (on ∷ ons) x p q c other =
+    other_after ons (x / 256) (after p) q (cond (on && place_eq p q) (written (x % 256) c) c) other
+    ∙ ap (λ (t : Bool). after_write (handed_on (after p) ons) (x / 256) (after p) q (cond t (written (x % 256) c) c)) (not_owned p q other on)
+
+own_or_other : (own : Bool) (a b c : Cell) → (own ≡ true → a ≡ b) → (own ≡ false → a ≡ c) → a ≡ cond own b c
+own_or_other true a b c mine other = mine refl
+own_or_other false a b c mine other = other refl
+
+pub own_writes : OwnWrites
+own_writes own file holds p q ons x =
+    own_or_other (is_own q) (cell_at (write ons x p file) q) (cell_at (write ons x p (own_file own)) q) (cell_at (write (handed_on p ons) x p file) q)
+    (λ mine. cell_after ons x p q file ∙ ap (after_write ons x p q) (holds q mine) ∙ sym (cell_after ons x p q (own_file own)))
+    (λ other. cell_after ons x p q file ∙ other_after ons x p q (cell_at file q) other ∙ sym (cell_after (handed_on p ons) x p q file))
+
+-- ---- reads
+
+block_outside : (w a v m c n q : ℕ) (rest : File) → cell_at (field (config a) w v m c ++ rest) (block n q) ≡ cell_at rest (block n q)
+block_outside zero a v m c n q rest = refl
+block_outside (suc w) a v m c n q rest = block_outside w (a + 1) (v / 256) (m / 256) (c / 256) n q rest
+
+-- an offset outside Command and the base address registers
+record IsElse (q : ℕ) : Type 0 where
+  command : IsOutside q 4 2
+  bases : (q < 0x10) ⊎ (0x28 ≤ q)
+
+is_else : (q : ℕ) → is_own (config q) ≡ false → IsElse q
+is_else q other =
+    let parts : ((eqb q 4 || eqb q 5 || eqb q 0x0e) ≡ false) × ((leb 0x10 q && ltb q 0x28) ≡ false) = or_parts (eqb q 4 || eqb q 5 || eqb q 0x0e) (leb 0x10 q && ltb q 0x28) other in
+    let header : ((eqb q 4 || eqb q 5) ≡ false) × (eqb q 0x0e ≡ false) = or_parts (eqb q 4 || eqb q 5) (eqb q 0x0e) parts.0 in
+    let command : (eqb q 4 ≡ false) × (eqb q 5 ≡ false) = or_parts (eqb q 4) (eqb q 5) header.0 in
+    record {
+      command = elim (cases_lt q 4) [ inl below ↦ inl below | inr above ↦ inr (omega (arith, eqb-false q 4 command.0, eqb-false q 5 command.1)) ];
+      bases = elim (and_cases (leb 0x10 q) (ltb q 0x28) parts.1) [ inl low ↦ inl (leb-false 0x10 q low) | inr high ↦ inr (ltb-false q 0x28 high) ];
+    }
+
+base_outside : (b : BaseAddress) (q : ℕ) → b.index + registers_of b.kind ≤ 6 → (q < 0x10) ⊎ (0x28 ≤ q) → IsOutside q (0x10 + 4 * b.index) (4 * registers_of b.kind)
+base_outside b q within (inl low) = inl (omega arith)
+base_outside b q within (inr high) = inr (omega arith)
+
+no_base : (bs : List BaseAddress) → Each IsLawfulRegion (map opened bs) → (q : ℕ) → (q < 0x10) ⊎ (0x28 ≤ q) → cell_at (base_file bs) (config q) ≡ no_cell
+no_base [] lawful q h = refl
+no_base (b ∷ bs) lawful q h =
+    cell_outside (4 * registers_of b.kind) (0x10 + 4 * b.index) q (b.base + type_bits b.kind) (2 ^ base_width b.kind - b.size) 0 (base_file bs) (base_outside b q lawful.0.registers h)
+    ∙ no_base bs lawful.1 q h
+
+no_block : (bs : List BaseAddress) (n q : ℕ) → cell_at (base_file bs) (block n q) ≡ no_cell
+no_block [] n q = refl
+no_block (b ∷ bs) n q = block_outside (4 * registers_of b.kind) (0x10 + 4 * b.index) (b.base + type_bits b.kind) (2 ^ base_width b.kind - b.size) 0 n q (base_file bs) ∙ no_block bs n q
+
+-- own copies have no other cell
+pub none_else : (own : OwnCopies) → IsLawfulOwn own → (p : Place) → is_own p ≡ false → cell_at (own_file own) p ≡ no_cell
+none_else own lawful (block n q) other = block_outside 2 4 own.command 0x0547 0 n q (base_file own.bases) ∙ no_block own.bases n q
+none_else own lawful (config q) other =
+    let h : IsElse q = is_else q other in
+    cell_outside 2 4 q own.command 0x0547 0 (base_file own.bases) h.command ∙ no_base own.bases lawful.each q h.bases
+
+lane_split : (on own : Bool) (v o : ℕ) → (own ≡ true → v ≡ o) → (own ≡ false → o ≡ 0) → cond on v 0 ≡ cond on o 0 + cond (on && not own) v 0
+lane_split false own v o mine other = refl
+lane_split true true v o mine other = omega (arith, mine refl)
+lane_split true false v o mine other = omega (arith, other refl)
+
+pub own_reads : OwnReads
+own_reads own lawful file holds p [] = refl
+own_reads own lawful file holds p (on ∷ ons) =
+    let here : cond on (cell_at file p).value 0 ≡ cond on (cell_at (own_file own) p).value 0 + cond (on && not (is_own p)) (cell_at file p).value 0 =
+    lane_split on (is_own p) (cell_at file p).value (cell_at (own_file own) p).value (λ mine. ap (λ (c : Cell). c.value) (holds p mine)) (λ other. ap (λ (c : Cell). c.value) (none_else own lawful p other)) in
+    omega (arith, own_reads own lawful file holds (after p) ons)
+
+-- ---- raises
+
+-- no bit of the cell rises
+IsStill : Cell → Type 0
+IsStill c = c.clearable ≡ 0
+
+still_unraised : (m : ℕ) (c : Cell) → IsStill c → raised m c ≡ c
+unfolding IsStill
+still_unraised m c h = ap (λ n. record c { value = n }) (ap (λ t. bit_or c.value (bit_and m t)) h ∙ ap (bit_or c.value) (and_zero_r m) ∙ or_zero_r c.value)
+
+still_either : (t : Bool) (c d : Cell) → IsStill c → IsStill d → IsStill (cond t c d)
+still_either true c d hc hd = hc
+still_either false c d hc hd = hd
+
+still_field : (w a v m : ℕ) (rest : File) (p : Place) → IsStill (cell_at rest p) → IsStill (cell_at (field (config a) w v m 0 ++ rest) p)
+unfolding IsStill
+still_field zero a v m rest p h = h
+still_field (suc w) a v m rest p h =
+    still_either (place_eq (config a) p) (record { value = v % 256; writable = m % 256; clearable = 0 }) (cell_at (field (config (a + 1)) w (v / 256) (m / 256) 0 ++ rest) p)
+    refl (still_field w (a + 1) (v / 256) (m / 256) rest p h)
+
+still_bases : (bs : List BaseAddress) (p : Place) → IsStill (cell_at (base_file bs) p)
+unfolding IsStill
+still_bases [] p = refl
+still_bases (b ∷ bs) p = still_field (4 * registers_of b.kind) (0x10 + 4 * b.index) (b.base + type_bits b.kind) (2 ^ base_width b.kind - b.size) (base_file bs) p (still_bases bs p)
+
+still_own : (own : OwnCopies) (p : Place) → IsStill (cell_at (own_file own) p)
+still_own own p = still_field 2 4 own.command 0x0547 (base_file own.bases) p (still_bases own.bases p)
+
+raised_none : (m : ℕ) → raised m no_cell ≡ no_cell
+raised_none m = ap (λ n. record { value = n; writable = 0; clearable = 0 }) (ap (bit_or 0) (and_zero_r m) ∙ or_zero_r 0)
+
+same_cell : (t : Bool) (c d : Cell) → (t ≡ true → c ≡ d) → cond t c d ≡ d
+same_cell true c d h = h refl
+same_cell false c d h = refl
+
+pub own_stay : OwnStay
+own_stay own file holds p q m mine =
+    change_at_place (raised m) (raised_none m) file p q
+    ∙ same_cell (place_eq p q) (raised m (cell_at file q)) (cell_at file q)
+    (λ same. still_unraised m (cell_at file q) (subst IsStill (sym (holds q (subst (λ (x : Place). is_own x ≡ true) (place_same p q same) mine))) (still_own own q)))
+
+-- ---- decoding
+
+pub base_is_own : (q : ℕ) → 0x10 ≤ q → q < 0x28 → is_own (config q) ≡ true
+base_is_own q low high = or_right (eqb q 4 || eqb q 5 || eqb q 0x0e) (leb 0x10 q && ltb q 0x28) (and_from (leb 0x10 q) (ltb q 0x28) (le-leb 0x10 q low) (lt-ltb q 0x28 high))
+
+same_number : (own : OwnCopies) (file : File) → HoldsOwn file own → (ons : List Bool) (q : ℕ) → 0x10 ≤ q → q + length ons ≤ 0x28 → read file (config q) ons ≡ read (own_file own) (config q) ons
+same_number own file holds [] q low high = refl
+same_number own file holds (on ∷ ons) q low high =
+    ap₂ (λ (c : Cell) (n : ℕ). cond on c.value 0 + 256 * n) (holds (config q) (base_is_own q low (omega arith))) (same_number own file holds ons (q + 1) (omega arith) (omega arith))
+
+same_base : (own : OwnCopies) (file : File) → HoldsOwn file own → (kind : Kind) (n : ℕ) → n + registers_of kind ≤ 6 → base file n kind ≡ base (own_file own) n kind
+same_base own file holds io_kind n h = ap (λ m. m / 4 * 4) (same_number own file holds (all_bytes 4) (0x10 + 4 * n) (omega arith) (omega arith))
+same_base own file holds (mem32 pref) n h = ap (λ m. m / 16 * 16) (same_number own file holds (all_bytes 4) (0x10 + 4 * n) (omega arith) (omega arith))
+same_base own file holds (mem64 pref) n h = ap (λ m. m / 16 * 16) (same_number own file holds (all_bytes 8) (0x10 + 4 * n) (omega arith) (omega arith))
+
+same_command : (own : OwnCopies) (file : File) → HoldsOwn file own → number file (config 4) 2 ≡ number (own_file own) (config 4) 2
+same_command own file holds = ap₂ (λ (a b : Cell). a.value + 256 * (b.value + 256 * 0)) (holds (config 4) refl) (holds (config 5) refl)
+
+same_standing : (own : OwnCopies) (file : File) → HoldsOwn file own → (bs : List BaseAddress) → Each IsLawfulRegion (map opened bs) → map (standing file) (map opened bs) ≡ map (standing (own_file own)) (map opened bs)
+same_standing own file holds [] lawful = refl
+same_standing own file holds (b ∷ bs) lawful =
+    ap₂ (λ n (more : List BaseAddress). record b { base = n } ∷ more) (same_base own file holds b.kind b.index lawful.0.registers) (same_standing own file holds bs lawful.1)
+
+standing_bare : (file : File) (rs : List Region) → map (standing file) rs ≡ map (standing file) (map bare rs)
+standing_bare file [] = refl
+standing_bare file (r ∷ rs) = ap (λ (more : List BaseAddress). standing file r ∷ more) (standing_bare file rs)
+
+pub own_hits : OwnHits
+own_hits own lawful file holds rs same space a =
+    hits_by_bases file rs space a
+    ∙ ap₂ (λ c (bs : List BaseAddress). first_some (hit_at c space a) bs) (same_command own file holds)
+    (standing_bare file rs ∙ ap (map (standing file)) same ∙ same_standing own file holds own.bases lawful.each)
+    ∙ sym (hits_by_bases (own_file own) (map opened own.bases) space a)
+
+-- ---- at reset
+
+-- what stands behind cells is seen as far as they are not there
+behind : (pre one two : File) (p : Place) → cell_at one p ≡ cell_at two p → cell_at (pre ++ one) p ≡ cell_at (pre ++ two) p
+behind [] one two p h = h
+behind (e ∷ es) one two p h = ap (cond (place_eq e.place p) e.cell) (behind es one two p h)
+
+cells_above : (cs : List Cell) (a q : ℕ) (rest : File) → q < a → cell_at (cells_from (config a) cs ++ rest) (config q) ≡ cell_at rest (config q)
+cells_above [] a q rest h = refl
+cells_above (c ∷ cs) a q rest h =
+    let apart : eqb a q ≡ false = above a q h in
+    ap (λ (t : Bool). cond t c (cell_at (cells_from (config (a + 1)) cs ++ rest) (config q))) apart ∙ cells_above cs (a + 1) q rest (omega arith)
+
+cells_elsewhere : (cs : List Cell) (n a q : ℕ) (rest : File) → cell_at (cells_from (block n a) cs ++ rest) (config q) ≡ cell_at rest (config q)
+cells_elsewhere [] n a q rest = refl
+cells_elsewhere (c ∷ cs) n a q rest = cells_elsewhere cs n (a + 1) q rest
+
+blocks_above : (bs : List ConfigBlock) → Each (λ (b : ConfigBlock). 0x40 ≤ b.offset) bs → (q : ℕ) → q < 0x40 → (rest : File) → cell_at (flat_map block_cells bs ++ rest) (config q) ≡ cell_at rest (config q)
+blocks_above [] h q low rest = refl
+blocks_above (b ∷ bs) h q low rest =
+    ap (λ (f : File). cell_at f (config q)) (append_assoc (block_cells b) (flat_map block_cells bs) rest)
+    ∙ cells_above b.cells b.offset q (flat_map block_cells bs ++ rest) (omega (arith, h.0)) ∙ blocks_above bs h.1 q low rest
+
+bases_of_regions : (rs : List Region) (q : ℕ) → cell_at (flat_map (region_cells (λ r. 0)) rs) (config q) ≡ cell_at (base_file (map closed rs)) (config q)
+bases_of_regions [] q = refl
+bases_of_regions (r ∷ rs) q =
+    let more : File = flat_map (region_cells (λ r. 0)) rs in
+    ap (λ (f : File). cell_at f (config q)) (append_assoc (register_cells (closed r)) (cells_from (block r.index 0) r.cells) more)
+    ∙ behind (register_cells (closed r)) (cells_from (block r.index 0) r.cells ++ more) (base_file (map closed rs)) (config q)
+    (cells_elsewhere r.cells r.index 0 q more ∙ bases_of_regions rs q)
+
+-- no cell of the file stands at a base address register
+is_outside : Place → Bool
+is_outside (config q) = ltb q 0x10 || leb 0x28 q
+is_outside (block n q) = true
+
+lies_outside : File → Bool
+lies_outside [] = true
+lies_outside (e ∷ es) = is_outside e.place && lies_outside es
+
+outside_apart : (p : Place) (q : ℕ) → is_outside p ≡ true → 0x10 ≤ q → q < 0x28 → place_eq p (config q) ≡ false
+unfolding is_outside
+outside_apart (block n a) q h low high = refl
+outside_apart (config a) q h low high = elim (or_cases (ltb a 0x10) (leb 0x28 a) h) [
+  | inl below ↦ ne_eqb a q (λ e. omega (arith, ltb-true a 0x10 below))
+  | inr above ↦ ne_eqb a q (λ e. omega (arith, leb-true 0x28 a above))
+]
+
+passed_by : (file : File) (q : ℕ) (rest : File) → lies_outside file ≡ true → 0x10 ≤ q → q < 0x28 → cell_at (file ++ rest) (config q) ≡ cell_at rest (config q)
+unfolding lies_outside
+passed_by [] q rest h low high = refl
+passed_by (e ∷ es) q rest h low high =
+    let parts : (is_outside e.place ≡ true) × (lies_outside es ≡ true) = and_parts (is_outside e.place) (lies_outside es) h in
+    ap (λ (t : Bool). cond t e.cell (cell_at (es ++ rest) (config q))) (outside_apart e.place q parts.0 low high) ∙ passed_by es q rest parts.1 low high
+
+header_outside : (d : Endpoint) (command : ℕ) → lies_outside (header_cells d false command) ≡ true
+unfolding lies_outside is_outside
+header_outside d command = refl
+
+command_outside : (command : ℕ) → lies_outside (command_cells command) ≡ true
+unfolding lies_outside is_outside
+command_outside command = refl
+
+low_base : (bs : List BaseAddress) (q : ℕ) → q < 0x10 → cell_at (base_file bs) (config q) ≡ no_cell
+low_base [] q h = refl
+low_base (b ∷ bs) q h =
+    cell_outside (4 * registers_of b.kind) (0x10 + 4 * b.index) q (b.base + type_bits b.kind) (2 ^ base_width b.kind - b.size) 0 (base_file bs) (inl (omega arith)) ∙ low_base bs q h
+
+-- the three parts of the own places
+data OwnOffset (q : ℕ) : Type 0 where
+  of_command : (q ≡ 4) ⊎ (q ≡ 5) → OwnOffset q
+  of_header_type : q ≡ 0x0e → OwnOffset q
+  of_bases : 0x10 ≤ q → q < 0x28 → OwnOffset q
+
+own_offset : (q : ℕ) → is_own (config q) ≡ true → OwnOffset q
+own_offset q mine = elim (or_cases (eqb q 4 || eqb q 5 || eqb q 0x0e) (leb 0x10 q && ltb q 0x28) mine) [
+  | inr range ↦ of_bases (leb-true 0x10 q (and_parts (leb 0x10 q) (ltb q 0x28) range).0) (ltb-true q 0x28 (and_parts (leb 0x10 q) (ltb q 0x28) range).1)
+  | inl header ↦ elim (or_cases (eqb q 4 || eqb q 5) (eqb q 0x0e) header) [
+    | inr type ↦ of_header_type (eqb-true q 0x0e type)
+    | inl command ↦ of_command (elim (or_cases (eqb q 4) (eqb q 5) command) [ inl low ↦ inl (eqb-true q 4 low) | inr high ↦ inr (eqb-true q 5 high) ])
+  ]
+]
+
+reset_at : (d : Endpoint) → Each (λ (b : ConfigBlock). 0x40 ≤ b.offset) d.blocks → (q : ℕ) → OwnOffset q
+    → cell_at (endpoint_reset d false) (config q) ≡ cell_at (own_file (record { command = 0; bases = map closed d.regions })) (config q)
+reset_at d blocks q (of_command (inl e)) = subst (λ n. cell_at (endpoint_reset d false) (config n) ≡ cell_at (own_file (record { command = 0; bases = map closed d.regions })) (config n)) (sym e) refl
+reset_at d blocks q (of_command (inr e)) = subst (λ n. cell_at (endpoint_reset d false) (config n) ≡ cell_at (own_file (record { command = 0; bases = map closed d.regions })) (config n)) (sym e) refl
+reset_at d blocks q (of_header_type e) =
+    subst (λ n. cell_at (endpoint_reset d false) (config n) ≡ cell_at (own_file (record { command = 0; bases = map closed d.regions })) (config n)) (sym e) (sym (low_base (map closed d.regions) 0x0e (lit< tt)))
+reset_at d blocks q (of_bases low high) =
+    let rest : File = flat_map (region_cells (λ r. 0)) d.regions in
+    ap (λ (f : File). cell_at f (config q)) (append_assoc (header_cells d false 0) (flat_map block_cells d.blocks) rest)
+    ∙ passed_by (header_cells d false 0) q (flat_map block_cells d.blocks ++ rest) (header_outside d 0) low high
+    ∙ blocks_above d.blocks blocks q (omega arith) rest ∙ bases_of_regions d.regions q
+    ∙ sym (passed_by (command_cells 0) q (base_file (map closed d.regions)) (command_outside 0) low high)
+
+pub reset_holds_own : ResetHoldsOwn
+reset_holds_own d blocks (block n q) mine = cc
+reset_holds_own d blocks (config q) mine = reset_at d blocks q (own_offset q mine)
