@@ -3,7 +3,7 @@ SHELL := bash
 .SHELLFLAGS := -eu -o pipefail -c
 JOBS := $(shell nproc)
 # the lines of a check that tell how far it is: one as a crate begins, one as it is done
-PROGRESS := grep --line-buffered -E '^(== |[a-z_]+: |[0-9]+ of )|error|not proved'
+PROGRESS := grep --line-buffered -E '^(== |[a-z_]+: |[0-9]+ of )|^[^ ]*: error|not proved'
 
 .PHONY: demo test build try clean
 
