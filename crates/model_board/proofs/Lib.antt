@@ -26,3 +26,4 @@ pub mod UniqueClaimant
 pub mod RowsOfClaims
 pub mod Rows
 pub mod LawfulExamples
+pub mod PlacesLaw

@@ -91,7 +91,7 @@ head_under false false false C F B E L h e i = omega arith
 -- ---- paths
 
 -- a path is before another, equal to it or behind it: one of these at most
-exclusive : (x r : Path) → one (path_before x r) + one (path_eq x r) + one (leads_to r x) ≤ 1
+pub exclusive : (x r : Path) → one (path_before x r) + one (path_eq x r) + one (leads_to r x) ≤ 1
 exclusive [] [] = omega arith
 exclusive [] (c ∷ r) = omega arith
 exclusive (a ∷ x) [] = omega arith

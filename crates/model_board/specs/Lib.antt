@@ -1,5 +1,6 @@
 pub mod Paths
 pub mod Board
+pub mod Places
 pub mod BusNumbers
 pub mod Interrupts
 pub mod State

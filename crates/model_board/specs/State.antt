@@ -1,9 +1,10 @@
 -- The registers of a whole board at one time.
 --     BoardFunction      a function with its cells
 --     State      each function with its cells, in path order, and the address latch
-use Rattle.std.specs.Prelude.{List, ℕ}
+--     with_file g p fs      the functions with the cells of the one at a path changed by g
+use Rattle.std.specs.Prelude.{List, ℕ, if◌then◌else◌, map}
 use Rattle.model_registers.specs.Registers.{File}
-use Rattle.model_board.specs.Paths.{Path}
+use Rattle.model_board.specs.Paths.{Path, path_eq}
 use Rattle.model_board.specs.Board.{Decl}
 
 pub record BoardFunction : Type 0 where
@@ -14,3 +15,7 @@ pub record BoardFunction : Type 0 where
 pub record State : Type 0 where
   pub functions : List BoardFunction
   pub latch : ℕ
+
+-- all others stay
+abbrev pub with_file : (File → File) → Path → List BoardFunction → List BoardFunction
+with_file g p fs = map (λ (f : BoardFunction). if path_eq f.path p then record f { file = g f.file } else f) fs

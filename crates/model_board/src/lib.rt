@@ -6,6 +6,7 @@ ghost use Rattle.model_board.specs.Levels.{ItemsByBus};
 ghost use Rattle.model_board.specs.Numbering.{Numbering};
 ghost use Rattle.model_board.specs.OrderLaws.{OneOrder, OrderIsSorted};
 ghost use Rattle.model_board.specs.Packing.{CompactIsRun, FlatNeedOnBus};
+ghost use Rattle.model_board.specs.Places.{LawfulPlacesAreBoards};
 ghost use Rattle.model_board.specs.PlacementLaws.{LayoutIsLawful, PoolsAreLawful, RowsAreDeclared};
 ghost use Rattle.model_board.specs.Reach.{OneRoute, OnlyNamed, ReachedByNumbers};
 ghost use Rattle.model_board.specs.RoutingLaws.{ClaimsByRouting, FirstByRouting, ForwardedByRouting, RoutingOfCells, RoutingOfChange, SameClaims};
@@ -21,6 +22,12 @@ pub fn flat_need()
 /// What stands on a bus is its regions and the windows of its bridges, at any depth.
 pub fn items_by_bus()
     ensures { ItemsByBus }
+{}
+
+/// Functions declared in any order stand at lawful places exactly where their rows in path order are
+/// a board.
+pub fn lawful_places()
+    ensures { LawfulPlacesAreBoards }
 {}
 
 /// The bus numbers behind a bridge are those of the bridges that it leads to.

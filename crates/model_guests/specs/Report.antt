@@ -9,7 +9,7 @@ use Rattle.model_registers.specs.Declarations.{Kind, io_kind, mem32, mem64, Regi
 use Rattle.model_board.specs.Paths.{Part, Path, last_part}
 use Rattle.model_board.specs.Board.{Decl, endpoint, bridge, is_bridge, Board}
 use Rattle.model_board.specs.BusNumbers.{secondary, subordinate, bus_of}
-use Rattle.model_board.specs.Interrupts.{root_pin}
+use Rattle.model_board.specs.Interrupts.{root_device, root_pin}
 use Rattle.model_board.specs.Pools.{Pool, io_pool, mem_pool, pref_pool, unit_of, Apertures}
 use Rattle.model_board.specs.Placement.{Item, need, items_on, bus_first}
 use Rattle.model_board.specs.SetUp.{first_of}
@@ -48,10 +48,6 @@ identity_text vendor device = hex_digits 4 vendor ++ codes ":" ++ hex_digits 4 d
 abbrev pub region_line : Board → Apertures → Path → Region → Text
 region_line b a p r =
     codes "  bar" ++ decimal r.index ++ codes " " ++ kind_text r.kind ++ codes " at " ++ hexadecimal (first_of b a p r) ++ codes " size " ++ hexadecimal r.size
-
-abbrev pub root_device : Path → ℕ
-root_device [] = 0
-root_device (p ∷ ps) = p.device
 
 -- no line for pin 0
 abbrev pub pin_lines : Path → ℕ → List Text
