@@ -28,7 +28,7 @@ total_cases false true w v' B E C f g h p q = rw (g refl, h p q) (after w)
     after false = refl
 total_cases false false w v' B E C f g h p q = rw (f refl refl) refl
 
-path_total : (p q : Path) → path_before p q ≡ false → path_eq p q ≡ false → path_before q p ≡ true
+pub path_total : (p q : Path) → path_before p q ≡ false → path_eq p q ≡ false → path_before q p ≡ true
 path_total [] [] h k = cc
 path_total [] (b ∷ q) h k = cc
 path_total (a ∷ p) [] h k = refl

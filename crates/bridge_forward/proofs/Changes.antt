@@ -1,0 +1,117 @@
+-- One node changed: the layout stays, and so do all other functions.
+use Rattle.std.proofs.Common.{◌≡◌, ℕ, ◌<◌, Bool, true, false, cond, Option, Some, None, List, [], ◌∷◌, map, zero, suc, refl, ap, ap₂, sym, ◌∙◌, arith, inl, inr, ◌⊎◌, subst, get_or}
+use Rattle.std.specs.Prelude.{find}
+use Rattle.std.specs.List.{slice_get, slice_set}
+use Rattle.std.proofs.lemmas.Option.{slice_get_within}
+use borrow.Follows.Closed.{read_of}
+use base.Fml.{GName}
+use mathlib.Core.Option.{Option as Opt}
+use Rattle.model_registers.specs.Registers.{File}
+use Rattle.model_registers.specs.Decoding as decoding
+use Rattle.model_board.specs.Paths.{Path, path_eq, path_before}
+use Rattle.model_board.specs.Board.{endpoint}
+use Rattle.model_board.specs.State.{BoardFunction, with_file}
+use Rattle.model_board.proofs.PathOrder.{path_same}
+use Rattle.model_board.proofs.PathEnds.{path_self, not_before_itself}
+use Rattle.bridge_forward.specs.declared.bus.Node.{Node}
+use Rattle.bridge_forward.specs.declared.function.Function.{Function}
+use Rattle.bridge_forward.specs.declared.function.Function.TheVariants.{Endpoint, Bridge}
+use Rattle.bridge_forward.specs.Functions.{with_cells, endpoint_in}
+use Rattle.bridge_forward.specs.Layout.{paths_of, ends_of, function_of, functions_of, AreLaid, IsLaidOut}
+use Rattle.bridge_forward.specs.Lending.{as_endpoint, endpoint_at, with_endpoint}
+use Rattle.bridge_forward.specs.Search.{IsAt}
+use Rattle.bridge_forward.proofs.Indices.{read_at, same_at, map_at, at_map, map_set, set_same, found_at}
+use Rattle.bridge_forward.proofs.Nodes.{ordered}
+
+-- another function at one place leaves the layout
+pub laid_set : (nodes : List Node) (i : ℕ) (n : Node) (f : Function) → slice_get nodes i ≡ Some n → IsLaidOut nodes → IsLaidOut (slice_set nodes i (record n { function = f }))
+laid_set nodes i n f e laid =
+    subst (λ (ps : List Path). AreLaid ps (ends_of (slice_set nodes i (record n { function = f })))) (sym (same_map Path (λ (m : Node). m.path) refl))
+    (subst (λ (es : List ℕ). AreLaid (paths_of nodes) es) (sym (same_map ℕ (λ (m : Node). m.end) refl)) laid)
+  where
+    same_map : (B : Type 0) (g : Node → B) → g (record n { function = f }) ≡ g n → map g (slice_set nodes i (record n { function = f })) ≡ map g nodes
+    same_map B g q = map_set g nodes i (record n { function = f }) ∙ ap (slice_set (map g nodes) i) q ∙ set_same (map g nodes) i (g n) (map_at g nodes i n e)
+
+-- a map that changes one element alone
+map_one : {A : Type 0} (t : A → Bool) (g : A → A) (xs : List A) (i : ℕ) (x : A) → slice_get xs i ≡ Some x → t x ≡ true → ((j : ℕ) (y : A) → (j ≡ i → ⊥) → slice_get xs j ≡ Some y → t y ≡ false)
+    → map (λ y. cond (t y) (g y) y) xs ≡ slice_set xs i (g x)
+map_one t g [] i x e h k = refl
+map_one {A} t g (y ∷ ys) zero x e h k =
+    let same : y ≡ x = cc in
+    ap₂ (λ z zs. z ∷ zs) (ap (λ z. cond (t z) (g z) z) same ∙ ap (λ b. cond b (g x) x) h) (rest ys (λ j z f. k (suc j) z (λ q. absurd (omega (arith, q))) f))
+  where
+    rest : (zs : List A) → ((j : ℕ) (z : A) → slice_get zs j ≡ Some z → t z ≡ false) → map (λ z. cond (t z) (g z) z) zs ≡ zs
+    rest [] m = refl
+    rest (z ∷ zs) m = ap₂ (λ w ws. w ∷ ws) (ap (λ b. cond b (g z) z) (m 0 z refl)) (rest zs (λ j w f. m (suc j) w f))
+map_one t g (y ∷ ys) (suc i) x e h k =
+    ap₂ (λ z zs. z ∷ zs) (ap (λ b. cond b (g y) y) (k 0 y (λ q. absurd (omega (arith, q))) refl)) (map_one t g ys i x e h (λ j z d f. k (suc j) z (λ q. d (omega arith)) f))
+
+module _ (nodes : List Node) (laid : IsLaidOut nodes) (i : ℕ) (n : Node) (e : slice_get nodes i ≡ Some n) where
+  -- no other function has the path
+  others : (j : ℕ) (f : BoardFunction) → (j ≡ i → ⊥) → slice_get (functions_of nodes) j ≡ Some f → path_eq f.path n.path ≡ false
+  others j f d ef = by_test (path_eq f.path n.path) refl
+    where
+      sides : (x y : ℕ) → (x < y) ⊎ ((x ≡ y) ⊎ (y < x))
+      sides x y = grind arith
+
+      by_side : (m : Node) → slice_get nodes j ≡ Some m → m.path ≡ n.path → (j < i) ⊎ ((j ≡ i) ⊎ (i < j)) → ⊥
+      by_side m em p (inl l) = not_before_itself n.path (subst (λ (q : Path). path_before q n.path ≡ true) p (ordered nodes laid j i m n l em e))
+      by_side m em p (inr (inl q)) = d q
+      by_side m em p (inr (inr l)) = not_before_itself n.path (subst (λ (q : Path). path_before n.path q ≡ true) p (ordered nodes laid i j n m l e em))
+
+      by_test : (b : Bool) → path_eq f.path n.path ≡ b → path_eq f.path n.path ≡ false
+      by_test false t = t
+      by_test true t =
+          let m = at_map function_of nodes j f ef in
+          absurd (by_side m.0 m.1 (ap (λ (z : BoardFunction). z.path) (sym m.2) ∙ path_same f.path n.path t) (sides j i))
+
+  changed_one : (g : BoardFunction → BoardFunction) → map (λ (f : BoardFunction). cond (path_eq f.path n.path) (g f) f) (functions_of nodes) ≡ slice_set (functions_of nodes) i (g (function_of n))
+  changed_one g = map_one (λ (f : BoardFunction). path_eq f.path n.path) g (functions_of nodes) i (function_of n) (map_at function_of nodes i n e) (path_self n.path) others
+
+  -- with other cells in one function
+  pub cells_set : (g : File → File) → functions_of (slice_set nodes i (record n { function = with_cells n.function (g (function_of n).file) })) ≡ with_file g n.path (functions_of nodes)
+  cells_set g =
+      map_set function_of nodes i (record n { function = with_cells n.function (g (function_of n).file) })
+      ∙ ap (λ f. slice_set (functions_of nodes) i f) (same_function n.function)
+      ∙ sym (changed_one (λ f. record f { file = g f.file }))
+    where
+      same_function : (f : Function) → function_of (record n { function = with_cells f (g (function_of (record n { function = f })).file) }) ≡ record (function_of (record n { function = f })) { file = g (function_of (record n { function = f })).file }
+      same_function (Endpoint w) = refl
+      same_function (Bridge b) = refl
+
+  -- with another endpoint at a path
+  module _ (path : Path) (at : find (λ f. path_eq f.path path) (functions_of nodes) ≡ Some (function_of n)) where
+    path_is : n.path ≡ path
+    path_is = path_same n.path path (found_at (λ (f : BoardFunction). path_eq f.path path) (functions_of nodes) (function_of n) at).0
+
+    pub endpoint_set : (w : decoding.Function) → functions_of (slice_set nodes i (record n { function = Endpoint w })) ≡ with_endpoint path w (functions_of nodes)
+    endpoint_set w =
+        map_set function_of nodes i (record n { function = Endpoint w })
+        ∙ sym (changed_one (λ f. record { path = n.path; decl = endpoint w.decl; file = w.file }))
+        ∙ ap (λ p. with_endpoint p w (functions_of nodes)) path_is
+
+    pub endpoint_there : endpoint_in n.function ≡ endpoint_at (functions_of nodes) path
+    endpoint_there = same n.function ∙ sym (ap (λ o. Rattle.std.specs.Option.option_map_or as_endpoint o None) at)
+      where
+        same : (f : Function) → endpoint_in f ≡ as_endpoint (function_of (record n { function = f }))
+        same (Endpoint w) = refl
+        same (Bridge b) = refl
+
+  pub kept : functions_of (slice_set nodes i n) ≡ functions_of nodes
+  kept = ap functions_of (set_same nodes i n e)
+
+-- the node that a search answered, where it is read
+pub found_there : (nodes ms : List Node) (i : ℕ) (n : Node) (a : List BoardFunction → Option BoardFunction) → ms ≡ nodes → IsAt ms i (a (functions_of ms)) → slice_get nodes i ≡ Some n → a (functions_of nodes) ≡ Some (function_of n)
+found_there nodes ms i n a q h e =
+    let at : IsAt nodes i (a (functions_of nodes)) = subst (λ (xs : List Node). IsAt xs i (a (functions_of xs))) q h in
+    at.found ∙ ap (λ (z : Node). Some (function_of z)) (same_at nodes i at.node n at.there e)
+
+-- the node that was read at the index of an answer
+pub node_there : (nodes ms : List Node) (i : ℕ) (n : Node) (a : List BoardFunction → Option BoardFunction) → ms ≡ nodes → IsAt ms i (a (functions_of ms)) → n ≡ get_or nodes i n → slice_get nodes i ≡ Some n
+node_there nodes ms i n a q h e =
+    let at : IsAt nodes i (a (functions_of nodes)) = subst (λ (xs : List Node). IsAt xs i (a (functions_of xs))) q h in
+    read_at nodes i n (slice_get_within nodes i at.node at.there) e
+
+-- two ways to write what a lender ends as
+pub same_read : {D E : Type 0} (n : Opt GName) (f g : E → D) (d e : D) → ((w : E) → f w ≡ g w) → d ≡ e → read_of n f d ≡ read_of n g e
+same_read n f g d e p q = λ i. read_of n (λ w. p w i) (q i)

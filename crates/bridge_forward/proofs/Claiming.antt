@@ -1,0 +1,152 @@
+-- The walk that looks for the first claim.
+use Rattle.std.proofs.Common.{◌≡◌, ℕ, ◌+◌, ◌<◌, ◌≤◌, Bool, true, false, not, ◌&&◌, ◌||◌, cond, Option, Some, None, List, [], ◌∷◌, length, zero, suc, refl, ap, sym, ◌∙◌, arith, inl, inr, ◌⊎◌, subst}
+use Rattle.std.specs.Option.{option_map_or}
+use Rattle.std.specs.List.{slice_get, list_all}
+use Rattle.std.proofs.lemmas.Option.{slice_get_within}
+use Rattle.model_registers.specs.Lists.{first_of_two, first_some}
+use Rattle.model_registers.specs.Decoding as decoding
+use Rattle.model_registers.specs.Decoding.{Space, Hit, lone_claim}
+use Rattle.model_board.specs.Paths.{leads_to}
+use Rattle.model_board.specs.State.{BoardFunction}
+use Rattle.model_board.specs.Windows.{forwards}
+use Rattle.model_board.specs.Claims.{is_forwarded, claim_at, endpoint_hit, claim_of, first_claim}
+use Rattle.bridge_forward.specs.Bridges.{BridgeFunction}
+use Rattle.bridge_forward.specs.declared.bus.Node.{Node}
+use Rattle.bridge_forward.specs.declared.function.Function.{Function}
+use Rattle.bridge_forward.specs.declared.function.Function.TheVariants.{Endpoint, Bridge}
+use Rattle.bridge_forward.specs.Layout.{function_of, functions_of, IsLaidOut}
+use Rattle.bridge_forward.proofs.Indices.{map_at, at_map}
+use Rattle.bridge_forward.proofs.Nodes.{inside, leads_within, within_of_leads, nested}
+
+-- ---- lists
+
+first_at : {A B : Type 0} (f : A → Option B) (xs : List A) (i : ℕ) (x : A) (b : B) → slice_get xs i ≡ Some x → f x ≡ Some b → ((j : ℕ) (y : A) → j < i → slice_get xs j ≡ Some y → f y ≡ None) → first_some f xs ≡ Some b
+first_at f [] i x b e h k = cc
+first_at f (y ∷ ys) zero x b e h k = let same : y ≡ x = cc in ap (λ o. first_of_two o (first_some f ys)) (ap f same ∙ h)
+first_at f (y ∷ ys) (suc i) x b e h k = ap (λ o. first_of_two o (first_some f ys)) (k 0 y (omega arith) refl) ∙ first_at f ys i x b e h (λ j z l g. k (suc j) z (omega arith) g)
+
+first_none : {A B : Type 0} (f : A → Option B) (xs : List A) → ((j : ℕ) (y : A) → slice_get xs j ≡ Some y → f y ≡ None) → first_some f xs ≡ None
+first_none f [] h = refl
+first_none f (x ∷ xs) h = ap (λ o. first_of_two o (first_some f xs)) (h 0 x refl) ∙ first_none f xs (λ j y e. h (suc j) y e)
+
+all_at : {A : Type 0} (p : A → Bool) (xs : List A) → ((j : ℕ) (y : A) → slice_get xs j ≡ Some y → p y ≡ true) → list_all p xs ≡ true
+all_at p [] h = refl
+all_at p (x ∷ xs) h = rw (h 0 x refl) (all_at p xs (λ j y e. h (suc j) y e))
+
+not_all_at : {A : Type 0} (p : A → Bool) (xs : List A) (i : ℕ) (x : A) → slice_get xs i ≡ Some x → p x ≡ false → list_all p xs ≡ false
+not_all_at p [] i x e h = cc
+not_all_at p (y ∷ ys) zero x e h = let same : y ≡ x = cc in rw (ap p same ∙ h) refl
+not_all_at p (y ∷ ys) (suc i) x e h = rw (not_all_at p ys i x e h) (and_false (p y))
+  where
+    and_false : (b : Bool) → (b && false) ≡ false
+    and_false true = refl
+    and_false false = refl
+
+or_right : (b c : Bool) → (b ≡ true → c ≡ true) → (not b || c) ≡ true
+or_right true c h = h refl
+or_right false c h = refl
+
+shut : (b c : Bool) → b ≡ true → c ≡ false → (not b || c) ≡ false
+shut b c p q = rw (p, q) refl
+
+sides : (j i : ℕ) → (j < i) ⊎ ((j ≡ i) ⊎ (i < j))
+sides j i = grind arith
+
+-- ---- the walk
+
+module _ (nodes : List Node) (laid : IsLaidOut nodes) (space : Space) (a : ℕ) where
+  abbrev fs : List BoardFunction
+  fs = functions_of nodes
+
+  -- before index i nothing claims the address, and each bridge above i forwards it
+  pub record Passed (i : ℕ) : Type 0 where
+    pub silent : (j : ℕ) (n : Node) → j < i → slice_get nodes j ≡ Some n → claim_of fs space a (function_of n) ≡ None
+    pub opened : (k : ℕ) (m : Node) → k < i → slice_get nodes k ≡ Some m → i < m.end → forwards space a (function_of m) ≡ true
+
+  pub passed_none : Passed 0
+  passed_none = record { silent = λ j n l e. absurd (omega arith); opened = λ k m l e g. absurd (omega arith) }
+
+  -- the way to index i is open
+  open_here : (i : ℕ) (n : Node) → Passed i → slice_get nodes i ≡ Some n → is_forwarded fs n.path space a ≡ true
+  open_here i n p e = all_at (λ (f : BoardFunction). not (leads_to f.path n.path) || forwards space a f) fs (λ j f ef.
+      let m = at_map function_of nodes j f ef in
+      subst (λ (g : BoardFunction). (not (leads_to g.path n.path) || forwards space a g) ≡ true) (sym m.2)
+      (or_right (leads_to m.0.path n.path) (forwards space a (function_of m.0)) (λ above.
+      let w = within_of_leads nodes laid j i m.0 n m.1 e above in
+      p.opened j m.0 w.0 m.1 w.1)))
+
+  -- what stands behind a function that doesn't forward has no claim
+  shut_behind : (i j : ℕ) (m n : Node) → slice_get nodes i ≡ Some m → slice_get nodes j ≡ Some n → i < j → j < m.end → forwards space a (function_of m) ≡ false → claim_of fs space a (function_of n) ≡ None
+  shut_behind i j m n em en l g f =
+      ap (λ t. cond t (option_map_or (λ (h : Hit). Some (claim_at n.path h)) (endpoint_hit (function_of n) space a) None) None)
+      (not_all_at (λ (x : BoardFunction). not (leads_to x.path n.path) || forwards space a x) fs i (function_of m) (map_at function_of nodes i m em)
+      (shut (leads_to m.path n.path) (forwards space a (function_of m)) (leads_within nodes laid i j m n em en l g) f))
+
+  no_claim : (n : Node) → endpoint_hit (function_of n) space a ≡ None → claim_of fs space a (function_of n) ≡ None
+  no_claim n d = ap (λ o. cond (is_forwarded fs n.path space a) (option_map_or (λ (h : Hit). Some (claim_at n.path h)) o None) None) d ∙ none_either (is_forwarded fs n.path space a)
+    where
+      none_either : (t : Bool) → cond {A = Option Rattle.model_board.specs.Claims.Claim} t None None ≡ None
+      none_either true = refl
+      none_either false = refl
+
+  -- past a function that forwards, to what stands behind it
+  pub passed_into : (i : ℕ) (n : Node) → Passed i → slice_get nodes i ≡ Some n → endpoint_hit (function_of n) space a ≡ None → forwards space a (function_of n) ≡ true → Passed (i + 1)
+  passed_into i n p e d f = record {
+    silent = λ j m l em. by_silent j m em (sides j i) l;
+    opened = λ k m l em g. by_opened k m em g (sides k i) l;
+  }
+    where
+      by_silent : (j : ℕ) (m : Node) → slice_get nodes j ≡ Some m → (j < i) ⊎ ((j ≡ i) ⊎ (i < j)) → j < i + 1 → claim_of fs space a (function_of m) ≡ None
+      by_silent j m em (inl b) l = p.silent j m b em
+      by_silent j m em (inr (inl q)) l = let same : m ≡ n = cc in ap (λ (z : Node). claim_of fs space a (function_of z)) same ∙ no_claim n d
+      by_silent j m em (inr (inr b)) l = absurd (omega arith)
+
+      by_opened : (k : ℕ) (m : Node) → slice_get nodes k ≡ Some m → i + 1 < m.end → (k < i) ⊎ ((k ≡ i) ⊎ (i < k)) → k < i + 1 → forwards space a (function_of m) ≡ true
+      by_opened k m em g (inl b) l = p.opened k m b em (omega arith)
+      by_opened k m em g (inr (inl q)) l = let same : m ≡ n = cc in ap (λ (z : Node). forwards space a (function_of z)) same ∙ f
+      by_opened k m em g (inr (inr b)) l = absurd (omega arith)
+
+  -- past a function that doesn't forward, and all that stands behind it
+  pub passed_over : (i : ℕ) (n : Node) → Passed i → slice_get nodes i ≡ Some n → endpoint_hit (function_of n) space a ≡ None → forwards space a (function_of n) ≡ false → Passed n.end
+  passed_over i n p e d f = record {
+    silent = λ j m l em. by_silent j m em l (sides j i);
+    opened = λ k m l em g. by_opened k m em l g (sides k i);
+  }
+    where
+      by_silent : (j : ℕ) (m : Node) → slice_get nodes j ≡ Some m → j < n.end → (j < i) ⊎ ((j ≡ i) ⊎ (i < j)) → claim_of fs space a (function_of m) ≡ None
+      by_silent j m em l (inl b) = p.silent j m b em
+      by_silent j m em l (inr (inl q)) = let same : m ≡ n = cc in ap (λ (z : Node). claim_of fs space a (function_of z)) same ∙ no_claim n d
+      by_silent j m em l (inr (inr b)) = shut_behind i j n m e em b l f
+
+      by_opened : (k : ℕ) (m : Node) → slice_get nodes k ≡ Some m → k < n.end → n.end < m.end → (k < i) ⊎ ((k ≡ i) ⊎ (i < k)) → forwards space a (function_of m) ≡ true
+      by_opened k m em l g (inl b) = let w = inside nodes laid i n e in p.opened k m b em (omega (arith, w.0, g))
+      by_opened k m em l g (inr (inl q)) = let same : m ≡ n = cc in let w : m.end ≡ n.end = ap (λ (z : Node). z.end) same in absurd (omega (arith, w))
+      by_opened k m em l g (inr (inr b)) = let w = nested nodes laid i k n m e em b l in absurd (omega (arith, w, g))
+
+  -- the first claim stands at index i
+  pub claim_here : (i : ℕ) (n : Node) (h : Hit) → Passed i → slice_get nodes i ≡ Some n → endpoint_hit (function_of n) space a ≡ Some h → first_claim fs space a ≡ Some (claim_at n.path h)
+  claim_here i n h p e d =
+      first_at (claim_of fs space a) fs i (function_of n) (claim_at n.path h) (map_at function_of nodes i n e)
+      (ap (λ t. cond t (option_map_or (λ (x : Hit). Some (claim_at n.path x)) (endpoint_hit (function_of n) space a) None) None) (open_here i n p e)
+      ∙ ap (λ o. option_map_or (λ (x : Hit). Some (claim_at n.path x)) o None) d)
+      (λ j f l ef. let m = at_map function_of nodes j f ef in ap (claim_of fs space a) m.2 ∙ p.silent j m.0 l m.1)
+
+  pub claim_nowhere : (i : ℕ) → Passed i → length nodes ≤ i → first_claim fs space a ≡ None
+  claim_nowhere i p l = first_none (claim_of fs space a) fs (λ j f ef.
+      let m = at_map function_of nodes j f ef in
+      let w = slice_get_within nodes j m.0 m.1 in
+      ap (claim_of fs space a) m.2 ∙ p.silent j m.0 (omega (arith, w, l)) m.1)
+
+  -- ---- one function
+
+  pub hit_of_endpoint : (n : Node) (e : decoding.Function) → n.function ≡ Endpoint e → endpoint_hit (function_of n) space a ≡ lone_claim e space a
+  hit_of_endpoint n e h = ap (λ (f : Function). endpoint_hit (function_of (record n { function = f })) space a) h
+
+  pub endpoint_forwards_nothing : (n : Node) (e : decoding.Function) → n.function ≡ Endpoint e → forwards space a (function_of n) ≡ false
+  endpoint_forwards_nothing n e h = ap (λ (f : Function). forwards space a (function_of (record n { function = f }))) h
+
+  pub bridge_claims_nothing : (n : Node) (b : BridgeFunction) → n.function ≡ Bridge b → endpoint_hit (function_of n) space a ≡ None
+  bridge_claims_nothing n b h = ap (λ (f : Function). endpoint_hit (function_of (record n { function = f })) space a) h
+
+  pub bridge_forwards : (n : Node) (b : BridgeFunction) → n.function ≡ Bridge b → forwards space a (function_of n) ≡ (decoding.is_open b.file space && Rattle.model_board.specs.Windows.is_in_window b.decl b.file space a)
+  bridge_forwards n b h = ap (λ (f : Function). forwards space a (function_of (record n { function = f }))) h

@@ -1,0 +1,313 @@
+-- Accesses of an endpoint's file, by the part that they reach.
+use Rattle.std.proofs.Common.{◌≡◌, ◌≢◌, ℕ, zero, suc, ◌+◌, ◌*◌, ◌-◌, ◌/◌, ◌%◌, ◌^◌, ◌<◌, ◌≤◌, ◌⊎◌, inl, inr, Bool, true, false, cond, Some, get_or, List, [], ◌∷◌, ◌++◌, map, length, refl, ap, ap₂, sym, ◌∙◌, subst, arith}
+use Rattle.std.specs.Int.Bits.{or_zero_r, and_zero_r}
+use Rattle.std.specs.Prelude.{bit_and, bit_or, ◌==◌}
+use Rattle.model_registers.specs.Lists.{Each, EachPair}
+use Rattle.model_registers.specs.Cell.{Cell, raised}
+use Rattle.model_registers.specs.Registers.{Place, config, block, place_eq, Entry, File, changed, read, write, raise, field, in_region}
+use Rattle.model_registers.specs.FileLaws.{has_place, HasNone, IsConfig, IsConfigFile}
+use Rattle.model_registers.specs.Declarations.{Region, Endpoint, Kind, io_kind, mem32, mem64, registers_of, HasLawfulRegions, IsLawfulRegion}
+use Rattle.model_registers.specs.EndpointTable.{type_bits, base_width, BaseAddress, register_cells, base_file, opened}
+use Rattle.model_registers.specs.OwnCopies.{bare}
+use Rattle.model_registers.proofs.Files.{joined_write, joined_change, read_none, write_none, change_none, region_has_no_config, region_has_no_other, config_has_no_block, region_write, region_change}
+use Rattle.model_registers.proofs.Parts.{write_apart}
+use Rattle.std.specs.Option.{option_map_or}
+use Rattle.std.specs.List.{slice_get, slice_set}
+use Rattle.std.proofs.lemmas.Option.{slice_get_past}
+use Rattle.config_bytes.specs.CellFile.{CellFile}
+use Rattle.bridge_forward.proofs.Indices.{read_at}
+use Rattle.bridge_forward.specs.EndpointParts.{block_at, region_parts, IsShort, AreParts}
+use Rattle.bridge_forward.proofs.RegionParts.{read_same, cell_second, cell_first, config_register, no_block_in, no_config_in, no_other_in, config_cell, no_base, Distinct, block_cell, IsChange, parts_changed, write_is_change, changed_is_change}
+
+same_or_other : (x y : ℕ) → (x ≡ y) ⊎ (x ≢ y)
+same_or_other x y = grind arith
+
+pub config_joined : (xs ys : File) → IsConfigFile xs → IsConfigFile ys → IsConfigFile (xs ++ ys)
+config_joined [] ys h k = k
+config_joined (x ∷ xs) ys h k = (h.0, config_joined xs ys h.1 k)
+
+config_bases : (bs : List BaseAddress) → IsConfigFile (base_file bs)
+config_bases [] = tt
+config_bases (b ∷ bs) = config_joined (register_cells b) (base_file bs) (config_register b) (config_bases bs)
+
+pub changed_config : (f : Cell → Cell) (p : Place) (xs : File) → IsConfigFile xs → IsConfigFile (changed f p xs)
+changed_config f p [] h = tt
+changed_config f p (x ∷ xs) h = (by_place (place_eq x.place p), changed_config f p xs h.1)
+  where
+    by_place : (t : Bool) → IsConfig (cond t (record x { cell = f x.cell }) x).place
+    by_place true = h.0
+    by_place false = h.0
+
+-- a word that begins outside the base address registers lies outside them
+pub word_away : (off : ℕ) → off % 4 ≡ 0 → (off < 0x10) ⊎ (0x28 ≤ off) → (off + 4 ≤ 0x10) ⊎ (0x28 ≤ off)
+word_away off word (inl low) = inl (omega arith)
+word_away off word (inr high) = inr high
+
+-- ---- blocks by register
+
+-- the block that is there, or none past the table
+pub block_there : (blocks : List CellFile) (n : ℕ) (f : CellFile) → n < length blocks → f ≡ get_or blocks n f → block_at blocks n ≡ f.now
+block_there blocks n f l e = ap (λ o. option_map_or (λ (x : CellFile). x.now) o []) (read_at blocks n f l e)
+
+pub no_block : (blocks : List CellFile) (n : ℕ) → length blocks ≤ n → block_at blocks n ≡ []
+no_block blocks n l = ap (λ o. option_map_or (λ (x : CellFile). x.now) o []) (slice_get_past blocks n l)
+
+get_set : (blocks : List CellFile) (n : ℕ) (f : CellFile) → n < length blocks → slice_get (slice_set blocks n f) n ≡ Some f
+get_set [] n f l = absurd (omega (arith, l))
+get_set (b ∷ bs) zero f l = refl
+get_set (b ∷ bs) (suc n) f l = get_set bs n f (omega (arith, l))
+
+get_other : (blocks : List CellFile) (n m : ℕ) (f : CellFile) → m ≢ n → slice_get (slice_set blocks n f) m ≡ slice_get blocks m
+get_other [] n m f d = refl
+get_other (b ∷ bs) zero zero f d = absurd (d refl)
+get_other (b ∷ bs) zero (suc m) f d = refl
+get_other (b ∷ bs) (suc n) zero f d = refl
+get_other (b ∷ bs) (suc n) (suc m) f d = get_other bs n m f (λ e. d (omega (arith, e)))
+
+pub block_set : (blocks : List CellFile) (n : ℕ) (f : CellFile) → n < length blocks → block_at (slice_set blocks n f) n ≡ f.now
+block_set blocks n f l = ap (λ o. option_map_or (λ (x : CellFile). x.now) o []) (get_set blocks n f l)
+
+pub other_blocks : (blocks : List CellFile) (n m : ℕ) (f : CellFile) → m ≢ n → block_at (slice_set blocks n f) m ≡ block_at blocks m
+other_blocks blocks n m f d = ap (λ o. option_map_or (λ (x : CellFile). x.now) o []) (get_other blocks n m f d)
+
+-- ---- lawful regions
+
+bare_each : (rs : List Region) → Each IsLawfulRegion rs → Each IsLawfulRegion (map bare rs)
+bare_each [] h = tt
+bare_each (r ∷ rs) h = (record { registers = h.0.registers; size_is_lawful = h.0.size_is_lawful; block_fits = omega arith }, bare_each rs h.1)
+
+abbrev Follows : Region → Region → Type 0
+Follows r s = r.index + registers_of r.kind ≤ s.index
+
+bare_after : (r : Region) (rs : List Region) → Each (Follows r) rs → Each (Follows (bare r)) (map bare rs)
+bare_after r [] h = tt
+bare_after r (s ∷ rs) h = (h.0, bare_after r rs h.1)
+
+bare_order : (rs : List Region) → EachPair Follows rs → EachPair Follows (map bare rs)
+bare_order [] h = tt
+bare_order (r ∷ rs) h = (bare_after r rs h.0, bare_order rs h.1)
+
+-- lawful regions stay lawful without their blocks
+pub bare_lawful : (rs : List Region) → HasLawfulRegions rs → HasLawfulRegions (map bare rs)
+bare_lawful rs h = record { each = bare_each rs h.each; in_order = bare_order rs h.in_order }
+
+pub some_register : (k : Kind) → 0 < registers_of k
+some_register io_kind = omega arith
+some_register (mem32 p) = omega arith
+some_register (mem64 p) = omega arith
+
+later : (b : BaseAddress) (bs : List BaseAddress) → Each (Follows (opened b)) (map opened bs) → Each (λ (c : BaseAddress). b.index ≢ c.index) bs
+later b [] h = tt
+later b (c ∷ bs) h = (λ e. let some = some_register b.kind in absurd (omega (arith, h.0, some, e)), later b bs h.1)
+
+distinct_opened : (bs : List BaseAddress) → EachPair Follows (map opened bs) → Distinct bs
+distinct_opened [] h = tt
+distinct_opened (b ∷ bs) h = (later b bs h.0, distinct_opened bs h.1)
+
+-- what a change of one block's cells does to each part
+pub record IsBlockChange (n : ℕ) (change inner : File → File) : Type 0 where
+  pub change_is : IsChange change
+  pub config_stays : (xs : File) → IsConfigFile xs → change xs ≡ xs
+  pub here : (xs : File) → IsConfigFile xs → change (in_region n xs) ≡ in_region n (inner xs)
+  pub other : (m : ℕ) (xs : File) → m ≢ n → change (in_region m xs) ≡ in_region m xs
+
+pub write_in_block : (n off v : ℕ) (ons : List Bool) → IsBlockChange n (write ons v (block n off)) (write ons v (config off))
+write_in_block n off v ons = record {
+  change_is = write_is_change ons v (block n off);
+  config_stays = λ xs h. write_none ons v (block n off) xs (config_has_no_block ons n off xs h);
+  here = λ xs h. region_write ons v n off xs h;
+  other = λ m xs e. write_none ons v (block n off) (in_region m xs) (region_has_no_other ons m n off xs e);
+}
+
+pub raise_in_block : (n off mask : ℕ) → IsBlockChange n (raise mask (block n off)) (raise mask (config off))
+raise_in_block n off mask = record {
+  change_is = changed_is_change (raised mask) (block n off);
+  config_stays = λ xs h. change_none (raised mask) xs (block n off) (no_block_in xs n off h);
+  here = λ xs h. region_change (raised mask) n off xs h;
+  other = λ m xs e. change_none (raised mask) (in_region m xs) (block n off) (no_other_in m n off xs e);
+}
+
+-- no cell stands at the enabled places
+pub none_from : (xs : File) (ons : List Bool) (off : ℕ) → ((q : ℕ) → off ≤ q → q < off + length ons → has_place xs (config q) ≡ false) → HasNone xs (config off) ons
+none_from xs [] off h = tt
+none_from xs (on ∷ ons) off h = (λ e. h off (omega arith) (omega arith), none_from xs ons (off + 1) (λ q l k. h q (omega arith) (omega arith)))
+
+-- past all cells a read gives 0, and nothing changes
+pub read_past : (xs : File) → IsShort xs → (off : ℕ) (ons : List Bool) → 0x10000 ≤ off → read xs (config off) ons ≡ 0
+read_past xs short off ons l = read_none ons (config off) xs (none_from xs ons off (λ q k h. short q (omega arith)))
+
+pub write_past : (xs : File) → IsShort xs → (off v : ℕ) (ons : List Bool) → 0x10000 ≤ off → write ons v (config off) xs ≡ xs
+write_past xs short off v ons l = write_none ons v (config off) xs (none_from xs ons off (λ q k h. short q (omega arith)))
+
+pub raise_past : (xs : File) → IsShort xs → (off mask : ℕ) → 0x10000 ≤ off → raise mask (config off) xs ≡ xs
+raise_past xs short off mask l = change_none (raised mask) xs (config off) (short off l)
+
+-- a raise finds no clearable bit in a base register
+unraised : (t : Bool) (mask : ℕ) (e : Entry) → e.cell.clearable ≡ 0 → cond t (record e { cell = raised mask e.cell }) e ≡ e
+unraised true mask e h = ap (λ n. record e { cell = record e.cell { value = n } }) (ap (λ n. bit_or e.cell.value (bit_and mask n)) h ∙ ap (bit_or e.cell.value) (and_zero_r mask) ∙ or_zero_r e.cell.value)
+unraised false mask e h = refl
+
+raise_field : (mask q w a v m : ℕ) → raise mask (config q) (field (config a) w v m 0) ≡ field (config a) w v m 0
+raise_field mask q zero a v m = refl
+raise_field mask q (suc w) a v m =
+    ap₂ (λ (e : Entry) (es : File). e ∷ es) (unraised (a == q) mask (record { place = config a; cell = record { value = v % 256; writable = m % 256; clearable = 0 } }) refl)
+    (raise_field mask q w (a + 1) (v / 256) (m / 256))
+
+module _ (d : Endpoint) (cells : File) (bars : List BaseAddress) (g : ℕ → File) (parts : AreParts d cells bars g) where
+  abbrev file : File
+  file = cells ++ region_parts bars g
+
+  pub lawful_bars : HasLawfulRegions (map opened bars)
+  lawful_bars = subst HasLawfulRegions (sym parts.registers) (bare_lawful d.regions parts.lawful)
+
+  distinct : Distinct bars
+  distinct = distinct_opened bars lawful_bars.in_order
+
+  -- ---- reads
+
+  -- a block's offsets show the block
+  pub read_block : (n off : ℕ) (ons : List Bool) → read file (block n off) ons ≡ read (g n) (config off) ons
+  read_block n off ons = read_same file (g n) (block n) config (λ k. refl) (λ k. refl) ons off (λ q l h.
+      cell_second cells (region_parts bars g) (block n q) (no_block_in cells n q parts.config_places)
+      ∙ block_cell bars g n q distinct (parts.block_places n) (parts.unused n))
+
+  -- base registers show the bases
+  pub read_base : (off : ℕ) (ons : List Bool) → 0x10 ≤ off → off + length ons ≤ 0x28 → read file (config off) ons ≡ read (base_file bars) (config off) ons
+  read_base off ons low high = read_same file (base_file bars) config config (λ k. refl) (λ k. refl) ons off (λ q l h.
+      cell_second cells (region_parts bars g) (config q) (parts.config_within q (inl (omega arith, omega arith))) ∙ config_cell bars g q)
+
+  -- all other configuration offsets show the header and the device's own registers
+  pub read_config : (off : ℕ) (ons : List Bool) → (off + length ons ≤ 0x10) ⊎ (0x28 ≤ off) → read file (config off) ons ≡ read cells (config off) ons
+  read_config off ons away = read_same file cells config config (λ k. refl) (λ k. refl) ons off (λ q l h.
+      cell_first cells (region_parts bars g) (config q) (config_cell bars g q ∙ no_base bars lawful_bars.each q (elim away [ inl low ↦ inl (omega arith) | inr high ↦ inr (omega arith) ])))
+
+  -- ---- changes of a block
+
+  pub block_changed : (n : ℕ) (change inner : File → File) → IsBlockChange n change inner → (h : ℕ → File) → h n ≡ inner (g n) → ((m : ℕ) → m ≢ n → h m ≡ g m) → change file ≡ cells ++ region_parts bars h
+  block_changed n change inner c h here other =
+      c.change_is.joined cells (region_parts bars g)
+      ∙ ap₂ (λ (xs ys : File). xs ++ ys) (c.config_stays cells parts.config_places)
+      (parts_changed change c.change_is bars bars g h refl (sym (c.config_stays (base_file bars) (config_bases bars))) (λ m. by_index m (same_or_other m n)))
+    where
+      by_index : (m : ℕ) → (m ≡ n) ⊎ (m ≢ n) → change (in_region m (g m)) ≡ in_region m (h m)
+      by_index m (inl e) =
+          ap (λ k. change (in_region k (g k))) e ∙ c.here (g n) (parts.block_places n) ∙ sym (ap (in_region n) here) ∙ ap (λ k. in_region k (h k)) (sym e)
+      by_index m (inr e) = c.other m (g m) e ∙ sym (ap (in_region m) (other m e))
+
+  pub block_kept : (n : ℕ) (h : ℕ → File) → IsConfigFile (h n) → ((q : ℕ) → has_place (h n) (config q) ≡ has_place (g n) (config q)) → (g n ≡ [] → h n ≡ []) → ((m : ℕ) → m ≢ n → h m ≡ g m) → AreParts d cells bars h
+  block_kept n h places same none other = record {
+    lawful = parts.lawful;
+    registers = parts.registers;
+    config_places = parts.config_places;
+    config_within = parts.config_within;
+    block_places = λ m. by_places m (same_or_other m n);
+    block_within = λ m q l. by_within m q l (same_or_other m n);
+    unused = λ m u. by_unused m u (same_or_other m n);
+  }
+    where
+      by_places : (m : ℕ) → (m ≡ n) ⊎ (m ≢ n) → IsConfigFile (h m)
+      by_places m (inl e) = subst (λ k. IsConfigFile (h k)) (sym e) places
+      by_places m (inr e) = subst IsConfigFile (sym (other m e)) (parts.block_places m)
+
+      by_within : (m q : ℕ) → 0x1000 ≤ q → (m ≡ n) ⊎ (m ≢ n) → has_place (h m) (config q) ≡ false
+      by_within m q l (inl e) = ap (λ k. has_place (h k) (config q)) e ∙ same q ∙ parts.block_within n q l
+      by_within m q l (inr e) = ap (λ (xs : File). has_place xs (config q)) (other m e) ∙ parts.block_within m q l
+
+      by_unused : (m : ℕ) → Each (λ (b : BaseAddress). b.index ≢ m) bars → (m ≡ n) ⊎ (m ≢ n) → h m ≡ []
+      by_unused m u (inl e) = ap h e ∙ none (ap g (sym e) ∙ parts.unused m u)
+      by_unused m u (inr e) = other m e ∙ parts.unused m u
+
+  -- ---- changes of configuration cells
+
+  pub config_changed : (change : File → File) → IsChange change → ((m : ℕ) (xs : File) → change (in_region m xs) ≡ in_region m xs) → (cs : List BaseAddress) → map opened bars ≡ map opened cs → base_file cs ≡ change (base_file bars)
+      → change file ≡ change cells ++ region_parts cs g
+  config_changed change c region cs same bases =
+      c.joined cells (region_parts bars g) ∙ ap (λ (ys : File). change cells ++ ys) (parts_changed change c bars cs g g same bases (λ m. region m (g m)))
+
+  pub config_kept : (xs : File) (cs : List BaseAddress) → map opened cs ≡ map opened bars → IsConfigFile xs → ((q : ℕ) → has_place xs (config q) ≡ has_place cells (config q)) → AreParts d xs cs g
+  config_kept xs cs same places holds = record {
+    lawful = parts.lawful;
+    registers = same ∙ parts.registers;
+    config_places = places;
+    config_within = λ q l. holds q ∙ parts.config_within q l;
+    block_places = parts.block_places;
+    block_within = parts.block_within;
+    unused = λ m u. parts.unused m (same_indices cs bars same m u);
+  }
+    where
+      same_indices : (ps bs : List BaseAddress) → map opened ps ≡ map opened bs → (m : ℕ) → Each (λ (b : BaseAddress). b.index ≢ m) ps → Each (λ (b : BaseAddress). b.index ≢ m) bs
+      same_indices ps [] e m u = tt
+      same_indices [] (b ∷ bs) e m u = absurd (cc)
+      same_indices (a ∷ ps) (b ∷ bs) e m u =
+          let head : opened a ≡ opened b = cc in
+          let tail : map opened ps ≡ map opened bs = cc in
+          (λ z. u.0 (ap (λ (r : Region). r.index) head ∙ z), same_indices ps bs tail m u.1)
+
+  -- base registers stay where a write meets none
+  bases_stay : (bs : List BaseAddress) → Each IsLawfulRegion (map opened bs) → (ons : List Bool) (v off : ℕ) → (off + length ons ≤ 0x10) ⊎ (0x28 ≤ off) → write ons v (config off) (base_file bs) ≡ base_file bs
+  bases_stay [] l ons v off w = Rattle.model_registers.proofs.Parts.write_none ons v (config off)
+  bases_stay (b ∷ bs) l ons v off w =
+      let within = l.0.registers in
+      joined_write ons v (config off) (register_cells b) (base_file bs)
+      ∙ ap₂ (λ (xs ys : File). xs ++ ys)
+      (write_apart ons v off (4 * registers_of b.kind) (0x10 + 4 * b.index) (b.base + type_bits b.kind) (2 ^ base_width b.kind - b.size) 0
+      (elim w [ inl low ↦ inl (omega arith) | inr high ↦ inr (omega (arith, within)) ]))
+      (bases_stay bs l.1 ons v off w)
+
+  pub write_config : (off v : ℕ) (ons : List Bool) → (off + length ons ≤ 0x10) ⊎ (0x28 ≤ off) → write ons v (config off) file ≡ write ons v (config off) cells ++ region_parts bars g
+  write_config off v ons w =
+      config_changed (write ons v (config off)) (write_is_change ons v (config off)) (λ m xs. write_none ons v (config off) (in_region m xs) (region_has_no_config ons m off xs))
+      bars refl (sym (bases_stay bars lawful_bars.each ons v off w))
+
+  -- ---- raises, and writes of base registers
+
+  bases_unraised : (bs : List BaseAddress) (mask off : ℕ) → raise mask (config off) (base_file bs) ≡ base_file bs
+  bases_unraised [] mask off = refl
+  bases_unraised (b ∷ bs) mask off =
+      joined_change (raised mask) (config off) (register_cells b) (base_file bs)
+      ∙ ap₂ (λ (xs ys : File). xs ++ ys)
+      (raise_field mask off (4 * registers_of b.kind) (0x10 + 4 * b.index) (b.base + type_bits b.kind) (2 ^ base_width b.kind - b.size))
+      (bases_unraised bs mask off)
+
+  pub raise_config : (off mask : ℕ) → raise mask (config off) file ≡ raise mask (config off) cells ++ region_parts bars g
+  raise_config off mask =
+      config_changed (raise mask (config off)) (changed_is_change (raised mask) (config off)) (λ m xs. change_none (raised mask) (in_region m xs) (config off) (no_config_in m off xs))
+      bars refl (sym (bases_unraised bars mask off))
+
+  -- a write of base registers
+  pub write_base : (off v : ℕ) (ons : List Bool) (cs : List BaseAddress) → 0x10 ≤ off → off + length ons ≤ 0x28 → map opened cs ≡ map opened bars → base_file cs ≡ write ons v (config off) (base_file bars)
+      → write ons v (config off) file ≡ cells ++ region_parts cs g
+  write_base off v ons cs low high same bases =
+      config_changed (write ons v (config off)) (write_is_change ons v (config off)) (λ m xs. write_none ons v (config off) (in_region m xs) (region_has_no_config ons m off xs)) cs (sym same) bases
+      ∙ ap (λ (xs : File). xs ++ region_parts cs g) (write_none ons v (config off) cells (none_from cells ons off (λ q l h. parts.config_within q (inl (omega arith, omega arith)))))
+
+  pub config_short : IsShort cells
+  config_short off l = parts.config_within off (inr (omega arith))
+
+  pub block_short : (n : ℕ) → IsShort (g n)
+  block_short n off l = parts.block_within n off (omega arith)
+
+  -- ---- one block of the table, written or raised
+
+  module _ (blocks : List CellFile) (table : g ≡ block_at blocks) (n : ℕ) (f : CellFile) (l : n < length blocks) (there : f ≡ get_or blocks n f) where
+    here : g n ≡ f.now
+    here = ap (λ (h : ℕ → File). h n) table ∙ block_there blocks n f l there
+
+    others : (k : CellFile) (m : ℕ) → m ≢ n → block_at (slice_set blocks n k) m ≡ g m
+    others k m d = other_blocks blocks n m k d ∙ sym (ap (λ (h : ℕ → File). h m) table)
+
+    module _ (change inner : File → File) (c : IsBlockChange n change inner) (k : CellFile) (is : k.now ≡ inner f.now) where
+      set_is : block_at (slice_set blocks n k) n ≡ inner (g n)
+      set_is = block_set blocks n k l ∙ is ∙ sym (ap inner here)
+
+      pub table_changed : change file ≡ cells ++ region_parts bars (block_at (slice_set blocks n k))
+      table_changed = block_changed n change inner c (block_at (slice_set blocks n k)) set_is (others k)
+
+      pub table_kept : ((xs : File) → IsConfigFile xs → IsConfigFile (inner xs)) → ((xs : File) (q : ℕ) → has_place (inner xs) (config q) ≡ has_place xs (config q)) → inner [] ≡ [] → AreParts d cells bars (block_at (slice_set blocks n k))
+      table_kept places same none =
+          block_kept n (block_at (slice_set blocks n k)) (subst IsConfigFile (sym set_is) (places (g n) (parts.block_places n)))
+          (λ q. ap (λ (xs : File). has_place xs (config q)) set_is ∙ same (g n) q) (λ e. set_is ∙ ap inner e ∙ none) (others k)
+
+  -- a register at which no block stands
+  pub nothing_there : (n : ℕ) (change inner : File → File) → IsBlockChange n change inner → g n ≡ [] → inner [] ≡ [] → change file ≡ file
+  nothing_there n change inner c e none = block_changed n change inner c g (e ∙ sym none ∙ sym (ap inner e)) (λ m d. refl)

@@ -1,0 +1,55 @@
+-- What an endpoint decodes is told by its Command and its base address registers.
+use Rattle.std.proofs.Common.{◌≡◌, ℕ, zero, suc, ◌+◌, ◌*◌, ◌/◌, ◌^◌, ◌<◌, ◌≤◌, inl, inr, List, [], ◌∷◌, ◌++◌, map, refl, ap, ap₂, sym, ◌∙◌, arith}
+use Rattle.std.proofs.Math.Nat.{mod-eq_of_lt}
+use Rattle.model_registers.specs.Lists.{Each, first_some}
+use Rattle.model_registers.specs.Registers.{config, File, number, all_bytes}
+use Rattle.model_registers.specs.Declarations.{Region, Kind, io_kind, mem32, mem64, registers_of, IsLawfulRegion, Endpoint}
+use Rattle.model_registers.specs.EndpointTable.{BaseAddress, base_file, command_cells, opened}
+use Rattle.model_registers.specs.Decoding.{Space, base, standing, hit_at, first_hit}
+use Rattle.model_registers.specs.OwnCopies.{bare}
+use Rattle.model_registers.proofs.Hits.{hits_by_bases}
+use Rattle.model_registers.proofs.RegisterFiles.{field_reads}
+use Rattle.model_registers.proofs.Parts.{read_apart}
+use Rattle.bridge_forward.specs.EndpointParts.{region_parts, AreParts}
+use Rattle.bridge_forward.proofs.EndpointAccess.{lawful_bars, read_base, read_config}
+
+standing_bare : (file : File) (rs : List Region) → map (standing file) (map bare rs) ≡ map (standing file) rs
+standing_bare file [] = refl
+standing_bare file (r ∷ rs) = ap (λ (bs : List BaseAddress). standing file r ∷ bs) (standing_bare file rs)
+
+module _ (d : Endpoint) (cells : File) (bars : List BaseAddress) (g : ℕ → File) (parts : AreParts d cells bars g) (command : ℕ) (is : command ≡ number cells (config 4) 2) (small : command < 2 ^ 16) where
+  abbrev whole : File
+  whole = cells ++ region_parts bars g
+
+  abbrev own : File
+  own = command_cells command ++ base_file bars
+
+  same_read : (off w : ℕ) → 0x10 ≤ off → off + w ≤ 0x28 → number own (config off) w ≡ number whole (config off) w
+  same_read off w low high =
+      let long = length-bytes w in
+      read_apart (all_bytes w) off 2 4 command 0x0547 0 (base_file bars) (inr (omega arith))
+      ∙ sym (read_base d cells bars g parts off (all_bytes w) low (omega (arith, long)))
+    where
+      length-bytes : (w : ℕ) → Rattle.std.proofs.Common.length (all_bytes w) ≡ w
+      length-bytes zero = refl
+      length-bytes (suc w) = ap suc (length-bytes w)
+
+  same_base : (n : ℕ) (k : Kind) → n + registers_of k ≤ 6 → base own n k ≡ base whole n k
+  same_base n io_kind h = ap (λ m. m / 4 * 4) (same_read (0x10 + 4 * n) 4 (omega arith) (omega arith))
+  same_base n (mem32 p) h = ap (λ m. m / 16 * 16) (same_read (0x10 + 4 * n) 4 (omega arith) (omega arith))
+  same_base n (mem64 p) h = ap (λ m. m / 16 * 16) (same_read (0x10 + 4 * n) 8 (omega arith) (omega arith))
+
+  same_standing : (bs : List BaseAddress) → Each IsLawfulRegion (map opened bs) → map (standing own) (map opened bs) ≡ map (standing whole) (map opened bs)
+  same_standing [] h = refl
+  same_standing (b ∷ bs) h =
+      ap₂ (λ n (cs : List BaseAddress). record { index = b.index; kind = b.kind; size = b.size; base = n } ∷ cs) (same_base b.index b.kind h.0.registers) (same_standing bs h.1)
+
+  pub hits_same : (space : Space) (a : ℕ) → first_hit own (map opened bars) space a ≡ first_hit whole d.regions space a
+  hits_same space a =
+      let word : number own (config 4) 2 ≡ number whole (config 4) 2 =
+      field_reads 2 4 command 0x0547 0 (base_file bars) ∙ mod-eq_of_lt small ∙ is ∙ sym (read_config d cells bars g parts 4 (all_bytes 2) (inl (omega arith))) in
+      let stand : map (standing own) (map opened bars) ≡ map (standing whole) d.regions =
+      same_standing bars (lawful_bars d cells bars g parts).each ∙ ap (map (standing whole)) parts.registers ∙ standing_bare whole d.regions in
+      hits_by_bases own (map opened bars) space a
+      ∙ ap₂ (λ c (bs : List BaseAddress). first_some (hit_at c space a) bs) word stand
+      ∙ sym (hits_by_bases whole d.regions space a)

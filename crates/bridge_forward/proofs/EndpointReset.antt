@@ -1,0 +1,262 @@
+-- The parts of an endpoint at reset.
+use Rattle.std.proofs.Common.{◌≡◌, ◌≢◌, ℕ, zero, suc, ◌+◌, ◌/◌, ◌<◌, ◌≤◌, ◌⊎◌, inl, inr, Bool, true, false, ◌||◌, cond, Option, Some, None, List, [], ◌∷◌, ◌++◌, map, length, refl, ap, ap₂, sym, ◌∙◌, subst, arith}
+use Rattle.std.specs.Prelude.{◌==◌, flat_map, option_map}
+use Rattle.std.proofs.lemmas.Bool.{ne_eqb, eq-eqb}
+use Rattle.std.specs.List.{slice_get}
+use Rattle.std.specs.Option.{option_map_or}
+use Rattle.model_registers.specs.Lists.{Each, EachPair}
+use Rattle.model_registers.specs.Cell.{Cell}
+use Rattle.model_registers.specs.Registers.{Place, config, place_eq, File, field, cells_from, in_region}
+use Rattle.model_registers.specs.FileLaws.{has_place, IsConfigFile}
+use Rattle.model_registers.specs.Declarations.{Bar, Region, registers_of, IsLawfulRegion, HasLawfulRegions, ConfigBlock, Endpoint}
+use Rattle.model_registers.specs.DeclarationRules.{IsConfigBlock, IsLawfulEndpoint}
+use Rattle.model_registers.specs.EndpointTable.{BaseAddress, register_cells, opened, closed, region_cells, block_cells, header_cells, header_type, config_reset, endpoint_reset}
+use Rattle.model_registers.specs.OwnCopies.{bare}
+use Rattle.model_registers.proofs.Files.{region_cells as cells_in_region}
+use Rattle.model_registers.proofs.Parts.{IsOutside}
+use Rattle.config_bytes.specs.CellFile.{CellFile}
+use Rattle.bars.specs.Resets.{reset_from, at_reset}
+use Rattle.bridge_forward.specs.EndpointParts.{block_at, region_parts, IsElsewhere, AreParts, region_at, declared_bar, declared_block}
+use Rattle.bridge_forward.proofs.Indices.{each_at, pair_at, find_at}
+use Rattle.bridge_forward.proofs.BlockLists.{found_each}
+use Rattle.bridge_forward.proofs.RegionParts.{config_field}
+use Rattle.bridge_forward.proofs.EndpointAccess.{config_joined, some_register, no_block}
+
+-- ---- where the header and the device's own registers stand
+
+not_here : (q a : ℕ) → (q < a) ⊎ (a + 1 ≤ q) → (a == q) ≡ false
+not_here q a (inl h) = ne_eqb a q (λ e. omega (arith, h, e))
+not_here q a (inr h) = ne_eqb a q (λ e. omega (arith, h, e))
+
+none_field : (q w a v m c : ℕ) → IsOutside q a w → has_place (field (config a) w v m c) (config q) ≡ false
+none_field q zero a v m c h = refl
+none_field q (suc w) a v m c h =
+    ap₂ (λ s t. s || t) (not_here q a (first h)) (none_field q w (a + 1) (v / 256) (m / 256) (c / 256) (rest h))
+  where
+    first : IsOutside q a (suc w) → (q < a) ⊎ (a + 1 ≤ q)
+    first (inl h) = inl h
+    first (inr h) = inr (omega arith)
+
+    rest : IsOutside q a (suc w) → IsOutside q (a + 1) w
+    rest (inl h) = inl (omega arith)
+    rest (inr h) = inr (omega arith)
+
+none_cells : (q a : ℕ) (cs : List Cell) → IsOutside q a (length cs) → has_place (cells_from (config a) cs) (config q) ≡ false
+none_cells q a [] h = refl
+none_cells q a (c ∷ cs) h = ap₂ (λ s t. s || t) (not_here q a (first h)) (none_cells q (a + 1) cs (rest h))
+  where
+    first : IsOutside q a (suc (length cs)) → (q < a) ⊎ (a + 1 ≤ q)
+    first (inl h) = inl h
+    first (inr h) = inr (omega arith)
+
+    rest : IsOutside q a (suc (length cs)) → IsOutside q (a + 1) (length cs)
+    rest (inl h) = inl (omega arith)
+    rest (inr h) = inr (omega arith)
+
+none_joined : (p : Place) (xs ys : File) → has_place xs p ≡ false → has_place ys p ≡ false → has_place (xs ++ ys) p ≡ false
+none_joined p [] ys h k = k
+none_joined p (x ∷ xs) ys h k = by_first (place_eq x.place p) h (λ e. none_joined p xs ys e k)
+  where
+    by_first : (t : Bool) → (t || has_place xs p) ≡ false → (has_place xs p ≡ false → has_place (xs ++ ys) p ≡ false) → (t || has_place (xs ++ ys) p) ≡ false
+    by_first true h more = h
+    by_first false h more = more h
+
+config_cells_from : (a : ℕ) (cs : List Cell) → IsConfigFile (cells_from (config a) cs)
+config_cells_from a [] = tt
+config_cells_from a (c ∷ cs) = (tt, config_cells_from (a + 1) cs)
+
+config_blocks : (bs : List ConfigBlock) → IsConfigFile (flat_map block_cells bs)
+config_blocks [] = tt
+config_blocks (b ∷ bs) = config_joined (block_cells b) (flat_map block_cells bs) (config_cells_from b.offset b.cells) (config_blocks bs)
+
+block_outside : (q a w : ℕ) → IsElsewhere q → 0x40 ≤ a → a + w ≤ 0x100 → IsOutside q a w
+block_outside q a w (inl h) low high = inl (omega (arith, h.1))
+block_outside q a w (inr h) low high = inr (omega arith)
+
+none_blocks : (q : ℕ) (bs : List ConfigBlock) → Each IsConfigBlock bs → IsElsewhere q → has_place (flat_map block_cells bs) (config q) ≡ false
+none_blocks q [] l h = refl
+none_blocks q (b ∷ bs) l h =
+    none_joined (config q) (block_cells b) (flat_map block_cells bs)
+    (none_cells q b.offset b.cells (block_outside q b.offset (length b.cells) h l.0.begins l.0.ends)) (none_blocks q bs l.1 h)
+
+-- configuration cells, none at a base address register or beyond configuration space
+record IsAway (xs : File) : Type 0 where
+  places : IsConfigFile xs
+  none : (q : ℕ) → IsElsewhere q → has_place xs (config q) ≡ false
+
+join : {xs ys : File} → IsAway xs → IsAway ys → IsAway (xs ++ ys)
+join {xs} {ys} a b = record { places = config_joined xs ys a.places b.places; none = λ q h. none_joined (config q) xs ys (a.none q h) (b.none q h) }
+
+low : (a w v m c : ℕ) → a + w ≤ 0x10 → IsAway (field (config a) w v m c)
+low a w v m c l = record { places = config_field a w v m c; none = λ q h. none_field q w a v m c (inr (beyond q h)) }
+  where
+    beyond : (q : ℕ) → IsElsewhere q → a + w ≤ q
+    beyond q (inl e) = omega (arith, e.0)
+    beyond q (inr e) = omega arith
+
+high : (a w v m c : ℕ) → 0x28 ≤ a → a + w ≤ 0x100 → IsAway (field (config a) w v m c)
+high a w v m c l k = record { places = config_field a w v m c; none = λ q h. none_field q w a v m c (aside q h) }
+  where
+    aside : (q : ℕ) → IsElsewhere q → IsOutside q a w
+    aside q (inl e) = inl (omega (arith, e.1))
+    aside q (inr e) = inr (omega arith)
+
+header_away : (d : Endpoint) (shared : Bool) → IsAway (header_cells d shared 0)
+header_away d shared =
+    join (join (join (join (join (join (join (join (join (join (join (join (join
+    (low 0x00 2 d.vendor 0 0 (omega arith)) (low 0x02 2 d.device 0 0 (omega arith)))
+    (low 0x04 2 0 0x0547 0 (omega arith))) (low 0x06 2 d.status 0 0xf900 (omega arith)))
+    (low 0x08 1 d.revision 0 0 (omega arith))) (low 0x09 3 d.class 0 0 (omega arith)))
+    (low 0x0c 2 0 0xffff 0 (omega arith))) (low 0x0e 1 (header_type 0 shared) 0 0 (omega arith)))
+    (high 0x2c 2 d.subvendor 0 0 (omega arith) (omega arith))) (high 0x2e 2 d.subsystem 0 0 (omega arith) (omega arith)))
+    (high 0x3c 1 0 0xff 0 (omega arith) (omega arith))) (high 0x3d 1 d.pin 0 0 (omega arith) (omega arith)))
+    (high 0x3e 1 d.min_gnt 0 0 (omega arith) (omega arith))) (high 0x3f 1 d.max_lat 0 0 (omega arith) (omega arith))
+
+reset_away : (d : Endpoint) (shared : Bool) → Each IsConfigBlock d.blocks → IsAway (config_reset d shared)
+reset_away d shared h = join (header_away d shared) (record { places = config_blocks d.blocks; none = λ q e. none_blocks q d.blocks h e })
+
+-- ---- regions by register
+
+abbrev bar_of : Region → Bar
+bar_of r = record { kind = r.kind; size = r.size }
+
+abbrev Rising : Region → Region → Type 0
+Rising r s = r.index < s.index
+
+rising_each : (r : Region) (rs : List Region) → Each (λ s. r.index + registers_of r.kind ≤ s.index) rs → Each (Rising r) rs
+rising_each r [] h = tt
+rising_each r (s ∷ rs) h = (let some = some_register r.kind in omega (arith, h.0, some), rising_each r rs h.1)
+
+rising : (rs : List Region) → EachPair (λ r s. r.index + registers_of r.kind ≤ s.index) rs → EachPair Rising rs
+rising [] h = tt
+rising (r ∷ rs) h = (rising_each r rs h.0, rising rs h.1)
+
+-- k values from n on
+abbrev values_from : {A : Type 0} → ℕ → ℕ → (ℕ → A) → List A
+values_from n zero f = []
+values_from n (suc k) f = f n ∷ values_from (n + 1) k f
+
+abbrev Between : ℕ → ℕ → Region → Type 0
+Between n k r = (n ≤ r.index) × (r.index < n + k)
+
+same_values : {A : Type 0} (f g : ℕ → A) (n k : ℕ) → ((m : ℕ) → n ≤ m → f m ≡ g m) → values_from n k f ≡ values_from n k g
+same_values f g n zero h = refl
+same_values f g n (suc k) h = ap₂ (λ x xs. x ∷ xs) (h n (omega arith)) (same_values f g (n + 1) k (λ m l. h m (omega arith)))
+
+not_at : (n : ℕ) (rs : List Region) → Each (λ r. n < r.index) rs → region_at rs n ≡ None
+not_at n [] h = refl
+not_at n (r ∷ rs) h = ap (λ t. cond t (Some r) (region_at rs n)) (ne_eqb r.index n (λ e. omega (arith, h.0, e))) ∙ not_at n rs h.1
+
+above_head : (r : Region) (rs : List Region) (n : ℕ) → n ≤ r.index → Each (Rising r) rs → Each (λ s. n < s.index) rs
+above_head r [] n l h = tt
+above_head r (s ∷ rs) n l h = (omega (arith, h.0), above_head r rs n l h.1)
+
+narrowed : (n k : ℕ) (rs : List Region) → Each (λ r. n < r.index) rs → Each (Between n (suc k)) rs → Each (Between (n + 1) k) rs
+narrowed n k [] a b = tt
+narrowed n k (r ∷ rs) a b = ((omega (arith, a.0), omega (arith, b.0.1)), narrowed n k rs a.1 b.1)
+
+-- the registers that are declared by index, at reset
+bars_from : (k n : ℕ) (rs : List Region) → Each (Between n k) rs → EachPair Rising rs → reset_from n (values_from n k (declared_bar rs)) ≡ map closed rs
+bars_from zero n [] b o = refl
+bars_from zero n (r ∷ rs) b o = absurd (omega (arith, b.0.0, b.0.1))
+bars_from (suc k) n [] b o = bars_from k (n + 1) [] tt tt
+bars_from (suc k) n (r ∷ rs) b o = by_head (at_or_above r.index n b.0.0) (bars_from k (n + 1) rs) (λ c. bars_from k (n + 1) (r ∷ rs) c o)
+  where
+    at_or_above : (x y : ℕ) → y ≤ x → (x ≡ y) ⊎ (y < x)
+    at_or_above x y h = grind arith
+
+    by_head : (r.index ≡ n) ⊎ (n < r.index) → (Each (Between (n + 1) k) rs → EachPair Rising rs → reset_from (n + 1) (values_from (n + 1) k (declared_bar rs)) ≡ map closed rs)
+        → (Each (Between (n + 1) k) (r ∷ rs) → reset_from (n + 1) (values_from (n + 1) k (declared_bar (r ∷ rs))) ≡ map closed (r ∷ rs)) → reset_from n (values_from n (suc k) (declared_bar (r ∷ rs))) ≡ map closed (r ∷ rs)
+    by_head (inl e) tail whole =
+        let here : declared_bar (r ∷ rs) n ≡ Some (record { kind = r.kind; size = r.size }) = ap (λ t. option_map bar_of (cond t (Some r) (region_at rs n))) (eq-eqb r.index n e) in
+        let others : values_from (n + 1) k (declared_bar (r ∷ rs)) ≡ values_from (n + 1) k (declared_bar rs) =
+        same_values (declared_bar (r ∷ rs)) (declared_bar rs) (n + 1) k (λ m l. ap (λ t. option_map bar_of (cond t (Some r) (region_at rs m))) (ne_eqb r.index m (λ z. omega (arith, z, e, l)))) in
+        let narrow = narrowed n k rs (above_head r rs n (omega (arith, e)) o.0) b.1 in
+        ap₂ (λ h vs. reset_from n (h ∷ vs)) here others
+        ∙ ap₂ (λ i (bs : List BaseAddress). record { index = i; kind = r.kind; size = r.size; base = 0 } ∷ bs) (sym e) (tail narrow o.1)
+    by_head (inr l) tail whole =
+        let above : Each (λ s. n < s.index) (r ∷ rs) = (l, above_head r rs n (omega (arith, l)) o.0) in
+        let none : declared_bar (r ∷ rs) n ≡ None = ap (option_map bar_of) (not_at n (r ∷ rs) above) in
+        ap (λ h. reset_from n (h ∷ values_from (n + 1) k (declared_bar (r ∷ rs)))) none ∙ whole (narrowed n k (r ∷ rs) above b)
+
+between_six : (rs : List Region) → Each IsLawfulRegion rs → Each (Between 0 6) rs
+between_six [] h = tt
+between_six (r ∷ rs) h = (let some = some_register r.kind in let within = h.0.registers in (omega arith, omega (arith, some, within)), between_six rs h.1)
+
+pub bars_at_reset : (rs : List Region) → HasLawfulRegions rs → at_reset (map (declared_bar rs) (0 ∷ 1 ∷ 2 ∷ 3 ∷ 4 ∷ 5 ∷ [])) ≡ map closed rs
+bars_at_reset rs h = bars_from 6 0 rs (between_six rs h.each) (rising rs h.in_order)
+
+pub opened_closed : (rs : List Region) → map opened (map closed rs) ≡ map bare rs
+opened_closed [] = refl
+opened_closed (r ∷ rs) = ap (λ (xs : List Region). bare r ∷ xs) (opened_closed rs)
+
+-- ---- blocks by register
+
+-- each region is the one at its register
+own_region : (rs : List Region) → EachPair Rising rs → (i : ℕ) (r : Region) → slice_get rs i ≡ Some r → region_at rs r.index ≡ Some r
+own_region rs o i r e = find_at (λ (s : Region). s.index == r.index) rs i r e (eq-eqb r.index r.index refl)
+    (λ j s l f. ne_eqb s.index r.index (λ z. let w = pair_at Rising rs j i s r o l f e in omega (arith, w, z)))
+
+each_by_index : {A : Type 0} (P : A → Type 0) (xs : List A) → ((i : ℕ) (x : A) → slice_get xs i ≡ Some x → P x) → Each P xs
+each_by_index P [] h = tt
+each_by_index P (x ∷ xs) h = (h 0 x refl, each_by_index P xs (λ i y e. h (suc i) y e))
+
+parts_of : (rs : List Region) (g : ℕ → File) → Each (λ r. g r.index ≡ cells_from (config 0) r.cells) rs → region_parts (map closed rs) g ≡ flat_map (region_cells (λ r. 0)) rs
+parts_of [] g h = refl
+parts_of (r ∷ rs) g h =
+    ap₂ (λ (xs ys : File). (register_cells (closed r) ++ xs) ++ ys) (ap (in_region r.index) h.0 ∙ cells_in_region r.index 0 r.cells) (parts_of rs g h.1)
+
+module _ (d : Endpoint) (lawful : IsLawfulEndpoint d) (blocks : List CellFile) (six : length blocks ≡ 6) (filled : (n : ℕ) → n < 6 → block_at blocks n ≡ declared_block d.regions n) where
+  abbrev cells_of : Option Region → File
+  cells_of o = option_map_or (λ (r : Region). cells_from (config 0) r.cells) o []
+
+  -- each block is none, or the cells that a region declares
+  block_is : (P : File → Type 0) → P [] → ((r : Region) → length r.cells ≤ 4096 → P (cells_from (config 0) r.cells)) → (n : ℕ) → P (block_at blocks n)
+  block_is P none some n = by_size (sides n 6)
+    where
+      sides : (x y : ℕ) → (x < y) ⊎ (y ≤ x)
+      sides x y = grind arith
+
+      by_region : (o : Option Region) → region_at d.regions n ≡ o → P (cells_of o)
+      by_region None e = none
+      by_region (Some r) e = some r (found_each (λ (s : Region). length s.cells ≤ 4096) d.regions n r lawful.region_blocks e)
+
+      by_size : (n < 6) ⊎ (6 ≤ n) → P (block_at blocks n)
+      by_size (inl l) = subst P (sym (filled n l)) (by_region (region_at d.regions n) refl)
+      by_size (inr l) = subst P (sym (no_block blocks n (omega (arith, six, l)))) none
+
+  -- no block stands where no region begins
+  unused : (n : ℕ) → Each (λ (b : BaseAddress). b.index ≢ n) (map closed d.regions) → block_at blocks n ≡ []
+  unused n u = by_size (sides n 6)
+    where
+      sides : (x y : ℕ) → (x < y) ⊎ (y ≤ x)
+      sides x y = grind arith
+
+      not_declared : (rs : List Region) → Each (λ (b : BaseAddress). b.index ≢ n) (map closed rs) → region_at rs n ≡ None
+      not_declared [] h = refl
+      not_declared (r ∷ rs) h = ap (λ t. cond t (Some r) (region_at rs n)) (ne_eqb r.index n h.0) ∙ not_declared rs h.1
+
+      by_size : (n < 6) ⊎ (6 ≤ n) → block_at blocks n ≡ []
+      by_size (inl l) = filled n l ∙ ap cells_of (not_declared d.regions u)
+      by_size (inr l) = no_block blocks n (omega (arith, six, l))
+
+  pub parts_at_reset : (shared : Bool) → AreParts d (config_reset d shared) (map closed d.regions) (block_at blocks)
+  parts_at_reset shared =
+      let away = reset_away d shared lawful.config_blocks in
+      record {
+        lawful = lawful.regions;
+        registers = opened_closed d.regions;
+        config_places = away.places;
+        config_within = away.none;
+        block_places = λ n. block_is IsConfigFile tt (λ r l. config_cells_from 0 r.cells) n;
+        block_within = λ n q h. block_is (λ (xs : File). has_place xs (config q) ≡ false) refl (λ r l. none_cells q 0 r.cells (inr (omega (arith, l, h)))) n;
+        unused = unused;
+      }
+
+  pub file_at_reset : (shared : Bool) → config_reset d shared ++ region_parts (map closed d.regions) (block_at blocks) ≡ endpoint_reset d shared
+  file_at_reset shared = ap (λ (xs : File). config_reset d shared ++ xs) (parts_of d.regions (block_at blocks)
+      (each_by_index (λ r. block_at blocks r.index ≡ cells_from (config 0) r.cells) d.regions (λ i r e.
+      let region : IsLawfulRegion r = each_at IsLawfulRegion d.regions i r lawful.regions.each e in
+      let some = some_register r.kind in
+      let within = region.registers in
+      filled r.index (omega (arith, some, within)) ∙ ap cells_of (own_region d.regions (rising d.regions lawful.regions.in_order) i r e))))

@@ -1,0 +1,171 @@
+-- A tree as one list: what its extents say of paths.
+use Rattle.std.proofs.Common.{◌≡◌, ℕ, ◌+◌, ◌<◌, ◌≤◌, Bool, true, false, ◌&&◌, Some, List, [], ◌∷◌, length, refl, ap, sym, ◌∙◌, arith, inl, inr, ◌⊎◌, subst}
+use Rattle.std.specs.Prelude.{nat_lt, nat_le}
+use Rattle.std.specs.List.{slice_get, list_any}
+use Rattle.std.proofs.lemmas.Bool.{ltb-true, lt-ltb, leb-true, le-leb}
+use Rattle.std.proofs.lemmas.Option.{slice_get_within}
+use Rattle.std.proofs.lemmas.List.{length-map}
+use Rattle.model_registers.proofs.Tests.{left_true, right_true}
+use Rattle.model_board.specs.Paths.{Path, part_eq, path_eq, path_before, leads_to, parent, last_part, IsPath}
+use Rattle.model_board.proofs.PathOrder.{path_same}
+use Rattle.model_board.proofs.PathEnds.{snoc, leads_up, leads_self, leads_trans}
+use Rattle.bridge_forward.specs.declared.bus.Node.{Node}
+use Rattle.bridge_forward.specs.Layout.{paths_of, EndsAt, IsLaidOut}
+use Rattle.bridge_forward.specs.Search.{IsSide}
+use Rattle.bridge_forward.proofs.Indices.{at_below, each_at, pair_at, any_at, map_at, at_map}
+use Rattle.bridge_forward.proofs.Paths.{length-parent}
+
+both : (a b : Bool) → a ≡ true → b ≡ true → (a && b) ≡ true
+both a b p q = rw (p, q) refl
+
+pub leads_longer : (p q : Path) → leads_to p q ≡ true → length p < length q
+leads_longer [] [] h = absurd (cc)
+leads_longer [] (y ∷ ys) h = omega arith
+leads_longer (x ∷ xs) [] h = absurd (cc)
+leads_longer (x ∷ xs) (y ∷ ys) h = let l : length xs < length ys = leads_longer xs ys (right_true (part_eq x y) (leads_to xs ys) h) in omega (arith, l)
+
+-- a path behind a bus stands on it, or its parent is behind that bus
+pub on_or_behind : (bus p : Path) → 0 < length p → leads_to bus p ≡ true → (bus ≡ parent p) ⊎ (leads_to bus (parent p) ≡ true)
+on_or_behind bus p some h = leads_up bus (parent p) (last_part p) (subst (λ q. leads_to bus q ≡ true) (snoc p some) h)
+
+pub parent_leads : (p : Path) → 0 < length p → leads_to (parent p) p ≡ true
+parent_leads p some = subst (λ q. leads_to (parent p) q ≡ true) (sym (snoc p some)) (leads_self (parent p) (last_part p))
+
+module _ (nodes : List Node) (laid : IsLaidOut nodes) where
+  path_at : (i : ℕ) (n : Node) → slice_get nodes i ≡ Some n → slice_get (paths_of nodes) i ≡ Some n.path
+  path_at i n e = map_at (λ (m : Node). m.path) nodes i n e
+
+  ends : (i : ℕ) (n : Node) → slice_get nodes i ≡ Some n → EndsAt (paths_of nodes) i n.end
+  ends i n e = laid.ends_at i n.end (map_at (λ (m : Node). m.end) nodes i n e)
+
+  pub path_of : (i : ℕ) (n : Node) → slice_get nodes i ≡ Some n → IsPath n.path
+  path_of i n e = each_at IsPath (paths_of nodes) i n.path laid.order.paths (path_at i n e)
+
+  pub inside : (i : ℕ) (n : Node) → slice_get nodes i ≡ Some n → (i < n.end) × (n.end ≤ length nodes)
+  inside i n e = let w = ends i n e in (w.after, rw (← length-map nodes (λ (m : Node). m.path)) w.within)
+
+  pub leads : (i j : ℕ) (m n : Node) → slice_get nodes i ≡ Some m → slice_get nodes j ≡ Some n → leads_to m.path n.path ≡ (nat_lt i j && nat_lt j m.end)
+  leads i j m n em en = (ends i m em).leads j m.path n.path (path_at i m em) (path_at j n en)
+
+  pub ordered : (i j : ℕ) (m n : Node) → i < j → slice_get nodes i ≡ Some m → slice_get nodes j ≡ Some n → path_before m.path n.path ≡ true
+  ordered i j m n l em en = pair_at (λ (p q : Path). path_before p q ≡ true) (paths_of nodes) i j m.path n.path laid.order.in_order l (path_at i m em) (path_at j n en)
+
+  -- what stands within the extent of i is behind i, and nothing else
+  pub leads_within : (i j : ℕ) (m n : Node) → slice_get nodes i ≡ Some m → slice_get nodes j ≡ Some n → i < j → j < m.end → leads_to m.path n.path ≡ true
+  leads_within i j m n em en l k = leads i j m n em en ∙ both _ _ (lt-ltb i j l) (lt-ltb j m.end k)
+
+  pub within_of_leads : (i j : ℕ) (m n : Node) → slice_get nodes i ≡ Some m → slice_get nodes j ≡ Some n → leads_to m.path n.path ≡ true → (i < j) × (j < m.end)
+  within_of_leads i j m n em en a =
+      let t : (nat_lt i j && nat_lt j m.end) ≡ true = sym (leads i j m n em en) ∙ a in
+      (ltb-true i j (left_true _ _ t), ltb-true j m.end (right_true _ _ t))
+
+  -- extents nest
+  pub nested : (i k : ℕ) (m n : Node) → slice_get nodes i ≡ Some m → slice_get nodes k ≡ Some n → i < k → k < m.end → n.end ≤ m.end
+  nested i k m n em en l h = by_order (within m.end n.end)
+    where
+      within : (x y : ℕ) → (y ≤ x) ⊎ (x < y)
+      within x y = grind arith
+
+      by_order : (n.end ≤ m.end) ⊎ (m.end < n.end) → n.end ≤ m.end
+      by_order (inl o) = o
+      by_order (inr o) =
+          let w = inside k n en in
+          let j = at_below nodes m.end (omega (arith, w.1)) in
+          let a = leads_within i k m n em en l h in
+          let b = leads_within k m.end n j.0 en j.1 h o in
+          let v = within_of_leads i m.end m j.0 em j.1 (leads_trans m.path n.path j.0.path a b) in
+          absurd (omega (arith, v.1))
+
+  -- the bridge above a path stands in the list
+  pub bridge_above : (i : ℕ) (n : Node) → slice_get nodes i ≡ Some n → 0 < length (parent n.path) → (k : ℕ) × ((m : Node) × (slice_get nodes k ≡ Some m) × (m.path ≡ parent n.path))
+  bridge_above i n e some =
+      by_founding (each_at (λ p. (parent p ≡ []) ⊎ (list_any (λ q. path_eq q (parent p)) (paths_of nodes) ≡ true)) (paths_of nodes) i n.path laid.order.founded (path_at i n e))
+    where
+      by_founding : (parent n.path ≡ []) ⊎ (list_any (λ q. path_eq q (parent n.path)) (paths_of nodes) ≡ true) → (k : ℕ) × ((m : Node) × (slice_get nodes k ≡ Some m) × (m.path ≡ parent n.path))
+      by_founding (inl z) = absurd (let w : length (parent n.path) ≡ 0 = ap length z in omega (arith, w))
+      by_founding (inr b) =
+          let a = any_at (λ q. path_eq q (parent n.path)) (paths_of nodes) b in
+          let m = at_map (λ (x : Node). x.path) nodes a.0 a.1.0 a.1.1 in
+          (a.0, (m.0, m.1, sym m.2 ∙ path_same a.1.0 (parent n.path) a.1.2))
+
+  -- ---- sides
+
+  -- the whole list is the side of bus 0
+  pub side_root : IsSide nodes [] 0 (length nodes)
+  side_root = record {
+    within = omega arith;
+    behind = λ j n e.
+        let l = slice_get_within nodes j n e in
+        leads_some n.path (path_of j n e).some ∙ sym (both (nat_le 0 j) (nat_lt j (length nodes)) (le-leb 0 j (omega arith)) (lt-ltb j (length nodes) l));
+  }
+    where
+      leads_some : (p : Path) → 0 < length p → leads_to [] p ≡ true
+      leads_some [] h = absurd (omega arith)
+      leads_some (x ∷ xs) h = refl
+
+  -- the extent of a bridge is its side
+  pub side_behind : (i : ℕ) (n : Node) → slice_get nodes i ≡ Some n → IsSide nodes n.path (i + 1) n.end
+  side_behind i n e = record {
+    within = let w = inside i n e in omega (arith, w.1);
+    behind = λ j m em. leads i j n m e em ∙ ap (λ b. b && nat_lt j n.end) (same_test i j);
+  }
+    where
+      same_test : (i j : ℕ) → nat_lt i j ≡ nat_le (i + 1) j
+      same_test i j = grind arith
+
+  module _ (bus : Path) (from to : ℕ) (side : IsSide nodes bus from to) where
+    pub behind_bus : (j : ℕ) (n : Node) → slice_get nodes j ≡ Some n → from ≤ j → j < to → leads_to bus n.path ≡ true
+    behind_bus j n e l h = side.behind j n e ∙ both _ _ (le-leb from j l) (lt-ltb j to h)
+
+    pub in_side : (j : ℕ) (n : Node) → slice_get nodes j ≡ Some n → leads_to bus n.path ≡ true → (from ≤ j) × (j < to)
+    in_side j n e h =
+        let t : (nat_le from j && nat_lt j to) ≡ true = sym (side.behind j n e) ∙ h in
+        (leb-true from j (left_true _ _ t), ltb-true j to (right_true _ _ t))
+
+    -- all that was met before index i ends before it
+    abbrev pub Ended : ℕ → Type 0
+    Ended i = (j : ℕ) (n : Node) → from ≤ j → j < i → slice_get nodes j ≡ Some n → n.end ≤ i
+
+    -- so what is met at index i stands on the bus
+    pub met_on_bus : (i : ℕ) (n : Node) → Ended i → slice_get nodes i ≡ Some n → from ≤ i → i < to → parent n.path ≡ bus
+    met_on_bus i n ended e l h = by_place (on_or_behind bus n.path (path_of i n e).some (behind_bus i n e l h))
+      where
+        by_place : (bus ≡ parent n.path) ⊎ (leads_to bus (parent n.path) ≡ true) → parent n.path ≡ bus
+        by_place (inl p) = sym p
+        by_place (inr p) =
+            let long = leads_longer bus (parent n.path) p in
+            let above = bridge_above i n e (omega (arith, long)) in
+            let k = above.0 in
+            let m = above.1.0 in
+            let there = in_side k m above.1.1 (subst (λ q. leads_to bus q ≡ true) (sym above.1.2) p) in
+            let over = within_of_leads k i m n above.1.1 e (subst (λ q. leads_to q n.path ≡ true) (sym above.1.2) (parent_leads n.path (path_of i n e).some)) in
+            let done = ended k m there.0 over.0 above.1.1 in
+            absurd (omega (arith, done, over.1))
+
+    -- the step past a node and all that stands behind it
+    pub ended_next : (i : ℕ) (n : Node) → Ended i → slice_get nodes i ≡ Some n → Ended n.end
+    ended_next i n ended e j m l h em = by_side (sides j i)
+      where
+        sides : (x y : ℕ) → (x < y) ⊎ ((x ≡ y) ⊎ (y < x))
+        sides x y = grind arith
+
+        by_side : (j < i) ⊎ ((j ≡ i) ⊎ (i < j)) → m.end ≤ n.end
+        by_side (inl b) = let d = ended j m l b em in let w = inside i n e in omega (arith, d, w.0)
+        by_side (inr (inl q)) = let same : m ≡ n = cc in let w : m.end ≡ n.end = ap (λ (z : Node). z.end) same in omega (arith, w)
+        by_side (inr (inr b)) = nested i j n m e em b h
+
+    -- what is passed by that step stands on no bus of its own parent
+    pub passed_by : (i j : ℕ) (n m : Node) → Ended i → slice_get nodes i ≡ Some n → slice_get nodes j ≡ Some m → from ≤ i → i < to → i < j → j < n.end → path_eq (parent m.path) bus ≡ false
+    passed_by i j n m ended e em l h b g = not_same (path_eq (parent m.path) bus) refl
+      where
+        not_same : (t : Bool) → path_eq (parent m.path) bus ≡ t → path_eq (parent m.path) bus ≡ false
+        not_same false t = t
+        not_same true t =
+            let same = path_same (parent m.path) bus t in
+            let here = met_on_bus i n ended e l h in
+            let longer = leads_longer n.path m.path (leads_within i j n m e em b g) in
+            let a = length-parent m.path in
+            let c = length-parent n.path in
+            let some = (path_of i n e).some in
+            let eq : length (parent m.path) ≡ length (parent n.path) = ap length (same ∙ sym here) in
+            absurd (omega (arith, longer, a, c, some, eq))

@@ -1,0 +1,13 @@
+use Rattle.std.proofs.Common.{◌<◌, length, arith}
+use Rattle.std.proofs.lemmas.Option.{slice_get-get_or}
+use Rattle.bridge_forward.proofs.Extents.{done_more, all_done}
+use Rattle.bridge_forward.proofs.build.lay_out.Goals as goal
+
+pub loop-i-preserved : goal.loop-i-preserved
+loop-i-preserved c =
+    let l : c.loop-i.i < length c.loop-i.nodes = omega (arith, c.loop-i-test.true, c.loop-i.auto.nodes) in
+    done_more c.loop-i.nodes c.args.nodes.now c.loop-i.i c.end_of-end.result _ c.loop-i.invariant (slice_get-get_or c.loop-i.nodes c.loop-i.i c.index-nodes-i.result l) c.end_of-end.ensures
+
+pub returns-clause-laid : goal.returns-clause-laid
+returns-clause-laid c =
+    all_done c.loop-i.nodes c.args.nodes.now c.loop-i.i c.requires c.loop-i.invariant (omega (arith, c.loop-i-test.false, c.loop-i.auto.nodes, c.loop-i.auto.i-end))

@@ -1,0 +1,12 @@
+use Rattle.std.proofs.Common.{◌≡◌, map}
+use Rattle.model_board.specs.Board.{is_shared}
+use Rattle.model_board.specs.Places.{board_of}
+use Rattle.bridge_forward.specs.Layout.{functions_of}
+use Rattle.bridge_forward.specs.Resets.{reset_function}
+use Rattle.bridge_forward.proofs.build.nodes_at_reset.Given as goal
+
+abbrev pub invariant-loop-decl : goal.invariant-loop-decl
+invariant-loop-decl l = record {
+  flags : l.shared.items ≡ map (λ r. is_shared (board_of l.fn.decls.items) r.path) (board_of l.fn.decls.items);
+  made : functions_of l.nodes.items ≡ map (reset_function (board_of l.fn.decls.items)) l.yielded;
+}

@@ -1,0 +1,8 @@
+-- What is declared of a function, in the words of the definitions.
+use Rattle.model_board.specs.Board.{Decl, endpoint, bridge}
+use Rattle.bridge_forward.specs.declared.decl.Declared.{Declared}
+use Rattle.bridge_forward.specs.declared.decl.Declared.TheVariants.{Endpoint, Bridge}
+
+abbrev pub declared : Declared → Decl
+declared (Endpoint d) = endpoint d
+declared (Bridge d) = bridge d

@@ -1,0 +1,40 @@
+-- One function of the tree, in the words of the definitions.
+--     decl_of, file_of      what is declared of a function, and its cells
+--     with_cells      the function with other cells
+--     reset_cells      the cells of a declared function at reset
+--     endpoint_in      the endpoint, if the function is one
+use Rattle.std.specs.Prelude.{Bool, Option, Some, None}
+use Rattle.std.specs.Borrow.{LendsIf, MutBor, Fml}
+use Rattle.model_registers.specs.Registers.{File}
+use Rattle.model_registers.specs.EndpointTable.{endpoint_reset}
+use Rattle.model_registers.specs.BridgeTable.{bridge_reset}
+use Rattle.model_registers.specs.Decoding as decoding
+use Rattle.model_board.specs.Board.{Decl, endpoint, bridge}
+use Rattle.bridge_forward.specs.declared.function.Function.{Function}
+use Rattle.bridge_forward.specs.declared.function.Function.TheVariants.{Endpoint, Bridge}
+use Rattle.bridge_forward.specs.contracts.function.Function as function
+use Rattle.bridge_forward.specs.contracts.endpoint.EndpointFn as endpoint_fn
+
+abbrev pub decl_of : Function → Decl
+decl_of (Endpoint e) = endpoint e.decl
+decl_of (Bridge b) = bridge b.decl
+
+abbrev pub file_of : Function → File
+file_of (Endpoint e) = e.file
+file_of (Bridge b) = b.file
+
+abbrev pub with_cells : Function → File → Function
+with_cells (Endpoint e) file = Endpoint (record e { file = file })
+with_cells (Bridge b) file = Bridge (record b { file = file })
+
+abbrev pub reset_cells : Decl → Bool → File
+reset_cells (endpoint d) shared = endpoint_reset d shared
+reset_cells (bridge d) shared = bridge_reset d shared
+
+abbrev pub endpoint_in : Function → Option decoding.Function
+endpoint_in (Endpoint e) = Some e
+endpoint_in (Bridge b) = None
+
+-- an endpoint ends as it was left behind r, and a bridge stays
+abbrev pub LendsLeaf : MutBor Function → Option (MutBor decoding.Function) → Fml
+LendsLeaf f r = LendsIf function.the_row endpoint_fn.the_row f r Endpoint f.now

@@ -1,0 +1,26 @@
+-- What is lent of a tree.
+--     endpoint_at fs p      the endpoint at a path, if one stands there
+--     with_endpoint p e fs      the functions with this endpoint at the path
+use Rattle.std.specs.Prelude.{List, if◌then◌else◌, Option, Some, None, map, find}
+use Rattle.std.specs.Option.{option_map_or}
+use Rattle.std.specs.Borrow.{LendsIf, MutBor, Fml}
+use Rattle.model_registers.specs.Decoding.{Function}
+use Rattle.model_board.specs.Paths.{Path, path_eq}
+use Rattle.model_board.specs.Board.{endpoint, bridge}
+use Rattle.model_board.specs.State.{BoardFunction}
+use Rattle.bridge_forward.specs.contracts.endpoint.EndpointFn as endpoint_fn
+use Rattle.bridge_forward.specs.contracts.bus.Bus as bus
+
+abbrev pub as_endpoint : BoardFunction → Option Function
+as_endpoint f = elim f.decl [ endpoint d ↦ Some (record { decl = d; file = f.file }) | bridge d ↦ None ]
+
+abbrev pub endpoint_at : List BoardFunction → Path → Option Function
+endpoint_at fs p = option_map_or as_endpoint (find (λ f. path_eq f.path p) fs) None
+
+-- all others stay
+abbrev pub with_endpoint : Path → Function → List BoardFunction → List BoardFunction
+with_endpoint p e fs = map (λ (f : BoardFunction). if path_eq f.path p then record { path = p; decl = endpoint e.decl; file = e.file } else f) fs
+
+-- the functions end with the endpoint at the path as it was left behind r
+abbrev pub LendsEndpoint : MutBor (List BoardFunction) → Path → Option (MutBor Function) → Fml
+LendsEndpoint b p r = LendsIf bus.the_row endpoint_fn.the_row b r (λ e. with_endpoint p e b.now) b.now

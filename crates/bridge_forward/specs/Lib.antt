@@ -1,0 +1,9 @@
+pub mod Bridges
+pub mod Decls
+pub mod EndpointParts
+pub mod Functions
+pub mod Cycled
+pub mod Layout
+pub mod Resets
+pub mod Search
+pub mod Lending

@@ -1,0 +1,70 @@
+//! What an endpoint's declaration has at each base address register.
+ghost use Rattle.std.specs.Prelude.{◌≡◌, ◌≤◌, ◌<◌, ℕ, IfOk, length, map, [], ◌∷◌};
+ghost use Rattle.std.specs.Option.{option_copied};
+ghost use Rattle.model_registers.specs.Lists.{Each};
+ghost use Rattle.model_registers.specs.Registers.{config, cells_from};
+ghost use Rattle.bridge_forward.specs.EndpointParts.{region_at, declared_bar, declared_block, block_at};
+
+use bars::BarDecl;
+use config_bytes::{Cell, Cells};
+use headers::Region;
+use std::alloc::{AllocError, Global};
+
+/// The region that begins at a base address register.
+fn region_at(regions: &[Region], index: u8) -> Option<&Region>
+    ensures { option_copied result ≡ region_at regions.now index }
+{
+    regions.iter().find(|region| region.index == index)
+}
+
+fn bar_at(regions: &[Region], index: u8) -> Option<BarDecl>
+    ensures { result ≡ declared_bar regions.now index }
+{
+    match region_at(regions, index) {
+        Some(region) => Some(region.bar),
+        None => None,
+    }
+}
+
+/// What each of the six base address registers opens.
+pub(crate) fn bar_decls(regions: &[Region]) -> [Option<BarDecl>; 6]
+    ensures { result ≡ map (declared_bar regions.now) (0 ∷ 1 ∷ 2 ∷ 3 ∷ 4 ∷ 5 ∷ []) }
+{
+    [0, 1, 2, 3, 4, 5].map(|index| bar_at(regions, index))
+}
+
+/// The cells of a block, from the offset 0 on.
+fn block_file(alloc: Global, block: &[Cell]) -> Result<Cells, AllocError>
+    requires { length block.now ≤ 4096 }
+    ensures { IfOk result (λ f. f.now ≡ cells_from (config 0) block.now) }
+{
+    let mut cells = Vec::new(alloc);
+    for (off, cell) in block.iter().enumerate() {
+        cells.push((off as u16, *cell))?;
+    }
+    Cells::new(alloc, &cells)
+}
+
+/// The block at a base address register, empty where no region begins there.
+fn block_at(alloc: Global, regions: &[Region], index: u8) -> Result<Cells, AllocError>
+    requires { Each (λ r. length r.cells ≤ 4096) regions.now }
+    ensures { IfOk result (λ f. f.now ≡ declared_block regions.now index) }
+{
+    match region_at(regions, index) {
+        Some(region) => block_file(alloc, &region.block),
+        None => Cells::new(alloc, &[]),
+    }
+}
+
+/// The blocks of the six base address registers, by index.
+pub(crate) fn block_files(alloc: Global, regions: &[Region]) -> Result<Vec<Cells>, AllocError>
+    requires { Each (λ r. length r.cells ≤ 4096) regions.now }
+    ensures blocks { IfOk result (λ v. (n : ℕ) → n < 6 → block_at v.items n ≡ declared_block regions.now n) }
+    ensures six { IfOk result (λ v. length v.items ≡ 6) }
+{
+    let mut blocks = Vec::new(alloc);
+    for index in 0..6 {
+        blocks.push(block_at(alloc, regions, index)?)?;
+    }
+    Ok(blocks)
+}

@@ -1,0 +1,109 @@
+//! A bridge of the board, with its registers.
+ghost use Rattle.std.specs.Prelude.{◌≡◌, ◌%◌, ◌&&◌, IfOk, Option, option_map};
+ghost use Rattle.model_registers.specs.Registers.{config, number, read, write};
+ghost use Rattle.model_registers.specs.ByteEnables.{lanes};
+ghost use Rattle.model_registers.specs.BridgeTable.{bridge_reset};
+ghost use Rattle.model_registers.specs.Decoding.{is_open};
+ghost use Rattle.model_board.specs.Windows.{Window, is_in, is_in_window};
+ghost use Rattle.model_board.specs.Cycles.{secondary_register, subordinate_register};
+ghost use Rattle.bars.specs.Kinds.{named_space};
+ghost use Rattle.headers.specs.Spans.{span_of};
+
+use bars::Space;
+use config_bytes::{Cells, enables_of, from_lanes};
+use headers::{Bridge, BridgeDecl, command, io_window, mem_window, pref_window};
+use std::alloc::{AllocError, Global};
+use std::marker::Model;
+
+/// A bridge: what is declared of it, and its registers as they stand.
+#[derive(Drop)]
+pub(crate) struct BridgeFn {
+    decl: BridgeDecl,
+    cells: Cells,
+}
+
+impl Model for BridgeFn {
+    ghost use Rattle.bridge_forward.specs.Bridges.{BridgeFunction};
+
+    ghost Value = { BridgeFunction };
+
+    ghost view = { λ b. record { decl = b.decl; file = b.cells.now } };
+}
+
+impl BridgeFn {
+    /// The bridge at reset. `shared` says that its device holds other functions.
+    pub(crate) fn new(alloc: Global, decl: BridgeDecl, shared: bool) -> Result<BridgeFn, AllocError>
+        ensures { IfOk result (λ b. b ≡ record { decl = decl; file = bridge_reset decl shared }) }
+    {
+        let cells = Bridge::cells(alloc, &decl, shared)?;
+        Ok(BridgeFn { decl, cells })
+    }
+
+    /// The enabled bytes of the configuration word at `off`, a multiple of 4.
+    pub(crate) fn config_read(&self, off: u8, be: u8) -> u32
+        requires { off % 4 ≡ 0 }
+        ensures { result ≡ read self.now.file (config off) (lanes be) }
+    {
+        self.cells.read(u16::from(off), be)
+    }
+
+    /// Writes the enabled bytes of the configuration word at `off`, a multiple of 4.
+    pub(crate) fn config_write(&mut self, off: u8, be: u8, data: u32)
+        requires { off % 4 ≡ 0 }
+        ensures { self.new ≡ record self.old { file = write (lanes be) «data» (config off) self.old.file } }
+    {
+        self.cells.write(u16::from(off), be, data);
+    }
+
+    /// Whether an address is forwarded: Command opens its space, and a window of that space holds it
+    /// (PCI-to-PCI Bridge Architecture 1.2, chapter 4).
+    pub(crate) fn forwards(&self, space: Space, addr: u64) -> bool
+        ensures { result ≡ (is_open self.now.file (named_space space) && is_in_window self.now.decl self.now.file (named_space space) addr) }
+    {
+        command(&self.cells).0 & space.command_bit() != 0 && self.is_in_window(space, addr)
+    }
+
+    fn is_in_window(&self, space: Space, addr: u64) -> bool
+        ensures { result ≡ is_in_window self.now.decl self.now.file (named_space space) addr }
+    {
+        match space {
+            Space::Io => is_in(addr, io_window(&self.cells, &self.decl)),
+            Space::Mem => {
+                is_in(addr, mem_window(&self.cells, &self.decl))
+                    || is_in(addr, pref_window(&self.cells, &self.decl))
+            }
+        }
+    }
+
+    /// The number of the bus behind the bridge, as its registers hold it.
+    pub(crate) fn secondary(&self) -> u8
+        ensures { result ≡ secondary_register self.now.file }
+    {
+        byte_at(&self.cells, 0x19)
+    }
+
+    /// The greatest number of a bus behind the bridge, as its registers hold it.
+    pub(crate) fn subordinate(&self) -> u8
+        ensures { result ≡ subordinate_register self.now.file }
+    {
+        byte_at(&self.cells, 0x1a)
+    }
+}
+
+/// Whether the address is one of a window, whose first and last address are included.
+fn is_in(addr: u64, window: Option<(u64, u64)>) -> bool
+    ensures { (w : Option Window) → window ≡ option_map span_of w → result ≡ is_in addr w }
+{
+    match window {
+        None => false,
+        Some((first, last)) => first <= addr && addr <= last,
+    }
+}
+
+/// The register of one byte at `off`.
+fn byte_at(cells: &Cells, off: u16) -> u8
+    ensures { result ≡ number cells.now.now (config off) 1 }
+{
+    let word = cells.read(off / 4 * 4, enables_of(u64::from(off), 1));
+    from_lanes(u64::from(off), 1, word) as u8
+}

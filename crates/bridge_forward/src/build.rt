@@ -1,0 +1,85 @@
+//! The tree of a board, built from what is declared of its functions.
+ghost use Rattle.std.specs.Prelude.{◌≡◌, ◌<◌, IfOk, length, map};
+ghost use Rattle.model_board.specs.Board.{IsBoard, is_shared};
+ghost use Rattle.model_board.specs.Places.{board_of};
+ghost use Rattle.bridge_forward.specs.Layout.{function_of, functions_of, paths_of, AreInOrder, EndsAt, IsLaidOut};
+ghost use Rattle.bridge_forward.specs.Functions.{reset_cells};
+ghost use Rattle.bridge_forward.specs.Resets.{reset_function, reset_functions};
+
+use crate::bus::Node;
+use crate::decl::Decl;
+use crate::function::Function;
+use std::alloc::{AllocError, Global};
+
+/// Puts the functions of a board into path order.
+fn sort(decls: &mut Vec<Decl>)
+    requires { IsBoard (board_of decls.old.items) }
+    ensures { decls.new.items ≡ board_of decls.old.items }
+{
+    decls.sort_unstable_by(|a, b| a.compare(b));
+}
+
+/// Which of the functions stand in a device with other functions. Each is compared with all, once,
+/// before the board is used.
+fn shared_devices(alloc: Global, decls: &[Decl]) -> Result<Vec<bool>, AllocError>
+    ensures { IfOk result (λ v. v.items ≡ map (λ r. is_shared decls.now r.path) decls.now) }
+{
+    decls
+        .iter()
+        .map(|decl| decl.is_shared(decls))
+        .collect(alloc)
+}
+
+/// The function at reset, at its path. Where it ends is set by `lay_out`.
+fn node_at_reset(alloc: Global, decl: Decl, shared: bool) -> Result<Node, AllocError>
+    ensures { IfOk result (λ n. function_of n ≡ record { path = decl.path; decl = decl.decl; file = reset_cells decl.decl shared }) }
+{
+    let Decl { path, function } = decl;
+    Ok(Node {
+        path,
+        end: 0,
+        function: Function::new(alloc, function, shared)?,
+    })
+}
+
+/// All functions at reset.
+pub(crate) fn nodes_at_reset(alloc: Global, decls: Vec<Decl>) -> Result<Vec<Node>, AllocError>
+    requires { IsBoard (board_of decls.items) }
+    ensures { IfOk result (λ v. functions_of v.items ≡ reset_functions (board_of decls.items)) }
+{
+    let mut decls = decls;
+    sort(&mut decls);
+    let shared = shared_devices(alloc, &decls)?;
+    let mut nodes = Vec::with_capacity(alloc, decls.len())?;
+    for decl in decls {
+        let is_shared = shared[nodes.len()];
+        nodes.push(node_at_reset(alloc, decl, is_shared)?)?;
+    }
+    Ok(nodes)
+}
+
+/// Where that ends which stands behind node `i`, in a list in path order.
+fn end_of(nodes: &[Node], i: usize) -> usize
+    requires order { AreInOrder (paths_of nodes.now) }
+    requires there { i < length nodes.now }
+    ensures { EndsAt (paths_of nodes.now) i result }
+{
+    let mut end = i + 1;
+    while end < nodes.len() && nodes[i].path.leads_to(&nodes[end].path) {
+        end += 1;
+    }
+    end
+}
+
+/// Sets the ends of nodes in path order. The work is at most the number of nodes times the depth.
+pub(crate) fn lay_out(nodes: &mut [Node])
+    requires { AreInOrder (paths_of nodes.old) }
+    ensures laid { IsLaidOut nodes.new }
+    ensures functions { functions_of nodes.new ≡ functions_of nodes.old }
+{
+    for i in 0..nodes.len() {
+        let end = end_of(nodes, i);
+        let node = &mut nodes[i];
+        node.end = end;
+    }
+}

@@ -1,0 +1,155 @@
+//! The functions of a board as a tree of buses.
+ghost use Rattle.std.specs.Prelude.{◌≡◌, ◌%◌, IfOk, option_map};
+ghost use Rattle.std.specs.Borrow.{sem};
+ghost use Rattle.std.specs.Option.{option_copied_mut};
+ghost use Rattle.model_board.specs.Board.{IsBoard};
+ghost use Rattle.model_board.specs.Places.{board_of};
+ghost use Rattle.model_board.specs.Claims.{first_claim};
+ghost use Rattle.model_board.specs.SetUp.{reset_state};
+ghost use Rattle.bars.specs.Kinds.{named_space};
+
+use crate::build::{lay_out, nodes_at_reset};
+use crate::cycle::Cycle;
+use crate::decl::Decl;
+use crate::endpoint::EndpointFn;
+use crate::function::Function;
+use crate::path::Path;
+use crate::walk::{Wanted, position, reach};
+use bars::Space;
+use std::alloc::{AllocError, Global};
+use std::marker::Model;
+
+/// A function at its path. What stands behind it stands at the indices after its own and below `end`.
+#[derive(Drop)]
+pub(crate) struct Node {
+    pub(crate) path: Path,
+    pub(crate) end: usize,
+    pub(crate) function: Function,
+}
+
+/// The functions of a board. Their value is a list in path order: path, declaration and cells.
+///
+/// The tree is kept flat, as in a flattened device tree: all functions in path order, each with the
+/// end of what stands behind it. So a walk steps from a function to the next on its bus by one
+/// index, passes what stands behind a bridge by the same step, and takes no memory.
+#[derive(Drop)]
+pub struct Bus {
+    nodes: Vec<Node>,
+}
+
+impl Model for Bus {
+    ghost use Rattle.std.specs.Prelude.{List};
+    ghost use Rattle.model_board.specs.State.{BoardFunction};
+
+    ghost Value = { List BoardFunction };
+
+    ghost use Rattle.bridge_forward.specs.Layout.{functions_of, IsLaidOut};
+
+    ghost view = { λ b. functions_of b.nodes.items };
+
+    ghost invariant = { λ b. IsLaidOut b.nodes.items };
+}
+
+/// Where an address lands: the path of an endpoint, the base address register of a region, 0 to 5,
+/// and the offset in the region.
+#[derive(Drop)]
+pub struct Claim {
+    pub path: Path,
+    pub region: u8,
+    pub offset: u64,
+}
+
+impl Model for Claim {
+    ghost use Rattle.model_board.specs.Claims.{Claim as ClaimValue};
+
+    ghost Value = { ClaimValue };
+
+    ghost view = { λ c. record { path = c.path; index = c.region; offset = c.offset } };
+}
+
+impl Node {
+    ghost use Rattle.bridge_forward.specs.Layout.{function_of};
+    ghost use Rattle.bridge_forward.specs.Search.{is_wanted};
+
+    /// Whether this is what is looked for on its bus.
+    pub(crate) fn is_wanted(&self, wanted: Wanted) -> bool
+        ensures { result ≡ is_wanted wanted (function_of self.now) }
+    {
+        match wanted {
+            Wanted::Part { device, function } => {
+                let last = self.path.last();
+                last.device() == device && last.function() == function
+            }
+            Wanted::Covering(bus) => self.function.covers(bus),
+        }
+    }
+}
+
+impl Bus {
+    ghost use Rattle.bridge_forward.specs.Cycled.{cycle_reply, after_cycle};
+    ghost use Rattle.bridge_forward.specs.Lending.{LendsEndpoint, endpoint_at};
+
+    /// The board of these functions, which stand at lawful places, at reset. Nothing else refuses
+    /// than want of memory, and no later call takes memory.
+    pub fn build(alloc: Global, decls: Vec<Decl>) -> Result<Bus, AllocError>
+        requires { IsBoard (board_of decls.items) }
+        ensures { IfOk result (λ bus. bus ≡ (reset_state (board_of decls.items)).functions) }
+    {
+        let mut nodes = nodes_at_reset(alloc, decls)?;
+        lay_out(&mut nodes);
+        Ok(Bus { nodes })
+    }
+
+    /// Puts a configuration cycle on bus 0: the enabled bytes that a read shows, 0 for a write that is
+    /// taken, and None where it reaches no function; then nothing changes.
+    pub fn cycle(&mut self, cycle: Cycle) -> Option<u32>
+        requires { cycle.offset % 4 ≡ 0 }
+        ensures reply { result ≡ cycle_reply self.old cycle }
+        ensures after { self.new ≡ after_cycle self.old cycle }
+    {
+        let at = reach(&self.nodes, &cycle)?;
+        let node = &mut self.nodes[at];
+        Some(node.function.access(cycle.op, cycle.offset, cycle.enables))
+    }
+
+    /// The first claim of an address in path order, then by register: a region that decodes it, where
+    /// each bridge above forwards it.
+    pub fn claimant(&self, space: Space, addr: u64) -> Option<Claim>
+        ensures { result ≡ first_claim self.now (named_space space) addr }
+    {
+        let mut i = 0;
+        while i < self.nodes.len() {
+            let node = &self.nodes[i];
+            i = match &node.function {
+                Function::Endpoint(endpoint) => {
+                    if let Some((region, offset)) = endpoint.decode(space, addr) {
+                        return Some(Claim {
+                            path: node.path.copied(),
+                            region,
+                            offset,
+                        });
+                    }
+                    node.end
+                }
+                Function::Bridge(bridge) => {
+                    if bridge.forwards(space, addr) {
+                        i + 1
+                    } else {
+                        node.end
+                    }
+                }
+            };
+        }
+        None
+    }
+
+    /// Lends the endpoint at a path, if one stands there. All else stays.
+    pub fn endpoint_mut(&mut self, path: &Path) -> Option<&mut EndpointFn>
+        ensures* lends { sem 𝓛 (LendsEndpoint self.entry path.now result) }
+        ensures value { option_copied_mut result ≡ endpoint_at self.old path.now }
+    {
+        let at = position(&self.nodes, path)?;
+        let node = self.nodes.get_mut(at)?;
+        node.function.endpoint_mut()
+    }
+}

@@ -1,0 +1,82 @@
+//! What a board declares, function by function.
+ghost use Rattle.std.specs.Prelude.{◌≡◌, ◌==◌, ◌&&◌, not, ◌↔◌, IsTrue};
+ghost use Rattle.std.specs.Ordering.{is_lt};
+ghost use Rattle.model_board.specs.Paths.{path_eq, path_before, parent, last_part};
+ghost use Rattle.model_board.specs.Board.{IsBoard, is_shared};
+ghost use Rattle.model_board.specs.Places.{board_of, standing};
+
+use crate::path::Path;
+use crate::places::{Stands, are_lawful};
+use headers::{BridgeDecl, EndpointDecl};
+use std::cmp::Ordering;
+use std::marker::Model;
+
+/// What is declared of a function.
+#[derive(Debug, Drop)]
+pub enum Declared {
+    Endpoint(EndpointDecl),
+    Bridge(BridgeDecl),
+}
+
+/// A function of a board: where it stands, and what is declared of it.
+#[derive(Debug, Drop)]
+pub struct Decl {
+    pub path: Path,
+    pub function: Declared,
+}
+
+impl Model for Decl {
+    ghost use Rattle.model_board.specs.Board.{Row};
+
+    ghost Value = { Row };
+
+    ghost use Rattle.bridge_forward.specs.Decls.{declared};
+
+    ghost view = { λ d. record { path = d.path; decl = declared d.function } };
+}
+
+impl Decl {
+    /// Path order.
+    pub(crate) fn compare(&self, other: &Decl) -> Ordering
+        ensures { is_lt result ≡ path_before self.now.path other.now.path }
+    {
+        self.path.compare(&other.path)
+    }
+
+    /// Whether the other function stands in the same device.
+    fn shares_device(&self, other: &Decl) -> bool
+        ensures { result ≡ (path_eq (parent other.now.path) (parent self.now.path) && ((last_part other.now.path).device == (last_part self.now.path).device) && not (path_eq other.now.path self.now.path)) }
+    {
+        self.path.shares_device(&other.path)
+    }
+
+    /// Whether one of these is another function of the same device.
+    pub(crate) fn is_shared(&self, decls: &[Decl]) -> bool
+        ensures { result ≡ is_shared decls.now self.now.path }
+    {
+        decls.iter().any(|other| self.shares_device(other))
+    }
+}
+
+impl Stands for Decl {
+    ghost standing = { standing };
+
+    fn path(&self) -> &Path {
+        &self.path
+    }
+
+    fn is_bridge(&self) -> bool {
+        match &self.function {
+            Declared::Endpoint(_) => false,
+            Declared::Bridge(_) => true,
+        }
+    }
+}
+
+/// Whether these are the functions of a board, in any order: no path twice, each path on bus 0 or
+/// behind a bridge among them, and a function 0 in each device. It takes no memory.
+pub fn lawful_places(decls: &[Decl]) -> bool
+    ensures { IsTrue result ↔ IsBoard (board_of decls.now) }
+{
+    are_lawful(decls)
+}

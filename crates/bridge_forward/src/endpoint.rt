@@ -1,0 +1,149 @@
+//! An endpoint of the board, with its registers.
+ghost use Rattle.std.specs.Prelude.{◌≡◌, ◌%◌, ◌+◌, ◌*◌, ◌≤◌, ◌<◌, ◌⊎◌, IfOk, IfSome, IfNone};
+ghost use Rattle.model_registers.specs.Registers.{config, block, read, write, raise};
+ghost use Rattle.model_registers.specs.ByteEnables.{lanes};
+ghost use Rattle.model_registers.specs.EndpointTable.{endpoint_reset};
+ghost use Rattle.model_registers.specs.Decoding.{lone_claim};
+ghost use Rattle.bars.specs.Kinds.{named_space};
+ghost use Rattle.bars.specs.Hits.{named_hit};
+ghost use Rattle.headers.specs.Places.{place_of};
+
+use crate::blocks::{bar_decls, block_files};
+use crate::offsets;
+use bars::{Bars, Space};
+use config_bytes::Cells;
+use headers::{Endpoint, EndpointDecl, Place, command};
+use std::alloc::{AllocError, Global};
+use std::marker::Model;
+
+/// An endpoint: what is declared of it, and its registers as they stand.
+///
+/// The blocks stand by the index of their base address registers, six of them, so that an access
+/// finds its block at once. A register at which no region begins has an empty one.
+#[derive(Drop)]
+pub struct EndpointFn {
+    decl: EndpointDecl,
+    config: Cells,
+    bars: Bars,
+    blocks: Vec<Cells>,
+}
+
+impl Model for EndpointFn {
+    ghost use Rattle.std.specs.Prelude.{◌++◌};
+    ghost use Rattle.model_registers.specs.Decoding.{Function};
+    ghost use Rattle.bridge_forward.specs.EndpointParts.{region_parts, block_at, AreParts};
+
+    ghost Value = { Function };
+
+    ghost view = { λ e. record { decl = e.decl; file = e.config.now ++ region_parts e.bars (block_at e.blocks.items) } };
+
+    ghost invariant = { λ e. AreParts e.decl e.config.now e.bars (block_at e.blocks.items) };
+}
+
+impl EndpointFn {
+    /// The endpoint at reset. `shared` says that its device holds other functions.
+    pub(crate) fn new(
+        alloc: Global,
+        decl: EndpointDecl,
+        shared: bool,
+    ) -> Result<EndpointFn, AllocError>
+        ensures { IfOk result (λ e. e ≡ record { decl = decl; file = endpoint_reset decl shared }) }
+    {
+        let config = Endpoint::cells(alloc, &decl, shared)?;
+        let bars = Bars::new(bar_decls(&decl.values().bar));
+        let blocks = block_files(alloc, &decl.values().bar)?;
+        Ok(EndpointFn {
+            decl,
+            config,
+            bars,
+            blocks,
+        })
+    }
+
+    /// What is declared of the endpoint.
+    pub fn decl(&self) -> &EndpointDecl
+        ensures { result.now ≡ self.now.decl }
+    {
+        &self.decl
+    }
+
+    /// The enabled bytes of the word at `off`, a multiple of 4, in the block of the region at the base
+    /// address register `reg`. All else reads 0: past the block, and where no region begins at `reg`.
+    pub fn read(&self, reg: u8, off: u64, be: u8) -> u32
+        requires { off % 4 ≡ 0 }
+        ensures { result ≡ read self.now.file (block reg off) (lanes be) }
+    {
+        match self.blocks.get(usize::from(reg)) {
+            Some(block) => offsets::read(block, off, be),
+            None => 0,
+        }
+    }
+
+    /// Writes the enabled bytes of the word at `off`, a multiple of 4, in that block. What has no cell
+    /// there drops them.
+    pub fn write(&mut self, reg: u8, off: u64, be: u8, data: u32)
+        requires { off % 4 ≡ 0 }
+        ensures { self.new ≡ record self.old { file = write (lanes be) «data» (block reg off) self.old.file } }
+    {
+        let Some(block) = self.blocks.get_mut(usize::from(reg)) else {
+            return;
+        };
+        offsets::write(block, off, be, data);
+    }
+
+    /// Raises the bits of `mask` that writing a one clears, in the cell at `off`. All other cells stay.
+    pub fn raise(&mut self, place: Place, off: u64, mask: u8)
+        ensures { self.new ≡ record self.old { file = raise mask (place_of place off) self.old.file } }
+    {
+        match place {
+            Place::Cfg => offsets::raise(&mut self.config, off, mask),
+            Place::Bar(reg) => {
+                if let Some(block) = self.blocks.get_mut(usize::from(reg)) {
+                    offsets::raise(block, off, mask);
+                }
+            }
+        }
+    }
+
+    /// The enabled bytes of the configuration word at `off`, a multiple of 4.
+    pub(crate) fn config_read(&self, off: u8, be: u8) -> u32
+        requires { off % 4 ≡ 0 }
+        ensures { result ≡ read self.now.file (config off) (lanes be) }
+    {
+        match base_register(off) {
+            Some(reg) => self.bars.read(reg, be),
+            None => self.config.read(u16::from(off), be),
+        }
+    }
+
+    /// Writes the enabled bytes of the configuration word at `off`, a multiple of 4.
+    pub(crate) fn config_write(&mut self, off: u8, be: u8, data: u32)
+        requires { off % 4 ≡ 0 }
+        ensures { self.new ≡ record self.old { file = write (lanes be) «data» (config off) self.old.file } }
+    {
+        match base_register(off) {
+            Some(reg) => self.bars.write(reg, be, data),
+            None => self.config.write(u16::from(off), be, data),
+        }
+    }
+
+    /// The least register whose region decodes the address by the endpoint's own Command and base
+    /// address registers, and the offset in the region (PCI Local Bus 3.0, chapter 6.2.5).
+    pub fn decode(&self, space: Space, addr: u64) -> Option<(u8, u64)>
+        ensures { named_hit result ≡ lone_claim self.now (named_space space) addr }
+    {
+        self.bars.decode(space, addr, command(&self.config).0)
+    }
+}
+
+/// The index of the base address register at `off`, a multiple of 4, if one stands there.
+fn base_register(off: u8) -> Option<u8>
+    requires { off % 4 ≡ 0 }
+    ensures there { IfSome result (λ reg. (reg < 6) × (off ≡ 0x10 + 4 * reg)) }
+    ensures elsewhere { IfNone result ((off < 0x10) ⊎ (0x28 ≤ off)) }
+{
+    match off {
+        0x10..=0x27 => Some((off - 0x10) / 4),
+        _ => None,
+    }
+}

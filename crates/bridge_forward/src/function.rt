@@ -1,0 +1,106 @@
+//! What stands at a path.
+ghost use Rattle.std.specs.Prelude.{◌≡◌, ◌%◌, ◌&&◌, ◌==◌, nat_le, IfOk};
+ghost use Rattle.std.specs.Borrow.{sem};
+ghost use Rattle.std.specs.Option.{option_copied_mut};
+ghost use Rattle.model_registers.specs.Registers.{config, read, write};
+ghost use Rattle.model_registers.specs.ByteEnables.{lanes};
+ghost use Rattle.model_board.specs.Board.{is_bridge};
+ghost use Rattle.model_board.specs.Cycles.{secondary_register, subordinate_register};
+
+use crate::bridge::BridgeFn;
+use crate::cycle::Op;
+use crate::decl::Declared;
+use crate::endpoint::EndpointFn;
+use std::alloc::{AllocError, Global};
+
+/// An endpoint or a bridge, with its registers.
+#[derive(Drop)]
+pub(crate) enum Function {
+    Endpoint(EndpointFn),
+    Bridge(BridgeFn),
+}
+
+impl Function {
+    ghost use Rattle.bridge_forward.specs.Cycled.{reply_to, after_access};
+    ghost use Rattle.bridge_forward.specs.Decls.{declared};
+    ghost use Rattle.bridge_forward.specs.Functions.{decl_of, file_of, with_cells, reset_cells, endpoint_in, LendsLeaf};
+
+    /// The function at reset. `shared` says that its device holds other functions.
+    pub(crate) fn new(alloc: Global, decl: Declared, shared: bool) -> Result<Function, AllocError>
+        ensures decl { IfOk result (λ f. decl_of f ≡ declared decl) }
+        ensures cells { IfOk result (λ f. file_of f ≡ reset_cells (declared decl) shared) }
+    {
+        match decl {
+            Declared::Endpoint(decl) => Ok(Function::Endpoint(EndpointFn::new(
+                alloc, decl, shared,
+            )?)),
+            Declared::Bridge(decl) => Ok(Function::Bridge(BridgeFn::new(alloc, decl, shared)?)),
+        }
+    }
+
+    /// A read or write of the configuration word at `off`, a multiple of 4. A write gives 0.
+    pub(crate) fn access(&mut self, op: Op, off: u8, be: u8) -> u32
+        requires { off % 4 ≡ 0 }
+        ensures reply { result ≡ reply_to op off be (file_of self.old) }
+        ensures after { self.new ≡ with_cells self.old (after_access op off be (file_of self.old)) }
+    {
+        match op {
+            Op::Read => self.config_read(off, be),
+            Op::Write(data) => {
+                self.config_write(off, be, data);
+                0
+            }
+        }
+    }
+
+    fn config_read(&self, off: u8, be: u8) -> u32
+        requires { off % 4 ≡ 0 }
+        ensures { result ≡ read (file_of self.now) (config off) (lanes be) }
+    {
+        match self {
+            Function::Endpoint(endpoint) => endpoint.config_read(off, be),
+            Function::Bridge(bridge) => bridge.config_read(off, be),
+        }
+    }
+
+    fn config_write(&mut self, off: u8, be: u8, data: u32)
+        requires { off % 4 ≡ 0 }
+        ensures { self.new ≡ with_cells self.old (write (lanes be) «data» (config off) (file_of self.old)) }
+    {
+        match self {
+            Function::Endpoint(endpoint) => endpoint.config_write(off, be, data),
+            Function::Bridge(bridge) => bridge.config_write(off, be, data),
+        }
+    }
+
+    /// Whether it is a bridge that takes cycles for the bus.
+    pub(crate) fn covers(&self, bus: u8) -> bool
+        ensures { result ≡ (is_bridge (decl_of self.now) && nat_le (secondary_register (file_of self.now)) bus && nat_le bus (subordinate_register (file_of self.now))) }
+    {
+        match self {
+            Function::Endpoint(_) => false,
+            Function::Bridge(bridge) => bridge.secondary() <= bus && bus <= bridge.subordinate(),
+        }
+    }
+
+    /// Whether it is a bridge and the bus is the one behind it.
+    pub(crate) fn leads_to(&self, bus: u8) -> bool
+        ensures { result ≡ (is_bridge (decl_of self.now) && (secondary_register (file_of self.now) == bus)) }
+    {
+        match self {
+            Function::Endpoint(_) => false,
+            Function::Bridge(bridge) => bridge.secondary() == bus,
+        }
+    }
+
+    /// Lends the endpoint, if it is one.
+    pub(crate) fn endpoint_mut(&mut self) -> Option<&mut EndpointFn>
+        ensures* lends { sem 𝓛 (LendsLeaf self.entry result) }
+        ensures value { option_copied_mut result ≡ endpoint_in self.old }
+    {
+        match self {
+            Function::Endpoint(endpoint) => Some(endpoint),
+            Function::Bridge(_) => None,
+        }
+    }
+}

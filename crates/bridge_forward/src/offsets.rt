@@ -1,0 +1,42 @@
+//! Cells by offsets of any size: past those that a file of cells can hold, nothing reads as anything
+//! but 0, and nothing changes.
+ghost use Rattle.std.specs.Prelude.{◌≡◌, ◌%◌};
+ghost use Rattle.model_registers.specs.Registers.{config, read, write, raise};
+ghost use Rattle.model_registers.specs.ByteEnables.{lanes};
+ghost use Rattle.model_registers.specs.FileLaws.{IsConfigFile};
+ghost use Rattle.bridge_forward.specs.EndpointParts.{IsShort};
+
+use config_bytes::Cells;
+
+/// The enabled bytes of the word at `off`, a multiple of 4.
+pub(crate) fn read(cells: &Cells, off: u64, be: u8) -> u32
+    requires word { off % 4 ≡ 0 }
+    requires short { IsShort cells.now.now }
+    ensures { result ≡ read cells.now.now (config off) (lanes be) }
+{
+    match u16::try_from(off) {
+        Ok(off) => cells.read(off, be),
+        Err(_) => 0,
+    }
+}
+
+/// Writes the enabled bytes of the word at `off`, a multiple of 4.
+pub(crate) fn write(cells: &mut Cells, off: u64, be: u8, data: u32)
+    requires word { off % 4 ≡ 0 }
+    requires short { IsShort cells.old.now }
+    ensures { cells.new ≡ record cells.old { now = write (lanes be) «data» (config off) cells.old.now } }
+{
+    if let Ok(off) = u16::try_from(off) {
+        cells.write(off, be, data);
+    }
+}
+
+/// Raises the bits of `mask` that writing a one clears, in the cell at `off`.
+pub(crate) fn raise(cells: &mut Cells, off: u64, mask: u8)
+    requires { IsShort cells.old.now }
+    ensures { cells.new ≡ record cells.old { now = raise mask (config off) cells.old.now } }
+{
+    if let Ok(off) = u16::try_from(off) {
+        cells.raise(off, mask);
+    }
+}

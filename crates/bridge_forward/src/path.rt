@@ -1,0 +1,236 @@
+//! Where a function stands.
+ghost use Rattle.std.specs.Prelude.{◌≡◌, ◌==◌, ◌&&◌, not, ◌+◌, ◌≤◌, ◌<◌, [], ◌∷◌, ◌++◌, length};
+ghost use Rattle.std.specs.Ordering.{is_lt, is_eq};
+ghost use Rattle.model_board.specs.Paths.{part_eq, part_before, path_eq, path_before, leads_to, parent, function_zero, last_part, IsPath};
+
+use arrayvec::ArrayVec;
+use std::cmp::Ordering;
+use std::marker::Model;
+
+/// A device and a function number on one bus.
+#[derive(Clone, Copy, Debug, Default)]
+pub struct Part {
+    device: u8,
+    function: u8,
+}
+
+impl Model for Part {
+    ghost use Rattle.std.specs.Prelude.{◌<◌};
+    ghost use Rattle.model_board.specs.Paths.{Part as PartValue};
+
+    ghost Value = { PartValue };
+
+    ghost view = { λ p. record { device = p.device; function = p.function } };
+
+    ghost invariant = { λ p. (p.device < 16) × (p.function < 8) };
+
+    ghost inverse = { λ p. record { device = p.device; function = p.function } };
+}
+
+impl Part {
+    /// The function with this number in the device, from 0 to 15, and from 0 to 7.
+    pub fn new(device: u8, function: u8) -> Part
+        requires device { device < 16 }
+        requires function { function < 8 }
+        ensures { result ≡ record { device = device; function = function } }
+    {
+        Part { device, function }
+    }
+
+    /// The device, from 0 to 15.
+    pub fn device(self) -> u8
+        ensures value { result ≡ self.device }
+        ensures range { result < 16 }
+    {
+        self.device
+    }
+
+    /// The function, from 0 to 7.
+    pub fn function(self) -> u8
+        ensures value { result ≡ self.function }
+        ensures range { result < 8 }
+    {
+        self.function
+    }
+
+    /// Whether both numbers are the same.
+    pub fn is_same(self, other: Part) -> bool
+        ensures { result ≡ part_eq self other }
+    {
+        self.device == other.device && self.function == other.function
+    }
+
+    /// Whether this one is met first as a bus is scanned.
+    pub fn is_before(self, other: Part) -> bool
+        ensures { result ≡ part_before self other }
+    {
+        self.device < other.device
+            || (self.device == other.device && self.function < other.function)
+    }
+}
+
+/// The parts from bus 0 down: each but the last names a bridge. It takes no memory.
+#[derive(Drop, Debug)]
+pub struct Path {
+    parts: ArrayVec<Part, 16>,
+}
+
+impl Model for Path {
+    ghost use Rattle.model_board.specs.Paths.{Path as PathValue, IsPath};
+
+    ghost Value = { PathValue };
+
+    ghost view = { λ p. p.parts.items };
+
+    ghost invariant = { λ p. IsPath p.parts.items };
+}
+
+impl Path {
+    /// The path of a function on bus 0.
+    pub fn on_root(part: Part) -> Path
+        ensures { result ≡ part ∷ [] }
+    {
+        let mut parts = ArrayVec::new();
+        parts.push(part);
+        Path { parts }
+    }
+
+    /// Goes on to a function behind the bridge at this path, of at most 15 parts.
+    pub fn push(&mut self, part: Part)
+        requires { length self.old < 16 }
+        ensures { self.new ≡ self.old ++ part ∷ [] }
+    {
+        self.parts.push(part);
+    }
+
+    /// The parts, the one on bus 0 first.
+    pub fn parts(&self) -> &[Part]
+        ensures value { result.now ≡ self.now }
+        ensures path { IsPath self.now }
+    {
+        self.parts.as_slice()
+    }
+
+    /// A copy of this path.
+    pub fn copied(&self) -> Path
+        ensures { result ≡ self.now }
+    {
+        let mut parts = ArrayVec::new();
+        for part in self.parts() {
+            parts.push(*part);
+        }
+        Path { parts }
+    }
+
+    /// Whether both paths are the same.
+    pub fn is_same(&self, other: &Path) -> bool
+        ensures { result ≡ path_eq self.now other.now }
+    {
+        is_same(self.parts(), other.parts())
+    }
+
+    /// Whether this path comes before the other: part by part, and a path before its extensions.
+    pub fn is_before(&self, other: &Path) -> bool
+        ensures { result ≡ path_before self.now other.now }
+    {
+        is_before(self.parts(), other.parts())
+    }
+
+    /// Path order as an ordering.
+    pub(crate) fn compare(&self, other: &Path) -> Ordering
+        ensures less { is_lt result ≡ path_before self.now other.now }
+        ensures equal { is_eq result ≡ path_eq self.now other.now }
+    {
+        if self.is_same(other) {
+            Ordering::Equal
+        } else if self.is_before(other) {
+            Ordering::Less
+        } else {
+            Ordering::Greater
+        }
+    }
+
+    /// Whether the other path is that of another function in the same device.
+    pub(crate) fn shares_device(&self, other: &Path) -> bool
+        ensures { result ≡ (path_eq (parent other.now) (parent self.now) && ((last_part other.now).device == (last_part self.now).device) && not (path_eq other.now self.now)) }
+    {
+        is_same(other.parent(), self.parent())
+            && other.last().device() == self.last().device()
+            && !other.is_same(self)
+    }
+
+    /// Whether this path is a proper beginning of the other.
+    pub fn leads_to(&self, other: &Path) -> bool
+        ensures { result ≡ leads_to self.now other.now }
+    {
+        leads_to(self.parts(), other.parts())
+    }
+
+    /// The parts of the bridge above, and none for a function on bus 0.
+    pub fn parent(&self) -> &[Part]
+        ensures value { result.now ≡ parent self.now }
+        ensures short { length result.now < 16 }
+        ensures path { IsPath self.now }
+    {
+        let parts = self.parts();
+        &parts[..parts.len() - 1]
+    }
+
+    /// The path of function 0 in the same device.
+    pub fn function_zero(&self) -> Path
+        ensures { result ≡ function_zero self.now }
+    {
+        let parts = self.parts();
+        let device = parts[parts.len() - 1].device();
+        let mut zero = ArrayVec::new();
+        for part in &parts[..parts.len() - 1] {
+            zero.push(*part);
+        }
+        zero.push(Part::new(device, 0));
+        Path { parts: zero }
+    }
+
+    /// The device and function on the path's own bus.
+    pub fn last(&self) -> Part
+        ensures { result ≡ last_part self.now }
+    {
+        let parts = self.parts();
+        parts[parts.len() - 1]
+    }
+}
+
+pub(crate) fn is_same(xs: &[Part], ys: &[Part]) -> bool
+    ensures { result ≡ path_eq xs.now ys.now }
+{
+    match xs {
+        [] => ys.is_empty(),
+        [x, xs @ ..] => match ys {
+            [] => false,
+            [y, ys @ ..] => x.is_same(*y) && is_same(xs, ys),
+        },
+    }
+}
+
+fn is_before(xs: &[Part], ys: &[Part]) -> bool
+    ensures { result ≡ path_before xs.now ys.now }
+{
+    match xs {
+        [] => !ys.is_empty(),
+        [x, xs @ ..] => match ys {
+            [] => false,
+            [y, ys @ ..] => x.is_before(*y) || (x.is_same(*y) && is_before(xs, ys)),
+        },
+    }
+}
+
+fn leads_to(xs: &[Part], ys: &[Part]) -> bool
+    ensures { result ≡ leads_to xs.now ys.now }
+{
+    match xs {
+        [] => !ys.is_empty(),
+        [x, xs @ ..] => match ys {
+            [] => false,
+            [y, ys @ ..] => x.is_same(*y) && leads_to(xs, ys),
+        },
+    }
+}

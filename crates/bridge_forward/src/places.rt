@@ -1,0 +1,94 @@
+//! Which functions may stand together on a board.
+ghost use Rattle.std.specs.Prelude.{◌≡◌, ◌<◌, ◌↔◌, ◌⊎◌, [], IsTrue, IsFalse, map, drop, length};
+ghost use Rattle.model_registers.specs.Lists.{Each, EachPair};
+ghost use Rattle.model_board.specs.Paths.{IsPath, path_eq, parent, function_zero};
+ghost use Rattle.model_board.specs.Places.{Standing, IsFounded, AreLawfulPlaces, has_path, has_bridge};
+
+use crate::path::{Part, Path, is_same};
+
+/// What counts of a function for the places of a board: its path, and whether it is a bridge.
+pub trait Stands {
+    ghost standing: { Self → Standing };
+
+    fn path(&self) -> &Path
+        ensures { result.now ≡ (standing self.now).path };
+
+    fn is_bridge(&self) -> bool
+        ensures { result ≡ (standing self.now).is_bridge };
+}
+
+/// Whether one of these stands at the path.
+fn has_path<S: Stands>(places: &[S], path: &Path) -> bool
+    ensures { result ≡ has_path (map S.standing places.now) path.now }
+{
+    for place in places {
+        if place.path().is_same(path) {
+            return true;
+        }
+    }
+    false
+}
+
+/// Whether one of these is a bridge with these parts.
+fn has_bridge<S: Stands>(places: &[S], parts: &[Part]) -> bool
+    ensures { result ≡ has_bridge (map S.standing places.now) parts.now }
+{
+    for place in places {
+        if place.is_bridge() && is_same(place.path().parts(), parts) {
+            return true;
+        }
+    }
+    false
+}
+
+/// Whether these parts are none, as those above bus 0, or name one of the bridges.
+fn is_bus<S: Stands>(places: &[S], parts: &[Part]) -> bool
+    ensures { IsTrue result ↔ ((parts.now ≡ []) ⊎ IsTrue (has_bridge (map S.standing places.now) parts.now)) }
+{
+    if parts.is_empty() {
+        return true;
+    }
+    has_bridge(places, parts)
+}
+
+/// Whether the function at `place` is on bus 0 or behind a bridge, in a device with a function 0.
+fn is_founded<S: Stands>(places: &[S], place: &S) -> bool
+    ensures { IsTrue result ↔ IsFounded (map S.standing places.now) (S.standing place.now) }
+{
+    let path = place.path();
+    let on_bus = is_bus(places, path.parent());
+    let has_zero = has_path(places, &path.function_zero());
+    on_bus && has_zero
+}
+
+/// Whether each function is on bus 0 or behind a bridge, in a device with a function 0.
+fn are_founded<S: Stands>(places: &[S]) -> bool
+    ensures { IsTrue result ↔ Each (IsFounded (map S.standing places.now)) (map S.standing places.now) }
+{
+    for place in places {
+        if !is_founded(places, place) {
+            return false;
+        }
+    }
+    true
+}
+
+/// Whether no two functions stand at one path.
+fn are_apart<S: Stands>(places: &[S]) -> bool
+    ensures { IsTrue result ↔ EachPair (λ s t. IsFalse (path_eq t.path s.path)) (map S.standing places.now) }
+{
+    for i in 0..places.len() {
+        if has_path(&places[i + 1..], places[i].path()) {
+            return false;
+        }
+    }
+    true
+}
+
+/// Whether these are the functions of a board, in any order: no path twice, each path on bus 0 or
+/// behind a bridge among them, and a function 0 in each device. It takes no memory.
+pub fn are_lawful<S: Stands>(places: &[S]) -> bool
+    ensures { IsTrue result ↔ AreLawfulPlaces (map S.standing places.now) }
+{
+    are_founded(places) && are_apart(places)
+}

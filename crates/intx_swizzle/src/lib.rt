@@ -1,0 +1,35 @@
+//! Where an interrupt pin of a function reaches bus 0.
+#![tactic(auto)]
+
+ghost use Rattle.std.specs.Prelude.{◌≡◌, ◌≤◌, ◌+◌, ◌<◌, sum_by, length};
+ghost use Rattle.model_board.specs.Interrupts.{root_device, root_pin};
+
+use bridge_forward::{Part, Path};
+
+/// The sum of the devices of some parts of a path.
+fn devices(parts: &[Part]) -> u32
+    requires { length parts.now ≤ 16 }
+    ensures value { result ≡ sum_by (λ p. p.device) parts.now }
+    ensures bound { result < 256 }
+{
+    let mut sum = 0;
+    for part in parts {
+        sum += u32::from(part.device());
+    }
+    sum
+}
+
+/// The device on bus 0 and its pin (1 to 4, INTA# to INTD#) that pin `pin` of the function at the path
+/// reaches. One rule holds at every bridge: the pin moves on by the device number on each bus but bus 0
+/// (PCI-to-PCI Bridge Architecture Specification 1.2, chapter 9.1).
+pub fn at_root(path: &Path, pin: u8) -> (u8, u8)
+    requires least { 1 ≤ pin }
+    requires most { pin ≤ 4 }
+    ensures device { result.0 ≡ root_device path.now }
+    ensures pin { result.1 ≡ root_pin path.now pin }
+{
+    let parts = path.parts();
+    let sum = devices(&parts[1..]);
+    let pin = (u32::from(pin) - 1 + sum) % 4 + 1;
+    (parts[0].device(), pin as u8)
+}
