@@ -27,3 +27,7 @@ pub mod RowsOfClaims
 pub mod Rows
 pub mod LawfulExamples
 pub mod PlacesLaw
+pub mod ClaimLanes
+pub mod ConfigAccesses
+pub mod FirstFound
+pub mod RowsOfPorts

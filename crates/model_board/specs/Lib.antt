@@ -25,3 +25,5 @@ pub mod Routing
 pub mod RoutingLaws
 pub mod PlacedRegions
 pub mod UniqueClaimant
+pub mod Ports
+pub mod PortLaws

@@ -8,6 +8,7 @@ ghost use Rattle.model_board.specs.OrderLaws.{OneOrder, OrderIsSorted};
 ghost use Rattle.model_board.specs.Packing.{CompactIsRun, FlatNeedOnBus};
 ghost use Rattle.model_board.specs.Places.{LawfulPlacesAreBoards};
 ghost use Rattle.model_board.specs.PlacementLaws.{LayoutIsLawful, PoolsAreLawful, RowsAreDeclared};
+ghost use Rattle.model_board.specs.PortLaws.{ClaimsKeepLanes, ConfigReadByLanes, ConfigWriteByLanes, PortsWhileNotEnabled};
 ghost use Rattle.model_board.specs.Reach.{OneRoute, OnlyNamed, ReachedByNumbers};
 ghost use Rattle.model_board.specs.RoutingLaws.{ClaimsByRouting, FirstByRouting, ForwardedByRouting, RoutingOfCells, RoutingOfChange, SameClaims};
 ghost use Rattle.model_board.specs.UniqueClaimant.{ClaimInAnyOrder, RowsArePlaced, UniqueClaimant};
@@ -104,4 +105,14 @@ pub fn unique_claimant()
     ensures claims { UniqueClaimant }
     ensures any_order { ClaimInAnyOrder }
     ensures rows { RowsArePlaced }
+{}
+
+/// An access of 1, 2 or 4 bytes to a function's configuration space is one of enabled bytes of a word;
+/// a region takes an access in the byte lanes of its address; and while the address latch is not
+/// enabled, only the latch itself is no ordinary port.
+pub fn port_accesses()
+    ensures config_read { ConfigReadByLanes }
+    ensures config_write { ConfigWriteByLanes }
+    ensures claims { ClaimsKeepLanes }
+    ensures not_enabled { PortsWhileNotEnabled }
 {}
