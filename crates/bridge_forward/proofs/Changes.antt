@@ -6,6 +6,7 @@ use Rattle.std.proofs.lemmas.Option.{slice_get_within}
 use borrow.Follows.Closed.{read_of}
 use base.Fml.{GName}
 use mathlib.Core.Option.{Option as Opt}
+use Rattle.model_registers.specs.Lists.{EachPair}
 use Rattle.model_registers.specs.Registers.{File}
 use Rattle.model_registers.specs.Decoding as decoding
 use Rattle.model_board.specs.Paths.{Path, path_eq, path_before}
@@ -105,6 +106,9 @@ pub found_there : (nodes ms : List Node) (i : ℕ) (n : Node) (a : List BoardFun
 found_there nodes ms i n a q h e =
     let at : IsAt nodes i (a (functions_of nodes)) = subst (λ (xs : List Node). IsAt xs i (a (functions_of xs))) q h in
     at.found ∙ ap (λ (z : Node). Some (function_of z)) (same_at nodes i at.node n at.there e)
+
+pub same_order : {fs gs : List BoardFunction} → fs ≡ gs → EachPair (λ (f g : BoardFunction). path_before f.path g.path ≡ true) fs → EachPair (λ (f g : BoardFunction). path_before f.path g.path ≡ true) gs
+same_order e h = subst (λ (xs : List BoardFunction). EachPair (λ (f g : BoardFunction). path_before f.path g.path ≡ true) xs) e h
 
 -- the node that was read at the index of an answer
 pub node_there : (nodes ms : List Node) (i : ℕ) (n : Node) (a : List BoardFunction → Option BoardFunction) → ms ≡ nodes → IsAt ms i (a (functions_of ms)) → n ≡ get_or nodes i n → slice_get nodes i ≡ Some n

@@ -20,7 +20,7 @@ use Rattle.bridge_forward.specs.EndpointParts.{block_at, region_parts, IsElsewhe
 use Rattle.bridge_forward.proofs.Indices.{each_at, pair_at, find_at}
 use Rattle.bridge_forward.proofs.BlockLists.{found_each}
 use Rattle.bridge_forward.proofs.RegionParts.{config_field}
-use Rattle.bridge_forward.proofs.EndpointAccess.{config_joined, some_register, no_block}
+use Rattle.bridge_forward.proofs.EndpointAccess.{bare_lawful, config_joined, some_register, no_block}
 
 -- ---- where the header and the device's own registers stand
 
@@ -183,12 +183,20 @@ between_six : (rs : List Region) → Each IsLawfulRegion rs → Each (Between 0 
 between_six [] h = tt
 between_six (r ∷ rs) h = (let some = some_register r.kind in let within = h.0.registers in (omega arith, omega (arith, some, within)), between_six rs h.1)
 
-pub bars_at_reset : (rs : List Region) → HasLawfulRegions rs → at_reset (map (declared_bar rs) (0 ∷ 1 ∷ 2 ∷ 3 ∷ 4 ∷ 5 ∷ [])) ≡ map closed rs
+bars_at_reset : (rs : List Region) → HasLawfulRegions rs → at_reset (map (declared_bar rs) (0 ∷ 1 ∷ 2 ∷ 3 ∷ 4 ∷ 5 ∷ [])) ≡ map closed rs
 bars_at_reset rs h = bars_from 6 0 rs (between_six rs h.each) (rising rs h.in_order)
 
-pub opened_closed : (rs : List Region) → map opened (map closed rs) ≡ map bare rs
+-- the same for any list that is those regions
+pub bars_declared : (d : Endpoint) → IsLawfulEndpoint d → (rs : List Region) → rs ≡ d.regions → (bars : List (Option Bar)) → bars ≡ map (declared_bar rs) (0 ∷ 1 ∷ 2 ∷ 3 ∷ 4 ∷ 5 ∷ []) → at_reset bars ≡ map closed d.regions
+bars_declared d lawful rs same bars is =
+    ap at_reset (is ∙ ap (λ xs. map (declared_bar xs) (0 ∷ 1 ∷ 2 ∷ 3 ∷ 4 ∷ 5 ∷ [])) same) ∙ bars_at_reset d.regions lawful.regions
+
+opened_closed : (rs : List Region) → map opened (map closed rs) ≡ map bare rs
 opened_closed [] = refl
 opened_closed (r ∷ rs) = ap (λ (xs : List Region). bare r ∷ xs) (opened_closed rs)
+
+pub opens_lawful : (d : Endpoint) → IsLawfulEndpoint d → (bars : List BaseAddress) → bars ≡ map closed d.regions → HasLawfulRegions (map opened bars)
+opens_lawful d lawful bars is = subst HasLawfulRegions (sym (ap (map opened) is ∙ opened_closed d.regions)) (bare_lawful d.regions lawful.regions)
 
 -- ---- blocks by register
 
@@ -240,7 +248,7 @@ module _ (d : Endpoint) (lawful : IsLawfulEndpoint d) (blocks : List CellFile) (
       by_size (inl l) = filled n l ∙ ap cells_of (not_declared d.regions u)
       by_size (inr l) = no_block blocks n (omega (arith, six, l))
 
-  pub parts_at_reset : (shared : Bool) → AreParts d (config_reset d shared) (map closed d.regions) (block_at blocks)
+  parts_at_reset : (shared : Bool) → AreParts d (config_reset d shared) (map closed d.regions) (block_at blocks)
   parts_at_reset shared =
       let away = reset_away d shared lawful.config_blocks in
       record {
@@ -253,10 +261,22 @@ module _ (d : Endpoint) (lawful : IsLawfulEndpoint d) (blocks : List CellFile) (
         unused = unused;
       }
 
-  pub file_at_reset : (shared : Bool) → config_reset d shared ++ region_parts (map closed d.regions) (block_at blocks) ≡ endpoint_reset d shared
+  file_at_reset : (shared : Bool) → config_reset d shared ++ region_parts (map closed d.regions) (block_at blocks) ≡ endpoint_reset d shared
   file_at_reset shared = ap (λ (xs : File). config_reset d shared ++ xs) (parts_of d.regions (block_at blocks)
       (each_by_index (λ r. block_at blocks r.index ≡ cells_from (config 0) r.cells) d.regions (λ i r e.
       let region : IsLawfulRegion r = each_at IsLawfulRegion d.regions i r lawful.regions.each e in
       let some = some_register r.kind in
       let within = region.registers in
       filled r.index (omega (arith, some, within)) ∙ ap cells_of (own_region d.regions (rising d.regions lawful.regions.in_order) i r e))))
+
+  -- the same for any parts that are those
+  module _ (shared : Bool) (cells : File) (bars : List BaseAddress) (cells_are : cells ≡ config_reset d shared) (bars_are : bars ≡ map closed d.regions) where
+    pub parts_new : AreParts d cells bars (block_at blocks)
+    parts_new = subst (λ (xs : File). AreParts d xs bars (block_at blocks)) (sym cells_are) (subst (λ (bs : List BaseAddress). AreParts d (config_reset d shared) bs (block_at blocks)) (sym bars_are) (parts_at_reset shared))
+
+    pub file_new : cells ++ region_parts bars (block_at blocks) ≡ endpoint_reset d shared
+    file_new = ap₂ (λ (xs : File) (bs : List BaseAddress). xs ++ region_parts bs (block_at blocks)) cells_are bars_are ∙ file_at_reset shared
+
+-- blocks declared by any list that is those regions
+pub blocks_declared : (d : Endpoint) (rs : List Region) → rs ≡ d.regions → (blocks : List CellFile) → ((n : ℕ) → n < 6 → block_at blocks n ≡ declared_block rs n) → (n : ℕ) → n < 6 → block_at blocks n ≡ declared_block d.regions n
+blocks_declared d rs same blocks filled n l = filled n l ∙ ap (λ xs. declared_block xs n) same

@@ -5,12 +5,14 @@ use Rattle.std.specs.List.{slice_get, list_any}
 use Rattle.std.proofs.lemmas.Bool.{ltb-true, lt-ltb, leb-true, le-leb}
 use Rattle.std.proofs.lemmas.Option.{slice_get_within}
 use Rattle.std.proofs.lemmas.List.{length-map}
+use Rattle.model_registers.specs.Lists.{Each, EachPair}
+use Rattle.model_board.specs.State.{BoardFunction}
 use Rattle.model_registers.proofs.Tests.{left_true, right_true}
 use Rattle.model_board.specs.Paths.{Path, part_eq, path_eq, path_before, leads_to, parent, last_part, IsPath}
 use Rattle.model_board.proofs.PathOrder.{path_same}
 use Rattle.model_board.proofs.PathEnds.{snoc, leads_up, leads_self, leads_trans}
 use Rattle.bridge_forward.specs.declared.bus.Node.{Node}
-use Rattle.bridge_forward.specs.Layout.{paths_of, EndsAt, IsLaidOut}
+use Rattle.bridge_forward.specs.Layout.{functions_of, paths_of, EndsAt, IsLaidOut}
 use Rattle.bridge_forward.specs.Search.{IsSide}
 use Rattle.bridge_forward.proofs.Indices.{at_below, each_at, pair_at, any_at, map_at, at_map}
 use Rattle.bridge_forward.proofs.Paths.{length-parent}
@@ -169,3 +171,16 @@ module _ (nodes : List Node) (laid : IsLaidOut nodes) where
             let some = (path_of i n e).some in
             let eq : length (parent m.path) ≡ length (parent n.path) = ap length (same ∙ sym here) in
             absurd (omega (arith, longer, a, c, some, eq))
+
+  -- ---- the functions of the tree
+
+  after_first : (n : Node) (ns : List Node) → Each (λ q. path_before n.path q ≡ true) (paths_of ns) → Each (λ (g : BoardFunction). path_before n.path g.path ≡ true) (functions_of ns)
+  after_first n [] h = tt
+  after_first n (m ∷ ms) h = (h.0, after_first n ms h.1)
+
+  in_order : (ns : List Node) → EachPair (λ p q. path_before p q ≡ true) (paths_of ns) → EachPair (λ (f g : BoardFunction). path_before f.path g.path ≡ true) (functions_of ns)
+  in_order [] h = tt
+  in_order (n ∷ ns) h = (after_first n ns h.0, in_order ns h.1)
+
+  pub functions_in_order : EachPair (λ (f g : BoardFunction). path_before f.path g.path ≡ true) (functions_of nodes)
+  functions_in_order = in_order nodes laid.order.in_order

@@ -1,7 +1,9 @@
 //! The functions of a board as a tree of buses.
-ghost use Rattle.std.specs.Prelude.{◌≡◌, ◌%◌, IfOk, option_map};
+ghost use Rattle.std.specs.Prelude.{◌≡◌, ◌%◌, IfOk, IsTrue};
 ghost use Rattle.std.specs.Borrow.{sem};
 ghost use Rattle.std.specs.Option.{option_copied_mut};
+ghost use Rattle.model_registers.specs.Lists.{EachPair};
+ghost use Rattle.model_board.specs.Paths.{path_before};
 ghost use Rattle.model_board.specs.Board.{IsBoard};
 ghost use Rattle.model_board.specs.Places.{board_of};
 ghost use Rattle.model_board.specs.Claims.{first_claim};
@@ -52,7 +54,7 @@ impl Model for Bus {
 
 /// Where an address lands: the path of an endpoint, the base address register of a region, 0 to 5,
 /// and the offset in the region.
-#[derive(Drop)]
+#[derive(Debug, Drop)]
 pub struct Claim {
     pub path: Path,
     pub region: u8,
@@ -143,13 +145,15 @@ impl Bus {
         None
     }
 
-    /// Lends the endpoint at a path, if one stands there. All else stays.
+    /// Lends the endpoint at a path, if one stands there. All else stays. No two functions stand at one
+    /// path, since all stand in path order.
     pub fn endpoint_mut(&mut self, path: &Path) -> Option<&mut EndpointFn>
         ensures* lends { sem 𝓛 (LendsEndpoint self.entry path.now result) }
         ensures value { option_copied_mut result ≡ endpoint_at self.old path.now }
+        ensures in_order { EachPair (λ f g. IsTrue (path_before f.path g.path)) self.old }
     {
         let at = position(&self.nodes, path)?;
-        let node = self.nodes.get_mut(at)?;
+        let node = &mut self.nodes[at];
         node.function.endpoint_mut()
     }
 }

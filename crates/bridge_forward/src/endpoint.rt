@@ -50,8 +50,9 @@ impl EndpointFn {
         ensures { IfOk result (λ e. e ≡ record { decl = decl; file = endpoint_reset decl shared }) }
     {
         let config = Endpoint::cells(alloc, &decl, shared)?;
-        let bars = Bars::new(bar_decls(&decl.values().bar));
-        let blocks = block_files(alloc, &decl.values().bar)?;
+        let regions = &decl.values().bar;
+        let bars = Bars::new(bar_decls(regions));
+        let blocks = block_files(alloc, regions)?;
         Ok(EndpointFn {
             decl,
             config,

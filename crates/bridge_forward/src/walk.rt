@@ -8,6 +8,7 @@ ghost use Rattle.bridge_forward.specs.Cycled.{reached_by};
 use crate::bus::Node;
 use crate::cycle::{Cycle, CycleType};
 use crate::path::Path;
+use std::cmp::Ordering;
 
 /// What is looked for on a bus.
 #[derive(Clone, Copy)]
@@ -75,13 +76,10 @@ pub(crate) fn position(nodes: &[Node], path: &Path) -> Option<usize>
     while low < high {
         let middle = low + (high - low) / 2;
         let node = &nodes[middle];
-        if node.path.is_same(path) {
-            return Some(middle);
-        }
-        if node.path.is_before(path) {
-            low = middle + 1;
-        } else {
-            high = middle;
+        match node.path.compare(path) {
+            Ordering::Equal => return Some(middle),
+            Ordering::Less => low = middle + 1,
+            Ordering::Greater => high = middle,
         }
     }
     None
