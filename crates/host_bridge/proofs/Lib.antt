@@ -1,0 +1,4 @@
+pub mod ConfigCycles
+pub mod Lent
+pub mod ClaimedAccesses
+pub mod PortAccesses

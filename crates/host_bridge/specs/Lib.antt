@@ -1,0 +1,3 @@
+pub mod BusAddresses
+pub mod HostState
+pub mod Targets

@@ -1,0 +1,253 @@
+//! The host bridge.
+ghost use Rattle.std.specs.Prelude.{◌≡◌, ◌%◌, IsSome};
+ghost use Rattle.model_registers.specs.Registers.{raise};
+ghost use Rattle.model_registers.specs.ByteEnables.{lanes, IsWidth};
+ghost use Rattle.bars.specs.Kinds.{named_space};
+ghost use Rattle.model_board.specs.State.{with_file};
+ghost use Rattle.model_board.specs.Claims.{first_claim};
+ghost use Rattle.model_board.specs.Ports.{selected, selected_register, config_reply, after_config_write, claim_reply, after_claim_write, port_reply, after_port_write, memory_reply, after_memory_write};
+ghost use Rattle.headers.specs.Places.{place_of};
+ghost use Rattle.bridge_forward.specs.Lending.{endpoint_at};
+ghost use Rattle.host_bridge.specs.BusAddresses.{bus_address_of};
+ghost use Rattle.host_bridge.specs.HostState.{with_functions, with_latch};
+
+use crate::bdf::Bdf;
+use crate::lanes::{all_ones, lowered};
+use crate::latch::{Latch, Target};
+use crate::route::Route;
+use bars::{Space, enabled_bits};
+use bridge_forward::{Bus, Claim, Op, Path};
+use config_bytes::{enables_of, into_lanes};
+use headers::{Apertures, Place};
+use std::marker::Model;
+
+/// The host bridge: the tree of buses below it, the address latch, and the addresses that set-up may
+/// give out. It hands out neither the tree nor a function, so every access is one of the calls here.
+#[derive(Drop)]
+pub struct Host {
+    root: Bus,
+    latch: Latch,
+    apertures: Apertures,
+}
+
+impl Model for Host {
+    ghost use Rattle.host_bridge.specs.HostState.{HostState};
+
+    ghost Value = { HostState };
+
+    ghost view = { λ h. record {
+      state = record { functions = h.root; latch = h.latch.bits };
+      apertures = h.apertures;
+    } };
+}
+
+impl Host {
+    /// The host bridge over a tree, with address latch 0.
+    pub fn new(root: Bus, apertures: Apertures) -> Host
+        ensures { result ≡ record {
+          state = record { functions = root; latch = 0 };
+          apertures = apertures;
+        } }
+    {
+        Host {
+            root,
+            latch: Latch::CLEAR,
+            apertures,
+        }
+    }
+
+    /// The addresses that set-up may give out.
+    pub fn apertures(&self) -> Apertures
+        ensures { result ≡ self.now.apertures }
+    {
+        self.apertures
+    }
+
+    /// Reads the enabled bytes of CONFIG_DATA, of the function and the word that the latch selects.
+    fn read_data(&mut self, enables: u8) -> u32
+        ensures value { let s = self.old.state in let off = selected_register s.latch in
+            result ≡ config_reply s.functions (selected s.latch) off (lanes enables) }
+        ensures after { self.new ≡ self.old }
+    {
+        self.root
+            .cycle(self.latch.cycle(enables, Op::Read))
+            .unwrap_or_else(|| enabled_bits(enables))
+    }
+
+    /// Writes the enabled bytes of CONFIG_DATA.
+    fn write_data(&mut self, enables: u8, data: u32)
+        ensures { let s = self.old.state in let off = selected_register s.latch in
+            let fs = after_config_write s.functions (selected s.latch) off (lanes enables) «data» in
+            self.new ≡ with_functions fs self.old }
+    {
+        let _ = self.root.cycle(self.latch.cycle(enables, Op::Write(data)));
+    }
+
+    /// Reads the enabled bytes of the configuration word at `off`, a multiple of 4, of the function that
+    /// the bus registers name, as they stand. Bytes that are not enabled read 0, and where no function
+    /// answers the others are all ones. The address latch is 0 afterwards (PCI Local Bus 3.0, chapter
+    /// 3.2.2.3.2).
+    pub fn config_read(&mut self, at: Bdf, off: u8, enables: u8) -> u32
+        requires { off % 4 ≡ 0 }
+        ensures value { let fs = self.old.state.functions in
+            result ≡ config_reply fs (bus_address_of at) off (lanes enables) }
+        ensures after { self.new ≡ with_latch 0 self.old }
+    {
+        self.latch = Latch::select(at, off);
+        let word = self.read_data(enables);
+        self.latch = Latch::CLEAR;
+        word
+    }
+
+    /// Writes the enabled bytes of the configuration word at `off`, a multiple of 4, of the function
+    /// that the bus registers name, as they stand. Where no function answers they are dropped. The
+    /// address latch is 0 afterwards.
+    pub fn config_write(&mut self, at: Bdf, off: u8, enables: u8, data: u32)
+        requires { off % 4 ≡ 0 }
+        ensures { let fs = self.old.state.functions in
+            let changed = after_config_write fs (bus_address_of at) off (lanes enables) «data» in
+            self.new ≡ with_latch 0 (with_functions changed self.old) }
+    {
+        self.latch = Latch::select(at, off);
+        self.write_data(enables, data);
+        self.latch = Latch::CLEAR;
+    }
+
+    /// The first claim of an address in path order, then by register: a region that decodes it, where
+    /// each bridge above forwards it.
+    pub fn claimant(&self, space: Space, addr: u64) -> Option<Claim>
+        ensures { result ≡ first_claim self.now.state.functions (named_space space) addr }
+    {
+        self.root.claimant(space, addr)
+    }
+
+    /// Raises the bits of `mask` that writing a one clears, in one cell of the endpoint at a path. All
+    /// other cells stay.
+    pub fn raise(&mut self, path: &Path, place: Place, off: u64, mask: u8)
+        requires { IsSome (endpoint_at self.old.state.functions path.now) }
+        ensures { let fs = self.old.state.functions in
+            let raised = with_file (raise mask (place_of place off)) path.now fs in
+            self.new ≡ with_functions raised self.old }
+    {
+        match self.root.endpoint_mut(path) {
+            Some(endpoint) => endpoint.raise(place, off, mask),
+            None => unreachable!(),
+        }
+    }
+
+    /// What `width` bytes at the claim of an address read.
+    fn read_claimed<R: Route>(&mut self, route: &R, space: Space, addr: u64, width: u64) -> u32
+        requires fits { R.fits route.now self.old }
+        requires width { IsWidth width }
+        requires aligned { addr % width ≡ 0 }
+        ensures value { let fs = self.old.state.functions in
+            result ≡ claim_reply fs width (first_claim fs (named_space space) addr) }
+        ensures after { self.new ≡ self.old }
+    {
+        let Some(claim) = route.claimant(self, space, addr) else {
+            return all_ones(width);
+        };
+        let Claim {
+            path,
+            region,
+            offset,
+        } = claim;
+        let enables = enables_of(offset, width);
+        match self.root.endpoint_mut(&path) {
+            Some(endpoint) => lowered(offset, endpoint.read(region, offset / 4 * 4, enables)),
+            None => unreachable!(),
+        }
+    }
+
+    /// Writes the low `width` bytes of a value at the claim of an address.
+    fn write_claimed<R: Route>(
+        &mut self,
+        route: &R,
+        space: Space,
+        addr: u64,
+        width: u64,
+        value: u32,
+    )
+        requires fits { R.fits route.now self.old }
+        requires width { IsWidth width }
+        requires aligned { addr % width ≡ 0 }
+        ensures { let fs = self.old.state.functions in
+            let claim = first_claim fs (named_space space) addr in
+            self.new ≡ with_functions (after_claim_write fs width value claim) self.old }
+    {
+        let Some(claim) = route.claimant(self, space, addr) else {
+            return;
+        };
+        let Claim {
+            path,
+            region,
+            offset,
+        } = claim;
+        let enables = enables_of(offset, width);
+        let data = into_lanes(offset, value);
+        match self.root.endpoint_mut(&path) {
+            Some(endpoint) => endpoint.write(region, offset / 4 * 4, enables, data),
+            None => unreachable!(),
+        }
+    }
+
+    /// What an access of 1, 2 or 4 bytes at an I/O port reads: the address latch for 4 bytes at CF8h, a
+    /// configuration register at CFCh to CFFh while the latch is enabled, and else what claims the
+    /// port. All ones where nothing answers.
+    pub fn inp<R: Route>(&mut self, route: &R, port: u32, width: u64) -> u32
+        requires fits { R.fits route.now self.old }
+        requires width { IsWidth width }
+        requires aligned { port % width ≡ 0 }
+        ensures value { result ≡ port_reply self.old.state port width }
+        ensures after { self.new ≡ self.old }
+    {
+        let addr = u64::from(port);
+        match self.latch.target(port, width) {
+            Target::ConfigAddress => self.latch.value(),
+            Target::ConfigData => lowered(addr, self.read_data(enables_of(addr, width))),
+            Target::Ordinary => self.read_claimed(route, Space::Io, addr, width),
+        }
+    }
+
+    /// Writes the low 1, 2 or 4 bytes of a value at an I/O port: to the address latch for 4 bytes at
+    /// CF8h, to a configuration register at CFCh to CFFh while the latch is enabled, and else to what
+    /// claims the port. Dropped where nothing answers.
+    pub fn out<R: Route>(&mut self, route: &R, port: u32, width: u64, value: u32)
+        requires fits { R.fits route.now self.old }
+        requires width { IsWidth width }
+        requires aligned { port % width ≡ 0 }
+        ensures { let state = after_port_write self.old.state port width value in
+            self.new ≡ record self.old { state = state } }
+    {
+        let addr = u64::from(port);
+        match self.latch.target(port, width) {
+            Target::ConfigAddress => self.latch = Latch::written(value),
+            Target::ConfigData => {
+                self.write_data(enables_of(addr, width), into_lanes(addr, value));
+            }
+            Target::Ordinary => self.write_claimed(route, Space::Io, addr, width, value),
+        }
+    }
+
+    /// What an access of 1, 2 or 4 bytes at a memory address reads. All ones where nothing claims it.
+    pub fn load<R: Route>(&mut self, route: &R, addr: u64, width: u64) -> u32
+        requires fits { R.fits route.now self.old }
+        requires width { IsWidth width }
+        requires aligned { addr % width ≡ 0 }
+        ensures value { result ≡ memory_reply self.old.state addr width }
+        ensures after { self.new ≡ self.old }
+    {
+        self.read_claimed(route, Space::Mem, addr, width)
+    }
+
+    /// Writes the low 1, 2 or 4 bytes of a value at a memory address. Dropped where nothing claims it.
+    pub fn store<R: Route>(&mut self, route: &R, addr: u64, width: u64, value: u32)
+        requires fits { R.fits route.now self.old }
+        requires width { IsWidth width }
+        requires aligned { addr % width ≡ 0 }
+        ensures { let state = after_memory_write self.old.state addr width value in
+            self.new ≡ record self.old { state = state } }
+    {
+        self.write_claimed(route, Space::Mem, addr, width, value);
+    }
+}
