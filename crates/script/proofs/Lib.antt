@@ -1,9 +1,15 @@
+mod BlockLemmas
+mod CopiedFiles
+mod FunctionFiles
+mod HeldCopies
 pub mod Counts
 pub mod Digits
 mod HexDigits
 pub mod NameLemmas
 mod Outputs
 mod Refusals
+mod RegisterTables
+mod ResetFunctions
 mod SlotLemmas
 pub mod Splitting
 mod Transfers

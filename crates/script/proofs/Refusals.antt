@@ -5,7 +5,7 @@ use Rattle.std.specs.Prelude.{codes}
 use Rattle.model_guests.specs.Accesses.{Event}
 use Rattle.model_guests.specs.Text.{Text, words}
 use Rattle.model_guests.specs.Grammar.{Meaning, nothing, guest_event, host_read, bad, HostRead, event_or_bad, read_or_bad, event_of, host_read_of, is_comment, has_name, is_long, meaning_of_words, meaning}
-use Rattle.script.specs.Serving.{served, is_served}
+use Rattle.script.specs.Serving.{served}
 use Rattle.script.specs.Replies.{has_words}
 
 abbrev pub RefusalHasWords : Meaning → Type 0
@@ -35,7 +35,7 @@ of_words names (w ∷ ws) =
 
 of_served : (m : Meaning) → RefusalHasWords m → RefusalHasWords (served m)
 of_served nothing p = tt
-of_served (guest_event name e) p = either (is_served e) (guest_event name e) _ tt refl
+of_served (guest_event name e) p = tt
 of_served (host_read r) p = refl
 of_served (bad who n) p = p
 

@@ -1,6 +1,6 @@
 -- Accesses, replies and reads by the host, in the words of guests' definitions.
 --     target_of, op_of, access_of      a guest's access
---     place_of      where a raise goes
+--     part_of      where a raise goes
 --     bus_address_of, host_target_of, host_access_of      a read by the host
 --     reply_of      an answer
 use Rattle.model_board.specs.Cycles.{BusAddress}
@@ -17,8 +17,8 @@ use Rattle.script.specs.declared.access.Bdf.{Bdf}
 use Rattle.script.specs.declared.access.HostAccess.{HostAccess}
 use Rattle.script.specs.declared.access.HostAt.{HostAt}
 use Rattle.script.specs.declared.access.HostAt.TheVariants as hostat
-use Rattle.script.specs.declared.place.Place.{Place}
-use Rattle.script.specs.declared.place.Place.TheVariants as place
+use Rattle.headers.specs.declared.place.Place.{Place}
+use Rattle.headers.specs.declared.place.Place.TheVariants as place
 
 abbrev pub target_of : At → guests.Target
 target_of (at.Config slot off) = guests.configuration slot off
@@ -32,9 +32,9 @@ op_of (op.Write v) = guests.writes v
 abbrev pub access_of : Access → guests.Access
 access_of a = record { target = target_of a.at; width = a.width; op = op_of a.op }
 
-abbrev pub place_of : Place → guests.RaisePlace
-place_of place.Cfg = guests.in_config
-place_of (place.Bar n) = guests.in_region n
+abbrev pub part_of : Place → guests.RaisePlace
+part_of place.Cfg = guests.in_config
+part_of (place.Bar n) = guests.in_region n
 
 abbrev pub bus_address_of : Bdf → BusAddress
 bus_address_of b = record { bus = b.bus; part = record { device = b.device; function = b.function } }

@@ -10,7 +10,7 @@ use Rattle.arrayvec.specs.ArrayString.{ArrayString}
 use Rattle.model_guests.specs.Accesses.{access, raises}
 use Rattle.model_guests.specs.Text.{Text}
 use Rattle.model_guests.specs.Grammar as grammar
-use Rattle.script.specs.Accesses.{access_of, place_of, host_access_of}
+use Rattle.script.specs.Accesses.{access_of, part_of, host_access_of}
 pub use Rattle.script.specs.Serving.{served}
 use Rattle.script.specs.declared.line.Who.{Who}
 use Rattle.script.specs.declared.line.Who.TheVariants as who
@@ -32,7 +32,7 @@ abbrev pub meaning_of : List Text → What → grammar.Meaning
 meaning_of names what.Nothing = grammar.nothing
 meaning_of names (what.Guest g a) = grammar.guest_event (name_of names g) (access (access_of a))
 meaning_of names (what.Raise g slot p off mask) =
-    grammar.guest_event (name_of names g) (raises (record { slot = slot; part = place_of p; offset = off; mask = mask }))
+    grammar.guest_event (name_of names g) (raises (record { slot = slot; part = part_of p; offset = off; mask = mask }))
 meaning_of names (what.Host r) = grammar.host_read (host_access_of r)
 meaning_of names (what.Bad w n) = grammar.bad (who_of names w) n
 

@@ -3,12 +3,12 @@ ghost use Rattle.std.specs.Prelude.{◌≡◌, ◌^◌, [], ◌∷◌, map, opti
 ghost use Rattle.model_guests.specs.Accesses.{Event, port, address, access, writes};
 ghost use Rattle.model_guests.specs.Numbers.{below, number_of};
 ghost use Rattle.model_guests.specs.Grammar.{to_configuration, to_space, raise_part, to_raise, event_of, hex_pair, bus_address, host_read_of};
-ghost use Rattle.script.specs.Accesses.{access_of, op_of, place_of, bus_address_of, host_access_of};
+ghost use Rattle.script.specs.Accesses.{access_of, op_of, part_of, bus_address_of, host_access_of};
 ghost use Rattle.script.specs.Forms.{event_asked};
 
 use crate::access::{Access, At, Bdf, HostAccess, HostAt, Op};
 use crate::numbers::{digit_in, number_of};
-use crate::place::Place;
+use headers::Place;
 
 /// What a guest's line asks.
 #[derive(Clone, Copy, Debug, PartialEq, Eq)]
@@ -68,7 +68,7 @@ fn to_address(at: &[u8], width: &[u8], op: Op) -> Option<Access>
 
 /// `cfg` or `bar0` to `bar5`.
 fn place(word: &[u8]) -> Option<Place>
-    ensures { option_map place_of result ≡ raise_part word.now }
+    ensures { option_map part_of result ≡ raise_part word.now }
 {
     match word {
         b"cfg" => Some(Place::Cfg),

@@ -2,13 +2,15 @@
 #![tactic(auto)]
 
 mod access;
+mod blocks;
+mod checks;
 mod ends;
 mod fakes;
 mod forms;
+mod function;
 mod line;
 mod lone;
 mod numbers;
-mod place;
 mod replies;
 mod running;
 mod serving;
@@ -17,9 +19,9 @@ mod words;
 pub use access::{Access, At, Bdf, HostAccess, HostAt, Op, Reply};
 pub use ends::{Failed, Reader, Writer};
 pub use fakes::{FakeReader, FakeWriter};
+pub use headers::Place;
 pub use line::{Line, Names, What, Who, parse_line};
 pub use lone::Lone;
-pub use place::Place;
 pub use running::{RunFault, run};
 pub use serving::served;
 

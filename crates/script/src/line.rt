@@ -7,9 +7,9 @@ ghost use Rattle.script.specs.Lines.{texts, name_of, meaning_of, guest_of, IsFir
 
 use crate::access::{Access, HostAccess};
 use crate::forms::{Asked, guest_form, host_form};
-use crate::place::Place;
 use crate::words::first_words;
 use arrayvec::{ArrayString, ArrayVec};
+use headers::Place;
 
 /// The bytes of the longest line that is read, without its line feed.
 const LONGEST_LINE: usize = 200;

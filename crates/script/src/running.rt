@@ -98,9 +98,13 @@ fn run_line(lone: &mut Lone, line: &[u8]) -> LineText
             let reply = lone.step(access);
             line_text(Who::Guest(guest), lone.names(), reply)
         }
+        What::Raise(guest, slot, place, off, mask) => {
+            let reply = lone.raise(slot, place, off, mask);
+            line_text(Who::Guest(guest), lone.names(), reply)
+        }
         What::Bad(who, number) => line_text(who, lone.names(), Reply::Refused(number)),
         // Not served.
-        What::Raise(..) | What::Host(_) => unreachable!(),
+        What::Host(_) => unreachable!(),
     }
 }
 

@@ -4,22 +4,16 @@ ghost use Rattle.model_guests.specs.Text.{Text};
 ghost use Rattle.script.specs.Lines.{meaning_of, guest_of};
 ghost use Rattle.script.specs.Serving.{served};
 
-use crate::access::At;
 use crate::line::{What, Who};
 
-/// What a line means where each form that is not served is a bad line (401). Served are the
-/// configuration accesses of guests.
+/// What a line means where each form that is not served is a bad line (401). Served are all forms of
+/// guests.
 pub fn served(what: What) -> What
     ensures meaning { (names : List Text) → meaning_of names result ≡ served (meaning_of names what) }
     ensures guest { guest_of result ≡ guest_of what }
 {
     match what {
-        What::Guest(guest, access) => match access.at {
-            At::Config { .. } => what,
-            At::Io { .. } | At::Mem { .. } => What::Bad(Who::Guest(guest), 401),
-        },
-        What::Raise(guest, ..) => What::Bad(Who::Guest(guest), 401),
         What::Host(_) => What::Bad(Who::Host, 401),
-        What::Nothing | What::Bad(..) => what,
+        What::Nothing | What::Guest(..) | What::Raise(..) | What::Bad(..) => what,
     }
 }

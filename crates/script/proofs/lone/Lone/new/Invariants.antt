@@ -1,7 +1,6 @@
 use Rattle.std.proofs.Common.{◌≡◌, map, take}
-use Rattle.script.specs.LoneFunctions.{functions_of}
 use Rattle.script.proofs.SlotLemmas.{at_reset}
 use Rattle.script.proofs.lone.Lone.new.Given as goal
 
 abbrev pub invariant-loop-decl : goal.invariant-loop-decl
-invariant-loop-decl l = functions_of l.functions.items ≡ map at_reset (take l.decl-index l.decls)
+invariant-loop-decl l = l.functions.items ≡ map at_reset (take l.decl-index l.decls)

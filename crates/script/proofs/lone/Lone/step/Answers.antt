@@ -1,50 +1,49 @@
-use Rattle.std.proofs.Common.{◌≡◌, ℕ, List, Some, All, IsSome, get_or, slice_get, length, option_map, refl, sym, ap, subst, ◌∙◌, arith}
-use Rattle.std.proofs.lemmas.Option.{slice_get-map, slice_get_read}
-use Rattle.std.proofs.lemmas.List.{map-set, length-map}
-use Rattle.model_guests.specs.LoneGuest.{Slots, slot_at}
-use Rattle.model_guests.specs.Text.{Text}
-use Rattle.script.specs.declared.lone.LoneFunction.{LoneFunction}
-use Rattle.script.specs.Accesses.{access_of}
-use Rattle.script.specs.Lines.{name_of, texts}
+use Rattle.std.proofs.Common.{◌%◌, sym, ap, ◌∙◌, arith}
+use Rattle.std.proofs.Math.ListN.{set}
+use Rattle.model_registers.specs.Decoding.{Function}
+use Rattle.model_guests.specs.Accesses.{access}
+use Rattle.model_guests.specs.LoneGuest.{Slots, after_event}
+use Rattle.script.specs.Accesses.{access_of, target_of}
+use Rattle.script.specs.Lines.{texts, name_of}
 use Rattle.script.specs.LoneRuns.{LoneGuest}
-use Rattle.script.specs.LoneSlots.{in_slots, HasNoRegions}
-use Rattle.script.specs.LoneFunctions.{function_of, functions_of}
-use Rattle.script.proofs.SlotLemmas.{slot_within, lands_in, no_regions-set}
+use Rattle.script.specs.LoneSlots.{in_slots, landing_of}
+use Rattle.script.proofs.SlotLemmas.{offset_of-place, LandsIn, lands_in, lands_within}
 use Rattle.script.proofs.lone.Lone.step.Goals as goal
 
--- the function that an index gives
-function_at : (g : LoneGuest) (name : Text) (fs : List LoneFunction) (slot : ℕ) (f : LoneFunction)
-    → (let h : LoneGuest = record { name = name; slots = in_slots (functions_of fs) } in h) ≡ g → IsSome (slot_at g.slots slot)
-    → f ≡ get_or fs slot f → slice_get (functions_of fs) slot ≡ Some (function_of f)
-function_at g name fs slot f shown occupied e =
-    let h = slot_within (functions_of fs) slot (subst (λ (g : LoneGuest). IsSome (slot_at g.slots slot)) (sym shown) occupied) in
-    slice_get-map function_of fs slot ∙ ap (option_map function_of) (slice_get_read fs (length fs) slot f refl (omega (arith, length-map fs function_of)) e)
+pub index_mut-requires : goal.index_mut-requires
+index_mut-requires c =
+    let l = landing_of (c.in-Some-landing.slot, c.in-Some-landing.place, c.in-Some-landing.off) in
+    let within = lands_within c.self.inside.functions.items c.args.self.now.slots l (target_of c.args.access.at) (ap (λ (g : LoneGuest). g.slots) c.self.view_is) c.in-Some-landing.ensures in
+    omega arith
+
+-- what the access does at the function where it lands
+landed : (c : goal.After-index_mut)
+    → LandsIn c.self.inside.functions.items c.args.self.now.slots (landing_of (c.in-Some-landing.slot, c.in-Some-landing.place, c.in-Some-landing.off)) c.index_mut.result.now (access_of c.args.access)
+landed c =
+    let l = landing_of (c.in-Some-landing.slot, c.in-Some-landing.place, c.in-Some-landing.off) in
+    lands_in c.self.inside.functions.items c.args.self.now.slots l c.index_mut.result.now (access_of c.args.access)
+    (ap (λ (g : LoneGuest). g.slots) c.self.view_is) (sym c.fault_of.ensures ∙ c.in_default.is) c.in-Some-landing.ensures c.index_mut.ensures.value
+
+pub access-requires-clause-aligned : goal.access-requires-clause-aligned
+access-requires-clause-aligned c = ap (λ n. n % c.args.access.width) (sym (offset_of-place c.in-Some-landing.place c.in-Some-landing.off)) ∙ (landed c).aligned
+
+pub access-requires-clause-reachable : goal.access-requires-clause-reachable
+access-requires-clause-reachable c = (landed c).reachable
+
+-- the same once it is done
+answered : (c : goal.After-self-1)
+    → LandsIn c.self.inside.functions.items c.args.self.now.slots (landing_of (c.in-Some-landing.slot, c.in-Some-landing.place, c.in-Some-landing.off)) c.index_mut.result.now (access_of c.args.access)
+answered c =
+    let l = landing_of (c.in-Some-landing.slot, c.in-Some-landing.place, c.in-Some-landing.off) in
+    lands_in c.self.inside.functions.items c.args.self.now.slots l c.index_mut.result.now (access_of c.args.access)
+    (ap (λ (g : LoneGuest). g.slots) c.self.view_is) (sym c.fault_of.ensures ∙ c.in_default.is) c.in-Some-landing.ensures c.index_mut.ensures.value
 
 pub returns-in-Some-landing-clause-reply : goal.returns-in-Some-landing-clause-reply
-returns-in-Some-landing-clause-reply c =
-    let fs = c.self.inside.functions.items in
-    let f = c.index_mut.result.now in
-    let here = function_at c.args.self.now _ fs c.in-Some-landing.slot f c.self.view_is c.in-Some-landing.ensures.function.1 c.index_mut.ensures.value in
-    let passed = sym c.fault_of.ensures ∙ c.in_default.is in
-    let lands = lands_in (functions_of fs) c.in-Some-landing.slot c.in-Some-landing.off (function_of f) (access_of c.args.access) passed c.in-Some-landing.ensures.function.0 here in
-    rw (← c.self.view_is) (c.config_access.ensures.reply ∙ sym lands.reply)
+returns-in-Some-landing-clause-reply c = c.access.ensures.reply ∙ sym (answered c).reply
 
 pub returns-in-Some-landing-clause-after : goal.returns-in-Some-landing-clause-after
 returns-in-Some-landing-clause-after c =
     let fs = c.self.inside.functions.items in
-    let f = c.index_mut.result.now in
-    let here = function_at c.args.self.now _ fs c.in-Some-landing.slot f c.self.view_is c.in-Some-landing.ensures.function.1 c.index_mut.ensures.value in
-    let passed = sym c.fault_of.ensures ∙ c.in_default.is in
-    let lands = lands_in (functions_of fs) c.in-Some-landing.slot c.in-Some-landing.off (function_of f) (access_of c.args.access) passed c.in-Some-landing.ensures.function.0 here in
     let guest : Slots → LoneGuest = λ ss. record { name = name_of (texts c.self.inside.names) 0; slots = ss } in
-    rw (← c.self.view_is, c.config_access.ensures.after)
-    (ap (λ gs. guest (in_slots gs)) (map-set function_of fs c.in-Some-landing.slot _) ∙ ap guest (sym lands.after))
-
-pub invariant_of-self : goal.invariant_of-self
-invariant_of-self c =
-    let fs = c.self.inside.functions.items in
-    let f = c.index_mut.result.now in
-    let left = c.config_access.new.self in
-    let here = function_at c.args.self.now _ fs c.in-Some-landing.slot f c.self.view_is c.in-Some-landing.ensures.function.1 c.index_mut.ensures.value in
-    let none = no_regions-set (functions_of fs) c.in-Some-landing.slot (function_of f) (function_of left) here (ap (λ (g : LoneFunction). g.decl.now) c.config_access.ensures.after) c.self.invariant.1 in
-    (c.self.invariant.0, subst (All (λ f. HasNoRegions f.decl)) (sym (map-set function_of fs c.in-Some-landing.slot left)) none)
+    ap (λ (f : Function). guest (in_slots (set fs c.in-Some-landing.slot f))) c.access.ensures.after ∙ ap guest (sym (answered c).after)
+    ∙ ap (λ (g : LoneGuest). record g { slots = after_event c.args.self.now.slots (access (access_of c.args.access)) }) c.self.view_is
