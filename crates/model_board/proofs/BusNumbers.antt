@@ -9,10 +9,10 @@ use Rattle.model_board.specs.Numbering.{Numbering}
 use Rattle.model_board.proofs.PathOrder.{one, before_trans, behind_trans, behind_bound, leads_before, path_same}
 
 -- how many bridges of the board pass a test of their paths
-abbrev bridges : (Path → Bool) → Board → ℕ
+abbrev pub bridges : (Path → Bool) → Board → ℕ
 bridges p b = count_by (λ r. is_bridge r.decl && p r.path) b
 
-bridges-cons : (p : Path → Bool) (r : Row) (b : Board) → bridges p (r ∷ b) ≡ one (is_bridge r.decl && p r.path) + bridges p b
+pub bridges-cons : (p : Path → Bool) (r : Row) (b : Board) → bridges p (r ∷ b) ≡ one (is_bridge r.decl && p r.path) + bridges p b
 bridges-cons p r b = sum_by-cons (λ (s : Row). one (is_bridge s.decl && p s.path)) r b
 
 -- a bound on each path is a bound on the counts
@@ -28,11 +28,11 @@ two_for_three : (t u v x y z : Bool) → one u + one v ≤ one x + one y + one z
 two_for_three true u v x y z h = h
 two_for_three false u v x y z h = omega arith
 
-count_two : (p q s : Path → Bool) → ((x : Path) → one (p x) + one (q x) ≤ one (s x)) → (b : Board) → bridges p b + bridges q b ≤ bridges s b
+pub count_two : (p q s : Path → Bool) → ((x : Path) → one (p x) + one (q x) ≤ one (s x)) → (b : Board) → bridges p b + bridges q b ≤ bridges s b
 count_two p q s h [] = omega arith
 count_two p q s h (r ∷ b) = omega (arith, bridges-cons p r b, bridges-cons q r b, bridges-cons s r b, two_for_one (is_bridge r.decl) (p r.path) (q r.path) (s r.path) (h r.path), count_two p q s h b)
 
-count_three : (p q o s : Path → Bool) → ((x : Path) → one (p x) + one (q x) + one (o x) ≤ one (s x)) → (b : Board) → bridges p b + bridges q b + bridges o b ≤ bridges s b
+pub count_three : (p q o s : Path → Bool) → ((x : Path) → one (p x) + one (q x) + one (o x) ≤ one (s x)) → (b : Board) → bridges p b + bridges q b + bridges o b ≤ bridges s b
 count_three p q o s h [] = omega arith
 count_three p q o s h (r ∷ b) =
     omega (arith, bridges-cons p r b, bridges-cons q r b, bridges-cons o r b, bridges-cons s r b, three_for_one (is_bridge r.decl) (p r.path) (q r.path) (o r.path) (s r.path) (h r.path), count_three p q o s h b)
@@ -53,13 +53,13 @@ count_under p q s t o h (r ∷ b) =
 
 -- ---- a bridge of the board counts once
 
-abbrev at : Path → Path → Bool
+abbrev pub at : Path → Path → Bool
 at q x = path_eq x q
 
 at_least : (t : Bool) (n : ℕ) → t ≡ true → 1 ≤ one t + n
 at_least t n h = rw h (omega arith)
 
-counted : (b : Board) (q : Path) → is_bridge_at b q ≡ true → 1 ≤ bridges (at q) b
+pub counted : (b : Board) (q : Path) → is_bridge_at b q ≡ true → 1 ≤ bridges (at q) b
 counted [] q h = cc
 counted (r ∷ b) q h = by_row (is_bridge r.decl && path_eq r.path q) refl h (counted b q)
   where
@@ -93,7 +93,7 @@ one_most : (t : Bool) → one t ≤ 1
 one_most true = omega arith
 one_most false = omega arith
 
-counted_once : (b : Board) (q : Path) → EachPair (λ (r s : Row). IsTrue (path_before r.path s.path)) b → bridges (at q) b ≤ 1
+pub counted_once : (b : Board) (q : Path) → EachPair (λ (r s : Row). IsTrue (path_before r.path s.path)) b → bridges (at q) b ≤ 1
 counted_once [] q h = omega arith
 counted_once (r ∷ b) q h = by_row (path_eq r.path q) refl (counted_once b q h.1)
   where

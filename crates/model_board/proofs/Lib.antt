@@ -10,6 +10,10 @@ pub mod LawfulPlacement
 pub mod DeclaredRows
 pub mod ItemOrder
 pub mod Routes
+pub mod Scanning
+pub mod ScanPlaces
+pub mod ScanOrder
+pub mod RowsOfScans
 pub mod OnlyNamed
 pub mod Routing
 pub mod SetUpRegisters

@@ -39,7 +39,7 @@ pub leads_down : (bus : Path) (x z : Part) (zs : Path) → leads_to (bus ++ x �
 leads_down [] x z zs = both (part_eq x x) true (part_self x) refl
 leads_down (b ∷ bus) x z zs = both (part_eq b b) (leads_to (bus ++ x ∷ []) (bus ++ x ∷ z ∷ zs)) (part_self b) (leads_down bus x z zs)
 
-leads_longer : (q p : Path) → leads_to q p ≡ true → length q < length p
+pub leads_longer : (q p : Path) → leads_to q p ≡ true → length q < length p
 leads_longer [] [] h = cc
 leads_longer [] (y ∷ p) h = omega arith
 leads_longer (x ∷ q) [] h = cc
@@ -68,7 +68,7 @@ module _ (b : Board) (lawful : IsBoard b) where
   abbrev pub BridgeAt : Path → Type 0
   BridgeAt p = (r : Row) × IsIn r b × (is_bridge r.decl ≡ true) × (r.path ≡ p)
 
-  bridge_at : (p : Path) → is_bridge_at b p ≡ true → BridgeAt p
+  pub bridge_at : (p : Path) → is_bridge_at b p ≡ true → BridgeAt p
   bridge_at p h =
       let f = from_any (λ (r : Row). is_bridge r.decl && path_eq r.path p) b h in
       (f.0, f.1, left_true (is_bridge f.0.decl) (path_eq f.0.path p) f.2, path_same f.0.path p (right_true (is_bridge f.0.decl) (path_eq f.0.path p) f.2))

@@ -1,69 +1,56 @@
 -- Configuration cycles reach the function that the bus numbers name.
-use Rattle.std.proofs.Common.{◌≡◌, ℕ, zero, suc, ◌-◌, ◌≤◌, ◌<◌, ◌⊎◌, inl, inr, Bool, true, false, not, ◌&&◌, ◌||◌, cond, List, [], ◌∷◌, ◌++◌, length, Option, Some, None, refl, sym, ap, ap₂, ◌∙◌, subst, arith, eqb, leb, append_assoc}
+--     Names      a bridge's registers cover a bus number exactly where the board's numbers do
+--     reached_by_names      where all bridges do so for the number of a bus, a cycle reaches the function that stands there, or none
+use Rattle.std.proofs.Common.{◌≡◌, ℕ, ◌≤◌, ◌<◌, ◌⊎◌, inl, inr, Bool, true, false, not, ◌&&◌, ◌||◌, cond, List, [], ◌∷◌, ◌++◌, length, Option, Some, None, refl, sym, ap, ap₂, ◌∙◌, subst, arith, eqb, leb, append_assoc}
 use Rattle.std.specs.Prelude.{find, map, IsTrue}
 use Rattle.std.specs.List.{list_any}
 use Rattle.std.proofs.lemmas.Bool.Decides.{nat_tests}
 use Rattle.std.specs.Option.{option_map_or}
 use Rattle.std.proofs.lemmas.Bool.{leb-true, true≢false}
 use Rattle.model_registers.specs.Lists.{Each}
-use Rattle.model_board.specs.Board.{Board, Row, is_bridge, is_bridge_at, stands_at, IsBoard}
-use Rattle.model_board.specs.Paths.{Part, Path, part_eq, part_before, path_eq, path_before, leads_to, parent, last_part, IsPath}
-use Rattle.model_board.specs.BusNumbers.{secondary, subordinate}
-use Rattle.model_board.specs.State.{BoardFunction}
-use Rattle.model_board.specs.Cycles.{is_route, takes, taker, covers, ends_in, secondary_register, subordinate_register}
-use Rattle.model_board.specs.Numbering.{NumbersLead}
-use Rattle.model_board.specs.Reach.{row_at, HasNumbers, ReachedByNumbers}
-use Rattle.model_board.proofs.PathOrder.{part_same, path_same}
 use Rattle.model_registers.proofs.Tests.{left_true, right_true}
+use Rattle.model_registers.proofs.EachLemmas.{each_map}
+use Rattle.model_board.specs.Members.{IsIn}
+use Rattle.model_board.specs.Board.{Board, Row, is_bridge, is_bridge_at, IsBoard}
+use Rattle.model_board.specs.Paths.{Part, Path, part_eq, part_before, path_eq, path_before, leads_to, parent, last_part, IsPath}
+use Rattle.model_board.specs.BusNumbers.{secondary, subordinate, bus_behind}
+use Rattle.model_board.specs.State.{BoardFunction}
+use Rattle.model_board.specs.Cycles.{is_route, takes, taker, covers, ends_in, secondary_register, subordinate_register, reached}
+use Rattle.model_board.specs.Numbering.{NumbersLead}
+use Rattle.model_board.specs.Reach.{row_at, HasNumbers, ReachedByNumbers, address_of}
+use Rattle.model_board.proofs.Members.{each_in, in_map, from_map, any_in, from_any}
+use Rattle.model_board.proofs.PathOrder.{part_same, path_same}
+use Rattle.model_board.proofs.PathEnds.{part_self, path_self, snoc, parent_snoc}
+use Rattle.model_board.proofs.Partings.{BridgeAt, bridge_at, bridge_above, leads_down}
 use Rattle.model_board.proofs.BusNumbers.{numbering}
 
 -- ---- find
 
-found_cases : {A : Type 0} (t : A → Bool) (P : A → Type 0) (x : A) (xs : List A) (c : Bool) → t x ≡ c → P x → (c || list_any t xs) ≡ true
-    → (list_any t xs ≡ true → (f : A) × (find t xs ≡ Some f) × (t f ≡ true) × P f)
-    → (f : A) × (cond c (Some x) (find t xs) ≡ Some f) × (t f ≡ true) × P f
-found_cases t P x xs true e p h more = (x, refl, e, p)
-found_cases t P x xs false e p h more = more h
+pub found : {A : Type 0} (t : A → Bool) (xs : List A) → list_any t xs ≡ true → (f : A) × (find t xs ≡ Some f) × IsIn f xs × (t f ≡ true)
+found t [] h = cc
+found {A} t (x ∷ xs) h = by_test (t x) refl h (found t xs)
+  where
+    later : (f : A) × (find t xs ≡ Some f) × IsIn f xs × (t f ≡ true) → (f : A) × (find t xs ≡ Some f) × IsIn f (x ∷ xs) × (t f ≡ true)
+    later (f, e, m, k) = (f, e, inr m, k)
 
-found : {A : Type 0} (t : A → Bool) (P : A → Type 0) (xs : List A) → Each P xs → list_any t xs ≡ true → (f : A) × (find t xs ≡ Some f) × (t f ≡ true) × P f
-found t P [] ps h = cc
-found t P (x ∷ xs) ps h = found_cases t P x xs (t x) refl ps.0 h (found t P xs ps.1)
+    by_test : (c : Bool) → t x ≡ c → (c || list_any t xs) ≡ true → (list_any t xs ≡ true → (f : A) × (find t xs ≡ Some f) × IsIn f xs × (t f ≡ true))
+        → (f : A) × (cond c (Some x) (find t xs) ≡ Some f) × IsIn f (x ∷ xs) × (t f ≡ true)
+    by_test true e k more = (x, refl, inl refl, e)
+    by_test false e k more = later (more k)
 
-any_later : (a b : Bool) → b ≡ true → (a || b) ≡ true
-any_later true b h = refl
-any_later false b h = h
+find_same : {A : Type 0} (s t : A → Bool) → ((x : A) → s x ≡ t x) → (xs : List A) → find s xs ≡ find t xs
+find_same s t h [] = refl
+find_same s t h (x ∷ xs) = ap₂ (λ c o. cond c (Some x) o) (h x) (find_same s t h xs)
 
-any_first : (a b : Bool) → a ≡ true → (a || b) ≡ true
-any_first a b h = rw h
+pub same_test : (c d : Bool) → (c ≡ true → d ≡ true) → (d ≡ true → c ≡ true) → c ≡ d
+same_test true d h k = sym (h refl)
+same_test false true h k = k refl
+same_test false false h k = refl
 
-each_weaker : {A : Type 0} (P Q : A → Type 0) (xs : List A) → ((x : A) → P x → Q x) → Each P xs → Each Q xs
-each_weaker P Q [] f h = tt
-each_weaker P Q (x ∷ xs) f h = (f x h.0, each_weaker P Q xs f h.1)
-
-each_both : {A : Type 0} (P Q : A → Type 0) (xs : List A) → Each P xs → Each Q xs → Each (λ x. P x × Q x) xs
-each_both P Q [] h k = tt
-each_both P Q (x ∷ xs) h k = ((h.0, k.0), each_both P Q xs h.1 k.1)
-
--- what one element passes, some element passes
-members : {A : Type 0} (xs : List A) → Each (λ x. (s : A → Bool) → s x ≡ true → list_any s xs ≡ true) xs
-members [] = tt
-members {A} (x ∷ xs) = (
-  (λ s h. any_first (s x) (list_any s xs) h),
-  each_weaker (λ y. (s : A → Bool) → s y ≡ true → list_any s xs ≡ true) (λ y. (s : A → Bool) → s y ≡ true → list_any s (x ∷ xs) ≡ true) xs (λ y f s h. any_later (s x) (list_any s xs) (f s h)) (members xs),
-)
-
-any_map : {A B : Type 0} (g : A → B) (s : B → Bool) (xs : List A) → list_any s (map g xs) ≡ list_any (λ x. s (g x)) xs
-any_map g s [] = refl
-any_map g s (x ∷ xs) = ap (λ c. s (g x) || c) (any_map g s xs)
+both_true : (c d : Bool) → c ≡ true → d ≡ true → (c && d) ≡ true
+both_true c d h k = rw (h, k)
 
 -- ---- paths
-
-part_self : (a : Part) → part_eq a a ≡ true
-part_self a = grind (arith, nat_tests)
-
-path_self : (p : Path) → path_eq p p ≡ true
-path_self [] = refl
-path_self (a ∷ p) = rw (part_self a) (path_self p)
 
 part_total : (a b : Part) → part_before a b ≡ false → part_eq a b ≡ false → part_before b a ≡ true
 part_total a b h k = grind (arith, nat_tests)
@@ -79,7 +66,14 @@ or_right : (a b : Bool) → (a || b) ≡ false → b ≡ false
 or_right true b h = cc
 or_right false b h = h
 
-total : (p q : Path) → path_before p q ≡ false → path_eq p q ≡ false → path_before q p ≡ true
+or_first : (a b : Bool) → a ≡ true → (a || b) ≡ true
+or_first a b h = rw h
+
+or_second : (a b : Bool) → b ≡ true → (a || b) ≡ true
+or_second true b h = refl
+or_second false b h = h
+
+pub total : (p q : Path) → path_before p q ≡ false → path_eq p q ≡ false → path_before q p ≡ true
 total [] [] h k = cc
 total [] (b ∷ q) h k = cc
 total (a ∷ p) [] h k = refl
@@ -93,19 +87,8 @@ total (a ∷ p) (b ∷ q) h k = by_head (part_eq a b) refl (total p q)
         let rest : path_before p q ≡ false = rw e at (or_right (part_before a b) (part_eq a b && path_before p q) h) in
         let other : path_eq p q ≡ false = rw e at k in
         let turned : part_eq b a ≡ true = part_eq-sym b a ∙ e in
-        rw (turned, more rest other) (any_later (part_before b a) true refl)
-    by_head false e more = any_first (part_before b a) (part_eq b a && path_before q p) (part_total a b no_before e)
-
--- a path is its parent and its last part
-snoc : (p : Path) → 0 < length p → p ≡ parent p ++ last_part p ∷ []
-snoc [] h = absurd (omega arith)
-snoc (a ∷ []) h = refl
-snoc (a ∷ b ∷ p) h = ap (λ (q : Path). a ∷ q) (snoc (b ∷ p) (omega arith))
-
-parent_snoc : (above : Path) (p : Part) → parent (above ++ p ∷ []) ≡ above
-parent_snoc [] p = refl
-parent_snoc (a ∷ []) p = refl
-parent_snoc (a ∷ b ∷ above) p = ap (λ (q : Path). a ∷ q) (parent_snoc (b ∷ above) p)
+        rw (turned, more rest other) (or_second (part_before b a) true refl)
+    by_head false e more = or_first (part_before b a) (part_eq b a && path_before q p) (part_total a b no_before e)
 
 -- a path that begins as another and is at it or above it names the other's next part
 next_leads : (above : Path) (x p : Part) (rest : Path) → leads_to (above ++ x ∷ []) (above ++ p ∷ rest) ≡ true → part_eq x p ≡ true
@@ -116,14 +99,9 @@ next_equal : (above : Path) (x p : Part) (rest : Path) → path_eq (above ++ x �
 next_equal [] x p rest h = left_true (part_eq x p) (path_eq [] rest) h
 next_equal (a ∷ above) x p rest h = next_equal above x p rest (right_true (part_eq a a) (path_eq (above ++ x ∷ []) (above ++ p ∷ rest)) h)
 
-down_leads : (above : Path) (p q : Part) (rest : Path) → leads_to (above ++ p ∷ []) (above ++ p ∷ q ∷ rest) ≡ true
-down_leads [] p q rest = rw (part_self p)
-down_leads (a ∷ above) p q rest = rw (part_self a) (down_leads above p q rest)
-
-parent_length : (p : Path) → length (parent p) ≤ length p - 1
-parent_length [] = omega arith
-parent_length (a ∷ []) = omega arith
-parent_length (a ∷ b ∷ p) = omega (arith, parent_length (b ∷ p))
+snoc_some : (above : Path) (p : Part) → 0 < length (above ++ p ∷ [])
+snoc_some [] p = omega arith
+snoc_some (a ∷ above) p = omega arith
 
 self : (n : ℕ) → eqb n n ≡ true
 self n = grind (arith, nat_tests)
@@ -133,208 +111,6 @@ positive n h = grind (arith, nat_tests)
 
 differs : (m n : ℕ) → m < n → eqb m n ≡ false
 differs m n h = grind (arith, nat_tests)
-
--- ---- bridges of the board
-
-module _ (b : Board) (lawful : IsBoard b) (fs : List BoardFunction) (has : HasNumbers b fs) where
-  -- a function of the list, if it is a bridge, is a bridge of the board and holds its numbers
-  record Known (f : BoardFunction) : Type 0 where
-    stands : is_bridge f.decl ≡ true → is_bridge_at b f.path ≡ true
-    numbers : is_bridge f.decl ≡ true → (secondary_register f.file ≡ secondary b f.path) × (subordinate_register f.file ≡ subordinate b f.path)
-    some : 0 < length f.path
-
-  bridge_test : Path → BoardFunction → Bool
-  bridge_test p f = is_bridge f.decl && path_eq f.path p
-
-  in_list : (p : Path) → is_bridge_at b p ≡ true → list_any (λ (f : BoardFunction). is_bridge f.decl && path_eq f.path p) fs ≡ true
-  in_list p h = sym (any_map row_at (λ r. is_bridge r.decl && path_eq r.path p) fs) ∙ ap (λ (c : Board). is_bridge_at c p) has.rows ∙ h
-
-  in_board : (p : Path) → list_any (λ (f : BoardFunction). is_bridge f.decl && path_eq f.path p) fs ≡ true → is_bridge_at b p ≡ true
-  in_board p h = ap (λ (c : Board). is_bridge_at c p) (sym has.rows) ∙ any_map row_at (λ r. is_bridge r.decl && path_eq r.path p) fs ∙ h
-
-  paths_of : (gs : List BoardFunction) (c : Board) → map row_at gs ≡ c → Each (λ r. IsPath r.path) c → Each (λ f. 0 < length f.path) gs
-  paths_of gs c e h = go gs (subst (λ (d : Board). Each (λ r. IsPath r.path) d) (sym e) h)
-    where
-      go : (gs : List BoardFunction) → Each (λ r. IsPath r.path) (map row_at gs) → Each (λ f. 0 < length f.path) gs
-      go [] h = tt
-      go (g ∷ gs) h = (h.0.some, go gs h.1)
-
-  both_true : (c d : Bool) → c ≡ true → d ≡ true → (c && d) ≡ true
-  both_true c d h k = rw (h, k)
-
-  known : Each Known fs
-  known =
-      each_weaker (λ f. ((s : BoardFunction → Bool) → s f ≡ true → list_any s fs ≡ true) × ((IsTrue (is_bridge f.decl) → (secondary_register f.file ≡ secondary b f.path) × (subordinate_register f.file ≡ subordinate b f.path)) × (0 < length f.path))) Known fs
-      (λ f h. record {
-        stands = λ k. in_board f.path (h.0 (λ g. is_bridge g.decl && path_eq g.path f.path) (both_true (is_bridge f.decl) (path_eq f.path f.path) k (path_self f.path)));
-        numbers = h.1.0;
-        some = h.1.1;
-      })
-      (each_both (λ f. (s : BoardFunction → Bool) → s f ≡ true → list_any s fs ≡ true) (λ f. (IsTrue (is_bridge f.decl) → (secondary_register f.file ≡ secondary b f.path) × (subordinate_register f.file ≡ subordinate b f.path)) × (0 < length f.path)) fs
-      (members fs)
-      (each_both (λ f. IsTrue (is_bridge f.decl) → (secondary_register f.file ≡ secondary b f.path) × (subordinate_register f.file ≡ subordinate b f.path)) (λ f. 0 < length f.path) fs has.numbers (paths_of fs b has.rows lawful.paths)))
-
-  -- a bridge whose numbers cover r's is r or leads to it
-  abbrev IsOver : Path → Path → Type 0
-  IsOver p r = (path_eq p r ≡ true) ⊎ (leads_to p r ≡ true)
-
-  over : (p r : Path) → is_bridge_at b p ≡ true → is_bridge_at b r ≡ true → secondary b p ≤ secondary b r → secondary b r ≤ subordinate b p → IsOver p r
-  over p r hp hr low high = by_equal (path_eq p r) refl
-    where
-      n : NumbersLead b p r
-      n = numbering b lawful p r hp hr
-
-      by_leads : (t u : Bool) → leads_to p r ≡ t → path_before p r ≡ u → path_eq p r ≡ false → IsOver p r
-      by_leads true u e k d = inr e
-      by_leads false true e k d = absurd (omega (arith, n.later k e))
-      by_leads false false e k d = absurd (omega (arith, n.earlier (total p r k d)))
-
-      by_equal : (t : Bool) → path_eq p r ≡ t → IsOver p r
-      by_equal true e = inl e
-      by_equal false e = by_leads (leads_to p r) (path_before p r) refl refl e
-
-  -- the numbers of a bridge on r's path cover r's
-  covering : (above : Path) (p : Part) (rest : Path) → is_bridge_at b (above ++ p ∷ rest) ≡ true → is_bridge_at b (above ++ p ∷ []) ≡ true
-      → (secondary b (above ++ p ∷ []) ≤ secondary b (above ++ p ∷ rest)) × (secondary b (above ++ p ∷ rest) ≤ subordinate b (above ++ p ∷ []))
-  covering above p [] hr hp = (omega arith, omega arith)
-  covering above p (q ∷ rest) hr hp =
-      let n = numbering b lawful (above ++ p ∷ []) (above ++ p ∷ q ∷ rest) hp hr in
-      let i = n.inside (down_leads above p q rest) in
-      (omega (arith, i.0), i.1)
-
-  le_test : (m n : ℕ) → m ≤ n → leb m n ≡ true
-  le_test m n h = grind (arith, nat_tests)
-
-  -- the bridge that takes a cycle for r's bus on the bus above is the next one on r's path
-  abbrev Taken : Path → Part → Path → Type 0
-  Taken above p rest = (f : BoardFunction) × (taker fs above (secondary b (above ++ p ∷ rest)) ≡ Some f) × (f.path ≡ above ++ p ∷ []) × (secondary_register f.file ≡ secondary b (above ++ p ∷ []))
-
-  abbrev test_of : Path → ℕ → BoardFunction → Bool
-  test_of above n f = path_eq (parent f.path) above && covers n f
-
-  abbrev Member : BoardFunction → Type 0
-  Member f = Known f × ((s : BoardFunction → Bool) → s f ≡ true → list_any s fs ≡ true)
-
-  each_member : Each Member fs
-  each_member = each_both Known (λ f. (s : BoardFunction → Bool) → s f ≡ true → list_any s fs ≡ true) fs known (members fs)
-
-  passes : (above : Path) (p : Part) (rest : Path) → is_bridge_at b (above ++ p ∷ rest) ≡ true → is_bridge_at b (above ++ p ∷ []) ≡ true
-      → list_any (test_of above (secondary b (above ++ p ∷ rest))) fs ≡ true
-  passes above p rest hr hp =
-      let g = found (λ f. is_bridge f.decl && path_eq f.path (above ++ p ∷ [])) Member fs each_member (in_list (above ++ p ∷ []) hp) in
-      let bridge_is : is_bridge g.0.decl ≡ true = left_true (is_bridge g.0.decl) (path_eq g.0.path (above ++ p ∷ [])) g.2 in
-      let path_is : g.0.path ≡ above ++ p ∷ [] = path_same g.0.path (above ++ p ∷ []) (right_true (is_bridge g.0.decl) (path_eq g.0.path (above ++ p ∷ [])) g.2) in
-      let numbers = g.3.0.numbers bridge_is in
-      let low : secondary_register g.0.file ≡ secondary b (above ++ p ∷ []) = numbers.0 ∙ ap (secondary b) path_is in
-      let high : subordinate_register g.0.file ≡ subordinate b (above ++ p ∷ []) = numbers.1 ∙ ap (subordinate b) path_is in
-      let cover = covering above p rest hr hp in
-      let n : ℕ = secondary b (above ++ p ∷ rest) in
-      let parent_is : path_eq (parent g.0.path) above ≡ true = ap (λ (x : Path). path_eq x above) (ap parent path_is ∙ parent_snoc above p) ∙ path_self above in
-      let le_low : leb (secondary_register g.0.file) n ≡ true = ap (λ k. leb k n) low ∙ le_test (secondary b (above ++ p ∷ [])) n cover.0 in
-      let le_high : leb n (subordinate_register g.0.file) ≡ true = ap (λ k. leb n k) high ∙ le_test n (subordinate b (above ++ p ∷ [])) cover.1 in
-      g.3.1 (test_of above n)
-      (both_true (path_eq (parent g.0.path) above) (covers n g.0) parent_is
-      (both_true (is_bridge g.0.decl && leb (secondary_register g.0.file) n) (leb n (subordinate_register g.0.file))
-      (both_true (is_bridge g.0.decl) (leb (secondary_register g.0.file) n) bridge_is le_low) le_high))
-
-  next_part : (above : Path) (x p : Part) (rest : Path) → IsOver (above ++ x ∷ []) (above ++ p ∷ rest) → x ≡ p
-  next_part above x p rest (inl e) = part_same x p (next_equal above x p rest e)
-  next_part above x p rest (inr e) = part_same x p (next_leads above x p rest e)
-
-  taken : (above : Path) (p : Part) (rest : Path) → is_bridge_at b (above ++ p ∷ rest) ≡ true → is_bridge_at b (above ++ p ∷ []) ≡ true → Taken above p rest
-  taken above p rest hr hp =
-      let n : ℕ = secondary b (above ++ p ∷ rest) in
-      let f = found (test_of above n) Member fs each_member (passes above p rest hr hp) in
-      let parent_is : parent f.0.path ≡ above = path_same (parent f.0.path) above (left_true (path_eq (parent f.0.path) above) (covers n f.0) f.2) in
-      let cover : covers n f.0 ≡ true = right_true (path_eq (parent f.0.path) above) (covers n f.0) f.2 in
-      let two : (is_bridge f.0.decl && leb (secondary_register f.0.file) n) ≡ true = left_true (is_bridge f.0.decl && leb (secondary_register f.0.file) n) (leb n (subordinate_register f.0.file)) cover in
-      let bridge_is : is_bridge f.0.decl ≡ true = left_true (is_bridge f.0.decl) (leb (secondary_register f.0.file) n) two in
-      let numbers = f.3.0.numbers bridge_is in
-      let low : secondary_register f.0.file ≤ n = leb-true (secondary_register f.0.file) n (right_true (is_bridge f.0.decl) (leb (secondary_register f.0.file) n) two) in
-      let high : n ≤ subordinate_register f.0.file = leb-true n (subordinate_register f.0.file) (right_true (is_bridge f.0.decl && leb (secondary_register f.0.file) n) (leb n (subordinate_register f.0.file)) cover) in
-      let split : f.0.path ≡ above ++ last_part f.0.path ∷ [] = snoc f.0.path f.3.0.some ∙ ap (λ (x : Path). x ++ last_part f.0.path ∷ []) parent_is in
-      let is_over : IsOver f.0.path (above ++ p ∷ rest) =
-      over f.0.path (above ++ p ∷ rest) (f.3.0.stands bridge_is) hr (subst (λ k. k ≤ n) numbers.0 low) (subst (λ k. n ≤ k) numbers.1 high) in
-      let same : last_part f.0.path ≡ p = next_part above (last_part f.0.path) p rest (subst (λ (x : Path). IsOver x (above ++ p ∷ rest)) split is_over) in
-      let path_is : f.0.path ≡ above ++ p ∷ [] = split ∙ ap (λ (x : Part). above ++ x ∷ []) same in
-      (f.0, f.1, path_is, numbers.0 ∙ ap (secondary b) path_is)
-
-  -- ---- beginnings of a bridge's path are bridges' paths
-
-  parent_bridge : (a : Part) (above : Path) (z : Part) → stands_at b (a ∷ above ++ z ∷ []) ≡ true → is_bridge_at b (a ∷ above) ≡ true
-  parent_bridge a above z h =
-      let r = found (λ (s : Row). path_eq s.path (a ∷ above ++ z ∷ [])) (λ s. (parent s.path ≡ []) ⊎ IsTrue (is_bridge_at b (parent s.path))) b lawful.behind_bridges h in
-      let path_is : parent r.0.path ≡ a ∷ above = ap parent (path_same r.0.path (a ∷ above ++ z ∷ []) r.2) ∙ parent_snoc (a ∷ above) z in
-      by_parent (parent r.0.path) path_is r.3
-    where
-      by_parent : (q : Path) → q ≡ a ∷ above → (q ≡ []) ⊎ IsTrue (is_bridge_at b q) → is_bridge_at b (a ∷ above) ≡ true
-      by_parent q e (inl none) = cc
-      by_parent q e (inr found) = subst (λ (x : Path). is_bridge_at b x ≡ true) e found
-
-  stands : (bs : Board) (p : Path) → is_bridge_at bs p ≡ true → stands_at bs p ≡ true
-  stands [] p h = h
-  stands (r ∷ bs) p h = by_row (is_bridge r.decl) (path_eq r.path p) h (stands bs p)
-    where
-      by_row : (t u : Bool) → (t && u || is_bridge_at bs p) ≡ true → (is_bridge_at bs p ≡ true → stands_at bs p ≡ true) → (u || stands_at bs p) ≡ true
-      by_row t true h more = refl
-      by_row true false h more = more h
-      by_row false false h more = more h
-
-  -- n bounds the length of the rest
-  beginning : (n : ℕ) (above : Path) (p : Part) (rest : Path) → length rest ≤ n → is_bridge_at b (above ++ p ∷ rest) ≡ true → is_bridge_at b (above ++ p ∷ []) ≡ true
-  beginning n above p [] few h = h
-  beginning zero above p (q ∷ rest) few h = absurd (omega arith)
-  beginning (suc n) above p (q ∷ rest) few h = beginning n above p (parent (q ∷ rest)) shorter (shorten above (stands b (above ++ p ∷ q ∷ rest) h))
-    where
-      shorter : length (parent (q ∷ rest)) ≤ n
-      shorter = omega (arith, parent_length (q ∷ rest))
-
-      longer : q ∷ rest ≡ parent (q ∷ rest) ++ last_part (q ∷ rest) ∷ []
-      longer = snoc (q ∷ rest) (omega arith)
-
-      shorten : (above : Path) → stands_at b (above ++ p ∷ q ∷ rest) ≡ true → is_bridge_at b (above ++ p ∷ parent (q ∷ rest)) ≡ true
-      shorten [] k = parent_bridge p (parent (q ∷ rest)) (last_part (q ∷ rest)) (subst (λ (x : Path). stands_at b (p ∷ x) ≡ true) longer k)
-      shorten (a ∷ up) k =
-          parent_bridge a (up ++ p ∷ parent (q ∷ rest)) (last_part (q ∷ rest))
-          (subst (λ (x : Path). stands_at b (a ∷ x) ≡ true) (ap (λ (x : Path). up ++ p ∷ x) longer ∙ sym (append_assoc up (p ∷ parent (q ∷ rest)) (last_part (q ∷ rest) ∷ []))) k)
-
-  -- ---- the route
-
-  takes_by : (above : Path) (n : ℕ) (p : Part) (ends : Bool) → (f : BoardFunction) × (taker fs above n ≡ Some f) × (path_eq f.path (above ++ p ∷ []) ≡ true) × (cond (eqb (secondary_register f.file) n) ends (not ends) ≡ true)
-      → takes fs above n p ends ≡ true
-  takes_by above n p ends (f, e, h, k) = rw (e, h, k)
-
-  takes_last : (above : Path) (p : Part) → is_bridge_at b (above ++ p ∷ []) ≡ true → takes fs above (secondary b (above ++ p ∷ [])) p true ≡ true
-  takes_last above p h =
-      let t : Taken above p [] = taken above p [] h h in
-      let n : ℕ = secondary b (above ++ p ∷ []) in
-      let here : eqb (secondary_register t.0.file) n ≡ true = ap (λ k. eqb k n) t.3 ∙ self n in
-      takes_by above n p true (t.0, t.1, ap (λ (x : Path). path_eq x (above ++ p ∷ [])) t.2 ∙ path_self (above ++ p ∷ []), rw here)
-
-  takes_next : (above : Path) (p q : Part) (rest : Path) → is_bridge_at b (above ++ p ∷ q ∷ rest) ≡ true → is_bridge_at b (above ++ p ∷ []) ≡ true → takes fs above (secondary b (above ++ p ∷ q ∷ rest)) p false ≡ true
-  takes_next above p q rest hr hp =
-      let t : Taken above p (q ∷ rest) = taken above p (q ∷ rest) hr hp in
-      let n : ℕ = secondary b (above ++ p ∷ q ∷ rest) in
-      let below = (numbering b lawful (above ++ p ∷ []) (above ++ p ∷ q ∷ rest) hp hr).inside (down_leads above p q rest) in
-      let other : eqb (secondary_register t.0.file) n ≡ false = ap (λ k. eqb k n) t.3 ∙ differs (secondary b (above ++ p ∷ [])) n below.0 in
-      takes_by above n p false (t.0, t.1, ap (λ (x : Path). path_eq x (above ++ p ∷ [])) t.2 ∙ path_self (above ++ p ∷ []), rw other)
-
-  moved : (above : Path) (p : Part) (rest : Path) → above ++ p ∷ rest ≡ (above ++ p ∷ []) ++ rest
-  moved above p rest = sym (append_assoc above (p ∷ []) rest)
-
-  route : (rs : Path) (p q : Part) (above : Path) → is_bridge_at b (above ++ p ∷ rs) ≡ true → is_route fs (secondary b (above ++ p ∷ rs)) above (p ∷ rs ++ q ∷ []) ≡ true
-  route [] p q above h = takes_last above p h
-  route (s ∷ rs) p q above h =
-      let hp : is_bridge_at b (above ++ p ∷ []) ≡ true = beginning (length (s ∷ rs)) above p (s ∷ rs) (omega arith) h in
-      let e : above ++ p ∷ s ∷ rs ≡ (above ++ p ∷ []) ++ s ∷ rs = moved above p (s ∷ rs) in
-      let further : is_route fs (secondary b ((above ++ p ∷ []) ++ s ∷ rs)) (above ++ p ∷ []) (s ∷ rs ++ q ∷ []) ≡ true =
-      route rs s q (above ++ p ∷ []) (subst (λ (x : Path). is_bridge_at b x ≡ true) e h) in
-      two_parts rs (takes_next above p s rs h hp) (subst (λ (x : Path). is_route fs (secondary b x) (above ++ p ∷ []) (s ∷ rs ++ q ∷ []) ≡ true) (sym e) further)
-    where
-      two_parts : (ts : Path) → takes fs above (secondary b (above ++ p ∷ s ∷ rs)) p false ≡ true → is_route fs (secondary b (above ++ p ∷ s ∷ rs)) (above ++ p ∷ []) (s ∷ ts ++ q ∷ []) ≡ true
-          → is_route fs (secondary b (above ++ p ∷ s ∷ rs)) above (p ∷ s ∷ ts ++ q ∷ []) ≡ true
-      two_parts [] t r = both_true _ _ t r
-      two_parts (u ∷ ts) t r = both_true _ _ t r
 
 -- ---- at most one route, in any register state
 
@@ -380,40 +156,210 @@ module _ (fs : List BoardFunction) (n : ℕ) (t : Part) where
       subst (λ (u : Part). is_route fs n (above ++ u ∷ []) (y ∷ z ∷ q) ≡ true) (sym s.0) (right_true (takes fs above n x false) (is_route fs n (above ++ x ∷ []) (y ∷ z ∷ q)) k) in
       ap₂ (λ (u : Part) (r : Path). u ∷ r) s.0 (one_route (c ∷ b ∷ p) (y ∷ z ∷ q) (above ++ a ∷ []) (right_true (takes fs above n a false) (is_route fs n (above ++ a ∷ []) (c ∷ b ∷ p)) h) below e d)
 
+-- ---- bridges of the board
+
+-- the registers of a bridge cover n exactly where the board's numbers do, and then its Secondary is the board's
+pub record Names (b : Board) (n : ℕ) (f : BoardFunction) : Type 0 where
+  pub covers_when : secondary b f.path ≤ n → n ≤ subordinate b f.path → covers n f ≡ true
+  pub covered : covers n f ≡ true → (secondary b f.path ≤ n) × (n ≤ subordinate b f.path) × (secondary_register f.file ≡ secondary b f.path)
+
+module _ (b : Board) (lawful : IsBoard b) (fs : List BoardFunction) (rows : map row_at fs ≡ b) where
+  row_in : (f : BoardFunction) → IsIn f fs → IsIn (row_at f) b
+  row_in f m = subst (λ (c : Board). IsIn (row_at f) c) rows (in_map row_at f fs m)
+
+  pub bridge_of : (f : BoardFunction) → IsIn f fs → is_bridge f.decl ≡ true → is_bridge_at b f.path ≡ true
+  bridge_of f m k = any_in (λ (r : Row). is_bridge r.decl && path_eq r.path f.path) (row_at f) b (row_in f m) (both_true (is_bridge f.decl) (path_eq f.path f.path) k (path_self f.path))
+
+  pub function_of : (r : Row) → IsIn r b → (f : BoardFunction) × IsIn f fs × (row_at f ≡ r)
+  function_of r m = turned (from_map row_at r fs (subst (λ (c : Board). IsIn r c) (sym rows) m))
+    where
+      turned : (f : BoardFunction) × IsIn f fs × (r ≡ row_at f) → (f : BoardFunction) × IsIn f fs × (row_at f ≡ r)
+      turned (f, l, e) = (f, l, sym e)
+
+  module _ (target : Path) (is_target : is_bridge_at b target ≡ true) (names : Each (λ f. IsTrue (is_bridge f.decl) → Names b (secondary b target) f) fs) where
+    abbrev goal : ℕ
+    goal = secondary b target
+
+    named : (f : BoardFunction) → IsIn f fs → is_bridge f.decl ≡ true → Names b goal f
+    named f m k = each_in (λ (g : BoardFunction). IsTrue (is_bridge g.decl) → Names b goal g) f fs names m k
+
+    -- a bridge whose numbers cover the target's is the target or leads to it
+    over : (p : Path) → is_bridge_at b p ≡ true → secondary b p ≤ goal → goal ≤ subordinate b p → (path_eq p target ≡ true) ⊎ (leads_to p target ≡ true)
+    over p h low high = by_equal (path_eq p target) refl
+      where
+        numbers : NumbersLead b p target
+        numbers = numbering b lawful p target h is_target
+
+        by_leads : (t u : Bool) → leads_to p target ≡ t → path_before p target ≡ u → path_eq p target ≡ false → (path_eq p target ≡ true) ⊎ (leads_to p target ≡ true)
+        by_leads true u e k d = inr e
+        by_leads false true e k d = absurd (omega (arith, numbers.later k e))
+        by_leads false false e k d = absurd (omega (arith, numbers.earlier (total p target k d)))
+
+        by_equal : (t : Bool) → path_eq p target ≡ t → (path_eq p target ≡ true) ⊎ (leads_to p target ≡ true)
+        by_equal true e = inl e
+        by_equal false e = by_leads (leads_to p target) (path_before p target) refl refl e
+
+    -- each beginning of the target is a bridge's path
+    bridge_on_way : (above : Path) (p : Part) (rest : Path) → target ≡ above ++ p ∷ rest → BridgeAt b lawful (above ++ p ∷ [])
+    bridge_on_way above p [] e = bridge_at b lawful (above ++ p ∷ []) (subst (λ (x : Path). is_bridge_at b x ≡ true) e is_target)
+    bridge_on_way above p (q ∷ rest) e =
+        let t = bridge_at b lawful target is_target in
+        bridge_above b lawful t.0 (above ++ p ∷ []) t.1 (subst (λ (x : Path). leads_to (above ++ p ∷ []) x ≡ true) (sym (t.3 ∙ e)) (leads_down above p q rest)) (snoc_some above p)
+
+    stands_on_way : (above : Path) (p : Part) (rest : Path) → target ≡ above ++ p ∷ rest → (f : BoardFunction) × IsIn f fs × (is_bridge f.decl ≡ true) × (f.path ≡ above ++ p ∷ [])
+    stands_on_way above p rest e =
+        let t = bridge_on_way above p rest e in
+        let f = function_of t.0 t.1 in
+        (f.0, f.1, ap (λ (r : Row). is_bridge r.decl) f.2 ∙ t.2, ap (λ (r : Row). r.path) f.2 ∙ t.3)
+
+    covering : (above : Path) (p : Part) (rest : Path) → target ≡ above ++ p ∷ rest → is_bridge_at b (above ++ p ∷ []) ≡ true
+        → (secondary b (above ++ p ∷ []) ≤ goal) × (goal ≤ subordinate b (above ++ p ∷ []))
+    covering above p [] e h = subst (λ (x : Path). (secondary b x ≤ goal) × (goal ≤ subordinate b x)) e (omega arith, omega arith)
+    covering above p (q ∷ rest) e h =
+        let leads : leads_to (above ++ p ∷ []) target ≡ true = subst (λ (x : Path). leads_to (above ++ p ∷ []) x ≡ true) (sym e) (leads_down above p q rest) in
+        let i = (numbering b lawful (above ++ p ∷ []) target h is_target).inside leads in
+        (omega (arith, i.0), i.1)
+
+    abbrev test_on : Path → BoardFunction → Bool
+    test_on above f = path_eq (parent f.path) above && covers goal f
+
+    -- the bridge that takes a cycle for the target's bus on the bus above is the next one on the way
+    abbrev Taken : Path → Part → Type 0
+    Taken above p = (f : BoardFunction) × (taker fs above goal ≡ Some f) × (f.path ≡ above ++ p ∷ []) × (secondary_register f.file ≡ secondary b (above ++ p ∷ []))
+
+    passes : (above : Path) (p : Part) (rest : Path) → target ≡ above ++ p ∷ rest → list_any (test_on above) fs ≡ true
+    passes above p rest e =
+        let g = stands_on_way above p rest e in
+        let h : is_bridge_at b (above ++ p ∷ []) ≡ true = subst (λ (x : Path). is_bridge_at b x ≡ true) g.3 (bridge_of g.0 g.1 g.2) in
+        let cover = subst (λ (x : Path). (secondary b x ≤ goal) × (goal ≤ subordinate b x)) (sym g.3) (covering above p rest e h) in
+        let parent_is : path_eq (parent g.0.path) above ≡ true = ap (λ (x : Path). path_eq x above) (ap parent g.3 ∙ parent_snoc above p) ∙ path_self above in
+        any_in (test_on above) g.0 fs g.1 (both_true (path_eq (parent g.0.path) above) (covers goal g.0) parent_is ((named g.0 g.1 g.2).covers_when cover.0 cover.1))
+
+    next_part : (above : Path) (x p : Part) (rest : Path) → (path_eq (above ++ x ∷ []) (above ++ p ∷ rest) ≡ true) ⊎ (leads_to (above ++ x ∷ []) (above ++ p ∷ rest) ≡ true) → x ≡ p
+    next_part above x p rest (inl e) = part_same x p (next_equal above x p rest e)
+    next_part above x p rest (inr e) = part_same x p (next_leads above x p rest e)
+
+    taken : (above : Path) (p : Part) (rest : Path) → target ≡ above ++ p ∷ rest → Taken above p
+    taken above p rest e =
+        let f = found (test_on above) fs (passes above p rest e) in
+        let parent_is : parent f.0.path ≡ above = path_same (parent f.0.path) above (left_true (path_eq (parent f.0.path) above) (covers goal f.0) f.3) in
+        let cover : covers goal f.0 ≡ true = right_true (path_eq (parent f.0.path) above) (covers goal f.0) f.3 in
+        let low : (is_bridge f.0.decl && leb (secondary_register f.0.file) goal) ≡ true = left_true (is_bridge f.0.decl && leb (secondary_register f.0.file) goal) (leb goal (subordinate_register f.0.file)) cover in
+        let bridge_is : is_bridge f.0.decl ≡ true = left_true (is_bridge f.0.decl) (leb (secondary_register f.0.file) goal) low in
+        let numbers = (named f.0 f.2 bridge_is).covered cover in
+        let path_some : 0 < length f.0.path = (each_in (λ (r : Row). IsPath r.path) (row_at f.0) b lawful.paths (row_in f.0 f.2)).some in
+        let split : f.0.path ≡ above ++ last_part f.0.path ∷ [] = snoc f.0.path path_some ∙ ap (λ (x : Path). x ++ last_part f.0.path ∷ []) parent_is in
+        let is_over = subst (λ (x : Path). (path_eq x (above ++ p ∷ rest) ≡ true) ⊎ (leads_to x (above ++ p ∷ rest) ≡ true)) split
+        (subst (λ (x : Path). (path_eq f.0.path x ≡ true) ⊎ (leads_to f.0.path x ≡ true)) e (over f.0.path (bridge_of f.0 f.2 bridge_is) numbers.0 numbers.1)) in
+        let path_is : f.0.path ≡ above ++ p ∷ [] = split ∙ ap (λ (x : Part). above ++ x ∷ []) (next_part above (last_part f.0.path) p rest is_over) in
+        (f.0, f.1, path_is, numbers.2 ∙ ap (secondary b) path_is)
+
+    -- ---- the route
+
+    takes_by : (above : Path) (p : Part) (ends : Bool) → (t : Taken above p) → cond (eqb (secondary b (above ++ p ∷ [])) goal) ends (not ends) ≡ true → takes fs above goal p ends ≡ true
+    takes_by above p ends (f, e, path_is, number_is) k =
+        let here : path_eq f.path (above ++ p ∷ []) ≡ true = ap (λ (x : Path). path_eq x (above ++ p ∷ [])) path_is ∙ path_self (above ++ p ∷ []) in
+        rw (e, here, number_is, k)
+
+    moved : (above : Path) (p : Part) (rest : Path) → above ++ p ∷ rest ≡ (above ++ p ∷ []) ++ rest
+    moved above p rest = sym (append_assoc above (p ∷ []) rest)
+
+    takes_last : (above : Path) (p : Part) → target ≡ above ++ p ∷ [] → takes fs above goal p true ≡ true
+    takes_last above p e =
+        let here : eqb (secondary b (above ++ p ∷ [])) goal ≡ true = ap (λ (x : Path). eqb (secondary b x) goal) (sym e) ∙ self goal in
+        takes_by above p true (taken above p [] e) (rw here)
+
+    takes_next : (above : Path) (p q : Part) (rest : Path) → target ≡ above ++ p ∷ q ∷ rest → takes fs above goal p false ≡ true
+    takes_next above p q rest e =
+        let g = stands_on_way above p (q ∷ rest) e in
+        let h : is_bridge_at b (above ++ p ∷ []) ≡ true = subst (λ (x : Path). is_bridge_at b x ≡ true) g.3 (bridge_of g.0 g.1 g.2) in
+        let leads : leads_to (above ++ p ∷ []) target ≡ true = subst (λ (x : Path). leads_to (above ++ p ∷ []) x ≡ true) (sym e) (leads_down above p q rest) in
+        let other : eqb (secondary b (above ++ p ∷ [])) goal ≡ false = differs (secondary b (above ++ p ∷ [])) goal ((numbering b lawful (above ++ p ∷ []) target h is_target).inside leads).0 in
+        takes_by above p false (taken above p (q ∷ rest) e) (rw other)
+
+    route : (rs : Path) (p t : Part) (above : Path) → target ≡ above ++ p ∷ rs → is_route fs goal above (p ∷ rs ++ t ∷ []) ≡ true
+    route [] p t above e = takes_last above p e
+    route (s ∷ rs) p t above e = two_parts rs (takes_next above p s rs e) (route rs s t (above ++ p ∷ []) (e ∙ moved above p (s ∷ rs)))
+      where
+        two_parts : (ts : Path) → takes fs above goal p false ≡ true → is_route fs goal (above ++ p ∷ []) (s ∷ ts ++ t ∷ []) ≡ true → is_route fs goal above (p ∷ s ∷ ts ++ t ∷ []) ≡ true
+        two_parts [] h k = both_true (takes fs above goal p false) (is_route fs goal (above ++ p ∷ []) (s ∷ t ∷ [])) h k
+        two_parts (u ∷ ts) h k = both_true (takes fs above goal p false) (is_route fs goal (above ++ p ∷ []) (s ∷ u ∷ ts ++ t ∷ [])) h k
+
+    ends_last : (p : Path) (q : Part) → ends_in (p ++ q ∷ []) q ≡ true
+    ends_last [] q = part_self q
+    ends_last (a ∷ []) q = part_self q
+    ends_last (a ∷ c ∷ p) q = ends_last (c ∷ p) q
+
+    -- a cycle for the target's bus goes to no other place
+    only_there : (a : Part) (rs : Path) → target ≡ a ∷ rs → (t : Part) (x : Path) → (ends_in x t && is_route fs goal [] x) ≡ path_eq x (target ++ t ∷ [])
+    only_there a rs e t x = same_test (ends_in x t && is_route fs goal [] x) (path_eq x (target ++ t ∷ [])) arrives goes
+      where
+        way : is_route fs goal [] (target ++ t ∷ []) ≡ true
+        way = subst (λ (y : Path). is_route fs goal [] (y ++ t ∷ []) ≡ true) (sym e) (route rs a t [] e)
+
+        arrives : (ends_in x t && is_route fs goal [] x) ≡ true → path_eq x (target ++ t ∷ []) ≡ true
+        arrives h =
+            let there : x ≡ target ++ t ∷ [] = one_route fs goal t x (target ++ t ∷ []) [] (right_true (ends_in x t) (is_route fs goal [] x) h) way (left_true (ends_in x t) (is_route fs goal [] x) h) (ends_last target t) in
+            ap (λ (y : Path). path_eq y (target ++ t ∷ [])) there ∙ path_self (target ++ t ∷ [])
+
+        goes : path_eq x (target ++ t ∷ []) ≡ true → (ends_in x t && is_route fs goal [] x) ≡ true
+        goes h =
+            subst (λ (y : Path). (ends_in y t && is_route fs goal [] y) ≡ true) (sym (path_same x (target ++ t ∷ []) h))
+            (both_true (ends_in (target ++ t ∷ []) t) (is_route fs goal [] (target ++ t ∷ [])) (ends_last target t) way)
+
 -- ---- the function that the numbers name
 
-ends_last : (p : Path) (q : Part) → ends_in (p ++ q ∷ []) q ≡ true
-ends_last [] q = part_self q
-ends_last (a ∷ []) q = part_self q
-ends_last (a ∷ b ∷ p) q = ends_last (b ∷ p) q
+pub reached_by_names : (b : Board) (lawful : IsBoard b) (fs : List BoardFunction) (rows : map row_at fs ≡ b) (bus : Path) → (bus ≡ []) ⊎ IsTrue (is_bridge_at b bus)
+    → Each (λ f. IsTrue (is_bridge f.decl) → Names b (bus_behind b bus) f) fs → (t : Part)
+    → reached fs (record { bus = bus_behind b bus; part = t }) ≡ find (λ f. path_eq f.path (bus ++ t ∷ [])) fs
+reached_by_names b lawful fs rows [] there names t = refl
+reached_by_names b lawful fs rows (a ∷ rs) (inl none) names t = cc
+reached_by_names b lawful fs rows (a ∷ rs) (inr there) names t =
+    let not_zero : eqb (secondary b (a ∷ rs)) 0 ≡ false = positive (secondary b (a ∷ rs)) (omega arith) in
+    rw not_zero (find_same (λ (f : BoardFunction). ends_in f.path t && is_route fs (secondary b (a ∷ rs)) [] f.path) (λ (f : BoardFunction). path_eq f.path (a ∷ rs ++ t ∷ []))
+    (λ f. only_there b lawful fs rows (a ∷ rs) there names a rs refl t f.path) fs)
 
-standing : (b : Board) (fs : List BoardFunction) → map row_at fs ≡ b → (p : Path) → stands_at b p ≡ true → list_any (λ (f : BoardFunction). path_eq f.path p) fs ≡ true
-standing b fs e p h = sym (any_map row_at (λ r. path_eq r.path p) fs) ∙ ap (λ (c : Board). stands_at c p) e ∙ h
+le_test : (m n : ℕ) → m ≤ n → leb m n ≡ true
+le_test m n h = grind (arith, nat_tests)
+
+-- a bridge that holds the numbers c and d covers what lies between them
+pub covers_between : (n c d : ℕ) (f : BoardFunction) → is_bridge f.decl ≡ true → secondary_register f.file ≡ c → subordinate_register f.file ≡ d → c ≤ n → n ≤ d → covers n f ≡ true
+covers_between n c d f k low high h g =
+    both_true (is_bridge f.decl && leb (secondary_register f.file) n) (leb n (subordinate_register f.file))
+    (both_true (is_bridge f.decl) (leb (secondary_register f.file) n) k (rw low (le_test c n h))) (rw high (le_test n d g))
+
+pub between_covers : (n : ℕ) (f : BoardFunction) → covers n f ≡ true → (secondary_register f.file ≤ n) × (n ≤ subordinate_register f.file)
+between_covers n f h =
+    let low : (is_bridge f.decl && leb (secondary_register f.file) n) ≡ true = left_true (is_bridge f.decl && leb (secondary_register f.file) n) (leb n (subordinate_register f.file)) h in (
+      leb-true (secondary_register f.file) n (right_true (is_bridge f.decl) (leb (secondary_register f.file) n) low),
+      leb-true n (subordinate_register f.file) (right_true (is_bridge f.decl && leb (secondary_register f.file) n) (leb n (subordinate_register f.file)) h),
+    )
+
+abbrev pub HoldsNumbers : Board → BoardFunction → Type 0
+HoldsNumbers b f = (secondary_register f.file ≡ secondary b f.path) × (subordinate_register f.file ≡ subordinate b f.path)
+
+pub names_of : (b : Board) (n : ℕ) (f : BoardFunction) → is_bridge f.decl ≡ true → HoldsNumbers b f → Names b n f
+names_of b n f k h = record {
+  covers_when = λ low high. covers_between n (secondary b f.path) (subordinate b f.path) f k h.0 h.1 low high;
+  covered = λ c. let within = between_covers n f c in (subst (λ m. m ≤ n) h.0 within.0, subst (λ m. n ≤ m) h.1 within.1, h.0);
+}
+
+board_names : (b : Board) (fs : List BoardFunction) → HasNumbers b fs → (n : ℕ) → Each (λ f. IsTrue (is_bridge f.decl) → Names b n f) fs
+board_names b fs has n = each_map (λ f. IsTrue (is_bridge f.decl) → HoldsNumbers b f) (λ f. IsTrue (is_bridge f.decl) → Names b n f) fs (λ f h k. names_of b n f k (h k)) has.numbers
 
 pub reached_by_numbers : ReachedByNumbers
-reached_by_numbers b lawful fs has [] h =
-    let r = found (λ (s : Row). path_eq s.path []) (λ s. IsPath s.path) b lawful.paths h in
-    let none : r.0.path ≡ [] = path_same r.0.path [] r.2 in
-    absurd (omega (arith, r.3.some, ap length none))
-reached_by_numbers b lawful fs has (t ∷ []) h =
-    let f = found (λ (g : BoardFunction). path_eq g.path (t ∷ [])) (λ g. Unit {0}) fs (all fs) (standing b fs has.rows (t ∷ []) h) in
-    (f.0, f.1, path_same f.0.path (t ∷ []) f.2)
-  where
-    all : (gs : List BoardFunction) → Each (λ g. Unit {0}) gs
-    all [] = tt
-    all (g ∷ gs) = (tt, all gs)
-reached_by_numbers b lawful fs has (a ∷ c ∷ p) h =
-    let rs : Path = parent (c ∷ p) in
-    let t : Part = last_part (c ∷ p) in
-    let n : ℕ = secondary b (a ∷ rs) in
-    let split : a ∷ c ∷ p ≡ a ∷ rs ++ t ∷ [] = snoc (a ∷ c ∷ p) (omega arith) in
-    let hb : is_bridge_at b (a ∷ rs) ≡ true = parent_bridge b lawful fs has a rs t (subst (λ (x : Path). stands_at b x ≡ true) split h) in
-    let way : is_route fs n [] (a ∷ c ∷ p) ≡ true = subst (λ (x : Path). is_route fs n [] x ≡ true) (sym split) (route b lawful fs has rs a t [] hb) in
-    let last : ends_in (a ∷ c ∷ p) t ≡ true = subst (λ (x : Path). ends_in x t ≡ true) (sym split) (ends_last (a ∷ rs) t) in
-    let g = found (λ (f : BoardFunction). path_eq f.path (a ∷ c ∷ p)) (λ f. (s : BoardFunction → Bool) → s f ≡ true → list_any s fs ≡ true) fs (members fs) (standing b fs has.rows (a ∷ c ∷ p) h) in
-    let at : g.0.path ≡ a ∷ c ∷ p = path_same g.0.path (a ∷ c ∷ p) g.2 in
-    let test : BoardFunction → Bool = λ f. ends_in f.path t && is_route fs n [] f.path in
-    let passes : test g.0 ≡ true = subst (λ (x : Path). (ends_in x t && is_route fs n [] x) ≡ true) (sym at) (rw (last, way)) in
-    let f = found test (λ f. (s : BoardFunction → Bool) → s f ≡ true → list_any s fs ≡ true) fs (members fs) (g.3 test passes) in
-    let not_zero : eqb n 0 ≡ false = positive n (omega arith) in
-    (f.0, (rw not_zero f.1), one_route fs n t f.0.path (a ∷ c ∷ p) [] (right_true (ends_in f.0.path t) (is_route fs n [] f.0.path) f.2) way (left_true (ends_in f.0.path t) (is_route fs n [] f.0.path) f.2) last)
+reached_by_numbers b lawful fs has p h =
+    let r = from_any (λ (s : Row). path_eq s.path p) b h in
+    let at : r.0.path ≡ p = path_same r.0.path p r.2 in
+    let some : 0 < length p = subst (λ (x : Path). 0 < length x) at (each_in (λ (s : Row). IsPath s.path) r.0 b lawful.paths r.1).some in
+    let split : p ≡ parent p ++ last_part p ∷ [] = snoc p some in
+    let bus : (parent p ≡ []) ⊎ IsTrue (is_bridge_at b (parent p)) =
+    subst (λ (x : Path). (parent x ≡ []) ⊎ IsTrue (is_bridge_at b (parent x))) at (each_in (λ (s : Row). (parent s.path ≡ []) ⊎ IsTrue (is_bridge_at b (parent s.path))) r.0 b lawful.behind_bridges r.1) in
+    let reach : reached fs (address_of b p) ≡ find (λ f. path_eq f.path (parent p ++ last_part p ∷ [])) fs =
+    reached_by_names b lawful fs has.rows (parent p) bus (board_names b fs has (bus_behind b (parent p))) (last_part p) in
+    let there : (x : BoardFunction) × IsIn x fs × (row_at x ≡ r.0) = function_of b lawful fs has.rows r.0 r.1 in
+    let path_is : there.0.path ≡ parent p ++ last_part p ∷ [] = ap (λ (s : Row). s.path) there.2 ∙ at ∙ split in
+    let f = found (λ (g : BoardFunction). path_eq g.path (parent p ++ last_part p ∷ [])) fs
+    (any_in (λ (g : BoardFunction). path_eq g.path (parent p ++ last_part p ∷ [])) there.0 fs there.1
+    (ap (λ (x : Path). path_eq x (parent p ++ last_part p ∷ [])) path_is ∙ path_self (parent p ++ last_part p ∷ []))) in
+    (f.0, reach ∙ f.1, path_same f.0.path (parent p ++ last_part p ∷ []) f.3 ∙ sym split)

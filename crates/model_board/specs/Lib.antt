@@ -21,6 +21,8 @@ pub mod Packing
 pub mod Levels
 pub mod Numbering
 pub mod Reach
+pub mod Scanning
+pub mod ScanOrder
 pub mod Routing
 pub mod RoutingLaws
 pub mod PlacedRegions

@@ -11,6 +11,8 @@ ghost use Rattle.model_board.specs.PlacementLaws.{LayoutIsLawful, PoolsAreLawful
 ghost use Rattle.model_board.specs.PortLaws.{ClaimsKeepLanes, ConfigReadByLanes, ConfigWriteByLanes, PortsWhileNotEnabled};
 ghost use Rattle.model_board.specs.Reach.{OneRoute, OnlyNamed, ReachedByNumbers};
 ghost use Rattle.model_board.specs.RoutingLaws.{ClaimsByRouting, FirstByRouting, ForwardedByRouting, RoutingOfCells, RoutingOfChange, SameClaims};
+ghost use Rattle.model_board.specs.ScanOrder.{ScanGivesNumbersInPathOrder, ScanMeetsInPathOrder};
+ghost use Rattle.model_board.specs.Scanning.{NumbersOfScanState, ReachedWhileScanning};
 ghost use Rattle.model_board.specs.UniqueClaimant.{ClaimInAnyOrder, RowsArePlaced, UniqueClaimant};
 ghost use Rattle.model_board.specs.WindowLaws.{ClosedWindows, NamedSpans, SetUpWindows};
 
@@ -48,6 +50,21 @@ pub fn reached_by_numbers()
     ensures named { ReachedByNumbers }
     ensures only_named { OnlyNamed }
     ensures one_route { OneRoute }
+{}
+
+/// While a scan runs, a configuration cycle for a bus that it has met reaches the function that stands
+/// there, or none where none stands, whatever the registers other than bus numbers hold.
+pub fn reached_while_scanning()
+    ensures reach { ReachedWhileScanning }
+    ensures states { NumbersOfScanState }
+{}
+
+/// A scan goes through a bus by devices 0 to 15 and functions 0 to 7, and through all that stands
+/// behind a bridge right after it: so it meets the functions in path order, and the numbers that it
+/// gives one after the other are the board's.
+pub fn scan_order()
+    ensures functions { ScanMeetsInPathOrder }
+    ensures numbers { ScanGivesNumbersInPathOrder }
 {}
 
 /// Compact placement takes the items of a bus in sorted order, and however they are sorted they come in
