@@ -10,6 +10,7 @@ mod sizing;
 pub use bars::Bars;
 pub use decl::{BarDecl, BarFault, Kind, Space};
 pub use lanes::enabled_bits;
+pub use region::Region;
 pub use sizing::size_of_mask;
 
 #[cfg(test)]

@@ -61,6 +61,7 @@ impl Aperture {
         ensures { result ≡ is_pref_aperture mem.now self.now }
     {
         self.is_of_units(1 << 20)
+            && self.last < 1 << 63
             && (self.last < 1 << 32 || self.first >= 1 << 32)
             && (mem.last < self.first || self.last < mem.first)
     }
@@ -98,8 +99,8 @@ impl Model for Apertures {
 
 impl Apertures {
     /// These apertures, where all are lawful: none is empty; I/O is whole pages of 4 KB within 1000h to
-    /// FFFFh; the others are whole megabytes, memory below 4 GB, prefetchable memory on one side of
-    /// 4 GB and apart from memory.
+    /// FFFFh; the others are whole megabytes, memory below 4 GB, prefetchable memory below 2^63, on
+    /// one side of 4 GB and apart from memory.
     pub fn new(
         io: Aperture,
         mem: Aperture,

@@ -6,6 +6,7 @@ use Rattle.std.proofs.lemmas.Bool.{ltb-true, and_parts}
 use Rattle.model_registers.specs.Lists.{Each}
 use Rattle.model_registers.specs.Declarations.{Kind, io_kind, mem32, mem64, Region, Endpoint, IoDecode, no_io, io16, io32, PrefDecode, no_pref, pref32, pref64, Bridge}
 use Rattle.model_registers.specs.BridgeTable.{Span, Routing, bridge_file}
+use Rattle.model_registers.specs.Apertures.{IsLawfulApertures, IsPrefOption}
 use Rattle.model_board.specs.Members.{IsIn}
 use Rattle.model_board.specs.Board.{Board, Row, Decl, endpoint, bridge, rows_on, is_shared, IsBoard}
 use Rattle.model_board.specs.Paths.{Path, leads_to, last_part, IsPath}
@@ -13,7 +14,7 @@ use Rattle.model_board.specs.Pools.{Pool, io_pool, mem_pool, pref_pool, same_poo
 use Rattle.model_board.specs.Placement.{Item, need, window_items, items_of, items_within, items_on, fits, bus_first}
 use Rattle.model_board.specs.Layout.{IsAligned, IsInside, IsLawful, pool_rows}
 use Rattle.model_board.specs.PlacementLaws.{window_row}
-use Rattle.model_board.specs.Lawful.{HasLawfulDecls, IsLawfulPref, AreLawful}
+use Rattle.model_board.specs.Lawful.{HasLawfulDecls}
 use Rattle.model_board.specs.SetUp.{span_of, routing_of}
 use Rattle.model_board.specs.Windows.{io_window, mem_window, pref_window}
 use Rattle.model_board.specs.WindowLaws.{io_reach, pref_reach, IsWhole, window_at, window_over, HasPlacedWindows, SetUpWindows}
@@ -147,7 +148,7 @@ or_second : (s t : Bool) → (not s || t) ≡ true → s ≡ true → t ≡ true
 or_second true t h k = h
 or_second false t h k = cc
 
-module _ (b : Board) (a : Apertures) (board : IsBoard b) (apertures : AreLawful a) (r : Row) (there : IsIn r b) (d : Bridge) (decl : r.decl ≡ bridge d) where
+module _ (b : Board) (a : Apertures) (board : IsBoard b) (apertures : IsLawfulApertures a) (r : Row) (there : IsIn r b) (d : Bridge) (decl : r.decl ≡ bridge d) where
   io_above : has_io_paths b ≡ true → HasItems b a io_pool r.path → a.io.last < io_reach d.io
   io_above ways (i, m) =
       let h : Behind b a io_pool r.path = behind b a io_pool board.paths 16 r.path i m in
@@ -155,18 +156,18 @@ module _ (b : Board) (a : Apertures) (board : IsBoard b) (apertures : AreLawful 
       let opens : opens_io h.row.decl ≡ true = rw h.decl_is (any_in (λ (k : Region). is_io k.kind) h.region h.decl.regions h.declared is) in
       let all : list_all (λ d. has_io d.io) (bridges_above b h.row.path) ≡ true =
       or_second (opens_io h.row.decl) (list_all (λ d. has_io d.io) (bridges_above b h.row.path)) (all_in (λ (x : Row). not (opens_io x.decl) || list_all (λ d. has_io d.io) (bridges_above b x.path)) h.row b ways h.there) opens in
-      io_reached d.io a.io.last apertures.io_limit (all_in (λ (x : Bridge). has_io x.io) d (bridges_above b h.row.path) all (above b r d h.row.path there decl h.leads))
+      io_reached d.io a.io.last (omega (arith, apertures.io.ends)) (all_in (λ (x : Bridge). has_io x.io) d (bridges_above b h.row.path) all (above b r d h.row.path there decl h.leads))
 
   pref_above : HasItems b a pref_pool r.path → MatchOption a.pref ⊤ (λ ap. ap.last < pref_reach d.pref)
   pref_above (i, m) =
       let h : Behind b a pref_pool r.path = behind b a pref_pool board.paths 16 r.path i m in
       by_aperture (bridges_above b h.row.path) a.pref apertures.pref (pref_of a (bridges_above b h.row.path) h.region.kind h.in_pool) (above b r d h.row.path there decl h.leads)
     where
-      by_aperture : (ds : List Bridge) (o : Option Aperture) → MatchOption o ⊤ (IsLawfulPref a.mem) → Reached o ds → IsIn d ds → MatchOption o ⊤ (λ ap. ap.last < pref_reach d.pref)
+      by_aperture : (ds : List Bridge) (o : Option Aperture) → IsPrefOption a.mem o → Reached o ds → IsIn d ds → MatchOption o ⊤ (λ ap. ap.last < pref_reach d.pref)
       by_aperture ds None lawful reached m = tt
       by_aperture ds (Some x) lawful (y, wide, e, h) m =
           let same : x ≡ y = cc in
-          pref_reached x ds wide d m lawful.limit (subst (λ (z : Aperture). pref_reaches z ds wide ≡ true) (sym same) h)
+          pref_reached x ds wide d m lawful.ends (subst (λ (z : Aperture). pref_reaches z ds wide ≡ true) (sym same) h)
 
 -- ---- the span of a bus
 
@@ -218,7 +219,7 @@ module _ (d : Bridge) (shared : Bool) (r : Routing) (first : ℕ) where
   pref_named [] e whole = (closed_windows d shared r).pref e
   pref_named (i ∷ is) e whole = (named_spans d shared r).pref (subst (IsWhole (2 ^ 20) (pref_reach d.pref)) (sym e) (whole i (inl refl))) ∙ ap (λ s. Some (window_at s)) e
 
-module _ (b : Board) (a : Apertures) (board : IsBoard b) (lawful : HasLawfulDecls b) (apertures : AreLawful a) (ways : has_io_paths b ≡ true) (fit : (pool : Pool) → IsTrue (fits b a pool)) where
+module _ (b : Board) (a : Apertures) (board : IsBoard b) (lawful : HasLawfulDecls b) (apertures : IsLawfulApertures a) (ways : has_io_paths b ≡ true) (fit : (pool : Pool) → IsTrue (fits b a pool)) where
   module _ (r : Row) (there : IsIn r b) (d : Bridge) (decl : r.decl ≡ bridge d) where
     span : (pool : Pool) → HasItems b a pool r.path → IsPlacedSpan a pool (bus_first b a pool r.path) (need (unit_of pool) (items_on b a pool r.path))
     span pool has = placed_span b a pool board lawful (fit pool) r.path (each_in (λ (x : Row). IsPath x.path) r b board.paths there).some has
@@ -231,7 +232,7 @@ module _ (b : Board) (a : Apertures) (board : IsBoard b) (lawful : HasLawfulDecl
     mem_span : HasItems b a mem_pool r.path → IsWhole (2 ^ 20) (2 ^ 32) (span_from (bus_first b a mem_pool r.path) (2 ^ 20) (items_on b a mem_pool r.path))
     mem_span has =
         let s = span mem_pool has in
-        memory_whole (bus_first b a mem_pool r.path) (need (2 ^ 20) (items_on b a mem_pool r.path)) a.mem.last (2 ^ 32) s.first_whole s.size_whole s.some s.inside apertures.mem_limit
+        memory_whole (bus_first b a mem_pool r.path) (need (2 ^ 20) (items_on b a mem_pool r.path)) a.mem.last (2 ^ 32) s.first_whole s.size_whole s.some s.inside apertures.mem.ends
 
     pref_span : HasItems b a pref_pool r.path → IsWhole (2 ^ 20) (pref_reach d.pref) (span_from (bus_first b a pref_pool r.path) (2 ^ 20) (items_on b a pref_pool r.path))
     pref_span has = by_aperture a.pref (span pref_pool has).inside (pref_above b a board apertures r there d decl has)

@@ -228,7 +228,7 @@ module _ (b : Board) (a : Apertures) (pool : Pool) (lawful : HasLawfulDecls b) w
       of_region : (i : Item) → (r : Region) × IsIn r (filter (λ (s : Region). same_pool (pool_of a (bridges_above b p) s.kind) pool) d.regions) × (i ≡ region_item (last_part p) r) → IsPlaceable (unit_of pool) i
       of_region i (r, m, e) =
           let there : IsIn r d.regions = (from_filter (λ (s : Region). same_pool (pool_of a (bridges_above b p) s.kind) pool) r d.regions m).0 in
-          subst (IsPlaceable (unit_of pool)) (sym e) (region_placeable (unit_of pool) (last_part p) r (each_in IsLawfulRegion r d.regions h.each there))
+          subst (IsPlaceable (unit_of pool)) (sym e) (region_placeable (unit_of pool) (last_part p) r (each_in IsLawfulRegion r d.regions h.regions.each there))
   row_placeable behind p (bridge d) h k = window_placeable (unit_of pool) (last_part p) (behind p) (unit_power pool) k
 
   within_placeable : (n : ℕ) (bus : Path) → Each (IsPlaceable (unit_of pool)) (items_within b a pool n bus)
@@ -327,7 +327,7 @@ module _ (b : Board) (a : Apertures) (pool : Pool) (board : IsBoard b) where
         let keeps : Region → Bool = λ r. same_pool (pool_of a (bridges_above b p) r.kind) pool in
         pairs_map R (region_item (last_part p)) (filter keeps d.regions)
         (pairs_weaker (λ (r s : Region). r.index + registers_of r.kind ≤ s.index) (λ r s. R (region_item (last_part p) r) (region_item (last_part p) s)) (filter keeps d.regions)
-        (pairs_filter (λ (r s : Region). r.index + registers_of r.kind ≤ s.index) keeps d.regions h.in_order) (λ r s m k l. of_regions (last_part p) r s r.kind l))
+        (pairs_filter (λ (r s : Region). r.index + registers_of r.kind ≤ s.index) keeps d.regions h.regions.in_order) (λ r s m k l. of_regions (last_part p) r s r.kind l))
     of_one p (bridge d) h = one_window (last_part p) (items_on b a pool p)
 
     pub items_pairs : HasLawfulDecls b → (bus : Path) → EachPair R (items_on b a pool bus)

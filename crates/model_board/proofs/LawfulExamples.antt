@@ -1,13 +1,17 @@
 -- Layouts that are not lawful, one rule at a time; and the main board keeps what the laws of placement ask for.
-use Rattle.std.proofs.Common.{◌≡◌, ℕ, ◌≤◌, ◌<◌, ◌⊎◌, inl, inr, List, [], ◌∷◌, true, false, refl, arith, lit<, lit≤}
-use Rattle.std.specs.Prelude.{IsTrue}
+use Rattle.std.proofs.Common.{◌≡◌, ℕ, ◌≤◌, ◌<◌, ◌^◌, ◌⊎◌, inl, inr, List, [], ◌∷◌, length, true, false, refl, arith, lit<, lit≤}
+use Rattle.std.specs.Prelude.{IsTrue, bit_and}
+use Rattle.model_registers.specs.Lists.{Each}
+use Rattle.model_registers.specs.Declarations.{Region, HasLawfulRegions}
+use Rattle.model_registers.specs.DeclarationRules.{IsLawfulEndpoint}
+use Rattle.model_registers.specs.Apertures.{IsLawfulApertures}
 use Rattle.model_board.specs.Paths.{Path, IsPart, IsPath}
 use Rattle.model_board.specs.Board.{Board, bridge, IsBoard}
 use Rattle.model_board.specs.Pools.{Pool, io_pool, mem_pool, pref_pool}
 use Rattle.model_board.specs.Placement.{a_region, a_window, fits}
 use Rattle.model_board.specs.Layout.{LayoutRow, IsLawful, layout}
-use Rattle.model_board.specs.Lawful.{HasLawfulDecls, AreLawful}
-use Rattle.model_board.specs.Examples.{part, function_at, main_board, main_apertures, memory_bridge}
+use Rattle.model_board.specs.Lawful.{HasLawfulDecls}
+use Rattle.model_board.specs.Examples.{part, function_at, plain, first_endpoint, second_endpoint, third_endpoint, main_board, main_apertures, memory_bridge}
 use Rattle.model_board.proofs.LawfulPlacement.{layout_is_lawful}
 
 abbrev window : Pool → Path → ℕ → ℕ → LayoutRow
@@ -99,38 +103,58 @@ main_is_board = record {
   function_zeros = (refl, (refl, (refl, (refl, tt))));
 }
 
+pub plain_is_lawful : (id status pin : ℕ) (rs : List Region) → id < 2 ^ 16 → bit_and status 0xf900 ≡ status → pin ≤ 4 → HasLawfulRegions rs → Each (λ r. length r.cells ≤ 4096) rs
+    → IsLawfulEndpoint (plain id status pin rs)
+plain_is_lawful id status pin rs device status_is small regions blocks = record {
+  fits = record { device = device; revision = lit< tt; subvendor = lit< tt; subsystem = lit< tt; min_gnt = lit< tt; max_lat = lit< tt };
+  vendor = lit< tt;
+  class = lit< tt;
+  pin = small;
+  status = status_is;
+  regions = regions;
+  region_blocks = blocks;
+  config_blocks = tt;
+  blocks_apart = tt;
+}
+
+first_regions : HasLawfulRegions (first_endpoint).regions
+first_regions = record {
+  each = (
+    record { registers = lit≤ tt; size_is_lawful = record { power = (5, refl); not_less = lit≤ tt; not_more = lit≤ tt }; block_fits = lit≤ tt },
+    (record { registers = lit≤ tt; size_is_lawful = record { power = (12, refl); not_less = lit≤ tt; not_more = lit≤ tt }; block_fits = lit≤ tt }, tt),
+  );
+  in_order = ((lit≤ tt, tt), (tt, tt));
+}
+
+second_regions : HasLawfulRegions (second_endpoint).regions
+second_regions = record {
+  each = (
+    record { registers = lit≤ tt; size_is_lawful = record { power = (20, refl); not_less = lit≤ tt; not_more = lit≤ tt }; block_fits = lit≤ tt },
+    (record { registers = lit≤ tt; size_is_lawful = record { power = (3, refl); not_less = lit≤ tt; not_more = lit≤ tt }; block_fits = lit≤ tt }, tt),
+  );
+  in_order = ((lit≤ tt, tt), (tt, tt));
+}
+
+third_regions : HasLawfulRegions (third_endpoint).regions
+third_regions = record { each = (record { registers = lit≤ tt; size_is_lawful = record { power = (24, refl); not_less = lit≤ tt; not_more = lit≤ tt }; block_fits = lit≤ tt }, tt); in_order = (tt, tt) }
+
 pub main_decls_lawful : HasLawfulDecls main_board
 main_decls_lawful = (
-  record {
-    each = (
-      record { registers = lit≤ tt; size_is_lawful = record { power = (5, refl); not_less = lit≤ tt; not_more = lit≤ tt }; block_fits = lit≤ tt },
-      (record { registers = lit≤ tt; size_is_lawful = record { power = (12, refl); not_less = lit≤ tt; not_more = lit≤ tt }; block_fits = lit≤ tt }, tt),
-    );
-    in_order = ((lit≤ tt, tt), (tt, tt));
-  },
+  plain_is_lawful 1 0x8000 1 (first_endpoint).regions (lit< tt) refl (lit≤ tt) first_regions (lit≤ tt, (lit≤ tt, tt)),
   (
-    tt,
+    record { vendor = lit< tt; device = lit< tt; revision = lit< tt },
     (
-      record {
-        each = (
-          record { registers = lit≤ tt; size_is_lawful = record { power = (20, refl); not_less = lit≤ tt; not_more = lit≤ tt }; block_fits = lit≤ tt },
-          (record { registers = lit≤ tt; size_is_lawful = record { power = (3, refl); not_less = lit≤ tt; not_more = lit≤ tt }; block_fits = lit≤ tt }, tt),
-        );
-        in_order = ((lit≤ tt, tt), (tt, tt));
-      },
-      (record { each = (record { registers = lit≤ tt; size_is_lawful = record { power = (24, refl); not_less = lit≤ tt; not_more = lit≤ tt }; block_fits = lit≤ tt }, tt); in_order = (tt, tt) }, tt),
+      plain_is_lawful 3 0 0 (second_endpoint).regions (lit< tt) refl (lit≤ tt) second_regions (lit≤ tt, (lit≤ tt, tt)),
+      (plain_is_lawful 4 0 1 (third_endpoint).regions (lit< tt) refl (lit≤ tt) third_regions (lit≤ tt, tt), tt),
     ),
   ),
 )
 
-pub main_apertures_lawful : AreLawful main_apertures
+pub main_apertures_lawful : IsLawfulApertures main_apertures
 main_apertures_lawful = record {
-  io_units = record { in_order = lit≤ tt; first = refl; end = refl };
-  io_low = lit≤ tt;
-  io_limit = lit< tt;
-  mem_units = record { in_order = lit≤ tt; first = refl; end = refl };
-  mem_limit = lit< tt;
-  pref = record { units = record { in_order = lit≤ tt; first = refl; end = refl }; one_side = inr (lit≤ tt); limit = lit< tt; apart = inr (lit< tt) };
+  io = record { units = record { not_empty = lit≤ tt; begins = refl; ends = refl }; begins = lit≤ tt; ends = lit≤ tt };
+  mem = record { units = record { not_empty = lit≤ tt; begins = refl; ends = refl }; ends = lit< tt };
+  pref = record { units = record { not_empty = lit≤ tt; begins = refl; ends = refl }; ends = lit< tt; one_side = inr (lit≤ tt); apart = inl (lit< tt) };
 }
 
 main_pools_fit : (pool : Pool) → IsTrue (fits main_board main_apertures pool)

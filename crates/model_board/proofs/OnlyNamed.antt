@@ -1,14 +1,14 @@
 -- With the board's numbers a cycle reaches no function but the one that its numbers name.
-use Rattle.std.proofs.Common.{◌≡◌, ℕ, Bool, true, false, ◌&&◌, cond, not, List, [], ◌∷◌, ◌++◌, Some, None, find, nat_le, Option, refl, sym, ap, ap₂, ◌∙◌, subst, append_assoc, eqb}
+use Rattle.std.proofs.Common.{◌≡◌, ℕ, Bool, true, false, ◌&&◌, cond, not, List, [], ◌∷◌, ◌++◌, Some, None, find, nat_le, Option, refl, sym, ap, ◌∙◌, subst, append_assoc, eqb}
 use Rattle.std.specs.Option.{option_map_or}
 use Rattle.std.proofs.lemmas.Bool.{eqb-true}
 use Rattle.model_registers.proofs.Tests.{left_true, right_true}
 use Rattle.model_registers.specs.Lists.{Each}
 use Rattle.model_board.specs.Paths.{Part, Path, path_eq, parent, last_part}
-use Rattle.model_board.specs.Board.{Board, IsBoard, is_bridge}
+use Rattle.model_board.specs.Board.{Board, is_bridge}
 use Rattle.model_board.specs.BusNumbers.{secondary, subordinate, bus_of, bus_behind}
 use Rattle.model_board.specs.State.{BoardFunction}
-use Rattle.model_board.specs.Cycles.{BusAddress, secondary_register, subordinate_register, covers, taker, takes, is_route, ends_in, reached, reached_type0, reached_type1}
+use Rattle.model_board.specs.Cycles.{secondary_register, subordinate_register, covers, taker, takes, is_route, ends_in, reached_type0, reached_type1}
 use Rattle.model_board.specs.Reach.{HasNumbers, address_of, OnlyNamed}
 use Rattle.model_board.proofs.PathOrder.{part_same, path_same}
 

@@ -1,10 +1,11 @@
 -- Two regions of a board share no address: where their paths part, two rows of one bus would both hold it.
 use Rattle.std.proofs.Common.{◌≡◌, ℕ, ◌+◌, ◌<◌, ◌⊎◌, inl, inr, Bool, true, false, ◌&&◌, cond, Option, Some, None, List, [], ◌∷◌, ◌++◌, length, refl, sym, ap, ◌∙◌, subst, arith}
-use Rattle.std.specs.Prelude.{IsTrue, MatchOption, ⊤}
+use Rattle.std.specs.Prelude.{IsTrue, MatchOption}
 use Rattle.std.specs.List.{list_any}
 use Rattle.model_registers.specs.Declarations.{Kind, io_kind, mem32, mem64, Bridge}
 use Rattle.model_registers.specs.Decoding.{memory, space_of, same_space}
 use Rattle.model_registers.proofs.Tests.{left_true, right_true}
+use Rattle.model_registers.specs.Apertures.{IsLawfulApertures, IsPrefOption}
 use Rattle.model_board.specs.Members.{IsIn}
 use Rattle.model_board.specs.Board.{Board, Row, is_bridge, IsBoard}
 use Rattle.model_board.specs.Paths.{Part, Path, part_eq, path_eq, leads_to, parent, last_part, IsPath}
@@ -12,7 +13,6 @@ use Rattle.model_board.specs.Pools.{Pool, io_pool, mem_pool, pref_pool, same_poo
 use Rattle.model_board.specs.Layout.{LayoutRow, IsInside, is_window_over, AreApart, IsUnderWindows, IsLawful}
 use Rattle.model_board.specs.Placement.{Placed, a_region, a_window}
 use Rattle.model_board.specs.PlacedRegions.{pool_space}
-use Rattle.model_board.specs.Lawful.{IsLawfulPref, AreLawful}
 use Rattle.model_board.proofs.Members.{each_in, from_any}
 use Rattle.model_board.proofs.PathOrder.{path_same}
 use Rattle.model_board.proofs.PathEnds.{part_self, path_self, parent_snoc, last_snoc, length_snoc}
@@ -163,19 +163,19 @@ module _ (b : Board) (a : Apertures) (board : IsBoard b) (rows : List LayoutRow)
           by_bus (inr h) = apart_inside w.row v.row r s w.inside v.inside h
 
   -- two rows of one space are apart where their pools differ: memory and prefetchable apertures are
-  pools_apart : (o : Option Aperture) (r s : LayoutRow) → MatchOption o ⊤ (IsLawfulPref a.mem) → IsInside a.mem.first (a.mem.last + 1) r → MatchOption o ⊥ (λ ap. IsInside ap.first (ap.last + 1) s) → AreApart r s
+  pools_apart : (o : Option Aperture) (r s : LayoutRow) → IsPrefOption a.mem o → IsInside a.mem.first (a.mem.last + 1) r → MatchOption o ⊥ (λ ap. IsInside ap.first (ap.last + 1) s) → AreApart r s
   pools_apart None r s h k l = absurd l
   pools_apart (Some o) r s h k l = by_side h.apart
     where
-      by_side : (o.last < a.mem.first) ⊎ (a.mem.last < o.first) → AreApart r s
-      by_side (inl e) = inr (omega (arith, k.0, l.1))
-      by_side (inr e) = inl (omega (arith, k.1, l.0))
+      by_side : (a.mem.last < o.first) ⊎ (o.last < a.mem.first) → AreApart r s
+      by_side (inl e) = inl (omega (arith, k.1, l.0))
+      by_side (inr e) = inr (omega (arith, k.0, l.1))
 
   in_aperture : (r : LayoutRow) → IsIn r rows → (pool : Pool) → r.pool ≡ pool → MatchOption (aperture_of a pool) ⊥ (λ ap. IsInside ap.first (ap.last + 1) r)
   in_aperture r m pool e = subst (λ x. MatchOption (aperture_of a x) ⊥ (λ ap. IsInside ap.first (ap.last + 1) r)) e (each_in (λ (t : LayoutRow). MatchOption (aperture_of a t.pool) ⊥ (λ ap. IsInside ap.first (ap.last + 1) t)) r rows lawful.in_apertures m)
 
   -- two regions of one space are one row, or apart
-  pub spaces_apart : AreLawful a → (p q : Pool) (r s : LayoutRow) → OfEndpoint r → OfEndpoint s → r.pool ≡ p → s.pool ≡ q → same_space (pool_space p) (pool_space q) ≡ true → (r ≡ s) ⊎ AreApart r s
+  pub spaces_apart : IsLawfulApertures a → (p q : Pool) (r s : LayoutRow) → OfEndpoint r → OfEndpoint s → r.pool ≡ p → s.pool ≡ q → same_space (pool_space p) (pool_space q) ≡ true → (r ≡ s) ⊎ AreApart r s
   spaces_apart apertures io_pool io_pool r s f g e h same = regions_apart r s f g (e ∙ sym h)
   spaces_apart apertures io_pool mem_pool r s f g e h same = cc
   spaces_apart apertures io_pool pref_pool r s f g e h same = cc

@@ -5,10 +5,10 @@ use Rattle.std.specs.List.{list_all}
 use Rattle.std.proofs.lemmas.Bool.{ltb-true}
 use Rattle.std.proofs.Math.Nat.{mul-mod_left}
 use Rattle.model_registers.specs.Declarations.{Kind, io_kind, mem32, mem64, Region, registers_of, least_size, IsLawfulRegion, Bridge}
+use Rattle.model_registers.specs.Apertures.{IsLawfulApertures}
 use Rattle.model_board.specs.Pools.{Pool, mem_pool, pref_pool, Aperture, Apertures, has_pref, pref_reaches, pool_of, aperture_of}
 use Rattle.model_board.specs.Layout.{LayoutRow, IsInside}
 use Rattle.model_board.specs.Packing.{IsPowerOfTwo}
-use Rattle.model_board.specs.Lawful.{AreLawful}
 use Rattle.model_board.proofs.Packing.{Divides, divides_chain, powers_divide, power_positive}
 use Rattle.model_board.proofs.Nesting.{divides_from}
 use Rattle.model_board.proofs.SetUpRegisters.{FitsRegister}
@@ -26,23 +26,23 @@ reaches_low o above h = by_test (nat_lt o.last (2 ^ 32)) refl h
     by_test true e k = ltb-true o.last (2 ^ 32) e
     by_test false e k = cc
 
-limit_by : (i m : Aperture) (o : Option Aperture) (above : List Bridge) (k : Kind) (r : LayoutRow) → AreLawful (record { io = i; mem = m; pref = o })
+limit_by : (i m : Aperture) (o : Option Aperture) (above : List Bridge) (k : Kind) (r : LayoutRow) → IsLawfulApertures (record { io = i; mem = m; pref = o })
     → InAperture (record { io = i; mem = m; pref = o }) (pool_of (record { io = i; mem = m; pref = o }) above k) r → 0 < r.size → r.first < 256 ^ (4 * registers_of k)
-limit_by i m o above io_kind r lawful h some = omega (arith, h.1, lawful.io_limit)
-limit_by i m o above (mem32 false) r lawful h some = omega (arith, h.1, lawful.mem_limit)
-limit_by i m o above (mem64 false) r lawful h some = omega (arith, h.1, lawful.mem_limit)
-limit_by i m None above (mem32 true) r lawful h some = omega (arith, h.1, lawful.mem_limit)
-limit_by i m None above (mem64 true) r lawful h some = omega (arith, h.1, lawful.mem_limit)
+limit_by i m o above io_kind r lawful h some = omega (arith, h.1, lawful.io.ends)
+limit_by i m o above (mem32 false) r lawful h some = omega (arith, h.1, lawful.mem.ends)
+limit_by i m o above (mem64 false) r lawful h some = omega (arith, h.1, lawful.mem.ends)
+limit_by i m None above (mem32 true) r lawful h some = omega (arith, h.1, lawful.mem.ends)
+limit_by i m None above (mem64 true) r lawful h some = omega (arith, h.1, lawful.mem.ends)
 limit_by i m (Some o) above (mem32 true) r lawful h some = by_reach (pref_reaches o above false) refl h
   where
     by_reach : (t : Bool) → pref_reaches o above false ≡ t → InAperture (record { io = i; mem = m; pref = Some o }) (cond t pref_pool mem_pool) r → r.first < 2 ^ 32
     by_reach true e k = omega (arith, k.1, reaches_low o above e)
-    by_reach false e k = omega (arith, k.1, lawful.mem_limit)
+    by_reach false e k = omega (arith, k.1, lawful.mem.ends)
 limit_by i m (Some o) above (mem64 true) r lawful h some = by_reach (pref_reaches o above true) h
   where
     by_reach : (t : Bool) → InAperture (record { io = i; mem = m; pref = Some o }) (cond t pref_pool mem_pool) r → r.first < 2 ^ 64
-    by_reach true k = omega (arith, k.1, lawful.pref.limit)
-    by_reach false k = omega (arith, k.1, lawful.mem_limit)
+    by_reach true k = omega (arith, k.1, lawful.pref.ends)
+    by_reach false k = omega (arith, k.1, lawful.mem.ends)
 
 least_power : (k : Kind) → IsPowerOfTwo (least_size k)
 least_power io_kind = (2, refl)
@@ -52,7 +52,7 @@ least_power (mem64 pref) = (4, refl)
 remainder : (m n : ℕ) → Divides m n → n % m ≡ 0
 remainder m n h = ap (λ x. x % m) h.1 ∙ mul-mod_left h.0 m
 
-pub fits_register : (a : Apertures) (above : List Bridge) (g : Region) (r : LayoutRow) → AreLawful a → IsLawfulRegion g → r.size ≡ g.size → r.first % r.size ≡ 0 → InAperture a (pool_of a above g.kind) r → FitsRegister g.kind r.first
+pub fits_register : (a : Apertures) (above : List Bridge) (g : Region) (r : LayoutRow) → IsLawfulApertures a → IsLawfulRegion g → r.size ≡ g.size → r.first % r.size ≡ 0 → InAperture a (pool_of a above g.kind) r → FitsRegister g.kind r.first
 fits_register a above g r lawful region same aligned inside = record {
   aligned = remainder (least_size g.kind) r.first
       (divides_chain (least_size g.kind) g.size r.first (powers_divide (least_size g.kind) g.size (least_power g.kind) region.size_is_lawful.power region.size_is_lawful.not_less)

@@ -4,14 +4,16 @@ use Rattle.std.specs.Prelude.{map, IsTrue}
 use Rattle.model_registers.specs.Lists.{EachPair}
 use Rattle.model_registers.specs.Declarations.{Kind, io_kind, mem32, mem64, Region, registers_of, HasLawfulRegions, Endpoint}
 use Rattle.model_registers.specs.Decoding.{Space, space_of, same_space}
+use Rattle.model_registers.specs.Apertures.{IsLawfulApertures}
 use Rattle.model_board.specs.Members.{IsIn}
 use Rattle.model_board.specs.Board.{Board, Row, Decl, endpoint, bridge, is_bridge, IsBoard}
+use Rattle.model_registers.specs.DeclarationRules.{IsLawfulEndpoint}
 use Rattle.model_board.specs.Paths.{Path, path_eq, path_before}
 use Rattle.model_board.specs.Pools.{Pool, io_pool, mem_pool, pref_pool, Apertures, bridges_above}
 use Rattle.model_board.specs.Placement.{Placed, a_region, a_window, same_placed, Item, items_on}
 use Rattle.model_board.specs.SetUp.{first_of}
 use Rattle.model_board.specs.Layout.{LayoutRow, AreApart, IsLawful, pool_rows, layout}
-use Rattle.model_board.specs.Lawful.{IsLawfulDecl, HasLawfulDecls, AreLawful}
+use Rattle.model_board.specs.Lawful.{IsLawfulDecl, HasLawfulDecls}
 use Rattle.model_board.specs.PlacementLaws.{pool_at, region_row, window_rows, rows_at, HasOwnRows, IsRowFor, HasRows}
 use Rattle.model_board.specs.PlacedRegions.{PlacedRegion, placed, placed_at, placed_regions, pool_space, placed_row, placed_rows}
 use Rattle.model_board.specs.UniqueClaimant.{ShareNone}
@@ -44,8 +46,11 @@ each_pool io_pool = inl refl
 each_pool mem_pool = inr (inl refl)
 each_pool pref_pool = inr (inr (inl refl))
 
+pub lawful_decl : (b : Board) → HasLawfulDecls b → (r : Row) (d : Endpoint) → IsIn r b → r.decl ≡ endpoint d → IsLawfulEndpoint d
+lawful_decl b lawful r d m e = subst IsLawfulDecl e (each_in (λ (s : Row). IsLawfulDecl s.decl) r b lawful m)
+
 pub lawful_regions : (b : Board) → HasLawfulDecls b → (r : Row) (d : Endpoint) → IsIn r b → r.decl ≡ endpoint d → HasLawfulRegions d.regions
-lawful_regions b lawful r d m e = subst IsLawfulDecl e (each_in (λ (s : Row). IsLawfulDecl s.decl) r b lawful m)
+lawful_regions b lawful r d m e = (lawful_decl b lawful r d m e).regions
 
 spaces_same : (x y z w : Space) → x ≡ y → z ≡ w → same_space y w ≡ true → same_space x z ≡ true
 spaces_same x y z w e f h = subst (λ v. same_space x v ≡ true) (sym f) (subst (λ v. same_space v w ≡ true) (sym e) h)
@@ -58,7 +63,7 @@ region_there b a has r d g m e k =
     in_flat_map (pool_rows b a) (pool_at b a r.path g) (region_row b a r.path g) (io_pool ∷ mem_pool ∷ pref_pool ∷ []) (each_pool (pool_at b a r.path g))
     (from_filter (λ (l : LayoutRow). path_eq l.path r.path && same_placed l.what (a_region g.index)) (region_row b a r.path g) (pool_rows b a (pool_at b a r.path g)) (subst (IsIn (region_row b a r.path g)) (sym one) (inl refl))).0
 
-module _ (b : Board) (a : Apertures) (board : IsBoard b) (decls : HasLawfulDecls b) (apertures : AreLawful a) (lawful : IsLawful b a (layout b a)) (has : HasRows b a) where
+module _ (b : Board) (a : Apertures) (board : IsBoard b) (decls : HasLawfulDecls b) (apertures : IsLawfulApertures a) (lawful : IsLawful b a (layout b a)) (has : HasRows b a) where
   row_of : (q : PlacedRegion) (s : Source b a q) → OfEndpoint b a board (layout b a) lawful (region_row b a s.row.path s.region)
   row_of q s = record {
     there = region_there b a has s.row s.decl s.region s.there s.decl_is s.declared;

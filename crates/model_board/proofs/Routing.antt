@@ -144,7 +144,7 @@ module _ (d : Bridge) (f g : File) (h : SameBytes (bridge d) f g) where
       ∙ ap₂ (λ x y. window (number g (config 0x28) 4 * 2 ^ 32 + x / 16 * 2 ^ 20) (number g (config 0x2c) 4 * 2 ^ 32 + y / 16 * 2 ^ 20 + 0xfffff)) (high 0x24 2 (omega arith) (omega arith)) (high 0x26 2 (omega arith) (omega arith))
 
 same_ranges : (d : Decl) (f g : File) → IsLawfulDecl d → SameBytes d f g → ranges_of f d ≡ ranges_of g d
-same_ranges (endpoint d) f g lawful h = ap regions (same_regions d f g h d.regions lawful.each)
+same_ranges (endpoint d) f g lawful h = ap regions (same_regions d f g h d.regions lawful.regions.each)
 same_ranges (bridge d) f g lawful h =
     ap₂ (λ (u v : Option Window). windows u v (pref_window d.pref f)) (same_io d f g h d.io) (same_mem d f g h)
     ∙ ap (λ (w : Option Window). windows (io_window d.io g) (mem_window g) w) (same_pref d f g h d.pref)

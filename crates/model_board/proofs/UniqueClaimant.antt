@@ -7,6 +7,7 @@ use Rattle.std.proofs.lemmas.List.{map-append}
 use Rattle.std.proofs.lemmas.Grind.{flat_map-append}
 use Rattle.model_registers.specs.Lists.{Each, EachPair}
 use Rattle.model_registers.specs.Declarations.{Region, registers_of, IsLawfulRegion, HasLawfulRegions, Endpoint, Bridge}
+use Rattle.model_registers.specs.DeclarationRules.{IsConfigBlock}
 use Rattle.model_registers.specs.Registers.{File}
 use Rattle.model_registers.specs.Decoding.{Space, io, memory, space_of, same_space, base, is_open, Hit, hit_of}
 use Rattle.model_board.specs.Members.{IsIn}
@@ -22,7 +23,7 @@ use Rattle.model_board.specs.SetUp.{first_of, command_of, routing_of, set_up_fil
 use Rattle.model_board.specs.Routing.{RoutingRow, routing, is_routed, routed_claims}
 use Rattle.model_board.specs.PlacementLaws.{region_row, window_row, HasRows}
 use Rattle.model_board.specs.PlacedRegions.{pool_space, PlacedRegion, placed, placed_at, placed_regions, holds, claim_in, placed_claim}
-use Rattle.model_board.specs.UniqueClaimant.{CanBePlaced, HasOwnBlocks, IsClaimed, ShareNone, HasUniqueClaims, UniqueClaimant, ClaimInAnyOrder, RowsArePlaced}
+use Rattle.model_board.specs.UniqueClaimant.{CanBePlaced, IsClaimed, ShareNone, HasUniqueClaims, UniqueClaimant, ClaimInAnyOrder, RowsArePlaced}
 use Rattle.model_board.specs.WindowLaws.{HasPlacedWindows}
 use Rattle.model_board.proofs.Members.{each_in, each_from, any_in}
 use Rattle.model_board.proofs.Holders.{Holds, holds_is, is_held, self_space, claims_in, one_at_most, holder_first, same_members}
@@ -33,7 +34,7 @@ use Rattle.model_board.proofs.DeclaredRows.{rows_are_declared}
 use Rattle.model_board.proofs.BoardWindows.{set_up_windows}
 use Rattle.model_board.proofs.Partings.{one_row, BridgeAt, bridge_above}
 use Rattle.model_board.proofs.PlacedApart.{pool_of_space, WindowOver, window_over}
-use Rattle.model_board.proofs.PlacedRegions.{Source, source, lawful_regions, region_there, placed_apart, rows_to_placed, placed_to_rows}
+use Rattle.model_board.proofs.PlacedRegions.{Source, source, lawful_decl, lawful_regions, region_there, placed_apart, rows_to_placed, placed_to_rows}
 use Rattle.model_board.proofs.PlacedReads.{InAperture, fits_register}
 use Rattle.model_board.proofs.PlacedWindows.{IsBridgeWindow, bridge_window, window_holds}
 
@@ -127,7 +128,7 @@ module _ (b : Board) (a : Apertures) (can : CanBePlaced b a) (lawful : IsLawful 
   bases : (r : Row) (e : Endpoint) → IsIn r b → r.decl ≡ endpoint e → Each (λ g. base (set_up_file b a r.path (endpoint e)) g.index g.kind ≡ first_of b a r.path g) e.regions
   bases r e m decl_is =
       let regions : HasLawfulRegions e.regions = lawful_regions b can.declarations r e m decl_is in
-      bases_read e (is_shared b r.path) (command_of e) (first_of b a r.path) (subst HasOwnBlocks decl_is (each_in (λ (s : Row). HasOwnBlocks s.decl) r b can.blocks m)) regions.in_order
+      bases_read e (is_shared b r.path) (command_of e) (first_of b a r.path) (each_from (λ k. 0x40 ≤ k.offset) e.blocks (λ k i. (each_in IsConfigBlock k e.blocks (lawful_decl b can.declarations r e m decl_is).config_blocks i).begins)) regions.in_order
       (each_from (λ g. g.index + registers_of g.kind ≤ 6) e.regions (λ g k. (each_in IsLawfulRegion g e.regions regions.each k).registers))
       (each_from (λ g. FitsRegister g.kind (first_of b a r.path g)) e.regions (λ g k.
       let there : IsIn (region_row b a r.path g) (layout b a) = region_there b a has r e g m decl_is k in

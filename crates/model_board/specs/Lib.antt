@@ -14,6 +14,9 @@ pub mod Layout
 pub mod SetUp
 pub mod Examples
 pub mod Lawful
+pub mod SetUpWrites
+pub mod FunctionTable
+pub mod AtReset
 pub mod PlacementLaws
 pub mod OrderLaws
 pub mod WindowLaws

@@ -4,11 +4,12 @@
 --     UniqueClaimant      with the routing registers of set-up they are
 --     ClaimInAnyOrder      a list of the placed regions in any order has the same claim
 --     RowsArePlaced      the regions among the rows of the layout are the placed regions
-use Rattle.std.specs.Prelude.{List, ◌≡◌, ℕ, ◌<◌, ◌+◌, ◌≤◌, Some, IsTrue, ◌⊎◌, ◌↔◌, ⊤}
+use Rattle.std.specs.Prelude.{List, ◌≡◌, ℕ, ◌<◌, ◌+◌, ◌≤◌, Some, IsTrue, ◌⊎◌, ◌↔◌}
 use Rattle.std.specs.Option.{option_to_list}
 use Rattle.model_registers.specs.Lists.{Each, EachPair, first_some}
 use Rattle.model_registers.specs.Decoding.{Space, same_space}
-use Rattle.model_board.specs.Board.{Decl, endpoint, bridge, Board, IsBoard}
+use Rattle.model_registers.specs.Apertures.{IsLawfulApertures}
+use Rattle.model_board.specs.Board.{Board, IsBoard}
 use Rattle.model_board.specs.State.{BoardFunction}
 use Rattle.model_board.specs.Claims.{is_forwarded, claims, first_claim}
 use Rattle.model_board.specs.Pools.{Pool, Apertures, has_io_paths}
@@ -18,18 +19,12 @@ use Rattle.model_board.specs.Members.{IsIn}
 use Rattle.model_board.specs.SetUp.{set_up_state}
 use Rattle.model_board.specs.Routing.{routing}
 use Rattle.model_board.specs.PlacedRegions.{PlacedRegion, placed_regions, placed_rows, claim_in, placed_claim}
-use Rattle.model_board.specs.Lawful.{HasLawfulDecls, AreLawful}
-
--- the device's own registers stand from 40h on
-abbrev pub HasOwnBlocks : Decl → Type 0
-HasOwnBlocks (endpoint d) = Each (λ k. 0x40 ≤ k.offset) d.blocks
-HasOwnBlocks (bridge d) = ⊤
+use Rattle.model_board.specs.Lawful.{HasLawfulDecls}
 
 pub record CanBePlaced (b : Board) (a : Apertures) : Type 0 where
   pub places : IsBoard b
   pub declarations : HasLawfulDecls b
-  pub blocks : Each (λ r. HasOwnBlocks r.decl) b
-  pub apertures : AreLawful a
+  pub apertures : IsLawfulApertures a
   pub io_paths : IsTrue (has_io_paths b)
   pub room : (pool : Pool) → IsTrue (fits b a pool)
 

@@ -6,13 +6,14 @@ use Rattle.std.specs.Prelude.{List, [], ◌∷◌, ◌≡◌, ℕ, ◌-◌, ◌+
 use Rattle.model_registers.specs.Lists.{Each}
 use Rattle.model_registers.specs.Declarations.{IoDecode, no_io, io16, io32, PrefDecode, no_pref, pref32, pref64, Bridge}
 use Rattle.model_registers.specs.BridgeTable.{Span, Routing, bridge_file}
+use Rattle.model_registers.specs.Apertures.{IsLawfulApertures}
 use Rattle.model_board.specs.Paths.{Path}
 use Rattle.model_board.specs.Board.{Decl, endpoint, bridge, Board, IsBoard}
 use Rattle.model_board.specs.Windows.{Window, io_window, mem_window, pref_window}
 use Rattle.model_board.specs.Pools.{Pool, io_pool, mem_pool, pref_pool, unit_of, Apertures, has_io_paths}
 use Rattle.model_board.specs.Placement.{Item, need, items_on, fits, bus_first}
 use Rattle.model_board.specs.SetUp.{span_of, set_up_file}
-use Rattle.model_board.specs.Lawful.{HasLawfulDecls, AreLawful}
+use Rattle.model_board.specs.Lawful.{HasLawfulDecls}
 
 -- as set-up leaves a window without items: the base in the last unit that the register names, and the limit at 0
 abbrev pub closed_io : Span
@@ -78,5 +79,5 @@ HasPlacedWindows b a p (endpoint d) = ⊤
 HasPlacedWindows b a p (bridge d) = ForwardsPlaced b a p d
 
 abbrev pub SetUpWindows : Type 0
-SetUpWindows = (b : Board) (a : Apertures) → IsBoard b → HasLawfulDecls b → AreLawful a → IsTrue (has_io_paths b) → ((pool : Pool) → IsTrue (fits b a pool))
+SetUpWindows = (b : Board) (a : Apertures) → IsBoard b → HasLawfulDecls b → IsLawfulApertures a → IsTrue (has_io_paths b) → ((pool : Pool) → IsTrue (fits b a pool))
     → Each (λ r. HasPlacedWindows b a r.path r.decl) b

@@ -12,9 +12,10 @@ use Rattle.model_board.specs.Pools.{Apertures}
 use Rattle.model_board.specs.State.{BoardFunction}
 use Rattle.model_board.specs.SetUp.{set_up_file, command_of, first_of}
 use Rattle.model_board.proofs.PathOrder.{path_same}
+use Rattle.model_board.specs.Lawful.{IsLawfulDecl}
 use Rattle.model_guests.specs.LoneGuest.{Slots, reset_slots}
 use Rattle.model_guests.specs.Text.{Text}
-use Rattle.model_guests.specs.World.{Guest, World, endpoint_of, declared, paths_of, declarations, HasLawfulGuests, IsLawfulFunction, IsLawfulWorld}
+use Rattle.model_guests.specs.World.{Guest, World, endpoint_of, declared, paths_of, declarations, HasLawfulGuests, IsLawfulWorld}
 use Rattle.model_guests.specs.Agreement.{file_in, guest_file, agreed_file, agreed_function, agreed_state}
 use Rattle.model_guests.proofs.DistinctPlaces.{HasDistinctPlaces, distinct_places}
 use Rattle.model_guests.specs.AgreementLaws.{places_of, AgreesAt, AgreesAtEach, slots_by, AgreedStateAgrees, AgreedStateIsOnly, AgreesAtReset}
@@ -79,21 +80,21 @@ no_other : {A : Type 0} → false ≡ true → A
 no_other h = cc
 
 module _ (b : Board) (a : Apertures) (p : Path) where
-  alike : (d : Endpoint) → IsLawfulFunction (endpoint d) → Alike (endpoint_reset d false) (set_up_file b a p (endpoint d))
+  alike : (d : Endpoint) → IsLawfulDecl (endpoint d) → Alike (endpoint_reset d false) (set_up_file b a p (endpoint d))
   alike d lawful = alike_tables d (is_shared b p) (command_of d) (first_of b a p) lawful.regions.each
 
-  same_places : (decl : Decl) (file : File) → IsLawfulFunction decl → declared b p ≡ endpoint_of (record { path = p; decl = decl }) → IsFileOf places_of b p file
+  same_places : (decl : Decl) (file : File) → IsLawfulDecl decl → declared b p ≡ endpoint_of (record { path = p; decl = decl }) → IsFileOf places_of b p file
       → places_of file ≡ places_of (set_up_file b a p decl)
   same_places (endpoint d) file lawful found is =
       let same : is.decl ≡ d = cc (is.declares, found) in
       is.same ∙ ap (λ (e : Endpoint). places_of (endpoint_reset e false)) same ∙ alike_places (endpoint_reset d false) (set_up_file b a p (endpoint d)) (alike d lawful)
   same_places (bridge d) file lawful found is = cc (is.declares, found)
 
-  distinct : (decl : Decl) → IsLawfulFunction decl → declared b p ≡ endpoint_of (record { path = p; decl = decl }) → IsSome (declared b p) → HasDistinctPlaces (set_up_file b a p decl)
+  distinct : (decl : Decl) → IsLawfulDecl decl → declared b p ≡ endpoint_of (record { path = p; decl = decl }) → IsSome (declared b p) → HasDistinctPlaces (set_up_file b a p decl)
   distinct (endpoint d) lawful found some = distinct_places d lawful (is_shared b p) (command_of d) (first_of b a p)
   distinct (bridge d) lawful found some = let none : false ≡ true = sym (ap is_some found) ∙ some in no_other none
 
-  left_at_reset : (decl : Decl) (file : File) → IsLawfulFunction decl → declared b p ≡ endpoint_of (record { path = p; decl = decl }) → IsFileOf (λ (f : File). f) b p file
+  left_at_reset : (decl : Decl) (file : File) → IsLawfulDecl decl → declared b p ≡ endpoint_of (record { path = p; decl = decl }) → IsFileOf (λ (f : File). f) b p file
       → agreed_file (set_up_file b a p decl) file ≡ set_up_file b a p decl
   left_at_reset (endpoint d) file lawful found is =
       let same : is.decl ≡ d = cc (is.declares, found) in
@@ -106,12 +107,12 @@ module _ (b : Board) (a : Apertures) (p : Path) where
 -- what is known of a row of the board
 record RowFacts (w : World) (r : Row) : Type 0 where
   found : declared w.board r.path ≡ endpoint_of r
-  lawful : IsLawfulFunction r.decl
+  lawful : IsLawfulDecl r.decl
 
 row_facts : (w : World) → IsLawfulWorld w → Each (RowFacts w) w.board
 row_facts w lawful = both w.board (rows_found w.board lawful.board.in_order) lawful.functions
   where
-    both : (rs : Board) → Each (λ r. declared w.board r.path ≡ endpoint_of r) rs → Each (λ r. IsLawfulFunction r.decl) rs → Each (RowFacts w) rs
+    both : (rs : Board) → Each (λ r. declared w.board r.path ≡ endpoint_of r) rs → Each (λ r. IsLawfulDecl r.decl) rs → Each (RowFacts w) rs
     both [] found lawful = tt
     both (r ∷ rs) found lawful = (record { found = found.0; lawful = lawful.0 }, both rs found.1 lawful.1)
 

@@ -16,10 +16,11 @@ use Rattle.model_registers.specs.Decoding.{Function}
 use Rattle.model_registers.proofs.Tests.{left_true, right_true}
 use Rattle.model_board.specs.Paths.{Path, path_eq}
 use Rattle.model_board.specs.Board.{Decl, endpoint, bridge, Board}
+use Rattle.model_board.specs.Lawful.{IsLawfulDecl}
 use Rattle.model_guests.specs.Accesses.{Event, access, raises, Op, reads, writes}
 use Rattle.model_guests.specs.LoneGuest.{Slots, slot_at, with_file, Landing, landing, effect, raise_landing, event_fault, affected, after_event, slots_after, reset_function, reset_slots}
 use Rattle.model_guests.specs.OwnCopies.{is_own}
-use Rattle.model_guests.specs.World.{endpoint_of, declared, paths_of, declarations, IsLawfulFunction}
+use Rattle.model_guests.specs.World.{endpoint_of, declared, paths_of, declarations}
 use Rattle.model_guests.proofs.DistinctPlaces.{own_blocks}
 use Rattle.model_guests.proofs.ListFacts.{each_append}
 use Rattle.model_guests.proofs.AgreedFiles.{same_place}
@@ -165,11 +166,11 @@ events_low slots (e ∷ es) low = events_low (after_event slots e) es (here (is_
 
 -- ---- slots at reset
 
-declared_lawful : (b : Board) → Each (λ r. IsLawfulFunction r.decl) b → (p : Path) → MatchOption (declared b p) ⊤ IsLawfulEndpoint
+declared_lawful : (b : Board) → Each (λ r. IsLawfulDecl r.decl) b → (p : Path) → MatchOption (declared b p) ⊤ IsLawfulEndpoint
 declared_lawful [] lawful p = tt
 declared_lawful (r ∷ rs) lawful p = cases (path_eq r.path p) (declared_lawful rs lawful.1 p)
   where
-    of_decl : (decl : Decl) → IsLawfulFunction decl → MatchOption (endpoint_of (record { path = r.path; decl = decl })) ⊤ IsLawfulEndpoint
+    of_decl : (decl : Decl) → IsLawfulDecl decl → MatchOption (endpoint_of (record { path = r.path; decl = decl })) ⊤ IsLawfulEndpoint
     of_decl (endpoint d) h = h
     of_decl (bridge d) h = tt
 
@@ -185,7 +186,7 @@ empty_low : (n : ℕ) → SlotsStayLow (map reset_function (replicate n None))
 empty_low zero = tt
 empty_low (suc n) = (tt, empty_low n)
 
-slots_low : (b : Board) → Each (λ r. IsLawfulFunction r.decl) b → (qs : List Path) (n : ℕ) → SlotsStayLow (map reset_function (map (declared b) qs ++ replicate n None))
+slots_low : (b : Board) → Each (λ r. IsLawfulDecl r.decl) b → (qs : List Path) (n : ℕ) → SlotsStayLow (map reset_function (map (declared b) qs ++ replicate n None))
 slots_low b lawful [] n = empty_low n
 slots_low b lawful (q ∷ qs) n = (function_low (declared b q) (declared_lawful b lawful q), slots_low b lawful qs n)
 

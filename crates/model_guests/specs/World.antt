@@ -2,16 +2,16 @@
 --     Guest, World      a name with the paths of its slots; a board, its apertures and guests
 --     paths_of, declarations      the paths of a guest's slots, and what stands there
 --     HasLawfulNames, HasLawfulGuests, IsLawfulWorld      what holds of any board and guests that a board file gives
-use Rattle.std.specs.Prelude.{List, [], ◌∷◌, ℕ, Bool, false, ◌&&◌, ◌||◌, ◌≤◌, ⊤, length, not, nat_le, Option, Some, None, map, find, flat_map, codes, IsTrue, IsFalse, IsSome}
+use Rattle.std.specs.Prelude.{List, [], ◌∷◌, ℕ, Bool, false, ◌&&◌, ◌||◌, ◌≤◌, length, not, nat_le, Option, Some, None, map, find, flat_map, codes, IsTrue, IsFalse, IsSome}
 use Rattle.std.specs.List.{list_all}
 use Rattle.std.specs.Option.{option_map_or}
 use Rattle.std.specs.Str.{bytes_eq}
 use Rattle.model_registers.specs.Lists.{Each, EachPair}
 use Rattle.model_registers.specs.Declarations.{Endpoint}
-use Rattle.model_registers.specs.DeclarationRules.{IsLawfulEndpoint}
 use Rattle.model_board.specs.Paths.{Path, path_eq}
-use Rattle.model_board.specs.Board.{Decl, endpoint, bridge, Row, Board, IsBoard}
+use Rattle.model_board.specs.Board.{endpoint, bridge, Row, Board, IsBoard}
 use Rattle.model_board.specs.Pools.{Apertures}
+use Rattle.model_board.specs.Lawful.{HasLawfulDecls}
 use Rattle.model_guests.specs.Text.{Text}
 
 -- a guest and the paths of its slots, slot 0 first
@@ -68,12 +68,7 @@ pub record HasLawfulGuests (w : World) : Type 0 where
   pub endpoints : Each (λ p. IsSome (declared w.board p)) (given_paths w)
   pub paths_apart : EachPair (λ p q. IsFalse (path_eq p q)) (given_paths w)
 
--- of bridges nothing is needed
-abbrev pub IsLawfulFunction : Decl → Type 0
-IsLawfulFunction (endpoint d) = IsLawfulEndpoint d
-IsLawfulFunction (bridge d) = ⊤
-
 pub record IsLawfulWorld (w : World) : Type 0 where
   pub board : IsBoard w.board
-  pub functions : Each (λ r. IsLawfulFunction r.decl) w.board
+  pub functions : HasLawfulDecls w.board
   pub guests : HasLawfulGuests w

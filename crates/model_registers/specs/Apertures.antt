@@ -26,10 +26,11 @@ is_io_aperture a = is_of_units (2 ^ 12) a && nat_le 0x1000 a.first && nat_le a.l
 abbrev pub is_mem_aperture : Aperture → Bool
 is_mem_aperture a = is_of_units (2 ^ 20) a && nat_lt a.last (2 ^ 32)
 
--- prefetchable memory lies on one side of 4 GB, apart from memory
+-- prefetchable memory lies below 2^63, on one side of 4 GB, apart from memory
 abbrev pub is_pref_aperture : Aperture → Aperture → Bool
 is_pref_aperture mem a =
-    is_of_units (2 ^ 20) a && (nat_lt a.last (2 ^ 32) || nat_le (2 ^ 32) a.first) && (nat_lt mem.last a.first || nat_lt a.last mem.first)
+    is_of_units (2 ^ 20) a && nat_lt a.last (2 ^ 63) && (nat_lt a.last (2 ^ 32) || nat_le (2 ^ 32) a.first)
+    && (nat_lt mem.last a.first || nat_lt a.last mem.first)
 
 -- a board may be without a prefetchable aperture
 abbrev pub has_lawful_pref : Aperture → Option Aperture → Bool
@@ -57,6 +58,7 @@ pub record IsMemAperture (a : Aperture) : Type 0 where
 
 pub record IsPrefAperture (mem a : Aperture) : Type 0 where
   pub units : IsOfUnits (2 ^ 20) a
+  pub ends : a.last < 2 ^ 63
   pub one_side : (a.last < 2 ^ 32) ⊎ (2 ^ 32 ≤ a.first)
   pub apart : (mem.last < a.first) ⊎ (a.last < mem.first)
 

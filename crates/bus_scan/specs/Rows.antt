@@ -1,0 +1,40 @@
+-- A row of the program's table, in the words of the definitions.
+--     regions_of      the regions at base address registers, without their cells
+--     decl_of      what was found of a declaration
+--     range_of      the buses behind a bridge
+use Rattle.std.specs.Prelude.{List, [], ℕ, Option, Some, None, map}
+use Rattle.model_registers.specs.Declarations.{Bar, Region, Endpoint}
+use Rattle.model_registers.specs.EndpointTable.{opened}
+use Rattle.model_board.specs.Board.{Decl, endpoint, bridge}
+use Rattle.model_board.specs.FunctionTable.{BusRange}
+use Rattle.bars.specs.Resets.{at_reset}
+use Rattle.headers.specs.Decodes.{io_decode_of, pref_decode_of}
+use Rattle.bus_scan.specs.declared.table.Found.{Found}
+use Rattle.bus_scan.specs.declared.table.Found.TheVariants.{Endpoint as FoundEndpoint, Bridge as FoundBridge}
+
+abbrev pub regions_of : List (Option Bar) → List Region
+regions_of bars = map opened (at_reset bars)
+
+abbrev pub with_identity : ℕ → ℕ → ℕ → List Region → Endpoint
+with_identity vendor device pin regions = record {
+  vendor = vendor;
+  device = device;
+  revision = 0;
+  class = 0;
+  subvendor = 0;
+  subsystem = 0;
+  pin = pin;
+  min_gnt = 0;
+  max_lat = 0;
+  status = 0;
+  regions = regions;
+  blocks = [];
+}
+
+abbrev pub decl_of : ℕ → ℕ → Found → Decl
+decl_of vendor device (FoundEndpoint pin bars) = endpoint (with_identity vendor device pin (regions_of bars))
+decl_of vendor device (FoundBridge secondary subordinate io pref) = bridge (record { vendor = vendor; device = device; revision = 0; io = io_decode_of io; pref = pref_decode_of pref })
+
+abbrev pub range_of : Found → Option BusRange
+range_of (FoundEndpoint pin bars) = None
+range_of (FoundBridge secondary subordinate io pref) = Some (record { first = secondary; last = subordinate })

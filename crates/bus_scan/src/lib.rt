@@ -1,0 +1,10 @@
+//! Enumeration by configuration cycles alone: the functions of a board with their bus numbers, and the
+//! sizes of their regions (PCI Local Bus 3.0, chapters 6.2.1 and 6.2.5.1; PCI-to-PCI Bridge
+//! Architecture 1.2, chapter 3.2.5).
+#![tactic(auto)]
+
+mod fault;
+mod table;
+
+pub use fault::Fault;
+pub use table::{Found, FunctionRow, FunctionTable};

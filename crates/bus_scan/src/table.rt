@@ -1,0 +1,74 @@
+//! What enumeration finds of a board.
+ghost use Rattle.std.specs.Prelude.{◌≡◌};
+
+use bars::BarDecl;
+use headers::{IoDecode, PrefDecode};
+use host_bridge::Path;
+use std::marker::Model;
+
+/// What is found of a function beside its identity: an endpoint's interrupt pin (0 for none, 1 to 4 for
+/// INTA# to INTD#) and, at the index of its first register, each region; the numbers of the buses
+/// behind a bridge, both included, and the decode of its windows. Until sizes are looked for there
+/// are no regions and no windows.
+#[derive(Debug, Drop)]
+pub enum Found {
+    Endpoint {
+        pin: u8,
+        bars: [Option<BarDecl>; 6],
+    },
+    Bridge {
+        secondary: u8,
+        subordinate: u8,
+        io: IoDecode,
+        pref: PrefDecode,
+    },
+}
+
+/// A function: its path, the number of the bus that it stands on, Vendor ID and Device ID, and what else
+/// was found.
+#[derive(Debug, Drop)]
+pub struct FunctionRow {
+    pub path: Path,
+    pub bus: u8,
+    pub vendor: u16,
+    pub device: u16,
+    pub found: Found,
+}
+
+impl Model for FunctionRow {
+    ghost use Rattle.model_board.specs.FunctionTable.{TableRow};
+    ghost use Rattle.bus_scan.specs.Rows.{decl_of, range_of};
+
+    ghost Value = { TableRow };
+
+    ghost view = { λ r. record {
+      path = r.path;
+      bus = r.bus;
+      behind = range_of r.found;
+      decl = decl_of r.vendor r.device r.found;
+    } };
+}
+
+/// The functions of a board in path order.
+#[derive(Debug, Drop)]
+pub struct FunctionTable {
+    rows: Vec<FunctionRow>,
+}
+
+impl Model for FunctionTable {
+    ghost use Rattle.std.specs.Prelude.{List};
+    ghost use Rattle.model_board.specs.FunctionTable.{TableRow};
+
+    ghost Value = { List TableRow };
+
+    ghost view = { λ t. t.rows.items };
+}
+
+impl FunctionTable {
+    /// The functions in path order.
+    pub fn rows(&self) -> &[FunctionRow]
+        ensures { result.now ≡ self.now }
+    {
+        &self.rows
+    }
+}

@@ -1,0 +1,29 @@
+-- The words of the program and of the definitions for one thing.
+--     named_pool, named_placed      a pool; a region's register or a window
+--     writes_of      what is written into a function
+use Rattle.model_board.specs.Pools.{io_pool, mem_pool, pref_pool}
+use Rattle.model_board.specs.Pools as pools
+use Rattle.model_board.specs.Placement.{a_region, a_window}
+use Rattle.model_board.specs.Placement as placement
+use Rattle.model_board.specs.SetUpWrites.{to_endpoint, to_bridge}
+use Rattle.model_board.specs.SetUpWrites as set_up
+use Rattle.bars.specs.Slots.{bases_from}
+use Rattle.window_packing.specs.declared.plan.Pool.{Pool}
+use Rattle.window_packing.specs.declared.plan.Pool.TheVariants as pool
+use Rattle.window_packing.specs.declared.plan.Placed.{Placed}
+use Rattle.window_packing.specs.declared.plan.Placed.TheVariants as placed
+use Rattle.window_packing.specs.declared.plan.Writes.{Writes}
+use Rattle.window_packing.specs.declared.plan.Writes.TheVariants as writes
+
+abbrev pub named_pool : Pool → pools.Pool
+named_pool pool.Io = io_pool
+named_pool pool.Mem = mem_pool
+named_pool pool.Pref = pref_pool
+
+abbrev pub named_placed : Placed → placement.Placed
+named_placed (placed.Region index) = a_region index
+named_placed placed.Window = a_window
+
+abbrev pub writes_of : Writes → set_up.Writes
+writes_of (writes.Endpoint command bases) = to_endpoint command (bases_from 0 bases)
+writes_of (writes.Bridge io mem pref) = to_bridge (record { io = io; mem = mem; pref = pref })
