@@ -35,3 +35,5 @@ pub mod ClaimLanes
 pub mod ConfigAccesses
 pub mod FirstFound
 pub mod RowsOfPorts
+pub mod FoundBoards
+pub mod FoundPlacement

@@ -2,6 +2,7 @@
 //! placement.
 #![tactic(auto)]
 
+ghost use Rattle.model_board.specs.FunctionTable.{PlacedAsFound};
 ghost use Rattle.model_board.specs.Levels.{ItemsByBus};
 ghost use Rattle.model_board.specs.Numbering.{Numbering};
 ghost use Rattle.model_board.specs.OrderLaws.{OneOrder, OrderIsSorted};
@@ -132,4 +133,10 @@ pub fn port_accesses()
     ensures config_write { ConfigWriteByLanes }
     ensures claims { ClaimsKeepLanes }
     ensures not_enabled { PortsWhileNotEnabled }
+{}
+
+/// A scan, and sizing after it, find all that placement looks at: a lawful board as it was found is a
+/// lawful board with the same table, the same placement and settings, and the same refusals.
+pub fn placed_as_found()
+    ensures { PlacedAsFound }
 {}
