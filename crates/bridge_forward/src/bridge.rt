@@ -2,6 +2,7 @@
 ghost use Rattle.std.specs.Prelude.{◌≡◌, ◌%◌, ◌&&◌, IfOk, Option, option_map};
 ghost use Rattle.model_registers.specs.Registers.{config, number, read, write};
 ghost use Rattle.model_registers.specs.ByteEnables.{lanes};
+ghost use Rattle.model_registers.specs.DeclarationRules.{IsLawfulBridge};
 ghost use Rattle.model_registers.specs.BridgeTable.{bridge_reset};
 ghost use Rattle.model_registers.specs.Decoding.{is_open};
 ghost use Rattle.model_board.specs.Windows.{Window, is_in, is_in_window};
@@ -33,8 +34,11 @@ impl Model for BridgeFn {
 impl BridgeFn {
     /// The bridge at reset. `shared` says that its device holds other functions.
     pub(crate) fn new(alloc: Global, decl: BridgeDecl, shared: bool) -> Result<BridgeFn, AllocError>
-        ensures { IfOk result (λ b. b ≡ record { decl = decl; file = bridge_reset decl shared }) }
+        ensures made { IfOk result (λ b. b ≡ record { decl = decl; file = bridge_reset decl shared }) }
+        ensures lawful { IfOk result (λ _. IsLawfulBridge decl) }
     {
+        // A bridge that is there has a vendor.
+        prove!(decl.vendor() != 0xffff);
         let cells = Bridge::cells(alloc, &decl, shared)?;
         Ok(BridgeFn { decl, cells })
     }

@@ -1,6 +1,7 @@
 //! The tree of a board, built from what is declared of its functions.
 ghost use Rattle.std.specs.Prelude.{◌≡◌, ◌<◌, IfOk, length, map};
 ghost use Rattle.model_board.specs.Board.{IsBoard, is_shared};
+ghost use Rattle.model_board.specs.Lawful.{IsLawfulDecl, HasLawfulDecls};
 ghost use Rattle.model_board.specs.Places.{board_of};
 ghost use Rattle.bridge_forward.specs.Layout.{function_of, functions_of, paths_of, AreInOrder, EndsAt, IsLaidOut};
 ghost use Rattle.bridge_forward.specs.Functions.{reset_cells};
@@ -32,7 +33,8 @@ fn shared_devices(alloc: Global, decls: &[Decl]) -> Result<Vec<bool>, AllocError
 
 /// The function at reset, at its path. Where it ends is set by `lay_out`.
 fn node_at_reset(alloc: Global, decl: Decl, shared: bool) -> Result<Node, AllocError>
-    ensures { IfOk result (λ n. function_of n ≡ record { path = decl.path; decl = decl.decl; file = reset_cells decl.decl shared }) }
+    ensures made { IfOk result (λ n. function_of n ≡ record { path = decl.path; decl = decl.decl; file = reset_cells decl.decl shared }) }
+    ensures lawful { IfOk result (λ _. IsLawfulDecl decl.decl) }
 {
     let Decl { path, function } = decl;
     Ok(Node {
@@ -45,7 +47,8 @@ fn node_at_reset(alloc: Global, decl: Decl, shared: bool) -> Result<Node, AllocE
 /// All functions at reset.
 pub(crate) fn nodes_at_reset(alloc: Global, decls: Vec<Decl>) -> Result<Vec<Node>, AllocError>
     requires { IsBoard (board_of decls.items) }
-    ensures { IfOk result (λ v. functions_of v.items ≡ reset_functions (board_of decls.items)) }
+    ensures made { IfOk result (λ v. functions_of v.items ≡ reset_functions (board_of decls.items)) }
+    ensures lawful { IfOk result (λ _. HasLawfulDecls (board_of decls.items)) }
 {
     let mut decls = decls;
     sort(&mut decls);

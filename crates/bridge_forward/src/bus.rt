@@ -8,6 +8,7 @@ ghost use Rattle.model_board.specs.Board.{IsBoard};
 ghost use Rattle.model_board.specs.Places.{board_of};
 ghost use Rattle.model_board.specs.Claims.{first_claim};
 ghost use Rattle.model_board.specs.SetUp.{reset_state};
+ghost use Rattle.model_board.specs.AtReset.{IsAtReset};
 ghost use Rattle.bars.specs.Kinds.{named_space};
 
 use crate::build::{lay_out, nodes_at_reset};
@@ -95,7 +96,8 @@ impl Bus {
     /// than want of memory, and no later call takes memory.
     pub fn build(alloc: Global, decls: Vec<Decl>) -> Result<Bus, AllocError>
         requires { IsBoard (board_of decls.items) }
-        ensures { IfOk result (λ bus. bus ≡ (reset_state (board_of decls.items)).functions) }
+        ensures functions { IfOk result (λ bus. bus ≡ (reset_state (board_of decls.items)).functions) }
+        ensures at_reset { IfOk result (λ bus. IsAtReset (record { functions = bus; latch = 0 })) }
     {
         let mut nodes = nodes_at_reset(alloc, decls)?;
         lay_out(&mut nodes);

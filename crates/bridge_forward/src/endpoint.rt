@@ -2,6 +2,7 @@
 ghost use Rattle.std.specs.Prelude.{◌≡◌, ◌%◌, ◌+◌, ◌*◌, ◌≤◌, ◌<◌, ◌⊎◌, IfOk, IfSome, IfNone};
 ghost use Rattle.model_registers.specs.Registers.{config, block, read, write, raise};
 ghost use Rattle.model_registers.specs.ByteEnables.{lanes};
+ghost use Rattle.model_registers.specs.DeclarationRules.{IsLawfulEndpoint};
 ghost use Rattle.model_registers.specs.EndpointTable.{endpoint_reset};
 ghost use Rattle.model_registers.specs.Decoding.{lone_claim};
 ghost use Rattle.bars.specs.Kinds.{named_space};
@@ -47,7 +48,8 @@ impl EndpointFn {
         decl: EndpointDecl,
         shared: bool,
     ) -> Result<EndpointFn, AllocError>
-        ensures { IfOk result (λ e. e ≡ record { decl = decl; file = endpoint_reset decl shared }) }
+        ensures made { IfOk result (λ e. e ≡ record { decl = decl; file = endpoint_reset decl shared }) }
+        ensures lawful { IfOk result (λ _. IsLawfulEndpoint decl) }
     {
         let config = Endpoint::cells(alloc, &decl, shared)?;
         let regions = &decl.values().bar;

@@ -5,6 +5,7 @@ ghost use Rattle.std.specs.Option.{option_copied_mut};
 ghost use Rattle.model_registers.specs.Registers.{config, read, write};
 ghost use Rattle.model_registers.specs.ByteEnables.{lanes};
 ghost use Rattle.model_board.specs.Board.{is_bridge};
+ghost use Rattle.model_board.specs.Lawful.{IsLawfulDecl};
 ghost use Rattle.model_board.specs.Cycles.{secondary_register, subordinate_register};
 
 use crate::bridge::BridgeFn;
@@ -29,6 +30,7 @@ impl Function {
     pub(crate) fn new(alloc: Global, decl: Declared, shared: bool) -> Result<Function, AllocError>
         ensures decl { IfOk result (λ f. decl_of f ≡ declared decl) }
         ensures cells { IfOk result (λ f. file_of f ≡ reset_cells (declared decl) shared) }
+        ensures lawful { IfOk result (λ _. IsLawfulDecl (declared decl)) }
     {
         match decl {
             Declared::Endpoint(decl) => Ok(Function::Endpoint(EndpointFn::new(

@@ -37,3 +37,4 @@ pub mod FirstFound
 pub mod RowsOfPorts
 pub mod FoundBoards
 pub mod FoundPlacement
+pub mod StateRows

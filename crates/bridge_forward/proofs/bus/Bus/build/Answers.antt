@@ -1,9 +1,18 @@
-use Rattle.std.proofs.Common.{ap, ◌∙◌}
+use Rattle.std.proofs.Common.{◌≡◌, ap, ◌∙◌, ◌++◌, take, drop, length, arith}
+use Rattle.std.proofs.lemmas.Grind.{common_steps}
+use Rattle.model_board.specs.SetUp.{reset_state}
 use Rattle.model_board.specs.Places.{board_of}
+use Rattle.model_board.proofs.StateRows.{at_reset}
 use Rattle.bridge_forward.specs.Layout.{functions_of}
 use Rattle.bridge_forward.proofs.BoardPaths.{nodes_in_order}
 use Rattle.bridge_forward.proofs.bus.Bus.build.Goals as goal
 
 pub lay_out-requires : goal.lay_out-requires
 lay_out-requires c =
-    nodes_in_order (board_of c.args.decls.items) c.deref_mut.result.now c.requires (ap functions_of c.deref_mut.ensures.value ∙ c.in_ok-nodes.ensures)
+    nodes_in_order (board_of c.args.decls.items) c.deref_mut.result.now c.requires (ap functions_of c.deref_mut.ensures.value ∙ c.in_ok-nodes.ensures.made)
+
+pub returns-clause-at_reset : goal.returns-clause-at_reset
+returns-clause-at_reset c =
+    let nodes = take c.in_ok-nodes.nodes.len (c.lay_out.new.nodes ++ drop (length c.lay_out.new.nodes) c.in_ok-nodes.nodes.items) in
+    let same : functions_of nodes ≡ (reset_state (board_of c.args.decls.items)).functions = grind (arith, common_steps) in
+    at_reset (board_of c.args.decls.items) c.requires c.in_ok-nodes.ensures.lawful (functions_of nodes) same

@@ -23,8 +23,8 @@ invariant_of-result c =
     (ap (λ (f : CellFile). f.now) c.in_ok-config.ensures)
     (c.new-bars.ensures ∙ bars_declared d lawful c.deref.result.now (c.deref.ensures.value ∙ regions) c.bar_decls.result c.bar_decls.ensures)
 
-pub returns : goal.returns
-returns c =
+pub returns-clause-made : goal.returns-clause-made
+returns-clause-made c =
     let d = c.args.decl in
     let lawful = c.values.ensures.lawful in
     let blocks = c.in_ok-blocks.blocks.items in
