@@ -1,0 +1,15 @@
+pub mod BridgeNumbers
+pub mod States
+pub mod MetRows
+pub mod ScanSteps
+pub mod WriteBack
+pub mod ProbedFiles
+pub mod ProbedEndpoints
+pub mod ProbedBridges
+pub mod NumberedStates
+pub mod ReachedFiles
+pub mod SizedBars
+pub mod SizedFunctions
+pub mod BarSlots
+pub mod SizedTableRows
+pub mod TableSteps

@@ -1,2 +1,6 @@
 pub mod Faults
 pub mod Rows
+pub mod Scans
+pub mod Sights
+pub mod Probes
+pub mod SizedRows

@@ -1,7 +1,7 @@
 -- A row of the program's table, in the words of the definitions.
 --     regions_of      the regions at base address registers, without their cells
 --     decl_of      what was found of a declaration
---     range_of      the buses behind a bridge
+--     range_of, ended      the buses behind a bridge; the same with another last number
 use Rattle.std.specs.Prelude.{List, [], ℕ, Option, Some, None, map}
 use Rattle.model_registers.specs.Declarations.{Bar, Region, Endpoint}
 use Rattle.model_registers.specs.EndpointTable.{opened}
@@ -38,3 +38,8 @@ decl_of vendor device (FoundBridge secondary subordinate io pref) = bridge (reco
 abbrev pub range_of : Found → Option BusRange
 range_of (FoundEndpoint pin bars) = None
 range_of (FoundBridge secondary subordinate io pref) = Some (record { first = secondary; last = subordinate })
+
+-- the same buses with another last number
+abbrev pub ended : ℕ → Option BusRange → Option BusRange
+ended last None = None
+ended last (Some range) = Some (record range { last = last })

@@ -3,8 +3,14 @@
 //! Architecture 1.2, chapter 3.2.5).
 #![tactic(auto)]
 
+mod enumeration;
 mod fault;
+mod places;
+mod seen;
+mod sizing;
 mod table;
 
+pub use enumeration::scan;
 pub use fault::Fault;
+pub use sizing::size_all;
 pub use table::{Found, FunctionRow, FunctionTable};

@@ -49,10 +49,25 @@ impl Model for FunctionRow {
     } };
 }
 
+impl FunctionRow {
+    ghost use Rattle.std.specs.Prelude.{Option, Some, IsSome};
+    ghost use Rattle.model_board.specs.FunctionTable.{BusRange};
+    ghost use Rattle.bus_scan.specs.Rows.{ended};
+
+    /// Sets the last number of a bridge's buses.
+    pub(crate) fn end_numbers(&mut self, last: u8)
+        ensures { self.new ≡ record self.old { behind = ended last self.old.behind } }
+    {
+        if let Found::Bridge { subordinate, .. } = &mut self.found {
+            *subordinate = last;
+        }
+    }
+}
+
 /// The functions of a board in path order.
 #[derive(Debug, Drop)]
 pub struct FunctionTable {
-    rows: Vec<FunctionRow>,
+    pub(crate) rows: Vec<FunctionRow>,
 }
 
 impl Model for FunctionTable {
@@ -65,6 +80,13 @@ impl Model for FunctionTable {
 }
 
 impl FunctionTable {
+    /// The table of functions in path order.
+    pub(crate) fn of(rows: Vec<FunctionRow>) -> FunctionTable
+        ensures { result ≡ rows.items }
+    {
+        FunctionTable { rows }
+    }
+
     /// The functions in path order.
     pub fn rows(&self) -> &[FunctionRow]
         ensures { result.now ≡ self.now }

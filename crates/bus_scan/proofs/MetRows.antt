@@ -1,0 +1,115 @@
+-- The rows of the functions that a scan has met.
+use Rattle.std.proofs.Common.{◌≡◌, ℕ, ◌+◌, inl, inr, Bool, true, false, cond, List, [], ◌∷◌, ◌++◌, length, map, refl, sym, ap, ap₂, ◌∙◌, subst, arith}
+use Rattle.std.specs.Prelude.{IsTrue, filter, count_by}
+use Rattle.std.proofs.lemmas.List.{map-append, length-map}
+use Rattle.std.proofs.lemmas.List.Sums.{sum_by-cons}
+use Rattle.std.proofs.Math.ListN.{set}
+use Rattle.std.proofs.Math.Seq.{set-append_seam}
+use Rattle.model_registers.specs.Lists.{Each, EachPair}
+use Rattle.model_board.specs.Members.{IsIn}
+use Rattle.model_board.specs.Paths.{Path, path_eq, path_before}
+use Rattle.model_board.specs.Board.{Decl, endpoint, bridge, Board, Row, is_bridge, is_bridge_at, IsBoard}
+use Rattle.model_board.specs.BusNumbers.{bus_of}
+use Rattle.model_board.specs.FunctionTable.{TableRow, met_decl}
+use Rattle.model_board.specs.ScanOrder.{met}
+use Rattle.model_board.proofs.Members.{each_in, from_filter, none_pass, pairs_filter, in_back}
+use Rattle.model_board.proofs.PathOrder.{one, path_same}
+use Rattle.model_board.proofs.PathEnds.{not_before_itself, path_eq-sym}
+use Rattle.model_board.proofs.Scanning.{goes_before}
+use Rattle.bus_scan.specs.Scans.{met_row, range_of_numbers, StandsAt}
+use Rattle.bus_scan.proofs.States.{Numbers, map_same, bridge_there}
+
+-- ---- counts
+
+pub filter_same : {A : Type 0} (p q : A → Bool) (xs : List A) → ((x : A) → IsIn x xs → p x ≡ q x) → filter p xs ≡ filter q xs
+filter_same p q [] h = refl
+filter_same p q (x ∷ xs) h = ap₂ (λ t ys. cond t (x ∷ ys) ys) (h x (inl refl)) (filter_same p q xs (λ y m. h y (inr m)))
+
+pub count_more : (p : Row → Bool) (xs : Board) (x : Row) → count_by p (xs ++ x ∷ []) ≡ count_by p xs + one (p x)
+count_more p [] x = sum_by-cons (λ (s : Row). one (p s)) x [] ∙ swapped (one (p x))
+  where
+    swapped : (n : ℕ) → n + 0 ≡ 0 + n
+    swapped n = omega arith
+count_more p (y ∷ xs) x = omega (arith, sum_by-cons (λ (s : Row). one (p s)) y (xs ++ x ∷ []), sum_by-cons (λ (s : Row). one (p s)) y xs, count_more p xs x)
+
+-- ---- rows
+
+pub row_same : (b : Board) (n m : Numbers) (r : Row) → (is_bridge r.decl ≡ true → n r.path ≡ m r.path) → met_row b n r ≡ met_row b m r
+row_same b n m r h = by_decl r.decl refl
+  where
+    by_decl : (d : Decl) → r.decl ≡ d → met_row b n (record r { decl = d }) ≡ met_row b m (record r { decl = d })
+    by_decl (endpoint d) e = refl
+    by_decl (bridge d) e = ap (λ x. let row : TableRow = record { path = r.path; bus = bus_of b r.path; behind = range_of_numbers x (bridge d); decl = met_decl (bridge d) } in row) (h (ap is_bridge e))
+
+-- only the numbers of bridges that were met count
+pub rows_same : (b : Board) (here : Path) (n m : Numbers) → ((r : Row) → IsIn r b → path_before r.path here ≡ true → is_bridge r.decl ≡ true → n r.path ≡ m r.path) → map (met_row b n) (met b here) ≡ map (met_row b m) (met b here)
+rows_same b here n m h =
+    map_same (met_row b n) (met_row b m) (met b here)
+    (λ r k. let f = from_filter (λ (s : Row). path_before s.path here) r b k in row_same b n m r (h r f.0 f.1))
+
+-- one more
+pub rows_more : (b : Board) (p there : Path) (n m : Numbers) (r : Row) → met b there ≡ met b p ++ r ∷ [] → ((s : Row) → IsIn s b → path_before s.path p ≡ true → is_bridge s.decl ≡ true → n s.path ≡ m s.path)
+    → (rows : List TableRow) → rows ≡ map (met_row b n) (met b p) → rows ++ met_row b m r ∷ [] ≡ map (met_row b m) (met b there)
+rows_more b p there n m r more h rows is =
+    ap (λ (xs : List TableRow). xs ++ met_row b m r ∷ []) (is ∙ rows_same b p n m h)
+    ∙ sym (map-append (met_row b m) (met b p) (r ∷ []))
+    ∙ ap (map (met_row b m)) (sym more)
+
+-- ---- functions that are met later come later in the list
+
+module _ (b : Board) where
+  grows_from : (bs : Board) → EachPair (λ (r s : Row). IsTrue (path_before r.path s.path)) bs → (here there : Path) → path_before here there ≡ true → (rest : Board) × (met bs there ≡ met bs here ++ rest)
+  grows_from [] h here there before = ([], refl)
+  grows_from (r ∷ bs) h here there before = by_test (path_before r.path here) refl (grows_from bs h.1 here there before)
+    where
+      longer : (rest : Board) × (met bs there ≡ met bs here ++ rest) → (rest : Board) × (r ∷ met bs there ≡ r ∷ met bs here ++ rest)
+      longer (rest, e) = (rest, ap (λ (xs : Board). r ∷ xs) e)
+
+      none_later : path_before r.path here ≡ false → met bs here ≡ []
+      none_later e = none_pass (λ (s : Row). path_before s.path here) bs (λ s k. by_before s k (path_before s.path here) refl)
+        where
+          by_before : (s : Row) → IsIn s bs → (t : Bool) → path_before s.path here ≡ t → t ≡ false
+          by_before s k false f = refl
+          by_before s k true f = let bad : true ≡ false = sym (goes_before r.path s.path here (each_in (λ (s : Row). IsTrue (path_before r.path s.path)) s bs h.0 k) f) ∙ e in cc
+
+      by_test : (t : Bool) → path_before r.path here ≡ t → (rest : Board) × (met bs there ≡ met bs here ++ rest) → (rest : Board) × (met (r ∷ bs) there ≡ cond t (r ∷ met bs here) (met bs here) ++ rest)
+      by_test true e more = let after : path_before r.path there ≡ true = goes_before r.path here there e before in let l = longer more in (l.0, rw after l.1)
+      by_test false e more = let none : met bs here ≡ [] = none_later e in (met (r ∷ bs) there, rw none refl)
+
+pub met_grows : (b : Board) → IsBoard b → (here there : Path) → path_before here there ≡ true → (rest : Board) × (met b there ≡ met b here ++ rest)
+met_grows b lawful here there before = grows_from b b lawful.in_order here there before
+
+after_row : {A : Type 0} (R : A → A → Type 0) (xs : List A) (x : A) (ys : List A) → EachPair R (xs ++ x ∷ ys) → Each (R x) ys
+after_row R [] x ys h = h.0
+after_row R (y ∷ xs) x ys h = after_row R xs x ys h.1
+
+-- the row of a bridge is filled in
+pub row_filled : (b : Board) → IsBoard b → (p there : Path) (r : Row) → StandsAt b p r → (rest : Board) → met b there ≡ met b p ++ r ∷ rest → (n m : Numbers)
+    → ((q : Path) → path_eq q p ≡ false → is_bridge_at b q ≡ true → n q ≡ m q) → set (map (met_row b n) (met b there)) (length (met b p)) (met_row b m r) ≡ map (met_row b m) (met b there)
+row_filled b lawful p there r is rest splits n m h =
+    ap₂ (λ (xs : List TableRow) (i : ℕ). set xs i (met_row b m r)) (ap (map (met_row b n)) splits ∙ map-append (met_row b n) (met b p) (r ∷ rest)) (sym (length-map (met b p) (met_row b n)))
+    ∙ set-append_seam (map (met_row b n) (met b p)) (met_row b n r) (map (met_row b n) rest) (met_row b m r)
+    ∙ ap₂ (λ (xs ys : List TableRow). xs ++ met_row b m r ∷ ys) (rows_same b p n m (λ s k before is. h s.path (not_before s before) (bridge_there b s k is))) later_same
+    ∙ sym (map-append (met_row b m) (met b p) (r ∷ rest))
+    ∙ sym (ap (map (met_row b m)) splits)
+  where
+    in_there : (s : Row) → IsIn s rest → IsIn s b
+    in_there s k = (from_filter (λ (s : Row). path_before s.path there) s b (subst (λ (xs : Board). IsIn s xs) (sym splits) (in_back s (met b p) (r ∷ rest) (inr k)))).0
+
+    not_same : (x y : Path) → path_before x y ≡ true → (t : Bool) → path_eq x y ≡ t → t ≡ false
+    not_same x y before false e = refl
+    not_same x y before true e = absurd (not_before_itself x (ap (path_before x) (path_same x y e) ∙ before))
+
+    not_before : (s : Row) → path_before s.path p ≡ true → path_eq s.path p ≡ false
+    not_before s before = not_same s.path p before (path_eq s.path p) refl
+
+    later : Each (λ (s : Row). IsTrue (path_before r.path s.path)) rest
+    later = after_row (λ (x y : Row). IsTrue (path_before x.path y.path)) (met b p) r rest (subst (λ (xs : Board). EachPair (λ (x y : Row). IsTrue (path_before x.path y.path)) xs) splits (pairs_filter (λ (x y : Row). IsTrue (path_before x.path y.path)) (λ (s : Row). path_before s.path there) b lawful.in_order))
+
+    not_after : (s : Row) → IsIn s rest → path_eq s.path p ≡ false
+    not_after s k =
+        let before : path_before p s.path ≡ true = subst (λ (x : Path). path_before x s.path ≡ true) is.path (each_in (λ (s : Row). IsTrue (path_before r.path s.path)) s rest later k) in
+        path_eq-sym s.path p ∙ not_same p s.path before (path_eq p s.path) refl
+
+    later_same : map (met_row b n) rest ≡ map (met_row b m) rest
+    later_same = map_same (met_row b n) (met_row b m) rest (λ s k. row_same b n m s (λ is. h s.path (not_after s k) (bridge_there b s (in_there s k) is)))

@@ -1,0 +1,111 @@
+-- A numbered board: each function holds what its declaration says, and the bridges hold the board's numbers.
+use Rattle.std.proofs.Common.{◌≡◌, ◌+◌, ◌<◌, ◌≤◌, inl, inr, Bool, true, false, ◌&&◌, cond, List, [], ◌∷◌, map, Some, refl, sym, ap, ◌∙◌, subst, arith, eqb}
+use Rattle.std.specs.Prelude.{count_by, IsTrue}
+use Rattle.std.proofs.lemmas.List.Sums.{sum_by-cons}
+use Rattle.model_registers.specs.Lists.{Each, EachPair}
+use Rattle.model_registers.specs.BridgeTable.{bridge_file}
+use Rattle.model_board.specs.Members.{IsIn}
+use Rattle.model_board.specs.Paths.{Path, path_eq, path_before, leads_to}
+use Rattle.model_board.specs.Board.{Board, Row, Decl, endpoint, bridge, is_bridge, is_bridge_at, is_shared, IsBoard}
+use Rattle.model_board.specs.BusNumbers.{secondary, subordinate, bus_of}
+use Rattle.model_board.specs.State.{BoardFunction, State}
+use Rattle.model_board.specs.Cycles.{BusAddress, reached, secondary_register, subordinate_register}
+use Rattle.model_board.specs.Reach.{row_at, HasNumbers}
+use Rattle.model_board.specs.Scanning.{BusNumbers, board_numbers, numbers_in, with_numbers, numbered_file}
+use Rattle.model_board.specs.AtReset.{board_at, IsNumbered}
+use Rattle.model_board.proofs.Members.{each_in, each_from}
+use Rattle.model_board.proofs.FirstFound.{each_found}
+use Rattle.model_board.proofs.PathOrder.{one, exclusive, path_same}
+use Rattle.model_board.proofs.PathEnds.{not_before_itself}
+use Rattle.model_board.proofs.BusNumbers.{bridges, bridges-cons, at, count_three, counted}
+use Rattle.model_board.proofs.Routes.{bridge_of}
+use Rattle.model_board.proofs.Scanning.{numbers_read, bus_not_more}
+
+-- ---- numbers of a board fit
+
+whole_one : (t : Bool) → one (t && true) ≡ one t
+whole_one true = refl
+whole_one false = refl
+
+all_bridges : (b : Board) → bridges (λ x. true) b ≡ count_by (λ r. is_bridge r.decl) b
+all_bridges [] = refl
+all_bridges (r ∷ b) = bridges-cons (λ x. true) r b ∙ (let here : one (is_bridge r.decl && true) ≡ one (is_bridge r.decl) = whole_one (is_bridge r.decl) in let more : bridges (λ x. true) b ≡ count_by (λ r. is_bridge r.decl) b = all_bridges b in let split : count_by (λ r. is_bridge r.decl) (r ∷ b) ≡ one (is_bridge r.decl) + count_by (λ r. is_bridge r.decl) b = sum_by-cons (λ (s : Row). one (is_bridge s.decl)) r b in omega arith)
+
+numbers_fit : (b : Board) (p : Path) → count_by (λ r. is_bridge r.decl) b ≤ 255 → is_bridge_at b p ≡ true → (bus_of b p < 256) × (secondary b p < 256) × (subordinate b p < 256)
+numbers_fit b p few h =
+    let all : bridges (λ x. path_before x p) b + bridges (at p) b + bridges (λ x. leads_to p x) b ≤ bridges (λ x. true) b =
+    count_three (λ x. path_before x p) (at p) (λ x. leads_to p x) (λ x. true) (λ x. exclusive x p) b in
+    let last : subordinate b p < 256 = omega (arith, all_bridges b, counted b p h) in
+    (omega (arith, bus_not_more b p), omega arith, last)
+
+-- ---- what the functions hold
+
+module _ (s : State) (h : IsNumbered s) where
+  abbrev pub board : Board
+  board = board_at s.functions
+
+  abbrev HoldsNumbered : BoardFunction → Type 0
+  HoldsNumbered f = f.file ≡ numbered_file board (board_numbers board) f.path f.decl
+
+  each_holds : (rs : List Row) → Each HoldsNumbered (map (λ (r : Row). record { path = r.path; decl = r.decl; file = numbered_file board (board_numbers board) r.path r.decl }) rs)
+  each_holds [] = tt
+  each_holds (r ∷ rs) = (refl, each_holds rs)
+
+  pub holds : Each (λ f. f.file ≡ numbered_file (board_at s.functions) (board_numbers (board_at s.functions)) f.path f.decl) s.functions
+  holds = subst (λ fs. Each HoldsNumbered fs) (sym (ap (λ (s : State). s.functions) h.registers)) (each_holds board)
+
+  number_of : (f : BoardFunction) → IsIn f s.functions → (d : Decl) → f.decl ≡ d → is_bridge d ≡ true → numbers_in f.file ≡ board_numbers board f.path
+  number_of f m (endpoint d) e k = cc
+  number_of f m (bridge d) e k =
+      let here : is_bridge_at board f.path ≡ true = bridge_of board h.board s.functions refl f m (ap is_bridge e) in
+      let file : f.file ≡ bridge_file d (is_shared board f.path) (with_numbers (board_numbers board f.path)) =
+      each_in HoldsNumbered f s.functions holds m ∙ ap (numbered_file board (board_numbers board) f.path) e in
+      ap numbers_in file ∙ numbers_read d (is_shared board f.path) (board_numbers board f.path) (numbers_fit board f.path h.few here)
+
+  pub has_numbers : HasNumbers (board_at s.functions) s.functions
+  has_numbers = record {
+    rows = refl;
+    numbers = each_from (λ f. IsTrue (is_bridge f.decl) → (secondary_register f.file ≡ secondary board f.path) × (subordinate_register f.file ≡ subordinate board f.path)) s.functions
+        (λ f m k. let n = number_of f m f.decl refl k in (ap (λ (n : BusNumbers). n.secondary) n, ap (λ (n : BusNumbers). n.subordinate) n));
+  }
+
+  pub no_latch : s.latch ≡ 0
+  no_latch = ap (λ (s : State). s.latch) h.registers
+
+-- ---- the function that a number reaches
+
+-- what holds of each function holds of the one that is reached
+pub each_reached : (P : BoardFunction → Type 0) (fs : List BoardFunction) (at : BusAddress) (f : BoardFunction) → Each P fs → reached fs at ≡ Some f → P f
+each_reached P fs at f all e = by_bus (eqb at.bus 0) e
+  where
+    by_bus : (t : Bool) → cond t (Rattle.model_board.specs.Cycles.reached_type0 fs at.part) (Rattle.model_board.specs.Cycles.reached_type1 fs at.bus at.part) ≡ Some f → P f
+    by_bus true e = each_found P _ fs f all e
+    by_bus false e = each_found P _ fs f all e
+
+pub in_itself : (fs : List BoardFunction) → Each (λ f. IsIn f fs) fs
+in_itself fs = each_from (λ f. IsIn f fs) fs (λ f m. m)
+
+-- functions in path order: one alone stands at a path
+pub each_unmapped : (P : Row → Type 0) (fs : List BoardFunction) → Each P (map row_at fs) → Each (λ f. P (row_at f)) fs
+each_unmapped P [] h = tt
+each_unmapped P (f ∷ fs) h = (h.0, each_unmapped P fs h.1)
+
+pairs_unmapped : (R : Row → Row → Type 0) (fs : List BoardFunction) → EachPair R (map row_at fs) → EachPair (λ f g. R (row_at f) (row_at g)) fs
+pairs_unmapped R [] h = tt
+pairs_unmapped R (f ∷ fs) h = (each_unmapped (R (row_at f)) fs h.0, pairs_unmapped R fs h.1)
+
+abbrev InOrder : BoardFunction → BoardFunction → Type 0
+InOrder f g = IsTrue (path_before f.path g.path)
+
+never_twice : (p q : Path) → path_before p q ≡ true → p ≡ q → ⊥
+never_twice p q before e = not_before_itself p (ap (path_before p) e ∙ before)
+
+only_one : (fs : List BoardFunction) → EachPair InOrder fs → (f : BoardFunction) → IsIn f fs → Each (λ g. path_eq g.path f.path ≡ true → g ≡ f) fs
+only_one [] order f m = absurd m
+only_one (x ∷ xs) order f (inl e) =
+    (λ k. sym e, each_from (λ g. path_eq g.path f.path ≡ true → g ≡ f) xs (λ g m k. absurd (never_twice x.path g.path (each_in (InOrder x) g xs order.0 m) (sym (path_same g.path f.path k ∙ ap (λ (f : BoardFunction). f.path) e)))))
+only_one (x ∷ xs) order f (inr m) =
+    (λ k. absurd (never_twice x.path f.path (each_in (InOrder x) f xs order.0 m) (path_same x.path f.path k)), only_one xs order.1 f m)
+
+pub only_there : (fs : List BoardFunction) → IsBoard (board_at fs) → (f : BoardFunction) → IsIn f fs → Each (λ g. path_eq g.path f.path ≡ true → g ≡ f) fs
+only_there fs lawful f m = only_one fs (pairs_unmapped (λ r s. IsTrue (path_before r.path s.path)) fs lawful.in_order) f m

@@ -1,0 +1,49 @@
+-- What the window registers of a bridge read after all ones, whatever bus numbers it holds.
+use Rattle.std.proofs.Common.{ℕ, Bool, refl}
+use Rattle.model_registers.specs.Registers.{config}
+use Rattle.model_registers.specs.ByteEnables.{lanes}
+use Rattle.model_registers.specs.Declarations.{IoDecode, no_io, io16, io32, PrefDecode, no_pref, pref32, pref64, Bridge}
+use Rattle.model_registers.specs.BridgeTable.{bridge_file}
+use Rattle.model_board.specs.Scanning.{BusNumbers, with_numbers}
+use Rattle.bus_scan.proofs.ProbedFiles.{Probed}
+
+abbrev pub io_mask : IoDecode → ℕ
+io_mask no_io = 0
+io_mask io16 = 0xf0f0
+io_mask io32 = 0xf1f1
+
+abbrev pub pref_mask : PrefDecode → ℕ
+pref_mask no_pref = 0
+pref_mask pref32 = 0xfff0fff0
+pref_mask pref64 = 0xfff1fff1
+
+abbrev bridge_with : ℕ → ℕ → ℕ → IoDecode → PrefDecode → Bridge
+bridge_with vendor device revision io pref = record { vendor = vendor; device = device; revision = revision; io = io; pref = pref }
+
+probed_io_by : (v e r : ℕ) (io : IoDecode) (pref : PrefDecode) (shared : Bool) (n : BusNumbers) → Probed (lanes 0b0011) (config 0x1c) (bridge_file (bridge_with v e r io pref) shared (with_numbers n)) (io_mask io)
+probed_io_by v e r no_io no_pref shared n = record { shown = refl; back = refl }
+probed_io_by v e r no_io pref32 shared n = record { shown = refl; back = refl }
+probed_io_by v e r no_io pref64 shared n = record { shown = refl; back = refl }
+probed_io_by v e r io16 no_pref shared n = record { shown = refl; back = refl }
+probed_io_by v e r io16 pref32 shared n = record { shown = refl; back = refl }
+probed_io_by v e r io16 pref64 shared n = record { shown = refl; back = refl }
+probed_io_by v e r io32 no_pref shared n = record { shown = refl; back = refl }
+probed_io_by v e r io32 pref32 shared n = record { shown = refl; back = refl }
+probed_io_by v e r io32 pref64 shared n = record { shown = refl; back = refl }
+
+probed_pref_by : (v e r : ℕ) (io : IoDecode) (pref : PrefDecode) (shared : Bool) (n : BusNumbers) → Probed (lanes 0b1111) (config 0x24) (bridge_file (bridge_with v e r io pref) shared (with_numbers n)) (pref_mask pref)
+probed_pref_by v e r no_io no_pref shared n = record { shown = refl; back = refl }
+probed_pref_by v e r no_io pref32 shared n = record { shown = refl; back = refl }
+probed_pref_by v e r no_io pref64 shared n = record { shown = refl; back = refl }
+probed_pref_by v e r io16 no_pref shared n = record { shown = refl; back = refl }
+probed_pref_by v e r io16 pref32 shared n = record { shown = refl; back = refl }
+probed_pref_by v e r io16 pref64 shared n = record { shown = refl; back = refl }
+probed_pref_by v e r io32 no_pref shared n = record { shown = refl; back = refl }
+probed_pref_by v e r io32 pref32 shared n = record { shown = refl; back = refl }
+probed_pref_by v e r io32 pref64 shared n = record { shown = refl; back = refl }
+
+pub probed_io : (d : Bridge) (shared : Bool) (n : BusNumbers) → Probed (lanes 0b0011) (config 0x1c) (bridge_file d shared (with_numbers n)) (io_mask d.io)
+probed_io d shared n = probed_io_by d.vendor d.device d.revision d.io d.pref shared n
+
+pub probed_pref : (d : Bridge) (shared : Bool) (n : BusNumbers) → Probed (lanes 0b1111) (config 0x24) (bridge_file d shared (with_numbers n)) (pref_mask d.pref)
+probed_pref d shared n = probed_pref_by d.vendor d.device d.revision d.io d.pref shared n

@@ -1,0 +1,203 @@
+-- What the registers of a file read after all ones, and that they take back what they held.
+--     Probed      an access of these bytes reads the mask after all ones, and a write of what was read before leaves the file as it was
+use Rattle.std.proofs.Common.{◌≡◌, ℕ, ◌+◌, ◌-◌, ◌*◌, ◌/◌, ◌%◌, ◌^◌, ◌<◌, ◌≤◌, ◌⊎◌, inl, inr, Bool, true, false, List, [], ◌∷◌, ◌++◌, refl, sym, ap, ap₂, ◌∙◌, subst, arith, append-nil, lit<}
+use Rattle.std.specs.Prelude.{bit_and, bit_or}
+use Rattle.std.specs.Int.Bits.{or_zero_l, and_zero_r, and_zero_l}
+use Rattle.std.proofs.lemmas.Nat.{and_mask, and_comm, and_block, shr_split, mod_below, pow_pos, pow-add, pow_below}
+use Rattle.std.proofs.lemmas.Bool.{cases_lt}
+use Rattle.std.proofs.Math.Nat.{mod-eq_of_lt, add-zero}
+use Rattle.model_registers.specs.Registers.{Place, config, File, read, write, field}
+use Rattle.model_registers.specs.FileLaws.{HasNone}
+use Rattle.model_registers.specs.Declarations.{Kind, io_kind, mem32, mem64, registers_of, least_size, IsLawfulSize, Bar}
+use Rattle.model_registers.specs.EndpointTable.{base_register, type_bits, base_width, BaseAddress, register_cells, IsLawfulBase}
+use Rattle.model_registers.specs.BaseLaws.{shown, rebased}
+use Rattle.model_registers.specs.Sizing.{mask_of}
+use Rattle.model_registers.proofs.Files.{read_none, write_none, read_second, read_first, joined_write}
+use Rattle.model_registers.proofs.Bases.{four, size_limits, write_one, rewritten_low, rewritten_high, read_low, read_high}
+use Rattle.bus_scan.proofs.WriteBack.{field_back}
+
+abbrev pub ones : ℕ
+ones = 0xffffffff
+
+pub record Probed (ons : List Bool) (p : Place) (file : File) (mask : ℕ) : Type 0 where
+  pub shown : read (write ons ones p file) p ons ≡ mask
+  pub back : write ons (read file p ons) p (write ons ones p file) ≡ file
+
+-- ---- joined files
+
+pub probed_none : (ons : List Bool) (p : Place) (file : File) → HasNone file p ons → Probed ons p file 0
+probed_none ons p file none =
+    let stays : (x : ℕ) → write ons x p file ≡ file = λ x. write_none ons x p file none in
+    record {
+      shown = ap (λ (f : File). read f p ons) (stays ones) ∙ read_none ons p file none;
+      back = ap (write ons (read file p ons) p) (stays ones) ∙ stays (read file p ons);
+    }
+
+pub probed_second : (ons : List Bool) (p : Place) (xs ys : File) (mask : ℕ) → HasNone xs p ons → Probed ons p ys mask → Probed ons p (xs ++ ys) mask
+probed_second ons p xs ys mask none h =
+    let past : (x : ℕ) (zs : File) → write ons x p (xs ++ zs) ≡ xs ++ write ons x p zs = λ x zs. joined_write ons x p xs zs ∙ ap (λ (f : File). f ++ write ons x p zs) (write_none ons x p xs none) in
+    record {
+      shown = ap (λ (f : File). read f p ons) (past ones ys) ∙ read_second ons p xs (write ons ones p ys) none ∙ h.shown;
+      back =
+          ap₂ (λ n (f : File). write ons n p f) (read_second ons p xs ys none) (past ones ys)
+          ∙ past (read ys p ons) (write ons ones p ys) ∙ ap (λ (f : File). xs ++ f) h.back;
+    }
+
+pub probed_first : (ons : List Bool) (p : Place) (xs ys : File) (mask : ℕ) → HasNone ys p ons → Probed ons p xs mask → Probed ons p (xs ++ ys) mask
+probed_first ons p xs ys mask none h =
+    let past : (x : ℕ) (zs : File) → write ons x p (zs ++ ys) ≡ write ons x p zs ++ ys = λ x zs. joined_write ons x p zs ys ∙ ap (λ (f : File). write ons x p zs ++ f) (write_none ons x p ys none) in
+    record {
+      shown = ap (λ (f : File). read f p ons) (past ones xs) ∙ read_first ons p (write ons ones p xs) ys none ∙ h.shown;
+      back =
+          ap₂ (λ n (f : File). write ons n p f) (read_first ons p xs ys none) (past ones xs)
+          ∙ past (read xs p ons) (write ons ones p xs) ∙ ap (λ (f : File). f ++ ys) h.back;
+    }
+
+-- ---- one base address register
+
+abbrev pub all_four : List Bool
+all_four = four true true true true
+
+lower_eight : List Bool
+lower_eight = true ∷ true ∷ true ∷ true ∷ false ∷ false ∷ false ∷ false ∷ []
+
+upper_eight : List Bool
+upper_eight = false ∷ false ∷ false ∷ false ∷ true ∷ true ∷ true ∷ true ∷ []
+
+field_cells : ℕ → ℕ → ℕ → ℕ → File
+field_cells a n v w = field (config a) n v w 0
+
+back_four : (x a v w : ℕ) → write all_four (read (field (config a) 4 v w 0) (config a) all_four) (config a) (write all_four x (config a) (field (config a) 4 v w 0)) ≡ field (config a) 4 v w 0
+back_four x a v w = field_back all_four x a v w
+
+back_lower : (x a v w : ℕ) → write all_four (read (field (config a) 8 v w 0) (config a) all_four) (config a) (write all_four x (config a) (field (config a) 8 v w 0)) ≡ field (config a) 8 v w 0
+unfolding lower_eight
+back_lower x a v w = field_back lower_eight x a v w
+
+write_upper : (x a : ℕ) (file : File) → write upper_eight (x * 2 ^ 32) (config a) file ≡ write all_four x (config (a + 4)) file
+unfolding upper_eight
+write_upper x a file = ap₂ (λ y q. write all_four y (config q) file) (omega arith) (omega arith)
+
+read_upper : (a : ℕ) (file : File) → read file (config a) upper_eight ≡ read file (config (a + 4)) all_four * 2 ^ 32
+unfolding upper_eight
+read_upper a file =
+    let next : read file (config (a + 1 + 1 + 1 + 1)) all_four ≡ read file (config (a + 4)) all_four = ap (λ q. read file (config q) all_four) (omega arith) in
+    omega (arith, next)
+
+back_eight : (x a v w : ℕ) → write upper_eight (read (field (config a) 8 v w 0) (config a) upper_eight) (config a) (write upper_eight x (config a) (field (config a) 8 v w 0)) ≡ field (config a) 8 v w 0
+unfolding upper_eight
+back_eight x a v w = field_back upper_eight x a v w
+
+back_upper : (x a v w : ℕ) → write all_four (read (field (config a) 8 v w 0) (config (a + 4)) all_four) (config (a + 4)) (write all_four x (config (a + 4)) (field (config a) 8 v w 0)) ≡ field (config a) 8 v w 0
+back_upper x a v w =
+    let file : File = field (config a) 8 v w 0 in
+    ap (write all_four (read file (config (a + 4)) all_four) (config (a + 4))) (sym (write_upper x a file))
+    ∙ sym (write_upper (read file (config (a + 4)) all_four) a (write upper_eight (x * 2 ^ 32) (config a) file))
+    ∙ ap (λ n. write upper_eight n (config a) (write upper_eight (x * 2 ^ 32) (config a) file)) (sym (read_upper a file))
+    ∙ back_eight (x * 2 ^ 32) a v w
+
+-- the registers of a bar at an index, with a base
+abbrev pub at_index : ℕ → Bar → ℕ → BaseAddress
+at_index n b base = record { index = n; kind = b.kind; size = b.size; base = base }
+
+one_or_two : (kind : Kind) → (registers_of kind ≡ 1) ⊎ (registers_of kind ≡ 2)
+one_or_two io_kind = inl refl
+one_or_two (mem32 pref) = inl refl
+one_or_two (mem64 pref) = inr refl
+
+back_low : (b : BaseAddress) → write all_four (read (register_cells b) (base_register b.index) all_four) (base_register b.index) (write all_four ones (base_register b.index) (register_cells b)) ≡ register_cells b
+back_low b = elim (one_or_two b.kind) [ inl one ↦ by_width 1 one (back_four ones) | inr two ↦ by_width 2 two (back_lower ones) ]
+  where
+    by_width : (k : ℕ) → registers_of b.kind ≡ k
+        → ((a v w : ℕ) → write all_four (read (field (config a) (4 * k) v w 0) (config a) all_four) (config a) (write all_four ones (config a) (field (config a) (4 * k) v w 0)) ≡ field (config a) (4 * k) v w 0)
+        → write all_four (read (register_cells b) (base_register b.index) all_four) (base_register b.index) (write all_four ones (base_register b.index) (register_cells b)) ≡ register_cells b
+    by_width k e h =
+        subst (λ n. write all_four (read (field (base_register b.index) (4 * n) (b.base + type_bits b.kind) (2 ^ base_width b.kind - b.size) 0) (base_register b.index) all_four) (base_register b.index)
+        (write all_four ones (base_register b.index) (field (base_register b.index) (4 * n) (b.base + type_bits b.kind) (2 ^ base_width b.kind - b.size) 0))
+        ≡ field (base_register b.index) (4 * n) (b.base + type_bits b.kind) (2 ^ base_width b.kind - b.size) 0) (sym e)
+        (h (0x10 + 4 * b.index) (b.base + type_bits b.kind) (2 ^ base_width b.kind - b.size))
+
+back_high : (b : BaseAddress) → registers_of b.kind ≡ 2
+    → write all_four (read (register_cells b) (base_register (b.index + 1)) all_four) (base_register (b.index + 1)) (write all_four ones (base_register (b.index + 1)) (register_cells b)) ≡ register_cells b
+back_high b two =
+    let v : ℕ = b.base + type_bits b.kind in
+    let w : ℕ = 2 ^ base_width b.kind - b.size in
+    let next : 0x10 + 4 * b.index + 4 ≡ 0x10 + 4 * (b.index + 1) = omega arith in
+    subst (λ n. write all_four (read (field (base_register b.index) (4 * n) v w 0) (base_register (b.index + 1)) all_four) (base_register (b.index + 1))
+    (write all_four ones (base_register (b.index + 1)) (field (base_register b.index) (4 * n) v w 0)) ≡ field (base_register b.index) (4 * n) v w 0) (sym two)
+    (subst (λ q. write all_four (read (field (base_register b.index) 8 v w 0) (config q) all_four) (config q) (write all_four ones (config q) (field (base_register b.index) 8 v w 0)) ≡ field (base_register b.index) 8 v w 0) next
+    (back_upper ones (0x10 + 4 * b.index) v w))
+
+-- ---- what they read
+
+-- a base of 0 after all ones
+ones_rebased : (w m x e : ℕ) → bit_or (bit_and 0 (2 ^ w - 1 - bit_and m e)) (bit_and x (bit_and m e)) ≡ bit_and x (bit_and m e)
+ones_rebased w m x e = ap (λ n. bit_or n (bit_and x (bit_and m e))) (and_zero_l (2 ^ w - 1 - bit_and m e)) ∙ or_zero_l (bit_and x (bit_and m e))
+
+low_mask : (m : ℕ) → bit_and ones (bit_and m ones) ≡ m % 2 ^ 32
+low_mask m = ap (bit_and ones) (and_mask m 32) ∙ and_comm ones (m % 2 ^ 32) ∙ and_mask (m % 2 ^ 32) 32 ∙ omega arith
+
+and_upper : (v e : ℕ) → bit_and v (e * 2 ^ 32) ≡ bit_and (v / 2 ^ 32) e * 2 ^ 32
+and_upper v e =
+    ap₂ bit_and (sym (shr_split v 32)) (sym (add-zero (e * 2 ^ 32))) ∙ and_block 32 (v / 2 ^ 32) e (v % 2 ^ 32) 0 (mod_below v (2 ^ 32) (pow_pos 32)) (pow_pos 32)
+    ∙ omega (arith, and_zero_r (v % 2 ^ 32))
+
+high_mask : (m : ℕ) → m < 2 ^ 64 → bit_and (ones * 2 ^ 32) (bit_and m (ones * 2 ^ 32)) ≡ m / 2 ^ 32 * 2 ^ 32
+high_mask m h =
+    let upper : m / 2 ^ 32 < 2 ^ 32 = omega arith in
+    ap (bit_and (ones * 2 ^ 32)) (and_upper m ones ∙ ap (λ n. n * 2 ^ 32) (and_mask (m / 2 ^ 32) 32 ∙ mod-eq_of_lt upper))
+    ∙ and_upper (ones * 2 ^ 32) (m / 2 ^ 32)
+    ∙ ap (λ n. n * 2 ^ 32) (and_comm ones (m / 2 ^ 32) ∙ and_mask (m / 2 ^ 32) 32 ∙ mod-eq_of_lt upper)
+
+-- a size of 16 or more is a multiple of 16
+pub sixteens : (kind : Kind) (size : ℕ) → IsLawfulSize kind size → 16 ≤ size → size % 16 ≡ 0
+sixteens kind size h least =
+    let k : ℕ = h.power.0 in
+    let is : size ≡ 2 ^ k = h.power.1 in
+    let within : 4 ≤ k = elim (cases_lt k 4) [ inl below ↦ absurd (omega (arith, is, pow_below k 4 below)) | inr le ↦ le ] in
+    let split : 2 ^ k ≡ 2 ^ (k - 4) * 2 ^ 4 = ap (λ n. 2 ^ n) (omega arith) ∙ pow-add 2 (k - 4) 4 in
+    omega (arith, is, split)
+
+zero_lawful : (n : ℕ) (b : Bar) → IsLawfulSize b.kind b.size → IsLawfulBase (at_index n b 0)
+zero_lawful n b lawful =
+    record { size_is_lawful = lawful; aligned = mod-eq_of_lt (omega (arith, (size_limits b.kind b.size lawful).1)); fits = pow_pos (base_width b.kind) }
+
+low_shown : (n : ℕ) (b : Bar) → IsLawfulSize b.kind b.size
+    → read (write all_four ones (base_register n) (register_cells (at_index n b 0))) (base_register n) all_four ≡ mask_of b % 2 ^ 32
+low_shown n b lawful =
+    let zero : BaseAddress = at_index n b 0 in
+    let m : ℕ = 2 ^ base_width b.kind - b.size in
+    let base : rebased zero ones ones ≡ m % 2 ^ 32 = ones_rebased (base_width b.kind) m ones ones ∙ low_mask m in
+    let cells : write all_four ones (base_register n) (register_cells zero) ≡ register_cells (at_index n b (m % 2 ^ 32)) =
+    write_one zero (zero_lawful n b lawful) true true true true ones n ∙ ap register_cells (rewritten_low n all_four ones zero refl ∙ ap (at_index n b) base) in
+    let then : BaseAddress = at_index n b (m % 2 ^ 32) in
+    ap (λ (f : File). read f (base_register n) all_four) (cells ∙ sym (append-nil (register_cells then)))
+    ∙ read_low then [] true true true true ∙ and_mask (shown then) 32 ∙ omega arith
+
+high_shown : (n : ℕ) (b : Bar) → IsLawfulSize b.kind b.size → registers_of b.kind ≡ 2
+    → read (write all_four ones (base_register (n + 1)) (register_cells (at_index n b 0))) (base_register (n + 1)) all_four ≡ mask_of b / 2 ^ 32
+high_shown n b lawful two =
+    let zero : BaseAddress = at_index n b 0 in
+    let m : ℕ = 2 ^ base_width b.kind - b.size in
+    let width : 2 ^ base_width b.kind ≡ 2 ^ 64 = ap (λ k. 2 ^ (32 * k)) two in
+    let limits : (b.size < 2 ^ base_width b.kind) × (type_bits b.kind < b.size) = size_limits b.kind b.size lawful in
+    let least : (16 ≤ b.size) × (type_bits b.kind < 16) = wide b.kind two b.size lawful.not_less in
+    let rest : b.size % 16 ≡ 0 = sixteens b.kind b.size lawful least.0 in
+    let base : rebased zero (ones * 2 ^ 32) (ones * 2 ^ 32) ≡ m / 2 ^ 32 * 2 ^ 32 = ones_rebased (base_width b.kind) m (ones * 2 ^ 32) (ones * 2 ^ 32) ∙ high_mask m (omega arith) in
+    let then : BaseAddress = at_index n b (m / 2 ^ 32 * 2 ^ 32) in
+    let cells : write all_four ones (base_register (n + 1)) (register_cells zero) ≡ register_cells then =
+    write_one zero (zero_lawful n b lawful) true true true true ones (n + 1) ∙ ap register_cells (rewritten_high (n + 1) all_four ones zero refl two ∙ ap (at_index n b) base) in
+    ap (λ (f : File). read f (base_register (n + 1)) all_four) (cells ∙ sym (append-nil (register_cells then)))
+    ∙ read_high then two [] true true true true ∙ and_mask (shown then / 2 ^ 32) 32 ∙ omega arith
+  where
+    wide : (kind : Kind) → registers_of kind ≡ 2 → (size : ℕ) → least_size kind ≤ size → (16 ≤ size) × (type_bits kind < 16)
+    wide io_kind two size h = absurd (omega arith)
+    wide (mem32 pref) two size h = absurd (omega arith)
+    wide (mem64 true) two size h = (h, lit< tt)
+    wide (mem64 false) two size h = (h, lit< tt)
+
+pub probed_low : (n : ℕ) (b : Bar) → IsLawfulSize b.kind b.size → Probed all_four (base_register n) (register_cells (at_index n b 0)) (mask_of b % 2 ^ 32)
+probed_low n b lawful = record { shown = low_shown n b lawful; back = back_low (at_index n b 0) }
+
+pub probed_high : (n : ℕ) (b : Bar) → IsLawfulSize b.kind b.size → registers_of b.kind ≡ 2 → Probed all_four (base_register (n + 1)) (register_cells (at_index n b 0)) (mask_of b / 2 ^ 32)
+probed_high n b lawful two = record { shown = high_shown n b lawful two; back = back_high (at_index n b 0) two }

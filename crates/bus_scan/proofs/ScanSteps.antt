@@ -1,0 +1,482 @@
+-- A scan from one place to the next.
+use Rattle.std.proofs.Common.{◌≡◌, ℕ, ◌+◌, ◌%◌, ◌≤◌, ◌<◌, inr, Bool, true, false, not, cond, ◌&&◌, ◌||◌, List, [], ◌∷◌, ◌++◌, length, append_assoc, map, Option, Some, None, refl, sym, ap, ap₂, ◌∙◌, subst, arith, eqb, get_or, length-append}
+use Rattle.std.specs.Prelude.{find, count_by}
+use Rattle.std.proofs.Math.ListN.{set}
+use Rattle.std.proofs.Math.Seq.{get_or-append_seam}
+use Rattle.std.proofs.lemmas.List.{map-append, length-map}
+use Rattle.model_registers.specs.Declarations.{no_io, no_pref}
+use Rattle.model_board.specs.Members.{IsIn}
+use Rattle.model_board.specs.Paths.{Part, Path, part_eq, part_before, path_eq, path_before, leads_to, IsPath}
+use Rattle.model_board.specs.Board.{Decl, endpoint, bridge, Board, Row, is_bridge, is_bridge_at, stands_at, is_shared, IsBoard}
+use Rattle.model_board.specs.BusNumbers.{secondary, subordinate, bus_behind, bus_of, Enumerates}
+use Rattle.model_board.specs.FunctionTable.{TableRow, met_decl, scanned_table, table_row}
+use Rattle.model_board.specs.State.{BoardFunction, State}
+use Rattle.model_board.specs.Cycles.{BusAddress, reached}
+use Rattle.model_board.specs.SetUp.{state_of, reset_file, reset_state}
+use Rattle.model_board.specs.Lawful.{IsLawfulDecl}
+use Rattle.model_board.specs.Scanning.{BusNumbers, no_numbers, board_numbers, open_numbers, scan_numbers, scan_state, numbered_file, numbered_state}
+use Rattle.model_board.specs.ScanOrder.{place, on, next_place, met, GivesNumbersInPathOrder}
+use Rattle.model_board.proofs.Members.{each_in, any_in, from_filter}
+use Rattle.model_board.proofs.PathOrder.{one, path_same, leads_before}
+use Rattle.model_board.proofs.PathEnds.{part_self, path_self, leads_self, parent_snoc, not_before_itself}
+use Rattle.model_board.proofs.Partings.{bridge_at, leads_longer}
+use Rattle.model_board.proofs.Scanning.{goes_before, met_before, reached_while_scanning, numbers_of_scan_state}
+use Rattle.model_board.proofs.ScanPlaces.{before_first, before_last, leads_place, row_path}
+use Rattle.model_board.proofs.ScanOrder.{scan_meets, scan_gives_numbers, no_bridge_here, no_bridge_none}
+use Rattle.bus_scan.specs.declared.seen.Seen.{Seen}
+use Rattle.bus_scan.specs.declared.seen.Layout.TheVariants.{Endpoint as EndpointLayout, Bridge as BridgeLayout}
+use Rattle.bus_scan.specs.declared.table.Found.TheVariants.{Endpoint as FoundEndpoint}
+use Rattle.bus_scan.specs.Rows.{decl_of, ended as ended_range}
+use Rattle.bus_scan.specs.Sights.{seen_of}
+use Rattle.bus_scan.specs.Scans.{met_row, given, IsAt, OnBus, StandsAt, IsFound, IsBridgeThere}
+use Rattle.bus_scan.proofs.States.{Numbers, numbered, map_same, same_state, none_stands, one_stands, stands, bridge_there}
+use Rattle.bus_scan.proofs.MetRows.{count_more, filter_same, row_same, rows_same, rows_more, met_grows, row_filled}
+
+-- ---- cycles
+
+pub before_on : (bus : Path) (t : Part) → path_before bus (bus ++ t ∷ []) ≡ true
+before_on bus t = leads_before bus (bus ++ t ∷ []) (leads_self bus t)
+
+-- a cycle for a place of the bus reaches what stands there
+pub reaches : (b : Board) (bus : Path) (number : ℕ) → OnBus b bus number → (here : Path) (s : State) (rows : List TableRow) (last : ℕ) → IsAt b here s rows last → path_before bus here ≡ true
+    → (n : ℕ) → reached s.functions (record { bus = number; part = place n }) ≡ find (λ f. path_eq f.path (on bus n)) s.functions
+reaches b bus number on_bus here s rows last at before n =
+    let small : secondary b here ≤ 256 = omega (arith, at.last_given, at.last_fits) in
+    ap₂ (λ (s : State) (k : ℕ). reached s.functions (record { bus = k; part = place n })) at.state on_bus.named
+    ∙ reached_while_scanning b on_bus.board here small (scan_state b here).functions (numbers_of_scan_state b here small) bus on_bus.there before (place n)
+    ∙ sym (ap (λ (s : State). find (λ f. path_eq f.path (on bus n)) s.functions) at.state)
+
+-- what is seen at a place
+pub data Sight (b : Board) (bus : Path) (number n : ℕ) (o : Option Seen) : Type 0 where
+  Nothing : stands_at b (on bus n) ≡ false → o ≡ None → Sight b bus number n o
+  Function : (r : Row) (seen : Seen) → o ≡ Some seen → IsFound b bus number n r seen → Sight b bus number n o
+
+pub sighted : (b : Board) (bus : Path) (number : ℕ) → OnBus b bus number → (n : ℕ) (s : State) (rows : List TableRow) (last : ℕ) → IsAt b (on bus n) s rows last → (a : BusAddress) → a ≡ record { bus = number; part = place n }
+    → (o : Option Seen) → (reached s.functions a ≡ None → o ≡ None)
+    → ((c : Board) (numbers : Path → BusNumbers) (f : BoardFunction) → reached s.functions a ≡ Some f → f.file ≡ numbered_file c numbers f.path f.decl → IsLawfulDecl f.decl → o ≡ Some (seen_of (is_shared c f.path) f.decl))
+    → Sight b bus number n o
+sighted b bus number on_bus n s rows last at a is o none some = by_stands (stands_at b (on bus n)) refl
+  where
+    found_here : reached s.functions a ≡ find (λ f. path_eq f.path (on bus n)) (scan_state b (on bus n)).functions
+    found_here =
+        ap (λ (a : BusAddress). reached s.functions a) is ∙ reaches b bus number on_bus (on bus n) s rows last at (before_on bus (place n)) n
+        ∙ ap (λ (s : State). find (λ f. path_eq f.path (on bus n)) s.functions) at.state
+
+    by_stands : (t : Bool) → stands_at b (on bus n) ≡ t → Sight b bus number n o
+    by_stands false e = Nothing e (none (found_here ∙ none_stands b (scan_numbers b (on bus n)) (on bus n) e))
+    by_stands true e =
+        let r = stands b (on bus n) e in
+        let numbers = scan_numbers b (on bus n) in
+        let shown = some b numbers (numbered b numbers r.0) (found_here ∙ one_stands b on_bus.board numbers (on bus n) r.0 r.1) refl (each_in (λ (r : Row). IsLawfulDecl r.decl) r.0 b on_bus.declarations r.1.member) in
+        Function r.0 (seen_of (is_shared b r.0.path) r.0.decl) shown (record {
+          on_bus = on_bus;
+          stands = r.1;
+          shows = ap (λ (p : Path). seen_of (is_shared b p) r.0.decl) r.1.path;
+        })
+
+-- ---- from place to place
+
+-- the next place, as the program finds it
+pub next_is : (b : Board) (bus : Path) (n m : ℕ) (t shared : Bool) → stands_at b (on bus n) ≡ t → (t && is_shared b (on bus n)) ≡ shared → m ≡ cond (eqb (n % 8) 0 && not shared) (n + 8) (n + 1) → m ≡ next_place b bus n
+next_is b bus n m t shared e f h = h ∙ ap (λ x. cond (eqb (n % 8) 0 && not x) (n + 8) (n + 1)) (sym f ∙ ap (λ x. x && is_shared b (on bus n)) (sym e))
+
+-- where no function is met in between, and no number changes
+pub goes_on : (b : Board) → IsBoard b → (p q : Path) → met b q ≡ met b p → ((x : Path) → is_bridge_at b x ≡ true → scan_numbers b q x ≡ scan_numbers b p x) → (s : State) (rows : List TableRow) (last : ℕ) → IsAt b p s rows last → IsAt b q s rows last
+goes_on b lawful p q same numbers s rows last at = record {
+  state = at.state ∙ same_state b (scan_numbers b p) (scan_numbers b q) (λ x k. sym (numbers x k));
+  rows_met = at.rows_met ∙ rows_same b p (scan_numbers b p) (scan_numbers b q) (λ r m before is. sym (numbers r.path (bridge_there b r m is))) ∙ ap (map (met_row b (scan_numbers b q))) (sym same);
+  last_given = laws.next_number q ∙ ap (λ (rs : Board). 1 + count_by (λ r. is_bridge r.decl) rs) same ∙ sym (laws.next_number p) ∙ at.last_given;
+  last_fits = at.last_fits;
+}
+  where
+    laws : GivesNumbersInPathOrder b
+    laws = scan_gives_numbers b lawful
+
+pub past_nothing : (b : Board) → IsBoard b → (bus : Path) (n m : ℕ) (s : State) (rows : List TableRow) (last : ℕ) → stands_at b (on bus n) ≡ false → m ≡ cond (eqb (n % 8) 0 && true) (n + 8) (n + 1) → IsAt b (on bus n) s rows last → IsAt b (on bus m) s rows last
+past_nothing b lawful bus n m s rows last none is at =
+    subst (λ k. IsAt b (on bus k) s rows last) (sym (next_is b bus n m false false none refl is))
+    (goes_on b lawful (on bus n) (on bus (next_place b bus n)) ((scan_meets b lawful).none bus n none) ((scan_gives_numbers b lawful).no_bridge bus n (no_bridge_none b lawful (on bus n) none)) s rows last at)
+
+pub stands_true : (b : Board) (p : Path) (r : Row) → StandsAt b p r → stands_at b p ≡ true
+stands_true b p r is = any_in (λ (s : Row). path_eq s.path p) r b is.member (ap (λ (x : Path). path_eq x p) is.path ∙ path_self p)
+
+pub bridge_true : (b : Board) (p : Path) (r : Row) → StandsAt b p r → is_bridge r.decl ≡ true → is_bridge_at b p ≡ true
+bridge_true b p r is bridge_is = subst (λ (x : Path). is_bridge_at b x ≡ true) is.path (bridge_there b r is.member bridge_is)
+
+-- past an endpoint
+pub past_endpoint : (b : Board) → IsBoard b → (bus : Path) (n m : ℕ) (r : Row) → StandsAt b (on bus n) r → is_bridge r.decl ≡ false → (s : State) (rows : List TableRow) (last : ℕ)
+    → m ≡ cond (eqb (n % 8) 0 && not (is_shared b (on bus n))) (n + 8) (n + 1) → IsAt b (on bus n) s rows last → (row : TableRow) → row ≡ met_row b (scan_numbers b (on bus n)) r → IsAt b (on bus m) s (rows ++ row ∷ []) last
+past_endpoint b lawful bus n m r is none s rows last next at row shown =
+    subst (λ k. IsAt b (on bus k) s (rows ++ row ∷ []) last) (sym (next_is b bus n m true (is_shared b (on bus n)) (stands_true b (on bus n) r is) refl next))
+    (record {
+      state = at.state ∙ same_state b (scan_numbers b (on bus n)) (scan_numbers b (on bus (next_place b bus n))) (λ x k. sym (numbers x k));
+      rows_met = ap (λ (x : TableRow). rows ++ x ∷ []) (shown ∙ row_same b (scan_numbers b (on bus n)) (scan_numbers b (on bus (next_place b bus n))) r (λ k. let bad : true ≡ false = sym k ∙ none in cc))
+          ∙ rows_more b (on bus n) (on bus (next_place b bus n)) (scan_numbers b (on bus n)) (scan_numbers b (on bus (next_place b bus n))) r more (λ x k before bridge_is. sym (numbers x.path (bridge_there b x k bridge_is))) rows at.rows_met;
+      last_given = omega (arith, laws.next_number (on bus (next_place b bus n)), ap (λ (rs : Board). count_by (λ x. is_bridge x.decl) rs) more, count_more (λ x. is_bridge x.decl) (met b (on bus n)) r, ap one none, laws.next_number (on bus n), at.last_given);
+      last_fits = at.last_fits;
+    })
+  where
+    laws : GivesNumbersInPathOrder b
+    laws = scan_gives_numbers b lawful
+
+    more : met b (on bus (next_place b bus n)) ≡ met b (on bus n) ++ r ∷ []
+    more = (scan_meets b lawful).endpoint bus n r is.member is.path none
+
+    numbers : (x : Path) → is_bridge_at b x ≡ true → scan_numbers b (on bus (next_place b bus n)) x ≡ scan_numbers b (on bus n) x
+    numbers = laws.no_bridge bus n (subst (λ (p : Path). is_bridge_at b p ≡ false) is.path (no_bridge_here b lawful r is.member none))
+
+-- ---- bridges
+
+apart : (x p : Path) → path_before x p ≡ true → (t : Bool) → path_eq x p ≡ t → t ≡ false
+apart x p before false e = refl
+apart x p before true e = absurd (not_before_itself x (ap (path_before x) (path_same x p e) ∙ before))
+
+-- numbers given to one bridge by its path
+given_by : (f : Path → BusNumbers) (numbers : Numbers) (p x : Path) (t : Bool) → path_eq x p ≡ t → cond t (f p) (numbers x) ≡ cond t (f x) (numbers x)
+given_by f numbers p x true e = ap f (sym (path_same x p e))
+given_by f numbers p x false e = refl
+
+more_behind : (b : Board) → IsBoard b → (p : Path) (r : Row) → StandsAt b p r → met b (on p 0) ≡ met b p ++ r ∷ []
+more_behind b lawful p r is = subst (λ (x : Path). met b (on x 0) ≡ met b x ++ r ∷ []) is.path ((scan_meets b lawful).behind r is.member)
+
+-- into the side of a bridge
+pub opened : (b : Board) → IsBoard b → (p : Path) (r : Row) → StandsAt b p r → is_bridge r.decl ≡ true → (s : State) (rows : List TableRow) (last : ℕ) → last + 1 < 256 → IsAt b p s rows last
+    → (new : State) → new ≡ state_of b (numbered_file b (given p (open_numbers b p) (scan_numbers b p))) → (row : TableRow) → row ≡ met_row b (scan_numbers b (on p 0)) r → IsAt b (on p 0) new (rows ++ row ∷ []) (last + 1)
+opened b lawful p r is bridge_is s rows last room at new written row shown = record {
+  state = written ∙ same_state b (given p (open_numbers b p) (scan_numbers b p)) (scan_numbers b (on p 0))
+      (λ x k. given_by (open_numbers b) (scan_numbers b p) p x (path_eq x p) refl ∙ sym (laws.behind p x));
+  rows_met = ap (λ (x : TableRow). rows ++ x ∷ []) shown
+      ∙ rows_more b p (on p 0) (scan_numbers b p) (scan_numbers b (on p 0)) r (more_behind b lawful p r is)
+      (λ x k before i. sym (laws.behind p x.path ∙ ap (λ t. cond t (open_numbers b x.path) (scan_numbers b p x.path)) (apart x.path p before (path_eq x.path p) refl))) rows at.rows_met;
+  last_given = omega (arith, laws.next_number (on p 0), ap (λ (rs : Board). count_by (λ x. is_bridge x.decl) rs) (more_behind b lawful p r is), count_more (λ x. is_bridge x.decl) (met b p) r, ap one bridge_is, laws.next_number p, at.last_given);
+  last_fits = room;
+}
+  where
+    laws : GivesNumbersInPathOrder b
+    laws = scan_gives_numbers b lawful
+
+-- nothing stands behind the longest paths
+pub deepest : (b : Board) → IsBoard b → (p : Path) → 16 ≤ length p → (s : State) (rows : List TableRow) (last : ℕ) → IsAt b (on p 0) s rows last → IsAt b (on p 128) s rows last
+deepest b lawful p long s rows last at =
+    goes_on b lawful (on p 0) (on p 128) (filter_same (λ y. path_before y.path (on p 128)) (λ y. path_before y.path (on p 0)) b (λ y m. same_before y.path (row_path b lawful y m)))
+    (λ x there. let r = bridge_at b lawful x there in
+    ap₂ (λ t u. cond t (open_numbers b x) (cond u (board_numbers b x) no_numbers)) (leads_place x p (place 128) ∙ sym (leads_place x p (place 0))) (same_before x (subst IsPath r.3 (row_path b lawful r.0 r.1)))) s rows last at
+  where
+    none_behind : (x : Path) → IsPath x → (t : Bool) → leads_to p x ≡ t → t ≡ false
+    none_behind x path false e = refl
+    none_behind x path true e = absurd (omega (arith, leads_longer p x e, path.few))
+
+    or_none : (t u v : Bool) → v ≡ false → (t || u || v) ≡ (t || u)
+    or_none true u v e = refl
+    or_none false true v e = refl
+    or_none false false v e = e
+
+    same_before : (x : Path) → IsPath x → path_before x (on p 128) ≡ path_before x (on p 0)
+    same_before x path = before_last x p path.parts ∙ or_none (path_before x p) (path_eq x p) (leads_to p x) (none_behind x path (leads_to p x) refl) ∙ sym (before_first x p)
+
+first_before_last : (p : Path) → path_before (on p 0) (on p 128) ≡ true
+first_before_last [] = refl
+first_before_last (a ∷ p) = step (part_before a a) (part_eq a a) (path_before (on p 0) (on p 128)) (part_self a) (first_before_last p)
+  where
+    step : (c d e : Bool) → d ≡ true → e ≡ true → (c || (d && e)) ≡ true
+    step true d e h k = refl
+    step false d e h k = rw (h, k) refl
+
+-- out of the side of a bridge
+closed_at : (b : Board) → IsBoard b → (p to : Path) (r : Row) → StandsAt b p r → is_bridge r.decl ≡ true → met b to ≡ met b (on p 128)
+    → ((q : Path) → is_bridge_at b q ≡ true → scan_numbers b to q ≡ cond (path_eq q p) (board_numbers b q) (scan_numbers b (on p 128) q)) → (s : State) (rows : List TableRow) (last : ℕ)
+    → IsAt b (on p 128) s rows last → (new : State) → new ≡ state_of b (numbered_file b (given p (board_numbers b p) (scan_numbers b (on p 128))))
+    → (i : ℕ) → i ≡ length (met b p) → (row : TableRow) → row ≡ met_row b (board_numbers b) r → IsAt b to new (set rows i row) last
+closed_at b lawful p to r is bridge_is same back s rows last at new written i index row shown = record {
+  state = written ∙ same_state b (given p (board_numbers b p) (scan_numbers b (on p 128))) (scan_numbers b to)
+      (λ x k. given_by (board_numbers b) (scan_numbers b (on p 128)) p x (path_eq x p) refl ∙ sym (back x k));
+  rows_met = ap₂ (λ (xs : List TableRow) (k : ℕ). set xs k row) at.rows_met index
+      ∙ ap (λ (x : TableRow). set (map (met_row b (scan_numbers b (on p 128))) (met b (on p 128))) (length (met b p)) x) (shown ∙ row_same b (board_numbers b) (scan_numbers b to) r own)
+      ∙ row_filled b lawful p (on p 128) r is grown.0 splits (scan_numbers b (on p 128)) (scan_numbers b to) (λ q e k. sym (back q k ∙ ap (λ t. cond t (board_numbers b q) (scan_numbers b (on p 128) q)) e))
+      ∙ ap (map (met_row b (scan_numbers b to))) (sym same);
+  last_given = laws.next_number to ∙ ap (λ (rs : Board). 1 + count_by (λ r. is_bridge r.decl) rs) same ∙ sym (laws.next_number (on p 128)) ∙ at.last_given;
+  last_fits = at.last_fits;
+}
+  where
+    laws : GivesNumbersInPathOrder b
+    laws = scan_gives_numbers b lawful
+
+    own : is_bridge r.decl ≡ true → board_numbers b r.path ≡ scan_numbers b to r.path
+    own k = sym (back r.path (bridge_there b r is.member k) ∙ ap (λ t. cond t (board_numbers b r.path) (scan_numbers b (on p 128) r.path)) (ap (λ (x : Path). path_eq x p) is.path ∙ path_self p))
+
+    grown : (rest : Board) × (met b (on p 128) ≡ met b (on p 0) ++ rest)
+    grown = met_grows b lawful (on p 0) (on p 128) (first_before_last p)
+
+    splits : met b (on p 128) ≡ met b p ++ r ∷ grown.0
+    splits = grown.1 ∙ ap (λ (xs : Board). xs ++ grown.0) (more_behind b lawful p r is) ∙ append_assoc (met b p) (r ∷ []) grown.0
+
+pub closed : (b : Board) → IsBoard b → (bus : Path) (n : ℕ) (r : Row) → StandsAt b (on bus n) r → is_bridge r.decl ≡ true → (s : State) (rows : List TableRow) (last : ℕ)
+    → IsAt b (on (on bus n) 128) s rows last → (new : State) → new ≡ state_of b (numbered_file b (given (on bus n) (board_numbers b (on bus n)) (scan_numbers b (on (on bus n) 128))))
+    → (i : ℕ) → i ≡ length (met b (on bus n)) → (row : TableRow) → row ≡ met_row b (board_numbers b) r → IsAt b (on bus (next_place b bus n)) new (set rows i row) last
+closed b lawful bus n r is bridge_is s rows last at new written i index row shown =
+    let there : is_bridge_at b (on bus n) ≡ true = bridge_true b (on bus n) r is bridge_is in
+    closed_at b lawful (on bus n) (on bus (next_place b bus n)) r is bridge_is ((scan_meets b lawful).back bus n there) ((scan_gives_numbers b lawful).back bus n there) s rows last at new written i index row shown
+
+-- the 256th bridge has no number
+pub too_many : (b : Board) → IsBoard b → (p : Path) (r : Row) → StandsAt b p r → is_bridge r.decl ≡ true → (s : State) (rows : List TableRow) (last : ℕ) → last ≡ 255 → IsAt b p s rows last → Enumerates b → ⊥
+too_many b lawful p r is bridge_is s rows last full at few =
+    let laws = scan_gives_numbers b lawful in
+    let whole : met b (on [] 128) ≡ b = (scan_meets b lawful).last in
+    let before : path_before r.path (on [] 128) ≡ true = (from_filter (λ (s : Row). path_before s.path (on [] 128)) r b (subst (λ (xs : Board). IsIn r xs) (sym whole) is.member)).1 in
+    let less : secondary b p < secondary b (on [] 128) = met_before b p (on [] 128) (bridge_true b p r is bridge_is) (subst (λ (x : Path). path_before x (on [] 128) ≡ true) is.path before) in
+    omega (arith, laws.next_number (on [] 128), ap (λ (rs : Board). count_by (λ x. is_bridge x.decl) rs) whole, at.last_given, less, few, full)
+
+-- ---- from the beginning to the end
+
+pub started : (b : Board) → IsBoard b → (s : State) → s ≡ reset_state b → IsAt b (on [] 0) s [] 0
+started b lawful s is = record {
+  state = is ∙ ap (λ (fs : List BoardFunction). let s : State = record { functions = fs; latch = 0 } in s) (map_same (λ (r : Row). let f : BoardFunction = record { path = r.path; decl = r.decl; file = reset_file b r.path r.decl } in f) (numbered b (λ q. no_numbers)) b (λ r m. at_reset r r.decl))
+      ∙ same_state b (λ q. no_numbers) (scan_numbers b (on [] 0)) (λ q k. sym (laws.first q k));
+  rows_met = ap (map (met_row b (scan_numbers b (on [] 0)))) (sym none);
+  last_given = laws.next_number (on [] 0) ∙ ap (λ (rs : Board). 1 + count_by (λ r. is_bridge r.decl) rs) none;
+  last_fits = omega arith;
+}
+  where
+    laws : GivesNumbersInPathOrder b
+    laws = scan_gives_numbers b lawful
+
+    none : met b (on [] 0) ≡ []
+    none = (scan_meets b lawful).first
+
+    at_reset : (r : Row) (d : Decl) → (let f : BoardFunction = record { path = r.path; decl = d; file = reset_file b r.path d } in f) ≡ numbered b (λ q. no_numbers) (record r { decl = d })
+    at_reset r (endpoint d) = refl
+    at_reset r (bridge d) = refl
+
+pub record IsScanned (b : Board) (s : State) (rows : List TableRow) : Type 0 where
+  pub state : s ≡ numbered_state b
+  pub table : rows ≡ scanned_table b
+  pub few : Enumerates b
+
+pub ended : (b : Board) → IsBoard b → (s : State) (rows : List TableRow) (last : ℕ) → IsAt b (on [] 128) s rows last → IsScanned b s rows
+ended b lawful s rows last at = record {
+  state = at.state ∙ same_state b (scan_numbers b (on [] 128)) (board_numbers b) laws.last;
+  table = at.rows_met
+      ∙ rows_same b (on [] 128) (scan_numbers b (on [] 128)) (board_numbers b) (λ r m before is. laws.last r.path (bridge_there b r m is))
+      ∙ ap (map (met_row b (board_numbers b))) whole
+      ∙ map_same (met_row b (board_numbers b)) (table_row b met_decl) b (λ r m. scanned r r.decl);
+  few = omega (arith, laws.next_number (on [] 128), ap (λ (rs : Board). count_by (λ x. is_bridge x.decl) rs) whole, at.last_given, at.last_fits);
+}
+  where
+    laws : GivesNumbersInPathOrder b
+    laws = scan_gives_numbers b lawful
+
+    whole : met b (on [] 128) ≡ b
+    whole = (scan_meets b lawful).last
+
+    scanned : (r : Row) (d : Decl) → met_row b (board_numbers b) (record r { decl = d }) ≡ table_row b met_decl (record r { decl = d })
+    scanned r (endpoint d) = refl
+    scanned r (bridge d) = refl
+
+-- ---- what the program writes of a bridge
+
+-- the numbers of a bridge of the bus
+numbers_on : (b : Board) (bus : Path) (number n k last : ℕ) → OnBus b bus number → k ≡ secondary b (on bus n) → (let m : BusNumbers = record { primary = number; secondary = k; subordinate = last } in m) ≡ record { primary = bus_of b (on bus n); secondary = secondary b (on bus n); subordinate = last }
+numbers_on b bus number n k last on_bus is = ap₂ (λ (i j : ℕ). let m : BusNumbers = record { primary = i; secondary = j; subordinate = last } in m) (on_bus.named ∙ ap (bus_behind b) (sym (parent_snoc bus (place n)))) is
+
+-- the row of a bridge that was met
+abbrev bridge_row : Path → ℕ → ℕ → ℕ → Seen → TableRow
+bridge_row path number k last seen = record {
+  path = path;
+  bus = number;
+  behind = Some (record { first = k; last = last });
+  decl = bridge (record { vendor = seen.vendor; device = seen.device; revision = 0; io = no_io; pref = no_pref });
+}
+
+bridge_row_is : (b : Board) (bus : Path) (number n : ℕ) (r : Row) (seen : Seen) → IsFound b bus number n r seen → is_bridge r.decl ≡ true → (path : Path) → path ≡ on bus n → (k last : ℕ) (numbers : Numbers)
+    → (numbers r.path).secondary ≡ k → (numbers r.path).subordinate ≡ last → bridge_row path number k last seen ≡ met_row b numbers r
+bridge_row_is b bus number n r seen found bridge_is path path_is k last numbers first_is last_is = by_decl r.decl refl
+  where
+    by_decl : (d : Decl) → r.decl ≡ d → bridge_row path number k last seen ≡ met_row b numbers (record r { decl = d })
+    by_decl (endpoint d) e = let bad : true ≡ false = sym bridge_is ∙ ap is_bridge e in cc
+    by_decl (bridge d) e =
+        let shows : seen ≡ seen_of (is_shared b (on bus n)) (bridge d) = found.shows ∙ ap (seen_of (is_shared b (on bus n))) e in
+        λ i. record {
+          path = (path_is ∙ sym found.stands.path) i;
+          bus = (found.on_bus.named ∙ ap (bus_behind b) (sym (parent_snoc bus (place n))) ∙ ap (bus_of b) (sym found.stands.path)) i;
+          behind = Some (record { first = sym first_is i; last = sym last_is i });
+          decl = bridge (record { vendor = (shows i).vendor; device = (shows i).device; revision = 0; io = no_io; pref = no_pref });
+        }
+
+-- what a write of numbers does
+abbrev pub WritesNumbers : State → State → BusAddress → BusNumbers → Type 0
+WritesNumbers s new at m = (b : Board) (numbers : Path → BusNumbers) (p : Path) → IsBoard b → is_bridge_at b p ≡ true → s ≡ state_of b (numbered_file b numbers)
+    → reached s.functions at ≡ find (λ f. path_eq f.path p) s.functions → new ≡ state_of b (numbered_file b (given p m numbers))
+
+pub bridge_opened : (b : Board) (bus : Path) (number n : ℕ) (r : Row) (seen : Seen) → IsFound b bus number n r seen → is_bridge r.decl ≡ true → (path : Path) → path ≡ on bus n → (s : State) (rows : List TableRow) (last : ℕ)
+    → IsAt b (on bus n) s rows last → (last ≡ 255 → ⊥) → (at : BusAddress) → at ≡ record { bus = number; part = place n } → (new : State) → WritesNumbers s new at (record { primary = number; secondary = last + 1; subordinate = 255 })
+    → (items : List TableRow) → items ≡ rows ++ bridge_row path number (last + 1) 255 seen ∷ [] → (last + 1 ≡ secondary b (on bus n)) × IsAt b (on (on bus n) 0) new items (last + 1)
+bridge_opened b bus number n r seen found bridge_is path path_is s rows last here room at at_is new written items pushed =
+    let p = on bus n in
+    let lawful = found.on_bus.board in
+    let given_is : last + 1 ≡ secondary b (on bus n) = sym here.last_given in
+    let state : new ≡ state_of b (numbered_file b (given (on bus n) (open_numbers b (on bus n)) (scan_numbers b (on bus n)))) =
+    written b (scan_numbers b p) p lawful (bridge_true b p r found.stands bridge_is) here.state
+    (ap (λ (a : BusAddress). reached s.functions a) at_is ∙ reaches b bus number found.on_bus p s rows last here (before_on bus (place n)) n)
+    ∙ ap (λ (m : BusNumbers). state_of b (numbered_file b (given (on bus n) m (scan_numbers b (on bus n))))) (numbers_on b bus number n (last + 1) 255 found.on_bus given_is) in
+    let own : scan_numbers b (on (on bus n) 0) r.path ≡ open_numbers b r.path =
+    (scan_gives_numbers b lawful).behind p r.path ∙ ap (λ t. cond t (open_numbers b r.path) (scan_numbers b (on bus n) r.path)) (ap (λ (x : Path). path_eq x (on bus n)) found.stands.path ∙ path_self p) in
+    let shown : bridge_row path number (last + 1) 255 seen ≡ met_row b (scan_numbers b (on (on bus n) 0)) r =
+    bridge_row_is b bus number n r seen found bridge_is path path_is (last + 1) 255 (scan_numbers b (on p 0))
+    (ap (λ (m : BusNumbers). m.secondary) own ∙ ap (secondary b) found.stands.path ∙ here.last_given) (ap (λ (m : BusNumbers). m.subordinate) own) in (
+      given_is,
+      subst (λ (xs : List TableRow). IsAt b (on (on bus n) 0) new xs (last + 1)) (sym pushed)
+          (opened b lawful p r found.stands bridge_is s rows last (omega (arith, here.last_fits, room)) here new state (bridge_row path number (last + 1) 255 seen) shown),
+    )
+
+-- the last number is put into the row and the registers of a bridge
+pub rows_length : (b : Board) (here : Path) (s : State) (rows : List TableRow) (last : ℕ) → IsAt b here s rows last → length rows ≡ length (met b here)
+rows_length b here s rows last at = ap length at.rows_met ∙ length-map (met b here) (met_row b (scan_numbers b here))
+
+grown_from : (b : Board) → IsBoard b → (p : Path) (r : Row) → StandsAt b p r → (rest : Board) × (met b (on p 128) ≡ met b p ++ r ∷ rest)
+grown_from b lawful p r is =
+    let grown = met_grows b lawful (on p 0) (on p 128) (first_before_last p) in
+    (grown.0, grown.1 ∙ ap (λ (xs : Board). xs ++ grown.0) (more_behind b lawful p r is) ∙ append_assoc (met b p) (r ∷ []) grown.0)
+
+pub bridge_in_rows : (b : Board) (p : Path) (r : Row) → IsBoard b → StandsAt b p r → (s : State) (rows : List TableRow) (last : ℕ) → IsAt b (on p 128) s rows last → (i : ℕ) → i ≡ length (met b p) → i < length rows
+bridge_in_rows b p r lawful is s rows last at i index =
+    let grown = grown_from b lawful p r is in
+    omega (arith, rows_length b (on p 128) s rows last at, ap length grown.1, length-append (met b p) (r ∷ grown.0))
+
+item_there : (b : Board) (p : Path) (r : Row) → IsBoard b → StandsAt b p r → (s : State) (rows : List TableRow) (last : ℕ) → IsAt b (on p 128) s rows last → (i : ℕ) → i ≡ length (met b p) → (d : TableRow) → get_or rows i d ≡ met_row b (scan_numbers b (on p 128)) r
+item_there b p r lawful is s rows last at i index d =
+    let grown = grown_from b lawful p r is in
+    let f = met_row b (scan_numbers b (on p 128)) in
+    ap₂ (λ (xs : List TableRow) (k : ℕ). get_or xs k d) (at.rows_met ∙ ap (map f) grown.1 ∙ map-append f (met b p) (r ∷ grown.0)) (index ∙ sym (length-map (met b p) f))
+    ∙ get_or-append_seam (map f (met b p)) (f r) (map f grown.0) d
+
+ended_row : (b : Board) (bus : Path) (n : ℕ) (r : Row) → IsBoard b → StandsAt b (on bus n) r → is_bridge r.decl ≡ true → (last : ℕ) → last ≡ subordinate b (on bus n)
+    → record (met_row b (scan_numbers b (on (on bus n) 128)) r) { behind = ended_range last (met_row b (scan_numbers b (on (on bus n) 128)) r).behind } ≡ met_row b (board_numbers b) r
+ended_row b bus n r lawful is bridge_is last last_is = by_decl r.decl refl
+  where
+    open_here : scan_numbers b (on (on bus n) 128) r.path ≡ open_numbers b r.path
+    open_here =
+        ap (λ t. cond t (open_numbers b r.path) (cond (path_before r.path (on (on bus n) 128)) (board_numbers b r.path) no_numbers))
+        (ap (λ (x : Path). leads_to x (on (on bus n) 128)) is.path ∙ leads_self (on bus n) (place 128))
+
+    by_decl : (d : Decl) → r.decl ≡ d → record (met_row b (scan_numbers b (on (on bus n) 128)) (record r { decl = d })) { behind = ended_range last (met_row b (scan_numbers b (on (on bus n) 128)) (record r { decl = d })).behind } ≡ met_row b (board_numbers b) (record r { decl = d })
+    by_decl (endpoint d) e = let bad : true ≡ false = sym bridge_is ∙ ap is_bridge e in cc
+    by_decl (bridge d) e = λ i. record {
+      path = r.path;
+      bus = bus_of b r.path;
+      behind = Some (record { first = (open_here i).secondary; last = (last_is ∙ ap (subordinate b) (sym is.path)) i });
+      decl = met_decl (bridge d);
+    }
+
+pub bridge_closed : (b : Board) (bus : Path) (number n : ℕ) (r : Row) → OnBus b bus number → StandsAt b (on bus n) r → is_bridge r.decl ≡ true → (k : ℕ) → k ≡ secondary b (on bus n) → (s : State) (rows : List TableRow) (last : ℕ)
+    → IsAt b (on (on bus n) 128) s rows last → (at : BusAddress) → at ≡ record { bus = number; part = place n } → (new : State) → WritesNumbers s new at (record { primary = number; secondary = k; subordinate = last })
+    → (i : ℕ) → i ≡ length (met b (on bus n)) → (item row : TableRow) → item ≡ get_or rows i item → row ≡ record item { behind = ended_range last item.behind }
+    → IsAt b (on bus (next_place b bus n)) new (set rows i row) last
+bridge_closed b bus number n r on_bus is bridge_is k k_is s rows last here at at_is new written i index item row item_is row_is =
+    let lawful = on_bus.board in
+    let there : is_bridge_at b (on bus n) ≡ true = bridge_true b (on bus n) r is bridge_is in
+    let numbers = scan_numbers b (on (on bus n) 128) in
+    let last_is : last ≡ subordinate b (on bus n) = omega (arith, here.last_given, (scan_gives_numbers b lawful).last_number (on bus n) there) in
+    let behind : path_before bus (on (on bus n) 128) ≡ true = goes_before bus (on bus n) (on (on bus n) 128) (before_on bus (place n)) (before_on (on bus n) (place 128)) in
+    let state : new ≡ state_of b (numbered_file b (given (on bus n) (board_numbers b (on bus n)) (scan_numbers b (on (on bus n) 128)))) =
+    written b numbers (on bus n) lawful there here.state
+    (ap (λ (a : BusAddress). reached s.functions a) at_is ∙ reaches b bus number on_bus (on (on bus n) 128) s rows last here behind n)
+    ∙ ap (λ (m : BusNumbers). state_of b (numbered_file b (given (on bus n) m (scan_numbers b (on (on bus n) 128)))))
+    (numbers_on b bus number n k last on_bus k_is ∙ ap (λ (j : ℕ). let m : BusNumbers = record { primary = bus_of b (on bus n); secondary = secondary b (on bus n); subordinate = j } in m) last_is) in
+    let shown : row ≡ met_row b (board_numbers b) r =
+    row_is ∙ ap (λ (x : TableRow). let y : TableRow = record x { behind = ended_range last x.behind } in y) (item_is ∙ item_there b (on bus n) r lawful is s rows last here i index item)
+    ∙ ended_row b bus n r lawful is bridge_is last last_is in
+    closed b lawful bus n r is bridge_is s rows last here new state i index row shown
+
+-- the side of a bridge as a bus
+behind_on : (b : Board) (bus : Path) (t : Part) → bus_behind b (bus ++ t ∷ []) ≡ secondary b (bus ++ t ∷ [])
+behind_on b [] t = refl
+behind_on b (p ∷ bus) t = refl
+
+pub side : (b : Board) (bus : Path) (number n : ℕ) (r : Row) → OnBus b bus number → StandsAt b (on bus n) r → is_bridge r.decl ≡ true → (k : ℕ) → k ≡ secondary b (on bus n) → OnBus b (on bus n) k
+side b bus number n r on_bus is bridge_is k k_is = record {
+  board = on_bus.board;
+  declarations = on_bus.declarations;
+  there = inr (bridge_true b (on bus n) r is bridge_is);
+  named = k_is ∙ sym (behind_on b bus (place n));
+}
+
+-- ---- what the program sees
+
+-- a look changes nothing but the latch, which is 0
+pub after_look : (b : Board) (here : Path) (s : State) (rows : List TableRow) (last : ℕ) → IsAt b here s rows last → (new : State) → new ≡ record s { latch = 0 } → IsAt b here new rows last
+after_look b here s rows last at new is = record {
+  state = is ∙ ap (λ (s : State). let t : State = record s { latch = 0 } in t) at.state;
+  rows_met = at.rows_met;
+  last_given = at.last_given;
+  last_fits = at.last_fits;
+}
+
+pub none_seen : (b : Board) (bus : Path) (number n : ℕ) (o : Option Seen) → Sight b bus number n o → o ≡ None → stands_at b (on bus n) ≡ false
+none_seen b bus number n o (Nothing none e) h = none
+none_seen b bus number n o (Function r seen e found) h = cc
+
+pub record Finds (b : Board) (bus : Path) (number n : ℕ) (seen : Seen) : Type 0 where
+  pub row : Row
+  pub found : IsFound b bus number n row seen
+  pub next : (m : ℕ) → m ≡ cond (eqb (n % 8) 0 && not seen.is_shared) (n + 8) (n + 1) → m ≡ next_place b bus n
+
+shares : (shared : Bool) (d : Decl) → (seen_of shared d).is_shared ≡ shared
+shares shared (endpoint d) = refl
+shares shared (bridge d) = refl
+
+pub finds : (b : Board) (bus : Path) (number n : ℕ) (o : Option Seen) → Sight b bus number n o → (seen : Seen) → o ≡ Some seen → Finds b bus number n seen
+finds b bus number n o (Nothing none e) seen h = cc
+finds b bus number n o (Function r known e found) seen h =
+    let same : known ≡ seen = cc in
+    let found_now : IsFound b bus number n r seen = subst (λ (x : Seen). IsFound b bus number n r x) same found in
+    record {
+      row = r;
+      found = found_now;
+      next = λ m is. next_is b bus n m true seen.is_shared (stands_true b (on bus n) r found_now.stands) (sym (ap (λ (x : Seen). x.is_shared) found_now.shows ∙ shares (is_shared b (on bus n)) r.decl)) is;
+    }
+
+layout_bridge : (shared : Bool) (d : Decl) → (seen_of shared d).layout ≡ BridgeLayout → is_bridge d ≡ true
+layout_bridge shared (endpoint d) h = cc
+layout_bridge shared (bridge d) h = refl
+
+pub bridge_seen : (b : Board) (bus : Path) (number n : ℕ) (r : Row) (seen : Seen) → IsFound b bus number n r seen → seen.layout ≡ BridgeLayout → is_bridge r.decl ≡ true
+bridge_seen b bus number n r seen found h = layout_bridge (is_shared b (on bus n)) r.decl (ap (λ (x : Seen). x.layout) (sym found.shows) ∙ h)
+
+-- the row of an endpoint that was met
+abbrev pub endpoint_row : Path → ℕ → ℕ → Seen → TableRow
+endpoint_row path number pin seen = record {
+  path = path;
+  bus = number;
+  behind = None;
+  decl = decl_of seen.vendor seen.device (FoundEndpoint pin (None ∷ None ∷ None ∷ None ∷ None ∷ None ∷ []));
+}
+
+pub past_function : (b : Board) (bus : Path) (number n pin : ℕ) (r : Row) (seen : Seen) → IsFound b bus number n r seen → seen.layout ≡ EndpointLayout pin → (path : Path) → path ≡ on bus n → (s : State) (rows : List TableRow) (last : ℕ)
+    → IsAt b (on bus n) s rows last → IsAt b (on bus (next_place b bus n)) s (rows ++ endpoint_row path number pin seen ∷ []) last
+past_function b bus number n pin r seen found h path path_is s rows last at = by_decl r.decl refl
+  where
+    by_decl : (d : Decl) → r.decl ≡ d → IsAt b (on bus (next_place b bus n)) s (rows ++ endpoint_row path number pin seen ∷ []) last
+    by_decl (bridge d) e = let bad : BridgeLayout ≡ EndpointLayout pin = ap (λ (x : Seen). x.layout) (sym (found.shows ∙ ap (seen_of (is_shared b (on bus n))) e)) ∙ h in cc
+    by_decl (endpoint d) e =
+        let shows : seen ≡ seen_of (is_shared b (on bus n)) (endpoint d) = found.shows ∙ ap (seen_of (is_shared b (on bus n))) e in
+        let layout : EndpointLayout d.pin ≡ EndpointLayout pin = ap (λ (x : Seen). x.layout) (sym shows) ∙ h in
+        let same_pin : pin ≡ d.pin = cc in
+        let row : endpoint_row path number pin seen ≡ met_row b (scan_numbers b (on bus n)) (record r { decl = endpoint d }) = λ i. record {
+          path = (path_is ∙ sym found.stands.path) i;
+          bus = (found.on_bus.named ∙ ap (bus_behind b) (sym (parent_snoc bus (place n))) ∙ ap (bus_of b) (sym found.stands.path)) i;
+          behind = None;
+          decl = decl_of (shows i).vendor (shows i).device (FoundEndpoint (same_pin i) (None ∷ None ∷ None ∷ None ∷ None ∷ None ∷ []));
+        } in
+        past_endpoint b found.on_bus.board bus n (next_place b bus n) r found.stands (ap is_bridge e) s rows last
+        (ap (λ t. cond (eqb (n % 8) 0 && not (t && is_shared b (on bus n))) (n + 8) (n + 1)) (stands_true b (on bus n) r found.stands))
+        at (endpoint_row path number pin seen) (row ∙ ap (λ (d : Decl). met_row b (scan_numbers b (on bus n)) (record r { decl = d })) (sym e))
+
+-- a bridge that was found, as the steps take it
+pub bridge_found : (b : Board) (bus : Path) (number n : ℕ) (r : Row) (at : BusAddress) → IsBridgeThere b bus number n r at → (path : Path) → path ≡ on bus n → (seen : Seen) → seen ≡ seen_of (is_shared b path) r.decl → IsFound b bus number n r seen
+bridge_found b bus number n r at is path path_is seen shows = record { on_bus = is.on_bus; stands = is.stands; shows = shows ∙ ap (λ (p : Path). seen_of (is_shared b p) r.decl) path_is }
+
+pub bridge_there_of : (b : Board) (bus : Path) (number n : ℕ) (r : Row) (seen : Seen) → IsFound b bus number n r seen → seen.layout ≡ BridgeLayout → (at : BusAddress) → at ≡ record { bus = number; part = place n } → IsBridgeThere b bus number n r at
+bridge_there_of b bus number n r seen found layout at at_is = record { on_bus = found.on_bus; stands = found.stands; is_bridge_there = bridge_seen b bus number n r seen found layout; address = at_is }
+
+pub shows_at : (b : Board) (bus : Path) (number n : ℕ) (r : Row) (seen : Seen) → IsFound b bus number n r seen → (path : Path) → path ≡ on bus n → seen ≡ seen_of (is_shared b path) r.decl
+shows_at b bus number n r seen found path path_is = found.shows ∙ sym (ap (λ (p : Path). seen_of (is_shared b p) r.decl) path_is)

@@ -1,0 +1,20 @@
+use Rattle.std.proofs.Common.{inr, refl}
+use Rattle.model_board.specs.Scanning.{scan_numbers}
+use Rattle.model_board.specs.ScanOrder.{on}
+use Rattle.host_bridge.specs.BusAddresses.{bus_address_of}
+use Rattle.bus_scan.proofs.ScanSteps.{too_many, bridge_opened, bridge_found}
+use Rattle.bus_scan.proofs.enumeration.Enumeration.open_bridge.Goals as goal
+
+pub returns-then-self-clause-opened : goal.returns-then-self-clause-opened
+returns-then-self-clause-opened c = λ b bus n r is path shows here.
+    let found = bridge_found b bus c.args.bus n r (bus_address_of c.args.at) is c.args.path path c.args.seen shows in
+    record {
+      cause = inr (refl, too_many b found.on_bus.board (on bus n) r found.stands is.is_bridge_there c.args.host.now.state c.args.self.now.rows.items c.args.self.now.last c.if-self.true here);
+      registers = (scan_numbers b (on bus n), here.state);
+    }
+
+pub returns-clause-opened : goal.returns-clause-opened
+returns-clause-opened c = λ b bus n r is path shows here.
+    let found = bridge_found b bus c.args.bus n r (bus_address_of c.args.at) is c.args.path path c.args.seen shows in
+    bridge_opened b bus c.args.bus n r c.args.seen found is.is_bridge_there c.args.path path c.args.host.now.state c.args.self.now.rows.items c.args.self.now.last here c.if-self.false
+    (bus_address_of c.args.at) is.address c.write_numbers.new.host.state c.write_numbers.ensures.written c.push.new.self.rows.items c.in_ok-push.ensures.rows

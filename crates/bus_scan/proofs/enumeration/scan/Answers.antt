@@ -1,0 +1,53 @@
+use Rattle.std.proofs.Common.{◌≡◌, List, [], sym, subst, refl, inl, ◌∙◌}
+use Rattle.std.proofs.lemmas.Result.{err_from_is_err_and}
+use Rattle.model_board.specs.FunctionTable.{TableRow}
+use Rattle.model_board.specs.ScanOrder.{on}
+use Rattle.model_board.specs.Scanning.{board_numbers}
+use Rattle.model_board.specs.AtReset.{board_at, IsAtReset}
+use Rattle.model_board.specs.State.{State}
+use Rattle.bus_scan.specs.Scans.{IsAt, OnBus}
+use Rattle.bus_scan.proofs.ScanSteps.{started, ended}
+use Rattle.bus_scan.proofs.enumeration.scan.Goals as goal
+
+whole : (s : State) → IsAtReset s → OnBus (board_at s.functions) [] 0
+whole s at = record { board = at.board; declarations = at.declarations; there = inl refl; named = refl }
+
+begun : (s : State) (rows : List TableRow) → IsAtReset s → rows ≡ [] → IsAt (board_at s.functions) (on [] 0) s rows 0
+begun s rows at none = subst (λ (rows : List TableRow). IsAt (board_at s.functions) (on [] 0) s rows 0) (sym none) (started (board_at s.functions) at.board s at.registers)
+
+pub returns-in_err-scan_bus-clause-refused : goal.returns-in_err-scan_bus-clause-refused
+returns-in_err-scan_bus-clause-refused c =
+    let b = board_at c.args.host.now.state.functions in
+    let p = err_from_is_err_and c.from_residual.result c.from_residual.ensures.1 in
+    let refused = c.in_err-scan_bus.ensures.scanned b (whole c.args.host.now.state c.requires) (begun c.args.host.now.state c.new.result.items c.requires c.new.ensures.items) in
+    rw (p.1, p.2) refused.cause
+
+pub returns-in_err-scan_bus-clause-own : goal.returns-in_err-scan_bus-clause-own
+returns-in_err-scan_bus-clause-own c =
+    let b = board_at c.args.host.now.state.functions in
+    (c.in_err-scan_bus.ensures.scanned b (whole c.args.host.now.state c.requires) (begun c.args.host.now.state c.new.result.items c.requires c.new.ensures.items)).registers
+
+pub returns-clause-table : goal.returns-clause-table
+returns-clause-table c =
+    let b = board_at c.args.host.now.state.functions in
+    let at = c.in_ok-scan_bus.ensures.scanned b (whole c.args.host.now.state c.requires) (begun c.args.host.now.state c.new.result.items c.requires c.new.ensures.items) in
+    c.of.ensures ∙ (ended b c.requires.board c.scan_bus.new.host.state c.scan_bus.new.self.rows.items c.scan_bus.new.self.last at).table
+
+pub returns-clause-numbered : goal.returns-clause-numbered
+returns-clause-numbered c =
+    let b = board_at c.args.host.now.state.functions in
+    let at = c.in_ok-scan_bus.ensures.scanned b (whole c.args.host.now.state c.requires) (begun c.args.host.now.state c.new.result.items c.requires c.new.ensures.items) in
+    let scanned = ended b c.requires.board c.scan_bus.new.host.state c.scan_bus.new.self.rows.items c.scan_bus.new.self.last at in
+    λ i. record { state = scanned.state i; apertures = c.scan_bus.ensures.kept i }
+
+pub returns-clause-few : goal.returns-clause-few
+returns-clause-few c =
+    let b = board_at c.args.host.now.state.functions in
+    let at = c.in_ok-scan_bus.ensures.scanned b (whole c.args.host.now.state c.requires) (begun c.args.host.now.state c.new.result.items c.requires c.new.ensures.items) in
+    (ended b c.requires.board c.scan_bus.new.host.state c.scan_bus.new.self.rows.items c.scan_bus.new.self.last at).few
+
+pub returns-clause-own : goal.returns-clause-own
+returns-clause-own c =
+    let b = board_at c.args.host.now.state.functions in
+    let at = c.in_ok-scan_bus.ensures.scanned b (whole c.args.host.now.state c.requires) (begun c.args.host.now.state c.new.result.items c.requires c.new.ensures.items) in
+    (board_numbers b, (ended b c.requires.board c.scan_bus.new.host.state c.scan_bus.new.self.rows.items c.scan_bus.new.self.last at).state)

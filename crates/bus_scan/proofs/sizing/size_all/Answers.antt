@@ -1,0 +1,30 @@
+use Rattle.std.proofs.Common.{length, sym, ap, ◌∙◌, arith}
+use Rattle.std.proofs.lemmas.List.{length-map}
+use Rattle.model_board.specs.AtReset.{board_at}
+use Rattle.model_board.specs.FunctionTable.{table_row, met_decl}
+use Rattle.bus_scan.proofs.TableSteps.{none_sized, next_scanned, next_sized, whole_sized, came_back}
+use Rattle.bus_scan.proofs.sizing.size_all.Goals as goal
+
+pub loop-row-init : goal.loop-row-init
+loop-row-init c = none_sized c.args.host.now c.deref_mut-row-items.result.now (c.deref_mut-row-items.ensures.value ∙ c.table.view_is ∙ c.requires.scanned)
+
+pub size_row-requires-clause-scanned : goal.size_row-requires-clause-scanned
+size_row-requires-clause-scanned c =
+    let b = board_at c.args.host.now.state.functions in
+    let count = ap length (c.deref_mut-row-items.ensures.value ∙ c.table.view_is ∙ c.requires.scanned) ∙ length-map b (table_row b met_decl) in
+    next_scanned c.args.host.now c.loop-row.host c.loop-row.row-items c.loop-row.row-index c.loop-row.invariant (omega (arith, count)) c.row-item.result
+
+pub loop-row-preserved : goal.loop-row-preserved
+loop-row-preserved c =
+    let b = board_at c.args.host.now.state.functions in
+    let count = ap length (c.deref_mut-row-items.ensures.value ∙ c.table.view_is ∙ c.requires.scanned) ∙ length-map b (table_row b met_decl) in
+    next_sized c.args.host.now c.loop-row.host c.loop-row.row-items c.loop-row.row-index c.loop-row.invariant (omega (arith, count)) c.size_row.new.host c.size_row.ensures.host c.row-item.result c.size_row.new.row
+    c.size_row.ensures.sized
+
+pub returns-clause-sized : goal.returns-clause-sized
+returns-clause-sized c =
+    let b = board_at c.args.host.now.state.functions in
+    let count = ap length (c.deref_mut-row-items.ensures.value ∙ c.table.view_is ∙ c.requires.scanned) ∙ length-map b (table_row b met_decl) in
+    came_back c.table.inside.rows.len c.loop-row.row-items c.table.inside.rows.items (c.loop-row.auto.row-items ∙ ap length c.deref_mut-row-items.ensures.value)
+    (sym c.deref_mut-row-items.ensures.len ∙ ap length c.deref_mut-row-items.ensures.value)
+    ∙ whole_sized c.args.host.now c.loop-row.host c.loop-row.row-items c.loop-row.row-index c.loop-row.invariant (omega (arith, count))

@@ -1,0 +1,10 @@
+-- What a function shows of itself to a scan, in the program's words.
+--     seen_of      identity, header and pin of a function that shares its device or not
+use Rattle.std.specs.Prelude.{Bool}
+use Rattle.model_board.specs.Board.{Decl, endpoint, bridge}
+use Rattle.bus_scan.specs.declared.seen.Seen.{Seen}
+use Rattle.bus_scan.specs.declared.seen.Layout.TheVariants.{Endpoint as EndpointLayout, Bridge as BridgeLayout}
+
+abbrev pub seen_of : Bool → Decl → Seen
+seen_of shared (endpoint d) = record { vendor = d.vendor; device = d.device; is_shared = shared; layout = EndpointLayout d.pin }
+seen_of shared (bridge d) = record { vendor = d.vendor; device = d.device; is_shared = shared; layout = BridgeLayout }

@@ -1,0 +1,216 @@
+//! The scan of a board by configuration cycles (PCI-to-PCI Bridge Architecture 1.2, chapter 3.2.5).
+ghost use Rattle.std.specs.Prelude.{◌≡◌, ◌⊎◌, ◌<◌, ◌+◌, [], ◌∷◌, ◌++◌, length, IfOk, IfErr, MatchResult, IsTrue, Some, find, ℕ, ◌≤◌};
+ghost use Rattle.model_board.specs.Paths.{Path as PathValue, path_eq};
+ghost use Rattle.model_board.specs.Board.{Board, Row, is_bridge, is_bridge_at, is_shared, IsBoard};
+ghost use Rattle.model_board.specs.BusNumbers.{Enumerates, secondary};
+ghost use Rattle.model_board.specs.Members.{IsIn};
+ghost use Rattle.model_board.specs.SetUp.{state_of};
+ghost use Rattle.model_board.specs.Cycles.{BusAddress, reached};
+ghost use Rattle.model_board.specs.Scanning.{BusNumbers, numbered_file, numbered_state};
+ghost use Rattle.model_board.specs.ScanOrder.{on, place, next_place, met};
+ghost use Rattle.model_board.specs.FunctionTable.{TableRow, scanned_table};
+ghost use Rattle.model_board.specs.AtReset.{board_at, IsAtReset, HasOwnNumbers};
+ghost use Rattle.host_bridge.specs.BusAddresses.{bus_address_of};
+ghost use Rattle.bus_scan.specs.declared.fault.Fault.TheVariants.{Buses, Memory};
+ghost use Rattle.bus_scan.specs.Scans.{given, ComesTo, OnBus, IsBridgeThere, IsRefused};
+ghost use Rattle.bus_scan.specs.Sights.{seen_of};
+ghost use Rattle.bus_scan.specs.Rows.{decl_of, range_of};
+
+use crate::fault::Fault;
+use crate::places::{PLACES, address, next_place, path_on};
+use crate::seen::{Layout, Seen, look};
+use crate::table::{Found, FunctionRow, FunctionTable};
+use bridge_forward::Part;
+use headers::{IoDecode, PrefDecode};
+use host_bridge::{Bdf, Host, Path};
+use std::alloc::{AllocError, Global};
+
+/// A scan as it runs: the functions met so far, and the last bus number given. A bridge whose side is
+/// being scanned has Subordinate FFh, as in its register.
+#[derive(Drop)]
+struct Enumeration {
+    rows: Vec<FunctionRow>,
+    last: u8,
+}
+
+/// Writes Primary, Secondary and Subordinate Bus Number of the bridge with an address.
+fn write_numbers(host: &mut Host, at: Bdf, primary: u8, secondary: u8, subordinate: u8)
+    ensures written { (b : Board) (numbers : PathValue → BusNumbers) (p : PathValue) → IsBoard b → IsTrue (is_bridge_at b p)
+        → host.old.state ≡ state_of b (numbered_file b numbers)
+        → reached host.old.state.functions (bus_address_of at) ≡ find (λ f. path_eq f.path p) host.old.state.functions
+        → host.new.state ≡ state_of b (numbered_file b (given p (record { primary = primary; secondary = secondary; subordinate = subordinate }) numbers)) }
+    ensures kept { host.new.apertures ≡ host.old.apertures }
+{
+    let numbers = u32::from_le_bytes([primary, secondary, subordinate, 0]);
+    host.config_write(at, 0x18, 0b0111, numbers);
+}
+
+impl Enumeration {
+    /// Takes a function that was met into the table.
+    fn push(&mut self, path: Path, bus: u8, seen: Seen, found: Found) -> Result<(), AllocError>
+        ensures last { IfOk result (λ _. self.new.last ≡ self.old.last) }
+        ensures rows { let row : TableRow = record {
+          path = path;
+          bus = bus;
+          behind = range_of found;
+          decl = decl_of seen.vendor seen.device found;
+        } in
+            IfOk result (λ _. self.new.rows.items ≡ self.old.rows.items ++ row ∷ []) }
+    {
+        self.rows.push(FunctionRow {
+            path,
+            bus,
+            vendor: seen.vendor,
+            device: seen.device,
+            found,
+        })?;
+        Ok(())
+    }
+
+    /// Gives a bridge the next number, and all numbers from there on to its side, so that cycles go
+    /// there: its Secondary Bus Number.
+    fn open_bridge(
+        &mut self,
+        host: &mut Host,
+        at: Bdf,
+        bus: u8,
+        path: Path,
+        seen: Seen,
+    ) -> Result<u8, Fault>
+        ensures opened { (b : Board) (on_path : PathValue) (n : ℕ) (r : Row) → IsBridgeThere b on_path bus n r (bus_address_of at)
+            → path ≡ on on_path n → seen ≡ seen_of (is_shared b path) r.decl
+            → ComesTo b (on on_path n) host.old self.old
+            → MatchResult result
+            (λ number. (number ≡ secondary b (on on_path n)) × ComesTo b (on (on on_path n) 0) host.new self.new)
+            (λ f. IsRefused b f host.new.state) }
+        ensures kept { host.new.apertures ≡ host.old.apertures }
+    {
+        if self.last == 255 {
+            return Err(Fault::Buses);
+        }
+        let number = self.last + 1;
+        let found = Found::Bridge {
+            secondary: number,
+            subordinate: 0xff,
+            io: IoDecode::Unimplemented,
+            pref: PrefDecode::Unimplemented,
+        };
+        self.push(path, bus, seen, found)?;
+        write_numbers(host, at, bus, number, 0xff);
+        self.last = number;
+        Ok(number)
+    }
+
+    /// Ends the numbers of a bridge with the last one given, in its registers and in its row.
+    fn close_bridge(&mut self, host: &mut Host, at: Bdf, bus: u8, number: u8, index: usize)
+        ensures closed { (b : Board) (on_path : PathValue) (n : ℕ) (r : Row) → IsBridgeThere b on_path bus n r (bus_address_of at)
+            → number ≡ secondary b (on on_path n) → index ≡ length (met b (on on_path n))
+            → ComesTo b (on (on on_path n) 128) host.old self.old
+            → ComesTo b (on on_path (next_place b on_path n)) host.new self.new }
+        ensures kept { host.new.apertures ≡ host.old.apertures }
+    {
+        let last = self.last;
+        if let Some(row) = self.rows.get_mut(index) {
+            row.end_numbers(last);
+        }
+        write_numbers(host, at, bus, number, last);
+    }
+
+    /// Numbers a bridge, and takes it and what stands behind it into the table.
+    #[cycle(scan)]
+    fn scan_bridge(
+        &mut self,
+        host: &mut Host,
+        at: Bdf,
+        bus: u8,
+        path: Path,
+        seen: Seen,
+    ) -> Result<(), Fault>
+        ensures scanned { (b : Board) (on_path : PathValue) (n : ℕ) (r : Row) → IsBridgeThere b on_path bus n r (bus_address_of at)
+            → path ≡ on on_path n → seen ≡ seen_of (is_shared b path) r.decl
+            → ComesTo b (on on_path n) host.old self.old
+            → MatchResult result
+            (λ _. ComesTo b (on on_path (next_place b on_path n)) host.new self.new)
+            (λ f. IsRefused b f host.new.state) }
+        ensures kept { host.new.apertures ≡ host.old.apertures }
+    {
+        let index = self.rows.len();
+        let number = self.open_bridge(host, at, bus, path.copied(), seen)?;
+        let parts = path.parts();
+        if parts.len() < 16 {
+            self.scan_bus(host, parts, number)?;
+        }
+        self.close_bridge(host, at, bus, number, index);
+        Ok(())
+    }
+
+    /// Takes what stands at the nth place of a bus, and behind it, into the table: the next place.
+    #[cycle(scan)]
+    fn scan_place(&mut self, host: &mut Host, bus: &[Part], number: u8, n: u8) -> Result<u8, Fault>
+        requires short { length bus.now < 16 }
+        requires place { n < PLACES }
+        ensures later { IfOk result (λ m. (n < m) × (m ≤ PLACES)) }
+        ensures scanned { (b : Board) → OnBus b bus.now number
+            → ComesTo b (on bus.now n) host.old self.old
+            → MatchResult result
+            (λ m. ComesTo b (on bus.now m) host.new self.new)
+            (λ f. IsRefused b f host.new.state) }
+        ensures kept { host.new.apertures ≡ host.old.apertures }
+    {
+        let at = address(number, n);
+        let Some(seen) = look(host, at) else {
+            return Ok(next_place(n, false));
+        };
+        let path = path_on(bus, n);
+        match seen.layout {
+            Layout::Endpoint { pin } => {
+                let bars = [None, None, None, None, None, None];
+                self.push(path, number, seen, Found::Endpoint { pin, bars })?;
+            }
+            Layout::Bridge => self.scan_bridge(host, at, number, path, seen)?,
+        }
+        Ok(next_place(n, seen.is_shared))
+    }
+
+    /// Takes all that stands on a bus and behind it into the table. The path is that of the bridge
+    /// above, or of no part for bus 0.
+    #[cycle(scan)]
+    fn scan_bus(&mut self, host: &mut Host, bus: &[Part], number: u8) -> Result<(), Fault>
+        requires { length bus.now < 16 }
+        ensures scanned { (b : Board) → OnBus b bus.now number
+            → ComesTo b (on bus.now 0) host.old self.old
+            → MatchResult result
+            (λ _. ComesTo b (on bus.now 128) host.new self.new)
+            (λ f. IsRefused b f host.new.state) }
+        ensures kept { host.new.apertures ≡ host.old.apertures }
+    {
+        let mut n = 0;
+        while n < PLACES {
+            n = self.scan_place(host, bus, number, n)?;
+        }
+        Ok(())
+    }
+}
+
+/// Scans a board at reset: gives each bridge its bus numbers, in the order in which it is met (PCI-to-PCI
+/// Bridge Architecture 1.2, chapter 3.2.5), and answers the functions found, without the sizes of
+/// their regions. A device whose function 0 reads Vendor ID FFFFh is absent; functions 1 to 7 are looked
+/// at where bit 7 of its header type says that there are some. It goes by configuration cycles alone,
+/// and allocates only the rows of the table. A board with more than 255 bridges is refused before the
+/// 256th one is written.
+pub fn scan(alloc: Global, host: &mut Host) -> Result<FunctionTable, Fault>
+    requires { IsAtReset host.old.state }
+    ensures table { let b = board_at host.old.state.functions in IfOk result (λ t. t ≡ scanned_table b) }
+    ensures numbered { let b = board_at host.old.state.functions in IfOk result (λ _. host.new ≡ record host.old { state = numbered_state b }) }
+    ensures few { let b = board_at host.old.state.functions in IfOk result (λ _. Enumerates b) }
+    ensures refused { let b = board_at host.old.state.functions in IfErr result (λ f. (f ≡ Memory) ⊎ ((f ≡ Buses) × (Enumerates b → ⊥))) }
+    ensures own { let b = board_at host.old.state.functions in HasOwnNumbers b host.new.state }
+    ensures kept { host.new.apertures ≡ host.old.apertures }
+{
+    let mut found = Enumeration {
+        rows: Vec::new(alloc),
+        last: 0,
+    };
+    found.scan_bus(host, &[], 0)?;
+    Ok(FunctionTable::of(found.rows))
+}

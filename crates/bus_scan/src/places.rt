@@ -1,0 +1,57 @@
+//! The places of a bus: device 0 to 15, and in a device function 0 to 7.
+ghost use Rattle.std.specs.Prelude.{◌≡◌, ◌<◌, ◌+◌, ◌%◌, ◌==◌, ◌&&◌, not, if◌then◌else◌, [], ◌∷◌, ◌++◌, length};
+ghost use Rattle.model_board.specs.ScanOrder.{on, place};
+ghost use Rattle.host_bridge.specs.BusAddresses.{bus_address_of};
+
+use bridge_forward::Part;
+use host_bridge::{Bdf, Path};
+
+/// How many places a bus has.
+pub(crate) const PLACES: u8 = 128;
+
+/// The physical number of a place.
+pub(crate) fn address(bus: u8, n: u8) -> Bdf
+    requires { n < PLACES }
+    ensures { bus_address_of result ≡ record { bus = bus; part = place n } }
+{
+    Bdf {
+        bus,
+        device: n / 8,
+        function: n % 8,
+    }
+}
+
+/// The place that is looked at after the nth one: functions 1 to 7 where function 0 says that its device
+/// holds others, and else the next device.
+pub(crate) fn next_place(n: u8, is_shared: bool) -> u8
+    requires { n < PLACES }
+    ensures next { result ≡ (if n % 8 == 0 && not is_shared then n + 8 else n + 1) }
+    ensures later { n < result }
+{
+    if n % 8 == 0 && !is_shared {
+        n + 8
+    } else {
+        n + 1
+    }
+}
+
+/// The path of the function at the nth place of a bus, which the path of its bridge names, or no part for
+/// bus 0.
+pub(crate) fn path_on(bus: &[Part], n: u8) -> Path
+    requires short { length bus.now < 16 }
+    requires place { n < PLACES }
+    ensures { result ≡ on bus.now n }
+{
+    let part = Part::new(n / 8, n % 8);
+    match bus {
+        [] => Path::on_root(part),
+        [first, rest @ ..] => {
+            let mut path = Path::on_root(*first);
+            for above in rest {
+                path.push(*above);
+            }
+            path.push(part);
+            path
+        }
+    }
+}

@@ -1,0 +1,69 @@
+//! What a function shows of itself to a scan: identity, header type and interrupt pin (PCI Local Bus
+//! 3.0, chapters 6.2.1 and 6.2.4).
+ghost use Rattle.std.specs.Prelude.{◌≡◌, ◌<◌, ◌/◌, ◌%◌, ◌^◌, Some, None};
+ghost use Rattle.model_board.specs.Paths.{Path};
+ghost use Rattle.model_board.specs.Board.{Board, is_shared};
+ghost use Rattle.model_board.specs.Cycles.{reached};
+ghost use Rattle.model_board.specs.Lawful.{IsLawfulDecl};
+ghost use Rattle.model_board.specs.Scanning.{BusNumbers, numbered_file};
+ghost use Rattle.model_board.specs.State.{BoardFunction};
+ghost use Rattle.host_bridge.specs.BusAddresses.{bus_address_of};
+ghost use Rattle.host_bridge.specs.HostState.{with_latch};
+ghost use Rattle.bus_scan.specs.Sights.{seen_of};
+
+use host_bridge::{Bdf, Host};
+
+/// The layout of a function's header, with an endpoint's interrupt pin.
+#[derive(Clone, Copy, Debug)]
+pub(crate) enum Layout {
+    Endpoint { pin: u8 },
+    Bridge,
+}
+
+/// What a function shows: Vendor ID and Device ID, whether its device holds other functions, and its
+/// header.
+#[derive(Clone, Copy, Debug)]
+pub(crate) struct Seen {
+    pub(crate) vendor: u16,
+    pub(crate) device: u16,
+    pub(crate) is_shared: bool,
+    pub(crate) layout: Layout,
+}
+
+/// The byte of a word in a lane, from 0 for the lowest.
+fn byte_of(word: u32, lane: u32) -> u8
+    requires { lane < 4 }
+    ensures { result ≡ word / 256 ^ lane % 256 }
+{
+    (word >> (8 * lane) & 0xff) as u8
+}
+
+/// Looks at a function by its Vendor ID, Device ID, header type and interrupt pin. None where no function
+/// answers, as its Vendor ID then reads FFFFh.
+pub(crate) fn look(host: &mut Host, at: Bdf) -> Option<Seen>
+    ensures none { let fs = host.old.state.functions in reached fs (bus_address_of at) ≡ None → result ≡ None }
+    ensures some { let fs = host.old.state.functions in (b : Board) (numbers : Path → BusNumbers) (f : BoardFunction)
+        → reached fs (bus_address_of at) ≡ Some f → f.file ≡ numbered_file b numbers f.path f.decl → IsLawfulDecl f.decl
+        → result ≡ Some (seen_of (is_shared b f.path) f.decl) }
+    ensures after { host.new ≡ with_latch 0 host.old }
+{
+    let identity = host.config_read(at, 0x00, 0b1111);
+    let vendor = (identity & 0xffff) as u16;
+    if vendor == 0xffff {
+        return None;
+    }
+    let header_type = byte_of(host.config_read(at, 0x0c, 0b0100), 2);
+    let layout = if header_type & 0x7f == 1 {
+        Layout::Bridge
+    } else {
+        Layout::Endpoint {
+            pin: byte_of(host.config_read(at, 0x3c, 0b0010), 1),
+        }
+    };
+    Some(Seen {
+        vendor,
+        device: (identity >> 16) as u16,
+        is_shared: header_type & 0x80 != 0,
+        layout,
+    })
+}

@@ -1,0 +1,187 @@
+//! Kinds and sizes of regions and the decode of windows, by configuration cycles alone (PCI Local Bus
+//! 3.0, chapter 6.2.5.1; PCI-to-PCI Bridge Architecture 1.2, chapters 3.2.5.6 and 3.2.5.9).
+ghost use Rattle.std.specs.Prelude.{◌≡◌, ◌%◌, ◌<◌, IsFalse, IfSome, Some};
+ghost use Rattle.model_registers.specs.Declarations.{Bar, IsLawfulSize};
+ghost use Rattle.model_registers.specs.Sizing.{ShowsSize};
+ghost use Rattle.model_registers.specs.ByteEnables.{lanes};
+ghost use Rattle.model_board.specs.Paths.{last_part};
+ghost use Rattle.model_board.specs.AtReset.{board_at, IsNumbered};
+ghost use Rattle.model_board.specs.FunctionTable.{scanned_table, sized_table};
+ghost use Rattle.headers.specs.Decodes.{io_decode_of, pref_decode_of};
+ghost use Rattle.host_bridge.specs.BusAddresses.{bus_address_of};
+ghost use Rattle.bus_scan.specs.Probes.{mask_shown, TakesBack, IsEndpointReached, IsBridgeReached, regions_reached, io_reached, pref_reached};
+ghost use Rattle.bus_scan.specs.SizedRows.{bar_at, bars_of, is_upper_half, is_after_wide, IsScannedRow, SizesRow};
+
+use crate::table::{Found, FunctionRow, FunctionTable};
+use bars::{BarDecl, size_of_mask};
+use headers::{IoDecode, PrefDecode};
+use host_bridge::{Bdf, Host};
+
+/// Base Address Register 0.
+const BASES: u8 = 0x10;
+
+/// I/O Base and Limit of a bridge, with Secondary Status in the upper half of the word.
+const IO_WINDOW: u8 = 0x1c;
+
+/// Prefetchable Memory Base and Limit of a bridge.
+const PREFETCHABLE_WINDOW: u8 = 0x24;
+
+/// What the enabled bytes of a register read after all ones are written to them. What they held before
+/// is written back, so that no bit stays changed.
+fn probe(host: &mut Host, at: Bdf, off: u8, enables: u8) -> u32
+    requires word { off % 4 ≡ 0 }
+    requires taken { TakesBack host.old.state (bus_address_of at) off (lanes enables) }
+    ensures mask { result ≡ mask_shown host.old.state.functions (bus_address_of at) off (lanes enables) }
+    ensures host { host.new ≡ host.old }
+{
+    let before = host.config_read(at, off, enables);
+    host.config_write(at, off, enables, u32::MAX);
+    let mask = host.config_read(at, off, enables);
+    host.config_write(at, off, enables, before);
+    mask
+}
+
+/// The region whose registers read `low` and `high` after all ones.
+fn region_shown(low: u32, high: u32) -> Option<BarDecl>
+    ensures shown { IfSome result (λ b. IsLawfulSize b.kind b.size × ShowsSize b low high) }
+    ensures found { (b : Bar) → IsLawfulSize b.kind b.size → ShowsSize b low high → result ≡ Some b }
+{
+    let (kind, size) = size_of_mask(low, high)?;
+    BarDecl::new(kind, size).ok()
+}
+
+/// The region that begins at a register of an endpoint whose registers decode nothing. The next
+/// register is looked at only where the type bits say that the base has 64 bits.
+fn size_bar(host: &mut Host, at: Bdf, reg: u8) -> Option<BarDecl>
+    requires register { reg < 6 }
+    requires registers { IsNumbered host.old.state }
+    requires endpoint { IsEndpointReached host.old.state.functions (bus_address_of at) }
+    requires begins { IsFalse (is_upper_half reg (regions_reached host.old.state.functions (bus_address_of at))) }
+    ensures bar { result ≡ bar_at reg (regions_reached host.old.state.functions (bus_address_of at)) }
+    ensures host { host.new ≡ host.old }
+{
+    let off = BASES + 4 * reg;
+    let low = probe(host, at, off, 0b1111);
+    let high = if reg < 5 && low & 0b111 == 0b100 {
+        probe(host, at, off + 4, 0b1111)
+    } else {
+        0
+    };
+    region_shown(low, high)
+}
+
+/// Whether the register at an index is the upper half of the region before it.
+fn is_upper_half(bars: &[Option<BarDecl>; 6], reg: u8) -> bool
+    requires { reg < 6 }
+    ensures { result ≡ is_after_wide bars.now reg }
+{
+    let slot = usize::from(reg);
+    if slot > 0
+        && let Some(bar) = bars[slot - 1]
+    {
+        bar.kind().is_wide()
+    } else {
+        false
+    }
+}
+
+/// The regions of an endpoint, each at the index of its first register.
+fn size_bars(host: &mut Host, at: Bdf) -> [Option<BarDecl>; 6]
+    requires registers { IsNumbered host.old.state }
+    requires endpoint { IsEndpointReached host.old.state.functions (bus_address_of at) }
+    ensures bars { result ≡ bars_of (regions_reached host.old.state.functions (bus_address_of at)) }
+    ensures host { host.new ≡ host.old }
+{
+    let mut bars = [None; 6];
+    for reg in 0..6u8 {
+        bars[usize::from(reg)] = if is_upper_half(&bars, reg) {
+            None
+        } else {
+            size_bar(host, at, reg)
+        };
+    }
+    bars
+}
+
+/// The decode of a bridge's I/O window, by I/O Base and Limit. Secondary Status in the same word is left
+/// alone.
+fn size_io_window(host: &mut Host, at: Bdf) -> IoDecode
+    requires registers { IsNumbered host.old.state }
+    requires bridge { IsBridgeReached host.old.state.functions (bus_address_of at) }
+    ensures decode { io_decode_of result ≡ io_reached host.old.state.functions (bus_address_of at) }
+    ensures host { host.new ≡ host.old }
+{
+    let mask = probe(host, at, IO_WINDOW, 0b0011);
+    if mask == 0 {
+        IoDecode::Unimplemented
+    } else if mask & 0xf == 0 {
+        IoDecode::Bits16
+    } else {
+        IoDecode::Bits32
+    }
+}
+
+/// The decode of a bridge's prefetchable memory window, by its Base and Limit.
+fn size_pref_window(host: &mut Host, at: Bdf) -> PrefDecode
+    requires registers { IsNumbered host.old.state }
+    requires bridge { IsBridgeReached host.old.state.functions (bus_address_of at) }
+    ensures decode { pref_decode_of result ≡ pref_reached host.old.state.functions (bus_address_of at) }
+    ensures host { host.new ≡ host.old }
+{
+    let mask = probe(host, at, PREFETCHABLE_WINDOW, 0b1111);
+    if mask == 0 {
+        PrefDecode::Unimplemented
+    } else if mask & 0xf == 0 {
+        PrefDecode::Bits32
+    } else {
+        PrefDecode::Bits64
+    }
+}
+
+/// The physical number of the function of a row.
+fn number_of(row: &FunctionRow) -> Bdf
+    ensures { bus_address_of result ≡ record { bus = row.now.bus; part = last_part row.now.path } }
+{
+    let part = row.path.last();
+    Bdf {
+        bus: row.bus,
+        device: part.device(),
+        function: part.function(),
+    }
+}
+
+/// Fills in the regions or the windows of a function.
+fn size_row(host: &mut Host, row: &mut FunctionRow)
+    requires registers { IsNumbered host.old.state }
+    requires scanned { IsScannedRow (board_at host.old.state.functions) row.old }
+    ensures sized { SizesRow (board_at host.old.state.functions) row.old row.new }
+    ensures host { host.new ≡ host.old }
+{
+    let at = number_of(row);
+    match &mut row.found {
+        Found::Endpoint { pin: _, bars } => *bars = size_bars(host, at),
+        Found::Bridge {
+            secondary: _,
+            subordinate: _,
+            io,
+            pref,
+        } => {
+            *io = size_io_window(host, at);
+            *pref = size_pref_window(host, at);
+        }
+    }
+}
+
+/// Fills in the regions and windows of all functions of a numbered board, by configuration cycles
+/// alone. Each register is written with all ones, read, and written back: afterwards every register is
+/// as it was. Nothing may be decoded meanwhile, as after a reset.
+pub fn size_all(host: &mut Host, table: &mut FunctionTable)
+    requires registers { IsNumbered host.old.state }
+    requires scanned { table.old ≡ scanned_table (board_at host.old.state.functions) }
+    ensures sized { table.new ≡ sized_table (board_at host.old.state.functions) }
+    ensures host { host.new ≡ host.old }
+{
+    for row in table.rows.iter_mut() {
+        size_row(host, row);
+    }
+}
