@@ -1,13 +1,16 @@
 -- A board as it was found is placed as the board is: placement looks at paths, kinds, sizes and decodes alone.
-use Rattle.std.proofs.Common.{◌≡◌, ℕ, zero, suc, ◌+◌, Bool, true, false, ◌&&◌, ◌||◌, not, cond, List, [], ◌∷◌, ◌++◌, refl, sym, ap, ap₂, ◌∙◌, subst}
-use Rattle.std.specs.Prelude.{map, filter, flat_map}
+use Rattle.std.proofs.Common.{◌≡◌, ℕ, zero, suc, ◌+◌, ◌≤◌, Bool, true, false, ◌&&◌, ◌||◌, not, cond, List, [], ◌∷◌, ◌++◌, refl, sym, ap, ap₂, ◌∙◌, subst}
+use Rattle.std.specs.Prelude.{map, filter, flat_map, count_by}
 use Rattle.std.specs.List.{list_any, list_all}
+use Rattle.std.proofs.lemmas.List.Sums.{sum_by-cons}
 use Rattle.model_registers.specs.Declarations.{Kind, Region, Endpoint}
 use Rattle.model_registers.specs.Decoding.{io, memory, space_of, same_space}
 use Rattle.model_registers.specs.EndpointTable.{BaseAddress}
 use Rattle.model_registers.specs.OwnCopies.{bare}
 use Rattle.model_board.specs.Paths.{Path, path_eq, parent, last_part}
 use Rattle.model_board.specs.Board.{Decl, endpoint, bridge, is_bridge, Row, Board, rows_on, IsBoard}
+use Rattle.model_board.specs.BusNumbers.{Enumerates}
+use Rattle.model_board.proofs.PathOrder.{one}
 use Rattle.model_board.specs.Lawful.{HasLawfulDecls}
 use Rattle.model_board.specs.Pools.{Apertures, Pool, io_pool, mem_pool, pref_pool, unit_of, same_pool, bridges_above, has_io, pool_of, is_io, opens_io, has_io_paths}
 use Rattle.model_board.specs.Placement.{Item, a_region, a_window, region_item, window_items, items_of, items_within, items_on, root_first, fits, fits_items, spots, offset_in, offset_on, first_below, bus_first, region_first}
@@ -163,3 +166,13 @@ pub placed_as_found : PlacedAsFound
 placed_as_found b board lawful =
     let h = of_found b board lawful (board_in (sized_table b)) (board_in_table b) in
     record { board = h.0; declarations = h.1; table = h.2; plan = h.3; rules = h.4 }
+
+-- as many bridges stand in the table
+all_bridges : (b : Board) → count_by (λ (r : Row). is_bridge r.decl) (found_board b) ≡ count_by (λ (r : Row). is_bridge r.decl) b
+all_bridges [] = refl
+all_bridges (r ∷ b) =
+    sum_by-cons (λ (s : Row). one (is_bridge s.decl)) (found_row r) (found_board b) ∙ ap₂ (λ t n. one t + n) (found_is_bridge r.decl) (all_bridges b)
+    ∙ sym (sum_by-cons (λ (s : Row). one (is_bridge s.decl)) r b)
+
+pub found_few : (b : Board) → Enumerates b → Enumerates (board_in (sized_table b))
+found_few b few = subst Enumerates (sym (board_in_table b)) (subst (λ n. n ≤ 255) (sym (all_bridges b)) few)

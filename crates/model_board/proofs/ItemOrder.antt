@@ -8,7 +8,10 @@ use Rattle.std.proofs.lemmas.Map.Keys.{IsDistinct-IsPermutation}
 use Rattle.model_registers.specs.Lists.{Each, EachPair}
 use Rattle.model_registers.specs.Declarations.{Region}
 use Rattle.model_board.specs.Members.{IsIn}
-use Rattle.model_board.specs.Paths.{Part, part_eq}
+use Rattle.model_board.specs.Paths.{Part, Path, part_eq}
+use Rattle.model_board.specs.Board.{Board, IsBoard}
+use Rattle.model_board.specs.Pools.{Pool, Apertures}
+use Rattle.model_board.specs.Lawful.{HasLawfulDecls}
 use Rattle.model_board.specs.Placement.{Item, register_of, region_item, stands_before, inserted, in_order, items_on}
 use Rattle.model_board.specs.OrderLaws.{IsInOrder, OrderIsSorted, OneOrder}
 use Rattle.model_board.proofs.Members.{each_in, each_from}
@@ -30,7 +33,7 @@ one_way i j h = grind (arith, nat_tests)
 abbrev is_same : Item → Item → Bool
 is_same i j = part_eq i.part j.part && eqb (register_of i.what) (register_of j.what)
 
-abbrev Strictly : Item → Item → Type 0
+abbrev pub Strictly : Item → Item → Type 0
 Strictly i j = stands_before i j ≡ true
 
 strictly : (i j : Item) → NotBefore i j → is_same i j ≡ false → Strictly i j
@@ -161,14 +164,20 @@ same_list (x ∷ xs) (y ∷ ys) h k to from =
     later_from e z m (inr n) = n
     later_from e z m (inl f) = let loop : Strictly y y = subst (Strictly y) (f ∙ e) (each_in (Strictly y) z ys k.0 m) in absurd (never y y loop loop)
 
+regions_ranked : (p : Part) (r s : Region) → r.index < s.index → Ranked (region_item p r) (region_item p s)
+regions_ranked p r s l = let other : eqb r.index s.index ≡ false = grind (arith, nat_tests) in rw (part_self p, other)
+
+-- the items of a bus stand in strict order
+pub items_strict : (b : Board) (a : Apertures) (pool : Pool) (bus : Path) → IsBoard b → HasLawfulDecls b → EachPair Strictly (in_order (items_on b a pool bus))
+items_strict b a pool bus board lawful =
+    let is : List Item = items_on b a pool bus in
+    let ranked : EachPair Ranked is = items_pairs b a pool board Ranked (λ i j e. rw e) regions_ranked lawful bus in
+    strict_pairs (in_order is) (order_pairs is) (pairs_in_order Ranked (λ i j e. is_same-sym j i ∙ e) is ranked)
+
 pub one_order : OneOrder
 one_order b a pool bus board lawful js h =
     let is : List Item = items_on b a pool bus in
-    let ranked : EachPair Ranked is = items_pairs b a pool board Ranked (λ i j e. rw e) regions lawful bus in
-    let mine : EachPair Strictly (in_order is) = strict_pairs (in_order is) (order_pairs is) (pairs_in_order Ranked (λ i j e. is_same-sym j i ∙ e) is ranked) in
+    let ranked : EachPair Ranked is = items_pairs b a pool board Ranked (λ i j e. rw e) regions_ranked lawful bus in
     let theirs : EachPair Strictly js = strict_pairs js (pairs_from js h.sorted) (pairs_of js (IsDistinct-IsPermutation is_same is_same-sym is js h.same (distinct_from is ranked))) in
     let to : IsPermutation js (in_order is) = IsPermutation-trans js is (in_order is) (IsPermutation-sym is js h.same) (order_moves is) in
-    same_list js (in_order is) theirs mine (moved (in_order is) js (IsPermutation-sym js (in_order is) to)) (moved js (in_order is) to)
-  where
-    regions : (p : Part) (r s : Region) → r.index < s.index → Ranked (region_item p r) (region_item p s)
-    regions p r s l = let other : eqb r.index s.index ≡ false = grind (arith, nat_tests) in rw (part_self p, other)
+    same_list js (in_order is) theirs (items_strict b a pool bus board lawful) (moved (in_order is) js (IsPermutation-sym js (in_order is) to)) (moved js (in_order is) to)

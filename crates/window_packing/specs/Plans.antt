@@ -1,5 +1,7 @@
 -- The words of the program and of the definitions for one thing.
 --     named_pool, named_placed      a pool; a region's register or a window
+--     placed_named      a region's register or a window, from the definitions' word
+--     fault_of      what is wrong where a pool doesn't fit
 --     writes_of      what is written into a function
 use Rattle.model_board.specs.Pools.{io_pool, mem_pool, pref_pool}
 use Rattle.model_board.specs.Pools as pools
@@ -8,21 +10,32 @@ use Rattle.model_board.specs.Placement as placement
 use Rattle.model_board.specs.SetUpWrites.{to_endpoint, to_bridge}
 use Rattle.model_board.specs.SetUpWrites as set_up
 use Rattle.bars.specs.Slots.{bases_from}
-use Rattle.window_packing.specs.declared.plan.Pool.{Pool}
-use Rattle.window_packing.specs.declared.plan.Pool.TheVariants as pool
-use Rattle.window_packing.specs.declared.plan.Placed.{Placed}
-use Rattle.window_packing.specs.declared.plan.Placed.TheVariants as placed
-use Rattle.window_packing.specs.declared.plan.Writes.{Writes}
-use Rattle.window_packing.specs.declared.plan.Writes.TheVariants as writes
+use Rattle.bus_scan.specs.declared.fault.Fault.{Fault}
+use Rattle.bus_scan.specs.declared.fault.Fault.TheVariants.{IoPool, MemoryPool, PrefetchablePool}
+use Rattle.window_packing.specs.declared.plans.Pool.{Pool}
+use Rattle.window_packing.specs.declared.plans.Pool.TheVariants as pool
+use Rattle.window_packing.specs.declared.plans.Placed.{Placed}
+use Rattle.window_packing.specs.declared.plans.Placed.TheVariants as placed
+use Rattle.window_packing.specs.declared.plans.Writes.{Writes}
+use Rattle.window_packing.specs.declared.plans.Writes.TheVariants as writes
 
 abbrev pub named_pool : Pool → pools.Pool
 named_pool pool.Io = io_pool
 named_pool pool.Mem = mem_pool
 named_pool pool.Pref = pref_pool
 
+abbrev pub fault_of : Pool → Fault
+fault_of pool.Io = IoPool
+fault_of pool.Mem = MemoryPool
+fault_of pool.Pref = PrefetchablePool
+
 abbrev pub named_placed : Placed → placement.Placed
 named_placed (placed.Region index) = a_region index
 named_placed placed.Window = a_window
+
+abbrev pub placed_named : placement.Placed → Placed
+placed_named (a_region index) = placed.Region index
+placed_named a_window = placed.Window
 
 abbrev pub writes_of : Writes → set_up.Writes
 writes_of (writes.Endpoint command bases) = to_endpoint command (bases_from 0 bases)

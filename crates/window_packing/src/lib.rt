@@ -2,6 +2,23 @@
 //! Local Bus 3.0, chapter 6.2.5; PCI-to-PCI Bridge Architecture 1.2, chapter 3.2.5).
 #![tactic(auto)]
 
-mod plan;
+mod above;
+mod item;
+mod order;
+mod pack;
+mod placed;
+mod planner;
+mod plans;
+mod pool;
+mod programming;
+mod ready;
+mod regions;
+mod rows;
+mod search;
+mod settings;
+mod windows;
 
-pub use plan::{Placed, Plan, PlanRow, Pool, Setting, Span, Writes};
+pub use planner::plan;
+pub use plans::{Placed, Plan, PlanRow, Pool, Setting, Span, Writes};
+pub use programming::program;
+pub use ready::{Ready, set_up};

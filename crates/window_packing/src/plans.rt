@@ -114,6 +114,13 @@ impl Model for Plan {
 }
 
 impl Plan {
+    /// The plan with these rows and settings.
+    pub(crate) fn new(rows: Vec<PlanRow>, settings: Vec<Setting>) -> Plan
+        ensures { result ≡ record { rows = rows.items; settings = settings.items } }
+    {
+        Plan { rows, settings }
+    }
+
     /// Regions and windows: the I/O pool, then memory, then prefetchable memory; in a pool bus by bus in
     /// path order, and on a bus by address.
     pub fn rows(&self) -> &[PlanRow]

@@ -1,0 +1,72 @@
+-- Settings in path order set the functions of a board up, one after the other.
+use Rattle.std.proofs.Common.{◌≡◌, Bool, true, false, cond, List, [], ◌∷◌, ◌++◌, Option, refl, sym, ap, ap₂, ◌∙◌}
+use Rattle.std.specs.Prelude.{map, IsTrue}
+use Rattle.std.specs.Option.{option_map_or}
+use Rattle.std.proofs.lemmas.List.{map-append}
+use Rattle.model_registers.specs.Lists.{Each}
+use Rattle.model_registers.specs.Registers.{File}
+use Rattle.model_board.specs.Paths.{Path, path_eq}
+use Rattle.model_board.specs.Board.{Board, Decl, is_bridge, stands_at, IsBoard}
+use Rattle.model_board.specs.BusNumbers.{secondary, subordinate}
+use Rattle.model_board.specs.State.{BoardFunction, with_file}
+use Rattle.model_board.specs.Cycles.{secondary_register, subordinate_register}
+use Rattle.model_board.specs.Reach.{row_at, HasNumbers, address_of}
+use Rattle.model_board.proofs.PathEnds.{path_self}
+use Rattle.model_board.proofs.Routes.{reached_by_numbers}
+use Rattle.window_packing.specs.WordWrites.{WordWrite, after_word, after_words}
+use Rattle.window_packing.proofs.FileWrites.{written_file, file_after}
+
+-- ---- a word at the number of a function changes that function alone
+
+word_at : (b : Board) → IsBoard b → (fs : List BoardFunction) → HasNumbers b fs → (p : Path) → IsTrue (stands_at b p) → (w : WordWrite) → after_word (address_of b p) w fs ≡ with_file (written_file w) p fs
+unfolding after_word
+word_at b board fs has p there w =
+    let r = reached_by_numbers b board fs has p there in
+    ap (λ (o : Option BoardFunction). option_map_or (λ (f : BoardFunction). with_file (written_file w) f.path fs) o fs) r.1
+    ∙ ap (λ q. with_file (written_file w) q fs) r.2
+
+-- no function stands at the path
+abbrev pub NoneAt : Path → List BoardFunction → Type 0
+NoneAt p fs = Each (λ g. path_eq g.path p ≡ false) fs
+
+with_file-none : (g : File → File) (p : Path) (fs : List BoardFunction) → NoneAt p fs → with_file g p fs ≡ fs
+with_file-none g p [] h = refl
+with_file-none g p (f ∷ fs) h = ap₂ (λ (b : Bool) gs. cond b (record f { file = g f.file }) f ∷ gs) h.0 (with_file-none g p fs h.1)
+
+each_append : {A : Type 0} (P : A → Type 0) (xs ys : List A) → Each P xs → Each P ys → Each P (xs ++ ys)
+each_append P [] ys h k = k
+each_append P (x ∷ xs) ys h k = (h.0, each_append P xs ys h.1 k)
+
+-- a bridge's registers hold its bus numbers
+abbrev pub HoldsNumbers : Board → BoardFunction → Type 0
+HoldsNumbers b f = IsTrue (is_bridge f.decl) → (secondary_register f.file ≡ secondary b f.path) × (subordinate_register f.file ≡ subordinate b f.path)
+
+-- a word leaves the bus numbers of a bridge
+abbrev pub KeepsNumbers : Decl → WordWrite → Type 0
+KeepsNumbers d w = IsTrue (is_bridge d) → (file : File) → (secondary_register (written_file w file) ≡ secondary_register file) × (subordinate_register (written_file w file) ≡ subordinate_register file)
+
+module _ (b : Board) (board : IsBoard b) (front back : List BoardFunction) (p : Path) (d : Decl) (there : IsTrue (stands_at b p))
+    (rows : map row_at (front ++ record { path = p; decl = d; file = [] } ∷ back) ≡ b)
+    (apart_front : NoneAt p front) (apart_back : NoneAt p back)
+    (front_holds : Each (HoldsNumbers b) front) (back_holds : Each (HoldsNumbers b) back) where
+  abbrev with_own : File → List BoardFunction
+  with_own file = front ++ record { path = p; decl = d; file = file } ∷ back
+
+  numbers : (file : File) → HoldsNumbers b (record { path = p; decl = d; file = file }) → HasNumbers b (with_own file)
+  numbers file h = record {
+    rows = map-append row_at front (record { path = p; decl = d; file = file } ∷ back) ∙ sym (map-append row_at front (record { path = p; decl = d; file = [] } ∷ back)) ∙ rows;
+    numbers = each_append (HoldsNumbers b) front (record { path = p; decl = d; file = file } ∷ back) front_holds (h, back_holds);
+  }
+
+  changed_own : (g : File → File) (file : File) → with_file g p (with_own file) ≡ with_own (g file)
+  changed_own g file =
+      let here : path_eq p p ≡ true = path_self p in
+      map-append _ front (record { path = p; decl = d; file = file } ∷ back)
+      ∙ ap₂ (λ (xs ys : List BoardFunction). xs ++ ys) (with_file-none g p front apart_front)
+      (ap₂ (λ (t : Bool) (ys : List BoardFunction). cond t (record { path = p; decl = d; file = g file }) (record { path = p; decl = d; file = file }) ∷ ys) here (with_file-none g p back apart_back))
+
+  pub words_at : (ws : List WordWrite) → Each (KeepsNumbers d) ws → (file : File) → HoldsNumbers b (record { path = p; decl = d; file = file }) → after_words (address_of b p) ws (with_own file) ≡ with_own (file_after ws file)
+  words_at [] keep file h = refl
+  words_at (w ∷ ws) keep file h =
+      ap (after_words (address_of b p) ws) (word_at b board (with_own file) (numbers file h) p there w ∙ changed_own (written_file w) file)
+      ∙ words_at ws keep.1 (written_file w file) (λ k. ((keep.0 k file).0 ∙ (h k).0, (keep.0 k file).1 ∙ (h k).1))

@@ -1,0 +1,229 @@
+-- Where the buses, the regions and the windows of a placed pool stand: all within 2^63, and each found by its alignment.
+use Rattle.std.proofs.Common.{◌≡◌, ℕ, zero, suc, ◌+◌, ◌-◌, ◌*◌, ◌/◌, ◌^◌, ◌≤◌, ◌<◌, ◌⊎◌, inl, inr, Bool, true, false, ◌&&◌, cond, List, [], ◌∷◌, ◌++◌, map, length, Option, Some, None, MatchOption, refl, sym, ap, ap₂, ◌∙◌, subst, arith}
+use Rattle.std.specs.Prelude.{filter, flat_map, IsTrue}
+use Rattle.std.specs.List.{slice_get}
+use Rattle.std.specs.Option.{option_map_or}
+use Rattle.std.proofs.lemmas.Bool.{and_parts}
+use Rattle.std.proofs.lemmas.Bool.Decides.{nat_tests}
+use Rattle.std.proofs.Math.Nat.{div-mul-le_self}
+use Rattle.model_registers.specs.Lists.{Each, EachPair}
+use Rattle.model_registers.specs.Apertures.{Aperture, IsLawfulApertures, IsPrefOption}
+use Rattle.model_registers.specs.Declarations.{Endpoint, Region, Kind, registers_of, io_kind, mem32, mem64}
+use Rattle.model_board.specs.Members.{IsIn}
+use Rattle.model_board.specs.Paths.{Part, Path, part_eq, path_eq, parent, last_part, IsPath}
+use Rattle.model_board.specs.Board.{Decl, endpoint, bridge, is_bridge, Row, Board, IsBoard}
+use Rattle.model_board.specs.Pools.{Pool, io_pool, mem_pool, pref_pool, unit_of, Apertures, aperture_of}
+use Rattle.model_board.specs.Placement.{Placed, a_region, a_window, same_placed, Item, Spot, is_item, stands_before, in_order, end_from, round_up, need, alignment, spots_from, spots, offset_in, region_item, items_on, root_first, fits, offset_on, bus_first}
+use Rattle.model_board.specs.Layout.{LayoutRow, IsInside, IsLawful, bus_rows, buses, pool_rows}
+use Rattle.model_board.specs.PlacementLaws.{window_row}
+use Rattle.model_board.specs.Lawful.{IsLawfulDecl, HasLawfulDecls}
+use Rattle.model_board.proofs.Members.{each_in, each_from}
+use Rattle.model_board.proofs.PathOrder.{part_same}
+use Rattle.model_board.proofs.PathEnds.{snoc, parent_snoc, last_snoc, length_snoc}
+use Rattle.model_board.proofs.Partings.{pair_in}
+use Rattle.model_board.proofs.Packing.{unit_positive}
+use Rattle.model_board.proofs.Items.{item_of, some_end, end_below_need, items_placeable, items_for, region_of_item, Origin, origin}
+use Rattle.model_board.proofs.ItemOrder.{Strictly, items_strict}
+use Rattle.model_board.proofs.Nesting.{HasItems, WindowOn, bus_first-snoc, window_of, bridge_of_bus}
+use Rattle.model_board.proofs.LawfulPlacement.{row_in, pool_lawful}
+use Rattle.model_board.proofs.DeclaredRows.{has_window_row}
+use Rattle.window_packing.proofs.BridgesAbove.{same_row, in_index, index_in}
+use Rattle.window_packing.proofs.BusItems.{items_align, alignment_bounds}
+use Rattle.window_packing.proofs.SpotSearch.{AreStrict}
+
+-- ---- spots in strict order
+
+strict_each : (i : Item) (n : ℕ) (is : List Item) → Each (Strictly i) is → Each (λ (t : Spot). IsTrue (stands_before i t.item)) (spots_from n is)
+strict_each i n [] h = tt
+strict_each i n (j ∷ is) h = (h.0, strict_each i (round_up j.align n + j.size) is h.1)
+
+strict_from : (n : ℕ) (is : List Item) → EachPair Strictly is → AreStrict (spots_from n is)
+strict_from n [] h = tt
+strict_from n (i ∷ is) h = (strict_each i (round_up i.align n + i.size) is h.0, strict_from (round_up i.align n + i.size) is h.1)
+
+abbrev Cases : ℕ → List Spot → Type 0
+Cases n ts = (n ≡ 0) ⊎ ((t : Spot) × IsIn t ts × (n ≡ t.first))
+
+-- what is found, or 0
+offset_cases : (ss : List Spot) (p : Part) (w : Placed) → (offset_in ss p w ≡ 0) ⊎ ((s : Spot) × IsIn s ss × (offset_in ss p w ≡ s.first))
+offset_cases [] p w = inl refl
+offset_cases (s ∷ ss) p w = by_test (is_item p w s.item) (offset_cases ss p w)
+  where
+    by_test : (v : Bool) → Cases (offset_in ss p w) ss → Cases (cond v s.first (offset_in ss p w)) (s ∷ ss)
+    by_test true more = inr (s, inl refl, refl)
+    by_test false (inl e) = inl e
+    by_test false (inr (t, m, e)) = inr (t, inr m, e)
+
+-- no address of a pool is above this
+abbrev pub highest : ℕ
+highest = 2 ^ 63 + 2 ^ 40
+
+same_what : (v w : Placed) → same_placed v w ≡ true → v ≡ w
+same_what (a_region n) (a_region m) h = let e : n ≡ m = grind (arith, nat_tests) in ap (λ k. a_region k) e
+same_what (a_region n) a_window h = cc
+same_what a_window (a_region m) h = cc
+same_what a_window a_window h = refl
+
+limit : (a : Apertures) (pool : Pool) → IsLawfulApertures a → MatchOption (aperture_of a pool) (Unit {0}) (λ ap. ap.last + 1 ≤ 2 ^ 63)
+limit a io_pool h = omega (arith, h.io.ends)
+limit a mem_pool h = omega (arith, h.mem.ends)
+limit a pref_pool h = by_option a.pref h.pref
+  where
+    by_option : (o : Option Aperture) → IsPrefOption a.mem o → MatchOption o (Unit {0}) (λ ap. ap.last + 1 ≤ 2 ^ 63)
+    by_option None k = tt
+    by_option (Some x) k = omega (arith, k.ends)
+
+begins : (a : Apertures) (pool : Pool) → IsLawfulApertures a → MatchOption (aperture_of a pool) (Unit {0}) (λ ap. ap.first < 2 ^ 63)
+begins a io_pool h = omega (arith, h.io.ends, h.io.units.not_empty)
+begins a mem_pool h = omega (arith, h.mem.ends, h.mem.units.not_empty)
+begins a pref_pool h = by_option a.pref h.pref
+  where
+    by_option : (o : Option Aperture) → IsPrefOption a.mem o → MatchOption o (Unit {0}) (λ ap. ap.first < 2 ^ 63)
+    by_option None k = tt
+    by_option (Some x) k = omega (arith, k.ends, k.units.not_empty)
+
+inside_limit : (o : Option Aperture) (row : LayoutRow) → MatchOption o (Unit {0}) (λ ap. ap.last + 1 ≤ 2 ^ 63) → MatchOption o ⊥ (λ ap. IsInside ap.first (ap.last + 1) row) → row.first + row.size ≤ 2 ^ 63
+inside_limit None row l h = absurd h
+inside_limit (Some x) row l h = omega (arith, l, h.1)
+
+round_up_below : (n m : ℕ) → 0 < n → round_up n m ≤ m + n
+round_up_below n m some = let q = div-mul-le_self (m + (n - 1)) n in omega (arith, q)
+
+module _ (b : Board) (a : Apertures) (pool : Pool) (board : IsBoard b) (lawful : HasLawfulDecls b) where
+  pub spots_strict : (bus : Path) → AreStrict (spots (items_on b a pool bus))
+  spots_strict bus = strict_from 0 (in_order (items_on b a pool bus)) (items_strict b a pool bus board lawful)
+
+  -- a path of the board is some
+  some_path : (r : Row) → IsIn r b → 0 < length r.path
+  some_path r m = (each_in (λ (x : Row). IsPath x.path) r b board.paths m).some
+
+  split : (r : Row) → IsIn r b → r.path ≡ parent r.path ++ last_part r.path ∷ []
+  split r m = snoc r.path (some_path r m)
+
+  -- ---- the alignment of what is looked for
+
+  pub window_align : (r : Row) → IsIn r b → Each (λ s. IsTrue (is_item (last_part r.path) a_window s.item) → s.item.align ≡ alignment (unit_of pool) (items_on b a pool r.path)) (spots (items_on b a pool (parent r.path)))
+  window_align r m = each_from (λ s. IsTrue (is_item (last_part r.path) a_window s.item) → s.item.align ≡ alignment (unit_of pool) (items_on b a pool r.path)) (spots (items_on b a pool (parent r.path))) (λ s k h. of_spot s k (and_parts (part_eq s.item.part (last_part r.path)) (same_placed s.item.what a_window) h))
+    where
+      of_spot : (s : Spot) → IsIn s (spots (items_on b a pool (parent r.path))) → (part_eq s.item.part (last_part r.path) ≡ true) × (same_placed s.item.what a_window ≡ true) → s.item.align ≡ alignment (unit_of pool) (items_on b a pool r.path)
+      of_spot s k h =
+          let w = window_of b a pool board lawful (parent r.path) s k (same_what s.item.what a_window h.1) in
+          let path : parent r.path ++ s.item.part ∷ [] ≡ r.path = ap (λ (p : Part). parent r.path ++ p ∷ []) (part_same s.item.part (last_part r.path) h.0) ∙ sym (split r m) in
+          ap (λ (t : Spot). t.item.align) (sym w.1) ∙ w.0.align_is ∙ ap (λ (p : Path). alignment (unit_of pool) (items_on b a pool p)) path
+
+  apart : (k : Kind) (m n : ℕ) → m + registers_of k ≤ n → m < n
+  apart io_kind m n h = omega arith
+  apart (mem32 p) m n h = omega arith
+  apart (mem64 p) m n h = omega arith
+
+  one_region : (d : Endpoint) → IsLawfulDecl (endpoint d) → (x y : Region) → IsIn x d.regions → IsIn y d.regions → x.index ≡ y.index → x ≡ y
+  one_region d h x y m k e = by_order (pair_in (λ (u v : Region). u.index + registers_of u.kind ≤ v.index) x y d.regions h.regions.in_order m k)
+    where
+      by_order : (x ≡ y) ⊎ ((x.index + registers_of x.kind ≤ y.index) ⊎ (y.index + registers_of y.kind ≤ x.index)) → x ≡ y
+      by_order (inl s) = s
+      by_order (inr (inl l)) = absurd (omega (arith, e, apart x.kind x.index y.index l))
+      by_order (inr (inr l)) = absurd (omega (arith, e, apart y.kind y.index x.index l))
+
+  pub region_align : (r : Row) → IsIn r b → (d : Endpoint) → r.decl ≡ endpoint d → (k : Region) → IsIn k d.regions
+      → Each (λ s. IsTrue (is_item (last_part r.path) (a_region k.index) s.item) → s.item.align ≡ k.size) (spots (items_on b a pool (parent r.path)))
+  region_align r m d decl k on = each_from (λ s. IsTrue (is_item (last_part r.path) (a_region k.index) s.item) → s.item.align ≡ k.size) (spots (items_on b a pool (parent r.path)))
+      (λ s l h. of_spot s (and_parts (part_eq s.item.part (last_part r.path)) (same_placed s.item.what (a_region k.index)) h) (origin b a pool board (parent r.path) s.item (item_of s (items_on b a pool (parent r.path)) l)))
+    where
+      the_decl : IsLawfulDecl (endpoint d)
+      the_decl = subst IsLawfulDecl decl (each_in (λ (x : Row). IsLawfulDecl x.decl) r b lawful m)
+
+      of_spot : (s : Spot) → (part_eq s.item.part (last_part r.path) ≡ true) × (same_placed s.item.what (a_region k.index) ≡ true) → Origin b a pool (parent r.path) s.item → s.item.align ≡ k.size
+      of_spot s h o =
+          let path : o.row.path ≡ r.path = o.path_is ∙ ap (λ (p : Part). parent r.path ++ p ∷ []) (part_same s.item.part (last_part r.path) h.0) ∙ sym (split r m) in
+          let row : o.row ≡ r = same_row b board o.row r o.there m path in
+          let item : IsIn s.item (items_for b a pool r.path (endpoint d)) = subst (λ (x : Decl). IsIn s.item (items_for b a pool r.path x)) decl (subst (λ (x : Row). IsIn s.item (items_for b a pool x.path x.decl)) row o.item) in
+          let g = region_of_item b a pool r.path d s.item item in
+          let whats : a_region g.0.index ≡ a_region k.index = ap (λ (i : Item). i.what) (sym g.3) ∙ same_what s.item.what (a_region k.index) h.1 in
+          let index : g.0.index ≡ k.index = cc in
+          ap (λ (i : Item). i.align) g.3 ∙ ap (λ (x : Region). x.size) (one_region d the_decl g.0 k g.1 on index)
+
+  -- ---- addresses
+
+  module _ (apertures : IsLawfulApertures a) (fit : IsTrue (fits b a pool)) where
+    row_bound : (row : LayoutRow) → IsIn row (pool_rows b a pool) → row.pool ≡ pool → row.first + row.size ≤ 2 ^ 63
+    row_bound row m e =
+        let whole : IsLawful b a (pool_rows b a pool) = pool_lawful b a pool board lawful fit in
+        let inside = each_in (λ r. MatchOption (aperture_of a r.pool) ⊥ (λ ap. IsInside ap.first (ap.last + 1) r)) row (pool_rows b a pool) whole.in_apertures m in
+        inside_limit (aperture_of a row.pool) row (limit a row.pool apertures) inside
+
+    -- a spot ends at 2^63 or below
+    pub spot_bound : (bus : Path) (s : Spot) → IsIn s (spots (items_on b a pool bus)) → bus_first b a pool bus + s.first + s.item.size ≤ 2 ^ 63
+    spot_bound bus s m = row_bound (record { path = bus ++ s.item.part ∷ []; what = s.item.what; pool = pool; first = bus_first b a pool bus + s.first; size = s.item.size }) (row_in b a pool board lawful bus s m) refl
+
+    -- and so does a window
+    pub window_bound : (p : Path) → 0 < length p → HasItems b a pool p → (0 < need (unit_of pool) (items_on b a pool p)) × (bus_first b a pool p + need (unit_of pool) (items_on b a pool p) ≤ 2 ^ 63)
+    window_bound p some has = (
+      omega (arith, some_end (unit_of pool) has.0 (items_on b a pool p) (items_placeable b a pool lawful p) has.1, end_below_need (unit_of pool) (items_on b a pool p) (unit_positive pool)),
+      row_bound (window_row b a pool p) (has_window_row b a pool board lawful p some has) refl,
+    )
+
+    pub found_bound : (bus : Path) (p : Part) (w : Placed) → bus_first b a pool bus ≤ highest → bus_first b a pool bus + offset_on b a pool bus p w ≤ highest
+    found_bound bus p w h = by_cases (offset_cases (spots (items_on b a pool bus)) p w)
+      where
+        by_cases : (offset_on b a pool bus p w ≡ 0) ⊎ ((s : Spot) × IsIn s (spots (items_on b a pool bus)) × (offset_on b a pool bus p w ≡ s.first)) → bus_first b a pool bus + offset_on b a pool bus p w ≤ highest
+        by_cases (inl e) = omega (arith, h, e)
+        by_cases (inr (s, m, e)) = omega (arith, e, spot_bound bus s m)
+
+    root_bound : bus_first b a pool [] ≤ highest
+    root_bound = by_option (aperture_of a pool) (begins a pool apertures)
+      where
+        bounds : (0 < alignment (unit_of pool) (items_on b a pool [])) × (alignment (unit_of pool) (items_on b a pool []) ≤ 2 ^ 40)
+        bounds = alignment_bounds pool (items_on b a pool []) (items_align b a pool lawful [])
+
+        by_option : (o : Option Aperture) → MatchOption o (Unit {0}) (λ ap. ap.first < 2 ^ 63) → option_map_or (λ (ap : Aperture). round_up (alignment (unit_of pool) (items_on b a pool [])) ap.first) o 0 ≤ highest
+        by_option None h = omega arith
+        by_option (Some x) h = omega (arith, h, bounds.1, round_up_below (alignment (unit_of pool) (items_on b a pool [])) x.first bounds.0)
+
+    pub next_first : (r : Row) → IsIn r b → bus_first b a pool r.path ≡ bus_first b a pool (parent r.path) + offset_on b a pool (parent r.path) (last_part r.path) a_window
+    next_first r m = ap (bus_first b a pool) (split r m) ∙ bus_first-snoc b a pool (parent r.path) (last_part r.path)
+
+    below : (n : ℕ) (p : Path) → length p ≤ n → bus_first b a pool p ≤ highest
+    below n [] h = root_bound
+    below zero (x ∷ p) h = absurd (omega arith)
+    below (suc n) (x ∷ p) h =
+        let some : 0 < length (x ∷ p) = omega arith in
+        let cut : x ∷ p ≡ parent (x ∷ p) ++ last_part (x ∷ p) ∷ [] = snoc (x ∷ p) some in
+        let shorter : length (parent (x ∷ p)) ≤ n = omega (arith, ap length cut, length_snoc (parent (x ∷ p)) (last_part (x ∷ p)), h) in
+        let first : bus_first b a pool (x ∷ p) ≡ bus_first b a pool (parent (x ∷ p)) + offset_on b a pool (parent (x ∷ p)) (last_part (x ∷ p)) a_window = ap (bus_first b a pool) cut ∙ bus_first-snoc b a pool (parent (x ∷ p)) (last_part (x ∷ p)) in
+        omega (arith, first, found_bound (parent (x ∷ p)) (last_part (x ∷ p)) a_window (below n (parent (x ∷ p)) shorter))
+
+    pub first_bound : (p : Path) → bus_first b a pool p ≤ highest
+    first_bound p = below (length p) p (omega arith)
+
+  -- ---- what stands behind an endpoint, and how deep
+
+  pub none_behind : (r : Row) → IsIn r b → is_bridge r.decl ≡ false → items_on b a pool r.path ≡ []
+  none_behind r m plain = by_items (items_on b a pool r.path) refl
+    where
+      by_items : (is : List Item) → items_on b a pool r.path ≡ is → is ≡ []
+      by_items [] e = refl
+      by_items (i ∷ is) e =
+          let f = bridge_of_bus b a pool board lawful r.path (i, subst (IsIn i) (sym e) (inl refl)) (some_path r m) in
+          let row : f.0 ≡ r = same_row b board f.0 r f.1 m f.2 in
+          let clash : true ≡ false = sym f.3 ∙ ap (λ (x : Row). is_bridge x.decl) row ∙ plain in cc
+
+  pub depth : (bus : Path) (s : Spot) → IsIn s (spots (items_on b a pool bus)) → length bus < 16
+  depth bus s m =
+      let o : Origin b a pool bus s.item = origin b a pool board bus s.item (item_of s (items_on b a pool bus) m) in
+      let few = (each_in (λ (x : Row). IsPath x.path) o.row b board.paths o.there).few in
+      omega (arith, few, ap length o.path_is, length_snoc bus s.item.part)
+
+  all_buses : (rs : Board) → ((r : Row) → IsIn r rs → IsIn r b) → flat_map (bus_rows b a pool) (map (λ (r : Row). r.path) rs) ≡ flat_map (bus_rows b a pool) (map (λ (r : Row). r.path) (filter (λ r. is_bridge r.decl) rs))
+  all_buses [] h = refl
+  all_buses (r ∷ rs) h = by_kind (is_bridge r.decl) refl (all_buses rs (λ s m. h s (inr m)))
+    where
+      by_kind : (v : Bool) → is_bridge r.decl ≡ v → flat_map (bus_rows b a pool) (map (λ (r : Row). r.path) rs) ≡ flat_map (bus_rows b a pool) (map (λ (r : Row). r.path) (filter (λ r. is_bridge r.decl) rs))
+          → bus_rows b a pool r.path ++ flat_map (bus_rows b a pool) (map (λ (r : Row). r.path) rs) ≡ flat_map (bus_rows b a pool) (map (λ (r : Row). r.path) (cond v (r ∷ filter (λ r. is_bridge r.decl) rs) (filter (λ r. is_bridge r.decl) rs)))
+      by_kind true e more = ap (λ xs. bus_rows b a pool r.path ++ xs) more
+      by_kind false e more =
+          let none : bus_rows b a pool r.path ≡ [] = ap (λ (is : List Item). map (λ (s : Spot). record { path = r.path ++ s.item.part ∷ []; what = s.item.what; pool = pool; first = bus_first b a pool r.path + s.first; size = s.item.size }) (spots is)) (none_behind r (h r (inl refl)) e) in
+          ap (λ xs. xs ++ flat_map (bus_rows b a pool) (map (λ (r : Row). r.path) rs)) none ∙ more
+
+  -- the rows of all functions' buses are those of the bridges' buses
+  pub rows_by_bus : flat_map (bus_rows b a pool) ([] ∷ map (λ (r : Row). r.path) b) ≡ pool_rows b a pool
+  rows_by_bus = ap (λ xs. bus_rows b a pool [] ++ xs) (all_buses b (λ r m. m))

@@ -1,0 +1,138 @@
+-- Where the regions and the windows of one function of a placed board stand.
+use Rattle.std.proofs.Common.{◌≡◌, ℕ, zero, suc, ◌+◌, ◌-◌, ◌*◌, ◌^◌, ◌≤◌, ◌<◌, List, [], ◌∷◌, ◌++◌, length, map, Some, refl, sym, ap, ap₂, ◌∙◌, subst, arith}
+use Rattle.std.specs.Prelude.{IsTrue}
+use Rattle.std.specs.List.{slice_get}
+use Rattle.std.proofs.lemmas.Option.{slice_get_within}
+use Rattle.model_registers.specs.Lists.{Each}
+use Rattle.model_registers.specs.Declarations.{Endpoint, Region}
+use Rattle.model_registers.specs.Apertures.{Apertures}
+use Rattle.model_registers.specs.BridgeTable.{Span}
+use Rattle.model_board.specs.Members.{IsIn}
+use Rattle.model_board.specs.Paths.{Part, Path, parent, last_part, IsPath}
+use Rattle.model_board.specs.Board.{Decl, endpoint, Row, Board, IsBoard}
+use Rattle.model_board.specs.Lawful.{HasLawfulDecls}
+use Rattle.model_board.specs.Pools.{Pool, io_pool, mem_pool, pref_pool, unit_of, bridges_above, pool_of}
+use Rattle.model_board.specs.Placement.{Placed, a_region, Item, Spot, is_item, in_order, end_from, round_up, need, spots, offset_in, items_on, offset_on, bus_first, region_first}
+use Rattle.model_board.specs.SetUp.{first_of, span_of}
+use Rattle.model_board.proofs.Members.{each_in, each_from}
+use Rattle.model_board.proofs.Items.{item_of}
+use Rattle.model_board.proofs.Nesting.{HasItems}
+use Rattle.bridge_forward.proofs.Indices.{same_at}
+use Rattle.window_packing.specs.declared.above.Above.{Above}
+use Rattle.window_packing.specs.Buses.{bus_path}
+use Rattle.window_packing.specs.Packs.{BusPack, pack_of, packs_of}
+use Rattle.window_packing.specs.Placed.{bus_paths, PlacedPool, IsPlaced, Placement, IsPlacement, pool_in, IsAboveAt, IsRegionAt}
+use Rattle.window_packing.proofs.SpotSearch.{AreStrict}
+use Rattle.window_packing.proofs.BridgesAbove.{index_in}
+use Rattle.window_packing.proofs.BusIndex.{by_bus, count_buses, bus_behind}
+use Rattle.window_packing.proofs.PackFits.{no_items}
+use Rattle.window_packing.proofs.PoolSteps.{IsAboveRow, above_row}
+use Rattle.window_packing.proofs.FirstsSoFar.{pack_is, count_packs}
+use Rattle.window_packing.proofs.PlacedBuses.{highest, spots_strict, region_align, spot_bound, window_bound, found_bound, first_bound, depth}
+
+pub placed_in : (b : Board) (a : Apertures) (p : Placement) → IsPlacement b a p → (pool : Pool) → IsPlaced b a pool (pool_in p pool)
+placed_in b a p h io_pool = h.io
+placed_in b a p h mem_pool = h.mem
+placed_in b a p h pref_pool = h.pref
+
+-- what holds of each spot, whichever it is, holds where there is one
+pub holds_of_some : (P : Type 0) (ss : List Spot) → (ss ≡ [] → ⊥) → Each (λ s. P) ss → P
+holds_of_some P [] some h = absurd (some refl)
+holds_of_some P (s ∷ ss) some h = h.0
+
+pub span_none : (unit closed first : ℕ) (is : List Item) → spots is ≡ [] → span_of unit closed first is ≡ record { first = closed * unit; last = 0 }
+span_none unit closed first is e = ap (span_of unit closed first) (no_items is e)
+
+pub span_some : (unit closed first : ℕ) (is : List Item) → (spots is ≡ [] → ⊥) → span_of unit closed first is ≡ record { first = first; last = first + round_up unit (end_from 0 (in_order is)) - 1 }
+span_some unit closed first [] some = absurd (some refl)
+span_some unit closed first (i ∷ is) some = refl
+
+module _ (b : Board) (a : Apertures) (board : IsBoard b) (lawful : HasLawfulDecls b) (pool : Pool) (pl : PlacedPool) (placed : IsPlaced b a pool pl) where
+  pub count_pl : length pl.packs ≡ suc (length b)
+  count_pl = count_packs b a pool pl.packs placed.packs
+
+  pub count_firsts : length pl.firsts ≡ suc (length b)
+  count_firsts = ap length placed.firsts ∙ count_buses (bus_first b a pool) b
+
+  pub first_is : (k : ℕ) → k ≤ length b → (n : ℕ) → slice_get pl.firsts k ≡ Some n → n ≡ bus_first b a pool (bus_path b k)
+  first_is k l n at = same_at (map (bus_first b a pool) (bus_paths b)) k n (bus_first b a pool (bus_path b k)) (subst (λ (xs : List ℕ). slice_get xs k ≡ Some n) placed.firsts at) (by_bus (bus_first b a pool) b k l)
+
+  pub bus_pack : (k : ℕ) → k ≤ length b → (p : BusPack) → slice_get pl.packs k ≡ Some p → p ≡ pack_of b a pool (bus_path b k)
+  bus_pack k l p at = pack_is b a pool pl.packs placed.packs k l p at
+
+  -- ---- the rows of a bus
+
+  pub bus_depth : (k : ℕ) → k ≤ length b → (p : BusPack) → slice_get pl.packs k ≡ Some p → Each (λ s. length (bus_path b k) < 16) p.spots
+  bus_depth k l p at = subst (λ (q : BusPack). Each (λ s. length (bus_path b k) < 16) q.spots) (sym (bus_pack k l p at))
+      (each_from (λ s. length (bus_path b k) < 16) (spots (items_on b a pool (bus_path b k))) (λ s m. depth b a pool board lawful (bus_path b k) s m))
+
+  pub bus_room : (k : ℕ) → k ≤ length b → (p : BusPack) → slice_get pl.packs k ≡ Some p → (n : ℕ) → n ≡ bus_first b a pool (bus_path b k) → Each (λ s. n + s.first < 2 ^ 64) p.spots
+  bus_room k l p at n e = subst (λ (q : BusPack). Each (λ s. n + s.first < 2 ^ 64) q.spots) (sym (bus_pack k l p at))
+      (each_from (λ s. n + s.first < 2 ^ 64) (spots (items_on b a pool (bus_path b k))) (λ s m. let h = spot_bound b a pool board lawful placed.apertures placed.fit (bus_path b k) s m in omega (arith, h, e)))
+
+  -- ---- a window
+
+  module _ (i : ℕ) (r : Row) (at : slice_get b i ≡ Some r) where
+    there : IsIn r b
+    there = index_in b i r at
+
+    inside : suc i ≤ length b
+    inside = let w = slice_get_within b i r at in omega (arith, w)
+
+    pub behind_first_is : (n : ℕ) → slice_get pl.firsts (i + 1) ≡ Some n → n ≡ bus_first b a pool r.path
+    behind_first_is n e = first_is (suc i) inside n (let s : i + 1 ≡ suc i = omega arith in subst (λ j. slice_get pl.firsts j ≡ Some n) s e) ∙ ap (bus_first b a pool) (bus_behind b i r at)
+
+    pub behind_pack : (p : BusPack) → slice_get pl.packs (i + 1) ≡ Some p → p ≡ pack_of b a pool r.path
+    behind_pack p e = bus_pack (suc i) inside p (let s : i + 1 ≡ suc i = omega arith in subst (λ j. slice_get pl.packs j ≡ Some p) s e) ∙ ap (pack_of b a pool) (bus_behind b i r at)
+
+    bounds : (s : Spot) → IsIn s (spots (items_on b a pool r.path)) → (0 < need (unit_of pool) (items_on b a pool r.path)) × (bus_first b a pool r.path + need (unit_of pool) (items_on b a pool r.path) ≤ 2 ^ 63)
+    bounds s m = window_bound b a pool board lawful placed.apertures placed.fit r.path (each_in (λ (x : Row). IsPath x.path) r b board.paths there).some (s.item, item_of s (items_on b a pool r.path) m)
+
+    pub window_some : (p : BusPack) → slice_get pl.packs (i + 1) ≡ Some p → Each (λ s. 0 < round_up (unit_of pool) p.end) p.spots
+    window_some p e = subst (λ (q : BusPack). Each (λ s. 0 < round_up (unit_of pool) q.end) q.spots) (sym (behind_pack p e))
+        (each_from (λ s. 0 < need (unit_of pool) (items_on b a pool r.path)) (spots (items_on b a pool r.path)) (λ s m. (bounds s m).0))
+
+    pub window_room : (p : BusPack) → slice_get pl.packs (i + 1) ≡ Some p → (n : ℕ) → slice_get pl.firsts (i + 1) ≡ Some n → Each (λ s. n + round_up (unit_of pool) p.end ≤ 2 ^ 63) p.spots
+    window_room p e n f = subst (λ (q : BusPack). Each (λ s. n + round_up (unit_of pool) q.end ≤ 2 ^ 63) q.spots) (sym (behind_pack p e))
+        (each_from (λ s. n + need (unit_of pool) (items_on b a pool r.path) ≤ 2 ^ 63) (spots (items_on b a pool r.path)) (λ s m. let h = (bounds s m).1 in omega (arith, h, behind_first_is n f)))
+
+    -- ---- a region
+
+    module _ (x : Above) (above : IsAboveAt b i x) where
+      row : IsAboveRow b r x
+      row = above_row b above.all i r x above.told at above.there
+
+      pub in_packs : x.bus < length pl.packs
+      in_packs = let w = row.within in omega (arith, w, count_pl)
+
+      pub in_firsts : x.bus < length pl.firsts
+      in_firsts = let w = row.within in omega (arith, w, count_firsts)
+
+      own_pack_is : (p : BusPack) → slice_get pl.packs x.bus ≡ Some p → p ≡ pack_of b a pool (parent r.path)
+      own_pack_is p e = bus_pack x.bus row.within p e ∙ ap (pack_of b a pool) row.bus
+
+      own_first_is : (n : ℕ) → slice_get pl.firsts x.bus ≡ Some n → n ≡ bus_first b a pool (parent r.path)
+      own_first_is n e = first_is x.bus row.within n e ∙ ap (bus_first b a pool) row.bus
+
+      pub region_strict : (p : BusPack) → slice_get pl.packs x.bus ≡ Some p → AreStrict p.spots
+      region_strict p e = subst (λ (q : BusPack). AreStrict q.spots) (sym (own_pack_is p e)) (spots_strict b a pool board lawful (parent r.path))
+
+      pub region_aligned : (p : BusPack) → slice_get pl.packs x.bus ≡ Some p → (part : Part) → part ≡ last_part r.path → (k : Region) → IsRegionAt b i k → Each (λ s. IsTrue (is_item part (a_region k.index) s.item) → s.item.align ≡ k.size) p.spots
+      region_aligned p e part last k own =
+          let same : r ≡ record { path = own.path; decl = endpoint own.decl } = same_at b i r (record { path = own.path; decl = endpoint own.decl }) at own.there in
+          subst (λ (q : BusPack). Each (λ s. IsTrue (is_item part (a_region k.index) s.item) → s.item.align ≡ k.size) q.spots) (sym (own_pack_is p e))
+          (subst (λ (y : Part). Each (λ s. IsTrue (is_item y (a_region k.index) s.item) → s.item.align ≡ k.size) (spots (items_on b a pool (parent r.path)))) (sym last)
+          (region_align b a pool board lawful r there own.decl (ap (λ (y : Row). y.decl) same) k own.own))
+
+      sum_is : (p : BusPack) → slice_get pl.packs x.bus ≡ Some p → (n : ℕ) → slice_get pl.firsts x.bus ≡ Some n → (part : Part) → part ≡ last_part r.path → (w : Placed)
+          → n + offset_in p.spots part w ≡ bus_first b a pool (parent r.path) + offset_on b a pool (parent r.path) (last_part r.path) w
+      sum_is p e n f part last w = ap₂ (λ (m j : ℕ). m + j) (own_first_is n f) (ap₂ (λ (q : BusPack) (y : Part). offset_in q.spots y w) (own_pack_is p e) last)
+
+      pub region_room : (p : BusPack) → slice_get pl.packs x.bus ≡ Some p → (n : ℕ) → slice_get pl.firsts x.bus ≡ Some n → (part : Part) → part ≡ last_part r.path → (w : Placed) → n + offset_in p.spots part w < 2 ^ 64
+      region_room p e n f part last w =
+          let high = found_bound b a pool board lawful placed.apertures placed.fit (parent r.path) (last_part r.path) w (first_bound b a pool board lawful placed.apertures placed.fit (parent r.path)) in
+          omega (arith, high, sum_is p e n f part last w)
+
+      pub base_is : (p : BusPack) → slice_get pl.packs x.bus ≡ Some p → (n : ℕ) → slice_get pl.firsts x.bus ≡ Some n → (part : Part) → part ≡ last_part r.path → (k : Region) → pool_of a (bridges_above b r.path) k.kind ≡ pool
+          → n + offset_in p.spots part (a_region k.index) ≡ first_of b a r.path k
+      base_is p e n f part last k own = sum_is p e n f part last (a_region k.index) ∙ ap (λ (q : Pool). region_first b a q r.path k.index) (sym own)

@@ -1,0 +1,131 @@
+-- The steps by which the buses of a pool are packed.
+use Rattle.std.proofs.Common.{◌≡◌, ℕ, zero, suc, ◌+◌, ◌-◌, ◌<◌, ◌≤◌, ◌^◌, Option, Some, None, List, [], ◌∷◌, ◌++◌, length, length-append, drop, get_or, refl, sym, ap, ◌∙◌, subst, arith}
+use Rattle.std.specs.Prelude.{map, reverse, slice_get, slice_set, option_to_list}
+use Rattle.std.specs.List.{list_all}
+use Rattle.std.specs.List.Sorted.{IsPermutation}
+use Rattle.std.proofs.lemmas.List.{reverse-append}
+use Rattle.model_registers.specs.Lists.{Each}
+use Rattle.model_registers.proofs.EachLemmas.{each_map, each_both}
+use Rattle.model_board.specs.Paths.{Path, parent}
+use Rattle.model_board.specs.Board.{Row, Board, IsBoard}
+use Rattle.model_board.specs.Lawful.{HasLawfulDecls}
+use Rattle.model_board.specs.Pools.{Pool, Apertures, bridges_above, has_pref, has_pref64}
+use Rattle.model_board.specs.Placement.{Item, items_of, items_on}
+use Rattle.bridge_forward.proofs.Indices.{map_at, each_at, at_below}
+use Rattle.window_packing.specs.declared.above.Above.{Above}
+use Rattle.window_packing.specs.Buses.{bus_path, AreAbove}
+use Rattle.window_packing.specs.Packs.{BusPack, pack_of, IsBounded, IsOver}
+use Rattle.window_packing.proofs.BusIndices.{bus_before}
+use Rattle.window_packing.proofs.BusItems.{alignment_bounds, items_align}
+use Rattle.window_packing.proofs.Gathering.{IsGathered, last_gathered, root_gathered, more_gathered}
+
+-- ---- what is said of the bridges above a row
+
+maps_at : {A B D : Type 0} (f : A → D) (g : B → D) (xs : List A) (ys : List B) (i : ℕ) (x : A) (y : B) → map f xs ≡ map g ys → slice_get xs i ≡ Some x → slice_get ys i ≡ Some y → f x ≡ g y
+maps_at f g xs ys i x y e at there =
+    let same : Some (f x) ≡ Some (g y) = sym (map_at f xs i x at) ∙ ap (λ zs. slice_get zs i) e ∙ map_at g ys i y there in cc
+
+pub length-mapped : {A B : Type 0} (f : A → B) (xs : List A) → length (map f xs) ≡ length xs
+length-mapped f [] = refl
+length-mapped f (x ∷ xs) = ap suc (length-mapped f xs)
+
+-- what indexing gives
+pub got : {A : Type 0} (xs : List A) (i : ℕ) (d : A) → i < length xs → slice_get xs i ≡ Some (get_or xs i d)
+got [] i d l = absurd (omega arith)
+got (x ∷ xs) zero d l = refl
+got (x ∷ xs) (suc i) d l = got xs i d (omega arith)
+
+pub above_count : (b : Board) (xs : List Above) → AreAbove b xs → length xs ≡ length b
+above_count b xs h = sym (length-mapped (λ (x : Above). bus_path b x.bus) xs) ∙ ap length h.buses ∙ length-mapped (λ (r : Row). parent r.path) b
+
+pub record IsAboveRow (b : Board) (r : Row) (x : Above) : Type 0 where
+  pub bus : bus_path b x.bus ≡ parent r.path
+  pub within : x.bus ≤ length b
+  pub over : IsOver (bridges_above b r.path) x
+
+pub above_row : (b : Board) (xs : List Above) (i : ℕ) (r : Row) (x : Above) → AreAbove b xs → slice_get b i ≡ Some r → slice_get xs i ≡ Some x → IsAboveRow b r x
+above_row b xs i r x h at there = record {
+  bus = maps_at (λ (y : Above). bus_path b y.bus) (λ (s : Row). parent s.path) xs b i x r h.buses there at;
+  within = each_at (λ (y : Above). y.bus ≤ length b) xs i x h.within there;
+  over = record {
+    pref = maps_at (λ (y : Above). y.pref) (λ (s : Row). list_all (λ d. has_pref d.pref) (bridges_above b s.path)) xs b i x r h.pref there at;
+    pref64 = maps_at (λ (y : Above). y.pref64) (λ (s : Row). list_all (λ d. has_pref64 d.pref) (bridges_above b s.path)) xs b i x r h.pref64 there at;
+  };
+}
+
+-- ---- one bus taken from those that are left
+
+popped : {C : Type 0} (old new : List C) (o : Option C) (v : C) → old ≡ new ++ option_to_list o → o ≡ Some v → old ≡ new ++ v ∷ []
+popped {C = C} old new o v e some = e ∙ ap (λ (x : Option C). new ++ option_to_list x) some
+
+popped_count : {C : Type 0} (new : List C) (v : C) (n : ℕ) → length (new ++ v ∷ []) ≡ n + 1 → length new ≡ n
+popped_count new v n h = omega (arith, length-append new (v ∷ []))
+
+module _ (b : Board) (a : Apertures) (pool : Pool) (board : IsBoard b) {C : Type 0} (contents : C → List Item) where
+  taken : (i : ℕ) (old new : List C) (o : Option C) (v : C) (packs : List BusPack) → 0 < i → IsGathered b a pool contents i old packs → old ≡ new ++ option_to_list o → o ≡ Some v
+      → IsGathered b a pool contents (i - 1 + 1) (new ++ v ∷ []) packs × (length new ≡ i - 1 + 1)
+  taken i old new o v packs some h e is =
+      let back : i ≡ i - 1 + 1 = omega arith in
+      let left : IsGathered b a pool contents i (new ++ v ∷ []) packs = subst (λ (x : List C). IsGathered b a pool contents i x packs) (popped old new o v e is) h in
+      (subst (λ n. IsGathered b a pool contents n (new ++ v ∷ []) packs) back left, popped_count new v i left.count ∙ back)
+
+  pub behind_is : (i : ℕ) (r : Row) (old new : List C) (o : Option C) (v : C) (packs : List BusPack) → 0 < i → slice_get b (i - 1) ≡ Some r → IsGathered b a pool contents i old packs
+      → old ≡ new ++ option_to_list o → o ≡ Some v → IsPermutation (items_on b a pool r.path) (contents v)
+  behind_is i r old new o v packs some at h e is =
+      let t = taken i old new o v packs some h e is in
+      last_gathered b a pool board contents (i - 1) r new v packs at t.0 t.1
+
+  -- the bus of the row is among those that are left
+  pub bus_left : (i : ℕ) (r : Row) (x : Above) (old new : List C) (o : Option C) (v : C) (packs : List BusPack) → 0 < i → slice_get b (i - 1) ≡ Some r → IsGathered b a pool contents i old packs
+      → old ≡ new ++ option_to_list o → o ≡ Some v → IsAboveRow b r x → x.bus < length new
+  bus_left i r x old new o v packs some at h e is above =
+      let t = taken i old new o v packs some h e is in
+      omega (arith, t.1, bus_before b board (i - 1) r x.bus at above.bus above.within)
+
+  pub row_done : (i : ℕ) (r : Row) (x : Above) (old new : List C) (o : Option C) (v : C) (packs : List BusPack) (pack : BusPack) (u w : C) → 0 < i → slice_get b (i - 1) ≡ Some r
+      → IsGathered b a pool contents i old packs → old ≡ new ++ option_to_list o → o ≡ Some v → IsAboveRow b r x
+      → pack ≡ pack_of b a pool r.path → pack.end ≤ 2 ^ 63 → slice_get new x.bus ≡ Some u → contents w ≡ contents u ++ items_of b a pool (items_on b a pool) r
+      → IsGathered b a pool contents (i - 1) (slice_set new x.bus w) (packs ++ pack ∷ [])
+  row_done i r x old new o v packs pack u w some at h e is above packed ends here added =
+      let t = taken i old new o v packs some h e is in
+      more_gathered b a pool board contents (i - 1) r new v packs pack x.bus u w at t.0 t.1 packed ends above.bus above.within here added
+
+  -- ---- bus 0, when it alone is left
+
+  pub root_is : (i : ℕ) (old new : List C) (o : Option C) (v : C) (packs : List BusPack) → i ≤ 0 → IsGathered b a pool contents i old packs → old ≡ new ++ option_to_list o → o ≡ Some v
+      → IsPermutation (items_on b a pool []) (contents v)
+  root_is zero old new o v packs none h e is =
+      let left : IsGathered b a pool contents 0 (new ++ v ∷ []) packs = subst (λ (x : List C). IsGathered b a pool contents 0 x packs) (popped old new o v e is) h in
+      by_new new left
+    where
+      by_new : (xs : List C) → IsGathered b a pool contents 0 (xs ++ v ∷ []) packs → IsPermutation (items_on b a pool []) (contents v)
+      by_new [] k = root_gathered b a pool board contents v packs k
+      by_new (x ∷ xs) k = absurd (omega (arith, k.count, length-append xs (v ∷ [])))
+  root_is (suc i) old new o v packs none h e is = absurd (omega arith)
+
+  map_twice : (rows : Board) → map (λ (r : Row). pack_of b a pool r.path) rows ≡ map (pack_of b a pool) (map (λ (r : Row). r.path) rows)
+  map_twice [] = refl
+  map_twice (r ∷ rows) = ap (λ (x : List BusPack). pack_of b a pool r.path ∷ x) (map_twice rows)
+
+  pub all_packed : (i : ℕ) (old : List C) (packs : List BusPack) (pack : BusPack) → i ≤ 0 → IsGathered b a pool contents i old packs → pack ≡ pack_of b a pool []
+      → reverse (packs ++ pack ∷ []) ≡ map (pack_of b a pool) ([] ∷ map (λ (r : Row). r.path) b)
+  all_packed zero old packs pack none h is =
+      reverse-append packs (pack ∷ []) ∙ ap (λ (x : List BusPack). pack ∷ x) (h.packed ∙ map_twice b) ∙ ap (λ (x : BusPack). x ∷ map (pack_of b a pool) (map (λ (r : Row). r.path) b)) is
+  all_packed (suc i) old packs pack none h is = absurd (omega arith)
+
+  pub all_bounded : HasLawfulDecls b → (i : ℕ) (old : List C) (packs : List BusPack) (pack : BusPack) → i ≤ 0 → IsGathered b a pool contents i old packs → pack ≡ pack_of b a pool [] → pack.end ≤ 2 ^ 63
+      → Each IsBounded (reverse (packs ++ pack ∷ []))
+  all_bounded lawful i old packs pack none h is end =
+      each_map (λ (p : BusPack). ((0 < p.align) × (p.align ≤ 2 ^ 40)) × (p.end ≤ 2 ^ 63)) IsBounded (reverse (packs ++ pack ∷ [])) (λ p k. record { some = k.0.0; aligned = k.0.1; ends = k.1 })
+      (each_both (λ (p : BusPack). (0 < p.align) × (p.align ≤ 2 ^ 40)) (λ p. p.end ≤ 2 ^ 63) (reverse (packs ++ pack ∷ [])) aligns ends)
+    where
+
+      each_aligned : (buses : List Path) → Each (λ (p : BusPack). (0 < p.align) × (p.align ≤ 2 ^ 40)) (map (pack_of b a pool) buses)
+      each_aligned [] = tt
+      each_aligned (bus ∷ buses) = (alignment_bounds pool (items_on b a pool bus) (items_align b a pool lawful bus), each_aligned buses)
+
+      aligns : Each (λ (p : BusPack). (0 < p.align) × (p.align ≤ 2 ^ 40)) (reverse (packs ++ pack ∷ []))
+      aligns = subst (Each (λ (p : BusPack). (0 < p.align) × (p.align ≤ 2 ^ 40))) (sym (all_packed i old packs pack none h is)) (each_aligned ([] ∷ map (λ (r : Row). r.path) b))
+
+      ends : Each (λ (p : BusPack). p.end ≤ 2 ^ 63) (reverse (packs ++ pack ∷ []))
+      ends = subst (Each (λ (p : BusPack). p.end ≤ 2 ^ 63)) (sym (reverse-append packs (pack ∷ []))) (end, h.ends)

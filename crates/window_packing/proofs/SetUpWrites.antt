@@ -1,0 +1,243 @@
+-- All settings of a numbered board, written in path order, leave the state of set-up.
+use Rattle.std.proofs.Common.{◌≡◌, ℕ, ◌+◌, ◌*◌, ◌/◌, ◌%◌, ◌<◌, ◌≤◌, ◌⊎◌, inl, inr, Bool, true, false, ◌&&◌, cond, List, [], ◌∷◌, ◌++◌, length, refl, sym, ap, ap₂, ◌∙◌, subst, arith, append_assoc, append-nil}
+use Rattle.std.specs.Prelude.{map, count_by}
+use Rattle.std.proofs.lemmas.List.{map-append}
+use Rattle.std.proofs.lemmas.Bool.{ne_eqb}
+use Rattle.model_registers.specs.Lists.{Each, EachPair}
+use Rattle.model_registers.specs.Cell.{Cell, written}
+use Rattle.model_registers.specs.Registers.{Place, config, place_eq, File, cell_at, changed, write}
+use Rattle.model_registers.specs.ByteEnables.{lanes}
+use Rattle.model_registers.specs.Declarations.{Bridge, Endpoint}
+use Rattle.model_registers.specs.DeclarationRules.{IsConfigBlock}
+use Rattle.model_registers.specs.BridgeTable.{Routing, bridge_file}
+use Rattle.model_registers.proofs.RegisterFiles.{place_same}
+use Rattle.model_registers.proofs.Parts.{IsOutside}
+use Rattle.model_board.specs.Members.{IsIn}
+use Rattle.model_board.specs.Paths.{Path, path_eq, path_before, leads_to}
+use Rattle.model_board.specs.Board.{Board, Row, Decl, endpoint, bridge, is_bridge, is_bridge_at, is_shared}
+use Rattle.model_board.specs.BusNumbers.{secondary, subordinate, Enumerates}
+use Rattle.model_board.specs.State.{BoardFunction, State}
+use Rattle.model_board.specs.Reach.{row_at, address_of}
+use Rattle.model_board.specs.Pools.{Apertures}
+use Rattle.model_board.specs.SetUp.{first_of, routing_of, set_up_file, set_up_state}
+use Rattle.model_board.specs.SetUpWrites.{Setting, windows_of, writes_of, Plan, planned}
+use Rattle.model_board.specs.Scanning.{board_numbers, with_numbers, numbered_file, numbered_state}
+use Rattle.model_board.specs.UniqueClaimant.{CanBePlaced}
+use Rattle.model_board.proofs.Members.{each_in, each_from, any_in, in_front, in_back}
+use Rattle.model_board.proofs.PathOrder.{exclusive}
+use Rattle.model_board.proofs.PathEnds.{path_self, path_eq-sym, not_before_itself}
+use Rattle.model_board.proofs.PathOrder.{path_same}
+use Rattle.model_board.proofs.BusNumbers.{bridges, at, count_three, counted}
+use Rattle.model_board.proofs.PlacedRegions.{lawful_decl}
+use Rattle.model_board.specs.AtReset.{board_at, IsNumbered}
+use Rattle.host_bridge.specs.HostState.{HostState, with_functions}
+use Rattle.window_packing.specs.WordWrites.{WordWrite, word, after_words, after_settings, words_of}
+use Rattle.window_packing.proofs.FileWrites.{file_after}
+use Rattle.window_packing.proofs.BridgeWrites.{bridge_written}
+use Rattle.window_packing.proofs.EndpointWrites.{endpoint_written}
+use Rattle.window_packing.proofs.PlacedBases.{bases_fit}
+use Rattle.window_packing.proofs.BoardWrites.{HoldsNumbers, KeepsNumbers, words_at}
+
+-- ---- cells that a write leaves
+
+change_elsewhere : (f : Cell → Cell) (p q : Place) (file : File) → place_eq p q ≡ false → cell_at (changed f p file) q ≡ cell_at file q
+change_elsewhere f p q [] h = refl
+change_elsewhere f p q (e ∷ es) h = by_place (place_eq e.place p) refl (change_elsewhere f p q es h)
+  where
+    by_place : (t : Bool) → place_eq e.place p ≡ t → cell_at (changed f p es) q ≡ cell_at es q
+        → cell_at (cond t (record e { cell = f e.cell }) e ∷ changed f p es) q ≡ cell_at (e ∷ es) q
+    by_place false k rest = ap (cond (place_eq e.place q) e.cell) rest
+    by_place true k rest =
+        let other : place_eq e.place q ≡ false = subst (λ (x : Place). place_eq x q ≡ false) (sym (place_same e.place p k)) h in
+        rw other rest
+
+write_elsewhere : (ons : List Bool) (x a q : ℕ) (file : File) → IsOutside q a (length ons) → cell_at (write ons x (config a) file) (config q) ≡ cell_at file (config q)
+write_elsewhere [] x a q file h = refl
+write_elsewhere (true ∷ ons) x a q file h =
+    write_elsewhere ons (x / 256) (a + 1) q (changed (written (x % 256)) (config a) file) (later h)
+    ∙ change_elsewhere (written (x % 256)) (config a) (config q) file (ne_eqb a q (λ same. differs h same))
+  where
+    later : IsOutside q a (length (true ∷ ons)) → IsOutside q (a + 1) (length ons)
+    later (inl l) = inl (omega arith)
+    later (inr l) = inr (omega arith)
+
+    differs : IsOutside q a (length (true ∷ ons)) → a ≡ q → ⊥
+    differs (inl l) same = absurd (omega arith)
+    differs (inr l) same = absurd (omega arith)
+write_elsewhere (false ∷ ons) x a q file h = write_elsewhere ons (x / 256) (a + 1) q file (later h)
+  where
+    later : IsOutside q a (length (false ∷ ons)) → IsOutside q (a + 1) (length ons)
+    later (inl l) = inl (omega arith)
+    later (inr l) = inr (omega arith)
+
+-- ---- bus numbers stay
+
+word_keeps : (d : Decl) (off enables value : ℕ) → (0x1a < off) ⊎ (off + 4 ≤ 0x19) → KeepsNumbers d (word off enables value)
+word_keeps d off enables value h k file = (
+  ap (λ (c : Cell). c.value + 256 * 0) (write_elsewhere (lanes enables) value off 0x19 file (outside 0x19 (lower h))),
+  ap (λ (c : Cell). c.value + 256 * 0) (write_elsewhere (lanes enables) value off 0x1a file (outside 0x1a (upper h))),
+)
+  where
+    outside : (q : ℕ) → (q < off) ⊎ (off + 4 ≤ q) → IsOutside q off 4
+    outside q h = h
+
+    lower : (0x1a < off) ⊎ (off + 4 ≤ 0x19) → (0x19 < off) ⊎ (off + 4 ≤ 0x19)
+    lower (inl l) = inl (omega arith)
+    lower (inr l) = inr l
+
+    upper : (0x1a < off) ⊎ (off + 4 ≤ 0x19) → (0x1a < off) ⊎ (off + 4 ≤ 0x1a)
+    upper (inl l) = inl l
+    upper (inr l) = inr (omega arith)
+
+all_keep : (e : Endpoint) (ws : List WordWrite) → Each (KeepsNumbers (endpoint e)) ws
+all_keep e [] = tt
+all_keep e (w ∷ ws) = ((λ k. cc), all_keep e ws)
+
+words_keep : (b : Board) (a : Apertures) (p : Path) (d : Decl) → Each (KeepsNumbers d) (words_of (writes_of b a p d))
+words_keep b a p (endpoint e) = all_keep e (words_of (writes_of b a p (endpoint e)))
+words_keep b a p (bridge e) = (
+  word_keeps (bridge e) 0x1c 3 _ (inl (omega arith)),
+  (
+    word_keeps (bridge e) 0x20 0xf _ (inl (omega arith)),
+    (
+      word_keeps (bridge e) 0x24 0xf _ (inl (omega arith)),
+      (
+        word_keeps (bridge e) 0x28 0xf _ (inl (omega arith)),
+        (
+          word_keeps (bridge e) 0x2c 0xf _ (inl (omega arith)),
+          (
+            word_keeps (bridge e) 0x30 0xf _ (inl (omega arith)),
+            (word_keeps (bridge e) 0x04 3 3 (inr (omega arith)), tt),
+          ),
+        ),
+      ),
+    ),
+  ),
+)
+
+-- ---- bus numbers fit their registers
+
+and_true : (t : Bool) → (t && true) ≡ t
+and_true true = refl
+and_true false = refl
+
+record Small (b : Board) (p : Path) : Type 0 where
+  first : secondary b p < 256
+  last : subordinate b p < 256
+
+numbers_small : (b : Board) → Enumerates b → (p : Path) → is_bridge_at b p ≡ true → Small b p
+numbers_small b few p h =
+    let parts : bridges (λ x. path_before x p) b + bridges (at p) b + bridges (λ x. leads_to p x) b ≤ bridges (λ x. true) b =
+    count_three (λ x. path_before x p) (at p) (λ x. leads_to p x) (λ x. true) (λ x. exclusive x p) b in
+    let whole : bridges (λ x. true) b ≡ count_by (λ r. is_bridge r.decl) b = λ i. count_by (λ r. and_true (is_bridge r.decl) i) b in
+    let one : 1 ≤ bridges (at p) b = counted b p h in
+    record { first = omega (arith, few); last = omega (arith, few) }
+
+-- ---- lists in two parts
+
+rows_again : (file : Path → Decl → File) (rs : List Row) → map row_at (map (λ (r : Row). record { path = r.path; decl = r.decl; file = file r.path r.decl }) rs) ≡ rs
+rows_again file [] = refl
+rows_again file (r ∷ rs) = ap (λ (ss : List Row). r ∷ ss) (rows_again file rs)
+
+before_one : {A : Type 0} (R : A → A → Type 0) (xs : List A) (y : A) (ys : List A) → EachPair R (xs ++ y ∷ ys) → (x : A) → IsIn x xs → R x y
+before_one R [] y ys h x m = absurd m
+before_one {A} R (z ∷ xs) y ys h x (inl e) = subst (λ (w : A). R w y) (sym e) (each_in (R z) y (xs ++ y ∷ ys) h.0 (in_back y xs (y ∷ ys) (inl refl)))
+before_one R (z ∷ xs) y ys h x (inr m) = before_one R xs y ys h.1 x m
+
+after_one : {A : Type 0} (R : A → A → Type 0) (xs : List A) (y : A) (ys : List A) → EachPair R (xs ++ y ∷ ys) → Each (R y) ys
+after_one R [] y ys h = h.0
+after_one R (x ∷ xs) y ys h = after_one R xs y ys h.1
+
+each_mapped : {A B : Type 0} (P : B → Type 0) (f : A → B) (xs : List A) → Each (λ x. P (f x)) xs → Each P (map f xs)
+each_mapped P f [] h = tt
+each_mapped P f (x ∷ xs) h = (h.0, each_mapped P f xs h.1)
+
+apart : (p q : Path) → path_before p q ≡ true → path_eq p q ≡ false
+apart p q h = by_test (path_eq p q) refl
+  where
+    by_test : (t : Bool) → path_eq p q ≡ t → t ≡ false
+    by_test false e = refl
+    by_test true e = absurd (not_before_itself q (subst (λ (x : Path). path_before x q ≡ true) (path_same p q e) h))
+
+-- ---- one function after the other
+
+module _ (b : Board) (a : Apertures) (can : CanBePlaced b a) (few : Enumerates b) where
+  abbrev set_up : Row → BoardFunction
+  set_up r = record { path = r.path; decl = r.decl; file = set_up_file b a r.path r.decl }
+
+  abbrev numbered : Row → BoardFunction
+  numbered r = record { path = r.path; decl = r.decl; file = numbered_file b (board_numbers b) r.path r.decl }
+
+  abbrev setting : Row → Setting
+  setting r = record { at = address_of b r.path; writes = writes_of b a r.path r.decl }
+
+  bridge_there : (r : Row) → IsIn r b → is_bridge r.decl ≡ true → is_bridge_at b r.path ≡ true
+  bridge_there r m h = any_in (λ (s : Row). is_bridge s.decl && path_eq s.path r.path) r b m (rw h (path_self r.path))
+
+  -- the registers of a bridge hold its numbers before and after
+  one_byte : (n : ℕ) → n < 256 → n % 256 + 256 * 0 ≡ n
+  one_byte n h = omega arith
+
+  holds_routed : (d : Bridge) (p : Path) (r : Routing) → r.secondary ≡ secondary b p → r.subordinate ≡ subordinate b p → Small b p → HoldsNumbers b (record { path = p; decl = bridge d; file = bridge_file d (is_shared b p) r })
+  holds_routed d p r e f small k = (ap (λ n. n % 256 + 256 * 0) e ∙ one_byte (secondary b p) small.first, ap (λ n. n % 256 + 256 * 0) f ∙ one_byte (subordinate b p) small.last)
+
+  set_up_holds : (p : Path) (d : Decl) → (is_bridge d ≡ true → Small b p) → HoldsNumbers b (record { path = p; decl = d; file = set_up_file b a p d })
+  set_up_holds p (endpoint d) small k = cc
+  set_up_holds p (bridge d) small k = holds_routed d p (routing_of b a p) refl refl (small refl) k
+
+  numbered_holds : (p : Path) (d : Decl) → (is_bridge d ≡ true → Small b p) → HoldsNumbers b (record { path = p; decl = d; file = numbered_file b (board_numbers b) p d })
+  numbered_holds p (endpoint d) small k = cc
+  numbered_holds p (bridge d) small k = holds_routed d p (with_numbers (board_numbers b p)) refl refl (small refl) k
+
+  small_at : (r : Row) → IsIn r b → is_bridge r.decl ≡ true → Small b r.path
+  small_at r m h = numbers_small b few r.path (bridge_there r m h)
+
+  -- the words of a function, written over its numbered cells
+  own_file : (r : Row) → IsIn r b → (d : Decl) → r.decl ≡ d → file_after (words_of (writes_of b a r.path d)) (numbered_file b (board_numbers b) r.path d) ≡ set_up_file b a r.path d
+  own_file r m (endpoint d) e =
+      let lawful = lawful_decl b can.declarations r d m e in
+      endpoint_written d (each_from (λ k. 0x40 ≤ k.offset) d.blocks (λ k i. (each_in IsConfigBlock k d.blocks lawful.config_blocks i).begins)) lawful.regions (is_shared b r.path) (first_of b a r.path) (bases_fit b a can r d m e)
+  own_file r m (bridge d) e = bridge_written d (is_shared b r.path) (board_numbers b r.path) (windows_of b a r.path)
+
+  one_setting : (done : Board) (r : Row) (todo : Board) → b ≡ done ++ r ∷ todo
+      → after_words (address_of b r.path) (words_of (writes_of b a r.path r.decl)) (map set_up done ++ numbered r ∷ map numbered todo) ≡ map set_up done ++ set_up r ∷ map numbered todo
+  one_setting done r todo split =
+      words_at b can.places (map set_up done) (map numbered todo) r.path r.decl
+      (any_in (λ (s : Row). path_eq s.path r.path) r b there (path_self r.path))
+      (map-append row_at (map set_up done) (record { path = r.path; decl = r.decl; file = [] } ∷ map numbered todo)
+      ∙ ap₂ (λ (xs ys : List Row). xs ++ r ∷ ys) (rows_again (set_up_file b a) done) (rows_again (numbered_file b (board_numbers b)) todo) ∙ sym split)
+      (each_mapped (λ (g : BoardFunction). path_eq g.path r.path ≡ false) set_up done (each_from (λ (x : Row). path_eq x.path r.path ≡ false) done
+      (λ x m. apart x.path r.path (before_one (λ (x y : Row). path_before x.path y.path ≡ true) done r todo order x m))))
+      (each_mapped (λ (g : BoardFunction). path_eq g.path r.path ≡ false) numbered todo (each_from (λ (x : Row). path_eq x.path r.path ≡ false) todo
+      (λ x m. path_eq-sym x.path r.path ∙ apart r.path x.path (each_in (λ (y : Row). path_before r.path y.path ≡ true) x todo (after_one (λ (x y : Row). path_before x.path y.path ≡ true) done r todo order) m))))
+      (each_mapped (HoldsNumbers b) set_up done (each_from (λ (x : Row). HoldsNumbers b (set_up x)) done (λ x m. set_up_holds x.path x.decl (small_at x (whole x (in_front x done (r ∷ todo) m))))))
+      (each_mapped (HoldsNumbers b) numbered todo (each_from (λ (x : Row). HoldsNumbers b (numbered x)) todo (λ x m. numbered_holds x.path x.decl (small_at x (whole x (in_back x done (r ∷ todo) (inr m)))))))
+      (words_of (writes_of b a r.path r.decl)) (words_keep b a r.path r.decl) (numbered_file b (board_numbers b) r.path r.decl) (numbered_holds r.path r.decl (small_at r there))
+      ∙ ap (λ (file : File). map set_up done ++ record { path = r.path; decl = r.decl; file = file } ∷ map numbered todo) (own_file r there r.decl refl)
+    where
+      whole : (x : Row) → IsIn x (done ++ r ∷ todo) → IsIn x b
+      whole x m = subst (IsIn x) (sym split) m
+
+      there : IsIn r b
+      there = whole r (in_back r done (r ∷ todo) (inl refl))
+
+      order : EachPair (λ (x y : Row). path_before x.path y.path ≡ true) (done ++ r ∷ todo)
+      order = subst (EachPair (λ (x y : Row). path_before x.path y.path ≡ true)) split can.places.in_order
+
+  pub settings_written : (done todo : Board) → b ≡ done ++ todo → after_settings (map setting todo) (map set_up done ++ map numbered todo) ≡ map set_up b
+  settings_written done [] split = append-nil (map set_up done) ∙ ap (map set_up) (sym (split ∙ append-nil done))
+  settings_written done (r ∷ rs) split =
+      ap (after_settings (map setting rs)) (one_setting done r rs split ∙ sym (append_assoc (map set_up done) (set_up r ∷ []) (map numbered rs)) ∙ ap (λ (xs : List BoardFunction). xs ++ map numbered rs) (sym (map-append set_up done (r ∷ []))))
+      ∙ settings_written (done ++ r ∷ []) rs (split ∙ sym (append_assoc done (r ∷ []) rs))
+
+-- ---- the whole host
+
+pub plan_written : (h after : HostState) (plan : Plan) → IsNumbered h.state → CanBePlaced (board_at h.state.functions) h.apertures → plan ≡ planned (board_at h.state.functions) h.apertures
+    → after ≡ with_functions (after_settings plan.settings h.state.functions) h → after ≡ record h { state = set_up_state (board_at h.state.functions) h.apertures }
+plan_written h after plan numbered can is written =
+    let b = board_at h.state.functions in
+    let a = h.apertures in
+    let state : h.state ≡ numbered_state b = numbered.registers in
+    let functions : after_settings plan.settings h.state.functions ≡ (set_up_state b a).functions =
+    ap₂ after_settings (ap (λ (p : Plan). p.settings) is) (ap (λ (s : State). s.functions) state) ∙ settings_written b a can numbered.few [] b refl in
+    written ∙ (λ i. record { state = record { functions = functions i; latch = (state i).latch }; apertures = a })

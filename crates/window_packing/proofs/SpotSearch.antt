@@ -1,0 +1,153 @@
+-- The search for an item among the spots of a bus, which stand in strict order.
+use Rattle.std.proofs.Common.{◌≡◌, ℕ, zero, suc, ◌+◌, ◌≤◌, ◌<◌, ◌⊎◌, inl, inr, Bool, true, false, ◌&&◌, cond, eqb, List, [], ◌∷◌, length, Some, refl, sym, ap, ap₂, ◌∙◌, subst, arith}
+use Rattle.std.specs.Prelude.{IsTrue, IsFalse, nat_lt, ◌==◌, ◌||◌}
+use Rattle.std.specs.List.{slice_get}
+use Rattle.std.proofs.lemmas.Bool.{and_parts, cases_lt}
+use Rattle.std.proofs.lemmas.Bool.Decides.{nat_tests}
+use Rattle.std.proofs.lemmas.Option.{slice_get_within}
+use Rattle.model_registers.specs.Lists.{Each, EachPair}
+use Rattle.model_board.specs.Paths.{Part, part_eq}
+use Rattle.model_board.specs.Placement.{Placed, a_region, a_window, same_placed, register_of, Item, Spot, stands_before, is_item, offset_in}
+use Rattle.model_board.proofs.PathOrder.{part_same}
+use Rattle.bridge_forward.proofs.Indices.{same_at, at_below, each_at, pair_at}
+use Rattle.window_packing.specs.Searching.{IsFirstFrom}
+
+one_way : (i j : Item) → stands_before i j ≡ true → stands_before j i ≡ false
+one_way i j h = grind (arith, nat_tests)
+
+chain : (i j k : Item) → stands_before i j ≡ false → stands_before j k ≡ false → stands_before i k ≡ false
+chain i j k h l = grind (arith, nat_tests)
+
+before_trans : (i j k : Item) → stands_before i j ≡ true → stands_before j k ≡ true → stands_before i k ≡ true
+before_trans i j k h l = by_test (stands_before i k) refl
+  where
+    by_test : (t : Bool) → stands_before i k ≡ t → t ≡ true
+    by_test true e = refl
+    by_test false e = let no : true ≡ false = sym h ∙ chain i k j e (one_way j k l) in cc
+
+abbrev before_key : Item → ℕ → Part → ℕ → Bool
+before_key i align part n =
+    nat_lt align i.align || (i.align == align && (nat_lt i.part.device part.device
+    || (i.part.device == part.device && (nat_lt i.part.function part.function
+    || (i.part.function == part.function && nat_lt (register_of i.what) n)))))
+
+-- what stands before an item stands before any other of its place in the order
+before_like : (i j k : Item) → j.align ≡ k.align → j.part ≡ k.part → register_of j.what ≡ register_of k.what → stands_before i j ≡ stands_before i k
+before_like i j k a p r = λ n. before_key i (a n) (p n) (r n)
+
+abbrev pub AreStrict : List Spot → Type 0
+AreStrict ss = EachPair (λ (s t : Spot). IsTrue (stands_before s.item t.item)) ss
+
+-- the spots below low stand before the key, and none from high on
+pub record Halved (ss : List Spot) (key : Item) (low high : ℕ) : Type 0 where
+  pub ordered : low ≤ high
+  pub within : high ≤ length ss
+  pub before : (k : ℕ) (s : Spot) → k < low → slice_get ss k ≡ Some s → stands_before s.item key ≡ true
+  pub later : (k : ℕ) (s : Spot) → high ≤ k → slice_get ss k ≡ Some s → stands_before s.item key ≡ false
+
+pub halved_none : (ss : List Spot) (key : Item) → Halved ss key 0 (length ss)
+halved_none ss key = record {
+  ordered = omega arith;
+  within = omega arith;
+  before = λ k s l e. absurd (omega arith);
+  later = λ k s l e. let w = slice_get_within ss k s e in absurd (omega (arith, w, l));
+}
+
+fails : (v : Bool) → (v ≡ true → ⊥) → v ≡ false
+fails true h = absurd (h refl)
+fails false h = refl
+
+module _ (ss : List Spot) (key : Item) (strict : AreStrict ss) where
+  sides : (x y : ℕ) → (x < y) ⊎ ((x ≡ y) ⊎ (y < x))
+  sides x y = grind arith
+
+  pub below_here : (low high i : ℕ) (s : Spot) → Halved ss key low high → i < high → slice_get ss i ≡ Some s → stands_before s.item key ≡ true → Halved ss key (i + 1) high
+  below_here low high i s h l e b = record {
+    ordered = omega arith;
+    within = h.within;
+    before = λ k t m f. by_side k t m f (sides k i);
+    later = h.later;
+  }
+    where
+      by_side : (k : ℕ) (t : Spot) → k < i + 1 → slice_get ss k ≡ Some t → (k < i) ⊎ ((k ≡ i) ⊎ (i < k)) → stands_before t.item key ≡ true
+      by_side k t m f (inl u) = before_trans t.item s.item key (pair_at (λ (x y : Spot). IsTrue (stands_before x.item y.item)) ss k i t s strict u f e) b
+      by_side k t m f (inr (inl u)) = let same : s ≡ t = same_at ss k s t (subst (λ n. slice_get ss n ≡ Some s) (sym u) e) f in subst (λ (x : Spot). stands_before x.item key ≡ true) same b
+      by_side k t m f (inr (inr u)) = absurd (omega arith)
+
+  pub above_here : (low high i : ℕ) (s : Spot) → Halved ss key low high → low ≤ i → i < high → slice_get ss i ≡ Some s → stands_before s.item key ≡ false → Halved ss key low i
+  above_here low high i s h o l e b = record {
+    ordered = o;
+    within = let w = h.within in omega (arith, w);
+    before = h.before;
+    later = λ k t m f. fails (stands_before t.item key) (λ u. by_side k t m f u (sides i k));
+  }
+    where
+      by_side : (k : ℕ) (t : Spot) → i ≤ k → slice_get ss k ≡ Some t → stands_before t.item key ≡ true → (i < k) ⊎ ((i ≡ k) ⊎ (k < i)) → ⊥
+      by_side k t m f u (inl w) = let no = before_trans s.item t.item key (pair_at (λ (x y : Spot). IsTrue (stands_before x.item y.item)) ss i k s t strict w e f) u in let clash : true ≡ false = sym no ∙ b in cc
+      by_side k t m f u (inr (inl w)) =
+          let same : s ≡ t = same_at ss k s t (subst (λ n. slice_get ss n ≡ Some s) w e) f in
+          let no : stands_before s.item key ≡ true = subst (λ (x : Spot). stands_before x.item key ≡ true) (sym same) u in
+          let clash : true ≡ false = sym no ∙ b in cc
+      by_side k t m f u (inr (inr w)) = absurd (omega arith)
+
+  pub found_first : (low high : ℕ) → Halved ss key low high → high ≤ low → IsFirstFrom ss key low
+  found_first low high h l = record {
+    within = let w = h.within in let o = h.ordered in omega (arith, w, o, l);
+    before = h.before;
+    later = λ k s m e. h.later k s (omega (arith, l, m)) e;
+  }
+
+  -- ---- what is found
+
+  module _ (align : Each (λ s. IsTrue (is_item key.part key.what s.item) → s.item.align ≡ key.align) ss) (n : ℕ) (first : IsFirstFrom ss key n) where
+    same_register : (v w : Placed) → same_placed v w ≡ true → register_of v ≡ register_of w
+    same_register (a_region x) (a_region y) h = grind (arith, nat_tests)
+    same_register (a_region x) a_window h = cc
+    same_register a_window (a_region y) h = cc
+    same_register a_window a_window h = refl
+
+    -- an item of the same region or window has the key's place in the order
+    like : (i : Item) (k : ℕ) (t : Spot) → slice_get ss k ≡ Some t → is_item key.part key.what t.item ≡ true → stands_before i t.item ≡ stands_before i key
+    like i k t e h =
+        let parts = and_parts (part_eq t.item.part key.part) (same_placed t.item.what key.what) h in
+        before_like i t.item key (each_at (λ s. IsTrue (is_item key.part key.what s.item) → s.item.align ≡ key.align) ss k t align e h) (part_same t.item.part key.part parts.0) (same_register t.item.what key.what parts.1)
+
+    irreflexive : (i : Item) → stands_before i i ≡ true → ⊥
+    irreflexive i h = absurd (no i h)
+      where
+        no : (i : Item) → stands_before i i ≡ true → ⊥
+        no i h = grind (arith, nat_tests)
+
+    -- so it stands where the search ends
+    only_there : (k : ℕ) (t : Spot) → slice_get ss k ≡ Some t → is_item key.part key.what t.item ≡ true → k ≡ n
+    only_there k t e h = by_side (sides k n)
+      where
+        by_side : (k < n) ⊎ ((k ≡ n) ⊎ (n < k)) → k ≡ n
+        by_side (inl l) =
+            let b : stands_before t.item key ≡ true = first.before k t l e in
+            absurd (irreflexive t.item (like t.item k t e h ∙ b))
+        by_side (inr (inl l)) = l
+        by_side (inr (inr l)) =
+            let w = slice_get_within ss k t e in
+            let s = at_below ss n (omega (arith, w, l)) in
+            let b : stands_before s.0.item t.item ≡ true = pair_at (λ (x y : Spot). IsTrue (stands_before x.item y.item)) ss n k s.0 t strict l s.1 e in
+            let no : stands_before s.0.item key ≡ false = first.later n s.0 (omega arith) s.1 in
+            let clash : true ≡ false = sym b ∙ like s.0.item k t e h ∙ no in cc
+
+    pub none_there : ((t : Spot) → slice_get ss n ≡ Some t → is_item key.part key.what t.item ≡ false) → offset_in ss key.part key.what ≡ 0
+    none_there h = none ss (λ k t e. fails (is_item key.part key.what t.item) (λ u.
+        let at = only_there k t e u in
+        let no : is_item key.part key.what t.item ≡ false = h t (subst (λ m. slice_get ss m ≡ Some t) at e) in
+        let clash : true ≡ false = sym u ∙ no in cc))
+      where
+        none : (ts : List Spot) → ((k : ℕ) (t : Spot) → slice_get ts k ≡ Some t → is_item key.part key.what t.item ≡ false) → offset_in ts key.part key.what ≡ 0
+        none [] h = refl
+        none (t ∷ ts) h = rw (h 0 t refl) (none ts (λ k u e. h (suc k) u e))
+
+    pub there : (t : Spot) → slice_get ss n ≡ Some t → is_item key.part key.what t.item ≡ true → offset_in ss key.part key.what ≡ t.first
+    there t e h = one ss n t e h (λ k u l f. fails (is_item key.part key.what u.item) (λ v. absurd (omega (arith, l, only_there k u f v))))
+      where
+        one : (ts : List Spot) (m : ℕ) (t : Spot) → slice_get ts m ≡ Some t → is_item key.part key.what t.item ≡ true → ((k : ℕ) (u : Spot) → k < m → slice_get ts k ≡ Some u → is_item key.part key.what u.item ≡ false) → offset_in ts key.part key.what ≡ t.first
+        one [] m t e h none = absurd (cc)
+        one (u ∷ ts) zero t e h none = let same : u ≡ t = cc in let here : is_item key.part key.what u.item ≡ true = subst (λ (x : Spot). is_item key.part key.what x.item ≡ true) (sym same) h in rw here (ap (λ (x : Spot). x.first) same)
+        one (u ∷ ts) (suc m) t e h none = rw (none 0 u (omega arith) refl) (one ts m t e h (λ k v l f. none (suc k) v (omega arith) f))

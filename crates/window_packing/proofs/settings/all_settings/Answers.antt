@@ -1,0 +1,28 @@
+use Rattle.std.proofs.Common.{◌≡◌, ℕ, ◌+◌, List, [], ◌∷◌, ◌++◌, take, map, Some, ap, ap₂, sym, ◌∙◌, subst}
+use Rattle.std.specs.List.{slice_get}
+use Rattle.model_board.specs.Paths.{last_part}
+use Rattle.model_board.specs.Board.{Row}
+use Rattle.model_board.specs.BusNumbers.{bus_of}
+use Rattle.model_board.specs.Cycles.{BusAddress}
+use Rattle.model_board.specs.Reach.{address_of}
+use Rattle.model_board.specs.SetUpWrites.{Writes, Setting, writes_of, settings}
+use Rattle.model_board.specs.FunctionTable.{TableRow, found_decl, table_row, board_in, sized_table}
+use Rattle.bridge_forward.proofs.Indices.{read_at, same_at, map_at}
+use Rattle.window_packing.proofs.BarLists.{take_at}
+use Rattle.window_packing.proofs.BusIndex.{row_in}
+use Rattle.window_packing.proofs.settings.all_settings.Goals as goal
+
+pub loop-i-preserved : goal.loop-i-preserved
+loop-i-preserved c =
+    let rows = c.args.rows.now in
+    let b = board_in rows in
+    let a = c.args.apertures.now in
+    let i = c.loop-i.i in
+    let t = c.index-rows-i.result in
+    let read : slice_get rows i ≡ Some t = read_at rows i t c.loop-i-test.true c.index-rows-i.is in
+    let at : slice_get b i ≡ Some (row_in t) = map_at row_in rows i t read in
+    let numbered : t ≡ table_row b found_decl (row_in t) = same_at (sized_table b) i t (table_row b found_decl (row_in t)) (subst (λ (ts : List TableRow). slice_get ts i ≡ Some t) c.requires.numbered read) (map_at (table_row b found_decl) b i (row_in t) at) in
+    let number = c.number_of.ensures ∙ ap (λ (n : ℕ). let x : BusAddress = record { bus = n; part = last_part t.path } in x) (ap (λ (u : TableRow). u.bus) numbered) in
+    let one = ap₂ (λ (x : BusAddress) (y : Writes). let s : Setting = record { at = x; writes = y } in s) number (c.writes_of.ensures (row_in t) at) in
+    let setting : Row → Setting = λ r. record { at = address_of b r.path; writes = writes_of b a r.path r.decl } in
+    c.in_ok-push.ensures.items ∙ ap₂ (λ (xs : List Setting) (y : Setting). xs ++ y ∷ []) c.loop-i.invariant one ∙ sym (take_at (settings b a) i (setting (row_in t)) (map_at setting b i (row_in t) at))

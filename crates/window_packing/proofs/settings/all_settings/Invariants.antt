@@ -1,0 +1,7 @@
+use Rattle.std.proofs.Common.{◌≡◌, take, map}
+use Rattle.model_board.specs.FunctionTable.{board_in}
+use Rattle.model_board.specs.SetUpWrites.{settings}
+use Rattle.window_packing.proofs.settings.all_settings.Given as goal
+
+abbrev pub invariant-loop-i : goal.invariant-loop-i
+invariant-loop-i l = l.list.items ≡ take l.i (settings (board_in l.rows) l.apertures)

@@ -1,0 +1,76 @@
+-- A bus with its items placed one after the other.
+--     BusPack      the spots of a bus's items, the bus's alignment, and where its last item ends
+--     pack_items, pack_of, packs_of      items placed on a bus; a bus of the board, and all of them
+--     IsBounded      an alignment of a region, and an end that an aperture could hold
+--     HasOneOrder, IsPackable      items that can be sorted in one way alone, with lawful alignments
+--     IsOver      all bridges of a list have what is said of them
+--     pool_items, regions_from      the regions of a pool as items; the regions of base address registers
+--     window_of, own_items      the window of a bus; what a function has on its own bus
+use Rattle.std.specs.Prelude.{List, [], ◌∷◌, ◌≡◌, ℕ, ◌<◌, ◌≤◌, ◌^◌, Option, map, filter}
+use Rattle.std.specs.List.{list_all}
+use Rattle.model_registers.specs.Lists.{Each}
+use Rattle.model_registers.specs.Declarations.{Bar, Bridge, Region}
+use Rattle.model_registers.specs.EndpointTable.{opened}
+use Rattle.model_board.specs.Paths.{Part, Path, last_part}
+use Rattle.model_board.specs.Board.{Board, Decl, endpoint, bridge}
+use Rattle.model_board.specs.Pools.{Pool, same_pool, unit_of, Apertures, pool_of, has_pref, has_pref64}
+use Rattle.model_board.specs.Placement.{a_window, Item, region_item, in_order, end_from, Spot, spots, alignment, round_up, items_on}
+use Rattle.model_board.specs.OrderLaws.{IsOrderOf}
+use Rattle.bars.specs.Resets.{reset_from}
+use Rattle.window_packing.specs.declared.above.Above.{Above}
+
+pub record BusPack : Type 0 where
+  pub spots : List Spot
+  pub align : ℕ
+  pub end : ℕ
+
+abbrev pub pack_items : ℕ → List Item → BusPack
+pack_items unit is = record { spots = spots is; align = alignment unit is; end = end_from 0 (in_order is) }
+
+abbrev pub pack_of : Board → Apertures → Pool → Path → BusPack
+pack_of b a pool bus = pack_items (unit_of pool) (items_on b a pool bus)
+
+-- bus 0, and the bus behind each function in path order; none stands behind an endpoint
+abbrev pub packs_of : Board → Apertures → Pool → List BusPack
+packs_of b a pool = map (pack_of b a pool) ([] ∷ map (λ r. r.path) b)
+
+-- the sum of such an end and an address of an aperture, rounded up, is below 2 ^ 64
+pub record IsBounded (p : BusPack) : Type 0 where
+  pub some : 0 < p.align
+  pub aligned : p.align ≤ 2 ^ 40
+  pub ends : p.end ≤ 2 ^ 63
+
+-- however the items are sorted, they come in one order
+abbrev pub HasOneOrder : List Item → Type 0
+HasOneOrder is = (js : List Item) → IsOrderOf is js → js ≡ in_order is
+
+-- no alignment is greater than the greatest size of a region
+abbrev pub HasLawfulAlign : Item → Type 0
+HasLawfulAlign i = (0 < i.align) × (i.align ≤ 2 ^ 40)
+
+pub record IsPackable (is : List Item) : Type 0 where
+  pub order : HasOneOrder is
+  pub aligns : Each HasLawfulAlign is
+
+-- of all these bridges, what is said of those above a function
+pub record IsOver (ds : List Bridge) (x : Above) : Type 0 where
+  pub pref : x.pref ≡ list_all (λ d. has_pref d.pref) ds
+  pub pref64 : x.pref64 ≡ list_all (λ d. has_pref64 d.pref) ds
+
+-- the regions of one function that are of the pool, behind these bridges
+abbrev pub pool_items : Apertures → List Bridge → Pool → Part → List Region → List Item
+pool_items a ds pool p rs = map (region_item p) (filter (λ r. same_pool (pool_of a ds r.kind) pool) rs)
+
+-- the regions at registers from an index on
+abbrev pub regions_from : ℕ → List (Option Bar) → List Region
+regions_from n bars = map opened (reset_from n bars)
+
+-- the window of a bus that has spots
+abbrev pub window_of : ℕ → Part → BusPack → List Spot → List Item
+window_of unit p pack [] = []
+window_of unit p pack (s ∷ ss) = record { part = p; what = a_window; align = pack.align; size = round_up unit pack.end } ∷ []
+
+-- what a function has on its own bus, given the bus behind it
+abbrev pub own_items : Apertures → List Bridge → Pool → Path → Decl → BusPack → List Item
+own_items a ds pool p (endpoint d) behind = pool_items a ds pool (last_part p) d.regions
+own_items a ds pool p (bridge d) behind = window_of (unit_of pool) (last_part p) behind behind.spots

@@ -1,0 +1,42 @@
+-- A board that is set up: PCI Local Bus 3.0, chapter 6.2.5; PCI-to-PCI Bridge Architecture 1.2, chapters 3.2.5 and 4.
+--     ReadyBoard      a host, what was found of its functions, and where their regions and windows stand
+--     board_below      the functions below a host
+--     IsEnumerated      what scan and sizing leave of a host at reset: its bus numbers, and its functions in a table
+--     IsReady      registers, table and plan are those that set-up gives to the board
+--     OwnClaims      in every state with these routing registers each byte of a placed region has its own claim, and no other address any
+use Rattle.std.specs.Prelude.{List, ◌≡◌}
+use Rattle.model_board.specs.Board.{Board}
+use Rattle.model_board.specs.BusNumbers.{Enumerates}
+use Rattle.model_board.specs.State.{BoardFunction}
+use Rattle.model_board.specs.AtReset.{board_at}
+use Rattle.model_board.specs.FunctionTable.{TableRow, sized_table}
+use Rattle.model_board.specs.Routing.{routing}
+use Rattle.model_board.specs.Scanning.{numbered_state}
+use Rattle.model_board.specs.SetUp.{set_up_state}
+use Rattle.model_board.specs.SetUpWrites.{Plan, planned}
+use Rattle.model_board.specs.UniqueClaimant.{CanBePlaced, HasUniqueClaims}
+use Rattle.host_bridge.specs.HostState.{HostState}
+
+pub record ReadyBoard : Type 0 where
+  pub host : HostState
+  pub table : List TableRow
+  pub plan : Plan
+
+abbrev pub board_below : HostState → Board
+board_below h = board_at h.state.functions
+
+pub record IsEnumerated (h k : HostState) (t : List TableRow) : Type 0 where
+  pub few : Enumerates (board_below h)
+  pub host : k ≡ record h { state = numbered_state (board_below h) }
+  pub table : t ≡ sized_table (board_below h)
+
+pub record IsReady (r : ReadyBoard) : Type 0 where
+  pub placeable : CanBePlaced (board_below r.host) r.host.apertures
+  pub few : Enumerates (board_below r.host)
+  pub registers : r.host.state ≡ set_up_state (board_below r.host) r.host.apertures
+  pub table : r.table ≡ sized_table (board_below r.host)
+  pub plan : r.plan ≡ planned (board_below r.host) r.host.apertures
+
+-- in every state with the host's routing registers: each function's Command, and its bases or windows
+abbrev pub OwnClaims : HostState → Type 0
+OwnClaims h = (fs : List BoardFunction) → routing fs ≡ routing h.state.functions → HasUniqueClaims (board_below h) h.apertures fs

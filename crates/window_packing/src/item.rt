@@ -1,0 +1,83 @@
+//! What is placed on a bus.
+ghost use Rattle.std.specs.Ordering.{is_lt};
+ghost use Rattle.std.specs.Prelude.{◌≡◌};
+ghost use Rattle.model_board.specs.Placement.{register_of, stands_before};
+
+use crate::plans::Placed;
+use bridge_forward::Part;
+use std::cmp::Ordering;
+use std::marker::Model;
+
+/// A region, or the window of a bridge: its function's place on the bus, its alignment, and its size in
+/// bytes.
+#[derive(Clone, Copy, Debug)]
+pub(crate) struct Item {
+    pub(crate) part: Part,
+    pub(crate) what: Placed,
+    pub(crate) align: u64,
+    pub(crate) size: u64,
+}
+
+impl Model for Item {
+    ghost use Rattle.model_board.specs.Placement.{Item};
+    ghost use Rattle.window_packing.specs.Plans.{named_placed, placed_named};
+
+    ghost Value = { Item };
+
+    ghost view = { λ i. record { part = i.part; what = named_placed i.what; align = i.align; size = i.size } };
+
+    ghost inverse = { λ v. record { part = v.part; what = placed_named v.what; align = v.align; size = v.size } };
+}
+
+impl Item {
+    /// The number of the register, by which items of one function are told apart.
+    fn register(&self) -> u8
+        ensures { result ≡ register_of self.now.what }
+    {
+        match self.what {
+            Placed::Region(index) => index,
+            Placed::Window => 0,
+        }
+    }
+
+    /// Alignment descending, then device, function and register.
+    pub(crate) fn is_before(&self, other: &Item) -> bool
+        ensures { result ≡ stands_before self.now other.now }
+    {
+        if self.align != other.align {
+            return self.align > other.align;
+        }
+        self.part.is_before(other.part)
+            || (self.part.is_same(other.part) && self.register() < other.register())
+    }
+
+    /// The order in which items stand on a bus.
+    pub(crate) fn compare(&self, other: &Item) -> Ordering
+        ensures { is_lt result ≡ stands_before self.now other.now }
+    {
+        if self.is_before(other) {
+            Ordering::Less
+        } else if other.is_before(self) {
+            Ordering::Greater
+        } else {
+            Ordering::Equal
+        }
+    }
+}
+
+/// An item and the offset on its bus at which it begins.
+#[derive(Clone, Copy, Debug)]
+pub(crate) struct Spot {
+    pub(crate) item: Item,
+    pub(crate) first: u64,
+}
+
+impl Model for Spot {
+    ghost use Rattle.model_board.specs.Placement.{Spot};
+
+    ghost Value = { Spot };
+
+    ghost view = { λ s. record { item = s.item; first = s.first } };
+
+    ghost inverse = { λ v. record { item = v.item; first = v.first } };
+}

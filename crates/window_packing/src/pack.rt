@@ -1,0 +1,103 @@
+//! One bus, its items placed one after the other.
+ghost use Rattle.std.specs.Prelude.{◌≡◌, ◌+◌, ◌<◌, ◌≤◌, ◌^◌, IfOk, IfSome, MatchOption};
+ghost use Rattle.model_registers.specs.Lists.{Each};
+ghost use Rattle.model_board.specs.Placement.{round_up, end_from, spots_from, in_order, alignment};
+ghost use Rattle.window_packing.specs.Packs.{pack_items, IsPackable, HasLawfulAlign};
+
+use crate::item::{Item, Spot};
+use crate::order::sort;
+use std::alloc::{AllocError, Global};
+use std::marker::Model;
+
+/// No aperture ends above this address.
+const LIMIT: u64 = 0x8000_0000_0000_0000;
+
+/// What stands on a bus: each item at its offset, in the order of offsets; the alignment of the bus; and
+/// the offset at which the last item ends.
+#[derive(Debug, Drop)]
+pub(crate) struct BusPack {
+    pub(crate) spots: Vec<Spot>,
+    pub(crate) align: u64,
+    pub(crate) end: u64,
+}
+
+impl Model for BusPack {
+    ghost use Rattle.window_packing.specs.Packs.{BusPack};
+
+    ghost Value = { BusPack };
+
+    ghost view = { λ p. record { spots = p.spots.items; align = p.align; end = p.end } };
+}
+
+/// The least multiple of `align` that is not before `n`.
+pub(crate) fn round_up(align: u64, n: u64) -> u64
+    requires align { 0 < align }
+    requires room { n + align ≤ 2 ^ 64 }
+    ensures { result ≡ round_up align n }
+{
+    (n + (align - 1)) / align * align
+}
+
+/// Where the item stands after `at`, if it ends at the limit or below.
+fn place(at: u64, item: &Item) -> Option<u64>
+    requires at { at ≤ 2 ^ 63 }
+    requires item { HasLawfulAlign item.now }
+    ensures { MatchOption result (2 ^ 63 < round_up item.now.align at + item.now.size) (λ first. (first ≡ round_up item.now.align at) × (first + item.now.size ≤ 2 ^ 63)) }
+{
+    let first = round_up(item.align, at);
+    if first > LIMIT || item.size > LIMIT - first {
+        return None;
+    }
+    Some(first)
+}
+
+/// Each item with its place, and where the last ends, if that is at the limit or below.
+fn place_all(alloc: Global, items: &[Item]) -> Result<Option<(Vec<Spot>, u64)>, AllocError>
+    requires { Each HasLawfulAlign items.now }
+    ensures { IfOk result (λ r. MatchOption r (2 ^ 63 < end_from 0 items.now) (λ p. (p.0.items ≡ spots_from 0 items.now) × (p.1 ≡ end_from 0 items.now) × (p.1 ≤ 2 ^ 63))) }
+{
+    let mut spots = Vec::with_capacity(alloc, items.len())?;
+    let mut at = 0;
+    'items: for item in items {
+        let first = match place(at, item) {
+            Some(first) => first,
+            None => return Ok(None),
+        };
+        spots.push(Spot { item: *item, first })?;
+        at = first + item.size;
+    }
+    Ok(Some((spots, at)))
+}
+
+/// The greatest alignment, and at least the unit.
+fn alignment(unit: u64, items: &[Item]) -> u64
+    ensures { result ≡ alignment unit items.now }
+{
+    let mut greatest = unit;
+    'items: for item in items {
+        greatest = greatest.max(item.align);
+    }
+    greatest
+}
+
+/// A bus with these items, if the last ends at 2^63 or below.
+pub(crate) fn pack_bus(
+    alloc: Global,
+    unit: u64,
+    items: Vec<Item>,
+) -> Result<Option<BusPack>, AllocError>
+    requires { IsPackable items.items }
+    ensures packed { IfOk result (λ r. MatchOption r (2 ^ 63 < end_from 0 (in_order items.items)) (λ p. p ≡ pack_items unit items.items)) }
+    ensures within { IfOk result (λ r. IfSome r (λ p. p.end ≤ 2 ^ 63)) }
+{
+    let mut items = items;
+    sort(&mut items);
+    let Some((spots, end)) = place_all(alloc, &items)? else {
+        return Ok(None);
+    };
+    Ok(Some(BusPack {
+        spots,
+        align: alignment(unit, &items),
+        end,
+    }))
+}

@@ -1,0 +1,49 @@
+//! Where an item stands on a bus.
+ghost use Rattle.std.specs.Prelude.{◌≡◌, IsTrue};
+ghost use Rattle.model_registers.specs.Lists.{Each, EachPair};
+ghost use Rattle.model_board.specs.Placement.{stands_before, is_item, offset_in};
+ghost use Rattle.window_packing.specs.Searching.{IsFirstFrom};
+
+use crate::item::{Item, Spot};
+use crate::pack::BusPack;
+
+/// Whether both are of one region, or the windows of one bridge.
+fn is_same(item: &Item, key: &Item) -> bool
+    ensures { result ≡ is_item key.now.part key.now.what item.now }
+{
+    item.part.is_same(key.part) && item.what == key.what
+}
+
+/// The index of the first spot whose item does not stand before `key`, found by halving.
+fn first_from(spots: &[Spot], key: &Item) -> usize
+    requires { EachPair (λ s t. IsTrue (stands_before s.item t.item)) spots.now }
+    ensures { IsFirstFrom spots.now key.now result }
+{
+    let mut low = 0;
+    let mut high = spots.len();
+    while low < high {
+        let middle = low + (high - low) / 2;
+        let spot = &spots[middle];
+        if spot.item.is_before(key) {
+            low = middle + 1;
+        } else {
+            high = middle;
+        }
+    }
+    low
+}
+
+/// The offset on its bus at which the item stands whose function, register and alignment `key` tells,
+/// and 0 where there is none.
+pub(crate) fn offset_of(pack: &BusPack, key: &Item) -> u64
+    requires order { EachPair (λ s t. IsTrue (stands_before s.item t.item)) pack.now.spots }
+    requires align { Each (λ s. IsTrue (is_item key.now.part key.now.what s.item) → s.item.align ≡ key.now.align) pack.now.spots }
+    ensures { result ≡ offset_in pack.now.spots key.now.part key.now.what }
+{
+    let at = first_from(&pack.spots, key);
+    if at == pack.spots.len() {
+        return 0;
+    }
+    let spot = &pack.spots[at];
+    if is_same(&spot.item, key) { spot.first } else { 0 }
+}

@@ -1,0 +1,243 @@
+//! What is written into each function.
+ghost use Rattle.std.specs.Prelude.{◌≡◌, ◌<◌, ◌≤◌, ◌+◌, ◌^◌, List, [], ◌∷◌, Some, if◌then◌else◌, slice_get, IfOk, IsTrue, map, length};
+ghost use Rattle.std.specs.List.{list_any};
+ghost use Rattle.model_registers.specs.Lists.{Each, EachPair};
+ghost use Rattle.model_registers.specs.Declarations.{Endpoint as EndpointValue};
+ghost use Rattle.model_board.specs.Paths.{last_part};
+ghost use Rattle.model_board.specs.Board.{Row, IsBoard};
+ghost use Rattle.model_board.specs.Lawful.{HasLawfulDecls};
+ghost use Rattle.model_board.specs.FunctionTable.{board_in, sized_table};
+ghost use Rattle.model_board.specs.Pools.{unit_of};
+ghost use Rattle.model_board.specs.Placement.{a_region, is_item, Item as ItemValue, stands_before, offset_in, round_up};
+ghost use Rattle.model_board.specs.SetUp.{command_of, span_of, window_span};
+ghost use Rattle.model_board.specs.SetUpWrites.{placed_base, writes_of, settings};
+ghost use Rattle.bars.specs.Kinds.{named_space};
+ghost use Rattle.bars.specs.Slots.{bases_from};
+ghost use Rattle.bus_scan.specs.Rows.{regions_of};
+ghost use Rattle.host_bridge.specs.BusAddresses.{bus_address_of};
+ghost use Rattle.window_packing.specs.Plans.{named_pool, writes_of as named_writes};
+ghost use Rattle.window_packing.specs.Buses.{AreAbove};
+ghost use Rattle.window_packing.specs.Packs.{pack_items, regions_from};
+ghost use Rattle.window_packing.specs.Placed.{IsPlaced, IsPlacement, IsAboveAt, IsRegionAt, is_bar_in};
+
+use crate::above::Above;
+use crate::item::Item;
+use crate::pack::{BusPack, round_up};
+use crate::placed::{PlacedPool, Placement};
+use crate::plans::{Placed, Pool, Setting, Span, Writes};
+use crate::pool::pool_of;
+use crate::search::offset_of;
+use bars::{BarDecl, Region, Space};
+use bridge_forward::Part;
+use bus_scan::{Found, FunctionRow};
+use headers::Apertures;
+use host_bridge::Bdf;
+use std::alloc::{AllocError, Global};
+
+/// Whether one of the regions lies in a space.
+fn opens(bars: &[Option<BarDecl>; 6], space: Space) -> bool
+    ensures { result ≡ list_any (is_bar_in (named_space space)) bars.now }
+{
+    bars.iter().any(|bar| match bar {
+        Some(bar) => bar.kind().space() == space,
+        None => false,
+    })
+}
+
+/// A bit that is set or not.
+fn bit(on: bool, value: u16) -> u16
+    ensures value { result ≡ (if on then value else 0) }
+    ensures bound { result ≤ value }
+{
+    if on { value } else { 0 }
+}
+
+/// The Command register of an endpoint: bit 0 where it has I/O regions, bit 1 where it has memory
+/// regions (PCI Local Bus 3.0, section 6.2.2).
+fn command_of(bars: &[Option<BarDecl>; 6]) -> u16
+    ensures { (d : EndpointValue) → d.regions ≡ regions_of bars.now → result ≡ command_of d }
+{
+    bit(opens(bars, Space::Io), 1) + bit(opens(bars, Space::Mem), 2)
+}
+
+/// A region at its place on a bus that begins at `first`.
+fn based(part: Part, index: u8, bar: BarDecl, first: u64, pack: &BusPack) -> Region
+    requires order { EachPair (λ s t. IsTrue (stands_before s.item t.item)) pack.now.spots }
+    requires align { Each (λ s. IsTrue (is_item part (a_region index) s.item) → s.item.align ≡ bar.size) pack.now.spots }
+    requires room { first + offset_in pack.now.spots part (a_region index) < 2 ^ 64 }
+    ensures { result ≡ record { decl = bar; base = first + offset_in pack.now.spots part (a_region index) } }
+{
+    let size = bar.size();
+    let key = Item {
+        part,
+        what: Placed::Region(index),
+        align: size,
+        size,
+    };
+    Region {
+        decl: bar,
+        base: first + offset_of(pack, &key),
+    }
+}
+
+/// The region of the register at an index of the endpoint of row `i`, at its place, if there is one.
+fn base_of(
+    rows: &[FunctionRow],
+    i: usize,
+    index: u8,
+    bar: Option<BarDecl>,
+    above: &Above,
+    apertures: &Apertures,
+    placement: &Placement,
+) -> Option<Region>
+    requires board { IsBoard (board_in rows.now) }
+    requires declarations { HasLawfulDecls (board_in rows.now) }
+    requires placed { IsPlacement (board_in rows.now) apertures.now placement.now }
+    requires there { i < length rows.now }
+    requires above { IsAboveAt (board_in rows.now) i above.now }
+    requires found { Each (IsRegionAt (board_in rows.now) i) (regions_from index (bar ∷ [])) }
+    ensures { (r : Row) → slice_get (board_in rows.now) i ≡ Some r → bases_from index (result ∷ []) ≡ map (placed_base (board_in rows.now) apertures.now r.path) (regions_from index (bar ∷ [])) }
+{
+    let bar = bar?;
+    let row = &rows[i];
+    let placed = placement.pool(pool_of(apertures, above, bar.kind()));
+    let first = placed.firsts[above.bus];
+    let pack = &placed.packs[above.bus];
+    Some(based(row.path.last(), index, bar, first, pack))
+}
+
+/// The regions of the endpoint of row `i`, each at its place.
+fn bases_of(
+    rows: &[FunctionRow],
+    i: usize,
+    bars: &[Option<BarDecl>; 6],
+    above: &Above,
+    apertures: &Apertures,
+    placement: &Placement,
+) -> [Option<Region>; 6]
+    requires board { IsBoard (board_in rows.now) }
+    requires declarations { HasLawfulDecls (board_in rows.now) }
+    requires placed { IsPlacement (board_in rows.now) apertures.now placement.now }
+    requires there { i < length rows.now }
+    requires above { IsAboveAt (board_in rows.now) i above.now }
+    requires found { Each (IsRegionAt (board_in rows.now) i) (regions_of bars.now) }
+    ensures { (r : Row) → slice_get (board_in rows.now) i ≡ Some r → bases_from 0 result ≡ map (placed_base (board_in rows.now) apertures.now r.path) (regions_of bars.now) }
+{
+    let mut bases = [None; 6];
+    for index in 0..6u8 {
+        let at = usize::from(index);
+        bases[at] = base_of(rows, i, index, bars[at], above, apertures, placement);
+    }
+    bases
+}
+
+/// The window of a bus that begins at `first`. Without items it has its first address in the last unit
+/// that its register names, and its last address at 0.
+fn span_of(pool: Pool, closed: u64, first: u64, pack: &BusPack) -> Span
+    requires closed { closed < 2 ^ 12 }
+    requires some { Each (λ s. 0 < round_up (unit_of (named_pool pool)) pack.now.end) pack.now.spots }
+    requires room { Each (λ s. first + round_up (unit_of (named_pool pool)) pack.now.end ≤ 2 ^ 63) pack.now.spots }
+    ensures { (is : List ItemValue) → pack.now ≡ pack_items (unit_of (named_pool pool)) is → result ≡ span_of (unit_of (named_pool pool)) closed first is }
+{
+    let unit = pool.unit();
+    if pack.spots.is_empty() {
+        return Span {
+            first: closed * unit,
+            last: 0,
+        };
+    }
+    Span {
+        first,
+        last: first + round_up(unit, pack.end) - 1,
+    }
+}
+
+/// The window of the bus behind row `i` in a pool.
+fn window_of(
+    rows: &[FunctionRow],
+    i: usize,
+    pool: Pool,
+    closed: u64,
+    apertures: &Apertures,
+    placed: &PlacedPool,
+) -> Span
+    requires board { IsBoard (board_in rows.now) }
+    requires declarations { HasLawfulDecls (board_in rows.now) }
+    requires placed { IsPlaced (board_in rows.now) apertures.now (named_pool pool) placed.now }
+    requires there { i < length rows.now }
+    requires closed { closed < 2 ^ 12 }
+    ensures { (r : Row) → slice_get (board_in rows.now) i ≡ Some r → result ≡ window_span (board_in rows.now) apertures.now (named_pool pool) closed r.path }
+{
+    span_of(pool, closed, placed.firsts[i + 1], &placed.packs[i + 1])
+}
+
+/// What is written into the function of row `i`.
+fn writes_of(
+    rows: &[FunctionRow],
+    i: usize,
+    above: &Above,
+    apertures: &Apertures,
+    placement: &Placement,
+) -> Writes
+    requires board { IsBoard (board_in rows.now) }
+    requires declarations { HasLawfulDecls (board_in rows.now) }
+    requires placed { IsPlacement (board_in rows.now) apertures.now placement.now }
+    requires there { i < length rows.now }
+    requires above { IsAboveAt (board_in rows.now) i above.now }
+    ensures { (r : Row) → slice_get (board_in rows.now) i ≡ Some r → named_writes result ≡ writes_of (board_in rows.now) apertures.now r.path r.decl }
+{
+    let row = &rows[i];
+    match &row.found {
+        Found::Endpoint { pin: _, bars } => Writes::Endpoint {
+            command: command_of(bars),
+            bases: bases_of(rows, i, bars, above, apertures, placement),
+        },
+        Found::Bridge {
+            secondary: _,
+            subordinate: _,
+            io: _,
+            pref: _,
+        } => Writes::Bridge {
+            io: window_of(rows, i, Pool::Io, 0xf, apertures, &placement.io),
+            mem: window_of(rows, i, Pool::Mem, 0xfff, apertures, &placement.mem),
+            pref: window_of(rows, i, Pool::Pref, 0xfff, apertures, &placement.pref),
+        },
+    }
+}
+
+/// The number that the function is reached by.
+fn number_of(row: &FunctionRow) -> Bdf
+    ensures { bus_address_of result ≡ record { bus = row.now.bus; part = last_part row.now.path } }
+{
+    let part = row.path.last();
+    Bdf {
+        bus: row.bus,
+        device: part.device(),
+        function: part.function(),
+    }
+}
+
+/// What is written into each function, in path order.
+pub(crate) fn all_settings(
+    alloc: Global,
+    rows: &[FunctionRow],
+    above: &[Above],
+    apertures: &Apertures,
+    placement: &Placement,
+) -> Result<Vec<Setting>, AllocError>
+    requires board { IsBoard (board_in rows.now) }
+    requires declarations { HasLawfulDecls (board_in rows.now) }
+    requires numbered { rows.now ≡ sized_table (board_in rows.now) }
+    requires above { AreAbove (board_in rows.now) above.now }
+    requires placed { IsPlacement (board_in rows.now) apertures.now placement.now }
+    ensures { IfOk result (λ v. v.items ≡ settings (board_in rows.now) apertures.now) }
+{
+    let mut list = Vec::with_capacity(alloc, rows.len())?;
+    for i in 0..rows.len() {
+        list.push(Setting {
+            at: number_of(&rows[i]),
+            writes: writes_of(rows, i, &above[i], apertures, placement),
+        })?;
+    }
+    Ok(list)
+}
