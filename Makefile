@@ -5,12 +5,19 @@ JOBS := $(shell nproc)
 # the lines of a check that tell how far it is: one as a crate begins, one as it is done
 PROGRESS := grep --line-buffered -E '^(== |[a-z_]+: |[0-9]+ of )|^[^ ]*: error|not proved'
 
-.PHONY: demo test build try clean
+.PHONY: demo list test build try clean
 
 # Proves and builds the program, and runs a script over the demo board.
 demo: build
 	@echo; echo '$$ cat examples/demo.script'; cat examples/demo.script
 	@echo; echo '$$ ./pciguest demo < examples/demo.script'; ./pciguest demo < examples/demo.script
+
+# The report of a board file: make list BOARD=crates/examples/data/main.toml
+list: pciguest
+	@./pciguest list $(BOARD)
+
+pciguest:
+	@$(MAKE) --no-print-directory build
 
 # The gate: every proof from nothing, the must-fail edits, the tests and the programs.
 test:

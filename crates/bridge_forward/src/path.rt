@@ -85,6 +85,13 @@ impl Model for Path {
     ghost invariant = { λ p. IsPath p.parts.items };
 }
 
+impl Default for Path {
+    /// The path 0.0.
+    fn default() -> Path {
+        Path::on_root(Part::default())
+    }
+}
+
 impl Path {
     /// The path of a function on bus 0.
     pub fn on_root(part: Part) -> Path

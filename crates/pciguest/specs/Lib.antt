@@ -1,3 +1,2 @@
 pub mod Words
-pub mod Faults
-pub mod Demo
+pub mod Choices

@@ -1,17 +1,34 @@
 -- The program's command line, as a definition that `clap` reads.
 --     pciguest_app      the subcommands that the program knows
 --     is_taken words      the command line takes these words, the program's name among them
---     subcommand words      the subcommand that they name
-use Rattle.std.specs.Prelude.{ℕ, Bool, true, List, Option, codes, option_map}
-use Rattle.clap.specs.Simple.{App, new_app, new_shape, with_subcommand, on_top, subcommand_of}
+--     subcommand, board words      the subcommand that they name, and the path of its board file
+use Rattle.std.specs.Prelude.{ℕ, Bool, true, List, [], ◌∷◌, Option, codes, option_map, option_and_then, find, slice_get}
+use Rattle.std.specs.Str.{bytes_eq}
+use Rattle.clap.specs.Walk.{Row, Rule}
+use Rattle.clap.specs.Simple.{App, Shape, new_app, new_rule, new_shape, with_subcommand, on_top, subcommand_of}
 use Rattle.clap.specs.Takes.{takes}
 
--- `pciguest demo`, with no help subcommand and no version
+abbrev pub board_rule : Rule
+board_rule = record (new_rule (codes "board")) { required = true }
+
+-- `list BOARD`
+abbrev pub list_shape : Shape
+list_shape = record (new_shape (codes "list")) { rules = board_rule ∷ [] }
+
+-- `pciguest demo` and `pciguest list BOARD`, with no help subcommand and no version
 abbrev pub pciguest_app : App
-pciguest_app = with_subcommand (on_top (λ s. record s { disable_help_subcommand = true; subcommand_required = true }) (new_app (codes "pciguest"))) (new_shape (codes "demo"))
+pciguest_app =
+    with_subcommand (with_subcommand (on_top (λ s. record s { disable_help_subcommand = true; subcommand_required = true }) (new_app (codes "pciguest"))) (new_shape (codes "demo"))) list_shape
 
 abbrev pub is_taken : List (List ℕ) → Bool
 is_taken words = takes pciguest_app words
 
 abbrev pub subcommand : List (List ℕ) → Option (List ℕ)
 subcommand words = option_map (λ s. s.0) (subcommand_of pciguest_app words)
+
+-- the first value of an argument
+abbrev pub value_in : List Row → List ℕ → Option (List ℕ)
+value_in rows id = option_and_then (λ r. slice_get r.values 0) (find (λ r. bytes_eq r.id id) rows)
+
+abbrev pub board : List (List ℕ) → Option (List ℕ)
+board words = option_and_then (λ s. value_in s.1 (codes "board")) (subcommand_of pciguest_app words)

@@ -1,22 +1,25 @@
 //! What the words of the command line ask for.
-ghost use Rattle.std.specs.Prelude.{◌≡◌, ◌≢◌, ◌⊎◌, [], true, map, Some, codes, IfOk, IfErr, MatchResult};
+ghost use Rattle.std.specs.Prelude.{◌≡◌, ◌⊎◌, [], true, map, IfOk, IfErr, MatchResult};
 ghost use Rattle.clap.specs.Simple.{app_of};
 ghost use Rattle.clap.specs.Faults.{fault_of};
 ghost use Rattle.clap.specs.Values.{kind_of};
-ghost use Rattle.pciguest.specs.Words.{pciguest_app, is_taken, subcommand};
+ghost use Rattle.pciguest.specs.Words.{pciguest_app, is_taken};
+ghost use Rattle.pciguest.specs.Choices.{IsAsked, IsRun, IsHelp};
 
-use crate::fault::Fault;
 use clap::error::ErrorKind;
-use clap::{Command, Error};
+use clap::{Arg, Command, Error};
+use simulation::Fault;
 use std::alloc::{AllocError, Global};
 
 /// What the program is to do.
 #[derive(Drop)]
-pub enum Choice {
+pub enum Choice<'a> {
     /// Print this text.
     Help(String),
     /// Run a script over the demo board.
     Demo,
+    /// Write the report of the board file at this path.
+    List(&'a str),
 }
 
 /// The program's command line.
@@ -24,16 +27,19 @@ fn command<'a>(alloc: Global) -> Result<Command<'a>, AllocError>
     ensures { IfOk result (λ c. app_of c ≡ pciguest_app) }
 {
     let demo = Command::new(alloc, "demo");
+    let board = Arg::new(alloc, "board").required(true);
+    let list = Command::new(alloc, "list").arg(board)?;
     Command::new(alloc, "pciguest")
         .disable_help_subcommand(true)
         .subcommand_required(true)
-        .subcommand(demo)
+        .subcommand(demo)?
+        .subcommand(list)
 }
 
 /// The answer to words that the command line refuses.
-fn refusal(alloc: Global, error: &Error) -> Result<Choice, Fault>
+fn refusal<'a>(alloc: Global, error: &Error) -> Result<Choice<'a>, Fault>
     ensures memory { kind_of error.now ≡ ErrorKind.OutOfMemory → result ≡ Err Fault.WordMemory }
-    ensures no_demo { result ≢ Ok Choice.Demo }
+    ensures help { IfOk result IsHelp }
     ensures faults { IfErr result (λ f. (f ≡ Fault.Usage) ⊎ (f ≡ Fault.WordMemory)) }
 {
     match error.kind() {
@@ -52,20 +58,22 @@ fn refusal(alloc: Global, error: &Error) -> Result<Choice, Fault>
 ///
 /// Words that the command line doesn't take are `Help` where they ask for help, and else
 /// `Fault::Usage`.
-pub fn choose<'a>(alloc: Global, words: &'a [&'a str]) -> Result<Choice, Fault>
-    ensures demo { result ≡ Ok Choice.Demo → subcommand (map (λ w. w.now) words.entry.now) ≡ Some (codes "demo") }
-    ensures only_taken { result ≡ Ok Choice.Demo → fault_of pciguest_app (map (λ w. w.now) words.entry.now) ≡ [] }
+pub fn choose<'a>(alloc: Global, words: &'a [&'a str]) -> Result<Choice<'a>, Fault>
+    ensures asked { IfOk result (IsAsked (map (λ w. w.now) words.entry.now)) }
+    ensures only_taken { IfOk result (λ c. IsRun c → fault_of pciguest_app (map (λ w. w.now) words.entry.now) ≡ []) }
 
     // Words that the command line takes are refused for want of memory alone.
-    ensures taken { is_taken (map (λ w. w.now) words.entry.now) ≡ true → MatchResult result (λ c. c ≡ Choice.Demo) (λ f. f ≡ Fault.WordMemory) }
+    ensures taken { is_taken (map (λ w. w.now) words.entry.now) ≡ true → MatchResult result IsRun (λ f. f ≡ Fault.WordMemory) }
     ensures faults { IfErr result (λ f. (f ≡ Fault.Usage) ⊎ (f ≡ Fault.WordMemory)) }
 {
     let Ok(command) = command(alloc) else {
         return Err(Fault::WordMemory);
     };
     match command.try_get_matches_from(words) {
-        Ok(matches) => match matches.subcommand_name() {
-            Some("demo") => Ok(Choice::Demo),
+        Ok(matches) => match matches.subcommand() {
+            Some(("demo", _)) => Ok(Choice::Demo),
+            // No words are taken that name no board.
+            Some(("list", list)) => Ok(Choice::List(list.get_str("board").unwrap_or(""))),
             _ => Err(Fault::Usage),
         },
         Err(error) => refusal(alloc, &error),

@@ -2,19 +2,14 @@
 #![tactic(auto)]
 
 mod choice;
-mod demo;
-mod fault;
-mod streams;
 #[cfg(test)]
 mod tests;
 
 use crate::choice::{Choice, choose};
-use crate::demo::demo;
-use crate::fault::Fault;
-use crate::streams::{InputStream, OutputStream};
+use simulation::{Fault, InputStream, OutputStream, board_bytes, demo, list};
 use std::alloc::Global;
 use std::process::ExitCode;
-use std::rt::Env;
+use std::rt::{Env, Files};
 use std::{env, io};
 
 /// The program's name and its words. A word that is no text is none that the program takes.
@@ -27,7 +22,7 @@ fn words_given(rt: &(impl Env + AllocGlobal)) -> Result<Vec<String>, Fault> {
 }
 
 /// Does what the words ask.
-fn serve(rt: &(impl Env + AllocGlobal + Input + Print)) -> Result<(), Fault> {
+fn serve(rt: &(impl Env + AllocGlobal + Files + Input + Print)) -> Result<(), Fault> {
     let alloc = rt.alloc();
     let words = words_given(rt)?;
     let mut texts = Vec::new(alloc);
@@ -44,6 +39,13 @@ fn serve(rt: &(impl Env + AllocGlobal + Input + Print)) -> Result<(), Fault> {
                 return Err(Fault::ScriptMemory);
             };
             demo(alloc, &mut reader, &mut writer)
+        }
+        Choice::List(board) => {
+            let board = board_bytes(rt, alloc, board)?;
+            let Ok(mut writer) = OutputStream::new(alloc, io::writer(rt)) else {
+                return Err(Fault::SetUpMemory);
+            };
+            list(alloc, &board, &mut writer)
         }
     }
 }

@@ -1,11 +1,13 @@
 use crate::choice::{Choice, choose};
-use crate::fault::Fault;
+use simulation::Fault;
 use std::test::Fail;
 
 /// What a choice is, without its text.
-fn kind_of(choice: Result<Choice, Fault>) -> &'static str {
+fn kind_of(choice: Result<Choice<'_>, Fault>) -> &'static str {
     match choice {
         Ok(Choice::Demo) => "demo",
+        Ok(Choice::List("x")) => "list x",
+        Ok(Choice::List(_)) => "list",
         Ok(Choice::Help(_)) => "help",
         Err(fault) => fault.words(),
     }
@@ -13,8 +15,12 @@ fn kind_of(choice: Result<Choice, Fault>) -> &'static str {
 
 #[test]
 fn words_of_the_command_line(rt: HostRuntime) -> Result<(), Fail> {
-    let rows: [(&[&str], &str); 9] = [
+    let rows: [(&[&str], &str); 13] = [
         (&["pciguest", "demo"], "demo"),
+        (&["pciguest", "list", "x"], "list x"),
+        (&["pciguest", "list"], "usage"),
+        (&["pciguest", "list", "x", "y"], "usage"),
+        (&["pciguest", "x"], "usage"),
         (&["pciguest", "--help"], "help"),
         (&["pciguest", "-h"], "help"),
         (&["pciguest"], "usage"),

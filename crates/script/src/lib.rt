@@ -22,7 +22,7 @@ pub use fakes::{FakeReader, FakeWriter};
 pub use headers::Place;
 pub use line::{Line, Names, What, Who, parse_line};
 pub use lone::Lone;
-pub use running::{RunFault, run};
+pub use running::{RunFault, run, write_all};
 pub use serving::served;
 
 #[cfg(test)]

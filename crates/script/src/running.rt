@@ -70,7 +70,7 @@ fn read_all<R: Reader>(alloc: Global, reader: &mut R) -> Result<Vec<u8>, RunFaul
 }
 
 /// Writes all of a text, or stops at the first failure.
-fn write_all<W: Writer>(writer: &mut W, text: &[u8]) -> Result<(), Failed>
+pub fn write_all<W: Writer>(writer: &mut W, text: &[u8]) -> Result<(), Failed>
     requires { W.failures writer.old < 2 ^ 64 - 1 }
     ensures ok { OnOk result (Appends (W.written writer.old) (W.written writer.new) text.now) }
     ensures err { OnErr result ((part : List ℕ) × StartsWith text.now part × Appends (W.written writer.old) (W.written writer.new) part) }

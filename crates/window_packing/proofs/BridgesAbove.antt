@@ -1,19 +1,19 @@
 -- What stands above each function of a board, row by row.
-use Rattle.std.proofs.Common.{◌≡◌, ℕ, zero, suc, ◌+◌, ◌-◌, ◌≤◌, ◌<◌, ◌⊎◌, inl, inr, Bool, true, false, ◌&&◌, cond, List, [], ◌∷◌, ◌++◌, map, length, Some, None, refl, sym, ap, ap₂, ◌∙◌, subst, arith, get_or, ◌≢◌, length-append, replicate, get_or-set_other, get_or-set_same}
-use Rattle.std.specs.Prelude.{filter, flat_map, IsTrue}
+use Rattle.std.proofs.Common.{◌≡◌, ℕ, zero, suc, ◌+◌, ◌-◌, ◌≤◌, ◌<◌, ◌⊎◌, inl, inr, Bool, true, false, ◌&&◌, List, [], ◌∷◌, ◌++◌, map, length, Some, refl, sym, ap, ap₂, ◌∙◌, subst, arith, get_or, ◌≢◌, length-append, replicate, get_or-set_other, get_or-set_same}
+use Rattle.std.specs.Prelude.{filter, IsTrue}
 use Rattle.std.specs.List.{list_all, slice_get, slice_set}
 use Rattle.std.proofs.lemmas.Option.{slice_get_within}
 use Rattle.std.proofs.lemmas.Bool.{and_parts, cases_lt}
 use Rattle.std.proofs.Math.ListN.{length-set}
-use Rattle.model_registers.specs.Lists.{Each, EachPair}
+use Rattle.model_registers.specs.Lists.{Each}
 use Rattle.model_registers.specs.Declarations.{Bridge}
 use Rattle.model_board.specs.Members.{IsIn}
 use Rattle.model_board.specs.Paths.{Path, path_eq, path_before, leads_to, parent, last_part, IsPath}
 use Rattle.model_board.specs.Board.{Decl, endpoint, bridge, is_bridge, is_bridge_at, Row, Board, IsBoard}
 use Rattle.model_board.specs.Pools.{bridge_of, bridges_above, has_io, has_pref, has_pref64}
 use Rattle.model_board.specs.FunctionTable.{TableRow, board_in}
-use Rattle.model_board.proofs.PathOrder.{one, path_same, exclusive, before_trans, behind_trans, leads_before}
-use Rattle.model_board.proofs.PathEnds.{snoc, path_self, length_snoc, leads_up, leads_self, leads_trans, not_before_itself}
+use Rattle.model_board.proofs.PathOrder.{one, path_same, before_trans, behind_trans, leads_before}
+use Rattle.model_board.proofs.PathEnds.{snoc, length_snoc, leads_up, leads_self, leads_trans, not_before_itself}
 use Rattle.model_board.proofs.Members.{each_in, from_flat_map, in_flat_map, from_filter, in_filter}
 use Rattle.model_board.proofs.Partings.{leads_longer, pair_in}
 use Rattle.bridge_forward.proofs.Indices.{same_at, at_below, each_at, pair_at, any_at, map_at, at_map}
@@ -112,8 +112,8 @@ module _ (b : Board) (board : IsBoard b) (t : Bridge → Bool) where
       down h =
           let own : list_all t (bridge_of r) ≡ true = all_from t (bridge_of r) (λ d m. all_in t d (bridges_above b p) h (over_in b p d r there leads m)) in
           let rest : list_all t (bridges_above b r.path) ≡ true = all_from t (bridges_above b r.path) (λ d m.
-              let o = over_from b r.path d m in
-              all_in t d (bridges_above b p) h (over_in b p d o.row o.there (leads_trans o.row.path r.path p o.leads leads) o.own)) in
+          let o = over_from b r.path d m in
+          all_in t d (bridges_above b p) h (over_in b p d o.row o.there (leads_trans o.row.path r.path p o.leads leads) o.own)) in
           rw (own, rest)
 
       back : (list_all t (bridges_above b r.path) && list_all t (bridge_of r)) ≡ true → list_all t (bridges_above b p) ≡ true

@@ -1,9 +1,7 @@
 -- The buses of a board by index: the functions of a bus stand after its bridge, and no two buses are one.
-use Rattle.std.proofs.Common.{◌≡◌, ℕ, zero, suc, ◌+◌, ◌<◌, ◌≤◌, ◌⊎◌, inl, inr, Bool, true, false, cond, Some, List, [], ◌∷◌, length, drop, refl, sym, ap, ◌∙◌, subst, arith}
+use Rattle.std.proofs.Common.{◌≡◌, ℕ, zero, suc, ◌+◌, ◌<◌, ◌≤◌, ◌⊎◌, inl, inr, Bool, true, false, Some, List, [], ◌∷◌, length, drop, refl, sym, ap, ◌∙◌, subst, arith}
 use Rattle.std.specs.Prelude.{filter, slice_get, IsTrue}
-use Rattle.std.specs.Option.{option_map_or}
 use Rattle.std.proofs.lemmas.Bool.{cases_lt}
-use Rattle.model_registers.specs.Lists.{Each, EachPair}
 use Rattle.model_board.specs.Paths.{Path, path_eq, path_before, leads_to, parent, last_part, IsPath}
 use Rattle.model_board.specs.Board.{Row, Board, rows_on, IsBoard}
 use Rattle.model_board.proofs.PathOrder.{leads_before, path_same}

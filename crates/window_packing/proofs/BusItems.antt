@@ -1,16 +1,15 @@
 -- What stands on a bus of a board can be packed, in any order, and what a function adds is what it has there.
-use Rattle.std.proofs.Common.{◌≡◌, ℕ, zero, suc, ◌<◌, ◌≤◌, ◌^◌, max, Bool, true, false, cond, List, [], ◌∷◌, refl, sym, ap, ◌∙◌, subst, arith}
-use Rattle.std.specs.Prelude.{filter}
+use Rattle.std.proofs.Common.{◌≡◌, ℕ, zero, suc, ◌<◌, ◌≤◌, ◌^◌, Bool, true, false, cond, List, [], ◌∷◌, refl, sym, ap, ◌∙◌, arith}
 use Rattle.std.specs.List.Sorted.{IsPermutation}
 use Rattle.std.proofs.lemmas.List.Sorted.{IsPermutation-trans}
 use Rattle.model_registers.specs.Lists.{Each}
-use Rattle.model_registers.specs.Declarations.{Region, Kind, io_kind, mem32, mem64, greatest_size, IsLawfulRegion}
+use Rattle.model_registers.specs.Declarations.{Kind, io_kind, mem32, mem64, greatest_size, IsLawfulRegion}
 use Rattle.model_registers.proofs.EachLemmas.{each_permutation}
 use Rattle.model_board.specs.Members.{IsIn}
 use Rattle.model_board.specs.Paths.{Part, Path, path_eq, parent, last_part}
 use Rattle.model_board.specs.Board.{Row, Decl, endpoint, bridge, Board, rows_on, IsBoard}
 use Rattle.model_board.specs.Pools.{Pool, io_pool, mem_pool, pref_pool, unit_of, Apertures, bridges_above}
-use Rattle.model_board.specs.Placement.{Item, stands_before, inserted, in_order, end_from, spots, spots_from, alignment, need, region_items, window_items, items_of, items_within, items_on}
+use Rattle.model_board.specs.Placement.{Item, stands_before, inserted, in_order, end_from, spots, spots_from, alignment, region_items, window_items, items_of, items_within, items_on}
 use Rattle.model_board.specs.Lawful.{IsLawfulDecl, HasLawfulDecls}
 use Rattle.model_board.specs.OrderLaws.{IsOrderOf}
 use Rattle.model_board.proofs.Members.{each_in, each_from, from_flat_map, from_filter}

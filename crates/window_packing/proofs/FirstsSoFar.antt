@@ -1,5 +1,5 @@
 -- The first addresses of buses, one after the other.
-use Rattle.std.proofs.Common.{◌≡◌, ℕ, zero, suc, ◌+◌, ◌≤◌, ◌<◌, ◌⊎◌, inl, inr, List, [], ◌∷◌, ◌++◌, map, length, Some, get_or, refl, sym, ap, ap₂, ◌∙◌, subst, arith, length-append}
+use Rattle.std.proofs.Common.{◌≡◌, ℕ, suc, ◌+◌, ◌≤◌, ◌<◌, ◌⊎◌, inl, inr, List, [], ◌∷◌, ◌++◌, map, length, Some, refl, sym, ap, ap₂, ◌∙◌, subst, arith, length-append}
 use Rattle.std.specs.Prelude.{IsTrue}
 use Rattle.std.specs.List.{slice_get}
 use Rattle.std.proofs.lemmas.Bool.{cases_lt}
@@ -7,12 +7,12 @@ use Rattle.std.proofs.lemmas.Option.{slice_get_within}
 use Rattle.model_registers.specs.Apertures.{Apertures, IsLawfulApertures}
 use Rattle.model_registers.specs.Lists.{Each}
 use Rattle.model_board.specs.Members.{IsIn}
-use Rattle.model_board.specs.Paths.{Part, Path, parent, last_part}
+use Rattle.model_board.specs.Paths.{Part, parent, last_part}
 use Rattle.model_board.specs.Board.{Row, Board, IsBoard}
 use Rattle.model_board.specs.Lawful.{HasLawfulDecls}
 use Rattle.model_board.specs.Pools.{Pool}
 use Rattle.model_board.specs.Placement.{a_window, is_item, spots, offset_in, items_on, fits, offset_on, bus_first}
-use Rattle.bridge_forward.proofs.Indices.{same_at, at_below}
+use Rattle.bridge_forward.proofs.Indices.{same_at}
 use Rattle.window_packing.specs.declared.above.Above.{Above}
 use Rattle.window_packing.specs.Buses.{bus_path, AreAbove}
 use Rattle.window_packing.specs.Packs.{BusPack, pack_of, packs_of}

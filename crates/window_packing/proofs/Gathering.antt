@@ -1,5 +1,5 @@
 -- Buses packed from the last row to the first: what is gathered of the items of the buses that are left.
-use Rattle.std.proofs.Common.{◌≡◌, ℕ, zero, suc, ◌+◌, ◌<◌, ◌≤◌, ◌^◌, ◌⊎◌, inl, inr, Bool, true, false, cond, Some, None, List, [], ◌∷◌, ◌++◌, length, drop, get_or, refl, sym, ap, ◌∙◌, subst, arith, append_assoc}
+use Rattle.std.proofs.Common.{◌≡◌, ℕ, zero, suc, ◌+◌, ◌<◌, ◌≤◌, ◌^◌, ◌⊎◌, inl, inr, Bool, true, false, cond, Some, List, [], ◌∷◌, ◌++◌, length, drop, refl, sym, ap, ◌∙◌, subst, arith}
 use Rattle.std.specs.Prelude.{map, flat_map, reverse, slice_get, slice_set, All}
 use Rattle.std.specs.List.Sorted.{IsPermutation}
 use Rattle.std.proofs.lemmas.List.{drop_all, reverse-append}
@@ -13,10 +13,9 @@ use Rattle.model_board.specs.Placement.{Item, items_of, items_on}
 use Rattle.model_board.proofs.Levels.{items_by_bus}
 use Rattle.model_board.proofs.PathOrder.{path_same}
 use Rattle.model_board.proofs.PathEnds.{path_self}
-use Rattle.bridge_forward.proofs.Indices.{same_at}
 use Rattle.window_packing.specs.Buses.{bus_path}
 use Rattle.window_packing.specs.Packs.{BusPack, pack_of}
-use Rattle.window_packing.proofs.BusIndices.{rows_behind, bus_before, bus_index}
+use Rattle.window_packing.proofs.BusIndices.{rows_behind, bus_index}
 
 -- ---- lists by index
 

@@ -1,10 +1,10 @@
 -- Whether a pool fits, by the pack of bus 0.
-use Rattle.std.proofs.Common.{◌≡◌, ℕ, ◌+◌, ◌-◌, ◌≤◌, ◌<◌, inl, Bool, true, false, ◌&&◌, List, [], ◌∷◌, length, Option, Some, None, refl, sym, ap, ◌∙◌, subst, arith}
+use Rattle.std.proofs.Common.{◌≡◌, ℕ, ◌+◌, ◌-◌, inl, true, ◌&&◌, List, [], ◌∷◌, length, refl, sym, ap, subst, arith}
 use Rattle.std.specs.Prelude.{nat_le}
 use Rattle.std.proofs.lemmas.Bool.Decides.{nat_tests}
 use Rattle.model_board.specs.Members.{IsIn}
-use Rattle.model_board.specs.Pools.{Pool, unit_of, Apertures}
-use Rattle.model_board.specs.Placement.{Item, Spot, spots, in_order, end_from, alignment, root_first, aperture_end, fits_items}
+use Rattle.model_board.specs.Pools.{Pool, Apertures}
+use Rattle.model_board.specs.Placement.{Item, spots, in_order, end_from, root_first, aperture_end, fits_items}
 use Rattle.model_board.proofs.Items.{spot_of}
 
 -- a bus has spots where it has items

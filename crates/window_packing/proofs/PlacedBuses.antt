@@ -1,7 +1,6 @@
 -- Where the buses, the regions and the windows of a placed pool stand: all within 2^63, and each found by its alignment.
-use Rattle.std.proofs.Common.{◌≡◌, ℕ, zero, suc, ◌+◌, ◌-◌, ◌*◌, ◌/◌, ◌^◌, ◌≤◌, ◌<◌, ◌⊎◌, inl, inr, Bool, true, false, ◌&&◌, cond, List, [], ◌∷◌, ◌++◌, map, length, Option, Some, None, MatchOption, refl, sym, ap, ap₂, ◌∙◌, subst, arith}
+use Rattle.std.proofs.Common.{◌≡◌, ℕ, zero, suc, ◌+◌, ◌-◌, ◌^◌, ◌≤◌, ◌<◌, ◌⊎◌, inl, inr, Bool, true, false, cond, List, [], ◌∷◌, ◌++◌, map, length, Option, Some, None, MatchOption, refl, sym, ap, ◌∙◌, subst, arith}
 use Rattle.std.specs.Prelude.{filter, flat_map, IsTrue}
-use Rattle.std.specs.List.{slice_get}
 use Rattle.std.specs.Option.{option_map_or}
 use Rattle.std.proofs.lemmas.Bool.{and_parts}
 use Rattle.std.proofs.lemmas.Bool.Decides.{nat_tests}
@@ -10,24 +9,24 @@ use Rattle.model_registers.specs.Lists.{Each, EachPair}
 use Rattle.model_registers.specs.Apertures.{Aperture, IsLawfulApertures, IsPrefOption}
 use Rattle.model_registers.specs.Declarations.{Endpoint, Region, Kind, registers_of, io_kind, mem32, mem64}
 use Rattle.model_board.specs.Members.{IsIn}
-use Rattle.model_board.specs.Paths.{Part, Path, part_eq, path_eq, parent, last_part, IsPath}
-use Rattle.model_board.specs.Board.{Decl, endpoint, bridge, is_bridge, Row, Board, IsBoard}
+use Rattle.model_board.specs.Paths.{Part, Path, part_eq, parent, last_part, IsPath}
+use Rattle.model_board.specs.Board.{Decl, endpoint, is_bridge, Row, Board, IsBoard}
 use Rattle.model_board.specs.Pools.{Pool, io_pool, mem_pool, pref_pool, unit_of, Apertures, aperture_of}
-use Rattle.model_board.specs.Placement.{Placed, a_region, a_window, same_placed, Item, Spot, is_item, stands_before, in_order, end_from, round_up, need, alignment, spots_from, spots, offset_in, region_item, items_on, root_first, fits, offset_on, bus_first}
-use Rattle.model_board.specs.Layout.{LayoutRow, IsInside, IsLawful, bus_rows, buses, pool_rows}
+use Rattle.model_board.specs.Placement.{Placed, a_region, a_window, same_placed, Item, Spot, is_item, stands_before, in_order, round_up, need, alignment, spots_from, spots, offset_in, items_on, fits, offset_on, bus_first}
+use Rattle.model_board.specs.Layout.{LayoutRow, IsInside, IsLawful, bus_rows, pool_rows}
 use Rattle.model_board.specs.PlacementLaws.{window_row}
 use Rattle.model_board.specs.Lawful.{IsLawfulDecl, HasLawfulDecls}
 use Rattle.model_board.proofs.Members.{each_in, each_from}
 use Rattle.model_board.proofs.PathOrder.{part_same}
-use Rattle.model_board.proofs.PathEnds.{snoc, parent_snoc, last_snoc, length_snoc}
+use Rattle.model_board.proofs.PathEnds.{snoc, length_snoc}
 use Rattle.model_board.proofs.Partings.{pair_in}
 use Rattle.model_board.proofs.Packing.{unit_positive}
 use Rattle.model_board.proofs.Items.{item_of, some_end, end_below_need, items_placeable, items_for, region_of_item, Origin, origin}
 use Rattle.model_board.proofs.ItemOrder.{Strictly, items_strict}
-use Rattle.model_board.proofs.Nesting.{HasItems, WindowOn, bus_first-snoc, window_of, bridge_of_bus}
+use Rattle.model_board.proofs.Nesting.{HasItems, bus_first-snoc, window_of, bridge_of_bus}
 use Rattle.model_board.proofs.LawfulPlacement.{row_in, pool_lawful}
 use Rattle.model_board.proofs.DeclaredRows.{has_window_row}
-use Rattle.window_packing.proofs.BridgesAbove.{same_row, in_index, index_in}
+use Rattle.window_packing.proofs.BridgesAbove.{same_row}
 use Rattle.window_packing.proofs.BusItems.{items_align, alignment_bounds}
 use Rattle.window_packing.proofs.SpotSearch.{AreStrict}
 

@@ -1,26 +1,24 @@
 -- Where the regions and the windows of one function of a placed board stand.
-use Rattle.std.proofs.Common.{◌≡◌, ℕ, zero, suc, ◌+◌, ◌-◌, ◌*◌, ◌^◌, ◌≤◌, ◌<◌, List, [], ◌∷◌, ◌++◌, length, map, Some, refl, sym, ap, ap₂, ◌∙◌, subst, arith}
+use Rattle.std.proofs.Common.{◌≡◌, ℕ, suc, ◌+◌, ◌-◌, ◌*◌, ◌^◌, ◌≤◌, ◌<◌, List, [], ◌∷◌, length, map, Some, refl, sym, ap, ap₂, ◌∙◌, subst, arith}
 use Rattle.std.specs.Prelude.{IsTrue}
 use Rattle.std.specs.List.{slice_get}
 use Rattle.std.proofs.lemmas.Option.{slice_get_within}
 use Rattle.model_registers.specs.Lists.{Each}
-use Rattle.model_registers.specs.Declarations.{Endpoint, Region}
+use Rattle.model_registers.specs.Declarations.{Region}
 use Rattle.model_registers.specs.Apertures.{Apertures}
-use Rattle.model_registers.specs.BridgeTable.{Span}
 use Rattle.model_board.specs.Members.{IsIn}
-use Rattle.model_board.specs.Paths.{Part, Path, parent, last_part, IsPath}
-use Rattle.model_board.specs.Board.{Decl, endpoint, Row, Board, IsBoard}
+use Rattle.model_board.specs.Paths.{Part, parent, last_part, IsPath}
+use Rattle.model_board.specs.Board.{endpoint, Row, Board, IsBoard}
 use Rattle.model_board.specs.Lawful.{HasLawfulDecls}
 use Rattle.model_board.specs.Pools.{Pool, io_pool, mem_pool, pref_pool, unit_of, bridges_above, pool_of}
 use Rattle.model_board.specs.Placement.{Placed, a_region, Item, Spot, is_item, in_order, end_from, round_up, need, spots, offset_in, items_on, offset_on, bus_first, region_first}
 use Rattle.model_board.specs.SetUp.{first_of, span_of}
 use Rattle.model_board.proofs.Members.{each_in, each_from}
 use Rattle.model_board.proofs.Items.{item_of}
-use Rattle.model_board.proofs.Nesting.{HasItems}
 use Rattle.bridge_forward.proofs.Indices.{same_at}
 use Rattle.window_packing.specs.declared.above.Above.{Above}
 use Rattle.window_packing.specs.Buses.{bus_path}
-use Rattle.window_packing.specs.Packs.{BusPack, pack_of, packs_of}
+use Rattle.window_packing.specs.Packs.{BusPack, pack_of}
 use Rattle.window_packing.specs.Placed.{bus_paths, PlacedPool, IsPlaced, Placement, IsPlacement, pool_in, IsAboveAt, IsRegionAt}
 use Rattle.window_packing.proofs.SpotSearch.{AreStrict}
 use Rattle.window_packing.proofs.BridgesAbove.{index_in}
@@ -28,7 +26,7 @@ use Rattle.window_packing.proofs.BusIndex.{by_bus, count_buses, bus_behind}
 use Rattle.window_packing.proofs.PackFits.{no_items}
 use Rattle.window_packing.proofs.PoolSteps.{IsAboveRow, above_row}
 use Rattle.window_packing.proofs.FirstsSoFar.{pack_is, count_packs}
-use Rattle.window_packing.proofs.PlacedBuses.{highest, spots_strict, region_align, spot_bound, window_bound, found_bound, first_bound, depth}
+use Rattle.window_packing.proofs.PlacedBuses.{spots_strict, region_align, spot_bound, window_bound, found_bound, first_bound, depth}
 
 pub placed_in : (b : Board) (a : Apertures) (p : Placement) → IsPlacement b a p → (pool : Pool) → IsPlaced b a pool (pool_in p pool)
 placed_in b a p h io_pool = h.io

@@ -1,6 +1,6 @@
 -- Where a pool fits, none of its buses ends above 2 ^ 63.
-use Rattle.std.proofs.Common.{◌≡◌, ℕ, ◌+◌, ◌<◌, ◌≤◌, ◌^◌, ◌⊎◌, inl, inr, Bool, true, false, List, [], ◌∷◌, Option, Some, None, refl, arith}
-use Rattle.std.specs.Prelude.{nat_le, IsFalse}
+use Rattle.std.proofs.Common.{◌≡◌, ◌+◌, ◌<◌, ◌≤◌, ◌^◌, ◌⊎◌, inl, inr, Bool, true, false, List, [], ◌∷◌, Option, Some, None, refl, arith}
+use Rattle.std.specs.Prelude.{IsFalse}
 use Rattle.std.proofs.lemmas.Bool.{leb-true}
 use Rattle.model_registers.specs.Apertures.{Aperture, IsLawfulApertures, IsPrefOption}
 use Rattle.model_board.specs.Members.{IsIn}

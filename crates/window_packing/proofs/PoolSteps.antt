@@ -1,5 +1,5 @@
 -- The steps by which the buses of a pool are packed.
-use Rattle.std.proofs.Common.{◌≡◌, ℕ, zero, suc, ◌+◌, ◌-◌, ◌<◌, ◌≤◌, ◌^◌, Option, Some, None, List, [], ◌∷◌, ◌++◌, length, length-append, drop, get_or, refl, sym, ap, ◌∙◌, subst, arith}
+use Rattle.std.proofs.Common.{◌≡◌, ℕ, zero, suc, ◌+◌, ◌-◌, ◌<◌, ◌≤◌, ◌^◌, Option, Some, List, [], ◌∷◌, ◌++◌, length, length-append, get_or, refl, sym, ap, ◌∙◌, subst, arith}
 use Rattle.std.specs.Prelude.{map, reverse, slice_get, slice_set, option_to_list}
 use Rattle.std.specs.List.{list_all}
 use Rattle.std.specs.List.Sorted.{IsPermutation}
@@ -11,7 +11,7 @@ use Rattle.model_board.specs.Board.{Row, Board, IsBoard}
 use Rattle.model_board.specs.Lawful.{HasLawfulDecls}
 use Rattle.model_board.specs.Pools.{Pool, Apertures, bridges_above, has_pref, has_pref64}
 use Rattle.model_board.specs.Placement.{Item, items_of, items_on}
-use Rattle.bridge_forward.proofs.Indices.{map_at, each_at, at_below}
+use Rattle.bridge_forward.proofs.Indices.{map_at, each_at}
 use Rattle.window_packing.specs.declared.above.Above.{Above}
 use Rattle.window_packing.specs.Buses.{bus_path, AreAbove}
 use Rattle.window_packing.specs.Packs.{BusPack, pack_of, IsBounded, IsOver}
@@ -119,7 +119,6 @@ module _ (b : Board) (a : Apertures) (pool : Pool) (board : IsBoard b) {C : Type
       each_map (λ (p : BusPack). ((0 < p.align) × (p.align ≤ 2 ^ 40)) × (p.end ≤ 2 ^ 63)) IsBounded (reverse (packs ++ pack ∷ [])) (λ p k. record { some = k.0.0; aligned = k.0.1; ends = k.1 })
       (each_both (λ (p : BusPack). (0 < p.align) × (p.align ≤ 2 ^ 40)) (λ p. p.end ≤ 2 ^ 63) (reverse (packs ++ pack ∷ [])) aligns ends)
     where
-
       each_aligned : (buses : List Path) → Each (λ (p : BusPack). (0 < p.align) × (p.align ≤ 2 ^ 40)) (map (pack_of b a pool) buses)
       each_aligned [] = tt
       each_aligned (bus ∷ buses) = (alignment_bounds pool (items_on b a pool bus) (items_align b a pool lawful bus), each_aligned buses)

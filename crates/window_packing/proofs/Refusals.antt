@@ -1,6 +1,6 @@
 -- The least refusal, as pools are judged one after the other.
-use Rattle.std.proofs.Common.{◌≡◌, ℕ, ◌⊎◌, inl, inr, true, false, Some, None, refl, sym, ap, ◌∙◌}
-use Rattle.std.specs.Prelude.{IsTrue, IsFalse}
+use Rattle.std.proofs.Common.{◌≡◌, ◌⊎◌, inl, inr, true, Some, None, refl, sym, ap}
+use Rattle.std.specs.Prelude.{IsFalse}
 use Rattle.model_registers.specs.Apertures.{Apertures}
 use Rattle.model_registers.specs.DeclarationRules.{first_broken}
 use Rattle.model_board.specs.Board.{Board}

@@ -1,19 +1,17 @@
 -- The rows of a pool, bus by bus; tests of all rows of a board, row by row.
-use Rattle.std.proofs.Common.{◌≡◌, ℕ, zero, suc, ◌+◌, ◌≤◌, ◌<◌, Bool, true, false, ◌&&◌, List, [], ◌∷◌, ◌++◌, length, map, take, Some, refl, sym, ap, ap₂, ◌∙◌, subst, arith, append-nil, append_assoc}
+use Rattle.std.proofs.Common.{◌≡◌, ℕ, zero, suc, ◌+◌, ◌≤◌, ◌<◌, Bool, true, false, ◌&&◌, List, [], ◌∷◌, ◌++◌, length, map, take, Some, refl, sym, ap, ap₂, ◌∙◌, arith, append-nil, append_assoc}
 use Rattle.std.specs.Prelude.{flat_map}
 use Rattle.std.specs.List.{slice_get, list_all}
 use Rattle.std.proofs.lemmas.Grind.{flat_map-append}
-use Rattle.std.proofs.lemmas.Option.{slice_get_within}
 use Rattle.std.proofs.lemmas.Bool.{and_parts}
 use Rattle.model_registers.specs.Apertures.{Apertures}
 use Rattle.model_board.specs.Paths.{Path}
 use Rattle.model_board.specs.Board.{Row, Board, IsBoard}
 use Rattle.model_board.specs.Lawful.{HasLawfulDecls}
 use Rattle.model_board.specs.Pools.{Pool}
-use Rattle.model_board.specs.Placement.{Item, Spot, items_on, bus_first}
 use Rattle.model_board.specs.Layout.{LayoutRow, row_of, bus_rows, pool_rows}
 use Rattle.window_packing.specs.Buses.{bus_path}
-use Rattle.window_packing.specs.Packs.{BusPack, pack_of}
+use Rattle.window_packing.specs.Packs.{BusPack}
 use Rattle.window_packing.specs.Placed.{bus_paths, PlacedPool, IsPlaced}
 use Rattle.window_packing.proofs.BarLists.{take_at, take_whole}
 use Rattle.window_packing.proofs.PlacedBuses.{rows_by_bus}

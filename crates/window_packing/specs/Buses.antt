@@ -2,7 +2,7 @@
 --     bus_path      the path of the bus with an index: 0 is bus 0, and 1 + n the bus behind the function of row n
 --     nothing_above, behind      what a function has above it, on bus 0 and behind a bridge
 --     AreAbove      for each row: the index of its bus, and what all bridges above it have
-use Rattle.std.specs.Prelude.{List, [], ◌≡◌, ℕ, zero, suc, ◌≤◌, Bool, true, ◌&&◌, length, map, slice_get}
+use Rattle.std.specs.Prelude.{List, [], ◌≡◌, ℕ, zero, suc, ◌≤◌, true, ◌&&◌, length, map, slice_get}
 use Rattle.std.specs.Option.{option_map_or}
 use Rattle.std.specs.List.{list_all}
 use Rattle.model_registers.specs.Lists.{Each}

@@ -3,7 +3,7 @@
 --     pack_items, pack_of, packs_of      items placed on a bus; a bus of the board, and all of them
 --     IsBounded      an alignment of a region, and an end that an aperture could hold
 --     HasOneOrder, IsPackable      items that can be sorted in one way alone, with lawful alignments
---     IsOver      all bridges of a list have what is said of them
+--     IsOver      what is said of all bridges above a function is so of a list of bridges
 --     pool_items, regions_from      the regions of a pool as items; the regions of base address registers
 --     window_of, own_items      the window of a bus; what a function has on its own bus
 use Rattle.std.specs.Prelude.{List, [], ◌∷◌, ◌≡◌, ℕ, ◌<◌, ◌≤◌, ◌^◌, Option, map, filter}
@@ -52,7 +52,7 @@ pub record IsPackable (is : List Item) : Type 0 where
   pub order : HasOneOrder is
   pub aligns : Each HasLawfulAlign is
 
--- of all these bridges, what is said of those above a function
+-- what x says of all bridges above a function is so of these
 pub record IsOver (ds : List Bridge) (x : Above) : Type 0 where
   pub pref : x.pref ≡ list_all (λ d. has_pref d.pref) ds
   pub pref64 : x.pref64 ≡ list_all (λ d. has_pref64 d.pref) ds

@@ -12,12 +12,12 @@ use Rattle.model_board.specs.SetUpWrites as set_up
 use Rattle.bars.specs.Slots.{bases_from}
 use Rattle.bus_scan.specs.declared.fault.Fault.{Fault}
 use Rattle.bus_scan.specs.declared.fault.Fault.TheVariants.{IoPool, MemoryPool, PrefetchablePool}
-use Rattle.window_packing.specs.declared.plans.Pool.{Pool}
-use Rattle.window_packing.specs.declared.plans.Pool.TheVariants as pool
-use Rattle.window_packing.specs.declared.plans.Placed.{Placed}
-use Rattle.window_packing.specs.declared.plans.Placed.TheVariants as placed
-use Rattle.window_packing.specs.declared.plans.Writes.{Writes}
-use Rattle.window_packing.specs.declared.plans.Writes.TheVariants as writes
+use Rattle.window_packing.specs.declared.planned.Pool.{Pool}
+use Rattle.window_packing.specs.declared.planned.Pool.TheVariants as pool
+use Rattle.window_packing.specs.declared.planned.Placed.{Placed}
+use Rattle.window_packing.specs.declared.planned.Placed.TheVariants as placed
+use Rattle.window_packing.specs.declared.planned.Writes.{Writes}
+use Rattle.window_packing.specs.declared.planned.Writes.TheVariants as writes
 
 abbrev pub named_pool : Pool → pools.Pool
 named_pool pool.Io = io_pool

@@ -7,8 +7,8 @@ mod item;
 mod order;
 mod pack;
 mod placed;
+mod planned;
 mod planner;
-mod plans;
 mod pool;
 mod programming;
 mod ready;
@@ -18,7 +18,7 @@ mod search;
 mod settings;
 mod windows;
 
+pub use planned::{Placed, Plan, PlanRow, Pool, Setting, Span, Writes};
 pub use planner::plan;
-pub use plans::{Placed, Plan, PlanRow, Pool, Setting, Span, Writes};
 pub use programming::program;
 pub use ready::{Ready, set_up};

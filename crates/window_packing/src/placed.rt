@@ -18,7 +18,7 @@ ghost use Rattle.window_packing.specs.Placed.{bus_paths, IsPlaced, pool_in};
 use crate::above::Above;
 use crate::item::Item;
 use crate::pack::{BusPack, round_up};
-use crate::plans::{Placed, Pool};
+use crate::planned::{Placed, Pool};
 use crate::search::offset_of;
 use crate::windows::pack_pool;
 use bridge_forward::Part;

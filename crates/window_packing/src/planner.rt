@@ -15,7 +15,7 @@ ghost use Rattle.window_packing.specs.Placed.{is_port};
 
 use crate::above::{Above, all_above};
 use crate::placed::{Placement, place_pool};
-use crate::plans::{Plan, Pool};
+use crate::planned::{Plan, Pool};
 use crate::rows::all_rows;
 use crate::settings::all_settings;
 use bars::{BarDecl, Kind};

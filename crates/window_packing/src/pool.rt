@@ -7,7 +7,7 @@ ghost use Rattle.window_packing.specs.Plans.{named_pool};
 ghost use Rattle.window_packing.specs.Packs.{IsOver};
 
 use crate::above::Above;
-use crate::plans::Pool;
+use crate::planned::Pool;
 use bars::Kind;
 use headers::{Aperture, Apertures};
 

@@ -7,8 +7,8 @@ ghost use Rattle.model_board.specs.SetUpWrites.{set_up_rules};
 ghost use Rattle.bus_scan.specs.Faults.{number_of};
 ghost use Rattle.bus_scan.specs.declared.fault.Fault.TheVariants.{Memory};
 
+use crate::planned::Plan;
 use crate::planner::plan;
-use crate::plans::Plan;
 use crate::programming::program;
 use bus_scan::{Fault, FunctionTable, scan, size_all};
 use host_bridge::Host;

@@ -8,7 +8,7 @@ ghost use Rattle.model_board.specs.Pools.{unit_of};
 use crate::above::Above;
 use crate::item::Item;
 use crate::pack::{BusPack, round_up};
-use crate::plans::{Placed, Pool};
+use crate::planned::{Placed, Pool};
 use crate::pool::pool_of;
 use bars::BarDecl;
 use bridge_forward::Part;

@@ -11,7 +11,7 @@ ghost use Rattle.window_packing.specs.Placed.{IsPlaced, IsPlacement};
 
 use crate::pack::BusPack;
 use crate::placed::{PlacedPool, Placement};
-use crate::plans::{PlanRow, Pool};
+use crate::planned::{PlanRow, Pool};
 use bridge_forward::Part;
 use bus_scan::FunctionRow;
 use headers::Apertures;

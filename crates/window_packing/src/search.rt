@@ -45,5 +45,9 @@ pub(crate) fn offset_of(pack: &BusPack, key: &Item) -> u64
         return 0;
     }
     let spot = &pack.spots[at];
-    if is_same(&spot.item, key) { spot.first } else { 0 }
+    if is_same(&spot.item, key) {
+        spot.first
+    } else {
+        0
+    }
 }

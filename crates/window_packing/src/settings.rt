@@ -24,7 +24,7 @@ use crate::above::Above;
 use crate::item::Item;
 use crate::pack::{BusPack, round_up};
 use crate::placed::{PlacedPool, Placement};
-use crate::plans::{Placed, Pool, Setting, Span, Writes};
+use crate::planned::{Placed, Pool, Setting, Span, Writes};
 use crate::pool::pool_of;
 use crate::search::offset_of;
 use bars::{BarDecl, Region, Space};

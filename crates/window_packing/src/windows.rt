@@ -13,7 +13,7 @@ ghost use Rattle.window_packing.specs.Packs.{packs_of, IsBounded};
 use crate::above::Above;
 use crate::item::Item;
 use crate::pack::{BusPack, pack_bus};
-use crate::plans::Pool;
+use crate::planned::Pool;
 use crate::regions::push_own;
 use bus_scan::FunctionRow;
 use headers::Apertures;

@@ -1,19 +1,41 @@
-use Rattle.std.proofs.Common.{◌≡◌, [], true, map, refl, ap, subst, ◌∙◌}
-use Rattle.clap.specs.Simple.{App, app_of}
+use Rattle.std.proofs.Common.{◌≡◌, ℕ, [], List, true, map, Bor, refl, sym, ap, subst, ◌∙◌}
+use Rattle.std.specs.Prelude.{unwrap_or, Some}
+use Rattle.clap.specs.Simple.{App, app_of, is_simple, subcommand_of, subcommand_rows_of}
+use Rattle.clap.specs.Matches.{found_of}
 use Rattle.clap.specs.Takes.{takes}
 use Rattle.clap.specs.Faults.{fault_of, is_simple_and_free}
 use Rattle.clap.proofs.OnLiterals.{clap_on_literals}
 use Rattle.pciguest.specs.Words.{pciguest_app}
+use Rattle.pciguest.proofs.Values.{asked, shown_or_empty}
 use Rattle.pciguest.proofs.choice.choose.Goals as goal
 
 simple : is_simple_and_free pciguest_app ≡ true
 unfolding clap_on_literals
 simple = refl
 
-pub returns-in-Some-demo-clause-only_taken : goal.returns-in-Some-demo-clause-only_taken
-returns-in-Some-demo-clause-only_taken c h =
+is_one : is_simple pciguest_app ≡ true
+unfolding clap_on_literals
+is_one = refl
+
+pub returns-in-Some-demo-default-clause-only_taken : goal.returns-in-Some-demo-default-clause-only_taken
+returns-in-Some-demo-default-clause-only_taken c h =
     let same : app_of c.in-Ok.command ≡ pciguest_app = c.in-Ok.ensures in
     subst (λ (a : App). fault_of a (map (λ w. w.now) c.args.words.now) ≡ []) same (c.in-Ok-try_get_matches_from.ensures.kinds (ap is_simple_and_free same ∙ simple))
+
+pub returns-in-Some-list-default-clause-only_taken : goal.returns-in-Some-list-default-clause-only_taken
+returns-in-Some-list-default-clause-only_taken c h =
+    let same : app_of c.in-Ok.command ≡ pciguest_app = c.in-Ok.ensures in
+    subst (λ (a : App). fault_of a (map (λ w. w.now) c.args.words.now) ≡ []) same (c.in-Ok-try_get_matches_from.ensures.kinds (ap is_simple_and_free same ∙ simple))
+
+pub returns-in-Some-list-default-clause-asked : goal.returns-in-Some-list-default-clause-asked
+returns-in-Some-list-default-clause-asked c =
+    let words = map (λ (w : Bor (List ℕ)). w.now) c.args.words.now in
+    let same : app_of c.in-Ok.command ≡ pciguest_app = c.in-Ok.ensures in
+    let read : subcommand_rows_of c.in-Ok-try_get_matches_from.matches ≡ subcommand_of pciguest_app words =
+    (c.in-Ok-try_get_matches_from.ensures.matches (ap is_simple same ∙ is_one)).1 ∙ ap (λ a. subcommand_of a words) same in
+    let found = c.in-Some-list-default in
+    let both = asked c.in-Ok-try_get_matches_from.matches words found.field-0-0.now (found_of found.list.now) read found.ensures.name found.ensures.rows in
+    (both.0 ∙ ap Some found.is-list, ap (λ (s : Bor (List ℕ)). s.now) c.unwrap_or.ensures ∙ shown_or_empty c.get_str.result _ refl ∙ ap (λ o. unwrap_or o []) (c.get_str.ensures ∙ sym both.1))
 
 pub returns-clause-taken : goal.returns-clause-taken
 returns-clause-taken c h =

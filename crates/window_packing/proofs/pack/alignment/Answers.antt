@@ -1,4 +1,4 @@
-use Rattle.std.proofs.Common.{◌≡◌, length, [], drop, arith}
+use Rattle.std.proofs.Common.{◌≡◌, [], drop, arith}
 use Rattle.std.proofs.lemmas.List.{drop_all}
 use Rattle.window_packing.proofs.SpotEnds.{unit-le}
 use Rattle.window_packing.proofs.pack.alignment.Goals as goal

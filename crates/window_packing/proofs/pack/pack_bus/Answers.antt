@@ -1,7 +1,7 @@
 use Rattle.std.proofs.Common.{◌≡◌, List, sym, ap, ◌∙◌, subst}
 use Rattle.model_registers.specs.Lists.{Each}
 use Rattle.model_registers.proofs.EachLemmas.{each_permutation}
-use Rattle.model_board.specs.Placement.{Item, in_order, alignment, end_from}
+use Rattle.model_board.specs.Placement.{Item, in_order, alignment}
 use Rattle.model_board.proofs.ItemOrder.{order_is_sorted}
 use Rattle.window_packing.specs.Packs.{HasLawfulAlign}
 use Rattle.window_packing.proofs.ItemRanks.{alignment-in_order}

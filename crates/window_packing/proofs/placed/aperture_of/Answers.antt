@@ -1,4 +1,4 @@
-use Rattle.std.proofs.Common.{◌≡◌, ◌≤◌, ◌<◌, ◌^◌, Option, Some, None, sym, subst, arith}
+use Rattle.std.proofs.Common.{◌≤◌, ◌<◌, ◌^◌, Option, Some, None, sym, subst, arith}
 use Rattle.std.specs.Option.{IfSome}
 use Rattle.model_registers.specs.Apertures.{Aperture, IsPrefOption}
 use Rattle.window_packing.proofs.placed.aperture_of.Goals as goal

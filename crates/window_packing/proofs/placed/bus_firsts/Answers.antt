@@ -1,6 +1,6 @@
-use Rattle.std.proofs.Common.{◌≡◌, ℕ, suc, ◌+◌, ◌<◌, ◌≤◌, false, List, [], ◌∷◌, ◌++◌, length, Some, get_or, refl, sym, ap, ◌∙◌, subst, arith}
+use Rattle.std.proofs.Common.{◌≡◌, ℕ, suc, ◌+◌, false, List, [], ◌∷◌, ◌++◌, length, Some, get_or, sym, ap, ◌∙◌, subst, arith}
 use Rattle.std.specs.List.{slice_get}
-use Rattle.model_board.specs.Paths.{Part, last_part}
+use Rattle.model_board.specs.Paths.{last_part}
 use Rattle.std.specs.Option.{option_map_or}
 use Rattle.model_registers.specs.Apertures.{Aperture}
 use Rattle.model_board.specs.Pools.{aperture_of}
@@ -9,12 +9,12 @@ use Rattle.model_board.specs.FunctionTable.{TableRow, board_in}
 use Rattle.bridge_forward.proofs.Indices.{read_at, same_at, map_at}
 use Rattle.window_packing.specs.declared.above.Above.{Above}
 use Rattle.window_packing.specs.Buses.{bus_path}
-use Rattle.window_packing.specs.Packs.{BusPack, pack_of}
+use Rattle.window_packing.specs.Packs.{BusPack}
 use Rattle.window_packing.specs.Plans.{named_pool}
 use Rattle.window_packing.proofs.BridgesAbove.{length_board}
 use Rattle.window_packing.proofs.BusIndex.{row_in}
 use Rattle.window_packing.proofs.PoolSteps.{got, above_count}
-use Rattle.window_packing.proofs.FirstsSoFar.{AreFirsts, one_first, more_firsts, all_firsts, pack_is, count_packs, within, bus_low, own_strict, own_align, behind_first, behind_bound}
+use Rattle.window_packing.proofs.FirstsSoFar.{AreFirsts, one_first, more_firsts, all_firsts, pack_is, count_packs, bus_low, own_strict, own_align, behind_first, behind_bound}
 use Rattle.window_packing.proofs.placed.bus_firsts.Goals as goal
 
 abbrev none : Above

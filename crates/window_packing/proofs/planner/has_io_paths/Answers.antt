@@ -1,4 +1,4 @@
-use Rattle.std.proofs.Common.{◌≡◌, ◌||◌, ◌≤◌, ℕ, Bool, true, false, not, length, Some, get_or, ap, sym, ◌∙◌, arith}
+use Rattle.std.proofs.Common.{◌≡◌, ◌||◌, Bool, false, not, Some, get_or, ap, sym, ◌∙◌, arith}
 use Rattle.std.specs.List.{slice_get, list_all}
 use Rattle.model_registers.specs.Declarations.{Bridge}
 use Rattle.model_board.specs.Board.{Row}

@@ -1,4 +1,4 @@
-use Rattle.std.proofs.Common.{◌≡◌, ap, sym, ◌∙◌}
+use Rattle.std.proofs.Common.{ap, sym, ◌∙◌}
 use Rattle.model_board.specs.Pools.{opens_io}
 use Rattle.model_board.specs.FunctionTable.{TableRow}
 use Rattle.bus_scan.specs.declared.table.Found.{Found}

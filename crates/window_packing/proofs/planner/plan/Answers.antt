@@ -1,11 +1,10 @@
 use Rattle.std.proofs.Common.{◌≡◌, ◌⊎◌, List, true, ap, sym, ◌∙◌, subst}
 use Rattle.std.specs.Prelude.{IsFalse}
 use Rattle.std.proofs.lemmas.Result.{err_from_is_err_and}
-use Rattle.model_board.specs.Board.{Board}
 use Rattle.model_board.specs.Pools.{io_pool, mem_pool, pref_pool, has_io_paths}
 use Rattle.model_board.specs.Placement.{fits}
-use Rattle.model_board.specs.Layout.{LayoutRow, layout}
-use Rattle.model_board.specs.SetUpWrites.{Setting, Plan, settings}
+use Rattle.model_board.specs.Layout.{layout}
+use Rattle.model_board.specs.SetUpWrites.{settings}
 use Rattle.model_board.specs.FunctionTable.{TableRow, board_in}
 use Rattle.bus_scan.specs.declared.fault.Fault.TheVariants.{IoPool, MemoryPool, PrefetchablePool, Memory}
 use Rattle.window_packing.proofs.Refusals.{refused_io, refused_mem, refused_pref, all_kept}

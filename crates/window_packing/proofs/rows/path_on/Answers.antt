@@ -1,8 +1,6 @@
-use Rattle.std.proofs.Common.{◌≡◌, ◌-◌, length, sym, ap, ◌∙◌, subst, arith, ◌++◌, [], ◌∷◌}
+use Rattle.std.proofs.Common.{◌≡◌, ◌-◌, length, sym, ap, ◌∙◌, arith, ◌++◌, [], ◌∷◌}
 use Rattle.model_board.specs.Paths.{Path}
-use Rattle.model_board.specs.FunctionTable.{board_in}
 use Rattle.bridge_forward.proofs.Indices.{read_at}
-use Rattle.window_packing.specs.Buses.{bus_path}
 use Rattle.window_packing.proofs.BusIndex.{bus_of_row}
 use Rattle.window_packing.proofs.rows.path_on.Goals as goal
 

@@ -1,11 +1,10 @@
-use Rattle.std.proofs.Common.{◌≡◌, ℕ, suc, ◌≤◌, ◌<◌, List, length, Some, ap, sym, ◌∙◌, subst, arith, append-nil}
+use Rattle.std.proofs.Common.{◌≡◌, ℕ, suc, ◌≤◌, ◌<◌, List, length, Some, ap, sym, subst, arith, append-nil}
 use Rattle.std.specs.List.{slice_get}
 use Rattle.model_board.specs.FunctionTable.{board_in}
 use Rattle.bridge_forward.proofs.Indices.{read_at}
 use Rattle.window_packing.specs.Packs.{BusPack}
 use Rattle.window_packing.specs.Placed.{PlacedPool}
 use Rattle.window_packing.specs.Plans.{named_pool}
-use Rattle.window_packing.proofs.BridgesAbove.{length_board}
 use Rattle.window_packing.proofs.PlacedFunctions.{count_pl, count_firsts, first_is, bus_depth, bus_room}
 use Rattle.window_packing.proofs.RowsByBus.{more_rows_of, all_rows_of}
 use Rattle.window_packing.proofs.rows.push_pool.Goals as goal

@@ -1,8 +1,7 @@
-use Rattle.std.proofs.Common.{◌≡◌, ℕ, ◌+◌, List, [], ◌∷◌, ◌++◌, take, map, Some, ap, ap₂, sym, ◌∙◌, subst}
+use Rattle.std.proofs.Common.{◌≡◌, ℕ, List, [], ◌∷◌, ◌++◌, Some, ap, ap₂, sym, ◌∙◌, subst}
 use Rattle.std.specs.List.{slice_get}
 use Rattle.model_board.specs.Paths.{last_part}
 use Rattle.model_board.specs.Board.{Row}
-use Rattle.model_board.specs.BusNumbers.{bus_of}
 use Rattle.model_board.specs.Cycles.{BusAddress}
 use Rattle.model_board.specs.Reach.{address_of}
 use Rattle.model_board.specs.SetUpWrites.{Writes, Setting, writes_of, settings}

@@ -1,4 +1,4 @@
-use Rattle.std.proofs.Common.{◌≡◌, take, map}
+use Rattle.std.proofs.Common.{◌≡◌, take}
 use Rattle.model_board.specs.FunctionTable.{board_in}
 use Rattle.model_board.specs.SetUpWrites.{settings}
 use Rattle.window_packing.proofs.settings.all_settings.Given as goal

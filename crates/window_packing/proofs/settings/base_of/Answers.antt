@@ -1,4 +1,4 @@
-use Rattle.std.proofs.Common.{◌≡◌, ◌+◌, ◌<◌, ℕ, List, [], ◌∷◌, length, map, Option, Some, ap, sym, ◌∙◌, subst, arith}
+use Rattle.std.proofs.Common.{◌≡◌, ℕ, List, [], ◌∷◌, length, map, Option, Some, ap, sym, ◌∙◌, subst, arith}
 use Rattle.std.specs.List.{slice_get}
 use Rattle.model_registers.specs.Lists.{Each}
 use Rattle.model_registers.specs.Declarations.{Bar, Region}
@@ -6,7 +6,7 @@ use Rattle.model_registers.specs.EndpointTable.{BaseAddress}
 use Rattle.model_board.specs.Paths.{last_part}
 use Rattle.model_board.specs.Board.{Row}
 use Rattle.model_board.specs.Pools.{bridges_above, pool_of}
-use Rattle.model_board.specs.Placement.{a_region, offset_in}
+use Rattle.model_board.specs.Placement.{a_region}
 use Rattle.model_board.specs.SetUpWrites.{placed_base}
 use Rattle.model_board.specs.FunctionTable.{TableRow, board_in}
 use Rattle.bars.specs.declared.region.Region.{Region as Based}

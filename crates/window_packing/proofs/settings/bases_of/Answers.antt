@@ -1,7 +1,6 @@
-use Rattle.std.proofs.Common.{◌≡◌, ℕ, ◌+◌, List, [], ◌∷◌, length, map, take, get_or, Option, Some, ap, sym, ◌∙◌, subst, arith}
+use Rattle.std.proofs.Common.{◌≡◌, ℕ, ◌+◌, [], ◌∷◌, length, map, take, get_or, Some, sym, ◌∙◌, subst, arith}
 use Rattle.std.specs.List.{slice_get, slice_set}
 use Rattle.std.proofs.lemmas.List.{length-set}
-use Rattle.model_registers.specs.Declarations.{Bar, Region}
 use Rattle.model_board.specs.Members.{IsIn}
 use Rattle.model_board.specs.SetUpWrites.{placed_base}
 use Rattle.model_board.specs.FunctionTable.{board_in}

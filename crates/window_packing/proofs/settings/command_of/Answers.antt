@@ -1,8 +1,8 @@
-use Rattle.std.proofs.Common.{◌≡◌, ℕ, ◌+◌, Bool, List, ap, ap₂, sym, ◌∙◌}
+use Rattle.std.proofs.Common.{ℕ, ◌+◌, Bool, ap, ap₂, sym, ◌∙◌}
 use Rattle.std.specs.Prelude.{if◌then◌else◌}
 use Rattle.std.specs.List.{list_any}
 use Rattle.model_registers.specs.Declarations.{Region}
-use Rattle.model_registers.specs.Decoding.{Space, io, memory, same_space, space_of}
+use Rattle.model_registers.specs.Decoding.{io, memory, same_space, space_of}
 use Rattle.window_packing.proofs.BarLists.{any_in_space}
 use Rattle.window_packing.proofs.settings.command_of.Goals as goal
 

@@ -1,7 +1,6 @@
-use Rattle.std.proofs.Common.{◌≡◌, ℕ, ◌+◌, ◌-◌, ◌<◌, ◌≤◌, ◌^◌, length, false, Some, List, [], get_or, set, ◌++◌, sym, ap, ◌∙◌, subst, arith}
-use Rattle.std.specs.Prelude.{slice_get, map, reverse}
+use Rattle.std.proofs.Common.{◌≡◌, ◌-◌, ◌<◌, ◌≤◌, ◌^◌, length, false, List, [], get_or, set, ◌++◌, sym, ap, ◌∙◌, subst, arith}
+use Rattle.std.specs.Prelude.{reverse}
 use Rattle.model_registers.specs.Lists.{Each}
-use Rattle.std.specs.List.Sorted.{IsPermutation}
 use Rattle.bridge_forward.proofs.Indices.{at_below, read_at, map_at}
 use Rattle.model_board.specs.FunctionTable.{TableRow, board_in}
 use Rattle.model_board.specs.Board.{Row}

@@ -1,0 +1,173 @@
+-- The world of a judged file is lawful.
+use Rattle.std.proofs.Common.{◌≡◌, ℕ, ◌≤◌, Bool, true, false, ◌&&◌, ◌||◌, not, cond, List, [], ◌∷◌, ◌++◌, map, length, nat_le, Option, Some, None, refl, sym, ap, ◌∙◌, subst, arith, leb-true, IsTrue, IsFalse, IsSome}
+use Rattle.std.specs.Prelude.{find, flat_map}
+use Rattle.std.specs.List.{list_all, list_any}
+use Rattle.std.specs.Option.{option_map_or}
+use Rattle.std.specs.Str.{bytes_eq}
+use Rattle.std.proofs.lemmas.Bool.{and_parts}
+use Rattle.std.proofs.lemmas.List.{length-map}
+use Rattle.model_registers.specs.Lists.{Each, EachPair, all_pairs}
+use Rattle.model_board.specs.Paths.{Path, path_eq}
+use Rattle.model_board.specs.Board.{Decl, endpoint, bridge, Row, Board, IsBoard, is_bridge, stands_at, is_bridge_at}
+use Rattle.model_board.specs.Places.{standing, has_path, has_bridge, board_of, AreLawfulPlaces}
+use Rattle.model_board.specs.Lawful.{HasLawfulDecls, IsLawfulDecl}
+use Rattle.model_board.proofs.PlacesLaw.{any_board, each_to_board, lawful_places_are_boards}
+use Rattle.model_registers.specs.Registers as registers
+use Rattle.model_board.specs.Reach.{row_at}
+use Rattle.model_board.specs.State.{State}
+use Rattle.model_board.specs.SetUp.{reset_state, reset_file}
+use Rattle.model_board.specs.AtReset.{board_at, IsAtReset}
+use Rattle.model_guests.specs.World as world
+use Rattle.model_guests.specs.World.{is_name, declared, HasLawfulGuests, IsLawfulWorld}
+use Rattle.board_file.specs.Entries.{Endpoint, Bridge, Guest, File}
+use Rattle.board_file.specs.Functions.{endpoint_row, bridge_row, rows, places, guest}
+use Rattle.board_file.specs.PathTexts.{is_path_text, path_at}
+use Rattle.board_file.specs.Rules.{ats, are_places, names, slots, is_endpoint, names_endpoint}
+use Rattle.board_file.specs.Judged.{IsJudged, IsShortGuest}
+use Rattle.board_file.specs.Meaning.{world_of}
+use Rattle.board_file.proofs.ListTests.{each_of_test, pairs_of_test, lawful_places}
+use Rattle.board_file.proofs.PathParts.{places_are_paths}
+
+-- ---- the board
+
+map_append : {A B : Type 0} (f : A → B) (xs ys : List A) → map f (xs ++ ys) ≡ map f xs ++ map f ys
+map_append f [] ys = refl
+map_append f (x ∷ xs) ys = ap (λ zs. f x ∷ zs) (map_append f xs ys)
+
+endpoint_places : (es : List Endpoint) → map standing (map endpoint_row es) ≡ map (λ e. record { path = path_at e.at; is_bridge = false }) es
+endpoint_places [] = refl
+endpoint_places (e ∷ es) = ap (λ ss. record { path = path_at e.at; is_bridge = false } ∷ ss) (endpoint_places es)
+
+bridge_places : (bs : List Bridge) → map standing (map bridge_row bs) ≡ map (λ b. record { path = path_at b.at; is_bridge = true }) bs
+bridge_places [] = refl
+bridge_places (b ∷ bs) = ap (λ ss. record { path = path_at b.at; is_bridge = true } ∷ ss) (bridge_places bs)
+
+places_of_rows : (f : File) → map standing (rows f) ≡ places f
+places_of_rows f = map_append standing (map endpoint_row f.endpoints) (map bridge_row f.bridges) ∙ rw (endpoint_places f.endpoints, bridge_places f.bridges) refl
+
+pub is_board : (f : File) → IsJudged f → IsBoard (board_of (rows f))
+is_board f j =
+    let (_, stand) = and_parts (list_all is_path_text (ats f)) (are_places (places f)) j.places in
+    let lawful = lawful_places (places f) (places_are_paths f) stand in
+    (lawful_places_are_boards (rows f)).0 (subst AreLawfulPlaces (sym (places_of_rows f)) lawful)
+
+-- ---- slots
+
+any_map : {A B : Type 0} (t : B → Bool) (f : A → B) (xs : List A) → list_any t (map f xs) ≡ list_any (λ x. t (f x)) xs
+any_map t f [] = refl
+any_map t f (x ∷ xs) = ap (λ b. t (f x) || b) (any_map t f xs)
+
+stands : (rs : List Row) (p : Path) → has_path (map standing rs) p ≡ stands_at (board_of rs) p
+stands rs p = any_map (λ s. path_eq s.path p) standing rs ∙ sym (any_board (λ r. path_eq r.path p) rs)
+
+bridges : (rs : List Row) (p : Path) → has_bridge (map standing rs) p ≡ is_bridge_at (board_of rs) p
+bridges rs p = any_map (λ s. s.is_bridge && path_eq s.path p) standing rs ∙ sym (any_board (λ r. is_bridge r.decl && path_eq r.path p) rs)
+
+-- where a function stands and no bridge does, an endpoint is declared
+finds : (b : Board) (p : Path) → stands_at b p ≡ true → is_bridge_at b p ≡ false → IsSome (declared b p)
+finds [] p h k = cc
+finds (r ∷ b) p h k = by_case r.decl (path_eq r.path p) h k (finds b p)
+  where
+    by_case : (d : Decl) (t : Bool) → (t || stands_at b p) ≡ true → ((is_bridge d && t) || is_bridge_at b p) ≡ false
+        → (stands_at b p ≡ true → is_bridge_at b p ≡ false → IsSome (declared b p))
+        → IsSome (option_map_or world.endpoint_of (cond {A = Option Row} t (Some (record { path = r.path; decl = d })) (find (λ r. path_eq r.path p) b)) None)
+    by_case (endpoint d) true h k more = refl
+    by_case (bridge d) true h k more = cc
+    by_case (endpoint d) false h k more = more h k
+    by_case (bridge d) false h k more = more h k
+
+names_slot : (f : File) (t : List ℕ) → names_endpoint (places f) t ≡ true → IsSome (declared (board_of (rows f)) (path_at t))
+names_slot f t h =
+    let (_, stand) = and_parts (is_path_text t) (is_endpoint (places f) (path_at t)) h in
+    let (there, no_bridge) = and_parts (has_path (places f) (path_at t)) (not (has_bridge (places f) (path_at t))) stand in
+    let same = places_of_rows f in
+    let there' : has_path (map standing (rows f)) (path_at t) ≡ true = rw same there in
+    let bridge' : has_bridge (map standing (rows f)) (path_at t) ≡ false = rw same (no_of_not (has_bridge (places f) (path_at t)) no_bridge) in
+    finds (board_of (rows f)) (path_at t) (sym (stands (rows f) (path_at t)) ∙ there') (sym (bridges (rows f) (path_at t)) ∙ bridge')
+  where
+    no_of_not : (b : Bool) → not b ≡ true → b ≡ false
+    no_of_not true h = cc
+    no_of_not false h = refl
+
+slots_named : (f : File) (ts : List (List ℕ)) → list_all (names_endpoint (places f)) ts ≡ true → Each (λ p. IsSome (declared (board_of (rows f)) p)) (map path_at ts)
+slots_named f [] h = tt
+slots_named f (t ∷ ts) h =
+    let (here, more) = and_parts (names_endpoint (places f) t) (list_all (names_endpoint (places f)) ts) h in
+    (names_slot f t here, slots_named f ts more)
+
+-- ---- guests
+
+same_names : (gs : List Guest) → map (λ g. g.name) (map guest gs) ≡ map (λ g. g.name) gs
+same_names [] = refl
+same_names (g ∷ gs) = ap (λ ns. g.name ∷ ns) (same_names gs)
+
+same_slots : (gs : List Guest) → flat_map (λ (g : world.Guest). g.slots) (map guest gs) ≡ map path_at (flat_map (λ (g : Guest). g.slots) gs)
+same_slots [] = refl
+same_slots (g ∷ gs) = ap (λ ps. map path_at g.slots ++ ps) (same_slots gs) ∙ sym (map_append path_at g.slots (flat_map (λ (g : Guest). g.slots) gs))
+
+few : (gs : List Guest) → list_all (λ g. nat_le (length g.slots) 32) gs ≡ true → Each (λ g. length g.slots ≤ 32) (map guest gs)
+few [] h = tt
+few (g ∷ gs) h =
+    let (here, more) = and_parts (nat_le (length g.slots) 32) (list_all (λ (g : Guest). nat_le (length g.slots) 32) gs) h in
+    (rw (length-map g.slots path_at) (leb-true (length g.slots) 32 here), few gs more)
+
+few_slots : (f : File) → IsJudged f → list_all (λ g. nat_le (length g.slots) 32) f.guests ≡ true
+few_slots f j = (and_parts _ (list_all (λ (g : Guest). nat_le (length g.slots) 32) f.guests) j.counts).1
+
+short_name : (n : List ℕ) → is_name n ≡ true → length n ≤ 16
+short_name [] h = omega arith
+short_name (c ∷ cs) h =
+    let (front, _) = and_parts (world.is_letter c && list_all world.is_name_byte cs && nat_le (length cs) 15) _ h in
+    let (_, le) = and_parts (world.is_letter c && list_all world.is_name_byte cs) (nat_le (length cs) 15) front in
+    let short = leb-true (length cs) 15 le in
+    omega arith
+
+short : (gs : List Guest) → list_all is_name (map (λ g. g.name) gs) ≡ true → list_all (λ g. nat_le (length g.slots) 32) gs ≡ true → Each IsShortGuest gs
+short [] h k = tt
+short (g ∷ gs) h k =
+    let (name, names) = and_parts (is_name g.name) (list_all is_name (map (λ (g : Guest). g.name) gs)) h in
+    let (slot, slots) = and_parts (nat_le (length g.slots) 32) (list_all (λ (g : Guest). nat_le (length g.slots) 32) gs) k in
+    (record { name = short_name g.name name; slots = leb-true (length g.slots) 32 slot }, short gs names slots)
+
+pub short_guests : (f : File) → IsJudged f → Each IsShortGuest f.guests
+short_guests f j = short f.guests (and_parts (list_all is_name (names f)) (all_pairs (λ m n. not (bytes_eq m n)) (names f)) j.names).0 (few_slots f j)
+
+lawful_guests : (f : File) → IsJudged f → HasLawfulGuests (world_of f)
+lawful_guests f j =
+    let (lawful, apart) = and_parts (list_all is_name (names f)) (all_pairs (λ m n. not (bytes_eq m n)) (names f)) j.names in
+    let (named, others) = and_parts (list_all (names_endpoint (places f)) (slots f)) (all_pairs (λ p q. not (path_eq p q)) (map path_at (slots f))) j.slots in
+    record {
+      lawful_names = subst (Each (λ n. IsTrue (is_name n))) (sym (same_names f.guests)) (each_of_test is_name (names f) lawful);
+      names_apart = subst (EachPair (λ m n. IsFalse (bytes_eq m n))) (sym (same_names f.guests)) (pairs_of_test bytes_eq (names f) apart);
+      few_slots = few f.guests (few_slots f j);
+      endpoints = subst (Each (λ p. IsSome (declared (board_of (rows f)) p))) (sym (same_slots f.guests)) (slots_named f (slots f) named);
+      paths_apart = subst (EachPair (λ p q. IsFalse (path_eq p q))) (sym (same_slots f.guests)) (pairs_of_test path_eq (map path_at (slots f)) others);
+    }
+
+pub lawful_world : (f : File) → IsJudged f → HasLawfulDecls (rows f) → IsLawfulWorld (world_of f)
+lawful_world f j h = record {
+  board = is_board f j;
+  functions = each_to_board (λ r. IsLawfulDecl r.decl) (rows f) h;
+  guests = lawful_guests f j;
+}
+
+-- ---- the state at reset
+
+rows_at_reset : (b : Board) (g : Path → Decl → registers.File) → map row_at (map (λ (r : Row). record { path = r.path; decl = r.decl; file = g r.path r.decl }) b) ≡ b
+rows_at_reset [] g = refl
+rows_at_reset (r ∷ b) g = ap (λ rs. r ∷ rs) (rows_at_reset b g)
+
+pub board_at_reset : (b : Board) → board_at (reset_state b).functions ≡ b
+board_at_reset b = rows_at_reset b (reset_file b)
+
+pub is_at_reset : (b : Board) (s : State) → IsBoard b → HasLawfulDecls b → s ≡ reset_state b → IsAtReset s
+is_at_reset b s board lawful e =
+    let same : board_at s.functions ≡ b = ap (λ (t : State). board_at t.functions) e ∙ board_at_reset b in
+    record {
+      board = subst IsBoard (sym same) board;
+      declarations = subst HasLawfulDecls (sym same) lawful;
+      registers = e ∙ sym (ap reset_state same);
+    }
+
+pub lawful_rows : (f : File) → HasLawfulDecls (rows f) → HasLawfulDecls (board_of (rows f))
+lawful_rows f h = each_to_board (λ r. IsLawfulDecl r.decl) (rows f) h

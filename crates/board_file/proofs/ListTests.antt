@@ -1,0 +1,142 @@
+-- Tests of lists, of sizes and of places, as facts.
+use Rattle.std.proofs.Common.{◌≡◌, ℕ, ◌+◌, ℤ, pos, negsuc, nat_abs, Bool, true, false, ◌&&◌, ◌||◌, not, cond, List, [], ◌∷◌, map, nat_le, le-leb, leb-true, count_by, refl, sym, inl, inr, ◌⊎◌, IsTrue, IsFalse}
+use Rattle.std.specs.Prelude.{int_le}
+use Rattle.std.specs.List.{list_all}
+use Rattle.std.specs.Int.{is_power_of_two}
+use Rattle.std.proofs.lemmas.Bool.{and_parts}
+use Rattle.std.proofs.lemmas.List.Folds.{list_all-map}
+use Rattle.std.proofs.lemmas.List.Sums.{sum_by-cons}
+use Rattle.model_registers.specs.Lists.{Each, EachPair, all_pairs}
+use Rattle.model_registers.specs.Declarations.{Kind, registers_of, least_size, greatest_size, IsLawfulSize}
+use Rattle.model_registers.specs.DeclarationRules.{uses, has_own_registers}
+use Rattle.model_board.specs.Paths.{Path, path_eq, parent, function_zero, IsPath}
+use Rattle.model_board.specs.Places.{Standing, has_path, has_bridge, IsFounded, AreLawfulPlaces}
+use Rattle.bars.proofs.Powers.{power_of_test, test_of_power}
+use Rattle.board_file.specs.Entries.{Bar}
+use Rattle.board_file.specs.Functions.{region}
+use Rattle.board_file.specs.Rules.{is_size, is_root, is_founded, are_places}
+
+-- ---- tests
+
+pub same_test : (a b : Bool) → (a ≡ true → b ≡ true) → (b ≡ true → a ≡ true) → a ≡ b
+same_test true b f g = sym (f refl)
+same_test false true f g = g refl
+same_test false false f g = refl
+
+-- ---- lists
+
+pub each_of_test : {A : Type 0} (p : A → Bool) (xs : List A) → list_all p xs ≡ true → Each (λ x. IsTrue (p x)) xs
+each_of_test p [] h = tt
+each_of_test p (x ∷ xs) h = let (here, more) = and_parts (p x) (list_all p xs) h in (here, each_of_test p xs more)
+
+pub test_of_each : {A : Type 0} (p : A → Bool) (xs : List A) → Each (λ x. IsTrue (p x)) xs → list_all p xs ≡ true
+test_of_each p [] h = refl
+test_of_each p (x ∷ xs) h = rw h.0 (test_of_each p xs h.1)
+
+false_of_not : (b : Bool) → not b ≡ true → b ≡ false
+false_of_not true h = cc
+false_of_not false h = refl
+
+none_of_test : {A : Type 0} (p : A → Bool) (xs : List A) → list_all (λ x. not (p x)) xs ≡ true → Each (λ x. IsFalse (p x)) xs
+none_of_test p [] h = tt
+none_of_test p (x ∷ xs) h = let (here, more) = and_parts (not (p x)) (list_all (λ x. not (p x)) xs) h in (false_of_not (p x) here, none_of_test p xs more)
+
+test_of_none : {A : Type 0} (p : A → Bool) (xs : List A) → Each (λ x. IsFalse (p x)) xs → list_all (λ x. not (p x)) xs ≡ true
+test_of_none p [] h = refl
+test_of_none p (x ∷ xs) h = rw h.0 (test_of_none p xs h.1)
+
+pub pairs_of_test : {A : Type 0} (r : A → A → Bool) (xs : List A) → all_pairs (λ x y. not (r x y)) xs ≡ true → EachPair (λ x y. IsFalse (r x y)) xs
+pairs_of_test r [] h = tt
+pairs_of_test r (x ∷ xs) h =
+    let (here, more) = and_parts (list_all (λ y. not (r x y)) xs) (all_pairs (λ x y. not (r x y)) xs) h in
+    (none_of_test (r x) xs here, pairs_of_test r xs more)
+
+pub test_of_pairs : {A : Type 0} (r : A → A → Bool) (xs : List A) → EachPair (λ x y. IsFalse (r x y)) xs → all_pairs (λ x y. not (r x y)) xs ≡ true
+test_of_pairs r [] h = refl
+test_of_pairs r (x ∷ xs) h = rw (test_of_none (r x) xs h.0) (test_of_pairs r xs h.1)
+
+count_map : {A B : Type 0} (p : B → Bool) (f : A → B) (xs : List A) → count_by p (map f xs) ≡ count_by (λ x. p (f x)) xs
+count_map p f [] = refl
+count_map p f (x ∷ xs) = rw (sum_by-cons (λ y. cond (p y) 1 0) (f x) (map f xs), sum_by-cons (λ y. cond (p (f y)) 1 0) x xs, count_map p f xs) refl
+
+-- ---- registers and sizes
+
+-- the registers of regions, asked of the tables that declare them
+pub registers_of_bars : (bars : List Bar)
+    → has_own_registers (map region bars)
+    ≡ (list_all (λ b. nat_le ((region b).index + registers_of (region b).kind) 6) bars
+    && list_all (λ n. nat_le (count_by (λ b. uses n (region b)) bars) 1) (0 ∷ 1 ∷ 2 ∷ 3 ∷ 4 ∷ 5 ∷ []))
+registers_of_bars bars =
+    rw (
+      list_all-map (λ r. nat_le (r.index + registers_of r.kind) 6) region bars,
+      count_map (uses 0) region bars,
+      count_map (uses 1) region bars,
+      count_map (uses 2) region bars,
+      count_map (uses 3) region bars,
+      count_map (uses 4) region bars,
+      count_map (uses 5) region bars,
+    ) refl
+
+pub lawful_size : (kind : Kind) (n : ℤ) → is_size kind n ≡ true → IsLawfulSize kind (nat_abs n)
+lawful_size kind (pos n) h =
+    let (limits, power) = and_parts (int_le (pos (least_size kind)) (pos n) && int_le (pos n) (pos (greatest_size kind))) (is_power_of_two n) h in
+    let (least, greatest) = and_parts (nat_le (least_size kind) n) (nat_le n (greatest_size kind)) limits in
+    record { power = power_of_test n power; not_less = leb-true (least_size kind) n least; not_more = leb-true n (greatest_size kind) greatest }
+lawful_size kind (negsuc n) h = cc
+
+size_of_lawful : (kind : Kind) (n : ℕ) → IsLawfulSize kind n → is_size kind (pos n) ≡ true
+size_of_lawful kind n h =
+    let power : is_power_of_two n ≡ true = test_of_power n h.power in
+    let least : nat_le (least_size kind) n ≡ true = le-leb (least_size kind) n h.not_less in
+    let greatest : nat_le n (greatest_size kind) ≡ true = le-leb n (greatest_size kind) h.not_more in
+    rw (power, least, greatest) refl
+
+pub size_test : (kind : Kind) (n : ℤ) (t : Bool) → int_le (pos 0) n ≡ true → (t ≡ true → IsLawfulSize kind (nat_abs n)) → (IsLawfulSize kind (nat_abs n) → t ≡ true) → t ≡ is_size kind n
+size_test kind (pos n) t h f g = same_test t (is_size kind (pos n)) (λ k. size_of_lawful kind n (f k)) (λ k. g (lawful_size kind (pos n) k))
+size_test kind (negsuc n) t h f g = cc
+
+-- ---- places
+
+root_of_test : (p : Path) → is_root p ≡ true → p ≡ []
+root_of_test [] h = refl
+root_of_test (x ∷ p) h = cc
+
+either : (a b : Bool) → (a || b) ≡ true → (a ≡ true) ⊎ (b ≡ true)
+either true b h = inl refl
+either false b h = inr h
+
+module _ (ss : List Standing) where
+  founded : (s : Standing) → IsPath s.path → is_founded ss s ≡ true → IsFounded ss s
+  founded s path h =
+      let (behind, at_zero) = and_parts (is_root (parent s.path) || has_bridge ss (parent s.path)) (has_path ss (function_zero s.path)) h in
+      record {
+        path = path;
+        behind_bridge = elim (either (is_root (parent s.path)) (has_bridge ss (parent s.path)) behind) [ inl root ↦ inl (root_of_test (parent s.path) root) | inr bridge ↦ inr bridge ];
+        function_zero = at_zero;
+      }
+
+  test_of_founded : (s : Standing) → IsFounded ss s → is_founded ss s ≡ true
+  test_of_founded s h = rw h.function_zero (by_case (parent s.path) h.behind_bridge)
+    where
+      by_case : (p : Path) → (p ≡ []) ⊎ IsTrue (has_bridge ss p) → ((is_root p || has_bridge ss p) && true) ≡ true
+      by_case p (inl e) = rw e refl
+      by_case [] (inr b) = refl
+      by_case (x ∷ p) (inr b) = rw b refl
+
+  all_founded : (ts : List Standing) → Each (λ t. IsPath t.path) ts → list_all (is_founded ss) ts ≡ true → Each (IsFounded ss) ts
+  all_founded [] paths h = tt
+  all_founded (t ∷ ts) paths h =
+      let (here, more) = and_parts (is_founded ss t) (list_all (is_founded ss) ts) h in
+      (founded t paths.0 here, all_founded ts paths.1 more)
+
+  test_of_all_founded : (ts : List Standing) → Each (IsFounded ss) ts → list_all (is_founded ss) ts ≡ true
+  test_of_all_founded [] h = refl
+  test_of_all_founded (t ∷ ts) h = rw (test_of_founded t h.0) (test_of_all_founded ts h.1)
+
+pub lawful_places : (ss : List Standing) → Each (λ s. IsPath s.path) ss → are_places ss ≡ true → AreLawfulPlaces ss
+lawful_places ss paths h =
+    let (founded, apart) = and_parts (list_all (is_founded ss) ss) (all_pairs (λ s t. not (path_eq t.path s.path)) ss) h in
+    record { founded = all_founded ss ss paths founded; apart = pairs_of_test (λ s t. path_eq t.path s.path) ss apart }
+
+pub test_of_places : (ss : List Standing) → AreLawfulPlaces ss → are_places ss ≡ true
+test_of_places ss h = rw (test_of_all_founded ss ss h.founded) (test_of_pairs (λ s t. path_eq t.path s.path) ss h.apart)

@@ -1,0 +1,14 @@
+use Rattle.std.proofs.Common.{◌≡◌, ◌++◌, map, drop, IsTrue}
+use Rattle.std.specs.List.{list_all}
+use Rattle.model_board.specs.Lawful.{HasLawfulDecls}
+use Rattle.board_file.specs.Functions.{endpoint_row}
+use Rattle.board_file.specs.Judged.{is_declarable}
+use Rattle.board_file.specs.Rules.{masks_hold}
+use Rattle.board_file.proofs.board.endpoint_decls.Given as goal
+
+abbrev pub invariant-entries : goal.invariant-entries
+invariant-entries l =
+    IsTrue (list_all is_declarable (drop l.entry-index l.entries))
+    × (list_all masks_hold (drop l.entry-index l.entries) ≡ list_all masks_hold l.entries)
+    × (l.decls.items ++ map endpoint_row (drop l.entry-index l.entries) ≡ map endpoint_row l.entries)
+    × HasLawfulDecls l.decls.items

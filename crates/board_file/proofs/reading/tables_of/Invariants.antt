@@ -1,0 +1,11 @@
+use Rattle.std.proofs.Common.{◌≡◌, ◌++◌, map, drop}
+use Rattle.std.specs.List.{filter_map}
+use Rattle.toml.specs.Data.{as_table}
+use Rattle.toml.specs.View.{items_view, table_view}
+use Rattle.board_file.specs.Schema.{list_of}
+use Rattle.board_file.proofs.reading.tables_of.Given as goal
+
+abbrev pub invariant-items : goal.invariant-items
+invariant-items l =
+    map (λ t. table_view t.now) l.tables.items ++ filter_map as_table (list_of (items_view (drop l.item-index l.item-items)))
+    ≡ filter_map as_table (list_of (items_view l.item-items))

@@ -1,0 +1,54 @@
+-- The bytes at the beginning of a region or of a device's own registers, from the patterns that a board file gives.
+--     pattern n text      the bytes of hexadecimal text of 1 to n bytes
+--     is_block n p, block_cells n p      the patterns give n cells, and these cells
+--     Gives t found P      a value of which P holds where the test t does, and none where it does not
+use Rattle.std.specs.Prelude.{ℕ, ◌%◌, ◌==◌, nat_le, Bool, true, false, ◌≡◌, MatchOption, ◌&&◌, List, [], ◌∷◌, length, map, slice_index, Option, Some, None, is_some, unwrap_or, Result, Ok, Err, if◌then◌else◌, bit_and}
+use Rattle.std.specs.List.{list_all, range_with_len}
+use Rattle.hex.specs.Hex.{decode_of}
+use Rattle.hex.specs.declared.error.FromHexError.{FromHexError}
+use Rattle.model_registers.specs.Cell.{Cell}
+use Rattle.board_file.specs.Entries.{Patterns}
+
+abbrev pub Gives : {A : Type 0} → Bool → Option A → (A → Type 0) → Type 0
+Gives t found P = MatchOption found (t ≡ false) (λ x. (t ≡ true) × P x)
+
+abbrev pub of_size : ℕ → Result (List ℕ) FromHexError → Option (List ℕ)
+of_size n (Ok bytes) = if nat_le 1 (length bytes) && nat_le (length bytes) n then Some bytes else None
+of_size n (Err e) = None
+
+abbrev pub pattern : ℕ → List ℕ → Option (List ℕ)
+pattern n text = of_size n (decode_of text)
+
+-- an absent pattern is a zero byte
+abbrev pub is_pattern : ℕ → Option (List ℕ) → Bool
+is_pattern n None = true
+is_pattern n (Some text) = is_some (pattern n text)
+
+abbrev pub pattern_bytes : ℕ → Option (List ℕ) → List ℕ
+pattern_bytes n None = 0 ∷ []
+pattern_bytes n (Some text) = unwrap_or (pattern n text) (0 ∷ [])
+
+-- a pattern is repeated
+abbrev pub byte_at : List ℕ → ℕ → ℕ
+byte_at bytes i = slice_index bytes (i % length bytes)
+
+-- no bit is in both masks
+abbrev pub is_apart : List ℕ → List ℕ → ℕ → Bool
+is_apart writable clearable i = bit_and (byte_at writable i) (byte_at clearable i) == 0
+
+abbrev pub are_apart : ℕ → List ℕ → List ℕ → Bool
+are_apart n writable clearable = list_all (is_apart writable clearable) (range_with_len 0 n)
+
+abbrev pub cell : List ℕ → List ℕ → List ℕ → ℕ → Cell
+cell reset writable clearable i = record { value = byte_at reset i; writable = byte_at writable i; clearable = byte_at clearable i }
+
+abbrev pub cells : ℕ → List ℕ → List ℕ → List ℕ → List Cell
+cells n reset writable clearable = map (cell reset writable clearable) (range_with_len 0 n)
+
+abbrev pub is_block : ℕ → Patterns → Bool
+is_block n p =
+    is_pattern n p.reset && is_pattern n p.writable && is_pattern n p.clearable
+    && are_apart n (pattern_bytes n p.writable) (pattern_bytes n p.clearable)
+
+abbrev pub block_cells : ℕ → Patterns → List Cell
+block_cells n p = cells n (pattern_bytes n p.reset) (pattern_bytes n p.writable) (pattern_bytes n p.clearable)

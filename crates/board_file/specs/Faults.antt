@@ -1,0 +1,19 @@
+-- The numbers of refused board files.
+use Rattle.std.specs.Prelude.{ℕ}
+use Rattle.board_file.specs.declared.fault.BoardFault.{BoardFault}
+use Rattle.board_file.specs.declared.fault.BoardFault.TheVariants.{NotToml, Key, UnknownKey, Number, Place, Register, Size, TooMany, GuestName, Slot, Aperture, CellMasks, Memory}
+
+abbrev pub number_of : BoardFault → ℕ
+number_of NotToml = 101
+number_of Key = 102
+number_of UnknownKey = 103
+number_of Number = 104
+number_of Place = 105
+number_of Register = 106
+number_of Size = 107
+number_of TooMany = 108
+number_of GuestName = 109
+number_of Slot = 110
+number_of Aperture = 111
+number_of CellMasks = 112
+number_of Memory = 199

@@ -1,0 +1,70 @@
+-- What the tables of a board file declare, where they keep the rules.
+--     region, config_block, endpoint, bridge      what the tables of a function declare
+--     places, rows      where functions stand, and the functions there
+--     apertures, guests      the addresses that set-up may give out, and the guests
+use Rattle.std.specs.Prelude.{nat_abs, true, false, List, ◌++◌, map, option_map}
+use Rattle.model_registers.specs.Apertures.{Aperture, Apertures}
+use Rattle.model_registers.specs.Declarations.{Region, ConfigBlock}
+use Rattle.model_registers.specs.Declarations as declared
+use Rattle.model_registers.specs.DeclarationRules.{with_ordered_regions}
+use Rattle.model_board.specs.Board.{Row}
+use Rattle.model_board.specs.Board as board
+use Rattle.model_board.specs.Places.{Standing}
+use Rattle.model_guests.specs.World as world
+use Rattle.board_file.specs.Entries.{Bar, Config, Endpoint, Bridge, Guest, File}
+use Rattle.board_file.specs.declared.entries.Bounds.{Bounds}
+use Rattle.board_file.specs.Blocks.{block_cells}
+use Rattle.board_file.specs.PathTexts.{path_at}
+
+abbrev pub region : Bar → Region
+region b = record { index = nat_abs b.index; kind = b.kind; size = nat_abs b.size; cells = block_cells (nat_abs b.block) b.patterns }
+
+abbrev pub config_block : Config → ConfigBlock
+config_block c = record { offset = nat_abs c.off; cells = block_cells (nat_abs c.block) c.patterns }
+
+-- regions in the order of the file
+abbrev pub endpoint_values : Endpoint → declared.Endpoint
+endpoint_values e = record {
+  vendor = nat_abs e.vendor;
+  device = nat_abs e.device;
+  revision = nat_abs e.revision;
+  class = nat_abs e.class;
+  subvendor = nat_abs e.subvendor;
+  subsystem = nat_abs e.subsystem;
+  pin = nat_abs e.pin;
+  min_gnt = nat_abs e.min_gnt;
+  max_lat = nat_abs e.max_lat;
+  status = nat_abs e.status;
+  regions = map region e.bars;
+  blocks = map config_block e.configs;
+}
+
+abbrev pub endpoint : Endpoint → declared.Endpoint
+endpoint e = with_ordered_regions (endpoint_values e)
+
+abbrev pub bridge : Bridge → declared.Bridge
+bridge b = record { vendor = nat_abs b.vendor; device = nat_abs b.device; revision = nat_abs b.revision; io = b.io; pref = b.pref }
+
+abbrev pub places : File → List Standing
+places f = map (λ e. record { path = path_at e.at; is_bridge = false }) f.endpoints ++ map (λ b. record { path = path_at b.at; is_bridge = true }) f.bridges
+
+abbrev pub endpoint_row : Endpoint → Row
+endpoint_row e = record { path = path_at e.at; decl = board.endpoint (endpoint e) }
+
+abbrev pub bridge_row : Bridge → Row
+bridge_row b = record { path = path_at b.at; decl = board.bridge (bridge b) }
+
+abbrev pub rows : File → List Row
+rows f = map endpoint_row f.endpoints ++ map bridge_row f.bridges
+
+abbrev pub aperture : Bounds → Aperture
+aperture b = record { first = nat_abs b.first; last = nat_abs b.last }
+
+abbrev pub apertures : File → Apertures
+apertures f = record { io = aperture f.io; mem = aperture f.mem; pref = option_map aperture f.pref }
+
+abbrev pub guest : Guest → world.Guest
+guest g = record { name = g.name; slots = map path_at g.slots }
+
+abbrev pub guests : File → List world.Guest
+guests f = map guest f.guests

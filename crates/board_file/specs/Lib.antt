@@ -1,0 +1,10 @@
+pub mod Texts
+pub mod Schema
+pub mod Entries
+pub mod PathTexts
+pub mod Blocks
+pub mod Functions
+pub mod Rules
+pub mod Judged
+pub mod Faults
+pub mod Meaning

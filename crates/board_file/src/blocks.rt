@@ -1,0 +1,88 @@
+//! The bytes at the beginning of a region or of a device's own registers.
+ghost use Rattle.std.specs.Prelude.{◌≡◌, ◌<◌, IfOk, length, option_map};
+ghost use Rattle.board_file.specs.Blocks.{pattern, is_pattern, pattern_bytes, are_apart, cells, is_block, block_cells, Gives};
+
+use crate::entries::PatternTexts;
+use config_bytes::Cell;
+use hex::FromHexError;
+use std::alloc::{AllocError, Global};
+
+/// The bytes of hexadecimal text of 1 to `len` bytes.
+fn pattern(alloc: Global, text: &str, len: usize) -> Result<Option<Vec<u8>>, AllocError>
+    ensures { IfOk result (λ found. option_map (λ v. v.items) found ≡ pattern len text.now) }
+{
+    match hex::decode(alloc, text.as_bytes()) {
+        Ok(bytes) => {
+            if 1 <= bytes.len() && bytes.len() <= len {
+                Ok(Some(bytes))
+            } else {
+                Ok(None)
+            }
+        }
+        Err(FromHexError::OutOfMemory) => Err(AllocError),
+        Err(_) => Ok(None),
+    }
+}
+
+/// The bytes of a pattern, a zero byte where it is absent.
+fn pattern_bytes(
+    alloc: Global,
+    text: Option<&str>,
+    len: usize,
+) -> Result<Option<Vec<u8>>, AllocError>
+    ensures { let given = option_map (λ s. s.now) text.entry in
+        IfOk result (λ found. Gives (is_pattern len given) found (λ v. (v.items ≡ pattern_bytes len given) × (0 < length v.items))) }
+{
+    match text {
+        Some(text) => pattern(alloc, text, len),
+        None => {
+            let mut zero = Vec::new(alloc);
+            zero.push(0)?;
+            Ok(Some(zero))
+        }
+    }
+}
+
+/// The cells of patterns that are repeated, where no bit is in both masks.
+fn cells(
+    alloc: Global,
+    len: usize,
+    reset: &[u8],
+    rw: &[u8],
+    w1c: &[u8],
+) -> Result<Option<Vec<Cell>>, AllocError>
+    requires reset { 0 < length reset.now }
+    requires rw { 0 < length rw.now }
+    requires w1c { 0 < length w1c.now }
+    ensures { IfOk result (λ found. Gives (are_apart len rw.now w1c.now) found (λ v. v.items ≡ cells len reset.now rw.now w1c.now)) }
+{
+    let mut cells = Vec::new(alloc);
+    for i in 0..len {
+        let value = reset[i % reset.len()];
+        match Cell::new(value, rw[i % rw.len()], w1c[i % w1c.len()]) {
+            Ok(cell) => cells.push(cell)?,
+            Err(_) => return Ok(None),
+        }
+    }
+    Ok(Some(cells))
+}
+
+/// The cells of a block, where its patterns are lawful.
+pub(crate) fn block(
+    alloc: Global,
+    len: usize,
+    patterns: &PatternTexts<'_>,
+) -> Result<Option<Vec<Cell>>, AllocError>
+    ensures { IfOk result (λ found. Gives (is_block len patterns.now) found (λ v. v.items ≡ block_cells len patterns.now)) }
+{
+    let Some(reset) = pattern_bytes(alloc, patterns.reset, len)? else {
+        return Ok(None);
+    };
+    let Some(rw) = pattern_bytes(alloc, patterns.rw, len)? else {
+        return Ok(None);
+    };
+    let Some(w1c) = pattern_bytes(alloc, patterns.w1c, len)? else {
+        return Ok(None);
+    };
+    cells(alloc, len, &reset, &rw, &w1c)
+}

@@ -1,0 +1,158 @@
+//! Reading a board file.
+ghost use Rattle.std.specs.Prelude.{◌≡◌, ◌≢◌, ◌++◌, ◌⊎◌, IsTrue, IfOk, IfErr, IsUtf8, map, Ok, Err, true, false};
+ghost use Rattle.std.specs.List.{list_all};
+ghost use Rattle.toml.specs.View.{table_view};
+ghost use Rattle.toml.specs.Parse.{parse_document};
+ghost use Rattle.model_registers.specs.Lists.{Each};
+ghost use Rattle.model_board.specs.AtReset.{IsAtReset};
+ghost use Rattle.model_board.specs.Board.{IsBoard};
+ghost use Rattle.model_board.specs.Lawful.{HasLawfulDecls};
+ghost use Rattle.model_board.specs.Places.{board_of};
+ghost use Rattle.model_board.specs.SetUp.{reset_state};
+ghost use Rattle.model_guests.specs.World.{IsLawfulWorld};
+ghost use Rattle.board_file.specs.Blocks.{Gives};
+ghost use Rattle.board_file.specs.Entries.{file};
+ghost use Rattle.board_file.specs.Functions as said;
+ghost use Rattle.board_file.specs.Judged.{IsJudged, is_declarable, IsShortGuest};
+ghost use Rattle.board_file.specs.Rules.{is_lawful_bridge, masks_hold};
+ghost use Rattle.board_file.specs.Meaning.{world_in, world_of, meaning, document_meaning};
+ghost use Rattle.board_file.specs.Faults.{number_of};
+ghost use Rattle.board_file.specs.declared.fault.BoardFault.TheVariants.{NotToml, Memory, CellMasks};
+
+use crate::apertures::apertures;
+use crate::building::{bridge, endpoint, guest};
+use crate::entries::{BridgeEntry, EndpointEntry, FileEntries, GuestEntry};
+use crate::fault::BoardFault;
+use crate::judging::{first_fault, form_fault};
+use crate::path_text::path_at;
+use crate::reading::read_entries;
+use bridge_forward::{Bus, Decl, Declared};
+use headers::Apertures;
+use host_bridge::Host;
+use monitor::GuestDecl;
+use std::alloc::{AllocError, Global};
+use toml::Table;
+
+/// The endpoints, where their patterns are lawful.
+fn endpoint_decls(
+    alloc: Global,
+    entries: &[EndpointEntry<'_>],
+) -> Result<Option<Vec<Decl>>, AllocError>
+    requires { IsTrue (list_all is_declarable entries.now) }
+    ensures { IfOk result (λ found. Gives (list_all masks_hold entries.now) found (λ v. (v.items ≡ map said.endpoint_row entries.now) × HasLawfulDecls v.items)) }
+{
+    let mut decls = Vec::new(alloc);
+    'entries: for entry in entries {
+        match endpoint(alloc, entry)? {
+            Some(decl) => decls.push(Decl {
+                path: path_at(entry.at),
+                function: Declared::Endpoint(decl),
+            })?,
+            None => return Ok(None),
+        }
+    }
+    Ok(Some(decls))
+}
+
+/// The bridges after the other functions. None of them is refused, since they were judged.
+fn with_bridges(decls: Vec<Decl>, entries: &[BridgeEntry<'_>]) -> Result<Vec<Decl>, AllocError>
+    requires bridges { IsTrue (list_all is_lawful_bridge entries.now) }
+    requires lawful { HasLawfulDecls decls.items }
+    ensures { IfOk result (λ v. (v.items ≡ decls.items ++ map said.bridge_row entries.now) × HasLawfulDecls v.items) }
+{
+    let mut decls = decls;
+    'entries: for entry in entries {
+        if let Ok(decl) = bridge(entry) {
+            decls.push(Decl {
+                path: path_at(entry.at),
+                function: Declared::Bridge(decl),
+            })?;
+        }
+    }
+    Ok(decls)
+}
+
+/// All functions, where the patterns are lawful.
+fn decls(alloc: Global, file: &FileEntries<'_>) -> Result<Option<Vec<Decl>>, AllocError>
+    requires { IsJudged file.now }
+    ensures { IfOk result (λ found. Gives (list_all masks_hold file.now.endpoints) found (λ v. (v.items ≡ said.rows file.now) × HasLawfulDecls v.items)) }
+{
+    match endpoint_decls(alloc, &file.endpoints)? {
+        Some(endpoints) => Ok(Some(with_bridges(endpoints, &file.bridges)?)),
+        None => Ok(None),
+    }
+}
+
+/// The guests.
+fn guests(alloc: Global, entries: &[GuestEntry<'_>]) -> Result<Vec<GuestDecl>, AllocError>
+    requires { Each IsShortGuest entries.now }
+    ensures { IfOk result (λ v. v.items ≡ map said.guest entries.now) }
+{
+    let mut guests = Vec::new(alloc);
+    'entries: for entry in entries {
+        guests.push(guest(entry))?;
+    }
+    Ok(guests)
+}
+
+/// The host over these functions, at reset.
+fn host(alloc: Global, decls: Vec<Decl>, apertures: Apertures) -> Result<Host, AllocError>
+    requires { IsBoard (board_of decls.items) }
+    ensures { IfOk result (λ h. h ≡ record { state = reset_state (board_of decls.items); apertures = apertures }) }
+{
+    Ok(Host::new(Bus::build(alloc, decls)?, apertures))
+}
+
+/// The host and the guests of a judged file. Only its patterns are still judged.
+fn build(alloc: Global, file: &FileEntries<'_>) -> Result<(Host, Vec<GuestDecl>), BoardFault>
+    requires { IsJudged file.now }
+    ensures masks { IfOk result (λ r. list_all masks_hold file.now.endpoints ≡ true) }
+    ensures world { IfOk result (λ r. world_in r.0 r.1.items ≡ world_of file.now) }
+    ensures reset { IfOk result (λ r. IsAtReset r.0.state) }
+    ensures lawful { IfOk result (λ r. IsLawfulWorld (world_of file.now)) }
+    ensures refused { IfErr result (λ e. (e ≡ Memory) ⊎ ((e ≡ CellMasks) × (list_all masks_hold file.now.endpoints ≡ false))) }
+{
+    let apertures = apertures(file)?;
+    let decls = match decls(alloc, file)? {
+        Some(decls) => decls,
+        None => return Err(BoardFault::CellMasks),
+    };
+    let host = host(alloc, decls, apertures)?;
+    let guests = guests(alloc, &file.guests)?;
+    Ok((host, guests))
+}
+
+/// The host at reset and the guests of a table.
+fn read_table(alloc: Global, table: &Table) -> Result<(Host, Vec<GuestDecl>), BoardFault>
+    ensures world { IfOk result (λ r. meaning (table_view table.now) ≡ Ok (world_in r.0 r.1.items)) }
+    ensures reset { IfOk result (λ r. IsAtReset r.0.state) }
+    ensures lawful { IfOk result (λ r. IsLawfulWorld (world_in r.0 r.1.items)) }
+    ensures refused { IfErr result (λ e. e ≢ Memory → meaning (table_view table.now) ≡ Err (number_of e)) }
+{
+    let file = read_entries(alloc, table)?;
+    if let Some(fault) = form_fault(table) {
+        return Err(fault);
+    }
+    match first_fault(alloc, &file)? {
+        Some(fault) => Err(fault),
+        None => build(alloc, &file),
+    }
+}
+
+/// The host bridge over the board that a file declares, at reset and with address latch 0, and the
+/// guests in the order of the file. A file that fails a check is refused with the first check that
+/// fails over the whole file, in the order 101, 102, 103, 104, 108, 105, 106, 107, 109, 110, 111,
+/// 112; bytes that are not UTF-8 are no TOML. Want of memory is answered at any point.
+pub fn read_board(alloc: Global, bytes: &[u8]) -> Result<(Host, Vec<GuestDecl>), BoardFault>
+    ensures world { IfOk result (λ r. IsUtf8 bytes.now × (document_meaning (parse_document bytes.now) ≡ Ok (world_in r.0 r.1.items))) }
+    ensures reset { IfOk result (λ r. IsAtReset r.0.state) }
+    ensures lawful { IfOk result (λ r. IsLawfulWorld (world_in r.0 r.1.items)) }
+    ensures refused { IfErr result (λ e. e ≢ Memory → IsUtf8 bytes.now → document_meaning (parse_document bytes.now) ≡ Err (number_of e)) }
+    ensures not_text { IfErr result (λ e. e ≢ Memory → ¬ IsUtf8 bytes.now → e ≡ NotToml) }
+{
+    match toml::table_from_slice(alloc, bytes) {
+        Ok(table) => read_table(alloc, &table),
+        Err(e) if e.is_memory() => Err(BoardFault::Memory),
+        Err(_) => Err(BoardFault::NotToml),
+    }
+}

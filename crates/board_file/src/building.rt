@@ -1,0 +1,211 @@
+//! The declarations of functions and guests, from entries that were judged.
+ghost use Rattle.std.specs.Prelude.{◌≡◌, ◌<◌, ◌≤◌, ◌^◌, nat_abs, if◌then◌else◌, IsTrue, IsOk, IfOk, map, length};
+ghost use Rattle.std.specs.List.{list_all};
+ghost use Rattle.model_registers.specs.DeclarationRules.{first_broken, endpoint_rules, blocks_apart, with_ordered_regions, IsLawfulEndpoint, IsLawfulBridge};
+ghost use Rattle.model_registers.specs.Lists.{all_pairs};
+ghost use Rattle.bars.specs.Kinds.{kind_of};
+ghost use Rattle.board_file.specs.Blocks.{Gives};
+ghost use Rattle.board_file.specs.Functions as said;
+ghost use Rattle.board_file.specs.PathTexts.{path_at};
+ghost use Rattle.board_file.specs.Judged.{is_region, is_declarable, HasSmallNumbers};
+ghost use Rattle.board_file.specs.Rules.{is_size, is_config_block, bar_holds, config_holds, masks_hold};
+
+use crate::blocks::block;
+use crate::entries::{BarEntry, BridgeEntry, ConfigEntry, EndpointEntry, GuestEntry};
+use crate::path_text::path_at;
+use arrayvec::{ArrayString, ArrayVec};
+use bars::{BarDecl, BarFault, Kind};
+use bridge_forward::Path;
+use headers::{BridgeDecl, ConfigBlock, DeclFault, EndpointDecl, EndpointValues, Region};
+use monitor::GuestDecl;
+use std::alloc::{AllocError, Global};
+
+/// The number, where it is not negative.
+fn natural(number: i64) -> u64
+    ensures { result ≡ nat_abs number }
+{
+    number.unsigned_abs()
+}
+
+fn byte(number: i64) -> u8
+    requires { nat_abs number < 2 ^ 8 }
+    ensures { result ≡ nat_abs number }
+{
+    natural(number) as u8
+}
+
+fn half_word(number: i64) -> u16
+    requires { nat_abs number < 2 ^ 16 }
+    ensures { result ≡ nat_abs number }
+{
+    natural(number) as u16
+}
+
+/// What a base address register opens.
+fn bar_decl(kind: Kind, size: i64) -> Result<BarDecl, BarFault>
+    requires { IsTrue (is_size (kind_of kind) size) }
+    ensures taken { IsOk result }
+    ensures value { IfOk result (λ d. d ≡ record { kind = kind_of kind; size = nat_abs size }) }
+{
+    BarDecl::new(kind, natural(size))
+}
+
+/// The region that a table declares, where its patterns are lawful.
+fn region(alloc: Global, bar: &BarEntry<'_>) -> Result<Option<Region>, AllocError>
+    requires block { nat_abs bar.now.block ≤ 4096 }
+    requires index { nat_abs bar.now.index ≤ 5 }
+    requires size { IsTrue (is_size bar.now.kind bar.now.size) }
+    ensures { IfOk result (λ found. Gives (bar_holds bar.now) found (λ r. r ≡ said.region bar.now)) }
+{
+    match block(alloc, natural(bar.block) as usize, &bar.patterns)? {
+        Some(block) => match bar_decl(bar.kind, bar.size) {
+            Ok(decl) => Ok(Some(Region {
+                index: byte(bar.index),
+                bar: decl,
+                block,
+            })),
+            Err(_) => Ok(None),
+        },
+        None => Ok(None),
+    }
+}
+
+fn regions(alloc: Global, bars: &[BarEntry<'_>]) -> Result<Option<Vec<Region>>, AllocError>
+    requires { IsTrue (list_all is_region bars.now) }
+    ensures { IfOk result (λ found. Gives (list_all bar_holds bars.now) found (λ v. v.items ≡ map said.region bars.now)) }
+{
+    let mut regions = Vec::new(alloc);
+    'bars: for bar in bars {
+        match region(alloc, bar)? {
+            Some(region) => regions.push(region)?,
+            None => return Ok(None),
+        }
+    }
+    Ok(Some(regions))
+}
+
+/// The registers of its own that a device declares, where the patterns are lawful.
+fn config_block(alloc: Global, config: &ConfigEntry<'_>) -> Result<Option<ConfigBlock>, AllocError>
+    requires { nat_abs config.now.off < 2 ^ 16 }
+    ensures { IfOk result (λ found. Gives (config_holds config.now) found (λ b. b ≡ said.config_block config.now)) }
+{
+    match block(alloc, natural(config.block) as usize, &config.patterns)? {
+        Some(block) => Ok(Some(ConfigBlock {
+            off: half_word(config.off),
+            block,
+        })),
+        None => Ok(None),
+    }
+}
+
+fn config_blocks(
+    alloc: Global,
+    configs: &[ConfigEntry<'_>],
+) -> Result<Option<Vec<ConfigBlock>>, AllocError>
+    requires { IsTrue (list_all is_config_block configs.now) }
+    ensures { IfOk result (λ found. Gives (list_all config_holds configs.now) found (λ v. v.items ≡ map said.config_block configs.now)) }
+{
+    let mut blocks = Vec::new(alloc);
+    'configs: for config in configs {
+        match config_block(alloc, config)? {
+            Some(block) => blocks.push(block)?,
+            None => return Ok(None),
+        }
+    }
+    Ok(Some(blocks))
+}
+
+/// The values of an endpoint, with these regions and registers of its own.
+fn values(entry: &EndpointEntry<'_>, bar: Vec<Region>, config: Vec<ConfigBlock>) -> EndpointValues
+    requires { HasSmallNumbers entry.now }
+    ensures { result ≡ record (said.endpoint_values entry.now) { regions = bar.items; blocks = config.items } }
+{
+    EndpointValues {
+        vendor: half_word(entry.vendor),
+        device: half_word(entry.device),
+        revision: byte(entry.revision),
+        class: natural(entry.class) as u32,
+        subvendor: half_word(entry.subvendor),
+        subsystem: half_word(entry.subsystem),
+        pin: byte(entry.pin),
+        min_gnt: byte(entry.min_gnt),
+        max_lat: byte(entry.max_lat),
+        status: half_word(entry.status),
+        bar,
+        config,
+    }
+}
+
+/// The endpoint with these values, where its own registers are apart.
+fn declared(values: EndpointValues) -> Option<EndpointDecl>
+    requires { first_broken (endpoint_rules values) ≡ (if all_pairs blocks_apart values.blocks then None else Some 112) }
+    ensures { Gives (all_pairs blocks_apart values.blocks) result (λ d. (d ≡ with_ordered_regions values) × IsLawfulEndpoint d) }
+{
+    match EndpointDecl::new(values) {
+        Ok(decl) => Some(decl),
+        Err(_) => None,
+    }
+}
+
+/// The endpoint that a table declares, where its patterns are lawful and its own registers are apart.
+pub(crate) fn endpoint(
+    alloc: Global,
+    entry: &EndpointEntry<'_>,
+) -> Result<Option<EndpointDecl>, AllocError>
+    requires { IsTrue (is_declarable entry.now) }
+    ensures { IfOk result (λ found. Gives (masks_hold entry.now) found (λ d. (d ≡ said.endpoint entry.now) × IsLawfulEndpoint d)) }
+{
+    let regions = match regions(alloc, &entry.bars)? {
+        Some(regions) => regions,
+        None => return Ok(None),
+    };
+    let blocks = match config_blocks(alloc, &entry.configs)? {
+        Some(blocks) => blocks,
+        None => return Ok(None),
+    };
+    Ok(declared(values(entry, regions, blocks)))
+}
+
+/// The bridge that a table declares.
+pub(crate) fn bridge(entry: &BridgeEntry<'_>) -> Result<BridgeDecl, DeclFault>
+    requires vendor { nat_abs entry.now.vendor < 0xffff }
+    requires device { nat_abs entry.now.device < 2 ^ 16 }
+    requires revision { nat_abs entry.now.revision < 2 ^ 8 }
+    ensures taken { IsOk result }
+    ensures value { IfOk result (λ d. d ≡ said.bridge entry.now) }
+    ensures lawful { IfOk result IsLawfulBridge }
+{
+    BridgeDecl::new(
+        half_word(entry.vendor),
+        half_word(entry.device),
+        byte(entry.revision),
+        entry.io,
+        entry.pref,
+    )
+}
+
+/// The guest that a table declares.
+pub(crate) fn guest(entry: &GuestEntry<'_>) -> GuestDecl
+    requires name { length entry.now.name ≤ 16 }
+    requires slots { length entry.now.slots ≤ 32 }
+    ensures { result ≡ said.guest entry.now }
+{
+    let mut name = ArrayString::new();
+    name.push_str(entry.name);
+    GuestDecl {
+        name,
+        slots: slots(&entry.slots),
+    }
+}
+
+/// The paths of slots.
+fn slots(texts: &[&str]) -> ArrayVec<Path, 32>
+    requires { length texts.now ≤ 32 }
+    ensures { result.items ≡ map path_at (map (λ s. s.now) texts.now) }
+{
+    let mut slots = ArrayVec::new();
+    'texts: for text in texts {
+        slots.push(path_at(*text));
+    }
+    slots
+}

@@ -1,0 +1,163 @@
+//! What a board file says: texts and numbers, not yet looked at.
+ghost use Rattle.std.specs.Prelude.{map, option_map};
+ghost use Rattle.bars.specs.Kinds.{kind_of};
+ghost use Rattle.headers.specs.Decodes.{io_decode_of, pref_decode_of};
+ghost use Rattle.board_file.specs.Entries as said;
+
+use bars::Kind;
+use headers::{IoDecode, PrefDecode};
+use std::marker::Model;
+
+/// The two integers of an aperture.
+#[derive(Clone, Copy)]
+pub(crate) struct Bounds {
+    pub(crate) first: i64,
+    pub(crate) last: i64,
+}
+
+/// The patterns of a block's bytes.
+#[derive(Drop)]
+pub(crate) struct PatternTexts<'a> {
+    pub(crate) reset: Option<&'a str>,
+    pub(crate) rw: Option<&'a str>,
+    pub(crate) w1c: Option<&'a str>,
+}
+
+impl<'a> Model for PatternTexts<'a> {
+    ghost Value = { said.Patterns };
+
+    ghost view = { λ p. record {
+      reset = option_map (λ s. s.now) p.reset;
+      writable = option_map (λ s. s.now) p.rw;
+      clearable = option_map (λ s. s.now) p.w1c;
+    } };
+}
+
+/// A table of `bar`.
+#[derive(Drop)]
+pub(crate) struct BarEntry<'a> {
+    pub(crate) index: i64,
+    pub(crate) kind: Kind,
+    pub(crate) size: i64,
+    pub(crate) block: i64,
+    pub(crate) patterns: PatternTexts<'a>,
+}
+
+impl<'a> Model for BarEntry<'a> {
+    ghost Value = { said.Bar };
+
+    ghost view = { λ b. record { index = b.index; kind = kind_of b.kind; size = b.size; block = b.block; patterns = b.patterns } };
+}
+
+/// A table of `config`.
+#[derive(Drop)]
+pub(crate) struct ConfigEntry<'a> {
+    pub(crate) off: i64,
+    pub(crate) block: i64,
+    pub(crate) patterns: PatternTexts<'a>,
+}
+
+impl<'a> Model for ConfigEntry<'a> {
+    ghost Value = { said.Config };
+
+    ghost view = { λ c. record { off = c.off; block = c.block; patterns = c.patterns } };
+}
+
+/// A table of `endpoint`.
+#[derive(Drop)]
+pub(crate) struct EndpointEntry<'a> {
+    pub(crate) at: &'a str,
+    pub(crate) vendor: i64,
+    pub(crate) device: i64,
+    pub(crate) revision: i64,
+    pub(crate) class: i64,
+    pub(crate) subvendor: i64,
+    pub(crate) subsystem: i64,
+    pub(crate) pin: i64,
+    pub(crate) min_gnt: i64,
+    pub(crate) max_lat: i64,
+    pub(crate) status: i64,
+    pub(crate) bars: Vec<BarEntry<'a>>,
+    pub(crate) configs: Vec<ConfigEntry<'a>>,
+}
+
+impl<'a> Model for EndpointEntry<'a> {
+    ghost Value = { said.Endpoint };
+
+    ghost view = { λ e. record {
+      at = e.at.now;
+      vendor = e.vendor;
+      device = e.device;
+      revision = e.revision;
+      class = e.class;
+      subvendor = e.subvendor;
+      subsystem = e.subsystem;
+      pin = e.pin;
+      min_gnt = e.min_gnt;
+      max_lat = e.max_lat;
+      status = e.status;
+      bars = e.bars.items;
+      configs = e.configs.items;
+    } };
+}
+
+/// A table of `bridge`.
+#[derive(Drop)]
+pub(crate) struct BridgeEntry<'a> {
+    pub(crate) at: &'a str,
+    pub(crate) vendor: i64,
+    pub(crate) device: i64,
+    pub(crate) revision: i64,
+    pub(crate) io: IoDecode,
+    pub(crate) pref: PrefDecode,
+}
+
+impl<'a> Model for BridgeEntry<'a> {
+    ghost Value = { said.Bridge };
+
+    ghost view = { λ b. record {
+      at = b.at.now;
+      vendor = b.vendor;
+      device = b.device;
+      revision = b.revision;
+      io = io_decode_of b.io;
+      pref = pref_decode_of b.pref;
+    } };
+}
+
+/// A table of `guest`.
+#[derive(Drop)]
+pub(crate) struct GuestEntry<'a> {
+    pub(crate) name: &'a str,
+    pub(crate) slots: Vec<&'a str>,
+}
+
+impl<'a> Model for GuestEntry<'a> {
+    ghost Value = { said.Guest };
+
+    ghost view = { λ g. record { name = g.name.now; slots = map (λ s. s.now) g.slots.items } };
+}
+
+/// What the file says.
+#[derive(Drop)]
+pub(crate) struct FileEntries<'a> {
+    pub(crate) io: Bounds,
+    pub(crate) mem: Bounds,
+    pub(crate) pref: Option<Bounds>,
+    pub(crate) endpoints: Vec<EndpointEntry<'a>>,
+    pub(crate) bridges: Vec<BridgeEntry<'a>>,
+    pub(crate) guests: Vec<GuestEntry<'a>>,
+}
+
+impl<'a> Model for FileEntries<'a> {
+    ghost Value = { said.File };
+
+    ghost view = { λ f. record {
+      io = f.io;
+      mem = f.mem;
+      pref = f.pref;
+      endpoints = f.endpoints.items;
+      bridges = f.bridges.items;
+      guests = f.guests.items;
+    } };
+}

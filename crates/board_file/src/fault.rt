@@ -1,0 +1,99 @@
+//! Why a board file is refused.
+ghost use Rattle.std.specs.Prelude.{◌≡◌};
+ghost use Rattle.board_file.specs.Faults.{number_of};
+ghost use Rattle.board_file.specs.declared.fault.BoardFault.TheVariants.{Memory, Aperture};
+
+use headers::ApertureFault;
+use std::alloc::{AllocError, AllocFailed};
+use thiserror::Error;
+
+/// Why a board file is refused: the first check that it fails, or want of memory.
+#[derive(Clone, Copy, PartialEq, Eq, Debug, Error)]
+pub enum BoardFault {
+    /// The bytes are no TOML document.
+    #[error("not TOML")]
+    NotToml,
+    /// A needed key is missing, or a value has another type or is another word than its key's.
+    #[error("key")]
+    Key,
+    /// A key that no table has.
+    #[error("unknown key")]
+    UnknownKey,
+    /// An integer outside its range.
+    #[error("number")]
+    Number,
+    /// A path of more than 16 parts, or more functions, guests or slots than there may be.
+    #[error("too many")]
+    TooMany,
+    /// A place that is no path, or places that are not those of a board.
+    #[error("place")]
+    Place,
+    /// A base address register outside 0 to 5, or used twice.
+    #[error("register")]
+    Register,
+    /// A size that a region can't have, or a block longer than its region.
+    #[error("size")]
+    Size,
+    /// A name that no guest may have, or a name twice.
+    #[error("guest name")]
+    GuestName,
+    /// A slot that is no endpoint's path, or an endpoint in two slots.
+    #[error("slot")]
+    Slot,
+    /// Apertures that are not lawful.
+    #[error("aperture")]
+    Aperture,
+    /// A pattern that is not lawful, a bit in two masks, or blocks of own registers that overlap.
+    #[error("cell masks")]
+    CellMasks,
+    /// Want of memory.
+    #[error("memory")]
+    Memory,
+}
+
+impl BoardFault {
+    /// The number of the fault's line.
+    pub fn number(self) -> u16
+        ensures { result ≡ number_of self }
+    {
+        match self {
+            BoardFault::NotToml => 101,
+            BoardFault::Key => 102,
+            BoardFault::UnknownKey => 103,
+            BoardFault::Number => 104,
+            BoardFault::Place => 105,
+            BoardFault::Register => 106,
+            BoardFault::Size => 107,
+            BoardFault::TooMany => 108,
+            BoardFault::GuestName => 109,
+            BoardFault::Slot => 110,
+            BoardFault::Aperture => 111,
+            BoardFault::CellMasks => 112,
+            BoardFault::Memory => 199,
+        }
+    }
+}
+
+impl From<AllocError> for BoardFault {
+    ghost from_gives = { λ _ e. e ≡ Memory };
+
+    fn from(_e: AllocError) -> BoardFault {
+        BoardFault::Memory
+    }
+}
+
+impl<T: Drop> From<AllocFailed<T>> for BoardFault {
+    ghost from_gives = { λ _ e. e ≡ Memory };
+
+    fn from(_e: AllocFailed<T>) -> BoardFault {
+        BoardFault::Memory
+    }
+}
+
+impl From<ApertureFault> for BoardFault {
+    ghost from_gives = { λ _ e. e ≡ Aperture };
+
+    fn from(_e: ApertureFault) -> BoardFault {
+        BoardFault::Aperture
+    }
+}

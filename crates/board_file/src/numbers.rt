@@ -1,0 +1,156 @@
+//! The ranges of integers, and how many things a file may have.
+ghost use Rattle.std.specs.Prelude.{◌≡◌, ◌==◌, ◌+◌, ◌&&◌, pos, map, nat_le, length, count_by};
+ghost use Rattle.std.specs.List.{list_all};
+ghost use Rattle.board_file.specs.Rules.{is_within, has_only_bits, is_identity, is_described, has_lawful_needs, has_lawful_values, is_config_block, has_lawful_blocks, has_lawful_numbers, is_lawful_bridge, numbers_hold, counts_hold, ats as said_ats};
+
+use crate::entries::{BarEntry, BridgeEntry, ConfigEntry, EndpointEntry, FileEntries, GuestEntry};
+
+fn is_within(first: u16, last: u32, number: i64) -> bool
+    ensures { result ≡ is_within first last number }
+{
+    i64::from(first) <= number && number <= i64::from(last)
+}
+
+fn has_only_bits(mask: u16, number: i64) -> bool
+    ensures { result ≡ has_only_bits mask number }
+{
+    match u16::try_from(number) {
+        Ok(bits) => bits & mask == bits,
+        Err(_) => false,
+    }
+}
+
+fn is_identity(vendor: i64, device: i64, revision: i64) -> bool
+    ensures { result ≡ is_identity vendor device revision }
+{
+    is_within(0, 0xfffe, vendor) && is_within(0, 0xffff, device) && is_within(0, 0xff, revision)
+}
+
+fn is_described(endpoint: &EndpointEntry<'_>) -> bool
+    ensures { result ≡ is_described endpoint.now }
+{
+    is_within(0, 0xff_ffff, endpoint.class)
+        && is_within(0, 0xffff, endpoint.subvendor)
+        && is_within(0, 0xffff, endpoint.subsystem)
+}
+
+fn has_lawful_needs(endpoint: &EndpointEntry<'_>) -> bool
+    ensures { result ≡ has_lawful_needs endpoint.now }
+{
+    is_within(0, 4, endpoint.pin)
+        && is_within(0, 0xff, endpoint.min_gnt)
+        && is_within(0, 0xff, endpoint.max_lat)
+}
+
+fn has_lawful_values(endpoint: &EndpointEntry<'_>) -> bool
+    ensures { result ≡ has_lawful_values endpoint.now }
+{
+    is_described(endpoint) && has_lawful_needs(endpoint) && has_only_bits(0xf900, endpoint.status)
+}
+
+fn is_config_block(config: &ConfigEntry<'_>) -> bool
+    ensures { result ≡ is_config_block config.now }
+{
+    is_within(0x40, 0xff, config.off)
+        && is_within(1, 192, config.block)
+        && config.off + config.block <= 256
+}
+
+fn have_lawful_blocks(bars: &[BarEntry<'_>]) -> bool
+    ensures { result ≡ list_all (λ b. is_within 0 4096 b.block) bars.now }
+{
+    bars.iter().all(|bar| is_within(0, 4096, bar.block))
+}
+
+fn are_config_blocks(configs: &[ConfigEntry<'_>]) -> bool
+    ensures { result ≡ list_all is_config_block configs.now }
+{
+    configs.iter().all(|config| is_config_block(config))
+}
+
+fn has_lawful_blocks(endpoint: &EndpointEntry<'_>) -> bool
+    ensures { result ≡ has_lawful_blocks endpoint.now }
+{
+    have_lawful_blocks(&endpoint.bars) && are_config_blocks(&endpoint.configs)
+}
+
+fn has_lawful_numbers(endpoint: &EndpointEntry<'_>) -> bool
+    ensures { result ≡ has_lawful_numbers endpoint.now }
+{
+    is_identity(endpoint.vendor, endpoint.device, endpoint.revision)
+        && has_lawful_values(endpoint)
+        && has_lawful_blocks(endpoint)
+}
+
+fn endpoint_numbers_hold(endpoints: &[EndpointEntry<'_>]) -> bool
+    ensures { result ≡ list_all has_lawful_numbers endpoints.now }
+{
+    endpoints
+        .iter()
+        .all(|endpoint| has_lawful_numbers(endpoint))
+}
+
+fn is_lawful_bridge(bridge: &BridgeEntry<'_>) -> bool
+    ensures { result ≡ is_lawful_bridge bridge.now }
+{
+    is_identity(bridge.vendor, bridge.device, bridge.revision)
+}
+
+fn bridge_numbers_hold(bridges: &[BridgeEntry<'_>]) -> bool
+    ensures { result ≡ list_all is_lawful_bridge bridges.now }
+{
+    bridges.iter().all(|bridge| is_lawful_bridge(bridge))
+}
+
+/// Each integer lies in the range of its key.
+pub(crate) fn numbers_hold(file: &FileEntries<'_>) -> bool
+    ensures { result ≡ numbers_hold file.now }
+{
+    endpoint_numbers_hold(&file.endpoints) && bridge_numbers_hold(&file.bridges)
+}
+
+fn has_few_slashes(at: &str) -> bool
+    ensures { result ≡ nat_le (count_by (λ b. b == 47) at.now) 15 }
+{
+    at.as_bytes().iter().filter(|byte| **byte == b'/').count() <= 15
+}
+
+fn have_few_slashes(ats: &[&str]) -> bool
+    ensures { result ≡ list_all (λ at. nat_le (count_by (λ b. b == 47) at) 15) (map (λ s. s.now) ats.now) }
+{
+    'ats: for at in ats {
+        if !has_few_slashes(*at) {
+            return false;
+        }
+    }
+    true
+}
+
+fn has_few_slots(guest: &GuestEntry<'_>) -> bool
+    ensures { result ≡ nat_le (length guest.now.slots) 32 }
+{
+    guest.slots.len() <= 32
+}
+
+fn have_few_slots(guests: &[GuestEntry<'_>]) -> bool
+    ensures { result ≡ list_all (λ g. nat_le (length g.slots) 32) guests.now }
+{
+    guests.iter().all(|guest| has_few_slots(guest))
+}
+
+fn has_few_tables(file: &FileEntries<'_>) -> bool
+    ensures { result ≡ (nat_le (length file.now.endpoints + length file.now.bridges) 1024 && nat_le (length file.now.guests) 32) }
+{
+    let endpoints = file.endpoints.len();
+    let bridges = file.bridges.len();
+    endpoints <= 1024 && bridges <= 1024 && endpoints + bridges <= 1024 && file.guests.len() <= 32
+}
+
+/// At most 15 slashes in a place, given as `ats`, 1024 functions, 32 guests, and 32 slots of a
+/// guest.
+pub(crate) fn counts_hold(file: &FileEntries<'_>, ats: &[&str]) -> bool
+    requires { map (λ s. s.now) ats.now ≡ said_ats file.now }
+    ensures { result ≡ counts_hold file.now }
+{
+    have_few_slashes(ats) && has_few_tables(file) && have_few_slots(&file.guests)
+}

@@ -1,0 +1,103 @@
+//! Paths as texts.
+ghost use Rattle.std.specs.Prelude.{◌≡◌, ◌+◌, ◌≤◌, ◌++◌, length, option_map, is_some, IfSome};
+ghost use Rattle.board_file.specs.PathTexts.{short_part, long_part, part_at_front, parts_after, path_of, is_path_text, path_at};
+
+use bridge_forward::{Part, Path};
+
+/// A part whose device has one digit, at the front of a text, and what comes after it.
+fn short_part(text: &[u8]) -> Option<(Part, &[u8])>
+    ensures { option_map (λ p. (p.0, p.1.now)) result ≡ short_part text.now }
+{
+    match text {
+        [
+            device @ b'0'..=b'9',
+            b'.',
+            function @ b'0'..=b'7',
+            rest @ ..,
+        ] => { Some((Part::new(*device - b'0', *function - b'0'), rest)) }
+        _ => None,
+    }
+}
+
+/// A part whose device is from 10 to 15, at the front of a text, and what comes after it.
+fn long_part(text: &[u8]) -> Option<(Part, &[u8])>
+    ensures { option_map (λ p. (p.0, p.1.now)) result ≡ long_part text.now }
+{
+    match text {
+        [
+            b'1',
+            device @ b'0'..=b'5',
+            b'.',
+            function @ b'0'..=b'7',
+            rest @ ..,
+        ] => { Some((Part::new(10 + (*device - b'0'), *function - b'0'), rest)) }
+        _ => None,
+    }
+}
+
+/// The part at the front of a text, and what comes after it.
+fn part_at_front(text: &[u8]) -> Option<(Part, &[u8])>
+    ensures { option_map (λ p. (p.0, p.1.now)) result ≡ part_at_front text.now }
+{
+    match short_part(text) {
+        Some(found) => Some(found),
+        None => long_part(text),
+    }
+}
+
+/// Goes on along the parts of the text, each after a slash, where there are no more than `room`.
+fn push_parts(path: &mut Path, text: &[u8], room: usize) -> bool
+    requires { length path.old + room ≤ 16 }
+    ensures all { result ≡ is_some (parts_after room text.now) }
+    ensures pushed { IfSome (parts_after room text.now) (λ ps. path.new ≡ path.old ++ ps) }
+{
+    match text {
+        [] => true,
+        [slash, rest @ ..] => {
+            if room == 0 || *slash != b'/' {
+                return false;
+            }
+            match part_at_front(rest) {
+                Some(found) => {
+                    path.push(found.0);
+                    push_parts(path, found.1, room - 1)
+                }
+                None => false,
+            }
+        }
+    }
+}
+
+/// The path that a text is: 1 to 16 parts with slashes between them, each a device from 0 to 15, a
+/// dot and a function from 0 to 7, without leading zeros.
+fn path_of(text: &[u8]) -> Option<Path>
+    ensures { result ≡ path_of text.now }
+{
+    match part_at_front(text) {
+        Some((part, after)) => {
+            let mut path = Path::on_root(part);
+            if push_parts(&mut path, after, 15) {
+                Some(path)
+            } else {
+                None
+            }
+        }
+        None => None,
+    }
+}
+
+pub(crate) fn is_path_text(text: &str) -> bool
+    ensures { result ≡ is_path_text text.now }
+{
+    path_of(text.as_bytes()).is_some()
+}
+
+/// The path that a text is, or 0.0.
+pub(crate) fn path_at(text: &str) -> Path
+    ensures { result ≡ path_at text.now }
+{
+    match path_of(text.as_bytes()) {
+        Some(path) => path,
+        None => Path::on_root(Part::new(0, 0)),
+    }
+}

@@ -1,0 +1,307 @@
+//! What the table of a document says, key by key.
+ghost use Rattle.std.specs.Prelude.{◌≡◌, map, unwrap_or, option_and_then, option_map, IfOk, codes};
+ghost use Rattle.std.specs.List.{filter_map};
+ghost use Rattle.toml.specs.Data.{get_member, as_str, as_table, as_array};
+ghost use Rattle.toml.specs.View.{view, array_view, table_view};
+ghost use Rattle.board_file.specs.Schema.{list_of};
+ghost use Rattle.board_file.specs.Entries.{number, text_at, text, values, tables, table_at, patterns, bar, config, endpoint, bridge, guest, integer_of, range_of, range, file};
+
+use crate::entries::{
+    BarEntry, Bounds, BridgeEntry, ConfigEntry, EndpointEntry, FileEntries, GuestEntry,
+    PatternTexts,
+};
+use crate::texts::{io_decode, pref_decode, region_kind};
+use bars::Kind;
+use headers::{IoDecode, PrefDecode};
+use std::alloc::{AllocError, Global};
+use toml::value::{Array, Table, Value};
+
+/// The value at a key.
+fn value_at<'a>(table: &'a Table, key: &str) -> Option<&'a Value>
+    ensures { option_map (λ v. view v.now) result ≡ get_member key.now (table_view table.now) }
+{
+    table.get(key)
+}
+
+/// The integer at a key, or 0.
+fn number(table: &Table, key: &str) -> i64
+    ensures { result ≡ number key.now (table_view table.now) }
+{
+    match value_at(table, key) {
+        Some(value) => value.as_integer().unwrap_or(0),
+        None => 0,
+    }
+}
+
+/// The text at a key.
+fn text_at<'a>(table: &'a Table, key: &str) -> Option<&'a str>
+    ensures { option_map (λ s. s.now) result ≡ text_at key.now (table_view table.now) }
+{
+    match value_at(table, key) {
+        Some(value) => value.as_str(),
+        None => None,
+    }
+}
+
+/// The text at a key, or none.
+fn text<'a>(table: &'a Table, key: &str) -> &'a str
+    ensures { result.now ≡ text key.now (table_view table.now) }
+{
+    text_at(table, key).unwrap_or("")
+}
+
+/// The array at a key.
+fn array_at<'a>(table: &'a Table, key: &str) -> Option<&'a Array>
+    ensures { option_map (λ a. array_view a.now) result ≡ option_and_then as_array (get_member key.now (table_view table.now)) }
+{
+    match value_at(table, key) {
+        Some(value) => value.as_array(),
+        None => None,
+    }
+}
+
+/// The tables of an array.
+fn tables_of(alloc: Global, items: &Array) -> Result<Vec<&Table>, AllocError>
+    ensures { IfOk result (λ v. map (λ t. table_view t.now) v.items ≡ filter_map as_table (list_of (array_view items.now))) }
+{
+    let mut tables = Vec::new(alloc);
+    'items: for item in items {
+        if let Some(table) = item.as_table() {
+            tables.push(table)?;
+        }
+    }
+    Ok(tables)
+}
+
+/// The tables of the array at a key.
+fn tables<'a>(alloc: Global, table: &'a Table, key: &str) -> Result<Vec<&'a Table>, AllocError>
+    ensures { IfOk result (λ v. map (λ t. table_view t.now) v.items ≡ tables key.now (table_view table.now)) }
+{
+    match array_at(table, key) {
+        Some(items) => tables_of(alloc, items),
+        None => Ok(Vec::new(alloc)),
+    }
+}
+
+/// The texts of an array.
+fn texts_of(alloc: Global, items: &Array) -> Result<Vec<&str>, AllocError>
+    ensures { IfOk result (λ v. map (λ s. s.now) v.items ≡ filter_map as_str (list_of (array_view items.now))) }
+{
+    let mut texts = Vec::new(alloc);
+    'items: for item in items {
+        if let Some(text) = item.as_str() {
+            texts.push(text)?;
+        }
+    }
+    Ok(texts)
+}
+
+fn patterns(table: &Table) -> PatternTexts<'_>
+    ensures { result ≡ patterns (table_view table.now) }
+{
+    PatternTexts {
+        reset: text_at(table, "reset"),
+        rw: text_at(table, "rw"),
+        w1c: text_at(table, "w1c"),
+    }
+}
+
+fn bar(table: &Table) -> BarEntry<'_>
+    ensures { result ≡ bar (table_view table.now) }
+{
+    BarEntry {
+        index: number(table, "index"),
+        kind: region_kind(text(table, "kind")).unwrap_or(Kind::Io),
+        size: number(table, "size"),
+        block: number(table, "block"),
+        patterns: patterns(table),
+    }
+}
+
+fn bars<'a>(alloc: Global, tables: &[&'a Table]) -> Result<Vec<BarEntry<'a>>, AllocError>
+    ensures { IfOk result (λ v. v.items ≡ map bar (map (λ t. table_view t.now) tables.now)) }
+{
+    let mut entries = Vec::new(alloc);
+    'tables: for table in tables {
+        entries.push(bar(*table))?;
+    }
+    Ok(entries)
+}
+
+fn config(table: &Table) -> ConfigEntry<'_>
+    ensures { result ≡ config (table_view table.now) }
+{
+    ConfigEntry {
+        off: number(table, "off"),
+        block: number(table, "block"),
+        patterns: patterns(table),
+    }
+}
+
+fn configs<'a>(alloc: Global, tables: &[&'a Table]) -> Result<Vec<ConfigEntry<'a>>, AllocError>
+    ensures { IfOk result (λ v. v.items ≡ map config (map (λ t. table_view t.now) tables.now)) }
+{
+    let mut entries = Vec::new(alloc);
+    'tables: for table in tables {
+        entries.push(config(*table))?;
+    }
+    Ok(entries)
+}
+
+fn endpoint(alloc: Global, table: &Table) -> Result<EndpointEntry<'_>, AllocError>
+    ensures { IfOk result (λ e. e ≡ endpoint (table_view table.now)) }
+{
+    let bar_tables = tables(alloc, table, "bar")?;
+    let config_tables = tables(alloc, table, "config")?;
+    Ok(EndpointEntry {
+        at: text(table, "at"),
+        vendor: number(table, "vendor"),
+        device: number(table, "device"),
+        revision: number(table, "revision"),
+        class: number(table, "class"),
+        subvendor: number(table, "subvendor"),
+        subsystem: number(table, "subsystem"),
+        pin: number(table, "pin"),
+        min_gnt: number(table, "min_gnt"),
+        max_lat: number(table, "max_lat"),
+        status: number(table, "status"),
+        bars: bars(alloc, &bar_tables)?,
+        configs: configs(alloc, &config_tables)?,
+    })
+}
+
+fn endpoints<'a>(alloc: Global, tables: &[&'a Table]) -> Result<Vec<EndpointEntry<'a>>, AllocError>
+    ensures { IfOk result (λ v. v.items ≡ map endpoint (map (λ t. table_view t.now) tables.now)) }
+{
+    let mut entries = Vec::new(alloc);
+    'tables: for table in tables {
+        entries.push(endpoint(alloc, *table)?)?;
+    }
+    Ok(entries)
+}
+
+fn bridge(table: &Table) -> BridgeEntry<'_>
+    ensures { result ≡ bridge (table_view table.now) }
+{
+    BridgeEntry {
+        at: text(table, "at"),
+        vendor: number(table, "vendor"),
+        device: number(table, "device"),
+        revision: number(table, "revision"),
+        io: io_decode(text(table, "io")).unwrap_or(IoDecode::Unimplemented),
+        pref: pref_decode(text(table, "pref")).unwrap_or(PrefDecode::Unimplemented),
+    }
+}
+
+fn bridges<'a>(alloc: Global, tables: &[&'a Table]) -> Result<Vec<BridgeEntry<'a>>, AllocError>
+    ensures { IfOk result (λ v. v.items ≡ map bridge (map (λ t. table_view t.now) tables.now)) }
+{
+    let mut entries = Vec::new(alloc);
+    'tables: for table in tables {
+        entries.push(bridge(*table))?;
+    }
+    Ok(entries)
+}
+
+fn slots(alloc: Global, table: &Table) -> Result<Vec<&str>, AllocError>
+    ensures { IfOk result (λ v. map (λ s. s.now) v.items ≡ filter_map as_str (values (codes "slots") (table_view table.now))) }
+{
+    match array_at(table, "slots") {
+        Some(items) => texts_of(alloc, items),
+        None => Ok(Vec::new(alloc)),
+    }
+}
+
+fn guest(alloc: Global, table: &Table) -> Result<GuestEntry<'_>, AllocError>
+    ensures { IfOk result (λ g. g ≡ guest (table_view table.now)) }
+{
+    Ok(GuestEntry {
+        name: text(table, "name"),
+        slots: slots(alloc, table)?,
+    })
+}
+
+fn guests<'a>(alloc: Global, tables: &[&'a Table]) -> Result<Vec<GuestEntry<'a>>, AllocError>
+    ensures { IfOk result (λ v. v.items ≡ map guest (map (λ t. table_view t.now) tables.now)) }
+{
+    let mut entries = Vec::new(alloc);
+    'tables: for table in tables {
+        entries.push(guest(alloc, *table)?)?;
+    }
+    Ok(entries)
+}
+
+fn integer_of(value: &Value) -> i64
+    ensures { result ≡ integer_of (view value.now) }
+{
+    value.as_integer().unwrap_or(0)
+}
+
+fn range_of(items: &Array) -> Bounds
+    ensures { result ≡ range_of (list_of (array_view items.now)) }
+{
+    match items.as_slice() {
+        [first, last] => Bounds {
+            first: integer_of(first),
+            last: integer_of(last),
+        },
+        _ => Bounds { first: 0, last: 0 },
+    }
+}
+
+/// The two integers of the array at a key.
+fn range(table: &Table, key: &str) -> Bounds
+    ensures { result ≡ range key.now (table_view table.now) }
+{
+    match array_at(table, key) {
+        Some(items) => range_of(items),
+        None => Bounds { first: 0, last: 0 },
+    }
+}
+
+fn table_at<'a>(table: &'a Table, key: &str) -> Option<&'a Table>
+    ensures { option_map (λ t. table_view t.now) result ≡ option_and_then as_table (get_member key.now (table_view table.now)) }
+{
+    match value_at(table, key) {
+        Some(value) => value.as_table(),
+        None => None,
+    }
+}
+
+fn host_range(table: &Table, key: &str) -> Bounds
+    ensures { result ≡ range key.now (table_at (codes "host") (table_view table.now)) }
+{
+    match table_at(table, "host") {
+        Some(host) => range(host, key),
+        None => Bounds { first: 0, last: 0 },
+    }
+}
+
+fn pref_range(table: &Table) -> Option<Bounds>
+    ensures { let host = table_at (codes "host") (table_view table.now) in result ≡ option_map (λ _. range (codes "pref") host) (get_member (codes "pref") host) }
+{
+    match table_at(table, "host") {
+        Some(host) => match value_at(host, "pref") {
+            Some(_) => Some(range(host, "pref")),
+            None => None,
+        },
+        None => None,
+    }
+}
+
+/// What the table says.
+pub(crate) fn read_entries(alloc: Global, table: &Table) -> Result<FileEntries<'_>, AllocError>
+    ensures { IfOk result (λ f. f ≡ file (table_view table.now)) }
+{
+    let endpoint_tables = tables(alloc, table, "endpoint")?;
+    let bridge_tables = tables(alloc, table, "bridge")?;
+    let guest_tables = tables(alloc, table, "guest")?;
+    Ok(FileEntries {
+        io: host_range(table, "io"),
+        mem: host_range(table, "mem"),
+        pref: pref_range(table),
+        endpoints: endpoints(alloc, &endpoint_tables)?,
+        bridges: bridges(alloc, &bridge_tables)?,
+        guests: guests(alloc, &guest_tables)?,
+    })
+}

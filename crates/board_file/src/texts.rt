@@ -1,0 +1,57 @@
+//! The words that a board file has for kinds.
+ghost use Rattle.std.specs.Prelude.{◌≡◌, option_map};
+ghost use Rattle.bars.specs.Kinds.{kind_of};
+ghost use Rattle.headers.specs.Decodes.{io_decode_of, pref_decode_of};
+ghost use Rattle.board_file.specs.Texts.{region_kind, io_decode, pref_decode};
+
+use bars::Kind;
+use headers::{IoDecode, PrefDecode};
+
+/// The kind of a base address register.
+pub(crate) fn region_kind(word: &str) -> Option<Kind>
+    ensures { option_map kind_of result ≡ region_kind word.now }
+{
+    if word == "io" {
+        Some(Kind::Io)
+    } else if word == "mem32" {
+        Some(Kind::Mem32 { pref: false })
+    } else if word == "mem32p" {
+        Some(Kind::Mem32 { pref: true })
+    } else if word == "mem64" {
+        Some(Kind::Mem64 { pref: false })
+    } else if word == "mem64p" {
+        Some(Kind::Mem64 { pref: true })
+    } else {
+        None
+    }
+}
+
+/// The I/O addresses that a bridge decodes.
+pub(crate) fn io_decode(word: &str) -> Option<IoDecode>
+    ensures { option_map io_decode_of result ≡ io_decode word.now }
+{
+    if word == "none" {
+        Some(IoDecode::Unimplemented)
+    } else if word == "16" {
+        Some(IoDecode::Bits16)
+    } else if word == "32" {
+        Some(IoDecode::Bits32)
+    } else {
+        None
+    }
+}
+
+/// The prefetchable addresses that a bridge decodes.
+pub(crate) fn pref_decode(word: &str) -> Option<PrefDecode>
+    ensures { option_map pref_decode_of result ≡ pref_decode word.now }
+{
+    if word == "none" {
+        Some(PrefDecode::Unimplemented)
+    } else if word == "32" {
+        Some(PrefDecode::Bits32)
+    } else if word == "64" {
+        Some(PrefDecode::Bits64)
+    } else {
+        None
+    }
+}

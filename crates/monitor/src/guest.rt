@@ -1,0 +1,21 @@
+//! The guests of a board.
+ghost use Rattle.std.specs.Prelude.{◌≡◌};
+
+use arrayvec::{ArrayString, ArrayVec};
+use bridge_forward::Path;
+use std::marker::Model;
+
+/// A guest: its name, and the paths of the endpoints in its slots, slot 0 first.
+#[derive(Debug, Drop)]
+pub struct GuestDecl {
+    pub name: ArrayString<16>,
+    pub slots: ArrayVec<Path, 32>,
+}
+
+impl Model for GuestDecl {
+    ghost use Rattle.model_guests.specs.World.{Guest};
+
+    ghost Value = { Guest };
+
+    ghost view = { λ g. record { name = g.name.bytes; slots = g.slots.items } };
+}

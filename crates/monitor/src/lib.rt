@@ -1,0 +1,6 @@
+//! The monitor, which gives functions of a board to guests.
+#![tactic(auto)]
+
+mod guest;
+
+pub use guest::GuestDecl;

@@ -1,0 +1,7 @@
+pub mod HexTexts
+pub mod LineTexts
+pub mod Loops
+pub mod PathTexts
+pub mod Results
+pub mod RowTexts
+pub mod SetUpReport

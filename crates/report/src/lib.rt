@@ -1,0 +1,10 @@
+//! The report of a board that is set up: its functions with their regions, interrupts and windows, and
+//! its guests.
+#![tactic(auto)]
+
+mod lines;
+mod texts;
+mod whole;
+mod writing;
+
+pub use writing::{ReportFault, report};

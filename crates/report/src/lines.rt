@@ -1,0 +1,203 @@
+//! The lines of one function and of one guest.
+ghost use Rattle.std.specs.Prelude.{◌≡◌, ◌++◌, ◌≤◌, OnOk, string_bytes, map};
+ghost use Rattle.model_guests.specs.Text.{text_of_lines};
+ghost use Rattle.model_guests.specs.Report.{pin_text, slot_lines};
+ghost use Rattle.bars.specs.Slots.{placed, bases_from};
+ghost use Rattle.window_packing.specs.Plans.{writes_of};
+ghost use Rattle.report.specs.Found.{ended, base_line, known_pin_lines, span_lines, base_lines, window_lines, range_text, pin_line, row_head, endpoint_text, windows_text, found_text, slot_line};
+
+use crate::texts::{kind_text, push_identity, push_path, push_place};
+use bars::Region;
+use bridge_forward::Path;
+use bus_scan::{Found, FunctionRow};
+use intx_swizzle::at_root;
+use monitor::GuestDecl;
+use std::alloc::AllocError;
+use window_packing::{Span, Writes};
+
+/// Appends the line of a region, whose first register has this index.
+fn push_region(text: &mut String, index: usize, region: &Region) -> Result<(), AllocError>
+    ensures { OnOk result (string_bytes text.new ≡ string_bytes text.old ++ ended (base_line (placed index region.now))) }
+{
+    let kind = kind_text(region.decl.kind());
+    let base = region.base;
+    let size = region.decl.size();
+    writeln!(text, "  bar{index} {kind} at 0x{base:x} size 0x{size:x}")
+}
+
+/// Appends the lines of regions, each at the index of its first register.
+fn push_regions(text: &mut String, bases: &[Option<Region>]) -> Result<(), AllocError>
+    ensures { OnOk result (string_bytes text.new ≡ string_bytes text.old ++ text_of_lines (map base_line (bases_from 0 bases.now))) }
+{
+    for (index, slot) in bases.iter().enumerate() {
+        if let Some(region) = slot {
+            push_region(text, index, region)?;
+        }
+    }
+    Ok(())
+}
+
+/// The name of a pin.
+fn pin_text(pin: u8) -> &'static str
+    requires least { 1 ≤ pin }
+    requires most { pin ≤ 4 }
+    ensures { result.now ≡ pin_text pin }
+{
+    match pin {
+        1 => "INTA",
+        2 => "INTB",
+        3 => "INTC",
+        _ => "INTD",
+    }
+}
+
+/// Appends the line of an interrupt pin.
+fn push_pin(text: &mut String, path: &Path, pin: u8) -> Result<(), AllocError>
+    requires least { 1 ≤ pin }
+    requires most { pin ≤ 4 }
+    ensures { OnOk result (string_bytes text.new ≡ string_bytes text.old ++ ended (pin_line path.now pin)) }
+{
+    let (device, root) = at_root(path, pin);
+    let pin = pin_text(pin);
+    let root = pin_text(root);
+    writeln!(text, "  irq {pin} at {device} {root}")
+}
+
+/// Appends the line of an interrupt pin. There is none for pin 0, which says that the function has no
+/// pin, and none above 4, which is no pin.
+fn push_known_pin(text: &mut String, path: &Path, pin: u8) -> Result<(), AllocError>
+    ensures { OnOk result (string_bytes text.new ≡ string_bytes text.old ++ text_of_lines (known_pin_lines path.now pin)) }
+{
+    if pin == 0 || pin > 4 {
+        return Ok(());
+    }
+    push_pin(text, path, pin)
+}
+
+/// Appends the line of a window, if it has items.
+fn push_window(text: &mut String, name: &str, span: &Span) -> Result<(), AllocError>
+    ensures { OnOk result (string_bytes text.new ≡ string_bytes text.old ++ text_of_lines (span_lines name.now span.now)) }
+{
+    let first = span.first;
+    let last = span.last;
+    if first > last {
+        return Ok(());
+    }
+    writeln!(text, "  {name} 0x{first:x} 0x{last:x}")
+}
+
+/// Appends the lines of the regions that were written into an endpoint.
+fn push_bases(text: &mut String, writes: &Writes) -> Result<(), AllocError>
+    ensures { OnOk result (string_bytes text.new ≡ string_bytes text.old ++ text_of_lines (base_lines (writes_of writes.now))) }
+{
+    match writes {
+        Writes::Endpoint { bases, .. } => push_regions(text, bases),
+        Writes::Bridge { .. } => Ok(()),
+    }
+}
+
+/// Appends the lines of the windows that were written into a bridge.
+fn push_windows(text: &mut String, writes: &Writes) -> Result<(), AllocError>
+    ensures { OnOk result (string_bytes text.new ≡ string_bytes text.old ++ text_of_lines (window_lines (writes_of writes.now))) }
+{
+    match writes {
+        Writes::Endpoint { .. } => Ok(()),
+        Writes::Bridge { io, mem, pref } => {
+            push_window(text, "io", io)?;
+            push_window(text, "mem", mem)?;
+            push_window(text, "pref", pref)
+        }
+    }
+}
+
+/// Appends Primary, Secondary and Subordinate Bus Number.
+fn push_buses(
+    text: &mut String,
+    primary: u8,
+    secondary: u8,
+    subordinate: u8,
+) -> Result<(), AllocError>
+    ensures { OnOk result (string_bytes text.new ≡ string_bytes text.old ++ range_text primary secondary subordinate) }
+{
+    write!(
+        text,
+        " buses {primary:02x} {secondary:02x} {subordinate:02x}"
+    )
+}
+
+/// Appends a function's numbers, its path, its kind and its identity.
+fn push_head(text: &mut String, row: &FunctionRow, kind: &str) -> Result<(), AllocError>
+    ensures { OnOk result (string_bytes text.new ≡ string_bytes text.old ++ row_head row.now kind.now) }
+{
+    push_place(text, row.bus, &row.path)?;
+    text.push_str(kind)?;
+    push_identity(text, row.vendor, row.device)
+}
+
+/// Ends an endpoint's first line, and appends the lines of its regions and its pin.
+fn push_endpoint(text: &mut String, path: &Path, pin: u8, writes: &Writes) -> Result<(), AllocError>
+    ensures { OnOk result (string_bytes text.new ≡ string_bytes text.old ++ endpoint_text path.now pin (writes_of writes.now)) }
+{
+    text.push_str("\n")?;
+    push_bases(text, writes)?;
+    push_known_pin(text, path, pin)
+}
+
+/// Ends a bridge's first line, and appends the lines of its windows.
+fn push_bridge(
+    text: &mut String,
+    bus: u8,
+    secondary: u8,
+    subordinate: u8,
+    writes: &Writes,
+) -> Result<(), AllocError>
+    ensures { OnOk result (string_bytes text.new ≡ string_bytes text.old ++ (range_text bus secondary subordinate ++ windows_text (writes_of writes.now))) }
+{
+    push_buses(text, bus, secondary, subordinate)?;
+    text.push_str("\n")?;
+    push_windows(text, writes)
+}
+
+/// Appends the lines of a function.
+pub(crate) fn push_function(
+    text: &mut String,
+    row: &FunctionRow,
+    writes: &Writes,
+) -> Result<(), AllocError>
+    ensures { OnOk result (string_bytes text.new ≡ string_bytes text.old ++ found_text row.now (writes_of writes.now)) }
+{
+    match &row.found {
+        Found::Endpoint { pin, .. } => {
+            push_head(text, row, " endpoint ")?;
+            push_endpoint(text, &row.path, *pin, writes)
+        }
+        Found::Bridge {
+            secondary,
+            subordinate,
+            ..
+        } => {
+            push_head(text, row, " bridge ")?;
+            push_bridge(text, row.bus, *secondary, *subordinate, writes)
+        }
+    }
+}
+
+/// Appends the line of a guest's slot.
+fn push_slot(text: &mut String, name: &str, slot: usize, path: &Path) -> Result<(), AllocError>
+    ensures { OnOk result (string_bytes text.new ≡ string_bytes text.old ++ ended (slot_line name.now slot path.now)) }
+{
+    write!(text, "guest {name} slot {slot} ")?;
+    push_path(text, path)?;
+    text.push('\n')
+}
+
+/// Appends the lines of a guest's slots.
+pub(crate) fn push_guest(text: &mut String, guest: &GuestDecl) -> Result<(), AllocError>
+    ensures { OnOk result (string_bytes text.new ≡ string_bytes text.old ++ text_of_lines (slot_lines guest.now.name 0 guest.now.slots)) }
+{
+    let name = guest.name.as_str();
+    for (slot, path) in guest.slots.iter().enumerate() {
+        push_slot(text, name, slot, path)?;
+    }
+    Ok(())
+}

@@ -1,0 +1,63 @@
+//! Texts of numbers, paths and kinds.
+ghost use Rattle.std.specs.Prelude.{◌≡◌, ◌++◌, OnOk, string_bytes, decimal, codes};
+ghost use Rattle.model_guests.specs.Replies.{hex_digits};
+ghost use Rattle.model_guests.specs.Report.{kind_text, path_text, identity_text};
+ghost use Rattle.bars.specs.Kinds.{kind_of};
+ghost use Rattle.report.specs.Found.{part_address, place_text};
+
+use bars::Kind;
+use bridge_forward::{Part, Path};
+use std::alloc::AllocError;
+
+/// The word for what a region's register opens.
+pub(crate) fn kind_text(kind: Kind) -> &'static str
+    ensures { result.now ≡ kind_text (kind_of kind) }
+{
+    match kind {
+        Kind::Io => "io",
+        Kind::Mem32 { pref } => if pref { "mem32p" } else { "mem32" },
+        Kind::Mem64 { pref } => if pref { "mem64p" } else { "mem64" },
+    }
+}
+
+/// Appends the text of a path.
+pub(crate) fn push_path(text: &mut String, path: &Path) -> Result<(), AllocError>
+    ensures { OnOk result (string_bytes text.new ≡ string_bytes text.old ++ path_text path.now) }
+{
+    let mut is_first = true;
+    for part in path.parts() {
+        if !is_first {
+            text.push('/')?;
+        }
+        is_first = false;
+        let device = part.device();
+        let function = part.function();
+        write!(text, "{device}.{function}")?;
+    }
+    Ok(())
+}
+
+/// Appends Vendor ID and Device ID.
+pub(crate) fn push_identity(text: &mut String, vendor: u16, device: u16) -> Result<(), AllocError>
+    ensures { OnOk result (string_bytes text.new ≡ string_bytes text.old ++ identity_text vendor device) }
+{
+    write!(text, "{vendor:04x}:{device:04x}")
+}
+
+/// Appends a function's bus, device and function numbers.
+fn push_address(text: &mut String, bus: u8, part: Part) -> Result<(), AllocError>
+    ensures { OnOk result (string_bytes text.new ≡ string_bytes text.old ++ part_address bus part) }
+{
+    let device = part.device();
+    let function = part.function();
+    write!(text, "{bus:02x}:{device:02x}.{function}")
+}
+
+/// Appends a function's numbers and its path.
+pub(crate) fn push_place(text: &mut String, bus: u8, path: &Path) -> Result<(), AllocError>
+    ensures { OnOk result (string_bytes text.new ≡ string_bytes text.old ++ place_text bus path.now) }
+{
+    push_address(text, bus, path.last())?;
+    text.push(' ')?;
+    push_path(text, path)
+}

@@ -1,0 +1,81 @@
+//! The whole text.
+ghost use Rattle.std.specs.Prelude.{◌≡◌, ◌++◌, OnOk, IfOk, not, count_by, string_bytes};
+ghost use Rattle.model_board.specs.Board.{is_bridge};
+ghost use Rattle.report.specs.Found.{ended, count_line, rows_text, guests_text, found_report};
+
+use crate::lines::{push_function, push_guest};
+use bus_scan::{Found, FunctionRow, FunctionTable};
+use monitor::GuestDecl;
+use std::alloc::{AllocError, Global};
+use window_packing::{Plan, Setting};
+
+/// Whether the function is a bridge.
+fn is_bridge(row: &FunctionRow) -> bool
+    ensures { result ≡ is_bridge row.now.decl }
+{
+    match &row.found {
+        Found::Endpoint { .. } => false,
+        Found::Bridge { .. } => true,
+    }
+}
+
+fn endpoints(rows: &[FunctionRow]) -> usize
+    ensures { result ≡ count_by (λ r. not (is_bridge r.decl)) rows.now }
+{
+    rows.iter().filter(|row| !is_bridge(row)).count()
+}
+
+fn bridges(rows: &[FunctionRow]) -> usize
+    ensures { result ≡ count_by (λ r. is_bridge r.decl) rows.now }
+{
+    rows.iter().filter(|row| is_bridge(row)).count()
+}
+
+/// Appends the line that counts endpoints and bridges.
+fn push_counts(text: &mut String, rows: &[FunctionRow]) -> Result<(), AllocError>
+    ensures { OnOk result (string_bytes text.new ≡ string_bytes text.old ++ ended (count_line rows.now)) }
+{
+    let endpoints = endpoints(rows);
+    let bridges = bridges(rows);
+    writeln!(text, "endpoints {endpoints} bridges {bridges}")
+}
+
+/// Appends the lines of all functions, each with what was written into it.
+fn push_functions(
+    text: &mut String,
+    rows: &[FunctionRow],
+    settings: &[Setting],
+) -> Result<(), AllocError>
+    ensures { OnOk result (string_bytes text.new ≡ string_bytes text.old ++ rows_text rows.now settings.now) }
+{
+    for (row, setting) in rows.iter().zip(settings) {
+        push_function(text, row, &setting.writes)?;
+    }
+    Ok(())
+}
+
+/// Appends the lines of all guests.
+fn push_guests(text: &mut String, guests: &[GuestDecl]) -> Result<(), AllocError>
+    ensures { OnOk result (string_bytes text.new ≡ string_bytes text.old ++ guests_text guests.now) }
+{
+    for guest in guests {
+        push_guest(text, guest)?;
+    }
+    Ok(())
+}
+
+/// The report's text.
+pub(crate) fn report_text(
+    alloc: Global,
+    table: &FunctionTable,
+    plan: &Plan,
+    guests: &[GuestDecl],
+) -> Result<String, AllocError>
+    ensures { IfOk result (λ t. string_bytes t ≡ found_report table.now plan.now.settings guests.now) }
+{
+    let mut text = String::new(alloc);
+    push_counts(&mut text, table.rows())?;
+    push_functions(&mut text, table.rows(), plan.settings())?;
+    push_guests(&mut text, guests)?;
+    Ok(text)
+}

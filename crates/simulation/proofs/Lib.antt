@@ -1,0 +1,2 @@
+mod FaultNumbers
+mod Listed

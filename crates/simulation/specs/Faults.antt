@@ -1,0 +1,104 @@
+-- Why the program fails, as numbers and words.
+--     number_of, words_of      what the line of a fault says
+--     of_file, of_set_up, of_report      the fault of a board file, a set-up or a report, with the same number
+--     read_faults, write_faults      whether a result is the fault of the reader, or of the writer
+use Rattle.std.specs.Prelude.{ℕ, List, Result, Ok, Err, codes}
+use Rattle.bus_scan.specs.declared.fault.Fault.TheVariants as set_up
+use Rattle.bus_scan.specs.declared.fault.Fault.{Fault as SetUpFault}
+use Rattle.board_file.specs.declared.fault.BoardFault.TheVariants as file
+use Rattle.board_file.specs.declared.fault.BoardFault.{BoardFault}
+use Rattle.report.specs.declared.writing.ReportFault.TheVariants as report
+use Rattle.report.specs.declared.writing.ReportFault.{ReportFault}
+use Rattle.simulation.specs.declared.fault.Fault.{Fault}
+use Rattle.simulation.specs.declared.fault.Fault.TheVariants.{NotToml, Key, UnknownKey, Number, Place, Register, Size, TooMany, GuestName, Slot, Aperture, CellMasks, FileMemory, Buses, NoIoWindow, IoPool, MemoryPool, PrefetchablePool, SetUpMemory, Read, Write, ScriptMemory, Usage, BoardFile, WordMemory}
+
+abbrev pub number_of : Fault → ℕ
+number_of NotToml = 101
+number_of Key = 102
+number_of UnknownKey = 103
+number_of Number = 104
+number_of Place = 105
+number_of Register = 106
+number_of Size = 107
+number_of TooMany = 108
+number_of GuestName = 109
+number_of Slot = 110
+number_of Aperture = 111
+number_of CellMasks = 112
+number_of FileMemory = 199
+number_of Buses = 201
+number_of NoIoWindow = 202
+number_of IoPool = 203
+number_of MemoryPool = 204
+number_of PrefetchablePool = 205
+number_of SetUpMemory = 299
+number_of Read = 501
+number_of Write = 502
+number_of ScriptMemory = 599
+number_of Usage = 701
+number_of BoardFile = 702
+number_of WordMemory = 799
+
+abbrev pub words_of : Fault → List ℕ
+words_of NotToml = codes "not TOML"
+words_of Key = codes "key"
+words_of UnknownKey = codes "unknown key"
+words_of Number = codes "number"
+words_of Place = codes "place"
+words_of Register = codes "register"
+words_of Size = codes "size"
+words_of TooMany = codes "too many"
+words_of GuestName = codes "guest name"
+words_of Slot = codes "slot"
+words_of Aperture = codes "aperture"
+words_of CellMasks = codes "cell masks"
+words_of FileMemory = codes "memory"
+words_of Buses = codes "buses"
+words_of NoIoWindow = codes "no I/O window"
+words_of IoPool = codes "I/O pool"
+words_of MemoryPool = codes "memory pool"
+words_of PrefetchablePool = codes "prefetchable pool"
+words_of SetUpMemory = codes "memory"
+words_of Read = codes "read failed"
+words_of Write = codes "write failed"
+words_of ScriptMemory = codes "memory"
+words_of Usage = codes "usage"
+words_of BoardFile = codes "board file"
+words_of WordMemory = codes "memory"
+
+abbrev pub of_file : BoardFault → Fault
+of_file file.NotToml = NotToml
+of_file file.Key = Key
+of_file file.UnknownKey = UnknownKey
+of_file file.Number = Number
+of_file file.Place = Place
+of_file file.Register = Register
+of_file file.Size = Size
+of_file file.TooMany = TooMany
+of_file file.GuestName = GuestName
+of_file file.Slot = Slot
+of_file file.Aperture = Aperture
+of_file file.CellMasks = CellMasks
+of_file file.Memory = FileMemory
+
+abbrev pub of_set_up : SetUpFault → Fault
+of_set_up set_up.Buses = Buses
+of_set_up set_up.NoIoWindow = NoIoWindow
+of_set_up set_up.IoPool = IoPool
+of_set_up set_up.MemoryPool = MemoryPool
+of_set_up set_up.PrefetchablePool = PrefetchablePool
+of_set_up set_up.Memory = SetUpMemory
+
+abbrev pub of_report : ReportFault → Fault
+of_report report.Memory = SetUpMemory
+of_report report.Write = Write
+
+abbrev pub read_faults : {T : Type 0} → Result T Fault → ℕ
+read_faults (Ok x) = 0
+read_faults (Err Read) = 1
+read_faults (Err other) = 0
+
+abbrev pub write_faults : {T : Type 0} → Result T Fault → ℕ
+write_faults (Ok x) = 0
+write_faults (Err Write) = 1
+write_faults (Err other) = 0

@@ -1,0 +1,68 @@
+//! A script over the demo board.
+ghost use Rattle.std.specs.Prelude.{◌≡◌, ℕ, ◌+◌, ◌-◌, ◌^◌, ◌<◌, OnOk};
+ghost use Rattle.std.specs.Option.{ForSome};
+ghost use Rattle.std.specs.Io.KnownBytes.{Appends, IsAtEnd};
+ghost use Rattle.model_guests.specs.Text.{lines};
+ghost use Rattle.script.specs.LoneRuns.{output};
+ghost use Rattle.simulation.specs.Demo.{demo_endpoint, demo_guest};
+ghost use Rattle.simulation.specs.Faults.{read_faults, write_faults};
+
+use crate::fault::Fault;
+use arrayvec::ArrayString;
+use headers::{EndpointDecl, EndpointValues};
+use script::{Lone, Reader, RunFault, Writer, run};
+use std::alloc::Global;
+
+/// The endpoint in slot 0: without regions, with pin A and with a parity error to report.
+fn endpoint(alloc: Global) -> EndpointDecl
+    ensures { result ≡ demo_endpoint }
+{
+    let values = EndpointValues {
+        vendor: 0x1234,
+        device: 0x0001,
+        revision: 0,
+        class: 0xff_0000,
+        subvendor: 0,
+        subsystem: 0,
+        pin: 1,
+        min_gnt: 0,
+        max_lat: 0,
+        status: 0x8000,
+        bar: Vec::new(alloc),
+        config: Vec::new(alloc),
+    };
+    EndpointDecl::new(values).unwrap()
+}
+
+/// Runs a script over guest `a`, whose slot 0 holds the demo endpoint.
+///
+/// A fault is `Read` or `Write` exactly where that end failed.
+pub fn demo<R: Reader, W: Writer>(
+    alloc: Global,
+    reader: &mut R,
+    writer: &mut W,
+) -> Result<(), Fault>
+    requires reader_has_room { R.failures reader.old < 2 ^ 64 - 1 }
+    requires writer_has_room { W.failures writer.old < 2 ^ 64 - 1 }
+    ensures reads { R.failures reader.new ≡ R.failures reader.old + read_faults result }
+    ensures writes { W.failures writer.new ≡ W.failures writer.old + write_faults result }
+
+    // The script was read to its end, and the output of all its lines was written.
+    ensures end { OnOk result (IsAtEnd (R.rest reader.new)) }
+    ensures output { OnOk result (ForSome (R.rest reader.old) (λ script.
+        Appends (W.written writer.old) (W.written writer.new) (output demo_guest (lines script)))) }
+{
+    let decl = endpoint(alloc);
+    let mut name = ArrayString::new();
+    name.push_str("a");
+    let decls = [decl];
+    let Ok(mut lone) = Lone::new(alloc, name, &decls) else {
+        return Err(Fault::SetUpMemory);
+    };
+    match run(alloc, &mut lone, reader, writer) {
+        Ok(()) => Ok(()),
+        Err(RunFault::Read) => Err(Fault::Read),
+        Err(RunFault::Write) => Err(Fault::Write),
+        Err(RunFault::Memory) => Err(Fault::ScriptMemory),
+    }
+}
