@@ -18,6 +18,7 @@ mod search;
 mod settings;
 mod windows;
 
+pub use model_board::flat_need;
 pub use planned::{Placed, Plan, PlanRow, Pool, Setting, Span, Writes};
 pub use planner::plan;
 pub use programming::program;
