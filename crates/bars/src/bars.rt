@@ -122,27 +122,27 @@ impl Bars {
     }
 
     /// The enabled bytes of the register at an index; the other bytes read 0.
-    pub fn read(&self, reg: u8, be: u8) -> u32
+    pub fn read(&self, reg: u8, enables: u8) -> u32
         requires { reg < 6 }
-        ensures word { result ≡ read (base_file self.now) (base_register reg) (lanes be) }
+        ensures word { result ≡ read (base_file self.now) (base_register reg) (lanes enables) }
         ensures lawful { HasLawfulBases self.now }
     {
         match part_at(&self.slots, reg) {
-            Some(part) => (part.region.shown() >> part.shift & u64::from(enabled_bits(be))) as u32,
+            Some(part) => (part.region.shown() >> part.shift & u64::from(enabled_bits(enables))) as u32,
             None => 0,
         }
     }
 
     /// Writes the enabled bytes of the register at an index. The bits below a region's size stay, and
     /// each half of a base of 64 bits counts at once.
-    pub fn write(&mut self, reg: u8, be: u8, value: u32)
+    pub fn write(&mut self, reg: u8, enables: u8, value: u32)
         requires { reg < 6 }
-        ensures cells { base_file self.new ≡ write (lanes be) value (base_register reg) (base_file self.old) }
+        ensures cells { base_file self.new ≡ write (lanes enables) value (base_register reg) (base_file self.old) }
         ensures regions { map opened self.new ≡ map opened self.old }
     {
         if let Some(part) = part_at(&self.slots, reg) {
             let value = u64::from(value) << part.shift;
-            let enabled = u64::from(enabled_bits(be)) << part.shift;
+            let enabled = u64::from(enabled_bits(enables)) << part.shift;
             self.slots[part.slot] = Some(part.region.written(value, enabled));
         }
     }

@@ -2,10 +2,10 @@
 ghost use Rattle.std.specs.Prelude.{◌≡◌};
 ghost use Rattle.model_registers.specs.ByteEnables.{lanes, enabled_bits};
 
-/// The bits of the bytes of a register that the bits 0 to 3 of `be` enable.
-pub fn enabled_bits(be: u8) -> u32
-    ensures { result ≡ enabled_bits (lanes be) }
+/// The bits of the bytes of a register that the bits 0 to 3 of `enables` enable.
+pub fn enabled_bits(enables: u8) -> u32
+    ensures { result ≡ enabled_bits (lanes enables) }
 {
-    let byte = |lane: u8| if be >> lane & 1 == 1 { 0xff } else { 0 };
+    let byte = |lane: u8| if enables >> lane & 1 == 1 { 0xff } else { 0 };
     u32::from_le_bytes([byte(0), byte(1), byte(2), byte(3)])
 }

@@ -142,7 +142,7 @@ fn read_table(alloc: Global, table: &Table) -> Result<(Host, Vec<GuestDecl>), Bo
 /// The host bridge over the board that a file declares, at reset and with address latch 0, and the
 /// guests in the order of the file. A file that fails a check is refused with the first check that
 /// fails over the whole file, in the order 101, 102, 103, 104, 108, 105, 106, 107, 109, 110, 111,
-/// 112; bytes that are not UTF-8 are no TOML. Want of memory is answered at any point.
+/// 112; bytes that are not UTF-8 are no TOML. Out of memory is answered at any point.
 pub fn read_board(alloc: Global, bytes: &[u8]) -> Result<(Host, Vec<GuestDecl>), BoardFault>
     ensures world { IfOk result (λ r. IsUtf8 bytes.now × (document_meaning (parse_document bytes.now) ≡ Ok (world_in r.0 r.1.items))) }
     ensures reset { IfOk result (λ r. IsAtReset r.0.state) }

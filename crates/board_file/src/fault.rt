@@ -7,7 +7,7 @@ use headers::ApertureFault;
 use std::alloc::{AllocError, AllocFailed};
 use thiserror::Error;
 
-/// Why a board file is refused: the first check that it fails, or want of memory.
+/// Why a board file is refused: the first check that it fails, or that memory is out.
 #[derive(Clone, Copy, PartialEq, Eq, Debug, Error)]
 pub enum BoardFault {
     /// The bytes are no TOML document.
@@ -46,7 +46,7 @@ pub enum BoardFault {
     /// A pattern that is not lawful, a bit in two masks, or blocks of own registers that overlap.
     #[error("cell masks")]
     CellMasks,
-    /// Want of memory.
+    /// Out of memory.
     #[error("memory")]
     Memory,
 }

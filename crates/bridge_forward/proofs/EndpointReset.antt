@@ -101,19 +101,19 @@ high a w v m c l k = record { places = config_field a w v m c; none = λ q h. no
     aside q (inl e) = inl (omega (arith, e.1))
     aside q (inr e) = inr (omega arith)
 
-header_away : (d : Endpoint) (shared : Bool) → IsAway (header_cells d shared 0)
-header_away d shared =
+header_away : (d : Endpoint) (multifunction : Bool) → IsAway (header_cells d multifunction 0)
+header_away d multifunction =
     join (join (join (join (join (join (join (join (join (join (join (join (join
     (low 0x00 2 d.vendor 0 0 (omega arith)) (low 0x02 2 d.device 0 0 (omega arith)))
     (low 0x04 2 0 0x0547 0 (omega arith))) (low 0x06 2 d.status 0 0xf900 (omega arith)))
     (low 0x08 1 d.revision 0 0 (omega arith))) (low 0x09 3 d.class 0 0 (omega arith)))
-    (low 0x0c 2 0 0xffff 0 (omega arith))) (low 0x0e 1 (header_type 0 shared) 0 0 (omega arith)))
+    (low 0x0c 2 0 0xffff 0 (omega arith))) (low 0x0e 1 (header_type 0 multifunction) 0 0 (omega arith)))
     (high 0x2c 2 d.subvendor 0 0 (omega arith) (omega arith))) (high 0x2e 2 d.subsystem 0 0 (omega arith) (omega arith)))
     (high 0x3c 1 0 0xff 0 (omega arith) (omega arith))) (high 0x3d 1 d.pin 0 0 (omega arith) (omega arith)))
     (high 0x3e 1 d.min_gnt 0 0 (omega arith) (omega arith))) (high 0x3f 1 d.max_lat 0 0 (omega arith) (omega arith))
 
-reset_away : (d : Endpoint) (shared : Bool) → Each IsConfigBlock d.blocks → IsAway (config_reset d shared)
-reset_away d shared h = join (header_away d shared) (record { places = config_blocks d.blocks; none = λ q e. none_blocks q d.blocks h e })
+reset_away : (d : Endpoint) (multifunction : Bool) → Each IsConfigBlock d.blocks → IsAway (config_reset d multifunction)
+reset_away d multifunction h = join (header_away d multifunction) (record { places = config_blocks d.blocks; none = λ q e. none_blocks q d.blocks h e })
 
 -- ---- regions by register
 
@@ -248,9 +248,9 @@ module _ (d : Endpoint) (lawful : IsLawfulEndpoint d) (blocks : List CellFile) (
       by_size (inl l) = filled n l ∙ ap cells_of (not_declared d.regions u)
       by_size (inr l) = no_block blocks n (omega (arith, six, l))
 
-  parts_at_reset : (shared : Bool) → AreParts d (config_reset d shared) (map closed d.regions) (block_at blocks)
-  parts_at_reset shared =
-      let away = reset_away d shared lawful.config_blocks in
+  parts_at_reset : (multifunction : Bool) → AreParts d (config_reset d multifunction) (map closed d.regions) (block_at blocks)
+  parts_at_reset multifunction =
+      let away = reset_away d multifunction lawful.config_blocks in
       record {
         lawful = lawful.regions;
         registers = opened_closed d.regions;
@@ -261,8 +261,8 @@ module _ (d : Endpoint) (lawful : IsLawfulEndpoint d) (blocks : List CellFile) (
         unused = unused;
       }
 
-  file_at_reset : (shared : Bool) → config_reset d shared ++ region_parts (map closed d.regions) (block_at blocks) ≡ endpoint_reset d shared
-  file_at_reset shared = ap (λ (xs : File). config_reset d shared ++ xs) (parts_of d.regions (block_at blocks)
+  file_at_reset : (multifunction : Bool) → config_reset d multifunction ++ region_parts (map closed d.regions) (block_at blocks) ≡ endpoint_reset d multifunction
+  file_at_reset multifunction = ap (λ (xs : File). config_reset d multifunction ++ xs) (parts_of d.regions (block_at blocks)
       (each_by_index (λ r. block_at blocks r.index ≡ cells_from (config 0) r.cells) d.regions (λ i r e.
       let region : IsLawfulRegion r = each_at IsLawfulRegion d.regions i r lawful.regions.each e in
       let some = some_register r.kind in
@@ -270,12 +270,12 @@ module _ (d : Endpoint) (lawful : IsLawfulEndpoint d) (blocks : List CellFile) (
       filled r.index (omega (arith, some, within)) ∙ ap cells_of (own_region d.regions (rising d.regions lawful.regions.in_order) i r e))))
 
   -- the same for any parts that are those
-  module _ (shared : Bool) (cells : File) (bars : List BaseAddress) (cells_are : cells ≡ config_reset d shared) (bars_are : bars ≡ map closed d.regions) where
+  module _ (multifunction : Bool) (cells : File) (bars : List BaseAddress) (cells_are : cells ≡ config_reset d multifunction) (bars_are : bars ≡ map closed d.regions) where
     pub parts_new : AreParts d cells bars (block_at blocks)
-    parts_new = subst (λ (xs : File). AreParts d xs bars (block_at blocks)) (sym cells_are) (subst (λ (bs : List BaseAddress). AreParts d (config_reset d shared) bs (block_at blocks)) (sym bars_are) (parts_at_reset shared))
+    parts_new = subst (λ (xs : File). AreParts d xs bars (block_at blocks)) (sym cells_are) (subst (λ (bs : List BaseAddress). AreParts d (config_reset d multifunction) bs (block_at blocks)) (sym bars_are) (parts_at_reset multifunction))
 
-    pub file_new : cells ++ region_parts bars (block_at blocks) ≡ endpoint_reset d shared
-    file_new = ap₂ (λ (xs : File) (bs : List BaseAddress). xs ++ region_parts bs (block_at blocks)) cells_are bars_are ∙ file_at_reset shared
+    pub file_new : cells ++ region_parts bars (block_at blocks) ≡ endpoint_reset d multifunction
+    file_new = ap₂ (λ (xs : File) (bs : List BaseAddress). xs ++ region_parts bs (block_at blocks)) cells_are bars_are ∙ file_at_reset multifunction
 
 -- blocks declared by any list that is those regions
 pub blocks_declared : (d : Endpoint) (rs : List Region) → rs ≡ d.regions → (blocks : List CellFile) → ((n : ℕ) → n < 6 → block_at blocks n ≡ declared_block rs n) → (n : ℕ) → n < 6 → block_at blocks n ≡ declared_block d.regions n

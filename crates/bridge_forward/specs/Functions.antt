@@ -28,8 +28,8 @@ with_cells (Endpoint e) file = Endpoint (record e { file = file })
 with_cells (Bridge b) file = Bridge (record b { file = file })
 
 abbrev pub reset_cells : Decl → Bool → File
-reset_cells (endpoint d) shared = endpoint_reset d shared
-reset_cells (bridge d) shared = bridge_reset d shared
+reset_cells (endpoint d) multifunction = endpoint_reset d multifunction
+reset_cells (bridge d) multifunction = bridge_reset d multifunction
 
 abbrev pub endpoint_in : Function → Option decoding.Function
 endpoint_in (Endpoint e) = Some e

@@ -1,11 +1,11 @@
 -- A board's functions at reset.
 use Rattle.std.specs.Prelude.{List, map}
-use Rattle.model_board.specs.Board.{Row, Board, is_shared}
+use Rattle.model_board.specs.Board.{Row, Board, is_multifunction}
 use Rattle.model_board.specs.State.{BoardFunction}
 use Rattle.bridge_forward.specs.Functions.{reset_cells}
 
 abbrev pub reset_function : Board → Row → BoardFunction
-reset_function b r = record { path = r.path; decl = r.decl; file = reset_cells r.decl (is_shared b r.path) }
+reset_function b r = record { path = r.path; decl = r.decl; file = reset_cells r.decl (is_multifunction b r.path) }
 
 abbrev pub reset_functions : Board → List BoardFunction
 reset_functions b = map (reset_function b) b

@@ -8,7 +8,7 @@ ghost use Rattle.model_registers.specs.Decoding.{is_open};
 ghost use Rattle.model_board.specs.Windows.{Window, is_in, is_in_window};
 ghost use Rattle.model_board.specs.Cycles.{secondary_register, subordinate_register};
 ghost use Rattle.bars.specs.Kinds.{named_space};
-ghost use Rattle.headers.specs.Spans.{span_of};
+ghost use Rattle.headers.specs.WindowPairs.{pair_of};
 
 use bars::Space;
 use config_bytes::{Cells, enables_of, from_lanes};
@@ -32,31 +32,31 @@ impl Model for BridgeFn {
 }
 
 impl BridgeFn {
-    /// The bridge at reset. `shared` says that its device holds other functions.
-    pub(crate) fn new(alloc: Global, decl: BridgeDecl, shared: bool) -> Result<BridgeFn, AllocError>
-        ensures made { IfOk result (λ b. b ≡ record { decl = decl; file = bridge_reset decl shared }) }
+    /// The bridge at reset. `multifunction` says that its device holds other functions.
+    pub(crate) fn new(alloc: Global, decl: BridgeDecl, multifunction: bool) -> Result<BridgeFn, AllocError>
+        ensures made { IfOk result (λ b. b ≡ record { decl = decl; file = bridge_reset decl multifunction }) }
         ensures lawful { IfOk result (λ _. IsLawfulBridge decl) }
     {
         // A bridge that is there has a vendor.
         prove!(decl.vendor() != 0xffff);
-        let cells = Bridge::cells(alloc, &decl, shared)?;
+        let cells = Bridge::cells(alloc, &decl, multifunction)?;
         Ok(BridgeFn { decl, cells })
     }
 
     /// The enabled bytes of the configuration word at `off`, a multiple of 4.
-    pub(crate) fn config_read(&self, off: u8, be: u8) -> u32
+    pub(crate) fn config_read(&self, off: u8, enables: u8) -> u32
         requires { off % 4 ≡ 0 }
-        ensures { result ≡ read self.now.file (config off) (lanes be) }
+        ensures { result ≡ read self.now.file (config off) (lanes enables) }
     {
-        self.cells.read(u16::from(off), be)
+        self.cells.read(u16::from(off), enables)
     }
 
     /// Writes the enabled bytes of the configuration word at `off`, a multiple of 4.
-    pub(crate) fn config_write(&mut self, off: u8, be: u8, data: u32)
+    pub(crate) fn config_write(&mut self, off: u8, enables: u8, data: u32)
         requires { off % 4 ≡ 0 }
-        ensures { self.new ≡ record self.old { file = write (lanes be) «data» (config off) self.old.file } }
+        ensures { self.new ≡ record self.old { file = write (lanes enables) «data» (config off) self.old.file } }
     {
-        self.cells.write(u16::from(off), be, data);
+        self.cells.write(u16::from(off), enables, data);
     }
 
     /// Whether an address is forwarded: Command opens its space, and a window of that space holds it
@@ -96,7 +96,7 @@ impl BridgeFn {
 
 /// Whether the address is one of a window, whose first and last address are included.
 fn is_in(addr: u64, window: Option<(u64, u64)>) -> bool
-    ensures { (w : Option Window) → window ≡ option_map span_of w → result ≡ is_in addr w }
+    ensures { (w : Option Window) → window ≡ option_map pair_of w → result ≡ is_in addr w }
 {
     match window {
         None => false,

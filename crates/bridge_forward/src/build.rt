@@ -1,6 +1,6 @@
 //! The tree of a board, built from what is declared of its functions.
 ghost use Rattle.std.specs.Prelude.{◌≡◌, ◌<◌, IfOk, length, map};
-ghost use Rattle.model_board.specs.Board.{IsBoard, is_shared};
+ghost use Rattle.model_board.specs.Board.{IsBoard, is_multifunction};
 ghost use Rattle.model_board.specs.Lawful.{IsLawfulDecl, HasLawfulDecls};
 ghost use Rattle.model_board.specs.Places.{board_of};
 ghost use Rattle.bridge_forward.specs.Layout.{function_of, functions_of, paths_of, AreInOrder, EndsAt, IsLaidOut};
@@ -22,25 +22,25 @@ fn sort(decls: &mut Vec<Decl>)
 
 /// Which of the functions stand in a device with other functions. Each is compared with all, once,
 /// before the board is used.
-fn shared_devices(alloc: Global, decls: &[Decl]) -> Result<Vec<bool>, AllocError>
-    ensures { IfOk result (λ v. v.items ≡ map (λ r. is_shared decls.now r.path) decls.now) }
+fn multifunction_devices(alloc: Global, decls: &[Decl]) -> Result<Vec<bool>, AllocError>
+    ensures { IfOk result (λ v. v.items ≡ map (λ r. is_multifunction decls.now r.path) decls.now) }
 {
     decls
         .iter()
-        .map(|decl| decl.is_shared(decls))
+        .map(|decl| decl.is_multifunction(decls))
         .collect(alloc)
 }
 
 /// The function at reset, at its path. Where it ends is set by `lay_out`.
-fn node_at_reset(alloc: Global, decl: Decl, shared: bool) -> Result<Node, AllocError>
-    ensures made { IfOk result (λ n. function_of n ≡ record { path = decl.path; decl = decl.decl; file = reset_cells decl.decl shared }) }
+fn node_at_reset(alloc: Global, decl: Decl, multifunction: bool) -> Result<Node, AllocError>
+    ensures made { IfOk result (λ n. function_of n ≡ record { path = decl.path; decl = decl.decl; file = reset_cells decl.decl multifunction }) }
     ensures lawful { IfOk result (λ _. IsLawfulDecl decl.decl) }
 {
     let Decl { path, function } = decl;
     Ok(Node {
         path,
         end: 0,
-        function: Function::new(alloc, function, shared)?,
+        function: Function::new(alloc, function, multifunction)?,
     })
 }
 
@@ -52,11 +52,11 @@ pub(crate) fn nodes_at_reset(alloc: Global, decls: Vec<Decl>) -> Result<Vec<Node
 {
     let mut decls = decls;
     sort(&mut decls);
-    let shared = shared_devices(alloc, &decls)?;
+    let multifunction = multifunction_devices(alloc, &decls)?;
     let mut nodes = Vec::with_capacity(alloc, decls.len())?;
     for decl in decls {
-        let is_shared = shared[nodes.len()];
-        nodes.push(node_at_reset(alloc, decl, is_shared)?)?;
+        let is_multifunction = multifunction[nodes.len()];
+        nodes.push(node_at_reset(alloc, decl, is_multifunction)?)?;
     }
     Ok(nodes)
 }

@@ -93,7 +93,7 @@ impl Bus {
     ghost use Rattle.bridge_forward.specs.Lending.{LendsEndpoint, endpoint_at};
 
     /// The board of these functions, which stand at lawful places, at reset. Nothing else refuses
-    /// than want of memory, and no later call takes memory.
+    /// than that memory is out, and no later call takes memory.
     pub fn build(alloc: Global, decls: Vec<Decl>) -> Result<Bus, AllocError>
         requires { IsBoard (board_of decls.items) }
         ensures functions { IfOk result (λ bus. bus ≡ (reset_state (board_of decls.items)).functions) }

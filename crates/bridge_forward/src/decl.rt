@@ -2,7 +2,7 @@
 ghost use Rattle.std.specs.Prelude.{◌≡◌, ◌==◌, ◌&&◌, not, ◌↔◌, IsTrue};
 ghost use Rattle.std.specs.Ordering.{is_lt};
 ghost use Rattle.model_board.specs.Paths.{path_eq, path_before, parent, last_part};
-ghost use Rattle.model_board.specs.Board.{IsBoard, is_shared};
+ghost use Rattle.model_board.specs.Board.{IsBoard, is_multifunction};
 ghost use Rattle.model_board.specs.Places.{board_of, standing};
 
 use crate::path::Path;
@@ -51,8 +51,8 @@ impl Decl {
     }
 
     /// Whether one of these is another function of the same device.
-    pub(crate) fn is_shared(&self, decls: &[Decl]) -> bool
-        ensures { result ≡ is_shared decls.now self.now.path }
+    pub(crate) fn is_multifunction(&self, decls: &[Decl]) -> bool
+        ensures { result ≡ is_multifunction decls.now self.now.path }
     {
         decls.iter().any(|other| self.shares_device(other))
     }

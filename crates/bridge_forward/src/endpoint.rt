@@ -42,16 +42,16 @@ impl Model for EndpointFn {
 }
 
 impl EndpointFn {
-    /// The endpoint at reset. `shared` says that its device holds other functions.
+    /// The endpoint at reset. `multifunction` says that its device holds other functions.
     pub(crate) fn new(
         alloc: Global,
         decl: EndpointDecl,
-        shared: bool,
+        multifunction: bool,
     ) -> Result<EndpointFn, AllocError>
-        ensures made { IfOk result (λ e. e ≡ record { decl = decl; file = endpoint_reset decl shared }) }
+        ensures made { IfOk result (λ e. e ≡ record { decl = decl; file = endpoint_reset decl multifunction }) }
         ensures lawful { IfOk result (λ _. IsLawfulEndpoint decl) }
     {
-        let config = Endpoint::cells(alloc, &decl, shared)?;
+        let config = Endpoint::cells(alloc, &decl, multifunction)?;
         let regions = &decl.values().bar;
         let bars = Bars::new(bar_decls(regions));
         let blocks = block_files(alloc, regions)?;
@@ -72,26 +72,26 @@ impl EndpointFn {
 
     /// The enabled bytes of the word at `off`, a multiple of 4, in the block of the region at the base
     /// address register `reg`. All else reads 0: past the block, and where no region begins at `reg`.
-    pub fn read(&self, reg: u8, off: u64, be: u8) -> u32
+    pub fn read(&self, reg: u8, off: u64, enables: u8) -> u32
         requires { off % 4 ≡ 0 }
-        ensures { result ≡ read self.now.file (block reg off) (lanes be) }
+        ensures { result ≡ read self.now.file (block reg off) (lanes enables) }
     {
         match self.blocks.get(usize::from(reg)) {
-            Some(block) => offsets::read(block, off, be),
+            Some(block) => offsets::read(block, off, enables),
             None => 0,
         }
     }
 
     /// Writes the enabled bytes of the word at `off`, a multiple of 4, in that block. What has no cell
     /// there drops them.
-    pub fn write(&mut self, reg: u8, off: u64, be: u8, data: u32)
+    pub fn write(&mut self, reg: u8, off: u64, enables: u8, data: u32)
         requires { off % 4 ≡ 0 }
-        ensures { self.new ≡ record self.old { file = write (lanes be) «data» (block reg off) self.old.file } }
+        ensures { self.new ≡ record self.old { file = write (lanes enables) «data» (block reg off) self.old.file } }
     {
         let Some(block) = self.blocks.get_mut(usize::from(reg)) else {
             return;
         };
-        offsets::write(block, off, be, data);
+        offsets::write(block, off, enables, data);
     }
 
     /// Raises the bits of `mask` that writing a one clears, in the cell at `off`. All other cells stay.
@@ -109,24 +109,24 @@ impl EndpointFn {
     }
 
     /// The enabled bytes of the configuration word at `off`, a multiple of 4.
-    pub(crate) fn config_read(&self, off: u8, be: u8) -> u32
+    pub(crate) fn config_read(&self, off: u8, enables: u8) -> u32
         requires { off % 4 ≡ 0 }
-        ensures { result ≡ read self.now.file (config off) (lanes be) }
+        ensures { result ≡ read self.now.file (config off) (lanes enables) }
     {
         match base_register(off) {
-            Some(reg) => self.bars.read(reg, be),
-            None => self.config.read(u16::from(off), be),
+            Some(reg) => self.bars.read(reg, enables),
+            None => self.config.read(u16::from(off), enables),
         }
     }
 
     /// Writes the enabled bytes of the configuration word at `off`, a multiple of 4.
-    pub(crate) fn config_write(&mut self, off: u8, be: u8, data: u32)
+    pub(crate) fn config_write(&mut self, off: u8, enables: u8, data: u32)
         requires { off % 4 ≡ 0 }
-        ensures { self.new ≡ record self.old { file = write (lanes be) «data» (config off) self.old.file } }
+        ensures { self.new ≡ record self.old { file = write (lanes enables) «data» (config off) self.old.file } }
     {
         match base_register(off) {
-            Some(reg) => self.bars.write(reg, be, data),
-            None => self.config.write(u16::from(off), be, data),
+            Some(reg) => self.bars.write(reg, enables, data),
+            None => self.config.write(u16::from(off), enables, data),
         }
     }
 

@@ -26,52 +26,52 @@ impl Function {
     ghost use Rattle.bridge_forward.specs.Decls.{declared};
     ghost use Rattle.bridge_forward.specs.Functions.{decl_of, file_of, with_cells, reset_cells, endpoint_in, LendsLeaf};
 
-    /// The function at reset. `shared` says that its device holds other functions.
-    pub(crate) fn new(alloc: Global, decl: Declared, shared: bool) -> Result<Function, AllocError>
+    /// The function at reset. `multifunction` says that its device holds other functions.
+    pub(crate) fn new(alloc: Global, decl: Declared, multifunction: bool) -> Result<Function, AllocError>
         ensures decl { IfOk result (λ f. decl_of f ≡ declared decl) }
-        ensures cells { IfOk result (λ f. file_of f ≡ reset_cells (declared decl) shared) }
+        ensures cells { IfOk result (λ f. file_of f ≡ reset_cells (declared decl) multifunction) }
         ensures lawful { IfOk result (λ _. IsLawfulDecl (declared decl)) }
     {
         match decl {
             Declared::Endpoint(decl) => Ok(Function::Endpoint(EndpointFn::new(
-                alloc, decl, shared,
+                alloc, decl, multifunction,
             )?)),
-            Declared::Bridge(decl) => Ok(Function::Bridge(BridgeFn::new(alloc, decl, shared)?)),
+            Declared::Bridge(decl) => Ok(Function::Bridge(BridgeFn::new(alloc, decl, multifunction)?)),
         }
     }
 
     /// A read or write of the configuration word at `off`, a multiple of 4. A write gives 0.
-    pub(crate) fn access(&mut self, op: Op, off: u8, be: u8) -> u32
+    pub(crate) fn access(&mut self, op: Op, off: u8, enables: u8) -> u32
         requires { off % 4 ≡ 0 }
-        ensures reply { result ≡ reply_to op off be (file_of self.old) }
-        ensures after { self.new ≡ with_cells self.old (after_access op off be (file_of self.old)) }
+        ensures reply { result ≡ reply_to op off enables (file_of self.old) }
+        ensures after { self.new ≡ with_cells self.old (after_access op off enables (file_of self.old)) }
     {
         match op {
-            Op::Read => self.config_read(off, be),
+            Op::Read => self.config_read(off, enables),
             Op::Write(data) => {
-                self.config_write(off, be, data);
+                self.config_write(off, enables, data);
                 0
             }
         }
     }
 
-    fn config_read(&self, off: u8, be: u8) -> u32
+    fn config_read(&self, off: u8, enables: u8) -> u32
         requires { off % 4 ≡ 0 }
-        ensures { result ≡ read (file_of self.now) (config off) (lanes be) }
+        ensures { result ≡ read (file_of self.now) (config off) (lanes enables) }
     {
         match self {
-            Function::Endpoint(endpoint) => endpoint.config_read(off, be),
-            Function::Bridge(bridge) => bridge.config_read(off, be),
+            Function::Endpoint(endpoint) => endpoint.config_read(off, enables),
+            Function::Bridge(bridge) => bridge.config_read(off, enables),
         }
     }
 
-    fn config_write(&mut self, off: u8, be: u8, data: u32)
+    fn config_write(&mut self, off: u8, enables: u8, data: u32)
         requires { off % 4 ≡ 0 }
-        ensures { self.new ≡ with_cells self.old (write (lanes be) «data» (config off) (file_of self.old)) }
+        ensures { self.new ≡ with_cells self.old (write (lanes enables) «data» (config off) (file_of self.old)) }
     {
         match self {
-            Function::Endpoint(endpoint) => endpoint.config_write(off, be, data),
-            Function::Bridge(bridge) => bridge.config_write(off, be, data),
+            Function::Endpoint(endpoint) => endpoint.config_write(off, enables, data),
+            Function::Bridge(bridge) => bridge.config_write(off, enables, data),
         }
     }
 

@@ -9,25 +9,25 @@ ghost use Rattle.bridge_forward.specs.EndpointParts.{IsShort};
 use config_bytes::Cells;
 
 /// The enabled bytes of the word at `off`, a multiple of 4.
-pub(crate) fn read(cells: &Cells, off: u64, be: u8) -> u32
+pub(crate) fn read(cells: &Cells, off: u64, enables: u8) -> u32
     requires word { off % 4 ≡ 0 }
     requires short { IsShort cells.now.now }
-    ensures { result ≡ read cells.now.now (config off) (lanes be) }
+    ensures { result ≡ read cells.now.now (config off) (lanes enables) }
 {
     match u16::try_from(off) {
-        Ok(off) => cells.read(off, be),
+        Ok(off) => cells.read(off, enables),
         Err(_) => 0,
     }
 }
 
 /// Writes the enabled bytes of the word at `off`, a multiple of 4.
-pub(crate) fn write(cells: &mut Cells, off: u64, be: u8, data: u32)
+pub(crate) fn write(cells: &mut Cells, off: u64, enables: u8, data: u32)
     requires word { off % 4 ≡ 0 }
     requires short { IsShort cells.old.now }
-    ensures { cells.new ≡ record cells.old { now = write (lanes be) «data» (config off) cells.old.now } }
+    ensures { cells.new ≡ record cells.old { now = write (lanes enables) «data» (config off) cells.old.now } }
 {
     if let Ok(off) = u16::try_from(off) {
-        cells.write(off, be, data);
+        cells.write(off, enables, data);
     }
 }
 

@@ -6,7 +6,7 @@ use Rattle.model_registers.specs.Lists.{Each, EachPair}
 use Rattle.model_registers.specs.BridgeTable.{bridge_file}
 use Rattle.model_board.specs.Members.{IsIn}
 use Rattle.model_board.specs.Paths.{Path, path_eq, path_before, leads_to}
-use Rattle.model_board.specs.Board.{Board, Row, Decl, endpoint, bridge, is_bridge, is_bridge_at, is_shared, IsBoard}
+use Rattle.model_board.specs.Board.{Board, Row, Decl, endpoint, bridge, is_bridge, is_bridge_at, is_multifunction, IsBoard}
 use Rattle.model_board.specs.BusNumbers.{secondary, subordinate, bus_of}
 use Rattle.model_board.specs.State.{BoardFunction, State}
 use Rattle.model_board.specs.Cycles.{BusAddress, reached, secondary_register, subordinate_register}
@@ -58,9 +58,9 @@ module _ (s : State) (h : IsNumbered s) where
   number_of f m (endpoint d) e k = cc
   number_of f m (bridge d) e k =
       let here : is_bridge_at board f.path ≡ true = bridge_of board h.board s.functions refl f m (ap is_bridge e) in
-      let file : f.file ≡ bridge_file d (is_shared board f.path) (with_numbers (board_numbers board f.path)) =
+      let file : f.file ≡ bridge_file d (is_multifunction board f.path) (with_numbers (board_numbers board f.path)) =
       each_in HoldsNumbered f s.functions holds m ∙ ap (numbered_file board (board_numbers board) f.path) e in
-      ap numbers_in file ∙ numbers_read d (is_shared board f.path) (board_numbers board f.path) (numbers_fit board f.path h.few here)
+      ap numbers_in file ∙ numbers_read d (is_multifunction board f.path) (board_numbers board f.path) (numbers_fit board f.path h.few here)
 
   pub has_numbers : HasNumbers (board_at s.functions) s.functions
   has_numbers = record {

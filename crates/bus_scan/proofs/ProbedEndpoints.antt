@@ -70,13 +70,13 @@ outside_lacks (e ∷ es) q h low high =
     let parts : (is_outside e.place ≡ true) × (lies_outside es ≡ true) = and_parts (is_outside e.place) (lies_outside es) h in
     ap₂ (λ (s t : Bool). s || t) (outside_apart e.place q parts.0 low high) (outside_lacks es q parts.1 low high)
 
-header_outside : (d : Endpoint) (shared : Bool) → lies_outside (header_cells d shared 0) ≡ true
+header_outside : (d : Endpoint) (multifunction : Bool) → lies_outside (header_cells d multifunction 0) ≡ true
 unfolding lies_outside is_outside
-header_outside d shared = refl
+header_outside d multifunction = refl
 
-config_lacks : (d : Endpoint) (shared : Bool) → Each IsConfigBlock d.blocks → (q : ℕ) → 0x10 ≤ q → q < 0x28 → has_place (config_cells d shared 0) (config q) ≡ false
-config_lacks d shared blocks q low high =
-    has_append (header_cells d shared 0) (flat_map block_cells d.blocks) (config q) (outside_lacks (header_cells d shared 0) q (header_outside d shared) low high) (blocks_lack d.blocks q (omega arith) blocks)
+config_lacks : (d : Endpoint) (multifunction : Bool) → Each IsConfigBlock d.blocks → (q : ℕ) → 0x10 ≤ q → q < 0x28 → has_place (config_cells d multifunction 0) (config q) ≡ false
+config_lacks d multifunction blocks q low high =
+    has_append (header_cells d multifunction 0) (flat_map block_cells d.blocks) (config q) (outside_lacks (header_cells d multifunction 0) q (header_outside d multifunction) low high) (blocks_lack d.blocks q (omega arith) blocks)
 
 -- ---- regions
 
@@ -176,8 +176,8 @@ probed_regions n (r ∷ rs) lawful order = elim (side n r) [
       (none_from all_four (0x10 + 4 * n) (region_cells no_bases r) (apart_lacks n r other m)) (probed_regions n rs lawful.1 order.1))
 ]
 
-pub probed_endpoint : (n : ℕ) (d : Endpoint) (shared : Bool) → n < 6 → IsLawfulEndpoint d → Probed all_four (base_register n) (endpoint_reset d shared) (mask_at n d.regions)
-probed_endpoint n d shared h lawful =
-    probed_second all_four (base_register n) (config_cells d shared 0) (flat_map (region_cells no_bases) d.regions) (mask_at n d.regions)
-    (none_from all_four (0x10 + 4 * n) (config_cells d shared 0) (λ q from to. config_lacks d shared lawful.config_blocks q (omega arith) (omega arith)))
+pub probed_endpoint : (n : ℕ) (d : Endpoint) (multifunction : Bool) → n < 6 → IsLawfulEndpoint d → Probed all_four (base_register n) (endpoint_reset d multifunction) (mask_at n d.regions)
+probed_endpoint n d multifunction h lawful =
+    probed_second all_four (base_register n) (config_cells d multifunction 0) (flat_map (region_cells no_bases) d.regions) (mask_at n d.regions)
+    (none_from all_four (0x10 + 4 * n) (config_cells d multifunction 0) (λ q from to. config_lacks d multifunction lawful.config_blocks q (omega arith) (omega arith)))
     (probed_regions n d.regions lawful.regions.each lawful.regions.in_order)

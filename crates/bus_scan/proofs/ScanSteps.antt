@@ -7,7 +7,7 @@ use Rattle.std.proofs.lemmas.List.{map-append, length-map}
 use Rattle.model_registers.specs.Declarations.{no_io, no_pref}
 use Rattle.model_board.specs.Members.{IsIn}
 use Rattle.model_board.specs.Paths.{Part, Path, part_eq, part_before, path_eq, path_before, leads_to, IsPath}
-use Rattle.model_board.specs.Board.{Decl, endpoint, bridge, Board, Row, is_bridge, is_bridge_at, stands_at, is_shared, IsBoard}
+use Rattle.model_board.specs.Board.{Decl, endpoint, bridge, Board, Row, is_bridge, is_bridge_at, stands_at, is_multifunction, IsBoard}
 use Rattle.model_board.specs.BusNumbers.{secondary, subordinate, bus_behind, bus_of, Enumerates}
 use Rattle.model_board.specs.FunctionTable.{TableRow, met_decl, scanned_table, table_row}
 use Rattle.model_board.specs.State.{BoardFunction, State}
@@ -53,7 +53,7 @@ pub data Sight (b : Board) (bus : Path) (number n : ℕ) (o : Option Seen) : Typ
 
 pub sighted : (b : Board) (bus : Path) (number : ℕ) → OnBus b bus number → (n : ℕ) (s : State) (rows : List TableRow) (last : ℕ) → IsAt b (on bus n) s rows last → (a : BusAddress) → a ≡ record { bus = number; part = place n }
     → (o : Option Seen) → (reached s.functions a ≡ None → o ≡ None)
-    → ((c : Board) (numbers : Path → BusNumbers) (f : BoardFunction) → reached s.functions a ≡ Some f → f.file ≡ numbered_file c numbers f.path f.decl → IsLawfulDecl f.decl → o ≡ Some (seen_of (is_shared c f.path) f.decl))
+    → ((c : Board) (numbers : Path → BusNumbers) (f : BoardFunction) → reached s.functions a ≡ Some f → f.file ≡ numbered_file c numbers f.path f.decl → IsLawfulDecl f.decl → o ≡ Some (seen_of (is_multifunction c f.path) f.decl))
     → Sight b bus number n o
 sighted b bus number on_bus n s rows last at a is o none some = by_stands (stands_at b (on bus n)) refl
   where
@@ -68,17 +68,17 @@ sighted b bus number on_bus n s rows last at a is o none some = by_stands (stand
         let r = stands b (on bus n) e in
         let numbers = scan_numbers b (on bus n) in
         let shown = some b numbers (numbered b numbers r.0) (found_here ∙ one_stands b on_bus.board numbers (on bus n) r.0 r.1) refl (each_in (λ (r : Row). IsLawfulDecl r.decl) r.0 b on_bus.declarations r.1.member) in
-        Function r.0 (seen_of (is_shared b r.0.path) r.0.decl) shown (record {
+        Function r.0 (seen_of (is_multifunction b r.0.path) r.0.decl) shown (record {
           on_bus = on_bus;
           stands = r.1;
-          shows = ap (λ (p : Path). seen_of (is_shared b p) r.0.decl) r.1.path;
+          shows = ap (λ (p : Path). seen_of (is_multifunction b p) r.0.decl) r.1.path;
         })
 
 -- ---- from place to place
 
 -- the next place, as the program finds it
-pub next_is : (b : Board) (bus : Path) (n m : ℕ) (t shared : Bool) → stands_at b (on bus n) ≡ t → (t && is_shared b (on bus n)) ≡ shared → m ≡ cond (eqb (n % 8) 0 && not shared) (n + 8) (n + 1) → m ≡ next_place b bus n
-next_is b bus n m t shared e f h = h ∙ ap (λ x. cond (eqb (n % 8) 0 && not x) (n + 8) (n + 1)) (sym f ∙ ap (λ x. x && is_shared b (on bus n)) (sym e))
+pub next_is : (b : Board) (bus : Path) (n m : ℕ) (t multifunction : Bool) → stands_at b (on bus n) ≡ t → (t && is_multifunction b (on bus n)) ≡ multifunction → m ≡ cond (eqb (n % 8) 0 && not multifunction) (n + 8) (n + 1) → m ≡ next_place b bus n
+next_is b bus n m t multifunction e f h = h ∙ ap (λ x. cond (eqb (n % 8) 0 && not x) (n + 8) (n + 1)) (sym f ∙ ap (λ x. x && is_multifunction b (on bus n)) (sym e))
 
 -- where no function is met in between, and no number changes
 pub goes_on : (b : Board) → IsBoard b → (p q : Path) → met b q ≡ met b p → ((x : Path) → is_bridge_at b x ≡ true → scan_numbers b q x ≡ scan_numbers b p x) → (s : State) (rows : List TableRow) (last : ℕ) → IsAt b p s rows last → IsAt b q s rows last
@@ -105,9 +105,9 @@ bridge_true b p r is bridge_is = subst (λ (x : Path). is_bridge_at b x ≡ true
 
 -- past an endpoint
 pub past_endpoint : (b : Board) → IsBoard b → (bus : Path) (n m : ℕ) (r : Row) → StandsAt b (on bus n) r → is_bridge r.decl ≡ false → (s : State) (rows : List TableRow) (last : ℕ)
-    → m ≡ cond (eqb (n % 8) 0 && not (is_shared b (on bus n))) (n + 8) (n + 1) → IsAt b (on bus n) s rows last → (row : TableRow) → row ≡ met_row b (scan_numbers b (on bus n)) r → IsAt b (on bus m) s (rows ++ row ∷ []) last
+    → m ≡ cond (eqb (n % 8) 0 && not (is_multifunction b (on bus n))) (n + 8) (n + 1) → IsAt b (on bus n) s rows last → (row : TableRow) → row ≡ met_row b (scan_numbers b (on bus n)) r → IsAt b (on bus m) s (rows ++ row ∷ []) last
 past_endpoint b lawful bus n m r is none s rows last next at row shown =
-    subst (λ k. IsAt b (on bus k) s (rows ++ row ∷ []) last) (sym (next_is b bus n m true (is_shared b (on bus n)) (stands_true b (on bus n) r is) refl next))
+    subst (λ k. IsAt b (on bus k) s (rows ++ row ∷ []) last) (sym (next_is b bus n m true (is_multifunction b (on bus n)) (stands_true b (on bus n) r is) refl next))
     (record {
       state = at.state ∙ same_state b (scan_numbers b (on bus n)) (scan_numbers b (on bus (next_place b bus n))) (λ x k. sym (numbers x k));
       rows_met = ap (λ (x : TableRow). rows ++ x ∷ []) (shown ∙ row_same b (scan_numbers b (on bus n)) (scan_numbers b (on bus (next_place b bus n))) r (λ k. let bad : true ≡ false = sym k ∙ none in cc))
@@ -294,7 +294,7 @@ bridge_row_is b bus number n r seen found bridge_is path path_is k last numbers 
     by_decl : (d : Decl) → r.decl ≡ d → bridge_row path number k last seen ≡ met_row b numbers (record r { decl = d })
     by_decl (endpoint d) e = let bad : true ≡ false = sym bridge_is ∙ ap is_bridge e in cc
     by_decl (bridge d) e =
-        let shows : seen ≡ seen_of (is_shared b (on bus n)) (bridge d) = found.shows ∙ ap (seen_of (is_shared b (on bus n))) e in
+        let shows : seen ≡ seen_of (is_multifunction b (on bus n)) (bridge d) = found.shows ∙ ap (seen_of (is_multifunction b (on bus n))) e in
         λ i. record {
           path = (path_is ∙ sym found.stands.path) i;
           bus = (found.on_bus.named ∙ ap (bus_behind b) (sym (parent_snoc bus (place n))) ∙ ap (bus_of b) (sym found.stands.path)) i;
@@ -418,11 +418,11 @@ none_seen b bus number n o (Function r seen e found) h = cc
 pub record Finds (b : Board) (bus : Path) (number n : ℕ) (seen : Seen) : Type 0 where
   pub row : Row
   pub found : IsFound b bus number n row seen
-  pub next : (m : ℕ) → m ≡ cond (eqb (n % 8) 0 && not seen.is_shared) (n + 8) (n + 1) → m ≡ next_place b bus n
+  pub next : (m : ℕ) → m ≡ cond (eqb (n % 8) 0 && not seen.is_multifunction) (n + 8) (n + 1) → m ≡ next_place b bus n
 
-shares : (shared : Bool) (d : Decl) → (seen_of shared d).is_shared ≡ shared
-shares shared (endpoint d) = refl
-shares shared (bridge d) = refl
+shares : (multifunction : Bool) (d : Decl) → (seen_of multifunction d).is_multifunction ≡ multifunction
+shares multifunction (endpoint d) = refl
+shares multifunction (bridge d) = refl
 
 pub finds : (b : Board) (bus : Path) (number n : ℕ) (o : Option Seen) → Sight b bus number n o → (seen : Seen) → o ≡ Some seen → Finds b bus number n seen
 finds b bus number n o (Nothing none e) seen h = cc
@@ -432,15 +432,15 @@ finds b bus number n o (Function r known e found) seen h =
     record {
       row = r;
       found = found_now;
-      next = λ m is. next_is b bus n m true seen.is_shared (stands_true b (on bus n) r found_now.stands) (sym (ap (λ (x : Seen). x.is_shared) found_now.shows ∙ shares (is_shared b (on bus n)) r.decl)) is;
+      next = λ m is. next_is b bus n m true seen.is_multifunction (stands_true b (on bus n) r found_now.stands) (sym (ap (λ (x : Seen). x.is_multifunction) found_now.shows ∙ shares (is_multifunction b (on bus n)) r.decl)) is;
     }
 
-layout_bridge : (shared : Bool) (d : Decl) → (seen_of shared d).layout ≡ BridgeLayout → is_bridge d ≡ true
-layout_bridge shared (endpoint d) h = cc
-layout_bridge shared (bridge d) h = refl
+layout_bridge : (multifunction : Bool) (d : Decl) → (seen_of multifunction d).layout ≡ BridgeLayout → is_bridge d ≡ true
+layout_bridge multifunction (endpoint d) h = cc
+layout_bridge multifunction (bridge d) h = refl
 
 pub bridge_seen : (b : Board) (bus : Path) (number n : ℕ) (r : Row) (seen : Seen) → IsFound b bus number n r seen → seen.layout ≡ BridgeLayout → is_bridge r.decl ≡ true
-bridge_seen b bus number n r seen found h = layout_bridge (is_shared b (on bus n)) r.decl (ap (λ (x : Seen). x.layout) (sym found.shows) ∙ h)
+bridge_seen b bus number n r seen found h = layout_bridge (is_multifunction b (on bus n)) r.decl (ap (λ (x : Seen). x.layout) (sym found.shows) ∙ h)
 
 -- the row of an endpoint that was met
 abbrev pub endpoint_row : Path → ℕ → ℕ → Seen → TableRow
@@ -456,9 +456,9 @@ pub past_function : (b : Board) (bus : Path) (number n pin : ℕ) (r : Row) (see
 past_function b bus number n pin r seen found h path path_is s rows last at = by_decl r.decl refl
   where
     by_decl : (d : Decl) → r.decl ≡ d → IsAt b (on bus (next_place b bus n)) s (rows ++ endpoint_row path number pin seen ∷ []) last
-    by_decl (bridge d) e = let bad : BridgeLayout ≡ EndpointLayout pin = ap (λ (x : Seen). x.layout) (sym (found.shows ∙ ap (seen_of (is_shared b (on bus n))) e)) ∙ h in cc
+    by_decl (bridge d) e = let bad : BridgeLayout ≡ EndpointLayout pin = ap (λ (x : Seen). x.layout) (sym (found.shows ∙ ap (seen_of (is_multifunction b (on bus n))) e)) ∙ h in cc
     by_decl (endpoint d) e =
-        let shows : seen ≡ seen_of (is_shared b (on bus n)) (endpoint d) = found.shows ∙ ap (seen_of (is_shared b (on bus n))) e in
+        let shows : seen ≡ seen_of (is_multifunction b (on bus n)) (endpoint d) = found.shows ∙ ap (seen_of (is_multifunction b (on bus n))) e in
         let layout : EndpointLayout d.pin ≡ EndpointLayout pin = ap (λ (x : Seen). x.layout) (sym shows) ∙ h in
         let same_pin : pin ≡ d.pin = cc in
         let row : endpoint_row path number pin seen ≡ met_row b (scan_numbers b (on bus n)) (record r { decl = endpoint d }) = λ i. record {
@@ -468,15 +468,15 @@ past_function b bus number n pin r seen found h path path_is s rows last at = by
           decl = decl_of (shows i).vendor (shows i).device (FoundEndpoint (same_pin i) (None ∷ None ∷ None ∷ None ∷ None ∷ None ∷ []));
         } in
         past_endpoint b found.on_bus.board bus n (next_place b bus n) r found.stands (ap is_bridge e) s rows last
-        (ap (λ t. cond (eqb (n % 8) 0 && not (t && is_shared b (on bus n))) (n + 8) (n + 1)) (stands_true b (on bus n) r found.stands))
+        (ap (λ t. cond (eqb (n % 8) 0 && not (t && is_multifunction b (on bus n))) (n + 8) (n + 1)) (stands_true b (on bus n) r found.stands))
         at (endpoint_row path number pin seen) (row ∙ ap (λ (d : Decl). met_row b (scan_numbers b (on bus n)) (record r { decl = d })) (sym e))
 
 -- a bridge that was found, as the steps take it
-pub bridge_found : (b : Board) (bus : Path) (number n : ℕ) (r : Row) (at : BusAddress) → IsBridgeThere b bus number n r at → (path : Path) → path ≡ on bus n → (seen : Seen) → seen ≡ seen_of (is_shared b path) r.decl → IsFound b bus number n r seen
-bridge_found b bus number n r at is path path_is seen shows = record { on_bus = is.on_bus; stands = is.stands; shows = shows ∙ ap (λ (p : Path). seen_of (is_shared b p) r.decl) path_is }
+pub bridge_found : (b : Board) (bus : Path) (number n : ℕ) (r : Row) (at : BusAddress) → IsBridgeThere b bus number n r at → (path : Path) → path ≡ on bus n → (seen : Seen) → seen ≡ seen_of (is_multifunction b path) r.decl → IsFound b bus number n r seen
+bridge_found b bus number n r at is path path_is seen shows = record { on_bus = is.on_bus; stands = is.stands; shows = shows ∙ ap (λ (p : Path). seen_of (is_multifunction b p) r.decl) path_is }
 
 pub bridge_there_of : (b : Board) (bus : Path) (number n : ℕ) (r : Row) (seen : Seen) → IsFound b bus number n r seen → seen.layout ≡ BridgeLayout → (at : BusAddress) → at ≡ record { bus = number; part = place n } → IsBridgeThere b bus number n r at
 bridge_there_of b bus number n r seen found layout at at_is = record { on_bus = found.on_bus; stands = found.stands; is_bridge_there = bridge_seen b bus number n r seen found layout; address = at_is }
 
-pub shows_at : (b : Board) (bus : Path) (number n : ℕ) (r : Row) (seen : Seen) → IsFound b bus number n r seen → (path : Path) → path ≡ on bus n → seen ≡ seen_of (is_shared b path) r.decl
-shows_at b bus number n r seen found path path_is = found.shows ∙ sym (ap (λ (p : Path). seen_of (is_shared b p) r.decl) path_is)
+pub shows_at : (b : Board) (bus : Path) (number n : ℕ) (r : Row) (seen : Seen) → IsFound b bus number n r seen → (path : Path) → path ≡ on bus n → seen ≡ seen_of (is_multifunction b path) r.decl
+shows_at b bus number n r seen found path path_is = found.shows ∙ sym (ap (λ (p : Path). seen_of (is_multifunction b p) r.decl) path_is)

@@ -8,7 +8,7 @@ use Rattle.model_registers.specs.Declarations.{Bridge, HasLawfulRegions, IoDecod
 use Rattle.model_registers.specs.DeclarationRules.{IsLawfulEndpoint}
 use Rattle.model_registers.specs.EndpointTable.{endpoint_reset}
 use Rattle.model_registers.specs.BridgeTable.{bridge_file}
-use Rattle.model_board.specs.Board.{Decl, endpoint, bridge, is_bridge, is_shared}
+use Rattle.model_board.specs.Board.{Decl, endpoint, bridge, is_bridge, is_multifunction}
 use Rattle.model_board.specs.State.{BoardFunction, State}
 use Rattle.model_board.specs.Cycles.{BusAddress, reached}
 use Rattle.model_board.specs.Lawful.{IsLawfulDecl}
@@ -38,16 +38,16 @@ module _ (s : State) (h : IsNumbered s) (at : BusAddress) where
     there : (f : BoardFunction) × (reached s.functions at ≡ Some f) × (f.decl ≡ bridge is.0)
     there = reached_decl s.functions at (bridge is.0) is.1
 
-    file : there.0.file ≡ bridge_file is.0 (is_shared (board_at s.functions) there.0.path) (with_numbers (board_numbers (board_at s.functions) there.0.path))
+    file : there.0.file ≡ bridge_file is.0 (is_multifunction (board_at s.functions) there.0.path) (with_numbers (board_numbers (board_at s.functions) there.0.path))
     file =
         each_reached (λ f. f.file ≡ numbered_file (board_at s.functions) (board_numbers (board_at s.functions)) f.path f.decl) s.functions at there.0 (holds s h) there.1
         ∙ ap (numbered_file (board_at s.functions) (board_numbers (board_at s.functions)) there.0.path) there.2
 
     io_probed : Probed (lanes 0b0011) (config 0x1c) there.0.file (io_mask is.0.io)
-    io_probed = subst (λ x. Probed (lanes 0b0011) (config 0x1c) x (io_mask is.0.io)) (sym file) (probed_io is.0 (is_shared (board_at s.functions) there.0.path) (board_numbers (board_at s.functions) there.0.path))
+    io_probed = subst (λ x. Probed (lanes 0b0011) (config 0x1c) x (io_mask is.0.io)) (sym file) (probed_io is.0 (is_multifunction (board_at s.functions) there.0.path) (board_numbers (board_at s.functions) there.0.path))
 
     pref_probed : Probed (lanes 0b1111) (config 0x24) there.0.file (pref_mask is.0.pref)
-    pref_probed = subst (λ x. Probed (lanes 0b1111) (config 0x24) x (pref_mask is.0.pref)) (sym file) (probed_pref is.0 (is_shared (board_at s.functions) there.0.path) (board_numbers (board_at s.functions) there.0.path))
+    pref_probed = subst (λ x. Probed (lanes 0b1111) (config 0x24) x (pref_mask is.0.pref)) (sym file) (probed_pref is.0 (is_multifunction (board_at s.functions) there.0.path) (board_numbers (board_at s.functions) there.0.path))
 
     pub io_taken : TakesBack s at 0x1c (lanes 0b0011)
     io_taken = takes_back s h at there.0 there.1 (lanes 0b0011) 0x1c (λ _. omega arith) (io_mask is.0.io) io_probed
@@ -67,7 +67,7 @@ module _ (s : State) (h : IsNumbered s) (at : BusAddress) where
     stands : (f : BoardFunction) × (reached s.functions at ≡ Some f) × (f.decl ≡ endpoint is.0)
     stands = reached_decl s.functions at (endpoint is.0) is.1
 
-    cells : stands.0.file ≡ endpoint_reset is.0 (is_shared (board_at s.functions) stands.0.path)
+    cells : stands.0.file ≡ endpoint_reset is.0 (is_multifunction (board_at s.functions) stands.0.path)
     cells =
         each_reached (λ f. f.file ≡ numbered_file (board_at s.functions) (board_numbers (board_at s.functions)) f.path f.decl) s.functions at stands.0 (holds s h) stands.1
         ∙ ap (numbered_file (board_at s.functions) (board_numbers (board_at s.functions)) stands.0.path) stands.2
@@ -83,7 +83,7 @@ module _ (s : State) (h : IsNumbered s) (at : BusAddress) where
 
     module _ (n : ℕ) (below : n < 6) where
       probed : Probed (lanes 0b1111) (config (0x10 + 4 * n)) stands.0.file (mask_at n is.0.regions)
-      probed = subst (λ x. Probed (lanes 0b1111) (config (0x10 + 4 * n)) x (mask_at n is.0.regions)) (sym cells) (probed_endpoint n is.0 (is_shared (board_at s.functions) stands.0.path) below lawful)
+      probed = subst (λ x. Probed (lanes 0b1111) (config (0x10 + 4 * n)) x (mask_at n is.0.regions)) (sym cells) (probed_endpoint n is.0 (is_multifunction (board_at s.functions) stands.0.path) below lawful)
 
       pub bar_taken : TakesBack s at (0x10 + 4 * n) (lanes 0b1111)
       bar_taken = takes_back s h at stands.0 stands.1 (lanes 0b1111) (0x10 + 4 * n) (λ k. absurd (no_bridge k)) (mask_at n is.0.regions) probed

@@ -8,7 +8,7 @@ use Rattle.model_registers.specs.ByteEnables.{lanes}
 use Rattle.model_registers.specs.BridgeTable.{bridge_file}
 use Rattle.model_board.specs.Members.{IsIn}
 use Rattle.model_board.specs.Paths.{Path, path_eq}
-use Rattle.model_board.specs.Board.{Decl, endpoint, bridge, Board, Row, is_bridge, is_bridge_at, stands_at, is_shared, IsBoard}
+use Rattle.model_board.specs.Board.{Decl, endpoint, bridge, Board, Row, is_bridge, is_bridge_at, stands_at, is_multifunction, IsBoard}
 use Rattle.model_board.specs.State.{BoardFunction, State, with_file}
 use Rattle.model_board.specs.Cycles.{BusAddress, reached}
 use Rattle.model_board.specs.Ports.{after_config_write}
@@ -41,7 +41,7 @@ same_function b n m h r k = by_decl r.decl refl
     by_decl (endpoint d) e = ap₂ (λ (c : Decl) (file : File). let f : BoardFunction = record { path = r.path; decl = r.decl; file = file } in f) e (ap (numbered_file b n r.path) e ∙ sym (ap (numbered_file b m r.path) e))
     by_decl (bridge d) e =
         ap (λ (file : File). let f : BoardFunction = record { path = r.path; decl = r.decl; file = file } in f)
-        (ap (numbered_file b n r.path) e ∙ ap (λ (x : BusNumbers). bridge_file d (is_shared b r.path) (with_numbers x)) (h r.path (bridge_there b r k (ap is_bridge e))) ∙ sym (ap (numbered_file b m r.path) e))
+        (ap (numbered_file b n r.path) e ∙ ap (λ (x : BusNumbers). bridge_file d (is_multifunction b r.path) (with_numbers x)) (h r.path (bridge_there b r k (ap is_bridge e))) ∙ sym (ap (numbered_file b m r.path) e))
 
 pub map_same : {A B : Type 0} (f g : A → B) (xs : List A) → ((x : A) → IsIn x xs → f x ≡ g x) → map f xs ≡ map g xs
 map_same f g [] h = refl
@@ -107,7 +107,7 @@ module _ (b : Board) (lawful : IsBoard b) (numbers : Numbers) (p : Path) (there 
           let same : s.0 ≡ r = one_row b lawful s.0 r s.1 m (s.3 ∙ sym (path_same r.path p e)) in
           let bad : true ≡ false = sym s.2 ∙ ap (λ (t : Row). is_bridge t.decl) same ∙ ap is_bridge k in
           cc
-      by_decl (bridge d) k = rw e (ap (λ (file : File). let f : BoardFunction = record { path = r.path; decl = bridge d; file = file } in f) (bridge_written d (is_shared b r.path) (numbers r.path) n fits))
+      by_decl (bridge d) k = rw e (ap (λ (file : File). let f : BoardFunction = record { path = r.path; decl = bridge d; file = file } in f) (bridge_written d (is_multifunction b r.path) (numbers r.path) n fits))
 
   each_written : (r : Row) → IsIn r b → (t : Bool) → path_eq r.path p ≡ t → cond t (put (numbered b numbers r)) (numbered b numbers r) ≡ numbered b (given p n numbers) r
   each_written r m true e = here_changes r m e

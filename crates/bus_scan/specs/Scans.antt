@@ -8,7 +8,7 @@
 use Rattle.std.specs.Prelude.{List, ◌≡◌, ℕ, ◌+◌, ◌<◌, ◌⊎◌, Option, Some, None, map, if◌then◌else◌, IsTrue}
 use Rattle.model_board.specs.Members.{IsIn}
 use Rattle.model_board.specs.Paths.{Path, path_eq}
-use Rattle.model_board.specs.Board.{Decl, endpoint, bridge, is_bridge, Row, Board, is_shared, IsBoard}
+use Rattle.model_board.specs.Board.{Decl, endpoint, bridge, is_bridge, Row, Board, is_multifunction, IsBoard}
 use Rattle.model_board.specs.BusNumbers.{secondary, bus_behind, bus_of, Enumerates}
 use Rattle.model_board.specs.State.{State}
 use Rattle.model_board.specs.Cycles.{BusAddress}
@@ -54,7 +54,7 @@ pub record StandsAt (b : Board) (p : Path) (r : Row) : Type 0 where
 pub record IsFound (b : Board) (bus : Path) (number n : ℕ) (r : Row) (seen : Seen) : Type 0 where
   pub on_bus : OnBus b bus number
   pub stands : StandsAt b (on bus n) r
-  pub shows : seen ≡ seen_of (is_shared b (on bus n)) r.decl
+  pub shows : seen ≡ seen_of (is_multifunction b (on bus n)) r.decl
 
 pub record IsBridgeThere (b : Board) (bus : Path) (number n : ℕ) (r : Row) (at : BusAddress) : Type 0 where
   pub on_bus : OnBus b bus number

@@ -6,5 +6,5 @@ use Rattle.bus_scan.specs.declared.seen.Seen.{Seen}
 use Rattle.bus_scan.specs.declared.seen.Layout.TheVariants.{Endpoint as EndpointLayout, Bridge as BridgeLayout}
 
 abbrev pub seen_of : Bool → Decl → Seen
-seen_of shared (endpoint d) = record { vendor = d.vendor; device = d.device; is_shared = shared; layout = EndpointLayout d.pin }
-seen_of shared (bridge d) = record { vendor = d.vendor; device = d.device; is_shared = shared; layout = BridgeLayout }
+seen_of multifunction (endpoint d) = record { vendor = d.vendor; device = d.device; is_multifunction = multifunction; layout = EndpointLayout d.pin }
+seen_of multifunction (bridge d) = record { vendor = d.vendor; device = d.device; is_multifunction = multifunction; layout = BridgeLayout }

@@ -1,7 +1,7 @@
 //! The scan of a board by configuration cycles (PCI-to-PCI Bridge Architecture 1.2, chapter 3.2.5).
 ghost use Rattle.std.specs.Prelude.{◌≡◌, ◌⊎◌, ◌<◌, ◌+◌, [], ◌∷◌, ◌++◌, length, IfOk, IfErr, MatchResult, IsTrue, Some, find, ℕ, ◌≤◌};
 ghost use Rattle.model_board.specs.Paths.{Path as PathValue, path_eq};
-ghost use Rattle.model_board.specs.Board.{Board, Row, is_bridge, is_bridge_at, is_shared, IsBoard};
+ghost use Rattle.model_board.specs.Board.{Board, Row, is_bridge, is_bridge_at, is_multifunction, IsBoard};
 ghost use Rattle.model_board.specs.BusNumbers.{Enumerates, secondary};
 ghost use Rattle.model_board.specs.Members.{IsIn};
 ghost use Rattle.model_board.specs.SetUp.{state_of};
@@ -78,7 +78,7 @@ impl Enumeration {
         seen: Seen,
     ) -> Result<u8, Fault>
         ensures opened { (b : Board) (on_path : PathValue) (n : ℕ) (r : Row) → IsBridgeThere b on_path bus n r (bus_address_of at)
-            → path ≡ on on_path n → seen ≡ seen_of (is_shared b path) r.decl
+            → path ≡ on on_path n → seen ≡ seen_of (is_multifunction b path) r.decl
             → ComesTo b (on on_path n) host.old self.old
             → MatchResult result
             (λ number. (number ≡ secondary b (on on_path n)) × ComesTo b (on (on on_path n) 0) host.new self.new)
@@ -127,7 +127,7 @@ impl Enumeration {
         seen: Seen,
     ) -> Result<(), Fault>
         ensures scanned { (b : Board) (on_path : PathValue) (n : ℕ) (r : Row) → IsBridgeThere b on_path bus n r (bus_address_of at)
-            → path ≡ on on_path n → seen ≡ seen_of (is_shared b path) r.decl
+            → path ≡ on on_path n → seen ≡ seen_of (is_multifunction b path) r.decl
             → ComesTo b (on on_path n) host.old self.old
             → MatchResult result
             (λ _. ComesTo b (on on_path (next_place b on_path n)) host.new self.new)
@@ -169,7 +169,7 @@ impl Enumeration {
             }
             Layout::Bridge => self.scan_bridge(host, at, number, path, seen)?,
         }
-        Ok(next_place(n, seen.is_shared))
+        Ok(next_place(n, seen.is_multifunction))
     }
 
     /// Takes all that stands on a bus and behind it into the table. The path is that of the bridge

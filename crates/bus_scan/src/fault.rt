@@ -23,7 +23,7 @@ pub enum Fault {
     /// The prefetchable regions don't fit their aperture.
     #[error("prefetchable pool")]
     PrefetchablePool,
-    /// Want of memory.
+    /// Out of memory.
     #[error("memory")]
     Memory,
 }

@@ -23,12 +23,12 @@ pub(crate) fn address(bus: u8, n: u8) -> Bdf
 
 /// The place that is looked at after the nth one: functions 1 to 7 where function 0 says that its device
 /// holds others, and else the next device.
-pub(crate) fn next_place(n: u8, is_shared: bool) -> u8
+pub(crate) fn next_place(n: u8, is_multifunction: bool) -> u8
     requires { n < PLACES }
-    ensures next { result ≡ (if n % 8 == 0 && not is_shared then n + 8 else n + 1) }
+    ensures next { result ≡ (if n % 8 == 0 && not is_multifunction then n + 8 else n + 1) }
     ensures later { n < result }
 {
-    if n % 8 == 0 && !is_shared {
+    if n % 8 == 0 && !is_multifunction {
         n + 8
     } else {
         n + 1

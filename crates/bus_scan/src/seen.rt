@@ -2,7 +2,7 @@
 //! 3.0, chapters 6.2.1 and 6.2.4).
 ghost use Rattle.std.specs.Prelude.{◌≡◌, ◌<◌, ◌/◌, ◌%◌, ◌^◌, Some, None};
 ghost use Rattle.model_board.specs.Paths.{Path};
-ghost use Rattle.model_board.specs.Board.{Board, is_shared};
+ghost use Rattle.model_board.specs.Board.{Board, is_multifunction};
 ghost use Rattle.model_board.specs.Cycles.{reached};
 ghost use Rattle.model_board.specs.Lawful.{IsLawfulDecl};
 ghost use Rattle.model_board.specs.Scanning.{BusNumbers, numbered_file};
@@ -26,7 +26,7 @@ pub(crate) enum Layout {
 pub(crate) struct Seen {
     pub(crate) vendor: u16,
     pub(crate) device: u16,
-    pub(crate) is_shared: bool,
+    pub(crate) is_multifunction: bool,
     pub(crate) layout: Layout,
 }
 
@@ -44,7 +44,7 @@ pub(crate) fn look(host: &mut Host, at: Bdf) -> Option<Seen>
     ensures none { let fs = host.old.state.functions in reached fs (bus_address_of at) ≡ None → result ≡ None }
     ensures some { let fs = host.old.state.functions in (b : Board) (numbers : Path → BusNumbers) (f : BoardFunction)
         → reached fs (bus_address_of at) ≡ Some f → f.file ≡ numbered_file b numbers f.path f.decl → IsLawfulDecl f.decl
-        → result ≡ Some (seen_of (is_shared b f.path) f.decl) }
+        → result ≡ Some (seen_of (is_multifunction b f.path) f.decl) }
     ensures after { host.new ≡ with_latch 0 host.old }
 {
     let identity = host.config_read(at, 0x00, 0b1111);
@@ -63,7 +63,7 @@ pub(crate) fn look(host: &mut Host, at: Bdf) -> Option<Seen>
     Some(Seen {
         vendor,
         device: (identity >> 16) as u16,
-        is_shared: header_type & 0x80 != 0,
+        is_multifunction: header_type & 0x80 != 0,
         layout,
     })
 }

@@ -36,11 +36,11 @@ impl Model for Cells {
 }
 
 /// Whether the byte lane is enabled.
-fn is_enabled(be: u8, lane: u8) -> bool
+fn is_enabled(enables: u8, lane: u8) -> bool
     requires { lane < 4 }
-    ensures { result ≡ is_enabled be lane }
+    ensures { result ≡ is_enabled enables lane }
 {
-    (be >> lane) & 1 == 1
+    (enables >> lane) & 1 == 1
 }
 
 /// A length that has room for each offset.
@@ -90,22 +90,22 @@ impl Cells {
         if enabled { value } else { 0 }
     }
 
-    /// The little-endian word at `off`, a multiple of 4. Bit n of `be`, 0 to 3, enables the byte at
+    /// The little-endian word at `off`, a multiple of 4. Bit n of `enables`, 0 to 3, enables the byte at
     /// `off + n` (PCI Local Bus 3.0, chapter 3.2.2); a byte that is not enabled reads 0.
-    pub fn read(&self, off: u16, be: u8) -> u32
+    pub fn read(&self, off: u16, enables: u8) -> u32
         requires { off % 4 ≡ 0 }
-        ensures word { result ≡ read self.now.now (config off) (lanes be) }
-        ensures enabled { result ≡ enabled_bytes (lanes be) result }
+        ensures word { result ≡ read self.now.now (config off) (lanes enables) }
+        ensures enabled { result ≡ enabled_bytes (lanes enables) result }
 
         // A register of 16 bits in the low half of a word fits its type.
-        ensures low { be < 4 → result < 2 ^ 16 }
+        ensures low { enables < 4 → result < 2 ^ 16 }
         ensures places { IsConfigFile self.now.now }
     {
         let bytes = [
-            self.byte_at(off, is_enabled(be, 0)),
-            self.byte_at(off + 1, is_enabled(be, 1)),
-            self.byte_at(off + 2, is_enabled(be, 2)),
-            self.byte_at(off + 3, is_enabled(be, 3)),
+            self.byte_at(off, is_enabled(enables, 0)),
+            self.byte_at(off + 1, is_enabled(enables, 1)),
+            self.byte_at(off + 2, is_enabled(enables, 2)),
+            self.byte_at(off + 3, is_enabled(enables, 3)),
         ];
         LittleEndian::read_u32(&bytes)
     }
@@ -124,20 +124,20 @@ impl Cells {
         }
     }
 
-    /// Writes the bytes of the little-endian `data` that `be` enables, at `off`, a multiple of 4. Each
+    /// Writes the bytes of the little-endian `data` that `enables` enables, at `off`, a multiple of 4. Each
     /// changes its cell by the cell's masks, and all other cells stay.
-    pub fn write(&mut self, off: u16, be: u8, data: u32)
+    pub fn write(&mut self, off: u16, enables: u8, data: u32)
         requires { off % 4 ≡ 0 }
-        ensures cells { self.new ≡ record self.old { now = write (lanes be) «data» (config off) self.old.now } }
+        ensures cells { self.new ≡ record self.old { now = write (lanes enables) «data» (config off) self.old.now } }
         ensures places { IsConfigFile self.new.now }
     {
         let mut bytes = [0; 4];
         LittleEndian::write_u32(&mut bytes, data);
         let [first, second, third, fourth] = bytes;
-        self.write_byte(off, is_enabled(be, 0), first);
-        self.write_byte(off + 1, is_enabled(be, 1), second);
-        self.write_byte(off + 2, is_enabled(be, 2), third);
-        self.write_byte(off + 3, is_enabled(be, 3), fourth);
+        self.write_byte(off, is_enabled(enables, 0), first);
+        self.write_byte(off + 1, is_enabled(enables, 1), second);
+        self.write_byte(off + 2, is_enabled(enables, 2), third);
+        self.write_byte(off + 3, is_enabled(enables, 3), fourth);
     }
 
     /// Raises the bits of `mask` that writing a one clears, in the cell at `off`. All other cells

@@ -129,26 +129,26 @@ pub is_away : (off : ℕ) (w : Word) → IsAt off w → (w ≡ HeaderType) ⊎ (
 is_away off w at (inl e) = away_of_header_type off (subst (IsAt off) e at)
 is_away off w at (inr e) = away_of_other off (subst (IsAt off) e at)
 
-pub at_command : (own : OwnCopies) → IsLawfulOwn own → own.command < 2 ^ 16 → (be off : ℕ) → off ≡ 4 → bit_and own.command (enabled_bits (lanes be)) ≡ read (own_file own) (config off) (lanes be)
-at_command own lawful small be off e =
-    sym (command_read own lawful small (is_enabled be 0) (is_enabled be 1) (is_enabled be 2) (is_enabled be 3)) ∙ ap (λ a. read (own_file own) (config a) (lanes be)) (sym e)
+pub at_command : (own : OwnCopies) → IsLawfulOwn own → own.command < 2 ^ 16 → (enables off : ℕ) → off ≡ 4 → bit_and own.command (enabled_bits (lanes enables)) ≡ read (own_file own) (config off) (lanes enables)
+at_command own lawful small enables off e =
+    sym (command_read own lawful small (is_enabled enables 0) (is_enabled enables 1) (is_enabled enables 2) (is_enabled enables 3)) ∙ ap (λ a. read (own_file own) (config a) (lanes enables)) (sym e)
 
-pub at_base : (own : OwnCopies) (be off reg : ℕ) → off ≡ 0x10 + 4 * reg → read (base_file own.bases) (base_register reg) (lanes be) ≡ read (own_file own) (config off) (lanes be)
-at_base own be off reg e = sym (base_read own (lanes be) reg) ∙ ap (λ a. read (own_file own) (config a) (lanes be)) (sym e)
+pub at_base : (own : OwnCopies) (enables off reg : ℕ) → off ≡ 0x10 + 4 * reg → read (base_file own.bases) (base_register reg) (lanes enables) ≡ read (own_file own) (config off) (lanes enables)
+at_base own enables off reg e = sym (base_read own (lanes enables) reg) ∙ ap (λ a. read (own_file own) (config a) (lanes enables)) (sym e)
 
-pub at_away : (own : OwnCopies) → IsLawfulOwn own → (be off : ℕ) → IsAway off → 0 ≡ read (own_file own) (config off) (lanes be)
-at_away own lawful be off away = sym (away_read own lawful (is_enabled be 0) (is_enabled be 1) (is_enabled be 2) (is_enabled be 3) off away)
+pub at_away : (own : OwnCopies) → IsLawfulOwn own → (enables off : ℕ) → IsAway off → 0 ≡ read (own_file own) (config off) (lanes enables)
+at_away own lawful enables off away = sym (away_read own lawful (is_enabled enables 0) (is_enabled enables 1) (is_enabled enables 2) (is_enabled enables 3) off away)
 
-pub store_command : (own : OwnCopies) → IsLawfulOwn own → (be x off : ℕ) → off ≡ 4
-    → own_file (record own { command = merged 2 own.command x (bit_and 0x0547 (enabled_bits (lanes be))) }) ≡ write (lanes be) x (config off) (own_file own)
-store_command own lawful be x off e =
-    sym (command_write own lawful (is_enabled be 0) (is_enabled be 1) (is_enabled be 2) (is_enabled be 3) x) ∙ ap (λ a. write (lanes be) x (config a) (own_file own)) (sym e)
+pub store_command : (own : OwnCopies) → IsLawfulOwn own → (enables x off : ℕ) → off ≡ 4
+    → own_file (record own { command = merged 2 own.command x (bit_and 0x0547 (enabled_bits (lanes enables))) }) ≡ write (lanes enables) x (config off) (own_file own)
+store_command own lawful enables x off e =
+    sym (command_write own lawful (is_enabled enables 0) (is_enabled enables 1) (is_enabled enables 2) (is_enabled enables 3) x) ∙ ap (λ a. write (lanes enables) x (config a) (own_file own)) (sym e)
 
-pub store_base : (own : OwnCopies) (bases : List BaseAddress) (be x off reg : ℕ) → off ≡ 0x10 + 4 * reg → base_file bases ≡ write (lanes be) x (base_register reg) (base_file own.bases)
-    → own_file (record own { bases = bases }) ≡ write (lanes be) x (config off) (own_file own)
-store_base own bases be x off reg e stored =
+pub store_base : (own : OwnCopies) (bases : List BaseAddress) (enables x off reg : ℕ) → off ≡ 0x10 + 4 * reg → base_file bases ≡ write (lanes enables) x (base_register reg) (base_file own.bases)
+    → own_file (record own { bases = bases }) ≡ write (lanes enables) x (config off) (own_file own)
+store_base own bases enables x off reg e stored =
     ap (λ (f : File). command_cells own.command ++ f) stored
-    ∙ sym (base_write own (is_enabled be 0) (is_enabled be 1) (is_enabled be 2) (is_enabled be 3) x reg) ∙ ap (λ a. write (lanes be) x (config a) (own_file own)) (sym e)
+    ∙ sym (base_write own (is_enabled enables 0) (is_enabled enables 1) (is_enabled enables 2) (is_enabled enables 3) x reg) ∙ ap (λ a. write (lanes enables) x (config a) (own_file own)) (sym e)
 
-pub store_away : (own : OwnCopies) → IsLawfulOwn own → (be x off : ℕ) → IsAway off → own_file own ≡ write (lanes be) x (config off) (own_file own)
-store_away own lawful be x off away = sym (away_write own lawful (is_enabled be 0) (is_enabled be 1) (is_enabled be 2) (is_enabled be 3) x off away)
+pub store_away : (own : OwnCopies) → IsLawfulOwn own → (enables x off : ℕ) → IsAway off → own_file own ≡ write (lanes enables) x (config off) (own_file own)
+store_away own lawful enables x off away = sym (away_write own lawful (is_enabled enables 0) (is_enabled enables 1) (is_enabled enables 2) (is_enabled enables 3) x off away)

@@ -17,10 +17,10 @@ both_bits : (b c : ℕ) → b < 2 → c < 2 → eqb (min (min b 1) c) 1 ≡ (eqb
 both_bits b c hb hc = grind (arith, nat_tests)
 
 -- a lane of four that is enabled, and not masked
-kept_lane : (be m i : ℕ) → bit_at 15 i ≡ 1 → is_enabled (bit_and (bit_and be 15) m) i ≡ (is_enabled be i && is_enabled m i)
-kept_lane be m i four =
-    ap (λ n. eqb n 1) (bit_at_and (bit_and be 15) m i ∙ ap (λ n. min n (bit_at m i)) (bit_at_and be 15 i ∙ ap (min (bit_at be i)) four))
-    ∙ both_bits (bit_at be i) (bit_at m i) (bit_at-lt be i) (bit_at-lt m i)
+kept_lane : (enables m i : ℕ) → bit_at 15 i ≡ 1 → is_enabled (bit_and (bit_and enables 15) m) i ≡ (is_enabled enables i && is_enabled m i)
+kept_lane enables m i four =
+    ap (λ n. eqb n 1) (bit_at_and (bit_and enables 15) m i ∙ ap (λ n. min n (bit_at m i)) (bit_at_and enables 15 i ∙ ap (min (bit_at enables i)) four))
+    ∙ both_bits (bit_at enables i) (bit_at m i) (bit_at-lt enables i) (bit_at-lt m i)
 
 above_not_own : (q : ℕ) → 0x28 ≤ q → is_own (config q) ≡ false
 above_not_own q h =
@@ -53,13 +53,13 @@ rest_of off Other (inr (inr h)) = record {
   fourth = ap not (sym (above_not_own (off + 1 + 1 + 1) (omega arith)));
 }
 
-pub handed : (off be own : ℕ) (w : Word) → own ≡ own_lanes w → IsAt off w → lanes (bit_and (bit_and be 15) (255 - own)) ≡ handed_on (config off) (lanes be)
-handed off be own w e at =
+pub handed : (off enables own : ℕ) (w : Word) → own ≡ own_lanes w → IsAt off w → lanes (bit_and (bit_and enables 15) (255 - own)) ≡ handed_on (config off) (lanes enables)
+handed off enables own w e at =
     let rest : IsRest off (255 - own_lanes w) = rest_of off w at in
     let m : ℕ = 255 - own_lanes w in
-    let a : is_enabled (bit_and (bit_and be 15) m) 0 ≡ (is_enabled be 0 && not (is_own (config off))) = kept_lane be m 0 refl ∙ ap (λ (t : Bool). is_enabled be 0 && t) rest.first in
-    let b : is_enabled (bit_and (bit_and be 15) m) 1 ≡ (is_enabled be 1 && not (is_own (config (off + 1)))) = kept_lane be m 1 refl ∙ ap (λ (t : Bool). is_enabled be 1 && t) rest.second in
-    let c : is_enabled (bit_and (bit_and be 15) m) 2 ≡ (is_enabled be 2 && not (is_own (config (off + 1 + 1)))) = kept_lane be m 2 refl ∙ ap (λ (t : Bool). is_enabled be 2 && t) rest.third in
-    let d : is_enabled (bit_and (bit_and be 15) m) 3 ≡ (is_enabled be 3 && not (is_own (config (off + 1 + 1 + 1)))) = kept_lane be m 3 refl ∙ ap (λ (t : Bool). is_enabled be 3 && t) rest.fourth in
-    ap (λ n. lanes (bit_and (bit_and be 15) (255 - n))) e
+    let a : is_enabled (bit_and (bit_and enables 15) m) 0 ≡ (is_enabled enables 0 && not (is_own (config off))) = kept_lane enables m 0 refl ∙ ap (λ (t : Bool). is_enabled enables 0 && t) rest.first in
+    let b : is_enabled (bit_and (bit_and enables 15) m) 1 ≡ (is_enabled enables 1 && not (is_own (config (off + 1)))) = kept_lane enables m 1 refl ∙ ap (λ (t : Bool). is_enabled enables 1 && t) rest.second in
+    let c : is_enabled (bit_and (bit_and enables 15) m) 2 ≡ (is_enabled enables 2 && not (is_own (config (off + 1 + 1)))) = kept_lane enables m 2 refl ∙ ap (λ (t : Bool). is_enabled enables 2 && t) rest.third in
+    let d : is_enabled (bit_and (bit_and enables 15) m) 3 ≡ (is_enabled enables 3 && not (is_own (config (off + 1 + 1 + 1)))) = kept_lane enables m 3 refl ∙ ap (λ (t : Bool). is_enabled enables 3 && t) rest.fourth in
+    ap (λ n. lanes (bit_and (bit_and enables 15) (255 - n))) e
     ∙ ap₂ (λ (t : Bool) (ts : List Bool). t ∷ ts) a (ap₂ (λ (t : Bool) (ts : List Bool). t ∷ ts) b (ap₂ (λ (t : Bool) (ts : List Bool). t ∷ ts) c (ap (λ (t : Bool). t ∷ []) d)))

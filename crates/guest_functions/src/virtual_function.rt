@@ -43,10 +43,10 @@ impl Model for VirtualFunction {
 }
 
 /// Command after a write of the enabled bytes of its word.
-fn command_written(command: u16, be: u8, value: u32) -> u16
-    ensures { result ≡ merged 2 command value (bit_and 0x0547 (enabled_bits (lanes be))) }
+fn command_written(command: u16, enables: u8, value: u32) -> u16
+    ensures { result ≡ merged 2 command value (bit_and 0x0547 (enabled_bits (lanes enables))) }
 {
-    let mask = COMMAND_WRITABLE & enabled_bits(be);
+    let mask = COMMAND_WRITABLE & enabled_bits(enables);
     ((u32::from(command) & !mask) | (value & mask)) as u16
 }
 
@@ -65,41 +65,41 @@ impl VirtualFunction {
 
     /// What the own copies among the enabled bytes of a word show, with 0 in all other bytes, and the
     /// byte enables that are handed on.
-    pub fn config_read(&self, off: u16, be: u8) -> (u32, u8)
+    pub fn config_read(&self, off: u16, enables: u8) -> (u32, u8)
         requires aligned { off % 4 ≡ 0 }
         requires in_range { off < 256 }
-        ensures own { result.0 ≡ read (own_file self.now) (config off) (lanes be) }
-        ensures others { lanes result.1 ≡ handed_on (config off) (lanes be) }
+        ensures own { result.0 ≡ read (own_file self.now) (config off) (lanes enables) }
+        ensures others { lanes result.1 ≡ handed_on (config off) (lanes enables) }
         ensures four { result.1 < 16 }
-        ensures together { (file : File) → HoldsOwn file self.now → read file (config off) (lanes be) ≡ result.0 + read file (config off) (lanes result.1) }
+        ensures together { (file : File) → HoldsOwn file self.now → read file (config off) (lanes enables) ≡ result.0 + read file (config off) (lanes result.1) }
     {
         let word = Word::at(off);
         let own = match word {
-            Word::Command => u32::from(self.command) & enabled_bits(be),
-            Word::Base(reg) => self.bars.read(reg, be),
+            Word::Command => u32::from(self.command) & enabled_bits(enables),
+            Word::Base(reg) => self.bars.read(reg, enables),
             Word::HeaderType | Word::Other => 0,
         };
-        (own, word.handed_on(off, be))
+        (own, word.handed_on(off, enables))
     }
 
     /// Writes the own copies among the enabled bytes of a word, and gives the byte enables that are
     /// handed on.
-    pub fn config_write(&mut self, off: u16, be: u8, value: u32) -> u8
+    pub fn config_write(&mut self, off: u16, enables: u8, value: u32) -> u8
         requires aligned { off % 4 ≡ 0 }
         requires in_range { off < 256 }
-        ensures own { own_file self.new ≡ write (lanes be) value (config off) (own_file self.old) }
+        ensures own { own_file self.new ≡ write (lanes enables) value (config off) (own_file self.old) }
         ensures regions { map opened self.new.bases ≡ map opened self.old.bases }
-        ensures others { lanes result ≡ handed_on (config off) (lanes be) }
+        ensures others { lanes result ≡ handed_on (config off) (lanes enables) }
         ensures four { result < 16 }
-        ensures together { (file : File) → HoldsOwn file self.old → (p : Place) → cell_at (write (lanes be) value (config off) file) p ≡ (if is_own p then cell_at (own_file self.new) p else cell_at (write (lanes result) value (config off) file) p) }
+        ensures together { (file : File) → HoldsOwn file self.old → (p : Place) → cell_at (write (lanes enables) value (config off) file) p ≡ (if is_own p then cell_at (own_file self.new) p else cell_at (write (lanes result) value (config off) file) p) }
     {
         let word = Word::at(off);
         match word {
-            Word::Command => self.command = command_written(self.command, be, value),
-            Word::Base(reg) => self.bars.write(reg, be, value),
+            Word::Command => self.command = command_written(self.command, enables, value),
+            Word::Base(reg) => self.bars.write(reg, enables, value),
             Word::HeaderType | Word::Other => {}
         }
-        word.handed_on(off, be)
+        word.handed_on(off, enables)
     }
 
     /// The least register whose region decodes an address by the guest's own Command and bases, and the

@@ -45,11 +45,11 @@ impl Word {
     }
 
     /// The enabled bytes that are none of the own copies.
-    pub fn handed_on(self, off: u16, be: u8) -> u8
+    pub fn handed_on(self, off: u16, enables: u8) -> u8
         requires { IsAt off self }
-        ensures others { lanes result ≡ handed_on (config off) (lanes be) }
+        ensures others { lanes result ≡ handed_on (config off) (lanes enables) }
         ensures four { result < 16 }
     {
-        be & 0b1111 & !self.own_lanes()
+        enables & 0b1111 & !self.own_lanes()
     }
 }

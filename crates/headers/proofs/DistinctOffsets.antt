@@ -93,18 +93,18 @@ differ_lem m n h = grind (arith, nat_tests)
 distinct_by_test : (file : File) → all_pairs differ file ≡ true → EachPair Differ file
 distinct_by_test file h = pairs_map (λ (e f : Entry). IsTrue (differ e f)) Differ file (λ e f t. differ_lem (at e) (at f) t) (pairs_test differ file h)
 
-header_distinct : (d : Endpoint) (shared : Bool) → EachPair Differ (header_cells d shared 0)
-header_distinct d shared = distinct_by_test (header_cells d shared 0) refl
+header_distinct : (d : Endpoint) (multifunction : Bool) → EachPair Differ (header_cells d multifunction 0)
+header_distinct d multifunction = distinct_by_test (header_cells d multifunction 0) refl
 
-header_below : (d : Endpoint) (shared : Bool) → Each (λ (e : Entry). at e < 0x40) (header_cells d shared 0)
-header_below d shared =
-    each_map (λ (e : Entry). IsTrue (ltb (at e) 0x40)) (λ e. at e < 0x40) (header_cells d shared 0) (λ e t. ltb-true _ _ t) (each_test (λ e. ltb (at e) 0x40) (header_cells d shared 0) refl)
+header_below : (d : Endpoint) (multifunction : Bool) → Each (λ (e : Entry). at e < 0x40) (header_cells d multifunction 0)
+header_below d multifunction =
+    each_map (λ (e : Entry). IsTrue (ltb (at e) 0x40)) (λ e. at e < 0x40) (header_cells d multifunction 0) (λ e t. ltb-true _ _ t) (each_test (λ e. ltb (at e) 0x40) (header_cells d multifunction 0) refl)
 
-reset_distinct : (d : Endpoint) (shared : Bool) → Each IsConfigBlock d.blocks → EachPair (λ (b c : ConfigBlock). IsTrue (blocks_apart b c)) d.blocks → EachPair Differ (config_reset d shared)
-reset_distinct d shared lawful apart =
-    pairs_append (header_cells d shared 0) (flat_map block_cells d.blocks) (header_distinct d shared) (blocks_distinct d.blocks apart)
-    (each_map (λ (e : Entry). at e < 0x40) (λ e. Each (Differ e) (flat_map block_cells d.blocks)) (header_cells d shared 0)
-    (λ e low. each_map (λ (f : Entry). 0x40 ≤ at f) (Differ e) (flat_map block_cells d.blocks) (λ f high. omega arith) (blocks_above d.blocks lawful)) (header_below d shared))
+reset_distinct : (d : Endpoint) (multifunction : Bool) → Each IsConfigBlock d.blocks → EachPair (λ (b c : ConfigBlock). IsTrue (blocks_apart b c)) d.blocks → EachPair Differ (config_reset d multifunction)
+reset_distinct d multifunction lawful apart =
+    pairs_append (header_cells d multifunction 0) (flat_map block_cells d.blocks) (header_distinct d multifunction) (blocks_distinct d.blocks apart)
+    (each_map (λ (e : Entry). at e < 0x40) (λ e. Each (Differ e) (flat_map block_cells d.blocks)) (header_cells d multifunction 0)
+    (λ e low. each_map (λ (f : Entry). 0x40 ≤ at f) (Differ e) (flat_map block_cells d.blocks) (λ f high. omega arith) (blocks_above d.blocks lawful)) (header_below d multifunction))
 
 -- ---- as lists
 
@@ -116,23 +116,23 @@ listed : (cs : List (ℕ × Cell)) → EachPair Differ (file_of cs) → HasDisti
 listed [] h = tt
 listed (c ∷ cs) h = (each_listed (λ n. c.0 ≢ n) cs h.0, listed cs h.1)
 
-pub endpoint_offsets : (d : Endpoint) (shared : Bool) (cs : List (ℕ × Cell)) → IsLawfulEndpoint d → file_of cs ≡ config_reset d shared → HasDistinctOffsets cs
-endpoint_offsets d shared cs lawful is = listed cs (subst (λ (f : File). EachPair Differ f) (sym is) (reset_distinct d shared lawful.config_blocks lawful.blocks_apart))
+pub endpoint_offsets : (d : Endpoint) (multifunction : Bool) (cs : List (ℕ × Cell)) → IsLawfulEndpoint d → file_of cs ≡ config_reset d multifunction → HasDistinctOffsets cs
+endpoint_offsets d multifunction cs lawful is = listed cs (subst (λ (f : File). EachPair Differ f) (sym is) (reset_distinct d multifunction lawful.config_blocks lawful.blocks_apart))
 
 -- ---- a bridge
 
-bridge_test : (vendor device revision : ℕ) (io : IoDecode) (pref : PrefDecode) (shared : Bool)
-    → all_pairs differ (bridge_reset (record { vendor = vendor; device = device; revision = revision; io = io; pref = pref }) shared) ≡ true
-bridge_test v d r no_io no_pref shared = refl
-bridge_test v d r no_io pref32 shared = refl
-bridge_test v d r no_io pref64 shared = refl
-bridge_test v d r io16 no_pref shared = refl
-bridge_test v d r io16 pref32 shared = refl
-bridge_test v d r io16 pref64 shared = refl
-bridge_test v d r io32 no_pref shared = refl
-bridge_test v d r io32 pref32 shared = refl
-bridge_test v d r io32 pref64 shared = refl
+bridge_test : (vendor device revision : ℕ) (io : IoDecode) (pref : PrefDecode) (multifunction : Bool)
+    → all_pairs differ (bridge_reset (record { vendor = vendor; device = device; revision = revision; io = io; pref = pref }) multifunction) ≡ true
+bridge_test v d r no_io no_pref multifunction = refl
+bridge_test v d r no_io pref32 multifunction = refl
+bridge_test v d r no_io pref64 multifunction = refl
+bridge_test v d r io16 no_pref multifunction = refl
+bridge_test v d r io16 pref32 multifunction = refl
+bridge_test v d r io16 pref64 multifunction = refl
+bridge_test v d r io32 no_pref multifunction = refl
+bridge_test v d r io32 pref32 multifunction = refl
+bridge_test v d r io32 pref64 multifunction = refl
 
-pub bridge_offsets : (d : Bridge) (shared : Bool) (cs : List (ℕ × Cell)) → file_of cs ≡ bridge_reset d shared → HasDistinctOffsets cs
-bridge_offsets d shared cs is =
-    listed cs (subst (λ (f : File). EachPair Differ f) (sym is) (distinct_by_test (bridge_reset d shared) (bridge_test d.vendor d.device d.revision d.io d.pref shared)))
+pub bridge_offsets : (d : Bridge) (multifunction : Bool) (cs : List (ℕ × Cell)) → file_of cs ≡ bridge_reset d multifunction → HasDistinctOffsets cs
+bridge_offsets d multifunction cs is =
+    listed cs (subst (λ (f : File). EachPair Differ f) (sym is) (distinct_by_test (bridge_reset d multifunction) (bridge_test d.vendor d.device d.revision d.io d.pref multifunction)))

@@ -2,5 +2,5 @@ pub mod Faults
 pub mod Values
 pub mod Rows
 pub mod Decodes
-pub mod Spans
+pub mod WindowPairs
 pub mod Places

@@ -1,6 +1,6 @@
 //! Bridges, which have headers of type 1 (PCI-to-PCI Bridge Architecture 1.2, chapter 3.2).
 ghost use Rattle.std.specs.Prelude.{◌≡◌, ◌++◌, IfOk, OnOk};
-ghost use Rattle.model_registers.specs.BridgeTable.{bridge_header, bridge_reset, io_cells, mem_cells, pref_cells, no_routing, no_span};
+ghost use Rattle.model_registers.specs.BridgeTable.{bridge_header, bridge_reset, io_cells, mem_cells, pref_cells, no_bridge_values, no_window};
 ghost use Rattle.config_bytes.specs.CellFile.{file_of};
 ghost use Rattle.headers.specs.Decodes.{io_decode_of, pref_decode_of};
 
@@ -19,9 +19,9 @@ pub struct Bridge;
 fn push_header(
     cells: &mut Vec<(u16, Cell)>,
     decl: &BridgeDecl,
-    multi: bool,
+    multifunction: bool,
 ) -> Result<(), AllocError>
-    ensures { OnOk result (file_of cells.new.items ≡ file_of cells.old.items ++ bridge_header decl.now multi no_routing) }
+    ensures { OnOk result (file_of cells.new.items ≡ file_of cells.old.items ++ bridge_header decl.now multifunction no_bridge_values) }
 {
     push_rows(
         cells,
@@ -33,7 +33,7 @@ fn push_header(
             Row(0x08, 1, u32::from(decl.revision()), ReadOnly),
             Row(0x09, 3, 0x06_0400, ReadOnly),
             Row(0x0c, 2, 0, Write(0xffff)),
-            Row(0x0e, 1, header_type(1, multi), ReadOnly),
+            Row(0x0e, 1, header_type(1, multifunction), ReadOnly),
             Row(0x18, 1, 0, Write(0xff)),
             Row(0x19, 1, 0, Write(0xff)),
             Row(0x1a, 1, 0, Write(0xff)),
@@ -46,7 +46,7 @@ fn push_header(
 
 /// Appends the cells of the memory window.
 fn push_mem_window(cells: &mut Vec<(u16, Cell)>) -> Result<(), AllocError>
-    ensures { OnOk result (file_of cells.new.items ≡ file_of cells.old.items ++ mem_cells no_span) }
+    ensures { OnOk result (file_of cells.new.items ≡ file_of cells.old.items ++ mem_cells no_window) }
 {
     push_rows(
         cells,
@@ -59,7 +59,7 @@ fn push_mem_window(cells: &mut Vec<(u16, Cell)>) -> Result<(), AllocError>
 
 /// Appends the cells of the I/O window.
 fn push_io_window(cells: &mut Vec<(u16, Cell)>, decode: IoDecode) -> Result<(), AllocError>
-    ensures { OnOk result (file_of cells.new.items ≡ file_of cells.old.items ++ io_cells (io_decode_of decode) no_span) }
+    ensures { OnOk result (file_of cells.new.items ≡ file_of cells.old.items ++ io_cells (io_decode_of decode) no_window) }
 {
     match decode {
         IoDecode::Unimplemented => Ok(()),
@@ -81,7 +81,7 @@ fn push_io_window(cells: &mut Vec<(u16, Cell)>, decode: IoDecode) -> Result<(), 
 
 /// Appends the cells of the prefetchable memory window.
 fn push_pref_window(cells: &mut Vec<(u16, Cell)>, decode: PrefDecode) -> Result<(), AllocError>
-    ensures { OnOk result (file_of cells.new.items ≡ file_of cells.old.items ++ pref_cells (pref_decode_of decode) no_span) }
+    ensures { OnOk result (file_of cells.new.items ≡ file_of cells.old.items ++ pref_cells (pref_decode_of decode) no_window) }
 {
     match decode {
         PrefDecode::Unimplemented => Ok(()),
@@ -105,12 +105,12 @@ fn push_pref_window(cells: &mut Vec<(u16, Cell)>, decode: PrefDecode) -> Result<
 }
 
 impl Bridge {
-    /// The cells of a bridge at reset. `multi` says that its device has two functions or more.
-    pub fn cells(alloc: Global, decl: &BridgeDecl, multi: bool) -> Result<Cells, AllocError>
-        ensures { IfOk result (λ f. f ≡ record { now = bridge_reset decl.now multi; initial = bridge_reset decl.now multi }) }
+    /// The cells of a bridge at reset. `multifunction` says that its device has two functions or more.
+    pub fn cells(alloc: Global, decl: &BridgeDecl, multifunction: bool) -> Result<Cells, AllocError>
+        ensures { IfOk result (λ f. f ≡ record { now = bridge_reset decl.now multifunction; initial = bridge_reset decl.now multifunction }) }
     {
         let mut cells = Vec::new(alloc);
-        push_header(&mut cells, decl, multi)?;
+        push_header(&mut cells, decl, multifunction)?;
         push_mem_window(&mut cells)?;
         push_io_window(&mut cells, decl.io())?;
         push_pref_window(&mut cells, decl.pref())?;

@@ -33,9 +33,9 @@ fn push_blocks(cells: &mut Vec<(u16, Cell)>, blocks: &[ConfigBlock]) -> Result<(
 fn push_header(
     cells: &mut Vec<(u16, Cell)>,
     decl: &EndpointDecl,
-    multi: bool,
+    multifunction: bool,
 ) -> Result<(), AllocError>
-    ensures { OnOk result (file_of cells.new.items ≡ file_of cells.old.items ++ header_cells decl.now multi 0) }
+    ensures { OnOk result (file_of cells.new.items ≡ file_of cells.old.items ++ header_cells decl.now multifunction 0) }
 {
     let values = decl.values();
     push_rows(
@@ -48,7 +48,7 @@ fn push_header(
             Row(0x08, 1, u32::from(values.revision), ReadOnly),
             Row(0x09, 3, values.class, ReadOnly),
             Row(0x0c, 2, 0, Write(0xffff)),
-            Row(0x0e, 1, header_type(0, multi), ReadOnly),
+            Row(0x0e, 1, header_type(0, multifunction), ReadOnly),
             Row(0x2c, 2, u32::from(values.subvendor), ReadOnly),
             Row(0x2e, 2, u32::from(values.subsystem), ReadOnly),
             Row(0x3c, 1, 0, Write(0xff)),
@@ -60,13 +60,13 @@ fn push_header(
 }
 
 impl Endpoint {
-    /// The cells of an endpoint at reset, without its base address registers. `multi` says that its
+    /// The cells of an endpoint at reset, without its base address registers. `multifunction` says that its
     /// device has two functions or more.
-    pub fn cells(alloc: Global, decl: &EndpointDecl, multi: bool) -> Result<Cells, AllocError>
-        ensures { IfOk result (λ f. f ≡ record { now = config_reset decl.now multi; initial = config_reset decl.now multi }) }
+    pub fn cells(alloc: Global, decl: &EndpointDecl, multifunction: bool) -> Result<Cells, AllocError>
+        ensures { IfOk result (λ f. f ≡ record { now = config_reset decl.now multifunction; initial = config_reset decl.now multifunction }) }
     {
         let mut cells = Vec::new(alloc);
-        push_header(&mut cells, decl, multi)?;
+        push_header(&mut cells, decl, multifunction)?;
         push_blocks(&mut cells, &decl.values().config)?;
         Cells::new(alloc, &cells)
     }

@@ -11,10 +11,10 @@ use std::alloc::AllocError;
 
 /// The Header Type register: the layout, and in bit 7 whether the device has more functions (PCI
 /// Local Bus 3.0, chapter 6.2.1).
-pub(crate) fn header_type(layout: u8, multi: bool) -> u32
-    ensures { result ≡ header_type layout multi }
+pub(crate) fn header_type(layout: u8, multifunction: bool) -> u32
+    ensures { result ≡ header_type layout multifunction }
 {
-    u32::from(layout) + if multi { 0x80 } else { 0 }
+    u32::from(layout) + if multifunction { 0x80 } else { 0 }
 }
 
 /// Appends the register's cells, lowest byte first.

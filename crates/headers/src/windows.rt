@@ -4,7 +4,7 @@
 ghost use Rattle.std.specs.Prelude.{◌≡◌, ◌≤◌, ◌<◌, ◌^◌, option_map};
 ghost use Rattle.model_registers.specs.ByteEnables.{LiesInWord};
 ghost use Rattle.model_registers.specs.Windows.{io_window, mem_window, pref_window, window, window_bits};
-ghost use Rattle.headers.specs.Spans.{span_of};
+ghost use Rattle.headers.specs.WindowPairs.{pair_of};
 
 use crate::bridge_decl::BridgeDecl;
 use crate::decodes::{IoDecode, PrefDecode};
@@ -13,7 +13,7 @@ use config_bytes::Cells;
 
 /// A window is empty where its base is above its limit.
 fn window(first: u64, last: u64) -> Option<(u64, u64)>
-    ensures { result ≡ option_map span_of (window first last) }
+    ensures { result ≡ option_map pair_of (window first last) }
 {
     if first <= last {
         Some((first, last))
@@ -35,7 +35,7 @@ fn address(cells: &Cells, off: u16, width: u16, unit: u64) -> u64
 
 /// The I/O window. With 16-bit decode the upper address bits are 0.
 pub fn io_window(cells: &Cells, decl: &BridgeDecl) -> Option<(u64, u64)>
-    ensures { result ≡ option_map span_of (io_window decl.now.io cells.now.now) }
+    ensures { result ≡ option_map pair_of (io_window decl.now.io cells.now.now) }
 {
     let (upper_first, upper_last) = match decl.io() {
         IoDecode::Unimplemented => return None,
@@ -49,7 +49,7 @@ pub fn io_window(cells: &Cells, decl: &BridgeDecl) -> Option<(u64, u64)>
 
 /// The memory window.
 pub fn mem_window(cells: &Cells, _decl: &BridgeDecl) -> Option<(u64, u64)>
-    ensures { result ≡ option_map span_of (mem_window cells.now.now) }
+    ensures { result ≡ option_map pair_of (mem_window cells.now.now) }
 {
     window(
         address(cells, 0x20, 2, 1 << 20),
@@ -59,7 +59,7 @@ pub fn mem_window(cells: &Cells, _decl: &BridgeDecl) -> Option<(u64, u64)>
 
 /// The prefetchable memory window. With 32-bit decode the upper address bits are 0.
 pub fn pref_window(cells: &Cells, decl: &BridgeDecl) -> Option<(u64, u64)>
-    ensures { result ≡ option_map span_of (pref_window decl.now.pref cells.now.now) }
+    ensures { result ≡ option_map pair_of (pref_window decl.now.pref cells.now.now) }
 {
     let (upper_first, upper_last) = match decl.pref() {
         PrefDecode::Unimplemented => return None,

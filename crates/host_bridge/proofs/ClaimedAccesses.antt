@@ -32,7 +32,7 @@ module _ (fs : List BoardFunction) (space : Space) (a w : ℕ) (c : Claim) (is :
       → word ≡ read e.file (block c.index (c.offset / 4 * 4)) (lanes enables) → out ≡ word / 256 ^ (c.offset % 4) → out ≡ claim_reply fs w (first_claim fs space a)
   number_read e enables word out within there on reads lowered =
       lowered
-      ∙ ap (λ n. n / 256 ^ (c.offset % 4)) (reads ∙ ap (λ be. read e.file (block c.index (c.offset / 4 * 4)) (lanes be)) on)
+      ∙ ap (λ n. n / 256 ^ (c.offset % 4)) (reads ∙ ap (λ enables. read e.file (block c.index (c.offset / 4 * 4)) (lanes enables)) on)
       ∙ sym (number_by_lanes e.file (block c.index c.offset) w within)
       ∙ ap (λ file. number file (block c.index c.offset) w) (sym (file_at-endpoint fs c.path e there))
       ∙ ap (claim_reply fs w) (sym is.first)
@@ -42,7 +42,7 @@ module _ (fs : List BoardFunction) (space : Space) (a w : ℕ) (c : Claim) (is :
   number_written e left enables v word distinct within there on moved writes =
       let p = block c.index c.offset in
       let bytes : write (lanes enables) word (block c.index (c.offset / 4 * 4)) e.file ≡ write (all_bytes w) v p e.file =
-      ap₂ (λ be x. write (lanes be) x (block c.index (c.offset / 4 * 4)) e.file) on moved ∙ sym (write_by_lanes e.file p w v within) in
+      ap₂ (λ enables x. write (lanes enables) x (block c.index (c.offset / 4 * 4)) e.file) on moved ∙ sym (write_by_lanes e.file p w v within) in
       ap (λ l. with_endpoint c.path l fs) (writes ∙ ap (λ file. let l : Function = record e { file = file } in l) bytes)
       ∙ changed_endpoint (write (all_bytes w) v p) c.path e fs distinct there
       ∙ ap (after_claim_write fs w v) (sym is.first)

@@ -69,7 +69,7 @@ module _ (s : State) (latch port a w : ℕ) (width : IsWidth w) (aligned : port 
   port_read enables got out on reads lowered =
       let at = selected s.latch in
       lowered
-      ∙ ap₂ (λ n l. n / 256 ^ l) (reads ∙ ap₂ (λ p be. config_reply s.functions at p (lanes be)) (sym byte.word) (in_lanes enables on)) (ap (λ n. n % 4) a_is ∙ sym byte.lane)
+      ∙ ap₂ (λ n l. n / 256 ^ l) (reads ∙ ap₂ (λ p enables. config_reply s.functions at p (lanes enables)) (sym byte.word) (in_lanes enables on)) (ap (λ n. n % 4) a_is ∙ sym byte.lane)
       ∙ sym (config_read_by_lanes s.functions at (selected_register s.latch + (port - 0xcfc)) w width aligned_offset)
       ∙ ap (target_reply s port w) here
 
@@ -80,6 +80,6 @@ module _ (s : State) (latch port a w : ℕ) (width : IsWidth w) (aligned : port 
       let bytes : moved ≡ into_lanes (selected_register s.latch + (port - 0xcfc)) v = is ∙ ap (λ n. into_lanes n v) a_is ∙ ap (λ l. v * 256 ^ l % 2 ^ 32) (sym byte.lane) in
       ap (λ fs. let t : State = record s { functions = fs } in t)
       (ap (λ p. after_config_write s.functions at p (lanes enables) moved) (sym byte.word)
-      ∙ ap₂ (λ be x. after_config_write s.functions at ((selected_register s.latch + (port - 0xcfc)) / 4 * 4) (lanes be) x) (in_lanes enables on) bytes
+      ∙ ap₂ (λ enables x. after_config_write s.functions at ((selected_register s.latch + (port - 0xcfc)) / 4 * 4) (lanes enables) x) (in_lanes enables on) bytes
       ∙ sym (config_write_by_lanes s.functions at (selected_register s.latch + (port - 0xcfc)) w v width aligned_offset))
       ∙ ap (after_target_write s port w v) here

@@ -5,19 +5,19 @@ use Rattle.std.specs.List.{list_all}
 use Rattle.std.proofs.lemmas.Bool.{ltb-true, and_parts}
 use Rattle.model_registers.specs.Lists.{Each}
 use Rattle.model_registers.specs.Declarations.{Kind, io_kind, mem32, mem64, Region, Endpoint, IoDecode, no_io, io16, io32, PrefDecode, no_pref, pref32, pref64, Bridge}
-use Rattle.model_registers.specs.BridgeTable.{Span, Routing, bridge_file}
+use Rattle.model_registers.specs.BridgeTable.{Window, BridgeValues, bridge_file}
 use Rattle.model_registers.specs.Apertures.{IsLawfulApertures, IsPrefOption}
 use Rattle.model_board.specs.Members.{IsIn}
-use Rattle.model_board.specs.Board.{Board, Row, Decl, endpoint, bridge, rows_on, is_shared, IsBoard}
+use Rattle.model_board.specs.Board.{Board, Row, Decl, endpoint, bridge, rows_on, is_multifunction, IsBoard}
 use Rattle.model_board.specs.Paths.{Path, leads_to, last_part, IsPath}
 use Rattle.model_board.specs.Pools.{Pool, io_pool, mem_pool, pref_pool, same_pool, unit_of, Aperture, Apertures, bridge_of, bridges_above, has_pref, has_pref64, pref_reaches, pref_or_mem, pool_of, is_io, opens_io, has_io, has_io_paths, aperture_of}
 use Rattle.model_board.specs.Placement.{Item, need, window_items, items_of, items_within, items_on, fits, bus_first}
 use Rattle.model_board.specs.Layout.{IsAligned, IsInside, IsLawful, pool_rows}
 use Rattle.model_board.specs.PlacementLaws.{window_row}
 use Rattle.model_board.specs.Lawful.{HasLawfulDecls}
-use Rattle.model_board.specs.SetUp.{span_of, routing_of}
+use Rattle.model_board.specs.SetUp.{window_of, routing_of}
 use Rattle.model_board.specs.Windows.{io_window, mem_window, pref_window}
-use Rattle.model_board.specs.WindowLaws.{io_reach, pref_reach, IsWhole, window_at, window_over, HasPlacedWindows, SetUpWindows}
+use Rattle.model_board.specs.WindowLaws.{io_reach, pref_reach, IsWhole, window_over, HasPlacedWindows, SetUpWindows}
 use Rattle.model_board.proofs.Members.{each_in, each_from, from_flat_map, in_filter, in_flat_map, any_in}
 use Rattle.model_board.proofs.PathEnds.{leads_self, leads_trans}
 use Rattle.model_board.proofs.Packing.{unit_positive}
@@ -25,7 +25,7 @@ use Rattle.model_board.proofs.Items.{some_end, end_below_need, items_placeable, 
 use Rattle.model_board.proofs.Nesting.{HasItems}
 use Rattle.model_board.proofs.LawfulPlacement.{pool_lawful}
 use Rattle.model_board.proofs.DeclaredRows.{has_window_row}
-use Rattle.model_board.proofs.WindowSpans.{closed_windows, named_spans}
+use Rattle.model_board.proofs.WindowSpans.{closed_windows, windows_named}
 
 all_in : {A : Type 0} (p : A → Bool) (x : A) (xs : List A) → list_all p xs ≡ true → IsIn x xs → p x ≡ true
 all_in p x [] h m = absurd m
@@ -203,21 +203,21 @@ memory_whole : (first size last reach : ℕ) → first % 2 ^ 20 ≡ 0 → size %
 memory_whole first size last reach f s some h k = record { first = f; end = omega arith; in_order = omega arith; reached = omega arith }
 
 -- registers that hold the span of a bus with these items name its window
-abbrev span_from : ℕ → ℕ → List Item → Span
+abbrev span_from : ℕ → ℕ → List Item → Window
 span_from first unit is = record { first = first; last = first + need unit is - 1 }
 
-module _ (d : Bridge) (shared : Bool) (r : Routing) (first : ℕ) where
-  io_named : (is : List Item) → r.io ≡ span_of (2 ^ 12) 0xf first is → ((i : Item) → IsIn i is → IsWhole (2 ^ 12) (io_reach d.io) (span_from first (2 ^ 12) is)) → io_window d.io (bridge_file d shared r) ≡ window_over (2 ^ 12) first is
-  io_named [] e whole = (closed_windows d shared r).io e
-  io_named (i ∷ is) e whole = (named_spans d shared r).io (subst (IsWhole (2 ^ 12) (io_reach d.io)) (sym e) (whole i (inl refl))) ∙ ap (λ s. Some (window_at s)) e
+module _ (d : Bridge) (multifunction : Bool) (r : BridgeValues) (first : ℕ) where
+  io_named : (is : List Item) → r.io ≡ window_of (2 ^ 12) 0xf first is → ((i : Item) → IsIn i is → IsWhole (2 ^ 12) (io_reach d.io) (span_from first (2 ^ 12) is)) → io_window d.io (bridge_file d multifunction r) ≡ window_over (2 ^ 12) first is
+  io_named [] e whole = (closed_windows d multifunction r).io e
+  io_named (i ∷ is) e whole = (windows_named d multifunction r).io (subst (IsWhole (2 ^ 12) (io_reach d.io)) (sym e) (whole i (inl refl))) ∙ ap (λ s. Some s) e
 
-  mem_named : (is : List Item) → r.mem ≡ span_of (2 ^ 20) 0xfff first is → ((i : Item) → IsIn i is → IsWhole (2 ^ 20) (2 ^ 32) (span_from first (2 ^ 20) is)) → mem_window (bridge_file d shared r) ≡ window_over (2 ^ 20) first is
-  mem_named [] e whole = (closed_windows d shared r).mem e
-  mem_named (i ∷ is) e whole = (named_spans d shared r).mem (subst (IsWhole (2 ^ 20) (2 ^ 32)) (sym e) (whole i (inl refl))) ∙ ap (λ s. Some (window_at s)) e
+  mem_named : (is : List Item) → r.mem ≡ window_of (2 ^ 20) 0xfff first is → ((i : Item) → IsIn i is → IsWhole (2 ^ 20) (2 ^ 32) (span_from first (2 ^ 20) is)) → mem_window (bridge_file d multifunction r) ≡ window_over (2 ^ 20) first is
+  mem_named [] e whole = (closed_windows d multifunction r).mem e
+  mem_named (i ∷ is) e whole = (windows_named d multifunction r).mem (subst (IsWhole (2 ^ 20) (2 ^ 32)) (sym e) (whole i (inl refl))) ∙ ap (λ s. Some s) e
 
-  pref_named : (is : List Item) → r.pref ≡ span_of (2 ^ 20) 0xfff first is → ((i : Item) → IsIn i is → IsWhole (2 ^ 20) (pref_reach d.pref) (span_from first (2 ^ 20) is)) → pref_window d.pref (bridge_file d shared r) ≡ window_over (2 ^ 20) first is
-  pref_named [] e whole = (closed_windows d shared r).pref e
-  pref_named (i ∷ is) e whole = (named_spans d shared r).pref (subst (IsWhole (2 ^ 20) (pref_reach d.pref)) (sym e) (whole i (inl refl))) ∙ ap (λ s. Some (window_at s)) e
+  pref_named : (is : List Item) → r.pref ≡ window_of (2 ^ 20) 0xfff first is → ((i : Item) → IsIn i is → IsWhole (2 ^ 20) (pref_reach d.pref) (span_from first (2 ^ 20) is)) → pref_window d.pref (bridge_file d multifunction r) ≡ window_over (2 ^ 20) first is
+  pref_named [] e whole = (closed_windows d multifunction r).pref e
+  pref_named (i ∷ is) e whole = (windows_named d multifunction r).pref (subst (IsWhole (2 ^ 20) (pref_reach d.pref)) (sym e) (whole i (inl refl))) ∙ ap (λ s. Some s) e
 
 module _ (b : Board) (a : Apertures) (board : IsBoard b) (lawful : HasLawfulDecls b) (apertures : IsLawfulApertures a) (ways : has_io_paths b ≡ true) (fit : (pool : Pool) → IsTrue (fits b a pool)) where
   module _ (r : Row) (there : IsIn r b) (d : Bridge) (decl : r.decl ≡ bridge d) where
@@ -247,9 +247,9 @@ module _ (b : Board) (a : Apertures) (board : IsBoard b) (lawful : HasLawfulDecl
   windows : (r : Row) → IsIn r b → (d : Decl) → r.decl ≡ d → HasPlacedWindows b a r.path d
   windows r m (endpoint d) e = tt
   windows r m (bridge d) e = record {
-    io = io_named d (is_shared b r.path) (routing_of b a r.path) (bus_first b a io_pool r.path) (items_on b a io_pool r.path) refl (λ i k. io_span r m d e (i, k));
-    mem = mem_named d (is_shared b r.path) (routing_of b a r.path) (bus_first b a mem_pool r.path) (items_on b a mem_pool r.path) refl (λ i k. mem_span r m d e (i, k));
-    pref = pref_named d (is_shared b r.path) (routing_of b a r.path) (bus_first b a pref_pool r.path) (items_on b a pref_pool r.path) refl (λ i k. pref_span r m d e (i, k));
+    io = io_named d (is_multifunction b r.path) (routing_of b a r.path) (bus_first b a io_pool r.path) (items_on b a io_pool r.path) refl (λ i k. io_span r m d e (i, k));
+    mem = mem_named d (is_multifunction b r.path) (routing_of b a r.path) (bus_first b a mem_pool r.path) (items_on b a mem_pool r.path) refl (λ i k. mem_span r m d e (i, k));
+    pref = pref_named d (is_multifunction b r.path) (routing_of b a r.path) (bus_first b a pref_pool r.path) (items_on b a pref_pool r.path) refl (λ i k. pref_span r m d e (i, k));
   }
 
 pub set_up_windows : SetUpWindows

@@ -15,7 +15,7 @@ use Rattle.model_board.specs.Lawful.{HasLawfulDecls}
 use Rattle.model_board.specs.Pools.{Apertures, Pool, io_pool, mem_pool, pref_pool, unit_of, same_pool, bridges_above, has_io, pool_of, is_io, opens_io, has_io_paths}
 use Rattle.model_board.specs.Placement.{Item, a_region, a_window, region_item, window_items, items_of, items_within, items_on, root_first, fits, fits_items, spots, offset_in, offset_on, first_below, bus_first, region_first}
 use Rattle.model_board.specs.Layout.{row_of, bus_rows, buses, pool_rows, layout}
-use Rattle.model_board.specs.SetUp.{first_of, command_of, span_of, window_span}
+use Rattle.model_board.specs.SetUp.{first_of, command_of, window_of, set_up_window}
 use Rattle.model_board.specs.SetUpWrites.{to_endpoint, to_bridge, placed_base, windows_of, writes_of, settings, planned, placement_rules}
 use Rattle.model_board.specs.Reach.{address_of}
 use Rattle.model_board.specs.FunctionTable.{found_decl, sized_table, board_in, PlacedAsFound}
@@ -70,8 +70,8 @@ module _ (b c : Board) (a : Apertures) (pool : Pool) (same : (bus : Path) → it
   pub bus_rows_same : (bus : Path) → bus_rows c a pool bus ≡ bus_rows b a pool bus
   bus_rows_same bus = ap₂ (λ n (is : List Item). map (row_of pool bus n) (spots is)) (bus_first_same bus) (same bus)
 
-  pub window_span_same : (closed : ℕ) (p : Path) → window_span c a pool closed p ≡ window_span b a pool closed p
-  window_span_same closed p = ap₂ (λ n (is : List Item). span_of (unit_of pool) closed n is) (bus_first_same p) (same p)
+  pub window_span_same : (closed : ℕ) (p : Path) → set_up_window c a pool closed p ≡ set_up_window b a pool closed p
+  window_span_same closed p = ap₂ (λ n (is : List Item). window_of (unit_of pool) closed n is) (bus_first_same p) (same p)
 
   pub fits_same : fits c a pool ≡ fits b a pool
   fits_same = ap (fits_items a pool) (same [])

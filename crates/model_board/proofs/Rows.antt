@@ -5,7 +5,7 @@ use Rattle.std.specs.Option.{option_map_or}
 use Rattle.model_registers.specs.Registers.{config, number}
 use Rattle.model_registers.specs.Declarations.{io_kind, mem32, mem64, no_io, io32, pref32, Bridge}
 use Rattle.model_registers.specs.EndpointTable.{endpoint_file}
-use Rattle.model_registers.specs.BridgeTable.{Span, bridge_file}
+use Rattle.model_registers.specs.BridgeTable.{Window, bridge_file}
 use Rattle.model_registers.specs.Decoding.{Space, io, memory}
 use Rattle.model_board.specs.Paths.{Path, path_eq}
 use Rattle.model_board.specs.Board.{Board, endpoint, bridge}
@@ -275,11 +275,11 @@ last_unit = refl
 
 -- ---- what window registers name
 
-abbrev span : ℕ → ℕ → Span
+abbrev span : ℕ → ℕ → Window
 span first last = record { first = first; last = last }
 
 -- a bridge with this Command, I/O span, memory span and prefetchable span
-abbrev set_to : Bridge → ℕ → Span → Span → Span → BoardFunction
+abbrev set_to : Bridge → ℕ → Window → Window → Window → BoardFunction
 set_to d command x y z = record {
   path = bridge_at;
   decl = bridge d;
@@ -289,7 +289,7 @@ set_to d command x y z = record {
 abbrev named : ℕ → ℕ → Option Window
 named first last = Some (record { first = first; last = last })
 
-abbrev all_windows : Bridge → Span → Span → Span → List (Option Window)
+abbrev all_windows : Bridge → Window → Window → Window → List (Option Window)
 all_windows d x y z = let file = (set_to d 3 x y z).file in io_window d.io file ∷ mem_window file ∷ pref_window d.pref file ∷ []
 
 -- registers of 0 name the lowest unit, and those that are not there name nothing

@@ -3,7 +3,7 @@ use Rattle.std.proofs.Common.{◌≡◌, ℕ, true, false, List, [], ◌∷◌, 
 use Rattle.std.specs.Prelude.{map, option_map}
 use Rattle.model_registers.specs.Declarations.{mem32, Region, Endpoint, IoDecode, no_io, io16, io32, PrefDecode, no_pref, pref32, pref64, Bridge}
 use Rattle.model_registers.specs.EndpointTable.{endpoint_file}
-use Rattle.model_registers.specs.BridgeTable.{Span, Routing, bridge_file}
+use Rattle.model_registers.specs.BridgeTable.{BridgeValues, bridge_file}
 use Rattle.model_registers.specs.Decoding.{io, memory}
 use Rattle.model_board.specs.Paths.{Path}
 use Rattle.model_board.specs.Board.{endpoint, bridge}
@@ -30,7 +30,7 @@ with_regions rs = plain 2 0 0 rs
 abbrev with_windows : IoDecode → PrefDecode → Bridge
 with_windows i p = record main_bridge { io = i; pref = p }
 
-abbrev from_to : ℕ → ℕ → Span
+abbrev from_to : ℕ → ℕ → Window
 from_to first last = record { first = first; last = last }
 
 abbrev claim : Path → ℕ → ℕ → Claim
@@ -53,7 +53,7 @@ closed_bridge = refl
 
 -- ---- in other states
 
-abbrev routing_with : ℕ → ℕ → ℕ → Routing
+abbrev routing_with : ℕ → ℕ → ℕ → BridgeValues
 routing_with command secondary subordinate = record { command = command; primary = 0; secondary = secondary; subordinate = subordinate; io = from_to 0x1000 0x1fff; mem = from_to 0xc0000000 0xc00fffff; pref = from_to 0x400000000 0x4000fffff }
 
 abbrev bridge_at : Path → ℕ → ℕ → ℕ → BoardFunction
@@ -93,7 +93,7 @@ outside_the_window = refl
 
 -- ---- windows
 
-abbrev file_of : IoDecode → PrefDecode → Span → Span → Span → ℕ → BoardFunction
+abbrev file_of : IoDecode → PrefDecode → Window → Window → Window → ℕ → BoardFunction
 file_of i p wio wmem wpref command = record {
   path = on_bus_0 2;
   decl = bridge (with_windows i p);

@@ -6,7 +6,7 @@ use Rattle.std.proofs.lemmas.List.Sums.{sum_by-cons}
 use Rattle.model_registers.specs.Lists.{Each, EachPair}
 use Rattle.model_board.specs.Members.{IsIn}
 use Rattle.model_board.specs.Paths.{Part, Path, part_eq, path_eq, path_before, leads_to, IsPath}
-use Rattle.model_board.specs.Board.{Board, Row, is_bridge, is_bridge_at, stands_at, is_shared, IsBoard}
+use Rattle.model_board.specs.Board.{Board, Row, is_bridge, is_bridge_at, stands_at, is_multifunction, IsBoard}
 use Rattle.model_board.specs.Scanning.{no_numbers, board_numbers, open_numbers}
 use Rattle.model_board.specs.ScanOrder.{place, on, next_place, met, MeetsInPathOrder, GivesNumbersInPathOrder, ScanMeetsInPathOrder, ScanGivesNumbersInPathOrder}
 use Rattle.model_board.proofs.Members.{each_in, any_in, none_pass}
@@ -90,7 +90,7 @@ module _ (b : Board) (lawful : IsBoard b) where
   -- ---- places of a bus
 
   next_later : (bus : Path) (n : ℕ) → n < next_place b bus n
-  next_later bus n = by_test (eqb (n % 8) 0 && not (stands_at b (on bus n) && is_shared b (on bus n)))
+  next_later bus n = by_test (eqb (n % 8) 0 && not (stands_at b (on bus n) && is_multifunction b (on bus n)))
     where
       by_test : (t : Bool) → n < cond t (n + 8) (n + 1)
       by_test true = omega arith

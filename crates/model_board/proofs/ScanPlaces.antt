@@ -6,7 +6,7 @@ use Rattle.model_registers.specs.Lists.{Each}
 use Rattle.model_registers.proofs.Tests.{left_true, right_true}
 use Rattle.model_board.specs.Members.{IsIn}
 use Rattle.model_board.specs.Paths.{Part, Path, part_eq, part_before, path_eq, path_before, leads_to, parent, last_part, function_zero, IsPart, IsPath}
-use Rattle.model_board.specs.Board.{Board, Row, stands_at, is_shared, IsBoard}
+use Rattle.model_board.specs.Board.{Board, Row, stands_at, is_multifunction, IsBoard}
 use Rattle.model_board.specs.ScanOrder.{place, on, next_place}
 use Rattle.model_board.proofs.Members.{each_in, any_in}
 use Rattle.model_board.proofs.PathOrder.{part_same}
@@ -187,8 +187,8 @@ module _ (b : Board) (lawful : IsBoard b) where
   at_or_behind r p u (q ∷ rest) e = inr (subst (λ (x : Path). leads_to (p ++ u ∷ []) x ≡ true) (sym e) (leads_down p u q rest))
 
   -- a device in which a further function stands has function 0, which says so
-  is_shared_here : (p : Path) (n : ℕ) → n % 8 ≡ 0 → (u : Part) → u.device ≡ n / 8 → 0 < u.function → (s : Row) → IsIn s b → s.path ≡ p ++ u ∷ [] → (stands_at b (on p n) && is_shared b (on p n)) ≡ true
-  is_shared_here p n first u dev fn s m e = rw (zero_stands, shared)
+  is_multifunction_here : (p : Path) (n : ℕ) → n % 8 ≡ 0 → (u : Part) → u.device ≡ n / 8 → 0 < u.function → (s : Row) → IsIn s b → s.path ≡ p ++ u ∷ [] → (stands_at b (on p n) && is_multifunction b (on p n)) ≡ true
+  is_multifunction_here p n first u dev fn s m e = rw (zero_stands, multifunction)
     where
       zero_is : function_zero s.path ≡ on p n
       zero_is = ap function_zero e ∙ zero_snoc p u ∙ ap (λ (v : Part). p ++ v ∷ []) (same_part (record u { function = 0 }) (place n) dev (sym first))
@@ -211,14 +211,14 @@ module _ (b : Board) (lawful : IsBoard b) where
           other : part_eq u (place n) ≡ false
           other = grind (arith, nat_tests)
 
-      shared : is_shared b (on p n) ≡ true
-      shared =
+      multifunction : is_multifunction b (on p n) ≡ true
+      multifunction =
           any_in (λ (r : Row). path_eq (parent r.path) (parent (on p n)) && eqb (device r.path) (device (on p n)) && not (path_eq r.path (on p n))) s b m
           (subst (λ (x : Path). (path_eq (parent x) (parent (on p n)) && eqb (device x) (device (on p n)) && not (path_eq x (on p n))) ≡ true) (sym e) (rw (parents, devices, apart)))
 
   -- no function is passed over on the way to the next place
   pub none_passed : (p : Path) (n : ℕ) (r : Row) → IsIn r b → is_within p n (next_place b p n) r.path ≡ true → AtOrBehind r (on p n)
-  none_passed p n r m h = by_test (eqb (n % 8) 0 && not (stands_at b (on p n) && is_shared b (on p n))) refl h
+  none_passed p n r m h = by_test (eqb (n % 8) 0 && not (stands_at b (on p n) && is_multifunction b (on p n))) refl h
     where
       at_place : (u : Part) (rest : Path) → r.path ≡ p ++ u ∷ rest → u.device ≡ n / 8 → u.function ≡ n % 8 → AtOrBehind r (on p n)
       at_place u rest e dev fn = subst (λ (v : Part). AtOrBehind r (p ++ v ∷ [])) (same_part u (place n) dev fn) (at_or_behind r p u rest e)
@@ -226,11 +226,11 @@ module _ (b : Board) (lawful : IsBoard b) where
       part_of : (u : Part) (rest : Path) → r.path ≡ p ++ u ∷ rest → IsPart u
       part_of u rest e = part_in p u rest (subst (λ (x : Path). Each IsPart x) e (row_path r m).parts)
 
-      by_function : (u : Part) (rest : Path) → r.path ≡ p ++ u ∷ rest → n % 8 ≡ 0 → u.device ≡ n / 8 → (t : Bool) → nat_lt 0 u.function ≡ t → not (stands_at b (on p n) && is_shared b (on p n)) ≡ true → AtOrBehind r (on p n)
+      by_function : (u : Part) (rest : Path) → r.path ≡ p ++ u ∷ rest → n % 8 ≡ 0 → u.device ≡ n / 8 → (t : Bool) → nat_lt 0 u.function ≡ t → not (stands_at b (on p n) && is_multifunction b (on p n)) ≡ true → AtOrBehind r (on p n)
       by_function u rest e first dev true f alone =
           let s = stands_there r m p u rest e in
-          let shared : (stands_at b (on p n) && is_shared b (on p n)) ≡ true = is_shared_here p n first u dev (lt_of 0 u.function f) s.0 s.1 s.2 in
-          let no : false ≡ true = rw shared at alone in
+          let multifunction : (stands_at b (on p n) && is_multifunction b (on p n)) ≡ true = is_multifunction_here p n first u dev (lt_of 0 u.function f) s.0 s.1 s.2 in
+          let no : false ≡ true = rw multifunction at alone in
           cc
       by_function u rest e first dev false f alone = at_place u rest e dev (zero_of u.function f ∙ sym first)
         where
@@ -240,12 +240,12 @@ module _ (b : Board) (lawful : IsBoard b) where
       eq_of : (k l : ℕ) → eqb k l ≡ true → k ≡ l
       eq_of k l h = grind (arith, nat_tests)
 
-      by_test : (t : Bool) → (eqb (n % 8) 0 && not (stands_at b (on p n) && is_shared b (on p n))) ≡ t → is_within p n (cond t (n + 8) (n + 1)) r.path ≡ true → AtOrBehind r (on p n)
+      by_test : (t : Bool) → (eqb (n % 8) 0 && not (stands_at b (on p n) && is_multifunction b (on p n))) ≡ t → is_within p n (cond t (n + 8) (n + 1)) r.path ≡ true → AtOrBehind r (on p n)
       by_test true e k =
           let s = split_within p n (n + 8) r.path k in
-          let first : n % 8 ≡ 0 = eq_of (n % 8) 0 (left_true (eqb (n % 8) 0) (not (stands_at b (on p n) && is_shared b (on p n))) e) in
+          let first : n % 8 ≡ 0 = eq_of (n % 8) 0 (left_true (eqb (n % 8) 0) (not (stands_at b (on p n) && is_multifunction b (on p n))) e) in
           let dev : s.0.device ≡ n / 8 = omega (arith, s.3, s.4, (part_of s.0 s.1 s.2).function_fits) in
-          by_function s.0 s.1 s.2 first dev (nat_lt 0 s.0.function) refl (right_true (eqb (n % 8) 0) (not (stands_at b (on p n) && is_shared b (on p n))) e)
+          by_function s.0 s.1 s.2 first dev (nat_lt 0 s.0.function) refl (right_true (eqb (n % 8) 0) (not (stands_at b (on p n) && is_multifunction b (on p n))) e)
       by_test false e k =
           let s = split_within p n (n + 1) r.path k in
           let dev : s.0.device ≡ n / 8 = omega (arith, s.3, s.4, (part_of s.0 s.1 s.2).function_fits) in

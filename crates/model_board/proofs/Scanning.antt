@@ -6,7 +6,7 @@ use Rattle.model_board.specs.Members.{IsIn}
 use Rattle.model_registers.specs.Declarations.{Bridge}
 use Rattle.model_registers.specs.BridgeTable.{bridge_file}
 use Rattle.model_board.specs.Paths.{Path, path_eq, path_before, leads_to, parent, last_part}
-use Rattle.model_board.specs.Board.{Board, Row, Decl, endpoint, bridge, is_bridge, is_bridge_at, is_shared, IsBoard}
+use Rattle.model_board.specs.Board.{Board, Row, Decl, endpoint, bridge, is_bridge, is_bridge_at, is_multifunction, IsBoard}
 use Rattle.model_board.specs.BusNumbers.{secondary, subordinate, bus_behind, bus_of}
 use Rattle.model_board.specs.State.{BoardFunction}
 use Rattle.model_board.specs.Numbering.{NumbersLead}
@@ -102,8 +102,8 @@ abbrev FitBytes : BusNumbers → Type 0
 FitBytes n = (n.primary < 256) × (n.secondary < 256) × (n.subordinate < 256)
 
 -- the registers of a bridge read the numbers that were put there
-pub numbers_read : (d : Bridge) (shared : Bool) (n : BusNumbers) → (n.primary < 256) × (n.secondary < 256) × (n.subordinate < 256) → numbers_in (bridge_file d shared (with_numbers n)) ≡ n
-numbers_read d shared n h = λ i. record { primary = byte n.primary h.0 i; secondary = byte n.secondary h.1 i; subordinate = byte n.subordinate h.2 i }
+pub numbers_read : (d : Bridge) (multifunction : Bool) (n : BusNumbers) → (n.primary < 256) × (n.secondary < 256) × (n.subordinate < 256) → numbers_in (bridge_file d multifunction (with_numbers n)) ≡ n
+numbers_read d multifunction n h = λ i. record { primary = byte n.primary h.0 i; secondary = byte n.secondary h.1 i; subordinate = byte n.subordinate h.2 i }
   where
     byte : (k : ℕ) → k < 256 → k % 256 + 256 * 0 ≡ k
     byte k l = omega arith
@@ -142,7 +142,7 @@ module _ (b : Board) (here : Path) (few : secondary b here ≤ 256) where
       by_decl (endpoint d) e k = cc
       by_decl (bridge d) e k =
           let bridge_is : is_bridge r.decl ≡ true = ap is_bridge e in
-          numbers_read d (is_shared b r.path) (scan_numbers b here r.path)
+          numbers_read d (is_multifunction b r.path) (scan_numbers b here r.path)
           (numbers_fit r.path (any_in (λ (s : Row). is_bridge s.decl && path_eq s.path r.path) r b (h r (inl refl)) (rw bridge_is (path_self r.path))) (leads_to r.path here) (path_before r.path here) refl refl)
 
 pub numbers_of_scan_state : NumbersOfScanState

@@ -7,7 +7,7 @@ use Rattle.model_registers.specs.Cell.{Cell}
 use Rattle.model_registers.specs.Registers.{config, block, File, cell_at, number, field, cells_from}
 use Rattle.model_registers.specs.Declarations.{Kind, io_kind, mem32, mem64, Region, registers_of, least_size, ConfigBlock, Endpoint, Bridge}
 use Rattle.model_registers.specs.EndpointTable.{base_register, base_cells, region_cells, block_cells, header_cells, endpoint_file}
-use Rattle.model_registers.specs.BridgeTable.{Routing, bridge_file}
+use Rattle.model_registers.specs.BridgeTable.{BridgeValues, bridge_file}
 use Rattle.model_registers.specs.Decoding.{Space, io, memory, base, is_open}
 use Rattle.model_registers.proofs.RegisterFiles.{field_reads}
 use Rattle.model_board.specs.SetUp.{opens, command_of}
@@ -91,27 +91,27 @@ module _ (bases : Region → ℕ) where
   )
 
 -- no register of the header stands among the base address registers, and all blocks stand behind them
-past_header_4 : (d : Endpoint) (shared : Bool) (command n : ℕ) (rest : File) → n < 6 → number (header_cells d shared command ++ rest) (base_register n) 4 ≡ number rest (base_register n) 4
-past_header_4 d shared command zero rest h = refl
-past_header_4 d shared command (suc zero) rest h = refl
-past_header_4 d shared command (suc (suc zero)) rest h = refl
-past_header_4 d shared command (suc (suc (suc zero))) rest h = refl
-past_header_4 d shared command (suc (suc (suc (suc zero)))) rest h = refl
-past_header_4 d shared command (suc (suc (suc (suc (suc zero))))) rest h = refl
-past_header_4 d shared command (suc (suc (suc (suc (suc (suc n)))))) rest h = absurd (omega arith)
+past_header_4 : (d : Endpoint) (multifunction : Bool) (command n : ℕ) (rest : File) → n < 6 → number (header_cells d multifunction command ++ rest) (base_register n) 4 ≡ number rest (base_register n) 4
+past_header_4 d multifunction command zero rest h = refl
+past_header_4 d multifunction command (suc zero) rest h = refl
+past_header_4 d multifunction command (suc (suc zero)) rest h = refl
+past_header_4 d multifunction command (suc (suc (suc zero))) rest h = refl
+past_header_4 d multifunction command (suc (suc (suc (suc zero)))) rest h = refl
+past_header_4 d multifunction command (suc (suc (suc (suc (suc zero))))) rest h = refl
+past_header_4 d multifunction command (suc (suc (suc (suc (suc (suc n)))))) rest h = absurd (omega arith)
 
-past_header_8 : (d : Endpoint) (shared : Bool) (command n : ℕ) (rest : File) → n < 5 → number (header_cells d shared command ++ rest) (base_register n) 8 ≡ number rest (base_register n) 8
-past_header_8 d shared command zero rest h = refl
-past_header_8 d shared command (suc zero) rest h = refl
-past_header_8 d shared command (suc (suc zero)) rest h = refl
-past_header_8 d shared command (suc (suc (suc zero))) rest h = refl
-past_header_8 d shared command (suc (suc (suc (suc zero)))) rest h = refl
-past_header_8 d shared command (suc (suc (suc (suc (suc n))))) rest h = absurd (omega arith)
+past_header_8 : (d : Endpoint) (multifunction : Bool) (command n : ℕ) (rest : File) → n < 5 → number (header_cells d multifunction command ++ rest) (base_register n) 8 ≡ number rest (base_register n) 8
+past_header_8 d multifunction command zero rest h = refl
+past_header_8 d multifunction command (suc zero) rest h = refl
+past_header_8 d multifunction command (suc (suc zero)) rest h = refl
+past_header_8 d multifunction command (suc (suc (suc zero))) rest h = refl
+past_header_8 d multifunction command (suc (suc (suc (suc zero)))) rest h = refl
+past_header_8 d multifunction command (suc (suc (suc (suc (suc n))))) rest h = absurd (omega arith)
 
-past_header : (kind : Kind) (d : Endpoint) (shared : Bool) (command n : ℕ) (rest : File) → n + registers_of kind ≤ 6 → number (header_cells d shared command ++ rest) (base_register n) (4 * registers_of kind) ≡ number rest (base_register n) (4 * registers_of kind)
-past_header io_kind d shared command n rest h = past_header_4 d shared command n rest (omega arith)
-past_header (mem32 pref) d shared command n rest h = past_header_4 d shared command n rest (omega arith)
-past_header (mem64 pref) d shared command n rest h = past_header_8 d shared command n rest (omega arith)
+past_header : (kind : Kind) (d : Endpoint) (multifunction : Bool) (command n : ℕ) (rest : File) → n + registers_of kind ≤ 6 → number (header_cells d multifunction command ++ rest) (base_register n) (4 * registers_of kind) ≡ number rest (base_register n) (4 * registers_of kind)
+past_header io_kind d multifunction command n rest h = past_header_4 d multifunction command n rest (omega arith)
+past_header (mem32 pref) d multifunction command n rest h = past_header_4 d multifunction command n rest (omega arith)
+past_header (mem64 pref) d multifunction command n rest h = past_header_8 d multifunction command n rest (omega arith)
 
 -- an address that a base address register can hold
 pub record FitsRegister (kind : Kind) (b : ℕ) : Type 0 where
@@ -135,13 +135,13 @@ without_type (mem32 pref) b file n fits e = ap (λ x. x / 16 * 16) e ∙ low_32 
 without_type (mem64 pref) b file n fits e = ap (λ x. x / 16 * 16) e ∙ low_64 b pref fits.aligned fits.small
 
 -- each base address register of an endpoint's file holds its base
-module _ (d : Endpoint) (shared : Bool) (command : ℕ) (bases : Region → ℕ) where
+module _ (d : Endpoint) (multifunction : Bool) (command : ℕ) (bases : Region → ℕ) where
   bases_from : (rest : File) (rs : List Region) → Each (λ b. 0x40 ≤ b.offset) d.blocks → rest ≡ flat_map (region_cells bases) d.regions → Each (λ r. r.index + registers_of r.kind ≤ 6) rs → Each (λ r. FitsRegister r.kind (bases r)) rs
-      → Each (Reads bases rest) rs → Each (λ r. base (endpoint_file d shared command bases) r.index r.kind ≡ bases r) rs
+      → Each (Reads bases rest) rs → Each (λ r. base (endpoint_file d multifunction command bases) r.index r.kind ≡ bases r) rs
   bases_from rest [] far e few fits h = tt
   bases_from rest (r ∷ rs) far e few fits h = (
-    without_type r.kind (bases r) (endpoint_file d shared command bases) r.index fits.0
-        (past_header r.kind d shared command r.index (flat_map block_cells d.blocks ++ flat_map (region_cells bases) d.regions) few.0
+    without_type r.kind (bases r) (endpoint_file d multifunction command bases) r.index fits.0
+        (past_header r.kind d multifunction command r.index (flat_map block_cells d.blocks ++ flat_map (region_cells bases) d.regions) few.0
         ∙ same_cells (4 * registers_of r.kind) (16 + 4 * r.index) (flat_map block_cells d.blocks ++ flat_map (region_cells bases) d.regions) (flat_map (region_cells bases) d.regions)
         (λ k l u. past_blocks d.blocks k (flat_map (region_cells bases) d.regions) far (omega (arith, few.0)))
         ∙ ap (λ (f : File). number f (base_register r.index) (4 * registers_of r.kind)) (sym e) ∙ h.0),
@@ -149,23 +149,23 @@ module _ (d : Endpoint) (shared : Bool) (command : ℕ) (bases : Region → ℕ)
   )
 
   pub bases_read : Each (λ b. 0x40 ≤ b.offset) d.blocks → EachPair (λ r s. r.index + registers_of r.kind ≤ s.index) d.regions → Each (λ r. r.index + registers_of r.kind ≤ 6) d.regions → Each (λ r. FitsRegister r.kind (bases r)) d.regions
-      → Each (λ r. base (endpoint_file d shared command bases) r.index r.kind ≡ bases r) d.regions
+      → Each (λ r. base (endpoint_file d multifunction command bases) r.index r.kind ≡ bases r) d.regions
   bases_read far order few fits = bases_from (flat_map (region_cells bases) d.regions) d.regions far refl few fits (regions_read bases d.regions order)
 
 -- ---- Command
 
-command_opens : (u v : Bool) (d : Endpoint) (shared : Bool) (bases : Region → ℕ) → (is_open (endpoint_file d shared (cond u 1 0 + cond v 2 0) bases) io ≡ u) × (is_open (endpoint_file d shared (cond u 1 0 + cond v 2 0) bases) memory ≡ v)
-command_opens true true d shared bases = (refl, refl)
-command_opens true false d shared bases = (refl, refl)
-command_opens false true d shared bases = (refl, refl)
-command_opens false false d shared bases = (refl, refl)
+command_opens : (u v : Bool) (d : Endpoint) (multifunction : Bool) (bases : Region → ℕ) → (is_open (endpoint_file d multifunction (cond u 1 0 + cond v 2 0) bases) io ≡ u) × (is_open (endpoint_file d multifunction (cond u 1 0 + cond v 2 0) bases) memory ≡ v)
+command_opens true true d multifunction bases = (refl, refl)
+command_opens true false d multifunction bases = (refl, refl)
+command_opens false true d multifunction bases = (refl, refl)
+command_opens false false d multifunction bases = (refl, refl)
 
 -- an endpoint decodes in the spaces of its regions
-pub endpoint_opens : (d : Endpoint) (shared : Bool) (bases : Region → ℕ) (space : Space) → is_open (endpoint_file d shared (command_of d) bases) space ≡ opens d space
-endpoint_opens d shared bases io = (command_opens (opens d io) (opens d memory) d shared bases).0
-endpoint_opens d shared bases memory = (command_opens (opens d io) (opens d memory) d shared bases).1
+pub endpoint_opens : (d : Endpoint) (multifunction : Bool) (bases : Region → ℕ) (space : Space) → is_open (endpoint_file d multifunction (command_of d) bases) space ≡ opens d space
+endpoint_opens d multifunction bases io = (command_opens (opens d io) (opens d memory) d multifunction bases).0
+endpoint_opens d multifunction bases memory = (command_opens (opens d io) (opens d memory) d multifunction bases).1
 
 -- a bridge forwards in both spaces
-pub bridge_opens : (d : Bridge) (shared : Bool) (r : Routing) (space : Space) → r.command ≡ 3 → is_open (bridge_file d shared r) space ≡ true
-bridge_opens d shared r io h = ap (λ n. not (eqb (bit_and (n % 256 + 256 * (n / 256 % 256 + 256 * 0)) 1) 0)) h
-bridge_opens d shared r memory h = ap (λ n. not (eqb (bit_and (n % 256 + 256 * (n / 256 % 256 + 256 * 0)) 2) 0)) h
+pub bridge_opens : (d : Bridge) (multifunction : Bool) (r : BridgeValues) (space : Space) → r.command ≡ 3 → is_open (bridge_file d multifunction r) space ≡ true
+bridge_opens d multifunction r io h = ap (λ n. not (eqb (bit_and (n % 256 + 256 * (n / 256 % 256 + 256 * 0)) 1) 0)) h
+bridge_opens d multifunction r memory h = ap (λ n. not (eqb (bit_and (n % 256 + 256 * (n / 256 % 256 + 256 * 0)) 2) 0)) h

@@ -11,7 +11,7 @@ use Rattle.model_registers.specs.DeclarationRules.{IsConfigBlock}
 use Rattle.model_registers.specs.Registers.{File}
 use Rattle.model_registers.specs.Decoding.{Space, io, memory, space_of, same_space, base, is_open, Hit, hit_of}
 use Rattle.model_board.specs.Members.{IsIn}
-use Rattle.model_board.specs.Board.{Board, Row, Decl, endpoint, bridge, is_bridge, is_shared}
+use Rattle.model_board.specs.Board.{Board, Row, Decl, endpoint, bridge, is_bridge, is_multifunction}
 use Rattle.model_board.specs.Paths.{Path, leads_to, IsPath}
 use Rattle.model_board.specs.State.{BoardFunction}
 use Rattle.model_board.specs.Windows.{forwards, is_in_window}
@@ -101,7 +101,7 @@ module _ (b : Board) (a : Apertures) (can : CanBePlaced b a) (lawful : IsLawful 
 
     by_bridge : (p : Path) (d : Bridge) (n : ℕ) → IsIn (record { path = p; decl = bridge d }) b → leads_to p r.path ≡ true → row.first ≤ n → n < row.first + row.size → forwards (space_of g.kind) n (left b a (record { path = p; decl = bridge d })) ≡ true
     by_bridge p d n m h low high =
-        let opened : is_open (set_up_file b a p (bridge d)) (space_of g.kind) ≡ true = bridge_opens d (is_shared b p) (routing_of b a p) (space_of g.kind) refl in
+        let opened : is_open (set_up_file b a p (bridge d)) (space_of g.kind) ≡ true = bridge_opens d (is_multifunction b p) (routing_of b a p) (space_of g.kind) refl in
         let held : is_in_window d (set_up_file b a p (bridge d)) (space_of g.kind) n ≡ true =
         subst (λ (x : Space). is_in_window d (set_up_file b a p (bridge d)) x n ≡ true) (pool_of_space a (bridges_above b r.path) g.kind) (bridge_forwards row p d n in_layout m h low high) in
         both (is_open (set_up_file b a p (bridge d)) (space_of g.kind)) (is_in_window d (set_up_file b a p (bridge d)) (space_of g.kind) n) opened held
@@ -128,7 +128,7 @@ module _ (b : Board) (a : Apertures) (can : CanBePlaced b a) (lawful : IsLawful 
   bases : (r : Row) (e : Endpoint) → IsIn r b → r.decl ≡ endpoint e → Each (λ g. base (set_up_file b a r.path (endpoint e)) g.index g.kind ≡ first_of b a r.path g) e.regions
   bases r e m decl_is =
       let regions : HasLawfulRegions e.regions = lawful_regions b can.declarations r e m decl_is in
-      bases_read e (is_shared b r.path) (command_of e) (first_of b a r.path) (each_from (λ k. 0x40 ≤ k.offset) e.blocks (λ k i. (each_in IsConfigBlock k e.blocks (lawful_decl b can.declarations r e m decl_is).config_blocks i).begins)) regions.in_order
+      bases_read e (is_multifunction b r.path) (command_of e) (first_of b a r.path) (each_from (λ k. 0x40 ≤ k.offset) e.blocks (λ k i. (each_in IsConfigBlock k e.blocks (lawful_decl b can.declarations r e m decl_is).config_blocks i).begins)) regions.in_order
       (each_from (λ g. g.index + registers_of g.kind ≤ 6) e.regions (λ g k. (each_in IsLawfulRegion g e.regions regions.each k).registers))
       (each_from (λ g. FitsRegister g.kind (first_of b a r.path g)) e.regions (λ g k.
       let there : IsIn (region_row b a r.path g) (layout b a) = region_there b a has r e g m decl_is k in
@@ -147,7 +147,7 @@ module _ (b : Board) (a : Apertures) (can : CanBePlaced b a) (lawful : IsLawful 
   hit_is r e g space n m decl_is k =
       let file : File = set_up_file b a r.path (endpoint e) in
       let opened : same_space (space_of g.kind) space ≡ true → is_open file space ≡ true =
-      (λ h. endpoint_opens e (is_shared b r.path) (first_of b a r.path) space ∙ any_in (λ (x : Region). same_space (space_of x.kind) space) g e.regions k h) in
+      (λ h. endpoint_opens e (is_multifunction b r.path) (first_of b a r.path) space ∙ any_in (λ (x : Region). same_space (space_of x.kind) space) g e.regions k h) in
       ap (λ (x : ℕ). cond (is_open file space && same_space (space_of g.kind) space && leb x n && ltb n (x + g.size)) (Some (record { index = g.index; offset = n - x })) None)
       (each_in (λ (x : Region). base file x.index x.kind ≡ first_of b a r.path x) g e.regions (bases r e m decl_is) k)
       ∙ ap (λ (t : Bool). cond t (Some (record { index = g.index; offset = n - first_of b a r.path g })) None)

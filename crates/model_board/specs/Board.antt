@@ -1,7 +1,7 @@
 -- A board: the functions that stand at its paths.
 --     Decl      what is declared at a path: an endpoint or a bridge
 --     Row, Board      a path with its declaration; rows in path order
---     rows_on, is_shared      the functions of one bus; another function stands in the same device
+--     rows_on, is_multifunction      the functions of one bus; another function stands in the same device
 --     IsBoard      no path twice, each path behind a bridge or on bus 0, and a function 0 in each device
 use Rattle.std.specs.Prelude.{List, [], ◌≡◌, Bool, true, false, ◌&&◌, ◌==◌, not, filter, IsTrue, ◌⊎◌}
 use Rattle.std.specs.List.{list_any}
@@ -35,8 +35,8 @@ abbrev pub is_bridge_at : Board → Path → Bool
 is_bridge_at b p = list_any (λ r. is_bridge r.decl && path_eq r.path p) b
 
 -- another function stands in the device
-abbrev pub is_shared : Board → Path → Bool
-is_shared b p = list_any (λ r. path_eq (parent r.path) (parent p) && ((last_part r.path).device == (last_part p).device) && not (path_eq r.path p)) b
+abbrev pub is_multifunction : Board → Path → Bool
+is_multifunction b p = list_any (λ r. path_eq (parent r.path) (parent p) && ((last_part r.path).device == (last_part p).device) && not (path_eq r.path p)) b
 
 -- lawful places: no path twice, each path behind a bridge of the board or on bus 0, and a function 0 in each device
 pub record IsBoard (b : Board) : Type 0 where

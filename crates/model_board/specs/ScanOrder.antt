@@ -6,7 +6,7 @@
 use Rattle.std.specs.Prelude.{[], ◌∷◌, ◌++◌, ◌≡◌, ℕ, ◌+◌, ◌/◌, ◌%◌, ◌&&◌, ◌==◌, if◌then◌else◌, not, filter, count_by, IsTrue, IsFalse}
 use Rattle.model_board.specs.Members.{IsIn}
 use Rattle.model_board.specs.Paths.{Part, Path, path_eq, path_before}
-use Rattle.model_board.specs.Board.{is_bridge, Row, Board, stands_at, is_bridge_at, is_shared, IsBoard}
+use Rattle.model_board.specs.Board.{is_bridge, Row, Board, stands_at, is_bridge_at, is_multifunction, IsBoard}
 use Rattle.model_board.specs.BusNumbers.{secondary, subordinate}
 use Rattle.model_board.specs.Scanning.{no_numbers, board_numbers, open_numbers, scan_numbers}
 
@@ -18,7 +18,7 @@ on bus n = bus ++ place n ∷ []
 
 -- functions 1 to 7 are looked at where function 0 says that its device holds others
 abbrev pub next_place : Board → Path → ℕ → ℕ
-next_place b bus n = if n % 8 == 0 && not (stands_at b (on bus n) && is_shared b (on bus n)) then n + 8 else n + 1
+next_place b bus n = if n % 8 == 0 && not (stands_at b (on bus n) && is_multifunction b (on bus n)) then n + 8 else n + 1
 
 abbrev pub met : Board → Path → Board
 met b here = filter (λ r. path_before r.path here) b

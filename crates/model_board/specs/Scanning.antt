@@ -9,9 +9,9 @@ use Rattle.std.specs.Prelude.{List, [], ◌∷◌, ◌++◌, ◌≡◌, ℕ, ◌
 use Rattle.model_registers.specs.Lists.{Each}
 use Rattle.model_registers.specs.Registers.{config, File, number}
 use Rattle.model_registers.specs.EndpointTable.{endpoint_reset}
-use Rattle.model_registers.specs.BridgeTable.{Routing, no_routing, bridge_file}
+use Rattle.model_registers.specs.BridgeTable.{BridgeValues, no_bridge_values, bridge_file}
 use Rattle.model_board.specs.Paths.{Part, Path, path_eq, path_before, leads_to}
-use Rattle.model_board.specs.Board.{Decl, endpoint, bridge, is_bridge, is_bridge_at, is_shared, Board, IsBoard}
+use Rattle.model_board.specs.Board.{Decl, endpoint, bridge, is_bridge, is_bridge_at, is_multifunction, Board, IsBoard}
 use Rattle.model_board.specs.BusNumbers.{secondary, subordinate, bus_behind, bus_of}
 use Rattle.model_board.specs.State.{BoardFunction, State}
 use Rattle.model_board.specs.Cycles.{secondary_register, subordinate_register, reached}
@@ -42,13 +42,13 @@ numbers_in file = record { primary = number file (config 0x18) 1; secondary = se
 
 -- ---- whole states
 
-abbrev pub with_numbers : BusNumbers → Routing
-with_numbers n = record no_routing { primary = n.primary; secondary = n.secondary; subordinate = n.subordinate }
+abbrev pub with_numbers : BusNumbers → BridgeValues
+with_numbers n = record no_bridge_values { primary = n.primary; secondary = n.secondary; subordinate = n.subordinate }
 
 -- the cells at reset, but for these numbers in the bridges
 abbrev pub numbered_file : Board → (Path → BusNumbers) → Path → Decl → File
-numbered_file b numbers p (endpoint d) = endpoint_reset d (is_shared b p)
-numbered_file b numbers p (bridge d) = bridge_file d (is_shared b p) (with_numbers (numbers p))
+numbered_file b numbers p (endpoint d) = endpoint_reset d (is_multifunction b p)
+numbered_file b numbers p (bridge d) = bridge_file d (is_multifunction b p) (with_numbers (numbers p))
 
 abbrev pub scan_state : Board → Path → State
 scan_state b here = state_of b (numbered_file b (scan_numbers b here))

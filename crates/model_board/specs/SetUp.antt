@@ -4,10 +4,10 @@ use Rattle.std.specs.List.{list_any}
 use Rattle.model_registers.specs.Registers.{File}
 use Rattle.model_registers.specs.Declarations.{Region, Endpoint}
 use Rattle.model_registers.specs.EndpointTable.{endpoint_file, endpoint_reset}
-use Rattle.model_registers.specs.BridgeTable.{Span, Routing, bridge_file, bridge_reset}
+use Rattle.model_registers.specs.BridgeTable.{Window, BridgeValues, bridge_file, bridge_reset}
 use Rattle.model_registers.specs.Decoding.{Space, io, memory, space_of, same_space}
 use Rattle.model_board.specs.Paths.{Path}
-use Rattle.model_board.specs.Board.{Decl, endpoint, bridge, Board, is_shared}
+use Rattle.model_board.specs.Board.{Decl, endpoint, bridge, Board, is_multifunction}
 use Rattle.model_board.specs.BusNumbers.{secondary, subordinate, bus_of}
 use Rattle.model_board.specs.State.{State}
 use Rattle.model_board.specs.Pools.{Pool, io_pool, mem_pool, pref_pool, unit_of, Apertures, bridges_above, pool_of}
@@ -24,31 +24,31 @@ abbrev pub command_of : Endpoint → ℕ
 command_of d = (if opens d io then 1 else 0) + (if opens d memory then 2 else 0)
 
 -- a window without items has its base in the last unit that the register names, and its limit at 0
-abbrev pub span_of : ℕ → ℕ → ℕ → List Item → Span
-span_of unit closed first [] = record { first = closed * unit; last = 0 }
-span_of unit closed first (i ∷ is) = record { first = first; last = first + need unit (i ∷ is) - 1 }
+abbrev pub window_of : ℕ → ℕ → ℕ → List Item → Window
+window_of unit closed first [] = record { first = closed * unit; last = 0 }
+window_of unit closed first (i ∷ is) = record { first = first; last = first + need unit (i ∷ is) - 1 }
 
-abbrev pub window_span : Board → Apertures → Pool → ℕ → Path → Span
-window_span b a pool closed p = span_of (unit_of pool) closed (bus_first b a pool p) (items_on b a pool p)
+abbrev pub set_up_window : Board → Apertures → Pool → ℕ → Path → Window
+set_up_window b a pool closed p = window_of (unit_of pool) closed (bus_first b a pool p) (items_on b a pool p)
 
-abbrev pub routing_of : Board → Apertures → Path → Routing
+abbrev pub routing_of : Board → Apertures → Path → BridgeValues
 routing_of b a p = record {
   command = 3;
   primary = bus_of b p;
   secondary = secondary b p;
   subordinate = subordinate b p;
-  io = window_span b a io_pool 0xf p;
-  mem = window_span b a mem_pool 0xfff p;
-  pref = window_span b a pref_pool 0xfff p;
+  io = set_up_window b a io_pool 0xf p;
+  mem = set_up_window b a mem_pool 0xfff p;
+  pref = set_up_window b a pref_pool 0xfff p;
 }
 
 abbrev pub set_up_file : Board → Apertures → Path → Decl → File
-set_up_file b a p (endpoint d) = endpoint_file d (is_shared b p) (command_of d) (first_of b a p)
-set_up_file b a p (bridge d) = bridge_file d (is_shared b p) (routing_of b a p)
+set_up_file b a p (endpoint d) = endpoint_file d (is_multifunction b p) (command_of d) (first_of b a p)
+set_up_file b a p (bridge d) = bridge_file d (is_multifunction b p) (routing_of b a p)
 
 abbrev pub reset_file : Board → Path → Decl → File
-reset_file b p (endpoint d) = endpoint_reset d (is_shared b p)
-reset_file b p (bridge d) = bridge_reset d (is_shared b p)
+reset_file b p (endpoint d) = endpoint_reset d (is_multifunction b p)
+reset_file b p (bridge d) = bridge_reset d (is_multifunction b p)
 
 -- no latch is set, and each function has its cells
 abbrev pub state_of : Board → (Path → Decl → File) → State

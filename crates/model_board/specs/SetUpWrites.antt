@@ -6,7 +6,7 @@
 use Rattle.std.specs.Prelude.{List, [], ◌∷◌, ℕ, Bool, nat_le, map, count_by}
 use Rattle.model_registers.specs.Declarations.{Region}
 use Rattle.model_registers.specs.EndpointTable.{BaseAddress}
-use Rattle.model_registers.specs.BridgeTable.{Span}
+use Rattle.model_registers.specs.BridgeTable.{Window}
 use Rattle.model_board.specs.Paths.{Path}
 use Rattle.model_board.specs.Board.{Decl, endpoint, bridge, is_bridge, Row, Board}
 use Rattle.model_board.specs.Cycles.{BusAddress}
@@ -14,12 +14,12 @@ use Rattle.model_board.specs.Reach.{address_of}
 use Rattle.model_board.specs.Pools.{io_pool, mem_pool, pref_pool, Apertures, has_io_paths}
 use Rattle.model_board.specs.Placement.{fits}
 use Rattle.model_board.specs.Layout.{LayoutRow, layout}
-use Rattle.model_board.specs.SetUp.{first_of, command_of, window_span}
+use Rattle.model_board.specs.SetUp.{first_of, command_of, set_up_window}
 
 pub record Windows : Type 0 where
-  pub io : Span
-  pub mem : Span
-  pub pref : Span
+  pub io : Window
+  pub mem : Window
+  pub pref : Window
 
 pub data Writes : Type 0 where
   to_endpoint : ℕ → List BaseAddress → Writes
@@ -34,9 +34,9 @@ placed_base b a p r = record { index = r.index; kind = r.kind; size = r.size; ba
 
 abbrev pub windows_of : Board → Apertures → Path → Windows
 windows_of b a p = record {
-  io = window_span b a io_pool 0xf p;
-  mem = window_span b a mem_pool 0xfff p;
-  pref = window_span b a pref_pool 0xfff p;
+  io = set_up_window b a io_pool 0xf p;
+  mem = set_up_window b a mem_pool 0xfff p;
+  pref = set_up_window b a pref_pool 0xfff p;
 }
 
 abbrev pub writes_of : Board → Apertures → Path → Decl → Writes

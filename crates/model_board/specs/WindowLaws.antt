@@ -1,35 +1,35 @@
 -- What the window registers of a bridge name after set-up: PCI-to-PCI Bridge Architecture 1.2, chapters 3.2.5.6 to 3.2.5.10 and 4.
 --     ClosedWindows      a window without items forwards no address, in each decode
---     NamedSpans      whole units within the reach of the decode are read back
+--     NamedWindows      whole units within the reach of the decode are read back
 --     SetUpWindows      each bridge of a board forwards what placement put behind it, and nothing else
 use Rattle.std.specs.Prelude.{List, [], ◌∷◌, ◌≡◌, ℕ, ◌-◌, ◌+◌, ◌%◌, Bool, ◌<◌, ◌≤◌, ◌^◌, Option, Some, None, IsTrue, ⊤}
 use Rattle.model_registers.specs.Lists.{Each}
 use Rattle.model_registers.specs.Declarations.{IoDecode, no_io, io16, io32, PrefDecode, no_pref, pref32, pref64, Bridge}
-use Rattle.model_registers.specs.BridgeTable.{Span, Routing, bridge_file}
+use Rattle.model_registers.specs.BridgeTable.{BridgeValues, bridge_file}
 use Rattle.model_registers.specs.Apertures.{IsLawfulApertures}
 use Rattle.model_board.specs.Paths.{Path}
 use Rattle.model_board.specs.Board.{Decl, endpoint, bridge, Board, IsBoard}
 use Rattle.model_board.specs.Windows.{Window, io_window, mem_window, pref_window}
 use Rattle.model_board.specs.Pools.{Pool, io_pool, mem_pool, pref_pool, unit_of, Apertures, has_io_paths}
 use Rattle.model_board.specs.Placement.{Item, need, items_on, fits, bus_first}
-use Rattle.model_board.specs.SetUp.{span_of, set_up_file}
+use Rattle.model_board.specs.SetUp.{window_of, set_up_file}
 use Rattle.model_board.specs.Lawful.{HasLawfulDecls}
 
 -- as set-up leaves a window without items: the base in the last unit that the register names, and the limit at 0
-abbrev pub closed_io : Span
-closed_io = span_of (unit_of io_pool) 0xf 0 []
+abbrev pub closed_io : Window
+closed_io = window_of (unit_of io_pool) 0xf 0 []
 
-abbrev pub closed_memory : Span
-closed_memory = span_of (unit_of mem_pool) 0xfff 0 []
+abbrev pub closed_memory : Window
+closed_memory = window_of (unit_of mem_pool) 0xfff 0 []
 
 -- with these registers, whatever else set-up wrote
-pub record Closes (d : Bridge) (shared : Bool) (r : Routing) : Type 0 where
-  pub io : r.io ≡ closed_io → io_window d.io (bridge_file d shared r) ≡ None
-  pub mem : r.mem ≡ closed_memory → mem_window (bridge_file d shared r) ≡ None
-  pub pref : r.pref ≡ closed_memory → pref_window d.pref (bridge_file d shared r) ≡ None
+pub record Closes (d : Bridge) (multifunction : Bool) (r : BridgeValues) : Type 0 where
+  pub io : r.io ≡ closed_io → io_window d.io (bridge_file d multifunction r) ≡ None
+  pub mem : r.mem ≡ closed_memory → mem_window (bridge_file d multifunction r) ≡ None
+  pub pref : r.pref ≡ closed_memory → pref_window d.pref (bridge_file d multifunction r) ≡ None
 
 abbrev pub ClosedWindows : Type 0
-ClosedWindows = (d : Bridge) (shared : Bool) (r : Routing) → Closes d shared r
+ClosedWindows = (d : Bridge) (multifunction : Bool) (r : BridgeValues) → Closes d multifunction r
 
 -- addresses that a decode can name lie below this; without a window there is none
 abbrev pub io_reach : IoDecode → ℕ
@@ -43,22 +43,19 @@ pref_reach pref32 = 2 ^ 32
 pref_reach pref64 = 2 ^ 64
 
 -- whole units, at least one, below an end
-pub record IsWhole (unit reach : ℕ) (s : Span) : Type 0 where
+pub record IsWhole (unit reach : ℕ) (s : Window) : Type 0 where
   pub first : s.first % unit ≡ 0
   pub end : (s.last + 1) % unit ≡ 0
   pub in_order : s.first ≤ s.last
   pub reached : s.last < reach
 
-abbrev pub window_at : Span → Window
-window_at s = record { first = s.first; last = s.last }
+pub record Names (d : Bridge) (multifunction : Bool) (r : BridgeValues) : Type 0 where
+  pub io : IsWhole (unit_of io_pool) (io_reach d.io) r.io → io_window d.io (bridge_file d multifunction r) ≡ Some r.io
+  pub mem : IsWhole (unit_of mem_pool) (2 ^ 32) r.mem → mem_window (bridge_file d multifunction r) ≡ Some r.mem
+  pub pref : IsWhole (unit_of pref_pool) (pref_reach d.pref) r.pref → pref_window d.pref (bridge_file d multifunction r) ≡ Some r.pref
 
-pub record Names (d : Bridge) (shared : Bool) (r : Routing) : Type 0 where
-  pub io : IsWhole (unit_of io_pool) (io_reach d.io) r.io → io_window d.io (bridge_file d shared r) ≡ Some (window_at r.io)
-  pub mem : IsWhole (unit_of mem_pool) (2 ^ 32) r.mem → mem_window (bridge_file d shared r) ≡ Some (window_at r.mem)
-  pub pref : IsWhole (unit_of pref_pool) (pref_reach d.pref) r.pref → pref_window d.pref (bridge_file d shared r) ≡ Some (window_at r.pref)
-
-abbrev pub NamedSpans : Type 0
-NamedSpans = (d : Bridge) (shared : Bool) (r : Routing) → Names d shared r
+abbrev pub NamedWindows : Type 0
+NamedWindows = (d : Bridge) (multifunction : Bool) (r : BridgeValues) → Names d multifunction r
 
 -- the window of a bus that begins at `first`: none without items
 abbrev pub window_over : ℕ → ℕ → List Item → Option Window

@@ -15,7 +15,7 @@ ghost use Rattle.model_board.specs.RoutingLaws.{ClaimsByRouting, FirstByRouting,
 ghost use Rattle.model_board.specs.ScanOrder.{ScanGivesNumbersInPathOrder, ScanMeetsInPathOrder};
 ghost use Rattle.model_board.specs.Scanning.{NumbersOfScanState, ReachedWhileScanning};
 ghost use Rattle.model_board.specs.UniqueClaimant.{ClaimInAnyOrder, RowsArePlaced, UniqueClaimant};
-ghost use Rattle.model_board.specs.WindowLaws.{ClosedWindows, NamedSpans, SetUpWindows};
+ghost use Rattle.model_board.specs.WindowLaws.{ClosedWindows, NamedWindows, SetUpWindows};
 
 /// On a bus without bridges the compact placement takes the sum of the sizes rounded up to the
 /// unit, and no lawful placement takes fewer units.
@@ -99,7 +99,7 @@ pub fn closed_windows()
 /// the bridge's decode; so on a board that fits, after set-up, each bridge's windows are those that
 /// placement gave it.
 pub fn named_windows()
-    ensures spans { NamedSpans }
+    ensures spans { NamedWindows }
     ensures set_up { SetUpWindows }
 {}
 

@@ -88,8 +88,8 @@ agreed_where (e ∷ es) own p h = cases (is_own e.place) refl (place_eq e.place 
     cases false i true k more = rw (i, k) (ap (cell_at own) (same_place e.place p k))
     cases false i false k more = rw (i, k) more
 
-agreed_shared : (left own : File) (p : Place) → places_of own ≡ places_of left → is_own p ≡ false → cell_at (agreed_file left own) p ≡ cell_at own p
-agreed_shared left own p same h = agreed_where left own p h ∙ cases (stands p (places_of left)) refl
+agreed_multifunction : (left own : File) (p : Place) → places_of own ≡ places_of left → is_own p ≡ false → cell_at (agreed_file left own) p ≡ cell_at own p
+agreed_multifunction left own p same h = agreed_where left own p h ∙ cases (stands p (places_of left)) refl
   where
     cases : (t : Bool) → stands p (places_of left) ≡ t → cond t (cell_at own p) no_cell ≡ cell_at own p
     cases true k = refl
@@ -99,7 +99,7 @@ pub agreed_holds : (left own : File) → places_of own ≡ places_of left → Ho
 agreed_holds left own same = record {
   places = agreed_places left own;
   kept = λ p h. agreed_kept left own p h;
-  shared = λ p h. agreed_shared left own p same h;
+  multifunction = λ p h. agreed_multifunction left own p same h;
 }
 
 -- ---- no other file holds that
@@ -138,7 +138,7 @@ only_file left own now distinct holds =
   where
     cases : (p : Place) (t : Bool) → is_own p ≡ t → (u : Bool) → stands p (places_of left) ≡ u → cell_at now p ≡ cell_at (agreed_file left own) p
     cases p true h u k = holds.kept p h ∙ sym (agreed_kept left own p h)
-    cases p false h true k = holds.shared p h ∙ sym (agreed_where left own p h ∙ ap (λ t. cond t (cell_at own p) no_cell) k)
+    cases p false h true k = holds.multifunction p h ∙ sym (agreed_where left own p h ∙ ap (λ t. cond t (cell_at own p) no_cell) k)
     cases p false h false k = absent now p (ap (stands p) holds.places ∙ k) ∙ sym (agreed_where left own p h ∙ ap (λ t. cond t (cell_at own p) no_cell) k)
 
 -- ---- changes

@@ -7,7 +7,7 @@ use Rattle.model_registers.specs.Registers.{File}
 use Rattle.model_registers.specs.Declarations.{Endpoint}
 use Rattle.model_registers.specs.EndpointTable.{endpoint_reset}
 use Rattle.model_board.specs.Paths.{Part, Path, part_eq, part_before, path_eq, path_before}
-use Rattle.model_board.specs.Board.{Decl, endpoint, bridge, Row, Board, is_shared}
+use Rattle.model_board.specs.Board.{Decl, endpoint, bridge, Row, Board, is_multifunction}
 use Rattle.model_board.specs.Pools.{Apertures}
 use Rattle.model_board.specs.State.{BoardFunction}
 use Rattle.model_board.specs.SetUp.{set_up_file, command_of, first_of}
@@ -81,7 +81,7 @@ no_other h = cc
 
 module _ (b : Board) (a : Apertures) (p : Path) where
   alike : (d : Endpoint) → IsLawfulDecl (endpoint d) → Alike (endpoint_reset d false) (set_up_file b a p (endpoint d))
-  alike d lawful = alike_tables d (is_shared b p) (command_of d) (first_of b a p) lawful.regions.each
+  alike d lawful = alike_tables d (is_multifunction b p) (command_of d) (first_of b a p) lawful.regions.each
 
   same_places : (decl : Decl) (file : File) → IsLawfulDecl decl → declared b p ≡ endpoint_of (record { path = p; decl = decl }) → IsFileOf places_of b p file
       → places_of file ≡ places_of (set_up_file b a p decl)
@@ -91,7 +91,7 @@ module _ (b : Board) (a : Apertures) (p : Path) where
   same_places (bridge d) file lawful found is = cc (is.declares, found)
 
   distinct : (decl : Decl) → IsLawfulDecl decl → declared b p ≡ endpoint_of (record { path = p; decl = decl }) → IsSome (declared b p) → HasDistinctPlaces (set_up_file b a p decl)
-  distinct (endpoint d) lawful found some = distinct_places d lawful (is_shared b p) (command_of d) (first_of b a p)
+  distinct (endpoint d) lawful found some = distinct_places d lawful (is_multifunction b p) (command_of d) (first_of b a p)
   distinct (bridge d) lawful found some = let none : false ≡ true = sym (ap is_some found) ∙ some in no_other none
 
   left_at_reset : (decl : Decl) (file : File) → IsLawfulDecl decl → declared b p ≡ endpoint_of (record { path = p; decl = decl }) → IsFileOf (λ (f : File). f) b p file

@@ -166,8 +166,8 @@ base_run_of r = run (base_register r.index) (4 * registers_of r.kind)
 abbrev region_run_of : Region → List Place
 region_run_of r = base_run_of r ++ run (block r.index 0) (length r.cells)
 
-header_places : (d : Endpoint) (shared : Bool) (command : ℕ) → places_of (header_cells d shared command) ≡ header_run
-header_places d shared command = refl
+header_places : (d : Endpoint) (multifunction : Bool) (command : ℕ) → places_of (header_cells d multifunction command) ≡ header_run
+header_places d multifunction command = refl
 
 base_places : (n : ℕ) (kind : Kind) (size base : ℕ) → places_of (base_cells n kind size base) ≡ run (base_register n) (4 * registers_of kind)
 base_places n io_kind size base = refl
@@ -186,12 +186,12 @@ regions_places bases (r ∷ rs) =
     (places_append (base_cells r.index r.kind r.size (bases r)) (cells_from (block r.index 0) r.cells)
     ∙ ap₂ (λ (ps qs : List Place). ps ++ qs) (base_places r.index r.kind r.size (bases r)) (cells_run (block r.index 0) r.cells)) (regions_places bases rs)
 
-endpoint_places : (d : Endpoint) (shared : Bool) (command : ℕ) (bases : Region → ℕ)
-    → places_of (endpoint_file d shared command bases) ≡ (header_run ++ flat_map block_run_of d.blocks) ++ flat_map region_run_of d.regions
-endpoint_places d shared command bases =
-    places_append (config_cells d shared command) (flat_map (region_cells bases) d.regions)
+endpoint_places : (d : Endpoint) (multifunction : Bool) (command : ℕ) (bases : Region → ℕ)
+    → places_of (endpoint_file d multifunction command bases) ≡ (header_run ++ flat_map block_run_of d.blocks) ++ flat_map region_run_of d.regions
+endpoint_places d multifunction command bases =
+    places_append (config_cells d multifunction command) (flat_map (region_cells bases) d.regions)
     ∙ ap₂ (λ (ps qs : List Place). ps ++ qs)
-    (places_append (header_cells d shared command) (flat_map block_cells d.blocks) ∙ ap₂ (λ (ps qs : List Place). ps ++ qs) (header_places d shared command) (blocks_places d.blocks)) (regions_places bases d.regions)
+    (places_append (header_cells d multifunction command) (flat_map block_cells d.blocks) ∙ ap₂ (λ (ps qs : List Place). ps ++ qs) (header_places d multifunction command) (blocks_places d.blocks)) (regions_places bases d.regions)
 
 -- ---- no two of them meet
 
@@ -270,8 +270,8 @@ blocks_and_regions (b ∷ bs) rs h k =
     (apart_from_all region_run_of (block_run_of b) rs (each_map IsLawfulRegion (λ r. AllApart (block_run_of b) (region_run_of r)) rs (λ r l. block_and_region b r h.0 l) k))
     (blocks_and_regions bs rs h.1 k)
 
-distinct : (d : Endpoint) → HasLawfulPlaces d → (shared : Bool) (command : ℕ) (bases : Region → ℕ) → HasDistinctPlaces (endpoint_file d shared command bases)
-distinct d lawful shared command bases = subst (EachPair Apart) (sym (endpoint_places d shared command bases)) all
+distinct : (d : Endpoint) → HasLawfulPlaces d → (multifunction : Bool) (command : ℕ) (bases : Region → ℕ) → HasDistinctPlaces (endpoint_file d multifunction command bases)
+distinct d lawful multifunction command bases = subst (EachPair Apart) (sym (endpoint_places d multifunction command bases)) all
   where
     blocks : List Place
     blocks = flat_map block_run_of d.blocks
@@ -286,5 +286,5 @@ distinct d lawful shared command bases = subst (EachPair Apart) (sym (endpoint_p
         (apart_from_all region_run_of header_run d.regions (each_map IsLawfulRegion (λ r. AllApart header_run (region_run_of r)) d.regions (λ r h. header_and_region r h) lawful.regions.each))
         (blocks_and_regions d.blocks d.regions lawful.blocks lawful.regions.each))
 
-pub distinct_places : (d : Endpoint) → IsLawfulEndpoint d → (shared : Bool) (command : ℕ) (bases : Region → ℕ) → HasDistinctPlaces (endpoint_file d shared command bases)
-distinct_places d lawful shared command bases = distinct d (lawful_places d lawful) shared command bases
+pub distinct_places : (d : Endpoint) → IsLawfulEndpoint d → (multifunction : Bool) (command : ℕ) (bases : Region → ℕ) → HasDistinctPlaces (endpoint_file d multifunction command bases)
+distinct_places d lawful multifunction command bases = distinct d (lawful_places d lawful) multifunction command bases

@@ -4,7 +4,7 @@ use Rattle.model_board.specs.Examples.{aperture, main_bridge, main_apertures, me
 use Rattle.std.specs.Prelude.{Some}
 use Rattle.model_registers.specs.Registers.{config, File, number, write, raise, all_bytes}
 use Rattle.model_registers.specs.Declarations.{Bridge, io32, pref32, pref64}
-use Rattle.model_registers.specs.BridgeTable.{Routing, bridge_file, bridge_reset}
+use Rattle.model_registers.specs.BridgeTable.{BridgeValues, bridge_file, bridge_reset}
 use Rattle.model_board.specs.Pools.{Apertures}
 use Rattle.model_guests.specs.Examples.{main_world_with, main_world, high_world, bare}
 use Rattle.model_guests.proofs.Dialogues.{◌▷◌, Shows}
@@ -139,7 +139,7 @@ pub no_windows_after_ones : dwords_after_ones (bridge_reset memory_bridge false)
 no_windows_after_ones = refl
 
 -- with all numbers and windows set: I/O 1234e000h to 5678ffffh, memory c0100000h to dfefffffh, prefetchable 1234500000h to 89abcdef987fffffh
-abbrev full_routing : Routing
+abbrev full_routing : BridgeValues
 full_routing = record {
   command = 3;
   primary = 1;

@@ -72,8 +72,8 @@ own_entry : {a : ℕ} {c d : Cell} → is_own (config a) ≡ true → AlikeEntri
 own_entry own = record { place = refl; cell = λ h. cc }
 
 -- Command at 04h and 05h, and the header type at 0Eh
-alike_headers : (d : Endpoint) (shared : Bool) (command : ℕ) → Alike (header_cells d false 0) (header_cells d shared command)
-alike_headers d shared command = (
+alike_headers : (d : Endpoint) (multifunction : Bool) (command : ℕ) → Alike (header_cells d false 0) (header_cells d multifunction command)
+alike_headers d multifunction command = (
   same_entry,
   (
     same_entry,
@@ -120,11 +120,11 @@ alike_headers d shared command = (
   ),
 )
 
-pub alike_tables : (d : Endpoint) (shared : Bool) (command : ℕ) (bases : Region → ℕ) → Each IsLawfulRegion d.regions
-    → Alike (endpoint_reset d false) (endpoint_file d shared command bases)
-alike_tables d shared command bases registers =
-    alike_append (config_cells d false 0) (config_cells d shared command) _ _
-    (alike_append (header_cells d false 0) (header_cells d shared command) _ _ (alike_headers d shared command) (alike_self (flat_map block_cells d.blocks)))
+pub alike_tables : (d : Endpoint) (multifunction : Bool) (command : ℕ) (bases : Region → ℕ) → Each IsLawfulRegion d.regions
+    → Alike (endpoint_reset d false) (endpoint_file d multifunction command bases)
+alike_tables d multifunction command bases registers =
+    alike_append (config_cells d false 0) (config_cells d multifunction command) _ _
+    (alike_append (header_cells d false 0) (header_cells d multifunction command) _ _ (alike_headers d multifunction command) (alike_self (flat_map block_cells d.blocks)))
     (alike_regions bases d.regions registers)
 
 -- ---- a file at reset, put into the table that set-up left

@@ -27,7 +27,7 @@ places_of file = map (λ e. e.place) file
 pub record HoldsFile (left own now : File) : Type 0 where
   pub places : places_of now ≡ places_of left
   pub kept : (p : Place) → IsTrue (is_own p) → cell_at now p ≡ cell_at left p
-  pub shared : (p : Place) → IsFalse (is_own p) → cell_at now p ≡ cell_at own p
+  pub multifunction : (p : Place) → IsFalse (is_own p) → cell_at now p ≡ cell_at own p
 
 -- a function that was set up as the first and is now the second; in no slot it is as set-up left it
 pub record AgreesAt (left : BoardFunction) (own : Option File) (now : BoardFunction) : Type 0 where

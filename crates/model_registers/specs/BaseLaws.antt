@@ -40,8 +40,8 @@ rewritten reg enables x b = record b {
 
 -- each half of a base is written on its own, and counts at once
 abbrev pub WritesOfBases : Type 0
-WritesOfBases = (bs : List BaseAddress) → HasLawfulBases bs → (be x reg : ℕ)
-    → write (lanes be) x (base_register reg) (base_file bs) ≡ base_file (map (rewritten reg (lanes be) x) bs)
+WritesOfBases = (bs : List BaseAddress) → HasLawfulBases bs → (enables x reg : ℕ)
+    → write (lanes enables) x (base_register reg) (base_file bs) ≡ base_file (map (rewritten reg (lanes enables) x) bs)
 
 abbrev pub ReadsOfBases : Type 0
-ReadsOfBases = (bs : List BaseAddress) (be reg : ℕ) → read (base_file bs) (base_register reg) (lanes be) ≡ bit_and (word_at reg bs) (enabled_bits (lanes be))
+ReadsOfBases = (bs : List BaseAddress) (enables reg : ℕ) → read (base_file bs) (base_register reg) (lanes enables) ≡ bit_and (word_at reg bs) (enabled_bits (lanes enables))

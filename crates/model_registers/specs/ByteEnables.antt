@@ -1,5 +1,5 @@
 -- The four byte enables of a cycle, lowest byte first: PCI Local Bus 3.0, chapter 3.2.2.
---     lanes be      the four enables that the bits 0 to 3 of a number say
+--     lanes enables      the four enables that the bits 0 to 3 of a number say
 --     enabled_bytes ons n      a number with 0 in each byte that is not enabled
 --     enables_of off w      the enables of w bytes from an offset on, in the word of that offset
 --     into_lanes off v, from_lanes off w word      a number moved to those lanes, and taken from them
@@ -10,10 +10,10 @@ use Rattle.std.specs.Int.{bit_at}
 use Rattle.model_registers.specs.Registers.{Place, config, block}
 
 abbrev pub is_enabled : ℕ → ℕ → Bool
-is_enabled be lane = bit_at be lane == 1
+is_enabled enables lane = bit_at enables lane == 1
 
 abbrev pub lanes : ℕ → List Bool
-lanes be = is_enabled be 0 ∷ is_enabled be 1 ∷ is_enabled be 2 ∷ is_enabled be 3 ∷ []
+lanes enables = is_enabled enables 0 ∷ is_enabled enables 1 ∷ is_enabled enables 2 ∷ is_enabled enables 3 ∷ []
 
 abbrev pub enabled_bytes : List Bool → ℕ → ℕ
 enabled_bytes [] n = 0

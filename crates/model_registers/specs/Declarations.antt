@@ -51,7 +51,7 @@ pub record IsLawfulRegion (r : Region) : Type 0 where
   pub size_is_lawful : IsLawfulSize r.kind r.size
   pub block_fits : length r.cells ≤ r.size
 
--- lawful regions, in the order of their registers, none shared
+-- lawful regions, in the order of their registers, no register twice
 pub record HasLawfulRegions (rs : List Region) : Type 0 where
   pub each : Each IsLawfulRegion rs
   pub in_order : EachPair (λ r s. r.index + registers_of r.kind ≤ s.index) rs

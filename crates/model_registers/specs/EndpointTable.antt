@@ -65,9 +65,9 @@ region_cells bases r = base_cells r.index r.kind r.size (bases r) ++ cells_from 
 abbrev pub block_cells : ConfigBlock → File
 block_cells b = cells_from (config b.offset) b.cells
 
--- `shared` says that the device holds two functions or more: bit 7 of the header type
+-- `multifunction` says that the device holds two functions or more: bit 7 of the header type
 abbrev pub header_type : ℕ → Bool → ℕ
-header_type layout shared = layout + (if shared then 0x80 else 0)
+header_type layout multifunction = layout + (if multifunction then 0x80 else 0)
 
 -- the Command register: I/O and memory space, bus master, parity and system error response, interrupt disable
 abbrev pub command_cells : ℕ → File
@@ -75,26 +75,26 @@ command_cells command = field (config 0x04) 2 command 0x0547 0
 
 -- the header with this Command, without base address registers
 abbrev pub header_cells : Endpoint → Bool → ℕ → File
-header_cells d shared command =
+header_cells d multifunction command =
     field (config 0x00) 2 d.vendor 0 0 ++ field (config 0x02) 2 d.device 0 0
     ++ command_cells command ++ field (config 0x06) 2 d.status 0 0xf900
     ++ field (config 0x08) 1 d.revision 0 0 ++ field (config 0x09) 3 d.class 0 0
-    ++ field (config 0x0c) 2 0 0xffff 0 ++ field (config 0x0e) 1 (header_type 0 shared) 0 0
+    ++ field (config 0x0c) 2 0 0xffff 0 ++ field (config 0x0e) 1 (header_type 0 multifunction) 0 0
     ++ field (config 0x2c) 2 d.subvendor 0 0 ++ field (config 0x2e) 2 d.subsystem 0 0
     ++ field (config 0x3c) 1 0 0xff 0 ++ field (config 0x3d) 1 d.pin 0 0
     ++ field (config 0x3e) 1 d.min_gnt 0 0 ++ field (config 0x3f) 1 d.max_lat 0 0
 
 -- the configuration cells with this Command, without base address registers
 abbrev pub config_cells : Endpoint → Bool → ℕ → File
-config_cells d shared command = header_cells d shared command ++ flat_map block_cells d.blocks
+config_cells d multifunction command = header_cells d multifunction command ++ flat_map block_cells d.blocks
 
 -- the cells of an endpoint with this Command and these bases, all others at reset
 abbrev pub endpoint_file : Endpoint → Bool → ℕ → (Region → ℕ) → File
-endpoint_file d shared command bases = config_cells d shared command ++ flat_map (region_cells bases) d.regions
+endpoint_file d multifunction command bases = config_cells d multifunction command ++ flat_map (region_cells bases) d.regions
 
 abbrev pub endpoint_reset : Endpoint → Bool → File
-endpoint_reset d shared = endpoint_file d shared 0 (λ r. 0)
+endpoint_reset d multifunction = endpoint_file d multifunction 0 (λ r. 0)
 
 -- the configuration cells at reset, without base address registers
 abbrev pub config_reset : Endpoint → Bool → File
-config_reset d shared = config_cells d shared 0
+config_reset d multifunction = config_cells d multifunction 0

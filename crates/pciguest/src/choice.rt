@@ -62,7 +62,7 @@ pub fn choose<'a>(alloc: Global, words: &'a [&'a str]) -> Result<Choice<'a>, Fau
     ensures asked { IfOk result (IsAsked (map (λ w. w.now) words.entry.now)) }
     ensures only_taken { IfOk result (λ c. IsRun c → fault_of pciguest_app (map (λ w. w.now) words.entry.now) ≡ []) }
 
-    // Words that the command line takes are refused for want of memory alone.
+    // Words that the command line takes are refused where memory is out, and nowhere else.
     ensures taken { is_taken (map (λ w. w.now) words.entry.now) ≡ true → MatchResult result IsRun (λ f. f ≡ Fault.WordMemory) }
     ensures faults { IfErr result (λ f. (f ≡ Fault.Usage) ⊎ (f ≡ Fault.WordMemory)) }
 {

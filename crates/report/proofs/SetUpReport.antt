@@ -11,7 +11,7 @@ use Rattle.model_board.specs.Lawful.{IsLawfulDecl, HasLawfulDecls}
 use Rattle.model_board.specs.Reach.{address_of}
 use Rattle.model_board.specs.Pools.{Pool, io_pool, mem_pool, pref_pool, unit_of, Apertures}
 use Rattle.model_board.specs.Placement.{Item, need, items_on, bus_first, end_from, in_order}
-use Rattle.model_board.specs.SetUp.{span_of, window_span}
+use Rattle.model_board.specs.SetUp.{window_of, set_up_window}
 use Rattle.model_board.specs.SetUpWrites.{Plan, placed_base, writes_of, settings}
 use Rattle.model_board.specs.FunctionTable.{TableRow, found_decl, table_row, sized_table}
 use Rattle.model_board.proofs.Items.{IsPlaceable, some_end, end_below_need, items_placeable}
@@ -28,7 +28,7 @@ use Rattle.report.proofs.LineTexts.{text_of_lines-append}
 
 -- a window has a line where it has items
 span_is_window : (name : Text) (pool : Pool) (closed first : ℕ) (is : List Item) → 0 < closed * unit_of pool → Each (IsPlaceable (unit_of pool)) is
-    → span_lines name (span_of (unit_of pool) closed first is) ≡ window_line name pool first is
+    → span_lines name (window_of (unit_of pool) closed first is) ≡ window_line name pool first is
 span_is_window name pool closed first [] some h = rw (lt-ltb 0 (closed * unit_of pool) some) refl
 span_is_window name pool closed first (i ∷ is) some h =
     let end : 0 < end_from 0 (in_order (i ∷ is)) = some_end (unit_of pool) i (i ∷ is) h (inl refl) in
@@ -65,13 +65,13 @@ module _ (b : Board) (a : Apertures) (lawful : HasLawfulDecls b) where
       ∙ ap (λ t. (head ++ codes "\n") ++ t) (sym (text_of_lines-append regions (pin_lines p d.pin)))
   function_is p (bridge d) h =
       let head = head_text (bus_of b p) p (codes " bridge ") (hex_digits 4 d.vendor ++ codes ":" ++ hex_digits 4 d.device) in
-      let window_is : (name : Text) (pool : Pool) (closed : ℕ) → 0 < closed * unit_of pool → span_lines name (window_span b a pool closed p) ≡ window_lines b a p name pool =
+      let window_is : (name : Text) (pool : Pool) (closed : ℕ) → 0 < closed * unit_of pool → span_lines name (set_up_window b a pool closed p) ≡ window_lines b a p name pool =
       λ name pool closed some. span_is_window name pool closed (bus_first b a pool p) (items_on b a pool p) some (items_placeable b a pool lawful p) in
       let range = range_text (bus_of b p) (secondary b p) (subordinate b p) in
       let io = window_lines b a p (codes "io") io_pool in
       let mem = window_lines b a p (codes "mem") mem_pool in
       let pref = window_lines b a p (codes "pref") pref_pool in
-      ap₂ (λ ios mems. head ++ (range ++ (codes "\n" ++ text_of_lines (ios ++ mems ++ span_lines (codes "pref") (window_span b a pref_pool 0xfff p))))) (window_is (codes "io") io_pool 0xf (lit< tt)) (window_is (codes "mem") mem_pool 0xfff (lit< tt))
+      ap₂ (λ ios mems. head ++ (range ++ (codes "\n" ++ text_of_lines (ios ++ mems ++ span_lines (codes "pref") (set_up_window b a pref_pool 0xfff p))))) (window_is (codes "io") io_pool 0xf (lit< tt)) (window_is (codes "mem") mem_pool 0xfff (lit< tt))
       ∙ ap (λ prefs. head ++ (range ++ (codes "\n" ++ text_of_lines (io ++ mem ++ prefs)))) (window_is (codes "pref") pref_pool 0xfff (lit< tt))
       ∙ after_buses head (codes " buses ") (hex_digits 2 (bus_of b p)) (codes " ") (hex_digits 2 (secondary b p)) (codes " ") (hex_digits 2 (subordinate b p)) (codes "\n") (text_of_lines (io ++ mem ++ pref))
 

@@ -5,7 +5,7 @@
 --     found_report      the whole text
 use Rattle.std.specs.Prelude.{List, [], ◌∷◌, ℕ, ◌++◌, if◌then◌else◌, nat_lt, ◌==◌, ◌||◌, Option, Some, None, flat_map, map, not, count_by, codes, decimal}
 use Rattle.model_registers.specs.EndpointTable.{BaseAddress}
-use Rattle.model_registers.specs.BridgeTable.{Span}
+use Rattle.model_registers.specs.BridgeTable.{Window}
 use Rattle.model_board.specs.Paths.{Part, Path, last_part}
 use Rattle.model_board.specs.Board.{Decl, endpoint, bridge, is_bridge}
 use Rattle.model_board.specs.FunctionTable.{BusRange, TableRow}
@@ -36,7 +36,7 @@ pin_line p pin = codes "  irq " ++ pin_text pin ++ codes " at " ++ decimal (root
 abbrev pub known_pin_lines : Path → ℕ → List Text
 known_pin_lines p pin = if pin == 0 || nat_lt 4 pin then [] else pin_line p pin ∷ []
 
-abbrev pub span_lines : Text → Span → List Text
+abbrev pub span_lines : Text → Window → List Text
 span_lines name s = if nat_lt s.last s.first then [] else (codes "  " ++ name ++ codes " " ++ hexadecimal s.first ++ codes " " ++ hexadecimal s.last) ∷ []
 
 abbrev pub base_lines : Writes → List Text

@@ -13,7 +13,7 @@ use bus_scan::{Found, FunctionRow};
 use intx_swizzle::at_root;
 use monitor::GuestDecl;
 use std::alloc::AllocError;
-use window_packing::{Span, Writes};
+use window_packing::{Window, Writes};
 
 /// Appends the line of a region, whose first register has this index.
 fn push_region(text: &mut String, index: usize, region: &Region) -> Result<(), AllocError>
@@ -75,7 +75,7 @@ fn push_known_pin(text: &mut String, path: &Path, pin: u8) -> Result<(), AllocEr
 }
 
 /// Appends the line of a window, if it has items.
-fn push_window(text: &mut String, name: &str, span: &Span) -> Result<(), AllocError>
+fn push_window(text: &mut String, name: &str, span: &Window) -> Result<(), AllocError>
     ensures { OnOk result (string_bytes text.new ≡ string_bytes text.old ++ text_of_lines (span_lines name.now span.now)) }
 {
     let first = span.first;

@@ -39,7 +39,7 @@ impl ReportFault {
 }
 
 /// Writes the report of a board that is set up, from its table, its plan and its guests, and flushes
-/// once. The whole text is made first, so that want of memory writes nothing.
+/// once. The whole text is made first, so that where memory is out nothing is written.
 pub fn report<W: Writer>(
     alloc: Global,
     table: &FunctionTable,

@@ -57,11 +57,11 @@ impl Blocks {
     }
 
     /// The word at an offset of the block, a multiple of 4. Offsets past the block read 0.
-    pub(crate) fn read(&self, reg: u8, off: u64, be: u8) -> u32
+    pub(crate) fn read(&self, reg: u8, off: u64, enables: u8) -> u32
         requires in_header { reg < 6 }
         requires aligned { off % 4 ≡ 0 }
-        ensures word { result ≡ read (block_at self.now reg) (config off) (lanes be) }
-        ensures enabled { result ≡ enabled_bytes (lanes be) result }
+        ensures word { result ≡ read (block_at self.now reg) (config off) (lanes enables) }
+        ensures enabled { result ≡ enabled_bytes (lanes enables) result }
         ensures blocks { HasBlocks self.now }
     {
         let Some(cells) = &self.blocks[usize::from(reg)] else {
@@ -70,14 +70,14 @@ impl Blocks {
         let Ok(off) = u16::try_from(off) else {
             return 0;
         };
-        cells.read(off, be)
+        cells.read(off, enables)
     }
 
     /// Writes a word at an offset of the block, a multiple of 4. Offsets past the block drop it.
-    pub(crate) fn write(&mut self, reg: u8, off: u64, be: u8, data: u32)
+    pub(crate) fn write(&mut self, reg: u8, off: u64, enables: u8, data: u32)
         requires in_header { reg < 6 }
         requires aligned { off % 4 ≡ 0 }
-        ensures cells { self.new ≡ slice_set self.old reg (write (lanes be) «data» (config off) (block_at self.old reg)) }
+        ensures cells { self.new ≡ slice_set self.old reg (write (lanes enables) «data» (config off) (block_at self.old reg)) }
         ensures blocks { HasBlocks self.old }
     {
         let Some(cells) = &mut self.blocks[usize::from(reg)] else {
@@ -86,7 +86,7 @@ impl Blocks {
         let Ok(off) = u16::try_from(off) else {
             return;
         };
-        cells.write(off, be, data);
+        cells.write(off, enables, data);
     }
 
     /// Raises bits of the cell at an offset of the block. Past the block there is none.

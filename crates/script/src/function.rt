@@ -102,49 +102,49 @@ impl<'a> LoneFunction<'a> {
     }
 
     /// The word at an offset in configuration space: the own copies and the bytes that they hand on.
-    fn config_read(&self, off: u16, be: u8) -> u32
+    fn config_read(&self, off: u16, enables: u8) -> u32
         requires aligned { off % 4 ≡ 0 }
         requires in_range { off < 256 }
-        ensures word { result ≡ read self.now.file (config off) (lanes be) }
-        ensures enabled { result ≡ enabled_bytes (lanes be) result }
+        ensures word { result ≡ read self.now.file (config off) (lanes enables) }
+        ensures enabled { result ≡ enabled_bytes (lanes enables) result }
     {
-        let (own, others) = self.own.config_read(off, be);
+        let (own, others) = self.own.config_read(off, enables);
         own + self.cells.read(off, others)
     }
 
     /// Writes a word at an offset in configuration space: the own copies, and the bytes that they
     /// hand on.
-    fn config_write(&mut self, off: u16, be: u8, value: u32)
+    fn config_write(&mut self, off: u16, enables: u8, value: u32)
         requires aligned { off % 4 ≡ 0 }
         requires in_range { off < 256 }
-        ensures { self.new ≡ record self.old { file = write (lanes be) value (config off) self.old.file } }
+        ensures { self.new ≡ record self.old { file = write (lanes enables) value (config off) self.old.file } }
     {
-        let others = self.own.config_write(off, be, value);
+        let others = self.own.config_write(off, enables, value);
         self.cells.write(off, others, value);
     }
 
     /// The word at an offset of a place, a multiple of 4.
-    fn read(&self, place: Place, off: u64, be: u8) -> u32
+    fn read(&self, place: Place, off: u64, enables: u8) -> u32
         requires aligned { off % 4 ≡ 0 }
         requires reachable { IsReachable self.now (place_of place off) }
-        ensures word { result ≡ read self.now.file (place_of place off) (lanes be) }
-        ensures enabled { result ≡ enabled_bytes (lanes be) result }
+        ensures word { result ≡ read self.now.file (place_of place off) (lanes enables) }
+        ensures enabled { result ≡ enabled_bytes (lanes enables) result }
     {
         match place {
-            Place::Cfg => self.config_read(off as u16, be),
-            Place::Bar(reg) => self.blocks.read(reg, off, be),
+            Place::Cfg => self.config_read(off as u16, enables),
+            Place::Bar(reg) => self.blocks.read(reg, off, enables),
         }
     }
 
     /// Writes a word at an offset of a place, a multiple of 4.
-    fn write(&mut self, place: Place, off: u64, be: u8, value: u32)
+    fn write(&mut self, place: Place, off: u64, enables: u8, value: u32)
         requires aligned { off % 4 ≡ 0 }
         requires reachable { IsReachable self.old (place_of place off) }
-        ensures { self.new ≡ record self.old { file = write (lanes be) value (place_of place off) self.old.file } }
+        ensures { self.new ≡ record self.old { file = write (lanes enables) value (place_of place off) self.old.file } }
     {
         match place {
-            Place::Cfg => self.config_write(off as u16, be, value),
-            Place::Bar(reg) => self.blocks.write(reg, off, be, value),
+            Place::Cfg => self.config_write(off as u16, enables, value),
+            Place::Bar(reg) => self.blocks.write(reg, off, enables, value),
         }
     }
 

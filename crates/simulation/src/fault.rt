@@ -45,7 +45,7 @@ pub enum Fault {
     /// A pattern that is not lawful, a bit in two masks, or blocks that overlap.
     #[error("cell masks")]
     CellMasks,
-    /// Want of memory while the board file was read.
+    /// Out of memory while the board file was read.
     #[error("memory")]
     FileMemory,
     /// More than 255 bridges.
@@ -63,7 +63,7 @@ pub enum Fault {
     /// The prefetchable regions don't fit their aperture.
     #[error("prefetchable pool")]
     PrefetchablePool,
-    /// Want of memory while the board was made, set up or reported.
+    /// Out of memory while the board was made, set up or reported.
     #[error("memory")]
     SetUpMemory,
     /// A read of the script failed.
@@ -72,7 +72,7 @@ pub enum Fault {
     /// A write or flush of the output failed, or took no byte.
     #[error("write failed")]
     Write,
-    /// Want of memory while the script was read.
+    /// Out of memory while the script was read.
     #[error("memory")]
     ScriptMemory,
     /// The words of the command line are none that the program takes.
@@ -81,7 +81,7 @@ pub enum Fault {
     /// The board file can't be opened or read.
     #[error("board file")]
     BoardFile,
-    /// Want of memory while the words of the command line were read.
+    /// Out of memory while the words of the command line were read.
     #[error("memory")]
     WordMemory,
 }

@@ -15,7 +15,7 @@ use window_packing::set_up;
 
 /// Writes the report of the board that a board file declares, once it is set up, and flushes once.
 ///
-/// A refusal is the file's (101 to 112), the board's (201 to 205), want of memory (199 or 299), or
+/// A refusal is the file's (101 to 112), the board's (201 to 205), out of memory (199 or 299), or
 /// `Write`, and nothing else. Only `Write` comes after a part of the report was written.
 pub fn list<W: Writer>(alloc: Global, board: &[u8], writer: &mut W) -> Result<(), Fault>
     requires { W.failures writer.old < 2 ^ 64 - 1 }

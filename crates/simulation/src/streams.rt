@@ -59,7 +59,7 @@ pub struct OutputStream<W: Write + Drop> {
 }
 
 impl<W: Write + Drop> OutputStream<W> {
-    /// A writer with an empty buffer. It fails for want of memory alone.
+    /// A writer with an empty buffer. It fails where memory is out, and nowhere else.
     pub fn new(alloc: Global, inner: W) -> io::Result<Self>
         ensures { IfOk result (λ s. s.failures ≡ 0) }
     {

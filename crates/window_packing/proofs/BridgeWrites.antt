@@ -7,7 +7,7 @@ use Rattle.std.proofs.Math.Nat.{mod-eq_of_lt, add-zero}
 use Rattle.model_registers.specs.Cell.{Cell, written}
 use Rattle.model_registers.specs.Registers.{config, Entry, File}
 use Rattle.model_registers.specs.Declarations.{IoDecode, no_io, io16, io32, PrefDecode, no_pref, pref32, pref64, Bridge}
-use Rattle.model_registers.specs.BridgeTable.{no_span, Routing, address_bits, io_cells, mem_cells, pref_cells, bridge_header, bridge_file}
+use Rattle.model_registers.specs.BridgeTable.{no_window, BridgeValues, address_bits, io_cells, mem_cells, pref_cells, bridge_header, bridge_file}
 use Rattle.model_board.specs.Scanning.{BusNumbers, with_numbers}
 use Rattle.model_board.specs.SetUpWrites.{Windows}
 use Rattle.window_packing.specs.WordWrites.{bridge_words, window_word, io_word, io_upper_word}
@@ -47,7 +47,7 @@ at a c = record { place = config a; cell = c }
 -- ---- the parts of the file
 
 module _ (w : Windows) where
-  mem_part : file_after (bridge_words w) (mem_cells no_span) ≡ mem_cells w.mem
+  mem_part : file_after (bridge_words w) (mem_cells no_window) ≡ mem_cells w.mem
   mem_part =
       let s = w.mem in
       let x = window_word s in
@@ -60,7 +60,7 @@ module _ (w : Windows) where
       ∷ at 0x23 (byte (x / 256 / 256 / 256 % 256) (b / 256 % 256) (omega arith) (omega arith) i)
       ∷ []
 
-  io_part : (d : IoDecode) → file_after (bridge_words w) (io_cells d no_span) ≡ io_cells d w.io
+  io_part : (d : IoDecode) → file_after (bridge_words w) (io_cells d no_window) ≡ io_cells d w.io
   io_part no_io = refl
   io_part io16 =
       let s = w.io in
@@ -88,7 +88,7 @@ module _ (w : Windows) where
       ∷ at 0x33 (byte (y / 256 / 256 / 256 % 256) (d / 256 % 256) (omega arith) (omega arith) i)
       ∷ []
 
-  pref_part : (d : PrefDecode) → file_after (bridge_words w) (pref_cells d no_span) ≡ pref_cells d w.pref
+  pref_part : (d : PrefDecode) → file_after (bridge_words w) (pref_cells d no_window) ≡ pref_cells d w.pref
   pref_part no_pref = refl
   pref_part pref32 =
       let s = w.pref in
@@ -123,7 +123,7 @@ module _ (w : Windows) where
       ∷ at 0x2f (byte (d / 256 / 256 / 256 % 256) (d / 256 / 256 / 256 % 256) refl (omega arith) i)
       ∷ []
 
-abbrev pub routed : BusNumbers → Windows → Routing
+abbrev pub routed : BusNumbers → Windows → BridgeValues
 routed n w = record {
   command = 3;
   primary = n.primary;
@@ -134,14 +134,14 @@ routed n w = record {
   pref = w.pref;
 }
 
-pub bridge_written : (d : Bridge) (shared : Bool) (n : BusNumbers) (w : Windows) → file_after (bridge_words w) (bridge_file d shared (with_numbers n)) ≡ bridge_file d shared (routed n w)
-bridge_written d shared n w =
+pub bridge_written : (d : Bridge) (multifunction : Bool) (n : BusNumbers) (w : Windows) → file_after (bridge_words w) (bridge_file d multifunction (with_numbers n)) ≡ bridge_file d multifunction (routed n w)
+bridge_written d multifunction n w =
     let ws = bridge_words w in
     let r = with_numbers n in
-    joined_after ws (bridge_header d shared r) (mem_cells no_span ++ io_cells d.io no_span ++ pref_cells d.pref no_span)
+    joined_after ws (bridge_header d multifunction r) (mem_cells no_window ++ io_cells d.io no_window ++ pref_cells d.pref no_window)
     ∙ ap₂ (λ (x y : File). x ++ y) header
-    (joined_after ws (mem_cells no_span ++ io_cells d.io no_span) (pref_cells d.pref no_span)
-    ∙ ap₂ (λ (x y : File). x ++ y) (joined_after ws (mem_cells no_span) (io_cells d.io no_span) ∙ ap₂ (λ (x y : File). x ++ y) (mem_part w) (io_part w d.io)) (pref_part w d.pref))
+    (joined_after ws (mem_cells no_window ++ io_cells d.io no_window) (pref_cells d.pref no_window)
+    ∙ ap₂ (λ (x y : File). x ++ y) (joined_after ws (mem_cells no_window) (io_cells d.io no_window) ∙ ap₂ (λ (x y : File). x ++ y) (mem_part w) (io_part w d.io)) (pref_part w d.pref))
   where
-    header : file_after (bridge_words w) (bridge_header d shared (with_numbers n)) ≡ bridge_header d shared (routed n w)
+    header : file_after (bridge_words w) (bridge_header d multifunction (with_numbers n)) ≡ bridge_header d multifunction (routed n w)
     header = refl

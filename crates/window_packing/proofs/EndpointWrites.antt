@@ -169,43 +169,43 @@ words_leave bases r index (mem64 pref) size base h =
     upper (inr l) = inr (omega arith)
 
 -- the header has no cell among the base address registers, and the blocks stand behind them
-header_leaves : (d : Endpoint) (shared : Bool) (command reg x : ℕ) → reg < 6 → write (four true true true true) x (base_register reg) (header_cells d shared command) ≡ header_cells d shared command
-header_leaves d shared command zero x h = refl
-header_leaves d shared command (suc zero) x h = refl
-header_leaves d shared command (suc (suc zero)) x h = refl
-header_leaves d shared command (suc (suc (suc zero))) x h = refl
-header_leaves d shared command (suc (suc (suc (suc zero)))) x h = refl
-header_leaves d shared command (suc (suc (suc (suc (suc zero))))) x h = refl
-header_leaves d shared command (suc (suc (suc (suc (suc (suc reg)))))) x h = absurd (omega arith)
+header_leaves : (d : Endpoint) (multifunction : Bool) (command reg x : ℕ) → reg < 6 → write (four true true true true) x (base_register reg) (header_cells d multifunction command) ≡ header_cells d multifunction command
+header_leaves d multifunction command zero x h = refl
+header_leaves d multifunction command (suc zero) x h = refl
+header_leaves d multifunction command (suc (suc zero)) x h = refl
+header_leaves d multifunction command (suc (suc (suc zero))) x h = refl
+header_leaves d multifunction command (suc (suc (suc (suc zero)))) x h = refl
+header_leaves d multifunction command (suc (suc (suc (suc (suc zero))))) x h = refl
+header_leaves d multifunction command (suc (suc (suc (suc (suc (suc reg)))))) x h = absurd (omega arith)
 
 abbrev pub StandBehind : Endpoint → Type 0
 StandBehind d = Each (λ b. 0x40 ≤ b.offset) d.blocks
 
-config_leaves : (d : Endpoint) → StandBehind d → (shared : Bool) (command reg x : ℕ) → reg < 6 → write (four true true true true) x (base_register reg) (config_cells d shared command) ≡ config_cells d shared command
-config_leaves d behind shared command reg x h =
-    joined_write (four true true true true) x (base_register reg) (header_cells d shared command) (flat_map block_cells d.blocks)
-    ∙ ap₂ (λ (x y : File). x ++ y) (header_leaves d shared command reg x h) (stays (flat_map block_cells d.blocks) 0x40 (blocks_none d.blocks behind) (four true true true true) x (0x10 + 4 * reg) (omega arith))
+config_leaves : (d : Endpoint) → StandBehind d → (multifunction : Bool) (command reg x : ℕ) → reg < 6 → write (four true true true true) x (base_register reg) (config_cells d multifunction command) ≡ config_cells d multifunction command
+config_leaves d behind multifunction command reg x h =
+    joined_write (four true true true true) x (base_register reg) (header_cells d multifunction command) (flat_map block_cells d.blocks)
+    ∙ ap₂ (λ (x y : File). x ++ y) (header_leaves d multifunction command reg x h) (stays (flat_map block_cells d.blocks) 0x40 (blocks_none d.blocks behind) (four true true true true) x (0x10 + 4 * reg) (omega arith))
 
-base_leaves_config : (d : Endpoint) → StandBehind d → (shared : Bool) (command index : ℕ) (kind : Kind) (size base : ℕ) → index + registers_of kind ≤ 6
-    → file_after (base_words (base_of index kind size base)) (config_cells d shared command) ≡ config_cells d shared command
-base_leaves_config d behind shared command index io_kind size base h = config_leaves d behind shared command index (base % 2 ^ 32) (omega arith)
-base_leaves_config d behind shared command index (mem32 pref) size base h = config_leaves d behind shared command index (base % 2 ^ 32) (omega arith)
-base_leaves_config d behind shared command index (mem64 pref) size base h =
-    ap (write (four true true true true) (base / 2 ^ 32) (base_register (index + 1))) (config_leaves d behind shared command index (base % 2 ^ 32) (omega arith))
-    ∙ config_leaves d behind shared command (index + 1) (base / 2 ^ 32) (omega arith)
+base_leaves_config : (d : Endpoint) → StandBehind d → (multifunction : Bool) (command index : ℕ) (kind : Kind) (size base : ℕ) → index + registers_of kind ≤ 6
+    → file_after (base_words (base_of index kind size base)) (config_cells d multifunction command) ≡ config_cells d multifunction command
+base_leaves_config d behind multifunction command index io_kind size base h = config_leaves d behind multifunction command index (base % 2 ^ 32) (omega arith)
+base_leaves_config d behind multifunction command index (mem32 pref) size base h = config_leaves d behind multifunction command index (base % 2 ^ 32) (omega arith)
+base_leaves_config d behind multifunction command index (mem64 pref) size base h =
+    ap (write (four true true true true) (base / 2 ^ 32) (base_register (index + 1))) (config_leaves d behind multifunction command index (base % 2 ^ 32) (omega arith))
+    ∙ config_leaves d behind multifunction command (index + 1) (base / 2 ^ 32) (omega arith)
 
 -- ---- all bases
 
 abbrev pub based : (Region → ℕ) → Region → BaseAddress
 based bases r = base_of r.index r.kind r.size (bases r)
 
-all_leave_config : (d : Endpoint) → StandBehind d → (shared : Bool) (command : ℕ) (bases : Region → ℕ) (rs : List Region) → Each (λ r. r.index + registers_of r.kind ≤ 6) rs
-    → file_after (flat_map base_words (map (based bases) rs)) (config_cells d shared command) ≡ config_cells d shared command
-all_leave_config d behind shared command bases [] h = refl
-all_leave_config d behind shared command bases (r ∷ rs) h =
-    after_joined (base_words (based bases r)) (flat_map base_words (map (based bases) rs)) (config_cells d shared command)
-    ∙ ap (file_after (flat_map base_words (map (based bases) rs))) (base_leaves_config d behind shared command r.index r.kind r.size (bases r) h.0)
-    ∙ all_leave_config d behind shared command bases rs h.1
+all_leave_config : (d : Endpoint) → StandBehind d → (multifunction : Bool) (command : ℕ) (bases : Region → ℕ) (rs : List Region) → Each (λ r. r.index + registers_of r.kind ≤ 6) rs
+    → file_after (flat_map base_words (map (based bases) rs)) (config_cells d multifunction command) ≡ config_cells d multifunction command
+all_leave_config d behind multifunction command bases [] h = refl
+all_leave_config d behind multifunction command bases (r ∷ rs) h =
+    after_joined (base_words (based bases r)) (flat_map base_words (map (based bases) rs)) (config_cells d multifunction command)
+    ∙ ap (file_after (flat_map base_words (map (based bases) rs))) (base_leaves_config d behind multifunction command r.index r.kind r.size (bases r) h.0)
+    ∙ all_leave_config d behind multifunction command bases rs h.1
 
 abbrev IsBehind : Region → Region → Type 0
 IsBehind r s = r.index + registers_of r.kind ≤ s.index
@@ -257,12 +257,12 @@ regions_written bases (r ∷ rs) order lawful =
     (after_joined own others (region_cells no_base r) ∙ ap (file_after others) (own_region bases r lawful.0) ∙ later_leave bases r rs order.0)
     (after_joined own others later ∙ ap (file_after others) (leaves_later no_base (based bases r) rs order.0) ∙ regions_written bases rs order.1 lawful.1)
 
-bases_written : (d : Endpoint) → StandBehind d → HasLawfulRegions d.regions → (shared : Bool) (bases : Region → ℕ) → Each (λ r. IsLawfulBase (based bases r)) d.regions
-    → file_after (flat_map base_words (map (based bases) d.regions)) (endpoint_reset d shared) ≡ endpoint_file d shared 0 bases
-bases_written d behind regions shared bases lawful =
+bases_written : (d : Endpoint) → StandBehind d → HasLawfulRegions d.regions → (multifunction : Bool) (bases : Region → ℕ) → Each (λ r. IsLawfulBase (based bases r)) d.regions
+    → file_after (flat_map base_words (map (based bases) d.regions)) (endpoint_reset d multifunction) ≡ endpoint_file d multifunction 0 bases
+bases_written d behind regions multifunction bases lawful =
     let words = flat_map base_words (map (based bases) d.regions) in
-    joined_after words (config_cells d shared 0) (flat_map (region_cells no_base) d.regions)
-    ∙ ap₂ (λ (x y : File). x ++ y) (all_leave_config d behind shared 0 bases d.regions (each_map IsLawfulRegion (λ r. r.index + registers_of r.kind ≤ 6) d.regions (λ r h. h.registers) regions.each))
+    joined_after words (config_cells d multifunction 0) (flat_map (region_cells no_base) d.regions)
+    ∙ ap₂ (λ (x y : File). x ++ y) (all_leave_config d behind multifunction 0 bases d.regions (each_map IsLawfulRegion (λ r. r.index + registers_of r.kind ≤ 6) d.regions (λ r h. h.registers) regions.each))
     (regions_written bases d.regions regions.in_order lawful)
 
 -- ---- Command
@@ -270,11 +270,11 @@ bases_written d behind regions shared bases lawful =
 abbrev command_in : Bool → Bool → ℕ
 command_in u v = cond u 1 0 + cond v 2 0
 
-header_commanded : (d : Endpoint) (shared : Bool) (u v : Bool) → written_file (word 0x04 3 (command_in u v)) (header_cells d shared 0) ≡ header_cells d shared (command_in u v)
-header_commanded d shared true true = refl
-header_commanded d shared true false = refl
-header_commanded d shared false true = refl
-header_commanded d shared false false = refl
+header_commanded : (d : Endpoint) (multifunction : Bool) (u v : Bool) → written_file (word 0x04 3 (command_in u v)) (header_cells d multifunction 0) ≡ header_cells d multifunction (command_in u v)
+header_commanded d multifunction true true = refl
+header_commanded d multifunction true false = refl
+header_commanded d multifunction false true = refl
+header_commanded d multifunction false false = refl
 
 regions_stay : (bases : Region → ℕ) (command : ℕ) (rs : List Region) → written_file (word 0x04 3 command) (flat_map (region_cells bases) rs) ≡ flat_map (region_cells bases) rs
 regions_stay bases command [] = refl
@@ -287,18 +287,18 @@ regions_stay bases command (r ∷ rs) =
     (stays (cells_from (block r.index 0) r.cells) 0x08 (block_none r.cells r.index 0 0x08) low command 0x04 (omega arith)))
     (regions_stay bases command rs)
 
-command_written : (d : Endpoint) → StandBehind d → (shared : Bool) (bases : Region → ℕ) (u v : Bool) → written_file (word 0x04 3 (command_in u v)) (endpoint_file d shared 0 bases) ≡ endpoint_file d shared (command_in u v) bases
-command_written d behind shared bases u v =
+command_written : (d : Endpoint) → StandBehind d → (multifunction : Bool) (bases : Region → ℕ) (u v : Bool) → written_file (word 0x04 3 (command_in u v)) (endpoint_file d multifunction 0 bases) ≡ endpoint_file d multifunction (command_in u v) bases
+command_written d behind multifunction bases u v =
     let low = true ∷ true ∷ false ∷ false ∷ [] in
-    joined_write low (command_in u v) (config 0x04) (config_cells d shared 0) (flat_map (region_cells bases) d.regions)
+    joined_write low (command_in u v) (config 0x04) (config_cells d multifunction 0) (flat_map (region_cells bases) d.regions)
     ∙ ap₂ (λ (x y : File). x ++ y)
-    (joined_write low (command_in u v) (config 0x04) (header_cells d shared 0) (flat_map block_cells d.blocks)
-    ∙ ap₂ (λ (x y : File). x ++ y) (header_commanded d shared u v) (stays (flat_map block_cells d.blocks) 0x40 (blocks_none d.blocks behind) low (command_in u v) 0x04 (omega arith)))
+    (joined_write low (command_in u v) (config 0x04) (header_cells d multifunction 0) (flat_map block_cells d.blocks)
+    ∙ ap₂ (λ (x y : File). x ++ y) (header_commanded d multifunction u v) (stays (flat_map block_cells d.blocks) 0x40 (blocks_none d.blocks behind) low (command_in u v) 0x04 (omega arith)))
     (regions_stay bases (command_in u v) d.regions)
 
-pub endpoint_written : (d : Endpoint) → StandBehind d → HasLawfulRegions d.regions → (shared : Bool) (bases : Region → ℕ) → Each (λ r. IsLawfulBase (based bases r)) d.regions
-    → file_after (endpoint_words (command_of d) (map (based bases) d.regions)) (endpoint_reset d shared) ≡ endpoint_file d shared (command_of d) bases
-endpoint_written d behind regions shared bases lawful =
-    after_joined (flat_map base_words (map (based bases) d.regions)) (word 0x04 3 (command_of d) ∷ []) (endpoint_reset d shared)
-    ∙ ap (written_file (word 0x04 3 (command_of d))) (bases_written d behind regions shared bases lawful)
-    ∙ command_written d behind shared bases (opens d io) (opens d memory)
+pub endpoint_written : (d : Endpoint) → StandBehind d → HasLawfulRegions d.regions → (multifunction : Bool) (bases : Region → ℕ) → Each (λ r. IsLawfulBase (based bases r)) d.regions
+    → file_after (endpoint_words (command_of d) (map (based bases) d.regions)) (endpoint_reset d multifunction) ≡ endpoint_file d multifunction (command_of d) bases
+endpoint_written d behind regions multifunction bases lawful =
+    after_joined (flat_map base_words (map (based bases) d.regions)) (word 0x04 3 (command_of d) ∷ []) (endpoint_reset d multifunction)
+    ∙ ap (written_file (word 0x04 3 (command_of d))) (bases_written d behind regions multifunction bases lawful)
+    ∙ command_written d behind multifunction bases (opens d io) (opens d memory)

@@ -12,7 +12,7 @@ use Rattle.model_board.specs.Board.{endpoint, Row, Board, IsBoard}
 use Rattle.model_board.specs.Lawful.{HasLawfulDecls}
 use Rattle.model_board.specs.Pools.{Pool, io_pool, mem_pool, pref_pool, unit_of, bridges_above, pool_of}
 use Rattle.model_board.specs.Placement.{Placed, a_region, Item, Spot, is_item, in_order, end_from, round_up, need, spots, offset_in, items_on, offset_on, bus_first, region_first}
-use Rattle.model_board.specs.SetUp.{first_of, span_of}
+use Rattle.model_board.specs.SetUp.{first_of, window_of}
 use Rattle.model_board.proofs.Members.{each_in, each_from}
 use Rattle.model_board.proofs.Items.{item_of}
 use Rattle.bridge_forward.proofs.Indices.{same_at}
@@ -38,10 +38,10 @@ pub holds_of_some : (P : Type 0) (ss : List Spot) → (ss ≡ [] → ⊥) → Ea
 holds_of_some P [] some h = absurd (some refl)
 holds_of_some P (s ∷ ss) some h = h.0
 
-pub span_none : (unit closed first : ℕ) (is : List Item) → spots is ≡ [] → span_of unit closed first is ≡ record { first = closed * unit; last = 0 }
-span_none unit closed first is e = ap (span_of unit closed first) (no_items is e)
+pub span_none : (unit closed first : ℕ) (is : List Item) → spots is ≡ [] → window_of unit closed first is ≡ record { first = closed * unit; last = 0 }
+span_none unit closed first is e = ap (window_of unit closed first) (no_items is e)
 
-pub span_some : (unit closed first : ℕ) (is : List Item) → (spots is ≡ [] → ⊥) → span_of unit closed first is ≡ record { first = first; last = first + round_up unit (end_from 0 (in_order is)) - 1 }
+pub span_some : (unit closed first : ℕ) (is : List Item) → (spots is ≡ [] → ⊥) → window_of unit closed first is ≡ record { first = first; last = first + round_up unit (end_from 0 (in_order is)) - 1 }
 span_some unit closed first [] some = absurd (some refl)
 span_some unit closed first (i ∷ is) some = refl
 

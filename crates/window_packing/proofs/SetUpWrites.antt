@@ -9,12 +9,12 @@ use Rattle.model_registers.specs.Registers.{Place, config, place_eq, File, cell_
 use Rattle.model_registers.specs.ByteEnables.{lanes}
 use Rattle.model_registers.specs.Declarations.{Bridge, Endpoint}
 use Rattle.model_registers.specs.DeclarationRules.{IsConfigBlock}
-use Rattle.model_registers.specs.BridgeTable.{Routing, bridge_file}
+use Rattle.model_registers.specs.BridgeTable.{BridgeValues, bridge_file}
 use Rattle.model_registers.proofs.RegisterFiles.{place_same}
 use Rattle.model_registers.proofs.Parts.{IsOutside}
 use Rattle.model_board.specs.Members.{IsIn}
 use Rattle.model_board.specs.Paths.{Path, path_eq, path_before, leads_to}
-use Rattle.model_board.specs.Board.{Board, Row, Decl, endpoint, bridge, is_bridge, is_bridge_at, is_shared}
+use Rattle.model_board.specs.Board.{Board, Row, Decl, endpoint, bridge, is_bridge, is_bridge_at, is_multifunction}
 use Rattle.model_board.specs.BusNumbers.{secondary, subordinate, Enumerates}
 use Rattle.model_board.specs.State.{BoardFunction, State}
 use Rattle.model_board.specs.Reach.{row_at, address_of}
@@ -178,7 +178,7 @@ module _ (b : Board) (a : Apertures) (can : CanBePlaced b a) (few : Enumerates b
   one_byte : (n : ℕ) → n < 256 → n % 256 + 256 * 0 ≡ n
   one_byte n h = omega arith
 
-  holds_routed : (d : Bridge) (p : Path) (r : Routing) → r.secondary ≡ secondary b p → r.subordinate ≡ subordinate b p → Small b p → HoldsNumbers b (record { path = p; decl = bridge d; file = bridge_file d (is_shared b p) r })
+  holds_routed : (d : Bridge) (p : Path) (r : BridgeValues) → r.secondary ≡ secondary b p → r.subordinate ≡ subordinate b p → Small b p → HoldsNumbers b (record { path = p; decl = bridge d; file = bridge_file d (is_multifunction b p) r })
   holds_routed d p r e f small k = (ap (λ n. n % 256 + 256 * 0) e ∙ one_byte (secondary b p) small.first, ap (λ n. n % 256 + 256 * 0) f ∙ one_byte (subordinate b p) small.last)
 
   set_up_holds : (p : Path) (d : Decl) → (is_bridge d ≡ true → Small b p) → HoldsNumbers b (record { path = p; decl = d; file = set_up_file b a p d })
@@ -196,8 +196,8 @@ module _ (b : Board) (a : Apertures) (can : CanBePlaced b a) (few : Enumerates b
   own_file : (r : Row) → IsIn r b → (d : Decl) → r.decl ≡ d → file_after (words_of (writes_of b a r.path d)) (numbered_file b (board_numbers b) r.path d) ≡ set_up_file b a r.path d
   own_file r m (endpoint d) e =
       let lawful = lawful_decl b can.declarations r d m e in
-      endpoint_written d (each_from (λ k. 0x40 ≤ k.offset) d.blocks (λ k i. (each_in IsConfigBlock k d.blocks lawful.config_blocks i).begins)) lawful.regions (is_shared b r.path) (first_of b a r.path) (bases_fit b a can r d m e)
-  own_file r m (bridge d) e = bridge_written d (is_shared b r.path) (board_numbers b r.path) (windows_of b a r.path)
+      endpoint_written d (each_from (λ k. 0x40 ≤ k.offset) d.blocks (λ k i. (each_in IsConfigBlock k d.blocks lawful.config_blocks i).begins)) lawful.regions (is_multifunction b r.path) (first_of b a r.path) (bases_fit b a can r d m e)
+  own_file r m (bridge d) e = bridge_written d (is_multifunction b r.path) (board_numbers b r.path) (windows_of b a r.path)
 
   one_setting : (done : Board) (r : Row) (todo : Board) → b ≡ done ++ r ∷ todo
       → after_words (address_of b r.path) (words_of (writes_of b a r.path r.decl)) (map set_up done ++ numbered r ∷ map numbered todo) ≡ map set_up done ++ set_up r ∷ map numbered todo

@@ -8,7 +8,7 @@ use Rattle.std.specs.Prelude.{List, [], ◌∷◌, ◌++◌, ℕ, ◌+◌, ◌*�
 use Rattle.model_registers.specs.ByteEnables.{lanes}
 use Rattle.model_registers.specs.Declarations.{registers_of}
 use Rattle.model_registers.specs.EndpointTable.{BaseAddress}
-use Rattle.model_registers.specs.BridgeTable.{Span, address_bits}
+use Rattle.model_registers.specs.BridgeTable.{Window, address_bits}
 use Rattle.model_board.specs.State.{BoardFunction}
 use Rattle.model_board.specs.Cycles.{BusAddress}
 use Rattle.model_board.specs.Ports.{after_config_write}
@@ -43,13 +43,13 @@ abbrev pub endpoint_words : ℕ → List BaseAddress → List WordWrite
 endpoint_words command bases = flat_map base_words bases ++ word 0x04 3 command ∷ []
 
 -- a base and a limit of two bytes each; and of one byte each
-abbrev pub window_word : Span → ℕ
+abbrev pub window_word : Window → ℕ
 window_word s = address_bits (2 ^ 20) s.first 0 + address_bits (2 ^ 20) s.last 0 * 2 ^ 16
 
-abbrev pub io_word : Span → ℕ
+abbrev pub io_word : Window → ℕ
 io_word s = address_bits (2 ^ 12) s.first 0 % 2 ^ 8 + address_bits (2 ^ 12) s.last 0 % 2 ^ 8 * 2 ^ 8
 
-abbrev pub io_upper_word : Span → ℕ
+abbrev pub io_upper_word : Window → ℕ
 io_upper_word s = s.first / 2 ^ 16 % 2 ^ 16 + s.last / 2 ^ 16 % 2 ^ 16 * 2 ^ 16
 
 -- Secondary Status, above the I/O base and limit, stays; registers that the bridge doesn't implement drop what is written

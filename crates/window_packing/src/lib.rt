@@ -19,7 +19,7 @@ mod settings;
 mod windows;
 
 pub use model_board::flat_need;
-pub use planned::{Placed, Plan, PlanRow, Pool, Setting, Span, Writes};
+pub use planned::{Placed, Plan, PlanRow, Pool, Setting, Window, Writes};
 pub use planner::plan;
 pub use programming::program;
 pub use ready::{Ready, set_up};

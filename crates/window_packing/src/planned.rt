@@ -50,15 +50,15 @@ impl Model for PlanRow {
 /// The first and the last address that the registers of a window name. A window without items has its
 /// first address above its last.
 #[derive(Clone, Copy, Debug, PartialEq, Eq)]
-pub struct Span {
+pub struct Window {
     pub first: u64,
     pub last: u64,
 }
 
-impl Model for Span {
-    ghost use Rattle.model_registers.specs.BridgeTable.{Span};
+impl Model for Window {
+    ghost use Rattle.model_registers.specs.BridgeTable.{Window};
 
-    ghost Value = { Span };
+    ghost Value = { Window };
 
     ghost view = { λ s. record { first = s.first; last = s.last } };
 
@@ -74,9 +74,9 @@ pub enum Writes {
         bases: [Option<Region>; 6],
     },
     Bridge {
-        io: Span,
-        mem: Span,
-        pref: Span,
+        io: Window,
+        mem: Window,
+        pref: Window,
     },
 }
 

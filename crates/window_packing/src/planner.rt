@@ -77,7 +77,7 @@ fn has_io_paths(rows: &[FunctionRow], above: &[Above]) -> bool
 ///
 /// 202 where an I/O region stands behind a bridge without an I/O window, 203 where I/O does not fit its
 /// aperture, 204 where memory does not, 205 where prefetchable memory does not: the least of those
-/// that hold. 299 for want of memory.
+/// that hold. 299 where memory is out.
 pub fn plan(alloc: Global, table: &FunctionTable, apertures: &Apertures) -> Result<Plan, Fault>
     requires board { IsBoard (board_in table.now) }
     requires declarations { HasLawfulDecls (board_in table.now) }

@@ -79,7 +79,7 @@ fn enumerate(alloc: Global, host: &mut Host) -> Result<FunctionTable, Fault>
 }
 
 /// Sets up the board of a host at reset: scan, sizing, placement and programming, in that order. A
-/// refusal is want of memory, or the first rule of 201 to 205 that the board breaks, and consumes
+/// refusal is out of memory, or the first rule of 201 to 205 that the board breaks, and consumes
 /// the board.
 pub fn set_up(alloc: Global, host: Host) -> Result<Ready, Fault>
     requires { IsAtReset host.state }

@@ -9,7 +9,7 @@ ghost use Rattle.model_board.specs.Lawful.{HasLawfulDecls};
 ghost use Rattle.model_board.specs.FunctionTable.{board_in, sized_table};
 ghost use Rattle.model_board.specs.Pools.{unit_of};
 ghost use Rattle.model_board.specs.Placement.{a_region, is_item, Item as ItemValue, stands_before, offset_in, round_up};
-ghost use Rattle.model_board.specs.SetUp.{command_of, span_of, window_span};
+ghost use Rattle.model_board.specs.SetUp.{command_of, window_of, set_up_window};
 ghost use Rattle.model_board.specs.SetUpWrites.{placed_base, writes_of, settings};
 ghost use Rattle.bars.specs.Kinds.{named_space};
 ghost use Rattle.bars.specs.Slots.{bases_from};
@@ -24,7 +24,7 @@ use crate::above::Above;
 use crate::item::Item;
 use crate::pack::{BusPack, round_up};
 use crate::placed::{PlacedPool, Placement};
-use crate::planned::{Placed, Pool, Setting, Span, Writes};
+use crate::planned::{Placed, Pool, Setting, Window, Writes};
 use crate::pool::pool_of;
 use crate::search::offset_of;
 use bars::{BarDecl, Region, Space};
@@ -133,42 +133,42 @@ fn bases_of(
 
 /// The window of a bus that begins at `first`. Without items it has its first address in the last unit
 /// that its register names, and its last address at 0.
-fn span_of(pool: Pool, closed: u64, first: u64, pack: &BusPack) -> Span
+fn window_of(pool: Pool, closed: u64, first: u64, pack: &BusPack) -> Window
     requires closed { closed < 2 ^ 12 }
     requires some { Each (λ s. 0 < round_up (unit_of (named_pool pool)) pack.now.end) pack.now.spots }
     requires room { Each (λ s. first + round_up (unit_of (named_pool pool)) pack.now.end ≤ 2 ^ 63) pack.now.spots }
-    ensures { (is : List ItemValue) → pack.now ≡ pack_items (unit_of (named_pool pool)) is → result ≡ span_of (unit_of (named_pool pool)) closed first is }
+    ensures { (is : List ItemValue) → pack.now ≡ pack_items (unit_of (named_pool pool)) is → result ≡ window_of (unit_of (named_pool pool)) closed first is }
 {
     let unit = pool.unit();
     if pack.spots.is_empty() {
-        return Span {
+        return Window {
             first: closed * unit,
             last: 0,
         };
     }
-    Span {
+    Window {
         first,
         last: first + round_up(unit, pack.end) - 1,
     }
 }
 
 /// The window of the bus behind row `i` in a pool.
-fn window_of(
+fn window_behind(
     rows: &[FunctionRow],
     i: usize,
     pool: Pool,
     closed: u64,
     apertures: &Apertures,
     placed: &PlacedPool,
-) -> Span
+) -> Window
     requires board { IsBoard (board_in rows.now) }
     requires declarations { HasLawfulDecls (board_in rows.now) }
     requires placed { IsPlaced (board_in rows.now) apertures.now (named_pool pool) placed.now }
     requires there { i < length rows.now }
     requires closed { closed < 2 ^ 12 }
-    ensures { (r : Row) → slice_get (board_in rows.now) i ≡ Some r → result ≡ window_span (board_in rows.now) apertures.now (named_pool pool) closed r.path }
+    ensures { (r : Row) → slice_get (board_in rows.now) i ≡ Some r → result ≡ set_up_window (board_in rows.now) apertures.now (named_pool pool) closed r.path }
 {
-    span_of(pool, closed, placed.firsts[i + 1], &placed.packs[i + 1])
+    window_of(pool, closed, placed.firsts[i + 1], &placed.packs[i + 1])
 }
 
 /// What is written into the function of row `i`.
@@ -198,9 +198,9 @@ fn writes_of(
             io: _,
             pref: _,
         } => Writes::Bridge {
-            io: window_of(rows, i, Pool::Io, 0xf, apertures, &placement.io),
-            mem: window_of(rows, i, Pool::Mem, 0xfff, apertures, &placement.mem),
-            pref: window_of(rows, i, Pool::Pref, 0xfff, apertures, &placement.pref),
+            io: window_behind(rows, i, Pool::Io, 0xf, apertures, &placement.io),
+            mem: window_behind(rows, i, Pool::Mem, 0xfff, apertures, &placement.mem),
+            pref: window_behind(rows, i, Pool::Pref, 0xfff, apertures, &placement.pref),
         },
     }
 }

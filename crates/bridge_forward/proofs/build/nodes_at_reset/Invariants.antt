@@ -1,6 +1,6 @@
 use Rattle.std.proofs.Common.{◌≡◌, map}
 use Rattle.model_registers.specs.Lists.{Each}
-use Rattle.model_board.specs.Board.{is_shared}
+use Rattle.model_board.specs.Board.{is_multifunction}
 use Rattle.model_board.specs.Lawful.{IsLawfulDecl}
 use Rattle.model_board.specs.Places.{board_of}
 use Rattle.bridge_forward.specs.Layout.{functions_of}
@@ -9,7 +9,7 @@ use Rattle.bridge_forward.proofs.build.nodes_at_reset.Given as goal
 
 abbrev pub invariant-loop-decl : goal.invariant-loop-decl
 invariant-loop-decl l = record {
-  flags : l.shared.items ≡ map (λ r. is_shared (board_of l.fn.decls.items) r.path) (board_of l.fn.decls.items);
+  flags : l.multifunction.items ≡ map (λ r. is_multifunction (board_of l.fn.decls.items) r.path) (board_of l.fn.decls.items);
   lawful : Each (λ r. IsLawfulDecl r.decl) l.yielded;
   made : functions_of l.nodes.items ≡ map (reset_function (board_of l.fn.decls.items)) l.yielded;
 }

@@ -7,4 +7,4 @@ use Rattle.bridge_forward.proofs.offsets.write.Goals as goal
 pub returns-in_default : goal.returns-in_default
 returns-in_default c =
     ap (λ (xs : File). record c.args.cells.now { now = xs })
-    (sym (write_past c.args.cells.now.now c.requires.short c.args.off c.args.data (lanes c.args.be) (omega (arith, c.in_default.ensures))))
+    (sym (write_past c.args.cells.now.now c.requires.short c.args.off c.args.data (lanes c.args.enables) (omega (arith, c.in_default.ensures))))

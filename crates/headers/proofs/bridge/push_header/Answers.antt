@@ -2,7 +2,7 @@
 use Rattle.std.proofs.Common.{◌≡◌, ◌++◌, ap, ◌∙◌, subst}
 use Rattle.std.specs.Prelude.{OnOk}
 use Rattle.model_registers.specs.Declarations.{Bridge}
-use Rattle.model_registers.specs.BridgeTable.{bridge_header, no_routing}
+use Rattle.model_registers.specs.BridgeTable.{bridge_header, no_bridge_values}
 use Rattle.config_bytes.specs.CellFile.{file_of}
 use Rattle.headers.proofs.bridge.push_header.Goals as goal
 
@@ -14,4 +14,4 @@ returns c =
     ∙ ap (λ x. record decl { device = x; revision = c.from-3.result }) (c.from-2.ensures ∙ c.device.ensures)
     ∙ ap (λ x. record decl { revision = x }) (c.from-3.ensures ∙ c.revision.ensures) in
     let pushed = rw c.header_type.ensures at c.push_rows.ensures in
-    subst (λ (e : Bridge). OnOk c.push_rows.result (file_of c.push_rows.new.cells.items ≡ file_of c.args.cells.now.items ++ bridge_header e c.args.multi no_routing)) same pushed
+    subst (λ (e : Bridge). OnOk c.push_rows.result (file_of c.push_rows.new.cells.items ≡ file_of c.args.cells.now.items ++ bridge_header e c.args.multifunction no_bridge_values)) same pushed

@@ -25,4 +25,4 @@ returns c =
     } in
     let same : d ≡ c.args.decl.now = cc in
     let pushed = rw c.header_type.ensures at c.push_rows.ensures in
-    subst (λ (e : Endpoint). OnOk c.push_rows.result (file_of c.push_rows.new.cells.items ≡ file_of c.args.cells.now.items ++ header_cells e c.args.multi 0)) same pushed
+    subst (λ (e : Endpoint). OnOk c.push_rows.result (file_of c.push_rows.new.cells.items ≡ file_of c.args.cells.now.items ++ header_cells e c.args.multifunction 0)) same pushed

@@ -1,71 +1,48 @@
-use Rattle.std.proofs.Common.{◌≡◌, ◌+◌, List, ℕ, length, Some, ap, ◌∙◌, subst, arith}
-use Rattle.std.specs.List.{slice_get}
+use Rattle.std.proofs.Common.{◌≡◌, ℕ, ◌+◌, ◌*◌, ◌^◌, ◌≤◌, ◌<◌, [], length, sym, ap, ap₂, ◌∙◌, arith}
+use Rattle.std.proofs.lemmas.Bool.Decides.{nat_tests}
+use Rattle.model_registers.specs.BridgeTable.{Window}
 use Rattle.model_board.specs.Pools.{unit_of}
-use Rattle.model_board.specs.Placement.{items_on}
-use Rattle.model_board.specs.SetUp.{span_of}
-use Rattle.model_board.specs.FunctionTable.{board_in}
-use Rattle.bridge_forward.proofs.Indices.{read_at, at_below}
+use Rattle.model_board.specs.Placement.{round_up}
+use Rattle.model_board.proofs.Packing.{round_up_not_before}
 use Rattle.window_packing.specs.Packs.{BusPack}
-use Rattle.window_packing.specs.Placed.{PlacedPool}
 use Rattle.window_packing.specs.Plans.{named_pool}
-use Rattle.window_packing.proofs.BridgesAbove.{length_board}
-use Rattle.window_packing.proofs.PlacedFunctions.{count_pl, count_firsts, behind_first_is, behind_pack, window_some, window_room}
+use Rattle.window_packing.proofs.BusItems.{alignment_bounds}
+use Rattle.window_packing.proofs.PackFits.{empty_if}
+use Rattle.window_packing.proofs.PlacedFunctions.{holds_of_some, span_none}
 use Rattle.window_packing.proofs.settings.window_of.Goals as goal
 
-pub span_of-requires-clause-some : goal.span_of-requires-clause-some
-span_of-requires-clause-some c =
-    let rows = c.args.rows.now in
-    let b = board_in rows in
-    let a = c.args.apertures.now in
-    let pool = named_pool c.args.pool in
-    let pl = c.args.placed.now in
-    let i = c.args.i in
-    let firsts : c.placed.inside.firsts.items ≡ pl.firsts = ap (λ (p : PlacedPool). p.firsts) c.placed.view_is in
-    let packs : c.placed.inside.packs.items ≡ pl.packs = ap (λ (p : PlacedPool). p.packs) c.placed.view_is in
-    let n = c.index.result.now in
-    let p = c.index-2.result.now in
-    let all_firsts = count_firsts b a c.requires.board c.requires.declarations pool pl c.requires.placed in
-    let all_packs = count_pl b a c.requires.board c.requires.declarations pool pl c.requires.placed in
-    let first : slice_get pl.firsts (i + 1) ≡ Some n = subst (λ (xs : List ℕ). slice_get xs (i + 1) ≡ Some n) firsts (read_at c.placed.inside.firsts.items (i + 1) n (omega (arith, ap length firsts, all_firsts, length_board rows, c.requires.there)) c.index.ensures) in
-    let pack : slice_get pl.packs (i + 1) ≡ Some p = subst (λ (xs : List BusPack). slice_get xs (i + 1) ≡ Some p) packs (read_at c.placed.inside.packs.items (i + 1) p (omega (arith, ap length packs, all_packs, length_board rows, c.requires.there)) c.index-2.ensures) in
-    let r = at_below b i (omega (arith, length_board rows, c.requires.there)) in
-    window_some b a c.requires.board c.requires.declarations pool pl c.requires.placed i r.0 r.1 p pack
+pub returns-then-is_empty : goal.returns-then-is_empty
+returns-then-is_empty c = λ is e.
+    let unit = unit_of (named_pool c.args.pool) in
+    let n : length c.pack.inside.spots.items ≡ 0 = grind (arith, nat_tests, c.pack.inside.spots.ok) in
+    let none : c.args.pack.now.spots ≡ [] = ap (λ (p : BusPack). p.spots) (sym c.pack.view_is) ∙ empty_if c.pack.inside.spots.items n in
+    let closed = ap (λ (k : ℕ). let s : Window = record { first = c.args.closed * k; last = 0 } in s) c.unit-unit.ensures in
+    closed ∙ sym (span_none unit c.args.closed c.args.first is (ap (λ (p : BusPack). p.spots) (sym e) ∙ none))
 
-pub span_of-requires-clause-room : goal.span_of-requires-clause-room
-span_of-requires-clause-room c =
-    let rows = c.args.rows.now in
-    let b = board_in rows in
-    let a = c.args.apertures.now in
-    let pool = named_pool c.args.pool in
-    let pl = c.args.placed.now in
-    let i = c.args.i in
-    let firsts : c.placed.inside.firsts.items ≡ pl.firsts = ap (λ (p : PlacedPool). p.firsts) c.placed.view_is in
-    let packs : c.placed.inside.packs.items ≡ pl.packs = ap (λ (p : PlacedPool). p.packs) c.placed.view_is in
-    let n = c.index.result.now in
-    let p = c.index-2.result.now in
-    let all_firsts = count_firsts b a c.requires.board c.requires.declarations pool pl c.requires.placed in
-    let all_packs = count_pl b a c.requires.board c.requires.declarations pool pl c.requires.placed in
-    let first : slice_get pl.firsts (i + 1) ≡ Some n = subst (λ (xs : List ℕ). slice_get xs (i + 1) ≡ Some n) firsts (read_at c.placed.inside.firsts.items (i + 1) n (omega (arith, ap length firsts, all_firsts, length_board rows, c.requires.there)) c.index.ensures) in
-    let pack : slice_get pl.packs (i + 1) ≡ Some p = subst (λ (xs : List BusPack). slice_get xs (i + 1) ≡ Some p) packs (read_at c.placed.inside.packs.items (i + 1) p (omega (arith, ap length packs, all_packs, length_board rows, c.requires.there)) c.index-2.ensures) in
-    let r = at_below b i (omega (arith, length_board rows, c.requires.there)) in
-    window_room b a c.requires.board c.requires.declarations pool pl c.requires.placed i r.0 r.1 p pack n first
+pub round_up-requires-clause-room : goal.round_up-requires-clause-room
+round_up-requires-clause-room c =
+    let unit = unit_of (named_pool c.args.pool) in
+    let some : (c.args.pack.now.spots ≡ []) → ⊥ = λ e. let n : length c.pack.inside.spots.items ≡ 0 = ap (λ (p : BusPack). length p.spots) c.pack.view_is ∙ ap length e in absurd (grind (arith, nat_tests, c.pack.inside.spots.ok)) in
+    let room : c.args.first + round_up unit c.args.pack.now.end ≤ 2 ^ 63 = holds_of_some (c.args.first + round_up unit c.args.pack.now.end ≤ 2 ^ 63) c.args.pack.now.spots some c.requires.room in
+    let size : 0 < round_up unit c.args.pack.now.end = holds_of_some (0 < round_up unit c.args.pack.now.end) c.args.pack.now.spots some c.requires.some in
+    let bounds = alignment_bounds (named_pool c.args.pool) [] tt in
+    let end : c.args.pack.now.end ≤ round_up unit c.args.pack.now.end = round_up_not_before unit c.args.pack.now.end bounds.0 in
+    omega (arith, bounds.1, end, room, ap (λ (p : BusPack). p.end) c.pack.view_is, c.unit-unit.ensures)
 
-pub returns : goal.returns
-returns c = λ r at.
-    let rows = c.args.rows.now in
-    let b = board_in rows in
-    let a = c.args.apertures.now in
-    let pool = named_pool c.args.pool in
-    let pl = c.args.placed.now in
-    let i = c.args.i in
-    let firsts : c.placed.inside.firsts.items ≡ pl.firsts = ap (λ (p : PlacedPool). p.firsts) c.placed.view_is in
-    let packs : c.placed.inside.packs.items ≡ pl.packs = ap (λ (p : PlacedPool). p.packs) c.placed.view_is in
-    let n = c.index.result.now in
-    let p = c.index-2.result.now in
-    let all_firsts = count_firsts b a c.requires.board c.requires.declarations pool pl c.requires.placed in
-    let all_packs = count_pl b a c.requires.board c.requires.declarations pool pl c.requires.placed in
-    let first : slice_get pl.firsts (i + 1) ≡ Some n = subst (λ (xs : List ℕ). slice_get xs (i + 1) ≡ Some n) firsts (read_at c.placed.inside.firsts.items (i + 1) n (omega (arith, ap length firsts, all_firsts, length_board rows, c.requires.there)) c.index.ensures) in
-    let pack : slice_get pl.packs (i + 1) ≡ Some p = subst (λ (xs : List BusPack). slice_get xs (i + 1) ≡ Some p) packs (read_at c.placed.inside.packs.items (i + 1) p (omega (arith, ap length packs, all_packs, length_board rows, c.requires.there)) c.index-2.ensures) in
-    let is = items_on b a pool r.path in
-    c.span_of.ensures is (behind_pack b a c.requires.board c.requires.declarations pool pl c.requires.placed i r at p pack)
-    ∙ ap (λ (m : ℕ). span_of (unit_of pool) c.args.closed m is) (behind_first_is b a c.requires.board c.requires.declarations pool pl c.requires.placed i r at n first)
+pub overflow_add-result : goal.overflow_add-result
+overflow_add-result c =
+    let unit = unit_of (named_pool c.args.pool) in
+    let some : (c.args.pack.now.spots ≡ []) → ⊥ = λ e. let n : length c.pack.inside.spots.items ≡ 0 = ap (λ (p : BusPack). length p.spots) c.pack.view_is ∙ ap length e in absurd (grind (arith, nat_tests, c.pack.inside.spots.ok)) in
+    let room : c.args.first + round_up unit c.args.pack.now.end ≤ 2 ^ 63 = holds_of_some (c.args.first + round_up unit c.args.pack.now.end ≤ 2 ^ 63) c.args.pack.now.spots some c.requires.room in
+    let size : 0 < round_up unit c.args.pack.now.end = holds_of_some (0 < round_up unit c.args.pack.now.end) c.args.pack.now.spots some c.requires.some in
+    let up : c.round_up.result ≡ round_up unit c.args.pack.now.end = c.round_up.ensures ∙ ap₂ round_up c.unit-unit.ensures (ap (λ (p : BusPack). p.end) c.pack.view_is) in
+    omega (arith, room, up)
+
+pub overflow_sub-result : goal.overflow_sub-result
+overflow_sub-result c =
+    let unit = unit_of (named_pool c.args.pool) in
+    let some : (c.args.pack.now.spots ≡ []) → ⊥ = λ e. let n : length c.pack.inside.spots.items ≡ 0 = ap (λ (p : BusPack). length p.spots) c.pack.view_is ∙ ap length e in absurd (grind (arith, nat_tests, c.pack.inside.spots.ok)) in
+    let room : c.args.first + round_up unit c.args.pack.now.end ≤ 2 ^ 63 = holds_of_some (c.args.first + round_up unit c.args.pack.now.end ≤ 2 ^ 63) c.args.pack.now.spots some c.requires.room in
+    let size : 0 < round_up unit c.args.pack.now.end = holds_of_some (0 < round_up unit c.args.pack.now.end) c.args.pack.now.spots some c.requires.some in
+    let up : c.round_up.result ≡ round_up unit c.args.pack.now.end = c.round_up.ensures ∙ ap₂ round_up c.unit-unit.ensures (ap (λ (p : BusPack). p.end) c.pack.view_is) in
+    omega (arith, size, up)

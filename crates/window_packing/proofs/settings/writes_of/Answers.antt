@@ -46,8 +46,8 @@ returns-in-Bridge c = λ r there.
     let at : slice_get b i ≡ Some (row_in t) = map_at row_in rows i t (read_at rows i t c.requires.there c.index-rows-i.is) in
     let decl : t.decl ≡ decl_of c.row.inside.vendor c.row.inside.device (Found.Bridge c.in-Bridge.secondary c.in-Bridge.subordinate c.in-Bridge.io c.in-Bridge.pref) = ap (λ (u : TableRow). u.decl) (sym c.row.view_is) ∙ ap (λ (f : Found). decl_of c.row.inside.vendor c.row.inside.device f) c.in-Bridge.is in
     let same = ap (λ (s : Row). s.decl) (same_at b i r (row_in t) there at) ∙ decl in
-    let io = c.window_of.ensures r there in
-    let mem = c.window_of-in-Bridge.ensures r there in
-    let pref = c.window_of-in-Bridge-2.ensures r there in
-    let all : to_bridge (record { io = c.window_of.result; mem = c.window_of-in-Bridge.result; pref = c.window_of-in-Bridge-2.result }) ≡ to_bridge (windows_of b a r.path) = λ j. to_bridge (record { io = io j; mem = mem j; pref = pref j }) in
+    let io = c.window_behind.ensures r there in
+    let mem = c.window_behind-in-Bridge.ensures r there in
+    let pref = c.window_behind-in-Bridge-2.ensures r there in
+    let all : to_bridge (record { io = c.window_behind.result; mem = c.window_behind-in-Bridge.result; pref = c.window_behind-in-Bridge-2.result }) ≡ to_bridge (windows_of b a r.path) = λ j. to_bridge (record { io = io j; mem = mem j; pref = pref j }) in
     all ∙ ap (writes_of b a r.path) (sym same)

@@ -15,12 +15,12 @@ returns-in-Some-clause-word c =
     (ap (λ n. n / 2 ^ c.in-Some.part.shift) c.shown.ensures
     ∙ sym (read_part c.self.inside.slots c.self.invariant c.args.reg c.in-Some.part c.in-Some.ensures.used) ∙ ap (word_at c.args.reg) c.self.view_is)
     (c.from.ensures ∙ c.enabled_bits.ensures)
-    ∙ sym (reads_of_bases c.args.self.now c.args.be c.args.reg)
+    ∙ sym (reads_of_bases c.args.self.now c.args.enables c.args.reg)
 
 pub returns-in-None-clause-word : goal.returns-in-None-clause-word
 returns-in-None-clause-word c =
     ap₂ bit_and (sym (read_unused c.self.inside.slots c.args.reg c.in-None.ensures.unused) ∙ ap (word_at c.args.reg) c.self.view_is) refl
-    ∙ sym (reads_of_bases c.args.self.now c.args.be c.args.reg)
+    ∙ sym (reads_of_bases c.args.self.now c.args.enables c.args.reg)
 
 pub returns-in-Some-clause-lawful : goal.returns-in-Some-clause-lawful
 returns-in-Some-clause-lawful c = subst HasLawfulBases c.self.view_is c.self.invariant

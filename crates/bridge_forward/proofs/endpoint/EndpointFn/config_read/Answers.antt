@@ -10,7 +10,7 @@ use Rattle.bridge_forward.proofs.endpoint.EndpointFn.config_read.Goals as goal
 pub returns-in-Some : goal.returns-in-Some
 returns-in-Some c =
     let e = c.self.inside in
-    let ons = lanes c.args.be in
+    let ons = lanes c.args.enables in
     let at = c.in-Some.ensures.there in
     c.read.ensures.word
     ∙ ap (λ n. read (base_file e.bars) (config n) ons) (sym at.1)
@@ -20,7 +20,7 @@ returns-in-Some c =
 pub returns-in-None : goal.returns-in-None
 returns-in-None c =
     let e = c.self.inside in
-    let ons = lanes c.args.be in
+    let ons = lanes c.args.enables in
     c.read-in-None.ensures.word
     ∙ ap (λ n. read e.config.now (config n) ons) c.from.ensures
     ∙ sym (read_config e.decl e.config.now e.bars (block_at e.blocks.items) c.self.invariant c.args.off ons (word_away c.args.off c.requires c.in-None.ensures.elsewhere))

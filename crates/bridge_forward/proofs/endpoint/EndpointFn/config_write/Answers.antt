@@ -18,7 +18,7 @@ invariant_of-self c =
 pub invariant_of-self-in-None : goal.invariant_of-self-in-None
 invariant_of-self-in-None c =
     let e = c.self.inside in
-    let ons = lanes c.args.be in
+    let ons = lanes c.args.enables in
     let now = ap (λ (f : CellFile). f.now) c.write-in-None.ensures.cells in
     config_kept e.decl e.config.now e.bars (block_at e.blocks.items) c.self.invariant c.write-in-None.new.self.now e.bars refl c.write-in-None.ensures.places
     (λ q. ap (λ (xs : File). has_place xs (config q)) now ∙ places_stay ons c.args.data (config c.from.result) (config q) e.config.now)
@@ -26,7 +26,7 @@ invariant_of-self-in-None c =
 pub returns-in-Some : goal.returns-in-Some
 returns-in-Some c =
     let e = c.self.inside in
-    let ons = lanes c.args.be in
+    let ons = lanes c.args.enables in
     let at = c.in-Some.ensures.there in
     sym (ap (λ (xs : File). record { decl = e.decl; file = xs })
     (write_base e.decl e.config.now e.bars (block_at e.blocks.items) c.self.invariant c.args.off c.args.data ons c.write.new.self (omega (arith, at.0, at.1)) (omega (arith, at.0, at.1))
@@ -36,7 +36,7 @@ returns-in-Some c =
 pub returns-in-None : goal.returns-in-None
 returns-in-None c =
     let e = c.self.inside in
-    let ons = lanes c.args.be in
+    let ons = lanes c.args.enables in
     ap (λ (xs : File). record { decl = e.decl; file = xs ++ region_parts e.bars (block_at e.blocks.items) })
     (ap (λ (f : CellFile). f.now) c.write-in-None.ensures.cells ∙ ap (λ n. write ons c.args.data (config n) e.config.now) c.from.ensures)
     ∙ sym (ap (λ (xs : File). record { decl = e.decl; file = xs })

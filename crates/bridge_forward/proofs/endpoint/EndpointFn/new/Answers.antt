@@ -19,7 +19,7 @@ invariant_of-result c =
     let blocks = c.in_ok-blocks.blocks.items in
     let regions = ap (λ (x : Endpoint). x.regions) (c.behind-decl.view_is ∙ c.values.ensures.values) in
     let filled = blocks_declared d c.deref-2.result.now (c.deref-2.ensures.value ∙ regions) blocks c.in_ok-blocks.ensures.blocks in
-    parts_new d lawful blocks c.in_ok-blocks.ensures.six filled c.args.shared c.in_ok-config.config.now c.new-bars.result
+    parts_new d lawful blocks c.in_ok-blocks.ensures.six filled c.args.multifunction c.in_ok-config.config.now c.new-bars.result
     (ap (λ (f : CellFile). f.now) c.in_ok-config.ensures)
     (c.new-bars.ensures ∙ bars_declared d lawful c.deref.result.now (c.deref.ensures.value ∙ regions) c.bar_decls.result c.bar_decls.ensures)
 
@@ -31,6 +31,6 @@ returns-clause-made c =
     let regions = ap (λ (x : Endpoint). x.regions) (c.behind-decl.view_is ∙ c.values.ensures.values) in
     let filled = blocks_declared d c.deref-2.result.now (c.deref-2.ensures.value ∙ regions) blocks c.in_ok-blocks.ensures.blocks in
     ap (λ (xs : File). record { decl = d; file = xs })
-    (file_new d lawful blocks c.in_ok-blocks.ensures.six filled c.args.shared c.in_ok-config.config.now c.new-bars.result
+    (file_new d lawful blocks c.in_ok-blocks.ensures.six filled c.args.multifunction c.in_ok-config.config.now c.new-bars.result
     (ap (λ (f : CellFile). f.now) c.in_ok-config.ensures)
     (c.new-bars.ensures ∙ bars_declared d lawful c.deref.result.now (c.deref.ensures.value ∙ regions) c.bar_decls.result c.bar_decls.ensures))

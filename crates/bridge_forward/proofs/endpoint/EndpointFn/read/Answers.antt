@@ -10,7 +10,7 @@ use Rattle.bridge_forward.proofs.endpoint.EndpointFn.read.Goals as goal
 pub returns-in-Some : goal.returns-in-Some
 returns-in-Some c =
     let e = c.self.inside in
-    let ons = lanes c.args.be in
+    let ons = lanes c.args.enables in
     let there : block_at c.deref.result.now c.from.result ≡ c.in-Some.block.now.now =
     block_there c.deref.result.now c.from.result c.in-Some.block.now (ltb-true _ _ (sym c.in-Some.ensures.lookup.0)) c.in-Some.ensures.lookup.1 in
     let here : block_at e.blocks.items c.args.reg ≡ c.in-Some.block.now.now = sym (ap₂ block_at c.deref.ensures.value c.from.ensures) ∙ there in
@@ -22,7 +22,7 @@ returns-in-Some c =
 pub returns-in-None : goal.returns-in-None
 returns-in-None c =
     let e = c.self.inside in
-    let ons = lanes c.args.be in
+    let ons = lanes c.args.enables in
     let none : block_at c.deref.result.now c.from.result ≡ [] = no_block c.deref.result.now c.from.result (ltb-false _ _ (sym c.in-None.ensures.lookup.0)) in
     let here : block_at e.blocks.items c.args.reg ≡ [] = sym (ap₂ block_at c.deref.ensures.value c.from.ensures) ∙ none in
     sym (Rattle.model_registers.proofs.Parts.read_none ons (config c.args.off))

@@ -13,7 +13,7 @@ use Rattle.bridge_forward.proofs.endpoint.EndpointFn.write.Goals as goal
 pub returns-in_default : goal.returns-in_default
 returns-in_default c =
     let e = c.self.inside in
-    let ons = lanes c.args.be in
+    let ons = lanes c.args.enables in
     let n = c.from.result in
     let none = no_block e.blocks.items n (ltb-false _ _ (sym c.in_default.ensures.item.0)) in
     sym (ap (λ (xs : File). record { decl = e.decl; file = xs })
@@ -32,7 +32,7 @@ write-requires-clause-short c =
 pub invariant_of-self-2 : goal.invariant_of-self-2
 invariant_of-self-2 c =
     let e = c.self.inside in
-    let ons = lanes c.args.be in
+    let ons = lanes c.args.enables in
     let n = c.from.result in
     table_kept e.decl e.config.now e.bars (block_at e.blocks.items) c.self.invariant e.blocks.items refl n c.in-Some.block.now (ltb-true _ _ (sym c.in-Some.ensures.item.0)) c.in-Some.ensures.item.1
     (write ons c.args.data (block n c.args.off)) (write ons c.args.data (config c.args.off)) (write_in_block n c.args.off c.args.data ons) c.write.new.cells (ap (λ (f : CellFile). f.now) c.write.ensures)
@@ -41,7 +41,7 @@ invariant_of-self-2 c =
 pub returns : goal.returns
 returns c =
     let e = c.self.inside in
-    let ons = lanes c.args.be in
+    let ons = lanes c.args.enables in
     let n = c.from.result in
     sym (ap (λ (xs : File). record { decl = e.decl; file = xs })
     (ap (λ m. write ons c.args.data (block m c.args.off) (e.config.now ++ region_parts e.bars (block_at e.blocks.items))) (sym c.from.ensures)

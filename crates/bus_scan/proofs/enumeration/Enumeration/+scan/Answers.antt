@@ -1,7 +1,7 @@
 use Rattle.std.proofs.Common.{◌≡◌, ℕ, ◌∙◌, List, [], ◌∷◌, ◌++◌, sym, ap, subst, arith, length}
 use Rattle.std.proofs.lemmas.Result.{err_from_is_err_and}
 use Rattle.model_board.specs.Paths.{Path}
-use Rattle.model_board.specs.Board.{Board, is_shared}
+use Rattle.model_board.specs.Board.{Board, is_multifunction}
 use Rattle.model_board.specs.FunctionTable.{TableRow}
 use Rattle.model_board.specs.State.{State}
 use Rattle.model_board.specs.ScanOrder.{on, next_place}
@@ -32,19 +32,19 @@ pub scan_bridge-returns-in_err-number-clause-scanned :
     goal.scan_bridge-returns-in_err-number-clause-scanned
 scan_bridge-returns-in_err-number-clause-scanned t c = λ b bus n r is path shows here.
     let p = err_from_is_err_and c.from_residual.result c.from_residual.ensures.1 in
-    rw (p.1, p.2) (c.in_err-number.ensures.opened b bus n r is (c.copied.ensures ∙ path) (shows ∙ ap (λ (p : Path). seen_of (is_shared b p) r.decl) (sym c.copied.ensures)) here)
+    rw (p.1, p.2) (c.in_err-number.ensures.opened b bus n r is (c.copied.ensures ∙ path) (shows ∙ ap (λ (p : Path). seen_of (is_multifunction b p) r.decl) (sym c.copied.ensures)) here)
 
 pub scan_bridge-returns-in_err-scan_bus-clause-scanned : goal.scan_bridge-returns-in_err-scan_bus-clause-scanned
 scan_bridge-returns-in_err-scan_bus-clause-scanned t c = λ b bus n r is path shows here.
     let p = err_from_is_err_and c.from_residual-in_err-scan_bus.result c.from_residual-in_err-scan_bus.ensures.1 in
-    let opened = c.in_ok-number.ensures.opened b bus n r is (c.copied.ensures ∙ path) (shows ∙ ap (λ (p : Path). seen_of (is_shared b p) r.decl) (sym c.copied.ensures)) here in
+    let opened = c.in_ok-number.ensures.opened b bus n r is (c.copied.ensures ∙ path) (shows ∙ ap (λ (p : Path). seen_of (is_multifunction b p) r.decl) (sym c.copied.ensures)) here in
     let same : c.parts-parts.result.now ≡ on bus n = c.parts-parts.ensures.value ∙ path in
     rw (p.1, p.2) (c.in_err-scan_bus.ensures.scanned b (at_parts b (on bus n) c.parts-parts.result.now c.in_ok-number.number same (side b bus c.args.bus n r is.on_bus is.stands is.is_bridge_there c.in_ok-number.number opened.0))
     (begins b (on bus n) c.parts-parts.result.now 0 c.open_bridge.new.host.state c.open_bridge.new.self.rows.items c.open_bridge.new.self.last same opened.1))
 
 pub scan_bridge-returns-clause-scanned : goal.scan_bridge-returns-clause-scanned
 scan_bridge-returns-clause-scanned t c = λ b bus n r is path shows here.
-    let opened = c.in_ok-number.ensures.opened b bus n r is (c.copied.ensures ∙ path) (shows ∙ ap (λ (p : Path). seen_of (is_shared b p) r.decl) (sym c.copied.ensures)) here in
+    let opened = c.in_ok-number.ensures.opened b bus n r is (c.copied.ensures ∙ path) (shows ∙ ap (λ (p : Path). seen_of (is_multifunction b p) r.decl) (sym c.copied.ensures)) here in
     let same : c.parts-parts.result.now ≡ on bus n = c.parts-parts.ensures.value ∙ path in
     let index : c.len-index.result ≡ length c.args.self.now.rows.items = c.len-index.ensures ∙ c.args.self.now.rows.ok.0 in
     c.close_bridge.ensures.closed b bus n r is opened.0 (index ∙ rows_length b (on bus n) c.args.host.now.state c.args.self.now.rows.items c.args.self.now.last here)

@@ -12,18 +12,18 @@ use Rattle.guest_functions.proofs.virtual_function.VirtualFunction.config_read.G
 pub returns-clause-own : goal.returns-clause-own
 returns-clause-own c =
     let own : OwnCopies = record { command = c.self.inside.command; bases = c.self.inside.bars } in
-    let now = ap (λ (o : OwnCopies). read (own_file o) (config c.args.off) (lanes c.args.be)) c.self.view_is in
+    let now = ap (λ (o : OwnCopies). read (own_file o) (config c.args.off) (lanes c.args.enables)) c.self.view_is in
     elim c.match-word.branch [
       | in-Command w ↦
           w.own-is ∙ ap₂ bit_and w.from.ensures w.enabled_bits.ensures
-          ∙ at_command own c.self.invariant (omega arith) c.args.be c.args.off (subst (IsAt c.args.off) w.in-Command.is c.at-word.ensures) ∙ now
-      | in-Base w ↦ w.own-is ∙ w.read-own.ensures.word ∙ at_base own c.args.be c.args.off w.in-Base.reg (subst (IsAt c.args.off) w.in-Base.is c.at-word.ensures).0 ∙ now
-      | in-HeaderType w ↦ w.own-is ∙ at_away own c.self.invariant c.args.be c.args.off (is_away c.args.off c.at-word.result c.at-word.ensures w.in-HeaderType.is) ∙ now
+          ∙ at_command own c.self.invariant (omega arith) c.args.enables c.args.off (subst (IsAt c.args.off) w.in-Command.is c.at-word.ensures) ∙ now
+      | in-Base w ↦ w.own-is ∙ w.read-own.ensures.word ∙ at_base own c.args.enables c.args.off w.in-Base.reg (subst (IsAt c.args.off) w.in-Base.is c.at-word.ensures).0 ∙ now
+      | in-HeaderType w ↦ w.own-is ∙ at_away own c.self.invariant c.args.enables c.args.off (is_away c.args.off c.at-word.result c.at-word.ensures w.in-HeaderType.is) ∙ now
     ]
 
 pub returns-clause-together : goal.returns-clause-together
 returns-clause-together c = λ file holds.
     let own : OwnCopies = record { command = c.self.inside.command; bases = c.self.inside.bars } in
-    own_reads own c.self.invariant file (subst (HoldsOwn file) (sym c.self.view_is) holds) (config c.args.off) (lanes c.args.be)
+    own_reads own c.self.invariant file (subst (HoldsOwn file) (sym c.self.view_is) holds) (config c.args.off) (lanes c.args.enables)
     ∙ ap₂ (λ (n : ℕ) (ons : List Bool). n + read file (config c.args.off) ons)
-    (ap (λ (o : OwnCopies). read (own_file o) (config c.args.off) (lanes c.args.be)) c.self.view_is ∙ sym (returns-clause-own c)) (sym c.handed_on.ensures.others)
+    (ap (λ (o : OwnCopies). read (own_file o) (config c.args.off) (lanes c.args.enables)) c.self.view_is ∙ sym (returns-clause-own c)) (sym c.handed_on.ensures.others)

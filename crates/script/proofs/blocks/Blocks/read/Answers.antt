@@ -9,4 +9,4 @@ returns-in_default-try_from-clause-word c =
     let cells = c.in-Some.cells in
     let block = IsBlock-there c.self.inside.blocks c.from.result c.index-self-from.result cells c.self.invariant (omega arith) c.in-Some.is in
     let same = block_there c.self.inside.blocks c.args.self.now c.from.result c.args.reg c.index-self-from.result cells c.self.view_is c.from.ensures (omega arith) c.in-Some.is in
-    sym (ap (λ (file : File). read file (config c.args.off) (lanes c.args.be)) same ∙ read_past cells.now block c.args.off (lanes c.args.be) (omega (arith, c.in_default-try_from.ensures)))
+    sym (ap (λ (file : File). read file (config c.args.off) (lanes c.args.enables)) same ∙ read_past cells.now block c.args.off (lanes c.args.enables) (omega (arith, c.in_default-try_from.ensures)))

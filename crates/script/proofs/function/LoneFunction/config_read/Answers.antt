@@ -9,10 +9,10 @@ use Rattle.script.proofs.HeldCopies.{sum_of_bytes, own_lawful, enabled_bytes-fit
 use Rattle.script.proofs.function.LoneFunction.config_read.Goals as goal
 
 -- the two parts are the enabled bytes of their sum
-enabled : (c : goal.After-read) → (let sum : ℕ = c.config_read-own.result.0 + c.read.result in sum ≡ enabled_bytes (lanes c.args.be) sum)
+enabled : (c : goal.After-read) → (let sum : ℕ = c.config_read-own.result.0 + c.read.result in sum ≡ enabled_bytes (lanes c.args.enables) sum)
 enabled c =
     let f = c.self.inside in
-    let ons = lanes c.args.be in
+    let ons = lanes c.args.enables in
     let p = config c.args.off in
     let part : c.read.result ≡ enabled_bytes (handed_on p ons) c.read.result = c.read.ensures.enabled ∙ ap (λ l. enabled_bytes l c.read.result) c.config_read-own.ensures.others in
     let P : ℕ → Type 0 = λ n. n ≡ enabled_bytes ons n in
@@ -21,12 +21,12 @@ enabled c =
 pub overflow_add-result : goal.overflow_add-result
 overflow_add-result c =
     let P : ℕ → Type 0 = λ n. n < 2 ^ 32 in
-    record { fits = subst P (sym (enabled c)) (enabled_bytes-fits (lanes c.args.be) (c.config_read-own.result.0 + c.read.result)) }
+    record { fits = subst P (sym (enabled c)) (enabled_bytes-fits (lanes c.args.enables) (c.config_read-own.result.0 + c.read.result)) }
 
 pub returns-clause-word : goal.returns-clause-word
 returns-clause-word c =
     let f = c.self.inside in
-    let ons = lanes c.args.be in
+    let ons = lanes c.args.enables in
     let p = config c.args.off in
     let file = function_file f.own f.cells.now f.decl.now.regions f.blocks in
     let others : c.read.result ≡ read file p (lanes c.config_read-own.result.1) =

@@ -20,7 +20,7 @@ pub returns-in-Bar-clause-word : goal.returns-in-Bar-clause-word
 returns-in-Bar-clause-word c =
     let f = c.self.inside in
     let reg = c.in-Bar.reg in
-    let ons = lanes c.args.be in
+    let ons = lanes c.args.enables in
     let at = ap (λ (p : Place). place_of p c.args.off) c.in-Bar.is in
     let found = reached_region (function_of f) c.args.self.now (place_of c.args.place c.args.off) reg c.args.off c.self.view_is at c.requires.reachable in
     c.read.ensures.word

@@ -20,7 +20,7 @@ write-requires-clause-in_header c =
 
 -- the file after a write in a region
 after_block : (c : goal.After-write)
-    → (let f = c.self.inside in function_file f.own f.cells.now f.decl.now.regions c.write.new.self ≡ write (lanes c.args.be) c.args.value (place_of c.args.place c.args.off) (function_of f).file)
+    → (let f = c.self.inside in function_file f.own f.cells.now f.decl.now.regions c.write.new.self ≡ write (lanes c.args.enables) c.args.value (place_of c.args.place c.args.off) (function_of f).file)
 after_block c =
     let f = c.self.inside in
     let reg = c.in-Bar.reg in
@@ -29,8 +29,8 @@ after_block c =
     let found = reached_region (function_of f) c.args.self.now (place_of c.args.place c.args.off) reg c.args.off c.self.view_is at c.requires.reachable in
     let within = found_register reg f.decl.now.regions c.self.invariant.lawful.regions.each found in
     ap (λ (bs : List File). function_file f.own f.cells.now f.decl.now.regions bs) c.write.ensures.cells
-    ∙ block_written f.own f.cells.now f.decl.now.regions f.blocks reg c.args.off c.args.value (lanes c.args.be) c.self.invariant.places (IsBlock-at f.blocks reg all).places (omega (arith, all.six))
-    ∙ ap (λ (p : Place). write (lanes c.args.be) c.args.value (place_of p c.args.off) (function_of f).file) (sym c.in-Bar.is)
+    ∙ block_written f.own f.cells.now f.decl.now.regions f.blocks reg c.args.off c.args.value (lanes c.args.enables) c.self.invariant.places (IsBlock-at f.blocks reg all).places (omega (arith, all.six))
+    ∙ ap (λ (p : Place). write (lanes c.args.enables) c.args.value (place_of p c.args.off) (function_of f).file) (sym c.in-Bar.is)
 
 pub invariant_of-self : goal.invariant_of-self
 invariant_of-self c =
@@ -38,8 +38,8 @@ invariant_of-self c =
     let at : place_of c.args.place c.args.off ≡ block c.in-Bar.reg c.args.off = ap (λ (p : Place). place_of p c.args.off) c.in-Bar.is in
     record {
       lawful = c.self.invariant.lawful;
-      holds = block_written_held f.own (function_of f).file _ c.self.invariant.holds (lanes c.args.be) c.args.value c.in-Bar.reg c.args.off
-          (after_block c ∙ ap (λ (p : model.Place). write (lanes c.args.be) c.args.value p (function_of f).file) at);
+      holds = block_written_held f.own (function_of f).file _ c.self.invariant.holds (lanes c.args.enables) c.args.value c.in-Bar.reg c.args.off
+          (after_block c ∙ ap (λ (p : model.Place). write (lanes c.args.enables) c.args.value p (function_of f).file) at);
       regions = c.self.invariant.regions;
       places = c.self.invariant.places;
     }
@@ -47,4 +47,4 @@ invariant_of-self c =
 pub returns-in-Bar : goal.returns-in-Bar
 returns-in-Bar c =
     ap (λ (file : File). let g : Function = record { decl = c.self.inside.decl.now; file = file } in g) (after_block c)
-    ∙ ap (λ (g : Function). record g { file = write (lanes c.args.be) c.args.value (place_of c.args.place c.args.off) g.file }) c.self.view_is
+    ∙ ap (λ (g : Function). record g { file = write (lanes c.args.enables) c.args.value (place_of c.args.place c.args.off) g.file }) c.self.view_is

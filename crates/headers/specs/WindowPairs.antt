@@ -3,5 +3,5 @@ use Rattle.std.specs.Prelude.{ℕ}
 use Rattle.model_registers.specs.Windows.{Window}
 
 -- the first and last address, both included
-abbrev pub span_of : Window → ℕ × ℕ
-span_of w = (w.first, w.last)
+abbrev pub pair_of : Window → ℕ × ℕ
+pair_of w = (w.first, w.last)
