@@ -9,6 +9,7 @@ main_world_is_lawful = record {
   board = main_is_board;
   functions = main_decls_lawful;
   guests = record {
+    few_guests = lit≤ tt;
     lawful_names = (refl, (refl, tt));
     names_apart = ((refl, tt), (tt, tt));
     few_slots = (lit≤ tt, (lit≤ tt, tt));

@@ -1,5 +1,5 @@
 -- Small tables and limits: sizes of regions, a guest's copies, slots, byte enables, bridges and apertures.
-use Rattle.std.proofs.Common.{◌≡◌, ℕ, List, [], ◌∷◌, ◌++◌, true, false, length, refl}
+use Rattle.std.proofs.Common.{◌≡◌, ℕ, List, [], ◌∷◌, ◌++◌, true, false, length, refl, replicate}
 use Rattle.std.specs.Prelude.{filter, map, codes, ◌^◌, count_by, Some, None}
 use Rattle.std.specs.List.{range_with_len}
 use Rattle.model_registers.specs.Registers.{config, block}
@@ -10,7 +10,7 @@ use Rattle.model_board.specs.Board.{bridge, is_bridge, Board}
 use Rattle.model_board.specs.Examples.{part, function_at, aperture, main_bridge, main_apertures, many_bridges}
 use Rattle.model_guests.specs.LoneGuest.{reset_slots}
 use Rattle.model_guests.specs.OwnCopies.{is_own, handed_on}
-use Rattle.model_guests.specs.World.{declarations}
+use Rattle.model_guests.specs.World.{is_name, declarations}
 use Rattle.model_guests.specs.Examples.{main_world, second_world}
 
 -- how many registers, the least size, the greatest size
@@ -40,6 +40,13 @@ handed_on_by_a_dword = refl
 
 pub lowest_lane_first : lanes 1 ∷ lanes 6 ∷ [] ≡ (true ∷ false ∷ false ∷ false ∷ []) ∷ (false ∷ true ∷ true ∷ false ∷ []) ∷ []
 lowest_lane_first = refl
+
+-- 16 bytes, and 17; a digit or an upper-case letter at the front; the bytes beside letters and digits; `host`
+pub names_of_guests :
+    map is_name (codes "a" ∷ codes "z9" ∷ codes "abcdefghij012345" ∷ codes "hosts" ∷ codes "hos" ∷ [])
+    ++ map is_name ([] ∷ codes "abcdefghij0123456" ∷ codes "9a" ∷ codes "A" ∷ codes "aA" ∷ codes "a`" ∷ codes "a{" ∷ codes "a:" ∷ codes "a/" ∷ codes "`" ∷ codes "{" ∷ codes "a b" ∷ codes "host" ∷ [])
+    ≡ (true ∷ true ∷ true ∷ true ∷ true ∷ []) ++ replicate 13 false
+names_of_guests = refl
 
 pub always_32_slots : length (reset_slots (declarations main_world (codes "a"))) ∷ length (reset_slots (declarations second_world (codes "b"))) ∷ [] ≡ 32 ∷ 32 ∷ []
 always_32_slots = refl

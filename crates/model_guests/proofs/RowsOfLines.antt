@@ -15,6 +15,7 @@ pub checks_of_an_access : Dialogue main_world (
     ∷ "a cr 0 254 4" ▷ "a: refused 301 misaligned"
     ∷ "a cr 0 256 4" ▷ "a: refused 303 range"
     ∷ "a cr 32 0 4" ▷ "a: refused 303 range"
+    ∷ "a cr 40 0 4" ▷ "a: refused 303 range"
     ∷ "a ir 0x100000000 4" ▷ "a: refused 303 range"
     ∷ "a ir 0xffffffff 1" ▷ "a: 0xff"
     ∷ "a mr 0x100000000 4" ▷ "a: 0xffffffff"
@@ -52,6 +53,14 @@ pub numbers : Dialogue main_world (
     ∷ "a cr 0x 0 4" ▷ "a: refused 401 bad line"
     ∷ "a cr 1f 0 4" ▷ "a: refused 401 bad line"
     ∷ "a cr 0x1g 0 4" ▷ "a: refused 401 bad line"
+    ∷ "a cr 0x1G 0 4" ▷ "a: refused 401 bad line"
+    ∷ "a cr 0x1` 0 4" ▷ "a: refused 401 bad line"
+    ∷ "a cr 0x1@ 0 4" ▷ "a: refused 401 bad line"
+    ∷ "a cr 0x1: 0 4" ▷ "a: refused 401 bad line"
+    ∷ "a cr 0x1/ 0 4" ▷ "a: refused 401 bad line"
+    ∷ "a cr : 0 4" ▷ "a: refused 401 bad line"
+    ∷ "a cr / 0 4" ▷ "a: refused 401 bad line"
+    ∷ "a cr a 0 4" ▷ "a: refused 401 bad line"
     ∷ "a cr 0b1 0 4" ▷ "a: refused 401 bad line"
     ∷ "a cr 1_0 0 4" ▷ "a: refused 401 bad line"
     ∷ "a mr 18446744073709551612 4" ▷ "a: 0xffffffff"
@@ -115,6 +124,10 @@ pub host_lines_of_no_form : Dialogue main_world (
     ∷ "host cr 00.01.0 0 4" ▷ "host: refused 401 bad line"
     ∷ "host cr 00:01:0 0 4" ▷ "host: refused 401 bad line"
     ∷ "host cr 0g:01.0 0 4" ▷ "host: refused 401 bad line"
+    ∷ "host cr 0::01.0 0 4" ▷ "host: refused 401 bad line"
+    ∷ "host cr `0:01.0 0 4" ▷ "host: refused 401 bad line"
+    ∷ "host cr 00:0G.0 0 4" ▷ "host: refused 401 bad line"
+    ∷ "host cr 00:01./ 0 4" ▷ "host: refused 401 bad line"
     ∷ "host cr 00:01.0 0x100000000000000000 4" ▷ "host: refused 401 bad line" ∷ [])
 unfolding digits
 host_lines_of_no_form = (refl, (refl, (refl, tt)))
@@ -137,6 +150,12 @@ tabs_and_returns_part_words = refl
 pub a_last_line_counts_without_its_end : output main_world (codes "a cr 0 0") ≡ codes "a: refused 401 bad line\n"
 unfolding digits
 a_last_line_counts_without_its_end = refl
+
+-- vertical tab and form feed
+pub other_blanks_part_no_words : output main_world (codes "a cr" ++ 11 ∷ codes "0 0 4\na cr 0" ++ 12 ∷ codes "0 4\na" ++ 11 ∷ codes "cr 0 0 4\n" ++ 12 ∷ 10 ∷ [])
+    ≡ codes "a: refused 401 bad line\na: refused 401 bad line\n?: refused 402 unknown guest\n?: refused 402 unknown guest\n"
+unfolding digits
+other_blanks_part_no_words = refl
 
 pub comments_and_blank_lines_write_nothing : output main_world (codes "\n\n# a cr 0 0 4\n  # a\n#\n   \r\na cr 0 0 2\n\r") ≡ codes "a: 0x1234\n"
 comments_and_blank_lines_write_nothing = refl

@@ -60,8 +60,9 @@ HasLawfulNames w = Each (λ n. IsTrue (is_name n)) (names w)
 abbrev pub given_paths : World → List Path
 given_paths w = flat_map (λ g. g.slots) w.guests
 
--- lawful names, none twice; at most 32 slots each, each with an endpoint of the board, and none in two slots
+-- at most 32 guests with lawful names, none twice; at most 32 slots each, each with an endpoint of the board, and none in two slots
 pub record HasLawfulGuests (w : World) : Type 0 where
+  pub few_guests : length w.guests ≤ 32
   pub lawful_names : HasLawfulNames w
   pub names_apart : EachPair (λ m n. IsFalse (bytes_eq m n)) (names w)
   pub few_slots : Each (λ g. length g.slots ≤ 32) w.guests
