@@ -157,16 +157,6 @@ module _ (b : Board) (a : Apertures) where
 
 -- ---- the law
 
-of_found : (b : Board) → IsBoard b → HasLawfulDecls b → (c : Board) → c ≡ found_board b → IsBoard c × HasLawfulDecls c × (sized_table c ≡ sized_table b) × ((a : Apertures) → planned c a ≡ planned b a) × ((a : Apertures) → placement_rules c a ≡ placement_rules b a)
-of_found b board lawful c e =
-    let P : Board → Type 0 = λ x. IsBoard x × HasLawfulDecls x × (sized_table x ≡ sized_table b) × ((a : Apertures) → planned x a ≡ planned b a) × ((a : Apertures) → placement_rules x a ≡ placement_rules b a) in
-    subst P (sym e) (found_places b board, found_decls b lawful, map_found _ _ (found_table_row b) b, planned_found b, rules_found b)
-
-pub placed_as_found : PlacedAsFound
-placed_as_found b board lawful =
-    let h = of_found b board lawful (board_in (sized_table b)) (board_in_table b) in
-    record { board = h.0; declarations = h.1; table = h.2; plan = h.3; rules = h.4 }
-
 -- as many bridges stand in the table
 all_bridges : (b : Board) → count_by (λ (r : Row). is_bridge r.decl) (found_board b) ≡ count_by (λ (r : Row). is_bridge r.decl) b
 all_bridges [] = refl
@@ -176,3 +166,13 @@ all_bridges (r ∷ b) =
 
 pub found_few : (b : Board) → Enumerates b → Enumerates (board_in (sized_table b))
 found_few b few = subst Enumerates (sym (board_in_table b)) (subst (λ n. n ≤ 255) (sym (all_bridges b)) few)
+
+of_found : (b : Board) → IsBoard b → HasLawfulDecls b → (c : Board) → c ≡ found_board b → IsBoard c × HasLawfulDecls c × (sized_table c ≡ sized_table b) × ((a : Apertures) → planned c a ≡ planned b a) × ((a : Apertures) → placement_rules c a ≡ placement_rules b a)
+of_found b board lawful c e =
+    let P : Board → Type 0 = λ x. IsBoard x × HasLawfulDecls x × (sized_table x ≡ sized_table b) × ((a : Apertures) → planned x a ≡ planned b a) × ((a : Apertures) → placement_rules x a ≡ placement_rules b a) in
+    subst P (sym e) (found_places b board, found_decls b lawful, map_found _ _ (found_table_row b) b, planned_found b, rules_found b)
+
+pub placed_as_found : PlacedAsFound
+placed_as_found b board lawful =
+    let h = of_found b board lawful (board_in (sized_table b)) (board_in_table b) in
+    record { board = h.0; declarations = h.1; few = found_few b; table = h.2; plan = h.3; rules = h.4 }

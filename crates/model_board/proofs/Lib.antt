@@ -27,6 +27,8 @@ pub mod PlacedReads
 pub mod PlacedWindows
 pub mod Holders
 pub mod UniqueClaimant
+pub mod PlacedWithinLaw
+pub mod SetUpNumbers
 pub mod RowsOfClaims
 pub mod Rows
 pub mod LawfulExamples

@@ -9,7 +9,8 @@ use Rattle.model_registers.specs.Lists.{Each, EachPair}
 use Rattle.model_registers.specs.Declarations.{Region, registers_of, IsLawfulRegion, HasLawfulRegions, Endpoint, Bridge}
 use Rattle.model_registers.specs.DeclarationRules.{IsConfigBlock}
 use Rattle.model_registers.specs.Registers.{File}
-use Rattle.model_registers.specs.Decoding.{Space, io, memory, space_of, same_space, base, is_open, Hit, hit_of}
+use Rattle.model_registers.specs.Decoding.{Space, space_of, same_space, base, is_open, Hit, hit_of}
+use Rattle.model_registers.proofs.HitRegions.{space_same}
 use Rattle.model_board.specs.Members.{IsIn}
 use Rattle.model_board.specs.Board.{Board, Row, Decl, endpoint, bridge, is_bridge, is_multifunction}
 use Rattle.model_board.specs.Paths.{Path, leads_to, IsPath}
@@ -23,9 +24,9 @@ use Rattle.model_board.specs.SetUp.{first_of, command_of, routing_of, set_up_fil
 use Rattle.model_board.specs.Routing.{RoutingRow, routing, is_routed, routed_claims}
 use Rattle.model_board.specs.PlacementLaws.{region_row, window_row, HasRows}
 use Rattle.model_board.specs.PlacedRegions.{pool_space, PlacedRegion, placed, placed_at, placed_regions, holds, claim_in, placed_claim}
-use Rattle.model_board.specs.UniqueClaimant.{CanBePlaced, IsClaimed, ShareNone, HasUniqueClaims, UniqueClaimant, ClaimInAnyOrder, RowsArePlaced}
+use Rattle.model_board.specs.UniqueClaimant.{CanBePlaced, IsClaimed, ShareNone, HasUniqueClaims, UniqueClaimant, ClaimOfRegion, ClaimInAnyOrder, RowsArePlaced}
 use Rattle.model_board.specs.WindowLaws.{HasPlacedWindows}
-use Rattle.model_board.proofs.Members.{each_in, each_from, any_in}
+use Rattle.model_board.proofs.Members.{each_in, each_from, any_in, in_map, in_flat_map}
 use Rattle.model_board.proofs.Holders.{Holds, holds_is, is_held, self_space, claims_in, one_at_most, holder_first, same_members}
 use Rattle.model_board.proofs.Routing.{flat_map_map, first_listed, first_of_claims, forwarded_by_routing, claims_by_routing}
 use Rattle.model_board.proofs.SetUpRegisters.{FitsRegister, bases_read, endpoint_opens, bridge_opens}
@@ -153,12 +154,6 @@ module _ (b : Board) (a : Apertures) (can : CanBePlaced b a) (lawful : IsLawful 
       ∙ ap (λ (t : Bool). cond t (Some (record { index = g.index; offset = n - first_of b a r.path g })) None)
       (drop_open (is_open file space) (same_space (space_of g.kind) space) (leb (first_of b a r.path g) n) (ltb n (first_of b a r.path g + g.size)) opened)
 
-  space_same : (x y : Space) → same_space x y ≡ true → x ≡ y
-  space_same io io h = refl
-  space_same io memory h = cc
-  space_same memory io h = cc
-  space_same memory memory h = refl
-
   -- a hit of a placed region is a claim: it is forwarded
   hit_is_claim : (r : Row) (e : Endpoint) (g : Region) (space : Space) (n : ℕ) → IsIn r b → r.decl ≡ endpoint e → IsIn g e.regions
       → cond (is_forwarded (set_up_state b a).functions r.path space n) (map (claim_at r.path) (option_to_list (hit_of (set_up_file b a r.path (endpoint e)) space n g))) [] ≡ option_to_list (claim_in space n (placed b a r.path g))
@@ -226,6 +221,13 @@ module _ (b : Board) (a : Apertures) (can : CanBePlaced b a) (lawful : IsLawful 
 
 pub unique_claimant : UniqueClaimant
 unique_claimant b a can fs same = unique b a can (layout_is_lawful b a can.places can.declarations can.room) (rows_are_declared b a can.places can.declarations) (set_up_windows b a can.places can.declarations can.apertures can.io_paths can.room) fs same
+
+pub claim_of_region : ClaimOfRegion
+claim_of_region b a can fs same p d on_board r declared k inside =
+    let row : Row = record { path = p; decl = endpoint d } in
+    let there : IsIn (placed b a p r) (placed_regions b a) = in_flat_map (placed_at b a) row (placed b a p r) b on_board (in_map (placed b a p) r d.regions declared) in
+    let unique : HasUniqueClaims b a fs = unique_claimant b a can fs same in
+    (each_in (λ (q : PlacedRegion). (j : ℕ) → j < q.size → IsClaimed fs q j) (placed b a p r) (placed_regions b a) unique.each_byte there k inside).claimed
 
 pub claim_in_any_order : ClaimInAnyOrder
 claim_in_any_order b a can qs same space n =

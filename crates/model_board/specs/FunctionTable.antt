@@ -9,7 +9,7 @@ use Rattle.model_registers.specs.Declarations.{Endpoint, no_io, no_pref, Bridge}
 use Rattle.model_registers.specs.OwnCopies.{bare}
 use Rattle.model_board.specs.Paths.{Path}
 use Rattle.model_board.specs.Board.{Decl, endpoint, bridge, Row, Board, IsBoard}
-use Rattle.model_board.specs.BusNumbers.{secondary, subordinate, bus_of}
+use Rattle.model_board.specs.BusNumbers.{secondary, subordinate, bus_of, Enumerates}
 use Rattle.model_board.specs.Pools.{Apertures}
 use Rattle.model_board.specs.Lawful.{HasLawfulDecls}
 use Rattle.model_board.specs.SetUpWrites.{planned, placement_rules}
@@ -72,10 +72,12 @@ board_in rows = map (λ (r : TableRow). record { path = r.path; decl = r.decl })
 
 -- ---- placement
 
--- a lawful board as it was found is a lawful board with the same table, the same plan and the same causes of a refusal
+-- a lawful board as it was found is a lawful board with the same table, the same plan and the same causes of a refusal,
+-- and it enumerates where the board does
 pub record IsPlacedAsFound (b : Board) : Type 0 where
   pub board : IsBoard (board_in (sized_table b))
   pub declarations : HasLawfulDecls (board_in (sized_table b))
+  pub few : Enumerates b → Enumerates (board_in (sized_table b))
   pub table : sized_table (board_in (sized_table b)) ≡ sized_table b
   pub plan : (a : Apertures) → planned (board_in (sized_table b)) a ≡ planned b a
   pub rules : (a : Apertures) → placement_rules (board_in (sized_table b)) a ≡ placement_rules b a

@@ -1,10 +1,19 @@
--- With the board's bus numbers in its bridges, a configuration cycle reaches the function that the numbers name.
+-- With the board's bus numbers in its bridges, a configuration cycle reaches the function that the numbers name:
+-- PCI-to-PCI Bridge Architecture 1.2, chapter 3.
+--     row_at f      a function's row on the board
+--     HasNumbers b fs      functions of the board, with its numbers in the bridges
+--     SetUpHasNumbers      set-up leaves such functions
+--     address_of b p      the number of the bus, device and function of a path
+--     ReachedByNumbers, OnlyNamed      the function of a path is reached by its numbers, and by no other
+--     OneRoute      at most one way leads anywhere
 use Rattle.std.specs.Prelude.{ℕ, List, [], ◌≡◌, Some, map, IsTrue}
 use Rattle.model_registers.specs.Lists.{Each}
 use Rattle.model_board.specs.Paths.{Part, Path, last_part}
 use Rattle.model_board.specs.Board.{is_bridge, Row, Board, stands_at, IsBoard}
-use Rattle.model_board.specs.BusNumbers.{secondary, subordinate, bus_of}
+use Rattle.model_board.specs.BusNumbers.{secondary, subordinate, bus_of, Enumerates}
 use Rattle.model_board.specs.State.{BoardFunction}
+use Rattle.model_board.specs.Pools.{Apertures}
+use Rattle.model_board.specs.SetUp.{set_up_state}
 use Rattle.model_board.specs.Cycles.{secondary_register, subordinate_register, BusAddress, is_route, ends_in, reached}
 
 abbrev pub row_at : BoardFunction → Row
@@ -14,6 +23,9 @@ row_at f = record { path = f.path; decl = f.decl }
 pub record HasNumbers (b : Board) (fs : List BoardFunction) : Type 0 where
   pub rows : map row_at fs ≡ b
   pub numbers : Each (λ f. IsTrue (is_bridge f.decl) → (secondary_register f.file ≡ secondary b f.path) × (subordinate_register f.file ≡ subordinate b f.path)) fs
+
+abbrev pub SetUpHasNumbers : Type 0
+SetUpHasNumbers = (b : Board) (a : Apertures) → Enumerates b → HasNumbers b (set_up_state b a).functions
 
 abbrev pub address_of : Board → Path → BusAddress
 address_of b p = record { bus = bus_of b p; part = last_part p }

@@ -2,23 +2,27 @@
 --     CanBePlaced      lawful declarations and apertures, I/O paths, and room in all three pools
 --     HasUniqueClaims      the claims are those of the placed regions
 --     UniqueClaimant      with the routing registers of set-up they are
+--     ClaimOfRegion      so a byte of a declared region is claimed where set-up placed it
+--     PlacedWithin      where a declared region may be placed
 --     ClaimInAnyOrder      a list of the placed regions in any order has the same claim
 --     RowsArePlaced      the regions among the rows of the layout are the placed regions
-use Rattle.std.specs.Prelude.{List, ◌≡◌, ℕ, ◌<◌, ◌+◌, ◌≤◌, Some, IsTrue, ◌⊎◌, ◌↔◌}
+use Rattle.std.specs.Prelude.{List, ◌≡◌, ℕ, ◌<◌, ◌+◌, ◌%◌, ◌^◌, ◌≤◌, Some, IsTrue, ◌⊎◌, ◌↔◌}
 use Rattle.std.specs.Option.{option_to_list}
 use Rattle.model_registers.specs.Lists.{Each, EachPair, first_some}
-use Rattle.model_registers.specs.Decoding.{Space, same_space}
+use Rattle.model_registers.specs.Decoding.{Space, io, memory, space_of, same_space}
+use Rattle.model_registers.specs.Declarations.{Region, Endpoint}
+use Rattle.model_board.specs.Paths.{Path}
 use Rattle.model_registers.specs.Apertures.{IsLawfulApertures}
-use Rattle.model_board.specs.Board.{Board, IsBoard}
+use Rattle.model_board.specs.Board.{endpoint, Board, IsBoard}
 use Rattle.model_board.specs.State.{BoardFunction}
 use Rattle.model_board.specs.Claims.{is_forwarded, claims, first_claim}
 use Rattle.model_board.specs.Pools.{Pool, Apertures, has_io_paths}
 use Rattle.model_board.specs.Placement.{fits}
 use Rattle.model_board.specs.Layout.{layout}
 use Rattle.model_board.specs.Members.{IsIn}
-use Rattle.model_board.specs.SetUp.{set_up_state}
+use Rattle.model_board.specs.SetUp.{first_of, set_up_state}
 use Rattle.model_board.specs.Routing.{routing}
-use Rattle.model_board.specs.PlacedRegions.{PlacedRegion, placed_regions, placed_rows, claim_in, placed_claim}
+use Rattle.model_board.specs.PlacedRegions.{PlacedRegion, placed, placed_regions, placed_rows, claim_in, placed_claim}
 use Rattle.model_board.specs.Lawful.{HasLawfulDecls}
 
 pub record CanBePlaced (b : Board) (a : Apertures) : Type 0 where
@@ -46,6 +50,26 @@ pub record HasUniqueClaims (b : Board) (a : Apertures) (fs : List BoardFunction)
 
 abbrev pub UniqueClaimant : Type 0
 UniqueClaimant = (b : Board) (a : Apertures) → CanBePlaced b a → (fs : List BoardFunction) → routing fs ≡ routing (set_up_state b a).functions → HasUniqueClaims b a fs
+
+-- for an endpoint that stands on the board, and a region that it declares
+abbrev pub ClaimOfRegion : Type 0
+ClaimOfRegion = (b : Board) (a : Apertures) → CanBePlaced b a
+    → (fs : List BoardFunction) → routing fs ≡ routing (set_up_state b a).functions
+    → (p : Path) (d : Endpoint) → IsIn (record { path = p; decl = endpoint d }) b → (r : Region) → IsIn r d.regions
+    → (k : ℕ) → k < r.size
+    → first_claim fs (space_of r.kind) (first_of b a p r + k) ≡ Some (record { path = p; index = r.index; offset = k })
+
+-- at a multiple of 4; above the first 4 KB of I/O, and below 64 KB; or in memory below 2^63
+pub record IsPlacedWithin (r : PlacedRegion) : Type 0 where
+  pub aligned : r.first % 4 ≡ 0
+  pub io_begins : r.space ≡ io → 0x1000 ≤ r.first
+  pub io_ends : r.space ≡ io → r.first + r.size ≤ 2 ^ 16
+  pub memory_ends : r.space ≡ memory → r.first + r.size ≤ 2 ^ 63
+
+abbrev pub PlacedWithin : Type 0
+PlacedWithin = (b : Board) (a : Apertures) → CanBePlaced b a
+    → (p : Path) (d : Endpoint) → IsIn (record { path = p; decl = endpoint d }) b → (r : Region) → IsIn r d.regions
+    → IsPlacedWithin (placed b a p r)
 
 abbrev pub ClaimInAnyOrder : Type 0
 ClaimInAnyOrder = (b : Board) (a : Apertures) → CanBePlaced b a → (qs : List PlacedRegion) → ((q : PlacedRegion) → IsIn q qs ↔ IsIn q (placed_regions b a))

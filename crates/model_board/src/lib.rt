@@ -10,11 +10,11 @@ ghost use Rattle.model_board.specs.Packing.{CompactIsRun, FlatNeedOnBus};
 ghost use Rattle.model_board.specs.Places.{LawfulPlacesAreBoards};
 ghost use Rattle.model_board.specs.PlacementLaws.{LayoutIsLawful, PoolsAreLawful, RowsAreDeclared};
 ghost use Rattle.model_board.specs.PortLaws.{ClaimsKeepLanes, ConfigReadByLanes, ConfigWriteByLanes, PortsWhileNotEnabled};
-ghost use Rattle.model_board.specs.Reach.{OneRoute, OnlyNamed, ReachedByNumbers};
+ghost use Rattle.model_board.specs.Reach.{OneRoute, OnlyNamed, ReachedByNumbers, SetUpHasNumbers};
 ghost use Rattle.model_board.specs.RoutingLaws.{ClaimsByRouting, FirstByRouting, ForwardedByRouting, RoutingOfCells, RoutingOfChange, SameClaims};
 ghost use Rattle.model_board.specs.ScanOrder.{ScanGivesNumbersInPathOrder, ScanMeetsInPathOrder};
 ghost use Rattle.model_board.specs.Scanning.{NumbersOfScanState, ReachedWhileScanning};
-ghost use Rattle.model_board.specs.UniqueClaimant.{ClaimInAnyOrder, RowsArePlaced, UniqueClaimant};
+ghost use Rattle.model_board.specs.UniqueClaimant.{ClaimInAnyOrder, ClaimOfRegion, PlacedWithin, RowsArePlaced, UniqueClaimant};
 ghost use Rattle.model_board.specs.WindowLaws.{ClosedWindows, NamedWindows, SetUpWindows};
 
 /// On a bus without bridges the compact placement takes the sum of the sizes rounded up to the
@@ -45,11 +45,12 @@ pub fn compact_is_run()
 {}
 
 /// With the board's bus numbers in its bridges, a configuration cycle reaches the function that the
-/// numbers name, and no other number reaches a function. Whatever the bridges hold, at most one way
-/// leads anywhere.
+/// numbers name, and no other number reaches a function. Set-up leaves them there. Whatever the bridges
+/// hold, at most one way leads anywhere.
 pub fn reached_by_numbers()
     ensures named { ReachedByNumbers }
     ensures only_named { OnlyNamed }
+    ensures set_up { SetUpHasNumbers }
     ensures one_route { OneRoute }
 {}
 
@@ -121,8 +122,15 @@ pub fn routing_decides()
 /// placed regions has the same claim in any order, and the rows of the layout are such a list.
 pub fn unique_claimant()
     ensures claims { UniqueClaimant }
+    ensures of_region { ClaimOfRegion }
     ensures any_order { ClaimInAnyOrder }
     ensures rows { RowsArePlaced }
+{}
+
+/// Set-up places each region at a multiple of 4: an I/O region from 1000h to FFFFh, and a memory region
+/// below 2^63.
+pub fn placed_within()
+    ensures { PlacedWithin }
 {}
 
 /// An access of 1, 2 or 4 bytes to a function's configuration space is one of enabled bytes of a word;
@@ -136,7 +144,8 @@ pub fn port_accesses()
 {}
 
 /// A scan, and sizing after it, find all that placement looks at: a lawful board as it was found is a
-/// lawful board with the same table, the same placement and settings, and the same refusals.
+/// lawful board with the same table, the same placement and settings, and the same refusals, and it
+/// enumerates where the board does.
 pub fn placed_as_found()
     ensures { PlacedAsFound }
 {}

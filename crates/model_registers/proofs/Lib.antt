@@ -9,5 +9,7 @@ pub mod Parts
 pub mod EnabledBytes
 pub mod Bases
 pub mod Hits
+pub mod FirstFound
+pub mod HitRegions
 pub mod Sizes
 pub mod Owned

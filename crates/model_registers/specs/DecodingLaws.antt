@@ -1,16 +1,32 @@
--- Laws of decoding by base address registers.
-use Rattle.std.specs.Prelude.{List, ◌≡◌, ℕ, ◌<◌, ◌^◌, ◌++◌, map}
-use Rattle.model_registers.specs.Lists.{first_some}
+-- Laws of decoding by base address registers: PCI Local Bus 3.0, chapter 6.2.5.
+--     HitsByBases      Command and bases alone tell what is decoded
+--     HitsOfRegisters      registers decode by the bases that they hold
+--     HitIsOfRegion      a hit lies in a region of the space, in the byte lanes of the address
+use Rattle.std.specs.Prelude.{List, ◌≡◌, ℕ, ◌<◌, ◌%◌, ◌^◌, ◌++◌, Some, map}
+use Rattle.model_registers.specs.Lists.{IsIn, first_some}
 use Rattle.model_registers.specs.Registers.{config, File, number}
 use Rattle.model_registers.specs.Declarations.{Region}
 use Rattle.model_registers.specs.EndpointTable.{BaseAddress, base_file, command_cells, opened, HasLawfulBases}
-use Rattle.model_registers.specs.Decoding.{Space, standing, hit_at, first_hit}
+use Rattle.model_registers.specs.Decoding.{Space, space_of, Hit, standing, hit_at, first_hit}
 
 -- what a function decodes is told by its Command register and its bases alone
 abbrev pub HitsByBases : Type 0
-HitsByBases = (file : File) (rs : List Region) (space : Space) (a : ℕ) → first_hit file rs space a ≡ first_some (hit_at (number file (config 4) 2) space a) (map (standing file) rs)
+HitsByBases = (file : File) (rs : List Region) (space : Space) (a : ℕ)
+    → first_hit file rs space a ≡ first_some (hit_at (number file (config 4) 2) space a) (map (standing file) rs)
 
 -- base address registers show the bases that they hold
 abbrev pub HitsOfRegisters : Type 0
 HitsOfRegisters = (bs : List BaseAddress) → HasLawfulBases bs → (command : ℕ) → command < 2 ^ 16 → (space : Space) (a : ℕ)
     → first_hit (command_cells command ++ base_file bs) (map opened bs) space a ≡ first_some (hit_at command space a) bs
+
+-- the hit names this region of the space, with an offset below its size; a base is a multiple of 4, whatever its
+-- registers hold, so the offset lies in the byte lanes of the address
+pub record IsHitIn (space : Space) (a : ℕ) (r : Region) (h : Hit) : Type 0 where
+  pub index : h.index ≡ r.index
+  pub space_is : space_of r.kind ≡ space
+  pub inside : h.offset < r.size
+  pub lanes : h.offset % 4 ≡ a % 4
+
+abbrev pub HitIsOfRegion : Type 0
+HitIsOfRegion = (file : File) (rs : List Region) (space : Space) (a : ℕ) (h : Hit) → first_hit file rs space a ≡ Some h
+    → (r : Region) × IsIn r rs × IsHitIn space a r h

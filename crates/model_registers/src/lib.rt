@@ -8,7 +8,7 @@ ghost use Rattle.model_registers.specs.FileLaws.{JoinedCell, JoinedChange, Joine
 ghost use Rattle.model_registers.specs.RegisterLaws.{ChangeAtPlace, FieldReads, FieldWrites, EnabledFieldReads, EnabledFieldWrites};
 ghost use Rattle.model_registers.specs.BaseLaws.{ReadsOfBases, WritesOfBases};
 ghost use Rattle.model_registers.specs.Sizing.{SizesRead};
-ghost use Rattle.model_registers.specs.DecodingLaws.{HitsByBases, HitsOfRegisters};
+ghost use Rattle.model_registers.specs.DecodingLaws.{HitIsOfRegion, HitsByBases, HitsOfRegisters};
 ghost use Rattle.model_registers.specs.OwnCopies.{OwnReads, OwnWrites, OwnStay, OwnHits, ResetHoldsOwn};
 
 /// A place without a cell drops writes.
@@ -82,10 +82,12 @@ pub fn base_registers()
     ensures sizes { SizesRead }
 {}
 
-/// What a function decodes.
+/// What a function decodes, by its Command register and its bases alone; and a hit lies in one of its
+/// regions, at an offset below the size.
 pub fn decoding()
     ensures by_bases { HitsByBases }
     ensures of_registers { HitsOfRegisters }
+    ensures of_region { HitIsOfRegion }
 {}
 
 /// A function's file in two parts: a guest's own copies, and the cells that its accesses are handed on
