@@ -1,35 +1,27 @@
 -- What an access does to the board, in any register state: at a configuration register, at an I/O port and at a memory address.
 -- PCI Local Bus 3.0, chapter 3.2.2.3.2 (CONFIG_ADDRESS and CONFIG_DATA); PCI-to-PCI Bridge Architecture 1.2, chapters 3 and 4.
---     latched, is_enabled, selected, selected_register      the bits of the address latch
+--     selected latch      the function that the address latch selects
 --     config_reply, after_config_write      an access to the function that a configuration cycle reaches
 --     claim_reply, after_claim_write      an access to the region that claims an address
 --     PortTarget, port_target      where an access at a port goes: the latch, a configuration cycle or a claim
 --     port_reply, after_port_write      an access at a port
 --     memory_reply, after_memory_write      an access at a memory address
-use Rattle.std.specs.Prelude.{List, [], ℕ, ◌+◌, ◌-◌, ◌*◌, ◌/◌, ◌%◌, ◌^◌, bit_and, Bool, ◌&&◌, ◌==◌, nat_le, if◌then◌else◌, Option, Some, None, find}
+use Rattle.std.specs.Prelude.{List, [], ℕ, Bool, ◌&&◌, if◌then◌else◌, Option, Some, None, find}
 use Rattle.std.specs.Option.{option_map_or}
 use Rattle.model_registers.specs.Registers.{config, block, File, read, write, all_bytes, number, all_ones}
 use Rattle.model_registers.specs.ByteEnables.{enabled_bits}
+pub use Rattle.model_registers.specs.ConfigAddress.{latched, is_enabled, selected_register}
+use Rattle.model_registers.specs.ConfigAddress.{selected_bus, selected_device, selected_function, is_address_port, is_data_port, selected_offset}
 use Rattle.model_registers.specs.Decoding.{io, memory}
 use Rattle.model_board.specs.Paths.{Path, path_eq}
 use Rattle.model_board.specs.State.{BoardFunction, State, with_file}
 use Rattle.model_board.specs.Claims.{Claim, first_claim}
 use Rattle.model_board.specs.Cycles.{BusAddress, reached}
 
--- ---- the address latch: bit 31 enable, 23..16 bus, 15..11 device, 10..8 function, 7..2 register; all other bits read 0
-
-abbrev pub latched : ℕ → ℕ
-latched v = bit_and v 0x80fffffc
-
-abbrev pub is_enabled : ℕ → Bool
-is_enabled latch = latch / 2 ^ 31 % 2 == 1
+-- ---- the address latch
 
 abbrev pub selected : ℕ → BusAddress
-selected latch = record { bus = latch / 2 ^ 16 % 2 ^ 8; part = record { device = latch / 2 ^ 11 % 2 ^ 5; function = latch / 2 ^ 8 % 2 ^ 3 } }
-
--- the offset of the word that is selected
-abbrev pub selected_register : ℕ → ℕ
-selected_register latch = latch / 2 ^ 2 % 2 ^ 6 * 4
+selected latch = record { bus = selected_bus latch; part = record { device = selected_device latch; function = selected_function latch } }
 
 -- ---- configuration
 
@@ -67,8 +59,8 @@ pub data PortTarget : Type 0 where
 -- only 4 bytes at CF8h are CONFIG_ADDRESS, and CFCh to CFFh are CONFIG_DATA while the latch is enabled
 abbrev pub port_target : ℕ → ℕ → ℕ → PortTarget
 port_target latch a w =
-    if a == 0xcf8 && w == 4 then config_address
-    else (if is_enabled latch && (nat_le 0xcfc a && nat_le a 0xcff) then config_data (selected latch) (selected_register latch + (a - 0xcfc)) else ordinary)
+    if is_address_port a w then config_address
+    else (if is_enabled latch && is_data_port a then config_data (selected latch) (selected_offset latch a) else ordinary)
 
 abbrev pub target_reply : State → ℕ → ℕ → PortTarget → ℕ
 target_reply s a w config_address = s.latch

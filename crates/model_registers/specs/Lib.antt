@@ -16,3 +16,4 @@ pub mod Sizing
 pub mod BaseLaws
 pub mod DecodingLaws
 pub mod OwnCopies
+pub mod ConfigAddress
