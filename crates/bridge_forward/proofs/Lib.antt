@@ -10,6 +10,7 @@ pub mod Reaching
 pub mod Reached
 pub mod Halving
 pub mod Changes
+pub mod Nth
 pub mod Claiming
 pub mod RegionParts
 pub mod EndpointAccess

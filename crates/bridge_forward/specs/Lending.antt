@@ -1,7 +1,9 @@
 -- What is lent of a tree.
 --     endpoint_at fs p      the endpoint at a path, if one stands there
 --     with_endpoint p e fs      the functions with this endpoint at the path
-use Rattle.std.specs.Prelude.{List, if◌then◌else◌, Option, Some, None, map, find}
+--     endpoint_nth fs i      the endpoint at an index of the list, if one stands there
+--     with_endpoint_nth i e fs      the functions with this endpoint there, at the path that stands there
+use Rattle.std.specs.Prelude.{List, ℕ, if◌then◌else◌, Option, Some, None, map, find, slice_get, slice_set}
 use Rattle.std.specs.Option.{option_map_or}
 use Rattle.std.specs.Borrow.{LendsIf, MutBor, Fml}
 use Rattle.model_registers.specs.Decoding.{Function}
@@ -19,8 +21,21 @@ endpoint_at fs p = option_map_or as_endpoint (find (λ f. path_eq f.path p) fs) 
 
 -- all others stay
 abbrev pub with_endpoint : Path → Function → List BoardFunction → List BoardFunction
-with_endpoint p e fs = map (λ (f : BoardFunction). if path_eq f.path p then record { path = p; decl = endpoint e.decl; file = e.file } else f) fs
+with_endpoint p e fs =
+    map (λ (f : BoardFunction). if path_eq f.path p then record { path = p; decl = endpoint e.decl; file = e.file } else f) fs
 
 -- the functions end with the endpoint at the path as it was left behind r
 abbrev pub LendsEndpoint : MutBor (List BoardFunction) → Path → Option (MutBor Function) → Fml
 LendsEndpoint b p r = LendsIf bus.the_row endpoint_fn.the_row b r (λ e. with_endpoint p e b.now) b.now
+
+abbrev pub endpoint_nth : List BoardFunction → ℕ → Option Function
+endpoint_nth fs i = option_map_or as_endpoint (slice_get fs i) None
+
+abbrev pub with_endpoint_nth : ℕ → Function → List BoardFunction → List BoardFunction
+with_endpoint_nth i e fs =
+    option_map_or (λ (f : BoardFunction). slice_set fs i (record { path = f.path; decl = endpoint e.decl; file = e.file }))
+    (slice_get fs i) fs
+
+-- the functions end with the endpoint at the index as it was left behind r
+abbrev pub LendsEndpointNth : MutBor (List BoardFunction) → ℕ → Option (MutBor Function) → Fml
+LendsEndpointNth b i r = LendsIf bus.the_row endpoint_fn.the_row b r (λ e. with_endpoint_nth i e b.now) b.now

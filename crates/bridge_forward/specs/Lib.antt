@@ -7,3 +7,4 @@ pub mod Layout
 pub mod Resets
 pub mod Search
 pub mod Lending
+pub mod Locating

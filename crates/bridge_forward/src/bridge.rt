@@ -33,7 +33,11 @@ impl Model for BridgeFn {
 
 impl BridgeFn {
     /// The bridge at reset. `multifunction` says that its device holds other functions.
-    pub(crate) fn new(alloc: Global, decl: BridgeDecl, multifunction: bool) -> Result<BridgeFn, AllocError>
+    pub(crate) fn new(
+        alloc: Global,
+        decl: BridgeDecl,
+        multifunction: bool,
+    ) -> Result<BridgeFn, AllocError>
         ensures made { IfOk result (λ b. b ≡ record { decl = decl; file = bridge_reset decl multifunction }) }
         ensures lawful { IfOk result (λ _. IsLawfulBridge decl) }
     {

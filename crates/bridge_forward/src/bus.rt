@@ -1,9 +1,9 @@
 //! The functions of a board as a tree of buses.
-ghost use Rattle.std.specs.Prelude.{◌≡◌, ◌%◌, IfOk, IsTrue};
+ghost use Rattle.std.specs.Prelude.{◌≡◌, ◌%◌, ◌<◌, IfOk, IfSome, IsSome, IsTrue, find, length, slice_get};
 ghost use Rattle.std.specs.Borrow.{sem};
-ghost use Rattle.std.specs.Option.{option_copied_mut};
+ghost use Rattle.std.specs.Option.{option_and_then, option_copied_mut};
 ghost use Rattle.model_registers.specs.Lists.{EachPair};
-ghost use Rattle.model_board.specs.Paths.{path_before};
+ghost use Rattle.model_board.specs.Paths.{path_before, path_eq};
 ghost use Rattle.model_board.specs.Board.{IsBoard};
 ghost use Rattle.model_board.specs.Places.{board_of};
 ghost use Rattle.model_board.specs.Claims.{first_claim};
@@ -17,7 +17,7 @@ use crate::decl::Decl;
 use crate::endpoint::EndpointFn;
 use crate::function::Function;
 use crate::path::Path;
-use crate::walk::{Wanted, position, reach};
+use crate::walk::{Wanted, locate, position, reach};
 use bars::Space;
 use std::alloc::{AllocError, Global};
 use std::marker::Model;
@@ -70,6 +70,15 @@ impl Model for Claim {
     ghost view = { λ c. record { path = c.path; index = c.region; offset = c.offset } };
 }
 
+/// Where an address lands: the index of an endpoint in the list of functions, the base address
+/// register of a region, 0 to 5, and the offset in the region.
+#[derive(Clone, Copy, Debug)]
+pub struct Located {
+    pub index: usize,
+    pub region: u8,
+    pub offset: u64,
+}
+
 impl Node {
     ghost use Rattle.bridge_forward.specs.Layout.{function_of};
     ghost use Rattle.bridge_forward.specs.Search.{is_wanted};
@@ -90,7 +99,8 @@ impl Node {
 
 impl Bus {
     ghost use Rattle.bridge_forward.specs.Cycled.{cycle_reply, after_cycle};
-    ghost use Rattle.bridge_forward.specs.Lending.{LendsEndpoint, endpoint_at};
+    ghost use Rattle.bridge_forward.specs.Lending.{LendsEndpoint, LendsEndpointNth, endpoint_at, endpoint_nth};
+    ghost use Rattle.bridge_forward.specs.Locating.{located_claim};
 
     /// The board of these functions, which stand at lawful places, at reset. Nothing else refuses
     /// than that memory is out, and no later call takes memory.
@@ -117,34 +127,36 @@ impl Bus {
     }
 
     /// The first claim of an address in path order, then by register: a region that decodes it, where
-    /// each bridge above forwards it.
+    /// each bridge above forwards it. It is told by the index of its endpoint.
+    pub fn locate(&self, space: Space, addr: u64) -> Option<Located>
+        ensures claim { located_claim self.now result ≡ first_claim self.now (named_space space) addr }
+        ensures there { IfSome result (λ l. IsSome (endpoint_nth self.now l.index)) }
+    {
+        locate(&self.nodes, space, addr)
+    }
+
+    /// The first claim of an address, told by the path of its endpoint.
     pub fn claimant(&self, space: Space, addr: u64) -> Option<Claim>
         ensures { result ≡ first_claim self.now (named_space space) addr }
     {
-        let mut i = 0;
-        while i < self.nodes.len() {
-            let node = &self.nodes[i];
-            i = match &node.function {
-                Function::Endpoint(endpoint) => {
-                    if let Some((region, offset)) = endpoint.decode(space, addr) {
-                        return Some(Claim {
-                            path: node.path.copied(),
-                            region,
-                            offset,
-                        });
-                    }
-                    node.end
-                }
-                Function::Bridge(bridge) => {
-                    if bridge.forwards(space, addr) {
-                        i + 1
-                    } else {
-                        node.end
-                    }
-                }
-            };
-        }
-        None
+        let Located {
+            index,
+            region,
+            offset,
+        } = self.locate(space, addr)?;
+        Some(Claim {
+            path: self.nodes[index].path.copied(),
+            region,
+            offset,
+        })
+    }
+
+    /// The index of the function at a path, if one stands there.
+    pub fn index_of(&self, path: &Path) -> Option<usize>
+        ensures function { option_and_then (slice_get self.now) result ≡ find (λ f. path_eq f.path path.now) self.now }
+        ensures within { IfSome result (λ i. i < length self.now) }
+    {
+        position(&self.nodes, path)
     }
 
     /// Lends the endpoint at a path, if one stands there. All else stays. No two functions stand at one
@@ -156,6 +168,19 @@ impl Bus {
     {
         let at = position(&self.nodes, path)?;
         let node = &mut self.nodes[at];
+        node.function.endpoint_mut()
+    }
+
+    /// Lends the endpoint at an index of the list, if one stands there. All else stays.
+    pub fn endpoint_nth(&mut self, index: usize) -> Option<&mut EndpointFn>
+        ensures* lends { sem 𝓛 (LendsEndpointNth self.entry index result) }
+        ensures value { option_copied_mut result ≡ endpoint_nth self.old index }
+        ensures in_order { EachPair (λ f g. IsTrue (path_before f.path g.path)) self.old }
+    {
+        if index >= self.nodes.len() {
+            return None;
+        }
+        let node = &mut self.nodes[index];
         node.function.endpoint_mut()
     }
 }

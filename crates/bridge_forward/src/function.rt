@@ -27,16 +27,26 @@ impl Function {
     ghost use Rattle.bridge_forward.specs.Functions.{decl_of, file_of, with_cells, reset_cells, endpoint_in, LendsLeaf};
 
     /// The function at reset. `multifunction` says that its device holds other functions.
-    pub(crate) fn new(alloc: Global, decl: Declared, multifunction: bool) -> Result<Function, AllocError>
+    pub(crate) fn new(
+        alloc: Global,
+        decl: Declared,
+        multifunction: bool,
+    ) -> Result<Function, AllocError>
         ensures decl { IfOk result (λ f. decl_of f ≡ declared decl) }
         ensures cells { IfOk result (λ f. file_of f ≡ reset_cells (declared decl) multifunction) }
         ensures lawful { IfOk result (λ _. IsLawfulDecl (declared decl)) }
     {
         match decl {
             Declared::Endpoint(decl) => Ok(Function::Endpoint(EndpointFn::new(
-                alloc, decl, multifunction,
+                alloc,
+                decl,
+                multifunction,
             )?)),
-            Declared::Bridge(decl) => Ok(Function::Bridge(BridgeFn::new(alloc, decl, multifunction)?)),
+            Declared::Bridge(decl) => Ok(Function::Bridge(BridgeFn::new(
+                alloc,
+                decl,
+                multifunction,
+            )?)),
         }
     }
 

@@ -14,7 +14,7 @@ mod path;
 mod places;
 mod walk;
 
-pub use bus::{Bus, Claim};
+pub use bus::{Bus, Claim, Located};
 pub use cycle::{Cycle, CycleType, Op};
 pub use decl::{Decl, Declared, lawful_places};
 pub use endpoint::EndpointFn;

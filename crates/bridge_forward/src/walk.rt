@@ -1,13 +1,19 @@
 //! Walks along the buses of a tree.
-ghost use Rattle.std.specs.Prelude.{◌≡◌, ◌≤◌, ◌<◌, IfSome, IfNone, None, length, find};
+ghost use Rattle.std.specs.Prelude.{◌≡◌, ◌≤◌, ◌<◌, IfSome, IfNone, IsSome, None, length, find};
 ghost use Rattle.model_board.specs.Paths.{Path as PathValue, path_eq};
 ghost use Rattle.bridge_forward.specs.Layout.{IsLaidOut, functions_of};
 ghost use Rattle.bridge_forward.specs.Search.{wanted_on, IsSide, IsAt};
 ghost use Rattle.bridge_forward.specs.Cycled.{reached_by};
+ghost use Rattle.bridge_forward.specs.Lending.{endpoint_nth};
+ghost use Rattle.bridge_forward.specs.Locating.{located_claim};
+ghost use Rattle.model_board.specs.Claims.{first_claim};
+ghost use Rattle.bars.specs.Kinds.{named_space};
 
-use crate::bus::Node;
+use crate::bus::{Located, Node};
 use crate::cycle::{Cycle, CycleType};
+use crate::function::Function;
 use crate::path::Path;
+use bars::Space;
 use std::cmp::Ordering;
 
 /// What is looked for on a bus.
@@ -63,6 +69,39 @@ pub(crate) fn reach(nodes: &[Node], cycle: &Cycle) -> Option<usize>
             return first_on_bus(nodes, from, to, named);
         }
     }
+}
+
+/// The first claim of an address in path order, then by register, told by the index of its endpoint. It
+/// passes what stands behind a bridge that doesn't forward the address.
+pub(crate) fn locate(nodes: &[Node], space: Space, addr: u64) -> Option<Located>
+    requires { IsLaidOut nodes.now }
+    ensures claim { located_claim (functions_of nodes.now) result ≡ first_claim (functions_of nodes.now) (named_space space) addr }
+    ensures there { IfSome result (λ l. IsSome (endpoint_nth (functions_of nodes.now) l.index)) }
+{
+    let mut i = 0;
+    while i < nodes.len() {
+        let node = &nodes[i];
+        i = match &node.function {
+            Function::Endpoint(endpoint) => {
+                if let Some((region, offset)) = endpoint.decode(space, addr) {
+                    return Some(Located {
+                        index: i,
+                        region,
+                        offset,
+                    });
+                }
+                node.end
+            }
+            Function::Bridge(bridge) => {
+                if bridge.forwards(space, addr) {
+                    i + 1
+                } else {
+                    node.end
+                }
+            }
+        };
+    }
+    None
 }
 
 /// Where the function with this path stands, found by halving, since nodes stand in path order.

@@ -2,10 +2,10 @@ use Rattle.std.proofs.Common.{◌-◌, length}
 use Rattle.bars.specs.Kinds.{named_space}
 use Rattle.bridge_forward.specs.Layout.{IsLaidOut}
 use Rattle.bridge_forward.proofs.Claiming.{Passed}
-use Rattle.bridge_forward.proofs.bus.Bus.claimant.Given as goal
+use Rattle.bridge_forward.proofs.walk.locate.Given as goal
 
 abbrev pub invariant-loop-i : goal.invariant-loop-i
-invariant-loop-i l = (laid : IsLaidOut l.self-inside.nodes.items) → Passed l.self-inside.nodes.items laid (named_space l.space) l.addr l.i
+invariant-loop-i l = (laid : IsLaidOut l.nodes) → Passed l.nodes laid (named_space l.space) l.addr l.i
 
 abbrev pub decreases-loop-i : goal.decreases-loop-i
-decreases-loop-i l = length l.self-inside.nodes.items - l.i
+decreases-loop-i l = length l.nodes - l.i

@@ -1,0 +1,80 @@
+use Rattle.std.proofs.Common.{◌≡◌, Some, None, arith, sym, ap, ◌∙◌}
+use Rattle.std.specs.Prelude.{option_map}
+use Rattle.model_registers.specs.Decoding.{Hit}
+use Rattle.model_board.specs.State.{BoardFunction}
+use Rattle.model_board.specs.Claims.{claim_at, endpoint_hit}
+use Rattle.bars.specs.Kinds.{named_space}
+use Rattle.bridge_forward.specs.Layout.{function_of}
+use Rattle.bridge_forward.proofs.Indices.{read_at, map_at}
+use Rattle.bridge_forward.proofs.Nodes.{inside}
+use Rattle.bridge_forward.proofs.Nth.{nth_is}
+use Rattle.bridge_forward.proofs.Claiming.{passed_into, passed_over, claim_here, claim_nowhere, hit_of_endpoint, endpoint_forwards_nothing, bridge_claims_nothing, bridge_forwards}
+use Rattle.bridge_forward.proofs.walk.locate.Goals as goal
+
+pub returns-in-Some-clause-claim : goal.returns-in-Some-clause-claim
+returns-in-Some-clause-claim c =
+    let nodes = c.args.nodes.now in
+    let n = c.index-nodes-i.result in
+    let space = named_space c.args.space in
+    let h : Hit = record { index = c.in-Some.region; offset = c.in-Some.offset } in
+    let e = read_at nodes c.loop-i.i n c.loop-i-test.true c.index-nodes-i.is in
+    let hit : endpoint_hit (function_of n) space c.args.addr ≡ Some h =
+    hit_of_endpoint nodes c.requires space c.args.addr n c.in-Endpoint.endpoint c.in-Endpoint.is ∙ sym c.in-Some.ensures in
+    ap (option_map (λ (f : BoardFunction). claim_at f.path h)) (map_at function_of nodes c.loop-i.i n e)
+    ∙ sym (claim_here nodes c.requires space c.args.addr c.loop-i.i n h (c.loop-i.invariant c.requires) e hit)
+
+pub returns-in-Some-clause-there : goal.returns-in-Some-clause-there
+returns-in-Some-clause-there c =
+    let nodes = c.args.nodes.now in
+    let n = c.index-nodes-i.result in
+    let e = read_at nodes c.loop-i.i n c.loop-i-test.true c.index-nodes-i.is in
+    nth_is nodes c.loop-i.i n e c.in-Endpoint.endpoint c.in-Endpoint.is
+
+pub loop-i-smaller-in_default : goal.loop-i-smaller-in_default
+loop-i-smaller-in_default c =
+    let nodes = c.args.nodes.now in
+    let e = read_at nodes c.loop-i.i c.index-nodes-i.result c.loop-i-test.true c.index-nodes-i.is in
+    let w = inside nodes c.requires c.loop-i.i c.index-nodes-i.result e in
+    omega (arith, w.0, w.1, c.loop-i-test.true)
+
+pub loop-i-preserved-in_default : goal.loop-i-preserved-in_default
+loop-i-preserved-in_default c = λ laid.
+    let nodes = c.args.nodes.now in
+    let n = c.index-nodes-i.result in
+    let space = named_space c.args.space in
+    let e = read_at nodes c.loop-i.i n c.loop-i-test.true c.index-nodes-i.is in
+    let none : endpoint_hit (function_of n) space c.args.addr ≡ None = hit_of_endpoint nodes laid space c.args.addr n c.in-Endpoint.endpoint c.in-Endpoint.is ∙ sym c.in_default.ensures in
+    passed_over nodes laid space c.args.addr c.loop-i.i n (c.loop-i.invariant laid) e none (endpoint_forwards_nothing nodes laid space c.args.addr n c.in-Endpoint.endpoint c.in-Endpoint.is)
+
+pub loop-i-preserved-then-forwards : goal.loop-i-preserved-then-forwards
+loop-i-preserved-then-forwards c = λ laid.
+    let nodes = c.args.nodes.now in
+    let n = c.index-nodes-i.result in
+    let space = named_space c.args.space in
+    let e = read_at nodes c.loop-i.i n c.loop-i-test.true c.index-nodes-i.is in
+    passed_into nodes laid space c.args.addr c.loop-i.i n (c.loop-i.invariant laid) e
+    (bridge_claims_nothing nodes laid space c.args.addr n c.in-Bridge.bridge c.in-Bridge.is)
+    (bridge_forwards nodes laid space c.args.addr n c.in-Bridge.bridge c.in-Bridge.is ∙ sym c.forwards.ensures ∙ c.if-forwards.true)
+
+pub loop-i-smaller : goal.loop-i-smaller
+loop-i-smaller c =
+    let nodes = c.args.nodes.now in
+    let e = read_at nodes c.loop-i.i c.index-nodes-i.result c.loop-i-test.true c.index-nodes-i.is in
+    let w = inside nodes c.requires c.loop-i.i c.index-nodes-i.result e in
+    omega (arith, w.0, w.1, c.loop-i-test.true)
+
+pub loop-i-preserved : goal.loop-i-preserved
+loop-i-preserved c = λ laid.
+    let nodes = c.args.nodes.now in
+    let n = c.index-nodes-i.result in
+    let space = named_space c.args.space in
+    let e = read_at nodes c.loop-i.i n c.loop-i-test.true c.index-nodes-i.is in
+    passed_over nodes laid space c.args.addr c.loop-i.i n (c.loop-i.invariant laid) e
+    (bridge_claims_nothing nodes laid space c.args.addr n c.in-Bridge.bridge c.in-Bridge.is)
+    (bridge_forwards nodes laid space c.args.addr n c.in-Bridge.bridge c.in-Bridge.is ∙ sym c.forwards.ensures ∙ c.if-forwards.false)
+
+pub returns-clause-claim : goal.returns-clause-claim
+returns-clause-claim c =
+    let nodes = c.args.nodes.now in
+    let space = named_space c.args.space in
+    sym (claim_nowhere nodes c.requires space c.args.addr c.loop-i.i (c.loop-i.invariant c.requires) c.loop-i-test.false)

@@ -1,0 +1,11 @@
+-- Where an address lands, by the index of its endpoint in the list of functions.
+--     located_claim fs o      the claim at that index
+use Rattle.std.specs.Prelude.{List, Option, None, option_map, slice_get}
+use Rattle.std.specs.Option.{option_map_or}
+use Rattle.model_board.specs.State.{BoardFunction}
+use Rattle.model_board.specs.Claims.{Claim, claim_at}
+use Rattle.bridge_forward.specs.declared.bus.Located.{Located}
+
+abbrev pub located_claim : List BoardFunction → Option Located → Option Claim
+located_claim fs o =
+    option_map_or (λ (l : Located). option_map (λ (f : BoardFunction). claim_at f.path (record { index = l.region; offset = l.offset })) (slice_get fs l.index)) o None
