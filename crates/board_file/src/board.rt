@@ -29,7 +29,7 @@ use crate::reading::read_entries;
 use bridge_forward::{Bus, Decl, Declared};
 use headers::Apertures;
 use host_bridge::Host;
-use monitor::GuestDecl;
+use accesses::GuestDecl;
 use std::alloc::{AllocError, Global};
 use toml::Table;
 

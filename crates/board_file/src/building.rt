@@ -17,7 +17,7 @@ use arrayvec::{ArrayString, ArrayVec};
 use bars::{BarDecl, BarFault, Kind};
 use bridge_forward::Path;
 use headers::{BridgeDecl, ConfigBlock, DeclFault, EndpointDecl, EndpointValues, Region};
-use monitor::GuestDecl;
+use accesses::GuestDecl;
 use std::alloc::{AllocError, Global};
 
 /// The number, where it is not negative.

@@ -1,6 +1,4 @@
 //! The monitor, which gives functions of a board to guests.
 #![tactic(auto)]
 
-mod guest;
-
-pub use guest::GuestDecl;
+pub use accesses::GuestDecl;

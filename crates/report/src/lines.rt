@@ -11,7 +11,7 @@ use bars::Region;
 use bridge_forward::Path;
 use bus_scan::{Found, FunctionRow};
 use intx_swizzle::at_root;
-use monitor::GuestDecl;
+use accesses::GuestDecl;
 use std::alloc::AllocError;
 use window_packing::{Window, Writes};
 

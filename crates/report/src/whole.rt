@@ -5,7 +5,7 @@ ghost use Rattle.report.specs.Found.{ended, count_line, rows_text, guests_text, 
 
 use crate::lines::{push_function, push_guest};
 use bus_scan::{Found, FunctionRow, FunctionTable};
-use monitor::GuestDecl;
+use accesses::GuestDecl;
 use std::alloc::{AllocError, Global};
 use window_packing::{Plan, Setting};
 

@@ -9,7 +9,7 @@ ghost use Rattle.report.specs.Faults.{number_of, write_failures_of};
 
 use crate::whole::report_text;
 use bus_scan::FunctionTable;
-use monitor::GuestDecl;
+use accesses::GuestDecl;
 use script::{Writer, write_all};
 use std::alloc::Global;
 use thiserror::Error;

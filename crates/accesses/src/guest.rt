@@ -1,9 +1,10 @@
 //! The guests of a board.
-ghost use Rattle.std.specs.Prelude.{◌≡◌};
-
 use arrayvec::{ArrayString, ArrayVec};
 use bridge_forward::Path;
 use std::marker::Model;
+
+/// Guests' names, in the order of the guests: at most 32, each of at most 16 bytes.
+pub type Names = ArrayVec<ArrayString<16>, 32>;
 
 /// A guest: its name, and the paths of the endpoints in its slots, slot 0 first.
 #[derive(Debug, Drop)]

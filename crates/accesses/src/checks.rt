@@ -1,0 +1,118 @@
+//! The checks of accesses, and the answer where there is nothing.
+ghost use Rattle.std.specs.Prelude.{◌≡◌, ℕ, Option, [], None, option_map};
+ghost use Rattle.model_registers.specs.Registers.{all_ones};
+ghost use Rattle.model_registers.specs.ByteEnables.{IsWidth};
+ghost use Rattle.model_guests.specs.LoneGuest.{place_number, is_out_of_range, access_fault, fault_of, perform};
+ghost use Rattle.model_guests.specs.HostReads.{host_number, is_out_of_host_range, host_fault};
+ghost use Rattle.accesses.specs.Accesses.{access_of, op_of, target_of, host_target_of, host_access_of, reply_of};
+ghost use Rattle.accesses.specs.Replies.{IsShown};
+
+use crate::access::{Access, At, HostAccess, HostAt, Op, Reply};
+
+/// The first of three checks that fails: 302 the width is not 1, 2 or 4; 301 the number is no multiple
+/// of the width; 303 it is out of range.
+fn first_fault(width: u64, number: u64, is_out_of_range: bool) -> Option<u16>
+    ensures { result ≡ access_fault width number is_out_of_range }
+{
+    if !matches!(width, 1 | 2 | 4) {
+        Some(302)
+    } else if number % width != 0 {
+        Some(301)
+    } else if is_out_of_range {
+        Some(303)
+    } else {
+        None
+    }
+}
+
+impl At {
+    /// The offset, port or address, which the width of an access has to divide.
+    fn number(self) -> u64
+        ensures { result ≡ place_number (target_of self) }
+    {
+        match self {
+            At::Config { off, .. } => off,
+            At::Io { port } => port,
+            At::Mem { addr } => addr,
+        }
+    }
+
+    /// Whether the slot is above 31, the offset above 255 or the port above FFFFFFFFh.
+    fn is_out_of_range(self) -> bool
+        ensures { result ≡ is_out_of_range (target_of self) }
+    {
+        match self {
+            At::Config { slot, off } => slot > 31 || off > 255,
+            At::Io { port } => port > 0xffff_ffff,
+            At::Mem { .. } => false,
+        }
+    }
+}
+
+impl Access {
+    /// The number of the first check that the access fails: 302 its width is not 1, 2 or 4; 301 its
+    /// offset, port or address is no multiple of the width; 303 its slot is above 31, its offset above
+    /// 255 or its port above FFFFFFFFh.
+    pub fn fault(&self) -> Option<u16>
+        ensures { result ≡ fault_of (access_of self.now) }
+    {
+        first_fault(self.width, self.at.number(), self.at.is_out_of_range())
+    }
+}
+
+impl HostAt {
+    fn number(self) -> u64
+        ensures { result ≡ host_number (host_target_of self) }
+    {
+        match self {
+            HostAt::Config { bdf: _, off } => off,
+            HostAt::Io { port } => port,
+            HostAt::Mem { addr } => addr,
+        }
+    }
+
+    fn is_out_of_range(self) -> bool
+        ensures { result ≡ is_out_of_host_range (host_target_of self) }
+    {
+        match self {
+            HostAt::Config { bdf: _, off } => off > 255,
+            HostAt::Io { port } => port > 0xffff_ffff,
+            HostAt::Mem { .. } => false,
+        }
+    }
+}
+
+impl HostAccess {
+    /// The number of the first check that the read fails: 302 its width is not 1, 2 or 4; 301 its
+    /// offset, port or address is no multiple of the width; 303 its offset is above 255 or its port
+    /// above FFFFFFFFh.
+    pub fn fault(&self) -> Option<u16>
+        ensures { result ≡ host_fault (host_access_of self.now) }
+    {
+        first_fault(self.width, self.at.number(), self.at.is_out_of_range())
+    }
+}
+
+/// The answer where there is nothing: a read gives all ones, and a write is dropped.
+pub fn nothing(op: Op, width: u64) -> Reply
+    requires { IsWidth width }
+    ensures reply { reply_of result ≡ perform (op_of op) width [] None }
+    ensures shown { IsShown result }
+{
+    match op {
+        Op::Read => Reply::Value(all_ones(width), width),
+        Op::Write(_) => Reply::Done,
+    }
+}
+
+/// All ones in a width of 1, 2 or 4 bytes.
+pub fn all_ones(width: u64) -> u32
+    requires { IsWidth width }
+    ensures { result ≡ all_ones width }
+{
+    match width {
+        1 => 0xff,
+        2 => 0xffff,
+        _ => 0xffff_ffff,
+    }
+}

@@ -1,0 +1,12 @@
+//! What guests and the host ask of a board, what they are answered, and the guests of a board.
+#![tactic(auto)]
+
+mod access;
+mod checks;
+mod guest;
+
+pub use access::{Access, At, HostAccess, HostAt, Op, Reply};
+pub use checks::{all_ones, nothing};
+pub use guest::{GuestDecl, Names};
+pub use headers::Place;
+pub use host_bridge::Bdf;
