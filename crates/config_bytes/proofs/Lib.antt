@@ -1,3 +1,4 @@
 pub mod Tables
 pub mod Offsets
 pub mod Shifts
+pub mod Outside

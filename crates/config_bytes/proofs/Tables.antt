@@ -5,11 +5,11 @@ use Rattle.std.proofs.lemmas.Bool.{eqb-true, eqb-false, eq-eqb, ne_eqb}
 use Rattle.std.proofs.lemmas.List.{length-set, get_or-set_same, get_or-set_other, get_or_past, get_or_default, take_at}
 use Rattle.model_registers.specs.Lists.{Each}
 use Rattle.model_registers.specs.Cell.{Cell, no_cell, written, raised}
-use Rattle.model_registers.specs.Registers.{config, Entry, File, cell_at, changed}
+use Rattle.model_registers.specs.Registers.{Place, config, Entry, File, cell_at, changed}
 use Rattle.model_registers.specs.FileLaws.{IsConfigFile}
 use Rattle.config_bytes.specs.OffsetLaws.{FileOfConfig}
 use Rattle.model_registers.proofs.RegisterFiles.{change_at_place}
-use Rattle.config_bytes.specs.CellFile.{CellFile, HasDistinctOffsets, file_of, file_from, table_at, placed, IsTable}
+use Rattle.config_bytes.specs.CellFile.{CellFile, HasDistinctOffsets, KeepsPlaces, places_of, file_of, file_from, table_at, placed, IsTable}
 
 -- ---- one cell changes
 
@@ -68,6 +68,13 @@ IsConfigFile-of (c ∷ cs) = (tt, IsConfigFile-of cs)
 
 pub IsConfigFile-view : (table : List Cell) (cs : List (ℕ × Cell)) (value : CellFile) → let shown : CellFile = record { now = file_from table cs; initial = file_of cs } in shown ≡ value → IsConfigFile value.now
 IsConfigFile-view table cs value is = let P : CellFile → Type 0 = λ v. IsConfigFile v.now in subst P is (IsConfigFile-from table cs)
+
+pub KeepsPlaces-from : (table : List Cell) (cs : List (ℕ × Cell)) → places_of (file_from table cs) ≡ places_of (file_of cs)
+KeepsPlaces-from table [] = refl
+KeepsPlaces-from table (c ∷ cs) = ap (λ (ps : List Place). config c.0 ∷ ps) (KeepsPlaces-from table cs)
+
+pub KeepsPlaces-view : (table : List Cell) (cs : List (ℕ × Cell)) (value : CellFile) → let shown : CellFile = record { now = file_from table cs; initial = file_of cs } in shown ≡ value → KeepsPlaces value
+KeepsPlaces-view table cs value is = subst KeepsPlaces is (KeepsPlaces-from table cs)
 
 -- ---- a whole list is put into a table
 

@@ -2,16 +2,36 @@
 --     CellFile      the cells as they are, and as they were made
 --     file_of cs      offsets with cells, as a register file
 --     HasDistinctOffsets cs      no two cells stand at one offset
+--     KeepsPlaces f      the cells stand where they stood when they were made
+--     reset_outside first last initial now      a file whose cells are those of another one, but at offsets in a range
 --     offsets_from a cs      cells at the offsets from a on
 --     IsTable      a table by offset shows the cells of a file: no access looks at all of them
-use Rattle.std.specs.Prelude.{◌≡◌, ◌≢◌, ◌<◌, ℕ, ◌+◌, List, [], ◌∷◌, length, slice_set, slice_index_or}
+use Rattle.std.specs.Prelude.{◌≡◌, ◌≢◌, ◌<◌, ℕ, ◌+◌, nat_le, Bool, false, ◌&&◌, if◌then◌else◌, List, [], ◌∷◌, map, length, slice_set, slice_index_or}
 use Rattle.model_registers.specs.Lists.{Each, EachPair}
 use Rattle.model_registers.specs.Cell.{Cell, no_cell}
-use Rattle.model_registers.specs.Registers.{config, File, cell_at}
+use Rattle.model_registers.specs.Registers.{Place, config, block, Entry, File, cell_at}
 
 pub record CellFile : Type 0 where
   pub now : File
   pub initial : File
+
+-- where the cells of a file stand, in their order
+abbrev pub places_of : File → List Place
+places_of file = map (λ e. e.place) file
+
+abbrev pub KeepsPlaces : CellFile → Type 0
+KeepsPlaces f = places_of f.now ≡ places_of f.initial
+
+-- the offsets from first to last, both included
+abbrev pub is_between : ℕ → ℕ → Place → Bool
+is_between first last (config a) = nat_le first a && nat_le a last
+is_between first last (block n a) = false
+
+abbrev pub reset_entry : ℕ → ℕ → File → Entry → Entry
+reset_entry first last initial e = if is_between first last e.place then e else record e { cell = cell_at initial e.place }
+
+abbrev pub reset_outside : ℕ → ℕ → File → File → File
+reset_outside first last initial now = map (reset_entry first last initial) now
 
 abbrev pub file_of : List (ℕ × Cell) → File
 file_of [] = []
@@ -38,6 +58,11 @@ file_from table (c ∷ cs) = record { place = config c.0; cell = table_at table 
 abbrev pub placed : List (ℕ × Cell) → List Cell → List Cell
 placed [] table = table
 placed (c ∷ cs) table = placed cs (slice_set table c.0 c.1)
+
+-- a table after each cell of a list but those at the offsets from first to last is put at its offset
+abbrev pub placed_outside : ℕ → ℕ → List (ℕ × Cell) → List Cell → List Cell
+placed_outside first last [] table = table
+placed_outside first last (c ∷ cs) table = placed_outside first last cs (if nat_le first c.0 && nat_le c.0 last then table else slice_set table c.0 c.1)
 
 -- the table has room for the offsets of the list, and shows their file at every offset
 pub record IsTable (table : List Cell) (cs : List (ℕ × Cell)) : Type 0 where

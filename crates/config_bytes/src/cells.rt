@@ -5,7 +5,7 @@ ghost use Rattle.model_registers.specs.Lists.{Each};
 ghost use Rattle.model_registers.specs.Registers.{config, changed, read, write, raise, cell_at};
 ghost use Rattle.model_registers.specs.ByteEnables.{enabled_bytes, is_enabled, lanes};
 ghost use Rattle.model_registers.specs.FileLaws.{IsConfigFile};
-ghost use Rattle.config_bytes.specs.CellFile.{HasDistinctOffsets, file_of, placed};
+ghost use Rattle.config_bytes.specs.CellFile.{HasDistinctOffsets, KeepsPlaces, file_of, placed, placed_outside, reset_outside};
 
 use crate::cell::Cell;
 use byteorder::{ByteOrder, LittleEndian};
@@ -64,6 +64,18 @@ fn place(table: &mut [Cell], cells: &[(u16, Cell)])
     }
 }
 
+/// Puts each cell but those at the offsets from `first` to `last` into the table at its offset.
+fn place_outside(table: &mut [Cell], cells: &[(u16, Cell)], first: u16, last: u16)
+    requires { Each (λ c. c.0 < length table.old) cells.now }
+    ensures { table.new ≡ placed_outside first last cells.now table.old }
+{
+    for (off, cell) in cells {
+        if *off < first || *off > last {
+            table[usize::from(*off)] = *cell;
+        }
+    }
+}
+
 impl Cells {
     /// The cells at these offsets, 0 to 65535 in any order, of which no two are the same. The table has
     /// a cell for each offset up to the highest.
@@ -71,6 +83,7 @@ impl Cells {
         requires { HasDistinctOffsets cells.now }
         ensures cells { IfOk result (λ f. f ≡ record { now = file_of cells.now; initial = file_of cells.now }) }
         ensures places { IfOk result (λ f. IsConfigFile f.now) }
+        ensures kept { IfOk result KeepsPlaces }
     {
         let initial = Vec::from_slice(alloc, cells)?;
         let mut table = vec![in alloc; Cell::fixed(0); table_length(cells)]?;
@@ -82,6 +95,7 @@ impl Cells {
     fn byte_at(&self, off: u16, enabled: bool) -> u8
         ensures byte { result ≡ (if enabled then (cell_at self.now.now (config off)).value else 0) }
         ensures places { IsConfigFile self.now.now }
+        ensures kept { KeepsPlaces self.now }
     {
         let value = self
             .table
@@ -100,6 +114,7 @@ impl Cells {
         // A register of 16 bits in the low half of a word fits its type.
         ensures low { enables < 4 → result < 2 ^ 16 }
         ensures places { IsConfigFile self.now.now }
+        ensures kept { KeepsPlaces self.now }
     {
         let bytes = [
             self.byte_at(off, is_enabled(enables, 0)),
@@ -117,6 +132,7 @@ impl Cells {
               if enabled then changed (written byte) (config off) self.old.now else self.old.now;
         } }
         ensures places { IsConfigFile self.new.now }
+        ensures kept { KeepsPlaces self.new }
     {
         let at = usize::from(off);
         if at < self.table.len() && enabled {
@@ -130,6 +146,7 @@ impl Cells {
         requires { off % 4 ≡ 0 }
         ensures cells { self.new ≡ record self.old { now = write (lanes enables) «data» (config off) self.old.now } }
         ensures places { IsConfigFile self.new.now }
+        ensures kept { KeepsPlaces self.new }
     {
         let mut bytes = [0; 4];
         LittleEndian::write_u32(&mut bytes, data);
@@ -145,6 +162,7 @@ impl Cells {
     pub fn raise(&mut self, off: u16, mask: u8)
         ensures cells { self.new ≡ record self.old { now = raise mask (config off) self.old.now } }
         ensures places { IsConfigFile self.new.now }
+        ensures kept { KeepsPlaces self.new }
     {
         let at = usize::from(off);
         if at < self.table.len() {
@@ -156,7 +174,23 @@ impl Cells {
     pub fn reset(&mut self)
         ensures cells { self.new ≡ record self.old { now = self.old.initial } }
         ensures places { IsConfigFile self.new.now }
+        ensures kept { KeepsPlaces self.new }
     {
         place(self.table.as_mut_slice(), self.initial.as_slice());
+    }
+
+    /// Goes back to the cells that `new` was given, but for those at the offsets from `first` to `last`,
+    /// both included, which stay.
+    pub fn reset_outside(&mut self, first: u16, last: u16)
+        ensures cells { self.new ≡ record self.old { now = reset_outside first last self.old.initial self.old.now } }
+        ensures places { IsConfigFile self.new.now }
+        ensures kept { KeepsPlaces self.new }
+    {
+        place_outside(
+            self.table.as_mut_slice(),
+            self.initial.as_slice(),
+            first,
+            last,
+        );
     }
 }

@@ -23,6 +23,10 @@ fn status_and_command(rt: HostRuntime) -> Result<(), Fail> {
 
     cells.write(0xfffc, 0b1000, 0x5a00_0000);
     assert_eq!(rt; cells.read(0xfffc, 0b1111), 0x5a00_0000);
+    cells.write(4, 0b0011, 0x47);
+    cells.reset_outside(4, 5);
+    assert_eq!(rt; cells.read(0xfffc, 0b1111), 0xa500_0000);
+    assert_eq!(rt; cells.read(4, 0b1111), 0x8000_0047);
     cells.reset();
     assert_eq!(rt; cells.read(0xfffc, 0b1111), 0xa500_0000);
     assert_eq!(rt; cells.read(4, 0b1111), 0x8000_0000);

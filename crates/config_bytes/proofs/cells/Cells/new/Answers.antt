@@ -3,7 +3,7 @@ use Rattle.std.proofs.lemmas.List.Elements.{All-get_or}
 use Rattle.model_registers.specs.Lists.{Each}
 use Rattle.model_registers.specs.Cell.{Cell, no_cell}
 use Rattle.config_bytes.specs.CellFile.{CellFile, HasDistinctOffsets, file_of, placed}
-use Rattle.config_bytes.proofs.Tables.{HasGaps, HasGaps-empty, IsConfigFile-from, each_from, IsTable-refilled, view_refilled}
+use Rattle.config_bytes.proofs.Tables.{HasGaps, HasGaps-empty, IsConfigFile-from, KeepsPlaces-from, each_from, IsTable-refilled, view_refilled}
 use Rattle.config_bytes.proofs.cells.Cells.new.Goals as goal
 
 stored : (c : goal.After-table-3-1) → c.args.cells.now ≡ c.in_ok-initial.initial.items
@@ -45,3 +45,7 @@ returns-clause-cells c =
 pub returns-clause-places : goal.returns-clause-places
 returns-clause-places c =
     IsConfigFile-from (take c.in_ok-table.table.len (c.place.new.table ++ drop (length c.place.new.table) c.in_ok-table.table.items)) c.in_ok-initial.initial.items
+
+pub returns-clause-kept : goal.returns-clause-kept
+returns-clause-kept c =
+    KeepsPlaces-from (take c.in_ok-table.table.len (c.place.new.table ++ drop (length c.place.new.table) c.in_ok-table.table.items)) c.in_ok-initial.initial.items

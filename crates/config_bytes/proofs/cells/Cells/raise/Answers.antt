@@ -2,7 +2,7 @@ use Rattle.std.proofs.Common.{◌∙◌}
 use Rattle.std.proofs.Math.ListN.{set}
 use Rattle.std.proofs.lemmas.List.{length-set}
 use Rattle.model_registers.specs.Cell.{raised}
-use Rattle.config_bytes.proofs.Tables.{ChangesAt, raised-no_cell, put_changes, IsTable-changed, IsConfigFile-from, IsConfigFile-view, view_changes, view_past}
+use Rattle.config_bytes.proofs.Tables.{ChangesAt, raised-no_cell, put_changes, IsTable-changed, IsConfigFile-from, KeepsPlaces-from, IsConfigFile-view, KeepsPlaces-view, view_changes, view_past}
 use Rattle.config_bytes.proofs.cells.Cells.raise.Goals as goal
 
 changes : (c : goal.After-self-1) → ChangesAt (raised c.args.mask) c.args.off c.self.inside.table.items (set c.self.inside.table.items c.from-at.result c.raised.result)
@@ -31,3 +31,10 @@ returns-then-at-len-clause-places c =
 
 pub returns-else-at-len-clause-places : goal.returns-else-at-len-clause-places
 returns-else-at-len-clause-places c = IsConfigFile-view c.self.inside.table.items c.self.inside.initial.items c.args.self.now c.self.view_is
+
+pub returns-then-at-len-clause-kept : goal.returns-then-at-len-clause-kept
+returns-then-at-len-clause-kept c =
+    KeepsPlaces-from (set c.self.inside.table.items c.from-at.result c.raised.result) c.self.inside.initial.items
+
+pub returns-else-at-len-clause-kept : goal.returns-else-at-len-clause-kept
+returns-else-at-len-clause-kept c = KeepsPlaces-view c.self.inside.table.items c.self.inside.initial.items c.args.self.now c.self.view_is

@@ -1,6 +1,6 @@
 use Rattle.std.proofs.Common.{◌≡◌, ◌++◌, length, take, drop, ◌∙◌, ap, ap₂}
 use Rattle.config_bytes.specs.CellFile.{CellFile, placed}
-use Rattle.config_bytes.proofs.Tables.{HasGaps-table, IsConfigFile-from, IsTable-refilled, view_refilled}
+use Rattle.config_bytes.proofs.Tables.{HasGaps-table, IsConfigFile-from, KeepsPlaces-from, IsTable-refilled, view_refilled}
 use Rattle.config_bytes.proofs.cells.Cells.reset.Goals as goal
 
 put : (c : goal.After-self-1) → c.place.new.table ≡ placed c.self.inside.initial.items c.self.inside.table.items
@@ -20,3 +20,7 @@ returns-clause-cells c =
 pub returns-clause-places : goal.returns-clause-places
 returns-clause-places c =
     IsConfigFile-from (take c.self.inside.table.len (c.place.new.table ++ drop (length c.place.new.table) c.self.inside.table.items)) c.self.inside.initial.items
+
+pub returns-clause-kept : goal.returns-clause-kept
+returns-clause-kept c =
+    KeepsPlaces-from (take c.self.inside.table.len (c.place.new.table ++ drop (length c.place.new.table) c.self.inside.table.items)) c.self.inside.initial.items

@@ -2,7 +2,7 @@ use Rattle.std.proofs.Common.{◌≡◌, true, false, ◌∙◌, refl}
 use Rattle.std.proofs.Math.ListN.{set}
 use Rattle.std.proofs.lemmas.List.{length-set}
 use Rattle.model_registers.specs.Cell.{written}
-use Rattle.config_bytes.proofs.Tables.{ChangesAt, written-no_cell, put_changes, IsTable-changed, IsConfigFile-from, IsConfigFile-view, view_changes, view_past, view_past_if}
+use Rattle.config_bytes.proofs.Tables.{ChangesAt, written-no_cell, put_changes, IsTable-changed, IsConfigFile-from, KeepsPlaces-from, IsConfigFile-view, KeepsPlaces-view, view_changes, view_past, view_past_if}
 use Rattle.config_bytes.proofs.cells.Cells.write_byte.Goals as goal
 use Rattle.config_bytes.proofs.cells.Cells.write_byte.Goals.{else-at-len-via-then-at-len+else-enabled, else-at-len-via-else-at-len}
 
@@ -37,3 +37,10 @@ returns-then-enabled-clause-places c =
 
 pub returns-else-at-len-clause-places : goal.returns-else-at-len-clause-places
 returns-else-at-len-clause-places c = IsConfigFile-view c.self.inside.table.items c.self.inside.initial.items c.args.self.now c.self.view_is
+
+pub returns-then-enabled-clause-kept : goal.returns-then-enabled-clause-kept
+returns-then-enabled-clause-kept c =
+    KeepsPlaces-from (set c.self.inside.table.items c.from-at.result c.written.result) c.self.inside.initial.items
+
+pub returns-else-at-len-clause-kept : goal.returns-else-at-len-clause-kept
+returns-else-at-len-clause-kept c = KeepsPlaces-view c.self.inside.table.items c.self.inside.initial.items c.args.self.now c.self.view_is
