@@ -116,7 +116,7 @@ claimed_by_endpoint fs space a p (endpoint d) file h e = refl
 claimed_by_endpoint fs space a p (bridge d) file h e = cc
 
 -- the function of a claim is an endpoint, and stands at the path of the claim
-claimed_by : (fs : List BoardFunction) (space : Space) (a : ℕ) (f : BoardFunction) (c : Claim) → claim_of fs space a f ≡ Some c → (f.path ≡ c.path) × IsSome (as_endpoint f)
+pub claimed_by : (fs : List BoardFunction) (space : Space) (a : ℕ) (f : BoardFunction) (c : Claim) → claim_of fs space a f ≡ Some c → (f.path ≡ c.path) × IsSome (as_endpoint f)
 claimed_by fs space a f c = by_case (is_forwarded fs f.path space a) (endpoint_hit f space a) refl
   where
     by_case : (t : Bool) (o : Option Hit) → endpoint_hit f space a ≡ o → cond t (option_map_or (λ (h : Hit). Some (claim_at f.path h)) o None) None ≡ Some c → (f.path ≡ c.path) × IsSome (as_endpoint f)

@@ -1,4 +1,5 @@
 pub mod ConfigCycles
 pub mod Lent
 pub mod ClaimedAccesses
+pub mod ByIndex
 pub mod PortAccesses

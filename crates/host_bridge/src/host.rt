@@ -1,13 +1,16 @@
 //! The host bridge.
-ghost use Rattle.std.specs.Prelude.{◌≡◌, ◌%◌, IsSome};
+ghost use Rattle.std.specs.Prelude.{◌≡◌, ◌%◌, ◌<◌, IfSome, IsSome, find, length, slice_get};
+ghost use Rattle.std.specs.Option.{option_and_then};
 ghost use Rattle.model_registers.specs.Registers.{raise};
 ghost use Rattle.model_registers.specs.ByteEnables.{lanes, IsWidth};
 ghost use Rattle.bars.specs.Kinds.{named_space};
+ghost use Rattle.model_board.specs.Paths.{path_eq};
 ghost use Rattle.model_board.specs.State.{with_file};
 ghost use Rattle.model_board.specs.Claims.{first_claim};
 ghost use Rattle.model_board.specs.Ports.{selected, selected_register, config_reply, after_config_write, claim_reply, after_claim_write, port_reply, after_port_write, memory_reply, after_memory_write};
 ghost use Rattle.headers.specs.Places.{place_of};
 ghost use Rattle.bridge_forward.specs.Lending.{endpoint_at};
+ghost use Rattle.bridge_forward.specs.Locating.{located_claim};
 ghost use Rattle.host_bridge.specs.BusAddresses.{bus_address_of};
 ghost use Rattle.host_bridge.specs.HostState.{with_functions, with_latch};
 
@@ -16,7 +19,7 @@ use crate::lanes::{all_ones, lowered};
 use crate::latch::{Latch, Target};
 use crate::route::Route;
 use bars::{Space, enabled_bits};
-use bridge_forward::{Bus, Claim, Op, Path};
+use bridge_forward::{Bus, Claim, Located, Op, Path};
 use config_bytes::{enables_of, into_lanes};
 use headers::{Apertures, Place};
 use std::marker::Model;
@@ -121,6 +124,24 @@ impl Host {
         self.root.claimant(space, addr)
     }
 
+    /// The first claim of an address, told by the index of its endpoint.
+    pub(crate) fn locate(&self, space: Space, addr: u64) -> Option<Located>
+        ensures claim { let fs = self.now.state.functions in
+            located_claim fs result ≡ first_claim fs (named_space space) addr }
+        ensures within { IfSome result (λ l. l.index < length self.now.state.functions) }
+    {
+        self.root.locate(space, addr)
+    }
+
+    /// The index of the function at a path, if one stands there.
+    pub(crate) fn index_of(&self, path: &Path) -> Option<usize>
+        ensures function { let fs = self.now.state.functions in
+            option_and_then (slice_get fs) result ≡ find (λ f. path_eq f.path path.now) fs }
+        ensures within { IfSome result (λ i. i < length self.now.state.functions) }
+    {
+        self.root.index_of(path)
+    }
+
     /// Raises the bits of `mask` that writing a one clears, in one cell of the endpoint at a path. All
     /// other cells stay.
     pub fn raise(&mut self, path: &Path, place: Place, off: u64, mask: u8)
@@ -144,16 +165,16 @@ impl Host {
             result ≡ claim_reply fs width (first_claim fs (named_space space) addr) }
         ensures after { self.new ≡ self.old }
     {
-        let Some(claim) = route.claimant(self, space, addr) else {
+        let Some(from) = route.located(self, space, addr) else {
             return all_ones(width);
         };
-        let Claim {
-            path,
+        let Located {
+            index,
             region,
             offset,
-        } = claim;
+        } = from;
         let enables = enables_of(offset, width);
-        match self.root.endpoint_mut(&path) {
+        match self.root.endpoint_nth(index) {
             Some(endpoint) => lowered(offset, endpoint.read(region, offset / 4 * 4, enables)),
             None => unreachable!(),
         }
@@ -175,17 +196,17 @@ impl Host {
             let claim = first_claim fs (named_space space) addr in
             self.new ≡ with_functions (after_claim_write fs width value claim) self.old }
     {
-        let Some(claim) = route.claimant(self, space, addr) else {
+        let Some(to) = route.located(self, space, addr) else {
             return;
         };
-        let Claim {
-            path,
+        let Located {
+            index,
             region,
             offset,
-        } = claim;
+        } = to;
         let enables = enables_of(offset, width);
         let data = into_lanes(offset, value);
-        match self.root.endpoint_mut(&path) {
+        match self.root.endpoint_nth(index) {
             Some(endpoint) => endpoint.write(region, offset / 4 * 4, enables, data),
             None => unreachable!(),
         }

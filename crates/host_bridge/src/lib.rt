@@ -12,6 +12,6 @@ mod tests;
 
 pub use bars::Space;
 pub use bdf::Bdf;
-pub use bridge_forward::{Claim, Path};
+pub use bridge_forward::{Claim, Located, Path};
 pub use host::Host;
 pub use route::{Route, TreeWalk};

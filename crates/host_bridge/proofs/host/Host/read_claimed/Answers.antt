@@ -4,25 +4,31 @@ use Rattle.model_board.specs.Claims.{first_claim}
 use Rattle.model_board.specs.Ports.{claim_reply}
 use Rattle.host_bridge.specs.HostState.{HostState}
 use Rattle.host_bridge.proofs.Lent.{distinct_paths, kept_endpoint}
-use Rattle.host_bridge.proofs.ClaimedAccesses.{claim_found, lies_in_word, some_endpoint, number_read}
+use Rattle.host_bridge.proofs.ClaimedAccesses.{lies_in_word, number_read}
+use Rattle.host_bridge.proofs.ByIndex.{located, some_nth, endpoint_there_nth, with_nth}
 use Rattle.host_bridge.proofs.host.Host.read_claimed.Goals as goal
 
 pub enables_of-enables-requires : goal.enables_of-enables-requires
 enables_of-enables-requires g c =
-    let is = claim_found _ _ _ _ _ _ c.self.view_is c.in-Some.ensures c.claim.view_is in
-    lies_in_word _ _ _ _ _ is c.requires.width c.requires.aligned
+    let is = located _ _ (named_space c.args.space) c.args.addr c.in-Some.from c.self.view_is c.in-Some.ensures.claim c.in-Some.ensures.within in
+    lies_in_word _ _ _ _ _ is.claimed c.requires.width c.requires.aligned
 
 pub unreachable-requires : goal.unreachable-requires
 unreachable-requires g c =
-    let is = claim_found _ _ _ _ _ _ c.self.view_is c.in-Some.ensures c.claim.view_is in
-    some_endpoint _ _ _ c.args.width _ is (distinct_paths _ c.endpoint_mut.ensures.in_order) (sym c.in-None.ensures.value)
+    let is = located _ _ (named_space c.args.space) c.args.addr c.in-Some.from c.self.view_is c.in-Some.ensures.claim c.in-Some.ensures.within in
+    some_nth _ _ _ _ is (distinct_paths _ c.endpoint_nth.ensures.in_order) (sym c.in-None.ensures.value)
 
 pub returns-clause-value : goal.returns-clause-value
 returns-clause-value g c =
-    let is = claim_found _ _ _ _ _ _ c.self.view_is c.in-Some.ensures c.claim.view_is in
-    let within = lies_in_word _ _ _ _ _ is c.requires.width c.requires.aligned in
-    number_read _ _ _ _ _ is _ _ _ _ within (sym c.in-Some-endpoint_mut.ensures.value) c.enables_of-enables.ensures c.read.ensures c.lowered.ensures
+    let is = located _ _ (named_space c.args.space) c.args.addr c.in-Some.from c.self.view_is c.in-Some.ensures.claim c.in-Some.ensures.within in
+    let within = lies_in_word _ _ _ _ _ is.claimed c.requires.width c.requires.aligned in
+    let there = endpoint_there_nth _ _ _ _ _ is (distinct_paths _ c.endpoint_nth.ensures.in_order) (sym c.in-Some-endpoint_nth.ensures.value) in
+    number_read _ _ _ _ _ is.claimed _ _ _ _ within there c.enables_of-enables.ensures c.read.ensures c.lowered.ensures
     ∙ ap (λ (h : HostState). claim_reply h.state.functions c.args.width (first_claim h.state.functions (named_space c.args.space) c.args.addr)) c.self.view_is
 
 pub returns-clause-after : goal.returns-clause-after
-returns-clause-after g c = rw (kept_endpoint _ _ _ (distinct_paths _ c.endpoint_mut.ensures.in_order) (sym c.in-Some-endpoint_mut.ensures.value)) c.self.view_is
+returns-clause-after g c =
+    let is = located _ _ (named_space c.args.space) c.args.addr c.in-Some.from c.self.view_is c.in-Some.ensures.claim c.in-Some.ensures.within in
+    let distinct = distinct_paths _ c.endpoint_nth.ensures.in_order in
+    let there = endpoint_there_nth _ _ _ _ _ is distinct (sym c.in-Some-endpoint_nth.ensures.value) in
+    rw (with_nth is.function c.in-Some-endpoint_nth.endpoint.now c.self.inside.root c.in-Some.from.index distinct is.there, kept_endpoint _ _ _ distinct there) c.self.view_is
