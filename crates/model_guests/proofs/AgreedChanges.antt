@@ -1,5 +1,5 @@
 -- A change of one file in a slot changes the agreed state at one function, and nowhere else.
-use Rattle.std.proofs.Common.{◌≡◌, ℕ, Bool, true, false, List, [], ◌∷◌, Some, None, Option, refl, sym, ap, ap₂, ◌∙◌}
+use Rattle.std.proofs.Common.{◌≡◌, ℕ, Bool, true, false, cond, List, [], ◌∷◌, Some, None, Option, refl, sym, ap, ap₂, ◌∙◌}
 use Rattle.std.specs.Prelude.{map, slice_get, IsSome}
 use Rattle.std.specs.Option.{option_map_or}
 use Rattle.model_registers.specs.Registers.{File}
@@ -12,16 +12,20 @@ use Rattle.model_guests.specs.LoneGuest.{Slots, slot_at}
 use Rattle.model_guests.specs.Text.{Text}
 use Rattle.model_guests.specs.World.{World, paths_of, HasLawfulGuests}
 use Rattle.model_guests.specs.Agreement.{guest_file, agreed_file, agreed_function, agreed_state}
-use Rattle.model_guests.specs.AgreementLaws.{ChangesAlike, ChangesSlot, ChangesOneFunction, changed_function, with_change_at}
+use Rattle.model_guests.specs.AgreementLaws.{ChangesAlike, ChangesSlot, ChangesOneFunction, with_change_at}
 use Rattle.model_guests.proofs.GuestFiles.{path_turned, slot_set, with_file_there, elsewhere, file_found}
+
+-- one function of the board, after a change at a path
+abbrev pub changed_function : (File → File) → Path → BoardFunction → BoardFunction
+changed_function change p f = cond (path_eq f.path p) (record f { file = change f.file }) f
 
 abbrev pub agreed_by : Option File → BoardFunction → BoardFunction
 agreed_by own f = option_map_or (λ (file : File). record f { file = agreed_file f.file file }) own f
 
-changed_here : (change : File → File) (p : Path) (f : BoardFunction) → path_eq f.path p ≡ true → changed_function change p f ≡ record f { file = change f.file }
+pub changed_here : (change : File → File) (p : Path) (f : BoardFunction) → path_eq f.path p ≡ true → changed_function change p f ≡ record f { file = change f.file }
 changed_here change p f e = rw e
 
-unchanged : (change : File → File) (p : Path) (own : Option File) (f : BoardFunction) → path_eq f.path p ≡ false → changed_function change p (agreed_by own f) ≡ agreed_by own f
+pub unchanged : (change : File → File) (p : Path) (own : Option File) (f : BoardFunction) → path_eq f.path p ≡ false → changed_function change p (agreed_by own f) ≡ agreed_by own f
 unchanged change p None f e = rw e
 unchanged change p (Some own) f e = rw e
 

@@ -27,7 +27,7 @@ pub place_self : (p : Place) → place_eq p p ≡ true
 place_self (config a) = grind (arith, nat_tests)
 place_self (block n a) = grind (arith, nat_tests)
 
-place_turned : (p q : Place) → place_eq p q ≡ place_eq q p
+pub place_turned : (p q : Place) → place_eq p q ≡ place_eq q p
 place_turned (config a) (config b) = grind (arith, nat_tests)
 place_turned (block n a) (block m b) = grind (arith, nat_tests)
 place_turned (config a) (block m b) = refl
@@ -54,7 +54,7 @@ agreed_places [] own = refl
 agreed_places (e ∷ es) own = ap₂ (λ (p : Place) (ps : List Place). p ∷ ps) (entry_place own e (is_own e.place) refl) (agreed_places es own)
 
 -- a place of the guest's copies
-agreed_kept : (left own : File) (p : Place) → is_own p ≡ true → cell_at (agreed_file left own) p ≡ cell_at left p
+pub agreed_kept : (left own : File) (p : Place) → is_own p ≡ true → cell_at (agreed_file left own) p ≡ cell_at left p
 agreed_kept [] own p h = refl
 agreed_kept (e ∷ es) own p h = cases (is_own e.place) refl (place_eq e.place p) refl (agreed_kept es own p h)
   where
@@ -64,10 +64,10 @@ agreed_kept (e ∷ es) own p h = cases (is_own e.place) refl (place_eq e.place p
     cases false i true k more = let same = ap is_own (same_place e.place p k) in cc
     cases false i false k more = rw (i, k) more
 
-abbrev stands : Place → List Place → Bool
+abbrev pub stands : Place → List Place → Bool
 stands p ps = list_any (λ q. place_eq q p) ps
 
-absent : (file : File) (p : Place) → stands p (places_of file) ≡ false → cell_at file p ≡ no_cell
+pub absent : (file : File) (p : Place) → stands p (places_of file) ≡ false → cell_at file p ≡ no_cell
 absent [] p h = refl
 absent (e ∷ es) p h = cases (place_eq e.place p) refl h (absent es p)
   where
@@ -77,7 +77,7 @@ absent (e ∷ es) p h = cases (place_eq e.place p) refl h (absent es p)
     cases false k h more = more h
 
 -- every other place
-agreed_where : (left own : File) (p : Place) → is_own p ≡ false → cell_at (agreed_file left own) p ≡ cond (stands p (places_of left)) (cell_at own p) no_cell
+pub agreed_where : (left own : File) (p : Place) → is_own p ≡ false → cell_at (agreed_file left own) p ≡ cond (stands p (places_of left)) (cell_at own p) no_cell
 agreed_where [] own p h = refl
 agreed_where (e ∷ es) own p h = cases (is_own e.place) refl (place_eq e.place p) refl (agreed_where es own p h)
   where
@@ -88,8 +88,8 @@ agreed_where (e ∷ es) own p h = cases (is_own e.place) refl (place_eq e.place 
     cases false i true k more = rw (i, k) (ap (cell_at own) (same_place e.place p k))
     cases false i false k more = rw (i, k) more
 
-agreed_multifunction : (left own : File) (p : Place) → places_of own ≡ places_of left → is_own p ≡ false → cell_at (agreed_file left own) p ≡ cell_at own p
-agreed_multifunction left own p same h = agreed_where left own p h ∙ cases (stands p (places_of left)) refl
+pub agreed_common : (left own : File) (p : Place) → places_of own ≡ places_of left → is_own p ≡ false → cell_at (agreed_file left own) p ≡ cell_at own p
+agreed_common left own p same h = agreed_where left own p h ∙ cases (stands p (places_of left)) refl
   where
     cases : (t : Bool) → stands p (places_of left) ≡ t → cond t (cell_at own p) no_cell ≡ cell_at own p
     cases true k = refl
@@ -99,7 +99,7 @@ pub agreed_holds : (left own : File) → places_of own ≡ places_of left → Ho
 agreed_holds left own same = record {
   places = agreed_places left own;
   kept = λ p h. agreed_kept left own p h;
-  multifunction = λ p h. agreed_multifunction left own p same h;
+  common = λ p h. agreed_common left own p same h;
 }
 
 -- ---- no other file holds that
@@ -113,7 +113,7 @@ tail_cells e d es ds same (p ∷ ps) apart cells =
     (rw second at (rw first at cells.0), tail_cells e d es ds same ps apart.1 cells.1)
 
 -- files with the same places, none twice, and with the same cells there
-same_files : (f g : File) → places_of f ≡ places_of g → HasDistinctPlaces f → Each (λ p. cell_at f p ≡ cell_at g p) (places_of f) → f ≡ g
+pub same_files : (f g : File) → places_of f ≡ places_of g → HasDistinctPlaces f → Each (λ p. cell_at f p ≡ cell_at g p) (places_of f) → f ≡ g
 same_files [] [] same distinct cells = refl
 same_files [] (d ∷ ds) same distinct cells = cc
 same_files (e ∷ es) [] same distinct cells = cc
@@ -126,7 +126,7 @@ same_files (e ∷ es) (d ∷ ds) same distinct cells =
     ap₂ (λ (x : Entry) (xs : File). x ∷ xs) (λ i. record { place = place i; cell = cell i })
     (same_files es ds places distinct.1 (tail_cells e d es ds place (places_of es) distinct.0 cells.1))
 
-each_of : (P : Place → Type 0) → ((p : Place) → P p) → (ps : List Place) → Each P ps
+pub each_of : (P : Place → Type 0) → ((p : Place) → P p) → (ps : List Place) → Each P ps
 each_of P h [] = tt
 each_of P h (p ∷ ps) = (h p, each_of P h ps)
 
@@ -138,7 +138,7 @@ only_file left own now distinct holds =
   where
     cases : (p : Place) (t : Bool) → is_own p ≡ t → (u : Bool) → stands p (places_of left) ≡ u → cell_at now p ≡ cell_at (agreed_file left own) p
     cases p true h u k = holds.kept p h ∙ sym (agreed_kept left own p h)
-    cases p false h true k = holds.multifunction p h ∙ sym (agreed_where left own p h ∙ ap (λ t. cond t (cell_at own p) no_cell) k)
+    cases p false h true k = holds.common p h ∙ sym (agreed_where left own p h ∙ ap (λ t. cond t (cell_at own p) no_cell) k)
     cases p false h false k = absent now p (ap (stands p) holds.places ∙ k) ∙ sym (agreed_where left own p h ∙ ap (λ t. cond t (cell_at own p) no_cell) k)
 
 -- ---- changes

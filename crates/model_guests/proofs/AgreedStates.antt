@@ -46,13 +46,13 @@ part_irreflexive a = grind (arith, nat_tests)
 part_self : (a : Part) → part_eq a a ≡ true
 part_self a = grind (arith, nat_tests)
 
-path_irreflexive : (p : Path) → path_before p p ≡ false
+pub path_irreflexive : (p : Path) → path_before p p ≡ false
 path_irreflexive [] = refl
 path_irreflexive (a ∷ p) =
     let here : part_before a a ≡ false = part_irreflexive a in
     let part : part_eq a a ≡ true = part_self a in rw (here, part) (path_irreflexive p)
 
-apart : (p q : Path) → path_before p q ≡ true → path_eq p q ≡ false
+pub apart : (p q : Path) → path_before p q ≡ true → path_eq p q ≡ false
 apart p q h = cases (path_eq p q) refl
   where
     cases : (t : Bool) → path_eq p q ≡ t → t ≡ false
@@ -60,7 +60,7 @@ apart p q h = cases (path_eq p q) refl
     cases true e = let below = subst (λ (x : Path). path_before p x ≡ true) (sym (path_same p q e)) h in cc (path_irreflexive p)
 
 -- in path order each row is found by its path
-rows_found : (b : Board) → EachPair (λ r s. IsTrue (path_before r.path s.path)) b → Each (λ r. declared b r.path ≡ endpoint_of r) b
+pub rows_found : (b : Board) → EachPair (λ r s. IsTrue (path_before r.path s.path)) b → Each (λ r. declared b r.path ≡ endpoint_of r) b
 rows_found [] ordered = tt
 rows_found (r ∷ rs) ordered = (here, later rs ordered.0 (rows_found rs ordered.1))
   where
@@ -71,7 +71,7 @@ rows_found (r ∷ rs) ordered = (here, later rs ordered.0 (rows_found rs ordered
     later [] before found = tt
     later (s ∷ ss) before found = let other : path_eq r.path s.path ≡ false = apart r.path s.path before.0 in (rw other found.0, later ss before.1 found.1)
 
-abbrev set_up : World → Row → BoardFunction
+abbrev pub set_up : World → Row → BoardFunction
 set_up w r = record { path = r.path; decl = r.decl; file = set_up_file w.board w.apertures r.path r.decl }
 
 -- ---- each function, as set-up left it
@@ -80,21 +80,21 @@ no_other : {A : Type 0} → false ≡ true → A
 no_other h = cc
 
 module _ (b : Board) (a : Apertures) (p : Path) where
-  alike : (d : Endpoint) → IsLawfulDecl (endpoint d) → Alike (endpoint_reset d false) (set_up_file b a p (endpoint d))
+  pub alike : (d : Endpoint) → IsLawfulDecl (endpoint d) → Alike (endpoint_reset d false) (set_up_file b a p (endpoint d))
   alike d lawful = alike_tables d (is_multifunction b p) (command_of d) (first_of b a p) lawful.regions.each
 
-  same_places : (decl : Decl) (file : File) → IsLawfulDecl decl → declared b p ≡ endpoint_of (record { path = p; decl = decl }) → IsFileOf places_of b p file
+  pub same_places : (decl : Decl) (file : File) → IsLawfulDecl decl → declared b p ≡ endpoint_of (record { path = p; decl = decl }) → IsFileOf places_of b p file
       → places_of file ≡ places_of (set_up_file b a p decl)
   same_places (endpoint d) file lawful found is =
       let same : is.decl ≡ d = cc (is.declares, found) in
       is.same ∙ ap (λ (e : Endpoint). places_of (endpoint_reset e false)) same ∙ alike_places (endpoint_reset d false) (set_up_file b a p (endpoint d)) (alike d lawful)
   same_places (bridge d) file lawful found is = cc (is.declares, found)
 
-  distinct : (decl : Decl) → IsLawfulDecl decl → declared b p ≡ endpoint_of (record { path = p; decl = decl }) → IsSome (declared b p) → HasDistinctPlaces (set_up_file b a p decl)
+  pub distinct : (decl : Decl) → IsLawfulDecl decl → declared b p ≡ endpoint_of (record { path = p; decl = decl }) → IsSome (declared b p) → HasDistinctPlaces (set_up_file b a p decl)
   distinct (endpoint d) lawful found some = distinct_places d lawful (is_multifunction b p) (command_of d) (first_of b a p)
   distinct (bridge d) lawful found some = let none : false ≡ true = sym (ap is_some found) ∙ some in no_other none
 
-  left_at_reset : (decl : Decl) (file : File) → IsLawfulDecl decl → declared b p ≡ endpoint_of (record { path = p; decl = decl }) → IsFileOf (λ (f : File). f) b p file
+  pub left_at_reset : (decl : Decl) (file : File) → IsLawfulDecl decl → declared b p ≡ endpoint_of (record { path = p; decl = decl }) → IsFileOf (λ (f : File). f) b p file
       → agreed_file (set_up_file b a p decl) file ≡ set_up_file b a p decl
   left_at_reset (endpoint d) file lawful found is =
       let same : is.decl ≡ d = cc (is.declares, found) in
@@ -105,11 +105,11 @@ module _ (b : Board) (a : Apertures) (p : Path) where
 -- ---- the whole state
 
 -- what is known of a row of the board
-record RowFacts (w : World) (r : Row) : Type 0 where
-  found : declared w.board r.path ≡ endpoint_of r
-  lawful : IsLawfulDecl r.decl
+pub record RowFacts (w : World) (r : Row) : Type 0 where
+  pub found : declared w.board r.path ≡ endpoint_of r
+  pub lawful : IsLawfulDecl r.decl
 
-row_facts : (w : World) → IsLawfulWorld w → Each (RowFacts w) w.board
+pub row_facts : (w : World) → IsLawfulWorld w → Each (RowFacts w) w.board
 row_facts w lawful = both w.board (rows_found w.board lawful.board.in_order) lawful.functions
   where
     both : (rs : Board) → Each (λ r. declared w.board r.path ≡ endpoint_of r) rs → Each (λ r. IsLawfulDecl r.decl) rs → Each (RowFacts w) rs

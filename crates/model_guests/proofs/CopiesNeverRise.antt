@@ -27,10 +27,10 @@ use Rattle.model_guests.proofs.AgreedFiles.{same_place}
 use Rattle.model_guests.specs.AgreementLaws.{slots_by, CopiesNeverRise}
 
 -- no bit of the cell rises where the guest has a copy
-abbrev stays_low : Entry → Bool
+abbrev pub stays_low : Entry → Bool
 stays_low e = not (is_own e.place) || eqb e.cell.clearable 0
 
-abbrev StaysLow : File → Type 0
+abbrev pub StaysLow : File → Type 0
 StaysLow file = Each (λ e. stays_low e ≡ true) file
 
 -- ---- changes of cells keep that
@@ -65,7 +65,7 @@ low_cell m e own low =
     let value : bit_or e.cell.value (bit_and m e.cell.clearable) ≡ e.cell.value = ap (λ n. bit_or e.cell.value (bit_and m n)) none ∙ ap (bit_or e.cell.value) (and_zero_r m) ∙ or_zero_r e.cell.value in
     ap (λ n. record e { cell = record e.cell { value = n } }) value
 
-not_raised : (m : ℕ) (p : Place) → is_own p ≡ true → (file : File) → StaysLow file → raise m p file ≡ file
+pub not_raised : (m : ℕ) (p : Place) → is_own p ≡ true → (file : File) → StaysLow file → raise m p file ≡ file
 not_raised m p own [] low = refl
 not_raised m p own (e ∷ es) low = ap₂ (λ (x : Entry) (xs : File). x ∷ xs) (here (place_eq e.place p) refl) (not_raised m p own es low.1)
   where
@@ -116,7 +116,7 @@ regions_low (r ∷ rs) =
     each_append (λ e. stays_low e ≡ true) (region_cells (λ r. 0) r) (flat_map (region_cells (λ r. 0)) rs)
     (each_append (λ e. stays_low e ≡ true) (base_cells r.index r.kind r.size 0) (cells_from (block r.index 0) r.cells) (bases_low r.index r.kind r.size) (region_block_low r.index 0 r.cells)) (regions_low rs)
 
-reset_low : (d : Endpoint) → IsLawfulEndpoint d → StaysLow (endpoint_reset d false)
+pub reset_low : (d : Endpoint) → IsLawfulEndpoint d → StaysLow (endpoint_reset d false)
 reset_low d lawful =
     each_append (λ e. stays_low e ≡ true) (config_cells d false 0) (flat_map (region_cells (λ r. 0)) d.regions)
     (each_append (λ e. stays_low e ≡ true) (header_cells d false 0) (flat_map block_cells d.blocks) (header_low d) (blocks_low d.blocks (own_blocks d lawful))) (regions_low d.regions)
@@ -166,7 +166,7 @@ events_low slots (e ∷ es) low = events_low (after_event slots e) es (here (is_
 
 -- ---- slots at reset
 
-declared_lawful : (b : Board) → Each (λ r. IsLawfulDecl r.decl) b → (p : Path) → MatchOption (declared b p) ⊤ IsLawfulEndpoint
+pub declared_lawful : (b : Board) → Each (λ r. IsLawfulDecl r.decl) b → (p : Path) → MatchOption (declared b p) ⊤ IsLawfulEndpoint
 declared_lawful [] lawful p = tt
 declared_lawful (r ∷ rs) lawful p = cases (path_eq r.path p) (declared_lawful rs lawful.1 p)
   where

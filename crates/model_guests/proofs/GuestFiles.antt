@@ -65,7 +65,7 @@ slot_set (s ∷ ss) (suc n) f g there = slot_set ss n f g there
 pub with_file_there : (change : File → File) (n : ℕ) (slots : Slots) (f : Function) → slot_at slots n ≡ Some f → with_file change n slots ≡ slice_set slots n (Some (record f { file = change f.file }))
 with_file_there change n slots f there = ap (λ (o : Option Function). option_map_or (λ (g : Function). slice_set slots n (Some (record g { file = change g.file }))) o slots) there
 
-no_file : (qs : List Path) (slots : Slots) (p : Path) → Each (λ q. path_eq q p ≡ false) qs → file_in qs slots p ≡ None
+pub no_file : (qs : List Path) (slots : Slots) (p : Path) → Each (λ q. path_eq q p ≡ false) qs → file_in qs slots p ≡ None
 no_file [] slots p none = refl
 no_file (q ∷ qs) [] p none = refl
 no_file (q ∷ qs) (f ∷ fs) p none = let other : path_eq q p ≡ false = none.0 in rw other (no_file qs fs p none.1)
@@ -84,7 +84,7 @@ NamesApart gs = EachPair (λ m n. IsFalse (bytes_eq m n)) (map (λ (g : Guest). 
 abbrev pub PathsApart : List Guest → Type 0
 PathsApart gs = EachPair (λ p q. IsFalse (path_eq p q)) (flat_map (λ (g : Guest). g.slots) gs)
 
-other_name : (a b : Text) → bytes_eq a b ≡ false → bytes_eq b a ≡ false
+pub other_name : (a b : Text) → bytes_eq a b ≡ false → bytes_eq b a ≡ false
 other_name a b h = cases (bytes_eq b a) refl
   where
     cases : (t : Bool) → bytes_eq b a ≡ t → t ≡ false
@@ -99,7 +99,7 @@ others_stay (g ∷ gs) old new name p apart others =
     ap₂ first_of_two (ap (λ (s : Slots). file_in g.slots s p) (others g.name (other_name name g.name apart.0))) (others_stay gs old new name p apart.1 others)
 
 -- what holds of every slot's path holds of a path in a slot
-of_slot : (P : Path → Type 0) (gs : List Guest) (name : Text) (n : ℕ) (p : Path) → Each P (flat_map (λ (g : Guest). g.slots) gs) → slice_get (slots_among gs name) n ≡ Some p → P p
+pub of_slot : (P : Path → Type 0) (gs : List Guest) (name : Text) (n : ℕ) (p : Path) → Each P (flat_map (λ (g : Guest). g.slots) gs) → slice_get (slots_among gs name) n ≡ Some p → P p
 of_slot P [] name n p all at = cc
 of_slot P (g ∷ gs) name n p all at = cases (bytes_eq g.name name) at (of_slot P gs name n p parts.1)
   where

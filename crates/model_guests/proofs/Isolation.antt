@@ -1,48 +1,134 @@
--- Each guest's reply lines are those of its own functions over its own lines.
-use Rattle.std.proofs.Common.{◌≡◌, Bool, true, false, not, ◌&&◌, cond, List, [], ◌∷◌, ◌++◌, Some, None, Option, append-nil, append_assoc, refl, sym, ap, ◌∙◌, eqb}
-use Rattle.std.specs.Prelude.{codes, IsTrue, drop, filter}
-use Rattle.std.specs.List.{starts_with, cons_option}
+-- Each guest's reply lines, and what it holds, are those of its inputs.
+use Rattle.std.proofs.Common.{◌≡◌, Bool, true, false, not, ◌&&◌, ◌||◌, cond, List, [], ◌∷◌, ◌++◌, Some, None, Option, refl, sym, ap, ◌∙◌, subst, eqb}
+use Rattle.std.specs.Prelude.{codes, IsTrue, drop, filter, map, find, is_some}
+use Rattle.std.specs.List.{starts_with, list_any}
+use Rattle.std.specs.Option.{option_map_or}
 use Rattle.std.specs.Str.{bytes_eq}
 use Rattle.std.proofs.lemmas.Slice.Eq.{bytes_eq-Decides}
-use Rattle.std.proofs.lemmas.List.Elements.{filter-append, filter_map-append}
+use Rattle.std.proofs.lemmas.List.Elements.{filter-append}
 use Rattle.model_registers.specs.Lists.{Each}
 use Rattle.model_registers.specs.Declarations.{Endpoint}
+use Rattle.model_registers.specs.Decoding.{Function}
 use Rattle.model_registers.proofs.Tests.{left_true, right_true}
-use Rattle.model_guests.specs.LoneGuest.{Slots, slots_after, after_event, answer, reset_slots}
+use Rattle.model_board.specs.Paths.{Path}
 use Rattle.model_guests.specs.Accesses.{Event, refused}
+use Rattle.model_guests.specs.Lone.{LoneGuest, after_event, answer, emptied, filled, reset_guest}
 use Rattle.model_guests.specs.Text.{Text, lines, words}
-use Rattle.model_guests.specs.Grammar.{guest, host, nobody, Meaning, nothing, guest_event, host_read, bad, meaning, meaning_of_words, event_of, event_or_bad, read_or_bad, host_read_of, HostRead, own_lines, is_own_line, has_first_word, is_comment, has_name, is_long}
-use Rattle.model_guests.specs.World.{World, names, declarations, is_name, HasLawfulNames}
-use Rattle.model_guests.specs.Output.{output_after, written_by, lone_output, lone_after_lines, lone_reply, lone_after, lone_event, slots_now, events_of, event_by}
+use Rattle.model_guests.specs.Grammar.{HostRead, event_of, guest, has_first_word, has_name, host, host_read_of, is_comment, is_long, is_own_line, nobody}
+use Rattle.model_guests.specs.World.{Guest, World, declarations, declared, is_name, names}
+use Rattle.model_guests.specs.Guests.{GuestNow, GuestsNow, Move, after_move, function_in, guest_after, guest_at_first, handed_over, lone_of, move_fault, path_in, with_guest, with_slot_emptied, with_slot_filled}
+use Rattle.model_guests.specs.Lines.{Meaning, bad, event_or_bad, guest_event, host_move, host_read, meaning, meaning_of_words, move_of, nothing, read_or_move}
 use Rattle.model_guests.specs.Replies.{line_text, reply_text}
-use Rattle.model_guests.specs.HostReads.{host_answer}
-use Rattle.model_guests.specs.Agreement.{agreed_state}
-use Rattle.model_guests.specs.Worlds.{Isolated, TwoWorlds}
+use Rattle.model_guests.specs.WorldNow.{WorldNow, world_at_first, names_now, host_reply, move_reply, written_by, after_meaning, after_line, after_lines}
+use Rattle.model_guests.specs.Inputs.{Input, after_input, after_inputs, after_own, gets, inputs, inputs_of_line, inputs_of_meaning, inputs_of_move, lone_event, lone_output, lone_reply, loses, own_line}
+use Rattle.model_guests.specs.Isolation.{Isolated, TwoWorlds}
 use Rattle.model_guests.proofs.Names.{lacks, not_true, NameFacts, named_facts, begins, equal_texts, same_text}
-use Rattle.model_guests.proofs.OutputLines.{lines_of_output}
+use Rattle.model_guests.proofs.Along.{names_stay, names_at_first}
+use Rattle.model_guests.proofs.WrittenLines.{written_along, lines_written}
 
--- the lines that begin with the name, a colon and a space
-abbrev replies_in : Text → List Text → List Text
-replies_in name ls = filter (λ l. starts_with eqb l (name ++ codes ": ")) ls
+-- ---- one guest among all
 
--- ---- what one more line does to a guest's slots
+abbrev has : GuestsNow → Text → Bool
+has s name = list_any (λ (t : GuestNow). bytes_eq t.name name) s
 
-slots_after-append : (slots : Slots) (es fs : List Event) → slots_after slots (es ++ fs) ≡ slots_after (slots_after slots es) fs
-slots_after-append slots [] fs = refl
-slots_after-append slots (e ∷ es) fs = slots_after-append (after_event slots e) es fs
+abbrev Keeps : (GuestNow → GuestNow) → Type 0
+Keeps g = (t : GuestNow) → (g t).name ≡ t.name
 
-after_one : (slots : Slots) (o : Option Event) → slots_after slots (cons_option o []) ≡ lone_after slots o
-after_one slots None = refl
-after_one slots (Some e) = refl
+abbrev Does : (GuestNow → GuestNow) → (LoneGuest → LoneGuest) → Type 0
+Does g k = (t : GuestNow) → (g t).lone ≡ k t.lone
 
-slots_step : (w : World) (name : Text) (before : List Text) (l : Text)
-    → slots_now w (before ++ l ∷ []) name ≡ lone_after (slots_now w before name) (event_by name (meaning (names w) l))
-slots_step w name before l =
-    ap (slots_after (reset_slots (declarations w name))) (filter_map-append (λ k. event_by name (meaning (names w) k)) before (l ∷ []))
-    ∙ slots_after-append (reset_slots (declarations w name)) (events_of (names w) name before) (cons_option (event_by name (meaning (names w) l)) [])
-    ∙ after_one (slots_now w before name) (event_by name (meaning (names w) l))
+abbrev one : (GuestNow → GuestNow) → Text → GuestNow → GuestNow
+one g n t = cond (bytes_eq n t.name) (g t) t
+
+one_name : (g : GuestNow → GuestNow) → Keeps g → (n : Text) (t : GuestNow) (u : Bool) → bytes_eq n t.name ≡ u → (one g n t).name ≡ t.name
+one_name g keeps n t true e = rw e (keeps t)
+one_name g keeps n t false e = rw e refl
+
+lone_with : (g : GuestNow → GuestNow) (k : LoneGuest → LoneGuest) → Keeps g → Does g k → (n name : Text) (s : GuestsNow) → has s name ≡ true
+    → lone_of (with_guest g n s) name ≡ cond (bytes_eq n name) (k (lone_of s name)) (lone_of s name)
+lone_with g k keeps does n name [] h = cc
+lone_with g k keeps does n name (t ∷ ts) h = cases (bytes_eq t.name name) refl (bytes_eq n t.name) refl h (λ more. lone_with g k keeps does n name ts more)
+  where
+    cases : (v : Bool) → bytes_eq t.name name ≡ v → (u : Bool) → bytes_eq n t.name ≡ u → (bytes_eq t.name name || has ts name) ≡ true
+        → (has ts name ≡ true → lone_of (with_guest g n ts) name ≡ cond (bytes_eq n name) (k (lone_of ts name)) (lone_of ts name))
+        → lone_of (with_guest g n (t ∷ ts)) name ≡ cond (bytes_eq n name) (k (lone_of (t ∷ ts) name)) (lone_of (t ∷ ts) name)
+    cases true v true u h rest =
+        let same : t.name ≡ name = equal_texts t.name name v in
+        let here : bytes_eq (g t).name name ≡ true = ap (λ (x : Text). bytes_eq x name) (keeps t) ∙ v in
+        let own : bytes_eq n name ≡ true = ap (bytes_eq n) (sym same) ∙ u in
+        rw (u, v, here, own) (does t)
+    cases true v false u h rest =
+        let same : t.name ≡ name = equal_texts t.name name v in
+        let own : bytes_eq n name ≡ false = ap (bytes_eq n) (sym same) ∙ u in
+        rw (u, v, own) refl
+    cases false v true u h rest =
+        let here : bytes_eq (g t).name name ≡ false = ap (λ (x : Text). bytes_eq x name) (keeps t) ∙ v in
+        let more : has ts name ≡ true = ap (λ b. b || has ts name) (sym v) ∙ h in
+        rw (u, v, here) (rest more)
+    cases false v false u h rest =
+        let more : has ts name ≡ true = ap (λ b. b || has ts name) (sym v) ∙ h in
+        rw (u, v) (rest more)
+
+has_with : (g : GuestNow → GuestNow) → Keeps g → (n name : Text) (s : GuestsNow) → has (with_guest g n s) name ≡ has s name
+has_with g keeps n name [] = refl
+has_with g keeps n name (t ∷ ts) =
+    ap (λ (x : Text). bytes_eq x name || has (with_guest g n ts) name) (one_name g keeps n t (bytes_eq n t.name) refl)
+    ∙ ap (λ b. bytes_eq t.name name || b) (has_with g keeps n name ts)
+
+has_first : (gs : List Guest) (w : World) (name : Text) → has (map (guest_at_first w) gs) name ≡ has_name (map (λ (g : Guest). g.name) gs) name
+has_first [] w name = refl
+has_first (g ∷ gs) w name = ap (λ b. bytes_eq g.name name || b) (has_first gs w name)
+
+abbrev slots_named : List Guest → Text → List Path
+slots_named gs name = option_map_or (λ (g : Guest). g.slots) (find (λ (g : Guest). bytes_eq g.name name) gs) []
+
+first_lone : (w : World) (gs : List Guest) (name : Text) → lone_of (map (guest_at_first w) gs) name ≡ reset_guest (map (declared w.board) (slots_named gs name))
+first_lone w [] name = refl
+first_lone w (g ∷ gs) name = cases (bytes_eq g.name name) refl (first_lone w gs name)
+  where
+    cases : (v : Bool) → bytes_eq g.name name ≡ v → lone_of (map (guest_at_first w) gs) name ≡ reset_guest (map (declared w.board) (slots_named gs name)) → lone_of (map (guest_at_first w) (g ∷ gs)) name ≡ reset_guest (map (declared w.board) (slots_named (g ∷ gs) name))
+    cases true v rest = rw v refl
+    cases false v rest = rw v rest
+
+-- ---- moves
+
+touched : (name : Text) (m : Move) (p : Option Path) (o : Option Function) (s : GuestsNow) → has s name ≡ true
+    → lone_of (handed_over m p o s) name ≡ after_inputs (lone_of s name) (inputs_of_move name m o)
+touched name m p None s h = refl
+touched name m p (Some f) s h =
+    let mid : GuestsNow = with_guest (with_slot_emptied m.slot) m.from s in
+    let there : has mid name ≡ true = has_with (with_slot_emptied m.slot) (λ t. refl) m.from name s ∙ h in
+    lone_with (with_slot_filled m.target p f.decl) (filled m.target f.decl) (λ t. refl) (λ t. refl) m.to name mid there
+    ∙ ap (λ (g : LoneGuest). cond (bytes_eq m.to name) (filled m.target f.decl g) g) (lone_with (with_slot_emptied m.slot) (emptied m.slot) (λ t. refl) (λ t. refl) m.from name s h)
+    ∙ cases (bytes_eq m.from name) (bytes_eq m.to name)
+  where
+    cases : (u v : Bool) → cond v (filled m.target f.decl (cond u (emptied m.slot (lone_of s name)) (lone_of s name))) (cond u (emptied m.slot (lone_of s name)) (lone_of s name))
+        ≡ after_inputs (lone_of s name) (cond u (loses m.slot ∷ []) [] ++ cond v (gets m.target f.decl ∷ []) [])
+    cases true true = refl
+    cases true false = refl
+    cases false true = refl
+    cases false false = refl
+
+moves_are_silent : (name : Text) (m : Move) (o : Option Function) (g : LoneGuest) (more : List Input) → lone_output name g (inputs_of_move name m o ++ more) ≡ lone_output name (after_inputs g (inputs_of_move name m o)) more
+moves_are_silent name m None g more = refl
+moves_are_silent name m (Some f) g more = cases (bytes_eq m.from name) (bytes_eq m.to name)
+  where
+    cases : (u v : Bool) → lone_output name g ((cond u (loses m.slot ∷ []) [] ++ cond v (gets m.target f.decl ∷ []) []) ++ more)
+        ≡ lone_output name (after_inputs g (cond u (loses m.slot ∷ []) [] ++ cond v (gets m.target f.decl ∷ []) [])) more
+    cases true true = refl
+    cases true false = refl
+    cases false true = refl
+    cases false false = refl
+
+keeps_move : (m : Move) (p : Option Path) (o : Option Function) (s : GuestsNow) (name : Text) → has (handed_over m p o s) name ≡ has s name
+keeps_move m p None s name = refl
+keeps_move m p (Some f) s name =
+    has_with (with_slot_filled m.target p f.decl) (λ t. refl) m.to name (with_guest (with_slot_emptied m.slot) m.from s) ∙ has_with (with_slot_emptied m.slot) (λ t. refl) m.from name s
 
 -- ---- an own line
+
+abbrev replies_in : Text → List Text → List Text
+replies_in name ls = filter (λ l. starts_with eqb l (name ++ codes ": ")) ls
 
 own_words : (ns : List Text) (name : Text) (ws : List Text) → NameFacts name → has_name ns name ≡ true → has_first_word name ws ≡ true
     → meaning_of_words ns ws ≡ event_or_bad name (event_of (drop 1 ws))
@@ -59,25 +145,27 @@ own_meaning ns name l facts h own =
     let short : is_long l ≡ false = not_true (is_long l) (left_true (not (is_long l)) (has_first_word name (words l)) own) in
     rw short (own_words ns name (words l) facts h (right_true (not (is_long l)) (has_first_word name (words l)) own))
 
-event_of_own : (name : Text) (o : Option Event) → event_by name (event_or_bad name o) ≡ o
-event_of_own name None = refl
-event_of_own name (Some e) = let same = same_text name in rw same
-
 begins_own : (name r : Text) → lacks 58 name ≡ true → starts_with eqb ((name ++ codes ": ") ++ r) (name ++ codes ": ") ≡ true
 begins_own name r h = begins name name r h h ∙ same_text name
 
-own_written : (w : World) (before : List Text) (name : Text) (o : Option Event) → NameFacts name
-    → replies_in name (written_by w before (event_or_bad name o)) ≡ line_text (guest name) (lone_reply (slots_now w before name) o) ∷ []
-own_written w before name None facts = let e = begins_own name (reply_text (refused 401)) facts.no_colon in rw e
-own_written w before name (Some event) facts = let e = begins_own name (reply_text (answer (slots_now w before name) event)) facts.no_colon in rw e
+own_written : (w : WorldNow) (name : Text) (o : Option Event) → NameFacts name
+    → replies_in name (written_by w (event_or_bad name o)) ≡ line_text (guest name) (lone_reply (lone_of w.guests name) o) ∷ []
+own_written w name None facts = let e = begins_own name (reply_text (refused 401)) facts.no_colon in rw e
+own_written w name (Some event) facts = let e = begins_own name (reply_text (answer (lone_of w.guests name) event)) facts.no_colon in rw e
+
+own_after : (w : WorldNow) (name : Text) (o : Option Event) → has w.guests name ≡ true → lone_of (after_meaning w (event_or_bad name o)).guests name ≡ after_own (lone_of w.guests name) o
+own_after w name None h = refl
+own_after w name (Some e) h =
+    let same = same_text name in
+    lone_with (guest_after e) (λ g. after_event g e) (λ t. refl) (λ t. refl) name name w.guests h ∙ rw same refl
 
 -- ---- a line of another
 
--- what it means has nothing to do with the name
 abbrev Foreign : Text → Meaning → Type 0
 Foreign name nothing = Unit {0}
 Foreign name (guest_event n e) = (bytes_eq name n ≡ false) × (lacks 58 n ≡ true)
 Foreign name (host_read r) = Unit {0}
+Foreign name (host_move m) = Unit {0}
 Foreign name (bad (guest n) k) = (bytes_eq name n ≡ false) × (lacks 58 n ≡ true)
 Foreign name (bad host k) = Unit {0}
 Foreign name (bad nobody k) = Unit {0}
@@ -86,17 +174,17 @@ foreign_event : (name n : Text) (o : Option Event) → bytes_eq name n ≡ false
 foreign_event name n None h k = (h, k)
 foreign_event name n (Some e) h k = (h, k)
 
-foreign_read : (name : Text) (o : Option HostRead) → Foreign name (read_or_bad o)
-foreign_read name None = tt
-foreign_read name (Some r) = tt
+foreign_host : (name : Text) (o : Option HostRead) (m : Option Move) → Foreign name (read_or_move o m)
+foreign_host name None None = tt
+foreign_host name None (Some m) = tt
+foreign_host name (Some r) m = tt
 
--- by the three tests that `meaning_of_words` makes of the first word
-foreign_cases : (name n : Text) (e : Option Event) (r : Option HostRead) (c h g : Bool) → bytes_eq name n ≡ false → (g ≡ true → lacks 58 n ≡ true)
-    → Foreign name (cond c nothing (cond h (read_or_bad r) (cond g (event_or_bad n e) (bad nobody 402))))
-foreign_cases name n e r true h g d k = tt
-foreign_cases name n e r false true g d k = foreign_read name r
-foreign_cases name n e r false false true d k = foreign_event name n e d (k refl)
-foreign_cases name n e r false false false d k = tt
+foreign_cases : (name n : Text) (e : Option Event) (r : Option HostRead) (m : Option Move) (c h g : Bool) → bytes_eq name n ≡ false → (g ≡ true → lacks 58 n ≡ true)
+    → Foreign name (cond c nothing (cond h (read_or_move r m) (cond g (event_or_bad n e) (bad nobody 402))))
+foreign_cases name n e r m true h g d k = tt
+foreign_cases name n e r m false true g d k = foreign_host name r m
+foreign_cases name n e r m false false true d k = foreign_event name n e d (k refl)
+foreign_cases name n e r m false false false d k = tt
 
 other_way : (a b : Text) → bytes_eq a b ≡ false → bytes_eq b a ≡ false
 other_way a b h = other_cases (bytes_eq b a) refl
@@ -111,7 +199,7 @@ foreign_words : (ns : List Text) (name : Text) (ws : List Text) → Each (λ m. 
     → Foreign name (meaning_of_words ns ws)
 foreign_words ns name [] all first = tt
 foreign_words ns name (w ∷ ws) all first =
-    foreign_cases name w (event_of ws) (host_read_of ws) (is_comment w) (bytes_eq w (codes "host")) (has_name ns w) (other_way w name first) (λ h. (named_facts ns w all h).no_colon)
+    foreign_cases name w (event_of ws) (host_read_of ws) (move_of ns ws) (is_comment w) (bytes_eq w (codes "host")) (has_name ns w) (other_way w name first) (λ h. (named_facts ns w all h).no_colon)
 
 foreign_long : (ns : List Text) (name : Text) (ws : List Text) (long : Bool) → Each (λ m. IsTrue (is_name m)) ns → (not long && has_first_word name ws) ≡ false
     → Foreign name (cond long (bad nobody 403) (meaning_of_words ns ws))
@@ -121,81 +209,128 @@ foreign_long ns name ws false all own = foreign_words ns name ws all own
 foreign_line : (ns : List Text) (name l : Text) → Each (λ m. IsTrue (is_name m)) ns → is_own_line name l ≡ false → Foreign name (meaning ns l)
 foreign_line ns name l all own = foreign_long ns name (words l) (is_long l) all own
 
-no_event : (name : Text) (m : Meaning) → Foreign name m → event_by name m ≡ None
-no_event name nothing f = refl
-no_event name (guest_event n e) f = let other : bytes_eq n name ≡ false = other_way name n f.0 in rw other
-no_event name (host_read r) f = refl
-no_event name (bad who k) f = refl
-
 other_line : (name n r : Text) → lacks 58 name ≡ true → lacks 58 n ≡ true → bytes_eq name n ≡ false → replies_in name (((n ++ codes ": ") ++ r) ∷ []) ≡ []
 other_line name n r h k d = let e : starts_with eqb ((n ++ codes ": ") ++ r) (name ++ codes ": ") ≡ false = begins n name r k h ∙ d in rw e
 
-nothing_written : (w : World) (before : List Text) (name : Text) (m : Meaning) → NameFacts name → Foreign name m → replies_in name (written_by w before m) ≡ []
-nothing_written w before name nothing facts f = refl
-nothing_written w before name (guest_event n e) facts f = other_line name n (reply_text (answer (slots_now w before n) e)) facts.no_colon f.1 f.0
-nothing_written w before name (host_read r) facts f = other_line name (codes "host") (reply_text (host_answer (agreed_state w (slots_now w before)) r)) facts.no_colon refl facts.not_host
-nothing_written w before name (bad (guest n) k) facts f = other_line name n (reply_text (refused k)) facts.no_colon f.1 f.0
-nothing_written w before name (bad host k) facts f = other_line name (codes "host") (reply_text (refused k)) facts.no_colon refl facts.not_host
-nothing_written w before name (bad nobody k) facts f = other_line name (codes "?") (reply_text (refused k)) facts.no_colon refl facts.not_nobody
+nothing_written : (w : WorldNow) (name : Text) (m : Meaning) → NameFacts name → Foreign name m → replies_in name (written_by w m) ≡ []
+nothing_written w name nothing facts f = refl
+nothing_written w name (guest_event n e) facts f = other_line name n (reply_text (answer (lone_of w.guests n) e)) facts.no_colon f.1 f.0
+nothing_written w name (host_read r) facts f = other_line name (codes "host") (reply_text (host_reply w r)) facts.no_colon refl facts.not_host
+nothing_written w name (host_move m) facts f = other_line name (codes "host") (reply_text (move_reply w.guests m)) facts.no_colon refl facts.not_host
+nothing_written w name (bad (guest n) k) facts f = other_line name n (reply_text (refused k)) facts.no_colon f.1 f.0
+nothing_written w name (bad host k) facts f = other_line name (codes "host") (reply_text (refused k)) facts.no_colon refl facts.not_host
+nothing_written w name (bad nobody k) facts f = other_line name (codes "?") (reply_text (refused k)) facts.no_colon refl facts.not_nobody
+
+other_after : (w : WorldNow) (name : Text) (m : Meaning) → has w.guests name ≡ true → Foreign name m
+    → lone_of (after_meaning w m).guests name ≡ after_inputs (lone_of w.guests name) (inputs_of_meaning name w.guests m)
+other_after w name nothing h f = refl
+other_after w name (guest_event n e) h f =
+    let other : bytes_eq n name ≡ false = other_way name n f.0 in
+    lone_with (guest_after e) (λ g. after_event g e) (λ t. refl) (λ t. refl) n name w.guests h ∙ rw other refl
+other_after w name (host_read r) h f = refl
+other_after w name (host_move m) h f = cases (is_some (move_fault w.guests m)) refl
+  where
+    cases : (t : Bool) → is_some (move_fault w.guests m) ≡ t → lone_of (after_move w.guests m) name ≡ after_inputs (lone_of w.guests name) (inputs_of_meaning name w.guests (host_move m))
+    cases true e = rw e refl
+    cases false e = rw e (touched name m (path_in w.guests m.from m.slot) (function_in w.guests m.from m.slot) w.guests h)
+other_after w name (bad who n) h f = refl
+
+other_is_silent : (gs : GuestsNow) (name : Text) (m : Meaning) (g : LoneGuest) (more : List Input)
+    → lone_output name g (inputs_of_meaning name gs m ++ more) ≡ lone_output name (after_inputs g (inputs_of_meaning name gs m)) more
+other_is_silent gs name nothing g more = refl
+other_is_silent gs name (guest_event n e) g more = refl
+other_is_silent gs name (host_read r) g more = refl
+other_is_silent gs name (host_move m) g more = cases (is_some (move_fault gs m)) refl
+  where
+    cases : (t : Bool) → is_some (move_fault gs m) ≡ t
+        → lone_output name g (inputs_of_meaning name gs (host_move m) ++ more) ≡ lone_output name (after_inputs g (inputs_of_meaning name gs (host_move m))) more
+    cases true e = rw e refl
+    cases false e = rw e (moves_are_silent name m (function_in gs m.from m.slot) g more)
+other_is_silent gs name (bad who n) g more = refl
+
+keeps_meaning : (w : WorldNow) (m : Meaning) (name : Text) → has (after_meaning w m).guests name ≡ has w.guests name
+keeps_meaning w nothing name = refl
+keeps_meaning w (guest_event n e) name = has_with (guest_after e) (λ t. refl) n name w.guests
+keeps_meaning w (host_read r) name = refl
+keeps_meaning w (host_move m) name = cases (is_some (move_fault w.guests m)) refl
+  where
+    cases : (t : Bool) → is_some (move_fault w.guests m) ≡ t → has (after_move w.guests m) name ≡ has w.guests name
+    cases true e = rw e refl
+    cases false e = rw e (keeps_move m (path_in w.guests m.from m.slot) (function_in w.guests m.from m.slot) w.guests name)
+keeps_meaning w (bad who n) name = refl
+
+-- ---- all lines
+
+after_inputs-append : (xs ys : List Input) (g : LoneGuest) → after_inputs g (xs ++ ys) ≡ after_inputs (after_inputs g xs) ys
+after_inputs-append [] ys g = refl
+after_inputs-append (x ∷ xs) ys g = after_inputs-append xs ys (after_input g x)
+
+-- what is fixed along a script: the names, and that this is one of them
+module _ (ns : List Text) (name : Text) (lawful : Each (λ n. IsTrue (is_name n)) ns) (facts : NameFacts name) (k : has_name ns name ≡ true) where
+  abbrev Stands : WorldNow → Type 0
+  Stands w = (names_now w ≡ ns) × (has w.guests name ≡ true)
+
+  stands_after : (w : WorldNow) (l : Text) → Stands w → Stands (after_line w l)
+  stands_after w l h = (names_stay w l ∙ h.0, keeps_meaning w (meaning (names_now w) l) name ∙ h.1)
+
+  own_means : (w : WorldNow) → Stands w → (l : Text) → is_own_line name l ≡ true → meaning (names_now w) l ≡ event_or_bad name (lone_event l)
+  own_means w h l e = ap (λ (x : List Text). meaning x l) h.0 ∙ own_meaning ns name l facts k e
+
+  other_means : (w : WorldNow) → Stands w → (l : Text) → is_own_line name l ≡ false → Foreign name (meaning (names_now w) l)
+  other_means w h l e = subst (λ (x : List Text). Foreign name (meaning x l)) (sym h.0) (foreign_line ns name l lawful e)
+
+  after_inputs_of : (w : WorldNow) → Stands w → (l : Text) (own : Bool) → is_own_line name l ≡ own
+      → lone_of (after_line w l).guests name ≡ after_inputs (lone_of w.guests name) (cond own (own_line l ∷ []) (inputs_of_meaning name w.guests (meaning (names_now w) l)))
+  after_inputs_of w h l true e = ap (λ (m : Meaning). lone_of (after_meaning w m).guests name) (own_means w h l e) ∙ own_after w name (lone_event l) h.1
+  after_inputs_of w h l false e = other_after w name (meaning (names_now w) l) h.1 (other_means w h l e)
+
+  replies_from : (ls : List Text) (w : WorldNow) → Stands w → replies_in name (written_along w ls) ≡ lone_output name (lone_of w.guests name) (inputs w name ls)
+  replies_from [] w h = refl
+  replies_from (l ∷ ls) w h =
+      filter-append (λ t. starts_with eqb t (name ++ codes ": ")) (written_by w (meaning (names_now w) l)) (written_along (after_line w l) ls)
+      ∙ step (is_own_line name l) refl (replies_from ls (after_line w l) (stands_after w l h))
+    where
+      step : (own : Bool) → is_own_line name l ≡ own
+          → replies_in name (written_along (after_line w l) ls) ≡ lone_output name (lone_of (after_line w l).guests name) (inputs (after_line w l) name ls)
+          → replies_in name (written_by w (meaning (names_now w) l)) ++ replies_in name (written_along (after_line w l) ls)
+          ≡ lone_output name (lone_of w.guests name) (cond own (own_line l ∷ []) (inputs_of_meaning name w.guests (meaning (names_now w) l)) ++ inputs (after_line w l) name ls)
+      step true e rest =
+          let line = ap (λ (x : Meaning). replies_in name (written_by w x)) (own_means w h l e) ∙ own_written w name (lone_event l) facts in
+          ap (λ (x : List Text). x ++ replies_in name (written_along (after_line w l) ls)) line
+          ∙ ap (λ (x : List Text). line_text (guest name) (lone_reply (lone_of w.guests name) (lone_event l)) ∷ x)
+          (rest ∙ ap (λ (g : LoneGuest). lone_output name g (inputs (after_line w l) name ls)) (after_inputs_of w h l true e))
+      step false e rest =
+          ap (λ (x : List Text). x ++ replies_in name (written_along (after_line w l) ls)) (nothing_written w name (meaning (names_now w) l) facts (other_means w h l e))
+          ∙ rest ∙ ap (λ (g : LoneGuest). lone_output name g (inputs (after_line w l) name ls)) (after_inputs_of w h l false e)
+          ∙ sym (other_is_silent w.guests name (meaning (names_now w) l) (lone_of w.guests name) (inputs (after_line w l) name ls))
+
+  holds_from : (ls : List Text) (w : WorldNow) → Stands w → lone_of (after_lines w ls).guests name ≡ after_inputs (lone_of w.guests name) (inputs w name ls)
+  holds_from [] w h = refl
+  holds_from (l ∷ ls) w h =
+      holds_from ls (after_line w l) (stands_after w l h)
+      ∙ ap (λ (g : LoneGuest). after_inputs g (inputs (after_line w l) name ls)) (after_inputs_of w h l (is_own_line name l) refl)
+      ∙ sym (after_inputs-append (inputs_of_line w name l) (inputs (after_line w l) name ls) (lone_of w.guests name))
 
 -- ---- the whole script
 
--- an own line does to the guest's slots what it does in a world of no one else, and a line of another does nothing
-slots_by_line : (w : World) (name : Text) → HasLawfulNames w → NameFacts name → has_name (names w) name ≡ true → (before : List Text) (l : Text) (own : Bool) → is_own_line name l ≡ own
-    → slots_now w (before ++ l ∷ []) name ≡ cond own (lone_after (slots_now w before name) (lone_event l)) (slots_now w before name)
-slots_by_line w name lawful facts h before l true e =
-    slots_step w name before l
-    ∙ ap (λ (x : Meaning). lone_after (slots_now w before name) (event_by name x)) (own_meaning (names w) name l facts h e)
-    ∙ ap (lone_after (slots_now w before name)) (event_of_own name (lone_event l))
-slots_by_line w name lawful facts h before l false e =
-    slots_step w name before l
-    ∙ ap (lone_after (slots_now w before name)) (no_event name (meaning (names w) l) (foreign_line (names w) name l lawful e))
-
-replies_from : (w : World) (name : Text) → HasLawfulNames w → NameFacts name → has_name (names w) name ≡ true → (before ls : List Text)
-    → replies_in name (output_after w before ls) ≡ lone_output name (slots_now w before name) (own_lines name ls)
-replies_from w name lawful facts h before [] = refl
-replies_from w name lawful facts h before (l ∷ ls) =
-    filter-append (λ t. starts_with eqb t (name ++ codes ": ")) (written_by w before (meaning (names w) l)) (output_after w (before ++ l ∷ []) ls)
-    ∙ step (is_own_line name l) refl (replies_from w name lawful facts h (before ++ l ∷ []) ls)
-  where
-    step : (own : Bool) → is_own_line name l ≡ own
-        → replies_in name (output_after w (before ++ l ∷ []) ls) ≡ lone_output name (slots_now w (before ++ l ∷ []) name) (own_lines name ls)
-        → replies_in name (written_by w before (meaning (names w) l)) ++ replies_in name (output_after w (before ++ l ∷ []) ls)
-        ≡ lone_output name (slots_now w before name) (cond own (l ∷ own_lines name ls) (own_lines name ls))
-    step true e rest =
-        let m = own_meaning (names w) name l facts h e in
-        let line = ap (λ (x : Meaning). replies_in name (written_by w before x)) m ∙ own_written w before name (lone_event l) facts in
-        ap (λ (x : List Text). x ++ replies_in name (output_after w (before ++ l ∷ []) ls)) line
-        ∙ ap (λ (x : List Text). line_text (guest name) (lone_reply (slots_now w before name) (lone_event l)) ∷ x)
-        (rest ∙ ap (λ (s : Slots). lone_output name s (own_lines name ls)) (slots_by_line w name lawful facts h before l true e))
-    step false e rest =
-        ap (λ (x : List Text). x ++ replies_in name (output_after w (before ++ l ∷ []) ls)) (nothing_written w before name (meaning (names w) l) facts (foreign_line (names w) name l lawful e))
-        ∙ (rest ∙ ap (λ (s : Slots). lone_output name s (own_lines name ls)) (slots_by_line w name lawful facts h before l false e))
-
-files_from : (w : World) (name : Text) → HasLawfulNames w → NameFacts name → has_name (names w) name ≡ true → (before ls : List Text)
-    → slots_now w (before ++ ls) name ≡ lone_after_lines (slots_now w before name) (own_lines name ls)
-files_from w name lawful facts h before [] = ap (λ (t : List Text). slots_now w t name) (append-nil before)
-files_from w name lawful facts h before (l ∷ ls) =
-    ap (λ (t : List Text). slots_now w t name) (sym (append_assoc before (l ∷ []) ls))
-    ∙ files_from w name lawful facts h (before ++ l ∷ []) ls
-    ∙ step (is_own_line name l) refl
-  where
-    step : (own : Bool) → is_own_line name l ≡ own
-        → lone_after_lines (slots_now w (before ++ l ∷ []) name) (own_lines name ls) ≡ lone_after_lines (slots_now w before name) (cond own (l ∷ own_lines name ls) (own_lines name ls))
-    step true e = ap (λ (s : Slots). lone_after_lines s (own_lines name ls)) (slots_by_line w name lawful facts h before l true e)
-    step false e = ap (λ (s : Slots). lone_after_lines s (own_lines name ls)) (slots_by_line w name lawful facts h before l false e)
-
 pub isolated : Isolated
 isolated w lawful name script h =
+    let now : WorldNow = world_at_first w in
     let facts : NameFacts name = named_facts (names w) name lawful h in
+    let there : has now.guests name ≡ true = has_first w.guests w name ∙ h in
+    let same : names_now now ≡ names w = names_at_first w in
+    let first = first_lone w w.guests name in
     record {
-      replies = ap (replies_in name) (lines_of_output w lawful script) ∙ replies_from w name lawful facts h [] (lines script);
-      files = files_from w name lawful facts h [] (lines script);
+      replies = ap (replies_in name) (lines_written now (names w) lawful same (lines script))
+          ∙ replies_from (names w) name lawful facts h (lines script) now (same, there)
+          ∙ ap (λ (g : LoneGuest). lone_output name g (inputs now name (lines script))) first;
+      holds = holds_from (names w) name lawful facts h (lines script) now (same, there)
+          ∙ ap (λ (g : LoneGuest). after_inputs g (inputs now name (lines script))) first;
     }
 
 pub two_worlds_lem : TwoWorlds
 two_worlds_lem name v w s t lawful_v lawful_w agree =
     (isolated v lawful_v name s agree.in_first).replies
-    ∙ ap (λ (ds : List (Option Endpoint)). lone_output name (reset_slots ds) (own_lines name (lines s))) agree.declarations
-    ∙ ap (λ (ls : List Text). lone_output name (reset_slots (declarations w name)) ls) agree.lines
+    ∙ ap (λ (ds : List (Option Endpoint)). lone_output name (reset_guest ds) (inputs (world_at_first v) name (lines s))) agree.declarations
+    ∙ ap (λ (is : List Input). lone_output name (reset_guest (declarations w name)) is) agree.inputs
     ∙ sym (isolated w lawful_w name t agree.in_second).replies

@@ -37,7 +37,7 @@ one_more : (l rest : Text) → (l ++ 10 ∷ []) ++ rest ≡ l ++ 10 ∷ rest
 one_more [] rest = refl
 one_more (c ∷ cs) rest = ap (λ t. c ∷ t) (one_more cs rest)
 
-lines_again : (ls : List Text) → Each (λ l. lacks 10 l ≡ true) ls → lines (text_of_lines ls) ≡ ls
+pub lines_again : (ls : List Text) → Each (λ l. lacks 10 l ≡ true) ls → lines (text_of_lines ls) ≡ ls
 lines_again [] all = refl
 lines_again (l ∷ ls) all =
     ap lines (one_more l (text_of_lines ls)) ∙ first_line l (text_of_lines ls) all.0 ∙ ap (λ more. l ∷ more) (lines_again ls all.1)
@@ -74,7 +74,7 @@ words_one_line : (n : ℕ) → lacks 10 (refusal_words n) ≡ true
 words_one_line n =
     either (eqb n 301) (codes "misaligned") _ refl (either (eqb n 302) (codes "width") _ refl (either (eqb n 303) (codes "range") _ refl
     (either (eqb n 401) (codes "bad line") _ refl (either (eqb n 402) (codes "unknown guest") _ refl (either (eqb n 403) (codes "long line") _ refl
-    (either (eqb n 601) (codes "empty slot") (codes "slot taken") refl refl))))))
+    (either (eqb n 601) (codes "empty slot") _ refl (either (eqb n 602) (codes "slot taken") [] refl refl)))))))
 
 reply_one_line : (r : Reply) → lacks 10 (reply_text r) ≡ true
 reply_one_line (answered v w) = hex_one_line (2 * w) v
@@ -85,7 +85,7 @@ reply_one_line (refused n) =
 
 -- ---- lines
 
-line_one_line : (who : Who) (r : Reply) → lacks 10 (who_text who) ≡ true → lacks 10 (line_text who r) ≡ true
+pub line_one_line : (who : Who) (r : Reply) → lacks 10 (who_text who) ≡ true → lacks 10 (line_text who r) ≡ true
 line_one_line who r h = lacks_append 10 (who_text who ++ codes ": ") (reply_text r) (lacks_append 10 (who_text who) (codes ": ") h refl) (reply_one_line r)
 
 -- whoever a meaning tells has a name of one line

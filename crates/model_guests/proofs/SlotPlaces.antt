@@ -18,7 +18,7 @@ use Rattle.model_guests.specs.AgreementLaws.{places_of}
 
 -- ---- a change of cells leaves the places
 
-changed_places : (f : Cell → Cell) (p : Place) (file : File) → places_of (changed f p file) ≡ places_of file
+pub changed_places : (f : Cell → Cell) (p : Place) (file : File) → places_of (changed f p file) ≡ places_of file
 changed_places f p [] = refl
 changed_places f p (e ∷ es) = ap₂ (λ (q : Place) (qs : List Place). q ∷ qs) (here (place_eq e.place p)) (changed_places f p es)
   where
@@ -26,7 +26,7 @@ changed_places f p (e ∷ es) = ap₂ (λ (q : Place) (qs : List Place). q ∷ q
     here true = refl
     here false = refl
 
-written_places : (ons : List Bool) (v : ℕ) (p : Place) (file : File) → places_of (write ons v p file) ≡ places_of file
+pub written_places : (ons : List Bool) (v : ℕ) (p : Place) (file : File) → places_of (write ons v p file) ≡ places_of file
 written_places [] v p file = refl
 written_places (on ∷ ons) v p file = written_places ons (v / 256) (after p) (cond on (changed (written (v % 256)) p file) file) ∙ here on
   where
@@ -45,24 +45,24 @@ places_at f = seen_by places_of f
 abbrev pub slot_places : Slots → List (Option (List Place))
 slot_places slots = map places_at slots
 
-set_places : (slots : Slots) (n : ℕ) (f g : Function) → slot_at slots n ≡ Some f → places_of g.file ≡ places_of f.file → slot_places (slice_set slots n (Some g)) ≡ slot_places slots
+pub set_places : (slots : Slots) (n : ℕ) (f g : Function) → slot_at slots n ≡ Some f → places_of g.file ≡ places_of f.file → slot_places (slice_set slots n (Some g)) ≡ slot_places slots
 set_places [] n f g there same = cc
 set_places (s ∷ ss) zero f g there same = ap (λ (o : Option (List Place)). o ∷ slot_places ss) (ap (λ (ps : List Place). Some ps) same ∙ sym (ap places_at there))
 set_places (s ∷ ss) (suc n) f g there same = ap (λ (ps : List (Option (List Place))). places_at s ∷ ps) (set_places ss n f g there same)
 
-with_file_places : (change : File → File) → ((file : File) → places_of (change file) ≡ places_of file) → (n : ℕ) (slots : Slots) → slot_places (with_file change n slots) ≡ slot_places slots
+pub with_file_places : (change : File → File) → ((file : File) → places_of (change file) ≡ places_of file) → (n : ℕ) (slots : Slots) → slot_places (with_file change n slots) ≡ slot_places slots
 with_file_places change stay n slots = cases (slot_at slots n) refl
   where
     cases : (o : Option Function) → slot_at slots n ≡ o → slot_places (option_map_or (λ (f : Function). slice_set slots n (Some (record f { file = change f.file }))) o slots) ≡ slot_places slots
     cases None e = refl
     cases (Some f) e = set_places slots n f (record f { file = change f.file }) e (stay f.file)
 
-effect_places : (op : Op) (w : ℕ) (slots : Slots) (l : Option Landing) → slot_places (effect op w slots l) ≡ slot_places slots
+pub effect_places : (op : Op) (w : ℕ) (slots : Slots) (l : Option Landing) → slot_places (effect op w slots l) ≡ slot_places slots
 effect_places reads w slots l = refl
 effect_places (writes v) w slots None = refl
 effect_places (writes v) w slots (Some l) = with_file_places (write (all_bytes w) v l.place) (written_places (all_bytes w) v l.place) l.slot slots
 
-affected_places : (slots : Slots) (e : Event) → slot_places (affected slots e) ≡ slot_places slots
+pub affected_places : (slots : Slots) (e : Event) → slot_places (affected slots e) ≡ slot_places slots
 affected_places slots (access a) = effect_places a.op a.width slots (landing slots a.target)
 affected_places slots (raises r) = cases (raise_landing (slot_at slots r.slot) r)
   where

@@ -130,7 +130,7 @@ alike_tables d multifunction command bases registers =
 -- ---- a file at reset, put into the table that set-up left
 
 -- where no place stands twice, each entry is found by its place
-found_entries : (file : File) → HasDistinctPlaces file → Each (λ e. cell_at file e.place ≡ e.cell) file
+pub found_entries : (file : File) → HasDistinctPlaces file → Each (λ e. cell_at file e.place ≡ e.cell) file
 found_entries [] distinct = tt
 found_entries (e ∷ es) distinct = (rw (place_self e.place), later es distinct.0 (found_entries es distinct.1))
   where

@@ -1,17 +1,16 @@
--- The one register state of the board that agrees with the guests' files.
+-- The one register state of the board that agrees with the guests' files, where functions are not moved; `AgreedBoard` has moves.
 --     file_in, guest_file      the guest's file of the function at a path
---     agreed_file      the cells of a function in a slot
 --     with_files, agreed_state      the state of the whole board
 use Rattle.std.specs.Prelude.{List, [], ◌∷◌, if◌then◌else◌, Option, Some, None, map}
 use Rattle.std.specs.Option.{option_map_or}
 use Rattle.model_registers.specs.Lists.{first_some}
-use Rattle.model_registers.specs.Registers.{Entry, File, cell_at}
+use Rattle.model_registers.specs.Registers.{File}
 use Rattle.model_registers.specs.Decoding.{Function}
 use Rattle.model_board.specs.Paths.{Path, path_eq}
 use Rattle.model_board.specs.State.{BoardFunction, State}
 use Rattle.model_board.specs.SetUp.{set_up_state}
 use Rattle.model_guests.specs.LoneGuest.{Slots}
-use Rattle.model_guests.specs.OwnCopies.{is_own}
+pub use Rattle.model_guests.specs.Files.{agreed_file}
 use Rattle.model_guests.specs.Text.{Text}
 use Rattle.model_guests.specs.World.{Guest, World}
 
@@ -24,10 +23,6 @@ file_in (q ∷ qs) (f ∷ fs) p = if path_eq q p then option_map_or (λ (g : Fun
 -- the file of the guest that has the function in a slot; `slots` says what each guest's slots hold
 abbrev pub guest_file : World → (Text → Slots) → Path → Option File
 guest_file w slots p = first_some (λ (g : Guest). file_in g.slots (slots g.name) p) w.guests
-
--- the registers of which the guest has a copy are as set-up left them, and all other cells are those of the guest's file
-abbrev pub agreed_file : File → File → File
-agreed_file left own = map (λ (e : Entry). if is_own e.place then e else record e { cell = cell_at own e.place }) left
 
 abbrev pub agreed_function : World → (Text → Slots) → BoardFunction → BoardFunction
 agreed_function w slots f = option_map_or (λ (own : File). record f { file = agreed_file f.file own }) (guest_file w slots f.path) f

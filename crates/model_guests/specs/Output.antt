@@ -1,10 +1,8 @@
--- What a script writes: each guest's replies are those of its own functions alone, and a host read shows the board.
+-- What a script writes where guests have no address latch and functions are not moved; `WorldNow` has both.
 --     slots_now      a guest's slots after the lines so far
 --     output      the text that a script writes
---     reply_lines      the lines of a text that speak to a guest
 --     lone_lines, lone_slots      what a guest's own lines write over its own functions alone, and what they leave there
-use Rattle.std.specs.Prelude.{List, [], ◌∷◌, ◌==◌, if◌then◌else◌, ◌++◌, Option, Some, None, filter, drop, codes, filter_map}
-use Rattle.std.specs.List.{starts_with}
+use Rattle.std.specs.Prelude.{List, [], ◌∷◌, if◌then◌else◌, ◌++◌, Option, Some, None, drop, codes, filter_map}
 use Rattle.std.specs.Str.{bytes_eq}
 use Rattle.model_guests.specs.Accesses.{Event, Reply, refused}
 use Rattle.model_guests.specs.LoneGuest.{Slots, answer, after_event, slots_after, reset_slots}
@@ -14,6 +12,7 @@ use Rattle.model_guests.specs.World.{World, names, declarations}
 use Rattle.model_guests.specs.Agreement.{agreed_state}
 use Rattle.model_guests.specs.HostReads.{host_answer}
 use Rattle.model_guests.specs.Replies.{line_text}
+pub use Rattle.model_guests.specs.Replies.{reply_lines}
 
 abbrev pub event_by : Text → Meaning → Option Event
 event_by name nothing = None
@@ -44,10 +43,6 @@ output_lines w script = output_after w [] (lines script)
 
 abbrev pub output : World → Text → Text
 output w script = text_of_lines (output_lines w script)
-
--- the lines of a text that begin with the name, a colon and a space
-abbrev pub reply_lines : Text → Text → List Text
-reply_lines name text = filter (λ l. starts_with ◌==◌ l (name ++ codes ": ")) (lines text)
 
 -- the reply to an own line, and the slots after it; a line that is no event is a bad line
 abbrev pub lone_reply : Slots → Option Event → Reply

@@ -2,10 +2,12 @@
 --     hex_digits      a number in a fixed count of lower-case digits
 --     refusal_words      what each number of a refusal says
 --     reply_text, line_text      a reply; a reply under the name of who is told
-use Rattle.std.specs.Prelude.{[], ◌∷◌, ℕ, zero, suc, ◌*◌, ◌/◌, ◌%◌, false, ◌==◌, if◌then◌else◌, ◌++◌, codes, decimal}
+--     reply_lines      the lines of a text that speak to a guest
+use Rattle.std.specs.Prelude.{List, [], ◌∷◌, ℕ, zero, suc, ◌*◌, ◌/◌, ◌%◌, false, ◌==◌, if◌then◌else◌, ◌++◌, filter, codes, decimal}
 use Rattle.std.specs.Fmt.{digit_glyph}
+use Rattle.std.specs.List.{starts_with}
 use Rattle.model_guests.specs.Accesses.{Reply, answered, done, refused}
-use Rattle.model_guests.specs.Text.{Text}
+use Rattle.model_guests.specs.Text.{Text, lines}
 use Rattle.model_guests.specs.Grammar.{Who, guest, host, nobody}
 
 -- the lowest k hexadecimal digits of n
@@ -17,7 +19,7 @@ abbrev pub refusal_words : ℕ → Text
 refusal_words n =
     if n == 301 then codes "misaligned" else (if n == 302 then codes "width" else (if n == 303 then codes "range"
     else (if n == 401 then codes "bad line" else (if n == 402 then codes "unknown guest" else (if n == 403 then codes "long line"
-    else (if n == 601 then codes "empty slot" else codes "slot taken"))))))
+    else (if n == 601 then codes "empty slot" else (if n == 602 then codes "slot taken" else [])))))))
 
 abbrev pub reply_text : Reply → Text
 reply_text (answered v w) = codes "0x" ++ hex_digits (2 * w) v
@@ -31,3 +33,7 @@ who_text nobody = codes "?"
 
 abbrev pub line_text : Who → Reply → Text
 line_text who r = who_text who ++ codes ": " ++ reply_text r
+
+-- they begin with the name, a colon and a space
+abbrev pub reply_lines : Text → Text → List Text
+reply_lines name text = filter (λ l. starts_with ◌==◌ l (name ++ codes ": ")) (lines text)

@@ -1,4 +1,4 @@
--- Isolation: what a guest is told, and what its functions hold, depends on its own functions and lines alone.
+-- Isolation where guests have no address latch and functions are not moved; `Isolation` has both.
 --     IsIsolated      each guest's replies and files are those of its own lines over its own functions
 --     AgreeOn, TwoWorlds      boards and scripts that agree on a guest's functions and lines give it equal reply lines
 use Rattle.std.specs.Prelude.{◌≡◌, IsTrue}

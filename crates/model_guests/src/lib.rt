@@ -1,38 +1,81 @@
 //! What guests, their scripts and replies are, as definitions, and laws about them.
 #![tactic(auto)]
 
-ghost use Rattle.model_guests.specs.AgreementLaws.{AgreedStateAgrees, AgreedStateIsOnly, AgreesAtReset, ChangesOneFunction, CopiesNeverRise, RaisesAlike, WritesAlike};
-ghost use Rattle.model_guests.specs.Worlds.{Isolated, TwoWorlds};
+ghost use Rattle.model_guests.specs.Isolation.{Isolated, IsolatedByOwnLines, OwnLinesAlone, TwoWorlds, TwoWorldsByOwnLines};
+ghost use Rattle.model_guests.specs.Seated.{ByIndex, NamesAlong, NamesStay, SeatedAfterEvents, SeatedAfterMoves, SeatedAlong, SeatedAtFirst};
+ghost use Rattle.model_guests.specs.AgreedLaws.{AgreedStateAgrees, AgreedStateIsOnly, AgreesAtFirst, CopiesNeverRise, FileOfSeat, KeepsNumbers, KeepsRouting, ShowsFile};
+ghost use Rattle.model_guests.specs.ChangeLaws.{ChangesOneFunction, EventReachesBoard, LatchKeepsBoard, MoveResetsOneFunction, OneFile, RaisesAlike, ResetsAlike, WritesAlike};
+ghost use Rattle.model_guests.specs.ViewLaws.{ViewAgrees, ViewIsFile};
 
-/// To each guest a script's replies are those of its own functions, as lone register files, to its
-/// own lines alone, and these lines alone decide what the files hold.
+pub mod lone_slots;
+
+/// To each guest a script's replies, and what it then holds, are those of its own functions and
+/// latch alone, to its own lines and the moves that touch it.
 pub fn isolated()
     ensures { Isolated }
 {}
 
-/// Boards and scripts that agree on a guest's functions and lines give it equal reply lines.
+/// Worlds and scripts that agree on a guest's functions, lines and moves give it equal reply lines.
 pub fn two_worlds()
     ensures { TwoWorlds }
 {}
 
-/// Whatever the guests did, just one state of the board agrees with their files; before they did
-/// anything it is the state that set-up leaves.
+/// In a script without moves a guest's own lines alone decide.
+pub fn own_lines_decide()
+    ensures inputs { OwnLinesAlone }
+    ensures isolated { IsolatedByOwnLines }
+    ensures two_worlds { TwoWorldsByOwnLines }
+{}
+
+/// Whatever guests do and wherever functions are moved, each function that a guest has stands in one
+/// slot, as the endpoint of its path, and each guest keeps its name.
+pub fn guests_stay_seated()
+    ensures first { SeatedAtFirst }
+    ensures events { SeatedAfterEvents }
+    ensures moves { SeatedAfterMoves }
+    ensures along { SeatedAlong }
+    ensures names { NamesStay }
+    ensures names_along { NamesAlong }
+    ensures index { ByIndex }
+{}
+
+/// Just one state of the board agrees with the guests; before any event it is the one that set-up
+/// leaves.
 pub fn agreement_is_one()
     ensures agrees { AgreedStateAgrees }
     ensures is_only { AgreedStateIsOnly }
-    ensures at_reset { AgreesAtReset }
+    ensures first { AgreesAtFirst }
 {}
 
-/// When a guest's file changes, the agreed state changes at that function alone: a write or raise
-/// reaches it by the bytes of which the guest has no copy, and by no others.
+/// When a guest changes a function, the board changes there alone: a write, a raise or a reset reaches
+/// it by the bytes of which the guest has no copy, and by no others.
 pub fn agreement_follows()
     ensures writes { WritesAlike }
     ensures raises { RaisesAlike }
-    ensures one_function { ChangesOneFunction }
+    ensures resets { ResetsAlike }
+    ensures file { OneFile }
+    ensures function { ChangesOneFunction }
+    ensures latch { LatchKeepsBoard }
+    ensures moves { MoveResetsOneFunction }
+    ensures events { EventReachesBoard }
 {}
 
-/// No device raises bits of the registers of which a guest has copies: a raise there changes nothing
-/// in the guest's file either.
-pub fn copies_never_rise()
-    ensures { CopiesNeverRise }
+/// Whatever guests do, the board routes as set-up left it and keeps its bus numbers.
+pub fn agreement_keeps()
+    ensures routing { KeepsRouting }
+    ensures numbers { KeepsNumbers }
+{}
+
+/// Of the bytes of which a guest has no copy the board shows the guest's, and no device raises bits of
+/// the others.
+pub fn agreement_shows()
+    ensures shows { ShowsFile }
+    ensures copies { CopiesNeverRise }
+    ensures files { FileOfSeat }
+{}
+
+/// A guest's file is the board's with the guest's copies put in.
+pub fn view_is_file()
+    ensures file { ViewIsFile }
+    ensures agrees { ViewAgrees }
 {}

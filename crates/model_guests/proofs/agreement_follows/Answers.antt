@@ -1,6 +1,17 @@
 use Rattle.model_guests.proofs.AgreedFiles.{writes_alike, raises_alike}
-use Rattle.model_guests.proofs.AgreedChanges.{changes_one_function}
+use Rattle.model_guests.proofs.Changes.{one_file, changes_one_function, latch_keeps_board, resets_alike}
+use Rattle.model_guests.proofs.MovedFunctions.{move_resets_one_function}
+use Rattle.model_guests.proofs.Events.{event_reaches_board}
 use Rattle.model_guests.proofs.agreement_follows.Goals as goal
 
 pub returns : goal.returns
-returns c = record { writes = writes_alike; raises = raises_alike; one_function = changes_one_function }
+returns c = record {
+  writes = writes_alike;
+  raises = raises_alike;
+  resets = resets_alike;
+  file = one_file;
+  function = changes_one_function;
+  latch = latch_keeps_board;
+  moves = move_resets_one_function;
+  events = event_reaches_board;
+}

@@ -1,0 +1,105 @@
+-- Along a script guests stay seated, and keep their names.
+use Rattle.std.proofs.Common.{◌≡◌, ℕ, zero, suc, Bool, true, false, cond, List, [], ◌∷◌, Some, None, Option, refl, sym, ap, ap₂, ◌∙◌, subst}
+use Rattle.std.specs.Prelude.{map, slice_set, is_some, IsFalse}
+use Rattle.std.specs.Str.{bytes_eq}
+use Rattle.model_registers.specs.Decoding.{Function}
+use Rattle.model_board.specs.Paths.{Path}
+use Rattle.model_board.specs.Board.{Board}
+use Rattle.model_guests.specs.Text.{Text}
+use Rattle.model_guests.specs.World.{Guest, World, names}
+use Rattle.model_guests.specs.Guests.{GuestNow, GuestsNow, Move, function_in, guest_after, guest_at_first, guest_named, handed_over, move_fault, path_in, with_guest, with_slot_emptied, with_slot_filled}
+use Rattle.model_guests.specs.Lines.{Meaning, nothing, guest_event, host_read, host_move, bad, meaning}
+use Rattle.model_guests.specs.WorldNow.{WorldNow, world_at_first, names_of, names_now, after_meaning, after_line, after_lines}
+use Rattle.model_guests.specs.Seated.{AreSeated, ByIndex, NamesAlong, NamesStay, SeatedAlong}
+use Rattle.model_guests.proofs.ListFacts.{each_at}
+use Rattle.model_guests.proofs.Names.{same_text}
+use Rattle.model_guests.proofs.GuestFiles.{other_name}
+use Rattle.model_guests.proofs.GuestsByName.{Keeps, one_name}
+use Rattle.model_guests.proofs.Seats.{seated_after_events}
+use Rattle.model_guests.proofs.SeatedMoves.{seated_after_moves}
+use Rattle.model_guests.proofs.FoundFiles.{others_stay}
+
+seated_meaning : (w : WorldNow) (m : Meaning) → AreSeated w.board w.guests → AreSeated w.board (after_meaning w m).guests
+seated_meaning w nothing h = h
+seated_meaning w (guest_event name e) h = seated_after_events w.board w.guests h name e
+seated_meaning w (host_read r) h = h
+seated_meaning w (host_move m) h = seated_after_moves w.board w.guests h m
+seated_meaning w (bad who n) h = h
+
+-- no line changes the board
+board_stays : (w : WorldNow) (m : Meaning) → (after_meaning w m).board ≡ w.board
+board_stays w nothing = refl
+board_stays w (guest_event name e) = refl
+board_stays w (host_read r) = refl
+board_stays w (host_move m) = refl
+board_stays w (bad who n) = refl
+
+seated_on : (w : WorldNow) (ls : List Text) (b : Board) → w.board ≡ b → AreSeated b w.guests → AreSeated b (after_lines w ls).guests
+seated_on w [] b same h = h
+seated_on w (l ∷ ls) b same h =
+    let m : Meaning = meaning (names_now w) l in
+    seated_on (after_line w l) ls b (board_stays w m ∙ same)
+    (subst (λ (x : Board). AreSeated x (after_meaning w m).guests) same (seated_meaning w m (subst (λ (x : Board). AreSeated x w.guests) (sym same) h)))
+
+pub seated_along : SeatedAlong
+seated_along w h ls = seated_on w ls w.board refl h
+
+-- ---- names
+
+names_with : (f : GuestNow → GuestNow) → Keeps f → (n : Text) (gs : GuestsNow) → names_of (with_guest f n gs) ≡ names_of gs
+names_with f keeps n [] = refl
+names_with f keeps n (g ∷ gs) = ap₂ (λ (x : Text) (xs : List Text). x ∷ xs) (one_name f keeps n g) (names_with f keeps n gs)
+
+names_handed : (m : Move) (p : Option Path) (o : Option Function) (gs : GuestsNow) → names_of (handed_over m p o gs) ≡ names_of gs
+names_handed m p None gs = refl
+names_handed m p (Some f) gs =
+    names_with (with_slot_filled m.target p f.decl) (λ g. refl) m.to (with_guest (with_slot_emptied m.slot) m.from gs)
+    ∙ names_with (with_slot_emptied m.slot) (λ g. refl) m.from gs
+
+pub names_meaning : (w : WorldNow) (m : Meaning) → names_now (after_meaning w m) ≡ names_now w
+names_meaning w nothing = refl
+names_meaning w (guest_event name e) = names_with (guest_after e) (λ g. refl) name w.guests
+names_meaning w (host_read r) = refl
+names_meaning w (host_move m) = cases (is_some (move_fault w.guests m))
+  where
+    cases : (t : Bool) → names_of (cond t w.guests (handed_over m (path_in w.guests m.from m.slot) (function_in w.guests m.from m.slot) w.guests)) ≡ names_now w
+    cases true = refl
+    cases false = names_handed m (path_in w.guests m.from m.slot) (function_in w.guests m.from m.slot) w.guests
+names_meaning w (bad who n) = refl
+
+pub names_stay : NamesStay
+names_stay w l = names_meaning w (meaning (names_now w) l)
+
+names_lines : (ls : List Text) (w : WorldNow) → names_now (after_lines w ls) ≡ names_now w
+names_lines [] w = refl
+names_lines (l ∷ ls) w = names_lines ls (after_line w l) ∙ names_stay w l
+
+names_first : (w : World) (gs : List Guest) → names_of (map (guest_at_first w) gs) ≡ map (λ (g : Guest). g.name) gs
+names_first w [] = refl
+names_first w (g ∷ gs) = ap (λ (xs : List Text). g.name ∷ xs) (names_first w gs)
+
+pub names_at_first : (w : World) → names_now (world_at_first w) ≡ names w
+names_at_first w = names_first w w.guests
+
+pub names_along : NamesAlong
+names_along w ls = names_lines ls (world_at_first w) ∙ names_at_first w
+
+-- ---- by index
+
+abbrev IsThere : GuestsNow → ℕ → GuestNow → Type 0
+IsThere gs i g = (guest_named gs g.name ≡ Some g) × ((f : GuestNow → GuestNow) → with_guest f g.name gs ≡ slice_set gs i (f g))
+
+pub by_index : ByIndex
+by_index [] apart i g at = cc
+by_index (h ∷ hs) apart zero g at =
+    let same : h ≡ g = cc in
+    subst (IsThere (h ∷ hs) 0) same (
+      ap (λ v. cond v (Some h) (guest_named hs h.name)) (same_text h.name),
+      λ f. ap₂ (λ (x : GuestNow) (xs : GuestsNow). x ∷ xs) (ap (λ v. cond v (f h) h) (same_text h.name)) (others_stay f h.name hs apart.0),
+    )
+by_index (h ∷ hs) apart (suc i) g at =
+    let other : bytes_eq h.name g.name ≡ false = each_at (λ (v : GuestNow). IsFalse (bytes_eq h.name v.name)) hs i g apart.0 at in
+    let more = by_index hs apart.1 i g at in (
+      ap (λ v. cond v (Some h) (guest_named hs g.name)) other ∙ more.0,
+      λ f. ap₂ (λ (x : GuestNow) (xs : GuestsNow). x ∷ xs) (ap (λ v. cond v (f h) h) (other_name h.name g.name other)) (more.1 f),
+    )

@@ -1,0 +1,146 @@
+-- A change of one guest's function changes the board there, and nowhere else.
+use Rattle.std.proofs.Common.{◌≡◌, ℕ, Bool, true, false, cond, List, [], ◌∷◌, Some, None, Option, refl, sym, ap, ap₂, ◌∙◌}
+use Rattle.std.specs.Prelude.{map, option_map, IsFalse, IsSome}
+use Rattle.std.specs.Str.{bytes_eq}
+use Rattle.model_registers.specs.Registers.{Entry, File, cell_at}
+use Rattle.model_registers.specs.OwnCopies.{is_own}
+use Rattle.model_registers.specs.Decoding.{Function}
+use Rattle.model_registers.specs.EndpointTable.{endpoint_reset}
+use Rattle.model_board.specs.Paths.{Path, path_eq}
+use Rattle.model_board.specs.Board.{Board}
+use Rattle.model_board.specs.State.{BoardFunction}
+use Rattle.model_board.specs.SetUp.{set_up_state}
+use Rattle.model_board.proofs.PathOrder.{path_same}
+use Rattle.model_guests.specs.Slots.{Slots, slot_at, with_file}
+use Rattle.model_guests.specs.Text.{Text}
+use Rattle.model_guests.specs.Guests.{GuestNow, GuestsNow, file_in, file_of, function_in, guest_named, path_in, with_guest}
+use Rattle.model_guests.specs.Files.{agreed_file}
+use Rattle.model_guests.specs.AgreedBoard.{agreed_function, agreed_state, with_change_at}
+use Rattle.model_guests.specs.Seated.{AreSeated, IsSeat, IsSeatedGuest}
+use Rattle.model_guests.specs.ChangeLaws.{ChangesAlike, ChangesOneFunction, LatchKeepsBoard, OneFile, ResetsAlike, with_latch, with_slot_changed}
+use Rattle.model_guests.proofs.AgreedChanges.{changed_function, agreed_by, changed_here, unchanged}
+use Rattle.model_guests.proofs.GuestFiles.{path_turned, slot_set, with_file_there}
+use Rattle.model_guests.proofs.Names.{same_text}
+use Rattle.model_guests.proofs.GuestsByName.{path_at, one, named_with, found, path_of, function_of, function_named}
+use Rattle.model_guests.proofs.Seats.{paths_stay}
+use Rattle.model_guests.proofs.SeatedMoves.{seat_in}
+use Rattle.model_guests.proofs.FoundFiles.{file_beside, file_found, file_stays, NamesApart, PathsApart}
+
+-- ---- whatever tells the files
+
+module _ (own_change board_change : File → File) (alike : ChangesAlike own_change board_change) (old new : Path → Option File) (p : Path) (own : File)
+    (before : old p ≡ Some own) (after : new p ≡ Some (own_change own)) (others : (q : Path) → IsFalse (path_eq p q) → new q ≡ old q) where
+  function_changes : (f : BoardFunction) → agreed_function new f ≡ changed_function board_change p (agreed_function old f)
+  function_changes f = cases (path_eq f.path p) refl
+    where
+      cases : (t : Bool) → path_eq f.path p ≡ t → agreed_function new f ≡ changed_function board_change p (agreed_function old f)
+      cases true e =
+          let same : f.path ≡ p = path_same f.path p e in
+          ap (λ (o : Option File). agreed_by o f) (ap new same ∙ after) ∙ ap (λ (file : File). record f { file = file }) (alike f.file own)
+          ∙ sym (ap (λ (o : Option File). changed_function board_change p (agreed_by o f)) (ap old same ∙ before) ∙ changed_here board_change p (agreed_by (Some own) f) e)
+      cases false e = ap (λ (o : Option File). agreed_by o f) (others f.path (path_turned f.path p e)) ∙ sym (unchanged board_change p (old f.path) f e)
+
+  functions_change : (fs : List BoardFunction) → map (agreed_function new) fs ≡ map (changed_function board_change p) (map (agreed_function old) fs)
+  functions_change [] = refl
+  functions_change (f ∷ fs) = ap₂ (λ (x : BoardFunction) (xs : List BoardFunction). x ∷ xs) (function_changes f) (functions_change fs)
+
+pub one_file : OneFile
+one_file own_change board_change alike old new p own before after others s =
+    ap (λ (fs : List BoardFunction). record s { functions = fs }) (functions_change own_change board_change alike old new p own before after others s.functions)
+
+pub files_same : (old new : Path → Option File) → ((q : Path) → new q ≡ old q) → (fs : List BoardFunction) → map (agreed_function new) fs ≡ map (agreed_function old) fs
+files_same old new same [] = refl
+files_same old new same (f ∷ fs) = ap₂ (λ (x : BoardFunction) (xs : List BoardFunction). x ∷ xs) (ap (λ (o : Option File). agreed_by o f) (same f.path)) (files_same old new same fs)
+
+-- ---- a change of a slot's file
+
+-- a path's seat has a function
+there_in : (b : Board) (s : GuestsNow) → AreSeated b s → (a : Text) (n : ℕ) (p : Path) → path_in s a n ≡ Some p → IsSome (function_in s a n)
+there_in b s seated a n p at = cases (path_in s a n) at (function_in s a n) (seat_in b s seated.guests a n)
+  where
+    cases : (q : Option Path) → q ≡ Some p → (o : Option Function) → IsSeat b q o → IsSome o
+    cases None e o h = cc
+    cases (Some r) e None h = absurd h
+    cases (Some r) e (Some f) h = refl
+
+module _ (b : Board) (s : GuestsNow) (seated : AreSeated b s) (name : Text) (n : ℕ) (p : Path) (at : path_in s name n ≡ Some p) (change : File → File) (f : Function) (there : function_in s name n ≡ Some f) where
+  abbrev new_guests : GuestsNow
+  new_guests = with_guest (with_slot_changed change n) name s
+
+  found_there : function_of (guest_named s name) n ≡ Some f
+  found_there = sym (function_named s name n) ∙ there
+
+  pub file_before : file_of s p ≡ Some f.file
+  file_before = file_found s seated.names_apart seated.paths_apart name n p f at found_there
+
+  abbrev changed_file : Function
+  changed_file = record f { file = change f.file }
+
+  found_changed : function_of (guest_named new_guests name) n ≡ Some changed_file
+  found_changed = ap (λ (o : Option GuestNow). function_of o n) (named_with (with_slot_changed change n) (λ t. refl) name name s) ∙ cases (guest_named s name) refl found_there
+    where
+      cases : (o : Option GuestNow) → guest_named s name ≡ o → function_of o n ≡ Some f → function_of (option_map (one (with_slot_changed change n) name) o) n ≡ Some changed_file
+      cases None e h = cc
+      cases (Some t) e h =
+          let is : t.name ≡ name = (found (IsSeatedGuest b) s name t seated.guests e).name_is in
+          let here : bytes_eq name t.name ≡ true = ap (bytes_eq name) is ∙ same_text name in
+          ap (λ v. slot_at (cond v (with_slot_changed change n t) t).lone.slots n) here
+          ∙ ap (λ (x : Slots). slot_at x n) (with_file_there change n t.lone.slots f h) ∙ slot_set t.lone.slots n f changed_file h
+
+  pub file_after : file_of new_guests p ≡ Some (change f.file)
+  file_after = file_found new_guests names apart name n p changed_file (paths_stay (with_slot_changed change n) (λ t. refl) (λ t. refl) name name n s ∙ at) found_changed
+    where
+      names : NamesApart new_guests
+      names = Rattle.model_guests.proofs.Seats.names_stay (with_slot_changed change n) (λ t. refl) name s seated.names_apart
+
+      apart : PathsApart new_guests
+      apart a c k m q h i =
+          seated.paths_apart a c k m q (sym (paths_stay (with_slot_changed change n) (λ t. refl) (λ t. refl) name a k s) ∙ h) (sym (paths_stay (with_slot_changed change n) (λ t. refl) (λ t. refl) name c m s) ∙ i)
+
+  pub file_others : (q : Path) → IsFalse (path_eq p q) → file_of new_guests q ≡ file_of s q
+  file_others q other = file_stays (with_slot_changed change n) name q s seated.names_apart (λ t e. cases t e)
+    where
+      cases : (t : GuestNow) → guest_named s name ≡ Some t → file_in t.paths (with_file change n t.lone.slots) q ≡ file_in t.paths t.lone.slots q
+      cases t e =
+          let h : slot_at t.lone.slots n ≡ Some f = sym (ap (λ (o : Option GuestNow). function_of o n) e) ∙ found_there in
+          let here : path_at t.paths n ≡ Some p = sym (ap (λ (o : Option GuestNow). path_of o n) e) ∙ at in
+          ap (λ (x : Slots). file_in t.paths x q) (with_file_there change n t.lone.slots f h)
+          ∙ file_beside t.paths t.lone.slots n (Some changed_file) q (λ r i. let same : r ≡ p = cc in ap (λ (x : Path). path_eq x q) same ∙ other)
+
+pub changes_one_function : ChangesOneFunction
+changes_one_function b a s seated name n p at own_change board_change alike = cases (function_in s name n) refl (there_in b s seated name n p at)
+  where
+    cases : (o : Option Function) → function_in s name n ≡ o → IsSome o → agreed_state b a (with_guest (with_slot_changed own_change n) name s) ≡ with_change_at board_change p (agreed_state b a s)
+    cases None e some = cc
+    cases (Some f) e some =
+        one_file own_change board_change alike (file_of s) (file_of (with_guest (with_slot_changed own_change n) name s)) p f.file
+        (file_before b s seated name n p at own_change f e) (file_after b s seated name n p at own_change f e) (file_others b s seated name n p at own_change f e) (set_up_state b a)
+
+latch_files : (name : Text) (latch : ℕ) (q : Path) (s : GuestsNow) → file_of (with_guest (λ (t : GuestNow). record t { lone = record t.lone { latch = latch } }) name s) q ≡ file_of s q
+latch_files name latch q [] = refl
+latch_files name latch q (t ∷ ts) = ap₂ Rattle.model_registers.specs.Lists.first_of_two (cases (bytes_eq name t.name)) (latch_files name latch q ts)
+  where
+    cases : (v : Bool) → file_in (cond v (record t { lone = record t.lone { latch = latch } }) t).paths (cond v (record t { lone = record t.lone { latch = latch } }) t).lone.slots q ≡ file_in t.paths t.lone.slots q
+    cases true = refl
+    cases false = refl
+
+pub latch_keeps_board : LatchKeepsBoard
+latch_keeps_board b a s name latch =
+    ap (λ (fs : List BoardFunction). record { functions = fs; latch = 0 })
+    (files_same (file_of s) (file_of (with_guest (λ (t : GuestNow). record t { lone = record t.lone { latch = latch } }) name s)) (λ q. latch_files name latch q s) (set_up_state b a).functions)
+
+-- ---- a file put in twice
+
+abbrev agreed_entry : File → Entry → Entry
+agreed_entry file e = cond (is_own e.place) e (record e { cell = cell_at file e.place })
+
+entry_twice : (own file : File) (e : Entry) (t : Bool) → is_own e.place ≡ t → agreed_entry file e ≡ agreed_entry file (agreed_entry own e)
+entry_twice own file e true h = rw (h, h)
+entry_twice own file e false h = rw (h, h)
+
+agreed_twice : (left own file : File) → agreed_file left file ≡ agreed_file (agreed_file left own) file
+agreed_twice [] own file = refl
+agreed_twice (e ∷ es) own file = ap₂ (λ (x : Entry) (xs : File). x ∷ xs) (entry_twice own file e (is_own e.place) refl) (agreed_twice es own file)
+
+pub resets_alike : ResetsAlike
+resets_alike d left own = agreed_twice left own (endpoint_reset d false)

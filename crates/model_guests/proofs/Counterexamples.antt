@@ -1,0 +1,68 @@
+-- Statements that are false, each with what shows it.
+use Rattle.std.proofs.Common.{◌≡◌, ℕ, true, false, cond, [], ◌∷◌, Some, None, refl, ap, ◌∙◌, arith, eqb, lit≤}
+use Rattle.std.specs.Prelude.{map, codes, sum}
+use Rattle.std.proofs.lemmas.Bool.Decides.{nat_tests}
+use Rattle.model_registers.specs.Registers.{config, place_eq, Entry, File, cell_at, raise}
+use Rattle.model_registers.specs.Declarations.{Endpoint}
+use Rattle.model_registers.specs.EndpointTable.{endpoint_reset}
+use Rattle.model_board.specs.Paths.{Path}
+use Rattle.model_board.specs.Board.{endpoint, Board}
+use Rattle.model_board.specs.Pools.{Apertures}
+use Rattle.model_registers.specs.Decoding.{Function}
+use Rattle.model_board.specs.State.{State}
+use Rattle.model_board.specs.Examples.{part, function_at, plain, main_apertures}
+use Rattle.model_guests.specs.World.{World}
+use Rattle.model_guests.specs.Guests.{GuestsNow, Move, after_move, function_in, guests_at_first, move_fault, path_in}
+use Rattle.model_guests.specs.Files.{after_reset, places_of}
+use Rattle.model_guests.specs.AgreedBoard.{agreed_state, with_change_at}
+use Rattle.model_guests.specs.Seated.{AreSeated}
+use Rattle.model_guests.proofs.SeatedFirst.{seated_at_first}
+
+differ : (a b : ℕ) → eqb a b ≡ false → a ≡ b → ⊥
+differ a b h e = let no : eqb a a ≡ false = ap (eqb a) e ∙ h in let yes : eqb a a ≡ true = same a in cc
+  where
+    same : (n : ℕ) → eqb n n ≡ true
+    same n = grind (arith, nat_tests)
+
+-- places alone don't keep the copies from rising
+raisable : File
+raisable = map (λ (e : Entry). cond (place_eq e.place (config 4)) (record e { cell = record e.cell { clearable = 0xff } }) e) (endpoint_reset (plain 1 0 0 []) false)
+
+same_places : places_of raisable ≡ places_of (endpoint_reset (plain 1 0 0 []) false)
+unfolding raisable
+same_places = refl
+
+it_rises : raise 1 (config 4) raisable ≡ raisable → ⊥
+unfolding raisable
+it_rises h = let n : (cell_at (raise 1 (config 4) raisable) (config 4)).value ≡ (cell_at raisable (config 4)).value = ap (λ (f : File). (cell_at f (config 4)).value) h in cc
+
+-- a move to a guest that is not there, of an endpoint with two cells at one place
+twice : Endpoint
+twice = record (plain 1 0 0 []) { blocks = record { offset = 0x40; cells = record { value = 1; writable = 0; clearable = 0 } ∷ [] } ∷ record { offset = 0x40; cells = record { value = 2; writable = 0; clearable = 0 } ∷ [] } ∷ [] }
+
+place : Path
+place = part 1 0 ∷ []
+
+world : World
+world = record { board = function_at place (endpoint twice) ∷ []; apertures = main_apertures; guests = record { name = codes "a"; slots = place ∷ [] } ∷ [] }
+
+seated : AreSeated world.board (guests_at_first world)
+unfolding world place twice
+seated = seated_at_first world (record { few_guests = lit≤ tt; lawful_names = (refl, tt); names_apart = (tt, tt); few_slots = (lit≤ tt, tt); endpoints = (refl, tt); paths_apart = (tt, tt) })
+
+lost : Move
+lost = record { from = codes "a"; slot = 0; to = codes "b"; target = 0 }
+
+-- MoveResetsOneFunction, without a guest of the move's second name
+abbrev AnyMoveResets : Type 0
+AnyMoveResets = (b : Board) (a : Apertures) (s : GuestsNow) → AreSeated b s → (m : Move) → move_fault s m ≡ None
+    → (p : Path) (f : Function) → path_in s m.from m.slot ≡ Some p → function_in s m.from m.slot ≡ Some f → agreed_state b a (after_move s m) ≡ with_change_at (after_reset f.decl) p (agreed_state b a s)
+
+total : State → ℕ
+total s = sum (map (λ f. sum (map (λ (e : Entry). e.cell.value) f.file)) s.functions)
+
+not_any : AnyMoveResets → ⊥
+unfolding world lost twice place total
+not_any h =
+    differ (total (agreed_state world.board world.apertures (after_move (guests_at_first world) lost))) (total (with_change_at (after_reset twice) place (agreed_state world.board world.apertures (guests_at_first world)))) refl
+    (ap total (h world.board world.apertures (guests_at_first world) seated lost refl place (record { decl = twice; file = endpoint_reset twice false }) refl refl))

@@ -1,0 +1,77 @@
+-- A guest by its name, after a change of one guest.
+use Rattle.std.proofs.Common.{◌≡◌, ℕ, zero, suc, Bool, true, false, cond, List, [], ◌∷◌, ◌++◌, Some, None, Option, refl, sym, ap, ◌∙◌, subst}
+use Rattle.std.specs.Prelude.{map, replicate, slice_get, unwrap_or, option_map, option_and_then, IsFalse}
+use Rattle.std.specs.Option.{option_map_or}
+use Rattle.std.specs.Str.{bytes_eq}
+use Rattle.model_registers.specs.Lists.{Each}
+use Rattle.model_registers.specs.Decoding.{Function}
+use Rattle.model_board.specs.Paths.{Path}
+use Rattle.model_guests.specs.Slots.{reset_function, slot_at}
+use Rattle.model_guests.specs.Text.{Text}
+use Rattle.model_guests.specs.Guests.{GuestNow, GuestsNow, function_in, guest_named, with_guest}
+use Rattle.model_guests.proofs.Names.{equal_texts}
+
+abbrev pub path_at : List (Option Path) → ℕ → Option Path
+path_at qs n = unwrap_or (slice_get qs n) None
+
+abbrev pub Keeps : (GuestNow → GuestNow) → Type 0
+Keeps g = (t : GuestNow) → (g t).name ≡ t.name
+
+abbrev pub one : (GuestNow → GuestNow) → Text → GuestNow → GuestNow
+one g n t = cond (bytes_eq n t.name) (g t) t
+
+pub one_name : (g : GuestNow → GuestNow) → Keeps g → (n : Text) (t : GuestNow) → (one g n t).name ≡ t.name
+one_name g keeps n t = cases (bytes_eq n t.name)
+  where
+    cases : (u : Bool) → (cond u (g t) t).name ≡ t.name
+    cases true = keeps t
+    cases false = refl
+
+pub named_with : (g : GuestNow → GuestNow) → Keeps g → (n name : Text) (s : GuestsNow) → guest_named (with_guest g n s) name ≡ option_map (one g n) (guest_named s name)
+named_with g keeps n name [] = refl
+named_with g keeps n name (t ∷ ts) =
+    ap (λ (x : Text). cond (bytes_eq x name) (Some (one g n t)) (guest_named (with_guest g n ts) name)) (one_name g keeps n t)
+    ∙ cases (bytes_eq t.name name) (named_with g keeps n name ts)
+  where
+    cases : (v : Bool) → guest_named (with_guest g n ts) name ≡ option_map (one g n) (guest_named ts name)
+        → cond v (Some (one g n t)) (guest_named (with_guest g n ts) name) ≡ option_map (one g n) (cond v (Some t) (guest_named ts name))
+    cases true more = refl
+    cases false more = more
+
+-- the guest that is found has the name, and what all have
+pub record Found (P : GuestNow → Type 0) (name : Text) (t : GuestNow) : Type 0 where
+  pub name_is : t.name ≡ name
+  pub has : P t
+
+pub found : (P : GuestNow → Type 0) (s : GuestsNow) (name : Text) (t : GuestNow) → Each P s → guest_named s name ≡ Some t → Found P name t
+found P [] name t all at = cc
+found P (u ∷ us) name t all at = cases (bytes_eq u.name name) refl at (found P us name t all.1)
+  where
+    cases : (v : Bool) → bytes_eq u.name name ≡ v → cond v (Some u) (guest_named us name) ≡ Some t → (guest_named us name ≡ Some t → Found P name t) → Found P name t
+    cases true e at more = let same : u ≡ t = cc in subst (Found P name) same (record { name_is = equal_texts u.name name e; has = all.0 })
+    cases false e at more = more at
+
+-- no function is anywhere in a guest that is not there
+none_at : (k n : ℕ) → slot_at (map reset_function (replicate k None)) n ≡ None
+none_at zero n = refl
+none_at (suc k) zero = refl
+none_at (suc k) (suc n) = none_at k n
+
+abbrev pub path_of : Option GuestNow → ℕ → Option Path
+path_of o n = option_and_then (λ (t : GuestNow). path_at t.paths n) o
+
+abbrev pub function_of : Option GuestNow → ℕ → Option Function
+function_of o n = option_and_then (λ (t : GuestNow). slot_at t.lone.slots n) o
+
+pub function_named : (s : GuestsNow) (name : Text) (n : ℕ) → function_in s name n ≡ function_of (guest_named s name) n
+function_named s name n = cases (guest_named s name)
+  where
+    cases : (o : Option GuestNow) → slot_at (option_map_or (λ (t : GuestNow). t.lone) o (record { slots = map reset_function ([] ++ replicate 32 None); latch = 0 })).slots n ≡ function_of o n
+    cases None = none_at 32 n
+    cases (Some t) = refl
+
+-- a guest of the rest is found past the first
+pub past_first : (t : GuestNow) (ts : GuestsNow) (name : Text) (u : GuestNow) → Each (λ (v : GuestNow). IsFalse (bytes_eq t.name v.name)) ts → guest_named ts name ≡ Some u → bytes_eq t.name name ≡ false
+past_first t ts name u apart at =
+    let is = found (λ (v : GuestNow). IsFalse (bytes_eq t.name v.name)) ts name u apart at in
+    ap (bytes_eq t.name) (sym is.name_is) ∙ is.has

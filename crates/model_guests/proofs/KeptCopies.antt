@@ -1,0 +1,40 @@
+-- A device raises no bits of the registers of which a guest has copies; and a path finds the file of its slot.
+use Rattle.std.proofs.Common.{false, [], ◌∷◌, Some, None, Option, sym, ◌∙◌, subst}
+use Rattle.std.specs.Prelude.{⊤, MatchOption}
+use Rattle.model_registers.specs.Registers.{File}
+use Rattle.model_registers.specs.Declarations.{Endpoint}
+use Rattle.model_registers.specs.DeclarationRules.{IsLawfulEndpoint}
+use Rattle.model_registers.specs.Decoding.{Function}
+use Rattle.model_registers.specs.EndpointTable.{endpoint_reset}
+use Rattle.model_board.specs.Paths.{Path}
+use Rattle.model_board.specs.Board.{Board}
+use Rattle.model_board.specs.Lawful.{HasLawfulDecls}
+use Rattle.model_guests.proofs.CopiesNeverRise.{StaysLow, not_raised, reset_low, declared_lawful}
+use Rattle.model_guests.specs.Guests.{path_in}
+use Rattle.model_guests.specs.Files.{shape_of}
+use Rattle.model_guests.specs.Seated.{IsSeat}
+use Rattle.model_guests.specs.AgreedLaws.{CopiesNeverRise, FileOfSeat}
+use Rattle.model_guests.proofs.GuestsByName.{function_named}
+use Rattle.model_guests.proofs.SeatedMoves.{seat_in}
+use Rattle.model_guests.proofs.FoundFiles.{file_found}
+
+shape_low : (file : File) → StaysLow file → StaysLow (shape_of file)
+shape_low [] h = tt
+shape_low (e ∷ es) h = (h.0, shape_low es h.1)
+
+low_shape : (file : File) → StaysLow (shape_of file) → StaysLow file
+low_shape [] h = tt
+low_shape (e ∷ es) h = (h.0, low_shape es h.1)
+
+seat_low : (b : Board) → HasLawfulDecls b → (q : Option Path) (f : Function) → IsSeat b q (Some f) → StaysLow f.file
+seat_low b decls None f h = absurd h
+seat_low b decls (Some p) f h =
+    let lawful : IsLawfulEndpoint f.decl = subst (λ (o : Option Endpoint). MatchOption o ⊤ IsLawfulEndpoint) h.decl (declared_lawful b decls p) in
+    low_shape f.file (subst StaysLow (sym h.shape) (shape_low (endpoint_reset f.decl false) (reset_low f.decl lawful)))
+
+pub copies_never_rise : CopiesNeverRise
+copies_never_rise b decls s seated name n f is m p own =
+    not_raised m p own f.file (seat_low b decls (path_in s name n) f (subst (IsSeat b (path_in s name n)) is (seat_in b s seated.guests name n)))
+
+pub file_of_seat : FileOfSeat
+file_of_seat b s seated name n p f at is = file_found s seated.names_apart seated.paths_apart name n p f at (sym (function_named s name n) ∙ is)

@@ -1,0 +1,134 @@
+-- A move resets one function of the board, but for what guests have copies of.
+use Rattle.std.proofs.Common.{◌≡◌, ℕ, zero, suc, ◌<◌, Bool, true, false, not, ◌||◌, cond, List, [], ◌∷◌, length, Some, None, Option, refl, sym, ap, ◌∙◌, subst, arith}
+use Rattle.std.specs.Prelude.{slice_set, is_some, nat_le, option_map, IsFalse, IsSome}
+use Rattle.std.specs.Str.{bytes_eq}
+use Rattle.std.proofs.lemmas.Bool.Decides.{nat_tests}
+use Rattle.model_registers.specs.Decoding.{Function}
+use Rattle.model_registers.specs.EndpointTable.{endpoint_reset}
+use Rattle.model_board.specs.Paths.{Path, path_eq}
+use Rattle.model_board.specs.Board.{Board}
+use Rattle.model_board.specs.SetUp.{set_up_state}
+use Rattle.model_guests.specs.Slots.{Slots, slot_at}
+use Rattle.model_guests.specs.Guests.{GuestNow, GuestsNow, Move, file_of, function_in, guest_named, handed_over, move_fault, path_in, with_guest, with_slot_emptied, with_slot_filled}
+use Rattle.model_guests.specs.Files.{after_reset}
+use Rattle.model_guests.specs.AgreedBoard.{agreed_state}
+use Rattle.model_guests.specs.Seated.{AreSeated, AreSeats, IsSeat, IsSeatedGuest}
+use Rattle.model_guests.specs.ChangeLaws.{MoveResetsOneFunction}
+use Rattle.model_guests.proofs.Names.{same_text}
+use Rattle.model_guests.proofs.GuestsByName.{path_at, one, named_with, found, path_of, function_of, function_named}
+use Rattle.model_guests.proofs.SeatedMoves.{seat_in, Placed, put_there, was_there, place_left, left_names, left_guests, seated_handed}
+use Rattle.model_guests.proofs.FoundFiles.{file_past, file_found, file_stays}
+use Rattle.model_guests.proofs.Changes.{one_file, resets_alike}
+
+pub record NoFault (s : GuestsNow) (m : Move) : Type 0 where
+  pub in_range : m.target < 32
+  pub is_empty : is_some (function_in s m.to m.target) ≡ false
+
+no_fault : (s : GuestsNow) (m : Move) → move_fault s m ≡ None → NoFault s m
+no_fault s m h =
+    let parts = cases (nat_le 32 m.slot || nat_le 32 m.target) (is_some (function_in s m.from m.slot)) (is_some (function_in s m.to m.target)) h in
+    record { in_range = below m.slot m.target parts.0; is_empty = parts.1 }
+  where
+    cases : (a b c : Bool) → cond {A = Option ℕ} a (Some 303) (cond (not b) (Some 601) (cond c (Some 602) None)) ≡ None → (a ≡ false) × (c ≡ false)
+    cases true b c h = cc
+    cases false false c h = cc
+    cases false true true h = cc
+    cases false true false h = (refl, refl)
+
+    below : (x y : ℕ) → (nat_le 32 x || nat_le 32 y) ≡ false → y < 32
+    below x y h = grind (arith, nat_tests)
+
+path_put : (qs : List (Option Path)) (n : ℕ) (x : Option Path) → n < length qs → path_at (slice_set qs n x) n ≡ x
+path_put [] n x h = absurd (omega arith)
+path_put (q ∷ qs) zero x h = refl
+path_put (q ∷ qs) (suc n) x h = path_put qs n x (omega arith)
+
+slot_put : (b : Board) (qs : List (Option Path)) (fs : Slots) (n : ℕ) (f : Option Function) → AreSeats b qs fs → n < length qs → slot_at (slice_set fs n f) n ≡ f
+slot_put b [] fs n f h k = absurd (omega arith)
+slot_put b (q ∷ qs) [] n f h k = absurd h
+slot_put b (q ∷ qs) (g ∷ gs) zero f h k = refl
+slot_put b (q ∷ qs) (g ∷ gs) (suc n) f h k = slot_put b qs gs n f h.1 (omega arith)
+
+-- an empty slot has no path
+no_seat : (b : Board) (q : Option Path) (o : Option Function) (r : Path) → IsSeat b q o → is_some o ≡ false → q ≡ Some r → ⊥
+no_seat b None o r h e i = cc
+no_seat b (Some p) None r h e i = h
+no_seat b (Some p) (Some f) r h e i = cc
+
+module _ (b : Board) (s : GuestsNow) (seated : AreSeated b s) (m : Move) (f : Function) (is : function_in s m.from m.slot ≡ Some f) (p : Path) (at : path_in s m.from m.slot ≡ Some p)
+    (to_there : IsSome (guest_named s m.to)) (can : NoFault s m) where
+  abbrev left : GuestsNow
+  left = with_guest (with_slot_emptied m.slot) m.from s
+
+  abbrev the_path : Option Path
+  the_path = path_in s m.from m.slot
+
+  abbrev filled : GuestNow → GuestNow
+  filled = with_slot_filled m.target the_path f.decl
+
+  abbrev fresh : Function
+  fresh = record { decl = f.decl; file = endpoint_reset f.decl false }
+
+  abbrev pub moved : GuestsNow
+  moved = with_guest filled m.to left
+
+  -- the guest that takes it
+  record Takes (o : Option GuestNow) : Type 0 where
+    path_is : path_of o m.target ≡ the_path
+    function_is : function_of o m.target ≡ Some fresh
+
+  takes : Takes (guest_named moved m.to)
+  takes =
+      subst Takes (sym (named_with filled (λ t. refl) m.to m.to left))
+      (cases (guest_named left m.to) refl (ap is_some (named_with (with_slot_emptied m.slot) (λ t. refl) m.from m.to s) ∙ some (guest_named s m.to) to_there))
+    where
+      some : (o : Option GuestNow) → IsSome o → is_some (option_map (one (with_slot_emptied m.slot) m.from) o) ≡ true
+      some None h = cc
+      some (Some t) h = refl
+
+      cases : (o : Option GuestNow) → guest_named left m.to ≡ o → is_some o ≡ true → Takes (option_map (one filled m.to) o)
+      cases None e h = cc
+      cases (Some t) e h =
+          let there = found (IsSeatedGuest b) left m.to t (left_guests b s seated m f is) e in
+          let here : bytes_eq m.to t.name ≡ true = ap (bytes_eq m.to) there.name_is ∙ same_text m.to in
+          let room : m.target < length t.paths = subst (λ k. m.target < k) (sym there.has.count) can.in_range in
+          record {
+            path_is = ap (λ v. path_at (cond v (filled t) t).paths m.target) here ∙ path_put t.paths m.target the_path room;
+            function_is = ap (λ v. slot_at (cond v (filled t) t).lone.slots m.target) here ∙ slot_put b t.paths t.lone.slots m.target (Some fresh) there.has.seats room;
+          }
+
+  inputs_of_move : AreSeated b moved
+  inputs_of_move = seated_handed b s seated m f is
+
+  pub moved_before : file_of s p ≡ Some f.file
+  moved_before = file_found s seated.names_apart seated.paths_apart m.from m.slot p f at (sym (function_named s m.from m.slot) ∙ is)
+
+  pub moved_after : file_of moved p ≡ Some (endpoint_reset f.decl false)
+  moved_after = file_found moved inputs_of_move.names_apart inputs_of_move.paths_apart m.to m.target p fresh (takes.path_is ∙ at) takes.function_is
+
+  only_path : (q : Path) → path_eq p q ≡ false → (o : Option Path) → o ≡ Some p → (r : Path) → o ≡ Some r → path_eq r q ≡ false
+  only_path q other o e r i = let same : r ≡ p = cc in ap (λ (x : Path). path_eq x q) same ∙ other
+
+  was_empty : (r : Path) → Placed s m.from m.to m.slot m.target None r → ⊥
+  was_empty r (put_there x y z) = cc
+  was_empty r (was_there x y) = no_seat b (path_in s m.to m.target) (function_in s m.to m.target) r (seat_in b s seated.guests m.to m.target) can.is_empty x
+
+  pub moved_others : (q : Path) → IsFalse (path_eq p q) → file_of moved q ≡ file_of s q
+  moved_others q other =
+      file_stays filled m.to q left (left_names b s seated m f is)
+      (λ t e. file_past t.paths t.lone.slots m.target the_path (Some fresh) q
+      (λ r i. absurd (was_empty r (place_left b s seated m f is m.to m.target r (ap (λ (o : Option GuestNow). path_of o m.target) e ∙ i)))) (only_path q other the_path at))
+      ∙ file_stays (with_slot_emptied m.slot) m.from q s seated.names_apart
+      (λ t e. file_past t.paths t.lone.slots m.slot None None q
+      (λ r i. only_path q other the_path at r (ap (λ (o : Option GuestNow). path_of o m.slot) e ∙ i)) (λ r i. none None refl r i))
+    where
+      none : (o : Option Path) → o ≡ None → (r : Path) → o ≡ Some r → path_eq r q ≡ false
+      none o e r i = cc
+
+pub move_resets_one_function : MoveResetsOneFunction
+move_resets_one_function b a s seated m to_there fault p f at is =
+    let can : NoFault s m = no_fault s m fault in
+    ap (λ (x : Option ℕ). agreed_state b a (cond (is_some x) s (handed_over m (path_in s m.from m.slot) (function_in s m.from m.slot) s))) fault
+    ∙ ap (λ (o : Option Function). agreed_state b a (handed_over m (path_in s m.from m.slot) o s)) is
+    ∙ one_file (λ own. endpoint_reset f.decl false) (after_reset f.decl) (resets_alike f.decl) (file_of s) (file_of (moved b s seated m f is p at to_there can)) p f.file
+    (moved_before b s seated m f is p at to_there can) (moved_after b s seated m f is p at to_there can) (moved_others b s seated m f is p at to_there can) (set_up_state b a)

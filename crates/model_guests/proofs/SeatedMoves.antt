@@ -1,0 +1,140 @@
+-- Guests stay seated when a function is moved.
+use Rattle.std.proofs.Common.{◌≡◌, ℕ, zero, suc, Bool, true, false, cond, List, [], ◌∷◌, length, Some, None, Option, refl, sym, ap, ◌∙◌, subst, arith}
+use Rattle.std.specs.Prelude.{slice_set, is_some, option_map, IsFalse}
+use Rattle.std.specs.Str.{bytes_eq}
+use Rattle.std.proofs.lemmas.List.{length-set}
+use Rattle.model_registers.specs.Lists.{Each, EachPair}
+use Rattle.model_registers.specs.Decoding.{Function}
+use Rattle.model_board.specs.Paths.{Path}
+use Rattle.model_board.specs.Board.{Board}
+use Rattle.model_guests.specs.Slots.{reset_function}
+use Rattle.model_guests.specs.Text.{Text}
+use Rattle.model_guests.specs.Guests.{GuestNow, GuestsNow, Move, function_in, guest_named, handed_over, move_fault, path_in, with_guest, with_slot_emptied, with_slot_filled}
+use Rattle.model_guests.specs.Seated.{AreSeated, IsSeat, IsSeatedGuest, SeatedAfterMoves}
+use Rattle.model_guests.proofs.Names.{equal_texts, same_text}
+use Rattle.model_guests.proofs.GuestsByName.{path_at, Keeps, one, named_with, found, path_of, function_of, function_named}
+use Rattle.model_guests.proofs.Seats.{seats_at, seats_set, names_stay, guests_stay}
+
+pub seat_in : (b : Board) (s : GuestsNow) → Each (IsSeatedGuest b) s → (a : Text) (n : ℕ) → IsSeat b (path_in s a n) (function_in s a n)
+seat_in b s all a n = subst (IsSeat b (path_in s a n)) (sym (function_named s a n)) (cases (guest_named s a) refl)
+  where
+    cases : (o : Option GuestNow) → guest_named s a ≡ o → IsSeat b (path_of o n) (function_of o n)
+    cases None e = tt
+    cases (Some t) e = seats_at b t.paths t.lone.slots n (found (IsSeatedGuest b) s a t all e).has.seats
+
+-- ---- a path in a list with one set
+
+data Where (qs : List (Option Path)) (n k : ℕ) (x : Option Path) (q : Path) : Type 0 where
+  put : k ≡ n → x ≡ Some q → Where qs n k x q
+  stays : path_at qs k ≡ Some q → (k ≡ n → ⊥) → Where qs n k x q
+
+where_set : (qs : List (Option Path)) (n k : ℕ) (x : Option Path) (q : Path) → path_at (slice_set qs n x) k ≡ Some q → Where qs n k x q
+where_set [] n k x q h = cc
+where_set (p ∷ ps) zero zero x q h = put refl h
+where_set (p ∷ ps) zero (suc k) x q h = stays h (λ e. omega arith)
+where_set (p ∷ ps) (suc n) zero x q h = stays h (λ e. omega arith)
+where_set (p ∷ ps) (suc n) (suc k) x q h = later (where_set ps n k x q h)
+  where
+    later : Where ps n k x q → Where (p ∷ ps) (suc n) (suc k) x q
+    later (put e f) = put (ap suc e) f
+    later (stays e f) = stays e (λ h. f (omega arith))
+
+-- ---- a path in a slot of some guest, after one guest's slot is set
+
+pub data Placed (s : GuestsNow) (name a : Text) (n k : ℕ) (x : Option Path) (q : Path) : Type 0 where
+  put_there : a ≡ name → k ≡ n → x ≡ Some q → Placed s name a n k x q
+  was_there : path_in s a k ≡ Some q → (a ≡ name → k ≡ n → ⊥) → Placed s name a n k x q
+
+pub placed : (g : GuestNow → GuestNow) (n : ℕ) (x : Option Path) → Keeps g → ((t : GuestNow) → (g t).paths ≡ slice_set t.paths n x)
+    → (s : GuestsNow) (name a : Text) (k : ℕ) (q : Path) → path_in (with_guest g name s) a k ≡ Some q → Placed s name a n k x q
+placed g n x keeps sets s name a k q h = cases (guest_named s a) refl (sym (ap (λ (o : Option GuestNow). path_of o k) (named_with g keeps name a s)) ∙ h)
+  where
+    there : (t : GuestNow) → guest_named s a ≡ Some t → t.name ≡ a
+    there t e = (found (λ u. Unit {0}) s a t (each_unit s) e).name_is
+      where
+        each_unit : (us : GuestsNow) → Each (λ (u : GuestNow). Unit {0}) us
+        each_unit [] = tt
+        each_unit (u ∷ us) = (tt, each_unit us)
+
+    cases : (o : Option GuestNow) → guest_named s a ≡ o → path_of (option_map (one g name) o) k ≡ Some q → Placed s name a n k x q
+    cases None e h = cc
+    cases (Some t) e h = by_name (bytes_eq name t.name) refl h
+      where
+        by_name : (u : Bool) → bytes_eq name t.name ≡ u → path_at (cond u (g t) t).paths k ≡ Some q → Placed s name a n k x q
+        by_name true i h = of_where (where_set t.paths n k x q (sym (ap (λ (qs : List (Option Path)). path_at qs k) (sets t)) ∙ h))
+          where
+            of_where : Where t.paths n k x q → Placed s name a n k x q
+            of_where (put c d) = put_there (sym (there t e) ∙ sym (equal_texts name t.name i)) c d
+            of_where (stays c d) = was_there (ap (λ (o : Option GuestNow). path_of o k) e ∙ c) (λ z. d)
+        by_name false i h =
+            was_there (ap (λ (o : Option GuestNow). path_of o k) e ∙ h)
+            (λ z w. let same : t.name ≡ name = there t e ∙ z in let yes : bytes_eq name t.name ≡ true = ap (bytes_eq name) same ∙ same_text name in cc)
+
+-- ---- a move
+
+same_count : (qs : List (Option Path)) (n : ℕ) (x : Option Path) → length qs ≡ 32 → length (slice_set qs n x) ≡ 32
+same_count qs n x h = simp length-set h
+
+at_reset_there : (b : Board) (p : Option Path) (f : Function) → IsSeat b p (Some f) → IsSeat b p (reset_function (Some f.decl))
+at_reset_there b None f h = h
+at_reset_there b (Some p) f h = record { decl = h.decl; shape = refl }
+
+module _ (b : Board) (s : GuestsNow) (seated : AreSeated b s) (m : Move) (f : Function) (is : function_in s m.from m.slot ≡ Some f) where
+  abbrev left : GuestsNow
+  left = with_guest (with_slot_emptied m.slot) m.from s
+
+  abbrev the_path : Option Path
+  the_path = path_in s m.from m.slot
+
+  abbrev filled : GuestNow → GuestNow
+  filled = with_slot_filled m.target the_path f.decl
+
+  seat : IsSeat b the_path (Some f)
+  seat = subst (IsSeat b the_path) is (seat_in b s seated.guests m.from m.slot)
+
+  place : (a : Text) (k : ℕ) (q : Path) → path_in (with_guest filled m.to left) a k ≡ Some q → Placed left m.to a m.target k the_path q
+  place a k q h = placed filled m.target the_path (λ t. refl) (λ t. refl) left m.to a k q h
+
+  pub place_left : (a : Text) (k : ℕ) (q : Path) → path_in left a k ≡ Some q → Placed s m.from a m.slot k None q
+  place_left a k q h = placed (with_slot_emptied m.slot) m.slot None (λ t. refl) (λ t. refl) s m.from a k q h
+
+  -- what is at a path of the function that left
+  gone : (a : Text) (k : ℕ) (q : Path) → Placed s m.from a m.slot k None q → the_path ≡ Some q → ⊥
+  gone a k q (put_there c d e) h = cc
+  gone a k q (was_there c d) h = let same = seated.paths_apart a m.from k m.slot q c h in d same.0 same.1
+
+  old_apart : (a c : Text) (k l : ℕ) (q : Path) → Placed s m.from a m.slot k None q → Placed s m.from c m.slot l None q → (a ≡ c) × (k ≡ l)
+  old_apart a c k l q (put_there x y z) v = cc
+  old_apart a c k l q (was_there x y) (put_there u v w) = cc
+  old_apart a c k l q (was_there x y) (was_there u v) = seated.paths_apart a c k l q x u
+
+  all_apart : (a c : Text) (k l : ℕ) (q : Path) → Placed left m.to a m.target k the_path q → Placed left m.to c m.target l the_path q → (a ≡ c) × (k ≡ l)
+  all_apart a c k l q (put_there x y z) (put_there u v w) = (x ∙ sym u, y ∙ sym v)
+  all_apart a c k l q (put_there x y z) (was_there u v) = absurd (gone c l q (place_left c l q u) z)
+  all_apart a c k l q (was_there x y) (put_there u v w) = absurd (gone a k q (place_left a k q x) w)
+  all_apart a c k l q (was_there x y) (was_there u v) = old_apart a c k l q (place_left a k q x) (place_left c l q u)
+
+  pub left_names : EachPair (λ (t u : GuestNow). IsFalse (bytes_eq t.name u.name)) left
+  left_names = names_stay (with_slot_emptied m.slot) (λ t. refl) m.from s seated.names_apart
+
+  pub left_guests : Each (IsSeatedGuest b) left
+  left_guests =
+      guests_stay (IsSeatedGuest b) (with_slot_emptied m.slot)
+      (λ t h. record { count = same_count t.paths m.slot None h.count; seats = seats_set b t.paths t.lone.slots m.slot None None h.seats tt }) m.from s seated.guests
+
+  pub seated_handed : AreSeated b (with_guest filled m.to left)
+  seated_handed = record {
+    names_apart = names_stay filled (λ t. refl) m.to left left_names;
+    guests = guests_stay (IsSeatedGuest b) filled
+        (λ t h. record { count = same_count t.paths m.target the_path h.count; seats = seats_set b t.paths t.lone.slots m.target the_path (reset_function (Some f.decl)) h.seats (at_reset_there b the_path f seat) })
+        m.to left left_guests;
+    paths_apart = λ a c k l q h i. all_apart a c k l q (place a k q h) (place c l q i);
+  }
+
+pub seated_after_moves : SeatedAfterMoves
+seated_after_moves b s seated m = cases (is_some (move_fault s m)) (function_in s m.from m.slot) refl
+  where
+    cases : (t : Bool) (o : Option Function) → function_in s m.from m.slot ≡ o → AreSeated b (cond t s (handed_over m (path_in s m.from m.slot) o s))
+    cases true o e = seated
+    cases false None e = seated
+    cases false (Some f) e = seated_handed b s seated m f e

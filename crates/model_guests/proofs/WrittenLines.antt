@@ -1,0 +1,82 @@
+-- Every line that is written is one line: cut into lines, the output is these lines again.
+--     written_along      the lines that lines of a script write
+use Rattle.std.proofs.Common.{◌≡◌, Bool, true, false, cond, List, [], ◌∷◌, ◌++◌, Some, None, Option, refl, sym, ap, ◌∙◌, subst, append_assoc}
+use Rattle.std.specs.Prelude.{codes, IsTrue}
+use Rattle.std.specs.Str.{bytes_eq}
+use Rattle.model_registers.specs.Lists.{Each}
+use Rattle.model_guests.specs.Accesses.{Event, refused}
+use Rattle.model_guests.specs.Lone.{answer}
+use Rattle.model_guests.specs.Text.{Text, lines, words, text_of_lines}
+use Rattle.model_guests.specs.Grammar.{HostRead, event_of, guest, has_name, host, host_read_of, is_comment, is_long, nobody}
+use Rattle.model_guests.specs.World.{is_name}
+use Rattle.model_guests.specs.Guests.{Move, lone_of}
+use Rattle.model_guests.specs.Lines.{Meaning, bad, event_or_bad, guest_event, host_move, host_read, meaning, meaning_of_words, move_of, nothing, read_or_move}
+use Rattle.model_guests.specs.Replies.{line_text, who_text}
+use Rattle.model_guests.specs.WorldNow.{WorldNow, names_now, host_reply, move_reply, written_by, after_line, output}
+use Rattle.model_guests.proofs.Along.{names_stay}
+use Rattle.model_guests.proofs.Names.{lacks, named_facts}
+use Rattle.model_guests.proofs.ListFacts.{each_append}
+use Rattle.model_guests.proofs.OutputLines.{lines_again, line_one_line}
+
+abbrev pub written_along : WorldNow → List Text → List Text
+written_along w [] = []
+written_along w (l ∷ ls) = written_by w (meaning (names_now w) l) ++ written_along (after_line w l) ls
+
+ended-append : (xs ys : List Text) → text_of_lines (xs ++ ys) ≡ text_of_lines xs ++ text_of_lines ys
+ended-append [] ys = refl
+ended-append (x ∷ xs) ys = ap (λ (t : Text). (x ++ 10 ∷ []) ++ t) (ended-append xs ys) ∙ sym (append_assoc (x ++ 10 ∷ []) (text_of_lines xs) (text_of_lines ys))
+
+pub output_along : (ls : List Text) (w : WorldNow) → output w ls ≡ text_of_lines (written_along w ls)
+output_along [] w = refl
+output_along (l ∷ ls) w =
+    ap (λ (t : Text). text_of_lines (written_by w (meaning (names_now w) l)) ++ t) (output_along ls (after_line w l))
+    ∙ sym (ended-append (written_by w (meaning (names_now w) l)) (written_along (after_line w l) ls))
+
+abbrev TellsOneLine : Meaning → Type 0
+TellsOneLine nothing = Unit {0}
+TellsOneLine (guest_event name e) = lacks 10 name ≡ true
+TellsOneLine (host_read r) = Unit {0}
+TellsOneLine (host_move m) = Unit {0}
+TellsOneLine (bad who n) = lacks 10 (who_text who) ≡ true
+
+tells_event : (name : Text) (o : Option Event) → lacks 10 name ≡ true → TellsOneLine (event_or_bad name o)
+tells_event name None h = h
+tells_event name (Some e) h = h
+
+tells_host : (o : Option HostRead) (m : Option Move) → TellsOneLine (read_or_move o m)
+tells_host None None = refl
+tells_host None (Some m) = tt
+tells_host (Some r) m = tt
+
+tells_cases : (name : Text) (e : Option Event) (r : Option HostRead) (m : Option Move) (c h g : Bool) → (g ≡ true → lacks 10 name ≡ true)
+    → TellsOneLine (cond c nothing (cond h (read_or_move r m) (cond g (event_or_bad name e) (bad nobody 402))))
+tells_cases name e r m true h g k = tt
+tells_cases name e r m false true g k = tells_host r m
+tells_cases name e r m false false true k = tells_event name e (k refl)
+tells_cases name e r m false false false k = refl
+
+tells_words : (ns : List Text) → Each (λ n. IsTrue (is_name n)) ns → (ws : List Text) → TellsOneLine (meaning_of_words ns ws)
+tells_words ns lawful [] = tt
+tells_words ns lawful (t ∷ ts) =
+    tells_cases t (event_of ts) (host_read_of ts) (move_of ns ts) (is_comment t) (bytes_eq t (codes "host")) (has_name ns t) (λ h. (named_facts ns t lawful h).one_line)
+
+tells_line : (ns : List Text) → Each (λ n. IsTrue (is_name n)) ns → (ws : List Text) (long : Bool) → TellsOneLine (cond long (bad nobody 403) (meaning_of_words ns ws))
+tells_line ns lawful ws true = refl
+tells_line ns lawful ws false = tells_words ns lawful ws
+
+written_one_line : (w : WorldNow) (m : Meaning) → TellsOneLine m → Each (λ l. lacks 10 l ≡ true) (written_by w m)
+written_one_line w nothing h = tt
+written_one_line w (guest_event name e) h = (line_one_line (guest name) (answer (lone_of w.guests name) e) h, tt)
+written_one_line w (host_read r) h = (line_one_line host (host_reply w r) refl, tt)
+written_one_line w (host_move m) h = (line_one_line host (move_reply w.guests m) refl, tt)
+written_one_line w (bad who n) h = (line_one_line who (refused n) h, tt)
+
+along_one_line : (ns : List Text) → Each (λ n. IsTrue (is_name n)) ns → (ls : List Text) (w : WorldNow) → names_now w ≡ ns → Each (λ l. lacks 10 l ≡ true) (written_along w ls)
+along_one_line ns lawful [] w same = tt
+along_one_line ns lawful (l ∷ ls) w same =
+    each_append (λ (t : Text). lacks 10 t ≡ true) (written_by w (meaning (names_now w) l)) (written_along (after_line w l) ls)
+    (written_one_line w (meaning (names_now w) l) (subst (λ (x : List Text). TellsOneLine (meaning x l)) (sym same) (tells_line ns lawful (words l) (is_long l))))
+    (along_one_line ns lawful ls (after_line w l) (names_stay w l ∙ same))
+
+pub lines_written : (w : WorldNow) (ns : List Text) → Each (λ n. IsTrue (is_name n)) ns → names_now w ≡ ns → (ls : List Text) → lines (output w ls) ≡ written_along w ls
+lines_written w ns lawful same ls = ap lines (output_along ls w) ∙ lines_again (written_along w ls) (along_one_line ns lawful ls w same)

@@ -1,0 +1,6 @@
+use Rattle.model_guests.proofs.KeptNumbers.{shows_file}
+use Rattle.model_guests.proofs.KeptCopies.{copies_never_rise, file_of_seat}
+use Rattle.model_guests.proofs.agreement_shows.Goals as goal
+
+pub returns : goal.returns
+returns c = record { shows = shows_file; copies = copies_never_rise; files = file_of_seat }

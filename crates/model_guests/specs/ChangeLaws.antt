@@ -1,0 +1,141 @@
+-- How a change of what guests hold changes the board.
+--     ChangesAlike      when a guest's file changes by the first, the board's file of that function changes by the second
+--     WritesAlike, RaisesAlike, ResetsAlike      a write, a raise and a reset of the guest's file reach the board by the bytes without a copy
+--     OneFile, ChangesOneFunction, LatchKeepsBoard      a guest's change of a function changes the board there alone
+--     MoveResetsOneFunction      a move resets the function, but for what its guests have copies of
+--     lands, EventReachesBoard      where an event changes a function, and what it does there to the board
+use Rattle.std.specs.Prelude.{
+  List,
+  ◌≡◌,
+  ℕ,
+  Bool,
+  false,
+  if◌then◌else◌,
+  Option,
+  Some,
+  None,
+  option_map,
+  is_some,
+  IsTrue,
+  IsFalse,
+  IsSome,
+}
+use Rattle.std.specs.Option.{option_map_or}
+use Rattle.model_registers.specs.Registers.{Place, File, write, raise, all_bytes}
+use Rattle.model_registers.specs.Declarations.{Endpoint}
+use Rattle.model_registers.specs.Decoding.{Function}
+use Rattle.model_registers.specs.EndpointTable.{endpoint_reset}
+use Rattle.model_registers.specs.OwnCopies.{is_own, handed_on}
+use Rattle.model_board.specs.Paths.{Path, path_eq}
+use Rattle.model_board.specs.Board.{Board}
+use Rattle.model_board.specs.Pools.{Apertures}
+use Rattle.model_board.specs.State.{State}
+use Rattle.model_guests.specs.Accesses.{Event, access, raises, Op, reads, writes}
+use Rattle.model_guests.specs.Files.{agreed_file, after_reset}
+use Rattle.model_guests.specs.Slots.{slot_at, with_file, Landing, landing, raise_landing, event_fault}
+use Rattle.model_guests.specs.Text.{Text}
+use Rattle.model_guests.specs.Lone.{LoneGuest, Destination, own_latch, no_function, at_target, destination}
+use Rattle.model_guests.specs.Guests.{
+  GuestNow,
+  GuestsNow,
+  guest_named,
+  lone_of,
+  with_guest,
+  after_guest_event,
+  function_in,
+  path_in,
+  Move,
+  move_fault,
+  after_move,
+}
+use Rattle.model_guests.specs.AgreedBoard.{with_files, agreed_state, with_change_at}
+use Rattle.model_guests.specs.Seated.{AreSeated}
+
+abbrev pub ChangesAlike : (File → File) → (File → File) → Type 0
+ChangesAlike own_change board_change = (left own : File) → agreed_file left (own_change own) ≡ board_change (agreed_file left own)
+
+-- a write reaches the board by the bytes of which the guest has no copy
+abbrev pub WritesAlike : Type 0
+WritesAlike = (enables : List Bool) (v : ℕ) (p : Place) → ChangesAlike (write enables v p) (write (handed_on p enables) v p)
+
+-- a raise reaches the board but for the guest's copies
+abbrev pub RaisesAlike : Type 0
+RaisesAlike = (m : ℕ) (p : Place) → ChangesAlike (raise m p) (λ file. if is_own p then file else raise m p file)
+
+abbrev pub ResetsAlike : Type 0
+ResetsAlike = (d : Endpoint) → ChangesAlike (λ own. endpoint_reset d false) (after_reset d)
+
+-- whatever tells the files: where it changes at one path, the board changes there alone
+abbrev pub OneFile : Type 0
+OneFile = (own_change board_change : File → File) → ChangesAlike own_change board_change
+    → (old new : Path → Option File) (p : Path) (own : File) → old p ≡ Some own → new p ≡ Some (own_change own)
+    → ((q : Path) → IsFalse (path_eq p q) → new q ≡ old q)
+    → (s : State) → with_files new s ≡ with_change_at board_change p (with_files old s)
+
+-- the file in a slot, and the latch, as they are changed in a guest
+abbrev pub with_slot_changed : (File → File) → ℕ → GuestNow → GuestNow
+with_slot_changed change n g = record g { lone = record g.lone { slots = with_file change n g.lone.slots } }
+
+abbrev pub with_latch : ℕ → GuestNow → GuestNow
+with_latch latch g = record g { lone = record g.lone { latch = latch } }
+
+abbrev pub ChangesOneFunction : Type 0
+ChangesOneFunction = (b : Board) (a : Apertures) (gs : GuestsNow) → AreSeated b gs
+    → (name : Text) (n : ℕ) (p : Path) → path_in gs name n ≡ Some p
+    → (own_change board_change : File → File) → ChangesAlike own_change board_change
+    → agreed_state b a (with_guest (with_slot_changed own_change n) name gs) ≡ with_change_at board_change p (agreed_state b a gs)
+
+abbrev pub LatchKeepsBoard : Type 0
+LatchKeepsBoard = (b : Board) (a : Apertures) (gs : GuestsNow) (name : Text) (latch : ℕ)
+    → agreed_state b a (with_guest (with_latch latch) name gs) ≡ agreed_state b a gs
+
+abbrev pub MoveResetsOneFunction : Type 0
+MoveResetsOneFunction = (b : Board) (a : Apertures) (gs : GuestsNow) → AreSeated b gs
+    → (m : Move) → IsSome (guest_named gs m.to) → move_fault gs m ≡ None
+    → (p : Path) (f : Function) → path_in gs m.from m.slot ≡ Some p → function_in gs m.from m.slot ≡ Some f
+    → agreed_state b a (after_move gs m) ≡ with_change_at (after_reset f.decl) p (agreed_state b a gs)
+
+-- ---- any event
+
+-- a read and a write of the latch change no function
+abbrev pub landing_at : LoneGuest → Op → Destination → Option Landing
+landing_at g reads d = None
+landing_at g (writes v) own_latch = None
+landing_at g (writes v) no_function = None
+landing_at g (writes v) (at_target t) = landing g.slots t
+
+abbrev pub landing_of : LoneGuest → Event → Option Landing
+landing_of g (access a) = landing_at g a.op (destination g.latch a.width a.target)
+landing_of g (raises r) = option_map (λ (p : Place). record { slot = r.slot; place = p }) (raise_landing (slot_at g.slots r.slot) r)
+
+-- a refused event lands nowhere
+abbrev pub lands : LoneGuest → Event → Option Landing
+lands g e = if is_some (event_fault g.slots e) then None else landing_of g e
+
+abbrev pub own_write : Op → ℕ → Place → File → File
+own_write reads w p file = file
+own_write (writes v) w p file = write (all_bytes w) v p file
+
+-- what an event does to the guest's file where it lands
+abbrev pub own_effect : Event → Place → File → File
+own_effect (access a) p file = own_write a.op a.width p file
+own_effect (raises r) p file = raise r.mask p file
+
+abbrev pub board_write : Op → ℕ → Place → File → File
+board_write reads w p file = file
+board_write (writes v) w p file = write (handed_on p (all_bytes w)) v p file
+
+-- and to the board's: the bytes of which the guest has no copy
+abbrev pub board_effect : Event → Place → File → File
+board_effect (access a) p file = board_write a.op a.width p file
+board_effect (raises r) p file = if is_own p then file else raise r.mask p file
+
+abbrev pub board_after : GuestsNow → Text → Event → Option Landing → State → State
+board_after gs name e None now = now
+board_after gs name e (Some l) now =
+    option_map_or (λ (p : Path). with_change_at (board_effect e l.place) p now) (path_in gs name l.slot) now
+
+-- the board changes in the function of that slot, and nowhere else
+abbrev pub EventReachesBoard : Type 0
+EventReachesBoard = (b : Board) (a : Apertures) (gs : GuestsNow) → AreSeated b gs → (name : Text) (e : Event)
+    → agreed_state b a (after_guest_event name e gs) ≡ board_after gs name e (lands (lone_of gs name) e) (agreed_state b a gs)

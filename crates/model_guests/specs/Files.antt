@@ -1,0 +1,29 @@
+-- A function's file as its guest has it, as the board has it, and what is common to both.
+--     places_of, shape_of      the places of a file; its cells without their values
+--     agreed_file left own      the board's file: as set-up left it where the guest has copies, and the guest's everywhere else
+--     with_copies copies file      a file with the cells of the copies at their places
+--     after_reset d file      the board's file of a function that is at reset but for what its guests have copies of
+use Rattle.std.specs.Prelude.{List, if◌then◌else◌, map, false}
+use Rattle.model_registers.specs.Registers.{Place, Entry, File, cell_at}
+use Rattle.model_registers.specs.Declarations.{Endpoint}
+use Rattle.model_registers.specs.EndpointTable.{endpoint_reset}
+use Rattle.model_registers.specs.OwnCopies.{is_own}
+
+abbrev pub places_of : File → List Place
+places_of file = map (λ e. e.place) file
+
+-- which bits of each cell can be written and cleared stays
+abbrev pub shape_of : File → File
+shape_of file = map (λ (e : Entry). record e { cell = record e.cell { value = 0 } }) file
+
+abbrev pub agreed_file : File → File → File
+agreed_file left own = map (λ (e : Entry). if is_own e.place then e else record e { cell = cell_at own e.place }) left
+
+abbrev pub copied : File → Entry → Entry
+copied copies e = if is_own e.place then record e { cell = cell_at copies e.place } else e
+
+abbrev pub with_copies : File → File → File
+with_copies copies file = map (copied copies) file
+
+abbrev pub after_reset : Endpoint → File → File
+after_reset d file = agreed_file file (endpoint_reset d false)
