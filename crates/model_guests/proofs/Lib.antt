@@ -28,6 +28,9 @@ pub mod Counterexamples
 pub mod WrittenLines
 pub mod Isolation
 pub mod OwnLines
+pub mod RunLines
+pub mod RegionReach
+pub mod MoveIndices
 pub mod Dialogues
 pub mod RowsOfBaseRegisters
 pub mod RowsOfHeaders

@@ -24,7 +24,7 @@ pub record NoFault (s : GuestsNow) (m : Move) : Type 0 where
   pub in_range : m.target < 32
   pub is_empty : is_some (function_in s m.to m.target) ≡ false
 
-no_fault : (s : GuestsNow) (m : Move) → move_fault s m ≡ None → NoFault s m
+pub no_fault : (s : GuestsNow) (m : Move) → move_fault s m ≡ None → NoFault s m
 no_fault s m h =
     let parts = cases (nat_le 32 m.slot || nat_le 32 m.target) (is_some (function_in s m.from m.slot)) (is_some (function_in s m.to m.target)) h in
     record { in_range = below m.slot m.target parts.0; is_empty = parts.1 }
@@ -73,11 +73,11 @@ module _ (b : Board) (s : GuestsNow) (seated : AreSeated b s) (m : Move) (f : Fu
   moved = with_guest filled m.to left
 
   -- the guest that takes it
-  record Takes (o : Option GuestNow) : Type 0 where
-    path_is : path_of o m.target ≡ the_path
-    function_is : function_of o m.target ≡ Some fresh
+  pub record Takes (o : Option GuestNow) : Type 0 where
+    pub path_is : path_of o m.target ≡ the_path
+    pub function_is : function_of o m.target ≡ Some fresh
 
-  takes : Takes (guest_named moved m.to)
+  pub takes : Takes (guest_named moved m.to)
   takes =
       subst Takes (sym (named_with filled (λ t. refl) m.to m.to left))
       (cases (guest_named left m.to) refl (ap is_some (named_with (with_slot_emptied m.slot) (λ t. refl) m.from m.to s) ∙ some (guest_named s m.to) to_there))
@@ -97,14 +97,14 @@ module _ (b : Board) (s : GuestsNow) (seated : AreSeated b s) (m : Move) (f : Fu
             function_is = ap (λ v. slot_at (cond v (filled t) t).lone.slots m.target) here ∙ slot_put b t.paths t.lone.slots m.target (Some fresh) there.has.seats room;
           }
 
-  inputs_of_move : AreSeated b moved
-  inputs_of_move = seated_handed b s seated m f is
+  pub moved_seated : AreSeated b moved
+  moved_seated = seated_handed b s seated m f is
 
   pub moved_before : file_of s p ≡ Some f.file
   moved_before = file_found s seated.names_apart seated.paths_apart m.from m.slot p f at (sym (function_named s m.from m.slot) ∙ is)
 
   pub moved_after : file_of moved p ≡ Some (endpoint_reset f.decl false)
-  moved_after = file_found moved inputs_of_move.names_apart inputs_of_move.paths_apart m.to m.target p fresh (takes.path_is ∙ at) takes.function_is
+  moved_after = file_found moved moved_seated.names_apart moved_seated.paths_apart m.to m.target p fresh (takes.path_is ∙ at) takes.function_is
 
   only_path : (q : Path) → path_eq p q ≡ false → (o : Option Path) → o ≡ Some p → (r : Path) → o ≡ Some r → path_eq r q ≡ false
   only_path q other o e r i = let same : r ≡ p = cc in ap (λ (x : Path). path_eq x q) same ∙ other

@@ -26,14 +26,14 @@ lacks_append b (c ∷ cs) t h k =
 -- ---- cutting what was put together
 
 -- a line before an LF is the first piece
-first_line : (l rest : Text) → lacks 10 l ≡ true → lines (l ++ 10 ∷ rest) ≡ l ∷ lines rest
+pub first_line : (l rest : Text) → lacks 10 l ≡ true → lines (l ++ 10 ∷ rest) ≡ l ∷ lines rest
 first_line [] rest h = refl
 first_line (c ∷ cs) rest h =
     let e : eqb c 10 ≡ false = not_true (eqb c 10) (left_true (not (eqb c 10)) (lacks 10 cs) h) in
     ap (λ t. cond t ([] ∷ lines (cs ++ 10 ∷ rest)) (onto c (lines (cs ++ 10 ∷ rest)))) e
     ∙ ap (onto c) (first_line cs rest (right_true (not (eqb c 10)) (lacks 10 cs) h))
 
-one_more : (l rest : Text) → (l ++ 10 ∷ []) ++ rest ≡ l ++ 10 ∷ rest
+pub one_more : (l rest : Text) → (l ++ 10 ∷ []) ++ rest ≡ l ++ 10 ∷ rest
 one_more [] rest = refl
 one_more (c ∷ cs) rest = ap (λ t. c ∷ t) (one_more cs rest)
 

@@ -18,6 +18,9 @@ pub mod Seated
 pub mod AgreedLaws
 pub mod ChangeLaws
 pub mod ViewLaws
+pub mod MoveLaws
+pub mod RegionLaws
+pub mod Runs
 pub mod Report
 pub mod Examples
 pub mod LoneGuest

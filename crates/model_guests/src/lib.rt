@@ -6,6 +6,9 @@ ghost use Rattle.model_guests.specs.Seated.{ByIndex, NamesAlong, NamesStay, Seat
 ghost use Rattle.model_guests.specs.AgreedLaws.{AgreedStateAgrees, AgreedStateIsOnly, AgreesAtFirst, CopiesNeverRise, FileOfSeat, KeepsNumbers, KeepsRouting, ShowsFile};
 ghost use Rattle.model_guests.specs.ChangeLaws.{ChangesOneFunction, EventReachesBoard, LatchKeepsBoard, MoveResetsOneFunction, OneFile, RaisesAlike, ResetsAlike, WritesAlike};
 ghost use Rattle.model_guests.specs.ViewLaws.{ViewAgrees, ViewIsFile};
+ghost use Rattle.model_guests.specs.MoveLaws.{InputsWithin, MoveBetween, MoveWithin, MovedFunction};
+ghost use Rattle.model_guests.specs.RegionLaws.{HitReachesRegion};
+ghost use Rattle.model_guests.specs.Runs.{AfterAlong, CutIsBeginning, LinesOfPieces, LongLinesAlike, OutputAlong, StoppedIsBeginning};
 
 pub mod lone_slots;
 
@@ -78,4 +81,30 @@ pub fn agreement_shows()
 pub fn view_is_file()
     ensures file { ViewIsFile }
     ensures agrees { ViewAgrees }
+{}
+
+/// A move empties one slot and fills another, within one guest or between two; the function is then at
+/// reset in its new slot, and its former slot is empty.
+pub fn moves_by_index()
+    ensures within { MoveWithin }
+    ensures between { MoveBetween }
+    ensures inputs { InputsWithin }
+    ensures slots { MovedFunction }
+{}
+
+/// What a guest's function decodes is a byte of a declared region, which set-up placed, and which the
+/// board claims there whatever guests did.
+pub fn hits_reach_regions()
+    ensures { HitReachesRegion }
+{}
+
+/// Pieces of a script write and leave, one after the other, what the whole does, and a run that fails
+/// wrote a beginning of it.
+pub fn runs_in_pieces()
+    ensures output { OutputAlong }
+    ensures after { AfterAlong }
+    ensures lines { LinesOfPieces }
+    ensures long { LongLinesAlike }
+    ensures stopped { StoppedIsBeginning }
+    ensures cut { CutIsBeginning }
 {}

@@ -1,0 +1,135 @@
+-- What a move does to the guests, by their indices, and to the slots.
+use Rattle.std.proofs.Common.{◌≡◌, ℕ, zero, suc, Bool, true, false, cond, List, [], ◌∷◌, ◌++◌, Some, None, Option, refl, sym, ap, ap₂, ◌∙◌, subst, arith}
+use Rattle.std.specs.Prelude.{slice_get, slice_set, is_some, IsFalse, IsSome}
+use Rattle.std.specs.Str.{bytes_eq}
+use Rattle.model_registers.specs.Lists.{EachPair}
+use Rattle.model_registers.specs.Decoding.{Function}
+use Rattle.model_registers.specs.EndpointTable.{endpoint_reset}
+use Rattle.model_board.specs.Paths.{Path}
+use Rattle.model_board.specs.Board.{Board}
+use Rattle.model_guests.specs.Text.{Text}
+use Rattle.model_guests.specs.Guests.{GuestNow, GuestsNow, guest_named, path_in, function_in, with_guest, Move, move_fault, with_slot_emptied, with_slot_filled, handed_over, after_move}
+use Rattle.model_guests.specs.Inputs.{Input, loses, gets, inputs_of_move}
+use Rattle.model_guests.specs.Seated.{AreSeated, IsSeat}
+use Rattle.model_guests.specs.MoveLaws.{IsDone, MoveWithin, MoveBetween, InputsWithin, IsMoved, MovedFunction}
+use Rattle.model_guests.proofs.Along.{by_index}
+use Rattle.model_guests.proofs.Names.{same_text}
+use Rattle.model_guests.proofs.GuestsByName.{function_named}
+use Rattle.model_guests.proofs.Seats.{names_stay}
+use Rattle.model_guests.proofs.SeatedMoves.{seat_in, Placed, put_there, was_there, placed, place_left}
+use Rattle.model_guests.proofs.MovedFunctions.{NoFault, no_fault, moved, moved_seated, takes}
+
+get_set : {A : Type 0} (xs : List A) (i : ℕ) (x y : A) → slice_get xs i ≡ Some x → slice_get (slice_set xs i y) i ≡ Some y
+get_set [] i x y h = cc
+get_set (z ∷ zs) zero x y h = refl
+get_set (z ∷ zs) (suc i) x y h = get_set zs i x y h
+
+set_set : {A : Type 0} (xs : List A) (i : ℕ) (x y : A) → slice_set (slice_set xs i x) i y ≡ slice_set xs i y
+set_set [] i x y = refl
+set_set (z ∷ zs) zero x y = refl
+set_set (z ∷ zs) (suc i) x y = ap (λ ws. z ∷ ws) (set_set zs i x y)
+
+get_other : {A : Type 0} (xs : List A) (i j : ℕ) (y : A) → (i ≡ j → ⊥) → slice_get (slice_set xs i y) j ≡ slice_get xs j
+get_other [] i j y h = refl
+get_other (z ∷ zs) zero zero y h = absurd (h refl)
+get_other (z ∷ zs) zero (suc j) y h = refl
+get_other (z ∷ zs) (suc i) zero y h = refl
+get_other (z ∷ zs) (suc i) (suc j) y h = get_other zs i j y (λ e. h (ap suc e))
+
+-- a move that is not refused hands the function over
+done_move : (gs : GuestsNow) (m : Move) (p : Path) (f : Function) → move_fault gs m ≡ None → path_in gs m.from m.slot ≡ Some p → function_in gs m.from m.slot ≡ Some f
+    → after_move gs m ≡ with_guest (with_slot_filled m.target (Some p) f.decl) m.to (with_guest (with_slot_emptied m.slot) m.from gs)
+done_move gs m p f fault at is =
+    ap (λ (t : Bool). cond t gs (handed_over m (path_in gs m.from m.slot) (function_in gs m.from m.slot) gs)) (ap is_some fault)
+    ∙ ap₂ (λ (x : Option Path) (o : Option Function). handed_over m x o gs) at is
+
+module _ (gs : GuestsNow) (m : Move) (p : Path) (f : Function) (i : ℕ) (g : GuestNow) (is : IsDone gs m p f i g) where
+  abbrev emptied : GuestNow
+  emptied = with_slot_emptied m.slot g
+
+  abbrev filling : GuestNow → GuestNow
+  filling = with_slot_filled m.target (Some p) f.decl
+
+  left : with_guest (with_slot_emptied m.slot) m.from gs ≡ slice_set gs i emptied
+  left = ap (λ n. with_guest (with_slot_emptied m.slot) n gs) is.from ∙ (by_index gs is.names_apart i g is.at).1 (with_slot_emptied m.slot)
+
+  left_names : EachPair (λ (x y : GuestNow). IsFalse (bytes_eq x.name y.name)) (slice_set gs i emptied)
+  left_names = subst (λ (xs : GuestsNow). EachPair (λ (x y : GuestNow). IsFalse (bytes_eq x.name y.name)) xs) left (names_stay (with_slot_emptied m.slot) (λ x. refl) m.from gs is.names_apart)
+
+  pub moves : (j : ℕ) (h : GuestNow) → slice_get (slice_set gs i emptied) j ≡ Some h → m.to ≡ h.name → after_move gs m ≡ slice_set (slice_set gs i emptied) j (filling h)
+  moves j h at to =
+      done_move gs m p f is.not_refused is.path is.function ∙ ap (λ (xs : GuestsNow). with_guest filling m.to xs) left
+      ∙ ap (λ n. with_guest filling n (slice_set gs i emptied)) to ∙ (by_index (slice_set gs i emptied) left_names j h at).1 filling
+
+pub move_within : MoveWithin
+move_within gs m p f i g is to =
+    moves gs m p f i g is i (with_slot_emptied m.slot g) (get_set gs i g (with_slot_emptied m.slot g) is.at) to
+    ∙ set_set gs i (with_slot_emptied m.slot g) (with_slot_filled m.target (Some p) f.decl (with_slot_emptied m.slot g))
+
+pub move_between : MoveBetween
+move_between gs m p f i g is j h at to apart = moves gs m p f i g is j h (get_other gs i j (with_slot_emptied m.slot g) other ∙ at) to
+  where
+    other : i ≡ j → ⊥
+    other e =
+        let same : g ≡ h = cc (sym is.at ∙ ap (slice_get gs) e ∙ at) in
+        let yes : bytes_eq g.name h.name ≡ true = ap (λ (x : GuestNow). bytes_eq g.name x.name) (sym same) ∙ same_text g.name in cc
+
+pub inputs_within : InputsWithin
+inputs_within m f same =
+    let from : bytes_eq m.from m.from ≡ true = same_text m.from in
+    let to : bytes_eq m.to m.from ≡ true = ap (bytes_eq m.to) same ∙ same_text m.to in
+    ap₂ (λ (x y : Bool). cond x (loses m.slot ∷ []) [] ++ cond y (gets m.target f.decl ∷ []) []) from to
+
+-- ---- the slots afterwards
+
+module _ (b : Board) (gs : GuestsNow) (seated : AreSeated b gs) (m : Move) (f : Function) (is : function_in gs m.from m.slot ≡ Some f) (p : Path) (at : path_in gs m.from m.slot ≡ Some p)
+    (to_there : IsSome (guest_named gs m.to)) (can : NoFault gs m) where
+  abbrev after : GuestsNow
+  after = moved b gs seated m f is p at to_there can
+
+  -- the target was empty, and the source was not
+  apart : m.from ≡ m.to → m.slot ≡ m.target → ⊥
+  apart h k =
+      let some : is_some (function_in gs m.to m.target) ≡ true = ap₂ (λ (x : Text) (n : ℕ). is_some (function_in gs x n)) (sym h) (sym k) ∙ ap is_some is in
+      let none : is_some (function_in gs m.to m.target) ≡ false = can.is_empty in cc
+
+  no_path : (q : Path) → path_in after m.from m.slot ≡ Some q → ⊥
+  no_path q h =
+      by_place (placed (with_slot_filled m.target (path_in gs m.from m.slot) f.decl) m.target (path_in gs m.from m.slot) (λ g. refl) (λ g. refl)
+      (with_guest (with_slot_emptied m.slot) m.from gs) m.to m.from m.slot q h)
+    where
+      by_left : Placed gs m.from m.from m.slot m.slot None q → ⊥
+      by_left (put_there x y z) = cc
+      by_left (was_there x y) = y refl refl
+
+      by_place : Placed (with_guest (with_slot_emptied m.slot) m.from gs) m.to m.from m.target m.slot (path_in gs m.from m.slot) q → ⊥
+      by_place (put_there x y z) = apart x y
+      by_place (was_there x y) = by_left (place_left b gs seated m f is m.from m.slot q x)
+
+  left_empty : IsSeat b (path_in after m.from m.slot) (function_in after m.from m.slot)
+  left_empty = seat_in b after (moved_seated b gs seated m f is p at to_there can).guests m.from m.slot
+
+  pub is_moved : IsMoved after m p f
+  is_moved = record {
+    path = (takes b gs seated m f is p at to_there can).path_is ∙ at;
+    function = function_named after m.to m.target ∙ (takes b gs seated m f is p at to_there can).function_is;
+    no_path = none (path_in after m.from m.slot) no_path;
+    no_function = no_seat (path_in after m.from m.slot) (function_in after m.from m.slot) left_empty no_path;
+  }
+    where
+      none : (o : Option Path) → ((q : Path) → o ≡ Some q → ⊥) → o ≡ None
+      none None h = refl
+      none (Some q) h = absurd (h q refl)
+
+      no_seat : (o : Option Path) (g : Option Function) → IsSeat b o g → ((q : Path) → o ≡ Some q → ⊥) → g ≡ None
+      no_seat None None s h = refl
+      no_seat None (Some g) s h = absurd s
+      no_seat (Some q) g s h = absurd (h q refl)
+
+pub moved_function : MovedFunction
+moved_function b gs seated m to_there fault p f at is =
+    let can : NoFault gs m = no_fault gs m fault in
+    let same : after_move gs m ≡ moved b gs seated m f is p at to_there can =
+    ap (λ (t : Bool). cond t gs (handed_over m (path_in gs m.from m.slot) (function_in gs m.from m.slot) gs)) (ap is_some fault)
+    ∙ ap (λ (o : Option Function). handed_over m (path_in gs m.from m.slot) o gs) is in
+    subst (λ (x : GuestsNow). IsMoved x m p f) (sym same) (is_moved b gs seated m f is p at to_there can)

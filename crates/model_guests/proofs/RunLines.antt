@@ -1,0 +1,93 @@
+-- What a run writes along lines and pieces, and where it ends early.
+use Rattle.std.proofs.Common.{◌≡◌, ℕ, zero, suc, Bool, true, false, not, ◌||◌, cond, List, [], ◌∷◌, ◌++◌, length, take, Some, None, Option, refl, sym, ap, ap₂, ◌∙◌, subst, append_assoc, eqb, arith}
+use Rattle.std.specs.Prelude.{IsTrue, IsFalse}
+use Rattle.std.specs.List.{list_any}
+use Rattle.std.specs.Io.{StartsWith}
+use Rattle.std.specs.Io.KnownBytes.{Appends, Consumes}
+use Rattle.std.proofs.lemmas.List.{take-append-le}
+use Rattle.model_registers.specs.Lists.{Each}
+use Rattle.model_guests.specs.Text.{Text, ends_line, lines, text_of_lines}
+use Rattle.model_guests.specs.Grammar.{is_long, nobody}
+use Rattle.model_guests.specs.Lines.{meaning, bad}
+use Rattle.model_guests.specs.WorldNow.{WorldNow, names_now, line_output, after_line, output, after_lines, written_by, after_meaning}
+use Rattle.model_guests.specs.Runs.{HasNoEnd, IsCut, first_output, IsStopped, WritesBeginning, StoppedIsBeginning, CutIsBeginning, OutputAlong, AfterAlong, LinesOfPieces, LongLinesAlike}
+use Rattle.model_guests.proofs.Names.{lacks, both}
+use Rattle.model_guests.proofs.OutputLines.{first_line, one_more}
+
+pub after_along : AfterAlong
+after_along w [] ms = refl
+after_along w (l ∷ ls) ms = after_along (after_line w l) ls ms
+
+pub output_along : OutputAlong
+output_along w [] ms = refl
+output_along w (l ∷ ls) ms =
+    ap (λ (t : Text). line_output w l ++ t) (output_along (after_line w l) ls ms)
+    ∙ sym (append_assoc (line_output w l) (output (after_line w l) ls) (output (after_lines (after_line w l) ls) ms))
+
+-- ---- lines
+
+lacks_end : (line : Text) → list_any ends_line line ≡ false → lacks 10 line ≡ true
+lacks_end [] h = refl
+lacks_end (c ∷ cs) h = cases (eqb c 10) refl h (lacks_end cs)
+  where
+    cases : (t : Bool) → eqb c 10 ≡ t → (t || list_any ends_line cs) ≡ false → (list_any ends_line cs ≡ false → lacks 10 cs ≡ true) → lacks 10 (c ∷ cs) ≡ true
+    cases true e h more = cc
+    cases false e h more = both (not (eqb c 10)) (lacks 10 cs) (ap not e) (more h)
+
+pub lines_of_pieces : LinesOfPieces
+lines_of_pieces [] none rest = refl
+lines_of_pieces (l ∷ ls) none rest =
+    ap lines (append_assoc (l ++ 10 ∷ []) (text_of_lines ls) rest ∙ one_more l (text_of_lines ls ++ rest))
+    ∙ first_line l (text_of_lines ls ++ rest) (lacks_end l none.0) ∙ ap (λ (more : List Text). l ∷ more) (lines_of_pieces ls none.1 rest)
+
+pub long_lines_alike : LongLinesAlike
+long_lines_alike w l m long_l long_m =
+    let first : meaning (names_now w) l ≡ bad nobody 403 = rw long_l refl in
+    let second : meaning (names_now w) m ≡ bad nobody 403 = rw long_m refl in (
+      ap (λ x. text_of_lines (written_by w x)) (first ∙ sym second),
+      ap (λ x. after_meaning w x) first,
+    )
+
+-- ---- beginnings
+
+starts : (xs ys : Text) → StartsWith (xs ++ ys) xs
+starts [] ys = refl
+starts (x ∷ xs) ys = ap (λ (t : Text). x ∷ t) (starts xs ys)
+
+starts_after : (xs ys zs : Text) → StartsWith ys zs → StartsWith (xs ++ ys) (xs ++ zs)
+starts_after [] ys zs h = h
+starts_after (x ∷ xs) ys zs h = ap (λ (t : Text). x ∷ t) (starts_after xs ys zs h)
+
+starts_more : (xs ys zs : Text) → StartsWith xs zs → StartsWith (xs ++ ys) zs
+starts_more xs ys [] h = refl
+starts_more [] ys (z ∷ zs) h = cc
+starts_more (x ∷ xs) ys (z ∷ zs) h =
+    let head : x ≡ z = cc in
+    let rest : take (length zs) xs ≡ zs = cc in
+    ap₂ (λ (c : ℕ) (cs : Text). c ∷ cs) head (starts_more xs ys zs rest)
+
+first_begins : (w : WorldNow) (ls : List Text) (part : Text) → StartsWith (first_output w ls) part → StartsWith (output w ls) part
+first_begins w [] part h = h
+first_begins w (l ∷ ls) part h = starts_more (line_output w l) (output (after_line w l) ls) part h
+
+pub stopped_is_beginning : StoppedIsBeginning
+stopped_is_beginning w ls old new end h = record {
+  text = output w h.whole ++ h.part;
+  written = h.written;
+  begins = subst (λ (t : Text). StartsWith t (output w h.whole ++ h.part)) (sym (ap (output w) h.in_order ∙ output_along w h.whole h.rest))
+      (starts_after (output w h.whole) (output (after_lines w h.whole) h.rest) h.part (first_begins (after_lines w h.whole) h.rest h.part h.begins));
+}
+
+pub cut_is_beginning : CutIsBeginning
+cut_is_beginning w old_rest new_rest old new end h =
+    let read : Text = text_of_lines h.whole ++ h.part in
+    let all : output w (lines read) ≡ output w h.whole ++ output (after_lines w h.whole) (lines h.part) =
+    ap (output w) (lines_of_pieces h.whole h.each_line h.part) ∙ output_along w h.whole (lines h.part) in (
+      read,
+      h.read,
+      record {
+        text = output w h.whole;
+        written = h.written;
+        begins = subst (λ (t : Text). StartsWith t (output w h.whole)) (sym all) (starts (output w h.whole) (output (after_lines w h.whole) (lines h.part)));
+      },
+    )

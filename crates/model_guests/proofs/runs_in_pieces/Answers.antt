@@ -1,0 +1,12 @@
+use Rattle.model_guests.proofs.RunLines.{after_along, output_along, lines_of_pieces, long_lines_alike, stopped_is_beginning, cut_is_beginning}
+use Rattle.model_guests.proofs.runs_in_pieces.Goals as goal
+
+pub returns : goal.returns
+returns c = record {
+  output = output_along;
+  after = after_along;
+  lines = lines_of_pieces;
+  long = long_lines_alike;
+  stopped = stopped_is_beginning;
+  cut = cut_is_beginning;
+}
