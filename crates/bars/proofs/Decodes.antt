@@ -6,7 +6,7 @@ use Rattle.std.proofs.lemmas.Bool.{eq-eqb, ne_eqb}
 use Rattle.model_registers.specs.Lists.{first_of_two, first_some}
 use Rattle.model_registers.specs.Registers.{config, number, File}
 use Rattle.model_registers.specs.EndpointTable.{BaseAddress, command_cells, base_file, opened, HasLawfulBases}
-use Rattle.model_registers.specs.Decoding.{Space, command_bit, same_space, space_of, standing, hit_at, first_hit}
+use Rattle.model_registers.specs.Decoding.{Space, command_bit, same_space, space_of, base_address, hit_at, first_hit}
 use Rattle.model_registers.proofs.Hits.{hits_by_bases, hits_of_registers}
 use Rattle.model_registers.proofs.RegisterFiles.{field_reads}
 use Rattle.bars.specs.declared.region.Region.{Region}
@@ -23,8 +23,8 @@ closed command small space a bs none =
     let file : File = command_cells command ++ base_file bs in
     let word : number file (config 4) 2 ≡ command = field_reads 2 4 command 0x0547 0 (base_file bs) ∙ mod-eq_of_lt small in
     let shut : not (eqb (bit_and command (command_bit space)) 0) ≡ false = ap not (eq-eqb (bit_and command (command_bit space)) 0 none) in
-    hits_by_bases file (map opened bs) space a ∙ ap (λ c. first_some (hit_at c space a) (map (standing file) (map opened bs))) word
-    ∙ closed_each command space a shut (map (standing file) (map opened bs))
+    hits_by_bases file (map opened bs) space a ∙ ap (λ c. first_some (hit_at c space a) (map (base_address file) (map opened bs))) word
+    ∙ closed_each command space a shut (map (base_address file) (map opened bs))
 
 -- where the space is open, regions decode by their addresses alone
 by_test : (t : Bool) (n off : ℕ) → cond t (Some (hit_in n off)) None ≡ option_map (hit_in n) (cond t (Some off) None)

@@ -5,7 +5,7 @@ use Rattle.model_registers.specs.Lists.{Each, first_some}
 use Rattle.model_registers.specs.Registers.{config, File, number, all_bytes}
 use Rattle.model_registers.specs.Declarations.{Region, Kind, io_kind, mem32, mem64, registers_of, IsLawfulRegion, Endpoint}
 use Rattle.model_registers.specs.EndpointTable.{BaseAddress, base_file, command_cells, opened}
-use Rattle.model_registers.specs.Decoding.{Space, base, standing, hit_at, first_hit}
+use Rattle.model_registers.specs.Decoding.{Space, base, base_address, hit_at, first_hit}
 use Rattle.model_registers.specs.OwnCopies.{bare}
 use Rattle.model_registers.proofs.Hits.{hits_by_bases}
 use Rattle.model_registers.proofs.RegisterFiles.{field_reads}
@@ -13,9 +13,9 @@ use Rattle.model_registers.proofs.Parts.{read_apart}
 use Rattle.bridge_forward.specs.EndpointParts.{region_parts, AreParts}
 use Rattle.bridge_forward.proofs.EndpointAccess.{lawful_bars, read_base, read_config}
 
-standing_bare : (file : File) (rs : List Region) → map (standing file) (map bare rs) ≡ map (standing file) rs
+standing_bare : (file : File) (rs : List Region) → map (base_address file) (map bare rs) ≡ map (base_address file) rs
 standing_bare file [] = refl
-standing_bare file (r ∷ rs) = ap (λ (bs : List BaseAddress). standing file r ∷ bs) (standing_bare file rs)
+standing_bare file (r ∷ rs) = ap (λ (bs : List BaseAddress). base_address file r ∷ bs) (standing_bare file rs)
 
 module _ (d : Endpoint) (cells : File) (bars : List BaseAddress) (g : ℕ → File) (parts : AreParts d cells bars g) (command : ℕ) (is : command ≡ number cells (config 4) 2) (small : command < 2 ^ 16) where
   abbrev whole : File
@@ -39,7 +39,7 @@ module _ (d : Endpoint) (cells : File) (bars : List BaseAddress) (g : ℕ → Fi
   same_base n (mem32 p) h = ap (λ m. m / 16 * 16) (same_read (0x10 + 4 * n) 4 (omega arith) (omega arith))
   same_base n (mem64 p) h = ap (λ m. m / 16 * 16) (same_read (0x10 + 4 * n) 8 (omega arith) (omega arith))
 
-  same_standing : (bs : List BaseAddress) → Each IsLawfulRegion (map opened bs) → map (standing own) (map opened bs) ≡ map (standing whole) (map opened bs)
+  same_standing : (bs : List BaseAddress) → Each IsLawfulRegion (map opened bs) → map (base_address own) (map opened bs) ≡ map (base_address whole) (map opened bs)
   same_standing [] h = refl
   same_standing (b ∷ bs) h =
       ap₂ (λ n (cs : List BaseAddress). record { index = b.index; kind = b.kind; size = b.size; base = n } ∷ cs) (same_base b.index b.kind h.0.registers) (same_standing bs h.1)
@@ -48,8 +48,8 @@ module _ (d : Endpoint) (cells : File) (bars : List BaseAddress) (g : ℕ → Fi
   hits_same space a =
       let word : number own (config 4) 2 ≡ number whole (config 4) 2 =
       field_reads 2 4 command 0x0547 0 (base_file bars) ∙ mod-eq_of_lt small ∙ is ∙ sym (read_config d cells bars g parts 4 (all_bytes 2) (inl (omega arith))) in
-      let stand : map (standing own) (map opened bars) ≡ map (standing whole) d.regions =
-      same_standing bars (lawful_bars d cells bars g parts).each ∙ ap (map (standing whole)) parts.registers ∙ standing_bare whole d.regions in
+      let stand : map (base_address own) (map opened bars) ≡ map (base_address whole) d.regions =
+      same_standing bars (lawful_bars d cells bars g parts).each ∙ ap (map (base_address whole)) parts.registers ∙ standing_bare whole d.regions in
       hits_by_bases own (map opened bars) space a
       ∙ ap₂ (λ c (bs : List BaseAddress). first_some (hit_at c space a) bs) word stand
       ∙ sym (hits_by_bases whole d.regions space a)

@@ -15,7 +15,7 @@ use Rattle.model_board.specs.Placement.{Item, need, window_items, items_of, item
 use Rattle.model_board.specs.Layout.{IsAligned, IsInside, IsLawful, pool_rows}
 use Rattle.model_board.specs.PlacementLaws.{window_row}
 use Rattle.model_board.specs.Lawful.{HasLawfulDecls}
-use Rattle.model_board.specs.SetUp.{window_of, routing_of}
+use Rattle.model_board.specs.SetUp.{window_of, bridge_values}
 use Rattle.model_board.specs.Windows.{io_window, mem_window, pref_window}
 use Rattle.model_board.specs.WindowLaws.{io_reach, pref_reach, IsWhole, window_over, HasPlacedWindows, SetUpWindows}
 use Rattle.model_board.proofs.Members.{each_in, each_from, from_flat_map, in_filter, in_flat_map, any_in}
@@ -247,9 +247,9 @@ module _ (b : Board) (a : Apertures) (board : IsBoard b) (lawful : HasLawfulDecl
   windows : (r : Row) → IsIn r b → (d : Decl) → r.decl ≡ d → HasPlacedWindows b a r.path d
   windows r m (endpoint d) e = tt
   windows r m (bridge d) e = record {
-    io = io_named d (is_multifunction b r.path) (routing_of b a r.path) (bus_first b a io_pool r.path) (items_on b a io_pool r.path) refl (λ i k. io_span r m d e (i, k));
-    mem = mem_named d (is_multifunction b r.path) (routing_of b a r.path) (bus_first b a mem_pool r.path) (items_on b a mem_pool r.path) refl (λ i k. mem_span r m d e (i, k));
-    pref = pref_named d (is_multifunction b r.path) (routing_of b a r.path) (bus_first b a pref_pool r.path) (items_on b a pref_pool r.path) refl (λ i k. pref_span r m d e (i, k));
+    io = io_named d (is_multifunction b r.path) (bridge_values b a r.path) (bus_first b a io_pool r.path) (items_on b a io_pool r.path) refl (λ i k. io_span r m d e (i, k));
+    mem = mem_named d (is_multifunction b r.path) (bridge_values b a r.path) (bus_first b a mem_pool r.path) (items_on b a mem_pool r.path) refl (λ i k. mem_span r m d e (i, k));
+    pref = pref_named d (is_multifunction b r.path) (bridge_values b a r.path) (bus_first b a pref_pool r.path) (items_on b a pref_pool r.path) refl (λ i k. pref_span r m d e (i, k));
   }
 
 pub set_up_windows : SetUpWindows

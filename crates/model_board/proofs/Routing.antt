@@ -6,13 +6,14 @@ use Rattle.std.proofs.lemmas.Bool.Decides.{nat_tests}
 use Rattle.model_registers.specs.Lists.{Each, first_of_two, first_some}
 use Rattle.model_registers.specs.Registers.{config, File, cell_at, number}
 use Rattle.model_registers.specs.Declarations.{Kind, io_kind, mem32, mem64, Region, registers_of, IsLawfulRegion, Endpoint, IoDecode, no_io, io16, io32, PrefDecode, no_pref, pref32, pref64, Bridge}
-use Rattle.model_registers.specs.Decoding.{Space, io, memory, base, Hit, hit_of}
+use Rattle.model_registers.specs.Decoding.{Space, io, memory, base, base_address, Hit, hit_at, hit_of}
+use Rattle.model_registers.specs.EndpointTable.{BaseAddress}
 use Rattle.model_board.specs.Paths.{Path, leads_to}
 use Rattle.model_board.specs.Board.{Decl, endpoint, bridge}
 use Rattle.model_board.specs.State.{BoardFunction}
 use Rattle.model_board.specs.Windows.{Window, window, io_window, mem_window, pref_window, forwards}
 use Rattle.model_board.specs.Claims.{Claim, claim_at, endpoint_hits, endpoint_hit, claims_of, claim_of, is_forwarded, claims, first_claim}
-use Rattle.model_board.specs.Routing.{RegionRow, Ranges, regions, windows, RoutingRow, region_of, ranges_of, row_of, routing, row_forwards, row_hits, region_hit, row_claims, routed_claims}
+use Rattle.model_board.specs.Routing.{Ranges, regions, windows, RoutingRow, ranges_of, row_of, routing, row_forwards, row_hits, row_claims, routed_claims}
 use Rattle.model_board.specs.Lawful.{IsLawfulDecl}
 use Rattle.model_board.specs.RoutingLaws.{is_routing_register, HasSameRouting, SameRouting, ForwardedByRouting, ClaimsByRouting, FirstByRouting, SameClaims, RoutingOfCells, RoutingOfChange}
 
@@ -32,7 +33,7 @@ flat_map_map f g [] = refl
 flat_map_map f g (x ∷ xs) = ap (λ ys. f (g x) ++ ys) (flat_map_map f g xs)
 
 hits_row : (space : Space) (a : ℕ) (p : Path) (d : Decl) (file : File) → endpoint_hits (record { path = p; decl = d; file = file }) space a ≡ row_hits space a (row_of (record { path = p; decl = d; file = file }))
-hits_row space a p (endpoint d) file = sym (flat_map_map (λ g. option_to_list (region_hit (number file (config 4) 2) space a g)) (region_of file) d.regions)
+hits_row space a p (endpoint d) file = sym (flat_map_map (λ g. option_to_list (hit_at (number file (config 4) 2) space a g)) (base_address file) d.regions)
 hits_row space a p (bridge d) file = refl
 
 claims_row : (fs : List BoardFunction) (space : Space) (a : ℕ) (f : BoardFunction) → claims_of fs space a f ≡ row_claims (routing fs) space a (row_of f)
@@ -113,10 +114,10 @@ same_base d f g h n io_kind few = ap (λ x. x / 4 * 4) (same_number 4 (16 + 4 * 
 same_base d f g h n (mem32 pref) few = ap (λ x. x / 16 * 16) (same_number 4 (16 + 4 * n) f g (λ m l u. h m (in_bases d m (omega arith) (omega arith))))
 same_base d f g h n (mem64 pref) few = ap (λ x. x / 16 * 16) (same_number 8 (16 + 4 * n) f g (λ m l u. h m (in_bases d m (omega arith) (omega arith))))
 
-same_regions : (d : Endpoint) (f g : File) → SameBytes (endpoint d) f g → (rs : List Region) → Each IsLawfulRegion rs → map (region_of f) rs ≡ map (region_of g) rs
+same_regions : (d : Endpoint) (f g : File) → SameBytes (endpoint d) f g → (rs : List Region) → Each IsLawfulRegion rs → map (base_address f) rs ≡ map (base_address g) rs
 same_regions d f g h [] lawful = refl
 same_regions d f g h (r ∷ rs) lawful =
-    ap₂ (λ (b : ℕ) (gs : List RegionRow). record { index = r.index; kind = r.kind; size = r.size; base = b } ∷ gs)
+    ap₂ (λ (b : ℕ) (gs : List BaseAddress). record { index = r.index; kind = r.kind; size = r.size; base = b } ∷ gs)
     (same_base d f g h r.index r.kind lawful.0.registers) (same_regions d f g h rs lawful.1)
 
 module _ (d : Bridge) (f g : File) (h : SameBytes (bridge d) f g) where

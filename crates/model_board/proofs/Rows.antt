@@ -189,15 +189,15 @@ register b a p off w = option_map_or (λ (f : BoardFunction). number f.file (con
 abbrev reset_register : Board → Path → ℕ → ℕ → ℕ
 reset_register b p off w = option_map_or (λ (f : BoardFunction). number f.file (config off) w) (find (λ f. path_eq f.path p) (reset_state b).functions) 0
 
-abbrev windows_of : Board → Apertures → Path → List ℕ
-windows_of b a p =
+abbrev window_registers : Board → Apertures → Path → List ℕ
+window_registers b a p =
     register b a p 0x1c 1 ∷ register b a p 0x1d 1 ∷ register b a p 0x20 2 ∷ register b a p 0x22 2 ∷ register b a p 0x24 2 ∷ register b a p 0x26 2
     ∷ register b a p 0x28 4 ∷ register b a p 0x2c 4 ∷ register b a p 0x30 2 ∷ register b a p 0x32 2 ∷ []
 
 abbrev bridge_at : Path
 bridge_at = part 2 0 ∷ []
 
-pub main_windows : windows_of main_board main_apertures bridge_at ≡ 0x10 ∷ 0x10 ∷ 0xc000 ∷ 0xc000 ∷ 0x0001 ∷ 0x00f1 ∷ 4 ∷ 4 ∷ 0 ∷ 0 ∷ []
+pub main_windows : window_registers main_board main_apertures bridge_at ≡ 0x10 ∷ 0x10 ∷ 0xc000 ∷ 0xc000 ∷ 0x0001 ∷ 0x00f1 ∷ 4 ∷ 4 ∷ 0 ∷ 0 ∷ []
 main_windows = refl
 
 pub main_routing : register main_board main_apertures bridge_at 0x18 4 ∷ register main_board main_apertures bridge_at 4 2 ∷ [] ≡ 0x00010100 ∷ 3 ∷ []
@@ -240,7 +240,7 @@ at_reset = refl
 
 -- a prefetchable region behind a window of 32 bits goes to memory where its aperture lies above 4 GB
 pub wide_aperture_narrow_window :
-    windows_of (main_board_with (record main_bridge { pref = pref32 })) main_apertures bridge_at
+    window_registers (main_board_with (record main_bridge { pref = pref32 })) main_apertures bridge_at
     ++ bases_of (main_board_with (record main_bridge { pref = pref32 })) main_apertures (part 1 0 ∷ [])
     ++ bases_of (main_board_with (record main_bridge { pref = pref32 })) main_apertures (part 2 0 ∷ part 0 0 ∷ [])
     ++ bases_of (main_board_with (record main_bridge { pref = pref32 })) main_apertures (part 2 0 ∷ part 1 0 ∷ [])
@@ -252,25 +252,25 @@ abbrev low_apertures : Apertures
 low_apertures = record main_apertures { pref = Some (aperture 0xe0000000 0xefffffff) }
 
 pub narrow_window :
-    windows_of (main_board_with (record main_bridge { pref = pref32 })) low_apertures bridge_at
+    window_registers (main_board_with (record main_bridge { pref = pref32 })) low_apertures bridge_at
     ++ bases_of (main_board_with (record main_bridge { pref = pref32 })) low_apertures (part 2 0 ∷ part 1 0 ∷ [])
     ≡ 0x10 ∷ 0x10 ∷ 0xc000 ∷ 0xc000 ∷ 0xe000 ∷ 0xe0f0 ∷ 0 ∷ 0 ∷ 0 ∷ 0 ∷ 2 ∷ 0xe000000c ∷ 0 ∷ []
 narrow_window = refl
 
-pub wide_window_below : windows_of main_board low_apertures bridge_at ≡ 0x10 ∷ 0x10 ∷ 0xc000 ∷ 0xc000 ∷ 0xe001 ∷ 0xe0f1 ∷ 0 ∷ 0 ∷ 0 ∷ 0 ∷ []
+pub wide_window_below : window_registers main_board low_apertures bridge_at ≡ 0x10 ∷ 0x10 ∷ 0xc000 ∷ 0xc000 ∷ 0xe001 ∷ 0xe0f1 ∷ 0 ∷ 0 ∷ 0 ∷ 0 ∷ []
 wide_window_below = refl
 
-pub closed_registers : windows_of (lone_bridge main_bridge) main_apertures bridge_at ≡ 0xf0 ∷ 0x00 ∷ 0xfff0 ∷ 0x0000 ∷ 0xfff1 ∷ 0x0001 ∷ 0 ∷ 0 ∷ 0 ∷ 0 ∷ []
+pub closed_registers : window_registers (lone_bridge main_bridge) main_apertures bridge_at ≡ 0xf0 ∷ 0x00 ∷ 0xfff0 ∷ 0x0000 ∷ 0xfff1 ∷ 0x0001 ∷ 0 ∷ 0 ∷ 0 ∷ 0 ∷ []
 closed_registers = refl
 
-pub closed_wide_io : windows_of (lone_bridge (record main_bridge { io = io32 })) main_apertures bridge_at ≡ 0xf1 ∷ 0x01 ∷ 0xfff0 ∷ 0x0000 ∷ 0xfff1 ∷ 0x0001 ∷ 0 ∷ 0 ∷ 0 ∷ 0 ∷ []
+pub closed_wide_io : window_registers (lone_bridge (record main_bridge { io = io32 })) main_apertures bridge_at ≡ 0xf1 ∷ 0x01 ∷ 0xfff0 ∷ 0x0000 ∷ 0xfff1 ∷ 0x0001 ∷ 0 ∷ 0 ∷ 0 ∷ 0 ∷ []
 closed_wide_io = refl
 
-pub no_windows : windows_of (lone_bridge memory_bridge) main_apertures bridge_at ≡ 0 ∷ 0 ∷ 0xfff0 ∷ 0x0000 ∷ 0 ∷ 0 ∷ 0 ∷ 0 ∷ 0 ∷ 0 ∷ []
+pub no_windows : window_registers (lone_bridge memory_bridge) main_apertures bridge_at ≡ 0 ∷ 0 ∷ 0xfff0 ∷ 0x0000 ∷ 0 ∷ 0 ∷ 0 ∷ 0 ∷ 0 ∷ 0 ∷ []
 no_windows = refl
 
 -- the last unit below 4 GB
-pub last_unit : windows_of (chain 1 (memory_of 0x100000)) (in_memory main_apertures 0xfff00000 0xffffffff) (part 0 0 ∷ []) ≡ 0 ∷ 0 ∷ 0xfff0 ∷ 0xfff0 ∷ 0 ∷ 0 ∷ 0 ∷ 0 ∷ 0 ∷ 0 ∷ []
+pub last_unit : window_registers (chain 1 (memory_of 0x100000)) (in_memory main_apertures 0xfff00000 0xffffffff) (part 0 0 ∷ []) ≡ 0 ∷ 0 ∷ 0xfff0 ∷ 0xfff0 ∷ 0 ∷ 0 ∷ 0 ∷ 0 ∷ 0 ∷ 0 ∷ []
 last_unit = refl
 
 -- ---- what window registers name

@@ -20,7 +20,7 @@ use Rattle.model_board.specs.Claims.{Claim, claim_at, claims_of, is_forwarded, c
 use Rattle.model_board.specs.Pools.{Pool, unit_of, Apertures, bridges_above}
 use Rattle.model_board.specs.Placement.{Item, need, items_on, bus_first}
 use Rattle.model_board.specs.Layout.{LayoutRow, IsInside, IsAligned, IsLawful, layout}
-use Rattle.model_board.specs.SetUp.{first_of, command_of, routing_of, set_up_file, set_up_state}
+use Rattle.model_board.specs.SetUp.{first_of, command_of, bridge_values, set_up_file, set_up_state}
 use Rattle.model_board.specs.Routing.{RoutingRow, routing, is_routed, routed_claims}
 use Rattle.model_board.specs.PlacementLaws.{region_row, window_row, HasRows}
 use Rattle.model_board.specs.PlacedRegions.{pool_space, PlacedRegion, placed, placed_at, placed_regions, holds, claim_in, placed_claim}
@@ -102,7 +102,7 @@ module _ (b : Board) (a : Apertures) (can : CanBePlaced b a) (lawful : IsLawful 
 
     by_bridge : (p : Path) (d : Bridge) (n : ℕ) → IsIn (record { path = p; decl = bridge d }) b → leads_to p r.path ≡ true → row.first ≤ n → n < row.first + row.size → forwards (space_of g.kind) n (left b a (record { path = p; decl = bridge d })) ≡ true
     by_bridge p d n m h low high =
-        let opened : is_open (set_up_file b a p (bridge d)) (space_of g.kind) ≡ true = bridge_opens d (is_multifunction b p) (routing_of b a p) (space_of g.kind) refl in
+        let opened : is_open (set_up_file b a p (bridge d)) (space_of g.kind) ≡ true = bridge_opens d (is_multifunction b p) (bridge_values b a p) (space_of g.kind) refl in
         let held : is_in_window d (set_up_file b a p (bridge d)) (space_of g.kind) n ≡ true =
         subst (λ (x : Space). is_in_window d (set_up_file b a p (bridge d)) x n ≡ true) (pool_of_space a (bridges_above b r.path) g.kind) (bridge_forwards row p d n in_layout m h low high) in
         both (is_open (set_up_file b a p (bridge d)) (space_of g.kind)) (is_in_window d (set_up_file b a p (bridge d)) (space_of g.kind) n) opened held

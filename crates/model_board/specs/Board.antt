@@ -3,11 +3,11 @@
 --     Row, Board      a path with its declaration; rows in path order
 --     rows_on, is_multifunction      the functions of one bus; another function stands in the same device
 --     IsBoard      no path twice, each path behind a bridge or on bus 0, and a function 0 in each device
-use Rattle.std.specs.Prelude.{List, [], ◌≡◌, Bool, true, false, ◌&&◌, ◌==◌, not, filter, IsTrue, ◌⊎◌}
+use Rattle.std.specs.Prelude.{List, [], ◌≡◌, Bool, true, false, ◌&&◌, not, filter, IsTrue, ◌⊎◌}
 use Rattle.std.specs.List.{list_any}
 use Rattle.model_registers.specs.Lists.{Each, EachPair}
 use Rattle.model_registers.specs.Declarations.{Endpoint, Bridge}
-use Rattle.model_board.specs.Paths.{Path, path_eq, path_before, parent, last_part, function_zero, IsPath}
+use Rattle.model_board.specs.Paths.{Path, path_eq, path_before, parent, same_device, function_zero, IsPath}
 
 pub data Decl : Type 0 where
   endpoint : Endpoint → Decl
@@ -36,7 +36,7 @@ is_bridge_at b p = list_any (λ r. is_bridge r.decl && path_eq r.path p) b
 
 -- another function stands in the device
 abbrev pub is_multifunction : Board → Path → Bool
-is_multifunction b p = list_any (λ r. path_eq (parent r.path) (parent p) && ((last_part r.path).device == (last_part p).device) && not (path_eq r.path p)) b
+is_multifunction b p = list_any (λ r. same_device r.path p && not (path_eq r.path p)) b
 
 -- lawful places: no path twice, each path behind a bridge of the board or on bus 0, and a function 0 in each device
 pub record IsBoard (b : Board) : Type 0 where

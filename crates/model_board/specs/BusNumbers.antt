@@ -1,8 +1,9 @@
 -- Bus numbers, as counts of bridges: PCI-to-PCI Bridge Architecture 1.2, chapter 3.2.5.
 --     secondary, subordinate b p      the first and the last bus number behind the bridge at p
 --     bus_behind, bus_of      the number of the bus behind a bridge; the bus that a function stands on
---     Enumerates      the numbers suffice
-use Rattle.std.specs.Prelude.{[], ◌∷◌, ℕ, ◌+◌, ◌&&◌, ◌≤◌, count_by}
+--     bridge_count      how many bridges a board has, and so how many buses beside bus 0
+--     numbers_suffice, Enumerates      there are numbers for all of them
+use Rattle.std.specs.Prelude.{[], ◌∷◌, ℕ, ◌+◌, Bool, ◌&&◌, ◌≤◌, nat_le, count_by}
 use Rattle.model_board.specs.Paths.{Path, path_before, leads_to, parent}
 use Rattle.model_board.specs.Board.{is_bridge, Board}
 
@@ -21,5 +22,12 @@ bus_behind b (p ∷ ps) = secondary b (p ∷ ps)
 abbrev pub bus_of : Board → Path → ℕ
 bus_of b p = bus_behind b (parent p)
 
+abbrev pub bridge_count : Board → ℕ
+bridge_count b = count_by (λ r. is_bridge r.decl) b
+
+-- bus numbers end at 255: as a test, and as a fact
+abbrev pub numbers_suffice : Board → Bool
+numbers_suffice b = nat_le (bridge_count b) 255
+
 abbrev pub Enumerates : Board → Type 0
-Enumerates b = count_by (λ r. is_bridge r.decl) b ≤ 255
+Enumerates b = bridge_count b ≤ 255

@@ -2,6 +2,8 @@
 --     Part, Path      a device and function of one bus; the parts from bus 0 down
 --     path_before, leads_to      path order; a path is a proper beginning of another
 --     parent, last_part      the bridge above; the device and function on its own bus
+--     same_device, function_zero      two functions stand in one device; the first function of a device
+--     IsPart, IsPath      16 devices of 8 functions on a bus; at most 16 buses down
 use Rattle.std.specs.Prelude.{List, [], ◌∷◌, ℕ, ◌<◌, Bool, true, false, ◌&&◌, ◌==◌, ◌≤◌, length, ◌||◌, nat_lt}
 use Rattle.model_registers.specs.Lists.{Each}
 
@@ -53,6 +55,10 @@ abbrev pub function_zero : Path → Path
 function_zero [] = []
 function_zero (p ∷ []) = record p { function = 0 } ∷ []
 function_zero (p ∷ q ∷ ps) = p ∷ function_zero (q ∷ ps)
+
+-- two functions of one device
+abbrev pub same_device : Path → Path → Bool
+same_device p q = path_eq (parent p) (parent q) && ((last_part p).device == (last_part q).device)
 
 pub record IsPart (p : Part) : Type 0 where
   pub device_fits : p.device < 16

@@ -3,11 +3,11 @@
 --     next_place      the place of a bus that is looked at next
 --     met b here      the functions that a scan has met when it comes to a place
 --     MeetsInPathOrder, GivesNumbersInPathOrder      that order is path order, and bus numbers are given in it
-use Rattle.std.specs.Prelude.{[], ◌∷◌, ◌++◌, ◌≡◌, ℕ, ◌+◌, ◌/◌, ◌%◌, ◌&&◌, ◌==◌, if◌then◌else◌, not, filter, count_by, IsTrue, IsFalse}
+use Rattle.std.specs.Prelude.{[], ◌∷◌, ◌++◌, ◌≡◌, ℕ, ◌+◌, ◌/◌, ◌%◌, ◌&&◌, ◌==◌, if◌then◌else◌, not, filter, IsTrue, IsFalse}
 use Rattle.model_board.specs.Members.{IsIn}
 use Rattle.model_board.specs.Paths.{Part, Path, path_eq, path_before}
 use Rattle.model_board.specs.Board.{is_bridge, Row, Board, stands_at, is_bridge_at, is_multifunction, IsBoard}
-use Rattle.model_board.specs.BusNumbers.{secondary, subordinate}
+use Rattle.model_board.specs.BusNumbers.{bridge_count, secondary, subordinate}
 use Rattle.model_board.specs.Scanning.{no_numbers, board_numbers, open_numbers, scan_numbers}
 
 abbrev pub place : ℕ → Part
@@ -35,7 +35,7 @@ pub record MeetsInPathOrder (b : Board) : Type 0 where
   pub back : (bus : Path) (n : ℕ) → IsTrue (is_bridge_at b (on bus n)) → met b (on bus (next_place b bus n)) ≡ met b (on (on bus n) 128)
 
 pub record GivesNumbersInPathOrder (b : Board) : Type 0 where
-  pub next_number : (here : Path) → secondary b here ≡ 1 + count_by (λ r. is_bridge r.decl) (met b here)
+  pub next_number : (here : Path) → secondary b here ≡ 1 + bridge_count (met b here)
   pub last_number : (p : Path) → IsTrue (is_bridge_at b p) → secondary b (on p 128) ≡ 1 + subordinate b p
   pub first : (q : Path) → IsTrue (is_bridge_at b q) → scan_numbers b (on [] 0) q ≡ no_numbers
   pub last : (q : Path) → IsTrue (is_bridge_at b q) → scan_numbers b (on [] 128) q ≡ board_numbers b q

@@ -1,4 +1,11 @@
 -- The register state that set-up leaves: all cells at reset, but for bus numbers, Command, base registers and windows.
+-- PCI Local Bus 3.0, chapters 6.2.2 and 6.2.5; PCI-to-PCI Bridge Architecture 1.2, chapter 3.2.5.
+--     first_of      the address at which a region begins
+--     command_of      an endpoint's Command: the spaces of its regions
+--     Windows, windows_of      the windows of a bridge
+--     bridge_values      what a bridge holds: Command, bus numbers and windows
+--     set_up_file, reset_file      the cells of a function after set-up, and at reset
+--     state_of, set_up_state, reset_state      the state of a whole board
 use Rattle.std.specs.Prelude.{List, [], ◌∷◌, ℕ, ◌-◌, ◌+◌, ◌*◌, Bool, if◌then◌else◌, map}
 use Rattle.std.specs.List.{list_any}
 use Rattle.model_registers.specs.Registers.{File}
@@ -13,7 +20,7 @@ use Rattle.model_board.specs.State.{State}
 use Rattle.model_board.specs.Pools.{Pool, io_pool, mem_pool, pref_pool, unit_of, Apertures, bridges_above, pool_of}
 use Rattle.model_board.specs.Placement.{Item, need, items_on, bus_first, region_first}
 
--- the place of a region, in its pool
+-- the region's first address, in its pool
 abbrev pub first_of : Board → Apertures → Path → Region → ℕ
 first_of b a p r = region_first b a (pool_of a (bridges_above b p) r.kind) p r.index
 
@@ -31,20 +38,32 @@ window_of unit closed first (i ∷ is) = record { first = first; last = first + 
 abbrev pub set_up_window : Board → Apertures → Pool → ℕ → Path → Window
 set_up_window b a pool closed p = window_of (unit_of pool) closed (bus_first b a pool p) (items_on b a pool p)
 
-abbrev pub routing_of : Board → Apertures → Path → BridgeValues
-routing_of b a p = record {
-  command = 3;
-  primary = bus_of b p;
-  secondary = secondary b p;
-  subordinate = subordinate b p;
+pub record Windows : Type 0 where
+  pub io : Window
+  pub mem : Window
+  pub pref : Window
+
+abbrev pub windows_of : Board → Apertures → Path → Windows
+windows_of b a p = record {
   io = set_up_window b a io_pool 0xf p;
   mem = set_up_window b a mem_pool 0xfff p;
   pref = set_up_window b a pref_pool 0xfff p;
 }
 
+abbrev pub bridge_values : Board → Apertures → Path → BridgeValues
+bridge_values b a p = record {
+  command = 3;
+  primary = bus_of b p;
+  secondary = secondary b p;
+  subordinate = subordinate b p;
+  io = (windows_of b a p).io;
+  mem = (windows_of b a p).mem;
+  pref = (windows_of b a p).pref;
+}
+
 abbrev pub set_up_file : Board → Apertures → Path → Decl → File
 set_up_file b a p (endpoint d) = endpoint_file d (is_multifunction b p) (command_of d) (first_of b a p)
-set_up_file b a p (bridge d) = bridge_file d (is_multifunction b p) (routing_of b a p)
+set_up_file b a p (bridge d) = bridge_file d (is_multifunction b p) (bridge_values b a p)
 
 abbrev pub reset_file : Board → Path → Decl → File
 reset_file b p (endpoint d) = endpoint_reset d (is_multifunction b p)

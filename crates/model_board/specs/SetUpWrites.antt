@@ -3,23 +3,19 @@
 --     settings      of each function of a board, in path order
 --     Plan, planned      the rows of compact placement, and those settings
 --     placement_rules, set_up_rules      what a board must keep, in the order in which it is judged, with the number of the refusal
-use Rattle.std.specs.Prelude.{List, [], ◌∷◌, ℕ, Bool, nat_le, map, count_by}
+use Rattle.std.specs.Prelude.{List, [], ◌∷◌, ℕ, Bool, map}
 use Rattle.model_registers.specs.Declarations.{Region}
 use Rattle.model_registers.specs.EndpointTable.{BaseAddress}
-use Rattle.model_registers.specs.BridgeTable.{Window}
 use Rattle.model_board.specs.Paths.{Path}
-use Rattle.model_board.specs.Board.{Decl, endpoint, bridge, is_bridge, Row, Board}
+use Rattle.model_board.specs.Board.{Decl, endpoint, bridge, Row, Board}
+use Rattle.model_board.specs.BusNumbers.{numbers_suffice}
 use Rattle.model_board.specs.Cycles.{BusAddress}
 use Rattle.model_board.specs.Reach.{address_of}
 use Rattle.model_board.specs.Pools.{io_pool, mem_pool, pref_pool, Apertures, has_io_paths}
 use Rattle.model_board.specs.Placement.{fits}
 use Rattle.model_board.specs.Layout.{LayoutRow, layout}
-use Rattle.model_board.specs.SetUp.{first_of, command_of, set_up_window}
-
-pub record Windows : Type 0 where
-  pub io : Window
-  pub mem : Window
-  pub pref : Window
+use Rattle.model_board.specs.SetUp.{first_of, command_of}
+pub use Rattle.model_board.specs.SetUp.{Windows, windows_of}
 
 pub data Writes : Type 0 where
   to_endpoint : ℕ → List BaseAddress → Writes
@@ -31,13 +27,6 @@ pub record Setting : Type 0 where
 
 abbrev pub placed_base : Board → Apertures → Path → Region → BaseAddress
 placed_base b a p r = record { index = r.index; kind = r.kind; size = r.size; base = first_of b a p r }
-
-abbrev pub windows_of : Board → Apertures → Path → Windows
-windows_of b a p = record {
-  io = set_up_window b a io_pool 0xf p;
-  mem = set_up_window b a mem_pool 0xfff p;
-  pref = set_up_window b a pref_pool 0xfff p;
-}
 
 abbrev pub writes_of : Board → Apertures → Path → Decl → Writes
 writes_of b a p (endpoint d) = to_endpoint (command_of d) (map (placed_base b a p) d.regions)
@@ -58,4 +47,4 @@ abbrev pub placement_rules : Board → Apertures → List (ℕ × Bool)
 placement_rules b a = (202, has_io_paths b) ∷ (203, fits b a io_pool) ∷ (204, fits b a mem_pool) ∷ (205, fits b a pref_pool) ∷ []
 
 abbrev pub set_up_rules : Board → Apertures → List (ℕ × Bool)
-set_up_rules b a = (201, nat_le (count_by (λ r. is_bridge r.decl) b) 255) ∷ placement_rules b a
+set_up_rules b a = (201, numbers_suffice b) ∷ placement_rules b a

@@ -1,4 +1,5 @@
 -- Which addresses a bridge forwards: PCI-to-PCI Bridge Architecture 1.2, chapter 4.
+--     is_in, in_windows      a window, or one of a bridge's three, holds an address
 --     is_in_window      a window of the space holds an address
 --     forwards      a bridge forwards an address
 use Rattle.std.specs.Prelude.{ℕ, Bool, false, ◌&&◌, ◌||◌, nat_le, Option, Some, None}
@@ -13,9 +14,13 @@ abbrev pub is_in : ℕ → Option Window → Bool
 is_in a None = false
 is_in a (Some w) = nat_le w.first a && nat_le a w.last
 
+-- an I/O address in the I/O window, a memory address in one of the two others
+abbrev pub in_windows : Option Window → Option Window → Option Window → Space → ℕ → Bool
+in_windows wio wmem wpref io a = is_in a wio
+in_windows wio wmem wpref memory a = is_in a wmem || is_in a wpref
+
 abbrev pub is_in_window : Bridge → File → Space → ℕ → Bool
-is_in_window d file io a = is_in a (io_window d.io file)
-is_in_window d file memory a = is_in a (mem_window file) || is_in a (pref_window d.pref file)
+is_in_window d file space a = in_windows (io_window d.io file) (mem_window file) (pref_window d.pref file) space a
 
 -- a bridge forwards an address where its Command opens the space and a window holds it
 abbrev pub forwards : Space → ℕ → BoardFunction → Bool

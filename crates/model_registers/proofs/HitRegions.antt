@@ -4,7 +4,7 @@ use Rattle.std.specs.Prelude.{nat_le, nat_lt}
 use Rattle.std.proofs.lemmas.Bool.Decides.{nat_tests}
 use Rattle.model_registers.specs.Registers.{File}
 use Rattle.model_registers.specs.Declarations.{Kind, io_kind, mem32, mem64, Region}
-use Rattle.model_registers.specs.Decoding.{Space, io, memory, space_of, same_space, base, is_open, decodes, Hit, hit_of}
+use Rattle.model_registers.specs.Decoding.{Space, io, memory, space_of, same_space, base, command_word, is_open, base_address, decodes, Hit, hit_of}
 use Rattle.model_registers.specs.DecodingLaws.{IsHitIn, HitIsOfRegion}
 use Rattle.model_registers.proofs.Tests.{left_true, right_true}
 use Rattle.model_registers.proofs.FirstFound.{first_some_of}
@@ -39,9 +39,9 @@ decoded t x y b a size h =
     }
 
 hit_in : (file : File) (space : Space) (a : ℕ) (r : Region) (h : Hit) → hit_of file space a r ≡ Some h → IsHitIn space a r h
-hit_in file space a r h = by_test (decodes file space a r) refl
+hit_in file space a r h = by_test (decodes (command_word file) space a (base_address file r)) refl
   where
-    by_test : (t : Bool) → decodes file space a r ≡ t → cond t (Some (record { index = r.index; offset = a - base file r.index r.kind })) None ≡ Some h → IsHitIn space a r h
+    by_test : (t : Bool) → decodes (command_word file) space a (base_address file r) ≡ t → cond t (Some (record { index = r.index; offset = a - base file r.index r.kind })) None ≡ Some h → IsHitIn space a r h
     by_test false d e = cc
     by_test true d e =
         let in_region : Decoded (is_open file space) (space_of r.kind) space (base file r.index r.kind) a r.size = decoded (is_open file space) (space_of r.kind) space (base file r.index r.kind) a r.size d in

@@ -6,13 +6,13 @@ use Rattle.model_registers.specs.Lists.{Each, EachPair, first_of_two, first_some
 use Rattle.model_registers.specs.Registers.{config, File, number, all_bytes}
 use Rattle.model_registers.specs.Declarations.{Kind, io_kind, mem32, mem64, Region, least_size, registers_of}
 use Rattle.model_registers.specs.EndpointTable.{base_register, type_bits, base_width, BaseAddress, register_cells, base_file, command_cells, opened, IsLawfulBase, HasLawfulBases}
-use Rattle.model_registers.specs.Decoding.{Space, base, standing, hit_at, hit_of, first_hit}
+use Rattle.model_registers.specs.Decoding.{Space, base, base_address, hit_at, hit_of, first_hit}
 use Rattle.model_registers.proofs.RegisterFiles.{field_reads}
 use Rattle.model_registers.proofs.Parts.{IsBelow, read_above, field_below, below_append}
 use Rattle.model_registers.specs.BaseLaws.{shown}
 use Rattle.model_registers.proofs.Bases.{base_room, base_multiple, size_limits, whole_bound}
 
-pub hits_by_bases : (file : File) (rs : List Region) (space : Space) (a : ℕ) → first_hit file rs space a ≡ first_some (hit_at (number file (config 4) 2) space a) (map (standing file) rs)
+pub hits_by_bases : (file : File) (rs : List Region) (space : Space) (a : ℕ) → first_hit file rs space a ≡ first_some (hit_at (number file (config 4) 2) space a) (map (base_address file) rs)
 hits_by_bases file [] space a = refl
 hits_by_bases file (r ∷ rs) space a = ap (first_of_two (hit_of file space a r)) (hits_by_bases file rs space a)
 
@@ -48,7 +48,7 @@ later b [] h = tt
 later b (r ∷ rs) h = (omega (arith, h.0), later b rs h.1)
 
 bases_stand : (bs : List BaseAddress) → Each IsLawfulBase bs → EachPair (λ (r s : Region). r.index + registers_of r.kind ≤ s.index) (map opened bs)
-    → (file pre : File) (lo : ℕ) → file ≡ pre ++ base_file bs → IsBelow pre lo → Each (λ (r : Region). lo ≤ 0x10 + 4 * r.index) (map opened bs) → map (standing file) (map opened bs) ≡ bs
+    → (file pre : File) (lo : ℕ) → file ≡ pre ++ base_file bs → IsBelow pre lo → Each (λ (r : Region). lo ≤ 0x10 + 4 * r.index) (map opened bs) → map (base_address file) (map opened bs) ≡ bs
 bases_stand [] lawful order file pre lo e below above = refl
 bases_stand (b ∷ bs) lawful order file pre lo e below above =
     let here : base file b.index b.kind ≡ b.base = ap (λ (f : File). base f b.index b.kind) e ∙ base_reads b lawful.0 pre (base_file bs) lo below above.0 in
@@ -67,6 +67,6 @@ pub hits_of_registers : (bs : List BaseAddress) → HasLawfulBases bs → (comma
 hits_of_registers bs lawful command small space a =
     let file : File = command_cells command ++ base_file bs in
     let word : number file (config 4) 2 ≡ command = field_reads 2 4 command 0x0547 0 (base_file bs) ∙ mod-eq_of_lt small in
-    let stand : map (standing file) (map opened bs) ≡ bs = bases_stand bs lawful.each lawful.regions.in_order
+    let stand : map (base_address file) (map opened bs) ≡ bs = bases_stand bs lawful.each lawful.regions.in_order
     file (command_cells command) 6 refl (field_below 2 4 command 0x0547 0 6 (omega arith)) (every (map opened bs)) in
     hits_by_bases file (map opened bs) space a ∙ ap₂ (λ c (xs : List BaseAddress). first_some (hit_at c space a) xs) word stand

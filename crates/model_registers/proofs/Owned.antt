@@ -8,7 +8,7 @@ use Rattle.model_registers.specs.Cell.{Cell, no_cell, written, raised}
 use Rattle.model_registers.specs.Registers.{Place, config, block, place_eq, after, File, cell_at, changed, read, write, all_bytes, number, field, cells_from}
 use Rattle.model_registers.specs.Declarations.{Endpoint, ConfigBlock, Kind, io_kind, mem32, mem64, Region, registers_of, IsLawfulRegion}
 use Rattle.model_registers.specs.EndpointTable.{BaseAddress, base_width, type_bits, register_cells, base_file, command_cells, opened, closed, region_cells, block_cells, header_cells, endpoint_reset}
-use Rattle.model_registers.specs.Decoding.{base, standing, hit_at}
+use Rattle.model_registers.specs.Decoding.{base, base_address, hit_at}
 use Rattle.model_registers.specs.OwnCopies.{is_own, OwnCopies, own_file, HoldsOwn, handed_on, IsLawfulOwn, OwnReads, OwnWrites, OwnStay, bare, OwnHits, ResetHoldsOwn}
 use Rattle.model_registers.proofs.RegisterFiles.{place_same, change_at_place, above}
 use Rattle.model_registers.proofs.Hits.{hits_by_bases}
@@ -176,20 +176,20 @@ same_base own file holds (mem64 pref) n h = ap (λ m. m / 16 * 16) (same_number 
 same_command : (own : OwnCopies) (file : File) → HoldsOwn file own → number file (config 4) 2 ≡ number (own_file own) (config 4) 2
 same_command own file holds = ap₂ (λ (a b : Cell). a.value + 256 * (b.value + 256 * 0)) (holds (config 4) refl) (holds (config 5) refl)
 
-same_standing : (own : OwnCopies) (file : File) → HoldsOwn file own → (bs : List BaseAddress) → Each IsLawfulRegion (map opened bs) → map (standing file) (map opened bs) ≡ map (standing (own_file own)) (map opened bs)
+same_standing : (own : OwnCopies) (file : File) → HoldsOwn file own → (bs : List BaseAddress) → Each IsLawfulRegion (map opened bs) → map (base_address file) (map opened bs) ≡ map (base_address (own_file own)) (map opened bs)
 same_standing own file holds [] lawful = refl
 same_standing own file holds (b ∷ bs) lawful =
     ap₂ (λ n (more : List BaseAddress). record b { base = n } ∷ more) (same_base own file holds b.kind b.index lawful.0.registers) (same_standing own file holds bs lawful.1)
 
-standing_bare : (file : File) (rs : List Region) → map (standing file) rs ≡ map (standing file) (map bare rs)
+standing_bare : (file : File) (rs : List Region) → map (base_address file) rs ≡ map (base_address file) (map bare rs)
 standing_bare file [] = refl
-standing_bare file (r ∷ rs) = ap (λ (more : List BaseAddress). standing file r ∷ more) (standing_bare file rs)
+standing_bare file (r ∷ rs) = ap (λ (more : List BaseAddress). base_address file r ∷ more) (standing_bare file rs)
 
 pub own_hits : OwnHits
 own_hits own lawful file holds rs same space a =
     hits_by_bases file rs space a
     ∙ ap₂ (λ c (bs : List BaseAddress). first_some (hit_at c space a) bs) (same_command own file holds)
-    (standing_bare file rs ∙ ap (map (standing file)) same ∙ same_standing own file holds own.bases lawful.each)
+    (standing_bare file rs ∙ ap (map (base_address file)) same ∙ same_standing own file holds own.bases lawful.each)
     ∙ sym (hits_by_bases (own_file own) (map opened own.bases) space a)
 
 -- ---- at reset

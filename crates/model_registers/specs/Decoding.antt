@@ -1,8 +1,9 @@
 -- Which addresses one function decodes by its own registers: PCI Local Bus 3.0, chapter 6.2.5.
---     base      the address that a base address register holds
---     decodes      a region decodes an address
---     standing, hit_at      a register as it stands, and what decodes by it
---     first_hit, lone_claim      the first region, by register, that decodes an address
+--     Space, Function      I/O or memory; a function as a guest sees it
+--     base, base_address      the address that a base address register holds; the register as it stands
+--     opens_space, is_open      the Command register opens a space
+--     decodes, hit_at      a register as it stands decodes an address; the hit in its region
+--     first_hit, lone_claim      the hit in the first region, by register, that decodes an address
 use Rattle.std.specs.Prelude.{ℕ, ◌-◌, bit_and, ◌+◌, ◌*◌, ◌/◌, Bool, true, false, ◌&&◌, ◌==◌, if◌then◌else◌, List, not, nat_lt, nat_le, Option, Some, None}
 use Rattle.model_registers.specs.Lists.{first_some}
 use Rattle.model_registers.specs.Registers.{config, File, number}
@@ -40,33 +41,37 @@ abbrev pub command_bit : Space → ℕ
 command_bit io = 1
 command_bit memory = 2
 
-abbrev pub is_open : File → Space → Bool
-is_open file space = not (bit_and (number file (config 4) 2) (command_bit space) == 0)
+-- the word of the Command register opens the space
+abbrev pub opens_space : ℕ → Space → Bool
+opens_space command space = not (bit_and command (command_bit space) == 0)
 
--- the region decodes the address; the sum is in whole numbers
-abbrev pub decodes : File → Space → ℕ → Region → Bool
-decodes file space a r =
-    is_open file space && same_space (space_of r.kind) space
-    && nat_le (base file r.index r.kind) a && nat_lt a (base file r.index r.kind + r.size)
+abbrev pub command_word : File → ℕ
+command_word file = number file (config 4) 2
+
+abbrev pub is_open : File → Space → Bool
+is_open file space = opens_space (command_word file) space
+
+-- a region's register as it stands now
+abbrev pub base_address : File → Region → BaseAddress
+base_address file r = record { index = r.index; kind = r.kind; size = r.size; base = base file r.index r.kind }
+
+-- under this Command the register decodes the address; the sum is in whole numbers
+abbrev pub decodes : ℕ → Space → ℕ → BaseAddress → Bool
+decodes command space a b =
+    opens_space command space && same_space (space_of b.kind) space && nat_le b.base a && nat_lt a (b.base + b.size)
 
 -- where in a function an access lands: a region's index and the offset in it
 pub record Hit : Type 0 where
   pub index : ℕ
   pub offset : ℕ
 
-abbrev pub hit_of : File → Space → ℕ → Region → Option Hit
-hit_of file space a r =
-    if decodes file space a r then Some (record { index = r.index; offset = a - base file r.index r.kind }) else None
-
--- a region's register as it stands now
-abbrev pub standing : File → Region → BaseAddress
-standing file r = record { index = r.index; kind = r.kind; size = r.size; base = base file r.index r.kind }
-
--- the hit in a region, by the word of the Command register and the base alone
 abbrev pub hit_at : ℕ → Space → ℕ → BaseAddress → Option Hit
 hit_at command space a b =
-    if not (bit_and command (command_bit space) == 0) && same_space (space_of b.kind) space && nat_le b.base a && nat_lt a (b.base + b.size)
-    then Some (record { index = b.index; offset = a - b.base }) else None
+    if decodes command space a b then Some (record { index = b.index; offset = a - b.base }) else None
+
+-- the hit in a region, by its register as it stands
+abbrev pub hit_of : File → Space → ℕ → Region → Option Hit
+hit_of file space a r = hit_at (command_word file) space a (base_address file r)
 
 -- the first of these regions that decodes the address
 abbrev pub first_hit : File → List Region → Space → ℕ → Option Hit

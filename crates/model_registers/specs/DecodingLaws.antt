@@ -4,15 +4,15 @@
 --     HitIsOfRegion      a hit lies in a region of the space, in the byte lanes of the address
 use Rattle.std.specs.Prelude.{List, ◌≡◌, ℕ, ◌<◌, ◌%◌, ◌^◌, ◌++◌, Some, map}
 use Rattle.model_registers.specs.Lists.{IsIn, first_some}
-use Rattle.model_registers.specs.Registers.{config, File, number}
+use Rattle.model_registers.specs.Registers.{File}
 use Rattle.model_registers.specs.Declarations.{Region}
 use Rattle.model_registers.specs.EndpointTable.{BaseAddress, base_file, command_cells, opened, HasLawfulBases}
-use Rattle.model_registers.specs.Decoding.{Space, space_of, Hit, standing, hit_at, first_hit}
+use Rattle.model_registers.specs.Decoding.{Space, space_of, Hit, command_word, base_address, hit_at, first_hit}
 
 -- what a function decodes is told by its Command register and its bases alone
 abbrev pub HitsByBases : Type 0
 HitsByBases = (file : File) (rs : List Region) (space : Space) (a : ℕ)
-    → first_hit file rs space a ≡ first_some (hit_at (number file (config 4) 2) space a) (map (standing file) rs)
+    → first_hit file rs space a ≡ first_some (hit_at (command_word file) space a) (map (base_address file) rs)
 
 -- base address registers show the bases that they hold
 abbrev pub HitsOfRegisters : Type 0

@@ -19,7 +19,7 @@ use Rattle.model_board.specs.BusNumbers.{secondary, subordinate, Enumerates}
 use Rattle.model_board.specs.State.{BoardFunction, State}
 use Rattle.model_board.specs.Reach.{row_at, address_of}
 use Rattle.model_board.specs.Pools.{Apertures}
-use Rattle.model_board.specs.SetUp.{first_of, routing_of, set_up_file, set_up_state}
+use Rattle.model_board.specs.SetUp.{first_of, bridge_values, set_up_file, set_up_state}
 use Rattle.model_board.specs.SetUpWrites.{Setting, windows_of, writes_of, Plan, planned}
 use Rattle.model_board.specs.Scanning.{board_numbers, with_numbers, numbered_file, numbered_state}
 use Rattle.model_board.specs.UniqueClaimant.{CanBePlaced}
@@ -183,7 +183,7 @@ module _ (b : Board) (a : Apertures) (can : CanBePlaced b a) (few : Enumerates b
 
   set_up_holds : (p : Path) (d : Decl) → (is_bridge d ≡ true → Small b p) → HoldsNumbers b (record { path = p; decl = d; file = set_up_file b a p d })
   set_up_holds p (endpoint d) small k = cc
-  set_up_holds p (bridge d) small k = holds_routed d p (routing_of b a p) refl refl (small refl) k
+  set_up_holds p (bridge d) small k = holds_routed d p (bridge_values b a p) refl refl (small refl) k
 
   numbered_holds : (p : Path) (d : Decl) → (is_bridge d ≡ true → Small b p) → HoldsNumbers b (record { path = p; decl = d; file = numbered_file b (board_numbers b) p d })
   numbered_holds p (endpoint d) small k = cc
