@@ -12,7 +12,8 @@ use Rattle.model_board.specs.Board.{Board, Row, Decl, endpoint, bridge, rows_on,
 use Rattle.model_board.specs.Paths.{Path, leads_to, last_part, IsPath}
 use Rattle.model_board.specs.Pools.{Pool, io_pool, mem_pool, pref_pool, same_pool, unit_of, Aperture, Apertures, bridge_of, bridges_above, has_pref, has_pref64, pref_reaches, pref_or_mem, pool_of, is_io, opens_io, has_io, has_io_paths, aperture_of}
 use Rattle.model_board.specs.Placement.{Item, need, window_items, items_of, items_within, items_on, fits, bus_first}
-use Rattle.model_board.specs.Layout.{IsAligned, IsInside, IsLawful, pool_rows}
+use Rattle.model_board.specs.Layout.{IsAligned, IsLawful, pool_rows}
+use Rattle.model_board.specs.Extents.{IsInside}
 use Rattle.model_board.specs.PlacementLaws.{window_row}
 use Rattle.model_board.specs.Lawful.{HasLawfulDecls}
 use Rattle.model_board.specs.SetUp.{window_of, bridge_values}
@@ -193,7 +194,7 @@ placed_span b a pool board lawful fit p long (i, m) =
       first_whole = aligned.0;
       size_whole = aligned.1;
       inside = inside_of a pool (bus_first b a pool p) (need (unit_of pool) (items_on b a pool p)) (aperture_of a pool)
-          (each_in (λ r. MatchOption (aperture_of a r.pool) ⊥ (λ ap. IsInside ap.first (ap.last + 1) r)) (window_row b a pool p) (pool_rows b a pool) whole.in_apertures there);
+          (each_in (λ r. MatchOption (aperture_of a r.pool) ⊥ (λ ap. IsInside ap.first (ap.last + 1) r.first r.size)) (window_row b a pool p) (pool_rows b a pool) whole.in_apertures there);
     }
 
 io_whole : (first size last reach : ℕ) → first % 2 ^ 12 ≡ 0 → size % 2 ^ 12 ≡ 0 → 0 < size → first + size ≤ last + 1 → last < reach → IsWhole (2 ^ 12) reach (record { first = first; last = first + size - 1 })

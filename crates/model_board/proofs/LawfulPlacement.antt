@@ -11,7 +11,8 @@ use Rattle.model_board.specs.Board.{Board, Row, is_bridge, IsBoard}
 use Rattle.model_board.specs.Paths.{Part, Path, path_eq, path_before, leads_to, parent, last_part, IsPath}
 use Rattle.model_board.specs.Pools.{Apertures, Aperture, Pool, io_pool, mem_pool, pref_pool, same_pool, unit_of, aperture_of}
 use Rattle.model_board.specs.Placement.{Placed, a_region, a_window, Item, Spot, spot_end, spots, in_order, end_from, round_up, need, alignment, items_on, root_first, fits_items, fits, bus_first}
-use Rattle.model_board.specs.Layout.{LayoutRow, IsAligned, IsInside, is_window_over, AreApart, IsUnderWindows, IsLawful, row_of, bus_rows, buses, pool_rows, layout}
+use Rattle.model_board.specs.Layout.{LayoutRow, IsAligned, is_window_over, IsUnderWindows, IsLawful, row_of, bus_rows, buses, pool_rows, layout}
+use Rattle.model_board.specs.Extents.{IsInside, AreApart}
 use Rattle.model_board.specs.Packing.{IsPowerOfTwo}
 use Rattle.model_board.specs.Lawful.{HasLawfulDecls}
 use Rattle.model_board.specs.PlacementLaws.{PoolsAreLawful, LayoutIsLawful}
@@ -70,8 +71,8 @@ aligned_as i path v pool first a_window p u h d =
 
 in_aperture : (o : Option Aperture) (align end : ℕ) → 0 < align → 0 < end
     → nat_le (option_map_or (λ (ap : Aperture). round_up align ap.first) o 0 + end) (option_map_or (λ (ap : Aperture). ap.last + 1) o 0) ≡ true
-    → (row : LayoutRow) → IsInside (option_map_or (λ (ap : Aperture). round_up align ap.first) o 0) (option_map_or (λ (ap : Aperture). round_up align ap.first) o 0 + end) row
-    → MatchOption o ⊥ (λ ap. IsInside ap.first (ap.last + 1) row)
+    → (row : LayoutRow) → IsInside (option_map_or (λ (ap : Aperture). round_up align ap.first) o 0) (option_map_or (λ (ap : Aperture). round_up align ap.first) o 0 + end) row.first row.size
+    → MatchOption o ⊥ (λ ap. IsInside ap.first (ap.last + 1) row.first row.size)
 in_aperture None align end h k fit row inside = let bad : 0 + end ≤ 0 = leb-true (0 + end) 0 fit in omega arith
 in_aperture (Some ap) align end h k fit row inside =
     let last : round_up align ap.first + end ≤ ap.last + 1 = leb-true (round_up align ap.first + end) (ap.last + 1) fit in
@@ -126,7 +127,7 @@ module _ (b : Board) (a : Apertures) (pool : Pool) (board : IsBoard b) (lawful :
 
   -- a spot's row stands inside each bus that leads to it
   row_inside : (bus : Path) (s : Spot) → IsIn s (spots (items_on b a pool bus)) → (q : Path) → (q ≡ bus) ⊎ (leads_to q bus ≡ true)
-      → IsInside (bus_first b a pool q) (bus_first b a pool q + bus_end b a pool q) (the_row bus s)
+      → IsInside (bus_first b a pool q) (bus_first b a pool q + bus_end b a pool q) (the_row bus s).first (the_row bus s).size
   row_inside bus s m q over =
       let up : IsWithin b a pool board lawful q bus = nested b a pool board lawful bus (spot_has bus s m) q over in
       let inside = each_in (λ (t : Spot). (0 ≤ t.first) × (spot_end t ≤ bus_end b a pool bus)) s (spots (items_on b a pool bus)) (bus_run b a pool board lawful bus).within m in
@@ -137,26 +138,26 @@ module _ (b : Board) (a : Apertures) (pool : Pool) (board : IsBoard b) (lawful :
   from_root [] = inl refl
   from_root (x ∷ bus) = inr refl
 
-  row_in_aperture : fits b a pool ≡ true → (bus : Path) (s : Spot) → IsIn s (spots (items_on b a pool bus)) → MatchOption (aperture_of a pool) ⊥ (λ ap. IsInside ap.first (ap.last + 1) (the_row bus s))
+  row_in_aperture : fits b a pool ≡ true → (bus : Path) (s : Spot) → IsIn s (spots (items_on b a pool bus)) → MatchOption (aperture_of a pool) ⊥ (λ ap. IsInside ap.first (ap.last + 1) (the_row bus s).first (the_row bus s).size)
   row_in_aperture fit bus s m = by_items (items_on b a pool []) (items_placeable b a pool lawful []) (root_has b a pool board lawful bus (spot_has bus s m)) fit (row_inside bus s m [] (from_root bus))
     where
-      by_items : (is : List Item) → Each (IsPlaceable (unit_of pool)) is → (i : Item) × IsIn i is → fits_items a pool is ≡ true → IsInside (root_first a pool is) (root_first a pool is + end_from 0 (in_order is)) (the_row bus s)
-          → MatchOption (aperture_of a pool) ⊥ (λ ap. IsInside ap.first (ap.last + 1) (the_row bus s))
+      by_items : (is : List Item) → Each (IsPlaceable (unit_of pool)) is → (i : Item) × IsIn i is → fits_items a pool is ≡ true → IsInside (root_first a pool is) (root_first a pool is + end_from 0 (in_order is)) (the_row bus s).first (the_row bus s).size
+          → MatchOption (aperture_of a pool) ⊥ (λ ap. IsInside ap.first (ap.last + 1) (the_row bus s).first (the_row bus s).size)
       by_items [] h (i, k) fit inside = absurd k
       by_items (j ∷ is) h (i, k) fit inside =
           in_aperture (aperture_of a pool) (alignment (unit_of pool) (j ∷ is)) (end_from 0 (in_order (j ∷ is))) (omega (arith, unit_below (unit_of pool) (j ∷ is), unit_positive pool)) (some_end (unit_of pool) i (j ∷ is) h k) fit (the_row bus s) inside
 
   row_under : (bus : Path) (s : Spot) → IsIn s (spots (items_on b a pool bus)) → IsUnderWindows b (pool_rows b a pool) (the_row bus s)
   row_under bus s m = record {
-    inside = each_from (λ w. IsTrue (is_window_over (the_row bus s) w) → IsInside w.first (w.first + w.size) (the_row bus s)) (pool_rows b a pool) (λ w k over. of_window w (on_bus_row b a pool w k) over);
+    inside = each_from (λ w. IsTrue (is_window_over (the_row bus s) w) → IsInside w.first (w.first + w.size) (the_row bus s).first (the_row bus s).size) (pool_rows b a pool) (λ w k over. of_window w (on_bus_row b a pool w k) over);
     there = each_from (λ (d : Row). IsTrue (leads_to d.path (bus ++ s.item.part ∷ [])) → IsTrue (list_any (λ w. is_window_over (the_row bus s) w && path_eq w.path d.path) (pool_rows b a pool))) b
         (λ d k leads. of_bridge d.path (each_in (λ (r : Row). IsPath r.path) d b board.paths k).some leads);
   }
     where
-      of_window : (w : LayoutRow) → OnBus b a pool w → is_window_over (the_row bus s) w ≡ true → IsInside w.first (w.first + w.size) (the_row bus s)
+      of_window : (w : LayoutRow) → OnBus b a pool w → is_window_over (the_row bus s) w ≡ true → IsInside w.first (w.first + w.size) (the_row bus s).first (the_row bus s).size
       of_window w o over = rw o.row_is (of_spot o.bus o.spot o.on (rw o.row_is at over))
         where
-          of_spot : (x : Path) (t : Spot) → IsIn t (spots (items_on b a pool x)) → is_window_over (the_row bus s) (the_row x t) ≡ true → IsInside (bus_first b a pool x + t.first) (bus_first b a pool x + t.first + t.item.size) (the_row bus s)
+          of_spot : (x : Path) (t : Spot) → IsIn t (spots (items_on b a pool x)) → is_window_over (the_row bus s) (the_row x t) ≡ true → IsInside (bus_first b a pool x + t.first) (bus_first b a pool x + t.first + t.item.size) (the_row bus s).first (the_row bus s).size
           of_spot x t k over =
               let k' = window_over (the_row bus s) t.item.what (same_pool pool pool && leads_to (x ++ t.item.part ∷ []) (bus ++ s.item.part ∷ [])) over in
               let leads : leads_to (x ++ t.item.part ∷ []) (bus ++ s.item.part ∷ []) ≡ true = (and_parts (same_pool pool pool) (leads_to (x ++ t.item.part ∷ []) (bus ++ s.item.part ∷ [])) k'.1).1 in
@@ -176,7 +177,7 @@ module _ (b : Board) (a : Apertures) (pool : Pool) (board : IsBoard b) (lawful :
           (rw (w.what_is, path, pool_self pool, leads, path_self q))
 
   abbrev ApartOnBus : LayoutRow → LayoutRow → Type 0
-  ApartOnBus r s = IsTrue (same_pool r.pool s.pool && path_eq (parent r.path) (parent s.path)) → AreApart r s
+  ApartOnBus r s = IsTrue (same_pool r.pool s.pool && path_eq (parent r.path) (parent s.path)) → AreApart r.first r.size s.first s.size
 
   bus_apart : (bus : Path) → EachPair ApartOnBus (bus_rows b a pool bus)
   bus_apart bus =
@@ -184,7 +185,7 @@ module _ (b : Board) (a : Apertures) (pool : Pool) (board : IsBoard b) (lawful :
       (pairs_weaker (λ (s t : Spot). spot_end s ≤ t.first) (λ s t. ApartOnBus (the_row bus s) (the_row bus t)) (spots (items_on b a pool bus)) (bus_run b a pool board lawful bus).apart
       (λ s t k l before same. of_spots s t before))
     where
-      of_spots : (s t : Spot) → spot_end s ≤ t.first → AreApart (the_row bus s) (the_row bus t)
+      of_spots : (s t : Spot) → spot_end s ≤ t.first → AreApart (the_row bus s).first (the_row bus s).size (the_row bus t).first (the_row bus t).size
       of_spots s t before = inl (omega arith)
 
   rows_apart : EachPair ApartOnBus (pool_rows b a pool)
@@ -193,7 +194,7 @@ module _ (b : Board) (a : Apertures) (pool : Pool) (board : IsBoard b) (lawful :
       (λ x y m k other r s l n same. of_two x y other r s (from_map (row_of pool x (bus_first b a pool x)) r (spots (items_on b a pool x)) l) (from_map (row_of pool y (bus_first b a pool y)) s (spots (items_on b a pool y)) n) same)
     where
       of_two : (x y : Path) → path_eq x y ≡ false → (r s : LayoutRow) → (t : Spot) × IsIn t (spots (items_on b a pool x)) × (r ≡ the_row x t) → (u : Spot) × IsIn u (spots (items_on b a pool y)) × (s ≡ the_row y u)
-          → (same_pool r.pool s.pool && path_eq (parent r.path) (parent s.path)) ≡ true → AreApart r s
+          → (same_pool r.pool s.pool && path_eq (parent r.path) (parent s.path)) ≡ true → AreApart r.first r.size s.first s.size
       of_two x y other r s (t, m, e) (u, k, f) same =
           let up : parent r.path ≡ x = ap (λ (w : LayoutRow). parent w.path) e ∙ parent_snoc x t.item.part in
           let down : parent s.path ≡ y = ap (λ (w : LayoutRow). parent w.path) f ∙ parent_snoc y u.item.part in
@@ -203,8 +204,8 @@ module _ (b : Board) (a : Apertures) (pool : Pool) (board : IsBoard b) (lawful :
   pub pool_lawful : fits b a pool ≡ true → IsLawful b a (pool_rows b a pool)
   pool_lawful fit = record {
     aligned = each_from (λ r. IsAligned r r.what) (pool_rows b a pool) (λ r m. let o = on_bus_row b a pool r m in subst (λ (x : LayoutRow). IsAligned x x.what) (sym o.row_is) (row_aligned o.bus o.spot o.on));
-    in_apertures = each_from (λ r. MatchOption (aperture_of a r.pool) ⊥ (λ ap. IsInside ap.first (ap.last + 1) r)) (pool_rows b a pool)
-        (λ r m. let o = on_bus_row b a pool r m in subst (λ (x : LayoutRow). MatchOption (aperture_of a x.pool) ⊥ (λ ap. IsInside ap.first (ap.last + 1) x)) (sym o.row_is) (row_in_aperture fit o.bus o.spot o.on));
+    in_apertures = each_from (λ r. MatchOption (aperture_of a r.pool) ⊥ (λ ap. IsInside ap.first (ap.last + 1) r.first r.size)) (pool_rows b a pool)
+        (λ r m. let o = on_bus_row b a pool r m in subst (λ (x : LayoutRow). MatchOption (aperture_of a x.pool) ⊥ (λ ap. IsInside ap.first (ap.last + 1) x.first x.size)) (sym o.row_is) (row_in_aperture fit o.bus o.spot o.on));
     under_windows = each_from (IsUnderWindows b (pool_rows b a pool)) (pool_rows b a pool) (λ r m. let o = on_bus_row b a pool r m in subst (IsUnderWindows b (pool_rows b a pool)) (sym o.row_is) (row_under o.bus o.spot o.on));
     apart = rows_apart;
   }
@@ -246,8 +247,8 @@ module _ (b : Board) (a : Apertures) (each_lawful : (pool : Pool) → IsLawful b
   under_all p r m =
       let own : IsUnderWindows b (pool_rows b a p) r = each_in (IsUnderWindows b (pool_rows b a p)) r (pool_rows b a p) (each_lawful p).under_windows m in
       record {
-        inside = each_row (λ w. IsTrue (is_window_over r w) → IsInside w.first (w.first + w.size) r)
-            (λ q w k over. each_in (λ (x : LayoutRow). IsTrue (is_window_over r x) → IsInside x.first (x.first + x.size) r) w (pool_rows b a p) own.inside (same_rows p q r w m k over) over);
+        inside = each_row (λ w. IsTrue (is_window_over r w) → IsInside w.first (w.first + w.size) r.first r.size)
+            (λ q w k over. each_in (λ (x : LayoutRow). IsTrue (is_window_over r x) → IsInside x.first (x.first + x.size) r.first r.size) w (pool_rows b a p) own.inside (same_rows p q r w m k over) over);
         there = each_from (λ (d : Row). IsTrue (leads_to d.path r.path) → IsTrue (list_any (λ w. is_window_over r w && path_eq w.path d.path) (layout b a))) b
             (λ d k leads. widened d (each_in (λ (x : Row). IsTrue (leads_to x.path r.path) → IsTrue (list_any (λ w. is_window_over r w && path_eq w.path x.path) (pool_rows b a p))) d b own.there k leads));
       }
@@ -258,14 +259,14 @@ module _ (b : Board) (a : Apertures) (each_lawful : (pool : Pool) → IsLawful b
           any_in (λ (w : LayoutRow). is_window_over r w && path_eq w.path d.path) f.0 (layout b a) (in_layout p f.0 f.1) f.2
 
   abbrev Apart : LayoutRow → LayoutRow → Type 0
-  Apart r s = IsTrue (same_pool r.pool s.pool && path_eq (parent r.path) (parent s.path)) → AreApart r s
+  Apart r s = IsTrue (same_pool r.pool s.pool && path_eq (parent r.path) (parent s.path)) → AreApart r.first r.size s.first s.size
 
   all_apart : EachPair Apart (layout b a)
   all_apart =
       pairs_flat_map (λ p q. same_pool p q ≡ false) Apart (pool_rows b a) pools ((refl, (refl, tt)), ((refl, tt), (tt, tt))) (λ p m. (each_lawful p).apart)
       (λ p q m k other r s l n same. of_two p q other r s l n same)
     where
-      of_two : (p q : Pool) → same_pool p q ≡ false → (r s : LayoutRow) → IsIn r (pool_rows b a p) → IsIn s (pool_rows b a q) → (same_pool r.pool s.pool && path_eq (parent r.path) (parent s.path)) ≡ true → AreApart r s
+      of_two : (p q : Pool) → same_pool p q ≡ false → (r s : LayoutRow) → IsIn r (pool_rows b a p) → IsIn s (pool_rows b a q) → (same_pool r.pool s.pool && path_eq (parent r.path) (parent s.path)) ≡ true → AreApart r.first r.size s.first s.size
       of_two p q other r s m k same =
           let equal : same_pool r.pool s.pool ≡ true = (and_parts (same_pool r.pool s.pool) (path_eq (parent r.path) (parent s.path)) same).0 in
           let no : true ≡ false = sym equal ∙ ap₂ same_pool (row_pool p r m) (row_pool q s k) ∙ other in cc
@@ -273,8 +274,8 @@ module _ (b : Board) (a : Apertures) (each_lawful : (pool : Pool) → IsLawful b
   all_lawful : IsLawful b a (layout b a)
   all_lawful = record {
     aligned = each_row (λ r. IsAligned r r.what) (λ p r m. each_in (λ (x : LayoutRow). IsAligned x x.what) r (pool_rows b a p) (each_lawful p).aligned m);
-    in_apertures = each_row (λ r. MatchOption (aperture_of a r.pool) ⊥ (λ ap. IsInside ap.first (ap.last + 1) r))
-        (λ p r m. each_in (λ (x : LayoutRow). MatchOption (aperture_of a x.pool) ⊥ (λ ap. IsInside ap.first (ap.last + 1) x)) r (pool_rows b a p) (each_lawful p).in_apertures m);
+    in_apertures = each_row (λ r. MatchOption (aperture_of a r.pool) ⊥ (λ ap. IsInside ap.first (ap.last + 1) r.first r.size))
+        (λ p r m. each_in (λ (x : LayoutRow). MatchOption (aperture_of a x.pool) ⊥ (λ ap. IsInside ap.first (ap.last + 1) x.first x.size)) r (pool_rows b a p) (each_lawful p).in_apertures m);
     under_windows = each_row (IsUnderWindows b (layout b a)) under_all;
     apart = all_apart;
   }

@@ -14,7 +14,8 @@ use Rattle.model_board.specs.Board.{Board, Row, Decl, endpoint, bridge, is_bridg
 use Rattle.model_board.specs.Paths.{Path, path_eq, parent, last_part}
 use Rattle.model_board.specs.Pools.{Apertures, Pool, io_pool, mem_pool, pref_pool, unit_of, same_pool, pool_of, bridges_above}
 use Rattle.model_board.specs.Placement.{region_item, region_items, items_of, items_within, items_on, Item, stands_before, inserted, in_order, round_up, end_from, need, spot_end, spots_from, spots}
-use Rattle.model_board.specs.Packing.{IsPowerOfTwo, IsRegion, Interval, Apart, Within, FlatNeed, HasPowerSizes, FlatNeedOnBus, IsRun, CompactIsRun}
+use Rattle.model_board.specs.Extents.{IsInside, AreApart}
+use Rattle.model_board.specs.Packing.{IsPowerOfTwo, Interval, FlatNeed, HasPowerSizes, FlatNeedOnBus, IsRun, CompactIsRun}
 
 -- ---- lists
 
@@ -61,6 +62,12 @@ length_filter p (x ∷ xs) = length_cases x (filter p xs) (length xs) (p x) (len
 
 -- ---- spots that are apart
 
+abbrev SpotsApart : Interval → Interval → Type 0
+SpotsApart s t = AreApart s.first s.size t.first t.size
+
+abbrev SpotInside : ℕ → ℕ → Interval → Type 0
+SpotInside start stop s = IsInside start stop s.first s.size
+
 abbrev sizes : List Interval → ℕ
 sizes ss = sum_by (λ s. s.size) ss
 
@@ -70,14 +77,14 @@ ends_before x s = nat_le (s.first + s.size) x.first
 abbrev not_before : Interval → Interval → Bool
 not_before x s = not (ends_before x s)
 
-before_within : (start stop : ℕ) (x s : Interval) → (ends_before x s ≡ true) × Within start stop s → Within start x.first s
+before_within : (start stop : ℕ) (x s : Interval) → (ends_before x s ≡ true) × SpotInside start stop s → SpotInside start x.first s
 before_within start stop x s h = grind (arith, nat_tests, h.0, h.1.0, h.1.1)
 
-after_within : (start stop : ℕ) (x s : Interval) → (not_before x s ≡ true) × (Apart x s × Within start stop s) → Within (x.first + x.size) stop s
+after_within : (start stop : ℕ) (x s : Interval) → (not_before x s ≡ true) × (SpotsApart x s × SpotInside start stop s) → SpotInside (x.first + x.size) stop s
 after_within start stop x s h = grind (arith, nat_tests, h.0, h.1.0, h.1.1.0, h.1.1.1)
 
 -- n bounds the number of spots
-spots_take : (n : ℕ) (ss : List Interval) (start stop : ℕ) → length ss ≤ n → start ≤ stop → Each (Within start stop) ss → EachPair Apart ss → sizes ss + start ≤ stop
+spots_take : (n : ℕ) (ss : List Interval) (start stop : ℕ) → length ss ≤ n → start ≤ stop → Each (SpotInside start stop) ss → EachPair SpotsApart ss → sizes ss + start ≤ stop
 spots_take n [] start stop few h within apart = omega arith
 spots_take zero (x ∷ ss) start stop few h within apart = absurd (omega arith)
 spots_take (suc n) (x ∷ ss) start stop few h within apart =
@@ -85,15 +92,15 @@ spots_take (suc n) (x ∷ ss) start stop few h within apart =
     let right = filter (not_before x) ss in
     let few_left : length left ≤ n = omega (arith, length_filter (ends_before x) ss) in
     let few_right : length right ≤ n = omega (arith, length_filter (not_before x) ss) in
-    let left_in : Each (Within start x.first) left =
-    each_map (λ s. (ends_before x s ≡ true) × Within start stop s) (Within start x.first) left (before_within start stop x)
-    (each_both (λ s. ends_before x s ≡ true) (Within start stop) left (filter_passes (ends_before x) ss) (each_filter (Within start stop) (ends_before x) ss within.1)) in
-    let right_in : Each (Within (x.first + x.size) stop) right =
-    each_map (λ s. (not_before x s ≡ true) × (Apart x s × Within start stop s)) (Within (x.first + x.size) stop) right (after_within start stop x)
-    (each_both (λ s. not_before x s ≡ true) (λ s. Apart x s × Within start stop s) right (filter_passes (not_before x) ss)
-    (each_both (Apart x) (Within start stop) right (each_filter (Apart x) (not_before x) ss apart.0) (each_filter (Within start stop) (not_before x) ss within.1))) in
-    let low : sizes left + start ≤ x.first = spots_take n left start x.first few_left within.0.0 left_in (pairs_filter Apart (ends_before x) ss apart.1) in
-    let high : sizes right + (x.first + x.size) ≤ stop = spots_take n right (x.first + x.size) stop few_right within.0.1 right_in (pairs_filter Apart (not_before x) ss apart.1) in
+    let left_in : Each (SpotInside start x.first) left =
+    each_map (λ s. (ends_before x s ≡ true) × SpotInside start stop s) (SpotInside start x.first) left (before_within start stop x)
+    (each_both (λ s. ends_before x s ≡ true) (SpotInside start stop) left (filter_passes (ends_before x) ss) (each_filter (SpotInside start stop) (ends_before x) ss within.1)) in
+    let right_in : Each (SpotInside (x.first + x.size) stop) right =
+    each_map (λ s. (not_before x s ≡ true) × (SpotsApart x s × SpotInside start stop s)) (SpotInside (x.first + x.size) stop) right (after_within start stop x)
+    (each_both (λ s. not_before x s ≡ true) (λ s. SpotsApart x s × SpotInside start stop s) right (filter_passes (not_before x) ss)
+    (each_both (SpotsApart x) (SpotInside start stop) right (each_filter (SpotsApart x) (not_before x) ss apart.0) (each_filter (SpotInside start stop) (not_before x) ss within.1))) in
+    let low : sizes left + start ≤ x.first = spots_take n left start x.first few_left within.0.0 left_in (pairs_filter SpotsApart (ends_before x) ss apart.1) in
+    let high : sizes right + (x.first + x.size) ≤ stop = spots_take n right (x.first + x.size) stop few_right within.0.1 right_in (pairs_filter SpotsApart (not_before x) ss apart.1) in
     let step : sizes (x ∷ ss) ≡ x.size + sizes ss = sum_by-cons (λ s. s.size) x ss in
     let total : sizes left + sizes right ≡ sizes ss = sum_by-filter_both (ends_before x) (not_before x) (λ s. refl) (λ s. s.size) ss in
     omega arith
@@ -191,6 +198,11 @@ round_up_multiple a n h k =
 
 -- ---- no gaps
 
+-- a region: its alignment is its size, a power of two
+record IsRegion (i : Item) : Type 0 where
+  align_is_size : i.align ≡ i.size
+  power : IsPowerOfTwo i.size
+
 next_divides : (n : ℕ) (j : Item) → IsRegion j → (i : Item) → (i.align ≤ j.align) × (IsRegion i × Divides i.size n) → Divides i.size (n + j.size)
 next_divides n j rj i h =
     let le : i.size ≤ j.size = omega (arith, h.0, h.1.0.align_is_size, rj.align_is_size) in
@@ -224,7 +236,7 @@ round_up_least unit n units h k =
 placed_total : (is : List Item) (spots : List Interval) → map (λ (s : Interval). s.size) spots ≡ map (λ (i : Item). i.size) is → sizes spots ≡ total is
 placed_total is spots e = sym (sum-map (λ (s : Interval). s.size) spots) ∙ ap sum e ∙ sum-map (λ (i : Item). i.size) is
 
-pub flat_need_lem : (unit : ℕ) (is : List Item) → 0 < unit → Each IsRegion is → FlatNeed unit is
+flat_need_lem : (unit : ℕ) (is : List Item) → 0 < unit → Each IsRegion is → FlatNeed unit is
 flat_need_lem unit is h regions = record {
   is_sum = ap (round_up unit) (end_in_order is regions);
   least = λ start units spots p.

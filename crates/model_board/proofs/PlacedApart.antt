@@ -10,7 +10,8 @@ use Rattle.model_board.specs.Members.{IsIn}
 use Rattle.model_board.specs.Board.{Board, Row, is_bridge, IsBoard}
 use Rattle.model_board.specs.Paths.{Part, Path, part_eq, path_eq, leads_to, parent, last_part, IsPath}
 use Rattle.model_board.specs.Pools.{Pool, io_pool, mem_pool, pref_pool, same_pool, Aperture, Apertures, pref_reaches, pref_or_mem, pool_of, aperture_of}
-use Rattle.model_board.specs.Layout.{LayoutRow, IsInside, is_window_over, AreApart, IsUnderWindows, IsLawful}
+use Rattle.model_board.specs.Layout.{LayoutRow, is_window_over, IsUnderWindows, IsLawful}
+use Rattle.model_board.specs.Extents.{IsInside, AreApart}
 use Rattle.model_board.specs.Placement.{Placed, a_region, a_window}
 use Rattle.model_board.specs.PlacedRegions.{pool_space}
 use Rattle.model_board.proofs.Members.{each_in, from_any}
@@ -66,14 +67,14 @@ pub record WindowOver (rows : List LayoutRow) (r : LayoutRow) (q : Path) : Type 
   pub what_is : row.what ≡ a_window
   pub pool_is : row.pool ≡ r.pool
   pub path_is : row.path ≡ q
-  pub inside : IsInside row.first (row.first + row.size) r
+  pub inside : IsInside row.first (row.first + row.size) r.first r.size
 
 -- a row inside another is apart from what the other is apart from
-apart_inside : (w v r s : LayoutRow) → IsInside w.first (w.first + w.size) r → IsInside v.first (v.first + v.size) s → AreApart w v → AreApart r s
+apart_inside : (w v r s : LayoutRow) → IsInside w.first (w.first + w.size) r.first r.size → IsInside v.first (v.first + v.size) s.first s.size → AreApart w.first w.size v.first v.size → AreApart r.first r.size s.first s.size
 apart_inside w v r s h k (inl e) = inl (omega (arith, h.1, k.0))
 apart_inside w v r s h k (inr e) = inr (omega (arith, h.0, k.1))
 
-apart_sym : (r s : LayoutRow) → AreApart s r → AreApart r s
+apart_sym : (r s : LayoutRow) → AreApart s.first s.size r.first r.size → AreApart r.first r.size s.first s.size
 apart_sym r s (inl e) = inr e
 apart_sym r s (inr e) = inl e
 
@@ -91,7 +92,7 @@ module _ (b : Board) (a : Apertures) (board : IsBoard b) (rows : List LayoutRow)
         what_is = parts.0;
         pool_is = pool_is f.0.pool r.pool parts.1;
         path_is = path_same f.0.path d.path (right_true (is_window_over r f.0) (path_eq f.0.path d.path) f.2);
-        inside = each_in (λ (w : LayoutRow). IsTrue (is_window_over r w) → IsInside w.first (w.first + w.size) r) f.0 rows under.inside f.1 over;
+        inside = each_in (λ (w : LayoutRow). IsTrue (is_window_over r w) → IsInside w.first (w.first + w.size) r.first r.size) f.0 rows under.inside f.1 over;
       }
 
   -- on each bus of its path a row of its pool holds its addresses
@@ -100,7 +101,7 @@ module _ (b : Board) (a : Apertures) (board : IsBoard b) (rows : List LayoutRow)
     there : IsIn row rows
     pool_is : row.pool ≡ r.pool
     path_is : row.path ≡ q
-    inside : IsInside row.first (row.first + row.size) r
+    inside : IsInside row.first (row.first + row.size) r.first r.size
 
   holder : (r : LayoutRow) (s : Row) → IsIn r rows → IsIn s b → s.path ≡ r.path → (bus : Path) (x : Part) (ps : Path) → r.path ≡ bus ++ x ∷ ps → Holder r (bus ++ x ∷ [])
   holder r s m k e bus x [] p = record { row = r; there = m; pool_is = refl; path_is = p; inside = (omega arith, omega arith) }
@@ -113,13 +114,13 @@ module _ (b : Board) (a : Apertures) (board : IsBoard b) (rows : List LayoutRow)
       of_window q f w = record { row = w.row; there = w.there; pool_is = w.pool_is; path_is = w.path_is ∙ f; inside = w.inside }
 
   -- two rows of one bus and one pool are one, or apart
-  one_bus : (r s : LayoutRow) → IsIn r rows → IsIn s rows → r.pool ≡ s.pool → parent r.path ≡ parent s.path → (r ≡ s) ⊎ AreApart r s
-  one_bus r s m k same bus = by_pair (pair_in (λ (t u : LayoutRow). IsTrue (same_pool t.pool u.pool && path_eq (parent t.path) (parent u.path)) → AreApart t u) r s rows lawful.apart m k)
+  one_bus : (r s : LayoutRow) → IsIn r rows → IsIn s rows → r.pool ≡ s.pool → parent r.path ≡ parent s.path → (r ≡ s) ⊎ AreApart r.first r.size s.first s.size
+  one_bus r s m k same bus = by_pair (pair_in (λ (t u : LayoutRow). IsTrue (same_pool t.pool u.pool && path_eq (parent t.path) (parent u.path)) → AreApart t.first t.size u.first u.size) r s rows lawful.apart m k)
     where
       both : (t u : LayoutRow) → t.pool ≡ u.pool → parent t.path ≡ parent u.path → (same_pool t.pool u.pool && path_eq (parent t.path) (parent u.path)) ≡ true
       both t u e f = let p : same_pool t.pool u.pool ≡ true = same_pools t.pool u.pool e in let q : path_eq (parent t.path) (parent u.path) ≡ true = ap (path_eq (parent t.path)) (sym f) ∙ path_self (parent t.path) in rw (p, q)
 
-      by_pair : (r ≡ s) ⊎ ((IsTrue (same_pool r.pool s.pool && path_eq (parent r.path) (parent s.path)) → AreApart r s) ⊎ (IsTrue (same_pool s.pool r.pool && path_eq (parent s.path) (parent r.path)) → AreApart s r)) → (r ≡ s) ⊎ AreApart r s
+      by_pair : (r ≡ s) ⊎ ((IsTrue (same_pool r.pool s.pool && path_eq (parent r.path) (parent s.path)) → AreApart r.first r.size s.first s.size) ⊎ (IsTrue (same_pool s.pool r.pool && path_eq (parent s.path) (parent r.path)) → AreApart s.first s.size r.first r.size)) → (r ≡ s) ⊎ AreApart r.first r.size s.first s.size
       by_pair (inl e) = inl e
       by_pair (inr (inl f)) = inr (f (both r s same bus))
       by_pair (inr (inr f)) = inr (apart_sym r s (f (both s r (sym same) (sym bus))))
@@ -141,10 +142,10 @@ module _ (b : Board) (a : Apertures) (board : IsBoard b) (rows : List LayoutRow)
       let bad : true ≡ false = sym d.2 ∙ same ∙ f.is_endpoint in cc
 
   -- two regions of one pool are one row, or apart
-  pub regions_apart : (r s : LayoutRow) → OfEndpoint r → OfEndpoint s → r.pool ≡ s.pool → (r ≡ s) ⊎ AreApart r s
+  pub regions_apart : (r s : LayoutRow) → OfEndpoint r → OfEndpoint s → r.pool ≡ s.pool → (r ≡ s) ⊎ AreApart r.first r.size s.first s.size
   regions_apart r s f g same = by_paths (meet r.path s.path)
     where
-      by_paths : Meeting r.path s.path → (r ≡ s) ⊎ AreApart r s
+      by_paths : Meeting r.path s.path → (r ≡ s) ⊎ AreApart r.first r.size s.first s.size
       by_paths (Same e) = one_bus r s f.there g.there same (ap parent e)
       by_paths (Above h) = absurd (not_above r s f g h)
       by_paths (Below h) = absurd (not_above s r g f h)
@@ -156,26 +157,26 @@ module _ (b : Board) (a : Apertures) (board : IsBoard b) (rows : List LayoutRow)
           v : Holder s (bus ++ y ∷ [])
           v = holder s g.function g.there g.on_board g.path_is bus y qs q
 
-          by_bus : (w.row ≡ v.row) ⊎ AreApart w.row v.row → AreApart r s
+          by_bus : (w.row ≡ v.row) ⊎ AreApart w.row.first w.row.size v.row.first v.row.size → AreApart r.first r.size s.first s.size
           by_bus (inl e) =
               let one : x ≡ y = sym (last_snoc bus x) ∙ ap last_part (sym w.path_is ∙ ap (λ (l : LayoutRow). l.path) e ∙ v.path_is) ∙ last_snoc bus y in
               let bad : true ≡ false = sym (part_self x) ∙ ap (part_eq x) one ∙ n in cc
           by_bus (inr h) = apart_inside w.row v.row r s w.inside v.inside h
 
   -- two rows of one space are apart where their pools differ: memory and prefetchable apertures are
-  pools_apart : (o : Option Aperture) (r s : LayoutRow) → IsPrefOption a.mem o → IsInside a.mem.first (a.mem.last + 1) r → MatchOption o ⊥ (λ ap. IsInside ap.first (ap.last + 1) s) → AreApart r s
+  pools_apart : (o : Option Aperture) (r s : LayoutRow) → IsPrefOption a.mem o → IsInside a.mem.first (a.mem.last + 1) r.first r.size → MatchOption o ⊥ (λ ap. IsInside ap.first (ap.last + 1) s.first s.size) → AreApart r.first r.size s.first s.size
   pools_apart None r s h k l = absurd l
   pools_apart (Some o) r s h k l = by_side h.apart
     where
-      by_side : (a.mem.last < o.first) ⊎ (o.last < a.mem.first) → AreApart r s
+      by_side : (a.mem.last < o.first) ⊎ (o.last < a.mem.first) → AreApart r.first r.size s.first s.size
       by_side (inl e) = inl (omega (arith, k.1, l.0))
       by_side (inr e) = inr (omega (arith, k.0, l.1))
 
-  in_aperture : (r : LayoutRow) → IsIn r rows → (pool : Pool) → r.pool ≡ pool → MatchOption (aperture_of a pool) ⊥ (λ ap. IsInside ap.first (ap.last + 1) r)
-  in_aperture r m pool e = subst (λ x. MatchOption (aperture_of a x) ⊥ (λ ap. IsInside ap.first (ap.last + 1) r)) e (each_in (λ (t : LayoutRow). MatchOption (aperture_of a t.pool) ⊥ (λ ap. IsInside ap.first (ap.last + 1) t)) r rows lawful.in_apertures m)
+  in_aperture : (r : LayoutRow) → IsIn r rows → (pool : Pool) → r.pool ≡ pool → MatchOption (aperture_of a pool) ⊥ (λ ap. IsInside ap.first (ap.last + 1) r.first r.size)
+  in_aperture r m pool e = subst (λ x. MatchOption (aperture_of a x) ⊥ (λ ap. IsInside ap.first (ap.last + 1) r.first r.size)) e (each_in (λ (t : LayoutRow). MatchOption (aperture_of a t.pool) ⊥ (λ ap. IsInside ap.first (ap.last + 1) t.first t.size)) r rows lawful.in_apertures m)
 
   -- two regions of one space are one row, or apart
-  pub spaces_apart : IsLawfulApertures a → (p q : Pool) (r s : LayoutRow) → OfEndpoint r → OfEndpoint s → r.pool ≡ p → s.pool ≡ q → same_space (pool_space p) (pool_space q) ≡ true → (r ≡ s) ⊎ AreApart r s
+  pub spaces_apart : IsLawfulApertures a → (p q : Pool) (r s : LayoutRow) → OfEndpoint r → OfEndpoint s → r.pool ≡ p → s.pool ≡ q → same_space (pool_space p) (pool_space q) ≡ true → (r ≡ s) ⊎ AreApart r.first r.size s.first s.size
   spaces_apart apertures io_pool io_pool r s f g e h same = regions_apart r s f g (e ∙ sym h)
   spaces_apart apertures io_pool mem_pool r s f g e h same = cc
   spaces_apart apertures io_pool pref_pool r s f g e h same = cc

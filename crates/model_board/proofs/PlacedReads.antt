@@ -7,7 +7,8 @@ use Rattle.std.proofs.Math.Nat.{mul-mod_left}
 use Rattle.model_registers.specs.Declarations.{Kind, io_kind, mem32, mem64, Region, registers_of, least_size, IsLawfulRegion, Bridge}
 use Rattle.model_registers.specs.Apertures.{IsLawfulApertures}
 use Rattle.model_board.specs.Pools.{Pool, mem_pool, pref_pool, Aperture, Apertures, has_pref, pref_reaches, pool_of, aperture_of}
-use Rattle.model_board.specs.Layout.{LayoutRow, IsInside}
+use Rattle.model_board.specs.Layout.{LayoutRow}
+use Rattle.model_board.specs.Extents.{IsInside}
 use Rattle.model_board.specs.Packing.{IsPowerOfTwo}
 use Rattle.model_board.proofs.Packing.{Divides, divides_chain, powers_divide, power_positive}
 use Rattle.model_board.proofs.Nesting.{divides_from}
@@ -16,7 +17,7 @@ use Rattle.model_board.proofs.SetUpRegisters.{FitsRegister}
 -- ---- a placed address fits its register
 
 abbrev pub InAperture : Apertures → Pool → LayoutRow → Type 0
-InAperture a pool r = MatchOption (aperture_of a pool) ⊥ (λ ap. IsInside ap.first (ap.last + 1) r)
+InAperture a pool r = MatchOption (aperture_of a pool) ⊥ (λ ap. IsInside ap.first (ap.last + 1) r.first r.size)
 
 -- a 32-bit region goes to a prefetchable aperture below 4 GB alone
 reaches_low : (o : Aperture) (above : List Bridge) → pref_reaches o above false ≡ true → o.last < 2 ^ 32

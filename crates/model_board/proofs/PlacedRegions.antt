@@ -12,12 +12,13 @@ use Rattle.model_board.specs.Paths.{Path, path_eq, path_before}
 use Rattle.model_board.specs.Pools.{Pool, io_pool, mem_pool, pref_pool, Apertures, bridges_above}
 use Rattle.model_board.specs.Placement.{Placed, a_region, a_window, same_placed, Item, items_on}
 use Rattle.model_board.specs.SetUp.{first_of}
-use Rattle.model_board.specs.Layout.{LayoutRow, AreApart, IsLawful, pool_rows, layout}
+use Rattle.model_board.specs.Layout.{LayoutRow, IsLawful, pool_rows, layout}
+use Rattle.model_board.specs.Extents.{AreApart}
 use Rattle.model_board.specs.Lawful.{IsLawfulDecl, HasLawfulDecls}
 use Rattle.model_board.specs.PlacementLaws.{pool_at, region_row, window_rows, rows_at, HasOwnRows, IsRowFor, HasRows}
 use Rattle.model_board.specs.PlacedRegions.{PlacedRegion, placed, placed_at, placed_regions, pool_space, placed_row, placed_rows}
-use Rattle.model_board.specs.UniqueClaimant.{ShareNone}
 use Rattle.model_board.proofs.Members.{each_in, in_map, in_flat_map, from_flat_map, from_map, from_filter, pairs_weaker, pairs_flat_map, pairs_map}
+use Rattle.model_board.proofs.Holders.{ShareNone}
 use Rattle.model_board.proofs.PathEnds.{not_before_itself}
 use Rattle.model_board.proofs.PlacedApart.{pool_of_space, OfEndpoint, spaces_apart}
 
@@ -86,8 +87,8 @@ module _ (b : Board) (a : Apertures) (board : IsBoard b) (decls : HasLawfulDecls
       register (a_region n) = n
       register a_window = 0
 
-      by_rows : (region_row b a s.row.path s.region ≡ region_row b a u.row.path u.region) ⊎ AreApart (region_row b a s.row.path s.region) (region_row b a u.row.path u.region)
-          → AreApart (region_row b a s.row.path s.region) (region_row b a u.row.path u.region)
+      by_rows : (region_row b a s.row.path s.region ≡ region_row b a u.row.path u.region) ⊎ AreApart (region_row b a s.row.path s.region).first (region_row b a s.row.path s.region).size (region_row b a u.row.path u.region).first (region_row b a u.row.path u.region).size
+          → AreApart (region_row b a s.row.path s.region).first (region_row b a s.row.path s.region).size (region_row b a u.row.path u.region).first (region_row b a u.row.path u.region).size
       by_rows (inl e) = absurd (differ (ap (λ (l : LayoutRow). l.path) e) (ap (λ (l : LayoutRow). register l.what) e))
       by_rows (inr h) = h
 

@@ -106,8 +106,8 @@ in_bases d n l u = grind (arith, nat_tests)
 in_io : (d : Bridge) (n : ℕ) → 28 ≤ n → n < 30 → is_routing_register (bridge d) n ≡ true
 in_io d n l u = grind (arith, nat_tests)
 
-in_windows : (d : Bridge) (n : ℕ) → 32 ≤ n → n < 52 → is_routing_register (bridge d) n ≡ true
-in_windows d n l u = grind (arith, nat_tests)
+in_memory_windows : (d : Bridge) (n : ℕ) → 32 ≤ n → n < 52 → is_routing_register (bridge d) n ≡ true
+in_memory_windows d n l u = grind (arith, nat_tests)
 
 same_base : (d : Endpoint) (f g : File) → SameBytes (endpoint d) f g → (n : ℕ) (k : Kind) → n + registers_of k ≤ 6 → base f n k ≡ base g n k
 same_base d f g h n io_kind few = ap (λ x. x / 4 * 4) (same_number 4 (16 + 4 * n) f g (λ m l u. h m (in_bases d m (omega arith) (omega arith))))
@@ -125,7 +125,7 @@ module _ (d : Bridge) (f g : File) (h : SameBytes (bridge d) f g) where
   low a w l u = same_number w a f g (λ m k j. h m (in_io d m (omega arith) (omega arith)))
 
   high : (a w : ℕ) → 32 ≤ a → a + w ≤ 52 → number f (config a) w ≡ number g (config a) w
-  high a w l u = same_number w a f g (λ m k j. h m (in_windows d m (omega arith) (omega arith)))
+  high a w l u = same_number w a f g (λ m k j. h m (in_memory_windows d m (omega arith) (omega arith)))
 
   same_io : (k : IoDecode) → io_window k f ≡ io_window k g
   same_io no_io = refl

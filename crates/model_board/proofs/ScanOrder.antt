@@ -16,7 +16,7 @@ use Rattle.model_board.proofs.Partings.{one_row, bridge_at, bridge_above, leads_
 use Rattle.model_board.proofs.BusNumbers.{bridges, bridges-cons, at, counted, counted_once}
 use Rattle.model_board.proofs.Routes.{same_test}
 use Rattle.model_board.proofs.Scanning.{goes_before}
-use Rattle.model_board.proofs.ScanPlaces.{before_first, before_last, before_later, leads_place, is_within, none_passed, row_path, snoc_some}
+use Rattle.model_board.proofs.ScanPlaces.{before_first, before_last, before_later, leads_place, is_between, none_passed, row_path, snoc_some}
 
 -- ---- filters
 
@@ -96,11 +96,11 @@ module _ (b : Board) (lawful : IsBoard b) where
       by_test true = omega arith
       by_test false = omega arith
 
-  before_next : (bus : Path) (n : ℕ) (y : Row) → IsIn y b → path_before y.path (on bus (next_place b bus n)) ≡ (path_before y.path (on bus n) || is_within bus n (next_place b bus n) y.path)
+  before_next : (bus : Path) (n : ℕ) (y : Row) → IsIn y b → path_before y.path (on bus (next_place b bus n)) ≡ (path_before y.path (on bus n) || is_between bus n (next_place b bus n) y.path)
   before_next bus n y m = before_later y.path bus n (next_place b bus n) (omega (arith, next_later bus n)) (row_path b lawful y m).parts
 
   -- what stands at a place or behind it is within that place and the next
-  self_within : (bus : Path) (n m : ℕ) → n < m → (rest : Path) → is_within bus n m (bus ++ place n ∷ rest) ≡ true
+  self_within : (bus : Path) (n m : ℕ) → n < m → (rest : Path) → is_between bus n m (bus ++ place n ∷ rest) ≡ true
   self_within [] n m h rest = in_range (8 * (n / 8) + n % 8) (omega arith)
     where
       in_range : (k : ℕ) → k ≡ n → (nat_le n k && nat_lt k m) ≡ true
@@ -125,17 +125,17 @@ module _ (b : Board) (lawful : IsBoard b) where
       by_part false e k more = let bad : false ≡ true = rw (e, part_eq-sym a u, e) at k in cc
 
   -- the functions that are met from a place to the next are those at it and behind it
-  passed : (bus : Path) (n : ℕ) (y : Row) → IsIn y b → is_within bus n (next_place b bus n) y.path ≡ (path_eq y.path (on bus n) || leads_to (on bus n) y.path)
-  passed bus n y m = same_test (is_within bus n (next_place b bus n) y.path) (path_eq y.path (on bus n) || leads_to (on bus n) y.path) (λ h. either (none_passed b lawful bus n y m h)) stays
+  passed : (bus : Path) (n : ℕ) (y : Row) → IsIn y b → is_between bus n (next_place b bus n) y.path ≡ (path_eq y.path (on bus n) || leads_to (on bus n) y.path)
+  passed bus n y m = same_test (is_between bus n (next_place b bus n) y.path) (path_eq y.path (on bus n) || leads_to (on bus n) y.path) (λ h. either (none_passed b lawful bus n y m h)) stays
     where
       either : (path_eq y.path (on bus n) ≡ true) ⊎ (leads_to (on bus n) y.path ≡ true) → (path_eq y.path (on bus n) || leads_to (on bus n) y.path) ≡ true
       either (inl e) = rw e
       either (inr l) = or_right (path_eq y.path (on bus n)) (leads_to (on bus n) y.path) l
 
-      stays : (path_eq y.path (on bus n) || leads_to (on bus n) y.path) ≡ true → is_within bus n (next_place b bus n) y.path ≡ true
+      stays : (path_eq y.path (on bus n) || leads_to (on bus n) y.path) ≡ true → is_between bus n (next_place b bus n) y.path ≡ true
       stays h =
           let g = goes_on (on bus n) y.path h in
-          subst (λ (x : Path). is_within bus n (next_place b bus n) x ≡ true) (sym (g.1 ∙ append_assoc bus (place n ∷ []) g.0)) (self_within bus n (next_place b bus n) (next_later bus n) g.0)
+          subst (λ (x : Path). is_between bus n (next_place b bus n) x ≡ true) (sym (g.1 ∙ append_assoc bus (place n ∷ []) g.0)) (self_within bus n (next_place b bus n) (next_later bus n) g.0)
 
   -- nothing stands behind what is no bridge
   none_behind : (p : Path) → 0 < length p → is_bridge_at b p ≡ false → (y : Row) → IsIn y b → leads_to p y.path ≡ false

@@ -79,11 +79,11 @@ abbrev index : Part → ℕ
 index u = 8 * u.device + u.function
 
 -- the path is at or behind one of the places m to n of the bus, n not included
-abbrev pub is_within : Path → ℕ → ℕ → Path → Bool
-is_within [] m n [] = false
-is_within [] m n (u ∷ x) = nat_le m (index u) && nat_lt (index u) n
-is_within (a ∷ p) m n [] = false
-is_within (a ∷ p) m n (u ∷ x) = part_eq u a && is_within p m n x
+abbrev pub is_between : Path → ℕ → ℕ → Path → Bool
+is_between [] m n [] = false
+is_between [] m n (u ∷ x) = nat_le m (index u) && nat_lt (index u) n
+is_between (a ∷ p) m n [] = false
+is_between (a ∷ p) m n (u ∷ x) = part_eq u a && is_between p m n x
 
 lt_of : (m n : ℕ) → nat_lt m n ≡ true → m < n
 lt_of m n h = grind (arith, nat_tests)
@@ -120,7 +120,7 @@ before_by_index u n h = same (part_before u (place n)) (nat_lt (index u) n) refl
 between : (i m n : ℕ) → m ≤ n → nat_lt i n ≡ (nat_lt i m || (nat_le m i && nat_lt i n))
 between i m n h = grind (arith, nat_tests)
 
-pub before_later : (x p : Path) (m n : ℕ) → m ≤ n → Each IsPart x → path_before x (on p n) ≡ (path_before x (on p m) || is_within p m n x)
+pub before_later : (x p : Path) (m n : ℕ) → m ≤ n → Each IsPart x → path_before x (on p n) ≡ (path_before x (on p m) || is_between p m n x)
 before_later [] [] m n h parts = refl
 before_later [] (a ∷ p) m n h parts = refl
 before_later (u ∷ x) [] m n h parts =
@@ -133,18 +133,18 @@ before_later (u ∷ x) [] m n h parts =
     at_end false true [] h = h
     at_end false true (u ∷ x) h = h
     at_end false false x h = h
-before_later (u ∷ x) (a ∷ p) m n h parts = either (part_before u a) (part_eq u a) (path_before x (on p n)) (path_before x (on p m)) (is_within p m n x) (before_later x p m n h parts.1)
+before_later (u ∷ x) (a ∷ p) m n h parts = either (part_before u a) (part_eq u a) (path_before x (on p n)) (path_before x (on p m)) (is_between p m n x) (before_later x p m n h parts.1)
 
 -- ---- the functions of a board
 
-split_within : (p : Path) (m n : ℕ) (x : Path) → is_within p m n x ≡ true → (u : Part) × (rest : Path) × (x ≡ p ++ u ∷ rest) × (m ≤ index u) × (index u < n)
+split_within : (p : Path) (m n : ℕ) (x : Path) → is_between p m n x ≡ true → (u : Part) × (rest : Path) × (x ≡ p ++ u ∷ rest) × (m ≤ index u) × (index u < n)
 split_within [] m n [] h = cc
 split_within [] m n (u ∷ x) h = (u, x, refl, le_of m (index u) (left_true (nat_le m (index u)) (nat_lt (index u) n) h), lt_of (index u) n (right_true (nat_le m (index u)) (nat_lt (index u) n) h))
   where
     le_of : (m n : ℕ) → nat_le m n ≡ true → m ≤ n
     le_of m n h = grind (arith, nat_tests)
 split_within (a ∷ p) m n [] h = cc
-split_within (a ∷ p) m n (u ∷ x) h = longer (part_same u a (left_true (part_eq u a) (is_within p m n x) h)) (split_within p m n x (right_true (part_eq u a) (is_within p m n x) h))
+split_within (a ∷ p) m n (u ∷ x) h = longer (part_same u a (left_true (part_eq u a) (is_between p m n x) h)) (split_within p m n x (right_true (part_eq u a) (is_between p m n x) h))
   where
     longer : u ≡ a → (v : Part) × (rest : Path) × (x ≡ p ++ v ∷ rest) × (m ≤ index v) × (index v < n) → (v : Part) × (rest : Path) × (u ∷ x ≡ a ∷ p ++ v ∷ rest) × (m ≤ index v) × (index v < n)
     longer same (v, rest, e, low, high) = (v, rest, ap₂ ◌∷◌ same e, low, high)
@@ -217,7 +217,7 @@ module _ (b : Board) (lawful : IsBoard b) where
           (subst (λ (x : Path). (path_eq (parent x) (parent (on p n)) && eqb (device x) (device (on p n)) && not (path_eq x (on p n))) ≡ true) (sym e) (rw (parents, devices, apart)))
 
   -- no function is passed over on the way to the next place
-  pub none_passed : (p : Path) (n : ℕ) (r : Row) → IsIn r b → is_within p n (next_place b p n) r.path ≡ true → AtOrBehind r (on p n)
+  pub none_passed : (p : Path) (n : ℕ) (r : Row) → IsIn r b → is_between p n (next_place b p n) r.path ≡ true → AtOrBehind r (on p n)
   none_passed p n r m h = by_test (eqb (n % 8) 0 && not (stands_at b (on p n) && is_multifunction b (on p n))) refl h
     where
       at_place : (u : Part) (rest : Path) → r.path ≡ p ++ u ∷ rest → u.device ≡ n / 8 → u.function ≡ n % 8 → AtOrBehind r (on p n)
@@ -240,7 +240,7 @@ module _ (b : Board) (lawful : IsBoard b) where
       eq_of : (k l : ℕ) → eqb k l ≡ true → k ≡ l
       eq_of k l h = grind (arith, nat_tests)
 
-      by_test : (t : Bool) → (eqb (n % 8) 0 && not (stands_at b (on p n) && is_multifunction b (on p n))) ≡ t → is_within p n (cond t (n + 8) (n + 1)) r.path ≡ true → AtOrBehind r (on p n)
+      by_test : (t : Bool) → (eqb (n % 8) 0 && not (stands_at b (on p n) && is_multifunction b (on p n))) ≡ t → is_between p n (cond t (n + 8) (n + 1)) r.path ≡ true → AtOrBehind r (on p n)
       by_test true e k =
           let s = split_within p n (n + 8) r.path k in
           let first : n % 8 ≡ 0 = eq_of (n % 8) 0 (left_true (eqb (n % 8) 0) (not (stands_at b (on p n) && is_multifunction b (on p n))) e) in

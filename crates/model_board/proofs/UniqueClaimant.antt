@@ -19,15 +19,16 @@ use Rattle.model_board.specs.Windows.{forwards, is_in_window}
 use Rattle.model_board.specs.Claims.{Claim, claim_at, claims_of, is_forwarded, claims, first_claim}
 use Rattle.model_board.specs.Pools.{Pool, unit_of, Apertures, bridges_above}
 use Rattle.model_board.specs.Placement.{Item, need, items_on, bus_first}
-use Rattle.model_board.specs.Layout.{LayoutRow, IsInside, IsAligned, IsLawful, layout}
+use Rattle.model_board.specs.Layout.{LayoutRow, IsAligned, IsLawful, layout}
+use Rattle.model_board.specs.Extents.{IsInside}
 use Rattle.model_board.specs.SetUp.{first_of, command_of, bridge_values, set_up_file, set_up_state}
 use Rattle.model_board.specs.Routing.{RoutingRow, routing, is_routed, routed_claims}
 use Rattle.model_board.specs.PlacementLaws.{region_row, window_row, HasRows}
 use Rattle.model_board.specs.PlacedRegions.{pool_space, PlacedRegion, placed, placed_at, placed_regions, holds, claim_in, placed_claim}
-use Rattle.model_board.specs.UniqueClaimant.{CanBePlaced, IsClaimed, ShareNone, HasUniqueClaims, UniqueClaimant, ClaimOfRegion, ClaimInAnyOrder, RowsArePlaced}
+use Rattle.model_board.specs.UniqueClaimant.{CanBePlaced, IsClaimed, HasUniqueClaims, UniqueClaimant, ClaimOfRegion, ClaimInAnyOrder, RowsArePlaced}
 use Rattle.model_board.specs.WindowLaws.{HasPlacedWindows}
 use Rattle.model_board.proofs.Members.{each_in, each_from, any_in, in_map, in_flat_map}
-use Rattle.model_board.proofs.Holders.{Holds, holds_is, is_held, self_space, claims_in, one_at_most, holder_first, same_members}
+use Rattle.model_board.proofs.Holders.{ShareNone, Holds, holds_is, is_held, self_space, claims_in, one_at_most, holder_first, same_members}
 use Rattle.model_board.proofs.Routing.{flat_map_map, first_listed, first_of_claims, forwarded_by_routing, claims_by_routing}
 use Rattle.model_board.proofs.SetUpRegisters.{FitsRegister, bases_read, endpoint_opens, bridge_opens}
 use Rattle.model_board.proofs.LawfulPlacement.{layout_is_lawful}
@@ -81,9 +82,9 @@ module _ (b : Board) (a : Apertures) (can : CanBePlaced b a) (lawful : IsLawful 
   bridge_forwards : (l : LayoutRow) (p : Path) (d : Bridge) (n : ℕ) → IsIn l (layout b a) → IsIn (record { path = p; decl = bridge d }) b → leads_to p l.path ≡ true → l.first ≤ n → n < l.first + l.size → is_in_window d (set_up_file b a p (bridge d)) (pool_space l.pool) n ≡ true
   bridge_forwards l p d n m k h low high = by_window (window_over b a can.places (layout b a) lawful l (record { path = p; decl = bridge d }) m k h)
     where
-      by_row : (w : LayoutRow) → w ≡ window_row b a l.pool p → (i : Item) → IsIn i (items_on b a l.pool p) → IsInside w.first (w.first + w.size) l → is_in_window d (set_up_file b a p (bridge d)) (pool_space l.pool) n ≡ true
+      by_row : (w : LayoutRow) → w ≡ window_row b a l.pool p → (i : Item) → IsIn i (items_on b a l.pool p) → IsInside w.first (w.first + w.size) l.first l.size → is_in_window d (set_up_file b a p (bridge d)) (pool_space l.pool) n ≡ true
       by_row w is i behind inside =
-          let within : IsInside (bus_first b a l.pool p) (bus_first b a l.pool p + need (unit_of l.pool) (items_on b a l.pool p)) l = subst (λ (x : LayoutRow). IsInside x.first (x.first + x.size) l) is inside in
+          let within : IsInside (bus_first b a l.pool p) (bus_first b a l.pool p + need (unit_of l.pool) (items_on b a l.pool p)) l.first l.size = subst (λ (x : LayoutRow). IsInside x.first (x.first + x.size) l.first l.size) is inside in
           window_holds b a p d (each_in (λ (r : Row). HasPlacedWindows b a r.path r.decl) (record { path = p; decl = bridge d }) b windows k) i n l.pool behind (omega (arith, within.0)) (omega (arith, within.1))
 
       by_window : WindowOver (layout b a) l p → is_in_window d (set_up_file b a p (bridge d)) (pool_space l.pool) n ≡ true

@@ -3,12 +3,13 @@
 --     LayoutRow      a region or a window at a path, with its pool, first address and size
 --     IsLawful      aligned, inside the aperture, inside the windows above, and apart
 --     bus_rows, pool_rows, layout      the rows of compact placement, bus by bus, as they stand on each bus
-use Rattle.std.specs.Prelude.{List, [], ◌∷◌, ◌≡◌, ℕ, ◌+◌, ◌%◌, Bool, false, ◌&&◌, ◌≤◌, ◌++◌, flat_map, map, filter, IsTrue, ◌⊎◌, MatchOption}
+use Rattle.std.specs.Prelude.{List, [], ◌∷◌, ◌≡◌, ℕ, ◌+◌, ◌%◌, Bool, false, ◌&&◌, ◌++◌, flat_map, map, filter, IsTrue, MatchOption}
 use Rattle.std.specs.List.{list_any}
 use Rattle.model_registers.specs.Lists.{Each, EachPair}
 use Rattle.model_board.specs.Paths.{Path, path_eq, leads_to, parent}
 use Rattle.model_board.specs.Board.{is_bridge, Board}
 use Rattle.model_board.specs.Pools.{Pool, io_pool, mem_pool, pref_pool, same_pool, unit_of, Apertures, aperture_of}
+use Rattle.model_board.specs.Extents.{IsInside, AreApart}
 use Rattle.model_board.specs.Placement.{Placed, a_region, a_window, Spot, spots, items_on, bus_first}
 
 pub record LayoutRow : Type 0 where
@@ -23,26 +24,27 @@ abbrev pub IsAligned : LayoutRow → Placed → Type 0
 IsAligned r (a_region n) = r.first % r.size ≡ 0
 IsAligned r a_window = (r.first % unit_of r.pool ≡ 0) × (r.size % unit_of r.pool ≡ 0)
 
-abbrev pub IsInside : ℕ → ℕ → LayoutRow → Type 0
-IsInside first end r = (first ≤ r.first) × (r.first + r.size ≤ end)
-
 -- w is the window of r's pool of a bridge above r
 abbrev pub is_window_over : LayoutRow → LayoutRow → Bool
 is_window_over r w = elim w.what [ a_region n ↦ false | a_window ↦ same_pool w.pool r.pool && leads_to w.path r.path ]
 
-abbrev pub AreApart : LayoutRow → LayoutRow → Type 0
-AreApart r s = (r.first + r.size ≤ s.first) ⊎ (s.first + s.size ≤ r.first)
-
 -- in every window over it, and each bridge above has such a window
 pub record IsUnderWindows (b : Board) (rows : List LayoutRow) (r : LayoutRow) : Type 0 where
-  pub inside : Each (λ w. IsTrue (is_window_over r w) → IsInside w.first (w.first + w.size) r) rows
-  pub there : Each (λ d. IsTrue (leads_to d.path r.path) → IsTrue (list_any (λ w. is_window_over r w && path_eq w.path d.path) rows)) b
+  pub inside :
+      Each (λ w. IsTrue (is_window_over r w) → IsInside w.first (w.first + w.size) r.first r.size) rows
+  pub there :
+      Each (λ d. IsTrue (leads_to d.path r.path)
+      → IsTrue (list_any (λ w. is_window_over r w && path_eq w.path d.path) rows)) b
 
 pub record IsLawful (b : Board) (a : Apertures) (rows : List LayoutRow) : Type 0 where
   pub aligned : Each (λ r. IsAligned r r.what) rows
-  pub in_apertures : Each (λ r. MatchOption (aperture_of a r.pool) ⊥ (λ ap. IsInside ap.first (ap.last + 1) r)) rows
+  pub in_apertures :
+      Each (λ r. MatchOption (aperture_of a r.pool) ⊥ (λ ap. IsInside ap.first (ap.last + 1) r.first r.size)) rows
   pub under_windows : Each (IsUnderWindows b rows) rows
-  pub apart : EachPair (λ r s. IsTrue (same_pool r.pool s.pool && path_eq (parent r.path) (parent s.path)) → AreApart r s) rows
+  -- two of one pool on one bus
+  pub apart :
+      EachPair (λ r s. IsTrue (same_pool r.pool s.pool && path_eq (parent r.path) (parent s.path))
+      → AreApart r.first r.size s.first s.size) rows
 
 -- what stands at a spot of the bus that begins at n
 abbrev pub row_of : Pool → Path → ℕ → Spot → LayoutRow

@@ -9,6 +9,7 @@ pub mod Claims
 pub mod Cycles
 pub mod Pools
 pub mod Members
+pub mod Extents
 pub mod Placement
 pub mod Layout
 pub mod SetUp

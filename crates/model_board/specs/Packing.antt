@@ -1,6 +1,7 @@
 -- On a bus without bridges, compact placement takes the sum of the sizes rounded up to the unit, and no lawful placement takes less.
-use Rattle.std.specs.Prelude.{List, ◌≡◌, ℕ, ◌<◌, ◌+◌, ◌*◌, ◌%◌, ◌≤◌, ◌^◌, map, sum_by, ◌⊎◌, IsFalse}
+use Rattle.std.specs.Prelude.{List, ◌≡◌, ℕ, ◌<◌, ◌+◌, ◌*◌, ◌%◌, ◌≤◌, ◌^◌, map, sum_by, IsFalse}
 use Rattle.model_registers.specs.Lists.{Each, EachPair}
+use Rattle.model_board.specs.Extents.{IsInside, AreApart}
 use Rattle.model_board.specs.Paths.{Path}
 use Rattle.model_board.specs.Board.{Decl, endpoint, bridge, is_bridge, Board, rows_on}
 use Rattle.model_board.specs.Pools.{Pool, unit_of, Apertures}
@@ -9,28 +10,17 @@ use Rattle.model_board.specs.Placement.{Item, round_up, Spot, spot_end, spots, n
 abbrev pub IsPowerOfTwo : ℕ → Type 0
 IsPowerOfTwo n = (k : ℕ) × (n ≡ 2 ^ k)
 
--- a region: its alignment is its size, a power of two
-pub record IsRegion (i : Item) : Type 0 where
-  pub align_is_size : i.align ≡ i.size
-  pub power : IsPowerOfTwo i.size
-
 -- where an item is put
 pub record Interval : Type 0 where
   pub first : ℕ
   pub size : ℕ
 
-abbrev pub Apart : Interval → Interval → Type 0
-Apart s t = (s.first + s.size ≤ t.first) ⊎ (t.first + t.size ≤ s.first)
-
-abbrev pub Within : ℕ → ℕ → Interval → Type 0
-Within start stop s = (start ≤ s.first) × (s.first + s.size ≤ stop)
-
 -- each item has a spot of its size at a multiple of its size; the spots are apart and within `units` units from `start` on
 pub record IsPlacement (unit start units : ℕ) (is : List Item) (spots : List Interval) : Type 0 where
   pub sizes : map (λ s. s.size) spots ≡ map (λ i. i.size) is
   pub aligned : Each (λ s. s.first % s.size ≡ 0) spots
-  pub within : Each (Within start (start + units * unit)) spots
-  pub apart : EachPair Apart spots
+  pub within : Each (λ s. IsInside start (start + units * unit) s.first s.size) spots
+  pub apart : EachPair (λ s t. AreApart s.first s.size t.first t.size) spots
 
 pub record FlatNeed (unit : ℕ) (is : List Item) : Type 0 where
   pub is_sum : need unit is ≡ round_up unit (sum_by (λ i. i.size) is)

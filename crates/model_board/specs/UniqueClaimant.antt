@@ -6,7 +6,7 @@
 --     PlacedWithin      where a declared region may be placed
 --     ClaimInAnyOrder      a list of the placed regions in any order has the same claim
 --     RowsArePlaced      the regions among the rows of the layout are the placed regions
-use Rattle.std.specs.Prelude.{List, ◌≡◌, ℕ, ◌<◌, ◌+◌, ◌%◌, ◌^◌, ◌≤◌, Some, IsTrue, ◌⊎◌, ◌↔◌}
+use Rattle.std.specs.Prelude.{List, ◌≡◌, ℕ, ◌<◌, ◌+◌, ◌%◌, ◌^◌, ◌≤◌, Some, IsTrue, ◌↔◌}
 use Rattle.std.specs.Option.{option_to_list}
 use Rattle.model_registers.specs.Lists.{Each, EachPair, first_some}
 use Rattle.model_registers.specs.Decoding.{Space, io, memory, space_of, same_space}
@@ -19,6 +19,7 @@ use Rattle.model_board.specs.Claims.{is_forwarded, claims, first_claim}
 use Rattle.model_board.specs.Pools.{Pool, Apertures, has_io_paths}
 use Rattle.model_board.specs.Placement.{fits}
 use Rattle.model_board.specs.Layout.{layout}
+use Rattle.model_board.specs.Extents.{AreApart}
 use Rattle.model_board.specs.Members.{IsIn}
 use Rattle.model_board.specs.SetUp.{first_of, set_up_state}
 use Rattle.model_board.specs.Routing.{routing}
@@ -37,16 +38,15 @@ pub record IsClaimed (fs : List BoardFunction) (r : PlacedRegion) (k : ℕ) : Ty
   pub forwarded : IsTrue (is_forwarded fs r.path r.space (r.first + k))
   pub claimed : first_claim fs r.space (r.first + k) ≡ Some (record { path = r.path; index = r.index; offset = k })
 
--- they share no address
-abbrev pub ShareNone : PlacedRegion → PlacedRegion → Type 0
-ShareNone r s = IsTrue (same_space r.space s.space) → (r.first + r.size ≤ s.first) ⊎ (s.first + s.size ≤ r.first)
-
 pub record HasUniqueClaims (b : Board) (a : Apertures) (fs : List BoardFunction) : Type 0 where
   -- an address has the claim of the placed region that holds it, and no other
   pub only : (space : Space) (n : ℕ) → claims fs space n ≡ option_to_list (placed_claim b a space n)
   pub first : (space : Space) (n : ℕ) → first_claim fs space n ≡ placed_claim b a space n
   pub each_byte : Each (λ r. (k : ℕ) → k < r.size → IsClaimed fs r k) (placed_regions b a)
-  pub apart : EachPair ShareNone (placed_regions b a)
+  -- two of one space share no address
+  pub apart :
+      EachPair (λ r s. IsTrue (same_space r.space s.space) → AreApart r.first r.size s.first s.size)
+      (placed_regions b a)
 
 abbrev pub UniqueClaimant : Type 0
 UniqueClaimant = (b : Board) (a : Apertures) → CanBePlaced b a → (fs : List BoardFunction) → routing fs ≡ routing (set_up_state b a).functions → HasUniqueClaims b a fs

@@ -13,7 +13,8 @@ use Rattle.model_board.specs.Paths.{Part, Path, part_eq, parent, last_part, IsPa
 use Rattle.model_board.specs.Board.{Decl, endpoint, is_bridge, Row, Board, IsBoard}
 use Rattle.model_board.specs.Pools.{Pool, io_pool, mem_pool, pref_pool, unit_of, Apertures, aperture_of}
 use Rattle.model_board.specs.Placement.{Placed, a_region, a_window, same_placed, Item, Spot, is_item, stands_before, in_order, round_up, need, alignment, spots_from, spots, offset_in, items_on, fits, offset_on, bus_first}
-use Rattle.model_board.specs.Layout.{LayoutRow, IsInside, IsLawful, bus_rows, pool_rows}
+use Rattle.model_board.specs.Layout.{LayoutRow, IsLawful, bus_rows, pool_rows}
+use Rattle.model_board.specs.Extents.{IsInside}
 use Rattle.model_board.specs.PlacementLaws.{window_row}
 use Rattle.model_board.specs.Lawful.{IsLawfulDecl, HasLawfulDecls}
 use Rattle.model_board.proofs.Members.{each_in, each_from}
@@ -81,7 +82,7 @@ begins a pref_pool h = by_option a.pref h.pref
     by_option None k = tt
     by_option (Some x) k = omega (arith, k.ends, k.units.not_empty)
 
-inside_limit : (o : Option Aperture) (row : LayoutRow) → MatchOption o (Unit {0}) (λ ap. ap.last + 1 ≤ 2 ^ 63) → MatchOption o ⊥ (λ ap. IsInside ap.first (ap.last + 1) row) → row.first + row.size ≤ 2 ^ 63
+inside_limit : (o : Option Aperture) (row : LayoutRow) → MatchOption o (Unit {0}) (λ ap. ap.last + 1 ≤ 2 ^ 63) → MatchOption o ⊥ (λ ap. IsInside ap.first (ap.last + 1) row.first row.size) → row.first + row.size ≤ 2 ^ 63
 inside_limit None row l h = absurd h
 inside_limit (Some x) row l h = omega (arith, l, h.1)
 
@@ -147,7 +148,7 @@ module _ (b : Board) (a : Apertures) (pool : Pool) (board : IsBoard b) (lawful :
     row_bound : (row : LayoutRow) → IsIn row (pool_rows b a pool) → row.pool ≡ pool → row.first + row.size ≤ 2 ^ 63
     row_bound row m e =
         let whole : IsLawful b a (pool_rows b a pool) = pool_lawful b a pool board lawful fit in
-        let inside = each_in (λ r. MatchOption (aperture_of a r.pool) ⊥ (λ ap. IsInside ap.first (ap.last + 1) r)) row (pool_rows b a pool) whole.in_apertures m in
+        let inside = each_in (λ r. MatchOption (aperture_of a r.pool) ⊥ (λ ap. IsInside ap.first (ap.last + 1) r.first r.size)) row (pool_rows b a pool) whole.in_apertures m in
         inside_limit (aperture_of a row.pool) row (limit a row.pool apertures) inside
 
     -- a spot ends at 2^63 or below
