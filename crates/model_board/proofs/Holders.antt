@@ -1,6 +1,6 @@
 -- Regions that share no address: one at most holds an address, so their order doesn't count.
 use Rattle.std.proofs.Common.{◌≡◌, ℕ, ◌+◌, ◌≤◌, ◌<◌, ◌⊎◌, inl, inr, Bool, true, false, ◌&&◌, List, [], ◌∷◌, None, refl, sym, ap, ◌∙◌, arith, leb, ltb}
-use Rattle.std.specs.Prelude.{flat_map, IsTrue}
+use Rattle.std.specs.Prelude.{flat_map}
 use Rattle.std.specs.List.{list_any}
 use Rattle.std.specs.Option.{option_to_list}
 use Rattle.std.proofs.lemmas.Bool.Decides.{nat_tests}
@@ -8,10 +8,10 @@ use Rattle.std.proofs.lemmas.Bool.{leb-true, ltb-true}
 use Rattle.model_registers.specs.Lists.{Each, EachPair, first_some}
 use Rattle.model_registers.specs.Decoding.{Space, io, memory, same_space}
 use Rattle.model_registers.proofs.Tests.{left_true, right_true}
-use Rattle.model_board.specs.Extents.{AreApart}
 use Rattle.model_board.specs.Members.{IsIn}
 use Rattle.model_board.specs.Claims.{Claim}
 use Rattle.model_board.specs.PlacedRegions.{PlacedRegion, holds, claim_in}
+use Rattle.model_board.specs.UniqueClaimant.{ShareNone}
 use Rattle.model_board.proofs.Members.{each_in, any_in, from_any}
 use Rattle.model_board.proofs.Partings.{pair_in}
 
@@ -22,10 +22,6 @@ same_spaces io memory io h k = cc
 same_spaces io memory memory h k = cc
 same_spaces memory io io h k = cc
 same_spaces memory io memory h k = cc
-
--- two placed regions share no address of one space
-abbrev pub ShareNone : PlacedRegion → PlacedRegion → Type 0
-ShareNone r s = IsTrue (same_space r.space s.space) → AreApart r.first r.size s.first s.size
 
 pub record Holds (space : Space) (n : ℕ) (q : PlacedRegion) : Type 0 where
   pub space_is : same_space q.space space ≡ true

@@ -18,7 +18,7 @@ use Rattle.model_board.specs.Lawful.{IsLawfulDecl, HasLawfulDecls}
 use Rattle.model_board.specs.PlacementLaws.{pool_at, region_row, window_rows, rows_at, HasOwnRows, IsRowFor, HasRows}
 use Rattle.model_board.specs.PlacedRegions.{PlacedRegion, placed, placed_at, placed_regions, pool_space, placed_row, placed_rows}
 use Rattle.model_board.proofs.Members.{each_in, in_map, in_flat_map, from_flat_map, from_map, from_filter, pairs_weaker, pairs_flat_map, pairs_map}
-use Rattle.model_board.proofs.Holders.{ShareNone}
+use Rattle.model_board.specs.UniqueClaimant.{ShareNone}
 use Rattle.model_board.proofs.PathEnds.{not_before_itself}
 use Rattle.model_board.proofs.PlacedApart.{pool_of_space, OfEndpoint, spaces_apart}
 

@@ -25,10 +25,10 @@ use Rattle.model_board.specs.SetUp.{first_of, command_of, bridge_values, set_up_
 use Rattle.model_board.specs.Routing.{RoutingRow, routing, is_routed, routed_claims}
 use Rattle.model_board.specs.PlacementLaws.{region_row, window_row, HasRows}
 use Rattle.model_board.specs.PlacedRegions.{pool_space, PlacedRegion, placed, placed_at, placed_regions, holds, claim_in, placed_claim}
-use Rattle.model_board.specs.UniqueClaimant.{CanBePlaced, IsClaimed, HasUniqueClaims, UniqueClaimant, ClaimOfRegion, ClaimInAnyOrder, RowsArePlaced}
+use Rattle.model_board.specs.UniqueClaimant.{CanBePlaced, IsClaimed, ShareNone, HasUniqueClaims, UniqueClaimant, ClaimOfRegion, ClaimInAnyOrder, RowsArePlaced}
 use Rattle.model_board.specs.WindowLaws.{HasPlacedWindows}
 use Rattle.model_board.proofs.Members.{each_in, each_from, any_in, in_map, in_flat_map}
-use Rattle.model_board.proofs.Holders.{ShareNone, Holds, holds_is, is_held, self_space, claims_in, one_at_most, holder_first, same_members}
+use Rattle.model_board.proofs.Holders.{Holds, holds_is, is_held, self_space, claims_in, one_at_most, holder_first, same_members}
 use Rattle.model_board.proofs.Routing.{flat_map_map, first_listed, first_of_claims, forwarded_by_routing, claims_by_routing}
 use Rattle.model_board.proofs.SetUpRegisters.{FitsRegister, bases_read, endpoint_opens, bridge_opens}
 use Rattle.model_board.proofs.LawfulPlacement.{layout_is_lawful}

@@ -1,4 +1,5 @@
--- A whole board at reset, and the board while and after it is enumerated: PCI-to-PCI Bridge Architecture 1.2, chapter 3.2.5.
+-- A whole board at reset, and the board while and after it is enumerated: PCI-to-PCI Bridge Architecture 1.2, chapter
+-- 3.2.5.
 --     board_at      the board whose functions hold these cells
 --     IsAtReset      a lawful board, all cells at reset and the latch clear
 --     IsNumbered      a lawful board that enumerates, with its bus numbers, all else at reset

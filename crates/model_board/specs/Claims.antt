@@ -26,7 +26,10 @@ claim_at p h = record { path = p; index = h.index; offset = h.offset }
 
 -- the regions of an endpoint that decode the address, each with the offset in it
 abbrev pub endpoint_hits : BoardFunction → Space → ℕ → List Hit
-endpoint_hits f space a = elim f.decl [ endpoint d ↦ flat_map (λ r. option_to_list (hit_of f.file space a r)) d.regions | bridge d ↦ [] ]
+endpoint_hits f space a = elim f.decl [
+  | endpoint d ↦ flat_map (λ r. option_to_list (hit_of f.file space a r)) d.regions
+  | bridge d ↦ []
+]
 
 abbrev pub claims_of : List BoardFunction → Space → ℕ → BoardFunction → List Claim
 claims_of fs space a f = if is_forwarded fs f.path space a then map (claim_at f.path) (endpoint_hits f space a) else []
@@ -37,10 +40,15 @@ claims fs space a = flat_map (claims_of fs space a) fs
 
 -- an endpoint's claim by its own registers, where each bridge of its path forwards the address
 abbrev pub endpoint_hit : BoardFunction → Space → ℕ → Option Hit
-endpoint_hit f space a = elim f.decl [ endpoint d ↦ lone_claim (record { decl = d; file = f.file }) space a | bridge d ↦ None ]
+endpoint_hit f space a = elim f.decl [
+  | endpoint d ↦ lone_claim (record { decl = d; file = f.file }) space a
+  | bridge d ↦ None
+]
 
 abbrev pub claim_of : List BoardFunction → Space → ℕ → BoardFunction → Option Claim
-claim_of fs space a f = if is_forwarded fs f.path space a then option_map_or (λ (h : Hit). Some (claim_at f.path h)) (endpoint_hit f space a) None else None
+claim_of fs space a f =
+    if is_forwarded fs f.path space a
+    then option_map_or (λ (h : Hit). Some (claim_at f.path h)) (endpoint_hit f space a) None else None
 
 -- the first in path order, and then by register
 abbrev pub first_claim : List BoardFunction → Space → ℕ → Option Claim

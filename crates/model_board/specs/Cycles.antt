@@ -3,7 +3,8 @@
 --     taker      the bridge of a bus that takes a cycle for another bus
 --     is_route      the bridges that a cycle goes through
 --     reached      the function that a cycle for a bus, device and function reaches
-use Rattle.std.specs.Prelude.{List, [], ◌∷◌, ℕ, Bool, true, false, ◌&&◌, ◌==◌, if◌then◌else◌, ◌++◌, not, nat_le, Option, find}
+use Rattle.std.specs.Prelude.{List, [], ◌∷◌, ℕ, Bool, true, false, ◌&&◌, ◌==◌, if◌then◌else◌, ◌++◌, not, nat_le, Option}
+use Rattle.std.specs.Prelude.{find}
 use Rattle.std.specs.Option.{option_map_or}
 use Rattle.model_registers.specs.Registers.{config, File, number}
 use Rattle.model_board.specs.Paths.{Part, Path, part_eq, path_eq, parent}
@@ -25,7 +26,11 @@ taker fs bus n = find (λ f. path_eq (parent f.path) bus && covers n f) fs
 
 -- the part names the bridge that takes the cycle on its bus, and that bridge leads to bus n itself, or not
 abbrev pub takes : List BoardFunction → Path → ℕ → Part → Bool → Bool
-takes fs bus n p ends = option_map_or (λ (f : BoardFunction). path_eq f.path (bus ++ p ∷ []) && (if secondary_register f.file == n then ends else not ends)) (taker fs bus n) false
+takes fs bus n p ends =
+    option_map_or
+    (λ (f : BoardFunction). path_eq f.path (bus ++ p ∷ [])
+    && (if secondary_register f.file == n then ends else not ends))
+    (taker fs bus n) false
 
 -- a cycle for bus n, put on the bus `above`, goes down these bridges to the device and function of the last part
 abbrev pub is_route : List BoardFunction → ℕ → Path → Path → Bool

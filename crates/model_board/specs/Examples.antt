@@ -4,7 +4,9 @@
 --     many_bridges      255 bridges
 --     chain      bridges one behind the other, and an endpoint at the end
 use Rattle.std.specs.Prelude.{List, [], ◌∷◌, ℕ, zero, suc, ◌/◌, ◌%◌, true, false, replicate, ◌^◌, ◌++◌, Some}
-use Rattle.model_registers.specs.Declarations.{Kind, io_kind, mem32, mem64, Region, Endpoint, no_io, io16, no_pref, pref64, Bridge}
+use Rattle.model_registers.specs.Cell.{Cell}
+use Rattle.model_registers.specs.Declarations.{Kind, io_kind, mem32, mem64, Region, Endpoint, no_io, io16, no_pref}
+use Rattle.model_registers.specs.Declarations.{pref64, Bridge}
 use Rattle.model_board.specs.Paths.{Part, Path}
 use Rattle.model_board.specs.Board.{Decl, endpoint, bridge, Row, Board}
 use Rattle.model_board.specs.Pools.{Aperture, Apertures}
@@ -21,6 +23,12 @@ aperture first last = record { first = first; last = last }
 -- a region without register cells
 abbrev pub region : ℕ → Kind → ℕ → Region
 region n kind size = record { index = n; kind = kind; size = size; cells = [] }
+
+abbrev pub writable_cell : ℕ → Cell
+writable_cell v = record { value = v; writable = 0xff; clearable = 0 }
+
+abbrev pub constant_cell : ℕ → Cell
+constant_cell v = record { value = v; writable = 0; clearable = 0 }
 
 abbrev pub plain : ℕ → ℕ → ℕ → List Region → Endpoint
 plain id status pin regions = record {
@@ -43,7 +51,7 @@ plain id status pin regions = record {
 abbrev pub first_endpoint : Endpoint
 first_endpoint = plain 1 0x8000 1 (
     region 0 io_kind 32
-    ∷ record { index = 1; kind = mem32 false; size = 4096; cells = replicate 64 (record { value = 0; writable = 0xff; clearable = 0 }) } ∷ [])
+    ∷ record { index = 1; kind = mem32 false; size = 4096; cells = replicate 64 (writable_cell 0) } ∷ [])
 
 abbrev pub main_bridge : Bridge
 main_bridge = record { vendor = 0x1234; device = 2; revision = 0; io = io16; pref = pref64 }
@@ -53,7 +61,7 @@ second_endpoint = plain 3 0 0 (region 0 (mem32 false) 0x100000 ∷ region 1 io_k
 
 abbrev pub third_endpoint : Endpoint
 third_endpoint = plain 4 0 1 (
-    record { index = 0; kind = mem64 true; size = 0x1000000; cells = replicate 16 (record { value = 0xa5; writable = 0; clearable = 0 }) } ∷ [])
+    record { index = 0; kind = mem64 true; size = 0x1000000; cells = replicate 16 (constant_cell 0xa5) } ∷ [])
 
 -- the main board with another bridge
 abbrev pub main_board_with : Bridge → Board
@@ -67,7 +75,11 @@ abbrev pub main_board : Board
 main_board = main_board_with main_bridge
 
 abbrev pub main_apertures : Apertures
-main_apertures = record { io = aperture 0x1000 0xffff; mem = aperture 0xc0000000 0xdfffffff; pref = Some (aperture 0x400000000 0x4ffffffff) }
+main_apertures = record {
+  io = aperture 0x1000 0xffff;
+  mem = aperture 0xc0000000 0xdfffffff;
+  pref = Some (aperture 0x400000000 0x4ffffffff);
+}
 
 -- ---- further boards
 
@@ -106,7 +118,8 @@ many_bridges = many_pairs 127 ++ function_at (part 15 7 ∷ []) (bridge main_bri
 -- n bridges behind the bus at `above`, one behind the other, and an endpoint at the end
 abbrev pub chain_below : Path → ℕ → Endpoint → Board
 chain_below above zero d = function_at (above ++ part 0 0 ∷ []) (endpoint d) ∷ []
-chain_below above (suc n) d = function_at (above ++ part 0 0 ∷ []) (bridge memory_bridge) ∷ chain_below (above ++ part 0 0 ∷ []) n d
+chain_below above (suc n) d =
+    function_at (above ++ part 0 0 ∷ []) (bridge memory_bridge) ∷ chain_below (above ++ part 0 0 ∷ []) n d
 
 abbrev pub chain : ℕ → Endpoint → Board
 chain n d = chain_below [] n d

@@ -1,5 +1,6 @@
--- What software finds of a board's functions by configuration cycles: PCI Local Bus 3.0, chapters 6.2.1 and 6.2.5.1; PCI-to-PCI Bridge Architecture 1.2, chapter 3.2.
---     met_decl, found_decl      what a scan, and sizing after it, find of a declaration; what they don't look for counts as 0 or none
+-- What software finds of a board's functions by configuration cycles: PCI Local Bus 3.0, chapters 6.2.1 and 6.2.5.1;
+-- PCI-to-PCI Bridge Architecture 1.2, chapter 3.2.
+--     met_decl, found_decl      what a scan, and sizing after it, find of a declaration; all else counts as 0 or none
 --     BusRange, TableRow      the numbers of the buses behind a bridge; a function with the number of its bus
 --     scanned_table, sized_table      a board's functions as a scan, and as sizing after it, leave them in a table
 --     board_in      a table as a board of what was found
@@ -59,7 +60,8 @@ range_behind b p (endpoint d) = None
 range_behind b p (bridge d) = Some (record { first = secondary b p; last = subordinate b p })
 
 abbrev pub table_row : Board → (Decl → Decl) → Row → TableRow
-table_row b found r = record { path = r.path; bus = bus_of b r.path; behind = range_behind b r.path r.decl; decl = found r.decl }
+table_row b found r =
+    record { path = r.path; bus = bus_of b r.path; behind = range_behind b r.path r.decl; decl = found r.decl }
 
 abbrev pub scanned_table : Board → List TableRow
 scanned_table b = map (table_row b met_decl) b

@@ -3,7 +3,8 @@
 --     LayoutRow      a region or a window at a path, with its pool, first address and size
 --     IsLawful      aligned, inside the aperture, inside the windows above, and apart
 --     bus_rows, pool_rows, layout      the rows of compact placement, bus by bus, as they stand on each bus
-use Rattle.std.specs.Prelude.{List, [], ◌∷◌, ◌≡◌, ℕ, ◌+◌, ◌%◌, Bool, false, ◌&&◌, ◌++◌, flat_map, map, filter, IsTrue, MatchOption}
+use Rattle.std.specs.Prelude.{List, [], ◌∷◌, ◌≡◌, ℕ, ◌+◌, ◌%◌, Bool, false, ◌&&◌, ◌++◌, flat_map, map, filter, IsTrue}
+use Rattle.std.specs.Prelude.{MatchOption}
 use Rattle.std.specs.List.{list_any}
 use Rattle.model_registers.specs.Lists.{Each, EachPair}
 use Rattle.model_board.specs.Paths.{Path, path_eq, leads_to, parent}
@@ -48,7 +49,8 @@ pub record IsLawful (b : Board) (a : Apertures) (rows : List LayoutRow) : Type 0
 
 -- what stands at a spot of the bus that begins at n
 abbrev pub row_of : Pool → Path → ℕ → Spot → LayoutRow
-row_of pool bus n s = record { path = bus ++ s.item.part ∷ []; what = s.item.what; pool = pool; first = n + s.first; size = s.item.size }
+row_of pool bus n s =
+    record { path = bus ++ s.item.part ∷ []; what = s.item.what; pool = pool; first = n + s.first; size = s.item.size }
 
 abbrev pub bus_rows : Board → Apertures → Pool → Path → List LayoutRow
 bus_rows b a pool bus = map (row_of pool bus (bus_first b a pool bus)) (spots (items_on b a pool bus))

@@ -1,4 +1,5 @@
 -- What compact placement says of one bus: the bound on levels in `items_on` doesn't show.
+--     ItemsByBus      the items of a bus, by those behind its bridges
 use Rattle.std.specs.Prelude.{◌≡◌, flat_map}
 use Rattle.model_board.specs.Paths.{Path}
 use Rattle.model_board.specs.Board.{Board, rows_on, IsBoard}
@@ -7,4 +8,5 @@ use Rattle.model_board.specs.Placement.{items_of, items_on}
 
 -- the items of a bus are the regions on it, and the windows of its bridges by the items behind them
 abbrev pub ItemsByBus : Type 0
-ItemsByBus = (b : Board) → IsBoard b → (a : Apertures) (pool : Pool) (bus : Path) → items_on b a pool bus ≡ flat_map (items_of b a pool (items_on b a pool)) (rows_on b bus)
+ItemsByBus = (b : Board) → IsBoard b → (a : Apertures) (pool : Pool) (bus : Path)
+    → items_on b a pool bus ≡ flat_map (items_of b a pool (items_on b a pool)) (rows_on b bus)

@@ -1,4 +1,7 @@
--- Bus numbers as counts say where a bridge stands: the numbers behind a bridge are those of the bridges that it leads to.
+-- Bus numbers as counts say where a bridge stands: the numbers behind a bridge are those of the bridges that it leads
+-- to. PCI-to-PCI Bridge Architecture 1.2, chapter 3.2.5.
+--     NumbersLead b r q      how the numbers of two bridges lie, by where the bridges stand
+--     Numbering      they lie so for all bridges of a board
 use Rattle.std.specs.Prelude.{◌<◌, ◌≤◌, IsTrue, IsFalse}
 use Rattle.model_board.specs.Paths.{Path, path_before, leads_to}
 use Rattle.model_board.specs.Board.{Board, is_bridge_at, IsBoard}
@@ -10,4 +13,5 @@ pub record NumbersLead (b : Board) (r q : Path) : Type 0 where
   pub later : IsTrue (path_before r q) → IsFalse (leads_to r q) → subordinate b r < secondary b q
 
 abbrev pub Numbering : Type 0
-Numbering = (b : Board) → IsBoard b → (r q : Path) → IsTrue (is_bridge_at b r) → IsTrue (is_bridge_at b q) → NumbersLead b r q
+Numbering = (b : Board) → IsBoard b → (r q : Path) → IsTrue (is_bridge_at b r) → IsTrue (is_bridge_at b q)
+    → NumbersLead b r q

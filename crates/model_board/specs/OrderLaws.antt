@@ -21,4 +21,5 @@ abbrev pub OrderIsSorted : Type 0
 OrderIsSorted = (is : List Item) → IsOrderOf is (in_order is)
 
 abbrev pub OneOrder : Type 0
-OneOrder = (b : Board) (a : Apertures) (pool : Pool) (bus : Path) → IsBoard b → HasLawfulDecls b → (js : List Item) → IsOrderOf (items_on b a pool bus) js → js ≡ in_order (items_on b a pool bus)
+OneOrder = (b : Board) (a : Apertures) (pool : Pool) (bus : Path) → IsBoard b → HasLawfulDecls b → (js : List Item)
+    → IsOrderOf (items_on b a pool bus) js → js ≡ in_order (items_on b a pool bus)

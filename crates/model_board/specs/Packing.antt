@@ -1,4 +1,9 @@
--- On a bus without bridges, compact placement takes the sum of the sizes rounded up to the unit, and no lawful placement takes less.
+-- On a bus without bridges, compact placement takes the sum of the sizes rounded up to the unit, and no lawful
+-- placement takes less; on any bus it is a run of spots within its need.
+--     IsPowerOfTwo, HasPowerSizes      a size is a power of two; those of an endpoint's regions are
+--     Interval, IsPlacement      where an item is put; spots for all items of a bus
+--     FlatNeed, FlatNeedOnBus      the need is the sum, and the least; of a bus without bridges it is
+--     IsRun, CompactIsRun      spots one after the other; compact placement is such a run
 use Rattle.std.specs.Prelude.{List, ◌≡◌, ℕ, ◌<◌, ◌+◌, ◌*◌, ◌%◌, ◌≤◌, ◌^◌, map, sum_by, IsFalse}
 use Rattle.model_registers.specs.Lists.{Each, EachPair}
 use Rattle.model_board.specs.Extents.{IsInside, AreApart}
@@ -10,12 +15,13 @@ use Rattle.model_board.specs.Placement.{Item, round_up, Spot, spot_end, spots, n
 abbrev pub IsPowerOfTwo : ℕ → Type 0
 IsPowerOfTwo n = (k : ℕ) × (n ≡ 2 ^ k)
 
--- where an item is put
+-- where an item is put: its first address and its size
 pub record Interval : Type 0 where
   pub first : ℕ
   pub size : ℕ
 
--- each item has a spot of its size at a multiple of its size; the spots are apart and within `units` units from `start` on
+-- each item has a spot of its size at a multiple of its size; the spots are apart, and within `units` units from
+-- `start` on
 pub record IsPlacement (unit start units : ℕ) (is : List Item) (spots : List Interval) : Type 0 where
   pub sizes : map (λ s. s.size) spots ≡ map (λ i. i.size) is
   pub aligned : Each (λ s. s.first % s.size ≡ 0) spots
@@ -24,7 +30,8 @@ pub record IsPlacement (unit start units : ℕ) (is : List Item) (spots : List I
 
 pub record FlatNeed (unit : ℕ) (is : List Item) : Type 0 where
   pub is_sum : need unit is ≡ round_up unit (sum_by (λ i. i.size) is)
-  pub least : (start units : ℕ) (spots : List Interval) → IsPlacement unit start units is spots → need unit is ≤ units * unit
+  pub least : (start units : ℕ) (spots : List Interval) → IsPlacement unit start units is spots
+      → need unit is ≤ units * unit
 
 -- the sizes of an endpoint's regions are powers of two
 abbrev pub HasPowerSizes : Decl → Type 0
@@ -32,7 +39,8 @@ HasPowerSizes (endpoint d) = Each (λ r. IsPowerOfTwo r.size) d.regions
 HasPowerSizes (bridge d) = Unit {0}
 
 abbrev pub FlatNeedOnBus : Type 0
-FlatNeedOnBus = (b : Board) (a : Apertures) (pool : Pool) (bus : Path) → Each (λ r. IsFalse (is_bridge r.decl)) (rows_on b bus) → Each (λ r. HasPowerSizes r.decl) b
+FlatNeedOnBus = (b : Board) (a : Apertures) (pool : Pool) (bus : Path)
+    → Each (λ r. IsFalse (is_bridge r.decl)) (rows_on b bus) → Each (λ r. HasPowerSizes r.decl) b
     → FlatNeed (unit_of pool) (items_on b a pool bus)
 
 -- spots of one bus: each at a multiple of its alignment, at `start` or after, before `stop`, and before all later ones

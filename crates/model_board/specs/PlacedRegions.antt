@@ -4,7 +4,8 @@
 --     placed_rows      the regions among the rows of a layout
 --     holds      a placed region holds an address
 --     placed_claim      the claim of the first placed region that holds an address
-use Rattle.std.specs.Prelude.{List, [], ◌∷◌, ℕ, ◌-◌, ◌+◌, Bool, ◌&&◌, if◌then◌else◌, nat_lt, nat_le, Option, Some, None, map, flat_map}
+use Rattle.std.specs.Prelude.{List, [], ◌∷◌, ℕ, ◌-◌, ◌+◌, Bool, ◌&&◌, if◌then◌else◌, nat_lt, nat_le, Option, Some, None}
+use Rattle.std.specs.Prelude.{map, flat_map}
 use Rattle.model_registers.specs.Lists.{first_some}
 use Rattle.model_registers.specs.Declarations.{Region}
 use Rattle.model_registers.specs.Decoding.{Space, io, memory, space_of, same_space}
@@ -40,7 +41,11 @@ pool_space pref_pool = memory
 
 -- a row of a region, and none of a window
 abbrev pub placed_row : LayoutRow → List PlacedRegion
-placed_row r = elim r.what [ a_region n ↦ record { path = r.path; index = n; space = pool_space r.pool; first = r.first; size = r.size } ∷ [] | a_window ↦ [] ]
+placed_row r = elim r.what [
+  | a_region n ↦
+      record { path = r.path; index = n; space = pool_space r.pool; first = r.first; size = r.size } ∷ []
+  | a_window ↦ []
+]
 
 abbrev pub placed_rows : List LayoutRow → List PlacedRegion
 placed_rows rows = flat_map placed_row rows
@@ -49,7 +54,8 @@ abbrev pub holds : Space → ℕ → PlacedRegion → Bool
 holds space n r = same_space r.space space && nat_le r.first n && nat_lt n (r.first + r.size)
 
 abbrev pub claim_in : Space → ℕ → PlacedRegion → Option Claim
-claim_in space n r = if holds space n r then Some (record { path = r.path; index = r.index; offset = n - r.first }) else None
+claim_in space n r =
+    if holds space n r then Some (record { path = r.path; index = r.index; offset = n - r.first }) else None
 
 abbrev pub placed_claim : Board → Apertures → Space → ℕ → Option Claim
 placed_claim b a space n = first_some (claim_in space n) (placed_regions b a)

@@ -1,13 +1,14 @@
--- Where set-up places regions and windows, one pool at a time (this project's own rule; a window extends over whole units:
--- PCI-to-PCI Bridge Architecture 1.2, chapter 3.2.5).
---     Placed, Item      the region of a register or a bridge's window; one of them on a bus, with its alignment and size
+-- Where set-up places regions and windows, one pool at a time: this project's own rule. A window extends over whole
+-- units: PCI-to-PCI Bridge Architecture 1.2, chapter 3.2.5.
+--     Placed, Item      the region of a register or a bridge's window; one of them on a bus, with alignment and size
 --     in_order      items by alignment descending, then device, function and register
 --     Spot, spots      an item and its offset on the bus; the items one after the other
 --     need, alignment      size and alignment of a bus's window
 --     items_on      what stands on a bus: its regions of the pool, and the windows of its bridges that have items
 --     fits      whether a pool fits its aperture
---     bus_first, region_first      addresses
-use Rattle.std.specs.Prelude.{List, [], ◌∷◌, ℕ, ◌-◌, zero, suc, ◌+◌, ◌*◌, ◌/◌, Bool, true, false, ◌&&◌, ◌==◌, if◌then◌else◌, ◌++◌, flat_map, ◌||◌, nat_lt, nat_le, map, filter, max}
+--     bus_first, region_first      the address at which a bus begins, and a region
+use Rattle.std.specs.Prelude.{List, [], ◌∷◌, ℕ, ◌-◌, zero, suc, ◌+◌, ◌*◌, ◌/◌, Bool, true, false, ◌&&◌, ◌==◌}
+use Rattle.std.specs.Prelude.{if◌then◌else◌, ◌++◌, flat_map, ◌||◌, nat_lt, nat_le, map, filter, max}
 use Rattle.std.specs.Option.{option_map_or}
 use Rattle.model_registers.specs.Declarations.{Region, Endpoint}
 use Rattle.model_board.specs.Paths.{Part, Path, part_eq, parent, last_part}
@@ -103,11 +104,15 @@ region_items b a pool p d =
 -- a bus without items has no window
 abbrev pub window_items : ℕ → Part → List Item → List Item
 window_items unit p [] = []
-window_items unit p (i ∷ is) = record { part = p; what = a_window; align = alignment unit (i ∷ is); size = need unit (i ∷ is) } ∷ []
+window_items unit p (i ∷ is) =
+    record { part = p; what = a_window; align = alignment unit (i ∷ is); size = need unit (i ∷ is) } ∷ []
 
 abbrev pub items_of : Board → Apertures → Pool → (Path → List Item) → Row → List Item
 items_of b a pool behind r =
-    elim r.decl [ endpoint d ↦ region_items b a pool r.path d | bridge d ↦ window_items (unit_of pool) (last_part r.path) (behind r.path) ]
+    elim r.decl [
+      | endpoint d ↦ region_items b a pool r.path d
+      | bridge d ↦ window_items (unit_of pool) (last_part r.path) (behind r.path)
+    ]
 
 -- the items of a bus, with at most n levels of buses from it down
 abbrev pub items_within : Board → Apertures → Pool → ℕ → Path → List Item
@@ -120,7 +125,8 @@ items_on b a pool bus = items_within b a pool 16 bus
 
 -- bus 0 begins at the least multiple of its alignment that is not before the aperture
 abbrev pub root_first : Apertures → Pool → List Item → ℕ
-root_first a pool is = option_map_or (λ (ap : Aperture). round_up (alignment (unit_of pool) is) ap.first) (aperture_of a pool) 0
+root_first a pool is =
+    option_map_or (λ (ap : Aperture). round_up (alignment (unit_of pool) is) ap.first) (aperture_of a pool) 0
 
 abbrev pub aperture_end : Apertures → Pool → ℕ
 aperture_end a pool = option_map_or (λ (ap : Aperture). ap.last + 1) (aperture_of a pool) 0
@@ -138,7 +144,8 @@ offset_on b a pool bus p w = offset_in (spots (items_on b a pool bus)) p w
 -- the first address of a bus in a pool, on the way from the bus `above` at `n` down the parts
 abbrev pub first_below : Board → Apertures → Pool → ℕ → Path → Path → ℕ
 first_below b a pool n above [] = n
-first_below b a pool n above (p ∷ ps) = first_below b a pool (n + offset_on b a pool above p a_window) (above ++ p ∷ []) ps
+first_below b a pool n above (p ∷ ps) =
+    first_below b a pool (n + offset_on b a pool above p a_window) (above ++ p ∷ []) ps
 
 abbrev pub bus_first : Board → Apertures → Pool → Path → ℕ
 bus_first b a pool bus = first_below b a pool (root_first a pool (items_on b a pool [])) [] bus

@@ -1,6 +1,6 @@
 -- The functions of a board in any order, as a board file declares them.
 --     Standing      a path, and whether a bridge stands there
---     IsFounded, AreLawfulPlaces      no path twice, each path behind a bridge or on bus 0, and a function 0 in each device
+--     IsFounded, AreLawfulPlaces      no path twice, each behind a bridge or on bus 0, a function 0 in each device
 --     board_of      the rows in path order
 use Rattle.std.specs.Prelude.{List, [], ◌∷◌, ◌≡◌, ◌⊎◌, Bool, ◌&&◌, if◌then◌else◌, map, IsTrue, IsFalse, ◌↔◌}
 use Rattle.std.specs.List.{list_any}

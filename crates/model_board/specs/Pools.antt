@@ -1,11 +1,14 @@
--- Which aperture a region is placed in.
+-- Which aperture a region is placed in. Prefetchable regions may stand behind windows for memory: PCI-to-PCI Bridge
+-- Architecture 1.2, chapter 4.
 --     Pool      I/O, memory and prefetchable memory
 --     Aperture, Apertures      the addresses that set-up may give out
 --     pool_of      the pool of a region, by its kind, the apertures and the bridges above it
 --     has_io_paths      each I/O region stands behind bridges with I/O windows alone
-use Rattle.std.specs.Prelude.{List, [], ◌∷◌, ℕ, Bool, true, false, ◌&&◌, if◌then◌else◌, ◌^◌, flat_map, not, ◌||◌, nat_lt, Option, Some, None, filter}
+use Rattle.std.specs.Prelude.{List, [], ◌∷◌, ℕ, Bool, true, false, ◌&&◌, if◌then◌else◌, ◌^◌, flat_map, not, ◌||◌}
+use Rattle.std.specs.Prelude.{nat_lt, Option, Some, None, filter}
 use Rattle.std.specs.List.{list_any, list_all}
-use Rattle.model_registers.specs.Declarations.{Kind, io_kind, mem32, mem64, IoDecode, no_io, io16, io32, PrefDecode, no_pref, pref32, pref64, Bridge}
+use Rattle.model_registers.specs.Declarations.{Kind, io_kind, mem32, mem64, IoDecode, no_io, io16, io32, PrefDecode}
+use Rattle.model_registers.specs.Declarations.{no_pref, pref32, pref64, Bridge}
 use Rattle.model_board.specs.Paths.{Path, leads_to}
 use Rattle.model_board.specs.Board.{Decl, endpoint, bridge, Row, Board}
 pub use Rattle.model_registers.specs.Apertures.{Aperture, Apertures}
@@ -46,7 +49,8 @@ has_pref64 pref64 = true
 -- a prefetchable region goes to its pool where each bridge above it can forward the aperture's addresses
 abbrev pub pref_reaches : Aperture → List Bridge → Bool → Bool
 pref_reaches a above wide =
-    if nat_lt a.last (2 ^ 32) then list_all (λ d. has_pref d.pref) above else wide && list_all (λ d. has_pref64 d.pref) above
+    if nat_lt a.last (2 ^ 32) then list_all (λ d. has_pref d.pref) above
+    else wide && list_all (λ d. has_pref64 d.pref) above
 
 abbrev pub pref_or_mem : Option Aperture → List Bridge → Bool → Pool
 pref_or_mem None above wide = mem_pool

@@ -13,14 +13,18 @@ use Rattle.model_board.specs.Ports.{config_reply, after_config_write, is_enabled
 
 abbrev pub ConfigReadByLanes : Type 0
 ConfigReadByLanes = (fs : List BoardFunction) (at : BusAddress) (off w : ℕ) → IsWidth w → off % w ≡ 0
-    → config_reply fs at off (all_bytes w) ≡ config_reply fs at (off / 4 * 4) (lanes (enables_of off w)) / 256 ^ (off % 4)
+    → config_reply fs at off (all_bytes w)
+    ≡ config_reply fs at (off / 4 * 4) (lanes (enables_of off w)) / 256 ^ (off % 4)
 
 abbrev pub ConfigWriteByLanes : Type 0
 ConfigWriteByLanes = (fs : List BoardFunction) (at : BusAddress) (off w v : ℕ) → IsWidth w → off % w ≡ 0
-    → after_config_write fs at off (all_bytes w) v ≡ after_config_write fs at (off / 4 * 4) (lanes (enables_of off w)) (into_lanes off v)
+    → after_config_write fs at off (all_bytes w) v
+    ≡ after_config_write fs at (off / 4 * 4) (lanes (enables_of off w)) (into_lanes off v)
 
 abbrev pub ClaimsKeepLanes : Type 0
-ClaimsKeepLanes = (fs : List BoardFunction) (space : Space) (a : ℕ) (c : Claim) → first_claim fs space a ≡ Some c → c.offset % 4 ≡ a % 4
+ClaimsKeepLanes = (fs : List BoardFunction) (space : Space) (a : ℕ) (c : Claim) → first_claim fs space a ≡ Some c
+    → c.offset % 4 ≡ a % 4
 
 abbrev pub PortsWhileNotEnabled : Type 0
-PortsWhileNotEnabled = (latch a w : ℕ) → is_enabled latch ≡ false → port_target latch a w ≡ (if a == 0xcf8 && w == 4 then config_address else ordinary)
+PortsWhileNotEnabled = (latch a w : ℕ) → is_enabled latch ≡ false
+    → port_target latch a w ≡ (if a == 0xcf8 && w == 4 then config_address else ordinary)

@@ -1,5 +1,6 @@
--- What an access does to the board, in any register state: at a configuration register, at an I/O port and at a memory address.
--- PCI Local Bus 3.0, chapter 3.2.2.3.2 (CONFIG_ADDRESS and CONFIG_DATA); PCI-to-PCI Bridge Architecture 1.2, chapters 3 and 4.
+-- What an access does to the board, in any register state: at a configuration register, at an I/O port and at a memory
+-- address. PCI Local Bus 3.0, chapter 3.2.2.3.2 (CONFIG_ADDRESS and CONFIG_DATA); PCI-to-PCI Bridge Architecture 1.2,
+-- chapters 3 and 4.
 --     selected latch      the function that the address latch selects
 --     config_reply, after_config_write      an access to the function that a configuration cycle reaches
 --     claim_reply, after_claim_write      an access to the region that claims an address
@@ -11,7 +12,8 @@ use Rattle.std.specs.Option.{option_map_or}
 use Rattle.model_registers.specs.Registers.{config, block, File, read, write, all_bytes, number, all_ones}
 use Rattle.model_registers.specs.ByteEnables.{enabled_bits}
 pub use Rattle.model_registers.specs.ConfigAddress.{latched, is_enabled, selected_register}
-use Rattle.model_registers.specs.ConfigAddress.{selected_bus, selected_device, selected_function, is_address_port, is_data_port, selected_offset}
+use Rattle.model_registers.specs.ConfigAddress.{selected_bus, selected_device, selected_function, is_address_port}
+use Rattle.model_registers.specs.ConfigAddress.{is_data_port, selected_offset}
 use Rattle.model_registers.specs.Decoding.{io, memory}
 use Rattle.model_board.specs.Paths.{Path, path_eq}
 use Rattle.model_board.specs.State.{BoardFunction, State, with_file}
@@ -21,17 +23,22 @@ use Rattle.model_board.specs.Cycles.{BusAddress, reached}
 -- ---- the address latch
 
 abbrev pub selected : ℕ → BusAddress
-selected latch = record { bus = selected_bus latch; part = record { device = selected_device latch; function = selected_function latch } }
+selected latch = record {
+  bus = selected_bus latch;
+  part = record { device = selected_device latch; function = selected_function latch };
+}
 
 -- ---- configuration
 
 -- the enabled bytes from an offset on; what no function answers reads as all ones
 abbrev pub config_reply : List BoardFunction → BusAddress → ℕ → List Bool → ℕ
-config_reply fs at off enables = option_map_or (λ (f : BoardFunction). read f.file (config off) enables) (reached fs at) (enabled_bits enables)
+config_reply fs at off enables =
+    option_map_or (λ (f : BoardFunction). read f.file (config off) enables) (reached fs at) (enabled_bits enables)
 
 -- what no function takes is dropped
 abbrev pub after_config_write : List BoardFunction → BusAddress → ℕ → List Bool → ℕ → List BoardFunction
-after_config_write fs at off enables v = option_map_or (λ (f : BoardFunction). with_file (write enables v (config off)) f.path fs) (reached fs at) fs
+after_config_write fs at off enables v =
+    option_map_or (λ (f : BoardFunction). with_file (write enables v (config off)) f.path fs) (reached fs at) fs
 
 -- ---- claims
 
@@ -60,7 +67,8 @@ pub data PortTarget : Type 0 where
 abbrev pub port_target : ℕ → ℕ → ℕ → PortTarget
 port_target latch a w =
     if is_address_port a w then config_address
-    else (if is_enabled latch && is_data_port a then config_data (selected latch) (selected_offset latch a) else ordinary)
+    else (if is_enabled latch && is_data_port a then config_data (selected latch) (selected_offset latch a)
+    else ordinary)
 
 abbrev pub target_reply : State → ℕ → ℕ → PortTarget → ℕ
 target_reply s a w config_address = s.latch
@@ -69,8 +77,10 @@ target_reply s a w ordinary = claim_reply s.functions w (first_claim s.functions
 
 abbrev pub after_target_write : State → ℕ → ℕ → ℕ → PortTarget → State
 after_target_write s a w v config_address = record s { latch = latched v }
-after_target_write s a w v (config_data at off) = record s { functions = after_config_write s.functions at off (all_bytes w) v }
-after_target_write s a w v ordinary = record s { functions = after_claim_write s.functions w v (first_claim s.functions io a) }
+after_target_write s a w v (config_data at off) =
+    record s { functions = after_config_write s.functions at off (all_bytes w) v }
+after_target_write s a w v ordinary =
+    record s { functions = after_claim_write s.functions w v (first_claim s.functions io a) }
 
 -- what w bytes at port a read, and the board after the low w bytes of v are written there
 abbrev pub port_reply : State → ℕ → ℕ → ℕ
@@ -85,4 +95,5 @@ abbrev pub memory_reply : State → ℕ → ℕ → ℕ
 memory_reply s a w = claim_reply s.functions w (first_claim s.functions memory a)
 
 abbrev pub after_memory_write : State → ℕ → ℕ → ℕ → State
-after_memory_write s a w v = record s { functions = after_claim_write s.functions w v (first_claim s.functions memory a) }
+after_memory_write s a w v =
+    record s { functions = after_claim_write s.functions w v (first_claim s.functions memory a) }

@@ -22,7 +22,9 @@ row_at f = record { path = f.path; decl = f.decl }
 -- the functions of the board, with its numbers in the bridges, whatever else their cells hold
 pub record HasNumbers (b : Board) (fs : List BoardFunction) : Type 0 where
   pub rows : map row_at fs ≡ b
-  pub numbers : Each (λ f. IsTrue (is_bridge f.decl) → (secondary_register f.file ≡ secondary b f.path) × (subordinate_register f.file ≡ subordinate b f.path)) fs
+  pub numbers :
+      Each (λ f. IsTrue (is_bridge f.decl)
+      → (secondary_register f.file ≡ secondary b f.path) × (subordinate_register f.file ≡ subordinate b f.path)) fs
 
 abbrev pub SetUpHasNumbers : Type 0
 SetUpHasNumbers = (b : Board) (a : Apertures) → Enumerates b → HasNumbers b (set_up_state b a).functions
@@ -31,13 +33,16 @@ abbrev pub address_of : Board → Path → BusAddress
 address_of b p = record { bus = bus_of b p; part = last_part p }
 
 abbrev pub ReachedByNumbers : Type 0
-ReachedByNumbers = (b : Board) → IsBoard b → (fs : List BoardFunction) → HasNumbers b fs → (p : Path) → IsTrue (stands_at b p)
+ReachedByNumbers = (b : Board) → IsBoard b → (fs : List BoardFunction) → HasNumbers b fs → (p : Path)
+    → IsTrue (stands_at b p)
     → (f : BoardFunction) × (reached fs (address_of b p) ≡ Some f) × (f.path ≡ p)
 
 -- and no other number reaches a function
 abbrev pub OnlyNamed : Type 0
-OnlyNamed = (b : Board) → IsBoard b → (fs : List BoardFunction) → HasNumbers b fs → (at : BusAddress) (f : BoardFunction) → reached fs at ≡ Some f → at ≡ address_of b f.path
+OnlyNamed = (b : Board) → IsBoard b → (fs : List BoardFunction) → HasNumbers b fs
+    → (at : BusAddress) (f : BoardFunction) → reached fs at ≡ Some f → at ≡ address_of b f.path
 
 -- whatever the bridges hold, at most one way leads to a bus's device and function
 abbrev pub OneRoute : Type 0
-OneRoute = (fs : List BoardFunction) (n : ℕ) (t : Part) (p q : Path) → IsTrue (is_route fs n [] p) → IsTrue (is_route fs n [] q) → IsTrue (ends_in p t) → IsTrue (ends_in q t) → p ≡ q
+OneRoute = (fs : List BoardFunction) (n : ℕ) (t : Part) (p q : Path) → IsTrue (is_route fs n [] p)
+    → IsTrue (is_route fs n [] q) → IsTrue (ends_in p t) → IsTrue (ends_in q t) → p ≡ q

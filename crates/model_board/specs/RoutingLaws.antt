@@ -1,4 +1,5 @@
--- Routing registers alone decide where an address goes: PCI Local Bus 3.0, chapter 6.2.5; PCI-to-PCI Bridge Architecture 1.2, chapter 4.
+-- Routing registers alone decide where an address goes: PCI Local Bus 3.0, chapter 6.2.5; PCI-to-PCI Bridge
+-- Architecture 1.2, chapter 4.
 --     SameRouting      two states whose routing registers hold the same bytes
 --     ForwardedByRouting, ClaimsByRouting, FirstByRouting      forwarding and claims are those by routing registers
 --     SameClaims      the same routing has the same claims
@@ -25,7 +26,8 @@ is_routing_register (bridge d) n = is_within 0x04 2 n || is_within 0x1c 2 n || i
 pub record HasSameRouting (f g : BoardFunction) : Type 0 where
   pub path : f.path ≡ g.path
   pub decl : f.decl ≡ g.decl
-  pub registers : (n : ℕ) → IsTrue (is_routing_register f.decl n) → (cell_at f.file (config n)).value ≡ (cell_at g.file (config n)).value
+  pub registers : (n : ℕ) → IsTrue (is_routing_register f.decl n)
+      → (cell_at f.file (config n)).value ≡ (cell_at g.file (config n)).value
 
 -- function by function
 abbrev pub SameRouting : List BoardFunction → List BoardFunction → Type 0
@@ -35,19 +37,26 @@ SameRouting (f ∷ fs) [] = ⊥
 SameRouting (f ∷ fs) (g ∷ gs) = HasSameRouting f g × SameRouting fs gs
 
 abbrev pub ForwardedByRouting : Type 0
-ForwardedByRouting = (fs : List BoardFunction) (p : Path) (space : Space) (a : ℕ) → is_forwarded fs p space a ≡ is_routed (routing fs) p space a
+ForwardedByRouting = (fs : List BoardFunction) (p : Path) (space : Space) (a : ℕ)
+    → is_forwarded fs p space a ≡ is_routed (routing fs) p space a
 
 abbrev pub ClaimsByRouting : Type 0
-ClaimsByRouting = (fs : List BoardFunction) (space : Space) (a : ℕ) → claims fs space a ≡ routed_claims (routing fs) space a
+ClaimsByRouting = (fs : List BoardFunction) (space : Space) (a : ℕ)
+    → claims fs space a ≡ routed_claims (routing fs) space a
 
 abbrev pub FirstByRouting : Type 0
-FirstByRouting = (fs : List BoardFunction) (space : Space) (a : ℕ) → first_claim fs space a ≡ routed_claim (routing fs) space a
+FirstByRouting = (fs : List BoardFunction) (space : Space) (a : ℕ)
+    → first_claim fs space a ≡ routed_claim (routing fs) space a
 
 abbrev pub SameClaims : Type 0
-SameClaims = (fs gs : List BoardFunction) → routing fs ≡ routing gs → (space : Space) (a : ℕ) → (first_claim fs space a ≡ first_claim gs space a) × (claims fs space a ≡ claims gs space a)
+SameClaims = (fs gs : List BoardFunction) → routing fs ≡ routing gs → (space : Space) (a : ℕ)
+    → (first_claim fs space a ≡ first_claim gs space a) × (claims fs space a ≡ claims gs space a)
 
 abbrev pub RoutingOfCells : Type 0
-RoutingOfCells = (fs gs : List BoardFunction) → Each (λ f. IsLawfulDecl f.decl) fs → SameRouting fs gs → routing fs ≡ routing gs
+RoutingOfCells = (fs gs : List BoardFunction) → Each (λ f. IsLawfulDecl f.decl) fs → SameRouting fs gs
+    → routing fs ≡ routing gs
 
 abbrev pub RoutingOfChange : Type 0
-RoutingOfChange = (change : BoardFunction → BoardFunction) (fs : List BoardFunction) → Each (λ f. IsLawfulDecl f.decl) fs → Each (λ f. HasSameRouting f (change f)) fs → routing (map change fs) ≡ routing fs
+RoutingOfChange = (change : BoardFunction → BoardFunction) (fs : List BoardFunction)
+    → Each (λ f. IsLawfulDecl f.decl) fs → Each (λ f. HasSameRouting f (change f)) fs
+    → routing (map change fs) ≡ routing fs

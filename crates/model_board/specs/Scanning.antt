@@ -1,10 +1,12 @@
--- The bus numbers that bridges hold while a scan runs, and what a configuration cycle reaches then: PCI-to-PCI Bridge Architecture 1.2, chapter 3.2.5.
--- A scan goes through the functions in path order, so when it comes to a place it has met the bridges before that place.
+-- The bus numbers that bridges hold while a scan runs, and what a configuration cycle reaches then: PCI-to-PCI Bridge
+-- Architecture 1.2, chapter 3.2.5. A scan goes through the functions in path order, so when it comes to a path it has
+-- met the bridges before that path.
 --     BusNumbers      Primary, Secondary and Subordinate Bus Number
 --     board_numbers, open_numbers      the numbers of a bridge of the board; the same while its side is being scanned
---     scan_numbers b here p      what the bridge at p holds when the scan comes to the place `here`
+--     scan_numbers b here p      what the bridge at p holds when the scan comes to the path `here`
 --     scan_state, numbered_state      the board at such a time, and after the scan, all else at reset
 --     HasScanNumbers      any registers with those numbers
+--     ReachedWhileScanning, NumbersOfScanState      with them a cycle reaches what stands there; a scan state has them
 use Rattle.std.specs.Prelude.{List, [], ◌∷◌, ◌++◌, ◌≡◌, ℕ, ◌≤◌, if◌then◌else◌, map, find, IsTrue, ◌⊎◌}
 use Rattle.model_registers.specs.Lists.{Each}
 use Rattle.model_registers.specs.Registers.{config, File, number}
@@ -33,12 +35,18 @@ board_numbers b p = record { primary = bus_of b p; secondary = secondary b p; su
 abbrev pub open_numbers : Board → Path → BusNumbers
 open_numbers b p = record (board_numbers b p) { subordinate = 0xff }
 
--- the sides of the bridges above the place are being scanned; the other bridges before it are done; those after it were not met
+-- the sides of the bridges above the path are being scanned; the other bridges before it are done; those after it
+-- were not met
 abbrev pub scan_numbers : Board → Path → Path → BusNumbers
-scan_numbers b here p = if leads_to p here then open_numbers b p else (if path_before p here then board_numbers b p else no_numbers)
+scan_numbers b here p =
+    if leads_to p here then open_numbers b p else (if path_before p here then board_numbers b p else no_numbers)
 
 abbrev pub numbers_in : File → BusNumbers
-numbers_in file = record { primary = number file (config 0x18) 1; secondary = secondary_register file; subordinate = subordinate_register file }
+numbers_in file = record {
+  primary = number file (config 0x18) 1;
+  secondary = secondary_register file;
+  subordinate = subordinate_register file;
+}
 
 -- ---- whole states
 
@@ -67,12 +75,15 @@ pub record HasScanNumbers (b : Board) (here : Path) (fs : List BoardFunction) : 
 abbrev pub IsBus : Board → Path → Type 0
 IsBus b bus = (bus ≡ []) ⊎ IsTrue (is_bridge_at b bus)
 
--- where the scan has met at most 255 bridges, a cycle for a bus that it has met reaches the function that stands there, or none
+-- where the scan has met at most 255 bridges, a cycle for a bus that it has met reaches the function that stands
+-- there, or none
 abbrev pub ReachedWhileScanning : Type 0
-ReachedWhileScanning = (b : Board) → IsBoard b → (here : Path) → secondary b here ≤ 256 → (fs : List BoardFunction) → HasScanNumbers b here fs
+ReachedWhileScanning = (b : Board) → IsBoard b → (here : Path) → secondary b here ≤ 256 → (fs : List BoardFunction)
+    → HasScanNumbers b here fs
     → (bus : Path) → IsBus b bus → IsTrue (path_before bus here) → (t : Part)
     → reached fs (record { bus = bus_behind b bus; part = t }) ≡ find (λ f. path_eq f.path (bus ++ t ∷ [])) fs
 
--- a scan state has those numbers
+-- a scan state has the numbers of the scan
 abbrev pub NumbersOfScanState : Type 0
-NumbersOfScanState = (b : Board) (here : Path) → secondary b here ≤ 256 → HasScanNumbers b here (scan_state b here).functions
+NumbersOfScanState = (b : Board) (here : Path) → secondary b here ≤ 256
+    → HasScanNumbers b here (scan_state b here).functions

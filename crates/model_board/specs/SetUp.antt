@@ -71,7 +71,8 @@ reset_file b p (bridge d) = bridge_reset d (is_multifunction b p)
 
 -- no latch is set, and each function has its cells
 abbrev pub state_of : Board → (Path → Decl → File) → State
-state_of b file = record { functions = map (λ r. record { path = r.path; decl = r.decl; file = file r.path r.decl }) b; latch = 0 }
+state_of b file =
+    record { functions = map (λ r. record { path = r.path; decl = r.decl; file = file r.path r.decl }) b; latch = 0 }
 
 abbrev pub reset_state : Board → State
 reset_state b = state_of b (reset_file b)

@@ -1,8 +1,9 @@
--- What set-up writes into the functions of a board, and why it refuses one: PCI Local Bus 3.0, chapters 6.2.2 and 6.2.5; PCI-to-PCI Bridge Architecture 1.2, chapter 3.2.5.
---     Writes, Setting      Command, bases and windows of one function; the same with the number that the function is reached by
+-- What set-up writes into the functions of a board, and why it refuses one: PCI Local Bus 3.0, chapters 6.2.2 and
+-- 6.2.5; PCI-to-PCI Bridge Architecture 1.2, chapter 3.2.5.
+--     Writes, Setting      Command, bases and windows of one function; the same with the numbers that reach it
 --     settings      of each function of a board, in path order
 --     Plan, planned      the rows of compact placement, and those settings
---     placement_rules, set_up_rules      what a board must keep, in the order in which it is judged, with the number of the refusal
+--     placement_rules, set_up_rules      what a board must keep, in order, each with the number of its refusal
 use Rattle.std.specs.Prelude.{List, [], ◌∷◌, ℕ, Bool, map}
 use Rattle.model_registers.specs.Declarations.{Region}
 use Rattle.model_registers.specs.EndpointTable.{BaseAddress}
@@ -44,7 +45,8 @@ planned b a = record { rows = layout b a; settings = settings b a }
 
 -- the numbers of the refusals of a board file's board
 abbrev pub placement_rules : Board → Apertures → List (ℕ × Bool)
-placement_rules b a = (202, has_io_paths b) ∷ (203, fits b a io_pool) ∷ (204, fits b a mem_pool) ∷ (205, fits b a pref_pool) ∷ []
+placement_rules b a =
+    (202, has_io_paths b) ∷ (203, fits b a io_pool) ∷ (204, fits b a mem_pool) ∷ (205, fits b a pref_pool) ∷ []
 
 abbrev pub set_up_rules : Board → Apertures → List (ℕ × Bool)
 set_up_rules b a = (201, numbers_suffice b) ∷ placement_rules b a

@@ -1,4 +1,5 @@
--- After set-up every address has at most one claim, and each byte of a placed region has its own: PCI-to-PCI Bridge Architecture 1.2, chapter 4.
+-- After set-up every address has at most one claim, and each byte of a placed region has its own: PCI-to-PCI Bridge
+-- Architecture 1.2, chapter 4.
 --     CanBePlaced      lawful declarations and apertures, I/O paths, and room in all three pools
 --     HasUniqueClaims      the claims are those of the placed regions
 --     UniqueClaimant      with the routing registers of set-up they are
@@ -38,18 +39,20 @@ pub record IsClaimed (fs : List BoardFunction) (r : PlacedRegion) (k : ℕ) : Ty
   pub forwarded : IsTrue (is_forwarded fs r.path r.space (r.first + k))
   pub claimed : first_claim fs r.space (r.first + k) ≡ Some (record { path = r.path; index = r.index; offset = k })
 
+-- regions of one space share no address
+abbrev pub ShareNone : PlacedRegion → PlacedRegion → Type 0
+ShareNone r s = IsTrue (same_space r.space s.space) → AreApart r.first r.size s.first s.size
+
 pub record HasUniqueClaims (b : Board) (a : Apertures) (fs : List BoardFunction) : Type 0 where
   -- an address has the claim of the placed region that holds it, and no other
   pub only : (space : Space) (n : ℕ) → claims fs space n ≡ option_to_list (placed_claim b a space n)
   pub first : (space : Space) (n : ℕ) → first_claim fs space n ≡ placed_claim b a space n
   pub each_byte : Each (λ r. (k : ℕ) → k < r.size → IsClaimed fs r k) (placed_regions b a)
-  -- two of one space share no address
-  pub apart :
-      EachPair (λ r s. IsTrue (same_space r.space s.space) → AreApart r.first r.size s.first s.size)
-      (placed_regions b a)
+  pub apart : EachPair ShareNone (placed_regions b a)
 
 abbrev pub UniqueClaimant : Type 0
-UniqueClaimant = (b : Board) (a : Apertures) → CanBePlaced b a → (fs : List BoardFunction) → routing fs ≡ routing (set_up_state b a).functions → HasUniqueClaims b a fs
+UniqueClaimant = (b : Board) (a : Apertures) → CanBePlaced b a → (fs : List BoardFunction)
+    → routing fs ≡ routing (set_up_state b a).functions → HasUniqueClaims b a fs
 
 -- for an endpoint that stands on the board, and a region that it declares
 abbrev pub ClaimOfRegion : Type 0
@@ -72,8 +75,10 @@ PlacedWithin = (b : Board) (a : Apertures) → CanBePlaced b a
     → IsPlacedWithin (placed b a p r)
 
 abbrev pub ClaimInAnyOrder : Type 0
-ClaimInAnyOrder = (b : Board) (a : Apertures) → CanBePlaced b a → (qs : List PlacedRegion) → ((q : PlacedRegion) → IsIn q qs ↔ IsIn q (placed_regions b a))
+ClaimInAnyOrder = (b : Board) (a : Apertures) → CanBePlaced b a → (qs : List PlacedRegion)
+    → ((q : PlacedRegion) → IsIn q qs ↔ IsIn q (placed_regions b a))
     → (space : Space) (n : ℕ) → first_some (claim_in space n) qs ≡ placed_claim b a space n
 
 abbrev pub RowsArePlaced : Type 0
-RowsArePlaced = (b : Board) (a : Apertures) → IsBoard b → HasLawfulDecls b → (q : PlacedRegion) → IsIn q (placed_rows (layout b a)) ↔ IsIn q (placed_regions b a)
+RowsArePlaced = (b : Board) (a : Apertures) → IsBoard b → HasLawfulDecls b → (q : PlacedRegion)
+    → IsIn q (placed_rows (layout b a)) ↔ IsIn q (placed_regions b a)

@@ -1,4 +1,5 @@
--- What the window registers of a bridge name after set-up: PCI-to-PCI Bridge Architecture 1.2, chapters 3.2.5.6 to 3.2.5.10 and 4.
+-- What the window registers of a bridge name after set-up: PCI-to-PCI Bridge Architecture 1.2, chapters 3.2.5.6 to
+-- 3.2.5.10 and 4.
 --     ClosedWindows      a window without items forwards no address, in each decode
 --     NamedWindows      whole units within the reach of the decode are read back
 --     SetUpWindows      each bridge of a board forwards what placement put behind it, and nothing else
@@ -52,7 +53,8 @@ pub record IsWhole (unit reach : ℕ) (s : Window) : Type 0 where
 pub record Names (d : Bridge) (multifunction : Bool) (r : BridgeValues) : Type 0 where
   pub io : IsWhole (unit_of io_pool) (io_reach d.io) r.io → io_window d.io (bridge_file d multifunction r) ≡ Some r.io
   pub mem : IsWhole (unit_of mem_pool) (2 ^ 32) r.mem → mem_window (bridge_file d multifunction r) ≡ Some r.mem
-  pub pref : IsWhole (unit_of pref_pool) (pref_reach d.pref) r.pref → pref_window d.pref (bridge_file d multifunction r) ≡ Some r.pref
+  pub pref : IsWhole (unit_of pref_pool) (pref_reach d.pref) r.pref
+      → pref_window d.pref (bridge_file d multifunction r) ≡ Some r.pref
 
 abbrev pub NamedWindows : Type 0
 NamedWindows = (d : Bridge) (multifunction : Bool) (r : BridgeValues) → Names d multifunction r
@@ -76,5 +78,6 @@ HasPlacedWindows b a p (endpoint d) = ⊤
 HasPlacedWindows b a p (bridge d) = ForwardsPlaced b a p d
 
 abbrev pub SetUpWindows : Type 0
-SetUpWindows = (b : Board) (a : Apertures) → IsBoard b → HasLawfulDecls b → IsLawfulApertures a → IsTrue (has_io_paths b) → ((pool : Pool) → IsTrue (fits b a pool))
+SetUpWindows = (b : Board) (a : Apertures) → IsBoard b → HasLawfulDecls b → IsLawfulApertures a
+    → IsTrue (has_io_paths b) → ((pool : Pool) → IsTrue (fits b a pool))
     → Each (λ r. HasPlacedWindows b a r.path r.decl) b

@@ -24,4 +24,7 @@ is_in_window d file space a = in_windows (io_window d.io file) (mem_window file)
 
 -- a bridge forwards an address where its Command opens the space and a window holds it
 abbrev pub forwards : Space → ℕ → BoardFunction → Bool
-forwards space a f = elim f.decl [ endpoint d ↦ false | bridge d ↦ is_open f.file space && is_in_window d f.file space a ]
+forwards space a f = elim f.decl [
+  | endpoint d ↦ false
+  | bridge d ↦ is_open f.file space && is_in_window d f.file space a
+]

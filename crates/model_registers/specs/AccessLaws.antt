@@ -1,8 +1,15 @@
--- Laws of accesses: a number of 1, 2 or 4 bytes is the enabled bytes of the word in which it lies.
+-- Laws of accesses: a number of 1, 2 or 4 bytes is the enabled bytes of the word in which it lies. PCI Local Bus 3.0,
+-- chapter 3.2.2.
+--     AlignedLiesInWord      an access at a multiple of its width lies in one word
+--     NumberByLanes, LanesFit, NumberFromWord, AllOnesByLanes      reads of a number by the lanes of its word
+--     WriteByLanes      a write of a number by the lanes of its word
+--     DisabledRead, DisabledStay      bytes that are not enabled read 0 and stay
+--     HoldsBytes, NumberFits, ReadsEnabled      where each cell holds a byte, what is read has its bytes alone
 use Rattle.std.specs.Prelude.{◌≡◌, ◌<◌, ℕ, ◌-◌, ◌/◌, ◌%◌, ◌^◌, Bool, false, List, replicate}
 use Rattle.model_registers.specs.Lists.{Each}
 use Rattle.model_registers.specs.Registers.{Place, offset_of, Entry, File, read, write, number, all_bytes, all_ones}
-use Rattle.model_registers.specs.ByteEnables.{lanes, enabled_bytes, IsWidth, LiesInWord, enables_of, into_lanes, from_lanes, word_of}
+use Rattle.model_registers.specs.ByteEnables.{lanes, enabled_bytes, IsWidth, LiesInWord, enables_of, into_lanes}
+use Rattle.model_registers.specs.ByteEnables.{from_lanes, word_of}
 
 -- an access at a multiple of its width lies in one word
 abbrev pub AlignedLiesInWord : Type 0
@@ -32,7 +39,8 @@ AllOnesByLanes = (off w : ℕ) → LiesInWord off w → from_lanes off w (2 ^ 32
 -- a number is written as enabled bytes of its word
 abbrev pub WriteByLanes : Type 0
 WriteByLanes = (file : File) (p : Place) (w v : ℕ) → LiesInWord (offset_of p) w
-    → write (all_bytes w) v p file ≡ write (lanes (enables_of (offset_of p) w)) (into_lanes (offset_of p) v) (word_of p) file
+    → write (all_bytes w) v p file
+    ≡ write (lanes (enables_of (offset_of p) w)) (into_lanes (offset_of p) v) (word_of p) file
 
 -- bytes that are not enabled read 0 and stay
 abbrev pub DisabledRead : Type 0
@@ -49,4 +57,5 @@ abbrev pub NumberFits : Type 0
 NumberFits = (file : File) → HoldsBytes file → (p : Place) (w : ℕ) → number file p w < 256 ^ w
 
 abbrev pub ReadsEnabled : Type 0
-ReadsEnabled = (file : File) → HoldsBytes file → (p : Place) (ons : List Bool) → read file p ons ≡ enabled_bytes ons (read file p ons)
+ReadsEnabled = (file : File) → HoldsBytes file → (p : Place) (ons : List Bool)
+    → read file p ons ≡ enabled_bytes ons (read file p ons)

@@ -29,17 +29,27 @@ address_bits unit address decode = address / unit % 2 ^ 12 * 16 + decode
 
 abbrev pub io_cells : IoDecode → Window → File
 io_cells no_io s = []
-io_cells io16 s = field (config 0x1c) 1 (address_bits (2 ^ 12) s.first 0) 0xf0 0 ++ field (config 0x1d) 1 (address_bits (2 ^ 12) s.last 0) 0xf0 0
-io_cells io32 s = field (config 0x1c) 1 (address_bits (2 ^ 12) s.first 1) 0xf0 0 ++ field (config 0x1d) 1 (address_bits (2 ^ 12) s.last 1) 0xf0 0
+io_cells io16 s =
+    field (config 0x1c) 1 (address_bits (2 ^ 12) s.first 0) 0xf0 0
+    ++ field (config 0x1d) 1 (address_bits (2 ^ 12) s.last 0) 0xf0 0
+io_cells io32 s =
+    field (config 0x1c) 1 (address_bits (2 ^ 12) s.first 1) 0xf0 0
+    ++ field (config 0x1d) 1 (address_bits (2 ^ 12) s.last 1) 0xf0 0
     ++ field (config 0x30) 2 (s.first / 2 ^ 16) 0xffff 0 ++ field (config 0x32) 2 (s.last / 2 ^ 16) 0xffff 0
 
 abbrev pub mem_cells : Window → File
-mem_cells s = field (config 0x20) 2 (address_bits (2 ^ 20) s.first 0) 0xfff0 0 ++ field (config 0x22) 2 (address_bits (2 ^ 20) s.last 0) 0xfff0 0
+mem_cells s =
+    field (config 0x20) 2 (address_bits (2 ^ 20) s.first 0) 0xfff0 0
+    ++ field (config 0x22) 2 (address_bits (2 ^ 20) s.last 0) 0xfff0 0
 
 abbrev pub pref_cells : PrefDecode → Window → File
 pref_cells no_pref s = []
-pref_cells pref32 s = field (config 0x24) 2 (address_bits (2 ^ 20) s.first 0) 0xfff0 0 ++ field (config 0x26) 2 (address_bits (2 ^ 20) s.last 0) 0xfff0 0
-pref_cells pref64 s = field (config 0x24) 2 (address_bits (2 ^ 20) s.first 1) 0xfff0 0 ++ field (config 0x26) 2 (address_bits (2 ^ 20) s.last 1) 0xfff0 0
+pref_cells pref32 s =
+    field (config 0x24) 2 (address_bits (2 ^ 20) s.first 0) 0xfff0 0
+    ++ field (config 0x26) 2 (address_bits (2 ^ 20) s.last 0) 0xfff0 0
+pref_cells pref64 s =
+    field (config 0x24) 2 (address_bits (2 ^ 20) s.first 1) 0xfff0 0
+    ++ field (config 0x26) 2 (address_bits (2 ^ 20) s.last 1) 0xfff0 0
     ++ field (config 0x28) 4 (s.first / 2 ^ 32) 0xffffffff 0 ++ field (config 0x2c) 4 (s.last / 2 ^ 32) 0xffffffff 0
 
 -- the header with this routing, without windows
@@ -49,18 +59,28 @@ bridge_header d multifunction r =
     ++ field (config 0x04) 2 r.command 0x0147 0 ++ field (config 0x06) 2 0 0 0xf900
     ++ field (config 0x08) 1 d.revision 0 0 ++ field (config 0x09) 3 0x060400 0 0
     ++ field (config 0x0c) 2 0 0xffff 0 ++ field (config 0x0e) 1 (header_type 1 multifunction) 0 0
-    ++ field (config 0x18) 1 r.primary 0xff 0 ++ field (config 0x19) 1 r.secondary 0xff 0 ++ field (config 0x1a) 1 r.subordinate 0xff 0
+    ++ field (config 0x18) 1 r.primary 0xff 0 ++ field (config 0x19) 1 r.secondary 0xff 0
+    ++ field (config 0x1a) 1 r.subordinate 0xff 0
     ++ field (config 0x1b) 1 0 0xff 0 ++ field (config 0x1e) 2 0 0 0xf900 ++ field (config 0x3c) 1 0 0xff 0
 
 -- the cells of a bridge with this routing, all others at reset
 abbrev pub bridge_file : Bridge → Bool → BridgeValues → File
-bridge_file d multifunction r = bridge_header d multifunction r ++ (mem_cells r.mem ++ io_cells d.io r.io ++ pref_cells d.pref r.pref)
+bridge_file d multifunction r =
+    bridge_header d multifunction r ++ (mem_cells r.mem ++ io_cells d.io r.io ++ pref_cells d.pref r.pref)
 
 abbrev pub no_window : Window
 no_window = record { first = 0; last = 0 }
 
 abbrev pub no_bridge_values : BridgeValues
-no_bridge_values = record { command = 0; primary = 0; secondary = 0; subordinate = 0; io = no_window; mem = no_window; pref = no_window }
+no_bridge_values = record {
+  command = 0;
+  primary = 0;
+  secondary = 0;
+  subordinate = 0;
+  io = no_window;
+  mem = no_window;
+  pref = no_window;
+}
 
 abbrev pub bridge_reset : Bridge → Bool → File
 bridge_reset d multifunction = bridge_file d multifunction no_bridge_values

@@ -1,8 +1,8 @@
--- The address latch behind the ports CONFIG_ADDRESS and CONFIG_DATA: PCI Local Bus 3.0, chapter 3.2.2.3.2.
---     latched v      what the latch holds when v was written: bit 31 enable, 23..16 bus, 15..11 device, 10..8 function, 7..2 register;
---                    all other bits read 0
+-- The address latch behind the ports CONFIG_ADDRESS and CONFIG_DATA: PCI Local Bus 3.0, chapter 3.2.2.3.2. Its bits:
+-- 31 enable, 23..16 bus, 15..11 device, 10..8 function, 7..2 register; all other bits read 0.
+--     latched v      what the latch holds when v was written
 --     is_enabled, selected_bus, selected_device, selected_function, selected_register      these parts of a latch
---     is_address_port a w, is_data_port a      an access of w bytes at a is one of the latch; port a is one of CONFIG_DATA
+--     is_address_port a w, is_data_port a      an access of w bytes at a is one of the latch, or one of CONFIG_DATA
 --     selected_offset latch a      the offset of the byte that port a of CONFIG_DATA shows
 use Rattle.std.specs.Prelude.{ℕ, ◌+◌, ◌-◌, ◌*◌, ◌/◌, ◌%◌, ◌^◌, bit_and, Bool, ◌&&◌, ◌==◌, nat_le}
 

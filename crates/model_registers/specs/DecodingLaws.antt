@@ -16,7 +16,8 @@ HitsByBases = (file : File) (rs : List Region) (space : Space) (a : ℕ)
 
 -- base address registers show the bases that they hold
 abbrev pub HitsOfRegisters : Type 0
-HitsOfRegisters = (bs : List BaseAddress) → HasLawfulBases bs → (command : ℕ) → command < 2 ^ 16 → (space : Space) (a : ℕ)
+HitsOfRegisters = (bs : List BaseAddress) → HasLawfulBases bs → (command : ℕ) → command < 2 ^ 16
+    → (space : Space) (a : ℕ)
     → first_hit (command_cells command ++ base_file bs) (map opened bs) space a ≡ first_some (hit_at command space a) bs
 
 -- the hit names this region of the space, with an offset below its size; a base is a multiple of 4, whatever its

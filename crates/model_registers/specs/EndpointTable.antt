@@ -7,7 +7,8 @@
 use Rattle.std.specs.Prelude.{List, [], ◌≡◌, ℕ, ◌-◌, ◌+◌, ◌*◌, ◌%◌, ◌<◌, Bool, if◌then◌else◌, ◌^◌, ◌++◌, map, flat_map}
 use Rattle.model_registers.specs.Lists.{Each}
 use Rattle.model_registers.specs.Registers.{Place, config, block, File, field, cells_from}
-use Rattle.model_registers.specs.Declarations.{Kind, io_kind, mem32, mem64, registers_of, IsLawfulSize, HasLawfulRegions, Region, ConfigBlock, Endpoint}
+use Rattle.model_registers.specs.Declarations.{Kind, io_kind, mem32, mem64, registers_of, IsLawfulSize}
+use Rattle.model_registers.specs.Declarations.{HasLawfulRegions, Region, ConfigBlock, Endpoint}
 
 abbrev pub base_register : ℕ → Place
 base_register n = config (0x10 + 4 * n)
@@ -24,7 +25,8 @@ base_width kind = 32 * registers_of kind
 
 -- a base register: the base with the type bits; the bits at and above the size are writable
 abbrev pub base_cells : ℕ → Kind → ℕ → ℕ → File
-base_cells n kind size base = field (base_register n) (4 * registers_of kind) (base + type_bits kind) (2 ^ base_width kind - size) 0
+base_cells n kind size base =
+    field (base_register n) (4 * registers_of kind) (base + type_bits kind) (2 ^ base_width kind - size) 0
 
 -- a base address register as it stands
 pub record BaseAddress : Type 0 where
@@ -90,7 +92,8 @@ config_cells d multifunction command = header_cells d multifunction command ++ f
 
 -- the cells of an endpoint with this Command and these bases, all others at reset
 abbrev pub endpoint_file : Endpoint → Bool → ℕ → (Region → ℕ) → File
-endpoint_file d multifunction command bases = config_cells d multifunction command ++ flat_map (region_cells bases) d.regions
+endpoint_file d multifunction command bases =
+    config_cells d multifunction command ++ flat_map (region_cells bases) d.regions
 
 abbrev pub endpoint_reset : Endpoint → Bool → File
 endpoint_reset d multifunction = endpoint_file d multifunction 0 (λ r. 0)

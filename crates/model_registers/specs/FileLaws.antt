@@ -5,7 +5,8 @@
 use Rattle.std.specs.Prelude.{◌≡◌, ◌≢◌, ◌++◌, ⊤, ℕ, Bool, false, true, ◌||◌, if◌then◌else◌, List, [], ◌∷◌}
 use Rattle.model_registers.specs.Lists.{Each}
 use Rattle.model_registers.specs.Cell.{Cell}
-use Rattle.model_registers.specs.Registers.{Place, config, block, place_eq, after, Entry, File, cell_at, changed, read, write, cells_from, in_region}
+use Rattle.model_registers.specs.Registers.{Place, config, block, place_eq, after, Entry, File, cell_at, changed, read}
+use Rattle.model_registers.specs.Registers.{write, cells_from, in_region}
 
 abbrev pub has_place : File → Place → Bool
 has_place [] p = false
@@ -33,7 +34,8 @@ abbrev pub JoinedChange : Type 0
 JoinedChange = (f : Cell → Cell) (p : Place) (xs ys : File) → changed f p (xs ++ ys) ≡ changed f p xs ++ changed f p ys
 
 abbrev pub JoinedWrite : Type 0
-JoinedWrite = (ons : List Bool) (v : ℕ) (p : Place) (xs ys : File) → write ons v p (xs ++ ys) ≡ write ons v p xs ++ write ons v p ys
+JoinedWrite = (ons : List Bool) (v : ℕ) (p : Place) (xs ys : File)
+    → write ons v p (xs ++ ys) ≡ write ons v p xs ++ write ons v p ys
 
 -- a file without a cell at the enabled places reads 0 there, stays, and is passed by
 abbrev pub ReadNone : Type 0
@@ -58,16 +60,20 @@ abbrev pub RegionCells : Type 0
 RegionCells = (n a : ℕ) (cs : List Cell) → in_region n (cells_from (config a) cs) ≡ cells_from (block n a) cs
 
 abbrev pub RegionCell : Type 0
-RegionCell = (n a : ℕ) (file : File) → IsConfigFile file → cell_at (in_region n file) (block n a) ≡ cell_at file (config a)
+RegionCell = (n a : ℕ) (file : File) → IsConfigFile file
+    → cell_at (in_region n file) (block n a) ≡ cell_at file (config a)
 
 abbrev pub RegionRead : Type 0
-RegionRead = (ons : List Bool) (n a : ℕ) (file : File) → IsConfigFile file → read (in_region n file) (block n a) ons ≡ read file (config a) ons
+RegionRead = (ons : List Bool) (n a : ℕ) (file : File) → IsConfigFile file
+    → read (in_region n file) (block n a) ons ≡ read file (config a) ons
 
 abbrev pub RegionChange : Type 0
-RegionChange = (f : Cell → Cell) (n a : ℕ) (file : File) → IsConfigFile file → changed f (block n a) (in_region n file) ≡ in_region n (changed f (config a) file)
+RegionChange = (f : Cell → Cell) (n a : ℕ) (file : File) → IsConfigFile file
+    → changed f (block n a) (in_region n file) ≡ in_region n (changed f (config a) file)
 
 abbrev pub RegionWrite : Type 0
-RegionWrite = (ons : List Bool) (v n a : ℕ) (file : File) → IsConfigFile file → write ons v (block n a) (in_region n file) ≡ in_region n (write ons v (config a) file)
+RegionWrite = (ons : List Bool) (v n a : ℕ) (file : File) → IsConfigFile file
+    → write ons v (block n a) (in_region n file) ≡ in_region n (write ons v (config a) file)
 
 -- such cells stand at no configuration offset and in no other region, and configuration cells in none
 abbrev pub RegionHasNoConfig : Type 0
@@ -80,4 +86,5 @@ abbrev pub ConfigHasNoBlock : Type 0
 ConfigHasNoBlock = (ons : List Bool) (n a : ℕ) (file : File) → IsConfigFile file → HasNone file (block n a) ons
 
 abbrev pub ConfigStays : Type 0
-ConfigStays = (ons : List Bool) (v : ℕ) (p : Place) (file : File) → IsConfigFile file → IsConfigFile (write ons v p file)
+ConfigStays = (ons : List Bool) (v : ℕ) (p : Place) (file : File) → IsConfigFile file
+    → IsConfigFile (write ons v p file)

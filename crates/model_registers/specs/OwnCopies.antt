@@ -4,7 +4,8 @@
 --     OwnCopies, own_file      what they hold, and their cells
 --     HoldsOwn file own      the file holds just these copies
 --     handed_on p enables      the enables of the bytes from p on that are none of these
-use Rattle.std.specs.Prelude.{◌≡◌, ◌≤◌, ℕ, Bool, true, false, ◌&&◌, ◌||◌, not, ◌==◌, nat_le, nat_lt, if◌then◌else◌, List, [], ◌∷◌, ◌++◌, ◌+◌, map}
+use Rattle.std.specs.Prelude.{◌≡◌, ◌≤◌, ℕ, Bool, true, false, ◌&&◌, ◌||◌, not, ◌==◌, nat_le, nat_lt, if◌then◌else◌}
+use Rattle.std.specs.Prelude.{List, [], ◌∷◌, ◌++◌, ◌+◌, map}
 use Rattle.model_registers.specs.Lists.{Each}
 use Rattle.model_registers.specs.Registers.{Place, config, block, after, File, cell_at, read, write, raise}
 use Rattle.model_registers.specs.Declarations.{Region, HasLawfulRegions, Endpoint}
@@ -42,20 +43,25 @@ OwnReads = (own : OwnCopies) → IsLawfulOwn own → (file : File) → HoldsOwn 
 -- a write reaches the copies by itself, and all other cells by the bytes that are handed on
 abbrev pub OwnWrites : Type 0
 OwnWrites = (own : OwnCopies) → (file : File) → HoldsOwn file own → (p q : Place) (enables : List Bool) (x : ℕ)
-    → cell_at (write enables x p file) q ≡ (if is_own q then cell_at (write enables x p (own_file own)) q else cell_at (write (handed_on p enables) x p file) q)
+    → cell_at (write enables x p file) q
+    ≡ (if is_own q then cell_at (write enables x p (own_file own)) q
+    else cell_at (write (handed_on p enables) x p file) q)
 
 -- a device can't raise a bit of them
 abbrev pub OwnStay : Type 0
-OwnStay = (own : OwnCopies) (file : File) → HoldsOwn file own → (p q : Place) (m : ℕ) → is_own p ≡ true → cell_at (raise m p file) q ≡ cell_at file q
+OwnStay = (own : OwnCopies) (file : File) → HoldsOwn file own → (p q : Place) (m : ℕ) → is_own p ≡ true
+    → cell_at (raise m p file) q ≡ cell_at file q
 
 -- the copies alone tell what is decoded
 abbrev pub bare : Region → Region
 bare r = record r { cells = [] }
 
 abbrev pub OwnHits : Type 0
-OwnHits = (own : OwnCopies) → IsLawfulOwn own → (file : File) → HoldsOwn file own → (rs : List Region) → map bare rs ≡ map opened own.bases → (space : Space) (a : ℕ)
+OwnHits = (own : OwnCopies) → IsLawfulOwn own → (file : File) → HoldsOwn file own → (rs : List Region)
+    → map bare rs ≡ map opened own.bases → (space : Space) (a : ℕ)
     → first_hit file rs space a ≡ first_hit (own_file own) (map opened own.bases) space a
 
 -- at reset a function holds Command and bases of 0, whatever its own registers from 40h on are
 abbrev pub ResetHoldsOwn : Type 0
-ResetHoldsOwn = (d : Endpoint) → Each (λ b. 0x40 ≤ b.offset) d.blocks → HoldsOwn (endpoint_reset d false) (record { command = 0; bases = map closed d.regions })
+ResetHoldsOwn = (d : Endpoint) → Each (λ b. 0x40 ≤ b.offset) d.blocks
+    → HoldsOwn (endpoint_reset d false) (record { command = 0; bases = map closed d.regions })

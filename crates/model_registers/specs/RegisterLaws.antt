@@ -1,12 +1,18 @@
--- Laws of register files.
+-- Laws of register files: PCI Local Bus 3.0, chapter 6.1.
+--     ChangeAtPlace      a change of one cell is seen at its place alone
+--     FieldReads, FieldWrites      a register of several bytes reads its value and takes a write by its mask
+--     merged      such a register's value after a write
+--     EnabledFieldReads, EnabledFieldWrites      the same by byte enables
 use Rattle.std.specs.Prelude.{List, Bool, length, ◌≡◌, ℕ, ◌-◌, ◌<◌, bit_and, bit_or, ◌%◌, if◌then◌else◌, ◌^◌, ◌++◌}
 use Rattle.model_registers.specs.Cell.{Cell, no_cell}
-use Rattle.model_registers.specs.Registers.{Place, config, place_eq, File, cell_at, changed, read, write, all_bytes, number, field}
+use Rattle.model_registers.specs.Registers.{Place, config, place_eq, File, cell_at, changed, read, write, all_bytes}
+use Rattle.model_registers.specs.Registers.{number, field}
 use Rattle.model_registers.specs.ByteEnables.{enabled_bits}
 
 -- a change of one cell is seen at its place and nowhere else
 abbrev pub ChangeAtPlace : Type 0
-ChangeAtPlace = (f : Cell → Cell) → f no_cell ≡ no_cell → (file : File) (p q : Place) → cell_at (changed f p file) q ≡ (if place_eq p q then f (cell_at file q) else cell_at file q)
+ChangeAtPlace = (f : Cell → Cell) → f no_cell ≡ no_cell → (file : File) (p q : Place)
+    → cell_at (changed f p file) q ≡ (if place_eq p q then f (cell_at file q) else cell_at file q)
 
 -- a register's cells read its value
 abbrev pub FieldReads : Type 0
@@ -17,7 +23,8 @@ abbrev pub merged : ℕ → ℕ → ℕ → ℕ → ℕ
 merged w v x rw = bit_or (bit_and v (256 ^ w - 1 - rw)) (bit_and x rw)
 
 abbrev pub FieldWrites : Type 0
-FieldWrites = (w a v rw x : ℕ) → rw < 256 ^ w → write (all_bytes w) x (config a) (field (config a) w v rw 0) ≡ field (config a) w (merged w v x rw) rw 0
+FieldWrites = (w a v rw x : ℕ) → rw < 256 ^ w
+    → write (all_bytes w) x (config a) (field (config a) w v rw 0) ≡ field (config a) w (merged w v x rw) rw 0
 
 -- by byte enables: a read shows the enabled bytes, and a write sets the writable bits of the enabled bytes
 abbrev pub EnabledFieldReads : Type 0
@@ -26,4 +33,5 @@ EnabledFieldReads = (enables : List Bool) (a v rw w1c : ℕ) (rest : File)
 
 abbrev pub EnabledFieldWrites : Type 0
 EnabledFieldWrites = (enables : List Bool) (a v rw x : ℕ) → rw < 256 ^ length enables
-    → write enables x (config a) (field (config a) (length enables) v rw 0) ≡ field (config a) (length enables) (merged (length enables) v x (bit_and rw (enabled_bits enables))) rw 0
+    → write enables x (config a) (field (config a) (length enables) v rw 0)
+    ≡ field (config a) (length enables) (merged (length enables) v x (bit_and rw (enabled_bits enables))) rw 0

@@ -9,7 +9,9 @@ use Rattle.model_registers.specs.Declarations.{Bar, registers_of, IsLawfulSize}
 use Rattle.model_registers.specs.EndpointTable.{base_register, type_bits, base_width, base_cells}
 
 abbrev pub sized : ℕ → Bar → File
-sized n b = write (all_bytes (4 * registers_of b.kind)) (all_ones (4 * registers_of b.kind)) (base_register n) (base_cells n b.kind b.size 0)
+sized n b =
+    write (all_bytes (4 * registers_of b.kind)) (all_ones (4 * registers_of b.kind)) (base_register n)
+    (base_cells n b.kind b.size 0)
 
 abbrev pub mask_of : Bar → ℕ
 mask_of b = 2 ^ base_width b.kind - b.size + type_bits b.kind
