@@ -1,5 +1,5 @@
--- What any placement of regions and windows must keep, and the rows of compact placement
--- (windows: PCI-to-PCI Bridge Architecture 1.2, chapter 3.2.5).
+-- What any placement of regions and windows must keep, and the rows of compact placement. Windows: PCI-to-PCI Bridge
+-- Architecture 1.2, chapter 3.2.5.
 --     LayoutRow      a region or a window at a path, with its pool, first address and size
 --     IsLawful      aligned, inside the aperture, inside the windows above, and apart
 --     bus_rows, pool_rows, layout      the rows of compact placement, bus by bus, as they stand on each bus

@@ -1,4 +1,4 @@
--- The regions at the places that set-up gives them, as one flat list: the claims of a board without a word of bridges.
+-- The regions where set-up places them, as one flat list: the claims of a board without a word of bridges.
 --     PlacedRegion      a region's path and register, its space, first address and size
 --     placed_regions      all regions of a board, in path order, then by register
 --     placed_rows      the regions among the rows of a layout

@@ -1,4 +1,4 @@
--- Compact placement is lawful, and its rows are the places that set-up gives to what the board declares.
+-- Compact placement is lawful, and its rows say where set-up places what the board declares.
 --     PoolsAreLawful, LayoutIsLawful      where a pool fits, its rows are lawful
 --     HasRows      each region and each window has its one row, and each row is one of these
 use Rattle.std.specs.Prelude.{List, [], ◌∷◌, ◌≡◌, ◌&&◌, filter, IsTrue}

@@ -2,7 +2,7 @@
 --     Window      a first and a last address, both included
 --     BridgeValues      what set-up writes into a bridge
 --     bridge_header      the registers of the header, without windows
---     bridge_file, bridge_reset      the cells of a bridge with a routing, and at reset
+--     bridge_file, bridge_reset      the cells of a bridge with these values, and at reset
 use Rattle.std.specs.Prelude.{[], ℕ, ◌+◌, ◌*◌, ◌/◌, ◌%◌, Bool, ◌^◌, ◌++◌}
 use Rattle.model_registers.specs.Registers.{config, File, field}
 use Rattle.model_registers.specs.Declarations.{IoDecode, no_io, io16, io32, PrefDecode, no_pref, pref32, pref64, Bridge}
@@ -52,7 +52,7 @@ pref_cells pref64 s =
     ++ field (config 0x26) 2 (address_bits (2 ^ 20) s.last 1) 0xfff0 0
     ++ field (config 0x28) 4 (s.first / 2 ^ 32) 0xffffffff 0 ++ field (config 0x2c) 4 (s.last / 2 ^ 32) 0xffffffff 0
 
--- the header with this routing, without windows
+-- the header with these values, without windows
 abbrev pub bridge_header : Bridge → Bool → BridgeValues → File
 bridge_header d multifunction r =
     field (config 0x00) 2 d.vendor 0 0 ++ field (config 0x02) 2 d.device 0 0
@@ -63,7 +63,7 @@ bridge_header d multifunction r =
     ++ field (config 0x1a) 1 r.subordinate 0xff 0
     ++ field (config 0x1b) 1 0 0xff 0 ++ field (config 0x1e) 2 0 0 0xf900 ++ field (config 0x3c) 1 0 0xff 0
 
--- the cells of a bridge with this routing, all others at reset
+-- the cells of a bridge with these values, all others at reset
 abbrev pub bridge_file : Bridge → Bool → BridgeValues → File
 bridge_file d multifunction r =
     bridge_header d multifunction r ++ (mem_cells r.mem ++ io_cells d.io r.io ++ pref_cells d.pref r.pref)
