@@ -41,3 +41,6 @@ pub mod RowsOfBridges
 pub mod RowsOfReports
 pub mod RowsOfHostReads
 pub mod RowsOfLimits
+pub mod RowsOfLatches
+pub mod RowsOfMoves
+pub mod RowsOfRuns

@@ -22,7 +22,7 @@ pub host_reads_of_functions : Shows main_world (
     ∷ "host cr 01:11.0 0 4" ▷ "host: 0xffffffff" ∷ [])
 host_reads_of_functions = refl
 
--- only by 4 bytes; to a guest these ports are like any others
+-- only by 4 bytes; a guest's latch is not the board's
 pub host_reads_of_the_latch : Shows main_world (
     "host ir 0xcf8 4" ▷ "host: 0x00000000"
     ∷ "host ir 0xcfc 4" ▷ "host: 0xffffffff"
@@ -30,7 +30,9 @@ pub host_reads_of_the_latch : Shows main_world (
     ∷ "host ir 0xcf8 1" ▷ "host: 0xff"
     ∷ "host ir 0xcfa 2" ▷ "host: 0xffff"
     ∷ "host mr 0xcf8 4" ▷ "host: 0xffffffff"
-    ∷ "a ir 0xcf8 4" ▷ "a: 0xffffffff" ∷ [])
+    ∷ "a iw 0xcf8 4 0x80000000" ▷ "a: ok"
+    ∷ "host ir 0xcf8 4" ▷ "host: 0x00000000"
+    ∷ "host ir 0xcfc 4" ▷ "host: 0xffffffff" ∷ [])
 host_reads_of_the_latch = refl
 
 pub host_reads_by_capital_digits : Shows deep_world (

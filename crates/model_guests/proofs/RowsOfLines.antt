@@ -2,9 +2,8 @@
 use Rattle.std.proofs.Common.{◌≡◌, [], ◌∷◌, ◌++◌, refl, replicate}
 use Rattle.std.specs.Fmt.{digits}
 use Rattle.std.specs.Prelude.{codes}
-use Rattle.model_guests.specs.Output.{output}
 use Rattle.model_guests.specs.Examples.{main_world}
-use Rattle.model_guests.proofs.Dialogues.{◌▷◌, Dialogue}
+use Rattle.model_guests.proofs.Dialogues.{◌▷◌, Dialogue, written}
 
 -- the width before the alignment, and both before the range
 pub checks_of_an_access : Dialogue main_world (
@@ -144,41 +143,41 @@ pub unknown_names : Dialogue main_world (
 unfolding digits
 unknown_names = (refl, (refl, (refl, tt)))
 
-pub tabs_and_returns_part_words : output main_world (codes "\ta\tcr 0 \t 0 4\r\n") ≡ codes "a: 0x00011234\n"
+pub tabs_and_returns_part_words : written main_world (codes "\ta\tcr 0 \t 0 4\r\n") ≡ codes "a: 0x00011234\n"
 tabs_and_returns_part_words = refl
 
-pub a_last_line_counts_without_its_end : output main_world (codes "a cr 0 0") ≡ codes "a: refused 401 bad line\n"
+pub a_last_line_counts_without_its_end : written main_world (codes "a cr 0 0") ≡ codes "a: refused 401 bad line\n"
 unfolding digits
 a_last_line_counts_without_its_end = refl
 
 -- vertical tab and form feed
-pub other_blanks_part_no_words : output main_world (codes "a cr" ++ 11 ∷ codes "0 0 4\na cr 0" ++ 12 ∷ codes "0 4\na" ++ 11 ∷ codes "cr 0 0 4\n" ++ 12 ∷ 10 ∷ [])
+pub other_blanks_part_no_words : written main_world (codes "a cr" ++ 11 ∷ codes "0 0 4\na cr 0" ++ 12 ∷ codes "0 4\na" ++ 11 ∷ codes "cr 0 0 4\n" ++ 12 ∷ 10 ∷ [])
     ≡ codes "a: refused 401 bad line\na: refused 401 bad line\n?: refused 402 unknown guest\n?: refused 402 unknown guest\n"
 unfolding digits
 other_blanks_part_no_words = refl
 
-pub comments_and_blank_lines_write_nothing : output main_world (codes "\n\n# a cr 0 0 4\n  # a\n#\n   \r\na cr 0 0 2\n\r") ≡ codes "a: 0x1234\n"
+pub comments_and_blank_lines_write_nothing : written main_world (codes "\n\n# a cr 0 0 4\n  # a\n#\n   \r\na cr 0 0 2\n\r") ≡ codes "a: 0x1234\n"
 comments_and_blank_lines_write_nothing = refl
 
-pub an_empty_script_writes_nothing : output main_world [] ≡ []
+pub an_empty_script_writes_nothing : written main_world [] ≡ []
 an_empty_script_writes_nothing = refl
 
-pub a_comment_of_200_bytes_writes_nothing : output main_world (replicate 200 35) ≡ []
+pub a_comment_of_200_bytes_writes_nothing : written main_world (replicate 200 35) ≡ []
 a_comment_of_200_bytes_writes_nothing = refl
 
 -- whatever stands in it
-pub a_line_of_201_bytes_is_long : output main_world (replicate 201 35) ≡ codes "?: refused 403 long line\n"
+pub a_line_of_201_bytes_is_long : written main_world (replicate 201 35) ≡ codes "?: refused 403 long line\n"
 unfolding digits
 a_line_of_201_bytes_is_long = refl
 
 -- 10 bytes of words, and blanks up to 200 and to 201
 pub blanks_count_too :
-    output main_world (codes "a cr 0 0 4" ++ replicate 190 32 ++ 10 ∷ codes "a cr 0 0 4" ++ replicate 191 32 ++ 10 ∷ replicate 201 32 ++ 10 ∷ replicate 200 13 ++ 13 ∷ [])
+    written main_world (codes "a cr 0 0 4" ++ replicate 190 32 ++ 10 ∷ codes "a cr 0 0 4" ++ replicate 191 32 ++ 10 ∷ replicate 201 32 ++ 10 ∷ replicate 200 13 ++ 13 ∷ [])
     ≡ codes "a: 0x00011234\n?: refused 403 long line\n?: refused 403 long line\n?: refused 403 long line\n"
 unfolding digits
 blanks_count_too = refl
 
 pub any_bytes_make_a_line :
-    output main_world (codes "a " ++ 0xff ∷ 10 ∷ 0xff ∷ 10 ∷ 0 ∷ 10 ∷ []) ≡ codes "a: refused 401 bad line\n?: refused 402 unknown guest\n?: refused 402 unknown guest\n"
+    written main_world (codes "a " ++ 0xff ∷ 10 ∷ 0xff ∷ 10 ∷ 0 ∷ 10 ∷ []) ≡ codes "a: refused 401 bad line\n?: refused 402 unknown guest\n?: refused 402 unknown guest\n"
 unfolding digits
 any_bytes_make_a_line = refl
