@@ -2,6 +2,7 @@
 use Rattle.std.proofs.Common.{◌≡◌, ℕ, ◌<◌, Bool, true, false, cond, Option, Some, None, List, [], ◌∷◌, map, zero, suc, refl, ap, ap₂, sym, ◌∙◌, arith, inl, inr, ◌⊎◌, subst, get_or}
 use Rattle.std.specs.Prelude.{find}
 use Rattle.std.specs.List.{slice_get, slice_set}
+use Rattle.std.specs.Option.{option_map_or}
 use Rattle.std.proofs.lemmas.Option.{slice_get_within}
 use borrow.Follows.Closed.{read_of}
 use base.Fml.{GName}
@@ -17,9 +18,10 @@ use Rattle.model_board.proofs.PathEnds.{path_self, not_before_itself}
 use Rattle.bridge_forward.specs.declared.bus.Node.{Node}
 use Rattle.bridge_forward.specs.declared.function.Function.{Function}
 use Rattle.bridge_forward.specs.declared.function.Function.TheVariants.{Endpoint, Bridge}
-use Rattle.bridge_forward.specs.Functions.{with_cells, endpoint_in}
+use Rattle.bridge_forward.specs.Functions.{decl_of, file_of, with_cells, endpoint_in}
+use Rattle.bridge_forward.specs.ResetAlone.{after_reset, after_leaf_reset}
 use Rattle.bridge_forward.specs.Layout.{paths_of, ends_of, function_of, functions_of, AreLaid, IsLaidOut}
-use Rattle.bridge_forward.specs.Lending.{as_endpoint, endpoint_at, with_endpoint}
+use Rattle.bridge_forward.specs.Lending.{as_endpoint, endpoint_at, with_endpoint, with_endpoint_reset}
 use Rattle.bridge_forward.specs.Search.{IsAt}
 use Rattle.bridge_forward.proofs.Indices.{read_at, same_at, map_at, at_map, map_set, set_same, found_at}
 use Rattle.bridge_forward.proofs.Nodes.{ordered}
@@ -46,6 +48,19 @@ map_one {A} t g (y ∷ ys) zero x e h k =
     rest (z ∷ zs) m = ap₂ (λ w ws. w ∷ ws) (ap (λ b. cond b (g z) z) (m 0 z refl)) (rest zs (λ j w f. m (suc j) w f))
 map_one t g (y ∷ ys) (suc i) x e h k =
     ap₂ (λ z zs. z ∷ zs) (ap (λ b. cond b (g y) y) (k 0 y (λ q. absurd (omega (arith, q))) refl)) (map_one t g ys i x e h (λ j z d f. k (suc j) z (λ q. d (omega arith)) f))
+
+-- files that are left as they are
+same_files : (p : Path) (fs : List BoardFunction) → with_file (λ file. file) p fs ≡ fs
+same_files p [] = refl
+same_files p (f ∷ fs) = ap₂ (λ (g : BoardFunction) (gs : List BoardFunction). g ∷ gs) (either (path_eq f.path p)) (same_files p fs)
+  where
+    either : (t : Bool) → cond t (record f { file = f.file }) f ≡ f
+    either true = refl
+    either false = refl
+
+-- no endpoint is reset where no function stands
+pub none_back : (p : Path) (fs : List BoardFunction) → find (λ f. path_eq f.path p) fs ≡ None → fs ≡ with_endpoint_reset p fs
+none_back p fs none = sym (ap (λ o. option_map_or (λ (e : decoding.Function). with_file (after_reset e.decl) p fs) (option_map_or as_endpoint o None) fs) none)
 
 module _ (nodes : List Node) (laid : IsLaidOut nodes) (i : ℕ) (n : Node) (e : slice_get nodes i ≡ Some n) where
   -- no other function has the path
@@ -97,6 +112,18 @@ module _ (nodes : List Node) (laid : IsLaidOut nodes) (i : ℕ) (n : Node) (e : 
         same : (f : Function) → endpoint_in f ≡ as_endpoint (function_of (record n { function = f }))
         same (Endpoint w) = refl
         same (Bridge b) = refl
+
+    -- with that endpoint reset
+    pub endpoint_back : functions_of (slice_set nodes i (record n { function = with_cells n.function (after_leaf_reset (decl_of n.function) (file_of n.function)) })) ≡ with_endpoint_reset path (functions_of nodes)
+    endpoint_back =
+        cells_set (after_leaf_reset (decl_of n.function))
+        ∙ ap (λ (p : Path). with_file (after_leaf_reset (decl_of n.function)) p (functions_of nodes)) path_is
+        ∙ by_kind n.function
+        ∙ ap (λ o. option_map_or (λ (e : decoding.Function). with_file (after_reset e.decl) path (functions_of nodes)) o (functions_of nodes)) endpoint_there
+      where
+        by_kind : (f : Function) → with_file (after_leaf_reset (decl_of f)) path (functions_of nodes) ≡ option_map_or (λ (e : decoding.Function). with_file (after_reset e.decl) path (functions_of nodes)) (endpoint_in f) (functions_of nodes)
+        by_kind (Endpoint w) = refl
+        by_kind (Bridge b) = same_files path (functions_of nodes)
 
   pub kept : functions_of (slice_set nodes i n) ≡ functions_of nodes
   kept = ap functions_of (set_same nodes i n e)

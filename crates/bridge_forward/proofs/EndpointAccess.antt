@@ -4,7 +4,7 @@ use Rattle.std.specs.Int.Bits.{or_zero_r, and_zero_r}
 use Rattle.std.specs.Prelude.{bit_and, bit_or, ◌==◌}
 use Rattle.model_registers.specs.Lists.{Each, EachPair}
 use Rattle.model_registers.specs.Cell.{Cell, raised}
-use Rattle.model_registers.specs.Registers.{Place, config, block, place_eq, Entry, File, changed, read, write, raise, field, in_region}
+use Rattle.model_registers.specs.Registers.{Place, config, block, place_eq, Entry, File, cell_at, changed, read, write, raise, field, in_region}
 use Rattle.model_registers.specs.FileLaws.{has_place, HasNone, IsConfig, IsConfigFile}
 use Rattle.model_registers.specs.Declarations.{Region, Endpoint, Kind, io_kind, mem32, mem64, registers_of, HasLawfulRegions, IsLawfulRegion}
 use Rattle.model_registers.specs.EndpointTable.{type_bits, base_width, BaseAddress, register_cells, base_file, opened}
@@ -52,12 +52,12 @@ block_there blocks n f l e = ap (λ o. option_map_or (λ (x : CellFile). x.now) 
 pub no_block : (blocks : List CellFile) (n : ℕ) → length blocks ≤ n → block_at blocks n ≡ []
 no_block blocks n l = ap (λ o. option_map_or (λ (x : CellFile). x.now) o []) (slice_get_past blocks n l)
 
-get_set : (blocks : List CellFile) (n : ℕ) (f : CellFile) → n < length blocks → slice_get (slice_set blocks n f) n ≡ Some f
+pub get_set : (blocks : List CellFile) (n : ℕ) (f : CellFile) → n < length blocks → slice_get (slice_set blocks n f) n ≡ Some f
 get_set [] n f l = absurd (omega (arith, l))
 get_set (b ∷ bs) zero f l = refl
 get_set (b ∷ bs) (suc n) f l = get_set bs n f (omega (arith, l))
 
-get_other : (blocks : List CellFile) (n m : ℕ) (f : CellFile) → m ≢ n → slice_get (slice_set blocks n f) m ≡ slice_get blocks m
+pub get_other : (blocks : List CellFile) (n m : ℕ) (f : CellFile) → m ≢ n → slice_get (slice_set blocks n f) m ≡ slice_get blocks m
 get_other [] n m f d = refl
 get_other (b ∷ bs) zero zero f d = absurd (d refl)
 get_other (b ∷ bs) zero (suc m) f d = refl
@@ -165,11 +165,19 @@ module _ (d : Endpoint) (cells : File) (bars : List BaseAddress) (g : ℕ → Fi
 
   -- ---- reads
 
+  -- at a block's offsets stands the block
+  pub cell_of_block : (n q : ℕ) → cell_at file (block n q) ≡ cell_at (g n) (config q)
+  cell_of_block n q =
+      cell_second cells (region_parts bars g) (block n q) (no_block_in cells n q parts.config_places)
+      ∙ block_cell bars g n q distinct (parts.block_places n) (parts.unused n)
+
+  -- and elsewhere than at base registers the header with the device's own registers
+  pub cell_of_config : (q : ℕ) → (q < 0x10) ⊎ (0x28 ≤ q) → cell_at file (config q) ≡ cell_at cells (config q)
+  cell_of_config q away = cell_first cells (region_parts bars g) (config q) (config_cell bars g q ∙ no_base bars lawful_bars.each q away)
+
   -- a block's offsets show the block
   pub read_block : (n off : ℕ) (ons : List Bool) → read file (block n off) ons ≡ read (g n) (config off) ons
-  read_block n off ons = read_same file (g n) (block n) config (λ k. refl) (λ k. refl) ons off (λ q l h.
-      cell_second cells (region_parts bars g) (block n q) (no_block_in cells n q parts.config_places)
-      ∙ block_cell bars g n q distinct (parts.block_places n) (parts.unused n))
+  read_block n off ons = read_same file (g n) (block n) config (λ k. refl) (λ k. refl) ons off (λ q l h. cell_of_block n q)
 
   -- base registers show the bases
   pub read_base : (off : ℕ) (ons : List Bool) → 0x10 ≤ off → off + length ons ≤ 0x28 → read file (config off) ons ≡ read (base_file bars) (config off) ons
@@ -179,7 +187,7 @@ module _ (d : Endpoint) (cells : File) (bars : List BaseAddress) (g : ℕ → Fi
   -- all other configuration offsets show the header and the device's own registers
   pub read_config : (off : ℕ) (ons : List Bool) → (off + length ons ≤ 0x10) ⊎ (0x28 ≤ off) → read file (config off) ons ≡ read cells (config off) ons
   read_config off ons away = read_same file cells config config (λ k. refl) (λ k. refl) ons off (λ q l h.
-      cell_first cells (region_parts bars g) (config q) (config_cell bars g q ∙ no_base bars lawful_bars.each q (elim away [ inl low ↦ inl (omega arith) | inr high ↦ inr (omega arith) ])))
+      cell_of_config q (elim away [ inl low ↦ inl (omega arith) | inr high ↦ inr (omega arith) ]))
 
   -- ---- changes of a block
 

@@ -16,7 +16,7 @@ use Rattle.model_registers.proofs.Files.{region_cells as cells_in_region}
 use Rattle.model_registers.proofs.Parts.{IsOutside}
 use Rattle.config_bytes.specs.CellFile.{CellFile}
 use Rattle.bars.specs.Resets.{reset_from, at_reset}
-use Rattle.bridge_forward.specs.EndpointParts.{block_at, region_parts, IsElsewhere, AreParts, region_at, declared_bar, declared_block}
+use Rattle.bridge_forward.specs.EndpointParts.{block_at, region_parts, IsElsewhere, AreParts, region_at, declared_bar, declared_block, as_made}
 use Rattle.bridge_forward.proofs.Indices.{each_at, pair_at, find_at}
 use Rattle.bridge_forward.proofs.BlockLists.{found_each}
 use Rattle.bridge_forward.proofs.RegionParts.{config_field}
@@ -28,7 +28,7 @@ not_here : (q a : ℕ) → (q < a) ⊎ (a + 1 ≤ q) → (a == q) ≡ false
 not_here q a (inl h) = ne_eqb a q (λ e. omega (arith, h, e))
 not_here q a (inr h) = ne_eqb a q (λ e. omega (arith, h, e))
 
-none_field : (q w a v m c : ℕ) → IsOutside q a w → has_place (field (config a) w v m c) (config q) ≡ false
+pub none_field : (q w a v m c : ℕ) → IsOutside q a w → has_place (field (config a) w v m c) (config q) ≡ false
 none_field q zero a v m c h = refl
 none_field q (suc w) a v m c h =
     ap₂ (λ s t. s || t) (not_here q a (first h)) (none_field q w (a + 1) (v / 256) (m / 256) (c / 256) (rest h))
@@ -41,7 +41,7 @@ none_field q (suc w) a v m c h =
     rest (inl h) = inl (omega arith)
     rest (inr h) = inr (omega arith)
 
-none_cells : (q a : ℕ) (cs : List Cell) → IsOutside q a (length cs) → has_place (cells_from (config a) cs) (config q) ≡ false
+pub none_cells : (q a : ℕ) (cs : List Cell) → IsOutside q a (length cs) → has_place (cells_from (config a) cs) (config q) ≡ false
 none_cells q a [] h = refl
 none_cells q a (c ∷ cs) h = ap₂ (λ s t. s || t) (not_here q a (first h)) (none_cells q (a + 1) cs (rest h))
   where
@@ -278,5 +278,8 @@ module _ (d : Endpoint) (lawful : IsLawfulEndpoint d) (blocks : List CellFile) (
     file_new = ap₂ (λ (xs : File) (bs : List BaseAddress). xs ++ region_parts bs (block_at blocks)) cells_are bars_are ∙ file_at_reset multifunction
 
 -- blocks declared by any list that is those regions
-pub blocks_declared : (d : Endpoint) (rs : List Region) → rs ≡ d.regions → (blocks : List CellFile) → ((n : ℕ) → n < 6 → block_at blocks n ≡ declared_block rs n) → (n : ℕ) → n < 6 → block_at blocks n ≡ declared_block d.regions n
-blocks_declared d rs same blocks filled n l = filled n l ∙ ap (λ xs. declared_block xs n) same
+pub blocks_declared : (d : Endpoint) (rs : List Region) → rs ≡ d.regions → (blocks : List CellFile) → ((n : ℕ) → n < 6 → slice_get blocks n ≡ Some (as_made (declared_block rs n))) → (n : ℕ) → n < 6 → slice_get blocks n ≡ Some (as_made (declared_block d.regions n))
+blocks_declared d rs same blocks filled n l = filled n l ∙ ap (λ xs. Some (as_made (declared_block xs n))) same
+
+pub blocks_filled : (d : Endpoint) (blocks : List CellFile) → ((n : ℕ) → n < 6 → slice_get blocks n ≡ Some (as_made (declared_block d.regions n))) → (n : ℕ) → n < 6 → block_at blocks n ≡ declared_block d.regions n
+blocks_filled d blocks filled n l = ap (λ o. option_map_or (λ (f : CellFile). f.now) o []) (filled n l)

@@ -17,3 +17,6 @@ pub mod EndpointAccess
 pub mod EndpointHits
 pub mod BlockLists
 pub mod EndpointReset
+pub mod ResetCells
+pub mod ResetKept
+pub mod BlocksReset

@@ -4,15 +4,22 @@
 --     IsShort      each cell stands at an offset of 16 bits
 --     AreParts      what the parts of every endpoint keep
 --     declared_bar, declared_block      what a declaration has at a register
-use Rattle.std.specs.Prelude.{List, [], ◌≡◌, ◌≢◌, ◌⊎◌, ℕ, ◌≤◌, ◌<◌, ◌++◌, ◌==◌, false, Option, option_map, map, flat_map, find, slice_get}
+--     as_made cells      cells that stand as they do at reset
+--     block_at_reset blocks n      the cells of that block at reset
+--     blocks_after blocks      blocks after each went back to reset
+--     KnowReset      the cells at reset that the parts of an endpoint keep are those of its declaration
+--     IsEndpointFn      all that the parts of every endpoint keep
+use Rattle.std.specs.Prelude.{List, [], ◌≡◌, ◌≢◌, ◌⊎◌, ℕ, ◌≤◌, ◌<◌, ◌++◌, ◌==◌, true, false, Option, option_map, map, flat_map, find, length, slice_get, bit_and}
 use Rattle.std.specs.Option.{option_map_or}
 use Rattle.model_registers.specs.Lists.{Each}
-use Rattle.model_registers.specs.Registers.{config, File, cells_from, in_region}
+use Rattle.model_registers.specs.Cell.{Cell}
+use Rattle.model_registers.specs.Registers.{Place, config, place_eq, Entry, File, cell_at, number, cells_from, in_region}
 use Rattle.model_registers.specs.FileLaws.{has_place, IsConfigFile}
 use Rattle.model_registers.specs.Declarations.{Bar, Region, HasLawfulRegions, Endpoint}
-use Rattle.model_registers.specs.EndpointTable.{BaseAddress, register_cells, opened}
-use Rattle.model_registers.specs.OwnCopies.{bare}
-use Rattle.config_bytes.specs.CellFile.{CellFile}
+use Rattle.model_registers.specs.DeclarationRules.{IsLawfulEndpoint}
+use Rattle.model_registers.specs.EndpointTable.{BaseAddress, register_cells, opened, config_reset}
+use Rattle.model_registers.specs.OwnCopies.{bare, is_own}
+use Rattle.config_bytes.specs.CellFile.{CellFile, places_of}
 
 abbrev pub block_at : List CellFile → ℕ → File
 block_at blocks n = option_map_or (λ (f : CellFile). f.now) (slice_get blocks n) []
@@ -46,3 +53,36 @@ declared_bar rs n = option_map (λ (r : Region). record { kind = r.kind; size = 
 
 abbrev pub declared_block : List Region → ℕ → File
 declared_block rs n = option_map_or (λ (r : Region). cells_from (config 0) r.cells) (region_at rs n) []
+
+-- cells as they were made
+abbrev pub as_made : File → CellFile
+as_made cells = record { now = cells; initial = cells }
+
+abbrev pub block_at_reset : List CellFile → ℕ → File
+block_at_reset blocks n = option_map_or (λ (f : CellFile). f.initial) (slice_get blocks n) []
+
+abbrev pub blocks_after : List CellFile → List CellFile
+blocks_after blocks = map (λ (f : CellFile). record f { now = f.initial }) blocks
+
+-- no bit is writable or clearable
+abbrev pub IsConstant : Cell → Type 0
+IsConstant c = (bit_and c.value 255 ≡ c.value) × (c.writable ≡ 0) × (c.clearable ≡ 0)
+
+-- the header type stays as it is at reset
+abbrev pub IsHeaderKept : File → Entry → Type 0
+IsHeaderKept initial e = place_eq e.place (config 0x0e) ≡ true → (e.cell ≡ cell_at initial (config 0x0e)) × IsConstant e.cell
+
+-- the header type alone differs, by whether the device holds other functions
+pub record KnowReset (d : Endpoint) (cells : CellFile) (blocks : List CellFile) : Type 0 where
+  pub lawful : IsLawfulEndpoint d
+  pub header : Each (IsHeaderKept cells.initial) cells.now
+  pub declared : (p : Place) → is_own p ≡ false → cell_at cells.initial p ≡ cell_at (config_reset d false) p
+  pub six : length blocks ≡ 6
+  pub block_cells : (n : ℕ) → n < 6 → block_at_reset blocks n ≡ declared_block d.regions n
+  pub block_places : (n : ℕ) → places_of (block_at blocks n) ≡ places_of (block_at_reset blocks n)
+
+-- `command` is what the cells of Command hold
+pub record IsEndpointFn (d : Endpoint) (cells : CellFile) (command : ℕ) (bars : List BaseAddress) (blocks : List CellFile) : Type 0 where
+  pub parts : AreParts d cells.now bars (block_at blocks)
+  pub command_is : command ≡ number cells.now (config 0x04) 2
+  pub reset : KnowReset d cells blocks

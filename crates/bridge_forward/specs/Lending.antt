@@ -2,6 +2,7 @@
 --     endpoint_at fs p      the endpoint at a path, if one stands there
 --     with_endpoint p e fs      the functions with this endpoint at the path
 --     endpoint_nth fs i      the endpoint at an index of the list, if one stands there
+--     with_endpoint_reset p fs      the functions with the endpoint at a path reset, alone
 --     with_endpoint_nth i e fs      the functions with this endpoint there, at the path that stands there
 use Rattle.std.specs.Prelude.{List, ℕ, if◌then◌else◌, Option, Some, None, map, find, slice_get, slice_set}
 use Rattle.std.specs.Option.{option_map_or}
@@ -9,7 +10,8 @@ use Rattle.std.specs.Borrow.{LendsIf, MutBor, Fml}
 use Rattle.model_registers.specs.Decoding.{Function}
 use Rattle.model_board.specs.Paths.{Path, path_eq}
 use Rattle.model_board.specs.Board.{endpoint, bridge}
-use Rattle.model_board.specs.State.{BoardFunction}
+use Rattle.model_board.specs.State.{BoardFunction, with_file}
+use Rattle.bridge_forward.specs.ResetAlone.{after_reset}
 use Rattle.bridge_forward.specs.contracts.endpoint.EndpointFn as endpoint_fn
 use Rattle.bridge_forward.specs.contracts.bus.Bus as bus
 
@@ -23,6 +25,9 @@ endpoint_at fs p = option_map_or as_endpoint (find (λ f. path_eq f.path p) fs) 
 abbrev pub with_endpoint : Path → Function → List BoardFunction → List BoardFunction
 with_endpoint p e fs =
     map (λ (f : BoardFunction). if path_eq f.path p then record { path = p; decl = endpoint e.decl; file = e.file } else f) fs
+
+abbrev pub with_endpoint_reset : Path → List BoardFunction → List BoardFunction
+with_endpoint_reset p fs = option_map_or (λ (e : Function). with_file (after_reset e.decl) p fs) (endpoint_at fs p) fs
 
 -- the functions end with the endpoint at the path as it was left behind r
 abbrev pub LendsEndpoint : MutBor (List BoardFunction) → Path → Option (MutBor Function) → Fml

@@ -5,6 +5,7 @@ pub mod Functions
 pub mod Cycled
 pub mod Layout
 pub mod Resets
+pub mod ResetAlone
 pub mod Search
 pub mod Lending
 pub mod Locating

@@ -1,4 +1,5 @@
 -- A board's functions at reset.
+--     reset_function, reset_functions      the functions of a board at reset
 use Rattle.std.specs.Prelude.{List, map}
 use Rattle.model_board.specs.Board.{Row, Board, is_multifunction}
 use Rattle.model_board.specs.State.{BoardFunction}

@@ -1,9 +1,9 @@
 //! What an endpoint's declaration has at each base address register.
-ghost use Rattle.std.specs.Prelude.{◌≡◌, ◌≤◌, ◌<◌, ℕ, IfOk, length, map, [], ◌∷◌};
+ghost use Rattle.std.specs.Prelude.{◌≡◌, ◌≤◌, ◌<◌, ℕ, IfOk, length, map, slice_get, Some, [], ◌∷◌};
 ghost use Rattle.std.specs.Option.{option_copied};
 ghost use Rattle.model_registers.specs.Lists.{Each};
 ghost use Rattle.model_registers.specs.Registers.{config, cells_from};
-ghost use Rattle.bridge_forward.specs.EndpointParts.{region_at, declared_bar, declared_block, block_at};
+ghost use Rattle.bridge_forward.specs.EndpointParts.{region_at, declared_bar, declared_block, as_made, blocks_after};
 
 use bars::BarDecl;
 use config_bytes::{Cell, Cells};
@@ -36,7 +36,7 @@ pub(crate) fn bar_decls(regions: &[Region]) -> [Option<BarDecl>; 6]
 /// The cells of a block, from the offset 0 on.
 fn block_file(alloc: Global, block: &[Cell]) -> Result<Cells, AllocError>
     requires { length block.now ≤ 4096 }
-    ensures { IfOk result (λ f. f.now ≡ cells_from (config 0) block.now) }
+    ensures { IfOk result (λ f. f ≡ as_made (cells_from (config 0) block.now)) }
 {
     let mut cells = Vec::new(alloc);
     for (off, cell) in block.iter().enumerate() {
@@ -48,7 +48,7 @@ fn block_file(alloc: Global, block: &[Cell]) -> Result<Cells, AllocError>
 /// The block at a base address register, empty where no region begins there.
 fn block_at(alloc: Global, regions: &[Region], index: u8) -> Result<Cells, AllocError>
     requires { Each (λ r. length r.cells ≤ 4096) regions.now }
-    ensures { IfOk result (λ f. f.now ≡ declared_block regions.now index) }
+    ensures { IfOk result (λ f. f ≡ as_made (declared_block regions.now index)) }
 {
     match region_at(regions, index) {
         Some(region) => block_file(alloc, &region.block),
@@ -59,7 +59,7 @@ fn block_at(alloc: Global, regions: &[Region], index: u8) -> Result<Cells, Alloc
 /// The blocks of the six base address registers, by index.
 pub(crate) fn block_files(alloc: Global, regions: &[Region]) -> Result<Vec<Cells>, AllocError>
     requires { Each (λ r. length r.cells ≤ 4096) regions.now }
-    ensures blocks { IfOk result (λ v. (n : ℕ) → n < 6 → block_at v.items n ≡ declared_block regions.now n) }
+    ensures blocks { IfOk result (λ v. (n : ℕ) → n < 6 → slice_get v.items n ≡ Some (as_made (declared_block regions.now n))) }
     ensures six { IfOk result (λ v. length v.items ≡ 6) }
 {
     let mut blocks = Vec::new(alloc);
@@ -67,4 +67,13 @@ pub(crate) fn block_files(alloc: Global, regions: &[Region]) -> Result<Vec<Cells
         blocks.push(block_at(alloc, regions, index)?)?;
     }
     Ok(blocks)
+}
+
+/// All blocks go back to reset.
+pub(crate) fn reset_all(blocks: &mut [Cells])
+    ensures { blocks.new ≡ blocks_after blocks.old }
+{
+    for block in blocks.iter_mut() {
+        block.reset();
+    }
 }

@@ -99,7 +99,7 @@ impl Node {
 
 impl Bus {
     ghost use Rattle.bridge_forward.specs.Cycled.{cycle_reply, after_cycle};
-    ghost use Rattle.bridge_forward.specs.Lending.{LendsEndpoint, LendsEndpointNth, endpoint_at, endpoint_nth};
+    ghost use Rattle.bridge_forward.specs.Lending.{LendsEndpoint, LendsEndpointNth, endpoint_at, endpoint_nth, with_endpoint_reset};
     ghost use Rattle.bridge_forward.specs.Locating.{located_claim};
 
     /// The board of these functions, which stand at lawful places, at reset. Nothing else refuses
@@ -169,6 +169,18 @@ impl Bus {
         let at = position(&self.nodes, path)?;
         let node = &mut self.nodes[at];
         node.function.endpoint_mut()
+    }
+
+    /// Resets the endpoint at a path. Its Command and base address registers stay as they are, and so do
+    /// all other functions. Where no endpoint stands there, nothing changes.
+    pub fn reset_endpoint(&mut self, path: &Path)
+        ensures { self.new ≡ with_endpoint_reset path.now self.old }
+    {
+        let Some(at) = position(&self.nodes, path) else {
+            return;
+        };
+        let node = &mut self.nodes[at];
+        node.function.reset_endpoint();
     }
 
     /// Lends the endpoint at an index of the list, if one stands there. All else stays.

@@ -8,8 +8,9 @@ ghost use Rattle.model_registers.specs.Decoding.{lone_claim};
 ghost use Rattle.bars.specs.Kinds.{named_space};
 ghost use Rattle.bars.specs.Hits.{named_hit};
 ghost use Rattle.headers.specs.Places.{place_of};
+ghost use Rattle.bridge_forward.specs.ResetAlone.{after_reset};
 
-use crate::blocks::{bar_decls, block_files};
+use crate::blocks::{bar_decls, block_files, reset_all};
 use crate::offsets;
 use bars::{Bars, Space};
 use config_bytes::Cells;
@@ -20,11 +21,13 @@ use std::marker::Model;
 /// An endpoint: what is declared of it, and its registers as they stand.
 ///
 /// The blocks stand by the index of their base address registers, six of them, so that an access
-/// finds its block at once. A register at which no region begins has an empty one.
+/// finds its block at once. A register at which no region begins has an empty one. Command is kept as
+/// a number beside its cells, since every search for a claim asks for it.
 #[derive(Drop)]
 pub struct EndpointFn {
     decl: EndpointDecl,
     config: Cells,
+    command: u16,
     bars: Bars,
     blocks: Vec<Cells>,
 }
@@ -32,13 +35,13 @@ pub struct EndpointFn {
 impl Model for EndpointFn {
     ghost use Rattle.std.specs.Prelude.{◌++◌};
     ghost use Rattle.model_registers.specs.Decoding.{Function};
-    ghost use Rattle.bridge_forward.specs.EndpointParts.{region_parts, block_at, AreParts};
+    ghost use Rattle.bridge_forward.specs.EndpointParts.{region_parts, block_at, IsEndpointFn};
 
     ghost Value = { Function };
 
     ghost view = { λ e. record { decl = e.decl; file = e.config.now ++ region_parts e.bars (block_at e.blocks.items) } };
 
-    ghost invariant = { λ e. AreParts e.decl e.config.now e.bars (block_at e.blocks.items) };
+    ghost invariant = { λ e. IsEndpointFn e.decl e.config e.command e.bars e.blocks.items };
 }
 
 impl EndpointFn {
@@ -55,9 +58,11 @@ impl EndpointFn {
         let regions = &decl.values().bar;
         let bars = Bars::new(bar_decls(regions));
         let blocks = block_files(alloc, regions)?;
+        let command = command(&config).0;
         Ok(EndpointFn {
             decl,
             config,
+            command,
             bars,
             blocks,
         })
@@ -99,13 +104,26 @@ impl EndpointFn {
         ensures { self.new ≡ record self.old { file = raise mask (place_of place off) self.old.file } }
     {
         match place {
-            Place::Cfg => offsets::raise(&mut self.config, off, mask),
+            Place::Cfg => {
+                offsets::raise(&mut self.config, off, mask);
+                self.command = command(&self.config).0;
+            }
             Place::Bar(reg) => {
                 if let Some(block) = self.blocks.get_mut(usize::from(reg)) {
                     offsets::raise(block, off, mask);
                 }
             }
         }
+    }
+
+    /// Goes back to reset. Command and the base address registers stay as they are, and so does the
+    /// header type, which is the same at reset.
+    pub fn reset(&mut self)
+        ensures { self.new ≡ record self.old { file = after_reset self.old.decl self.old.file } }
+    {
+        self.config.reset_outside(0x04, 0x05);
+        self.command = command(&self.config).0;
+        reset_all(&mut self.blocks);
     }
 
     /// The enabled bytes of the configuration word at `off`, a multiple of 4.
@@ -126,7 +144,10 @@ impl EndpointFn {
     {
         match base_register(off) {
             Some(reg) => self.bars.write(reg, enables, data),
-            None => self.config.write(u16::from(off), enables, data),
+            None => {
+                self.config.write(u16::from(off), enables, data);
+                self.command = command(&self.config).0;
+            }
         }
     }
 
@@ -135,7 +156,7 @@ impl EndpointFn {
     pub fn decode(&self, space: Space, addr: u64) -> Option<(u8, u64)>
         ensures { named_hit result ≡ lone_claim self.now (named_space space) addr }
     {
-        self.bars.decode(space, addr, command(&self.config).0)
+        self.bars.decode(space, addr, self.command)
     }
 }
 

@@ -24,6 +24,7 @@ pub(crate) enum Function {
 impl Function {
     ghost use Rattle.bridge_forward.specs.Cycled.{reply_to, after_access};
     ghost use Rattle.bridge_forward.specs.Decls.{declared};
+    ghost use Rattle.bridge_forward.specs.ResetAlone.{after_leaf_reset};
     ghost use Rattle.bridge_forward.specs.Functions.{decl_of, file_of, with_cells, reset_cells, endpoint_in, LendsLeaf};
 
     /// The function at reset. `multifunction` says that its device holds other functions.
@@ -82,6 +83,16 @@ impl Function {
         match self {
             Function::Endpoint(endpoint) => endpoint.config_write(off, enables, data),
             Function::Bridge(bridge) => bridge.config_write(off, enables, data),
+        }
+    }
+
+    /// Resets the endpoint, if it is one.
+    pub(crate) fn reset_endpoint(&mut self)
+        ensures { self.new ≡ with_cells self.old (after_leaf_reset (decl_of self.old) (file_of self.old)) }
+    {
+        match self {
+            Function::Endpoint(endpoint) => endpoint.reset(),
+            Function::Bridge(_) => (),
         }
     }
 

@@ -14,7 +14,7 @@ returns-in-Some c =
     let at = c.in-Some.ensures.there in
     c.read.ensures.word
     ∙ ap (λ n. read (base_file e.bars) (config n) ons) (sym at.1)
-    ∙ sym (read_base e.decl e.config.now e.bars (block_at e.blocks.items) c.self.invariant c.args.off ons (omega (arith, at.0, at.1)) (omega (arith, at.0, at.1)))
+    ∙ sym (read_base e.decl e.config.now e.bars (block_at e.blocks.items) c.self.invariant.parts c.args.off ons (omega (arith, at.0, at.1)) (omega (arith, at.0, at.1)))
     ∙ ap (λ (f : Function). read f.file (config c.args.off) ons) c.self.view_is
 
 pub returns-in-None : goal.returns-in-None
@@ -23,5 +23,5 @@ returns-in-None c =
     let ons = lanes c.args.enables in
     c.read-in-None.ensures.word
     ∙ ap (λ n. read e.config.now (config n) ons) c.from.ensures
-    ∙ sym (read_config e.decl e.config.now e.bars (block_at e.blocks.items) c.self.invariant c.args.off ons (word_away c.args.off c.requires c.in-None.ensures.elsewhere))
+    ∙ sym (read_config e.decl e.config.now e.bars (block_at e.blocks.items) c.self.invariant.parts c.args.off ons (word_away c.args.off c.requires c.in-None.ensures.elsewhere))
     ∙ ap (λ (f : Function). read f.file (config c.args.off) ons) c.self.view_is

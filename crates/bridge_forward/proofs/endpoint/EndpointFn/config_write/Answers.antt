@@ -1,4 +1,5 @@
-use Rattle.std.proofs.Common.{◌++◌, ap, refl, sym, ◌∙◌, arith}
+use Rattle.std.proofs.Common.{◌++◌, ap, refl, sym, ◌∙◌, arith, subst}
+use Rattle.model_registers.specs.Lists.{Each}
 use Rattle.model_registers.specs.Registers.{File, config, write}
 use Rattle.model_registers.specs.ByteEnables.{lanes}
 use Rattle.model_registers.specs.FileLaws.{has_place}
@@ -6,22 +7,35 @@ use Rattle.model_registers.specs.EndpointTable.{base_file}
 use Rattle.model_registers.specs.Decoding.{Function}
 use Rattle.model_registers.proofs.Files.{places_stay}
 use Rattle.config_bytes.specs.CellFile.{CellFile}
-use Rattle.bridge_forward.specs.EndpointParts.{region_parts, block_at}
+use Rattle.bridge_forward.specs.EndpointParts.{region_parts, block_at, IsHeaderKept}
 use Rattle.bridge_forward.proofs.EndpointAccess.{write_base, write_config, config_kept, word_away}
+use Rattle.bridge_forward.proofs.ResetKept.{know_config, header_written}
 use Rattle.bridge_forward.proofs.endpoint.EndpointFn.config_write.Goals as goal
 
 pub invariant_of-self : goal.invariant_of-self
 invariant_of-self c =
     let e = c.self.inside in
-    config_kept e.decl e.config.now e.bars (block_at e.blocks.items) c.self.invariant e.config.now c.write.new.self c.write.ensures.regions c.self.invariant.config_places (λ q. refl)
+    record {
+      parts = config_kept e.decl e.config.now e.bars (block_at e.blocks.items) c.self.invariant.parts e.config.now c.write.new.self c.write.ensures.regions c.self.invariant.parts.config_places (λ q. refl);
+      command_is = c.self.invariant.command_is;
+      reset = c.self.invariant.reset;
+    }
 
 pub invariant_of-self-in-None : goal.invariant_of-self-in-None
 invariant_of-self-in-None c =
     let e = c.self.inside in
     let ons = lanes c.args.enables in
+    let later = c.write-in-None.new.self in
     let now = ap (λ (f : CellFile). f.now) c.write-in-None.ensures.cells in
-    config_kept e.decl e.config.now e.bars (block_at e.blocks.items) c.self.invariant c.write-in-None.new.self.now e.bars refl c.write-in-None.ensures.places
-    (λ q. ap (λ (xs : File). has_place xs (config q)) now ∙ places_stay ons c.args.data (config c.from.result) (config q) e.config.now)
+    let same = ap (λ (f : CellFile). f.initial) c.write-in-None.ensures.cells in
+    let reset = c.self.invariant.reset in
+    record {
+      parts = config_kept e.decl e.config.now e.bars (block_at e.blocks.items) c.self.invariant.parts later.now e.bars refl c.write-in-None.ensures.places
+          (λ q. ap (λ (xs : File). has_place xs (config q)) now ∙ places_stay ons c.args.data (config c.from.result) (config q) e.config.now);
+      command_is = c.command.ensures;
+      reset = know_config e.decl e.config later e.blocks.items reset same
+          (subst (λ (xs : File). Each (IsHeaderKept e.config.initial) xs) (sym now) (header_written e.config.initial ons c.args.data (config c.from.result) e.config.now reset.header));
+    }
 
 pub returns-in-Some : goal.returns-in-Some
 returns-in-Some c =
@@ -29,7 +43,7 @@ returns-in-Some c =
     let ons = lanes c.args.enables in
     let at = c.in-Some.ensures.there in
     sym (ap (λ (xs : File). record { decl = e.decl; file = xs })
-    (write_base e.decl e.config.now e.bars (block_at e.blocks.items) c.self.invariant c.args.off c.args.data ons c.write.new.self (omega (arith, at.0, at.1)) (omega (arith, at.0, at.1))
+    (write_base e.decl e.config.now e.bars (block_at e.blocks.items) c.self.invariant.parts c.args.off c.args.data ons c.write.new.self (omega (arith, at.0, at.1)) (omega (arith, at.0, at.1))
     c.write.ensures.regions (c.write.ensures.cells ∙ ap (λ n. write ons c.args.data (config n) (base_file e.bars)) (sym at.1))))
     ∙ ap (λ (f : Function). record f { file = write ons c.args.data (config c.args.off) f.file }) c.self.view_is
 
@@ -40,5 +54,5 @@ returns-in-None c =
     ap (λ (xs : File). record { decl = e.decl; file = xs ++ region_parts e.bars (block_at e.blocks.items) })
     (ap (λ (f : CellFile). f.now) c.write-in-None.ensures.cells ∙ ap (λ n. write ons c.args.data (config n) e.config.now) c.from.ensures)
     ∙ sym (ap (λ (xs : File). record { decl = e.decl; file = xs })
-    (write_config e.decl e.config.now e.bars (block_at e.blocks.items) c.self.invariant c.args.off c.args.data ons (word_away c.args.off c.requires c.in-None.ensures.elsewhere)))
+    (write_config e.decl e.config.now e.bars (block_at e.blocks.items) c.self.invariant.parts c.args.off c.args.data ons (word_away c.args.off c.requires c.in-None.ensures.elsewhere)))
     ∙ ap (λ (f : Function). record f { file = write ons c.args.data (config c.args.off) f.file }) c.self.view_is

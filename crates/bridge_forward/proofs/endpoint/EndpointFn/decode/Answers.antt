@@ -8,7 +8,7 @@ use Rattle.bridge_forward.proofs.endpoint.EndpointFn.decode.Goals as goal
 pub returns : goal.returns
 returns c =
     let e = c.self.inside in
-    let small : c.command.result.0 < 2 ^ 16 = omega arith in
+    let small : e.command < 2 ^ 16 = omega arith in
     c.decode.ensures
-    ∙ hits_same e.decl e.config.now e.bars (block_at e.blocks.items) c.self.invariant c.command.result.0 c.command.ensures small (named_space c.args.space) c.args.addr
+    ∙ hits_same e.decl e.config.now e.bars (block_at e.blocks.items) c.self.invariant.parts e.command c.self.invariant.command_is small (named_space c.args.space) c.args.addr
     ∙ ap (λ (f : Function). lone_claim f (named_space c.args.space) c.args.addr) c.self.view_is

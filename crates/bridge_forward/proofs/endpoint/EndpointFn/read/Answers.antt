@@ -16,7 +16,7 @@ returns-in-Some c =
     let here : block_at e.blocks.items c.args.reg ≡ c.in-Some.block.now.now = sym (ap₂ block_at c.deref.ensures.value c.from.ensures) ∙ there in
     c.read.ensures
     ∙ sym (ap (λ (xs : File). read xs (config c.args.off) ons) here)
-    ∙ sym (read_block e.decl e.config.now e.bars (block_at e.blocks.items) c.self.invariant c.args.reg c.args.off ons)
+    ∙ sym (read_block e.decl e.config.now e.bars (block_at e.blocks.items) c.self.invariant.parts c.args.reg c.args.off ons)
     ∙ ap (λ (f : Function). read f.file (block c.args.reg c.args.off) ons) c.self.view_is
 
 pub returns-in-None : goal.returns-in-None
@@ -27,5 +27,5 @@ returns-in-None c =
     let here : block_at e.blocks.items c.args.reg ≡ [] = sym (ap₂ block_at c.deref.ensures.value c.from.ensures) ∙ none in
     sym (Rattle.model_registers.proofs.Parts.read_none ons (config c.args.off))
     ∙ sym (ap (λ (xs : File). read xs (config c.args.off) ons) here)
-    ∙ sym (read_block e.decl e.config.now e.bars (block_at e.blocks.items) c.self.invariant c.args.reg c.args.off ons)
+    ∙ sym (read_block e.decl e.config.now e.bars (block_at e.blocks.items) c.self.invariant.parts c.args.reg c.args.off ons)
     ∙ ap (λ (f : Function). read f.file (block c.args.reg c.args.off) ons) c.self.view_is

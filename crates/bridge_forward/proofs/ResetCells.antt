@@ -1,0 +1,293 @@
+-- One endpoint that is reset alone: its cells, part by part.
+use Rattle.std.proofs.Common.{◌≡◌, ◌≢◌, ℕ, zero, suc, ◌+◌, ◌*◌, ◌-◌, ◌/◌, ◌%◌, ◌^◌, ◌<◌, ◌≤◌, ◌⊎◌, inl, inr, Bool, true, false, ◌&&◌, ◌||◌, cond, Some, None, List, [], ◌∷◌, ◌++◌, map, length, refl, ap, ap₂, sym, ◌∙◌, subst, arith}
+use Rattle.std.specs.Prelude.{nat_le, nat_lt, ◌==◌, Option}
+use Rattle.std.proofs.lemmas.Bool.Decides.{nat_tests}
+use Rattle.std.proofs.lemmas.List.{length-map}
+use Rattle.std.specs.List.{slice_get}
+use Rattle.std.specs.Option.{option_map_or}
+use Rattle.std.proofs.lemmas.Bool.{ne_eqb, eq-eqb, eqb-true, lt-ltb, le-leb}
+use Rattle.model_registers.specs.Lists.{Each}
+use Rattle.model_registers.specs.Cell.{Cell, no_cell}
+use Rattle.model_registers.specs.Registers.{Place, config, block, offset_of, place_eq, Entry, File, cell_at, field, cells_from, in_region}
+use Rattle.model_registers.specs.FileLaws.{has_place, IsConfig, IsConfigFile}
+use Rattle.model_registers.specs.Declarations.{Region, registers_of, HasLawfulRegions, IsLawfulRegion, Endpoint}
+use Rattle.model_registers.specs.DeclarationRules.{IsLawfulEndpoint}
+use Rattle.model_registers.specs.EndpointTable.{type_bits, base_width, BaseAddress, register_cells, base_file, opened, closed, config_reset, endpoint_reset}
+use Rattle.model_registers.specs.OwnCopies.{is_own}
+use Rattle.config_bytes.specs.CellFile.{CellFile, is_between, reset_entry, reset_outside, places_of}
+use Rattle.bridge_forward.specs.EndpointParts.{block_at, block_at_reset, region_parts, AreParts, region_at, declared_block, IsConstant, IsHeaderKept, KnowReset, blocks_after}
+use Rattle.bridge_forward.specs.ResetAlone.{after_reset}
+use Rattle.bridge_forward.proofs.EndpointAccess.{cell_of_block, cell_of_config, lawful_bars, no_block}
+use Rattle.bridge_forward.proofs.EndpointReset.{parts_new, file_new}
+
+-- an entry of an endpoint after the reset
+abbrev entry_after : Endpoint → Entry → Entry
+entry_after d e = cond (is_own e.place) e (record e { cell = cell_at (endpoint_reset d false) e.place })
+
+after_joined : (d : Endpoint) (xs ys : File) → after_reset d (xs ++ ys) ≡ after_reset d xs ++ after_reset d ys
+after_joined d [] ys = refl
+after_joined d (x ∷ xs) ys = ap (λ (es : File). entry_after d x ∷ es) (after_joined d xs ys)
+
+-- ---- base address registers stay
+
+own_base : (a : ℕ) → 0x10 ≤ a → a < 0x28 → is_own (config a) ≡ true
+own_base a low high = last_true (a == 4 || a == 5 || a == 0x0e) (nat_le 0x10 a && nat_lt a 0x28) (rw (le-leb 0x10 a low, lt-ltb a 0x28 high) refl)
+  where
+    last_true : (s t : Bool) → t ≡ true → (s || t) ≡ true
+    last_true true t h = refl
+    last_true false t h = h
+
+base_stays : (d : Endpoint) (w a v m c : ℕ) → 0x10 ≤ a → a + w ≤ 0x28 → after_reset d (field (config a) w v m c) ≡ field (config a) w v m c
+base_stays d zero a v m c low high = refl
+base_stays d (suc w) a v m c low high =
+    let e : Entry = record { place = config a; cell = record { value = v % 256; writable = m % 256; clearable = c % 256 } } in
+    ap₂ (λ (t : Bool) (es : File). cond t e (record e { cell = cell_at (endpoint_reset d false) e.place }) ∷ es)
+    (own_base a low (omega arith)) (base_stays d w (a + 1) (v / 256) (m / 256) (c / 256) (omega arith) (omega arith))
+
+-- ---- blocks
+
+cell_from : (a k : ℕ) (cs : List Cell) (c : Cell) → slice_get cs k ≡ Some c → cell_at (cells_from (config a) cs) (config (a + k)) ≡ c
+cell_from a k [] c e = absurd (cc)
+cell_from a zero (x ∷ xs) c e =
+    let first : x ≡ c = cc in
+    let at : a ≡ a + 0 = omega arith in
+    ap (λ (t : Bool). cond t x (cell_at (cells_from (config (a + 1)) xs) (config (a + 0)))) (eq-eqb a (a + 0) at) ∙ first
+cell_from a (suc k) (x ∷ xs) c e =
+    let at : a + suc k ≡ a + 1 + k = omega arith in
+    ap (λ (t : Bool). cond t x (cell_at (cells_from (config (a + 1)) xs) (config (a + suc k)))) (ne_eqb a (a + suc k) (λ z. omega (arith, z)))
+    ∙ ap (λ q. cell_at (cells_from (config (a + 1)) xs) (config q)) at
+    ∙ cell_from (a + 1) k xs c e
+
+-- the cells of a block go back to those at reset, which stand one after the other
+refilled : (d : Endpoint) (a : ℕ) (cs : List Cell) (n : ℕ) (xs : File) → places_of xs ≡ places_of (cells_from (config a) cs)
+    → ((k : ℕ) (c : Cell) → slice_get cs k ≡ Some c → cell_at (endpoint_reset d false) (block n (a + k)) ≡ c)
+    → after_reset d (in_region n xs) ≡ in_region n (cells_from (config a) cs)
+refilled d a [] n [] e h = refl
+refilled d a [] n (x ∷ xs) e h = absurd (cc)
+refilled d a (c ∷ cs) n [] e h = absurd (cc)
+refilled d a (c ∷ cs) n (x ∷ xs) e h =
+    let here : x.place ≡ config a = cc in
+    let rest : places_of xs ≡ places_of (cells_from (config (a + 1)) cs) = cc in
+    let at : a + 0 ≡ a = omega arith in
+    let first : cell_at (endpoint_reset d false) (block n a) ≡ c = ap (λ k. cell_at (endpoint_reset d false) (block n k)) (sym at) ∙ h 0 c refl in
+    let there : (k : ℕ) → a + 1 + k ≡ a + suc k = λ k. omega arith in
+    ap₂ (λ (y : Entry) (ys : File). y ∷ ys)
+    (ap (λ p. record { place = block n (offset_of p); cell = cell_at (endpoint_reset d false) (block n (offset_of p)) }) here ∙ ap (λ y. record { place = block n a; cell = y }) first)
+    (refilled d (a + 1) cs n xs rest (λ k y g. ap (λ j. cell_at (endpoint_reset d false) (block n j)) (there k) ∙ h (suc k) y g))
+
+after_at : (blocks : List CellFile) (n : ℕ) → block_at (blocks_after blocks) n ≡ block_at_reset blocks n
+after_at [] n = refl
+after_at (f ∷ fs) zero = refl
+after_at (f ∷ fs) (suc n) = after_at fs n
+
+again_at : (blocks : List CellFile) (n : ℕ) → block_at_reset (blocks_after blocks) n ≡ block_at_reset blocks n
+again_at [] n = refl
+again_at (f ∷ fs) zero = refl
+again_at (f ∷ fs) (suc n) = again_at fs n
+
+-- ---- configuration cells
+
+not_true : (b : Bool) → (b ≡ true → ⊥) → b ≡ false
+not_true true h = absurd (h refl)
+not_true false h = refl
+
+none_between : (q : ℕ) → (q < 0x10) ⊎ (0x28 ≤ q) → (nat_le 0x10 q && nat_lt q 0x28) ≡ false
+none_between q h = not_true _ (λ t. elim h [ inl a ↦ grind (arith, nat_tests) | inr a ↦ grind (arith, nat_tests) ])
+
+not_command : (q : ℕ) → q ≢ 4 → q ≢ 5 → (nat_le 4 q && nat_le q 5) ≡ false
+not_command q h k = not_true _ (λ t. grind (arith, nat_tests))
+
+not_own : (q : ℕ) → q ≢ 4 → q ≢ 5 → q ≢ 0x0e → (q < 0x10) ⊎ (0x28 ≤ q) → is_own (config q) ≡ false
+not_own q a b c h = rw (ne_eqb q 4 a, ne_eqb q 5 b, ne_eqb q 0x0e c) (none_between q h)
+
+same_or_other : (x y : ℕ) → (x ≡ y) ⊎ (x ≢ y)
+same_or_other x y = grind arith
+
+base_or_other : (q : ℕ) → ((0x10 ≤ q) × (q < 0x28)) ⊎ ((q < 0x10) ⊎ (0x28 ≤ q))
+base_or_other q = grind arith
+
+no_entries : (xs : File) → places_of xs ≡ [] → xs ≡ []
+no_entries [] h = refl
+no_entries (x ∷ xs) h = absurd (cc)
+
+module _ (d : Endpoint) (cells : CellFile) (bars : List BaseAddress) (blocks : List CellFile) (parts : AreParts d cells.now bars (block_at blocks)) (know : KnowReset d cells blocks) where
+  abbrev later : List CellFile
+  later = blocks_after blocks
+
+  filled : (n : ℕ) → n < 6 → block_at later n ≡ declared_block d.regions n
+  filled n l = after_at blocks n ∙ know.block_cells n l
+
+  six : length later ≡ 6
+  six = length-map blocks (λ (f : CellFile). record f { now = f.initial }) ∙ know.six
+
+  whole : config_reset d false ++ region_parts (map closed d.regions) (block_at later) ≡ endpoint_reset d false
+  whole = file_new d know.lawful later six filled false (config_reset d false) (map closed d.regions) refl refl
+
+  at_reset : AreParts d (config_reset d false) (map closed d.regions) (block_at later)
+  at_reset = parts_new d know.lawful later six filled false (config_reset d false) (map closed d.regions) refl refl
+
+  at_block : (n q : ℕ) → cell_at (endpoint_reset d false) (block n q) ≡ cell_at (block_at later n) (config q)
+  at_block n q = ap (λ (xs : File). cell_at xs (block n q)) (sym whole) ∙ cell_of_block d (config_reset d false) (map closed d.regions) (block_at later) at_reset n q
+
+  at_config : (q : ℕ) → (q < 0x10) ⊎ (0x28 ≤ q) → cell_at (endpoint_reset d false) (config q) ≡ cell_at (config_reset d false) (config q)
+  at_config q away = ap (λ (xs : File). cell_at xs (config q)) (sym whole) ∙ cell_of_config d (config_reset d false) (map closed d.regions) (block_at later) at_reset q away
+
+  -- ---- blocks
+
+  abbrev cells_declared : Option Region → List Cell
+  cells_declared o = option_map_or (λ (r : Region). r.cells) o []
+
+  in_order : (o : Option Region) → option_map_or (λ (r : Region). cells_from (config 0) r.cells) o [] ≡ cells_from (config 0) (cells_declared o)
+  in_order None = refl
+  in_order (Some r) = refl
+
+  block_back : (n : ℕ) → after_reset d (in_region n (block_at blocks n)) ≡ in_region n (block_at later n)
+  block_back n = by_size (sides n 6)
+    where
+      sides : (x y : ℕ) → (x < y) ⊎ (y ≤ x)
+      sides x y = grind arith
+
+      declared : n < 6 → block_at later n ≡ cells_from (config 0) (cells_declared (region_at d.regions n))
+      declared l = filled n l ∙ in_order (region_at d.regions n)
+
+      by_size : (n < 6) ⊎ (6 ≤ n) → after_reset d (in_region n (block_at blocks n)) ≡ in_region n (block_at later n)
+      by_size (inl l) =
+          refilled d 0 (cells_declared (region_at d.regions n)) n (block_at blocks n) (know.block_places n ∙ ap places_of (sym (after_at blocks n) ∙ declared l))
+          (λ k c e. at_block n (0 + k) ∙ ap (λ (xs : File). cell_at xs (config (0 + k))) (declared l) ∙ cell_from 0 k (cells_declared (region_at d.regions n)) c e)
+          ∙ ap (in_region n) (sym (declared l))
+      by_size (inr l) =
+          let none : block_at blocks n ≡ [] = no_block blocks n (let s = know.six in omega (arith, s, l)) in
+          let none_later : block_at later n ≡ [] = no_block later n (let s = six in omega (arith, s, l)) in
+          ap (λ (xs : File). after_reset d (in_region n xs)) none ∙ sym (ap (in_region n) none_later)
+
+  bases_back : (bs : List BaseAddress) → Each IsLawfulRegion (map opened bs) → after_reset d (region_parts bs (block_at blocks)) ≡ region_parts bs (block_at later)
+  bases_back [] l = refl
+  bases_back (b ∷ bs) l =
+      let within = l.0.registers in
+      after_joined d (register_cells b ++ in_region b.index (block_at blocks b.index)) (region_parts bs (block_at blocks))
+      ∙ ap₂ (λ (xs ys : File). xs ++ ys)
+      (after_joined d (register_cells b) (in_region b.index (block_at blocks b.index))
+      ∙ ap₂ (λ (xs ys : File). xs ++ ys)
+      (base_stays d (4 * registers_of b.kind) (0x10 + 4 * b.index) (b.base + type_bits b.kind) (2 ^ base_width b.kind - b.size) 0 (omega arith) (omega (arith, within)))
+      (block_back b.index))
+      (bases_back bs l.1)
+
+  -- ---- configuration cells
+
+  abbrev entry : ℕ → Cell → Entry
+  entry q c = record { place = config q; cell = c }
+
+  entry_back : (p : Place) (c : Cell) → IsConfig p → ((q : ℕ) → (0x10 ≤ q) × (q < 0x28) → place_eq p (config q) ≡ false) → IsHeaderKept cells.initial (record { place = p; cell = c })
+      → reset_entry 4 5 cells.initial (record { place = p; cell = c }) ≡ entry_after d (record { place = p; cell = c })
+  entry_back (block n q) c h none header = absurd (h)
+  entry_back (config q) c h none header = by_base (base_or_other q)
+    where
+      kept : is_between 4 5 (config q) ≡ true → is_own (config q) ≡ true → reset_entry 4 5 cells.initial (entry q c) ≡ entry_after d (entry q c)
+      kept a b =
+          ap (λ (t : Bool). cond t (entry q c) (record (entry q c) { cell = cell_at cells.initial (config q) })) a
+          ∙ sym (ap (λ (t : Bool). cond t (entry q c) (record (entry q c) { cell = cell_at (endpoint_reset d false) (config q) })) b)
+
+      header_back : q ≡ 0x0e → reset_entry 4 5 cells.initial (entry q c) ≡ entry_after d (entry q c)
+      header_back at =
+          let same = header (ap (λ k. k == 0x0e) at) in
+          ap (λ (t : Bool). cond t (entry q c) (record (entry q c) { cell = cell_at cells.initial (config q) })) (ap (λ k. nat_le 4 k && nat_le k 5) at)
+          ∙ ap (λ (x : Cell). record { place = config q; cell = x }) (ap (λ k. cell_at cells.initial (config k)) at ∙ sym same.0)
+          ∙ sym (ap (λ (t : Bool). cond t (entry q c) (record (entry q c) { cell = cell_at (endpoint_reset d false) (config q) })) (ap (λ k. is_own (config k)) at))
+
+      all_others : q ≢ 4 → q ≢ 5 → q ≢ 0x0e → (q < 0x10) ⊎ (0x28 ≤ q) → reset_entry 4 5 cells.initial (entry q c) ≡ entry_after d (entry q c)
+      all_others a b h away =
+          let own = not_own q a b h away in
+          ap (λ (t : Bool). cond t (entry q c) (record (entry q c) { cell = cell_at cells.initial (config q) })) (not_command q a b)
+          ∙ ap (λ (x : Cell). record { place = config q; cell = x }) (know.declared (config q) own ∙ sym (at_config q away))
+          ∙ sym (ap (λ (t : Bool). cond t (entry q c) (record (entry q c) { cell = cell_at (endpoint_reset d false) (config q) })) own)
+
+      by_header : q ≢ 4 → q ≢ 5 → (q < 0x10) ⊎ (0x28 ≤ q) → (q ≡ 0x0e) ⊎ (q ≢ 0x0e) → reset_entry 4 5 cells.initial (entry q c) ≡ entry_after d (entry q c)
+      by_header a b away (inl at) = header_back at
+      by_header a b away (inr h) = all_others a b h away
+
+      by_upper : q ≢ 4 → (q < 0x10) ⊎ (0x28 ≤ q) → (q ≡ 5) ⊎ (q ≢ 5) → reset_entry 4 5 cells.initial (entry q c) ≡ entry_after d (entry q c)
+      by_upper a away (inl at) = kept (ap (λ k. nat_le 4 k && nat_le k 5) at) (ap (λ k. is_own (config k)) at)
+      by_upper a away (inr b) = by_header a b away (same_or_other q 0x0e)
+
+      by_lower : (q < 0x10) ⊎ (0x28 ≤ q) → (q ≡ 4) ⊎ (q ≢ 4) → reset_entry 4 5 cells.initial (entry q c) ≡ entry_after d (entry q c)
+      by_lower away (inl at) = kept (ap (λ k. nat_le 4 k && nat_le k 5) at) (ap (λ k. is_own (config k)) at)
+      by_lower away (inr a) = by_upper a away (same_or_other q 5)
+
+      by_base : ((0x10 ≤ q) × (q < 0x28)) ⊎ ((q < 0x10) ⊎ (0x28 ≤ q)) → reset_entry 4 5 cells.initial (entry q c) ≡ entry_after d (entry q c)
+      by_base (inl base) = let other : (q == q) ≡ false = none q base in let same = eq-eqb q q refl in absurd (cc)
+      by_base (inr away) = by_lower away (same_or_other q 4)
+
+  config_back : (xs : File) → IsConfigFile xs → ((q : ℕ) → (0x10 ≤ q) × (q < 0x28) → has_place xs (config q) ≡ false) → Each (IsHeaderKept cells.initial) xs
+      → reset_outside 4 5 cells.initial xs ≡ after_reset d xs
+  config_back [] h none header = refl
+  config_back (x ∷ xs) h none header =
+      ap₂ (λ (y : Entry) (ys : File). y ∷ ys)
+      (entry_back x.place x.cell h.0 (λ q l. first (place_eq x.place (config q)) (has_place xs (config q)) (none q l)) header.0)
+      (config_back xs h.1 (λ q l. second (place_eq x.place (config q)) (has_place xs (config q)) (none q l)) header.1)
+    where
+      first : (s t : Bool) → (s || t) ≡ false → s ≡ false
+      first true t h = h
+      first false t h = refl
+
+      second : (s t : Bool) → (s || t) ≡ false → t ≡ false
+      second true t h = absurd (cc)
+      second false t h = h
+
+  -- the file of an endpoint that was reset
+  pub file_back : (xs : File) → xs ≡ reset_outside 4 5 cells.initial cells.now → (bs : List CellFile) → bs ≡ blocks_after blocks
+      → xs ++ region_parts bars (block_at bs) ≡ after_reset d (cells.now ++ region_parts bars (block_at blocks))
+  file_back xs is bs are =
+      ap₂ (λ (ys : File) (fs : List CellFile). ys ++ region_parts bars (block_at fs)) is are
+      ∙ ap₂ (λ (ys zs : File). ys ++ zs)
+      (config_back cells.now parts.config_places (λ q l. parts.config_within q (inl l)) know.header)
+      (sym (bases_back bars (lawful_bars d cells.now bars (block_at blocks) parts).each))
+      ∙ sym (after_joined d cells.now (region_parts bars (block_at blocks)))
+
+  -- ---- what its parts keep
+
+  place_stays : (e : Entry) → (reset_entry 4 5 cells.initial e).place ≡ e.place
+  place_stays e = by_place (is_between 4 5 e.place)
+    where
+      by_place : (t : Bool) → (cond t e (record e { cell = cell_at cells.initial e.place })).place ≡ e.place
+      by_place true = refl
+      by_place false = refl
+
+  same_places : (xs : File) (p : Place) → has_place (reset_outside 4 5 cells.initial xs) p ≡ has_place xs p
+  same_places [] p = refl
+  same_places (x ∷ xs) p = ap₂ (λ (q : Place) (t : Bool). place_eq q p || t) (place_stays x) (same_places xs p)
+
+  pub parts_back : (xs : File) → IsConfigFile xs → xs ≡ reset_outside 4 5 cells.initial cells.now → (bs : List CellFile) → bs ≡ blocks_after blocks → AreParts d xs bars (block_at bs)
+  parts_back xs places is bs are = subst (λ (fs : List CellFile). AreParts d xs bars (block_at fs)) (sym are) (record {
+    lawful = parts.lawful;
+    registers = parts.registers;
+    config_places = places;
+    config_within = λ q l. ap (λ (ys : File). has_place ys (config q)) is ∙ same_places cells.now (config q) ∙ parts.config_within q l;
+    block_places = at_reset.block_places;
+    block_within = at_reset.block_within;
+    unused = λ n u. no_entries (block_at later n) (ap places_of (after_at blocks n) ∙ sym (know.block_places n) ∙ ap places_of (parts.unused n u));
+  })
+
+  header_stays : (p : Place) (c : Cell) → IsHeaderKept cells.initial (record { place = p; cell = c }) → IsHeaderKept cells.initial (reset_entry 4 5 cells.initial (record { place = p; cell = c }))
+  header_stays (block n q) c h = λ e. absurd (cc)
+  header_stays (config q) c h = by_place (nat_le 4 q && nat_le q 5)
+    where
+      by_place : (t : Bool) → IsHeaderKept cells.initial (cond t (record { place = config q; cell = c }) (record { place = config q; cell = cell_at cells.initial (config q) }))
+      by_place true = h
+      by_place false = λ e.
+          let at : cell_at cells.initial (config q) ≡ cell_at cells.initial (config 0x0e) = ap (λ k. cell_at cells.initial (config k)) (eqb-true q 0x0e e) in
+          let k = h e in
+          (at, subst IsConstant (k.0 ∙ sym at) k.1)
+
+  headers_stay : (xs : File) → Each (IsHeaderKept cells.initial) xs → Each (IsHeaderKept cells.initial) (reset_outside 4 5 cells.initial xs)
+  headers_stay [] h = tt
+  headers_stay (x ∷ xs) h = (header_stays x.place x.cell h.0, headers_stay xs h.1)
+
+  pub know_back : (f : CellFile) → f ≡ record cells { now = reset_outside 4 5 cells.initial cells.now } → (bs : List CellFile) → bs ≡ blocks_after blocks → KnowReset d f bs
+  know_back f is bs are = subst (λ (g : CellFile). KnowReset d g bs) (sym is) (subst (λ (fs : List CellFile). KnowReset d (record cells { now = reset_outside 4 5 cells.initial cells.now }) fs) (sym are) (record {
+    lawful = know.lawful;
+    header = headers_stay cells.now know.header;
+    declared = know.declared;
+    six = six;
+    block_cells = λ n l. again_at blocks n ∙ know.block_cells n l;
+    block_places = λ n. ap places_of (after_at blocks n ∙ sym (again_at blocks n));
+  }))

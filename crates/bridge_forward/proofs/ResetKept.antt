@@ -1,0 +1,196 @@
+-- What an endpoint knows of its cells at reset: at the beginning, and after each change.
+use Rattle.std.proofs.Common.{◌≡◌, ◌≢◌, ℕ, zero, suc, ◌+◌, ◌-◌, ◌/◌, ◌%◌, ◌<◌, ◌≤◌, ◌⊎◌, inl, inr, Bool, true, false, ◌||◌, cond, Some, None, List, [], ◌∷◌, ◌++◌, length, refl, ap, ap₂, sym, ◌∙◌, subst, arith, get_or}
+use Rattle.std.specs.Prelude.{flat_map, bit_and, bit_or, ◌==◌}
+use Rattle.std.specs.Int.Bits.{and_zero_l, and_zero_r, or_zero_r}
+use Rattle.std.specs.List.{slice_get, slice_set}
+use Rattle.std.specs.Option.{option_map_or}
+use Rattle.std.proofs.lemmas.Bool.{ne_eqb}
+use Rattle.std.proofs.lemmas.List.{length-set}
+use Rattle.model_registers.specs.Lists.{Each}
+use Rattle.model_registers.specs.Cell.{Cell, written, raised}
+use Rattle.model_registers.specs.Registers.{Place, config, block, after, place_eq, Entry, File, cell_at, changed, write, field, cells_from}
+use Rattle.model_registers.specs.FileLaws.{has_place}
+use Rattle.model_registers.specs.Declarations.{ConfigBlock, Endpoint}
+use Rattle.model_registers.specs.DeclarationRules.{IsConfigBlock, IsLawfulEndpoint}
+use Rattle.model_registers.specs.EndpointTable.{block_cells, header_type, header_cells, config_reset}
+use Rattle.model_registers.specs.OwnCopies.{is_own}
+use Rattle.config_bytes.specs.CellFile.{CellFile, places_of}
+use Rattle.bridge_forward.specs.EndpointParts.{block_at, block_at_reset, declared_block, IsConstant, IsHeaderKept, KnowReset, as_made}
+use Rattle.bridge_forward.proofs.Indices.{read_at}
+use Rattle.bridge_forward.proofs.EndpointAccess.{get_set, get_other, block_there, block_set, other_blocks}
+use Rattle.bridge_forward.proofs.Nth.{past_end}
+use Rattle.bridge_forward.proofs.EndpointReset.{none_field, none_cells}
+
+-- ---- the header type stays
+
+constant_written : (b : ℕ) (c : Cell) → IsConstant c → written b c ≡ c
+constant_written b c h =
+    let kept : bit_and (bit_and c.value (255 - c.writable)) (255 - c.clearable) ≡ c.value =
+    ap₂ (λ w k. bit_and (bit_and c.value (255 - w)) (255 - k)) h.1 h.2 ∙ ap (λ n. bit_and n 255) h.0 ∙ h.0 in
+    let taken : bit_and b c.writable ≡ 0 = ap (bit_and b) h.1 ∙ and_zero_r b in
+    let fallen : bit_and (bit_and c.value c.clearable) (255 - b) ≡ 0 =
+    ap (λ k. bit_and (bit_and c.value k) (255 - b)) h.2 ∙ ap (λ n. bit_and n (255 - b)) (and_zero_r c.value) ∙ and_zero_l (255 - b) in
+    ap (λ n. record c { value = n }) (ap₂ bit_or (ap₂ bit_or kept taken) fallen ∙ or_zero_r (bit_or c.value 0) ∙ or_zero_r c.value)
+
+pub constant_raised : (m : ℕ) (c : Cell) → IsConstant c → raised m c ≡ c
+constant_raised m c h = ap (λ n. record c { value = n }) (ap (λ k. bit_or c.value (bit_and m k)) h.2 ∙ ap (bit_or c.value) (and_zero_r m) ∙ or_zero_r c.value)
+
+pub header_changed : (f : Cell → Cell) → ((c : Cell) → IsConstant c → f c ≡ c) → (initial : File) (p : Place) (xs : File) → Each (IsHeaderKept initial) xs → Each (IsHeaderKept initial) (changed f p xs)
+header_changed f stays initial p [] h = tt
+header_changed f stays initial p (x ∷ xs) h = (by_place (place_eq x.place p), header_changed f stays initial p xs h.1)
+  where
+    by_place : (t : Bool) → IsHeaderKept initial (cond t (record x { cell = f x.cell }) x)
+    by_place true = λ e. let k = h.0 e in let same = stays x.cell k.1 in (same ∙ k.0, subst IsConstant (sym same) k.1)
+    by_place false = h.0
+
+pub header_written : (initial : File) (ons : List Bool) (v : ℕ) (p : Place) (xs : File) → Each (IsHeaderKept initial) xs → Each (IsHeaderKept initial) (write ons v p xs)
+header_written initial [] v p xs h = h
+header_written initial (true ∷ ons) v p xs h =
+    header_written initial ons (v / 256) (after p) (changed (written (v % 256)) p xs) (header_changed (written (v % 256)) (constant_written (v % 256)) initial p xs h)
+header_written initial (false ∷ ons) v p xs h = header_written initial ons (v / 256) (after p) xs h
+
+-- ---- places stay
+
+pub places_changed : (f : Cell → Cell) (p : Place) (xs : File) → places_of (changed f p xs) ≡ places_of xs
+places_changed f p [] = refl
+places_changed f p (x ∷ xs) = ap₂ (λ (q : Place) (qs : List Place). q ∷ qs) (by_place (place_eq x.place p)) (places_changed f p xs)
+  where
+    by_place : (t : Bool) → (cond t (record x { cell = f x.cell }) x).place ≡ x.place
+    by_place true = refl
+    by_place false = refl
+
+pub places_written : (ons : List Bool) (v : ℕ) (p : Place) (xs : File) → places_of (write ons v p xs) ≡ places_of xs
+places_written [] v p xs = refl
+places_written (true ∷ ons) v p xs = places_written ons (v / 256) (after p) (changed (written (v % 256)) p xs) ∙ places_changed (written (v % 256)) p xs
+places_written (false ∷ ons) v p xs = places_written ons (v / 256) (after p) xs
+
+-- ---- changes
+
+-- other configuration cells, of the same cells at reset
+pub know_config : (d : Endpoint) (cells later : CellFile) (blocks : List CellFile) → KnowReset d cells blocks → later.initial ≡ cells.initial → Each (IsHeaderKept cells.initial) later.now → KnowReset d later blocks
+know_config d cells later blocks know same header = record {
+  lawful = know.lawful;
+  header = subst (λ (xs : File). Each (IsHeaderKept xs) later.now) (sym same) header;
+  declared = λ p h. ap (λ (xs : File). cell_at xs p) same ∙ know.declared p h;
+  six = know.six;
+  block_cells = know.block_cells;
+  block_places = know.block_places;
+}
+
+reset_there : (blocks : List CellFile) (n : ℕ) (f : CellFile) → n < length blocks → f ≡ get_or blocks n f → block_at_reset blocks n ≡ f.initial
+reset_there blocks n f l e = ap (λ o. option_map_or (λ (x : CellFile). x.initial) o []) (read_at blocks n f l e)
+
+-- another block, of the same cells at reset and at the same places
+pub know_block : (d : Endpoint) (cells : CellFile) (blocks : List CellFile) → KnowReset d cells blocks → (n : ℕ) (f : CellFile) → n < length blocks → f ≡ get_or blocks n f
+    → (k : CellFile) → k.initial ≡ f.initial → places_of k.now ≡ places_of f.now → KnowReset d cells (slice_set blocks n k)
+know_block d cells blocks know n f l there k same places = record {
+  lawful = know.lawful;
+  header = know.header;
+  declared = know.declared;
+  six = length-set blocks n k ∙ know.six;
+  block_cells = λ m h. at_reset m (same_or_other m n) ∙ know.block_cells m h;
+  block_places = λ m. at_places m (same_or_other m n) ∙ know.block_places m ∙ ap places_of (sym (at_reset m (same_or_other m n)));
+}
+  where
+    same_or_other : (x y : ℕ) → (x ≡ y) ⊎ (x ≢ y)
+    same_or_other x y = grind arith
+
+    at_reset : (m : ℕ) → (m ≡ n) ⊎ (m ≢ n) → block_at_reset (slice_set blocks n k) m ≡ block_at_reset blocks m
+    at_reset m (inl e) =
+        ap (block_at_reset (slice_set blocks n k)) e
+        ∙ ap (λ o. option_map_or (λ (x : CellFile). x.initial) o []) (get_set blocks n k l) ∙ same ∙ sym (reset_there blocks n f l there) ∙ ap (block_at_reset blocks) (sym e)
+    at_reset m (inr e) = ap (λ o. option_map_or (λ (x : CellFile). x.initial) o []) (get_other blocks n m k e)
+
+    at_places : (m : ℕ) → (m ≡ n) ⊎ (m ≢ n) → places_of (block_at (slice_set blocks n k) m) ≡ places_of (block_at blocks m)
+    at_places m (inl e) =
+        ap (λ j. places_of (block_at (slice_set blocks n k) j)) e
+        ∙ ap places_of (block_set blocks n k l) ∙ places ∙ ap places_of (sym (block_there blocks n f l there)) ∙ ap (λ j. places_of (block_at blocks j)) (sym e)
+    at_places m (inr e) = ap places_of (other_blocks blocks n m k e)
+
+-- ---- at the beginning
+
+each_join : {A : Type 0} (P : A → Type 0) (xs ys : List A) → Each P xs → Each P ys → Each P (xs ++ ys)
+each_join P [] ys h k = k
+each_join P (x ∷ xs) ys h k = (h.0, each_join P xs ys h.1 k)
+
+no_header : (initial xs : File) → has_place xs (config 0x0e) ≡ false → Each (IsHeaderKept initial) xs
+no_header initial [] h = tt
+no_header initial (x ∷ xs) h = by_first (place_eq x.place (config 0x0e)) refl h (no_header initial xs)
+  where
+    by_first : (t : Bool) → place_eq x.place (config 0x0e) ≡ t → (t || has_place xs (config 0x0e)) ≡ false → (has_place xs (config 0x0e) ≡ false → Each (IsHeaderKept initial) xs) → Each (IsHeaderKept initial) (x ∷ xs)
+    by_first true e k rest = absurd (cc)
+    by_first false e k rest = (λ z. absurd (cc), rest k)
+
+record IsKept (initial xs : File) : Type 0 where
+  each : Each (IsHeaderKept initial) xs
+
+join : {initial xs ys : File} → IsKept initial xs → IsKept initial ys → IsKept initial (xs ++ ys)
+join {initial} {xs} {ys} h k = record { each = each_join (IsHeaderKept initial) xs ys h.each k.each }
+
+below : (initial : File) (a w v m c : ℕ) → a + w ≤ 0x0e → IsKept initial (field (config a) w v m c)
+below initial a w v m c l = record { each = no_header initial (field (config a) w v m c) (none_field 0x0e w a v m c (inr l)) }
+
+above : (initial : File) (a w v m c : ℕ) → 0x0f ≤ a → IsKept initial (field (config a) w v m c)
+above initial a w v m c l = record { each = no_header initial (field (config a) w v m c) (none_field 0x0e w a v m c (inl l)) }
+
+kept_blocks : (initial : File) (bs : List ConfigBlock) → Each IsConfigBlock bs → Each (IsHeaderKept initial) (flat_map block_cells bs)
+kept_blocks initial [] h = tt
+kept_blocks initial (b ∷ bs) h =
+    let begins = h.0.begins in
+    each_join (IsHeaderKept initial) (block_cells b) (flat_map block_cells bs)
+    (no_header initial (block_cells b) (none_cells 0x0e b.offset b.cells (inl (omega (arith, begins)))))
+    (kept_blocks initial bs h.1)
+
+own_header : (d : Endpoint) (multifunction : Bool) → IsKept (config_reset d multifunction) (field (config 0x0e) 1 (header_type 0 multifunction) 0 0)
+own_header d multifunction = record { each = (λ _. (refl, (fits multifunction, refl, refl)), tt) }
+  where
+    fits : (b : Bool) → bit_and (header_type 0 b % 256) 255 ≡ header_type 0 b % 256
+    fits true = refl
+    fits false = refl
+
+header_new : (d : Endpoint) (multifunction : Bool) → Each IsConfigBlock d.blocks → Each (IsHeaderKept (config_reset d multifunction)) (config_reset d multifunction)
+header_new d multifunction lawful = (join fields (record { each = kept_blocks (config_reset d multifunction) d.blocks lawful })).each
+  where
+    fields : IsKept (config_reset d multifunction) (header_cells d multifunction 0)
+    fields =
+        let at = config_reset d multifunction in
+        join (join (join (join (join (join (join (join (join (join (join (join (join
+        (below at 0x00 2 d.vendor 0 0 (omega arith)) (below at 0x02 2 d.device 0 0 (omega arith)))
+        (below at 0x04 2 0 0x0547 0 (omega arith))) (below at 0x06 2 d.status 0 0xf900 (omega arith)))
+        (below at 0x08 1 d.revision 0 0 (omega arith))) (below at 0x09 3 d.class 0 0 (omega arith)))
+        (below at 0x0c 2 0 0xffff 0 (omega arith))) (own_header d multifunction))
+        (above at 0x2c 2 d.subvendor 0 0 (omega arith))) (above at 0x2e 2 d.subsystem 0 0 (omega arith)))
+        (above at 0x3c 1 0 0xff 0 (omega arith))) (above at 0x3d 1 d.pin 0 0 (omega arith)))
+        (above at 0x3e 1 d.min_gnt 0 0 (omega arith))) (above at 0x3f 1 d.max_lat 0 0 (omega arith))
+
+-- the header type alone tells whether the device holds other functions
+same_cells : (d : Endpoint) (multifunction : Bool) (p : Place) → is_own p ≡ false → cell_at (config_reset d multifunction) p ≡ cell_at (config_reset d false) p
+same_cells d false p h = refl
+same_cells d true (block n q) h = refl
+same_cells d true (config q) h = rw (ne_eqb 0x0e q other) refl
+  where
+    other : 0x0e ≢ q
+    other e = let own : is_own (config q) ≡ true = ap (λ k. is_own (config k)) (sym e) in absurd (cc)
+
+pub know_new : (d : Endpoint) → IsLawfulEndpoint d → (multifunction : Bool) (cells : CellFile) → cells ≡ as_made (config_reset d multifunction)
+    → (blocks : List CellFile) → length blocks ≡ 6 → ((n : ℕ) → n < 6 → slice_get blocks n ≡ Some (as_made (declared_block d.regions n))) → KnowReset d cells blocks
+know_new d lawful multifunction cells made blocks six filled = subst (λ (f : CellFile). KnowReset d f blocks) (sym made) (record {
+  lawful = lawful;
+  header = header_new d multifunction lawful.config_blocks;
+  declared = same_cells d multifunction;
+  six = six;
+  block_cells = λ n l. ap (λ o. option_map_or (λ (x : CellFile). x.initial) o []) (filled n l);
+  block_places = λ n. places n (sides n);
+})
+  where
+    sides : (n : ℕ) → (n < 6) ⊎ (6 ≤ n)
+    sides n = grind arith
+
+    past : (n : ℕ) → 6 ≤ n → slice_get blocks n ≡ None
+    past n l = past_end blocks n (omega (arith, six, l))
+
+    places : (n : ℕ) → (n < 6) ⊎ (6 ≤ n) → places_of (block_at blocks n) ≡ places_of (block_at_reset blocks n)
+    places n (inl l) =
+        ap (λ o. places_of (option_map_or (λ (x : CellFile). x.now) o [])) (filled n l) ∙ sym (ap (λ o. places_of (option_map_or (λ (x : CellFile). x.initial) o [])) (filled n l))
+    places n (inr l) =
+        ap (λ o. places_of (option_map_or (λ (x : CellFile). x.now) o [])) (past n l) ∙ sym (ap (λ o. places_of (option_map_or (λ (x : CellFile). x.initial) o [])) (past n l))
