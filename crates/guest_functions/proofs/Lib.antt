@@ -1,2 +1,5 @@
 pub mod Copies
 pub mod HandedOn
+pub mod CopiedFiles
+pub mod HeldCopies
+pub mod ResetCopies

@@ -1,1 +1,4 @@
 pub mod Words
+pub mod Latches
+pub mod CopiedFiles
+pub mod CopyLaws

@@ -10,7 +10,7 @@ ghost use Rattle.model_registers.specs.Decoding.{Function, lone_claim};
 ghost use Rattle.model_registers.specs.OwnCopies.{is_own, own_file, HoldsOwn, handed_on, bare};
 ghost use Rattle.bars.specs.Kinds.{named_space};
 ghost use Rattle.bars.specs.Hits.{named_hit};
-ghost use Rattle.bars.specs.Resets.{at_reset};
+ghost use Rattle.bars.specs.Resets.{at_reset, with_no_base};
 
 use crate::word::Word;
 use bars::{BarDecl, Bars, Space, enabled_bits};
@@ -108,5 +108,15 @@ impl VirtualFunction {
         ensures { (f : Function) → HoldsOwn f.file self.now → map bare f.decl.regions ≡ map opened self.now.bases → named_hit result ≡ lone_claim f (named_space space) addr }
     {
         self.bars.decode(space, addr, self.command)
+    }
+
+    /// Sets all own copies back to what they are at reset.
+    pub fn reset(&mut self)
+        ensures copies { self.new ≡ record { command = 0; bases = map with_no_base self.old.bases } }
+        ensures regions { map opened self.new.bases ≡ map opened self.old.bases }
+        ensures reset { (d : Endpoint) → Each (λ b. 0x40 ≤ b.offset) d.blocks → map bare d.regions ≡ map opened self.old.bases → HoldsOwn (endpoint_reset d false) self.new }
+    {
+        self.command = 0;
+        self.bars.reset();
     }
 }

@@ -1,0 +1,26 @@
+-- A guest's address latch, in the program's words: PCI Local Bus 3.0, chapter 3.2.2.3.2.
+--     select_at latch a      what port a is by the latch: an ordinary one, or CONFIG_DATA of no function or of a slot
+--     IsSelectAt a s      a slot is one of 32, and the offset in it has the byte lane of the port
+use Rattle.std.specs.Prelude.{◌≡◌, ◌<◌, ⊤, ℕ, ◌%◌, ◌&&◌, ◌==◌, if◌then◌else◌, not}
+use Rattle.model_registers.specs.ConfigAddress.{
+  is_enabled,
+  selected_bus,
+  selected_device,
+  selected_function,
+  is_data_port,
+  selected_offset,
+}
+use Rattle.guest_functions.specs.declared.latch.Select.{Select}
+use Rattle.guest_functions.specs.declared.latch.Select.TheVariants.{Ordinary, Nowhere, Slot}
+
+-- a guest sees its slots as the devices of bus 0, each with function 0 alone
+abbrev pub select_at : ℕ → ℕ → Select
+select_at latch a =
+    if not (is_enabled latch && is_data_port a) then Ordinary
+    else (if selected_bus latch == 0 && selected_function latch == 0
+    then Slot (selected_device latch) (selected_offset latch a) else Nowhere)
+
+abbrev pub IsSelectAt : ℕ → Select → Type 0
+IsSelectAt a Ordinary = ⊤
+IsSelectAt a Nowhere = ⊤
+IsSelectAt a (Slot n off) = (n < 32) × (off % 4 ≡ a % 4)
