@@ -26,7 +26,7 @@ use Rattle.model_board.proofs.Items.{some_end, end_below_need, items_placeable, 
 use Rattle.model_board.proofs.Nesting.{HasItems}
 use Rattle.model_board.proofs.LawfulPlacement.{pool_lawful}
 use Rattle.model_board.proofs.DeclaredRows.{has_window_row}
-use Rattle.model_board.proofs.WindowSpans.{closed_windows, windows_named}
+use Rattle.model_board.proofs.WindowReads.{closed_windows, windows_named}
 
 all_in : {A : Type 0} (p : A → Bool) (x : A) (xs : List A) → list_all p xs ≡ true → IsIn x xs → p x ≡ true
 all_in p x [] h m = absurd m
@@ -170,10 +170,10 @@ module _ (b : Board) (a : Apertures) (board : IsBoard b) (apertures : IsLawfulAp
           let same : x ≡ y = cc in
           pref_reached x ds wide d m lawful.ends (subst (λ (z : Aperture). pref_reaches z ds wide ≡ true) (sym same) h)
 
--- ---- the span of a bus
+-- ---- the window of a bus
 
 -- a bus's window is of whole units and inside the aperture
-record IsPlacedSpan (a : Apertures) (pool : Pool) (first size : ℕ) : Type 0 where
+record IsPlacedWindow (a : Apertures) (pool : Pool) (first size : ℕ) : Type 0 where
   some : 0 < size
   first_whole : first % unit_of pool ≡ 0
   size_whole : size % unit_of pool ≡ 0
@@ -183,9 +183,9 @@ inside_of : (a : Apertures) (pool : Pool) (first size : ℕ) (o : Option Apertur
 inside_of a pool first size None h = h
 inside_of a pool first size (Some x) h = h.1
 
-placed_span : (b : Board) (a : Apertures) (pool : Pool) → IsBoard b → HasLawfulDecls b → fits b a pool ≡ true → (p : Path) → 0 < length p → HasItems b a pool p
-    → IsPlacedSpan a pool (bus_first b a pool p) (need (unit_of pool) (items_on b a pool p))
-placed_span b a pool board lawful fit p long (i, m) =
+placed_here : (b : Board) (a : Apertures) (pool : Pool) → IsBoard b → HasLawfulDecls b → fits b a pool ≡ true → (p : Path) → 0 < length p → HasItems b a pool p
+    → IsPlacedWindow a pool (bus_first b a pool p) (need (unit_of pool) (items_on b a pool p))
+placed_here b a pool board lawful fit p long (i, m) =
     let there = has_window_row b a pool board lawful p long (i, m) in
     let whole : IsLawful b a (pool_rows b a pool) = pool_lawful b a pool board lawful fit in
     let aligned = each_in (λ r. IsAligned r r.what) (window_row b a pool p) (pool_rows b a pool) whole.aligned there in
@@ -203,54 +203,54 @@ io_whole first size last reach f s some h k = record { first = f; end = omega ar
 memory_whole : (first size last reach : ℕ) → first % 2 ^ 20 ≡ 0 → size % 2 ^ 20 ≡ 0 → 0 < size → first + size ≤ last + 1 → last < reach → IsWhole (2 ^ 20) reach (record { first = first; last = first + size - 1 })
 memory_whole first size last reach f s some h k = record { first = f; end = omega arith; in_order = omega arith; reached = omega arith }
 
--- registers that hold the span of a bus with these items name its window
-abbrev span_from : ℕ → ℕ → List Item → Window
-span_from first unit is = record { first = first; last = first + need unit is - 1 }
+-- registers that hold the window of a bus with these items name its window
+abbrev placed_from : ℕ → ℕ → List Item → Window
+placed_from first unit is = record { first = first; last = first + need unit is - 1 }
 
 module _ (d : Bridge) (multifunction : Bool) (r : BridgeValues) (first : ℕ) where
-  io_named : (is : List Item) → r.io ≡ window_of (2 ^ 12) 0xf first is → ((i : Item) → IsIn i is → IsWhole (2 ^ 12) (io_reach d.io) (span_from first (2 ^ 12) is)) → io_window d.io (bridge_file d multifunction r) ≡ window_over (2 ^ 12) first is
+  io_named : (is : List Item) → r.io ≡ window_of (2 ^ 12) 0xf first is → ((i : Item) → IsIn i is → IsWhole (2 ^ 12) (io_reach d.io) (placed_from first (2 ^ 12) is)) → io_window d.io (bridge_file d multifunction r) ≡ window_over (2 ^ 12) first is
   io_named [] e whole = (closed_windows d multifunction r).io e
   io_named (i ∷ is) e whole = (windows_named d multifunction r).io (subst (IsWhole (2 ^ 12) (io_reach d.io)) (sym e) (whole i (inl refl))) ∙ ap (λ s. Some s) e
 
-  mem_named : (is : List Item) → r.mem ≡ window_of (2 ^ 20) 0xfff first is → ((i : Item) → IsIn i is → IsWhole (2 ^ 20) (2 ^ 32) (span_from first (2 ^ 20) is)) → mem_window (bridge_file d multifunction r) ≡ window_over (2 ^ 20) first is
+  mem_named : (is : List Item) → r.mem ≡ window_of (2 ^ 20) 0xfff first is → ((i : Item) → IsIn i is → IsWhole (2 ^ 20) (2 ^ 32) (placed_from first (2 ^ 20) is)) → mem_window (bridge_file d multifunction r) ≡ window_over (2 ^ 20) first is
   mem_named [] e whole = (closed_windows d multifunction r).mem e
   mem_named (i ∷ is) e whole = (windows_named d multifunction r).mem (subst (IsWhole (2 ^ 20) (2 ^ 32)) (sym e) (whole i (inl refl))) ∙ ap (λ s. Some s) e
 
-  pref_named : (is : List Item) → r.pref ≡ window_of (2 ^ 20) 0xfff first is → ((i : Item) → IsIn i is → IsWhole (2 ^ 20) (pref_reach d.pref) (span_from first (2 ^ 20) is)) → pref_window d.pref (bridge_file d multifunction r) ≡ window_over (2 ^ 20) first is
+  pref_named : (is : List Item) → r.pref ≡ window_of (2 ^ 20) 0xfff first is → ((i : Item) → IsIn i is → IsWhole (2 ^ 20) (pref_reach d.pref) (placed_from first (2 ^ 20) is)) → pref_window d.pref (bridge_file d multifunction r) ≡ window_over (2 ^ 20) first is
   pref_named [] e whole = (closed_windows d multifunction r).pref e
   pref_named (i ∷ is) e whole = (windows_named d multifunction r).pref (subst (IsWhole (2 ^ 20) (pref_reach d.pref)) (sym e) (whole i (inl refl))) ∙ ap (λ s. Some s) e
 
 module _ (b : Board) (a : Apertures) (board : IsBoard b) (lawful : HasLawfulDecls b) (apertures : IsLawfulApertures a) (ways : has_io_paths b ≡ true) (fit : (pool : Pool) → IsTrue (fits b a pool)) where
   module _ (r : Row) (there : IsIn r b) (d : Bridge) (decl : r.decl ≡ bridge d) where
-    span : (pool : Pool) → HasItems b a pool r.path → IsPlacedSpan a pool (bus_first b a pool r.path) (need (unit_of pool) (items_on b a pool r.path))
-    span pool has = placed_span b a pool board lawful (fit pool) r.path (each_in (λ (x : Row). IsPath x.path) r b board.paths there).some has
+    whole : (pool : Pool) → HasItems b a pool r.path → IsPlacedWindow a pool (bus_first b a pool r.path) (need (unit_of pool) (items_on b a pool r.path))
+    whole pool has = placed_here b a pool board lawful (fit pool) r.path (each_in (λ (x : Row). IsPath x.path) r b board.paths there).some has
 
-    io_span : HasItems b a io_pool r.path → IsWhole (2 ^ 12) (io_reach d.io) (span_from (bus_first b a io_pool r.path) (2 ^ 12) (items_on b a io_pool r.path))
-    io_span has =
-        let s = span io_pool has in
+    io_placed : HasItems b a io_pool r.path → IsWhole (2 ^ 12) (io_reach d.io) (placed_from (bus_first b a io_pool r.path) (2 ^ 12) (items_on b a io_pool r.path))
+    io_placed has =
+        let s = whole io_pool has in
         io_whole (bus_first b a io_pool r.path) (need (2 ^ 12) (items_on b a io_pool r.path)) a.io.last (io_reach d.io) s.first_whole s.size_whole s.some s.inside (io_above b a board apertures r there d decl ways has)
 
-    mem_span : HasItems b a mem_pool r.path → IsWhole (2 ^ 20) (2 ^ 32) (span_from (bus_first b a mem_pool r.path) (2 ^ 20) (items_on b a mem_pool r.path))
-    mem_span has =
-        let s = span mem_pool has in
+    mem_placed : HasItems b a mem_pool r.path → IsWhole (2 ^ 20) (2 ^ 32) (placed_from (bus_first b a mem_pool r.path) (2 ^ 20) (items_on b a mem_pool r.path))
+    mem_placed has =
+        let s = whole mem_pool has in
         memory_whole (bus_first b a mem_pool r.path) (need (2 ^ 20) (items_on b a mem_pool r.path)) a.mem.last (2 ^ 32) s.first_whole s.size_whole s.some s.inside apertures.mem.ends
 
-    pref_span : HasItems b a pref_pool r.path → IsWhole (2 ^ 20) (pref_reach d.pref) (span_from (bus_first b a pref_pool r.path) (2 ^ 20) (items_on b a pref_pool r.path))
-    pref_span has = by_aperture a.pref (span pref_pool has).inside (pref_above b a board apertures r there d decl has)
+    pref_placed : HasItems b a pref_pool r.path → IsWhole (2 ^ 20) (pref_reach d.pref) (placed_from (bus_first b a pref_pool r.path) (2 ^ 20) (items_on b a pref_pool r.path))
+    pref_placed has = by_aperture a.pref (whole pref_pool has).inside (pref_above b a board apertures r there d decl has)
       where
         by_aperture : (o : Option Aperture) → MatchOption o ⊥ (λ ap. bus_first b a pref_pool r.path + need (2 ^ 20) (items_on b a pref_pool r.path) ≤ ap.last + 1) → MatchOption o ⊤ (λ ap. ap.last < pref_reach d.pref)
-            → IsWhole (2 ^ 20) (pref_reach d.pref) (span_from (bus_first b a pref_pool r.path) (2 ^ 20) (items_on b a pref_pool r.path))
+            → IsWhole (2 ^ 20) (pref_reach d.pref) (placed_from (bus_first b a pref_pool r.path) (2 ^ 20) (items_on b a pref_pool r.path))
         by_aperture None inside reach = absurd inside
         by_aperture (Some x) inside reach =
-            let s = span pref_pool has in
+            let s = whole pref_pool has in
             memory_whole (bus_first b a pref_pool r.path) (need (2 ^ 20) (items_on b a pref_pool r.path)) x.last (pref_reach d.pref) s.first_whole s.size_whole s.some inside reach
 
   windows : (r : Row) → IsIn r b → (d : Decl) → r.decl ≡ d → HasPlacedWindows b a r.path d
   windows r m (endpoint d) e = tt
   windows r m (bridge d) e = record {
-    io = io_named d (is_multifunction b r.path) (bridge_values b a r.path) (bus_first b a io_pool r.path) (items_on b a io_pool r.path) refl (λ i k. io_span r m d e (i, k));
-    mem = mem_named d (is_multifunction b r.path) (bridge_values b a r.path) (bus_first b a mem_pool r.path) (items_on b a mem_pool r.path) refl (λ i k. mem_span r m d e (i, k));
-    pref = pref_named d (is_multifunction b r.path) (bridge_values b a r.path) (bus_first b a pref_pool r.path) (items_on b a pref_pool r.path) refl (λ i k. pref_span r m d e (i, k));
+    io = io_named d (is_multifunction b r.path) (bridge_values b a r.path) (bus_first b a io_pool r.path) (items_on b a io_pool r.path) refl (λ i k. io_placed r m d e (i, k));
+    mem = mem_named d (is_multifunction b r.path) (bridge_values b a r.path) (bus_first b a mem_pool r.path) (items_on b a mem_pool r.path) refl (λ i k. mem_placed r m d e (i, k));
+    pref = pref_named d (is_multifunction b r.path) (bridge_values b a r.path) (bus_first b a pref_pool r.path) (items_on b a pref_pool r.path) refl (λ i k. pref_placed r m d e (i, k));
   }
 
 pub set_up_windows : SetUpWindows

@@ -70,8 +70,8 @@ module _ (b c : Board) (a : Apertures) (pool : Pool) (same : (bus : Path) → it
   pub bus_rows_same : (bus : Path) → bus_rows c a pool bus ≡ bus_rows b a pool bus
   bus_rows_same bus = ap₂ (λ n (is : List Item). map (row_of pool bus n) (spots is)) (bus_first_same bus) (same bus)
 
-  pub window_span_same : (closed : ℕ) (p : Path) → set_up_window c a pool closed p ≡ set_up_window b a pool closed p
-  window_span_same closed p = ap₂ (λ n (is : List Item). window_of (unit_of pool) closed n is) (bus_first_same p) (same p)
+  pub set_up_window_same : (closed : ℕ) (p : Path) → set_up_window c a pool closed p ≡ set_up_window b a pool closed p
+  set_up_window_same closed p = ap₂ (λ n (is : List Item). window_of (unit_of pool) closed n is) (bus_first_same p) (same p)
 
   pub fits_same : fits c a pool ≡ fits b a pool
   fits_same = ap (fits_items a pool) (same [])
@@ -107,9 +107,9 @@ module _ (b : Board) (a : Apertures) where
 
   windows_found : (p : Path) → windows_of (found_board b) a p ≡ windows_of b a p
   windows_found p = λ i. record {
-    io = window_span_same b (found_board b) a io_pool (on_bus io_pool) 0xf p i;
-    mem = window_span_same b (found_board b) a mem_pool (on_bus mem_pool) 0xfff p i;
-    pref = window_span_same b (found_board b) a pref_pool (on_bus pref_pool) 0xfff p i;
+    io = set_up_window_same b (found_board b) a io_pool (on_bus io_pool) 0xf p i;
+    mem = set_up_window_same b (found_board b) a mem_pool (on_bus mem_pool) 0xfff p i;
+    pref = set_up_window_same b (found_board b) a pref_pool (on_bus pref_pool) 0xfff p i;
   }
 
   any_bare : (t : Kind → Bool) (rs : List Region) → list_any (λ r. t r.kind) (map bare rs) ≡ list_any (λ r. t r.kind) rs

@@ -18,7 +18,7 @@ pub mod OnlyNamed
 pub mod Routing
 pub mod SetUpRegisters
 pub mod SetUpWindows
-pub mod WindowSpans
+pub mod WindowReads
 pub mod BoardWindows
 pub mod Partings
 pub mod PlacedApart

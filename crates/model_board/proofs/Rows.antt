@@ -13,7 +13,7 @@ use Rattle.model_board.specs.BusNumbers.{secondary, subordinate, bus_of}
 use Rattle.model_board.specs.Interrupts.{root_pin}
 use Rattle.model_board.specs.State.{BoardFunction}
 use Rattle.model_board.specs.Windows.{Window, io_window, mem_window, pref_window, forwards}
-use Rattle.model_board.specs.Windows.{window as window_of_span}
+use Rattle.model_board.specs.Windows.{window as window_between}
 use Rattle.model_board.specs.Claims.{Claim, first_claim}
 use Rattle.model_board.specs.Pools.{Pool, io_pool, mem_pool, pref_pool, Apertures, pool_of, has_io_paths}
 use Rattle.model_board.specs.Placement.{a_region, a_window, Item, in_order, fits, region_first}
@@ -275,10 +275,10 @@ last_unit = refl
 
 -- ---- what window registers name
 
-abbrev span : ℕ → ℕ → Window
-span first last = record { first = first; last = last }
+abbrev between : ℕ → ℕ → Window
+between first last = record { first = first; last = last }
 
--- a bridge with this Command, I/O span, memory span and prefetchable span
+-- a bridge with this Command, I/O, memory and prefetchable window
 abbrev set_to : Bridge → ℕ → Window → Window → Window → BoardFunction
 set_to d command x y z = record {
   path = bridge_at;
@@ -293,31 +293,31 @@ abbrev all_windows : Bridge → Window → Window → Window → List (Option Wi
 all_windows d x y z = let file = (set_to d 3 x y z).file in io_window d.io file ∷ mem_window file ∷ pref_window d.pref file ∷ []
 
 -- registers of 0 name the lowest unit, and those that are not there name nothing
-pub windows_at_reset : all_windows main_bridge (span 0 0) (span 0 0) (span 0 0) ++ all_windows memory_bridge (span 0 0) (span 0 0) (span 0 0)
+pub windows_at_reset : all_windows main_bridge (between 0 0) (between 0 0) (between 0 0) ++ all_windows memory_bridge (between 0 0) (between 0 0) (between 0 0)
     ≡ named 0 0xfff ∷ named 0 0xfffff ∷ named 0 0xfffff ∷ None ∷ named 0 0xfffff ∷ None ∷ []
 windows_at_reset = refl
 
-pub windows_named : all_windows main_bridge (span 0x1000 0x2fff) (span 0xc0000000 0xc02fffff) (span 0x400000000 0x400ffffff)
+pub windows_named : all_windows main_bridge (between 0x1000 0x2fff) (between 0xc0000000 0xc02fffff) (between 0x400000000 0x400ffffff)
     ≡ named 0x1000 0x2fff ∷ named 0xc0000000 0xc02fffff ∷ named 0x400000000 0x400ffffff ∷ []
 windows_named = refl
 
 -- upper registers count with the wider decode alone
 pub upper_registers :
-    all_windows (record main_bridge { io = io32 }) (span 0x31000 0x42fff) (span 0 0) (span 0x1234567800100000 0x12345679001fffff)
-    ++ all_windows (record main_bridge { pref = pref32 }) (span 0x31000 0x42fff) (span 0 0) (span 0x4f0000000 0x4f00fffff)
+    all_windows (record main_bridge { io = io32 }) (between 0x31000 0x42fff) (between 0 0) (between 0x1234567800100000 0x12345679001fffff)
+    ++ all_windows (record main_bridge { pref = pref32 }) (between 0x31000 0x42fff) (between 0 0) (between 0x4f0000000 0x4f00fffff)
     ≡ named 0x31000 0x42fff ∷ named 0 0xfffff ∷ named 0x1234567800100000 0x12345679001fffff ∷ named 0x1000 0x2fff ∷ named 0 0xfffff ∷ named 0xf0000000 0xf00fffff ∷ []
 upper_registers = refl
 
 -- a base above its limit
-pub windows_closed : all_windows main_bridge (span 0x3000 0x2fff) (span 0xc0300000 0xc02fffff) (span 0x401000000 0x400ffffff) ≡ None ∷ None ∷ None ∷ []
+pub windows_closed : all_windows main_bridge (between 0x3000 0x2fff) (between 0xc0300000 0xc02fffff) (between 0x401000000 0x400ffffff) ≡ None ∷ None ∷ None ∷ []
 windows_closed = refl
 
-pub one_address : window_of_span 5 5 ∷ window_of_span 6 5 ∷ [] ≡ named 5 5 ∷ None ∷ []
+pub one_address : window_between 5 5 ∷ window_between 6 5 ∷ [] ≡ named 5 5 ∷ None ∷ []
 one_address = refl
 
 -- by the Command bit of the space, from the first address of a window to the last
 abbrev forwarded : ℕ → Space → List ℕ → List Bool
-forwarded command space ns = map (λ n. forwards space n (set_to main_bridge command (span 0x1000 0x2fff) (span 0xc0000000 0xc02fffff) (span 0x400000000 0x400ffffff))) ns
+forwarded command space ns = map (λ n. forwards space n (set_to main_bridge command (between 0x1000 0x2fff) (between 0xc0000000 0xc02fffff) (between 0x400000000 0x400ffffff))) ns
 
 abbrev edges : List ℕ
 edges = 0xfff ∷ 0x1000 ∷ 0x2fff ∷ 0x3000 ∷ 0xbfffffff ∷ 0xc0000000 ∷ 0xc02fffff ∷ 0xc0300000 ∷ 0x3ffffffff ∷ 0x400000000 ∷ 0x400ffffff ∷ 0x401000000 ∷ []

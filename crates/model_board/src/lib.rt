@@ -96,11 +96,11 @@ pub fn closed_windows()
     ensures { ClosedWindows }
 {}
 
-/// A window's registers name exactly the span of whole units that was written, within the reach of
-/// the bridge's decode; so on a board that fits, after set-up, each bridge's windows are those that
+/// A window's registers name exactly the whole units that were written, within the reach
+/// of the bridge's decode; so on a board that fits, after set-up, each bridge's windows are those that
 /// placement gave it.
 pub fn named_windows()
-    ensures spans { NamedWindows }
+    ensures named { NamedWindows }
     ensures set_up { SetUpWindows }
 {}
 

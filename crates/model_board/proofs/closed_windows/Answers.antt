@@ -1,4 +1,4 @@
-use Rattle.model_board.proofs.WindowSpans.{closed_windows}
+use Rattle.model_board.proofs.WindowReads.{closed_windows}
 use Rattle.model_board.proofs.closed_windows.Goals as goal
 
 pub returns : goal.returns

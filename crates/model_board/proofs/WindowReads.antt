@@ -9,7 +9,7 @@ use Rattle.model_board.specs.WindowLaws.{closed_io, closed_memory, Closes, Close
 use Rattle.model_board.specs.Pools.{has_io, has_pref}
 use Rattle.model_board.proofs.SetUpWindows.{io_reads, mem_reads, pref_reads_low, pref_reads}
 
--- ---- spans
+-- ---- windows
 
 -- addresses of whole units keep their bits
 whole_first : (unit n : ℕ) → n % unit ≡ 0 → n / unit * unit ≡ n
@@ -45,7 +45,7 @@ io_reads_wide : (vendor device revision : ℕ) (pref : PrefDecode) (multifunctio
     → io_window io32 (bridge_file (record { vendor = vendor; device = device; revision = revision; io = io32; pref = pref }) multifunction r) ≡ named_by (2 ^ 12) r.io
 io_reads_wide vendor device revision pref multifunction r f l = ap₂ (λ x y. window x (y + 0xfff)) (io_wide r.io.first f) (io_wide r.io.last l)
 
--- a closed span lies within the reach of each decode, and its registers name no window
+-- a closed window lies within the reach of each decode, and its registers name no window
 record IsShut (unit reach : ℕ) (s : Window) : Type 0 where
   first : s.first < reach
   last : s.last < reach
