@@ -19,7 +19,8 @@ use Rattle.bridge_forward.specs.declared.bus.Node.{Node}
 use Rattle.bridge_forward.specs.declared.function.Function.{Function}
 use Rattle.bridge_forward.specs.declared.function.Function.TheVariants.{Endpoint, Bridge}
 use Rattle.bridge_forward.specs.Functions.{decl_of, file_of, with_cells, endpoint_in}
-use Rattle.bridge_forward.specs.ResetAlone.{after_reset, after_leaf_reset}
+use Rattle.model_registers.specs.CopiedFiles.{after_reset}
+use Rattle.bridge_forward.specs.ResetAlone.{after_leaf_reset}
 use Rattle.bridge_forward.specs.Layout.{paths_of, ends_of, function_of, functions_of, AreLaid, IsLaidOut}
 use Rattle.bridge_forward.specs.Lending.{as_endpoint, endpoint_at, with_endpoint, with_endpoint_reset}
 use Rattle.bridge_forward.specs.Search.{IsAt}

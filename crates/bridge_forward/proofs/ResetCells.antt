@@ -16,7 +16,7 @@ use Rattle.model_registers.specs.EndpointTable.{type_bits, base_width, BaseAddre
 use Rattle.model_registers.specs.OwnCopies.{is_own}
 use Rattle.config_bytes.specs.CellFile.{CellFile, is_between, reset_entry, reset_outside, places_of}
 use Rattle.bridge_forward.specs.EndpointParts.{block_at, block_at_reset, region_parts, AreParts, region_at, declared_block, IsConstant, IsHeaderKept, KnowReset, blocks_after}
-use Rattle.bridge_forward.specs.ResetAlone.{after_reset}
+use Rattle.model_registers.specs.CopiedFiles.{after_reset}
 use Rattle.bridge_forward.proofs.EndpointAccess.{cell_of_block, cell_of_config, lawful_bars, no_block}
 use Rattle.bridge_forward.proofs.EndpointReset.{parts_new, file_new}
 

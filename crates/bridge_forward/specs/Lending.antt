@@ -11,7 +11,7 @@ use Rattle.model_registers.specs.Decoding.{Function}
 use Rattle.model_board.specs.Paths.{Path, path_eq}
 use Rattle.model_board.specs.Board.{endpoint, bridge}
 use Rattle.model_board.specs.State.{BoardFunction, with_file}
-use Rattle.bridge_forward.specs.ResetAlone.{after_reset}
+use Rattle.model_registers.specs.CopiedFiles.{after_reset}
 use Rattle.bridge_forward.specs.contracts.endpoint.EndpointFn as endpoint_fn
 use Rattle.bridge_forward.specs.contracts.bus.Bus as bus
 

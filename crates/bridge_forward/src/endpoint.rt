@@ -8,7 +8,7 @@ ghost use Rattle.model_registers.specs.Decoding.{lone_claim};
 ghost use Rattle.bars.specs.Kinds.{named_space};
 ghost use Rattle.bars.specs.Hits.{named_hit};
 ghost use Rattle.headers.specs.Places.{place_of};
-ghost use Rattle.bridge_forward.specs.ResetAlone.{after_reset};
+ghost use Rattle.model_registers.specs.CopiedFiles.{after_reset};
 
 use crate::blocks::{bar_decls, block_files, reset_all};
 use crate::offsets;

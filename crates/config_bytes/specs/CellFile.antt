@@ -10,14 +10,11 @@ use Rattle.std.specs.Prelude.{◌≡◌, ◌≢◌, ◌<◌, ℕ, ◌+◌, nat_l
 use Rattle.model_registers.specs.Lists.{Each, EachPair}
 use Rattle.model_registers.specs.Cell.{Cell, no_cell}
 use Rattle.model_registers.specs.Registers.{Place, config, block, Entry, File, cell_at}
+pub use Rattle.model_registers.specs.CopiedFiles.{places_of}
 
 pub record CellFile : Type 0 where
   pub now : File
   pub initial : File
-
--- where the cells of a file stand, in their order
-abbrev pub places_of : File → List Place
-places_of file = map (λ e. e.place) file
 
 abbrev pub KeepsPlaces : CellFile → Type 0
 KeepsPlaces f = places_of f.now ≡ places_of f.initial

@@ -7,7 +7,7 @@ use Rattle.model_registers.specs.Cell.{Cell, no_cell, written}
 use Rattle.model_registers.specs.Registers.{Place, config, block, place_eq, after, Entry, File, cell_at, changed, write}
 use Rattle.model_registers.specs.OwnCopies.{is_own, handed_on}
 use Rattle.model_registers.proofs.RegisterFiles.{place_same, change_at_place}
-use Rattle.guest_functions.specs.CopiedFiles.{copied, with_copies}
+use Rattle.model_registers.specs.CopiedFiles.{copied, with_copies}
 use Rattle.guest_functions.specs.CopyLaws.{OtherCell, HandedRead, BlockRead, CopiedWrite, BlockWrite, SameCopies, CopiesHeld}
 
 -- the tests of places on both sides

@@ -14,7 +14,7 @@ use Rattle.model_registers.specs.OwnCopies.{is_own, OwnCopies, own_file, handed_
 use Rattle.model_registers.proofs.Files.{write_none, config_has_no_block}
 use Rattle.model_registers.proofs.RegisterFiles.{change_at_place}
 use Rattle.model_registers.proofs.Owned.{none_else, own_writes}
-use Rattle.guest_functions.specs.CopiedFiles.{with_copies}
+use Rattle.model_registers.specs.CopiedFiles.{with_copies}
 use Rattle.guest_functions.specs.CopyLaws.{CopiedRaise, HiddenRaise, CopiesStay, RaisedHeld, WrittenHeld, BlockWrittenHeld, LawfulCopies, SumOfBytes, EnabledBytesFit}
 use Rattle.guest_functions.proofs.CopiedFiles.{own_change, other_change, hidden_change}
 

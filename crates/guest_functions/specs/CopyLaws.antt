@@ -6,7 +6,7 @@ use Rattle.model_registers.specs.ByteEnables.{enabled_bytes}
 use Rattle.model_registers.specs.Declarations.{Region, HasLawfulRegions}
 use Rattle.model_registers.specs.EndpointTable.{opened}
 use Rattle.model_registers.specs.OwnCopies.{is_own, OwnCopies, own_file, HoldsOwn, handed_on, bare, IsLawfulOwn}
-use Rattle.guest_functions.specs.CopiedFiles.{with_copies}
+use Rattle.model_registers.specs.CopiedFiles.{with_copies}
 
 -- ---- what is read
 

@@ -1,4 +1,3 @@
 pub mod Words
 pub mod Latches
-pub mod CopiedFiles
 pub mod CopyLaws

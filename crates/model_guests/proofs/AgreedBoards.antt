@@ -20,7 +20,7 @@ use Rattle.model_board.proofs.Routing.{routing_of_change}
 use Rattle.model_guests.specs.Slots.{reset_function}
 use Rattle.model_guests.specs.World.{Guest, World, declared, endpoint_of}
 use Rattle.model_guests.specs.Guests.{GuestsNow, file_in, file_of, guest_at_first, guests_at_first}
-use Rattle.model_guests.specs.Files.{agreed_file, places_of}
+use Rattle.model_registers.specs.CopiedFiles.{agreed_file, places_of}
 use Rattle.model_guests.specs.AgreedBoard.{agreed_function, agreed_state}
 use Rattle.model_guests.specs.Seated.{IsSeatedGuest}
 use Rattle.model_guests.specs.AgreedLaws.{AgreedStateAgrees, AgreedStateIsOnly, AgreesAt, AgreesAtEach, AgreesAtFirst, KeepsRouting}

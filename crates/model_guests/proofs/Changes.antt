@@ -14,7 +14,7 @@ use Rattle.model_board.proofs.PathOrder.{path_same}
 use Rattle.model_guests.specs.Slots.{Slots, slot_at, with_file}
 use Rattle.model_guests.specs.Text.{Text}
 use Rattle.model_guests.specs.Guests.{GuestNow, GuestsNow, file_in, file_of, function_in, guest_named, path_in, with_guest}
-use Rattle.model_guests.specs.Files.{agreed_file}
+use Rattle.model_registers.specs.CopiedFiles.{agreed_file}
 use Rattle.model_guests.specs.AgreedBoard.{agreed_function, agreed_state, with_change_at}
 use Rattle.model_guests.specs.Seated.{AreSeated, IsSeat, IsSeatedGuest}
 use Rattle.model_guests.specs.ChangeLaws.{ChangesAlike, ChangesOneFunction, LatchKeepsBoard, OneFile, ResetsAlike, with_latch, with_slot_changed}

@@ -13,7 +13,7 @@ use Rattle.model_board.specs.State.{State}
 use Rattle.model_board.specs.Examples.{part, function_at, plain, main_apertures}
 use Rattle.model_guests.specs.World.{World}
 use Rattle.model_guests.specs.Guests.{GuestsNow, Move, after_move, function_in, guests_at_first, move_fault, path_in}
-use Rattle.model_guests.specs.Files.{after_reset, places_of}
+use Rattle.model_registers.specs.CopiedFiles.{after_reset, places_of}
 use Rattle.model_guests.specs.AgreedBoard.{agreed_state, with_change_at}
 use Rattle.model_guests.specs.Seated.{AreSeated}
 use Rattle.model_guests.proofs.SeatedFirst.{seated_at_first}

@@ -14,7 +14,7 @@ use Rattle.model_guests.specs.Slots.{Landing, Slots, effect, event_fault, landin
 use Rattle.model_guests.specs.Lone.{Destination, LoneGuest, after_access_at, after_event, at_target, changed_by, destination, no_function, own_latch, reset_guest}
 use Rattle.model_guests.specs.Text.{Text}
 use Rattle.model_guests.specs.Guests.{GuestNow, GuestsNow, file_in, file_of, function_in, guest_named, lone_of, path_in, with_guest}
-use Rattle.model_guests.specs.Files.{agreed_file}
+use Rattle.model_registers.specs.CopiedFiles.{agreed_file}
 use Rattle.model_guests.specs.AgreedBoard.{agreed_state, with_change_at}
 use Rattle.model_guests.specs.Seated.{AreSeated, IsSeat}
 use Rattle.model_guests.specs.ChangeLaws.{ChangesAlike, EventReachesBoard, board_after, board_effect, board_write, landing_at, landing_of, lands, own_effect, own_write, with_slot_changed}

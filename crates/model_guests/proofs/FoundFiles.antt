@@ -12,7 +12,7 @@ use Rattle.model_board.proofs.PathOrder.{path_same}
 use Rattle.model_guests.specs.Slots.{Slots, slot_at}
 use Rattle.model_guests.specs.Text.{Text}
 use Rattle.model_guests.specs.Guests.{GuestNow, GuestsNow, file_in, file_of, guest_named, path_in, with_guest}
-use Rattle.model_guests.specs.Files.{places_of, shape_of}
+use Rattle.model_registers.specs.CopiedFiles.{places_of, shape_of}
 use Rattle.model_guests.specs.Seated.{AreSeats, IsSeatedGuest}
 use Rattle.model_guests.proofs.Names.{equal_texts, same_text}
 use Rattle.model_guests.proofs.GuestFiles.{path_self, other_name}

@@ -11,7 +11,7 @@ use Rattle.model_board.specs.Board.{Board}
 use Rattle.model_board.specs.Lawful.{HasLawfulDecls}
 use Rattle.model_guests.proofs.CopiesNeverRise.{StaysLow, not_raised, reset_low, declared_lawful}
 use Rattle.model_guests.specs.Guests.{path_in}
-use Rattle.model_guests.specs.Files.{shape_of}
+use Rattle.model_registers.specs.CopiedFiles.{shape_of}
 use Rattle.model_guests.specs.Seated.{IsSeat}
 use Rattle.model_guests.specs.AgreedLaws.{CopiesNeverRise, FileOfSeat}
 use Rattle.model_guests.proofs.GuestsByName.{function_named}

@@ -20,7 +20,7 @@ use Rattle.model_board.proofs.PathEnds.{path_self}
 use Rattle.model_board.proofs.PathOrder.{exclusive}
 use Rattle.model_guests.specs.World.{World, declared, endpoint_of}
 use Rattle.model_guests.specs.Guests.{GuestsNow, file_of}
-use Rattle.model_guests.specs.Files.{agreed_file}
+use Rattle.model_registers.specs.CopiedFiles.{agreed_file}
 use Rattle.model_guests.specs.AgreedBoard.{agreed_function}
 use Rattle.model_guests.specs.Seated.{IsSeatedGuest}
 use Rattle.model_guests.specs.AgreedLaws.{KeepsNumbers, ShowsFile}

@@ -10,7 +10,7 @@ use Rattle.model_board.specs.Board.{Board}
 use Rattle.model_board.specs.SetUp.{set_up_state}
 use Rattle.model_guests.specs.Slots.{Slots, slot_at}
 use Rattle.model_guests.specs.Guests.{GuestNow, GuestsNow, Move, file_of, function_in, guest_named, handed_over, move_fault, path_in, with_guest, with_slot_emptied, with_slot_filled}
-use Rattle.model_guests.specs.Files.{after_reset}
+use Rattle.model_registers.specs.CopiedFiles.{after_reset}
 use Rattle.model_guests.specs.AgreedBoard.{agreed_state}
 use Rattle.model_guests.specs.Seated.{AreSeated, AreSeats, IsSeat, IsSeatedGuest}
 use Rattle.model_guests.specs.ChangeLaws.{MoveResetsOneFunction}

@@ -14,7 +14,7 @@ use Rattle.model_guests.specs.Slots.{Landing, Slots, effect, event_fault, landin
 use Rattle.model_guests.specs.Lone.{Destination, LoneGuest, after_access_at, after_event, at_target, changed_by, destination, no_function, own_latch}
 use Rattle.model_guests.specs.Text.{Text}
 use Rattle.model_guests.specs.Guests.{GuestNow, GuestsNow, guest_named, path_in, with_guest}
-use Rattle.model_guests.specs.Files.{shape_of}
+use Rattle.model_registers.specs.CopiedFiles.{shape_of}
 use Rattle.model_guests.specs.Seated.{AreSeats, IsSeat, IsSeatedGuest, SeatedAfterEvents}
 use Rattle.model_guests.proofs.GuestsByName.{path_at, Keeps, one, one_name, named_with, path_of}
 

@@ -5,7 +5,7 @@ use Rattle.model_registers.specs.Lists.{Each}
 use Rattle.model_registers.specs.Cell.{Cell}
 use Rattle.model_registers.specs.Registers.{Place, place_eq, Entry, File, cell_at}
 use Rattle.model_registers.specs.OwnCopies.{is_own}
-use Rattle.model_guests.specs.Files.{agreed_file, copied, places_of, with_copies}
+use Rattle.model_registers.specs.CopiedFiles.{agreed_file, copied, places_of, with_copies}
 use Rattle.model_guests.specs.ViewLaws.{ViewAgrees, ViewIsFile}
 use Rattle.model_guests.proofs.AgreedFiles.{same_place, agreed_common}
 use Rattle.model_guests.proofs.TablePlaces.{found_entries}

@@ -10,7 +10,7 @@ use Rattle.model_board.specs.Board.{Board}
 use Rattle.model_board.specs.Pools.{Apertures}
 use Rattle.model_board.specs.State.{BoardFunction, State, with_file}
 use Rattle.model_board.specs.SetUp.{set_up_state}
-use Rattle.model_guests.specs.Files.{agreed_file}
+use Rattle.model_registers.specs.CopiedFiles.{agreed_file}
 use Rattle.model_guests.specs.Guests.{GuestsNow, file_of}
 
 -- `files` says what the guests have of each function

@@ -19,7 +19,7 @@ use Rattle.model_board.specs.Reach.{HasNumbers}
 use Rattle.model_board.specs.Routing.{routing}
 use Rattle.model_board.specs.State.{BoardFunction, State}
 use Rattle.model_board.specs.SetUp.{set_up_state}
-use Rattle.model_guests.specs.Files.{places_of, agreed_file}
+use Rattle.model_registers.specs.CopiedFiles.{places_of, agreed_file}
 use Rattle.model_guests.specs.Text.{Text}
 use Rattle.model_guests.specs.World.{World, IsLawfulWorld}
 use Rattle.model_guests.specs.Guests.{GuestsNow, guests_at_first, path_in, function_in, file_of}

@@ -10,7 +10,7 @@ use Rattle.model_board.specs.Paths.{Path, path_eq}
 use Rattle.model_board.specs.State.{BoardFunction, State}
 use Rattle.model_board.specs.SetUp.{set_up_state}
 use Rattle.model_guests.specs.LoneGuest.{Slots}
-pub use Rattle.model_guests.specs.Files.{agreed_file}
+pub use Rattle.model_registers.specs.CopiedFiles.{agreed_file}
 use Rattle.model_guests.specs.Text.{Text}
 use Rattle.model_guests.specs.World.{Guest, World}
 

@@ -17,7 +17,7 @@ use Rattle.model_guests.specs.LoneGuest.{Slots, slot_at, with_file, slots_after,
 use Rattle.model_guests.specs.Text.{Text}
 use Rattle.model_guests.specs.World.{World, paths_of, declarations, HasLawfulGuests, IsLawfulWorld}
 use Rattle.model_registers.specs.OwnCopies.{is_own}
-pub use Rattle.model_guests.specs.Files.{places_of}
+pub use Rattle.model_registers.specs.CopiedFiles.{places_of}
 pub use Rattle.model_guests.specs.AgreedBoard.{with_change_at}
 pub use Rattle.model_guests.specs.AgreedLaws.{HoldsFile, AgreesAt, AgreesAtEach}
 pub use Rattle.model_guests.specs.ChangeLaws.{ChangesAlike, WritesAlike, RaisesAlike}

@@ -31,7 +31,7 @@ use Rattle.model_board.specs.Board.{Board}
 use Rattle.model_board.specs.Pools.{Apertures}
 use Rattle.model_board.specs.State.{State}
 use Rattle.model_guests.specs.Accesses.{Event, access, raises, Op, reads, writes}
-use Rattle.model_guests.specs.Files.{agreed_file, after_reset}
+use Rattle.model_registers.specs.CopiedFiles.{agreed_file, after_reset}
 use Rattle.model_guests.specs.Slots.{slot_at, with_file, Landing, landing, raise_landing, event_fault}
 use Rattle.model_guests.specs.Text.{Text}
 use Rattle.model_guests.specs.Lone.{LoneGuest, Destination, own_latch, no_function, at_target, destination}

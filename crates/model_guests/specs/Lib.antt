@@ -9,7 +9,6 @@ pub mod Guests
 pub mod Lines
 pub mod HostReads
 pub mod Replies
-pub mod Files
 pub mod AgreedBoard
 pub mod WorldNow
 pub mod Inputs

@@ -5,7 +5,7 @@ use Rattle.std.specs.Prelude.{◌≡◌, IsTrue, IsFalse}
 use Rattle.model_registers.specs.Registers.{Place, place_eq, File, cell_at}
 use Rattle.model_registers.specs.Lists.{EachPair}
 use Rattle.model_registers.specs.OwnCopies.{is_own}
-use Rattle.model_guests.specs.Files.{places_of, agreed_file, with_copies}
+use Rattle.model_registers.specs.CopiedFiles.{places_of, agreed_file, with_copies}
 
 abbrev pub HasPlacesApart : File → Type 0
 HasPlacesApart file = EachPair (λ p q. IsFalse (place_eq p q)) (places_of file)

@@ -4,7 +4,7 @@ use Rattle.model_registers.specs.Registers.{File}
 use Rattle.model_registers.specs.Decoding.{Function}
 use Rattle.config_bytes.specs.CellFile.{CellFile}
 use Rattle.bridge_forward.specs.EndpointParts.{blocks_after}
-use Rattle.bridge_forward.specs.ResetAlone.{after_reset}
+use Rattle.model_registers.specs.CopiedFiles.{after_reset}
 use Rattle.bridge_forward.proofs.ResetCells.{file_back, parts_back, know_back}
 use Rattle.bridge_forward.proofs.endpoint.EndpointFn.reset.Goals as goal
 
