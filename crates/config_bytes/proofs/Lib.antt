@@ -2,3 +2,4 @@ pub mod Tables
 pub mod Offsets
 pub mod Shifts
 pub mod Outside
+pub mod DistinctTests

@@ -6,7 +6,7 @@ use Rattle.std.proofs.Math.Pow.{shl_exact, pow-add}
 use Rattle.std.proofs.lemmas.Nat.{and_mask}
 use Rattle.model_registers.specs.ByteEnables.{LiesInWord, enables_of, into_lanes, from_lanes}
 
-byte_power : (k : ℕ) → 2 ^ (8 * k) ≡ 256 ^ k
+pub byte_power : (k : ℕ) → 2 ^ (8 * k) ≡ 256 ^ k
 byte_power zero = refl
 byte_power (suc k) =
     ap (λ n. 2 ^ n) (let more : 8 * suc k ≡ 8 * k + 8 = omega arith in more) ∙ pow-add 2 (8 * k) 8 ∙ ap (λ n. n * 256) (byte_power k) ∙ sym (pow-suc 256 k)

@@ -1,12 +1,12 @@
 -- A file of cells by configuration offset.
 --     CellFile      the cells as they are, and as they were made
 --     file_of cs      offsets with cells, as a register file
---     HasDistinctOffsets cs      no two cells stand at one offset
+--     HasDistinctOffsets cs, differ c d      no two cells stand at one offset; a test of two
 --     KeepsPlaces f      the cells stand where they stood when they were made
 --     reset_outside first last initial now      a file whose cells are those of another one, but at offsets in a range
 --     offsets_from a cs      cells at the offsets from a on
 --     IsTable      a table by offset shows the cells of a file: no access looks at all of them
-use Rattle.std.specs.Prelude.{◌≡◌, ◌≢◌, ◌<◌, ℕ, ◌+◌, nat_le, Bool, false, ◌&&◌, if◌then◌else◌, List, [], ◌∷◌, map, length, slice_set, slice_index_or}
+use Rattle.std.specs.Prelude.{◌≡◌, ◌≢◌, ◌<◌, ℕ, ◌+◌, nat_le, ◌==◌, not, Bool, false, ◌&&◌, if◌then◌else◌, List, [], ◌∷◌, map, length, slice_set, slice_index_or}
 use Rattle.model_registers.specs.Lists.{Each, EachPair}
 use Rattle.model_registers.specs.Cell.{Cell, no_cell}
 use Rattle.model_registers.specs.Registers.{Place, config, block, Entry, File, cell_at}
@@ -36,6 +36,10 @@ file_of (c ∷ cs) = record { place = config c.0; cell = c.1 } ∷ file_of cs
 
 abbrev pub HasDistinctOffsets : List (ℕ × Cell) → Type 0
 HasDistinctOffsets cs = EachPair (λ c d. c.0 ≢ d.0) cs
+
+-- the same as a test
+abbrev pub differ : ℕ × Cell → ℕ × Cell → Bool
+differ c d = not (c.0 == d.0)
 
 -- cells one after the other, from an offset on
 abbrev pub offsets_from : ℕ → List Cell → List (ℕ × Cell)

@@ -1,11 +1,12 @@
 //! The cells of one function's configuration space, or of one region's block.
-ghost use Rattle.std.specs.Prelude.{◌≡◌, ◌<◌, ◌%◌, ◌^◌, All, IfOk, length, if◌then◌else◌};
+ghost use Rattle.std.specs.Prelude.{◌≡◌, ◌==◌, ◌<◌, ◌%◌, ◌^◌, ◌↔◌, All, IfOk, IsTrue, not, length, if◌then◌else◌};
+ghost use Rattle.std.specs.List.{list_all};
 ghost use Rattle.model_registers.specs.Cell.{written};
-ghost use Rattle.model_registers.specs.Lists.{Each};
+ghost use Rattle.model_registers.specs.Lists.{Each, all_pairs};
 ghost use Rattle.model_registers.specs.Registers.{config, changed, read, write, raise, cell_at};
 ghost use Rattle.model_registers.specs.ByteEnables.{enabled_bytes, is_enabled, lanes};
 ghost use Rattle.model_registers.specs.FileLaws.{IsConfigFile};
-ghost use Rattle.config_bytes.specs.CellFile.{HasDistinctOffsets, KeepsPlaces, file_of, placed, placed_outside, reset_outside};
+ghost use Rattle.config_bytes.specs.CellFile.{HasDistinctOffsets, differ, KeepsPlaces, file_of, placed, placed_outside, reset_outside};
 
 use crate::cell::Cell;
 use byteorder::{ByteOrder, LittleEndian};
@@ -74,6 +75,34 @@ fn place_outside(table: &mut [Cell], cells: &[(u16, Cell)], first: u16, last: u1
             table[usize::from(*off)] = *cell;
         }
     }
+}
+
+/// Whether no cell of these stands at an offset.
+fn is_free(off: u16, cells: &[(u16, Cell)]) -> bool
+    ensures { result ≡ list_all (λ c. not (off == c.0)) cells.now }
+{
+    cells.iter().all(|(other, _)| off != *other)
+}
+
+/// Whether each cell's offset is free of the later ones.
+fn offsets_differ(cells: &[(u16, Cell)]) -> bool
+    ensures { result ≡ all_pairs differ cells.now }
+{
+    let mut left = cells;
+    while let Some((first, rest)) = left.split_first() {
+        if !is_free(first.0, rest) {
+            return false;
+        }
+        left = rest;
+    }
+    true
+}
+
+/// Whether no two cells stand at one offset, as `Cells::new` wants it.
+pub fn has_distinct_offsets(cells: &[(u16, Cell)]) -> bool
+    ensures { IsTrue result ↔ HasDistinctOffsets cells.now }
+{
+    offsets_differ(cells)
 }
 
 impl Cells {

@@ -10,8 +10,8 @@ mod lanes;
 mod tests;
 
 pub use cell::{Cell, CellFault};
-pub use cells::Cells;
-pub use lanes::{enables_of, from_lanes, into_lanes};
+pub use cells::{Cells, has_distinct_offsets};
+pub use lanes::{all_ones, enables_of, from_lanes, into_lanes, lowered};
 
 /// Lists of offsets with cells: the files that they are, and when no two cells stand at one offset.
 pub fn lists_of_offsets()

@@ -1,3 +1,4 @@
 pub mod Files
 pub mod DistinctOffsets
 pub mod Units
+pub mod BaseRegisters

@@ -1,14 +1,17 @@
 //! What a board declares of an endpoint.
-ghost use Rattle.std.specs.Prelude.{◌≡◌, IfNone, IfOk, option_map};
+ghost use Rattle.std.specs.Prelude.{◌≡◌, IfNone, IfOk, map, option_map};
 ghost use Rattle.std.specs.Result.{result_err};
 ghost use Rattle.model_registers.specs.Lists.{Each};
-ghost use Rattle.model_registers.specs.Declarations.{IsLawfulSize};
+ghost use Rattle.model_registers.specs.Declarations.{IsLawfulSize, HasLawfulRegions};
+ghost use Rattle.model_registers.specs.EndpointTable.{opened, closed};
 ghost use Rattle.model_registers.specs.DeclarationRules.{first_broken, has_lawful_numbers, has_own_registers, endpoint_rules, with_ordered_regions, IsLawfulEndpoint};
+ghost use Rattle.bars.specs.Resets.{at_reset};
 ghost use Rattle.headers.specs.Faults.{number_of};
 
 use crate::config_block::{self, ConfigBlock};
 use crate::fault::DeclFault;
 use crate::region::{self, Region};
+use bars::BarDecl;
 use std::marker::Model;
 
 /// What a board says of an endpoint, not yet judged. Regions and blocks may stand in any order.
@@ -119,5 +122,14 @@ impl EndpointDecl {
         ensures lawful { IsLawfulEndpoint self.now }
     {
         &self.values
+    }
+
+    /// What each of the six base address registers opens, by index, for a function's own registers: they
+    /// are lawful where `bars::Bars` wants it.
+    pub fn base_registers(&self) -> [Option<BarDecl>; 6]
+        ensures bases { at_reset result ≡ map closed self.now.regions }
+        ensures lawful { HasLawfulRegions (map opened (at_reset result)) }
+    {
+        region::base_registers(&self.values.bar)
     }
 }

@@ -1,10 +1,12 @@
 //! Regions as a board declares them.
-ghost use Rattle.std.specs.Prelude.{◌≡◌, ◌+◌, [], ◌∷◌, nat_le, length, count_by};
+ghost use Rattle.std.specs.Prelude.{◌≡◌, ◌+◌, [], ◌∷◌, nat_le, length, map, count_by};
 ghost use Rattle.std.specs.List.{list_all};
-ghost use Rattle.model_registers.specs.Declarations.{registers_of, IsLawfulSize};
+ghost use Rattle.model_registers.specs.Declarations.{registers_of, IsLawfulSize, HasLawfulRegions};
 ghost use Rattle.model_registers.specs.Lists.{Each};
 ghost use Rattle.std.specs.Bool.{OnTrue};
 ghost use Rattle.model_registers.specs.DeclarationRules.{uses};
+ghost use Rattle.model_registers.specs.EndpointTable.{opened, closed};
+ghost use Rattle.bars.specs.Resets.{at_reset};
 
 use bars::{BarDecl, Kind};
 use config_bytes::Cell;
@@ -99,4 +101,17 @@ pub(crate) fn blocks_fit(regions: &[Region]) -> bool
         left = rest;
     }
     true
+}
+
+/// What each of the six base address registers opens, by index.
+pub(crate) fn base_registers(regions: &[Region]) -> [Option<BarDecl>; 6]
+    requires { HasLawfulRegions regions.now }
+    ensures bases { at_reset result ≡ map closed regions.now }
+    ensures lawful { HasLawfulRegions (map opened (at_reset result)) }
+{
+    let mut bars = [None; 6];
+    for region in regions {
+        bars[usize::from(region.index)] = Some(region.bar);
+    }
+    bars
 }

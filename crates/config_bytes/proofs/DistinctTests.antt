@@ -1,0 +1,30 @@
+-- The test of distinct offsets.
+use Rattle.std.proofs.Common.{◌≡◌, ◌≢◌, ℕ, Bool, true, false, not, ◌&&◌, eqb, List, [], ◌∷◌, refl, sym, ap, ap₂, ◌∙◌}
+use Rattle.std.specs.List.{list_all}
+use Rattle.std.proofs.lemmas.Bool.{eqb-true, ne_eqb, eq-eqb}
+use Rattle.model_registers.specs.Lists.{Each, EachPair, all_pairs}
+use Rattle.model_registers.specs.Cell.{Cell}
+use Rattle.model_registers.proofs.Tests.{left_true, right_true}
+use Rattle.config_bytes.specs.CellFile.{HasDistinctOffsets, differ}
+
+differ-true : (m n : ℕ) → not (eqb m n) ≡ true → m ≢ n
+differ-true m n h e = let same : eqb m n ≡ true = eq-eqb m n e in let no : not true ≡ true = sym (ap not same) ∙ h in cc
+
+pub all_differ : (c : ℕ × Cell) (cs : List (ℕ × Cell)) → list_all (differ c) cs ≡ true → Each (λ d. c.0 ≢ d.0) cs
+all_differ c [] h = tt
+all_differ c (d ∷ ds) h = (differ-true c.0 d.0 (left_true (differ c d) (list_all (differ c) ds) h), all_differ c ds (right_true (differ c d) (list_all (differ c) ds) h))
+
+pub distinct_by_test : (cs : List (ℕ × Cell)) → all_pairs differ cs ≡ true → HasDistinctOffsets cs
+distinct_by_test [] h = tt
+distinct_by_test (c ∷ cs) h = (
+  all_differ c cs (left_true (list_all (differ c) cs) (all_pairs differ cs) h),
+  distinct_by_test cs (right_true (list_all (differ c) cs) (all_pairs differ cs) h),
+)
+
+pub each_differs : (c : ℕ × Cell) (cs : List (ℕ × Cell)) → Each (λ d. c.0 ≢ d.0) cs → list_all (differ c) cs ≡ true
+each_differs c [] h = refl
+each_differs c (d ∷ ds) h = ap₂ (λ x y. x && y) (ap not (ne_eqb c.0 d.0 h.0)) (each_differs c ds h.1)
+
+pub test_of_distinct : (cs : List (ℕ × Cell)) → HasDistinctOffsets cs → all_pairs differ cs ≡ true
+test_of_distinct [] h = refl
+test_of_distinct (c ∷ cs) h = ap₂ (λ x y. x && y) (each_differs c cs h.0) (test_of_distinct cs h.1)

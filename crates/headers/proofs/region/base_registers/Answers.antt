@@ -1,0 +1,24 @@
+use Rattle.std.proofs.Common.{◌≡◌, List, length, map, take, sym, ap, subst, ◌∙◌, arith, rules}
+use Rattle.std.proofs.lemmas.List.{take_all}
+use Rattle.model_registers.specs.Declarations.{Bar, Region, IsLawfulRegion, HasLawfulRegions}
+use Rattle.model_registers.specs.EndpointTable.{BaseAddress, opened, closed}
+use Rattle.bars.specs.Resets.{at_reset}
+use Rattle.headers.proofs.BaseRegisters.{each_at, some_registers, next_register, opened_lawful}
+use Rattle.headers.proofs.region.base_registers.Goals as goal
+
+pub loop-region-preserved : goal.loop-region-preserved
+loop-region-preserved c =
+    let rs = c.args.regions.now in
+    let i = c.loop-region.region-index in
+    let r = c.region-item.result in
+    let at : c.from.result ≡ r.index = c.from.ensures ∙ ap (λ (q : Region). q.index) c.region.view_is in
+    let lawful : IsLawfulRegion r = subst IsLawfulRegion (sym c.region-item.is) (each_at IsLawfulRegion rs i r c.requires.each (omega arith)) in
+    let within = lawful.registers in
+    next_register c.loop-region.bars rs i c.from.result r c.region.inside.bar c.requires.in_order (omega arith) c.region-item.is at (omega (arith, some_registers r.kind))
+    (ap (λ (q : Region). let b : Bar = record { kind = q.kind; size = q.size } in b) c.region.view_is) c.loop-region.invariant
+
+pub returns-clause-lawful : goal.returns-clause-lawful
+returns-clause-lawful c =
+    let rs = c.args.regions.now in
+    let all : take c.loop-region.region-index rs ≡ rs = take_all c.loop-region.region-index rs (omega arith) in
+    subst (λ (bs : List BaseAddress). HasLawfulRegions (map opened bs)) (sym (c.loop-region.invariant.made ∙ ap (map closed) all)) (opened_lawful rs c.requires)
