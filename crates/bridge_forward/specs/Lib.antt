@@ -1,4 +1,5 @@
 pub mod Bridges
+pub mod Decoded
 pub mod Decls
 pub mod EndpointParts
 pub mod Functions

@@ -9,6 +9,7 @@ ghost use Rattle.model_board.specs.Windows.{Window, is_in, is_in_window};
 ghost use Rattle.model_board.specs.Cycles.{secondary_register, subordinate_register};
 ghost use Rattle.bars.specs.Kinds.{named_space};
 ghost use Rattle.headers.specs.WindowPairs.{pair_of};
+ghost use Rattle.bridge_forward.specs.Decoded.{IsDecoded};
 
 use bars::Space;
 use config_bytes::{Cells, enables_of, from_lanes};
@@ -16,11 +17,24 @@ use headers::{Bridge, BridgeDecl, command, io_window, mem_window, pref_window};
 use std::alloc::{AllocError, Global};
 use std::marker::Model;
 
-/// A bridge: what is declared of it, and its registers as they stand.
+/// What a bridge's registers say, as numbers: a window is its first and last address.
+#[derive(Clone, Copy)]
+pub(crate) struct Decoded {
+    command: u16,
+    secondary: u8,
+    subordinate: u8,
+    io: Option<(u64, u64)>,
+    mem: Option<(u64, u64)>,
+    pref: Option<(u64, u64)>,
+}
+
+/// A bridge: what is declared of it, and its registers as they stand. What decides where an access
+/// goes is kept as numbers beside its cells, since every cycle and every search for a claim asks for it.
 #[derive(Drop)]
 pub(crate) struct BridgeFn {
     decl: BridgeDecl,
     cells: Cells,
+    decoded: Decoded,
 }
 
 impl Model for BridgeFn {
@@ -29,6 +43,24 @@ impl Model for BridgeFn {
     ghost Value = { BridgeFunction };
 
     ghost view = { λ b. record { decl = b.decl; file = b.cells.now } };
+
+    ghost use Rattle.bridge_forward.specs.Decoded.{IsDecoded};
+
+    ghost invariant = { λ b. IsDecoded b.decl b.cells.now b.decoded };
+}
+
+/// What the registers of a bridge say now.
+fn decode(cells: &Cells, decl: &BridgeDecl) -> Decoded
+    ensures { IsDecoded decl.now cells.now.now result }
+{
+    Decoded {
+        command: command(cells).0,
+        secondary: byte_at(cells, 0x19),
+        subordinate: byte_at(cells, 0x1a),
+        io: io_window(cells, decl),
+        mem: mem_window(cells, decl),
+        pref: pref_window(cells, decl),
+    }
 }
 
 impl BridgeFn {
@@ -44,7 +76,12 @@ impl BridgeFn {
         // A bridge that is there has a vendor.
         prove!(decl.vendor() != 0xffff);
         let cells = Bridge::cells(alloc, &decl, multifunction)?;
-        Ok(BridgeFn { decl, cells })
+        let decoded = decode(&cells, &decl);
+        Ok(BridgeFn {
+            decl,
+            cells,
+            decoded,
+        })
     }
 
     /// The enabled bytes of the configuration word at `off`, a multiple of 4.
@@ -61,6 +98,7 @@ impl BridgeFn {
         ensures { self.new ≡ record self.old { file = write (lanes enables) «data» (config off) self.old.file } }
     {
         self.cells.write(u16::from(off), enables, data);
+        self.decoded = decode(&self.cells, &self.decl);
     }
 
     /// Whether an address is forwarded: Command opens its space, and a window of that space holds it
@@ -68,18 +106,15 @@ impl BridgeFn {
     pub(crate) fn forwards(&self, space: Space, addr: u64) -> bool
         ensures { result ≡ (is_open self.now.file (named_space space) && is_in_window self.now.decl self.now.file (named_space space) addr) }
     {
-        command(&self.cells).0 & space.command_bit() != 0 && self.is_in_window(space, addr)
+        self.decoded.command & space.command_bit() != 0 && self.is_in_window(space, addr)
     }
 
     fn is_in_window(&self, space: Space, addr: u64) -> bool
         ensures { result ≡ is_in_window self.now.decl self.now.file (named_space space) addr }
     {
         match space {
-            Space::Io => is_in(addr, io_window(&self.cells, &self.decl)),
-            Space::Mem => {
-                is_in(addr, mem_window(&self.cells, &self.decl))
-                    || is_in(addr, pref_window(&self.cells, &self.decl))
-            }
+            Space::Io => is_in(addr, self.decoded.io),
+            Space::Mem => is_in(addr, self.decoded.mem) || is_in(addr, self.decoded.pref),
         }
     }
 
@@ -87,14 +122,14 @@ impl BridgeFn {
     pub(crate) fn secondary(&self) -> u8
         ensures { result ≡ secondary_register self.now.file }
     {
-        byte_at(&self.cells, 0x19)
+        self.decoded.secondary
     }
 
     /// The greatest number of a bus behind the bridge, as its registers hold it.
     pub(crate) fn subordinate(&self) -> u8
         ensures { result ≡ subordinate_register self.now.file }
     {
-        byte_at(&self.cells, 0x1a)
+        self.decoded.subordinate
     }
 }
 

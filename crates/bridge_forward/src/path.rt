@@ -86,9 +86,11 @@ impl Model for Path {
 }
 
 impl Default for Path {
-    /// The path 0.0.
-    fn default() -> Path {
-        Path::on_root(Part::default())
+    /// The path of device 0 and function 0 on bus 0.
+    fn default() -> Path
+        ensures { result ≡ record { device = 0; function = 0 } ∷ [] }
+    {
+        Path::on_root(Part::new(0, 0))
     }
 }
 
