@@ -1,8 +1,10 @@
 //! Which region an address finds after set-up.
 use crate::boards::*;
 use bars::Space;
-use bridge_forward::Decl;
+use bridge_forward::{Claim, Decl};
+use claim_table::Table;
 use headers::{Apertures, IoDecode, PrefDecode};
+use host_bridge::Route;
 use std::alloc::Global;
 use std::process::Abort;
 use std::test::Fail;
@@ -12,6 +14,25 @@ use window_packing::set_up;
 /// have `behind` false.
 type Want = (Space, u64, Option<(bool, u8, u8, u64)>);
 
+/// Compares a claim with the one that is wanted.
+fn is_claim(rt: &impl Abort, found: Option<Claim>, want: Option<(bool, u8, u8, u64)>) {
+    assert_eq!(rt; found.is_some(), want.is_some());
+    if let Some(found) = found
+        && let Some((behind, device, region, offset)) = want
+    {
+        let root = [(device, 0)];
+        let below = [(2, 0), (device, 0)];
+        let stands = if behind {
+            path(rt, &below)
+        } else {
+            path(rt, &root)
+        };
+        assert!(rt; found.path.is_same(&stands));
+        assert_eq!(rt; (found.region, found.offset), (region, offset));
+    }
+}
+
+/// The tree and the flat table answer alike.
 fn finds(
     rt: &impl Abort,
     alloc: Global,
@@ -20,24 +41,12 @@ fn finds(
     wants: &[Want],
 ) -> Result<(), Fail> {
     let ready = set_up(alloc, host(rt, alloc, decls, apertures)?)?;
+    let table = Table::build(alloc, &ready)?;
     let (host, _, _) = ready.into_parts();
     for want in wants {
         let (space, addr, claim) = *want;
-        let found = host.claimant(space, addr);
-        assert_eq!(rt; found.is_some(), claim.is_some());
-        if let Some(found) = found
-            && let Some((behind, device, region, offset)) = claim
-        {
-            let root = [(device, 0)];
-            let below = [(2, 0), (device, 0)];
-            let stands = if behind {
-                path(rt, &below)
-            } else {
-                path(rt, &root)
-            };
-            assert!(rt; found.path.is_same(&stands));
-            assert_eq!(rt; (found.region, found.offset), (region, offset));
-        }
+        is_claim(rt, host.claimant(space, addr), claim);
+        is_claim(rt, table.claimant(&host, space, addr), claim);
     }
     Ok(())
 }
@@ -80,5 +89,13 @@ fn nothing_claims_the_gap_between_windows(rt: HostRuntime) -> Result<(), Fail> {
         (Space::Mem, 0xc1ff_ffff, None),
         (Space::Mem, 0xc200_0000, Some((true, 0, 0, 0))),
     ];
+    finds(&rt, alloc, decls, Apertures::new(IO, MEM, None)?, &wants)
+}
+
+#[test]
+fn nothing_claims_on_a_board_without_regions(rt: HostRuntime) -> Result<(), Fail> {
+    let alloc = rt.alloc();
+    let decls = vec![in alloc; endpoint(&rt, alloc, &[(1, 0)], 1, &[])?]?;
+    let wants = [(Space::Mem, 0xc000_0000, None), (Space::Io, 0x1000, None)];
     finds(&rt, alloc, decls, Apertures::new(IO, MEM, None)?, &wants)
 }

@@ -1,0 +1,312 @@
+-- The table of a board that is set up: its regions stand apart, and its claims are those of the board.
+--     IsSortedOf es fs      fs has the entries es, by first address
+use Rattle.std.proofs.Common.{◌≡◌, ℕ, zero, suc, ◌+◌, ◌-◌, ◌≤◌, ◌<◌, ◌⊎◌, inl, inr, Bool, true, false, ◌&&◌, cond, List, [], ◌∷◌, ◌++◌, length, get_or, Option, Some, None, refl, sym, ap, ap₂, ◌∙◌, subst, arith, leb, ltb}
+use Rattle.std.specs.Prelude.{map, filter, find, flat_map, slice_get, ◌↔◌}
+use Rattle.std.specs.Option.{option_map}
+use Rattle.std.specs.List.Sorted.{IsPermutation, IsNonDecreasingBy}
+use Rattle.std.proofs.lemmas.List.{map-append, length-map}
+use Rattle.model_registers.specs.Lists.{Each, EachPair, first_of_two, first_some}
+use Rattle.model_registers.proofs.EachLemmas.{each_map, each_permutation, pairs_map}
+use Rattle.model_registers.specs.Declarations.{Kind, io_kind, mem32, mem64, Region, least_size, IsLawfulRegion}
+use Rattle.model_registers.specs.Decoding.{Space, io, memory, same_space}
+use Rattle.model_board.specs.Members.{IsIn}
+use Rattle.model_board.specs.Paths.{Path}
+use Rattle.model_board.specs.Board.{Row, Board}
+use Rattle.model_board.specs.State.{BoardFunction}
+use Rattle.model_board.specs.AtReset.{board_at}
+use Rattle.model_board.specs.Claims.{Claim, claim_at, first_claim}
+use Rattle.bridge_forward.specs.Locating.{located_claim}
+use Rattle.std.proofs.lemmas.Bool.{leb-true}
+use Rattle.model_registers.proofs.Tests.{left_true}
+use Rattle.std.proofs.lemmas.Option.{slice_get_within}
+use Rattle.model_board.specs.Pools.{Apertures}
+use Rattle.model_board.specs.FunctionTable.{TableRow, sized_table}
+use Rattle.model_board.specs.Routing.{routing}
+use Rattle.model_board.specs.SetUp.{set_up_state}
+use Rattle.model_board.specs.SetUpWrites.{settings, Setting}
+use Rattle.model_board.specs.PlacedRegions.{PlacedRegion, placed_regions, holds, claim_in, placed_claim}
+use Rattle.model_board.specs.UniqueClaimant.{CanBePlaced, ShareNone, HasUniqueClaims}
+use Rattle.model_board.proofs.Members.{each_in, each_from, in_front, in_back, front_or_back, in_map, from_map, in_filter, from_filter, pairs_filter}
+use Rattle.model_board.proofs.FirstFound.{found_passes, each_found}
+use Rattle.model_board.proofs.Holders.{self_space}
+use Rattle.model_board.proofs.PlacedRegions.{Source, source, lawful_regions}
+use Rattle.model_board.proofs.UniqueClaimant.{unique_claimant, claim_in_any_order}
+use Rattle.host_bridge.specs.HostState.{HostState}
+use Rattle.window_packing.specs.Readies.{ReadyBoard, board_below, IsReady}
+use Rattle.claim_table.specs.declared.entry.Entry.{Entry}
+use Rattle.claim_table.specs.Tables.{TableEntry, table_claim, IsOfFunction, FitsTable}
+use Rattle.claim_table.specs.Entries.{entries_from, lies_in, by_space, AreApart, AreEntries, path_nth, table_entry, table_of}
+use Rattle.claim_table.specs.Fitting.{map_map, paths, same_paths, nth_path, fits_by_routing}
+use Rattle.claim_table.proofs.Gathering.{region_of, is_of, of_board, paths_read, known}
+use Rattle.claim_table.proofs.Sorting.{moved, moved_back, Disjoint, sorted_apart}
+
+pub record IsSortedOf (es fs : List Entry) : Type 0 where
+  pub all : IsPermutation es fs
+  pub rising : IsNonDecreasingBy (λ (e : Entry). e.first) fs
+
+-- ---- what holds of the values of a map holds of its elements
+
+each_unmap : {A B : Type 0} (P : B → Type 0) (f : A → B) (xs : List A) → Each P (map f xs) → Each (λ x. P (f x)) xs
+each_unmap P f [] h = tt
+each_unmap P f (x ∷ xs) h = (h.0, each_unmap P f xs h.1)
+
+pairs_unmap : {A B : Type 0} (R : B → B → Type 0) (f : A → B) (xs : List A) → EachPair R (map f xs) → EachPair (λ x y. R (f x) (f y)) xs
+pairs_unmap R f [] h = tt
+pairs_unmap R f (x ∷ xs) h = (each_unmap (R (f x)) f xs h.0, pairs_unmap R f xs h.1)
+
+some_bytes : (kind : Kind) (n : ℕ) → least_size kind ≤ n → 0 < n
+some_bytes io_kind n h = omega (arith, h)
+some_bytes (mem32 pref) n h = omega (arith, h)
+some_bytes (mem64 pref) n h = omega (arith, h)
+
+module _ (b : Board) (a : Apertures) (can : CanBePlaced b a) where
+  abbrev ps : List Path
+  ps = map (λ (r : Row). r.path) b
+
+  abbrev all_of : Space → List Entry
+  all_of space = entries_from space 0 (settings b a)
+
+  regions_are : (space : Space) → map (region_of ps space) (all_of space) ≡ filter (is_of space) (placed_regions b a)
+  regions_are space = of_board b a ps space 0 b (λ j r e. let z : 0 + j ≡ j = omega arith in ap (path_nth ps) z ∙ paths_read b j r e)
+
+  unique : HasUniqueClaims b a (set_up_state b a).functions
+  unique = unique_claimant b a can (set_up_state b a).functions refl
+
+  positive : (q : PlacedRegion) → IsIn q (placed_regions b a) → 0 < q.size
+  positive q m = by_source (source b a q m)
+    where
+      by_source : Source b a q → 0 < q.size
+      by_source s =
+          let lawful : IsLawfulRegion s.region = each_in IsLawfulRegion s.region s.decl.regions (lawful_regions b can.declarations s.row s.decl s.there s.decl_is).each s.declared in
+          let some : 0 < s.region.size = some_bytes s.region.kind s.region.size lawful.size_is_lawful.not_less in
+          let same : q.size ≡ s.region.size = ap (λ (x : PlacedRegion). x.size) s.is in omega (arith, some, same)
+
+  sizes : (space : Space) → Each (λ (e : Entry). 0 < e.size) (all_of space)
+  sizes space = each_unmap (λ (q : PlacedRegion). 0 < q.size) (region_of ps space) (all_of space)
+      (subst (Each (λ (q : PlacedRegion). 0 < q.size)) (sym (regions_are space)) (each_from (λ (q : PlacedRegion). 0 < q.size) (filter (is_of space) (placed_regions b a)) (λ q m. positive q (from_filter (is_of space) q (placed_regions b a) m).0)))
+
+  disjoint : (space : Space) → EachPair Disjoint (all_of space)
+  disjoint space =
+      pairs_map (λ (d e : Entry). ShareNone (region_of ps space d) (region_of ps space e)) Disjoint (all_of space) (λ d e none. none (self_space space))
+      (pairs_unmap ShareNone (region_of ps space) (all_of space) (subst (EachPair ShareNone) (sym (regions_are space)) (pairs_filter ShareNone (is_of space) (placed_regions b a) unique.apart)))
+
+  pub entries : (space : Space) (fs : List Entry) → IsSortedOf (all_of space) fs → AreEntries ps fs
+  entries space fs h = record {
+    apart = sorted_apart (all_of space) fs (disjoint space) (sizes space) h.all h.rising;
+    known =
+        each_permutation (λ (e : Entry). e.function < length ps) (all_of space) fs h.all
+        (known space 0 (settings b a) (length ps) (let n : length (settings b a) ≡ length b = length-map b _ in let m : length ps ≡ length b = length-map b (λ (r : Row). r.path) in omega (arith, n, m)));
+  }
+
+  -- ---- the claims
+
+  module _ (ports mems : List Entry) (hp : IsSortedOf (all_of io) ports) (hm : IsSortedOf (all_of memory) mems) where
+    abbrev listed : List PlacedRegion
+    listed = map (region_of ps io) ports ++ map (region_of ps memory) mems
+
+    placed_of : (space : Space) (fs : List Entry) → IsPermutation (all_of space) fs → (q : PlacedRegion) → IsIn q (map (region_of ps space) fs) → IsIn q (placed_regions b a)
+    placed_of space fs perm q m =
+        let f = from_map (region_of ps space) q fs m in
+        let k : IsIn (region_of ps space f.0) (map (region_of ps space) (all_of space)) = in_map (region_of ps space) f.0 (all_of space) (moved (all_of space) fs perm f.0 f.1) in
+        let l : IsIn (region_of ps space f.0) (filter (is_of space) (placed_regions b a)) = subst (IsIn (region_of ps space f.0)) (regions_are space) k in
+        subst (λ (x : PlacedRegion). IsIn x (placed_regions b a)) (sym f.2) (from_filter (is_of space) (region_of ps space f.0) (placed_regions b a) l).0
+
+    listed_in : (space : Space) (fs : List Entry) → IsPermutation (all_of space) fs → (q : PlacedRegion) → IsIn q (placed_regions b a) → same_space q.space space ≡ true → IsIn q (map (region_of ps space) fs)
+    listed_in space fs perm q m here =
+        let l : IsIn q (map (region_of ps space) (all_of space)) = subst (IsIn q) (sym (regions_are space)) (in_filter (is_of space) q (placed_regions b a) m here) in
+        let f = from_map (region_of ps space) q (all_of space) l in
+        subst (λ (x : PlacedRegion). IsIn x (map (region_of ps space) fs)) (sym f.2) (in_map (region_of ps space) f.0 fs (moved_back (all_of space) fs perm f.0 f.1))
+
+    of_either : (s : Space) → (same_space s io ≡ true) ⊎ (same_space s memory ≡ true)
+    of_either io = inl refl
+    of_either memory = inr refl
+
+    same_regions : (q : PlacedRegion) → IsIn q listed ↔ IsIn q (placed_regions b a)
+    same_regions q = (λ m. by_part (front_or_back q (map (region_of ps io) ports) (map (region_of ps memory) mems) m), λ m. by_space m (of_either q.space))
+      where
+        by_part : IsIn q (map (region_of ps io) ports) ⊎ IsIn q (map (region_of ps memory) mems) → IsIn q (placed_regions b a)
+        by_part (inl m) = placed_of io ports hp.all q m
+        by_part (inr m) = placed_of memory mems hm.all q m
+
+        by_space : IsIn q (placed_regions b a) → (same_space q.space io ≡ true) ⊎ (same_space q.space memory ≡ true) → IsIn q listed
+        by_space m (inl here) = in_front q (map (region_of ps io) ports) (map (region_of ps memory) mems) (listed_in io ports hp.all q m here)
+        by_space m (inr here) = in_back q (map (region_of ps io) ports) (map (region_of ps memory) mems) (listed_in memory mems hm.all q m here)
+
+    regions_listed : map (λ (e : TableEntry). e.region) (table_of ps ports mems) ≡ listed
+    regions_listed =
+        map-append (λ (e : TableEntry). e.region) (map (table_entry ps io) ports) (map (table_entry ps memory) mems)
+        ∙ ap₂ ◌++◌ (map_map (λ (e : TableEntry). e.region) (table_entry ps io) ports) (map_map (λ (e : TableEntry). e.region) (table_entry ps memory) mems)
+
+    pub claims_placed : (space : Space) (n : ℕ) → table_claim (table_of ps ports mems) space n ≡ placed_claim b a space n
+    claims_placed space n = ap (first_some (claim_in space n)) regions_listed ∙ claim_in_any_order b a can listed same_regions space n
+
+-- ---- the functions
+
+path_there : (qs : List Path) (i : ℕ) → i < length qs → slice_get qs i ≡ Some (path_nth qs i)
+path_there [] i h = absurd (omega arith)
+path_there (q ∷ qs) zero h = refl
+path_there (q ∷ qs) (suc i) h = path_there qs i (omega arith)
+
+of_functions : (fs : List BoardFunction) (qs : List Path) (space : Space) (es : List Entry) → paths fs ≡ qs → Each (λ (e : Entry). e.function < length qs) es → Each (IsOfFunction fs) (map (table_entry qs space) es)
+of_functions fs qs space [] is h = tt
+of_functions fs qs space (e ∷ es) is h =
+    (nth_path fs e.function ∙ ap (λ (xs : List Path). slice_get xs e.function) is ∙ path_there qs e.function h.0, of_functions fs qs space es is h.1)
+
+each_append : {A : Type 0} (P : A → Type 0) (xs ys : List A) → Each P xs → Each P ys → Each P (xs ++ ys)
+each_append P [] ys h k = k
+each_append P (x ∷ xs) ys h k = (h.0, each_append P xs ys h.1 k)
+
+-- ---- a board that is set up
+
+module _ (r : ReadyBoard) (ready : IsReady r) (qs : List Path) (paths_are : qs ≡ map (λ (t : TableRow). t.path) r.table) where
+  abbrev board : Board
+  board = board_below r.host
+
+  board_paths : qs ≡ map (λ (x : Row). x.path) board
+  board_paths = paths_are ∙ ap (map (λ (t : TableRow). t.path)) ready.table ∙ map_map (λ (t : TableRow). t.path) _ board
+
+  sorted_of : (space : Space) (fs : List Entry) → IsSortedOf (entries_from space 0 r.plan.settings) fs → IsSortedOf (entries_from space 0 (settings board r.host.apertures)) fs
+  sorted_of space fs h = subst (λ (ss : List Setting). IsSortedOf (entries_from space 0 ss) fs) (ap (λ (p : Rattle.model_board.specs.SetUpWrites.Plan). p.settings) ready.plan) h
+
+  pub ready_entries : (space : Space) (fs : List Entry) → IsSortedOf (entries_from space 0 r.plan.settings) fs → AreEntries qs fs
+  ready_entries space fs h = subst (λ (xs : List Path). AreEntries xs fs) (sym board_paths) (entries board r.host.apertures ready.placeable space fs (sorted_of space fs h))
+
+  module _ (ports mems : List Entry) (hp : IsSortedOf (entries_from io 0 r.plan.settings) ports) (hm : IsSortedOf (entries_from memory 0 r.plan.settings) mems) where
+    abbrev fs : List BoardFunction
+    fs = r.host.state.functions
+
+    set_up_routing : routing fs ≡ routing (set_up_state board r.host.apertures).functions
+    set_up_routing = ap (λ (s : Rattle.model_board.specs.State.State). routing s.functions) ready.registers
+
+    host_paths : paths fs ≡ qs
+    host_paths = sym (board_paths ∙ map_map (λ (x : Row). x.path) _ fs)
+
+    fits_own : FitsTable (table_of qs ports mems) r.host
+    fits_own = record {
+      claims = λ space n.
+          subst (λ (xs : List Path). table_claim (table_of xs ports mems) space n ≡ placed_claim board r.host.apertures space n) (sym board_paths)
+          (claims_placed board r.host.apertures ready.placeable ports mems (sorted_of io ports hp) (sorted_of memory mems hm) space n)
+          ∙ sym ((unique_claimant board r.host.apertures ready.placeable fs set_up_routing).first space n);
+      functions =
+          each_append (IsOfFunction fs) (map (table_entry qs io) ports) (map (table_entry qs memory) mems)
+          (of_functions fs qs io ports host_paths (ready_entries io ports hp).known) (of_functions fs qs memory mems host_paths (ready_entries memory mems hm).known);
+    }
+
+    pub fits_ready : (h : HostState) → routing h.state.functions ≡ routing fs → FitsTable (table_of qs ports mems) h
+    fits_ready h same = fits_by_routing (table_of qs ports mems) r.host h (sym same) fits_own
+
+-- ---- the entry that is found gives the claim
+
+abbrev pub claim_for : List Path → ℕ → Entry → Claim
+claim_for qs n e = record { path = path_nth qs e.function; index = e.region; offset = n - e.first }
+
+-- the claim of one list of its own space
+own_claim : (qs : List Path) (space : Space) (n : ℕ) (es : List Entry) → first_some (claim_in space n) (map (region_of qs space) es) ≡ option_map (claim_for qs n) (find (lies_in n) es)
+own_claim qs space n [] = refl
+own_claim qs io n (e ∷ es) = by_test (lies_in n e) (own_claim qs io n es)
+  where
+    by_test : (t : Bool) → first_some (claim_in io n) (map (region_of qs io) es) ≡ option_map (claim_for qs n) (find (lies_in n) es)
+        → first_of_two (cond t (Some (claim_for qs n e)) None) (first_some (claim_in io n) (map (region_of qs io) es)) ≡ option_map (claim_for qs n) (cond t (Some e) (find (lies_in n) es))
+    by_test true more = refl
+    by_test false more = more
+own_claim qs memory n (e ∷ es) = by_test (lies_in n e) (own_claim qs memory n es)
+  where
+    by_test : (t : Bool) → first_some (claim_in memory n) (map (region_of qs memory) es) ≡ option_map (claim_for qs n) (find (lies_in n) es)
+        → first_of_two (cond t (Some (claim_for qs n e)) None) (first_some (claim_in memory n) (map (region_of qs memory) es)) ≡ option_map (claim_for qs n) (cond t (Some e) (find (lies_in n) es))
+    by_test true more = refl
+    by_test false more = more
+
+other_claim_io : (qs : List Path) (n : ℕ) (es : List Entry) → first_some (claim_in io n) (map (region_of qs memory) es) ≡ None
+other_claim_io qs n [] = refl
+other_claim_io qs n (e ∷ es) = other_claim_io qs n es
+
+other_claim_memory : (qs : List Path) (n : ℕ) (es : List Entry) → first_some (claim_in memory n) (map (region_of qs io) es) ≡ None
+other_claim_memory qs n [] = refl
+other_claim_memory qs n (e ∷ es) = other_claim_memory qs n es
+
+first_some-append : {A B : Type 0} (f : A → Option B) (xs ys : List A) → first_some f (xs ++ ys) ≡ first_of_two (first_some f xs) (first_some f ys)
+first_some-append f [] ys = refl
+first_some-append {A} {B} f (x ∷ xs) ys = by_case (f x) (first_some-append f xs ys)
+  where
+    by_case : (o : Option B) → first_some f (xs ++ ys) ≡ first_of_two (first_some f xs) (first_some f ys) → first_of_two o (first_some f (xs ++ ys)) ≡ first_of_two (first_of_two o (first_some f xs)) (first_some f ys)
+    by_case None more = more
+    by_case (Some y) more = refl
+
+or_none : {B : Type 0} (o : Option B) → first_of_two o None ≡ o
+or_none None = refl
+or_none (Some y) = refl
+
+module _ (qs : List Path) (ports mems : List Entry) (n : ℕ) where
+  split : (space : Space) → table_claim (table_of qs ports mems) space n ≡ first_of_two (first_some (claim_in space n) (map (region_of qs io) ports)) (first_some (claim_in space n) (map (region_of qs memory) mems))
+  split space =
+      ap (first_some (claim_in space n)) (map-append (λ (e : TableEntry). e.region) (map (table_entry qs io) ports) (map (table_entry qs memory) mems)
+      ∙ ap₂ ◌++◌ (map_map (λ (e : TableEntry). e.region) (table_entry qs io) ports) (map_map (λ (e : TableEntry). e.region) (table_entry qs memory) mems))
+      ∙ first_some-append (claim_in space n) (map (region_of qs io) ports) (map (region_of qs memory) mems)
+
+  pub claim_found : (space : Space) → table_claim (table_of qs ports mems) space n ≡ option_map (claim_for qs n) (find (lies_in n) (by_space space ports mems))
+  claim_found io = split io ∙ ap₂ first_of_two (own_claim qs io n ports) (other_claim_io qs n mems) ∙ or_none (option_map (claim_for qs n) (find (lies_in n) ports))
+  claim_found memory = split memory ∙ ap₂ first_of_two (other_claim_memory qs n ports) (own_claim qs memory n mems)
+
+-- ---- what the table answers
+
+pub apart_in : (qs : List Path) (ports mems : List Entry) → AreEntries qs ports × AreEntries qs mems → (space : Space) → AreApart (by_space space ports mems)
+apart_in qs ports mems h io = h.0.apart
+apart_in qs ports mems h memory = h.1.apart
+
+pub known_in : (qs : List Path) (ports mems : List Entry) → AreEntries qs ports × AreEntries qs mems → (space : Space) → Each (λ (e : Entry). e.function < length qs) (by_space space ports mems)
+known_in qs ports mems h io = h.0.known
+known_in qs ports mems h memory = h.1.known
+
+each_front : {A : Type 0} (P : A → Type 0) (xs ys : List A) → Each P (xs ++ ys) → Each P xs
+each_front P [] ys h = tt
+each_front P (x ∷ xs) ys h = (h.0, each_front P xs ys h.1)
+
+each_back : {A : Type 0} (P : A → Type 0) (xs ys : List A) → Each P (xs ++ ys) → Each P ys
+each_back P [] ys h = h
+each_back P (x ∷ xs) ys h = each_back P xs ys h.1
+
+module _ (qs : List Path) (ports mems : List Entry) (t : List TableEntry) (h : HostState) (is : table_of qs ports mems ≡ t) (fits : FitsTable t h) where
+  abbrev hosted : List BoardFunction
+  hosted = h.state.functions
+
+  pub answer : (space : Space) (n : ℕ) → option_map (claim_for qs n) (find (lies_in n) (by_space space ports mems)) ≡ first_claim hosted space n
+  answer space n = sym (claim_found qs ports mems n space) ∙ ap (λ (t : List TableEntry). table_claim t space n) is ∙ fits.claims space n
+
+  of_all : Each (IsOfFunction hosted) (table_of qs ports mems)
+  of_all = subst (Each (IsOfFunction hosted)) (sym is) fits.functions
+
+  of_space : (space : Space) → Each (λ (e : Entry). IsOfFunction hosted (table_entry qs space e)) (by_space space ports mems)
+  of_space io = each_unmap (IsOfFunction hosted) (table_entry qs io) ports (each_front (IsOfFunction hosted) (map (table_entry qs io) ports) (map (table_entry qs memory) mems) of_all)
+  of_space memory = each_unmap (IsOfFunction hosted) (table_entry qs memory) mems (each_back (IsOfFunction hosted) (map (table_entry qs io) ports) (map (table_entry qs memory) mems) of_all)
+
+  module _ (space : Space) (n : ℕ) (e : Entry) (found : find (lies_in n) (by_space space ports mems) ≡ Some e) where
+    pub from : e.first ≤ n
+    from = leb-true e.first n (left_true (leb e.first n) (ltb n (e.first + e.size)) (found_passes (lies_in n) (by_space space ports mems) e found))
+
+    pub claimed : Some (claim_for qs n e) ≡ first_claim hosted space n
+    claimed = sym (ap (option_map (claim_for qs n)) found) ∙ answer space n
+
+    of_entry : option_map (λ (f : BoardFunction). f.path) (slice_get hosted e.function) ≡ Some (path_nth qs e.function)
+    of_entry = each_found (λ (d : Entry). IsOfFunction hosted (table_entry qs space d)) (lies_in n) (by_space space ports mems) e (of_space space) found
+
+    pub located : (located_claim hosted (Some (record { index = e.function; region = e.region; offset = n - e.first })) ≡ first_claim hosted space n) × (e.function < length hosted)
+    located = by_case (slice_get hosted e.function) refl of_entry
+      where
+        by_case : (o : Option BoardFunction) → slice_get hosted e.function ≡ o → option_map (λ (f : BoardFunction). f.path) o ≡ Some (path_nth qs e.function)
+            → (located_claim hosted (Some (record { index = e.function; region = e.region; offset = n - e.first })) ≡ first_claim hosted space n) × (e.function < length hosted)
+        by_case None at path = cc
+        by_case (Some f) at path =
+            let same : f.path ≡ path_nth qs e.function = cc in (
+              ap (option_map (λ (g : BoardFunction). claim_at g.path (record { index = e.region; offset = n - e.first }))) at
+                  ∙ ap (λ (p : Path). Some (claim_at p (record { index = e.region; offset = n - e.first }))) same ∙ claimed,
+              slice_get_within hosted e.function f at,
+            )
+
+pub none_claimed : (qs : List Path) (ports mems : List Entry) (t : List TableEntry) (h : HostState) → table_of qs ports mems ≡ t → FitsTable t h → (space : Space) (n : ℕ) → find (lies_in n) (by_space space ports mems) ≡ None → None ≡ first_claim h.state.functions space n
+none_claimed qs ports mems t h is fits space n none = sym (ap (option_map (claim_for qs n)) none) ∙ answer qs ports mems t h is fits space n
+
+-- the path that is read by an index
+pub path_at : (qs : List Path) (i : ℕ) (p d : Path) → i < length qs → p ≡ get_or qs i d → p ≡ path_nth qs i
+path_at [] i p d h e = absurd (omega arith)
+path_at (q ∷ qs) zero p d h e = e
+path_at (q ∷ qs) (suc i) p d h e = path_at qs i p d (omega arith) e

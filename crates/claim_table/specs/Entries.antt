@@ -1,0 +1,59 @@
+-- The regions of one space, as the program keeps them.
+--     entries_from space i settings      of the functions from index i on, in path order
+--     lies_in n e      an address lies in a region
+--     AreApart es      by address, each region ends before the next begins
+--     by_space      the list of a space
+--     table_entry, table_of      entries with their space and the paths of their functions
+use Rattle.std.specs.Prelude.{List, [], ◌∷◌, ◌++◌, ◌≡◌, ℕ, ◌+◌, ◌<◌, ◌≤◌, Bool, ◌&&◌, nat_le, nat_lt, map, filter, length, unwrap_or, slice_get}
+use Rattle.model_registers.specs.Lists.{Each, EachPair}
+use Rattle.model_registers.specs.Decoding.{Space, io, memory, space_of, same_space}
+use Rattle.model_registers.specs.EndpointTable.{BaseAddress}
+use Rattle.model_board.specs.Paths.{Path}
+use Rattle.model_board.specs.SetUpWrites.{Writes, to_endpoint, to_bridge, Setting}
+use Rattle.claim_table.specs.declared.entry.Entry.{Entry}
+use Rattle.claim_table.specs.Tables.{TableEntry}
+
+abbrev pub entry_for : ℕ → BaseAddress → Entry
+entry_for i x = record { first = x.base; size = x.size; function = i; region = x.index }
+
+abbrev pub bases_in : Writes → List BaseAddress
+bases_in (to_endpoint command bases) = bases
+bases_in (to_bridge windows) = []
+
+abbrev pub of_space : Space → List BaseAddress → List BaseAddress
+of_space space bases = filter (λ (x : BaseAddress). same_space (space_of x.kind) space) bases
+
+abbrev pub entries_at : Space → ℕ → Setting → List Entry
+entries_at space i s = map (entry_for i) (of_space space (bases_in s.writes))
+
+abbrev pub entries_from : Space → ℕ → List Setting → List Entry
+entries_from space i [] = []
+entries_from space i (s ∷ settings) = entries_at space i s ++ entries_from space (i + 1) settings
+
+abbrev pub lies_in : ℕ → Entry → Bool
+lies_in n e = nat_le e.first n && nat_lt n (e.first + e.size)
+
+abbrev pub AreApart : List Entry → Type 0
+AreApart es = EachPair (λ (d e : Entry). d.first + d.size ≤ e.first) es
+
+abbrev pub by_space : Space → List Entry → List Entry → List Entry
+by_space io ports memories = ports
+by_space memory ports memories = memories
+
+-- apart, and each of a function that has a path
+pub record AreEntries (ps : List Path) (es : List Entry) : Type 0 where
+  pub apart : AreApart es
+  pub known : Each (λ (e : Entry). e.function < length ps) es
+
+abbrev pub path_nth : List Path → ℕ → Path
+path_nth ps i = unwrap_or (slice_get ps i) []
+
+abbrev pub table_entry : List Path → Space → Entry → TableEntry
+table_entry ps space e = record {
+  function = e.function;
+  region = record { path = path_nth ps e.function; index = e.region; space = space; first = e.first; size = e.size };
+}
+
+-- I/O first, then memory
+abbrev pub table_of : List Path → List Entry → List Entry → List TableEntry
+table_of ps ports memories = map (table_entry ps io) ports ++ map (table_entry ps memory) memories

@@ -1,0 +1,35 @@
+//! The region that holds an address.
+ghost use Rattle.std.specs.Prelude.{◌≡◌, find};
+ghost use Rattle.bars.specs.Kinds.{named_space};
+ghost use Rattle.claim_table.specs.Entries.{lies_in, by_space, AreApart};
+
+use crate::entry::Entry;
+use bars::Space;
+
+/// The list of a space.
+pub(crate) fn of_space<'a>(space: Space, ports: &'a [Entry], memory: &'a [Entry]) -> &'a [Entry]
+    ensures { result.now ≡ by_space (named_space space) ports.now memory.now }
+{
+    match space {
+        Space::Io => ports,
+        Space::Mem => memory,
+    }
+}
+
+/// The region that an address lies in, found by halving: it can only be the last of those that begin at
+/// or before the address.
+pub(crate) fn entry_at(entries: &[Entry], addr: u64) -> Option<Entry>
+    requires { AreApart entries.now }
+    ensures { result ≡ find (lies_in addr) entries.now }
+{
+    let after = entries.partition_point(|entry| entry.first <= addr);
+    if after == 0 {
+        return None;
+    }
+    let entry = entries[after - 1];
+    if addr - entry.first < entry.size {
+        Some(entry)
+    } else {
+        None
+    }
+}

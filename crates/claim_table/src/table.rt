@@ -1,0 +1,86 @@
+//! The table.
+ghost use Rattle.std.specs.Prelude.{◌≡◌, IfOk, map};
+ghost use Rattle.model_board.specs.FunctionTable.{TableRow};
+
+use crate::entry::Entry;
+use crate::gather::by_address;
+use crate::search::{entry_at, of_space};
+use bus_scan::FunctionRow;
+use host_bridge::{Claim, Host, Located, Path, Route, Space};
+use std::alloc::{AllocError, Global};
+use std::marker::Model;
+use window_packing::Ready;
+
+/// The regions of a board that is set up, by space and first address, each with the index of its
+/// function in the list of the board's functions. An address is looked up by halving.
+#[derive(Drop)]
+pub struct Table {
+    paths: Vec<Path>,
+    ports: Vec<Entry>,
+    memory: Vec<Entry>,
+}
+
+impl Model for Table {
+    ghost use Rattle.std.specs.Prelude.{List};
+    ghost use Rattle.claim_table.specs.Tables.{TableEntry};
+    ghost use Rattle.claim_table.specs.Entries.{table_of, AreEntries};
+
+    ghost Value = { List TableEntry };
+
+    ghost view = { λ t. table_of t.paths.items t.ports.items t.memory.items };
+
+    ghost invariant = { λ t. AreEntries t.paths.items t.ports.items × AreEntries t.paths.items t.memory.items };
+}
+
+/// The paths of all functions.
+fn paths_of(alloc: Global, rows: &[FunctionRow]) -> Result<Vec<Path>, AllocError>
+    ensures { IfOk result (λ v. v.items ≡ map (λ (r : TableRow). r.path) rows.now) }
+{
+    rows.iter().map(|row| row.path.copied()).collect(alloc)
+}
+
+impl Table {
+    ghost use Rattle.model_board.specs.Routing.{routing};
+    ghost use Rattle.host_bridge.specs.HostState.{HostState};
+    ghost use Rattle.claim_table.specs.Tables.{FitsTable};
+
+    /// The table of a board that is set up. It fits every host with the same routing registers. Nothing
+    /// else refuses than that memory is out.
+    pub fn build(alloc: Global, ready: &Ready) -> Result<Table, AllocError>
+        ensures { IfOk result (λ t. (h : HostState) → routing h.state.functions ≡ routing ready.now.host.state.functions → FitsTable t h) }
+    {
+        let settings = ready.plan().settings();
+        Ok(Table {
+            paths: paths_of(alloc, ready.table().rows())?,
+            ports: by_address(alloc, Space::Io, settings)?,
+            memory: by_address(alloc, Space::Mem, settings)?,
+        })
+    }
+}
+
+impl Route for Table {
+    ghost use Rattle.claim_table.specs.Tables.{FitsTable};
+    ghost use Rattle.claim_table.specs.Fitting.{fits_by_routing};
+
+    ghost fits = { FitsTable };
+
+    ghost by_routing = { fits_by_routing };
+
+    fn claimant(&self, _host: &Host, space: Space, addr: u64) -> Option<Claim> {
+        let entry = entry_at(of_space(space, &self.ports, &self.memory), addr)?;
+        Some(Claim {
+            path: self.paths[entry.function].copied(),
+            region: entry.region,
+            offset: addr - entry.first,
+        })
+    }
+
+    fn located(&self, _host: &Host, space: Space, addr: u64) -> Option<Located> {
+        let entry = entry_at(of_space(space, &self.ports, &self.memory), addr)?;
+        Some(Located {
+            index: entry.function,
+            region: entry.region,
+            offset: addr - entry.first,
+        })
+    }
+}
