@@ -1,3 +1,4 @@
+pub mod FoundBoards
 pub mod BridgeNumbers
 pub mod States
 pub mod MetRows

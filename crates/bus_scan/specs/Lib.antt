@@ -4,3 +4,4 @@ pub mod Scans
 pub mod Sights
 pub mod Probes
 pub mod SizedRows
+pub mod SizedTables

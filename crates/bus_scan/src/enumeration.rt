@@ -9,7 +9,7 @@ ghost use Rattle.model_board.specs.Cycles.{BusAddress, reached};
 ghost use Rattle.model_board.specs.Scanning.{BusNumbers, numbered_file, numbered_state};
 ghost use Rattle.model_board.specs.ScanOrder.{on, place, next_place, met};
 ghost use Rattle.model_board.specs.FunctionTable.{TableRow, scanned_table};
-ghost use Rattle.model_board.specs.AtReset.{board_at, IsAtReset, HasOwnNumbers};
+ghost use Rattle.model_board.specs.AtReset.{board_at, IsAtReset, IsNumbered, HasOwnNumbers};
 ghost use Rattle.host_bridge.specs.BusAddresses.{bus_address_of};
 ghost use Rattle.bus_scan.specs.declared.fault.Fault.TheVariants.{Buses, Memory};
 ghost use Rattle.bus_scan.specs.Scans.{given, ComesTo, OnBus, IsBridgeThere, IsRefused};
@@ -200,10 +200,13 @@ impl Enumeration {
 /// 256th one is written.
 pub fn scan(alloc: Global, host: &mut Host) -> Result<FunctionTable, Fault>
     requires { IsAtReset host.old.state }
-    ensures table { let b = board_at host.old.state.functions in IfOk result (λ t. t ≡ scanned_table b) }
-    ensures numbered { let b = board_at host.old.state.functions in IfOk result (λ _. host.new ≡ record host.old { state = numbered_state b }) }
-    ensures few { let b = board_at host.old.state.functions in IfOk result (λ _. Enumerates b) }
-    ensures refused { let b = board_at host.old.state.functions in IfErr result (λ f. (f ≡ Memory) ⊎ ((f ≡ Buses) × (Enumerates b → ⊥))) }
+    ensures board { board_at host.new.state.functions ≡ board_at host.old.state.functions }
+    ensures table { let b = board_at host.new.state.functions in IfOk result (λ t. t ≡ scanned_table b) }
+    ensures registers { IfOk result (λ _. IsNumbered host.new.state) }
+    ensures numbered { let b = board_at host.old.state.functions in
+        IfOk result (λ _. host.new ≡ record host.old { state = numbered_state b }) }
+    ensures refused { let b = board_at host.old.state.functions in
+        IfErr result (λ f. (f ≡ Memory) ⊎ ((f ≡ Buses) × (Enumerates b → ⊥))) }
     ensures own { let b = board_at host.old.state.functions in HasOwnNumbers b host.new.state }
     ensures kept { host.new.apertures ≡ host.old.apertures }
 {

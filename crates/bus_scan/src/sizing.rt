@@ -4,11 +4,11 @@ ghost use Rattle.std.specs.Prelude.{◌≡◌, ◌%◌, ◌<◌, IsFalse, IfSome
 ghost use Rattle.model_registers.specs.Declarations.{Bar, IsLawfulSize};
 ghost use Rattle.model_registers.specs.Sizing.{ShowsSize};
 ghost use Rattle.model_registers.specs.ByteEnables.{lanes};
-ghost use Rattle.model_board.specs.Paths.{last_part};
 ghost use Rattle.model_board.specs.AtReset.{board_at, IsNumbered};
-ghost use Rattle.model_board.specs.FunctionTable.{scanned_table, sized_table};
+ghost use Rattle.model_board.specs.FunctionTable.{scanned_table, sized_table, board_in};
 ghost use Rattle.headers.specs.Decodes.{io_decode_of, pref_decode_of};
 ghost use Rattle.host_bridge.specs.BusAddresses.{bus_address_of};
+ghost use Rattle.bus_scan.specs.SizedTables.{IsTableOf};
 ghost use Rattle.bus_scan.specs.Probes.{mask_shown, TakesBack, IsEndpointReached, IsBridgeReached, regions_reached, io_reached, pref_reached};
 ghost use Rattle.bus_scan.specs.SizedRows.{bar_at, bars_of, is_upper_half, is_after_wide, IsScannedRow, SizesRow};
 
@@ -138,18 +138,6 @@ fn size_pref_window(host: &mut Host, at: Bdf) -> PrefDecode
     }
 }
 
-/// The physical number of the function of a row.
-fn number_of(row: &FunctionRow) -> Bdf
-    ensures { bus_address_of result ≡ record { bus = row.now.bus; part = last_part row.now.path } }
-{
-    let part = row.path.last();
-    Bdf {
-        bus: row.bus,
-        device: part.device(),
-        function: part.function(),
-    }
-}
-
 /// Fills in the regions or the windows of a function.
 fn size_row(host: &mut Host, row: &mut FunctionRow)
     requires registers { IsNumbered host.old.state }
@@ -157,7 +145,7 @@ fn size_row(host: &mut Host, row: &mut FunctionRow)
     ensures sized { SizesRow (board_at host.old.state.functions) row.old row.new }
     ensures host { host.new ≡ host.old }
 {
-    let at = number_of(row);
+    let at = row.address();
     match &mut row.found {
         Found::Endpoint { pin: _, bars } => *bars = size_bars(host, at),
         Found::Bridge {
@@ -174,11 +162,14 @@ fn size_row(host: &mut Host, row: &mut FunctionRow)
 
 /// Fills in the regions and windows of all functions of a numbered board, by configuration cycles
 /// alone. Each register is written with all ones, read, and written back: afterwards every register is
-/// as it was. Nothing may be decoded meanwhile, as after a reset.
+/// as it was. Nothing may be decoded meanwhile, as after a reset. What was found is itself a board with
+/// this table.
 pub fn size_all(host: &mut Host, table: &mut FunctionTable)
     requires registers { IsNumbered host.old.state }
     requires scanned { table.old ≡ scanned_table (board_at host.old.state.functions) }
     ensures sized { table.new ≡ sized_table (board_at host.old.state.functions) }
+    ensures board { IsTableOf (board_at host.new.state.functions) table.new }
+    ensures found { IsTableOf (board_in table.new) table.new }
     ensures host { host.new ≡ host.old }
 {
     for row in table.rows.iter_mut() {

@@ -3,7 +3,7 @@ ghost use Rattle.std.specs.Prelude.{◌≡◌};
 
 use bars::BarDecl;
 use headers::{IoDecode, PrefDecode};
-use host_bridge::Path;
+use host_bridge::{Bdf, Path};
 use std::marker::Model;
 
 /// What is found of a function beside its identity: an endpoint's interrupt pin (0 for none, 1 to 4 for
@@ -51,8 +51,22 @@ impl Model for FunctionRow {
 
 impl FunctionRow {
     ghost use Rattle.std.specs.Prelude.{Option, Some, IsSome};
+    ghost use Rattle.model_board.specs.Paths.{last_part};
     ghost use Rattle.model_board.specs.FunctionTable.{BusRange};
+    ghost use Rattle.host_bridge.specs.BusAddresses.{bus_address_of};
     ghost use Rattle.bus_scan.specs.Rows.{ended};
+
+    /// The number that the function is reached by.
+    pub fn address(&self) -> Bdf
+        ensures { bus_address_of result ≡ record { bus = self.now.bus; part = last_part self.now.path } }
+    {
+        let part = self.path.last();
+        Bdf {
+            bus: self.bus,
+            device: part.device(),
+            function: part.function(),
+        }
+    }
 
     /// Sets the last number of a bridge's buses.
     pub(crate) fn end_numbers(&mut self, last: u8)

@@ -15,13 +15,6 @@ row_in t = record { path = t.path; decl = t.decl }
 pub bus_behind : (b : Board) (k : ℕ) (r : Row) → slice_get b k ≡ Some r → bus_path b (suc k) ≡ r.path
 bus_behind b k r e = rw e
 
-pub bus_of_row : (rows : List TableRow) (bus : ℕ) (t : TableRow) → (bus ≡ 0 → ⊥) → slice_get rows (bus - 1) ≡ Some t → bus_path (board_in rows) bus ≡ t.path
-bus_of_row rows zero t some e = absurd (some refl)
-bus_of_row rows (suc k) t some e =
-    let less : suc k - 1 ≡ k = omega arith in
-    let at : slice_get rows k ≡ Some t = subst (λ n. slice_get rows n ≡ Some t) less e in
-    bus_behind (board_in rows) k (row_in t) (map_at row_in rows k t at)
-
 -- a list by bus is read at a bus
 pub by_bus : {A : Type 0} (f : Path → A) (b : Board) (bus : ℕ) → bus ≤ length b → slice_get (map f (bus_paths b)) bus ≡ Some (f (bus_path b bus))
 by_bus f b zero h = refl

@@ -21,5 +21,7 @@ pub mod PlacedBuses
 pub mod FirstsSoFar
 pub mod BarLists
 pub mod PlacedFunctions
-pub mod RowsByBus
+pub mod RowTests
 pub mod Refusals
+pub mod TablePlans
+pub mod LayoutRows

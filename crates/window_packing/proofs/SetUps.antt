@@ -1,6 +1,6 @@
 -- Set-up end to end, over the definitions: what scan, sizing, placement and programming leave is a board that is ready, and a refusal
 -- is the first broken rule.
-use Rattle.std.proofs.Common.{◌≡◌, ℕ, Bool, true, false, List, [], ◌∷◌, Some, None, refl, sym, ap, ap₂, ◌∙◌, subst}
+use Rattle.std.proofs.Common.{◌≡◌, ◌⊎◌, inl, inr, ℕ, Bool, true, false, List, [], ◌∷◌, Some, None, refl, sym, ap, ◌∙◌, subst}
 use Rattle.std.specs.Prelude.{nat_le, count_by, IsTrue}
 use Rattle.std.proofs.lemmas.Bool.{le-leb, leb-true}
 use Rattle.model_registers.specs.DeclarationRules.{first_broken}
@@ -10,19 +10,25 @@ use Rattle.model_board.specs.BusNumbers.{Enumerates}
 use Rattle.model_board.specs.Lawful.{HasLawfulDecls}
 use Rattle.model_board.specs.Pools.{Apertures, Pool, io_pool, mem_pool, pref_pool, has_io_paths}
 use Rattle.model_board.specs.Placement.{fits}
+use Rattle.model_board.specs.Layout.{IsLawful, layout}
 use Rattle.model_board.specs.State.{State}
-use Rattle.model_board.specs.Scanning.{board_numbers, numbered_file, numbered_state}
 use Rattle.model_board.specs.Routing.{routing}
 use Rattle.model_board.specs.SetUp.{set_up_file, set_up_state}
 use Rattle.model_board.specs.SetUpWrites.{Plan, planned, placement_rules, set_up_rules}
-use Rattle.model_board.specs.FunctionTable.{TableRow, sized_table, board_in}
-use Rattle.model_board.specs.AtReset.{board_at, IsAtReset, IsNumbered}
+use Rattle.model_board.specs.FunctionTable.{TableRow, sized_table}
+use Rattle.model_board.specs.AtReset.{board_at}
 use Rattle.model_board.specs.UniqueClaimant.{CanBePlaced}
 use Rattle.model_board.proofs.StateRows.{state_rows}
-use Rattle.model_board.proofs.FoundPlacement.{found_few, placed_as_found}
+use Rattle.model_board.proofs.LawfulPlacement.{layout_is_lawful}
 use Rattle.model_board.proofs.UniqueClaimant.{unique_claimant}
 use Rattle.host_bridge.specs.HostState.{HostState}
+use Rattle.bus_scan.specs.declared.fault.Fault.{Fault}
+use Rattle.bus_scan.specs.declared.fault.Fault.TheVariants.{Memory}
+use Rattle.bus_scan.specs.Faults.{number_of}
+use Rattle.bus_scan.specs.SizedTables.{IsTableOf}
+use Rattle.window_packing.specs.Plans.{IsRefusal}
 use Rattle.window_packing.specs.Readies.{ReadyBoard, board_below, IsEnumerated, IsReady, OwnClaims}
+use Rattle.window_packing.proofs.Refusals.{all_kept}
 
 -- ---- rules
 
@@ -44,53 +50,19 @@ placeable b a board lawful apertures h =
     room x y z mem_pool = y
     room x y z pref_pool = z
 
+pub kept_placeable : (b : Board) (a : Apertures) → CanBePlaced b a → first_broken (placement_rules b a) ≡ None
+kept_placeable b a h = all_kept b a h.io_paths (h.room io_pool) (h.room mem_pool) (h.room pref_pool)
+
+pub rows_lawful : (b : Board) (a : Apertures) → CanBePlaced b a → IsLawful b a (layout b a)
+rows_lawful b a h = layout_is_lawful b a h.places h.declarations h.room
+
 pub rules_after_scan : (b : Board) (a : Apertures) → Enumerates b → first_broken (set_up_rules b a) ≡ first_broken (placement_rules b a)
 rules_after_scan b a few = let e : nat_le (count_by (λ (r : Row). is_bridge r.decl) b) 255 ≡ true = le-leb _ _ few in rw e refl
 
-pub too_many : (b : Board) (a : Apertures) → (Enumerates b → ⊥) → first_broken (set_up_rules b a) ≡ Some 201
-too_many b a many = by_test (nat_le (count_by (λ (r : Row). is_bridge r.decl) b) 255) refl
-  where
-    by_test : (t : Bool) → nat_le (count_by (λ (r : Row). is_bridge r.decl) b) 255 ≡ t → first_broken ((201, t) ∷ placement_rules b a) ≡ Some 201
-    by_test true e = absurd (many (leb-true _ _ e))
-    by_test false e = refl
-
--- ---- the board of a table
-
-pub table_is_board : (b : Board) (t : List TableRow) → IsBoard b → HasLawfulDecls b → t ≡ sized_table b → IsBoard (board_in t)
-table_is_board b t board lawful e = subst (λ (x : List TableRow). IsBoard (board_in x)) (sym e) (placed_as_found b board lawful).board
-
-pub table_is_lawful : (b : Board) (t : List TableRow) → IsBoard b → HasLawfulDecls b → t ≡ sized_table b → HasLawfulDecls (board_in t)
-table_is_lawful b t board lawful e = subst (λ (x : List TableRow). HasLawfulDecls (board_in x)) (sym e) (placed_as_found b board lawful).declarations
-
-pub table_enumerates : (b : Board) (t : List TableRow) → Enumerates b → t ≡ sized_table b → Enumerates (board_in t)
-table_enumerates b t few e = subst (λ (x : List TableRow). Enumerates (board_in x)) (sym e) (found_few b few)
-
-pub table_is_own : (b : Board) (t : List TableRow) → IsBoard b → HasLawfulDecls b → t ≡ sized_table b → t ≡ sized_table (board_in t)
-table_is_own b t board lawful e = e ∙ sym (placed_as_found b board lawful).table ∙ sym (ap (λ (x : List TableRow). sized_table (board_in x)) e)
-
-pub table_plan : (b : Board) (t : List TableRow) (a : Apertures) → IsBoard b → HasLawfulDecls b → t ≡ sized_table b → planned (board_in t) a ≡ planned b a
-table_plan b t a board lawful e = ap (λ (x : List TableRow). planned (board_in x) a) e ∙ (placed_as_found b board lawful).plan a
-
-pub table_rules : (b : Board) (t : List TableRow) (a : Apertures) → IsBoard b → HasLawfulDecls b → t ≡ sized_table b → placement_rules (board_in t) a ≡ placement_rules b a
-table_rules b t a board lawful e = ap (λ (x : List TableRow). placement_rules (board_in x) a) e ∙ (placed_as_found b board lawful).rules a
-
 -- ---- states
-
-pub numbered_rows : (b : Board) → board_at (numbered_state b).functions ≡ b
-numbered_rows b = state_rows b (numbered_file b (board_numbers b))
 
 pub set_up_rows : (b : Board) (a : Apertures) → board_at (set_up_state b a).functions ≡ b
 set_up_rows b a = state_rows b (set_up_file b a)
-
-pub numbered : (b : Board) → IsBoard b → HasLawfulDecls b → Enumerates b → IsNumbered (numbered_state b)
-numbered b board lawful few =
-    let rows = numbered_rows b in
-    record {
-      board = subst IsBoard (sym rows) board;
-      declarations = subst HasLawfulDecls (sym rows) lawful;
-      few = subst Enumerates (sym rows) few;
-      registers = ap numbered_state (sym rows);
-    }
 
 -- ---- ready
 
@@ -105,7 +77,14 @@ is_ready b a r can few host table plan =
     let P : Board → Type 0 = λ x. AreReady x a r.host.state r.table r.plan in
     let Q : Apertures → Type 0 = λ x. AreReady (board_below r.host) x r.host.state r.table r.plan in
     let facts = subst Q (sym same) (subst P (sym rows) whole) in
-    record { placeable = facts.0; few = facts.1; registers = facts.2; table = facts.3; plan = facts.4 }
+    record {
+      placeable = facts.0;
+      few = facts.1;
+      registers = facts.2;
+      table = facts.3;
+      plan = facts.4;
+      lawful = subst (λ (p : Plan). IsLawful (board_below r.host) r.host.apertures p.rows) (sym facts.4) (rows_lawful (board_below r.host) r.host.apertures facts.0);
+    }
 
 pub own_claims : (r : ReadyBoard) → IsReady r → OwnClaims r.host
 own_claims r ready fs same =
@@ -113,60 +92,47 @@ own_claims r ready fs same =
 
 -- ---- from reset on
 
--- a host at reset that was scanned, with its bus numbers
-pub numbers_left : (h : HostState) → IsAtReset h.state → Enumerates (board_below h) → (k : HostState) → k ≡ record h { state = numbered_state (board_below h) } → IsNumbered k.state
-numbers_left h reset few k left = subst (λ (x : HostState). IsNumbered x.state) (sym left) (numbered (board_below h) reset.board reset.declarations few)
-
-pub rows_left : (h k : HostState) → k ≡ record h { state = numbered_state (board_below h) } → board_below k ≡ board_below h
-rows_left h k left = ap board_below left ∙ numbered_rows (board_below h)
-
 -- h is the host at reset, k the same host when it is enumerated, t the table of its functions, and a its apertures
-module _ (h k : HostState) (t : List TableRow) (reset : IsAtReset h.state) (found : IsEnumerated h k t) (a : Apertures) (same : a ≡ k.apertures) where
-  pub numbers_found : IsNumbered k.state
-  numbers_found = numbers_left h reset found.few k found.host
-
+module _ (h k : HostState) (t : List TableRow) (found : IsEnumerated h k t) (a : Apertures) (same : a ≡ k.apertures) where
   apertures_left : a ≡ h.apertures
   apertures_left = same ∙ ap (λ (x : HostState). x.apertures) found.host
 
-  rules_left : first_broken (set_up_rules (board_below h) h.apertures) ≡ first_broken (placement_rules (board_in t) a)
-  rules_left =
-      rules_after_scan (board_below h) h.apertures found.few
-      ∙ ap first_broken (sym (ap (placement_rules (board_in t)) apertures_left ∙ table_rules (board_below h) t h.apertures reset.board reset.declarations found.table))
+  few : Enumerates (board_below h)
+  few = subst Enumerates found.board found.table.few
 
-  -- the rules of placement, judged over the table, are those of the board
-  pub refused_left : (n : ℕ) → first_broken (placement_rules (board_in t) a) ≡ Some n → first_broken (set_up_rules (board_below h) h.apertures) ≡ Some n
-  refused_left n e = rules_left ∙ e
+  -- the table is that of the board at reset
+  first_table : IsTableOf (board_below h) t
+  first_table = subst (λ (x : Board). IsTableOf x t) found.board found.table
 
-  module _ (lawful : IsLawfulApertures a) (kept : first_broken (placement_rules (board_in t) a) ≡ None) (p : Plan) (plan : p ≡ planned (board_in t) a) where
-    pub kept_left : first_broken (set_up_rules (board_below h) h.apertures) ≡ None
-    kept_left = rules_left ∙ kept
+  pub refused_left : (f : Fault) → ((b : Board) → IsTableOf b t → IsRefusal b a f) → (f ≡ Memory) ⊎ (first_broken (set_up_rules (board_below h) h.apertures) ≡ Some (number_of f))
+  refused_left f refused = by_cause (subst (λ (x : Apertures). IsRefusal (board_below h) x f) apertures_left (refused (board_below h) first_table))
+    where
+      by_cause : IsRefusal (board_below h) h.apertures f → (f ≡ Memory) ⊎ (first_broken (set_up_rules (board_below h) h.apertures) ≡ Some (number_of f))
+      by_cause (inl e) = inl e
+      by_cause (inr e) = inr (rules_after_scan (board_below h) h.apertures few ∙ e)
 
-    own_placeable : CanBePlaced (board_below h) h.apertures
-    own_placeable =
-        placeable (board_below h) h.apertures reset.board reset.declarations (subst IsLawfulApertures apertures_left lawful)
-        (sym (rules_after_scan (board_below h) h.apertures found.few) ∙ kept_left)
-
-    own_plan : p ≡ planned (board_below h) h.apertures
-    own_plan = plan ∙ ap (planned (board_in t)) apertures_left ∙ table_plan (board_below h) t h.apertures reset.board reset.declarations found.table
-
-    apertures_same : h.apertures ≡ k.apertures
-    apertures_same = sym (ap (λ (x : HostState). x.apertures) found.host)
-
+  module _ (p : Plan) (planned_so : (b : Board) → IsTableOf b t → p ≡ planned b a) (placeable_so : (b : Board) → IsTableOf b t → CanBePlaced b a) where
     pub placeable_left : CanBePlaced (board_below k) k.apertures
-    placeable_left = subst (CanBePlaced (board_below k)) apertures_same (subst (λ (x : Board). CanBePlaced x h.apertures) (sym (rows_left h k found.host)) own_placeable)
+    placeable_left = subst (CanBePlaced (board_below k)) same (placeable_so (board_below k) found.table)
 
     pub plan_left : p ≡ planned (board_below k) k.apertures
-    plan_left = own_plan ∙ ap₂ planned (sym (rows_left h k found.host)) apertures_same
+    plan_left = planned_so (board_below k) found.table ∙ ap (planned (board_below k)) same
+
+    pub kept_left : first_broken (set_up_rules (board_below h) h.apertures) ≡ None
+    kept_left =
+        rules_after_scan (board_below h) h.apertures few
+        ∙ ap (λ (x : Apertures). first_broken (placement_rules (board_below h) x)) (sym apertures_left)
+        ∙ kept_placeable (board_below h) a (placeable_so (board_below h) first_table)
 
     -- m is the host when it is programmed
     module _ (m : HostState) (left : m ≡ record k { state = set_up_state (board_below k) k.apertures }) where
       pub host_left : m ≡ record h { state = set_up_state (board_below h) h.apertures }
       host_left =
-          left ∙ ap (λ (x : HostState). record x { state = set_up_state (board_below x) x.apertures }) found.host
-          ∙ ap (λ (x : Board). record h { state = set_up_state x h.apertures }) (numbered_rows (board_below h))
+          left ∙ ap (λ (x : Board). record k { state = set_up_state x k.apertures }) found.board
+          ∙ ap (λ (x : HostState). record x { state = set_up_state (board_below h) x.apertures }) found.host
 
       pub board_left : board_below m ≡ board_below h
       board_left = ap board_below host_left ∙ set_up_rows (board_below h) h.apertures
 
       pub ready_left : IsReady (record { host = m; table = t; plan = p })
-      ready_left = is_ready (board_below h) h.apertures (record { host = m; table = t; plan = p }) own_placeable found.few host_left found.table own_plan
+      ready_left = is_ready (board_below k) k.apertures (record { host = m; table = t; plan = p }) placeable_left found.table.few left found.table.sized plan_left

@@ -5,3 +5,4 @@ pub mod Buses
 pub mod Packs
 pub mod Searching
 pub mod Placed
+pub mod LayoutRows

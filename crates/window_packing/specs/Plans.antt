@@ -2,22 +2,27 @@
 --     named_pool, named_placed      a pool; a region's register or a window
 --     placed_named      a region's register or a window, from the definitions' word
 --     fault_of      what is wrong where a pool doesn't fit
+--     IsRefusal b a f      memory is out, or f has the number of the first rule that the board breaks
 --     writes_of      what is written into a function
+use Rattle.std.specs.Prelude.{◌≡◌, ◌⊎◌, Some}
+use Rattle.model_registers.specs.DeclarationRules.{first_broken}
+use Rattle.model_board.specs.Board.{Board}
 use Rattle.model_board.specs.Pools.{io_pool, mem_pool, pref_pool}
 use Rattle.model_board.specs.Pools as pools
 use Rattle.model_board.specs.Placement.{a_region, a_window}
 use Rattle.model_board.specs.Placement as placement
-use Rattle.model_board.specs.SetUpWrites.{to_endpoint, to_bridge}
+use Rattle.model_board.specs.SetUpWrites.{to_endpoint, to_bridge, placement_rules}
 use Rattle.model_board.specs.SetUpWrites as set_up
 use Rattle.bars.specs.Slots.{bases_from}
 use Rattle.bus_scan.specs.declared.fault.Fault.{Fault}
-use Rattle.bus_scan.specs.declared.fault.Fault.TheVariants.{IoPool, MemoryPool, PrefetchablePool}
-use Rattle.window_packing.specs.declared.planned.Pool.{Pool}
-use Rattle.window_packing.specs.declared.planned.Pool.TheVariants as pool
-use Rattle.window_packing.specs.declared.planned.Placed.{Placed}
-use Rattle.window_packing.specs.declared.planned.Placed.TheVariants as placed
-use Rattle.window_packing.specs.declared.planned.Writes.{Writes}
-use Rattle.window_packing.specs.declared.planned.Writes.TheVariants as writes
+use Rattle.bus_scan.specs.declared.fault.Fault.TheVariants.{IoPool, MemoryPool, PrefetchablePool, Memory}
+use Rattle.bus_scan.specs.Faults.{number_of}
+use Rattle.window_packing.specs.declared.pool.Pool.{Pool}
+use Rattle.window_packing.specs.declared.pool.Pool.TheVariants as pool
+use Rattle.window_packing.specs.declared.layout_row.Placed.{Placed}
+use Rattle.window_packing.specs.declared.layout_row.Placed.TheVariants as placed
+use Rattle.window_packing.specs.declared.setting.Writes.{Writes}
+use Rattle.window_packing.specs.declared.setting.Writes.TheVariants as writes
 
 abbrev pub named_pool : Pool → pools.Pool
 named_pool pool.Io = io_pool
@@ -28,6 +33,10 @@ abbrev pub fault_of : Pool → Fault
 fault_of pool.Io = IoPool
 fault_of pool.Mem = MemoryPool
 fault_of pool.Pref = PrefetchablePool
+
+-- the first rule of placement, by number
+abbrev pub IsRefusal : Board → pools.Apertures → Fault → Type 0
+IsRefusal b a f = (f ≡ Memory) ⊎ (first_broken (placement_rules b a) ≡ Some (number_of f))
 
 abbrev pub named_placed : Placed → placement.Placed
 named_placed (placed.Region index) = a_region index

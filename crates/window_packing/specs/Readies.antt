@@ -1,21 +1,25 @@
--- A board that is set up: PCI Local Bus 3.0, chapter 6.2.5; PCI-to-PCI Bridge Architecture 1.2, chapters 3.2.5 and 4.
+-- A board that is set up: PCI Local Bus 3.0, chapter 6.2.5; PCI-to-PCI Bridge Architecture 1.2, chapters 3.2.5
+-- and 4.
 --     ReadyBoard      a host, what was found of its functions, and where their regions and windows stand
 --     board_below      the functions below a host
 --     IsEnumerated      what scan and sizing leave of a host at reset: its bus numbers, and its functions in a table
---     IsReady      registers, table and plan are those that set-up gives to the board
---     OwnClaims      in every state with these routing registers each byte of a placed region has its own claim, and no other address any
+--     IsReady      registers, table and plan are those that set-up gives to the board, and the plan's rows a lawful layout
+--     OwnClaims      in every state with these routing registers each byte of a placed region has its own claim, and no
+--         other address any
 use Rattle.std.specs.Prelude.{List, ◌≡◌}
 use Rattle.model_board.specs.Board.{Board}
 use Rattle.model_board.specs.BusNumbers.{Enumerates}
 use Rattle.model_board.specs.State.{BoardFunction}
-use Rattle.model_board.specs.AtReset.{board_at}
-use Rattle.model_board.specs.FunctionTable.{TableRow, sized_table}
+use Rattle.model_board.specs.AtReset.{board_at, IsNumbered}
+use Rattle.model_board.specs.FunctionTable.{TableRow, sized_table, board_in}
+use Rattle.model_board.specs.Layout.{IsLawful}
 use Rattle.model_board.specs.Routing.{routing}
 use Rattle.model_board.specs.Scanning.{numbered_state}
 use Rattle.model_board.specs.SetUp.{set_up_state}
 use Rattle.model_board.specs.SetUpWrites.{Plan, planned}
 use Rattle.model_board.specs.UniqueClaimant.{CanBePlaced, HasUniqueClaims}
 use Rattle.host_bridge.specs.HostState.{HostState}
+use Rattle.bus_scan.specs.SizedTables.{IsTableOf}
 
 pub record ReadyBoard : Type 0 where
   pub host : HostState
@@ -25,10 +29,13 @@ pub record ReadyBoard : Type 0 where
 abbrev pub board_below : HostState → Board
 board_below h = board_at h.state.functions
 
+-- h is at reset, k the same host when it is enumerated, and t the table of its functions
 pub record IsEnumerated (h k : HostState) (t : List TableRow) : Type 0 where
-  pub few : Enumerates (board_below h)
   pub host : k ≡ record h { state = numbered_state (board_below h) }
-  pub table : t ≡ sized_table (board_below h)
+  pub board : board_below k ≡ board_below h
+  pub registers : IsNumbered k.state
+  pub table : IsTableOf (board_below k) t
+  pub found : IsTableOf (board_in t) t
 
 pub record IsReady (r : ReadyBoard) : Type 0 where
   pub placeable : CanBePlaced (board_below r.host) r.host.apertures
@@ -36,7 +43,9 @@ pub record IsReady (r : ReadyBoard) : Type 0 where
   pub registers : r.host.state ≡ set_up_state (board_below r.host) r.host.apertures
   pub table : r.table ≡ sized_table (board_below r.host)
   pub plan : r.plan ≡ planned (board_below r.host) r.host.apertures
+  pub lawful : IsLawful (board_below r.host) r.host.apertures r.plan.rows
 
 -- in every state with the host's routing registers: each function's Command, and its bases or windows
 abbrev pub OwnClaims : HostState → Type 0
-OwnClaims h = (fs : List BoardFunction) → routing fs ≡ routing h.state.functions → HasUniqueClaims (board_below h) h.apertures fs
+OwnClaims h = (fs : List BoardFunction) → routing fs ≡ routing h.state.functions →
+    HasUniqueClaims (board_below h) h.apertures fs

@@ -3,7 +3,7 @@ ghost use Rattle.std.specs.Ordering.{is_lt};
 ghost use Rattle.std.specs.Prelude.{◌≡◌};
 ghost use Rattle.model_board.specs.Placement.{register_of, stands_before};
 
-use crate::planned::Placed;
+use crate::layout_row::Placed;
 use bridge_forward::Part;
 use std::cmp::Ordering;
 use std::marker::Model;

@@ -3,23 +3,28 @@
 #![tactic(auto)]
 
 mod above;
+mod board_plan;
+mod bus_items;
+mod bus_packs;
 mod item;
+mod layout_row;
 mod order;
 mod pack;
-mod placed;
-mod planned;
-mod planner;
+mod planning;
 mod pool;
+mod pool_placement;
 mod programming;
 mod ready;
-mod regions;
 mod rows;
 mod search;
+mod setting;
 mod settings;
-mod windows;
 
+pub use board_plan::Plan;
+pub use layout_row::{Placed, PlanRow};
 pub use model_board::flat_need;
-pub use planned::{Placed, Plan, PlanRow, Pool, Setting, Window, Writes};
-pub use planner::plan;
+pub use planning::plan;
+pub use pool::Pool;
 pub use programming::program;
 pub use ready::{Ready, set_up};
+pub use setting::{Setting, Window, Writes};

@@ -7,9 +7,16 @@ ghost use Rattle.window_packing.specs.Plans.{named_pool};
 ghost use Rattle.window_packing.specs.Packs.{IsOver};
 
 use crate::above::Above;
-use crate::planned::Pool;
 use bars::Kind;
 use headers::{Aperture, Apertures};
+
+/// The apertures that regions and windows are placed in.
+#[derive(Clone, Copy, Debug, PartialEq, Eq, PartialOrd, Ord)]
+pub enum Pool {
+    Io,
+    Mem,
+    Pref,
+}
 
 impl Pool {
     /// A window of this pool extends over whole units of so many bytes.

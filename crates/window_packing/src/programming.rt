@@ -8,7 +8,8 @@ ghost use Rattle.bars.specs.Slots.{placed, bases_from};
 ghost use Rattle.host_bridge.specs.BusAddresses.{bus_address_of};
 ghost use Rattle.window_packing.specs.WordWrites.{word, after_word, after_words, base_words, endpoint_words, bridge_words, window_word, io_word, io_upper_word, words_of, host_after};
 
-use crate::planned::{Plan, Setting, Window, Writes};
+use crate::board_plan::Plan;
+use crate::setting::{Setting, Window, Writes};
 use bars::Region;
 use host_bridge::{Bdf, Host};
 

@@ -7,8 +7,8 @@ ghost use Rattle.model_board.specs.SetUpWrites.{set_up_rules};
 ghost use Rattle.bus_scan.specs.Faults.{number_of};
 ghost use Rattle.bus_scan.specs.declared.fault.Fault.TheVariants.{Memory};
 
-use crate::planned::Plan;
-use crate::planner::plan;
+use crate::board_plan::Plan;
+use crate::planning::plan;
 use crate::programming::program;
 use bus_scan::{Fault, FunctionTable, scan, size_all};
 use host_bridge::Host;
@@ -71,7 +71,8 @@ ghost use Rattle.window_packing.specs.Readies.{board_below, IsEnumerated, OwnCla
 fn enumerate(alloc: Global, host: &mut Host) -> Result<FunctionTable, Fault>
     requires { IsAtReset host.old.state }
     ensures found { IfOk result (λ t. IsEnumerated host.old host.new t) }
-    ensures refused { IfErr result (λ f. (f ≡ Memory) ⊎ (first_broken (set_up_rules (board_below host.old) host.old.apertures) ≡ Some (number_of f))) }
+    ensures refused { IfErr result (λ f. (f ≡ Memory) ⊎
+        (first_broken (set_up_rules (board_below host.old) host.old.apertures) ≡ Some (number_of f))) }
 {
     let mut table = scan(alloc, host)?;
     size_all(host, &mut table);
@@ -87,13 +88,12 @@ pub fn set_up(alloc: Global, host: Host) -> Result<Ready, Fault>
     ensures board { IfOk result (λ r. board_below r.host ≡ board_below host) }
     ensures kept { IfOk result (λ _. first_broken (set_up_rules (board_below host) host.apertures) ≡ None) }
     ensures claims { IfOk result (λ r. OwnClaims r.host) }
-    ensures refused { IfErr result (λ f. (f ≡ Memory) ⊎ (first_broken (set_up_rules (board_below host) host.apertures) ≡ Some (number_of f))) }
+    ensures refused { IfErr result (λ f. (f ≡ Memory) ⊎
+        (first_broken (set_up_rules (board_below host) host.apertures) ≡ Some (number_of f))) }
 {
     let mut host = host;
     let table = enumerate(alloc, &mut host)?;
     let apertures = host.apertures();
-    // The I/O aperture is never empty.
-    prove!(apertures.io().first <= apertures.io().last);
     let plan = plan(alloc, &table, &apertures)?;
     program(&mut host, &plan);
     Ok(Ready { host, table, plan })

@@ -3,7 +3,6 @@ ghost use Rattle.std.specs.Prelude.{◌≡◌, ◌<◌, ◌≤◌, ◌+◌, ◌^
 ghost use Rattle.std.specs.List.{list_any};
 ghost use Rattle.model_registers.specs.Lists.{Each, EachPair};
 ghost use Rattle.model_registers.specs.Declarations.{Endpoint as EndpointValue};
-ghost use Rattle.model_board.specs.Paths.{last_part};
 ghost use Rattle.model_board.specs.Board.{Row, IsBoard};
 ghost use Rattle.model_board.specs.Lawful.{HasLawfulDecls};
 ghost use Rattle.model_board.specs.FunctionTable.{board_in, sized_table};
@@ -14,7 +13,6 @@ ghost use Rattle.model_board.specs.SetUpWrites.{placed_base, writes_of, settings
 ghost use Rattle.bars.specs.Kinds.{named_space};
 ghost use Rattle.bars.specs.Slots.{bases_from};
 ghost use Rattle.bus_scan.specs.Rows.{regions_of};
-ghost use Rattle.host_bridge.specs.BusAddresses.{bus_address_of};
 ghost use Rattle.window_packing.specs.Plans.{named_pool, writes_of as named_writes};
 ghost use Rattle.window_packing.specs.Buses.{AreAbove};
 ghost use Rattle.window_packing.specs.Packs.{pack_items, regions_from};
@@ -23,15 +21,15 @@ ghost use Rattle.window_packing.specs.Placed.{IsPlaced, IsPlacement, IsAboveAt, 
 use crate::above::Above;
 use crate::item::Item;
 use crate::pack::{BusPack, round_up};
-use crate::placed::{PlacedPool, Placement};
-use crate::planned::{Placed, Pool, Setting, Window, Writes};
-use crate::pool::pool_of;
+use crate::pool_placement::{PlacedPool, Placement};
+use crate::layout_row::Placed;
+use crate::pool::{Pool, pool_of};
+use crate::setting::{Setting, Window, Writes};
 use crate::search::offset_of;
 use bars::{BarDecl, Region, Space};
 use bridge_forward::Part;
 use bus_scan::{Found, FunctionRow};
 use headers::Apertures;
-use host_bridge::Bdf;
 use std::alloc::{AllocError, Global};
 
 /// Whether one of the regions lies in a space.
@@ -205,18 +203,6 @@ fn writes_of(
     }
 }
 
-/// The number that the function is reached by.
-fn number_of(row: &FunctionRow) -> Bdf
-    ensures { bus_address_of result ≡ record { bus = row.now.bus; part = last_part row.now.path } }
-{
-    let part = row.path.last();
-    Bdf {
-        bus: row.bus,
-        device: part.device(),
-        function: part.function(),
-    }
-}
-
 /// What is written into each function, in path order.
 pub(crate) fn all_settings(
     alloc: Global,
@@ -235,7 +221,7 @@ pub(crate) fn all_settings(
     let mut list = Vec::with_capacity(alloc, rows.len())?;
     for i in 0..rows.len() {
         list.push(Setting {
-            at: number_of(&rows[i]),
+            at: rows[i].address(),
             writes: writes_of(rows, i, &above[i], apertures, placement),
         })?;
     }

@@ -9,6 +9,7 @@ ghost use Rattle.window_packing.specs.Readies.{OwnClaims, board_below};
 use crate::boards::*;
 use headers::{Apertures, IoDecode, PrefDecode};
 use host_bridge::{Host, TreeWalk};
+use std::alloc::{AllocError, Global};
 use std::process::Abort;
 use std::test::Fail;
 use window_packing::{PlanRow, Pool, Ready, set_up};
@@ -33,15 +34,20 @@ fn first_byte(rt: &impl Abort, host: &mut Host, row: &PlanRow) -> u32
 }
 
 /// Reads the first byte of each region. All of them are 0 on a board without register cells.
-fn first_bytes_are_clear(rt: &impl Abort, ready: Ready) -> bool {
+fn first_bytes_are_clear(
+    rt: &impl Abort,
+    alloc: Global,
+    ready: Ready,
+) -> Result<bool, AllocError> {
     let (mut host, _, plan) = ready.into_parts();
+    let rows = plan.rows(alloc)?;
     let mut clear = true;
-    for row in plan.rows() {
+    for row in rows.iter() {
         if row.size > 0 {
             clear = clear && first_byte(rt, &mut host, row) == 0;
         }
     }
-    clear
+    Ok(clear)
 }
 
 #[test]
@@ -49,6 +55,6 @@ fn each_region_is_reached(rt: HostRuntime) -> Result<(), Fail> {
     let alloc = rt.alloc();
     let decls = main_decls(&rt, alloc, IoDecode::Bits16, PrefDecode::Bits64)?;
     let host = host(&rt, alloc, decls, Apertures::new(IO, MEM, Some(PREF))?)?;
-    assert!(rt; first_bytes_are_clear(&rt, set_up(alloc, host)?));
+    assert!(rt; first_bytes_are_clear(&rt, alloc, set_up(alloc, host)?)?);
     Ok(())
 }

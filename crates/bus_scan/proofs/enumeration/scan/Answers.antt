@@ -1,11 +1,12 @@
-use Rattle.std.proofs.Common.{◌≡◌, List, [], sym, subst, refl, inl, ◌∙◌}
+use Rattle.std.proofs.Common.{◌≡◌, List, [], sym, ap, subst, refl, inl, ◌∙◌}
 use Rattle.std.proofs.lemmas.Result.{err_from_is_err_and}
-use Rattle.model_board.specs.FunctionTable.{TableRow}
+use Rattle.model_board.specs.FunctionTable.{TableRow, scanned_table}
 use Rattle.model_board.specs.ScanOrder.{on}
 use Rattle.model_board.specs.Scanning.{board_numbers}
 use Rattle.model_board.specs.AtReset.{board_at, IsAtReset}
 use Rattle.model_board.specs.State.{State}
 use Rattle.bus_scan.specs.Scans.{IsAt, OnBus}
+use Rattle.bus_scan.proofs.FoundBoards.{same_board, numbered_board}
 use Rattle.bus_scan.proofs.ScanSteps.{started, ended}
 use Rattle.bus_scan.proofs.enumeration.scan.Goals as goal
 
@@ -22,16 +23,36 @@ returns-in_err-scan_bus-clause-refused c =
     let refused = c.in_err-scan_bus.ensures.scanned b (whole c.args.host.now.state c.requires) (begun c.args.host.now.state c.new.result.items c.requires c.new.ensures.items) in
     rw (p.1, p.2) refused.cause
 
+pub returns-in_err-scan_bus-clause-board : goal.returns-in_err-scan_bus-clause-board
+returns-in_err-scan_bus-clause-board c =
+    let b = board_at c.args.host.now.state.functions in
+    same_board b c.scan_bus.new.host.state (c.in_err-scan_bus.ensures.scanned b (whole c.args.host.now.state c.requires) (begun c.args.host.now.state c.new.result.items c.requires c.new.ensures.items)).registers
+
 pub returns-in_err-scan_bus-clause-own : goal.returns-in_err-scan_bus-clause-own
 returns-in_err-scan_bus-clause-own c =
     let b = board_at c.args.host.now.state.functions in
     (c.in_err-scan_bus.ensures.scanned b (whole c.args.host.now.state c.requires) (begun c.args.host.now.state c.new.result.items c.requires c.new.ensures.items)).registers
 
+pub returns-clause-board : goal.returns-clause-board
+returns-clause-board c =
+    let b = board_at c.args.host.now.state.functions in
+    let at = c.in_ok-scan_bus.ensures.scanned b (whole c.args.host.now.state c.requires) (begun c.args.host.now.state c.new.result.items c.requires c.new.ensures.items) in
+    let scanned = ended b c.requires.board c.scan_bus.new.host.state c.scan_bus.new.self.rows.items c.scan_bus.new.self.last at in
+    same_board b c.scan_bus.new.host.state (board_numbers b, scanned.state)
+
 pub returns-clause-table : goal.returns-clause-table
 returns-clause-table c =
     let b = board_at c.args.host.now.state.functions in
     let at = c.in_ok-scan_bus.ensures.scanned b (whole c.args.host.now.state c.requires) (begun c.args.host.now.state c.new.result.items c.requires c.new.ensures.items) in
-    c.of.ensures ∙ (ended b c.requires.board c.scan_bus.new.host.state c.scan_bus.new.self.rows.items c.scan_bus.new.self.last at).table
+    let scanned = ended b c.requires.board c.scan_bus.new.host.state c.scan_bus.new.self.rows.items c.scan_bus.new.self.last at in
+    c.of.ensures ∙ scanned.table ∙ ap scanned_table (sym (same_board b c.scan_bus.new.host.state (board_numbers b, scanned.state)))
+
+pub returns-clause-registers : goal.returns-clause-registers
+returns-clause-registers c =
+    let b = board_at c.args.host.now.state.functions in
+    let at = c.in_ok-scan_bus.ensures.scanned b (whole c.args.host.now.state c.requires) (begun c.args.host.now.state c.new.result.items c.requires c.new.ensures.items) in
+    let scanned = ended b c.requires.board c.scan_bus.new.host.state c.scan_bus.new.self.rows.items c.scan_bus.new.self.last at in
+    numbered_board b c.scan_bus.new.host.state c.requires.board c.requires.declarations scanned.few scanned.state
 
 pub returns-clause-numbered : goal.returns-clause-numbered
 returns-clause-numbered c =
@@ -40,14 +61,9 @@ returns-clause-numbered c =
     let scanned = ended b c.requires.board c.scan_bus.new.host.state c.scan_bus.new.self.rows.items c.scan_bus.new.self.last at in
     λ i. record { state = scanned.state i; apertures = c.scan_bus.ensures.kept i }
 
-pub returns-clause-few : goal.returns-clause-few
-returns-clause-few c =
-    let b = board_at c.args.host.now.state.functions in
-    let at = c.in_ok-scan_bus.ensures.scanned b (whole c.args.host.now.state c.requires) (begun c.args.host.now.state c.new.result.items c.requires c.new.ensures.items) in
-    (ended b c.requires.board c.scan_bus.new.host.state c.scan_bus.new.self.rows.items c.scan_bus.new.self.last at).few
-
 pub returns-clause-own : goal.returns-clause-own
 returns-clause-own c =
     let b = board_at c.args.host.now.state.functions in
     let at = c.in_ok-scan_bus.ensures.scanned b (whole c.args.host.now.state c.requires) (begun c.args.host.now.state c.new.result.items c.requires c.new.ensures.items) in
-    (board_numbers b, (ended b c.requires.board c.scan_bus.new.host.state c.scan_bus.new.self.rows.items c.scan_bus.new.self.last at).state)
+    let scanned = ended b c.requires.board c.scan_bus.new.host.state c.scan_bus.new.self.rows.items c.scan_bus.new.self.last at in
+    (board_numbers b, scanned.state)

@@ -1,8 +1,9 @@
-use Rattle.std.proofs.Common.{length, sym, ap, ◌∙◌, arith}
+use Rattle.std.proofs.Common.{◌≡◌, ◌++◌, drop, take, length, sym, ap, ◌∙◌, arith}
 use Rattle.std.proofs.lemmas.List.{length-map}
 use Rattle.model_board.specs.AtReset.{board_at}
-use Rattle.model_board.specs.FunctionTable.{table_row, met_decl}
+use Rattle.model_board.specs.FunctionTable.{table_row, met_decl, sized_table}
 use Rattle.bus_scan.proofs.TableSteps.{none_sized, next_scanned, next_sized, whole_sized, came_back}
+use Rattle.bus_scan.proofs.FoundBoards.{table_of, table_left, table_of_found}
 use Rattle.bus_scan.proofs.sizing.size_all.Goals as goal
 
 pub loop-row-init : goal.loop-row-init
@@ -21,10 +22,21 @@ loop-row-preserved c =
     next_sized c.args.host.now c.loop-row.host c.loop-row.row-items c.loop-row.row-index c.loop-row.invariant (omega (arith, count)) c.size_row.new.host c.size_row.ensures.host c.row-item.result c.size_row.new.row
     c.size_row.ensures.sized
 
-pub returns-clause-sized : goal.returns-clause-sized
-returns-clause-sized c =
+-- the rows when the loop ends
+sized : (c : goal.After-table-1) → take c.table.inside.rows.len (c.loop-row.row-items ++ drop (length c.loop-row.row-items) c.table.inside.rows.items) ≡ sized_table (board_at c.args.host.now.state.functions)
+sized c =
     let b = board_at c.args.host.now.state.functions in
     let count = ap length (c.deref_mut-row-items.ensures.value ∙ c.table.view_is ∙ c.requires.scanned) ∙ length-map b (table_row b met_decl) in
     came_back c.table.inside.rows.len c.loop-row.row-items c.table.inside.rows.items (c.loop-row.auto.row-items ∙ ap length c.deref_mut-row-items.ensures.value)
     (sym c.deref_mut-row-items.ensures.len ∙ ap length c.deref_mut-row-items.ensures.value)
     ∙ whole_sized c.args.host.now c.loop-row.host c.loop-row.row-items c.loop-row.row-index c.loop-row.invariant (omega (arith, count))
+
+pub returns-clause-sized : goal.returns-clause-sized
+returns-clause-sized c = sized c
+
+pub returns-clause-board : goal.returns-clause-board
+returns-clause-board c =
+    table_left c.args.host.now c.loop-row.host c.loop-row.invariant.host c.requires.registers _ (sized c)
+
+pub returns-clause-found : goal.returns-clause-found
+returns-clause-found c = table_of_found (board_at c.args.host.now.state.functions) _ (table_of c.args.host.now.state c.requires.registers _ (sized c))

@@ -12,39 +12,39 @@ use Rattle.bus_scan.proofs.sizing.size_row.Goals.{in-Endpoint, in-Bridge}
 
 pub size_bars-requires-clause-endpoint : goal.size_bars-requires-clause-endpoint
 size_bars-requires-clause-endpoint c =
-    endpoint_reached c.args.host.now.state c.requires.registers (bus_address_of c.number_of-at.result) c.args.row.now c.number_of-at.ensures c.requires.scanned _
+    endpoint_reached c.args.host.now.state c.requires.registers (bus_address_of c.address-at.result) c.args.row.now c.address-at.ensures c.requires.scanned _
     (ap (λ (t : TableRow). t.decl) (sym c.row.view_is) ∙ ap (decl_of c.row.inside.vendor c.row.inside.device) c.in-Endpoint.is)
 
 pub size_io_window-requires-clause-bridge : goal.size_io_window-requires-clause-bridge
 size_io_window-requires-clause-bridge c =
-    bridge_reached c.args.host.now.state c.requires.registers (bus_address_of c.number_of-at.result) c.args.row.now c.number_of-at.ensures c.requires.scanned _
+    bridge_reached c.args.host.now.state c.requires.registers (bus_address_of c.address-at.result) c.args.row.now c.address-at.ensures c.requires.scanned _
     (ap (λ (t : TableRow). t.decl) (sym c.row.view_is) ∙ ap (decl_of c.row.inside.vendor c.row.inside.device) c.in-Bridge.is)
 
 pub size_pref_window-requires-clause-bridge : goal.size_pref_window-requires-clause-bridge
 size_pref_window-requires-clause-bridge c =
-    subst (λ (h : HostState). IsBridgeReached h.state.functions (bus_address_of c.number_of-at.result)) (sym c.size_io_window.ensures.host)
-    (bridge_reached c.args.host.now.state c.requires.registers (bus_address_of c.number_of-at.result) c.args.row.now c.number_of-at.ensures c.requires.scanned _
+    subst (λ (h : HostState). IsBridgeReached h.state.functions (bus_address_of c.address-at.result)) (sym c.size_io_window.ensures.host)
+    (bridge_reached c.args.host.now.state c.requires.registers (bus_address_of c.address-at.result) c.args.row.now c.address-at.ensures c.requires.scanned _
     (ap (λ (t : TableRow). t.decl) (sym c.row.view_is) ∙ ap (decl_of c.row.inside.vendor c.row.inside.device) c.in-Bridge.is))
 
 pub returns-clause-sized : goal.returns-clause-sized
 returns-clause-sized c =
     let s = c.args.host.now.state in
-    let at = bus_address_of c.number_of-at.result in
+    let at = bus_address_of c.address-at.result in
     let row = c.args.row.now in
     let x = c.row.inside in
     λ r m met. elim c.match-row.branch [
       | in-Endpoint w ↦
           let view : row_of x.path x.bus x.vendor x.device (variants.Endpoint w.in-Endpoint.pin w.in-Endpoint.bars) ≡ row =
           ap (row_of x.path x.bus x.vendor x.device) (sym w.in-Endpoint.is) ∙ c.row.view_is in
-          let is = endpoint_reached s c.requires.registers at row c.number_of-at.ensures c.requires.scanned _
+          let is = endpoint_reached s c.requires.registers at row c.address-at.ensures c.requires.scanned _
           (ap (λ (t : TableRow). t.decl) (sym view)) in
           ap (λ (y : Inside). row_of y.path y.bus y.vendor y.device y.found) w.row-inside-is
-          ∙ sized_endpoint s c.requires.registers at row c.number_of-at.ensures r m met is x.path x.bus x.vendor x.device w.in-Endpoint.pin w.in-Endpoint.bars w.size_bars.result view w.size_bars.ensures.bars
+          ∙ sized_endpoint s c.requires.registers at row c.address-at.ensures r m met is x.path x.bus x.vendor x.device w.in-Endpoint.pin w.in-Endpoint.bars w.size_bars.result view w.size_bars.ensures.bars
       | in-Bridge w ↦
           let view : row_of x.path x.bus x.vendor x.device (variants.Bridge w.in-Bridge.secondary w.in-Bridge.subordinate w.in-Bridge.io w.in-Bridge.pref) ≡ row =
           ap (row_of x.path x.bus x.vendor x.device) (sym w.in-Bridge.is) ∙ c.row.view_is in
           ap (λ (y : Inside). row_of y.path y.bus y.vendor y.device y.found) w.row-inside-is
-          ∙ sized_bridge s c.requires.registers at row c.number_of-at.ensures r m met x.path x.bus x.vendor x.device w.in-Bridge.secondary w.in-Bridge.subordinate w.in-Bridge.io w.size_io_window.result w.in-Bridge.pref w.size_pref_window.result
+          ∙ sized_bridge s c.requires.registers at row c.address-at.ensures r m met x.path x.bus x.vendor x.device w.in-Bridge.secondary w.in-Bridge.subordinate w.in-Bridge.io w.size_io_window.result w.in-Bridge.pref w.size_pref_window.result
           view w.size_io_window.ensures.decode
           (w.size_pref_window.ensures.decode ∙ ap (λ (h : HostState). pref_reached h.state.functions at) w.size_io_window.ensures.host)
     ]

@@ -21,7 +21,7 @@ loop-i-preserved c =
     let read : slice_get rows i ≡ Some t = read_at rows i t c.loop-i-test.true c.index-rows-i.is in
     let at : slice_get b i ≡ Some (row_in t) = map_at row_in rows i t read in
     let numbered : t ≡ table_row b found_decl (row_in t) = same_at (sized_table b) i t (table_row b found_decl (row_in t)) (subst (λ (ts : List TableRow). slice_get ts i ≡ Some t) c.requires.numbered read) (map_at (table_row b found_decl) b i (row_in t) at) in
-    let number = c.number_of.ensures ∙ ap (λ (n : ℕ). let x : BusAddress = record { bus = n; part = last_part t.path } in x) (ap (λ (u : TableRow). u.bus) numbered) in
+    let number = c.address.ensures ∙ ap (λ (n : ℕ). let x : BusAddress = record { bus = n; part = last_part t.path } in x) (ap (λ (u : TableRow). u.bus) numbered) in
     let one = ap₂ (λ (x : BusAddress) (y : Writes). let s : Setting = record { at = x; writes = y } in s) number (c.writes_of.ensures (row_in t) at) in
     let setting : Row → Setting = λ r. record { at = address_of b r.path; writes = writes_of b a r.path r.decl } in
     c.in_ok-push.ensures.items ∙ ap₂ (λ (xs : List Setting) (y : Setting). xs ++ y ∷ []) c.loop-i.invariant one ∙ sym (take_at (settings b a) i (setting (row_in t)) (map_at setting b i (row_in t) at))

@@ -5,8 +5,8 @@ use Rattle.model_board.specs.Claims.{first_claim}
 use Rattle.model_board.specs.Ports.{target_reply, claim_reply}
 use Rattle.model_board.specs.PlacedRegions.{pool_space}
 use Rattle.window_packing.specs.Plans.{named_pool}
-use Rattle.window_packing.specs.declared.planned.Pool.{Pool}
-use Rattle.window_packing.specs.declared.planned.Pool.TheVariants as pool
+use Rattle.window_packing.specs.declared.pool.Pool.{Pool}
+use Rattle.window_packing.specs.declared.pool.Pool.TheVariants as pool
 use Rattle.worked_boards.proofs.FirstBytes.{ordinary_port, own_byte}
 use Rattle.worked_boards.proofs.first_bytes.first_byte.Goals as goal
 

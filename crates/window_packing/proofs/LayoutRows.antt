@@ -1,0 +1,121 @@
+-- The rows of a placement are those of the layout.
+use Rattle.std.proofs.Common.{◌≡◌, ℕ, zero, suc, ◌+◌, ◌-◌, ◌≤◌, ◌<◌, Option, List, [], ◌∷◌, ◌++◌, length, map, take, Some, refl, sym, ap, ap₂, ◌∙◌, subst, arith, append-nil, append_assoc}
+use Rattle.std.specs.Prelude.{flat_map, unwrap_or}
+use Rattle.std.specs.List.{slice_get}
+use Rattle.std.proofs.lemmas.Option.{slice_get_within}
+use Rattle.model_registers.specs.Lists.{Each}
+use Rattle.model_registers.specs.Apertures.{Apertures}
+use Rattle.model_board.specs.Paths.{Path}
+use Rattle.model_board.specs.Board.{Row, Board, IsBoard}
+use Rattle.model_board.specs.Lawful.{HasLawfulDecls}
+use Rattle.model_board.specs.Pools.{Pool, io_pool, mem_pool, pref_pool}
+use Rattle.model_board.specs.Placement.{bus_first}
+use Rattle.model_board.specs.Layout.{LayoutRow, row_of, bus_rows, pool_rows, layout}
+use Rattle.model_board.specs.FunctionTable.{TableRow, board_in}
+use Rattle.window_packing.specs.Buses.{bus_path}
+use Rattle.window_packing.specs.Packs.{BusPack, pack_of}
+use Rattle.window_packing.specs.Placed.{bus_paths, PlacedPool, IsPlaced, Placement, IsPlacement}
+use Rattle.window_packing.specs.LayoutRows.{bus_at, rows_along, rows_in, rows_of, IsListable, AreListable}
+use Rattle.window_packing.proofs.BusIndex.{by_bus}
+use Rattle.window_packing.proofs.PlacedBuses.{rows_by_bus}
+use Rattle.window_packing.proofs.PlacedFunctions.{count_pl, count_firsts, first_is, bus_depth, bus_room}
+
+-- ---- bus by bus
+
+pub path_at : (paths : List Path) (k : ℕ) → k ≤ length paths → slice_get ([] ∷ paths) k ≡ Some (bus_at paths k)
+path_at paths k h = got ([] ∷ paths) k (omega arith)
+  where
+    got : (ps : List Path) (k : ℕ) → k < length ps → slice_get ps k ≡ Some (unwrap_or (slice_get ps k) [])
+    got [] k h = absurd (omega arith)
+    got (p ∷ ps) zero h = refl
+    got (p ∷ ps) (suc k) h = got ps k (omega arith)
+
+pub bus_of_path : (paths : List Path) (bus : ℕ) (p : Path) → (bus ≡ 0 → ⊥) → slice_get paths (bus - 1) ≡ Some p → bus_at paths bus ≡ p
+bus_of_path paths zero p some e = absurd (some refl)
+bus_of_path paths (suc k) p some e =
+    let less : suc k - 1 ≡ k = omega arith in
+    let at : slice_get paths k ≡ Some p = subst (λ n. slice_get paths n ≡ Some p) less e in
+    ap (λ (o : Option Path). unwrap_or o []) at
+
+-- one bus more
+along_more : (pool : Pool) (bs : List Path) (ns : List ℕ) (ps : List BusPack) (k : ℕ) (b : Path) (n : ℕ) (p : BusPack) → slice_get bs k ≡ Some b → slice_get ns k ≡ Some n → slice_get ps k ≡ Some p
+    → rows_along pool (take (suc k) bs) ns ps ≡ rows_along pool (take k bs) ns ps ++ map (row_of pool b n) p.spots
+along_more pool [] ns ps k b n p e f g = absurd (cc)
+along_more pool (b' ∷ bs) [] ps k b n p e f g = absurd (cc)
+along_more pool (b' ∷ bs) (n' ∷ ns) [] k b n p e f g = absurd (cc)
+along_more pool (b' ∷ bs) (n' ∷ ns) (p' ∷ ps) zero b n p e f g =
+    let one : b' ≡ b = cc in
+    let two : n' ≡ n = cc in
+    let three : p' ≡ p = cc in
+    (λ i. map (row_of pool (one i) (two i)) (three i).spots ++ rows_along pool [] ns ps) ∙ append-nil (map (row_of pool b n) p.spots)
+along_more pool (b' ∷ bs) (n' ∷ ns) (p' ∷ ps) (suc k) b n p e f g =
+    ap (λ xs. map (row_of pool b' n') p'.spots ++ xs) (along_more pool bs ns ps k b n p e f g)
+    ∙ sym (append_assoc (map (row_of pool b' n') p'.spots) (rows_along pool (take k bs) ns ps) (map (row_of pool b n) p.spots))
+
+pub rows_more : (pool : Pool) (paths : List Path) (ns : List ℕ) (ps : List BusPack) (k : ℕ) → k ≤ length paths → (n : ℕ) (p : BusPack) → slice_get ns k ≡ Some n → slice_get ps k ≡ Some p → (start old new : List LayoutRow)
+    → old ≡ start ++ rows_along pool (take k ([] ∷ paths)) ns ps → new ≡ old ++ map (row_of pool (bus_at paths k) n) p.spots → new ≡ start ++ rows_along pool (take (k + 1) ([] ∷ paths)) ns ps
+rows_more pool paths ns ps k h n p f g start old new before after =
+    let more : k + 1 ≡ suc k = omega arith in
+    after ∙ ap (λ xs. xs ++ map (row_of pool (bus_at paths k) n) p.spots) before
+    ∙ append_assoc start (rows_along pool (take k ([] ∷ paths)) ns ps) (map (row_of pool (bus_at paths k) n) p.spots)
+    ∙ ap (λ xs. start ++ xs) (sym (along_more pool ([] ∷ paths) ns ps k (bus_at paths k) n p (path_at paths k h) f g))
+    ∙ ap (λ j. start ++ rows_along pool (take j ([] ∷ paths)) ns ps) (sym more)
+
+-- ---- of a board
+
+along_all : (b : Board) (a : Apertures) (pool : Pool) (bs : List Path) → rows_along pool bs (map (bus_first b a pool) bs) (map (pack_of b a pool) bs) ≡ flat_map (bus_rows b a pool) bs
+along_all b a pool [] = refl
+along_all b a pool (p ∷ bs) = ap (λ xs. bus_rows b a pool p ++ xs) (along_all b a pool bs)
+
+bus_same : (b : Board) (k : ℕ) → k ≤ length b → bus_path b k ≡ bus_at (map (λ (r : Row). r.path) b) k
+bus_same b k h = by_index k h
+  where
+    some_path : (x y : Path) → Some x ≡ Some y → x ≡ y
+    some_path x y e = cc
+
+    count : (b : Board) → length (map (λ (r : Row). r.path) b) ≡ length b
+    count [] = refl
+    count (r ∷ b) = ap suc (count b)
+
+    self : (ps : List Path) → map (λ (p : Path). p) ps ≡ ps
+    self [] = refl
+    self (p ∷ ps) = ap (λ (xs : List Path). p ∷ xs) (self ps)
+
+    by_index : (k : ℕ) → k ≤ length b → bus_path b k ≡ bus_at (map (λ (r : Row). r.path) b) k
+    by_index k h = some_path (bus_path b k) (bus_at (map (λ (r : Row). r.path) b) k)
+        (sym (by_bus (λ (p : Path). p) b k h) ∙ ap (λ (xs : List Path). slice_get xs k) (self (bus_paths b)) ∙ path_at (map (λ (r : Row). r.path) b) k (omega (arith, count b)))
+
+module _ (b : Board) (a : Apertures) (board : IsBoard b) (lawful : HasLawfulDecls b) where
+  abbrev paths : List Path
+  paths = map (λ (r : Row). r.path) b
+
+  count_paths : (rs : Board) → length (map (λ (r : Row). r.path) rs) ≡ length rs
+  count_paths [] = refl
+  count_paths (r ∷ rs) = ap suc (count_paths rs)
+
+  pool_rows_of : (pool : Pool) (pl : PlacedPool) → IsPlaced b a pool pl → rows_in pool paths pl ≡ pool_rows b a pool
+  pool_rows_of pool pl h = ap₂ (λ (ns : List ℕ) (ps : List BusPack). rows_along pool (bus_paths b) ns ps) h.firsts h.packs ∙ along_all b a pool (bus_paths b) ∙ rows_by_bus b a pool board lawful
+
+  listable : (pool : Pool) (pl : PlacedPool) → IsPlaced b a pool pl → IsListable paths pl
+  listable pool pl h = record {
+    firsts = count_firsts b a board lawful pool pl h ∙ ap suc (sym (count_paths b));
+    packs = count_pl b a board lawful pool pl h ∙ ap suc (sym (count_paths b));
+    deep = λ k p e. subst (λ (q : Path). Each (λ s. length q < 16) p.spots) (bus_same b k (inside k p e)) (bus_depth b a board lawful pool pl h k (inside k p e) p e);
+    room = λ k n p f e. bus_room b a board lawful pool pl h k (inside k p e) p e n (first_is b a board lawful pool pl h k (inside k p e) n f);
+  }
+    where
+      inside : (k : ℕ) (p : BusPack) → slice_get pl.packs k ≡ Some p → k ≤ length b
+      inside k p e = let w = slice_get_within pl.packs k p e in omega (arith, w, count_pl b a board lawful pool pl h)
+
+  pub layout_rows : (p : Placement) → IsPlacement b a p → rows_of paths p ≡ layout b a
+  layout_rows p h =
+      (λ i. pool_rows_of io_pool p.io h.io i ++ (pool_rows_of mem_pool p.mem h.mem i ++ pool_rows_of pref_pool p.pref h.pref i))
+      ∙ ap (λ xs. pool_rows b a io_pool ++ (pool_rows b a mem_pool ++ xs)) (sym (append-nil (pool_rows b a pref_pool)))
+
+  pub are_listable : (p : Placement) → IsPlacement b a p → AreListable paths p
+  are_listable p h = record { io = listable io_pool p.io h.io; mem = listable mem_pool p.mem h.mem; pref = listable pref_pool p.pref h.pref }
+
+-- the paths of a table
+pub table_paths : (rows : List TableRow) → map (λ (r : TableRow). r.path) rows ≡ map (λ (r : Row). r.path) (board_in rows)
+table_paths [] = refl
+table_paths (r ∷ rows) = ap (λ (xs : List Path). r.path ∷ xs) (table_paths rows)

@@ -1,0 +1,55 @@
+-- A plan that was made for what a table tells is the plan of every board with that table.
+use Rattle.std.proofs.Common.{◌≡◌, List, None, inl, inr, map, sym, ap, ◌∙◌, subst}
+use Rattle.model_registers.specs.DeclarationRules.{first_broken}
+use Rattle.model_registers.specs.Apertures.{IsLawfulApertures}
+use Rattle.model_board.specs.Paths.{Path}
+use Rattle.model_board.specs.Board.{Board, IsBoard}
+use Rattle.model_board.specs.Lawful.{HasLawfulDecls}
+use Rattle.model_board.specs.Pools.{Apertures}
+use Rattle.model_board.specs.Layout.{IsLawful}
+use Rattle.model_board.specs.SetUpWrites.{Plan, Setting, planned, placement_rules, settings}
+use Rattle.model_board.specs.FunctionTable.{TableRow, board_in}
+use Rattle.model_board.specs.UniqueClaimant.{CanBePlaced}
+use Rattle.model_board.proofs.FoundPlacement.{placed_as_found}
+use Rattle.bus_scan.specs.declared.fault.Fault.{Fault}
+use Rattle.bus_scan.specs.SizedTables.{IsTableOf}
+use Rattle.window_packing.specs.LayoutRows.{rows_of, AreListable}
+use Rattle.window_packing.specs.Placed.{Placement, IsPlacement}
+use Rattle.window_packing.specs.Plans.{IsRefusal}
+use Rattle.window_packing.proofs.LayoutRows.{layout_rows, are_listable, table_paths}
+use Rattle.window_packing.proofs.SetUps.{placeable, rows_lawful}
+
+-- ---- the plan of what was found
+
+module _ (rows : List TableRow) (board : IsBoard (board_in rows)) (lawful : HasLawfulDecls (board_in rows)) (a : Apertures) (ps : List Path) (paths : ps ≡ map (λ (r : TableRow). r.path) rows) (pl : Placement) (placed : IsPlacement (board_in rows) a pl) where
+  pub listable_rows : AreListable ps pl
+  listable_rows = subst (λ (qs : List Path). AreListable qs pl) (sym (paths ∙ table_paths rows)) (are_listable (board_in rows) a board lawful pl placed)
+
+  pub planned_rows : (ss : List Setting) → ss ≡ settings (board_in rows) a → (p : Plan) → p ≡ record { rows = rows_of ps pl; settings = ss } → p ≡ planned (board_in rows) a
+  planned_rows ss writes p e =
+      let layout_is = ap (λ (qs : List Path). rows_of qs pl) (paths ∙ table_paths rows) ∙ layout_rows (board_in rows) a board lawful pl placed in
+      e ∙ (λ j. record { rows = layout_is j; settings = writes j })
+
+-- ---- the plan of a board with this table
+
+-- the rows that the program reads are the table
+module _ (t rows : List TableRow) (same : rows ≡ t) (b : Board) (h : IsTableOf b t) (a : Apertures) where
+  plan_same : planned (board_in rows) a ≡ planned b a
+  plan_same = ap (λ (x : List TableRow). planned (board_in x) a) (same ∙ h.sized) ∙ (placed_as_found b h.board h.declarations).plan a
+
+  rules_same : placement_rules (board_in rows) a ≡ placement_rules b a
+  rules_same = ap (λ (x : List TableRow). placement_rules (board_in x) a) (same ∙ h.sized) ∙ (placed_as_found b h.board h.declarations).rules a
+
+  pub refusal_of : (f : Fault) → IsRefusal (board_in rows) a f → IsRefusal b a f
+  refusal_of f (inl e) = inl e
+  refusal_of f (inr e) = inr (sym (ap first_broken rules_same) ∙ e)
+
+  pub plan_of : (p : Plan) → p ≡ planned (board_in rows) a → p ≡ planned b a
+  plan_of p e = e ∙ plan_same
+
+  module _ (apertures : IsLawfulApertures a) (kept : first_broken (placement_rules (board_in rows) a) ≡ None) where
+    pub placeable_of : CanBePlaced b a
+    placeable_of = placeable b a h.board h.declarations apertures (sym (ap first_broken rules_same) ∙ kept)
+
+    pub lawful_of : (p : Plan) → p ≡ planned (board_in rows) a → IsLawful b a p.rows
+    lawful_of p e = subst (λ (q : Plan). IsLawful b a q.rows) (sym (plan_of p e)) (rows_lawful b a placeable_of)

@@ -1,0 +1,7 @@
+use Rattle.model_board.specs.FunctionTable.{board_in}
+use Rattle.window_packing.specs.Plans.{named_pool}
+use Rattle.window_packing.proofs.FirstsSoFar.{AreFirsts}
+use Rattle.window_packing.proofs.pool_placement.bus_firsts.Given as goal
+
+abbrev pub invariant-loop-i : goal.invariant-loop-i
+invariant-loop-i l = AreFirsts (board_in l.rows) l.apertures (named_pool l.fn.pool) l.i l.firsts.items

@@ -1,7 +1,0 @@
-use Rattle.model_board.specs.FunctionTable.{board_in}
-use Rattle.window_packing.specs.Plans.{named_pool}
-use Rattle.window_packing.proofs.Gathering.{IsGathered}
-use Rattle.window_packing.proofs.windows.pack_pool.Given as goal
-
-abbrev pub invariant-rows : goal.invariant-rows
-invariant-rows l = IsGathered (board_in l.rows) l.apertures (named_pool l.pool) (λ v. v.items) l.i l.items.items l.packs.items

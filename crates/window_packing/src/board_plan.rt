@@ -1,0 +1,66 @@
+//! Where all regions and windows of a board stand, and what is written into its functions.
+ghost use Rattle.std.specs.Prelude.{◌≡◌, IfOk};
+
+use crate::layout_row::PlanRow;
+use crate::pool::Pool;
+use crate::pool_placement::Placement;
+use crate::rows::push_pool;
+use crate::setting::Setting;
+use host_bridge::Path;
+use std::alloc::{AllocError, Global};
+use std::marker::Model;
+
+/// Where all regions and windows of a board stand, and what is written into its functions, in path
+/// order. The rows are made when they are asked for.
+#[derive(Debug, Drop)]
+pub struct Plan {
+    paths: Vec<Path>,
+    placement: Placement,
+    settings: Vec<Setting>,
+}
+
+impl Model for Plan {
+    ghost use Rattle.model_board.specs.SetUpWrites.{Plan};
+    ghost use Rattle.window_packing.specs.LayoutRows.{rows_of, AreListable};
+
+    ghost Value = { Plan };
+
+    ghost view = { λ p. record { rows = rows_of p.paths.items p.placement; settings = p.settings.items } };
+
+    ghost invariant = { λ p. AreListable p.paths.items p.placement };
+}
+
+impl Plan {
+    ghost use Rattle.window_packing.specs.LayoutRows.{rows_of, AreListable};
+
+    /// The plan with these settings, of functions at these paths.
+    pub(crate) fn new(paths: Vec<Path>, placement: Placement, settings: Vec<Setting>) -> Plan
+        requires { AreListable paths.items placement }
+        ensures { result ≡ record { rows = rows_of paths.items placement; settings = settings.items } }
+    {
+        Plan {
+            paths,
+            placement,
+            settings,
+        }
+    }
+
+    /// Regions and windows: the I/O pool, then memory, then prefetchable memory; in a pool bus by bus in
+    /// path order, and on a bus by address.
+    pub fn rows(&self, alloc: Global) -> Result<Vec<PlanRow>, AllocError>
+        ensures { IfOk result (λ v. v.items ≡ self.now.rows) }
+    {
+        let mut list = Vec::new(alloc);
+        push_pool(&mut list, &self.paths, Pool::Io, &self.placement.io)?;
+        push_pool(&mut list, &self.paths, Pool::Mem, &self.placement.mem)?;
+        push_pool(&mut list, &self.paths, Pool::Pref, &self.placement.pref)?;
+        Ok(list)
+    }
+
+    /// What is written into each function, in path order.
+    pub fn settings(&self) -> &[Setting]
+        ensures { result.now ≡ self.now.settings }
+    {
+        &self.settings
+    }
+}

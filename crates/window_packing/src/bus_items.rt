@@ -1,0 +1,113 @@
+//! What the functions of a bus have there.
+ghost use Rattle.std.specs.Prelude.{◌≡◌, ◌++◌, ◌≤◌, ◌^◌, List, [], ◌∷◌, IfOk};
+ghost use Rattle.model_registers.specs.Declarations.{Bridge};
+ghost use Rattle.window_packing.specs.Plans.{named_pool};
+ghost use Rattle.window_packing.specs.Packs.{IsOver, pool_items, regions_from, window_of, own_items};
+ghost use Rattle.model_board.specs.Pools.{unit_of};
+
+use crate::above::Above;
+use crate::item::Item;
+use crate::pack::{BusPack, round_up};
+use crate::layout_row::Placed;
+use crate::pool::{Pool, pool_of};
+use bars::BarDecl;
+use bridge_forward::Part;
+use bus_scan::{Found, FunctionRow};
+use headers::Apertures;
+use std::alloc::AllocError;
+
+/// Adds the region of the register at an index, if there is one and it is of the pool.
+fn push_region(
+    into: &mut Vec<Item>,
+    part: Part,
+    index: u8,
+    bar: Option<BarDecl>,
+    pool: Pool,
+    above: &Above,
+    apertures: &Apertures,
+) -> Result<(), AllocError>
+    ensures { IfOk result (λ _. (ds : List Bridge) → IsOver ds above.now → into.new.items ≡ into.old.items ++ pool_items apertures.now ds (named_pool pool) part (regions_from index (bar ∷ []))) }
+{
+    if let Some(bar) = bar
+        && pool_of(apertures, above, bar.kind()).is_same(pool)
+    {
+        into.push(Item {
+            part,
+            what: Placed::Region(index),
+            align: bar.size(),
+            size: bar.size(),
+        })?;
+    }
+    Ok(())
+}
+
+/// Adds the regions of an endpoint that are of the pool.
+fn push_regions(
+    into: &mut Vec<Item>,
+    part: Part,
+    bars: &[Option<BarDecl>; 6],
+    pool: Pool,
+    above: &Above,
+    apertures: &Apertures,
+) -> Result<(), AllocError>
+    ensures { IfOk result (λ _. (ds : List Bridge) → IsOver ds above.now → into.new.items ≡ into.old.items ++ pool_items apertures.now ds (named_pool pool) part (regions_from 0 bars.now)) }
+{
+    'registers: for index in 0..6u8 {
+        push_region(
+            into,
+            part,
+            index,
+            bars[usize::from(index)],
+            pool,
+            above,
+            apertures,
+        )?;
+    }
+    Ok(())
+}
+
+/// Adds a bridge's window, which extends over whole units, if items stand behind it.
+fn push_window(
+    into: &mut Vec<Item>,
+    part: Part,
+    pool: Pool,
+    behind: &BusPack,
+) -> Result<(), AllocError>
+    requires { behind.now.end ≤ 2 ^ 63 }
+    ensures { IfOk result (λ _. into.new.items ≡ into.old.items ++ window_of (unit_of (named_pool pool)) part behind.now behind.now.spots) }
+{
+    if !behind.spots.is_empty() {
+        into.push(Item {
+            part,
+            what: Placed::Window,
+            align: behind.align,
+            size: round_up(pool.unit(), behind.end),
+        })?;
+    }
+    Ok(())
+}
+
+/// Adds what a function has on its own bus: an endpoint's regions of the pool, or the window of the bus
+/// behind a bridge.
+pub(crate) fn push_own(
+    into: &mut Vec<Item>,
+    pool: Pool,
+    row: &FunctionRow,
+    above: &Above,
+    apertures: &Apertures,
+    behind: &BusPack,
+) -> Result<(), AllocError>
+    requires { behind.now.end ≤ 2 ^ 63 }
+    ensures { IfOk result (λ _. (ds : List Bridge) → IsOver ds above.now → into.new.items ≡ into.old.items ++ own_items apertures.now ds (named_pool pool) row.now.path row.now.decl behind.now) }
+{
+    let part = row.path.last();
+    match &row.found {
+        Found::Endpoint { pin: _, bars } => push_regions(into, part, bars, pool, above, apertures),
+        Found::Bridge {
+            secondary: _,
+            subordinate: _,
+            io: _,
+            pref: _,
+        } => push_window(into, part, pool, behind),
+    }
+}

@@ -1,0 +1,74 @@
+//! All buses of a board: what stands on a bus is known once those behind its bridges are packed.
+ghost use Rattle.std.specs.Prelude.{◌≡◌, ◌+◌, [], All, IfOk, IfSome, IsFalse, MatchOption, length};
+ghost use Rattle.model_registers.specs.Apertures.{IsLawfulApertures};
+ghost use Rattle.model_registers.specs.Lists.{Each};
+ghost use Rattle.model_board.specs.Board.{IsBoard};
+ghost use Rattle.model_board.specs.Lawful.{HasLawfulDecls};
+ghost use Rattle.model_board.specs.FunctionTable.{board_in};
+ghost use Rattle.model_board.specs.Placement.{fits};
+ghost use Rattle.window_packing.specs.Plans.{named_pool};
+ghost use Rattle.window_packing.specs.Buses.{AreAbove};
+ghost use Rattle.window_packing.specs.Packs.{packs_of, IsBounded};
+
+use crate::above::Above;
+use crate::item::Item;
+use crate::pack::{BusPack, pack_bus};
+use crate::pool::Pool;
+use crate::bus_items::push_own;
+use bus_scan::FunctionRow;
+use headers::Apertures;
+use std::alloc::{AllocError, Global};
+
+/// No items yet, of bus 0 and of `count` buses more.
+fn no_items(alloc: Global, count: usize) -> Result<Vec<Vec<Item>>, AllocError>
+    ensures buses { IfOk result (λ v. length v.items ≡ count + 1) }
+    ensures none { IfOk result (λ v. All (λ own. own.items ≡ []) v.items) }
+{
+    let mut items = Vec::new(alloc);
+    for _ in 0..count {
+        items.push(Vec::new(alloc))?;
+    }
+    items.push(Vec::new(alloc))?;
+    Ok(items)
+}
+
+/// Packs the regions and windows of a pool on each bus: bus 0 first, then the bus behind each function
+/// in the order of the rows, without items behind an endpoint. A pool with a bus that ends above 2^63
+/// is not packed, as it doesn't fit its aperture.
+///
+/// Each bus is sorted once, so the time is that of sorting all regions and windows.
+pub(crate) fn pack_pool(
+    alloc: Global,
+    pool: Pool,
+    rows: &[FunctionRow],
+    above: &[Above],
+    apertures: &Apertures,
+) -> Result<Option<Vec<BusPack>>, AllocError>
+    requires board { IsBoard (board_in rows.now) }
+    requires declarations { HasLawfulDecls (board_in rows.now) }
+    requires above { AreAbove (board_in rows.now) above.now }
+    requires apertures { IsLawfulApertures apertures.now }
+    ensures packed { IfOk result (λ r. MatchOption r (IsFalse (fits (board_in rows.now) apertures.now (named_pool pool))) (λ packs. packs.items ≡ packs_of (board_in rows.now) apertures.now (named_pool pool))) }
+    ensures bounded { IfOk result (λ r. IfSome r (λ packs. Each IsBounded packs.items)) }
+{
+    let unit = pool.unit();
+    let mut items = no_items(alloc, rows.len())?;
+    let mut packs = Vec::new(alloc);
+    'rows: for i in (0..rows.len()).rev() {
+        let behind = items.pop().unwrap();
+        let Some(pack) = pack_bus(alloc, unit, behind)? else {
+            return Ok(None);
+        };
+        let above = &above[i];
+        let own = &mut items[above.bus];
+        push_own(own, pool, &rows[i], above, apertures, &pack)?;
+        packs.push(pack)?;
+    }
+    let root = items.pop().unwrap();
+    let Some(pack) = pack_bus(alloc, unit, root)? else {
+        return Ok(None);
+    };
+    packs.push(pack)?;
+    packs.reverse();
+    Ok(Some(packs))
+}

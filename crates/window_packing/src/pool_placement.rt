@@ -1,0 +1,205 @@
+//! One pool of a board, placed in its aperture.
+ghost use Rattle.std.specs.Prelude.{◌≡◌, ◌<◌, ◌≤◌, ◌^◌, ◌⊎◌, [], IfSome, IfOk, IfErr, IsTrue, IsFalse, map};
+ghost use Rattle.std.specs.Option.{option_map_or};
+ghost use Rattle.model_registers.specs.Apertures.{Aperture as ApertureValue, IsLawfulApertures};
+ghost use Rattle.model_registers.specs.Lists.{Each, EachPair};
+ghost use Rattle.model_board.specs.Board.{Board, IsBoard};
+ghost use Rattle.model_board.specs.Lawful.{HasLawfulDecls};
+ghost use Rattle.model_board.specs.FunctionTable.{board_in};
+ghost use Rattle.model_board.specs.Pools.{aperture_of};
+ghost use Rattle.model_board.specs.Placement.{a_window, stands_before, is_item, offset_in, round_up, aperture_end, fits, bus_first};
+ghost use Rattle.bus_scan.specs.declared.fault.Fault.TheVariants.{Memory};
+ghost use Rattle.bus_scan.specs.declared.fault.Fault.{Fault as FaultValue};
+ghost use Rattle.window_packing.specs.Plans.{named_pool, fault_of};
+ghost use Rattle.window_packing.specs.Buses.{AreAbove};
+ghost use Rattle.window_packing.specs.Packs.{pack_of, packs_of, IsBounded};
+ghost use Rattle.window_packing.specs.Placed.{bus_paths, IsPlaced, pool_in};
+
+use crate::above::Above;
+use crate::item::Item;
+use crate::pack::{BusPack, round_up};
+use crate::layout_row::Placed;
+use crate::pool::Pool;
+use crate::search::offset_of;
+use crate::bus_packs::pack_pool;
+use bridge_forward::Part;
+use bus_scan::{Fault, FunctionRow};
+use headers::{Aperture, Apertures};
+use std::alloc::{AllocError, Global};
+use std::marker::Model;
+
+/// The buses of a pool, bus 0 and then the one behind each function, and their first addresses.
+#[derive(Debug, Drop)]
+pub(crate) struct PlacedPool {
+    pub(crate) packs: Vec<BusPack>,
+    pub(crate) firsts: Vec<u64>,
+}
+
+impl Model for PlacedPool {
+    ghost use Rattle.window_packing.specs.Placed.{PlacedPool};
+
+    ghost Value = { PlacedPool };
+
+    ghost view = { λ p. record { packs = p.packs.items; firsts = p.firsts.items } };
+}
+
+/// All three pools.
+#[derive(Debug, Drop)]
+pub(crate) struct Placement {
+    pub(crate) io: PlacedPool,
+    pub(crate) mem: PlacedPool,
+    pub(crate) pref: PlacedPool,
+}
+
+impl Model for Placement {
+    ghost use Rattle.window_packing.specs.Placed.{Placement};
+
+    ghost Value = { Placement };
+
+    ghost view = { λ p. record { io = p.io; mem = p.mem; pref = p.pref } };
+}
+
+impl Placement {
+    /// One of the pools.
+    pub(crate) fn pool(&self, pool: Pool) -> &PlacedPool
+        ensures { result.now ≡ pool_in self.now (named_pool pool) }
+    {
+        match pool {
+            Pool::Io => &self.io,
+            Pool::Mem => &self.mem,
+            Pool::Pref => &self.pref,
+        }
+    }
+}
+
+/// The aperture of a pool.
+fn aperture_of(apertures: &Apertures, pool: Pool) -> Option<Aperture>
+    ensures value { result ≡ aperture_of apertures.now (named_pool pool) }
+    ensures range { IfSome result (λ a. (a.first ≤ a.last) × (a.last < 2 ^ 63)) }
+    ensures lawful { IsLawfulApertures apertures.now }
+{
+    let io = apertures.io();
+    match pool {
+        Pool::Io => Some(io),
+        Pool::Mem => Some(apertures.mem()),
+        Pool::Pref => apertures.pref(),
+    }
+}
+
+/// Where bus 0 begins: at the least multiple of its alignment that is not before the aperture.
+fn root_first(apertures: &Apertures, pool: Pool, root: &BusPack) -> u64
+    requires some { 0 < root.now.align }
+    requires align { root.now.align ≤ 2 ^ 40 }
+    ensures { result ≡ option_map_or (λ (ap : ApertureValue). round_up root.now.align ap.first) (aperture_of apertures.now (named_pool pool)) 0 }
+{
+    match aperture_of(apertures, pool) {
+        Some(aperture) => round_up(root.align, aperture.first),
+        None => 0,
+    }
+}
+
+/// The address after the aperture.
+fn aperture_end(apertures: &Apertures, pool: Pool) -> u64
+    ensures value { result ≡ aperture_end apertures.now (named_pool pool) }
+    ensures lawful { IsLawfulApertures apertures.now }
+{
+    match aperture_of(apertures, pool) {
+        Some(aperture) => aperture.last + 1,
+        None => 0,
+    }
+}
+
+/// Whether the pool fits its aperture, before `end`, by bus 0.
+fn fits(apertures: &Apertures, pool: Pool, end: u64, root: &BusPack) -> bool
+    requires end { end ≡ aperture_end apertures.now (named_pool pool) }
+    requires some { 0 < root.now.align }
+    requires align { root.now.align ≤ 2 ^ 40 }
+    ensures { (b : Board) → root.now ≡ pack_of b apertures.now (named_pool pool) [] → result ≡ fits b apertures.now (named_pool pool) }
+{
+    root.spots.is_empty()
+        || (root.end <= end && root_first(apertures, pool, root) <= end - root.end)
+}
+
+/// The offset at which a bridge's window stands on its bus, by the bus behind the bridge, and 0 where it
+/// has none.
+fn window_offset(pack: &BusPack, part: Part, behind: &BusPack) -> u64
+    requires order { EachPair (λ s t. IsTrue (stands_before s.item t.item)) pack.now.spots }
+    requires align { Each (λ s. IsTrue (is_item part a_window s.item) → s.item.align ≡ behind.now.align) pack.now.spots }
+    ensures { result ≡ offset_in pack.now.spots part a_window }
+{
+    let key = Item {
+        part,
+        what: Placed::Window,
+        align: behind.align,
+        size: 0,
+    };
+    offset_of(pack, &key)
+}
+
+/// The first address of each bus: a bus behind a bridge begins where the bridge's window stands.
+fn bus_firsts(
+    alloc: Global,
+    pool: Pool,
+    rows: &[FunctionRow],
+    above: &[Above],
+    apertures: &Apertures,
+    packs: &[BusPack],
+) -> Result<Vec<u64>, AllocError>
+    requires board { IsBoard (board_in rows.now) }
+    requires declarations { HasLawfulDecls (board_in rows.now) }
+    requires above { AreAbove (board_in rows.now) above.now }
+    requires apertures { IsLawfulApertures apertures.now }
+    requires packs { packs.now ≡ packs_of (board_in rows.now) apertures.now (named_pool pool) }
+    requires bounded { Each IsBounded packs.now }
+    requires fit { IsTrue (fits (board_in rows.now) apertures.now (named_pool pool)) }
+    ensures { IfOk result (λ v. v.items ≡ map (bus_first (board_in rows.now) apertures.now (named_pool pool)) (bus_paths (board_in rows.now))) }
+{
+    let mut firsts = Vec::with_capacity(alloc, packs.len())?;
+    firsts.push(root_first(apertures, pool, &packs[0]))?;
+    for i in 0..rows.len() {
+        let row = &rows[i];
+        let bus = above[i].bus;
+        let offset = window_offset(&packs[bus], row.path.last(), &packs[i + 1]);
+        let first = firsts[bus] + offset;
+        firsts.push(first)?;
+    }
+    Ok(firsts)
+}
+
+impl Pool {
+    /// What is wrong where the pool doesn't fit.
+    fn fault(self) -> Fault
+        ensures { result ≡ fault_of self }
+    {
+        match self {
+            Pool::Io => Fault::IoPool,
+            Pool::Mem => Fault::MemoryPool,
+            Pool::Pref => Fault::PrefetchablePool,
+        }
+    }
+}
+
+/// Places one pool, if it fits its aperture.
+pub(crate) fn place_pool(
+    alloc: Global,
+    pool: Pool,
+    rows: &[FunctionRow],
+    above: &[Above],
+    apertures: &Apertures,
+) -> Result<PlacedPool, Fault>
+    requires board { IsBoard (board_in rows.now) }
+    requires declarations { HasLawfulDecls (board_in rows.now) }
+    requires above { AreAbove (board_in rows.now) above.now }
+    ensures placed { IfOk result (λ p. IsPlaced (board_in rows.now) apertures.now (named_pool pool) p) }
+    ensures refused { IfErr result (λ f. (f ≡ Memory) ⊎ ((f ≡ fault_of pool) × IsFalse (fits (board_in rows.now) apertures.now (named_pool pool)))) }
+{
+    let end = aperture_end(apertures, pool);
+    let Some(packs) = pack_pool(alloc, pool, rows, above, apertures)? else {
+        return Err(pool.fault());
+    };
+    if !fits(apertures, pool, end, &packs[0]) {
+        return Err(pool.fault());
+    }
+    let firsts = bus_firsts(alloc, pool, rows, above, apertures, &packs)?;
+    Ok(PlacedPool { packs, firsts })
+}
