@@ -3,6 +3,7 @@ pub mod BridgeNumbers
 pub mod States
 pub mod MetRows
 pub mod ScanSteps
+pub mod ScanSights
 pub mod WriteBack
 pub mod ProbedFiles
 pub mod ProbedEndpoints

@@ -33,8 +33,8 @@ impl From<AllocError> for Fault {
 
     ghost from_gives = { λ _ f. f ≡ Memory };
 
-    fn from(_error: AllocError) -> Fault {
-        Fault::Memory
+    fn from(_error: AllocError) -> Self {
+        Self::Memory
     }
 }
 

@@ -14,6 +14,7 @@ pub mod PoolEnds
 pub mod Gathering
 pub mod PoolSteps
 pub mod BridgesAbove
+pub mod AboveRows
 pub mod SpotSearch
 pub mod BusIndex
 pub mod PackFits

@@ -1,8 +1,9 @@
 -- The search for an item among the spots of a bus, which stand in strict order.
-use Rattle.std.proofs.Common.{◌≡◌, ℕ, zero, suc, ◌+◌, ◌≤◌, ◌<◌, ◌⊎◌, inl, inr, Bool, true, false, ◌&&◌, List, [], ◌∷◌, length, Some, refl, sym, ap, ◌∙◌, subst, arith}
+use Rattle.std.proofs.Common.{◌≡◌, ℕ, zero, suc, ◌+◌, ◌≤◌, ◌<◌, ◌⊎◌, inl, inr, Bool, true, false, ◌&&◌, List, [], ◌∷◌, length, Some, refl, sym, ap, ◌∙◌, subst, arith, get_or}
 use Rattle.std.specs.Prelude.{IsTrue, nat_lt, ◌==◌, ◌||◌}
 use Rattle.std.specs.List.{slice_get}
-use Rattle.std.proofs.lemmas.Bool.{and_parts}
+use Rattle.std.specs.List.Sorted.{IsPartitionedBy, IsPartitionPoint}
+use Rattle.std.proofs.lemmas.Bool.{and_parts, cases_lt}
 use Rattle.std.proofs.lemmas.Bool.Decides.{nat_tests}
 use Rattle.std.proofs.lemmas.Option.{slice_get_within}
 use Rattle.model_registers.specs.Lists.{Each, EachPair}
@@ -38,21 +39,6 @@ before_like i j k a p r = λ n. before_key i (a n) (p n) (r n)
 abbrev pub AreStrict : List Spot → Type 0
 AreStrict ss = EachPair (λ (s t : Spot). IsTrue (stands_before s.item t.item)) ss
 
--- the spots below low stand before the key, and none from high on
-pub record Halved (ss : List Spot) (key : Item) (low high : ℕ) : Type 0 where
-  pub ordered : low ≤ high
-  pub within : high ≤ length ss
-  pub before : (k : ℕ) (s : Spot) → k < low → slice_get ss k ≡ Some s → stands_before s.item key ≡ true
-  pub later : (k : ℕ) (s : Spot) → high ≤ k → slice_get ss k ≡ Some s → stands_before s.item key ≡ false
-
-pub halved_none : (ss : List Spot) (key : Item) → Halved ss key 0 (length ss)
-halved_none ss key = record {
-  ordered = omega arith;
-  within = omega arith;
-  before = λ k s l e. absurd (omega arith);
-  later = λ k s l e. let w = slice_get_within ss k s e in absurd (omega (arith, w, l));
-}
-
 fails : (v : Bool) → (v ≡ true → ⊥) → v ≡ false
 fails true h = absurd (h refl)
 fails false h = refl
@@ -61,40 +47,29 @@ module _ (ss : List Spot) (key : Item) (strict : AreStrict ss) where
   sides : (x y : ℕ) → (x < y) ⊎ ((x ≡ y) ⊎ (y < x))
   sides x y = grind arith
 
-  pub below_here : (low high i : ℕ) (s : Spot) → Halved ss key low high → i < high → slice_get ss i ≡ Some s → stands_before s.item key ≡ true → Halved ss key (i + 1) high
-  below_here low high i s h l e b = record {
-    ordered = omega arith;
-    within = h.within;
-    before = λ k t m f. by_side k t m f (sides k i);
-    later = h.later;
-  }
-    where
-      by_side : (k : ℕ) (t : Spot) → k < i + 1 → slice_get ss k ≡ Some t → (k < i) ⊎ ((k ≡ i) ⊎ (i < k)) → stands_before t.item key ≡ true
-      by_side k t m f (inl u) = before_trans t.item s.item key (pair_at (λ (x y : Spot). IsTrue (stands_before x.item y.item)) ss k i t s strict u f e) b
-      by_side k t m f (inr (inl u)) = let same : s ≡ t = same_at ss k s t (subst (λ n. slice_get ss n ≡ Some s) (sym u) e) f in subst (λ (x : Spot). stands_before x.item key ≡ true) same b
-      by_side k t m f (inr (inr u)) = absurd (omega arith)
+  got_at : (ts : List Spot) (k : ℕ) (d t : Spot) → slice_get ts k ≡ Some t → get_or ts k d ≡ t
+  got_at [] k d t e = absurd (cc)
+  got_at (u ∷ ts) zero d t e = let same : u ≡ t = cc in same
+  got_at (u ∷ ts) (suc k) d t e = got_at ts k d t e
 
-  pub above_here : (low high i : ℕ) (s : Spot) → Halved ss key low high → low ≤ i → i < high → slice_get ss i ≡ Some s → stands_before s.item key ≡ false → Halved ss key low i
-  above_here low high i s h o l e b = record {
-    ordered = o;
-    within = let w = h.within in omega (arith, w);
-    before = h.before;
-    later = λ k t m f. fails (stands_before t.item key) (λ u. by_side k t m f u (sides i k));
-  }
+  -- what stands before a spot that stands before the key stands before the key
+  pub parted : IsPartitionedBy (λ (s : Spot). stands_before s.item key) ss
+  parted i j d le within holds = by_side (cases_lt i j)
     where
-      by_side : (k : ℕ) (t : Spot) → i ≤ k → slice_get ss k ≡ Some t → stands_before t.item key ≡ true → (i < k) ⊎ ((i ≡ k) ⊎ (k < i)) → ⊥
-      by_side k t m f u (inl w) = let no = before_trans s.item t.item key (pair_at (λ (x y : Spot). IsTrue (stands_before x.item y.item)) ss i k s t strict w e f) u in let clash : true ≡ false = sym no ∙ b in cc
-      by_side k t m f u (inr (inl w)) =
-          let same : s ≡ t = same_at ss k s t (subst (λ n. slice_get ss n ≡ Some s) w e) f in
-          let no : stands_before s.item key ≡ true = subst (λ (x : Spot). stands_before x.item key ≡ true) (sym same) u in
-          let clash : true ≡ false = sym no ∙ b in cc
-      by_side k t m f u (inr (inr w)) = absurd (omega arith)
+      by_side : (i < j) ⊎ (j ≤ i) → stands_before (get_or ss i d).item key ≡ true
+      by_side (inl l) =
+          let s = at_below ss i (omega arith) in
+          let t = at_below ss j within in
+          let first : stands_before s.0.item t.0.item ≡ true = pair_at (λ (x y : Spot). IsTrue (stands_before x.item y.item)) ss i j s.0 t.0 strict l s.1 t.1 in
+          let second : stands_before t.0.item key ≡ true = subst (λ (x : Spot). stands_before x.item key ≡ true) (got_at ss j d t.0 t.1) holds in
+          subst (λ (x : Spot). stands_before x.item key ≡ true) (sym (got_at ss i d s.0 s.1)) (before_trans s.0.item t.0.item key first second)
+      by_side (inr l) = let e : i ≡ j = omega arith in subst (λ n. stands_before (get_or ss n d).item key ≡ true) (sym e) holds
 
-  pub found_first : (low high : ℕ) → Halved ss key low high → high ≤ low → IsFirstFrom ss key low
-  found_first low high h l = record {
-    within = let w = h.within in let o = h.ordered in omega (arith, w, o, l);
-    before = h.before;
-    later = λ k s m e. h.later k s (omega (arith, l, m)) e;
+  pub first_of_point : (n : ℕ) → n ≤ length ss → IsPartitionPoint (λ (s : Spot). stands_before s.item key ≡ true) (λ (s : Spot). stands_before s.item key ≡ false) ss n → IsFirstFrom ss key n
+  first_of_point n bound point = record {
+    within = bound;
+    before = λ k s l e. subst (λ (x : Spot). stands_before x.item key ≡ true) (got_at ss k s s e) (point.0 k s (omega arith) l);
+    later = λ k s l e. subst (λ (x : Spot). stands_before x.item key ≡ false) (got_at ss k s s e) (point.1 k s l (let w = slice_get_within ss k s e in w));
   }
 
   -- ---- what is found

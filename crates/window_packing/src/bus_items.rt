@@ -29,7 +29,7 @@ fn push_region(
     ensures { IfOk result (λ _. (ds : List Bridge) → IsOver ds above.now → into.new.items ≡ into.old.items ++ pool_items apertures.now ds (named_pool pool) part (regions_from index (bar ∷ []))) }
 {
     if let Some(bar) = bar
-        && pool_of(apertures, above, bar.kind()).is_same(pool)
+        && pool_of(apertures, above, bar.kind()) == pool
     {
         into.push(Item {
             part,

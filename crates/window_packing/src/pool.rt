@@ -1,7 +1,7 @@
 //! The pools that regions and windows are placed in.
 ghost use Rattle.std.specs.Prelude.{◌≡◌, List};
 ghost use Rattle.model_registers.specs.Declarations.{Bridge};
-ghost use Rattle.model_board.specs.Pools.{same_pool, unit_of, pool_of, pref_or_mem, pref_reaches};
+ghost use Rattle.model_board.specs.Pools.{unit_of, pool_of, pref_or_mem, pref_reaches};
 ghost use Rattle.bars.specs.Kinds.{kind_of};
 ghost use Rattle.window_packing.specs.Plans.{named_pool};
 ghost use Rattle.window_packing.specs.Packs.{IsOver};
@@ -26,17 +26,6 @@ impl Pool {
         match self {
             Pool::Io => 1 << 12,
             Pool::Mem | Pool::Pref => 1 << 20,
-        }
-    }
-
-    /// Whether both are the same pool.
-    pub(crate) fn is_same(self, other: Pool) -> bool
-        ensures { result ≡ same_pool (named_pool self) (named_pool other) }
-    {
-        match self {
-            Pool::Io => matches!(other, Pool::Io),
-            Pool::Mem => matches!(other, Pool::Mem),
-            Pool::Pref => matches!(other, Pool::Pref),
         }
     }
 }

@@ -14,23 +14,16 @@ fn is_same(item: &Item, key: &Item) -> bool
     item.part.is_same(key.part) && item.what == key.what
 }
 
-/// The index of the first spot whose item does not stand before `key`, found by halving.
+/// The index of the first spot whose item does not stand before `key`.
 fn first_from(spots: &[Spot], key: &Item) -> usize
     requires { EachPair (λ s t. IsTrue (stands_before s.item t.item)) spots.now }
     ensures { IsFirstFrom spots.now key.now result }
 {
-    let mut low = 0;
-    let mut high = spots.len();
-    while low < high {
-        let middle = low + (high - low) / 2;
-        let spot = &spots[middle];
-        if spot.item.is_before(key) {
-            low = middle + 1;
-        } else {
-            high = middle;
-        }
-    }
-    low
+    spots.partition_point(
+        |spot: &Spot| -> bool
+            ensures { result ≡ stands_before spot.now.item key.entry.now }
+        { spot.item.is_before(key) },
+    )
 }
 
 /// The offset on its bus at which the item stands whose function, register and alignment `key` tells,

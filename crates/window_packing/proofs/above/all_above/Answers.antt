@@ -3,7 +3,7 @@ use Rattle.std.specs.List.{slice_get}
 use Rattle.model_board.specs.FunctionTable.{board_in}
 use Rattle.bridge_forward.proofs.Indices.{read_at}
 use Rattle.window_packing.specs.declared.above.Above.{Above}
-use Rattle.window_packing.proofs.BridgesAbove.{Followed, more_rows, all_told, length_board}
+use Rattle.window_packing.proofs.AboveRows.{Followed, more_rows, all_told, length_board}
 use Rattle.window_packing.proofs.above.all_above.Goals as goal
 
 pub loop-i-preserved : goal.loop-i-preserved

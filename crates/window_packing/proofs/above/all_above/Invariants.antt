@@ -1,5 +1,5 @@
 use Rattle.model_board.specs.FunctionTable.{board_in}
-use Rattle.window_packing.proofs.BridgesAbove.{Followed}
+use Rattle.window_packing.proofs.AboveRows.{Followed}
 use Rattle.window_packing.proofs.above.all_above.Given as goal
 
 abbrev pub invariant-loop-i : goal.invariant-loop-i

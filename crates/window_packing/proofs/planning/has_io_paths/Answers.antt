@@ -6,7 +6,7 @@ use Rattle.model_board.specs.Pools.{bridges_above, opens_io, has_io}
 use Rattle.model_board.specs.FunctionTable.{board_in}
 use Rattle.bridge_forward.proofs.Indices.{read_at, map_at}
 use Rattle.window_packing.specs.declared.above.Above.{Above}
-use Rattle.window_packing.proofs.BridgesAbove.{length_board, tells_at}
+use Rattle.window_packing.proofs.AboveRows.{length_board, tells_at}
 use Rattle.window_packing.proofs.BusIndex.{row_in}
 use Rattle.window_packing.proofs.PoolSteps.{got, above_count}
 use Rattle.window_packing.proofs.RowTests.{all_more, one_fails, all_rows_pass}

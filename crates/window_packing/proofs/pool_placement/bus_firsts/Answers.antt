@@ -11,7 +11,7 @@ use Rattle.window_packing.specs.declared.above.Above.{Above}
 use Rattle.window_packing.specs.Buses.{bus_path}
 use Rattle.window_packing.specs.Packs.{BusPack}
 use Rattle.window_packing.specs.Plans.{named_pool}
-use Rattle.window_packing.proofs.BridgesAbove.{length_board}
+use Rattle.window_packing.proofs.AboveRows.{length_board}
 use Rattle.window_packing.proofs.BusIndex.{row_in}
 use Rattle.window_packing.proofs.PoolSteps.{got, above_count}
 use Rattle.window_packing.proofs.FirstsSoFar.{AreFirsts, one_first, more_firsts, all_firsts, pack_is, count_packs, bus_low, own_strict, own_align, behind_first, behind_bound}

@@ -1,121 +1,97 @@
-use Rattle.std.proofs.Common.{◌≡◌, ℕ, List, [], ◌∷◌, length, map, Option, Some, ap, sym, ◌∙◌, subst, arith}
+use Rattle.std.proofs.Common.{◌≡◌, ℕ, List, [], ◌∷◌, get_or, length, map, Option, Some, ap, sym, ◌∙◌, subst, arith}
 use Rattle.std.specs.List.{slice_get}
 use Rattle.model_registers.specs.Lists.{Each}
 use Rattle.model_registers.specs.Declarations.{Bar, Region}
 use Rattle.model_registers.specs.EndpointTable.{BaseAddress}
 use Rattle.model_board.specs.Paths.{last_part}
-use Rattle.model_board.specs.Board.{Row}
-use Rattle.model_board.specs.Pools.{bridges_above, pool_of}
+use Rattle.model_board.specs.Board.{Row, IsBoard}
+use Rattle.model_board.specs.Lawful.{HasLawfulDecls}
+use Rattle.model_registers.specs.Apertures.{Apertures}
+use Rattle.model_board.specs.Pools.{Pool, bridges_above, pool_of}
 use Rattle.model_board.specs.Placement.{a_region}
 use Rattle.model_board.specs.SetUpWrites.{placed_base}
 use Rattle.model_board.specs.FunctionTable.{TableRow, board_in}
 use Rattle.bars.specs.declared.region.Region.{Region as Based}
 use Rattle.bars.specs.Slots.{placed}
 use Rattle.bridge_forward.proofs.Indices.{read_at, same_at, map_at}
+use Rattle.window_packing.specs.declared.above.Above.{Above}
 use Rattle.window_packing.specs.Packs.{BusPack, regions_from}
-use Rattle.window_packing.specs.Placed.{PlacedPool, IsPlaced, IsRegionAt}
+use Rattle.window_packing.specs.Placed.{PlacedPool, IsPlaced, Placement, IsPlacement, pool_in, IsAboveAt, IsRegionAt}
 use Rattle.window_packing.specs.Plans.{named_pool}
 use Rattle.window_packing.proofs.BusIndex.{row_in}
 use Rattle.window_packing.proofs.PoolSteps.{above_row}
 use Rattle.window_packing.proofs.PlacedFunctions.{placed_in, in_packs, in_firsts, region_strict, region_aligned, region_room, base_is}
 use Rattle.window_packing.proofs.settings.base_of.Goals as goal
 
+-- the row of the endpoint, the pool of the region, and the bus that it stands on, as they are read
+record Read (rows : List TableRow) (a : Apertures) (i : ℕ) (x : Above) (pool : Pool) (pl : PlacedPool) (t : TableRow) (n : ℕ) (p : BusPack) : Type 0 where
+  at : slice_get (board_in rows) i ≡ Some (row_in t)
+  placed : IsPlaced (board_in rows) a pool pl
+  first : slice_get pl.firsts x.bus ≡ Some n
+  pack : slice_get pl.packs x.bus ≡ Some p
+
+read : (rows : List TableRow) (a : Apertures) (i : ℕ) (x : Above) → IsBoard (board_in rows) → HasLawfulDecls (board_in rows) → (all : Placement) → IsPlacement (board_in rows) a all → IsAboveAt (board_in rows) i x
+    → (pool : Pool) (pl : PlacedPool) → pl ≡ pool_in all pool → (packs : List BusPack) (firsts : List ℕ) → (let shown : PlacedPool = record { packs = packs; firsts = firsts } in shown ≡ pl)
+    → (t : TableRow) → slice_get rows i ≡ Some t → (n : ℕ) → n ≡ get_or firsts x.bus n → (p : BusPack) → p ≡ get_or packs x.bus p → Read rows a i x pool pl t n p
+read rows a i x board lawful all are above pool pl own packs firsts shown t there n n_is p p_is =
+    let b = board_in rows in
+    let at : slice_get b i ≡ Some (row_in t) = map_at row_in rows i t there in
+    let is_placed : IsPlaced b a pool pl = subst (IsPlaced b a pool) (sym own) (placed_in b a all are pool) in
+    let same_firsts : firsts ≡ pl.firsts = ap (λ (q : PlacedPool). q.firsts) shown in
+    let same_packs : packs ≡ pl.packs = ap (λ (q : PlacedPool). q.packs) shown in
+    let low_first = in_firsts b a board lawful pool pl is_placed i (row_in t) at x above in
+    let low_pack = in_packs b a board lawful pool pl is_placed i (row_in t) at x above in
+    record {
+      at = at;
+      placed = is_placed;
+      first = subst (λ (xs : List ℕ). slice_get xs x.bus ≡ Some n) same_firsts (read_at firsts x.bus n (omega (arith, ap length same_firsts, low_first)) n_is);
+      pack = subst (λ (xs : List BusPack). slice_get xs x.bus ≡ Some p) same_packs (read_at packs x.bus p (omega (arith, ap length same_packs, low_pack)) p_is);
+    }
+
+read_here : (c : goal.After-last) → Read c.args.rows.now c.args.apertures.now c.args.i c.args.above.now (named_pool c.pool_of.result) c.pool-placed.result.now c.index-rows-i.result c.index-first.result.now c.index-pack.result.now
+read_here c =
+    read c.args.rows.now c.args.apertures.now c.args.i c.args.above.now c.requires.board c.requires.declarations c.args.placement.now c.requires.placed c.requires.above
+    (named_pool c.pool_of.result) c.pool-placed.result.now c.pool-placed.ensures c.placed.inside.packs.items c.placed.inside.firsts.items c.placed.view_is
+    c.index-rows-i.result (read_at c.args.rows.now c.args.i c.index-rows-i.result c.requires.there c.index-rows-i.is) c.index-first.result.now c.index-first.ensures c.index-pack.result.now c.index-pack.ensures
+
 pub based-requires-clause-order : goal.based-requires-clause-order
 based-requires-clause-order c =
-    let rows = c.args.rows.now in
-    let b = board_in rows in
-    let a = c.args.apertures.now in
-    let i = c.args.i in
-    let x = c.args.above.now in
-    let t = c.index-rows-i.result in
-    let at : slice_get b i ≡ Some (row_in t) = map_at row_in rows i t (read_at rows i t c.requires.there c.index-rows-i.is) in
-    let pool = named_pool c.pool_of.result in
-    let pl = c.pool-placed.result.now in
-    let is_placed : IsPlaced b a pool pl = subst (IsPlaced b a pool) (sym c.pool-placed.ensures) (placed_in b a c.args.placement.now c.requires.placed pool) in
-    let firsts : c.placed.inside.firsts.items ≡ pl.firsts = ap (λ (p : PlacedPool). p.firsts) c.placed.view_is in
-    let packs : c.placed.inside.packs.items ≡ pl.packs = ap (λ (p : PlacedPool). p.packs) c.placed.view_is in
-    let n = c.index-first.result.now in
-    let p = c.index-pack.result.now in
-    let low_first = in_firsts b a c.requires.board c.requires.declarations pool pl is_placed i (row_in t) at x c.requires.above in
-    let low_pack = in_packs b a c.requires.board c.requires.declarations pool pl is_placed i (row_in t) at x c.requires.above in
-    let first : slice_get pl.firsts x.bus ≡ Some n = subst (λ (xs : List ℕ). slice_get xs x.bus ≡ Some n) firsts (read_at c.placed.inside.firsts.items x.bus n (omega (arith, ap length firsts, low_first)) c.index-first.ensures) in
-    let pack : slice_get pl.packs x.bus ≡ Some p = subst (λ (xs : List BusPack). slice_get xs x.bus ≡ Some p) packs (read_at c.placed.inside.packs.items x.bus p (omega (arith, ap length packs, low_pack)) c.index-pack.ensures) in
-    region_strict b a c.requires.board c.requires.declarations pool pl is_placed i (row_in t) at x c.requires.above p pack
+    let r = read_here c in
+    region_strict (board_in c.args.rows.now) c.args.apertures.now c.requires.board c.requires.declarations (named_pool c.pool_of.result) c.pool-placed.result.now r.placed
+    c.args.i (row_in c.index-rows-i.result) r.at c.args.above.now c.requires.above c.index-pack.result.now r.pack
 
 pub based-requires-clause-align : goal.based-requires-clause-align
 based-requires-clause-align c =
-    let rows = c.args.rows.now in
-    let b = board_in rows in
-    let a = c.args.apertures.now in
-    let i = c.args.i in
-    let x = c.args.above.now in
-    let t = c.index-rows-i.result in
-    let at : slice_get b i ≡ Some (row_in t) = map_at row_in rows i t (read_at rows i t c.requires.there c.index-rows-i.is) in
-    let pool = named_pool c.pool_of.result in
-    let pl = c.pool-placed.result.now in
-    let is_placed : IsPlaced b a pool pl = subst (IsPlaced b a pool) (sym c.pool-placed.ensures) (placed_in b a c.args.placement.now c.requires.placed pool) in
-    let firsts : c.placed.inside.firsts.items ≡ pl.firsts = ap (λ (p : PlacedPool). p.firsts) c.placed.view_is in
-    let packs : c.placed.inside.packs.items ≡ pl.packs = ap (λ (p : PlacedPool). p.packs) c.placed.view_is in
-    let n = c.index-first.result.now in
-    let p = c.index-pack.result.now in
-    let low_first = in_firsts b a c.requires.board c.requires.declarations pool pl is_placed i (row_in t) at x c.requires.above in
-    let low_pack = in_packs b a c.requires.board c.requires.declarations pool pl is_placed i (row_in t) at x c.requires.above in
-    let first : slice_get pl.firsts x.bus ≡ Some n = subst (λ (xs : List ℕ). slice_get xs x.bus ≡ Some n) firsts (read_at c.placed.inside.firsts.items x.bus n (omega (arith, ap length firsts, low_first)) c.index-first.ensures) in
-    let pack : slice_get pl.packs x.bus ≡ Some p = subst (λ (xs : List BusPack). slice_get xs x.bus ≡ Some p) packs (read_at c.placed.inside.packs.items x.bus p (omega (arith, ap length packs, low_pack)) c.index-pack.ensures) in
-    let part : c.last.result ≡ last_part t.path = c.last.ensures ∙ ap (λ (u : TableRow). last_part u.path) c.row.view_is in
+    let r = read_here c in
+    let b = board_in c.args.rows.now in
     let k : Region = record { index = c.args.index; kind = c.in_ok-bar.bar.kind; size = c.in_ok-bar.bar.size; cells = [] } in
-    let own : IsRegionAt b i k = (subst (λ (o : Option Bar). Each (IsRegionAt b i) (regions_from c.args.index (o ∷ []))) c.in_ok-bar.was c.requires.found).0 in
-    region_aligned b a c.requires.board c.requires.declarations pool pl is_placed i (row_in t) at x c.requires.above p pack c.last.result part k own
+    let own : IsRegionAt b c.args.i k = (subst (λ (o : Option Bar). Each (IsRegionAt b c.args.i) (regions_from c.args.index (o ∷ []))) c.in_ok-bar.was c.requires.found).0 in
+    region_aligned (board_in c.args.rows.now) c.args.apertures.now c.requires.board c.requires.declarations (named_pool c.pool_of.result) c.pool-placed.result.now r.placed
+    c.args.i (row_in c.index-rows-i.result) r.at c.args.above.now c.requires.above c.index-pack.result.now r.pack c.last.result (c.last.ensures ∙ ap (λ (u : TableRow). last_part u.path) c.row.view_is) k own
 
 pub based-requires-clause-room : goal.based-requires-clause-room
 based-requires-clause-room c =
-    let rows = c.args.rows.now in
-    let b = board_in rows in
-    let a = c.args.apertures.now in
-    let i = c.args.i in
-    let x = c.args.above.now in
-    let t = c.index-rows-i.result in
-    let at : slice_get b i ≡ Some (row_in t) = map_at row_in rows i t (read_at rows i t c.requires.there c.index-rows-i.is) in
-    let pool = named_pool c.pool_of.result in
-    let pl = c.pool-placed.result.now in
-    let is_placed : IsPlaced b a pool pl = subst (IsPlaced b a pool) (sym c.pool-placed.ensures) (placed_in b a c.args.placement.now c.requires.placed pool) in
-    let firsts : c.placed.inside.firsts.items ≡ pl.firsts = ap (λ (p : PlacedPool). p.firsts) c.placed.view_is in
-    let packs : c.placed.inside.packs.items ≡ pl.packs = ap (λ (p : PlacedPool). p.packs) c.placed.view_is in
-    let n = c.index-first.result.now in
-    let p = c.index-pack.result.now in
-    let low_first = in_firsts b a c.requires.board c.requires.declarations pool pl is_placed i (row_in t) at x c.requires.above in
-    let low_pack = in_packs b a c.requires.board c.requires.declarations pool pl is_placed i (row_in t) at x c.requires.above in
-    let first : slice_get pl.firsts x.bus ≡ Some n = subst (λ (xs : List ℕ). slice_get xs x.bus ≡ Some n) firsts (read_at c.placed.inside.firsts.items x.bus n (omega (arith, ap length firsts, low_first)) c.index-first.ensures) in
-    let pack : slice_get pl.packs x.bus ≡ Some p = subst (λ (xs : List BusPack). slice_get xs x.bus ≡ Some p) packs (read_at c.placed.inside.packs.items x.bus p (omega (arith, ap length packs, low_pack)) c.index-pack.ensures) in
-    let part : c.last.result ≡ last_part t.path = c.last.ensures ∙ ap (λ (u : TableRow). last_part u.path) c.row.view_is in
-    region_room b a c.requires.board c.requires.declarations pool pl is_placed i (row_in t) at x c.requires.above p pack n first c.last.result part (a_region c.args.index)
+    let r = read_here c in
+    region_room (board_in c.args.rows.now) c.args.apertures.now c.requires.board c.requires.declarations (named_pool c.pool_of.result) c.pool-placed.result.now r.placed
+    c.args.i (row_in c.index-rows-i.result) r.at c.args.above.now c.requires.above c.index-pack.result.now r.pack
+    c.index-first.result.now r.first c.last.result (c.last.ensures ∙ ap (λ (u : TableRow). last_part u.path) c.row.view_is) (a_region c.args.index)
 
 pub returns : goal.returns
 returns c = λ r there.
-    let rows = c.args.rows.now in
-    let b = board_in rows in
+    let b = board_in c.args.rows.now in
     let a = c.args.apertures.now in
     let i = c.args.i in
     let x = c.args.above.now in
     let t = c.index-rows-i.result in
-    let at : slice_get b i ≡ Some (row_in t) = map_at row_in rows i t (read_at rows i t c.requires.there c.index-rows-i.is) in
-    let pool = named_pool c.pool_of.result in
-    let pl = c.pool-placed.result.now in
-    let is_placed : IsPlaced b a pool pl = subst (IsPlaced b a pool) (sym c.pool-placed.ensures) (placed_in b a c.args.placement.now c.requires.placed pool) in
-    let firsts : c.placed.inside.firsts.items ≡ pl.firsts = ap (λ (p : PlacedPool). p.firsts) c.placed.view_is in
-    let packs : c.placed.inside.packs.items ≡ pl.packs = ap (λ (p : PlacedPool). p.packs) c.placed.view_is in
-    let n = c.index-first.result.now in
-    let p = c.index-pack.result.now in
-    let low_first = in_firsts b a c.requires.board c.requires.declarations pool pl is_placed i (row_in t) at x c.requires.above in
-    let low_pack = in_packs b a c.requires.board c.requires.declarations pool pl is_placed i (row_in t) at x c.requires.above in
-    let first : slice_get pl.firsts x.bus ≡ Some n = subst (λ (xs : List ℕ). slice_get xs x.bus ≡ Some n) firsts (read_at c.placed.inside.firsts.items x.bus n (omega (arith, ap length firsts, low_first)) c.index-first.ensures) in
-    let pack : slice_get pl.packs x.bus ≡ Some p = subst (λ (xs : List BusPack). slice_get xs x.bus ≡ Some p) packs (read_at c.placed.inside.packs.items x.bus p (omega (arith, ap length packs, low_pack)) c.index-pack.ensures) in
-    let part : c.last.result ≡ last_part t.path = c.last.ensures ∙ ap (λ (u : TableRow). last_part u.path) c.row.view_is in
+    let f =
+    read c.args.rows.now c.args.apertures.now c.args.i c.args.above.now c.requires.board c.requires.declarations c.args.placement.now c.requires.placed c.requires.above
+    (named_pool c.pool_of.result) c.pool-placed.result.now c.pool-placed.ensures c.placed.inside.packs.items c.placed.inside.firsts.items c.placed.view_is
+    c.index-rows-i.result (read_at c.args.rows.now c.args.i c.index-rows-i.result c.requires.there c.index-rows-i.is) c.index-first.result.now c.index-first.ensures c.index-pack.result.now c.index-pack.ensures in
     let k : Region = record { index = c.args.index; kind = c.in_ok-bar.bar.kind; size = c.in_ok-bar.bar.size; cells = [] } in
-    let same : row_in t ≡ r = same_at b i (row_in t) r at there in
-    let over = (above_row b c.requires.above.all i (row_in t) x c.requires.above.told at c.requires.above.there).over in
+    let same : row_in t ≡ r = same_at b i (row_in t) r f.at there in
+    let over = (above_row b c.requires.above.all i (row_in t) x c.requires.above.told f.at c.requires.above.there).over in
     let of_pool = ap (pool_of a (bridges_above b t.path)) (sym c.kind.ensures) ∙ sym (c.pool_of.ensures (bridges_above b t.path) over) in
-    let base = base_is b a c.requires.board c.requires.declarations pool pl is_placed i (row_in t) at x c.requires.above p pack n first c.last.result part k of_pool in
+    let base = base_is (board_in c.args.rows.now) c.args.apertures.now c.requires.board c.requires.declarations (named_pool c.pool_of.result) c.pool-placed.result.now f.placed i (row_in t) f.at x c.requires.above c.index-pack.result.now f.pack c.index-first.result.now f.first c.last.result (c.last.ensures ∙ ap (λ (u : TableRow). last_part u.path) c.row.view_is) k of_pool in
     let one : ℕ → List BaseAddress = λ m. record { index = c.args.index; kind = c.in_ok-bar.bar.kind; size = c.in_ok-bar.bar.size; base = m } ∷ [] in
     ap (λ (g : Based). placed c.args.index g ∷ []) c.based.ensures ∙ ap one base ∙ ap (λ (s : Row). placed_base b a s.path k ∷ []) same
     ∙ ap (λ (o : Option Bar). map (placed_base b a r.path) (regions_from c.args.index (o ∷ []))) (sym c.in_ok-bar.was)

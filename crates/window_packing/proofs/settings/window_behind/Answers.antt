@@ -8,7 +8,7 @@ use Rattle.bridge_forward.proofs.Indices.{read_at, at_below}
 use Rattle.window_packing.specs.Packs.{BusPack}
 use Rattle.window_packing.specs.Placed.{PlacedPool}
 use Rattle.window_packing.specs.Plans.{named_pool}
-use Rattle.window_packing.proofs.BridgesAbove.{length_board}
+use Rattle.window_packing.proofs.AboveRows.{length_board}
 use Rattle.window_packing.proofs.PlacedFunctions.{count_pl, count_firsts, behind_first_is, behind_pack, window_some, window_room}
 use Rattle.window_packing.proofs.settings.window_behind.Goals as goal
 

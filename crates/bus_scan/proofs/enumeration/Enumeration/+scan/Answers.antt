@@ -10,7 +10,8 @@ use Rattle.host_bridge.specs.HostState.{HostState}
 use Rattle.bus_scan.specs.declared.enumeration.Enumeration.{Enumeration}
 use Rattle.bus_scan.specs.Scans.{IsAt, OnBus}
 use Rattle.bus_scan.specs.Sights.{seen_of}
-use Rattle.bus_scan.proofs.ScanSteps.{side, deepest, rows_length, sighted, none_seen, finds, after_look, past_nothing, past_function, endpoint_row, bridge_there_of, shows_at}
+use Rattle.bus_scan.proofs.ScanSteps.{side, deepest, rows_length, past_nothing}
+use Rattle.bus_scan.proofs.ScanSights.{sighted, none_seen, finds, after_look, past_function, endpoint_row, bridge_there_of, shows_at}
 use Rattle.bus_scan.proofs.enumeration.Enumeration.+scan.Goals as goal
 use Rattle.bus_scan.proofs.enumeration.Enumeration.+scan.Goals.{scan_bridge-then-parts-lt16+in_ok-scan_bus, scan_bridge-else-parts-lt16, scan_place-in-Endpoint+in_ok-push-in-Endpoint, scan_place-in-Bridge+in_ok-scan_bridge-in-Bridge}
 

@@ -1,0 +1,143 @@
+-- What a scan sees at a place, and where it goes on.
+use Rattle.std.proofs.Common.{◌≡◌, ℕ, ◌+◌, ◌%◌, ◌≤◌, ◌<◌, inr, Bool, true, false, not, cond, ◌&&◌, ◌||◌, List, [], ◌∷◌, ◌++◌, length, append_assoc, map, Option, Some, None, refl, sym, ap, ap₂, ◌∙◌, subst, arith, eqb, get_or, length-append}
+use Rattle.std.specs.Prelude.{find, count_by}
+use Rattle.std.proofs.Math.ListN.{set}
+use Rattle.std.proofs.Math.Seq.{get_or-append_seam}
+use Rattle.std.proofs.lemmas.List.{map-append, length-map}
+use Rattle.model_registers.specs.Declarations.{no_io, no_pref}
+use Rattle.model_board.specs.Members.{IsIn}
+use Rattle.model_board.specs.Paths.{Part, Path, part_eq, part_before, path_eq, path_before, leads_to, IsPath}
+use Rattle.model_board.specs.Board.{Decl, endpoint, bridge, Board, Row, is_bridge, is_bridge_at, stands_at, is_multifunction, IsBoard}
+use Rattle.model_board.specs.BusNumbers.{secondary, subordinate, bus_behind, bus_of, Enumerates}
+use Rattle.model_board.specs.FunctionTable.{TableRow, met_decl, scanned_table, table_row}
+use Rattle.model_board.specs.State.{BoardFunction, State}
+use Rattle.model_board.specs.Cycles.{BusAddress, reached}
+use Rattle.model_board.specs.SetUp.{state_of, reset_file, reset_state}
+use Rattle.model_board.specs.Lawful.{IsLawfulDecl}
+use Rattle.model_board.specs.Scanning.{BusNumbers, no_numbers, board_numbers, open_numbers, scan_numbers, scan_state, numbered_file, numbered_state}
+use Rattle.model_board.specs.ScanOrder.{place, on, next_place, met, GivesNumbersInPathOrder}
+use Rattle.model_board.proofs.Members.{each_in, any_in, from_filter}
+use Rattle.model_board.proofs.PathOrder.{one, path_same, leads_before}
+use Rattle.model_board.proofs.PathEnds.{part_self, path_self, leads_self, parent_snoc, not_before_itself}
+use Rattle.model_board.proofs.Partings.{bridge_at, leads_longer}
+use Rattle.model_board.proofs.Scanning.{goes_before, met_before, reached_while_scanning, numbers_of_scan_state}
+use Rattle.model_board.proofs.ScanPlaces.{before_first, before_last, leads_place, row_path}
+use Rattle.model_board.proofs.ScanOrder.{scan_meets, scan_gives_numbers, no_bridge_here, no_bridge_none}
+use Rattle.bus_scan.specs.declared.seen.Seen.{Seen}
+use Rattle.bus_scan.specs.declared.seen.Layout.TheVariants.{Endpoint as EndpointLayout, Bridge as BridgeLayout}
+use Rattle.bus_scan.specs.declared.table.Found.TheVariants.{Endpoint as FoundEndpoint}
+use Rattle.bus_scan.specs.Rows.{decl_of, ended as ended_range}
+use Rattle.bus_scan.specs.Sights.{seen_of}
+use Rattle.bus_scan.specs.Scans.{met_row, given, IsAt, OnBus, StandsAt, IsFound, IsBridgeThere}
+use Rattle.bus_scan.proofs.States.{Numbers, numbered, map_same, same_state, none_stands, one_stands, stands, bridge_there}
+use Rattle.bus_scan.proofs.MetRows.{count_more, filter_same, row_same, rows_same, rows_more, met_grows, row_filled}
+use Rattle.bus_scan.proofs.ScanSteps.{before_on, reaches, next_is, stands_true, past_endpoint}
+
+-- what is seen at a place
+pub data Sight (b : Board) (bus : Path) (number n : ℕ) (o : Option Seen) : Type 0 where
+  Nothing : stands_at b (on bus n) ≡ false → o ≡ None → Sight b bus number n o
+  Function : (r : Row) (seen : Seen) → o ≡ Some seen → IsFound b bus number n r seen → Sight b bus number n o
+
+pub sighted : (b : Board) (bus : Path) (number : ℕ) → OnBus b bus number → (n : ℕ) (s : State) (rows : List TableRow) (last : ℕ) → IsAt b (on bus n) s rows last → (a : BusAddress) → a ≡ record { bus = number; part = place n }
+    → (o : Option Seen) → (reached s.functions a ≡ None → o ≡ None)
+    → ((c : Board) (numbers : Path → BusNumbers) (f : BoardFunction) → reached s.functions a ≡ Some f → f.file ≡ numbered_file c numbers f.path f.decl → IsLawfulDecl f.decl → o ≡ Some (seen_of (is_multifunction c f.path) f.decl))
+    → Sight b bus number n o
+sighted b bus number on_bus n s rows last at a is o none some = by_stands (stands_at b (on bus n)) refl
+  where
+    found_here : reached s.functions a ≡ find (λ f. path_eq f.path (on bus n)) (scan_state b (on bus n)).functions
+    found_here =
+        ap (λ (a : BusAddress). reached s.functions a) is ∙ reaches b bus number on_bus (on bus n) s rows last at (before_on bus (place n)) n
+        ∙ ap (λ (s : State). find (λ f. path_eq f.path (on bus n)) s.functions) at.state
+
+    by_stands : (t : Bool) → stands_at b (on bus n) ≡ t → Sight b bus number n o
+    by_stands false e = Nothing e (none (found_here ∙ none_stands b (scan_numbers b (on bus n)) (on bus n) e))
+    by_stands true e =
+        let r = stands b (on bus n) e in
+        let numbers = scan_numbers b (on bus n) in
+        let shown = some b numbers (numbered b numbers r.0) (found_here ∙ one_stands b on_bus.board numbers (on bus n) r.0 r.1) refl (each_in (λ (r : Row). IsLawfulDecl r.decl) r.0 b on_bus.declarations r.1.member) in
+        Function r.0 (seen_of (is_multifunction b r.0.path) r.0.decl) shown (record {
+          on_bus = on_bus;
+          stands = r.1;
+          shows = ap (λ (p : Path). seen_of (is_multifunction b p) r.0.decl) r.1.path;
+        })
+
+-- ---- what the program sees
+
+-- a look changes nothing but the latch, which is 0
+pub after_look : (b : Board) (here : Path) (s : State) (rows : List TableRow) (last : ℕ) → IsAt b here s rows last → (new : State) → new ≡ record s { latch = 0 } → IsAt b here new rows last
+after_look b here s rows last at new is = record {
+  state = is ∙ ap (λ (s : State). let t : State = record s { latch = 0 } in t) at.state;
+  rows_met = at.rows_met;
+  last_given = at.last_given;
+  last_fits = at.last_fits;
+}
+
+pub none_seen : (b : Board) (bus : Path) (number n : ℕ) (o : Option Seen) → Sight b bus number n o → o ≡ None → stands_at b (on bus n) ≡ false
+none_seen b bus number n o (Nothing none e) h = none
+none_seen b bus number n o (Function r seen e found) h = cc
+
+pub record Finds (b : Board) (bus : Path) (number n : ℕ) (seen : Seen) : Type 0 where
+  pub row : Row
+  pub found : IsFound b bus number n row seen
+  pub next : (m : ℕ) → m ≡ cond (eqb (n % 8) 0 && not seen.is_multifunction) (n + 8) (n + 1) → m ≡ next_place b bus n
+
+shares : (multifunction : Bool) (d : Decl) → (seen_of multifunction d).is_multifunction ≡ multifunction
+shares multifunction (endpoint d) = refl
+shares multifunction (bridge d) = refl
+
+pub finds : (b : Board) (bus : Path) (number n : ℕ) (o : Option Seen) → Sight b bus number n o → (seen : Seen) → o ≡ Some seen → Finds b bus number n seen
+finds b bus number n o (Nothing none e) seen h = cc
+finds b bus number n o (Function r known e found) seen h =
+    let same : known ≡ seen = cc in
+    let found_now : IsFound b bus number n r seen = subst (λ (x : Seen). IsFound b bus number n r x) same found in
+    record {
+      row = r;
+      found = found_now;
+      next = λ m is. next_is b bus n m true seen.is_multifunction (stands_true b (on bus n) r found_now.stands) (sym (ap (λ (x : Seen). x.is_multifunction) found_now.shows ∙ shares (is_multifunction b (on bus n)) r.decl)) is;
+    }
+
+layout_bridge : (multifunction : Bool) (d : Decl) → (seen_of multifunction d).layout ≡ BridgeLayout → is_bridge d ≡ true
+layout_bridge multifunction (endpoint d) h = cc
+layout_bridge multifunction (bridge d) h = refl
+
+pub bridge_seen : (b : Board) (bus : Path) (number n : ℕ) (r : Row) (seen : Seen) → IsFound b bus number n r seen → seen.layout ≡ BridgeLayout → is_bridge r.decl ≡ true
+bridge_seen b bus number n r seen found h = layout_bridge (is_multifunction b (on bus n)) r.decl (ap (λ (x : Seen). x.layout) (sym found.shows) ∙ h)
+
+-- the row of an endpoint that was met
+abbrev pub endpoint_row : Path → ℕ → ℕ → Seen → TableRow
+endpoint_row path number pin seen = record {
+  path = path;
+  bus = number;
+  behind = None;
+  decl = decl_of seen.vendor seen.device (FoundEndpoint pin (None ∷ None ∷ None ∷ None ∷ None ∷ None ∷ []));
+}
+
+pub past_function : (b : Board) (bus : Path) (number n pin : ℕ) (r : Row) (seen : Seen) → IsFound b bus number n r seen → seen.layout ≡ EndpointLayout pin → (path : Path) → path ≡ on bus n → (s : State) (rows : List TableRow) (last : ℕ)
+    → IsAt b (on bus n) s rows last → IsAt b (on bus (next_place b bus n)) s (rows ++ endpoint_row path number pin seen ∷ []) last
+past_function b bus number n pin r seen found h path path_is s rows last at = by_decl r.decl refl
+  where
+    by_decl : (d : Decl) → r.decl ≡ d → IsAt b (on bus (next_place b bus n)) s (rows ++ endpoint_row path number pin seen ∷ []) last
+    by_decl (bridge d) e = let bad : BridgeLayout ≡ EndpointLayout pin = ap (λ (x : Seen). x.layout) (sym (found.shows ∙ ap (seen_of (is_multifunction b (on bus n))) e)) ∙ h in cc
+    by_decl (endpoint d) e =
+        let shows : seen ≡ seen_of (is_multifunction b (on bus n)) (endpoint d) = found.shows ∙ ap (seen_of (is_multifunction b (on bus n))) e in
+        let layout : EndpointLayout d.pin ≡ EndpointLayout pin = ap (λ (x : Seen). x.layout) (sym shows) ∙ h in
+        let same_pin : pin ≡ d.pin = cc in
+        let row : endpoint_row path number pin seen ≡ met_row b (scan_numbers b (on bus n)) (record r { decl = endpoint d }) = λ i. record {
+          path = (path_is ∙ sym found.stands.path) i;
+          bus = (found.on_bus.named ∙ ap (bus_behind b) (sym (parent_snoc bus (place n))) ∙ ap (bus_of b) (sym found.stands.path)) i;
+          behind = None;
+          decl = decl_of (shows i).vendor (shows i).device (FoundEndpoint (same_pin i) (None ∷ None ∷ None ∷ None ∷ None ∷ None ∷ []));
+        } in
+        past_endpoint b found.on_bus.board bus n (next_place b bus n) r found.stands (ap is_bridge e) s rows last
+        (ap (λ t. cond (eqb (n % 8) 0 && not (t && is_multifunction b (on bus n))) (n + 8) (n + 1)) (stands_true b (on bus n) r found.stands))
+        at (endpoint_row path number pin seen) (row ∙ ap (λ (d : Decl). met_row b (scan_numbers b (on bus n)) (record r { decl = d })) (sym e))
+
+-- a bridge that was found, as the steps take it
+pub bridge_found : (b : Board) (bus : Path) (number n : ℕ) (r : Row) (at : BusAddress) → IsBridgeThere b bus number n r at → (path : Path) → path ≡ on bus n → (seen : Seen) → seen ≡ seen_of (is_multifunction b path) r.decl → IsFound b bus number n r seen
+bridge_found b bus number n r at is path path_is seen shows = record { on_bus = is.on_bus; stands = is.stands; shows = shows ∙ ap (λ (p : Path). seen_of (is_multifunction b p) r.decl) path_is }
+
+pub bridge_there_of : (b : Board) (bus : Path) (number n : ℕ) (r : Row) (seen : Seen) → IsFound b bus number n r seen → seen.layout ≡ BridgeLayout → (at : BusAddress) → at ≡ record { bus = number; part = place n } → IsBridgeThere b bus number n r at
+bridge_there_of b bus number n r seen found layout at at_is = record { on_bus = found.on_bus; stands = found.stands; is_bridge_there = bridge_seen b bus number n r seen found layout; address = at_is }
+
+pub shows_at : (b : Board) (bus : Path) (number n : ℕ) (r : Row) (seen : Seen) → IsFound b bus number n r seen → (path : Path) → path ≡ on bus n → seen ≡ seen_of (is_multifunction b path) r.decl
+shows_at b bus number n r seen found path path_is = found.shows ∙ sym (ap (λ (p : Path). seen_of (is_multifunction b p) r.decl) path_is)

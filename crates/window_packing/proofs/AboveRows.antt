@@ -1,0 +1,264 @@
+-- What stands above all functions of a board, one row after the other.
+use Rattle.std.proofs.Common.{◌≡◌, ℕ, zero, suc, ◌+◌, ◌-◌, ◌≤◌, ◌<◌, ◌⊎◌, inl, inr, Bool, true, false, ◌&&◌, List, [], ◌∷◌, ◌++◌, map, length, Some, refl, sym, ap, ap₂, ◌∙◌, subst, arith, get_or, ◌≢◌, length-append, replicate, get_or-set_other, get_or-set_same}
+use Rattle.std.specs.Prelude.{filter, IsTrue}
+use Rattle.std.specs.List.{list_all, slice_get, slice_set}
+use Rattle.std.proofs.lemmas.Option.{slice_get_within}
+use Rattle.std.proofs.lemmas.Bool.{and_parts, cases_lt}
+use Rattle.std.proofs.Math.ListN.{length-set}
+use Rattle.model_registers.specs.Lists.{Each}
+use Rattle.model_registers.specs.Declarations.{Bridge}
+use Rattle.model_board.specs.Members.{IsIn}
+use Rattle.model_board.specs.Paths.{Path, path_eq, path_before, leads_to, parent, last_part, IsPath}
+use Rattle.model_board.specs.Board.{Decl, endpoint, bridge, is_bridge, is_bridge_at, Row, Board, IsBoard}
+use Rattle.model_board.specs.Pools.{bridge_of, bridges_above, has_io, has_pref, has_pref64}
+use Rattle.model_board.specs.FunctionTable.{TableRow, board_in}
+use Rattle.model_board.proofs.PathOrder.{one, path_same, before_trans, behind_trans, leads_before}
+use Rattle.model_board.proofs.PathEnds.{snoc, length_snoc, leads_up, leads_self, leads_trans, not_before_itself}
+use Rattle.model_board.proofs.Members.{each_in, from_flat_map, in_flat_map, from_filter, in_filter}
+use Rattle.model_board.proofs.Partings.{leads_longer, pair_in}
+use Rattle.bridge_forward.proofs.Indices.{same_at, at_below, each_at, pair_at, any_at, map_at, at_map}
+use Rattle.window_packing.specs.declared.above.Above.{Above}
+use Rattle.window_packing.specs.Buses.{bus_path, nothing_above, behind, AreAbove}
+use Rattle.window_packing.proofs.BridgesAbove.{Tells, tells_root, tells_behind}
+
+pub maps_same : {A B C : Type 0} (f : A → C) (g : B → C) (xs : List A) (ys : List B) → length xs ≡ length ys → ((k : ℕ) (x : A) (y : B) → slice_get xs k ≡ Some x → slice_get ys k ≡ Some y → f x ≡ g y) → map f xs ≡ map g ys
+maps_same f g [] [] n h = refl
+maps_same f g [] (y ∷ ys) n h = absurd (omega arith)
+maps_same f g (x ∷ xs) [] n h = absurd (omega arith)
+maps_same f g (x ∷ xs) (y ∷ ys) n h = ap₂ (λ z zs. z ∷ zs) (h 0 x y refl refl) (maps_same f g xs ys (omega arith) (λ k u v e l. h (suc k) u v e l))
+
+pub each_by_index : {A : Type 0} (P : A → Type 0) (xs : List A) → ((k : ℕ) (x : A) → slice_get xs k ≡ Some x → P x) → Each P xs
+each_by_index P [] h = tt
+each_by_index P (x ∷ xs) h = (h 0 x refl, each_by_index P xs (λ k y e. h (suc k) y e))
+
+-- what the loop keeps: the rows so far are told, and at each length of a path stands the last row that no row after it is up to
+pub record Followed (b : Board) (i : ℕ) (xs : List Above) (buses : List ℕ) : Type 0 where
+  pub count : length xs ≡ i
+  pub within : i ≤ length b
+  pub tells : (k : ℕ) (r : Row) (x : Above) → slice_get b k ≡ Some r → slice_get xs k ≡ Some x → Tells b r.path x
+  pub depths : length buses ≡ 17
+  pub root : get_or buses 0 0 ≡ 0
+  pub small : (d : ℕ) → get_or buses d 0 ≤ i
+  pub last : (k : ℕ) (r : Row) → k < i → slice_get b k ≡ Some r → ((j : ℕ) (s : Row) → k < j → j < i → slice_get b j ≡ Some s → length r.path < length s.path) → get_or buses (length r.path) 0 ≡ suc k
+
+pub all_told : (b : Board) (xs : List Above) (buses : List ℕ) → Followed b (length b) xs buses → AreAbove b xs
+all_told b xs buses f = record {
+  buses = maps_same (λ (x : Above). bus_path b x.bus) (λ (r : Row). parent r.path) xs b f.count (λ k x r e g. (f.tells k r x g e).bus);
+  within = each_by_index (λ (x : Above). x.bus ≤ length b) xs (λ k x e.
+      let w = slice_get_within xs k x e in
+      let r = at_below b k (omega (arith, w, f.count)) in
+      (f.tells k r.0 x r.1 e).within);
+  io = maps_same (λ (x : Above). x.io) (λ (r : Row). list_all (λ d. has_io d.io) (bridges_above b r.path)) xs b f.count (λ k x r e g. (f.tells k r x g e).io);
+  pref = maps_same (λ (x : Above). x.pref) (λ (r : Row). list_all (λ d. has_pref d.pref) (bridges_above b r.path)) xs b f.count (λ k x r e g. (f.tells k r x g e).pref);
+  pref64 = maps_same (λ (x : Above). x.pref64) (λ (r : Row). list_all (λ d. has_pref64 d.pref) (bridges_above b r.path)) xs b f.count (λ k x r e g. (f.tells k r x g e).pref64);
+}
+
+pub none_told : (b : Board) (buses : List ℕ) → buses ≡ replicate 17 0 → Followed b 0 [] buses
+none_told b buses e = record {
+  count = refl;
+  within = omega arith;
+  tells = λ k r x e f. absurd (cc);
+  depths = ap length e;
+  root = ap (λ (xs : List ℕ). get_or xs 0 0) e;
+  small = λ d. subst (λ (xs : List ℕ). get_or xs d 0 ≤ 0) (sym e) (zeros 17 d);
+  last = λ k r l e h. absurd (omega arith);
+}
+  where
+    zeros : (n d : ℕ) → get_or (replicate n 0) d 0 ≤ 0
+    zeros zero d = omega arith
+    zeros (suc n) zero = omega arith
+    zeros (suc n) (suc d) = zeros n d
+
+-- ---- the bus of the next row
+
+-- bus 0, or the bus behind an earlier row
+abbrev pub StandsOn : Board → Row → ℕ → ℕ → Type 0
+StandsOn b r i bus = ((bus ≡ 0) × (parent r.path ≡ [])) ⊎ ((k : ℕ) × (q : Row) × (bus ≡ suc k) × (k < i) × (slice_get b k ≡ Some q) × (parent r.path ≡ q.path))
+
+no_turn : (p q : Path) → path_before p q ≡ true → path_before q p ≡ true → ⊥
+no_turn p q h k = by_own (path_before q q) refl (before_trans q p q h)
+  where
+    too_many : (t : Bool) → 1 + one t ≤ 0 → ⊥
+    too_many true h = omega (arith, h)
+    too_many false h = omega (arith, h)
+
+    by_own : (t : Bool) → path_before q q ≡ t → one (path_before q p) + one (path_eq q p) ≤ one (path_before q q) → ⊥
+    by_own true e le = not_before_itself q e
+    by_own false e le = let w = rw (k, e) at le in too_many (path_eq q p) w
+
+-- what stands between a bridge and a function behind it stands behind it
+between : (p q r : Path) → path_before p q ≡ true → path_before q r ≡ true → leads_to p r ≡ true → leads_to p q ≡ true
+between p q r before after leads = by_test (leads_to p q) refl
+  where
+    some : (s t u : Bool) → one s + one t + one true ≤ one u → u ≡ true
+    some s t true h = refl
+    some s t false h = absurd (omega (arith, h))
+
+    by_test : (t : Bool) → leads_to p q ≡ t → leads_to p q ≡ true
+    by_test true e = e
+    by_test false e =
+        let le = behind_trans r p q before e in
+        let w : one (path_before r p) + one (path_eq r p) + one true ≤ one (path_before r q) = subst (λ v. one (path_before r p) + one (path_eq r p) + one v ≤ one (path_before r q)) leads le in
+        absurd (no_turn q r after (some (path_before r p) (path_eq r p) (path_before r q) w))
+
+module _ (b : Board) (board : IsBoard b) where
+  ordered : (i j : ℕ) (r s : Row) → i < j → slice_get b i ≡ Some r → slice_get b j ≡ Some s → path_before r.path s.path ≡ true
+  ordered i j r s l e f = pair_at (λ (x y : Row). IsTrue (path_before x.path y.path)) b i j r s board.in_order l e f
+
+  pub path_at : (i : ℕ) (r : Row) → slice_get b i ≡ Some r → IsPath r.path
+  path_at i r e = each_at (λ (x : Row). IsPath x.path) b i r board.paths e
+
+  pub stands_on : (i : ℕ) (xs : List Above) (buses : List ℕ) → Followed b i xs buses → (r : Row) → slice_get b i ≡ Some r → StandsOn b r i (get_or buses (length r.path - 1) 0)
+  stands_on i xs buses f r e = by_parent (each_at (λ (s : Row). (parent s.path ≡ []) ⊎ IsTrue (is_bridge_at b (parent s.path))) b i r board.behind_bridges e)
+    where
+      some : 0 < length r.path
+      some = (path_at i r e).some
+
+      split : r.path ≡ parent r.path ++ last_part r.path ∷ []
+      split = snoc r.path some
+
+      shorter : length r.path ≡ length (parent r.path) + 1
+      shorter = ap length split ∙ length_snoc (parent r.path) (last_part r.path)
+
+      of_row : (k : ℕ) (q : Row) → slice_get b k ≡ Some q → path_eq q.path (parent r.path) ≡ true → StandsOn b r i (get_or buses (length r.path - 1) 0)
+      of_row k q g h = inr (k, q, at, below, g, sym same)
+        where
+          same : q.path ≡ parent r.path
+          same = path_same q.path (parent r.path) h
+
+          leads : leads_to q.path r.path ≡ true
+          leads = subst (λ (x : Path). leads_to q.path x ≡ true) (sym split) (subst (λ (x : Path). leads_to q.path (x ++ last_part r.path ∷ []) ≡ true) same (leads_self q.path (last_part r.path)))
+
+          first : path_before q.path r.path ≡ true
+          first = leads_before q.path r.path leads
+
+          by_order : (k < i) ⊎ (i ≤ k) → k < i
+          by_order (inl h) = h
+          by_order (inr h) = by_same (cases_lt i k)
+            where
+              by_same : (i < k) ⊎ (k ≤ i) → k < i
+              by_same (inl l) = absurd (no_turn r.path q.path (ordered i k r q l e g) first)
+              by_same (inr l) =
+                  let eq : i ≡ k = omega arith in
+                  let one_row : r ≡ q = same_at b k r q (subst (λ n. slice_get b n ≡ Some r) eq e) g in
+                  absurd (not_before_itself r.path (subst (λ (x : Row). path_before x.path r.path ≡ true) (sym one_row) first))
+
+          below : k < i
+          below = by_order (cases_lt k i)
+
+          depth : length r.path - 1 ≡ length q.path
+          depth = omega (arith, shorter, ap length same)
+
+          at : get_or buses (length r.path - 1) 0 ≡ suc k
+          at = ap (λ n. get_or buses n 0) depth ∙ f.last k q below g (λ j s l m n. leads_longer q.path s.path (between q.path s.path r.path (ordered k j q s l g n) (ordered j i s r m n e) leads))
+
+      by_parent : (parent r.path ≡ []) ⊎ IsTrue (is_bridge_at b (parent r.path)) → StandsOn b r i (get_or buses (length r.path - 1) 0)
+      by_parent (inl up) =
+          let depth : length r.path - 1 ≡ 0 = omega (arith, shorter, ap length up) in
+          inl (ap (λ n. get_or buses n 0) depth ∙ f.root, up)
+      by_parent (inr h) =
+          let w = any_at (λ (s : Row). is_bridge s.decl && path_eq s.path (parent r.path)) b h in
+          of_row w.0 w.1.0 w.1.1 (and_parts (is_bridge w.1.0.decl) (path_eq w.1.0.path (parent r.path)) w.1.2).1
+
+  -- ---- and what stands above it
+
+  pub told_at : (i : ℕ) (xs : List Above) (buses : List ℕ) → Followed b i xs buses → (r : Row) → slice_get b i ≡ Some r → (x : Above) → (get_or buses (length r.path - 1) 0 ≡ 0 → x ≡ nothing_above)
+      → ((k : ℕ) (q : Row) (up : Above) → get_or buses (length r.path - 1) 0 ≡ suc k → slice_get b k ≡ Some q → slice_get xs k ≡ Some up → x ≡ behind (get_or buses (length r.path - 1) 0) q.decl up) → Tells b r.path x
+  told_at i xs buses f r e x root others = by_bus (stands_on i xs buses f r e)
+    where
+      some : 0 < length r.path
+      some = (path_at i r e).some
+
+      by_bus : StandsOn b r i (get_or buses (length r.path - 1) 0) → Tells b r.path x
+      by_bus (inl (z, up)) = subst (Tells b r.path) (sym (root z)) (tells_root b board r.path some up)
+      by_bus (inr (k, q, is, below, g, up)) =
+          let u = at_below xs k (omega (arith, below, f.count)) in
+          let same : x ≡ behind (suc k) q.decl u.0 = others k q u.0 is g u.1 ∙ ap (λ n. behind n q.decl u.0) is in
+          subst (Tells b r.path) (sym same) (tells_behind b board k q g r.path some up u.0 (f.tells k q u.0 g u.1))
+
+  push_at : (xs : List Above) (x y : Above) (k : ℕ) → slice_get (xs ++ x ∷ []) k ≡ Some y → (slice_get xs k ≡ Some y) ⊎ ((k ≡ length xs) × (y ≡ x))
+  push_at [] x y zero e = inr (refl, let s : y ≡ x = cc in s)
+  push_at [] x y (suc k) e = absurd (cc)
+  push_at (z ∷ xs) x y zero e = inl e
+  push_at (z ∷ xs) x y (suc k) e = later (push_at xs x y k e)
+    where
+      later : (slice_get xs k ≡ Some y) ⊎ ((k ≡ length xs) × (y ≡ x)) → (slice_get (z ∷ xs) (suc k) ≡ Some y) ⊎ ((suc k ≡ suc (length xs)) × (y ≡ x))
+      later (inl h) = inl h
+      later (inr (h, g)) = inr (ap suc h, g)
+
+  pub followed_more : (i : ℕ) (xs : List Above) (buses : List ℕ) → Followed b i xs buses → (r : Row) → slice_get b i ≡ Some r → (x : Above) → Tells b r.path x → Followed b (i + 1) (xs ++ x ∷ []) (slice_set buses (length r.path) (i + 1))
+  followed_more i xs buses f r e x told = record {
+    count = length-append xs (x ∷ []) ∙ ap (λ n. n + 1) f.count;
+    within = let w = slice_get_within b i r e in omega (arith, w);
+    tells = λ k s y g h. by_push k s y g (push_at xs x y k h);
+    depths = length-set buses (length r.path) (i + 1) ∙ f.depths;
+    root = let other : 0 ≢ length r.path = omega (arith, some) in rw get_or-set_other f.root;
+    small = λ d. by_depth d (cases_eq d (length r.path));
+    last = λ k s l g h. by_last k s l g h (cases_lt k i);
+  }
+    where
+      some : 0 < length r.path
+      some = (path_at i r e).some
+
+      in_buses : length r.path < length buses
+      in_buses = omega (arith, (path_at i r e).few, f.depths)
+
+      cases_eq : (m n : ℕ) → (m ≡ n) ⊎ (m ≢ n)
+      cases_eq m n = grind arith
+
+      by_push : (k : ℕ) (s : Row) (y : Above) → slice_get b k ≡ Some s → (slice_get xs k ≡ Some y) ⊎ ((k ≡ length xs) × (y ≡ x)) → Tells b s.path y
+      by_push k s y g (inl h) = f.tells k s y g h
+      by_push k s y g (inr (h, same)) =
+          let at : slice_get b i ≡ Some s = subst (λ n. slice_get b n ≡ Some s) (h ∙ f.count) g in
+          let row : r ≡ s = same_at b i r s e at in
+          subst (λ (z : Row). Tells b z.path y) row (subst (Tells b r.path) (sym same) told)
+
+      by_depth : (d : ℕ) → (d ≡ length r.path) ⊎ (d ≢ length r.path) → get_or (slice_set buses (length r.path) (i + 1)) d 0 ≤ i + 1
+      by_depth d (inl same) = omega (arith, ap (λ n. get_or (slice_set buses (length r.path) (i + 1)) n 0) same ∙ get_or-set_same buses (length r.path) (i + 1) 0 in_buses)
+      by_depth d (inr other) = omega (arith, get_or-set_other buses (length r.path) d (i + 1) 0 other, f.small d)
+
+      by_last : (k : ℕ) (s : Row) → k < i + 1 → slice_get b k ≡ Some s → ((j : ℕ) (t : Row) → k < j → j < i + 1 → slice_get b j ≡ Some t → length s.path < length t.path) → (k < i) ⊎ (i ≤ k) → get_or (slice_set buses (length r.path) (i + 1)) (length s.path) 0 ≡ suc k
+      by_last k s l g h (inl below) =
+          let longer : length s.path < length r.path = h i r below (omega arith) e in
+          let other : length s.path ≢ length r.path = omega arith in
+          get_or-set_other buses (length r.path) (length s.path) (i + 1) 0 other ∙ f.last k s below g (λ j t m n q. h j t m (omega arith) q)
+      by_last k s l g h (inr above) =
+          let eq : k ≡ i = omega arith in
+          let row : s ≡ r = same_at b i s r (subst (λ n. slice_get b n ≡ Some s) eq g) e in
+          ap (λ (z : Row). get_or (slice_set buses (length r.path) (i + 1)) (length z.path) 0) row ∙ get_or-set_same buses (length r.path) (i + 1) 0 in_buses ∙ let m : i + 1 ≡ suc k = omega arith in m
+
+abbrev row_in : TableRow → Row
+row_in t = record { path = t.path; decl = t.decl }
+
+pub more_rows : (rows : List TableRow) → IsBoard (board_in rows) → (i : ℕ) (xs : List Above) (buses : List ℕ) → Followed (board_in rows) i xs buses → (t : TableRow) → slice_get rows i ≡ Some t → (parts : Path) → parts ≡ t.path → (bus : ℕ)
+    → get_or buses (length parts - 1) 0 ≡ bus → (x : Above) → (bus ≡ 0 → x ≡ nothing_above)
+    → ((k : ℕ) (q : TableRow) (up : Above) → bus ≡ suc k → slice_get rows k ≡ Some q → slice_get xs k ≡ Some up → x ≡ behind bus q.decl up) → Followed (board_in rows) (i + 1) (xs ++ x ∷ []) (slice_set buses (length parts) (i + 1))
+more_rows rows board i xs buses f t e parts path bus is x root others =
+    subst (λ (p : Path). Followed (board_in rows) (i + 1) (xs ++ x ∷ []) (slice_set buses (length p) (i + 1))) (sym path)
+    (followed_more (board_in rows) board i xs buses f (row_in t) at x (told_at (board_in rows) board i xs buses f (row_in t) at x (λ z. root (sym same ∙ z)) (λ k q up n g h. of_row k up n h (at_map row_in rows k q g))))
+  where
+    at : slice_get (board_in rows) i ≡ Some (row_in t)
+    at = map_at row_in rows i t e
+
+    same : get_or buses (length t.path - 1) 0 ≡ bus
+    same = ap (λ (p : Path). get_or buses (length p - 1) 0) (sym path) ∙ is
+
+    of_row : (k : ℕ) {q : Row} (up : Above) → get_or buses (length t.path - 1) 0 ≡ suc k → slice_get xs k ≡ Some up → (s : TableRow) × (slice_get rows k ≡ Some s) × (q ≡ row_in s) → x ≡ behind (get_or buses (length t.path - 1) 0) q.decl up
+    of_row k up n h (s, g, e) = others k s up (sym same ∙ n) g h ∙ ap₂ (λ m (r : Row). behind m r.decl up) (sym same) (sym e)
+
+pub length_board : (rows : List TableRow) → length (board_in rows) ≡ length rows
+length_board [] = refl
+length_board (r ∷ rows) = ap suc (length_board rows)
+
+-- what is told at an index
+pub tells_at : (b : Board) (xs : List Above) (i : ℕ) (r : Row) (x : Above) → AreAbove b xs → slice_get b i ≡ Some r → slice_get xs i ≡ Some x → Tells b r.path x
+tells_at b xs i r x h at there = record {
+  bus = same (λ (y : Above). bus_path b y.bus) (λ (s : Row). parent s.path) xs b i x r h.buses there at;
+  within = each_at (λ (y : Above). y.bus ≤ length b) xs i x h.within there;
+  io = same (λ (y : Above). y.io) (λ (s : Row). list_all (λ d. has_io d.io) (bridges_above b s.path)) xs b i x r h.io there at;
+  pref = same (λ (y : Above). y.pref) (λ (s : Row). list_all (λ d. has_pref d.pref) (bridges_above b s.path)) xs b i x r h.pref there at;
+  pref64 = same (λ (y : Above). y.pref64) (λ (s : Row). list_all (λ d. has_pref64 d.pref) (bridges_above b s.path)) xs b i x r h.pref64 there at;
+}
+  where
+    same : {A B C : Type 0} (f : A → C) (g : B → C) (xs : List A) (ys : List B) (i : ℕ) (x : A) (y : B) → map f xs ≡ map g ys → slice_get xs i ≡ Some x → slice_get ys i ≡ Some y → f x ≡ g y
+    same {C = C} f g xs ys i x y e p q = same_at (map g ys) i (f x) (g y) (subst (λ (zs : List C). slice_get zs i ≡ Some (f x)) e (map_at f xs i x p)) (map_at g ys i y q)
