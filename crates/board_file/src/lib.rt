@@ -17,8 +17,6 @@ mod places;
 mod reading;
 mod regions;
 mod schema;
-#[cfg(test)]
-mod tests;
 mod texts;
 
 pub use board::read_board;
