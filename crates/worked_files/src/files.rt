@@ -1,6 +1,6 @@
 //! The main board, and the same board with one change at a time.
 use board_file::{BoardFault, read_board};
-use monitor::GuestDecl;
+use accesses::GuestDecl;
 use std::process::Abort;
 use std::test::Fail;
 
