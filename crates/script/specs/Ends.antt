@@ -1,7 +1,10 @@
--- How a call on a reader or a writer counts as a failure.
+-- How a call on a reader or a writer counts as a failure, and what a text that is not written whole leaves.
 --     failures_of      an error is one failure
 --     write_failures_of      so is a write that takes no byte
-use Rattle.std.specs.Prelude.{◌==◌, ℕ, if◌then◌else◌, Result, Ok, Err}
+--     AppendsPart old new text      a beginning of the text was written, after what was written before
+use Rattle.std.specs.Prelude.{◌==◌, ℕ, List, if◌then◌else◌, Option, Result, Ok, Err}
+use Rattle.std.specs.Io.{StartsWith}
+use Rattle.std.specs.Io.KnownBytes.{Appends}
 
 abbrev pub failures_of : {T E : Type 0} → Result T E → ℕ
 failures_of (Ok x) = 0
@@ -10,3 +13,6 @@ failures_of (Err e) = 1
 abbrev pub write_failures_of : {E : Type 0} → Result ℕ E → ℕ
 write_failures_of (Ok n) = if n == 0 then 1 else 0
 write_failures_of (Err e) = 1
+
+abbrev pub AppendsPart : Option (List ℕ) → Option (List ℕ) → List ℕ → Type 0
+AppendsPart old new text = (part : List ℕ) × StartsWith text part × Appends old new part

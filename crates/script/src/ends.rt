@@ -1,6 +1,6 @@
 //! The two ends of a run: where a script comes from, and where its replies go. Both count their
 //! failures, so that a contract can say whose failure a fault was.
-ghost use Rattle.std.specs.Prelude.{◌≡◌, ℕ, ◌+◌, ◌-◌, ◌^◌, ◌<◌, List, Option, IfOk};
+ghost use Rattle.std.specs.Prelude.{◌≡◌, ℕ, ◌+◌, ◌-◌, ◌^◌, ◌<◌, List, Option, OnOk, IfOk};
 ghost use Rattle.std.specs.Io.{ReadsAtMost, WritesAtMost};
 ghost use Rattle.std.specs.Io.KnownBytes.{ReadConsumes, WriteAppends, Keeps};
 ghost use Rattle.script.specs.Ends.{failures_of, write_failures_of};
@@ -34,6 +34,10 @@ pub trait Writer {
     /// The bytes that were taken, where they are known.
     ghost written: { Self → Option (List ℕ) };
 
+    /// Those of them that were handed on, where they are known. The others may be kept back until a
+    /// flush.
+    ghost handed_on: { Self → Option (List ℕ) };
+
     /// How many writes and flushes have failed. A write that takes no byte is a failure. The count
     /// has room for one more at each call.
     ghost failures: { Self → ℕ };
@@ -45,9 +49,10 @@ pub trait Writer {
         ensures bytes { WriteAppends (written self.old) (written self.new) result bytes.now }
         ensures failures { failures self.new ≡ failures self.old + write_failures_of result };
 
-    /// Hands on what was taken, and keeps it as it is.
+    /// Hands on all that was taken.
     fn flush(&mut self) -> Result<(), Failed>
         requires { failures self.old < 2 ^ 64 - 1 }
         ensures bytes { Keeps (written self.old) (written self.new) }
+        ensures handed_on { OnOk result (handed_on self.new ≡ written self.new) }
         ensures failures { failures self.new ≡ failures self.old + failures_of result };
 }

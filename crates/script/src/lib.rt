@@ -5,7 +5,6 @@ mod access;
 mod blocks;
 mod checks;
 mod ends;
-mod fakes;
 mod forms;
 mod function;
 mod line;
@@ -18,12 +17,8 @@ mod words;
 
 pub use access::{Access, At, Bdf, HostAccess, HostAt, Op, Reply};
 pub use ends::{Failed, Reader, Writer};
-pub use fakes::{FakeReader, FakeWriter};
 pub use headers::Place;
 pub use line::{Line, Names, What, Who, parse_line};
 pub use lone::Lone;
-pub use running::{RunFault, run, write_all};
+pub use running::{RunFault, hand_on, run, write_all};
 pub use serving::served;
-
-#[cfg(test)]
-mod tests;

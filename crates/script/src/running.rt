@@ -1,10 +1,9 @@
 //! A run of a whole script.
-ghost use Rattle.std.specs.Prelude.{◌≡◌, ℕ, ◌+◌, ◌-◌, ◌^◌, ◌<◌, List, OnOk, OnErr, IfOk, IsErrOf};
+ghost use Rattle.std.specs.Prelude.{◌≡◌, ◌+◌, ◌-◌, ◌^◌, ◌<◌, OnOk, OnErr, IfOk, IsErrOf};
 ghost use Rattle.std.specs.Option.{ForSome};
-ghost use Rattle.std.specs.Io.{StartsWith};
 ghost use Rattle.std.specs.Io.KnownBytes.{Appends, Consumes, IsAtEnd};
 ghost use Rattle.model_guests.specs.Text.{lines};
-ghost use Rattle.script.specs.Ends.{failures_of};
+ghost use Rattle.script.specs.Ends.{failures_of, AppendsPart};
 ghost use Rattle.script.specs.Faults.{read_failures_of, write_failures_of, number_of};
 ghost use Rattle.script.specs.LoneRuns.{line_output, after_line, output, after_lines, IsStopped};
 
@@ -73,7 +72,7 @@ fn read_all<R: Reader>(alloc: Global, reader: &mut R) -> Result<Vec<u8>, RunFaul
 pub fn write_all<W: Writer>(writer: &mut W, text: &[u8]) -> Result<(), Failed>
     requires { W.failures writer.old < 2 ^ 64 - 1 }
     ensures ok { OnOk result (Appends (W.written writer.old) (W.written writer.new) text.now) }
-    ensures err { OnErr result ((part : List ℕ) × StartsWith text.now part × Appends (W.written writer.old) (W.written writer.new) part) }
+    ensures err { OnErr result (AppendsPart (W.written writer.old) (W.written writer.new) text.now) }
     ensures failures { W.failures writer.new ≡ W.failures writer.old + failures_of result }
 {
     let mut rest = text;
@@ -85,6 +84,18 @@ pub fn write_all<W: Writer>(writer: &mut W, text: &[u8]) -> Result<(), Failed>
         rest = &rest[n..];
     }
     Ok(())
+}
+
+/// Writes all of a text and flushes, or stops at the first failure.
+pub fn hand_on<W: Writer>(writer: &mut W, text: &[u8]) -> Result<(), Failed>
+    requires { W.failures writer.old < 2 ^ 64 - 1 }
+    ensures ok { OnOk result (Appends (W.written writer.old) (W.written writer.new) text.now) }
+    ensures handed_on { OnOk result (W.handed_on writer.new ≡ W.written writer.new) }
+    ensures err { OnErr result (AppendsPart (W.written writer.old) (W.written writer.new) text.now) }
+    ensures failures { W.failures writer.new ≡ W.failures writer.old + failures_of result }
+{
+    write_all(writer, text)?;
+    writer.flush()
 }
 
 /// Runs the event of a line, and gives what the line writes.
@@ -147,6 +158,7 @@ pub fn run<R: Reader, W: Writer>(
         Appends (W.written writer.old) (W.written writer.new) (output lone.old (lines script)))) }
     ensures after { OnOk result (ForSome (R.rest reader.old) (λ script.
         lone.new ≡ after_lines lone.old (lines script))) }
+    ensures handed_on { OnOk result (W.handed_on writer.new ≡ W.written writer.new) }
 
     // A failed write ended the run within what some line writes, or a failed flush after all lines.
     ensures read_whole { IsErrOf result RunFault.Write → IsAtEnd (R.rest reader.new) }

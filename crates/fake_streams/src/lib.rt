@@ -1,10 +1,12 @@
 //! A reader and a writer in memory, which give or take a few bytes a call and fail where they are
-//! told to.
-ghost use Rattle.std.specs.Prelude.{◌≡◌, ◌+◌, ◌-◌, ◌^◌, ◌<◌, [], Some, length};
+//! told to. Crates of tests use them, and no other crate.
+#![tactic(auto)]
+
+ghost use Rattle.std.specs.Prelude.{◌≡◌, ◌+◌, ◌-◌, ◌^◌, ◌<◌, ◌≤◌, [], Some, length, take};
 ghost use Rattle.script.specs.Ends.{failures_of};
 
-use crate::ends::{Failed, Reader, Writer};
 use arrayvec::ArrayVec;
+use script::{Failed, Reader, Writer};
 
 /// When a call fails, and how many have failed.
 #[derive(Drop)]
@@ -80,19 +82,24 @@ impl Reader for FakeReader<'_> {
     }
 }
 
-/// A writer into an array, which takes no byte once the array is full.
+/// A writer into an array, which takes no byte once the array is full, and hands on what it took at
+/// a flush.
 #[derive(Drop)]
 pub struct FakeWriter<const N: usize> {
     bytes: ArrayVec<u8, N>,
+    /// So many of the bytes were handed on.
+    handed_on: usize,
     step: usize,
     faults: Faults,
+    ghost has_handed_on: { handed_on ≤ length bytes.items },
 }
 
 impl<const N: usize> FakeWriter<N> {
     /// Takes at most `step` bytes a call. The call `failing`, a write or a flush, counted from 0,
     /// fails.
     pub fn new(step: usize, failing: Option<u32>) -> Self
-        ensures empty { ⟦<FakeWriter<N> as Writer>⟧.written result ≡ Some [] }
+        ensures written { ⟦<FakeWriter<N> as Writer>⟧.written result ≡ Some [] }
+        ensures handed_on { ⟦<FakeWriter<N> as Writer>⟧.handed_on result ≡ Some [] }
         ensures failures { ⟦<FakeWriter<N> as Writer>⟧.failures result ≡ 0 }
     {
         let faults = Faults {
@@ -101,6 +108,7 @@ impl<const N: usize> FakeWriter<N> {
         };
         FakeWriter {
             bytes: ArrayVec::new(),
+            handed_on: 0,
             step,
             faults,
         }
@@ -112,10 +120,19 @@ impl<const N: usize> FakeWriter<N> {
     {
         self.bytes.as_slice()
     }
+
+    /// What was handed on.
+    pub fn handed_on(&self) -> &[u8]
+        ensures { ⟦<FakeWriter<N> as Writer>⟧.handed_on self.now ≡ Some result.now }
+    {
+        &self.bytes.as_slice()[..self.handed_on]
+    }
 }
 
 impl<const N: usize> Writer for FakeWriter<N> {
     ghost written = { λ w. Some w.bytes.items };
+
+    ghost handed_on = { λ w. Some (take w.handed_on w.bytes.items) };
 
     ghost failures = { λ w. w.faults.failures };
 
@@ -131,6 +148,8 @@ impl<const N: usize> Writer for FakeWriter<N> {
     }
 
     fn flush(&mut self) -> Result<(), Failed> {
-        self.faults.call()
+        self.faults.call()?;
+        self.handed_on = self.bytes.len();
+        Ok(())
     }
 }

@@ -1,10 +1,11 @@
 ghost use Rattle.std.specs.Prelude.{◌<◌, ◌-◌, ◌≤◌, ◌^◌, length};
 
-use crate::{FakeReader, FakeWriter, Lone, RunFault, Writer, run};
 use arrayvec::ArrayString;
 use bars::{BarDecl, Kind};
 use config_bytes::Cell;
+use fake_streams::{FakeReader, FakeWriter};
 use headers::{EndpointDecl, EndpointValues, Region};
+use script::{Lone, RunFault, Writer, run};
 use std::alloc::{AllocError, Global};
 use std::process::Abort;
 use std::test::Fail;
@@ -102,6 +103,7 @@ fn scripts(rt: HostRuntime) -> Result<(), Fail> {
             let ran = written(&rt, rt.alloc(), &decls, script, step, None, &mut writer);
             assert_eq!(rt; ran, Ok(()));
             assert_eq!(rt; writer.bytes(), output);
+            assert_eq!(rt; writer.handed_on(), output);
         }
     }
     Ok(())
