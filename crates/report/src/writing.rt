@@ -1,16 +1,16 @@
 //! The report as it is written.
-ghost use Rattle.std.specs.Prelude.{◌≡◌, ℕ, ◌+◌, ◌-◌, ◌^◌, ◌<◌, List, OnOk, IsErrOf};
-ghost use Rattle.std.specs.Io.{StartsWith};
+ghost use Rattle.std.specs.Prelude.{◌≡◌, ◌+◌, ◌-◌, ◌^◌, ◌<◌, OnOk, IsErrOf};
 ghost use Rattle.std.specs.Io.KnownBytes.{Appends};
 ghost use Rattle.model_guests.specs.World.{World};
 ghost use Rattle.model_guests.specs.Report.{report};
+ghost use Rattle.script.specs.Ends.{AppendsPart};
 ghost use Rattle.report.specs.OfWorld.{IsOf};
 ghost use Rattle.report.specs.Faults.{number_of, write_failures_of};
 
 use crate::whole::report_text;
 use bus_scan::FunctionTable;
 use accesses::GuestDecl;
-use script::{Writer, write_all};
+use script::{Writer, hand_on};
 use std::alloc::Global;
 use thiserror::Error;
 use window_packing::Plan;
@@ -52,8 +52,9 @@ pub fn report<W: Writer>(
     // Whatever world these are of, its report was written, or a beginning of it.
     ensures written { OnOk result ((w : World) → IsOf w table.now plan.now guests.now →
         Appends (W.written writer.old) (W.written writer.new) (report w)) }
+    ensures handed_on { OnOk result (W.handed_on writer.new ≡ W.written writer.new) }
     ensures stopped { IsErrOf result ReportFault.Write → (w : World) → IsOf w table.now plan.now guests.now →
-        (part : List ℕ) × StartsWith (report w) part × Appends (W.written writer.old) (W.written writer.new) part }
+        AppendsPart (W.written writer.old) (W.written writer.new) (report w) }
     ensures memory { IsErrOf result ReportFault.Memory → writer.new ≡ writer.old }
 
     // A fault is the writer's exactly where the writer failed during the call.
@@ -62,10 +63,7 @@ pub fn report<W: Writer>(
     let Ok(text) = report_text(alloc, table, plan, guests) else {
         return Err(ReportFault::Memory);
     };
-    if write_all(writer, text.as_bytes()).is_err() {
-        return Err(ReportFault::Write);
-    }
-    if writer.flush().is_err() {
+    if hand_on(writer, text.as_bytes()).is_err() {
         return Err(ReportFault::Write);
     }
     Ok(())

@@ -6,7 +6,7 @@ pub mod Counts
 pub mod Digits
 mod HexDigits
 pub mod NameLemmas
-mod Outputs
+pub mod Outputs
 mod Refusals
 mod RegisterTables
 mod ResetFunctions

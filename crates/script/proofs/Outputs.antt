@@ -1,11 +1,15 @@
 -- Outputs of lines, one after another.
-use Rattle.std.proofs.Common.{true, false, Option, Some, None, Result, Ok, Err, ◌≡◌, List, [], ◌∷◌, ◌++◌, refl, sym, ap, subst, ◌∙◌, append_assoc, append-nil}
+use Rattle.std.proofs.Common.{true, false, Option, Some, None, Result, Ok, Err, ◌≡◌, List, [], ◌∷◌, ◌++◌, refl, sym, ap, subst, ◌∙◌, append_assoc, append-nil, length, take}
 use Rattle.std.specs.Prelude.{OnOk, OnErr}
+use Rattle.std.proofs.lemmas.List.{take-append-le, length-append}
+use Rattle.std.proofs.Math.Seq.{take-append-add}
+use Rattle.std.proofs.Transfers.{starts_with_length}
 use Rattle.std.specs.Result.{is_err}
 use Rattle.std.specs.Io.{StartsWith}
 use Rattle.std.specs.Io.KnownBytes.{Appends, Consumes, IsAtEnd}
 use Rattle.model_guests.specs.Text.{Text}
-use Rattle.script.specs.LoneRuns.{LoneGuest, line_output, after_line, output, after_lines, IsStopped}
+use Rattle.script.specs.Ends.{AppendsPart}
+use Rattle.script.specs.LoneRuns.{LoneGuest, line_output, after_line, output, after_lines, first_output, IsStopped}
 
 output-append : (g : LoneGuest) (a b : List Text) → output g (a ++ b) ≡ output g a ++ output (after_lines g a) b
 output-append g [] b = refl
@@ -67,3 +71,23 @@ whole_script (Some x) None xs script taken end e = absurd taken
 whole_script (Some x) (Some y) xs script taken end e =
     let same : x ≡ script = cc in
     sym (append-nil xs) ∙ ap (λ t. xs ++ t) (sym end) ∙ sym taken ∙ same
+
+starts_append : (x y part : Text) → StartsWith x part → StartsWith (x ++ y) part
+starts_append x y part begins = take-append-le (length part) x y (starts_with_length x part begins) ∙ begins
+
+append_starts : (x y part : Text) → StartsWith y part → StartsWith (x ++ y) (x ++ part)
+append_starts x y part begins = ap (λ n. take n (x ++ y)) (length-append x part) ∙ take-append-add x y (length part) ∙ ap (λ t. x ++ t) begins
+
+begins_output : (g : LoneGuest) (lines : List Text) (part : Text) → StartsWith (first_output g lines) part → StartsWith (output g lines) part
+begins_output g [] part begins = begins
+begins_output g (l ∷ lines) part begins = starts_append (line_output g l) (output (after_line g l) lines) part begins
+
+-- what was written is a beginning of the whole output
+pub stopped_part : (g : LoneGuest) (lines : List Text) (old new : Option Text) (end : LoneGuest) → IsStopped g lines old new end → AppendsPart old new (output g lines)
+stopped_part g lines old new end stopped =
+    let whole = output g stopped.whole in
+    let all : output g lines ≡ whole ++ output (after_lines g stopped.whole) stopped.rest = ap (output g) stopped.in_order ∙ output-append g stopped.whole stopped.rest in
+    (whole ++ stopped.part,
+    subst (λ (t : Text). StartsWith t (whole ++ stopped.part)) (sym all)
+    (append_starts whole (output (after_lines g stopped.whole) stopped.rest) stopped.part (begins_output (after_lines g stopped.whole) stopped.rest stopped.part stopped.begins)),
+    stopped.written)

@@ -1,8 +1,9 @@
 -- Why the program fails, as numbers and words.
---     number_of, words_of      what the line of a fault says
+--     number_of, words_of, line_of      the number, the words and the line of a fault
 --     of_file, of_set_up, of_report      the fault of a board file, a set-up or a report, with the same number
 --     read_faults, write_faults      whether a result is the fault of the reader, or of the writer
-use Rattle.std.specs.Prelude.{ℕ, List, Result, Ok, Err, codes}
+--     IsOfDemo, IsOfList      a fault of the demo, or of a listing
+use Rattle.std.specs.Prelude.{◌≡◌, ◌⊎◌, ◌≤◌, ℕ, ◌++◌, List, Result, Ok, Err, codes, decimal}
 use Rattle.bus_scan.specs.declared.fault.Fault.TheVariants as set_up
 use Rattle.bus_scan.specs.declared.fault.Fault.{Fault as SetUpFault}
 use Rattle.board_file.specs.declared.fault.BoardFault.TheVariants as file
@@ -66,6 +67,10 @@ words_of Usage = codes "usage"
 words_of BoardFile = codes "board file"
 words_of WordMemory = codes "memory"
 
+-- pciguest: fault N WORDS
+abbrev pub line_of : Fault → List ℕ
+line_of f = codes "pciguest: fault " ++ decimal (number_of f) ++ codes " " ++ words_of f ++ codes "\n"
+
 abbrev pub of_file : BoardFault → Fault
 of_file file.NotToml = NotToml
 of_file file.Key = Key
@@ -102,3 +107,11 @@ abbrev pub write_faults : {T : Type 0} → Result T Fault → ℕ
 write_faults (Ok x) = 0
 write_faults (Err Write) = 1
 write_faults (Err other) = 0
+
+-- a read or a write failed, or memory is out for the guest or for the script
+abbrev pub IsOfDemo : Fault → Type 0
+IsOfDemo f = (f ≡ Read) ⊎ (f ≡ Write) ⊎ (f ≡ SetUpMemory) ⊎ (f ≡ ScriptMemory)
+
+-- the file or its board is refused, memory is out, or a write failed
+abbrev pub IsOfList : Fault → Type 0
+IsOfList f = (number_of f ≤ 299) ⊎ (f ≡ Write)

@@ -4,9 +4,9 @@
 --     IsListed w old new      the report of w was written, after what was written before
 --     IsListedInPart w old new      so was a beginning of it
 use Rattle.std.specs.Prelude.{◌≡◌, ℕ, Option, Ok, Err, IsUtf8}
-use Rattle.std.specs.Io.{StartsWith}
 use Rattle.std.specs.Io.KnownBytes.{Appends}
 use Rattle.toml.specs.Parse.{parse_document}
+use Rattle.script.specs.Ends.{AppendsPart}
 use Rattle.model_guests.specs.Text.{Text}
 use Rattle.model_guests.specs.World.{World}
 use Rattle.model_guests.specs.Report.{report}
@@ -25,4 +25,4 @@ abbrev pub IsListed : World → Option Text → Option Text → Type 0
 IsListed w old new = Appends old new (report w)
 
 abbrev pub IsListedInPart : World → Option Text → Option Text → Type 0
-IsListedInPart w old new = (part : Text) × StartsWith (report w) part × Appends old new part
+IsListedInPart w old new = AppendsPart old new (report w)

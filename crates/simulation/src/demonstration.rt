@@ -1,11 +1,12 @@
 //! A script over the demo board.
-ghost use Rattle.std.specs.Prelude.{◌≡◌, ℕ, ◌+◌, ◌-◌, ◌^◌, ◌<◌, OnOk};
+ghost use Rattle.std.specs.Prelude.{◌≡◌, ◌≢◌, ℕ, ◌+◌, ◌-◌, ◌^◌, ◌<◌, OnOk, IfErr, IsErrOf};
 ghost use Rattle.std.specs.Option.{ForSome};
 ghost use Rattle.std.specs.Io.KnownBytes.{Appends, IsAtEnd};
 ghost use Rattle.model_guests.specs.Text.{lines};
+ghost use Rattle.script.specs.Ends.{AppendsPart};
 ghost use Rattle.script.specs.LoneRuns.{output};
 ghost use Rattle.simulation.specs.Demo.{demo_endpoint, demo_guest};
-ghost use Rattle.simulation.specs.Faults.{read_faults, write_faults};
+ghost use Rattle.simulation.specs.Faults.{read_faults, write_faults, IsOfDemo};
 
 use crate::fault::Fault;
 use arrayvec::ArrayString;
@@ -34,9 +35,10 @@ fn endpoint(alloc: Global) -> EndpointDecl
     EndpointDecl::new(values).unwrap()
 }
 
-/// Runs a script over guest `a`, whose slot 0 holds the demo endpoint.
+/// Runs a script over guest `a`, whose slot 0 holds the demo endpoint, and flushes once.
 ///
-/// A fault is `Read` or `Write` exactly where that end failed.
+/// It fails where a read fails (501), where a write or the flush fails (502), and where memory is out: for the guest (299),
+/// before anything is read, or for the script (599). Only `Write` comes after a part of the output was written.
 pub fn demo<R: Reader, W: Writer>(
     alloc: Global,
     reader: &mut R,
@@ -47,10 +49,20 @@ pub fn demo<R: Reader, W: Writer>(
     ensures reads { R.failures reader.new ≡ R.failures reader.old + read_faults result }
     ensures writes { W.failures writer.new ≡ W.failures writer.old + write_faults result }
 
-    // The script was read to its end, and the output of all its lines was written.
+    // The script was read to its end, and the output of all its lines was written and handed on.
     ensures end { OnOk result (IsAtEnd (R.rest reader.new)) }
     ensures output { OnOk result (ForSome (R.rest reader.old) (λ script.
         Appends (W.written writer.old) (W.written writer.new) (output demo_guest (lines script)))) }
+    ensures handed_on { OnOk result (W.handed_on writer.new ≡ W.written writer.new) }
+
+    ensures faults { IfErr result IsOfDemo }
+    ensures nothing { IfErr result (λ f. f ≢ Fault.Write → writer.new ≡ writer.old) }
+    ensures unread { IsErrOf result Fault.SetUpMemory → reader.new ≡ reader.old }
+
+    // A failed write came after the script was read whole, and after a beginning of its output.
+    ensures read_whole { IsErrOf result Fault.Write → IsAtEnd (R.rest reader.new) }
+    ensures stopped { IsErrOf result Fault.Write → ForSome (R.rest reader.old) (λ script.
+        AppendsPart (W.written writer.old) (W.written writer.new) (output demo_guest (lines script))) }
 {
     let decl = endpoint(alloc);
     let mut name = ArrayString::new();

@@ -6,7 +6,7 @@ use board_file::BoardFault;
 use report::ReportFault;
 use thiserror::Error;
 
-/// Why the program fails. A fault's line is `pciguest: fault`, its number and its words.
+/// Why the program fails.
 #[derive(Clone, Copy, Debug, PartialEq, Eq, Error)]
 pub enum Fault {
     /// The bytes of the board file are no TOML document.

@@ -1,9 +1,9 @@
 //! The report of a board file.
-ghost use Rattle.std.specs.Prelude.{◌≡◌, ◌≢◌, ◌⊎◌, ◌+◌, ◌-◌, ◌^◌, ◌<◌, ◌≤◌, Some, None, OnOk, IfErr, IsErrOf};
+ghost use Rattle.std.specs.Prelude.{◌≡◌, ◌≢◌, ◌+◌, ◌-◌, ◌^◌, ◌<◌, Some, None, OnOk, IfErr, IsErrOf};
 ghost use Rattle.model_registers.specs.DeclarationRules.{first_broken};
 ghost use Rattle.model_board.specs.SetUpWrites.{set_up_rules};
 ghost use Rattle.model_guests.specs.World.{World};
-ghost use Rattle.simulation.specs.Faults.{number_of, write_faults};
+ghost use Rattle.simulation.specs.Faults.{number_of, write_faults, IsOfList};
 ghost use Rattle.simulation.specs.Listing.{Declares, Refuses, IsListed, IsListedInPart};
 
 use crate::fault::Fault;
@@ -23,13 +23,14 @@ pub fn list<W: Writer>(alloc: Global, board: &[u8], writer: &mut W) -> Result<()
     // The file declares a board that is set up, whose report was written and nothing else.
     ensures listed { OnOk result ((w : World) × Declares board.now w × (first_broken (set_up_rules w.board w.apertures) ≡ None)
         × IsListed w (W.written writer.old) (W.written writer.new)) }
+    ensures handed_on { OnOk result (W.handed_on writer.new ≡ W.written writer.new) }
 
     ensures file { IfErr result (λ f. number_of f < 199 → Refuses board.now (number_of f)) }
     ensures placement { IfErr result (λ f. 199 < number_of f → number_of f < 299 →
         (w : World) × Declares board.now w × (first_broken (set_up_rules w.board w.apertures) ≡ Some (number_of f))) }
     ensures stopped { IsErrOf result Fault.Write →
         (w : World) × Declares board.now w × IsListedInPart w (W.written writer.old) (W.written writer.new) }
-    ensures faults { IfErr result (λ f. (number_of f ≤ 299) ⊎ (f ≡ Fault.Write)) }
+    ensures faults { IfErr result IsOfList }
     ensures nothing { IfErr result (λ f. f ≢ Fault.Write → writer.new ≡ writer.old) }
 
     // A fault is the writer's exactly where the writer failed during the call.

@@ -1,9 +1,9 @@
 //! Standard input and output, with a count of their failures.
-ghost use Rattle.std.specs.Prelude.{◌≡◌, IfOk};
+ghost use Rattle.std.specs.Prelude.{◌≡◌, ◌-◌, ◌^◌, ◌<◌, IsOk, IfOk, IfErr};
 
+use crate::fault::Fault;
 use script::{Failed, Reader, Writer};
 use std::alloc::Global;
-use std::io;
 use std::io::{BufWriter, Read, Write};
 
 /// A reader that counts its failures. It gives up after 2^64 - 1 reads, and counts that too: so a
@@ -16,14 +16,29 @@ pub struct InputStream<R> {
 }
 
 impl<R: Read> InputStream<R> {
+    /// A reader of all that `inner` has left, with no failure yet.
     pub fn new(inner: R) -> Self
-        ensures { result.failures ≡ 0 }
+        ensures rest { ⟦<InputStream<R> as Reader>⟧.rest result ≡ R.remaining inner }
+        ensures failures { ⟦<InputStream<R> as Reader>⟧.failures result ≡ 0 }
+        ensures reads_left { ⟦<InputStream<R> as Reader>⟧.reads_left result ≡ 2 ^ 64 - 1 }
     {
         InputStream {
             inner,
             reads_left: u64::MAX,
             failures: 0,
         }
+    }
+
+    /// Counts a read, as long as there is one left.
+    fn count_read(&mut self) -> Result<(), Failed>
+        ensures ok { IsOk result ↔ (0 < self.old.reads_left) }
+        ensures left { self.new ≡ record self.old { reads_left = self.old.reads_left - 1 } }
+    {
+        if self.reads_left == 0 {
+            return Err(Failed);
+        }
+        self.reads_left -= 1;
+        Ok(())
     }
 }
 
@@ -35,11 +50,10 @@ impl<R: Read> Reader for InputStream<R> {
     ghost reads_left = { λ s. s.reads_left };
 
     fn read(&mut self, buf: &mut [u8]) -> Result<usize, Failed> {
-        if self.reads_left == 0 {
+        if self.count_read().is_err() {
             self.failures += 1;
             return Err(Failed);
         }
-        self.reads_left -= 1;
         match self.inner.read(buf) {
             Ok(n) => Ok(n),
             Err(_) => {
@@ -59,19 +73,28 @@ pub struct OutputStream<W: Write + Drop> {
 }
 
 impl<W: Write + Drop> OutputStream<W> {
-    /// A writer with an empty buffer. It fails where memory is out, and nowhere else.
-    pub fn new(alloc: Global, inner: W) -> io::Result<Self>
-        ensures { IfOk result (λ s. s.failures ≡ 0) }
+    /// A writer after what `inner` holds, with no failure yet. It fails where memory is out, and nowhere
+    /// else.
+    pub fn new(alloc: Global, inner: W) -> Result<Self, Fault>
+        ensures written { IfOk result (λ s. ⟦<OutputStream<W> as Writer>⟧.written s ≡ W.contents inner) }
+        ensures handed_on { IfOk result (λ s. ⟦<OutputStream<W> as Writer>⟧.handed_on s ≡ W.contents inner) }
+        ensures failures { IfOk result (λ s. ⟦<OutputStream<W> as Writer>⟧.failures s ≡ 0) }
+        ensures memory { IfErr result (λ f. f ≡ Fault.SetUpMemory) }
     {
-        let inner = BufWriter::new(alloc, inner)?;
-        Ok(OutputStream { inner, failures: 0 })
+        match BufWriter::new(alloc, inner) {
+            Ok(inner) => Ok(OutputStream { inner, failures: 0 }),
+            Err(_) => Err(Fault::SetUpMemory),
+        }
     }
 }
 
 impl<W: Write + Drop> Writer for OutputStream<W> {
-    ghost use Rattle.std.specs.Io.Buffered.{writer_contents};
+    ghost use Rattle.std.specs.Io.Buffered.{writer_contents, writer_inner};
 
     ghost written = { λ s. writer_contents W.contents s.inner };
+
+    // What the buffer keeps back was not handed on.
+    ghost handed_on = { λ s. W.contents (writer_inner s.inner) };
 
     ghost failures = { λ s. s.failures };
 

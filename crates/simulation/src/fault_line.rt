@@ -1,0 +1,30 @@
+//! The line of a fault.
+ghost use Rattle.std.specs.Prelude.{◌≡◌, ◌≤◌, ◌+◌, ◌/◌, ◌%◌, ◌∷◌, ◌++◌, [], length};
+ghost use Rattle.simulation.specs.Faults.{number_of, words_of, line_of};
+
+use crate::fault::Fault;
+use arrayvec::ArrayString;
+
+/// The character of a decimal digit.
+fn digit(n: u16) -> char
+    ensures { result ≡ 48 + n % 10 }
+{
+    char::from(b'0' + (n % 10) as u8)
+}
+
+/// What the program says of a fault, on one line that ends with a line feed: `pciguest: fault`, the
+/// fault's number and its words.
+pub fn fault_line(fault: Fault) -> ArrayString<48>
+    ensures { result.bytes ≡ line_of fault }
+{
+    let number = fault.number();
+    let mut line = ArrayString::new();
+    line.push_str("pciguest: fault ");
+    line.push(digit(number / 100));
+    line.push(digit(number / 10));
+    line.push(digit(number));
+    line.push(' ');
+    line.push_str(fault.words());
+    line.push('\n');
+    line
+}
