@@ -1,3 +1,4 @@
 pub mod Faults
 pub mod Demo
 pub mod Listing
+pub mod Choices

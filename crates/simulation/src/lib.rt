@@ -2,14 +2,18 @@
 //! over the demo board.
 #![tactic(auto)]
 
+mod choice;
 mod demonstration;
 mod fault;
+mod fault_lines;
 mod files;
 mod listing;
 mod streams;
 
+pub use choice::{Choice, perform};
 pub use demonstration::demo;
 pub use fault::Fault;
+pub use fault_lines::fault_line;
 pub use files::board_bytes;
 pub use listing::list;
 pub use streams::{InputStream, OutputStream};

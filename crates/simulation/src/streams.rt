@@ -1,5 +1,5 @@
 //! Standard input and output, with a count of their failures.
-ghost use Rattle.std.specs.Prelude.{◌≡◌, ◌-◌, ◌^◌, ◌<◌, IsOk, IfOk, IfErr};
+ghost use Rattle.std.specs.Prelude.{◌≡◌, ◌↔◌, ◌-◌, ◌^◌, ◌<◌, IsOk, IfOk, IfErr};
 
 use crate::fault::Fault;
 use script::{Failed, Reader, Writer};

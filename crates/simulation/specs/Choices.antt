@@ -1,0 +1,47 @@
+-- What the program does, by what it is asked.
+--     IsDone choice script old new      all of it was written, after what was written before; the script is what the reader has left
+--     IsDoneInPart choice script old new      so was a beginning of it
+--     IsOfChoice choice f      a fault that the choice can end with
+use Rattle.std.specs.Prelude.{◌≡◌, ◌⊎◌, Option, None, string_bytes}
+use Rattle.std.specs.Option.{ForSome}
+use Rattle.std.specs.Io.KnownBytes.{Appends}
+use Rattle.model_registers.specs.DeclarationRules.{first_broken}
+use Rattle.model_board.specs.SetUpWrites.{set_up_rules}
+use Rattle.model_guests.specs.Text.{Text, lines}
+use Rattle.model_guests.specs.World.{World}
+use Rattle.script.specs.Ends.{AppendsPart}
+use Rattle.script.specs.LoneRuns.{output}
+use Rattle.simulation.specs.Demo.{demo_guest}
+use Rattle.simulation.specs.Faults.{IsOfDemo, IsOfList}
+use Rattle.simulation.specs.Listing.{Declares, IsListed, IsListedInPart}
+use Rattle.simulation.specs.declared.choice.Choice.{Choice}
+use Rattle.simulation.specs.declared.choice.Choice.TheVariants.{Help, Demo, List}
+use Rattle.simulation.specs.declared.fault.Fault.{Fault}
+use Rattle.simulation.specs.declared.fault.Fault.TheVariants.{Write, BoardFile}
+
+-- the report of the board that some bytes declare, once it is set up
+pub record IsReported (board : Text) (old new : Option Text) : Type 0 where
+  pub world : World
+  pub declared : Declares board world
+  pub set_up : first_broken (set_up_rules world.board world.apertures) ≡ None
+  pub listed : IsListed world old new
+
+pub record IsReportedInPart (board : Text) (old new : Option Text) : Type 0 where
+  pub world : World
+  pub declared : Declares board world
+  pub listed : IsListedInPart world old new
+
+abbrev pub IsDone : Choice → Option Text → Option Text → Option Text → Type 0
+IsDone (Help text) script old new = Appends old new (string_bytes text)
+IsDone Demo script old new = ForSome script (λ s. Appends old new (output demo_guest (lines s)))
+IsDone (List path) script old new = (board : Text) × IsReported board old new
+
+abbrev pub IsDoneInPart : Choice → Option Text → Option Text → Option Text → Type 0
+IsDoneInPart (Help text) script old new = AppendsPart old new (string_bytes text)
+IsDoneInPart Demo script old new = ForSome script (λ s. AppendsPart old new (output demo_guest (lines s)))
+IsDoneInPart (List path) script old new = (board : Text) × IsReportedInPart board old new
+
+abbrev pub IsOfChoice : Choice → Fault → Type 0
+IsOfChoice (Help text) f = f ≡ Write
+IsOfChoice Demo f = IsOfDemo f
+IsOfChoice (List path) f = IsOfList f ⊎ (f ≡ BoardFile)

@@ -1,0 +1,76 @@
+//! What the program is asked to do, and doing it.
+ghost use Rattle.std.specs.Prelude.{◌≡◌, ◌≢◌, ◌+◌, ◌-◌, ◌^◌, ◌<◌, OnOk, OnErr, IfErr, IsErrOf};
+ghost use Rattle.std.specs.Io.KnownBytes.{Appends};
+ghost use Rattle.script.specs.Ends.{AppendsPart};
+ghost use Rattle.simulation.specs.Choices.{IsDone, IsDoneInPart, IsOfChoice};
+ghost use Rattle.simulation.specs.Faults.{read_faults, write_faults};
+
+use crate::demonstration::demo;
+use crate::fault::Fault;
+use crate::files::board_bytes;
+use crate::listing::list;
+use script::{Reader, Writer, hand_on};
+use std::alloc::Global;
+use std::rt::Files;
+
+/// What the program is to do.
+#[derive(Drop)]
+pub enum Choice<'a> {
+    /// Print this text.
+    Help(String),
+    /// Run a script over the demo board.
+    Demo,
+    /// Write the report of the board file at this path.
+    List(&'a str),
+}
+
+/// Writes a text and flushes once.
+fn print<W: Writer>(text: &str, writer: &mut W) -> Result<(), Fault>
+    requires { W.failures writer.old < 2 ^ 64 - 1 }
+    ensures ok { OnOk result (Appends (W.written writer.old) (W.written writer.new) text.now) }
+    ensures handed_on { OnOk result (W.handed_on writer.new ≡ W.written writer.new) }
+    ensures stopped { OnErr result (AppendsPart (W.written writer.old) (W.written writer.new) text.now) }
+    ensures fault { IfErr result (λ f. f ≡ Fault.Write) }
+    ensures failures { W.failures writer.new ≡ W.failures writer.old + write_faults result }
+{
+    if hand_on(writer, text.as_bytes()).is_err() {
+        return Err(Fault::Write);
+    }
+    Ok(())
+}
+
+/// Does what is asked. A script is read from `reader`, and a board file from its path.
+pub fn perform<R: Reader, W: Writer>(
+    rt: &impl Files,
+    alloc: Global,
+    choice: &Choice<'_>,
+    reader: &mut R,
+    writer: &mut W,
+) -> Result<(), Fault>
+    requires reader_has_room { R.failures reader.old < 2 ^ 64 - 1 }
+    requires writer_has_room { W.failures writer.old < 2 ^ 64 - 1 }
+
+    // The text, the script's output or the report of some board file was written and handed on.
+    ensures done { OnOk result (IsDone choice.now (R.rest reader.old) (W.written writer.old) (W.written writer.new)) }
+    ensures handed_on { OnOk result (W.handed_on writer.new ≡ W.written writer.new) }
+
+    // Only a failed write comes after a part of it was written.
+    ensures stopped { IsErrOf result Fault.Write →
+        IsDoneInPart choice.now (R.rest reader.old) (W.written writer.old) (W.written writer.new) }
+    ensures nothing { IfErr result (λ f. f ≢ Fault.Write → writer.new ≡ writer.old) }
+
+    ensures faults { IfErr result (IsOfChoice choice.now) }
+
+    // A fault is the reader's or the writer's exactly where that end failed during the call.
+    ensures reads { R.failures reader.new ≡ R.failures reader.old + read_faults result }
+    ensures writes { W.failures writer.new ≡ W.failures writer.old + write_faults result }
+{
+    match choice {
+        Choice::Help(text) => print(text.as_str(), writer),
+        Choice::Demo => demo(alloc, reader, writer),
+        Choice::List(path) => {
+            let board = board_bytes(rt, alloc, path)?;
+            list(alloc, &board, writer)
+        }
+    }
+}
