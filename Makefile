@@ -19,9 +19,11 @@ list: pciguest
 pciguest:
 	@$(MAKE) --no-print-directory build
 
-# The gate: every proof from nothing, the must-fail edits, the tests and the programs.
+# The gate: every proof from nothing, the must-fail edits, the tests and the programs; then the proved
+# program as its user runs it.
 test:
 	rt ci
+	tests/program.sh
 
 # Leaves the proved program as ./pciguest.
 build:

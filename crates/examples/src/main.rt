@@ -41,9 +41,7 @@ const BOARDS: [&str; 25] = [
 fn show(rt: &(impl AllocGlobal + Files + Print), name: &str) -> Result<(), Fault> {
     let alloc = rt.alloc();
     let board = board_bytes(rt, alloc, name)?;
-    let Ok(mut writer) = OutputStream::new(alloc, io::writer(rt)) else {
-        return Err(Fault::SetUpMemory);
-    };
+    let mut writer = OutputStream::new(alloc, io::writer(rt))?;
     list(alloc, &board, &mut writer)
 }
 

@@ -3,8 +3,8 @@
 --     IsHelp, IsRun choice      the choice is help, or is none
 use Rattle.std.specs.Prelude.{◌≡◌, ℕ, List, [], Some, codes, unwrap_or}
 use Rattle.pciguest.specs.Words.{subcommand, board}
-use Rattle.pciguest.specs.declared.choice.Choice.{Choice}
-use Rattle.pciguest.specs.declared.choice.Choice.TheVariants as choice
+use Rattle.simulation.specs.declared.choice.Choice.{Choice}
+use Rattle.simulation.specs.declared.choice.Choice.TheVariants as choice
 
 abbrev pub IsAsked : List (List ℕ) → Choice → Type 0
 IsAsked words (choice.Help text) = Unit {0}

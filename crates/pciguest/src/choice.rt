@@ -8,19 +8,8 @@ ghost use Rattle.pciguest.specs.Choices.{IsAsked, IsRun, IsHelp};
 
 use clap::error::ErrorKind;
 use clap::{Arg, Command, Error};
-use simulation::Fault;
+use simulation::{Choice, Fault};
 use std::alloc::{AllocError, Global};
-
-/// What the program is to do.
-#[derive(Drop)]
-pub enum Choice<'a> {
-    /// Print this text.
-    Help(String),
-    /// Run a script over the demo board.
-    Demo,
-    /// Write the report of the board file at this path.
-    List(&'a str),
-}
 
 /// The program's command line.
 fn command<'a>(alloc: Global) -> Result<Command<'a>, AllocError>

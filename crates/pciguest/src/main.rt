@@ -2,12 +2,9 @@
 #![tactic(auto)]
 
 mod choice;
-#[cfg(test)]
-mod tests;
 
-use crate::choice::{Choice, choose};
-use simulation::{Fault, InputStream, OutputStream, board_bytes, demo, list};
-use std::alloc::Global;
+use crate::choice::choose;
+use simulation::{Fault, InputStream, OutputStream, fault_line, perform};
 use std::process::ExitCode;
 use std::rt::{Env, Files};
 use std::{env, io};
@@ -21,7 +18,7 @@ fn words_given(rt: &(impl Env + AllocGlobal)) -> Result<Vec<String>, Fault> {
     }
 }
 
-/// Does what the words ask.
+/// Does what the words ask, over standard input and output.
 fn serve(rt: &(impl Env + AllocGlobal + Files + Input + Print)) -> Result<(), Fault> {
     let alloc = rt.alloc();
     let words = words_given(rt)?;
@@ -31,32 +28,17 @@ fn serve(rt: &(impl Env + AllocGlobal + Files + Input + Print)) -> Result<(), Fa
             return Err(Fault::WordMemory);
         }
     }
-    match choose(alloc, texts.as_slice())? {
-        Choice::Help(text) => rt.print(text.as_str()).map_err(|_| Fault::Write),
-        Choice::Demo => {
-            let mut reader = InputStream::new(rt.reader());
-            let Ok(mut writer) = OutputStream::new(alloc, io::writer(rt)) else {
-                return Err(Fault::ScriptMemory);
-            };
-            demo(alloc, &mut reader, &mut writer)
-        }
-        Choice::List(board) => {
-            let board = board_bytes(rt, alloc, board)?;
-            let Ok(mut writer) = OutputStream::new(alloc, io::writer(rt)) else {
-                return Err(Fault::SetUpMemory);
-            };
-            list(alloc, &board, &mut writer)
-        }
-    }
+    let choice = choose(alloc, texts.as_slice())?;
+    let mut reader = InputStream::new(rt.reader());
+    let mut writer = OutputStream::new(alloc, io::writer(rt))?;
+    perform(rt, alloc, &choice, &mut reader, &mut writer)
 }
 
 fn main(rt: HostRuntime) -> ExitCode {
     match serve(&rt) {
         Ok(()) => ExitCode::SUCCESS,
         Err(fault) => {
-            let number = fault.number();
-            let words = fault.words();
-            let _ = eprintln!(rt; "pciguest: fault {number} {words}");
+            let _ = rt.eprint(fault_line(fault));
             ExitCode::FAILURE
         }
     }

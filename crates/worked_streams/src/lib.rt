@@ -1,0 +1,7 @@
+//! Worked examples of what the program does over streams that fail, and over files.
+#![tactic(auto)]
+
+#[cfg(test)]
+mod files;
+#[cfg(test)]
+mod streams;
