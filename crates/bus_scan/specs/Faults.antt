@@ -1,4 +1,5 @@
--- The numbers of boards that set-up refuses.
+-- Why set-up refuses a board (this project's own numbers).
+--     number_of      the number of a refusal
 use Rattle.std.specs.Prelude.{ℕ}
 use Rattle.bus_scan.specs.declared.fault.Fault.{Fault}
 use Rattle.bus_scan.specs.declared.fault.Fault.TheVariants.{Buses, NoIoWindow, IoPool, MemoryPool, PrefetchablePool, Memory}

@@ -1,4 +1,5 @@
--- What software sees of a register by writing all ones to it: PCI Local Bus 3.0, chapter 6.2.5.1; PCI-to-PCI Bridge Architecture 1.2, chapters 3.2.5.6 and 3.2.5.9.
+-- What software sees of a register by writing all ones to it: PCI Local Bus 3.0, chapter 6.2.5.1; PCI-to-PCI Bridge
+-- Architecture 1.2, chapters 3.2.5.6 and 3.2.5.9.
 --     mask_shown      the enabled bytes of a register after all ones are written to them
 --     TakesBack      a write of what was read before leaves all registers as they were
 --     decl_reached, IsEndpointReached, IsBridgeReached      the declaration of the function that a number reaches
@@ -19,7 +20,8 @@ mask_shown fs at off enables = config_reply (with_ones fs at off enables) at off
 
 pub record TakesBack (s : State) (at : BusAddress) (off : ℕ) (enables : List Bool) : Type 0 where
   pub latch : s.latch ≡ 0
-  pub functions : after_config_write (with_ones s.functions at off enables) at off enables (config_reply s.functions at off enables) ≡ s.functions
+  pub functions : let before = config_reply s.functions at off enables in
+      after_config_write (with_ones s.functions at off enables) at off enables before ≡ s.functions
 
 abbrev pub decl_reached : List BoardFunction → BusAddress → Option Decl
 decl_reached fs at = option_map (λ (f : BoardFunction). f.decl) (reached fs at)

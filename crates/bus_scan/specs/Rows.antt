@@ -1,4 +1,4 @@
--- A row of the program's table, in the words of the definitions.
+-- A row of the program's table, in the words of the definitions: PCI Local Bus 3.0, chapters 6.2.1 and 6.2.5.
 --     regions_of      the regions at base address registers, without their cells
 --     decl_of      what was found of a declaration
 --     range_of, ended      the buses behind a bridge; the same with another last number
@@ -33,7 +33,13 @@ with_identity vendor device pin regions = record {
 
 abbrev pub decl_of : ℕ → ℕ → Found → Decl
 decl_of vendor device (FoundEndpoint pin bars) = endpoint (with_identity vendor device pin (regions_of bars))
-decl_of vendor device (FoundBridge secondary subordinate io pref) = bridge (record { vendor = vendor; device = device; revision = 0; io = io_decode_of io; pref = pref_decode_of pref })
+decl_of vendor device (FoundBridge secondary subordinate io pref) = bridge (record {
+  vendor = vendor;
+  device = device;
+  revision = 0;
+  io = io_decode_of io;
+  pref = pref_decode_of pref;
+})
 
 abbrev pub range_of : Found → Option BusRange
 range_of (FoundEndpoint pin bars) = None

@@ -1,5 +1,5 @@
--- A scan as it runs.
---     IsAt b here s rows last      what it holds when it comes to a place
+-- A scan as it runs: PCI-to-PCI Bridge Architecture 1.2, chapter 3.2.5.
+--     IsAt b here s rows last      what it holds when it comes to a path
 --     ComesTo b here h e      the same of a host and the program's record
 --     OnBus b bus number      the bus that is scanned
 --     IsFound b bus number n r seen      a function at a place, and what it shows
@@ -30,7 +30,12 @@ range_of_numbers n (endpoint d) = None
 range_of_numbers n (bridge d) = Some (record { first = n.secondary; last = n.subordinate })
 
 abbrev pub met_row : Board → (Path → BusNumbers) → Row → TableRow
-met_row b numbers r = record { path = r.path; bus = bus_of b r.path; behind = range_of_numbers (numbers r.path) r.decl; decl = met_decl r.decl }
+met_row b numbers r = record {
+  path = r.path;
+  bus = bus_of b r.path;
+  behind = range_of_numbers (numbers r.path) r.decl;
+  decl = met_decl r.decl;
+}
 
 pub record IsAt (b : Board) (here : Path) (s : State) (rows : List TableRow) (last : ℕ) : Type 0 where
   pub state : s ≡ scan_state b here

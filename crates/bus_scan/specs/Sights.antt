@@ -1,10 +1,20 @@
--- What a function shows of itself to a scan, in the program's words.
---     seen_of      identity, header and pin of a function that shares its device or not
+-- What a function shows of itself to a scan, in the program's words: PCI Local Bus 3.0, chapters 6.2.1 and 6.2.4.
+--     seen_of      identity, header and pin of a function, of a multifunction device or not
 use Rattle.std.specs.Prelude.{Bool}
 use Rattle.model_board.specs.Board.{Decl, endpoint, bridge}
 use Rattle.bus_scan.specs.declared.seen.Seen.{Seen}
 use Rattle.bus_scan.specs.declared.seen.Layout.TheVariants.{Endpoint as EndpointLayout, Bridge as BridgeLayout}
 
 abbrev pub seen_of : Bool → Decl → Seen
-seen_of multifunction (endpoint d) = record { vendor = d.vendor; device = d.device; is_multifunction = multifunction; layout = EndpointLayout d.pin }
-seen_of multifunction (bridge d) = record { vendor = d.vendor; device = d.device; is_multifunction = multifunction; layout = BridgeLayout }
+seen_of multifunction (endpoint d) = record {
+  vendor = d.vendor;
+  device = d.device;
+  is_multifunction = multifunction;
+  layout = EndpointLayout d.pin;
+}
+seen_of multifunction (bridge d) = record {
+  vendor = d.vendor;
+  device = d.device;
+  is_multifunction = multifunction;
+  layout = BridgeLayout;
+}

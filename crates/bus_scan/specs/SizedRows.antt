@@ -1,6 +1,8 @@
--- Regions by the index of their first register, and rows of the table before and after sizing.
+-- Regions by the index of their first register, and rows of the table before and after sizing: PCI Local Bus 3.0,
+-- chapter 6.2.5.1.
 --     bar_at      what begins at a register
---     is_upper_half, is_after_wide      the register is the upper half of a base of 64 bits, by all regions, and by what begins before it
+--     is_upper_half, is_after_wide      the register is the upper half of a base of 64 bits, by all regions, and by what
+--         begins before it
 --     bars_of      what begins at each of the six registers
 --     IsScannedRow, SizesRow      a row as a scan leaves it; and as sizing leaves it then
 use Rattle.std.specs.Prelude.{◌≡◌, List, [], ◌∷◌, ℕ, zero, suc, ◌+◌, Bool, false, ◌&&◌, ◌||◌, ◌==◌, if◌then◌else◌, Option, Some, None, map, slice_get, unwrap_or}
@@ -21,7 +23,8 @@ is_upper_half n (r ∷ rs) = registers_of r.kind == 2 && n == r.index + 1 || is_
 -- the same, by the slots before the register
 abbrev pub is_after_wide : List (Option Bar) → ℕ → Bool
 is_after_wide bars zero = false
-is_after_wide bars (suc n) = option_map_or (λ (b : Bar). registers_of b.kind == 2) (unwrap_or (slice_get bars n) None) false
+is_after_wide bars (suc n) =
+    option_map_or (λ (b : Bar). registers_of b.kind == 2) (unwrap_or (slice_get bars n) None) false
 
 abbrev pub bars_of : List Region → List (Option Bar)
 bars_of rs = map (λ n. bar_at n rs) (0 ∷ 1 ∷ 2 ∷ 3 ∷ 4 ∷ 5 ∷ [])

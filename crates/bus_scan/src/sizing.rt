@@ -47,7 +47,7 @@ fn region_shown(low: u32, high: u32) -> Option<BarDecl>
     ensures found { (b : Bar) → IsLawfulSize b.kind b.size → ShowsSize b low high → result ≡ Some b }
 {
     let (kind, size) = size_of_mask(low, high)?;
-    BarDecl::new(kind, size).ok()
+    Some(BarDecl::new(kind, size).unwrap())
 }
 
 /// The region that begins at a register of an endpoint whose registers decode nothing. The next

@@ -1,4 +1,4 @@
--- The buses of a board, and what stands above each of its functions.
+-- The buses of a board, and what stands above each of its functions: PCI-to-PCI Bridge Architecture 1.2, chapter 3.2.5.
 --     bus_path      the path of the bus with an index: 0 is bus 0, and 1 + n the bus behind the function of row n
 --     nothing_above, behind      what a function has above it, on bus 0 and behind a bridge
 --     AreAbove      for each row: the index of its bus, and what all bridges above it have
@@ -21,7 +21,12 @@ nothing_above = record { bus = 0; io = true; pref = true; pref64 = true }
 -- a function on a bus has above it the bridge of the bus, and what the bridge has
 abbrev pub behind : ℕ → Decl → Above → Above
 behind bus (endpoint d) up = record up { bus = bus }
-behind bus (bridge d) up = record { bus = bus; io = up.io && has_io d.io; pref = up.pref && has_pref d.pref; pref64 = up.pref64 && has_pref64 d.pref }
+behind bus (bridge d) up = record {
+  bus = bus;
+  io = up.io && has_io d.io;
+  pref = up.pref && has_pref d.pref;
+  pref64 = up.pref64 && has_pref64 d.pref;
+}
 
 pub record AreAbove (b : Board) (xs : List Above) : Type 0 where
   pub buses : map (λ x. bus_path b x.bus) xs ≡ map (λ r. parent r.path) b

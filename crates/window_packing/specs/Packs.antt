@@ -1,4 +1,5 @@
--- A bus with its items placed one after the other.
+-- A bus with its items placed one after the other (this project's own rule; a window extends over whole units:
+-- PCI-to-PCI Bridge Architecture 1.2, chapter 3.2.5).
 --     BusPack      the spots of a bus's items, the bus's alignment, and where its last item ends
 --     pack_items, pack_of, packs_of      items placed on a bus; a bus of the board, and all of them
 --     IsBounded      an alignment of a region, and an end that an aperture could hold
@@ -68,7 +69,8 @@ regions_from n bars = map opened (reset_from n bars)
 -- the window of a bus that has spots
 abbrev pub window_of : ℕ → Part → BusPack → List Spot → List Item
 window_of unit p pack [] = []
-window_of unit p pack (s ∷ ss) = record { part = p; what = a_window; align = pack.align; size = round_up unit pack.end } ∷ []
+window_of unit p pack (s ∷ ss) =
+    record { part = p; what = a_window; align = pack.align; size = round_up unit pack.end } ∷ []
 
 -- what a function has on its own bus, given the bus behind it
 abbrev pub own_items : Apertures → List Bridge → Pool → Path → Decl → BusPack → List Item

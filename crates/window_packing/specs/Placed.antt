@@ -1,4 +1,4 @@
--- One pool of a board, placed.
+-- One pool of a board, placed (this project's own rule).
 --     bus_paths      the paths of all buses, by index
 --     PlacedPool, IsPlaced      each bus with its items, and its first address
 --     Placement, IsPlacement      the same of all three pools

@@ -3,7 +3,8 @@
 --     ReadyBoard      a host, what was found of its functions, and where their regions and windows stand
 --     board_below      the functions below a host
 --     IsEnumerated      what scan and sizing leave of a host at reset: its bus numbers, and its functions in a table
---     IsReady      registers, table and plan are those that set-up gives to the board, and the plan's rows a lawful layout
+--     IsReady      registers, table and plan are those that set-up gives to the board, and the plan's rows are a lawful
+--         layout
 --     OwnClaims      in every state with these routing registers each byte of a placed region has its own claim, and no
 --         other address any
 use Rattle.std.specs.Prelude.{List, ◌≡◌}

@@ -1,4 +1,4 @@
--- Where an item stands among the spots of a bus.
+-- Where an item stands among the spots of a bus (this project's own order).
 --     IsFirstFrom ss i n      the spot at index n is the first whose item doesn't stand before i
 use Rattle.std.specs.Prelude.{List, ◌≡◌, ℕ, ◌<◌, ◌≤◌, Some, length, slice_get, IsTrue, IsFalse}
 use Rattle.model_board.specs.Placement.{Item, Spot, stands_before}

@@ -52,7 +52,8 @@ io_word s = address_bits (2 ^ 12) s.first 0 % 2 ^ 8 + address_bits (2 ^ 12) s.la
 abbrev pub io_upper_word : Window → ℕ
 io_upper_word s = s.first / 2 ^ 16 % 2 ^ 16 + s.last / 2 ^ 16 % 2 ^ 16 * 2 ^ 16
 
--- Secondary Status, above the I/O base and limit, stays; registers that the bridge doesn't implement drop what is written
+-- Secondary Status, above the I/O base and limit, stays; registers that the bridge doesn't implement drop what is
+-- written
 abbrev pub bridge_words : Windows → List WordWrite
 bridge_words w =
     word 0x1c 3 (io_word w.io) ∷ word 0x20 0xf (window_word w.mem) ∷ word 0x24 0xf (window_word w.pref)

@@ -1,71 +1,62 @@
-use Rattle.std.proofs.Common.{◌≡◌, ◌+◌, List, ℕ, length, Some, ap, ◌∙◌, subst, arith}
+use Rattle.std.proofs.Common.{◌≡◌, ◌+◌, ◌<◌, List, ℕ, get_or, length, Some, ap, ◌∙◌, subst, arith}
 use Rattle.std.specs.List.{slice_get}
-use Rattle.model_board.specs.Pools.{unit_of}
+use Rattle.model_registers.specs.Apertures.{Apertures}
+use Rattle.model_board.specs.Board.{IsBoard}
+use Rattle.model_board.specs.Lawful.{HasLawfulDecls}
+use Rattle.model_board.specs.Pools.{Pool, unit_of}
 use Rattle.model_board.specs.Placement.{items_on}
 use Rattle.model_board.specs.SetUp.{window_of}
-use Rattle.model_board.specs.FunctionTable.{board_in}
+use Rattle.model_board.specs.FunctionTable.{TableRow, board_in}
 use Rattle.bridge_forward.proofs.Indices.{read_at, at_below}
 use Rattle.window_packing.specs.Packs.{BusPack}
-use Rattle.window_packing.specs.Placed.{PlacedPool}
+use Rattle.window_packing.specs.Placed.{PlacedPool, IsPlaced}
 use Rattle.window_packing.specs.Plans.{named_pool}
 use Rattle.window_packing.proofs.AboveRows.{length_board}
 use Rattle.window_packing.proofs.PlacedFunctions.{count_pl, count_firsts, behind_first_is, behind_pack, window_some, window_room}
 use Rattle.window_packing.proofs.settings.window_behind.Goals as goal
 
+-- the bus behind the function of a row, as it is read
+record Read (i : ℕ) (pl : PlacedPool) (n : ℕ) (p : BusPack) : Type 0 where
+  first : slice_get pl.firsts (i + 1) ≡ Some n
+  pack : slice_get pl.packs (i + 1) ≡ Some p
+
+read : (rows : List TableRow) (a : Apertures) → IsBoard (board_in rows) → HasLawfulDecls (board_in rows) → (pool : Pool) (pl : PlacedPool) → IsPlaced (board_in rows) a pool pl → (i : ℕ) → i < length rows
+    → (packs : List BusPack) (firsts : List ℕ) → (let shown : PlacedPool = record { packs = packs; firsts = firsts } in shown ≡ pl)
+    → (n : ℕ) → n ≡ get_or firsts (i + 1) n → (p : BusPack) → p ≡ get_or packs (i + 1) p → Read i pl n p
+read rows a board lawful pool pl placed i there packs firsts shown n n_is p p_is =
+    let b = board_in rows in
+    let same_firsts : firsts ≡ pl.firsts = ap (λ (q : PlacedPool). q.firsts) shown in
+    let same_packs : packs ≡ pl.packs = ap (λ (q : PlacedPool). q.packs) shown in
+    let all_firsts = count_firsts b a board lawful pool pl placed in
+    let all_packs = count_pl b a board lawful pool pl placed in
+    record {
+      first = subst (λ (xs : List ℕ). slice_get xs (i + 1) ≡ Some n) same_firsts (read_at firsts (i + 1) n (omega (arith, ap length same_firsts, all_firsts, length_board rows, there)) n_is);
+      pack = subst (λ (xs : List BusPack). slice_get xs (i + 1) ≡ Some p) same_packs (read_at packs (i + 1) p (omega (arith, ap length same_packs, all_packs, length_board rows, there)) p_is);
+    }
+
 pub window_of-requires-clause-some : goal.window_of-requires-clause-some
 window_of-requires-clause-some c =
-    let rows = c.args.rows.now in
-    let b = board_in rows in
-    let a = c.args.apertures.now in
-    let pool = named_pool c.args.pool in
-    let pl = c.args.placed.now in
-    let i = c.args.i in
-    let firsts : c.placed.inside.firsts.items ≡ pl.firsts = ap (λ (p : PlacedPool). p.firsts) c.placed.view_is in
-    let packs : c.placed.inside.packs.items ≡ pl.packs = ap (λ (p : PlacedPool). p.packs) c.placed.view_is in
-    let n = c.index.result.now in
-    let p = c.index-2.result.now in
-    let all_firsts = count_firsts b a c.requires.board c.requires.declarations pool pl c.requires.placed in
-    let all_packs = count_pl b a c.requires.board c.requires.declarations pool pl c.requires.placed in
-    let first : slice_get pl.firsts (i + 1) ≡ Some n = subst (λ (xs : List ℕ). slice_get xs (i + 1) ≡ Some n) firsts (read_at c.placed.inside.firsts.items (i + 1) n (omega (arith, ap length firsts, all_firsts, length_board rows, c.requires.there)) c.index.ensures) in
-    let pack : slice_get pl.packs (i + 1) ≡ Some p = subst (λ (xs : List BusPack). slice_get xs (i + 1) ≡ Some p) packs (read_at c.placed.inside.packs.items (i + 1) p (omega (arith, ap length packs, all_packs, length_board rows, c.requires.there)) c.index-2.ensures) in
-    let r = at_below b i (omega (arith, length_board rows, c.requires.there)) in
-    window_some b a c.requires.board c.requires.declarations pool pl c.requires.placed i r.0 r.1 p pack
+    let f =
+    read c.args.rows.now c.args.apertures.now c.requires.board c.requires.declarations (named_pool c.args.pool) c.args.placed.now c.requires.placed c.args.i c.requires.there
+    c.placed.inside.packs.items c.placed.inside.firsts.items c.placed.view_is c.index.result.now c.index.ensures c.index-2.result.now c.index-2.ensures in
+    let r = at_below (board_in c.args.rows.now) c.args.i (omega (arith, length_board c.args.rows.now, c.requires.there)) in
+    window_some (board_in c.args.rows.now) c.args.apertures.now c.requires.board c.requires.declarations (named_pool c.args.pool) c.args.placed.now c.requires.placed c.args.i r.0 r.1 c.index-2.result.now f.pack
 
 pub window_of-requires-clause-room : goal.window_of-requires-clause-room
 window_of-requires-clause-room c =
-    let rows = c.args.rows.now in
-    let b = board_in rows in
-    let a = c.args.apertures.now in
-    let pool = named_pool c.args.pool in
-    let pl = c.args.placed.now in
-    let i = c.args.i in
-    let firsts : c.placed.inside.firsts.items ≡ pl.firsts = ap (λ (p : PlacedPool). p.firsts) c.placed.view_is in
-    let packs : c.placed.inside.packs.items ≡ pl.packs = ap (λ (p : PlacedPool). p.packs) c.placed.view_is in
-    let n = c.index.result.now in
-    let p = c.index-2.result.now in
-    let all_firsts = count_firsts b a c.requires.board c.requires.declarations pool pl c.requires.placed in
-    let all_packs = count_pl b a c.requires.board c.requires.declarations pool pl c.requires.placed in
-    let first : slice_get pl.firsts (i + 1) ≡ Some n = subst (λ (xs : List ℕ). slice_get xs (i + 1) ≡ Some n) firsts (read_at c.placed.inside.firsts.items (i + 1) n (omega (arith, ap length firsts, all_firsts, length_board rows, c.requires.there)) c.index.ensures) in
-    let pack : slice_get pl.packs (i + 1) ≡ Some p = subst (λ (xs : List BusPack). slice_get xs (i + 1) ≡ Some p) packs (read_at c.placed.inside.packs.items (i + 1) p (omega (arith, ap length packs, all_packs, length_board rows, c.requires.there)) c.index-2.ensures) in
-    let r = at_below b i (omega (arith, length_board rows, c.requires.there)) in
-    window_room b a c.requires.board c.requires.declarations pool pl c.requires.placed i r.0 r.1 p pack n first
+    let f =
+    read c.args.rows.now c.args.apertures.now c.requires.board c.requires.declarations (named_pool c.args.pool) c.args.placed.now c.requires.placed c.args.i c.requires.there
+    c.placed.inside.packs.items c.placed.inside.firsts.items c.placed.view_is c.index.result.now c.index.ensures c.index-2.result.now c.index-2.ensures in
+    let r = at_below (board_in c.args.rows.now) c.args.i (omega (arith, length_board c.args.rows.now, c.requires.there)) in
+    window_room (board_in c.args.rows.now) c.args.apertures.now c.requires.board c.requires.declarations (named_pool c.args.pool) c.args.placed.now c.requires.placed c.args.i r.0 r.1 c.index-2.result.now f.pack c.index.result.now f.first
 
 pub returns : goal.returns
 returns c = λ r at.
-    let rows = c.args.rows.now in
-    let b = board_in rows in
     let a = c.args.apertures.now in
     let pool = named_pool c.args.pool in
-    let pl = c.args.placed.now in
-    let i = c.args.i in
-    let firsts : c.placed.inside.firsts.items ≡ pl.firsts = ap (λ (p : PlacedPool). p.firsts) c.placed.view_is in
-    let packs : c.placed.inside.packs.items ≡ pl.packs = ap (λ (p : PlacedPool). p.packs) c.placed.view_is in
-    let n = c.index.result.now in
-    let p = c.index-2.result.now in
-    let all_firsts = count_firsts b a c.requires.board c.requires.declarations pool pl c.requires.placed in
-    let all_packs = count_pl b a c.requires.board c.requires.declarations pool pl c.requires.placed in
-    let first : slice_get pl.firsts (i + 1) ≡ Some n = subst (λ (xs : List ℕ). slice_get xs (i + 1) ≡ Some n) firsts (read_at c.placed.inside.firsts.items (i + 1) n (omega (arith, ap length firsts, all_firsts, length_board rows, c.requires.there)) c.index.ensures) in
-    let pack : slice_get pl.packs (i + 1) ≡ Some p = subst (λ (xs : List BusPack). slice_get xs (i + 1) ≡ Some p) packs (read_at c.placed.inside.packs.items (i + 1) p (omega (arith, ap length packs, all_packs, length_board rows, c.requires.there)) c.index-2.ensures) in
-    let is = items_on b a pool r.path in
-    c.window_of.ensures is (behind_pack b a c.requires.board c.requires.declarations pool pl c.requires.placed i r at p pack)
-    ∙ ap (λ (m : ℕ). window_of (unit_of pool) c.args.closed m is) (behind_first_is b a c.requires.board c.requires.declarations pool pl c.requires.placed i r at n first)
+    let is = items_on (board_in c.args.rows.now) a pool r.path in
+    let f =
+    read c.args.rows.now c.args.apertures.now c.requires.board c.requires.declarations (named_pool c.args.pool) c.args.placed.now c.requires.placed c.args.i c.requires.there
+    c.placed.inside.packs.items c.placed.inside.firsts.items c.placed.view_is c.index.result.now c.index.ensures c.index-2.result.now c.index-2.ensures in
+    c.window_of.ensures is (behind_pack (board_in c.args.rows.now) c.args.apertures.now c.requires.board c.requires.declarations (named_pool c.args.pool) c.args.placed.now c.requires.placed c.args.i r at c.index-2.result.now f.pack)
+    ∙ ap (λ (m : ℕ). window_of (unit_of pool) c.args.closed m is) (behind_first_is (board_in c.args.rows.now) c.args.apertures.now c.requires.board c.requires.declarations (named_pool c.args.pool) c.args.placed.now c.requires.placed c.args.i r at c.index.result.now f.first)
