@@ -11,23 +11,23 @@ use Rattle.model_registers.specs.DeclarationRules.{first_broken, endpoint_rules,
 use Rattle.board_file.specs.Entries.{Bar, Config, Endpoint, Patterns, File}
 use Rattle.board_file.specs.Blocks.{block_cells, pattern_bytes, cell}
 use Rattle.board_file.specs.Functions.{region, config_block, endpoint_values}
-use Rattle.board_file.specs.Rules.{is_within, has_only_bits, is_identity, is_described, has_lawful_needs, has_lawful_values, has_lawful_blocks, has_lawful_numbers, is_config_block, is_size, registers_hold, sizes_hold, is_lawful_bridge}
+use Rattle.board_file.specs.Rules.{is_between, has_only_bits, is_identity, is_described, has_lawful_needs, has_lawful_values, has_lawful_blocks, has_lawful_numbers, is_config_block, is_size, registers_hold, sizes_hold, is_lawful_bridge}
 use Rattle.board_file.specs.Judged.{is_region, is_declarable, HasSmallNumbers, IsJudged}
 
 -- ---- numbers
 
-pub within_le : (first last : ℕ) (n : ℤ) → is_within first last n ≡ true → nat_abs n ≤ last
+pub within_le : (first last : ℕ) (n : ℤ) → is_between first last n ≡ true → nat_abs n ≤ last
 within_le first last (pos n) h = leb-true n last (and_parts (nat_le first n) (nat_le n last) h).1
 within_le first last (negsuc n) h = cc
 
-within_ge : (first last : ℕ) (n : ℤ) → is_within first last n ≡ true → first ≤ nat_abs n
+within_ge : (first last : ℕ) (n : ℤ) → is_between first last n ≡ true → first ≤ nat_abs n
 within_ge first last (pos n) h = leb-true first n (and_parts (nat_le first n) (nat_le n last) h).0
 within_ge first last (negsuc n) h = cc
 
 pub identity_parts : (vendor device revision : ℤ) → is_identity vendor device revision ≡ true → (nat_abs vendor < 0xffff) × (nat_abs device < 2 ^ 16) × (nat_abs revision < 2 ^ 8)
 identity_parts vendor device revision h =
-    let (front, r) = and_parts (is_within 0 0xfffe vendor && is_within 0 0xffff device) (is_within 0 0xff revision) h in
-    let (v, d) = and_parts (is_within 0 0xfffe vendor) (is_within 0 0xffff device) front in
+    let (front, r) = and_parts (is_between 0 0xfffe vendor && is_between 0 0xffff device) (is_between 0 0xff revision) h in
+    let (v, d) = and_parts (is_between 0 0xfffe vendor) (is_between 0 0xffff device) front in
     let v' = within_le 0 0xfffe vendor v in
     let d' = within_le 0 0xffff device d in
     let r' = within_le 0 0xff revision r in
@@ -64,11 +64,11 @@ small e h =
     let ids = identity_parts e.vendor e.device e.revision identity in
     let (described, needs) = and_parts (is_described e) (has_lawful_needs e)
     (and_parts (is_described e && has_lawful_needs e) (has_only_bits 0xf900 e.status) (values_of e h)).0 in
-    let (front, subsystem) = and_parts (is_within 0 0xffffff e.class && is_within 0 0xffff e.subvendor) (is_within 0 0xffff e.subsystem) described in
-    let (class, subvendor) = and_parts (is_within 0 0xffffff e.class) (is_within 0 0xffff e.subvendor) front in
-    let (pins, latency) = and_parts (is_within 0 4 e.pin && is_within 0 0xff e.min_gnt) (is_within 0 0xff e.max_lat) needs in
-    let (pin, grant) = and_parts (is_within 0 4 e.pin) (is_within 0 0xff e.min_gnt) pins in
-    let (status, _) = and_parts (is_within 0 0xffff e.status) (bit_and (nat_abs e.status) 0xf900 == nat_abs e.status) (status_of e h) in
+    let (front, subsystem) = and_parts (is_between 0 0xffffff e.class && is_between 0 0xffff e.subvendor) (is_between 0 0xffff e.subsystem) described in
+    let (class, subvendor) = and_parts (is_between 0 0xffffff e.class) (is_between 0 0xffff e.subvendor) front in
+    let (pins, latency) = and_parts (is_between 0 4 e.pin && is_between 0 0xff e.min_gnt) (is_between 0 0xff e.max_lat) needs in
+    let (pin, grant) = and_parts (is_between 0 4 e.pin) (is_between 0 0xff e.min_gnt) pins in
+    let (status, _) = and_parts (is_between 0 0xffff e.status) (bit_and (nat_abs e.status) 0xf900 == nat_abs e.status) (status_of e h) in
     let class' = within_le 0 0xffffff e.class class in
     let subvendor' = within_le 0 0xffff e.subvendor subvendor in
     let subsystem' = within_le 0 0xffff e.subsystem subsystem in
@@ -107,24 +107,24 @@ sized b = is_size b.kind b.size && int_le b.block b.size
 
 pub regions_of : (e : Endpoint) → is_declarable e ≡ true → list_all is_region e.bars ≡ true
 regions_of e h =
-    let (blocks, _) = and_parts (list_all (λ (b : Bar). is_within 0 4096 b.block) e.bars) (list_all is_config_block e.configs) (blocks_of e h) in
-    let (indices, _) = and_parts (list_all (λ (b : Bar). is_within 0 5 b.index) e.bars) (rules.has_own_registers (map region e.bars)) (registers_of e h) in
+    let (blocks, _) = and_parts (list_all (λ (b : Bar). is_between 0 4096 b.block) e.bars) (list_all is_config_block e.configs) (blocks_of e h) in
+    let (indices, _) = and_parts (list_all (λ (b : Bar). is_between 0 5 b.index) e.bars) (rules.has_own_registers (map region e.bars)) (registers_of e h) in
     let sizes = imply_all sized (λ b. is_size b.kind b.size) (λ b k. (and_parts (is_size b.kind b.size) (int_le b.block b.size) k).0) e.bars (sizes_of e h) in
-    all_three (λ b. is_within 0 4096 b.block) (λ b. is_within 0 5 b.index) (λ b. is_size b.kind b.size) e.bars blocks indices sizes
+    all_three (λ b. is_between 0 4096 b.block) (λ b. is_between 0 5 b.index) (λ b. is_size b.kind b.size) e.bars blocks indices sizes
 
 pub configs_of : (e : Endpoint) → is_declarable e ≡ true → list_all is_config_block e.configs ≡ true
-configs_of e h = (and_parts (list_all (λ (b : Bar). is_within 0 4096 b.block) e.bars) (list_all is_config_block e.configs) (blocks_of e h)).1
+configs_of e h = (and_parts (list_all (λ (b : Bar). is_between 0 4096 b.block) e.bars) (list_all is_config_block e.configs) (blocks_of e h)).1
 
 pub region_parts : (b : Bar) → is_region b ≡ true → (nat_abs b.block ≤ 4096) × (nat_abs b.index ≤ 5) × (is_size b.kind b.size ≡ true)
 region_parts b h =
-    let (front, size) = and_parts (is_within 0 4096 b.block && is_within 0 5 b.index) (is_size b.kind b.size) h in
-    let (block, index) = and_parts (is_within 0 4096 b.block) (is_within 0 5 b.index) front in
+    let (front, size) = and_parts (is_between 0 4096 b.block && is_between 0 5 b.index) (is_size b.kind b.size) h in
+    let (block, index) = and_parts (is_between 0 4096 b.block) (is_between 0 5 b.index) front in
     (within_le 0 4096 b.block block, within_le 0 5 b.index index, size)
 
 pub config_off : (c : Config) → is_config_block c ≡ true → nat_abs c.off < 2 ^ 16
 config_off c h =
-    let (front, _) = and_parts (is_within 0x40 0xff c.off && is_within 1 192 c.block) (int_le (c.off +ℤ c.block) (pos 256)) h in
-    let off = within_le 0x40 0xff c.off (and_parts (is_within 0x40 0xff c.off) (is_within 1 192 c.block) front).0 in
+    let (front, _) = and_parts (is_between 0x40 0xff c.off && is_between 1 192 c.block) (int_le (c.off +ℤ c.block) (pos 256)) h in
+    let off = within_le 0x40 0xff c.off (and_parts (is_between 0x40 0xff c.off) (is_between 1 192 c.block) front).0 in
     omega (arith, off)
 
 -- ---- the rules
@@ -132,7 +132,7 @@ config_off c h =
 length_cells : (n : ℕ) (p : Patterns) → length (block_cells n p) ≡ n
 length_cells n p = length-map-range_with_len (cell (pattern_bytes n p.reset) (pattern_bytes n p.writable) (pattern_bytes n p.clearable)) 0 n
 
-short : (b : Bar) → is_within 0 4096 b.block ≡ true → nat_le (length (region b).cells) 4096 ≡ true
+short : (b : Bar) → is_between 0 4096 b.block ≡ true → nat_le (length (region b).cells) 4096 ≡ true
 short b h = rw (length_cells (nat_abs b.block) b.patterns) (le-leb (nat_abs b.block) 4096 (within_le 0 4096 b.block h))
 
 le_nat : (m n : ℤ) → int_le (pos 0) m ≡ true → int_le m n ≡ true → nat_le (nat_abs m) (nat_abs n) ≡ true
@@ -140,9 +140,9 @@ le_nat (pos m) (pos n) h k = k
 le_nat (pos m) (negsuc n) h k = cc
 le_nat (negsuc m) n h k = cc
 
-fits : (b : Bar) → (is_within 0 4096 b.block && sized b) ≡ true → nat_le (length (region b).cells) (region b).size ≡ true
+fits : (b : Bar) → (is_between 0 4096 b.block && sized b) ≡ true → nat_le (length (region b).cells) (region b).size ≡ true
 fits b h =
-    let (within, size) = and_parts (is_within 0 4096 b.block) (sized b) h in
+    let (within, size) = and_parts (is_between 0 4096 b.block) (sized b) h in
     let (natural, _) = and_parts (int_le (pos 0) b.block) (int_le b.block (pos 4096)) within in
     let (_, le) = and_parts (is_size b.kind b.size) (int_le b.block b.size) size in
     rw (length_cells (nat_abs b.block) b.patterns) (le_nat b.block b.size natural le)
@@ -154,15 +154,15 @@ both p q (x ∷ xs) h k =
     let (k0, k1) = and_parts (q x) (list_all q xs) k in
     rw (h0, k0) (both p q xs h1 k1)
 
-ends : (off block : ℤ) → is_within 0x40 0xff off ≡ true → is_within 1 192 block ≡ true → int_le (off +ℤ block) (pos 256) ≡ true → nat_abs off + nat_abs block ≤ 256
+ends : (off block : ℤ) → is_between 0x40 0xff off ≡ true → is_between 1 192 block ≡ true → int_le (off +ℤ block) (pos 256) ≡ true → nat_abs off + nat_abs block ≤ 256
 ends (pos m) (pos n) h k l = leb-true (m + n) 256 l
 ends (pos m) (negsuc n) h k l = cc
 ends (negsuc m) n h k l = cc
 
 lawful_config : (c : Config) → is_config_block c ≡ true → rules.is_config_block (config_block c) ≡ true
 lawful_config c h =
-    let (front, sum) = and_parts (is_within 0x40 0xff c.off && is_within 1 192 c.block) (int_le (c.off +ℤ c.block) (pos 256)) h in
-    let (off, block) = and_parts (is_within 0x40 0xff c.off) (is_within 1 192 c.block) front in
+    let (front, sum) = and_parts (is_between 0x40 0xff c.off && is_between 1 192 c.block) (int_le (c.off +ℤ c.block) (pos 256)) h in
+    let (off, block) = and_parts (is_between 0x40 0xff c.off) (is_between 1 192 c.block) front in
     let begins = le-leb 0x40 (nat_abs c.off) (within_ge 0x40 0xff c.off off) in
     let some = lt-ltb 0 (nat_abs c.block) (within_ge 1 192 c.block block) in
     let ends = le-leb (nat_abs c.off + nat_abs c.block) 0x100 (ends c.off c.block off block sum) in
@@ -174,9 +174,9 @@ lawful_numbers e h =
     let vendor = lt-ltb (nat_abs e.vendor) 0xffff s.vendor in
     let class = lt-ltb (nat_abs e.class) (2 ^ 24) s.class in
     let pin = le-leb (nat_abs e.pin) 4 s.pin in
-    let (_, status) = and_parts (is_within 0 0xffff e.status) (bit_and (nat_abs e.status) 0xf900 == nat_abs e.status) (status_of e h) in
-    let (blocks, configs) = and_parts (list_all (λ (b : Bar). is_within 0 4096 b.block) e.bars) (list_all is_config_block e.configs) (blocks_of e h) in
-    let short_blocks = list_all-map (λ r. nat_le (length r.cells) 4096) region e.bars ∙ imply_all (λ (b : Bar). is_within 0 4096 b.block) (λ b. nat_le (length (region b).cells) 4096) short e.bars blocks in
+    let (_, status) = and_parts (is_between 0 0xffff e.status) (bit_and (nat_abs e.status) 0xf900 == nat_abs e.status) (status_of e h) in
+    let (blocks, configs) = and_parts (list_all (λ (b : Bar). is_between 0 4096 b.block) e.bars) (list_all is_config_block e.configs) (blocks_of e h) in
+    let short_blocks = list_all-map (λ r. nat_le (length r.cells) 4096) region e.bars ∙ imply_all (λ (b : Bar). is_between 0 4096 b.block) (λ b. nat_le (length (region b).cells) 4096) short e.bars blocks in
     let lawful_blocks = list_all-map rules.is_config_block config_block e.configs ∙ imply_all is_config_block (λ c. rules.is_config_block (config_block c)) lawful_config e.configs configs in
     rw (vendor, class, pin, status, short_blocks, lawful_blocks) refl
 
@@ -184,10 +184,10 @@ pub decided : (e : Endpoint) → is_declarable e ≡ true
     → first_broken (endpoint_rules (endpoint_values e)) ≡ cond (all_pairs blocks_apart (map config_block e.configs)) None (Some 112)
 decided e h =
     let numbers = lawful_numbers e h in
-    let (_, registers) = and_parts (list_all (λ (b : Bar). is_within 0 5 b.index) e.bars) (rules.has_own_registers (map region e.bars)) (registers_of e h) in
-    let (blocks, _) = and_parts (list_all (λ (b : Bar). is_within 0 4096 b.block) e.bars) (list_all is_config_block e.configs) (blocks_of e h) in
+    let (_, registers) = and_parts (list_all (λ (b : Bar). is_between 0 5 b.index) e.bars) (rules.has_own_registers (map region e.bars)) (registers_of e h) in
+    let (blocks, _) = and_parts (list_all (λ (b : Bar). is_between 0 4096 b.block) e.bars) (list_all is_config_block e.configs) (blocks_of e h) in
     let sizes = list_all-map (λ r. nat_le (length r.cells) r.size) region e.bars
-    ∙ imply_all (λ (b : Bar). is_within 0 4096 b.block && sized b) (λ b. nat_le (length (region b).cells) (region b).size) fits e.bars (both (λ b. is_within 0 4096 b.block) sized e.bars blocks (sizes_of e h)) in
+    ∙ imply_all (λ (b : Bar). is_between 0 4096 b.block && sized b) (λ b. nat_le (length (region b).cells) (region b).size) fits e.bars (both (λ b. is_between 0 4096 b.block) sized e.bars blocks (sizes_of e h)) in
     rw (numbers, registers, sizes) refl
 
 pub none_broken : (t : Bool) → None ≡ cond {A = Option ℕ} t None (Some 112) → t ≡ true

@@ -1,11 +1,12 @@
 -- The world of a judged file is lawful.
-use Rattle.std.proofs.Common.{◌≡◌, ℕ, ◌≤◌, Bool, true, false, ◌&&◌, ◌||◌, not, cond, List, [], ◌∷◌, ◌++◌, map, length, nat_le, Option, Some, None, refl, sym, ap, ◌∙◌, subst, arith, leb-true, IsTrue, IsFalse, IsSome}
+use Rattle.std.proofs.Common.{◌≡◌, ℕ, ◌+◌, ◌≤◌, Bool, true, false, ◌&&◌, ◌||◌, not, cond, List, [], ◌∷◌, ◌++◌, map, length, nat_le, Option, Some, None, refl, sym, ap, ◌∙◌, subst, arith, leb-true, IsTrue, IsFalse, IsSome}
 use Rattle.std.specs.Prelude.{find, flat_map}
 use Rattle.std.specs.List.{list_all, list_any}
 use Rattle.std.specs.Option.{option_map_or}
 use Rattle.std.specs.Str.{bytes_eq}
 use Rattle.std.proofs.lemmas.Bool.{and_parts}
 use Rattle.std.proofs.lemmas.List.{length-map}
+use Rattle.std.proofs.lemmas.List.Folds.{list_all-append}
 use Rattle.model_registers.specs.Lists.{Each, EachPair, all_pairs}
 use Rattle.model_board.specs.Paths.{Path, path_eq}
 use Rattle.model_board.specs.Board.{Decl, endpoint, bridge, Row, Board, IsBoard, is_bridge, stands_at, is_bridge_at}
@@ -20,9 +21,9 @@ use Rattle.model_board.specs.AtReset.{board_at, IsAtReset}
 use Rattle.model_guests.specs.World as world
 use Rattle.model_guests.specs.World.{is_name, declared, HasLawfulGuests, IsLawfulWorld}
 use Rattle.board_file.specs.Entries.{Endpoint, Bridge, Guest, File}
-use Rattle.board_file.specs.Functions.{endpoint_row, bridge_row, rows, places, guest}
+use Rattle.board_file.specs.Functions.{endpoint_row, bridge_row, rows, standings, guest}
 use Rattle.board_file.specs.PathTexts.{is_path_text, path_at}
-use Rattle.board_file.specs.Rules.{ats, are_places, names, slots, is_endpoint, names_endpoint}
+use Rattle.board_file.specs.Rules.{have_few_slashes, have_paths, are_places, names, slots, is_endpoint, names_endpoint}
 use Rattle.board_file.specs.Judged.{IsJudged, IsShortGuest}
 use Rattle.board_file.specs.Meaning.{world_of}
 use Rattle.board_file.proofs.ListTests.{each_of_test, pairs_of_test, lawful_places}
@@ -42,13 +43,13 @@ bridge_places : (bs : List Bridge) → map standing (map bridge_row bs) ≡ map 
 bridge_places [] = refl
 bridge_places (b ∷ bs) = ap (λ ss. record { path = path_at b.at; is_bridge = true } ∷ ss) (bridge_places bs)
 
-places_of_rows : (f : File) → map standing (rows f) ≡ places f
+places_of_rows : (f : File) → map standing (rows f) ≡ standings f
 places_of_rows f = map_append standing (map endpoint_row f.endpoints) (map bridge_row f.bridges) ∙ rw (endpoint_places f.endpoints, bridge_places f.bridges) refl
 
 pub is_board : (f : File) → IsJudged f → IsBoard (board_of (rows f))
 is_board f j =
-    let (_, stand) = and_parts (list_all is_path_text (ats f)) (are_places (places f)) j.places in
-    let lawful = lawful_places (places f) (places_are_paths f) stand in
+    let (_, stand) = and_parts (have_paths f) (are_places (standings f)) j.places in
+    let lawful = lawful_places (standings f) (places_are_paths f) stand in
     (lawful_places_are_boards (rows f)).0 (subst AreLawfulPlaces (sym (places_of_rows f)) lawful)
 
 -- ---- slots
@@ -76,23 +77,28 @@ finds (r ∷ b) p h k = by_case r.decl (path_eq r.path p) h k (finds b p)
     by_case (endpoint d) false h k more = more h k
     by_case (bridge d) false h k more = more h k
 
-names_slot : (f : File) (t : List ℕ) → names_endpoint (places f) t ≡ true → IsSome (declared (board_of (rows f)) (path_at t))
+names_slot : (f : File) (t : List ℕ) → names_endpoint (standings f) t ≡ true → IsSome (declared (board_of (rows f)) (path_at t))
 names_slot f t h =
-    let (_, stand) = and_parts (is_path_text t) (is_endpoint (places f) (path_at t)) h in
-    let (there, no_bridge) = and_parts (has_path (places f) (path_at t)) (not (has_bridge (places f) (path_at t))) stand in
+    let (_, stand) = and_parts (is_path_text t) (is_endpoint (standings f) (path_at t)) h in
+    let (there, no_bridge) = and_parts (has_path (standings f) (path_at t)) (not (has_bridge (standings f) (path_at t))) stand in
     let same = places_of_rows f in
     let there' : has_path (map standing (rows f)) (path_at t) ≡ true = rw same there in
-    let bridge' : has_bridge (map standing (rows f)) (path_at t) ≡ false = rw same (no_of_not (has_bridge (places f) (path_at t)) no_bridge) in
+    let bridge' : has_bridge (map standing (rows f)) (path_at t) ≡ false = rw same (no_of_not (has_bridge (standings f) (path_at t)) no_bridge) in
     finds (board_of (rows f)) (path_at t) (sym (stands (rows f) (path_at t)) ∙ there') (sym (bridges (rows f) (path_at t)) ∙ bridge')
   where
     no_of_not : (b : Bool) → not b ≡ true → b ≡ false
     no_of_not true h = cc
     no_of_not false h = refl
 
-slots_named : (f : File) (ts : List (List ℕ)) → list_all (names_endpoint (places f)) ts ≡ true → Each (λ p. IsSome (declared (board_of (rows f)) p)) (map path_at ts)
+all_slots : (p : List ℕ → Bool) (gs : List Guest) → list_all p (flat_map (λ g. g.slots) gs) ≡ list_all (λ g. list_all p g.slots) gs
+all_slots p [] = refl
+all_slots p (g ∷ gs) =
+    list_all-append p g.slots (flat_map (λ (g : Guest). g.slots) gs) ∙ ap (λ b. list_all p g.slots && b) (all_slots p gs)
+
+slots_named : (f : File) (ts : List (List ℕ)) → list_all (names_endpoint (standings f)) ts ≡ true → Each (λ p. IsSome (declared (board_of (rows f)) p)) (map path_at ts)
 slots_named f [] h = tt
 slots_named f (t ∷ ts) h =
-    let (here, more) = and_parts (names_endpoint (places f) t) (list_all (names_endpoint (places f)) ts) h in
+    let (here, more) = and_parts (names_endpoint (standings f) t) (list_all (names_endpoint (standings f)) ts) h in
     (names_slot f t here, slots_named f ts more)
 
 -- ---- guests
@@ -113,6 +119,12 @@ few (g ∷ gs) h =
 
 few_slots : (f : File) → IsJudged f → list_all (λ g. nat_le (length g.slots) 32) f.guests ≡ true
 few_slots f j = (and_parts _ (list_all (λ (g : Guest). nat_le (length g.slots) 32) f.guests) j.counts).1
+
+few_guests : (f : File) → IsJudged f → length (map guest f.guests) ≤ 32
+few_guests f j =
+    let functions = have_few_slashes f && nat_le (length f.endpoints + length f.bridges) 1024 in
+    let front = (and_parts (functions && nat_le (length f.guests) 32) (list_all (λ (g : Guest). nat_le (length g.slots) 32) f.guests) j.counts).0 in
+    rw (length-map f.guests guest) (leb-true (length f.guests) 32 (and_parts functions (nat_le (length f.guests) 32) front).1)
 
 short_name : (n : List ℕ) → is_name n ≡ true → length n ≤ 16
 short_name [] h = omega arith
@@ -135,12 +147,13 @@ short_guests f j = short f.guests (and_parts (list_all is_name (names f)) (all_p
 lawful_guests : (f : File) → IsJudged f → HasLawfulGuests (world_of f)
 lawful_guests f j =
     let (lawful, apart) = and_parts (list_all is_name (names f)) (all_pairs (λ m n. not (bytes_eq m n)) (names f)) j.names in
-    let (named, others) = and_parts (list_all (names_endpoint (places f)) (slots f)) (all_pairs (λ p q. not (path_eq p q)) (map path_at (slots f))) j.slots in
+    let (named, others) = and_parts (list_all (λ (g : Guest). list_all (names_endpoint (standings f)) g.slots) f.guests) (all_pairs (λ p q. not (path_eq p q)) (map path_at (slots f))) j.slots in
     record {
       lawful_names = subst (Each (λ n. IsTrue (is_name n))) (sym (same_names f.guests)) (each_of_test is_name (names f) lawful);
       names_apart = subst (EachPair (λ m n. IsFalse (bytes_eq m n))) (sym (same_names f.guests)) (pairs_of_test bytes_eq (names f) apart);
+      few_guests = few_guests f j;
       few_slots = few f.guests (few_slots f j);
-      endpoints = subst (Each (λ p. IsSome (declared (board_of (rows f)) p))) (sym (same_slots f.guests)) (slots_named f (slots f) named);
+      endpoints = subst (Each (λ p. IsSome (declared (board_of (rows f)) p))) (sym (same_slots f.guests)) (slots_named f (slots f) (all_slots (names_endpoint (standings f)) f.guests ∙ named));
       paths_apart = subst (EachPair (λ p q. IsFalse (path_eq p q))) (sym (same_slots f.guests)) (pairs_of_test path_eq (map path_at (slots f)) others);
     }
 

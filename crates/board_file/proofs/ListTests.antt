@@ -1,4 +1,4 @@
--- Tests of lists, of sizes and of places, as facts.
+-- Tests of lists, of sizes and of where functions stand, as facts.
 use Rattle.std.proofs.Common.{◌≡◌, ℕ, ◌+◌, ℤ, pos, negsuc, nat_abs, Bool, true, false, ◌&&◌, ◌||◌, not, cond, List, [], ◌∷◌, map, nat_le, le-leb, leb-true, count_by, refl, sym, inl, inr, ◌⊎◌, IsTrue, IsFalse}
 use Rattle.std.specs.Prelude.{int_le}
 use Rattle.std.specs.List.{list_all}
@@ -95,7 +95,7 @@ pub size_test : (kind : Kind) (n : ℤ) (t : Bool) → int_le (pos 0) n ≡ true
 size_test kind (pos n) t h f g = same_test t (is_size kind (pos n)) (λ k. size_of_lawful kind n (f k)) (λ k. g (lawful_size kind (pos n) k))
 size_test kind (negsuc n) t h f g = cc
 
--- ---- places
+-- ---- where functions stand
 
 root_of_test : (p : Path) → is_root p ≡ true → p ≡ []
 root_of_test [] h = refl

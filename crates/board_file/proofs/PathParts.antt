@@ -6,8 +6,8 @@ use Rattle.model_registers.specs.Lists.{Each, first_of_two}
 use Rattle.model_board.specs.Paths.{Part, Path, IsPart, IsPath}
 use Rattle.model_board.specs.Places.{Standing}
 use Rattle.board_file.specs.Entries.{Endpoint, Bridge, File}
-use Rattle.board_file.specs.Functions.{places}
-use Rattle.board_file.specs.PathTexts.{is_between, short_part, long_part, part_at_front, parts_after, path_at}
+use Rattle.board_file.specs.Functions.{standings}
+use Rattle.board_file.specs.PathTexts.{is_byte_between, short_part, long_part, part_at_front, parts_after, path_at}
 
 abbrev Front : Option (Part × List ℕ) → Type 0
 Front None = Unit {0}
@@ -21,13 +21,13 @@ short_front : (text : List ℕ) → Front (short_part text)
 short_front [] = tt
 short_front (d ∷ []) = tt
 short_front (d ∷ dot ∷ []) = tt
-short_front (d ∷ dot ∷ f ∷ rest) = by_case (is_between 48 57 d && (dot == 46) && is_between 48 55 f) refl
+short_front (d ∷ dot ∷ f ∷ rest) = by_case (is_byte_between 48 57 d && (dot == 46) && is_byte_between 48 55 f) refl
   where
-    by_case : (b : Bool) → (is_between 48 57 d && (dot == 46) && is_between 48 55 f) ≡ b → Front (cond b (Some (record { device = d - 48; function = f - 48 }, rest)) None)
+    by_case : (b : Bool) → (is_byte_between 48 57 d && (dot == 46) && is_byte_between 48 55 f) ≡ b → Front (cond b (Some (record { device = d - 48; function = f - 48 }, rest)) None)
     by_case false e = tt
     by_case true e =
-        let (front, last) = and_parts (is_between 48 57 d && (dot == 46)) (is_between 48 55 f) e in
-        let (first, _) = and_parts (is_between 48 57 d) (dot == 46) front in
+        let (front, last) = and_parts (is_byte_between 48 57 d && (dot == 46)) (is_byte_between 48 55 f) e in
+        let (first, _) = and_parts (is_byte_between 48 57 d) (dot == 46) front in
         let (_, d_max) = and_parts (nat_le 48 d) (nat_le d 57) first in
         let (_, f_max) = and_parts (nat_le 48 f) (nat_le f 55) last in
         let d_le : d ≤ 57 = leb-true d 57 d_max in
@@ -39,15 +39,15 @@ long_front [] = tt
 long_front (one ∷ []) = tt
 long_front (one ∷ d ∷ []) = tt
 long_front (one ∷ d ∷ dot ∷ []) = tt
-long_front (one ∷ d ∷ dot ∷ f ∷ rest) = by_case ((one == 49) && is_between 48 53 d && (dot == 46) && is_between 48 55 f) refl
+long_front (one ∷ d ∷ dot ∷ f ∷ rest) = by_case ((one == 49) && is_byte_between 48 53 d && (dot == 46) && is_byte_between 48 55 f) refl
   where
-    by_case : (b : Bool) → ((one == 49) && is_between 48 53 d && (dot == 46) && is_between 48 55 f) ≡ b
+    by_case : (b : Bool) → ((one == 49) && is_byte_between 48 53 d && (dot == 46) && is_byte_between 48 55 f) ≡ b
         → Front (cond b (Some (record { device = 10 + (d - 48); function = f - 48 }, rest)) None)
     by_case false e = tt
     by_case true e =
-        let (front, last) = and_parts ((one == 49) && is_between 48 53 d && (dot == 46)) (is_between 48 55 f) e in
-        let (middle, _) = and_parts ((one == 49) && is_between 48 53 d) (dot == 46) front in
-        let (_, first) = and_parts (one == 49) (is_between 48 53 d) middle in
+        let (front, last) = and_parts ((one == 49) && is_byte_between 48 53 d && (dot == 46)) (is_byte_between 48 55 f) e in
+        let (middle, _) = and_parts ((one == 49) && is_byte_between 48 53 d) (dot == 46) front in
+        let (_, first) = and_parts (one == 49) (is_byte_between 48 53 d) middle in
         let (_, d_max) = and_parts (nat_le 48 d) (nat_le d 53) first in
         let (_, f_max) = and_parts (nat_le 48 f) (nat_le f 55) last in
         let d_le : d ≤ 53 = leb-true d 53 d_max in
@@ -101,7 +101,7 @@ each_append : {A : Type 0} (P : A → Type 0) (xs ys : List A) → Each P xs →
 each_append P [] ys h k = k
 each_append P (x ∷ xs) ys h k = (h.0, each_append P xs ys h.1 k)
 
-pub places_are_paths : (f : File) → Each (λ s. IsPath s.path) (places f)
+pub places_are_paths : (f : File) → Each (λ s. IsPath s.path) (standings f)
 places_are_paths f = each_append (λ (s : Standing). IsPath s.path) _ _ (endpoints f.endpoints) (bridges f.bridges)
   where
     endpoints : (es : List Endpoint) → Each (λ (s : Standing). IsPath s.path) (map (λ e. record { path = path_at e.at; is_bridge = false }) es)

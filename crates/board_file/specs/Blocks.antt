@@ -40,7 +40,11 @@ abbrev pub are_apart : ℕ → List ℕ → List ℕ → Bool
 are_apart n writable clearable = list_all (is_apart writable clearable) (range_with_len 0 n)
 
 abbrev pub cell : List ℕ → List ℕ → List ℕ → ℕ → Cell
-cell reset writable clearable i = record { value = byte_at reset i; writable = byte_at writable i; clearable = byte_at clearable i }
+cell reset writable clearable i = record {
+  value = byte_at reset i;
+  writable = byte_at writable i;
+  clearable = byte_at clearable i;
+}
 
 abbrev pub cells : ℕ → List ℕ → List ℕ → List ℕ → List Cell
 cells n reset writable clearable = map (cell reset writable clearable) (range_with_len 0 n)

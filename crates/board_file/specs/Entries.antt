@@ -41,7 +41,11 @@ pub record Patterns : Type 0 where
   pub clearable : Option (List ℕ)
 
 abbrev pub patterns : Members → Patterns
-patterns ms = record { reset = text_at (codes "reset") ms; writable = text_at (codes "rw") ms; clearable = text_at (codes "w1c") ms }
+patterns ms = record {
+  reset = text_at (codes "reset") ms;
+  writable = text_at (codes "rw") ms;
+  clearable = text_at (codes "w1c") ms;
+}
 
 pub record Bar : Type 0 where
   pub index : ℤ

@@ -1,4 +1,5 @@
--- The numbers of refused board files.
+-- Why a board file is refused.
+--     number_of      the number of a fault
 use Rattle.std.specs.Prelude.{ℕ}
 use Rattle.board_file.specs.declared.fault.BoardFault.{BoardFault}
 use Rattle.board_file.specs.declared.fault.BoardFault.TheVariants.{NotToml, Key, UnknownKey, Number, Place, Register, Size, TooMany, GuestName, Slot, Aperture, CellMasks, Memory}

@@ -1,6 +1,7 @@
 -- What the tables of a board file declare, where they keep the rules.
 --     region, config_block, endpoint, bridge      what the tables of a function declare
---     places, rows      where functions stand, and the functions there
+--     endpoint_row, bridge_row      a function with its path
+--     standings, rows      where functions stand, and the functions there
 --     apertures, guests      the addresses that set-up may give out, and the guests
 use Rattle.std.specs.Prelude.{nat_abs, true, false, List, ◌++◌, map, option_map}
 use Rattle.model_registers.specs.Apertures.{Aperture, Apertures}
@@ -17,7 +18,12 @@ use Rattle.board_file.specs.Blocks.{block_cells}
 use Rattle.board_file.specs.PathTexts.{path_at}
 
 abbrev pub region : Bar → Region
-region b = record { index = nat_abs b.index; kind = b.kind; size = nat_abs b.size; cells = block_cells (nat_abs b.block) b.patterns }
+region b = record {
+  index = nat_abs b.index;
+  kind = b.kind;
+  size = nat_abs b.size;
+  cells = block_cells (nat_abs b.block) b.patterns;
+}
 
 abbrev pub config_block : Config → ConfigBlock
 config_block c = record { offset = nat_abs c.off; cells = block_cells (nat_abs c.block) c.patterns }
@@ -43,10 +49,22 @@ abbrev pub endpoint : Endpoint → declared.Endpoint
 endpoint e = with_ordered_regions (endpoint_values e)
 
 abbrev pub bridge : Bridge → declared.Bridge
-bridge b = record { vendor = nat_abs b.vendor; device = nat_abs b.device; revision = nat_abs b.revision; io = b.io; pref = b.pref }
+bridge b = record {
+  vendor = nat_abs b.vendor;
+  device = nat_abs b.device;
+  revision = nat_abs b.revision;
+  io = b.io;
+  pref = b.pref;
+}
 
-abbrev pub places : File → List Standing
-places f = map (λ e. record { path = path_at e.at; is_bridge = false }) f.endpoints ++ map (λ b. record { path = path_at b.at; is_bridge = true }) f.bridges
+abbrev pub endpoint_standing : Endpoint → Standing
+endpoint_standing e = record { path = path_at e.at; is_bridge = false }
+
+abbrev pub bridge_standing : Bridge → Standing
+bridge_standing b = record { path = path_at b.at; is_bridge = true }
+
+abbrev pub standings : File → List Standing
+standings f = map endpoint_standing f.endpoints ++ map bridge_standing f.bridges
 
 abbrev pub endpoint_row : Endpoint → Row
 endpoint_row e = record { path = path_at e.at; decl = board.endpoint (endpoint e) }

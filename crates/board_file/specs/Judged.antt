@@ -1,15 +1,15 @@
 -- What is known of a file before its functions are made.
 --     is_region, is_declarable      of a region, and of an endpoint
 --     HasSmallNumbers      an endpoint's values fit their registers
---     IsShortGuest      a guest's name and slots fit their places
+--     IsShortGuest      a guest's name and slots fit what holds them
 --     IsJudged      of the whole file: all checks hold but that of cell masks
 use Rattle.std.specs.Prelude.{◌≡◌, ◌<◌, ◌≤◌, ◌^◌, nat_abs, length, Bool, true, ◌&&◌}
 use Rattle.std.specs.List.{list_all}
 use Rattle.board_file.specs.Entries.{Bar, Endpoint, Guest, File}
-use Rattle.board_file.specs.Rules.{is_within, is_size, has_lawful_numbers, registers_hold, sizes_hold, numbers_hold, counts_hold, places_hold, names_hold, slots_hold, apertures_hold}
+use Rattle.board_file.specs.Rules.{is_between, is_size, has_lawful_numbers, registers_hold, sizes_hold, numbers_hold, counts_hold, places_hold, names_hold, slots_hold, apertures_hold}
 
 abbrev pub is_region : Bar → Bool
-is_region b = is_within 0 4096 b.block && is_within 0 5 b.index && is_size b.kind b.size
+is_region b = is_between 0 4096 b.block && is_between 0 5 b.index && is_size b.kind b.size
 
 -- the declared values fit their registers
 pub record HasSmallNumbers (e : Endpoint) : Type 0 where
@@ -37,7 +37,7 @@ pub record IsJudged (f : File) : Type 0 where
   pub slots : slots_hold f ≡ true
   pub apertures : apertures_hold f ≡ true
 
--- a guest's name and slots fit their places
+-- a guest's name and slots fit what holds them
 pub record IsShortGuest (g : Guest) : Type 0 where
   pub name : length g.name ≤ 16
   pub slots : length g.slots ≤ 32

@@ -1,5 +1,5 @@
--- Paths as texts: parts with slashes between them, each a device from 0 to 15, a dot and a function from 0 to 7, without
--- leading zeros.
+-- Paths as texts: parts with slashes between them, each a device from 0 to 15, a dot and a function from 0 to 7,
+-- without leading zeros.
 --     part_at_front      the part with which a text begins, and what comes after it
 --     path_of, is_path_text      the path of 1 to 16 parts that a text is
 --     path_at      that path, or 0.0 for any other text
@@ -7,19 +7,23 @@ use Rattle.std.specs.Prelude.{ℕ, zero, suc, ◌+◌, ◌-◌, Bool, ◌&&◌, 
 use Rattle.model_registers.specs.Lists.{first_of_two}
 use Rattle.model_board.specs.Paths.{Part, Path}
 
-abbrev pub is_between : ℕ → ℕ → ℕ → Bool
-is_between low high b = nat_le low b && nat_le b high
+abbrev pub is_byte_between : ℕ → ℕ → ℕ → Bool
+is_byte_between low high b = nat_le low b && nat_le b high
 
 -- a device of one digit: 48 is '0', 46 is a dot
 abbrev pub short_part : List ℕ → Option (Part × List ℕ)
 short_part (d ∷ dot ∷ f ∷ rest) =
-    if is_between 48 57 d && (dot == 46) && is_between 48 55 f then Some (record { device = d - 48; function = f - 48 }, rest) else None
+    if is_byte_between 48 57 d && (dot == 46) && is_byte_between 48 55 f
+    then Some (record { device = d - 48; function = f - 48 }, rest)
+    else None
 short_part _ = None
 
 -- a device from 10 to 15: 49 is '1'
 abbrev pub long_part : List ℕ → Option (Part × List ℕ)
 long_part (one ∷ d ∷ dot ∷ f ∷ rest) =
-    if (one == 49) && is_between 48 53 d && (dot == 46) && is_between 48 55 f then Some (record { device = 10 + (d - 48); function = f - 48 }, rest) else None
+    if (one == 49) && is_byte_between 48 53 d && (dot == 46) && is_byte_between 48 55 f
+    then Some (record { device = 10 + (d - 48); function = f - 48 }, rest)
+    else None
 long_part _ = None
 
 abbrev pub part_at_front : List ℕ → Option (Part × List ℕ)
@@ -30,7 +34,9 @@ abbrev pub parts_after : ℕ → List ℕ → Option Path
 parts_after room [] = Some []
 parts_after zero (b ∷ bs) = None
 parts_after (suc room) (b ∷ bs) =
-    if b == 47 then option_and_then (λ found. option_map (λ ps. found.0 ∷ ps) (parts_after room found.1)) (part_at_front bs) else None
+    if b == 47
+    then option_and_then (λ found. option_map (λ ps. found.0 ∷ ps) (parts_after room found.1)) (part_at_front bs)
+    else None
 
 abbrev pub path_of : List ℕ → Option Path
 path_of text = option_and_then (λ found. option_map (λ ps. found.0 ∷ ps) (parts_after 15 found.1)) (part_at_front text)

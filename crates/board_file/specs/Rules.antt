@@ -1,7 +1,7 @@
 -- The rules that what a file says has to keep, each over the whole file.
 --     numbers_hold      each integer lies in the range of its key
---     counts_hold      at most 15 slashes in a place, 1024 functions, 32 guests, and 32 slots of a guest
---     places_hold      each place is a path text, and the functions stand at the places of a board
+--     counts_hold      at most 15 slashes in an `at`, 1024 functions, 32 guests, and 32 slots of a guest
+--     places_hold      each `at` is the text of a path, and the functions stand as those of a board
 --     registers_hold      each region has its registers among the six, and no register is used twice
 --     sizes_hold      each size is a power of two within the limits of its kind, and no block is longer
 --     names_hold      lawful names, none twice
@@ -23,34 +23,35 @@ use Rattle.board_file.specs.Entries.{Bar, Config, Endpoint, Bridge, File}
 use Rattle.board_file.specs.declared.entries.Bounds.{Bounds}
 use Rattle.board_file.specs.Blocks.{is_block}
 use Rattle.board_file.specs.PathTexts.{is_path_text, path_at}
-use Rattle.board_file.specs.Functions.{region, config_block, places, apertures}
+use Rattle.board_file.specs.Functions.{region, config_block, standings, apertures}
 
 -- ---- numbers
 
-abbrev pub is_within : ℕ → ℕ → ℤ → Bool
-is_within first last n = int_le (pos first) n && int_le n (pos last)
+abbrev pub is_between : ℕ → ℕ → ℤ → Bool
+is_between first last n = int_le (pos first) n && int_le n (pos last)
 
 abbrev pub has_only_bits : ℕ → ℤ → Bool
-has_only_bits mask n = is_within 0 0xffff n && (bit_and (nat_abs n) mask == nat_abs n)
+has_only_bits mask n = is_between 0 0xffff n && (bit_and (nat_abs n) mask == nat_abs n)
 
 abbrev pub is_identity : ℤ → ℤ → ℤ → Bool
-is_identity vendor device revision = is_within 0 0xfffe vendor && is_within 0 0xffff device && is_within 0 0xff revision
+is_identity vendor device revision =
+    is_between 0 0xfffe vendor && is_between 0 0xffff device && is_between 0 0xff revision
 
 abbrev pub is_described : Endpoint → Bool
-is_described e = is_within 0 0xffffff e.class && is_within 0 0xffff e.subvendor && is_within 0 0xffff e.subsystem
+is_described e = is_between 0 0xffffff e.class && is_between 0 0xffff e.subvendor && is_between 0 0xffff e.subsystem
 
 abbrev pub has_lawful_needs : Endpoint → Bool
-has_lawful_needs e = is_within 0 4 e.pin && is_within 0 0xff e.min_gnt && is_within 0 0xff e.max_lat
+has_lawful_needs e = is_between 0 4 e.pin && is_between 0 0xff e.min_gnt && is_between 0 0xff e.max_lat
 
 abbrev pub has_lawful_values : Endpoint → Bool
 has_lawful_values e = is_described e && has_lawful_needs e && has_only_bits 0xf900 e.status
 
 -- a device's own registers lie at 40h to FFh
 abbrev pub is_config_block : Config → Bool
-is_config_block c = is_within 0x40 0xff c.off && is_within 1 192 c.block && int_le (c.off +ℤ c.block) (pos 256)
+is_config_block c = is_between 0x40 0xff c.off && is_between 1 192 c.block && int_le (c.off +ℤ c.block) (pos 256)
 
 abbrev pub has_lawful_blocks : Endpoint → Bool
-has_lawful_blocks e = list_all (λ b. is_within 0 4096 b.block) e.bars && list_all is_config_block e.configs
+has_lawful_blocks e = list_all (λ b. is_between 0 4096 b.block) e.bars && list_all is_config_block e.configs
 
 abbrev pub has_lawful_numbers : Endpoint → Bool
 has_lawful_numbers e = is_identity e.vendor e.device e.revision && has_lawful_values e && has_lawful_blocks e
@@ -63,16 +64,20 @@ numbers_hold f = list_all has_lawful_numbers f.endpoints && list_all is_lawful_b
 
 -- ---- counts
 
-abbrev pub ats : File → List (List ℕ)
-ats f = map (λ e. e.at) f.endpoints ++ map (λ b. b.at) f.bridges
-
 -- 47 is a slash
+abbrev pub has_few_slashes : List ℕ → Bool
+has_few_slashes at = nat_le (count_by (λ b. b == 47) at) 15
+
+abbrev pub have_few_slashes : File → Bool
+have_few_slashes f =
+    list_all (λ e. has_few_slashes e.at) f.endpoints && list_all (λ b. has_few_slashes b.at) f.bridges
+
 abbrev pub counts_hold : File → Bool
 counts_hold f =
-    list_all (λ at. nat_le (count_by (λ b. b == 47) at) 15) (ats f) && nat_le (length f.endpoints + length f.bridges) 1024
+    have_few_slashes f && nat_le (length f.endpoints + length f.bridges) 1024
     && nat_le (length f.guests) 32 && list_all (λ g. nat_le (length g.slots) 32) f.guests
 
--- ---- places
+-- ---- where functions stand
 
 abbrev pub is_root : Path → Bool
 is_root [] = true
@@ -84,16 +89,19 @@ is_founded ss s = (is_root (parent s.path) || has_bridge ss (parent s.path)) && 
 abbrev pub are_places : List Standing → Bool
 are_places ss = list_all (is_founded ss) ss && all_pairs (λ s t. not (path_eq t.path s.path)) ss
 
+abbrev pub have_paths : File → Bool
+have_paths f = list_all (λ e. is_path_text e.at) f.endpoints && list_all (λ b. is_path_text b.at) f.bridges
+
 abbrev pub places_hold : File → Bool
-places_hold f = list_all is_path_text (ats f) && are_places (places f)
+places_hold f = have_paths f && are_places (standings f)
 
 -- ---- registers and sizes
 
 abbrev pub registers_hold : Endpoint → Bool
-registers_hold e = list_all (λ b. is_within 0 5 b.index) e.bars && has_own_registers (map region e.bars)
+registers_hold e = list_all (λ b. is_between 0 5 b.index) e.bars && has_own_registers (map region e.bars)
 
 abbrev pub is_size : Kind → ℤ → Bool
-is_size kind n = is_within (least_size kind) (greatest_size kind) n && is_power_of_two (nat_abs n)
+is_size kind n = is_between (least_size kind) (greatest_size kind) n && is_power_of_two (nat_abs n)
 
 abbrev pub sizes_hold : Endpoint → Bool
 sizes_hold e = list_all (λ b. is_size b.kind b.size && int_le b.block b.size) e.bars
@@ -118,7 +126,7 @@ names_endpoint ss t = is_path_text t && is_endpoint ss (path_at t)
 
 abbrev pub slots_hold : File → Bool
 slots_hold f =
-    list_all (names_endpoint (places f)) (slots f)
+    list_all (λ g. list_all (names_endpoint (standings f)) g.slots) f.guests
     && all_pairs (λ p q. not (path_eq p q)) (map path_at (slots f))
 
 -- ---- apertures
@@ -142,4 +150,6 @@ abbrev pub config_holds : Config → Bool
 config_holds c = is_block (nat_abs c.block) c.patterns
 
 abbrev pub masks_hold : Endpoint → Bool
-masks_hold e = list_all bar_holds e.bars && list_all config_holds e.configs && all_pairs blocks_apart (map config_block e.configs)
+masks_hold e =
+    list_all bar_holds e.bars && list_all config_holds e.configs
+    && all_pairs blocks_apart (map config_block e.configs)

@@ -1,7 +1,7 @@
 -- The keys of a board file, and what a table has to hold at them.
 --     fields      the keys of a table, whether they are needed, and what stands there
 --     has_form      a value has the type, or is one of the words, that stands at its key
---     table_passes      each needed key is there with its form, or each key is a known one, in a table and in all inside it
+--     table_passes      in a table and all inside it, each needed key is there with its form, or each key is known
 use Rattle.std.specs.Prelude.{ℕ, codes, Bool, true, false, not, ◌&&◌, ◌||◌, List, [], ◌∷◌, length, ◌==◌, Option, Some, None, is_some, if◌then◌else◌}
 use Rattle.std.specs.List.{list_all}
 use Rattle.std.specs.Option.{option_map_or}
@@ -131,7 +131,8 @@ table_test Keys l ms = true
 -- the check holds of a value and of all that stands inside it
 abbrev mutual
   pub value_passes : Check → Option Form → Data → Bool
-  value_passes c k (table ms) = value_test c k (table ms) && option_map_or (λ l. table_test c l ms && members_pass c l ms) (level_at k) true
+  value_passes c k (table ms) =
+      value_test c k (table ms) && option_map_or (λ l. table_test c l ms && members_pass c l ms) (level_at k) true
   value_passes c k (array ds) = value_test c k (array ds) && option_map_or (λ l. items_pass c l ds) (level_at k) true
   value_passes c k d = value_test c k d
 

@@ -24,12 +24,11 @@ use crate::building::{bridge, endpoint, guest};
 use crate::entries::{BridgeEntry, EndpointEntry, FileEntries, GuestEntry};
 use crate::fault::BoardFault;
 use crate::judging::{first_fault, form_fault};
-use crate::path_text::path_at;
 use crate::reading::read_entries;
+use accesses::GuestDecl;
 use bridge_forward::{Bus, Decl, Declared};
 use headers::Apertures;
 use host_bridge::Host;
-use accesses::GuestDecl;
 use std::alloc::{AllocError, Global};
 use toml::Table;
 
@@ -45,7 +44,7 @@ fn endpoint_decls(
     'entries: for entry in entries {
         match endpoint(alloc, entry)? {
             Some(decl) => decls.push(Decl {
-                path: path_at(entry.at),
+                path: entry.at.path(),
                 function: Declared::Endpoint(decl),
             })?,
             None => return Ok(None),
@@ -54,7 +53,7 @@ fn endpoint_decls(
     Ok(Some(decls))
 }
 
-/// The bridges after the other functions. None of them is refused, since they were judged.
+/// The bridges, after the other functions.
 fn with_bridges(decls: Vec<Decl>, entries: &[BridgeEntry<'_>]) -> Result<Vec<Decl>, AllocError>
     requires bridges { IsTrue (list_all is_lawful_bridge entries.now) }
     requires lawful { HasLawfulDecls decls.items }
@@ -62,12 +61,10 @@ fn with_bridges(decls: Vec<Decl>, entries: &[BridgeEntry<'_>]) -> Result<Vec<Dec
 {
     let mut decls = decls;
     'entries: for entry in entries {
-        if let Ok(decl) = bridge(entry) {
-            decls.push(Decl {
-                path: path_at(entry.at),
-                function: Declared::Bridge(decl),
-            })?;
-        }
+        decls.push(Decl {
+            path: entry.at.path(),
+            function: Declared::Bridge(bridge(entry)),
+        })?;
     }
     Ok(decls)
 }
@@ -112,7 +109,7 @@ fn build(alloc: Global, file: &FileEntries<'_>) -> Result<(Host, Vec<GuestDecl>)
     ensures lawful { IfOk result (λ r. IsLawfulWorld (world_of file.now)) }
     ensures refused { IfErr result (λ e. (e ≡ Memory) ⊎ ((e ≡ CellMasks) × (list_all masks_hold file.now.endpoints ≡ false))) }
 {
-    let apertures = apertures(file)?;
+    let apertures = apertures(file).unwrap();
     let decls = match decls(alloc, file)? {
         Some(decls) => decls,
         None => return Err(BoardFault::CellMasks),

@@ -1,5 +1,5 @@
 //! The declarations of functions and guests, from entries that were judged.
-ghost use Rattle.std.specs.Prelude.{◌≡◌, ◌<◌, ◌≤◌, ◌^◌, nat_abs, if◌then◌else◌, IsTrue, IsOk, IfOk, map, length};
+ghost use Rattle.std.specs.Prelude.{◌≡◌, ◌<◌, ◌≤◌, ◌^◌, nat_abs, if◌then◌else◌, IsTrue, IfOk, map, length};
 ghost use Rattle.std.specs.List.{list_all};
 ghost use Rattle.model_registers.specs.DeclarationRules.{first_broken, endpoint_rules, blocks_apart, with_ordered_regions, IsLawfulEndpoint, IsLawfulBridge};
 ghost use Rattle.model_registers.specs.Lists.{all_pairs};
@@ -12,12 +12,12 @@ ghost use Rattle.board_file.specs.Rules.{is_size, is_config_block, bar_holds, co
 
 use crate::blocks::block;
 use crate::entries::{BarEntry, BridgeEntry, ConfigEntry, EndpointEntry, GuestEntry};
-use crate::path_text::path_at;
-use arrayvec::{ArrayString, ArrayVec};
-use bars::{BarDecl, BarFault, Kind};
-use bridge_forward::Path;
-use headers::{BridgeDecl, ConfigBlock, DeclFault, EndpointDecl, EndpointValues, Region};
+use crate::path_text::PathText;
 use accesses::GuestDecl;
+use arrayvec::{ArrayString, ArrayVec};
+use bars::{BarDecl, Kind};
+use bridge_forward::Path;
+use headers::{BridgeDecl, ConfigBlock, EndpointDecl, EndpointValues, Region};
 use std::alloc::{AllocError, Global};
 
 /// The number, where it is not negative.
@@ -42,12 +42,11 @@ fn half_word(number: i64) -> u16
 }
 
 /// What a base address register opens.
-fn bar_decl(kind: Kind, size: i64) -> Result<BarDecl, BarFault>
+fn bar_decl(kind: Kind, size: i64) -> BarDecl
     requires { IsTrue (is_size (kind_of kind) size) }
-    ensures taken { IsOk result }
-    ensures value { IfOk result (λ d. d ≡ record { kind = kind_of kind; size = nat_abs size }) }
+    ensures { result ≡ record { kind = kind_of kind; size = nat_abs size } }
 {
-    BarDecl::new(kind, natural(size))
+    BarDecl::new(kind, natural(size)).unwrap()
 }
 
 /// The region that a table declares, where its patterns are lawful.
@@ -58,14 +57,11 @@ fn region(alloc: Global, bar: &BarEntry<'_>) -> Result<Option<Region>, AllocErro
     ensures { IfOk result (λ found. Gives (bar_holds bar.now) found (λ r. r ≡ said.region bar.now)) }
 {
     match block(alloc, natural(bar.block) as usize, &bar.patterns)? {
-        Some(block) => match bar_decl(bar.kind, bar.size) {
-            Ok(decl) => Ok(Some(Region {
-                index: byte(bar.index),
-                bar: decl,
-                block,
-            })),
-            Err(_) => Ok(None),
-        },
+        Some(block) => Ok(Some(Region {
+            index: byte(bar.index),
+            bar: bar_decl(bar.kind, bar.size),
+            block,
+        })),
         None => Ok(None),
     }
 }
@@ -167,13 +163,12 @@ pub(crate) fn endpoint(
 }
 
 /// The bridge that a table declares.
-pub(crate) fn bridge(entry: &BridgeEntry<'_>) -> Result<BridgeDecl, DeclFault>
+pub(crate) fn bridge(entry: &BridgeEntry<'_>) -> BridgeDecl
     requires vendor { nat_abs entry.now.vendor < 0xffff }
     requires device { nat_abs entry.now.device < 2 ^ 16 }
     requires revision { nat_abs entry.now.revision < 2 ^ 8 }
-    ensures taken { IsOk result }
-    ensures value { IfOk result (λ d. d ≡ said.bridge entry.now) }
-    ensures lawful { IfOk result IsLawfulBridge }
+    ensures value { result ≡ said.bridge entry.now }
+    ensures lawful { IsLawfulBridge result }
 {
     BridgeDecl::new(
         half_word(entry.vendor),
@@ -182,6 +177,7 @@ pub(crate) fn bridge(entry: &BridgeEntry<'_>) -> Result<BridgeDecl, DeclFault>
         entry.io,
         entry.pref,
     )
+    .unwrap()
 }
 
 /// The guest that a table declares.
@@ -199,13 +195,13 @@ pub(crate) fn guest(entry: &GuestEntry<'_>) -> GuestDecl
 }
 
 /// The paths of slots.
-fn slots(texts: &[&str]) -> ArrayVec<Path, 32>
+fn slots(texts: &[PathText<'_>]) -> ArrayVec<Path, 32>
     requires { length texts.now ≤ 32 }
-    ensures { result.items ≡ map path_at (map (λ s. s.now) texts.now) }
+    ensures { result.items ≡ map path_at texts.now }
 {
     let mut slots = ArrayVec::new();
     'texts: for text in texts {
-        slots.push(path_at(*text));
+        slots.push(text.path());
     }
     slots
 }

@@ -1,9 +1,10 @@
 //! What a board file says: texts and numbers, not yet looked at.
-ghost use Rattle.std.specs.Prelude.{map, option_map};
+ghost use Rattle.std.specs.Prelude.{option_map};
 ghost use Rattle.bars.specs.Kinds.{kind_of};
 ghost use Rattle.headers.specs.Decodes.{io_decode_of, pref_decode_of};
 ghost use Rattle.board_file.specs.Entries as said;
 
+use crate::path_text::PathText;
 use bars::Kind;
 use headers::{IoDecode, PrefDecode};
 use std::marker::Model;
@@ -66,7 +67,7 @@ impl<'a> Model for ConfigEntry<'a> {
 /// A table of `endpoint`.
 #[derive(Drop)]
 pub(crate) struct EndpointEntry<'a> {
-    pub(crate) at: &'a str,
+    pub(crate) at: PathText<'a>,
     pub(crate) vendor: i64,
     pub(crate) device: i64,
     pub(crate) revision: i64,
@@ -85,7 +86,7 @@ impl<'a> Model for EndpointEntry<'a> {
     ghost Value = { said.Endpoint };
 
     ghost view = { λ e. record {
-      at = e.at.now;
+      at = e.at;
       vendor = e.vendor;
       device = e.device;
       revision = e.revision;
@@ -104,7 +105,7 @@ impl<'a> Model for EndpointEntry<'a> {
 /// A table of `bridge`.
 #[derive(Drop)]
 pub(crate) struct BridgeEntry<'a> {
-    pub(crate) at: &'a str,
+    pub(crate) at: PathText<'a>,
     pub(crate) vendor: i64,
     pub(crate) device: i64,
     pub(crate) revision: i64,
@@ -116,7 +117,7 @@ impl<'a> Model for BridgeEntry<'a> {
     ghost Value = { said.Bridge };
 
     ghost view = { λ b. record {
-      at = b.at.now;
+      at = b.at;
       vendor = b.vendor;
       device = b.device;
       revision = b.revision;
@@ -129,13 +130,13 @@ impl<'a> Model for BridgeEntry<'a> {
 #[derive(Drop)]
 pub(crate) struct GuestEntry<'a> {
     pub(crate) name: &'a str,
-    pub(crate) slots: Vec<&'a str>,
+    pub(crate) slots: Vec<PathText<'a>>,
 }
 
 impl<'a> Model for GuestEntry<'a> {
     ghost Value = { said.Guest };
 
-    ghost view = { λ g. record { name = g.name.now; slots = map (λ s. s.now) g.slots.items } };
+    ghost view = { λ g. record { name = g.name.now; slots = g.slots.items } };
 }
 
 /// What the file says.

@@ -1,9 +1,8 @@
 //! Why a board file is refused.
 ghost use Rattle.std.specs.Prelude.{◌≡◌};
 ghost use Rattle.board_file.specs.Faults.{number_of};
-ghost use Rattle.board_file.specs.declared.fault.BoardFault.TheVariants.{Memory, Aperture};
+ghost use Rattle.board_file.specs.declared.fault.BoardFault.TheVariants.{Memory};
 
-use headers::ApertureFault;
 use std::alloc::{AllocError, AllocFailed};
 use thiserror::Error;
 
@@ -25,7 +24,7 @@ pub enum BoardFault {
     /// A path of more than 16 parts, or more functions, guests or slots than there may be.
     #[error("too many")]
     TooMany,
-    /// A place that is no path, or places that are not those of a board.
+    /// An `at` that is no path, or functions that do not stand as those of a board.
     #[error("place")]
     Place,
     /// A base address register outside 0 to 5, or used twice.
@@ -87,13 +86,5 @@ impl<T: Drop> From<AllocFailed<T>> for BoardFault {
 
     fn from(_e: AllocFailed<T>) -> BoardFault {
         BoardFault::Memory
-    }
-}
-
-impl From<ApertureFault> for BoardFault {
-    ghost from_gives = { λ _ e. e ≡ Aperture };
-
-    fn from(_e: ApertureFault) -> BoardFault {
-        BoardFault::Aperture
     }
 }

@@ -14,7 +14,7 @@ use crate::entries::{EndpointEntry, FileEntries};
 use crate::fault::BoardFault;
 use crate::guests::names_hold;
 use crate::numbers::{counts_hold, numbers_hold};
-use crate::places::{ats, places, places_hold, slots_hold};
+use crate::places::{function_paths, places_hold, slots_hold};
 use crate::regions::{registers_hold, sizes_hold};
 use crate::schema::{Check, Level, table_passes};
 use std::alloc::{AllocError, Global};
@@ -55,12 +55,11 @@ pub(crate) fn first_fault(
     if !numbers_hold(file) {
         return Ok(Some(BoardFault::Number));
     }
-    let ats = ats(alloc, file)?;
-    if !counts_hold(file, &ats) {
+    if !counts_hold(file) {
         return Ok(Some(BoardFault::TooMany));
     }
-    let places = places(alloc, file)?;
-    if !places_hold(file, &ats, &places) {
+    let functions = function_paths(alloc, file)?;
+    if !places_hold(file, &functions) {
         return Ok(Some(BoardFault::Place));
     }
     if !all_registers_hold(&file.endpoints) {
@@ -72,7 +71,7 @@ pub(crate) fn first_fault(
     if !names_hold(alloc, file)? {
         return Ok(Some(BoardFault::GuestName));
     }
-    if !slots_hold(alloc, file, &places)? {
+    if !slots_hold(alloc, file, &functions)? {
         return Ok(Some(BoardFault::Slot));
     }
     if !apertures_hold(file) {

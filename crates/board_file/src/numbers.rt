@@ -1,12 +1,13 @@
 //! The ranges of integers, and how many things a file may have.
-ghost use Rattle.std.specs.Prelude.{◌≡◌, ◌==◌, ◌+◌, ◌&&◌, pos, map, nat_le, length, count_by};
+ghost use Rattle.std.specs.Prelude.{◌≡◌, ◌==◌, ◌+◌, ◌&&◌, pos, nat_le, length};
 ghost use Rattle.std.specs.List.{list_all};
-ghost use Rattle.board_file.specs.Rules.{is_within, has_only_bits, is_identity, is_described, has_lawful_needs, has_lawful_values, is_config_block, has_lawful_blocks, has_lawful_numbers, is_lawful_bridge, numbers_hold, counts_hold, ats as said_ats};
+ghost use Rattle.board_file.specs.Rules.{is_between, has_only_bits, is_identity, is_described, has_lawful_needs, has_lawful_values, is_config_block, has_lawful_blocks, has_lawful_numbers, is_lawful_bridge, numbers_hold, has_few_slashes, have_few_slashes, counts_hold};
 
 use crate::entries::{BarEntry, BridgeEntry, ConfigEntry, EndpointEntry, FileEntries, GuestEntry};
+use crate::path_text::PathText;
 
-fn is_within(first: u16, last: u32, number: i64) -> bool
-    ensures { result ≡ is_within first last number }
+fn is_between(first: u16, last: u32, number: i64) -> bool
+    ensures { result ≡ is_between first last number }
 {
     i64::from(first) <= number && number <= i64::from(last)
 }
@@ -23,23 +24,23 @@ fn has_only_bits(mask: u16, number: i64) -> bool
 fn is_identity(vendor: i64, device: i64, revision: i64) -> bool
     ensures { result ≡ is_identity vendor device revision }
 {
-    is_within(0, 0xfffe, vendor) && is_within(0, 0xffff, device) && is_within(0, 0xff, revision)
+    is_between(0, 0xfffe, vendor) && is_between(0, 0xffff, device) && is_between(0, 0xff, revision)
 }
 
 fn is_described(endpoint: &EndpointEntry<'_>) -> bool
     ensures { result ≡ is_described endpoint.now }
 {
-    is_within(0, 0xff_ffff, endpoint.class)
-        && is_within(0, 0xffff, endpoint.subvendor)
-        && is_within(0, 0xffff, endpoint.subsystem)
+    is_between(0, 0xff_ffff, endpoint.class)
+        && is_between(0, 0xffff, endpoint.subvendor)
+        && is_between(0, 0xffff, endpoint.subsystem)
 }
 
 fn has_lawful_needs(endpoint: &EndpointEntry<'_>) -> bool
     ensures { result ≡ has_lawful_needs endpoint.now }
 {
-    is_within(0, 4, endpoint.pin)
-        && is_within(0, 0xff, endpoint.min_gnt)
-        && is_within(0, 0xff, endpoint.max_lat)
+    is_between(0, 4, endpoint.pin)
+        && is_between(0, 0xff, endpoint.min_gnt)
+        && is_between(0, 0xff, endpoint.max_lat)
 }
 
 fn has_lawful_values(endpoint: &EndpointEntry<'_>) -> bool
@@ -51,15 +52,15 @@ fn has_lawful_values(endpoint: &EndpointEntry<'_>) -> bool
 fn is_config_block(config: &ConfigEntry<'_>) -> bool
     ensures { result ≡ is_config_block config.now }
 {
-    is_within(0x40, 0xff, config.off)
-        && is_within(1, 192, config.block)
+    is_between(0x40, 0xff, config.off)
+        && is_between(1, 192, config.block)
         && config.off + config.block <= 256
 }
 
 fn have_lawful_blocks(bars: &[BarEntry<'_>]) -> bool
-    ensures { result ≡ list_all (λ b. is_within 0 4096 b.block) bars.now }
+    ensures { result ≡ list_all (λ b. is_between 0 4096 b.block) bars.now }
 {
-    bars.iter().all(|bar| is_within(0, 4096, bar.block))
+    bars.iter().all(|bar| is_between(0, 4096, bar.block))
 }
 
 fn are_config_blocks(configs: &[ConfigEntry<'_>]) -> bool
@@ -109,21 +110,31 @@ pub(crate) fn numbers_hold(file: &FileEntries<'_>) -> bool
     endpoint_numbers_hold(&file.endpoints) && bridge_numbers_hold(&file.bridges)
 }
 
-fn has_few_slashes(at: &str) -> bool
-    ensures { result ≡ nat_le (count_by (λ b. b == 47) at.now) 15 }
+fn has_few_slashes(at: &PathText<'_>) -> bool
+    ensures { result ≡ has_few_slashes at.now }
 {
-    at.as_bytes().iter().filter(|byte| **byte == b'/').count() <= 15
+    let text = at.text().as_bytes();
+    text.iter().filter(|byte| **byte == b'/').count() <= 15
 }
 
-fn have_few_slashes(ats: &[&str]) -> bool
-    ensures { result ≡ list_all (λ at. nat_le (count_by (λ b. b == 47) at) 15) (map (λ s. s.now) ats.now) }
+fn endpoints_have_few_slashes(endpoints: &[EndpointEntry<'_>]) -> bool
+    ensures { result ≡ list_all (λ e. has_few_slashes e.at) endpoints.now }
 {
-    'ats: for at in ats {
-        if !has_few_slashes(*at) {
-            return false;
-        }
-    }
-    true
+    endpoints
+        .iter()
+        .all(|endpoint| has_few_slashes(&endpoint.at))
+}
+
+fn bridges_have_few_slashes(bridges: &[BridgeEntry<'_>]) -> bool
+    ensures { result ≡ list_all (λ b. has_few_slashes b.at) bridges.now }
+{
+    bridges.iter().all(|bridge| has_few_slashes(&bridge.at))
+}
+
+fn have_few_slashes(file: &FileEntries<'_>) -> bool
+    ensures { result ≡ have_few_slashes file.now }
+{
+    endpoints_have_few_slashes(&file.endpoints) && bridges_have_few_slashes(&file.bridges)
 }
 
 fn has_few_slots(guest: &GuestEntry<'_>) -> bool
@@ -146,11 +157,9 @@ fn has_few_tables(file: &FileEntries<'_>) -> bool
     endpoints <= 1024 && bridges <= 1024 && endpoints + bridges <= 1024 && file.guests.len() <= 32
 }
 
-/// At most 15 slashes in a place, given as `ats`, 1024 functions, 32 guests, and 32 slots of a
-/// guest.
-pub(crate) fn counts_hold(file: &FileEntries<'_>, ats: &[&str]) -> bool
-    requires { map (λ s. s.now) ats.now ≡ said_ats file.now }
+/// At most 15 slashes in the path of a function, 1024 functions, 32 guests, and 32 slots of a guest.
+pub(crate) fn counts_hold(file: &FileEntries<'_>) -> bool
     ensures { result ≡ counts_hold file.now }
 {
-    have_few_slashes(ats) && has_few_tables(file) && have_few_slots(&file.guests)
+    have_few_slashes(file) && has_few_tables(file) && have_few_slots(&file.guests)
 }

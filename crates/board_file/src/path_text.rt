@@ -3,6 +3,7 @@ ghost use Rattle.std.specs.Prelude.{◌≡◌, ◌+◌, ◌≤◌, ◌++◌, len
 ghost use Rattle.board_file.specs.PathTexts.{short_part, long_part, part_at_front, parts_after, path_of, is_path_text, path_at};
 
 use bridge_forward::{Part, Path};
+use std::marker::Model;
 
 /// A part whose device has one digit, at the front of a text, and what comes after it.
 fn short_part(text: &[u8]) -> Option<(Part, &[u8])>
@@ -86,18 +87,56 @@ fn path_of(text: &[u8]) -> Option<Path>
     }
 }
 
-pub(crate) fn is_path_text(text: &str) -> bool
-    ensures { result ≡ is_path_text text.now }
-{
-    path_of(text.as_bytes()).is_some()
+/// A text that stands for a path, and the path that it is, if it is one.
+#[derive(Drop)]
+pub(crate) struct PathText<'a> {
+    text: &'a str,
+    path: Option<Path>,
 }
 
-/// The path that a text is, or 0.0.
-pub(crate) fn path_at(text: &str) -> Path
-    ensures { result ≡ path_at text.now }
-{
-    match path_of(text.as_bytes()) {
-        Some(path) => path,
-        None => Path::on_root(Part::new(0, 0)),
+impl<'a> Model for PathText<'a> {
+    ghost use Rattle.std.specs.Prelude.{◌≡◌, ℕ, List};
+    ghost use Rattle.board_file.specs.PathTexts.{path_of};
+
+    ghost Value = { List ℕ };
+
+    ghost view = { λ p. p.text.now };
+
+    ghost invariant = { λ p. p.path ≡ path_of p.text.now };
+}
+
+impl<'a> PathText<'a> {
+    /// The text, parsed.
+    pub(crate) fn new(text: &'a str) -> PathText<'a>
+        ensures { result ≡ text.now }
+    {
+        PathText {
+            text,
+            path: path_of(text.as_bytes()),
+        }
+    }
+
+    /// The text itself.
+    pub(crate) fn text(&self) -> &'a str
+        ensures { result.now ≡ self.now }
+    {
+        self.text
+    }
+
+    /// Whether the text is a path.
+    pub(crate) fn is_path(&self) -> bool
+        ensures { result ≡ is_path_text self.now }
+    {
+        self.path.is_some()
+    }
+
+    /// The path that the text is, or 0.0.
+    pub(crate) fn path(&self) -> Path
+        ensures { result ≡ path_at self.now }
+    {
+        match &self.path {
+            Some(path) => path.copied(),
+            None => Path::on_root(Part::new(0, 0)),
+        }
     }
 }

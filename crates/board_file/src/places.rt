@@ -1,27 +1,27 @@
-//! Where functions stand.
-ghost use Rattle.std.specs.Prelude.{◌≡◌, IfOk, map, not};
-ghost use Rattle.std.specs.List.{list_all, list_any};
+//! The paths of functions and of slots.
+ghost use Rattle.std.specs.Prelude.{◌≡◌, ◌++◌, IfOk, OnOk, map, not};
+ghost use Rattle.std.specs.List.{list_all, list_any, flat_map};
 ghost use Rattle.model_registers.specs.Lists.{Each, all_pairs};
 ghost use Rattle.model_board.specs.Paths.{path_eq, IsPath};
 ghost use Rattle.model_board.specs.Places.{has_path, has_bridge};
 ghost use Rattle.board_file.specs.PathTexts.{is_path_text, path_at};
-ghost use Rattle.board_file.specs.Functions.{places as said_places};
-ghost use Rattle.board_file.specs.Rules.{are_places, places_hold, is_endpoint, names_endpoint, slots_hold, ats as said_ats, slots};
+ghost use Rattle.board_file.specs.Functions.{endpoint_standing, bridge_standing, standings};
+ghost use Rattle.board_file.specs.Rules.{have_paths, are_places, places_hold, is_endpoint, names_endpoint, slots_hold};
 
-use crate::entries::FileEntries;
-use crate::path_text::{is_path_text, path_at};
+use crate::entries::{BridgeEntry, EndpointEntry, FileEntries, GuestEntry};
+use crate::path_text::PathText;
 use bridge_forward::{Path, Stands, are_lawful};
 use std::alloc::{AllocError, Global};
 use std::marker::Model;
 
-/// Where a function stands.
+/// The path of a function, and whether the function is a bridge.
 #[derive(Drop)]
-pub(crate) struct Place {
+pub(crate) struct FunctionPath {
     path: Path,
     is_bridge: bool,
 }
 
-impl Model for Place {
+impl Model for FunctionPath {
     ghost use Rattle.model_board.specs.Places.{Standing};
 
     ghost Value = { Standing };
@@ -29,7 +29,7 @@ impl Model for Place {
     ghost view = { λ p. record { path = p.path; is_bridge = p.is_bridge } };
 }
 
-impl Stands for Place {
+impl Stands for FunctionPath {
     ghost standing = { λ p. p };
 
     fn path(&self) -> &Path {
@@ -41,124 +41,142 @@ impl Stands for Place {
     }
 }
 
-/// The texts of all places, endpoints first.
-pub(crate) fn ats<'a>(alloc: Global, file: &FileEntries<'a>) -> Result<Vec<&'a str>, AllocError>
-    ensures { IfOk result (λ v. map (λ s. s.now) v.items ≡ said_ats file.now) }
+/// Appends the paths of endpoints.
+fn push_endpoints(
+    paths: &mut Vec<FunctionPath>,
+    endpoints: &[EndpointEntry<'_>],
+) -> Result<(), AllocError>
+    ensures { OnOk result (paths.new.items ≡ paths.old.items ++ map endpoint_standing endpoints.now) }
 {
-    let mut all = Vec::new(alloc);
-    'endpoints: for endpoint in &file.endpoints {
-        all.push(endpoint.at)?;
-    }
-    'bridges: for bridge in &file.bridges {
-        all.push(bridge.at)?;
-    }
-    Ok(all)
-}
-
-/// All places, endpoints first. A text that is no path counts as 0.0.
-pub(crate) fn places(alloc: Global, file: &FileEntries<'_>) -> Result<Vec<Place>, AllocError>
-    ensures { IfOk result (λ v. v.items ≡ said_places file.now) }
-{
-    let mut all = Vec::new(alloc);
-    'endpoints: for endpoint in &file.endpoints {
-        all.push(Place {
-            path: path_at(endpoint.at),
+    'endpoints: for endpoint in endpoints {
+        paths.push(FunctionPath {
+            path: endpoint.at.path(),
             is_bridge: false,
         })?;
     }
-    'bridges: for bridge in &file.bridges {
-        all.push(Place {
-            path: path_at(bridge.at),
+    Ok(())
+}
+
+/// Appends the paths of bridges.
+fn push_bridges(
+    paths: &mut Vec<FunctionPath>,
+    bridges: &[BridgeEntry<'_>],
+) -> Result<(), AllocError>
+    ensures { OnOk result (paths.new.items ≡ paths.old.items ++ map bridge_standing bridges.now) }
+{
+    'bridges: for bridge in bridges {
+        paths.push(FunctionPath {
+            path: bridge.at.path(),
             is_bridge: true,
         })?;
     }
-    Ok(all)
+    Ok(())
 }
 
-fn are_path_texts(texts: &[&str]) -> bool
-    ensures { result ≡ list_all is_path_text (map (λ s. s.now) texts.now) }
+/// The paths of all functions, endpoints first. A text that is no path counts as 0.0.
+pub(crate) fn function_paths(
+    alloc: Global,
+    file: &FileEntries<'_>,
+) -> Result<Vec<FunctionPath>, AllocError>
+    ensures { IfOk result (λ v. v.items ≡ standings file.now) }
 {
-    'texts: for text in texts {
-        if !is_path_text(*text) {
-            return false;
-        }
-    }
-    true
+    let mut paths = Vec::new(alloc);
+    push_endpoints(&mut paths, &file.endpoints)?;
+    push_bridges(&mut paths, &file.bridges)?;
+    Ok(paths)
 }
 
-/// Whether the functions stand at the places of a board.
-fn are_places(places: &[Place]) -> bool
-    requires { Each (λ s. IsPath s.path) places.now }
-    ensures { result ≡ are_places places.now }
+fn endpoints_have_paths(endpoints: &[EndpointEntry<'_>]) -> bool
+    ensures { result ≡ list_all (λ e. is_path_text e.at) endpoints.now }
 {
-    are_lawful(places)
+    endpoints.iter().all(|endpoint| endpoint.at.is_path())
 }
 
-/// Each place is a path text, and the functions stand at the places of a board.
-pub(crate) fn places_hold(file: &FileEntries<'_>, ats: &[&str], places: &[Place]) -> bool
-    requires texts { map (λ s. s.now) ats.now ≡ said_ats file.now }
-    requires places { places.now ≡ said_places file.now }
+fn bridges_have_paths(bridges: &[BridgeEntry<'_>]) -> bool
+    ensures { result ≡ list_all (λ b. is_path_text b.at) bridges.now }
+{
+    bridges.iter().all(|bridge| bridge.at.is_path())
+}
+
+fn have_paths(file: &FileEntries<'_>) -> bool
+    ensures { result ≡ have_paths file.now }
+{
+    endpoints_have_paths(&file.endpoints) && bridges_have_paths(&file.bridges)
+}
+
+/// Whether the functions stand as those of a board.
+fn are_places(functions: &[FunctionPath]) -> bool
+    requires { Each (λ s. IsPath s.path) functions.now }
+    ensures { result ≡ are_places functions.now }
+{
+    are_lawful(functions)
+}
+
+/// Each `at` is the text of a path, and the functions stand as those of a board.
+pub(crate) fn places_hold(file: &FileEntries<'_>, functions: &[FunctionPath]) -> bool
+    requires { functions.now ≡ standings file.now }
     ensures { result ≡ places_hold file.now }
 {
-    are_path_texts(ats) && are_places(places)
+    have_paths(file) && are_places(functions)
 }
 
-fn has_path(places: &[Place], path: &Path) -> bool
-    ensures { result ≡ has_path places.now path.now }
+fn has_path(functions: &[FunctionPath], path: &Path) -> bool
+    ensures { result ≡ has_path functions.now path.now }
 {
-    places.iter().any(|place| place.path.is_same(path))
+    functions.iter().any(|function| function.path.is_same(path))
 }
 
-fn has_bridge(places: &[Place], path: &Path) -> bool
-    ensures { result ≡ has_bridge places.now path.now }
+fn has_bridge(functions: &[FunctionPath], path: &Path) -> bool
+    ensures { result ≡ has_bridge functions.now path.now }
 {
-    places
-        .iter()
-        .any(|place| place.is_bridge && place.path.is_same(path))
+    functions.iter().any(|function| function.is_bridge && function.path.is_same(path))
 }
 
 /// Whether an endpoint stands at the path.
-fn is_endpoint(places: &[Place], path: &Path) -> bool
-    ensures { result ≡ is_endpoint places.now path.now }
+fn is_endpoint(functions: &[FunctionPath], path: &Path) -> bool
+    ensures { result ≡ is_endpoint functions.now path.now }
 {
-    has_path(places, path) && !has_bridge(places, path)
+    has_path(functions, path) && !has_bridge(functions, path)
 }
 
 /// Whether the text is the path of an endpoint.
-fn names_endpoint(places: &[Place], text: &str) -> bool
-    ensures { result ≡ names_endpoint places.now text.now }
+fn names_endpoint(functions: &[FunctionPath], text: &PathText<'_>) -> bool
+    ensures { result ≡ names_endpoint functions.now text.now }
 {
-    is_path_text(text) && is_endpoint(places, &path_at(text))
+    text.is_path() && is_endpoint(functions, &text.path())
 }
 
-fn name_endpoints(places: &[Place], texts: &[&str]) -> bool
-    ensures { result ≡ list_all (names_endpoint places.now) (map (λ s. s.now) texts.now) }
+fn name_endpoints(functions: &[FunctionPath], texts: &[PathText<'_>]) -> bool
+    ensures { result ≡ list_all (names_endpoint functions.now) texts.now }
+{
+    texts.iter().all(|text| names_endpoint(functions, text))
+}
+
+fn slots_name_endpoints(functions: &[FunctionPath], guests: &[GuestEntry<'_>]) -> bool
+    ensures { result ≡ list_all (λ g. list_all (names_endpoint functions.now) g.slots) guests.now }
+{
+    guests
+        .iter()
+        .all(|guest| name_endpoints(functions, &guest.slots))
+}
+
+/// Appends the paths of texts.
+fn push_paths(paths: &mut Vec<Path>, texts: &[PathText<'_>]) -> Result<(), AllocError>
+    ensures { OnOk result (paths.new.items ≡ paths.old.items ++ map path_at texts.now) }
 {
     'texts: for text in texts {
-        if !names_endpoint(places, *text) {
-            return false;
-        }
+        paths.push(text.path())?;
     }
-    true
+    Ok(())
 }
 
-/// The texts of all slots, guest after guest.
-fn slots<'a>(alloc: Global, file: &FileEntries<'a>) -> Result<Vec<&'a str>, AllocError>
-    ensures { IfOk result (λ v. map (λ s. s.now) v.items ≡ slots file.now) }
-{
-    let mut all = Vec::new(alloc);
-    'guests: for guest in &file.guests {
-        all.extend_from_slice(&guest.slots)?;
-    }
-    Ok(all)
-}
-
-fn paths(alloc: Global, texts: &[&str]) -> Result<Vec<Path>, AllocError>
-    ensures { IfOk result (λ v. v.items ≡ map path_at (map (λ s. s.now) texts.now)) }
+/// The paths of all slots, guest after guest.
+fn slot_paths(alloc: Global, guests: &[GuestEntry<'_>]) -> Result<Vec<Path>, AllocError>
+    ensures { IfOk result (λ v. v.items ≡ map path_at (flat_map (λ g. g.slots) guests.now)) }
 {
     let mut paths = Vec::new(alloc);
-    'texts: for text in texts {
-        paths.push(path_at(*text))?;
+    'guests: for guest in guests {
+        push_paths(&mut paths, &guest.slots)?;
     }
     Ok(paths)
 }
@@ -186,12 +204,11 @@ fn are_apart(paths: &[Path]) -> bool
 pub(crate) fn slots_hold(
     alloc: Global,
     file: &FileEntries<'_>,
-    places: &[Place],
+    functions: &[FunctionPath],
 ) -> Result<bool, AllocError>
-    requires { places.now ≡ said_places file.now }
+    requires { functions.now ≡ standings file.now }
     ensures { IfOk result (λ b. b ≡ slots_hold file.now) }
 {
-    let texts = slots(alloc, file)?;
-    let paths = paths(alloc, &texts)?;
-    Ok(name_endpoints(places, &texts) && are_apart(&paths))
+    let paths = slot_paths(alloc, &file.guests)?;
+    Ok(slots_name_endpoints(functions, &file.guests) && are_apart(&paths))
 }

@@ -10,6 +10,7 @@ use crate::entries::{
     BarEntry, Bounds, BridgeEntry, ConfigEntry, EndpointEntry, FileEntries, GuestEntry,
     PatternTexts,
 };
+use crate::path_text::PathText;
 use crate::texts::{io_decode, pref_decode, region_kind};
 use bars::Kind;
 use headers::{IoDecode, PrefDecode};
@@ -83,14 +84,14 @@ fn tables<'a>(alloc: Global, table: &'a Table, key: &str) -> Result<Vec<&'a Tabl
     }
 }
 
-/// The texts of an array.
-fn texts_of(alloc: Global, items: &Array) -> Result<Vec<&str>, AllocError>
-    ensures { IfOk result (λ v. map (λ s. s.now) v.items ≡ filter_map as_str (list_of (array_view items.now))) }
+/// The texts of an array, which stand for paths.
+fn texts_of(alloc: Global, items: &Array) -> Result<Vec<PathText<'_>>, AllocError>
+    ensures { IfOk result (λ v. v.items ≡ filter_map as_str (list_of (array_view items.now))) }
 {
     let mut texts = Vec::new(alloc);
     'items: for item in items {
         if let Some(text) = item.as_str() {
-            texts.push(text)?;
+            texts.push(PathText::new(text))?;
         }
     }
     Ok(texts)
@@ -154,7 +155,7 @@ fn endpoint(alloc: Global, table: &Table) -> Result<EndpointEntry<'_>, AllocErro
     let bar_tables = tables(alloc, table, "bar")?;
     let config_tables = tables(alloc, table, "config")?;
     Ok(EndpointEntry {
-        at: text(table, "at"),
+        at: PathText::new(text(table, "at")),
         vendor: number(table, "vendor"),
         device: number(table, "device"),
         revision: number(table, "revision"),
@@ -184,7 +185,7 @@ fn bridge(table: &Table) -> BridgeEntry<'_>
     ensures { result ≡ bridge (table_view table.now) }
 {
     BridgeEntry {
-        at: text(table, "at"),
+        at: PathText::new(text(table, "at")),
         vendor: number(table, "vendor"),
         device: number(table, "device"),
         revision: number(table, "revision"),
@@ -203,8 +204,8 @@ fn bridges<'a>(alloc: Global, tables: &[&'a Table]) -> Result<Vec<BridgeEntry<'a
     Ok(entries)
 }
 
-fn slots(alloc: Global, table: &Table) -> Result<Vec<&str>, AllocError>
-    ensures { IfOk result (λ v. map (λ s. s.now) v.items ≡ filter_map as_str (values (codes "slots") (table_view table.now))) }
+fn slots(alloc: Global, table: &Table) -> Result<Vec<PathText<'_>>, AllocError>
+    ensures { IfOk result (λ v. v.items ≡ filter_map as_str (values (codes "slots") (table_view table.now))) }
 {
     match array_at(table, "slots") {
         Some(items) => texts_of(alloc, items),

@@ -5,19 +5,19 @@ ghost use Rattle.model_registers.specs.Declarations.{registers_of};
 ghost use Rattle.model_registers.specs.DeclarationRules.{uses, has_own_registers};
 ghost use Rattle.bars.specs.Kinds.{kind_of};
 ghost use Rattle.board_file.specs.Functions.{region};
-ghost use Rattle.board_file.specs.Rules.{is_within, registers_hold, is_size, sizes_hold};
+ghost use Rattle.board_file.specs.Rules.{is_between, registers_hold, is_size, sizes_hold};
 
 use crate::entries::{BarEntry, EndpointEntry};
 use bars::{BarDecl, Kind};
 
 fn is_index(bar: &BarEntry<'_>) -> bool
-    ensures { result ≡ is_within 0 5 bar.now.index }
+    ensures { result ≡ is_between 0 5 bar.now.index }
 {
     0 <= bar.index && bar.index <= 5
 }
 
 fn are_indices(bars: &[BarEntry<'_>]) -> bool
-    ensures { result ≡ list_all (λ b. is_within 0 5 b.index) bars.now }
+    ensures { result ≡ list_all (λ b. is_between 0 5 b.index) bars.now }
 {
     bars.iter().all(|bar| is_index(bar))
 }

@@ -1,6 +1,6 @@
 //! The main board, and the same board with one change at a time.
-use board_file::{BoardFault, read_board};
 use accesses::GuestDecl;
+use board_file::{BoardFault, read_board};
 use std::process::Abort;
 use std::test::Fail;
 
@@ -62,11 +62,7 @@ const CHANGES: [Change; 20] = [
     ("[host]", "[host", BoardFault::NotToml),
     ("vendor = 0x1234\n", "", BoardFault::Key),
     ("pin = 1", "bars = []", BoardFault::UnknownKey),
-    (
-        "vendor = 0x1234\n",
-        "vendor = 0xffff\n",
-        BoardFault::Number,
-    ),
+    ("vendor = 0x1234\n", "vendor = 0xffff\n", BoardFault::Number),
     ("0x8000", "0x0010", BoardFault::Number),
     (
         "at = \"1.0\"",

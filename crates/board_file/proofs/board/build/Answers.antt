@@ -10,11 +10,10 @@ use Rattle.board_file.specs.Rules.{is_natural, are_natural}
 use Rattle.board_file.proofs.LawfulWorld.{is_board, short_guests, lawful_world, board_at_reset, is_at_reset, lawful_rows}
 use Rattle.board_file.proofs.board.build.Goals as goal
 
-pub returns-in_err-apertures-clause-refused : goal.returns-in_err-apertures-clause-refused
-returns-in_err-apertures-clause-refused c =
+pub unwrap-apertures-requires : goal.unwrap-apertures-requires
+unwrap-apertures-requires c =
     let f = c.args.file.now in
-    let lawful = (and_parts (is_natural f.io && is_natural f.mem && are_natural f.pref) (are_lawful (apertures f)) c.requires.apertures).1 in
-    absurd (false≢true (c.in_err-apertures.ensures.taken ∙ lawful))
+    c.apertures.ensures.taken ∙ (and_parts (is_natural f.io && is_natural f.mem && are_natural f.pref) (are_lawful (apertures f)) c.requires.apertures).1
 
 pub host-requires : goal.host-requires
 host-requires c =
@@ -32,7 +31,8 @@ returns-clause-world c =
     let made = rw c.in-Some.is at c.in_ok-decls.ensures in
     let entries : c.deref.result.now ≡ f.guests = c.deref.ensures.value ∙ ap (λ (f : File). f.guests) c.file.view_is in
     let guests = c.in_ok-guests.ensures ∙ ap (map guest) entries in
-    rw (c.in_ok-host.ensures, made.1.0, board_at_reset (board_of (rows f)), c.in_ok-apertures.ensures.value, guests) refl
+    let opened = rw c.unwrap-apertures.ensures at c.apertures.ensures.value in
+    rw (c.in_ok-host.ensures, made.1.0, board_at_reset (board_of (rows f)), opened, guests) refl
 
 pub returns-clause-reset : goal.returns-clause-reset
 returns-clause-reset c =

@@ -3,4 +3,4 @@ use Rattle.board_file.specs.PathTexts.{path_at}
 use Rattle.board_file.proofs.building.slots.Given as goal
 
 abbrev pub invariant-texts : goal.invariant-texts
-invariant-texts l = l.slots.items ++ map path_at (map (λ s. s.now) (drop l.text-index l.texts)) ≡ map path_at (map (λ s. s.now) l.texts)
+invariant-texts l = l.slots.items ++ map path_at (drop l.text-index l.texts) ≡ map path_at l.texts

@@ -6,5 +6,5 @@ pub returns : goal.returns
 returns c =
     let is = c.are_lawful.ensures in
     same_test _ _
-    (λ h. test_of_places c.args.places.now (rw map-id at (is.0 h)))
-    (λ h. is.1 (rw map-id (lawful_places c.args.places.now c.requires h)))
+    (λ h. test_of_places c.args.functions.now (rw map-id at (is.0 h)))
+    (λ h. is.1 (rw map-id (lawful_places c.args.functions.now c.requires h)))

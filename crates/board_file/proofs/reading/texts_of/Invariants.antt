@@ -1,4 +1,4 @@
-use Rattle.std.proofs.Common.{◌≡◌, ◌++◌, map, drop}
+use Rattle.std.proofs.Common.{◌≡◌, ◌++◌, drop}
 use Rattle.std.specs.List.{filter_map}
 use Rattle.toml.specs.Data.{as_str}
 use Rattle.toml.specs.View.{items_view}
@@ -7,5 +7,5 @@ use Rattle.board_file.proofs.reading.texts_of.Given as goal
 
 abbrev pub invariant-items : goal.invariant-items
 invariant-items l =
-    map (λ s. s.now) l.texts.items ++ filter_map as_str (list_of (items_view (drop l.item-index l.item-items)))
+    l.texts.items ++ filter_map as_str (list_of (items_view (drop l.item-index l.item-items)))
     ≡ filter_map as_str (list_of (items_view l.item-items))
