@@ -20,17 +20,17 @@ use Rattle.model_guests.specs.Text.{Text, text_of_lines}
 use Rattle.model_guests.specs.World.{Guest, World}
 use Rattle.model_guests.specs.Replies.{hex_digits}
 use Rattle.model_guests.specs.Report.{pin_lines, region_line, window_line, window_lines, function_lines, slot_lines, report}
-use Rattle.report.specs.Found.{ended, base_line, known_pin_lines, span_lines, head_text, range_text, found_text, rows_text, guests_text, found_report, count_line}
+use Rattle.report.specs.Found.{ended, base_line, known_pin_lines, named_window_lines, head_text, range_text, found_text, rows_text, guests_text, found_report, count_line}
 use Rattle.report.specs.OfWorld.{IsOf}
 use Rattle.report.proofs.LineTexts.{text_of_lines-append}
 
 -- ---- windows
 
 -- a window has a line where it has items
-span_is_window : (name : Text) (pool : Pool) (closed first : ℕ) (is : List Item) → 0 < closed * unit_of pool → Each (IsPlaceable (unit_of pool)) is
-    → span_lines name (window_of (unit_of pool) closed first is) ≡ window_line name pool first is
-span_is_window name pool closed first [] some h = rw (lt-ltb 0 (closed * unit_of pool) some) refl
-span_is_window name pool closed first (i ∷ is) some h =
+window_is_named : (name : Text) (pool : Pool) (closed first : ℕ) (is : List Item) → 0 < closed * unit_of pool → Each (IsPlaceable (unit_of pool)) is
+    → named_window_lines name (window_of (unit_of pool) closed first is) ≡ window_line name pool first is
+window_is_named name pool closed first [] some h = rw (lt-ltb 0 (closed * unit_of pool) some) refl
+window_is_named name pool closed first (i ∷ is) some h =
     let end : 0 < end_from 0 (in_order (i ∷ is)) = some_end (unit_of pool) i (i ∷ is) h (inl refl) in
     let whole : end_from 0 (in_order (i ∷ is)) ≤ need (unit_of pool) (i ∷ is) = end_below_need (unit_of pool) (i ∷ is) (unit_positive pool) in
     let not_closed : first ≤ first + need (unit_of pool) (i ∷ is) - 1 = omega arith in
@@ -65,13 +65,13 @@ module _ (b : Board) (a : Apertures) (lawful : HasLawfulDecls b) where
       ∙ ap (λ t. (head ++ codes "\n") ++ t) (sym (text_of_lines-append regions (pin_lines p d.pin)))
   function_is p (bridge d) h =
       let head = head_text (bus_of b p) p (codes " bridge ") (hex_digits 4 d.vendor ++ codes ":" ++ hex_digits 4 d.device) in
-      let window_is : (name : Text) (pool : Pool) (closed : ℕ) → 0 < closed * unit_of pool → span_lines name (set_up_window b a pool closed p) ≡ window_lines b a p name pool =
-      λ name pool closed some. span_is_window name pool closed (bus_first b a pool p) (items_on b a pool p) some (items_placeable b a pool lawful p) in
+      let window_is : (name : Text) (pool : Pool) (closed : ℕ) → 0 < closed * unit_of pool → named_window_lines name (set_up_window b a pool closed p) ≡ window_lines b a p name pool =
+      λ name pool closed some. window_is_named name pool closed (bus_first b a pool p) (items_on b a pool p) some (items_placeable b a pool lawful p) in
       let range = range_text (bus_of b p) (secondary b p) (subordinate b p) in
       let io = window_lines b a p (codes "io") io_pool in
       let mem = window_lines b a p (codes "mem") mem_pool in
       let pref = window_lines b a p (codes "pref") pref_pool in
-      ap₂ (λ ios mems. head ++ (range ++ (codes "\n" ++ text_of_lines (ios ++ mems ++ span_lines (codes "pref") (set_up_window b a pref_pool 0xfff p))))) (window_is (codes "io") io_pool 0xf (lit< tt)) (window_is (codes "mem") mem_pool 0xfff (lit< tt))
+      ap₂ (λ ios mems. head ++ (range ++ (codes "\n" ++ text_of_lines (ios ++ mems ++ named_window_lines (codes "pref") (set_up_window b a pref_pool 0xfff p))))) (window_is (codes "io") io_pool 0xf (lit< tt)) (window_is (codes "mem") mem_pool 0xfff (lit< tt))
       ∙ ap (λ prefs. head ++ (range ++ (codes "\n" ++ text_of_lines (io ++ mem ++ prefs)))) (window_is (codes "pref") pref_pool 0xfff (lit< tt))
       ∙ after_buses head (codes " buses ") (hex_digits 2 (bus_of b p)) (codes " ") (hex_digits 2 (secondary b p)) (codes " ") (hex_digits 2 (subordinate b p)) (codes "\n") (text_of_lines (io ++ mem ++ pref))
 

@@ -4,9 +4,9 @@ ghost use Rattle.model_guests.specs.Text.{text_of_lines};
 ghost use Rattle.model_guests.specs.Report.{pin_text, slot_lines};
 ghost use Rattle.bars.specs.Slots.{placed, bases_from};
 ghost use Rattle.window_packing.specs.Plans.{writes_of};
-ghost use Rattle.report.specs.Found.{ended, base_line, known_pin_lines, span_lines, base_lines, window_lines, range_text, pin_line, row_head, endpoint_text, windows_text, found_text, slot_line};
+ghost use Rattle.report.specs.Found.{ended, base_line, known_pin_lines, named_window_lines, base_lines, window_lines, range_text, pin_line, row_head, endpoint_text, windows_text, found_text, slot_line};
 
-use crate::texts::{kind_text, push_identity, push_path, push_place};
+use crate::texts::{kind_text, push_identity, push_path, push_numbers_and_path};
 use bars::Region;
 use bridge_forward::Path;
 use bus_scan::{Found, FunctionRow};
@@ -75,11 +75,11 @@ fn push_known_pin(text: &mut String, path: &Path, pin: u8) -> Result<(), AllocEr
 }
 
 /// Appends the line of a window, if it has items.
-fn push_window(text: &mut String, name: &str, span: &Window) -> Result<(), AllocError>
-    ensures { OnOk result (string_bytes text.new ≡ string_bytes text.old ++ text_of_lines (span_lines name.now span.now)) }
+fn push_window(text: &mut String, name: &str, window: &Window) -> Result<(), AllocError>
+    ensures { OnOk result (string_bytes text.new ≡ string_bytes text.old ++ text_of_lines (named_window_lines name.now window.now)) }
 {
-    let first = span.first;
-    let last = span.last;
+    let first = window.first;
+    let last = window.last;
     if first > last {
         return Ok(());
     }
@@ -129,7 +129,7 @@ fn push_buses(
 fn push_head(text: &mut String, row: &FunctionRow, kind: &str) -> Result<(), AllocError>
     ensures { OnOk result (string_bytes text.new ≡ string_bytes text.old ++ row_head row.now kind.now) }
 {
-    push_place(text, row.bus, &row.path)?;
+    push_numbers_and_path(text, row.bus, &row.path)?;
     text.push_str(kind)?;
     push_identity(text, row.vendor, row.device)
 }

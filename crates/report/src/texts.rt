@@ -3,7 +3,7 @@ ghost use Rattle.std.specs.Prelude.{◌≡◌, ◌++◌, OnOk, string_bytes, dec
 ghost use Rattle.model_guests.specs.Replies.{hex_digits};
 ghost use Rattle.model_guests.specs.Report.{kind_text, path_text, identity_text};
 ghost use Rattle.bars.specs.Kinds.{kind_of};
-ghost use Rattle.report.specs.Found.{part_address, place_text};
+ghost use Rattle.report.specs.Found.{part_address, numbers_and_path};
 
 use bars::Kind;
 use bridge_forward::{Part, Path};
@@ -54,8 +54,8 @@ fn push_address(text: &mut String, bus: u8, part: Part) -> Result<(), AllocError
 }
 
 /// Appends a function's numbers and its path.
-pub(crate) fn push_place(text: &mut String, bus: u8, path: &Path) -> Result<(), AllocError>
-    ensures { OnOk result (string_bytes text.new ≡ string_bytes text.old ++ place_text bus path.now) }
+pub(crate) fn push_numbers_and_path(text: &mut String, bus: u8, path: &Path) -> Result<(), AllocError>
+    ensures { OnOk result (string_bytes text.new ≡ string_bytes text.old ++ numbers_and_path bus path.now) }
 {
     push_address(text, bus, path.last())?;
     text.push(' ')?;
