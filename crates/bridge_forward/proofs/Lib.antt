@@ -6,6 +6,7 @@ pub mod Extents
 pub mod BoardOrder
 pub mod BoardPaths
 pub mod Searching
+pub mod Skipping
 pub mod Reaching
 pub mod Reached
 pub mod Halving

@@ -8,5 +8,6 @@ pub mod Layout
 pub mod Resets
 pub mod ResetAlone
 pub mod Search
+pub mod Skips
 pub mod Lending
 pub mod Locating

@@ -4,6 +4,7 @@ ghost use Rattle.model_board.specs.Board.{IsBoard, is_multifunction};
 ghost use Rattle.model_board.specs.Lawful.{IsLawfulDecl, HasLawfulDecls};
 ghost use Rattle.model_board.specs.Places.{board_of};
 ghost use Rattle.bridge_forward.specs.Layout.{function_of, functions_of, paths_of, AreInOrder, EndsAt, IsLaidOut};
+ghost use Rattle.bridge_forward.specs.Skips.{IsTree};
 ghost use Rattle.bridge_forward.specs.Functions.{reset_cells};
 ghost use Rattle.bridge_forward.specs.Resets.{reset_function, reset_functions};
 
@@ -40,6 +41,7 @@ fn node_at_reset(alloc: Global, decl: Decl, multifunction: bool) -> Result<Node,
     Ok(Node {
         path,
         end: 0,
+        bridge: 0,
         function: Function::new(alloc, function, multifunction)?,
     })
 }
@@ -75,7 +77,7 @@ fn end_of(nodes: &[Node], i: usize) -> usize
 }
 
 /// Sets the ends of nodes in path order. The work is at most the number of nodes times the depth.
-pub(crate) fn lay_out(nodes: &mut [Node])
+fn set_ends(nodes: &mut [Node])
     requires { AreInOrder (paths_of nodes.old) }
     ensures laid { IsLaidOut nodes.new }
     ensures functions { functions_of nodes.new ≡ functions_of nodes.old }
@@ -85,4 +87,30 @@ pub(crate) fn lay_out(nodes: &mut [Node])
         let node = &mut nodes[i];
         node.end = end;
     }
+}
+
+/// Sets for each node where the next bridge stands, from the last one on.
+fn link_bridges(nodes: &mut [Node])
+    requires { IsLaidOut nodes.old }
+    ensures tree { IsTree nodes.new }
+    ensures functions { functions_of nodes.new ≡ functions_of nodes.old }
+{
+    let mut i = nodes.len();
+    let mut next = i;
+    while i > 0 {
+        i -= 1;
+        let node = &mut nodes[i];
+        next = node.first_bridge(i, next);
+        node.bridge = next;
+    }
+}
+
+/// Lays out nodes in path order as a tree.
+pub(crate) fn lay_out(nodes: &mut [Node])
+    requires { AreInOrder (paths_of nodes.old) }
+    ensures tree { IsTree nodes.new }
+    ensures functions { functions_of nodes.new ≡ functions_of nodes.old }
+{
+    set_ends(nodes);
+    link_bridges(nodes);
 }

@@ -23,10 +23,12 @@ use std::alloc::{AllocError, Global};
 use std::marker::Model;
 
 /// A function at its path. What stands behind it stands at the indices after its own and below `end`.
+/// From its own index up to `bridge` no bridge stands, and nothing that has anything behind it.
 #[derive(Drop)]
 pub(crate) struct Node {
     pub(crate) path: Path,
     pub(crate) end: usize,
+    pub(crate) bridge: usize,
     pub(crate) function: Function,
 }
 
@@ -34,7 +36,8 @@ pub(crate) struct Node {
 ///
 /// The tree is kept flat, as in a flattened device tree: all functions in path order, each with the
 /// end of what stands behind it. So a walk steps from a function to the next on its bus by one
-/// index, passes what stands behind a bridge by the same step, and takes no memory.
+/// index, passes what stands behind a bridge by the same step, and takes no memory. A search for a
+/// bridge passes the endpoints before it by one more index.
 #[derive(Drop)]
 pub struct Bus {
     nodes: Vec<Node>,
@@ -46,11 +49,12 @@ impl Model for Bus {
 
     ghost Value = { List BoardFunction };
 
-    ghost use Rattle.bridge_forward.specs.Layout.{functions_of, IsLaidOut};
+    ghost use Rattle.bridge_forward.specs.Layout.{functions_of};
+    ghost use Rattle.bridge_forward.specs.Skips.{IsTree};
 
     ghost view = { λ b. functions_of b.nodes.items };
 
-    ghost invariant = { λ b. IsLaidOut b.nodes.items };
+    ghost invariant = { λ b. IsTree b.nodes.items };
 }
 
 /// Where an address lands: the path of an endpoint, the base address register of a region, 0 to 5,
@@ -82,6 +86,7 @@ pub struct Located {
 impl Node {
     ghost use Rattle.bridge_forward.specs.Layout.{function_of};
     ghost use Rattle.bridge_forward.specs.Search.{is_wanted};
+    ghost use Rattle.bridge_forward.specs.Skips.{skipped_to, first_bridge};
 
     /// Whether this is what is looked for on its bus.
     pub(crate) fn is_wanted(&self, wanted: Wanted) -> bool
@@ -93,6 +98,28 @@ impl Node {
                 last.device() == device && last.function() == function
             }
             Wanted::Covering(bus) => self.function.covers(bus),
+        }
+    }
+
+    /// Where a search goes on that has come to this node, at index `i`.
+    pub(crate) fn skipped_to(&self, wanted: Wanted, i: usize) -> usize
+        ensures { result ≡ skipped_to wanted i self.now.bridge }
+    {
+        match wanted {
+            Wanted::Part { .. } => i,
+            Wanted::Covering(_) => self.bridge,
+        }
+    }
+
+    /// Where the next bridge stands from this node on, at index `i`, if after it that is at `next`.
+    pub(crate) fn first_bridge(&self, i: usize, next: usize) -> usize
+        requires { i < next }
+        ensures { result ≡ first_bridge self.now i next }
+    {
+        if !self.function.is_bridge() && self.end == i + 1 {
+            next
+        } else {
+            i
         }
     }
 }

@@ -96,6 +96,16 @@ impl Function {
         }
     }
 
+    /// Whether it is a bridge.
+    pub(crate) fn is_bridge(&self) -> bool
+        ensures { result ≡ is_bridge (decl_of self.now) }
+    {
+        match self {
+            Function::Endpoint(_) => false,
+            Function::Bridge(_) => true,
+        }
+    }
+
     /// Whether it is a bridge that takes cycles for the bus.
     pub(crate) fn covers(&self, bus: u8) -> bool
         ensures { result ≡ (is_bridge (decl_of self.now) && nat_le (secondary_register (file_of self.now)) bus && nat_le bus (subordinate_register (file_of self.now))) }

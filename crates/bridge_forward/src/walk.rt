@@ -1,7 +1,8 @@
 //! Walks along the buses of a tree.
 ghost use Rattle.std.specs.Prelude.{◌≡◌, ◌≤◌, ◌<◌, IfSome, IfNone, IsSome, None, length, find};
 ghost use Rattle.model_board.specs.Paths.{Path as PathValue, path_eq};
-ghost use Rattle.bridge_forward.specs.Layout.{IsLaidOut, functions_of};
+ghost use Rattle.bridge_forward.specs.Layout.{functions_of};
+ghost use Rattle.bridge_forward.specs.Skips.{IsTree};
 ghost use Rattle.bridge_forward.specs.Search.{wanted_on, IsSide, IsAt};
 ghost use Rattle.bridge_forward.specs.Cycled.{reached_by};
 ghost use Rattle.bridge_forward.specs.Lending.{endpoint_nth};
@@ -26,9 +27,10 @@ pub(crate) enum Wanted {
 }
 
 /// The first function that is wanted on a bus, if what stands there are the nodes from `from` up to
-/// `to`. Each step goes to the next function on the bus, past all that stands behind the former.
+/// `to`. Each step goes to the next function on the bus, past all that stands behind the former, and
+/// past endpoints where a bridge is wanted.
 fn first_on_bus(nodes: &[Node], from: usize, to: usize, wanted: Wanted) -> Option<usize>
-    requires laid { IsLaidOut nodes.now }
+    requires tree { IsTree nodes.now }
     requires range { to ≤ length nodes.now }
     ensures within { IfSome result (λ i. (from ≤ i) × (i < to)) }
     ensures found { IfSome result (λ i. (bus : PathValue) → IsSide nodes.now bus from to → IsAt nodes.now i (find (wanted_on bus wanted) (functions_of nodes.now))) }
@@ -36,9 +38,13 @@ fn first_on_bus(nodes: &[Node], from: usize, to: usize, wanted: Wanted) -> Optio
 {
     let mut i = from;
     while i < to {
-        let node = &nodes[i];
+        let at = nodes[i].skipped_to(wanted, i);
+        if at >= to {
+            return None;
+        }
+        let node = &nodes[at];
         if node.is_wanted(wanted) {
-            return Some(i);
+            return Some(at);
         }
         i = node.end;
     }
@@ -47,7 +53,7 @@ fn first_on_bus(nodes: &[Node], from: usize, to: usize, wanted: Wanted) -> Optio
 
 /// The function that a cycle reaches, put on bus 0. It steps along the buses on its way alone.
 pub(crate) fn reach(nodes: &[Node], cycle: &Cycle) -> Option<usize>
-    requires { IsLaidOut nodes.now }
+    requires { IsTree nodes.now }
     ensures found { IfSome result (λ i. IsAt nodes.now i (reached_by (functions_of nodes.now) cycle.now)) }
     ensures none { IfNone result (reached_by (functions_of nodes.now) cycle.now ≡ None) }
 {
@@ -74,7 +80,7 @@ pub(crate) fn reach(nodes: &[Node], cycle: &Cycle) -> Option<usize>
 /// The first claim of an address in path order, then by register, told by the index of its endpoint. It
 /// passes what stands behind a bridge that doesn't forward the address.
 pub(crate) fn locate(nodes: &[Node], space: Space, addr: u64) -> Option<Located>
-    requires { IsLaidOut nodes.now }
+    requires { IsTree nodes.now }
     ensures claim { located_claim (functions_of nodes.now) result ≡ first_claim (functions_of nodes.now) (named_space space) addr }
     ensures there { IfSome result (λ l. IsSome (endpoint_nth (functions_of nodes.now) l.index)) }
 {
@@ -106,7 +112,7 @@ pub(crate) fn locate(nodes: &[Node], space: Space, addr: u64) -> Option<Located>
 
 /// Where the function with this path stands, found by halving, since nodes stand in path order.
 pub(crate) fn position(nodes: &[Node], path: &Path) -> Option<usize>
-    requires { IsLaidOut nodes.now }
+    requires { IsTree nodes.now }
     ensures found { IfSome result (λ i. IsAt nodes.now i (find (λ f. path_eq f.path path.now) (functions_of nodes.now))) }
     ensures none { IfNone result (find (λ f. path_eq f.path path.now) (functions_of nodes.now) ≡ None) }
 {

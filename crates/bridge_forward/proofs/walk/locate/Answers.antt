@@ -19,9 +19,9 @@ returns-in-Some-clause-claim c =
     let h : Hit = record { index = c.in-Some.region; offset = c.in-Some.offset } in
     let e = read_at nodes c.loop-i.i n c.loop-i-test.true c.index-nodes-i.is in
     let hit : endpoint_hit (function_of n) space c.args.addr ≡ Some h =
-    hit_of_endpoint nodes c.requires space c.args.addr n c.in-Endpoint.endpoint c.in-Endpoint.is ∙ sym c.in-Some.ensures in
+    hit_of_endpoint nodes c.requires.laid space c.args.addr n c.in-Endpoint.endpoint c.in-Endpoint.is ∙ sym c.in-Some.ensures in
     ap (option_map (λ (f : BoardFunction). claim_at f.path h)) (map_at function_of nodes c.loop-i.i n e)
-    ∙ sym (claim_here nodes c.requires space c.args.addr c.loop-i.i n h (c.loop-i.invariant c.requires) e hit)
+    ∙ sym (claim_here nodes c.requires.laid space c.args.addr c.loop-i.i n h (c.loop-i.invariant c.requires.laid) e hit)
 
 pub returns-in-Some-clause-there : goal.returns-in-Some-clause-there
 returns-in-Some-clause-there c =
@@ -34,7 +34,7 @@ pub loop-i-smaller-in_default : goal.loop-i-smaller-in_default
 loop-i-smaller-in_default c =
     let nodes = c.args.nodes.now in
     let e = read_at nodes c.loop-i.i c.index-nodes-i.result c.loop-i-test.true c.index-nodes-i.is in
-    let w = inside nodes c.requires c.loop-i.i c.index-nodes-i.result e in
+    let w = inside nodes c.requires.laid c.loop-i.i c.index-nodes-i.result e in
     omega (arith, w.0, w.1, c.loop-i-test.true)
 
 pub loop-i-preserved-in_default : goal.loop-i-preserved-in_default
@@ -60,7 +60,7 @@ pub loop-i-smaller : goal.loop-i-smaller
 loop-i-smaller c =
     let nodes = c.args.nodes.now in
     let e = read_at nodes c.loop-i.i c.index-nodes-i.result c.loop-i-test.true c.index-nodes-i.is in
-    let w = inside nodes c.requires c.loop-i.i c.index-nodes-i.result e in
+    let w = inside nodes c.requires.laid c.loop-i.i c.index-nodes-i.result e in
     omega (arith, w.0, w.1, c.loop-i-test.true)
 
 pub loop-i-preserved : goal.loop-i-preserved
@@ -77,4 +77,4 @@ pub returns-clause-claim : goal.returns-clause-claim
 returns-clause-claim c =
     let nodes = c.args.nodes.now in
     let space = named_space c.args.space in
-    sym (claim_nowhere nodes c.requires space c.args.addr c.loop-i.i (c.loop-i.invariant c.requires) c.loop-i-test.false)
+    sym (claim_nowhere nodes c.requires.laid space c.args.addr c.loop-i.i (c.loop-i.invariant c.requires.laid) c.loop-i-test.false)

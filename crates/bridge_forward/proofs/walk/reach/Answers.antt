@@ -9,31 +9,31 @@ use Rattle.bridge_forward.proofs.walk.reach.Goals as goal
 pub loop-at-init : goal.loop-at-init
 loop-at-init c = record {
   above = [];
-  side = side_root c.args.nodes.now c.requires;
+  side = side_root c.args.nodes.now c.requires.laid;
   passing = λ laid. passing_root c.args.nodes.now laid c.in-Type1.bus;
 }
 
 pub returns-in_default-clause-found : goal.returns-in_default-clause-found
 returns-in_default-clause-found c =
     let y = c.args.cycle.now in
-    rw c.in_default.is (type0_found c.args.nodes.now c.requires y.device y.function c.first_on_bus.result c.first_on_bus.ensures.found)
+    rw c.in_default.is (type0_found c.args.nodes.now c.requires.laid y.device y.function c.first_on_bus.result c.first_on_bus.ensures.found)
 
 pub returns-in_default-clause-none : goal.returns-in_default-clause-none
 returns-in_default-clause-none c =
     let y = c.args.cycle.now in
-    rw c.in_default.is (type0_missed c.args.nodes.now c.requires y.device y.function c.first_on_bus.result c.first_on_bus.ensures.none)
+    rw c.in_default.is (type0_missed c.args.nodes.now c.requires.laid y.device y.function c.first_on_bus.result c.first_on_bus.ensures.none)
 
 pub returns-in_err-at-clause-none : goal.returns-in_err-at-clause-none
 returns-in_err-at-clause-none c =
     let y = c.args.cycle.now in
     let v = c.loop-at.invariant in
-    rw c.in-Type1.is (no_taker c.args.nodes.now c.requires y.device y.function c.in-Type1.bus v.above (v.passing c.requires) c.from_residual.result (c.in_err-at.ensures.none v.above v.side))
+    rw c.in-Type1.is (no_taker c.args.nodes.now c.requires.laid y.device y.function c.in-Type1.bus v.above (v.passing c.requires.laid) c.from_residual.result (c.in_err-at.ensures.none v.above v.side))
 
 pub first_on_bus-requires-then-leads_to-clause-range : goal.first_on_bus-requires-then-leads_to-clause-range
 first_on_bus-requires-then-leads_to-clause-range c =
     let v = c.loop-at.invariant in
     let e = read_at c.args.nodes.now c.in_ok-at.at c.index-nodes-at.result (omega (arith, c.in_ok-at.ensures.within, v.side.within)) c.index-nodes-at.is in
-    (inside c.args.nodes.now c.requires c.in_ok-at.at c.index-nodes-at.result e).1
+    (inside c.args.nodes.now c.requires.laid c.in_ok-at.at c.index-nodes-at.result e).1
 
 pub returns-then-leads_to-clause-found : goal.returns-then-leads_to-clause-found
 returns-then-leads_to-clause-found c =
@@ -43,7 +43,7 @@ returns-then-leads_to-clause-found c =
     let at = c.in_ok-at.ensures.found v.above v.side in
     let leads = right_true _ _ (sym c.leads_to.ensures ∙ c.if-leads_to.true) in
     rw c.in-Type1.is
-    (type1_found c.args.nodes.now c.requires y.device y.function c.in-Type1.bus v.above (v.passing c.requires) c.in_ok-at.at c.index-nodes-at.result at e leads
+    (type1_found c.args.nodes.now c.requires.laid y.device y.function c.in-Type1.bus v.above (v.passing c.requires.laid) c.in_ok-at.at c.index-nodes-at.result at e leads
     c.first_on_bus-then-leads_to.result c.first_on_bus-then-leads_to.ensures.found)
 
 pub returns-then-leads_to-clause-none : goal.returns-then-leads_to-clause-none
@@ -54,7 +54,7 @@ returns-then-leads_to-clause-none c =
     let at = c.in_ok-at.ensures.found v.above v.side in
     let leads = right_true _ _ (sym c.leads_to.ensures ∙ c.if-leads_to.true) in
     rw c.in-Type1.is
-    (type1_missed c.args.nodes.now c.requires y.device y.function c.in-Type1.bus v.above (v.passing c.requires) c.in_ok-at.at c.index-nodes-at.result at e leads
+    (type1_missed c.args.nodes.now c.requires.laid y.device y.function c.in-Type1.bus v.above (v.passing c.requires.laid) c.in_ok-at.at c.index-nodes-at.result at e leads
     c.first_on_bus-then-leads_to.result c.first_on_bus-then-leads_to.ensures.none)
 
 pub loop-at-preserved : goal.loop-at-preserved
@@ -65,7 +65,7 @@ loop-at-preserved c =
     let at = c.in_ok-at.ensures.found v.above v.side in
     record {
       above = c.index-nodes-at.result.path;
-      side = side_behind c.args.nodes.now c.requires c.in_ok-at.at c.index-nodes-at.result e;
+      side = side_behind c.args.nodes.now c.requires.laid c.in_ok-at.at c.index-nodes-at.result e;
       passing = λ laid.
           let elsewhere = leads_elsewhere c.args.nodes.now laid y.device y.function c.in-Type1.bus v.above (v.passing laid) c.in_ok-at.at c.index-nodes-at.result at e
           (sym c.leads_to.ensures ∙ c.if-leads_to.false) in

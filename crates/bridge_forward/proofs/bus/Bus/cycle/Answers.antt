@@ -7,6 +7,7 @@ use Rattle.bridge_forward.specs.declared.function.Function.{Function}
 use Rattle.bridge_forward.specs.Cycled.{reached_by, reply_to, after_access, cycle_reply, after_cycle}
 use Rattle.bridge_forward.specs.Layout.{functions_of}
 use Rattle.bridge_forward.proofs.Changes.{laid_set, cells_set, found_there, node_there}
+use Rattle.bridge_forward.proofs.Skipping.{cells_leaf, tree_set}
 use Rattle.bridge_forward.proofs.bus.Bus.cycle.Goals as goal
 
 pub invariant_of-self : goal.invariant_of-self
@@ -14,7 +15,7 @@ invariant_of-self c =
     let nodes = c.self.inside.nodes.items in
     let n = c.index_mut-node.result.now in
     let e = node_there nodes c.deref.result.now c.in_ok-at.at n (λ fs. reached_by fs c.args.cycle) c.deref.ensures.value c.in_ok-at.ensures.found c.index_mut-node.ensures.value in
-    laid_set nodes c.in_ok-at.at n c.access.new.self e c.self.invariant
+    tree_set nodes c.in_ok-at.at n c.access.new.self e (cells_leaf n.function c.access.new.self _ c.access.ensures.after) c.self.invariant (laid_set nodes c.in_ok-at.at n c.access.new.self e c.self.invariant.laid)
 
 pub returns-clause-reply : goal.returns-clause-reply
 returns-clause-reply c =
@@ -35,6 +36,6 @@ returns-clause-after c =
     let e = node_there nodes c.deref.result.now c.in_ok-at.at n (λ fs. reached_by fs y) c.deref.ensures.value c.in_ok-at.ensures.found c.index_mut-node.ensures.value in
     let at = found_there nodes c.deref.result.now c.in_ok-at.at n (λ fs. reached_by fs y) c.deref.ensures.value c.in_ok-at.ensures.found e in
     ap (λ (f : Function). functions_of (slice_set nodes c.in_ok-at.at (record n { function = f }))) c.access.ensures.after
-    ∙ cells_set nodes c.self.invariant c.in_ok-at.at n e (after_access y.op y.offset y.enables)
+    ∙ cells_set nodes c.self.invariant.laid c.in_ok-at.at n e (after_access y.op y.offset y.enables)
     ∙ sym (ap (λ o. option_map_or (λ (f : BoardFunction). with_file (after_access y.op y.offset y.enables) f.path (functions_of nodes)) o (functions_of nodes)) at)
     ∙ ap (λ fs. after_cycle fs y) c.self.view_is

@@ -1,7 +1,7 @@
 use Rattle.std.proofs.Common.{◌<◌, length, arith}
 use Rattle.std.proofs.lemmas.Option.{slice_get-get_or}
 use Rattle.bridge_forward.proofs.Extents.{done_more, all_done}
-use Rattle.bridge_forward.proofs.build.lay_out.Goals as goal
+use Rattle.bridge_forward.proofs.build.set_ends.Goals as goal
 
 pub loop-i-preserved : goal.loop-i-preserved
 loop-i-preserved c =
