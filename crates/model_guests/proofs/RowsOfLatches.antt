@@ -84,6 +84,7 @@ pub only_function_0_of_bus_0 : Dialogue main_world (
     "a iw 0xcf8 4 0x80010004" ▷ "a: ok"
     ∷ "a ir 0xcfc 4" ▷ "a: 0xffffffff"
     ∷ "a iw 0xcfc 4 0xffffffff" ▷ "a: ok"
+    ∷ "a ir 0xcf8 4" ▷ "a: 0x80010004"
     ∷ "a iw 0xcf8 4 0x80800004" ▷ "a: ok"
     ∷ "a iw 0xcfc 4 0xffffffff" ▷ "a: ok"
     ∷ "a iw 0xcf8 4 0x80000104" ▷ "a: ok"
@@ -101,6 +102,18 @@ pub only_function_0_of_bus_0 : Dialogue main_world (
     ∷ "a cr 0 4 4" ▷ "a: 0x80000000"
     ∷ "a ir 0xcfc 4" ▷ "a: 0xffffffff" ∷ [])
 only_function_0_of_bus_0 = (refl, (refl, (refl, tt)))
+
+-- where a region of the guest holds these ports
+pub other_functions_are_before_regions : Dialogue main_world (
+    "a cw 0 0x10 4 0xce0" ▷ "a: ok"
+    ∷ "a cw 0 4 2 1" ▷ "a: ok"
+    ∷ "a ir 0xcfc 4" ▷ "a: 0x00000000"
+    ∷ "a iw 0xcf8 4 0x80010000" ▷ "a: ok"
+    ∷ "a ir 0xcfc 4" ▷ "a: 0xffffffff"
+    ∷ "a iw 0xcf8 4 0x80000100" ▷ "a: ok"
+    ∷ "a ir 0xcfc 4" ▷ "a: 0xffffffff"
+    ∷ "a ir 0xcf8 2" ▷ "a: 0x0000" ∷ [])
+other_functions_are_before_regions = (refl, (refl, (refl, tt)))
 
 -- the board keeps its Command and bases, and its Status is cleared
 pub data_reaches_the_guests_copies : Dialogue main_world (

@@ -61,7 +61,8 @@ abbrev pub AgreedStateIsOnly : Type 0
 AgreedStateIsOnly = OfSeated (λ b a gs. (now : State) → Agrees b a gs now → now ≡ agreed_state b a gs)
 
 abbrev pub AgreesAtFirst : Type 0
-AgreesAtFirst = (w : World) → IsLawfulWorld w → agreed_state w.board w.apertures (guests_at_first w) ≡ set_up_state w.board w.apertures
+AgreesAtFirst = (w : World) → IsLawfulWorld w
+    → agreed_state w.board w.apertures (guests_at_first w) ≡ set_up_state w.board w.apertures
 
 abbrev pub KeepsRouting : Type 0
 KeepsRouting = OfSeated (λ b a gs. routing (agreed_state b a gs).functions ≡ routing (set_up_state b a).functions)
@@ -76,7 +77,8 @@ ShowsFile = (left own : File) → places_of own ≡ places_of left → (p : Plac
 
 -- a raise of a register of which the guest has a copy changes nothing in the guest's file either
 abbrev pub CopiesNeverRise : Type 0
-CopiesNeverRise = (b : Board) → HasLawfulDecls b → (gs : GuestsNow) → AreSeated b gs → (name : Text) (n : ℕ) (f : Function)
+CopiesNeverRise = (b : Board) → HasLawfulDecls b → (gs : GuestsNow) → AreSeated b gs
+    → (name : Text) (n : ℕ) (f : Function)
     → function_in gs name n ≡ Some f → (m : ℕ) (p : Place) → IsTrue (is_own p) → raise m p f.file ≡ f.file
 
 abbrev pub FileOfSeat : Type 0

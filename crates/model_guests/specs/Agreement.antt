@@ -1,4 +1,5 @@
--- The one register state of the board that agrees with the guests' files, where functions are not moved; `AgreedBoard` has moves.
+-- The one register state of the board that agrees with the guests' files, where functions are not moved;
+-- `AgreedBoard` has moves.
 --     file_in, guest_file      the guest's file of the function at a path
 --     with_files, agreed_state      the state of the whole board
 use Rattle.std.specs.Prelude.{List, [], ◌∷◌, if◌then◌else◌, Option, Some, None, map}
@@ -18,14 +19,16 @@ use Rattle.model_guests.specs.World.{Guest, World}
 abbrev pub file_in : List Path → Slots → Path → Option File
 file_in [] slots p = None
 file_in (q ∷ qs) [] p = None
-file_in (q ∷ qs) (f ∷ fs) p = if path_eq q p then option_map_or (λ (g : Function). Some g.file) f None else file_in qs fs p
+file_in (q ∷ qs) (f ∷ fs) p =
+    if path_eq q p then option_map_or (λ (g : Function). Some g.file) f None else file_in qs fs p
 
 -- the file of the guest that has the function in a slot; `slots` says what each guest's slots hold
 abbrev pub guest_file : World → (Text → Slots) → Path → Option File
 guest_file w slots p = first_some (λ (g : Guest). file_in g.slots (slots g.name) p) w.guests
 
 abbrev pub agreed_function : World → (Text → Slots) → BoardFunction → BoardFunction
-agreed_function w slots f = option_map_or (λ (own : File). record f { file = agreed_file f.file own }) (guest_file w slots f.path) f
+agreed_function w slots f = option_map_or (λ (own : File). record f { file = agreed_file f.file own })
+    (guest_file w slots f.path) f
 
 -- the state with the guests' files in it, wherever one has a function
 abbrev pub with_files : World → (Text → Slots) → State → State

@@ -1,25 +1,11 @@
 -- How a change of what guests hold changes the board.
---     ChangesAlike      when a guest's file changes by the first, the board's file of that function changes by the second
---     WritesAlike, RaisesAlike, ResetsAlike      a write, a raise and a reset of the guest's file reach the board by the bytes without a copy
+--     ChangesAlike      when a guest's file changes by the first, the board's changes by the second
+--     WritesAlike, RaisesAlike, ResetsAlike      a write, a raise and a reset reach it by the bytes without a copy
 --     OneFile, ChangesOneFunction, LatchKeepsBoard      a guest's change of a function changes the board there alone
 --     MoveResetsOneFunction      a move resets the function, but for what its guests have copies of
 --     lands, EventReachesBoard      where an event changes a function, and what it does there to the board
-use Rattle.std.specs.Prelude.{
-  List,
-  ◌≡◌,
-  ℕ,
-  Bool,
-  false,
-  if◌then◌else◌,
-  Option,
-  Some,
-  None,
-  option_map,
-  is_some,
-  IsTrue,
-  IsFalse,
-  IsSome,
-}
+use Rattle.std.specs.Prelude.{List, ◌≡◌, ℕ, Bool, false, if◌then◌else◌, Option, Some, None, option_map, is_some, IsTrue}
+use Rattle.std.specs.Prelude.{IsFalse, IsSome}
 use Rattle.std.specs.Option.{option_map_or}
 use Rattle.model_registers.specs.Registers.{Place, File, write, raise, all_bytes}
 use Rattle.model_registers.specs.Declarations.{Endpoint}
@@ -35,28 +21,19 @@ use Rattle.model_registers.specs.CopiedFiles.{agreed_file, after_reset}
 use Rattle.model_guests.specs.Slots.{slot_at, with_file, Landing, landing, raise_landing, event_fault}
 use Rattle.model_guests.specs.Text.{Text}
 use Rattle.model_guests.specs.Lone.{LoneGuest, Destination, own_latch, no_function, at_target, destination}
-use Rattle.model_guests.specs.Guests.{
-  GuestNow,
-  GuestsNow,
-  guest_named,
-  lone_of,
-  with_guest,
-  after_guest_event,
-  function_in,
-  path_in,
-  Move,
-  move_fault,
-  after_move,
-}
+use Rattle.model_guests.specs.Guests.{GuestNow, GuestsNow, guest_named, lone_of, with_guest, after_guest_event}
+use Rattle.model_guests.specs.Guests.{function_in, path_in, Move, move_fault, after_move}
 use Rattle.model_guests.specs.AgreedBoard.{with_files, agreed_state, with_change_at}
 use Rattle.model_guests.specs.Seated.{AreSeated}
 
 abbrev pub ChangesAlike : (File → File) → (File → File) → Type 0
-ChangesAlike own_change board_change = (left own : File) → agreed_file left (own_change own) ≡ board_change (agreed_file left own)
+ChangesAlike own_change board_change = (left own : File)
+    → agreed_file left (own_change own) ≡ board_change (agreed_file left own)
 
 -- a write reaches the board by the bytes of which the guest has no copy
 abbrev pub WritesAlike : Type 0
-WritesAlike = (enables : List Bool) (v : ℕ) (p : Place) → ChangesAlike (write enables v p) (write (handed_on p enables) v p)
+WritesAlike = (enables : List Bool) (v : ℕ) (p : Place)
+    → ChangesAlike (write enables v p) (write (handed_on p enables) v p)
 
 -- a raise reaches the board but for the guest's copies
 abbrev pub RaisesAlike : Type 0
@@ -83,7 +60,8 @@ abbrev pub ChangesOneFunction : Type 0
 ChangesOneFunction = (b : Board) (a : Apertures) (gs : GuestsNow) → AreSeated b gs
     → (name : Text) (n : ℕ) (p : Path) → path_in gs name n ≡ Some p
     → (own_change board_change : File → File) → ChangesAlike own_change board_change
-    → agreed_state b a (with_guest (with_slot_changed own_change n) name gs) ≡ with_change_at board_change p (agreed_state b a gs)
+    → agreed_state b a (with_guest (with_slot_changed own_change n) name gs)
+    ≡ with_change_at board_change p (agreed_state b a gs)
 
 abbrev pub LatchKeepsBoard : Type 0
 LatchKeepsBoard = (b : Board) (a : Apertures) (gs : GuestsNow) (name : Text) (latch : ℕ)
@@ -106,7 +84,8 @@ landing_at g (writes v) (at_target t) = landing g.slots t
 
 abbrev pub landing_of : LoneGuest → Event → Option Landing
 landing_of g (access a) = landing_at g a.op (destination g.latch a.width a.target)
-landing_of g (raises r) = option_map (λ (p : Place). record { slot = r.slot; place = p }) (raise_landing (slot_at g.slots r.slot) r)
+landing_of g (raises r) = option_map (λ (p : Place). record { slot = r.slot; place = p })
+    (raise_landing (slot_at g.slots r.slot) r)
 
 -- a refused event lands nowhere
 abbrev pub lands : LoneGuest → Event → Option Landing
@@ -138,4 +117,5 @@ board_after gs name e (Some l) now =
 -- the board changes in the function of that slot, and nowhere else
 abbrev pub EventReachesBoard : Type 0
 EventReachesBoard = (b : Board) (a : Apertures) (gs : GuestsNow) → AreSeated b gs → (name : Text) (e : Event)
-    → agreed_state b a (after_guest_event name e gs) ≡ board_after gs name e (lands (lone_of gs name) e) (agreed_state b a gs)
+    → agreed_state b a (after_guest_event name e gs)
+    ≡ board_after gs name e (lands (lone_of gs name) e) (agreed_state b a gs)

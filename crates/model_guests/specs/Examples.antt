@@ -3,14 +3,16 @@
 --     second_world      the functions of the first guest at other places, beside other functions
 --     demo_world      one endpoint without regions, and one guest
 --     wide_world      an endpoint with a region of each kind and each field of the header declared, and one guest
---     deep_world, chain_world, high_world      a bridge behind a bridge; fifteen bridges, each behind the one before; the last unit below 4 GB
+--     deep_world, high_world      a bridge behind a bridge; a region in the last unit below 4 GB
+--     chain_world      fifteen bridges, each behind the one before
 use Rattle.std.specs.Prelude.{List, [], ◌∷◌, ℕ, true, false, ◌^◌, ◌++◌, Some, None, codes}
 use Rattle.model_registers.specs.Cell.{Cell, constant}
 use Rattle.model_registers.specs.Declarations.{io_kind, mem32, mem64, Endpoint, Bridge}
 use Rattle.model_board.specs.Paths.{Path}
 use Rattle.model_board.specs.Board.{endpoint, bridge, Board}
 use Rattle.model_board.specs.Pools.{Apertures}
-use Rattle.model_board.specs.Examples.{part, function_at, aperture, plain, first_endpoint, third_endpoint, main_bridge, main_board, main_board_with, main_apertures, memory_bridge, memory_of, chain}
+use Rattle.model_board.specs.Examples.{part, function_at, aperture, plain, first_endpoint, third_endpoint, main_bridge}
+use Rattle.model_board.specs.Examples.{main_board, main_board_with, main_apertures, memory_bridge, memory_of, chain}
 use Rattle.model_guests.specs.World.{Guest, World}
 
 abbrev pub on_bus_0 : ℕ → Path
@@ -22,7 +24,9 @@ behind d e = part d 0 ∷ part e 0 ∷ []
 -- ---- the main board
 
 abbrev pub main_guests : List Guest
-main_guests = record { name = codes "a"; slots = on_bus_0 1 ∷ behind 2 1 ∷ [] } ∷ record { name = codes "b"; slots = behind 2 0 ∷ [] } ∷ []
+main_guests =
+    record { name = codes "a"; slots = on_bus_0 1 ∷ behind 2 1 ∷ [] }
+    ∷ record { name = codes "b"; slots = behind 2 0 ∷ [] } ∷ []
 
 -- with another bridge and other apertures
 abbrev pub main_world_with : Bridge → Apertures → World
@@ -39,13 +43,15 @@ second_world = record {
       ∷ function_at (behind 4 5) (endpoint first_endpoint)
       ∷ function_at (part 4 0 ∷ part 5 1 ∷ []) (endpoint (plain 9 0 0 [])) ∷ [];
   apertures = main_apertures;
-  guests = record { name = codes "a"; slots = behind 4 5 ∷ on_bus_0 0 ∷ [] } ∷ record { name = codes "b"; slots = [] } ∷ [];
+  guests = record { name = codes "a"; slots = behind 4 5 ∷ on_bus_0 0 ∷ [] }
+      ∷ record { name = codes "b"; slots = [] } ∷ [];
 }
 
 -- with a bridge and an endpoint behind the bridge
 abbrev pub deep_world : World
 deep_world = record main_world {
-  board = main_board ++ function_at (behind 2 3) (bridge memory_bridge) ∷ function_at (part 2 0 ∷ part 3 0 ∷ part 1 0 ∷ []) (endpoint (plain 6 0 4 [])) ∷ [];
+  board = main_board ++ function_at (behind 2 3) (bridge memory_bridge)
+      ∷ function_at (part 2 0 ∷ part 3 0 ∷ part 1 0 ∷ []) (endpoint (plain 6 0 4 [])) ∷ [];
 }
 
 -- ---- one endpoint
@@ -77,7 +83,11 @@ wide_endpoint = record {
       ∷ record { index = 1; kind = mem32 true; size = 16; cells = writable_byte ∷ [] }
       ∷ record { index = 2; kind = mem64 false; size = 2 ^ 20; cells = constant 0x20 ∷ [] }
       ∷ record { index = 4; kind = mem64 true; size = 2 ^ 33; cells = constant 0x40 ∷ [] } ∷ [];
-  blocks = record { offset = 0x40; cells = record { value = 0x5a; writable = 0x0f; clearable = 0 } ∷ record { value = 0x81; writable = 0; clearable = 0xc1 } ∷ [] }
+  blocks = record {
+    offset = 0x40;
+    cells = record { value = 0x5a; writable = 0x0f; clearable = 0 }
+        ∷ record { value = 0x81; writable = 0; clearable = 0xc1 } ∷ [];
+  }
       ∷ record { offset = 0xff; cells = constant 0x7e ∷ [] } ∷ [];
 }
 
@@ -98,4 +108,6 @@ abbrev pub chain_world : World
 chain_world = bare (chain 15 (plain 6 0 1 []))
 
 abbrev pub high_world : World
-high_world = record (bare (chain 1 (memory_of 0x100000))) { apertures = record main_apertures { mem = aperture 0xfff00000 0xffffffff } }
+high_world = record (bare (chain 1 (memory_of 0x100000))) {
+  apertures = record main_apertures { mem = aperture 0xfff00000 0xffffffff };
+}

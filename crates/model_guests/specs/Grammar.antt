@@ -3,12 +3,14 @@
 --     HostRead, host_read_of      a read by the host; the words of its line after `host`
 --     Who, Meaning, meaning names line      an event of a guest, a host read, a refusal under a name, or nothing
 --     own_lines      the lines that begin with a guest's name
-use Rattle.std.specs.Prelude.{List, [], ◌∷◌, ℕ, Bool, false, ◌&&◌, ◌==◌, if◌then◌else◌, length, ◌^◌, not, nat_lt, Option, Some, None, filter, codes, option_and_then}
+use Rattle.std.specs.Prelude.{List, [], ◌∷◌, ℕ, Bool, false, ◌&&◌, ◌==◌, if◌then◌else◌, length, ◌^◌, not, nat_lt}
+use Rattle.std.specs.Prelude.{Option, Some, None, filter, codes, option_and_then}
 use Rattle.std.specs.List.{list_any}
 use Rattle.std.specs.Str.{bytes_eq}
 use Rattle.model_registers.specs.Lists.{first_of_two}
 use Rattle.model_board.specs.Cycles.{BusAddress}
-use Rattle.model_guests.specs.Accesses.{Target, configuration, port, address, Op, reads, writes, RaisePlace, in_config, in_region, Event, access, raises}
+use Rattle.model_guests.specs.Accesses.{Target, configuration, port, address, Op, reads, writes, RaisePlace, in_config}
+use Rattle.model_guests.specs.Accesses.{in_region, Event, access, raises}
 use Rattle.model_guests.specs.Text.{Text, words}
 use Rattle.model_guests.specs.Numbers.{below, digits_in, number_of}
 
@@ -27,7 +29,8 @@ to_configuration s o w op = given (number_of s) (λ slot. given (number_of o) (�
 
 -- port or address, and width
 abbrev pub to_space : (ℕ → Target) → Text → Text → Op → Option Event
-to_space target a w op = given (number_of a) (λ n. given (number_of w) (λ width. Some (access (record { target = target n; width = width; op = op }))))
+to_space target a w op = given (number_of a) (λ n. given (number_of w) (λ width.
+    Some (access (record { target = target n; width = width; op = op }))))
 
 -- a value of 32 bits
 abbrev pub value_of : Text → (Op → Option Event) → Option Event
@@ -45,15 +48,20 @@ raise_part w =
 
 -- slot, place, offset and mask of one byte
 abbrev pub to_raise : Text → Text → Text → Text → Option Event
-to_raise s p o m = given (number_of s) (λ slot. option_and_then (λ (part : RaisePlace). given (number_of o) (λ off. given (below 256 (number_of m)) (λ mask.
+to_raise s p o m = given (number_of s) (λ slot. option_and_then (λ (part : RaisePlace).
+    given (number_of o) (λ off. given (below 256 (number_of m)) (λ mask.
     Some (raises (record { slot = slot; part = part; offset = off; mask = mask }))))) (raise_part p))
 
--- NAME ir PORT W, NAME mr ADDR W; NAME cr SLOT OFF W, NAME iw PORT W V, NAME mw ADDR W V; NAME cw SLOT OFF W V, NAME raise SLOT P OFF MASK
+-- NAME ir PORT W, NAME mr ADDR W; NAME cr SLOT OFF W, NAME iw PORT W V, NAME mw ADDR W V;
+-- NAME cw SLOT OFF W V, NAME raise SLOT P OFF MASK
 abbrev pub event_of : List Text → Option Event
-event_of (op ∷ a ∷ w ∷ []) = first_of_two (on_word op (codes "ir") (to_space port a w reads)) (on_word op (codes "mr") (to_space address a w reads))
+event_of (op ∷ a ∷ w ∷ []) = first_of_two (on_word op (codes "ir") (to_space port a w reads))
+    (on_word op (codes "mr") (to_space address a w reads))
 event_of (op ∷ a ∷ b ∷ c ∷ []) = first_of_two (on_word op (codes "cr") (to_configuration a b c reads))
-    (first_of_two (on_word op (codes "iw") (value_of c (to_space port a b))) (on_word op (codes "mw") (value_of c (to_space address a b))))
-event_of (op ∷ a ∷ b ∷ c ∷ d ∷ []) = first_of_two (on_word op (codes "cw") (value_of d (to_configuration a b c))) (on_word op (codes "raise") (to_raise a b c d))
+    (first_of_two (on_word op (codes "iw") (value_of c (to_space port a b)))
+    (on_word op (codes "mw") (value_of c (to_space address a b))))
+event_of (op ∷ a ∷ b ∷ c ∷ d ∷ []) = first_of_two (on_word op (codes "cw") (value_of d (to_configuration a b c)))
+    (on_word op (codes "raise") (to_raise a b c d))
 event_of _ = None
 
 -- a read by the host, at a physical bus number or address
@@ -79,12 +87,15 @@ bus_address (a ∷ b ∷ colon ∷ c ∷ d ∷ dot ∷ f ∷ []) =
 bus_address _ = None
 
 abbrev pub host_at : (ℕ → HostTarget) → Text → Text → Option HostRead
-host_at target a w = given (number_of a) (λ n. given (number_of w) (λ width. Some (record { target = target n; width = width })))
+host_at target a w = given (number_of a) (λ n. given (number_of w) (λ width.
+    Some (record { target = target n; width = width })))
 
 -- host ir PORT W, host mr ADDR W; host cr BB:DD.F OFF W
 abbrev pub host_read_of : List Text → Option HostRead
-host_read_of (op ∷ a ∷ w ∷ []) = first_of_two (on_word op (codes "ir") (host_at host_port a w)) (on_word op (codes "mr") (host_at host_address a w))
-host_read_of (op ∷ a ∷ b ∷ w ∷ []) = on_word op (codes "cr") (option_and_then (λ (at : BusAddress). host_at (host_configuration at) b w) (bus_address a))
+host_read_of (op ∷ a ∷ w ∷ []) = first_of_two (on_word op (codes "ir") (host_at host_port a w))
+    (on_word op (codes "mr") (host_at host_address a w))
+host_read_of (op ∷ a ∷ b ∷ w ∷ []) = on_word op (codes "cr")
+    (option_and_then (λ (at : BusAddress). host_at (host_configuration at) b w) (bus_address a))
 host_read_of _ = None
 
 -- under whose name a line answers

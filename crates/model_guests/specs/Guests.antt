@@ -1,36 +1,14 @@
 -- All guests as they are now: which function of the board stands in each slot, and what the guest alone holds.
---     GuestNow, GuestsNow      one guest: the path of the function in each slot, and the guest alone; all guests, in the order of the board file
+--     GuestNow, GuestsNow      a guest: the path of the function in each slot, and the guest alone; all of them
 --     guests_at_first      the guests of a world before any event
 --     guest_named, lone_of, with_guest      a guest by its name; what it holds; the guests with this one changed
 --     guest_after, after_guest_event      a guest after an event of its own; all guests after it
 --     path_in, function_in      which path has a slot of a guest, and what stands there
 --     Move, move_fault, after_move      a function handed to a slot; the checks, in their order; all guests after it
 --     file_of      the guest's file of the function at a path, wherever it is now
-use Rattle.std.specs.Prelude.{
-  List,
-  [],
-  ◌∷◌,
-  ℕ,
-  ◌-◌,
-  ◌++◌,
-  ◌||◌,
-  not,
-  if◌then◌else◌,
-  nat_le,
-  Option,
-  Some,
-  None,
-  unwrap_or,
-  slice_get,
-  slice_set,
-  map,
-  find,
-  length,
-  replicate,
-  is_some,
-  option_map,
-  option_and_then,
-}
+use Rattle.std.specs.Prelude.{List, [], ◌∷◌, ℕ, ◌-◌, ◌++◌, ◌||◌, not, if◌then◌else◌, nat_le, Option, Some, None}
+use Rattle.std.specs.Prelude.{unwrap_or, slice_get, slice_set, map, find, length, replicate, is_some, option_map}
+use Rattle.std.specs.Prelude.{option_and_then}
 use Rattle.std.specs.Option.{option_map_or}
 use Rattle.std.specs.Str.{bytes_eq}
 use Rattle.model_registers.specs.Lists.{first_some}
@@ -110,7 +88,8 @@ with_slot_filled n p d g = record g { paths = slice_set g.paths n p; lone = fill
 -- nothing is carried over: in its new slot the function is at reset
 abbrev pub handed_over : Move → Option Path → Option Function → GuestsNow → GuestsNow
 handed_over m p None gs = gs
-handed_over m p (Some f) gs = with_guest (with_slot_filled m.target p f.decl) m.to (with_guest (with_slot_emptied m.slot) m.from gs)
+handed_over m p (Some f) gs =
+    with_guest (with_slot_filled m.target p f.decl) m.to (with_guest (with_slot_emptied m.slot) m.from gs)
 
 -- a refused move changes nothing
 abbrev pub after_move : GuestsNow → Move → GuestsNow

@@ -1,4 +1,5 @@
--- What the host reads from the board itself: PCI Local Bus 3.0, chapter 3.2.2.3.2 (CONFIG_ADDRESS), and the reach and claims of the board.
+-- What the host reads from the board itself, by the reach and claims of the board: PCI Local Bus 3.0, chapter 3.2.2.3.2
+-- (CONFIG_ADDRESS).
 --     host_fault      the checks of a host read
 --     shown      what stands at a bus address, a port or a memory address
 --     host_answer      the reply: a refusal, or what is shown

@@ -1,5 +1,5 @@
 -- What decides a guest's replies: its own lines, and the moves that touch it.
---     Input, inputs w name lines      an own line, or a done move out of or into a slot of the guest; those of lines, in their order
+--     Input, inputs w name lines      an own line, or a done move out of or into a slot; those of lines, in their order
 --     lone_event, lone_reply      the event of an own line, and the reply to it
 --     after_input, lone_output, after_inputs      what inputs write and leave over the guest alone
 use Rattle.std.specs.Prelude.{List, [], ◌∷◌, ℕ, if◌then◌else◌, ◌++◌, Option, Some, None, is_some, drop}
@@ -24,7 +24,8 @@ pub data Input : Type 0 where
 abbrev pub inputs_of_move : Text → Move → Option Function → List Input
 inputs_of_move name m None = []
 inputs_of_move name m (Some f) =
-    (if bytes_eq m.from name then loses m.slot ∷ [] else []) ++ (if bytes_eq m.to name then gets m.target f.decl ∷ [] else [])
+    (if bytes_eq m.from name then loses m.slot ∷ [] else [])
+    ++ (if bytes_eq m.to name then gets m.target f.decl ∷ [] else [])
 
 -- a refused move touches no one
 abbrev pub inputs_of_meaning : Text → GuestsNow → Meaning → List Input

@@ -1,4 +1,5 @@
--- Isolation: what a guest is told, and what it holds, depends on its own functions, its own lines and the moves that touch it alone.
+-- Isolation: what a guest is told, and what it holds, depends on its own functions, its own lines and the moves that
+-- touch it alone.
 --     IsIsolated, Isolated      each guest's replies, and what it holds, are those of its inputs over its own functions
 --     AgreeOn, TwoWorlds      worlds and scripts that agree on a guest's functions and inputs give it equal reply lines
 --     HasNoMove, OwnLinesAlone      in a script without moves the inputs are the own lines
@@ -15,16 +16,19 @@ use Rattle.model_guests.specs.Lines.{Meaning, nothing, guest_event, host_read, h
 use Rattle.model_guests.specs.WorldNow.{world_at_first, output, after_lines}
 use Rattle.model_guests.specs.Inputs.{Input, own_line, inputs, lone_output, after_inputs}
 
--- a guest is told what these inputs write over its own functions in a world of no one else, and it holds what they leave
+-- a guest is told what these inputs write over its own functions in a world of no one else, and holds what they leave
 pub record IsDecidedBy (is : List Input) (w : World) (name script : Text) : Type 0 where
-  pub replies : reply_lines name (output (world_at_first w) (lines script)) ≡ lone_output name (reset_guest (declarations w name)) is
-  pub holds : lone_of (after_lines (world_at_first w) (lines script)).guests name ≡ after_inputs (reset_guest (declarations w name)) is
+  pub replies : reply_lines name (output (world_at_first w) (lines script))
+      ≡ lone_output name (reset_guest (declarations w name)) is
+  pub holds : lone_of (after_lines (world_at_first w) (lines script)).guests name
+      ≡ after_inputs (reset_guest (declarations w name)) is
 
 abbrev pub IsIsolated : World → Text → Text → Type 0
 IsIsolated w name script = IsDecidedBy (inputs (world_at_first w) name (lines script)) w name script
 
 abbrev pub Isolated : Type 0
-Isolated = (w : World) → HasLawfulNames w → (name script : Text) → IsTrue (has_name (names w) name) → IsIsolated w name script
+Isolated = (w : World) → HasLawfulNames w → (name script : Text) → IsTrue (has_name (names w) name)
+    → IsIsolated w name script
 
 -- two worlds and two scripts agree on a guest: it is in both, with equal declarations slot by slot and equal inputs
 pub record AgreeOn (name : Text) (v w : World) (s t : Text) : Type 0 where
@@ -54,7 +58,8 @@ OwnLinesAlone = (w : World) (name script : Text) → HasNoMove w script
     → inputs (world_at_first w) name (lines script) ≡ map own_line (own_lines name (lines script))
 
 abbrev pub IsolatedByOwnLines : Type 0
-IsolatedByOwnLines = (w : World) → HasLawfulNames w → (name script : Text) → IsTrue (has_name (names w) name) → HasNoMove w script
+IsolatedByOwnLines = (w : World) → HasLawfulNames w → (name script : Text) → IsTrue (has_name (names w) name)
+    → HasNoMove w script
     → IsDecidedBy (map own_line (own_lines name (lines script))) w name script
 
 -- the same of two scripts whose own lines of the guest are equal
@@ -65,6 +70,7 @@ pub record AgreeOnOwnLines (name : Text) (v w : World) (s t : Text) : Type 0 whe
   pub lines : own_lines name (lines s) ≡ own_lines name (lines t)
 
 abbrev pub TwoWorldsByOwnLines : Type 0
-TwoWorldsByOwnLines = (name : Text) (v w : World) (s t : Text) → HasLawfulNames v → HasLawfulNames w → HasNoMove v s → HasNoMove w t
+TwoWorldsByOwnLines = (name : Text) (v w : World) (s t : Text) → HasLawfulNames v → HasLawfulNames w → HasNoMove v s
+    → HasNoMove w t
     → AgreeOnOwnLines name v w s t
     → reply_lines name (output (world_at_first v) (lines s)) ≡ reply_lines name (output (world_at_first w) (lines t))

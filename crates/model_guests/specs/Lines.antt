@@ -6,20 +6,8 @@ use Rattle.std.specs.Str.{bytes_eq}
 use Rattle.model_guests.specs.Accesses.{Event}
 use Rattle.model_guests.specs.Text.{Text, words}
 use Rattle.model_guests.specs.Numbers.{number_of}
-use Rattle.model_guests.specs.Grammar.{
-  given,
-  on_word,
-  event_of,
-  HostRead,
-  host_read_of,
-  Who,
-  guest,
-  host,
-  nobody,
-  has_name,
-  is_comment,
-  is_long,
-}
+use Rattle.model_guests.specs.Grammar.{given, on_word, event_of, HostRead, host_read_of, Who, guest, host, nobody}
+use Rattle.model_guests.specs.Grammar.{has_name, is_comment, is_long}
 use Rattle.model_guests.specs.Guests.{Move}
 
 abbrev pub between_guests : List Text → Move → Option Move

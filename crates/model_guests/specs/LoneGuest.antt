@@ -1,10 +1,14 @@
--- A guest that has no address latch of its own, for what runs scripts over functions alone; a guest with its latch is `LoneGuest` of `Lone`.
+-- A guest that has no address latch of its own, for what runs scripts over functions alone; a guest with its latch is
+-- `LoneGuest` of `Lone`.
 --     answer, after_event      the reply to an event, and the slots after it
 --     slots_after      the same along a list of events
 use Rattle.std.specs.Prelude.{List, [], ◌∷◌, if◌then◌else◌, is_some}
 use Rattle.std.specs.Option.{option_map_or}
 use Rattle.model_guests.specs.Accesses.{Event, access, raises, Reply, done, refused}
-pub use Rattle.model_guests.specs.Slots.{access_fault, place_number, is_out_of_range, fault_of, Slots, slot_at, Landing, landing_in, landing_from, landing, file_at, with_file, perform, effect, raise_place, raise_landing, raise_fault, event_fault, affected, reset_function, reset_slots}
+pub use Rattle.model_guests.specs.Slots.{access_fault, place_number, is_out_of_range, fault_of, Slots, slot_at, Landing}
+pub use Rattle.model_guests.specs.Slots.{landing_in, landing_from, landing, file_at, with_file, perform, effect}
+pub use Rattle.model_guests.specs.Slots.{raise_place, raise_landing, raise_fault, event_fault, affected, reset_function}
+pub use Rattle.model_guests.specs.Slots.{reset_slots}
 
 abbrev pub performed : Slots → Event → Reply
 performed slots (access a) = perform a.op a.width slots (landing slots a.target)

@@ -10,18 +10,8 @@ use Rattle.model_registers.specs.Decoding.{Function}
 use Rattle.model_registers.specs.EndpointTable.{endpoint_reset}
 use Rattle.model_board.specs.Paths.{Path}
 use Rattle.model_board.specs.Board.{Board}
-use Rattle.model_guests.specs.Guests.{
-  GuestNow,
-  GuestsNow,
-  guest_named,
-  path_in,
-  function_in,
-  Move,
-  move_fault,
-  with_slot_emptied,
-  with_slot_filled,
-  after_move,
-}
+use Rattle.model_guests.specs.Guests.{GuestNow, GuestsNow, guest_named, path_in, function_in, Move, move_fault}
+use Rattle.model_guests.specs.Guests.{with_slot_emptied, with_slot_filled, after_move}
 use Rattle.model_guests.specs.Inputs.{loses, gets, inputs_of_move}
 use Rattle.model_guests.specs.Seated.{AreSeated}
 
@@ -35,16 +25,19 @@ pub record IsDone (gs : GuestsNow) (m : Move) (p : Path) (f : Function) (i : ℕ
   pub from : m.from ≡ g.name
 
 abbrev pub MoveWithin : Type 0
-MoveWithin = (gs : GuestsNow) (m : Move) (p : Path) (f : Function) (i : ℕ) (g : GuestNow) → IsDone gs m p f i g → m.to ≡ g.name
+MoveWithin = (gs : GuestsNow) (m : Move) (p : Path) (f : Function) (i : ℕ) (g : GuestNow) → IsDone gs m p f i g
+    → m.to ≡ g.name
     → after_move gs m ≡ slice_set gs i (with_slot_filled m.target (Some p) f.decl (with_slot_emptied m.slot g))
 
 abbrev pub MoveBetween : Type 0
 MoveBetween = (gs : GuestsNow) (m : Move) (p : Path) (f : Function) (i : ℕ) (g : GuestNow) → IsDone gs m p f i g
     → (j : ℕ) (h : GuestNow) → slice_get gs j ≡ Some h → m.to ≡ h.name → IsFalse (bytes_eq g.name h.name)
-    → after_move gs m ≡ slice_set (slice_set gs i (with_slot_emptied m.slot g)) j (with_slot_filled m.target (Some p) f.decl h)
+    → after_move gs m
+    ≡ slice_set (slice_set gs i (with_slot_emptied m.slot g)) j (with_slot_filled m.target (Some p) f.decl h)
 
 abbrev pub InputsWithin : Type 0
-InputsWithin = (m : Move) (f : Function) → m.from ≡ m.to → inputs_of_move m.from m (Some f) ≡ loses m.slot ∷ gets m.target f.decl ∷ []
+InputsWithin = (m : Move) (f : Function) → m.from ≡ m.to
+    → inputs_of_move m.from m (Some f) ≡ loses m.slot ∷ gets m.target f.decl ∷ []
 
 pub record IsMoved (gs : GuestsNow) (m : Move) (p : Path) (f : Function) : Type 0 where
   pub path : path_in gs m.to m.target ≡ Some p
@@ -53,6 +46,7 @@ pub record IsMoved (gs : GuestsNow) (m : Move) (p : Path) (f : Function) : Type 
   pub no_function : function_in gs m.from m.slot ≡ None
 
 abbrev pub MovedFunction : Type 0
-MovedFunction = (b : Board) (gs : GuestsNow) → AreSeated b gs → (m : Move) → IsSome (guest_named gs m.to) → move_fault gs m ≡ None
+MovedFunction = (b : Board) (gs : GuestsNow) → AreSeated b gs → (m : Move) → IsSome (guest_named gs m.to)
+    → move_fault gs m ≡ None
     → (p : Path) (f : Function) → path_in gs m.from m.slot ≡ Some p → function_in gs m.from m.slot ≡ Some f
     → IsMoved (after_move gs m) m p f

@@ -1,13 +1,14 @@
 -- What a script writes where guests have no address latch and functions are not moved; `WorldNow` has both.
 --     slots_now      a guest's slots after the lines so far
 --     output      the text that a script writes
---     lone_lines, lone_slots      what a guest's own lines write over its own functions alone, and what they leave there
+--     lone_lines, lone_slots      what a guest's own lines write over its own functions alone, and what they leave
 use Rattle.std.specs.Prelude.{List, [], ◌∷◌, if◌then◌else◌, ◌++◌, Option, Some, None, drop, codes, filter_map}
 use Rattle.std.specs.Str.{bytes_eq}
 use Rattle.model_guests.specs.Accesses.{Event, Reply, refused}
 use Rattle.model_guests.specs.LoneGuest.{Slots, answer, after_event, slots_after, reset_slots}
 use Rattle.model_guests.specs.Text.{Text, lines, words, text_of_lines}
-use Rattle.model_guests.specs.Grammar.{event_of, guest, host, Meaning, nothing, guest_event, host_read, bad, meaning, own_lines}
+use Rattle.model_guests.specs.Grammar.{event_of, guest, host, Meaning, nothing, guest_event, host_read, bad, meaning}
+use Rattle.model_guests.specs.Grammar.{own_lines}
 use Rattle.model_guests.specs.World.{World, names, declarations}
 use Rattle.model_guests.specs.Agreement.{agreed_state}
 use Rattle.model_guests.specs.HostReads.{host_answer}
@@ -59,7 +60,8 @@ lone_event line = event_of (drop 1 (words line))
 -- what the guest's own lines write over its functions alone
 abbrev pub lone_output : Text → Slots → List Text → List Text
 lone_output name slots [] = []
-lone_output name slots (l ∷ ls) = line_text (guest name) (lone_reply slots (lone_event l)) ∷ lone_output name (lone_after slots (lone_event l)) ls
+lone_output name slots (l ∷ ls) = line_text (guest name) (lone_reply slots (lone_event l))
+    ∷ lone_output name (lone_after slots (lone_event l)) ls
 
 abbrev pub lone_after_lines : Slots → List Text → Slots
 lone_after_lines slots [] = slots

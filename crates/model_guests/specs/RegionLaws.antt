@@ -1,5 +1,5 @@
 -- What a guest's access to a region comes to on the board.
---     ReachesRegion      a hit in a function stands for a byte of the board's region, which set-up placed and which claims it
+--     ReachesRegion      a hit in a function stands for a byte of the board's region, placed and claimed there
 --     HitReachesRegion      each hit in a seated function does
 use Rattle.std.specs.Prelude.{List, ◌≡◌, ℕ, ◌+◌, ◌%◌, Some}
 use Rattle.model_registers.specs.Lists.{IsIn}
@@ -20,12 +20,14 @@ use Rattle.model_guests.specs.AgreedBoard.{agreed_state}
 use Rattle.model_guests.specs.Seated.{IsSeatedAt, AreSeated}
 
 -- for the function f at p, where n is the guest's address
-pub record ReachesRegion (b : Board) (a : Apertures) (fs : List BoardFunction) (p : Path) (f : Function) (space : Space) (n : ℕ) (h : Hit) : Type 0 where
+pub record ReachesRegion (b : Board) (a : Apertures) (fs : List BoardFunction) (p : Path) (f : Function)
+    (space : Space) (n : ℕ) (h : Hit) : Type 0 where
   pub region : Region
   pub declared : IsIn region f.decl.regions
   pub hit : IsHitIn space n region h
   pub within : IsPlacedWithin (placed b a p region)
-  pub claimed : first_claim fs space (first_of b a p region + h.offset) ≡ Some (record { path = p; index = h.index; offset = h.offset })
+  pub claimed : first_claim fs space (first_of b a p region + h.offset)
+      ≡ Some (record { path = p; index = h.index; offset = h.offset })
   pub lanes : (first_of b a p region + h.offset) % 4 ≡ n % 4
   pub ordinary_port : space ≡ io → (latch w : ℕ) → port_target latch (first_of b a p region + h.offset) w ≡ ordinary
 

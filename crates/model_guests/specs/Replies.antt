@@ -3,7 +3,8 @@
 --     refusal_words      what each number of a refusal says
 --     reply_text, line_text      a reply; a reply under the name of who is told
 --     reply_lines      the lines of a text that speak to a guest
-use Rattle.std.specs.Prelude.{List, [], ◌∷◌, ℕ, zero, suc, ◌*◌, ◌/◌, ◌%◌, false, ◌==◌, if◌then◌else◌, ◌++◌, filter, codes, decimal}
+use Rattle.std.specs.Prelude.{List, [], ◌∷◌, ℕ, zero, suc, ◌*◌, ◌/◌, ◌%◌, false, ◌==◌, if◌then◌else◌, ◌++◌, filter}
+use Rattle.std.specs.Prelude.{codes, decimal}
 use Rattle.std.specs.Fmt.{digit_glyph}
 use Rattle.std.specs.List.{starts_with}
 use Rattle.model_guests.specs.Accesses.{Reply, answered, done, refused}
@@ -18,7 +19,8 @@ hex_digits (suc k) n = hex_digits k (n / 16) ++ digit_glyph false (n % 16) ∷ [
 abbrev pub refusal_words : ℕ → Text
 refusal_words n =
     if n == 301 then codes "misaligned" else (if n == 302 then codes "width" else (if n == 303 then codes "range"
-    else (if n == 401 then codes "bad line" else (if n == 402 then codes "unknown guest" else (if n == 403 then codes "long line"
+    else (if n == 401 then codes "bad line" else (if n == 402 then codes "unknown guest"
+    else (if n == 403 then codes "long line"
     else (if n == 601 then codes "empty slot" else (if n == 602 then codes "slot taken" else [])))))))
 
 abbrev pub reply_text : Reply → Text

@@ -2,7 +2,8 @@
 --     function_lines      an endpoint with its regions and its interrupt, or a bridge with its buses and windows
 --     slot_lines      the slots of a guest
 --     report      the whole text
-use Rattle.std.specs.Prelude.{List, [], ◌∷◌, ℕ, ◌-◌, zero, suc, ◌+◌, true, false, ◌++◌, flat_map, not, map, count_by, codes, decimal}
+use Rattle.std.specs.Prelude.{List, [], ◌∷◌, ℕ, ◌-◌, zero, suc, ◌+◌, true, false, ◌++◌, flat_map, not, map, count_by}
+use Rattle.std.specs.Prelude.{codes, decimal}
 use Rattle.std.specs.Fmt.{digits}
 use Rattle.std.specs.List.{join_with_byte}
 use Rattle.model_registers.specs.Declarations.{Kind, io_kind, mem32, mem64, Region}
@@ -29,7 +30,8 @@ path_text p = join_with_byte 47 (map part_text p)
 
 -- BB:DD.F
 abbrev pub address_text : Board → Path → Text
-address_text b p = hex_digits 2 (bus_of b p) ++ codes ":" ++ hex_digits 2 (last_part p).device ++ codes "." ++ decimal (last_part p).function
+address_text b p = hex_digits 2 (bus_of b p) ++ codes ":" ++ hex_digits 2 (last_part p).device ++ codes "."
+    ++ decimal (last_part p).function
 
 abbrev pub kind_text : Kind → Text
 kind_text io_kind = codes "io"
@@ -47,18 +49,21 @@ identity_text vendor device = hex_digits 4 vendor ++ codes ":" ++ hex_digits 4 d
 
 abbrev pub region_line : Board → Apertures → Path → Region → Text
 region_line b a p r =
-    codes "  bar" ++ decimal r.index ++ codes " " ++ kind_text r.kind ++ codes " at " ++ hexadecimal (first_of b a p r) ++ codes " size " ++ hexadecimal r.size
+    codes "  bar" ++ decimal r.index ++ codes " " ++ kind_text r.kind ++ codes " at " ++ hexadecimal (first_of b a p r)
+    ++ codes " size " ++ hexadecimal r.size
 
 -- no line for pin 0
 abbrev pub pin_lines : Path → ℕ → List Text
 pin_lines p zero = []
-pin_lines p (suc n) = (codes "  irq " ++ pin_text (suc n) ++ codes " at " ++ decimal (root_device p) ++ codes " " ++ pin_text (root_pin p (suc n))) ∷ []
+pin_lines p (suc n) = (codes "  irq " ++ pin_text (suc n) ++ codes " at " ++ decimal (root_device p) ++ codes " "
+    ++ pin_text (root_pin p (suc n))) ∷ []
 
 -- no line for a window without items
 abbrev pub window_line : Text → Pool → ℕ → List Item → List Text
 window_line name pool first [] = []
 window_line name pool first (i ∷ is) =
-    (codes "  " ++ name ++ codes " " ++ hexadecimal first ++ codes " " ++ hexadecimal (first + need (unit_of pool) (i ∷ is) - 1)) ∷ []
+    (codes "  " ++ name ++ codes " " ++ hexadecimal first ++ codes " "
+    ++ hexadecimal (first + need (unit_of pool) (i ∷ is) - 1)) ∷ []
 
 abbrev pub window_lines : Board → Apertures → Path → Text → Pool → List Text
 window_lines b a p name pool = window_line name pool (bus_first b a pool p) (items_on b a pool p)
@@ -69,16 +74,20 @@ function_lines b a p (endpoint d) =
     ∷ map (region_line b a p) d.regions ++ pin_lines p d.pin
 function_lines b a p (bridge d) =
     (address_text b p ++ codes " " ++ path_text p ++ codes " bridge " ++ identity_text d.vendor d.device
-    ++ codes " buses " ++ hex_digits 2 (bus_of b p) ++ codes " " ++ hex_digits 2 (secondary b p) ++ codes " " ++ hex_digits 2 (subordinate b p))
-    ∷ window_lines b a p (codes "io") io_pool ++ window_lines b a p (codes "mem") mem_pool ++ window_lines b a p (codes "pref") pref_pool
+    ++ codes " buses " ++ hex_digits 2 (bus_of b p) ++ codes " " ++ hex_digits 2 (secondary b p) ++ codes " "
+    ++ hex_digits 2 (subordinate b p))
+    ∷ window_lines b a p (codes "io") io_pool ++ window_lines b a p (codes "mem") mem_pool
+    ++ window_lines b a p (codes "pref") pref_pool
 
 abbrev pub slot_lines : Text → ℕ → List Path → List Text
 slot_lines name n [] = []
-slot_lines name n (p ∷ ps) = (codes "guest " ++ name ++ codes " slot " ++ decimal n ++ codes " " ++ path_text p) ∷ slot_lines name (n + 1) ps
+slot_lines name n (p ∷ ps) = (codes "guest " ++ name ++ codes " slot " ++ decimal n ++ codes " " ++ path_text p)
+    ∷ slot_lines name (n + 1) ps
 
 abbrev pub report_lines : World → List Text
 report_lines w =
-    (codes "endpoints " ++ decimal (count_by (λ r. not (is_bridge r.decl)) w.board) ++ codes " bridges " ++ decimal (count_by (λ r. is_bridge r.decl) w.board))
+    (codes "endpoints " ++ decimal (count_by (λ r. not (is_bridge r.decl)) w.board) ++ codes " bridges "
+    ++ decimal (count_by (λ r. is_bridge r.decl) w.board))
     ∷ flat_map (λ r. function_lines w.board w.apertures r.path r.decl) w.board
     ++ flat_map (λ g. slot_lines g.name 0 g.slots) w.guests
 

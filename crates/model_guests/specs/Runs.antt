@@ -17,7 +17,7 @@ use Rattle.model_guests.specs.WorldNow.{WorldNow, line_output, after_line, outpu
 abbrev pub HasNoEnd : Text → Type 0
 HasNoEnd line = IsFalse (list_any ends_line line)
 
--- the lines that were read up to their LF ran, and their output was written whole; of the next line a beginning was read
+-- the lines that were read up to their LF ran, and their output was written whole; of the next line a part was read
 pub record IsCut (w : WorldNow) (old_rest new_rest old new : Option Text) (end : WorldNow) : Type 0 where
   pub whole : List Text
   pub part : Text
@@ -50,12 +50,14 @@ pub record WritesBeginning (w : WorldNow) (lines : List Text) (old new : Option 
   pub begins : StartsWith (output w lines) text
 
 abbrev pub StoppedIsBeginning : Type 0
-StoppedIsBeginning = (w : WorldNow) (ls : List Text) (old new : Option Text) (end : WorldNow) → IsStopped w ls old new end
+StoppedIsBeginning = (w : WorldNow) (ls : List Text) (old new : Option Text) (end : WorldNow)
+    → IsStopped w ls old new end
     → WritesBeginning w ls old new
 
 -- of the output of what was read
 abbrev pub CutIsBeginning : Type 0
-CutIsBeginning = (w : WorldNow) (old_rest new_rest old new : Option Text) (end : WorldNow) → IsCut w old_rest new_rest old new end
+CutIsBeginning = (w : WorldNow) (old_rest new_rest old new : Option Text) (end : WorldNow)
+    → IsCut w old_rest new_rest old new end
     → (read : Text) × Consumes old_rest new_rest read × WritesBeginning w (lines read) old new
 
 -- ---- pieces
@@ -67,7 +69,8 @@ abbrev pub AfterAlong : Type 0
 AfterAlong = (w : WorldNow) (ls ms : List Text) → after_lines w (ls ++ ms) ≡ after_lines (after_lines w ls) ms
 
 abbrev pub LinesOfPieces : Type 0
-LinesOfPieces = (ls : List Text) → Each HasNoEnd ls → (rest : Text) → lines (text_of_lines ls ++ rest) ≡ ls ++ lines rest
+LinesOfPieces = (ls : List Text) → Each HasNoEnd ls → (rest : Text)
+    → lines (text_of_lines ls ++ rest) ≡ ls ++ lines rest
 
 abbrev pub LongLinesAlike : Type 0
 LongLinesAlike = (w : WorldNow) (l m : Text) → IsTrue (is_long l) → IsTrue (is_long m)

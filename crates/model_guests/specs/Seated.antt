@@ -1,26 +1,11 @@
 -- Where guests' functions stand on the board, whatever events and moves there were.
---     IsSeatedAt, IsSeat, AreSeats      a slot has a function just where it has a path, and it is the endpoint that the board declares there
+--     IsSeatedAt, IsSeat, AreSeats      a slot has a function just where it has a path, and it is the endpoint there
 --     IsSeatedGuest, AreSeated      32 such slots each, and no name and no path twice
 --     SeatedAtFirst, SeatedAfterEvents, SeatedAfterMoves, SeatedAlong      so it is at first, and so it stays
 --     NamesStay, NamesAlong      no guest's name changes
 --     ByIndex      a guest by its index
-use Rattle.std.specs.Prelude.{
-  List,
-  [],
-  ◌∷◌,
-  ◌≡◌,
-  ℕ,
-  false,
-  Option,
-  Some,
-  None,
-  ⊤,
-  IsFalse,
-  map,
-  length,
-  slice_get,
-  slice_set,
-}
+use Rattle.std.specs.Prelude.{List, [], ◌∷◌, ◌≡◌, ℕ, false, Option, Some, None, ⊤, IsFalse, map, length, slice_get}
+use Rattle.std.specs.Prelude.{slice_set}
 use Rattle.std.specs.Str.{bytes_eq}
 use Rattle.model_registers.specs.Lists.{Each, EachPair}
 use Rattle.model_registers.specs.Decoding.{Function}
@@ -32,17 +17,8 @@ use Rattle.model_registers.specs.CopiedFiles.{shape_of}
 use Rattle.model_guests.specs.Slots.{Slots}
 use Rattle.model_guests.specs.Text.{Text}
 use Rattle.model_guests.specs.World.{World, names, declared, HasLawfulGuests}
-use Rattle.model_guests.specs.Guests.{
-  GuestNow,
-  GuestsNow,
-  guests_at_first,
-  guest_named,
-  path_in,
-  with_guest,
-  after_guest_event,
-  Move,
-  after_move,
-}
+use Rattle.model_guests.specs.Guests.{GuestNow, GuestsNow, guests_at_first, guest_named, path_in, with_guest}
+use Rattle.model_guests.specs.Guests.{after_guest_event, Move, after_move}
 use Rattle.model_guests.specs.WorldNow.{WorldNow, world_at_first, names_now, after_line, after_lines}
 
 -- with its cells, whatever they hold
@@ -69,20 +45,23 @@ pub record IsSeatedGuest (b : Board) (g : GuestNow) : Type 0 where
 pub record AreSeated (b : Board) (gs : GuestsNow) : Type 0 where
   pub names_apart : EachPair (λ (g h : GuestNow). IsFalse (bytes_eq g.name h.name)) gs
   pub guests : Each (IsSeatedGuest b) gs
-  pub paths_apart : (a c : Text) (n m : ℕ) (p : Path) → path_in gs a n ≡ Some p → path_in gs c m ≡ Some p → (a ≡ c) × (n ≡ m)
+  pub paths_apart : (a c : Text) (n m : ℕ) (p : Path) → path_in gs a n ≡ Some p → path_in gs c m ≡ Some p
+      → (a ≡ c) × (n ≡ m)
 
 abbrev pub SeatedAtFirst : Type 0
 SeatedAtFirst = (w : World) → HasLawfulGuests w → AreSeated w.board (guests_at_first w)
 
 abbrev pub SeatedAfterEvents : Type 0
-SeatedAfterEvents = (b : Board) (gs : GuestsNow) → AreSeated b gs → (name : Text) (e : Event) → AreSeated b (after_guest_event name e gs)
+SeatedAfterEvents = (b : Board) (gs : GuestsNow) → AreSeated b gs → (name : Text) (e : Event)
+    → AreSeated b (after_guest_event name e gs)
 
 abbrev pub SeatedAfterMoves : Type 0
 SeatedAfterMoves = (b : Board) (gs : GuestsNow) → AreSeated b gs → (m : Move) → AreSeated b (after_move gs m)
 
 -- along any lines
 abbrev pub SeatedAlong : Type 0
-SeatedAlong = (w : WorldNow) → AreSeated w.board w.guests → (ls : List Text) → AreSeated w.board (after_lines w ls).guests
+SeatedAlong = (w : WorldNow) → AreSeated w.board w.guests → (ls : List Text)
+    → AreSeated w.board (after_lines w ls).guests
 
 abbrev pub NamesStay : Type 0
 NamesStay = (w : WorldNow) (line : Text) → names_now (after_line w line) ≡ names_now w

@@ -5,7 +5,9 @@
 --     perform, effect      what an access that landed there replies, and the slots after it
 --     raise_landing, affected      where a raise sets bits; the slots after an event that no check refused
 --     reset_slots      the slots at reset
-use Rattle.std.specs.Prelude.{List, [], ◌∷◌, ℕ, ◌-◌, ◌+◌, ◌%◌, Bool, false, ◌&&◌, ◌==◌, if◌then◌else◌, replicate, length, ◌^◌, ◌++◌, not, ◌||◌, nat_lt, nat_le, Option, Some, None, map, slice_get, slice_set, unwrap_or, is_some, option_map}
+use Rattle.std.specs.Prelude.{List, [], ◌∷◌, ℕ, ◌-◌, ◌+◌, ◌%◌, Bool, false, ◌&&◌, ◌==◌, if◌then◌else◌, replicate}
+use Rattle.std.specs.Prelude.{length, ◌^◌, ◌++◌, not, ◌||◌, nat_lt, nat_le, Option, Some, None, map, slice_get}
+use Rattle.std.specs.Prelude.{slice_set, unwrap_or, is_some, option_map}
 use Rattle.std.specs.List.{list_any}
 use Rattle.std.specs.Option.{option_map_or}
 use Rattle.model_registers.specs.Lists.{first_of_two}
@@ -13,7 +15,8 @@ use Rattle.model_registers.specs.Registers.{Place, config, block, File, write, r
 use Rattle.model_registers.specs.Declarations.{Endpoint}
 use Rattle.model_registers.specs.EndpointTable.{endpoint_reset}
 use Rattle.model_registers.specs.Decoding.{Space, io, memory, Function, Hit, lone_claim}
-use Rattle.model_guests.specs.Accesses.{Target, configuration, port, address, Op, reads, writes, Access, RaisePlace, in_config, in_region, Raise, Event, access, raises, Reply, answered, done}
+use Rattle.model_guests.specs.Accesses.{Target, configuration, port, address, Op, reads, writes, Access, RaisePlace}
+use Rattle.model_guests.specs.Accesses.{in_config, in_region, Raise, Event, access, raises, Reply, answered, done}
 
 -- the three checks of any access, in their order: the width, the alignment of its place, the range
 abbrev pub access_fault : ℕ → ℕ → Bool → Option ℕ
@@ -48,7 +51,8 @@ pub record Landing : Type 0 where
 
 abbrev pub landing_in : ℕ → Space → ℕ → Option Function → Option Landing
 landing_in n space a None = None
-landing_in n space a (Some f) = option_map (λ (h : Hit). record { slot = n; place = block h.index h.offset }) (lone_claim f space a)
+landing_in n space a (Some f) = option_map (λ (h : Hit). record { slot = n; place = block h.index h.offset })
+    (lone_claim f space a)
 
 -- the first claim by slot, then by register; n is the number of the first slot of the list
 abbrev pub landing_from : ℕ → Space → ℕ → Slots → Option Landing
@@ -56,7 +60,8 @@ landing_from n space a [] = None
 landing_from n space a (f ∷ fs) = first_of_two (landing_in n space a f) (landing_from (n + 1) space a fs)
 
 abbrev pub landing : Slots → Target → Option Landing
-landing slots (configuration slot off) = if is_some (slot_at slots slot) then Some (record { slot = slot; place = config off }) else None
+landing slots (configuration slot off) =
+    if is_some (slot_at slots slot) then Some (record { slot = slot; place = config off }) else None
 landing slots (port a) = landing_from 0 io a slots
 landing slots (address a) = landing_from 0 memory a slots
 
@@ -65,7 +70,8 @@ file_at slots n = option_map_or (λ (f : Function). f.file) (slot_at slots n) []
 
 -- the slots with the file of slot n changed
 abbrev pub with_file : (File → File) → ℕ → Slots → Slots
-with_file g n slots = option_map_or (λ (f : Function). slice_set slots n (Some (record f { file = g f.file }))) (slot_at slots n) slots
+with_file g n slots = option_map_or (λ (f : Function). slice_set slots n (Some (record f { file = g f.file })))
+    (slot_at slots n) slots
 
 abbrev pub perform : Op → ℕ → Slots → Option Landing → Reply
 perform reads w slots None = answered (all_ones w) w
@@ -100,7 +106,8 @@ event_fault slots (raises r) = raise_fault slots r
 
 abbrev pub affected : Slots → Event → Slots
 affected slots (access a) = effect a.op a.width slots (landing slots a.target)
-affected slots (raises r) = option_map_or (λ (p : Place). with_file (raise r.mask p) r.slot slots) (raise_landing (slot_at slots r.slot) r) slots
+affected slots (raises r) = option_map_or (λ (p : Place). with_file (raise r.mask p) r.slot slots)
+    (raise_landing (slot_at slots r.slot) r) slots
 
 -- the 32 slots at reset; the header type never tells what else the device holds
 abbrev pub reset_function : Option Endpoint → Option Function

@@ -12,7 +12,8 @@ HasPlacesApart file = EachPair (λ p q. IsFalse (place_eq p q)) (places_of file)
 
 abbrev pub ViewIsFile : Type 0
 ViewIsFile = (left own copies : File) → HasPlacesApart own → places_of own ≡ places_of left
-    → ((p : Place) → IsTrue (is_own p) → cell_at own p ≡ cell_at copies p) → with_copies copies (agreed_file left own) ≡ own
+    → ((p : Place) → IsTrue (is_own p) → cell_at own p ≡ cell_at copies p)
+    → with_copies copies (agreed_file left own) ≡ own
 
 abbrev pub ViewAgrees : Type 0
 ViewAgrees = (left own copies : File) → places_of own ≡ places_of left

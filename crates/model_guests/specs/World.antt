@@ -2,7 +2,8 @@
 --     Guest, World      a name with the paths of its slots; a board, its apertures and guests
 --     paths_of, declarations      the paths of a guest's slots, and what stands there
 --     HasLawfulNames, HasLawfulGuests, IsLawfulWorld      what holds of any board and guests that a board file gives
-use Rattle.std.specs.Prelude.{List, [], ◌∷◌, ℕ, Bool, false, ◌&&◌, ◌||◌, ◌≤◌, length, not, nat_le, Option, Some, None, map, find, flat_map, codes, IsTrue, IsFalse, IsSome}
+use Rattle.std.specs.Prelude.{List, [], ◌∷◌, ℕ, Bool, false, ◌&&◌, ◌||◌, ◌≤◌, length, not, nat_le, Option, Some, None}
+use Rattle.std.specs.Prelude.{map, find, flat_map, codes, IsTrue, IsFalse, IsSome}
 use Rattle.std.specs.List.{list_all}
 use Rattle.std.specs.Option.{option_map_or}
 use Rattle.std.specs.Str.{bytes_eq}
@@ -51,7 +52,8 @@ is_name_byte c = is_letter c || (nat_le 48 c && nat_le c 57)
 -- a lower-case letter, then at most 15 letters and digits; not `host`
 abbrev pub is_name : Text → Bool
 is_name [] = false
-is_name (c ∷ cs) = is_letter c && list_all is_name_byte cs && nat_le (length cs) 15 && not (bytes_eq (c ∷ cs) (codes "host"))
+is_name (c ∷ cs) = is_letter c && list_all is_name_byte cs && nat_le (length cs) 15
+    && not (bytes_eq (c ∷ cs) (codes "host"))
 
 abbrev pub HasLawfulNames : World → Type 0
 HasLawfulNames w = Each (λ n. IsTrue (is_name n)) (names w)
@@ -60,7 +62,8 @@ HasLawfulNames w = Each (λ n. IsTrue (is_name n)) (names w)
 abbrev pub given_paths : World → List Path
 given_paths w = flat_map (λ g. g.slots) w.guests
 
--- at most 32 guests with lawful names, none twice; at most 32 slots each, each with an endpoint of the board, and none in two slots
+-- at most 32 guests with lawful names, none twice; at most 32 slots each, each with an endpoint of the board,
+-- and none in two slots
 pub record HasLawfulGuests (w : World) : Type 0 where
   pub few_guests : length w.guests ≤ 32
   pub lawful_names : HasLawfulNames w

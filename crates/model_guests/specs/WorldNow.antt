@@ -16,7 +16,8 @@ use Rattle.model_guests.specs.World.{World}
 use Rattle.model_guests.specs.HostReads.{host_answer}
 use Rattle.model_guests.specs.Replies.{line_text}
 use Rattle.model_guests.specs.Lone.{answer}
-use Rattle.model_guests.specs.Guests.{GuestNow, GuestsNow, guests_at_first, lone_of, after_guest_event, Move, move_fault, after_move}
+use Rattle.model_guests.specs.Guests.{GuestNow, GuestsNow, guests_at_first, lone_of, after_guest_event, Move}
+use Rattle.model_guests.specs.Guests.{move_fault, after_move}
 use Rattle.model_guests.specs.AgreedBoard.{agreed_state}
 use Rattle.model_guests.specs.Lines.{Meaning, nothing, guest_event, host_read, host_move, bad, meaning}
 

@@ -1,6 +1,6 @@
 -- A function's file as its guest has it, as the board has it, and what is common to both.
 --     places_of, shape_of      the places of a file; its cells without their values
---     agreed_file left own      the board's file: as set-up left it where the guest has copies, and the guest's everywhere else
+--     agreed_file left own      the board's file: as set-up left it where the guest has copies, else the guest's
 --     with_copies copies file      a file with the cells of the copies at their places
 --     after_reset d file      the board's file of a function that is at reset but for what its guests have copies of
 use Rattle.std.specs.Prelude.{List, if◌then◌else◌, map, false}
