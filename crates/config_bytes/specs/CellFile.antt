@@ -6,7 +6,10 @@
 --     reset_outside first last initial now      a file whose cells are those of another one, but at offsets in a range
 --     offsets_from a cs      cells at the offsets from a on
 --     IsTable      a table by offset shows the cells of a file: no access looks at all of them
-use Rattle.std.specs.Prelude.{◌≡◌, ◌≢◌, ◌<◌, ℕ, ◌+◌, nat_le, ◌==◌, not, Bool, false, ◌&&◌, if◌then◌else◌, List, [], ◌∷◌, map, length, slice_set, slice_index_or}
+use Rattle.std.specs.Prelude.{
+  ◌≡◌, ◌≢◌, ◌<◌, ℕ, ◌+◌, nat_le, ◌==◌, not, Bool, false, ◌&&◌, if◌then◌else◌, List, [], ◌∷◌, map, length, slice_set,
+  slice_index_or,
+}
 use Rattle.model_registers.specs.Lists.{Each, EachPair}
 use Rattle.model_registers.specs.Cell.{Cell, no_cell}
 use Rattle.model_registers.specs.Registers.{Place, config, block, Entry, File, cell_at}
@@ -25,7 +28,8 @@ is_between first last (config a) = nat_le first a && nat_le a last
 is_between first last (block n a) = false
 
 abbrev pub reset_entry : ℕ → ℕ → File → Entry → Entry
-reset_entry first last initial e = if is_between first last e.place then e else record e { cell = cell_at initial e.place }
+reset_entry first last initial e =
+    if is_between first last e.place then e else record e { cell = cell_at initial e.place }
 
 abbrev pub reset_outside : ℕ → ℕ → File → File → File
 reset_outside first last initial now = map (reset_entry first last initial) now
@@ -63,7 +67,8 @@ placed (c ∷ cs) table = placed cs (slice_set table c.0 c.1)
 -- a table after each cell of a list but those at the offsets from first to last is put at its offset
 abbrev pub placed_outside : ℕ → ℕ → List (ℕ × Cell) → List Cell → List Cell
 placed_outside first last [] table = table
-placed_outside first last (c ∷ cs) table = placed_outside first last cs (if nat_le first c.0 && nat_le c.0 last then table else slice_set table c.0 c.1)
+placed_outside first last (c ∷ cs) table =
+    placed_outside first last cs (if nat_le first c.0 && nat_le c.0 last then table else slice_set table c.0 c.1)
 
 -- the table has room for the offsets of the list, and shows their file at every offset
 pub record IsTable (table : List Cell) (cs : List (ℕ × Cell)) : Type 0 where

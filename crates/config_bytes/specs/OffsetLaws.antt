@@ -37,7 +37,8 @@ DistinctAppend = (a b c d : ℕ) (xs ys : List (ℕ × Cell)) → b ≤ c → Is
     → HasDistinctOffsets xs → HasDistinctOffsets ys → HasDistinctOffsets (xs ++ ys) × HasDistinctOffsets (ys ++ xs)
 
 abbrev pub DistinctPush : Type 0
-DistinctPush = (cs : List (ℕ × Cell)) (c : ℕ × Cell) → Each (λ d. d.0 ≢ c.0) cs → HasDistinctOffsets cs → HasDistinctOffsets (cs ++ c ∷ [])
+DistinctPush = (cs : List (ℕ × Cell)) (c : ℕ × Cell) → Each (λ d. d.0 ≢ c.0) cs
+    → HasDistinctOffsets cs → HasDistinctOffsets (cs ++ c ∷ [])
 
 abbrev pub DistinctOffsets : Type 0
 DistinctOffsets = (a : ℕ) (cs : List Cell) → HasDistinctOffsets (offsets_from a cs)
