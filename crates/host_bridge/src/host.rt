@@ -9,7 +9,7 @@ ghost use Rattle.model_board.specs.State.{with_file};
 ghost use Rattle.model_board.specs.Claims.{first_claim};
 ghost use Rattle.model_board.specs.Ports.{selected, selected_register, config_reply, after_config_write, claim_reply, after_claim_write, port_reply, after_port_write, memory_reply, after_memory_write};
 ghost use Rattle.headers.specs.Places.{place_of};
-ghost use Rattle.bridge_forward.specs.Lending.{endpoint_at};
+ghost use Rattle.bridge_forward.specs.Lending.{endpoint_at, with_endpoint_reset};
 ghost use Rattle.bridge_forward.specs.Locating.{located_claim};
 ghost use Rattle.host_bridge.specs.BusAddresses.{bus_address_of};
 ghost use Rattle.host_bridge.specs.HostState.{with_functions, with_latch};
@@ -154,6 +154,16 @@ impl Host {
             Some(endpoint) => endpoint.raise(place, off, mask),
             None => unreachable!(),
         }
+    }
+
+    /// Resets every cell of the endpoint at a path but Command and the base address registers. All other
+    /// functions stay, and so do the address latch and the apertures. Where no endpoint stands there,
+    /// nothing changes.
+    pub fn reset_endpoint(&mut self, path: &Path)
+        ensures { let fs = self.old.state.functions in
+            self.new ≡ with_functions (with_endpoint_reset path.now fs) self.old }
+    {
+        self.root.reset_endpoint(path);
     }
 
     /// What `width` bytes at the claim of an address read.
