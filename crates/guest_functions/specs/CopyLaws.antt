@@ -1,4 +1,5 @@
--- Laws of a file with a guest's own copies put in: what it reads, how it changes, and that it goes on holding the copies.
+-- Laws of a file with a guest's own copies put in (PCI Local Bus 3.0, chapter 6.1): what it reads, how it changes, and that
+-- it goes on holding the copies.
 use Rattle.std.specs.Prelude.{◌≡◌, ◌<◌, ◌^◌, ◌+◌, ℕ, Bool, true, false, List, length, map}
 use Rattle.model_registers.specs.Lists.{Each}
 use Rattle.model_registers.specs.Registers.{Place, block, Entry, File, cell_at, read, write, raise}
@@ -28,7 +29,8 @@ BlockRead = (enables : List Bool) (n a : ℕ) (own file : File)
 -- a write reaches the copies by itself, and the file by the bytes that are handed on
 abbrev pub CopiedWrite : Type 0
 CopiedWrite = (enables : List Bool) (v : ℕ) (p : Place) (own file : File)
-    → write enables v p (with_copies own file) ≡ with_copies (write enables v p own) (write (handed_on p enables) v p file)
+    → write enables v p (with_copies own file)
+    ≡ with_copies (write enables v p own) (write (handed_on p enables) v p file)
 
 -- in a region there are no copies
 abbrev pub BlockWrite : Type 0
@@ -75,12 +77,14 @@ BlockWrittenHeld = (own : OwnCopies) (file : File) → HoldsOwn file own → (en
 -- ---- copies of lawful regions
 
 abbrev pub LawfulCopies : Type 0
-LawfulCopies = (own : OwnCopies) (rs : List Region) → HasLawfulRegions rs → map bare rs ≡ map opened own.bases → IsLawfulOwn own
+LawfulCopies = (own : OwnCopies) (rs : List Region) → HasLawfulRegions rs → map bare rs ≡ map opened own.bases
+    → IsLawfulOwn own
 
 -- a word of copies and the bytes that are handed on add up to the enabled bytes of a word
 abbrev pub SumOfBytes : Type 0
 SumOfBytes = (own : OwnCopies) → IsLawfulOwn own → (enables : List Bool) (p : Place) (n : ℕ)
-    → (let sum : ℕ = read (own_file own) p enables + enabled_bytes (handed_on p enables) n in sum ≡ enabled_bytes enables sum)
+    → (let sum : ℕ = read (own_file own) p enables + enabled_bytes (handed_on p enables) n in
+    sum ≡ enabled_bytes enables sum)
 
 abbrev pub EnabledBytesFit : Type 0
 EnabledBytesFit = (enables : List Bool) (n : ℕ) → enabled_bytes enables n < 256 ^ length enables

@@ -5,7 +5,8 @@ use Rattle.std.specs.Prelude.{◌≡◌, ◌≤◌, ◌<◌, ℕ, ◌+◌, ◌*�
 use Rattle.guest_functions.specs.declared.word.Word.{Word}
 use Rattle.guest_functions.specs.declared.word.Word.TheVariants.{Command, HeaderType, Base, Other}
 
--- the words without own copies: below Command, between Status and the header type's word, above the base address registers
+-- the words without own copies: below Command, between Status and the header type's word, above the base address
+-- registers
 abbrev pub IsOther : ℕ → Type 0
 IsOther off = (off ≡ 0) ⊎ ((off ≡ 8) ⊎ (0x28 ≤ off))
 
