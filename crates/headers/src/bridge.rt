@@ -6,6 +6,7 @@ ghost use Rattle.headers.specs.Decodes.{io_decode_of, pref_decode_of};
 
 use crate::bridge_decl::BridgeDecl;
 use crate::decodes::{IoDecode, PrefDecode};
+use crate::registers::Command;
 use crate::row::Access::{Clear, ReadOnly, Write};
 use crate::row::Row;
 use crate::table::{header_type, push_rows};
@@ -28,7 +29,7 @@ fn push_header(
         &[
             Row(0x00, 2, u32::from(decl.vendor()), ReadOnly),
             Row(0x02, 2, u32::from(decl.device()), ReadOnly),
-            Row(0x04, 2, 0, Write(0x0147)),
+            Row(0x04, 2, 0, Write(u32::from(Command::of_bridge().0))),
             Row(0x06, 2, 0, Clear(0xf900)),
             Row(0x08, 1, u32::from(decl.revision()), ReadOnly),
             Row(0x09, 3, 0x06_0400, ReadOnly),

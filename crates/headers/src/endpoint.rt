@@ -7,6 +7,7 @@ ghost use Rattle.config_bytes.specs.CellFile.{file_of};
 
 use crate::config_block::ConfigBlock;
 use crate::endpoint_decl::EndpointDecl;
+use crate::registers::Command;
 use crate::row::Access::{Clear, ReadOnly, Write};
 use crate::row::Row;
 use crate::table::{header_type, push_block, push_rows};
@@ -43,7 +44,7 @@ fn push_header(
         &[
             Row(0x00, 2, u32::from(values.vendor), ReadOnly),
             Row(0x02, 2, u32::from(values.device), ReadOnly),
-            Row(0x04, 2, 0, Write(0x0547)),
+            Row(0x04, 2, 0, Write(u32::from(Command::of_endpoint().0))),
             Row(0x06, 2, u32::from(values.status), Clear(0xf900)),
             Row(0x08, 1, u32::from(values.revision), ReadOnly),
             Row(0x09, 3, values.class, ReadOnly),
@@ -62,7 +63,11 @@ fn push_header(
 impl Endpoint {
     /// The cells of an endpoint at reset, without its base address registers. `multifunction` says that its
     /// device has two functions or more.
-    pub fn cells(alloc: Global, decl: &EndpointDecl, multifunction: bool) -> Result<Cells, AllocError>
+    pub fn cells(
+        alloc: Global,
+        decl: &EndpointDecl,
+        multifunction: bool,
+    ) -> Result<Cells, AllocError>
         ensures { IfOk result (λ f. f ≡ record { now = config_reset decl.now multifunction; initial = config_reset decl.now multifunction }) }
     {
         let mut cells = Vec::new(alloc);

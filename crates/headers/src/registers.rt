@@ -1,5 +1,5 @@
 //! The Command and Status registers as sets of flags (PCI Local Bus 3.0, chapters 6.2.2 and 6.2.3).
-ghost use Rattle.std.specs.Prelude.{⊤, [], ◌∷◌, codes};
+ghost use Rattle.std.specs.Prelude.{◌≡◌, ⊤, [], ◌∷◌, codes};
 
 use bitflags::{Flag, Flags, bitflag_items};
 
@@ -38,6 +38,31 @@ impl Flags for Command {
 
     fn from_bits_retain(bits: u16) -> Command {
         Command(bits)
+    }
+}
+
+impl Command {
+    /// The bits that software sets in an endpoint: all that have a name here.
+    pub fn of_endpoint() -> Command
+        ensures { result.0 ≡ 0x0547 }
+    {
+        Command(Command::of_bridge().0 | Command::INTERRUPT_DISABLE.0)
+    }
+
+    /// The bits that software sets in a bridge.
+    pub fn of_bridge() -> Command
+        ensures { result.0 ≡ 0x0147 }
+    {
+        let transfers = Command::both_spaces().0 | Command::BUS_MASTER.0;
+        let errors = Command::PARITY_ERROR_RESPONSE.0 | Command::SERR_ENABLE.0;
+        Command(transfers | errors)
+    }
+
+    /// The bits that open both spaces.
+    pub fn both_spaces() -> Command
+        ensures { result.0 ≡ 3 }
+    {
+        Command(Command::IO_SPACE.0 | Command::MEMORY_SPACE.0)
     }
 }
 

@@ -12,17 +12,17 @@ returns c =
     let d : Endpoint = record {
       vendor = c.from.result;
       device = c.from-2.result;
-      revision = c.from-4.result;
+      revision = c.from-5.result;
       class = inside.class;
-      subvendor = c.from-5.result;
-      subsystem = c.from-6.result;
-      pin = c.from-7.result;
-      min_gnt = c.from-8.result;
-      max_lat = c.from-9.result;
-      status = c.from-3.result;
+      subvendor = c.from-6.result;
+      subsystem = c.from-7.result;
+      pin = c.from-8.result;
+      min_gnt = c.from-9.result;
+      max_lat = c.from-10.result;
+      status = c.from-4.result;
       regions = inside.bar.items;
       blocks = inside.config.items;
     } in
     let same : d ≡ c.args.decl.now = cc in
-    let pushed = rw c.header_type.ensures at c.push_rows.ensures in
+    let pushed = rw (c.from-3.ensures, c.of_endpoint.ensures, c.header_type.ensures) at c.push_rows.ensures in
     subst (λ (e : Endpoint). OnOk c.push_rows.result (file_of c.push_rows.new.cells.items ≡ file_of c.args.cells.now.items ++ header_cells e c.args.multifunction 0)) same pushed
