@@ -8,7 +8,7 @@
 --     slots_hold      each slot is the path of an endpoint, and no endpoint is in two slots
 --     apertures_hold      lawful apertures
 --     masks_hold      each block has lawful patterns, and no two blocks of own registers overlap
-use Rattle.std.specs.Prelude.{ℕ, ◌+◌, ℤ, pos, nat_abs, int_le, ◌+ℤ◌, Bool, true, false, not, ◌&&◌, ◌||◌, List, [], ◌∷◌, ◌++◌, map, length, ◌==◌, nat_le, Option, Some, None, bit_and, count_by}
+use Rattle.std.specs.Prelude.{ℕ, ◌+◌, ℤ, pos, nat_abs, int_le, ◌+ℤ◌, Bool, true, false, not, ◌&&◌, ◌||◌, List, [], ◌∷◌, map, length, ◌==◌, nat_le, Option, Some, None, bit_and, count_by}
 use Rattle.std.specs.List.{list_all, flat_map}
 use Rattle.std.specs.Int.{is_power_of_two}
 use Rattle.std.specs.Str.{bytes_eq}

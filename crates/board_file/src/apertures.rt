@@ -1,5 +1,5 @@
 //! The addresses that set-up may give out.
-ghost use Rattle.std.specs.Prelude.{◌≡◌, option_map, is_ok, IfOk, IsTrue, IsOk};
+ghost use Rattle.std.specs.Prelude.{◌≡◌, option_map, is_ok, IfOk};
 ghost use Rattle.model_registers.specs.Apertures.{are_lawful};
 ghost use Rattle.board_file.specs.Functions.{aperture, apertures};
 ghost use Rattle.board_file.specs.Rules.{is_natural, are_natural, apertures_hold};

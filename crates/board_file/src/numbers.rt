@@ -1,5 +1,5 @@
 //! The ranges of integers, and how many things a file may have.
-ghost use Rattle.std.specs.Prelude.{◌≡◌, ◌==◌, ◌+◌, ◌&&◌, pos, nat_le, length};
+ghost use Rattle.std.specs.Prelude.{◌≡◌, ◌==◌, ◌+◌, ◌&&◌, nat_le, length};
 ghost use Rattle.std.specs.List.{list_all};
 ghost use Rattle.board_file.specs.Rules.{is_between, has_only_bits, is_identity, is_described, has_lawful_needs, has_lawful_values, is_config_block, has_lawful_blocks, has_lawful_numbers, is_lawful_bridge, numbers_hold, has_few_slashes, have_few_slashes, counts_hold};
 

@@ -1,6 +1,6 @@
 //! The paths of functions and of slots.
 ghost use Rattle.std.specs.Prelude.{◌≡◌, ◌++◌, IfOk, OnOk, map, not};
-ghost use Rattle.std.specs.List.{list_all, list_any, flat_map};
+ghost use Rattle.std.specs.List.{list_all, flat_map};
 ghost use Rattle.model_registers.specs.Lists.{Each, all_pairs};
 ghost use Rattle.model_board.specs.Paths.{path_eq, IsPath};
 ghost use Rattle.model_board.specs.Places.{has_path, has_bridge};

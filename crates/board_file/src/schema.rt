@@ -1,9 +1,9 @@
 //! Which keys the tables of a board file have, and the checks of a TOML table against them.
-ghost use Rattle.std.specs.Prelude.{◌≡◌, map, is_some};
+ghost use Rattle.std.specs.Prelude.{◌≡◌, is_some};
 ghost use Rattle.toml.specs.View.{view, array_view, table_view};
 ghost use Rattle.std.specs.List.{list_all};
 ghost use Rattle.toml.specs.Data.{get_member, as_integer, as_str, as_table};
-ghost use Rattle.board_file.specs.Schema.{fields, field_of, form_at, level_at, is_listed, has_form, has_needed, value_test, value_passes, items_pass, table_passes};
+ghost use Rattle.board_file.specs.Schema.{fields, form_at, level_at, is_listed, has_form, has_needed, value_test, value_passes, items_pass, table_passes};
 
 use crate::keys::fields;
 use crate::texts::{io_decode, pref_decode, region_kind};

@@ -1,6 +1,5 @@
 //! Texts of numbers, paths and kinds.
-ghost use Rattle.std.specs.Prelude.{◌≡◌, ◌++◌, OnOk, string_bytes, decimal, codes};
-ghost use Rattle.model_guests.specs.Replies.{hex_digits};
+ghost use Rattle.std.specs.Prelude.{◌≡◌, ◌++◌, OnOk, string_bytes};
 ghost use Rattle.model_guests.specs.Report.{kind_text, path_text, identity_text};
 ghost use Rattle.bars.specs.Kinds.{kind_of};
 ghost use Rattle.report.specs.Found.{part_address, numbers_and_path};

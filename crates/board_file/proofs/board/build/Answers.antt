@@ -1,5 +1,5 @@
 use Rattle.std.proofs.Common.{◌≡◌, ◌&&◌, map, sym, ap, ◌∙◌, refl}
-use Rattle.std.proofs.lemmas.Bool.{and_parts, false≢true}
+use Rattle.std.proofs.lemmas.Bool.{and_parts}
 use Rattle.model_registers.specs.Apertures.{are_lawful}
 use Rattle.model_board.specs.Lawful.{HasLawfulDecls}
 use Rattle.model_board.specs.Places.{board_of}
