@@ -4,7 +4,7 @@ use board_file::{BoardFault, read_board};
 use std::process::Abort;
 use std::test::Fail;
 
-const MAIN: &str = "[host]
+pub(crate) const MAIN: &str = "[host]
 io = [0x1000, 0xffff]
 mem = [0xc0000000, 0xdfffffff]
 pref = [0x400000000, 0x4ffffffff]
