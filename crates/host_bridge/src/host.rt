@@ -15,12 +15,11 @@ ghost use Rattle.host_bridge.specs.BusAddresses.{bus_address_of};
 ghost use Rattle.host_bridge.specs.HostState.{with_functions, with_latch};
 
 use crate::bdf::Bdf;
-use crate::lanes::{all_ones, lowered};
 use crate::latch::{Latch, Target};
 use crate::route::Route;
 use bars::{Space, enabled_bits};
 use bridge_forward::{Bus, Claim, Located, Op, Path};
-use config_bytes::{enables_of, into_lanes};
+use config_bytes::{all_ones, enables_of, into_lanes, lowered};
 use headers::{Apertures, Place};
 use std::marker::Model;
 

@@ -4,7 +4,6 @@
 
 mod bdf;
 mod host;
-mod lanes;
 mod latch;
 mod route;
 #[cfg(test)]
