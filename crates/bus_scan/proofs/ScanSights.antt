@@ -1,36 +1,24 @@
 -- What a scan sees at a place, and where it goes on.
-use Rattle.std.proofs.Common.{◌≡◌, ℕ, ◌+◌, ◌%◌, ◌≤◌, ◌<◌, inr, Bool, true, false, not, cond, ◌&&◌, ◌||◌, List, [], ◌∷◌, ◌++◌, length, append_assoc, map, Option, Some, None, refl, sym, ap, ap₂, ◌∙◌, subst, arith, eqb, get_or, length-append}
-use Rattle.std.specs.Prelude.{find, count_by}
-use Rattle.std.proofs.Math.ListN.{set}
-use Rattle.std.proofs.Math.Seq.{get_or-append_seam}
-use Rattle.std.proofs.lemmas.List.{map-append, length-map}
-use Rattle.model_registers.specs.Declarations.{no_io, no_pref}
-use Rattle.model_board.specs.Members.{IsIn}
-use Rattle.model_board.specs.Paths.{Part, Path, part_eq, part_before, path_eq, path_before, leads_to, IsPath}
-use Rattle.model_board.specs.Board.{Decl, endpoint, bridge, Board, Row, is_bridge, is_bridge_at, stands_at, is_multifunction, IsBoard}
-use Rattle.model_board.specs.BusNumbers.{secondary, subordinate, bus_behind, bus_of, Enumerates}
-use Rattle.model_board.specs.FunctionTable.{TableRow, met_decl, scanned_table, table_row}
+use Rattle.std.proofs.Common.{◌≡◌, ℕ, ◌+◌, ◌%◌, Bool, true, false, not, cond, ◌&&◌, List, [], ◌∷◌, ◌++◌, Option, Some, None, refl, sym, ap, ◌∙◌, subst, eqb}
+use Rattle.std.specs.Prelude.{find}
+use Rattle.model_board.specs.Paths.{Path, path_eq}
+use Rattle.model_board.specs.Board.{Decl, endpoint, bridge, Board, Row, is_bridge, stands_at, is_multifunction}
+use Rattle.model_board.specs.BusNumbers.{bus_behind, bus_of}
+use Rattle.model_board.specs.FunctionTable.{TableRow}
 use Rattle.model_board.specs.State.{BoardFunction, State}
 use Rattle.model_board.specs.Cycles.{BusAddress, reached}
-use Rattle.model_board.specs.SetUp.{state_of, reset_file, reset_state}
 use Rattle.model_board.specs.Lawful.{IsLawfulDecl}
-use Rattle.model_board.specs.Scanning.{BusNumbers, no_numbers, board_numbers, open_numbers, scan_numbers, scan_state, numbered_file, numbered_state}
-use Rattle.model_board.specs.ScanOrder.{place, on, next_place, met, GivesNumbersInPathOrder}
-use Rattle.model_board.proofs.Members.{each_in, any_in, from_filter}
-use Rattle.model_board.proofs.PathOrder.{one, path_same, leads_before}
-use Rattle.model_board.proofs.PathEnds.{part_self, path_self, leads_self, parent_snoc, not_before_itself}
-use Rattle.model_board.proofs.Partings.{bridge_at, leads_longer}
-use Rattle.model_board.proofs.Scanning.{goes_before, met_before, reached_while_scanning, numbers_of_scan_state}
-use Rattle.model_board.proofs.ScanPlaces.{before_first, before_last, leads_place, row_path}
-use Rattle.model_board.proofs.ScanOrder.{scan_meets, scan_gives_numbers, no_bridge_here, no_bridge_none}
+use Rattle.model_board.specs.Scanning.{BusNumbers, scan_numbers, scan_state, numbered_file}
+use Rattle.model_board.specs.ScanOrder.{place, on, next_place}
+use Rattle.model_board.proofs.Members.{each_in}
+use Rattle.model_board.proofs.PathEnds.{parent_snoc}
 use Rattle.bus_scan.specs.declared.seen.Seen.{Seen}
 use Rattle.bus_scan.specs.declared.seen.Layout.TheVariants.{Endpoint as EndpointLayout, Bridge as BridgeLayout}
 use Rattle.bus_scan.specs.declared.table.Found.TheVariants.{Endpoint as FoundEndpoint}
-use Rattle.bus_scan.specs.Rows.{decl_of, ended as ended_range}
+use Rattle.bus_scan.specs.Rows.{decl_of}
 use Rattle.bus_scan.specs.Sights.{seen_of}
-use Rattle.bus_scan.specs.Scans.{met_row, given, IsAt, OnBus, StandsAt, IsFound, IsBridgeThere}
-use Rattle.bus_scan.proofs.States.{Numbers, numbered, map_same, same_state, none_stands, one_stands, stands, bridge_there}
-use Rattle.bus_scan.proofs.MetRows.{count_more, filter_same, row_same, rows_same, rows_more, met_grows, row_filled}
+use Rattle.bus_scan.specs.Scans.{met_row, IsAt, OnBus, IsFound, IsBridgeThere}
+use Rattle.bus_scan.proofs.States.{numbered, none_stands, one_stands, stands}
 use Rattle.bus_scan.proofs.ScanSteps.{before_on, reaches, next_is, stands_true, past_endpoint}
 
 -- what is seen at a place

@@ -1,5 +1,5 @@
 -- A scan from one place to the next.
-use Rattle.std.proofs.Common.{◌≡◌, ℕ, ◌+◌, ◌%◌, ◌≤◌, ◌<◌, inr, Bool, true, false, not, cond, ◌&&◌, ◌||◌, List, [], ◌∷◌, ◌++◌, length, append_assoc, map, Option, Some, None, refl, sym, ap, ap₂, ◌∙◌, subst, arith, eqb, get_or, length-append}
+use Rattle.std.proofs.Common.{◌≡◌, ℕ, ◌+◌, ◌%◌, ◌≤◌, ◌<◌, inr, Bool, true, false, not, cond, ◌&&◌, ◌||◌, List, [], ◌∷◌, ◌++◌, length, append_assoc, map, Some, refl, sym, ap, ap₂, ◌∙◌, subst, arith, eqb, get_or, length-append}
 use Rattle.std.specs.Prelude.{find, count_by}
 use Rattle.std.proofs.Math.ListN.{set}
 use Rattle.std.proofs.Math.Seq.{get_or-append_seam}
@@ -13,10 +13,9 @@ use Rattle.model_board.specs.FunctionTable.{TableRow, met_decl, scanned_table, t
 use Rattle.model_board.specs.State.{BoardFunction, State}
 use Rattle.model_board.specs.Cycles.{BusAddress, reached}
 use Rattle.model_board.specs.SetUp.{state_of, reset_file, reset_state}
-use Rattle.model_board.specs.Lawful.{IsLawfulDecl}
 use Rattle.model_board.specs.Scanning.{BusNumbers, no_numbers, board_numbers, open_numbers, scan_numbers, scan_state, numbered_file, numbered_state}
 use Rattle.model_board.specs.ScanOrder.{place, on, next_place, met, GivesNumbersInPathOrder}
-use Rattle.model_board.proofs.Members.{each_in, any_in, from_filter}
+use Rattle.model_board.proofs.Members.{any_in, from_filter}
 use Rattle.model_board.proofs.PathOrder.{one, path_same, leads_before}
 use Rattle.model_board.proofs.PathEnds.{part_self, path_self, leads_self, parent_snoc, not_before_itself}
 use Rattle.model_board.proofs.Partings.{bridge_at, leads_longer}
@@ -24,12 +23,10 @@ use Rattle.model_board.proofs.Scanning.{goes_before, met_before, reached_while_s
 use Rattle.model_board.proofs.ScanPlaces.{before_first, before_last, leads_place, row_path}
 use Rattle.model_board.proofs.ScanOrder.{scan_meets, scan_gives_numbers, no_bridge_here, no_bridge_none}
 use Rattle.bus_scan.specs.declared.seen.Seen.{Seen}
-use Rattle.bus_scan.specs.declared.seen.Layout.TheVariants.{Endpoint as EndpointLayout, Bridge as BridgeLayout}
-use Rattle.bus_scan.specs.declared.table.Found.TheVariants.{Endpoint as FoundEndpoint}
-use Rattle.bus_scan.specs.Rows.{decl_of, ended as ended_range}
+use Rattle.bus_scan.specs.Rows.{ended as ended_range}
 use Rattle.bus_scan.specs.Sights.{seen_of}
-use Rattle.bus_scan.specs.Scans.{met_row, given, IsAt, OnBus, StandsAt, IsFound, IsBridgeThere}
-use Rattle.bus_scan.proofs.States.{Numbers, numbered, map_same, same_state, none_stands, one_stands, stands, bridge_there}
+use Rattle.bus_scan.specs.Scans.{met_row, given, IsAt, OnBus, StandsAt, IsFound}
+use Rattle.bus_scan.proofs.States.{Numbers, numbered, map_same, same_state, bridge_there}
 use Rattle.bus_scan.proofs.MetRows.{count_more, filter_same, row_same, rows_same, rows_more, met_grows, row_filled}
 
 -- ---- cycles
