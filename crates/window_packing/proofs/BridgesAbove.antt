@@ -1,24 +1,19 @@
 -- What stands above each function of a board, row by row.
-use Rattle.std.proofs.Common.{◌≡◌, ℕ, zero, suc, ◌+◌, ◌-◌, ◌≤◌, ◌<◌, ◌⊎◌, inl, inr, Bool, true, false, ◌&&◌, List, [], ◌∷◌, ◌++◌, map, length, Some, refl, sym, ap, ap₂, ◌∙◌, subst, arith, get_or, ◌≢◌, length-append, replicate, get_or-set_other, get_or-set_same}
+use Rattle.std.proofs.Common.{◌≡◌, ℕ, zero, suc, ◌≤◌, ◌<◌, ◌⊎◌, inl, inr, Bool, true, false, ◌&&◌, List, [], ◌∷◌, ◌++◌, length, Some, refl, sym, ap, ◌∙◌, subst, arith}
 use Rattle.std.specs.Prelude.{filter, IsTrue}
-use Rattle.std.specs.List.{list_all, slice_get, slice_set}
+use Rattle.std.specs.List.{list_all, slice_get}
 use Rattle.std.proofs.lemmas.Option.{slice_get_within}
-use Rattle.std.proofs.lemmas.Bool.{and_parts, cases_lt}
-use Rattle.std.proofs.Math.ListN.{length-set}
-use Rattle.model_registers.specs.Lists.{Each}
+use Rattle.std.proofs.lemmas.Bool.{and_parts}
 use Rattle.model_registers.specs.Declarations.{Bridge}
 use Rattle.model_board.specs.Members.{IsIn}
-use Rattle.model_board.specs.Paths.{Path, path_eq, path_before, leads_to, parent, last_part, IsPath}
-use Rattle.model_board.specs.Board.{Decl, endpoint, bridge, is_bridge, is_bridge_at, Row, Board, IsBoard}
+use Rattle.model_board.specs.Paths.{Path, path_before, leads_to, parent, last_part, IsPath}
+use Rattle.model_board.specs.Board.{Decl, endpoint, bridge, Row, Board, IsBoard}
 use Rattle.model_board.specs.Pools.{bridge_of, bridges_above, has_io, has_pref, has_pref64}
-use Rattle.model_board.specs.FunctionTable.{TableRow, board_in}
-use Rattle.model_board.proofs.PathOrder.{one, path_same, before_trans, behind_trans, leads_before}
-use Rattle.model_board.proofs.PathEnds.{snoc, length_snoc, leads_up, leads_self, leads_trans, not_before_itself}
+use Rattle.model_board.proofs.PathEnds.{snoc, leads_up, leads_self, leads_trans, not_before_itself}
 use Rattle.model_board.proofs.Members.{each_in, from_flat_map, in_flat_map, from_filter, in_filter}
-use Rattle.model_board.proofs.Partings.{leads_longer, pair_in}
-use Rattle.bridge_forward.proofs.Indices.{same_at, at_below, each_at, pair_at, any_at, map_at, at_map}
+use Rattle.model_board.proofs.Partings.{pair_in}
 use Rattle.window_packing.specs.declared.above.Above.{Above}
-use Rattle.window_packing.specs.Buses.{bus_path, nothing_above, behind, AreAbove}
+use Rattle.window_packing.specs.Buses.{bus_path, nothing_above, behind}
 
 -- ---- one row
 

@@ -1,10 +1,9 @@
 -- Buses by index.
-use Rattle.std.proofs.Common.{◌≡◌, ℕ, zero, suc, ◌-◌, ◌≤◌, ◌<◌, List, [], ◌∷◌, map, length, Some, refl, ap, subst, arith}
+use Rattle.std.proofs.Common.{◌≡◌, ℕ, zero, suc, ◌≤◌, ◌<◌, [], ◌∷◌, map, length, Some, refl, ap, arith}
 use Rattle.std.specs.List.{slice_get}
 use Rattle.model_board.specs.Paths.{Path}
 use Rattle.model_board.specs.Board.{Row, Board}
-use Rattle.model_board.specs.FunctionTable.{TableRow, board_in}
-use Rattle.bridge_forward.proofs.Indices.{map_at}
+use Rattle.model_board.specs.FunctionTable.{TableRow}
 use Rattle.window_packing.specs.Buses.{bus_path}
 use Rattle.window_packing.specs.Placed.{bus_paths}
 

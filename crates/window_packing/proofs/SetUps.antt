@@ -2,7 +2,7 @@
 -- is the first broken rule.
 use Rattle.std.proofs.Common.{◌≡◌, ◌⊎◌, inl, inr, ℕ, Bool, true, false, List, [], ◌∷◌, Some, None, refl, sym, ap, ◌∙◌, subst}
 use Rattle.std.specs.Prelude.{nat_le, count_by, IsTrue}
-use Rattle.std.proofs.lemmas.Bool.{le-leb, leb-true}
+use Rattle.std.proofs.lemmas.Bool.{le-leb}
 use Rattle.model_registers.specs.DeclarationRules.{first_broken}
 use Rattle.model_registers.specs.Apertures.{IsLawfulApertures}
 use Rattle.model_board.specs.Board.{Board, Row, is_bridge, IsBoard}

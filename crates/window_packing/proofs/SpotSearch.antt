@@ -1,5 +1,5 @@
 -- The search for an item among the spots of a bus, which stand in strict order.
-use Rattle.std.proofs.Common.{◌≡◌, ℕ, zero, suc, ◌+◌, ◌≤◌, ◌<◌, ◌⊎◌, inl, inr, Bool, true, false, ◌&&◌, List, [], ◌∷◌, length, Some, refl, sym, ap, ◌∙◌, subst, arith, get_or}
+use Rattle.std.proofs.Common.{◌≡◌, ℕ, zero, suc, ◌≤◌, ◌<◌, ◌⊎◌, inl, inr, Bool, true, false, ◌&&◌, List, [], ◌∷◌, length, Some, refl, sym, ap, ◌∙◌, subst, arith, get_or}
 use Rattle.std.specs.Prelude.{IsTrue, nat_lt, ◌==◌, ◌||◌}
 use Rattle.std.specs.List.{slice_get}
 use Rattle.std.specs.List.Sorted.{IsPartitionedBy, IsPartitionPoint}
@@ -10,7 +10,7 @@ use Rattle.model_registers.specs.Lists.{Each, EachPair}
 use Rattle.model_board.specs.Paths.{Part, part_eq}
 use Rattle.model_board.specs.Placement.{Placed, a_region, a_window, same_placed, register_of, Item, Spot, stands_before, is_item, offset_in}
 use Rattle.model_board.proofs.PathOrder.{part_same}
-use Rattle.bridge_forward.proofs.Indices.{same_at, at_below, each_at, pair_at}
+use Rattle.bridge_forward.proofs.Indices.{at_below, each_at, pair_at}
 use Rattle.window_packing.specs.Searching.{IsFirstFrom}
 
 one_way : (i j : Item) → stands_before i j ≡ true → stands_before j i ≡ false

@@ -7,8 +7,8 @@ ghost use Rattle.model_board.specs.Pools.{unit_of};
 
 use crate::above::Above;
 use crate::item::Item;
-use crate::pack::{BusPack, round_up};
 use crate::layout_row::Placed;
+use crate::pack::{BusPack, round_up};
 use crate::pool::{Pool, pool_of};
 use bars::BarDecl;
 use bridge_forward::Part;

@@ -11,10 +11,10 @@ ghost use Rattle.window_packing.specs.Buses.{AreAbove};
 ghost use Rattle.window_packing.specs.Packs.{packs_of, IsBounded};
 
 use crate::above::Above;
+use crate::bus_items::push_own;
 use crate::item::Item;
 use crate::pack::{BusPack, pack_bus};
 use crate::pool::Pool;
-use crate::bus_items::push_own;
 use bus_scan::FunctionRow;
 use headers::Apertures;
 use std::alloc::{AllocError, Global};

@@ -16,12 +16,12 @@ ghost use Rattle.window_packing.specs.Packs.{pack_of, packs_of, IsBounded};
 ghost use Rattle.window_packing.specs.Placed.{bus_paths, IsPlaced, pool_in};
 
 use crate::above::Above;
+use crate::bus_packs::pack_pool;
 use crate::item::Item;
-use crate::pack::{BusPack, round_up};
 use crate::layout_row::Placed;
+use crate::pack::{BusPack, round_up};
 use crate::pool::Pool;
 use crate::search::offset_of;
-use crate::bus_packs::pack_pool;
 use bridge_forward::Part;
 use bus_scan::{Fault, FunctionRow};
 use headers::{Aperture, Apertures};

@@ -20,12 +20,12 @@ ghost use Rattle.window_packing.specs.Placed.{IsPlaced, IsPlacement, IsAboveAt, 
 
 use crate::above::Above;
 use crate::item::Item;
-use crate::pack::{BusPack, round_up};
-use crate::pool_placement::{PlacedPool, Placement};
 use crate::layout_row::Placed;
+use crate::pack::{BusPack, round_up};
 use crate::pool::{Pool, pool_of};
-use crate::setting::{Setting, Window, Writes};
+use crate::pool_placement::{PlacedPool, Placement};
 use crate::search::offset_of;
+use crate::setting::{Setting, Window, Writes};
 use bars::{BarDecl, Region, Space};
 use bridge_forward::Part;
 use bus_scan::{Found, FunctionRow};
