@@ -86,8 +86,9 @@ begins_output g (l ∷ lines) part begins = starts_append (line_output g l) (out
 pub stopped_part : (g : LoneGuest) (lines : List Text) (old new : Option Text) (end : LoneGuest) → IsStopped g lines old new end → AppendsPart old new (output g lines)
 stopped_part g lines old new end stopped =
     let whole = output g stopped.whole in
-    let all : output g lines ≡ whole ++ output (after_lines g stopped.whole) stopped.rest = ap (output g) stopped.in_order ∙ output-append g stopped.whole stopped.rest in
-    (whole ++ stopped.part,
-    subst (λ (t : Text). StartsWith t (whole ++ stopped.part)) (sym all)
-    (append_starts whole (output (after_lines g stopped.whole) stopped.rest) stopped.part (begins_output (after_lines g stopped.whole) stopped.rest stopped.part stopped.begins)),
-    stopped.written)
+    let all : output g lines ≡ whole ++ output (after_lines g stopped.whole) stopped.rest = ap (output g) stopped.in_order ∙ output-append g stopped.whole stopped.rest in (
+      whole ++ stopped.part,
+      subst (λ (t : Text). StartsWith t (whole ++ stopped.part)) (sym all)
+          (append_starts whole (output (after_lines g stopped.whole) stopped.rest) stopped.part (begins_output (after_lines g stopped.whole) stopped.rest stopped.part stopped.begins)),
+      stopped.written,
+    )

@@ -3,10 +3,12 @@ use simulation::{Choice, Fault, demo, list, perform};
 use std::test::Fail;
 
 /// The demo board.
-const BOARD: &str = "[host]\nio = [0x1000, 0xffff]\nmem = [0xc0000000, 0xdfffffff]\n[[endpoint]]\nat = \"1.0\"\nvendor = 0x1234\ndevice = 0x0001\nclass = 0xff0000\nstatus = 0x8000\npin = 1\n[[guest]]\nname = \"a\"\nslots = [\"1.0\"]\n";
+const BOARD: &str =
+    "[host]\nio = [0x1000, 0xffff]\nmem = [0xc0000000, 0xdfffffff]\n[[endpoint]]\nat = \"1.0\"\nvendor = 0x1234\ndevice = 0x0001\nclass = 0xff0000\nstatus = 0x8000\npin = 1\n[[guest]]\nname = \"a\"\nslots = [\"1.0\"]\n";
 
 /// Its report, of 93 bytes.
-const REPORT: &str = "endpoints 1 bridges 0\n00:01.0 1.0 endpoint 1234:0001\n  irq INTA at 1 INTA\nguest a slot 0 1.0\n";
+const REPORT: &str =
+    "endpoints 1 bridges 0\n00:01.0 1.0 endpoint 1234:0001\n  irq INTA at 1 INTA\nguest a slot 0 1.0\n";
 
 /// Six writes of at most 16 bytes, and the flush, fail in turn.
 #[test]
@@ -25,7 +27,10 @@ fn report_to_a_writer_that_fails(rt: HostRuntime) -> Result<(), Fail> {
     assert_eq!(rt; list(rt.alloc(), BOARD.as_bytes(), &mut writer), Ok(()));
     assert_eq!(rt; writer.handed_on(), report);
     let mut full = FakeWriter::<64>::new(16, None);
-    assert_eq!(rt; list(rt.alloc(), BOARD.as_bytes(), &mut full), Err(Fault::Write));
+    assert_eq!(rt;
+        list(rt.alloc(), BOARD.as_bytes(), &mut full),
+        Err(Fault::Write)
+    );
     assert_eq!(rt; full.bytes(), &report[..64]);
     Ok(())
 }
@@ -38,13 +43,19 @@ fn demo_over_streams_that_fail(rt: HostRuntime) -> Result<(), Fail> {
     for failing in 0..3u32 {
         let mut reader = FakeReader::new(script, 8, Some(failing));
         let mut writer = FakeWriter::<32>::new(6, None);
-        assert_eq!(rt; demo(rt.alloc(), &mut reader, &mut writer), Err(Fault::Read));
+        assert_eq!(rt;
+            demo(rt.alloc(), &mut reader, &mut writer),
+            Err(Fault::Read)
+        );
         assert_eq!(rt; writer.bytes(), b"".as_slice(), "read {failing}");
     }
     for failing in 0..4u32 {
         let mut reader = FakeReader::new(script, 8, None);
         let mut writer = FakeWriter::<32>::new(6, Some(failing));
-        assert_eq!(rt; demo(rt.alloc(), &mut reader, &mut writer), Err(Fault::Write));
+        assert_eq!(rt;
+            demo(rt.alloc(), &mut reader, &mut writer),
+            Err(Fault::Write)
+        );
         let end = output.len().min(6 * failing as usize);
         assert_eq!(rt; writer.bytes(), &output[..end], "write {failing}");
         assert_eq!(rt; writer.handed_on(), b"".as_slice(), "write {failing}");
