@@ -3,7 +3,7 @@ use Rattle.std.proofs.lemmas.List.{append-nil}
 use Rattle.bars.specs.Kinds.{named_space}
 use Rattle.model_board.specs.SetUpWrites.{Setting}
 use Rattle.window_packing.specs.Plans.{writes_of}
-use Rattle.window_packing.specs.declared.planned.Writes.{Writes}
+use Rattle.window_packing.specs.declared.setting.Writes.{Writes}
 use Rattle.claim_table.specs.Entries.{entries_at}
 use Rattle.claim_table.proofs.Gathering.{function_push}
 use Rattle.claim_table.proofs.gather.all_regions.Goals as goal
