@@ -1,8 +1,8 @@
 -- The test of distinct offsets.
-use Rattle.std.proofs.Common.{◌≡◌, ◌≢◌, ℕ, Bool, true, false, not, ◌&&◌, eqb, List, [], ◌∷◌, refl, sym, ap, ap₂, ◌∙◌}
+use Rattle.std.proofs.Common.{◌≡◌, ◌≢◌, ℕ, true, not, ◌&&◌, eqb, List, [], ◌∷◌, refl, sym, ap, ap₂, ◌∙◌}
 use Rattle.std.specs.List.{list_all}
-use Rattle.std.proofs.lemmas.Bool.{eqb-true, ne_eqb, eq-eqb}
-use Rattle.model_registers.specs.Lists.{Each, EachPair, all_pairs}
+use Rattle.std.proofs.lemmas.Bool.{ne_eqb, eq-eqb}
+use Rattle.model_registers.specs.Lists.{Each, all_pairs}
 use Rattle.model_registers.specs.Cell.{Cell}
 use Rattle.model_registers.proofs.Tests.{left_true, right_true}
 use Rattle.config_bytes.specs.CellFile.{HasDistinctOffsets, differ}

@@ -1,8 +1,7 @@
-use Rattle.std.proofs.Common.{◌≡◌, List, length, map, take, sym, ap, subst, ◌∙◌, arith, rules}
+use Rattle.std.proofs.Common.{◌≡◌, List, map, take, sym, ap, subst, ◌∙◌, arith}
 use Rattle.std.proofs.lemmas.List.{take_all}
 use Rattle.model_registers.specs.Declarations.{Bar, Region, IsLawfulRegion, HasLawfulRegions}
 use Rattle.model_registers.specs.EndpointTable.{BaseAddress, opened, closed}
-use Rattle.bars.specs.Resets.{at_reset}
 use Rattle.headers.proofs.BaseRegisters.{each_at, some_registers, next_register, opened_lawful}
 use Rattle.headers.proofs.region.base_registers.Goals as goal
 
