@@ -128,7 +128,8 @@ impl Bars {
         ensures lawful { HasLawfulBases self.now }
     {
         match part_at(&self.slots, reg) {
-            Some(part) => (part.region.shown() >> part.shift & u64::from(enabled_bits(enables))) as u32,
+            Some(part) => (part.region.shown() >> part.shift
+                & u64::from(enabled_bits(enables))) as u32,
             None => 0,
         }
     }

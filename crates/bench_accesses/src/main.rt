@@ -1,6 +1,7 @@
 //! What one access of a board costs: `bench_accesses BOARD` prints it in nanoseconds, and with no
 //! word it prints nothing.
 #![tactic(auto)]
+
 ghost use Rattle.std.specs.Prelude.{◌≡◌, ◌%◌, ◌^◌, ◌<◌};
 
 use bars::Space;

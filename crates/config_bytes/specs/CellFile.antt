@@ -7,7 +7,24 @@
 --     offsets_from a cs      cells at the offsets from a on
 --     IsTable      a table by offset shows the cells of a file: no access looks at all of them
 use Rattle.std.specs.Prelude.{
-  ◌≡◌, ◌≢◌, ◌<◌, ℕ, ◌+◌, nat_le, ◌==◌, not, Bool, false, ◌&&◌, if◌then◌else◌, List, [], ◌∷◌, map, length, slice_set,
+  ◌≡◌,
+  ◌≢◌,
+  ◌<◌,
+  ℕ,
+  ◌+◌,
+  nat_le,
+  ◌==◌,
+  not,
+  Bool,
+  false,
+  ◌&&◌,
+  if◌then◌else◌,
+  List,
+  [],
+  ◌∷◌,
+  map,
+  length,
+  slice_set,
   slice_index_or,
 }
 use Rattle.model_registers.specs.Lists.{Each, EachPair}

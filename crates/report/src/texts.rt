@@ -53,7 +53,11 @@ fn push_address(text: &mut String, bus: u8, part: Part) -> Result<(), AllocError
 }
 
 /// Appends a function's numbers and its path.
-pub(crate) fn push_numbers_and_path(text: &mut String, bus: u8, path: &Path) -> Result<(), AllocError>
+pub(crate) fn push_numbers_and_path(
+    text: &mut String,
+    bus: u8,
+    path: &Path,
+) -> Result<(), AllocError>
     ensures { OnOk result (string_bytes text.new ≡ string_bytes text.old ++ numbers_and_path bus path.now) }
 {
     push_address(text, bus, path.last())?;

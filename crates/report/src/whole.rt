@@ -4,8 +4,8 @@ ghost use Rattle.model_board.specs.Board.{is_bridge};
 ghost use Rattle.report.specs.Found.{ended, count_line, rows_text, guests_text, found_report};
 
 use crate::lines::{push_function, push_guest};
-use bus_scan::{Found, FunctionRow, FunctionTable};
 use accesses::GuestDecl;
+use bus_scan::{Found, FunctionRow, FunctionTable};
 use std::alloc::{AllocError, Global};
 use window_packing::{Plan, Setting};
 

@@ -8,8 +8,8 @@ ghost use Rattle.report.specs.OfWorld.{IsOf};
 ghost use Rattle.report.specs.Faults.{number_of, write_failures_of};
 
 use crate::whole::report_text;
-use bus_scan::FunctionTable;
 use accesses::GuestDecl;
+use bus_scan::FunctionTable;
 use script::{Writer, hand_on};
 use std::alloc::Global;
 use thiserror::Error;

@@ -34,11 +34,7 @@ fn first_byte(rt: &impl Abort, host: &mut Host, row: &PlanRow) -> u32
 }
 
 /// Reads the first byte of each region. All of them are 0 on a board without register cells.
-fn first_bytes_are_clear(
-    rt: &impl Abort,
-    alloc: Global,
-    ready: Ready,
-) -> Result<bool, AllocError> {
+fn first_bytes_are_clear(rt: &impl Abort, alloc: Global, ready: Ready) -> Result<bool, AllocError> {
     let (mut host, _, plan) = ready.into_parts();
     let rows = plan.rows(alloc)?;
     let mut clear = true;

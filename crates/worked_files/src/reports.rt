@@ -28,6 +28,7 @@ guest b slot 0 2.0/0.0
 
 /// How many bytes a call takes, and how many calls the report takes before its flush.
 const STEP: usize = 32;
+
 const WRITES: u32 = 17;
 
 #[test]
