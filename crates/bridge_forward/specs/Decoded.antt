@@ -1,5 +1,5 @@
--- What the registers of a bridge say, as the numbers that are kept beside its cells: PCI-to-PCI Bridge Architecture 1.2,
--- chapter 3.2.5.
+-- What the registers of a bridge say, as the numbers that are kept beside its cells: PCI-to-PCI Bridge Architecture
+-- 1.2, chapter 3.2.5.
 --     IsDecoded d file n      the numbers are what these cells of the bridge say
 use Rattle.std.specs.Prelude.{◌≡◌, option_map}
 use Rattle.model_registers.specs.Registers.{config, File, number}

@@ -70,7 +70,8 @@ IsConstant c = (bit_and c.value 255 ≡ c.value) × (c.writable ≡ 0) × (c.cle
 
 -- the header type stays as it is at reset
 abbrev pub IsHeaderKept : File → Entry → Type 0
-IsHeaderKept initial e = place_eq e.place (config 0x0e) ≡ true → (e.cell ≡ cell_at initial (config 0x0e)) × IsConstant e.cell
+IsHeaderKept initial e =
+    place_eq e.place (config 0x0e) ≡ true → (e.cell ≡ cell_at initial (config 0x0e)) × IsConstant e.cell
 
 -- the header type alone differs, by whether the device holds other functions
 pub record KnowReset (d : Endpoint) (cells : CellFile) (blocks : List CellFile) : Type 0 where
@@ -82,7 +83,8 @@ pub record KnowReset (d : Endpoint) (cells : CellFile) (blocks : List CellFile) 
   pub block_places : (n : ℕ) → places_of (block_at blocks n) ≡ places_of (block_at_reset blocks n)
 
 -- `command` is what the cells of Command hold
-pub record IsEndpointFn (d : Endpoint) (cells : CellFile) (command : ℕ) (bars : List BaseAddress) (blocks : List CellFile) : Type 0 where
+pub record IsEndpointFn (d : Endpoint) (cells : CellFile) (command : ℕ) (bars : List BaseAddress) (blocks : List CellFile)
+    : Type 0 where
   pub parts : AreParts d cells.now bars (block_at blocks)
   pub command_is : command ≡ number cells.now (config 0x04) 2
   pub reset : KnowReset d cells blocks

@@ -33,7 +33,8 @@ pub record AreInOrder (ps : List Path) : Type 0 where
 pub record EndsAt (ps : List Path) (i end : ℕ) : Type 0 where
   pub after : i < end
   pub within : end ≤ length ps
-  pub leads : (j : ℕ) (p q : Path) → slice_get ps i ≡ Some p → slice_get ps j ≡ Some q → leads_to p q ≡ (nat_lt i j && nat_lt j end)
+  pub leads : (j : ℕ) (p q : Path) → slice_get ps i ≡ Some p → slice_get ps j ≡ Some q
+      → leads_to p q ≡ (nat_lt i j && nat_lt j end)
 
 pub record AreLaid (ps : List Path) (ends : List ℕ) : Type 0 where
   pub order : AreInOrder ps

@@ -60,6 +60,20 @@ impl Part {
         self.device == other.device && self.function == other.function
     }
 
+    /// The order in which a bus is scanned, as an ordering.
+    fn compare(self, other: Part) -> Ordering
+        ensures less { is_lt result ≡ part_before self other }
+        ensures equal { is_eq result ≡ part_eq self other }
+    {
+        if self.is_same(other) {
+            Ordering::Equal
+        } else if self.is_before(other) {
+            Ordering::Less
+        } else {
+            Ordering::Greater
+        }
+    }
+
     /// Whether this one is met first as a bus is scanned.
     pub fn is_before(self, other: Part) -> bool
         ensures { result ≡ part_before self other }
@@ -150,13 +164,7 @@ impl Path {
         ensures less { is_lt result ≡ path_before self.now other.now }
         ensures equal { is_eq result ≡ path_eq self.now other.now }
     {
-        if self.is_same(other) {
-            Ordering::Equal
-        } else if self.is_before(other) {
-            Ordering::Less
-        } else {
-            Ordering::Greater
-        }
+        compare(self.parts(), other.parts())
     }
 
     /// Whether the other path is that of another function in the same device.
@@ -240,6 +248,23 @@ fn leads_to(xs: &[Part], ys: &[Part]) -> bool
         [x, xs @ ..] => match ys {
             [] => false,
             [y, ys @ ..] => x.is_same(*y) && leads_to(xs, ys),
+        },
+    }
+}
+
+fn compare(xs: &[Part], ys: &[Part]) -> Ordering
+    ensures less { is_lt result ≡ path_before xs.now ys.now }
+    ensures equal { is_eq result ≡ path_eq xs.now ys.now }
+{
+    match xs {
+        [] if ys.is_empty() => Ordering::Equal,
+        [] => Ordering::Less,
+        [x, xs @ ..] => match ys {
+            [] => Ordering::Greater,
+            [y, ys @ ..] => match x.compare(*y) {
+                Ordering::Equal => compare(xs, ys),
+                other => other,
+            },
         },
     }
 }
