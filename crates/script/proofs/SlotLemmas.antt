@@ -11,7 +11,7 @@ use Rattle.model_registers.specs.Registers.{Place, config, block, offset_of, Fil
 use Rattle.model_registers.specs.ByteEnables.{IsWidth}
 use Rattle.model_registers.specs.Declarations.{Endpoint, Region, Kind, io_kind, mem32, mem64}
 use Rattle.model_registers.specs.EndpointTable.{endpoint_reset}
-use Rattle.model_registers.specs.Decoding.{Space, io, memory, Function, Hit, base, hit_of, decodes, lone_claim}
+use Rattle.model_registers.specs.Decoding.{command_word, base_address, Space, io, memory, Function, Hit, base, hit_of, decodes, lone_claim}
 use Rattle.model_guests.specs.Accesses.{Op, reads, writes, Reply, answered, refused, done, Target, configuration, port, address, Access, access, Raise, raises}
 use Rattle.model_guests.specs.LoneGuest.{Slots, slot_at, landing_from, landing_in, reset_slots, reset_function, with_file, file_at, Landing, landing, place_number, is_out_of_range, fault_of, perform, effect, raise_place, raise_landing, raise_fault, affected, answer, after_event}
 use Rattle.headers.specs.declared.place.Place as headers
@@ -121,7 +121,7 @@ record IsHit (rs : List Region) (a : ℕ) (h : Hit) : Type 0 where
 
 is_hit : (file : File) (space : Space) (a : ℕ) (rs : List Region) (h : Hit) → first_some (hit_of file space a) rs ≡ Some h → IsHit rs a h
 is_hit file space a [] h e = cc
-is_hit file space a (r ∷ rs) h e = cases (decodes file space a r) refl e (is_hit file space a rs h) where
+is_hit file space a (r ∷ rs) h e = cases (decodes (command_word file) space a (base_address file r)) refl e (is_hit file space a rs h) where
   b : ℕ
   b = base file r.index r.kind
 
@@ -131,7 +131,7 @@ is_hit file space a (r ∷ rs) h e = cases (decodes file space a r) refl e (is_h
     aligned = λ w width whole. ap (λ (k : Hit). k.offset % w) is ∙ offset_is_aligned a b w width (base_is_aligned file r.index r.kind) whole;
   }
 
-  cases : (t : Bool) → decodes file space a r ≡ t → first_of_two (cond t (Some (let k : Hit = record { index = r.index; offset = a - b } in k)) None) (first_some (hit_of file space a) rs) ≡ Some h
+  cases : (t : Bool) → decodes (command_word file) space a (base_address file r) ≡ t → first_of_two (cond t (Some (let k : Hit = record { index = r.index; offset = a - b } in k)) None) (first_some (hit_of file space a) rs) ≡ Some h
       → (first_some (hit_of file space a) rs ≡ Some h → IsHit rs a h) → IsHit (r ∷ rs) a h
   cases true k found more = here h (let same : h ≡ record { index = r.index; offset = a - b } = cc in same)
   cases false k found more =
