@@ -1,4 +1,8 @@
 //! The monitor, which gives functions of a board to guests.
 #![tactic(auto)]
 
-pub use accesses::GuestDecl;
+mod engine;
+mod guest;
+mod lanes;
+
+pub use accesses::{Access, At, Bdf, GuestDecl, HostAccess, HostAt, Names, Op, Place, Reply};

@@ -1,0 +1,159 @@
+-- Of a world that is kept, what the host and the guests show is that world.
+use Rattle.std.proofs.Common.{◌≡◌, ℕ, zero, suc, false, List, [], ◌∷◌, Some, None, Option, slice_get, refl, sym, ap, ap₂, ◌∙◌, subst}
+use Rattle.std.specs.Prelude.{map, option_map, MatchOption, ⊤}
+use Rattle.std.specs.Option.{option_map_or}
+use Rattle.model_registers.specs.Lists.{EachPair}
+use Rattle.model_registers.specs.Registers.{Place, File}
+use Rattle.model_registers.specs.Declarations.{Endpoint}
+use Rattle.model_registers.specs.DeclarationRules.{IsLawfulEndpoint}
+use Rattle.model_registers.specs.EndpointTable.{endpoint_reset}
+use Rattle.model_registers.specs.OwnCopies.{own_file}
+use Rattle.model_registers.specs.Decoding.{Function}
+use Rattle.model_board.specs.Paths.{Path}
+use Rattle.model_board.specs.Board.{endpoint, Row, Board}
+use Rattle.model_board.specs.Lawful.{HasLawfulDecls}
+use Rattle.model_board.specs.Pools.{Apertures}
+use Rattle.model_board.specs.SetUp.{set_up_file, set_up_state}
+use Rattle.model_board.specs.State.{BoardFunction, State}
+use Rattle.model_guests.specs.Accesses.{answered, refused}
+use Rattle.model_guests.specs.Grammar.{HostRead}
+use Rattle.model_guests.specs.HostReads.{host_fault, shown}
+use Rattle.model_guests.specs.Text.{Text}
+use Rattle.model_guests.specs.Files.{agreed_file, with_copies, shape_of, places_of}
+use Rattle.model_guests.specs.Slots.{Slots, slot_at}
+use Rattle.model_guests.specs.Guests.{GuestNow, GuestsNow, guest_named, path_in, function_in, file_of}
+use Rattle.model_guests.specs.WorldNow.{WorldNow, names_of, board_state, host_reply}
+use Rattle.model_guests.specs.AgreedBoard.{agreed_function, agreed_state}
+use Rattle.model_guests.specs.Seated.{IsSeatedAt, AreSeats, AreSeated}
+use Rattle.model_guests.proofs.DistinctPlaces.{Apart, distinct_places}
+use Rattle.model_guests.proofs.TablePlaces.{alike_places}
+use Rattle.model_guests.proofs.AgreedStates.{alike}
+use Rattle.model_guests.proofs.FoundFiles.{same_places}
+use Rattle.model_guests.proofs.CopiesNeverRise.{declared_lawful}
+use Rattle.model_guests.proofs.ViewedFiles.{view_is_file}
+use Rattle.model_guests.proofs.GuestsByName.{path_at, function_of, function_named}
+use Rattle.model_guests.proofs.KeptCopies.{file_of_seat}
+use Rattle.model_guests.proofs.KeptNumbers.{keeps_numbers}
+use Rattle.model_guests.proofs.Along.{by_index}
+use Rattle.bridge_forward.specs.Lending.{as_endpoint, endpoint_nth}
+use Rattle.host_bridge.specs.HostState.{HostState}
+use Rattle.monitor.specs.declared.guest.Held.{Held}
+use Rattle.monitor.specs.declared.guest.Guest.{Guest}
+use Rattle.monitor.specs.Views.{function_shown, slot_shown, path_shown, guest_shown, guests_shown, world_shown}
+use Rattle.monitor.specs.Keeping.{IsHeld, IsSlot, AreSlots, IsGuest, AreGuests, IsKept, IsSound}
+
+-- ---- lists
+
+pub mapped_get : {A B : Type 0} (f : A → B) (xs : List A) (i : ℕ) (x : A) → slice_get xs i ≡ Some x → slice_get (map f xs) i ≡ Some (f x)
+mapped_get f [] i x h = cc
+mapped_get f (y ∷ ys) zero x h = let same : y ≡ x = cc in ap (λ z. Some (f z)) same
+mapped_get f (y ∷ ys) (suc i) x h = mapped_get f ys i x h
+
+-- ---- one function
+
+lawful_at : (b : Board) (p : Path) (f : Function) → HasLawfulDecls b → IsSeatedAt b p f → IsLawfulEndpoint f.decl
+lawful_at b p f decls seat = subst (λ (o : Option Endpoint). MatchOption o ⊤ IsLawfulEndpoint) seat.decl (declared_lawful b decls p)
+
+module _ (b : Board) (a : Apertures) (gs : GuestsNow) (decls : HasLawfulDecls b) (p : Path) (f : Function) (seat : IsSeatedAt b p f) where
+  lawful : IsLawfulEndpoint f.decl
+  lawful = lawful_at b p f decls seat
+
+  places : places_of f.file ≡ places_of (endpoint_reset f.decl false)
+  places = same_places f.file (endpoint_reset f.decl false) seat.shape
+
+  abbrev left_file : File
+  left_file = set_up_file b a p (endpoint f.decl)
+
+  pub agreed_there : (i : ℕ) → slice_get b i ≡ Some (record { path = p; decl = endpoint f.decl }) → file_of gs p ≡ Some f.file
+      → endpoint_nth (agreed_state b a gs).functions i ≡ Some (record { decl = f.decl; file = agreed_file left_file f.file })
+  agreed_there i row file =
+      let left : BoardFunction = record { path = p; decl = endpoint f.decl; file = left_file } in
+      let now : BoardFunction = record { path = p; decl = endpoint f.decl; file = agreed_file left_file f.file } in
+      let set : slice_get (set_up_state b a).functions i ≡ Some left = mapped_get (λ (r : Row). record { path = r.path; decl = r.decl; file = set_up_file b a r.path r.decl }) b i (record { path = p; decl = endpoint f.decl }) row in
+      let there : slice_get (agreed_state b a gs).functions i ≡ Some now =
+      mapped_get (agreed_function (file_of gs)) (set_up_state b a).functions i left set
+      ∙ ap (λ (o : Option File). Some (option_map_or (λ (own : File). record left { file = agreed_file left.file own }) o left)) file in
+      ap (λ (o : Option BoardFunction). option_map_or as_endpoint o None) there
+
+  pub shown_there : (h : Held) → IsHeld b a p f h → file_of gs p ≡ Some f.file → function_shown (agreed_state b a gs).functions h ≡ Some f
+  shown_there h held file =
+      ap (λ (o : Option Function). option_map (λ (g : Function). record g { file = with_copies (own_file h.own) g.file }) o) (agreed_there h.index held.row file)
+      ∙ ap (λ (x : File). Some (record f { file = x }))
+      (view_is_file left_file f.file (own_file h.own) (subst (EachPair Apart) (sym places) (distinct_places f.decl lawful false 0 (λ r. 0)))
+      (places ∙ alike_places (endpoint_reset f.decl false) left_file (alike b a p f.decl lawful)) held.own)
+
+-- ---- all of them
+
+module _ (b : Board) (a : Apertures) (gs : GuestsNow) (decls : HasLawfulDecls b) where
+  slots_shown : (qs : List (Option Path)) (fs : Slots) (os : List (Option Held)) → AreSeats b qs fs → AreSlots b a qs fs os
+      → ((n : ℕ) (p : Path) (f : Function) → path_at qs n ≡ Some p → slot_at fs n ≡ Some f → file_of gs p ≡ Some f.file)
+      → (map path_shown os ≡ qs) × (map (slot_shown (agreed_state b a gs).functions) os ≡ fs)
+  slots_shown [] [] [] seats are files = (refl, refl)
+  slots_shown [] [] (o ∷ os) seats are files = absurd are
+  slots_shown [] (f ∷ fs) os seats are files = absurd are
+  slots_shown (q ∷ qs) [] os seats are files = absurd are
+  slots_shown (q ∷ qs) (f ∷ fs) [] seats are files = absurd are
+  slots_shown (None ∷ qs) (None ∷ fs) (None ∷ os) seats are files =
+      let more = slots_shown qs fs os seats.1 are.1 (λ n. files (suc n)) in
+      (ap (λ (x : List (Option Path)). None ∷ x) more.0, ap (λ (x : Slots). None ∷ x) more.1)
+  slots_shown (None ∷ qs) (None ∷ fs) (Some h ∷ os) seats are files = absurd are.0
+  slots_shown (None ∷ qs) (Some f ∷ fs) (o ∷ os) seats are files = absurd are.0
+  slots_shown (Some p ∷ qs) (None ∷ fs) (o ∷ os) seats are files = absurd are.0
+  slots_shown (Some p ∷ qs) (Some f ∷ fs) (None ∷ os) seats are files = absurd are.0
+  slots_shown (Some p ∷ qs) (Some f ∷ fs) (Some h ∷ os) seats are files =
+      let more = slots_shown qs fs os seats.1 are.1 (λ n. files (suc n)) in
+      (
+        ap₂ (λ (x : Path) (xs : List (Option Path)). Some x ∷ xs) are.0.path more.0,
+        ap₂ (λ (x : Option Function) (xs : Slots). x ∷ xs) (shown_there b a gs decls p f seats.0 h are.0 (files zero p f refl refl)) more.1,
+      )
+
+  all_shown : AreSeated b gs → (ts : List Text) (ws : GuestsNow) (hs : List Guest) → AreGuests b a ts ws hs
+      → ((i : ℕ) (w : GuestNow) → slice_get ws i ≡ Some w → (guest_named gs w.name ≡ Some w) × AreSeats b w.paths w.lone.slots)
+      → guests_shown (agreed_state b a gs).functions ts hs ≡ ws
+  all_shown seated [] [] [] are named = refl
+  all_shown seated [] [] (g ∷ hs) are named = absurd are
+  all_shown seated [] (w ∷ ws) hs are named = absurd are
+  all_shown seated (t ∷ ts) [] hs are named = absurd are
+  all_shown seated (t ∷ ts) (w ∷ ws) [] are named = absurd are
+  all_shown seated (t ∷ ts) (w ∷ ws) (g ∷ hs) are named = ap₂ (λ (x : GuestNow) (xs : GuestsNow). x ∷ xs) here (all_shown seated ts ws hs are.1 (λ i. named (suc i)))
+    where
+      files : (n : ℕ) (p : Path) (f : Function) → path_at w.paths n ≡ Some p → slot_at w.lone.slots n ≡ Some f → file_of gs p ≡ Some f.file
+      files n p f at is =
+          let found : guest_named gs w.name ≡ Some w = (named zero w refl).0 in
+          file_of_seat b gs seated w.name n p f (ap (λ (o : Option GuestNow). Rattle.model_guests.proofs.GuestsByName.path_of o n) found ∙ at)
+          (function_named gs w.name n ∙ ap (λ (o : Option GuestNow). function_of o n) found ∙ is)
+
+      slots : (map path_shown g.slots.items ≡ w.paths) × (map (slot_shown (agreed_state b a gs).functions) g.slots.items ≡ w.lone.slots)
+      slots = slots_shown w.paths w.lone.slots g.slots.items (named zero w refl).1 are.0.slots files
+
+      here : guest_shown (agreed_state b a gs).functions t g ≡ w
+      here = λ i. record { name = sym are.0.name_is i; paths = slots.0 i; lone = record { slots = slots.1 i; latch = sym are.0.latch i } }
+
+module _ (w : WorldNow) (h : HostState) (names : List Text) (gs : List Guest) (kept : IsKept w h names gs) where
+  pub is_shown : world_shown h names gs ≡ w
+  is_shown =
+      let functions : h.state.functions ≡ (agreed_state w.board w.apertures w.guests).functions = ap (λ s. s.functions) kept.agrees in
+      let rows = ap Rattle.model_board.specs.AtReset.board_at functions ∙ (keeps_numbers w.board w.apertures kept.placeable.places kept.placeable.declarations w.guests kept.seated kept.few).rows in
+      let guests = ap (λ fs. guests_shown fs names gs) functions
+      ∙ all_shown w.board w.apertures w.guests kept.placeable.declarations kept.seated names w.guests gs kept.guests
+      (λ i g at. ((by_index w.guests kept.seated.names_apart i g at).0, (Rattle.model_guests.proofs.ListFacts.each_at _ w.guests i g kept.seated.guests at).seats)) in
+      λ i. record { board = rows i; apertures = kept.apertures i; guests = guests i }
+
+  pub is_sound : IsSound h names gs
+  is_sound = subst (λ (v : WorldNow). IsKept v h names gs) (sym is_shown) kept
+
+-- ---- what is asked of it
+
+pub names_shown : (b : Board) (a : Apertures) (fs : List BoardFunction) (ts : List Text) (ws : GuestsNow) (gs : List Guest) → AreGuests b a ts ws gs → names_of (guests_shown fs ts gs) ≡ ts
+names_shown b a fs [] [] [] are = refl
+names_shown b a fs [] [] (g ∷ gs) are = refl
+names_shown b a fs [] (w ∷ ws) gs are = refl
+names_shown b a fs (t ∷ ts) [] gs are = absurd are
+names_shown b a fs (t ∷ ts) (w ∷ ws) [] are = absurd are
+names_shown b a fs (t ∷ ts) (w ∷ ws) (g ∷ gs) are = ap (λ (x : List Text). t ∷ x) (names_shown b a fs ts ws gs are.1)
+
+pub host_replied : (s : State) (w : WorldNow) (r : HostRead) (o : Option ℕ) (value : ℕ) → s ≡ board_state w → o ≡ host_fault r → o ≡ None → value ≡ shown s r.width r.target
+    → answered value r.width ≡ host_reply w r
+host_replied s w r o value same fault passed is =
+    ap (λ n. answered n r.width) (is ∙ ap (λ (t : State). shown t r.width r.target) same)
+    ∙ ap (λ (f : Option ℕ). option_map_or refused f (answered (shown (board_state w) r.width r.target) r.width)) (sym passed ∙ fault)

@@ -1,0 +1,54 @@
+-- What the guests of a host see.
+--     texts      guests' names as texts
+--     function_shown, slot_shown      a function in a slot: the board's registers, with the guest's own copies put in
+--     guest_shown, guests_shown      guests as they are now
+--     world_shown      the board with its guests as they are now
+use Rattle.std.specs.Prelude.{List, [], ◌∷◌, Option, None, Some, map, option_map}
+use Rattle.std.specs.Option.{option_map_or}
+use Rattle.arrayvec.specs.ArrayVec.{ArrayVec}
+use Rattle.arrayvec.specs.ArrayString.{ArrayString}
+use Rattle.model_registers.specs.OwnCopies.{own_file}
+use Rattle.model_registers.specs.Decoding.{Function}
+use Rattle.model_board.specs.Paths.{Path}
+use Rattle.model_board.specs.State.{BoardFunction}
+use Rattle.model_board.specs.AtReset.{board_at}
+use Rattle.model_guests.specs.Text.{Text}
+use Rattle.model_guests.specs.Files.{with_copies}
+use Rattle.model_guests.specs.Guests.{GuestNow, GuestsNow}
+use Rattle.model_guests.specs.WorldNow.{WorldNow}
+use Rattle.bridge_forward.specs.Lending.{endpoint_nth}
+use Rattle.host_bridge.specs.HostState.{HostState}
+use Rattle.monitor.specs.declared.guest.Held.{Held}
+use Rattle.monitor.specs.declared.guest.Guest.{Guest}
+
+abbrev pub texts : ArrayVec ArrayString → List Text
+texts names = map (λ n. n.bytes) names.items
+
+abbrev pub function_shown : List BoardFunction → Held → Option Function
+function_shown fs h = option_map (λ (f : Function). record f { file = with_copies (own_file h.own) f.file }) (endpoint_nth fs h.index)
+
+abbrev pub slot_shown : List BoardFunction → Option Held → Option Function
+slot_shown fs o = option_map_or (function_shown fs) o None
+
+abbrev pub path_shown : Option Held → Option Path
+path_shown o = option_map (λ (h : Held). h.path) o
+
+abbrev pub guest_shown : List BoardFunction → Text → Guest → GuestNow
+guest_shown fs name g = record {
+  name = name;
+  paths = map path_shown g.slots.items;
+  lone = record { slots = map (slot_shown fs) g.slots.items; latch = g.latch };
+}
+
+-- as many as have a name
+abbrev pub guests_shown : List BoardFunction → List Text → List Guest → GuestsNow
+guests_shown fs [] gs = []
+guests_shown fs (t ∷ ts) [] = []
+guests_shown fs (t ∷ ts) (g ∷ gs) = guest_shown fs t g ∷ guests_shown fs ts gs
+
+abbrev pub world_shown : HostState → List Text → List Guest → WorldNow
+world_shown h names gs = record {
+  board = board_at h.state.functions;
+  apertures = h.apertures;
+  guests = guests_shown h.state.functions names gs;
+}

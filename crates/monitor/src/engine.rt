@@ -1,0 +1,80 @@
+//! A host with its guests, over any way to find who claims an address.
+ghost use Rattle.std.specs.Prelude.{◌≡◌, ◌%◌};
+ghost use Rattle.model_registers.specs.Registers.{all_bytes};
+ghost use Rattle.model_registers.specs.ByteEnables.{IsWidth};
+ghost use Rattle.model_board.specs.Ports.{config_reply};
+ghost use Rattle.model_guests.specs.WorldNow.{names_now, host_reply};
+ghost use Rattle.host_bridge.specs.BusAddresses.{bus_address_of};
+ghost use Rattle.accesses.specs.Accesses.{host_access_of, reply_of};
+ghost use Rattle.accesses.specs.Replies.{IsShown};
+ghost use Rattle.monitor.specs.Views.{texts};
+
+use crate::guest::Guest;
+use crate::lanes::lowered;
+use accesses::{HostAccess, HostAt, Names, Reply};
+use config_bytes::enables_of;
+use host_bridge::{Bdf, Host, Route};
+use std::marker::Model;
+
+/// A host, a route that fits it, and the guests with the names that they have.
+#[derive(Drop)]
+pub(crate) struct Engine<R: Route> {
+    host: Host,
+    route: R,
+    names: Names,
+    guests: Vec<Guest>,
+}
+
+impl<R: Route> Model for Engine<R> {
+    ghost use Rattle.model_guests.specs.WorldNow.{WorldNow};
+
+    ghost Value = { WorldNow };
+
+    ghost use Rattle.monitor.specs.Views.{texts, world_shown};
+    ghost use Rattle.monitor.specs.Keeping.{IsSound};
+
+    ghost view = { λ e. world_shown e.host (texts e.names) e.guests.items };
+
+    ghost invariant = { λ e. R.fits e.route e.host × IsSound e.host (texts e.names) e.guests.items };
+}
+
+impl<R: Route> Engine<R> {
+    /// The guests' names, in the order of the guests.
+    pub(crate) fn names(&self) -> &Names
+        ensures { texts result.now ≡ names_now self.now }
+    {
+        &self.names
+    }
+
+    /// Answers a read by the host: what the board shows.
+    pub(crate) fn host_read(&mut self, read: HostAccess) -> Reply
+        ensures reply { reply_of result ≡ host_reply self.old (host_access_of read) }
+        ensures after { self.new ≡ self.old }
+        ensures shown { IsShown result }
+    {
+        if let Some(number) = read.fault() {
+            return Reply::Refused(number);
+        }
+        let HostAccess { at, width } = read;
+        let value = match at {
+            HostAt::Config { bdf, off } => config_number(&mut self.host, bdf, off as u8, width),
+            HostAt::Io { port } => self.host.inp(&self.route, port as u32, width),
+            HostAt::Mem { addr } => self.host.load(&self.route, addr, width),
+        };
+        Reply::Value(value, width)
+    }
+}
+
+/// The number of 1, 2 or 4 bytes at an offset of the function that a bus number names. The address latch
+/// is clear, and stays so.
+fn config_number(host: &mut Host, at: Bdf, off: u8, width: u64) -> u32
+    requires width { IsWidth width }
+    requires aligned { off % width ≡ 0 }
+    requires latch { host.old.state.latch ≡ 0 }
+    ensures value { result ≡ config_reply host.old.state.functions (bus_address_of at) off (all_bytes width) }
+    ensures after { host.new ≡ host.old }
+{
+    let from = u64::from(off);
+    let word = host.config_read(at, off / 4 * 4, enables_of(from, width));
+    lowered(from, word)
+}

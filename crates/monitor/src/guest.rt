@@ -1,0 +1,27 @@
+//! What the monitor keeps of each guest.
+use bars::Region;
+use bridge_forward::Path;
+use guest_functions::{Latch, VirtualFunction};
+use host_bridge::Bdf;
+
+/// A function in a guest's slot: the guest's own copies, and where the function and its regions stand
+/// on the board.
+#[derive(Drop)]
+pub(crate) struct Held {
+    /// Command and base address registers as the guest has them.
+    pub(crate) own: VirtualFunction,
+    /// At the index of its first register, each region where set-up placed it.
+    pub(crate) placed: [Option<Region>; 6],
+    /// The number that reaches the function.
+    pub(crate) at: Bdf,
+    /// The index among the functions of the host.
+    pub(crate) index: usize,
+    pub(crate) path: Path,
+}
+
+/// A guest: its address latch, and its 32 slots.
+#[derive(Drop)]
+pub(crate) struct Guest {
+    pub(crate) latch: Latch,
+    pub(crate) slots: Vec<Option<Held>>,
+}
