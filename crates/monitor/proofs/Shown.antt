@@ -31,7 +31,7 @@ use Rattle.model_guests.proofs.AgreedStates.{alike}
 use Rattle.model_guests.proofs.FoundFiles.{same_places}
 use Rattle.model_guests.proofs.CopiesNeverRise.{declared_lawful}
 use Rattle.model_guests.proofs.ViewedFiles.{view_is_file}
-use Rattle.model_guests.proofs.GuestsByName.{path_at, function_of, function_named}
+use Rattle.model_guests.proofs.GuestsByName.{path_at, path_of, function_of, function_named}
 use Rattle.model_guests.proofs.KeptCopies.{file_of_seat}
 use Rattle.model_guests.proofs.KeptNumbers.{keeps_numbers}
 use Rattle.model_guests.proofs.Along.{by_index}
@@ -64,23 +64,32 @@ module _ (b : Board) (a : Apertures) (gs : GuestsNow) (decls : HasLawfulDecls b)
   abbrev left_file : File
   left_file = set_up_file b a p (endpoint f.decl)
 
-  pub agreed_there : (i : ℕ) → slice_get b i ≡ Some (record { path = p; decl = endpoint f.decl }) → file_of gs p ≡ Some f.file
-      → endpoint_nth (agreed_state b a gs).functions i ≡ Some (record { decl = f.decl; file = agreed_file left_file f.file })
-  agreed_there i row file =
+  -- the function on the board, while its guest has the file
+  abbrev pub on_board : BoardFunction
+  on_board = record { path = p; decl = endpoint f.decl; file = agreed_file left_file f.file }
+
+  pub board_there : (i : ℕ) → slice_get b i ≡ Some (record { path = p; decl = endpoint f.decl }) → file_of gs p ≡ Some f.file → slice_get (agreed_state b a gs).functions i ≡ Some on_board
+  board_there i row file =
       let left : BoardFunction = record { path = p; decl = endpoint f.decl; file = left_file } in
-      let now : BoardFunction = record { path = p; decl = endpoint f.decl; file = agreed_file left_file f.file } in
       let set : slice_get (set_up_state b a).functions i ≡ Some left = mapped_get (λ (r : Row). record { path = r.path; decl = r.decl; file = set_up_file b a r.path r.decl }) b i (record { path = p; decl = endpoint f.decl }) row in
-      let there : slice_get (agreed_state b a gs).functions i ≡ Some now =
       mapped_get (agreed_function (file_of gs)) (set_up_state b a).functions i left set
-      ∙ ap (λ (o : Option File). Some (option_map_or (λ (own : File). record left { file = agreed_file left.file own }) o left)) file in
-      ap (λ (o : Option BoardFunction). option_map_or as_endpoint o None) there
+      ∙ ap (λ (o : Option File). Some (option_map_or (λ (own : File). record left { file = agreed_file left.file own }) o left)) file
+
+  pub same_as_left : places_of f.file ≡ places_of left_file
+  same_as_left = places ∙ alike_places (endpoint_reset f.decl false) left_file (alike b a p f.decl lawful)
 
   pub shown_there : (h : Held) → IsHeld b a p f h → file_of gs p ≡ Some f.file → function_shown (agreed_state b a gs).functions h ≡ Some f
   shown_there h held file =
-      ap (λ (o : Option Function). option_map (λ (g : Function). record g { file = with_copies (own_file h.own) g.file }) o) (agreed_there h.index held.row file)
+      ap (λ (o : Option BoardFunction). option_map (λ (g : Function). record g { file = with_copies (own_file h.own) g.file }) (option_map_or as_endpoint o None)) (board_there h.index held.row file)
       ∙ ap (λ (x : File). Some (record f { file = x }))
       (view_is_file left_file f.file (own_file h.own) (subst (EachPair Apart) (sym places) (distinct_places f.decl lawful false 0 (λ r. 0)))
-      (places ∙ alike_places (endpoint_reset f.decl false) left_file (alike b a p f.decl lawful)) held.own)
+      same_as_left held.own)
+
+-- the guest's file at the path of a slot
+pub file_named : (b : Board) (gs : GuestsNow) (w : GuestNow) (n : ℕ) (p : Path) (f : Function) → AreSeated b gs → guest_named gs w.name ≡ Some w → path_at w.paths n ≡ Some p → slot_at w.lone.slots n ≡ Some f → file_of gs p ≡ Some f.file
+file_named b gs w n p f seated found at is =
+    file_of_seat b gs seated w.name n p f (ap (λ (o : Option GuestNow). path_of o n) found ∙ at)
+    (function_named gs w.name n ∙ ap (λ (o : Option GuestNow). function_of o n) found ∙ is)
 
 -- ---- all of them
 
@@ -118,10 +127,7 @@ module _ (b : Board) (a : Apertures) (gs : GuestsNow) (decls : HasLawfulDecls b)
   all_shown seated (t ∷ ts) (w ∷ ws) (g ∷ hs) are named = ap₂ (λ (x : GuestNow) (xs : GuestsNow). x ∷ xs) here (all_shown seated ts ws hs are.1 (λ i. named (suc i)))
     where
       files : (n : ℕ) (p : Path) (f : Function) → path_at w.paths n ≡ Some p → slot_at w.lone.slots n ≡ Some f → file_of gs p ≡ Some f.file
-      files n p f at is =
-          let found : guest_named gs w.name ≡ Some w = (named zero w refl).0 in
-          file_of_seat b gs seated w.name n p f (ap (λ (o : Option GuestNow). Rattle.model_guests.proofs.GuestsByName.path_of o n) found ∙ at)
-          (function_named gs w.name n ∙ ap (λ (o : Option GuestNow). function_of o n) found ∙ is)
+      files n p f at is = file_named b gs w n p f seated (named zero w refl).0 at is
 
       slots : (map path_shown g.slots.items ≡ w.paths) × (map (slot_shown (agreed_state b a gs).functions) g.slots.items ≡ w.lone.slots)
       slots = slots_shown w.paths w.lone.slots g.slots.items (named zero w refl).1 are.0.slots files

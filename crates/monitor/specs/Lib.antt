@@ -1,2 +1,5 @@
 pub mod Views
 pub mod Keeping
+pub mod ByIndex
+pub mod Landings
+pub mod Reaches

@@ -1,8 +1,10 @@
 //! The monitor, which gives functions of a board to guests.
 #![tactic(auto)]
 
+mod board;
 mod engine;
 mod guest;
+mod landing;
 mod lanes;
 
 pub use accesses::{Access, At, Bdf, GuestDecl, HostAccess, HostAt, Names, Op, Place, Reply};
