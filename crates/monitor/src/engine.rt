@@ -1,17 +1,24 @@
 //! A host with its guests, over any way to find who claims an address.
-ghost use Rattle.std.specs.Prelude.{◌≡◌, ◌%◌};
+ghost use Rattle.std.specs.Prelude.{◌≡◌, ◌<◌, ◌%◌, length};
 ghost use Rattle.model_registers.specs.Registers.{all_bytes};
 ghost use Rattle.model_registers.specs.ByteEnables.{IsWidth};
 ghost use Rattle.model_board.specs.Ports.{config_reply};
+ghost use Rattle.model_guests.specs.Lone.{at_target, reply_at, after_access_at};
 ghost use Rattle.model_guests.specs.WorldNow.{names_now, host_reply};
+ghost use Rattle.bars.specs.Kinds.{named_space};
 ghost use Rattle.host_bridge.specs.BusAddresses.{bus_address_of};
-ghost use Rattle.accesses.specs.Accesses.{host_access_of, reply_of};
+ghost use Rattle.accesses.specs.Accesses.{host_access_of, op_of, reply_of};
 ghost use Rattle.accesses.specs.Replies.{IsShown};
 ghost use Rattle.monitor.specs.Views.{texts};
+ghost use Rattle.monitor.specs.ByIndex.{lone_nth, with_lone_nth};
+ghost use Rattle.monitor.specs.Reaches.{target_in};
 
+use crate::board::{board_address, read_claimed, write_claimed};
 use crate::guest::Guest;
+use crate::landing::landing;
 use crate::lanes::lowered;
-use accesses::{HostAccess, HostAt, Names, Reply};
+use accesses::{HostAccess, HostAt, Names, Op, Reply, nothing};
+use bars::Space;
 use config_bytes::enables_of;
 use host_bridge::{Bdf, Host, Route};
 use std::marker::Model;
@@ -26,7 +33,8 @@ pub(crate) struct Engine<R: Route> {
 }
 
 impl<R: Route> Model for Engine<R> {
-    ghost use Rattle.model_guests.specs.WorldNow.{WorldNow};
+    ghost use Rattle.model_guests.specs.Lone.{at_target, reply_at, after_access_at};
+ghost use Rattle.model_guests.specs.WorldNow.{WorldNow};
 
     ghost Value = { WorldNow };
 
@@ -44,6 +52,42 @@ impl<R: Route> Engine<R> {
         ensures { texts result.now ≡ names_now self.now }
     {
         &self.names
+    }
+
+    /// Reads or writes what an address of a guest stands for. Where it stands for nothing, a read gives all
+    /// ones and a write is dropped.
+    fn region_access(
+        &mut self,
+        guest: usize,
+        space: Space,
+        addr: u64,
+        width: u64,
+        op: Op,
+    ) -> Reply
+        requires there { guest < length self.old.guests }
+        requires width { IsWidth width }
+        requires aligned { addr % width ≡ 0 }
+        ensures reply { let target = at_target (target_in (named_space space) addr) in
+            reply_of result ≡ reply_at (lone_nth self.old guest) (op_of op) width target }
+        ensures after { let target = at_target (target_in (named_space space) addr) in
+            self.new ≡ with_lone_nth guest (after_access_at (lone_nth self.old guest) (op_of op) width target) self.old }
+        ensures shown { IsShown result }
+    {
+        let slots = &self.guests[guest].slots;
+        let Some((slot, region, offset)) = landing(slots, space, addr) else {
+            return nothing(op, width);
+        };
+        let at = board_address(slots, slot, region, offset);
+        match op {
+            Op::Read => {
+                let value = read_claimed(&mut self.host, &self.route, space, at, width);
+                Reply::Value(value, width)
+            }
+            Op::Write(value) => {
+                write_claimed(&mut self.host, &self.route, space, at, width, value);
+                Reply::Done
+            }
+        }
     }
 
     /// Answers a read by the host: what the board shows.

@@ -1,0 +1,194 @@
+-- A guest's address on the board: where it lands, the claim there, and what is read and written.
+use Rattle.std.proofs.Common.{◌≡◌, ℕ, zero, suc, ◌+◌, ◌%◌, ◌<◌, ◌≤◌, ◌^◌, Bool, true, false, ◌&&◌, cond, inl, inr, List, [], ◌∷◌, Some, None, Option, slice_get, refl, sym, ap, ap₂, ◌∙◌, subst, arith}
+use Rattle.std.specs.Prelude.{find, map, option_map, unwrap_or, IsTrue, not}
+use Rattle.std.specs.Option.{option_map_or}
+use Rattle.model_registers.specs.Lists.{IsIn, Each, EachPair}
+use Rattle.model_registers.specs.Registers.{Place, config, block, after, File, read, write, all_bytes, number}
+use Rattle.model_registers.specs.ByteEnables.{IsWidth}
+use Rattle.model_registers.specs.Declarations.{Region}
+use Rattle.model_registers.specs.EndpointTable.{BaseAddress}
+use Rattle.model_registers.specs.OwnCopies.{is_own, handed_on}
+use Rattle.model_registers.specs.Decoding.{Space, io, memory, Function, Hit, lone_claim}
+use Rattle.model_board.specs.Paths.{Path, path_eq, path_before}
+use Rattle.model_board.specs.Board.{endpoint, Row, Board, IsBoard}
+use Rattle.model_board.specs.Pools.{Apertures}
+use Rattle.model_board.specs.State.{BoardFunction}
+use Rattle.model_board.specs.Claims.{Claim, first_claim}
+use Rattle.model_board.specs.Cycles.{reached}
+use Rattle.model_board.specs.Reach.{row_at, address_of}
+use Rattle.model_board.specs.Ports.{file_at, claim_reply, after_claim_write, port_target, ordinary}
+use Rattle.model_board.specs.SetUp.{first_of, set_up_file}
+use Rattle.model_board.specs.SetUpWrites.{placed_base}
+use Rattle.model_board.proofs.PathEnds.{path_self}
+use Rattle.model_guests.specs.Files.{agreed_file, places_of}
+use Rattle.model_guests.specs.Slots.{Slots, slot_at}
+use Rattle.model_guests.specs.Guests.{GuestNow}
+use Rattle.model_guests.specs.WorldNow.{WorldNow, board_state}
+use Rattle.model_guests.specs.Seated.{IsSeat, IsSeatedAt, IsSeatedGuest}
+use Rattle.model_guests.specs.RegionLaws.{ReachesRegion}
+use Rattle.model_guests.proofs.GuestsByName.{path_at}
+use Rattle.model_guests.proofs.ListFacts.{each_at}
+use Rattle.model_guests.proofs.Seats.{seats_at}
+use Rattle.model_guests.proofs.KeptNumbers.{keeps_numbers, shows_file}
+use Rattle.model_guests.proofs.RegionReach.{hit_reaches_region}
+use Rattle.bars.specs.Hits.{hit_in}
+use Rattle.bars.specs.Slots as bars
+use Rattle.bars.specs.declared.region.Region as program
+use Rattle.host_bridge.specs.HostState.{HostState}
+use Rattle.host_bridge.proofs.Lent.{HasDistinctPaths, distinct_paths}
+use Rattle.host_bridge.proofs.ByIndex.{found_at}
+use Rattle.monitor.specs.declared.guest.Held.{Held}
+use Rattle.monitor.specs.declared.guest.Guest.{Guest}
+use Rattle.monitor.specs.Keeping.{IsKept}
+use Rattle.monitor.specs.Reaches.{LandsIn, IsOnBoard, IsOrdinary}
+use Rattle.monitor.proofs.Shown.{board_there, file_named, same_as_left}
+use Rattle.monitor.proofs.Steps.{SlotOf, slot_there, GuestOf, named}
+
+-- ---- a region in the six registers
+
+pub record PlacedAt (slots : List (Option program.Region)) (n : ℕ) (x : BaseAddress) : Type 0 where
+  pub k : ℕ
+  pub region : program.Region
+  pub there : bars.slot_at slots k ≡ Some region
+  pub is : x ≡ bars.placed (n + k) region
+
+placed_at : (slots : List (Option program.Region)) (n : ℕ) (x : BaseAddress) → IsIn x (bars.bases_from n slots) → PlacedAt slots n x
+placed_at [] n x h = absurd h
+placed_at (None ∷ slots) n x h =
+    let more = placed_at slots (n + 1) x h in
+    let next : n + 1 + more.k ≡ n + suc more.k = omega arith in
+    record { k = suc more.k; region = more.region; there = more.there; is = more.is ∙ ap (λ (m : ℕ). bars.placed m more.region) next }
+placed_at (Some r ∷ slots) n x (inl h) = let here : n ≡ n + 0 = omega arith in record { k = 0; region = r; there = refl; is = h ∙ ap (λ (m : ℕ). bars.placed m r) here }
+placed_at (Some r ∷ slots) n x (inr h) =
+    let more = placed_at slots (n + 1) x h in
+    let next : n + 1 + more.k ≡ n + suc more.k = omega arith in
+    record { k = suc more.k; region = more.region; there = more.there; is = more.is ∙ ap (λ (m : ℕ). bars.placed m more.region) next }
+
+mapped_in : {A B : Type 0} (f : A → B) (x : A) (xs : List A) → IsIn x xs → IsIn (f x) (map f xs)
+mapped_in f x [] h = absurd h
+mapped_in f x (y ∷ ys) (inl h) = inl (ap f h)
+mapped_in f x (y ∷ ys) (inr h) = inr (mapped_in f x ys h)
+
+-- ---- paths of the board
+
+path_each : (f : BoardFunction) (fs : List BoardFunction) → Each (λ (r : Row). IsTrue (path_before f.path r.path)) (map row_at fs) → Each (λ (g : BoardFunction). IsTrue (path_before f.path g.path)) fs
+path_each f [] h = tt
+path_each f (g ∷ fs) h = (h.0, path_each f fs h.1)
+
+path_pairs : (fs : List BoardFunction) → EachPair (λ (r s : Row). IsTrue (path_before r.path s.path)) (map row_at fs) → EachPair (λ (f g : BoardFunction). IsTrue (path_before f.path g.path)) fs
+path_pairs [] h = tt
+path_pairs (f ∷ fs) h = (path_each f fs h.0, path_pairs fs h.1)
+
+pub board_distinct : (b : Board) (fs : List BoardFunction) → IsBoard b → map row_at fs ≡ b → HasDistinctPaths fs
+board_distinct b fs board rows = distinct_paths fs (path_pairs fs (subst (EachPair (λ (r s : Row). IsTrue (path_before r.path s.path))) (sym rows) board.in_order))
+
+-- ---- in a region there are no copies
+
+pub all_handed : (n a : ℕ) (ons : List Bool) → handed_on (block n a) ons ≡ ons
+all_handed n a [] = refl
+all_handed n a (on ∷ ons) = ap₂ (λ (x : Bool) (xs : List Bool). x ∷ xs) (and_true on) (all_handed n (a + 1) ons)
+  where
+    and_true : (t : Bool) → (t && not false) ≡ t
+    and_true true = refl
+    and_true false = refl
+
+-- ---- alignment
+
+same_lanes : (a c w : ℕ) → IsWidth w → c % 4 ≡ a % 4 → a % w ≡ 0 → c % w ≡ 0
+same_lanes a c w (inl e) h k = let P : ℕ → Type 0 = λ n. c % n ≡ 0 in subst P (sym e) (omega arith)
+same_lanes a c w (inr (inl e)) h k =
+    let P : ℕ → Type 0 = λ n. a % n ≡ 0 → c % n ≡ 0 in
+    let two : a % 2 ≡ 0 → c % 2 ≡ 0 = λ even. omega arith in subst P (sym e) two k
+same_lanes a c w (inr (inr e)) h k =
+    let P : ℕ → Type 0 = λ n. a % n ≡ 0 → c % n ≡ 0 in
+    let four : a % 4 ≡ 0 → c % 4 ≡ 0 = λ all. h ∙ all in subst P (sym e) four k
+
+-- ---- a guest's slot of a world that is kept
+
+module _ (w : WorldNow) (h : HostState) (names : List (List ℕ)) (gs : List Guest) (kept : IsKept w h names gs) (i : ℕ) (g : Guest) (at : GuestOf w.board w.apertures w.guests i g) where
+  abbrev pub functions : List BoardFunction
+  functions = (board_state w).functions
+
+  pub seat : (n : ℕ) (held : Held) (slot : SlotOf w.board w.apertures at.x.paths at.x.lone.slots n held) → IsSeatedAt w.board slot.p slot.f
+  seat n held slot =
+      let all : IsSeatedGuest w.board at.x = each_at (IsSeatedGuest w.board) w.guests i at.x kept.seated.guests at.there in
+      let one : IsSeat w.board (path_at at.x.paths n) (slot_at at.x.lone.slots n) = seats_at w.board at.x.paths at.x.lone.slots n all.seats in
+      subst (λ (q : Option Path). IsSeat w.board q (Some slot.f)) slot.path (subst (IsSeat w.board (path_at at.x.paths n)) slot.function one)
+
+  pub distinct : HasDistinctPaths functions
+  distinct = board_distinct w.board functions kept.placeable.places (keeps_numbers w.board w.apertures kept.placeable.places kept.placeable.declarations w.guests kept.seated kept.few).rows
+
+  module _ (n : ℕ) (held : Held) (slot : SlotOf w.board w.apertures at.x.paths at.x.lone.slots n held) where
+    abbrev pub left : File
+    left = set_up_file w.board w.apertures slot.p (endpoint slot.f.decl)
+
+    abbrev pub on_board : BoardFunction
+    on_board = record { path = slot.p; decl = endpoint slot.f.decl; file = agreed_file left slot.f.file }
+
+    pub board_row : slice_get functions held.index ≡ Some on_board
+    board_row =
+        board_there w.board w.apertures w.guests kept.placeable.declarations slot.p slot.f (seat n held slot) held.index slot.held.row
+        (file_named w.board w.guests at.x n slot.p slot.f kept.seated (named w h names gs kept i g at) slot.path slot.function)
+
+    pub found_on_board : find (λ (f : BoardFunction). path_eq f.path slot.p) functions ≡ Some on_board
+    found_on_board = found_at on_board functions held.index distinct board_row
+
+    pub places_same : places_of slot.f.file ≡ places_of left
+    places_same = same_as_left w.board w.apertures w.guests kept.placeable.declarations slot.p slot.f (seat n held slot)
+
+    -- what the board shows of the bytes of which the guest has no copy
+    pub board_shows : (p : Place) (ons : List Bool) → read on_board.file p (handed_on p ons) ≡ read slot.f.file p (handed_on p ons)
+    board_shows p ons = shows_file left slot.f.file places_same p ons
+
+    pub block_shown : (k a width : ℕ) → claim_reply functions width (Some (record { path = slot.p; index = k; offset = a })) ≡ number slot.f.file (block k a) width
+    block_shown k a width =
+        let ons : List Bool = all_bytes width in
+        ap (λ (o : Option BoardFunction). number (option_map_or (λ (f : BoardFunction). f.file) o []) (block k a) width) found_on_board
+        ∙ ap (read on_board.file (block k a)) (sym (all_handed k a ons)) ∙ board_shows (block k a) ons ∙ ap (read slot.f.file (block k a)) (all_handed k a ons)
+
+  -- where an address lands
+  module _ (space : Space) (addr : ℕ) (l : ℕ × ℕ × ℕ) (lands : LandsIn g.slots.items space addr l) where
+    pub slot : SlotOf w.board w.apertures at.x.paths at.x.lone.slots l.0 lands.held
+    slot = slot_there w.board w.apertures at.x.paths at.x.lone.slots g.slots.items l.0 lands.held at.is.slots lands.there
+
+    pub reach : ReachesRegion w.board w.apertures functions slot.p slot.f space addr (hit_in l.1 l.2)
+    reach =
+        hit_reaches_region w.board w.apertures kept.placeable w.guests kept.seated slot.p slot.f (seat l.0 lands.held slot) space addr (hit_in l.1 l.2)
+        (sym (lands.decodes slot.f slot.held.own slot.held.regions))
+
+    pub region_at : PlacedAt lands.held.placed 0 (placed_base w.board w.apertures slot.p reach.region)
+    region_at =
+        placed_at lands.held.placed 0 (placed_base w.board w.apertures slot.p reach.region)
+        (subst (IsIn (placed_base w.board w.apertures slot.p reach.region)) (sym slot.held.placed) (mapped_in (placed_base w.board w.apertures slot.p) reach.region slot.f.decl.regions reach.declared))
+
+    pub base_is : region_at.region.base ≡ first_of w.board w.apertures slot.p reach.region
+    base_is = ap (λ (x : BaseAddress). x.base) (sym region_at.is)
+
+    pub register_is : region_at.k ≡ l.1
+    register_is = let e : reach.region.index ≡ 0 + region_at.k = ap (λ (x : BaseAddress). x.index) region_at.is in let f : l.1 ≡ reach.region.index = reach.hit.index in omega arith
+
+    pub ends : (s : Space) → space ≡ s → first_of w.board w.apertures slot.p reach.region + l.2 < 2 ^ 64
+    ends io e = let low = reach.within.io_ends (reach.hit.space_is ∙ e) in let inside = reach.hit.inside in omega arith
+    ends memory e = let low = reach.within.memory_ends (reach.hit.space_is ∙ e) in let inside = reach.hit.inside in omega arith
+
+    abbrev pub stands_on_board : IsOnBoard g.slots.items l
+    stands_on_board = record {
+      held = lands.held;
+      there = lands.there;
+      region = region_at.region;
+      placed = ap (bars.slot_at lands.held.placed) (sym register_is) ∙ region_at.there;
+      fits = let e = base_is in let k = ends space refl in subst (λ (n : ℕ). n + l.2 < 2 ^ 64) (sym e) k;
+    }
+
+    pub claimed : (n : ℕ) → n ≡ region_at.region.base + l.2 → first_claim functions space n ≡ Some (record { path = slot.p; index = l.1; offset = l.2 })
+    claimed n is = ap (first_claim functions space) (is ∙ ap (λ (m : ℕ). m + l.2) base_is) ∙ reach.claimed
+
+    pub aligned : (n width : ℕ) → n ≡ region_at.region.base + l.2 → IsWidth width → addr % width ≡ 0 → n % width ≡ 0
+    aligned n width is wide whole = same_lanes addr n width wide (ap (λ (m : ℕ). m % 4) (is ∙ ap (λ (m : ℕ). m + l.2) base_is) ∙ reach.lanes) whole
+
+    pub ordinary_there : (latch n width : ℕ) → n ≡ region_at.region.base + l.2 → IsOrdinary latch space n width
+    ordinary_there latch n width is = λ port.
+        let low = reach.within.io_ends (reach.hit.space_is ∙ port) in
+        let inside = reach.hit.inside in
+        let e = is ∙ ap (λ (m : ℕ). m + l.2) base_is in
+        (omega arith, ap (λ (m : ℕ). port_target latch m width) e ∙ reach.ordinary_port port latch width)

@@ -1,0 +1,98 @@
+-- The same as code holds it: the fields of an engine, the guest at an index and its slots.
+use Rattle.std.proofs.Common.{◌≡◌, ℕ, ◌+◌, ◌%◌, ◌<◌, List, [], Some, None, Option, slice_get, refl, sym, ap, ◌∙◌, subst}
+use Rattle.std.specs.Prelude.{option_map}
+use Rattle.model_registers.specs.ByteEnables.{IsWidth}
+use Rattle.model_registers.specs.Decoding.{Space}
+use Rattle.model_board.specs.Paths.{Path}
+use Rattle.model_board.specs.Board.{Board}
+use Rattle.model_board.specs.Pools.{Apertures}
+use Rattle.model_board.specs.Claims.{first_claim}
+use Rattle.model_board.specs.Ports.{claim_reply, after_claim_write}
+use Rattle.model_board.specs.Routing.{routing}
+use Rattle.model_guests.specs.Accesses.{Reply, answered, Op, reads, writes}
+use Rattle.model_guests.specs.Slots.{Slots, landing_from, perform}
+use Rattle.model_guests.specs.Lone.{at_target, reply_at, after_access_at}
+use Rattle.model_guests.specs.WorldNow.{WorldNow}
+use Rattle.host_bridge.specs.HostState.{HostState, with_functions}
+use Rattle.monitor.specs.declared.guest.Held.{Held}
+use Rattle.monitor.specs.declared.guest.Guest.{Guest}
+use Rattle.monitor.specs.Views.{world_shown}
+use Rattle.monitor.specs.Keeping.{AreSlots, IsKept, IsSound}
+use Rattle.monitor.specs.ByIndex.{lone_nth, with_lone_nth}
+use Rattle.monitor.specs.Landings.{landing_of}
+use Rattle.monitor.specs.Reaches.{LandsIn, IsOnBoard, IsOrdinary, target_in}
+use Rattle.monitor.proofs.Shown.{is_shown, is_sound}
+use Rattle.monitor.proofs.Steps.{GuestOf, guest_there}
+use Rattle.monitor.proofs.Reached.{stands_on_board, region_at, aligned, ordinary_there}
+use Rattle.monitor.proofs.RegionSteps.{nothing_there, nothing_done, region_read, region_written, region_world, region_world_is, same_routing, with_same}
+
+-- what `landing` says of slots
+abbrev pub Lands : List (Option Held) → Space → ℕ → Option (ℕ × ℕ × ℕ) → Type 0
+Lands slots space addr o = (b : Board) (a : Apertures) (qs : List (Option Path)) (fs : Slots) → AreSlots b a qs fs slots → option_map landing_of o ≡ landing_from 0 space addr fs
+
+module _ (h : HostState) (names : List (List ℕ)) (gs : List Guest) (sound : IsSound h names gs) (now : WorldNow) (view : world_shown h names gs ≡ now) (i : ℕ) (g : Guest) (there : slice_get gs i ≡ Some g) where
+  abbrev pub shown_world : WorldNow
+  shown_world = world_shown h names gs
+
+  pub guest_at : GuestOf shown_world.board shown_world.apertures shown_world.guests i g
+  guest_at = guest_there shown_world.board shown_world.apertures names shown_world.guests gs i g sound.guests there
+
+  module _ (space : Space) (addr : ℕ) (slots : List (Option Held)) (same : slots ≡ g.slots.items) where
+    lands_at : (o : Option (ℕ × ℕ × ℕ)) → Lands slots space addr o → option_map landing_of o ≡ landing_from 0 space addr guest_at.x.lone.slots
+    lands_at o lands = lands shown_world.board shown_world.apertures guest_at.x.paths guest_at.x.lone.slots (subst (AreSlots shown_world.board shown_world.apertures guest_at.x.paths guest_at.x.lone.slots) (sym same) guest_at.is.slots)
+
+    pub reply_nowhere : Lands slots space addr None → (op : Op) (width : ℕ) (r : Reply) → r ≡ perform op width [] None → r ≡ reply_at (lone_nth now i) op width (at_target (target_in space addr))
+    reply_nowhere lands op width r is =
+        is ∙ nothing_there shown_world h names gs sound i g guest_at space addr op width (lands_at None lands)
+        ∙ ap (λ (v : WorldNow). reply_at (lone_nth v i) op width (at_target (target_in space addr))) view
+
+    pub after_nowhere : Lands slots space addr None → (op : Op) (width : ℕ) → now ≡ with_lone_nth i (after_access_at (lone_nth now i) op width (at_target (target_in space addr))) now
+    after_nowhere lands op width =
+        subst (λ (v : WorldNow). v ≡ with_lone_nth i (after_access_at (lone_nth v i) op width (at_target (target_in space addr))) v) view
+        (nothing_done shown_world h names gs sound i g guest_at space addr op width (lands_at None lands))
+
+    module _ (l : ℕ × ℕ × ℕ) (lands_in : LandsIn slots space addr l) where
+      lands_here : LandsIn g.slots.items space addr l
+      lands_here = subst (λ (os : List (Option Held)). LandsIn os space addr l) same lands_in
+
+      pub stands : (others : List (Option Held)) → others ≡ g.slots.items → IsOnBoard others l
+      stands others is = subst (λ (os : List (Option Held)). IsOnBoard os l) (sym is) (stands_on_board shown_world h names gs sound i g guest_at space addr l lands_here)
+
+      -- the address that code finds
+      module _ (others : List (Option Held)) (is : others ≡ g.slots.items) (n : ℕ) (found : (on : IsOnBoard others l) → n ≡ on.region.base + l.2) where
+        found_here : (on : IsOnBoard g.slots.items l) → n ≡ on.region.base + l.2
+        found_here = subst (λ (os : List (Option Held)). (on : IsOnBoard os l) → n ≡ on.region.base + l.2) is found
+
+        address_is : n ≡ (region_at shown_world h names gs sound i g guest_at space addr l lands_here).region.base + l.2
+        address_is = found_here (stands_on_board shown_world h names gs sound i g guest_at space addr l lands_here)
+
+        pub aligned_here : (width : ℕ) → IsWidth width → addr % width ≡ 0 → n % width ≡ 0
+        aligned_here width wide whole = aligned shown_world h names gs sound i g guest_at space addr l lands_here n width address_is wide whole
+
+        pub ordinary_here : (latch width : ℕ) → IsOrdinary latch space n width
+        ordinary_here latch width = ordinary_there shown_world h names gs sound i g guest_at space addr l lands_here latch n width address_is
+
+        module _ (width : ℕ) (landed : Lands slots space addr (Some l)) where
+          pub reply_read : (value : ℕ) → value ≡ claim_reply h.state.functions width (first_claim h.state.functions space n) → answered value width ≡ reply_at (lone_nth now i) reads width (at_target (target_in space addr))
+          reply_read value reads_it =
+              region_read shown_world h names gs sound i g guest_at space addr l lands_here (lands_at (Some l) landed) n width value address_is reads_it
+              ∙ ap (λ (v : WorldNow). reply_at (lone_nth v i) reads width (at_target (target_in space addr))) view
+
+          pub after_read : (new : HostState) → new ≡ h → world_shown new names gs ≡ with_lone_nth i (lone_nth now i) now
+          after_read new is_same =
+              ap (λ (k : HostState). world_shown k names gs) is_same ∙ sym (with_same shown_world h names gs sound i g guest_at) ∙ ap (λ (v : WorldNow). with_lone_nth i (lone_nth v i) v) view
+
+          module _ (v : ℕ) (new : HostState) (written : new ≡ with_functions (after_claim_write h.state.functions width v (first_claim h.state.functions space n)) h) where
+            kept_now : IsKept (region_world shown_world h names gs sound i g guest_at space addr l lands_here (lands_at (Some l) landed) n width v) new names gs
+            kept_now = region_written shown_world h names gs sound i g guest_at space addr l lands_here (lands_at (Some l) landed) n width v address_is there new written
+
+            pub sound_written : IsSound new names gs
+            sound_written = is_sound _ new names gs kept_now
+
+            pub routes_written : routing h.state.functions ≡ routing new.state.functions
+            routes_written = same_routing _ _ h new names gs gs sound kept_now refl refl
+
+            pub after_written : world_shown new names gs ≡ with_lone_nth i (after_access_at (lone_nth now i) (writes v) width (at_target (target_in space addr))) now
+            after_written =
+                is_shown _ new names gs kept_now ∙ sym (region_world_is shown_world h names gs sound i g guest_at space addr l lands_here (lands_at (Some l) landed) n width v)
+                ∙ ap (λ (x : WorldNow). with_lone_nth i (after_access_at (lone_nth x i) (writes v) width (at_target (target_in space addr))) x) view
