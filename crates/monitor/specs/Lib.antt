@@ -3,3 +3,4 @@ pub mod Keeping
 pub mod ByIndex
 pub mod Landings
 pub mod Reaches
+pub mod Configs

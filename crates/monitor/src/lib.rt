@@ -2,6 +2,7 @@
 #![tactic(auto)]
 
 mod board;
+mod config;
 mod engine;
 mod guest;
 mod landing;
