@@ -51,7 +51,7 @@ mapped_get f (y ∷ ys) (suc i) x h = mapped_get f ys i x h
 
 -- ---- one function
 
-lawful_at : (b : Board) (p : Path) (f : Function) → HasLawfulDecls b → IsSeatedAt b p f → IsLawfulEndpoint f.decl
+pub lawful_at : (b : Board) (p : Path) (f : Function) → HasLawfulDecls b → IsSeatedAt b p f → IsLawfulEndpoint f.decl
 lawful_at b p f decls seat = subst (λ (o : Option Endpoint). MatchOption o ⊤ IsLawfulEndpoint) seat.decl (declared_lawful b decls p)
 
 module _ (b : Board) (a : Apertures) (gs : GuestsNow) (decls : HasLawfulDecls b) (p : Path) (f : Function) (seat : IsSeatedAt b p f) where

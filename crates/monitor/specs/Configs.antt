@@ -1,11 +1,16 @@
 -- A function in a slot, as the host shows its configuration space.
 --     IsSeen      the bytes of which the guest has no copy are those of its file
-use Rattle.std.specs.Prelude.{ℕ, List, Bool, ◌≡◌}
-use Rattle.model_registers.specs.Registers.{config, File, read}
-use Rattle.model_registers.specs.OwnCopies.{HoldsOwn, IsLawfulOwn, handed_on}
+--     IsHolding      a guest holds a function in a slot
+--     WritesOwn      the slots after a write of that function's own copies
+use Rattle.std.specs.Prelude.{ℕ, List, Bool, Option, Some, ◌≡◌, map, slice_get, slice_set}
+use Rattle.model_registers.specs.Registers.{config, File, read, write}
+use Rattle.model_registers.specs.ByteEnables.{lanes}
+use Rattle.model_registers.specs.EndpointTable.{opened}
+use Rattle.model_registers.specs.OwnCopies.{OwnCopies, own_file, HoldsOwn, IsLawfulOwn, handed_on}
 use Rattle.model_board.specs.Ports.{config_reply}
 use Rattle.host_bridge.specs.BusAddresses.{bus_address_of}
 use Rattle.host_bridge.specs.HostState.{HostState}
+use Rattle.host_bridge.specs.declared.bdf.Bdf.{Bdf}
 use Rattle.monitor.specs.declared.guest.Held.{Held}
 
 -- the address latch is clear
@@ -15,3 +20,16 @@ pub record IsSeen (h : HostState) (held : Held) : Type 0 where
   pub holds : HoldsOwn file held.own
   pub shows : (off : ℕ) (ons : List Bool) → config_reply h.state.functions (bus_address_of held.at) off (handed_on (config off) ons) ≡ read file (config off) (handed_on (config off) ons)
   pub latch : h.state.latch ≡ 0
+
+pub record IsHolding (slots : List (Option Held)) (n : ℕ) : Type 0 where
+  pub held : Held
+  pub there : slice_get slots n ≡ Some (Some held)
+
+-- the enabled bytes of a word; the result is the function's number, and the enables of the bytes without a copy
+pub record WritesOwn (slots : List (Option Held)) (n : ℕ) (holds : IsHolding slots n) (word enables value : ℕ) (new : List (Option Held)) (r : Bdf × ℕ) : Type 0 where
+  pub own : OwnCopies
+  pub after : new ≡ slice_set slots n (Some (record holds.held { own = own }))
+  pub written : own_file own ≡ write (lanes enables) value (config word) (own_file holds.held.own)
+  pub regions : map opened own.bases ≡ map opened holds.held.own.bases
+  pub number : r.0 ≡ holds.held.at
+  pub others : lanes r.1 ≡ handed_on (config word) (lanes enables)

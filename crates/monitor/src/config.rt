@@ -1,13 +1,13 @@
 //! Configuration accesses of guests.
-ghost use Rattle.std.specs.Prelude.{◌≡◌, ◌%◌, ◌<◌};
+ghost use Rattle.std.specs.Prelude.{◌≡◌, ◌%◌, IfNone, IfSome, Some, None, slice_get, unwrap_or};
 ghost use Rattle.model_registers.specs.Registers.{config, number};
 ghost use Rattle.model_registers.specs.ByteEnables.{IsWidth};
-ghost use Rattle.monitor.specs.Configs.{IsSeen};
+ghost use Rattle.monitor.specs.Configs.{IsSeen, IsHolding, WritesOwn};
 
 use crate::guest::Held;
 use crate::lanes::lowered;
 use config_bytes::enables_of;
-use host_bridge::Host;
+use host_bridge::{Bdf, Host};
 
 /// The number of 1, 2 or 4 bytes at an offset of a function, as its guest has it: the guest's own copies,
 /// and the board's registers for all other bytes.
@@ -25,4 +25,37 @@ pub(crate) fn number_read(host: &mut Host, held: &Held, off: u8, width: u64) -> 
         .config_read(u16::from(word), enables_of(from, width));
     let rest = host.config_read(held.at, word, others);
     lowered(from, own + rest)
+}
+
+/// The function in a slot.
+pub(crate) fn held_in(slots: &[Option<Held>], slot: usize) -> Option<&Held>
+    ensures empty { IfNone result (unwrap_or (slice_get slots.now slot) None ≡ None) }
+    ensures there { IfSome result (λ r. slice_get slots.now slot ≡ Some (Some r.now)) }
+{
+    match slots.get(slot) {
+        Some(Some(held)) => Some(held),
+        _ => None,
+    }
+}
+
+/// Writes the own copies among the enabled bytes of a word, and gives the function's number with the
+/// enables of the other bytes.
+pub(crate) fn write_own(
+    slots: &mut [Option<Held>],
+    slot: usize,
+    word: u8,
+    enables: u8,
+    value: u32,
+) -> (Bdf, u8)
+    requires holds { IsHolding slots.old slot }
+    requires aligned { word % 4 ≡ 0 }
+    ensures { (holds : IsHolding slots.old slot) → WritesOwn slots.old slot holds word enables value slots.new result }
+{
+    match &mut slots[slot] {
+        Some(held) => {
+            let others = held.own.config_write(u16::from(word), enables, value);
+            (held.at, others)
+        }
+        None => unreachable!(),
+    }
 }

@@ -3,6 +3,7 @@ ghost use Rattle.std.specs.Prelude.{◌≡◌, ◌<◌, ◌%◌, length};
 ghost use Rattle.model_registers.specs.Registers.{all_bytes};
 ghost use Rattle.model_registers.specs.ByteEnables.{IsWidth};
 ghost use Rattle.model_board.specs.Ports.{config_reply};
+ghost use Rattle.model_guests.specs.Accesses.{configuration, reads};
 ghost use Rattle.model_guests.specs.Lone.{at_target, reply_at, after_access_at};
 ghost use Rattle.model_guests.specs.WorldNow.{names_now, host_reply};
 ghost use Rattle.bars.specs.Kinds.{named_space};
@@ -14,6 +15,7 @@ ghost use Rattle.monitor.specs.ByIndex.{lone_nth, with_lone_nth};
 ghost use Rattle.monitor.specs.Reaches.{target_in};
 
 use crate::board::{board_address, read_claimed, write_claimed};
+use crate::config::{held_in, number_read};
 use crate::guest::Guest;
 use crate::landing::landing;
 use crate::lanes::lowered;
@@ -33,7 +35,8 @@ pub(crate) struct Engine<R: Route> {
 }
 
 impl<R: Route> Model for Engine<R> {
-    ghost use Rattle.model_guests.specs.Lone.{at_target, reply_at, after_access_at};
+    ghost use Rattle.model_guests.specs.Accesses.{configuration, reads};
+ghost use Rattle.model_guests.specs.Lone.{at_target, reply_at, after_access_at};
 ghost use Rattle.model_guests.specs.WorldNow.{WorldNow};
 
     ghost Value = { WorldNow };
@@ -88,6 +91,22 @@ impl<R: Route> Engine<R> {
                 Reply::Done
             }
         }
+    }
+
+    /// Reads the configuration space of the function in a slot; all ones where there is none.
+    fn config_read(&mut self, guest: usize, slot: usize, off: u8, width: u64) -> Reply
+        requires there { guest < length self.old.guests }
+        requires width { IsWidth width }
+        requires aligned { off % width ≡ 0 }
+        ensures reply { let target = at_target (configuration slot off) in
+            reply_of result ≡ reply_at (lone_nth self.old guest) reads width target }
+        ensures after { self.new ≡ self.old }
+        ensures shown { IsShown result }
+    {
+        let Some(held) = held_in(&self.guests[guest].slots, slot) else {
+            return nothing(Op::Read, width);
+        };
+        Reply::Value(number_read(&mut self.host, held, off, width), width)
     }
 
     /// Answers a read by the host: what the board shows.
