@@ -1,7 +1,8 @@
 -- A function in a slot, as the host shows its configuration space.
 --     IsSeen      the bytes of which the guest has no copy are those of its file
---     IsHolding      a guest holds a function in a slot
+--     IsHolding      a slot with a function
 --     WritesOwn      the slots after a write of that function's own copies
+--     HoldsAt, WritesGuest      the same of a guest by its index
 use Rattle.std.specs.Prelude.{ℕ, List, Bool, Option, Some, ◌≡◌, map, slice_get, slice_set}
 use Rattle.model_registers.specs.Registers.{config, File, read, write}
 use Rattle.model_registers.specs.ByteEnables.{lanes}
@@ -12,6 +13,7 @@ use Rattle.host_bridge.specs.BusAddresses.{bus_address_of}
 use Rattle.host_bridge.specs.HostState.{HostState}
 use Rattle.host_bridge.specs.declared.bdf.Bdf.{Bdf}
 use Rattle.monitor.specs.declared.guest.Held.{Held}
+use Rattle.monitor.specs.declared.guest.Guest.{Guest}
 
 -- the address latch is clear
 pub record IsSeen (h : HostState) (held : Held) : Type 0 where
@@ -33,3 +35,16 @@ pub record WritesOwn (slots : List (Option Held)) (n : ℕ) (holds : IsHolding s
   pub regions : map opened own.bases ≡ map opened holds.held.own.bases
   pub number : r.0 ≡ holds.held.at
   pub others : lanes r.1 ≡ handed_on (config word) (lanes enables)
+
+-- a guest holds a function in a slot
+pub record HoldsAt (gs : List Guest) (i n : ℕ) : Type 0 where
+  pub guest : Guest
+  pub there : slice_get gs i ≡ Some guest
+  pub slot : IsHolding guest.slots.items n
+
+-- the guests after a write of that function's own copies
+pub record WritesGuest (gs : List Guest) (i n : ℕ) (holds : HoldsAt gs i n) (word enables value : ℕ) (new : List Guest) (r : Bdf × ℕ) : Type 0 where
+  pub guest : Guest
+  pub after : new ≡ slice_set gs i guest
+  pub latch : guest.latch ≡ holds.guest.latch
+  pub slots : WritesOwn holds.guest.slots.items n holds.slot word enables value guest.slots.items r

@@ -2,9 +2,9 @@
 ghost use Rattle.std.specs.Prelude.{◌≡◌, ◌%◌, IfNone, IfSome, Some, None, slice_get, unwrap_or};
 ghost use Rattle.model_registers.specs.Registers.{config, number};
 ghost use Rattle.model_registers.specs.ByteEnables.{IsWidth};
-ghost use Rattle.monitor.specs.Configs.{IsSeen, IsHolding, WritesOwn};
+ghost use Rattle.monitor.specs.Configs.{IsSeen, IsHolding, WritesOwn, HoldsAt, WritesGuest};
 
-use crate::guest::Held;
+use crate::guest::{Guest, Held};
 use crate::lanes::lowered;
 use config_bytes::enables_of;
 use host_bridge::{Bdf, Host};
@@ -58,4 +58,21 @@ pub(crate) fn write_own(
         }
         None => unreachable!(),
     }
+}
+
+/// The same in a slot of a guest.
+pub(crate) fn write_guest(
+    guests: &mut [Guest],
+    guest: usize,
+    slot: usize,
+    word: u8,
+    enables: u8,
+    value: u32,
+) -> (Bdf, u8)
+    requires holds { HoldsAt guests.old guest slot }
+    requires aligned { word % 4 ≡ 0 }
+    ensures { (holds : HoldsAt guests.old guest slot) → WritesGuest guests.old guest slot holds word enables value guests.new result }
+{
+    let guest = &mut guests[guest];
+    write_own(&mut guest.slots, slot, word, enables, value)
 }

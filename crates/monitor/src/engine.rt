@@ -3,7 +3,7 @@ ghost use Rattle.std.specs.Prelude.{◌≡◌, ◌<◌, ◌%◌, length};
 ghost use Rattle.model_registers.specs.Registers.{all_bytes};
 ghost use Rattle.model_registers.specs.ByteEnables.{IsWidth};
 ghost use Rattle.model_board.specs.Ports.{config_reply};
-ghost use Rattle.model_guests.specs.Accesses.{configuration, reads};
+ghost use Rattle.model_guests.specs.Accesses.{configuration, reads, writes};
 ghost use Rattle.model_guests.specs.Lone.{at_target, reply_at, after_access_at};
 ghost use Rattle.model_guests.specs.WorldNow.{names_now, host_reply};
 ghost use Rattle.bars.specs.Kinds.{named_space};
@@ -15,13 +15,13 @@ ghost use Rattle.monitor.specs.ByIndex.{lone_nth, with_lone_nth};
 ghost use Rattle.monitor.specs.Reaches.{target_in};
 
 use crate::board::{board_address, read_claimed, write_claimed};
-use crate::config::{held_in, number_read};
+use crate::config::{held_in, number_read, write_guest};
 use crate::guest::Guest;
 use crate::landing::landing;
 use crate::lanes::lowered;
 use accesses::{HostAccess, HostAt, Names, Op, Reply, nothing};
 use bars::Space;
-use config_bytes::enables_of;
+use config_bytes::{enables_of, into_lanes};
 use host_bridge::{Bdf, Host, Route};
 use std::marker::Model;
 
@@ -35,7 +35,7 @@ pub(crate) struct Engine<R: Route> {
 }
 
 impl<R: Route> Model for Engine<R> {
-    ghost use Rattle.model_guests.specs.Accesses.{configuration, reads};
+    ghost use Rattle.model_guests.specs.Accesses.{configuration, reads, writes};
 ghost use Rattle.model_guests.specs.Lone.{at_target, reply_at, after_access_at};
 ghost use Rattle.model_guests.specs.WorldNow.{WorldNow};
 
@@ -107,6 +107,25 @@ impl<R: Route> Engine<R> {
             return nothing(Op::Read, width);
         };
         Reply::Value(number_read(&mut self.host, held, off, width), width)
+    }
+
+    /// Writes the configuration space of the function in a slot. Dropped where there is none.
+    fn config_write(&mut self, guest: usize, slot: usize, off: u8, width: u64, value: u32)
+        requires there { guest < length self.old.guests }
+        requires width { IsWidth width }
+        requires aligned { off % width ≡ 0 }
+        ensures { let target = at_target (configuration slot off) in
+            self.new ≡ with_lone_nth guest (after_access_at (lone_nth self.old guest) (writes value) width target) self.old }
+    {
+        let Some(_) = held_in(&self.guests[guest].slots, slot) else {
+            return;
+        };
+        let from = u64::from(off);
+        let word = off / 4 * 4;
+        let moved = into_lanes(from, value);
+        let enables = enables_of(from, width);
+        let (at, others) = write_guest(&mut self.guests, guest, slot, word, enables, moved);
+        self.host.config_write(at, word, others, moved);
     }
 
     /// Answers a read by the host: what the board shows.

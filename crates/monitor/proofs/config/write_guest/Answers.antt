@@ -1,0 +1,23 @@
+use Rattle.std.proofs.Common.{◌≡◌, ◌∙◌, List, Option, length, drop, refl, ap, sym}
+use Rattle.std.specs.Prelude.{slice_index_or}
+use Rattle.monitor.specs.declared.guest.Held.{Held}
+use Rattle.monitor.specs.declared.guest.Guest.{Guest}
+use Rattle.monitor.specs.Configs.{HoldsAt}
+use Rattle.monitor.proofs.ConfigGoals.{same_at, given_back, guest_written}
+use Rattle.monitor.proofs.config.write_guest.Goals as goal
+
+pub write_own-requires-clause-holds : goal.write_own-requires-clause-holds
+write_own-requires-clause-holds c =
+    let holds = c.requires.holds in
+    let same : c.index-guests-guest.result ≡ holds.guest = same_at c.args.guests.now c.args.guest holds.guest c.index-guests-guest.result holds.there c.index-guests-guest.is in
+    let items = c.deref_mut.ensures.value ∙ ap (λ (g : Guest). g.slots.items) (sym c.index-guests-guest.is ∙ same) in
+    record { held = holds.slot.held; there = ap (λ (os : List (Option Held)). Rattle.std.proofs.Common.slice_get os c.args.slot) items ∙ holds.slot.there }
+
+pub returns : goal.returns
+returns c = λ holds.
+    let same : c.index-guests-guest.result ≡ holds.guest = same_at c.args.guests.now c.args.guest holds.guest c.index-guests-guest.result holds.there c.index-guests-guest.is in
+    let here = sym c.index-guests-guest.is ∙ same in
+    let v = slice_index_or c.args.guests.now c.args.guest c.index-guests-guest.result in
+    guest_written c.args.guests.now c.args.guest c.args.slot c.args.word c.args.enables c.args.value holds c.deref_mut.result.now c.write_own.new.slots c.write_own.result _
+    (c.deref_mut.ensures.value ∙ ap (λ (g : Guest). g.slots.items) here) c.write_own.ensures (ap (λ (g : Guest). g.latch) here)
+    (given_back c.write_own.new.slots (drop (length c.write_own.new.slots) v.slots.items) v.slots.len (c.write_own.auto.slots ∙ c.deref_mut.ensures.len))
