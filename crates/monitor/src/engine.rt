@@ -3,8 +3,8 @@ ghost use Rattle.std.specs.Prelude.{◌≡◌, ◌<◌, ◌%◌, length};
 ghost use Rattle.model_registers.specs.Registers.{all_bytes};
 ghost use Rattle.model_registers.specs.ByteEnables.{IsWidth};
 ghost use Rattle.model_board.specs.Ports.{config_reply};
-ghost use Rattle.model_guests.specs.Accesses.{configuration, reads, writes};
-ghost use Rattle.model_guests.specs.Lone.{at_target, reply_at, after_access_at};
+ghost use Rattle.model_guests.specs.Accesses.{configuration, port, reads, writes};
+ghost use Rattle.model_guests.specs.Lone.{own_latch, at_target, destination, reply_at, after_access_at};
 ghost use Rattle.model_guests.specs.WorldNow.{names_now, host_reply};
 ghost use Rattle.bars.specs.Kinds.{named_space};
 ghost use Rattle.host_bridge.specs.BusAddresses.{bus_address_of};
@@ -19,9 +19,11 @@ use crate::config::{held_in, number_read, write_guest};
 use crate::guest::Guest;
 use crate::landing::landing;
 use crate::lanes::lowered;
+use crate::latch::{is_latch, write_latch};
 use accesses::{HostAccess, HostAt, Names, Op, Reply, nothing};
 use bars::Space;
 use config_bytes::{enables_of, into_lanes};
+use guest_functions::Select;
 use host_bridge::{Bdf, Host, Route};
 use std::marker::Model;
 
@@ -35,8 +37,8 @@ pub(crate) struct Engine<R: Route> {
 }
 
 impl<R: Route> Model for Engine<R> {
-    ghost use Rattle.model_guests.specs.Accesses.{configuration, reads, writes};
-ghost use Rattle.model_guests.specs.Lone.{at_target, reply_at, after_access_at};
+    ghost use Rattle.model_guests.specs.Accesses.{configuration, port, reads, writes};
+ghost use Rattle.model_guests.specs.Lone.{own_latch, at_target, destination, reply_at, after_access_at};
 ghost use Rattle.model_guests.specs.WorldNow.{WorldNow};
 
     ghost Value = { WorldNow };
@@ -126,6 +128,72 @@ impl<R: Route> Engine<R> {
         let enables = enables_of(from, width);
         let (at, others) = write_guest(&mut self.guests, guest, slot, word, enables, moved);
         self.host.config_write(at, word, others, moved);
+    }
+
+    /// Reads or writes the configuration space of the function in a slot. Where there is none, a read gives
+    /// all ones and a write is dropped.
+    fn config_access(
+        &mut self,
+        guest: usize,
+        slot: usize,
+        off: u8,
+        width: u64,
+        op: Op,
+    ) -> Reply
+        requires there { guest < length self.old.guests }
+        requires width { IsWidth width }
+        requires aligned { off % width ≡ 0 }
+        ensures reply { let target = at_target (configuration slot off) in
+            reply_of result ≡ reply_at (lone_nth self.old guest) (op_of op) width target }
+        ensures after { let target = at_target (configuration slot off) in
+            self.new ≡ with_lone_nth guest (after_access_at (lone_nth self.old guest) (op_of op) width target) self.old }
+        ensures shown { IsShown result }
+    {
+        match op {
+            Op::Read => self.config_read(guest, slot, off, width),
+            Op::Write(value) => {
+                self.config_write(guest, slot, off, width, value);
+                Reply::Done
+            }
+        }
+    }
+
+    /// Reads or writes four bytes of a guest's own address latch.
+    fn latch_access(&mut self, guest: usize, op: Op) -> Reply
+        requires { guest < length self.old.guests }
+        ensures reply { reply_of result ≡ reply_at (lone_nth self.old guest) (op_of op) 4 own_latch }
+        ensures after { self.new ≡ with_lone_nth guest (after_access_at (lone_nth self.old guest) (op_of op) 4 own_latch) self.old }
+        ensures shown { IsShown result }
+    {
+        match op {
+            Op::Read => Reply::Value(self.guests[guest].latch.value(), 4),
+            Op::Write(value) => {
+                write_latch(&mut self.guests, guest, value);
+                Reply::Done
+            }
+        }
+    }
+
+    /// Reads or writes at a port of a guest: its own address latch for 4 bytes at CF8h, the slot that the
+    /// latch selects at CFCh to CFFh while it is enabled, and else the guest's regions.
+    fn port_access(&mut self, guest: usize, at: u64, width: u64, op: Op) -> Reply
+        requires there { guest < length self.old.guests }
+        requires width { IsWidth width }
+        requires aligned { at % width ≡ 0 }
+        ensures reply { let lone = lone_nth self.old guest in
+            reply_of result ≡ reply_at lone (op_of op) width (destination lone.latch width (port at)) }
+        ensures after { let lone = lone_nth self.old guest in
+            self.new ≡ with_lone_nth guest (after_access_at lone (op_of op) width (destination lone.latch width (port at))) self.old }
+        ensures shown { IsShown result }
+    {
+        if is_latch(at, width) {
+            return self.latch_access(guest, op);
+        }
+        match self.guests[guest].latch.select(at) {
+            Select::Ordinary => self.region_access(guest, Space::Io, at, width, op),
+            Select::Nowhere => nothing(op, width),
+            Select::Slot(slot, off) => self.config_access(guest, usize::from(slot), off, width, op),
+        }
     }
 
     /// Answers a read by the host: what the board shows.

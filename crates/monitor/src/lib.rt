@@ -7,5 +7,6 @@ mod engine;
 mod guest;
 mod landing;
 mod lanes;
+mod latch;
 
 pub use accesses::{Access, At, Bdf, GuestDecl, HostAccess, HostAt, Names, Op, Place, Reply};
