@@ -4,11 +4,12 @@ ghost use Rattle.model_registers.specs.Registers.{all_bytes};
 ghost use Rattle.model_registers.specs.ByteEnables.{IsWidth};
 ghost use Rattle.model_board.specs.Ports.{config_reply};
 ghost use Rattle.model_guests.specs.Accesses.{configuration, port, reads, writes};
-ghost use Rattle.model_guests.specs.Lone.{own_latch, at_target, destination, reply_at, after_access_at};
+ghost use Rattle.model_guests.specs.Accesses as guests;
+ghost use Rattle.model_guests.specs.Lone.{answer, after_event, own_latch, at_target, destination, reply_at, after_access_at};
 ghost use Rattle.model_guests.specs.WorldNow.{names_now, host_reply};
 ghost use Rattle.bars.specs.Kinds.{named_space};
 ghost use Rattle.host_bridge.specs.BusAddresses.{bus_address_of};
-ghost use Rattle.accesses.specs.Accesses.{host_access_of, op_of, reply_of};
+ghost use Rattle.accesses.specs.Accesses.{access_of, host_access_of, op_of, reply_of};
 ghost use Rattle.accesses.specs.Replies.{IsShown};
 ghost use Rattle.monitor.specs.Views.{texts};
 ghost use Rattle.monitor.specs.ByIndex.{lone_nth, with_lone_nth};
@@ -20,7 +21,7 @@ use crate::guest::Guest;
 use crate::landing::landing;
 use crate::lanes::lowered;
 use crate::latch::{is_latch, write_latch};
-use accesses::{HostAccess, HostAt, Names, Op, Reply, nothing};
+use accesses::{Access, At, HostAccess, HostAt, Names, Op, Reply, nothing};
 use bars::Space;
 use config_bytes::{enables_of, into_lanes};
 use guest_functions::Select;
@@ -38,7 +39,8 @@ pub(crate) struct Engine<R: Route> {
 
 impl<R: Route> Model for Engine<R> {
     ghost use Rattle.model_guests.specs.Accesses.{configuration, port, reads, writes};
-ghost use Rattle.model_guests.specs.Lone.{own_latch, at_target, destination, reply_at, after_access_at};
+ghost use Rattle.model_guests.specs.Accesses as guests;
+ghost use Rattle.model_guests.specs.Lone.{answer, after_event, own_latch, at_target, destination, reply_at, after_access_at};
 ghost use Rattle.model_guests.specs.WorldNow.{WorldNow};
 
     ghost Value = { WorldNow };
@@ -193,6 +195,28 @@ impl<R: Route> Engine<R> {
             Select::Ordinary => self.region_access(guest, Space::Io, at, width, op),
             Select::Nowhere => nothing(op, width),
             Select::Slot(slot, off) => self.config_access(guest, usize::from(slot), off, width, op),
+        }
+    }
+
+    /// Answers one access of a guest, or refuses it and changes nothing: 302 for a width that is not 1, 2 or
+    /// 4 bytes, else 301 for an offset, port or address that is no multiple of it, else 303 for a slot above
+    /// 31, an offset above 255 or a port above FFFFFFFFh. No memory is taken.
+    pub(crate) fn step(&mut self, guest: usize, access: Access) -> Reply
+        requires { guest < length self.old.guests }
+        ensures reply { reply_of result ≡ answer (lone_nth self.old guest) (guests.access (access_of access)) }
+        ensures after { self.new ≡ with_lone_nth guest (after_event (lone_nth self.old guest) (guests.access (access_of access))) self.old }
+        ensures shown { IsShown result }
+    {
+        if let Some(number) = access.fault() {
+            return Reply::Refused(number);
+        }
+        let Access { at, width, op } = access;
+        match at {
+            At::Config { slot, off } => {
+                self.config_access(guest, slot as usize, off as u8, width, op)
+            }
+            At::Io { port } => self.port_access(guest, port, width, op),
+            At::Mem { addr } => self.region_access(guest, Space::Mem, addr, width, op),
         }
     }
 
