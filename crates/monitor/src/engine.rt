@@ -6,13 +6,15 @@ ghost use Rattle.model_board.specs.Ports.{config_reply};
 ghost use Rattle.model_guests.specs.Accesses.{configuration, port, reads, writes};
 ghost use Rattle.model_guests.specs.Accesses as guests;
 ghost use Rattle.model_guests.specs.Lone.{answer, after_event, own_latch, at_target, destination, reply_at, after_access_at};
-ghost use Rattle.model_guests.specs.WorldNow.{names_now, host_reply};
+ghost use Rattle.model_guests.specs.Guests.{lone_of};
+ghost use Rattle.model_guests.specs.Lines.{guest_event};
+ghost use Rattle.model_guests.specs.WorldNow.{names_now, host_reply, after_meaning};
 ghost use Rattle.bars.specs.Kinds.{named_space};
 ghost use Rattle.host_bridge.specs.BusAddresses.{bus_address_of};
 ghost use Rattle.accesses.specs.Accesses.{access_of, host_access_of, op_of, reply_of};
 ghost use Rattle.accesses.specs.Replies.{IsShown};
 ghost use Rattle.monitor.specs.Views.{texts};
-ghost use Rattle.monitor.specs.ByIndex.{lone_nth, with_lone_nth};
+ghost use Rattle.monitor.specs.ByIndex.{name_nth, lone_nth, with_lone_nth};
 ghost use Rattle.monitor.specs.Reaches.{target_in};
 
 use crate::board::{board_address, read_claimed, write_claimed};
@@ -198,10 +200,8 @@ impl<R: Route> Engine<R> {
         }
     }
 
-    /// Answers one access of a guest, or refuses it and changes nothing: 302 for a width that is not 1, 2 or
-    /// 4 bytes, else 301 for an offset, port or address that is no multiple of it, else 303 for a slot above
-    /// 31, an offset above 255 or a port above FFFFFFFFh. No memory is taken.
-    pub(crate) fn step(&mut self, guest: usize, access: Access) -> Reply
+    /// Answers one access of a guest by its index, as its own functions and latch alone would.
+    fn access(&mut self, guest: usize, access: Access) -> Reply
         requires { guest < length self.old.guests }
         ensures reply { reply_of result ≡ answer (lone_nth self.old guest) (guests.access (access_of access)) }
         ensures after { self.new ≡ with_lone_nth guest (after_event (lone_nth self.old guest) (guests.access (access_of access))) self.old }
@@ -218,6 +218,21 @@ impl<R: Route> Engine<R> {
             At::Io { port } => self.port_access(guest, port, width, op),
             At::Mem { addr } => self.region_access(guest, Space::Mem, addr, width, op),
         }
+    }
+
+    /// Answers one access of a guest, or refuses it and changes nothing: 302 for a width that is not 1, 2 or
+    /// 4 bytes, else 301 for an offset, port or address that is no multiple of it, else 303 for a slot above
+    /// 31, an offset above 255 or a port above FFFFFFFFh. No memory is taken.
+    pub(crate) fn step(&mut self, guest: usize, access: Access) -> Reply
+        requires { guest < length self.old.guests }
+        ensures reply { let e = guests.access (access_of access) in
+            reply_of result ≡ answer (lone_of self.old.guests (name_nth self.old guest)) e }
+        ensures after { let e = guests.access (access_of access) in
+            self.new ≡ after_meaning self.old (guest_event (name_nth self.old guest) e) }
+        ensures shown { IsShown result }
+    {
+        let _ = &self.names;
+        self.access(guest, access)
     }
 
     /// Answers a read by the host: what the board shows.

@@ -1,14 +1,16 @@
-use Rattle.std.proofs.Common.{◌≡◌, ◌∙◌, ℕ, Option, Some, cond, sym, ap}
-use Rattle.std.specs.Prelude.{is_some}
+use Rattle.std.proofs.Common.{◌≡◌, ◌∙◌, sym, ap, subst}
 use Rattle.model_guests.specs.Accesses as guests
-use Rattle.model_guests.specs.Lone.{LoneGuest, changed_by}
+use Rattle.model_guests.specs.Lone.{LoneGuest, answer}
 use Rattle.accesses.specs.Accesses.{access_of}
-use Rattle.monitor.specs.ByIndex.{lone_nth, with_lone_nth}
-use Rattle.monitor.proofs.LatchGoals.{same_nth}
+use Rattle.monitor.proofs.Named.{AreApart, lone_named, after_named}
 use Rattle.monitor.proofs.engine.Engine.step.Goals as goal
 
-pub returns-in-Some-clause-after : goal.returns-in-Some-clause-after
-returns-in-Some-clause-after g c =
-    let lone : LoneGuest = lone_nth c.args.self.now c.args.guest in
-    sym (same_nth c.args.self.now c.args.guest c.requires)
-    ∙ ap (λ (o : Option ℕ). with_lone_nth c.args.guest (cond (is_some o) lone (changed_by lone (guests.access (access_of c.args.access)))) c.args.self.now) c.in-Some.ensures
+pub returns-clause-reply : goal.returns-clause-reply
+returns-clause-reply g c =
+    c.access.ensures.reply
+    ∙ ap (λ (l : LoneGuest). answer l (guests.access (access_of c.args.access))) (sym (lone_named c.args.self.now (subst AreApart c.self.view_is c.self.invariant.1.seated.names_apart) c.args.guest c.requires))
+
+pub returns-clause-after : goal.returns-clause-after
+returns-clause-after g c =
+    c.access.ensures.after
+    ∙ after_named c.args.self.now (subst AreApart c.self.view_is c.self.invariant.1.seated.names_apart) c.args.guest c.requires (guests.access (access_of c.args.access))
