@@ -8,5 +8,7 @@ mod guest;
 mod landing;
 mod lanes;
 mod latch;
+mod monitor;
 
+pub use monitor::Monitor;
 pub use accesses::{Access, At, Bdf, GuestDecl, HostAccess, HostAt, Names, Op, Place, Reply};

@@ -1,0 +1,63 @@
+//! The monitor, which gives functions of a board to guests.
+ghost use Rattle.std.specs.Prelude.{◌≡◌, ◌<◌, length};
+ghost use Rattle.model_guests.specs.Accesses as guests;
+ghost use Rattle.model_guests.specs.Lone.{answer};
+ghost use Rattle.model_guests.specs.Guests.{lone_of};
+ghost use Rattle.model_guests.specs.Lines.{guest_event};
+ghost use Rattle.model_guests.specs.WorldNow.{names_now, host_reply, after_meaning};
+ghost use Rattle.accesses.specs.Accesses.{access_of, host_access_of, reply_of};
+ghost use Rattle.accesses.specs.Replies.{IsShown};
+ghost use Rattle.monitor.specs.Views.{texts};
+ghost use Rattle.monitor.specs.ByIndex.{name_nth};
+
+use crate::engine::Engine;
+use accesses::{Access, HostAccess, Names, Reply};
+use host_bridge::TreeWalk;
+use std::marker::Model;
+
+/// A board that is set up, and the guests to which its functions are given. Guests' bytes stand on the
+/// board, and all else there is as set-up left it.
+#[derive(Drop)]
+pub struct Monitor {
+    engine: Engine<TreeWalk>,
+}
+
+impl Model for Monitor {
+    ghost use Rattle.model_guests.specs.WorldNow.{WorldNow};
+
+    ghost Value = { WorldNow };
+
+    ghost view = { λ m. m.engine };
+}
+
+impl Monitor {
+    /// The guests' names, in the order of the guests.
+    pub fn names(&self) -> &Names
+        ensures { texts result.now ≡ names_now self.now }
+    {
+        self.engine.names()
+    }
+
+    /// Answers one access of a guest, or refuses it and changes nothing: 302 for a width that is not 1, 2 or
+    /// 4 bytes, else 301 for an offset, port or address that is no multiple of it, else 303 for a slot above
+    /// 31, an offset above 255 or a port above FFFFFFFFh. No memory is taken.
+    pub fn step(&mut self, guest: usize, access: Access) -> Reply
+        requires { guest < length self.old.guests }
+        ensures reply { let e = guests.access (access_of access) in
+            reply_of result ≡ answer (lone_of self.old.guests (name_nth self.old guest)) e }
+        ensures after { let e = guests.access (access_of access) in
+            self.new ≡ after_meaning self.old (guest_event (name_nth self.old guest) e) }
+        ensures shown { IsShown result }
+    {
+        self.engine.step(guest, access)
+    }
+
+    /// Answers a read by the host: what the board shows.
+    pub fn host_read(&mut self, read: HostAccess) -> Reply
+        ensures reply { reply_of result ≡ host_reply self.old (host_access_of read) }
+        ensures after { self.new ≡ self.old }
+        ensures shown { IsShown result }
+    {
+        self.engine.host_read(read)
+    }
+}
