@@ -1,5 +1,5 @@
 -- A write of configuration space as code holds it: the fields of an engine, and the guests as a vector gives them back.
-use Rattle.std.proofs.Common.{◌≡◌, ℕ, zero, suc, ◌*◌, ◌/◌, ◌%◌, ◌++◌, List, [], ◌∷◌, length, take, drop, get_or, Some, None, Option, slice_get, slice_set, refl, sym, ap, ◌∙◌, subst}
+use Rattle.std.proofs.Common.{◌≡◌, ℕ, ◌*◌, ◌/◌, ◌%◌, ◌++◌, List, [], ◌∷◌, length, take, get_or, Some, Option, slice_get, slice_set, refl, sym, ap, ◌∙◌, subst}
 use Rattle.std.proofs.lemmas.Option.{slice_get_read, slice_get_within}
 use Rattle.model_registers.specs.ByteEnables.{IsWidth, enables_of, into_lanes}
 use Rattle.model_board.specs.Ports.{after_config_write}
@@ -63,7 +63,6 @@ module _ (h : HostState) (names : List (List ℕ)) (gs : List Guest) (sound : Is
     (new : HostState) (is_new : new ≡ with_latch 0 (with_functions (after_config_write h.state.functions (bus_address_of r.0) word (lanes r.1) moved) h)) where
   abbrev w : WorldNow
   w = world_shown h names gs
-
 
   slot : SlotOf w.board w.apertures (guest_at h names gs sound now view i holds.guest holds.there).x.paths (guest_at h names gs sound now view i holds.guest holds.there).x.lone.slots n holds.slot.held
   slot =

@@ -1,5 +1,5 @@
 -- A number in configuration space, read in two parts: the guest's own copies, and what the host shows.
-use Rattle.std.proofs.Common.{◌≡◌, ℕ, ◌+◌, ◌*◌, ◌/◌, ◌%◌, ◌<◌, ◌^◌, Bool, List, sym, ap, ap₂, ◌∙◌, subst}
+use Rattle.std.proofs.Common.{◌≡◌, ℕ, ◌+◌, ◌*◌, ◌/◌, ◌%◌, ◌<◌, ◌^◌, sym, ap, ap₂, ◌∙◌, subst}
 use Rattle.model_registers.specs.Registers.{config, File, read, number}
 use Rattle.model_registers.specs.ByteEnables.{lanes, is_enabled, enables_of, IsWidth}
 use Rattle.model_registers.specs.OwnCopies.{own_file, HoldsOwn, handed_on}

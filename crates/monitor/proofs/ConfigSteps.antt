@@ -1,29 +1,26 @@
 -- A read and a write of the configuration space of the function in a slot.
 use Rattle.std.proofs.Common.{◌≡◌, ℕ, ◌+◌, ◌*◌, ◌/◌, ◌%◌, Bool, true, false, cond, List, [], ◌∷◌, Some, None, Option, slice_get, slice_set, refl, sym, ap, ap₂, ◌∙◌, subst}
-use Rattle.std.specs.Prelude.{find, map, is_some, unwrap_or, IsTrue, ◌==◌}
+use Rattle.std.specs.Prelude.{find, map, is_some, unwrap_or, IsTrue}
 use Rattle.std.specs.Option.{option_map_or}
-use Rattle.model_registers.specs.Lists.{Each, IsIn}
-use Rattle.model_registers.specs.Registers.{Place, config, File, read, write, all_bytes, number}
+use Rattle.model_registers.specs.Lists.{Each}
+use Rattle.model_registers.specs.Registers.{config, File, read, write, all_bytes, number}
 use Rattle.model_registers.specs.ByteEnables.{lanes, enabled_bits, enables_of, into_lanes, IsWidth}
 use Rattle.model_registers.specs.OwnCopies.{HoldsOwn, handed_on}
-use Rattle.model_registers.specs.Declarations.{Endpoint}
 use Rattle.model_registers.specs.Decoding.{Function}
 use Rattle.model_registers.proofs.ByteAccesses.{aligned_lies_in_word, write_by_lanes}
 use Rattle.model_board.specs.Paths.{Path, path_eq}
 use Rattle.model_board.specs.Board.{endpoint, Row, stands_at}
 use Rattle.model_board.specs.State.{BoardFunction, State, with_file}
 use Rattle.model_board.specs.Cycles.{reached}
-use Rattle.model_board.specs.Reach.{address_of}
 use Rattle.model_board.specs.Ports.{config_reply, after_config_write}
 use Rattle.model_board.proofs.FirstFound.{each_found}
 use Rattle.model_board.proofs.Members.{any_in}
 use Rattle.model_board.proofs.PathEnds.{path_self}
 use Rattle.model_board.proofs.Routes.{reached_by_numbers}
-use Rattle.model_guests.specs.Accesses.{Reply, answered, Op, reads, writes, configuration}
-use Rattle.model_guests.specs.Slots.{Slots, slot_at, file_at, Landing, landing, perform, effect}
+use Rattle.model_guests.specs.Accesses.{answered, reads, writes, configuration}
+use Rattle.model_guests.specs.Slots.{Landing, landing, perform, effect}
 use Rattle.model_guests.specs.Lone.{LoneGuest, at_target, reply_at, after_access_at}
-use Rattle.model_guests.specs.Guests.{GuestNow}
-use Rattle.model_guests.specs.WorldNow.{WorldNow, board_state}
+use Rattle.model_guests.specs.WorldNow.{WorldNow}
 use Rattle.model_guests.specs.ChangeLaws.{with_slot_changed}
 use Rattle.model_guests.proofs.AgreedFiles.{writes_alike}
 use Rattle.model_guests.proofs.KeptNumbers.{keeps_numbers}
@@ -40,7 +37,7 @@ use Rattle.monitor.specs.Keeping.{IsKept}
 use Rattle.monitor.specs.ByIndex.{lone_nth, with_lone_nth}
 use Rattle.monitor.specs.Configs.{IsSeen}
 use Rattle.monitor.proofs.Shown.{lawful_at}
-use Rattle.monitor.proofs.Steps.{SlotOf, slot_there, slot_empty, GuestOf, with_guest_at, kept_slot}
+use Rattle.monitor.proofs.Steps.{SlotOf, slot_empty, GuestOf, with_guest_at, kept_slot}
 use Rattle.monitor.proofs.Reached.{functions, seat, distinct, on_board, found_on_board, board_shows}
 use Rattle.monitor.proofs.RegionSteps.{written_shape, lone_is, with_lone, with_same}
 

@@ -1,11 +1,9 @@
 -- Where an address of a guest lands: slot after slot, by the guest's own copies.
 use Rattle.std.proofs.Common.{◌≡◌, ℕ, zero, suc, ◌+◌, ◌<◌, ◌≤◌, List, [], ◌∷◌, length, Some, None, Option, drop, slice_get, refl, sym, ap, ◌∙◌, arith}
-use Rattle.std.specs.Prelude.{map, option_map, unwrap_or}
+use Rattle.std.specs.Prelude.{option_map, unwrap_or}
 use Rattle.model_registers.specs.Lists.{first_of_two}
 use Rattle.model_registers.specs.Registers.{block}
-use Rattle.model_registers.specs.EndpointTable.{opened}
-use Rattle.model_registers.specs.OwnCopies.{OwnCopies, HoldsOwn, bare}
-use Rattle.model_registers.specs.Decoding.{Space, Function, Hit, lone_claim}
+use Rattle.model_registers.specs.Decoding.{Space, Function, Hit}
 use Rattle.model_board.specs.Paths.{Path}
 use Rattle.model_board.specs.Board.{Board}
 use Rattle.model_board.specs.Pools.{Apertures}

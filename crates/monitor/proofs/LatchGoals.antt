@@ -1,20 +1,20 @@
 -- A guest's own latch as code holds it.
-use Rattle.std.proofs.Common.{◌≡◌, ℕ, zero, suc, ◌<◌, List, [], ◌∷◌, length, Some, None, Option, slice_get, slice_set, refl, sym, ap, ◌∙◌, subst, arith}
+use Rattle.std.proofs.Common.{◌≡◌, ℕ, zero, suc, ◌<◌, List, [], ◌∷◌, length, Some, slice_get, slice_set, refl, sym, ap, ◌∙◌, subst, arith}
 use Rattle.std.specs.Prelude.{unwrap_or}
 use Rattle.model_registers.specs.ConfigAddress.{latched}
 use Rattle.model_guests.specs.Accesses.{writes}
 use Rattle.model_guests.specs.Lone.{reset_guest, own_latch, after_access_at}
-use Rattle.model_guests.specs.Guests.{GuestNow, GuestsNow}
+use Rattle.model_guests.specs.Guests.{GuestsNow}
 use Rattle.model_guests.specs.WorldNow.{WorldNow}
 use Rattle.model_guests.specs.ChangeLaws.{with_latch}
 use Rattle.host_bridge.specs.HostState.{HostState}
 use Rattle.monitor.specs.declared.guest.Guest.{Guest}
 use Rattle.monitor.specs.Views.{world_shown}
 use Rattle.monitor.specs.Keeping.{IsKept, IsSound}
-use Rattle.monitor.specs.ByIndex.{guest_nth, lone_nth, with_lone_nth}
+use Rattle.monitor.specs.ByIndex.{lone_nth, with_lone_nth}
 use Rattle.monitor.proofs.Shown.{is_shown, is_sound}
 use Rattle.monitor.proofs.Steps.{with_guest_at, kept_latch}
-use Rattle.monitor.proofs.RegionSteps.{set_same, lone_is, with_lone}
+use Rattle.monitor.proofs.RegionSteps.{lone_is, with_lone}
 use Rattle.monitor.proofs.RegionGoals.{guest_at}
 
 -- a world whose guest is set to what it is

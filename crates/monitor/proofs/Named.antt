@@ -5,9 +5,8 @@ use Rattle.std.specs.Option.{option_map_or}
 use Rattle.std.specs.Str.{bytes_eq}
 use Rattle.model_registers.specs.Lists.{EachPair}
 use Rattle.model_guests.specs.Accesses.{Event}
-use Rattle.model_guests.specs.Text.{Text}
-use Rattle.model_guests.specs.Lone.{LoneGuest, after_event, reset_guest}
-use Rattle.model_guests.specs.Guests.{GuestNow, GuestsNow, guest_named, lone_of, guest_after, after_guest_event, with_guest}
+use Rattle.model_guests.specs.Lone.{after_event, reset_guest}
+use Rattle.model_guests.specs.Guests.{GuestNow, GuestsNow, lone_of, guest_after, after_guest_event}
 use Rattle.model_guests.specs.Lines.{guest_event}
 use Rattle.model_guests.specs.WorldNow.{WorldNow, after_meaning}
 use Rattle.model_guests.proofs.Along.{by_index}

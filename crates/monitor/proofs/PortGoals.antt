@@ -1,5 +1,5 @@
 -- Where an access at a guest's port goes, from the program's word.
-use Rattle.std.proofs.Common.{◌≡◌, ℕ, ◌∙◌, Bool, true, false, ◌&&◌, cond, List, [], None, refl, sym, ap}
+use Rattle.std.proofs.Common.{◌≡◌, ℕ, ◌∙◌, Bool, true, false, ◌&&◌, cond, [], None, refl, sym, ap}
 use Rattle.std.specs.Prelude.{not, ◌==◌}
 use Rattle.model_registers.specs.ConfigAddress.{is_enabled, is_data_port, is_address_port, selected_bus, selected_device, selected_function, selected_offset}
 use Rattle.model_guests.specs.Accesses.{port, Op, reads, writes}

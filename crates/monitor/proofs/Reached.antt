@@ -1,28 +1,23 @@
 -- A guest's address on the board: where it lands, the claim there, and what is read and written.
-use Rattle.std.proofs.Common.{◌≡◌, ℕ, zero, suc, ◌+◌, ◌%◌, ◌<◌, ◌≤◌, ◌^◌, Bool, true, false, ◌&&◌, cond, inl, inr, List, [], ◌∷◌, Some, None, Option, slice_get, refl, sym, ap, ap₂, ◌∙◌, subst, arith}
-use Rattle.std.specs.Prelude.{find, map, option_map, unwrap_or, IsTrue, not}
+use Rattle.std.proofs.Common.{◌≡◌, ℕ, suc, ◌+◌, ◌%◌, ◌<◌, ◌^◌, Bool, true, false, ◌&&◌, inl, inr, List, [], ◌∷◌, Some, None, Option, slice_get, refl, sym, ap, ap₂, ◌∙◌, subst, arith}
+use Rattle.std.specs.Prelude.{find, map, IsTrue, not}
 use Rattle.std.specs.Option.{option_map_or}
 use Rattle.model_registers.specs.Lists.{IsIn, Each, EachPair}
-use Rattle.model_registers.specs.Registers.{Place, config, block, after, File, read, write, all_bytes, number}
+use Rattle.model_registers.specs.Registers.{Place, block, File, read, all_bytes, number}
 use Rattle.model_registers.specs.ByteEnables.{IsWidth}
-use Rattle.model_registers.specs.Declarations.{Region}
 use Rattle.model_registers.specs.EndpointTable.{BaseAddress}
-use Rattle.model_registers.specs.OwnCopies.{is_own, handed_on}
-use Rattle.model_registers.specs.Decoding.{Space, io, memory, Function, Hit, lone_claim}
+use Rattle.model_registers.specs.OwnCopies.{handed_on}
+use Rattle.model_registers.specs.Decoding.{Space, io, memory}
 use Rattle.model_board.specs.Paths.{Path, path_eq, path_before}
 use Rattle.model_board.specs.Board.{endpoint, Row, Board, IsBoard}
-use Rattle.model_board.specs.Pools.{Apertures}
 use Rattle.model_board.specs.State.{BoardFunction}
-use Rattle.model_board.specs.Claims.{Claim, first_claim}
-use Rattle.model_board.specs.Cycles.{reached}
-use Rattle.model_board.specs.Reach.{row_at, address_of}
-use Rattle.model_board.specs.Ports.{file_at, claim_reply, after_claim_write, port_target, ordinary}
+use Rattle.model_board.specs.Claims.{first_claim}
+use Rattle.model_board.specs.Reach.{row_at}
+use Rattle.model_board.specs.Ports.{claim_reply, port_target}
 use Rattle.model_board.specs.SetUp.{first_of, set_up_file}
 use Rattle.model_board.specs.SetUpWrites.{placed_base}
-use Rattle.model_board.proofs.PathEnds.{path_self}
 use Rattle.model_guests.specs.Files.{agreed_file, places_of}
-use Rattle.model_guests.specs.Slots.{Slots, slot_at}
-use Rattle.model_guests.specs.Guests.{GuestNow}
+use Rattle.model_guests.specs.Slots.{slot_at}
 use Rattle.model_guests.specs.WorldNow.{WorldNow, board_state}
 use Rattle.model_guests.specs.Seated.{IsSeat, IsSeatedAt, IsSeatedGuest}
 use Rattle.model_guests.specs.RegionLaws.{ReachesRegion}

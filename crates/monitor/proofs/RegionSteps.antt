@@ -1,31 +1,27 @@
 -- A read and a write of the region where a guest's address lands.
 use Rattle.std.proofs.Common.{◌≡◌, ℕ, zero, suc, ◌+◌, ◌/◌, ◌%◌, Bool, true, false, cond, List, [], ◌∷◌, Some, None, Option, slice_get, slice_set, refl, sym, ap, ap₂, ◌∙◌, subst}
-use Rattle.std.specs.Prelude.{option_map, unwrap_or}
 use Rattle.std.specs.Option.{option_map_or}
-use Rattle.model_registers.specs.Cell.{Cell, written, raised}
-use Rattle.model_registers.specs.Registers.{Place, place_eq, block, after, Entry, File, changed, write, raise, all_bytes, number}
-use Rattle.model_registers.specs.ByteEnables.{IsWidth}
+use Rattle.model_registers.specs.Cell.{Cell, written}
+use Rattle.model_registers.specs.Registers.{Place, place_eq, block, after, Entry, File, changed, write, all_bytes, number}
 use Rattle.model_registers.specs.Decoding.{Space, io, memory, Function}
-use Rattle.model_board.specs.State.{BoardFunction, State}
+use Rattle.model_board.specs.State.{State}
 use Rattle.model_board.specs.Claims.{Claim, first_claim}
 use Rattle.model_board.specs.Ports.{claim_reply, after_claim_write}
 use Rattle.model_board.specs.Routing.{routing}
-use Rattle.model_guests.specs.Accesses.{Reply, answered, Op, reads, writes}
-use Rattle.model_guests.specs.Files.{shape_of, agreed_file}
-use Rattle.model_guests.specs.Slots.{Slots, slot_at, file_at, with_file, Landing, landing, landing_from, perform, effect}
+use Rattle.model_guests.specs.Accesses.{answered, Op, reads, writes}
+use Rattle.model_guests.specs.Files.{shape_of}
+use Rattle.model_guests.specs.Slots.{Slots, file_at, Landing, landing, landing_from, perform, effect}
 use Rattle.model_guests.specs.Lone.{LoneGuest, at_target, reply_at, after_access_at}
 use Rattle.model_guests.specs.Guests.{GuestNow}
-use Rattle.model_guests.specs.WorldNow.{WorldNow, board_state}
-use Rattle.model_guests.specs.AgreedBoard.{with_change_at}
+use Rattle.model_guests.specs.WorldNow.{WorldNow}
 use Rattle.model_guests.specs.ChangeLaws.{ChangesAlike, with_slot_changed}
 use Rattle.model_guests.proofs.AgreedFiles.{writes_alike}
 use Rattle.model_guests.proofs.AgreedBoards.{keeps_routing}
 use Rattle.guest_functions.proofs.HeldCopies.{block_written_held}
 use Rattle.host_bridge.specs.HostState.{HostState, with_functions}
-use Rattle.monitor.specs.declared.guest.Held.{Held}
 use Rattle.monitor.specs.declared.guest.Guest.{Guest}
 use Rattle.monitor.specs.Keeping.{IsKept}
-use Rattle.monitor.specs.ByIndex.{guest_nth, lone_nth, with_lone_nth}
+use Rattle.monitor.specs.ByIndex.{lone_nth, with_lone_nth}
 use Rattle.monitor.specs.Landings.{landing_of}
 use Rattle.monitor.specs.Reaches.{LandsIn, target_in}
 use Rattle.monitor.proofs.Steps.{SlotOf, GuestOf, here, with_guest_at, kept_slot}

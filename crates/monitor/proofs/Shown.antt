@@ -3,7 +3,7 @@ use Rattle.std.proofs.Common.{◌≡◌, ℕ, zero, suc, false, List, [], ◌∷
 use Rattle.std.specs.Prelude.{map, option_map, MatchOption, ⊤}
 use Rattle.std.specs.Option.{option_map_or}
 use Rattle.model_registers.specs.Lists.{EachPair}
-use Rattle.model_registers.specs.Registers.{Place, File}
+use Rattle.model_registers.specs.Registers.{File}
 use Rattle.model_registers.specs.Declarations.{Endpoint}
 use Rattle.model_registers.specs.DeclarationRules.{IsLawfulEndpoint}
 use Rattle.model_registers.specs.EndpointTable.{endpoint_reset}
@@ -19,9 +19,9 @@ use Rattle.model_guests.specs.Accesses.{answered, refused}
 use Rattle.model_guests.specs.Grammar.{HostRead}
 use Rattle.model_guests.specs.HostReads.{host_fault, shown}
 use Rattle.model_guests.specs.Text.{Text}
-use Rattle.model_guests.specs.Files.{agreed_file, with_copies, shape_of, places_of}
+use Rattle.model_guests.specs.Files.{agreed_file, with_copies, places_of}
 use Rattle.model_guests.specs.Slots.{Slots, slot_at}
-use Rattle.model_guests.specs.Guests.{GuestNow, GuestsNow, guest_named, path_in, function_in, file_of}
+use Rattle.model_guests.specs.Guests.{GuestNow, GuestsNow, guest_named, file_of}
 use Rattle.model_guests.specs.WorldNow.{WorldNow, names_of, board_state, host_reply}
 use Rattle.model_guests.specs.AgreedBoard.{agreed_function, agreed_state}
 use Rattle.model_guests.specs.Seated.{IsSeatedAt, AreSeats, AreSeated}
@@ -35,12 +35,12 @@ use Rattle.model_guests.proofs.GuestsByName.{path_at, path_of, function_of, func
 use Rattle.model_guests.proofs.KeptCopies.{file_of_seat}
 use Rattle.model_guests.proofs.KeptNumbers.{keeps_numbers}
 use Rattle.model_guests.proofs.Along.{by_index}
-use Rattle.bridge_forward.specs.Lending.{as_endpoint, endpoint_nth}
+use Rattle.bridge_forward.specs.Lending.{as_endpoint}
 use Rattle.host_bridge.specs.HostState.{HostState}
 use Rattle.monitor.specs.declared.guest.Held.{Held}
 use Rattle.monitor.specs.declared.guest.Guest.{Guest}
 use Rattle.monitor.specs.Views.{function_shown, slot_shown, path_shown, guest_shown, guests_shown, world_shown}
-use Rattle.monitor.specs.Keeping.{IsHeld, IsSlot, AreSlots, IsGuest, AreGuests, IsKept, IsSound}
+use Rattle.monitor.specs.Keeping.{IsHeld, AreSlots, AreGuests, IsKept, IsSound}
 
 -- ---- lists
 
@@ -110,8 +110,7 @@ module _ (b : Board) (a : Apertures) (gs : GuestsNow) (decls : HasLawfulDecls b)
   slots_shown (Some p ∷ qs) (None ∷ fs) (o ∷ os) seats are files = absurd are.0
   slots_shown (Some p ∷ qs) (Some f ∷ fs) (None ∷ os) seats are files = absurd are.0
   slots_shown (Some p ∷ qs) (Some f ∷ fs) (Some h ∷ os) seats are files =
-      let more = slots_shown qs fs os seats.1 are.1 (λ n. files (suc n)) in
-      (
+      let more = slots_shown qs fs os seats.1 are.1 (λ n. files (suc n)) in (
         ap₂ (λ (x : Path) (xs : List (Option Path)). Some x ∷ xs) are.0.path more.0,
         ap₂ (λ (x : Option Function) (xs : Slots). x ∷ xs) (shown_there b a gs decls p f seats.0 h are.0 (files zero p f refl refl)) more.1,
       )

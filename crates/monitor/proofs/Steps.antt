@@ -1,6 +1,6 @@
 -- One guest of a world that is kept, one of its slots, and the world after a change of that slot.
-use Rattle.std.proofs.Common.{◌≡◌, ℕ, zero, suc, ◌<◌, List, [], ◌∷◌, length, Some, None, Option, slice_get, slice_set, refl, sym, ap, ap₂, ◌∙◌, subst, arith}
-use Rattle.std.specs.Prelude.{map, option_map, unwrap_or}
+use Rattle.std.proofs.Common.{◌≡◌, ℕ, zero, suc, List, [], ◌∷◌, length, Some, None, Option, slice_get, slice_set, refl, sym, ap, ◌∙◌, subst}
+use Rattle.std.specs.Prelude.{map, unwrap_or}
 use Rattle.model_registers.specs.Registers.{File}
 use Rattle.model_registers.specs.EndpointTable.{opened}
 use Rattle.model_registers.specs.OwnCopies.{OwnCopies, HoldsOwn}
@@ -8,16 +8,15 @@ use Rattle.model_registers.specs.Decoding.{Function}
 use Rattle.model_board.specs.Paths.{Path}
 use Rattle.model_board.specs.Board.{Board}
 use Rattle.model_board.specs.Pools.{Apertures}
-use Rattle.model_board.specs.State.{State}
 use Rattle.model_guests.specs.Text.{Text}
 use Rattle.model_guests.specs.Files.{shape_of}
 use Rattle.model_guests.specs.Slots.{Slots, slot_at, with_file}
 use Rattle.model_guests.specs.Guests.{GuestNow, GuestsNow, guest_named, path_in, with_guest}
-use Rattle.model_guests.specs.WorldNow.{WorldNow, board_state}
+use Rattle.model_guests.specs.WorldNow.{WorldNow}
 use Rattle.model_guests.specs.AgreedBoard.{agreed_state, with_change_at}
 use Rattle.model_guests.specs.Seated.{IsSeatedGuest, AreSeated}
 use Rattle.model_guests.specs.ChangeLaws.{ChangesAlike, with_slot_changed, with_latch}
-use Rattle.model_guests.proofs.GuestFiles.{slot_set, with_file_there}
+use Rattle.model_guests.proofs.GuestFiles.{with_file_there}
 use Rattle.model_guests.proofs.GuestsByName.{Keeps, path_at, path_of}
 use Rattle.model_guests.proofs.Seats.{names_stay, guests_stay, paths_stay, with_file_seats}
 use Rattle.model_guests.proofs.Along.{by_index}
@@ -25,8 +24,8 @@ use Rattle.model_guests.proofs.Changes.{changes_one_function, latch_keeps_board}
 use Rattle.host_bridge.specs.HostState.{HostState}
 use Rattle.monitor.specs.declared.guest.Held.{Held}
 use Rattle.monitor.specs.declared.guest.Guest.{Guest}
-use Rattle.monitor.specs.Keeping.{IsHeld, IsSlot, AreSlots, IsGuest, AreGuests, IsKept}
-use Rattle.monitor.specs.ByIndex.{guest_nth, name_nth, lone_nth, with_lone_nth}
+use Rattle.monitor.specs.Keeping.{IsHeld, AreSlots, IsGuest, AreGuests, IsKept}
+use Rattle.monitor.specs.ByIndex.{guest_nth}
 
 -- ---- one slot
 
@@ -163,7 +162,13 @@ module _ (w : WorldNow) (h : HostState) (names : List Text) (gs : List Guest) (k
       (λ t s. record { count = s.count; seats = with_file_seats w.board t.paths own_change keeps n t.lone.slots s.seats }) kept.seated in
       let path : path_in w.guests at.x.name n ≡ Some slot.p = path_named n ∙ slot.path in
       let held_now : IsHeld w.board w.apertures slot.p f (record held { own = own }) = record {
-        path = slot.held.path; row = slot.held.row; at = slot.held.at; placed = slot.held.placed; regions = slot.held.regions ∙ sym regions; own = holds } in
+        path = slot.held.path;
+        row = slot.held.row;
+        at = slot.held.at;
+        placed = slot.held.placed;
+        regions = slot.held.regions ∙ sym regions;
+        own = holds;
+      } in
       let set : with_file own_change n at.x.lone.slots ≡ slice_set at.x.lone.slots n (Some f) = with_file_there own_change n at.x.lone.slots slot.f slot.function in
       record {
         placeable = kept.placeable;

@@ -3,7 +3,7 @@
 --     function_shown, slot_shown      a function in a slot: the board's registers, with the guest's own copies put in
 --     guest_shown, guests_shown      guests as they are now
 --     world_shown      the board with its guests as they are now
-use Rattle.std.specs.Prelude.{List, [], ◌∷◌, Option, None, Some, map, option_map}
+use Rattle.std.specs.Prelude.{List, [], ◌∷◌, Option, None, map, option_map}
 use Rattle.std.specs.Option.{option_map_or}
 use Rattle.arrayvec.specs.ArrayVec.{ArrayVec}
 use Rattle.arrayvec.specs.ArrayString.{ArrayString}

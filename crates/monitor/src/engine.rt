@@ -41,9 +41,9 @@ pub(crate) struct Engine<R: Route> {
 
 impl<R: Route> Model for Engine<R> {
     ghost use Rattle.model_guests.specs.Accesses.{configuration, port, reads, writes};
-ghost use Rattle.model_guests.specs.Accesses as guests;
-ghost use Rattle.model_guests.specs.Lone.{answer, after_event, own_latch, at_target, destination, reply_at, after_access_at};
-ghost use Rattle.model_guests.specs.WorldNow.{WorldNow};
+    ghost use Rattle.model_guests.specs.Accesses as guests;
+    ghost use Rattle.model_guests.specs.Lone.{answer, after_event, own_latch, at_target, destination, reply_at, after_access_at};
+    ghost use Rattle.model_guests.specs.WorldNow.{WorldNow};
 
     ghost Value = { WorldNow };
 
@@ -65,14 +65,7 @@ impl<R: Route> Engine<R> {
 
     /// Reads or writes what an address of a guest stands for. Where it stands for nothing, a read gives all
     /// ones and a write is dropped.
-    fn region_access(
-        &mut self,
-        guest: usize,
-        space: Space,
-        addr: u64,
-        width: u64,
-        op: Op,
-    ) -> Reply
+    fn region_access(&mut self, guest: usize, space: Space, addr: u64, width: u64, op: Op) -> Reply
         requires there { guest < length self.old.guests }
         requires width { IsWidth width }
         requires aligned { addr % width ≡ 0 }
@@ -136,14 +129,7 @@ impl<R: Route> Engine<R> {
 
     /// Reads or writes the configuration space of the function in a slot. Where there is none, a read gives
     /// all ones and a write is dropped.
-    fn config_access(
-        &mut self,
-        guest: usize,
-        slot: usize,
-        off: u8,
-        width: u64,
-        op: Op,
-    ) -> Reply
+    fn config_access(&mut self, guest: usize, slot: usize, off: u8, width: u64, op: Op) -> Reply
         requires there { guest < length self.old.guests }
         requires width { IsWidth width }
         requires aligned { off % width ≡ 0 }

@@ -10,5 +10,5 @@ mod lanes;
 mod latch;
 mod monitor;
 
-pub use monitor::Monitor;
 pub use accesses::{Access, At, Bdf, GuestDecl, HostAccess, HostAt, Names, Op, Place, Reply};
+pub use monitor::Monitor;

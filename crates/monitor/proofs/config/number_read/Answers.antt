@@ -1,5 +1,4 @@
-use Rattle.std.proofs.Common.{refl, ℕ, ◌≡◌, ◌*◌, ◌/◌, ◌%◌, sym, subst, ◌∙◌, arith}
-use Rattle.monitor.specs.Configs.{IsSeen}
+use Rattle.std.proofs.Common.{refl, ℕ, ◌≡◌, ◌*◌, ◌/◌, ◌%◌, subst, arith}
 use Rattle.monitor.proofs.ConfigReads.{IsOwnPart, sum_in_word, number_is}
 use Rattle.monitor.proofs.config.number_read.Goals as goal
 
@@ -11,8 +10,10 @@ overflow_add-own c =
     let P = λ (w : ℕ). IsOwnPart c.args.held.now w c.enables_of.result c.config_read-own.result.0 c.config_read-own.result.1 in
     let part : IsOwnPart c.args.held.now word c.enables_of.result c.config_read-own.result.0 c.config_read-own.result.1 =
     subst P at (record { own = c.config_read-own.ensures.own; others_are = c.config_read-own.ensures.others; together = c.config_read-own.ensures.together }) in
-    record { fits = sum_in_word c.args.host.now c.args.held.now c.requires.seen word c.enables_of.result c.config_read-own.result.0 c.config_read-own.result.1 c.config_read-rest.result part
-        c.config_read-rest.ensures.value whole c.config_read-rest.type_inv }
+    record {
+      fits = sum_in_word c.args.host.now c.args.held.now c.requires.seen word c.enables_of.result c.config_read-own.result.0 c.config_read-own.result.1 c.config_read-rest.result part
+          c.config_read-rest.ensures.value whole c.config_read-rest.type_inv;
+    }
 
 pub returns-clause-value : goal.returns-clause-value
 returns-clause-value c = λ seen.

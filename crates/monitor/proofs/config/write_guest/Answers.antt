@@ -2,7 +2,6 @@ use Rattle.std.proofs.Common.{◌≡◌, ◌∙◌, List, Option, length, drop, 
 use Rattle.std.specs.Prelude.{slice_index_or}
 use Rattle.monitor.specs.declared.guest.Held.{Held}
 use Rattle.monitor.specs.declared.guest.Guest.{Guest}
-use Rattle.monitor.specs.Configs.{HoldsAt}
 use Rattle.monitor.proofs.ConfigGoals.{same_at, given_back, guest_written}
 use Rattle.monitor.proofs.config.write_guest.Goals as goal
 

@@ -1,8 +1,7 @@
-use Rattle.std.proofs.Common.{◌≡◌, length, Some, None, Option, slice_get, refl, sym, ap, ◌∙◌, arith}
+use Rattle.std.proofs.Common.{◌≡◌, length, Some, slice_get, refl, sym, ap, ◌∙◌, arith}
 use Rattle.std.proofs.lemmas.Option.{slice_get_read}
 use Rattle.bars.specs.Kinds.{named_space}
 use Rattle.bars.specs.Hits.{hit_in}
-use Rattle.monitor.specs.declared.guest.Held.{Held}
 use Rattle.monitor.proofs.Landed.{passed_empty, passed, landed, nowhere}
 use Rattle.monitor.proofs.landing.landing.Goals as goal
 use Rattle.monitor.proofs.landing.landing.Goals.{in-Some+in_default-decode, in_default}

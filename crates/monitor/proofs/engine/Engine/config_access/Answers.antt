@@ -1,6 +1,6 @@
 use Rattle.std.proofs.Common.{◌∙◌, ap, sym}
 use Rattle.model_guests.specs.Accesses.{configuration}
-use Rattle.model_guests.specs.Lone.{at_target, reply_at, after_access_at}
+use Rattle.model_guests.specs.Lone.{at_target, after_access_at}
 use Rattle.accesses.specs.Accesses.{op_of}
 use Rattle.accesses.specs.declared.access.Op.{Op}
 use Rattle.monitor.specs.ByIndex.{lone_nth, with_lone_nth}

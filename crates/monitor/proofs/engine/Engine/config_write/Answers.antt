@@ -46,7 +46,8 @@ write_guest-others-requires-clause-holds g c =
     let inside : c.args.guest < length e.guests.items = omega arith in
     let there : slice_get e.guests.items c.args.guest ≡ Some c.index.result.now = slice_get_read e.guests.items (length e.guests.items) c.args.guest c.index.result.now refl inside c.index.ensures in
     let holds : HoldsAt e.guests.items c.args.guest c.args.slot = record {
-      guest = c.index.result.now; there = there;
+      guest = c.index.result.now;
+      there = there;
       slot = record { held = c.in-Some.field-0.now; there = ap (λ (os : List (Option Held)). slice_get os c.args.slot) (sym c.deref.ensures.value) ∙ c.in-Some.ensures.there };
     } in
     held_there e.guests.items c.deref_mut.result.now c.args.guest c.args.slot (sym c.deref_mut.ensures.value) holds
@@ -60,7 +61,8 @@ invariant_of-self g c =
     let inside : c.args.guest < length e.guests.items = omega arith in
     let there : slice_get e.guests.items c.args.guest ≡ Some c.index.result.now = slice_get_read e.guests.items (length e.guests.items) c.args.guest c.index.result.now refl inside c.index.ensures in
     let holds : HoldsAt e.guests.items c.args.guest c.args.slot = record {
-      guest = c.index.result.now; there = there;
+      guest = c.index.result.now;
+      there = there;
       slot = record { held = c.in-Some.field-0.now; there = ap (λ (os : List (Option Held)). slice_get os c.args.slot) (sym c.deref.ensures.value) ∙ c.in-Some.ensures.there };
     } in
     let left = c.write_guest-others.new.guests in
@@ -80,7 +82,8 @@ returns g c =
     let inside : c.args.guest < length e.guests.items = omega arith in
     let there : slice_get e.guests.items c.args.guest ≡ Some c.index.result.now = slice_get_read e.guests.items (length e.guests.items) c.args.guest c.index.result.now refl inside c.index.ensures in
     let holds : HoldsAt e.guests.items c.args.guest c.args.slot = record {
-      guest = c.index.result.now; there = there;
+      guest = c.index.result.now;
+      there = there;
       slot = record { held = c.in-Some.field-0.now; there = ap (λ (os : List (Option Held)). slice_get os c.args.slot) (sym c.deref.ensures.value) ∙ c.in-Some.ensures.there };
     } in
     let left = c.write_guest-others.new.guests in

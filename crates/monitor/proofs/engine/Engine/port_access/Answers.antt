@@ -1,7 +1,7 @@
-use Rattle.std.proofs.Common.{◌≡◌, ◌<◌, ◌∙◌, ℕ, List, length, slice_get, Some, refl, ap, sym, arith}
+use Rattle.std.proofs.Common.{◌≡◌, ◌<◌, ◌∙◌, ℕ, length, slice_get, Some, refl, ap, sym, arith}
 use Rattle.std.proofs.lemmas.Option.{slice_get_read}
 use Rattle.model_guests.specs.Accesses.{port, configuration}
-use Rattle.model_guests.specs.Lone.{Destination, LoneGuest, at_target, by_select, destination, no_function, reply_at, after_access_at}
+use Rattle.model_guests.specs.Lone.{Destination, LoneGuest, at_target, by_select, destination, reply_at, after_access_at}
 use Rattle.model_guests.specs.WorldNow.{WorldNow}
 use Rattle.accesses.specs.Accesses.{op_of}
 use Rattle.guest_functions.specs.declared.latch.Select.TheVariants as select

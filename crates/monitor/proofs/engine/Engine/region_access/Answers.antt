@@ -1,12 +1,10 @@
-use Rattle.std.proofs.Common.{◌≡◌, ◌<◌, ◌∙◌, List, length, slice_get, Some, None, refl, ap, sym, subst, arith}
+use Rattle.std.proofs.Common.{◌≡◌, ◌<◌, ◌∙◌, length, slice_get, Some, refl, ap, sym, arith}
 use Rattle.std.proofs.lemmas.Option.{slice_get_read}
 use Rattle.model_guests.specs.Lone.{at_target, reply_at, after_access_at}
 use Rattle.model_guests.specs.WorldNow.{WorldNow}
 use Rattle.bars.specs.Kinds.{named_space}
 use Rattle.accesses.specs.Accesses.{op_of}
 use Rattle.accesses.specs.declared.access.Op.{Op}
-use Rattle.host_bridge.specs.HostState.{HostState}
-use Rattle.monitor.specs.declared.guest.Guest.{Guest}
 use Rattle.monitor.specs.Views.{texts, world_shown}
 use Rattle.monitor.specs.ByIndex.{lone_nth, with_lone_nth}
 use Rattle.monitor.specs.Reaches.{target_in}

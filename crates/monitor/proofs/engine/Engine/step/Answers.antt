@@ -1,4 +1,4 @@
-use Rattle.std.proofs.Common.{◌≡◌, ◌∙◌, sym, ap, subst}
+use Rattle.std.proofs.Common.{◌∙◌, sym, ap, subst}
 use Rattle.model_guests.specs.Accesses as guests
 use Rattle.model_guests.specs.Lone.{LoneGuest, answer}
 use Rattle.accesses.specs.Accesses.{access_of}
