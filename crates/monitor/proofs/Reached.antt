@@ -16,7 +16,7 @@ use Rattle.model_board.specs.Reach.{row_at}
 use Rattle.model_board.specs.Ports.{claim_reply, port_target}
 use Rattle.model_board.specs.SetUp.{first_of, set_up_file}
 use Rattle.model_board.specs.SetUpWrites.{placed_base}
-use Rattle.model_guests.specs.Files.{agreed_file, places_of}
+use Rattle.model_registers.specs.CopiedFiles.{agreed_file, places_of}
 use Rattle.model_guests.specs.Slots.{slot_at}
 use Rattle.model_guests.specs.WorldNow.{WorldNow, board_state}
 use Rattle.model_guests.specs.Seated.{IsSeat, IsSeatedAt, IsSeatedGuest}

@@ -9,7 +9,7 @@ use Rattle.model_board.specs.Claims.{Claim, first_claim}
 use Rattle.model_board.specs.Ports.{claim_reply, after_claim_write}
 use Rattle.model_board.specs.Routing.{routing}
 use Rattle.model_guests.specs.Accesses.{answered, Op, reads, writes}
-use Rattle.model_guests.specs.Files.{shape_of}
+use Rattle.model_registers.specs.CopiedFiles.{shape_of}
 use Rattle.model_guests.specs.Slots.{Slots, file_at, Landing, landing, landing_from, perform, effect}
 use Rattle.model_guests.specs.Lone.{LoneGuest, at_target, reply_at, after_access_at}
 use Rattle.model_guests.specs.Guests.{GuestNow}

@@ -19,7 +19,7 @@ use Rattle.model_guests.specs.Accesses.{answered, refused}
 use Rattle.model_guests.specs.Grammar.{HostRead}
 use Rattle.model_guests.specs.HostReads.{host_fault, shown}
 use Rattle.model_guests.specs.Text.{Text}
-use Rattle.model_guests.specs.Files.{agreed_file, with_copies, places_of}
+use Rattle.model_registers.specs.CopiedFiles.{agreed_file, with_copies, places_of}
 use Rattle.model_guests.specs.Slots.{Slots, slot_at}
 use Rattle.model_guests.specs.Guests.{GuestNow, GuestsNow, guest_named, file_of}
 use Rattle.model_guests.specs.WorldNow.{WorldNow, names_of, board_state, host_reply}

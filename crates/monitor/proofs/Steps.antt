@@ -9,7 +9,7 @@ use Rattle.model_board.specs.Paths.{Path}
 use Rattle.model_board.specs.Board.{Board}
 use Rattle.model_board.specs.Pools.{Apertures}
 use Rattle.model_guests.specs.Text.{Text}
-use Rattle.model_guests.specs.Files.{shape_of}
+use Rattle.model_registers.specs.CopiedFiles.{shape_of}
 use Rattle.model_guests.specs.Slots.{Slots, slot_at, with_file}
 use Rattle.model_guests.specs.Guests.{GuestNow, GuestsNow, guest_named, path_in, with_guest}
 use Rattle.model_guests.specs.WorldNow.{WorldNow}

@@ -13,7 +13,7 @@ use Rattle.model_board.specs.Paths.{Path}
 use Rattle.model_board.specs.State.{BoardFunction}
 use Rattle.model_board.specs.AtReset.{board_at}
 use Rattle.model_guests.specs.Text.{Text}
-use Rattle.model_guests.specs.Files.{with_copies}
+use Rattle.model_registers.specs.CopiedFiles.{with_copies}
 use Rattle.model_guests.specs.Guests.{GuestNow, GuestsNow}
 use Rattle.model_guests.specs.WorldNow.{WorldNow}
 use Rattle.bridge_forward.specs.Lending.{endpoint_nth}

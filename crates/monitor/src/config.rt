@@ -5,8 +5,7 @@ ghost use Rattle.model_registers.specs.ByteEnables.{IsWidth};
 ghost use Rattle.monitor.specs.Configs.{IsSeen, IsHolding, WritesOwn, HoldsAt, WritesGuest};
 
 use crate::guest::{Guest, Held};
-use crate::lanes::lowered;
-use config_bytes::enables_of;
+use config_bytes::{enables_of, lowered};
 use host_bridge::{Bdf, Host};
 
 /// The number of 1, 2 or 4 bytes at an offset of a function, as its guest has it: the guest's own copies,

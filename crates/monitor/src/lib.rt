@@ -6,7 +6,6 @@ mod config;
 mod engine;
 mod guest;
 mod landing;
-mod lanes;
 mod latch;
 mod monitor;
 
