@@ -3,10 +3,10 @@
 #![tactic(auto)]
 
 ghost use Rattle.std.specs.Prelude.{◌≡◌, ◌+◌, ◌-◌, ◌^◌, ◌<◌, ◌≤◌, [], Some, length, take};
-ghost use Rattle.script.specs.Ends.{failures_of};
+ghost use Rattle.streams.specs.Ends.{failures_of};
 
 use arrayvec::ArrayVec;
-use script::{Failed, Reader, Writer};
+use streams::{Failed, Reader, Writer};
 
 /// When a call fails, and how many have failed.
 #[derive(Drop)]

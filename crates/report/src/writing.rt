@@ -3,15 +3,15 @@ ghost use Rattle.std.specs.Prelude.{◌≡◌, ◌+◌, ◌-◌, ◌^◌, ◌<�
 ghost use Rattle.std.specs.Io.KnownBytes.{Appends};
 ghost use Rattle.model_guests.specs.World.{World};
 ghost use Rattle.model_guests.specs.Report.{report};
-ghost use Rattle.script.specs.Ends.{AppendsPart};
+ghost use Rattle.streams.specs.Ends.{AppendsPart};
 ghost use Rattle.report.specs.OfWorld.{IsOf};
 ghost use Rattle.report.specs.Faults.{number_of, write_failures_of};
 
 use crate::whole::report_text;
 use accesses::GuestDecl;
 use bus_scan::FunctionTable;
-use script::{Writer, hand_on};
 use std::alloc::Global;
+use streams::{Writer, hand_on};
 use thiserror::Error;
 use window_packing::Plan;
 

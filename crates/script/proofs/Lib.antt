@@ -12,4 +12,3 @@ mod RegisterTables
 mod ResetFunctions
 mod SlotLemmas
 pub mod Splitting
-mod Transfers

@@ -8,7 +8,7 @@ use Rattle.std.specs.Result.{is_err}
 use Rattle.std.specs.Io.{StartsWith}
 use Rattle.std.specs.Io.KnownBytes.{Appends, Consumes, IsAtEnd}
 use Rattle.model_guests.specs.Text.{Text}
-use Rattle.script.specs.Ends.{AppendsPart}
+use Rattle.streams.specs.Ends.{AppendsPart}
 use Rattle.script.specs.LoneRuns.{LoneGuest, line_output, after_line, output, after_lines, first_output, IsStopped}
 
 output-append : (g : LoneGuest) (a b : List Text) → output g (a ++ b) ≡ output g a ++ output (after_lines g a) b

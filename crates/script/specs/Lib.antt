@@ -1,6 +1,5 @@
 pub mod Accesses
 pub mod BlockFiles
-pub mod Ends
 pub mod Faults
 pub mod Forms
 pub mod Lines

@@ -4,7 +4,6 @@
 mod access;
 mod blocks;
 mod checks;
-mod ends;
 mod forms;
 mod function;
 mod line;
@@ -16,9 +15,8 @@ mod serving;
 mod words;
 
 pub use access::{Access, At, Bdf, HostAccess, HostAt, Op, Reply};
-pub use ends::{Failed, Reader, Writer};
 pub use headers::Place;
 pub use line::{Line, Names, What, Who, parse_line};
 pub use lone::Lone;
-pub use running::{RunFault, hand_on, run, write_all};
+pub use running::{RunFault, run};
 pub use serving::served;

@@ -3,18 +3,18 @@ ghost use Rattle.std.specs.Prelude.{◌≡◌, ◌+◌, ◌-◌, ◌^◌, ◌<�
 ghost use Rattle.std.specs.Option.{ForSome};
 ghost use Rattle.std.specs.Io.KnownBytes.{Appends, Consumes, IsAtEnd};
 ghost use Rattle.model_guests.specs.Text.{lines};
-ghost use Rattle.script.specs.Ends.{failures_of, AppendsPart};
+ghost use Rattle.streams.specs.Ends.{failures_of};
 ghost use Rattle.script.specs.Faults.{read_failures_of, write_failures_of, number_of};
 ghost use Rattle.script.specs.LoneRuns.{line_output, after_line, output, after_lines, IsStopped};
 
 use crate::access::Reply;
-use crate::ends::{Failed, Reader, Writer};
 use crate::line::{What, Who, parse_line};
 use crate::lone::Lone;
 use crate::replies::{LineText, line_text};
 use crate::serving::served;
 use crate::words::next_line;
 use std::alloc::Global;
+use streams::{Failed, Reader, Writer, write_all};
 use thiserror::Error;
 
 /// Why a run ended early.
@@ -66,36 +66,6 @@ fn read_all<R: Reader>(alloc: Global, reader: &mut R) -> Result<Vec<u8>, RunFaul
             return Err(RunFault::Memory);
         }
     }
-}
-
-/// Writes all of a text, or stops at the first failure.
-pub fn write_all<W: Writer>(writer: &mut W, text: &[u8]) -> Result<(), Failed>
-    requires { W.failures writer.old < 2 ^ 64 - 1 }
-    ensures ok { OnOk result (Appends (W.written writer.old) (W.written writer.new) text.now) }
-    ensures err { OnErr result (AppendsPart (W.written writer.old) (W.written writer.new) text.now) }
-    ensures failures { W.failures writer.new ≡ W.failures writer.old + failures_of result }
-{
-    let mut rest = text;
-    while !rest.is_empty() {
-        let n = writer.write(rest)?;
-        if n == 0 {
-            return Err(Failed);
-        }
-        rest = &rest[n..];
-    }
-    Ok(())
-}
-
-/// Writes all of a text and flushes, or stops at the first failure.
-pub fn hand_on<W: Writer>(writer: &mut W, text: &[u8]) -> Result<(), Failed>
-    requires { W.failures writer.old < 2 ^ 64 - 1 }
-    ensures ok { OnOk result (Appends (W.written writer.old) (W.written writer.new) text.now) }
-    ensures handed_on { OnOk result (W.handed_on writer.new ≡ W.written writer.new) }
-    ensures err { OnErr result (AppendsPart (W.written writer.old) (W.written writer.new) text.now) }
-    ensures failures { W.failures writer.new ≡ W.failures writer.old + failures_of result }
-{
-    write_all(writer, text)?;
-    writer.flush()
 }
 
 /// Runs the event of a line, and gives what the line writes.

@@ -9,7 +9,7 @@ use Rattle.model_registers.specs.DeclarationRules.{first_broken}
 use Rattle.model_board.specs.SetUpWrites.{set_up_rules}
 use Rattle.model_guests.specs.Text.{Text, lines}
 use Rattle.model_guests.specs.World.{World}
-use Rattle.script.specs.Ends.{AppendsPart}
+use Rattle.streams.specs.Ends.{AppendsPart}
 use Rattle.script.specs.LoneRuns.{output}
 use Rattle.simulation.specs.Demo.{demo_guest}
 use Rattle.simulation.specs.Faults.{IsOfDemo, IsOfList}

@@ -1,7 +1,7 @@
 //! What the program is asked to do, and doing it.
 ghost use Rattle.std.specs.Prelude.{◌≡◌, ◌≢◌, ◌+◌, ◌-◌, ◌^◌, ◌<◌, OnOk, OnErr, IfErr, IsErrOf};
 ghost use Rattle.std.specs.Io.KnownBytes.{Appends};
-ghost use Rattle.script.specs.Ends.{AppendsPart};
+ghost use Rattle.streams.specs.Ends.{AppendsPart};
 ghost use Rattle.simulation.specs.Choices.{IsDone, IsDoneInPart, IsOfChoice};
 ghost use Rattle.simulation.specs.Faults.{read_faults, write_faults};
 
@@ -9,9 +9,9 @@ use crate::demonstration::demo;
 use crate::fault::Fault;
 use crate::files::board_bytes;
 use crate::listing::list;
-use script::{Reader, Writer, hand_on};
 use std::alloc::Global;
 use std::rt::Files;
+use streams::{Reader, Writer, hand_on};
 
 /// What the program is to do.
 #[derive(Drop)]

@@ -3,7 +3,7 @@ ghost use Rattle.std.specs.Prelude.{◌≡◌, ◌≢◌, ℕ, ◌+◌, ◌-◌,
 ghost use Rattle.std.specs.Option.{ForSome};
 ghost use Rattle.std.specs.Io.KnownBytes.{Appends, IsAtEnd};
 ghost use Rattle.model_guests.specs.Text.{lines};
-ghost use Rattle.script.specs.Ends.{AppendsPart};
+ghost use Rattle.streams.specs.Ends.{AppendsPart};
 ghost use Rattle.script.specs.LoneRuns.{output};
 ghost use Rattle.simulation.specs.Demo.{demo_endpoint, demo_guest};
 ghost use Rattle.simulation.specs.Faults.{read_faults, write_faults, IsOfDemo};
@@ -11,8 +11,9 @@ ghost use Rattle.simulation.specs.Faults.{read_faults, write_faults, IsOfDemo};
 use crate::fault::Fault;
 use arrayvec::ArrayString;
 use headers::{EndpointDecl, EndpointValues};
-use script::{Lone, Reader, RunFault, Writer, run};
+use script::{Lone, RunFault, run};
 use std::alloc::Global;
+use streams::{Reader, Writer};
 
 /// The endpoint in slot 0: without regions, with pin A and with a parity error to report.
 fn endpoint(alloc: Global) -> EndpointDecl

@@ -8,7 +8,7 @@ mod fault;
 mod fault_lines;
 mod files;
 mod listing;
-mod streams;
+mod standard_streams;
 
 pub use choice::{Choice, perform};
 pub use demonstration::demo;
@@ -16,4 +16,4 @@ pub use fault::Fault;
 pub use fault_lines::fault_line;
 pub use files::board_bytes;
 pub use listing::list;
-pub use streams::{InputStream, OutputStream};
+pub use standard_streams::{InputStream, OutputStream};

@@ -9,8 +9,8 @@ ghost use Rattle.simulation.specs.Listing.{Declares, Refuses, IsListed, IsListed
 use crate::fault::Fault;
 use board_file::read_board;
 use report::report;
-use script::Writer;
 use std::alloc::Global;
+use streams::Writer;
 use window_packing::set_up;
 
 /// Writes the report of the board that a board file declares, once it is set up, and flushes once.

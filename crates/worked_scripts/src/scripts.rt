@@ -5,10 +5,11 @@ use bars::{BarDecl, Kind};
 use config_bytes::Cell;
 use fake_streams::{FakeReader, FakeWriter};
 use headers::{EndpointDecl, EndpointValues, Region};
-use script::{Lone, RunFault, Writer, run};
+use script::{Lone, RunFault, run};
 use std::alloc::{AllocError, Global};
 use std::process::Abort;
 use std::test::Fail;
+use streams::Writer;
 
 /// An endpoint of this device number and Status, with these regions, class FF0000h and pin INTA#.
 fn endpoint(

@@ -2,6 +2,6 @@
 #![tactic(auto)]
 
 #[cfg(test)]
-mod files;
+mod failing_streams;
 #[cfg(test)]
-mod streams;
+mod files;

@@ -1,6 +1,6 @@
 use Rattle.std.proofs.Common.{◌≡◌, sym, subst, ◌∙◌}
 use Rattle.std.specs.Io.KnownBytes.{Appends}
-use Rattle.script.specs.Ends.{AppendsPart}
+use Rattle.streams.specs.Ends.{AppendsPart}
 use Rattle.report.proofs.Results.{ok_part, err_part}
 use Rattle.model_guests.specs.Text.{Text}
 use Rattle.model_guests.specs.Report.{report}

@@ -1,6 +1,6 @@
 use Rattle.std.proofs.Common.{rules, ◌≡◌, subst}
 use Rattle.model_guests.specs.Text.{lines}
-use Rattle.script.specs.Ends.{AppendsPart}
+use Rattle.streams.specs.Ends.{AppendsPart}
 use Rattle.script.specs.LoneRuns.{LoneGuest, output}
 use Rattle.script.proofs.Outputs.{stopped_part}
 use Rattle.simulation.specs.Demo.{demo_guest}

@@ -1,8 +1,7 @@
 use Rattle.std.proofs.Common.{◌++◌, take, sym, ap, ◌∙◌, append_assoc, take-append-drop, arith}
 use Rattle.std.proofs.KnownBytes.{Appends-trans}
-use Rattle.script.proofs.Transfers.{rest_is}
-use Rattle.script.proofs.Transfers.{none_failed}
-use Rattle.script.proofs.running.write_all.Goals as goal
+use Rattle.streams.proofs.Transfers.{none_failed, rest_is}
+use Rattle.streams.proofs.writing.write_all.Goals as goal
 
 pub loop-rest-preserved : goal.loop-rest-preserved
 loop-rest-preserved g c =

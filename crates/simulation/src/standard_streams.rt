@@ -2,9 +2,9 @@
 ghost use Rattle.std.specs.Prelude.{◌≡◌, ◌↔◌, ◌-◌, ◌^◌, ◌<◌, IsOk, IfOk, IfErr};
 
 use crate::fault::Fault;
-use script::{Failed, Reader, Writer};
 use std::alloc::Global;
 use std::io::{BufWriter, Read, Write};
+use streams::{Failed, Reader, Writer};
 
 /// A reader that counts its failures. It gives up after 2^64 - 1 reads, and counts that too: so a
 /// script that never ends is a failure of its reader.

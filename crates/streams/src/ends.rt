@@ -1,15 +1,15 @@
-//! The two ends of a run: where a script comes from, and where its replies go. Both count their
-//! failures, so that a contract can say whose failure a fault was.
+//! Where bytes come from, and where they go. Both count their failures, so that a contract can say
+//! whose failure a fault was.
 ghost use Rattle.std.specs.Prelude.{◌≡◌, ℕ, ◌+◌, ◌-◌, ◌^◌, ◌<◌, List, Option, OnOk, IfOk};
 ghost use Rattle.std.specs.Io.{ReadsAtMost, WritesAtMost};
 ghost use Rattle.std.specs.Io.KnownBytes.{ReadConsumes, WriteAppends, Keeps};
-ghost use Rattle.script.specs.Ends.{failures_of, write_failures_of};
+ghost use Rattle.streams.specs.Ends.{failures_of, write_failures_of};
 
 /// A read, a write or a flush failed.
 #[derive(Clone, Copy, Debug, PartialEq, Eq)]
 pub struct Failed;
 
-/// Where a script comes from.
+/// Where bytes come from.
 pub trait Reader {
     /// The bytes that are still to come, where they are known.
     ghost rest: { Self → Option (List ℕ) };
@@ -29,7 +29,7 @@ pub trait Reader {
         ensures falls { IfOk result (λ n. 0 < n → reads_left self.new < reads_left self.old) };
 }
 
-/// Where replies go.
+/// Where bytes go.
 pub trait Writer {
     /// The bytes that were taken, where they are known.
     ghost written: { Self → Option (List ℕ) };

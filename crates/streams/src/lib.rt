@@ -1,0 +1,8 @@
+//! Where bytes come from and where they go, with a count of the failures of both.
+#![tactic(auto)]
+
+mod ends;
+mod writing;
+
+pub use ends::{Failed, Reader, Writer};
+pub use writing::{hand_on, write_all};
