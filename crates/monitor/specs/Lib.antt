@@ -4,3 +4,4 @@ pub mod ByIndex
 pub mod Landings
 pub mod Reaches
 pub mod Configs
+pub mod Moves

@@ -7,8 +7,8 @@ ghost use Rattle.model_guests.specs.Accesses.{configuration, port, reads, writes
 ghost use Rattle.model_guests.specs.Accesses as guests;
 ghost use Rattle.model_guests.specs.Lone.{answer, after_event, own_latch, at_target, destination, reply_at, after_access_at};
 ghost use Rattle.model_guests.specs.Guests.{lone_of};
-ghost use Rattle.model_guests.specs.Lines.{guest_event};
-ghost use Rattle.model_guests.specs.WorldNow.{names_now, host_reply, after_meaning};
+ghost use Rattle.model_guests.specs.Lines.{guest_event, host_move};
+ghost use Rattle.model_guests.specs.WorldNow.{names_now, host_reply, move_reply, after_meaning};
 ghost use Rattle.bars.specs.Kinds.{named_space};
 ghost use Rattle.host_bridge.specs.BusAddresses.{bus_address_of};
 ghost use Rattle.accesses.specs.Accesses.{access_of, host_access_of, op_of, reply_of};
@@ -16,12 +16,14 @@ ghost use Rattle.accesses.specs.Replies.{IsShown};
 ghost use Rattle.monitor.specs.Views.{texts};
 ghost use Rattle.monitor.specs.ByIndex.{name_nth, lone_nth, with_lone_nth};
 ghost use Rattle.monitor.specs.Reaches.{target_in};
+ghost use Rattle.monitor.specs.Moves.{move_nth};
 
 use crate::board::{board_address, read_claimed, write_claimed};
 use crate::config::{held_in, number_read, write_guest};
 use crate::guest::Guest;
 use crate::landing::landing;
 use crate::latch::{is_latch, write_latch};
+use crate::moving::{hand_over, move_fault};
 use accesses::{Access, At, HostAccess, HostAt, Names, Op, Reply, nothing};
 use bars::Space;
 use config_bytes::{enables_of, into_lanes, lowered};
@@ -218,6 +220,31 @@ impl<R: Route> Engine<R> {
     {
         let _ = &self.names;
         self.access(guest, access)
+    }
+
+    /// Moves the function in a slot to a slot of a guest. Nothing is carried over: the function is then at
+    /// reset, and its former slot is empty. Or refuses it and changes nothing: 303 for a slot above 31, else
+    /// 601 where the slot that it leaves is empty, else 602 where the slot that it comes to is taken.
+    pub(crate) fn move_function(&mut self, from: usize, slot: u64, to: usize, target: u64) -> Reply
+        requires from { from < length self.old.guests }
+        requires to { to < length self.old.guests }
+        ensures reply { reply_of result ≡ move_reply self.old.guests (move_nth self.old from slot to target) }
+        ensures after { self.new ≡ after_meaning self.old (host_move (move_nth self.old from slot to target)) }
+        ensures shown { IsShown result }
+    {
+        let source = &self.guests[from].slots;
+        if let Some(number) = move_fault(source, slot, &self.guests[to].slots, target) {
+            return Reply::Refused(number);
+        }
+        hand_over(
+            &mut self.host,
+            &mut self.guests,
+            from,
+            slot as usize,
+            to,
+            target as usize,
+        );
+        Reply::Done
     }
 
     /// Answers a read by the host: what the board shows.

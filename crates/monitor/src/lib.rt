@@ -8,6 +8,7 @@ mod guest;
 mod landing;
 mod latch;
 mod monitor;
+mod moving;
 
 pub use accesses::{Access, At, Bdf, GuestDecl, HostAccess, HostAt, Names, Op, Place, Reply};
 pub use monitor::Monitor;

@@ -3,12 +3,13 @@ ghost use Rattle.std.specs.Prelude.{◌≡◌, ◌<◌, length};
 ghost use Rattle.model_guests.specs.Accesses as guests;
 ghost use Rattle.model_guests.specs.Lone.{answer};
 ghost use Rattle.model_guests.specs.Guests.{lone_of};
-ghost use Rattle.model_guests.specs.Lines.{guest_event};
-ghost use Rattle.model_guests.specs.WorldNow.{names_now, host_reply, after_meaning};
+ghost use Rattle.model_guests.specs.Lines.{guest_event, host_move};
+ghost use Rattle.model_guests.specs.WorldNow.{names_now, host_reply, move_reply, after_meaning};
 ghost use Rattle.accesses.specs.Accesses.{access_of, host_access_of, reply_of};
 ghost use Rattle.accesses.specs.Replies.{IsShown};
 ghost use Rattle.monitor.specs.Views.{texts};
 ghost use Rattle.monitor.specs.ByIndex.{name_nth};
+ghost use Rattle.monitor.specs.Moves.{move_nth};
 
 use crate::engine::Engine;
 use accesses::{Access, HostAccess, Names, Reply};
@@ -50,6 +51,19 @@ impl Monitor {
         ensures shown { IsShown result }
     {
         self.engine.step(guest, access)
+    }
+
+    /// Moves the function in a slot to a slot of a guest. Nothing is carried over: the function is then at
+    /// reset, and its former slot is empty. Or refuses it and changes nothing: 303 for a slot above 31, else
+    /// 601 where the slot that it leaves is empty, else 602 where the slot that it comes to is taken.
+    pub fn move_function(&mut self, from: usize, slot: u64, to: usize, target: u64) -> Reply
+        requires from { from < length self.old.guests }
+        requires to { to < length self.old.guests }
+        ensures reply { reply_of result ≡ move_reply self.old.guests (move_nth self.old from slot to target) }
+        ensures after { self.new ≡ after_meaning self.old (host_move (move_nth self.old from slot to target)) }
+        ensures shown { IsShown result }
+    {
+        self.engine.move_function(from, slot, to, target)
     }
 
     /// Answers a read by the host: what the board shows.
