@@ -2,3 +2,4 @@ pub mod Files
 pub mod DistinctOffsets
 pub mod Units
 pub mod BaseRegisters
+pub mod OwnRegisters

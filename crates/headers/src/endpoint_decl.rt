@@ -1,5 +1,5 @@
 //! What a board declares of an endpoint.
-ghost use Rattle.std.specs.Prelude.{◌≡◌, IfNone, IfOk, map, option_map};
+ghost use Rattle.std.specs.Prelude.{◌≡◌, [], IfNone, IfOk, map, option_map};
 ghost use Rattle.std.specs.Result.{result_err};
 ghost use Rattle.model_registers.specs.Lists.{Each};
 ghost use Rattle.model_registers.specs.Declarations.{IsLawfulSize, HasLawfulRegions};
@@ -10,8 +10,10 @@ ghost use Rattle.headers.specs.Faults.{number_of};
 
 use crate::config_block::{self, ConfigBlock};
 use crate::fault::DeclFault;
+use crate::own_registers::have_own_registers;
 use crate::region::{self, Region};
 use bars::BarDecl;
+use std::alloc::Global;
 use std::marker::Model;
 
 /// What a board says of an endpoint, not yet judged. Regions and blocks may stand in any order.
@@ -45,6 +47,40 @@ impl Model for EndpointValues {
 }
 
 impl EndpointValues {
+    /// An endpoint of this identity and class, with neither regions nor registers of its own. All its
+    /// other numbers are 0.
+    pub fn plain(alloc: Global, vendor: u16, device: u16, class: u32) -> EndpointValues
+        ensures { result ≡ record {
+          vendor = vendor;
+          device = device;
+          revision = 0;
+          class = class;
+          subvendor = 0;
+          subsystem = 0;
+          pin = 0;
+          min_gnt = 0;
+          max_lat = 0;
+          status = 0;
+          regions = [];
+          blocks = [];
+        } }
+    {
+        EndpointValues {
+            vendor,
+            device,
+            revision: 0,
+            class,
+            subvendor: 0,
+            subsystem: 0,
+            pin: 0,
+            min_gnt: 0,
+            max_lat: 0,
+            status: 0,
+            bar: Vec::new(alloc),
+            config: Vec::new(alloc),
+        }
+    }
+
     fn has_lawful_numbers(&self) -> bool
         ensures { result ≡ has_lawful_numbers self.now }
     {
@@ -59,7 +95,7 @@ impl EndpointValues {
     fn has_own_registers(&self) -> bool
         ensures { result ≡ has_own_registers self.now.regions }
     {
-        region::are_in_header(&self.bar) && region::use_registers_once(&self.bar)
+        have_own_registers(&self.bar)
     }
 
     /// The first rule that the values break.

@@ -1,13 +1,13 @@
 //! Regions as a board declares them.
-ghost use Rattle.std.specs.Prelude.{◌≡◌, ◌+◌, [], ◌∷◌, nat_le, length, map, count_by};
+ghost use Rattle.std.specs.Prelude.{◌≡◌, nat_le, length, map};
 ghost use Rattle.std.specs.List.{list_all};
-ghost use Rattle.model_registers.specs.Declarations.{registers_of, IsLawfulSize, HasLawfulRegions};
+ghost use Rattle.model_registers.specs.Declarations.{IsLawfulSize, HasLawfulRegions};
 ghost use Rattle.model_registers.specs.Lists.{Each};
 ghost use Rattle.std.specs.Bool.{OnTrue};
-ghost use Rattle.model_registers.specs.DeclarationRules.{uses};
 ghost use Rattle.model_registers.specs.EndpointTable.{opened, closed};
 ghost use Rattle.bars.specs.Resets.{at_reset};
 
+use crate::own_registers::TakesRegisters;
 use bars::{BarDecl, Kind};
 use config_bytes::Cell;
 use std::marker::Model;
@@ -29,56 +29,25 @@ impl Model for Region {
     ghost view = { λ r. record { index = r.index; kind = r.bar.kind; size = r.bar.size; cells = r.block.items } };
 }
 
+impl TakesRegisters for Region {
+    ghost region = { λ r. r };
+
+    fn index(&self) -> u64 {
+        u64::from(self.index)
+    }
+
+    fn kind(&self) -> Kind {
+        self.bar.kind()
+    }
+}
+
 impl Region {
-    /// How many base address registers the region takes.
-    fn registers(&self) -> u16
-        ensures { result ≡ registers_of self.now.kind }
-    {
-        match self.bar.kind() {
-            Kind::Io | Kind::Mem32 { pref: _ } => 1,
-            Kind::Mem64 { pref: _ } => 2,
-        }
-    }
-
-    fn is_in_header(&self) -> bool
-        ensures { result ≡ nat_le (self.now.index + registers_of self.now.kind) 6 }
-    {
-        u16::from(self.index) + self.registers() <= 6
-    }
-
-    fn uses(&self, register: u16) -> bool
-        ensures { result ≡ uses register self.now }
-    {
-        let index = u16::from(self.index);
-        index <= register && register < index + self.registers()
-    }
-
     fn block_fits(&self) -> bool
         ensures value { result ≡ nat_le (length self.now.cells) self.now.size }
         ensures size { IsLawfulSize self.now.kind self.now.size }
     {
         self.block.len() as u64 <= self.bar.size()
     }
-}
-
-/// Whether each region's registers are among the six.
-pub(crate) fn are_in_header(regions: &[Region]) -> bool
-    ensures { result ≡ list_all (λ r. nat_le (r.index + registers_of r.kind) 6) regions.now }
-{
-    regions.iter().all(|region| region.is_in_header())
-}
-
-/// Whether no register is used twice.
-pub(crate) fn use_registers_once(regions: &[Region]) -> bool
-    ensures { result ≡ list_all (λ n. nat_le (count_by (uses n) regions.now) 1) (0 ∷ 1 ∷ 2 ∷ 3 ∷ 4 ∷ 5 ∷ []) }
-{
-    let users = |register| regions
-        .iter()
-        .filter(|region| region.uses(register))
-        .count();
-    [0, 1, 2, 3, 4, 5]
-        .iter()
-        .all(|register| users(*register) <= 1)
 }
 
 /// Whether no block has more than 4096 cells.

@@ -1,0 +1,82 @@
+//! Which base address registers regions take.
+ghost use Rattle.std.specs.Prelude.{◌≡◌, ◌+◌, ◌≤◌, ◌<◌, [], ◌∷◌, nat_le, map, count_by};
+ghost use Rattle.std.specs.List.{list_all};
+ghost use Rattle.model_registers.specs.Declarations.{Region, registers_of};
+ghost use Rattle.model_registers.specs.DeclarationRules.{uses, has_own_registers};
+ghost use Rattle.bars.specs.Kinds.{kind_of};
+
+use bars::Kind;
+
+/// What takes base address registers: a region, or what declares one.
+pub trait TakesRegisters {
+    ghost region: { Self → Region };
+
+    /// The base address register at which it begins.
+    fn index(&self) -> u64
+        ensures { result ≡ (region self.now).index };
+
+    /// What that register opens.
+    fn kind(&self) -> Kind
+        ensures { kind_of result ≡ (region self.now).kind };
+}
+
+/// How many base address registers a region of a kind takes.
+fn registers(kind: Kind) -> u64
+    ensures value { result ≡ registers_of (kind_of kind) }
+    ensures some { 0 < result }
+    ensures few { result ≤ 2 }
+{
+    if kind.is_wide() { 2 } else { 1 }
+}
+
+fn is_in_header<T: TakesRegisters>(region: &T) -> bool
+    ensures { result ≡ nat_le ((T.region region.now).index + registers_of (T.region region.now).kind) 6 }
+{
+    let index = region.index();
+    index <= 5 && index + registers(region.kind()) <= 6
+}
+
+fn uses<T: TakesRegisters>(region: &T, register: u64) -> bool
+    requires { register ≤ 5 }
+    ensures { result ≡ uses register (T.region region.now) }
+{
+    let index = region.index();
+    index <= register && register < index + registers(region.kind())
+}
+
+/// Whether each region's registers are among the six.
+fn are_in_header<T: TakesRegisters>(regions: &[T]) -> bool
+    ensures { result ≡ list_all (λ r. nat_le ((T.region r).index + registers_of (T.region r).kind) 6) regions.now }
+{
+    regions.iter().all(|region| is_in_header(region))
+}
+
+fn is_used_once<T: TakesRegisters>(regions: &[T], register: u64) -> bool
+    requires { register ≤ 5 }
+    ensures { result ≡ nat_le (count_by (λ r. uses register (T.region r)) regions.now) 1 }
+{
+    regions
+        .iter()
+        .filter(|region| uses(*region, register))
+        .count()
+        <= 1
+}
+
+/// Whether no register is used twice.
+fn use_registers_once<T: TakesRegisters>(regions: &[T]) -> bool
+    ensures { result ≡ list_all (λ n. nat_le (count_by (λ r. uses n (T.region r)) regions.now) 1) (0 ∷ 1 ∷ 2 ∷ 3 ∷ 4 ∷ 5 ∷ []) }
+{
+    is_used_once(regions, 0)
+        && is_used_once(regions, 1)
+        && is_used_once(regions, 2)
+        && is_used_once(regions, 3)
+        && is_used_once(regions, 4)
+        && is_used_once(regions, 5)
+}
+
+/// Whether each region has its registers among the six, and no register is used twice.
+pub fn have_own_registers<T: TakesRegisters>(regions: &[T]) -> bool
+    ensures { result ≡ has_own_registers (map T.region regions.now) }
+{
+    are_in_header(regions) && use_registers_once(regions)
+}
