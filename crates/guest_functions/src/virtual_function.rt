@@ -14,11 +14,8 @@ ghost use Rattle.bars.specs.Resets.{at_reset, with_no_base};
 
 use crate::word::Word;
 use bars::{BarDecl, Bars, Space, enabled_bits};
+use headers::Command;
 use std::marker::Model;
-
-/// The bits of Command that software sets: 0, 1, 2, 6, 8 and 10 (PCI Local Bus Specification 3.0,
-/// section 6.2.2).
-const COMMAND_WRITABLE: u32 = 0x0547;
 
 /// A function in a guest's slot. The guest's Command and base address registers are kept here, and so
 /// decide what the guest's accesses decode; the header type always reads 00h, whatever else the device
@@ -42,11 +39,13 @@ impl Model for VirtualFunction {
     ghost invariant = { λ f. HasLawfulRegions (map opened f.bars) };
 }
 
-/// Command after a write of the enabled bytes of its word.
+/// Command after a write of the enabled bytes of its word (PCI Local Bus Specification 3.0, section
+/// 6.2.2).
 fn command_written(command: u16, enables: u8, value: u32) -> u16
     ensures { result ≡ merged 2 command value (bit_and 0x0547 (enabled_bits (lanes enables))) }
 {
-    let mask = COMMAND_WRITABLE & enabled_bits(enables);
+    let writable = u32::from(Command::of_endpoint().0);
+    let mask = writable & enabled_bits(enables);
     ((u32::from(command) & !mask) | (value & mask)) as u16
 }
 
