@@ -1,7 +1,7 @@
 //! What a board declares, function by function.
-ghost use Rattle.std.specs.Prelude.{◌≡◌, ◌==◌, ◌&&◌, not, ◌↔◌, IsTrue};
+ghost use Rattle.std.specs.Prelude.{◌≡◌, ◌&&◌, not, ◌↔◌, IsTrue};
 ghost use Rattle.std.specs.Ordering.{is_lt};
-ghost use Rattle.model_board.specs.Paths.{path_eq, path_before, parent, last_part};
+ghost use Rattle.model_board.specs.Paths.{path_eq, path_before, same_device};
 ghost use Rattle.model_board.specs.Board.{IsBoard, is_multifunction};
 ghost use Rattle.model_board.specs.Places.{board_of, standing};
 
@@ -45,7 +45,7 @@ impl Decl {
 
     /// Whether the other function stands in the same device.
     fn shares_device(&self, other: &Decl) -> bool
-        ensures { result ≡ (path_eq (parent other.now.path) (parent self.now.path) && ((last_part other.now.path).device == (last_part self.now.path).device) && not (path_eq other.now.path self.now.path)) }
+        ensures { result ≡ (same_device other.now.path self.now.path && not (path_eq other.now.path self.now.path)) }
     {
         self.path.shares_device(&other.path)
     }

@@ -1,7 +1,7 @@
 //! Where a function stands.
-ghost use Rattle.std.specs.Prelude.{◌≡◌, ◌==◌, ◌&&◌, not, ◌+◌, ◌≤◌, ◌<◌, [], ◌∷◌, ◌++◌, length};
+ghost use Rattle.std.specs.Prelude.{◌≡◌, ◌&&◌, not, ◌+◌, ◌≤◌, ◌<◌, [], ◌∷◌, ◌++◌, length};
 ghost use Rattle.std.specs.Ordering.{is_lt, is_eq};
-ghost use Rattle.model_board.specs.Paths.{part_eq, part_before, path_eq, path_before, leads_to, parent, function_zero, last_part, IsPath};
+ghost use Rattle.model_board.specs.Paths.{part_eq, part_before, path_eq, path_before, leads_to, parent, same_device, function_zero, last_part, IsPath};
 
 use arrayvec::ArrayVec;
 use std::cmp::Ordering;
@@ -169,7 +169,7 @@ impl Path {
 
     /// Whether the other path is that of another function in the same device.
     pub(crate) fn shares_device(&self, other: &Path) -> bool
-        ensures { result ≡ (path_eq (parent other.now) (parent self.now) && ((last_part other.now).device == (last_part self.now).device) && not (path_eq other.now self.now)) }
+        ensures { result ≡ (same_device other.now self.now && not (path_eq other.now self.now)) }
     {
         is_same(other.parent(), self.parent())
             && other.last().device() == self.last().device()
