@@ -1,6 +1,5 @@
 //! The checks of accesses, and the answer where there is nothing.
-ghost use Rattle.std.specs.Prelude.{◌≡◌, ℕ, Option, [], None, option_map};
-ghost use Rattle.model_registers.specs.Registers.{all_ones};
+ghost use Rattle.std.specs.Prelude.{◌≡◌, Option, [], None};
 ghost use Rattle.model_registers.specs.ByteEnables.{IsWidth};
 ghost use Rattle.model_guests.specs.LoneGuest.{place_number, is_out_of_range, access_fault, fault_of, perform};
 ghost use Rattle.model_guests.specs.HostReads.{host_number, is_out_of_host_range, host_fault};
@@ -8,6 +7,7 @@ ghost use Rattle.accesses.specs.Accesses.{access_of, op_of, target_of, host_targ
 ghost use Rattle.accesses.specs.Replies.{IsShown};
 
 use crate::access::{Access, At, HostAccess, HostAt, Op, Reply};
+use config_bytes::all_ones;
 
 /// The first of three checks that fails: 302 the width is not 1, 2 or 4; 301 the number is no multiple
 /// of the width; 303 it is out of range.
@@ -102,17 +102,5 @@ pub fn nothing(op: Op, width: u64) -> Reply
     match op {
         Op::Read => Reply::Value(all_ones(width), width),
         Op::Write(_) => Reply::Done,
-    }
-}
-
-/// All ones in a width of 1, 2 or 4 bytes.
-pub fn all_ones(width: u64) -> u32
-    requires { IsWidth width }
-    ensures { result ≡ all_ones width }
-{
-    match width {
-        1 => 0xff,
-        2 => 0xffff,
-        _ => 0xffff_ffff,
     }
 }

@@ -6,7 +6,7 @@ mod checks;
 mod guest;
 
 pub use access::{Access, At, HostAccess, HostAt, Op, Reply};
-pub use checks::{all_ones, nothing};
+pub use checks::nothing;
 pub use guest::{GuestDecl, Names};
 pub use headers::Place;
 pub use host_bridge::Bdf;
