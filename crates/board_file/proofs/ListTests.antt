@@ -1,19 +1,14 @@
 -- Tests of lists, of sizes and of where functions stand, as facts.
-use Rattle.std.proofs.Common.{◌≡◌, ℕ, ◌+◌, ℤ, pos, negsuc, nat_abs, Bool, true, false, ◌&&◌, ◌||◌, not, cond, List, [], ◌∷◌, map, nat_le, le-leb, leb-true, count_by, refl, sym, inl, inr, ◌⊎◌, IsTrue, IsFalse}
+use Rattle.std.proofs.Common.{◌≡◌, ℕ, ℤ, pos, negsuc, nat_abs, Bool, true, false, ◌&&◌, ◌||◌, not, List, [], ◌∷◌, nat_le, le-leb, leb-true, refl, sym, inl, inr, ◌⊎◌, IsTrue, IsFalse}
 use Rattle.std.specs.Prelude.{int_le}
 use Rattle.std.specs.List.{list_all}
 use Rattle.std.specs.Int.{is_power_of_two}
 use Rattle.std.proofs.lemmas.Bool.{and_parts}
-use Rattle.std.proofs.lemmas.List.Folds.{list_all-map}
-use Rattle.std.proofs.lemmas.List.Sums.{sum_by-cons}
 use Rattle.model_registers.specs.Lists.{Each, EachPair, all_pairs}
-use Rattle.model_registers.specs.Declarations.{Kind, registers_of, least_size, greatest_size, IsLawfulSize}
-use Rattle.model_registers.specs.DeclarationRules.{uses, has_own_registers}
+use Rattle.model_registers.specs.Declarations.{Kind, least_size, greatest_size, IsLawfulSize}
 use Rattle.model_board.specs.Paths.{Path, path_eq, parent, function_zero, IsPath}
 use Rattle.model_board.specs.Places.{Standing, has_path, has_bridge, IsFounded, AreLawfulPlaces}
 use Rattle.bars.proofs.Powers.{power_of_test, test_of_power}
-use Rattle.board_file.specs.Entries.{Bar}
-use Rattle.board_file.specs.Functions.{region}
 use Rattle.board_file.specs.Rules.{is_size, is_root, is_founded, are_places}
 
 -- ---- tests
@@ -55,27 +50,7 @@ pub test_of_pairs : {A : Type 0} (r : A → A → Bool) (xs : List A) → EachPa
 test_of_pairs r [] h = refl
 test_of_pairs r (x ∷ xs) h = rw (test_of_none (r x) xs h.0) (test_of_pairs r xs h.1)
 
-count_map : {A B : Type 0} (p : B → Bool) (f : A → B) (xs : List A) → count_by p (map f xs) ≡ count_by (λ x. p (f x)) xs
-count_map p f [] = refl
-count_map p f (x ∷ xs) = rw (sum_by-cons (λ y. cond (p y) 1 0) (f x) (map f xs), sum_by-cons (λ y. cond (p (f y)) 1 0) x xs, count_map p f xs) refl
-
--- ---- registers and sizes
-
--- the registers of regions, asked of the tables that declare them
-pub registers_of_bars : (bars : List Bar)
-    → has_own_registers (map region bars)
-    ≡ (list_all (λ b. nat_le ((region b).index + registers_of (region b).kind) 6) bars
-    && list_all (λ n. nat_le (count_by (λ b. uses n (region b)) bars) 1) (0 ∷ 1 ∷ 2 ∷ 3 ∷ 4 ∷ 5 ∷ []))
-registers_of_bars bars =
-    rw (
-      list_all-map (λ r. nat_le (r.index + registers_of r.kind) 6) region bars,
-      count_map (uses 0) region bars,
-      count_map (uses 1) region bars,
-      count_map (uses 2) region bars,
-      count_map (uses 3) region bars,
-      count_map (uses 4) region bars,
-      count_map (uses 5) region bars,
-    ) refl
+-- ---- sizes
 
 pub lawful_size : (kind : Kind) (n : ℤ) → is_size kind n ≡ true → IsLawfulSize kind (nat_abs n)
 lawful_size kind (pos n) h =
