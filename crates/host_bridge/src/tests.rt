@@ -26,18 +26,10 @@ fn endpoint(
     bar: Vec<Region>,
 ) -> Result<Declared, Fail> {
     let values = EndpointValues {
-        vendor: 0x1234,
-        device,
-        revision: 0,
-        class: 0xff_0000,
-        subvendor: 0,
-        subsystem: 0,
         pin,
-        min_gnt: 0,
-        max_lat: 0,
         status,
         bar,
-        config: Vec::new(alloc),
+        ..EndpointValues::plain(alloc, 0x1234, device, 0xff_0000)
     };
     Ok(Declared::Endpoint(EndpointDecl::new(values)?))
 }
