@@ -1,5 +1,5 @@
 -- A scan from one place to the next.
-use Rattle.std.proofs.Common.{◌≡◌, ℕ, ◌+◌, ◌%◌, ◌≤◌, ◌<◌, inr, Bool, true, false, not, cond, ◌&&◌, ◌||◌, List, [], ◌∷◌, ◌++◌, length, append_assoc, map, Some, refl, sym, ap, ap₂, ◌∙◌, subst, arith, eqb, get_or, length-append}
+use Rattle.std.proofs.Common.{◌≡◌, ℕ, ◌+◌, ◌%◌, ◌≤◌, ◌<◌, inr, Bool, true, false, not, cond, ◌&&◌, ◌||◌, List, [], ◌∷◌, ◌++◌, length, append_assoc, map, Some, refl, sym, ap, ap₂, ◌∙◌, subst, arith, eqb, get_or}
 use Rattle.std.specs.Prelude.{find, count_by}
 use Rattle.std.proofs.Math.ListN.{set}
 use Rattle.std.proofs.Math.Seq.{get_or-append_seam}
@@ -305,11 +305,6 @@ grown_from : (b : Board) → IsBoard b → (p : Path) (r : Row) → StandsAt b p
 grown_from b lawful p r is =
     let grown = met_grows b lawful (on p 0) (on p 128) (first_before_last p) in
     (grown.0, grown.1 ∙ ap (λ (xs : Board). xs ++ grown.0) (more_behind b lawful p r is) ∙ append_assoc (met b p) (r ∷ []) grown.0)
-
-pub bridge_in_rows : (b : Board) (p : Path) (r : Row) → IsBoard b → StandsAt b p r → (s : State) (rows : List TableRow) (last : ℕ) → IsAt b (on p 128) s rows last → (i : ℕ) → i ≡ length (met b p) → i < length rows
-bridge_in_rows b p r lawful is s rows last at i index =
-    let grown = grown_from b lawful p r is in
-    omega (arith, rows_length b (on p 128) s rows last at, ap length grown.1, length-append (met b p) (r ∷ grown.0))
 
 item_there : (b : Board) (p : Path) (r : Row) → IsBoard b → StandsAt b p r → (s : State) (rows : List TableRow) (last : ℕ) → IsAt b (on p 128) s rows last → (i : ℕ) → i ≡ length (met b p) → (d : TableRow) → get_or rows i d ≡ met_row b (scan_numbers b (on p 128)) r
 item_there b p r lawful is s rows last at i index d =

@@ -1,11 +1,10 @@
 //! The scan of a board by configuration cycles (PCI-to-PCI Bridge Architecture 1.2, chapter 3.2.5).
 ghost use Rattle.std.specs.Prelude.{◌≡◌, ◌⊎◌, ◌<◌, ◌+◌, [], ◌∷◌, ◌++◌, length, IfOk, IfErr, MatchResult, IsTrue, Some, find, ℕ, ◌≤◌};
 ghost use Rattle.model_board.specs.Paths.{Path as PathValue, path_eq};
-ghost use Rattle.model_board.specs.Board.{Board, Row, is_bridge, is_bridge_at, is_multifunction, IsBoard};
+ghost use Rattle.model_board.specs.Board.{Board, Row, is_bridge_at, is_multifunction, IsBoard};
 ghost use Rattle.model_board.specs.BusNumbers.{Enumerates, secondary};
-ghost use Rattle.model_board.specs.Members.{IsIn};
 ghost use Rattle.model_board.specs.SetUp.{state_of};
-ghost use Rattle.model_board.specs.Cycles.{BusAddress, reached};
+ghost use Rattle.model_board.specs.Cycles.{reached};
 ghost use Rattle.model_board.specs.Scanning.{BusNumbers, numbered_file, numbered_state};
 ghost use Rattle.model_board.specs.ScanOrder.{on, place, next_place, met};
 ghost use Rattle.model_board.specs.FunctionTable.{TableRow, scanned_table};
@@ -17,7 +16,7 @@ ghost use Rattle.bus_scan.specs.Sights.{seen_of};
 ghost use Rattle.bus_scan.specs.Rows.{decl_of, range_of};
 
 use crate::fault::Fault;
-use crate::places::{PLACES, address, next_place, path_on};
+use crate::places::{DEEPEST, PLACES, address, next_place, path_on};
 use crate::seen::{Layout, Seen, look};
 use crate::table::{Found, FunctionRow, FunctionTable};
 use bridge_forward::Part;
@@ -83,6 +82,7 @@ impl Enumeration {
             → MatchResult result
             (λ number. (number ≡ secondary b (on on_path n)) × ComesTo b (on (on on_path n) 0) host.new self.new)
             (λ f. IsRefused b f host.new.state) }
+        ensures rows { IfOk result (λ _. length self.old.rows.items < length self.new.rows.items) }
         ensures kept { host.new.apertures ≡ host.old.apertures }
     {
         if self.last == 255 {
@@ -103,16 +103,17 @@ impl Enumeration {
 
     /// Ends the numbers of a bridge with the last one given, in its registers and in its row.
     fn close_bridge(&mut self, host: &mut Host, at: Bdf, bus: u8, number: u8, index: usize)
+        requires { index < length self.old.rows.items }
         ensures closed { (b : Board) (on_path : PathValue) (n : ℕ) (r : Row) → IsBridgeThere b on_path bus n r (bus_address_of at)
             → number ≡ secondary b (on on_path n) → index ≡ length (met b (on on_path n))
             → ComesTo b (on (on on_path n) 128) host.old self.old
             → ComesTo b (on on_path (next_place b on_path n)) host.new self.new }
+        ensures rows { length self.new.rows.items ≡ length self.old.rows.items }
         ensures kept { host.new.apertures ≡ host.old.apertures }
     {
         let last = self.last;
-        if let Some(row) = self.rows.get_mut(index) {
-            row.end_numbers(last);
-        }
+        let row = &mut self.rows[index];
+        row.end_numbers(last);
         write_numbers(host, at, bus, number, last);
     }
 
@@ -132,12 +133,13 @@ impl Enumeration {
             → MatchResult result
             (λ _. ComesTo b (on on_path (next_place b on_path n)) host.new self.new)
             (λ f. IsRefused b f host.new.state) }
+        ensures rows { IfOk result (λ _. length self.old.rows.items ≤ length self.new.rows.items) }
         ensures kept { host.new.apertures ≡ host.old.apertures }
     {
         let index = self.rows.len();
         let number = self.open_bridge(host, at, bus, path.copied(), seen)?;
         let parts = path.parts();
-        if parts.len() < 16 {
+        if parts.len() < DEEPEST {
             self.scan_bus(host, parts, number)?;
         }
         self.close_bridge(host, at, bus, number, index);
@@ -155,6 +157,7 @@ impl Enumeration {
             → MatchResult result
             (λ m. ComesTo b (on bus.now m) host.new self.new)
             (λ f. IsRefused b f host.new.state) }
+        ensures rows { IfOk result (λ _. length self.old.rows.items ≤ length self.new.rows.items) }
         ensures kept { host.new.apertures ≡ host.old.apertures }
     {
         let at = address(number, n);
@@ -182,6 +185,7 @@ impl Enumeration {
             → MatchResult result
             (λ _. ComesTo b (on bus.now 128) host.new self.new)
             (λ f. IsRefused b f host.new.state) }
+        ensures rows { IfOk result (λ _. length self.old.rows.items ≤ length self.new.rows.items) }
         ensures kept { host.new.apertures ≡ host.old.apertures }
     {
         let mut n = 0;

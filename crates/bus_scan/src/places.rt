@@ -9,6 +9,9 @@ use host_bridge::{Bdf, Path};
 /// How many places a bus has.
 pub(crate) const PLACES: u8 = 128;
 
+/// How many parts a path has at most.
+pub(crate) const DEEPEST: usize = 16;
+
 /// The physical number of a place.
 pub(crate) fn address(bus: u8, n: u8) -> Bdf
     requires { n < PLACES }

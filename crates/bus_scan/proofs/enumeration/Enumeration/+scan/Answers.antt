@@ -13,7 +13,7 @@ use Rattle.bus_scan.specs.Sights.{seen_of}
 use Rattle.bus_scan.proofs.ScanSteps.{side, deepest, rows_length, past_nothing}
 use Rattle.bus_scan.proofs.ScanSights.{sighted, none_seen, finds, after_look, past_function, endpoint_row, bridge_there_of, shows_at}
 use Rattle.bus_scan.proofs.enumeration.Enumeration.+scan.Goals as goal
-use Rattle.bus_scan.proofs.enumeration.Enumeration.+scan.Goals.{scan_bridge-then-parts-lt16+in_ok-scan_bus, scan_bridge-else-parts-lt16, scan_place-in-Endpoint+in_ok-push-in-Endpoint, scan_place-in-Bridge+in_ok-scan_bridge-in-Bridge}
+use Rattle.bus_scan.proofs.enumeration.Enumeration.+scan.Goals.{scan_bridge-then-parts-lt-DEEPEST+in_ok-scan_bus, scan_bridge-else-parts-lt-DEEPEST, scan_place-in-Endpoint+in_ok-push-in-Endpoint, scan_place-in-Bridge+in_ok-scan_bridge-in-Bridge}
 
 -- the parts of a path as a bus
 at_parts : (b : Board) (p q : Path) (k : ℕ) → q ≡ p → OnBus b p k → OnBus b q k
@@ -49,14 +49,14 @@ scan_bridge-returns-clause-scanned t c = λ b bus n r is path shows here.
     let same : c.parts-parts.result.now ≡ on bus n = c.parts-parts.ensures.value ∙ path in
     let index : c.len-index.result ≡ length c.args.self.now.rows.items = c.len-index.ensures ∙ c.args.self.now.rows.ok.0 in
     c.close_bridge.ensures.closed b bus n r is opened.0 (index ∙ rows_length b (on bus n) c.args.host.now.state c.args.self.now.rows.items c.args.self.now.last here)
-    (elim c.if-parts-lt16.branch [
-      | scan_bridge-then-parts-lt16+in_ok-scan_bus w ↦
+    (elim c.if-parts-lt-DEEPEST.branch [
+      | scan_bridge-then-parts-lt-DEEPEST+in_ok-scan_bus w ↦
           let scanned = w.in_ok-scan_bus.ensures.scanned b (at_parts b (on bus n) c.parts-parts.result.now c.in_ok-number.number same (side b bus c.args.bus n r is.on_bus is.stands is.is_bridge_there c.in_ok-number.number opened.0))
           (begins b (on bus n) c.parts-parts.result.now 0 c.open_bridge.new.host.state c.open_bridge.new.self.rows.items c.open_bridge.new.self.last same opened.1) in
-          placed b (on (on bus n) 128) w.scan_bus.new.host c.if-parts-lt16.host w.scan_bus.new.self c.if-parts-lt16.self w.host-is w.self-is (begins b c.parts-parts.result.now (on bus n) 128 w.scan_bus.new.host.state w.scan_bus.new.self.rows.items w.scan_bus.new.self.last (sym same) scanned)
-      | scan_bridge-else-parts-lt16 w ↦
-          placed b (on (on bus n) 128) c.open_bridge.new.host c.if-parts-lt16.host c.open_bridge.new.self c.if-parts-lt16.self w.host-is w.self-is
-          (deepest b is.on_bus.board (on bus n) (omega (arith, w.if-parts-lt16.false, ap length same)) c.open_bridge.new.host.state c.open_bridge.new.self.rows.items c.open_bridge.new.self.last opened.1)
+          placed b (on (on bus n) 128) w.scan_bus.new.host c.if-parts-lt-DEEPEST.host w.scan_bus.new.self c.if-parts-lt-DEEPEST.self w.host-is w.self-is (begins b c.parts-parts.result.now (on bus n) 128 w.scan_bus.new.host.state w.scan_bus.new.self.rows.items w.scan_bus.new.self.last (sym same) scanned)
+      | scan_bridge-else-parts-lt-DEEPEST w ↦
+          placed b (on (on bus n) 128) c.open_bridge.new.host c.if-parts-lt-DEEPEST.host c.open_bridge.new.self c.if-parts-lt-DEEPEST.self w.host-is w.self-is
+          (deepest b is.on_bus.board (on bus n) (omega (arith, w.if-parts-lt-DEEPEST.false, ap length same)) c.open_bridge.new.host.state c.open_bridge.new.self.rows.items c.open_bridge.new.self.last opened.1)
     ])
 
 pub scan_bus-returns-clause-scanned : goal.scan_bus-returns-clause-scanned

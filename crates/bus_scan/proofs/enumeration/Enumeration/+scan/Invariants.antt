@@ -17,6 +17,7 @@ abbrev pub invariant-scan_bus-loop-n : goal.invariant-scan_bus-loop-n
 invariant-scan_bus-loop-n l = record {
   within : l.n ≤ 128;
   kept : l.host.apertures ≡ l.fn.host.apertures;
+  rows : length l.fn.self.rows.items ≤ length l.self.rows.items;
   scanned : (b : Board) → OnBus b l.bus l.number → IsAt b (on l.bus 0) l.fn.host.state l.fn.self.rows.items l.fn.self.last → IsAt b (on l.bus l.n) l.host.state l.self.rows.items l.self.last;
 }
 
