@@ -36,9 +36,6 @@ const WORD: u8 = 0b1111;
 
 const LOW_HALF: u8 = 0b0011;
 
-/// A bridge's Command: its windows of I/O and of memory forward.
-const BRIDGE_COMMAND: u32 = 3;
-
 /// Writes a plan into the host that was scanned for it: each endpoint's bases and then its Command,
 /// each bridge's windows and then its Command, in path order. All else stays as the scan left it.
 pub fn program(host: &mut Host, plan: &Plan)
@@ -106,7 +103,9 @@ fn write_bridge(host: &mut Host, at: Bdf, io: Window, mem: Window, pref: Window)
     write_word(host, at, PREF_BASE_UPPER, WORD, upper_half(pref.first));
     write_word(host, at, PREF_LIMIT_UPPER, WORD, upper_half(pref.last));
     write_word(host, at, IO_UPPER, WORD, io_upper_word(io));
-    write_word(host, at, COMMAND, LOW_HALF, BRIDGE_COMMAND);
+    // Its windows of I/O and of memory forward.
+    let command = headers::Command::both_spaces().0;
+    write_word(host, at, COMMAND, LOW_HALF, u32::from(command));
 }
 
 /// Writes the enabled bytes of the word at `off`.

@@ -1,5 +1,6 @@
 use Rattle.std.proofs.Common.{◌≡◌, ℕ, ◌+◌, ◌*◌, ◌^◌, ◌≤◌, ◌<◌, [], length, sym, ap, ap₂, ◌∙◌, arith}
 use Rattle.std.proofs.lemmas.Bool.Decides.{nat_tests}
+use Rattle.model_registers.specs.Lists.{Each}
 use Rattle.model_registers.specs.BridgeTable.{Window}
 use Rattle.model_board.specs.Pools.{unit_of}
 use Rattle.model_board.specs.Placement.{round_up}
@@ -19,30 +20,37 @@ returns-then-is_empty c = λ is e.
     let closed = ap (λ (k : ℕ). let s : Window = record { first = c.args.closed * k; last = 0 } in s) c.unit-unit.ensures in
     closed ∙ sym (span_none unit c.args.closed c.args.first is (ap (λ (p : BusPack). p.spots) (sym e) ∙ none))
 
+-- the window of a bus with items has a size, and room
+record HasRoom (first unit end : ℕ) : Type 0 where
+  size : 0 < round_up unit end
+  room : first + round_up unit end ≤ 2 ^ 63
+
+has_room : (first unit : ℕ) (p q : BusPack) → q ≡ p → ((length q.spots ≡ 0) → ⊥) → Each (λ s. 0 < round_up unit p.end) p.spots → Each (λ s. first + round_up unit p.end ≤ 2 ^ 63) p.spots → HasRoom first unit p.end
+has_room first unit p q same some size room =
+    let there : (p.spots ≡ []) → ⊥ = λ e. some (ap (λ (p : BusPack). length p.spots) same ∙ ap length e) in
+    record {
+      size = holds_of_some (0 < round_up unit p.end) p.spots there size;
+      room = holds_of_some (first + round_up unit p.end ≤ 2 ^ 63) p.spots there room;
+    }
+
 pub round_up-requires-clause-room : goal.round_up-requires-clause-room
 round_up-requires-clause-room c =
     let unit = unit_of (named_pool c.args.pool) in
-    let some : (c.args.pack.now.spots ≡ []) → ⊥ = λ e. let n : length c.pack.inside.spots.items ≡ 0 = ap (λ (p : BusPack). length p.spots) c.pack.view_is ∙ ap length e in absurd (grind (arith, nat_tests, c.pack.inside.spots.ok)) in
-    let room : c.args.first + round_up unit c.args.pack.now.end ≤ 2 ^ 63 = holds_of_some (c.args.first + round_up unit c.args.pack.now.end ≤ 2 ^ 63) c.args.pack.now.spots some c.requires.room in
-    let size : 0 < round_up unit c.args.pack.now.end = holds_of_some (0 < round_up unit c.args.pack.now.end) c.args.pack.now.spots some c.requires.some in
+    let fits = has_room c.args.first unit c.args.pack.now _ c.pack.view_is (λ n. grind (arith, nat_tests, c.pack.inside.spots.ok, n)) c.requires.some c.requires.room in
     let bounds = alignment_bounds (named_pool c.args.pool) [] tt in
     let end : c.args.pack.now.end ≤ round_up unit c.args.pack.now.end = round_up_not_before unit c.args.pack.now.end bounds.0 in
-    omega (arith, bounds.1, end, room, ap (λ (p : BusPack). p.end) c.pack.view_is, c.unit-unit.ensures)
+    omega (arith, bounds.1, end, fits.room, ap (λ (p : BusPack). p.end) c.pack.view_is, c.unit-unit.ensures)
 
 pub overflow_add-result : goal.overflow_add-result
 overflow_add-result c =
     let unit = unit_of (named_pool c.args.pool) in
-    let some : (c.args.pack.now.spots ≡ []) → ⊥ = λ e. let n : length c.pack.inside.spots.items ≡ 0 = ap (λ (p : BusPack). length p.spots) c.pack.view_is ∙ ap length e in absurd (grind (arith, nat_tests, c.pack.inside.spots.ok)) in
-    let room : c.args.first + round_up unit c.args.pack.now.end ≤ 2 ^ 63 = holds_of_some (c.args.first + round_up unit c.args.pack.now.end ≤ 2 ^ 63) c.args.pack.now.spots some c.requires.room in
-    let size : 0 < round_up unit c.args.pack.now.end = holds_of_some (0 < round_up unit c.args.pack.now.end) c.args.pack.now.spots some c.requires.some in
+    let fits = has_room c.args.first unit c.args.pack.now _ c.pack.view_is (λ n. grind (arith, nat_tests, c.pack.inside.spots.ok, n)) c.requires.some c.requires.room in
     let up : c.round_up.result ≡ round_up unit c.args.pack.now.end = c.round_up.ensures ∙ ap₂ round_up c.unit-unit.ensures (ap (λ (p : BusPack). p.end) c.pack.view_is) in
-    omega (arith, room, up)
+    omega (arith, fits.room, up)
 
 pub overflow_sub-result : goal.overflow_sub-result
 overflow_sub-result c =
     let unit = unit_of (named_pool c.args.pool) in
-    let some : (c.args.pack.now.spots ≡ []) → ⊥ = λ e. let n : length c.pack.inside.spots.items ≡ 0 = ap (λ (p : BusPack). length p.spots) c.pack.view_is ∙ ap length e in absurd (grind (arith, nat_tests, c.pack.inside.spots.ok)) in
-    let room : c.args.first + round_up unit c.args.pack.now.end ≤ 2 ^ 63 = holds_of_some (c.args.first + round_up unit c.args.pack.now.end ≤ 2 ^ 63) c.args.pack.now.spots some c.requires.room in
-    let size : 0 < round_up unit c.args.pack.now.end = holds_of_some (0 < round_up unit c.args.pack.now.end) c.args.pack.now.spots some c.requires.some in
+    let fits = has_room c.args.first unit c.args.pack.now _ c.pack.view_is (λ n. grind (arith, nat_tests, c.pack.inside.spots.ok, n)) c.requires.some c.requires.room in
     let up : c.round_up.result ≡ round_up unit c.args.pack.now.end = c.round_up.ensures ∙ ap₂ round_up c.unit-unit.ensures (ap (λ (p : BusPack). p.end) c.pack.view_is) in
-    omega (arith, size, up)
+    omega (arith, fits.size, up)
