@@ -20,18 +20,10 @@ fn endpoint(
     bar: Vec<Region>,
 ) -> EndpointDecl {
     let values = EndpointValues {
-        vendor: 0x1234,
-        device,
-        revision: 0,
-        class: 0xff_0000,
-        subvendor: 0,
-        subsystem: 0,
         pin: 1,
-        min_gnt: 0,
-        max_lat: 0,
         status,
         bar,
-        config: Vec::new(alloc),
+        ..EndpointValues::plain(alloc, 0x1234, device, 0xff_0000)
     };
     EndpointDecl::new(values).expect(rt, "a lawful endpoint")
 }
