@@ -20,18 +20,9 @@ fn endpoint(alloc: Global) -> EndpointDecl
     ensures { result ≡ demo_endpoint }
 {
     let values = EndpointValues {
-        vendor: 0x1234,
-        device: 0x0001,
-        revision: 0,
-        class: 0xff_0000,
-        subvendor: 0,
-        subsystem: 0,
         pin: 1,
-        min_gnt: 0,
-        max_lat: 0,
         status: 0x8000,
-        bar: Vec::new(alloc),
-        config: Vec::new(alloc),
+        ..EndpointValues::plain(alloc, 0x1234, 0x0001, 0xff_0000)
     };
     EndpointDecl::new(values).unwrap()
 }
