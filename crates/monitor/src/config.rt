@@ -4,6 +4,7 @@ ghost use Rattle.model_registers.specs.Registers.{config, number};
 ghost use Rattle.model_registers.specs.ByteEnables.{IsWidth};
 ghost use Rattle.monitor.specs.Configs.{IsSeen, IsHolding, WritesOwn, HoldsAt, WritesGuest};
 
+use crate::cycles::read_enabled;
 use crate::guest::{Guest, Held};
 use config_bytes::{enables_of, lowered};
 use host_bridge::{Bdf, Host};
@@ -22,7 +23,7 @@ pub(crate) fn number_read(host: &mut Host, held: &Held, off: u8, width: u64) -> 
     let (own, others) = held
         .own
         .config_read(u16::from(word), enables_of(from, width));
-    let rest = host.config_read(held.at, word, others);
+    let rest = read_enabled(host, held.at, word, others);
     lowered(from, own + rest)
 }
 

@@ -20,6 +20,7 @@ ghost use Rattle.monitor.specs.Moves.{move_nth};
 
 use crate::board::{board_address, read_claimed, write_claimed};
 use crate::config::{held_in, number_read, write_guest};
+use crate::cycles::write_enabled;
 use crate::guest::Guest;
 use crate::landing::landing;
 use crate::latch::{is_latch, write_latch};
@@ -125,7 +126,7 @@ impl<R: Route> Engine<R> {
         let moved = into_lanes(from, value);
         let enables = enables_of(from, width);
         let (at, others) = write_guest(&mut self.guests, guest, slot, word, enables, moved);
-        self.host.config_write(at, word, others, moved);
+        write_enabled(&mut self.host, at, word, others, moved);
     }
 
     /// Reads or writes the configuration space of the function in a slot. Where there is none, a read gives

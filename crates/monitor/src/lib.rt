@@ -3,6 +3,7 @@
 
 mod board;
 mod config;
+mod cycles;
 mod engine;
 mod guest;
 mod landing;

@@ -13,6 +13,7 @@ use Rattle.monitor.specs.Configs.{HoldsAt, WritesGuest}
 use Rattle.monitor.proofs.Steps.{guests_within}
 use Rattle.monitor.proofs.RegionGoals.{guest_at}
 use Rattle.monitor.proofs.ConfigSteps.{config_drops}
+use Rattle.monitor.proofs.EmptyCycles.{latch_clear}
 use Rattle.monitor.proofs.ConfigGoals.{given_back, held_there, sound_after, routes_after, world_after}
 use Rattle.monitor.proofs.engine.Engine.config_write.Goals as goal
 
@@ -71,7 +72,7 @@ invariant_of-self g c =
     subst (λ (gs : List Guest). (h : HoldsAt gs c.args.guest c.args.slot) → WritesGuest gs c.args.guest c.args.slot h (c.args.off / 4 * 4) c.enables_of-enables.result c.into_lanes-moved.result left r) c.deref_mut.ensures.value c.write_guest-others.ensures holds in
     let back = take e.guests.len (left ++ drop (length left) e.guests.items) in
     let is_back : back ≡ left = given_back left (drop (length left) e.guests.items) e.guests.len (c.write_guest-others.auto.guests ∙ c.deref_mut.ensures.len) in
-    (g.met.R.Route.by_routing e.route e.host c.config_write.new.self (routes_after e.host (texts e.names) e.guests.items c.self.invariant.1 c.args.self.now c.self.view_is c.args.guest c.args.slot holds c.args.off c.args.width c.args.value c.requires.width c.requires.aligned (c.args.off / 4 * 4) c.enables_of-enables.result c.into_lanes-moved.result refl (c.enables_of-enables.ensures ∙ ap (λ x. enables_of x c.args.width) c.from-from.ensures) (c.into_lanes-moved.ensures ∙ ap (λ x. into_lanes x c.args.value) c.from-from.ensures) left r written back is_back c.config_write.new.self c.config_write.ensures) c.self.invariant.0, sound_after e.host (texts e.names) e.guests.items c.self.invariant.1 c.args.self.now c.self.view_is c.args.guest c.args.slot holds c.args.off c.args.width c.args.value c.requires.width c.requires.aligned (c.args.off / 4 * 4) c.enables_of-enables.result c.into_lanes-moved.result refl (c.enables_of-enables.ensures ∙ ap (λ x. enables_of x c.args.width) c.from-from.ensures) (c.into_lanes-moved.ensures ∙ ap (λ x. into_lanes x c.args.value) c.from-from.ensures) left r written back is_back c.config_write.new.self c.config_write.ensures)
+    (g.met.R.Route.by_routing e.route e.host c.write_enabled.new.host (routes_after e.host (texts e.names) e.guests.items c.self.invariant.1 c.args.self.now c.self.view_is c.args.guest c.args.slot holds c.args.off c.args.width c.args.value c.requires.width c.requires.aligned (c.args.off / 4 * 4) c.enables_of-enables.result c.into_lanes-moved.result refl (c.enables_of-enables.ensures ∙ ap (λ x. enables_of x c.args.width) c.from-from.ensures) (c.into_lanes-moved.ensures ∙ ap (λ x. into_lanes x c.args.value) c.from-from.ensures) left r written back is_back c.write_enabled.new.host (latch_clear e.host c.write_enabled.new.host _ (ap (λ s. s.latch) c.self.invariant.1.agrees) c.write_enabled.ensures)) c.self.invariant.0, sound_after e.host (texts e.names) e.guests.items c.self.invariant.1 c.args.self.now c.self.view_is c.args.guest c.args.slot holds c.args.off c.args.width c.args.value c.requires.width c.requires.aligned (c.args.off / 4 * 4) c.enables_of-enables.result c.into_lanes-moved.result refl (c.enables_of-enables.ensures ∙ ap (λ x. enables_of x c.args.width) c.from-from.ensures) (c.into_lanes-moved.ensures ∙ ap (λ x. into_lanes x c.args.value) c.from-from.ensures) left r written back is_back c.write_enabled.new.host (latch_clear e.host c.write_enabled.new.host _ (ap (λ s. s.latch) c.self.invariant.1.agrees) c.write_enabled.ensures))
 
 pub returns : goal.returns
 returns g c =
@@ -92,4 +93,4 @@ returns g c =
     subst (λ (gs : List Guest). (h : HoldsAt gs c.args.guest c.args.slot) → WritesGuest gs c.args.guest c.args.slot h (c.args.off / 4 * 4) c.enables_of-enables.result c.into_lanes-moved.result left r) c.deref_mut.ensures.value c.write_guest-others.ensures holds in
     let back = take e.guests.len (left ++ drop (length left) e.guests.items) in
     let is_back : back ≡ left = given_back left (drop (length left) e.guests.items) e.guests.len (c.write_guest-others.auto.guests ∙ c.deref_mut.ensures.len) in
-    world_after e.host (texts e.names) e.guests.items c.self.invariant.1 c.args.self.now c.self.view_is c.args.guest c.args.slot holds c.args.off c.args.width c.args.value c.requires.width c.requires.aligned (c.args.off / 4 * 4) c.enables_of-enables.result c.into_lanes-moved.result refl (c.enables_of-enables.ensures ∙ ap (λ x. enables_of x c.args.width) c.from-from.ensures) (c.into_lanes-moved.ensures ∙ ap (λ x. into_lanes x c.args.value) c.from-from.ensures) left r written back is_back c.config_write.new.self c.config_write.ensures
+    world_after e.host (texts e.names) e.guests.items c.self.invariant.1 c.args.self.now c.self.view_is c.args.guest c.args.slot holds c.args.off c.args.width c.args.value c.requires.width c.requires.aligned (c.args.off / 4 * 4) c.enables_of-enables.result c.into_lanes-moved.result refl (c.enables_of-enables.ensures ∙ ap (λ x. enables_of x c.args.width) c.from-from.ensures) (c.into_lanes-moved.ensures ∙ ap (λ x. into_lanes x c.args.value) c.from-from.ensures) left r written back is_back c.write_enabled.new.host (latch_clear e.host c.write_enabled.new.host _ (ap (λ s. s.latch) c.self.invariant.1.agrees) c.write_enabled.ensures)
