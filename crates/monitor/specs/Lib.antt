@@ -5,3 +5,4 @@ pub mod Landings
 pub mod Reaches
 pub mod Configs
 pub mod Moves
+pub mod Raises

@@ -11,7 +11,7 @@ ghost use Rattle.model_guests.specs.Lines.{guest_event, host_move};
 ghost use Rattle.model_guests.specs.WorldNow.{names_now, host_reply, move_reply, after_meaning};
 ghost use Rattle.bars.specs.Kinds.{named_space};
 ghost use Rattle.host_bridge.specs.BusAddresses.{bus_address_of};
-ghost use Rattle.accesses.specs.Accesses.{access_of, host_access_of, op_of, reply_of};
+ghost use Rattle.accesses.specs.Accesses.{access_of, host_access_of, op_of, part_of, reply_of};
 ghost use Rattle.accesses.specs.Replies.{IsShown};
 ghost use Rattle.monitor.specs.Views.{texts};
 ghost use Rattle.monitor.specs.ByIndex.{name_nth, lone_nth, with_lone_nth};
@@ -25,7 +25,8 @@ use crate::guest::Guest;
 use crate::landing::landing;
 use crate::latch::{is_latch, write_latch};
 use crate::moving::{hand_over, move_fault};
-use accesses::{Access, At, HostAccess, HostAt, Names, Op, Reply, nothing};
+use crate::raising::{has_place, raise_on_board};
+use accesses::{Access, At, HostAccess, HostAt, Names, Op, Place, Reply, nothing};
 use bars::Space;
 use config_bytes::{enables_of, into_lanes, lowered};
 use guest_functions::Select;
@@ -221,6 +222,52 @@ impl<R: Route> Engine<R> {
     {
         let _ = &self.names;
         self.access(guest, access)
+    }
+
+    /// Raises bits of one cell of a function of a guest by its index, or refuses and changes nothing.
+    fn raise_nth(&mut self, guest: usize, slot: u64, place: Place, off: u64, mask: u8) -> Reply
+        requires { guest < length self.old.guests }
+        ensures reply { let e = guests.raises (record { slot = slot; part = part_of place; offset = off; mask = mask }) in
+            reply_of result ≡ answer (lone_nth self.old guest) e }
+        ensures after { let e = guests.raises (record { slot = slot; part = part_of place; offset = off; mask = mask }) in
+            self.new ≡ with_lone_nth guest (after_event (lone_nth self.old guest) e) self.old }
+        ensures shown { IsShown result }
+    {
+        if slot > 31 {
+            return Reply::Refused(303);
+        }
+        let Some(held) = held_in(&self.guests[guest].slots, slot as usize) else {
+            return Reply::Refused(601);
+        };
+        if !has_place(held, place, off) {
+            return Reply::Refused(303);
+        }
+        raise_on_board(&mut self.host, &held.path, place, off, mask);
+        Reply::Done
+    }
+
+    /// Raises bits of one cell of a guest's function as its device does, or refuses and changes nothing:
+    /// 303 for a slot above 31, else 601 for an empty slot, else 303 for a configuration offset above
+    /// 255, a base address register at which no region begins or an offset that is not below the
+    /// region's size. Where no cell stands, or one of the guest's own copies, nothing changes. No memory
+    /// is taken.
+    pub(crate) fn raise(
+        &mut self,
+        guest: usize,
+        slot: u64,
+        place: Place,
+        off: u64,
+        mask: u8,
+    ) -> Reply
+        requires { guest < length self.old.guests }
+        ensures reply { let e = guests.raises (record { slot = slot; part = part_of place; offset = off; mask = mask }) in
+            reply_of result ≡ answer (lone_of self.old.guests (name_nth self.old guest)) e }
+        ensures after { let e = guests.raises (record { slot = slot; part = part_of place; offset = off; mask = mask }) in
+            self.new ≡ after_meaning self.old (guest_event (name_nth self.old guest) e) }
+        ensures shown { IsShown result }
+    {
+        let _ = &self.names;
+        self.raise_nth(guest, slot, place, off, mask)
     }
 
     /// Moves the function in a slot to a slot of a guest. Nothing is carried over: the function is then at

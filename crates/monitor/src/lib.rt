@@ -10,6 +10,7 @@ mod landing;
 mod latch;
 mod monitor;
 mod moving;
+mod raising;
 
 pub use accesses::{Access, At, Bdf, GuestDecl, HostAccess, HostAt, Names, Op, Place, Reply};
 pub use monitor::Monitor;

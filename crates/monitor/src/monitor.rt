@@ -5,14 +5,14 @@ ghost use Rattle.model_guests.specs.Lone.{answer};
 ghost use Rattle.model_guests.specs.Guests.{lone_of};
 ghost use Rattle.model_guests.specs.Lines.{guest_event, host_move};
 ghost use Rattle.model_guests.specs.WorldNow.{names_now, host_reply, move_reply, after_meaning};
-ghost use Rattle.accesses.specs.Accesses.{access_of, host_access_of, reply_of};
+ghost use Rattle.accesses.specs.Accesses.{access_of, host_access_of, part_of, reply_of};
 ghost use Rattle.accesses.specs.Replies.{IsShown};
 ghost use Rattle.monitor.specs.Views.{texts};
 ghost use Rattle.monitor.specs.ByIndex.{name_nth};
 ghost use Rattle.monitor.specs.Moves.{move_nth};
 
 use crate::engine::Engine;
-use accesses::{Access, HostAccess, Names, Reply};
+use accesses::{Access, HostAccess, Names, Place, Reply};
 use host_bridge::TreeWalk;
 use std::marker::Model;
 
@@ -51,6 +51,22 @@ impl Monitor {
         ensures shown { IsShown result }
     {
         self.engine.step(guest, access)
+    }
+
+    /// Raises bits of one cell of a guest's function as its device does, or refuses and changes nothing:
+    /// 303 for a slot above 31, else 601 for an empty slot, else 303 for a configuration offset above
+    /// 255, a base address register at which no region begins or an offset that is not below the
+    /// region's size. Where no cell stands, or one of the guest's own copies, nothing changes. No memory
+    /// is taken.
+    pub fn raise(&mut self, guest: usize, slot: u64, place: Place, off: u64, mask: u8) -> Reply
+        requires { guest < length self.old.guests }
+        ensures reply { let e = guests.raises (record { slot = slot; part = part_of place; offset = off; mask = mask }) in
+            reply_of result ≡ answer (lone_of self.old.guests (name_nth self.old guest)) e }
+        ensures after { let e = guests.raises (record { slot = slot; part = part_of place; offset = off; mask = mask }) in
+            self.new ≡ after_meaning self.old (guest_event (name_nth self.old guest) e) }
+        ensures shown { IsShown result }
+    {
+        self.engine.raise(guest, slot, place, off, mask)
     }
 
     /// Moves the function in a slot to a slot of a guest. Nothing is carried over: the function is then at

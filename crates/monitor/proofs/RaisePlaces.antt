@@ -1,0 +1,87 @@
+-- The place that a raise names, by the regions that are kept at the indices of their registers.
+use Rattle.std.proofs.Common.{◌≡◌, ℕ, zero, suc, ◌+◌, ◌<◌, ◌&&◌, ◌||◌, Bool, true, false, cond, eqb, List, [], ◌∷◌, Some, None, Option, refl, sym, ap, ap₂, ◌∙◌, arith}
+use Rattle.std.specs.Prelude.{map, is_some, nat_lt}
+use Rattle.std.specs.List.{list_any}
+use Rattle.std.specs.Option.{option_map_or}
+use Rattle.std.proofs.lemmas.Bool.Decides.{nat_tests}
+use Rattle.model_registers.specs.Registers.{Place, block, raise}
+use Rattle.model_registers.specs.Declarations.{Region}
+use Rattle.model_registers.specs.EndpointTable.{BaseAddress}
+use Rattle.model_registers.specs.OwnCopies.{is_own}
+use Rattle.model_registers.specs.Decoding.{Function}
+use Rattle.model_board.specs.Paths.{Path, path_eq}
+use Rattle.model_board.specs.Board.{Board}
+use Rattle.model_board.specs.Pools.{Apertures}
+use Rattle.model_board.specs.State.{BoardFunction, with_file}
+use Rattle.model_board.specs.SetUpWrites.{placed_base}
+use Rattle.model_guests.specs.Accesses.{in_region}
+use Rattle.model_guests.specs.Slots.{raise_place}
+use Rattle.bars.specs.Slots.{bases_from, slot_at}
+use Rattle.bars.specs.declared.region.Region as program
+use Rattle.monitor.specs.declared.guest.Held.{Held}
+use Rattle.monitor.specs.Keeping.{IsHeld}
+use Rattle.monitor.specs.Raises.{raised_beside_copies}
+
+-- ---- a region in the six registers
+
+-- a base address register at an index, with an offset below its size
+abbrev reaches : ℕ → ℕ → BaseAddress → Bool
+reaches n off x = eqb x.index n && nat_lt off x.size
+
+abbrev kept_size : ℕ → Option program.Region → Bool
+kept_size off o = option_map_or (λ (r : program.Region). nat_lt off r.decl.size) o false
+
+none_below : (n k off : ℕ) (slots : List (Option program.Region)) → n < k → list_any (reaches n off) (bases_from k slots) ≡ false
+none_below n k off [] h = refl
+none_below n k off (None ∷ slots) h = none_below n (k + 1) off slots (omega arith)
+none_below n k off (Some r ∷ slots) h =
+    let other : eqb k n ≡ false = grind (arith, nat_tests) in
+    ap₂ (λ (t u : Bool). (t && nat_lt off r.decl.size) || u) other (none_below n (k + 1) off slots (omega arith))
+
+any_kept : (n k off : ℕ) (slots : List (Option program.Region)) → list_any (reaches (k + n) off) (bases_from k slots) ≡ kept_size off (slot_at slots n)
+any_kept n k off [] = refl
+any_kept zero k off (None ∷ slots) = none_below (k + 0) (k + 1) off slots (omega arith)
+any_kept zero k off (Some r ∷ slots) =
+    let same : eqb k (k + 0) ≡ true = grind (arith, nat_tests) in
+    ap₂ (λ (t u : Bool). (t && nat_lt off r.decl.size) || u) same (none_below (k + 0) (k + 1) off slots (omega arith)) ∙ or_false (nat_lt off r.decl.size)
+  where
+    or_false : (t : Bool) → (t || false) ≡ t
+    or_false true = refl
+    or_false false = refl
+any_kept (suc n) k off (None ∷ slots) =
+    let next : k + suc n ≡ k + 1 + n = omega arith in
+    ap (λ (m : ℕ). list_any (reaches m off) (bases_from (k + 1) slots)) next ∙ any_kept n (k + 1) off slots
+any_kept (suc n) k off (Some r ∷ slots) =
+    let next : k + suc n ≡ k + 1 + n = omega arith in
+    let other : eqb k (k + suc n) ≡ false = grind (arith, nat_tests) in
+    ap (λ (t : Bool). (t && nat_lt off r.decl.size) || list_any (reaches (k + suc n) off) (bases_from (k + 1) slots)) other
+    ∙ ap (λ (m : ℕ). list_any (reaches m off) (bases_from (k + 1) slots)) next ∙ any_kept n (k + 1) off slots
+
+-- ---- a region of the declaration
+
+any_placed : (b : Board) (a : Apertures) (p : Path) (n off : ℕ) (rs : List Region) → list_any (reaches n off) (map (placed_base b a p) rs) ≡ list_any (λ (r : Region). eqb r.index n && nat_lt off r.size) rs
+any_placed b a p n off [] = refl
+any_placed b a p n off (r ∷ rs) = ap (λ (t : Bool). (eqb r.index n && nat_lt off r.size) || t) (any_placed b a p n off rs)
+
+pub region_reaches : (b : Board) (a : Apertures) (p : Path) (f : Function) (h : Held) (n off : ℕ) (o : Option program.Region) → IsHeld b a p f h → slot_at h.placed n ≡ o
+    → kept_size off o ≡ is_some (raise_place f (in_region n) off)
+region_reaches b a p f h n off o held at =
+    let zero_on : 0 + n ≡ n = omega arith in
+    ap (kept_size off) (sym at) ∙ sym (any_kept n 0 off h.placed) ∙ ap (λ (m : ℕ). list_any (reaches m off) (bases_from 0 h.placed)) zero_on
+    ∙ ap (list_any (reaches n off)) held.placed ∙ any_placed b a p n off f.decl.regions
+    ∙ some_if (list_any (λ (r : Region). eqb r.index n && nat_lt off r.size) f.decl.regions) (block n off)
+  where
+    some_if : (t : Bool) (q : Place) → t ≡ is_some (cond t (Some q) None)
+    some_if true q = refl
+    some_if false q = refl
+
+-- ---- bytes of which guests have a copy
+
+-- such a raise leaves the functions of the board
+pub copies_left : (mask : ℕ) (q : Place) (p : Path) (fs : List BoardFunction) → is_own q ≡ true → with_file (raised_beside_copies mask q) p fs ≡ fs
+copies_left mask q p [] own = refl
+copies_left mask q p (f ∷ fs) own = ap₂ (λ (x : BoardFunction) (xs : List BoardFunction). x ∷ xs) (one (path_eq f.path p)) (copies_left mask q p fs own)
+  where
+    one : (t : Bool) → cond t (record f { file = raised_beside_copies mask q f.file }) f ≡ f
+    one true = ap (λ (t : Bool). record f { file = cond t f.file (raise mask q f.file) }) own
+    one false = refl

@@ -1,0 +1,18 @@
+use Rattle.std.proofs.Common.{◌∙◌, sym, ap, subst}
+use Rattle.model_guests.specs.Accesses as guests
+use Rattle.model_guests.specs.Lone.{LoneGuest, answer}
+use Rattle.monitor.proofs.Named.{AreApart, lone_named, after_named}
+use Rattle.monitor.proofs.RaiseSteps.{raise_of}
+use Rattle.monitor.proofs.engine.Engine.raise.Goals as goal
+
+pub returns-clause-reply : goal.returns-clause-reply
+returns-clause-reply g c =
+    c.raise_nth.ensures.reply
+    ∙ ap (λ (l : LoneGuest). answer l (guests.raises (raise_of c.args.slot c.args.place c.args.off c.args.mask)))
+    (sym (lone_named c.args.self.now (subst AreApart c.self.view_is c.self.invariant.1.seated.names_apart) c.args.guest c.requires))
+
+pub returns-clause-after : goal.returns-clause-after
+returns-clause-after g c =
+    c.raise_nth.ensures.after
+    ∙ after_named c.args.self.now (subst AreApart c.self.view_is c.self.invariant.1.seated.names_apart) c.args.guest c.requires
+    (guests.raises (raise_of c.args.slot c.args.place c.args.off c.args.mask))

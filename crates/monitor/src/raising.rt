@@ -1,0 +1,57 @@
+//! Bits that a device raises in a function of a guest.
+ghost use Rattle.std.specs.Prelude.{◌≡◌, IsSome, is_some};
+ghost use Rattle.model_registers.specs.Decoding.{Function};
+ghost use Rattle.model_registers.specs.OwnCopies.{is_own};
+ghost use Rattle.model_board.specs.Paths.{Path};
+ghost use Rattle.model_board.specs.Board.{Board};
+ghost use Rattle.model_board.specs.Pools.{Apertures};
+ghost use Rattle.model_board.specs.State.{with_file};
+ghost use Rattle.model_guests.specs.Slots.{raise_place};
+ghost use Rattle.headers.specs.Places.{place_of};
+ghost use Rattle.bridge_forward.specs.Lending.{endpoint_at};
+ghost use Rattle.host_bridge.specs.HostState.{with_functions};
+ghost use Rattle.accesses.specs.Accesses.{part_of};
+ghost use Rattle.monitor.specs.Keeping.{IsHeld};
+ghost use Rattle.monitor.specs.Raises.{raised_beside_copies};
+
+use crate::guest::Held;
+use accesses::Place;
+use bridge_forward::Path;
+use host_bridge::Host;
+
+/// Whether a function in a slot has the byte: an offset of its configuration space, or one below the
+/// size of the region that begins at a base address register.
+pub(crate) fn has_place(held: &Held, place: Place, off: u64) -> bool
+    ensures { (b : Board) (a : Apertures) (p : Path) (f : Function) → IsHeld b a p f held.now → result ≡ is_some (raise_place f (part_of place) off) }
+{
+    match place {
+        Place::Cfg => off <= 255,
+        Place::Bar(reg) => match held.placed.get(usize::from(reg)) {
+            Some(Some(region)) => off < region.decl.size(),
+            Some(None) => false,
+            None => false,
+        },
+    }
+}
+
+/// Whether guests have a copy of the byte: Command, header type and base address registers.
+fn is_own(place: Place, off: u64) -> bool
+    ensures { result ≡ is_own (place_of place off) }
+{
+    match place {
+        Place::Cfg => matches!(off, 0x04 | 0x05 | 0x0e | 0x10..=0x27),
+        Place::Bar(_) => false,
+    }
+}
+
+/// Raises bits of one cell of a function on the board. Where guests have a copy, nothing changes.
+pub(crate) fn raise_on_board(host: &mut Host, path: &Path, place: Place, off: u64, mask: u8)
+    requires { IsSome (endpoint_at host.old.state.functions path.now) }
+    ensures { let fs = host.old.state.functions in
+        host.new ≡ with_functions (with_file (raised_beside_copies mask (place_of place off)) path.now fs) host.old }
+{
+    if is_own(place, off) {
+        return;
+    }
+    host.raise(path, place, off, mask);
+}
