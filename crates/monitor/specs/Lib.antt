@@ -6,3 +6,4 @@ pub mod Reaches
 pub mod Configs
 pub mod Moves
 pub mod Raises
+pub mod Beginnings

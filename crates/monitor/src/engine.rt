@@ -59,6 +59,23 @@ impl<R: Route> Model for Engine<R> {
 }
 
 impl<R: Route> Engine<R> {
+    ghost use Rattle.monitor.specs.Views.{texts, world_shown};
+    ghost use Rattle.monitor.specs.Keeping.{IsSound};
+
+    /// A host whose board agrees with these guests.
+    pub(crate) fn new(host: Host, route: R, names: Names, guests: Vec<Guest>) -> Engine<R>
+        requires fits { R.fits route host }
+        requires sound { IsSound host (texts names) guests.items }
+        ensures { result ≡ world_shown host (texts names) guests.items }
+    {
+        Engine {
+            host,
+            route,
+            names,
+            guests,
+        }
+    }
+
     /// The guests' names, in the order of the guests.
     pub(crate) fn names(&self) -> &Names
         ensures { texts result.now ≡ names_now self.now }

@@ -1,6 +1,7 @@
 //! The monitor, which gives functions of a board to guests.
 #![tactic(auto)]
 
+mod beginning;
 mod board;
 mod config;
 mod cycles;

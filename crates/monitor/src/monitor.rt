@@ -1,26 +1,33 @@
 //! The monitor, which gives functions of a board to guests.
-ghost use Rattle.std.specs.Prelude.{◌≡◌, ◌<◌, length};
+ghost use Rattle.std.specs.Prelude.{◌≡◌, ◌<◌, length, IfOk, IfErr};
 ghost use Rattle.model_guests.specs.Accesses as guests;
+ghost use Rattle.model_guests.specs.World.{HasLawfulGuests};
 ghost use Rattle.model_guests.specs.Lone.{answer};
 ghost use Rattle.model_guests.specs.Guests.{lone_of};
 ghost use Rattle.model_guests.specs.Lines.{guest_event, host_move};
-ghost use Rattle.model_guests.specs.WorldNow.{names_now, host_reply, move_reply, after_meaning};
+ghost use Rattle.model_guests.specs.WorldNow.{world_at_first, names_now, host_reply, move_reply, after_meaning};
+ghost use Rattle.bus_scan.specs.declared.fault.Fault.TheVariants.{Memory};
 ghost use Rattle.accesses.specs.Accesses.{access_of, host_access_of, part_of, reply_of};
 ghost use Rattle.accesses.specs.Replies.{IsShown};
 ghost use Rattle.monitor.specs.Views.{texts};
 ghost use Rattle.monitor.specs.ByIndex.{name_nth};
 ghost use Rattle.monitor.specs.Moves.{move_nth};
+ghost use Rattle.monitor.specs.Beginnings.{world_of};
 
+use crate::beginning::{guests_of, names_of};
 use crate::engine::Engine;
-use accesses::{Access, HostAccess, Names, Place, Reply};
-use host_bridge::TreeWalk;
+use accesses::{Access, GuestDecl, HostAccess, Names, Place, Reply};
+use bus_scan::Fault;
+use claim_table::Table;
+use std::alloc::Global;
 use std::marker::Model;
+use window_packing::Ready;
 
 /// A board that is set up, and the guests to which its functions are given. Guests' bytes stand on the
 /// board, and all else there is as set-up left it.
 #[derive(Drop)]
 pub struct Monitor {
-    engine: Engine<TreeWalk>,
+    engine: Engine<Table>,
 }
 
 impl Model for Monitor {
@@ -32,6 +39,22 @@ impl Model for Monitor {
 }
 
 impl Monitor {
+    /// Gives functions of a board that is set up to guests. Only where memory is out it refuses, and then
+    /// the board is dropped.
+    pub fn new(alloc: Global, ready: Ready, guests: &[GuestDecl]) -> Result<Monitor, Fault>
+        requires { HasLawfulGuests (world_of ready guests.now) }
+        ensures made { IfOk result (λ m. m ≡ world_at_first (world_of ready guests.now)) }
+        ensures refused { IfErr result (λ f. f ≡ Memory) }
+    {
+        let table = Table::build(alloc, &ready)?;
+        let names = names_of(guests);
+        let guests = guests_of(alloc, &ready, guests)?;
+        let (host, _table, _plan) = ready.into_parts();
+        Ok(Monitor {
+            engine: Engine::new(host, table, names, guests),
+        })
+    }
+
     /// The guests' names, in the order of the guests.
     pub fn names(&self) -> &Names
         ensures { texts result.now ≡ names_now self.now }

@@ -1,0 +1,135 @@
+-- Slots and guests, one after the other, as they are before any of them did anything.
+use Rattle.std.proofs.Common.{◌≡◌, ◌≤◌, ◌+◌, ◌-◌, ℕ, zero, suc, List, [], ◌∷◌, ◌++◌, length, take, Option, Some, None, refl, sym, ap, ◌∙◌, subst, arith}
+use Rattle.std.specs.Prelude.{map, flat_map, replicate, slice_get, IsSome}
+use Rattle.std.proofs.lemmas.List.{map-append, length-map}
+use Rattle.model_registers.specs.Lists.{Each}
+use Rattle.model_registers.specs.Decoding.{Function}
+use Rattle.model_registers.specs.Declarations.{Endpoint}
+use Rattle.model_board.specs.Paths.{Path}
+use Rattle.model_board.specs.Board.{Board}
+use Rattle.model_board.specs.Pools.{Apertures}
+use Rattle.model_guests.specs.Text.{Text}
+use Rattle.model_guests.specs.Slots.{Slots, reset_function}
+use Rattle.model_guests.specs.World.{Guest as Declared, World, declared, HasLawfulGuests}
+use Rattle.model_guests.specs.Guests.{GuestNow, GuestsNow, guest_at_first}
+use Rattle.model_guests.proofs.ListFacts.{each_parts, each_at}
+use Rattle.host_bridge.specs.HostState.{HostState}
+use Rattle.window_packing.specs.Readies.{board_below}
+use Rattle.window_packing.proofs.BarLists.{take_at}
+use Rattle.monitor.specs.declared.guest.Held.{Held}
+use Rattle.monitor.specs.declared.guest.Guest.{Guest}
+use Rattle.monitor.specs.Keeping.{IsSlot, AreSlots, IsGuest, AreGuests}
+use Rattle.monitor.specs.Beginnings.{AreSlotsAtFirst}
+
+-- ---- one more
+
+module _ (b : Board) (a : Apertures) where
+  slots_push : (qs : List (Option Path)) (fs : Slots) (os : List (Option Held)) (q : Option Path) (f : Option Function) (o : Option Held) → AreSlots b a qs fs os → IsSlot b a q f o
+      → AreSlots b a (qs ++ q ∷ []) (fs ++ f ∷ []) (os ++ o ∷ [])
+  slots_push [] [] [] q f o are is = (is, tt)
+  slots_push [] [] (p ∷ os) q f o are is = absurd are
+  slots_push [] (g ∷ fs) os q f o are is = absurd are
+  slots_push (p ∷ qs) [] os q f o are is = absurd are
+  slots_push (p ∷ qs) (g ∷ fs) [] q f o are is = absurd are
+  slots_push (p ∷ qs) (g ∷ fs) (k ∷ os) q f o are is = (are.0, slots_push qs fs os q f o are.1 is)
+
+  guests_push : (ts : List Text) (ws : GuestsNow) (gs : List Guest) (t : Text) (w : GuestNow) (g : Guest) → AreGuests b a ts ws gs → IsGuest b a t w g
+      → AreGuests b a (ts ++ t ∷ []) (ws ++ w ∷ []) (gs ++ g ∷ [])
+  guests_push [] [] [] t w g are is = (is, tt)
+  guests_push [] [] (k ∷ gs) t w g are is = absurd are
+  guests_push [] (v ∷ ws) gs t w g are is = absurd are
+  guests_push (s ∷ ts) [] gs t w g are is = absurd are
+  guests_push (s ∷ ts) (v ∷ ws) [] t w g are is = absurd are
+  guests_push (s ∷ ts) (v ∷ ws) (k ∷ gs) t w g are is = (are.0, guests_push ts ws gs t w g are.1 is)
+
+pub map_push : {A B : Type 0} (f : A → B) (xs : List A) (i : ℕ) (x : A) → slice_get xs i ≡ Some x → map f (take (i + 1) xs) ≡ map f (take i xs) ++ f x ∷ []
+map_push f xs i x at = ap (map f) (take_at xs i x at) ∙ map-append f (take i xs) (x ∷ [])
+
+take_past : {A : Type 0} (xs : List A) (i : ℕ) → length xs ≤ i → take i xs ≡ xs
+take_past [] zero h = refl
+take_past [] (suc i) h = refl
+take_past (x ∷ xs) zero h = absurd (omega arith)
+take_past (x ∷ xs) (suc i) h = ap (λ ys. x ∷ ys) (take_past xs i (omega arith))
+
+-- ---- slots
+
+-- with k empty ones
+abbrev pub AreSlotsWith : HostState → List Path → ℕ → List (Option Held) → Type 0
+AreSlotsWith h ps k os = AreSlots (board_below h) h.apertures (map Some ps ++ replicate k None) (map reset_function (map (declared (board_below h)) ps ++ replicate k None)) os
+
+nothing_more : {A : Type 0} (xs : List A) → xs ++ [] ≡ xs
+nothing_more [] = refl
+nothing_more (x ∷ xs) = ap (λ ys. x ∷ ys) (nothing_more xs)
+
+grouped : {A : Type 0} (xs ys zs : List A) → (xs ++ ys) ++ zs ≡ xs ++ (ys ++ zs)
+grouped [] ys zs = refl
+grouped (x ∷ xs) ys zs = ap (λ ws. x ∷ ws) (grouped xs ys zs)
+
+one_more : {A : Type 0} (k : ℕ) (x : A) → replicate k x ++ x ∷ [] ≡ replicate (suc k) x
+one_more zero x = refl
+one_more (suc k) x = ap (λ ys. x ∷ ys) (one_more k x)
+
+module _ (h : HostState) where
+  abbrev b : Board
+  b = board_below h
+
+  pub no_slots : (ps : List Path) → AreSlotsWith h (take 0 ps) 0 []
+  no_slots ps = tt
+
+  pub slot_pushed : (ps : List Path) (i : ℕ) (p : Path) (o : Held) (os : List (Option Held)) → slice_get ps i ≡ Some p → AreSlotsWith h (take i ps) 0 os
+      → IsSlot b h.apertures (Some p) (reset_function (declared b p)) (Some o) → AreSlotsWith h (take (i + 1) ps) 0 (os ++ Some o ∷ [])
+  slot_pushed ps i p o os at are is =
+      let qs : List (Option Path) = map Some (take i ps) in
+      let ds : List (Option Endpoint) = map (declared b) (take i ps) in
+      let paths : (qs ++ []) ++ Some p ∷ [] ≡ map Some (take (i + 1) ps) ++ [] = ap (λ xs. xs ++ Some p ∷ []) (nothing_more qs) ∙ sym (map_push Some ps i p at) ∙ sym (nothing_more (map Some (take (i + 1) ps))) in
+      let decls : (ds ++ []) ++ declared b p ∷ [] ≡ map (declared b) (take (i + 1) ps) ++ [] = ap (λ xs. xs ++ declared b p ∷ []) (nothing_more ds) ∙ sym (map_push (declared b) ps i p at) ∙ sym (nothing_more (map (declared b) (take (i + 1) ps))) in
+      let functions : map reset_function (ds ++ []) ++ reset_function (declared b p) ∷ [] ≡ map reset_function (map (declared b) (take (i + 1) ps) ++ []) = sym (map-append reset_function (ds ++ []) (declared b p ∷ [])) ∙ ap (map reset_function) decls in
+      subst (λ (xs : List (Option Path)). AreSlots b h.apertures xs (map reset_function (map (declared b) (take (i + 1) ps) ++ [])) (os ++ Some o ∷ [])) paths
+      (subst (λ (fs : Slots). AreSlots b h.apertures ((qs ++ []) ++ Some p ∷ []) fs (os ++ Some o ∷ [])) functions
+      (slots_push b h.apertures (qs ++ []) (map reset_function (ds ++ [])) os (Some p) (reset_function (declared b p)) (Some o) are is))
+
+  pub all_filled : (ps : List Path) (i : ℕ) (os : List (Option Held)) → length ps ≤ i → AreSlotsWith h (take i ps) 0 os → (k : ℕ) → k ≡ 0 → AreSlotsWith h ps k os
+  all_filled ps i os past are k none =
+      subst (λ n. AreSlotsWith h ps n os) (sym none) (subst (λ (qs : List Path). AreSlotsWith h qs 0 os) (take_past ps i past) are)
+
+  pub empty_pushed : (ps : List Path) (k : ℕ) (os : List (Option Held)) → AreSlotsWith h ps k os → AreSlotsWith h ps (suc k) (os ++ None ∷ [])
+  empty_pushed ps k os are =
+      let qs : List (Option Path) = map Some ps in
+      let ds : List (Option Endpoint) = map (declared b) ps in
+      let paths : (qs ++ replicate k None) ++ None ∷ [] ≡ qs ++ replicate (suc k) None = grouped qs (replicate k None) (None ∷ []) ∙ ap (λ xs. qs ++ xs) (one_more k None) in
+      let decls : (ds ++ replicate k None) ++ None ∷ [] ≡ ds ++ replicate (suc k) None = grouped ds (replicate k None) (None ∷ []) ∙ ap (λ xs. ds ++ xs) (one_more k None) in
+      let functions : map reset_function (ds ++ replicate k None) ++ None ∷ [] ≡ map reset_function (ds ++ replicate (suc k) None) = sym (map-append reset_function (ds ++ replicate k None) (None ∷ [])) ∙ ap (map reset_function) decls in
+      subst (λ (xs : List (Option Path)). AreSlots b h.apertures xs (map reset_function (ds ++ replicate (suc k) None)) (os ++ None ∷ [])) paths
+      (subst (λ (fs : Slots). AreSlots b h.apertures ((qs ++ replicate k None) ++ None ∷ []) fs (os ++ None ∷ [])) functions
+      (slots_push b h.apertures (qs ++ replicate k None) (map reset_function (ds ++ replicate k None)) os None None None are tt))
+
+  pub all_slots : (ps : List Path) (k : ℕ) (os : List (Option Held)) → k ≡ 32 - length ps → AreSlotsWith h ps k os → AreSlotsAtFirst h ps os
+  all_slots ps k os all are =
+      let short : 32 - length (map (declared b) ps) ≡ 32 - length ps = ap (λ n. 32 - n) (length-map ps (declared b)) in
+      subst (λ n. AreSlots b h.apertures (map Some ps ++ replicate (32 - length ps) None) (map reset_function (map (declared b) ps ++ replicate n None)) os) (sym short)
+      (subst (λ n. AreSlotsWith h ps n os) all are)
+
+-- ---- guests
+
+of_guest : (P : Path → Type 0) (gs : List Declared) (i : ℕ) (g : Declared) → Each P (flat_map (λ (g : Declared). g.slots) gs) → slice_get gs i ≡ Some g → Each P g.slots
+of_guest P [] i g all at = cc
+of_guest P (k ∷ gs) zero g all at = let same : k ≡ g = cc in subst (λ (x : Declared). Each P x.slots) same (each_parts P k.slots (flat_map (λ (g : Declared). g.slots) gs) all).0
+of_guest P (k ∷ gs) (suc i) g all at = of_guest P gs i g (each_parts P k.slots (flat_map (λ (g : Declared). g.slots) gs) all).1 at
+
+module _ (w : World) where
+  pub few_slots : HasLawfulGuests w → (i : ℕ) (g : Declared) → slice_get w.guests i ≡ Some g → length g.slots ≤ 32
+  few_slots lawful i g at = each_at (λ (g : Declared). length g.slots ≤ 32) w.guests i g lawful.few_slots at
+
+  pub slots_declared : HasLawfulGuests w → (i : ℕ) (g : Declared) → slice_get w.guests i ≡ Some g → Each (λ p. IsSome (declared w.board p)) g.slots
+  slots_declared lawful i g at = of_guest (λ p. IsSome (declared w.board p)) w.guests i g lawful.endpoints at
+
+  abbrev pub AreFirst : List Declared → List Guest → Type 0
+  AreFirst ds gs = AreGuests w.board w.apertures (map (λ (g : Declared). g.name) ds) (map (guest_at_first w) ds) gs
+
+  pub guest_pushed : (ds : List Declared) (i : ℕ) (d : Declared) (g : Guest) (gs : List Guest) → slice_get ds i ≡ Some d → AreFirst (take i ds) gs
+      → g.latch ≡ 0 → AreSlots w.board w.apertures (guest_at_first w d).paths (guest_at_first w d).lone.slots g.slots.items → AreFirst (take (i + 1) ds) (gs ++ g ∷ [])
+  guest_pushed ds i d g gs at are latch slots =
+      subst (λ (ts : List Text). AreGuests w.board w.apertures ts (map (guest_at_first w) (take (i + 1) ds)) (gs ++ g ∷ [])) (sym (map_push (λ (g : Declared). g.name) ds i d at))
+      (subst (λ (ws : GuestsNow). AreGuests w.board w.apertures (map (λ (g : Declared). g.name) (take i ds) ++ d.name ∷ []) ws (gs ++ g ∷ [])) (sym (map_push (guest_at_first w) ds i d at))
+      (guests_push w.board w.apertures (map (λ (g : Declared). g.name) (take i ds)) (map (guest_at_first w) (take i ds)) gs d.name (guest_at_first w d) g are
+      (record { name_is = refl; latch = sym latch; slots = slots })))
