@@ -1,0 +1,12 @@
+//! Lines of a script: what they mean, and the lines that answer them.
+#![tactic(auto)]
+
+mod forms;
+mod line;
+mod numbers;
+mod replies;
+mod words;
+
+pub use line::{Line, What, Who, parse_line};
+pub use replies::{LineText, line_text};
+pub use words::next_line;

@@ -1,0 +1,99 @@
+//! The text of output lines.
+ghost use Rattle.std.specs.Prelude.{◌≡◌, ◌≤◌, ◌<◌, ◌+◌, ◌++◌, ◌∷◌, [], false, true, length, codes, decimal};
+ghost use Rattle.std.specs.Fmt.{digit_glyph};
+ghost use Rattle.model_guests.specs.Replies.{who_text, line_text, hex_digits, refusal_words};
+ghost use Rattle.accesses.specs.Accesses.{reply_of};
+ghost use Rattle.lines.specs.Lines.{texts, who_of, GuestIs};
+ghost use Rattle.accesses.specs.Replies.{IsShown, has_words};
+
+use crate::line::Who;
+use accesses::{Names, Reply};
+use arrayvec::ArrayVec;
+
+/// An output line with its line feed: a name of at most 16 bytes, a colon and a space, and at most
+/// `refused 402 unknown guest`.
+pub type LineText = ArrayVec<u8, 48>;
+
+/// The text of a refusal.
+fn refusal_text(number: u16) -> &'static [u8]
+    requires { has_words number ≡ true }
+    ensures text { result.now ≡ codes "refused " ++ decimal number ++ codes " " ++ refusal_words number }
+    ensures short { length result.now ≤ 25 }
+{
+    match number {
+        301 => b"refused 301 misaligned",
+        302 => b"refused 302 width",
+        303 => b"refused 303 range",
+        401 => b"refused 401 bad line",
+        402 => b"refused 402 unknown guest",
+        403 => b"refused 403 long line",
+        601 => b"refused 601 empty slot",
+        _ => b"refused 602 slot taken",
+    }
+}
+
+fn digit_glyph(digit: u8) -> u8
+    requires { digit < 16 }
+    ensures { result ≡ digit_glyph false digit }
+{
+    if digit < 10 {
+        b'0' + digit
+    } else {
+        b'a' + (digit - 10)
+    }
+}
+
+fn push_all(text: &mut LineText, bytes: &[u8])
+    requires { length text.old.items + length bytes.now ≤ 48 }
+    ensures items { text.new.items ≡ text.old.items ++ bytes.now }
+    ensures len { length text.new.items ≡ length text.old.items + length bytes.now }
+{
+    let _ = text.try_extend_from_slice(bytes);
+}
+
+/// Appends the low hexadecimal digits of a value, as many as `digits`.
+fn push_hex(text: &mut LineText, value: u32, digits: u32)
+    requires few { digits ≤ 8 }
+    requires room { length text.old.items + digits ≤ 48 }
+    ensures items { text.new.items ≡ text.old.items ++ hex_digits digits value }
+    ensures len { length text.new.items ≡ length text.old.items + digits }
+{
+    for i in 0..digits {
+        let digit = (value >> (4 * (digits - 1 - i))) % 16;
+        text.push(digit_glyph(digit as u8));
+    }
+}
+
+/// The name under which a line is answered.
+fn name_of<'a>(who: Who, names: &'a Names) -> &'a [u8]
+    requires { GuestIs (λ g. g < length names.now.items) who }
+    ensures name { result.now ≡ who_text (who_of (texts names.now) who) }
+    ensures short { length result.now ≤ 16 }
+{
+    match who {
+        Who::Guest(guest) => names.as_slice()[guest].as_str().as_bytes(),
+        Who::Host => b"host",
+        Who::Unknown => b"?",
+    }
+}
+
+/// The output line of a reply, with its line feed.
+pub fn line_text(who: Who, names: &Names, reply: Reply) -> LineText
+    requires who { GuestIs (λ g. g < length names.now.items) who }
+    requires reply { IsShown reply }
+    ensures { result.items ≡ line_text (who_of (texts names.now) who) (reply_of reply) ++ 10 ∷ [] }
+{
+    let mut text = LineText::new();
+    push_all(&mut text, name_of(who, names));
+    push_all(&mut text, b": ");
+    match reply {
+        Reply::Value(value, width) => {
+            push_all(&mut text, b"0x");
+            push_hex(&mut text, value, 2 * width as u32);
+        }
+        Reply::Done => push_all(&mut text, b"ok"),
+        Reply::Refused(number) => push_all(&mut text, refusal_text(number)),
+    }
+    text.push(b'\n');
+    text
+}
