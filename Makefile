@@ -5,7 +5,7 @@ JOBS := $(shell nproc)
 # the lines of a check that tell how far it is: one as a crate begins, one as it is done
 PROGRESS := grep --line-buffered -E '^(== |[a-z_]+: |[0-9]+ of )|^[^ ]*: error|not proved'
 
-.PHONY: demo list test build try clean
+.PHONY: demo list test build bench try clean
 
 # Proves and builds the program, and runs a script over the demo board.
 demo: build
@@ -31,6 +31,12 @@ build:
 	@cd crates/pciguest && rt run -- demo < /dev/null > out/build.log 2>&1 || { cat out/build.log; exit 1; }
 	@cp crates/pciguest/out/pciguest pciguest
 	@echo 'pciguest: proved and built'
+
+# What an access costs, in nanoseconds, on boards of 1, 1003 and 1024 functions.
+bench: build
+	@bench/boards crates/bench_accesses/out/boards
+	@cd crates/bench_accesses && rt run > out/build.log 2>&1 || { cat out/build.log; exit 1; }
+	@bench/run crates/bench_accesses/out/bench_accesses crates/bench_accesses/out/boards
 
 # The demo in about a minute: nothing is proved.
 try:
