@@ -52,18 +52,9 @@ pub(crate) fn endpoint(
         })?;
     }
     let values = EndpointValues {
-        vendor: 0x1234,
-        device: id,
-        revision: 0,
-        class: 0xff_0000,
-        subvendor: 0,
-        subsystem: 0,
         pin: 1,
-        min_gnt: 0,
-        max_lat: 0,
-        status: 0,
         bar,
-        config: Vec::new(alloc),
+        ..EndpointValues::plain(alloc, 0x1234, id, 0xff_0000)
     };
     Ok(Decl {
         path: path(rt, parts),
