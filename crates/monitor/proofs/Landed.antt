@@ -41,11 +41,11 @@ module _ (space : Space) (addr : ℕ) where
     inside = omega (arith, same_count b a qs fs os are)
 
     -- an empty slot
-    pub passed_empty : slice_get os n ≡ Some None → landing_from n space addr (drop n fs) ≡ landing_from (n + 1) space addr (drop (n + 1) fs)
+    pub passed_empty : unwrap_or (slice_get os n) None ≡ None → landing_from n space addr (drop n fs) ≡ landing_from (n + 1) space addr (drop (n + 1) fs)
     passed_empty none =
         next fs n n inside
         ∙ ap (λ (o : Option Function). first_of_two (landing_in n space addr o) (landing_from (n + 1) space addr (drop (n + 1) fs)))
-        (slot_empty b a qs fs os n are (ap (λ (o : Option (Option Held)). unwrap_or o None) none))
+        (slot_empty b a qs fs os n are none)
 
     decoded : (h : Held) → slice_get os n ≡ Some (Some h) → (o : Option Hit) → Decodes h.own space addr o
         → landing_from n space addr (drop n fs)

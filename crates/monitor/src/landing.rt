@@ -9,6 +9,7 @@ ghost use Rattle.monitor.specs.Keeping.{AreSlots};
 ghost use Rattle.monitor.specs.Landings.{landing_of};
 ghost use Rattle.monitor.specs.Reaches.{LandsIn};
 
+use crate::config::held_in;
 use crate::guest::Held;
 use bars::Space;
 
@@ -18,8 +19,8 @@ pub(crate) fn landing(slots: &[Option<Held>], space: Space, addr: u64) -> Option
     ensures landing { (b : Board) (a : Apertures) (qs : List (Option Path)) (fs : Slots) → AreSlots b a qs fs slots.now → option_map landing_of result ≡ landing_from 0 (named_space space) addr fs }
     ensures there { IfSome result (λ l. LandsIn slots.now (named_space space) addr l) }
 {
-    for (slot, place) in slots.iter().enumerate() {
-        if let Some(held) = place {
+    for slot in 0..slots.len() {
+        if let Some(held) = held_in(slots, slot) {
             if let Some((region, offset)) = held.own.decode(space, addr) {
                 return Some((slot, region, offset));
             }
