@@ -2,6 +2,7 @@ pub mod Counts
 pub mod Digits
 pub mod GuestNames
 mod HexDigits
+mod LineEnds
 pub mod NameLemmas
 mod Refusals
 pub mod Splitting

@@ -3,12 +3,13 @@ ghost use Rattle.std.specs.Prelude.{◌≡◌, ◌<◌, ◌∷◌, [], ◌==◌,
 ghost use Rattle.model_guests.specs.Text.{lines, words, is_blank};
 
 use arrayvec::ArrayVec;
+use memchr::memchr;
 
-/// The place of the first line feed.
+/// The place of the first line feed. A search by vectors: a script is mostly lines of some twenty bytes.
 fn line_feed_in(script: &[u8]) -> Option<usize>
     ensures { result ≡ position (λ b. b == 10) script.now }
 {
-    script.iter().position(|byte| *byte == b'\n')
+    memchr(b'\n', script)
 }
 
 /// The first line of a script, without its line feed, and what comes after it.
