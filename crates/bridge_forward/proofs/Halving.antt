@@ -1,15 +1,15 @@
 -- The search for a path among nodes in path order.
-use Rattle.std.proofs.Common.{◌≡◌, ℕ, ◌+◌, ◌<◌, ◌≤◌, Bool, true, false, Some, None, List, length, refl, ap, sym, ◌∙◌, arith, inl, inr, ◌⊎◌, subst}
+use Rattle.std.proofs.Common.{◌≡◌, ℕ, ◌+◌, ◌<◌, ◌≤◌, Bool, true, false, Some, None, List, [], ◌∷◌, ◌++◌, length, refl, ap, sym, ◌∙◌, arith, inl, inr, ◌⊎◌, subst}
 use Rattle.std.specs.Prelude.{find}
 use Rattle.std.specs.List.{slice_get}
 use Rattle.std.proofs.lemmas.Option.{slice_get_within}
-use Rattle.model_board.specs.Paths.{Path, path_eq, path_before}
+use Rattle.model_board.specs.Paths.{Part, Path, path_eq, path_before, leads_to}
 use Rattle.model_board.proofs.PathOrder.{one, path_same, before_trans}
-use Rattle.model_board.proofs.PathEnds.{not_before_itself}
+use Rattle.model_board.proofs.PathEnds.{not_before_itself, leads_self}
 use Rattle.bridge_forward.specs.declared.bus.Node.{Node}
 use Rattle.bridge_forward.specs.Layout.{function_of, functions_of, IsLaidOut}
-use Rattle.bridge_forward.specs.Search.{IsAt}
-use Rattle.bridge_forward.proofs.Nodes.{ordered}
+use Rattle.bridge_forward.specs.Search.{IsSide, IsAt}
+use Rattle.bridge_forward.proofs.Nodes.{ordered, in_side}
 use Rattle.bridge_forward.proofs.Indices.{map_at, at_map, find_at, find_none}
 
 -- the path stands neither below low nor from high on
@@ -41,6 +41,18 @@ differs p q h = by_case (path_eq p q) refl
     by_case : (t : Bool) → path_eq p q ≡ t → path_eq p q ≡ false
     by_case true e = absurd (h e)
     by_case false e = e
+
+-- a function on a bus stands nowhere but among what is behind the bus
+pub halved_side : (nodes : List Node) (laid : IsLaidOut nodes) (bus : Path) (from to : ℕ) (side : IsSide nodes bus from to) (t : Part) → Halved nodes (bus ++ t ∷ []) from to
+halved_side nodes laid bus from to side t = record {
+  below = λ j n l e. outside j n e (λ w. omega (arith, w.0, l));
+  above = λ j n l e. outside j n e (λ w. omega (arith, w.1, l));
+}
+  where
+    outside : (j : ℕ) (n : Node) → slice_get nodes j ≡ Some n → ((from ≤ j) × (j < to) → ⊥) → path_eq n.path (bus ++ t ∷ []) ≡ false
+    outside j n e out = differs n.path (bus ++ t ∷ []) (λ h.
+        let same = path_same n.path (bus ++ t ∷ []) h in
+        out (in_side nodes laid bus from to side j n e (subst (λ (q : Path). leads_to bus q ≡ true) (sym same) (leads_self bus t))))
 
 module _ (nodes : List Node) (laid : IsLaidOut nodes) (path : Path) where
   module _ (i : ℕ) (m : Node) (em : slice_get nodes i ≡ Some m) where

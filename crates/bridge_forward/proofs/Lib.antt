@@ -10,6 +10,7 @@ pub mod Skipping
 pub mod Reaching
 pub mod Reached
 pub mod Halving
+pub mod OnBus
 pub mod Changes
 pub mod Nth
 pub mod Claiming

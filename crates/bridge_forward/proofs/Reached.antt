@@ -1,19 +1,17 @@
 -- What a search along the buses says of the function that a cycle reaches.
-use Rattle.std.proofs.Common.{◌≡◌, ℕ, ◌+◌, true, false, ◌&&◌, Option, Some, None, List, [], length, ap, sym, ◌∙◌, eqb}
+use Rattle.std.proofs.Common.{◌≡◌, ℕ, true, false, ◌&&◌, Option, Some, None, List, ap, sym, ◌∙◌, eqb}
 use Rattle.std.specs.Prelude.{IfSome, IfNone, find, nat_le}
 use Rattle.std.specs.List.{slice_get}
 use Rattle.model_registers.proofs.Tests.{left_true, right_true}
 use Rattle.model_board.specs.Paths.{Path, Part, path_eq, parent}
 use Rattle.model_board.specs.Board.{is_bridge}
 use Rattle.model_board.specs.State.{BoardFunction}
-use Rattle.model_board.specs.Cycles.{secondary_register, subordinate_register, covers, taker, reached_type0, reached_type1}
+use Rattle.model_board.specs.Cycles.{secondary_register, subordinate_register, covers, taker, reached_type1}
 use Rattle.bridge_forward.specs.declared.bus.Node.{Node}
-use Rattle.bridge_forward.specs.declared.walk.Wanted.TheVariants as wanted
 use Rattle.bridge_forward.specs.Layout.{function_of, functions_of, IsLaidOut}
-use Rattle.bridge_forward.specs.Search.{wanted_on, IsSide, IsAt}
+use Rattle.bridge_forward.specs.Search.{is_named, IsAt}
 use Rattle.bridge_forward.proofs.Indices.{same_at, found_at}
-use Rattle.bridge_forward.proofs.Nodes.{side_root, side_behind}
-use Rattle.bridge_forward.proofs.Reaching.{named_on, Passing, passing_next, reached_there, stuck}
+use Rattle.bridge_forward.proofs.Reaching.{Passing, passing_next, reached_there, stuck}
 
 pub if_some : {A : Type 0} (P Q : A → Type 0) (r : Option A) → ((x : A) → P x → Q x) → IfSome r P → IfSome r Q
 if_some P Q None f h = tt
@@ -26,23 +24,10 @@ if_none P Q (Some x) f h = tt
 at_same : (nodes : List Node) (a b : Option BoardFunction) → a ≡ b → (i : ℕ) → IsAt nodes i a → IsAt nodes i b
 at_same nodes a b e i h = record { node = h.node; there = h.there; found = sym e ∙ h.found }
 
--- what the search for a function on one bus gives, and where it finds none
-abbrev Finds : List Node → ℕ → ℕ → ℕ → ℕ → Option ℕ → Type 0
-Finds nodes from to device function r = IfSome r (λ i. (bus : Path) → IsSide nodes bus from to → IsAt nodes i (find (wanted_on bus (wanted.Part device function)) (functions_of nodes)))
-
-abbrev Misses : List Node → ℕ → ℕ → ℕ → ℕ → Option ℕ → Type 0
-Misses nodes from to device function r = IfNone r ((bus : Path) → IsSide nodes bus from to → find (wanted_on bus (wanted.Part device function)) (functions_of nodes) ≡ None)
-
 abbrev part_of : ℕ → ℕ → Part
 part_of device function = record { device = device; function = function }
 
 module _ (nodes : List Node) (laid : IsLaidOut nodes) (device function : ℕ) where
-  pub type0_found : (r : Option ℕ) → Finds nodes 0 (length nodes) device function r → IfSome r (λ i. IsAt nodes i (reached_type0 (functions_of nodes) (part_of device function)))
-  type0_found r h = if_some _ _ r (λ i f. at_same nodes _ _ (named_on nodes laid [] device function) i (f [] (side_root nodes laid))) h
-
-  pub type0_missed : (r : Option ℕ) → Misses nodes 0 (length nodes) device function r → IfNone r (reached_type0 (functions_of nodes) (part_of device function) ≡ None)
-  type0_missed r h = if_none _ _ r (λ f. sym (named_on nodes laid [] device function) ∙ f [] (side_root nodes laid)) h
-
   module _ (n : ℕ) (above : Path) (passing : Passing nodes laid n above) where
     pub no_taker : {A : Type 0} (r : Option A) → taker (functions_of nodes) above n ≡ None → IfNone r (reached_type1 (functions_of nodes) n (part_of device function) ≡ None)
     no_taker None e = stuck nodes laid n above (part_of device function) passing e
@@ -70,10 +55,13 @@ module _ (nodes : List Node) (laid : IsLaidOut nodes) (device function : ℕ) wh
       pub next : eqb (secondary_register (function_of m).file) n ≡ false → Passing nodes laid n m.path
       next d = passing_next nodes laid n above (function_of m) taken passing d
 
-      pub type1_found : eqb (secondary_register (function_of m).file) n ≡ true → (r : Option ℕ) → Finds nodes (i + 1) m.end device function r → IfSome r (λ j. IsAt nodes j (reached_type1 (functions_of nodes) n (part_of device function)))
-      type1_found l r h = if_some _ _ r
-          (λ j f. at_same nodes _ _ (named_on nodes laid m.path device function ∙ sym (reached_there nodes laid n above (function_of m) taken passing l (part_of device function))) j (f m.path (side_behind nodes laid i m e))) h
+      -- what it leads to is the function with the numbers behind it
+      module _ (leads : eqb (secondary_register (function_of m).file) n ≡ true) where
+        behind : reached_type1 (functions_of nodes) n (part_of device function) ≡ find (is_named m.path device function) (functions_of nodes)
+        behind = reached_there nodes laid n above (function_of m) taken passing leads (part_of device function)
 
-      pub type1_missed : eqb (secondary_register (function_of m).file) n ≡ true → (r : Option ℕ) → Misses nodes (i + 1) m.end device function r → IfNone r (reached_type1 (functions_of nodes) n (part_of device function) ≡ None)
-      type1_missed l r h = if_none _ _ r
-          (λ f. reached_there nodes laid n above (function_of m) taken passing l (part_of device function) ∙ sym (named_on nodes laid m.path device function) ∙ f m.path (side_behind nodes laid i m e)) h
+        pub type1_found : (r : Option ℕ) → IfSome r (λ j. IsAt nodes j (find (is_named m.path device function) (functions_of nodes))) → IfSome r (λ j. IsAt nodes j (reached_type1 (functions_of nodes) n (part_of device function)))
+        type1_found r h = if_some _ _ r (λ j f. at_same nodes _ _ (sym behind) j f) h
+
+        pub type1_missed : (r : Option ℕ) → IfNone r (find (is_named m.path device function) (functions_of nodes) ≡ None) → IfNone r (reached_type1 (functions_of nodes) n (part_of device function) ≡ None)
+        type1_missed r h = if_none _ _ r (λ f. behind ∙ f) h

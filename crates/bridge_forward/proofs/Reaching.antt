@@ -6,13 +6,11 @@ use Rattle.std.specs.List.{slice_get}
 use Rattle.model_registers.proofs.Tests.{left_true, right_true}
 use Rattle.model_board.specs.Paths.{Part, Path, part_eq, path_eq, parent, last_part}
 use Rattle.model_board.specs.State.{BoardFunction}
-use Rattle.model_board.specs.Cycles.{secondary_register, taker, takes, is_route, ends_in, reached_type0, reached_type1}
+use Rattle.model_board.specs.Cycles.{secondary_register, taker, takes, is_route, ends_in, reached_type1}
 use Rattle.model_board.proofs.PathOrder.{part_same, path_same}
 use Rattle.model_board.proofs.PathEnds.{snoc, part_self, path_self}
 use Rattle.bridge_forward.specs.declared.bus.Node.{Node}
-use Rattle.bridge_forward.specs.declared.walk.Wanted.TheVariants as wanted
 use Rattle.bridge_forward.specs.Layout.{function_of, functions_of, IsLaidOut}
-use Rattle.bridge_forward.specs.Search.{wanted_on}
 use Rattle.bridge_forward.proofs.Indices.{at_map, find_none, found_at}
 use Rattle.bridge_forward.proofs.Nodes.{path_of}
 
@@ -29,33 +27,9 @@ and_false : (a : Bool) → (a && false) ≡ false
 and_false true = refl
 and_false false = refl
 
-and_true : (a : Bool) → (a && true) ≡ a
-and_true true = refl
-and_true false = refl
-
-and_assoc : (a b c : Bool) → (a && (b && c)) ≡ ((a && b) && c)
-and_assoc true b c = refl
-and_assoc false b c = refl
-
--- paths are the same where parents and last parts are
-eq_ends : (a b : Path) (x y : Part) → path_eq (a ++ x ∷ []) (b ++ y ∷ []) ≡ (path_eq a b && part_eq x y)
-eq_ends [] [] x y = and_true (part_eq x y)
-eq_ends [] (b ∷ []) x y = and_false (part_eq x b)
-eq_ends [] (b ∷ c ∷ bs) x y = and_false (part_eq x b)
-eq_ends (a ∷ []) [] x y = and_false (part_eq a y)
-eq_ends (a ∷ c ∷ ps) [] x y = and_false (part_eq a y)
-eq_ends (a ∷ ps) (b ∷ bs) x y = ap (λ t. part_eq a b && t) (eq_ends ps bs x y) ∙ and_assoc (part_eq a b) (path_eq ps bs) (part_eq x y)
-
--- the function with a part on a bus has the bus's path and that part
-pub eq_path : (bus p : Path) (t : Part) → 0 < length p → path_eq p (bus ++ t ∷ []) ≡ (path_eq (parent p) bus && part_eq (last_part p) t)
-eq_path bus p t some = ap (λ q. path_eq q (bus ++ t ∷ [])) (snoc p some) ∙ eq_ends (parent p) bus (last_part p) t
-
 module _ (nodes : List Node) (laid : IsLaidOut nodes) where
   some_path : (j : ℕ) (f : BoardFunction) → slice_get (functions_of nodes) j ≡ Some f → 0 < length f.path
   some_path j f e = let m = at_map function_of nodes j f e in subst (λ (g : BoardFunction). 0 < length g.path) (sym m.2) (path_of nodes laid j m.0 m.1).some
-
-  pub named_on : (bus : Path) (device function : ℕ) → find (wanted_on bus (wanted.Part device function)) (functions_of nodes) ≡ find (λ f. path_eq f.path (bus ++ record { device = device; function = function } ∷ [])) (functions_of nodes)
-  named_on bus device function = find_same _ _ (functions_of nodes) (λ j f e. sym (eq_path bus f.path (record { device = device; function = function }) (some_path j f e)))
 
   module _ (n : ℕ) where
     abbrev fs : List BoardFunction

@@ -1,5 +1,5 @@
 -- What a search for a bridge may pass: functions that are no bridges, with nothing behind them.
-use Rattle.std.proofs.Common.{◌≡◌, ◌≢◌, ℕ, zero, suc, ◌+◌, ◌-◌, ◌<◌, ◌≤◌, ◌⊎◌, inl, inr, Bool, true, false, ◌&&◌, not, cond, Some, None, List, [], ◌∷◌, length, map, refl, ap, sym, ◌∙◌, subst, arith}
+use Rattle.std.proofs.Common.{◌≡◌, ◌≢◌, ℕ, zero, suc, ◌+◌, ◌-◌, ◌<◌, ◌≤◌, ◌⊎◌, inl, inr, Bool, true, false, ◌&&◌, not, cond, Some, List, [], ◌∷◌, length, refl, ap, sym, ◌∙◌, subst, arith}
 use Rattle.std.specs.Prelude.{◌==◌, nat_le}
 use Rattle.std.specs.List.{slice_get, slice_set}
 use Rattle.std.proofs.lemmas.Bool.{eqb-true}
@@ -9,16 +9,13 @@ use Rattle.model_registers.specs.Decoding as decoding
 use Rattle.model_registers.proofs.Tests.{left_true, right_true}
 use Rattle.model_board.specs.Paths.{Path}
 use Rattle.model_board.specs.Board.{is_bridge}
-use Rattle.model_board.specs.State.{BoardFunction}
 use Rattle.model_board.specs.Cycles.{secondary_register, subordinate_register, covers}
 use Rattle.bridge_forward.specs.declared.bus.Node.{Node}
 use Rattle.bridge_forward.specs.declared.function.Function.{Function}
 use Rattle.bridge_forward.specs.declared.function.Function.TheVariants.{Endpoint, Bridge}
-use Rattle.bridge_forward.specs.declared.walk.Wanted.{Wanted}
-use Rattle.bridge_forward.specs.declared.walk.Wanted.TheVariants.{Part, Covering}
 use Rattle.bridge_forward.specs.Functions.{decl_of, with_cells}
 use Rattle.bridge_forward.specs.Layout.{function_of, functions_of, paths_of, ends_of, AreLaid, IsLaidOut}
-use Rattle.bridge_forward.specs.Skips.{AreSkipped, HasSkips, IsTree, is_passed, first_bridge, skipped_to}
+use Rattle.bridge_forward.specs.Skips.{AreSkipped, IsTree, is_passed, first_bridge}
 use Rattle.bridge_forward.specs.Search.{IsSide}
 use Rattle.bridge_forward.proofs.Indices.{at_below, map_at, map_set, set_same, same_at}
 use Rattle.bridge_forward.proofs.Searching.{Passed, passed_next}
@@ -73,39 +70,33 @@ covers_none : (n : ℕ) (m : Node) → is_bridge (decl_of m.function) ≡ false 
 covers_none n m h = ap (λ t. (t && nat_le (secondary_register (function_of m).file) n) && nat_le n (subordinate_register (function_of m).file)) h
 
 module _ (nodes : List Node) (laid : IsLaidOut nodes) (bus : Path) (n from to : ℕ) (side : IsSide nodes bus from to) where
-  passed_run : (k i : ℕ) → Passed nodes laid bus (Covering n) from to side i → ((j : ℕ) (m : Node) → i ≤ j → j < i + k → slice_get nodes j ≡ Some m → (m.end ≡ j + 1) × (is_bridge (decl_of m.function) ≡ false))
-      → from ≤ i → i + k ≤ to → Passed nodes laid bus (Covering n) from to side (i + k)
-  passed_run zero i p leaves l h = let same : i ≡ i + 0 = omega arith in subst (Passed nodes laid bus (Covering n) from to side) same p
+  passed_run : (k i : ℕ) → Passed nodes laid bus n from to side i → ((j : ℕ) (m : Node) → i ≤ j → j < i + k → slice_get nodes j ≡ Some m → (m.end ≡ j + 1) × (is_bridge (decl_of m.function) ≡ false))
+      → from ≤ i → i + k ≤ to → Passed nodes laid bus n from to side (i + k)
+  passed_run zero i p leaves l h = let same : i ≡ i + 0 = omega arith in subst (Passed nodes laid bus n from to side) same p
   passed_run (suc k) i p leaves l h =
       let within = side.within in
       let m = at_below nodes i (omega (arith, h, within)) in
       let leaf = leaves i m.0 (omega arith) (omega arith) m.1 in
-      let next = passed_next nodes laid bus (Covering n) from to side i m.0 p m.1 l (omega (arith, h)) (covers_none n m.0 leaf.1) in
+      let next = passed_next nodes laid bus n from to side i m.0 p m.1 l (omega (arith, h)) (covers_none n m.0 leaf.1) in
       let same : i + 1 + k ≡ i + suc k = omega arith in
-      subst (Passed nodes laid bus (Covering n) from to side) same
-      (passed_run k (i + 1) (subst (Passed nodes laid bus (Covering n) from to side) leaf.0 next) (λ j x a b g. leaves j x (omega (arith, a)) (omega (arith, b)) g) (omega (arith, l)) (omega (arith, h)))
+      subst (Passed nodes laid bus n from to side) same
+      (passed_run k (i + 1) (subst (Passed nodes laid bus n from to side) leaf.0 next) (λ j x a b g. leaves j x (omega (arith, a)) (omega (arith, b)) g) (omega (arith, l)) (omega (arith, h)))
 
--- what is passed by holds nothing that is wanted
-pub passed_to : (nodes : List Node) (laid : IsLaidOut nodes) (bus : Path) (wanted : Wanted) (from to : ℕ) (side : IsSide nodes bus from to) (i b : ℕ) → Passed nodes laid bus wanted from to side i → AreSkipped nodes i b → from ≤ i
-    → skipped_to wanted i b < to → Passed nodes laid bus wanted from to side (skipped_to wanted i b)
-passed_to nodes laid bus (Part d f) from to side i b p s l h = p
-passed_to nodes laid bus (Covering n) from to side i b p s l h =
+-- what is passed by takes no cycle
+pub passed_at : (nodes : List Node) (laid : IsLaidOut nodes) (bus : Path) (n from to : ℕ) (side : IsSide nodes bus from to) (i b : ℕ) → Passed nodes laid bus n from to side i → AreSkipped nodes i b → from ≤ i
+    → b < to → Passed nodes laid bus n from to side b
+passed_at nodes laid bus n from to side i b p s l h =
     let ahead = s.ahead in
     let sum : i + (b - i) ≡ b = omega (arith, ahead) in
-    subst (Passed nodes laid bus (Covering n) from to side) sum
+    subst (Passed nodes laid bus n from to side) sum
     (passed_run nodes laid bus n from to side (b - i) i p (λ j m a c g. s.leaves j m a (omega (arith, c, sum)) g) l (omega (arith, sum, h)))
 
-pub passed_all : (nodes : List Node) (laid : IsLaidOut nodes) (bus : Path) (wanted : Wanted) (from to : ℕ) (side : IsSide nodes bus from to) (i b : ℕ) → Passed nodes laid bus wanted from to side i → AreSkipped nodes i b → from ≤ i
-    → i < to → to ≤ skipped_to wanted i b → Passed nodes laid bus wanted from to side to
-passed_all nodes laid bus (Part d f) from to side i b p s l h g = absurd (omega (arith, h, g))
-passed_all nodes laid bus (Covering n) from to side i b p s l h g =
+pub passed_whole : (nodes : List Node) (laid : IsLaidOut nodes) (bus : Path) (n from to : ℕ) (side : IsSide nodes bus from to) (i b : ℕ) → Passed nodes laid bus n from to side i → AreSkipped nodes i b → from ≤ i
+    → i < to → to ≤ b → Passed nodes laid bus n from to side to
+passed_whole nodes laid bus n from to side i b p s l h g =
     let sum : i + (to - i) ≡ to = omega (arith, h) in
-    subst (Passed nodes laid bus (Covering n) from to side) sum
+    subst (Passed nodes laid bus n from to side) sum
     (passed_run nodes laid bus n from to side (to - i) i p (λ j m a c e. s.leaves j m a (omega (arith, c, sum, g)) e) l (omega (arith, sum)))
-
-pub ahead_of : (wanted : Wanted) (nodes : List Node) (i b : ℕ) → AreSkipped nodes i b → i ≤ skipped_to wanted i b
-ahead_of (Part d f) nodes i b s = omega arith
-ahead_of (Covering n) nodes i b s = s.ahead
 
 -- ---- where the next bridges stand
 
@@ -181,16 +172,3 @@ all_linked nodes initial next d laid = record {
   laid = subst (λ ps. AreLaid ps (ends_of nodes)) (sym d.paths) (subst (λ es. AreLaid (paths_of initial) es) (sym d.ends) laid);
   skips = λ k m e. d.skips k m (omega arith) e;
 }
-
--- the same at the index that a search found
-pub passed_at : (nodes : List Node) (laid : IsLaidOut nodes) (bus : Path) (wanted : Wanted) (from to : ℕ) (side : IsSide nodes bus from to) (i b at : ℕ) → Passed nodes laid bus wanted from to side i → AreSkipped nodes i b → from ≤ i
-    → at ≡ skipped_to wanted i b → at < to → Passed nodes laid bus wanted from to side at
-passed_at nodes laid bus wanted from to side i b at p s l is h =
-    subst (Passed nodes laid bus wanted from to side) (sym is) (passed_to nodes laid bus wanted from to side i b p s l (subst (λ k. k < to) is h))
-
-pub passed_whole : (nodes : List Node) (laid : IsLaidOut nodes) (bus : Path) (wanted : Wanted) (from to : ℕ) (side : IsSide nodes bus from to) (i b at : ℕ) → Passed nodes laid bus wanted from to side i → AreSkipped nodes i b → from ≤ i
-    → i < to → at ≡ skipped_to wanted i b → to ≤ at → Passed nodes laid bus wanted from to side to
-passed_whole nodes laid bus wanted from to side i b at p s l h is g = passed_all nodes laid bus wanted from to side i b p s l h (subst (λ k. to ≤ k) is g)
-
-pub ahead_at : (wanted : Wanted) (nodes : List Node) (i b at : ℕ) → AreSkipped nodes i b → at ≡ skipped_to wanted i b → i ≤ at
-ahead_at wanted nodes i b at s is = subst (λ k. i ≤ k) (sym is) (ahead_of wanted nodes i b s)

@@ -1,14 +1,11 @@
 -- Where a search for a bridge goes on: it passes functions that are no bridges, with nothing behind them.
 --     is_passed n i      the node at index i is such a function
 --     first_bridge n i next      where the next bridge stands from index i on, if after index i that is at `next`
---     skipped_to wanted i b      where a search goes on that has come to index i, if the next bridge stands at b
 --     AreSkipped nodes i b      from index i up to b stand such functions alone
 --     IsTree      a list that is laid out, in which each node says where the next bridge stands
 use Rattle.std.specs.Prelude.{List, ◌≡◌, ℕ, ◌+◌, ◌≤◌, ◌<◌, Bool, false, not, ◌&&◌, ◌==◌, if◌then◌else◌, Some, slice_get}
 use Rattle.model_board.specs.Board.{is_bridge}
 use Rattle.bridge_forward.specs.declared.bus.Node.{Node}
-use Rattle.bridge_forward.specs.declared.walk.Wanted.{Wanted}
-use Rattle.bridge_forward.specs.declared.walk.Wanted.TheVariants.{Part, Covering}
 use Rattle.bridge_forward.specs.Functions.{decl_of}
 use Rattle.bridge_forward.specs.Layout.{IsLaidOut}
 
@@ -17,10 +14,6 @@ is_passed n i = not (is_bridge (decl_of n.function)) && (n.end == i + 1)
 
 abbrev pub first_bridge : Node → ℕ → ℕ → ℕ
 first_bridge n i next = if is_passed n i then next else i
-
-abbrev pub skipped_to : Wanted → ℕ → ℕ → ℕ
-skipped_to (Part device function) i b = i
-skipped_to (Covering bus) i b = b
 
 pub record AreSkipped (nodes : List Node) (i b : ℕ) : Type 0 where
   pub ahead : i ≤ b

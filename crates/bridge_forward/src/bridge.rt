@@ -32,9 +32,9 @@ pub(crate) struct Decoded {
 /// goes is kept as numbers beside its cells, since every cycle and every search for a claim asks for it.
 #[derive(Drop)]
 pub(crate) struct BridgeFn {
-    decl: BridgeDecl,
-    cells: Cells,
     decoded: Decoded,
+    cells: Cells,
+    decl: BridgeDecl,
 }
 
 impl Model for BridgeFn {

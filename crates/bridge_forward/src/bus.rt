@@ -17,7 +17,7 @@ use crate::decl::Decl;
 use crate::endpoint::EndpointFn;
 use crate::function::Function;
 use crate::path::Path;
-use crate::walk::{Wanted, locate, position, reach};
+use crate::walk::{locate, position, reach};
 use bars::Space;
 use std::alloc::{AllocError, Global};
 use std::marker::Model;
@@ -26,10 +26,10 @@ use std::marker::Model;
 /// From its own index up to `bridge` no bridge stands, and nothing that has anything behind it.
 #[derive(Drop)]
 pub(crate) struct Node {
-    pub(crate) path: Path,
     pub(crate) end: usize,
     pub(crate) bridge: usize,
     pub(crate) function: Function,
+    pub(crate) path: Path,
 }
 
 /// The functions of a board. Their value is a list in path order: path, declaration and cells.
@@ -84,32 +84,7 @@ pub struct Located {
 }
 
 impl Node {
-    ghost use Rattle.bridge_forward.specs.Layout.{function_of};
-    ghost use Rattle.bridge_forward.specs.Search.{is_wanted};
-    ghost use Rattle.bridge_forward.specs.Skips.{skipped_to, first_bridge};
-
-    /// Whether this is what is looked for on its bus.
-    pub(crate) fn is_wanted(&self, wanted: Wanted) -> bool
-        ensures { result ≡ is_wanted wanted (function_of self.now) }
-    {
-        match wanted {
-            Wanted::Part { device, function } => {
-                let last = self.path.last();
-                last.device() == device && last.function() == function
-            }
-            Wanted::Covering(bus) => self.function.covers(bus),
-        }
-    }
-
-    /// Where a search goes on that has come to this node, at index `i`.
-    pub(crate) fn skipped_to(&self, wanted: Wanted, i: usize) -> usize
-        ensures { result ≡ skipped_to wanted i self.now.bridge }
-    {
-        match wanted {
-            Wanted::Part { .. } => i,
-            Wanted::Covering(_) => self.bridge,
-        }
-    }
+    ghost use Rattle.bridge_forward.specs.Skips.{first_bridge};
 
     /// Where the next bridge stands from this node on, at index `i`, if after it that is at `next`.
     pub(crate) fn first_bridge(&self, i: usize, next: usize) -> usize

@@ -25,11 +25,11 @@ use std::marker::Model;
 /// a number beside its cells, since every search for a claim asks for it.
 #[derive(Drop)]
 pub struct EndpointFn {
-    decl: EndpointDecl,
-    config: Cells,
     command: u16,
     bars: Bars,
+    config: Cells,
     blocks: Vec<Cells>,
+    decl: EndpointDecl,
 }
 
 impl Model for EndpointFn {

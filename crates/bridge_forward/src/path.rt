@@ -1,5 +1,5 @@
 //! Where a function stands.
-ghost use Rattle.std.specs.Prelude.{◌≡◌, ◌&&◌, not, ◌+◌, ◌<◌, [], ◌∷◌, ◌++◌, length};
+ghost use Rattle.std.specs.Prelude.{◌≡◌, ◌&&◌, not, IsTrue, ◌+◌, ◌<◌, [], ◌∷◌, ◌++◌, length};
 ghost use Rattle.std.specs.Ordering.{is_lt, is_eq};
 ghost use Rattle.model_board.specs.Paths.{part_eq, part_before, path_eq, path_before, leads_to, parent, same_device, function_zero, last_part, IsPath};
 
@@ -65,9 +65,17 @@ impl Part {
         ensures less { is_lt result ≡ part_before self other }
         ensures equal { is_eq result ≡ part_eq self other }
     {
-        if self.is_same(other) {
+        self.compare_numbers(other.device, other.function)
+    }
+
+    /// The same order, against a device and a function number of any size.
+    fn compare_numbers(self, device: u8, function: u8) -> Ordering
+        ensures less { is_lt result ≡ part_before self (record { device = device; function = function }) }
+        ensures equal { is_eq result ≡ part_eq self (record { device = device; function = function }) }
+    {
+        if self.device == device && self.function == function {
             Ordering::Equal
-        } else if self.is_before(other) {
+        } else if self.device < device || (self.device == device && self.function < function) {
             Ordering::Less
         } else {
             Ordering::Greater
@@ -165,6 +173,28 @@ impl Path {
         ensures equal { is_eq result ≡ path_eq self.now other.now }
     {
         compare(self.parts(), other.parts())
+    }
+
+    /// Path order against the function with these numbers on a bus that this path is behind. One part
+    /// tells it, since all before it are those of the bus.
+    pub(crate) fn compare_on(&self, bus: &[Part], device: u8, function: u8) -> Ordering
+        requires { IsTrue (leads_to bus.now self.now) }
+        ensures less { is_lt result ≡ path_before self.now (bus.now ++ record { device = device; function = function } ∷ []) }
+        ensures equal { is_eq result ≡ path_eq self.now (bus.now ++ record { device = device; function = function } ∷ []) }
+    {
+        let parts = self.parts();
+        let depth = bus.len();
+        match parts[depth].compare_numbers(device, function) {
+            Ordering::Less => Ordering::Less,
+            Ordering::Greater => Ordering::Greater,
+            Ordering::Equal => {
+                if parts.len() > depth + 1 {
+                    Ordering::Greater
+                } else {
+                    Ordering::Equal
+                }
+            }
+        }
     }
 
     /// Whether the other path is that of another function in the same device.

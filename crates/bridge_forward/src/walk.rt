@@ -3,7 +3,8 @@ ghost use Rattle.std.specs.Prelude.{◌≡◌, ◌≤◌, ◌<◌, IfSome, IfNon
 ghost use Rattle.model_board.specs.Paths.{Path as PathValue, path_eq};
 ghost use Rattle.bridge_forward.specs.Layout.{functions_of};
 ghost use Rattle.bridge_forward.specs.Skips.{IsTree};
-ghost use Rattle.bridge_forward.specs.Search.{wanted_on, IsSide, IsAt};
+ghost use Rattle.bridge_forward.specs.Search.{is_named, IsSide, IsAt};
+ghost use Rattle.model_board.specs.Cycles.{taker};
 ghost use Rattle.bridge_forward.specs.Cycled.{reached_by};
 ghost use Rattle.bridge_forward.specs.Lending.{endpoint_nth};
 ghost use Rattle.bridge_forward.specs.Locating.{located_claim};
@@ -13,37 +14,29 @@ ghost use Rattle.bars.specs.Kinds.{named_space};
 use crate::bus::{Located, Node};
 use crate::cycle::{Cycle, CycleType};
 use crate::function::Function;
-use crate::path::Path;
+use crate::path::{Part, Path};
 use bars::Space;
 use std::cmp::Ordering;
 
-/// What is looked for on a bus.
-#[derive(Clone, Copy)]
-pub(crate) enum Wanted {
-    /// The function with these numbers.
-    Part { device: u8, function: u8 },
-    /// A bridge that takes cycles for this bus.
-    Covering(u8),
-}
-
-/// The first function that is wanted on a bus, if what stands there are the nodes from `from` up to
-/// `to`. Each step goes to the next function on the bus, past all that stands behind the former, and
-/// past endpoints where a bridge is wanted.
-fn first_on_bus(nodes: &[Node], from: usize, to: usize, wanted: Wanted) -> Option<usize>
+/// The first bridge on a bus that takes cycles for the bus with this number, if what stands there are
+/// the nodes from `from` up to `to`. Each step goes to the next bridge on the bus, past endpoints and
+/// past all that stands behind the former.
+fn bridge_on_bus(nodes: &[Node], from: usize, to: usize, number: u8) -> Option<usize>
     requires tree { IsTree nodes.now }
     requires range { to ≤ length nodes.now }
     ensures within { IfSome result (λ i. (from ≤ i) × (i < to)) }
-    ensures found { IfSome result (λ i. (bus : PathValue) → IsSide nodes.now bus from to → IsAt nodes.now i (find (wanted_on bus wanted) (functions_of nodes.now))) }
-    ensures none { IfNone result ((bus : PathValue) → IsSide nodes.now bus from to → find (wanted_on bus wanted) (functions_of nodes.now) ≡ None) }
+    ensures found { IfSome result (λ i. (bus : PathValue) → IsSide nodes.now bus from to → IsAt nodes.now i (taker (functions_of nodes.now) bus number)) }
+    ensures none { IfNone result ((bus : PathValue) → IsSide nodes.now bus from to → taker (functions_of nodes.now) bus number ≡ None) }
 {
     let mut i = from;
     while i < to {
-        let at = nodes[i].skipped_to(wanted, i);
+        let here = &nodes[i];
+        let at = here.bridge;
         if at >= to {
             return None;
         }
         let node = &nodes[at];
-        if node.is_wanted(wanted) {
+        if node.function.covers(number) {
             return Some(at);
         }
         i = node.end;
@@ -51,28 +44,59 @@ fn first_on_bus(nodes: &[Node], from: usize, to: usize, wanted: Wanted) -> Optio
     None
 }
 
-/// The function that a cycle reaches, put on bus 0. It steps along the buses on its way alone.
+/// The function with these numbers on a bus, if what stands behind it are the nodes from `from` up to
+/// `to`. It is found by halving, since they stand in path order.
+fn part_on_bus(
+    nodes: &[Node],
+    bus: &[Part],
+    from: usize,
+    to: usize,
+    device: u8,
+    function: u8,
+) -> Option<usize>
+    requires tree { IsTree nodes.now }
+    requires side { IsSide nodes.now bus.now from to }
+    ensures found { IfSome result (λ i. IsAt nodes.now i (find (is_named bus.now device function) (functions_of nodes.now))) }
+    ensures none { IfNone result (find (is_named bus.now device function) (functions_of nodes.now) ≡ None) }
+{
+    let mut low = from;
+    let mut high = to;
+    while low < high {
+        let middle = low + (high - low) / 2;
+        let node = &nodes[middle];
+        match node.path.compare_on(bus, device, function) {
+            Ordering::Equal => return Some(middle),
+            Ordering::Less => low = middle + 1,
+            Ordering::Greater => high = middle,
+        }
+    }
+    None
+}
+
+/// The function that a cycle reaches, put on bus 0. It steps along the bridges on its way alone.
 pub(crate) fn reach(nodes: &[Node], cycle: &Cycle) -> Option<usize>
     requires { IsTree nodes.now }
     ensures found { IfSome result (λ i. IsAt nodes.now i (reached_by (functions_of nodes.now) cycle.now)) }
     ensures none { IfNone result (reached_by (functions_of nodes.now) cycle.now ≡ None) }
 {
-    let named = Wanted::Part {
-        device: cycle.device,
-        function: cycle.function,
-    };
-    let CycleType::Type1 { bus } = cycle.kind else {
-        return first_on_bus(nodes, 0, nodes.len(), named);
+    let Cycle {
+        kind,
+        device,
+        function,
+        ..
+    } = *cycle;
+    let CycleType::Type1 { bus } = kind else {
+        return part_on_bus(nodes, &[], 0, nodes.len(), device, function);
     };
     let mut from = 0;
     let mut to = nodes.len();
     loop {
-        let at = first_on_bus(nodes, from, to, Wanted::Covering(bus))?;
+        let at = bridge_on_bus(nodes, from, to, bus)?;
         let bridge = &nodes[at];
         from = at + 1;
         to = bridge.end;
         if bridge.function.leads_to(bus) {
-            return first_on_bus(nodes, from, to, named);
+            return part_on_bus(nodes, bridge.path.parts(), from, to, device, function);
         }
     }
 }

@@ -3,12 +3,12 @@ use Rattle.model_board.specs.Paths.{Path}
 use Rattle.bridge_forward.specs.Layout.{IsLaidOut}
 use Rattle.bridge_forward.specs.Search.{IsSide}
 use Rattle.bridge_forward.proofs.Searching.{Passed}
-use Rattle.bridge_forward.proofs.walk.first_on_bus.Given as goal
+use Rattle.bridge_forward.proofs.walk.bridge_on_bus.Given as goal
 
 abbrev pub invariant-loop-i : goal.invariant-loop-i
 invariant-loop-i l = record {
   begun : l.from ≤ l.i;
-  passed : (laid : IsLaidOut l.nodes) (bus : Path) (side : IsSide l.nodes bus l.from l.to) → Passed l.nodes laid bus l.wanted l.from l.to side l.i;
+  passed : (laid : IsLaidOut l.nodes) (bus : Path) (side : IsSide l.nodes bus l.from l.to) → Passed l.nodes laid bus l.number l.from l.to side l.i;
 }
 
 abbrev pub decreases-loop-i : goal.decreases-loop-i
