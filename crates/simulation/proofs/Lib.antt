@@ -1,2 +1,3 @@
 mod FaultNumbers
 mod Listed
+pub mod Ran

@@ -1,6 +1,7 @@
 -- What the program does, by what it is asked.
 --     IsDone choice script old new      all of it was written, after what was written before; the script is what the reader has left
---     IsDoneInPart choice script old new      so was a beginning of it
+--     IsDoneInPart choice old_rest new_rest old new      so was a beginning of it, as a write or flush failed
+--     IsDoneAsRead choice old_rest new_rest old new      so was that of the lines before a read that failed
 --     IsOfChoice choice f      a fault that the choice can end with
 use Rattle.std.specs.Prelude.{◌≡◌, ◌⊎◌, Option, None, string_bytes}
 use Rattle.std.specs.Option.{ForSome}
@@ -12,10 +13,11 @@ use Rattle.model_guests.specs.World.{World}
 use Rattle.streams.specs.Ends.{AppendsPart}
 use Rattle.script.specs.LoneRuns.{output}
 use Rattle.simulation.specs.Demo.{demo_guest}
-use Rattle.simulation.specs.Faults.{IsOfDemo, IsOfList}
+use Rattle.simulation.specs.Faults.{IsOfDemo, IsOfList, IsOfRun}
 use Rattle.simulation.specs.Listing.{Declares, IsListed, IsListedInPart}
+use Rattle.simulation.specs.Running.{IsRun, IsRunCut, IsRunStopped}
 use Rattle.simulation.specs.declared.choice.Choice.{Choice}
-use Rattle.simulation.specs.declared.choice.Choice.TheVariants.{Help, Demo, List}
+use Rattle.simulation.specs.declared.choice.Choice.TheVariants.{Help, Demo, List, Run}
 use Rattle.simulation.specs.declared.fault.Fault.{Fault}
 use Rattle.simulation.specs.declared.fault.Fault.TheVariants.{Write, BoardFile}
 
@@ -35,13 +37,23 @@ abbrev pub IsDone : Choice → Option Text → Option Text → Option Text → T
 IsDone (Help text) script old new = Appends old new (string_bytes text)
 IsDone Demo script old new = ForSome script (λ s. Appends old new (output demo_guest (lines s)))
 IsDone (List path) script old new = (board : Text) × IsReported board old new
+IsDone (Run path) script old new = (board : Text) × IsRun board script old new
 
-abbrev pub IsDoneInPart : Choice → Option Text → Option Text → Option Text → Type 0
-IsDoneInPart (Help text) script old new = AppendsPart old new (string_bytes text)
-IsDoneInPart Demo script old new = ForSome script (λ s. AppendsPart old new (output demo_guest (lines s)))
-IsDoneInPart (List path) script old new = (board : Text) × IsReportedInPart board old new
+abbrev pub IsDoneInPart : Choice → Option Text → Option Text → Option Text → Option Text → Type 0
+IsDoneInPart (Help text) old_rest new_rest old new = AppendsPart old new (string_bytes text)
+IsDoneInPart Demo old_rest new_rest old new = ForSome old_rest (λ s. AppendsPart old new (output demo_guest (lines s)))
+IsDoneInPart (List path) old_rest new_rest old new = (board : Text) × IsReportedInPart board old new
+IsDoneInPart (Run path) old_rest new_rest old new = (board : Text) × IsRunStopped board old_rest new_rest old new
+
+-- help and reports read nothing, and the demo writes nothing before it has read all
+abbrev pub IsDoneAsRead : Choice → Option Text → Option Text → Option Text → Option Text → Type 0
+IsDoneAsRead (Help text) old_rest new_rest old new = ⊥
+IsDoneAsRead Demo old_rest new_rest old new = new ≡ old
+IsDoneAsRead (List path) old_rest new_rest old new = ⊥
+IsDoneAsRead (Run path) old_rest new_rest old new = (board : Text) × IsRunCut board old_rest new_rest old new
 
 abbrev pub IsOfChoice : Choice → Fault → Type 0
 IsOfChoice (Help text) f = f ≡ Write
 IsOfChoice Demo f = IsOfDemo f
 IsOfChoice (List path) f = IsOfList f ⊎ (f ≡ BoardFile)
+IsOfChoice (Run path) f = IsOfRun f ⊎ (f ≡ BoardFile)

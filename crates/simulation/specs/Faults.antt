@@ -1,8 +1,8 @@
 -- Why the program fails, as numbers and words.
 --     number_of, words_of, line_of      the number, the words and the line of a fault
---     of_file, of_set_up, of_report      the fault of a board file, a set-up or a report, with the same number
+--     of_file, of_set_up, of_report, of_run      the fault of a board file, a set-up, a report or a run, with the same number
 --     read_faults, write_faults      whether a result is the fault of the reader, or of the writer
---     IsOfDemo, IsOfList      a fault of the demo, or of a listing
+--     IsOfDemo, IsOfList, IsOfRun      a fault of the demo, of a listing, or of a run over a board file
 use Rattle.std.specs.Prelude.{◌≡◌, ◌⊎◌, ◌≤◌, ℕ, ◌++◌, List, Result, Ok, Err, codes, decimal}
 use Rattle.bus_scan.specs.declared.fault.Fault.TheVariants as set_up
 use Rattle.bus_scan.specs.declared.fault.Fault.{Fault as SetUpFault}
@@ -10,6 +10,8 @@ use Rattle.board_file.specs.declared.fault.BoardFault.TheVariants as file
 use Rattle.board_file.specs.declared.fault.BoardFault.{BoardFault}
 use Rattle.report.specs.declared.writing.ReportFault.TheVariants as report
 use Rattle.report.specs.declared.writing.ReportFault.{ReportFault}
+use Rattle.script_runs.specs.declared.running.RunFault.TheVariants as run
+use Rattle.script_runs.specs.declared.running.RunFault.{RunFault}
 use Rattle.simulation.specs.declared.fault.Fault.{Fault}
 use Rattle.simulation.specs.declared.fault.Fault.TheVariants.{NotToml, Key, UnknownKey, Number, Place, Register, Size, TooMany, GuestName, Slot, Aperture, CellMasks, FileMemory, Buses, NoIoWindow, IoPool, MemoryPool, PrefetchablePool, SetUpMemory, Read, Write, ScriptMemory, Usage, BoardFile, WordMemory}
 
@@ -98,6 +100,10 @@ abbrev pub of_report : ReportFault → Fault
 of_report report.Memory = SetUpMemory
 of_report report.Write = Write
 
+abbrev pub of_run : RunFault → Fault
+of_run run.Read = Read
+of_run run.Write = Write
+
 abbrev pub read_faults : {T : Type 0} → Result T Fault → ℕ
 read_faults (Ok x) = 0
 read_faults (Err Read) = 1
@@ -115,3 +121,7 @@ IsOfDemo f = (f ≡ Read) ⊎ (f ≡ Write) ⊎ (f ≡ SetUpMemory) ⊎ (f ≡ S
 -- the file or its board is refused, memory is out, or a write failed
 abbrev pub IsOfList : Fault → Type 0
 IsOfList f = (number_of f ≤ 299) ⊎ (f ≡ Write)
+
+-- so too, or a read failed
+abbrev pub IsOfRun : Fault → Type 0
+IsOfRun f = (number_of f ≤ 299) ⊎ (f ≡ Read) ⊎ (f ≡ Write)

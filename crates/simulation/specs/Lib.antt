@@ -1,4 +1,5 @@
 pub mod Faults
 pub mod Demo
 pub mod Listing
+pub mod Running
 pub mod Choices

@@ -2,13 +2,14 @@
 ghost use Rattle.std.specs.Prelude.{◌≡◌, ◌≢◌, ◌+◌, ◌-◌, ◌^◌, ◌<◌, OnOk, OnErr, IfErr, IsErrOf};
 ghost use Rattle.std.specs.Io.KnownBytes.{Appends};
 ghost use Rattle.streams.specs.Ends.{AppendsPart};
-ghost use Rattle.simulation.specs.Choices.{IsDone, IsDoneInPart, IsOfChoice};
+ghost use Rattle.simulation.specs.Choices.{IsDone, IsDoneInPart, IsDoneAsRead, IsOfChoice};
 ghost use Rattle.simulation.specs.Faults.{read_faults, write_faults};
 
 use crate::demonstration::demo;
 use crate::fault::Fault;
 use crate::files::board_bytes;
 use crate::listing::list;
+use crate::running::whole;
 use std::alloc::Global;
 use std::rt::Files;
 use streams::{Reader, Writer, hand_on};
@@ -22,6 +23,8 @@ pub enum Choice<'a> {
     Demo,
     /// Write the report of the board file at this path.
     List(&'a str),
+    /// Run a script over the board of the board file at this path.
+    Run(&'a str),
 }
 
 /// Writes a text and flushes once.
@@ -50,14 +53,16 @@ pub fn perform<R: Reader, W: Writer>(
     requires reader_has_room { R.failures reader.old < 2 ^ 64 - 1 }
     requires writer_has_room { W.failures writer.old < 2 ^ 64 - 1 }
 
-    // The text, the script's output or the report of some board file was written and handed on.
+    // The text, the report of some board file or the script's output was written and handed on.
     ensures done { OnOk result (IsDone choice.now (R.rest reader.old) (W.written writer.old) (W.written writer.new)) }
     ensures handed_on { OnOk result (W.handed_on writer.new ≡ W.written writer.new) }
 
-    // Only a failed write comes after a part of it was written.
+    // Only a failed write, or a failed read of a run, comes after a part of it was written.
+    ensures cut { IsErrOf result Fault.Read →
+        IsDoneAsRead choice.now (R.rest reader.old) (R.rest reader.new) (W.written writer.old) (W.written writer.new) }
     ensures stopped { IsErrOf result Fault.Write →
-        IsDoneInPart choice.now (R.rest reader.old) (W.written writer.old) (W.written writer.new) }
-    ensures nothing { IfErr result (λ f. f ≢ Fault.Write → writer.new ≡ writer.old) }
+        IsDoneInPart choice.now (R.rest reader.old) (R.rest reader.new) (W.written writer.old) (W.written writer.new) }
+    ensures nothing { IfErr result (λ f. f ≢ Fault.Read → f ≢ Fault.Write → writer.new ≡ writer.old) }
 
     ensures faults { IfErr result (IsOfChoice choice.now) }
 
@@ -71,6 +76,10 @@ pub fn perform<R: Reader, W: Writer>(
         Choice::List(path) => {
             let board = board_bytes(rt, alloc, path)?;
             list(alloc, &board, writer)
+        }
+        Choice::Run(path) => {
+            let board = board_bytes(rt, alloc, path)?;
+            whole(alloc, &board, reader, writer)
         }
     }
 }

@@ -1,9 +1,10 @@
 //! Why the program fails.
 ghost use Rattle.std.specs.Prelude.{◌≡◌};
-ghost use Rattle.simulation.specs.Faults.{number_of, words_of, of_file, of_set_up, of_report};
+ghost use Rattle.simulation.specs.Faults.{number_of, words_of, of_file, of_set_up, of_report, of_run};
 
 use board_file::BoardFault;
 use report::ReportFault;
+use script_runs::RunFault;
 use thiserror::Error;
 
 /// Why the program fails.
@@ -63,7 +64,7 @@ pub enum Fault {
     /// The prefetchable regions don't fit their aperture.
     #[error("prefetchable pool")]
     PrefetchablePool,
-    /// Out of memory while the board was made, set up or reported.
+    /// Out of memory while the board was made, set up, reported or given to guests.
     #[error("memory")]
     SetUpMemory,
     /// A read of the script failed.
@@ -196,6 +197,17 @@ impl From<ReportFault> for Fault {
         match fault {
             ReportFault::Memory => Fault::SetUpMemory,
             ReportFault::Write => Fault::Write,
+        }
+    }
+}
+
+impl From<RunFault> for Fault {
+    ghost from_gives = { λ r f. f ≡ of_run r };
+
+    fn from(fault: RunFault) -> Fault {
+        match fault {
+            RunFault::Read => Fault::Read,
+            RunFault::Write => Fault::Write,
         }
     }
 }

@@ -1,5 +1,5 @@
-//! What the program does, over bytes, a reader and a writer: the report of a board file, and a script
-//! over the demo board.
+//! What the program does, over bytes, a reader and a writer: the report of a board file, a script over
+//! its board, and a script over the demo board.
 #![tactic(auto)]
 
 mod choice;
@@ -8,6 +8,7 @@ mod fault;
 mod fault_lines;
 mod files;
 mod listing;
+mod running;
 mod standard_streams;
 
 pub use choice::{Choice, perform};
@@ -16,4 +17,5 @@ pub use fault::Fault;
 pub use fault_lines::fault_line;
 pub use files::board_bytes;
 pub use listing::list;
+pub use running::whole;
 pub use standard_streams::{InputStream, OutputStream};

@@ -1,0 +1,48 @@
+-- What the parts of a run over a board file say, put together.
+use Rattle.std.proofs.Common.{◌≡◌, ◌≤◌, Result, Ok, Err, refl, sym, ap, ap₂, ◌∙◌, arith}
+use Rattle.std.specs.Prelude.{List, IsErrOf}
+use Rattle.std.specs.Result.{IsErrAnd}
+use Rattle.model_board.specs.Board.{Board}
+use Rattle.model_board.specs.Pools.{Apertures}
+use Rattle.model_board.specs.SetUp.{set_up_state}
+use Rattle.model_guests.specs.World.{Guest, World}
+use Rattle.model_guests.specs.WorldNow.{WorldNow, world_at_first}
+use Rattle.host_bridge.specs.HostState.{HostState}
+use Rattle.window_packing.specs.Readies.{ReadyBoard, board_below}
+use Rattle.board_file.specs.Meaning.{world_in}
+use Rattle.monitor.specs.Beginnings.{world_of}
+use Rattle.script_runs.specs.declared.running.RunFault.{RunFault}
+use Rattle.script_runs.specs.declared.running.RunFault.TheVariants as run
+use Rattle.simulation.specs.declared.fault.Fault.{Fault}
+use Rattle.simulation.specs.declared.fault.Fault.TheVariants.{Read, Write}
+use Rattle.simulation.specs.Faults.{number_of, of_run}
+
+-- a fault of the run is none of the file or of the board
+pub of_run_large : (r : RunFault) (f : Fault) → f ≡ of_run r → 500 ≤ number_of f
+of_run_large run.Read f same = let is : number_of f ≡ 501 = ap number_of same in omega arith
+of_run_large run.Write f same = let is : number_of f ≡ 502 = ap number_of same in omega arith
+
+read_of_run : (r : RunFault) (f : Fault) → f ≡ of_run r → f ≡ Read → r ≡ run.Read
+read_of_run run.Read f same is = refl
+read_of_run run.Write f same is = absurd (let wrong : Write ≡ Read = sym same ∙ is in cc)
+
+write_of_run : (r : RunFault) (f : Fault) → f ≡ of_run r → f ≡ Write → r ≡ run.Write
+write_of_run run.Read f same is = absurd (let wrong : Read ≡ Write = sym same ∙ is in cc)
+write_of_run run.Write f same is = refl
+
+pub read_failed : {T : Type 0} (r : Result T Fault) (e : RunFault) → IsErrAnd r (λ f. f ≡ of_run e) → IsErrOf r Read → e ≡ run.Read
+read_failed (Ok x) e h is = absurd h
+read_failed (Err f) e h is = read_of_run e f h (let same : f ≡ Read = cc in same)
+
+pub write_failed : {T : Type 0} (r : Result T Fault) (e : RunFault) → IsErrAnd r (λ f. f ≡ of_run e) → IsErrOf r Write → e ≡ run.Write
+write_failed (Ok x) e h is = absurd h
+write_failed (Err f) e h is = write_of_run e f h (let same : f ≡ Write = cc in same)
+
+-- a monitor of the board that a file declares begins with the world of the file
+pub began : (h : HostState) (r : ReadyBoard) (gs guests : List Guest) (m : WorldNow)
+    → board_below r.host ≡ board_below h → r.host ≡ record h { state = set_up_state (board_below h) h.apertures }
+    → guests ≡ gs → m ≡ world_at_first (world_of r guests) → m ≡ world_at_first (world_in h gs)
+began h r gs guests m below host given made =
+    let board : world_of r guests ≡ record (world_in h guests) { guests = guests } =
+    ap₂ (λ (b : Board) (a : Apertures). record { board = b; apertures = a; guests = guests }) below (ap (λ (k : HostState). k.apertures) host) in
+    made ∙ ap world_at_first (board ∙ ap (λ (xs : List Guest). record (world_in h gs) { guests = xs }) given)

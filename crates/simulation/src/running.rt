@@ -1,0 +1,63 @@
+//! A script over the board of a board file.
+ghost use Rattle.std.specs.Prelude.{◌≡◌, ◌≢◌, ℕ, ◌+◌, ◌-◌, ◌^◌, ◌<◌, None, Some, OnOk, IfErr, IsErrOf};
+ghost use Rattle.std.specs.Io.KnownBytes.{IsAtEnd};
+ghost use Rattle.model_registers.specs.DeclarationRules.{first_broken};
+ghost use Rattle.model_board.specs.SetUpWrites.{set_up_rules};
+ghost use Rattle.model_guests.specs.World.{World};
+ghost use Rattle.simulation.specs.Faults.{number_of, read_faults, write_faults, IsOfRun};
+ghost use Rattle.simulation.specs.Listing.{Declares, Refuses};
+ghost use Rattle.simulation.specs.Running.{IsRun, IsRunCut, IsRunStopped};
+
+use crate::fault::Fault;
+use board_file::read_board;
+use monitor::Monitor;
+use script_runs::run;
+use std::alloc::Global;
+use streams::{Reader, Writer};
+use window_packing::set_up;
+
+/// Sets up the board that a board file declares, gives its functions to the guests of the file, and
+/// runs a script over them, line by line as it is read.
+///
+/// What a guest is told is what its own functions, each a register file by itself, answer to the
+/// guest's own lines and to the moves that touch it, and nothing else.
+///
+/// Refused are the file (101 to 112), its board (201 to 205), and lack of memory (199 or 299): then
+/// nothing is read or written. Once the script is asked for, a read fails (501), or a write or flush
+/// does (502).
+pub fn whole<R: Reader, W: Writer>(
+    alloc: Global,
+    board: &[u8],
+    reader: &mut R,
+    writer: &mut W,
+) -> Result<(), Fault>
+    requires reader_has_room { R.failures reader.old < 2 ^ 64 - 1 }
+    requires writer_has_room { W.failures writer.old < 2 ^ 64 - 1 }
+
+    // The script was read to its end, and its output in the world of the file was written and handed on.
+    ensures end { OnOk result (IsAtEnd (R.rest reader.new)) }
+    ensures output { OnOk result (IsRun board.now (R.rest reader.old) (W.written writer.old) (W.written writer.new)) }
+    ensures handed_on { OnOk result (W.handed_on writer.new ≡ W.written writer.new) }
+
+    ensures file { IfErr result (λ f. number_of f < 199 → Refuses board.now (number_of f)) }
+    ensures placement { IfErr result (λ f. 199 < number_of f → number_of f < 299 →
+        (w : World) × Declares board.now w × (first_broken (set_up_rules w.board w.apertures) ≡ Some (number_of f))) }
+    ensures faults { IfErr result IsOfRun }
+    ensures nothing { IfErr result (λ f. number_of f < 500 → (reader.new ≡ reader.old) × (writer.new ≡ writer.old)) }
+
+    // What a failed read or write leaves of the output.
+    ensures cut { IsErrOf result Fault.Read →
+        IsRunCut board.now (R.rest reader.old) (R.rest reader.new) (W.written writer.old) (W.written writer.new) }
+    ensures stopped { IsErrOf result Fault.Write →
+        IsRunStopped board.now (R.rest reader.old) (R.rest reader.new) (W.written writer.old) (W.written writer.new) }
+
+    // A fault is the reader's or the writer's exactly where that end failed during the call.
+    ensures reads { R.failures reader.new ≡ R.failures reader.old + read_faults result }
+    ensures writes { W.failures writer.new ≡ W.failures writer.old + write_faults result }
+{
+    let (host, guests) = read_board(alloc, board)?;
+    let ready = set_up(alloc, host)?;
+    let mut monitor = Monitor::new(alloc, ready, &guests)?;
+    run(&mut monitor, reader, writer)?;
+    Ok(())
+}
