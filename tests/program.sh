@@ -75,7 +75,7 @@ timeout 60 "$program" demo < long 2> err | head -c 0; status=${PIPESTATUS[0]}
 tell 'demo, its reader gone'
 
 # ---- list: the boards of the examples, each with its report or its fault
-awk '/^== / { board = $2; next } { print > (board ".wanted") }' "$top/crates/examples/stdout"
+awk '/^== / { file = NF == 2 ? $2 ".wanted" : $2 "@" $4 ".run"; next } { print > file }' "$top/crates/examples/stdout"
 for wanted_report in *.wanted; do
   board=${wanted_report%.wanted}
   fault=$(sed -n 's/^fault //p' "$wanted_report")
@@ -97,6 +97,77 @@ full 'list' list "$boards/main.toml"
 cp main.toml.wanted wanted.out
 ends_with 'list, without standard input' list "$boards/main.toml" <&-
 
+# ---- run: the scripts of the examples, each over its board
+for wanted_run in *.run; do
+  example=${wanted_run%@*} board=${wanted_run#*@} board=${board%.run}
+  cp "$wanted_run" wanted.out
+  ends_with "run $example over $board" run "$boards/$board" < "$boards/$example"
+done
+
+# ---- run: guests, a move, and what the host sees
+cat > run.script <<'END'
+# a guest programs its function, and another is given it
+a cw 0 0x10 4 0xffffffff
+a cr 0 0x10 4
+host cr 00:01.0 0x10 4
+a cw 0 4 4 0xffff0003
+a cw 0 0x14 4 0x80000000
+a mw 0x80000010 4 0x12345678
+host mr 0xc0100010 4
+b mr 0x80000010 4
+host move a 0 b 1
+a cr 0 0 2
+b cr 1 0x14 4
+host mr 0xc0100010 4
+b cr 1 0 4
+c cr 0 0 4
+END
+cat > run.wanted <<'END'
+a: ok
+a: 0xffffffe1
+host: 0x00002001
+a: ok
+a: ok
+a: ok
+host: 0x12345678
+b: 0xffffffff
+host: ok
+a: 0xffff
+b: 0x00000000
+host: 0x00000000
+b: 0x00011234
+?: refused 402 unknown guest
+END
+cp run.wanted wanted.out
+ends_with 'run' run "$boards/main.toml" < run.script
+ends_with 'run, its script in two pieces' run "$boards/main.toml" \
+  < <(head -c 70 run.script; sleep 0.2; tail -c +71 run.script)
+{ cat run.script; head -c 100000 /dev/zero | tr '\0' x; printf '\nhost cr 00:01.0 0 2'; } > run.long
+{ cat run.wanted; echo '?: refused 403 long line'; echo 'host: 0x1234'; } > wanted.out
+ends_with 'run, a line of 100000 bytes and a last line without a line feed' run "$boards/main.toml" < run.long
+: > wanted.out
+ends_with 'run, an empty script' run "$boards/main.toml" < /dev/null
+fails_with 'run, a script that is a folder' '501 read failed' run "$boards/main.toml" < /
+full 'run' run "$boards/main.toml" < run.script
+fails_with 'run, a faulty file' '107 size' run "$boards/size.toml" < run.script
+fails_with 'run, a board that does not fit' '204 memory pool' run "$boards/memory_pool.toml" < run.script
+fails_with 'run, no such file' '702 board file' run nothing.toml < run.script
+
+# each line is answered before the next one is sent
+coproc asked { timeout 60 "$program" run "$boards/main.toml" 2> err; }
+pid=$asked_PID to=${asked[1]} from=${asked[0]}
+: > out
+while read -r line; do
+  case $line in '#'*) continue ;; esac
+  echo "$line" >&"$to"
+  read -r -t 20 reply <&"$from" || reply='no answer'
+  echo "$reply" >> out
+done < run.script
+eval "exec $to>&-"
+wait "$pid"; status=$?
+cp run.wanted wanted.out; : > wanted.err; wanted=0
+tell 'run, line by line through a pipe'
+
 # ---- help
 cp "$top/tests/help.txt" wanted.out
 ends_with '--help' --help
@@ -107,6 +178,7 @@ full '--help' --help
 usage='701 usage'
 fails_with 'no word' "$usage"
 fails_with 'list alone' "$usage" list
+fails_with 'run alone' "$usage" run
 fails_with 'a word too many for list' "$usage" list "$boards/main.toml" y
 fails_with 'a word too many for demo' "$usage" demo demo
 fails_with 'an unknown word' "$usage" x

@@ -1,6 +1,6 @@
 -- What the words of the command line ask for.
 --     IsAsked words choice      the choice is the subcommand that the words name
---     IsHelp, IsRun choice      the choice is help, or is none
+--     IsHelp, IsWork choice      the choice is help, or is none
 use Rattle.std.specs.Prelude.{◌≡◌, ℕ, List, [], Some, codes, unwrap_or}
 use Rattle.pciguest.specs.Words.{subcommand, board}
 use Rattle.simulation.specs.declared.choice.Choice.{Choice}
@@ -10,13 +10,16 @@ abbrev pub IsAsked : List (List ℕ) → Choice → Type 0
 IsAsked words (choice.Help text) = Unit {0}
 IsAsked words choice.Demo = subcommand words ≡ Some (codes "demo")
 IsAsked words (choice.List path) = (subcommand words ≡ Some (codes "list")) × (path.now ≡ unwrap_or (board words) [])
+IsAsked words (choice.Run path) = (subcommand words ≡ Some (codes "run")) × (path.now ≡ unwrap_or (board words) [])
 
-abbrev pub IsRun : Choice → Type 0
-IsRun (choice.Help text) = ⊥
-IsRun choice.Demo = Unit {0}
-IsRun (choice.List path) = Unit {0}
+abbrev pub IsWork : Choice → Type 0
+IsWork (choice.Help text) = ⊥
+IsWork choice.Demo = Unit {0}
+IsWork (choice.List path) = Unit {0}
+IsWork (choice.Run path) = Unit {0}
 
 abbrev pub IsHelp : Choice → Type 0
 IsHelp (choice.Help text) = Unit {0}
 IsHelp choice.Demo = ⊥
 IsHelp (choice.List path) = ⊥
+IsHelp (choice.Run path) = ⊥
