@@ -1,7 +1,9 @@
-//! The boards of `data`, each with its report, or with the reason why it is refused.
+//! The boards of `data`, each with its report, or with the reason why it is refused; and scripts, with
+//! what they write over a board.
 #![tactic(auto)]
 
-use simulation::{Fault, OutputStream, board_bytes, list};
+use fake_streams::FakeReader;
+use simulation::{Fault, OutputStream, board_bytes, list, whole};
 use std::alloc::Global;
 use std::io;
 use std::process::ExitCode;
@@ -9,11 +11,12 @@ use std::rt::Files;
 
 /// Boards that can be set up, then one for each reason why a file or its board is refused, and a name
 /// of no file.
-const BOARDS: [&str; 25] = [
+const BOARDS: [&str; 26] = [
     "main.toml",
     "demo.toml",
     "host_alone.toml",
     "second_bridge.toml",
+    "guest_elsewhere.toml",
     "chain.toml",
     "kinds.toml",
     "largest.toml",
@@ -37,6 +40,18 @@ const BOARDS: [&str; 25] = [
     "missing.toml",
 ];
 
+/// Scripts, each over the board that is named before it. The first runs over two boards on which the
+/// guest has the same function, and writes the same.
+const RUNS: [(&str, &str); 7] = [
+    ("main.toml", "guest.script"),
+    ("guest_elsewhere.toml", "guest.script"),
+    ("main.toml", "two_guests.script"),
+    ("main.toml", "raise.script"),
+    ("main.toml", "host.script"),
+    ("main.toml", "ports.script"),
+    ("main.toml", "move.script"),
+];
+
 /// Writes the report of a board file.
 fn show(rt: &(impl AllocGlobal + Files + Print), name: &str) -> Result<(), Fault> {
     let alloc = rt.alloc();
@@ -45,22 +60,48 @@ fn show(rt: &(impl AllocGlobal + Files + Print), name: &str) -> Result<(), Fault
     list(alloc, &board, &mut writer)
 }
 
+/// Writes what a script writes over a board.
+fn run(rt: &(impl AllocGlobal + Files + Print), board: &str, script: &str) -> Result<(), Fault> {
+    let alloc = rt.alloc();
+    let board = board_bytes(rt, alloc, board)?;
+    let script = board_bytes(rt, alloc, script)?;
+    let mut reader = FakeReader::new(script.as_slice(), 64, None);
+    let mut writer = OutputStream::new(alloc, io::writer(rt))?;
+    whole(alloc, &board, &mut reader, &mut writer)
+}
+
+/// Writes why a board or a script has no more output.
+fn tell(rt: &impl Print, outcome: Result<(), Fault>) -> io::Result<()> {
+    if let Err(fault) = outcome {
+        let number = fault.number();
+        let words = fault.words();
+        println!(rt; "fault {number} {words}")?;
+    }
+    Ok(())
+}
+
+/// Writes the name of a script, and under it what it writes.
+fn run_all(rt: &(impl AllocGlobal + Files + Print)) -> io::Result<()> {
+    for (board, script) in RUNS {
+        println!(rt; "== {script} over {board}")?;
+        tell(rt, run(rt, board, script))?;
+    }
+    Ok(())
+}
+
 /// Writes the name of a board file, and under it its report or its fault.
 fn show_all(rt: &(impl AllocGlobal + Files + Print)) -> io::Result<()> {
     for name in BOARDS {
         println!(rt; "== {name}")?;
-        if let Err(fault) = show(rt, name) {
-            let number = fault.number();
-            let words = fault.words();
-            println!(rt; "fault {number} {words}")?;
-        }
+        tell(rt, show(rt, name))?;
     }
     Ok(())
 }
 
 fn main(rt: HostRuntime) -> ExitCode {
-    match show_all(&rt) {
-        Ok(()) => ExitCode::SUCCESS,
-        Err(_) => ExitCode::FAILURE,
+    if show_all(&rt).is_ok() && run_all(&rt).is_ok() {
+        ExitCode::SUCCESS
+    } else {
+        ExitCode::FAILURE
     }
 }
