@@ -82,16 +82,16 @@ impl Reader for FakeReader<'_> {
     }
 }
 
-/// A writer into an array, which takes no byte once the array is full, and hands on what it took at
-/// a flush.
+/// A writer into an array, which takes no byte once the array is full, and keeps what it took back
+/// until a flush.
 #[derive(Drop)]
 pub struct FakeWriter<const N: usize> {
     bytes: ArrayVec<u8, N>,
-    /// So many of the bytes were handed on.
-    handed_on: usize,
+    /// So many of the bytes were flushed.
+    flushed: usize,
     step: usize,
     faults: Faults,
-    ghost has_handed_on: { handed_on ≤ length bytes.items },
+    ghost has_flushed: { flushed ≤ length bytes.items },
 }
 
 impl<const N: usize> FakeWriter<N> {
@@ -99,7 +99,7 @@ impl<const N: usize> FakeWriter<N> {
     /// fails.
     pub fn new(step: usize, failing: Option<u32>) -> Self
         ensures written { ⟦<FakeWriter<N> as Writer>⟧.written result ≡ Some [] }
-        ensures handed_on { ⟦<FakeWriter<N> as Writer>⟧.handed_on result ≡ Some [] }
+        ensures flushed { ⟦<FakeWriter<N> as Writer>⟧.flushed result ≡ Some [] }
         ensures failures { ⟦<FakeWriter<N> as Writer>⟧.failures result ≡ 0 }
     {
         let faults = Faults {
@@ -108,7 +108,7 @@ impl<const N: usize> FakeWriter<N> {
         };
         FakeWriter {
             bytes: ArrayVec::new(),
-            handed_on: 0,
+            flushed: 0,
             step,
             faults,
         }
@@ -121,18 +121,18 @@ impl<const N: usize> FakeWriter<N> {
         self.bytes.as_slice()
     }
 
-    /// What was handed on.
-    pub fn handed_on(&self) -> &[u8]
-        ensures { ⟦<FakeWriter<N> as Writer>⟧.handed_on self.now ≡ Some result.now }
+    /// What was flushed.
+    pub fn flushed(&self) -> &[u8]
+        ensures { ⟦<FakeWriter<N> as Writer>⟧.flushed self.now ≡ Some result.now }
     {
-        &self.bytes.as_slice()[..self.handed_on]
+        &self.bytes.as_slice()[..self.flushed]
     }
 }
 
 impl<const N: usize> Writer for FakeWriter<N> {
     ghost written = { λ w. Some w.bytes.items };
 
-    ghost handed_on = { λ w. Some (take w.handed_on w.bytes.items) };
+    ghost flushed = { λ w. Some (take w.flushed w.bytes.items) };
 
     ghost failures = { λ w. w.faults.failures };
 
@@ -149,7 +149,7 @@ impl<const N: usize> Writer for FakeWriter<N> {
 
     fn flush(&mut self) -> Result<(), Failed> {
         self.faults.call()?;
-        self.handed_on = self.bytes.len();
+        self.flushed = self.bytes.len();
         Ok(())
     }
 }

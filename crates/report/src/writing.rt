@@ -11,7 +11,7 @@ use crate::whole::report_text;
 use accesses::GuestDecl;
 use bus_scan::FunctionTable;
 use std::alloc::Global;
-use streams::{Writer, hand_on};
+use streams::{Writer, write_and_flush};
 use thiserror::Error;
 use window_packing::Plan;
 
@@ -52,7 +52,7 @@ pub fn report<W: Writer>(
     // Whatever world these are of, its report was written, or a beginning of it.
     ensures written { OnOk result ((w : World) → IsOf w table.now plan.now guests.now →
         Appends (W.written writer.old) (W.written writer.new) (report w)) }
-    ensures handed_on { OnOk result (W.handed_on writer.new ≡ W.written writer.new) }
+    ensures flushed { OnOk result (W.flushed writer.new ≡ W.written writer.new) }
     ensures stopped { IsErrOf result ReportFault.Write → (w : World) → IsOf w table.now plan.now guests.now →
         AppendsPart (W.written writer.old) (W.written writer.new) (report w) }
     ensures memory { IsErrOf result ReportFault.Memory → writer.new ≡ writer.old }
@@ -63,7 +63,7 @@ pub fn report<W: Writer>(
     let Ok(text) = report_text(alloc, table, plan, guests) else {
         return Err(ReportFault::Memory);
     };
-    if hand_on(writer, text.as_bytes()).is_err() {
+    if write_and_flush(writer, text.as_bytes()).is_err() {
         return Err(ReportFault::Write);
     }
     Ok(())

@@ -128,7 +128,7 @@ pub fn run<R: Reader, W: Writer>(
         Appends (W.written writer.old) (W.written writer.new) (output lone.old (lines script)))) }
     ensures after { OnOk result (ForSome (R.rest reader.old) (λ script.
         lone.new ≡ after_lines lone.old (lines script))) }
-    ensures handed_on { OnOk result (W.handed_on writer.new ≡ W.written writer.new) }
+    ensures flushed { OnOk result (W.flushed writer.new ≡ W.written writer.new) }
 
     // A failed write ended the run within what some line writes, or a failed flush after all lines.
     ensures read_whole { IsErrOf result RunFault.Write → IsAtEnd (R.rest reader.new) }

@@ -123,7 +123,7 @@ stopped_last w old_rest new_rest text rest script long old mid new end last take
   in_time = inr done;
 }
 
--- all lines were answered, but what they wrote was not handed on
+-- all lines were answered, but what they wrote was not flushed
 pub stopped_after : (w : WorldNow) (ls : List Text) (old new : Option Text) (end : WorldNow)
     → Appends old new (output w ls) → end ≡ after_lines w ls → IsStopped w ls old new end
 stopped_after w ls old new end written events = record {

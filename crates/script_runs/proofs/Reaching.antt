@@ -168,7 +168,7 @@ each_last : (P : Text → Type 0) (a b : List Text) → Each P (a ++ b) → Each
 each_last P [] b h = h
 each_last P (x ∷ xs) b h = each_last P xs b h.1
 
--- lines ran, and what they wrote was not handed on
+-- lines ran, and what they wrote was not flushed
 pub stops_flush : (w : WorldNow) (text rest : Text) (long : Bool) (old new : Option Text) (end : WorldNow)
     → (r : Reaches w text rest long old new end) → 0 < length r.whole → StopsWithin w text old new end
 stops_flush w text rest long old new end r some =

@@ -76,7 +76,7 @@ fn run_lines<W: Writer>(
     })
 }
 
-/// Hands on what was written, where anything was.
+/// Flushes what was written, where anything was.
 fn flush_if<W: Writer>(writer: &mut W, wrote: bool) -> Result<(), Failed>
     requires { W.failures writer.old < 2 ^ 64 - 1 }
     ensures bytes { Keeps (W.written writer.old) (W.written writer.new) }
@@ -90,7 +90,7 @@ fn flush_if<W: Writer>(writer: &mut W, wrote: bool) -> Result<(), Failed>
 }
 
 /// Runs the lines that line feeds end among what is held, and keeps the rest. What was written is
-/// handed on, so that it can be read before more of the script is asked for.
+/// flushed, so that it can be read before more of the script is asked for.
 pub(crate) fn run_piece<W: Writer>(
     monitor: &mut Monitor,
     held: &mut Held,
@@ -157,7 +157,7 @@ pub(crate) fn run_last<W: Writer>(
         Appends (W.written writer.old) (W.written writer.new) (output monitor.old (lines (before ++ held.now.text)))) }
     ensures after { OnOk result ((before : Text) → IsBefore held.now.long before → HasNoEnd (before ++ held.now.text) →
         monitor.new ≡ after_lines monitor.old (lines (before ++ held.now.text))) }
-    ensures handed_on { OnOk result (W.handed_on writer.new ≡ W.written writer.new) }
+    ensures flushed { OnOk result (W.flushed writer.new ≡ W.written writer.new) }
     ensures stopped { OnErr result ((before : Text) → IsBefore held.now.long before → HasNoEnd (before ++ held.now.text) →
         IsStopped monitor.old (lines (before ++ held.now.text))
         (W.written writer.old) (W.written writer.new) monitor.new) }

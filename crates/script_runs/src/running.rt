@@ -74,7 +74,7 @@ fn run_pieces<R: Reader, W: Writer>(
 }
 
 /// Runs a script over the monitor, in pieces as they are read. Each line is answered before the next
-/// is looked at, and all answers are handed on before more is read, so that who writes the script can
+/// is looked at, and all answers are flushed before more is read, so that who writes the script can
 /// wait for them. Of a long line nothing is kept, and no memory is taken. No failure is tried again.
 pub fn run<R: Reader, W: Writer>(
     monitor: &mut Monitor,
@@ -94,7 +94,7 @@ pub fn run<R: Reader, W: Writer>(
         Appends (W.written writer.old) (W.written writer.new) (output monitor.old (lines script)))) }
     ensures after { OnOk result (ForSome (R.rest reader.old) (λ script.
         monitor.new ≡ after_lines monitor.old (lines script))) }
-    ensures handed_on { OnOk result (W.handed_on writer.new ≡ W.written writer.new) }
+    ensures flushed { OnOk result (W.flushed writer.new ≡ W.written writer.new) }
 
     // A failed read: the lines that were read up to their line feeds ran, and no part of a line.
     ensures cut { IsErrOf result RunFault.Read →

@@ -12,7 +12,7 @@ use crate::listing::list;
 use crate::running::whole;
 use std::alloc::Global;
 use std::rt::Files;
-use streams::{Reader, Writer, hand_on};
+use streams::{Reader, Writer, write_and_flush};
 
 /// What the program is to do.
 #[derive(Drop)]
@@ -31,12 +31,12 @@ pub enum Choice<'a> {
 fn print<W: Writer>(text: &str, writer: &mut W) -> Result<(), Fault>
     requires { W.failures writer.old < 2 ^ 64 - 1 }
     ensures ok { OnOk result (Appends (W.written writer.old) (W.written writer.new) text.now) }
-    ensures handed_on { OnOk result (W.handed_on writer.new ≡ W.written writer.new) }
+    ensures flushed { OnOk result (W.flushed writer.new ≡ W.written writer.new) }
     ensures stopped { OnErr result (AppendsPart (W.written writer.old) (W.written writer.new) text.now) }
     ensures fault { IfErr result (λ f. f ≡ Fault.Write) }
     ensures failures { W.failures writer.new ≡ W.failures writer.old + write_faults result }
 {
-    if hand_on(writer, text.as_bytes()).is_err() {
+    if write_and_flush(writer, text.as_bytes()).is_err() {
         return Err(Fault::Write);
     }
     Ok(())
@@ -53,9 +53,9 @@ pub fn perform<R: Reader, W: Writer>(
     requires reader_has_room { R.failures reader.old < 2 ^ 64 - 1 }
     requires writer_has_room { W.failures writer.old < 2 ^ 64 - 1 }
 
-    // The text, the report of some board file or the script's output was written and handed on.
+    // The text, the report of some board file or the script's output was written and flushed.
     ensures done { OnOk result (IsDone choice.now (R.rest reader.old) (W.written writer.old) (W.written writer.new)) }
-    ensures handed_on { OnOk result (W.handed_on writer.new ≡ W.written writer.new) }
+    ensures flushed { OnOk result (W.flushed writer.new ≡ W.written writer.new) }
 
     // Only a failed write, or a failed read of a run, comes after a part of it was written.
     ensures cut { IsErrOf result Fault.Read →

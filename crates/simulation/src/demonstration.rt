@@ -41,11 +41,11 @@ pub fn demo<R: Reader, W: Writer>(
     ensures reads { R.failures reader.new ≡ R.failures reader.old + read_faults result }
     ensures writes { W.failures writer.new ≡ W.failures writer.old + write_faults result }
 
-    // The script was read to its end, and the output of all its lines was written and handed on.
+    // The script was read to its end, and the output of all its lines was written and flushed.
     ensures end { OnOk result (IsAtEnd (R.rest reader.new)) }
     ensures output { OnOk result (ForSome (R.rest reader.old) (λ script.
         Appends (W.written writer.old) (W.written writer.new) (output demo_guest (lines script)))) }
-    ensures handed_on { OnOk result (W.handed_on writer.new ≡ W.written writer.new) }
+    ensures flushed { OnOk result (W.flushed writer.new ≡ W.written writer.new) }
 
     ensures faults { IfErr result IsOfDemo }
     ensures nothing { IfErr result (λ f. f ≢ Fault.Write → writer.new ≡ writer.old) }

@@ -23,7 +23,7 @@ pub fn list<W: Writer>(alloc: Global, board: &[u8], writer: &mut W) -> Result<()
     // The file declares a board that is set up, whose report was written and nothing else.
     ensures listed { OnOk result ((w : World) × Declares board.now w × (first_broken (set_up_rules w.board w.apertures) ≡ None)
         × IsListed w (W.written writer.old) (W.written writer.new)) }
-    ensures handed_on { OnOk result (W.handed_on writer.new ≡ W.written writer.new) }
+    ensures flushed { OnOk result (W.flushed writer.new ≡ W.written writer.new) }
 
     ensures file { IfErr result (λ f. number_of f < 199 → Refuses board.now (number_of f)) }
     ensures placement { IfErr result (λ f. 199 < number_of f → number_of f < 299 →

@@ -34,10 +34,10 @@ pub fn whole<R: Reader, W: Writer>(
     requires reader_has_room { R.failures reader.old < 2 ^ 64 - 1 }
     requires writer_has_room { W.failures writer.old < 2 ^ 64 - 1 }
 
-    // The script was read to its end, and its output in the world of the file was written and handed on.
+    // The script was read to its end, and its output in the world of the file was written and flushed.
     ensures end { OnOk result (IsAtEnd (R.rest reader.new)) }
     ensures output { OnOk result (IsRun board.now (R.rest reader.old) (W.written writer.old) (W.written writer.new)) }
-    ensures handed_on { OnOk result (W.handed_on writer.new ≡ W.written writer.new) }
+    ensures flushed { OnOk result (W.flushed writer.new ≡ W.written writer.new) }
 
     ensures file { IfErr result (λ f. number_of f < 199 → Refuses board.now (number_of f)) }
     ensures placement { IfErr result (λ f. 199 < number_of f → number_of f < 299 →

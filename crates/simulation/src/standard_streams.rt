@@ -77,7 +77,7 @@ impl<W: Write + Drop> OutputStream<W> {
     /// else.
     pub fn new(alloc: Global, inner: W) -> Result<Self, Fault>
         ensures written { IfOk result (λ s. ⟦<OutputStream<W> as Writer>⟧.written s ≡ W.contents inner) }
-        ensures handed_on { IfOk result (λ s. ⟦<OutputStream<W> as Writer>⟧.handed_on s ≡ W.contents inner) }
+        ensures flushed { IfOk result (λ s. ⟦<OutputStream<W> as Writer>⟧.flushed s ≡ W.contents inner) }
         ensures failures { IfOk result (λ s. ⟦<OutputStream<W> as Writer>⟧.failures s ≡ 0) }
         ensures memory { IfErr result (λ f. f ≡ Fault.SetUpMemory) }
     {
@@ -93,8 +93,8 @@ impl<W: Write + Drop> Writer for OutputStream<W> {
 
     ghost written = { λ s. writer_contents W.contents s.inner };
 
-    // What the buffer keeps back was not handed on.
-    ghost handed_on = { λ s. W.contents (writer_inner s.inner) };
+    // What the buffer keeps back was not flushed.
+    ghost flushed = { λ s. W.contents (writer_inner s.inner) };
 
     ghost failures = { λ s. s.failures };
 

@@ -34,9 +34,9 @@ pub trait Writer {
     /// The bytes that were taken, where they are known.
     ghost written: { Self → Option (List ℕ) };
 
-    /// Those of them that were handed on, where they are known. The others may be kept back until a
+    /// Those of them that were flushed, where they are known. The others may be kept back until a
     /// flush.
-    ghost handed_on: { Self → Option (List ℕ) };
+    ghost flushed: { Self → Option (List ℕ) };
 
     /// How many writes and flushes have failed. A write that takes no byte is a failure. The count
     /// has room for one more at each call.
@@ -49,10 +49,10 @@ pub trait Writer {
         ensures bytes { WriteAppends (written self.old) (written self.new) result bytes.now }
         ensures failures { failures self.new ≡ failures self.old + write_failures_of result };
 
-    /// Hands on all that was taken.
+    /// Flushes all that was taken, so that its reader has it.
     fn flush(&mut self) -> Result<(), Failed>
         requires { failures self.old < 2 ^ 64 - 1 }
         ensures bytes { Keeps (written self.old) (written self.new) }
-        ensures handed_on { OnOk result (handed_on self.new ≡ written self.new) }
+        ensures flushed { OnOk result (flushed self.new ≡ written self.new) }
         ensures failures { failures self.new ≡ failures self.old + failures_of result };
 }

@@ -5,4 +5,4 @@ mod ends;
 mod writing;
 
 pub use ends::{Failed, Reader, Writer};
-pub use writing::{hand_on, write_all};
+pub use writing::{write_all, write_and_flush};

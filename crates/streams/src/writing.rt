@@ -24,10 +24,10 @@ pub fn write_all<W: Writer>(writer: &mut W, text: &[u8]) -> Result<(), Failed>
 }
 
 /// Writes all of a text and flushes, or stops at the first failure.
-pub fn hand_on<W: Writer>(writer: &mut W, text: &[u8]) -> Result<(), Failed>
+pub fn write_and_flush<W: Writer>(writer: &mut W, text: &[u8]) -> Result<(), Failed>
     requires { W.failures writer.old < 2 ^ 64 - 1 }
     ensures ok { OnOk result (Appends (W.written writer.old) (W.written writer.new) text.now) }
-    ensures handed_on { OnOk result (W.handed_on writer.new ≡ W.written writer.new) }
+    ensures flushed { OnOk result (W.flushed writer.new ≡ W.written writer.new) }
     ensures err { OnErr result (AppendsPart (W.written writer.old) (W.written writer.new) text.now) }
     ensures failures { W.failures writer.new ≡ W.failures writer.old + failures_of result }
 {

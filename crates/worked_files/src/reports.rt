@@ -41,12 +41,12 @@ fn each_call_of_a_writer_fails_in_turn(rt: HostRuntime) -> Result<(), Fail> {
         let result = report(alloc, ready.table(), ready.plan(), &guests, &mut writer);
         assert_eq!(rt; result, Err(ReportFault::Write));
         assert!(rt; REPORT.as_bytes().starts_with(writer.bytes()));
-        assert!(rt; writer.handed_on().is_empty());
+        assert!(rt; writer.flushed().is_empty());
     }
     let mut writer = FakeWriter::<1024>::new(STEP, Some(WRITES + 1));
     let result = report(alloc, ready.table(), ready.plan(), &guests, &mut writer);
     assert_eq!(rt; result, Ok(()));
     assert!(rt; writer.bytes() == REPORT.as_bytes());
-    assert!(rt; writer.handed_on() == REPORT.as_bytes());
+    assert!(rt; writer.flushed() == REPORT.as_bytes());
     Ok(())
 }

@@ -96,7 +96,7 @@ fn scripts(rt: HostRuntime) -> Result<(), Fail> {
             let ran = written(&rt, rt.alloc(), &decls, script, step, None, &mut writer);
             assert_eq!(rt; ran, Ok(()));
             assert_eq!(rt; writer.bytes(), output);
-            assert_eq!(rt; writer.handed_on(), output);
+            assert_eq!(rt; writer.flushed(), output);
         }
     }
     Ok(())

@@ -21,11 +21,11 @@ fn report_to_a_writer_that_fails(rt: HostRuntime) -> Result<(), Fail> {
         assert_eq!(rt; listed, Err(Fault::Write), "call {failing}");
         let end = report.len().min(16 * failing as usize);
         assert_eq!(rt; writer.bytes(), &report[..end], "call {failing}");
-        assert_eq!(rt; writer.handed_on(), b"".as_slice(), "call {failing}");
+        assert_eq!(rt; writer.flushed(), b"".as_slice(), "call {failing}");
     }
     let mut writer = FakeWriter::<128>::new(16, Some(7));
     assert_eq!(rt; list(rt.alloc(), BOARD.as_bytes(), &mut writer), Ok(()));
-    assert_eq!(rt; writer.handed_on(), report);
+    assert_eq!(rt; writer.flushed(), report);
     let mut full = FakeWriter::<64>::new(16, None);
     assert_eq!(rt;
         list(rt.alloc(), BOARD.as_bytes(), &mut full),
@@ -58,12 +58,12 @@ fn demo_over_streams_that_fail(rt: HostRuntime) -> Result<(), Fail> {
         );
         let end = output.len().min(6 * failing as usize);
         assert_eq!(rt; writer.bytes(), &output[..end], "write {failing}");
-        assert_eq!(rt; writer.handed_on(), b"".as_slice(), "write {failing}");
+        assert_eq!(rt; writer.flushed(), b"".as_slice(), "write {failing}");
     }
     let mut reader = FakeReader::new(script, 8, Some(3));
     let mut writer = FakeWriter::<32>::new(6, Some(4));
     assert_eq!(rt; demo(rt.alloc(), &mut reader, &mut writer), Ok(()));
-    assert_eq!(rt; writer.handed_on(), output);
+    assert_eq!(rt; writer.flushed(), output);
     Ok(())
 }
 
@@ -80,6 +80,6 @@ fn help_is_written(rt: HostRuntime) -> Result<(), Fail> {
         &mut writer,
     );
     assert_eq!(rt; performed, Ok(()));
-    assert_eq!(rt; writer.handed_on(), b"help\n".as_slice());
+    assert_eq!(rt; writer.flushed(), b"help\n".as_slice());
     Ok(())
 }
