@@ -123,13 +123,13 @@ pub(crate) fn places_hold(file: &FileEntries<'_>, functions: &[FunctionPath]) ->
 fn has_path(functions: &[FunctionPath], path: &Path) -> bool
     ensures { result ≡ has_path functions.now path.now }
 {
-    functions.iter().any(|function| function.path.is_same(path))
+    functions.iter().any(|function| function.path == *path)
 }
 
 fn has_bridge(functions: &[FunctionPath], path: &Path) -> bool
     ensures { result ≡ has_bridge functions.now path.now }
 {
-    functions.iter().any(|function| function.is_bridge && function.path.is_same(path))
+    functions.iter().any(|function| function.is_bridge && function.path == *path)
 }
 
 /// Whether an endpoint stands at the path.
@@ -184,7 +184,7 @@ fn slot_paths(alloc: Global, guests: &[GuestEntry<'_>]) -> Result<Vec<Path>, All
 fn is_other(path: &Path, others: &[Path]) -> bool
     ensures { result ≡ list_all (λ q. not (path_eq path.now q)) others.now }
 {
-    others.iter().all(|other| !path.is_same(other))
+    others.iter().all(|other| path != other)
 }
 
 fn are_apart(paths: &[Path]) -> bool

@@ -7,12 +7,11 @@ use Rattle.std.specs.List.{slice_get}
 use Rattle.std.specs.Option.{option_map_or}
 use Rattle.std.proofs.lemmas.Bool.{ne_eqb, eq-eqb, eqb-true, lt-ltb, le-leb}
 use Rattle.model_registers.specs.Lists.{Each}
-use Rattle.model_registers.specs.Cell.{Cell, no_cell}
+use Rattle.model_registers.specs.Cell.{Cell}
 use Rattle.model_registers.specs.Registers.{Place, config, block, offset_of, place_eq, Entry, File, cell_at, field, cells_from, in_region}
 use Rattle.model_registers.specs.FileLaws.{has_place, IsConfig, IsConfigFile}
-use Rattle.model_registers.specs.Declarations.{Region, registers_of, HasLawfulRegions, IsLawfulRegion, Endpoint}
-use Rattle.model_registers.specs.DeclarationRules.{IsLawfulEndpoint}
-use Rattle.model_registers.specs.EndpointTable.{type_bits, base_width, BaseAddress, register_cells, base_file, opened, closed, config_reset, endpoint_reset}
+use Rattle.model_registers.specs.Declarations.{Region, registers_of, IsLawfulRegion, Endpoint}
+use Rattle.model_registers.specs.EndpointTable.{type_bits, base_width, BaseAddress, register_cells, opened, closed, config_reset, endpoint_reset}
 use Rattle.model_registers.specs.OwnCopies.{is_own}
 use Rattle.config_bytes.specs.CellFile.{CellFile, is_between, reset_entry, reset_outside, places_of}
 use Rattle.bridge_forward.specs.EndpointParts.{block_at, block_at_reset, region_parts, AreParts, region_at, declared_block, IsConstant, IsHeaderKept, KnowReset, blocks_after}

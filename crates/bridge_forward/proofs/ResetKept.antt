@@ -1,6 +1,6 @@
 -- What an endpoint knows of its cells at reset: at the beginning, and after each change.
-use Rattle.std.proofs.Common.{◌≡◌, ◌≢◌, ℕ, zero, suc, ◌+◌, ◌-◌, ◌/◌, ◌%◌, ◌<◌, ◌≤◌, ◌⊎◌, inl, inr, Bool, true, false, ◌||◌, cond, Some, None, List, [], ◌∷◌, ◌++◌, length, refl, ap, ap₂, sym, ◌∙◌, subst, arith, get_or}
-use Rattle.std.specs.Prelude.{flat_map, bit_and, bit_or, ◌==◌}
+use Rattle.std.proofs.Common.{◌≡◌, ◌≢◌, ℕ, ◌+◌, ◌-◌, ◌/◌, ◌%◌, ◌<◌, ◌≤◌, ◌⊎◌, inl, inr, Bool, true, false, ◌||◌, cond, Some, None, List, [], ◌∷◌, ◌++◌, length, refl, ap, ap₂, sym, ◌∙◌, subst, arith, get_or}
+use Rattle.std.specs.Prelude.{flat_map, bit_and, bit_or}
 use Rattle.std.specs.Int.Bits.{and_zero_l, and_zero_r, or_zero_r}
 use Rattle.std.specs.List.{slice_get, slice_set}
 use Rattle.std.specs.Option.{option_map_or}
@@ -8,7 +8,7 @@ use Rattle.std.proofs.lemmas.Bool.{ne_eqb}
 use Rattle.std.proofs.lemmas.List.{length-set}
 use Rattle.model_registers.specs.Lists.{Each}
 use Rattle.model_registers.specs.Cell.{Cell, written, raised}
-use Rattle.model_registers.specs.Registers.{Place, config, block, after, place_eq, Entry, File, cell_at, changed, write, field, cells_from}
+use Rattle.model_registers.specs.Registers.{Place, config, block, after, place_eq, File, cell_at, changed, write, field}
 use Rattle.model_registers.specs.FileLaws.{has_place}
 use Rattle.model_registers.specs.Declarations.{ConfigBlock, Endpoint}
 use Rattle.model_registers.specs.DeclarationRules.{IsConfigBlock, IsLawfulEndpoint}

@@ -5,7 +5,6 @@ use Rattle.std.specs.List.{slice_get, slice_set}
 use Rattle.std.proofs.lemmas.Bool.{eqb-true}
 use Rattle.std.proofs.lemmas.Option.{slice_get_within}
 use Rattle.model_registers.specs.Registers.{File}
-use Rattle.model_registers.specs.Decoding as decoding
 use Rattle.model_registers.proofs.Tests.{left_true, right_true}
 use Rattle.model_board.specs.Paths.{Path}
 use Rattle.model_board.specs.Board.{is_bridge}

@@ -11,3 +11,5 @@ pub mod Search
 pub mod Skips
 pub mod Lending
 pub mod Locating
+pub mod PathOrders
+pub mod PathLaws

@@ -37,10 +37,11 @@ impl Model for Decl {
 
 impl Decl {
     /// Path order.
+    #[tactic(auto, using(crate::specs::PathLaws::paths_before))]
     pub(crate) fn compare(&self, other: &Decl) -> Ordering
         ensures { is_lt result ≡ path_before self.now.path other.now.path }
     {
-        self.path.compare(&other.path)
+        self.path.cmp(&other.path)
     }
 
     /// Whether the other function stands in the same device.

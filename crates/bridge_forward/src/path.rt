@@ -2,13 +2,18 @@
 ghost use Rattle.std.specs.Prelude.{◌≡◌, ◌&&◌, not, IsTrue, ◌+◌, ◌<◌, [], ◌∷◌, ◌++◌, length};
 ghost use Rattle.std.specs.Ordering.{is_lt, is_eq};
 ghost use Rattle.model_board.specs.Paths.{part_eq, part_before, path_eq, path_before, leads_to, parent, same_device, function_zero, last_part, IsPath};
+ghost use Rattle.std.specs.Prelude.{refl};
+ghost use Rattle.std.specs.Ordering.{as_partial_cmp};
+ghost use Rattle.std.specs.Cmp.{po, partial_equiv_from_equiv};
+ghost use Rattle.bridge_forward.specs.PathOrders.{path_cmp};
+ghost use Rattle.bridge_forward.specs.PathLaws.{paths_equal, paths_ordered, paths_tied};
 
 use arrayvec::ArrayVec;
 use std::cmp::Ordering;
 use std::marker::Model;
 
 /// A device and a function number on one bus.
-#[derive(Clone, Copy, Debug, Default)]
+#[derive(Clone, Copy, Debug, Default, PartialEq, Eq, PartialOrd, Ord)]
 pub struct Part {
     device: u8,
     function: u8,
@@ -53,22 +58,7 @@ impl Part {
         self.function
     }
 
-    /// Whether both numbers are the same.
-    pub fn is_same(self, other: Part) -> bool
-        ensures { result ≡ part_eq self other }
-    {
-        self.device == other.device && self.function == other.function
-    }
-
-    /// The order in which a bus is scanned, as an ordering.
-    fn compare(self, other: Part) -> Ordering
-        ensures less { is_lt result ≡ part_before self other }
-        ensures equal { is_eq result ≡ part_eq self other }
-    {
-        self.compare_numbers(other.device, other.function)
-    }
-
-    /// The same order, against a device and a function number of any size.
+    /// The order in which a bus is scanned, against a device and a function number of any size.
     fn compare_numbers(self, device: u8, function: u8) -> Ordering
         ensures less { is_lt result ≡ part_before self (record { device = device; function = function }) }
         ensures equal { is_eq result ≡ part_eq self (record { device = device; function = function }) }
@@ -116,6 +106,45 @@ impl Default for Path {
     }
 }
 
+impl PartialEq for Path {
+    ghost eq = { path_eq };
+
+    ghost laws = { partial_equiv_from_equiv paths_equal };
+
+    fn eq(&self, other: &Path) -> bool {
+        is_same(self.parts(), other.parts())
+    }
+}
+
+impl Eq for Path {
+    ghost laws = { paths_equal };
+}
+
+/// Path order: part by part, and a path before its extensions.
+impl Ord for Path {
+    ghost cmp = { path_cmp };
+
+    ghost total = { paths_ordered };
+
+    ghost matches_partial_cmp = { λ p q. refl };
+
+    ghost matches_eq = { paths_tied };
+
+    fn cmp(&self, other: &Path) -> Ordering {
+        compare(self.parts(), other.parts())
+    }
+}
+
+impl PartialOrd for Path {
+    ghost partial_cmp = { as_partial_cmp path_cmp };
+
+    ghost laws = { po paths_ordered paths_tied };
+
+    fn partial_cmp(&self, other: &Path) -> Option<Ordering> {
+        Some(self.cmp(other))
+    }
+}
+
 impl Path {
     /// The path of a function on bus 0.
     pub fn on_root(part: Part) -> Path
@@ -142,7 +171,7 @@ impl Path {
         self.parts.as_slice()
     }
 
-    /// A copy of this path.
+    /// A copy of this path. It takes no memory, so unlike a `clone` it can't fail.
     pub fn copied(&self) -> Path
         ensures { result ≡ self.now }
     {
@@ -153,26 +182,11 @@ impl Path {
         Path { parts }
     }
 
-    /// Whether both paths are the same.
-    pub fn is_same(&self, other: &Path) -> bool
-        ensures { result ≡ path_eq self.now other.now }
-    {
-        is_same(self.parts(), other.parts())
-    }
-
     /// Whether this path comes before the other: part by part, and a path before its extensions.
     pub fn is_before(&self, other: &Path) -> bool
         ensures { result ≡ path_before self.now other.now }
     {
         is_before(self.parts(), other.parts())
-    }
-
-    /// Path order as an ordering.
-    pub(crate) fn compare(&self, other: &Path) -> Ordering
-        ensures less { is_lt result ≡ path_before self.now other.now }
-        ensures equal { is_eq result ≡ path_eq self.now other.now }
-    {
-        compare(self.parts(), other.parts())
     }
 
     /// Path order against the function with these numbers on a bus that this path is behind. One part
@@ -203,7 +217,7 @@ impl Path {
     {
         is_same(other.parent(), self.parent())
             && other.last().device() == self.last().device()
-            && !other.is_same(self)
+            && other != self
     }
 
     /// Whether this path is a proper beginning of the other.
@@ -253,7 +267,7 @@ pub(crate) fn is_same(xs: &[Part], ys: &[Part]) -> bool
         [] => ys.is_empty(),
         [x, xs @ ..] => match ys {
             [] => false,
-            [y, ys @ ..] => x.is_same(*y) && is_same(xs, ys),
+            [y, ys @ ..] => x == y && is_same(xs, ys),
         },
     }
 }
@@ -265,7 +279,7 @@ fn is_before(xs: &[Part], ys: &[Part]) -> bool
         [] => !ys.is_empty(),
         [x, xs @ ..] => match ys {
             [] => false,
-            [y, ys @ ..] => x.is_before(*y) || (x.is_same(*y) && is_before(xs, ys)),
+            [y, ys @ ..] => x.is_before(*y) || (x == y && is_before(xs, ys)),
         },
     }
 }
@@ -277,21 +291,20 @@ fn leads_to(xs: &[Part], ys: &[Part]) -> bool
         [] => !ys.is_empty(),
         [x, xs @ ..] => match ys {
             [] => false,
-            [y, ys @ ..] => x.is_same(*y) && leads_to(xs, ys),
+            [y, ys @ ..] => x == y && leads_to(xs, ys),
         },
     }
 }
 
 fn compare(xs: &[Part], ys: &[Part]) -> Ordering
-    ensures less { is_lt result ≡ path_before xs.now ys.now }
-    ensures equal { is_eq result ≡ path_eq xs.now ys.now }
+    ensures { result ≡ path_cmp xs.now ys.now }
 {
     match xs {
         [] if ys.is_empty() => Ordering::Equal,
         [] => Ordering::Less,
         [x, xs @ ..] => match ys {
             [] => Ordering::Greater,
-            [y, ys @ ..] => match x.compare(*y) {
+            [y, ys @ ..] => match x.cmp(y) {
                 Ordering::Equal => compare(xs, ys),
                 other => other,
             },

@@ -22,7 +22,7 @@ fn has_path<S: Stands>(places: &[S], path: &Path) -> bool
     ensures { result ≡ has_path (map S.standing places.now) path.now }
 {
     for place in places {
-        if place.path().is_same(path) {
+        if place.path() == path {
             return true;
         }
     }

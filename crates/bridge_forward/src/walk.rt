@@ -145,7 +145,7 @@ pub(crate) fn position(nodes: &[Node], path: &Path) -> Option<usize>
     while low < high {
         let middle = low + (high - low) / 2;
         let node = &nodes[middle];
-        match node.path.compare(path) {
+        match node.path.cmp(path) {
             Ordering::Equal => return Some(middle),
             Ordering::Less => low = middle + 1,
             Ordering::Greater => high = middle,

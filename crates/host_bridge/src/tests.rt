@@ -160,7 +160,7 @@ fn take(rt: &impl Abort, alloc: Global, host: &mut Host, step: Step) -> Result<(
         }
         Step::Claim(space, addr, want) => match host.claimant(space, addr) {
             Some(claim) => {
-                assert!(rt; claim.path.is_same(&behind_bridge(0)));
+                assert!(rt; claim.path == behind_bridge(0));
                 assert_eq!(rt; Some((claim.region, claim.offset)), want);
             }
             None => assert_eq!(rt; None, want),

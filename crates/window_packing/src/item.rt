@@ -48,7 +48,7 @@ impl Item {
             return self.align > other.align;
         }
         self.part.is_before(other.part)
-            || (self.part.is_same(other.part) && self.register() < other.register())
+            || (self.part == other.part && self.register() < other.register())
     }
 
     /// The order in which items stand on a bus.

@@ -11,7 +11,7 @@ use crate::pack::BusPack;
 fn is_same(item: &Item, key: &Item) -> bool
     ensures { result ≡ is_item key.now.part key.now.what item.now }
 {
-    item.part.is_same(key.part) && item.what == key.what
+    item.part == key.part && item.what == key.what
 }
 
 /// The index of the first spot whose item does not stand before `key`.

@@ -27,7 +27,7 @@ fn is_claim(rt: &impl Abort, found: Option<Claim>, want: Option<(bool, u8, u8, u
         } else {
             path(rt, &root)
         };
-        assert!(rt; found.path.is_same(&stands));
+        assert!(rt; found.path == stands);
         assert_eq!(rt; (found.region, found.offset), (region, offset));
     }
 }

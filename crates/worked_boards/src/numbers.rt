@@ -30,7 +30,7 @@ fn gaps_between_functions_are_passed_over(rt: HostRuntime) -> Result<(), Fail> {
     assert_eq!(rt; table.rows().len(), 3);
     for (row, function) in [(0, 0), (1, 3), (2, 7u8)] {
         let row: &FunctionRow = &table.rows()[row];
-        assert!(rt; row.path.is_same(&path(&rt, &[(3, function)])));
+        assert!(rt; row.path == path(&rt, &[(3, function)]));
         let at = Bdf {
             bus: 0,
             device: 3,

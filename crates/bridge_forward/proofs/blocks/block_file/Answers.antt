@@ -1,6 +1,6 @@
 use Rattle.std.proofs.Common.{◌≡◌, ℕ, List, [], ◌∷◌, ◌++◌, take, sym, ap, ◌∙◌, subst}
 use Rattle.model_registers.specs.Cell.{Cell}
-use Rattle.config_bytes.specs.CellFile.{CellFile, HasDistinctOffsets, offsets_from, file_of}
+use Rattle.config_bytes.specs.CellFile.{HasDistinctOffsets, offsets_from, file_of}
 use Rattle.config_bytes.proofs.Offsets.{file_of-offsets_from, HasDistinctOffsets-offsets_from}
 use Rattle.bridge_forward.specs.EndpointParts.{as_made}
 use Rattle.bridge_forward.proofs.Indices.{read_at}

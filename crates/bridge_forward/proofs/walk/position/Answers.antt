@@ -1,13 +1,24 @@
-use Rattle.std.proofs.Common.{◌+◌, ◌-◌, ◌/◌, arith, sym}
+use Rattle.std.proofs.Common.{◌≡◌, Ordering, Less, Equal, Greater, ◌+◌, ◌-◌, ◌/◌, arith, ap, sym, ◌∙◌}
+use Rattle.std.specs.Ordering.{is_eq, is_lt}
+use Rattle.model_board.specs.Paths.{Path, path_eq, path_before}
+use Rattle.bridge_forward.specs.PathOrders.{path_cmp}
+use Rattle.bridge_forward.specs.PathLaws.{paths_tied, paths_before}
 use Rattle.bridge_forward.proofs.Indices.{read_at}
 use Rattle.bridge_forward.proofs.Halving.{here, below_here, above_here, nowhere}
 use Rattle.bridge_forward.proofs.walk.position.Goals as goal
+
+-- what an ordering says of equality, and of order
+equal_by : (p q : Path) (r : Ordering) → r ≡ path_cmp p q → path_eq p q ≡ is_eq r
+equal_by p q r e = paths_tied p q ∙ sym (ap is_eq e)
+
+before_by : (p q : Path) (r : Ordering) → r ≡ path_cmp p q → path_before p q ≡ is_lt r
+before_by p q r e = sym (paths_before p q) ∙ sym (ap is_lt e)
 
 pub returns-in-Equal-clause-found : goal.returns-in-Equal-clause-found
 returns-in-Equal-clause-found c =
     let i = c.loop-low.low + (c.loop-low.high - c.loop-low.low) / 2 in
     let e = read_at c.args.nodes.now i c.index-nodes-middle.result (omega (arith, c.loop-low-test.true, c.loop-low.invariant.within)) c.index-nodes-middle.is in
-    here c.args.nodes.now c.requires.laid c.args.path.now i c.index-nodes-middle.result e (sym c.in-Equal.ensures.equal)
+    here c.args.nodes.now c.requires.laid c.args.path.now i c.index-nodes-middle.result e (equal_by c.index-nodes-middle.result.path c.args.path.now Equal c.in-Equal.ensures)
 
 pub loop-low-preserved-in-Less : goal.loop-low-preserved-in-Less
 loop-low-preserved-in-Less c =
@@ -16,7 +27,7 @@ loop-low-preserved-in-Less c =
     record {
       within = c.loop-low.invariant.within;
       halved = below_here c.args.nodes.now c.requires.laid c.args.path.now i c.index-nodes-middle.result e c.loop-low.low c.loop-low.high c.loop-low.invariant.halved
-          (sym c.in-Less.ensures.equal) (sym c.in-Less.ensures.less);
+          (equal_by c.index-nodes-middle.result.path c.args.path.now Less c.in-Less.ensures) (before_by c.index-nodes-middle.result.path c.args.path.now Less c.in-Less.ensures);
     }
 
 pub loop-low-preserved : goal.loop-low-preserved
@@ -26,7 +37,7 @@ loop-low-preserved c =
     record {
       within = omega (arith, c.loop-low-test.true, c.loop-low.invariant.within);
       halved = above_here c.args.nodes.now c.requires.laid c.args.path.now i c.index-nodes-middle.result e c.loop-low.low c.loop-low.high c.loop-low.invariant.halved
-          (sym c.in-Greater.ensures.equal) (sym c.in-Greater.ensures.less);
+          (equal_by c.index-nodes-middle.result.path c.args.path.now Greater c.in-Greater.ensures) (before_by c.index-nodes-middle.result.path c.args.path.now Greater c.in-Greater.ensures);
     }
 
 pub returns-clause-none : goal.returns-clause-none

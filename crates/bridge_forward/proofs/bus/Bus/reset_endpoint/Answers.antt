@@ -1,4 +1,4 @@
-use Rattle.std.proofs.Common.{List, None, ap, ◌∙◌, sym}
+use Rattle.std.proofs.Common.{List, ap, ◌∙◌, sym}
 use Rattle.std.specs.Prelude.{find}
 use Rattle.std.specs.List.{slice_set}
 use Rattle.model_board.specs.Paths.{path_eq}

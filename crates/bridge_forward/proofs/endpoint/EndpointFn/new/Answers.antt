@@ -1,5 +1,5 @@
 use Rattle.std.proofs.Common.{ap, ◌∙◌}
-use Rattle.model_registers.specs.Registers.{File, config, number}
+use Rattle.model_registers.specs.Registers.{File}
 use Rattle.model_registers.specs.Declarations.{Endpoint}
 use Rattle.config_bytes.specs.CellFile.{CellFile}
 use Rattle.bridge_forward.proofs.EndpointReset.{bars_declared, opens_lawful, blocks_declared, blocks_filled, parts_new, file_new}
