@@ -1,4 +1,4 @@
--- What a scan sees at a place, and where it goes on.
+-- What a scan sees at a part, and where it goes on.
 use Rattle.std.proofs.Common.{◌≡◌, ℕ, ◌+◌, ◌%◌, Bool, true, false, not, cond, ◌&&◌, List, [], ◌∷◌, ◌++◌, Option, Some, None, refl, sym, ap, ◌∙◌, subst, eqb}
 use Rattle.std.specs.Prelude.{find}
 use Rattle.model_board.specs.Paths.{Path, path_eq}
@@ -9,7 +9,7 @@ use Rattle.model_board.specs.State.{BoardFunction, State}
 use Rattle.model_board.specs.Cycles.{BusAddress, reached}
 use Rattle.model_board.specs.Lawful.{IsLawfulDecl}
 use Rattle.model_board.specs.Scanning.{BusNumbers, scan_numbers, scan_state, numbered_file}
-use Rattle.model_board.specs.ScanOrder.{place, on, next_place}
+use Rattle.model_board.specs.ScanOrder.{nth_part, on, next_part}
 use Rattle.model_board.proofs.Members.{each_in}
 use Rattle.model_board.proofs.PathEnds.{parent_snoc}
 use Rattle.bus_scan.specs.declared.seen.Seen.{Seen}
@@ -21,12 +21,12 @@ use Rattle.bus_scan.specs.Scans.{met_row, IsAt, OnBus, IsFound, IsBridgeThere}
 use Rattle.bus_scan.proofs.States.{numbered, none_stands, one_stands, stands}
 use Rattle.bus_scan.proofs.ScanSteps.{before_on, reaches, next_is, stands_true, past_endpoint}
 
--- what is seen at a place
+-- what is seen at a part
 pub data Sight (b : Board) (bus : Path) (number n : ℕ) (o : Option Seen) : Type 0 where
   Nothing : stands_at b (on bus n) ≡ false → o ≡ None → Sight b bus number n o
   Function : (r : Row) (seen : Seen) → o ≡ Some seen → IsFound b bus number n r seen → Sight b bus number n o
 
-pub sighted : (b : Board) (bus : Path) (number : ℕ) → OnBus b bus number → (n : ℕ) (s : State) (rows : List TableRow) (last : ℕ) → IsAt b (on bus n) s rows last → (a : BusAddress) → a ≡ record { bus = number; part = place n }
+pub sighted : (b : Board) (bus : Path) (number : ℕ) → OnBus b bus number → (n : ℕ) (s : State) (rows : List TableRow) (last : ℕ) → IsAt b (on bus n) s rows last → (a : BusAddress) → a ≡ record { bus = number; part = nth_part n }
     → (o : Option Seen) → (reached s.functions a ≡ None → o ≡ None)
     → ((c : Board) (numbers : Path → BusNumbers) (f : BoardFunction) → reached s.functions a ≡ Some f → f.file ≡ numbered_file c numbers f.path f.decl → IsLawfulDecl f.decl → o ≡ Some (seen_of (is_multifunction c f.path) f.decl))
     → Sight b bus number n o
@@ -34,7 +34,7 @@ sighted b bus number on_bus n s rows last at a is o none some = by_stands (stand
   where
     found_here : reached s.functions a ≡ find (λ f. path_eq f.path (on bus n)) (scan_state b (on bus n)).functions
     found_here =
-        ap (λ (a : BusAddress). reached s.functions a) is ∙ reaches b bus number on_bus (on bus n) s rows last at (before_on bus (place n)) n
+        ap (λ (a : BusAddress). reached s.functions a) is ∙ reaches b bus number on_bus (on bus n) s rows last at (before_on bus (nth_part n)) n
         ∙ ap (λ (s : State). find (λ f. path_eq f.path (on bus n)) s.functions) at.state
 
     by_stands : (t : Bool) → stands_at b (on bus n) ≡ t → Sight b bus number n o
@@ -67,7 +67,7 @@ none_seen b bus number n o (Function r seen e found) h = cc
 pub record Finds (b : Board) (bus : Path) (number n : ℕ) (seen : Seen) : Type 0 where
   pub row : Row
   pub found : IsFound b bus number n row seen
-  pub next : (m : ℕ) → m ≡ cond (eqb (n % 8) 0 && not seen.is_multifunction) (n + 8) (n + 1) → m ≡ next_place b bus n
+  pub next : (m : ℕ) → m ≡ cond (eqb (n % 8) 0 && not seen.is_multifunction) (n + 8) (n + 1) → m ≡ next_part b bus n
 
 shares : (multifunction : Bool) (d : Decl) → (seen_of multifunction d).is_multifunction ≡ multifunction
 shares multifunction (endpoint d) = refl
@@ -101,10 +101,10 @@ endpoint_row path number pin seen = record {
 }
 
 pub past_function : (b : Board) (bus : Path) (number n pin : ℕ) (r : Row) (seen : Seen) → IsFound b bus number n r seen → seen.layout ≡ EndpointLayout pin → (path : Path) → path ≡ on bus n → (s : State) (rows : List TableRow) (last : ℕ)
-    → IsAt b (on bus n) s rows last → IsAt b (on bus (next_place b bus n)) s (rows ++ endpoint_row path number pin seen ∷ []) last
+    → IsAt b (on bus n) s rows last → IsAt b (on bus (next_part b bus n)) s (rows ++ endpoint_row path number pin seen ∷ []) last
 past_function b bus number n pin r seen found h path path_is s rows last at = by_decl r.decl refl
   where
-    by_decl : (d : Decl) → r.decl ≡ d → IsAt b (on bus (next_place b bus n)) s (rows ++ endpoint_row path number pin seen ∷ []) last
+    by_decl : (d : Decl) → r.decl ≡ d → IsAt b (on bus (next_part b bus n)) s (rows ++ endpoint_row path number pin seen ∷ []) last
     by_decl (bridge d) e = let bad : BridgeLayout ≡ EndpointLayout pin = ap (λ (x : Seen). x.layout) (sym (found.shows ∙ ap (seen_of (is_multifunction b (on bus n))) e)) ∙ h in cc
     by_decl (endpoint d) e =
         let shows : seen ≡ seen_of (is_multifunction b (on bus n)) (endpoint d) = found.shows ∙ ap (seen_of (is_multifunction b (on bus n))) e in
@@ -112,11 +112,11 @@ past_function b bus number n pin r seen found h path path_is s rows last at = by
         let same_pin : pin ≡ d.pin = cc in
         let row : endpoint_row path number pin seen ≡ met_row b (scan_numbers b (on bus n)) (record r { decl = endpoint d }) = λ i. record {
           path = (path_is ∙ sym found.stands.path) i;
-          bus = (found.on_bus.named ∙ ap (bus_behind b) (sym (parent_snoc bus (place n))) ∙ ap (bus_of b) (sym found.stands.path)) i;
+          bus = (found.on_bus.named ∙ ap (bus_behind b) (sym (parent_snoc bus (nth_part n))) ∙ ap (bus_of b) (sym found.stands.path)) i;
           behind = None;
           decl = decl_of (shows i).vendor (shows i).device (FoundEndpoint (same_pin i) (None ∷ None ∷ None ∷ None ∷ None ∷ None ∷ []));
         } in
-        past_endpoint b found.on_bus.board bus n (next_place b bus n) r found.stands (ap is_bridge e) s rows last
+        past_endpoint b found.on_bus.board bus n (next_part b bus n) r found.stands (ap is_bridge e) s rows last
         (ap (λ t. cond (eqb (n % 8) 0 && not (t && is_multifunction b (on bus n))) (n + 8) (n + 1)) (stands_true b (on bus n) r found.stands))
         at (endpoint_row path number pin seen) (row ∙ ap (λ (d : Decl). met_row b (scan_numbers b (on bus n)) (record r { decl = d })) (sym e))
 
@@ -124,7 +124,7 @@ past_function b bus number n pin r seen found h path path_is s rows last at = by
 pub bridge_found : (b : Board) (bus : Path) (number n : ℕ) (r : Row) (at : BusAddress) → IsBridgeThere b bus number n r at → (path : Path) → path ≡ on bus n → (seen : Seen) → seen ≡ seen_of (is_multifunction b path) r.decl → IsFound b bus number n r seen
 bridge_found b bus number n r at is path path_is seen shows = record { on_bus = is.on_bus; stands = is.stands; shows = shows ∙ ap (λ (p : Path). seen_of (is_multifunction b p) r.decl) path_is }
 
-pub bridge_there_of : (b : Board) (bus : Path) (number n : ℕ) (r : Row) (seen : Seen) → IsFound b bus number n r seen → seen.layout ≡ BridgeLayout → (at : BusAddress) → at ≡ record { bus = number; part = place n } → IsBridgeThere b bus number n r at
+pub bridge_there_of : (b : Board) (bus : Path) (number n : ℕ) (r : Row) (seen : Seen) → IsFound b bus number n r seen → seen.layout ≡ BridgeLayout → (at : BusAddress) → at ≡ record { bus = number; part = nth_part n } → IsBridgeThere b bus number n r at
 bridge_there_of b bus number n r seen found layout at at_is = record { on_bus = found.on_bus; stands = found.stands; is_bridge_there = bridge_seen b bus number n r seen found layout; address = at_is }
 
 pub shows_at : (b : Board) (bus : Path) (number n : ℕ) (r : Row) (seen : Seen) → IsFound b bus number n r seen → (path : Path) → path ≡ on bus n → seen ≡ seen_of (is_multifunction b path) r.decl

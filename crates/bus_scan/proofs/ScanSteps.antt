@@ -1,4 +1,4 @@
--- A scan from one place to the next.
+-- A scan from one part to the next.
 use Rattle.std.proofs.Common.{◌≡◌, ℕ, ◌+◌, ◌%◌, ◌≤◌, ◌<◌, inr, Bool, true, false, not, cond, ◌&&◌, ◌||◌, List, [], ◌∷◌, ◌++◌, length, append_assoc, map, Some, refl, sym, ap, ap₂, ◌∙◌, subst, arith, eqb, get_or}
 use Rattle.std.specs.Prelude.{find, count_by}
 use Rattle.std.proofs.Math.ListN.{set}
@@ -14,13 +14,13 @@ use Rattle.model_board.specs.State.{BoardFunction, State}
 use Rattle.model_board.specs.Cycles.{BusAddress, reached}
 use Rattle.model_board.specs.SetUp.{state_of, reset_file, reset_state}
 use Rattle.model_board.specs.Scanning.{BusNumbers, no_numbers, board_numbers, open_numbers, scan_numbers, scan_state, numbered_file, numbered_state}
-use Rattle.model_board.specs.ScanOrder.{place, on, next_place, met, GivesNumbersInPathOrder}
+use Rattle.model_board.specs.ScanOrder.{nth_part, on, next_part, met, GivesNumbersInPathOrder}
 use Rattle.model_board.proofs.Members.{any_in, from_filter}
 use Rattle.model_board.proofs.PathOrder.{one, path_same, leads_before}
 use Rattle.model_board.proofs.PathEnds.{part_self, path_self, leads_self, parent_snoc, not_before_itself}
 use Rattle.model_board.proofs.Partings.{bridge_at, leads_longer}
 use Rattle.model_board.proofs.Scanning.{goes_before, met_before, reached_while_scanning, numbers_of_scan_state}
-use Rattle.model_board.proofs.ScanPlaces.{before_first, before_last, leads_place, row_path}
+use Rattle.model_board.proofs.ScanParts.{before_first, before_last, leads_place, row_path}
 use Rattle.model_board.proofs.ScanOrder.{scan_meets, scan_gives_numbers, no_bridge_here, no_bridge_none}
 use Rattle.bus_scan.specs.declared.seen.Seen.{Seen}
 use Rattle.bus_scan.specs.Rows.{ended as ended_range}
@@ -34,19 +34,19 @@ use Rattle.bus_scan.proofs.MetRows.{count_more, filter_same, row_same, rows_same
 pub before_on : (bus : Path) (t : Part) → path_before bus (bus ++ t ∷ []) ≡ true
 before_on bus t = leads_before bus (bus ++ t ∷ []) (leads_self bus t)
 
--- a cycle for a place of the bus reaches what stands there
+-- a cycle for a part of the bus reaches what stands there
 pub reaches : (b : Board) (bus : Path) (number : ℕ) → OnBus b bus number → (here : Path) (s : State) (rows : List TableRow) (last : ℕ) → IsAt b here s rows last → path_before bus here ≡ true
-    → (n : ℕ) → reached s.functions (record { bus = number; part = place n }) ≡ find (λ f. path_eq f.path (on bus n)) s.functions
+    → (n : ℕ) → reached s.functions (record { bus = number; part = nth_part n }) ≡ find (λ f. path_eq f.path (on bus n)) s.functions
 reaches b bus number on_bus here s rows last at before n =
     let small : secondary b here ≤ 256 = omega (arith, at.last_given, at.last_fits) in
-    ap₂ (λ (s : State) (k : ℕ). reached s.functions (record { bus = k; part = place n })) at.state on_bus.named
-    ∙ reached_while_scanning b on_bus.board here small (scan_state b here).functions (numbers_of_scan_state b here small) bus on_bus.there before (place n)
+    ap₂ (λ (s : State) (k : ℕ). reached s.functions (record { bus = k; part = nth_part n })) at.state on_bus.named
+    ∙ reached_while_scanning b on_bus.board here small (scan_state b here).functions (numbers_of_scan_state b here small) bus on_bus.there before (nth_part n)
     ∙ sym (ap (λ (s : State). find (λ f. path_eq f.path (on bus n)) s.functions) at.state)
 
--- ---- from place to place
+-- ---- from part to part
 
--- the next place, as the program finds it
-pub next_is : (b : Board) (bus : Path) (n m : ℕ) (t multifunction : Bool) → stands_at b (on bus n) ≡ t → (t && is_multifunction b (on bus n)) ≡ multifunction → m ≡ cond (eqb (n % 8) 0 && not multifunction) (n + 8) (n + 1) → m ≡ next_place b bus n
+-- the next part, as the program finds it
+pub next_is : (b : Board) (bus : Path) (n m : ℕ) (t multifunction : Bool) → stands_at b (on bus n) ≡ t → (t && is_multifunction b (on bus n)) ≡ multifunction → m ≡ cond (eqb (n % 8) 0 && not multifunction) (n + 8) (n + 1) → m ≡ next_part b bus n
 next_is b bus n m t multifunction e f h = h ∙ ap (λ x. cond (eqb (n % 8) 0 && not x) (n + 8) (n + 1)) (sym f ∙ ap (λ x. x && is_multifunction b (on bus n)) (sym e))
 
 -- where no function is met in between, and no number changes
@@ -64,7 +64,7 @@ goes_on b lawful p q same numbers s rows last at = record {
 pub past_nothing : (b : Board) → IsBoard b → (bus : Path) (n m : ℕ) (s : State) (rows : List TableRow) (last : ℕ) → stands_at b (on bus n) ≡ false → m ≡ cond (eqb (n % 8) 0 && true) (n + 8) (n + 1) → IsAt b (on bus n) s rows last → IsAt b (on bus m) s rows last
 past_nothing b lawful bus n m s rows last none is at =
     subst (λ k. IsAt b (on bus k) s rows last) (sym (next_is b bus n m false false none refl is))
-    (goes_on b lawful (on bus n) (on bus (next_place b bus n)) ((scan_meets b lawful).none bus n none) ((scan_gives_numbers b lawful).no_bridge bus n (no_bridge_none b lawful (on bus n) none)) s rows last at)
+    (goes_on b lawful (on bus n) (on bus (next_part b bus n)) ((scan_meets b lawful).none bus n none) ((scan_gives_numbers b lawful).no_bridge bus n (no_bridge_none b lawful (on bus n) none)) s rows last at)
 
 pub stands_true : (b : Board) (p : Path) (r : Row) → StandsAt b p r → stands_at b p ≡ true
 stands_true b p r is = any_in (λ (s : Row). path_eq s.path p) r b is.member (ap (λ (x : Path). path_eq x p) is.path ∙ path_self p)
@@ -78,20 +78,20 @@ pub past_endpoint : (b : Board) → IsBoard b → (bus : Path) (n m : ℕ) (r : 
 past_endpoint b lawful bus n m r is none s rows last next at row shown =
     subst (λ k. IsAt b (on bus k) s (rows ++ row ∷ []) last) (sym (next_is b bus n m true (is_multifunction b (on bus n)) (stands_true b (on bus n) r is) refl next))
     (record {
-      state = at.state ∙ same_state b (scan_numbers b (on bus n)) (scan_numbers b (on bus (next_place b bus n))) (λ x k. sym (numbers x k));
-      rows_met = ap (λ (x : TableRow). rows ++ x ∷ []) (shown ∙ row_same b (scan_numbers b (on bus n)) (scan_numbers b (on bus (next_place b bus n))) r (λ k. let bad : true ≡ false = sym k ∙ none in cc))
-          ∙ rows_more b (on bus n) (on bus (next_place b bus n)) (scan_numbers b (on bus n)) (scan_numbers b (on bus (next_place b bus n))) r more (λ x k before bridge_is. sym (numbers x.path (bridge_there b x k bridge_is))) rows at.rows_met;
-      last_given = omega (arith, laws.next_number (on bus (next_place b bus n)), ap (λ (rs : Board). count_by (λ x. is_bridge x.decl) rs) more, count_more (λ x. is_bridge x.decl) (met b (on bus n)) r, ap one none, laws.next_number (on bus n), at.last_given);
+      state = at.state ∙ same_state b (scan_numbers b (on bus n)) (scan_numbers b (on bus (next_part b bus n))) (λ x k. sym (numbers x k));
+      rows_met = ap (λ (x : TableRow). rows ++ x ∷ []) (shown ∙ row_same b (scan_numbers b (on bus n)) (scan_numbers b (on bus (next_part b bus n))) r (λ k. let bad : true ≡ false = sym k ∙ none in cc))
+          ∙ rows_more b (on bus n) (on bus (next_part b bus n)) (scan_numbers b (on bus n)) (scan_numbers b (on bus (next_part b bus n))) r more (λ x k before bridge_is. sym (numbers x.path (bridge_there b x k bridge_is))) rows at.rows_met;
+      last_given = omega (arith, laws.next_number (on bus (next_part b bus n)), ap (λ (rs : Board). count_by (λ x. is_bridge x.decl) rs) more, count_more (λ x. is_bridge x.decl) (met b (on bus n)) r, ap one none, laws.next_number (on bus n), at.last_given);
       last_fits = at.last_fits;
     })
   where
     laws : GivesNumbersInPathOrder b
     laws = scan_gives_numbers b lawful
 
-    more : met b (on bus (next_place b bus n)) ≡ met b (on bus n) ++ r ∷ []
+    more : met b (on bus (next_part b bus n)) ≡ met b (on bus n) ++ r ∷ []
     more = (scan_meets b lawful).endpoint bus n r is.member is.path none
 
-    numbers : (x : Path) → is_bridge_at b x ≡ true → scan_numbers b (on bus (next_place b bus n)) x ≡ scan_numbers b (on bus n) x
+    numbers : (x : Path) → is_bridge_at b x ≡ true → scan_numbers b (on bus (next_part b bus n)) x ≡ scan_numbers b (on bus n) x
     numbers = laws.no_bridge bus n (subst (λ (p : Path). is_bridge_at b p ≡ false) is.path (no_bridge_here b lawful r is.member none))
 
 -- ---- bridges
@@ -129,7 +129,7 @@ pub deepest : (b : Board) → IsBoard b → (p : Path) → 16 ≤ length p → (
 deepest b lawful p long s rows last at =
     goes_on b lawful (on p 0) (on p 128) (filter_same (λ y. path_before y.path (on p 128)) (λ y. path_before y.path (on p 0)) b (λ y m. same_before y.path (row_path b lawful y m)))
     (λ x there. let r = bridge_at b lawful x there in
-    ap₂ (λ t u. cond t (open_numbers b x) (cond u (board_numbers b x) no_numbers)) (leads_place x p (place 128) ∙ sym (leads_place x p (place 0))) (same_before x (subst IsPath r.3 (row_path b lawful r.0 r.1)))) s rows last at
+    ap₂ (λ t u. cond t (open_numbers b x) (cond u (board_numbers b x) no_numbers)) (leads_place x p (nth_part 128) ∙ sym (leads_place x p (nth_part 0))) (same_before x (subst IsPath r.3 (row_path b lawful r.0 r.1)))) s rows last at
   where
     none_behind : (x : Path) → IsPath x → (t : Bool) → leads_to p x ≡ t → t ≡ false
     none_behind x path false e = refl
@@ -181,10 +181,10 @@ closed_at b lawful p to r is bridge_is same back s rows last at new written i in
 
 pub closed : (b : Board) → IsBoard b → (bus : Path) (n : ℕ) (r : Row) → StandsAt b (on bus n) r → is_bridge r.decl ≡ true → (s : State) (rows : List TableRow) (last : ℕ)
     → IsAt b (on (on bus n) 128) s rows last → (new : State) → new ≡ state_of b (numbered_file b (given (on bus n) (board_numbers b (on bus n)) (scan_numbers b (on (on bus n) 128))))
-    → (i : ℕ) → i ≡ length (met b (on bus n)) → (row : TableRow) → row ≡ met_row b (board_numbers b) r → IsAt b (on bus (next_place b bus n)) new (set rows i row) last
+    → (i : ℕ) → i ≡ length (met b (on bus n)) → (row : TableRow) → row ≡ met_row b (board_numbers b) r → IsAt b (on bus (next_part b bus n)) new (set rows i row) last
 closed b lawful bus n r is bridge_is s rows last at new written i index row shown =
     let there : is_bridge_at b (on bus n) ≡ true = bridge_true b (on bus n) r is bridge_is in
-    closed_at b lawful (on bus n) (on bus (next_place b bus n)) r is bridge_is ((scan_meets b lawful).back bus n there) ((scan_gives_numbers b lawful).back bus n there) s rows last at new written i index row shown
+    closed_at b lawful (on bus n) (on bus (next_part b bus n)) r is bridge_is ((scan_meets b lawful).back bus n there) ((scan_gives_numbers b lawful).back bus n there) s rows last at new written i index row shown
 
 -- the 256th bridge has no number
 pub too_many : (b : Board) → IsBoard b → (p : Path) (r : Row) → StandsAt b p r → is_bridge r.decl ≡ true → (s : State) (rows : List TableRow) (last : ℕ) → last ≡ 255 → IsAt b p s rows last → Enumerates b → ⊥
@@ -245,7 +245,7 @@ ended b lawful s rows last at = record {
 
 -- the numbers of a bridge of the bus
 numbers_on : (b : Board) (bus : Path) (number n k last : ℕ) → OnBus b bus number → k ≡ secondary b (on bus n) → (let m : BusNumbers = record { primary = number; secondary = k; subordinate = last } in m) ≡ record { primary = bus_of b (on bus n); secondary = secondary b (on bus n); subordinate = last }
-numbers_on b bus number n k last on_bus is = ap₂ (λ (i j : ℕ). let m : BusNumbers = record { primary = i; secondary = j; subordinate = last } in m) (on_bus.named ∙ ap (bus_behind b) (sym (parent_snoc bus (place n)))) is
+numbers_on b bus number n k last on_bus is = ap₂ (λ (i j : ℕ). let m : BusNumbers = record { primary = i; secondary = j; subordinate = last } in m) (on_bus.named ∙ ap (bus_behind b) (sym (parent_snoc bus (nth_part n)))) is
 
 -- the row of a bridge that was met
 abbrev bridge_row : Path → ℕ → ℕ → ℕ → Seen → TableRow
@@ -266,7 +266,7 @@ bridge_row_is b bus number n r seen found bridge_is path path_is k last numbers 
         let shows : seen ≡ seen_of (is_multifunction b (on bus n)) (bridge d) = found.shows ∙ ap (seen_of (is_multifunction b (on bus n))) e in
         λ i. record {
           path = (path_is ∙ sym found.stands.path) i;
-          bus = (found.on_bus.named ∙ ap (bus_behind b) (sym (parent_snoc bus (place n))) ∙ ap (bus_of b) (sym found.stands.path)) i;
+          bus = (found.on_bus.named ∙ ap (bus_behind b) (sym (parent_snoc bus (nth_part n))) ∙ ap (bus_of b) (sym found.stands.path)) i;
           behind = Some (record { first = sym first_is i; last = sym last_is i });
           decl = bridge (record { vendor = (shows i).vendor; device = (shows i).device; revision = 0; io = no_io; pref = no_pref });
         }
@@ -277,7 +277,7 @@ WritesNumbers s new at m = (b : Board) (numbers : Path → BusNumbers) (p : Path
     → reached s.functions at ≡ find (λ f. path_eq f.path p) s.functions → new ≡ state_of b (numbered_file b (given p m numbers))
 
 pub bridge_opened : (b : Board) (bus : Path) (number n : ℕ) (r : Row) (seen : Seen) → IsFound b bus number n r seen → is_bridge r.decl ≡ true → (path : Path) → path ≡ on bus n → (s : State) (rows : List TableRow) (last : ℕ)
-    → IsAt b (on bus n) s rows last → (last ≡ 255 → ⊥) → (at : BusAddress) → at ≡ record { bus = number; part = place n } → (new : State) → WritesNumbers s new at (record { primary = number; secondary = last + 1; subordinate = 255 })
+    → IsAt b (on bus n) s rows last → (last ≡ 255 → ⊥) → (at : BusAddress) → at ≡ record { bus = number; part = nth_part n } → (new : State) → WritesNumbers s new at (record { primary = number; secondary = last + 1; subordinate = 255 })
     → (items : List TableRow) → items ≡ rows ++ bridge_row path number (last + 1) 255 seen ∷ [] → (last + 1 ≡ secondary b (on bus n)) × IsAt b (on (on bus n) 0) new items (last + 1)
 bridge_opened b bus number n r seen found bridge_is path path_is s rows last here room at at_is new written items pushed =
     let p = on bus n in
@@ -285,7 +285,7 @@ bridge_opened b bus number n r seen found bridge_is path path_is s rows last her
     let given_is : last + 1 ≡ secondary b (on bus n) = sym here.last_given in
     let state : new ≡ state_of b (numbered_file b (given (on bus n) (open_numbers b (on bus n)) (scan_numbers b (on bus n)))) =
     written b (scan_numbers b p) p lawful (bridge_true b p r found.stands bridge_is) here.state
-    (ap (λ (a : BusAddress). reached s.functions a) at_is ∙ reaches b bus number found.on_bus p s rows last here (before_on bus (place n)) n)
+    (ap (λ (a : BusAddress). reached s.functions a) at_is ∙ reaches b bus number found.on_bus p s rows last here (before_on bus (nth_part n)) n)
     ∙ ap (λ (m : BusNumbers). state_of b (numbered_file b (given (on bus n) m (scan_numbers b (on bus n))))) (numbers_on b bus number n (last + 1) 255 found.on_bus given_is) in
     let own : scan_numbers b (on (on bus n) 0) r.path ≡ open_numbers b r.path =
     (scan_gives_numbers b lawful).behind p r.path ∙ ap (λ t. cond t (open_numbers b r.path) (scan_numbers b (on bus n) r.path)) (ap (λ (x : Path). path_eq x (on bus n)) found.stands.path ∙ path_self p) in
@@ -320,7 +320,7 @@ ended_row b bus n r lawful is bridge_is last last_is = by_decl r.decl refl
     open_here : scan_numbers b (on (on bus n) 128) r.path ≡ open_numbers b r.path
     open_here =
         ap (λ t. cond t (open_numbers b r.path) (cond (path_before r.path (on (on bus n) 128)) (board_numbers b r.path) no_numbers))
-        (ap (λ (x : Path). leads_to x (on (on bus n) 128)) is.path ∙ leads_self (on bus n) (place 128))
+        (ap (λ (x : Path). leads_to x (on (on bus n) 128)) is.path ∙ leads_self (on bus n) (nth_part 128))
 
     by_decl : (d : Decl) → r.decl ≡ d → record (met_row b (scan_numbers b (on (on bus n) 128)) (record r { decl = d })) { behind = ended_range last (met_row b (scan_numbers b (on (on bus n) 128)) (record r { decl = d })).behind } ≡ met_row b (board_numbers b) (record r { decl = d })
     by_decl (endpoint d) e = let bad : true ≡ false = sym bridge_is ∙ ap is_bridge e in cc
@@ -332,15 +332,15 @@ ended_row b bus n r lawful is bridge_is last last_is = by_decl r.decl refl
     }
 
 pub bridge_closed : (b : Board) (bus : Path) (number n : ℕ) (r : Row) → OnBus b bus number → StandsAt b (on bus n) r → is_bridge r.decl ≡ true → (k : ℕ) → k ≡ secondary b (on bus n) → (s : State) (rows : List TableRow) (last : ℕ)
-    → IsAt b (on (on bus n) 128) s rows last → (at : BusAddress) → at ≡ record { bus = number; part = place n } → (new : State) → WritesNumbers s new at (record { primary = number; secondary = k; subordinate = last })
+    → IsAt b (on (on bus n) 128) s rows last → (at : BusAddress) → at ≡ record { bus = number; part = nth_part n } → (new : State) → WritesNumbers s new at (record { primary = number; secondary = k; subordinate = last })
     → (i : ℕ) → i ≡ length (met b (on bus n)) → (item row : TableRow) → item ≡ get_or rows i item → row ≡ record item { behind = ended_range last item.behind }
-    → IsAt b (on bus (next_place b bus n)) new (set rows i row) last
+    → IsAt b (on bus (next_part b bus n)) new (set rows i row) last
 bridge_closed b bus number n r on_bus is bridge_is k k_is s rows last here at at_is new written i index item row item_is row_is =
     let lawful = on_bus.board in
     let there : is_bridge_at b (on bus n) ≡ true = bridge_true b (on bus n) r is bridge_is in
     let numbers = scan_numbers b (on (on bus n) 128) in
     let last_is : last ≡ subordinate b (on bus n) = omega (arith, here.last_given, (scan_gives_numbers b lawful).last_number (on bus n) there) in
-    let behind : path_before bus (on (on bus n) 128) ≡ true = goes_before bus (on bus n) (on (on bus n) 128) (before_on bus (place n)) (before_on (on bus n) (place 128)) in
+    let behind : path_before bus (on (on bus n) 128) ≡ true = goes_before bus (on bus n) (on (on bus n) 128) (before_on bus (nth_part n)) (before_on (on bus n) (nth_part 128)) in
     let state : new ≡ state_of b (numbered_file b (given (on bus n) (board_numbers b (on bus n)) (scan_numbers b (on (on bus n) 128)))) =
     written b numbers (on bus n) lawful there here.state
     (ap (λ (a : BusAddress). reached s.functions a) at_is ∙ reaches b bus number on_bus (on (on bus n) 128) s rows last here behind n)
@@ -361,5 +361,5 @@ side b bus number n r on_bus is bridge_is k k_is = record {
   board = on_bus.board;
   declarations = on_bus.declarations;
   there = inr (bridge_true b (on bus n) r is bridge_is);
-  named = k_is ∙ sym (behind_on b bus (place n));
+  named = k_is ∙ sym (behind_on b bus (nth_part n));
 }

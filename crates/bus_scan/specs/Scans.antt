@@ -15,7 +15,7 @@ use Rattle.model_board.specs.Cycles.{BusAddress}
 use Rattle.model_board.specs.Lawful.{HasLawfulDecls}
 use Rattle.model_board.specs.FunctionTable.{BusRange, TableRow, met_decl}
 use Rattle.model_board.specs.Scanning.{BusNumbers, scan_numbers, scan_state, IsBus}
-use Rattle.model_board.specs.ScanOrder.{place, on, met}
+use Rattle.model_board.specs.ScanOrder.{nth_part, on, met}
 use Rattle.model_board.specs.AtReset.{HasOwnNumbers}
 use Rattle.host_bridge.specs.HostState.{HostState}
 use Rattle.bus_scan.specs.declared.enumeration.Enumeration.{Enumeration}
@@ -65,7 +65,7 @@ pub record IsBridgeThere (b : Board) (bus : Path) (number n : ℕ) (r : Row) (at
   pub on_bus : OnBus b bus number
   pub stands : StandsAt b (on bus n) r
   pub is_bridge_there : IsTrue (is_bridge r.decl)
-  pub address : at ≡ record { bus = number; part = place n }
+  pub address : at ≡ record { bus = number; part = nth_part n }
 
 pub record IsRefused (b : Board) (f : Fault) (s : State) : Type 0 where
   pub cause : (f ≡ Memory) ⊎ ((f ≡ Buses) × (Enumerates b → ⊥))

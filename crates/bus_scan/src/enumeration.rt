@@ -6,7 +6,7 @@ ghost use Rattle.model_board.specs.BusNumbers.{Enumerates, secondary};
 ghost use Rattle.model_board.specs.SetUp.{state_of};
 ghost use Rattle.model_board.specs.Cycles.{reached};
 ghost use Rattle.model_board.specs.Scanning.{BusNumbers, numbered_file, numbered_state};
-ghost use Rattle.model_board.specs.ScanOrder.{on, place, next_place, met};
+ghost use Rattle.model_board.specs.ScanOrder.{on, nth_part, next_part, met};
 ghost use Rattle.model_board.specs.FunctionTable.{TableRow, scanned_table};
 ghost use Rattle.model_board.specs.AtReset.{board_at, IsAtReset, IsNumbered, HasOwnNumbers};
 ghost use Rattle.host_bridge.specs.BusAddresses.{bus_address_of};
@@ -16,7 +16,7 @@ ghost use Rattle.bus_scan.specs.Sights.{seen_of};
 ghost use Rattle.bus_scan.specs.Rows.{decl_of, range_of};
 
 use crate::fault::Fault;
-use crate::places::{DEEPEST, PLACES, address, next_place, path_on};
+use crate::parts::{DEEPEST, PARTS, address, next_part, path_on};
 use crate::seen::{Layout, Seen, look};
 use crate::table::{Found, FunctionRow, FunctionTable};
 use bridge_forward::Part;
@@ -107,7 +107,7 @@ impl Enumeration {
         ensures closed { (b : Board) (on_path : PathValue) (n : ℕ) (r : Row) → IsBridgeThere b on_path bus n r (bus_address_of at)
             → number ≡ secondary b (on on_path n) → index ≡ length (met b (on on_path n))
             → ComesTo b (on (on on_path n) 128) host.old self.old
-            → ComesTo b (on on_path (next_place b on_path n)) host.new self.new }
+            → ComesTo b (on on_path (next_part b on_path n)) host.new self.new }
         ensures rows { length self.new.rows.items ≡ length self.old.rows.items }
         ensures kept { host.new.apertures ≡ host.old.apertures }
     {
@@ -131,7 +131,7 @@ impl Enumeration {
             → path ≡ on on_path n → seen ≡ seen_of (is_multifunction b path) r.decl
             → ComesTo b (on on_path n) host.old self.old
             → MatchResult result
-            (λ _. ComesTo b (on on_path (next_place b on_path n)) host.new self.new)
+            (λ _. ComesTo b (on on_path (next_part b on_path n)) host.new self.new)
             (λ f. IsRefused b f host.new.state) }
         ensures rows { IfOk result (λ _. length self.old.rows.items ≤ length self.new.rows.items) }
         ensures kept { host.new.apertures ≡ host.old.apertures }
@@ -146,12 +146,12 @@ impl Enumeration {
         Ok(())
     }
 
-    /// Takes what stands at the nth place of a bus, and behind it, into the table: the next place.
+    /// Takes what stands at the nth part of a bus, and behind it, into the table: the next part.
     #[cycle(scan)]
     fn scan_place(&mut self, host: &mut Host, bus: &[Part], number: u8, n: u8) -> Result<u8, Fault>
         requires short { length bus.now < 16 }
-        requires place { n < PLACES }
-        ensures later { IfOk result (λ m. (n < m) × (m ≤ PLACES)) }
+        requires part { n < PARTS }
+        ensures later { IfOk result (λ m. (n < m) × (m ≤ PARTS)) }
         ensures scanned { (b : Board) → OnBus b bus.now number
             → ComesTo b (on bus.now n) host.old self.old
             → MatchResult result
@@ -162,7 +162,7 @@ impl Enumeration {
     {
         let at = address(number, n);
         let Some(seen) = look(host, at) else {
-            return Ok(next_place(n, false));
+            return Ok(next_part(n, false));
         };
         let path = path_on(bus, n);
         match seen.layout {
@@ -172,7 +172,7 @@ impl Enumeration {
             }
             Layout::Bridge => self.scan_bridge(host, at, number, path, seen)?,
         }
-        Ok(next_place(n, seen.is_multifunction))
+        Ok(next_part(n, seen.is_multifunction))
     }
 
     /// Takes all that stands on a bus and behind it into the table. The path is that of the bridge
@@ -189,7 +189,7 @@ impl Enumeration {
         ensures kept { host.new.apertures ≡ host.old.apertures }
     {
         let mut n = 0;
-        while n < PLACES {
+        while n < PARTS {
             n = self.scan_place(host, bus, number, n)?;
         }
         Ok(())

@@ -5,7 +5,7 @@
 
 mod enumeration;
 mod fault;
-mod places;
+mod parts;
 mod seen;
 mod sizing;
 mod table;

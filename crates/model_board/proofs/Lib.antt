@@ -11,7 +11,7 @@ pub mod DeclaredRows
 pub mod ItemOrder
 pub mod Routes
 pub mod Scanning
-pub mod ScanPlaces
+pub mod ScanParts
 pub mod ScanOrder
 pub mod RowsOfScans
 pub mod OnlyNamed

@@ -6,7 +6,7 @@ use Rattle.model_board.specs.Paths.{Path}
 use Rattle.model_board.specs.Cycles.{reached}
 use Rattle.model_board.specs.Examples.{part, main_board, many_bridges}
 use Rattle.model_board.specs.Scanning.{no_numbers, scan_numbers, scan_state}
-use Rattle.model_board.specs.ScanOrder.{on, met, next_place}
+use Rattle.model_board.specs.ScanOrder.{on, met, next_part}
 
 abbrev bridge_path : Path
 bridge_path = part 2 0 ∷ []
@@ -33,12 +33,12 @@ found_behind = refl
 pub not_found_before : path_found (on [] 16) bridge_path 1 ≡ None
 not_found_before = refl
 
--- ---- places: devices 1 and 2 of bus 0 hold one function each, and device 0 of the larger board eight
+-- ---- parts: devices 1 and 2 of bus 0 hold one function each, and device 0 of the larger board eight
 
-pub next_device : next_place main_board [] 8 ≡ 16
+pub next_device : next_part main_board [] 8 ≡ 16
 next_device = refl
 
-pub next_function : next_place many_bridges [] 0 ≡ 1
+pub next_function : next_part many_bridges [] 0 ≡ 1
 next_function = refl
 
 pub met_behind : map (λ r. r.path) (met main_board (on bridge_path 8)) ≡ (part 1 0 ∷ []) ∷ bridge_path ∷ (part 2 0 ∷ part 0 0 ∷ []) ∷ []

@@ -8,7 +8,7 @@ use Rattle.model_board.specs.Members.{IsIn}
 use Rattle.model_board.specs.Paths.{Part, Path, part_eq, path_eq, path_before, leads_to, IsPath}
 use Rattle.model_board.specs.Board.{Board, Row, is_bridge, is_bridge_at, stands_at, is_multifunction, IsBoard}
 use Rattle.model_board.specs.Scanning.{no_numbers, board_numbers, open_numbers}
-use Rattle.model_board.specs.ScanOrder.{place, on, next_place, met, MeetsInPathOrder, GivesNumbersInPathOrder, ScanMeetsInPathOrder, ScanGivesNumbersInPathOrder}
+use Rattle.model_board.specs.ScanOrder.{nth_part, on, next_part, met, MeetsInPathOrder, GivesNumbersInPathOrder, ScanMeetsInPathOrder, ScanGivesNumbersInPathOrder}
 use Rattle.model_board.proofs.Members.{each_in, any_in, none_pass}
 use Rattle.model_board.proofs.PathOrder.{one, exclusive, part_same, path_same}
 use Rattle.model_board.proofs.PathEnds.{part_self, path_self, length_snoc, not_before_itself}
@@ -16,7 +16,7 @@ use Rattle.model_board.proofs.Partings.{one_row, bridge_at, bridge_above, leads_
 use Rattle.model_board.proofs.BusNumbers.{bridges, bridges-cons, at, counted, counted_once}
 use Rattle.model_board.proofs.Routes.{same_test}
 use Rattle.model_board.proofs.Scanning.{goes_before}
-use Rattle.model_board.proofs.ScanPlaces.{before_first, before_last, before_later, leads_place, is_between, none_passed, row_path, snoc_some}
+use Rattle.model_board.proofs.ScanParts.{before_first, before_last, before_later, leads_place, is_between, none_passed, row_path, snoc_some}
 
 -- ---- filters
 
@@ -59,7 +59,7 @@ false_by false h = refl
 module _ (b : Board) (lawful : IsBoard b) where
   -- ---- functions
 
-  -- the functions before a place are those before a function, and that one
+  -- the functions before a part are those before a function, and that one
   met_adds : (r : Row) → IsIn r b → (here : Path) → ((y : Row) → IsIn y b → path_before y.path here ≡ (path_before y.path r.path || path_eq y.path r.path)) → met b here ≡ met b r.path ++ r ∷ []
   met_adds r m here h =
       filter_same (λ y. path_before y.path here) (λ y. path_before y.path r.path || path_eq y.path r.path) b h
@@ -87,20 +87,20 @@ module _ (b : Board) (lawful : IsBoard b) where
   some_before_end [] = refl
   some_before_end (u ∷ x) = refl
 
-  -- ---- places of a bus
+  -- ---- parts of a bus
 
-  next_later : (bus : Path) (n : ℕ) → n < next_place b bus n
+  next_later : (bus : Path) (n : ℕ) → n < next_part b bus n
   next_later bus n = by_test (eqb (n % 8) 0 && not (stands_at b (on bus n) && is_multifunction b (on bus n)))
     where
       by_test : (t : Bool) → n < cond t (n + 8) (n + 1)
       by_test true = omega arith
       by_test false = omega arith
 
-  before_next : (bus : Path) (n : ℕ) (y : Row) → IsIn y b → path_before y.path (on bus (next_place b bus n)) ≡ (path_before y.path (on bus n) || is_between bus n (next_place b bus n) y.path)
-  before_next bus n y m = before_later y.path bus n (next_place b bus n) (omega (arith, next_later bus n)) (row_path b lawful y m).parts
+  before_next : (bus : Path) (n : ℕ) (y : Row) → IsIn y b → path_before y.path (on bus (next_part b bus n)) ≡ (path_before y.path (on bus n) || is_between bus n (next_part b bus n) y.path)
+  before_next bus n y m = before_later y.path bus n (next_part b bus n) (omega (arith, next_later bus n)) (row_path b lawful y m).parts
 
-  -- what stands at a place or behind it is within that place and the next
-  self_within : (bus : Path) (n m : ℕ) → n < m → (rest : Path) → is_between bus n m (bus ++ place n ∷ rest) ≡ true
+  -- what stands at a part or behind it is within that part and the next
+  self_within : (bus : Path) (n m : ℕ) → n < m → (rest : Path) → is_between bus n m (bus ++ nth_part n ∷ rest) ≡ true
   self_within [] n m h rest = in_range (8 * (n / 8) + n % 8) (omega arith)
     where
       in_range : (k : ℕ) → k ≡ n → (nat_le n k && nat_lt k m) ≡ true
@@ -124,18 +124,18 @@ module _ (b : Board) (lawful : IsBoard b) where
       by_part true e k more = longer (part_same u a e) (more (rw (e, part_eq-sym a u, e) at k))
       by_part false e k more = let bad : false ≡ true = rw (e, part_eq-sym a u, e) at k in cc
 
-  -- the functions that are met from a place to the next are those at it and behind it
-  passed : (bus : Path) (n : ℕ) (y : Row) → IsIn y b → is_between bus n (next_place b bus n) y.path ≡ (path_eq y.path (on bus n) || leads_to (on bus n) y.path)
-  passed bus n y m = same_test (is_between bus n (next_place b bus n) y.path) (path_eq y.path (on bus n) || leads_to (on bus n) y.path) (λ h. either (none_passed b lawful bus n y m h)) stays
+  -- the functions that are met from a part to the next are those at it and behind it
+  passed : (bus : Path) (n : ℕ) (y : Row) → IsIn y b → is_between bus n (next_part b bus n) y.path ≡ (path_eq y.path (on bus n) || leads_to (on bus n) y.path)
+  passed bus n y m = same_test (is_between bus n (next_part b bus n) y.path) (path_eq y.path (on bus n) || leads_to (on bus n) y.path) (λ h. either (none_passed b lawful bus n y m h)) stays
     where
       either : (path_eq y.path (on bus n) ≡ true) ⊎ (leads_to (on bus n) y.path ≡ true) → (path_eq y.path (on bus n) || leads_to (on bus n) y.path) ≡ true
       either (inl e) = rw e
       either (inr l) = or_right (path_eq y.path (on bus n)) (leads_to (on bus n) y.path) l
 
-      stays : (path_eq y.path (on bus n) || leads_to (on bus n) y.path) ≡ true → is_between bus n (next_place b bus n) y.path ≡ true
+      stays : (path_eq y.path (on bus n) || leads_to (on bus n) y.path) ≡ true → is_between bus n (next_part b bus n) y.path ≡ true
       stays h =
           let g = goes_on (on bus n) y.path h in
-          subst (λ (x : Path). is_between bus n (next_place b bus n) x ≡ true) (sym (g.1 ∙ append_assoc bus (place n ∷ []) g.0)) (self_within bus n (next_place b bus n) (next_later bus n) g.0)
+          subst (λ (x : Path). is_between bus n (next_part b bus n) x ≡ true) (sym (g.1 ∙ append_assoc bus (nth_part n ∷ []) g.0)) (self_within bus n (next_part b bus n) (next_later bus n) g.0)
 
   -- nothing stands behind what is no bridge
   none_behind : (p : Path) → 0 < length p → is_bridge_at b p ≡ false → (y : Row) → IsIn y b → leads_to p y.path ≡ false
@@ -148,10 +148,10 @@ module _ (b : Board) (lawful : IsBoard b) where
           cc
 
   -- a row at a path where no bridge stands is no bridge
-  met_next : (bus : Path) (n : ℕ) → is_bridge_at b (on bus n) ≡ false → (y : Row) → IsIn y b → path_before y.path (on bus (next_place b bus n)) ≡ (path_before y.path (on bus n) || path_eq y.path (on bus n))
+  met_next : (bus : Path) (n : ℕ) → is_bridge_at b (on bus n) ≡ false → (y : Row) → IsIn y b → path_before y.path (on bus (next_part b bus n)) ≡ (path_before y.path (on bus n) || path_eq y.path (on bus n))
   met_next bus n h y m =
       before_next bus n y m
-      ∙ ap (λ t. path_before y.path (on bus n) || t) (passed bus n y m ∙ ap (λ t. path_eq y.path (on bus n) || t) (none_behind (on bus n) (snoc_some bus (place n)) h y m) ∙ or_false (path_eq y.path (on bus n)) false refl)
+      ∙ ap (λ t. path_before y.path (on bus n) || t) (passed bus n y m ∙ ap (λ t. path_eq y.path (on bus n) || t) (none_behind (on bus n) (snoc_some bus (nth_part n)) h y m) ∙ or_false (path_eq y.path (on bus n)) false refl)
 
   pub no_bridge_here : (r : Row) → IsIn r b → is_bridge r.decl ≡ false → is_bridge_at b r.path ≡ false
   no_bridge_here r m h = false_by (is_bridge_at b r.path) (λ t. by_row (bridge_at b lawful r.path t))
@@ -179,13 +179,13 @@ module _ (b : Board) (lawful : IsBoard b) where
     last = filter_all (λ y. path_before y.path (on [] 128)) b (λ y m. before_last y.path [] (row_path b lawful y m).parts ∙ some_before_end y.path);
     behind = λ r m. met_adds r m (on r.path 0) (λ y k. before_first y.path r.path);
     endpoint = λ bus n r m e h.
-        subst (λ (x : Path). met b (on bus (next_place b bus n)) ≡ met b x ++ r ∷ []) e
-        (met_adds r m (on bus (next_place b bus n))
-        (λ y k. subst (λ (x : Path). path_before y.path (on bus (next_place b bus n)) ≡ (path_before y.path x || path_eq y.path x)) (sym e)
+        subst (λ (x : Path). met b (on bus (next_part b bus n)) ≡ met b x ++ r ∷ []) e
+        (met_adds r m (on bus (next_part b bus n))
+        (λ y k. subst (λ (x : Path). path_before y.path (on bus (next_part b bus n)) ≡ (path_before y.path x || path_eq y.path x)) (sym e)
         (met_next bus n (subst (λ (x : Path). is_bridge_at b x ≡ false) e (no_bridge_here r m h)) y k)));
-    none = λ bus n h. met_same (on bus n) (on bus (next_place b bus n))
+    none = λ bus n h. met_same (on bus n) (on bus (next_part b bus n))
         (λ y m. met_next bus n (no_bridge_none (on bus n) h) y m ∙ or_false (path_before y.path (on bus n)) (path_eq y.path (on bus n)) (none_there (on bus n) h y m));
-    back = λ bus n h. met_same (on (on bus n) 128) (on bus (next_place b bus n))
+    back = λ bus n h. met_same (on (on bus n) 128) (on bus (next_part b bus n))
         (λ y m. before_next bus n y m ∙ ap (λ t. path_before y.path (on bus n) || t) (passed bus n y m)
         ∙ sym (or_assoc (path_before y.path (on bus n)) (path_eq y.path (on bus n)) (leads_to (on bus n) y.path)) ∙ sym (before_last y.path (on bus n) (row_path b lawful y m).parts));
   }
@@ -256,8 +256,8 @@ module _ (b : Board) (lawful : IsBoard b) where
       too_long t = by_test (leads_to (on bus n) bus) refl t
         where
           by_test : (s : Bool) → leads_to (on bus n) bus ≡ s → (s || path_eq (on bus n) bus) ≡ true → ⊥
-          by_test true l k = omega (arith, leads_longer (on bus n) bus l, length_snoc bus (place n))
-          by_test false l k = omega (arith, ap length (path_same (on bus n) bus k), length_snoc bus (place n))
+          by_test true l k = omega (arith, leads_longer (on bus n) bus l, length_snoc bus (nth_part n))
+          by_test false l k = omega (arith, ap length (path_same (on bus n) bus k), length_snoc bus (nth_part n))
 
   behind_cases : {A : Type 0} (o m z : A) (l e t : Bool) → cond (l || e) o (cond (t || e) m z) ≡ cond e o (cond l o (cond t m z))
   behind_cases o m z true true t = refl
@@ -277,28 +277,28 @@ module _ (b : Board) (lawful : IsBoard b) where
   gives_numbers = record {
     next_number = λ here. ap (λ n. 1 + n) (counted_met here b);
     last_number = λ p h. omega (arith, counted_last p b lawful.paths, counted b p h, counted_once b p lawful.in_order);
-    first = λ q h. rw (leads_place q [] (place 0) ∙ none_leads q h, before_first q [] ∙ some_path q h);
-    last = λ q h. rw (leads_place q [] (place 128) ∙ none_leads q h, at_bridge (λ x. path_before x (on [] 128) ≡ true) (λ y m. before_last y.path [] (row_path b lawful y m).parts ∙ some_before_end y.path) q h);
+    first = λ q h. rw (leads_place q [] (nth_part 0) ∙ none_leads q h, before_first q [] ∙ some_path q h);
+    last = λ q h. rw (leads_place q [] (nth_part 128) ∙ none_leads q h, at_bridge (λ x. path_before x (on [] 128) ≡ true) (λ y m. before_last y.path [] (row_path b lawful y m).parts ∙ some_before_end y.path) q h);
     behind = λ p q.
-        ap₂ (λ s t. cond s (open_numbers b q) (cond t (board_numbers b q) no_numbers)) (leads_place q p (place 0)) (before_first q p)
+        ap₂ (λ s t. cond s (open_numbers b q) (cond t (board_numbers b q) no_numbers)) (leads_place q p (nth_part 0)) (before_first q p)
         ∙ behind_cases (open_numbers b q) (board_numbers b q) no_numbers (leads_to q p) (path_eq q p) (path_before q p);
     no_bridge = λ bus n h q there.
-        ap₂ (λ s t. cond s (open_numbers b q) (cond t (board_numbers b q) no_numbers)) (leads_place q bus (place (next_place b bus n)) ∙ sym (leads_place q bus (place n))) (same_before bus n h q there);
+        ap₂ (λ s t. cond s (open_numbers b q) (cond t (board_numbers b q) no_numbers)) (leads_place q bus (nth_part (next_part b bus n)) ∙ sym (leads_place q bus (nth_part n))) (same_before bus n h q there);
     back = λ bus n h q there.
-        ap₂ (λ s t. cond s (open_numbers b q) (cond t (board_numbers b q) no_numbers)) (leads_place q bus (place (next_place b bus n)))
-        (at_bridge (λ x. path_before x (on bus (next_place b bus n)) ≡ (path_before x (on bus n) || (path_eq x (on bus n) || leads_to (on bus n) x))) (λ y m. before_next bus n y m ∙ ap (λ t. path_before y.path (on bus n) || t) (passed bus n y m)) q there)
+        ap₂ (λ s t. cond s (open_numbers b q) (cond t (board_numbers b q) no_numbers)) (leads_place q bus (nth_part (next_part b bus n)))
+        (at_bridge (λ x. path_before x (on bus (next_part b bus n)) ≡ (path_before x (on bus n) || (path_eq x (on bus n) || leads_to (on bus n) x))) (λ y m. before_next bus n y m ∙ ap (λ t. path_before y.path (on bus n) || t) (passed bus n y m)) q there)
         ∙ back_cases (open_numbers b q) (board_numbers b q) no_numbers (leads_to q bus || path_eq q bus) (path_eq q (on bus n)) (leads_to (on bus n) q) (path_before q (on bus n)) (not_above bus n q)
         ∙ ap (λ v. cond (path_eq q (on bus n)) (board_numbers b q) v) (sym (ap₂ (λ s t. cond s (open_numbers b q) (cond t (board_numbers b q) no_numbers))
-        (leads_place q (on bus n) (place 128) ∙ ap (λ t. t || path_eq q (on bus n)) (leads_place q bus (place n)))
+        (leads_place q (on bus n) (nth_part 128) ∙ ap (λ t. t || path_eq q (on bus n)) (leads_place q bus (nth_part n)))
         (at_bridge (λ x. path_before x (on (on bus n) 128) ≡ (path_before x (on bus n) || path_eq x (on bus n) || leads_to (on bus n) x)) (λ y m. before_last y.path (on bus n) (row_path b lawful y m).parts) q there)));
   }
     where
       not_itself : (bus : Path) (n : ℕ) → is_bridge_at b (on bus n) ≡ false → (q : Path) → is_bridge_at b q ≡ true → path_eq q (on bus n) ≡ false
       not_itself bus n h q there = false_by (path_eq q (on bus n)) (λ e. let bad : true ≡ false = sym there ∙ ap (is_bridge_at b) (path_same q (on bus n) e) ∙ h in cc)
 
-      same_before : (bus : Path) (n : ℕ) → is_bridge_at b (on bus n) ≡ false → (q : Path) → is_bridge_at b q ≡ true → path_before q (on bus (next_place b bus n)) ≡ path_before q (on bus n)
+      same_before : (bus : Path) (n : ℕ) → is_bridge_at b (on bus n) ≡ false → (q : Path) → is_bridge_at b q ≡ true → path_before q (on bus (next_part b bus n)) ≡ path_before q (on bus n)
       same_before bus n h q there =
-          at_bridge (λ x. path_before x (on bus (next_place b bus n)) ≡ (path_before x (on bus n) || path_eq x (on bus n))) (met_next bus n h) q there
+          at_bridge (λ x. path_before x (on bus (next_part b bus n)) ≡ (path_before x (on bus n) || path_eq x (on bus n))) (met_next bus n h) q there
           ∙ or_false (path_before q (on bus n)) (path_eq q (on bus n)) (not_itself bus n h q there)
 
 pub scan_meets : ScanMeetsInPathOrder

@@ -38,7 +38,7 @@ not_before x q r h k = by_equal (path_eq r q) refl
     by_equal true e = subst (λ (y : Path). path_before x y ≡ true) (sym (path_same r q e)) h
     by_equal false e = goes_before x q r h (total r q k e)
 
--- what leads to a place, and is before something before that place, leads to it
+-- what leads to a part, and is before something before that part, leads to it
 leads_between : (r q here : Path) → leads_to r here ≡ true → path_before q here ≡ true → path_before r q ≡ true → leads_to r q ≡ true
 leads_between r q here h k l = by_leads (leads_to r q) refl
   where
@@ -50,7 +50,7 @@ leads_between r q here h k l = by_leads (leads_to r q) refl
 
 -- ---- the numbers while a scan runs
 
--- fewer bridges are before a bridge that was met than before the place
+-- fewer bridges are before a bridge that was met than before the part
 pub met_before : (b : Board) (p here : Path) → is_bridge_at b p ≡ true → path_before p here ≡ true → secondary b p < secondary b here
 met_before b p here h k = omega (arith, count_two (λ x. path_before x p) (at p) (λ x. path_before x here) (λ x. before_trans x p here k) b, counted b p h)
 
@@ -58,7 +58,7 @@ module _ (b : Board) (lawful : IsBoard b) (here : Path) (few : secondary b here 
   numbers : (p : Path) → is_bridge_at b p ≡ true → NumbersLead b p bus
   numbers p h = numbering b lawful p bus h there
 
-  -- a bridge above the place has all numbers that were given since its own
+  -- a bridge above the part has all numbers that were given since its own
   open_covers : (p : Path) → is_bridge_at b p ≡ true → leads_to p here ≡ true → secondary b p ≤ secondary b bus → secondary b bus ≤ subordinate b p
   open_covers p h k low = by_equal (path_eq p bus) refl
     where

@@ -4,7 +4,7 @@ use Rattle.model_board.specs.Paths.{Path}
 use Rattle.model_board.specs.Board.{Board, is_multifunction}
 use Rattle.model_board.specs.FunctionTable.{TableRow}
 use Rattle.model_board.specs.State.{State}
-use Rattle.model_board.specs.ScanOrder.{on, next_place}
+use Rattle.model_board.specs.ScanOrder.{on, next_part}
 use Rattle.host_bridge.specs.BusAddresses.{bus_address_of}
 use Rattle.host_bridge.specs.HostState.{HostState}
 use Rattle.bus_scan.specs.declared.enumeration.Enumeration.{Enumeration}
@@ -67,8 +67,8 @@ scan_bus-returns-clause-scanned t c = λ b on_bus at.
 pub scan_place-returns-in_default-clause-scanned : goal.scan_place-returns-in_default-clause-scanned
 scan_place-returns-in_default-clause-scanned t c = λ b on_bus at.
     let sight = sighted b c.args.bus.now c.args.number on_bus c.args.n c.args.host.now.state c.args.self.now.rows.items c.args.self.now.last at (bus_address_of c.address-at.result) c.address-at.ensures c.look.result c.look.ensures.none c.look.ensures.some in
-    past_nothing b on_bus.board c.args.bus.now c.args.n c.next_place.result c.look.new.host.state c.args.self.now.rows.items c.args.self.now.last
-    (none_seen b c.args.bus.now c.args.number c.args.n c.look.result sight c.in_default.is) c.next_place.ensures.next
+    past_nothing b on_bus.board c.args.bus.now c.args.n c.next_part.result c.look.new.host.state c.args.self.now.rows.items c.args.self.now.last
+    (none_seen b c.args.bus.now c.args.number c.args.n c.look.result sight c.in_default.is) c.next_part.ensures.next
     (after_look b (on c.args.bus.now c.args.n) c.args.host.now.state c.args.self.now.rows.items c.args.self.now.last at c.look.new.host.state (ap (λ (h : HostState). h.state) c.look.ensures.after))
 
 pub scan_place-returns-in_err-scan_bridge-in-Bridge-clause-scanned :
@@ -85,14 +85,14 @@ scan_place-returns-clause-scanned t c = λ b on_bus at.
     let sight = sighted b c.args.bus.now c.args.number on_bus c.args.n c.args.host.now.state c.args.self.now.rows.items c.args.self.now.last at (bus_address_of c.address-at.result) c.address-at.ensures c.look.result c.look.ensures.none c.look.ensures.some in
     let f = finds b c.args.bus.now c.args.number c.args.n c.look.result sight c.in-Some.seen c.in-Some.is in
     let looked = after_look b (on c.args.bus.now c.args.n) c.args.host.now.state c.args.self.now.rows.items c.args.self.now.last at c.look.new.host.state (ap (λ (h : HostState). h.state) c.look.ensures.after) in
-    subst (λ m. IsAt b (on c.args.bus.now m) c.match-seen.host.state c.match-seen.self.rows.items c.match-seen.self.last) (sym (f.next c.next_place-2.result c.next_place-2.ensures.next))
+    subst (λ m. IsAt b (on c.args.bus.now m) c.match-seen.host.state c.match-seen.self.rows.items c.match-seen.self.last) (sym (f.next c.next_part-2.result c.next_part-2.ensures.next))
     (elim c.match-seen.branch [
       | scan_place-in-Endpoint+in_ok-push-in-Endpoint w ↦
-          placed b (on c.args.bus.now (next_place b c.args.bus.now c.args.n)) c.look.new.host c.match-seen.host w.push.new.self c.match-seen.self w.host-is w.self-is
-          (pushed b (on c.args.bus.now (next_place b c.args.bus.now c.args.n)) c.look.new.host.state (c.args.self.now.rows.items ++ endpoint_row c.path_on-path.result c.args.number w.in-Endpoint.pin c.in-Some.seen ∷ []) w.push.new.self.rows.items
+          placed b (on c.args.bus.now (next_part b c.args.bus.now c.args.n)) c.look.new.host c.match-seen.host w.push.new.self c.match-seen.self w.host-is w.self-is
+          (pushed b (on c.args.bus.now (next_part b c.args.bus.now c.args.n)) c.look.new.host.state (c.args.self.now.rows.items ++ endpoint_row c.path_on-path.result c.args.number w.in-Endpoint.pin c.in-Some.seen ∷ []) w.push.new.self.rows.items
           c.args.self.now.last w.push.new.self.last w.in_ok-push-in-Endpoint.ensures.rows w.in_ok-push-in-Endpoint.ensures.last
           (past_function b c.args.bus.now c.args.number c.args.n w.in-Endpoint.pin f.row c.in-Some.seen f.found w.in-Endpoint.is c.path_on-path.result c.path_on-path.ensures c.look.new.host.state c.args.self.now.rows.items c.args.self.now.last looked))
       | scan_place-in-Bridge+in_ok-scan_bridge-in-Bridge w ↦
-          placed b (on c.args.bus.now (next_place b c.args.bus.now c.args.n)) w.scan_bridge.new.host c.match-seen.host w.scan_bridge.new.self c.match-seen.self w.host-is w.self-is
+          placed b (on c.args.bus.now (next_part b c.args.bus.now c.args.n)) w.scan_bridge.new.host c.match-seen.host w.scan_bridge.new.self c.match-seen.self w.host-is w.self-is
           (w.in_ok-scan_bridge-in-Bridge.ensures.scanned b c.args.bus.now c.args.n f.row (bridge_there_of b c.args.bus.now c.args.number c.args.n f.row c.in-Some.seen f.found w.in-Bridge.is (bus_address_of c.address-at.result) c.address-at.ensures) c.path_on-path.ensures (shows_at b c.args.bus.now c.args.number c.args.n f.row c.in-Some.seen f.found c.path_on-path.result c.path_on-path.ensures) looked)
     ])

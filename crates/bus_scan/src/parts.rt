@@ -1,21 +1,21 @@
-//! The places of a bus: device 0 to 15, and in a device function 0 to 7.
+//! The parts of a bus: device 0 to 15, and in a device function 0 to 7.
 ghost use Rattle.std.specs.Prelude.{◌≡◌, ◌<◌, ◌+◌, ◌%◌, ◌==◌, ◌&&◌, not, if◌then◌else◌, [], ◌∷◌, ◌++◌, length};
-ghost use Rattle.model_board.specs.ScanOrder.{on, place};
+ghost use Rattle.model_board.specs.ScanOrder.{on, nth_part};
 ghost use Rattle.host_bridge.specs.BusAddresses.{bus_address_of};
 
 use bridge_forward::Part;
 use host_bridge::{Bdf, Path};
 
-/// How many places a bus has.
-pub(crate) const PLACES: u8 = 128;
+/// How many parts a bus has.
+pub(crate) const PARTS: u8 = 128;
 
 /// How many parts a path has at most.
 pub(crate) const DEEPEST: usize = 16;
 
-/// The physical number of a place.
+/// The physical number of a part.
 pub(crate) fn address(bus: u8, n: u8) -> Bdf
-    requires { n < PLACES }
-    ensures { bus_address_of result ≡ record { bus = bus; part = place n } }
+    requires { n < PARTS }
+    ensures { bus_address_of result ≡ record { bus = bus; part = nth_part n } }
 {
     Bdf {
         bus,
@@ -24,10 +24,10 @@ pub(crate) fn address(bus: u8, n: u8) -> Bdf
     }
 }
 
-/// The place that is looked at after the nth one: functions 1 to 7 where function 0 says that its device
+/// The part that is looked at after the nth one: functions 1 to 7 where function 0 says that its device
 /// holds others, and else the next device.
-pub(crate) fn next_place(n: u8, is_multifunction: bool) -> u8
-    requires { n < PLACES }
+pub(crate) fn next_part(n: u8, is_multifunction: bool) -> u8
+    requires { n < PARTS }
     ensures next { result ≡ (if n % 8 == 0 && not is_multifunction then n + 8 else n + 1) }
     ensures later { n < result }
 {
@@ -38,11 +38,11 @@ pub(crate) fn next_place(n: u8, is_multifunction: bool) -> u8
     }
 }
 
-/// The path of the function at the nth place of a bus, which the path of its bridge names, or no part for
+/// The path of the function at the nth part of a bus, which the path of its bridge names, or no part for
 /// bus 0.
 pub(crate) fn path_on(bus: &[Part], n: u8) -> Path
     requires short { length bus.now < 16 }
-    requires place { n < PLACES }
+    requires part { n < PARTS }
     ensures { result ≡ on bus.now n }
 {
     let part = Part::new(n / 8, n % 8);

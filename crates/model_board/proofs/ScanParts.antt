@@ -1,4 +1,4 @@
--- Places of a bus in path order: which paths come before the first, the last and the next place.
+-- Parts of a bus in path order: which paths come before the first, the last and the next part.
 use Rattle.std.proofs.Common.{◌≡◌, ℕ, ◌+◌, ◌*◌, ◌/◌, ◌%◌, ◌≤◌, ◌<◌, ◌⊎◌, inl, inr, Bool, true, false, not, ◌&&◌, ◌||◌, cond, [], ◌∷◌, ◌++◌, length, refl, sym, ap, ap₂, ◌∙◌, subst, arith, eqb}
 use Rattle.std.specs.Prelude.{nat_lt, nat_le, IsTrue}
 use Rattle.std.proofs.lemmas.Bool.Decides.{nat_tests}
@@ -7,15 +7,15 @@ use Rattle.model_registers.proofs.Tests.{left_true, right_true}
 use Rattle.model_board.specs.Members.{IsIn}
 use Rattle.model_board.specs.Paths.{Part, Path, part_eq, part_before, path_eq, path_before, leads_to, parent, last_part, function_zero, IsPart, IsPath}
 use Rattle.model_board.specs.Board.{Board, Row, stands_at, is_multifunction, IsBoard}
-use Rattle.model_board.specs.ScanOrder.{place, on, next_place}
+use Rattle.model_board.specs.ScanOrder.{nth_part, on, next_part}
 use Rattle.model_board.proofs.Members.{each_in, any_in}
 use Rattle.model_board.proofs.PathOrder.{part_same}
 use Rattle.model_board.proofs.PathEnds.{path_self, parent_snoc, last_snoc, path_eq-snoc}
 use Rattle.model_board.proofs.Partings.{bridge_above, leads_down}
 
--- ---- the first place behind a function
+-- ---- the first part behind a function
 
-no_part_before : (u : Part) → part_before u (place 0) ≡ false
+no_part_before : (u : Part) → part_before u (nth_part 0) ≡ false
 no_part_before u = grind (arith, nat_tests)
 
 part_eq-sym : (a b : Part) → part_eq a b ≡ part_eq b a
@@ -30,7 +30,7 @@ either false false a b c e = refl
 pub before_first : (x p : Path) → path_before x (on p 0) ≡ (path_before x p || path_eq x p)
 before_first [] [] = refl
 before_first [] (a ∷ p) = refl
-before_first (u ∷ x) [] = nothing (part_before u (place 0)) (part_eq u (place 0)) (path_before x []) (no_part_before u) (none x)
+before_first (u ∷ x) [] = nothing (part_before u (nth_part 0)) (part_eq u (nth_part 0)) (path_before x []) (no_part_before u) (none x)
   where
     none : (x : Path) → path_before x [] ≡ false
     none [] = refl
@@ -55,9 +55,9 @@ leads_place (u ∷ x) [] q = nothing (part_eq u q) (leads_to x []) (none x)
     nothing false e h = refl
 leads_place (u ∷ x) (a ∷ p) q = either false (part_eq u a) (leads_to x (p ++ q ∷ [])) (leads_to x p) (path_eq x p) (leads_place x p q)
 
--- ---- past the last place of a bus
+-- ---- past the last part of a bus
 
-part_of_bus : (u : Part) → u.device < 16 → part_before u (place 128) ≡ true
+part_of_bus : (u : Part) → u.device < 16 → part_before u (nth_part 128) ≡ true
 part_of_bus u h = grind (arith, nat_tests)
 
 three : (u v a b c d : Bool) → a ≡ (b || c || d) → (u || (v && a)) ≡ ((u || (v && b)) || (v && c) || (v && d))
@@ -68,17 +68,17 @@ three false false a b c d e = refl
 pub before_last : (x p : Path) → Each IsPart x → path_before x (on p 128) ≡ (path_before x p || path_eq x p || leads_to p x)
 before_last [] [] h = refl
 before_last [] (a ∷ p) h = refl
-before_last (u ∷ x) [] h = let e : part_before u (place 128) ≡ true = part_of_bus u h.0.device_fits in rw e
+before_last (u ∷ x) [] h = let e : part_before u (nth_part 128) ≡ true = part_of_bus u h.0.device_fits in rw e
 before_last (u ∷ x) (a ∷ p) h =
     subst (λ t. path_before (u ∷ x) (on (a ∷ p) 128) ≡ (path_before (u ∷ x) (a ∷ p) || path_eq (u ∷ x) (a ∷ p) || (t && leads_to p x))) (part_eq-sym u a)
     (three (part_before u a) (part_eq u a) (path_before x (on p 128)) (path_before x p) (path_eq x p) (leads_to p x) (before_last x p h.1))
 
--- ---- from one place of a bus to a later one
+-- ---- from one part of a bus to a later one
 
 abbrev index : Part → ℕ
 index u = 8 * u.device + u.function
 
--- the path is at or behind one of the places m to n of the bus, n not included
+-- the path is at or behind one of the parts m to n of the bus, n not included
 abbrev pub is_between : Path → ℕ → ℕ → Path → Bool
 is_between [] m n [] = false
 is_between [] m n (u ∷ x) = nat_le m (index u) && nat_lt (index u) n
@@ -88,10 +88,10 @@ is_between (a ∷ p) m n (u ∷ x) = part_eq u a && is_between p m n x
 lt_of : (m n : ℕ) → nat_lt m n ≡ true → m < n
 lt_of m n h = grind (arith, nat_tests)
 
-before_by_index : (u : Part) (n : ℕ) → u.function < 8 → part_before u (place n) ≡ nat_lt (index u) n
-before_by_index u n h = same (part_before u (place n)) (nat_lt (index u) n) refl refl
+before_by_index : (u : Part) (n : ℕ) → u.function < 8 → part_before u (nth_part n) ≡ nat_lt (index u) n
+before_by_index u n h = same (part_before u (nth_part n)) (nat_lt (index u) n) refl refl
   where
-    less : part_before u (place n) ≡ true → index u < n
+    less : part_before u (nth_part n) ≡ true → index u < n
     less e = by_device (nat_lt u.device (n / 8)) refl
       where
         second : nat_lt u.device (n / 8) ≡ false → (u.device ≡ n / 8) × (u.function < n % 8)
@@ -101,7 +101,7 @@ before_by_index u n h = same (part_before u (place n)) (nat_lt (index u) n) refl
         by_device true d = let l : u.device < n / 8 = lt_of u.device (n / 8) d in omega arith
         by_device false d = let s = second d in omega (arith, s.0, s.1)
 
-    not_less : part_before u (place n) ≡ false → n ≤ index u
+    not_less : part_before u (nth_part n) ≡ false → n ≤ index u
     not_less e = by_device (nat_lt (n / 8) u.device) refl
       where
         equal : nat_lt (n / 8) u.device ≡ false → (u.device ≡ n / 8) × (n % 8 ≤ u.function)
@@ -111,7 +111,7 @@ before_by_index u n h = same (part_before u (place n)) (nat_lt (index u) n) refl
         by_device true d = let l : n / 8 < u.device = lt_of (n / 8) u.device d in omega arith
         by_device false d = let s = equal d in omega (arith, s.0, s.1)
 
-    same : (s t : Bool) → part_before u (place n) ≡ s → nat_lt (index u) n ≡ t → s ≡ t
+    same : (s t : Bool) → part_before u (nth_part n) ≡ s → nat_lt (index u) n ≡ t → s ≡ t
     same true true e f = refl
     same true false e f = let l : index u < n = less e in grind (arith, nat_tests)
     same false true e f = let l : n ≤ index u = not_less e in grind (arith, nat_tests)
@@ -124,9 +124,9 @@ pub before_later : (x p : Path) (m n : ℕ) → m ≤ n → Each IsPart x → pa
 before_later [] [] m n h parts = refl
 before_later [] (a ∷ p) m n h parts = refl
 before_later (u ∷ x) [] m n h parts =
-    at_end (part_before u (place n)) (part_eq u (place n)) x (before_by_index u n parts.0.function_fits)
+    at_end (part_before u (nth_part n)) (part_eq u (nth_part n)) x (before_by_index u n parts.0.function_fits)
     ∙ between (index u) m n h
-    ∙ ap (λ t. t || (nat_le m (index u) && nat_lt (index u) n)) (sym (at_end (part_before u (place m)) (part_eq u (place m)) x (before_by_index u m parts.0.function_fits)))
+    ∙ ap (λ t. t || (nat_le m (index u) && nat_lt (index u) n)) (sym (at_end (part_before u (nth_part m)) (part_eq u (nth_part m)) x (before_by_index u m parts.0.function_fits)))
   where
     at_end : {e : Bool} (c d : Bool) (x : Path) → c ≡ e → (c || (d && path_before x [])) ≡ e
     at_end true d x h = h
@@ -172,7 +172,7 @@ module _ (b : Board) (lawful : IsBoard b) where
   pub row_path : (r : Row) → IsIn r b → IsPath r.path
   row_path r m = each_in (λ (s : Row). IsPath s.path) r b lawful.paths m
 
-  -- what stands at or behind a place has a function at that place
+  -- what stands at or behind a part has a function at that part
   stands_there : (r : Row) → IsIn r b → (p : Path) (u : Part) (rest : Path) → r.path ≡ p ++ u ∷ rest → (s : Row) × IsIn s b × (s.path ≡ p ++ u ∷ [])
   stands_there r m p u [] e = (r, m, e)
   stands_there r m p u (q ∷ rest) e =
@@ -191,24 +191,24 @@ module _ (b : Board) (lawful : IsBoard b) where
   is_multifunction_here p n first u dev fn s m e = rw (zero_stands, multifunction)
     where
       zero_is : function_zero s.path ≡ on p n
-      zero_is = ap function_zero e ∙ zero_snoc p u ∙ ap (λ (v : Part). p ++ v ∷ []) (same_part (record u { function = 0 }) (place n) dev (sym first))
+      zero_is = ap function_zero e ∙ zero_snoc p u ∙ ap (λ (v : Part). p ++ v ∷ []) (same_part (record u { function = 0 }) (nth_part n) dev (sym first))
 
       zero_stands : stands_at b (on p n) ≡ true
       zero_stands = subst (λ (x : Path). stands_at b x ≡ true) zero_is (each_in (λ (r : Row). IsTrue (stands_at b (function_zero r.path))) s b lawful.function_zeros m)
 
       parents : path_eq (parent (p ++ u ∷ [])) (parent (on p n)) ≡ true
-      parents = rw (parent_snoc p u, parent_snoc p (place n)) (path_self p)
+      parents = rw (parent_snoc p u, parent_snoc p (nth_part n)) (path_self p)
 
       self : (k : ℕ) → eqb k k ≡ true
       self k = grind (arith, nat_tests)
 
       devices : eqb (device (p ++ u ∷ [])) (device (on p n)) ≡ true
-      devices = ap₂ eqb (ap (λ (v : Part). v.device) (last_snoc p u) ∙ dev) (ap (λ (v : Part). v.device) (last_snoc p (place n))) ∙ self (n / 8)
+      devices = ap₂ eqb (ap (λ (v : Part). v.device) (last_snoc p u) ∙ dev) (ap (λ (v : Part). v.device) (last_snoc p (nth_part n))) ∙ self (n / 8)
 
       apart : path_eq (p ++ u ∷ []) (on p n) ≡ false
-      apart = path_eq-snoc p u (place n) ∙ other
+      apart = path_eq-snoc p u (nth_part n) ∙ other
         where
-          other : part_eq u (place n) ≡ false
+          other : part_eq u (nth_part n) ≡ false
           other = grind (arith, nat_tests)
 
       multifunction : is_multifunction b (on p n) ≡ true
@@ -216,12 +216,12 @@ module _ (b : Board) (lawful : IsBoard b) where
           any_in (λ (r : Row). path_eq (parent r.path) (parent (on p n)) && eqb (device r.path) (device (on p n)) && not (path_eq r.path (on p n))) s b m
           (subst (λ (x : Path). (path_eq (parent x) (parent (on p n)) && eqb (device x) (device (on p n)) && not (path_eq x (on p n))) ≡ true) (sym e) (rw (parents, devices, apart)))
 
-  -- no function is passed over on the way to the next place
-  pub none_passed : (p : Path) (n : ℕ) (r : Row) → IsIn r b → is_between p n (next_place b p n) r.path ≡ true → AtOrBehind r (on p n)
+  -- no function is passed over on the way to the next part
+  pub none_passed : (p : Path) (n : ℕ) (r : Row) → IsIn r b → is_between p n (next_part b p n) r.path ≡ true → AtOrBehind r (on p n)
   none_passed p n r m h = by_test (eqb (n % 8) 0 && not (stands_at b (on p n) && is_multifunction b (on p n))) refl h
     where
       at_place : (u : Part) (rest : Path) → r.path ≡ p ++ u ∷ rest → u.device ≡ n / 8 → u.function ≡ n % 8 → AtOrBehind r (on p n)
-      at_place u rest e dev fn = subst (λ (v : Part). AtOrBehind r (p ++ v ∷ [])) (same_part u (place n) dev fn) (at_or_behind r p u rest e)
+      at_place u rest e dev fn = subst (λ (v : Part). AtOrBehind r (p ++ v ∷ [])) (same_part u (nth_part n) dev fn) (at_or_behind r p u rest e)
 
       part_of : (u : Part) (rest : Path) → r.path ≡ p ++ u ∷ rest → IsPart u
       part_of u rest e = part_in p u rest (subst (λ (x : Path). Each IsPart x) e (row_path r m).parts)
