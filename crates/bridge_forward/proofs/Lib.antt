@@ -9,6 +9,7 @@ pub mod Searching
 pub mod Skipping
 pub mod Reaching
 pub mod Reached
+pub mod KnownRoutes
 pub mod Halving
 pub mod OnBus
 pub mod Changes

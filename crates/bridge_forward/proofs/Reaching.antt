@@ -117,13 +117,12 @@ module _ (nodes : List Node) (laid : IsLaidOut nodes) where
       ends_snoc (a ∷ []) y t = refl
       ends_snoc (a ∷ b ∷ p) y t = ends_snoc (b ∷ p) y t
 
-      -- behind a bridge that leads to the bus stands what is reached
-      pub reached_there : Passing bus → eqb (secondary_register f.file) n ≡ true → (t : Part) → reached_type1 fs n t ≡ find (λ g. path_eq g.path (f.path ++ t ∷ [])) fs
-      reached_there p leads t = find_same (λ g. ends_in g.path t && is_route fs n [] g.path) (λ g. path_eq g.path (f.path ++ t ∷ [])) fs
-          (λ j g eg. same_test (ends_in g.path t && is_route fs n [] g.path) (path_eq g.path (f.path ++ t ∷ []))
-          (λ h. let q = p.into g.path (right_true (ends_in g.path t) (is_route fs n [] g.path) h) in
-          to_path g.path q.0 q.1.0 q.1.1 (left_true (ends_in g.path t) (is_route fs n [] g.path) h))
-          (λ h. from_path g.path (path_same g.path (f.path ++ t ∷ []) h)))
+      -- behind a bridge that leads to the bus all routes end
+      pub routed : Passing bus → eqb (secondary_register f.file) n ≡ true → (g : Path) (t : Part) → (ends_in g t && is_route fs n [] g) ≡ path_eq g (f.path ++ t ∷ [])
+      routed p leads g t = same_test (ends_in g t && is_route fs n [] g) (path_eq g (f.path ++ t ∷ []))
+          (λ h. let q = p.into g (right_true (ends_in g t) (is_route fs n [] g) h) in
+          to_path g q.0 q.1.0 q.1.1 (left_true (ends_in g t) (is_route fs n [] g) h))
+          (λ h. from_path g (path_same g (f.path ++ t ∷ []) h))
         where
           to_path : (r q : Path) → r ≡ bus ++ q → is_route fs n bus q ≡ true → ends_in r t ≡ true → path_eq r (f.path ++ t ∷ []) ≡ true
           to_path r [] e h k = absurd (cc)

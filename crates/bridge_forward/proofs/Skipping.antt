@@ -65,7 +65,7 @@ cells_leaf f g file is h = ap (λ (x : Function). is_bridge (decl_of x)) is ∙ 
 
 -- ---- the search
 
-covers_none : (n : ℕ) (m : Node) → is_bridge (decl_of m.function) ≡ false → covers n (function_of m) ≡ false
+pub covers_none : (n : ℕ) (m : Node) → is_bridge (decl_of m.function) ≡ false → covers n (function_of m) ≡ false
 covers_none n m h = ap (λ t. (t && nat_le (secondary_register (function_of m).file) n) && nat_le n (subordinate_register (function_of m).file)) h
 
 module _ (nodes : List Node) (laid : IsLaidOut nodes) (bus : Path) (n from to : ℕ) (side : IsSide nodes bus from to) where

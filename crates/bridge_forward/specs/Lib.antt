@@ -6,6 +6,7 @@ pub mod Functions
 pub mod Cycled
 pub mod Layout
 pub mod Resets
+pub mod Leading
 pub mod ResetAlone
 pub mod Search
 pub mod Skips

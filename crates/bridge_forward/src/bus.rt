@@ -17,6 +17,7 @@ use crate::decl::Decl;
 use crate::endpoint::EndpointFn;
 use crate::function::Function;
 use crate::path::Path;
+use crate::routes::Routes;
 use crate::walk::{locate, position, reach};
 use bars::Space;
 use std::alloc::{AllocError, Global};
@@ -37,10 +38,12 @@ pub(crate) struct Node {
 /// The tree is kept flat, as in a flattened device tree: all functions in path order, each with the
 /// end of what stands behind it. So a walk steps from a function to the next on its bus by one
 /// index, passes what stands behind a bridge by the same step, and takes no memory. A search for a
-/// bridge passes the endpoints before it by one more index.
+/// bridge passes the endpoints before it by one more index. The bridge that leads to a bus is kept by
+/// the number of the bus once a cycle has found it, until a bridge is written.
 #[derive(Drop)]
 pub struct Bus {
     nodes: Vec<Node>,
+    known: Routes,
 }
 
 impl Model for Bus {
@@ -50,11 +53,11 @@ impl Model for Bus {
     ghost Value = { List BoardFunction };
 
     ghost use Rattle.bridge_forward.specs.Layout.{functions_of};
-    ghost use Rattle.bridge_forward.specs.Skips.{IsTree};
+    ghost use Rattle.bridge_forward.specs.Leading.{IsBus};
 
     ghost view = { λ b. functions_of b.nodes.items };
 
-    ghost invariant = { λ b. IsTree b.nodes.items };
+    ghost invariant = { λ b. IsBus b.nodes.items b.known };
 }
 
 /// Where an address lands: the path of an endpoint, the base address register of a region, 0 to 5,
@@ -113,7 +116,8 @@ impl Bus {
     {
         let mut nodes = nodes_at_reset(alloc, decls)?;
         lay_out(&mut nodes);
-        Ok(Bus { nodes })
+        let known = Routes::unknown(alloc)?;
+        Ok(Bus { nodes, known })
     }
 
     /// Puts a configuration cycle on bus 0: the enabled bytes that a read shows, 0 for a write that is
@@ -123,9 +127,12 @@ impl Bus {
         ensures reply { result ≡ cycle_reply self.old cycle }
         ensures after { self.new ≡ after_cycle self.old cycle }
     {
-        let at = reach(&self.nodes, &cycle)?;
+        let at = reach(&self.nodes, &mut self.known, &cycle)?;
         let node = &mut self.nodes[at];
-        Some(node.function.access(cycle.op, cycle.offset, cycle.enables))
+        let reply = node.function.access(cycle.op, cycle.offset, cycle.enables);
+        let changes_routes = node.function.is_bridge_written(cycle.op);
+        self.known.forget_if(changes_routes);
+        Some(reply)
     }
 
     /// The first claim of an address in path order, then by register: a region that decodes it, where
@@ -169,6 +176,9 @@ impl Bus {
         ensures in_order { EachPair (λ f g. IsTrue (path_before f.path g.path)) self.old }
     {
         let at = position(&self.nodes, path)?;
+        if self.nodes[at].function.is_bridge() {
+            return None;
+        }
         let node = &mut self.nodes[at];
         node.function.endpoint_mut()
     }
@@ -192,6 +202,9 @@ impl Bus {
         ensures in_order { EachPair (λ f g. IsTrue (path_before f.path g.path)) self.old }
     {
         if index >= self.nodes.len() {
+            return None;
+        }
+        if self.nodes[index].function.is_bridge() {
             return None;
         }
         let node = &mut self.nodes[index];

@@ -27,3 +27,18 @@ pub struct Cycle {
     pub enables: u8,
     pub op: Op,
 }
+
+impl Op {
+    ghost use Rattle.std.specs.Prelude.{◌≡◌};
+    ghost use Rattle.bridge_forward.specs.Cycled.{is_write};
+
+    /// Whether it is a write.
+    pub(crate) fn is_write(self) -> bool
+        ensures { result ≡ is_write self }
+    {
+        match self {
+            Op::Read => false,
+            Op::Write(_) => true,
+        }
+    }
+}

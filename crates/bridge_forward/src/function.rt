@@ -22,7 +22,7 @@ pub(crate) enum Function {
 }
 
 impl Function {
-    ghost use Rattle.bridge_forward.specs.Cycled.{reply_to, after_access};
+    ghost use Rattle.bridge_forward.specs.Cycled.{is_write, reply_to, after_access};
     ghost use Rattle.bridge_forward.specs.Decls.{declared};
     ghost use Rattle.bridge_forward.specs.ResetAlone.{after_leaf_reset};
     ghost use Rattle.bridge_forward.specs.Functions.{decl_of, file_of, with_cells, reset_cells, endpoint_in, LendsLeaf};
@@ -104,6 +104,13 @@ impl Function {
             Function::Endpoint(_) => false,
             Function::Bridge(_) => true,
         }
+    }
+
+    /// Whether it is a bridge and the operation a write.
+    pub(crate) fn is_bridge_written(&self, op: Op) -> bool
+        ensures { result ≡ (is_write op && is_bridge (decl_of self.now)) }
+    {
+        op.is_write() && self.is_bridge()
     }
 
     /// Whether it is a bridge that takes cycles for the bus.

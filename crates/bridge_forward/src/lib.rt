@@ -12,6 +12,7 @@ mod function;
 mod offsets;
 mod path;
 mod places;
+mod routes;
 mod walk;
 
 pub use bus::{Bus, Claim, Located};

@@ -4,6 +4,7 @@ ghost use Rattle.model_board.specs.Paths.{Path as PathValue, path_eq};
 ghost use Rattle.bridge_forward.specs.Layout.{functions_of};
 ghost use Rattle.bridge_forward.specs.Skips.{IsTree};
 ghost use Rattle.bridge_forward.specs.Search.{is_named, IsSide, IsAt};
+ghost use Rattle.bridge_forward.specs.Leading.{LeadsTo, LeadsNowhere, AreRoutes};
 ghost use Rattle.model_board.specs.Cycles.{taker};
 ghost use Rattle.bridge_forward.specs.Cycled.{reached_by};
 ghost use Rattle.bridge_forward.specs.Lending.{endpoint_nth};
@@ -15,6 +16,7 @@ use crate::bus::{Located, Node};
 use crate::cycle::{Cycle, CycleType};
 use crate::function::Function;
 use crate::path::{Part, Path};
+use crate::routes::Routes;
 use bars::Space;
 use std::cmp::Ordering;
 
@@ -73,9 +75,47 @@ fn part_on_bus(
     None
 }
 
-/// The function that a cycle reaches, put on bus 0. It steps along the bridges on its way alone.
-pub(crate) fn reach(nodes: &[Node], cycle: &Cycle) -> Option<usize>
+/// The bridge that leads to a bus. The search steps along the bridges on the way alone.
+fn search_bridge(nodes: &[Node], bus: u8) -> Option<usize>
     requires { IsTree nodes.now }
+    ensures found { IfSome result (LeadsTo nodes.now bus) }
+    ensures none { IfNone result (LeadsNowhere nodes.now bus) }
+{
+    let mut from = 0;
+    let mut to = nodes.len();
+    loop {
+        let at = bridge_on_bus(nodes, from, to, bus)?;
+        let bridge = &nodes[at];
+        from = at + 1;
+        to = bridge.end;
+        if bridge.function.leads_to(bus) {
+            return Some(at);
+        }
+    }
+}
+
+/// The bridge that leads to a bus: the one that is known, else the one that is found, which is known
+/// from then on.
+fn bridge_to(nodes: &[Node], known: &mut Routes, bus: u8) -> Option<usize>
+    requires tree { IsTree nodes.now }
+    requires routes { AreRoutes nodes.now known.old }
+    ensures routes { AreRoutes nodes.now known.new }
+    ensures found { IfSome result (LeadsTo nodes.now bus) }
+    ensures none { IfNone result (LeadsNowhere nodes.now bus) }
+{
+    if let Some(at) = known.bridge(bus) {
+        return Some(at);
+    }
+    let found = search_bridge(nodes, bus);
+    known.keep(bus, found);
+    found
+}
+
+/// The function that a cycle reaches, put on bus 0.
+pub(crate) fn reach(nodes: &[Node], known: &mut Routes, cycle: &Cycle) -> Option<usize>
+    requires tree { IsTree nodes.now }
+    requires routes { AreRoutes nodes.now known.old }
+    ensures routes { AreRoutes nodes.now known.new }
     ensures found { IfSome result (λ i. IsAt nodes.now i (reached_by (functions_of nodes.now) cycle.now)) }
     ensures none { IfNone result (reached_by (functions_of nodes.now) cycle.now ≡ None) }
 {
@@ -88,17 +128,16 @@ pub(crate) fn reach(nodes: &[Node], cycle: &Cycle) -> Option<usize>
     let CycleType::Type1 { bus } = kind else {
         return part_on_bus(nodes, &[], 0, nodes.len(), device, function);
     };
-    let mut from = 0;
-    let mut to = nodes.len();
-    loop {
-        let at = bridge_on_bus(nodes, from, to, bus)?;
-        let bridge = &nodes[at];
-        from = at + 1;
-        to = bridge.end;
-        if bridge.function.leads_to(bus) {
-            return part_on_bus(nodes, bridge.path.parts(), from, to, device, function);
-        }
-    }
+    let at = bridge_to(nodes, known, bus)?;
+    let bridge = &nodes[at];
+    part_on_bus(
+        nodes,
+        bridge.path.parts(),
+        at + 1,
+        bridge.end,
+        device,
+        function,
+    )
 }
 
 /// The first claim of an address in path order, then by register, told by the index of its endpoint. It

@@ -1,4 +1,4 @@
-use Rattle.std.proofs.Common.{refl, List, None, ap, arith, inr, ◌∙◌, sym}
+use Rattle.std.proofs.Common.{refl, ◌≡◌, false, List, None, ap, arith, inr, ◌∙◌, sym}
 use Rattle.std.proofs.lemmas.Option.{slice_get_within}
 use Rattle.std.specs.Option.{option_map_or}
 use Rattle.std.specs.Prelude.{find}
@@ -7,8 +7,10 @@ use Rattle.bridge_forward.specs.declared.bus.Node.{Node}
 use Rattle.bridge_forward.specs.Layout.{functions_of}
 use Rattle.bridge_forward.specs.Lending.{as_endpoint, endpoint_at, with_endpoint}
 use Rattle.bridge_forward.proofs.Nodes.{functions_in_order}
-use Rattle.bridge_forward.proofs.Changes.{endpoint_set, endpoint_there, found_there, kept, laid_set, node_there, same_read, same_order}
-use Rattle.bridge_forward.proofs.Skipping.{tree_set}
+use Rattle.bridge_forward.proofs.Changes.{endpoint_set, endpoint_there, found_there, kept, node_there, same_read, same_order}
+use Rattle.model_board.specs.Board.{is_bridge}
+use Rattle.bridge_forward.specs.Functions.{decl_of}
+use Rattle.bridge_forward.proofs.KnownRoutes.{bus_same, bus_set, none_lent, same_read_at}
 use Rattle.bridge_forward.specs.declared.function.Function.TheVariants.{Endpoint}
 use Rattle.bridge_forward.proofs.bus.Bus.endpoint_mut.Goals as goal
 
@@ -21,7 +23,7 @@ returns-in_err-at c =
       record {
         lends = tt;
         value = sym (ap (λ o. option_map_or as_endpoint o None) none) ∙ ap (λ fs. endpoint_at fs c.args.path.now) c.self.view_is;
-        in_order = same_order c.self.view_is (functions_in_order nodes c.self.invariant.laid);
+        in_order = same_order c.self.view_is (functions_in_order nodes c.self.invariant.tree.laid);
       },
     )
 
@@ -36,7 +38,9 @@ invariant_of-self-lent c =
     let nodes = c.self.inside.nodes.items in
     let n = c.index_mut-node.result.now in
     let e = node_there nodes c.deref.result.now c.in_ok-at.at n (find (λ f. path_eq f.path c.args.path.now)) c.deref.ensures.value c.in_ok-at.ensures.found c.index_mut-node.ensures.value in
-    λ _. (λ w. tree_set nodes c.in_ok-at.at n (Endpoint w) e (λ h. refl) c.self.invariant (laid_set nodes c.in_ok-at.at n (Endpoint w) e c.self.invariant.laid), tree_set nodes c.in_ok-at.at n n.function e (λ h. h) c.self.invariant (laid_set nodes c.in_ok-at.at n n.function e c.self.invariant.laid))
+    let leaf : is_bridge (decl_of n.function) ≡ false =
+    ap (λ (m : Node). is_bridge (decl_of m.function)) (same_read_at nodes c.in_ok-at.at n c.index.result.now e c.index.ensures) ∙ sym c.is_bridge.ensures ∙ c.if-is_bridge.false in
+    λ _. (λ w. bus_set nodes c.in_ok-at.at n (Endpoint w) e leaf refl c.self.inside.known c.self.invariant, bus_same nodes c.in_ok-at.at n c.self.inside.known e c.self.invariant)
 
 pub returns : goal.returns
 returns c =
@@ -46,11 +50,26 @@ returns c =
     let e = node_there nodes c.deref.result.now c.in_ok-at.at n (find (λ f. path_eq f.path path)) c.deref.ensures.value c.in_ok-at.ensures.found c.index_mut-node.ensures.value in
     let at = found_there nodes c.deref.result.now c.in_ok-at.at n (find (λ f. path_eq f.path path)) c.deref.ensures.value c.in_ok-at.ensures.found e in (
       same_read _ _ _ _ _
-          (λ w. endpoint_set nodes c.self.invariant.laid c.in_ok-at.at n e path at w ∙ ap (with_endpoint path w) c.self.view_is)
-          (kept nodes c.self.invariant.laid c.in_ok-at.at n e ∙ c.self.view_is),
+          (λ w. endpoint_set nodes c.self.invariant.tree.laid c.in_ok-at.at n e path at w ∙ ap (with_endpoint path w) c.self.view_is)
+          (kept nodes c.self.invariant.tree.laid c.in_ok-at.at n e ∙ c.self.view_is),
       record {
         lends = tt;
-        value = c.endpoint_mut.ensures.value ∙ endpoint_there nodes c.self.invariant.laid c.in_ok-at.at n e path at ∙ ap (λ fs. endpoint_at fs path) c.self.view_is;
-        in_order = same_order c.self.view_is (functions_in_order nodes c.self.invariant.laid);
+        value = c.endpoint_mut.ensures.value ∙ endpoint_there nodes c.self.invariant.tree.laid c.in_ok-at.at n e path at ∙ ap (λ fs. endpoint_at fs path) c.self.view_is;
+        in_order = same_order c.self.view_is (functions_in_order nodes c.self.invariant.tree.laid);
+      },
+    )
+
+pub returns-then-is_bridge : goal.returns-then-is_bridge
+returns-then-is_bridge c =
+    let nodes = c.self.inside.nodes.items in
+    let n = c.index.result.now in
+    let path = c.args.path.now in
+    let e = node_there nodes c.deref.result.now c.in_ok-at.at n (find (λ f. path_eq f.path path)) c.deref.ensures.value c.in_ok-at.ensures.found c.index.ensures in
+    let at = found_there nodes c.deref.result.now c.in_ok-at.at n (find (λ f. path_eq f.path path)) c.deref.ensures.value c.in_ok-at.ensures.found e in (
+      ap (λ fs. inr fs) c.self.view_is,
+      record {
+        lends = tt;
+        value = none_lent n.function (sym c.is_bridge.ensures ∙ c.if-is_bridge.true) ∙ endpoint_there nodes c.self.invariant.tree.laid c.in_ok-at.at n e path at ∙ ap (λ fs. endpoint_at fs path) c.self.view_is;
+        in_order = same_order c.self.view_is (functions_in_order nodes c.self.invariant.tree.laid);
       },
     )

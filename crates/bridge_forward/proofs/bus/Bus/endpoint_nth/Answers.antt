@@ -1,4 +1,4 @@
-use Rattle.std.proofs.Common.{refl, ◌≡◌, None, Option, ap, arith, inr, ◌∙◌, sym}
+use Rattle.std.proofs.Common.{refl, ◌≡◌, false, None, Option, ap, arith, inr, ◌∙◌, sym}
 use Rattle.std.specs.List.{slice_get}
 use Rattle.std.specs.Option.{option_map_or}
 use Rattle.std.proofs.lemmas.List.{length-map}
@@ -7,9 +7,12 @@ use Rattle.bridge_forward.specs.Layout.{function_of, functions_of}
 use Rattle.bridge_forward.specs.Lending.{as_endpoint, endpoint_nth, with_endpoint_nth}
 use Rattle.bridge_forward.proofs.Indices.{read_at}
 use Rattle.bridge_forward.proofs.Nodes.{functions_in_order}
-use Rattle.bridge_forward.proofs.Changes.{kept, laid_set, same_read, same_order}
+use Rattle.bridge_forward.proofs.Changes.{kept, same_read, same_order}
 use Rattle.bridge_forward.proofs.Nth.{past_end, nth_set, nth_there}
-use Rattle.bridge_forward.proofs.Skipping.{tree_set}
+use Rattle.model_board.specs.Board.{is_bridge}
+use Rattle.bridge_forward.specs.declared.bus.Node.{Node}
+use Rattle.bridge_forward.specs.Functions.{decl_of}
+use Rattle.bridge_forward.proofs.KnownRoutes.{bus_same, bus_set, none_lent, same_read_at}
 use Rattle.bridge_forward.specs.declared.function.Function.TheVariants.{Endpoint}
 use Rattle.bridge_forward.proofs.bus.Bus.endpoint_nth.Goals as goal
 
@@ -22,7 +25,7 @@ returns-then-index-len c =
       record {
         lends = tt;
         value = sym (ap (λ (o : Option BoardFunction). option_map_or as_endpoint o None) none) ∙ ap (λ fs. endpoint_nth fs c.args.index) c.self.view_is;
-        in_order = same_order c.self.view_is (functions_in_order nodes c.self.invariant.laid);
+        in_order = same_order c.self.view_is (functions_in_order nodes c.self.invariant.tree.laid);
       },
     )
 
@@ -31,7 +34,23 @@ invariant_of-self-lent c =
     let nodes = c.self.inside.nodes.items in
     let n = c.index_mut-node.result.now in
     let e = read_at nodes c.args.index n (omega (arith, c.if-index-len.false, c.len.ensures)) c.index_mut-node.ensures.value in
-    λ _. (λ w. tree_set nodes c.args.index n (Endpoint w) e (λ h. refl) c.self.invariant (laid_set nodes c.args.index n (Endpoint w) e c.self.invariant.laid), tree_set nodes c.args.index n n.function e (λ h. h) c.self.invariant (laid_set nodes c.args.index n n.function e c.self.invariant.laid))
+    let leaf : is_bridge (decl_of n.function) ≡ false =
+    ap (λ (m : Node). is_bridge (decl_of m.function)) (same_read_at nodes c.args.index n c.index.result.now e c.index.ensures) ∙ sym c.is_bridge.ensures ∙ c.if-is_bridge.false in
+    λ _. (λ w. bus_set nodes c.args.index n (Endpoint w) e leaf refl c.self.inside.known c.self.invariant, bus_same nodes c.args.index n c.self.inside.known e c.self.invariant)
+
+pub returns-then-is_bridge : goal.returns-then-is_bridge
+returns-then-is_bridge c =
+    let nodes = c.self.inside.nodes.items in
+    let n = c.index.result.now in
+    let i = c.args.index in
+    let e = read_at nodes i n (omega (arith, c.if-index-len.false, c.len.ensures)) c.index.ensures in (
+      ap (λ fs. inr fs) c.self.view_is,
+      record {
+        lends = tt;
+        value = none_lent n.function (sym c.is_bridge.ensures ∙ c.if-is_bridge.true) ∙ nth_there nodes i n e ∙ ap (λ fs. endpoint_nth fs i) c.self.view_is;
+        in_order = same_order c.self.view_is (functions_in_order nodes c.self.invariant.tree.laid);
+      },
+    )
 
 pub returns : goal.returns
 returns c =
@@ -41,10 +60,10 @@ returns c =
     let e = read_at nodes i n (omega (arith, c.if-index-len.false, c.len.ensures)) c.index_mut-node.ensures.value in (
       same_read _ _ _ _ _
           (λ w. nth_set nodes i n e w ∙ ap (with_endpoint_nth i w) c.self.view_is)
-          (kept nodes c.self.invariant.laid i n e ∙ c.self.view_is),
+          (kept nodes c.self.invariant.tree.laid i n e ∙ c.self.view_is),
       record {
         lends = tt;
         value = c.endpoint_mut.ensures.value ∙ nth_there nodes i n e ∙ ap (λ fs. endpoint_nth fs i) c.self.view_is;
-        in_order = same_order c.self.view_is (functions_in_order nodes c.self.invariant.laid);
+        in_order = same_order c.self.view_is (functions_in_order nodes c.self.invariant.tree.laid);
       },
     )

@@ -3,7 +3,7 @@ use Rattle.model_board.specs.Paths.{Path}
 use Rattle.bridge_forward.specs.Layout.{IsLaidOut}
 use Rattle.bridge_forward.specs.Search.{IsSide}
 use Rattle.bridge_forward.proofs.Reaching.{Passing}
-use Rattle.bridge_forward.proofs.walk.reach.Given as goal
+use Rattle.bridge_forward.proofs.walk.search_bridge.Given as goal
 
 abbrev pub invariant-loop-at : goal.invariant-loop-at
 invariant-loop-at l = record {

@@ -1,0 +1,41 @@
+use Rattle.std.proofs.Common.{[], ◌≡◌, arith, sym, ◌∙◌}
+use Rattle.model_registers.proofs.Tests.{right_true}
+use Rattle.bridge_forward.proofs.Indices.{read_at}
+use Rattle.bridge_forward.proofs.Nodes.{side_root, side_behind}
+use Rattle.bridge_forward.proofs.Reaching.{passing_root}
+use Rattle.bridge_forward.proofs.Reached.{no_taker, next, leads_elsewhere, leads_here}
+use Rattle.bridge_forward.proofs.walk.search_bridge.Goals as goal
+
+pub loop-at-init : goal.loop-at-init
+loop-at-init c = record {
+  above = [];
+  side = side_root c.args.nodes.now c.requires.laid;
+  passing = λ laid. passing_root c.args.nodes.now laid c.args.bus;
+}
+
+pub returns-in_err-at-clause-none : goal.returns-in_err-at-clause-none
+returns-in_err-at-clause-none c =
+    let v = c.loop-at.invariant in
+    no_taker c.args.nodes.now c.requires.laid c.args.bus v.above (v.passing c.requires.laid) c.from_residual.result (c.in_err-at.ensures.none v.above v.side)
+
+pub returns-then-leads_to-clause-found : goal.returns-then-leads_to-clause-found
+returns-then-leads_to-clause-found c =
+    let nodes = c.args.nodes.now in
+    let v = c.loop-at.invariant in
+    let e = read_at nodes c.in_ok-at.at c.index-nodes-at.result (omega (arith, c.in_ok-at.ensures.within, v.side.within)) c.index-nodes-at.is in
+    leads_here nodes c.requires.laid c.args.bus v.above (v.passing c.requires.laid) c.in_ok-at.at c.index-nodes-at.result (c.in_ok-at.ensures.found v.above v.side) e
+    (right_true _ _ (sym c.leads_to.ensures ∙ c.if-leads_to.true))
+
+pub loop-at-preserved : goal.loop-at-preserved
+loop-at-preserved c =
+    let nodes = c.args.nodes.now in
+    let v = c.loop-at.invariant in
+    let e = read_at nodes c.in_ok-at.at c.index-nodes-at.result (omega (arith, c.in_ok-at.ensures.within, v.side.within)) c.index-nodes-at.is in
+    let at = c.in_ok-at.ensures.found v.above v.side in
+    record {
+      above = c.index-nodes-at.result.path;
+      side = side_behind nodes c.requires.laid c.in_ok-at.at c.index-nodes-at.result e;
+      passing = λ laid.
+          next nodes laid c.args.bus v.above (v.passing laid) c.in_ok-at.at c.index-nodes-at.result at e
+          (leads_elsewhere nodes laid c.args.bus v.above (v.passing laid) c.in_ok-at.at c.index-nodes-at.result at e (sym c.leads_to.ensures ∙ c.if-leads_to.false));
+    }
