@@ -1,5 +1,5 @@
 -- The bridges that are known to lead to buses, where one function or one entry changes.
-use Rattle.std.proofs.Common.{◌≡◌, ◌≢◌, ℕ, zero, suc, ◌<◌, ◌⊎◌, inl, inr, Bool, true, false, ◌&&◌, cond, Option, Some, None, List, [], ◌∷◌, ◌++◌, replicate, length, refl, ap, ap₂, sym, ◌∙◌, subst, arith, get_or, eqb}
+use Rattle.std.proofs.Common.{◌≡◌, ◌≢◌, ℕ, zero, suc, ◌⊎◌, inl, inr, Bool, true, false, ◌&&◌, cond, Option, Some, None, List, [], ◌∷◌, ◌++◌, replicate, refl, ap, ap₂, sym, ◌∙◌, subst, get_or, eqb}
 use Rattle.std.specs.Prelude.{IfSome, find, not}
 use Rattle.std.specs.Option.{option_map_or}
 use Rattle.std.specs.List.{slice_get, slice_set}
@@ -7,7 +7,7 @@ use Rattle.std.proofs.lemmas.Option.{slice_get_within}
 use Rattle.model_board.specs.Paths.{Part, Path, path_eq, parent}
 use Rattle.model_board.specs.Board.{is_bridge}
 use Rattle.model_board.specs.State.{BoardFunction}
-use Rattle.model_board.specs.Cycles.{secondary_register, covers, taker, takes, is_route, ends_in}
+use Rattle.model_board.specs.Cycles.{secondary_register, taker, takes, is_route, ends_in}
 use Rattle.bridge_forward.specs.declared.bus.Node.{Node}
 use Rattle.bridge_forward.specs.declared.function.Function.{Function}
 use Rattle.bridge_forward.specs.declared.function.Function.TheVariants.{Endpoint, Bridge}
@@ -16,7 +16,7 @@ use Rattle.bridge_forward.specs.declared.cycle.Op.TheVariants.{Read, Write}
 use Rattle.bridge_forward.specs.Cycled.{is_write, after_access}
 use Rattle.bridge_forward.specs.Functions.{decl_of, file_of, with_cells, endpoint_in}
 use Rattle.bridge_forward.specs.ResetAlone.{after_leaf_reset}
-use Rattle.bridge_forward.specs.Layout.{function_of, functions_of, paths_of, IsLaidOut}
+use Rattle.bridge_forward.specs.Layout.{function_of, functions_of, paths_of}
 use Rattle.bridge_forward.specs.Leading.{LeadsTo, AreUnknown, AreRoutes, IsBus}
 use Rattle.bridge_forward.proofs.Indices.{at_map, read_at, same_at, map_at, map_set, set_same}
 use Rattle.bridge_forward.proofs.Searching.{taking}

@@ -1,4 +1,4 @@
-use Rattle.std.proofs.Common.{◌≡◌, ◌∙◌, sym, Option, ℕ, List, subst}
+use Rattle.std.proofs.Common.{◌∙◌, sym, Option, ℕ, List, subst}
 use Rattle.bridge_forward.specs.Leading.{LeadsTo, AreRoutes}
 use Rattle.bridge_forward.proofs.KnownRoutes.{found_some, known_at, routes_more}
 use Rattle.bridge_forward.proofs.walk.bridge_to.Goals as goal

@@ -1,4 +1,4 @@
-use Rattle.std.proofs.Common.{[], ◌≡◌, arith, sym, ◌∙◌}
+use Rattle.std.proofs.Common.{[], arith, sym, ◌∙◌}
 use Rattle.model_registers.proofs.Tests.{right_true}
 use Rattle.bridge_forward.proofs.Indices.{read_at}
 use Rattle.bridge_forward.proofs.Nodes.{side_root, side_behind}
