@@ -5,7 +5,10 @@ JOBS := $(shell nproc)
 # the lines of a check that tell how far it is: one as a crate begins, one as it is done
 PROGRESS := grep --line-buffered -E '^(== |[a-z_]+: |[0-9]+ of )|^[^ ]*: error|not proved'
 
-.PHONY: demo list test build bench try clean
+# the board of `make list` and `make lspci`, unless they are given one
+BOARD := crates/examples/data/main.toml
+
+.PHONY: demo list lspci has-lspci test build bench try clean
 
 # Proves and builds the program, and runs a script over the demo board.
 demo: build
@@ -15,6 +18,13 @@ demo: build
 # The report of a board file: make list BOARD=crates/examples/data/main.toml
 list: pciguest
 	@./pciguest list $(BOARD)
+
+# The board of a file after set-up, shown by the real lspci: make lspci BOARD=.. OPTIONS=-tv
+lspci: has-lspci pciguest
+	@tools/lspci ./pciguest $(BOARD) $(OPTIONS)
+
+has-lspci:
+	@command -v lspci > /dev/null || { echo 'lspci is missing. On Debian: apt-get install pciutils'; exit 1; }
 
 pciguest:
 	@$(MAKE) --no-print-directory build
