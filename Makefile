@@ -30,10 +30,11 @@ pciguest:
 	@$(MAKE) --no-print-directory build
 
 # The gate: every proof from nothing, the must-fail edits, the tests and the programs; then the proved
-# program as its user runs it.
+# program as its user runs it, and the commands that the documents print.
 test:
 	rt ci
 	tests/program.sh
+	tests/commands.sh
 
 # Leaves the proved program as ./pciguest.
 build:

@@ -1,0 +1,92 @@
+#!/usr/bin/env bash
+# Runs the commands that the documents print, and compares what comes with what they print.
+#     tests/commands.sh [PROGRAM]
+# In a block, a line '$ COMMAND' is run in a folder that has the program as ./pciguest and the repository's folders, and
+# the lines up to the next one are what has to come; `...` as the last of them leaves the rest open. A block under a line
+# 'Save this as `NAME`' is saved there first. A block of Rust stands, line by line, in the file that the text above links
+# last. Of `make` the target alone is looked for. The last line is 'N passed, M failed'.
+set -u
+cd "$(dirname "$0")/.."
+top=$PWD
+program=$(readlink -f "${1:-crates/pciguest/out/pciguest}")
+[ -x "$program" ] || { echo "no program at $program: make build"; echo '0 passed, 1 failed'; exit 1; }
+documents=(README.md docs/LSPCI.md)
+
+room=$(mktemp -d)
+trap 'rm -rf "$room"' EXIT
+ln -s "$program" "$room/pciguest"
+for name in README.md crates docs examples tools; do ln -s "$top/$name" "$room/$name"; done
+passed=0
+failed=0
+
+# tell NAME WANTED CAME
+tell() {
+  if [ "$2" = "$3" ]; then
+    passed=$((passed + 1))
+  else
+    failed=$((failed + 1))
+    echo "FAILED: $1"
+    diff <(echo "$2") <(echo "$3") | head -n 20 | sed 's/^/  /'
+  fi
+}
+
+has_target() { grep -qE "^$1:" "$top/Makefile" && echo "$1"; }
+
+# run DOCUMENT COMMAND WANTED
+run() {
+  local came wanted=$3
+  [[ $2 != 'make '* ]] || return 0
+  came=$(cd "$room" && timeout 60 bash -c "$2" 2>&1)
+  if [ "$(tail -n 1 <<< "$wanted")" = ... ]; then
+    wanted=$(head -n -1 <<< "$wanted")
+    came=$(head -n "$(wc -l <<< "$wanted")" <<< "$came")
+  fi
+  tell "$1: $2" "$wanted" "$came"
+}
+
+# block DOCUMENT: a block of commands on standard input
+block() {
+  local line command='' wanted=''
+  while IFS= read -r line; do
+    if [[ $line == '$ '* ]]; then
+      [ -z "$command" ] || run "$1" "$command" "$wanted"
+      command=${line#'$ '} wanted=''
+    elif [ -n "$command" ]; then
+      wanted+=${wanted:+$'\n'}$line
+    fi
+  done
+  [ -z "$command" ] || run "$1" "$command" "$wanted"
+}
+
+# code without what stands before it on its lines, and without empty lines
+bare() { sed 's/^ *//; /^$/d'; }
+
+# document NAME: goes through a document, block by block
+document() {
+  local line kind='' text='' inside='' save='' file=''
+  while IFS= read -r line; do
+    if [[ $line == '```'* && -z $inside ]]; then
+      inside=yes kind=${line#'```'} text=''
+    elif [[ $line == '```' ]]; then
+      inside=''
+      if [ -n "$save" ]; then printf '%s' "$text" > "$room/$save"; save=''
+      elif [ "$kind" = rust ]; then
+        text=$(bare <<< "$text")
+        tell "$1: the lines of $file" "$text" "$(bare < "$top/$file" | grep -xF "$text")"
+      else block "$1" < <(printf '%s' "$text"); fi
+    elif [ -n "$inside" ]; then
+      text+=$line$'\n'
+    else
+      [[ $line =~ 'Save this as `'([a-z_.]+)'`' ]] && save=${BASH_REMATCH[1]}
+      [[ $line =~ .*']('([a-z_/]+\.rt)')' ]] && file=${BASH_REMATCH[1]}
+    fi
+  done < "$top/$1"
+}
+
+for name in "${documents[@]}"; do document "$name"; done
+for target in $(grep -ohE '(^|`|\$ )make [a-z]+' README.md docs/*.md examples/README.md | sed 's/.*make //' | sort -u); do
+  tell "make $target" "$target" "$(has_target "$target")"
+done
+
+echo "$passed passed, $failed failed"
+[ "$failed" = 0 ]
