@@ -30,8 +30,10 @@ pciguest:
 	@$(MAKE) --no-print-directory build
 
 # The gate: every proof from nothing, the must-fail edits, the tests and the programs; then the proved
-# program as its user runs it, and the commands that the documents print.
+# program as its user runs it, and the commands that the documents print. What the documents say of files
+# comes first, as it takes a moment.
 test:
+	tests/documents.sh
 	rt ci
 	tests/program.sh
 	tests/commands.sh

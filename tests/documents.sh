@@ -1,0 +1,75 @@
+#!/usr/bin/env bash
+# Checks what the documents say of files: the index of definitions is complete, each link leads somewhere, and each file
+# that is named is there. It needs no program. The last line is 'N passed, M failed'.
+set -u
+cd "$(dirname "$0")/.."
+passed=0
+failed=0
+documents=(README.md docs/*.md examples/README.md)
+index=docs/DEFINITIONS.md
+
+# holds NAME CHECK..: the check writes nothing
+holds() {
+  local name=$1 found; shift
+  found=$("$@")
+  if [ -z "$found" ]; then
+    passed=$((passed + 1))
+  else
+    failed=$((failed + 1))
+    echo "FAILED: $name"
+    sed 's/^/  /' <<< "$found"
+  fi
+}
+
+# ---- definitions: the index has one row for each file of specs/
+specs() { find crates -path '*/specs/*.antt' -not -path '*/out/*' -not -name Lib.antt | sort; }
+# file, subject and chapters of each row
+rows() { sed -n 's/^| \[`[^`]*`\](\.\.\/\([^)]*\)) | \(.*\) | \(.*\) |$/\1\t\2\t\3/p' "$index"; }
+listed() { rows | cut -f1 | sort; }
+missing() { comm -23 <(specs) <(listed | uniq); }
+gone() { comm -13 <(specs) <(listed | uniq); }
+doubled() { listed | uniq -d; }
+long_subjects() { rows | awk -F'\t' 'split($2, words, " ") > 10 { print $1 ": " $2 }'; }
+# The heading of a file names each chapter that its row gives.
+unnamed_chapters() {
+  rows | while IFS=$'\t' read -r file _ chapters; do
+    heading=$(awk '!/^--/ || /^--     / { exit } { print }' "$file" 2> /dev/null)
+    for chapter in $(grep -oE '[0-9]+(\.[0-9]+)*' <<< "$chapters"); do
+      grep -qE "(^|[^0-9.])${chapter//./\\.}(\$|[^0-9.]|\\.( |\$))" <<< "$heading" || echo "$file: $chapter"
+    done
+  done
+}
+holds 'definitions that the index lacks' missing
+holds 'definitions in the index that are gone' gone
+holds 'definitions that stand twice in the index' doubled
+holds 'subjects of more than ten words in the index' long_subjects
+holds 'chapters in the index that the file does not name' unnamed_chapters
+
+# ---- links, and the headings that they name
+anchors() { grep '^#' "$1" | sed 's/^#* //' | tr '[:upper:]' '[:lower:]' | sed 's/[^a-z0-9 _-]//g; s/ /-/g'; }
+links() { grep -o '](\([^)]*\))' "$1" | sed 's/^](\(.*\))$/\1/' | grep -v '^[a-z]*://'; }
+broken_links() {
+  for document in "${documents[@]}"; do
+    links "$document" | while read -r link; do
+      target=$document
+      [ "${link%%#*}" = '' ] || target=$(dirname "$document")/${link%%#*}
+      [ -e "$target" ] || { echo "$document: $link"; continue; }
+      [[ $link != *'#'* ]] || anchors "$target" | grep -qx -- "${link#*#}" || echo "$document: $link"
+    done
+  done
+}
+holds 'links that lead nowhere' broken_links
+
+# ---- files that are named in the text, from the top; a star may stand in them
+lost_files() {
+  for document in "${documents[@]}"; do
+    grep -oE '`(crates|docs|tests|tools|examples|bench)/[A-Za-z0-9_./*-]*`' "$document" | tr -d '`' | sort -u |
+      while read -r name; do
+        [[ $name == */out* ]] || compgen -G "$name" > /dev/null || echo "$document: $name"
+      done
+  done
+}
+holds 'files that are not there' lost_files
+
+echo "$passed passed, $failed failed"
+[ "$failed" = 0 ]
