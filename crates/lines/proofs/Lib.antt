@@ -6,3 +6,4 @@ mod LineEnds
 pub mod NameLemmas
 mod Refusals
 pub mod Splitting
+pub mod Tables

@@ -2,26 +2,39 @@
 ghost use Rattle.std.specs.Prelude.{◌≡◌, ◌≤◌, ◌*◌, ◌+◌, ◌^◌, option_map};
 ghost use Rattle.model_guests.specs.Numbers.{below, digit_of, digits_in, number_of};
 
-/// The value of a digit; those above 9 may be of either case.
-fn digit_of(byte: u8) -> Option<u8>
-    ensures { result ≡ digit_of byte }
-{
-    match byte {
-        b'0'..=b'9' => Some(byte - b'0'),
-        b'a'..=b'f' => Some(byte - b'a' + 10),
-        b'A'..=b'F' => Some(byte - b'A' + 10),
-        _ => None,
-    }
-}
+/// The value of each byte as a digit, where those above 9 may be of either case, and 255 at a byte
+/// that is none. A search of the ranges took a quarter longer a line.
+#[rattlefmt::skip]
+static DIGITS: [u8; 256] = [
+    255, 255, 255, 255, 255, 255, 255, 255, 255, 255, 255, 255, 255, 255, 255, 255,
+    255, 255, 255, 255, 255, 255, 255, 255, 255, 255, 255, 255, 255, 255, 255, 255,
+    255, 255, 255, 255, 255, 255, 255, 255, 255, 255, 255, 255, 255, 255, 255, 255,
+      0,   1,   2,   3,   4,   5,   6,   7,   8,   9, 255, 255, 255, 255, 255, 255,
+    255,  10,  11,  12,  13,  14,  15, 255, 255, 255, 255, 255, 255, 255, 255, 255,
+    255, 255, 255, 255, 255, 255, 255, 255, 255, 255, 255, 255, 255, 255, 255, 255,
+    255,  10,  11,  12,  13,  14,  15, 255, 255, 255, 255, 255, 255, 255, 255, 255,
+    255, 255, 255, 255, 255, 255, 255, 255, 255, 255, 255, 255, 255, 255, 255, 255,
+    255, 255, 255, 255, 255, 255, 255, 255, 255, 255, 255, 255, 255, 255, 255, 255,
+    255, 255, 255, 255, 255, 255, 255, 255, 255, 255, 255, 255, 255, 255, 255, 255,
+    255, 255, 255, 255, 255, 255, 255, 255, 255, 255, 255, 255, 255, 255, 255, 255,
+    255, 255, 255, 255, 255, 255, 255, 255, 255, 255, 255, 255, 255, 255, 255, 255,
+    255, 255, 255, 255, 255, 255, 255, 255, 255, 255, 255, 255, 255, 255, 255, 255,
+    255, 255, 255, 255, 255, 255, 255, 255, 255, 255, 255, 255, 255, 255, 255, 255,
+    255, 255, 255, 255, 255, 255, 255, 255, 255, 255, 255, 255, 255, 255, 255, 255,
+    255, 255, 255, 255, 255, 255, 255, 255, 255, 255, 255, 255, 255, 255, 255, 255,
+];
 
 /// The value of a digit in a base.
+#[inline]
 pub(crate) fn digit_in(base: u8, byte: u8) -> Option<u8>
     ensures { result ≡ below base (digit_of byte) }
 {
-    digit_of(byte).filter(|digit| *digit < base)
+    let digit = DIGITS[byte as usize];
+    if digit < base { Some(digit) } else { None }
 }
 
 /// A number with one digit more, if it stays below 2^64.
+#[inline]
 fn with_digit(base: u8, number: u64, byte: u8) -> Option<u64>
     ensures { result ≡ below (2 ^ 64) (option_map (λ d. number * base + d) (below base (digit_of byte))) }
 {
@@ -31,7 +44,8 @@ fn with_digit(base: u8, number: u64, byte: u8) -> Option<u64>
         .checked_add(u64::from(digit))
 }
 
-/// The number below 2^64 that one digit or more write.
+/// The number below 2^64 that one digit or more write. It is compiled for each base apart.
+#[inline(always)]
 fn digits_in(base: u8, digits: &[u8]) -> Option<u64>
     requires { 1 ≤ base }
     ensures { result ≡ below (2 ^ 64) (digits_in base digits.now) }

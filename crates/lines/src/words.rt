@@ -1,12 +1,12 @@
 //! Lines of a script, and words of a line.
 ghost use Rattle.std.specs.Prelude.{◌≡◌, ◌<◌, ◌∷◌, [], ◌==◌, length, map, take, position, MatchOption, IfSome};
-ghost use Rattle.model_guests.specs.Text.{lines, words, is_blank};
+ghost use Rattle.model_guests.specs.Text.{lines, words, pieces, is_blank};
 
 use arrayvec::ArrayVec;
 use memchr::memchr;
 
 /// The place of the first line feed. A search by vectors: a script is mostly lines of some twenty bytes.
-fn line_feed_in(script: &[u8]) -> Option<usize>
+pub fn line_feed_in(script: &[u8]) -> Option<usize>
     ensures { result ≡ position (λ b. b == 10) script.now }
 {
     memchr(b'\n', script)
@@ -26,23 +26,74 @@ pub fn next_line(script: &[u8]) -> Option<(&[u8], &[u8])>
     }
 }
 
-/// Whether a byte parts words: a space, a tab or a carriage return.
+/// 1 at each byte that parts words: a space, a tab or a carriage return. A look at the table is faster
+/// than three comparisons.
+#[rattlefmt::skip]
+static BLANKS: [u8; 256] = [
+    0, 0, 0, 0, 0, 0, 0, 0, 0, 1, 0, 0, 0, 1, 0, 0,
+    0, 0, 0, 0, 0, 0, 0, 0, 0, 0, 0, 0, 0, 0, 0, 0,
+    1, 0, 0, 0, 0, 0, 0, 0, 0, 0, 0, 0, 0, 0, 0, 0,
+    0, 0, 0, 0, 0, 0, 0, 0, 0, 0, 0, 0, 0, 0, 0, 0,
+    0, 0, 0, 0, 0, 0, 0, 0, 0, 0, 0, 0, 0, 0, 0, 0,
+    0, 0, 0, 0, 0, 0, 0, 0, 0, 0, 0, 0, 0, 0, 0, 0,
+    0, 0, 0, 0, 0, 0, 0, 0, 0, 0, 0, 0, 0, 0, 0, 0,
+    0, 0, 0, 0, 0, 0, 0, 0, 0, 0, 0, 0, 0, 0, 0, 0,
+    0, 0, 0, 0, 0, 0, 0, 0, 0, 0, 0, 0, 0, 0, 0, 0,
+    0, 0, 0, 0, 0, 0, 0, 0, 0, 0, 0, 0, 0, 0, 0, 0,
+    0, 0, 0, 0, 0, 0, 0, 0, 0, 0, 0, 0, 0, 0, 0, 0,
+    0, 0, 0, 0, 0, 0, 0, 0, 0, 0, 0, 0, 0, 0, 0, 0,
+    0, 0, 0, 0, 0, 0, 0, 0, 0, 0, 0, 0, 0, 0, 0, 0,
+    0, 0, 0, 0, 0, 0, 0, 0, 0, 0, 0, 0, 0, 0, 0, 0,
+    0, 0, 0, 0, 0, 0, 0, 0, 0, 0, 0, 0, 0, 0, 0, 0,
+    0, 0, 0, 0, 0, 0, 0, 0, 0, 0, 0, 0, 0, 0, 0, 0,
+];
+
+/// Whether a byte parts words.
+#[inline]
 fn is_blank(byte: u8) -> bool
     ensures { result ≡ is_blank byte }
 {
-    matches!(byte, b' ' | b'\t' | b'\r')
+    BLANKS[byte as usize] == 1
 }
 
-/// The first seven words of a line.
+/// The place of the first blank.
+#[inline]
+fn blank_in(text: &[u8]) -> Option<usize>
+    ensures { result ≡ position is_blank text.now }
+{
+    text.iter().position(|byte| is_blank(*byte))
+}
+
+/// The bytes before the first blank, and those after it. Between two blanks there is no byte.
+#[inline]
+fn next_piece(text: &[u8]) -> Option<(&[u8], &[u8])>
+    ensures piece { MatchOption result (pieces is_blank text.now ≡ [])
+        (λ p. pieces is_blank text.now ≡ p.0.now ∷ pieces is_blank p.1.now) }
+    ensures shorter { IfSome result (λ p. length p.1.now < length text.now) }
+{
+    if text.is_empty() {
+        return None;
+    }
+    match blank_in(text) {
+        Some(end) => Some((&text[..end], &text[end + 1..])),
+        None => Some((text, &[])),
+    }
+}
+
+/// The first seven words of a line. A loop of its own is faster than a chain of iterators.
 pub(crate) fn first_words(line: &[u8]) -> ArrayVec<&[u8], 7>
     ensures { map (λ w. w.now) result.items ≡ take 7 (words line.now) }
 {
     let mut first = ArrayVec::new();
-    let words = line
-        .split(|byte| is_blank(*byte))
-        .filter(|word| !word.is_empty());
-    for word in words.take(7) {
-        first.push(word);
+    let mut rest = line;
+    while let Some((piece, after)) = next_piece(rest) {
+        if !piece.is_empty() {
+            if first.is_full() {
+                return first;
+            }
+            first.push(piece);
+        }
+        rest = after;
     }
     first
 }

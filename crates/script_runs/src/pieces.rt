@@ -1,5 +1,5 @@
 //! Runs over pieces of a script.
-ghost use Rattle.std.specs.Prelude.{◌≡◌, ℕ, ◌≤◌, ◌<◌, ◌+◌, ◌-◌, ◌^◌, ◌++◌, ◌∷◌, ◌==◌, [], position, length};
+ghost use Rattle.std.specs.Prelude.{◌≡◌, ℕ, ◌≤◌, ◌<◌, ◌+◌, ◌-◌, ◌^◌, ◌++◌, ◌∷◌, [], length};
 ghost use Rattle.std.specs.Prelude.{OnOk, OnErr, IfOk, MatchOption, IsTrue, IsFalse};
 ghost use Rattle.std.specs.Io.KnownBytes.{Appends, Keeps};
 ghost use Rattle.streams.specs.Ends.{failures_of};
@@ -10,15 +10,9 @@ ghost use Rattle.script_runs.specs.Pieces.{IsBefore, rest_of, Reaches, StopsWith
 
 use crate::answers::answer;
 use crate::held::Held;
+use lines::line_feed_in;
 use monitor::Monitor;
 use streams::{Failed, Writer, write_all};
-
-/// The place of the first line feed.
-fn line_feed_in(text: &[u8]) -> Option<usize>
-    ensures { result ≡ position (λ b. b == 10) text.now }
-{
-    text.iter().position(|byte| *byte == b'\n')
-}
 
 /// The first line that a line feed ends, without it, and what comes after it.
 fn whole_line(text: &[u8]) -> Option<(&[u8], &[u8])>
@@ -64,8 +58,9 @@ fn run_lines<W: Writer>(
     let mut wrote = false;
     while let Some((line, after)) = whole_line(rest) {
         let reply = answer(monitor, line, long);
-        write_all(writer, reply.as_slice())?;
-        wrote = wrote || !reply.is_empty();
+        let written = reply.as_slice();
+        write_all(writer, written)?;
+        wrote = wrote || !written.is_empty();
         long = false;
         rest = after;
     }
