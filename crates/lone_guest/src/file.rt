@@ -1,0 +1,51 @@
+//! Register files: bytes in a row. Past the last one nothing stands.
+use crate::register::Register;
+
+/// Declares the bytes of a number of this width from an offset on.
+pub(crate) fn declare(
+    file: &mut [Register],
+    off: usize,
+    width: usize,
+    value: u64,
+    writable: u64,
+    clearable: u64,
+) {
+    let values = value.to_le_bytes();
+    let writable = writable.to_le_bytes();
+    let clearable = clearable.to_le_bytes();
+    for (i, register) in file.iter_mut().skip(off).take(width).enumerate() {
+        let byte = |bytes: &[u8]| bytes.get(i).copied().unwrap_or(0);
+        *register = Register::new(byte(&values), byte(&writable), byte(&clearable));
+    }
+}
+
+/// The little-endian number of this width at an offset.
+pub(crate) fn read(file: &[Register], off: u64, width: u64) -> u32 {
+    let mut bytes = [0u8; 4];
+    let registers = file.iter().skip(off as usize).take(width as usize);
+    for (byte, register) in bytes.iter_mut().zip(registers) {
+        *byte = register.value();
+    }
+    u32::from_le_bytes(bytes)
+}
+
+/// Writes the little-endian number of this width at an offset.
+pub(crate) fn write(file: &mut [Register], off: u64, width: u64, value: u32) {
+    let registers = file.iter_mut().skip(off as usize).take(width as usize);
+    for (register, byte) in registers.zip(value.to_le_bytes()) {
+        register.write(byte);
+    }
+}
+
+/// Sets bits of the byte at an offset as its device does.
+pub(crate) fn raise(file: &mut [Register], off: u64, mask: u8) {
+    if let Some(register) = file.get_mut(off as usize) {
+        register.raise(mask);
+    }
+}
+
+pub(crate) fn reset(file: &mut [Register]) {
+    for register in file.iter_mut() {
+        register.reset();
+    }
+}

@@ -1,0 +1,193 @@
+//! One function of a guest, as a lone register file.
+use crate::declared::{LoneBlock, LoneEndpoint, LoneRegion};
+use crate::file::{self, declare};
+use crate::register::Register;
+use accesses::Place;
+use bars::{Kind, Space};
+use std::alloc::{AllocError, Global};
+
+/// A function with the guest and the slot that it stands in: 256 bytes of configuration space, and the
+/// bytes at the beginning of each region.
+#[derive(Drop)]
+pub(crate) struct Function {
+    pub(crate) guest: usize,
+    pub(crate) slot: u64,
+    config: Vec<Register>,
+    regions: Vec<LoneRegion>,
+}
+
+/// The registers of the header of an endpoint, without base address registers (PCI Local Bus 3.0,
+/// chapter 6.1). Of the header type a guest sees 00h alone.
+fn declare_header(file: &mut [Register], decl: &LoneEndpoint) {
+    declare(file, 0x00, 2, u64::from(decl.vendor), 0, 0);
+    declare(file, 0x02, 2, u64::from(decl.device), 0, 0);
+    declare(file, 0x04, 2, 0, 0x0547, 0);
+    declare(file, 0x06, 2, u64::from(decl.status), 0, 0xf900);
+    declare(file, 0x08, 1, u64::from(decl.revision), 0, 0);
+    declare(file, 0x09, 3, u64::from(decl.class), 0, 0);
+    declare(file, 0x0c, 2, 0, 0xffff, 0);
+    declare(file, 0x2c, 2, u64::from(decl.subvendor), 0, 0);
+    declare(file, 0x2e, 2, u64::from(decl.subsystem), 0, 0);
+    declare(file, 0x3c, 1, 0, 0xff, 0);
+    declare(file, 0x3d, 1, u64::from(decl.pin), 0, 0);
+    declare(file, 0x3e, 1, u64::from(decl.min_gnt), 0, 0);
+    declare(file, 0x3f, 1, u64::from(decl.max_lat), 0, 0);
+}
+
+/// Where a region's first base address register stands.
+fn base_offset(region: &LoneRegion) -> u8 {
+    0x10u8.wrapping_add(region.index.wrapping_mul(4))
+}
+
+/// A base address register (chapter 6.2.5.1): the bits at or above the region's size are writable, and
+/// the low ones tell its kind.
+fn declare_base(file: &mut [Register], region: &LoneRegion) {
+    let (width, kind_bits) = match region.kind {
+        Kind::Io => (4, 1),
+        Kind::Mem32 { pref } => (4, if pref { 8 } else { 0 }),
+        Kind::Mem64 { pref } => (8, if pref { 12 } else { 4 }),
+    };
+    let size_bits = region.size.wrapping_sub(1);
+    declare(
+        file,
+        usize::from(base_offset(region)),
+        width,
+        kind_bits,
+        !size_bits,
+        0,
+    );
+}
+
+/// Registers of the device's own.
+fn declare_block(file: &mut [Register], block: &LoneBlock) {
+    let registers = file.iter_mut().skip(usize::from(block.off));
+    for (register, declared) in registers.zip(block.block.iter()) {
+        *register = *declared;
+    }
+}
+
+impl Function {
+    /// The declared function at reset, in a slot of a guest.
+    pub(crate) fn new(
+        alloc: Global,
+        guest: usize,
+        slot: u64,
+        decl: LoneEndpoint,
+    ) -> Result<Function, AllocError> {
+        let mut config = vec![in alloc; Register::new(0, 0, 0); 256]?;
+        declare_header(&mut config, &decl);
+        for region in &decl.bar {
+            declare_base(&mut config, region);
+        }
+        for block in &decl.config {
+            declare_block(&mut config, block);
+        }
+        let mut regions = decl.bar;
+        regions.sort_unstable_by_key(|region| region.index);
+        Ok(Function {
+            guest,
+            slot,
+            config,
+            regions,
+        })
+    }
+
+    /// The address at which a region begins now.
+    fn base(&self, region: &LoneRegion) -> u64 {
+        let off = u64::from(base_offset(region));
+        let low = u64::from(file::read(&self.config, off, 4));
+        match region.kind {
+            Kind::Io => low & !3,
+            Kind::Mem32 { pref: _ } => low & !15,
+            Kind::Mem64 { pref: _ } => {
+                let high = u64::from(file::read(&self.config, off + 4, 4));
+                high << 32 | low & !15
+            }
+        }
+    }
+
+    /// Whether the Command register opens a space (chapter 6.2.2).
+    fn opens(&self, space: Space) -> bool {
+        let bit = match space {
+            Space::Io => 1,
+            Space::Mem => 2,
+        };
+        file::read(&self.config, 4, 1) & bit != 0
+    }
+
+    /// The offset in a region that an address stands for, if the region decodes it now.
+    fn offset_in(&self, region: &LoneRegion, space: Space, addr: u64) -> Option<u64> {
+        let is_io = matches!(region.kind, Kind::Io);
+        let base = self.base(region);
+        if is_io != matches!(space, Space::Io) || !self.opens(space) || addr < base {
+            return None;
+        }
+        let off = addr - base;
+        if off < region.size { Some(off) } else { None }
+    }
+
+    /// The least base address register whose region decodes an address now, and the offset in it.
+    pub(crate) fn decode(&self, space: Space, addr: u64) -> Option<(Place, u64)> {
+        for region in &self.regions {
+            if let Some(off) = self.offset_in(region, space, addr) {
+                return Some((Place::Bar(region.index), off));
+            }
+        }
+        None
+    }
+
+    /// Whether a raise may go to an offset of a place.
+    pub(crate) fn has(&self, place: Place, off: u64) -> bool {
+        match place {
+            Place::Cfg => off < 256,
+            Place::Bar(index) => {
+                self.regions
+                    .iter()
+                    .any(|region| region.index == index && off < region.size)
+            }
+        }
+    }
+
+    /// The register file of a place.
+    fn file_of(&mut self, place: Place) -> Option<&mut Vec<Register>> {
+        match place {
+            Place::Cfg => Some(&mut self.config),
+            Place::Bar(index) => {
+                let region = self
+                    .regions
+                    .iter_mut()
+                    .find(|region| region.index == index)?;
+                Some(&mut region.block)
+            }
+        }
+    }
+
+    pub(crate) fn read(&mut self, place: Place, off: u64, width: u64) -> u32 {
+        match self.file_of(place) {
+            Some(file) => file::read(file, off, width),
+            None => 0,
+        }
+    }
+
+    pub(crate) fn write(&mut self, place: Place, off: u64, width: u64, value: u32) {
+        if let Some(file) = self.file_of(place) {
+            file::write(file, off, width, value);
+        }
+    }
+
+    pub(crate) fn raise(&mut self, place: Place, off: u64, mask: u8) {
+        if let Some(file) = self.file_of(place) {
+            file::raise(file, off, mask);
+        }
+    }
+
+    /// Puts the function into a slot of a guest, where it is at reset.
+    pub(crate) fn move_to(&mut self, guest: usize, slot: u64) {
+        self.guest = guest;
+        self.slot = slot;
+        file::reset(&mut self.config);
+        for region in self.regions.iter_mut() {
+            file::reset(&mut region.block);
+        }
+    }
+}

@@ -1,0 +1,226 @@
+//! Guests with their functions and address latches.
+ghost use Rattle.std.specs.Prelude.{◌≤◌, ◌≡◌, true, MatchOption, IfSome};
+ghost use Rattle.accesses.specs.Replies.{IsShown, has_words};
+ghost use Rattle.lines.specs.Lines.{IsRefusable};
+
+use crate::declared::LoneEndpoint;
+use crate::function::Function;
+use accesses::{Access, At, Names, Op, Place, Reply};
+use bars::Space;
+use lines::{LineText, What, Who, line_text, parse_line};
+use std::alloc::{AllocError, Global};
+
+/// Where an access lands: in a function, by its place in the list of all of them, or nowhere.
+type Landing = Option<(usize, Place, u64)>;
+
+/// All functions of all guests in one list, and what each guest's CONFIG_ADDRESS holds.
+#[derive(Drop)]
+pub struct LoneGuests {
+    functions: Vec<Function>,
+    latches: Vec<u32>,
+}
+
+/// The first check that an access fails.
+fn refusal(at: At, width: u64) -> Option<u16>
+    ensures { MatchOption result (width ≤ 4) (λ number. has_words number ≡ true) }
+{
+    let (number, out_of_range) = match at {
+        At::Config { slot, off } => (off, slot > 31 || off > 255),
+        At::Io { port } => (port, port > 0xffff_ffff),
+        At::Mem { addr } => (addr, false),
+    };
+    if width != 1 && width != 2 && width != 4 {
+        Some(302)
+    } else if number % width != 0 {
+        Some(301)
+    } else if out_of_range {
+        Some(303)
+    } else {
+        None
+    }
+}
+
+impl LoneGuests {
+    /// Guest g's slot n holds the nth endpoint that is given for it, at reset. All latches are clear. It
+    /// fails only for memory.
+    pub fn new(alloc: Global, guests: Vec<Vec<LoneEndpoint>>) -> Result<LoneGuests, AllocError> {
+        let mut functions = Vec::new(alloc);
+        let mut latches = Vec::new(alloc);
+        for (guest, endpoints) in guests.into_iter().enumerate() {
+            latches.push(0u32)?;
+            for (slot, endpoint) in endpoints.into_iter().enumerate() {
+                functions.push(Function::new(alloc, guest, slot as u64, endpoint)?)?;
+            }
+        }
+        Ok(LoneGuests { functions, latches })
+    }
+
+    fn function_in(&self, guest: usize, slot: u64) -> Option<usize> {
+        self.functions.iter().position(|function| function.guest == guest && function.slot == slot)
+    }
+
+    fn latch(&self, guest: usize) -> u32 {
+        self.latches.get(guest).copied().unwrap_or(0)
+    }
+
+    /// The first region of a guest, by slot and then by base address register, that decodes an address.
+    fn claimant(&self, guest: usize, space: Space, addr: u64) -> Landing {
+        for slot in 0..32 {
+            if let Some(index) = self.function_in(guest, slot) {
+                let function = self.functions.get(index)?;
+                if let Some((place, off)) = function.decode(space, addr) {
+                    return Some((index, place, off));
+                }
+            }
+        }
+        None
+    }
+
+    /// Where an access at a port lands. CFCh to CFFh are CONFIG_DATA while the latch is enabled: the
+    /// guest's slots are the devices of bus 0 with function 0.
+    fn port(&self, guest: usize, port: u64) -> Landing {
+        let latch = self.latch(guest);
+        let is_enabled = latch & 0x8000_0000 != 0;
+        if !is_enabled || port < 0xcfc || port > 0xcff {
+            return self.claimant(guest, Space::Io, port);
+        }
+        if latch & 0x00ff_0700 != 0 {
+            return None;
+        }
+        let index = self.function_in(guest, u64::from(latch >> 11 & 31))?;
+        Some((index, Place::Cfg, u64::from(latch & 0xfc) + (port - 0xcfc)))
+    }
+
+    fn landing(&self, guest: usize, at: At) -> Landing {
+        match at {
+            At::Config { slot, off } => Some((self.function_in(guest, slot)?, Place::Cfg, off)),
+            At::Io { port } => self.port(guest, port),
+            At::Mem { addr } => self.claimant(guest, Space::Mem, addr),
+        }
+    }
+
+    fn read(&mut self, landing: Landing, width: u64) -> u32 {
+        if let Some((index, place, off)) = landing {
+            if let Some(function) = self.functions.get_mut(index) {
+                return function.read(place, off, width);
+            }
+        }
+        match width {
+            1 => 0xff,
+            2 => 0xffff,
+            _ => 0xffff_ffff,
+        }
+    }
+
+    fn write(&mut self, landing: Landing, width: u64, value: u32) {
+        if let Some((index, place, off)) = landing {
+            if let Some(function) = self.functions.get_mut(index) {
+                function.write(place, off, width, value);
+            }
+        }
+    }
+
+    /// An access of the latch itself, which takes four bytes at CF8h.
+    fn access_latch(&mut self, guest: usize, op: Op) -> Reply
+        ensures { IsShown result }
+    {
+        match op {
+            Op::Read => Reply::Value(self.latch(guest), 4),
+            Op::Write(value) => {
+                if let Some(latch) = self.latches.get_mut(guest) {
+                    *latch = value & 0x80ff_fffc;
+                }
+                Reply::Done
+            }
+        }
+    }
+
+    fn access(&mut self, guest: usize, access: Access) -> Reply
+        ensures { IsShown result }
+    {
+        let Access { at, width, op } = access;
+        if let Some(number) = refusal(at, width) {
+            return Reply::Refused(number);
+        }
+        if width == 4 && at == (At::Io { port: 0xcf8 }) {
+            return self.access_latch(guest, op);
+        }
+        let landing = self.landing(guest, at);
+        match op {
+            Op::Read => Reply::Value(self.read(landing, width), width),
+            Op::Write(value) => {
+                self.write(landing, width, value);
+                Reply::Done
+            }
+        }
+    }
+
+    fn raise(&mut self, guest: usize, slot: u64, place: Place, off: u64, mask: u8) -> Reply
+        ensures { IsShown result }
+    {
+        if slot > 31 {
+            return Reply::Refused(303);
+        }
+        let Some(index) = self.function_in(guest, slot) else {
+            return Reply::Refused(601);
+        };
+        let Some(function) = self.functions.get_mut(index) else {
+            return Reply::Refused(601);
+        };
+        if !function.has(place, off) {
+            return Reply::Refused(303);
+        }
+        function.raise(place, off, mask);
+        Reply::Done
+    }
+
+    fn move_function(&mut self, from: usize, slot: u64, to: usize, target: u64) -> Reply
+        ensures { IsShown result }
+    {
+        if slot > 31 || target > 31 {
+            return Reply::Refused(303);
+        }
+        let Some(index) = self.function_in(from, slot) else {
+            return Reply::Refused(601);
+        };
+        if self.function_in(to, target).is_some() {
+            return Reply::Refused(602);
+        }
+        if let Some(function) = self.functions.get_mut(index) {
+            function.move_to(to, target);
+        }
+        Reply::Done
+    }
+
+    /// The reply to what a line asks. `None` is for a line that asks nothing, and for a read by the
+    /// host, which has no answer here.
+    pub fn reply(&mut self, what: What) -> Option<Reply>
+        requires { IsRefusable what }
+        ensures { IfSome result IsShown }
+    {
+        match what {
+            What::Nothing | What::Host(_) => None,
+            What::Guest(guest, access) => Some(self.access(guest, access)),
+            What::Raise(guest, slot, place, off, mask) => {
+                Some(self.raise(guest, slot, place, off, mask))
+            }
+            What::Move(from, slot, to, target) => {
+                Some(self.move_function(from, slot, to, target))
+            }
+            What::Bad(_, number) => Some(Reply::Refused(number)),
+        }
+    }
+
+    /// The output line of a script's line, which is given without its line feed, under guests of these
+    /// names. `None` is for a line without output, and for a read by the host.
+    pub fn line(&mut self, line: &[u8], names: &Names) -> Option<LineText> {
+        let what = parse_line(line, names).what;
+        let who = match what {
+            What::Guest(guest, _) | What::Raise(guest, _, _, _, _) => Who::Guest(guest),
+            What::Bad(who, _) => who,
+            What::Nothing | What::Host(_) | What::Move(_, _, _, _) => Who::Host,
+        };
+        let reply = self.reply(what)?;
+        Some(line_text(who, names, reply))
+    }
+}

@@ -1,0 +1,40 @@
+//! One byte of a register file.
+
+/// A byte: its value at reset and now, the bits that a write sets, and the bits that writing a one
+/// clears and that the device sets.
+#[derive(Clone, Copy, Debug)]
+pub struct Register {
+    at_reset: u8,
+    value: u8,
+    writable: u8,
+    clearable: u8,
+}
+
+impl Register {
+    /// A byte at reset. A bit in both masks is cleared by a one.
+    pub fn new(value: u8, writable: u8, clearable: u8) -> Register {
+        Register {
+            at_reset: value,
+            value,
+            writable,
+            clearable,
+        }
+    }
+
+    pub(crate) fn value(&self) -> u8 {
+        self.value
+    }
+
+    pub(crate) fn write(&mut self, byte: u8) {
+        let set = self.value & !self.writable | byte & self.writable;
+        self.value = set & !(byte & self.clearable);
+    }
+
+    pub(crate) fn raise(&mut self, mask: u8) {
+        self.value |= mask & self.clearable;
+    }
+
+    pub(crate) fn reset(&mut self) {
+        self.value = self.at_reset;
+    }
+}
