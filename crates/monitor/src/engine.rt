@@ -1,14 +1,15 @@
 //! A host with its guests, over any way to find who claims an address.
-ghost use Rattle.std.specs.Prelude.{◌≡◌, ◌<◌, ◌%◌, length};
+ghost use Rattle.std.specs.Prelude.{◌≡◌, ◌<◌, ◌%◌, length, IfOk};
 ghost use Rattle.model_registers.specs.Registers.{all_bytes};
 ghost use Rattle.model_registers.specs.ByteEnables.{IsWidth};
 ghost use Rattle.model_board.specs.Ports.{config_reply};
+ghost use Rattle.model_guests.specs.World.{HasLawfulGuests};
 ghost use Rattle.model_guests.specs.Accesses.{configuration, port, reads, writes};
 ghost use Rattle.model_guests.specs.Accesses as guests;
 ghost use Rattle.model_guests.specs.Lone.{answer, after_event, own_latch, at_target, destination, reply_at, after_access_at};
 ghost use Rattle.model_guests.specs.Guests.{lone_of};
 ghost use Rattle.model_guests.specs.Lines.{guest_event, host_move};
-ghost use Rattle.model_guests.specs.WorldNow.{names_now, host_reply, move_reply, after_meaning};
+ghost use Rattle.model_guests.specs.WorldNow.{world_at_first, names_now, host_reply, move_reply, after_meaning};
 ghost use Rattle.bars.specs.Kinds.{named_space};
 ghost use Rattle.host_bridge.specs.BusAddresses.{bus_address_of};
 ghost use Rattle.accesses.specs.Accesses.{access_of, host_access_of, op_of, part_of, reply_of};
@@ -17,7 +18,9 @@ ghost use Rattle.monitor.specs.Views.{texts};
 ghost use Rattle.monitor.specs.ByIndex.{name_nth, lone_nth, with_lone_nth};
 ghost use Rattle.monitor.specs.Reaches.{target_in};
 ghost use Rattle.monitor.specs.Moves.{move_nth};
+ghost use Rattle.monitor.specs.Beginnings.{world_of};
 
+use crate::beginning::{guests_of, names_of};
 use crate::board::{board_address, read_claimed, write_claimed};
 use crate::config::{held_in, number_read, write_guest};
 use crate::cycles::write_enabled;
@@ -26,16 +29,18 @@ use crate::landing::landing;
 use crate::latch::{is_latch, write_latch};
 use crate::moving::{hand_over, move_fault};
 use crate::raising::{has_place, raise_on_board};
-use accesses::{Access, At, HostAccess, HostAt, Names, Op, Place, Reply, nothing};
+use accesses::{Access, At, GuestDecl, HostAccess, HostAt, Names, Op, Place, Reply, nothing};
 use bars::Space;
 use config_bytes::{enables_of, into_lanes, lowered};
 use guest_functions::Select;
 use host_bridge::{Bdf, Host, Route};
+use std::alloc::{AllocError, Global};
 use std::marker::Model;
+use window_packing::Ready;
 
-/// A host, a route that fits it, and the guests with the names that they have.
+/// The monitor over any route: a host, a route that fits it, and the guests with the names that they have.
 #[derive(Drop)]
-pub(crate) struct Engine<R: Route> {
+pub struct Engine<R: Route> {
     host: Host,
     route: R,
     names: Names,
@@ -63,7 +68,7 @@ impl<R: Route> Engine<R> {
     ghost use Rattle.monitor.specs.Keeping.{IsSound};
 
     /// A host whose board agrees with these guests.
-    pub(crate) fn new(host: Host, route: R, names: Names, guests: Vec<Guest>) -> Engine<R>
+    fn of_parts(host: Host, route: R, names: Names, guests: Vec<Guest>) -> Engine<R>
         requires fits { R.fits route host }
         requires sound { IsSound host (texts names) guests.items }
         ensures { result ≡ world_shown host (texts names) guests.items }
@@ -77,7 +82,7 @@ impl<R: Route> Engine<R> {
     }
 
     /// The guests' names, in the order of the guests.
-    pub(crate) fn names(&self) -> &Names
+    pub fn names(&self) -> &Names
         ensures { texts result.now ≡ names_now self.now }
     {
         &self.names
@@ -229,7 +234,7 @@ impl<R: Route> Engine<R> {
     /// Answers one access of a guest, or refuses it and changes nothing: 302 for a width that is not 1, 2 or
     /// 4 bytes, else 301 for an offset, port or address that is no multiple of it, else 303 for a slot above
     /// 31, an offset above 255 or a port above FFFFFFFFh. No memory is taken.
-    pub(crate) fn step(&mut self, guest: usize, access: Access) -> Reply
+    pub fn step(&mut self, guest: usize, access: Access) -> Reply
         requires { guest < length self.old.guests }
         ensures reply { let e = guests.access (access_of access) in
             reply_of result ≡ answer (lone_of self.old.guests (name_nth self.old guest)) e }
@@ -268,14 +273,7 @@ impl<R: Route> Engine<R> {
     /// 255, a base address register at which no region begins or an offset that is not below the
     /// region's size. Where no cell stands, or one of the guest's own copies, nothing changes. No memory
     /// is taken.
-    pub(crate) fn raise(
-        &mut self,
-        guest: usize,
-        slot: u64,
-        place: Place,
-        off: u64,
-        mask: u8,
-    ) -> Reply
+    pub fn raise(&mut self, guest: usize, slot: u64, place: Place, off: u64, mask: u8) -> Reply
         requires { guest < length self.old.guests }
         ensures reply { let e = guests.raises (record { slot = slot; part = part_of place; offset = off; mask = mask }) in
             reply_of result ≡ answer (lone_of self.old.guests (name_nth self.old guest)) e }
@@ -290,7 +288,7 @@ impl<R: Route> Engine<R> {
     /// Moves the function in a slot to a slot of a guest. Nothing is carried over: the function is then at
     /// reset, and its former slot is empty. Or refuses it and changes nothing: 303 for a slot above 31, else
     /// 601 where the slot that it leaves is empty, else 602 where the slot that it comes to is taken.
-    pub(crate) fn move_function(&mut self, from: usize, slot: u64, to: usize, target: u64) -> Reply
+    pub fn move_function(&mut self, from: usize, slot: u64, to: usize, target: u64) -> Reply
         requires from { from < length self.old.guests }
         requires to { to < length self.old.guests }
         ensures reply { reply_of result ≡ move_reply self.old.guests (move_nth self.old from slot to target) }
@@ -313,7 +311,7 @@ impl<R: Route> Engine<R> {
     }
 
     /// Answers a read by the host: what the board shows.
-    pub(crate) fn host_read(&mut self, read: HostAccess) -> Reply
+    pub fn host_read(&mut self, read: HostAccess) -> Reply
         ensures reply { reply_of result ≡ host_reply self.old (host_access_of read) }
         ensures after { self.new ≡ self.old }
         ensures shown { IsShown result }
@@ -328,6 +326,26 @@ impl<R: Route> Engine<R> {
             HostAt::Mem { addr } => self.host.load(&self.route, addr, width),
         };
         Reply::Value(value, width)
+    }
+}
+
+impl<R: Route + Drop> Engine<R> {
+    /// Gives functions of a board that is set up to guests, over a route that fits the board. Only where
+    /// memory is out it refuses, and then the board is dropped.
+    pub fn new(
+        alloc: Global,
+        ready: Ready,
+        route: R,
+        guests: &[GuestDecl],
+    ) -> Result<Engine<R>, AllocError>
+        requires fits { R.fits route ready.host }
+        requires lawful { HasLawfulGuests (world_of ready guests.now) }
+        ensures { IfOk result (λ e. e ≡ world_at_first (world_of ready guests.now)) }
+    {
+        let names = names_of(guests);
+        let guests = guests_of(alloc, &ready, guests)?;
+        let (host, _table, _plan) = ready.into_parts();
+        Ok(Engine::of_parts(host, route, names, guests))
     }
 }
 

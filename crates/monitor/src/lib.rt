@@ -14,4 +14,5 @@ mod moving;
 mod raising;
 
 pub use accesses::{Access, At, Bdf, GuestDecl, HostAccess, HostAt, Names, Op, Place, Reply};
+pub use engine::Engine;
 pub use monitor::Monitor;

@@ -14,7 +14,6 @@ ghost use Rattle.monitor.specs.ByIndex.{name_nth};
 ghost use Rattle.monitor.specs.Moves.{move_nth};
 ghost use Rattle.monitor.specs.Beginnings.{world_of};
 
-use crate::beginning::{guests_of, names_of};
 use crate::engine::Engine;
 use accesses::{Access, GuestDecl, HostAccess, Names, Place, Reply};
 use bus_scan::Fault;
@@ -47,12 +46,8 @@ impl Monitor {
         ensures refused { IfErr result (λ f. f ≡ Memory) }
     {
         let table = Table::build(alloc, &ready)?;
-        let names = names_of(guests);
-        let guests = guests_of(alloc, &ready, guests)?;
-        let (host, _table, _plan) = ready.into_parts();
-        Ok(Monitor {
-            engine: Engine::new(host, table, names, guests),
-        })
+        let engine = Engine::new(alloc, ready, table, guests)?;
+        Ok(Monitor { engine })
     }
 
     /// The guests' names, in the order of the guests.
