@@ -1,0 +1,3 @@
+pub mod LineNumbers
+pub mod Ways
+pub mod Places

@@ -1,0 +1,127 @@
+use crate::Places;
+use crate::Step::{self, Index, Key};
+
+/// The line of the value at the end of a way, or 0.
+fn line(rt: &HostRuntime, text: &str, way: &[Step<'_>]) -> usize {
+    let alloc = rt.alloc();
+    let bytes = text.as_bytes();
+    let Ok(document) = toml::table_from_slice(alloc, bytes) else {
+        return 0;
+    };
+    let Ok(places) = Places::new(alloc, bytes, &document) else {
+        return 0;
+    };
+    match places.line(alloc, way) {
+        Ok(Some(line)) => line,
+        _ => 0,
+    }
+}
+
+const BOARD: &str = r#"# faults of every writing
+[host]
+io = [0x1000, 0xffff]   # a # in a comment "
+mem = [0xc0000000, 0xdfffffff]
+
+[[endpoint]]
+at = "1.0"
+vendor = 0x1234
+bar = [
+  { index = 0, kind = "io", size = 32 },   # ]
+]
+
+[[endpoint]]
+at = "a # = [ \" 3.0"
+device.sub = 7
+vendor = 0x1ffff
+
+[[endpoint]]
+at = """
+two
+lines"""
+vendor = 1
+bar = [
+  { index = 0, kind = "mem32", size = 4096 },
+
+  { index = 1,
+    kind = "mem32",
+    size = 4097, },
+  { size = 16 },
+]
+"#;
+
+#[test]
+fn tables_by_headers(rt: HostRuntime) {
+    let vendor = |i| line(&rt, BOARD, &[Key("endpoint"), Index(i), Key("vendor")]);
+    assert_eq!(rt; vendor(0), 8);
+    assert_eq!(rt; vendor(1), 16);
+    assert_eq!(rt; vendor(2), 22);
+    assert_eq!(rt; vendor(3), 0);
+}
+
+#[test]
+fn inline_tables_over_lines(rt: HostRuntime) {
+    let bar = |i, j, key| {
+        let way = [Key("endpoint"), Index(i), Key("bar"), Index(j), Key(key)];
+        line(&rt, BOARD, &way)
+    };
+    assert_eq!(rt; bar(0, 0, "size"), 10);
+    assert_eq!(rt; bar(2, 0, "kind"), 24);
+    assert_eq!(rt; bar(2, 1, "index"), 26);
+    assert_eq!(rt; bar(2, 1, "kind"), 27);
+    assert_eq!(rt; bar(2, 1, "size"), 28);
+    assert_eq!(rt; bar(2, 2, "size"), 29);
+    assert_eq!(rt; bar(2, 3, "size"), 0);
+}
+
+#[test]
+fn texts_arrays_and_dotted_keys(rt: HostRuntime) {
+    assert_eq!(rt; line(&rt, BOARD, &[Key("host"), Key("io"), Index(1)]), 3);
+    assert_eq!(rt; line(&rt, BOARD, &[Key("host"), Key("mem"), Index(0)]), 4);
+    assert_eq!(rt; line(&rt, BOARD, &[Key("host"), Key("mem"), Index(2)]), 0);
+    assert_eq!(rt;
+        line(&rt, BOARD, &[Key("endpoint"), Index(1), Key("at")]),
+        14
+    );
+    assert_eq!(rt;
+        line(&rt, BOARD, &[Key("endpoint"), Index(2), Key("at")]),
+        19
+    );
+    let sub = [Key("endpoint"), Index(1), Key("device"), Key("sub")];
+    assert_eq!(rt; line(&rt, BOARD, &sub), 15);
+}
+
+/// Comments, a byte order mark, carriage returns and quotes of every kind.
+const QUOTES: &str = "\u{feff}# \u{e9}\r
+\"a=b\" = { x = [ [1, 2], [ ], [\"\u{e9}\", '#]'] ], y.z = 5, 'q\"q'.r = true }\r
+a.b . c = true\r
+s = \"\"\"\r
+  \"\" \\\"\"\" # no comment\r
+\"\"\"\"\"\r
+k = '''\r
+[[not]]\r
+v = 1\r
+'''\r
+";
+
+#[test]
+fn quotes_of_every_kind(rt: HostRuntime) {
+    let at = |way: &[Step<'_>]| line(&rt, QUOTES, way);
+    assert_eq!(rt; at(&[Key("a=b"), Key("x"), Index(0), Index(1)]), 2);
+    assert_eq!(rt; at(&[Key("a=b"), Key("x"), Index(2), Index(1)]), 2);
+    assert_eq!(rt; at(&[Key("a=b"), Key("q\"q"), Key("r")]), 2);
+    assert_eq!(rt; at(&[Key("a"), Key("b"), Key("c")]), 3);
+    assert_eq!(rt; at(&[Key("s")]), 4);
+    assert_eq!(rt; at(&[Key("k")]), 7);
+    assert_eq!(rt; at(&[]), 0);
+    assert_eq!(rt; at(&[Key("a")]), 0);
+}
+
+/// A number that is the digit itself, a key that hides the place of a table, and a float.
+#[test]
+fn numbers_and_keys_of_a_digit(rt: HostRuntime) {
+    assert_eq!(rt; line(&rt, "\na = 0\nb = 1", &[Key("a")]), 2);
+    assert_eq!(rt; line(&rt, "\na = 0\nb = 1", &[Key("b")]), 3);
+    assert_eq!(rt; line(&rt, "[t]\n\"@\" = 0", &[Key("t"), Key("@")]), 0);
+    assert_eq!(rt; line(&rt, "a = 0\nb = 1.5", &[Key("a")]), 0);
+    assert_eq!(rt; line(&rt, "a = 0\nb = 1.5", &[Key("b")]), 2);
+}
