@@ -3,7 +3,7 @@ ghost use Rattle.std.specs.Prelude.{◌≡◌, ◌≤◌, ◌*◌, ◌+◌, ◌^
 ghost use Rattle.model_guests.specs.Numbers.{below, digit_of, digits_in, number_of};
 
 /// The value of each byte as a digit, where those above 9 may be of either case, and 255 at a byte
-/// that is none. A search of the ranges took a quarter longer a line.
+/// that is none. A look at the table is faster than a search of the ranges.
 #[rattlefmt::skip]
 static DIGITS: [u8; 256] = [
     255, 255, 255, 255, 255, 255, 255, 255, 255, 255, 255, 255, 255, 255, 255, 255,
