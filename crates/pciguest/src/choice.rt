@@ -1,9 +1,11 @@
 //! What the words of the command line ask for.
-ghost use Rattle.std.specs.Prelude.{◌≡◌, ◌⊎◌, [], true, map, IfOk, IfErr, MatchResult};
-ghost use Rattle.clap.specs.Simple.{app_of};
+ghost use Rattle.std.specs.Prelude.{◌≡◌, ◌⊎◌, [], true, false, map, codes, IfOk, IfErr, MatchResult};
+ghost use Rattle.clap.specs.declared.builder.command.Command.TheViews.{out-Command as fields_of};
+ghost use Rattle.clap.specs.Simple.{app_of, shape_of, new_shape};
 ghost use Rattle.clap.specs.Faults.{fault_of};
 ghost use Rattle.clap.specs.Values.{kind_of};
-ghost use Rattle.pciguest.specs.Words.{app_without_run, pciguest_app, is_taken};
+ghost use Rattle.clap.specs.Walk.{rule_of};
+ghost use Rattle.pciguest.specs.Words.{board_rule, list_shape, run_shape, app_without_run, pciguest_app, is_taken};
 ghost use Rattle.pciguest.specs.Choices.{IsAsked, IsWork, IsHelp};
 
 use clap::error::ErrorKind;
@@ -11,13 +13,48 @@ use clap::{Arg, Command, Error};
 use simulation::{Choice, Fault};
 use std::alloc::{AllocError, Global};
 
+/// The argument that names a board file.
+fn board<'a>(alloc: Global) -> Arg<'a>
+    ensures rule { rule_of result ≡ board_rule }
+    ensures local { result.global ≡ false }
+{
+    Arg::new(alloc, "board").required(true).help("A board file")
+}
+
+/// `demo`.
+fn demo<'a>(alloc: Global) -> Command<'a>
+    ensures shape { shape_of result ≡ new_shape (codes "demo") }
+    ensures local { (fields_of result).has_globals ≡ false }
+{
+    Command::new(alloc, "demo").about("Run the script on standard input over the demo board")
+}
+
+/// `list BOARD`.
+fn list<'a>(alloc: Global) -> Result<Command<'a>, AllocError>
+    ensures shape { IfOk result (λ c. shape_of c ≡ list_shape) }
+    ensures local { IfOk result (λ c. (fields_of c).has_globals ≡ false) }
+{
+    Command::new(alloc, "list")
+        .about("Set up the board that the file <board> declares, and report it")
+        .arg(board(alloc))
+}
+
+/// `run BOARD`.
+fn run<'a>(alloc: Global) -> Result<Command<'a>, AllocError>
+    ensures shape { IfOk result (λ c. shape_of c ≡ run_shape) }
+    ensures local { IfOk result (λ c. (fields_of c).has_globals ≡ false) }
+{
+    Command::new(alloc, "run")
+        .about("Run the script on standard input over the board that the file <board> declares")
+        .arg(board(alloc))
+}
+
 /// The program's command line but for `run`.
 fn demo_and_list<'a>(alloc: Global) -> Result<Command<'a>, AllocError>
     ensures { IfOk result (λ c. app_of c ≡ app_without_run) }
 {
-    let demo = Command::new(alloc, "demo");
-    let listed = Arg::new(alloc, "board").required(true);
-    let list = Command::new(alloc, "list").arg(listed)?;
+    let demo = demo(alloc);
+    let list = list(alloc)?;
     Command::new(alloc, "pciguest")
         .disable_help_subcommand(true)
         .subcommand_required(true)
@@ -29,8 +66,7 @@ fn demo_and_list<'a>(alloc: Global) -> Result<Command<'a>, AllocError>
 fn command<'a>(alloc: Global) -> Result<Command<'a>, AllocError>
     ensures { IfOk result (λ c. app_of c ≡ pciguest_app) }
 {
-    let board = Arg::new(alloc, "board").required(true);
-    let run = Command::new(alloc, "run").arg(board)?;
+    let run = run(alloc)?;
     demo_and_list(alloc)?.subcommand(run)
 }
 

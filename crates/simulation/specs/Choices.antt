@@ -4,16 +4,14 @@
 --     IsDoneAsRead choice old_rest new_rest old new      so was that of the lines before a read that failed
 --     IsOfChoice choice f      a fault that the choice can end with
 use Rattle.std.specs.Prelude.{◌≡◌, ◌⊎◌, Option, None, string_bytes}
-use Rattle.std.specs.Option.{ForSome}
 use Rattle.std.specs.Io.KnownBytes.{Appends}
 use Rattle.model_registers.specs.DeclarationRules.{first_broken}
 use Rattle.model_board.specs.SetUpWrites.{set_up_rules}
-use Rattle.model_guests.specs.Text.{Text, lines}
+use Rattle.model_guests.specs.Text.{Text}
 use Rattle.model_guests.specs.World.{World}
 use Rattle.streams.specs.Ends.{AppendsPart}
-use Rattle.script.specs.LoneRuns.{output}
-use Rattle.simulation.specs.Demo.{demo_guest}
-use Rattle.simulation.specs.Faults.{IsOfDemo, IsOfList, IsOfRun}
+use Rattle.simulation.specs.Demo.{demo_board}
+use Rattle.simulation.specs.Faults.{IsOfList, IsOfRun}
 use Rattle.simulation.specs.Listing.{Declares, IsListed, IsListedInPart}
 use Rattle.simulation.specs.Running.{IsRun, IsRunCut, IsRunStopped}
 use Rattle.simulation.specs.declared.choice.Choice.{Choice}
@@ -35,25 +33,25 @@ pub record IsReportedInPart (board : Text) (old new : Option Text) : Type 0 wher
 
 abbrev pub IsDone : Choice → Option Text → Option Text → Option Text → Type 0
 IsDone (Help text) script old new = Appends old new (string_bytes text)
-IsDone Demo script old new = ForSome script (λ s. Appends old new (output demo_guest (lines s)))
+IsDone Demo script old new = IsRun demo_board script old new
 IsDone (List path) script old new = (board : Text) × IsReported board old new
 IsDone (Run path) script old new = (board : Text) × IsRun board script old new
 
 abbrev pub IsDoneInPart : Choice → Option Text → Option Text → Option Text → Option Text → Type 0
 IsDoneInPart (Help text) old_rest new_rest old new = AppendsPart old new (string_bytes text)
-IsDoneInPart Demo old_rest new_rest old new = ForSome old_rest (λ s. AppendsPart old new (output demo_guest (lines s)))
+IsDoneInPart Demo old_rest new_rest old new = IsRunStopped demo_board old_rest new_rest old new
 IsDoneInPart (List path) old_rest new_rest old new = (board : Text) × IsReportedInPart board old new
 IsDoneInPart (Run path) old_rest new_rest old new = (board : Text) × IsRunStopped board old_rest new_rest old new
 
--- help and reports read nothing, and the demo writes nothing before it has read all
+-- help and reports read nothing
 abbrev pub IsDoneAsRead : Choice → Option Text → Option Text → Option Text → Option Text → Type 0
 IsDoneAsRead (Help text) old_rest new_rest old new = ⊥
-IsDoneAsRead Demo old_rest new_rest old new = new ≡ old
+IsDoneAsRead Demo old_rest new_rest old new = IsRunCut demo_board old_rest new_rest old new
 IsDoneAsRead (List path) old_rest new_rest old new = ⊥
 IsDoneAsRead (Run path) old_rest new_rest old new = (board : Text) × IsRunCut board old_rest new_rest old new
 
 abbrev pub IsOfChoice : Choice → Fault → Type 0
 IsOfChoice (Help text) f = f ≡ Write
-IsOfChoice Demo f = IsOfDemo f
+IsOfChoice Demo f = IsOfRun f
 IsOfChoice (List path) f = IsOfList f ⊎ (f ≡ BoardFile)
 IsOfChoice (Run path) f = IsOfRun f ⊎ (f ≡ BoardFile)

@@ -2,7 +2,7 @@
 --     number_of, words_of, line_of      the number, the words and the line of a fault
 --     of_file, of_set_up, of_report, of_run      the fault of a board file, a set-up, a report or a run, with the same number
 --     read_faults, write_faults      whether a result is the fault of the reader, or of the writer
---     IsOfDemo, IsOfList, IsOfRun      a fault of the demo, of a listing, or of a run over a board file
+--     IsOfList, IsOfRun      a fault of a listing, or of a run over a board
 use Rattle.std.specs.Prelude.{◌≡◌, ◌⊎◌, ◌≤◌, ℕ, ◌++◌, List, Result, Ok, Err, codes, decimal}
 use Rattle.bus_scan.specs.declared.fault.Fault.TheVariants as set_up
 use Rattle.bus_scan.specs.declared.fault.Fault.{Fault as SetUpFault}
@@ -13,7 +13,7 @@ use Rattle.report.specs.declared.writing.ReportFault.{ReportFault}
 use Rattle.script_runs.specs.declared.running.RunFault.TheVariants as run
 use Rattle.script_runs.specs.declared.running.RunFault.{RunFault}
 use Rattle.simulation.specs.declared.fault.Fault.{Fault}
-use Rattle.simulation.specs.declared.fault.Fault.TheVariants.{NotToml, Key, UnknownKey, Number, Place, Register, Size, TooMany, GuestName, Slot, Aperture, CellMasks, FileMemory, Buses, NoIoWindow, IoPool, MemoryPool, PrefetchablePool, SetUpMemory, Read, Write, ScriptMemory, Usage, BoardFile, WordMemory}
+use Rattle.simulation.specs.declared.fault.Fault.TheVariants.{NotToml, Key, UnknownKey, Number, Place, Register, Size, TooMany, GuestName, Slot, Aperture, CellMasks, FileMemory, Buses, NoIoWindow, IoPool, MemoryPool, PrefetchablePool, SetUpMemory, Read, Write, Usage, BoardFile, WordMemory}
 
 abbrev pub number_of : Fault → ℕ
 number_of NotToml = 101
@@ -37,7 +37,6 @@ number_of PrefetchablePool = 205
 number_of SetUpMemory = 299
 number_of Read = 501
 number_of Write = 502
-number_of ScriptMemory = 599
 number_of Usage = 701
 number_of BoardFile = 702
 number_of WordMemory = 799
@@ -64,7 +63,6 @@ words_of PrefetchablePool = codes "prefetchable pool"
 words_of SetUpMemory = codes "memory"
 words_of Read = codes "read failed"
 words_of Write = codes "write failed"
-words_of ScriptMemory = codes "memory"
 words_of Usage = codes "usage"
 words_of BoardFile = codes "board file"
 words_of WordMemory = codes "memory"
@@ -113,10 +111,6 @@ abbrev pub write_faults : {T : Type 0} → Result T Fault → ℕ
 write_faults (Ok x) = 0
 write_faults (Err Write) = 1
 write_faults (Err other) = 0
-
--- a read or a write failed, or memory is out for the guest or for the script
-abbrev pub IsOfDemo : Fault → Type 0
-IsOfDemo f = (f ≡ Read) ⊎ (f ≡ Write) ⊎ (f ≡ SetUpMemory) ⊎ (f ≡ ScriptMemory)
 
 -- the file or its board is refused, memory is out, or a write failed
 abbrev pub IsOfList : Fault → Type 0

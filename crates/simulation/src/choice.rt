@@ -57,12 +57,13 @@ pub fn perform<R: Reader, W: Writer>(
     ensures done { OnOk result (IsDone choice.now (R.rest reader.old) (W.written writer.old) (W.written writer.new)) }
     ensures flushed { OnOk result (W.flushed writer.new ≡ W.written writer.new) }
 
-    // Only a failed write, or a failed read of a run, comes after a part of it was written.
+    // Only a failed write, or a failed read of the demo or a run, comes after a part of it was written.
     ensures cut { IsErrOf result Fault.Read →
         IsDoneAsRead choice.now (R.rest reader.old) (R.rest reader.new) (W.written writer.old) (W.written writer.new) }
     ensures stopped { IsErrOf result Fault.Write →
         IsDoneInPart choice.now (R.rest reader.old) (R.rest reader.new) (W.written writer.old) (W.written writer.new) }
-    ensures nothing { IfErr result (λ f. f ≢ Fault.Read → f ≢ Fault.Write → writer.new ≡ writer.old) }
+    ensures nothing { IfErr result (λ f. f ≢ Fault.Read → f ≢ Fault.Write →
+        (reader.new ≡ reader.old) × (writer.new ≡ writer.old)) }
 
     ensures faults { IfErr result (IsOfChoice choice.now) }
 

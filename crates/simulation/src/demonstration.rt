@@ -1,36 +1,40 @@
 //! A script over the demo board.
-ghost use Rattle.std.specs.Prelude.{◌≡◌, ◌≢◌, ℕ, ◌+◌, ◌-◌, ◌^◌, ◌<◌, OnOk, IfErr, IsErrOf};
-ghost use Rattle.std.specs.Option.{ForSome};
-ghost use Rattle.std.specs.Io.KnownBytes.{Appends, IsAtEnd};
-ghost use Rattle.model_guests.specs.Text.{lines};
-ghost use Rattle.streams.specs.Ends.{AppendsPart};
-ghost use Rattle.script.specs.LoneRuns.{output};
-ghost use Rattle.simulation.specs.Demo.{demo_endpoint, demo_guest};
-ghost use Rattle.simulation.specs.Faults.{read_faults, write_faults, IsOfDemo};
+ghost use Rattle.std.specs.Prelude.{◌≡◌, ◌≢◌, ℕ, ◌+◌, ◌-◌, ◌^◌, ◌<◌, None, Some, OnOk, IfErr, IsErrOf};
+ghost use Rattle.std.specs.Io.KnownBytes.{IsAtEnd};
+ghost use Rattle.model_registers.specs.DeclarationRules.{first_broken};
+ghost use Rattle.model_board.specs.SetUpWrites.{set_up_rules};
+ghost use Rattle.model_guests.specs.World.{World};
+ghost use Rattle.simulation.specs.Demo.{demo_board};
+ghost use Rattle.simulation.specs.Faults.{number_of, read_faults, write_faults, IsOfRun};
+ghost use Rattle.simulation.specs.Listing.{Declares, Refuses};
+ghost use Rattle.simulation.specs.Running.{IsRun, IsRunCut, IsRunStopped};
 
 use crate::fault::Fault;
-use arrayvec::ArrayString;
-use headers::{EndpointDecl, EndpointValues};
-use script::{Lone, RunFault, run};
+use crate::running::whole;
 use std::alloc::Global;
 use streams::{Reader, Writer};
 
-/// The endpoint in slot 0: without regions, with pin A and with a parity error to report.
-fn endpoint(alloc: Global) -> EndpointDecl
-    ensures { result ≡ demo_endpoint }
-{
-    let values = EndpointValues {
-        pin: 1,
-        status: 0x8000,
-        ..EndpointValues::plain(alloc, 0x1234, 0x0001, 0xff_0000)
-    };
-    EndpointDecl::new(values).unwrap()
-}
+/// The demo board: one endpoint without regions, with pin A and with a parity error to report, and one
+/// guest.
+const DEMO_BOARD: &str = concat!(
+    "[host]\n",
+    "io = [0x1000, 0xffff]\n",
+    "mem = [0xc0000000, 0xdfffffff]\n",
+    "\n",
+    "[[endpoint]]\n",
+    "at = \"1.0\"\n",
+    "vendor = 0x1234\n",
+    "device = 0x0001\n",
+    "class = 0xff0000\n",
+    "status = 0x8000\n",
+    "pin = 1\n",
+    "\n",
+    "[[guest]]\n",
+    "name = \"a\"\n",
+    "slots = [\"1.0\"]\n",
+);
 
-/// Runs a script over guest `a`, whose slot 0 holds the demo endpoint, and flushes once.
-///
-/// It fails where a read fails (501), where a write or the flush fails (502), and where memory is out: for the guest (299),
-/// before anything is read, or for the script (599). Only `Write` comes after a part of the output was written.
+/// Runs a script over the demo board, as [`whole`] runs one over the board of a file.
 pub fn demo<R: Reader, W: Writer>(
     alloc: Global,
     reader: &mut R,
@@ -38,35 +42,28 @@ pub fn demo<R: Reader, W: Writer>(
 ) -> Result<(), Fault>
     requires reader_has_room { R.failures reader.old < 2 ^ 64 - 1 }
     requires writer_has_room { W.failures writer.old < 2 ^ 64 - 1 }
-    ensures reads { R.failures reader.new ≡ R.failures reader.old + read_faults result }
-    ensures writes { W.failures writer.new ≡ W.failures writer.old + write_faults result }
 
-    // The script was read to its end, and the output of all its lines was written and flushed.
+    // The script was read to its end, and its output in the world of the demo was written and flushed.
     ensures end { OnOk result (IsAtEnd (R.rest reader.new)) }
-    ensures output { OnOk result (ForSome (R.rest reader.old) (λ script.
-        Appends (W.written writer.old) (W.written writer.new) (output demo_guest (lines script)))) }
+    ensures output { OnOk result (IsRun demo_board (R.rest reader.old) (W.written writer.old) (W.written writer.new)) }
     ensures flushed { OnOk result (W.flushed writer.new ≡ W.written writer.new) }
 
-    ensures faults { IfErr result IsOfDemo }
-    ensures nothing { IfErr result (λ f. f ≢ Fault.Write → writer.new ≡ writer.old) }
-    ensures unread { IsErrOf result Fault.SetUpMemory → reader.new ≡ reader.old }
+    // What the definitions of board files and of set-up say of the demo's text.
+    ensures file { IfErr result (λ f. number_of f < 199 → Refuses demo_board (number_of f)) }
+    ensures placement { IfErr result (λ f. 199 < number_of f → number_of f < 299 →
+        (w : World) × Declares demo_board w × (first_broken (set_up_rules w.board w.apertures) ≡ Some (number_of f))) }
+    ensures faults { IfErr result IsOfRun }
+    ensures nothing { IfErr result (λ f. number_of f < 500 → (reader.new ≡ reader.old) × (writer.new ≡ writer.old)) }
 
-    // A failed write came after the script was read whole, and after a beginning of its output.
-    ensures read_whole { IsErrOf result Fault.Write → IsAtEnd (R.rest reader.new) }
-    ensures stopped { IsErrOf result Fault.Write → ForSome (R.rest reader.old) (λ script.
-        AppendsPart (W.written writer.old) (W.written writer.new) (output demo_guest (lines script))) }
+    // What a failed read or write leaves of the output.
+    ensures cut { IsErrOf result Fault.Read →
+        IsRunCut demo_board (R.rest reader.old) (R.rest reader.new) (W.written writer.old) (W.written writer.new) }
+    ensures stopped { IsErrOf result Fault.Write →
+        IsRunStopped demo_board (R.rest reader.old) (R.rest reader.new) (W.written writer.old) (W.written writer.new) }
+
+    // A fault is the reader's or the writer's exactly where that end failed during the call.
+    ensures reads { R.failures reader.new ≡ R.failures reader.old + read_faults result }
+    ensures writes { W.failures writer.new ≡ W.failures writer.old + write_faults result }
 {
-    let decl = endpoint(alloc);
-    let mut name = ArrayString::new();
-    name.push_str("a");
-    let decls = [decl];
-    let Ok(mut lone) = Lone::new(alloc, name, &decls) else {
-        return Err(Fault::SetUpMemory);
-    };
-    match run(alloc, &mut lone, reader, writer) {
-        Ok(()) => Ok(()),
-        Err(RunFault::Read) => Err(Fault::Read),
-        Err(RunFault::Write) => Err(Fault::Write),
-        Err(RunFault::Memory) => Err(Fault::ScriptMemory),
-    }
+    whole(alloc, DEMO_BOARD.as_bytes(), reader, writer)
 }

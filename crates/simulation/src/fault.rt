@@ -73,9 +73,6 @@ pub enum Fault {
     /// A write or flush of the output failed, or took no byte.
     #[error("write failed")]
     Write,
-    /// Out of memory while the script was read.
-    #[error("memory")]
-    ScriptMemory,
     /// The words of the command line are none that the program takes.
     #[error("usage")]
     Usage,
@@ -114,7 +111,6 @@ impl Fault {
             Fault::SetUpMemory => 299,
             Fault::Read => 501,
             Fault::Write => 502,
-            Fault::ScriptMemory => 599,
             Fault::Usage => 701,
             Fault::BoardFile => 702,
             Fault::WordMemory => 799,
@@ -138,8 +134,7 @@ impl Fault {
             Fault::Slot => "slot",
             Fault::Aperture => "aperture",
             Fault::CellMasks => "cell masks",
-            Fault::FileMemory | Fault::SetUpMemory | Fault::ScriptMemory | Fault::WordMemory =>
-                "memory",
+            Fault::FileMemory | Fault::SetUpMemory | Fault::WordMemory => "memory",
             Fault::Buses => "buses",
             Fault::NoIoWindow => "no I/O window",
             Fault::IoPool => "I/O pool",

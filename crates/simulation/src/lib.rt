@@ -1,5 +1,5 @@
 //! What the program does, over bytes, a reader and a writer: the report of a board file, a script over
-//! its board, and a script over the demo board.
+//! its board, and a script over the demo board; and the law of two worlds, over the definitions alone.
 #![tactic(auto)]
 
 mod choice;
@@ -17,5 +17,6 @@ pub use fault::Fault;
 pub use fault_lines::fault_line;
 pub use files::board_bytes;
 pub use listing::list;
+pub use model_guests::two_worlds;
 pub use running::whole;
 pub use standard_streams::{InputStream, OutputStream};

@@ -28,7 +28,6 @@ fn lines_of_faults(rt: HostRuntime) -> Result<(), Fail> {
     let rows = [
         (Fault::FileMemory, "pciguest: fault 199 memory\n"),
         (Fault::SetUpMemory, "pciguest: fault 299 memory\n"),
-        (Fault::ScriptMemory, "pciguest: fault 599 memory\n"),
         (Fault::WordMemory, "pciguest: fault 799 memory\n"),
         (
             Fault::PrefetchablePool,

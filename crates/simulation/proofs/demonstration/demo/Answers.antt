@@ -1,14 +1,38 @@
-use Rattle.std.proofs.Common.{rules, ◌≡◌, subst}
-use Rattle.model_guests.specs.Text.{lines}
-use Rattle.streams.specs.Ends.{AppendsPart}
-use Rattle.script.specs.LoneRuns.{LoneGuest, output}
-use Rattle.script.proofs.Outputs.{stopped_part}
-use Rattle.simulation.specs.Demo.{demo_guest}
+use Rattle.std.proofs.Common.{rules, ◌≡◌, ◌<◌, Some, subst}
+use Rattle.std.specs.Prelude.{OnOk, IfErr, IsErrOf}
+use Rattle.model_registers.specs.DeclarationRules.{first_broken}
+use Rattle.model_board.specs.SetUpWrites.{set_up_rules}
+use Rattle.model_guests.specs.Text.{Text}
+use Rattle.model_guests.specs.World.{World}
+use Rattle.simulation.specs.Demo.{demo_board}
+use Rattle.simulation.specs.Faults.{number_of}
+use Rattle.simulation.specs.Listing.{Declares, Refuses}
+use Rattle.simulation.specs.Running.{IsRun, IsRunCut, IsRunStopped}
+use Rattle.simulation.specs.declared.fault.Fault.TheVariants.{Read, Write}
 use Rattle.simulation.proofs.demonstration.demo.Goals as goal
 
-pub returns-in-Err-Write-clause-stopped : goal.returns-in-Err-Write-clause-stopped
-returns-in-Err-Write-clause-stopped g c is script known =
-    let guest : c.in-Ok.lone ≡ demo_guest = search rules in
-    let stopped = c.in-Err-Write.ensures.stopped (search rules) script known in
-    subst (λ (s : LoneGuest). AppendsPart (g.W.Writer.written c.args.writer.now) (g.W.Writer.written c.run.new.writer) (output s (lines script))) guest
-    (stopped_part c.in-Ok.lone (lines script) _ _ _ stopped)
+pub returns-clause-output : goal.returns-clause-output
+returns-clause-output g c =
+    let text : c.as_bytes.result.now ≡ demo_board = search rules in
+    subst (λ (b : Text). OnOk c.whole.result (IsRun b (g.R.Reader.rest c.args.reader.now) (g.W.Writer.written c.args.writer.now) (g.W.Writer.written c.whole.new.writer))) text c.whole.ensures.output
+
+pub returns-clause-file : goal.returns-clause-file
+returns-clause-file g c =
+    let text : c.as_bytes.result.now ≡ demo_board = search rules in
+    subst (λ (b : Text). IfErr c.whole.result (λ f. number_of f < 199 → Refuses b (number_of f))) text c.whole.ensures.file
+
+pub returns-clause-placement : goal.returns-clause-placement
+returns-clause-placement g c =
+    let text : c.as_bytes.result.now ≡ demo_board = search rules in
+    subst (λ (b : Text). IfErr c.whole.result (λ f. 199 < number_of f → number_of f < 299 →
+        (w : World) × Declares b w × (first_broken (set_up_rules w.board w.apertures) ≡ Some (number_of f)))) text c.whole.ensures.placement
+
+pub returns-clause-cut : goal.returns-clause-cut
+returns-clause-cut g c is =
+    let text : c.as_bytes.result.now ≡ demo_board = search rules in
+    subst (λ (b : Text). IsRunCut b (g.R.Reader.rest c.args.reader.now) (g.R.Reader.rest c.whole.new.reader) (g.W.Writer.written c.args.writer.now) (g.W.Writer.written c.whole.new.writer)) text (c.whole.ensures.cut is)
+
+pub returns-clause-stopped : goal.returns-clause-stopped
+returns-clause-stopped g c is =
+    let text : c.as_bytes.result.now ≡ demo_board = search rules in
+    subst (λ (b : Text). IsRunStopped b (g.R.Reader.rest c.args.reader.now) (g.R.Reader.rest c.whole.new.reader) (g.W.Writer.written c.args.writer.now) (g.W.Writer.written c.whole.new.writer)) text (c.whole.ensures.stopped is)
