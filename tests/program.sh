@@ -153,6 +153,84 @@ fails_with 'run, a faulty file' '107 size' run "$boards/size.toml" < run.script
 fails_with 'run, a board that does not fit' '204 memory pool' run "$boards/memory_pool.toml" < run.script
 fails_with 'run, no such file' '702 board file' run nothing.toml < run.script
 
+# ---- run: lines at the ends of what a line may say
+longest=$(printf '%190s' '')
+{
+  printf 'a cw 1 4 2 2\na cw 1 0x10 4 0xffffffff\na cw 1 0x14 4 0xffffffff\n'
+  printf 'a mr 0xffffffffff000000 4\na mr 0xfffffffffffffffc 4\na mr 0x10000000000000000 4\n'
+  printf 'a ir 0x100000000 4\na cr 0 254 4\na cw 0 4 2 0x100000000\na cw 0 0x3c 1 0x1ff\na cr 0 0x3c 1\n'
+  printf 'a cr 0X0 00 4\na cr +0 0 4\na cr 0x 0 4\na \377\n\377\n\000\n\ta cr 0 0 4\r\n   \r\n'
+  printf 'a cr 0 0 4%s\na cr 0 0 4%s \n' "$longest" "$longest"
+} > ends.script
+cat > wanted.out <<'END'
+a: ok
+a: ok
+a: ok
+a: 0xa5a5a5a5
+a: 0x00000000
+a: refused 401 bad line
+a: refused 303 range
+a: refused 301 misaligned
+a: refused 401 bad line
+a: ok
+a: 0xff
+a: 0x00011234
+a: refused 401 bad line
+a: refused 401 bad line
+a: refused 401 bad line
+?: refused 402 unknown guest
+?: refused 402 unknown guest
+a: 0x00011234
+a: 0x00011234
+?: refused 403 long line
+END
+ends_with 'run, lines at the ends of what they may say' run "$boards/main.toml" < ends.script
+
+# ---- boards at the ends of their apertures
+cat > top.toml <<'END'
+host = { io = [0x1000, 0xffff], mem = [0xfff00000, 0xffffffff] }
+bridge = [ { at = "0.0", vendor = 0x1234, device = 2, io = "none", pref = "none" } ]
+[[endpoint]]
+at = "0.0/0.0"
+vendor = 0x1234
+device = 3
+class = 0xff0000
+bar = [ { index = 0, kind = "mem32", size = 0x100000 } ]
+END
+cat > wanted.out <<'END'
+endpoints 1 bridges 1
+00:00.0 0.0 bridge 1234:0002 buses 00 01 01
+  mem 0xfff00000 0xffffffff
+01:00.0 0.0/0.0 endpoint 1234:0003
+  bar0 mem32 at 0xfff00000 size 0x100000
+END
+ends_with 'list, the last megabyte below 4 GB' list top.toml
+printf 'host cr 00:00.0 0x20 2\nhost cr 00:00.0 0x22 2\n' > top.script
+printf 'host: 0xfff0\nhost: 0xfff0\n' > wanted.out
+ends_with 'run, the last megabyte below 4 GB' run top.toml < top.script
+sed 's/^pref = .0x4.*/pref = [0x7ffffffffff00000, 0x7fffffffffffffff]/' "$boards/main.toml" > high.toml
+fails_with 'list, the last megabyte below 2^63' '205 prefetchable pool' list high.toml
+
+# ---- board files that nobody meant to write
+sed 's/$/\r/' "$boards/main.toml" > crlf.toml
+{ printf '\357\273\277'; cat "$boards/main.toml"; } > mark.toml
+for board in crlf.toml mark.toml; do
+  cp main.toml.wanted wanted.out
+  ends_with "list, $board" list "$board"
+done
+printf '# \000\n' > nul.toml
+{ printf 'x = '; head -c 1000 /dev/zero | tr '\0' '['; } > nested.toml
+head -c 1000000 /dev/zero | tr '\0' x > line.toml
+for board in nul.toml nested.toml line.toml; do
+  fails_with "list, $board" '101 not TOML' list "$board"
+done
+
+# ---- standard streams that are closed
+fails_with 'run, standard input closed' '501 read failed' run "$boards/main.toml" <&-
+timeout 60 "$program" run "$boards/main.toml" < run.script >&- 2> err; status=$?
+: > out; : > wanted.out; echo 'pciguest: fault 502 write failed' > wanted.err; wanted=1
+tell 'run, standard output closed'
+
 # each line is answered before the next one is sent
 coproc asked { timeout 60 "$program" run "$boards/main.toml" 2> err; }
 pid=$asked_PID to=${asked[1]} from=${asked[0]}
