@@ -1,0 +1,148 @@
+//! A file of guests. Each line is a word and numbers:
+//!
+//! - `guest NAME`, and after it the guest's endpoints, slot 0 first;
+//! - `endpoint VENDOR DEVICE REVISION CLASS SUBVENDOR SUBSYSTEM PIN MIN_GNT MAX_LAT STATUS`, and
+//!   after it its regions and its own configuration registers;
+//! - `bar INDEX KIND SIZE` with KIND 0 (I/O), 1 (32-bit memory), 2 (the same, prefetchable), 3 or 4
+//!   (64-bit memory), and `cells COUNT VALUE WRITABLE CLEARED`: so many registers alike, in the block of
+//!   the last region;
+//! - `config OFFSET VALUE WRITABLE CLEARED`: a configuration register of the device's own.
+use accesses::Names;
+use arrayvec::ArrayString;
+use bars::Kind;
+use lone_guest::{LoneBlock, LoneEndpoint, LoneRegion, Register};
+use std::alloc::Global;
+
+/// Names of guests, and their endpoints.
+#[derive(Drop)]
+pub(crate) struct Declared {
+    pub(crate) names: Names,
+    pub(crate) guests: Vec<Vec<LoneEndpoint>>,
+}
+
+/// The kind of a region.
+fn kind_of(number: u64) -> Kind {
+    match number {
+        0 => Kind::Io,
+        1 | 2 => Kind::Mem32 { pref: number == 2 },
+        _ => Kind::Mem64 { pref: number == 4 },
+    }
+}
+
+fn byte(number: u64) -> u8 {
+    u8::try_from(number).unwrap_or(0)
+}
+
+fn word(number: u64) -> u16 {
+    u16::try_from(number).unwrap_or(0)
+}
+
+/// An endpoint without regions.
+fn endpoint(alloc: Global, numbers: [u64; 10]) -> LoneEndpoint {
+    let [
+        vendor,
+        device,
+        revision,
+        class,
+        subvendor,
+        subsystem,
+        pin,
+        min_gnt,
+        max_lat,
+        status,
+    ] = numbers;
+    let class = u32::try_from(class).unwrap_or(0);
+    LoneEndpoint {
+        revision: byte(revision),
+        subvendor: word(subvendor),
+        subsystem: word(subsystem),
+        pin: byte(pin),
+        min_gnt: byte(min_gnt),
+        max_lat: byte(max_lat),
+        status: word(status),
+        ..LoneEndpoint::plain(alloc, word(vendor), word(device), class)
+    }
+}
+
+/// The numbers of a line, and 0 in place of those that are missing.
+fn numbers_of(words: &[&str]) -> [u64; 10] {
+    let mut numbers = [0u64; 10];
+    for (number, text) in numbers.iter_mut().zip(words.iter()) {
+        *number = text.parse::<u64>().unwrap_or(0);
+    }
+    numbers
+}
+
+impl Declared {
+    fn add_guest(&mut self, alloc: Global, name: &str) -> Option<()> {
+        let mut text = ArrayString::new();
+        text.try_push_str(name).ok()?;
+        self.names.try_push(text).ok()?;
+        self.guests.push(Vec::new(alloc)).ok()
+    }
+
+    /// Adds to the last endpoint what a line says.
+    fn add_part(&mut self, alloc: Global, kind: &str, numbers: [u64; 10]) -> Option<()> {
+        let [first, second, third, fourth, ..] = numbers;
+        let last = self.guests.last_mut()?.last_mut()?;
+        match kind {
+            "bar" => {
+                let block = Vec::new(alloc);
+                let (index, kind, size) = (byte(first), kind_of(second), third);
+                last.bar
+                    .push(LoneRegion {
+                        index,
+                        kind,
+                        size,
+                        block,
+                    })
+                    .ok()
+            }
+            "config" => {
+                let register = Register::new(byte(second), byte(third), byte(fourth));
+                let mut block = Vec::new(alloc);
+                block.push(register).ok()?;
+                last.config
+                    .push(LoneBlock {
+                        off: byte(first),
+                        block,
+                    })
+                    .ok()
+            }
+            _ => {
+                let register = Register::new(byte(second), byte(third), byte(fourth));
+                let block = &mut last.bar.last_mut()?.block;
+                for _ in 0..first {
+                    block.push(register).ok()?;
+                }
+                Some(())
+            }
+        }
+    }
+
+    /// Adds what a line declares.
+    fn add(&mut self, alloc: Global, words: &[&str]) -> Option<()> {
+        match words {
+            [] => Some(()),
+            ["guest", name] => self.add_guest(alloc, name),
+            ["endpoint", rest @ ..] => {
+                let added = endpoint(alloc, numbers_of(rest));
+                self.guests.last_mut()?.push(added).ok()
+            }
+            [kind, rest @ ..] => self.add_part(alloc, kind, numbers_of(rest)),
+        }
+    }
+}
+
+/// Reads a file of guests. None where it has another form, or where memory is out.
+pub(crate) fn read_guests(alloc: Global, text: &str) -> Option<Declared> {
+    let mut declared = Declared {
+        names: Names::new(),
+        guests: Vec::new(alloc),
+    };
+    for line in text.lines() {
+        let words: Vec<&str> = line.split_whitespace().collect(alloc).ok()?;
+        declared.add(alloc, words.as_slice())?;
+    }
+    Some(declared)
+}

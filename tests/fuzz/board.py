@@ -1,0 +1,187 @@
+"""Random boards, by a generator of random numbers, and their board files."""
+
+SIZES = {"io": (2, 8), "mem32": (4, 31), "mem32p": (4, 31), "mem64": (4, 40), "mem64p": (4, 40)}
+MASKS = ["00", "ff", "0f", "f0", "55aa", "01", "80", "ff00", "7e"]
+
+
+class Bar:
+    """A declared region with its block of cells."""
+
+    def __init__(self, index, kind, size, block, patterns):
+        self.index, self.kind, self.size, self.block, self.patterns = index, kind, size, block, patterns
+
+
+class Endpoint:
+    """A declared endpoint. `config` has blocks of cells as (offset, count, patterns)."""
+
+    def __init__(self, path, values, bars, config):
+        self.path, self.values, self.bars, self.config = path, values, bars, config
+
+
+class Bridge:
+    """A declared bridge with the decodes of its windows."""
+
+    def __init__(self, path, values, io, pref):
+        self.path, self.values, self.io, self.pref = path, values, io, pref
+
+
+class Board:
+    """Apertures, functions in path order, and guests as (name, paths of their slots)."""
+
+    def __init__(self, apertures, functions, guests):
+        self.apertures, self.functions, self.guests = apertures, functions, guests
+
+    def endpoints(self):
+        return [function for function in self.functions if isinstance(function, Endpoint)]
+
+
+def path_text(path):
+    return "/".join(f"{device}.{function}" for device, function in path)
+
+
+def patterns(rng, block):
+    """What stands in a block: a clear-on-one bit is no writable bit."""
+    if block == 0:
+        return {}
+    length = rng.choice([1, 1, 2, 4])
+    if length > block:
+        length = 1
+    writable = bytes(rng.choice([0, 0xFF, 0x0F, 0x55, rng.randrange(256)]) for _ in range(length))
+    clearing = bytes(rng.choice([0, 0xFF, 0xF0, rng.randrange(256)]) & ~bits for bits in writable)
+    reset = bytes(rng.choice([0, 0xFF, 0xA5, rng.randrange(256)]) for _ in range(length))
+    named = {"rw": writable, "w1c": clearing, "reset": reset}
+    return {key: value for key, value in named.items() if rng.random() < 0.8}
+
+
+def random_bars(rng):
+    """Regions with registers of their own, most of them small."""
+    bars, index = [], 0
+    while index < 6:
+        if rng.random() < 0.45:
+            index += 1
+            continue
+        kind = rng.choice(list(SIZES))
+        if kind.startswith("mem64") and index == 5:
+            break
+        least, greatest = SIZES[kind]
+        most = least + 4 if rng.random() < 0.8 else 24
+        size = 1 << (rng.randint(least, min(greatest, most)) if rng.random() < 0.98 else greatest)
+        block = rng.choice([0, 1, min(size, 16), min(size, 64), min(size, 4096)])
+        bars.append(Bar(index, kind, size, block, patterns(rng, block)))
+        index += 2 if kind.startswith("mem64") else 1
+    return bars
+
+
+def random_config(rng):
+    """Blocks of the device's own configuration cells, apart."""
+    blocks, at = [], 0x40
+    while rng.random() < 0.4 and at < 0x100:
+        off = min(0xFF, at + rng.choice([0, 0, 1, 4, 16]))
+        count = rng.randint(1, min(0x100 - off, rng.choice([1, 4, 16, 192])))
+        blocks.append((off, count, patterns(rng, count)))
+        at = off + count
+    return blocks
+
+
+def identity(rng):
+    """Values that any function may have, some of them left out."""
+    values = {"vendor": rng.choice([0, 0x1234, 0xFFFE]), "device": rng.choice([0, 1, 0xFFFF, rng.randrange(0x10000)])}
+    if rng.random() < 0.5:
+        values["revision"] = rng.randrange(256)
+    return values
+
+
+def random_endpoint(rng, path):
+    values = identity(rng)
+    values["class"] = rng.choice([0, 0xFF0000, 0xFFFFFF, rng.randrange(1 << 24)])
+    for key, greatest in [("subvendor", 0xFFFF), ("subsystem", 0xFFFF), ("pin", 4), ("min_gnt", 0xFF),
+                          ("max_lat", 0xFF)]:
+        if rng.random() < 0.4:
+            values[key] = rng.randint(0, greatest)
+    if rng.random() < 0.5:
+        values["status"] = rng.randrange(0x10000) & 0xF900
+    return Endpoint(path, values, random_bars(rng), random_config(rng))
+
+
+def random_bus(rng, above, depth, functions, windows):
+    """Functions of one bus and of all behind it; `windows` tells whether I/O can reach it."""
+    count = rng.choice([1, 1, 2, 3, 5]) if above else rng.choice([2, 3, 4, 6, 8])
+    for device in sorted(rng.sample(range(16), count)):
+        more = sorted(rng.sample(range(1, 8), rng.choice([1, 2]))) if rng.random() < 0.3 else []
+        for function in [0] + more:
+            path = above + ((device, function),)
+            if len(functions) >= 60:
+                return
+            if depth and rng.random() < 0.3:
+                io = rng.choice(["16", "32"]) if rng.random() < 0.8 else "none"
+                functions.append(Bridge(path, identity(rng), io, rng.choice(["none", "32", "64"])))
+                random_bus(rng, path, depth - 1, functions, windows and io != "none")
+            else:
+                endpoint = random_endpoint(rng, path)
+                if not windows:
+                    endpoint.bars = [bar for bar in endpoint.bars if bar.kind != "io" or rng.random() < 0.02]
+                functions.append(endpoint)
+
+
+def random_apertures(rng):
+    """Mostly wide apertures, so that boards fit."""
+    mem = rng.choice([(0x80000000, 0xFFFFFFFF), (0, 0xFFFFFFFF), (0x100000, 0x7FFFFFFF)])
+    apertures = {"io": (0x1000, 0xFFFF), "mem": mem}
+    pref = rng.choice([None, (0x100000000, 0x7FFFFFFFFFFFFFFF), (0x400000000, 0x4FFFFFFFF)])
+    if rng.random() < 0.3:
+        apertures["mem"], pref = (0x80000000, 0xFFFFFFFF), (0x100000, 0x7FFFFFFF)
+    if pref:
+        apertures["pref"] = pref
+    if rng.random() < 0.05:
+        apertures["io"] = (0x1000, 0x2FFF)
+    if rng.random() < 0.05:
+        apertures["mem"] = (0xFFF00000, 0xFFFFFFFF)
+    return apertures
+
+
+def random_guests(rng, endpoints):
+    """Guests that have most of the endpoints, one of them nothing now and then."""
+    paths = [endpoint.path for endpoint in endpoints]
+    rng.shuffle(paths)
+    names = rng.sample(["a", "b", "c9", "guest", "z123456789abcdef"], rng.randint(1, 4))
+    guests = []
+    for name in names:
+        count = rng.choice([0, 1, 2, 3, 6, 32])
+        guests.append((name, paths[:count]))
+        paths = paths[count:]
+    return guests
+
+
+def random_board(rng):
+    functions = []
+    random_bus(rng, (), rng.choice([0, 1, 2, 3, 6]), functions, True)
+    board = Board(random_apertures(rng), functions, [])
+    board.guests = random_guests(rng, board.endpoints())
+    return board
+
+
+def block_text(pattern):
+    return "".join(f', {key} = "{value.hex()}"' for key, value in pattern.items())
+
+
+def board_file(board):
+    """The text of a board file."""
+    lines = ["[host]"]
+    lines += [f"{key} = [{first:#x}, {last:#x}]" for key, (first, last) in board.apertures.items()]
+    for function in board.functions:
+        kind = "endpoint" if isinstance(function, Endpoint) else "bridge"
+        lines += [f"[[{kind}]]", f'at = "{path_text(function.path)}"']
+        lines += [f"{key} = {value:#x}" for key, value in function.values.items()]
+        if kind == "bridge":
+            lines += [f'io = "{function.io}"', f'pref = "{function.pref}"']
+            continue
+        bars = [f'{{ index = {bar.index}, kind = "{bar.kind}", size = {bar.size}, block = {bar.block}'
+                + block_text(bar.patterns) + " }" for bar in function.bars]
+        config = [f"{{ off = {off}, block = {count}" + block_text(pattern) + " }"
+                  for off, count, pattern in function.config]
+        lines += [f"bar = [{', '.join(bars)}]"] if bars else []
+        lines += [f"config = [{', '.join(config)}]"] if config else []
+    for name, slots in board.guests:
+        texts = ", ".join(f'"{path_text(path)}"' for path in slots)
+        lines += ["[[guest]]", f'name = "{name}"', f"slots = [{texts}]"]
+    return "\n".join(lines) + "\n"

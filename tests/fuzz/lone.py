@@ -1,0 +1,40 @@
+"""A board's guests as the program lone_answers takes them: their endpoints in plain numbers."""
+
+KINDS = ["io", "mem32", "mem32p", "mem64", "mem64p"]
+NUMBERS = ["vendor", "device", "revision", "class", "subvendor", "subsystem", "pin", "min_gnt", "max_lat", "status"]
+
+
+def runs(bar):
+    """The registers of a region's block as (count, value, writable, cleared), those alike together."""
+    found = []
+    for n in range(bar.block):
+        masks = [bar.patterns[key][n % len(bar.patterns[key])] if key in bar.patterns else 0
+                 for key in ["reset", "rw", "w1c"]]
+        if found and found[-1][1:] == masks:
+            found[-1][0] += 1
+        else:
+            found.append([1, *masks])
+    return found
+
+
+def endpoint_lines(endpoint):
+    """The lines of one endpoint."""
+    yield "endpoint " + " ".join(str(endpoint.values.get(name, 0)) for name in NUMBERS)
+    for bar in endpoint.bars:
+        yield f"bar {bar.index} {KINDS.index(bar.kind)} {bar.size}"
+        yield from ("cells " + " ".join(map(str, run)) for run in runs(bar))
+    for off, count, patterns in endpoint.config:
+        for n in range(count):
+            masks = [patterns[key][n % len(patterns[key])] if key in patterns else 0 for key in ["reset", "rw", "w1c"]]
+            yield f"config {off + n} " + " ".join(map(str, masks))
+
+
+def guests_file(board):
+    """All guests of a board."""
+    endpoints = {endpoint.path: endpoint for endpoint in board.endpoints()}
+    lines = []
+    for name, slots in board.guests:
+        lines.append(f"guest {name}")
+        for path in slots:
+            lines += endpoint_lines(endpoints[path])
+    return "\n".join(lines) + "\n"
