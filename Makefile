@@ -8,7 +8,7 @@ PROGRESS := grep --line-buffered -E '^(== |[a-z_]+: |[0-9]+ of )|^[^ ]*: error|n
 # the board of `make list` and `make lspci`, unless they are given one
 BOARD := crates/examples/data/main.toml
 
-.PHONY: demo list lspci has-lspci test build bench try clean
+.PHONY: demo list lspci has-lspci test build bench hostile fuzz try clean
 
 # Proves and builds the program, and runs a script over the demo board.
 demo: build
@@ -50,6 +50,18 @@ bench: build
 	@bench/boards crates/bench_accesses/out/boards
 	@cd crates/bench_accesses && rt run > out/build.log 2>&1 || { cat out/build.log; exit 1; }
 	@bench/run crates/bench_accesses/out/bench_accesses crates/bench_accesses/out/boards
+
+# The proved program as it is used by one who means harm: memory refused, streams that fail, odd files and
+# great sizes. It takes cc and Python 3, and some minutes.
+hostile: pciguest
+	@for part in growths streams surroundings sizes; do python3 tests/hostile/$$part.py ./pciguest; done
+
+# Random boards and scripts, answered by the program, by the lone guests and by a second hand in Python:
+# about a million lines. make fuzz SEED=.. begins with another board.
+SEED := 1
+fuzz: pciguest
+	@cd crates/lone_answers && rt run > out/build.log 2>&1 || { cat out/build.log; exit 1; }
+	@python3 tests/fuzz/fuzz.py ./pciguest --lone crates/lone_answers/out/lone_answers --boards 700 --seed $(SEED)
 
 # The demo in about a minute: nothing is proved.
 try:
