@@ -6,3 +6,4 @@ pub mod RepeatedBytes
 pub mod Declaring
 pub mod LawfulWorld
 pub mod NextEntry
+pub mod Breaches

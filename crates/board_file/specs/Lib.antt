@@ -3,6 +3,7 @@ pub mod Schema
 pub mod Entries
 pub mod PathTexts
 pub mod Blocks
+pub mod Breaches
 pub mod Functions
 pub mod Rules
 pub mod Judged

@@ -3,6 +3,7 @@ ghost use Rattle.std.specs.Prelude.{◌≡◌, IfOk, Some, MatchOption};
 ghost use Rattle.std.specs.List.{list_all};
 ghost use Rattle.toml.specs.View.{table_view};
 ghost use Rattle.model_registers.specs.DeclarationRules.{first_broken};
+ghost use Rattle.board_file.specs.Breaches.{first_breach};
 ghost use Rattle.board_file.specs.Entries.{file};
 ghost use Rattle.board_file.specs.Rules.{registers_hold, sizes_hold};
 ghost use Rattle.board_file.specs.Judged.{IsJudged};
@@ -33,16 +34,32 @@ pub(crate) fn form_fault(table: &Table) -> Option<BoardFault>
     None
 }
 
+/// The first endpoint with a region outside the six registers, or with a register used twice.
+fn first_wrong_registers(endpoints: &[EndpointEntry<'_>]) -> Option<usize>
+    ensures { result ≡ first_breach registers_hold endpoints.now }
+{
+    endpoints
+        .iter()
+        .position(|endpoint| !registers_hold(endpoint))
+}
+
 fn all_registers_hold(endpoints: &[EndpointEntry<'_>]) -> bool
     ensures { result ≡ list_all registers_hold endpoints.now }
 {
-    endpoints.iter().all(|endpoint| registers_hold(endpoint))
+    first_wrong_registers(endpoints).is_none()
+}
+
+/// The first endpoint with a region of a wrong size.
+fn first_wrong_sizes(endpoints: &[EndpointEntry<'_>]) -> Option<usize>
+    ensures { result ≡ first_breach sizes_hold endpoints.now }
+{
+    endpoints.iter().position(|endpoint| !sizes_hold(endpoint))
 }
 
 fn all_sizes_hold(endpoints: &[EndpointEntry<'_>]) -> bool
     ensures { result ≡ list_all sizes_hold endpoints.now }
 {
-    endpoints.iter().all(|endpoint| sizes_hold(endpoint))
+    first_wrong_sizes(endpoints).is_none()
 }
 
 /// The first fault of what the file says, but of its patterns.

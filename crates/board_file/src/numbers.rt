@@ -1,6 +1,7 @@
 //! The ranges of integers, and how many things a file may have.
 ghost use Rattle.std.specs.Prelude.{◌≡◌, ◌==◌, ◌+◌, ◌&&◌, nat_le, length};
 ghost use Rattle.std.specs.List.{list_all};
+ghost use Rattle.board_file.specs.Breaches.{first_breach};
 ghost use Rattle.board_file.specs.Rules.{is_between, has_only_bits, is_identity, is_described, has_lawful_needs, has_lawful_values, is_config_block, has_lawful_blocks, has_lawful_numbers, is_lawful_bridge, numbers_hold, has_few_slashes, have_few_slashes, counts_hold};
 
 use crate::entries::{BarEntry, BridgeEntry, ConfigEntry, EndpointEntry, FileEntries, GuestEntry};
@@ -57,16 +58,30 @@ fn is_config_block(config: &ConfigEntry<'_>) -> bool
         && config.off + config.block <= 256
 }
 
+/// The first region whose block has no lawful length.
+fn first_lawless_bar_block(bars: &[BarEntry<'_>]) -> Option<usize>
+    ensures { result ≡ first_breach (λ b. is_between 0 4096 b.block) bars.now }
+{
+    bars.iter().position(|bar| !is_between(0, 4096, bar.block))
+}
+
 fn have_lawful_blocks(bars: &[BarEntry<'_>]) -> bool
     ensures { result ≡ list_all (λ b. is_between 0 4096 b.block) bars.now }
 {
-    bars.iter().all(|bar| is_between(0, 4096, bar.block))
+    first_lawless_bar_block(bars).is_none()
+}
+
+/// The first block of own registers that lies elsewhere.
+fn first_lawless_config_block(configs: &[ConfigEntry<'_>]) -> Option<usize>
+    ensures { result ≡ first_breach is_config_block configs.now }
+{
+    configs.iter().position(|config| !is_config_block(config))
 }
 
 fn are_config_blocks(configs: &[ConfigEntry<'_>]) -> bool
     ensures { result ≡ list_all is_config_block configs.now }
 {
-    configs.iter().all(|config| is_config_block(config))
+    first_lawless_config_block(configs).is_none()
 }
 
 fn has_lawful_blocks(endpoint: &EndpointEntry<'_>) -> bool
@@ -83,12 +98,19 @@ fn has_lawful_numbers(endpoint: &EndpointEntry<'_>) -> bool
         && has_lawful_blocks(endpoint)
 }
 
-fn endpoint_numbers_hold(endpoints: &[EndpointEntry<'_>]) -> bool
-    ensures { result ≡ list_all has_lawful_numbers endpoints.now }
+/// The first endpoint with an integer outside the range of its key.
+fn first_lawless_endpoint(endpoints: &[EndpointEntry<'_>]) -> Option<usize>
+    ensures { result ≡ first_breach has_lawful_numbers endpoints.now }
 {
     endpoints
         .iter()
-        .all(|endpoint| has_lawful_numbers(endpoint))
+        .position(|endpoint| !has_lawful_numbers(endpoint))
+}
+
+fn endpoint_numbers_hold(endpoints: &[EndpointEntry<'_>]) -> bool
+    ensures { result ≡ list_all has_lawful_numbers endpoints.now }
+{
+    first_lawless_endpoint(endpoints).is_none()
 }
 
 fn is_lawful_bridge(bridge: &BridgeEntry<'_>) -> bool
@@ -97,10 +119,17 @@ fn is_lawful_bridge(bridge: &BridgeEntry<'_>) -> bool
     is_identity(bridge.vendor, bridge.device, bridge.revision)
 }
 
+/// The first bridge with an integer outside the range of its key.
+fn first_lawless_bridge(bridges: &[BridgeEntry<'_>]) -> Option<usize>
+    ensures { result ≡ first_breach is_lawful_bridge bridges.now }
+{
+    bridges.iter().position(|bridge| !is_lawful_bridge(bridge))
+}
+
 fn bridge_numbers_hold(bridges: &[BridgeEntry<'_>]) -> bool
     ensures { result ≡ list_all is_lawful_bridge bridges.now }
 {
-    bridges.iter().all(|bridge| is_lawful_bridge(bridge))
+    first_lawless_bridge(bridges).is_none()
 }
 
 /// Each integer lies in the range of its key.
@@ -117,18 +146,34 @@ fn has_few_slashes(at: &PathText<'_>) -> bool
     text.iter().filter(|byte| **byte == b'/').count() <= 15
 }
 
-fn endpoints_have_few_slashes(endpoints: &[EndpointEntry<'_>]) -> bool
-    ensures { result ≡ list_all (λ e. has_few_slashes e.at) endpoints.now }
+/// The first endpoint with more than 15 slashes in its path.
+fn first_long_endpoint(endpoints: &[EndpointEntry<'_>]) -> Option<usize>
+    ensures { result ≡ first_breach (λ e. has_few_slashes e.at) endpoints.now }
 {
     endpoints
         .iter()
-        .all(|endpoint| has_few_slashes(&endpoint.at))
+        .position(|endpoint| !has_few_slashes(&endpoint.at))
+}
+
+fn endpoints_have_few_slashes(endpoints: &[EndpointEntry<'_>]) -> bool
+    ensures { result ≡ list_all (λ e. has_few_slashes e.at) endpoints.now }
+{
+    first_long_endpoint(endpoints).is_none()
+}
+
+/// The first bridge with more than 15 slashes in its path.
+fn first_long_bridge(bridges: &[BridgeEntry<'_>]) -> Option<usize>
+    ensures { result ≡ first_breach (λ b. has_few_slashes b.at) bridges.now }
+{
+    bridges
+        .iter()
+        .position(|bridge| !has_few_slashes(&bridge.at))
 }
 
 fn bridges_have_few_slashes(bridges: &[BridgeEntry<'_>]) -> bool
     ensures { result ≡ list_all (λ b. has_few_slashes b.at) bridges.now }
 {
-    bridges.iter().all(|bridge| has_few_slashes(&bridge.at))
+    first_long_bridge(bridges).is_none()
 }
 
 fn have_few_slashes(file: &FileEntries<'_>) -> bool
@@ -143,10 +188,17 @@ fn has_few_slots(guest: &GuestEntry<'_>) -> bool
     guest.slots.len() <= 32
 }
 
+/// The first guest with more than 32 slots.
+fn first_crowded_guest(guests: &[GuestEntry<'_>]) -> Option<usize>
+    ensures { result ≡ first_breach (λ g. nat_le (length g.slots) 32) guests.now }
+{
+    guests.iter().position(|guest| !has_few_slots(guest))
+}
+
 fn have_few_slots(guests: &[GuestEntry<'_>]) -> bool
     ensures { result ≡ list_all (λ g. nat_le (length g.slots) 32) guests.now }
 {
-    guests.iter().all(|guest| has_few_slots(guest))
+    first_crowded_guest(guests).is_none()
 }
 
 fn has_few_tables(file: &FileEntries<'_>) -> bool

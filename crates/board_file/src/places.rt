@@ -4,6 +4,7 @@ ghost use Rattle.std.specs.List.{list_all, flat_map};
 ghost use Rattle.model_registers.specs.Lists.{Each, all_pairs};
 ghost use Rattle.model_board.specs.Paths.{path_eq, IsPath};
 ghost use Rattle.model_board.specs.Places.{has_path, has_bridge};
+ghost use Rattle.board_file.specs.Breaches.{first_breach};
 ghost use Rattle.board_file.specs.PathTexts.{is_path_text, path_at};
 ghost use Rattle.board_file.specs.Functions.{endpoint_standing, bridge_standing, standings};
 ghost use Rattle.board_file.specs.Rules.{have_paths, are_places, places_hold, is_endpoint, names_endpoint, slots_hold};
@@ -86,16 +87,30 @@ pub(crate) fn function_paths(
     Ok(paths)
 }
 
+/// The first endpoint whose `at` is no path.
+fn first_pathless_endpoint(endpoints: &[EndpointEntry<'_>]) -> Option<usize>
+    ensures { result ≡ first_breach (λ e. is_path_text e.at) endpoints.now }
+{
+    endpoints.iter().position(|endpoint| !endpoint.at.is_path())
+}
+
 fn endpoints_have_paths(endpoints: &[EndpointEntry<'_>]) -> bool
     ensures { result ≡ list_all (λ e. is_path_text e.at) endpoints.now }
 {
-    endpoints.iter().all(|endpoint| endpoint.at.is_path())
+    first_pathless_endpoint(endpoints).is_none()
+}
+
+/// The first bridge whose `at` is no path.
+fn first_pathless_bridge(bridges: &[BridgeEntry<'_>]) -> Option<usize>
+    ensures { result ≡ first_breach (λ b. is_path_text b.at) bridges.now }
+{
+    bridges.iter().position(|bridge| !bridge.at.is_path())
 }
 
 fn bridges_have_paths(bridges: &[BridgeEntry<'_>]) -> bool
     ensures { result ≡ list_all (λ b. is_path_text b.at) bridges.now }
 {
-    bridges.iter().all(|bridge| bridge.at.is_path())
+    first_pathless_bridge(bridges).is_none()
 }
 
 fn have_paths(file: &FileEntries<'_>) -> bool

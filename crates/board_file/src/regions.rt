@@ -2,6 +2,7 @@
 ghost use Rattle.std.specs.Prelude.{◌≡◌, ◌&&◌, int_le};
 ghost use Rattle.std.specs.List.{list_all};
 ghost use Rattle.bars.specs.Kinds.{kind_of};
+ghost use Rattle.board_file.specs.Breaches.{first_breach};
 ghost use Rattle.board_file.specs.Functions.{region};
 ghost use Rattle.board_file.specs.Rules.{is_between, registers_hold, is_size, sizes_hold};
 
@@ -15,10 +16,17 @@ fn is_index(bar: &BarEntry<'_>) -> bool
     0 <= bar.index && bar.index <= 5
 }
 
+/// The first region whose index is none of the six.
+fn first_wrong_index(bars: &[BarEntry<'_>]) -> Option<usize>
+    ensures { result ≡ first_breach (λ b. is_between 0 5 b.index) bars.now }
+{
+    bars.iter().position(|bar| !is_index(bar))
+}
+
 fn are_indices(bars: &[BarEntry<'_>]) -> bool
     ensures { result ≡ list_all (λ b. is_between 0 5 b.index) bars.now }
 {
-    bars.iter().all(|bar| is_index(bar))
+    first_wrong_index(bars).is_none()
 }
 
 impl<'a> TakesRegisters for BarEntry<'a> {
@@ -52,10 +60,17 @@ fn has_size(bar: &BarEntry<'_>) -> bool
     is_size(bar.kind, bar.size) && bar.block <= bar.size
 }
 
+/// The first region of a size that its kind doesn't allow, or with a longer block.
+fn first_wrong_size(bars: &[BarEntry<'_>]) -> Option<usize>
+    ensures { result ≡ first_breach (λ b. is_size b.kind b.size && int_le b.block b.size) bars.now }
+{
+    bars.iter().position(|bar| !has_size(bar))
+}
+
 fn have_sizes(bars: &[BarEntry<'_>]) -> bool
     ensures { result ≡ list_all (λ b. is_size b.kind b.size && int_le b.block b.size) bars.now }
 {
-    bars.iter().all(|bar| has_size(bar))
+    first_wrong_size(bars).is_none()
 }
 
 /// Each size is a power of two within the limits of its kind, and no block is longer.
