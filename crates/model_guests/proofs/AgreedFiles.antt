@@ -10,10 +10,12 @@ use Rattle.model_registers.specs.Cell.{Cell, no_cell, written, raised}
 use Rattle.model_registers.specs.Registers.{Place, config, block, place_eq, after, Entry, File, cell_at, changed, write, raise}
 use Rattle.model_registers.proofs.RegisterFiles.{change_at_place}
 use Rattle.model_registers.proofs.Tests.{left_true, right_true}
-use Rattle.model_guests.specs.OwnCopies.{is_own, handed_on}
-use Rattle.model_guests.specs.Agreement.{agreed_file}
+use Rattle.model_registers.specs.OwnCopies.{is_own, handed_on}
+use Rattle.model_registers.specs.CopiedFiles.{agreed_file}
 use Rattle.model_guests.proofs.DistinctPlaces.{HasDistinctPlaces}
-use Rattle.model_guests.specs.AgreementLaws.{places_of, HoldsFile, WritesAlike, RaisesAlike}
+use Rattle.model_registers.specs.CopiedFiles.{places_of}
+use Rattle.model_guests.specs.AgreedLaws.{HoldsFile}
+use Rattle.model_guests.specs.ChangeLaws.{WritesAlike, RaisesAlike}
 
 -- ---- places
 

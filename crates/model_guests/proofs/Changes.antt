@@ -17,7 +17,7 @@ use Rattle.model_guests.specs.Guests.{GuestNow, GuestsNow, file_in, file_of, fun
 use Rattle.model_registers.specs.CopiedFiles.{agreed_file}
 use Rattle.model_guests.specs.AgreedBoard.{agreed_function, agreed_state, with_change_at}
 use Rattle.model_guests.specs.Seated.{AreSeated, IsSeat, IsSeatedGuest}
-use Rattle.model_guests.specs.ChangeLaws.{ChangesAlike, ChangesOneFunction, LatchKeepsBoard, OneFile, ResetsAlike, with_latch, with_slot_changed}
+use Rattle.model_guests.specs.ChangeLaws.{ChangesAlike, ChangesOneFunction, LatchKeepsBoard, OneFile, ResetsAlike, with_slot_changed}
 use Rattle.model_guests.proofs.AgreedChanges.{changed_function, agreed_by, changed_here, unchanged}
 use Rattle.model_guests.proofs.GuestFiles.{path_turned, slot_set, with_file_there}
 use Rattle.model_guests.proofs.Names.{same_text}

@@ -10,7 +10,7 @@ use Rattle.model_registers.specs.Declarations.{Kind, io_kind, mem32, mem64, regi
 use Rattle.model_registers.specs.DeclarationRules.{blocks_apart, IsConfigBlock, IsLawfulEndpoint}
 use Rattle.model_registers.specs.EndpointTable.{base_register, base_cells, region_cells, block_cells, header_cells, config_cells, endpoint_file}
 use Rattle.model_registers.proofs.EachLemmas.{each_map, pairs_map}
-use Rattle.model_guests.specs.AgreementLaws.{places_of}
+use Rattle.model_registers.specs.CopiedFiles.{places_of}
 use Rattle.model_guests.proofs.ListFacts.{each_append}
 
 -- ---- what a lawful declaration says of places

@@ -1,7 +1,6 @@
 pub mod ListFacts
 pub mod Names
 pub mod OutputLines
-pub mod SlotsIsolation
 pub mod AgreedFiles
 pub mod GuestFiles
 pub mod SlotPlaces

@@ -1,18 +1,17 @@
 -- In a script without moves a guest's inputs are its own lines.
-use Rattle.std.proofs.Common.{◌≡◌, Bool, true, false, cond, List, [], ◌∷◌, ◌++◌, Option, refl, sym, ap, ◌∙◌, subst}
-use Rattle.std.specs.Prelude.{map, filter, IsFalse}
+use Rattle.std.proofs.Common.{◌≡◌, Bool, true, false, List, [], ◌∷◌, ◌++◌, Option, refl, sym, ap, ◌∙◌, subst}
+use Rattle.std.specs.Prelude.{map, IsFalse}
 use Rattle.model_registers.specs.Lists.{Each}
 use Rattle.model_registers.specs.Declarations.{Endpoint}
 use Rattle.model_guests.specs.Text.{Text, lines}
 use Rattle.model_guests.specs.Grammar.{is_own_line, own_lines}
-use Rattle.model_guests.specs.World.{World, names, declarations}
-use Rattle.model_guests.specs.Replies.{reply_lines}
+use Rattle.model_guests.specs.World.{names, declarations}
 use Rattle.model_guests.specs.Lone.{reset_guest}
-use Rattle.model_guests.specs.Guests.{GuestsNow, lone_of}
+use Rattle.model_guests.specs.Guests.{GuestsNow}
 use Rattle.model_guests.specs.Lines.{Meaning, nothing, guest_event, host_read, host_move, bad, meaning}
-use Rattle.model_guests.specs.WorldNow.{WorldNow, world_at_first, names_now, after_line, after_lines, output}
-use Rattle.model_guests.specs.Inputs.{Input, own_line, inputs_of_meaning, inputs, lone_output, after_inputs}
-use Rattle.model_guests.specs.Isolation.{is_move, HasNoMove, OwnLinesAlone, IsDecidedBy, IsolatedByOwnLines, TwoWorldsByOwnLines}
+use Rattle.model_guests.specs.WorldNow.{WorldNow, world_at_first, names_now, after_line}
+use Rattle.model_guests.specs.Inputs.{Input, own_line, inputs_of_meaning, inputs, lone_output}
+use Rattle.model_guests.specs.Isolation.{is_move, OwnLinesAlone, IsDecidedBy, IsolatedByOwnLines, TwoWorldsByOwnLines}
 use Rattle.model_guests.proofs.Along.{names_stay, names_at_first}
 use Rattle.model_guests.proofs.Isolation.{isolated}
 

@@ -1,16 +1,16 @@
 -- A hit in a seated function stands for a byte of the board's region.
-use Rattle.std.proofs.Common.{◌≡◌, ℕ, ◌+◌, ◌%◌, ◌≤◌, Bool, true, false, ◌&&◌, cond, List, [], ◌∷◌, Some, None, Option, inl, inr, refl, sym, ap, ◌∙◌, subst, arith, eqb}
+use Rattle.std.proofs.Common.{◌≡◌, ℕ, ◌+◌, ◌%◌, ◌≤◌, Bool, true, false, ◌&&◌, cond, List, [], ◌∷◌, Some, None, inl, inr, refl, sym, ap, ◌∙◌, arith, eqb}
 use Rattle.std.specs.Prelude.{find, nat_le}
 use Rattle.std.specs.Option.{option_map_or}
 use Rattle.std.proofs.lemmas.Bool.Decides.{nat_tests}
 use Rattle.model_registers.specs.Lists.{IsIn}
-use Rattle.model_registers.specs.Declarations.{Endpoint, Region}
-use Rattle.model_registers.specs.Decoding.{Space, io, space_of, Hit}
+use Rattle.model_registers.specs.Declarations.{Endpoint}
+use Rattle.model_registers.specs.Decoding.{Space}
 use Rattle.model_registers.proofs.HitRegions.{hit_is_of_region}
 use Rattle.model_board.specs.Paths.{Path, path_eq}
 use Rattle.model_board.specs.Board.{Decl, endpoint, bridge, Row, Board}
 use Rattle.model_board.specs.State.{BoardFunction}
-use Rattle.model_board.specs.Claims.{Claim, first_claim}
+use Rattle.model_board.specs.Claims.{first_claim}
 use Rattle.model_registers.specs.ConfigAddress.{is_enabled, is_data_port, selected_offset}
 use Rattle.model_board.specs.Ports.{config_address, config_data, ordinary, port_target, selected}
 use Rattle.model_board.specs.SetUp.{first_of}
@@ -19,7 +19,7 @@ use Rattle.model_board.proofs.PlacedWithinLaw.{placed_within}
 use Rattle.model_board.proofs.UniqueClaimant.{claim_of_region}
 use Rattle.model_guests.specs.World.{declared, endpoint_of}
 use Rattle.model_guests.specs.AgreedBoard.{agreed_state}
-use Rattle.model_guests.specs.RegionLaws.{ReachesRegion, HitReachesRegion}
+use Rattle.model_guests.specs.RegionLaws.{HitReachesRegion}
 use Rattle.model_guests.proofs.AgreedBoards.{keeps_routing}
 
 abbrev endpoint_row : Path → Endpoint → Row

@@ -3,7 +3,7 @@ use Rattle.std.proofs.Common.{[], ◌∷◌, ◌++◌, Some, refl}
 use Rattle.std.specs.Prelude.{List, codes}
 use Rattle.model_guests.specs.Text.{Text, text_of_lines}
 use Rattle.model_guests.specs.Examples.{main_world}
-use Rattle.model_guests.specs.WorldNow.{WorldNow, world_at_first, output, after_lines}
+use Rattle.model_guests.specs.WorldNow.{WorldNow, world_at_first, after_lines}
 use Rattle.model_guests.specs.Runs.{IsCut, IsStopped}
 
 abbrev at_first : WorldNow

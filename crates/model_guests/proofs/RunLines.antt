@@ -1,16 +1,12 @@
 -- What a run writes along lines and pieces, and where it ends early.
-use Rattle.std.proofs.Common.{◌≡◌, ℕ, zero, suc, Bool, true, false, not, ◌||◌, cond, List, [], ◌∷◌, ◌++◌, length, take, Some, None, Option, refl, sym, ap, ap₂, ◌∙◌, subst, append_assoc, eqb, arith}
-use Rattle.std.specs.Prelude.{IsTrue, IsFalse}
+use Rattle.std.proofs.Common.{◌≡◌, ℕ, Bool, true, false, not, ◌||◌, List, [], ◌∷◌, ◌++◌, length, take, refl, sym, ap, ap₂, ◌∙◌, subst, append_assoc, eqb}
 use Rattle.std.specs.List.{list_any}
 use Rattle.std.specs.Io.{StartsWith}
-use Rattle.std.specs.Io.KnownBytes.{Appends, Consumes}
-use Rattle.std.proofs.lemmas.List.{take-append-le}
-use Rattle.model_registers.specs.Lists.{Each}
 use Rattle.model_guests.specs.Text.{Text, ends_line, lines, text_of_lines}
-use Rattle.model_guests.specs.Grammar.{is_long, nobody}
+use Rattle.model_guests.specs.Grammar.{nobody}
 use Rattle.model_guests.specs.Lines.{meaning, bad}
 use Rattle.model_guests.specs.WorldNow.{WorldNow, names_now, line_output, after_line, output, after_lines, written_by, after_meaning}
-use Rattle.model_guests.specs.Runs.{HasNoEnd, IsCut, first_output, IsStopped, WritesBeginning, StoppedIsBeginning, CutIsBeginning, OutputAlong, AfterAlong, LinesOfPieces, LongLinesAlike}
+use Rattle.model_guests.specs.Runs.{first_output, StoppedIsBeginning, CutIsBeginning, OutputAlong, AfterAlong, LinesOfPieces, LongLinesAlike}
 use Rattle.model_guests.proofs.Names.{lacks, both}
 use Rattle.model_guests.proofs.OutputLines.{first_line, one_more}
 

@@ -7,10 +7,10 @@ use Rattle.model_registers.specs.Cell.{Cell}
 use Rattle.model_registers.specs.Registers.{Place, config, place_eq, Entry, File, cell_at, field}
 use Rattle.model_registers.specs.Declarations.{Kind, io_kind, mem32, mem64, registers_of, Region, Endpoint, IsLawfulRegion}
 use Rattle.model_registers.specs.EndpointTable.{base_cells, region_cells, block_cells, header_cells, config_cells, endpoint_file, endpoint_reset}
-use Rattle.model_guests.specs.OwnCopies.{is_own}
-use Rattle.model_guests.specs.Agreement.{agreed_file}
+use Rattle.model_registers.specs.OwnCopies.{is_own}
+use Rattle.model_registers.specs.CopiedFiles.{agreed_file}
 use Rattle.model_guests.proofs.DistinctPlaces.{HasDistinctPlaces}
-use Rattle.model_guests.specs.AgreementLaws.{places_of}
+use Rattle.model_registers.specs.CopiedFiles.{places_of}
 use Rattle.model_guests.proofs.AgreedFiles.{place_self}
 
 -- entry by entry: the same place, and the same cell unless the guest has a copy of it

@@ -11,7 +11,7 @@ use Rattle.model_guests.specs.Grammar.{HostRead, event_of, guest, has_name, host
 use Rattle.model_guests.specs.World.{is_name}
 use Rattle.model_guests.specs.Guests.{Move, lone_of}
 use Rattle.model_guests.specs.Lines.{Meaning, bad, event_or_bad, guest_event, host_move, host_read, meaning, meaning_of_words, move_of, nothing, read_or_move}
-use Rattle.model_guests.specs.Replies.{line_text, who_text}
+use Rattle.model_guests.specs.Replies.{who_text}
 use Rattle.model_guests.specs.WorldNow.{WorldNow, names_now, host_reply, move_reply, written_by, after_line, output}
 use Rattle.model_guests.proofs.Along.{names_stay}
 use Rattle.model_guests.proofs.Names.{lacks, named_facts}

@@ -4,7 +4,7 @@
 --     OneFile, ChangesOneFunction, LatchKeepsBoard      a guest's change of a function changes the board there alone
 --     MoveResetsOneFunction      a move resets the function, but for what its guests have copies of
 --     lands, EventReachesBoard      where an event changes a function, and what it does there to the board
-use Rattle.std.specs.Prelude.{List, ◌≡◌, ℕ, Bool, false, if◌then◌else◌, Option, Some, None, option_map, is_some, IsTrue}
+use Rattle.std.specs.Prelude.{List, ◌≡◌, ℕ, Bool, false, if◌then◌else◌, Option, Some, None, option_map, is_some}
 use Rattle.std.specs.Prelude.{IsFalse, IsSome}
 use Rattle.std.specs.Option.{option_map_or}
 use Rattle.model_registers.specs.Registers.{Place, File, write, raise, all_bytes}

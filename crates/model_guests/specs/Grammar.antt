@@ -1,7 +1,8 @@
--- What the lines of a script mean.
+-- The words of a script's lines: what a guest asks, and what the host reads.
 --     event_of      the words of a guest's line after its name
 --     HostRead, host_read_of      a read by the host; the words of its line after `host`
---     Who, Meaning, meaning names line      an event of a guest, a host read, a refusal under a name, or nothing
+--     Who      under whose name a line is answered
+--     is_comment, is_long      the line makes no output; it is refused whatever stands in it
 --     own_lines      the lines that begin with a guest's name
 use Rattle.std.specs.Prelude.{List, [], ◌∷◌, ℕ, Bool, false, ◌&&◌, ◌==◌, if◌then◌else◌, length, ◌^◌, not, nat_lt}
 use Rattle.std.specs.Prelude.{Option, Some, None, filter, codes, option_and_then}
@@ -104,20 +105,6 @@ pub data Who : Type 0 where
   host : Who
   nobody : Who
 
-pub data Meaning : Type 0 where
-  nothing : Meaning
-  guest_event : Text → Event → Meaning
-  host_read : HostRead → Meaning
-  bad : Who → ℕ → Meaning
-
-abbrev pub event_or_bad : Text → Option Event → Meaning
-event_or_bad name None = bad (guest name) 401
-event_or_bad name (Some e) = guest_event name e
-
-abbrev pub read_or_bad : Option HostRead → Meaning
-read_or_bad None = bad host 401
-read_or_bad (Some r) = host_read r
-
 abbrev pub has_name : List Text → Text → Bool
 has_name names w = list_any (λ n. bytes_eq n w) names
 
@@ -126,21 +113,9 @@ abbrev pub is_comment : Text → Bool
 is_comment [] = false
 is_comment (c ∷ cs) = c == 35
 
--- by the first word: a comment, `host`, a guest's name, or nobody's
-abbrev pub meaning_of_words : List Text → List Text → Meaning
-meaning_of_words names [] = nothing
-meaning_of_words names (w ∷ ws) =
-    if is_comment w then nothing
-    else (if bytes_eq w (codes "host") then read_or_bad (host_read_of ws)
-    else (if has_name names w then event_or_bad w (event_of ws) else bad nobody 402))
-
 -- more than 200 bytes, the line feed not counted
 abbrev pub is_long : Text → Bool
 is_long line = nat_lt 200 (length line)
-
--- a long line is bad whatever stands in it
-abbrev pub meaning : List Text → Text → Meaning
-meaning names line = if is_long line then bad nobody 403 else meaning_of_words names (words line)
 
 abbrev pub has_first_word : Text → List Text → Bool
 has_first_word name [] = false

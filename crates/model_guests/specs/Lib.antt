@@ -22,9 +22,3 @@ pub mod RegionLaws
 pub mod Runs
 pub mod Report
 pub mod Examples
-pub mod LoneGuest
-pub mod OwnCopies
-pub mod Agreement
-pub mod AgreementLaws
-pub mod Output
-pub mod Worlds

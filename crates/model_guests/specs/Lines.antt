@@ -1,4 +1,4 @@
--- What the lines of a script mean, where functions can be moved.
+-- What the lines of a script mean.
 --     move_of names ws      the words of a host's line: a move between guests that are there
 --     Meaning, meaning names line      an event of a guest, a read or a move by the host, a refusal, or nothing
 use Rattle.std.specs.Prelude.{List, [], ◌∷◌, ℕ, ◌&&◌, if◌then◌else◌, Option, Some, None, codes}

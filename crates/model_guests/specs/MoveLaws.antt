@@ -3,7 +3,7 @@
 --     MoveBetween      from one guest to another: a slot of the first is emptied, and one of the second filled
 --     InputsWithin      a guest that hands a function to itself loses it, then gets it
 --     MovedFunction      afterwards the target slot has the function of the path, at reset, and the source none
-use Rattle.std.specs.Prelude.{List, [], ◌∷◌, ◌≡◌, ℕ, false, Option, Some, None, IsFalse, IsSome, slice_get, slice_set}
+use Rattle.std.specs.Prelude.{[], ◌∷◌, ◌≡◌, ℕ, false, Some, None, IsFalse, IsSome, slice_get, slice_set}
 use Rattle.std.specs.Str.{bytes_eq}
 use Rattle.model_registers.specs.Lists.{EachPair}
 use Rattle.model_registers.specs.Decoding.{Function}

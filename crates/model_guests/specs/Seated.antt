@@ -4,7 +4,7 @@
 --     SeatedAtFirst, SeatedAfterEvents, SeatedAfterMoves, SeatedAlong      so it is at first, and so it stays
 --     NamesStay, NamesAlong      no guest's name changes
 --     ByIndex      a guest by its index
-use Rattle.std.specs.Prelude.{List, [], ◌∷◌, ◌≡◌, ℕ, false, Option, Some, None, ⊤, IsFalse, map, length, slice_get}
+use Rattle.std.specs.Prelude.{List, [], ◌∷◌, ◌≡◌, ℕ, false, Option, Some, None, ⊤, IsFalse, length, slice_get}
 use Rattle.std.specs.Prelude.{slice_set}
 use Rattle.std.specs.Str.{bytes_eq}
 use Rattle.model_registers.specs.Lists.{Each, EachPair}

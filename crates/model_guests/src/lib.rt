@@ -10,8 +10,6 @@ ghost use Rattle.model_guests.specs.MoveLaws.{InputsWithin, MoveBetween, MoveWit
 ghost use Rattle.model_guests.specs.RegionLaws.{HitReachesRegion};
 ghost use Rattle.model_guests.specs.Runs.{AfterAlong, CutIsBeginning, LinesOfPieces, LongLinesAlike, OutputAlong, StoppedIsBeginning};
 
-pub mod lone_slots;
-
 /// To each guest a script's replies, and what it then holds, are those of its own functions and
 /// latch alone, to its own lines and the moves that touch it.
 pub fn isolated()
