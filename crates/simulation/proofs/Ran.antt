@@ -11,8 +11,8 @@ use Rattle.host_bridge.specs.HostState.{HostState}
 use Rattle.window_packing.specs.Readies.{ReadyBoard, board_below}
 use Rattle.board_file.specs.Meaning.{world_in}
 use Rattle.monitor.specs.Beginnings.{world_of}
-use Rattle.script_runs.specs.declared.running.RunFault.{RunFault}
-use Rattle.script_runs.specs.declared.running.RunFault.TheVariants as run
+use Rattle.script.specs.declared.running.RunFault.{RunFault}
+use Rattle.script.specs.declared.running.RunFault.TheVariants as run
 use Rattle.simulation.specs.declared.fault.Fault.{Fault}
 use Rattle.simulation.specs.declared.fault.Fault.TheVariants.{Read, Write}
 use Rattle.simulation.specs.Faults.{number_of, of_run}

@@ -14,7 +14,7 @@ use Rattle.model_guests.specs.World.{World, names}
 use Rattle.model_guests.specs.WorldNow.{WorldNow, world_at_first, output}
 use Rattle.model_guests.specs.Isolation.{IsIsolated}
 use Rattle.model_guests.specs.Runs.{IsCut}
-use Rattle.script_runs.specs.Pieces.{IsStoppedIn}
+use Rattle.script.specs.Pieces.{IsStoppedIn}
 use Rattle.simulation.specs.Listing.{Declares}
 
 pub record IsSetUp (board : Text) (w : World) : Type 0 where

@@ -4,7 +4,7 @@ ghost use Rattle.simulation.specs.Faults.{number_of, words_of, of_file, of_set_u
 
 use board_file::BoardFault;
 use report::ReportFault;
-use script_runs::RunFault;
+use script::RunFault;
 use thiserror::Error;
 
 /// Why the program fails.

@@ -11,7 +11,7 @@ ghost use Rattle.simulation.specs.Running.{IsRun, IsRunCut, IsRunStopped};
 use crate::fault::Fault;
 use board_file::read_board;
 use monitor::Monitor;
-use script_runs::run;
+use script::run;
 use std::alloc::Global;
 use streams::{Reader, Writer};
 use window_packing::set_up;

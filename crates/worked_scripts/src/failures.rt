@@ -1,7 +1,7 @@
 //! Each read, write and flush of a run fails in turn.
 use crate::runs::ran;
 use fake_streams::FakeWriter;
-use script_runs::RunFault;
+use script::RunFault;
 use std::process::Abort;
 use std::test::Fail;
 

@@ -3,7 +3,7 @@ ghost use Rattle.std.specs.Prelude.{◌<◌, ◌-◌, ◌^◌};
 
 use crate::boards::{lone_guests, monitor};
 use fake_streams::{FakeReader, FakeWriter};
-use script_runs::{RunFault, run};
+use script::{RunFault, run};
 use std::alloc::Global;
 use std::process::Abort;
 use std::test::Fail;

@@ -25,7 +25,7 @@ pub returns-clause-placement : goal.returns-clause-placement
 returns-clause-placement g c =
     let text : c.as_bytes.result.now ≡ demo_board = search rules in
     subst (λ (b : Text). IfErr c.whole.result (λ f. 199 < number_of f → number_of f < 299 →
-        (w : World) × Declares b w × (first_broken (set_up_rules w.board w.apertures) ≡ Some (number_of f)))) text c.whole.ensures.placement
+    (w : World) × Declares b w × (first_broken (set_up_rules w.board w.apertures) ≡ Some (number_of f)))) text c.whole.ensures.placement
 
 pub returns-clause-cut : goal.returns-clause-cut
 returns-clause-cut g c is =

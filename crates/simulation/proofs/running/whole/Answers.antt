@@ -5,7 +5,7 @@ use Rattle.model_guests.specs.WorldNow.{WorldNow, world_at_first, output}
 use Rattle.model_guests.specs.Runs.{IsCut}
 use Rattle.model_guests.proofs.Isolation.{isolated}
 use Rattle.board_file.specs.Meaning.{world_in}
-use Rattle.script_runs.specs.Pieces.{IsStoppedIn}
+use Rattle.script.specs.Pieces.{IsStoppedIn}
 use Rattle.simulation.specs.Faults.{number_of}
 use Rattle.simulation.specs.Listing.{Refuses}
 use Rattle.simulation.specs.declared.fault.Fault.{Fault}

@@ -1,0 +1,11 @@
+//! Runs of scripts over the monitor, piece by piece.
+#![tactic(auto)]
+
+mod answers;
+mod held;
+mod pieces;
+mod running;
+
+pub use lines::{Line, What, Who, parse_line};
+pub use monitor::Monitor;
+pub use running::{RunFault, run};
