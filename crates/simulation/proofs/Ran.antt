@@ -15,7 +15,8 @@ use Rattle.script.specs.declared.running.RunFault.{RunFault}
 use Rattle.script.specs.declared.running.RunFault.TheVariants as run
 use Rattle.simulation.specs.declared.fault.Fault.{Fault}
 use Rattle.simulation.specs.declared.fault.Fault.TheVariants.{Read, Write}
-use Rattle.simulation.specs.Faults.{number_of, of_run}
+use Rattle.script.specs.Faults.{read_failures_of, write_failures_of}
+use Rattle.simulation.specs.Faults.{number_of, of_run, read_faults, write_faults}
 
 -- a fault of the run is none of the file or of the board
 pub of_run_large : (r : RunFault) (f : Fault) → f ≡ of_run r → 500 ≤ number_of f
@@ -46,3 +47,14 @@ began h r gs guests m below host given made =
     let board : world_of r guests ≡ record (world_in h guests) { guests = guests } =
     ap₂ (λ (b : Board) (a : Apertures). record { board = b; apertures = a; guests = guests }) below (ap (λ (k : HostState). k.apertures) host) in
     made ∙ ap world_at_first (board ∙ ap (λ (xs : List Guest). record (world_in h gs) { guests = xs }) given)
+
+-- such a fault is the reader's, or the writer's, as that of the run is
+pub same_reads : {T : Type 0} (r : Result T Fault) (e : RunFault) → IsErrAnd r (λ f. f ≡ of_run e) → read_failures_of {T = T} (Err e) ≡ read_faults r
+same_reads (Ok x) e h = absurd h
+same_reads {T} (Err f) run.Read h = sym (ap (λ (k : Fault). read_faults {T = T} (Err k)) h)
+same_reads {T} (Err f) run.Write h = sym (ap (λ (k : Fault). read_faults {T = T} (Err k)) h)
+
+pub same_writes : {T : Type 0} (r : Result T Fault) (e : RunFault) → IsErrAnd r (λ f. f ≡ of_run e) → write_failures_of {T = T} (Err e) ≡ write_faults r
+same_writes (Ok x) e h = absurd h
+same_writes {T} (Err f) run.Read h = sym (ap (λ (k : Fault). write_faults {T = T} (Err k)) h)
+same_writes {T} (Err f) run.Write h = sym (ap (λ (k : Fault). write_faults {T = T} (Err k)) h)

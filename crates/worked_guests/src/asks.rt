@@ -38,6 +38,7 @@ pub(crate) enum Ask {
 }
 
 /// What is asked: the monitor, which finds claims in a table, or the same over a walk of the board.
+#[derive(Drop)]
 enum Asked {
     Table(Monitor),
     Walk(Engine<TreeWalk>),

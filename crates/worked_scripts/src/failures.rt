@@ -81,10 +81,11 @@ fn calls_fail_in_turn(
     calls: &[(usize, usize)],
 ) -> Result<(), Fail> {
     assert!(rt; given > 0);
+    assert!(rt; calls.len() < 100);
     let output = OUTPUT.as_bytes();
     let script = SCRIPT.as_bytes();
-    for (failing, (written, flushed)) in calls.iter().enumerate() {
-        let mut writer = FakeWriter::<128>::new(taken, Some(failing as u32));
+    for (failing, (written, flushed)) in (0..100u32).zip(calls) {
+        let mut writer = FakeWriter::<128>::new(taken, Some(failing));
         let run = ran(rt.alloc(), script, given, None, &mut writer)?;
         assert_eq!(rt; run, Err(RunFault::Write), "call {failing}");
         assert_eq!(rt;

@@ -1,4 +1,4 @@
-use Rattle.std.proofs.Common.{◌≡◌, ◌<◌, ℕ, Err, ap, subst, arith}
+use Rattle.std.proofs.Common.{◌≡◌, ◌<◌, ◌+◌, ℕ, Err, ap, ◌∙◌, subst, arith}
 use Rattle.std.specs.Io.KnownBytes.{Appends}
 use Rattle.model_guests.specs.Text.{Text, lines}
 use Rattle.model_guests.specs.WorldNow.{WorldNow, world_at_first, output}
@@ -10,7 +10,7 @@ use Rattle.simulation.specs.Faults.{number_of}
 use Rattle.simulation.specs.Listing.{Refuses}
 use Rattle.simulation.specs.declared.fault.Fault.{Fault}
 use Rattle.simulation.proofs.Listed.{by_error, refused_by_file, of_file_small, of_set_up_large}
-use Rattle.simulation.proofs.Ran.{of_run_large, read_failed, write_failed, began}
+use Rattle.simulation.proofs.Ran.{of_run_large, read_failed, write_failed, same_reads, same_writes, began}
 use Rattle.simulation.proofs.running.whole.Goals as goal
 
 pub returns-in_err-host-clause-file : goal.returns-in_err-host-clause-file
@@ -32,6 +32,21 @@ pub returns-in_err-run-clause-file : goal.returns-in_err-run-clause-file
 returns-in_err-run-clause-file g c =
     by_error (λ (f : Fault). number_of f < 199 → Refuses c.args.board.now (number_of f)) c.from_residual-in_err-run.result c.from_residual-in_err-run.ensures.1
     (λ f same small. let large = of_run_large _ f same in absurd (omega arith))
+
+pub returns-in_err-run-clause-placement : goal.returns-in_err-run-clause-placement
+returns-in_err-run-clause-placement g c =
+    by_error _ c.from_residual-in_err-run.result c.from_residual-in_err-run.ensures.1
+    (λ f same large small. let more = of_run_large _ f same in absurd (omega arith))
+
+pub returns-in_err-run-clause-reads : goal.returns-in_err-run-clause-reads
+returns-in_err-run-clause-reads g c =
+    c.in_err-run.ensures.reads
+    ∙ ap (λ (n : ℕ). g.R.Reader.failures c.args.reader.now + n) (same_reads c.from_residual-in_err-run.result _ c.from_residual-in_err-run.ensures.1)
+
+pub returns-in_err-run-clause-writes : goal.returns-in_err-run-clause-writes
+returns-in_err-run-clause-writes g c =
+    c.in_err-run.ensures.writes
+    ∙ ap (λ (n : ℕ). g.W.Writer.failures c.args.writer.now + n) (same_writes c.from_residual-in_err-run.result _ c.from_residual-in_err-run.ensures.1)
 
 pub returns-in_err-run-clause-cut : goal.returns-in_err-run-clause-cut
 returns-in_err-run-clause-cut g c is =
