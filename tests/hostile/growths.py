@@ -64,7 +64,7 @@ def main(program):
     every = b"".join(content + b"\n" for _, content in long_scripts()[:-2])
     memory = [199, 299, 702, 799]
     for mode in ["onward", "once"]:
-        refuse_each(room, "demo", ["demo"], (DATA / "guest.script").read_bytes(), [299, 599, 799], mode)
+        refuse_each(room, "demo", ["demo"], (DATA / "guest.script").read_bytes(), [199, 299, 799], mode)
         refuse_each(room, "list, main board", ["list", MAIN], b"", memory, mode)
         refuse_each(room, "list, largest board", ["list", LARGEST], b"", memory, mode)
         refuse_each(room, "run, main board, empty script", ["run", MAIN], b"", memory, mode)

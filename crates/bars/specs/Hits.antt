@@ -8,7 +8,9 @@ use Rattle.model_registers.specs.Decoding.{Space, same_space, space_of, Hit}
 use Rattle.bars.specs.declared.region.Region.{Region}
 
 abbrev pub offset_in : Space → ℕ → Region → Option ℕ
-offset_in space a r = if same_space (space_of r.decl.kind) space && nat_le r.base a && nat_lt a (r.base + r.decl.size) then Some (a - r.base) else None
+offset_in space a r =
+    if same_space (space_of r.decl.kind) space && nat_le r.base a && nat_lt a (r.base + r.decl.size)
+    then Some (a - r.base) else None
 
 abbrev pub hit_in : ℕ → ℕ → Hit
 hit_in n off = record { index = n; offset = off }
@@ -17,7 +19,8 @@ hit_in n off = record { index = n; offset = off }
 abbrev pub hit_from : Space → ℕ → ℕ → List (Option Region) → Option Hit
 hit_from space a n [] = None
 hit_from space a n (None ∷ slots) = hit_from space a (n + 1) slots
-hit_from space a n (Some r ∷ slots) = first_of_two (option_map (hit_in n) (offset_in space a r)) (hit_from space a (n + 1) slots)
+hit_from space a n (Some r ∷ slots) =
+    first_of_two (option_map (hit_in n) (offset_in space a r)) (hit_from space a (n + 1) slots)
 
 abbrev pub named_hit : Option (ℕ × ℕ) → Option Hit
 named_hit h = option_map (λ (p : ℕ × ℕ). hit_in p.0 p.1) h

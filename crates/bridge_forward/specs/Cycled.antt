@@ -43,4 +43,5 @@ cycle_reply fs c = option_map (λ (f : BoardFunction). reply_to c.op c.offset c.
 -- what is not reached stays
 abbrev pub after_cycle : List BoardFunction → Cycle → List BoardFunction
 after_cycle fs c =
-    option_map_or (λ (f : BoardFunction). with_file (after_access c.op c.offset c.enables) f.path fs) (reached_by fs c) fs
+    option_map_or (λ (f : BoardFunction). with_file (after_access c.op c.offset c.enables) f.path fs)
+    (reached_by fs c) fs

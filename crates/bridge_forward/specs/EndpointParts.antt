@@ -83,8 +83,8 @@ pub record KnowReset (d : Endpoint) (cells : CellFile) (blocks : List CellFile) 
   pub block_places : (n : ℕ) → places_of (block_at blocks n) ≡ places_of (block_at_reset blocks n)
 
 -- `command` is what the cells of Command hold
-pub record IsEndpointFn (d : Endpoint) (cells : CellFile) (command : ℕ) (bars : List BaseAddress) (blocks : List CellFile)
-    : Type 0 where
+pub record IsEndpointFn (d : Endpoint) (cells : CellFile) (command : ℕ)
+    (bars : List BaseAddress) (blocks : List CellFile) : Type 0 where
   pub parts : AreParts d cells.now bars (block_at blocks)
   pub command_is : command ≡ number cells.now (config 0x04) 2
   pub reset : KnowReset d cells blocks

@@ -1,5 +1,5 @@
 -- Which bridge leads to a bus: PCI-to-PCI Bridge Architecture 1.2, chapter 3.1.2.
---     LeadsTo nodes n i      cycles for bus n reach what stands on the bus behind the bridge at index i, and nothing else
+--     LeadsTo nodes n i      cycles for bus n reach just what stands on the bus behind the bridge at index i
 --     LeadsNowhere nodes n      cycles for bus n reach nothing
 --     AreUnknown known      no bridge is known for any bus number
 --     AreRoutes nodes known      where a bridge is known for a bus number, it leads there
@@ -14,7 +14,8 @@ use Rattle.bridge_forward.specs.Skips.{IsTree}
 pub record LeadsTo (nodes : List Node) (n i : ℕ) : Type 0 where
   pub bridge : Node
   pub there : slice_get nodes i ≡ Some bridge
-  pub routes : (p : Path) (t : Part) → (ends_in p t && is_route (functions_of nodes) n [] p) ≡ path_eq p (bridge.path ++ t ∷ [])
+  pub routes : (p : Path) (t : Part)
+      → (ends_in p t && is_route (functions_of nodes) n [] p) ≡ path_eq p (bridge.path ++ t ∷ [])
 
 abbrev pub LeadsNowhere : List Node → ℕ → Type 0
 LeadsNowhere nodes n = (t : Part) → reached_type1 (functions_of nodes) n t ≡ None

@@ -24,8 +24,8 @@ endpoint_at fs p = option_map_or as_endpoint (find (λ f. path_eq f.path p) fs) 
 -- all others stay
 abbrev pub with_endpoint : Path → Function → List BoardFunction → List BoardFunction
 with_endpoint p e fs =
-    map (λ (f : BoardFunction). if path_eq f.path p then record { path = p; decl = endpoint e.decl; file = e.file } else f)
-    fs
+    map (λ (f : BoardFunction).
+    if path_eq f.path p then record { path = p; decl = endpoint e.decl; file = e.file } else f) fs
 
 abbrev pub with_endpoint_reset : Path → List BoardFunction → List BoardFunction
 with_endpoint_reset p fs = option_map_or (λ (e : Function). with_file (after_reset e.decl) p fs) (endpoint_at fs p) fs

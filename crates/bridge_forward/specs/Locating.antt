@@ -9,5 +9,5 @@ use Rattle.bridge_forward.specs.declared.bus.Located.{Located}
 abbrev pub located_claim : List BoardFunction → Option Located → Option Claim
 located_claim fs o =
     option_map_or (λ (l : Located).
-    option_map (λ (f : BoardFunction). claim_at f.path (record { index = l.region; offset = l.offset })) (slice_get fs l.index))
-    o None
+    option_map (λ (f : BoardFunction). claim_at f.path (record { index = l.region; offset = l.offset }))
+    (slice_get fs l.index)) o None

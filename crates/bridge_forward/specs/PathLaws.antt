@@ -55,7 +55,8 @@ pub paths_tied : (p q : Path) → path_eq p q ≡ is_eq (path_cmp p q)
 paths_tied [] [] = refl
 paths_tied [] (q ∷ qs) = refl
 paths_tied (p ∷ ps) [] = refl
-paths_tied (p ∷ ps) (q ∷ qs) = ap₂ ◌&&◌ (sym (part_equal p q)) (paths_tied ps qs) ∙ sym (then_equal (part_cmp p q) (path_cmp ps qs))
+paths_tied (p ∷ ps) (q ∷ qs) =
+    ap₂ ◌&&◌ (sym (part_equal p q)) (paths_tied ps qs) ∙ sym (then_equal (part_cmp p q) (path_cmp ps qs))
 
 -- Less says that a path comes before another
 pub paths_before : (p q : Path) → is_lt (path_cmp p q) ≡ path_before p q

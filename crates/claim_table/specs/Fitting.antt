@@ -19,16 +19,22 @@ abbrev pub paths : List BoardFunction → List Path
 paths fs = map (λ (f : BoardFunction). f.path) fs
 
 pub same_paths : (fs gs : List BoardFunction) → routing fs ≡ routing gs → paths fs ≡ paths gs
-same_paths fs gs h = sym (map_map (λ (r : RoutingRow). r.path) _ fs) ∙ ap (map (λ (r : RoutingRow). r.path)) h ∙ map_map (λ (r : RoutingRow). r.path) _ gs
+same_paths fs gs h =
+    sym (map_map (λ (r : RoutingRow). r.path) _ fs)
+    ∙ ap (map (λ (r : RoutingRow). r.path)) h ∙ map_map (λ (r : RoutingRow). r.path) _ gs
 
-pub nth_path : (fs : List BoardFunction) (i : ℕ) → option_map (λ (f : BoardFunction). f.path) (slice_get fs i) ≡ slice_get (paths fs) i
+pub nth_path : (fs : List BoardFunction) (i : ℕ)
+    → option_map (λ (f : BoardFunction). f.path) (slice_get fs i) ≡ slice_get (paths fs) i
 nth_path [] i = refl
 nth_path (f ∷ fs) zero = refl
 nth_path (f ∷ fs) (suc i) = nth_path fs i
 
-pub fits_by_routing : (t : List TableEntry) (h k : HostState) → routing h.state.functions ≡ routing k.state.functions → FitsTable t h → FitsTable t k
+pub fits_by_routing : (t : List TableEntry) (h k : HostState)
+    → routing h.state.functions ≡ routing k.state.functions → FitsTable t h → FitsTable t k
 fits_by_routing t h k same fits = record {
   claims = λ space n. fits.claims space n ∙ (same_claims h.state.functions k.state.functions same space n).0;
   functions = each_map (IsOfFunction h.state.functions) (IsOfFunction k.state.functions) t
-      (λ e at. nth_path k.state.functions e.function ∙ ap (λ (ps : List Path). slice_get ps e.function) (sym (same_paths h.state.functions k.state.functions same)) ∙ sym (nth_path h.state.functions e.function) ∙ at) fits.functions;
+      (λ e at. nth_path k.state.functions e.function
+      ∙ ap (λ (ps : List Path). slice_get ps e.function) (sym (same_paths h.state.functions k.state.functions same))
+      ∙ sym (nth_path h.state.functions e.function) ∙ at) fits.functions;
 }

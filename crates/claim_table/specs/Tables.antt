@@ -1,4 +1,5 @@
--- The placed regions of a board as a flat table: PCI Local Bus 3.0, chapter 6.2.5; PCI-to-PCI Bridge Architecture 1.2, chapter 4.
+-- The placed regions of a board as a flat table: PCI Local Bus 3.0, chapter 6.2.5; PCI-to-PCI Bridge Architecture 1.2,
+-- chapter 4.
 --     TableEntry      a placed region, with the index of its function in the list of the board's functions
 --     table_claim t space n      the claim of the region of a table that holds an address
 --     FitsTable t h      the table has the claims of a host, and its indices are those of the host's functions

@@ -20,7 +20,9 @@ pub record IsSeen (h : HostState) (held : Held) : Type 0 where
   pub file : File
   pub lawful : IsLawfulOwn held.own
   pub holds : HoldsOwn file held.own
-  pub shows : (off : ℕ) (ons : List Bool) → config_reply h.state.functions (bus_address_of held.at) off (handed_on (config off) ons) ≡ read file (config off) (handed_on (config off) ons)
+  pub shows : (off : ℕ) (ons : List Bool)
+      → config_reply h.state.functions (bus_address_of held.at) off (handed_on (config off) ons)
+      ≡ read file (config off) (handed_on (config off) ons)
   pub latch : h.state.latch ≡ 0
 
 pub record IsHolding (slots : List (Option Held)) (n : ℕ) : Type 0 where
@@ -28,7 +30,8 @@ pub record IsHolding (slots : List (Option Held)) (n : ℕ) : Type 0 where
   pub there : slice_get slots n ≡ Some (Some held)
 
 -- the enabled bytes of a word; the result is the function's number, and the enables of the bytes without a copy
-pub record WritesOwn (slots : List (Option Held)) (n : ℕ) (holds : IsHolding slots n) (word enables value : ℕ) (new : List (Option Held)) (r : Bdf × ℕ) : Type 0 where
+pub record WritesOwn (slots : List (Option Held)) (n : ℕ) (holds : IsHolding slots n) (word enables value : ℕ)
+    (new : List (Option Held)) (r : Bdf × ℕ) : Type 0 where
   pub own : OwnCopies
   pub after : new ≡ slice_set slots n (Some (record holds.held { own = own }))
   pub written : own_file own ≡ write (lanes enables) value (config word) (own_file holds.held.own)
@@ -43,7 +46,8 @@ pub record HoldsAt (gs : List Guest) (i n : ℕ) : Type 0 where
   pub slot : IsHolding guest.slots.items n
 
 -- the guests after a write of that function's own copies
-pub record WritesGuest (gs : List Guest) (i n : ℕ) (holds : HoldsAt gs i n) (word enables value : ℕ) (new : List Guest) (r : Bdf × ℕ) : Type 0 where
+pub record WritesGuest (gs : List Guest) (i n : ℕ) (holds : HoldsAt gs i n) (word enables value : ℕ)
+    (new : List Guest) (r : Bdf × ℕ) : Type 0 where
   pub guest : Guest
   pub after : new ≡ slice_set gs i guest
   pub latch : guest.latch ≡ holds.guest.latch

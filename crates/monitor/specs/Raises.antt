@@ -1,5 +1,5 @@
 -- Bits that a device raises in a function of a guest.
---     raised_beside_copies mask p      a file on the board with these bits raised, unless guests have a copy of the byte
+--     raised_beside_copies mask p      a file with these bits raised, unless guests have a copy of the byte
 use Rattle.std.specs.Prelude.{ℕ, if◌then◌else◌}
 use Rattle.model_registers.specs.Registers.{Place, File, raise}
 use Rattle.model_registers.specs.OwnCopies.{is_own}

@@ -16,7 +16,8 @@ use Rattle.bars.specs.declared.region.Region.{Region}
 use Rattle.monitor.specs.declared.guest.Held.{Held}
 
 abbrev pub Decodes : OwnCopies → Space → ℕ → Option Hit → Type 0
-Decodes own space addr o = (f : Function) → HoldsOwn f.file own → map bare f.decl.regions ≡ map opened own.bases → o ≡ lone_claim f space addr
+Decodes own space addr o =
+    (f : Function) → HoldsOwn f.file own → map bare f.decl.regions ≡ map opened own.bases → o ≡ lone_claim f space addr
 
 -- as a slot, a region and the offset in it
 pub record LandsIn (slots : List (Option Held)) (space : Space) (addr : ℕ) (l : ℕ × ℕ × ℕ) : Type 0 where

@@ -25,7 +25,8 @@ abbrev pub texts : ArrayVec ArrayString → List Text
 texts names = map (λ n. n.bytes) names.items
 
 abbrev pub function_shown : List BoardFunction → Held → Option Function
-function_shown fs h = option_map (λ (f : Function). record f { file = with_copies (own_file h.own) f.file }) (endpoint_nth fs h.index)
+function_shown fs h =
+    option_map (λ (f : Function). record f { file = with_copies (own_file h.own) f.file }) (endpoint_nth fs h.index)
 
 abbrev pub slot_shown : List BoardFunction → Option Held → Option Function
 slot_shown fs o = option_map_or (function_shown fs) o None

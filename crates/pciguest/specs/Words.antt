@@ -21,7 +21,9 @@ run_shape = record (new_shape (codes "run")) { rules = board_rule ∷ [] }
 -- `pciguest demo` and `pciguest list BOARD`, with no help subcommand and no version
 abbrev pub app_without_run : App
 app_without_run =
-    with_subcommand (with_subcommand (on_top (λ s. record s { disable_help_subcommand = true; subcommand_required = true }) (new_app (codes "pciguest"))) (new_shape (codes "demo"))) list_shape
+    with_subcommand (with_subcommand
+    (on_top (λ s. record s { disable_help_subcommand = true; subcommand_required = true }) (new_app (codes "pciguest")))
+    (new_shape (codes "demo"))) list_shape
 
 -- and `pciguest run BOARD`
 abbrev pub pciguest_app : App

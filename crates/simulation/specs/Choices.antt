@@ -1,5 +1,5 @@
 -- What the program does, by what it is asked.
---     IsDone choice script old new      all of it was written, after what was written before; the script is what the reader has left
+--     IsDone choice script old new      all of it was written, after what was written before; the script is to be read
 --     IsDoneInPart choice old_rest new_rest old new      so was a beginning of it, as a write or flush failed
 --     IsDoneAsRead choice old_rest new_rest old new      so was that of the lines before a read that failed
 --     IsOfChoice choice f      a fault that the choice can end with

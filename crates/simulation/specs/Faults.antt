@@ -1,6 +1,6 @@
 -- Why the program fails, as numbers and words.
 --     number_of, words_of, line_of      the number, the words and the line of a fault
---     of_file, of_set_up, of_report, of_run      the fault of a board file, a set-up, a report or a run, with the same number
+--     of_file, of_set_up, of_report, of_run      the fault of a file, a set-up, a report or a run, by the same number
 --     read_faults, write_faults      whether a result is the fault of the reader, or of the writer
 --     IsOfList, IsOfRun      a fault of a listing, or of a run over a board
 use Rattle.std.specs.Prelude.{◌≡◌, ◌⊎◌, ◌≤◌, ℕ, ◌++◌, List, Result, Ok, Err, codes, decimal}

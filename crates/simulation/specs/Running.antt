@@ -1,6 +1,6 @@
 -- What a run says of a board file and a script.
 --     IsSetUp board w      the file declares a world whose board can be set up
---     IsRun board script old new      the output of the script in the world of the file was written, and guests are isolated there
+--     IsRun board script old new      the script's output in the file's world was written; guests are isolated there
 --     IsRunCut      a read failed: the lines that were read up to their LF ran
 --     IsRunStopped      a write or flush failed: a beginning of the output was written
 use Rattle.std.specs.Prelude.{◌≡◌, Option, None, IsTrue}
@@ -21,7 +21,8 @@ pub record IsSetUp (board : Text) (w : World) : Type 0 where
   pub declared : Declares board w
   pub fits : first_broken (set_up_rules w.board w.apertures) ≡ None
 
--- the replies to each guest are those of its own functions, as lone register files, to its own lines and the moves that touch it
+-- the replies to each guest are those of its own functions, as lone register files, to its own lines and the moves that
+-- touch it
 pub record IsRun (board : Text) (script old new : Option Text) : Type 0 where
   pub world : World
   pub set_up : IsSetUp board world

@@ -1,7 +1,7 @@
 -- Ways through a document, and documents that agree but at the end of one.
 --     value_at      the value at the end of a way
 --     within_key, within_index      what is left of a way behind a member or an item, where it leads there
---     same_but      two values agree in all but what stands at the end of a way; a float or a date-time agrees with none
+--     same_but      two values agree in all but the end of a way; a float or a date-time agrees with none
 use Rattle.std.specs.Prelude.{ℕ, ◌+◌, ◌==◌, Bool, true, false, ◌&&◌, ◌||◌, List, [], ◌∷◌, Option, Some, None, option_and_then, if◌then◌else◌}
 use Rattle.std.specs.Bool.{beq}
 use Rattle.std.specs.Option.{option_map_or}
