@@ -14,9 +14,14 @@ use config_bytes::all_ones;
 fn first_fault(width: u64, number: u64, is_out_of_range: bool) -> Option<u16>
     ensures { result ≡ access_fault width number is_out_of_range }
 {
-    if !matches!(width, 1 | 2 | 4) {
-        Some(302)
-    } else if number % width != 0 {
+    // For each width apart: a remainder by a constant is a mask, and by a variable a slow division.
+    let remainder = match width {
+        1 => number % 1,
+        2 => number % 2,
+        4 => number % 4,
+        _ => return Some(302),
+    };
+    if remainder != 0 {
         Some(301)
     } else if is_out_of_range {
         Some(303)

@@ -144,7 +144,9 @@ fn has_path(functions: &[FunctionPath], path: &Path) -> bool
 fn has_bridge(functions: &[FunctionPath], path: &Path) -> bool
     ensures { result ≡ has_bridge functions.now path.now }
 {
-    functions.iter().any(|function| function.is_bridge && function.path == *path)
+    functions
+        .iter()
+        .any(|function| function.is_bridge && function.path == *path)
 }
 
 /// Whether an endpoint stands at the path.
