@@ -61,7 +61,7 @@ hostile: pciguest
 SEED := 1
 fuzz: pciguest
 	@cd crates/lone_answers && rt run > out/build.log 2>&1 || { cat out/build.log; exit 1; }
-	@python3 tests/fuzz/fuzz.py ./pciguest --lone crates/lone_answers/out/lone_answers --boards 700 --seed $(SEED)
+	@python3 tests/fuzz/fuzz.py ./pciguest --lone crates/lone_answers/out/lone_answers --boards 850 --seed $(SEED)
 
 # The demo in about a minute: nothing is proved.
 try:
