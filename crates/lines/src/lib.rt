@@ -9,4 +9,4 @@ mod words;
 
 pub use line::{Line, What, Who, parse_line};
 pub use replies::{LineText, line_text};
-pub use words::{line_feed_in, next_line};
+pub use words::line_feed_in;

@@ -1,6 +1,6 @@
-//! Lines of a script, and words of a line.
+//! Ends of lines, and words of a line.
 ghost use Rattle.std.specs.Prelude.{◌≡◌, ◌<◌, ◌∷◌, [], ◌==◌, length, map, take, position, MatchOption, IfSome};
-ghost use Rattle.model_guests.specs.Text.{lines, words, pieces, is_blank};
+ghost use Rattle.model_guests.specs.Text.{words, pieces, is_blank};
 
 use arrayvec::ArrayVec;
 use memchr::memchr;
@@ -10,20 +10,6 @@ pub fn line_feed_in(script: &[u8]) -> Option<usize>
     ensures { result ≡ position (λ b. b == 10) script.now }
 {
     memchr(b'\n', script)
-}
-
-/// The first line of a script, without its line feed, and what comes after it.
-pub fn next_line(script: &[u8]) -> Option<(&[u8], &[u8])>
-    ensures line { MatchOption result (lines script.now ≡ []) (λ p. lines script.now ≡ p.0.now ∷ lines p.1.now) }
-    ensures shorter { IfSome result (λ p. length p.1.now < length script.now) }
-{
-    if script.is_empty() {
-        return None;
-    }
-    match line_feed_in(script) {
-        Some(end) => Some((&script[..end], &script[end + 1..])),
-        None => Some((script, &[])),
-    }
 }
 
 /// 1 at each byte that parts words: a space, a tab or a carriage return. A look at the table is faster

@@ -66,7 +66,9 @@ fn edit_changes(
     requires some { 0 < length way.now }
     requires digit { digit < 10 }
     requires within { place.end ≤ length text.now }
-    ensures { IfOk result (λ yes. IsTrue yes → option_map (changes digit way.now (table_view before.now)) (parse_document (edited digit place.start place.end text.now)) ≡ Some true) }
+    ensures { IfOk result (λ yes. IsTrue yes →
+        option_map (changes digit way.now (table_view before.now))
+            (parse_document (edited digit place.start place.end text.now)) ≡ Some true) }
 {
     let bytes = edited(alloc, digit, place, text)?;
     match toml::table_from_slice(alloc, &bytes) {
@@ -125,7 +127,8 @@ impl<'a> Places<'a> {
 
     /// Where the scalar at the end of the way begins, where that is known and was confirmed.
     pub fn start(&self, alloc: Global, way: &[Step<'_>]) -> Result<Option<usize>, AllocError>
-        ensures { IfOk result (λ found. IfSome found (IsPlace self.now.text.now (table_view self.now.document.now) way.now)) }
+        ensures { IfOk result (λ found.
+            IfSome found (IsPlace self.now.text.now (table_view self.now.document.now) way.now)) }
     {
         let Some(place) = scalar_at(way, &self.second) else {
             return Ok(None);
@@ -144,7 +147,8 @@ impl<'a> Places<'a> {
 
     /// The line of the scalar at the end of the way, where its place is known and was confirmed.
     pub fn line(&self, alloc: Global, way: &[Step<'_>]) -> Result<Option<usize>, AllocError>
-        ensures { IfOk result (λ found. IfSome found (IsLine self.now.text.now (table_view self.now.document.now) way.now)) }
+        ensures { IfOk result (λ found.
+            IfSome found (IsLine self.now.text.now (table_view self.now.document.now) way.now)) }
     {
         match self.start(alloc, way)? {
             Some(start) => Ok(Some(line_of(start, self.text))),
