@@ -71,5 +71,15 @@ lost_files() {
 }
 holds 'files that are not there' lost_files
 
+# ---- examples in the headings of crates: their lines stand in a test, one after the other
+strange_examples() {
+  local tests; tests=$(sed 's/^ *//' crates/worked_*/src/examples.rt)
+  for heading in crates/*/src/lib.rt; do
+    example=$(awk '/^\/\/! ```/ { inside = !inside; next } inside { sub(/^\/\/! */, ""); print }' "$heading")
+    [[ -z $example || $tests == *"$example"* ]] || echo "$heading"
+  done
+}
+holds 'examples in headings that no test runs' strange_examples
+
 echo "$passed passed, $failed failed"
 [ "$failed" = 0 ]

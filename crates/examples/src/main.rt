@@ -11,7 +11,7 @@ use std::rt::Files;
 
 /// Boards that can be set up, then one for each reason why a file or its board is refused, and a name
 /// of no file.
-const BOARDS: [&str; 26] = [
+const BOARDS: [&str; 27] = [
     "main.toml",
     "demo.toml",
     "host_alone.toml",
@@ -19,6 +19,7 @@ const BOARDS: [&str; 26] = [
     "guest_elsewhere.toml",
     "chain.toml",
     "kinds.toml",
+    "server.toml",
     "largest.toml",
     "not_toml.toml",
     "key.toml",
@@ -42,7 +43,7 @@ const BOARDS: [&str; 26] = [
 
 /// Scripts, each over the board that is named before it. The first runs over two boards on which the
 /// guest has the same function, and writes the same.
-const RUNS: [(&str, &str); 7] = [
+const RUNS: [(&str, &str); 8] = [
     ("main.toml", "guest.script"),
     ("guest_elsewhere.toml", "guest.script"),
     ("main.toml", "two_guests.script"),
@@ -50,6 +51,7 @@ const RUNS: [(&str, &str); 7] = [
     ("main.toml", "host.script"),
     ("main.toml", "ports.script"),
     ("main.toml", "move.script"),
+    ("server.toml", "server.script"),
 ];
 
 /// Writes the report of a board file.

@@ -1,5 +1,21 @@
 //! The host bridge: configuration accesses by way of the address latch, I/O ports and memory (PCI
 //! Local Bus 3.0, chapter 3.2.2.3.2).
+//!
+//! A function is identified by configuration cycles, given an address and opened, and then used at its
+//! address:
+//!
+//! ```
+//! let card = Bdf {
+//!     bus: 0,
+//!     device: 1,
+//!     function: 0,
+//! };
+//! let identity = host.config_read(card, 0, 0b1111);
+//! host.config_write(card, 0x14, 0b1111, 0xc000_0000);
+//! host.config_write(card, 4, 0b0011, 2);
+//! host.store(&TreeWalk, 0xc000_0010, 4, 0x1234_5678);
+//! let low_half = host.load(&TreeWalk, 0xc000_0010, 2);
+//! ```
 #![tactic(auto)]
 
 mod bdf;

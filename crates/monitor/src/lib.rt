@@ -1,4 +1,17 @@
 //! The monitor, which gives functions of a board to guests.
+//!
+//! Guest 0 reads the identity of the function in its slot 0, and the host reads the board's memory:
+//!
+//! ```
+//! let identity = Access {
+//!     at: At::Config { slot: 0, off: 0 },
+//!     width: 4,
+//!     op: Op::Read,
+//! };
+//! let reply = monitor.step(0, identity);
+//! let at = HostAt::Mem { addr: 0xc010_0000 };
+//! let seen = monitor.host_read(HostAccess { at, width: 4 });
+//! ```
 #![tactic(auto)]
 
 mod beginning;

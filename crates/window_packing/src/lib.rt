@@ -1,5 +1,19 @@
 //! Placement: where each region and each bridge's windows stand, and the registers that say so (PCI
 //! Local Bus 3.0, chapter 6.2.5; PCI-to-PCI Bridge Architecture 1.2, chapter 3.2.5).
+//!
+//! A host at reset is set up, or refused by 201 to 205. Afterwards its registers say where all is:
+//!
+//! ```
+//! let ready = set_up(alloc, host)?;
+//! let found = ready.table().rows().len();
+//! let (mut host, _, _) = ready.into_parts();
+//! let card = Bdf {
+//!     bus: 0,
+//!     device: 1,
+//!     function: 0,
+//! };
+//! let base = host.config_read(card, 0x14, 0b1111);
+//! ```
 #![tactic(auto)]
 
 mod above;

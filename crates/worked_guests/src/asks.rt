@@ -66,7 +66,7 @@ fn walk_of(alloc: Global, board: &str) -> Result<Engine<TreeWalk>, Fail> {
 }
 
 /// How many guests a monitor has.
-fn guests(monitor: &Monitor) -> usize
+pub(crate) fn guests(monitor: &Monitor) -> usize
     ensures { result ≡ length monitor.now.guests }
 {
     monitor.names().len()

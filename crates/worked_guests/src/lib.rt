@@ -6,6 +6,8 @@ mod asks;
 #[cfg(test)]
 mod boards;
 #[cfg(test)]
+mod examples;
+#[cfg(test)]
 mod latches;
 #[cfg(test)]
 mod moves;

@@ -1,0 +1,67 @@
+//! The examples that `host_bridge`, `window_packing` and `monitor` show in their headings, as tests.
+
+use crate::asks::guests as guests_of;
+use crate::boards::MAIN;
+use accesses::{Access, At, HostAccess, HostAt, Op, Reply};
+use board_file::read_board;
+use host_bridge::{Bdf, TreeWalk};
+use monitor::Monitor;
+use std::test::Fail;
+use window_packing::set_up;
+
+#[test]
+fn cycles_and_accesses_of_a_host(rt: HostRuntime) -> Result<(), Fail> {
+    let alloc = rt.alloc();
+    let (mut host, _) = read_board(alloc, MAIN.as_bytes())?;
+    let card = Bdf {
+        bus: 0,
+        device: 1,
+        function: 0,
+    };
+    let identity = host.config_read(card, 0, 0b1111);
+    host.config_write(card, 0x14, 0b1111, 0xc000_0000);
+    host.config_write(card, 4, 0b0011, 2);
+    host.store(&TreeWalk, 0xc000_0010, 4, 0x1234_5678);
+    let low_half = host.load(&TreeWalk, 0xc000_0010, 2);
+    assert_eq!(rt; identity, 0x0001_1234);
+    assert_eq!(rt; low_half, 0x5678);
+    Ok(())
+}
+
+#[test]
+fn a_board_is_set_up(rt: HostRuntime) -> Result<(), Fail> {
+    let alloc = rt.alloc();
+    let (host, _) = read_board(alloc, MAIN.as_bytes())?;
+    let ready = set_up(alloc, host)?;
+    let found = ready.table().rows().len();
+    let (mut host, _, _) = ready.into_parts();
+    let card = Bdf {
+        bus: 0,
+        device: 1,
+        function: 0,
+    };
+    let base = host.config_read(card, 0x14, 0b1111);
+    assert_eq!(rt; found, 4);
+    assert_eq!(rt; base, 0xc010_0000);
+    Ok(())
+}
+
+#[test]
+fn a_guest_and_the_host(rt: HostRuntime) -> Result<(), Fail> {
+    let alloc = rt.alloc();
+    let (host, guests) = read_board(alloc, MAIN.as_bytes())?;
+    let ready = set_up(alloc, host)?;
+    let mut monitor = Monitor::new(alloc, ready, &guests)?;
+    assert!(rt; 0 < guests_of(&monitor));
+    let identity = Access {
+        at: At::Config { slot: 0, off: 0 },
+        width: 4,
+        op: Op::Read,
+    };
+    let reply = monitor.step(0, identity);
+    let at = HostAt::Mem { addr: 0xc010_0000 };
+    let seen = monitor.host_read(HostAccess { at, width: 4 });
+    assert!(rt; reply == Reply::Value(0x0001_1234, 4));
+    assert!(rt; seen == Reply::Value(0, 4));
+    Ok(())
+}
