@@ -116,6 +116,7 @@ impl Apertures {
         Ok(Apertures { io, mem, pref })
     }
 
+    /// The aperture of I/O regions and windows.
     pub fn io(&self) -> Aperture
         ensures value { result ≡ self.now.io }
         ensures lawful { IsLawfulApertures self.now }
@@ -123,12 +124,14 @@ impl Apertures {
         self.io
     }
 
+    /// The aperture of memory.
     pub fn mem(&self) -> Aperture
         ensures { result ≡ self.now.mem }
     {
         self.mem
     }
 
+    /// The aperture of prefetchable memory, where the board has one.
     pub fn pref(&self) -> Option<Aperture>
         ensures { result ≡ self.now.pref }
     {

@@ -58,6 +58,7 @@ impl BridgeDecl {
         })
     }
 
+    /// The Vendor ID.
     pub fn vendor(&self) -> u16
         ensures value { result ≡ self.now.vendor }
         ensures lawful { IsLawfulBridge self.now }
@@ -65,12 +66,14 @@ impl BridgeDecl {
         self.vendor
     }
 
+    /// The Device ID.
     pub fn device(&self) -> u16
         ensures { result ≡ self.now.device }
     {
         self.device
     }
 
+    /// The Revision ID.
     pub fn revision(&self) -> u8
         ensures { result ≡ self.now.revision }
     {
