@@ -45,7 +45,7 @@ build:
 	@cp crates/pciguest/out/pciguest pciguest
 	@echo 'pciguest: proved and built'
 
-# What an access costs, in nanoseconds, on boards of 1, 1003 and 1024 functions.
+# What an access and an event of a guest cost, in nanoseconds, on boards of 1, 4, 1003 and 1024 functions.
 bench: build
 	@bench/boards crates/bench_accesses/out/boards
 	@cd crates/bench_accesses && rt run > out/build.log 2>&1 || { cat out/build.log; exit 1; }

@@ -1,14 +1,21 @@
-//! What one access of a board costs: `bench_accesses BOARD` prints it as a row of numbers, in
-//! nanoseconds, and with no word it prints nothing.
+//! What one access of a board and one event of a guest cost: `bench_accesses BOARD` prints it as a row of
+//! numbers, in nanoseconds, and with no word it prints nothing.
 #![tactic(auto)]
 
+ghost use Rattle.std.specs.Prelude.{◌≡◌, length, IfSome};
+ghost use Rattle.model_guests.specs.World.{HasLawfulGuests};
+ghost use Rattle.monitor.specs.Beginnings.{world_of};
+
+mod events;
 mod row;
 mod target;
 
+use crate::events::measure_events;
 use crate::row::measure;
 use crate::target::last_target;
 use board_file::read_board;
 use claim_table::Table;
+use monitor::{GuestDecl, Monitor};
 use std::alloc::Global;
 use std::io::Read;
 use std::process::ExitCode;
@@ -34,8 +41,39 @@ fn measure_ready(rt: &(impl Clock + Print), alloc: Global, ready: Ready) -> Opti
     measure(rt, &mut host, &table, target).ok()
 }
 
+/// A board that is set up, and its guests. None where the file or its board is refused.
+fn ready_of(alloc: Global, board: &[u8]) -> Option<(Ready, Vec<GuestDecl>)>
+    ensures { IfSome result (λ r. HasLawfulGuests (world_of r.0 r.1.items)) }
+{
+    let Ok((host, guests)) = read_board(alloc, board) else {
+        return None;
+    };
+    let Ok(ready) = set_up(alloc, host) else {
+        return None;
+    };
+    Some((ready, guests))
+}
+
+/// How many guests a monitor has.
+fn count(monitor: &Monitor) -> usize
+    ensures { result ≡ length monitor.now.guests }
+{
+    monitor.names().len()
+}
+
+/// Measures events of the first guest of a board. None where it has no function.
+fn measure_guest(rt: &(impl Clock + Print), alloc: Global, board: &[u8]) -> Option<()> {
+    let (ready, guests) = ready_of(alloc, board)?;
+    let slots = guests.first()?.slots.len();
+    let mut monitor = Monitor::new(alloc, ready, &guests).ok()?;
+    if count(&monitor) == 0 || slots == 0 {
+        return None;
+    }
+    measure_events(rt, &mut monitor, slots as u8).ok()
+}
+
 /// Measures over the board file that the first word names. None where the board has no region of
-/// memory, or can't be set up.
+/// memory or no guest, or can't be set up.
 fn serve(rt: &(impl AllocGlobal + Clock + Env + Files + Print)) -> Option<()> {
     let alloc = rt.alloc();
     let words: Vec<String> = env::args(rt).ok()?.collect(alloc).ok()?;
@@ -43,9 +81,9 @@ fn serve(rt: &(impl AllocGlobal + Clock + Env + Files + Print)) -> Option<()> {
         return Some(());
     }
     let board = bytes_of(rt, alloc, words[1].as_str())?;
-    let (host, _guests) = read_board(alloc, &board).ok()?;
-    let ready = set_up(alloc, host).ok()?;
-    measure_ready(rt, alloc, ready)
+    let (ready, _guests) = ready_of(alloc, &board)?;
+    measure_ready(rt, alloc, ready)?;
+    measure_guest(rt, alloc, &board)
 }
 
 fn main(rt: HostRuntime) -> ExitCode {

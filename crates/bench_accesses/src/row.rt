@@ -11,7 +11,7 @@ use std::rt::Clock;
 use std::time::Instant;
 
 /// Calls that are timed together.
-const CALLS: u64 = 400_000;
+pub(crate) const CALLS: u64 = 400_000;
 
 /// The sum of reads of configuration words, so that no call can be left out. The host stays but for its
 /// address latch.
@@ -54,7 +54,7 @@ fn read_memory<R: Route>(host: &mut Host, route: &R, target: Target) -> u64
 }
 
 /// Prints what one of the calls took that began at `since`, and the sum of what they answered.
-fn show(rt: &(impl Clock + Print), since: &Instant, sum: u64) -> io::Result<()> {
+pub(crate) fn show(rt: &(impl Clock + Print), since: &Instant, sum: u64) -> io::Result<()> {
     let passed = since.elapsed(rt)?.as_nanos() / u128::from(CALLS);
     print!(rt; "{passed} {sum} ")
 }

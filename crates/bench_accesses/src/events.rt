@@ -1,0 +1,144 @@
+//! The times of a guest's events.
+ghost use Rattle.std.specs.Prelude.{◌≡◌, ◌<◌, ◌≤◌, length};
+
+use crate::row::{CALLS, show};
+use monitor::{Access, At, Monitor, Op, Reply};
+use std::io;
+use std::rt::Clock;
+use std::time::Instant;
+
+/// The answer of four bytes to what the first guest asks; 0 where it is no number.
+fn ask(monitor: &mut Monitor, at: At, op: Op) -> u32
+    requires { 0 < length monitor.old.guests }
+    ensures { length monitor.new.guests ≡ length monitor.old.guests }
+{
+    match monitor.step(0, Access { at, width: 4, op }) {
+        Reply::Value(value, _) => value,
+        Reply::Done => 0,
+        Reply::Refused(_) => 0,
+    }
+}
+
+/// Whether a region of memory begins at a base address register, found by writing all ones to it.
+fn is_of_memory(monitor: &mut Monitor, register: At) -> bool
+    requires { 0 < length monitor.old.guests }
+    ensures { length monitor.new.guests ≡ length monitor.old.guests }
+{
+    ask(monitor, register, Op::Write(u32::MAX));
+    let shown = ask(monitor, register, Op::Read);
+    shown != 0 && shown % 2 == 0
+}
+
+/// Puts the first region of memory of the function in a slot at an address and opens it, as a guest's
+/// driver does.
+fn open_region(monitor: &mut Monitor, slot: u64, base: u32)
+    requires { 0 < length monitor.old.guests }
+    ensures { length monitor.new.guests ≡ length monitor.old.guests }
+{
+    for register in 0..6 {
+        let at = At::Config {
+            slot,
+            off: 0x10 + 4 * register,
+        };
+        if is_of_memory(monitor, at) {
+            ask(monitor, at, Op::Write(base));
+            let command = At::Config { slot, off: 0x04 };
+            ask(monitor, command, Op::Write(0b10));
+            return;
+        }
+    }
+}
+
+/// Where the guest has the region of a slot: each 64 MB past the one before.
+fn base_of(slot: u8) -> u32
+    requires { slot < 32 }
+{
+    (1 + u32::from(slot)) << 26
+}
+
+/// Opens a region of each slot below a count, and writes into its first sixteen words.
+fn open_all(monitor: &mut Monitor, slots: u8)
+    requires guest { 0 < length monitor.old.guests }
+    requires slots { slots ≤ 32 }
+    ensures { length monitor.new.guests ≡ length monitor.old.guests }
+{
+    for slot in 0..slots {
+        let base = base_of(slot);
+        open_region(monitor, u64::from(slot), base);
+        for word in 0..16 {
+            let addr = u64::from(base) + 4 * word;
+            ask(monitor, At::Mem { addr }, Op::Write(0x0101_0101));
+        }
+    }
+}
+
+/// The sum of reads of configuration words of the function in a slot.
+fn read_configuration(monitor: &mut Monitor, slot: u8) -> u64
+    requires { 0 < length monitor.old.guests }
+    ensures { length monitor.new.guests ≡ length monitor.old.guests }
+{
+    let mut sum: u64 = 0;
+    for call in 0..CALLS {
+        let at = At::Config {
+            slot: u64::from(slot),
+            off: call % 4 * 4,
+        };
+        sum = sum.wrapping_add(u64::from(ask(monitor, at, Op::Read)));
+    }
+    sum
+}
+
+/// The sum of reads of memory in the region of a slot.
+fn read_memory(monitor: &mut Monitor, slot: u8) -> u64
+    requires guest { 0 < length monitor.old.guests }
+    requires slot { slot < 32 }
+    ensures { length monitor.new.guests ≡ length monitor.old.guests }
+{
+    let base = u64::from(base_of(slot));
+    let mut sum: u64 = 0;
+    for call in 0..CALLS {
+        let addr = base + call % 16 * 4;
+        sum = sum.wrapping_add(u64::from(ask(monitor, At::Mem { addr }, Op::Read)));
+    }
+    sum
+}
+
+/// Writes memory in the region of a slot, and gives the last word that was written.
+fn write_memory(monitor: &mut Monitor, slot: u8) -> u64
+    requires guest { 0 < length monitor.old.guests }
+    requires slot { slot < 32 }
+    ensures { length monitor.new.guests ≡ length monitor.old.guests }
+{
+    let base = u64::from(base_of(slot));
+    for call in 0..CALLS {
+        let addr = base + call % 16 * 4;
+        ask(monitor, At::Mem { addr }, Op::Write(call as u32));
+    }
+    u64::from(ask(monitor, At::Mem { addr: base }, Op::Read))
+}
+
+/// Prints the times and the sums of a guest's configuration reads, and of its reads and writes of memory
+/// in its first slot and in its last one.
+pub(crate) fn measure_events(
+    rt: &(impl Clock + Print),
+    monitor: &mut Monitor,
+    slots: u8,
+) -> io::Result<()>
+    requires guest { 0 < length monitor.old.guests }
+    requires some { 0 < slots }
+    requires slots { slots ≤ 32 }
+{
+    open_all(monitor, slots);
+    let start = Instant::now(rt)?;
+    let sum = read_configuration(monitor, 0);
+    show(rt, &start, sum)?;
+    let start = Instant::now(rt)?;
+    let sum = read_memory(monitor, 0);
+    show(rt, &start, sum)?;
+    let start = Instant::now(rt)?;
+    let sum = write_memory(monitor, 0);
+    show(rt, &start, sum)?;
+    let start = Instant::now(rt)?;
+    let sum = read_memory(monitor, slots - 1);
+    show(rt, &start, sum)
+}
