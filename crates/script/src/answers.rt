@@ -7,8 +7,9 @@ ghost use Rattle.script.specs.Pieces.{IsBefore};
 use lines::{LineText, What, Who, line_text, parse_line};
 use monitor::{Monitor, Reply};
 
-/// Runs the event of a line, and gives what the line writes.
-fn run_line(monitor: &mut Monitor, line: &[u8]) -> LineText
+/// Runs the event of a line, and gives what the line writes: nothing, or one line with its line feed. No
+/// memory is taken.
+pub fn run_line(monitor: &mut Monitor, line: &[u8]) -> LineText
     ensures text { result.items ≡ line_output monitor.old line.now }
     ensures after { monitor.new ≡ after_line monitor.old line.now }
 {

@@ -6,6 +6,7 @@ mod held;
 mod pieces;
 mod running;
 
-pub use lines::{Line, What, Who, parse_line};
+pub use answers::run_line;
+pub use lines::{Line, LineText, What, Who, parse_line};
 pub use monitor::Monitor;
 pub use running::{RunFault, run};

@@ -5,7 +5,7 @@ use Rattle.std.specs.Result.{IsErrAnd}
 use Rattle.model_board.specs.Board.{Board}
 use Rattle.model_board.specs.Pools.{Apertures}
 use Rattle.model_board.specs.SetUp.{set_up_state}
-use Rattle.model_guests.specs.World.{Guest, World}
+use Rattle.model_guests.specs.World.{Guest}
 use Rattle.model_guests.specs.WorldNow.{WorldNow, world_at_first}
 use Rattle.host_bridge.specs.HostState.{HostState}
 use Rattle.window_packing.specs.Readies.{ReadyBoard, board_below}

@@ -18,5 +18,6 @@ pub use fault_lines::fault_line;
 pub use files::board_bytes;
 pub use listing::list;
 pub use model_guests::two_worlds;
-pub use running::whole;
+pub use monitor::Monitor;
+pub use running::{open, whole};
 pub use standard_streams::{InputStream, OutputStream};

@@ -1,12 +1,12 @@
 //! A script over the board of a board file.
-ghost use Rattle.std.specs.Prelude.{◌≡◌, ◌≢◌, ℕ, ◌+◌, ◌-◌, ◌^◌, ◌<◌, None, Some, OnOk, IfErr, IsErrOf};
+ghost use Rattle.std.specs.Prelude.{◌≡◌, ◌≢◌, ℕ, ◌+◌, ◌-◌, ◌^◌, ◌<◌, ◌≤◌, None, Some, OnOk, IfOk, IfErr, IsErrOf};
 ghost use Rattle.std.specs.Io.KnownBytes.{IsAtEnd};
 ghost use Rattle.model_registers.specs.DeclarationRules.{first_broken};
 ghost use Rattle.model_board.specs.SetUpWrites.{set_up_rules};
 ghost use Rattle.model_guests.specs.World.{World};
 ghost use Rattle.simulation.specs.Faults.{number_of, read_faults, write_faults, IsOfRun};
 ghost use Rattle.simulation.specs.Listing.{Declares, Refuses};
-ghost use Rattle.simulation.specs.Running.{IsRun, IsRunCut, IsRunStopped};
+ghost use Rattle.simulation.specs.Running.{IsOpened, IsRun, IsRunCut, IsRunStopped};
 
 use crate::fault::Fault;
 use board_file::read_board;
@@ -15,6 +15,22 @@ use script::run;
 use std::alloc::Global;
 use streams::{Reader, Writer};
 use window_packing::set_up;
+
+/// Sets up the board that a board file declares, and gives its functions to the guests of the file.
+///
+/// Refused are the file (101 to 112), its board (201 to 205), and lack of memory (199 or 299).
+pub fn open(alloc: Global, board: &[u8]) -> Result<Monitor, Fault>
+    ensures opened { IfOk result (IsOpened board.now) }
+    ensures file { IfErr result (λ f. number_of f < 199 → Refuses board.now (number_of f)) }
+    ensures placement { IfErr result (λ f. 199 < number_of f → number_of f < 299 →
+        (w : World) × Declares board.now w × (first_broken (set_up_rules w.board w.apertures) ≡ Some (number_of f))) }
+    ensures faults { IfErr result (λ f. number_of f ≤ 299) }
+{
+    let (host, guests) = read_board(alloc, board)?;
+    let ready = set_up(alloc, host)?;
+    let monitor = Monitor::new(alloc, ready, &guests)?;
+    Ok(monitor)
+}
 
 /// Sets up the board that a board file declares, gives its functions to the guests of the file, and
 /// runs a script over them, line by line as it is read.
@@ -55,9 +71,7 @@ pub fn whole<R: Reader, W: Writer>(
     ensures reads { R.failures reader.new ≡ R.failures reader.old + read_faults result }
     ensures writes { W.failures writer.new ≡ W.failures writer.old + write_faults result }
 {
-    let (host, guests) = read_board(alloc, board)?;
-    let ready = set_up(alloc, host)?;
-    let mut monitor = Monitor::new(alloc, ready, &guests)?;
+    let mut monitor = open(alloc, board)?;
     run(&mut monitor, reader, writer)?;
     Ok(())
 }

@@ -1,5 +1,5 @@
 use Rattle.std.proofs.Common.{rules, ◌≡◌, ◌<◌, Some, subst}
-use Rattle.std.specs.Prelude.{OnOk, IfErr, IsErrOf}
+use Rattle.std.specs.Prelude.{OnOk, IfErr}
 use Rattle.model_registers.specs.DeclarationRules.{first_broken}
 use Rattle.model_board.specs.SetUpWrites.{set_up_rules}
 use Rattle.model_guests.specs.Text.{Text}
@@ -8,7 +8,6 @@ use Rattle.simulation.specs.Demo.{demo_board}
 use Rattle.simulation.specs.Faults.{number_of}
 use Rattle.simulation.specs.Listing.{Declares, Refuses}
 use Rattle.simulation.specs.Running.{IsRun, IsRunCut, IsRunStopped}
-use Rattle.simulation.specs.declared.fault.Fault.TheVariants.{Read, Write}
 use Rattle.simulation.proofs.demonstration.demo.Goals as goal
 
 pub returns-clause-output : goal.returns-clause-output
