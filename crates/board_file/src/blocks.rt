@@ -68,7 +68,7 @@ fn cells(
 }
 
 /// The cells of a block, where its patterns are lawful.
-pub(crate) fn block(
+pub fn block(
     alloc: Global,
     len: usize,
     patterns: &PatternTexts<'_>,

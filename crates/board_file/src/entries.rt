@@ -11,17 +11,17 @@ use std::marker::Model;
 
 /// The two integers of an aperture.
 #[derive(Clone, Copy)]
-pub(crate) struct Bounds {
-    pub(crate) first: i64,
-    pub(crate) last: i64,
+pub struct Bounds {
+    pub first: i64,
+    pub last: i64,
 }
 
 /// The patterns of a block's bytes.
 #[derive(Drop)]
-pub(crate) struct PatternTexts<'a> {
-    pub(crate) reset: Option<&'a str>,
-    pub(crate) rw: Option<&'a str>,
-    pub(crate) w1c: Option<&'a str>,
+pub struct PatternTexts<'a> {
+    pub reset: Option<&'a str>,
+    pub rw: Option<&'a str>,
+    pub w1c: Option<&'a str>,
 }
 
 impl<'a> Model for PatternTexts<'a> {
@@ -36,12 +36,12 @@ impl<'a> Model for PatternTexts<'a> {
 
 /// A table of `bar`.
 #[derive(Drop)]
-pub(crate) struct BarEntry<'a> {
-    pub(crate) index: i64,
-    pub(crate) kind: Kind,
-    pub(crate) size: i64,
-    pub(crate) block: i64,
-    pub(crate) patterns: PatternTexts<'a>,
+pub struct BarEntry<'a> {
+    pub index: i64,
+    pub kind: Kind,
+    pub size: i64,
+    pub block: i64,
+    pub patterns: PatternTexts<'a>,
 }
 
 impl<'a> Model for BarEntry<'a> {
@@ -52,10 +52,10 @@ impl<'a> Model for BarEntry<'a> {
 
 /// A table of `config`.
 #[derive(Drop)]
-pub(crate) struct ConfigEntry<'a> {
-    pub(crate) off: i64,
-    pub(crate) block: i64,
-    pub(crate) patterns: PatternTexts<'a>,
+pub struct ConfigEntry<'a> {
+    pub off: i64,
+    pub block: i64,
+    pub patterns: PatternTexts<'a>,
 }
 
 impl<'a> Model for ConfigEntry<'a> {
@@ -66,20 +66,20 @@ impl<'a> Model for ConfigEntry<'a> {
 
 /// A table of `endpoint`.
 #[derive(Drop)]
-pub(crate) struct EndpointEntry<'a> {
-    pub(crate) at: PathText<'a>,
-    pub(crate) vendor: i64,
-    pub(crate) device: i64,
-    pub(crate) revision: i64,
-    pub(crate) class: i64,
-    pub(crate) subvendor: i64,
-    pub(crate) subsystem: i64,
-    pub(crate) pin: i64,
-    pub(crate) min_gnt: i64,
-    pub(crate) max_lat: i64,
-    pub(crate) status: i64,
-    pub(crate) bars: Vec<BarEntry<'a>>,
-    pub(crate) configs: Vec<ConfigEntry<'a>>,
+pub struct EndpointEntry<'a> {
+    pub at: PathText<'a>,
+    pub vendor: i64,
+    pub device: i64,
+    pub revision: i64,
+    pub class: i64,
+    pub subvendor: i64,
+    pub subsystem: i64,
+    pub pin: i64,
+    pub min_gnt: i64,
+    pub max_lat: i64,
+    pub status: i64,
+    pub bars: Vec<BarEntry<'a>>,
+    pub configs: Vec<ConfigEntry<'a>>,
 }
 
 impl<'a> Model for EndpointEntry<'a> {
@@ -104,13 +104,13 @@ impl<'a> Model for EndpointEntry<'a> {
 
 /// A table of `bridge`.
 #[derive(Drop)]
-pub(crate) struct BridgeEntry<'a> {
-    pub(crate) at: PathText<'a>,
-    pub(crate) vendor: i64,
-    pub(crate) device: i64,
-    pub(crate) revision: i64,
-    pub(crate) io: IoDecode,
-    pub(crate) pref: PrefDecode,
+pub struct BridgeEntry<'a> {
+    pub at: PathText<'a>,
+    pub vendor: i64,
+    pub device: i64,
+    pub revision: i64,
+    pub io: IoDecode,
+    pub pref: PrefDecode,
 }
 
 impl<'a> Model for BridgeEntry<'a> {
@@ -128,9 +128,9 @@ impl<'a> Model for BridgeEntry<'a> {
 
 /// A table of `guest`.
 #[derive(Drop)]
-pub(crate) struct GuestEntry<'a> {
-    pub(crate) name: &'a str,
-    pub(crate) slots: Vec<PathText<'a>>,
+pub struct GuestEntry<'a> {
+    pub name: &'a str,
+    pub slots: Vec<PathText<'a>>,
 }
 
 impl<'a> Model for GuestEntry<'a> {
@@ -141,13 +141,13 @@ impl<'a> Model for GuestEntry<'a> {
 
 /// What the file says.
 #[derive(Drop)]
-pub(crate) struct FileEntries<'a> {
-    pub(crate) io: Bounds,
-    pub(crate) mem: Bounds,
-    pub(crate) pref: Option<Bounds>,
-    pub(crate) endpoints: Vec<EndpointEntry<'a>>,
-    pub(crate) bridges: Vec<BridgeEntry<'a>>,
-    pub(crate) guests: Vec<GuestEntry<'a>>,
+pub struct FileEntries<'a> {
+    pub io: Bounds,
+    pub mem: Bounds,
+    pub pref: Option<Bounds>,
+    pub endpoints: Vec<EndpointEntry<'a>>,
+    pub bridges: Vec<BridgeEntry<'a>>,
+    pub guests: Vec<GuestEntry<'a>>,
 }
 
 impl<'a> Model for FileEntries<'a> {

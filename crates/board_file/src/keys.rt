@@ -226,7 +226,7 @@ const GUEST: [Field; 2] = [
 ];
 
 /// The keys of a table of the level.
-pub(crate) fn fields(level: Level) -> &'static [Field]
+pub fn fields(level: Level) -> &'static [Field]
     ensures { map field_of result.now ≡ fields level }
 {
     match level {

@@ -3,20 +3,20 @@
 #![tactic(auto)]
 
 mod apertures;
-mod blocks;
+pub mod blocks;
 mod board;
 mod building;
-mod entries;
+pub mod entries;
 mod fault;
-mod guests;
+pub mod guests;
 mod judging;
-mod keys;
-mod numbers;
-mod path_text;
-mod places;
-mod reading;
-mod regions;
-mod schema;
+pub mod keys;
+pub mod numbers;
+pub mod path_text;
+pub mod places;
+pub mod reading;
+pub mod regions;
+pub mod schema;
 mod texts;
 
 pub use board::read_board;

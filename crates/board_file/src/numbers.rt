@@ -7,13 +7,13 @@ ghost use Rattle.board_file.specs.Rules.{is_between, has_only_bits, is_identity,
 use crate::entries::{BarEntry, BridgeEntry, ConfigEntry, EndpointEntry, FileEntries, GuestEntry};
 use crate::path_text::PathText;
 
-fn is_between(first: u16, last: u32, number: i64) -> bool
+pub fn is_between(first: u16, last: u32, number: i64) -> bool
     ensures { result ≡ is_between first last number }
 {
     i64::from(first) <= number && number <= i64::from(last)
 }
 
-fn has_only_bits(mask: u16, number: i64) -> bool
+pub fn has_only_bits(mask: u16, number: i64) -> bool
     ensures { result ≡ has_only_bits mask number }
 {
     match u16::try_from(number) {
@@ -50,7 +50,7 @@ fn has_lawful_values(endpoint: &EndpointEntry<'_>) -> bool
     is_described(endpoint) && has_lawful_needs(endpoint) && has_only_bits(0xf900, endpoint.status)
 }
 
-fn is_config_block(config: &ConfigEntry<'_>) -> bool
+pub fn is_config_block(config: &ConfigEntry<'_>) -> bool
     ensures { result ≡ is_config_block config.now }
 {
     is_between(0x40, 0xff, config.off)
@@ -139,7 +139,7 @@ pub(crate) fn numbers_hold(file: &FileEntries<'_>) -> bool
     endpoint_numbers_hold(&file.endpoints) && bridge_numbers_hold(&file.bridges)
 }
 
-fn has_few_slashes(at: &PathText<'_>) -> bool
+pub fn has_few_slashes(at: &PathText<'_>) -> bool
     ensures { result ≡ has_few_slashes at.now }
 {
     let text = at.text().as_bytes();
@@ -182,7 +182,7 @@ fn have_few_slashes(file: &FileEntries<'_>) -> bool
     endpoints_have_few_slashes(&file.endpoints) && bridges_have_few_slashes(&file.bridges)
 }
 
-fn has_few_slots(guest: &GuestEntry<'_>) -> bool
+pub fn has_few_slots(guest: &GuestEntry<'_>) -> bool
     ensures { result ≡ nat_le (length guest.now.slots) 32 }
 {
     guest.slots.len() <= 32

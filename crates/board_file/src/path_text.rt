@@ -89,7 +89,7 @@ fn path_of(text: &[u8]) -> Option<Path>
 
 /// A text that stands for a path, and the path that it is, if it is one.
 #[derive(Drop)]
-pub(crate) struct PathText<'a> {
+pub struct PathText<'a> {
     text: &'a str,
     path: Option<Path>,
 }
@@ -107,7 +107,7 @@ impl<'a> Model for PathText<'a> {
 
 impl<'a> PathText<'a> {
     /// The text, parsed.
-    pub(crate) fn new(text: &'a str) -> PathText<'a>
+    pub fn new(text: &'a str) -> PathText<'a>
         ensures { result ≡ text.now }
     {
         PathText {
@@ -117,21 +117,21 @@ impl<'a> PathText<'a> {
     }
 
     /// The text itself.
-    pub(crate) fn text(&self) -> &'a str
+    pub fn text(&self) -> &'a str
         ensures { result.now ≡ self.now }
     {
         self.text
     }
 
     /// Whether the text is a path.
-    pub(crate) fn is_path(&self) -> bool
+    pub fn is_path(&self) -> bool
         ensures { result ≡ is_path_text self.now }
     {
         self.path.is_some()
     }
 
     /// The path that the text is, or 0.0.
-    pub(crate) fn path(&self) -> Path
+    pub fn path(&self) -> Path
         ensures { result ≡ path_at self.now }
     {
         match &self.path {

@@ -17,7 +17,7 @@ use std::marker::Model;
 
 /// The path of a function, and whether the function is a bridge.
 #[derive(Drop)]
-pub(crate) struct FunctionPath {
+pub struct FunctionPath {
     path: Path,
     is_bridge: bool,
 }
@@ -75,7 +75,7 @@ fn push_bridges(
 }
 
 /// The paths of all functions, endpoints first. A text that is no path counts as 0.0.
-pub(crate) fn function_paths(
+pub fn function_paths(
     alloc: Global,
     file: &FileEntries<'_>,
 ) -> Result<Vec<FunctionPath>, AllocError>
@@ -135,13 +135,13 @@ pub(crate) fn places_hold(file: &FileEntries<'_>, functions: &[FunctionPath]) ->
     have_paths(file) && are_places(functions)
 }
 
-fn has_path(functions: &[FunctionPath], path: &Path) -> bool
+pub fn has_path(functions: &[FunctionPath], path: &Path) -> bool
     ensures { result ≡ has_path functions.now path.now }
 {
     functions.iter().any(|function| function.path == *path)
 }
 
-fn has_bridge(functions: &[FunctionPath], path: &Path) -> bool
+pub fn has_bridge(functions: &[FunctionPath], path: &Path) -> bool
     ensures { result ≡ has_bridge functions.now path.now }
 {
     functions
@@ -157,7 +157,7 @@ fn is_endpoint(functions: &[FunctionPath], path: &Path) -> bool
 }
 
 /// Whether the text is the path of an endpoint.
-fn names_endpoint(functions: &[FunctionPath], text: &PathText<'_>) -> bool
+pub fn names_endpoint(functions: &[FunctionPath], text: &PathText<'_>) -> bool
     ensures { result ≡ names_endpoint functions.now text.now }
 {
     text.is_path() && is_endpoint(functions, &text.path())

@@ -291,7 +291,7 @@ fn pref_range(table: &Table) -> Option<Bounds>
 }
 
 /// What the table says.
-pub(crate) fn read_entries(alloc: Global, table: &Table) -> Result<FileEntries<'_>, AllocError>
+pub fn read_entries(alloc: Global, table: &Table) -> Result<FileEntries<'_>, AllocError>
     ensures { IfOk result (λ f. f ≡ file (table_view table.now)) }
 {
     let endpoint_tables = tables(alloc, table, "endpoint")?;

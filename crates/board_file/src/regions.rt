@@ -10,7 +10,7 @@ use crate::entries::{BarEntry, EndpointEntry};
 use bars::{BarDecl, Kind};
 use headers::{TakesRegisters, have_own_registers};
 
-fn is_index(bar: &BarEntry<'_>) -> bool
+pub fn is_index(bar: &BarEntry<'_>) -> bool
     ensures { result ≡ is_between 0 5 bar.now.index }
 {
     0 <= bar.index && bar.index <= 5
@@ -48,7 +48,7 @@ pub(crate) fn registers_hold(endpoint: &EndpointEntry<'_>) -> bool
     are_indices(&endpoint.bars) && have_own_registers(&endpoint.bars)
 }
 
-fn is_size(kind: Kind, size: i64) -> bool
+pub fn is_size(kind: Kind, size: i64) -> bool
     ensures { result ≡ is_size (kind_of kind) size }
 {
     0 <= size && BarDecl::new(kind, size.unsigned_abs()).is_ok()

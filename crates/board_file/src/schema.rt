@@ -11,7 +11,7 @@ use toml::value::{Array, Table, Value};
 
 /// The kinds of table in a board file.
 #[derive(Clone, Copy)]
-pub(crate) enum Level {
+pub enum Level {
     Top,
     Host,
     Endpoint,
@@ -23,7 +23,7 @@ pub(crate) enum Level {
 
 /// The lists of words.
 #[derive(Clone, Copy)]
-pub(crate) enum Words {
+pub enum Words {
     RegionKind,
     IoDecode,
     PrefDecode,
@@ -31,7 +31,7 @@ pub(crate) enum Words {
 
 /// What stands at a key.
 #[derive(Clone, Copy)]
-pub(crate) enum Form {
+pub enum Form {
     Integer,
     Text,
     Word(Words),
@@ -46,10 +46,10 @@ pub(crate) enum Form {
 
 /// A key of a table.
 #[derive(Clone, Copy)]
-pub(crate) struct Field {
-    pub(crate) key: &'static str,
-    pub(crate) needed: bool,
-    pub(crate) form: Form,
+pub struct Field {
+    pub key: &'static str,
+    pub needed: bool,
+    pub form: Form,
 }
 
 /// What is looked at: that needed keys are there and values have their form, or that each key is
@@ -61,7 +61,7 @@ pub(crate) enum Check {
 }
 
 /// What stands at the key in a table of the level.
-fn form_at(level: Level, key: &str) -> Option<Form>
+pub fn form_at(level: Level, key: &str) -> Option<Form>
     ensures { result ≡ form_at key.now (fields level) }
 {
     'search: for field in fields(level) {
@@ -104,7 +104,7 @@ fn is_word(words: Words, value: &Value) -> bool
 }
 
 /// The value has the form.
-fn has_form(form: Form, value: &Value) -> bool
+pub fn has_form(form: Form, value: &Value) -> bool
     ensures { result ≡ has_form form (view value.now) }
 {
     match form {

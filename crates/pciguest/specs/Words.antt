@@ -1,5 +1,5 @@
 -- The program's command line, as a definition that `clap` reads.
---     app_without_run, pciguest_app      the subcommands that the program knows, without `run` and with it
+--     app_of_two, app_without_run, pciguest_app      the subcommands that the program knows: two, three, all
 --     is_taken words      the command line takes these words, the program's name among them
 --     subcommand, board words      the subcommand that they name, and the path of its board file
 use Rattle.std.specs.Prelude.{ℕ, Bool, true, List, [], ◌∷◌, Option, codes, option_map, option_and_then, find, slice_get}
@@ -11,19 +11,26 @@ use Rattle.clap.specs.Takes.{takes}
 abbrev pub board_rule : Rule
 board_rule = record (new_rule (codes "board")) { required = true }
 
--- `list BOARD` and `run BOARD`
+-- `list BOARD`, `check BOARD` and `run BOARD`
 abbrev pub list_shape : Shape
 list_shape = record (new_shape (codes "list")) { rules = board_rule ∷ [] }
+
+abbrev pub check_shape : Shape
+check_shape = record (new_shape (codes "check")) { rules = board_rule ∷ [] }
 
 abbrev pub run_shape : Shape
 run_shape = record (new_shape (codes "run")) { rules = board_rule ∷ [] }
 
 -- `pciguest demo` and `pciguest list BOARD`, with no help subcommand and no version
-abbrev pub app_without_run : App
-app_without_run =
+abbrev pub app_of_two : App
+app_of_two =
     with_subcommand (with_subcommand
     (on_top (λ s. record s { disable_help_subcommand = true; subcommand_required = true }) (new_app (codes "pciguest")))
     (new_shape (codes "demo"))) list_shape
+
+-- and `pciguest check BOARD`
+abbrev pub app_without_run : App
+app_without_run = with_subcommand app_of_two check_shape
 
 -- and `pciguest run BOARD`
 abbrev pub pciguest_app : App

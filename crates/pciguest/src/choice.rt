@@ -5,7 +5,7 @@ ghost use Rattle.clap.specs.Simple.{app_of, shape_of, new_shape};
 ghost use Rattle.clap.specs.Faults.{fault_of};
 ghost use Rattle.clap.specs.Values.{kind_of};
 ghost use Rattle.clap.specs.Walk.{rule_of};
-ghost use Rattle.pciguest.specs.Words.{board_rule, list_shape, run_shape, app_without_run, pciguest_app, is_taken};
+ghost use Rattle.pciguest.specs.Words.{board_rule, list_shape, check_shape, run_shape, app_of_two, app_without_run, pciguest_app, is_taken};
 ghost use Rattle.pciguest.specs.Choices.{IsAsked, IsWork, IsHelp};
 
 use clap::error::ErrorKind;
@@ -49,9 +49,19 @@ fn run<'a>(alloc: Global) -> Result<Command<'a>, AllocError>
         .arg(board(alloc))
 }
 
-/// The program's command line but for `run`.
+/// `check BOARD`.
+fn check<'a>(alloc: Global) -> Result<Command<'a>, AllocError>
+    ensures shape { IfOk result (λ c. shape_of c ≡ check_shape) }
+    ensures local { IfOk result (λ c. (fields_of c).has_globals ≡ false) }
+{
+    Command::new(alloc, "check")
+        .about("Say what is wrong with the board file <board>, or that its board fits")
+        .arg(board(alloc))
+}
+
+/// The program's command line but for `check` and `run`.
 fn demo_and_list<'a>(alloc: Global) -> Result<Command<'a>, AllocError>
-    ensures { IfOk result (λ c. app_of c ≡ app_without_run) }
+    ensures { IfOk result (λ c. app_of c ≡ app_of_two) }
 {
     let demo = demo(alloc);
     let list = list(alloc)?;
@@ -62,12 +72,20 @@ fn demo_and_list<'a>(alloc: Global) -> Result<Command<'a>, AllocError>
         .subcommand(list)
 }
 
+/// The program's command line but for `run`.
+fn without_run<'a>(alloc: Global) -> Result<Command<'a>, AllocError>
+    ensures { IfOk result (λ c. app_of c ≡ app_without_run) }
+{
+    let check = check(alloc)?;
+    demo_and_list(alloc)?.subcommand(check)
+}
+
 /// The program's command line.
 fn command<'a>(alloc: Global) -> Result<Command<'a>, AllocError>
     ensures { IfOk result (λ c. app_of c ≡ pciguest_app) }
 {
     let run = run(alloc)?;
-    demo_and_list(alloc)?.subcommand(run)
+    without_run(alloc)?.subcommand(run)
 }
 
 /// The answer to words that the command line refuses.
@@ -109,6 +127,9 @@ pub fn choose<'a>(alloc: Global, words: &'a [&'a str]) -> Result<Choice<'a>, Fau
             // No words are taken that name no board.
             Some(("list", list)) => Ok(Choice::List(list.get_str("board").unwrap_or(""))),
             Some(("run", run)) => Ok(Choice::Run(run.get_str("board").unwrap_or(""))),
+            Some(("check", checked)) => {
+                Ok(Choice::Check(checked.get_str("board").unwrap_or("")))
+            }
             _ => Err(Fault::Usage),
         },
         Err(error) => refusal(alloc, &error),

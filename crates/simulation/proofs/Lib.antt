@@ -1,3 +1,4 @@
 mod FaultNumbers
+mod Checked
 mod Listed
 pub mod Ran

@@ -2,8 +2,9 @@
 --     IsDone choice script old new      all of it was written, after what was written before; the script is to be read
 --     IsDoneInPart choice old_rest new_rest old new      so was a beginning of it, as a write or flush failed
 --     IsDoneAsRead choice old_rest new_rest old new      so was that of the lines before a read that failed
+--     IsTelling choice f, IsToldOf choice f old new      the choice tells of the fault; what is wrong was written
 --     IsOfChoice choice f      a fault that the choice can end with
-use Rattle.std.specs.Prelude.{◌≡◌, ◌⊎◌, Option, None, string_bytes}
+use Rattle.std.specs.Prelude.{◌≡◌, ◌≢◌, ◌<◌, ◌⊎◌, Option, None, Some, string_bytes}
 use Rattle.std.specs.Io.KnownBytes.{Appends}
 use Rattle.model_registers.specs.DeclarationRules.{first_broken}
 use Rattle.model_board.specs.SetUpWrites.{set_up_rules}
@@ -11,11 +12,12 @@ use Rattle.model_guests.specs.Text.{Text}
 use Rattle.model_guests.specs.World.{World}
 use Rattle.streams.specs.Ends.{AppendsPart}
 use Rattle.simulation.specs.Demo.{demo_board}
-use Rattle.simulation.specs.Faults.{IsOfList, IsOfRun}
-use Rattle.simulation.specs.Listing.{Declares, IsListed, IsListedInPart}
+use Rattle.simulation.specs.Faults.{number_of, IsOfList, IsOfRun}
+use Rattle.simulation.specs.Listing.{Declares, Refuses, IsListed, IsListedInPart}
+use Rattle.simulation.specs.Checking.{fit_text, misfit_text, IsRefusalTold, IsCheckText}
 use Rattle.simulation.specs.Running.{IsRun, IsRunCut, IsRunStopped}
 use Rattle.simulation.specs.declared.choice.Choice.{Choice}
-use Rattle.simulation.specs.declared.choice.Choice.TheVariants.{Help, Demo, List, Run}
+use Rattle.simulation.specs.declared.choice.Choice.TheVariants.{Help, Demo, List, Check, Run}
 use Rattle.simulation.specs.declared.fault.Fault.{Fault}
 use Rattle.simulation.specs.declared.fault.Fault.TheVariants.{Write, BoardFile}
 
@@ -31,27 +33,59 @@ pub record IsReportedInPart (board : Text) (old new : Option Text) : Type 0 wher
   pub declared : Declares board world
   pub listed : IsListedInPart world old new
 
+-- the board that some bytes declare fits, and this was said
+pub record IsFit (board : Text) (old new : Option Text) : Type 0 where
+  pub world : World
+  pub declared : Declares board world
+  pub set_up : first_broken (set_up_rules world.board world.apertures) ≡ None
+  pub said : Appends old new fit_text
+
+-- what is wrong with a file or its board was told
+pub record IsTold (name board : Text) (f : Fault) (old new : Option Text) : Type 0 where
+  pub refused : number_of f < 199 → Refuses board (number_of f) × IsRefusalTold name board f old new
+  pub misfit : 199 < number_of f → (w : World) × Declares board w
+      × (first_broken (set_up_rules w.board w.apertures) ≡ Some (number_of f)) × Appends old new (misfit_text name f)
+
+-- so was a beginning of it, or of what is said where nothing is wrong
+pub record IsToldInPart (name board : Text) (old new : Option Text) : Type 0 where
+  pub text : Text
+  pub is_text : IsCheckText name board text
+  pub part : AppendsPart old new text
+
+-- a fault of the file or its board, which a check tells of
+abbrev pub IsTelling : Choice → Fault → Type 0
+IsTelling (Check path) f = (number_of f < 299) × (number_of f ≢ 199)
+IsTelling _ f = ⊥
+
+abbrev pub IsToldOf : Choice → Fault → Option Text → Option Text → Type 0
+IsToldOf (Check path) f old new = (board : Text) × IsTold path.now board f old new
+IsToldOf _ f old new = ⊥
+
 abbrev pub IsDone : Choice → Option Text → Option Text → Option Text → Type 0
 IsDone (Help text) script old new = Appends old new (string_bytes text)
 IsDone Demo script old new = IsRun demo_board script old new
 IsDone (List path) script old new = (board : Text) × IsReported board old new
+IsDone (Check path) script old new = (board : Text) × IsFit board old new
 IsDone (Run path) script old new = (board : Text) × IsRun board script old new
 
 abbrev pub IsDoneInPart : Choice → Option Text → Option Text → Option Text → Option Text → Type 0
 IsDoneInPart (Help text) old_rest new_rest old new = AppendsPart old new (string_bytes text)
 IsDoneInPart Demo old_rest new_rest old new = IsRunStopped demo_board old_rest new_rest old new
 IsDoneInPart (List path) old_rest new_rest old new = (board : Text) × IsReportedInPart board old new
+IsDoneInPart (Check path) old_rest new_rest old new = (board : Text) × IsToldInPart path.now board old new
 IsDoneInPart (Run path) old_rest new_rest old new = (board : Text) × IsRunStopped board old_rest new_rest old new
 
--- help and reports read nothing
+-- help, reports and checks read nothing
 abbrev pub IsDoneAsRead : Choice → Option Text → Option Text → Option Text → Option Text → Type 0
 IsDoneAsRead (Help text) old_rest new_rest old new = ⊥
 IsDoneAsRead Demo old_rest new_rest old new = IsRunCut demo_board old_rest new_rest old new
 IsDoneAsRead (List path) old_rest new_rest old new = ⊥
+IsDoneAsRead (Check path) old_rest new_rest old new = ⊥
 IsDoneAsRead (Run path) old_rest new_rest old new = (board : Text) × IsRunCut board old_rest new_rest old new
 
 abbrev pub IsOfChoice : Choice → Fault → Type 0
 IsOfChoice (Help text) f = f ≡ Write
 IsOfChoice Demo f = IsOfRun f
 IsOfChoice (List path) f = IsOfList f ⊎ (f ≡ BoardFile)
+IsOfChoice (Check path) f = IsOfList f ⊎ (f ≡ BoardFile)
 IsOfChoice (Run path) f = IsOfRun f ⊎ (f ≡ BoardFile)

@@ -1,5 +1,6 @@
 pub mod Faults
 pub mod Demo
 pub mod Listing
+pub mod Checking
 pub mod Running
 pub mod Choices

@@ -2,9 +2,10 @@
 ghost use Rattle.std.specs.Prelude.{◌≡◌, ◌≢◌, ◌+◌, ◌-◌, ◌^◌, ◌<◌, OnOk, OnErr, IfErr, IsErrOf};
 ghost use Rattle.std.specs.Io.KnownBytes.{Appends};
 ghost use Rattle.streams.specs.Ends.{AppendsPart};
-ghost use Rattle.simulation.specs.Choices.{IsDone, IsDoneInPart, IsDoneAsRead, IsOfChoice};
+ghost use Rattle.simulation.specs.Choices.{IsDone, IsDoneInPart, IsDoneAsRead, IsTelling, IsToldOf, IsOfChoice};
 ghost use Rattle.simulation.specs.Faults.{read_faults, write_faults};
 
+use crate::checking::check;
 use crate::demonstration::demo;
 use crate::fault::Fault;
 use crate::files::board_bytes;
@@ -23,12 +24,14 @@ pub enum Choice<'a> {
     Demo,
     /// Write the report of the board file at this path.
     List(&'a str),
+    /// Say what is wrong with the board file at this path, or that its board fits.
+    Check(&'a str),
     /// Run a script over the board of the board file at this path.
     Run(&'a str),
 }
 
 /// Writes a text and flushes once.
-fn print<W: Writer>(text: &str, writer: &mut W) -> Result<(), Fault>
+pub(crate) fn print<W: Writer>(text: &str, writer: &mut W) -> Result<(), Fault>
     requires { W.failures writer.old < 2 ^ 64 - 1 }
     ensures ok { OnOk result (Appends (W.written writer.old) (W.written writer.new) text.now) }
     ensures flushed { OnOk result (W.flushed writer.new ≡ W.written writer.new) }
@@ -53,7 +56,7 @@ pub fn perform<R: Reader, W: Writer>(
     requires reader_has_room { R.failures reader.old < 2 ^ 64 - 1 }
     requires writer_has_room { W.failures writer.old < 2 ^ 64 - 1 }
 
-    // The text, the report of some board file or the script's output was written and flushed.
+    // The text, the report of some board file, that a board fits or the script's output was written and flushed.
     ensures done { OnOk result (IsDone choice.now (R.rest reader.old) (W.written writer.old) (W.written writer.new)) }
     ensures flushed { OnOk result (W.flushed writer.new ≡ W.written writer.new) }
 
@@ -62,8 +65,12 @@ pub fn perform<R: Reader, W: Writer>(
         IsDoneAsRead choice.now (R.rest reader.old) (R.rest reader.new) (W.written writer.old) (W.written writer.new) }
     ensures stopped { IsErrOf result Fault.Write →
         IsDoneInPart choice.now (R.rest reader.old) (R.rest reader.new) (W.written writer.old) (W.written writer.new) }
-    ensures nothing { IfErr result (λ f. f ≢ Fault.Read → f ≢ Fault.Write →
-        (reader.new ≡ reader.old) × (writer.new ≡ writer.old)) }
+    ensures unread { IfErr result (λ f. f ≢ Fault.Read → f ≢ Fault.Write → reader.new ≡ reader.old) }
+    ensures nothing { IfErr result (λ f. f ≢ Fault.Read → f ≢ Fault.Write → ¬ IsTelling choice.now f → writer.new ≡ writer.old) }
+
+    // A check tells of a fault of the file or its board, and nothing else tells.
+    ensures told { IfErr result (λ f. IsTelling choice.now f → IsToldOf choice.now f (W.written writer.old) (W.written writer.new)) }
+    ensures told_flushed { IfErr result (λ f. IsTelling choice.now f → W.flushed writer.new ≡ W.written writer.new) }
 
     ensures faults { IfErr result (IsOfChoice choice.now) }
 
@@ -77,6 +84,10 @@ pub fn perform<R: Reader, W: Writer>(
         Choice::List(path) => {
             let board = board_bytes(rt, alloc, path)?;
             list(alloc, &board, writer)
+        }
+        Choice::Check(path) => {
+            let board = board_bytes(rt, alloc, path)?;
+            check(alloc, path, &board, writer)
         }
         Choice::Run(path) => {
             let board = board_bytes(rt, alloc, path)?;

@@ -1,7 +1,8 @@
-//! What the program does, over bytes, a reader and a writer: the report of a board file, a script over
+//! What the program does, over bytes, a reader and a writer: the report of a board file, what is wrong with one, a script over
 //! its board, and a script over the demo board; and the law of two worlds, over the definitions alone.
 #![tactic(auto)]
 
+mod checking;
 mod choice;
 mod demonstration;
 mod fault;
@@ -11,6 +12,7 @@ mod listing;
 mod running;
 mod standard_streams;
 
+pub use checking::check;
 pub use choice::{Choice, perform};
 pub use demonstration::demo;
 pub use fault::Fault;

@@ -1,0 +1,60 @@
+-- Which tables of a board file keep the rules of keys.
+--     table_at ms entry      the table of an entry
+--     level_of entry      the kind of table that it has to be
+--     key_keeps ms entry rule key      at this key the table keeps the rule, or isn't there
+use Rattle.std.specs.Prelude.{ℕ, codes, Bool, true, false, not, ◌&&◌, ◌||◌, List, [], ◌∷◌, Option, Some, None, is_some, option_and_then}
+use Rattle.std.specs.Option.{option_map_or}
+use Rattle.toml.specs.Data.{Data, Members, get_member, at, as_table}
+use Rattle.board_file.specs.Texts.{same_text}
+use Rattle.board_file.specs.Schema.{Field, fields, form_at, has_form}
+use Rattle.board_file.specs.declared.schema.Form.{Form}
+use Rattle.board_file.specs.declared.schema.Level.{Level}
+use Rattle.board_file.specs.declared.schema.Level.TheVariants as level
+use Rattle.board_check.specs.declared.rule.Rule.{Rule}
+use Rattle.board_check.specs.declared.rule.Rule.TheVariants as rule
+use Rattle.board_check.specs.declared.entry.Entry.{Entry}
+use Rattle.board_check.specs.declared.entry.Entry.TheVariants as entry
+
+-- the table at an index of the list at a key
+abbrev pub table_in : List ℕ → ℕ → Members → Option Members
+table_in k i ms = option_and_then as_table (option_and_then (at i) (get_member k ms))
+
+abbrev pub table_at : Members → Entry → Option Members
+table_at ms entry.File = Some ms
+table_at ms entry.Host = option_and_then as_table (get_member (codes "host") ms)
+table_at ms (entry.Endpoint i) = table_in (codes "endpoint") i ms
+table_at ms (entry.Bar i j) = option_and_then (table_in (codes "bar") j) (table_in (codes "endpoint") i ms)
+table_at ms (entry.Config i j) = option_and_then (table_in (codes "config") j) (table_in (codes "endpoint") i ms)
+table_at ms (entry.Bridge i) = table_in (codes "bridge") i ms
+table_at ms (entry.Guest i) = table_in (codes "guest") i ms
+table_at ms (entry.Slot i j) = None
+
+abbrev pub level_of : Entry → Option Level
+level_of entry.File = Some level.Top
+level_of entry.Host = Some level.Host
+level_of (entry.Endpoint i) = Some level.Endpoint
+level_of (entry.Bar i j) = Some level.Bar
+level_of (entry.Config i j) = Some level.Config
+level_of (entry.Bridge i) = Some level.Bridge
+level_of (entry.Guest i) = Some level.Guest
+level_of (entry.Slot i j) = None
+
+abbrev pub needs : List ℕ → List Field → Bool
+needs k [] = false
+needs k (f ∷ fs) = (f.is_needed && same_text f.key k) || needs k fs
+
+abbrev pub is_needed : Level → List ℕ → Bool
+is_needed l k = needs k (fields l)
+
+abbrev pub form_holds : Option Form → Data → Bool
+form_holds (Some form) d = has_form form d
+form_holds None d = true
+
+abbrev pub table_keeps : Rule → Level → List ℕ → Members → Bool
+table_keeps rule.Needed l k ms = not (is_needed l k) || is_some (get_member k ms)
+table_keeps rule.Form l k ms = option_map_or (form_holds (form_at k (fields l))) (get_member k ms) true
+table_keeps rule.Known l k ms = not (is_some (get_member k ms)) || is_some (form_at k (fields l))
+table_keeps _ l k ms = true
+
+abbrev pub key_keeps : Members → Entry → Rule → List ℕ → Bool
+key_keeps ms e r k = option_map_or (λ l. option_map_or (table_keeps r l k) (table_at ms e) true) (level_of e) true

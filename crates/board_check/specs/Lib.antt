@@ -1,0 +1,6 @@
+pub mod Rules
+pub mod Keys
+pub mod Keeping
+pub mod Lines
+pub mod Texts
+pub mod Telling

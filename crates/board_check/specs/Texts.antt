@@ -1,0 +1,56 @@
+-- What is said of problems.
+--     entry_text, value_text      where an entry stands in its file, and a value at a key
+--     problem_text      the line of a problem
+--     refusal_text      all lines of a file that is refused
+use Rattle.std.specs.Prelude.{ℕ, ◌==◌, Bool, List, [], ◌∷◌, ◌++◌, length, codes, decimal, map, Option, Some, None, flat_map, if◌then◌else◌, nat_le, ◌&&◌, ◌||◌}
+use Rattle.board_file.specs.declared.fault.BoardFault.{BoardFault}
+use Rattle.board_file.specs.Faults.{number_of}
+use Rattle.board_check.specs.declared.entry.Entry.{Entry}
+use Rattle.board_check.specs.declared.entry.Entry.TheVariants as entry
+use Rattle.board_check.specs.declared.finding.Problem.{Problem}
+use Rattle.board_check.specs.declared.lines.Told.{Told}
+use Rattle.board_check.specs.Rules.{fault_of, words_of, fault_words}
+
+abbrev pub nth_text : List ℕ → ℕ → List ℕ
+nth_text list i = list ++ codes "[" ++ decimal i ++ codes "]"
+
+abbrev pub inner_text : List ℕ → ℕ → List ℕ → ℕ → List ℕ
+inner_text outer i inner j = nth_text outer i ++ codes "." ++ nth_text inner j
+
+abbrev pub entry_text : Entry → List ℕ
+entry_text entry.File = codes "file"
+entry_text entry.Host = codes "host"
+entry_text (entry.Endpoint i) = nth_text (codes "endpoint") i
+entry_text (entry.Bar i j) = inner_text (codes "endpoint") i (codes "bar") j
+entry_text (entry.Config i j) = inner_text (codes "endpoint") i (codes "config") j
+entry_text (entry.Bridge i) = nth_text (codes "bridge") i
+entry_text (entry.Guest i) = nth_text (codes "guest") i
+entry_text (entry.Slot i j) = inner_text (codes "guest") i (codes "slots") j
+
+-- 46 is a dot; other bytes than those of printable ASCII are written as ?, which is 63
+abbrev pub shown_byte : ℕ → ℕ
+shown_byte b = if nat_le 32 b && nat_le b 126 then b else 63
+
+abbrev pub key_text : List ℕ → List ℕ
+key_text k = if length k == 0 then [] else 46 ∷ map shown_byte k
+
+abbrev pub line_text : Option ℕ → List ℕ
+line_text None = []
+line_text (Some n) = codes ":" ++ decimal n
+
+abbrev pub fault_text : BoardFault → List ℕ
+fault_text f = codes " (" ++ decimal (number_of f) ++ codes " " ++ fault_words f ++ codes ")\n"
+
+-- FILE:LINE: ENTRY.KEY: what is wrong (N WORDS)
+abbrev pub problem_text : List ℕ → Told → List ℕ
+problem_text name t =
+    name ++ line_text t.line ++ codes ": " ++ entry_text t.problem.entry ++ key_text t.problem.key.now ++ codes ": "
+    ++ words_of t.problem.rule ++ fault_text (fault_of t.problem.rule)
+
+-- of a fault of which no entry is told
+abbrev pub bare_text : List ℕ → BoardFault → List ℕ
+bare_text name f = name ++ codes ": refused" ++ fault_text f
+
+abbrev pub lines_text : List ℕ → BoardFault → List Told → List ℕ
+lines_text name f [] = bare_text name f
+lines_text name f (t ∷ ts) = flat_map (problem_text name) (t ∷ ts)

@@ -1,0 +1,195 @@
+//! The entries that break a check.
+ghost use Rattle.std.specs.Prelude.{◌≡◌, IfOk, OnOk};
+ghost use Rattle.toml.specs.View.{table_view};
+ghost use Rattle.model_registers.specs.Lists.{Each};
+ghost use Rattle.board_file.specs.Entries as said;
+ghost use Rattle.board_check.specs.Keeping.{IsProblem};
+
+use crate::entry::Entry;
+use crate::keeping::keeps;
+use crate::keys::{level_of, table_at};
+use crate::rule::Rule;
+use board_file::BoardFault;
+use board_file::entries::{EndpointEntry, FileEntries};
+use board_file::keys::fields;
+use board_file::reading::read_entries;
+use std::alloc::{AllocError, Global};
+use toml::Table;
+
+/// An entry that breaks a rule, and the key at which it does.
+#[derive(Clone, Copy, Debug)]
+pub struct Problem<'a> {
+    pub entry: Entry,
+    pub rule: Rule,
+    pub key: &'a str,
+}
+
+/// Appends the tables of an endpoint's regions and own registers.
+fn push_endpoint(
+    entries: &mut Vec<Entry>,
+    index: usize,
+    endpoint: &EndpointEntry<'_>,
+) -> Result<(), AllocError> {
+    entries.push(Entry::Endpoint(index))?;
+    for bar in 0..endpoint.bars.len() {
+        entries.push(Entry::Bar(index, bar))?;
+    }
+    for config in 0..endpoint.configs.len() {
+        entries.push(Entry::Config(index, config))?;
+    }
+    Ok(())
+}
+
+/// Appends a guest and its slots.
+fn push_guest(entries: &mut Vec<Entry>, index: usize, slots: usize) -> Result<(), AllocError> {
+    entries.push(Entry::Guest(index))?;
+    for slot in 0..slots {
+        entries.push(Entry::Slot(index, slot))?;
+    }
+    Ok(())
+}
+
+/// All entries of a file: endpoints, bridges and guests, each with what stands in it.
+fn entries(alloc: Global, file: &FileEntries<'_>) -> Result<Vec<Entry>, AllocError> {
+    let mut entries = Vec::new(alloc);
+    entries.push(Entry::File)?;
+    entries.push(Entry::Host)?;
+    for (index, endpoint) in file.endpoints.iter().enumerate() {
+        push_endpoint(&mut entries, index, endpoint)?;
+    }
+    for index in 0..file.bridges.len() {
+        entries.push(Entry::Bridge(index))?;
+    }
+    for (index, guest) in file.guests.iter().enumerate() {
+        push_guest(&mut entries, index, guest.slots.len())?;
+    }
+    Ok(entries)
+}
+
+/// Appends the problem, where the fault is the rule's and the entry breaks it.
+fn push_problem<'a>(
+    alloc: Global,
+    problems: &mut Vec<Problem<'a>>,
+    table: &Table,
+    file: &FileEntries<'_>,
+    fault: BoardFault,
+    problem: Problem<'a>,
+) -> Result<(), AllocError>
+    requires file { file.now ≡ said.file (table_view table.now) }
+    requires problems { Each (IsProblem (table_view table.now) fault) problems.old.items }
+    ensures { OnOk result (Each (IsProblem (table_view table.now) fault) problems.new.items) }
+{
+    if problem.rule.fault() != fault {
+        return Ok(());
+    }
+    if keeps(alloc, table, file, problem.entry, problem.rule, problem.key)? {
+        return Ok(());
+    }
+    problems.push(problem)?;
+    Ok(())
+}
+
+/// Appends what is wrong with the keys that an entry may have.
+fn push_fields<'a>(
+    alloc: Global,
+    problems: &mut Vec<Problem<'a>>,
+    table: &Table,
+    file: &FileEntries<'_>,
+    fault: BoardFault,
+    entry: Entry,
+) -> Result<(), AllocError>
+    requires file { file.now ≡ said.file (table_view table.now) }
+    requires problems { Each (IsProblem (table_view table.now) fault) problems.old.items }
+    ensures { OnOk result (Each (IsProblem (table_view table.now) fault) problems.new.items) }
+{
+    let Some(level) = level_of(entry) else {
+        return Ok(());
+    };
+    'fields: for field in fields(level) {
+        let key = field.key;
+        let missing = Problem {
+            entry,
+            rule: Rule::Needed,
+            key,
+        };
+        push_problem(alloc, problems, table, file, fault, missing)?;
+        let misformed = Problem {
+            entry,
+            rule: Rule::Form,
+            key,
+        };
+        push_problem(alloc, problems, table, file, fault, misformed)?;
+    }
+    Ok(())
+}
+
+/// Appends the keys of an entry that its table doesn't have.
+fn push_unknown<'a>(
+    alloc: Global,
+    problems: &mut Vec<Problem<'a>>,
+    table: &'a Table,
+    file: &FileEntries<'_>,
+    fault: BoardFault,
+    entry: Entry,
+) -> Result<(), AllocError>
+    requires file { file.now ≡ said.file (table_view table.now) }
+    requires problems { Each (IsProblem (table_view table.now) fault) problems.old.items }
+    ensures { OnOk result (Each (IsProblem (table_view table.now) fault) problems.new.items) }
+{
+    let Some(inner) = table_at(table, entry) else {
+        return Ok(());
+    };
+    'members: for (key, _) in inner.iter() {
+        let unknown = Problem {
+            entry,
+            rule: Rule::Known,
+            key: key.as_str(),
+        };
+        push_problem(alloc, problems, table, file, fault, unknown)?;
+    }
+    Ok(())
+}
+
+/// Appends what else is wrong with an entry.
+fn push_others<'a>(
+    alloc: Global,
+    problems: &mut Vec<Problem<'a>>,
+    table: &Table,
+    file: &FileEntries<'_>,
+    fault: BoardFault,
+    entry: Entry,
+) -> Result<(), AllocError>
+    requires file { file.now ≡ said.file (table_view table.now) }
+    requires problems { Each (IsProblem (table_view table.now) fault) problems.old.items }
+    ensures { OnOk result (Each (IsProblem (table_view table.now) fault) problems.new.items) }
+{
+    'rules: for rule in Rule::ALL {
+        let problem = Problem {
+            entry,
+            rule,
+            key: rule.key(),
+        };
+        push_problem(alloc, problems, table, file, fault, problem)?;
+    }
+    Ok(())
+}
+
+/// All entries that break a rule whose fault this is, each with this rule and the key at which it is
+/// broken.
+pub fn problems(
+    alloc: Global,
+    table: &Table,
+    fault: BoardFault,
+) -> Result<Vec<Problem<'_>>, AllocError>
+    ensures { IfOk result (λ v. Each (IsProblem (table_view table.now) fault) v.items) }
+{
+    let file = read_entries(alloc, table)?;
+    let entries = entries(alloc, &file)?;
+    let mut problems = Vec::new(alloc);
+    'entries: for entry in &entries {
+        push_fields(alloc, &mut problems, table, &file, fault, *entry)?;
+        push_unknown(alloc, &mut problems, table, &file, fault, *entry)?;
+        push_others(alloc, &mut problems, table, &file, fault, *entry)?;
+    }
+    Ok(problems)
+}

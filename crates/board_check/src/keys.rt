@@ -1,0 +1,144 @@
+//! Whether a table keeps the rules of keys.
+ghost use Rattle.std.specs.Prelude.{◌≡◌, codes, option_map, option_and_then};
+ghost use Rattle.toml.specs.Data.{get_member, at, as_table};
+ghost use Rattle.toml.specs.View.{view, table_view};
+ghost use Rattle.board_check.specs.Keys.{table_in, table_at, level_of, is_needed, form_holds, table_keeps, key_keeps};
+
+use crate::entry::Entry;
+use crate::rule::Rule;
+use board_file::keys::fields;
+use board_file::schema::{Form, Level, form_at, has_form};
+use toml::Table;
+use toml::value::Value;
+
+/// The value at a key.
+fn member<'v>(table: &'v Table, key: &str) -> Option<&'v Value>
+    ensures { option_map (λ v. view v.now) result ≡ get_member key.now (table_view table.now) }
+{
+    table.get(key)
+}
+
+/// The table at an index of a list.
+fn table_of(list: &Value, index: usize) -> Option<&Table>
+    ensures { option_map (λ t. table_view t.now) result ≡ option_and_then as_table (at index (view list.now)) }
+{
+    match list.get(index) {
+        Some(item) => item.as_table(),
+        None => None,
+    }
+}
+
+/// The table at an index of the list at a key.
+fn table_in<'v>(table: &'v Table, key: &str, index: usize) -> Option<&'v Table>
+    ensures { option_map (λ t. table_view t.now) result ≡ table_in key.now index (table_view table.now) }
+{
+    match member(table, key) {
+        Some(list) => table_of(list, index),
+        None => None,
+    }
+}
+
+/// The table at an index of the list at a key of a table of `endpoint`.
+fn table_in_endpoint<'v>(
+    table: &'v Table,
+    endpoint: usize,
+    key: &str,
+    index: usize,
+) -> Option<&'v Table>
+    ensures { option_map (λ t. table_view t.now) result
+        ≡ option_and_then (table_in key.now index) (table_in (codes "endpoint") endpoint (table_view table.now)) }
+{
+    match table_in(table, "endpoint", endpoint) {
+        Some(inner) => table_in(inner, key, index),
+        None => None,
+    }
+}
+
+/// The table `host`.
+fn host(table: &Table) -> Option<&Table>
+    ensures { option_map (λ t. table_view t.now) result ≡ table_at (table_view table.now) Entry.Host }
+{
+    match member(table, "host") {
+        Some(host) => host.as_table(),
+        None => None,
+    }
+}
+
+/// The table of an entry.
+pub(crate) fn table_at(table: &Table, entry: Entry) -> Option<&Table>
+    ensures { option_map (λ t. table_view t.now) result ≡ table_at (table_view table.now) entry }
+{
+    match entry {
+        Entry::File => Some(table),
+        Entry::Host => host(table),
+        Entry::Endpoint(i) => table_in(table, "endpoint", i),
+        Entry::Bar(i, j) => table_in_endpoint(table, i, "bar", j),
+        Entry::Config(i, j) => table_in_endpoint(table, i, "config", j),
+        Entry::Bridge(i) => table_in(table, "bridge", i),
+        Entry::Guest(i) => table_in(table, "guest", i),
+        Entry::Slot(_, _) => None,
+    }
+}
+
+/// The kind of table that an entry has to be.
+pub(crate) fn level_of(entry: Entry) -> Option<Level>
+    ensures { result ≡ level_of entry }
+{
+    match entry {
+        Entry::File => Some(Level::Top),
+        Entry::Host => Some(Level::Host),
+        Entry::Endpoint(_) => Some(Level::Endpoint),
+        Entry::Bar(_, _) => Some(Level::Bar),
+        Entry::Config(_, _) => Some(Level::Config),
+        Entry::Bridge(_) => Some(Level::Bridge),
+        Entry::Guest(_) => Some(Level::Guest),
+        Entry::Slot(_, _) => None,
+    }
+}
+
+/// Whether the key is needed.
+fn is_needed(level: Level, key: &str) -> bool
+    ensures { result ≡ is_needed level key.now }
+{
+    'search: for field in fields(level) {
+        if field.needed && field.key == key {
+            return true;
+        }
+    }
+    false
+}
+
+/// Whether a value has the form that stands at its key.
+fn form_holds(form: Option<Form>, value: &Value) -> bool
+    ensures { result ≡ form_holds form (view value.now) }
+{
+    match form {
+        Some(form) => has_form(form, value),
+        None => true,
+    }
+}
+
+/// Whether the table keeps the rule at a key.
+fn table_keeps(rule: Rule, level: Level, key: &str, table: &Table) -> bool
+    ensures { result ≡ table_keeps rule level key.now (table_view table.now) }
+{
+    match rule {
+        Rule::Needed => !is_needed(level, key) || member(table, key).is_some(),
+        Rule::Form => match member(table, key) {
+            Some(value) => form_holds(form_at(level, key), value),
+            None => true,
+        },
+        Rule::Known => member(table, key).is_none() || form_at(level, key).is_some(),
+        _ => true,
+    }
+}
+
+/// Whether the table of an entry keeps the rule at a key. One that isn't there breaks none.
+pub(crate) fn key_keeps(document: &Table, entry: Entry, rule: Rule, key: &str) -> bool
+    ensures { result ≡ key_keeps (table_view document.now) entry rule key.now }
+{
+    match (level_of(entry), table_at(document, entry)) {
+        (Some(level), Some(table)) => table_keeps(rule, level, key, table),
+        _ => true,
+    }
+}

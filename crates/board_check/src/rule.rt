@@ -1,0 +1,191 @@
+//! The rules that entries have to keep.
+ghost use Rattle.std.specs.Prelude.{◌≡◌};
+ghost use Rattle.board_check.specs.Rules.{fault_of, key_of, words_of};
+
+use board_file::BoardFault;
+
+/// A rule that an entry has to keep.
+#[derive(Clone, Copy, Debug)]
+pub enum Rule {
+    /// A needed key is there.
+    Needed,
+    /// A value has the type, or is one of the words, that stands at its key.
+    Form,
+    /// A key is one that its table has.
+    Known,
+    /// The Vendor ID is 0 to FFFEh.
+    Vendor,
+    /// The Device ID fits its register.
+    Device,
+    /// The Revision ID fits its register.
+    Revision,
+    /// The Class Code fits its register.
+    Class,
+    /// The Subsystem Vendor ID fits its register.
+    Subvendor,
+    /// The Subsystem ID fits its register.
+    Subsystem,
+    /// The interrupt pin is none or one of four.
+    Pin,
+    /// Min_Gnt fits its register.
+    MinGnt,
+    /// Max_Lat fits its register.
+    MaxLat,
+    /// Status has only bits that a device reports.
+    Status,
+    /// A region's block has at most 4096 cells.
+    BarBlock,
+    /// A device's own registers begin at 40h to FFh.
+    ConfigOff,
+    /// There are 1 to 192 of them.
+    ConfigBlock,
+    /// They end at FFh or before.
+    ConfigEnd,
+    /// A path has at most 15 slashes.
+    Slashes,
+    /// There are at most 1024 endpoints and bridges.
+    Functions,
+    /// There are at most 32 guests.
+    Guests,
+    /// A guest has at most 32 slots.
+    Slots,
+    /// A region's index is 0 to 5.
+    Index,
+    /// A region's size is one that its kind allows.
+    Size,
+    /// A region's block is no longer than the region.
+    BlockFits,
+    /// A guest's name has the form of a name.
+    Name,
+    /// The patterns of a region's block are lawful.
+    BarMasks,
+    /// The patterns of a device's own registers are lawful.
+    ConfigMasks,
+}
+
+impl Rule {
+    /// All rules, but those of keys.
+    pub(crate) const ALL: [Rule; 24] = [
+        Rule::Vendor,
+        Rule::Device,
+        Rule::Revision,
+        Rule::Class,
+        Rule::Subvendor,
+        Rule::Subsystem,
+        Rule::Pin,
+        Rule::MinGnt,
+        Rule::MaxLat,
+        Rule::Status,
+        Rule::BarBlock,
+        Rule::ConfigOff,
+        Rule::ConfigBlock,
+        Rule::ConfigEnd,
+        Rule::Slashes,
+        Rule::Functions,
+        Rule::Guests,
+        Rule::Slots,
+        Rule::Index,
+        Rule::Size,
+        Rule::BlockFits,
+        Rule::Name,
+        Rule::BarMasks,
+        Rule::ConfigMasks,
+    ];
+
+    /// The fault of a file in which the rule is broken.
+    pub fn fault(self) -> BoardFault
+        ensures { result ≡ fault_of self }
+    {
+        match self {
+            Rule::Needed | Rule::Form => BoardFault::Key,
+            Rule::Known => BoardFault::UnknownKey,
+            Rule::Vendor
+            | Rule::Device
+            | Rule::Revision
+            | Rule::Class
+            | Rule::Subvendor
+            | Rule::Subsystem
+            | Rule::Pin
+            | Rule::MinGnt
+            | Rule::MaxLat
+            | Rule::Status
+            | Rule::BarBlock
+            | Rule::ConfigOff
+            | Rule::ConfigBlock
+            | Rule::ConfigEnd => BoardFault::Number,
+            Rule::Slashes | Rule::Functions | Rule::Guests | Rule::Slots => BoardFault::TooMany,
+            Rule::Index => BoardFault::Register,
+            Rule::Size | Rule::BlockFits => BoardFault::Size,
+            Rule::Name => BoardFault::GuestName,
+            Rule::BarMasks | Rule::ConfigMasks => BoardFault::CellMasks,
+        }
+    }
+
+    /// The key at which the rule is broken. For a rule of keys it is any key.
+    pub(crate) fn key(self) -> &'static str
+        ensures { result.now ≡ key_of self }
+    {
+        match self {
+            Rule::Needed | Rule::Form | Rule::Known => "",
+            Rule::Vendor => "vendor",
+            Rule::Device => "device",
+            Rule::Revision => "revision",
+            Rule::Class => "class",
+            Rule::Subvendor => "subvendor",
+            Rule::Subsystem => "subsystem",
+            Rule::Pin => "pin",
+            Rule::MinGnt => "min_gnt",
+            Rule::MaxLat => "max_lat",
+            Rule::Status => "status",
+            Rule::BarBlock => "block",
+            Rule::ConfigOff => "off",
+            Rule::ConfigBlock => "block",
+            Rule::ConfigEnd => "block",
+            Rule::Slashes => "at",
+            Rule::Functions => "endpoint",
+            Rule::Guests => "guest",
+            Rule::Slots => "slots",
+            Rule::Index => "index",
+            Rule::Size => "size",
+            Rule::BlockFits => "block",
+            Rule::Name => "name",
+            Rule::BarMasks => "block",
+            Rule::ConfigMasks => "block",
+        }
+    }
+
+    /// What is said where the rule is broken.
+    pub(crate) fn words(self) -> &'static str
+        ensures { result.now ≡ words_of self }
+    {
+        match self {
+            Rule::Needed => "is missing",
+            Rule::Form => "has another type, or is another word, than its key asks",
+            Rule::Known => "is no key of this table",
+            Rule::Vendor => "is not from 0 to 0xfffe",
+            Rule::Device => "is not from 0 to 0xffff",
+            Rule::Revision => "is not from 0 to 0xff",
+            Rule::Class => "is not from 0 to 0xffffff",
+            Rule::Subvendor => "is not from 0 to 0xffff",
+            Rule::Subsystem => "is not from 0 to 0xffff",
+            Rule::Pin => "is not from 0 to 4",
+            Rule::MinGnt => "is not from 0 to 0xff",
+            Rule::MaxLat => "is not from 0 to 0xff",
+            Rule::Status => "has bits outside 0xf900",
+            Rule::BarBlock => "is not from 0 to 4096",
+            Rule::ConfigOff => "is not from 0x40 to 0xff",
+            Rule::ConfigBlock => "is not from 1 to 192",
+            Rule::ConfigEnd => "ends after offset 0xff",
+            Rule::Slashes => "has more than 16 parts",
+            Rule::Functions => "more than 1024 endpoints and bridges",
+            Rule::Guests => "more than 32 guests",
+            Rule::Slots => "more than 32 slots",
+            Rule::Index => "is not from 0 to 5",
+            Rule::Size => "is no size of its kind",
+            Rule::BlockFits => "is longer than the region",
+            Rule::Name => "is no name that a guest may have",
+            Rule::BarMasks => "patterns that are not lawful",
+            Rule::ConfigMasks => "patterns that are not lawful",
+        }
+    }
+}

@@ -1,0 +1,175 @@
+//! What is said of problems.
+ghost use Rattle.std.specs.Prelude.{◌≡◌, ◌<◌, ◌++◌, ◌∷◌, [], OnOk, map, string_bytes};
+ghost use Rattle.std.specs.List.{flat_map};
+ghost use Rattle.board_check.specs.Rules.{fault_words};
+ghost use Rattle.board_check.specs.Texts.{nth_text, inner_text, entry_text, shown_byte, key_text, line_text, fault_text, problem_text, bare_text, lines_text};
+
+use crate::entry::Entry;
+use crate::lines::Told;
+use board_file::BoardFault;
+use std::alloc::AllocError;
+
+/// What is said of a fault.
+fn fault_words(fault: BoardFault) -> &'static str
+    ensures { result.now ≡ fault_words fault }
+{
+    match fault {
+        BoardFault::NotToml => "not TOML",
+        BoardFault::Key => "key",
+        BoardFault::UnknownKey => "unknown key",
+        BoardFault::Number => "number",
+        BoardFault::TooMany => "too many",
+        BoardFault::Place => "place",
+        BoardFault::Register => "register",
+        BoardFault::Size => "size",
+        BoardFault::GuestName => "guest name",
+        BoardFault::Slot => "slot",
+        BoardFault::Aperture => "aperture",
+        BoardFault::CellMasks => "cell masks",
+        BoardFault::Memory => "memory",
+    }
+}
+
+/// Appends an item of a list.
+fn push_nth(text: &mut String, list: &str, index: usize) -> Result<(), AllocError>
+    ensures { OnOk result (string_bytes text.new ≡ string_bytes text.old ++ nth_text list.now index) }
+{
+    write!(text, "{list}[{index}]")
+}
+
+/// Appends an item of a list in an item of another.
+fn push_inner(
+    text: &mut String,
+    outer: &str,
+    i: usize,
+    inner: &str,
+    j: usize,
+) -> Result<(), AllocError>
+    ensures { OnOk result (string_bytes text.new ≡ string_bytes text.old ++ inner_text outer.now i inner.now j) }
+{
+    write!(text, "{outer}[{i}].{inner}[{j}]")
+}
+
+/// Appends where an entry stands.
+fn push_entry(text: &mut String, entry: Entry) -> Result<(), AllocError>
+    ensures { OnOk result (string_bytes text.new ≡ string_bytes text.old ++ entry_text entry) }
+{
+    match entry {
+        Entry::File => text.push_str("file"),
+        Entry::Host => text.push_str("host"),
+        Entry::Endpoint(i) => push_nth(text, "endpoint", i),
+        Entry::Bar(i, j) => push_inner(text, "endpoint", i, "bar", j),
+        Entry::Config(i, j) => push_inner(text, "endpoint", i, "config", j),
+        Entry::Bridge(i) => push_nth(text, "bridge", i),
+        Entry::Guest(i) => push_nth(text, "guest", i),
+        Entry::Slot(i, j) => push_inner(text, "guest", i, "slots", j),
+    }
+}
+
+/// The character that is shown for a byte.
+fn shown_byte(byte: u8) -> char
+    ensures value { result ≡ shown_byte byte }
+    ensures ascii { result < 128 }
+{
+    if 32 <= byte && byte <= 126 {
+        char::from(byte)
+    } else {
+        '?'
+    }
+}
+
+/// Appends a byte as it is shown.
+fn push_byte(text: &mut String, byte: u8) -> Result<(), AllocError>
+    ensures { OnOk result (string_bytes text.new ≡ string_bytes text.old ++ shown_byte byte ∷ []) }
+{
+    text.push(shown_byte(byte))
+}
+
+/// Appends the bytes as they are shown.
+fn push_shown(text: &mut String, bytes: &[u8]) -> Result<(), AllocError>
+    ensures { OnOk result (string_bytes text.new ≡ string_bytes text.old ++ map shown_byte bytes.now) }
+{
+    'bytes: for byte in bytes {
+        push_byte(text, *byte)?;
+    }
+    Ok(())
+}
+
+/// Appends a key, where there is one.
+fn push_key(text: &mut String, key: &str) -> Result<(), AllocError>
+    ensures { OnOk result (string_bytes text.new ≡ string_bytes text.old ++ key_text key.now) }
+{
+    let bytes = key.as_bytes();
+    if bytes.len() == 0 {
+        return Ok(());
+    }
+    text.push('.')?;
+    push_shown(text, bytes)
+}
+
+/// Appends a line's number, where it is known.
+fn push_line(text: &mut String, line: Option<usize>) -> Result<(), AllocError>
+    ensures { OnOk result (string_bytes text.new ≡ string_bytes text.old ++ line_text line) }
+{
+    match line {
+        Some(line) => write!(text, ":{line}"),
+        None => Ok(()),
+    }
+}
+
+/// Appends the number and the words of a fault, and ends the line.
+fn push_fault(text: &mut String, fault: BoardFault) -> Result<(), AllocError>
+    ensures { OnOk result (string_bytes text.new ≡ string_bytes text.old ++ fault_text fault) }
+{
+    let number = fault.number();
+    let words = fault_words(fault);
+    writeln!(text, " ({number} {words})")
+}
+
+/// Appends the line of a problem.
+fn push_problem(text: &mut String, name: &str, told: &Told<'_>) -> Result<(), AllocError>
+    ensures { OnOk result (string_bytes text.new ≡ string_bytes text.old ++ problem_text name.now told.now) }
+{
+    text.push_str(name)?;
+    push_line(text, told.line)?;
+    text.push_str(": ")?;
+    push_entry(text, told.problem.entry)?;
+    push_key(text, told.problem.key)?;
+    text.push_str(": ")?;
+    text.push_str(told.problem.rule.words())?;
+    push_fault(text, told.problem.rule.fault())
+}
+
+/// Appends the lines of problems.
+fn push_problems(text: &mut String, name: &str, told: &[Told<'_>]) -> Result<(), AllocError>
+    ensures { OnOk result (string_bytes text.new ≡ string_bytes text.old ++ flat_map (problem_text name.now) told.now) }
+{
+    for one in told {
+        push_problem(text, name, one)?;
+    }
+    Ok(())
+}
+
+/// Appends the line of a fault of which no entry is told.
+pub(crate) fn push_bare(text: &mut String, name: &str, fault: BoardFault) -> Result<(), AllocError>
+    ensures { OnOk result (string_bytes text.new ≡ string_bytes text.old ++ bare_text name.now fault) }
+{
+    text.push_str(name)?;
+    text.push_str(": refused")?;
+    push_fault(text, fault)
+}
+
+/// Appends the lines of a fault.
+pub(crate) fn push_lines(
+    text: &mut String,
+    name: &str,
+    fault: BoardFault,
+    told: &[Told<'_>],
+) -> Result<(), AllocError>
+    ensures { OnOk result (string_bytes text.new ≡ string_bytes text.old ++ lines_text name.now fault told.now) }
+{
+    if told.is_empty() {
+        return push_bare(text, name, fault);
+    }
+    push_problems(text, name, told)
+}

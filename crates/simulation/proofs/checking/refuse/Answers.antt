@@ -1,0 +1,18 @@
+use Rattle.std.proofs.Common.{refl, string_bytes, subst, sym}
+use Rattle.streams.specs.Ends.{AppendsPart}
+use Rattle.simulation.specs.Faults.{of_file}
+use Rattle.simulation.specs.Checking.{IsCheckText, of_refusal}
+use Rattle.simulation.proofs.Listed.{refused_by_file}
+use Rattle.simulation.proofs.checking.refuse.Goals as goal
+
+pub returns-in_err-print-clause-stopped : goal.returns-in_err-print-clause-stopped
+returns-in_err-print-clause-stopped g c is =
+    let part = c.in_err-print.ensures.stopped in (
+      c.as_str.result.now,
+      subst (λ t. IsCheckText c.args.name.now c.args.board.now t) (sym c.as_str.ensures.value)
+          (of_refusal (of_file c.args.fault) (record { fault = c.args.fault; same = refl; told = c.in-Ok.ensures })),
+      part,
+    )
+
+pub returns-clause-file : goal.returns-clause-file
+returns-clause-file g c h = refused_by_file c.args.board.now c.args.fault c.requires.refused c.requires.not_text c.from.result c.from.ensures h

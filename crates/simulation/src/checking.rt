@@ -1,0 +1,154 @@
+//! What is wrong with a board file, or that nothing is.
+ghost use Rattle.std.specs.Prelude.{◌≡◌, ◌≢◌, ◌⊎◌, ◌++◌, ◌+◌, ◌-◌, ◌^◌, ◌<◌, ◌≤◌, Some, None, Err, OnOk, IfOk, IfErr, IsErrOf, IsUtf8, string_bytes};
+ghost use Rattle.std.specs.Io.KnownBytes.{Appends};
+ghost use Rattle.toml.specs.Parse.{parse_document};
+ghost use Rattle.model_registers.specs.DeclarationRules.{first_broken};
+ghost use Rattle.model_board.specs.SetUpWrites.{set_up_rules};
+ghost use Rattle.model_guests.specs.Text.{Text};
+ghost use Rattle.model_guests.specs.World.{World};
+ghost use Rattle.streams.specs.Ends.{AppendsPart};
+ghost use Rattle.board_file.specs.Meaning.{document_meaning};
+ghost use Rattle.board_file.specs.Faults as of_file;
+ghost use Rattle.board_file.specs.declared.fault.BoardFault.TheVariants.{NotToml, Memory};
+ghost use Rattle.simulation.specs.Faults.{number_of, of_set_up, write_faults, IsOfList};
+ghost use Rattle.simulation.specs.Listing.{Declares, Refuses};
+ghost use Rattle.simulation.specs.Checking.{fit_text, fault_text, misfit_text, IsRefusalOf, IsRefusalTold, IsCheckText};
+
+use crate::choice::print;
+use crate::fault::Fault;
+use board_check::refusal_text;
+use board_file::{BoardFault, read_board};
+use std::alloc::{AllocError, Global};
+use streams::Writer;
+use window_packing::set_up;
+
+/// Writes what is wrong with a file that is refused, and answers the fault.
+fn refuse<W: Writer>(
+    alloc: Global,
+    name: &str,
+    board: &[u8],
+    fault: BoardFault,
+    writer: &mut W,
+) -> Result<(), Fault>
+    requires room { W.failures writer.old < 2 ^ 64 - 1 }
+    requires refused { fault ≢ Memory → IsUtf8 board.now → document_meaning (parse_document board.now) ≡ Err (of_file.number_of fault) }
+    requires not_text { fault ≢ Memory → ¬ IsUtf8 board.now → fault ≡ NotToml }
+    ensures never { OnOk result ⊥ }
+    ensures file { IfErr result (λ f. number_of f < 199 → Refuses board.now (number_of f)) }
+    ensures told { IfErr result (λ f. number_of f < 199 → IsRefusalTold name.now board.now f (W.written writer.old) (W.written writer.new)) }
+    ensures flushed { IfErr result (λ f. number_of f < 199 → W.flushed writer.new ≡ W.written writer.new) }
+    ensures faults { IfErr result (λ f. (number_of f ≤ 199) ⊎ (f ≡ Fault.Write)) }
+    ensures memory { IfErr result (λ f. number_of f ≡ 199 → writer.new ≡ writer.old) }
+    ensures stopped { IsErrOf result Fault.Write → (text : Text) × IsCheckText name.now board.now text
+        × AppendsPart (W.written writer.old) (W.written writer.new) text }
+    ensures failures { W.failures writer.new ≡ W.failures writer.old + write_faults result }
+{
+    if fault == BoardFault::Memory {
+        return Err(Fault::FileMemory);
+    }
+    let Ok(text) = refusal_text(alloc, name, board, fault) else {
+        return Err(Fault::FileMemory);
+    };
+    print(text.as_str(), writer)?;
+    Err(Fault::from(fault))
+}
+
+/// Appends the number and the words of a fault, and ends the line.
+fn push_fault(text: &mut String, fault: Fault) -> Result<(), AllocError>
+    ensures { OnOk result (string_bytes text.new ≡ string_bytes text.old ++ fault_text fault) }
+{
+    let number = fault.number();
+    let words = fault.words();
+    writeln!(text, " ({number} {words})")
+}
+
+/// Appends what is said of a board that can't be set up.
+fn push_misfit(text: &mut String, name: &str, fault: Fault) -> Result<(), AllocError>
+    ensures { OnOk result (string_bytes text.new ≡ string_bytes text.old ++ misfit_text name.now fault) }
+{
+    text.push_str(name)?;
+    text.push_str(": cannot be set up")?;
+    push_fault(text, fault)
+}
+
+/// What is said of a board that can't be set up.
+fn misfit(alloc: Global, name: &str, fault: Fault) -> Result<String, AllocError>
+    ensures { IfOk result (λ t. string_bytes t ≡ misfit_text name.now fault) }
+{
+    let mut text = String::new(alloc);
+    push_misfit(&mut text, name, fault)?;
+    Ok(text)
+}
+
+/// Writes what is wrong with a board that can't be set up, and answers the fault.
+fn decline<W: Writer>(
+    alloc: Global,
+    name: &str,
+    fault: bus_scan::Fault,
+    writer: &mut W,
+) -> Result<(), Fault>
+    requires { W.failures writer.old < 2 ^ 64 - 1 }
+    ensures never { OnOk result ⊥ }
+    ensures fault { IfErr result (λ f. (f ≡ of_set_up fault) ⊎ (f ≡ Fault.SetUpMemory) ⊎ (f ≡ Fault.Write)) }
+    ensures told { IfErr result (λ f. number_of f < 299 → Appends (W.written writer.old) (W.written writer.new) (misfit_text name.now f)) }
+    ensures flushed { IfErr result (λ f. number_of f < 299 → W.flushed writer.new ≡ W.written writer.new) }
+    ensures memory { IfErr result (λ f. number_of f ≡ 299 → writer.new ≡ writer.old) }
+    ensures stopped { IsErrOf result Fault.Write → AppendsPart (W.written writer.old) (W.written writer.new) (misfit_text name.now (of_set_up fault)) }
+    ensures failures { W.failures writer.new ≡ W.failures writer.old + write_faults result }
+{
+    if fault == bus_scan::Fault::Memory {
+        return Err(Fault::SetUpMemory);
+    }
+    let fault = Fault::from(fault);
+    let Ok(text) = misfit(alloc, name, fault) else {
+        return Err(Fault::SetUpMemory);
+    };
+    print(text.as_str(), writer)?;
+    Err(fault)
+}
+
+/// Writes what is wrong with a board file, a line for each entry that breaks the first check that the
+/// file fails, and flushes once; or `ok`, where its board can be set up. `name` is what the file is
+/// called.
+///
+/// The answer is that of `list`, but for faults of the report itself.
+pub fn check<W: Writer>(
+    alloc: Global,
+    name: &str,
+    board: &[u8],
+    writer: &mut W,
+) -> Result<(), Fault>
+    requires { W.failures writer.old < 2 ^ 64 - 1 }
+
+    // The file declares a board that can be set up, and this was said.
+    ensures fits { OnOk result ((w : World) × Declares board.now w × (first_broken (set_up_rules w.board w.apertures) ≡ None)
+        × Appends (W.written writer.old) (W.written writer.new) fit_text) }
+    ensures flushed { OnOk result (W.flushed writer.new ≡ W.written writer.new) }
+
+    // The file is refused: what breaks this check was told.
+    ensures file { IfErr result (λ f. number_of f < 199 → Refuses board.now (number_of f)) }
+    ensures told { IfErr result (λ f. number_of f < 199 → IsRefusalTold name.now board.now f (W.written writer.old) (W.written writer.new)) }
+
+    // The board can't be set up, and this was told.
+    ensures placement { IfErr result (λ f. 199 < number_of f → number_of f < 299 →
+        (w : World) × Declares board.now w × (first_broken (set_up_rules w.board w.apertures) ≡ Some (number_of f))) }
+    ensures misfit { IfErr result (λ f. 199 < number_of f → number_of f < 299 →
+        Appends (W.written writer.old) (W.written writer.new) (misfit_text name.now f)) }
+
+    ensures told_flushed { IfErr result (λ f. number_of f < 299 → number_of f ≢ 199 → W.flushed writer.new ≡ W.written writer.new) }
+    ensures stopped { IsErrOf result Fault.Write → (text : Text) × IsCheckText name.now board.now text
+        × AppendsPart (W.written writer.old) (W.written writer.new) text }
+    ensures faults { IfErr result IsOfList }
+    ensures memory { IfErr result (λ f. (number_of f ≡ 199) ⊎ (number_of f ≡ 299) → writer.new ≡ writer.old) }
+
+    // A fault is the writer's exactly where the writer failed during the call.
+    ensures failures { W.failures writer.new ≡ W.failures writer.old + write_faults result }
+{
+    match read_board(alloc, board) {
+        Ok((host, _)) => match set_up(alloc, host) {
+            Ok(_) => print("ok\n", writer),
+            Err(fault) => decline(alloc, name, fault, writer),
+        },
+        Err(fault) => refuse(alloc, name, board, fault, writer),
+    }
+}
