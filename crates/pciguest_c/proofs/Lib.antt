@@ -1,0 +1,4 @@
+mod Kept
+mod Moved
+mod Options
+mod Words

@@ -1,0 +1,57 @@
+-- What C is told, in the words of guests' definitions.
+--     number_told      the number of a reply: 0, or that of its refusal
+--     index_told i      0 where a guest of a name is there, or 902
+--     value_told old r      what a call leaves where a value goes: what was read, or what stood there
+--     target_told space slot n      where an access goes: 0 configuration space, 1 ports, 2 memory
+--     at_bus      the function of a physical number
+--     host_target_told space at n      the same of a read by the host
+--     part_told n      where a raise goes: a region by its register, or configuration space
+--     reply_asked, after_asked      a guest's event by its index: the reply, and the world after it
+use Rattle.std.specs.Prelude.{ℕ, ◌==◌, if◌then◌else◌, nat_lt, Option, Some, None}
+use Rattle.model_board.specs.Cycles.{BusAddress}
+use Rattle.model_guests.specs.Accesses.{Target, configuration, port, address, RaisePlace, in_config, in_region}
+use Rattle.model_guests.specs.Accesses.{Event, Reply, answered, done, refused}
+use Rattle.model_guests.specs.Grammar.{HostTarget, host_configuration, host_port, host_address}
+use Rattle.model_guests.specs.Lone.{answer}
+use Rattle.model_guests.specs.Guests.{lone_of}
+use Rattle.model_guests.specs.Lines.{guest_event}
+use Rattle.model_guests.specs.WorldNow.{WorldNow, after_meaning}
+use Rattle.monitor.specs.ByIndex.{name_nth}
+
+abbrev pub number_told : Reply → ℕ
+number_told (answered v w) = 0
+number_told done = 0
+number_told (refused n) = n
+
+abbrev pub index_told : Option ℕ → ℕ
+index_told None = 902
+index_told (Some i) = 0
+
+abbrev pub value_told : ℕ → Reply → ℕ
+value_told old (answered v w) = v
+value_told old done = old
+value_told old (refused n) = old
+
+abbrev pub target_told : ℕ → ℕ → ℕ → Option Target
+target_told space slot n =
+    if space == 0 then Some (configuration slot n)
+    else (if space == 1 then Some (port n) else (if space == 2 then Some (address n) else None))
+
+abbrev pub at_bus : ℕ → ℕ → ℕ → BusAddress
+at_bus bus device function = record { bus = bus; part = record { device = device; function = function } }
+
+abbrev pub host_target_told : ℕ → BusAddress → ℕ → Option HostTarget
+host_target_told space at n =
+    if space == 0 then (if nat_lt at.part.device 32 then (if nat_lt at.part.function 8 then Some (host_configuration at n) else None) else None)
+    else (if space == 1 then Some (host_port n) else (if space == 2 then Some (host_address n) else None))
+
+-- 6 is configuration space
+abbrev pub part_told : ℕ → Option RaisePlace
+part_told n = if nat_lt n 6 then Some (in_region n) else (if n == 6 then Some in_config else None)
+
+-- the guest's name stands for it, as no two guests have one name
+abbrev pub reply_asked : WorldNow → ℕ → Event → Reply
+reply_asked m guest e = answer (lone_of m.guests (name_nth m guest)) e
+
+abbrev pub after_asked : WorldNow → ℕ → Event → WorldNow
+after_asked m guest e = after_meaning m (guest_event (name_nth m guest) e)

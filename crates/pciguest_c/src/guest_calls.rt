@@ -1,0 +1,146 @@
+//! What C asks as a guest. Each call answers 0, or the number of a refusal.
+ghost use Rattle.std.specs.Prelude.{◌≡◌, ◌≢◌, ◌<◌, ◌≤◌, None, Some, IfNone, IfSome, length, position, unwrap_or};
+ghost use Rattle.std.specs.Str.{bytes_eq};
+ghost use Rattle.model_guests.specs.Accesses.{Target, RaisePlace, access, raises, reads, writes};
+ghost use Rattle.model_guests.specs.WorldNow.{names_now};
+ghost use Rattle.pciguest_c.specs.Told.{index_told, number_told, value_told, target_told, part_told, reply_asked, after_asked};
+
+use crate::asking::{guest_named, raise, read, write};
+use crate::handle::Handle;
+use crate::numbers::NO_MACHINE;
+use std::alloc::Global;
+
+/// Reads 1, 2 or 4 bytes as a guest. What is read is what the guest's own functions answer.
+#[unsafe(no_mangle)]
+pub extern "C" fn pciguest_raw_read(
+    alloc: Global,
+    handle: &mut Handle,
+    guest: usize,
+    space: u32,
+    slot: u64,
+    place: u64,
+    width: u32,
+    value: &mut u32,
+) -> u32
+    ensures none { IfNone handle.old.owner.value ((result ≡ 901) × (value.new ≡ value.old)) }
+    ensures space { IfSome handle.old.owner.value (λ _. target_told space slot place ≡ None →
+        (result ≡ 902) × (value.new ≡ value.old)) }
+    ensures guest { IfSome handle.old.owner.value (λ m. length m.guests ≤ guest →
+        (result ≡ 902) × (value.new ≡ value.old)) }
+    ensures read { IfSome handle.old.owner.value (λ m. guest < length m.guests →
+        (t : Target) → target_told space slot place ≡ Some t →
+        let r = reply_asked m guest (access (record { target = t; width = width; op = reads })) in
+        (result ≡ number_told r) × (value.new ≡ value_told value.old r)) }
+    ensures kept { handle.new.owner.value ≡ handle.old.owner.value }
+{
+    match handle.take(alloc) {
+        Some(mut monitor) => {
+            let number = read(
+                &mut monitor,
+                guest,
+                space,
+                slot,
+                place,
+                u64::from(width),
+                value,
+            );
+            *handle = Handle::of(monitor);
+            number
+        }
+        None => NO_MACHINE,
+    }
+}
+
+/// Writes the low 1, 2 or 4 bytes of a value as a guest.
+#[unsafe(no_mangle)]
+pub extern "C" fn pciguest_raw_write(
+    alloc: Global,
+    handle: &mut Handle,
+    guest: usize,
+    space: u32,
+    slot: u64,
+    place: u64,
+    width: u32,
+    value: u32,
+) -> u32
+    ensures none { IfNone handle.old.owner.value (result ≡ 901) }
+    ensures space { IfSome handle.old.owner.value (λ _. target_told space slot place ≡ None → result ≡ 902) }
+    ensures guest { IfSome handle.old.owner.value (λ m. length m.guests ≤ guest → result ≡ 902) }
+    ensures written { IfSome handle.old.owner.value (λ m. guest < length m.guests →
+        (t : Target) → target_told space slot place ≡ Some t →
+        let e = access (record { target = t; width = width; op = writes value }) in
+        (result ≡ number_told (reply_asked m guest e)) × (handle.new.owner.value ≡ Some (after_asked m guest e))) }
+    ensures refused { result ≢ 0 → handle.new.owner.value ≡ handle.old.owner.value }
+{
+    match handle.take(alloc) {
+        Some(mut monitor) => {
+            let number = write(
+                &mut monitor,
+                guest,
+                space,
+                slot,
+                place,
+                u64::from(width),
+                value,
+            );
+            *handle = Handle::of(monitor);
+            number
+        }
+        None => NO_MACHINE,
+    }
+}
+
+/// Sets bits of one byte of a guest's function, as its device does: of a region by the index of its
+/// base address register, 0 to 5, or of configuration space by 6.
+#[unsafe(no_mangle)]
+pub extern "C" fn pciguest_raw_raise(
+    alloc: Global,
+    handle: &mut Handle,
+    guest: usize,
+    slot: u64,
+    part: u32,
+    offset: u64,
+    mask: u8,
+) -> u32
+    ensures none { IfNone handle.old.owner.value ((result ≡ 901) × (handle.new.owner.value ≡ None)) }
+    ensures part { IfSome handle.old.owner.value (λ m. part_told part ≡ None →
+        (result ≡ 902) × (handle.new.owner.value ≡ Some m)) }
+    ensures guest { IfSome handle.old.owner.value (λ m. length m.guests ≤ guest →
+        (result ≡ 902) × (handle.new.owner.value ≡ Some m)) }
+    ensures raised { IfSome handle.old.owner.value (λ m. guest < length m.guests →
+        (p : RaisePlace) → part_told part ≡ Some p →
+        let e = raises (record { slot = slot; part = p; offset = offset; mask = mask }) in
+        (result ≡ number_told (reply_asked m guest e)) × (handle.new.owner.value ≡ Some (after_asked m guest e))) }
+{
+    match handle.take(alloc) {
+        Some(mut monitor) => {
+            let number = raise(&mut monitor, guest, slot, part, offset, mask);
+            *handle = Handle::of(monitor);
+            number
+        }
+        None => NO_MACHINE,
+    }
+}
+
+/// The index of the guest of a name.
+#[unsafe(no_mangle)]
+pub extern "C" fn pciguest_raw_guest(
+    alloc: Global,
+    handle: &mut Handle,
+    name: &[u8],
+    guest: &mut usize,
+) -> u32
+    ensures none { IfNone handle.old.owner.value ((result ≡ 901) × (guest.new ≡ guest.old)) }
+    ensures named { IfSome handle.old.owner.value (λ m. let i = position (λ n. bytes_eq n name.now) (names_now m) in
+        (result ≡ index_told i) × (guest.new ≡ unwrap_or i guest.old)) }
+    ensures kept { handle.new.owner.value ≡ handle.old.owner.value }
+{
+    match handle.take(alloc) {
+        Some(monitor) => {
+            let number = guest_named(&monitor, name, guest);
+            *handle = Handle::of(monitor);
+            number
+        }
+        None => NO_MACHINE,
+    }
+}

@@ -1,0 +1,84 @@
+//! What C asks as the host. Each call answers 0, or the number of a refusal.
+ghost use Rattle.std.specs.Prelude.{◌≡◌, ◌≢◌, ◌<◌, ◌≤◌, None, Some, IfNone, IfSome, length};
+ghost use Rattle.model_guests.specs.Grammar.{HostTarget};
+ghost use Rattle.model_guests.specs.Lines.{host_move};
+ghost use Rattle.model_guests.specs.WorldNow.{host_reply, move_reply, after_meaning};
+ghost use Rattle.monitor.specs.Moves.{move_nth};
+ghost use Rattle.pciguest_c.specs.Told.{at_bus, number_told, value_told, host_target_told};
+
+use crate::handle::Handle;
+use crate::hosting::{host_read, move_function};
+use crate::numbers::NO_MACHINE;
+use std::alloc::Global;
+
+/// Reads 1, 2 or 4 bytes as the host does: what the board shows at physical numbers. Bus, device and
+/// function are looked at for configuration space alone.
+#[unsafe(no_mangle)]
+pub extern "C" fn pciguest_raw_host_read(
+    alloc: Global,
+    handle: &mut Handle,
+    space: u32,
+    bus: u8,
+    device: u8,
+    function: u8,
+    place: u64,
+    width: u32,
+    value: &mut u32,
+) -> u32
+    ensures none { IfNone handle.old.owner.value ((result ≡ 901) × (value.new ≡ value.old)) }
+    ensures place { IfSome handle.old.owner.value (λ _. host_target_told space (at_bus bus device function) place ≡ None →
+        (result ≡ 902) × (value.new ≡ value.old)) }
+    ensures read { IfSome handle.old.owner.value (λ m.
+        (t : HostTarget) → host_target_told space (at_bus bus device function) place ≡ Some t →
+        let r = host_reply m (record { target = t; width = width }) in
+        (result ≡ number_told r) × (value.new ≡ value_told value.old r)) }
+    ensures kept { handle.new.owner.value ≡ handle.old.owner.value }
+{
+    match handle.take(alloc) {
+        Some(mut monitor) => {
+            let width = u64::from(width);
+            let number = host_read(
+                &mut monitor,
+                space,
+                bus,
+                device,
+                function,
+                place,
+                width,
+                value,
+            );
+            *handle = Handle::of(monitor);
+            number
+        }
+        None => NO_MACHINE,
+    }
+}
+
+/// Moves the function in a slot of a guest to a slot of another, or of the same. It is then at reset.
+#[unsafe(no_mangle)]
+pub extern "C" fn pciguest_raw_move(
+    alloc: Global,
+    handle: &mut Handle,
+    from: usize,
+    slot: u64,
+    to: usize,
+    target: u64,
+) -> u32
+    ensures none { IfNone handle.old.owner.value (result ≡ 901) }
+    ensures from { IfSome handle.old.owner.value (λ m. length m.guests ≤ from → result ≡ 902) }
+    ensures to { IfSome handle.old.owner.value (λ m. length m.guests ≤ to → result ≡ 902) }
+    ensures moved { IfSome handle.old.owner.value (λ m. from < length m.guests → to < length m.guests →
+        let v = move_nth m from slot to target in
+        (result ≡ number_told (move_reply m.guests v))
+        × (handle.new.owner.value ≡ Some (after_meaning m (host_move v)))) }
+    ensures refused { result ≢ 0 → handle.new.owner.value ≡ handle.old.owner.value }
+{
+    match handle.take(alloc) {
+        Some(mut monitor) => {
+            let number = move_function(&mut monitor, from, slot, to, target);
+            *handle = Handle::of(monitor);
+            number
+        }
+        None => NO_MACHINE,
+    }
+}

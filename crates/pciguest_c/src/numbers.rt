@@ -1,0 +1,28 @@
+//! The numbers that calls answer.
+ghost use Rattle.std.specs.Prelude.{◌≡◌};
+ghost use Rattle.accesses.specs.Accesses.{reply_of};
+ghost use Rattle.pciguest_c.specs.Told.{number_told};
+
+use accesses::Reply;
+
+/// The handle holds no monitor.
+pub const NO_MACHINE: u32 = 901;
+
+/// An argument that the call does not take.
+pub const ARGUMENT: u32 = 902;
+
+/// The handle holds a monitor already.
+pub const IN_USE: u32 = 903;
+
+/// Out of memory.
+pub const MEMORY: u32 = 299;
+
+/// 0, or the number of a refusal.
+pub fn number_of(reply: Reply) -> u32
+    ensures { result ≡ number_told (reply_of reply) }
+{
+    match reply {
+        Reply::Value(..) | Reply::Done => 0,
+        Reply::Refused(number) => u32::from(number),
+    }
+}

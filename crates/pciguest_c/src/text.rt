@@ -1,0 +1,62 @@
+//! The report of a board file, in memory.
+ghost use Rattle.std.specs.Prelude.{◌≡◌, ◌≢◌, ◌≤◌, ◌<◌, ◌-◌, ◌^◌, Some, None, [], IfOk, IfErr};
+ghost use Rattle.model_registers.specs.DeclarationRules.{first_broken};
+ghost use Rattle.model_board.specs.SetUpWrites.{set_up_rules};
+ghost use Rattle.model_guests.specs.World.{World};
+ghost use Rattle.model_guests.specs.Report.{report};
+ghost use Rattle.simulation.specs.Listing.{Declares, Refuses};
+
+use crate::numbers::MEMORY;
+use simulation::{Fault, list};
+use std::alloc::Global;
+use streams::{Failed, Writer};
+
+/// What was written.
+#[derive(Drop)]
+struct Text {
+    bytes: Vec<u8>,
+    failures: u64,
+}
+
+impl Writer for Text {
+    ghost written = { λ t. Some t.bytes.items };
+
+    ghost flushed = { λ t. Some t.bytes.items };
+
+    ghost failures = { λ t. t.failures };
+
+    fn write(&mut self, bytes: &[u8]) -> Result<usize, Failed> {
+        if self.bytes.extend_from_slice(bytes).is_err() {
+            self.failures += 1;
+            return Err(Failed);
+        }
+        if bytes.is_empty() {
+            self.failures += 1;
+        }
+        Ok(bytes.len())
+    }
+
+    fn flush(&mut self) -> Result<(), Failed> {
+        Ok(())
+    }
+}
+
+/// The report of a board file, or the number of its refusal.
+pub fn report_of(alloc: Global, board: &[u8]) -> Result<Vec<u8>, u32>
+    ensures report { IfOk result (λ v. (w : World) × Declares board.now w
+        × (first_broken (set_up_rules w.board w.apertures) ≡ None) × (v.items ≡ report w)) }
+    ensures file { IfErr result (λ n. n < 199 → Refuses board.now n) }
+    ensures placement { IfErr result (λ n. 199 < n → n < 299 →
+        (w : World) × Declares board.now w × (first_broken (set_up_rules w.board w.apertures) ≡ Some n)) }
+    ensures numbers { IfErr result (λ n. (n ≢ 0) × (n ≤ 299)) }
+{
+    let mut text = Text {
+        bytes: Vec::new(alloc),
+        failures: 0,
+    };
+    match list(alloc, board, &mut text) {
+        Ok(()) => Ok(text.bytes),
+        Err(Fault::Write) => Err(MEMORY),
+        Err(fault) => Err(u32::from(fault.number())),
+    }
+}

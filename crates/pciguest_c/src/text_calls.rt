@@ -1,0 +1,98 @@
+//! What C asks and is answered as text.
+ghost use Rattle.std.specs.Prelude.{◌≡◌, ◌≢◌, ◌<◌, ◌≤◌, ◌++◌, ◌⊎◌, None, Some, IfNone, IfSome, drop, length};
+ghost use Rattle.model_registers.specs.DeclarationRules.{first_broken};
+ghost use Rattle.model_board.specs.SetUpWrites.{set_up_rules};
+ghost use Rattle.model_guests.specs.World.{World};
+ghost use Rattle.model_guests.specs.Report.{report};
+ghost use Rattle.model_guests.specs.WorldNow.{line_output, after_line};
+ghost use Rattle.simulation.specs.Listing.{Declares, Refuses};
+
+use crate::handle::Handle;
+use crate::numbers::{ARGUMENT, NO_MACHINE};
+use crate::text::report_of;
+use script::run_line;
+use std::alloc::Global;
+
+/// The bytes of the longest line that answers a line.
+const LONGEST_REPLY: usize = 48;
+
+/// Puts a text at the front of a buffer that has room for it.
+fn put(out: &mut [u8], text: &[u8])
+    requires { length text.now ≤ length out.old }
+    ensures { out.new ≡ text.now ++ drop (length text.now) out.old }
+{
+    out[..text.len()].copy_from_slice(text);
+}
+
+/// Runs one line of a script, which is given without its line feed. What it writes, nothing or one line
+/// with a line feed, is put at the front of `out`, which needs room for 48 bytes, and its length is told.
+#[unsafe(no_mangle)]
+pub extern "C" fn pciguest_raw_run_line(
+    alloc: Global,
+    handle: &mut Handle,
+    line: &[u8],
+    out: &mut [u8],
+    written: &mut usize,
+) -> u32
+    ensures none { IfNone handle.old.owner.value (result ≡ 901) }
+    ensures room { IfSome handle.old.owner.value (λ _. length out.old < 48 → result ≡ 902) }
+    ensures ran { IfSome handle.old.owner.value (λ m. 48 ≤ length out.old →
+        (result ≡ 0) × (handle.new.owner.value ≡ Some (after_line m line.now))) }
+    ensures text { IfSome handle.old.owner.value (λ m. 48 ≤ length out.old →
+        let text = line_output m line.now in
+        (out.new ≡ text ++ drop (length text) out.old) × (written.new ≡ length text)) }
+    ensures refused { result ≢ 0 → handle.new.owner.value ≡ handle.old.owner.value }
+    ensures unwritten { result ≢ 0 → (out.new ≡ out.old) × (written.new ≡ written.old) }
+{
+    if out.len() < LONGEST_REPLY {
+        return if handle.is_live() {
+            ARGUMENT
+        } else {
+            NO_MACHINE
+        };
+    }
+    match handle.take(alloc) {
+        Some(mut monitor) => {
+            let reply = run_line(&mut monitor, line);
+            *handle = Handle::of(monitor);
+            put(out, reply.as_slice());
+            *written = reply.len();
+            0
+        }
+        None => NO_MACHINE,
+    }
+}
+
+/// Writes the report of a board file to the front of `out`, and tells how long it is, also where `out`
+/// has less room than that.
+#[unsafe(no_mangle)]
+pub extern "C" fn pciguest_raw_report(
+    alloc: Global,
+    board: &[u8],
+    out: &mut [u8],
+    needed: &mut usize,
+) -> u32
+    ensures text { result ≡ 0 → (w : World) × Declares board.now w
+        × (first_broken (set_up_rules w.board w.apertures) ≡ None)
+        × (out.new ≡ report w ++ drop (length (report w)) out.old) × (needed.new ≡ length (report w)) }
+    ensures room { result ≡ 902 → (w : World) × Declares board.now w
+        × (length out.old < length (report w)) × (needed.new ≡ length (report w)) }
+    ensures file { result ≢ 0 → result < 199 → Refuses board.now result }
+    ensures placement { 199 < result → result < 299 →
+        (w : World) × Declares board.now w × (first_broken (set_up_rules w.board w.apertures) ≡ Some result) }
+    ensures numbers { (result ≤ 299) ⊎ (result ≡ 902) }
+    ensures refused { result ≢ 0 → out.new ≡ out.old }
+    ensures untold { result ≢ 0 → result ≤ 299 → needed.new ≡ needed.old }
+{
+    match report_of(alloc, board) {
+        Ok(text) => {
+            *needed = text.len();
+            if out.len() < text.len() {
+                return ARGUMENT;
+            }
+            put(out, &text);
+            0
+        }
+        Err(number) => number,
+    }
+}
