@@ -8,7 +8,7 @@ PROGRESS := grep --line-buffered -E '^(== |[a-z_]+: |[0-9]+ of )|^[^ ]*: error|n
 # the board of `make list` and `make lspci`, unless they are given one
 BOARD := crates/examples/data/main.toml
 
-.PHONY: demo list lspci has-lspci test build bench hostile fuzz try clean
+.PHONY: demo list lspci has-lspci test build library bench hostile fuzz try clean
 
 # Proves and builds the program, and runs a script over the demo board.
 demo: build
@@ -36,6 +36,8 @@ test:
 	tests/documents.sh
 	rt ci
 	tests/program.sh
+	tools/library
+	tests/library.sh
 	tests/commands.sh
 
 # Leaves the proved program as ./pciguest.
@@ -44,6 +46,11 @@ build:
 	@cd crates/pciguest && rt run -- demo < /dev/null > out/build.log 2>&1 || { cat out/build.log; exit 1; }
 	@cp crates/pciguest/out/pciguest pciguest
 	@echo 'pciguest: proved and built'
+
+# Leaves the proved library for C as library/libpciguest.a, beside library/pciguest.h. It takes ar.
+library:
+	@rt all check --jobs $(JOBS) 2>&1 | $(PROGRESS)
+	@tools/library
 
 # What an access and an event of a guest cost, in nanoseconds, on boards of 1, 4, 1003 and 1024 functions.
 bench: build
@@ -69,4 +76,4 @@ try:
 	@cd crates/pciguest && rt try -- demo < ../../examples/demo.script
 
 clean:
-	rm -rf crates/*/out pciguest
+	rm -rf crates/*/out pciguest library/libpciguest.a

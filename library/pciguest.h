@@ -1,0 +1,165 @@
+/* pciguest: a PCI board, its firmware and the monitor that gives its functions to guests.
+ *
+ * docs/LIBRARY.md says how to build and use the library, and what is proved of it. Every call answers 0,
+ * or the number of a refusal. A call that answers a number other than 0 changed nothing and stored
+ * nothing, but for the length that pciguest_report tells.
+ *
+ *   101 to 112  the board file is refused           199, 299  out of memory
+ *   201 to 205  the board can't be set up           301 302 303 601 602  an access or a move is refused
+ *   901  the handle holds no machine   902  an argument   903  the handle holds a machine already
+ */
+#ifndef PCIGUEST_H
+#define PCIGUEST_H
+
+#include <stdbool.h>
+#include <stddef.h>
+#include <stdint.h>
+
+#ifdef __cplusplus
+extern "C" {
+#endif
+
+/* What a program holds of a machine: a board that is set up, with its guests. It begins with all bytes 0,
+ * `struct pciguest machine = {0};`, and then holds none. Only the library looks at its fields. Two copies
+ * of one struct are never both used; it may be moved, and the place that it left forgotten. */
+struct pciguest {
+    bool live;
+    void *at;
+};
+
+/* Where an access goes: a byte offset of the configuration space of the function in a slot, an I/O port, or
+ * a memory address. */
+enum pciguest_space { PCIGUEST_CONFIG = 0, PCIGUEST_IO = 1, PCIGUEST_MEMORY = 2 };
+
+/* Where a raise goes that is not in a region: regions are told by base address register, 0 to 5. */
+enum { PCIGUEST_RAISE_CONFIG = 6 };
+
+/* The room that pciguest_run_line needs for its reply. */
+enum { PCIGUEST_REPLY = 48 };
+
+enum { PCIGUEST_NO_MACHINE = 901, PCIGUEST_ARGUMENT = 902, PCIGUEST_IN_USE = 903 };
+
+/* The calls of the library itself. They take no null pointer; those below, which test for it, are the ones
+ * to use. */
+uint32_t pciguest_raw_new(struct pciguest *machine, const uint8_t *board, size_t length);
+void pciguest_raw_free(struct pciguest *machine);
+uint32_t pciguest_raw_guest(struct pciguest *machine, const uint8_t *name, size_t length, size_t *guest);
+uint32_t pciguest_raw_read(struct pciguest *machine, size_t guest, uint32_t space, uint64_t slot, uint64_t place,
+                           uint32_t width, uint32_t *value);
+uint32_t pciguest_raw_write(struct pciguest *machine, size_t guest, uint32_t space, uint64_t slot, uint64_t place,
+                            uint32_t width, uint32_t value);
+uint32_t pciguest_raw_raise(struct pciguest *machine, size_t guest, uint64_t slot, uint32_t part, uint64_t offset,
+                            uint8_t mask);
+uint32_t pciguest_raw_host_read(struct pciguest *machine, uint32_t space, uint8_t bus, uint8_t device,
+                                uint8_t function, uint64_t place, uint32_t width, uint32_t *value);
+uint32_t pciguest_raw_move(struct pciguest *machine, size_t from, uint64_t slot, size_t to, uint64_t target);
+uint32_t pciguest_raw_run_line(struct pciguest *machine, const uint8_t *line, size_t length, uint8_t *reply,
+                               size_t room, size_t *written);
+uint32_t pciguest_raw_report(const uint8_t *board, size_t length, uint8_t *text, size_t room, size_t *needed);
+
+/* Sets up the board of a board file, given as its bytes, and gives its functions to the guests of the file.
+ * 0: the machine holds the world that the file declares, before any access. Otherwise the number of the first
+ * check that the file or its board fails, 199 or 299 out of memory, or 903. */
+static inline uint32_t pciguest_new(struct pciguest *machine, const void *board, size_t length)
+{
+    if (!machine || (!board && length))
+        return PCIGUEST_ARGUMENT;
+    return pciguest_raw_new(machine, board ? (const uint8_t *)board : (const uint8_t *)"", length);
+}
+
+/* Frees the machine. The struct then holds none, and may be used for a new one. Where it held none, nothing
+ * happens. */
+static inline void pciguest_free(struct pciguest *machine)
+{
+    if (machine)
+        pciguest_raw_free(machine);
+}
+
+/* The index of the guest of a name, as the calls below take it: guests stand in the order of the board file,
+ * from 0 on. 902: no guest has this name. */
+static inline uint32_t pciguest_guest(struct pciguest *machine, const char *name, size_t length, size_t *guest)
+{
+    if (!machine || (!name && length) || !guest)
+        return PCIGUEST_ARGUMENT;
+    return pciguest_raw_guest(machine, (const uint8_t *)(name ? name : ""), length, guest);
+}
+
+/* Reads as a guest, by the guest's own view: slot and offset, port, or address. What is read is what the guest's
+ * own functions answer, each a register file by itself; all ones where nothing of the guest's answers. A read
+ * changes nothing. The slot is looked at for configuration space alone.
+ * 302: the width is not 1, 2 or 4. 301: the place is no multiple of it. 303: the slot, offset or port is out of
+ * range. 902: there is no such guest or space. */
+static inline uint32_t pciguest_read(struct pciguest *machine, size_t guest, uint32_t space, uint64_t slot,
+                                     uint64_t place, uint32_t width, uint32_t *value)
+{
+    if (!machine || !value)
+        return PCIGUEST_ARGUMENT;
+    return pciguest_raw_read(machine, guest, space, slot, place, width, value);
+}
+
+/* Writes the low bytes of a value as a guest, as many as it is wide. No other guest can tell. Numbers as above. */
+static inline uint32_t pciguest_write(struct pciguest *machine, size_t guest, uint32_t space, uint64_t slot,
+                                      uint64_t place, uint32_t width, uint32_t value)
+{
+    if (!machine)
+        return PCIGUEST_ARGUMENT;
+    return pciguest_raw_write(machine, guest, space, slot, place, width, value);
+}
+
+/* Sets bits of one byte of the function in a guest's slot, as its device does. 303: the slot is above 31, or the
+ * function has no such byte. 601: the slot is empty. 902: there is no such guest, or the part is above 6. */
+static inline uint32_t pciguest_raise(struct pciguest *machine, size_t guest, uint64_t slot, uint32_t part,
+                                      uint64_t offset, uint8_t mask)
+{
+    if (!machine)
+        return PCIGUEST_ARGUMENT;
+    return pciguest_raw_raise(machine, guest, slot, part, offset, mask);
+}
+
+/* Reads as the host: what the board shows at a physical number, port or address. It changes nothing. Numbers as for
+ * pciguest_read; 902 for a device above 31 or a function above 7 too. */
+static inline uint32_t pciguest_host_read(struct pciguest *machine, uint32_t space, uint8_t bus, uint8_t device,
+                                          uint8_t function, uint64_t place, uint32_t width, uint32_t *value)
+{
+    if (!machine || !value)
+        return PCIGUEST_ARGUMENT;
+    return pciguest_raw_host_read(machine, space, bus, device, function, place, width, value);
+}
+
+/* Moves the function in a slot of a guest to a slot of another, or of the same. Nothing is carried over: the function
+ * is then at reset. 303: a slot is above 31. 601: the slot that it leaves is empty. 602: the slot that it comes to
+ * is taken. 902: there is no such guest. */
+static inline uint32_t pciguest_move(struct pciguest *machine, size_t from, uint64_t slot, size_t to, uint64_t target)
+{
+    if (!machine)
+        return PCIGUEST_ARGUMENT;
+    return pciguest_raw_move(machine, from, slot, to, target);
+}
+
+/* Runs one line of a script, without its line feed. The reply is one line with its line feed, or nothing for a blank
+ * line or a comment; it has no 0 at its end, and `written` tells its length. A line that is refused is answered by its
+ * reply, and the call by 0. 902: there is less room than PCIGUEST_REPLY. */
+static inline uint32_t pciguest_run_line(struct pciguest *machine, const char *line, size_t length, char *reply,
+                                         size_t room, size_t *written)
+{
+    if (!machine || (!line && length) || !reply || !written)
+        return PCIGUEST_ARGUMENT;
+    return pciguest_raw_run_line(machine, (const uint8_t *)(line ? line : ""), length, (uint8_t *)reply, room, written);
+}
+
+/* Writes the report of a board file, as `pciguest list` does, and tells its length; it has no 0 at its end. 902: there
+ * is less room than that, and nothing was written; other numbers as for pciguest_new. No machine is needed. */
+static inline uint32_t pciguest_report(const void *board, size_t length, char *text, size_t room, size_t *needed)
+{
+    uint8_t none;
+    if ((!board && length) || (!text && room) || !needed)
+        return PCIGUEST_ARGUMENT;
+    return pciguest_raw_report(board ? (const uint8_t *)board : (const uint8_t *)"", length, text ? (uint8_t *)text : &none,
+                               room, needed);
+}
+
+#ifdef __cplusplus
+}
+#endif
+
+#endif

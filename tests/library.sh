@@ -1,0 +1,85 @@
+#!/usr/bin/env bash
+# Uses the library for C as a C program does: the example, random accesses by calls and by lines, which the proved
+# program must answer alike, and what the library refuses. Where the compiler has sanitizers, all is run under them.
+#     tests/library.sh [PROGRAM]
+# PROGRAM is the one that `rt ci` or `make build` left, unless it is given. The last line is 'N passed, M failed'.
+set -u
+cd "$(dirname "$0")/.."
+top=$PWD
+program=$(readlink -f "${1:-crates/pciguest/out/pciguest}")
+board=$top/crates/examples/data/main.toml
+compile=${CC:-cc}
+[ -x "$program" ] || { echo "no program at $program: make build"; echo '0 passed, 1 failed'; exit 1; }
+command -v "$compile" > /dev/null || { echo 'no C compiler: the library for C is not tried'; echo '0 passed, 0 failed'; exit 0; }
+[ -e library/libpciguest.a ] || tools/library || { echo '0 passed, 1 failed'; exit 1; }
+
+room=$(mktemp -d)
+trap 'rm -rf "$room"' EXIT
+cd "$room" || exit 1
+passed=0
+failed=0
+
+# holds NAME COMMAND..: the command ends with 0
+holds() {
+  local name=$1; shift
+  if "$@" > told 2>&1; then
+    passed=$((passed + 1))
+  else
+    failed=$((failed + 1))
+    echo "FAILED: $name"
+    head -c 2000 told
+  fi
+}
+
+# build NAME FILE WORD..: compiles one file with the library
+build() {
+  local name=$1 file=$2; shift 2
+  "$compile" -std=c11 -O1 -g -Wall -Wextra -Werror -I"$top/library" "$@" -o "$name" "$file" "$top/library/libpciguest.a"
+}
+
+wraps=(-Wl,--wrap=malloc -Wl,--wrap=realloc -Wl,--wrap=free)
+
+# ---- plain, and under the sanitizers
+echo 'int main(void) { return 0; }' > empty.c
+kinds=(plain)
+"$compile" -fsanitize=address,undefined -o empty empty.c 2> /dev/null && ./empty 2> /dev/null && kinds+=(sanitized)
+for kind in "${kinds[@]}"; do
+  words=()
+  [ "$kind" = plain ] || words=(-fsanitize=address,undefined -fno-sanitize-recover=all)
+  holds "$kind: the example is built" build "device.$kind" "$top/examples/c/device.c" "${words[@]}"
+  holds "$kind: the accesses are built" build "accesses.$kind" "$top/tests/library/accesses.c" "${words[@]}"
+  holds "$kind: the refusals are built" build "refusals.$kind" "$top/tests/library/refusals.c" "${wraps[@]}" "${words[@]}"
+
+  "./device.$kind" "$board" > "device.$kind.out" 2>&1
+  holds "$kind: the example" cmp "device.$kind.out" "$top/tests/library/device.stdout"
+
+  for seed in 1 2 3; do
+    holds "$kind: calls and lines answer alike, seed $seed" "./accesses.$kind" "$board" 10000 "$seed" script replies
+    "$program" run "$board" < script > answers 2>&1
+    holds "$kind: the program answers alike, seed $seed" cmp answers replies
+  done
+
+  "$program" list "$board" > wanted.report
+  holds "$kind: what is refused" sh -c "./refusals.$kind '$board' > report"
+  holds "$kind: the report" cmp report wanted.report
+done
+
+# ---- the header by itself, as C++ too where there is a compiler
+echo '#include "pciguest.h"' > header.c
+cp header.c header.cc
+holds 'the header alone' "$compile" -std=c99 -Wall -Wextra -Wpedantic -Werror -I"$top/library" -c header.c
+if command -v c++ > /dev/null; then
+  holds 'the header as C++' c++ -Wall -Wextra -Wpedantic -Werror -I"$top/library" -c header.cc
+fi
+
+# ---- what the library takes from outside, and what it gives
+needs() {
+  nm -u "$top/library/libpciguest.a" | awk 'NF == 2 && $2 !~ /^rattle_/ { print $2 }' | sort -u | tr '\n' ' '
+}
+holds 'six calls of the C library, and no more' test "$(needs)" = 'free malloc memcpy memmove memset realloc '
+declared() { grep -o 'pciguest_raw_[a-z_]*(' "$top/library/pciguest.h" | tr -d '(' | sort -u; }
+exported() { nm --defined-only "$top/library/libpciguest.a" | awk '$2 == "T" { print $3 }' | grep '^pciguest' | sort -u; }
+holds 'the header declares what the library exports' test "$(declared)" = "$(exported)"
+
+echo "$passed passed, $failed failed"
+[ "$failed" = 0 ]

@@ -1,0 +1,198 @@
+/* What the library says of bad arguments and of a machine that isn't there, and each allocation failing in turn.
+ *
+ *     refusals BOARD
+ *
+ * It is linked with --wrap for malloc, realloc and free. The exit status is 1 where an answer is wrong, or memory
+ * is lost. */
+#include "pciguest.h"
+
+#include <stdio.h>
+#include <stdlib.h>
+#include <string.h>
+
+static long calls_left = -1, blocks;
+
+extern void *__real_malloc(size_t size);
+extern void *__real_realloc(void *old, size_t size);
+extern void __real_free(void *block);
+void *__wrap_malloc(size_t size);
+void *__wrap_realloc(void *old, size_t size);
+void __wrap_free(void *block);
+
+/* Whether this allocation is the one that fails. */
+static bool fails(void)
+{
+    if (calls_left > 0)
+        calls_left--;
+    return calls_left == 0;
+}
+
+void *__wrap_malloc(size_t size)
+{
+    void *block = fails() ? NULL : __real_malloc(size);
+    blocks += block != NULL;
+    return block;
+}
+
+void *__wrap_realloc(void *old, size_t size)
+{
+    void *block = fails() ? NULL : __real_realloc(old, size);
+    blocks += !old && block;
+    return block;
+}
+
+void __wrap_free(void *block)
+{
+    blocks -= block != NULL;
+    __real_free(block);
+}
+
+static int wrong;
+
+static void is(int line, uint64_t found, uint64_t wanted)
+{
+    if (found != wanted) {
+        fprintf(stderr, "refusals.c:%d: %llu in place of %llu\n", line, (unsigned long long)found, (unsigned long long)wanted);
+        wrong = 1;
+    }
+}
+
+#define IS(found, wanted) is(__LINE__, (found), (wanted))
+
+/* No call does anything to a machine that isn't there. */
+static void without_a_machine(void)
+{
+    struct pciguest none = {0};
+    uint32_t value = 7;
+    size_t count = 8;
+    char reply[PCIGUEST_REPLY] = "unchanged";
+
+    IS(sizeof none, 2 * sizeof(void *));
+    IS(pciguest_read(&none, 0, PCIGUEST_CONFIG, 0, 0, 4, &value), 901);
+    IS(pciguest_write(&none, 0, PCIGUEST_CONFIG, 0, 4, 2, 0), 901);
+    IS(pciguest_raise(&none, 0, 0, PCIGUEST_RAISE_CONFIG, 7, 1), 901);
+    IS(pciguest_host_read(&none, PCIGUEST_MEMORY, 0, 0, 0, 0, 4, &value), 901);
+    IS(pciguest_move(&none, 0, 0, 0, 1), 901);
+    IS(pciguest_guest(&none, "a", 1, &count), 901);
+    IS(pciguest_run_line(&none, "a cr 0 0 4", 10, reply, sizeof reply, &count), 901);
+    pciguest_free(&none);
+    pciguest_free(&none);
+    IS(none.live, 0);
+    IS(value, 7);
+    IS(count, 8);
+    IS(strcmp(reply, "unchanged"), 0);
+}
+
+static void null_pointers(struct pciguest *machine)
+{
+    uint32_t value;
+    size_t count;
+    char reply[PCIGUEST_REPLY];
+
+    IS(pciguest_new(NULL, "", 0), 902);
+    IS(pciguest_new(machine, NULL, 1), 902);
+    pciguest_free(NULL);
+    IS(pciguest_read(NULL, 0, PCIGUEST_IO, 0, 0, 1, &value), 902);
+    IS(pciguest_read(machine, 0, PCIGUEST_IO, 0, 0, 1, NULL), 902);
+    IS(pciguest_write(NULL, 0, PCIGUEST_IO, 0, 0, 1, 0), 902);
+    IS(pciguest_raise(NULL, 0, 0, 0, 0, 0), 902);
+    IS(pciguest_host_read(machine, PCIGUEST_IO, 0, 0, 0, 0, 1, NULL), 902);
+    IS(pciguest_move(NULL, 0, 0, 0, 0), 902);
+    IS(pciguest_guest(machine, "a", 1, NULL), 902);
+    IS(pciguest_run_line(machine, "", 0, NULL, 0, &count), 902);
+    IS(pciguest_run_line(machine, "", 0, reply, sizeof reply, NULL), 902);
+    IS(pciguest_report(NULL, 1, NULL, 0, &count), 902);
+}
+
+static void bad_arguments(struct pciguest *machine, const uint8_t *board, size_t length)
+{
+    uint32_t value = 7;
+    size_t count = 8;
+    char reply[PCIGUEST_REPLY];
+
+    IS(pciguest_new(machine, board, length), 903);
+    IS(pciguest_read(machine, 2, PCIGUEST_CONFIG, 0, 0, 4, &value), 902);
+    IS(pciguest_read(machine, SIZE_MAX, PCIGUEST_CONFIG, 0, 0, 4, &value), 902);
+    IS(pciguest_read(machine, 0, 3, 0, 0, 4, &value), 902);
+    IS(pciguest_read(machine, 0, PCIGUEST_CONFIG, 0, 0, 3, &value), 302);
+    IS(pciguest_read(machine, 0, PCIGUEST_CONFIG, 0, 1, 4, &value), 301);
+    IS(pciguest_read(machine, 0, PCIGUEST_CONFIG, 32, 0, 4, &value), 303);
+    IS(pciguest_write(machine, 2, PCIGUEST_MEMORY, 0, 0, 4, 0), 902);
+    IS(pciguest_raise(machine, 0, 0, 7, 0, 1), 902);
+    IS(pciguest_raise(machine, 0, 31, 0, 0, 1), 601);
+    IS(pciguest_host_read(machine, PCIGUEST_CONFIG, 0, 32, 0, 0, 4, &value), 902);
+    IS(pciguest_host_read(machine, PCIGUEST_CONFIG, 0, 0, 8, 0, 4, &value), 902);
+    IS(pciguest_move(machine, 0, 0, 2, 1), 902);
+    IS(pciguest_move(machine, 0, 31, 0, 1), 601);
+    IS(pciguest_guest(machine, "nobody", 6, &count), 902);
+    IS(pciguest_run_line(machine, "a cr 0 0 4", 10, reply, sizeof reply - 1, &count), 902);
+    IS(value, 7);
+    IS(count, 8);
+    IS(pciguest_run_line(machine, "# a comment", 11, reply, sizeof reply, &count), 0);
+    IS(count, 0);
+}
+
+/* The report tells how much room it needs, and writes nothing where there is less. */
+static void reports(const uint8_t *board, size_t length)
+{
+    size_t needed = 0, again = 0;
+    char *text;
+
+    IS(pciguest_report(board, length, NULL, 0, &needed), 902);
+    text = malloc(needed + 1);
+    memset(text, '?', needed + 1);
+    IS(pciguest_report(board, length, text, needed - 1, &again), 902);
+    IS(text[0], '?');
+    IS(pciguest_report(board, length, text, needed + 1, &again), 0);
+    IS(again, needed);
+    IS(text[needed], '?');
+    fwrite(text, 1, needed, stdout);
+    free(text);
+    IS(pciguest_report("x", 1, NULL, 0, &again), 101);
+}
+
+/* Each allocation fails in turn: the answer is out of memory, the handle stays empty, and nothing is lost. */
+static void out_of_memory(const uint8_t *board, size_t length)
+{
+    uint32_t fault = 1;
+    long count = 0;
+
+    for (; fault != 0; count++) {
+        struct pciguest machine = {0};
+        long before = blocks;
+
+        calls_left = count + 1;
+        fault = pciguest_new(&machine, board, length);
+        calls_left = -1;
+        if (fault != 0 && fault != 199 && fault != 299)
+            IS(fault, 299);
+        IS(machine.live, fault == 0);
+        pciguest_free(&machine);
+        IS((uint64_t)blocks, (uint64_t)before);
+    }
+    IS(count > 100, 1);
+}
+
+int main(int argc, char **argv)
+{
+    static uint8_t board[65536];
+    struct pciguest machine = {0};
+    FILE *file = argc == 2 ? fopen(argv[1], "rb") : NULL;
+    size_t length;
+
+    if (!file)
+        return 2;
+    length = fread(board, 1, sizeof board, file);
+    fclose(file);
+    without_a_machine();
+    IS(pciguest_new(&machine, "x", 1), 101);
+    IS(machine.live, 0);
+    IS(pciguest_new(&machine, board, length), 0);
+    null_pointers(&machine);
+    bad_arguments(&machine, board, length);
+    pciguest_free(&machine);
+    pciguest_free(&machine);
+    reports(board, length);
+    out_of_memory(board, length);
+    return wrong;
+}
