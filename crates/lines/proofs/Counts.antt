@@ -1,26 +1,35 @@
 -- Lines with too few words or too many. `ws` are references to the words.
-use Rattle.std.proofs.Common.{◌≡◌, ◌<◌, ◌≤◌, List, [], ◌∷◌, None, map, length, Bor, refl, arith}
+use Rattle.std.proofs.Common.{◌≡◌, ◌<◌, ◌≤◌, List, [], ◌∷◌, None, map, length, take, codes, Bor, refl, arith}
 use Rattle.model_guests.specs.Text.{Text}
 use Rattle.model_guests.specs.Grammar.{event_of, host_read_of}
-use Rattle.model_guests.specs.Lines.{move_of}
+use Rattle.model_guests.specs.Lines.{move_of, read_or_move}
 
 abbrev pub texts : List (Bor Text) → List Text
 texts ws = map (λ w. w.now) ws
 
-pub event_of_few : (ws : List (Bor Text)) → length ws < 3 → None ≡ event_of (texts ws)
-event_of_few [] h = refl
-event_of_few (a ∷ []) h = refl
-event_of_few (a ∷ b ∷ []) h = refl
-event_of_few (a ∷ b ∷ c ∷ ws) h = absurd (omega arith)
+pub raise_of_few : (ws : List (Bor Text)) → length ws < 4 → None ≡ event_of (codes "raise" ∷ texts ws)
+raise_of_few [] h = refl
+raise_of_few (a ∷ []) h = refl
+raise_of_few (a ∷ b ∷ []) h = refl
+raise_of_few (a ∷ b ∷ c ∷ []) h = refl
+raise_of_few (a ∷ b ∷ c ∷ d ∷ ws) h = absurd (omega arith)
 
-pub event_of_many : (ws : List (Bor Text)) → 6 ≤ length ws → None ≡ event_of (texts ws)
-event_of_many [] h = absurd (omega arith)
-event_of_many (a ∷ []) h = absurd (omega arith)
-event_of_many (a ∷ b ∷ []) h = absurd (omega arith)
-event_of_many (a ∷ b ∷ c ∷ []) h = absurd (omega arith)
-event_of_many (a ∷ b ∷ c ∷ d ∷ []) h = absurd (omega arith)
-event_of_many (a ∷ b ∷ c ∷ d ∷ e ∷ []) h = absurd (omega arith)
-event_of_many (a ∷ b ∷ c ∷ d ∷ e ∷ f ∷ ws) h = refl
+pub raise_of_many : (ws : List (Bor Text)) → 5 ≤ length ws → None ≡ event_of (codes "raise" ∷ texts ws)
+raise_of_many [] h = absurd (omega arith)
+raise_of_many (a ∷ []) h = absurd (omega arith)
+raise_of_many (a ∷ b ∷ []) h = absurd (omega arith)
+raise_of_many (a ∷ b ∷ c ∷ []) h = absurd (omega arith)
+raise_of_many (a ∷ b ∷ c ∷ d ∷ []) h = absurd (omega arith)
+raise_of_many (a ∷ b ∷ c ∷ d ∷ e ∷ ws) h = refl
+
+-- seven words are enough to tell
+pub event_of_seven : (op : Text) (ws : List Text) → event_of (op ∷ take 7 ws) ≡ event_of (op ∷ ws)
+event_of_seven op [] = refl
+event_of_seven op (a ∷ []) = refl
+event_of_seven op (a ∷ b ∷ []) = refl
+event_of_seven op (a ∷ b ∷ c ∷ []) = refl
+event_of_seven op (a ∷ b ∷ c ∷ d ∷ []) = refl
+event_of_seven op (a ∷ b ∷ c ∷ d ∷ e ∷ ws) = refl
 
 pub host_read_of_few : (ws : List (Bor Text)) → length ws < 3 → None ≡ host_read_of (texts ws)
 host_read_of_few [] h = refl
@@ -52,3 +61,14 @@ move_of_many names (a ∷ b ∷ c ∷ []) h = absurd (omega arith)
 move_of_many names (a ∷ b ∷ c ∷ d ∷ []) h = absurd (omega arith)
 move_of_many names (a ∷ b ∷ c ∷ d ∷ e ∷ []) h = absurd (omega arith)
 move_of_many names (a ∷ b ∷ c ∷ d ∷ e ∷ f ∷ ws) h = refl
+
+-- seven words are enough to tell
+pub host_of_seven : (names ws : List Text)
+    → read_or_move (host_read_of (take 7 ws)) (move_of names (take 7 ws)) ≡ read_or_move (host_read_of ws) (move_of names ws)
+host_of_seven names [] = refl
+host_of_seven names (a ∷ []) = refl
+host_of_seven names (a ∷ b ∷ []) = refl
+host_of_seven names (a ∷ b ∷ c ∷ []) = refl
+host_of_seven names (a ∷ b ∷ c ∷ d ∷ []) = refl
+host_of_seven names (a ∷ b ∷ c ∷ d ∷ e ∷ []) = refl
+host_of_seven names (a ∷ b ∷ c ∷ d ∷ e ∷ f ∷ ws) = refl

@@ -1,5 +1,7 @@
 pub mod Counts
+pub mod Cursors
 pub mod Digits
+pub mod GuestForms
 pub mod GuestNames
 mod HexDigits
 mod LineEnds

@@ -1,13 +1,15 @@
 -- Tables with a place for each byte: they hold what the definitions say, by computing.
 use Rattle.std.proofs.Common.{◌≡◌, ℕ, ◌<◌, ◌≤◌, ◌==◌, Bool, true, false, cond, map, get_or, Option, Some, None}
-use Rattle.std.proofs.Common.{nat_lt, refl, ap, ◌∙◌, arith}
+use Rattle.std.proofs.Common.{refl, ap, ◌∙◌, arith}
 use Rattle.std.specs.Prelude.{unwrap_or}
 use Rattle.std.specs.List.{range_with_len}
 use Rattle.std.proofs.lemmas.Bool.Decides.{nat_tests}
 use Rattle.std.proofs.lemmas.List.FromFn.{get_or-map-range_with_len}
 use Rattle.model_guests.specs.Text.{is_blank}
 use Rattle.model_guests.specs.Numbers.{below, digit_of}
+use Rattle.std.specs.Fmt.{digit_glyph}
 use Rattle.lines.specs.declared.numbers.TheConstants.{DIGITS}
+use Rattle.lines.specs.declared.replies.TheConstants.{GLYPHS}
 use Rattle.lines.specs.declared.words.TheConstants.{BLANKS}
 
 abbrev digit_mark : ℕ → ℕ
@@ -45,3 +47,10 @@ blank_at b h =
     ap (λ (n : ℕ). n == 1)
     (ap (λ t. get_or t b 0) blanks_are ∙ get_or-map-range_with_len blank_mark 0 256 b b 0 h (omega arith))
     ∙ marked (is_blank b)
+
+glyphs_are : GLYPHS ≡ map (digit_glyph false) (range_with_len 0 16)
+glyphs_are = refl
+
+pub glyph_at : (d : ℕ) → d < 16 → get_or GLYPHS d 0 ≡ digit_glyph false d
+glyph_at d h =
+    ap (λ t. get_or t d 0) glyphs_are ∙ get_or-map-range_with_len (digit_glyph false) 0 16 d d 0 h (omega arith)

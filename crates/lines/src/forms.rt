@@ -1,14 +1,17 @@
 //! The forms of a script's lines, after the word that says whose they are.
-ghost use Rattle.std.specs.Prelude.{◌≡◌, ◌^◌, [], ◌∷◌, map, option_map};
-ghost use Rattle.model_guests.specs.Accesses.{Event, port, address, access, writes};
+ghost use Rattle.std.specs.Prelude.{◌≡◌, [], ◌∷◌, Some, None, map, length, option_map, MatchOption, codes};
+ghost use Rattle.model_guests.specs.Text.{words};
+ghost use Rattle.model_guests.specs.Accesses.{access};
 ghost use Rattle.model_guests.specs.Numbers.{below, number_of};
-ghost use Rattle.model_guests.specs.Grammar.{to_configuration, to_space, raise_part, to_raise, event_of};
+ghost use Rattle.model_guests.specs.Grammar.{raise_part, to_raise, event_of};
 ghost use Rattle.model_guests.specs.Grammar.{hex_pair, bus_address, host_read_of};
 ghost use Rattle.host_bridge.specs.BusAddresses.{bus_address_of};
-ghost use Rattle.accesses.specs.Accesses.{access_of, op_of, part_of, host_access_of};
-ghost use Rattle.lines.specs.Forms.{event_asked};
+ghost use Rattle.accesses.specs.Accesses.{access_of, target_of, op_of, part_of, host_access_of};
+ghost use Rattle.lines.specs.Forms.{event_asked, placed, operated};
 
+use crate::cursor::{first_number, first_word, is_end};
 use crate::numbers::{digit_in, number_of};
+use crate::words::first_words;
 use accesses::{Access, At, Bdf, HostAccess, HostAt, Op, Place};
 
 /// What a guest's line asks.
@@ -19,52 +22,11 @@ pub(crate) enum Asked {
     Raise(u64, Place, u64, u8),
 }
 
-/// A value to write, of 32 bits.
-fn value(word: &[u8]) -> Option<u32>
-    ensures { result ≡ below (2 ^ 32) (number_of word.now) }
-{
-    u32::try_from(number_of(word)?).ok()
-}
-
 /// The bits of a byte.
 fn mask(word: &[u8]) -> Option<u8>
     ensures { result ≡ below 256 (number_of word.now) }
 {
     u8::try_from(number_of(word)?).ok()
-}
-
-/// `SLOT OFF W`.
-fn to_configuration(slot: &[u8], off: &[u8], width: &[u8], op: Op) -> Option<Access>
-    ensures { option_map (λ a. access (access_of a)) result ≡ to_configuration slot.now off.now width.now (op_of op) }
-{
-    let at = At::Config {
-        slot: number_of(slot)?,
-        off: number_of(off)?,
-    };
-    let width = number_of(width)?;
-    Some(Access { at, width, op })
-}
-
-/// `PORT W`.
-fn to_port(at: &[u8], width: &[u8], op: Op) -> Option<Access>
-    ensures { option_map (λ a. access (access_of a)) result ≡ to_space port at.now width.now (op_of op) }
-{
-    let at = At::Io {
-        port: number_of(at)?,
-    };
-    let width = number_of(width)?;
-    Some(Access { at, width, op })
-}
-
-/// `ADDR W`.
-fn to_address(at: &[u8], width: &[u8], op: Op) -> Option<Access>
-    ensures { option_map (λ a. access (access_of a)) result ≡ to_space address at.now width.now (op_of op) }
-{
-    let at = At::Mem {
-        addr: number_of(at)?,
-    };
-    let width = number_of(width)?;
-    Some(Access { at, width, op })
 }
 
 /// `cfg` or `bar0` to `bar5`.
@@ -94,52 +56,92 @@ fn to_raise(slot: &[u8], part: &[u8], off: &[u8], bits: &[u8]) -> Option<Asked>
     Some(Asked::Raise(slot, place, off, mask))
 }
 
-/// A guest's line with three words after its name.
-fn of_three(op: &[u8], at: &[u8], width: &[u8]) -> Option<Asked>
-    ensures { option_map event_asked result ≡ event_of (op.now ∷ at.now ∷ width.now ∷ []) }
-{
-    match op {
-        b"ir" => to_port(at, width, Op::Read),
-        b"mr" => to_address(at, width, Op::Read),
-        _ => None,
-    }
-    .map(Asked::Access)
-}
-
-/// A guest's line with four words after its name.
-fn of_four(op: &[u8], a: &[u8], b: &[u8], c: &[u8]) -> Option<Asked>
-    ensures { option_map event_asked result ≡ event_of (op.now ∷ a.now ∷ b.now ∷ c.now ∷ []) }
-{
-    match op {
-        b"cr" => to_configuration(a, b, c, Op::Read),
-        b"iw" => to_port(a, b, Op::Write(value(c)?)),
-        b"mw" => to_address(a, b, Op::Write(value(c)?)),
-        _ => None,
-    }
-    .map(Asked::Access)
-}
-
-/// A guest's line with five words after its name.
-fn of_five(op: &[u8], a: &[u8], b: &[u8], c: &[u8], d: &[u8]) -> Option<Asked>
-    ensures { option_map event_asked result ≡ event_of (op.now ∷ a.now ∷ b.now ∷ c.now ∷ d.now ∷ []) }
-{
-    match op {
-        b"cw" => to_configuration(a, b, c, Op::Write(value(d)?)).map(Asked::Access),
-        b"raise" => to_raise(a, b, c, d),
-        _ => None,
-    }
-}
-
-/// What a guest's words after its name ask, if they are of a known form.
-#[tactic(auto, using(crate::proofs::Counts::event_of_few, crate::proofs::Counts::event_of_many))]
-pub(crate) fn guest_form(words: &[&[u8]]) -> Option<Asked>
-    ensures { option_map event_asked result ≡ event_of (map (λ w. w.now) words.now) }
+/// `raise SLOT P OFF MASK`, by the words after `raise`.
+#[tactic(auto, using(crate::proofs::Counts::raise_of_few, crate::proofs::Counts::raise_of_many))]
+fn raise_form(words: &[&[u8]]) -> Option<Asked>
+    ensures { option_map event_asked result ≡ event_of (codes "raise" ∷ map (λ w. w.now) words.now) }
 {
     match words {
-        [op, a, b] => of_three(op, a, b),
-        [op, a, b, c] => of_four(op, a, b, c),
-        [op, a, b, c, d] => of_five(op, a, b, c, d),
+        [slot, part, off, bits] => to_raise(slot, part, off, bits),
         _ => None,
+    }
+}
+
+/// Where an access goes, by the letter of its space, and what comes after its place: `m ADDR`, `i PORT`
+/// or `c SLOT OFF`.
+fn placed(space: u8, text: &[u8]) -> Option<(At, &[u8])>
+    ensures { MatchOption result (placed space (words text.now) ≡ None) (λ p.
+        placed space (words text.now) ≡ Some (record { target = target_of p.0; rest = words p.1.now })) }
+{
+    match space {
+        b'm' => {
+            let (addr, rest) = first_number(text)?;
+            Some((At::Mem { addr }, rest))
+        }
+        b'i' => {
+            let (port, rest) = first_number(text)?;
+            Some((At::Io { port }, rest))
+        }
+        b'c' => {
+            let (slot, rest) = first_number(text)?;
+            let (off, rest) = first_number(rest)?;
+            Some((At::Config { slot, off }, rest))
+        }
+        _ => None,
+    }
+}
+
+/// What an access does, by the letter of its kind, and what comes after it: `r`, or `w V` with a value of
+/// 32 bits.
+fn operated(kind: u8, text: &[u8]) -> Option<(Op, &[u8])>
+    ensures { MatchOption result (operated kind (words text.now) ≡ None) (λ p.
+        operated kind (words text.now) ≡ Some (record { op = op_of p.0; rest = words p.1.now })) }
+{
+    match kind {
+        b'r' => Some((Op::Read, text)),
+        b'w' => {
+            let (number, rest) = first_number(text)?;
+            let value = u32::try_from(number).ok()?;
+            Some((Op::Write(value), rest))
+        }
+        _ => None,
+    }
+}
+
+/// An access, by the letters of its space and of its kind and by the text after them.
+#[tactic(auto, using(crate::proofs::GuestForms::accesses_are))]
+fn access_form(space: u8, kind: u8, text: &[u8]) -> Option<Access>
+    ensures { option_map (λ a. access (access_of a)) result ≡ event_of ((space ∷ kind ∷ []) ∷ words text.now) }
+{
+    let (at, rest) = placed(space, text)?;
+    let (width, rest) = first_number(rest)?;
+    let (op, rest) = operated(kind, rest)?;
+    if !is_end(rest) {
+        return None;
+    }
+    Some(Access { at, width, op })
+}
+
+/// What a word that is not of two letters asks with the words after it.
+#[tactic(auto, using(crate::proofs::GuestForms::other_length, crate::proofs::GuestForms::no_form))]
+fn longer_form(op: &[u8], words: &[&[u8]]) -> Option<Asked>
+    requires { length op.now ≡ 2 → ⊥ }
+    ensures { option_map event_asked result ≡ event_of (op.now ∷ map (λ w. w.now) words.now) }
+{
+    if op == b"raise".as_slice() {
+        return raise_form(words);
+    }
+    None
+}
+
+/// What the text after a guest's name asks, if it is of a known form.
+pub(crate) fn guest_form(text: &[u8]) -> Option<Asked>
+    ensures { option_map event_asked result ≡ event_of (words text.now) }
+{
+    let (op, rest) = first_word(text)?;
+    match op {
+        [space, kind] => access_form(*space, *kind, rest).map(Asked::Access),
+        _ => longer_form(op, first_words(rest).as_slice()),
     }
 }
 

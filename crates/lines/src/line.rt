@@ -7,6 +7,7 @@ ghost use Rattle.model_guests.specs.Lines.{host_move, event_or_bad, read_or_move
 ghost use Rattle.model_guests.specs.Lines.{meaning_of_words, meaning};
 ghost use Rattle.lines.specs.Lines.{texts, name_of, meaning_of, GuestsAre, IsFirst, IsRefusable};
 
+use crate::cursor::first_word;
 use crate::forms::{Asked, guest_form, host_form};
 use crate::numbers::number_of;
 use crate::words::first_words;
@@ -59,19 +60,20 @@ fn is_comment(word: &[u8]) -> bool
 
 /// The first guest of a name. There are few names, and short ones: a search in their order is as
 /// fast as a table.
+#[inline]
 fn guest_named(word: &[u8], names: &Names) -> Option<usize>
     ensures { result ≡ position (λ n. bytes_eq n.bytes word.now) names.now.items }
 {
     names.iter().position(|name| name.as_bytes() == word)
 }
 
-/// A line of a guest, by the words after its name.
-fn guest_line(guest: usize, words: &[&[u8]]) -> What
-    ensures meaning { let ws = map (λ w. w.now) words.now in
-        (names : List Text) → meaning_of names result ≡ event_or_bad (name_of names guest) (event_of ws) }
+/// A line of a guest, by the text after its name.
+fn guest_line(guest: usize, text: &[u8]) -> What
+    ensures meaning { (names : List Text) →
+        meaning_of names result ≡ event_or_bad (name_of names guest) (event_of (words text.now)) }
     ensures guest { GuestsAre (λ g. g ≡ guest) result }
 {
-    match guest_form(words) {
+    match guest_form(text) {
         Some(Asked::Access(access)) => What::Guest(guest, access),
         Some(Asked::Raise(slot, place, off, mask)) => What::Raise(guest, slot, place, off, mask),
         None => What::Bad(Who::Guest(guest), 401),
@@ -122,7 +124,7 @@ fn move_form(words: &[&[u8]], names: &Names) -> Option<What>
 }
 
 /// A line of the host, by the words after `host`.
-fn host_line(words: &[&[u8]], names: &Names) -> What
+fn of_host_words(words: &[&[u8]], names: &Names) -> What
     ensures meaning { let ws = map (λ w. w.now) words.now in
         meaning_of (texts names.now) result ≡ read_or_move (host_read_of ws) (move_of (texts names.now) ws) }
     ensures first { GuestsAre (IsFirst (texts names.now)) result }
@@ -136,9 +138,18 @@ fn host_line(words: &[&[u8]], names: &Names) -> What
     }
 }
 
-/// What a line means, by its first word and the others.
-fn named_line(first: &[u8], rest: &[&[u8]], names: &Names) -> What
-    ensures meaning { let ws = first.now ∷ map (λ w. w.now) rest.now in
+/// A line of the host, by the text after `host`.
+fn host_line(text: &[u8], names: &Names) -> What
+    ensures meaning { let ws = words text.now in
+        meaning_of (texts names.now) result ≡ read_or_move (host_read_of ws) (move_of (texts names.now) ws) }
+    ensures first { GuestsAre (IsFirst (texts names.now)) result }
+{
+    of_host_words(first_words(text).as_slice(), names)
+}
+
+/// What a line means, by its first word and the text after it.
+fn named_line(first: &[u8], text: &[u8], names: &Names) -> What
+    ensures meaning { let ws = first.now ∷ words text.now in
         meaning_of (texts names.now) result ≡ meaning_of_words (texts names.now) ws }
     ensures first { GuestsAre (IsFirst (texts names.now)) result }
 {
@@ -146,23 +157,29 @@ fn named_line(first: &[u8], rest: &[&[u8]], names: &Names) -> What
         return What::Nothing;
     }
     if first == b"host".as_slice() {
-        return host_line(rest, names);
+        return host_line(text, names);
     }
     match guest_named(first, names) {
-        Some(guest) => guest_line(guest, rest),
+        Some(guest) => guest_line(guest, text),
         None => What::Bad(Who::Unknown, 402),
     }
 }
 
-/// What a line means, by its first seven words at most.
-fn meaning_of_words(words: &[&[u8]], names: &Names) -> What
-    ensures meaning { let ws = map (λ w. w.now) words.now in
-        meaning_of (texts names.now) result ≡ meaning_of_words (texts names.now) ws }
+/// What a line means, which is given without its line feed. Of several guests of one name the first is
+/// meant. The words of the commonest lines are read one by one, which is faster than to cut the line into
+/// words first.
+pub fn line_meaning(line: &[u8], names: &Names) -> What
+    ensures meaning { meaning_of (texts names.now) result ≡ meaning (texts names.now) line.now }
+    ensures guests { GuestsAre (λ g. g < length names.now.items) result }
     ensures first { GuestsAre (IsFirst (texts names.now)) result }
+    ensures refusable { IsRefusable result }
 {
-    match words {
-        [] => What::Nothing,
-        [first, rest @ ..] => named_line(first, rest, names),
+    if line.len() > LONGEST_LINE {
+        return What::Bad(Who::Unknown, 403);
+    }
+    match first_word(line) {
+        Some((first, text)) => named_line(first, text, names),
+        None => What::Nothing,
     }
 }
 
@@ -175,11 +192,8 @@ pub fn parse_line<'a>(line: &'a [u8], names: &Names) -> Line<'a>
     ensures first { GuestsAre (IsFirst (texts names.now)) result.what }
     ensures refusable { IsRefusable result.what }
 {
-    let words = first_words(line);
-    if line.len() > LONGEST_LINE {
-        let what = What::Bad(Who::Unknown, 403);
-        return Line { words, what };
+    Line {
+        words: first_words(line),
+        what: line_meaning(line, names),
     }
-    let what = meaning_of_words(words.as_slice(), names);
-    Line { words, what }
 }

@@ -35,7 +35,7 @@ pub(crate) fn digit_in(base: u8, byte: u8) -> Option<u8>
 
 /// A number with one digit more, if it stays below 2^64.
 #[inline]
-fn with_digit(base: u8, number: u64, byte: u8) -> Option<u64>
+pub(crate) fn with_digit(base: u8, number: u64, byte: u8) -> Option<u64>
     ensures { result ≡ below (2 ^ 64) (option_map (λ d. number * base + d) (below base (digit_of byte))) }
 {
     let digit = digit_in(base, byte)?;

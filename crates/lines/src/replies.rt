@@ -32,15 +32,18 @@ fn refusal_text(number: u16) -> &'static [u8]
     }
 }
 
+/// The hexadecimal digits. A look at the table is faster than a test and two sums.
+#[rattlefmt::skip]
+static GLYPHS: [u8; 16] = [
+    b'0', b'1', b'2', b'3', b'4', b'5', b'6', b'7', b'8', b'9', b'a', b'b', b'c', b'd', b'e', b'f',
+];
+
+#[tactic(auto, using(crate::proofs::Tables::glyph_at))]
 fn digit_glyph(digit: u8) -> u8
     requires { digit < 16 }
     ensures { result ≡ digit_glyph false digit }
 {
-    if digit < 10 {
-        b'0' + digit
-    } else {
-        b'a' + (digit - 10)
-    }
+    GLYPHS[digit as usize]
 }
 
 fn push_all(text: &mut LineText, bytes: &[u8])

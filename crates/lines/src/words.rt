@@ -36,7 +36,7 @@ static BLANKS: [u8; 256] = [
 
 /// Whether a byte parts words.
 #[inline]
-fn is_blank(byte: u8) -> bool
+pub(crate) fn is_blank(byte: u8) -> bool
     ensures { result ≡ is_blank byte }
 {
     BLANKS[byte as usize] == 1
@@ -52,7 +52,7 @@ fn blank_in(text: &[u8]) -> Option<usize>
 
 /// The bytes before the first blank, and those after it. Between two blanks there is no byte.
 #[inline]
-fn next_piece(text: &[u8]) -> Option<(&[u8], &[u8])>
+pub(crate) fn next_piece(text: &[u8]) -> Option<(&[u8], &[u8])>
     ensures piece { MatchOption result (pieces is_blank text.now ≡ [])
         (λ p. pieces is_blank text.now ≡ p.0.now ∷ pieces is_blank p.1.now) }
     ensures shorter { IfSome result (λ p. length p.1.now < length text.now) }

@@ -4,7 +4,7 @@ ghost use Rattle.model_guests.specs.Text.{Text};
 ghost use Rattle.model_guests.specs.WorldNow.{line_output, after_line};
 ghost use Rattle.script.specs.Pieces.{IsBefore};
 
-use lines::{LineText, What, Who, line_text, parse_line};
+use lines::{LineText, What, Who, line_meaning, line_text};
 use monitor::{Monitor, Reply};
 
 /// Runs the event of a line, and gives what the line writes: nothing, or one line with its line feed. No
@@ -13,7 +13,7 @@ pub fn run_line(monitor: &mut Monitor, line: &[u8]) -> LineText
     ensures text { result.items ≡ line_output monitor.old line.now }
     ensures after { monitor.new ≡ after_line monitor.old line.now }
 {
-    match parse_line(line, monitor.names()).what {
+    match line_meaning(line, monitor.names()) {
         What::Nothing => LineText::new(),
         What::Guest(guest, access) => {
             let reply = monitor.step(guest, access);

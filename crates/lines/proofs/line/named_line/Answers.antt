@@ -1,4 +1,5 @@
-use Rattle.std.proofs.Common.{◌≡◌, Some, None, map, ap, ◌∙◌, rules}
+use Rattle.std.proofs.Common.{◌≡◌, Some, None, ap, ◌∙◌, rules}
+use Rattle.model_guests.specs.Text.{words}
 use Rattle.model_guests.specs.Grammar.{event_of}
 use Rattle.model_guests.specs.Lines.{event_or_bad}
 use Rattle.lines.specs.Lines.{texts, IsFirst}
@@ -12,7 +13,7 @@ returns-in-Some-clause-meaning c =
     let word = c.args.first.now in
     let found : Some c.in-Some.guest ≡ place_of names word =
     c.in-Some.ensures ∙ place_of-names c.args.names.now word in
-    let ws = map (λ w. w.now) c.args.rest.now in
+    let ws = words c.args.text.now in
     c.guest_line.ensures.meaning names
     ∙ ap (λ n. event_or_bad n (event_of ws)) (name_of-found names word c.in-Some.guest found)
     ∙ meaning_of_words-guest names word ws (search rules, search rules)
@@ -32,5 +33,5 @@ returns-in-None-clause-meaning c =
     let names = texts c.args.names.now in
     let word = c.args.first.now in
     let missing : None ≡ place_of names word = c.in-None.ensures ∙ place_of-names c.args.names.now word in
-    meaning_of_words-unknown names word (map (λ w. w.now) c.args.rest.now) (search rules, search rules)
+    meaning_of_words-unknown names word (words c.args.text.now) (search rules, search rules)
     (has_name-None names word missing)

@@ -15,8 +15,8 @@ line_text-requires-clause-who c =
     let names = c.names.result.now in
     let g = c.in-Guest.guest in
     let e = access (access_of c.in-Guest.access) in
-    let said = subst (λ (x : What). meaning_of (texts names) x ≡ meaning (texts names) line) c.in-Guest.is c.parse_line.ensures.meaning in
-    let inside = subst (λ (x : What). GuestsAre (λ k. k < length names.items) x) c.in-Guest.is c.parse_line.ensures.guests in
+    let said = subst (λ (x : What). meaning_of (texts names) x ≡ meaning (texts names) line) c.in-Guest.is c.line_meaning.ensures.meaning in
+    let inside = subst (λ (x : What). GuestsAre (λ k. k < length names.items) x) c.in-Guest.is c.line_meaning.ensures.guests in
     guest_stays w c.step-reply.new.self line (guest_event (name_nth w g) e) names c.names-in-Guest.result.now g c.names.ensures c.names-in-Guest.ensures
     (guest_said w line (texts names) g e c.names.ensures said) c.step-reply.ensures.after inside
 
@@ -27,8 +27,8 @@ line_text-requires-in-Raise-clause-who c =
     let names = c.names.result.now in
     let g = c.in-Raise.guest in
     let e = raises (record { slot = c.in-Raise.slot; part = part_of c.in-Raise.place; offset = c.in-Raise.off; mask = c.in-Raise.mask }) in
-    let said = subst (λ (x : What). meaning_of (texts names) x ≡ meaning (texts names) line) c.in-Raise.is c.parse_line.ensures.meaning in
-    let inside = subst (λ (x : What). GuestsAre (λ k. k < length names.items) x) c.in-Raise.is c.parse_line.ensures.guests in
+    let said = subst (λ (x : What). meaning_of (texts names) x ≡ meaning (texts names) line) c.in-Raise.is c.line_meaning.ensures.meaning in
+    let inside = subst (λ (x : What). GuestsAre (λ k. k < length names.items) x) c.in-Raise.is c.line_meaning.ensures.guests in
     guest_stays w c.raise-reply.new.self line (guest_event (name_nth w g) e) names c.names-in-Raise.result.now g c.names.ensures c.names-in-Raise.ensures
     (guest_said w line (texts names) g e c.names.ensures said) c.raise-reply.ensures.after inside
 
@@ -37,7 +37,7 @@ returns-in-Guest-clause-text c =
     let names = texts c.names.result.now in
     (answered_guest c.args.monitor.now c.step-reply.new.self c.args.line.now names (texts c.names-in-Guest.result.now) c.in-Guest.guest (access (access_of c.in-Guest.access))
     (reply_of c.step-reply.result) c.line_text.result.items c.names.ensures c.names-in-Guest.ensures
-    (subst (λ (x : What). meaning_of names x ≡ meaning names c.args.line.now) c.in-Guest.is c.parse_line.ensures.meaning)
+    (subst (λ (x : What). meaning_of names x ≡ meaning names c.args.line.now) c.in-Guest.is c.line_meaning.ensures.meaning)
     c.step-reply.ensures.after c.step-reply.ensures.reply c.line_text.ensures).text
 
 pub returns-in-Guest-clause-after : goal.returns-in-Guest-clause-after
@@ -45,7 +45,7 @@ returns-in-Guest-clause-after c =
     let names = texts c.names.result.now in
     (answered_guest c.args.monitor.now c.step-reply.new.self c.args.line.now names (texts c.names-in-Guest.result.now) c.in-Guest.guest (access (access_of c.in-Guest.access))
     (reply_of c.step-reply.result) c.line_text.result.items c.names.ensures c.names-in-Guest.ensures
-    (subst (λ (x : What). meaning_of names x ≡ meaning names c.args.line.now) c.in-Guest.is c.parse_line.ensures.meaning)
+    (subst (λ (x : What). meaning_of names x ≡ meaning names c.args.line.now) c.in-Guest.is c.line_meaning.ensures.meaning)
     c.step-reply.ensures.after c.step-reply.ensures.reply c.line_text.ensures).after
 
 pub returns-in-Raise-clause-text : goal.returns-in-Raise-clause-text
@@ -54,7 +54,7 @@ returns-in-Raise-clause-text c =
     (answered_guest c.args.monitor.now c.raise-reply.new.self c.args.line.now names (texts c.names-in-Raise.result.now) c.in-Raise.guest
     (raises (record { slot = c.in-Raise.slot; part = part_of c.in-Raise.place; offset = c.in-Raise.off; mask = c.in-Raise.mask }))
     (reply_of c.raise-reply.result) c.line_text-in-Raise.result.items c.names.ensures c.names-in-Raise.ensures
-    (subst (λ (x : What). meaning_of names x ≡ meaning names c.args.line.now) c.in-Raise.is c.parse_line.ensures.meaning)
+    (subst (λ (x : What). meaning_of names x ≡ meaning names c.args.line.now) c.in-Raise.is c.line_meaning.ensures.meaning)
     c.raise-reply.ensures.after c.raise-reply.ensures.reply c.line_text-in-Raise.ensures).text
 
 pub returns-in-Raise-clause-after : goal.returns-in-Raise-clause-after
@@ -63,7 +63,7 @@ returns-in-Raise-clause-after c =
     (answered_guest c.args.monitor.now c.raise-reply.new.self c.args.line.now names (texts c.names-in-Raise.result.now) c.in-Raise.guest
     (raises (record { slot = c.in-Raise.slot; part = part_of c.in-Raise.place; offset = c.in-Raise.off; mask = c.in-Raise.mask }))
     (reply_of c.raise-reply.result) c.line_text-in-Raise.result.items c.names.ensures c.names-in-Raise.ensures
-    (subst (λ (x : What). meaning_of names x ≡ meaning names c.args.line.now) c.in-Raise.is c.parse_line.ensures.meaning)
+    (subst (λ (x : What). meaning_of names x ≡ meaning names c.args.line.now) c.in-Raise.is c.line_meaning.ensures.meaning)
     c.raise-reply.ensures.after c.raise-reply.ensures.reply c.line_text-in-Raise.ensures).after
 
 pub returns-in-Move-clause-text : goal.returns-in-Move-clause-text
@@ -71,7 +71,7 @@ returns-in-Move-clause-text c =
     let names = texts c.names.result.now in
     (answered_move c.args.monitor.now c.move_function-reply.new.self c.args.line.now names c.in-Move.from c.in-Move.slot c.in-Move.to c.in-Move.target
     (reply_of c.move_function-reply.result) c.line_text-in-Move.result.items c.names.ensures
-    (subst (λ (x : What). meaning_of names x ≡ meaning names c.args.line.now) c.in-Move.is c.parse_line.ensures.meaning)
+    (subst (λ (x : What). meaning_of names x ≡ meaning names c.args.line.now) c.in-Move.is c.line_meaning.ensures.meaning)
     c.move_function-reply.ensures.after c.move_function-reply.ensures.reply c.line_text-in-Move.ensures).text
 
 pub returns-in-Move-clause-after : goal.returns-in-Move-clause-after
@@ -79,5 +79,5 @@ returns-in-Move-clause-after c =
     let names = texts c.names.result.now in
     (answered_move c.args.monitor.now c.move_function-reply.new.self c.args.line.now names c.in-Move.from c.in-Move.slot c.in-Move.to c.in-Move.target
     (reply_of c.move_function-reply.result) c.line_text-in-Move.result.items c.names.ensures
-    (subst (λ (x : What). meaning_of names x ≡ meaning names c.args.line.now) c.in-Move.is c.parse_line.ensures.meaning)
+    (subst (λ (x : What). meaning_of names x ≡ meaning names c.args.line.now) c.in-Move.is c.line_meaning.ensures.meaning)
     c.move_function-reply.ensures.after c.move_function-reply.ensures.reply c.line_text-in-Move.ensures).after

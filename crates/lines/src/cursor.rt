@@ -1,0 +1,98 @@
+//! A line that is read word by word, in one pass over its bytes.
+ghost use Rattle.std.specs.Prelude.{◌≡◌, ◌≤◌, ◌<◌, ◌^◌, ◌∷◌, [], None, Some, length, MatchOption, IsTrue, IsFalse};
+ghost use Rattle.model_guests.specs.Text.{words};
+ghost use Rattle.model_guests.specs.Numbers.{below, digits_in, is_hexadecimal};
+ghost use Rattle.lines.specs.Cursors.{before_blank, after_blank, IsAtWord, numbered};
+
+use crate::numbers::with_digit;
+use crate::words::{is_blank, next_piece};
+
+/// The text without the blanks at its front.
+#[inline]
+fn from_word(text: &[u8]) -> &[u8]
+    ensures words { words result.now ≡ words text.now }
+    ensures start { IsAtWord result.now }
+{
+    let mut rest = text;
+    while let [byte, after @ ..] = rest {
+        if !is_blank(*byte) {
+            return rest;
+        }
+        rest = after;
+    }
+    rest
+}
+
+/// Whether no word is left.
+#[inline]
+pub(crate) fn is_end(text: &[u8]) -> bool
+    ensures some { IsFalse result → words text.now ≡ [] → ⊥ }
+    ensures none { IsTrue result → words text.now ≡ [] }
+{
+    from_word(text).is_empty()
+}
+
+/// The first word, and what comes after it.
+#[inline]
+pub(crate) fn first_word(text: &[u8]) -> Option<(&[u8], &[u8])>
+    ensures { MatchOption result (words text.now ≡ []) (λ p. words text.now ≡ p.0.now ∷ words p.1.now) }
+{
+    let mut rest = text;
+    while let Some((piece, after)) = next_piece(rest) {
+        if !piece.is_empty() {
+            return Some((piece, after));
+        }
+        rest = after;
+    }
+    None
+}
+
+/// The number below 2^64 that the digits before the first blank write, and what comes after that blank.
+/// It is compiled for each base apart.
+#[inline(always)]
+fn digits_before_blank(base: u8, text: &[u8]) -> Option<(u64, &[u8])>
+    requires { 1 ≤ base }
+    ensures { MatchOption result (below (2 ^ 64) (digits_in base (before_blank text.now)) ≡ None)
+        (λ p. (below (2 ^ 64) (digits_in base (before_blank text.now)) ≡ Some p.0) × (p.1.now ≡ after_blank text.now)) }
+{
+    let [first, ..] = text else {
+        return None;
+    };
+    if is_blank(*first) {
+        return None;
+    }
+    let mut number = 0;
+    for i in 0..text.len() {
+        let byte = text[i];
+        let Some(longer) = with_digit(base, number, byte) else {
+            if is_blank(byte) {
+                return Some((number, &text[i + 1..]));
+            }
+            return None;
+        };
+        number = longer;
+    }
+    Some((number, &[]))
+}
+
+/// Whether hexadecimal digits are to follow the first two bytes.
+#[inline]
+fn is_hexadecimal(text: &[u8]) -> bool
+    ensures { result ≡ is_hexadecimal text.now }
+{
+    matches!(text, [b'0', b'x' | b'X', ..])
+}
+
+/// The number that the first word writes, and what comes after it.
+#[inline]
+pub(crate) fn first_number(text: &[u8]) -> Option<(u64, &[u8])>
+    ensures { MatchOption result (numbered (words text.now) ≡ None)
+        (λ p. numbered (words text.now) ≡ Some (record { number = p.0; rest = words p.1.now })) }
+{
+    let word = from_word(text);
+    if is_hexadecimal(word) {
+        digits_before_blank(16, &word[2..])
+    } else {
+        digits_before_blank(10, word)
+    }
+}
