@@ -8,7 +8,7 @@ PROGRESS := grep --line-buffered -E '^(== |[a-z_]+: |[0-9]+ of )|^[^ ]*: error|n
 # the board of `make list` and `make lspci`, unless they are given one
 BOARD := crates/examples/data/main.toml
 
-.PHONY: demo list lspci has-lspci test build library bench hostile fuzz try clean
+.PHONY: demo list lspci has-lspci test build library bench hostile fuzz page browse try clean
 
 # Proves and builds the program, and runs a script over the demo board.
 demo: build
@@ -70,10 +70,25 @@ fuzz: pciguest
 	@cd crates/lone_answers && rt run > out/build.log 2>&1 || { cat out/build.log; exit 1; }
 	@python3 tests/fuzz/fuzz.py ./pciguest --lone crates/lone_answers/out/lone_answers --boards 850 --seed $(SEED)
 
+# A page that runs the proved code in a browser: pciguest.html. It takes Node or Chromium, to compare what the page
+# answers with the program.
+EXPORTS := $(addprefix pciguest_raw_,new free report run_line)
+page: pciguest
+	@mkdir -p page/out
+	@cd crates/pciguest_c && rt lib > out/build.log 2>&1 || { cat out/build.log; exit 1; }
+	@page/module pciguest_c page/out/pciguest.wasm $(EXPORTS)
+	@page/compare page/out/pciguest.wasm ./pciguest
+	@page/assemble page/out/pciguest.wasm pciguest.html
+	@echo 'pciguest.html: open it in a browser'
+
+# The page as a reader uses it, in headless Chromium; screenshots are left in page/out.
+browse: page
+	@page/browse pciguest.html page/out
+
 # The demo in about a minute: nothing is proved.
 try:
 	@echo 'This run proves nothing: it only compiles the program and runs it. `make demo` proves it first.'
 	@cd crates/pciguest && rt try -- demo < ../../examples/demo.script
 
 clean:
-	rm -rf crates/*/out pciguest library/libpciguest.a
+	rm -rf crates/*/out page/out pciguest pciguest.html library/libpciguest.a

@@ -1,0 +1,73 @@
+// The script's console: lines in, replies out, and stories that play themselves.
+
+const PAUSE = 650;
+
+export class Console {
+  // `parts` are its elements; `machine` gives the open machine or null; `moved` is told of each move that was done.
+  constructor(parts, machine, moved) {
+    Object.assign(this, { parts, machine, moved, hues: new Map(), before: [], back: 0, playing: 0 });
+    parts.entry.addEventListener('submit', event => { event.preventDefault(); this.enter(); });
+    parts.line.addEventListener('keydown', event => this.recall(event));
+  }
+
+  clear(hues) {
+    this.playing += 1;
+    this.hues = hues;
+    this.parts.transcript.replaceChildren();
+  }
+
+  put(name, text) {
+    const one = document.createElement('div');
+    one.className = name;
+    one.textContent = text;
+    this.parts.transcript.append(one);
+    this.parts.transcript.scrollTop = this.parts.transcript.scrollHeight;
+    return one;
+  }
+
+  run(line) {
+    const machine = this.machine();
+    if (machine === null) { this.put('refused', 'The board is refused, so there is nothing to run.'); return; }
+    if (line.trimStart().startsWith('#')) { this.put('remark', line.trimStart().slice(1).trim()); return; }
+    this.put('said', line);
+    const reply = new TextDecoder().decode(machine.answer(new TextEncoder().encode(line))).trimEnd();
+    if (reply === '') return;
+    const who = reply.slice(0, reply.indexOf(':'));
+    const one = this.put(who === 'host' ? 'reply host' : 'reply', reply);
+    if (this.hues.has(who)) one.style.setProperty('--hue', this.hues.get(who));
+    one.classList.toggle('refused', reply.includes(': refused '));
+    const words = line.trim().split(/\s+/);
+    if (words[0] === 'host' && words[1] === 'move' && reply === 'host: ok') {
+      this.moved({ guest: words[2], slot: Number(words[3]) }, { guest: words[4], slot: Number(words[5]) });
+    }
+  }
+
+  enter() {
+    const line = this.parts.line.value;
+    if (line.trim() === '') return;
+    this.playing += 1;
+    this.before.push(line);
+    this.back = 0;
+    this.parts.line.value = '';
+    this.run(line);
+  }
+
+  // The arrow keys bring back earlier lines.
+  recall(event) {
+    const step = { ArrowUp: 1, ArrowDown: -1 }[event.key];
+    if (step === undefined) return;
+    event.preventDefault();
+    this.back = Math.min(Math.max(this.back + step, 0), this.before.length);
+    this.parts.line.value = this.back === 0 ? '' : this.before[this.before.length - this.back];
+  }
+
+  // Plays the lines of a script, one after the other, or at once; another story or a typed line ends it.
+  async play(script, at_once) {
+    const mine = ++this.playing;
+    for (const line of script.split('\n').filter(line => line.trim() !== '')) {
+      if (mine !== this.playing) return;
+      this.run(line);
+      if (!at_once) await new Promise(done => setTimeout(done, PAUSE));
+    }
+  }
+}

@@ -1,0 +1,128 @@
+/* What the module needs of a C library: blocks of memory, and arithmetic on 128 bits. Nothing here is proved.
+ * A block is asked for, resized and given back by one thread; those given back are kept in a list, and the first
+ * one that is large enough, and not four times too large, is used again. */
+
+typedef unsigned long word;
+typedef unsigned char byte;
+
+/* The answer of an allocation, as two words: whether there is a block, and where. */
+struct block {
+    word found;
+    byte *at;
+};
+
+/* What stands before each block. */
+struct head {
+    word size;
+    struct head *next;
+};
+
+enum { UNIT = 16, PAGE = 65536, PAGES_AT_ONCE = 16 };
+
+extern byte __heap_base;
+static byte *top;
+static struct head *given_back;
+
+static word rounded(word size, word unit) { return (size + unit - 1) / unit * unit; }
+
+static struct block block_of(struct head *head) { return (struct block){1, (byte *)(head + 1)}; }
+
+/* Makes the memory reach up to `end`. */
+static int reaches(word end) {
+    word have = __builtin_wasm_memory_size(0) * PAGE;
+    return end <= have
+        || __builtin_wasm_memory_grow(0, rounded(end - have, PAGE) / PAGE + PAGES_AT_ONCE) != (word)-1;
+}
+
+struct block rattle_alloc(word size, word alignment) {
+    (void)alignment; /* at most 16, and each block is aligned so */
+    word need = rounded(size ? size : 1, UNIT);
+    for (struct head **link = &given_back; *link; link = &(*link)->next) {
+        struct head *head = *link;
+        if (need <= head->size && head->size <= 4 * need) {
+            *link = head->next;
+            return block_of(head);
+        }
+    }
+    if (!top) top = (byte *)rounded((word)&__heap_base, UNIT);
+    if (need > 1UL << 32 || !reaches((word)top + sizeof(struct head) + need)) return (struct block){0, 0};
+    struct head *head = (struct head *)top;
+    *head = (struct head){need, 0};
+    top += sizeof(struct head) + need;
+    return block_of(head);
+}
+
+void rattle_dealloc(byte *at) {
+    if (!at) return;
+    struct head *head = (struct head *)at - 1;
+    head->next = given_back;
+    given_back = head;
+}
+
+struct block rattle_realloc(byte *at, word kept, word size, word alignment) {
+    struct head *head = (struct head *)at - 1;
+    if (size <= head->size) return block_of(head);
+    struct block larger = rattle_alloc(size, alignment);
+    if (larger.found) {
+        __builtin_memcpy(larger.at, at, kept);
+        rattle_dealloc(at);
+    }
+    return larger;
+}
+
+/* A block for JavaScript to write to. */
+byte *page_room(word size) { return rattle_alloc(size, UNIT).at; }
+
+/* What LLVM calls for numbers of 128 bits. */
+typedef __int128 wide;
+typedef unsigned __int128 unsigned_wide;
+union halves {
+    unsigned_wide all;
+    struct { word low, high; } half;
+};
+
+wide __multi3(wide a, wide b) {
+    union halves x = {(unsigned_wide)a}, y = {(unsigned_wide)b}, product;
+    word mask = 0xffffffff, xl = x.half.low & mask, xh = x.half.low >> 32, yl = y.half.low & mask, yh = y.half.low >> 32;
+    word low = xl * yl, first = xh * yl + (low >> 32), second = xl * yh + (first & mask);
+    product.half.low = (low & mask) | second << 32;
+    product.half.high = xh * yh + (first >> 32) + (second >> 32) + x.half.low * y.half.high + x.half.high * y.half.low;
+    return (wide)product.all;
+}
+
+wide __ashlti3(wide a, int by) {
+    union halves x = {(unsigned_wide)a}, shifted = x;
+    if (by >= 64) {
+        shifted.half.high = x.half.low << (by - 64);
+        shifted.half.low = 0;
+    } else if (by) {
+        shifted.half.high = x.half.high << by | x.half.low >> (64 - by);
+        shifted.half.low = x.half.low << by;
+    }
+    return (wide)shifted.all;
+}
+
+wide __lshrti3(wide a, int by) {
+    union halves x = {(unsigned_wide)a}, shifted = x;
+    if (by >= 64) {
+        shifted.half.low = x.half.high >> (by - 64);
+        shifted.half.high = 0;
+    } else if (by) {
+        shifted.half.low = x.half.low >> by | x.half.high << (64 - by);
+        shifted.half.high = x.half.high >> by;
+    }
+    return (wide)shifted.all;
+}
+
+wide __ashrti3(wide a, int by) {
+    union halves x = {(unsigned_wide)a}, shifted = x;
+    long high = (long)x.half.high;
+    if (by >= 64) {
+        shifted.half.low = (word)(high >> (by - 64));
+        shifted.half.high = (word)(high >> 63);
+    } else if (by) {
+        shifted.half.low = x.half.low >> by | x.half.high << (64 - by);
+        shifted.half.high = (word)(high >> by);
+    }
+    return (wide)shifted.all;
+}
