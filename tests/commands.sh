@@ -3,7 +3,7 @@
 #     tests/commands.sh [PROGRAM]
 # In a block, a line '$ COMMAND' is run in a folder that has the program as ./pciguest and the repository's folders, and
 # the lines up to the next one are what has to come; `...` as the last of them leaves the rest open. A block under a line
-# 'Save this as `NAME`' is saved there first. A block of Rust stands, line by line, in the file that the text above links
+# 'Save this as `NAME`' is saved there first. A block of Rust or C stands, line by line, in the file that the text above links
 # last. Of `make` the target alone is looked for. The last line is 'N passed, M failed'.
 set -u
 cd "$(dirname "$0")/.."
@@ -70,7 +70,7 @@ document() {
     elif [[ $line == '```' ]]; then
       inside=''
       if [ -n "$save" ]; then printf '%s' "$text" > "$room/$save"; save=''
-      elif [ "$kind" = rust ]; then
+      elif [ "$kind" = rust ] || [ "$kind" = c ]; then
         text=$(bare <<< "$text")
         tell "$1: the lines of $file" "$text" "$(bare < "$top/$file" | grep -xF "$text")"
       else block "$1" < <(printf '%s' "$text"); fi
@@ -78,7 +78,7 @@ document() {
       text+=$line$'\n'
     else
       [[ $line =~ 'Save this as `'([a-z_.]+)'`' ]] && save=${BASH_REMATCH[1]}
-      [[ $line =~ .*']('([a-z_/]+\.rt)')' ]] && file=${BASH_REMATCH[1]}
+      [[ $line =~ .*']('([a-z_/]+\.(rt|c))')' ]] && file=${BASH_REMATCH[1]}
     fi
   done < "$top/$1"
 }
