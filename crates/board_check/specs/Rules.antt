@@ -36,6 +36,18 @@ fault_of rule.BlockFits = Size
 fault_of rule.Name = GuestName
 fault_of rule.BarMasks = CellMasks
 fault_of rule.ConfigMasks = CellMasks
+fault_of rule.Path = Place
+fault_of rule.OwnPlace = Place
+fault_of rule.BehindBridge = Place
+fault_of rule.FunctionZero = Place
+fault_of rule.OwnRegisters = Register
+fault_of rule.OwnName = GuestName
+fault_of rule.NamesEndpoint = Slot
+fault_of rule.OwnSlot = Slot
+fault_of rule.IoAperture = Aperture
+fault_of rule.MemAperture = Aperture
+fault_of rule.PrefAperture = Aperture
+fault_of rule.OwnOffsets = CellMasks
 
 abbrev pub key_of : Rule → List ℕ
 key_of rule.Needed = []
@@ -65,6 +77,18 @@ key_of rule.BlockFits = codes "block"
 key_of rule.Name = codes "name"
 key_of rule.BarMasks = codes "block"
 key_of rule.ConfigMasks = codes "block"
+key_of rule.Path = codes "at"
+key_of rule.OwnPlace = codes "at"
+key_of rule.BehindBridge = codes "at"
+key_of rule.FunctionZero = codes "at"
+key_of rule.OwnRegisters = codes "bar"
+key_of rule.OwnName = codes "name"
+key_of rule.NamesEndpoint = []
+key_of rule.OwnSlot = []
+key_of rule.IoAperture = codes "io"
+key_of rule.MemAperture = codes "mem"
+key_of rule.PrefAperture = codes "pref"
+key_of rule.OwnOffsets = codes "off"
 
 abbrev pub words_of : Rule → List ℕ
 words_of rule.Needed = codes "is missing"
@@ -94,6 +118,18 @@ words_of rule.BlockFits = codes "is longer than the region"
 words_of rule.Name = codes "is no name that a guest may have"
 words_of rule.BarMasks = codes "patterns that are not lawful"
 words_of rule.ConfigMasks = codes "patterns that are not lawful"
+words_of rule.Path = codes "is no path"
+words_of rule.OwnPlace = codes "is the path of an earlier function"
+words_of rule.BehindBridge = codes "leads through something else than bridges"
+words_of rule.FunctionZero = codes "is in a device without function 0"
+words_of rule.OwnRegisters = codes "a register is used twice, or a 64-bit kind has index 5"
+words_of rule.OwnName = codes "is the name of an earlier guest"
+words_of rule.NamesEndpoint = codes "is no path of an endpoint"
+words_of rule.OwnSlot = codes "is in an earlier slot"
+words_of rule.IoAperture = codes "is no lawful aperture"
+words_of rule.MemAperture = codes "is no lawful aperture"
+words_of rule.PrefAperture = codes "is no lawful aperture, or meets mem"
+words_of rule.OwnOffsets = codes "overlaps an earlier block"
 
 abbrev pub fault_words : BoardFault → List ℕ
 fault_words NotToml = codes "not TOML"

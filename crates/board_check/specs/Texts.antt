@@ -48,9 +48,12 @@ problem_text name t =
     ++ words_of t.problem.rule ++ fault_text (fault_of t.problem.rule)
 
 -- of a fault of which no entry is told
-abbrev pub bare_text : List ℕ → BoardFault → List ℕ
-bare_text name f = name ++ codes ": refused" ++ fault_text f
+abbrev pub bare_text : List ℕ → Option ℕ → BoardFault → List ℕ
+bare_text name line f = name ++ line_text line ++ codes ": refused" ++ fault_text f
+
+abbrev pub count_text : ℕ → List ℕ
+count_text n = decimal n ++ codes " problems\n"
 
 abbrev pub lines_text : List ℕ → BoardFault → List Told → List ℕ
-lines_text name f [] = bare_text name f
-lines_text name f (t ∷ ts) = flat_map (problem_text name) (t ∷ ts)
+lines_text name f [] = bare_text name None f
+lines_text name f (t ∷ ts) = flat_map (problem_text name) (t ∷ ts) ++ count_text (length (t ∷ ts))

@@ -3,6 +3,7 @@ ghost use Rattle.std.specs.Prelude.{◌≡◌, IfOk, OnOk};
 ghost use Rattle.toml.specs.View.{table_view};
 ghost use Rattle.model_registers.specs.Lists.{Each};
 ghost use Rattle.board_file.specs.Entries as said;
+ghost use Rattle.board_file.specs.Functions.{standings};
 ghost use Rattle.board_check.specs.Keeping.{IsProblem};
 
 use crate::entry::Entry;
@@ -12,6 +13,7 @@ use crate::rule::Rule;
 use board_file::BoardFault;
 use board_file::entries::{EndpointEntry, FileEntries};
 use board_file::keys::fields;
+use board_file::places::{FunctionPath, function_paths};
 use board_file::reading::read_entries;
 use std::alloc::{AllocError, Global};
 use toml::Table;
@@ -72,17 +74,27 @@ fn push_problem<'a>(
     problems: &mut Vec<Problem<'a>>,
     table: &Table,
     file: &FileEntries<'_>,
+    functions: &[FunctionPath],
     fault: BoardFault,
     problem: Problem<'a>,
 ) -> Result<(), AllocError>
     requires file { file.now ≡ said.file (table_view table.now) }
+    requires functions { functions.now ≡ standings file.now }
     requires problems { Each (IsProblem (table_view table.now) fault) problems.old.items }
     ensures { OnOk result (Each (IsProblem (table_view table.now) fault) problems.new.items) }
 {
     if problem.rule.fault() != fault {
         return Ok(());
     }
-    if keeps(alloc, table, file, problem.entry, problem.rule, problem.key)? {
+    if keeps(
+        alloc,
+        table,
+        file,
+        functions,
+        problem.entry,
+        problem.rule,
+        problem.key,
+    )? {
         return Ok(());
     }
     problems.push(problem)?;
@@ -95,10 +107,12 @@ fn push_fields<'a>(
     problems: &mut Vec<Problem<'a>>,
     table: &Table,
     file: &FileEntries<'_>,
+    functions: &[FunctionPath],
     fault: BoardFault,
     entry: Entry,
 ) -> Result<(), AllocError>
     requires file { file.now ≡ said.file (table_view table.now) }
+    requires functions { functions.now ≡ standings file.now }
     requires problems { Each (IsProblem (table_view table.now) fault) problems.old.items }
     ensures { OnOk result (Each (IsProblem (table_view table.now) fault) problems.new.items) }
 {
@@ -112,13 +126,13 @@ fn push_fields<'a>(
             rule: Rule::Needed,
             key,
         };
-        push_problem(alloc, problems, table, file, fault, missing)?;
+        push_problem(alloc, problems, table, file, functions, fault, missing)?;
         let misformed = Problem {
             entry,
             rule: Rule::Form,
             key,
         };
-        push_problem(alloc, problems, table, file, fault, misformed)?;
+        push_problem(alloc, problems, table, file, functions, fault, misformed)?;
     }
     Ok(())
 }
@@ -129,10 +143,12 @@ fn push_unknown<'a>(
     problems: &mut Vec<Problem<'a>>,
     table: &'a Table,
     file: &FileEntries<'_>,
+    functions: &[FunctionPath],
     fault: BoardFault,
     entry: Entry,
 ) -> Result<(), AllocError>
     requires file { file.now ≡ said.file (table_view table.now) }
+    requires functions { functions.now ≡ standings file.now }
     requires problems { Each (IsProblem (table_view table.now) fault) problems.old.items }
     ensures { OnOk result (Each (IsProblem (table_view table.now) fault) problems.new.items) }
 {
@@ -145,7 +161,7 @@ fn push_unknown<'a>(
             rule: Rule::Known,
             key: key.as_str(),
         };
-        push_problem(alloc, problems, table, file, fault, unknown)?;
+        push_problem(alloc, problems, table, file, functions, fault, unknown)?;
     }
     Ok(())
 }
@@ -156,10 +172,12 @@ fn push_others<'a>(
     problems: &mut Vec<Problem<'a>>,
     table: &Table,
     file: &FileEntries<'_>,
+    functions: &[FunctionPath],
     fault: BoardFault,
     entry: Entry,
 ) -> Result<(), AllocError>
     requires file { file.now ≡ said.file (table_view table.now) }
+    requires functions { functions.now ≡ standings file.now }
     requires problems { Each (IsProblem (table_view table.now) fault) problems.old.items }
     ensures { OnOk result (Each (IsProblem (table_view table.now) fault) problems.new.items) }
 {
@@ -169,7 +187,7 @@ fn push_others<'a>(
             rule,
             key: rule.key(),
         };
-        push_problem(alloc, problems, table, file, fault, problem)?;
+        push_problem(alloc, problems, table, file, functions, fault, problem)?;
     }
     Ok(())
 }
@@ -184,12 +202,37 @@ pub fn problems(
     ensures { IfOk result (λ v. Each (IsProblem (table_view table.now) fault) v.items) }
 {
     let file = read_entries(alloc, table)?;
+    let functions = function_paths(alloc, &file)?;
     let entries = entries(alloc, &file)?;
     let mut problems = Vec::new(alloc);
     'entries: for entry in &entries {
-        push_fields(alloc, &mut problems, table, &file, fault, *entry)?;
-        push_unknown(alloc, &mut problems, table, &file, fault, *entry)?;
-        push_others(alloc, &mut problems, table, &file, fault, *entry)?;
+        push_fields(
+            alloc,
+            &mut problems,
+            table,
+            &file,
+            &functions,
+            fault,
+            *entry,
+        )?;
+        push_unknown(
+            alloc,
+            &mut problems,
+            table,
+            &file,
+            &functions,
+            fault,
+            *entry,
+        )?;
+        push_others(
+            alloc,
+            &mut problems,
+            table,
+            &file,
+            &functions,
+            fault,
+            *entry,
+        )?;
     }
     Ok(problems)
 }

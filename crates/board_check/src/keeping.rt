@@ -1,20 +1,27 @@
 //! Whether an entry keeps a rule.
-ghost use Rattle.std.specs.Prelude.{◌≡◌, IfOk, option_map, nat_abs};
-ghost use Rattle.board_file.specs.Blocks.{is_block};
-ghost use Rattle.board_check.specs.Keeping.{file_keeps, endpoint_keeps, bar_keeps, config_keeps, bridge_keeps, guest_keeps, bar_at, config_at, entry_keeps, keeps};
-ghost use Rattle.board_file.specs.Entries as said;
+ghost use Rattle.std.specs.Prelude.{◌≡◌, ◌+◌, ◌&&◌, IfOk, int_le, nat_le, ◌+ℤ◌, pos, option_map, nat_abs, take, slice_get, length, true};
+ghost use Rattle.std.specs.List.{list_all};
+ghost use Rattle.std.specs.Option.{option_map_or};
 ghost use Rattle.toml.specs.View.{table_view};
+ghost use Rattle.board_file.specs.Blocks.{is_block};
+ghost use Rattle.board_file.specs.Entries as said;
+ghost use Rattle.board_file.specs.Functions.{standings};
+ghost use Rattle.board_check.specs.Keeping.{file_keeps, has_indices, endpoint_keeps, place_keeps, bar_keeps, are_apart, config_keeps, bridge_keeps, bar_at, entry_keeps, keeps};
 
 use crate::entry::Entry;
+use crate::hosts::host_keeps;
 use crate::keys::key_keeps;
+use crate::placing::place_keeps;
 use crate::rule::Rule;
+use crate::slots::{guest_keeps, slot_keeps};
 use board_file::blocks::block;
 use board_file::entries::{
-    BarEntry, BridgeEntry, ConfigEntry, EndpointEntry, FileEntries, GuestEntry, PatternTexts,
+    BarEntry, BridgeEntry, ConfigEntry, EndpointEntry, FileEntries, PatternTexts,
 };
-use board_file::guests::is_name;
-use board_file::numbers::{has_few_slashes, has_few_slots, has_only_bits, is_between};
+use board_file::numbers::{has_only_bits, is_between};
+use board_file::places::FunctionPath;
 use board_file::regions::{is_index, is_size};
+use headers::have_own_registers;
 use std::alloc::{AllocError, Global};
 use toml::Table;
 
@@ -32,6 +39,20 @@ fn file_keeps(rule: Rule, file: &FileEntries<'_>) -> bool
     }
 }
 
+/// Whether the index of each region is lawful.
+fn has_indices(endpoint: &EndpointEntry<'_>) -> bool
+    ensures { result ≡ has_indices endpoint.now }
+{
+    endpoint.bars.iter().all(|bar| is_index(bar))
+}
+
+/// Whether each region has its own registers, if all their indices are lawful.
+fn has_own_registers(endpoint: &EndpointEntry<'_>) -> bool
+    ensures { result ≡ endpoint_keeps Rule.OwnRegisters endpoint.now }
+{
+    !has_indices(endpoint) || have_own_registers(&endpoint.bars)
+}
+
 fn endpoint_keeps(rule: Rule, endpoint: &EndpointEntry<'_>) -> bool
     ensures { result ≡ endpoint_keeps rule endpoint.now }
 {
@@ -46,7 +67,7 @@ fn endpoint_keeps(rule: Rule, endpoint: &EndpointEntry<'_>) -> bool
         Rule::MinGnt => is_between(0, 0xff, endpoint.min_gnt),
         Rule::MaxLat => is_between(0, 0xff, endpoint.max_lat),
         Rule::Status => has_only_bits(0xf900, endpoint.status),
-        Rule::Slashes => has_few_slashes(&endpoint.at),
+        Rule::OwnRegisters => has_own_registers(endpoint),
         _ => true,
     }
 }
@@ -75,7 +96,7 @@ fn bar_keeps(alloc: Global, rule: Rule, bar: &BarEntry<'_>) -> Result<bool, Allo
 }
 
 fn config_ends(config: &ConfigEntry<'_>) -> bool
-    ensures { result ≡ config_keeps Rule.ConfigEnd config.now }
+    ensures { result ≡ int_le (config.now.off +ℤ config.now.block) (pos 256) }
 {
     match config.off.checked_add(config.block) {
         Some(end) => end <= 256,
@@ -83,15 +104,64 @@ fn config_ends(config: &ConfigEntry<'_>) -> bool
     }
 }
 
-fn config_keeps(alloc: Global, rule: Rule, config: &ConfigEntry<'_>) -> Result<bool, AllocError>
-    ensures { IfOk result (λ b. b ≡ config_keeps rule config.now) }
+/// Whether the first ends before the second begins.
+fn ends_before(first: &ConfigEntry<'_>, second: &ConfigEntry<'_>) -> bool
+    ensures { result ≡ nat_le (nat_abs first.now.off + nat_abs first.now.block) (nat_abs second.now.off) }
+{
+    let begin = second.off.unsigned_abs();
+    let off = first.off.unsigned_abs();
+    off <= begin && first.block.unsigned_abs() <= begin - off
+}
+
+/// Whether the two don't overlap.
+fn are_apart(one: &ConfigEntry<'_>, other: &ConfigEntry<'_>) -> bool
+    ensures { result ≡ are_apart one.now other.now }
+{
+    ends_before(one, other) || ends_before(other, one)
+}
+
+/// Whether none of the first blocks overlaps it.
+fn has_own_offsets(configs: &[ConfigEntry<'_>], count: usize, config: &ConfigEntry<'_>) -> bool
+    ensures { result ≡ list_all (λ c. are_apart c config.now) (take count configs.now) }
+{
+    configs
+        .iter()
+        .take(count)
+        .all(|other| are_apart(other, config))
+}
+
+/// Whether a block of own registers keeps a rule, after so many others.
+fn config_keeps(
+    alloc: Global,
+    rule: Rule,
+    configs: &[ConfigEntry<'_>],
+    before: usize,
+    config: &ConfigEntry<'_>,
+) -> Result<bool, AllocError>
+    ensures { IfOk result (λ b. b ≡ config_keeps rule configs.now before config.now) }
 {
     match rule {
         Rule::ConfigOff => Ok(is_between(0x40, 0xff, config.off)),
         Rule::ConfigBlock => Ok(is_between(1, 192, config.block)),
         Rule::ConfigEnd => Ok(config_ends(config)),
         Rule::ConfigMasks => are_masks(alloc, config.block, &config.patterns),
+        Rule::OwnOffsets => Ok(has_own_offsets(configs, before, config)),
         _ => Ok(true),
+    }
+}
+
+/// The same of the block at an index. One that isn't there breaks no rule.
+fn config_at_keeps(
+    alloc: Global,
+    rule: Rule,
+    configs: &[ConfigEntry<'_>],
+    index: usize,
+) -> Result<bool, AllocError>
+    ensures { IfOk result (λ b. b ≡ option_map_or (config_keeps rule configs.now index) (slice_get configs.now index) true) }
+{
+    match configs.get(index) {
+        Some(config) => config_keeps(alloc, rule, configs, index, config),
+        None => Ok(true),
     }
 }
 
@@ -102,17 +172,6 @@ fn bridge_keeps(rule: Rule, bridge: &BridgeEntry<'_>) -> bool
         Rule::Vendor => is_between(0, 0xfffe, bridge.vendor),
         Rule::Device => is_between(0, 0xffff, bridge.device),
         Rule::Revision => is_between(0, 0xff, bridge.revision),
-        Rule::Slashes => has_few_slashes(&bridge.at),
-        _ => true,
-    }
-}
-
-fn guest_keeps(rule: Rule, guest: &GuestEntry<'_>) -> bool
-    ensures { result ≡ guest_keeps rule guest.now }
-{
-    match rule {
-        Rule::Slots => has_few_slots(guest),
-        Rule::Name => is_name(guest.name),
         _ => true,
     }
 }
@@ -130,16 +189,42 @@ fn bar_at<'f, 'a>(
     }
 }
 
-fn config_at<'f, 'a>(
-    file: &'f FileEntries<'a>,
-    endpoint: usize,
-    config: usize,
-) -> Option<&'f ConfigEntry<'a>>
-    ensures { option_map (λ c. c.now) result ≡ config_at endpoint config file.now }
+/// Whether the endpoint at an index keeps a rule. One that isn't there breaks none.
+fn endpoint_at_keeps(
+    rule: Rule,
+    file: &FileEntries<'_>,
+    functions: &[FunctionPath],
+    index: usize,
+) -> bool
+    requires { functions.now ≡ standings file.now }
+    ensures { result ≡ option_map_or (λ e. endpoint_keeps rule e && place_keeps rule file.now index 0 e.at) (slice_get file.now.endpoints index) true }
 {
-    match file.endpoints.get(endpoint) {
-        Some(entry) => entry.configs.get(config),
-        None => None,
+    match file.endpoints.get(index) {
+        Some(endpoint) => {
+            endpoint_keeps(rule, endpoint)
+                && place_keeps(rule, file, functions, index, 0, &endpoint.at)
+        }
+        None => true,
+    }
+}
+
+/// Whether the bridge at an index keeps a rule. One that isn't there breaks none.
+fn bridge_at_keeps(
+    rule: Rule,
+    file: &FileEntries<'_>,
+    functions: &[FunctionPath],
+    index: usize,
+) -> bool
+    requires { functions.now ≡ standings file.now }
+    ensures { result ≡ option_map_or (λ b. bridge_keeps rule b && place_keeps rule file.now (length file.now.endpoints) index b.at) (slice_get file.now.bridges index) true }
+{
+    let endpoints = file.endpoints.len();
+    match file.bridges.get(index) {
+        Some(bridge) => {
+            bridge_keeps(rule, bridge)
+                && place_keeps(rule, file, functions, endpoints, index, &bridge.at)
+        }
+        None => true,
     }
 }
 
@@ -148,34 +233,34 @@ fn config_at<'f, 'a>(
 fn entry_keeps(
     alloc: Global,
     file: &FileEntries<'_>,
+    functions: &[FunctionPath],
     entry: Entry,
     rule: Rule,
 ) -> Result<bool, AllocError>
+    requires { functions.now ≡ standings file.now }
     ensures { IfOk result (λ b. b ≡ entry_keeps file.now entry rule) }
 {
     match entry {
         Entry::File => Ok(file_keeps(rule, file)),
-        Entry::Endpoint(i) => match file.endpoints.get(i) {
-            Some(endpoint) => Ok(endpoint_keeps(rule, endpoint)),
-            None => Ok(true),
-        },
+        Entry::Host => Ok(host_keeps(rule, file)),
+        Entry::Endpoint(i) => Ok(endpoint_at_keeps(rule, file, functions, i)),
         Entry::Bar(i, j) => match bar_at(file, i, j) {
             Some(bar) => bar_keeps(alloc, rule, bar),
             None => Ok(true),
         },
-        Entry::Config(i, j) => match config_at(file, i, j) {
-            Some(config) => config_keeps(alloc, rule, config),
+        Entry::Config(i, j) => match file.endpoints.get(i) {
+            Some(endpoint) => config_at_keeps(alloc, rule, &endpoint.configs, j),
             None => Ok(true),
         },
-        Entry::Bridge(i) => match file.bridges.get(i) {
-            Some(bridge) => Ok(bridge_keeps(rule, bridge)),
-            None => Ok(true),
-        },
+        Entry::Bridge(i) => Ok(bridge_at_keeps(rule, file, functions, i)),
         Entry::Guest(i) => match file.guests.get(i) {
-            Some(guest) => Ok(guest_keeps(rule, guest)),
+            Some(guest) => Ok(guest_keeps(rule, file, i, guest)),
             None => Ok(true),
         },
-        Entry::Host | Entry::Slot(_, _) => Ok(true),
+        Entry::Slot(i, j) => match file.guests.get(i) {
+            Some(guest) => Ok(slot_keeps(rule, file, functions, i, &guest.slots, j)),
+            None => Ok(true),
+        },
     }
 }
 
@@ -184,15 +269,17 @@ pub(crate) fn keeps(
     alloc: Global,
     table: &Table,
     file: &FileEntries<'_>,
+    functions: &[FunctionPath],
     entry: Entry,
     rule: Rule,
     key: &str,
 ) -> Result<bool, AllocError>
-    requires { file.now ≡ said.file (table_view table.now) }
+    requires file { file.now ≡ said.file (table_view table.now) }
+    requires functions { functions.now ≡ standings file.now }
     ensures { IfOk result (λ b. b ≡ keeps (table_view table.now) entry rule key.now) }
 {
     match rule {
         Rule::Needed | Rule::Form | Rule::Known => Ok(key_keeps(table, entry, rule, key)),
-        _ => entry_keeps(alloc, file, entry, rule),
+        _ => entry_keeps(alloc, file, functions, entry, rule),
     }
 }

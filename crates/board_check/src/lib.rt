@@ -4,10 +4,13 @@
 
 mod entry;
 mod finding;
+mod hosts;
 mod keeping;
 mod keys;
 mod lines;
+mod placing;
 mod rule;
+mod slots;
 mod telling;
 mod texts;
 

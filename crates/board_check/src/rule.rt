@@ -61,11 +61,35 @@ pub enum Rule {
     BarMasks,
     /// The patterns of a device's own registers are lawful.
     ConfigMasks,
+    /// The `at` is the text of a path.
+    Path,
+    /// No function before it stands at the same path.
+    OwnPlace,
+    /// It is on bus 0, or behind a bridge of the file.
+    BehindBridge,
+    /// Its device has a function 0.
+    FunctionZero,
+    /// No register is used twice, and each region has its own among the six.
+    OwnRegisters,
+    /// No guest before it has the same name.
+    OwnName,
+    /// A slot is the path of an endpoint.
+    NamesEndpoint,
+    /// No slot before it has the same endpoint.
+    OwnSlot,
+    /// The aperture of I/O is lawful.
+    IoAperture,
+    /// The aperture of memory is lawful.
+    MemAperture,
+    /// The prefetchable aperture is lawful beside that of memory.
+    PrefAperture,
+    /// No block of own registers before it overlaps.
+    OwnOffsets,
 }
 
 impl Rule {
     /// All rules, but those of keys.
-    pub(crate) const ALL: [Rule; 24] = [
+    pub(crate) const ALL: [Rule; 36] = [
         Rule::Vendor,
         Rule::Device,
         Rule::Revision,
@@ -90,6 +114,18 @@ impl Rule {
         Rule::Name,
         Rule::BarMasks,
         Rule::ConfigMasks,
+        Rule::Path,
+        Rule::OwnPlace,
+        Rule::BehindBridge,
+        Rule::FunctionZero,
+        Rule::OwnRegisters,
+        Rule::OwnName,
+        Rule::NamesEndpoint,
+        Rule::OwnSlot,
+        Rule::IoAperture,
+        Rule::MemAperture,
+        Rule::PrefAperture,
+        Rule::OwnOffsets,
     ];
 
     /// The fault of a file in which the rule is broken.
@@ -114,14 +150,19 @@ impl Rule {
             | Rule::ConfigBlock
             | Rule::ConfigEnd => BoardFault::Number,
             Rule::Slashes | Rule::Functions | Rule::Guests | Rule::Slots => BoardFault::TooMany,
-            Rule::Index => BoardFault::Register,
+            Rule::Path | Rule::OwnPlace | Rule::BehindBridge | Rule::FunctionZero => {
+                BoardFault::Place
+            },
+            Rule::Index | Rule::OwnRegisters => BoardFault::Register,
             Rule::Size | Rule::BlockFits => BoardFault::Size,
-            Rule::Name => BoardFault::GuestName,
-            Rule::BarMasks | Rule::ConfigMasks => BoardFault::CellMasks,
+            Rule::Name | Rule::OwnName => BoardFault::GuestName,
+            Rule::NamesEndpoint | Rule::OwnSlot => BoardFault::Slot,
+            Rule::IoAperture | Rule::MemAperture | Rule::PrefAperture => BoardFault::Aperture,
+            Rule::BarMasks | Rule::ConfigMasks | Rule::OwnOffsets => BoardFault::CellMasks,
         }
     }
 
-    /// The key at which the rule is broken. For a rule of keys it is any key.
+    /// The key at which the rule is broken. A rule of keys is broken at any key, and a slot has none.
     pub(crate) fn key(self) -> &'static str
         ensures { result.now ≡ key_of self }
     {
@@ -151,6 +192,18 @@ impl Rule {
             Rule::Name => "name",
             Rule::BarMasks => "block",
             Rule::ConfigMasks => "block",
+            Rule::Path => "at",
+            Rule::OwnPlace => "at",
+            Rule::BehindBridge => "at",
+            Rule::FunctionZero => "at",
+            Rule::OwnRegisters => "bar",
+            Rule::OwnName => "name",
+            Rule::NamesEndpoint => "",
+            Rule::OwnSlot => "",
+            Rule::IoAperture => "io",
+            Rule::MemAperture => "mem",
+            Rule::PrefAperture => "pref",
+            Rule::OwnOffsets => "off",
         }
     }
 
@@ -186,6 +239,18 @@ impl Rule {
             Rule::Name => "is no name that a guest may have",
             Rule::BarMasks => "patterns that are not lawful",
             Rule::ConfigMasks => "patterns that are not lawful",
+            Rule::Path => "is no path",
+            Rule::OwnPlace => "is the path of an earlier function",
+            Rule::BehindBridge => "leads through something else than bridges",
+            Rule::FunctionZero => "is in a device without function 0",
+            Rule::OwnRegisters => "a register is used twice, or a 64-bit kind has index 5",
+            Rule::OwnName => "is the name of an earlier guest",
+            Rule::NamesEndpoint => "is no path of an endpoint",
+            Rule::OwnSlot => "is in an earlier slot",
+            Rule::IoAperture => "is no lawful aperture",
+            Rule::MemAperture => "is no lawful aperture",
+            Rule::PrefAperture => "is no lawful aperture, or meets mem",
+            Rule::OwnOffsets => "overlaps an earlier block",
         }
     }
 }

@@ -1,9 +1,10 @@
 //! What is told of a board file that is refused.
-ghost use Rattle.std.specs.Prelude.{◌≡◌, ◌++◌, IfOk, OnOk, string_bytes};
+ghost use Rattle.std.specs.Prelude.{◌≡◌, ◌++◌, IfOk, IfSome, Some, string_bytes};
 ghost use Rattle.toml.specs.View.{table_view};
 ghost use Rattle.board_check.specs.Lines.{IsTold};
 ghost use Rattle.board_check.specs.Texts.{bare_text, lines_text};
-ghost use Rattle.board_check.specs.Telling.{IsRefusalText, IsRefusal};
+ghost use Rattle.board_check.specs.Telling.{IsRefusalText, IsRefusal, IsLineIn};
+ghost use Rattle.toml.specs.Errors.{IsWithin};
 ghost use Rattle.toml.specs.Parse.{parse_document};
 
 use crate::finding::problems;
@@ -12,15 +13,32 @@ use crate::texts::{push_bare, push_lines};
 use board_file::BoardFault;
 use std::alloc::{AllocError, Global};
 use toml::Table;
-use value_places::Places;
+use toml::de::Error;
+use value_places::{Places, line_of};
 
 /// The line of a fault of which no entry is told.
-fn bare(alloc: Global, name: &str, fault: BoardFault) -> Result<String, AllocError>
-    ensures { IfOk result (λ t. string_bytes t ≡ bare_text name.now fault) }
+fn bare(
+    alloc: Global,
+    name: &str,
+    line: Option<usize>,
+    fault: BoardFault,
+) -> Result<String, AllocError>
+    ensures { IfOk result (λ t. string_bytes t ≡ bare_text name.now line fault) }
 {
     let mut text = String::new(alloc);
-    push_bare(&mut text, name, fault)?;
+    push_bare(&mut text, name, line, fault)?;
     Ok(text)
+}
+
+/// The line in which the bytes were given up.
+fn last_line(bytes: &[u8], error: &Error) -> Option<usize>
+    requires { IsWithin bytes.now error.now }
+    ensures { IfSome result (IsLineIn bytes.now) }
+{
+    match error.span() {
+        Some(range) => Some(line_of(range.start, bytes)),
+        None => None,
+    }
 }
 
 /// The lines of a document that is refused.
@@ -43,7 +61,7 @@ fn refusal(
 }
 
 /// What is told of a board file that is refused with this fault: a line for each entry that breaks a
-/// rule with this fault, or one line where none is known. `name` is what the file is called.
+/// rule with this fault, or one line where none is known or the bytes are no document. `name` is what the file is called.
 pub fn refusal_text(
     alloc: Global,
     name: &str,
@@ -55,6 +73,6 @@ pub fn refusal_text(
     match toml::table_from_slice(alloc, bytes) {
         Ok(document) => refusal(alloc, name, bytes, &document, fault),
         Err(e) if e.is_memory() => Err(AllocError),
-        Err(_) => bare(alloc, name, fault),
+        Err(e) => bare(alloc, name, last_line(bytes, &e), fault),
     }
 }

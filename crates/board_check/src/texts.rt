@@ -2,7 +2,7 @@
 ghost use Rattle.std.specs.Prelude.{◌≡◌, ◌<◌, ◌++◌, ◌∷◌, [], OnOk, map, string_bytes};
 ghost use Rattle.std.specs.List.{flat_map};
 ghost use Rattle.board_check.specs.Rules.{fault_words};
-ghost use Rattle.board_check.specs.Texts.{nth_text, inner_text, entry_text, shown_byte, key_text, line_text, fault_text, problem_text, bare_text, lines_text};
+ghost use Rattle.board_check.specs.Texts.{nth_text, inner_text, entry_text, shown_byte, key_text, line_text, fault_text, problem_text, bare_text, count_text, lines_text};
 
 use crate::entry::Entry;
 use crate::lines::Told;
@@ -151,12 +151,25 @@ fn push_problems(text: &mut String, name: &str, told: &[Told<'_>]) -> Result<(),
 }
 
 /// Appends the line of a fault of which no entry is told.
-pub(crate) fn push_bare(text: &mut String, name: &str, fault: BoardFault) -> Result<(), AllocError>
-    ensures { OnOk result (string_bytes text.new ≡ string_bytes text.old ++ bare_text name.now fault) }
+pub(crate) fn push_bare(
+    text: &mut String,
+    name: &str,
+    line: Option<usize>,
+    fault: BoardFault,
+) -> Result<(), AllocError>
+    ensures { OnOk result (string_bytes text.new ≡ string_bytes text.old ++ bare_text name.now line fault) }
 {
     text.push_str(name)?;
+    push_line(text, line)?;
     text.push_str(": refused")?;
     push_fault(text, fault)
+}
+
+/// Appends how many problems there are.
+fn push_count(text: &mut String, count: usize) -> Result<(), AllocError>
+    ensures { OnOk result (string_bytes text.new ≡ string_bytes text.old ++ count_text count) }
+{
+    writeln!(text, "{count} problems")
 }
 
 /// Appends the lines of a fault.
@@ -169,7 +182,8 @@ pub(crate) fn push_lines(
     ensures { OnOk result (string_bytes text.new ≡ string_bytes text.old ++ lines_text name.now fault told.now) }
 {
     if told.is_empty() {
-        return push_bare(text, name, fault);
+        return push_bare(text, name, None, fault);
     }
-    push_problems(text, name, told)
+    push_problems(text, name, told)?;
+    push_count(text, told.len())
 }

@@ -7,7 +7,7 @@ ghost use Rattle.board_file.specs.Rules.{is_natural, are_natural, apertures_hold
 use crate::entries::{Bounds, FileEntries};
 use headers::{Aperture, ApertureFault, Apertures};
 
-fn aperture(bounds: Bounds) -> Aperture
+pub fn aperture(bounds: Bounds) -> Aperture
     ensures { result ≡ aperture bounds }
 {
     Aperture {
@@ -16,7 +16,7 @@ fn aperture(bounds: Bounds) -> Aperture
     }
 }
 
-fn pref_aperture(bounds: Option<Bounds>) -> Option<Aperture>
+pub fn pref_aperture(bounds: Option<Bounds>) -> Option<Aperture>
     ensures { result ≡ option_map aperture bounds }
 {
     match bounds {
@@ -37,13 +37,13 @@ pub(crate) fn apertures(file: &FileEntries<'_>) -> Result<Apertures, ApertureFau
     )
 }
 
-fn is_natural(bounds: Bounds) -> bool
+pub fn is_natural(bounds: Bounds) -> bool
     ensures { result ≡ is_natural bounds }
 {
     0 <= bounds.first && 0 <= bounds.last
 }
 
-fn are_natural(bounds: Option<Bounds>) -> bool
+pub fn are_natural(bounds: Option<Bounds>) -> bool
     ensures { result ≡ are_natural bounds }
 {
     match bounds {

@@ -2,7 +2,7 @@
 //! give out, and guests.
 #![tactic(auto)]
 
-mod apertures;
+pub mod apertures;
 pub mod blocks;
 mod board;
 mod building;
