@@ -58,3 +58,6 @@ impl Owner {
         }
     }
 }
+
+// C may hand a monitor on to another thread.
+unsafe impl Send for Owner {}
