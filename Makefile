@@ -52,11 +52,14 @@ library:
 	@rt all check --jobs $(JOBS) 2>&1 | $(PROGRESS)
 	@tools/library
 
-# What an access and an event of a guest cost, in nanoseconds, on boards of 1, 4, 1003 and 1024 functions.
+# What an access, an event of a guest and a call from C cost, in nanoseconds, on boards of 1, 4, 1003 and 1024 functions.
 bench: build
 	@bench/boards crates/bench_accesses/out/boards
 	@cd crates/bench_accesses && rt run > out/build.log 2>&1 || { cat out/build.log; exit 1; }
 	@bench/run crates/bench_accesses/out/bench_accesses crates/bench_accesses/out/boards
+	@echo; tools/library
+	@$(CC) -O2 -Ilibrary -o crates/pciguest_c/out/calls bench/calls.c library/libpciguest.a
+	@crates/pciguest_c/out/calls crates/examples/data/main.toml
 
 # The proved program as it is used by one who means harm: memory refused, streams that fail, odd files and
 # great sizes. It takes cc and Python 3, and some minutes.

@@ -1,0 +1,63 @@
+/* What a call from C costs, in nanoseconds: the least of nine rounds.
+ *
+ *     calls BOARD      a board file whose first guest has memory behind its second base address register
+ */
+#include "pciguest.h"
+
+#include <stdio.h>
+#include <stdlib.h>
+#include <time.h>
+
+static double now(void)
+{
+    struct timespec time;
+    clock_gettime(CLOCK_MONOTONIC, &time);
+    return time.tv_sec * 1e9 + time.tv_nsec;
+}
+
+/* Times a call that may use `i`, the count of those before it. */
+#define COST(what, count, call)                                 \
+    do {                                                        \
+        double least = 1e18;                                    \
+        for (int round = 0; round < 9; round++) {               \
+            double time = now();                                \
+            for (uint32_t i = 0; i < (count); i++)              \
+                faults += (call);                               \
+            time = (now() - time) / (count);                    \
+            least = time < least ? time : least;                \
+        }                                                       \
+        printf("%-44s %8.0f\n", what, least);                   \
+    } while (0)
+
+int main(int argc, char **argv)
+{
+    static uint8_t board[65536];
+    static const char line[] = "a mr 0xc0100010 4";
+    struct pciguest machine = {0}, other = {0};
+    FILE *file = argc == 2 ? fopen(argv[1], "rb") : NULL;
+    uint32_t value, faults = 0;
+    size_t length, written;
+    char reply[PCIGUEST_REPLY];
+
+    if (!file)
+        return 2;
+    length = fread(board, 1, sizeof board, file);
+    fclose(file);
+    if (pciguest_new(&machine, board, length))
+        return 1;
+    pciguest_write(&machine, 0, PCIGUEST_CONFIG, 0, 0x14, 4, 0xc0100000);
+    pciguest_write(&machine, 0, PCIGUEST_CONFIG, 0, 4, 2, 2);
+    COST("no machine", 1000000, pciguest_read(&other, 0, PCIGUEST_IO, 0, 0, 1, &value) != PCIGUEST_NO_MACHINE);
+    COST("read identity", 1000000, pciguest_read(&machine, 0, PCIGUEST_CONFIG, 0, 0, 4, &value));
+    COST("write Command", 1000000, pciguest_write(&machine, 0, PCIGUEST_CONFIG, 0, 4, 2, 2));
+    COST("read memory", 1000000, pciguest_read(&machine, 0, PCIGUEST_MEMORY, 0, 0xc0100010, 4, &value));
+    COST("write memory", 1000000, pciguest_write(&machine, 0, PCIGUEST_MEMORY, 0, 0xc0100010, 4, i));
+    COST("write CONFIG_ADDRESS", 1000000, pciguest_write(&machine, 0, PCIGUEST_IO, 0, 0xcf8, 4, 0x80000000));
+    COST("read CONFIG_DATA", 1000000, pciguest_read(&machine, 0, PCIGUEST_IO, 0, 0xcfc, 4, &value));
+    COST("raise a bit of Status", 1000000, pciguest_raise(&machine, 0, 0, PCIGUEST_RAISE_CONFIG, 7, 0x80));
+    COST("read memory as the host", 1000000, pciguest_host_read(&machine, PCIGUEST_MEMORY, 0, 0, 0, 0xc0100010, 4, &value));
+    COST("run a line that reads memory", 300000, pciguest_run_line(&machine, line, sizeof line - 1, reply, sizeof reply, &written));
+    COST("new and free", 300, pciguest_new(&other, board, length) + (pciguest_free(&other), 0));
+    pciguest_free(&machine);
+    return faults != 0;
+}
