@@ -1,4 +1,5 @@
 mod Kept
 mod Moved
 mod Options
+mod RaiseKept
 mod Words
