@@ -1,11 +1,11 @@
 -- A refused raise changes nothing, where no two guests have one name.
-use Rattle.std.proofs.Common.{◌≡◌, ◌≢◌, ℕ, ◌<◌, zero, suc, List, [], ◌∷◌, Bool, true, Option, Some, None, length, slice_get, slice_set, refl, sym, ap, subst, ◌∙◌, arith}
+use Rattle.std.proofs.Common.{◌≡◌, ◌≢◌, ℕ, ◌<◌, zero, suc, List, [], ◌∷◌, Bool, true, Option, Some, None, length, slice_get, slice_set, refl, sym, ap, ◌∙◌, arith}
 use Rattle.std.specs.Prelude.{if◌then◌else◌, is_some, unwrap_or}
 use Rattle.std.specs.Option.{option_map_or}
-use Rattle.model_guests.specs.Accesses.{Event, Raise, raises, refused}
+use Rattle.model_guests.specs.Accesses.{Raise, raises, refused}
 use Rattle.model_guests.specs.Slots.{event_fault}
 use Rattle.model_guests.specs.Lone.{LoneGuest, answer, after_event, performed, changed_by, reset_guest}
-use Rattle.model_guests.specs.Guests.{GuestNow, GuestsNow, lone_of, guest_named, guest_after, after_guest_event}
+use Rattle.model_guests.specs.Guests.{GuestNow, GuestsNow, lone_of, guest_after, after_guest_event}
 use Rattle.model_guests.specs.WorldNow.{WorldNow}
 use Rattle.model_guests.proofs.Along.{by_index}
 use Rattle.monitor.specs.ByIndex.{name_nth}
