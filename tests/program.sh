@@ -75,7 +75,7 @@ timeout 60 "$program" demo < long 2> err | head -c 0; status=${PIPESTATUS[0]}
 tell 'demo, its reader gone'
 
 # ---- list: the boards of the examples, each with its report or its fault
-awk '/^== / { file = NF == 2 ? $2 ".wanted" : $2 "@" $4 ".run"; next } { print > file }' "$top/crates/examples/stdout"
+awk '/^== / { file = NF == 2 ? $2 ".wanted" : NF == 3 ? $3 ".check" : $2 "@" $4 ".run"; next } { print > file }' "$top/crates/examples/stdout"
 for wanted_report in *.wanted; do
   board=${wanted_report%.wanted}
   fault=$(sed -n 's/^fault //p' "$wanted_report")
@@ -96,6 +96,24 @@ fails_with 'list, an empty path' '702 board file' list ''
 full 'list' list "$boards/main.toml"
 cp main.toml.wanted wanted.out
 ends_with 'list, without standard input' list "$boards/main.toml" <&-
+
+# ---- check: boards of the examples, each with what is said of it, and its fault after that
+for wanted_check in *.check; do
+  board=${wanted_check%.check}
+  cp "$boards/$board" "$board"
+  fault=$(sed -n 's/^fault //p' "$wanted_check")
+  grep -v '^fault ' "$wanted_check" > wanted.out
+  wanted=0
+  : > wanted.err
+  [ -z "$fault" ] || { wanted=1; echo "pciguest: fault $fault" > wanted.err; }
+  timeout 60 "$program" check "$board" > out 2> err < /dev/null; status=$?
+  tell "check $board"
+  rm "$board"
+done
+fails_with 'check, no such file' '702 board file' check nothing.toml
+fails_with 'check, no board' '701 usage' check
+full 'check' check "$boards/main.toml"
+full 'check, a board that is refused' check "$boards/size.toml"
 
 # ---- run: the scripts of the examples, each over its board
 for wanted_run in *.run; do

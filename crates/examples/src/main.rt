@@ -1,9 +1,9 @@
-//! The boards of `data`, each with its report, or with the reason why it is refused; and scripts, with
-//! what they write over a board.
+//! The boards of `data`, each with its report, or with the reason why it is refused; scripts, with what
+//! they write over a board; and what a check says of boards.
 #![tactic(auto)]
 
 use fake_streams::FakeReader;
-use simulation::{Fault, OutputStream, board_bytes, list, whole};
+use simulation::{Fault, OutputStream, board_bytes, check, list, whole};
 use std::alloc::Global;
 use std::io;
 use std::process::ExitCode;
@@ -54,6 +54,32 @@ const RUNS: [(&str, &str); 8] = [
     ("server.toml", "server.script"),
 ];
 
+/// Boards that are checked: one that fits, one for each reason of a refusal, and some with many things
+/// wrong.
+const CHECKS: [&str; 21] = [
+    "main.toml",
+    "not_toml.toml",
+    "key.toml",
+    "unknown_key.toml",
+    "number.toml",
+    "too_many.toml",
+    "place.toml",
+    "register.toml",
+    "size.toml",
+    "guest_name.toml",
+    "slot.toml",
+    "aperture.toml",
+    "cell_masks.toml",
+    "buses.toml",
+    "no_io_window.toml",
+    "io_pool.toml",
+    "memory_pool.toml",
+    "prefetchable_pool.toml",
+    "many_keys.toml",
+    "many_numbers.toml",
+    "many_places.toml",
+];
+
 /// Writes the report of a board file.
 fn show(rt: &(impl AllocGlobal + Files + Print), name: &str) -> Result<(), Fault> {
     let alloc = rt.alloc();
@@ -70,6 +96,14 @@ fn run(rt: &(impl AllocGlobal + Files + Print), board: &str, script: &str) -> Re
     let mut reader = FakeReader::new(script.as_slice(), 64, None);
     let mut writer = OutputStream::new(alloc, io::writer(rt))?;
     whole(alloc, &board, &mut reader, &mut writer)
+}
+
+/// Writes what is wrong with a board file.
+fn look(rt: &(impl AllocGlobal + Files + Print), name: &str) -> Result<(), Fault> {
+    let alloc = rt.alloc();
+    let board = board_bytes(rt, alloc, name)?;
+    let mut writer = OutputStream::new(alloc, io::writer(rt))?;
+    check(alloc, name, &board, &mut writer)
 }
 
 /// Writes why a board or a script has no more output.
@@ -100,8 +134,17 @@ fn show_all(rt: &(impl AllocGlobal + Files + Print)) -> io::Result<()> {
     Ok(())
 }
 
+/// Writes the name of a board file, and under it what is wrong with it.
+fn look_at_all(rt: &(impl AllocGlobal + Files + Print)) -> io::Result<()> {
+    for name in CHECKS {
+        println!(rt; "== check {name}")?;
+        tell(rt, look(rt, name))?;
+    }
+    Ok(())
+}
+
 fn main(rt: HostRuntime) -> ExitCode {
-    if show_all(&rt).is_ok() && run_all(&rt).is_ok() {
+    if show_all(&rt).is_ok() && run_all(&rt).is_ok() && look_at_all(&rt).is_ok() {
         ExitCode::SUCCESS
     } else {
         ExitCode::FAILURE
