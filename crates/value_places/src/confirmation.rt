@@ -68,7 +68,7 @@ fn edit_changes(
     requires within { place.end ≤ length text.now }
     ensures { IfOk result (λ yes. IsTrue yes →
         option_map (changes digit way.now (table_view before.now))
-            (parse_document (edited digit place.start place.end text.now)) ≡ Some true) }
+        (parse_document (edited digit place.start place.end text.now)) ≡ Some true) }
 {
     let bytes = edited(alloc, digit, place, text)?;
     match toml::table_from_slice(alloc, &bytes) {
