@@ -47,7 +47,7 @@ build:
 	@cp crates/pciguest/out/pciguest pciguest
 	@echo 'pciguest: proved and built'
 
-# Leaves the proved library for C as library/libpciguest.a, beside library/pciguest.h. It takes ar.
+# Leaves the proved library for C as library/libpciguest.a, beside library/pciguest.h.
 library:
 	@rt all check --jobs $(JOBS) 2>&1 | $(PROGRESS)
 	@tools/library

@@ -10,7 +10,7 @@ cd "$(dirname "$0")/.."
 top=$PWD
 program=$(readlink -f "${1:-crates/pciguest/out/pciguest}")
 [ -x "$program" ] || { echo "no program at $program: make build"; echo '0 passed, 1 failed'; exit 1; }
-documents=(README.md docs/LSPCI.md)
+documents=(README.md docs/FORMATS.md docs/LSPCI.md)
 
 room=$(mktemp -d)
 trap 'rm -rf "$room"' EXIT

@@ -72,6 +72,17 @@ if command -v c++ > /dev/null; then
   holds 'the header as C++' c++ -Wall -Wextra -Wpedantic -Werror -I"$top/library" -c header.cc
 fi
 
+# ---- the lines that docs/LIBRARY.md prints, in a program: an empty file is refused
+awk '/^```c/ { on = 1; next } /^```/ { on = 0 } on' "$top/docs/LIBRARY.md" > lines.c
+{
+  grep '^#include' lines.c
+  echo 'int main(void) { const char board[] = ""; size_t length = 0;'
+  grep -v '^#include' lines.c
+  echo 'return fault == 102 ? 0 : 1; }'
+} > printed.c
+holds 'the lines of LIBRARY.md are built' build printed printed.c -Wno-maybe-uninitialized -Wno-unused-but-set-variable
+holds 'the lines of LIBRARY.md' ./printed
+
 # ---- what the library takes from outside, and what it gives
 needs() {
   nm -u "$top/library/libpciguest.a" | awk 'NF == 2 && $2 !~ /^rattle_/ { print $2 }' | sort -u | tr '\n' ' '
