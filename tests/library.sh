@@ -72,6 +72,14 @@ if command -v c++ > /dev/null; then
   holds 'the header as C++' c++ -Wall -Wextra -Wpedantic -Werror -I"$top/library" -c header.cc
 fi
 
+# ---- the example in Rust, where there is a compiler
+if command -v rustc > /dev/null; then
+  holds 'Rust: the example is built' rustc --edition 2021 -D warnings -o device.rust "$top/examples/rust/device.rs" \
+    -L "native=$top/library" -l static=pciguest
+  holds 'Rust: the example runs' sh -c "./device.rust '$board' > device.rust.out"
+  holds 'Rust: the example prints what the one in C does' cmp device.rust.out "$top/tests/library/device.stdout"
+fi
+
 # ---- the lines that docs/LIBRARY.md prints, in a program: an empty file is refused
 awk '/^```c/ { on = 1; next } /^```/ { on = 0 } on' "$top/docs/LIBRARY.md" > lines.c
 {
