@@ -48,3 +48,13 @@ pub opened_hit : (command : ℕ) → command < 2 ^ 16 → (space : Space) (a bit
 opened_hit command small space a bit slots bs lawful view e some =
     let free : not (eqb (bit_and command (command_bit space)) 0) ≡ true = ap not (ne_eqb (bit_and command (command_bit space)) 0 (λ none. some (ap (bit_and command) e ∙ none))) in
     hits_of_registers bs (subst HasLawfulBases view lawful) command small space a ∙ ap (first_some (hit_at command space a)) (sym view) ∙ open_from command space a 0 slots free
+
+-- no address is decoded that lies in no region, whatever Command opens
+pub outside_hit : (command : ℕ) → command < 2 ^ 16 → (space : Space) (a : ℕ) (slots : List (Option Region)) (bs : List BaseAddress) → HasLawfulBases (bases_from 0 slots) → bases_from 0 slots ≡ bs
+    → hit_from space a 0 slots ≡ None → first_hit (command_cells command ++ base_file bs) (map opened bs) space a ≡ None
+outside_hit command small space a slots bs lawful view none =
+    hits_of_registers bs (subst HasLawfulBases view lawful) command small space a ∙ ap (first_some (hit_at command space a)) (sym view)
+    ∙ here (not (eqb (bit_and command (command_bit space)) 0)) refl where
+      here : (t : Bool) → not (eqb (bit_and command (command_bit space)) 0) ≡ t → first_some (hit_at command space a) (bases_from 0 slots) ≡ None
+      here true free = open_from command space a 0 slots free ∙ none
+      here false shut = closed_each command space a shut (bases_from 0 slots)

@@ -3,3 +3,4 @@ pub mod Regions
 pub mod Splits
 pub mod Decodes
 pub mod Masks
+pub mod Passed

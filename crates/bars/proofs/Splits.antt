@@ -10,7 +10,7 @@ use Rattle.model_registers.specs.EndpointTable.{BaseAddress, opened, IsLawfulBas
 use Rattle.model_registers.specs.BaseLaws.{shown, word_at, rebased, rewritten}
 use Rattle.model_registers.proofs.Bases.{word_low, word_high, word_apart, rewritten_low, rewritten_high, rewritten_apart, rewritten_lawful}
 use Rattle.bars.specs.declared.region.Region as regions
-use Rattle.bars.specs.declared.bars.Part.{Part}
+use Rattle.bars.specs.declared.slots.Part.{Part}
 use Rattle.bars.specs.Slots.{placed, bases_from, slot_at}
 use Rattle.bars.specs.Parts.{IsPartAt, IsUnused, IsLowerPart, IsUpperPart}
 

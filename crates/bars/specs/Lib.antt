@@ -3,3 +3,4 @@ pub mod Resets
 pub mod Slots
 pub mod Parts
 pub mod Hits
+pub mod Extents

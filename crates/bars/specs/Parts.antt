@@ -4,7 +4,7 @@
 use Rattle.std.specs.Prelude.{◌≡◌, ℕ, ◌+◌, List, Option, Some, None, ◌⊎◌}
 use Rattle.model_registers.specs.Declarations.{registers_of}
 use Rattle.bars.specs.declared.region.Region.{Region}
-use Rattle.bars.specs.declared.bars.Part.{Part}
+use Rattle.bars.specs.declared.slots.Part.{Part}
 use Rattle.bars.specs.Slots.{slot_at}
 
 abbrev pub IsLowerPart : ℕ → Part → Type 0

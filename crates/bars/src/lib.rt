@@ -3,9 +3,11 @@
 
 mod bars;
 mod decl;
+mod extent;
 mod lanes;
 mod region;
 mod sizing;
+mod slots;
 
 pub use bars::Bars;
 pub use decl::{BarDecl, BarFault, Kind, Space};

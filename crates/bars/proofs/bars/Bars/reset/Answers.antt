@@ -6,7 +6,7 @@ use Rattle.bars.proofs.Regions.{no_base_lawful, no_base_from}
 use Rattle.bars.proofs.bars.Bars.reset.Goals as goal
 
 -- the slots after the reset
-cleared : (c : goal.After-clear_bases) → bases_from 0 c.clear_bases.new.slots ≡ map with_no_base (bases_from 0 c.self.inside.slots)
+cleared : (c : goal.After-clear_bases) → bases_from 0 c.clear_bases.new.self ≡ map with_no_base (bases_from 0 c.self.inside.slots)
 cleared c = ap (bases_from 0) c.clear_bases.ensures ∙ no_base_from c.self.inside.slots 0
 
 pub invariant_of-self : goal.invariant_of-self

@@ -1,5 +1,4 @@
 use Rattle.std.proofs.Common.{◌≡◌, ◌*◌, ◌%◌, ◌^◌, ◌<◌, List, map, ap, ap₂, sym, ◌∙◌, subst}
-use Rattle.std.specs.Prelude.{Some, slice_set}
 use Rattle.model_registers.specs.Registers.{write}
 use Rattle.model_registers.specs.ByteEnables.{lanes, enabled_bits}
 use Rattle.model_registers.specs.EndpointTable.{base_register, BaseAddress, opened, base_file, HasLawfulBases}
@@ -14,13 +13,14 @@ pub written-requires : goal.written-requires
 written-requires c = lawful_part c.self.inside.slots c.self.invariant c.args.reg c.in-Some.part c.in-Some.ensures.used
 
 -- the slots after the write
-stored : (c : goal.After-index-self-part)
-    → bases_from 0 (slice_set c.self.inside.slots c.in-Some.part.slot (Some c.written.result)) ≡ map (rewritten c.args.reg (lanes c.args.enables) c.args.value) (bases_from 0 c.self.inside.slots)
+stored : (c : goal.After-put)
+    → bases_from 0 c.put.new.self ≡ map (rewritten c.args.reg (lanes c.args.enables) c.args.value) (bases_from 0 c.self.inside.slots)
 stored c =
     let region : Region = c.in-Some.part.region in
     let enabled : c.from-in-Some.result ≡ enabled_bits (lanes c.args.enables) = c.from-in-Some.ensures ∙ c.enabled_bits.ensures in
     let narrow : enabled_bits (lanes c.args.enables) < 2 ^ 32 = subst (λ n. n < 2 ^ 32) c.enabled_bits.ensures c.enabled_bits.type_inv in
-    stored_part c.self.inside.slots c.self.invariant c.args.reg (lanes c.args.enables) c.args.value c.in-Some.part c.in-Some.ensures.used c.ranges.value.fits narrow c.written.result
+    ap (bases_from 0) c.put.ensures
+    ∙ stored_part c.self.inside.slots c.self.invariant c.args.reg (lanes c.args.enables) c.args.value c.in-Some.part c.in-Some.ensures.used c.ranges.value.fits narrow c.written.result
     (c.written.ensures
     ∙ ap₂ (λ v e. record region { base = rebased (placed 0 region) (v * 2 ^ c.in-Some.part.shift % 2 ^ 64) (e * 2 ^ c.in-Some.part.shift % 2 ^ 64) }) c.from.ensures enabled)
 
