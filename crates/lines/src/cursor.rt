@@ -1,5 +1,5 @@
 //! A line that is read word by word, in one pass over its bytes.
-ghost use Rattle.std.specs.Prelude.{◌≡◌, ◌≤◌, ◌<◌, ◌^◌, ◌∷◌, [], None, Some, length, MatchOption, IsTrue, IsFalse};
+ghost use Rattle.std.specs.Prelude.{◌≡◌, ◌≤◌, ◌<◌, ◌^◌, ◌∷◌, [], None, Some, length, MatchOption, IfSome, IsTrue, IsFalse};
 ghost use Rattle.model_guests.specs.Text.{words};
 ghost use Rattle.model_guests.specs.Numbers.{below, digits_in, is_hexadecimal};
 ghost use Rattle.lines.specs.Cursors.{before_blank, after_blank, IsAtWord, numbered};
@@ -45,6 +45,19 @@ pub(crate) fn first_word(text: &[u8]) -> Option<(&[u8], &[u8])>
         rest = after;
     }
     None
+}
+
+/// The first word, and what comes after it. A word of two letters is seen at once.
+#[inline(always)]
+pub(crate) fn form_word(text: &[u8]) -> Option<(&[u8], &[u8])>
+    ensures { MatchOption result (words text.now ≡ []) (λ p. words text.now ≡ p.0.now ∷ words p.1.now) }
+{
+    if let [first, second, end, rest @ ..] = text {
+        if is_blank(*end) && !is_blank(*second) && !is_blank(*first) {
+            return Some((&text[..2], rest));
+        }
+    }
+    first_word(text)
 }
 
 /// The number below 2^64 that the digits before the first blank write, and what comes after that blank.
@@ -95,4 +108,28 @@ pub(crate) fn first_number(text: &[u8]) -> Option<(u64, &[u8])>
     } else {
         digits_before_blank(10, word)
     }
+}
+
+/// The number of one digit at the front, and what comes after it.
+#[inline(always)]
+fn one_digit(text: &[u8]) -> Option<(u64, &[u8])>
+    ensures { IfSome result (λ p. numbered (words text.now) ≡ Some (record { number = p.0; rest = words p.1.now })) }
+{
+    match text {
+        [digit] => Some((with_digit(10, 0, *digit)?, &[])),
+        [digit, end, rest @ ..] if is_blank(*end) => Some((with_digit(10, 0, *digit)?, rest)),
+        _ => None,
+    }
+}
+
+/// The number that the first word writes, and what comes after it. One of one digit is seen at once.
+#[inline(always)]
+pub(crate) fn short_number(text: &[u8]) -> Option<(u64, &[u8])>
+    ensures { MatchOption result (numbered (words text.now) ≡ None)
+        (λ p. numbered (words text.now) ≡ Some (record { number = p.0; rest = words p.1.now })) }
+{
+    if let Some(read) = one_digit(text) {
+        return Some(read);
+    }
+    first_number(text)
 }

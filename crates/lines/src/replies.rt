@@ -54,6 +54,17 @@ fn push_all(text: &mut LineText, bytes: &[u8])
     let _ = text.try_extend_from_slice(bytes);
 }
 
+/// Appends a name byte by byte. Names are short, and a call that copies bytes takes longer.
+fn push_name(text: &mut LineText, name: &[u8])
+    requires { length text.old.items + length name.now ≤ 48 }
+    ensures items { text.new.items ≡ text.old.items ++ name.now }
+    ensures len { length text.new.items ≡ length text.old.items + length name.now }
+{
+    for byte in name {
+        text.push(*byte);
+    }
+}
+
 /// Appends the low hexadecimal digits of a value, as many as `digits`.
 fn push_hex(text: &mut LineText, value: u32, digits: u32)
     requires few { digits ≤ 8 }
@@ -81,13 +92,14 @@ fn name_of<'a>(who: Who, names: &'a Names) -> &'a [u8]
 }
 
 /// The output line of a reply, with its line feed.
+#[inline(always)]
 pub fn line_text(who: Who, names: &Names, reply: Reply) -> LineText
     requires who { GuestIs (λ g. g < length names.now.items) who }
     requires reply { IsShown reply }
     ensures { result.items ≡ line_text (who_of (texts names.now) who) (reply_of reply) ++ 10 ∷ [] }
 {
     let mut text = LineText::new();
-    push_all(&mut text, name_of(who, names));
+    push_name(&mut text, name_of(who, names));
     push_all(&mut text, b": ");
     match reply {
         Reply::Value(value, width) => {

@@ -5,14 +5,16 @@ use Rattle.arrayvec.specs.ArrayVec.{ArrayVec}
 use Rattle.arrayvec.specs.ArrayString.{ArrayString}
 use Rattle.model_guests.specs.Accesses.{Event, Reply, refused}
 use Rattle.model_guests.specs.Text.{Text, text_of_lines}
-use Rattle.model_guests.specs.Grammar.{HostRead, Who, guest, host}
+use Rattle.model_guests.specs.Grammar.{HostRead, guest, host}
+use Rattle.model_guests.specs.Grammar as grammar
 use Rattle.model_guests.specs.Guests.{GuestNow, Move, lone_of}
 use Rattle.model_guests.specs.Lone.{answer}
 use Rattle.model_guests.specs.Replies.{line_text}
 use Rattle.model_guests.specs.Lines.{Meaning, nothing, guest_event, host_read, host_move, bad, meaning}
 use Rattle.model_guests.specs.WorldNow.{WorldNow, names_now, host_reply, move_reply, written_by, after_meaning, line_output, after_line}
 use Rattle.model_guests.proofs.Along.{names_stay}
-use Rattle.lines.specs.Lines.{texts, name_of}
+use Rattle.lines.specs.Lines.{texts, name_of, GuestIs}
+use Rattle.lines.specs.declared.line.Who.{Who}
 use Rattle.lines.proofs.GuestNames.{name_of-now}
 use Rattle.monitor.specs.ByIndex.{name_nth}
 use Rattle.monitor.specs.Moves.{move_nth}
@@ -31,7 +33,7 @@ did w new line ns m known said events =
 pub names_after : (w new : WorldNow) (line : Text) (m : Meaning) → DidLine w new line m → names_now new ≡ names_now w
 names_after w new line m d = ap names_now d.after ∙ names_stay w line
 
-pub wrote_one : (w new : WorldNow) (line : Text) (m : Meaning) (who : Who) (r : Reply) (items : Text) → DidLine w new line m
+pub wrote_one : (w new : WorldNow) (line : Text) (m : Meaning) (who : grammar.Who) (r : Reply) (items : Text) → DidLine w new line m
     → written_by w m ≡ line_text who r ∷ [] → items ≡ line_text who r ++ 10 ∷ [] → items ≡ line_output w line
 wrote_one w new line m who r items d one wrote =
     wrote ∙ sym (append-nil (line_text who r ++ 10 ∷ [])) ∙ ap text_of_lines (sym one) ∙ ap (λ (x : Meaning). text_of_lines (written_by w x)) d.means
@@ -42,11 +44,22 @@ pub name_there : (w : WorldNow) (ns : List Text) (g : ℕ) → ns ≡ names_now 
 name_there w ns g known = ap (λ (xs : List Text). name_of xs g) known ∙ name_of-now w.guests g
 
 -- a guest by its place stays there
-pub guest_stays : (w new : WorldNow) (line : Text) (m : Meaning) (names later : ArrayVec ArrayString) (g : ℕ) → texts names ≡ names_now w → texts later ≡ names_now new
-    → m ≡ meaning (texts names) line → new ≡ after_meaning w m → g < length names.items → g < length later.items
-guest_stays w new line m names later g known known_later said events inside =
+pub guest_stays : (w new : WorldNow) (line : Text) (m : Meaning) (names : ArrayVec ArrayString) (g : ℕ) → texts names ≡ names_now w
+    → m ≡ meaning (texts names) line → new ≡ after_meaning w m → g < length names.items → g < length (names_now new)
+guest_stays w new line m names g known said events inside =
     let stay = names_after w new line m (did w new line (texts names) m known said events) in
-    subst (λ (n : ℕ). g < n) (sym (length-map names.items (λ n. n.bytes)) ∙ ap length (known ∙ sym stay ∙ sym known_later) ∙ length-map later.items (λ n. n.bytes)) inside
+    subst (λ (n : ℕ). g < n) (sym (length-map names.items (λ n. n.bytes)) ∙ ap length (known ∙ sym stay)) inside
+
+-- who is answered is among the names
+pub who_within : (names : ArrayVec ArrayString) (known : List Text) (who : Who) → texts names ≡ known
+    → GuestIs (λ g. g < length names.items) who → GuestIs (λ g. g < length known) who
+who_within names known who e inside =
+    subst (λ (n : ℕ). GuestIs (λ g. g < n) who) (sym (length-map names.items (λ n. n.bytes)) ∙ ap length e) inside
+
+pub who_among : (names : ArrayVec ArrayString) (known : List Text) (who : Who) → texts names ≡ known
+    → GuestIs (λ g. g < length known) who → GuestIs (λ g. g < length names.items) who
+who_among names known who e inside =
+    subst (λ (n : ℕ). GuestIs (λ g. g < n) who) (ap length (sym e) ∙ length-map names.items (λ n. n.bytes)) inside
 
 -- of as many as there are
 pub guest_within : (w : WorldNow) (names : ArrayVec ArrayString) (g : ℕ) → texts names ≡ names_now w → g < length names.items → g < length w.guests
@@ -103,7 +116,7 @@ answered_move w new line ns from slot to target r items known said events reply 
       after = d.after;
     }
 
-pub answered_bad : (w : WorldNow) (line : Text) (ns later : List Text) (who : Who) (n : ℕ) (items : Text)
+pub answered_bad : (w : WorldNow) (line : Text) (ns later : List Text) (who : grammar.Who) (n : ℕ) (items : Text)
     → ns ≡ names_now w → bad who n ≡ meaning ns line → items ≡ line_text who (refused n) ++ 10 ∷ [] → Answered w w line items
 answered_bad w line ns later who n items known said wrote =
     let d = did w w line ns (bad who n) known said refl in

@@ -1,37 +1,57 @@
 //! What a line does and writes.
-ghost use Rattle.std.specs.Prelude.{◌≡◌, ◌++◌};
+ghost use Rattle.std.specs.Prelude.{◌≡◌, ◌<◌, ◌++◌, ◌∷◌, [], length, MatchOption, IfSome};
 ghost use Rattle.model_guests.specs.Text.{Text};
-ghost use Rattle.model_guests.specs.WorldNow.{line_output, after_line};
+ghost use Rattle.model_guests.specs.Replies.{line_text};
+ghost use Rattle.model_guests.specs.WorldNow.{names_now, line_output, after_line};
+ghost use Rattle.accesses.specs.Accesses.{reply_of};
+ghost use Rattle.accesses.specs.Replies.{IsShown};
+ghost use Rattle.lines.specs.Lines.{who_of, GuestIs};
 ghost use Rattle.script.specs.Pieces.{IsBefore};
 
 use lines::{LineText, What, Who, line_meaning, line_text};
 use monitor::{Monitor, Reply};
 
+/// Runs the event of a line, and gives under whose name it is answered and with what, if the line makes
+/// output.
+#[inline(always)]
+fn reply_to(monitor: &mut Monitor, line: &[u8]) -> Option<(Who, Reply)>
+    ensures text { MatchOption result (line_output monitor.old line.now ≡ []) (λ a.
+        line_output monitor.old line.now ≡ line_text (who_of (names_now monitor.new) a.0) (reply_of a.1) ++ 10 ∷ []) }
+    ensures after { monitor.new ≡ after_line monitor.old line.now }
+    ensures who { IfSome result (λ a. GuestIs (λ g. g < length (names_now monitor.new)) a.0) }
+    ensures shown { IfSome result (λ a. IsShown a.1) }
+{
+    match line_meaning(line, monitor.names()) {
+        What::Nothing => None,
+        What::Guest(guest, access) => {
+            let reply = monitor.step(guest, access);
+            Some((Who::Guest(guest), reply))
+        }
+        What::Raise(guest, slot, place, off, mask) => {
+            let reply = monitor.raise(guest, slot, place, off, mask);
+            Some((Who::Guest(guest), reply))
+        }
+        What::Host(read) => {
+            let told = monitor.host_read(read);
+            Some((Who::Host, told))
+        }
+        What::Move(from, slot, to, target) => {
+            let reply = monitor.move_function(from, slot, to, target);
+            Some((Who::Host, reply))
+        }
+        What::Bad(who, number) => Some((who, Reply::Refused(number))),
+    }
+}
+
 /// Runs the event of a line, and gives what the line writes: nothing, or one line with its line feed. No
-/// memory is taken.
+/// memory is taken. The text is made in one place, so that it is compiled once.
 pub fn run_line(monitor: &mut Monitor, line: &[u8]) -> LineText
     ensures text { result.items ≡ line_output monitor.old line.now }
     ensures after { monitor.new ≡ after_line monitor.old line.now }
 {
-    match line_meaning(line, monitor.names()) {
-        What::Nothing => LineText::new(),
-        What::Guest(guest, access) => {
-            let reply = monitor.step(guest, access);
-            line_text(Who::Guest(guest), monitor.names(), reply)
-        }
-        What::Raise(guest, slot, place, off, mask) => {
-            let reply = monitor.raise(guest, slot, place, off, mask);
-            line_text(Who::Guest(guest), monitor.names(), reply)
-        }
-        What::Host(read) => {
-            let told = monitor.host_read(read);
-            line_text(Who::Host, monitor.names(), told)
-        }
-        What::Move(from, slot, to, target) => {
-            let reply = monitor.move_function(from, slot, to, target);
-            line_text(Who::Host, monitor.names(), reply)
-        }
-        What::Bad(who, number) => line_text(who, monitor.names(), Reply::Refused(number)),
+    match reply_to(monitor, line) {
+        Some((who, reply)) => line_text(who, monitor.names(), reply),
+        None => LineText::new(),
     }
 }
 
