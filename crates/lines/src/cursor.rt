@@ -47,7 +47,20 @@ pub(crate) fn first_word(text: &[u8]) -> Option<(&[u8], &[u8])>
     None
 }
 
-/// The first word, and what comes after it. A word of two letters is seen at once.
+/// The first word, and what comes after it. A word of one letter, as of short names, is seen at once.
+#[inline(always)]
+pub(crate) fn name_word(text: &[u8]) -> Option<(&[u8], &[u8])>
+    ensures { MatchOption result (words text.now ≡ []) (λ p. words text.now ≡ p.0.now ∷ words p.1.now) }
+{
+    if let [letter, end, rest @ ..] = text {
+        if is_blank(*end) && !is_blank(*letter) {
+            return Some((&text[..1], rest));
+        }
+    }
+    first_word(text)
+}
+
+/// The first word, and what comes after it. A word of two letters, as of accesses, is seen at once.
 #[inline(always)]
 pub(crate) fn form_word(text: &[u8]) -> Option<(&[u8], &[u8])>
     ensures { MatchOption result (words text.now ≡ []) (λ p. words text.now ≡ p.0.now ∷ words p.1.now) }

@@ -7,7 +7,7 @@ ghost use Rattle.model_guests.specs.Lines.{host_move, event_or_bad, read_or_move
 ghost use Rattle.model_guests.specs.Lines.{meaning_of_words, meaning};
 ghost use Rattle.lines.specs.Lines.{texts, name_of, meaning_of, GuestsAre, IsFirst, IsRefusable};
 
-use crate::cursor::first_word;
+use crate::cursor::name_word;
 use crate::forms::{Asked, guest_form, host_form};
 use crate::numbers::number_of;
 use crate::words::first_words;
@@ -177,7 +177,7 @@ pub fn line_meaning(line: &[u8], names: &Names) -> What
     if line.len() > LONGEST_LINE {
         return What::Bad(Who::Unknown, 403);
     }
-    match first_word(line) {
+    match name_word(line) {
         Some((first, text)) => named_line(first, text, names),
         None => What::Nothing,
     }

@@ -54,14 +54,15 @@ fn push_all(text: &mut LineText, bytes: &[u8])
     let _ = text.try_extend_from_slice(bytes);
 }
 
-/// Appends a name byte by byte. Names are short, and a call that copies bytes takes longer.
+/// Appends a name. A name of one letter needs no call that copies bytes.
 fn push_name(text: &mut LineText, name: &[u8])
     requires { length text.old.items + length name.now ≤ 48 }
     ensures items { text.new.items ≡ text.old.items ++ name.now }
     ensures len { length text.new.items ≡ length text.old.items + length name.now }
 {
-    for byte in name {
-        text.push(*byte);
+    match name {
+        [letter] => text.push(*letter),
+        _ => push_all(text, name),
     }
 }
 
@@ -91,24 +92,34 @@ fn name_of<'a>(who: Who, names: &'a Names) -> &'a [u8]
     }
 }
 
-/// The output line of a reply, with its line feed.
+/// Writes the output line of a reply, with its line feed, into an empty text.
 #[inline(always)]
+pub fn push_line(text: &mut LineText, who: Who, names: &Names, reply: Reply)
+    requires empty { text.old.items ≡ [] }
+    requires who { GuestIs (λ g. g < length names.now.items) who }
+    requires reply { IsShown reply }
+    ensures { text.new.items ≡ line_text (who_of (texts names.now) who) (reply_of reply) ++ 10 ∷ [] }
+{
+    push_name(text, name_of(who, names));
+    push_all(text, b": ");
+    match reply {
+        Reply::Value(value, width) => {
+            push_all(text, b"0x");
+            push_hex(text, value, 2 * width as u32);
+        }
+        Reply::Done => push_all(text, b"ok"),
+        Reply::Refused(number) => push_all(text, refusal_text(number)),
+    }
+    text.push(b'\n');
+}
+
+/// The output line of a reply, with its line feed.
 pub fn line_text(who: Who, names: &Names, reply: Reply) -> LineText
     requires who { GuestIs (λ g. g < length names.now.items) who }
     requires reply { IsShown reply }
     ensures { result.items ≡ line_text (who_of (texts names.now) who) (reply_of reply) ++ 10 ∷ [] }
 {
     let mut text = LineText::new();
-    push_name(&mut text, name_of(who, names));
-    push_all(&mut text, b": ");
-    match reply {
-        Reply::Value(value, width) => {
-            push_all(&mut text, b"0x");
-            push_hex(&mut text, value, 2 * width as u32);
-        }
-        Reply::Done => push_all(&mut text, b"ok"),
-        Reply::Refused(number) => push_all(&mut text, refusal_text(number)),
-    }
-    text.push(b'\n');
+    push_line(&mut text, who, names, reply);
     text
 }

@@ -8,7 +8,7 @@ ghost use Rattle.accesses.specs.Replies.{IsShown};
 ghost use Rattle.lines.specs.Lines.{who_of, GuestIs};
 ghost use Rattle.script.specs.Pieces.{IsBefore};
 
-use lines::{LineText, What, Who, line_meaning, line_text};
+use lines::{LineText, What, Who, line_meaning, push_line};
 use monitor::{Monitor, Reply};
 
 /// Runs the event of a line, and gives under whose name it is answered and with what, if the line makes
@@ -43,29 +43,43 @@ fn reply_to(monitor: &mut Monitor, line: &[u8]) -> Option<(Who, Reply)>
     }
 }
 
+/// Runs the event of a line, and writes what the line writes into an empty text: nothing, or one line with
+/// its line feed. All replies are written in one place, into a text that is then not moved: that is faster.
+#[inline(always)]
+fn push_answer(monitor: &mut Monitor, line: &[u8], text: &mut LineText)
+    requires { text.old.items ≡ [] }
+    ensures text { text.new.items ≡ line_output monitor.old line.now }
+    ensures after { monitor.new ≡ after_line monitor.old line.now }
+{
+    let Some((who, reply)) = reply_to(monitor, line) else {
+        return;
+    };
+    push_line(text, who, monitor.names(), reply);
+}
+
 /// Runs the event of a line, and gives what the line writes: nothing, or one line with its line feed. No
-/// memory is taken. The text is made in one place, so that it is compiled once.
+/// memory is taken.
 pub fn run_line(monitor: &mut Monitor, line: &[u8]) -> LineText
     ensures text { result.items ≡ line_output monitor.old line.now }
     ensures after { monitor.new ≡ after_line monitor.old line.now }
 {
-    match reply_to(monitor, line) {
-        Some((who, reply)) => line_text(who, monitor.names(), reply),
-        None => LineText::new(),
-    }
+    let mut text = LineText::new();
+    push_answer(monitor, line, &mut text);
+    text
 }
 
-/// Runs the event of a line, and gives what the line writes. Of a long line, whose first bytes were
-/// passed over, the others are enough: no event runs, and all such lines write the same.
-pub(crate) fn answer(monitor: &mut Monitor, line: &[u8], long: bool) -> LineText
+/// Runs the event of a line, and writes what the line writes into an empty text. Of a long line, whose
+/// first bytes were passed over, the others are enough: no event runs, and all such lines write the same.
+pub(crate) fn answer(monitor: &mut Monitor, line: &[u8], long: bool, text: &mut LineText)
+    requires { text.old.items ≡ [] }
     ensures text { (before : Text) → IsBefore long before →
-        result.items ≡ line_output monitor.old (before ++ line.now) }
+        text.new.items ≡ line_output monitor.old (before ++ line.now) }
     ensures after { (before : Text) → IsBefore long before →
         monitor.new ≡ after_line monitor.old (before ++ line.now) }
 {
     if long {
-        line_text(Who::Unknown, monitor.names(), Reply::Refused(403))
-    } else {
-        run_line(monitor, line)
+        push_line(text, Who::Unknown, monitor.names(), Reply::Refused(403));
+        return;
     }
+    push_answer(monitor, line, text);
 }

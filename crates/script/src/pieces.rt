@@ -10,7 +10,7 @@ ghost use Rattle.script.specs.Pieces.{IsBefore, rest_of, Reaches, StopsWithin};
 
 use crate::answers::answer;
 use crate::held::Held;
-use lines::line_feed_in;
+use lines::{LineText, line_feed_in};
 use monitor::Monitor;
 use streams::{Failed, Writer, write_all};
 
@@ -57,7 +57,8 @@ fn run_lines<W: Writer>(
     let mut long = long;
     let mut wrote = false;
     while let Some((line, after)) = whole_line(rest) {
-        let reply = answer(monitor, line, long);
+        let mut reply = LineText::new();
+        answer(monitor, line, long, &mut reply);
         let written = reply.as_slice();
         write_all(writer, written)?;
         wrote = wrote || !written.is_empty();
@@ -137,7 +138,8 @@ fn answer_last<W: Writer>(
     if !is_line_left(text, long) {
         return Ok(());
     }
-    let reply = answer(monitor, text, long);
+    let mut reply = LineText::new();
+    answer(monitor, text, long, &mut reply);
     write_all(writer, reply.as_slice())
 }
 

@@ -14,20 +14,20 @@ returns-clause-output g c = on_ok_weaker c.write_all.result (λ wrote before pas
     let line = before ++ c.args.text.now in
     let some : 0 < length line = c.is_line_left.ensures.some c.if-not-is_line_left.false before passed in
     subst (Appends (g.W.Writer.written c.args.writer.now) (g.W.Writer.written c.write_all.new.writer))
-    (c.as_slice.ensures.value ∙ c.answer-reply.ensures.text before passed ∙ last_output w line clean some) wrote) c.write_all.ensures.ok
+    (c.as_slice.ensures.value ∙ c.answer.ensures.text before passed ∙ last_output w line clean some) wrote) c.write_all.ensures.ok
 
 pub returns-clause-after : goal.returns-clause-after
 returns-clause-after g c = on_ok c.write_all.result (λ before passed clean.
     let w = c.args.monitor.now in
     let line = before ++ c.args.text.now in
     let some : 0 < length line = c.is_line_left.ensures.some c.if-not-is_line_left.false before passed in
-    c.answer-reply.ensures.after before passed ∙ last_after w line clean some)
+    c.answer.ensures.after before passed ∙ last_after w line clean some)
 
 pub returns-clause-stopped : goal.returns-clause-stopped
 returns-clause-stopped g c = on_err_weaker c.write_all.result (λ failed before passed clean.
     let w = c.args.monitor.now in
     let line = before ++ c.args.text.now in
     let some : 0 < length line = c.is_line_left.ensures.some c.if-not-is_line_left.false before passed in
-    let text : c.as_slice.result.now ≡ line_output w line = c.as_slice.ensures.value ∙ c.answer-reply.ensures.text before passed in
-    last_stopped w line failed.0 (g.W.Writer.written c.args.writer.now) (g.W.Writer.written c.write_all.new.writer) c.answer-reply.new.monitor clean some
-    (subst (λ (t : Text). StartsWith t failed.0) text failed.1) failed.2 (c.answer-reply.ensures.after before passed)) c.write_all.ensures.err
+    let text : c.as_slice.result.now ≡ line_output w line = c.as_slice.ensures.value ∙ c.answer.ensures.text before passed in
+    last_stopped w line failed.0 (g.W.Writer.written c.args.writer.now) (g.W.Writer.written c.write_all.new.writer) c.answer.new.monitor clean some
+    (subst (λ (t : Text). StartsWith t failed.0) text failed.1) failed.2 (c.answer.ensures.after before passed)) c.write_all.ensures.err

@@ -30,10 +30,10 @@ returns-in_err-write_all-clause-stops g c = on_err c.from_residual.result (λ be
     let run = (c.loop-line.invariant.runs before clean passed).0 in
     let failed = c.in_err-write_all.ensures.err in
     let line = c.in-Some.line.now in
-    let text : c.as_slice-written.result.now ≡ line_output c.loop-line.monitor (run.before ++ line) = c.as_slice-written.ensures.value ∙ c.answer-reply.ensures.text run.before run.passed in
+    let text : c.as_slice-written.result.now ≡ line_output c.loop-line.monitor (run.before ++ line) = c.as_slice-written.ensures.value ∙ c.answer.ensures.text run.before run.passed in
     stops_at c.args.monitor.now (before ++ c.args.text.now) c.loop-line.rest.now line c.in-Some.after.now failed.0 c.loop-line.long (g.W.Writer.written c.args.writer.now)
-    (g.W.Writer.written c.loop-line.writer) (g.W.Writer.written c.write_all.new.writer) c.loop-line.monitor c.answer-reply.new.monitor
-    c.in-Some.ensures.line.1 run c.in-Some.ensures.line.0 (subst (λ (t : Text). StartsWith t failed.0) text failed.1) failed.2 (c.answer-reply.ensures.after run.before run.passed))
+    (g.W.Writer.written c.loop-line.writer) (g.W.Writer.written c.write_all.new.writer) c.loop-line.monitor c.answer.new.monitor
+    c.in-Some.ensures.line.1 run c.in-Some.ensures.line.0 (subst (λ (t : Text). StartsWith t failed.0) text failed.1) failed.2 (c.answer.ensures.after run.before run.passed))
 
 pub loop-line-preserved-then-wrote : goal.loop-line-preserved-then-wrote
 loop-line-preserved-then-wrote g c =
@@ -43,12 +43,12 @@ loop-line-preserved-then-wrote g c =
       taken = (taken.0 ++ (line ++ 10 ∷ []), taken_more c.args.text.now taken.0 c.loop-line.rest.now line c.in-Some.after.now taken.1 c.in-Some.ensures.line.1);
       runs = λ before clean passed.
           let run = (c.loop-line.invariant.runs before clean passed).0 in
-          let text : c.as_slice-written.result.now ≡ line_output c.loop-line.monitor (run.before ++ line) = c.as_slice-written.ensures.value ∙ c.answer-reply.ensures.text run.before run.passed in
+          let text : c.as_slice-written.result.now ≡ line_output c.loop-line.monitor (run.before ++ line) = c.as_slice-written.ensures.value ∙ c.answer.ensures.text run.before run.passed in
           let more = reaches_line c.args.monitor.now (before ++ c.args.text.now) c.loop-line.rest.now line c.in-Some.after.now c.loop-line.long
-          (g.W.Writer.written c.args.writer.now) (g.W.Writer.written c.loop-line.writer) (g.W.Writer.written c.write_all.new.writer) c.loop-line.monitor c.answer-reply.new.monitor
+          (g.W.Writer.written c.args.writer.now) (g.W.Writer.written c.loop-line.writer) (g.W.Writer.written c.write_all.new.writer) c.loop-line.monitor c.answer.new.monitor
           c.in-Some.ensures.line.1 run c.in-Some.ensures.line.0
           (subst (Appends (g.W.Writer.written c.loop-line.writer) (g.W.Writer.written c.write_all.new.writer)) text c.in_ok-write_all.ensures.ok)
-          (c.answer-reply.ensures.after run.before run.passed) in
+          (c.answer.ensures.after run.before run.passed) in
           (more.0, λ wrote. more.1);
       failures = omega (arith, c.in_ok-write_all.ensures.failures, c.loop-line.invariant.failures);
     }
@@ -61,12 +61,12 @@ loop-line-preserved g c =
       taken = (taken.0 ++ (line ++ 10 ∷ []), taken_more c.args.text.now taken.0 c.loop-line.rest.now line c.in-Some.after.now taken.1 c.in-Some.ensures.line.1);
       runs = λ before clean passed.
           let run = (c.loop-line.invariant.runs before clean passed).0 in
-          let text : c.as_slice-written.result.now ≡ line_output c.loop-line.monitor (run.before ++ line) = c.as_slice-written.ensures.value ∙ c.answer-reply.ensures.text run.before run.passed in
+          let text : c.as_slice-written.result.now ≡ line_output c.loop-line.monitor (run.before ++ line) = c.as_slice-written.ensures.value ∙ c.answer.ensures.text run.before run.passed in
           let more = reaches_line c.args.monitor.now (before ++ c.args.text.now) c.loop-line.rest.now line c.in-Some.after.now c.loop-line.long
-          (g.W.Writer.written c.args.writer.now) (g.W.Writer.written c.loop-line.writer) (g.W.Writer.written c.write_all.new.writer) c.loop-line.monitor c.answer-reply.new.monitor
+          (g.W.Writer.written c.args.writer.now) (g.W.Writer.written c.loop-line.writer) (g.W.Writer.written c.write_all.new.writer) c.loop-line.monitor c.answer.new.monitor
           c.in-Some.ensures.line.1 run c.in-Some.ensures.line.0
           (subst (Appends (g.W.Writer.written c.loop-line.writer) (g.W.Writer.written c.write_all.new.writer)) text c.in_ok-write_all.ensures.ok)
-          (c.answer-reply.ensures.after run.before run.passed) in
+          (c.answer.ensures.after run.before run.passed) in
           (more.0, λ wrote. more.1);
       failures = omega (arith, c.in_ok-write_all.ensures.failures, c.loop-line.invariant.failures);
     }
