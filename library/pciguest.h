@@ -2,7 +2,7 @@
  *
  * docs/LIBRARY.md says how to build and use the library, and what is proved of it. Every call answers 0,
  * or the number of a refusal. A call that answers a number other than 0 changed nothing and stored
- * nothing, but for the length that pciguest_report tells.
+ * nothing, but for a length that tells how much room a text needs, and for the text of pciguest_check.
  *
  *   101 to 112  the board file is refused           199, 299  out of memory
  *   201 to 205  the board can't be set up           301 302 303 601 602  an access or a move is refused
@@ -56,6 +56,7 @@ uint32_t pciguest_raw_move(struct pciguest *machine, size_t from, uint64_t slot,
 uint32_t pciguest_raw_run_line(struct pciguest *machine, const uint8_t *line, size_t length, uint8_t *reply,
                                size_t room, size_t *written);
 uint32_t pciguest_raw_report(const uint8_t *board, size_t length, uint8_t *text, size_t room, size_t *needed);
+uint32_t pciguest_raw_check(const uint8_t *board, size_t length, uint8_t *text, size_t room, size_t *needed);
 
 /* Sets up the board of a board file, given as its bytes, and gives its functions to the guests of the file.
  * 0: the machine holds the world that the file declares, before any access. Otherwise the number of the first
@@ -106,7 +107,8 @@ static inline uint32_t pciguest_write(struct pciguest *machine, size_t guest, ui
     return pciguest_raw_write(machine, guest, space, slot, place, width, value);
 }
 
-/* Sets bits of one byte of the function in a guest's slot, as its device does. 303: the slot is above 31, or the
+/* Sets bits of one byte of the function in a guest's slot, as its device does. That a refused raise changes nothing is
+ * proved where no two guests have one name, and pciguest_new refuses a file in which two have. 303: the slot is above 31, or the
  * function has no such byte. 601: the slot is empty. 902: there is no such guest, or the part is above 6. */
 static inline uint32_t pciguest_raise(struct pciguest *machine, size_t guest, uint64_t slot, uint32_t part,
                                       uint64_t offset, uint8_t mask)
@@ -156,6 +158,19 @@ static inline uint32_t pciguest_report(const void *board, size_t length, char *t
         return PCIGUEST_ARGUMENT;
     return pciguest_raw_report(board ? (const uint8_t *)board : (const uint8_t *)"", length, text ? (uint8_t *)text : &none,
                                room, needed);
+}
+
+/* Writes what is wrong with a board file, or that its board fits, as `pciguest check board.toml` does, and tells the
+ * text's length; it has no 0 at its end. 0: the board fits. 101 to 112 or 201 to 205: the file or its board is refused,
+ * and the text says why. 199 or 299: out of memory, and nothing was written or told. 902: there is less room than the
+ * text needs, and nothing was written. No machine is needed. */
+static inline uint32_t pciguest_check(const void *board, size_t length, char *text, size_t room, size_t *needed)
+{
+    uint8_t none;
+    if ((!board && length) || (!text && room) || !needed)
+        return PCIGUEST_ARGUMENT;
+    return pciguest_raw_check(board ? (const uint8_t *)board : (const uint8_t *)"", length, text ? (uint8_t *)text : &none,
+                              room, needed);
 }
 
 #ifdef __cplusplus

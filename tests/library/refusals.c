@@ -151,6 +151,26 @@ static void reports(const uint8_t *board, size_t length)
     IS(pciguest_report("x", 1, NULL, 0, &again), 101);
 }
 
+/* A check tells how much room its text needs, writes nothing where there is less, and all of it where the board is
+ * refused, too. */
+static void checks(const uint8_t *board, size_t length)
+{
+    char text[1024];
+    size_t needed = 0;
+
+    IS(pciguest_check(NULL, 1, NULL, 0, &needed), 902);
+    IS(pciguest_check(board, length, NULL, 0, NULL), 902);
+    IS(pciguest_check(board, length, text, sizeof text, &needed), 0);
+    IS(strncmp(text, "ok\n", 3), 0);
+    memset(text, '?', sizeof text);
+    IS(pciguest_check("", 0, text, 2, &needed), 902);
+    IS(text[0], '?');
+    IS(pciguest_check("", 0, text, needed, &needed), 102);
+    IS(text[needed], '?');
+    IS(strncmp(text, "board.toml", 10), 0);
+    IS(text[needed - 1], '\n');
+}
+
 /* Each allocation fails in turn: the answer is out of memory, the handle stays empty, and nothing is lost. */
 static void out_of_memory(const uint8_t *board, size_t length)
 {
@@ -173,6 +193,28 @@ static void out_of_memory(const uint8_t *board, size_t length)
     IS(count > 100, 1);
 }
 
+/* The same of a check, which answers its number only where no allocation failed. */
+static void check_out_of_memory(const void *board, size_t length, uint32_t wanted)
+{
+    uint32_t fault = 0;
+    long count = 0;
+
+    do {
+        char text[1024];
+        size_t needed = 0;
+        long before = blocks;
+
+        calls_left = ++count;
+        fault = pciguest_check(board, length, text, sizeof text, &needed);
+        calls_left = -1;
+        if (fault != wanted && fault != 199)
+            IS(fault, 299);
+        IS((uint64_t)blocks, (uint64_t)before);
+    } while (fault == 199 || fault == 299);
+    IS(fault, wanted);
+    IS(count > 10, 1);
+}
+
 int main(int argc, char **argv)
 {
     static uint8_t board[65536];
@@ -193,6 +235,9 @@ int main(int argc, char **argv)
     pciguest_free(&machine);
     pciguest_free(&machine);
     reports(board, length);
+    checks(board, length);
     out_of_memory(board, length);
+    check_out_of_memory(board, length, 0);
+    check_out_of_memory("x = 1", 5, 102);
     return wrong;
 }

@@ -14,6 +14,9 @@ pub const ARGUMENT: u32 = 902;
 /// The handle holds a monitor already.
 pub const IN_USE: u32 = 903;
 
+/// Out of memory while a board file is read.
+pub const FILE_MEMORY: u32 = 199;
+
 /// Out of memory.
 pub const MEMORY: u32 = 299;
 

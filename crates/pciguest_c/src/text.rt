@@ -1,13 +1,14 @@
-//! The report of a board file, in memory.
-ghost use Rattle.std.specs.Prelude.{◌≡◌, ◌≢◌, ◌≤◌, ◌<◌, ◌-◌, ◌^◌, Some, None, [], IfOk, IfErr};
+//! The report of a board file, and what a check says of it, in memory.
+ghost use Rattle.std.specs.Prelude.{◌≡◌, ◌≢◌, ◌⊎◌, ◌≤◌, ◌<◌, ◌-◌, ◌^◌, Some, None, [], IfOk, IfErr};
 ghost use Rattle.model_registers.specs.DeclarationRules.{first_broken};
 ghost use Rattle.model_board.specs.SetUpWrites.{set_up_rules};
 ghost use Rattle.model_guests.specs.World.{World};
 ghost use Rattle.model_guests.specs.Report.{report};
 ghost use Rattle.simulation.specs.Listing.{Declares, Refuses};
+ghost use Rattle.pciguest_c.specs.Checks.{IsCheckOf};
 
-use crate::numbers::MEMORY;
-use simulation::{Fault, list};
+use crate::numbers::{FILE_MEMORY, MEMORY};
+use simulation::{Fault, check, list};
 use std::alloc::Global;
 use streams::{Failed, Writer};
 
@@ -58,5 +59,34 @@ pub fn report_of(alloc: Global, board: &[u8]) -> Result<Vec<u8>, u32>
         Ok(()) => Ok(text.bytes),
         Err(Fault::Write) => Err(MEMORY),
         Err(fault) => Err(u32::from(fault.number())),
+    }
+}
+
+/// What a board file is called where a check tells of it.
+const BOARD_NAME: &str = "board.toml";
+
+/// What a check says of a board file, and the number that refuses the file or its board, or 0.
+pub fn check_of(alloc: Global, board: &[u8]) -> Result<(Vec<u8>, u32), u32>
+    ensures told { IfOk result (λ v. IsCheckOf board.now v.1 v.0.items) }
+    ensures numbers { IfOk result (λ v. (v.1 < 299) × (v.1 ≢ 199)) }
+    ensures memory { IfErr result (λ n. (n ≡ 199) ⊎ (n ≡ 299)) }
+{
+    let mut text = Text {
+        bytes: Vec::new(alloc),
+        failures: 0,
+    };
+    match check(alloc, BOARD_NAME, board, &mut text) {
+        Ok(()) => Ok((text.bytes, 0)),
+        Err(fault) => {
+            let number = u32::from(fault.number());
+            // A write fails where memory is out, and for no other cause.
+            if number >= MEMORY {
+                return Err(MEMORY);
+            }
+            if number == FILE_MEMORY {
+                return Err(number);
+            }
+            Ok((text.bytes, number))
+        }
     }
 }

@@ -1,15 +1,18 @@
 //! What C asks and is answered as text.
-ghost use Rattle.std.specs.Prelude.{◌≡◌, ◌≢◌, ◌<◌, ◌≤◌, ◌++◌, ◌⊎◌, None, Some, IfNone, IfSome, drop, length};
+ghost use Rattle.std.specs.Prelude.{◌≡◌, ◌≢◌, ◌<◌, ◌≤◌, ◌++◌, ◌⊎◌, ◌↔◌, ℕ, IsTrue, None, Some, IfNone, IfSome, drop, length};
+ghost use Rattle.std.specs.Bool.{OnTrue, OnFalse};
 ghost use Rattle.model_registers.specs.DeclarationRules.{first_broken};
 ghost use Rattle.model_board.specs.SetUpWrites.{set_up_rules};
+ghost use Rattle.model_guests.specs.Text.{Text};
 ghost use Rattle.model_guests.specs.World.{World};
 ghost use Rattle.model_guests.specs.Report.{report};
 ghost use Rattle.model_guests.specs.WorldNow.{line_output, after_line};
 ghost use Rattle.simulation.specs.Listing.{Declares, Refuses};
+ghost use Rattle.pciguest_c.specs.Checks.{IsCheckOf};
 
 use crate::handle::Handle;
 use crate::numbers::{ARGUMENT, NO_MACHINE};
-use crate::text::report_of;
+use crate::text::{check_of, report_of};
 use script::run_line;
 use std::alloc::Global;
 
@@ -22,6 +25,21 @@ fn put(out: &mut [u8], text: &[u8])
     ensures { out.new ≡ text.now ++ drop (length text.now) out.old }
 {
     out[..text.len()].copy_from_slice(text);
+}
+
+/// Tells how long a text is, and puts it at the front of a buffer, if that has room for it.
+fn tell(text: &[u8], out: &mut [u8], needed: &mut usize) -> bool
+    ensures room { IsTrue result ↔ (length text.now ≤ length out.old) }
+    ensures text { OnTrue result (out.new ≡ text.now ++ drop (length text.now) out.old) }
+    ensures unwritten { OnFalse result (out.new ≡ out.old) }
+    ensures needed { needed.new ≡ length text.now }
+{
+    *needed = text.len();
+    if out.len() < text.len() {
+        return false;
+    }
+    put(out, text);
+    true
 }
 
 /// Runs one line of a script, which is given without its line feed. What it writes, nothing or one line
@@ -86,12 +104,40 @@ pub extern "C" fn pciguest_raw_report(
 {
     match report_of(alloc, board) {
         Ok(text) => {
-            *needed = text.len();
-            if out.len() < text.len() {
-                return ARGUMENT;
+            if tell(&text, out, needed) {
+                0
+            } else {
+                ARGUMENT
             }
-            put(out, &text);
-            0
+        }
+        Err(number) => number,
+    }
+}
+
+/// Writes what a check says of a board file to the front of `out`, and tells how long it is, also where
+/// `out` has less room than that. The file is called `board.toml` there.
+#[unsafe(no_mangle)]
+pub extern "C" fn pciguest_raw_check(
+    alloc: Global,
+    board: &[u8],
+    out: &mut [u8],
+    needed: &mut usize,
+) -> u32
+    ensures told { result < 299 → result ≢ 199 → (text : Text) × IsCheckOf board.now result text
+        × (out.new ≡ text ++ drop (length text) out.old) × (needed.new ≡ length text) }
+    ensures room { result ≡ 902 → (n : ℕ) × (text : Text) × IsCheckOf board.now n text
+        × (length out.old < length text) × (needed.new ≡ length text) }
+    ensures numbers { (result ≤ 299) ⊎ (result ≡ 902) }
+    ensures unwritten { (result ≡ 199) ⊎ (result ≡ 299) ⊎ (result ≡ 902) → out.new ≡ out.old }
+    ensures untold { (result ≡ 199) ⊎ (result ≡ 299) → needed.new ≡ needed.old }
+{
+    match check_of(alloc, board) {
+        Ok((text, number)) => {
+            if tell(&text, out, needed) {
+                number
+            } else {
+                ARGUMENT
+            }
         }
         Err(number) => number,
     }

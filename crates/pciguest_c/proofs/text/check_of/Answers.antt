@@ -1,0 +1,52 @@
+use Rattle.std.proofs.Common.{◌≡◌, ◌<◌, ℕ, List, Some, sym, subst, ◌∙◌, arith}
+use Rattle.simulation.specs.declared.fault.Fault.{Fault}
+use Rattle.simulation.specs.declared.fault.Fault.TheVariants as fault
+use Rattle.simulation.specs.Faults.{number_of}
+use Rattle.simulation.specs.Choices.{IsTold}
+use Rattle.pciguest_c.specs.Checks.{board_name}
+use Rattle.pciguest_c.proofs.text.check_of.Goals as goal
+
+nonzero : (f : Fault) → number_of f ≡ 0 → ⊥
+nonzero fault.NotToml h = omega arith
+nonzero fault.Key h = omega arith
+nonzero fault.UnknownKey h = omega arith
+nonzero fault.Number h = omega arith
+nonzero fault.Place h = omega arith
+nonzero fault.Register h = omega arith
+nonzero fault.Size h = omega arith
+nonzero fault.TooMany h = omega arith
+nonzero fault.GuestName h = omega arith
+nonzero fault.Slot h = omega arith
+nonzero fault.Aperture h = omega arith
+nonzero fault.CellMasks h = omega arith
+nonzero fault.FileMemory h = omega arith
+nonzero fault.Buses h = omega arith
+nonzero fault.NoIoWindow h = omega arith
+nonzero fault.IoPool h = omega arith
+nonzero fault.MemoryPool h = omega arith
+nonzero fault.PrefetchablePool h = omega arith
+nonzero fault.SetUpMemory h = omega arith
+nonzero fault.Read h = omega arith
+nonzero fault.Write h = omega arith
+nonzero fault.Usage h = omega arith
+nonzero fault.BoardFile h = omega arith
+nonzero fault.WordMemory h = omega arith
+
+pub returns-else-number-eq-FILE_MEMORY-clause-told : goal.returns-else-number-eq-FILE_MEMORY-clause-told
+returns-else-number-eq-FILE_MEMORY-clause-told c =
+    let f = c.in-Err.fault in
+    let same : c.from-number.result ≡ number_of f = c.from-number.ensures ∙ c.number.ensures in
+    let small : number_of f < 299 = omega (arith, same, c.if-number-ge-MEMORY.false) in
+    let said = c.in-Err.ensures in
+    let Told : List ℕ → Type 0 = λ old. IsTold board_name c.args.board.now f (Some old) (Some c.check.new.writer.bytes.items) in
+    record {
+      fit = λ zero. absurd (nonzero f (sym same ∙ zero));
+      told = λ _. (
+        f,
+        sym same,
+        subst Told c.new.ensures.items (record {
+          refused = λ less. (said.file less, said.told less);
+          misfit = λ more. let placed = said.placement more small in (placed.0, placed.1, placed.2, said.misfit more small);
+        }),
+      );
+    }
