@@ -75,7 +75,7 @@ fuzz: pciguest
 
 # A page that runs the proved code in a browser: pciguest.html. It takes Node or Chromium, to compare what the page
 # answers with the program.
-EXPORTS := $(addprefix pciguest_raw_,new free report run_line)
+EXPORTS := $(addprefix pciguest_raw_,new free report check run_line)
 page: pciguest
 	@mkdir -p page/out
 	@cd crates/pciguest_c && rt lib > out/build.log 2>&1 || { cat out/build.log; exit 1; }

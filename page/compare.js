@@ -1,4 +1,4 @@
-// Compares what the module answers with what the proved program wrote: reports, refusals, replies.
+// Compares what the module answers with what the proved program wrote: reports, checks, refusals, replies.
 
 import { Engine, run } from './engine.js';
 
@@ -10,11 +10,11 @@ function joined(parts) {
   return all;
 }
 
-// A case has a board, a script or null, the number that refuses it or 0, and the output.
-function holds(engine, { board, script, number, output }) {
-  if (script === null) {
-    const report = engine.report(board);
-    return report.number === number && (number !== 0 || same(report.text, output));
+// A case has what is asked, a board and its script, the number that refuses it or 0, and the output.
+function holds(engine, { work, board, script, number, output }) {
+  if (work !== 'run') {
+    const written = work === 'list' ? engine.report(board) : engine.check(board);
+    return written.number === number && same(written.text, output);
   }
   const { number: refusal, machine } = engine.open(board);
   if (machine === null) return refusal === number;

@@ -23,19 +23,26 @@ export class Engine {
 
   word(at) { return Number(new DataView(this.exports.memory.buffer).getBigUint64(Number(at), true)); }
 
-  // The report of a board file: { number, text }, where number is 0 or a refusal's.
-  report(file) {
+  // What a call writes of a board file: { number, text }, where number is 0 or a refusal's.
+  written(call, file) {
     for (let size = 1 << 16; ; ) {
       const [number, needed, text] = this.with_rooms([file.length, size, 8], (board, out, length) => {
         this.bytes(board, file.length).set(file);
-        const number = this.exports.pciguest_raw_report(board, BigInt(file.length), out, BigInt(size), length);
+        this.bytes(length, 8).fill(0);
+        const number = call(board, BigInt(file.length), out, BigInt(size), length);
         const needed = this.word(length);
-        return [number, needed, this.bytes(out, number === 0 ? needed : 0).slice()];
+        return [number, needed, this.bytes(out, number === TOO_SMALL ? 0 : needed).slice()];
       });
       if (number !== TOO_SMALL) return { number, text };
       size = needed;
     }
   }
+
+  // The report of a board file; nothing where it is refused.
+  report(file) { return this.written(this.exports.pciguest_raw_report, file); }
+
+  // What a check says of a board file, which is called board.toml there.
+  check(file) { return this.written(this.exports.pciguest_raw_check, file); }
 
   // A board with its guests, or the number that refuses it.
   open(file) {

@@ -29,19 +29,44 @@ function draw() {
   draw_functions(part.functions, functions, owners, hues);
 }
 
-function number_lines() {
-  const count = part.board.value.split('\n').length;
-  part.numbers.textContent = Array.from({ length: count }, (_, nth) => nth + 1).join('\n');
+// Numbers the lines of the editor, and marks those of which a check tells.
+function number_lines(told) {
+  const lines = part.board.value.split('\n').map((_, nth) => nth + 1);
+  part.numbers.innerHTML = lines.map(line => (told.has(line) ? `<b>${line}</b>` : line)).join('\n');
   part.numbers.scrollTop = part.board.scrollTop;
+}
+
+// Puts the cursor into a line of the editor, and shows it.
+function go_to(line) {
+  const lines = part.board.value.split('\n');
+  const start = lines.slice(0, line - 1).reduce((at, one) => at + one.length + 1, 0);
+  part.board.focus();
+  part.board.setSelectionRange(start, start + lines[line - 1].length);
+  const height = parseFloat(getComputedStyle(part.board).lineHeight);
+  part.board.scrollTop = (line - 1) * height - part.board.clientHeight / 2;
+}
+
+// What a check says, line by line; one that names a line of the file leads there.
+function tell_check(text) {
+  const said = text.split('\n').filter(one => one !== '' && one !== 'ok');
+  const told = new Map(said.map(one => [one, Number(/^board\.toml:(\d+): /.exec(one)?.[1] ?? 0)]));
+  part.check.replaceChildren(...said.map(one => {
+    const line = told.get(one), item = document.createElement('li');
+    const shown = Object.assign(document.createElement(line === 0 ? 'span' : 'button'), { textContent: one });
+    if (line !== 0) { shown.type = 'button'; shown.addEventListener('click', () => go_to(line)); }
+    item.append(shown);
+    return item;
+  }));
+  number_lines(new Set(told.values()));
 }
 
 // Sets the board up anew, and draws it.
 function set_up() {
-  number_lines();
   if (machine !== null) machine.close();
   machine = null;
   const file = new TextEncoder().encode(part.board.value);
   const report = engine.report(file);
+  tell_check(new TextDecoder().decode(engine.check(file).text));
   if (report.number === 0) {
     const text = new TextDecoder().decode(report.text);
     const read = read_report(text);
