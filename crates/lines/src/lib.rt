@@ -9,5 +9,5 @@ mod replies;
 mod words;
 
 pub use line::{Line, What, Who, line_meaning, parse_line};
-pub use replies::{LineText, line_text, push_line};
+pub use replies::{LineText, line_text, push_line, refusal_text};
 pub use words::line_feed_in;

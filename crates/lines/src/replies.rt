@@ -14,8 +14,8 @@ use arrayvec::ArrayVec;
 /// `refused 402 unknown guest`.
 pub type LineText = ArrayVec<u8, 48>;
 
-/// The text of a refusal.
-fn refusal_text(number: u16) -> &'static [u8]
+/// The text of a refusal: `refused`, its number and its words.
+pub fn refusal_text(number: u16) -> &'static [u8]
     requires { has_words number ≡ true }
     ensures text { result.now ≡ codes "refused " ++ decimal number ++ codes " " ++ refusal_words number }
     ensures short { length result.now ≤ 25 }
