@@ -19,3 +19,4 @@ pub use finding::{Problem, problems};
 pub use lines::{Told, with_lines};
 pub use rule::Rule;
 pub use telling::refusal_text;
+pub use texts::fault_words;

@@ -10,7 +10,7 @@ use board_file::BoardFault;
 use std::alloc::AllocError;
 
 /// What is said of a fault.
-fn fault_words(fault: BoardFault) -> &'static str
+pub fn fault_words(fault: BoardFault) -> &'static str
     ensures { result.now ≡ fault_words fault }
 {
     match fault {
