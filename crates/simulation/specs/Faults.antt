@@ -1,13 +1,15 @@
 -- Why the program fails, as numbers and words.
 --     number_of, words_of, line_of      the number, the words and the line of a fault
+--     fault_numbered n      the fault of a number
 --     of_file, of_set_up, of_report, of_run      the fault of a file, a set-up, a report or a run, by the same number
 --     read_faults, write_faults      whether a result is the fault of the reader, or of the writer
 --     IsOfList, IsOfRun      a fault of a listing, or of a run over a board
-use Rattle.std.specs.Prelude.{◌≡◌, ◌⊎◌, ◌≤◌, ℕ, ◌++◌, List, Result, Ok, Err, codes, decimal}
+use Rattle.std.specs.Prelude.{◌≡◌, ◌⊎◌, ◌≤◌, ◌==◌, ℕ, ◌++◌, List, [], ◌∷◌, Option, Result, Ok, Err, codes, decimal, find}
 use Rattle.bus_scan.specs.declared.fault.Fault.TheVariants as set_up
 use Rattle.bus_scan.specs.declared.fault.Fault.{Fault as SetUpFault}
 use Rattle.board_file.specs.declared.fault.BoardFault.TheVariants as file
 use Rattle.board_file.specs.declared.fault.BoardFault.{BoardFault}
+use Rattle.board_check.specs.Rules.{fault_words}
 use Rattle.report.specs.declared.writing.ReportFault.TheVariants as report
 use Rattle.report.specs.declared.writing.ReportFault.{ReportFault}
 use Rattle.script.specs.declared.running.RunFault.TheVariants as run
@@ -41,20 +43,29 @@ number_of Usage = 701
 number_of BoardFile = 702
 number_of WordMemory = 799
 
+-- in the order of their numbers, which differ
+abbrev pub all_faults : List Fault
+all_faults =
+    NotToml ∷ Key ∷ UnknownKey ∷ Number ∷ Place ∷ Register ∷ Size ∷ TooMany ∷ GuestName ∷ Slot ∷ Aperture ∷ CellMasks ∷ FileMemory
+    ∷ Buses ∷ NoIoWindow ∷ IoPool ∷ MemoryPool ∷ PrefetchablePool ∷ SetUpMemory ∷ Read ∷ Write ∷ Usage ∷ BoardFile ∷ WordMemory ∷ []
+
+abbrev pub fault_numbered : ℕ → Option Fault
+fault_numbered n = find (λ f. number_of f == n) all_faults
+
 abbrev pub words_of : Fault → List ℕ
-words_of NotToml = codes "not TOML"
-words_of Key = codes "key"
-words_of UnknownKey = codes "unknown key"
-words_of Number = codes "number"
-words_of Place = codes "place"
-words_of Register = codes "register"
-words_of Size = codes "size"
-words_of TooMany = codes "too many"
-words_of GuestName = codes "guest name"
-words_of Slot = codes "slot"
-words_of Aperture = codes "aperture"
-words_of CellMasks = codes "cell masks"
-words_of FileMemory = codes "memory"
+words_of NotToml = fault_words file.NotToml
+words_of Key = fault_words file.Key
+words_of UnknownKey = fault_words file.UnknownKey
+words_of Number = fault_words file.Number
+words_of Place = fault_words file.Place
+words_of Register = fault_words file.Register
+words_of Size = fault_words file.Size
+words_of TooMany = fault_words file.TooMany
+words_of GuestName = fault_words file.GuestName
+words_of Slot = fault_words file.Slot
+words_of Aperture = fault_words file.Aperture
+words_of CellMasks = fault_words file.CellMasks
+words_of FileMemory = fault_words file.Memory
 words_of Buses = codes "buses"
 words_of NoIoWindow = codes "no I/O window"
 words_of IoPool = codes "I/O pool"

@@ -2,6 +2,7 @@
 ghost use Rattle.std.specs.Prelude.{◌≡◌};
 ghost use Rattle.simulation.specs.Faults.{number_of, words_of, of_file, of_set_up, of_report, of_run};
 
+use board_check::fault_words;
 use board_file::BoardFault;
 use report::ReportFault;
 use script::RunFault;
@@ -122,19 +123,19 @@ impl Fault {
         ensures { result.now ≡ words_of self }
     {
         match self {
-            Fault::NotToml => "not TOML",
-            Fault::Key => "key",
-            Fault::UnknownKey => "unknown key",
-            Fault::Number => "number",
-            Fault::Place => "place",
-            Fault::Register => "register",
-            Fault::Size => "size",
-            Fault::TooMany => "too many",
-            Fault::GuestName => "guest name",
-            Fault::Slot => "slot",
-            Fault::Aperture => "aperture",
-            Fault::CellMasks => "cell masks",
-            Fault::FileMemory | Fault::SetUpMemory | Fault::WordMemory => "memory",
+            Fault::NotToml => fault_words(BoardFault::NotToml),
+            Fault::Key => fault_words(BoardFault::Key),
+            Fault::UnknownKey => fault_words(BoardFault::UnknownKey),
+            Fault::Number => fault_words(BoardFault::Number),
+            Fault::Place => fault_words(BoardFault::Place),
+            Fault::Register => fault_words(BoardFault::Register),
+            Fault::Size => fault_words(BoardFault::Size),
+            Fault::TooMany => fault_words(BoardFault::TooMany),
+            Fault::GuestName => fault_words(BoardFault::GuestName),
+            Fault::Slot => fault_words(BoardFault::Slot),
+            Fault::Aperture => fault_words(BoardFault::Aperture),
+            Fault::CellMasks => fault_words(BoardFault::CellMasks),
+            Fault::FileMemory => fault_words(BoardFault::Memory),
             Fault::Buses => "buses",
             Fault::NoIoWindow => "no I/O window",
             Fault::IoPool => "I/O pool",
@@ -144,6 +145,7 @@ impl Fault {
             Fault::Write => "write failed",
             Fault::Usage => "usage",
             Fault::BoardFile => "board file",
+            Fault::SetUpMemory | Fault::WordMemory => "memory",
         }
     }
 }

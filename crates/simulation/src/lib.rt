@@ -9,6 +9,7 @@ mod fault;
 mod fault_lines;
 mod files;
 mod listing;
+mod numbered;
 mod running;
 mod standard_streams;
 
