@@ -34,8 +34,8 @@ enum pciguest_space { PCIGUEST_CONFIG = 0, PCIGUEST_IO = 1, PCIGUEST_MEMORY = 2 
 /* Where a raise goes that is not in a region: regions are told by base address register, 0 to 5. */
 enum { PCIGUEST_RAISE_CONFIG = 6 };
 
-/* The room that pciguest_run_line needs for its reply. */
-enum { PCIGUEST_REPLY = 48 };
+/* The room that pciguest_run_line needs for its reply, and the most that pciguest_words needs. */
+enum { PCIGUEST_REPLY = 48, PCIGUEST_WORDS = 20 };
 
 enum { PCIGUEST_NO_MACHINE = 901, PCIGUEST_ARGUMENT = 902, PCIGUEST_IN_USE = 903 };
 
@@ -57,6 +57,7 @@ uint32_t pciguest_raw_run_line(struct pciguest *machine, const uint8_t *line, si
                                size_t room, size_t *written);
 uint32_t pciguest_raw_report(const uint8_t *board, size_t length, uint8_t *text, size_t room, size_t *needed);
 uint32_t pciguest_raw_check(const uint8_t *board, size_t length, uint8_t *text, size_t room, size_t *needed);
+uint32_t pciguest_raw_words(uint32_t number, uint8_t *text, size_t room, size_t *needed);
 
 /* Sets up the board of a board file, given as its bytes, and gives its functions to the guests of the file.
  * 0: the machine holds the world that the file declares, before any access. Otherwise the number of the first
@@ -171,6 +172,17 @@ static inline uint32_t pciguest_check(const void *board, size_t length, char *te
         return PCIGUEST_ARGUMENT;
     return pciguest_raw_check(board ? (const uint8_t *)board : (const uint8_t *)"", length, text ? (uint8_t *)text : &none,
                               room, needed);
+}
+
+/* Writes the words of a number that a call answers, or that the program or a reply tells, and tells their length; they
+ * have no 0 at their end. A number that stands for nothing, as 0, has no words, and length 0. 902: there is less room
+ * than the words need, and nothing was written; PCIGUEST_WORDS is always enough. No machine is needed. */
+static inline uint32_t pciguest_words(uint32_t number, char *text, size_t room, size_t *needed)
+{
+    uint8_t none;
+    if ((!text && room) || !needed)
+        return PCIGUEST_ARGUMENT;
+    return pciguest_raw_words(number, text ? (uint8_t *)text : &none, room, needed);
 }
 
 #ifdef __cplusplus

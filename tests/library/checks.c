@@ -1,5 +1,5 @@
 /* What the program writes for a check, by calls of the library: the text on standard output, and on standard error the
- * fault with which the program ends, by its number.
+ * fault with which the program ends, by its number and its words.
  *
  *     checks BOARD
  */
@@ -7,6 +7,18 @@
 
 #include <stdio.h>
 #include <stdlib.h>
+
+/* The fault as the program tells it. */
+static int fault(uint32_t number)
+{
+    char words[PCIGUEST_WORDS];
+    size_t length = 0;
+
+    if (pciguest_words(number, words, sizeof words, &length) != 0 || length == 0)
+        return 3;
+    fprintf(stderr, "pciguest: fault %u %.*s\n", (unsigned)number, (int)length, words);
+    return 1;
+}
 
 int main(int argc, char **argv)
 {
@@ -26,7 +38,5 @@ int main(int argc, char **argv)
     number = pciguest_check(board, length, text, needed, &needed);
     fwrite(text, 1, needed, stdout);
     free(text);
-    if (number != 0)
-        fprintf(stderr, "pciguest: fault %u\n", (unsigned)number);
-    return number != 0;
+    return number == 0 ? 0 : fault(number);
 }

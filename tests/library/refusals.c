@@ -171,6 +171,52 @@ static void checks(const uint8_t *board, size_t length)
     IS(text[needed - 1], '\n');
 }
 
+/* The words of a number, and none of a number that stands for nothing. */
+static void words(uint32_t number, const char *wanted)
+{
+    char text[PCIGUEST_WORDS] = {0};
+    size_t needed = 99;
+
+    IS(pciguest_words(number, text, sizeof text, &needed), 0);
+    IS(needed, strlen(wanted));
+    IS(memcmp(text, wanted, needed), 0);
+    if (needed != 0) {
+        text[0] = '?';
+        IS(pciguest_words(number, text, needed - 1, &needed), 902);
+        IS(text[0], '?');
+    }
+    IS(pciguest_words(number, NULL, 0, NULL), 902);
+}
+
+static void all_words(void)
+{
+    static const uint32_t without[] = {0, 1, 100, 113, 200, 206, 300, 304, 400, 404, 603, 900, 904, 0xffffffff, 0x10065};
+    uint32_t number, known = 0;
+    char text[PCIGUEST_WORDS];
+    size_t needed = 0;
+
+    words(101, "not TOML");
+    words(112, "cell masks");
+    words(199, "memory");
+    words(205, "prefetchable pool");
+    words(299, "memory");
+    words(301, "misaligned");
+    words(403, "long line");
+    words(502, "write failed");
+    words(602, "slot taken");
+    words(799, "memory");
+    words(901, "no machine");
+    words(902, "argument");
+    words(903, "in use");
+    for (size_t i = 0; i < sizeof without / sizeof *without; i++)
+        words(without[i], "");
+    for (number = 0; number < 1 << 17; number++) {
+        IS(pciguest_words(number, text, sizeof text, &needed), 0);
+        known += needed != 0;
+    }
+    IS(known, 35);
+}
+
 /* Each allocation fails in turn: the answer is out of memory, the handle stays empty, and nothing is lost. */
 static void out_of_memory(const uint8_t *board, size_t length)
 {
@@ -236,6 +282,7 @@ int main(int argc, char **argv)
     pciguest_free(&machine);
     reports(board, length);
     checks(board, length);
+    all_words();
     out_of_memory(board, length);
     check_out_of_memory(board, length, 0);
     check_out_of_memory("x = 1", 5, 102);

@@ -1,3 +1,4 @@
 pub mod Checks
+pub mod NumberWords
 pub mod Owning
 pub mod Told

@@ -7,6 +7,7 @@ mod handle;
 mod host_calls;
 mod hosting;
 mod life;
+mod number_words;
 mod numbers;
 mod owner;
 mod text;

@@ -9,8 +9,10 @@ ghost use Rattle.model_guests.specs.Report.{report};
 ghost use Rattle.model_guests.specs.WorldNow.{line_output, after_line};
 ghost use Rattle.simulation.specs.Listing.{Declares, Refuses};
 ghost use Rattle.pciguest_c.specs.Checks.{IsCheckOf};
+ghost use Rattle.pciguest_c.specs.NumberWords.{words_of_number};
 
 use crate::handle::Handle;
+use crate::number_words::words_of;
 use crate::numbers::{ARGUMENT, NO_MACHINE};
 use crate::text::{check_of, report_of};
 use script::run_line;
@@ -140,5 +142,22 @@ pub extern "C" fn pciguest_raw_check(
             }
         }
         Err(number) => number,
+    }
+}
+
+/// Writes the words of a number to the front of `out`, and tells how long they are, also where `out` has
+/// less room than that. A number that stands for nothing has no words.
+#[unsafe(no_mangle)]
+pub extern "C" fn pciguest_raw_words(number: u32, out: &mut [u8], needed: &mut usize) -> u32
+    ensures needed { needed.new ≡ length (words_of_number number) }
+    ensures text { result ≡ 0 → out.new ≡ words_of_number number ++ drop (length (words_of_number number)) out.old }
+    ensures room { result ≡ 902 → (length out.old < length (words_of_number number)) × (out.new ≡ out.old) }
+    ensures numbers { (result ≡ 0) ⊎ (result ≡ 902) }
+    ensures enough { 20 ≤ length out.old → result ≡ 0 }
+{
+    if tell(words_of(number), out, needed) {
+        0
+    } else {
+        ARGUMENT
     }
 }
