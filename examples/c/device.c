@@ -85,6 +85,15 @@ static uint8_t *bytes_of(const char *path, size_t *length)
     return bytes;
 }
 
+static void complain(uint32_t fault)
+{
+    char words[PCIGUEST_WORDS];
+    size_t length = 0;
+
+    (void)pciguest_words(fault, words, sizeof words, &length);
+    fprintf(stderr, "device: fault %" PRIu32 " %.*s\n", fault, (int)length, words);
+}
+
 int main(int argc, char **argv)
 {
     struct pciguest machine = {0};
@@ -101,7 +110,7 @@ int main(int argc, char **argv)
     if (!fault)
         fault = pciguest_guest(&machine, "a", 1, &guest);
     if (fault) {
-        fprintf(stderr, "device: fault %" PRIu32 "\n", fault);
+        complain(fault);
         pciguest_free(&machine);
         return 1;
     }

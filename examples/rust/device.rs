@@ -93,7 +93,10 @@ fn main() -> ExitCode {
     let (guest, mut machine) = match opened {
         Ok(opened) => opened,
         Err(fault) => {
-            eprintln!("device: fault {}", fault.0);
+            eprintln!("device: fault {fault}");
+            if let (text, Err(_)) = pciguest::check(&board) {
+                eprint!("{}", String::from_utf8_lossy(&text));
+            }
             return ExitCode::FAILURE;
         }
     };

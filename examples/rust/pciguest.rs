@@ -3,6 +3,7 @@
 //! What each call does stands in the header. A fault is the number that the call answers.
 
 use std::ffi::c_void;
+use std::fmt;
 use std::ptr::null_mut;
 
 /// The struct of the header. All bytes 0 are no machine.
@@ -54,11 +55,50 @@ extern "C" {
         room: usize,
         written: *mut usize,
     ) -> u32;
+    fn pciguest_raw_check(board: *const u8, length: usize, text: *mut u8, room: usize, needed: *mut usize) -> u32;
+    fn pciguest_raw_words(number: u32, text: *mut u8, room: usize, needed: *mut usize) -> u32;
 }
+
+/// The number of a text that needs more room.
+const ARGUMENT: u32 = 902;
 
 /// The number of a refusal.
 #[derive(Clone, Copy, Debug, PartialEq, Eq)]
 pub struct Fault(pub u32);
+
+impl Fault {
+    /// The words of the number, as the program has them.
+    pub fn words(self) -> String {
+        let mut words = [0; 20];
+        let mut needed = 0;
+        // 20 bytes are room enough for each number
+        unsafe { pciguest_raw_words(self.0, words.as_mut_ptr(), words.len(), &mut needed) };
+        String::from_utf8_lossy(&words[..needed]).into_owned()
+    }
+}
+
+impl fmt::Display for Fault {
+    fn fmt(&self, f: &mut fmt::Formatter<'_>) -> fmt::Result {
+        write!(f, "{} {}", self.0, self.words())
+    }
+}
+
+impl std::error::Error for Fault {}
+
+/// What a check says of a board file, which is called `board.toml` there, and what the file or its board is refused by.
+/// Nothing is said where memory is out.
+pub fn check(board: &[u8]) -> (Vec<u8>, Result<(), Fault>) {
+    let mut text = vec![0; 4096];
+    loop {
+        let mut needed = 0;
+        let (at, room) = (text.as_mut_ptr(), text.len());
+        let number = unsafe { pciguest_raw_check(board.as_ptr(), board.len(), at, room, &mut needed) };
+        text.resize(needed, 0);
+        if number != ARGUMENT {
+            return (text, answered(number));
+        }
+    }
+}
 
 fn answered(number: u32) -> Result<(), Fault> {
     match number {
