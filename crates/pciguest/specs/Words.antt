@@ -1,5 +1,5 @@
 -- The program's command line, as a definition that `clap` reads.
---     app_of_two, app_without_run, pciguest_app      the subcommands that the program knows: two, three, all
+--     demo_and_list_app, demo_list_and_check_app, pciguest_app      a command line with these subcommands; with all of them
 --     is_taken words      the command line takes these words, the program's name among them
 --     subcommand, board words      the subcommand that they name, and the path of its board file
 use Rattle.std.specs.Prelude.{ℕ, Bool, true, List, [], ◌∷◌, Option, codes, option_map, option_and_then, find, slice_get}
@@ -22,19 +22,19 @@ abbrev pub run_shape : Shape
 run_shape = record (new_shape (codes "run")) { rules = board_rule ∷ [] }
 
 -- `pciguest demo` and `pciguest list BOARD`, with no help subcommand and no version
-abbrev pub app_of_two : App
-app_of_two =
+abbrev pub demo_and_list_app : App
+demo_and_list_app =
     with_subcommand (with_subcommand
     (on_top (λ s. record s { disable_help_subcommand = true; subcommand_required = true }) (new_app (codes "pciguest")))
     (new_shape (codes "demo"))) list_shape
 
 -- and `pciguest check BOARD`
-abbrev pub app_without_run : App
-app_without_run = with_subcommand app_of_two check_shape
+abbrev pub demo_list_and_check_app : App
+demo_list_and_check_app = with_subcommand demo_and_list_app check_shape
 
 -- and `pciguest run BOARD`
 abbrev pub pciguest_app : App
-pciguest_app = with_subcommand app_without_run run_shape
+pciguest_app = with_subcommand demo_list_and_check_app run_shape
 
 abbrev pub is_taken : List (List ℕ) → Bool
 is_taken words = takes pciguest_app words

@@ -5,7 +5,7 @@ ghost use Rattle.clap.specs.Simple.{app_of, shape_of, new_shape};
 ghost use Rattle.clap.specs.Faults.{fault_of};
 ghost use Rattle.clap.specs.Values.{kind_of};
 ghost use Rattle.clap.specs.Walk.{rule_of};
-ghost use Rattle.pciguest.specs.Words.{board_rule, list_shape, check_shape, run_shape, app_of_two, app_without_run, pciguest_app, is_taken};
+ghost use Rattle.pciguest.specs.Words.{board_rule, list_shape, check_shape, run_shape, demo_and_list_app, demo_list_and_check_app, pciguest_app, is_taken};
 ghost use Rattle.pciguest.specs.Choices.{IsAsked, IsWork, IsHelp};
 
 use clap::error::ErrorKind;
@@ -61,7 +61,7 @@ fn check<'a>(alloc: Global) -> Result<Command<'a>, AllocError>
 
 /// The program's command line but for `check` and `run`.
 fn demo_and_list<'a>(alloc: Global) -> Result<Command<'a>, AllocError>
-    ensures { IfOk result (λ c. app_of c ≡ app_of_two) }
+    ensures { IfOk result (λ c. app_of c ≡ demo_and_list_app) }
 {
     let demo = demo(alloc);
     let list = list(alloc)?;
@@ -74,7 +74,7 @@ fn demo_and_list<'a>(alloc: Global) -> Result<Command<'a>, AllocError>
 
 /// The program's command line but for `run`.
 fn without_run<'a>(alloc: Global) -> Result<Command<'a>, AllocError>
-    ensures { IfOk result (λ c. app_of c ≡ app_without_run) }
+    ensures { IfOk result (λ c. app_of c ≡ demo_list_and_check_app) }
 {
     let check = check(alloc)?;
     demo_and_list(alloc)?.subcommand(check)
