@@ -1,5 +1,7 @@
 -- Which tables of a board file keep the rules of keys.
 --     table_at ms entry      the table of an entry
+--     value_at ms entry key      the value at a key of an entry; a slot is its value itself
+--     owner_of entry, owner_key entry      the function or guest that an entry belongs to, and the key of its path or name
 --     level_of entry      the kind of table that it has to be
 --     key_keeps ms entry rule key      at this key the table keeps the rule, or isn't there
 use Rattle.std.specs.Prelude.{ℕ, codes, Bool, true, false, not, ◌&&◌, ◌||◌, List, [], ◌∷◌, Option, Some, None, is_some, option_and_then}
@@ -28,6 +30,23 @@ table_at ms (entry.Config i j) = option_and_then (table_in (codes "config") j) (
 table_at ms (entry.Bridge i) = table_in (codes "bridge") i ms
 table_at ms (entry.Guest i) = table_in (codes "guest") i ms
 table_at ms (entry.Slot i j) = None
+
+abbrev pub value_at : Members → Entry → List ℕ → Option Data
+value_at ms (entry.Slot i j) k = option_and_then (at j) (option_and_then (get_member (codes "slots")) (table_at ms (entry.Guest i)))
+value_at ms e k = option_and_then (get_member k) (table_at ms e)
+
+abbrev pub owner_of : Entry → Entry
+owner_of (entry.Bar i j) = entry.Endpoint i
+owner_of (entry.Config i j) = entry.Endpoint i
+owner_of (entry.Slot i j) = entry.Guest i
+owner_of e = e
+
+abbrev pub owner_key : Entry → Option (List ℕ)
+owner_key entry.File = None
+owner_key entry.Host = None
+owner_key (entry.Guest i) = Some (codes "name")
+owner_key (entry.Slot i j) = Some (codes "name")
+owner_key e = Some (codes "at")
 
 abbrev pub level_of : Entry → Option Level
 level_of entry.File = Some level.Top

@@ -16,7 +16,7 @@ pub record IsRefusal (name bytes : List ℕ) (fault : BoardFault) (text : List �
   pub parsed : parse_document bytes ≡ Some document
   pub told : List Told
   pub are_told : Each (IsTold bytes document fault) told
-  pub is_text : text ≡ lines_text name fault told
+  pub is_text : text ≡ lines_text name document fault told
 
 -- the line of some place in the text
 abbrev pub IsLineIn : List ℕ → ℕ → Type 0

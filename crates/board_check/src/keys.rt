@@ -1,8 +1,8 @@
 //! Whether a table keeps the rules of keys.
 ghost use Rattle.std.specs.Prelude.{◌≡◌, codes, option_map, option_and_then};
-ghost use Rattle.toml.specs.Data.{get_member, at, as_table};
+ghost use Rattle.toml.specs.Data.{get_member, at, as_table, as_str};
 ghost use Rattle.toml.specs.View.{view, table_view};
-ghost use Rattle.board_check.specs.Keys.{table_in, table_at, level_of, is_needed, form_holds, table_keeps, key_keeps};
+ghost use Rattle.board_check.specs.Keys.{table_in, table_at, value_at, owner_of, owner_key, level_of, is_needed, form_holds, table_keeps, key_keeps};
 
 use crate::entry::Entry;
 use crate::rule::Rule;
@@ -78,6 +78,61 @@ pub(crate) fn table_at(table: &Table, entry: Entry) -> Option<&Table>
         Entry::Guest(i) => table_in(table, "guest", i),
         Entry::Slot(_, _) => None,
     }
+}
+
+/// The value at a key of a table that may be there.
+fn member_of<'v>(table: Option<&'v Table>, key: &str) -> Option<&'v Value>
+    ensures { option_map (λ v. view v.now) result ≡ option_and_then (get_member key.now) (option_map (λ t. table_view t.now) table.entry) }
+{
+    match table {
+        Some(table) => member(table, key),
+        None => None,
+    }
+}
+
+/// The value at a key of an entry. A slot is its value itself.
+pub(crate) fn value_at<'v>(document: &'v Table, entry: Entry, key: &str) -> Option<&'v Value>
+    ensures { option_map (λ v. view v.now) result ≡ value_at (table_view document.now) entry key.now }
+{
+    match entry {
+        Entry::Slot(i, j) => match member_of(table_at(document, Entry::Guest(i)), "slots") {
+            Some(slots) => slots.get(j),
+            None => None,
+        },
+        _ => member_of(table_at(document, entry), key),
+    }
+}
+
+/// The function or guest that an entry belongs to.
+fn owner_of(entry: Entry) -> Entry
+    ensures { result ≡ owner_of entry }
+{
+    match entry {
+        Entry::Bar(i, _) | Entry::Config(i, _) => Entry::Endpoint(i),
+        Entry::Slot(i, _) => Entry::Guest(i),
+        _ => entry,
+    }
+}
+
+/// The key of the path or name of what an entry belongs to.
+fn owner_key(entry: Entry) -> Option<&'static str>
+    ensures { option_map (λ k. k.now) result ≡ owner_key entry }
+{
+    match entry {
+        Entry::File | Entry::Host => None,
+        Entry::Guest(_) | Entry::Slot(_, _) => Some("name"),
+        _ => Some("at"),
+    }
+}
+
+/// The path of the function, or the name of the guest, that an entry belongs to, as it was read.
+pub(crate) fn owner_name(document: &Table, entry: Entry) -> Option<&str>
+    ensures { option_map (λ s. s.now) result
+        ≡ option_and_then as_str (option_and_then (value_at (table_view document.now) (owner_of entry)) (owner_key entry)) }
+{
+    let key = owner_key(entry)?;
+    let value = value_at(document, owner_of(entry), key)?;
+    value.as_str()
 }
 
 /// The kind of table that an entry has to be.

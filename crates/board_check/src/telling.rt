@@ -56,7 +56,7 @@ fn refusal(
     let places = Places::new(alloc, bytes, document)?;
     let told = with_lines(alloc, &places, fault, &problems)?;
     let mut text = String::new(alloc);
-    push_lines(&mut text, name, fault, &told)?;
+    push_lines(&mut text, name, document, fault, &told)?;
     Ok(text)
 }
 

@@ -1,13 +1,17 @@
 //! What is said of problems.
-ghost use Rattle.std.specs.Prelude.{◌≡◌, ◌<◌, ◌++◌, ◌∷◌, [], OnOk, map, string_bytes};
+ghost use Rattle.std.specs.Prelude.{◌≡◌, ◌<◌, ◌++◌, ◌∷◌, [], OnOk, map, option_map, string_bytes};
 ghost use Rattle.std.specs.List.{flat_map};
+ghost use Rattle.toml.specs.View.{view, table_view};
 ghost use Rattle.board_check.specs.Rules.{fault_words};
-ghost use Rattle.board_check.specs.Texts.{nth_text, inner_text, entry_text, shown_byte, key_text, line_text, fault_text, problem_text, bare_text, count_text, lines_text};
+ghost use Rattle.board_check.specs.Texts.{nth_text, inner_text, entry_text, shown_byte, key_text, line_text, fault_text, quoted_text, data_text, scalar_text, name_text, place_text, problem_text, bare_text, count_text, lines_text};
 
 use crate::entry::Entry;
+use crate::keys::{owner_name, value_at};
 use crate::lines::Told;
 use board_file::BoardFault;
 use std::alloc::AllocError;
+use toml::Table;
+use toml::value::Value;
 
 /// What is said of a fault.
 pub fn fault_words(fault: BoardFault) -> &'static str
@@ -126,26 +130,96 @@ fn push_fault(text: &mut String, fault: BoardFault) -> Result<(), AllocError>
     writeln!(text, " ({number} {words})")
 }
 
+/// Appends a text as it is shown, in quotation marks.
+fn push_quoted(text: &mut String, quoted: &str) -> Result<(), AllocError>
+    ensures { OnOk result (string_bytes text.new ≡ string_bytes text.old ++ quoted_text quoted.now) }
+{
+    text.push('"')?;
+    push_shown(text, quoted.as_bytes())?;
+    text.push('"')
+}
+
+/// Appends an integer or a text, as it was read. Of other values nothing is shown.
+fn push_data(text: &mut String, value: &Value) -> Result<(), AllocError>
+    ensures { OnOk result (string_bytes text.new ≡ string_bytes text.old ++ data_text (view value.now)) }
+{
+    match value {
+        Value::Integer(number) => write!(text, " = {number}"),
+        Value::String(quoted) => {
+            text.push_str(" = ")?;
+            push_quoted(text, quoted.as_str())
+        }
+        _ => Ok(()),
+    }
+}
+
+/// Appends a value, where there is one.
+fn push_scalar(text: &mut String, value: Option<&Value>) -> Result<(), AllocError>
+    ensures { OnOk result (string_bytes text.new ≡ string_bytes text.old ++ scalar_text (option_map (λ v. view v.now) value.entry)) }
+{
+    match value {
+        Some(value) => push_data(text, value),
+        None => Ok(()),
+    }
+}
+
+/// Appends the path or name of what an entry belongs to, where there is one.
+fn push_name(text: &mut String, name: Option<&str>) -> Result<(), AllocError>
+    ensures { OnOk result (string_bytes text.new ≡ string_bytes text.old ++ name_text (option_map (λ s. s.now) name.entry)) }
+{
+    match name {
+        Some(name) => {
+            text.push_str(" of ")?;
+            push_quoted(text, name)
+        }
+        None => Ok(()),
+    }
+}
+
+/// Appends where a problem is: the entry with its key and value, and what it belongs to.
+fn push_place(
+    text: &mut String,
+    document: &Table,
+    entry: Entry,
+    key: &str,
+) -> Result<(), AllocError>
+    ensures { OnOk result (string_bytes text.new ≡ string_bytes text.old ++ place_text (table_view document.now) entry key.now) }
+{
+    push_entry(text, entry)?;
+    push_key(text, key)?;
+    push_scalar(text, value_at(document, entry, key))?;
+    push_name(text, owner_name(document, entry))
+}
+
 /// Appends the line of a problem.
-fn push_problem(text: &mut String, name: &str, told: &Told<'_>) -> Result<(), AllocError>
-    ensures { OnOk result (string_bytes text.new ≡ string_bytes text.old ++ problem_text name.now told.now) }
+fn push_problem(
+    text: &mut String,
+    name: &str,
+    document: &Table,
+    told: &Told<'_>,
+) -> Result<(), AllocError>
+    ensures { OnOk result (string_bytes text.new ≡ string_bytes text.old ++ problem_text name.now (table_view document.now) told.now) }
 {
     text.push_str(name)?;
     push_line(text, told.line)?;
     text.push_str(": ")?;
-    push_entry(text, told.problem.entry)?;
-    push_key(text, told.problem.key)?;
+    push_place(text, document, told.problem.entry, told.problem.key)?;
     text.push_str(": ")?;
     text.push_str(told.problem.rule.words())?;
     push_fault(text, told.problem.rule.fault())
 }
 
 /// Appends the lines of problems.
-fn push_problems(text: &mut String, name: &str, told: &[Told<'_>]) -> Result<(), AllocError>
-    ensures { OnOk result (string_bytes text.new ≡ string_bytes text.old ++ flat_map (problem_text name.now) told.now) }
+fn push_problems(
+    text: &mut String,
+    name: &str,
+    document: &Table,
+    told: &[Told<'_>],
+) -> Result<(), AllocError>
+    ensures { OnOk result (string_bytes text.new ≡ string_bytes text.old ++ flat_map (problem_text name.now (table_view document.now)) told.now) }
 {
     for one in told {
-        push_problem(text, name, one)?;
+        push_problem(text, name, document, one)?;
     }
     Ok(())
 }
@@ -169,21 +243,23 @@ pub(crate) fn push_bare(
 fn push_count(text: &mut String, count: usize) -> Result<(), AllocError>
     ensures { OnOk result (string_bytes text.new ≡ string_bytes text.old ++ count_text count) }
 {
-    writeln!(text, "{count} problems")
+    let noun = if count == 1 { "problem" } else { "problems" };
+    writeln!(text, "{count} {noun}")
 }
 
 /// Appends the lines of a fault.
 pub(crate) fn push_lines(
     text: &mut String,
     name: &str,
+    document: &Table,
     fault: BoardFault,
     told: &[Told<'_>],
 ) -> Result<(), AllocError>
-    ensures { OnOk result (string_bytes text.new ≡ string_bytes text.old ++ lines_text name.now fault told.now) }
+    ensures { OnOk result (string_bytes text.new ≡ string_bytes text.old ++ lines_text name.now (table_view document.now) fault told.now) }
 {
     if told.is_empty() {
         return push_bare(text, name, None, fault);
     }
-    push_problems(text, name, told)?;
+    push_problems(text, name, document, told)?;
     push_count(text, told.len())
 }

@@ -79,7 +79,7 @@ module _ (b c : Board) (a : Apertures) (pool : Pool) (same : (bus : Path) → it
 -- ---- the rows of the layout
 
 module _ (b : Board) (a : Apertures) where
-  on_bus : (pool : Pool) (bus : Path) → items_on (found_board b) a pool bus ≡ items_on b a pool bus
+  pub on_bus : (pool : Pool) (bus : Path) → items_on (found_board b) a pool bus ≡ items_on b a pool bus
   on_bus pool bus = items_found b a pool 16 bus
 
   buses_found : buses (found_board b) ≡ buses b

@@ -1,7 +1,6 @@
 -- What the parts of a check say, put together.
 use Rattle.std.proofs.Common.{◌≡◌, ◌⊎◌, ◌<◌, ◌≤◌, Result, Ok, Err, Some, sym, ap, ◌∙◌, inl, inr, arith}
 use Rattle.std.specs.Prelude.{IfErr, Option, ℕ}
-use Rattle.model_registers.specs.DeclarationRules.{first_broken}
 use Rattle.bus_scan.specs.declared.fault.Fault.{Fault as SetUpFault}
 use Rattle.bus_scan.specs.declared.fault.Fault.TheVariants as set_up
 use Rattle.bus_scan.specs.Faults as bus_scan

@@ -1,4 +1,5 @@
 mod FaultNumbers
 mod Checked
+mod Fitted
 mod Listed
 pub mod Ran

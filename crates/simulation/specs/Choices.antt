@@ -14,7 +14,8 @@ use Rattle.streams.specs.Ends.{AppendsPart}
 use Rattle.simulation.specs.Demo.{demo_board}
 use Rattle.simulation.specs.Faults.{number_of, IsOfList, IsOfRun}
 use Rattle.simulation.specs.Listing.{Declares, Refuses, IsListed, IsListedInPart}
-use Rattle.simulation.specs.Checking.{fit_text, misfit_text, IsRefusalTold, IsCheckText}
+use Rattle.simulation.specs.Fitting.{fit_text, misfit_text}
+use Rattle.simulation.specs.Checking.{IsRefusalTold, IsCheckText}
 use Rattle.simulation.specs.Running.{IsRun, IsRunCut, IsRunStopped}
 use Rattle.simulation.specs.declared.choice.Choice.{Choice}
 use Rattle.simulation.specs.declared.choice.Choice.TheVariants.{Help, Demo, List, Check, Run}
@@ -38,13 +39,13 @@ pub record IsFit (board : Text) (old new : Option Text) : Type 0 where
   pub world : World
   pub declared : Declares board world
   pub set_up : first_broken (set_up_rules world.board world.apertures) ≡ None
-  pub said : Appends old new fit_text
+  pub said : Appends old new (fit_text world.board world.apertures)
 
 -- what is wrong with a file or its board was told
 pub record IsTold (name board : Text) (f : Fault) (old new : Option Text) : Type 0 where
   pub refused : number_of f < 199 → Refuses board (number_of f) × IsRefusalTold name board f old new
   pub misfit : 199 < number_of f → (w : World) × Declares board w
-      × (first_broken (set_up_rules w.board w.apertures) ≡ Some (number_of f)) × Appends old new (misfit_text name f)
+      × (first_broken (set_up_rules w.board w.apertures) ≡ Some (number_of f)) × Appends old new (misfit_text name w.board w.apertures f)
 
 -- so was a beginning of it, or of what is said where nothing is wrong
 pub record IsToldInPart (name board : Text) (old new : Option Text) : Type 0 where

@@ -10,17 +10,18 @@ ghost use Rattle.streams.specs.Ends.{AppendsPart};
 ghost use Rattle.board_file.specs.Meaning.{document_meaning};
 ghost use Rattle.board_file.specs.Faults as of_file;
 ghost use Rattle.board_file.specs.declared.fault.BoardFault.TheVariants.{NotToml, Memory};
-ghost use Rattle.simulation.specs.Faults.{number_of, of_set_up, write_faults, IsOfList};
+ghost use Rattle.simulation.specs.Faults.{number_of, write_faults, IsOfList};
 ghost use Rattle.simulation.specs.Listing.{Declares, Refuses};
-ghost use Rattle.simulation.specs.Checking.{fit_text, fault_text, misfit_text, IsRefusalOf, IsRefusalTold, IsCheckText};
+ghost use Rattle.simulation.specs.Fitting.{fit_text, misfit_text};
+ghost use Rattle.simulation.specs.Checking.{IsRefusalOf, IsRefusalTold, IsCheckText};
 
 use crate::choice::print;
 use crate::fault::Fault;
+use crate::fitting::judge;
 use board_check::refusal_text;
 use board_file::{BoardFault, read_board};
-use std::alloc::{AllocError, Global};
+use std::alloc::Global;
 use streams::Writer;
-use window_packing::set_up;
 
 /// Writes what is wrong with a file that is refused, and answers the fault.
 fn refuse<W: Writer>(
@@ -53,63 +54,9 @@ fn refuse<W: Writer>(
     Err(Fault::from(fault))
 }
 
-/// Appends the number and the words of a fault, and ends the line.
-fn push_fault(text: &mut String, fault: Fault) -> Result<(), AllocError>
-    ensures { OnOk result (string_bytes text.new ≡ string_bytes text.old ++ fault_text fault) }
-{
-    let number = fault.number();
-    let words = fault.words();
-    writeln!(text, " ({number} {words})")
-}
-
-/// Appends what is said of a board that can't be set up.
-fn push_misfit(text: &mut String, name: &str, fault: Fault) -> Result<(), AllocError>
-    ensures { OnOk result (string_bytes text.new ≡ string_bytes text.old ++ misfit_text name.now fault) }
-{
-    text.push_str(name)?;
-    text.push_str(": cannot be set up")?;
-    push_fault(text, fault)
-}
-
-/// What is said of a board that can't be set up.
-fn misfit(alloc: Global, name: &str, fault: Fault) -> Result<String, AllocError>
-    ensures { IfOk result (λ t. string_bytes t ≡ misfit_text name.now fault) }
-{
-    let mut text = String::new(alloc);
-    push_misfit(&mut text, name, fault)?;
-    Ok(text)
-}
-
-/// Writes what is wrong with a board that can't be set up, and answers the fault.
-fn decline<W: Writer>(
-    alloc: Global,
-    name: &str,
-    fault: bus_scan::Fault,
-    writer: &mut W,
-) -> Result<(), Fault>
-    requires { W.failures writer.old < 2 ^ 64 - 1 }
-    ensures never { OnOk result ⊥ }
-    ensures fault { IfErr result (λ f. (f ≡ of_set_up fault) ⊎ (f ≡ Fault.SetUpMemory) ⊎ (f ≡ Fault.Write)) }
-    ensures told { IfErr result (λ f. number_of f < 299 → Appends (W.written writer.old) (W.written writer.new) (misfit_text name.now f)) }
-    ensures flushed { IfErr result (λ f. number_of f < 299 → W.flushed writer.new ≡ W.written writer.new) }
-    ensures memory { IfErr result (λ f. number_of f ≡ 299 → writer.new ≡ writer.old) }
-    ensures stopped { IsErrOf result Fault.Write → AppendsPart (W.written writer.old) (W.written writer.new) (misfit_text name.now (of_set_up fault)) }
-    ensures failures { W.failures writer.new ≡ W.failures writer.old + write_faults result }
-{
-    if fault == bus_scan::Fault::Memory {
-        return Err(Fault::SetUpMemory);
-    }
-    let fault = Fault::from(fault);
-    let Ok(text) = misfit(alloc, name, fault) else {
-        return Err(Fault::SetUpMemory);
-    };
-    print(text.as_str(), writer)?;
-    Err(fault)
-}
-
 /// Writes what is wrong with a board file, a line for each entry that breaks the first check that the
-/// file fails, and flushes once; or `ok`, where its board can be set up. `name` is what the file is
-/// called.
+/// file fails, and flushes once; or `ok`, where its board can be set up, with how much of each aperture
+/// it takes. `name` is what the file is called.
 ///
 /// The answer is that of `list`, but for faults of the report itself.
 pub fn check<W: Writer>(
@@ -122,7 +69,7 @@ pub fn check<W: Writer>(
 
     // The file declares a board that can be set up, and this was said.
     ensures fits { OnOk result ((w : World) × Declares board.now w × (first_broken (set_up_rules w.board w.apertures) ≡ None)
-        × Appends (W.written writer.old) (W.written writer.new) fit_text) }
+        × Appends (W.written writer.old) (W.written writer.new) (fit_text w.board w.apertures)) }
     ensures flushed { OnOk result (W.flushed writer.new ≡ W.written writer.new) }
 
     // The file is refused: what breaks this check was told.
@@ -130,10 +77,9 @@ pub fn check<W: Writer>(
     ensures told { IfErr result (λ f. number_of f < 199 → IsRefusalTold name.now board.now f (W.written writer.old) (W.written writer.new)) }
 
     // The board can't be set up, and this was told.
-    ensures placement { IfErr result (λ f. 199 < number_of f → number_of f < 299 →
-        (w : World) × Declares board.now w × (first_broken (set_up_rules w.board w.apertures) ≡ Some (number_of f))) }
     ensures misfit { IfErr result (λ f. 199 < number_of f → number_of f < 299 →
-        Appends (W.written writer.old) (W.written writer.new) (misfit_text name.now f)) }
+        (w : World) × Declares board.now w × (first_broken (set_up_rules w.board w.apertures) ≡ Some (number_of f))
+        × Appends (W.written writer.old) (W.written writer.new) (misfit_text name.now w.board w.apertures f)) }
 
     ensures told_flushed { IfErr result (λ f. number_of f < 299 → number_of f ≢ 199 → W.flushed writer.new ≡ W.written writer.new) }
     ensures stopped { IsErrOf result Fault.Write → (text : Text) × IsCheckText name.now board.now text
@@ -145,10 +91,7 @@ pub fn check<W: Writer>(
     ensures failures { W.failures writer.new ≡ W.failures writer.old + write_faults result }
 {
     match read_board(alloc, board) {
-        Ok((host, _)) => match set_up(alloc, host) {
-            Ok(_) => print("ok\n", writer),
-            Err(fault) => decline(alloc, name, fault, writer),
-        },
+        Ok((host, _)) => judge(alloc, name, host, writer),
         Err(fault) => refuse(alloc, name, board, fault, writer),
     }
 }

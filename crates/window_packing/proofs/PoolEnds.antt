@@ -1,4 +1,4 @@
--- Where a pool fits, none of its buses ends above 2 ^ 63.
+-- Where a pool fits, none of its buses ends above 2 ^ 63; where one does, bus 0 does.
 use Rattle.std.proofs.Common.{◌≡◌, ◌+◌, ◌<◌, ◌≤◌, ◌^◌, ◌⊎◌, inl, inr, Bool, true, false, List, [], ◌∷◌, Option, Some, None, refl, arith}
 use Rattle.std.specs.Prelude.{IsFalse}
 use Rattle.std.proofs.lemmas.Bool.{leb-true}
@@ -52,3 +52,14 @@ module _ (b : Board) (a : Apertures) (pool : Pool) (board : IsBoard b) (lawful :
       by_test : (t : Bool) → fits b a pool ≡ t → IsFalse t
       by_test true e = absurd (omega (arith, h, all_end e bus))
       by_test false e = refl
+
+  -- bus 0 ends where the buses behind its bridges do, or above
+  pub root_past : (bus : Path) → 2 ^ 63 < end_from 0 (in_order (items_on b a pool bus)) → 2 ^ 63 < end_from 0 (in_order (items_on b a pool []))
+  root_past bus h = by_items (items_on b a pool bus) below h
+    where
+      below : HasItems b a pool bus → end_from 0 (in_order (items_on b a pool bus)) ≤ end_from 0 (in_order (items_on b a pool []))
+      below has = let inside : IsWithin b a pool board lawful [] bus = nested b a pool board lawful bus has [] (from_root bus) in omega (arith, inside.begins, inside.ends)
+
+      by_items : (is : List Item) → ((i : Item) × IsIn i is → end_from 0 (in_order is) ≤ end_from 0 (in_order (items_on b a pool []))) → 2 ^ 63 < end_from 0 (in_order is) → 2 ^ 63 < end_from 0 (in_order (items_on b a pool []))
+      by_items [] f k = absurd (omega (arith, k))
+      by_items (i ∷ is) f k = omega (arith, f (i, inl refl), k)

@@ -1,5 +1,5 @@
 -- A plan that was made for what a table tells is the plan of every board with that table.
-use Rattle.std.proofs.Common.{◌≡◌, List, None, inl, inr, map, sym, ap, ◌∙◌, subst}
+use Rattle.std.proofs.Common.{◌≡◌, List, [], None, inl, inr, map, sym, ap, ◌∙◌, subst}
 use Rattle.model_registers.specs.DeclarationRules.{first_broken}
 use Rattle.model_registers.specs.Apertures.{IsLawfulApertures}
 use Rattle.model_board.specs.Paths.{Path}
@@ -10,12 +10,16 @@ use Rattle.model_board.specs.Layout.{IsLawful}
 use Rattle.model_board.specs.SetUpWrites.{Plan, Setting, planned, placement_rules, settings}
 use Rattle.model_board.specs.FunctionTable.{TableRow, board_in}
 use Rattle.model_board.specs.UniqueClaimant.{CanBePlaced}
-use Rattle.model_board.proofs.FoundPlacement.{placed_as_found}
+use Rattle.model_board.specs.Pools.{Pool}
+use Rattle.model_board.specs.Placement.{items_on}
+use Rattle.model_board.proofs.FoundBoards.{board_in_table}
+use Rattle.model_board.proofs.FoundPlacement.{on_bus, placed_as_found}
 use Rattle.bus_scan.specs.declared.fault.Fault.{Fault}
 use Rattle.bus_scan.specs.SizedTables.{IsTableOf}
 use Rattle.window_packing.specs.LayoutRows.{rows_of, AreListable}
 use Rattle.window_packing.specs.Placed.{Placement, IsPlacement}
 use Rattle.window_packing.specs.Plans.{IsRefusal}
+use Rattle.window_packing.specs.Uses.{told_by, told_use}
 use Rattle.window_packing.proofs.LayoutRows.{layout_rows, are_listable, table_paths}
 use Rattle.window_packing.proofs.SetUps.{placeable, rows_lawful}
 
@@ -39,6 +43,12 @@ module _ (t rows : List TableRow) (same : rows ≡ t) (b : Board) (h : IsTableOf
 
   rules_same : placement_rules (board_in rows) a ≡ placement_rules b a
   rules_same = ap (λ (x : List TableRow). placement_rules (board_in x) a) (same ∙ h.sized) ∙ (placed_as_found b h.board h.declarations).rules a
+
+  items_same : (pool : Pool) (bus : Path) → items_on (board_in rows) a pool bus ≡ items_on b a pool bus
+  items_same pool bus = ap (λ (x : List TableRow). items_on (board_in x) a pool bus) (same ∙ h.sized) ∙ ap (λ (x : Board). items_on x a pool bus) (board_in_table b) ∙ on_bus b a pool bus
+
+  pub use_of : (pool : Pool) → told_use (board_in rows) a pool ≡ told_use b a pool
+  use_of pool = ap (told_by a pool) (items_same pool [])
 
   pub refusal_of : (f : Fault) → IsRefusal (board_in rows) a f → IsRefusal b a f
   refusal_of f (inl e) = inl e

@@ -6,3 +6,4 @@ pub mod Packs
 pub mod Searching
 pub mod Placed
 pub mod LayoutRows
+pub mod Uses

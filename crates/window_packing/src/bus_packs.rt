@@ -1,5 +1,5 @@
 //! All buses of a board: what stands on a bus is known once those behind its bridges are packed.
-ghost use Rattle.std.specs.Prelude.{◌≡◌, ◌+◌, [], All, IfOk, IfSome, IsFalse, MatchOption, length};
+ghost use Rattle.std.specs.Prelude.{◌≡◌, ◌+◌, ◌<◌, ◌^◌, [], All, IfOk, IfSome, IsNone, IsFalse, MatchOption, length};
 ghost use Rattle.model_registers.specs.Apertures.{IsLawfulApertures};
 ghost use Rattle.model_registers.specs.Lists.{Each};
 ghost use Rattle.model_board.specs.Board.{IsBoard};
@@ -8,7 +8,7 @@ ghost use Rattle.model_board.specs.FunctionTable.{board_in};
 ghost use Rattle.model_board.specs.Placement.{fits};
 ghost use Rattle.window_packing.specs.Plans.{named_pool};
 ghost use Rattle.window_packing.specs.Buses.{AreAbove};
-ghost use Rattle.window_packing.specs.Packs.{packs_of, IsBounded};
+ghost use Rattle.window_packing.specs.Packs.{pack_of, packs_of, IsBounded};
 
 use crate::above::Above;
 use crate::bus_items::push_own;
@@ -49,6 +49,7 @@ pub(crate) fn pack_pool(
     requires above { AreAbove (board_in rows.now) above.now }
     requires apertures { IsLawfulApertures apertures.now }
     ensures packed { IfOk result (λ r. MatchOption r (IsFalse (fits (board_in rows.now) apertures.now (named_pool pool))) (λ packs. packs.items ≡ packs_of (board_in rows.now) apertures.now (named_pool pool))) }
+    ensures large { IfOk result (λ r. IsNone r → 2 ^ 63 < (pack_of (board_in rows.now) apertures.now (named_pool pool) []).end) }
     ensures bounded { IfOk result (λ r. IfSome r (λ packs. Each IsBounded packs.items)) }
 {
     let unit = pool.unit();

@@ -33,6 +33,7 @@ mod rows;
 mod search;
 mod setting;
 mod settings;
+mod uses;
 
 pub use board_plan::Plan;
 pub use layout_row::{Placed, PlanRow};
@@ -40,5 +41,6 @@ pub use model_board::flat_need;
 pub use planning::plan;
 pub use pool::Pool;
 pub use programming::program;
-pub use ready::{Ready, set_up};
+pub use ready::{Ready, enumerate, set_up};
 pub use setting::{Setting, Window, Writes};
+pub use uses::{PoolUse, pool_use};

@@ -87,7 +87,7 @@ fn aperture_of(apertures: &Apertures, pool: Pool) -> Option<Aperture>
 }
 
 /// Where bus 0 begins: at the least multiple of its alignment that is not before the aperture.
-fn root_first(apertures: &Apertures, pool: Pool, root: &BusPack) -> u64
+pub(crate) fn root_first(apertures: &Apertures, pool: Pool, root: &BusPack) -> u64
     requires some { 0 < root.now.align }
     requires align { root.now.align ≤ 2 ^ 40 }
     ensures { result ≡ option_map_or (λ (ap : ApertureValue). round_up root.now.align ap.first) (aperture_of apertures.now (named_pool pool)) 0 }
@@ -99,7 +99,7 @@ fn root_first(apertures: &Apertures, pool: Pool, root: &BusPack) -> u64
 }
 
 /// The address after the aperture.
-fn aperture_end(apertures: &Apertures, pool: Pool) -> u64
+pub(crate) fn aperture_end(apertures: &Apertures, pool: Pool) -> u64
     ensures value { result ≡ aperture_end apertures.now (named_pool pool) }
     ensures lawful { IsLawfulApertures apertures.now }
 {

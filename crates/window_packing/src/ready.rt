@@ -5,7 +5,7 @@ ghost use Rattle.model_board.specs.AtReset.{IsAtReset};
 ghost use Rattle.model_board.specs.SetUp.{set_up_state};
 ghost use Rattle.model_board.specs.SetUpWrites.{set_up_rules};
 ghost use Rattle.bus_scan.specs.Faults.{number_of};
-ghost use Rattle.bus_scan.specs.declared.fault.Fault.TheVariants.{Memory};
+ghost use Rattle.bus_scan.specs.declared.fault.Fault.TheVariants.{Buses, Memory};
 
 use crate::board_plan::Plan;
 use crate::planning::plan;
@@ -67,10 +67,12 @@ impl Ready {
 
 ghost use Rattle.window_packing.specs.Readies.{board_below, IsEnumerated, OwnClaims};
 
-/// Finds the functions of a board at reset with their regions and windows, and numbers its buses.
-fn enumerate(alloc: Global, host: &mut Host) -> Result<FunctionTable, Fault>
+/// Finds the functions of a board at reset with their regions and windows, and numbers its buses. A
+/// refusal is out of memory, or 201 where it has more than 255 bridges.
+pub fn enumerate(alloc: Global, host: &mut Host) -> Result<FunctionTable, Fault>
     requires { IsAtReset host.old.state }
     ensures found { IfOk result (λ t. IsEnumerated host.old host.new t) }
+    ensures fault { IfErr result (λ f. (f ≡ Memory) ⊎ (f ≡ Buses)) }
     ensures refused { IfErr result (λ f. (f ≡ Memory) ⊎
         (first_broken (set_up_rules (board_below host.old) host.old.apertures) ≡ Some (number_of f))) }
 {

@@ -1,5 +1,4 @@
-use Rattle.std.proofs.Common.{refl, string_bytes, subst, sym}
-use Rattle.streams.specs.Ends.{AppendsPart}
+use Rattle.std.proofs.Common.{refl, subst, sym}
 use Rattle.simulation.specs.Faults.{of_file}
 use Rattle.simulation.specs.Checking.{IsCheckText, of_refusal}
 use Rattle.simulation.proofs.Listed.{refused_by_file}

@@ -1,4 +1,3 @@
-use Rattle.simulation.specs.Choices.{IsDoneInPart}
 use Rattle.simulation.proofs.choice.perform.Goals as goal
 
 pub returns-in_ok-board-in-Check-clause-stopped : goal.returns-in_ok-board-in-Check-clause-stopped

@@ -9,7 +9,7 @@ use Rattle.model_board.specs.Placement.{Item}
 use Rattle.window_packing.specs.Plans.{named_pool}
 use Rattle.window_packing.specs.declared.above.Above.{Above}
 use Rattle.window_packing.specs.Packs.{BusPack, IsBounded, pack_items, pack_of, own_items}
-use Rattle.window_packing.proofs.PoolEnds.{no_fit}
+use Rattle.window_packing.proofs.PoolEnds.{no_fit, root_past}
 use Rattle.window_packing.proofs.BusItems.{packable, pack_is, end_is, own_is}
 use Rattle.window_packing.proofs.Gathering.{none_gathered, IsGathered}
 use Rattle.window_packing.proofs.PoolSteps.{length-mapped, got, above_count, above_row, behind_is, bus_left, row_done, root_is, all_packed, all_bounded}
@@ -44,6 +44,17 @@ returns-in_default-clause-packed c =
     let all = behind_is b a pool c.requires.board (λ v. v.items) c.rows.i r.0 c.rows.items.items c.pop.new.self.items c.pop.result c.unwrap-behind.result c.rows.packs.items c.rows-test.true r.1 c.rows.invariant c.pop.ensures.items c.unwrap-behind.ensures in
     let end = rw c.in_default.is at c.in_ok-pack.ensures.packed in
     no_fit b a pool c.requires.board c.requires.declarations c.requires.apertures r.0.path (rw (end_is b a pool c.requires.declarations c.requires.board r.0.path c.unwrap-behind.result.items all) at end)
+
+pub returns-in_default-clause-large : goal.returns-in_default-clause-large
+returns-in_default-clause-large c =
+    let b = board_in c.args.rows.now in
+    let a = c.args.apertures.now in
+    let pool = named_pool c.args.pool in
+    let count : length b ≡ length c.args.rows.now = length-mapped (λ (r : TableRow). record { path = r.path; decl = r.decl }) c.args.rows.now in
+    let r = at_below b (c.rows.i - 1) (omega (arith, count)) in
+    let all = behind_is b a pool c.requires.board (λ v. v.items) c.rows.i r.0 c.rows.items.items c.pop.new.self.items c.pop.result c.unwrap-behind.result c.rows.packs.items c.rows-test.true r.1 c.rows.invariant c.pop.ensures.items c.unwrap-behind.ensures in
+    let end = rw c.in_default.is at c.in_ok-pack.ensures.packed in
+    λ none. root_past b a pool c.requires.board c.requires.declarations c.requires.apertures r.0.path (rw (end_is b a pool c.requires.declarations c.requires.board r.0.path c.unwrap-behind.result.items all) at end)
 
 pub index_mut-own-requires : goal.index_mut-own-requires
 index_mut-own-requires c =
@@ -103,6 +114,15 @@ returns-in_default-2-clause-packed c =
     let all = root_is b a pool c.requires.board (λ v. v.items) c.rows.i c.rows.items.items c.pop-2.new.self.items c.pop-2.result c.unwrap-root.result c.rows.packs.items c.rows-test.false c.rows.invariant c.pop-2.ensures.items c.unwrap-root.ensures in
     let end = rw c.in_default-2.is at c.in_ok-pack-2.ensures.packed in
     no_fit b a pool c.requires.board c.requires.declarations c.requires.apertures [] (rw (end_is b a pool c.requires.declarations c.requires.board [] c.unwrap-root.result.items all) at end)
+
+pub returns-in_default-2-clause-large : goal.returns-in_default-2-clause-large
+returns-in_default-2-clause-large c =
+    let b = board_in c.args.rows.now in
+    let a = c.args.apertures.now in
+    let pool = named_pool c.args.pool in
+    let all = root_is b a pool c.requires.board (λ v. v.items) c.rows.i c.rows.items.items c.pop-2.new.self.items c.pop-2.result c.unwrap-root.result c.rows.packs.items c.rows-test.false c.rows.invariant c.pop-2.ensures.items c.unwrap-root.ensures in
+    let end = rw c.in_default-2.is at c.in_ok-pack-2.ensures.packed in
+    λ none. root_past b a pool c.requires.board c.requires.declarations c.requires.apertures [] (rw (end_is b a pool c.requires.declarations c.requires.board [] c.unwrap-root.result.items all) at end)
 
 pub returns-clause-packed : goal.returns-clause-packed
 returns-clause-packed c =

@@ -1,0 +1,83 @@
+-- What is said of how a board fits its apertures.
+--     pool_text      how much of its aperture a pool takes
+--     fit_text      what is said of a board that can be set up
+--     misfit_text      what is said of one that can't
+--     IsFitText      one of both
+use Rattle.std.specs.Prelude.{◌≡◌, ℕ, ◌++◌, codes, decimal, Option, Some, None, option_map}
+use Rattle.std.specs.Option.{option_map_or}
+use Rattle.model_board.specs.Board.{Board}
+use Rattle.model_board.specs.Pools.{Apertures, aperture_of}
+use Rattle.model_guests.specs.Text.{Text}
+use Rattle.model_guests.specs.Report.{hexadecimal}
+use Rattle.window_packing.specs.declared.pool.Pool.{Pool}
+use Rattle.window_packing.specs.declared.pool.Pool.TheVariants.{Io, Mem, Pref}
+use Rattle.window_packing.specs.declared.uses.PoolUse.{PoolUse}
+use Rattle.window_packing.specs.Plans.{named_pool}
+use Rattle.window_packing.specs.Uses.{told_use}
+use Rattle.simulation.specs.declared.fault.Fault.{Fault}
+use Rattle.simulation.specs.declared.fault.Fault.TheVariants.{IoPool, MemoryPool, PrefetchablePool}
+use Rattle.simulation.specs.declared.misfit.Shortage.{Shortage}
+use Rattle.simulation.specs.Faults.{number_of, words_of}
+
+abbrev pub pool_words : Pool → Text
+pool_words Io = codes "I/O pool"
+pool_words Mem = codes "memory pool"
+pool_words Pref = codes "prefetchable pool"
+
+-- a number after some words
+abbrev pub number_text : Text → ℕ → Text
+number_text words n = words ++ hexadecimal n
+
+-- ---- a board that can be set up
+
+abbrev pub known_use_text : PoolUse → Text
+known_use_text u =
+    number_text (codes ": ") u.extent ++ (number_text (codes " of ") u.room ++ (number_text (codes " bytes used, from ") u.first ++ codes " on\n"))
+
+abbrev pub use_text : Option PoolUse → Text
+use_text None = codes ": more than 0x8000000000000000 bytes used\n"
+use_text (Some u) = known_use_text u
+
+abbrev pub pool_text : Board → Apertures → Pool → Text
+pool_text b a pool = pool_words pool
+    ++ option_map_or (λ _. use_text (told_use b a (named_pool pool))) (aperture_of a (named_pool pool)) (codes ": no aperture\n")
+
+abbrev pub fit_text : Board → Apertures → Text
+fit_text b a = codes "ok\n" ++ pool_text b a Io ++ pool_text b a Mem ++ pool_text b a Pref
+
+-- ---- a board that can't
+
+-- the pool that doesn't fit, where it is that
+abbrev pub pool_of : Fault → Option Pool
+pool_of IoPool = Some Io
+pool_of MemoryPool = Some Mem
+pool_of PrefetchablePool = Some Pref
+pool_of _ = None
+
+abbrev pub known_need_text : PoolUse → Text
+known_need_text u =
+    number_text (codes " needs ") u.extent ++ (number_text (codes " bytes from ") u.first ++ number_text (codes " on, and its aperture has ") u.room)
+
+abbrev pub need_text : Option PoolUse → Text
+need_text None = codes " needs more than 0x8000000000000000 bytes"
+need_text (Some u) = known_need_text u
+
+abbrev pub shortage_of : Board → Apertures → Fault → Option Shortage
+shortage_of b a f = option_map (λ pool. record { pool = pool; needed = told_use b a (named_pool pool) }) (pool_of f)
+
+abbrev pub reason_text : Option Shortage → Text
+reason_text None = codes ": cannot be set up"
+reason_text (Some s) = codes ": the " ++ pool_words s.pool ++ need_text s.needed
+
+abbrev pub fault_text : Fault → Text
+fault_text f = codes " (" ++ decimal (number_of f) ++ codes " " ++ words_of f ++ codes ")\n"
+
+abbrev pub refusal_line : Text → Option Shortage → Fault → Text
+refusal_line name s f = name ++ reason_text s ++ fault_text f
+
+abbrev pub misfit_text : Text → Board → Apertures → Fault → Text
+misfit_text name b a f = refusal_line name (shortage_of b a f) f
+
+pub data IsFitText (name : Text) (b : Board) (a : Apertures) (text : Text) : Type 0 where
+  of_fit : text ≡ fit_text b a → IsFitText name b a text
+  of_misfit : (f : Fault) → text ≡ misfit_text name b a f → IsFitText name b a text

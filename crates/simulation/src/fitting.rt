@@ -1,0 +1,246 @@
+//! Whether a board fits its apertures, and what is said of it.
+ghost use Rattle.std.specs.Prelude.{◌≡◌, ◌++◌, ◌⊎◌, ◌+◌, ◌-◌, ◌^◌, ◌<◌, ◌≤◌, true, false, None, Some, IfOk, OnOk, IfErr, IsErrOf, string_bytes};
+ghost use Rattle.std.specs.Option.{option_map_or};
+ghost use Rattle.std.specs.Io.KnownBytes.{Appends};
+ghost use Rattle.model_registers.specs.DeclarationRules.{first_broken};
+ghost use Rattle.model_board.specs.Board.{Board};
+ghost use Rattle.model_board.specs.AtReset.{IsAtReset};
+ghost use Rattle.model_board.specs.FunctionTable.{board_in};
+ghost use Rattle.model_board.specs.Pools.{aperture_of};
+ghost use Rattle.model_board.specs.SetUpWrites.{set_up_rules};
+ghost use Rattle.model_guests.specs.Text.{Text};
+ghost use Rattle.streams.specs.Ends.{AppendsPart};
+ghost use Rattle.bus_scan.specs.Faults as set_up;
+ghost use Rattle.bus_scan.specs.SizedTables.{IsTableOf};
+ghost use Rattle.bus_scan.specs.declared.fault.Fault.TheVariants.{Memory};
+ghost use Rattle.window_packing.specs.Plans.{named_pool};
+ghost use Rattle.window_packing.specs.Readies.{board_below};
+ghost use Rattle.simulation.specs.Faults.{number_of, of_set_up, write_faults, IsOfList};
+ghost use Rattle.simulation.specs.Fitting.{known_use_text, use_text, pool_text, fit_text, misfit_text, shortage_of, refusal_line, IsFitText};
+
+use crate::choice::print;
+use crate::fault::Fault;
+use crate::misfit::{Shortage, find_shortage, pool_words, push_number, refusal_line};
+use bus_scan::FunctionTable;
+use headers::Apertures;
+use host_bridge::Host;
+use std::alloc::{AllocError, Global};
+use streams::Writer;
+use window_packing::{Pool, PoolUse, enumerate, plan, pool_use};
+
+/// Appends how much of its aperture a pool takes.
+fn push_known_use(text: &mut String, used: PoolUse) -> Result<(), AllocError>
+    ensures { OnOk result (string_bytes text.new ≡ string_bytes text.old ++ known_use_text used) }
+{
+    push_number(text, ": ", used.extent)?;
+    push_number(text, " of ", used.room)?;
+    push_number(text, " bytes used, from ", used.first)?;
+    text.push_str(" on\n")
+}
+
+/// Appends how much a pool takes.
+fn push_use(text: &mut String, used: Option<PoolUse>) -> Result<(), AllocError>
+    ensures { OnOk result (string_bytes text.new ≡ string_bytes text.old ++ use_text used) }
+{
+    match used {
+        Some(used) => push_known_use(text, used),
+        None => text.push_str(": more than 0x8000000000000000 bytes used\n"),
+    }
+}
+
+/// Whether a pool has an aperture.
+fn has_aperture(apertures: &Apertures, pool: Pool) -> bool
+    ensures { result ≡ option_map_or (λ _. true) (aperture_of apertures.now (named_pool pool)) false }
+{
+    match pool {
+        Pool::Io | Pool::Mem => true,
+        Pool::Pref => apertures.pref().is_some(),
+    }
+}
+
+/// Appends how much of its aperture a pool takes.
+fn push_pool(
+    alloc: Global,
+    text: &mut String,
+    pool: Pool,
+    table: &FunctionTable,
+    apertures: &Apertures,
+) -> Result<(), AllocError>
+    requires { IsTableOf (board_in table.now) table.now }
+    ensures { OnOk result ((b : Board) → IsTableOf b table.now → string_bytes text.new ≡ string_bytes text.old ++ pool_text b apertures.now pool) }
+{
+    text.push_str(pool_words(pool))?;
+    if !has_aperture(apertures, pool) {
+        return text.push_str(": no aperture\n");
+    }
+    push_use(text, pool_use(alloc, pool, table, apertures)?)
+}
+
+/// What is said of a board that can be set up.
+fn fit_text(
+    alloc: Global,
+    table: &FunctionTable,
+    apertures: &Apertures,
+) -> Result<String, AllocError>
+    requires { IsTableOf (board_in table.now) table.now }
+    ensures { IfOk result (λ t. (b : Board) → IsTableOf b table.now → string_bytes t ≡ fit_text b apertures.now) }
+{
+    let mut text = String::new(alloc);
+    text.push_str("ok\n")?;
+    push_pool(alloc, &mut text, Pool::Io, table, apertures)?;
+    push_pool(alloc, &mut text, Pool::Mem, table, apertures)?;
+    push_pool(alloc, &mut text, Pool::Pref, table, apertures)?;
+    Ok(text)
+}
+
+/// Writes what is said of a board that can be set up.
+fn accept<W: Writer>(
+    alloc: Global,
+    table: &FunctionTable,
+    apertures: &Apertures,
+    writer: &mut W,
+) -> Result<(), Fault>
+    requires room { W.failures writer.old < 2 ^ 64 - 1 }
+    requires table { IsTableOf (board_in table.now) table.now }
+    ensures said { OnOk result ((b : Board) → IsTableOf b table.now → Appends (W.written writer.old) (W.written writer.new) (fit_text b apertures.now)) }
+    ensures flushed { OnOk result (W.flushed writer.new ≡ W.written writer.new) }
+    ensures stopped { IsErrOf result Fault.Write → (b : Board) → IsTableOf b table.now →
+        AppendsPart (W.written writer.old) (W.written writer.new) (fit_text b apertures.now) }
+    ensures faults { IfErr result (λ f. (f ≡ Fault.SetUpMemory) ⊎ (f ≡ Fault.Write)) }
+    ensures memory { IfErr result (λ f. number_of f ≡ 299 → writer.new ≡ writer.old) }
+    ensures failures { W.failures writer.new ≡ W.failures writer.old + write_faults result }
+{
+    let Ok(text) = fit_text(alloc, table, apertures) else {
+        return Err(Fault::SetUpMemory);
+    };
+    print(text.as_str(), writer)
+}
+
+/// Writes why a board can't be set up, and answers the fault.
+fn decline<W: Writer>(
+    alloc: Global,
+    name: &str,
+    shortage: Option<Shortage>,
+    fault: bus_scan::Fault,
+    writer: &mut W,
+) -> Result<(), Fault>
+    requires { W.failures writer.old < 2 ^ 64 - 1 }
+    ensures never { OnOk result ⊥ }
+    ensures fault { IfErr result (λ f. (f ≡ of_set_up fault) ⊎ (f ≡ Fault.SetUpMemory) ⊎ (f ≡ Fault.Write)) }
+    ensures told { IfErr result (λ f. number_of f < 299 → Appends (W.written writer.old) (W.written writer.new) (refusal_line name.now shortage f)) }
+    ensures flushed { IfErr result (λ f. number_of f < 299 → W.flushed writer.new ≡ W.written writer.new) }
+    ensures memory { IfErr result (λ f. number_of f ≡ 299 → writer.new ≡ writer.old) }
+    ensures stopped { IsErrOf result Fault.Write → AppendsPart (W.written writer.old) (W.written writer.new) (refusal_line name.now shortage (of_set_up fault)) }
+    ensures failures { W.failures writer.new ≡ W.failures writer.old + write_faults result }
+{
+    if fault == bus_scan::Fault::Memory {
+        return Err(Fault::SetUpMemory);
+    }
+    let fault = Fault::from(fault);
+    let Ok(text) = refusal_line(alloc, name, shortage, fault) else {
+        return Err(Fault::SetUpMemory);
+    };
+    print(text.as_str(), writer)?;
+    Err(fault)
+}
+
+/// The same, by the table of its functions.
+fn reject<W: Writer>(
+    alloc: Global,
+    name: &str,
+    table: &FunctionTable,
+    apertures: &Apertures,
+    fault: bus_scan::Fault,
+    writer: &mut W,
+) -> Result<(), Fault>
+    requires room { W.failures writer.old < 2 ^ 64 - 1 }
+    requires table { IsTableOf (board_in table.now) table.now }
+    ensures never { OnOk result ⊥ }
+    ensures fault { IfErr result (λ f. (f ≡ of_set_up fault) ⊎ (f ≡ Fault.SetUpMemory) ⊎ (f ≡ Fault.Write)) }
+    ensures told { IfErr result (λ f. number_of f < 299 → (b : Board) → IsTableOf b table.now →
+        Appends (W.written writer.old) (W.written writer.new) (misfit_text name.now b apertures.now f)) }
+    ensures flushed { IfErr result (λ f. number_of f < 299 → W.flushed writer.new ≡ W.written writer.new) }
+    ensures memory { IfErr result (λ f. number_of f ≡ 299 → writer.new ≡ writer.old) }
+    ensures stopped { IsErrOf result Fault.Write → (b : Board) → IsTableOf b table.now →
+        AppendsPart (W.written writer.old) (W.written writer.new) (misfit_text name.now b apertures.now (of_set_up fault)) }
+    ensures failures { W.failures writer.new ≡ W.failures writer.old + write_faults result }
+{
+    let Ok(shortage) = find_shortage(alloc, table, apertures, Fault::from(fault)) else {
+        return Err(Fault::SetUpMemory);
+    };
+    decline(alloc, name, shortage, fault, writer)
+}
+
+/// Whether a board with this table can be set up.
+fn can_be_placed(
+    alloc: Global,
+    table: &FunctionTable,
+    apertures: &Apertures,
+) -> Result<(), bus_scan::Fault>
+    requires { IsTableOf (board_in table.now) table.now }
+    ensures kept { IfOk result (λ _. (b : Board) → IsTableOf b table.now → first_broken (set_up_rules b apertures.now) ≡ None) }
+    ensures refused { IfErr result (λ f. (b : Board) → IsTableOf b table.now →
+        (f ≡ Memory) ⊎ (first_broken (set_up_rules b apertures.now) ≡ Some (set_up.number_of f))) }
+{
+    plan(alloc, table, apertures)?;
+    Ok(())
+}
+
+/// Writes whether a board with this table fits the apertures, and flushes once.
+fn fit<W: Writer>(
+    alloc: Global,
+    name: &str,
+    table: &FunctionTable,
+    apertures: &Apertures,
+    writer: &mut W,
+) -> Result<(), Fault>
+    requires room { W.failures writer.old < 2 ^ 64 - 1 }
+    requires table { IsTableOf (board_in table.now) table.now }
+    ensures fits { OnOk result ((b : Board) → IsTableOf b table.now → (first_broken (set_up_rules b apertures.now) ≡ None)
+        × Appends (W.written writer.old) (W.written writer.new) (fit_text b apertures.now)) }
+    ensures flushed { OnOk result (W.flushed writer.new ≡ W.written writer.new) }
+    ensures misfit { IfErr result (λ f. number_of f < 299 → (b : Board) → IsTableOf b table.now →
+        (first_broken (set_up_rules b apertures.now) ≡ Some (number_of f))
+        × Appends (W.written writer.old) (W.written writer.new) (misfit_text name.now b apertures.now f)) }
+    ensures told_flushed { IfErr result (λ f. number_of f < 299 → W.flushed writer.new ≡ W.written writer.new) }
+    ensures stopped { IsErrOf result Fault.Write → (b : Board) → IsTableOf b table.now → (text : Text)
+        × IsFitText name.now b apertures.now text × AppendsPart (W.written writer.old) (W.written writer.new) text }
+    ensures faults { IfErr result (λ f. (201 ≤ number_of f) × IsOfList f) }
+    ensures memory { IfErr result (λ f. number_of f ≡ 299 → writer.new ≡ writer.old) }
+    ensures failures { W.failures writer.new ≡ W.failures writer.old + write_faults result }
+{
+    match can_be_placed(alloc, table, apertures) {
+        Ok(()) => accept(alloc, table, apertures, writer),
+        Err(fault) => reject(alloc, name, table, apertures, fault, writer),
+    }
+}
+
+/// Writes whether the board of a host at reset can be set up, and how much of each aperture its pools
+/// take, and flushes once.
+pub(crate) fn judge<W: Writer>(
+    alloc: Global,
+    name: &str,
+    host: Host,
+    writer: &mut W,
+) -> Result<(), Fault>
+    requires room { W.failures writer.old < 2 ^ 64 - 1 }
+    requires reset { IsAtReset host.state }
+    ensures fits { OnOk result ((first_broken (set_up_rules (board_below host) host.apertures) ≡ None)
+        × Appends (W.written writer.old) (W.written writer.new) (fit_text (board_below host) host.apertures)) }
+    ensures flushed { OnOk result (W.flushed writer.new ≡ W.written writer.new) }
+    ensures misfit { IfErr result (λ f. number_of f < 299 →
+        (first_broken (set_up_rules (board_below host) host.apertures) ≡ Some (number_of f))
+        × Appends (W.written writer.old) (W.written writer.new) (misfit_text name.now (board_below host) host.apertures f)) }
+    ensures told_flushed { IfErr result (λ f. number_of f < 299 → W.flushed writer.new ≡ W.written writer.new) }
+    ensures stopped { IsErrOf result Fault.Write → (text : Text) × IsFitText name.now (board_below host) host.apertures text
+        × AppendsPart (W.written writer.old) (W.written writer.new) text }
+    ensures faults { IfErr result (λ f. (201 ≤ number_of f) × IsOfList f) }
+    ensures memory { IfErr result (λ f. number_of f ≡ 299 → writer.new ≡ writer.old) }
+    ensures failures { W.failures writer.new ≡ W.failures writer.old + write_faults result }
+{
+    let mut host = host;
+    match enumerate(alloc, &mut host) {
+        Ok(table) => fit(alloc, name, &table, &host.apertures(), writer),
+        Err(fault) => decline(alloc, name, None, fault, writer),
+    }
+}
