@@ -11,9 +11,9 @@ use Rattle.std.specs.Fmt.{signed_decimal}
 use Rattle.toml.specs.Data.{Data, string, integer, Members, as_str}
 use Rattle.board_file.specs.declared.fault.BoardFault.{BoardFault}
 use Rattle.board_file.specs.Faults.{number_of}
+use Rattle.board_file.specs.Texts.{same_text}
 use Rattle.board_check.specs.declared.entry.Entry.{Entry}
 use Rattle.board_check.specs.declared.entry.Entry.TheVariants as entry
-use Rattle.board_check.specs.declared.finding.Problem.{Problem}
 use Rattle.board_check.specs.declared.lines.Told.{Told}
 use Rattle.board_check.specs.Rules.{fault_of, words_of, fault_words}
 use Rattle.board_check.specs.Keys.{value_at, owner_key, owner_of}
@@ -66,9 +66,14 @@ name_text o = option_map_or (λ s. codes " of " ++ quoted_text s) o []
 abbrev pub owner_text : Members → Entry → List ℕ
 owner_text ms e = name_text (option_and_then as_str (option_and_then (value_at ms (owner_of e)) (owner_key e)))
 
+-- a path or a name is its own
+abbrev pub is_own_name : List ℕ → Bool
+is_own_name k = same_text k (codes "at") || same_text k (codes "name")
+
 -- ENTRY.KEY = VALUE of OWNER
 abbrev pub place_text : Members → Entry → List ℕ → List ℕ
-place_text ms e k = entry_text e ++ key_text k ++ scalar_text (value_at ms e k) ++ owner_text ms e
+place_text ms e k =
+    entry_text e ++ key_text k ++ scalar_text (value_at ms e k) ++ (if is_own_name k then [] else owner_text ms e)
 
 -- FILE:LINE: ENTRY.KEY = VALUE of OWNER: what is wrong (N WORDS)
 abbrev pub problem_text : List ℕ → Members → Told → List ℕ

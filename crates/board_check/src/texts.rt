@@ -3,7 +3,7 @@ ghost use Rattle.std.specs.Prelude.{◌≡◌, ◌<◌, ◌++◌, ◌∷◌, [],
 ghost use Rattle.std.specs.List.{flat_map};
 ghost use Rattle.toml.specs.View.{view, table_view};
 ghost use Rattle.board_check.specs.Rules.{fault_words};
-ghost use Rattle.board_check.specs.Texts.{nth_text, inner_text, entry_text, shown_byte, key_text, line_text, fault_text, quoted_text, data_text, scalar_text, name_text, place_text, problem_text, bare_text, count_text, lines_text};
+ghost use Rattle.board_check.specs.Texts.{nth_text, inner_text, entry_text, shown_byte, key_text, line_text, fault_text, quoted_text, data_text, scalar_text, name_text, is_own_name, place_text, problem_text, bare_text, count_text, lines_text};
 
 use crate::entry::Entry;
 use crate::keys::{owner_name, value_at};
@@ -176,7 +176,15 @@ fn push_name(text: &mut String, name: Option<&str>) -> Result<(), AllocError>
     }
 }
 
-/// Appends where a problem is: the entry with its key and value, and what it belongs to.
+/// Whether the key is that of a path or a name.
+fn is_own_name(key: &str) -> bool
+    ensures { result ≡ is_own_name key.now }
+{
+    key == "at" || key == "name"
+}
+
+/// Appends where a problem is: the entry with its key and value, and what it belongs to, unless the value
+/// says that.
 fn push_place(
     text: &mut String,
     document: &Table,
@@ -188,6 +196,9 @@ fn push_place(
     push_entry(text, entry)?;
     push_key(text, key)?;
     push_scalar(text, value_at(document, entry, key))?;
+    if is_own_name(key) {
+        return Ok(());
+    }
     push_name(text, owner_name(document, entry))
 }
 

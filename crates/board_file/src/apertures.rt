@@ -7,6 +7,8 @@ ghost use Rattle.board_file.specs.Rules.{is_natural, are_natural, apertures_hold
 use crate::entries::{Bounds, FileEntries};
 use headers::{Aperture, ApertureFault, Apertures};
 
+/// The aperture from the first to the last address, both in it. A negative bound counts by its absolute
+/// value, so ask `is_natural` first.
 pub fn aperture(bounds: Bounds) -> Aperture
     ensures { result ≡ aperture bounds }
 {
@@ -16,6 +18,7 @@ pub fn aperture(bounds: Bounds) -> Aperture
     }
 }
 
+/// The same of an aperture that may be left out.
 pub fn pref_aperture(bounds: Option<Bounds>) -> Option<Aperture>
     ensures { result ≡ option_map aperture bounds }
 {
@@ -37,12 +40,14 @@ pub(crate) fn apertures(file: &FileEntries<'_>) -> Result<Apertures, ApertureFau
     )
 }
 
+/// Whether both addresses are 0 or more.
 pub fn is_natural(bounds: Bounds) -> bool
     ensures { result ≡ is_natural bounds }
 {
     0 <= bounds.first && 0 <= bounds.last
 }
 
+/// The same of an aperture that may be left out, which is so where it is.
 pub fn are_natural(bounds: Option<Bounds>) -> bool
     ensures { result ≡ are_natural bounds }
 {

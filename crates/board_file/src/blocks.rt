@@ -67,7 +67,8 @@ fn cells(
     Ok(Some(cells))
 }
 
-/// The cells of a block, where its patterns are lawful.
+/// The cells of a block of `len` bytes, where its patterns are lawful, and else None. It fails only where
+/// memory is out.
 pub fn block(
     alloc: Global,
     len: usize,

@@ -27,6 +27,8 @@ fn are_name_bytes(bytes: &[u8]) -> bool
     bytes.iter().all(|byte| is_name_byte(*byte))
 }
 
+/// Whether a guest may have the name: a letter from a to z, with 15 such letters or digits after it at most,
+/// and not `host`.
 pub fn is_name(name: &str) -> bool
     ensures { result ≡ is_name name.now }
 {

@@ -7,12 +7,14 @@ ghost use Rattle.board_file.specs.Rules.{is_between, has_only_bits, is_identity,
 use crate::entries::{BarEntry, BridgeEntry, ConfigEntry, EndpointEntry, FileEntries, GuestEntry};
 use crate::path_text::PathText;
 
+/// Whether the number lies from `first` to `last`, both included.
 pub fn is_between(first: u16, last: u32, number: i64) -> bool
     ensures { result ≡ is_between first last number }
 {
     i64::from(first) <= number && number <= i64::from(last)
 }
 
+/// Whether the number has 16 bits at most, and none outside the mask.
 pub fn has_only_bits(mask: u16, number: i64) -> bool
     ensures { result ≡ has_only_bits mask number }
 {
@@ -50,6 +52,8 @@ fn has_lawful_values(endpoint: &EndpointEntry<'_>) -> bool
     is_described(endpoint) && has_lawful_needs(endpoint) && has_only_bits(0xf900, endpoint.status)
 }
 
+/// Whether a device's own registers begin at offset 40h or later and end at FFh or before. Offset and length
+/// are in bytes.
 pub fn is_config_block(config: &ConfigEntry<'_>) -> bool
     ensures { result ≡ is_config_block config.now }
 {
@@ -139,6 +143,7 @@ pub(crate) fn numbers_hold(file: &FileEntries<'_>) -> bool
     endpoint_numbers_hold(&file.endpoints) && bridge_numbers_hold(&file.bridges)
 }
 
+/// Whether the text has 15 slashes at most.
 pub fn has_few_slashes(at: &PathText<'_>) -> bool
     ensures { result ≡ has_few_slashes at.now }
 {
@@ -182,6 +187,7 @@ fn have_few_slashes(file: &FileEntries<'_>) -> bool
     endpoints_have_few_slashes(&file.endpoints) && bridges_have_few_slashes(&file.bridges)
 }
 
+/// Whether the guest has 32 slots at most.
 pub fn has_few_slots(guest: &GuestEntry<'_>) -> bool
     ensures { result ≡ nat_le (length guest.now.slots) 32 }
 {

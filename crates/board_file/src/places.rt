@@ -74,7 +74,8 @@ fn push_bridges(
     Ok(())
 }
 
-/// The paths of all functions, endpoints first. A text that is no path counts as 0.0.
+/// The paths of all functions, endpoints first. A text that is no path counts as 0.0. It fails only
+/// where memory is out.
 pub fn function_paths(
     alloc: Global,
     file: &FileEntries<'_>,
@@ -135,12 +136,14 @@ pub(crate) fn places_hold(file: &FileEntries<'_>, functions: &[FunctionPath]) ->
     have_paths(file) && are_places(functions)
 }
 
+/// Whether a function stands at the path.
 pub fn has_path(functions: &[FunctionPath], path: &Path) -> bool
     ensures { result ≡ has_path functions.now path.now }
 {
     functions.iter().any(|function| function.path == *path)
 }
 
+/// Whether a bridge stands at the path.
 pub fn has_bridge(functions: &[FunctionPath], path: &Path) -> bool
     ensures { result ≡ has_bridge functions.now path.now }
 {

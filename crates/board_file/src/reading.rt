@@ -290,7 +290,8 @@ fn pref_range(table: &Table) -> Option<Bounds>
     }
 }
 
-/// What the table says.
+/// What the table says. A key that is absent, or that has no value of its type, gives 0, no text or no
+/// tables; it fails only where memory is out.
 pub fn read_entries(alloc: Global, table: &Table) -> Result<FileEntries<'_>, AllocError>
     ensures { IfOk result (λ f. f ≡ file (table_view table.now)) }
 {

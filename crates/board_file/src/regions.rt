@@ -10,6 +10,7 @@ use crate::entries::{BarEntry, EndpointEntry};
 use bars::{BarDecl, Kind};
 use headers::{TakesRegisters, have_own_registers};
 
+/// Whether the index is that of one of the six base address registers, 0 to 5.
 pub fn is_index(bar: &BarEntry<'_>) -> bool
     ensures { result ≡ is_between 0 5 bar.now.index }
 {
@@ -48,6 +49,7 @@ pub(crate) fn registers_hold(endpoint: &EndpointEntry<'_>) -> bool
     are_indices(&endpoint.bars) && have_own_registers(&endpoint.bars)
 }
 
+/// Whether a region of this kind may have so many bytes: a power of two within the limits of its kind.
 pub fn is_size(kind: Kind, size: i64) -> bool
     ensures { result ≡ is_size (kind_of kind) size }
 {

@@ -54,10 +54,11 @@ const RUNS: [(&str, &str); 8] = [
     ("server.toml", "server.script"),
 ];
 
-/// Boards that are checked: one that fits, one for each reason of a refusal, and some with many things
+/// Boards that are checked: two that fit, one for each reason of a refusal, and some with many things
 /// wrong.
-const CHECKS: [&str; 21] = [
+const CHECKS: [&str; 22] = [
     "main.toml",
+    "demo.toml",
     "not_toml.toml",
     "key.toml",
     "unknown_key.toml",

@@ -25,4 +25,5 @@ pub mod PlacedFunctions
 pub mod RowTests
 pub mod Refusals
 pub mod TablePlans
+pub mod UseFits
 pub mod LayoutRows

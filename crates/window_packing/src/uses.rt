@@ -1,9 +1,9 @@
 //! How much of its aperture a pool takes.
-ghost use Rattle.std.specs.Prelude.{◌≡◌, ◌-◌, [], IfOk};
+ghost use Rattle.std.specs.Prelude.{◌≡◌, ◌-◌, [], IfOk, IfSome, nat_le};
 ghost use Rattle.model_board.specs.Board.{Board, IsBoard};
 ghost use Rattle.model_board.specs.Lawful.{HasLawfulDecls};
 ghost use Rattle.model_board.specs.FunctionTable.{board_in};
-ghost use Rattle.model_board.specs.Placement.{aperture_end};
+ghost use Rattle.model_board.specs.Placement.{aperture_end, fits};
 ghost use Rattle.bus_scan.specs.SizedTables.{IsTableOf};
 ghost use Rattle.window_packing.specs.Buses.{AreAbove};
 ghost use Rattle.window_packing.specs.Packs.{pack_of, IsBounded};
@@ -19,7 +19,7 @@ use bus_scan::{FunctionRow, FunctionTable};
 use headers::Apertures;
 use std::alloc::{AllocError, Global};
 
-/// How much of its aperture a pool takes, in bytes. It fits where `extent` is at most `room`.
+/// How much of its aperture a pool takes, in bytes.
 #[derive(Clone, Copy, Debug, PartialEq, Eq)]
 pub struct PoolUse {
     /// The address at which bus 0 begins in the pool: the first in the aperture that is a multiple of the
@@ -75,8 +75,10 @@ pub fn pool_use(
 ) -> Result<Option<PoolUse>, AllocError>
     requires { IsTableOf (board_in table.now) table.now }
 
-    // Of whatever board this is the table.
-    ensures { IfOk result (λ u. (b : Board) → IsTableOf b table.now → u ≡ told_use b apertures.now (named_pool pool)) }
+    // Of whatever board this is the table. The pool fits where it takes no more than there is.
+    ensures value { IfOk result (λ u. (b : Board) → IsTableOf b table.now → u ≡ told_use b apertures.now (named_pool pool)) }
+    ensures fits { IfOk result (λ r. IfSome r (λ u. (b : Board) → IsTableOf b table.now →
+        fits b apertures.now (named_pool pool) ≡ nat_le u.extent u.room)) }
 {
     let rows = table.rows();
     let above = all_above(alloc, rows)?;

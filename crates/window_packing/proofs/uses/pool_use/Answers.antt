@@ -1,21 +1,31 @@
-use Rattle.std.proofs.Common.{◌≡◌, ◌∙◌, Option, Result, Ok, Err}
-use Rattle.std.specs.Prelude.{IfOk}
+use Rattle.std.proofs.Common.{◌≡◌, ◌∙◌, Option, Some, None, Result, Ok, Err, List}
+use Rattle.std.specs.Prelude.{IfOk, IfSome, nat_le}
 use Rattle.model_registers.specs.Apertures.{Apertures}
 use Rattle.model_board.specs.Board.{Board}
 use Rattle.model_board.specs.Pools.{Pool}
+use Rattle.model_board.specs.Placement.{fits}
 use Rattle.model_board.specs.FunctionTable.{TableRow, board_in}
-use Rattle.std.proofs.Common.{List}
 use Rattle.bus_scan.specs.SizedTables.{IsTableOf}
 use Rattle.window_packing.specs.declared.uses.PoolUse.{PoolUse}
 use Rattle.window_packing.specs.Plans.{named_pool}
 use Rattle.window_packing.specs.Uses.{told_use}
 use Rattle.window_packing.proofs.TablePlans.{use_of}
+use Rattle.window_packing.proofs.UseFits.{use_fits}
 use Rattle.window_packing.proofs.uses.pool_use.Goals as goal
 
-of_all : {E : Type 0} (t rows : List TableRow) (same : rows ≡ t) (a : Apertures) (pool : Pool) (r : Result (Option PoolUse) E)
-    → IfOk r (λ u. u ≡ told_use (board_in rows) a pool) → IfOk r (λ u. (b : Board) → IsTableOf b t → u ≡ told_use b a pool)
-of_all t rows same a pool (Ok u) is = λ b h. is ∙ use_of t rows same b h a pool
-of_all t rows same a pool (Err e) is = tt
+module _ {E : Type 0} (t rows : List TableRow) (same : rows ≡ t) (a : Apertures) (pool : Pool) where
+  of_all : (r : Result (Option PoolUse) E) → IfOk r (λ u. u ≡ told_use (board_in rows) a pool) → IfOk r (λ u. (b : Board) → IsTableOf b t → u ≡ told_use b a pool)
+  of_all (Ok u) is = λ b h. is ∙ use_of t rows same b h a pool
+  of_all (Err e) is = tt
 
-pub returns : goal.returns
-returns c = of_all c.args.table.now c.rows-rows.result.now c.rows-rows.ensures c.args.apertures.now (named_pool c.args.pool) c.rows_use.result c.rows_use.ensures
+  fit_all : (r : Result (Option PoolUse) E) → IfOk r (λ u. u ≡ told_use (board_in rows) a pool)
+      → IfOk r (λ o. IfSome o (λ u. (b : Board) → IsTableOf b t → fits b a pool ≡ nat_le u.extent u.room))
+  fit_all (Ok (Some u)) is = λ b h. use_fits b a pool h.declarations u (is ∙ use_of t rows same b h a pool)
+  fit_all (Ok None) is = tt
+  fit_all (Err e) is = tt
+
+pub returns-clause-value : goal.returns-clause-value
+returns-clause-value c = of_all c.args.table.now c.rows-rows.result.now c.rows-rows.ensures c.args.apertures.now (named_pool c.args.pool) c.rows_use.result c.rows_use.ensures
+
+pub returns-clause-fits : goal.returns-clause-fits
+returns-clause-fits c = fit_all c.args.table.now c.rows-rows.result.now c.rows-rows.ensures c.args.apertures.now (named_pool c.args.pool) c.rows_use.result c.rows_use.ensures
