@@ -46,7 +46,7 @@ returns-else-number-eq-FILE_MEMORY-clause-told c =
         sym same,
         subst Told c.new.ensures.items (record {
           refused = λ less. (said.file less, said.told less);
-          misfit = λ more. let placed = said.placement more small in (placed.0, placed.1, placed.2, said.misfit more small);
+          misfit = λ more. said.misfit more small;
         }),
       );
     }
