@@ -73,8 +73,10 @@ fn push_hex(text: &mut LineText, value: u32, digits: u32)
     ensures items { text.new.items ≡ text.old.items ++ hex_digits digits value }
     ensures len { length text.new.items ≡ length text.old.items + digits }
 {
-    for i in 0..digits {
-        let digit = (value >> (4 * (digits - 1 - i))) % 16;
+    let mut left = digits;
+    while left > 0 {
+        left -= 1;
+        let digit = (value >> (4 * left)) % 16;
         text.push(digit_glyph(digit as u8));
     }
 }
@@ -101,10 +103,12 @@ pub fn push_line(text: &mut LineText, who: Who, names: &Names, reply: Reply)
     ensures { text.new.items ≡ line_text (who_of (texts names.now) who) (reply_of reply) ++ 10 ∷ [] }
 {
     push_name(text, name_of(who, names));
-    push_all(text, b": ");
+    text.push(b':');
+    text.push(b' ');
     match reply {
         Reply::Value(value, width) => {
-            push_all(text, b"0x");
+            text.push(b'0');
+            text.push(b'x');
             push_hex(text, value, 2 * width as u32);
         }
         Reply::Done => push_all(text, b"ok"),
