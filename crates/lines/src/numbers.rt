@@ -39,6 +39,14 @@ pub(crate) fn with_digit(base: u8, number: u64, byte: u8) -> Option<u64>
     ensures { result ≡ below (2 ^ 64) (option_map (λ d. number * base + d) (below base (digit_of byte))) }
 {
     let digit = digit_in(base, byte)?;
+    // Of a hexadecimal digit one test is enough: the sum carries no bit.
+    if base == 16 {
+        return if number < 1 << 60 {
+            Some(number * 16 + u64::from(digit))
+        } else {
+            None
+        };
+    }
     number
         .checked_mul(u64::from(base))?
         .checked_add(u64::from(digit))
