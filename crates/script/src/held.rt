@@ -14,7 +14,7 @@ use streams::{Failed, Reader};
 const LONGEST_LINE: usize = 200;
 
 /// The bytes that are read at once.
-const SIZE: usize = 16384;
+const SIZE: usize = 65536;
 
 /// The bytes that were read and are not run yet. Of a long line whose end was not read they are those
 /// after the ones that were passed over.
@@ -33,7 +33,7 @@ impl Model for Held {
 
     ghost view = { λ h. record { text = take h.length h.bytes; long = h.long } };
 
-    ghost invariant = { λ h. h.length ≤ 16384 };
+    ghost invariant = { λ h. h.length ≤ 65536 };
 }
 
 /// Reads some bytes into a buffer from a place on, and gives how many.

@@ -64,6 +64,10 @@ impl<R: Read> Reader for InputStream<R> {
     }
 }
 
+/// The bytes that are kept back before they are written: as many as a run reads at once, since a call of
+/// the system costs as much as some tens of lines.
+const CAPACITY: usize = 65536;
+
 /// A writer that counts its failures. It keeps a buffer, so that a line of output costs no call of
 /// the system.
 #[derive(Drop)]
@@ -81,7 +85,7 @@ impl<W: Write + Drop> OutputStream<W> {
         ensures failures { IfOk result (λ s. ⟦<OutputStream<W> as Writer>⟧.failures s ≡ 0) }
         ensures memory { IfErr result (λ f. f ≡ Fault.SetUpMemory) }
     {
-        match BufWriter::new(alloc, inner) {
+        match BufWriter::with_capacity(alloc, CAPACITY, inner) {
             Ok(inner) => Ok(OutputStream { inner, failures: 0 }),
             Err(_) => Err(Fault::SetUpMemory),
         }
