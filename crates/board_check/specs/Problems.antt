@@ -2,7 +2,7 @@
 --     Found      an entry, a rule, and the key at which the entry is asked to keep it
 --     found_of p      the same of a problem
 --     entries_of f      all entries of a file, each before those inside it
---     of_fields, of_members, of_rules      what is asked of an entry: at each key that its table may have, at each key
+--     of_fields, of_members, of_rules      what is asked of an entry: at each key that its table may have, at each
 --                                          that it has, and at the keys of the other rules
 --     asked ms e      all that is asked of an entry
 --     problems_of ms fault      what entries are asked and don't keep, where this is the fault
@@ -39,7 +39,8 @@ indices xs = range_with_len 0 (length xs)
 
 -- an endpoint, its regions and its own registers
 abbrev pub with_endpoint : ℕ × Endpoint → List Entry
-with_endpoint (i, e) = entry.Endpoint i ∷ (map (entry.Bar i) (indices e.bars) ++ map (entry.Config i) (indices e.configs))
+with_endpoint (i, e) =
+    entry.Endpoint i ∷ (map (entry.Bar i) (indices e.bars) ++ map (entry.Config i) (indices e.configs))
 
 -- a guest and its slots
 abbrev pub with_guest : ℕ × Guest → List Entry
@@ -49,14 +50,14 @@ abbrev pub entries_of : File → List Entry
 entries_of f =
     entry.File ∷ entry.Host
     ∷ (flat_map with_endpoint (enumerate_from 0 f.endpoints)
-        ++ map entry.Bridge (indices f.bridges)
-        ++ flat_map with_guest (enumerate_from 0 f.guests))
+    ++ map entry.Bridge (indices f.bridges)
+    ++ flat_map with_guest (enumerate_from 0 f.guests))
 
 -- ---- what is asked of an entry
 
--- the rules that are broken at keys of their own
-unfoldable pub rules_of_keys : List Rule
-rules_of_keys =
+-- all rules but those of keys
+unfoldable pub other_rules : List Rule
+other_rules =
     rule.Vendor ∷ rule.Device ∷ rule.Revision ∷ rule.Class ∷ rule.Subvendor ∷ rule.Subsystem ∷ rule.Pin ∷ rule.MinGnt
     ∷ rule.MaxLat ∷ rule.Status ∷ rule.BarBlock ∷ rule.ConfigOff ∷ rule.ConfigBlock ∷ rule.ConfigEnd ∷ rule.Slashes
     ∷ rule.Functions ∷ rule.Guests ∷ rule.Slots ∷ rule.Index ∷ rule.Size ∷ rule.BlockFits ∷ rule.Name ∷ rule.BarMasks
@@ -88,7 +89,7 @@ abbrev pub of_rule : Entry → Rule → Found
 of_rule e r = record { entry = e; rule = r; key = key_of r }
 
 abbrev pub of_rules : Entry → List Found
-of_rules e = map (of_rule e) rules_of_keys
+of_rules e = map (of_rule e) other_rules
 
 unfoldable pub asked : Members → Entry → List Found
 asked ms e = of_fields e ++ (of_members ms e ++ of_rules e)

@@ -1,17 +1,16 @@
 //! The entries that break a check.
-ghost use Rattle.std.specs.Prelude.{◌≡◌, IfOk, OnOk};
+ghost use Rattle.std.specs.Prelude.{◌≡◌, ◌++◌, [], ◌∷◌, map, IfOk, OnOk};
 ghost use Rattle.toml.specs.View.{table_view};
-ghost use Rattle.model_registers.specs.Lists.{Each};
 ghost use Rattle.board_file.specs.Entries as said;
 ghost use Rattle.board_file.specs.Functions.{standings};
-ghost use Rattle.board_check.specs.Keeping.{IsProblem};
+ghost use Rattle.board_check.specs.Problems.{found_of, with_endpoint, with_guest, entries_of, of_fields, of_members, of_rules, asked, problems_of, AddsWrong};
 
 use crate::entry::Entry;
 use crate::keeping::keeps;
 use crate::keys::{level_of, table_at};
 use crate::rule::Rule;
 use board_file::BoardFault;
-use board_file::entries::{EndpointEntry, FileEntries};
+use board_file::entries::{EndpointEntry, FileEntries, GuestEntry};
 use board_file::keys::fields;
 use board_file::places::{FunctionPath, function_paths};
 use board_file::reading::read_entries;
@@ -31,39 +30,49 @@ fn push_endpoint(
     entries: &mut Vec<Entry>,
     index: usize,
     endpoint: &EndpointEntry<'_>,
-) -> Result<(), AllocError> {
+) -> Result<(), AllocError>
+    ensures { OnOk result (entries.new.items ≡ entries.old.items ++ with_endpoint (index, endpoint.now)) }
+{
     entries.push(Entry::Endpoint(index))?;
-    for bar in 0..endpoint.bars.len() {
+    'bars: for bar in 0..endpoint.bars.len() {
         entries.push(Entry::Bar(index, bar))?;
     }
-    for config in 0..endpoint.configs.len() {
+    'configs: for config in 0..endpoint.configs.len() {
         entries.push(Entry::Config(index, config))?;
     }
     Ok(())
 }
 
 /// Appends a guest and its slots.
-fn push_guest(entries: &mut Vec<Entry>, index: usize, slots: usize) -> Result<(), AllocError> {
+fn push_guest(
+    entries: &mut Vec<Entry>,
+    index: usize,
+    guest: &GuestEntry<'_>,
+) -> Result<(), AllocError>
+    ensures { OnOk result (entries.new.items ≡ entries.old.items ++ with_guest (index, guest.now)) }
+{
     entries.push(Entry::Guest(index))?;
-    for slot in 0..slots {
+    'slots: for slot in 0..guest.slots.len() {
         entries.push(Entry::Slot(index, slot))?;
     }
     Ok(())
 }
 
 /// All entries of a file: endpoints, bridges and guests, each with what stands in it.
-fn entries(alloc: Global, file: &FileEntries<'_>) -> Result<Vec<Entry>, AllocError> {
+fn entries(alloc: Global, file: &FileEntries<'_>) -> Result<Vec<Entry>, AllocError>
+    ensures { IfOk result (λ v. v.items ≡ entries_of file.now) }
+{
     let mut entries = Vec::new(alloc);
     entries.push(Entry::File)?;
     entries.push(Entry::Host)?;
-    for (index, endpoint) in file.endpoints.iter().enumerate() {
+    'endpoints: for (index, endpoint) in file.endpoints.iter().enumerate() {
         push_endpoint(&mut entries, index, endpoint)?;
     }
-    for index in 0..file.bridges.len() {
+    'bridges: for index in 0..file.bridges.len() {
         entries.push(Entry::Bridge(index))?;
     }
-    for (index, guest) in file.guests.iter().enumerate() {
-        push_guest(&mut entries, index, guest.slots.len())?;
+    'guests: for (index, guest) in file.guests.iter().enumerate() {
+        push_guest(&mut entries, index, guest)?;
     }
     Ok(entries)
 }
@@ -80,10 +89,10 @@ fn push_problem<'a>(
 ) -> Result<(), AllocError>
     requires file { file.now ≡ said.file (table_view table.now) }
     requires functions { functions.now ≡ standings file.now }
-    requires problems { Each (IsProblem (table_view table.now) fault) problems.old.items }
-    ensures { OnOk result (Each (IsProblem (table_view table.now) fault) problems.new.items) }
+    ensures { let ms = table_view table.now in
+        OnOk result (AddsWrong ms fault (found_of problem.entry ∷ []) problems.old.items problems.new.items) }
 {
-    if problem.rule.fault() != fault {
+    if problem.rule.fault().number() != fault.number() {
         return Ok(());
     }
     if keeps(
@@ -113,8 +122,8 @@ fn push_fields<'a>(
 ) -> Result<(), AllocError>
     requires file { file.now ≡ said.file (table_view table.now) }
     requires functions { functions.now ≡ standings file.now }
-    requires problems { Each (IsProblem (table_view table.now) fault) problems.old.items }
-    ensures { OnOk result (Each (IsProblem (table_view table.now) fault) problems.new.items) }
+    ensures { let ms = table_view table.now in
+        OnOk result (AddsWrong ms fault (of_fields entry) problems.old.items problems.new.items) }
 {
     let Some(level) = level_of(entry) else {
         return Ok(());
@@ -149,8 +158,8 @@ fn push_unknown<'a>(
 ) -> Result<(), AllocError>
     requires file { file.now ≡ said.file (table_view table.now) }
     requires functions { functions.now ≡ standings file.now }
-    requires problems { Each (IsProblem (table_view table.now) fault) problems.old.items }
-    ensures { OnOk result (Each (IsProblem (table_view table.now) fault) problems.new.items) }
+    ensures { let ms = table_view table.now in
+        OnOk result (AddsWrong ms fault (of_members ms entry) problems.old.items problems.new.items) }
 {
     let Some(inner) = table_at(table, entry) else {
         return Ok(());
@@ -178,13 +187,13 @@ fn push_others<'a>(
 ) -> Result<(), AllocError>
     requires file { file.now ≡ said.file (table_view table.now) }
     requires functions { functions.now ≡ standings file.now }
-    requires problems { Each (IsProblem (table_view table.now) fault) problems.old.items }
-    ensures { OnOk result (Each (IsProblem (table_view table.now) fault) problems.new.items) }
+    ensures { let ms = table_view table.now in
+        OnOk result (AddsWrong ms fault (of_rules entry) problems.old.items problems.new.items) }
 {
-    'rules: for rule in Rule::ALL {
+    'rules: for rule in Rule::others() {
         let problem = Problem {
             entry,
-            rule,
+            rule: *rule,
             key: rule.key(),
         };
         push_problem(alloc, problems, table, file, functions, fault, problem)?;
@@ -192,39 +201,41 @@ fn push_others<'a>(
     Ok(())
 }
 
+/// Appends all that is wrong with an entry.
+fn push_entry<'a>(
+    alloc: Global,
+    problems: &mut Vec<Problem<'a>>,
+    table: &'a Table,
+    file: &FileEntries<'_>,
+    functions: &[FunctionPath],
+    fault: BoardFault,
+    entry: Entry,
+) -> Result<(), AllocError>
+    requires file { file.now ≡ said.file (table_view table.now) }
+    requires functions { functions.now ≡ standings file.now }
+    ensures { let ms = table_view table.now in
+        OnOk result (AddsWrong ms fault (asked ms entry) problems.old.items problems.new.items) }
+{
+    push_fields(alloc, problems, table, file, functions, fault, entry)?;
+    push_unknown(alloc, problems, table, file, functions, fault, entry)?;
+    push_others(alloc, problems, table, file, functions, fault, entry)
+}
+
 /// All entries that break a rule whose fault this is, each with this rule and the key at which it is
-/// broken.
+/// broken, in the order of the file.
 pub fn problems(
     alloc: Global,
     table: &Table,
     fault: BoardFault,
 ) -> Result<Vec<Problem<'_>>, AllocError>
-    ensures { IfOk result (λ v. Each (IsProblem (table_view table.now) fault) v.items) }
+    ensures { IfOk result (λ v. map found_of v.items ≡ problems_of (table_view table.now) fault) }
 {
     let file = read_entries(alloc, table)?;
     let functions = function_paths(alloc, &file)?;
     let entries = entries(alloc, &file)?;
     let mut problems = Vec::new(alloc);
     'entries: for entry in &entries {
-        push_fields(
-            alloc,
-            &mut problems,
-            table,
-            &file,
-            &functions,
-            fault,
-            *entry,
-        )?;
-        push_unknown(
-            alloc,
-            &mut problems,
-            table,
-            &file,
-            &functions,
-            fault,
-            *entry,
-        )?;
-        push_others(
+        push_entry(
             alloc,
             &mut problems,
             table,

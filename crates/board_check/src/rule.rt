@@ -1,6 +1,7 @@
 //! The rules that entries have to keep.
 ghost use Rattle.std.specs.Prelude.{◌≡◌};
 ghost use Rattle.board_check.specs.Rules.{fault_of, key_of, words_of};
+ghost use Rattle.board_check.specs.Problems.{other_rules};
 
 use board_file::BoardFault;
 
@@ -89,7 +90,7 @@ pub enum Rule {
 
 impl Rule {
     /// All rules, but those of keys.
-    pub(crate) const ALL: [Rule; 36] = [
+    const OTHERS: [Rule; 36] = [
         Rule::Vendor,
         Rule::Device,
         Rule::Revision,
@@ -127,6 +128,13 @@ impl Rule {
         Rule::PrefAperture,
         Rule::OwnOffsets,
     ];
+
+    /// All rules, but those of keys.
+    pub(crate) fn others() -> &'static [Rule]
+        ensures { result.now ≡ other_rules }
+    {
+        &Self::OTHERS
+    }
 
     /// The fault of a file in which the rule is broken.
     pub fn fault(self) -> BoardFault

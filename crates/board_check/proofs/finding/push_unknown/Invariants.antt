@@ -1,7 +1,14 @@
+use Rattle.std.proofs.Common.{◌≡◌, ◌++◌, [], ◌∷◌, map}
+use Rattle.std.specs.List.{flat_map, filter}
+use Rattle.std.specs.Prelude.{string_bytes}
 use Rattle.toml.specs.View.{table_view}
-use Rattle.model_registers.specs.Lists.{Each}
-use Rattle.board_check.specs.Keeping.{IsProblem}
+use Rattle.board_check.specs.Problems.{found_of, of_member, is_wrong}
 use Rattle.board_check.proofs.finding.push_unknown.Given as goal
 
 abbrev pub invariant-members : goal.invariant-members
-invariant-members l = Each (IsProblem (table_view l.table) l.fault) l.problems.items
+invariant-members l =
+    let wrong = is_wrong (table_view l.table) l.fault in
+    (goal.iterator-members).can_next l.key-iterator ×
+    (goal.iterator-members).is_finite l.key-iterator ×
+    (map found_of l.problems.items ++ flat_map (λ e. filter wrong (of_member l.entry (string_bytes e.0) ∷ [])) l.key-iterator
+    ≡ map found_of l.fn.problems.items ++ flat_map (λ e. filter wrong (of_member l.entry (string_bytes e.0) ∷ [])) l.initial.key-iterator)

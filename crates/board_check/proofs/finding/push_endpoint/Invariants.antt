@@ -1,0 +1,10 @@
+use Rattle.std.proofs.Common.{◌≡◌, ◌++◌, map}
+use Rattle.std.specs.List.{range_with_len}
+use Rattle.board_check.specs.declared.entry.Entry.TheVariants as entry
+use Rattle.board_check.proofs.finding.push_endpoint.Given as goal
+
+abbrev pub invariant-bars : goal.invariant-bars
+invariant-bars l = l.entries.items ≡ l.initial.entries.items ++ map (entry.Bar l.index) (range_with_len 0 l.bar)
+
+abbrev pub invariant-configs : goal.invariant-configs
+invariant-configs l = l.entries.items ≡ l.initial.entries.items ++ map (entry.Config l.index) (range_with_len 0 l.config)
