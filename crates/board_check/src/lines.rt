@@ -1,13 +1,12 @@
 //! The lines of entries.
-ghost use Rattle.std.specs.Prelude.{◌≡◌, IfOk, IfSome};
+ghost use Rattle.std.specs.Prelude.{◌≡◌, IfOk, IfSome, map};
 ghost use Rattle.toml.specs.View.{table_view};
 ghost use Rattle.model_registers.specs.Lists.{Each};
-ghost use Rattle.board_check.specs.Keeping.{IsProblem};
-ghost use Rattle.board_check.specs.Lines.{IsLineOf, IsTold};
+ghost use Rattle.board_check.specs.Lines.{IsLineOf};
+ghost use Rattle.board_check.specs.Telling.{problem_of, HasLine};
 
 use crate::entry::Entry;
 use crate::finding::Problem;
-use board_file::BoardFault;
 use std::alloc::{AllocError, Global};
 use value_places::{Places, Step};
 
@@ -59,11 +58,10 @@ fn line_of(
 pub fn with_lines<'a>(
     alloc: Global,
     places: &Places<'_>,
-    fault: BoardFault,
     problems: &[Problem<'a>],
 ) -> Result<Vec<Told<'a>>, AllocError>
-    requires { Each (IsProblem (table_view places.now.document.now) fault) problems.now }
-    ensures { IfOk result (λ v. Each (IsTold places.now.text.now (table_view places.now.document.now) fault) v.items) }
+    ensures same { IfOk result (λ v. map problem_of v.items ≡ problems.now) }
+    ensures lines { IfOk result (λ v. Each (HasLine places.now.text.now (table_view places.now.document.now)) v.items) }
 {
     let mut all = Vec::new(alloc);
     'problems: for problem in problems {

@@ -1,14 +1,13 @@
 //! What is told of a board file that is refused.
-ghost use Rattle.std.specs.Prelude.{◌≡◌, ◌++◌, IfOk, IfSome, Some, string_bytes};
+ghost use Rattle.std.specs.Prelude.{◌≡◌, ◌++◌, IfOk, IfSome, OnOk, Some, string_bytes};
 ghost use Rattle.toml.specs.View.{table_view};
-ghost use Rattle.board_check.specs.Lines.{IsTold};
 ghost use Rattle.board_check.specs.Texts.{bare_text, lines_text};
-ghost use Rattle.board_check.specs.Telling.{IsRefusalText, IsRefusal, IsLineIn};
+ghost use Rattle.board_check.specs.Telling.{IsRefusalText, IsRefusal, IsLineIn, IsByLine};
 ghost use Rattle.toml.specs.Errors.{IsWithin};
 ghost use Rattle.toml.specs.Parse.{parse_document};
 
 use crate::finding::problems;
-use crate::lines::with_lines;
+use crate::lines::{Told, with_lines};
 use crate::texts::{push_bare, push_lines};
 use board_file::BoardFault;
 use std::alloc::{AllocError, Global};
@@ -41,6 +40,14 @@ fn last_line(bytes: &[u8], error: &Error) -> Option<usize>
     }
 }
 
+/// Puts the problems in the order of their lines. Those without a line come first, and those of one line
+/// keep their order.
+fn sort_by_line(told: &mut Vec<Told<'_>>) -> Result<(), AllocError>
+    ensures { OnOk result (IsByLine told.old.items told.new.items) }
+{
+    told.sort_by_key(|one| one.line.unwrap_or(0))
+}
+
 /// The lines of a document that is refused.
 fn refusal(
     alloc: Global,
@@ -54,14 +61,16 @@ fn refusal(
 {
     let problems = problems(alloc, document, fault)?;
     let places = Places::new(alloc, bytes, document)?;
-    let told = with_lines(alloc, &places, fault, &problems)?;
+    let mut told = with_lines(alloc, &places, &problems)?;
+    sort_by_line(&mut told)?;
     let mut text = String::new(alloc);
     push_lines(&mut text, name, document, fault, &told)?;
     Ok(text)
 }
 
 /// What is told of a board file that is refused with this fault: a line for each entry that breaks a
-/// rule with this fault, or one line where none is known or the bytes are no document. `name` is what the file is called.
+/// rule with this fault, in the order of their lines in the file, or one line where none is known or
+/// the bytes are no document. `name` is what the file is called.
 pub fn refusal_text(
     alloc: Global,
     name: &str,
