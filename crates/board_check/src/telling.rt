@@ -45,7 +45,8 @@ fn last_line(bytes: &[u8], error: &Error) -> Option<usize>
 fn sort_by_line(told: &mut Vec<Told<'_>>) -> Result<(), AllocError>
     ensures { OnOk result (IsByLine told.old.items told.new.items) }
 {
-    told.sort_by_key(|one| one.line.unwrap_or(0))
+    told.sort_by_key(|one| one.line.unwrap_or(0))?;
+    Ok(())
 }
 
 /// The lines of a document that is refused.
