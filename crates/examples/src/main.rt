@@ -56,7 +56,7 @@ const RUNS: [(&str, &str); 8] = [
 
 /// Boards that are checked: two that fit, one for each reason of a refusal, and some with many things
 /// wrong.
-const CHECKS: [&str; 22] = [
+const CHECKS: [&str; 23] = [
     "main.toml",
     "demo.toml",
     "not_toml.toml",
@@ -79,6 +79,7 @@ const CHECKS: [&str; 22] = [
     "many_keys.toml",
     "many_numbers.toml",
     "many_places.toml",
+    "bridge_first.toml",
 ];
 
 /// Writes the report of a board file.
