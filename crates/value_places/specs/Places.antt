@@ -6,6 +6,8 @@
 --     changes      between two documents the value at the end of a way becomes a number, and all else stays
 --     IsPlace      another value put there changes exactly the value at the end of the way
 --     IsLine      the line of such a place
+--     GoesOn way longer      the longer way begins with the way
+--     IsLineWithin      the line of a value at the end of a way, or of one inside that value
 use Rattle.std.specs.Prelude.{◌≡◌, ◌<◌, ◌≤◌, ◌+◌, ℕ, ℤ, pos, nat_abs, int_le, codes, Bool, true, false, not, ◌&&◌, List, [], ◌∷◌, ◌++◌, take, drop, length, decimal, Option, Some, None, option_map, option_and_then, is_some, if◌then◌else◌}
 use Rattle.std.specs.Option.{option_map_or}
 use Rattle.std.specs.Ordering.{int_eq}
@@ -72,3 +74,14 @@ pub record IsLine (text : List ℕ) (before : Members) (way : List Step) (line :
   pub start : ℕ
   pub place : IsPlace text before way start
   pub is_line : line ≡ line_of start text
+
+-- ---- a line inside a value
+
+pub record GoesOn (way longer : List Step) : Type 0 where
+  pub rest : List Step
+  pub is_longer : longer ≡ way ++ rest
+
+pub record IsLineWithin (text : List ℕ) (before : Members) (way : List Step) (line : ℕ) : Type 0 where
+  pub longer : List Step
+  pub goes_on : GoesOn way longer
+  pub is_line : IsLine text before longer line

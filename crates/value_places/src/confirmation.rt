@@ -4,11 +4,12 @@ ghost use Rattle.std.specs.Option.{option_map_or};
 ghost use Rattle.toml.specs.Data.{table};
 ghost use Rattle.toml.specs.Parse.{parse_document};
 ghost use Rattle.toml.specs.View.{view, table_view};
-ghost use Rattle.value_places.specs.Places.{edited, is_number, changes, IsPlace, IsLine};
+ghost use Rattle.value_places.specs.Places.{edited, is_number, changes, IsPlace, IsLine, IsLineWithin};
 
 use crate::comparison::members_same_but;
+use crate::descent::push_descent;
 use crate::line_numbers::line_of;
-use crate::look_up::{Extent, scalar_at};
+use crate::look_up::{Extent, scalar_at, whole_way};
 use crate::scanning::second_document;
 use crate::steps::{Step, value_at};
 use std::alloc::{AllocError, Global};
@@ -154,5 +155,19 @@ impl<'a> Places<'a> {
             Some(start) => Ok(Some(line_of(start, self.text))),
             None => Ok(None),
         }
+    }
+    /// The line of the scalar at the end of the way, or of the first one inside the value there,
+    /// where its place is known and was confirmed.
+    pub fn line_within(&self, alloc: Global, way: &[Step<'_>]) -> Result<Option<usize>, AllocError>
+        ensures { IfOk result (λ found.
+            IfSome found (IsLineWithin self.now.text.now (table_view self.now.document.now) way.now)) }
+    {
+        let Some(listed) = whole_way(way, &self.second) else {
+            return Ok(None);
+        };
+        let mut longer = Vec::new(alloc);
+        longer.extend_from_slice(way)?;
+        push_descent(&mut longer, listed)?;
+        self.line(alloc, &longer)
     }
 }

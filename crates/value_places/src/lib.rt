@@ -3,6 +3,7 @@
 
 mod comparison;
 mod confirmation;
+mod descent;
 mod line_numbers;
 mod look_up;
 mod scanning;

@@ -54,7 +54,7 @@ fn listed_behind<'v>(way: &[Step<'_>], value: &'v Value) -> Option<&'v Value>
 }
 
 /// The number, where it is not negative.
-fn natural(number: i64) -> Option<usize>
+pub(crate) fn natural(number: i64) -> Option<usize>
     ensures { result ≡ natural number }
 {
     if 0 <= number {
@@ -78,7 +78,7 @@ fn number_at(value: &Value, index: usize) -> Option<usize>
 }
 
 /// The value at the end of a way of one step or more in a second document.
-fn whole_way<'v>(way: &[Step<'_>], second: &'v Table) -> Option<&'v Value>
+pub(crate) fn whole_way<'v>(way: &[Step<'_>], second: &'v Table) -> Option<&'v Value>
     ensures { IfSome result (λ v. listed_at way.now (table (table_view second.now)) ≡ Some (view v.now)) }
 {
     match way {

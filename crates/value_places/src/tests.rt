@@ -17,6 +17,22 @@ fn line(rt: &HostRuntime, text: &str, way: &[Step<'_>]) -> usize {
     }
 }
 
+/// The line of the value at the end of a way or inside the value there, or 0.
+fn line_within(rt: &HostRuntime, text: &str, way: &[Step<'_>]) -> usize {
+    let alloc = rt.alloc();
+    let bytes = text.as_bytes();
+    let Ok(document) = toml::table_from_slice(alloc, bytes) else {
+        return 0;
+    };
+    let Ok(places) = Places::new(alloc, bytes, &document) else {
+        return 0;
+    };
+    match places.line_within(alloc, way) {
+        Ok(Some(line)) => line,
+        _ => 0,
+    }
+}
+
 const BOARD: &str = r#"# faults of every writing
 [host]
 io = [0x1000, 0xffff]   # a # in a comment "
@@ -124,4 +140,70 @@ fn numbers_and_keys_of_a_digit(rt: HostRuntime) {
     assert_eq!(rt; line(&rt, "[t]\n\"@\" = 0", &[Key("t"), Key("@")]), 0);
     assert_eq!(rt; line(&rt, "a = 0\nb = 1.5", &[Key("a")]), 0);
     assert_eq!(rt; line(&rt, "a = 0\nb = 1.5", &[Key("b")]), 2);
+}
+
+/// Tables and arrays of every writing, whose first keys in the alphabet don't come first.
+const PARTS: &str = r#"[host]
+mem = [
+  0xc0000000, 0xdfffffff]
+
+[[endpoint]]
+vendor = 0x1234
+bar = [
+  # none before
+  { kind = "io",
+    index = 0 },
+]
+at = "1.0"
+config = []
+none = {}
+
+[[endpoint]]
+sub.b.device = 7
+sub.b.at = 8
+
+[[endpoint.bar]]
+# a comment
+size = 16
+index = 0
+
+[lists]
+deep = [[], [1]]
+deeper = [[[
+  2]]]
+"#;
+
+#[test]
+fn first_in_tables(rt: HostRuntime) {
+    let within = |way: &[Step<'_>]| line_within(&rt, PARTS, way);
+    assert_eq!(rt; within(&[Key("endpoint"), Index(0)]), 6);
+    assert_eq!(rt;
+        within(&[Key("endpoint"), Index(0), Key("bar"), Index(0)]),
+        9
+    );
+    assert_eq!(rt; within(&[Key("endpoint"), Index(1)]), 17);
+    assert_eq!(rt; within(&[Key("endpoint"), Index(1), Key("sub")]), 17);
+    assert_eq!(rt; within(&[Key("endpoint"), Index(0), Key("none")]), 0);
+    assert_eq!(rt; within(&[]), 0);
+}
+
+#[test]
+fn first_in_arrays(rt: HostRuntime) {
+    let within = |way: &[Step<'_>]| line_within(&rt, PARTS, way);
+    assert_eq!(rt; within(&[Key("host"), Key("mem")]), 3);
+    assert_eq!(rt; within(&[Key("endpoint")]), 6);
+    assert_eq!(rt; within(&[Key("endpoint"), Index(0), Key("bar")]), 9);
+    assert_eq!(rt; within(&[Key("endpoint"), Index(1), Key("bar")]), 22);
+    assert_eq!(rt; within(&[Key("endpoint"), Index(0), Key("config")]), 0);
+    assert_eq!(rt; within(&[Key("lists"), Key("deep")]), 0);
+    assert_eq!(rt; within(&[Key("lists"), Key("deeper")]), 28);
+}
+
+#[test]
+fn scalars_and_missing_keys_within(rt: HostRuntime) {
+    let within = |way: &[Step<'_>]| line_within(&rt, PARTS, way);
+    assert_eq!(rt; within(&[Key("endpoint"), Index(0), Key("at")]), 12);
+    assert_eq!(rt; within(&[Key("host"), Key("mem"), Index(1)]), 3);
+    assert_eq!(rt; within(&[Key("endpoint"), Index(0), Key("device")]), 0);
+    assert_eq!(rt; within(&[Key("endpoint"), Index(2)]), 0);
 }
