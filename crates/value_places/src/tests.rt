@@ -171,6 +171,10 @@ index = 0
 deep = [[], [1]]
 deeper = [[[
   2]]]
+
+[[guest]]
+slots = [ ]
+name = "none"
 "#;
 
 #[test]
@@ -184,6 +188,7 @@ fn first_in_tables(rt: HostRuntime) {
     assert_eq!(rt; within(&[Key("endpoint"), Index(1)]), 17);
     assert_eq!(rt; within(&[Key("endpoint"), Index(1), Key("sub")]), 17);
     assert_eq!(rt; within(&[Key("endpoint"), Index(0), Key("none")]), 0);
+    assert_eq!(rt; within(&[Key("guest"), Index(0)]), 32);
     assert_eq!(rt; within(&[]), 0);
 }
 
@@ -195,7 +200,7 @@ fn first_in_arrays(rt: HostRuntime) {
     assert_eq!(rt; within(&[Key("endpoint"), Index(0), Key("bar")]), 9);
     assert_eq!(rt; within(&[Key("endpoint"), Index(1), Key("bar")]), 22);
     assert_eq!(rt; within(&[Key("endpoint"), Index(0), Key("config")]), 0);
-    assert_eq!(rt; within(&[Key("lists"), Key("deep")]), 0);
+    assert_eq!(rt; within(&[Key("lists"), Key("deep")]), 26);
     assert_eq!(rt; within(&[Key("lists"), Key("deeper")]), 28);
 }
 
