@@ -2,11 +2,12 @@
 ghost use Rattle.std.specs.Prelude.{◌≡◌, IfOk, IfSome, map};
 ghost use Rattle.toml.specs.View.{table_view};
 ghost use Rattle.model_registers.specs.Lists.{Each};
-ghost use Rattle.board_check.specs.Lines.{IsLineOf};
+ghost use Rattle.board_check.specs.Lines.{turn, way_of, way_to, IsLineOf};
 ghost use Rattle.board_check.specs.Telling.{problem_of, HasLine};
 
 use crate::entry::Entry;
 use crate::finding::Problem;
+use crate::keys::value_at;
 use std::alloc::{AllocError, Global};
 use value_places::{Places, Step};
 
@@ -17,7 +18,46 @@ pub struct Told<'a> {
     pub line: Option<usize>,
 }
 
-/// The line of the value at a key of an entry, where that is known and was confirmed.
+/// The way to an entry.
+fn way_of<'k>(alloc: Global, entry: Entry) -> Result<Vec<Step<'k>>, AllocError>
+    ensures { IfOk result (λ v. map turn v.items ≡ way_of entry) }
+{
+    let endpoint = Step::Key("endpoint");
+    let bar = Step::Key("bar");
+    let config = Step::Key("config");
+    let guest = Step::Key("guest");
+    let slots = Step::Key("slots");
+    match entry {
+        Entry::File => Ok(Vec::new(alloc)),
+        Entry::Host => Ok(vec![in alloc; Step::Key("host")]?),
+        Entry::Endpoint(i) => Ok(vec![in alloc; endpoint, Step::Index(i)]?),
+        Entry::Bar(i, j) => Ok(vec![in alloc; endpoint, Step::Index(i), bar, Step::Index(j)]?),
+        Entry::Config(i, j) => Ok(vec![in alloc;
+            endpoint,
+            Step::Index(i),
+            config,
+            Step::Index(j),
+        ]?),
+        Entry::Bridge(i) => Ok(vec![in alloc; Step::Key("bridge"), Step::Index(i)]?),
+        Entry::Guest(i) => Ok(vec![in alloc; guest, Step::Index(i)]?),
+        Entry::Slot(i, j) => Ok(vec![in alloc; guest, Step::Index(i), slots, Step::Index(j)]?),
+    }
+}
+
+/// The way to the value at a key of an entry.
+fn way_to<'k>(alloc: Global, entry: Entry, key: &'k str) -> Result<Vec<Step<'k>>, AllocError>
+    ensures { IfOk result (λ v. map turn v.items ≡ way_to entry key.now) }
+{
+    let mut way = way_of(alloc, entry)?;
+    match entry {
+        Entry::Slot(_, _) => {}
+        _ => way.push(Step::Key(key))?,
+    }
+    Ok(way)
+}
+
+/// The line of the value at a key of an entry, or where there is none of a value of the entry,
+/// where that is known and was confirmed.
 fn line_of(
     alloc: Global,
     places: &Places<'_>,
@@ -27,30 +67,12 @@ fn line_of(
     ensures { IfOk result (λ found.
         IfSome found (IsLineOf places.now.text.now (table_view places.now.document.now) entry key.now)) }
 {
-    let key = Step::Key(key);
-    let endpoint = Step::Key("endpoint");
-    match entry {
-        Entry::File => places.line(alloc, &[key]),
-        Entry::Host => places.line(alloc, &[Step::Key("host"), key]),
-        Entry::Endpoint(i) => places.line(alloc, &[endpoint, Step::Index(i), key]),
-        Entry::Bar(i, j) => {
-            let bar = Step::Key("bar");
-            places.line(alloc, &[endpoint, Step::Index(i), bar, Step::Index(j), key])
-        }
-        Entry::Config(i, j) => {
-            let config = Step::Key("config");
-            places.line(
-                alloc,
-                &[endpoint, Step::Index(i), config, Step::Index(j), key],
-            )
-        }
-        Entry::Bridge(i) => places.line(alloc, &[Step::Key("bridge"), Step::Index(i), key]),
-        Entry::Guest(i) => places.line(alloc, &[Step::Key("guest"), Step::Index(i), key]),
-        Entry::Slot(i, j) => {
-            let guest = Step::Key("guest");
-            let slots = Step::Key("slots");
-            places.line(alloc, &[guest, Step::Index(i), slots, Step::Index(j)])
-        }
+    if value_at(places.document, entry, key).is_some() {
+        let way = way_to(alloc, entry, key)?;
+        places.line_within(alloc, &way)
+    } else {
+        let way = way_of(alloc, entry)?;
+        places.line_within(alloc, &way)
     }
 }
 
