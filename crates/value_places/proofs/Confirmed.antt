@@ -1,20 +1,17 @@
--- A place that an edit confirms.
-use Rattle.std.proofs.Common.{◌≡◌, ◌<◌, ◌≤◌, ℕ, true, List, length, Some, option_map, Result, Ok, Err, IfOk}
-use Rattle.toml.specs.Data.{Members}
+-- A place that its mark confirms.
+use Rattle.std.proofs.Common.{◌≡◌, ℕ, true, List, Some, option_map, ap, ◌∙◌}
+use Rattle.std.proofs.Math.Logic.{∥∥₁_elim}
+use Rattle.std.proofs.Props.{props}
+use Rattle.toml.specs.Data.{Members, table}
 use Rattle.toml.specs.Parse.{parse_document}
 use Rattle.value_places.specs.declared.steps.Step.{Step}
-use Rattle.value_places.specs.Places.{edited, changes, IsPlace}
+use Rattle.value_places.specs.declared.scanning.Extent.{Extent}
+use Rattle.value_places.specs.Marks.{with_marks, is_mark}
+use Rattle.value_places.specs.Ways.{value_at}
 
-pub if_ok-map : {T E : Type 0} (r : Result T E) (P Q : T → Type 0) → ((x : T) → P x → Q x) → IfOk r P → IfOk r Q
-if_ok-map (Ok x) P Q f h = f x h
-if_ok-map (Err e) P Q f h = tt
-
-pub place_from : (text : List ℕ) (before : Members) (way : List Step) (start end digit : ℕ) → start ≤ end → end ≤ length text → digit < 10 → option_map (changes digit way before) (parse_document (edited digit start end text)) ≡ Some true → IsPlace text before way start
-place_from text before way start end digit order within is_digit changed = record {
-  end = end;
-  digit = digit;
-  order = order;
-  within = within;
-  is_digit = is_digit;
-  changed = changed;
-}
+pub is_mark_in : (text : List ℕ) (way : List Step) (start : ℕ) (places : List Extent) (m : Members)
+    → ∥ parse_document (with_marks text 0 places) ≡ Some m ∥₁ → is_mark start (value_at way (table m)) ≡ true
+    → option_map (λ after. is_mark start (value_at way (table after))) (parse_document (with_marks text 0 places)) ≡ Some true
+is_mark_in text way start places m parsed marked =
+    ∥∥₁_elim parsed (Prim.hlevel props)
+    (λ e. ap (option_map (λ (after : Members). is_mark start (value_at way (table after)))) e ∙ ap Some marked)

@@ -1,3 +1,4 @@
 pub mod Items
+pub mod InOrder
 pub mod Confirmed
 pub mod LongerWays

@@ -1,3 +1,5 @@
 pub mod LineNumbers
 pub mod Ways
+pub mod Marks
+pub mod Shapes
 pub mod Places

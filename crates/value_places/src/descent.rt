@@ -2,8 +2,7 @@
 ghost use Rattle.std.specs.Prelude.{OnOk};
 ghost use Rattle.value_places.specs.Places.{GoesOn};
 
-use crate::look_up::natural;
-use crate::scanning::OWN;
+use crate::marking::marked_start;
 use crate::steps::Step;
 use std::alloc::AllocError;
 use toml::Table;
@@ -17,17 +16,13 @@ fn earlier(one: Option<usize>, other: Option<usize>) -> Option<usize> {
     }
 }
 
-/// Where the first scalar begins that is inside a value of a second document, if there is one.
+/// Where the first mark inside a value stands, if there is one.
 #[cycle(starts)]
-fn start_in(listed: &Value) -> Option<usize> {
-    match listed {
-        Value::Array(items) => match items.as_slice() {
-            [Value::Integer(start), ..] => natural(*start),
-            [Value::Array(_), rest @ ..] => start_in_items(rest),
-            all => start_in_items(all),
-        },
+fn start_in(marked: &Value) -> Option<usize> {
+    match marked {
+        Value::Array(items) => start_in_items(items.as_slice()),
         Value::Table(table) => start_in_table(table),
-        _ => None,
+        scalar => marked_start(scalar),
     }
 }
 
@@ -45,25 +40,19 @@ fn start_in_items(items: &[Value]) -> Option<usize> {
 #[cycle(starts)]
 fn start_in_table(table: &Table) -> Option<usize> {
     let mut first = None;
-    for (key, inner) in table.iter() {
-        if key.as_str() != OWN {
-            first = earlier(first, start_in(inner));
-        }
+    for (_, inner) in table.iter() {
+        first = earlier(first, start_in(inner));
     }
     first
 }
 
-/// Appends the steps from a value of a second document to the first scalar inside it, if there is
-/// one.
+/// Appends the steps from a value with marks to the first scalar inside it, if there is one.
 #[cycle(descent)]
-pub(crate) fn push_descent<'v>(way: &mut Vec<Step<'v>>, listed: &'v Value) -> Result<(), AllocError>
+pub(crate) fn push_descent<'v>(way: &mut Vec<Step<'v>>, marked: &'v Value) -> Result<(), AllocError>
     ensures { OnOk result (GoesOn way.old.items way.new.items) }
 {
-    match listed {
-        Value::Array(items) => match items.as_slice() {
-            [Value::Array(_), rest @ ..] => push_in_items(way, rest),
-            all => push_in_items(way, all),
-        },
+    match marked {
+        Value::Array(items) => push_in_items(way, items.as_slice()),
         Value::Table(table) => push_in_table(way, table),
         _ => Ok(()),
     }
@@ -88,7 +77,7 @@ fn push_in_table<'v>(way: &mut Vec<Step<'v>>, table: &'v Table) -> Result<(), Al
 {
     let first = start_in_table(table);
     'members: for (key, inner) in table.iter() {
-        if key.as_str() != OWN && first.is_some() && start_in(inner) == first {
+        if first.is_some() && start_in(inner) == first {
             way.push(Step::Key(key.as_str()))?;
             return push_descent(way, inner);
         }

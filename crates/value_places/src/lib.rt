@@ -1,12 +1,12 @@
 //! Where the values of a TOML document stand in its text.
 #![tactic(auto)]
 
-mod comparison;
 mod confirmation;
 mod descent;
 mod line_numbers;
-mod look_up;
+mod marking;
 mod scanning;
+mod shapes;
 mod steps;
 #[cfg(test)]
 mod tests;

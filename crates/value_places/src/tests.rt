@@ -11,10 +11,7 @@ fn line(rt: &HostRuntime, text: &str, way: &[Step<'_>]) -> usize {
     let Ok(places) = Places::new(alloc, bytes, &document) else {
         return 0;
     };
-    match places.line(alloc, way) {
-        Ok(Some(line)) => line,
-        _ => 0,
-    }
+    places.line(way).unwrap_or(0)
 }
 
 /// The line of the value at the end of a way or inside the value there, or 0.
@@ -132,14 +129,19 @@ fn quotes_of_every_kind(rt: HostRuntime) {
     assert_eq!(rt; at(&[Key("a")]), 0);
 }
 
-/// A number that is the digit itself, a key that hides the place of a table, and a float.
+/// A float, a date, a text that is the mark of its own place, and a table that has no value.
 #[test]
-fn numbers_and_keys_of_a_digit(rt: HostRuntime) {
-    assert_eq!(rt; line(&rt, "\na = 0\nb = 1", &[Key("a")]), 2);
-    assert_eq!(rt; line(&rt, "\na = 0\nb = 1", &[Key("b")]), 3);
-    assert_eq!(rt; line(&rt, "[t]\n\"@\" = 0", &[Key("t"), Key("@")]), 0);
-    assert_eq!(rt; line(&rt, "a = 0\nb = 1.5", &[Key("a")]), 0);
-    assert_eq!(rt; line(&rt, "a = 0\nb = 1.5", &[Key("b")]), 2);
+fn scalars_of_every_kind(rt: HostRuntime) {
+    assert_eq!(rt; line(&rt, "\na = 0\nb = 1.5e3", &[Key("a")]), 2);
+    assert_eq!(rt; line(&rt, "\na = 0\nb = 1.5e3", &[Key("b")]), 3);
+    let dates = "a = 1979-05-27 07:32:00\nb = 07:32:00 # none\nc = inf";
+    assert_eq!(rt; line(&rt, dates, &[Key("a")]), 1);
+    assert_eq!(rt; line(&rt, dates, &[Key("b")]), 2);
+    assert_eq!(rt; line(&rt, dates, &[Key("c")]), 3);
+    assert_eq!(rt; line(&rt, "a = \"@4\"\nb = \"@4\"", &[Key("a")]), 0);
+    assert_eq!(rt; line(&rt, "a = \"@4\"\nb = \"@4\"", &[Key("b")]), 2);
+    assert_eq!(rt; line(&rt, "[t]\n\"@\" = 0", &[Key("t")]), 0);
+    assert_eq!(rt; line(&rt, "[t]\n\"@\" = 0", &[Key("t"), Key("@")]), 2);
 }
 
 /// Tables and arrays of every writing, whose first keys in the alphabet don't come first.

@@ -10,4 +10,4 @@ push_in_items-returns-then-is_some t c =
 pub push_in_table-returns-then-eq : goal.push_in_table-returns-then-eq
 push_in_table-returns-then-eq t c =
     let pushed = rw c.members.invariant.way_stays at c.in_ok-push.ensures.items in
-    on_ok-step c.push_descent.result c.args.way.now.items c.push.new.self.items c.push_descent.new.way.items (Key c.as_str-then-eq.result) pushed c.push_descent.ensures
+    on_ok-step c.push_descent.result c.args.way.now.items c.push.new.self.items c.push_descent.new.way.items (Key c.as_str.result) pushed c.push_descent.ensures

@@ -1,0 +1,20 @@
+use Rattle.std.proofs.Common.{Bor, option_map, ap, sym, subst, ◌∙◌}
+use Rattle.toml.specs.View.{view, table_view}
+use Rattle.toml.specs.declared.value.Value.{Value}
+use Rattle.value_places.specs.Marks.{is_mark}
+use Rattle.value_places.specs.Places.{Begins}
+use Rattle.value_places.proofs.Confirmed.{is_mark_in}
+use Rattle.value_places.proofs.confirmation.Places.start.Goals as goal
+
+pub returns-then-not-is_mark : goal.returns-then-not-is_mark
+returns-then-not-is_mark c =
+    let it = c.args.self.now in let start = c.in_ok-start.start in
+    let held = it.confirmed c.in-Some.marked c.in-Some.is in
+    record {
+      places = it.places.items;
+      is_marked = held.0;
+      begins = subst (λ ps. Begins ps start) c.deref.ensures.value (c.begins_one.ensures c.if-not-begins_one.false);
+      is_mark_now = is_mark_in it.text.now c.args.way.now start it.places.items (table_view c.in-Some.marked) held.1
+          (ap (is_mark start) (sym c.value_at.ensures ∙ ap (option_map (λ (v : Bor Value). view v.now)) c.in_ok-value.was) ∙ sym c.if-is_mark.ensures);
+      was_other = ap (is_mark start) (sym c.value_at-then-is_mark.ensures) ∙ sym c.if-not-is_mark.ensures;
+    }
