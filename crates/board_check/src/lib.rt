@@ -7,6 +7,7 @@ mod finding;
 mod hosts;
 mod keeping;
 mod keys;
+pub mod laws;
 mod lines;
 mod placing;
 mod rule;

@@ -55,7 +55,7 @@ pub struct Field {
 /// What is looked at: that needed keys are there and values have their form, or that each key is
 /// known.
 #[derive(Clone, Copy, PartialEq, Eq)]
-pub(crate) enum Check {
+pub enum Check {
     Types,
     Keys,
 }

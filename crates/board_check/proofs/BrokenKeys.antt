@@ -1,0 +1,171 @@
+-- A check of keys or forms that fails in a document, level by level.
+use Rattle.std.proofs.Common.{◌≡◌, ℕ, zero, suc, true, false, List, [], ◌∷◌, map, codes, Option, Some, refl, sym, ap, ◌∙◌, subst, inl, inr}
+use Rattle.std.specs.Prelude.{slice_get, option_and_then, unwrap_or, filter}
+use Rattle.std.specs.List.{filter_map}
+use Rattle.toml.specs.Data.{Data, array, table, Items, no_items, Members, get_member, at, as_table, as_array, members_are_sorted}
+use Rattle.board_file.specs.Entries.{tables, endpoint, bar, config, bridge, guest, file}
+use Rattle.board_file.specs.Schema.{Field, fields, form_at, list_of, table_passes}
+use Rattle.board_file.specs.declared.schema.Level.{Level}
+use Rattle.board_file.specs.declared.schema.Level.TheVariants as level
+use Rattle.board_file.specs.declared.schema.Form.{Form}
+use Rattle.board_file.specs.declared.schema.Form.TheVariants.{Table, Tables}
+use Rattle.board_file.specs.declared.schema.Check.{Check}
+use Rattle.board_file.specs.declared.schema.Check.TheVariants.{Types}
+use Rattle.board_check.specs.declared.entry.Entry.TheVariants as entry
+use Rattle.board_check.specs.Keys.{table_in}
+use Rattle.board_check.proofs.Members.{file_in, host_in, endpoint_in, bar_in, config_in, bridge_in, guest_in}
+use Rattle.board_check.proofs.Blames.{Blame}
+use Rattle.board_check.proofs.BadValues.{Before, BadItem}
+use Rattle.board_check.proofs.BrokenTables.{FieldAt, is_deep, deep_at, TableOf, number_of_check, by_parts, by_leaf}
+
+-- ---- tables of a list
+
+get_map : {A B : Type 0} (f : A → B) (xs : List A) (n : ℕ) (x : A) → slice_get xs n ≡ Some x → slice_get (map f xs) n ≡ Some (f x)
+get_map f [] n x h = cc
+get_map f (y ∷ ys) zero x h = let same : y ≡ x = cc in ap (λ z. Some (f z)) same
+get_map f (y ∷ ys) (suc n) x h = get_map f ys n x h
+
+module _ (k : List ℕ) (t : Members) (ds : Items) (at_key : get_member k t ≡ Some (array ds)) (c : Check) (l : Level) (x : BadItem c l ds) where
+  among : slice_get (tables k t) x.index ≡ Some x.inner
+  among =
+      ap (λ (o : Option Data). slice_get (filter_map as_table (list_of (unwrap_or (option_and_then as_array o) no_items))) x.index) at_key ∙ x.among_tables
+
+  table_there : table_in k x.index t ≡ Some x.inner
+  table_there =
+      ap (λ (o : Option Data). option_and_then as_table (option_and_then (at x.index) o)) at_key ∙ ap (λ (o : Option Data). option_and_then as_table o) x.at
+
+-- ---- the forms of fields
+
+same_key : {fs : List Field} {k : List ℕ} {form : Form} (x : FieldAt fs k form) (f : Field) → x.field ≡ f → k ≡ f.key
+same_key x f h = sym x.key ∙ ap (λ (g : Field). g.key) h
+
+same_form : {fs : List Field} {k : List ℕ} {form : Form} (x : FieldAt fs k form) (f : Field) → x.field ≡ f → form ≡ f.form
+same_form x f h = sym x.is_form ∙ ap (λ (g : Field). g.form) h
+
+one_table : (l m : Level) → Table l ≡ Table m → l ≡ m
+one_table l m h = cc
+
+one_list : (l m : Level) → Tables l ≡ Tables m → l ≡ m
+one_list l m h = cc
+
+other_form : (l m : Level) → Table l ≡ Tables m → ⊥
+other_form l m h = cc
+
+module _ (ms : Members) (c : Check) where
+  -- ---- endpoints
+
+  module _ (i : ℕ) (t : Members) (of : TableOf ms (entry.Endpoint i) level.Endpoint t) (said : slice_get (file ms).endpoints i ≡ Some (endpoint t)) where
+    by_bar : (k : List ℕ) (m : Level) (ds : Items) → k ≡ codes "bar" → m ≡ level.Bar → get_member k t ≡ Some (array ds) → BadItem c m ds → Blame ms (number_of_check c)
+    by_bar k m ds key is at_key x =
+        by_leaf ms (entry.Bar i x.index) m x.inner (record {
+          is_level = ap Some (sym is);
+          is_table = ap (λ (o : Option Members). option_and_then (table_in (codes "bar") x.index) o) of.is_table ∙ (sym (ap (λ (j : List ℕ). table_in j x.index t) key) ∙ table_there k t ds at_key c m x);
+          there = bar_in (file ms) i (endpoint t) said x.index (bar x.inner) (get_map bar (tables (codes "bar") t) x.index x.inner (sym (ap (λ (j : List ℕ). slice_get (tables j t) x.index) key) ∙ among k t ds at_key c m x));
+          sorted = x.sorted;
+        })
+        (ap (λ (n : Level). filter is_deep (fields n)) is) c x.before x.fails
+
+    by_config : (k : List ℕ) (m : Level) (ds : Items) → k ≡ codes "config" → m ≡ level.Config → get_member k t ≡ Some (array ds) → BadItem c m ds → Blame ms (number_of_check c)
+    by_config k m ds key is at_key x =
+        by_leaf ms (entry.Config i x.index) m x.inner (record {
+          is_level = ap Some (sym is);
+          is_table = ap (λ (o : Option Members). option_and_then (table_in (codes "config") x.index) o) of.is_table ∙ (sym (ap (λ (j : List ℕ). table_in j x.index t) key) ∙ table_there k t ds at_key c m x);
+          there = config_in (file ms) i (endpoint t) said x.index (config x.inner) (get_map config (tables (codes "config") t) x.index x.inner (sym (ap (λ (j : List ℕ). slice_get (tables j t) x.index) key) ∙ among k t ds at_key c m x));
+          sorted = x.sorted;
+        })
+        (ap (λ (n : Level). filter is_deep (fields n)) is) c x.before x.fails
+
+    by_endpoint : Before c (table_passes Types level.Endpoint t) → table_passes c level.Endpoint t ≡ false → Blame ms (number_of_check c)
+    by_endpoint before h = by_parts ms (entry.Endpoint i) level.Endpoint t of c before on_table on_tables h
+      where
+        on_table : (k : List ℕ) (m : Level) (u : Members) → form_at k (fields level.Endpoint) ≡ Some (Table m) → get_member k t ≡ Some (table u) → members_are_sorted u ≡ true → Before c (table_passes Types m u) → table_passes c m u ≡ false → Blame ms (number_of_check c)
+        on_table k m u form at_key sorted b h =
+            let x = deep_at (fields level.Endpoint) k (Table m) refl form in
+            elim x.there [
+              | inl e ↦ absurd (other_form m level.Bar (same_form x _ e))
+              | inr (inl e) ↦ absurd (other_form m level.Config (same_form x _ e))
+              | inr (inr e) ↦ absurd e
+            ]
+
+        on_tables : (k : List ℕ) (m : Level) (ds : Items) → form_at k (fields level.Endpoint) ≡ Some (Tables m) → get_member k t ≡ Some (array ds) → BadItem c m ds → Blame ms (number_of_check c)
+        on_tables k m ds form at_key item =
+            let x = deep_at (fields level.Endpoint) k (Tables m) refl form in
+            elim x.there [
+              | inl e ↦ by_bar k m ds (same_key x _ e) (one_list m level.Bar (same_form x _ e)) at_key item
+              | inr (inl e) ↦ by_config k m ds (same_key x _ e) (one_list m level.Config (same_form x _ e)) at_key item
+              | inr (inr e) ↦ absurd e
+            ]
+
+  -- ---- the tables of a document
+
+  module _ (sorted : members_are_sorted ms ≡ true) where
+    of_document : TableOf ms entry.File level.Top ms
+    of_document = record { is_level = refl; is_table = refl; there = file_in (file ms); sorted = sorted }
+
+    by_host : (k : List ℕ) (m : Level) (u : Members) → k ≡ codes "host" → m ≡ level.Host → get_member k ms ≡ Some (table u) → members_are_sorted u ≡ true → Before c (table_passes Types m u) → table_passes c m u ≡ false → Blame ms (number_of_check c)
+    by_host k m u key is at_key inner before h =
+        by_leaf ms entry.Host m u (record {
+          is_level = ap Some (sym is);
+          is_table = ap (λ (o : Option Data). option_and_then as_table o) (sym (ap (λ (j : List ℕ). get_member j ms) key) ∙ at_key);
+          there = host_in (file ms);
+          sorted = inner;
+        })
+        (ap (λ (n : Level). filter is_deep (fields n)) is) c before h
+
+    by_bridge : (k : List ℕ) (m : Level) (ds : Items) → k ≡ codes "bridge" → m ≡ level.Bridge → get_member k ms ≡ Some (array ds) → BadItem c m ds → Blame ms (number_of_check c)
+    by_bridge k m ds key is at_key x =
+        by_leaf ms (entry.Bridge x.index) m x.inner (record {
+          is_level = ap Some (sym is);
+          is_table = sym (ap (λ (j : List ℕ). table_in j x.index ms) key) ∙ table_there k ms ds at_key c m x;
+          there = bridge_in (file ms) x.index (bridge x.inner) (get_map bridge (tables (codes "bridge") ms) x.index x.inner (sym (ap (λ (j : List ℕ). slice_get (tables j ms) x.index) key) ∙ among k ms ds at_key c m x));
+          sorted = x.sorted;
+        })
+        (ap (λ (n : Level). filter is_deep (fields n)) is) c x.before x.fails
+
+    by_guest : (k : List ℕ) (m : Level) (ds : Items) → k ≡ codes "guest" → m ≡ level.Guest → get_member k ms ≡ Some (array ds) → BadItem c m ds → Blame ms (number_of_check c)
+    by_guest k m ds key is at_key x =
+        by_leaf ms (entry.Guest x.index) m x.inner (record {
+          is_level = ap Some (sym is);
+          is_table = sym (ap (λ (j : List ℕ). table_in j x.index ms) key) ∙ table_there k ms ds at_key c m x;
+          there = guest_in (file ms) x.index (guest x.inner) (get_map guest (tables (codes "guest") ms) x.index x.inner (sym (ap (λ (j : List ℕ). slice_get (tables j ms) x.index) key) ∙ among k ms ds at_key c m x));
+          sorted = x.sorted;
+        })
+        (ap (λ (n : Level). filter is_deep (fields n)) is) c x.before x.fails
+
+    by_some_endpoint : (k : List ℕ) (m : Level) (ds : Items) → k ≡ codes "endpoint" → m ≡ level.Endpoint → get_member k ms ≡ Some (array ds) → BadItem c m ds → Blame ms (number_of_check c)
+    by_some_endpoint k m ds key is at_key x =
+        by_endpoint x.index x.inner (record {
+          is_level = refl;
+          is_table = sym (ap (λ (j : List ℕ). table_in j x.index ms) key) ∙ table_there k ms ds at_key c m x;
+          there = endpoint_in (file ms) x.index (endpoint x.inner) said;
+          sorted = x.sorted;
+        })
+        said (subst (λ (n : Level). Before c (table_passes Types n x.inner)) is x.before) (sym (ap (λ (n : Level). table_passes c n x.inner) is) ∙ x.fails)
+      where
+        said : slice_get (file ms).endpoints x.index ≡ Some (endpoint x.inner)
+        said = get_map endpoint (tables (codes "endpoint") ms) x.index x.inner (sym (ap (λ (j : List ℕ). slice_get (tables j ms) x.index) key) ∙ among k ms ds at_key c m x)
+
+    pub broken_tables : Before c (table_passes Types level.Top ms) → table_passes c level.Top ms ≡ false → Blame ms (number_of_check c)
+    broken_tables before h = by_parts ms entry.File level.Top ms of_document c before on_table on_tables h
+      where
+        on_table : (k : List ℕ) (m : Level) (u : Members) → form_at k (fields level.Top) ≡ Some (Table m) → get_member k ms ≡ Some (table u) → members_are_sorted u ≡ true → Before c (table_passes Types m u) → table_passes c m u ≡ false → Blame ms (number_of_check c)
+        on_table k m u form at_key inner b h =
+            let x = deep_at (fields level.Top) k (Table m) refl form in
+            elim x.there [
+              | inl e ↦ by_host k m u (same_key x _ e) (one_table m level.Host (same_form x _ e)) at_key inner b h
+              | inr (inl e) ↦ absurd (other_form m level.Endpoint (same_form x _ e))
+              | inr (inr (inl e)) ↦ absurd (other_form m level.Bridge (same_form x _ e))
+              | inr (inr (inr (inl e))) ↦ absurd (other_form m level.Guest (same_form x _ e))
+              | inr (inr (inr (inr e))) ↦ absurd e
+            ]
+
+        on_tables : (k : List ℕ) (m : Level) (ds : Items) → form_at k (fields level.Top) ≡ Some (Tables m) → get_member k ms ≡ Some (array ds) → BadItem c m ds → Blame ms (number_of_check c)
+        on_tables k m ds form at_key item =
+            let x = deep_at (fields level.Top) k (Tables m) refl form in
+            elim x.there [
+              | inl e ↦ absurd (other_form level.Host m (sym (same_form x _ e)))
+              | inr (inl e) ↦ by_some_endpoint k m ds (same_key x _ e) (one_list m level.Endpoint (same_form x _ e)) at_key item
+              | inr (inr (inl e)) ↦ by_bridge k m ds (same_key x _ e) (one_list m level.Bridge (same_form x _ e)) at_key item
+              | inr (inr (inr (inl e))) ↦ by_guest k m ds (same_key x _ e) (one_list m level.Guest (same_form x _ e)) at_key item
+              | inr (inr (inr (inr e))) ↦ absurd e
+            ]

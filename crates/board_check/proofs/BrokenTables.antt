@@ -1,0 +1,219 @@
+-- Where a check of keys or forms fails in a document, the entry that breaks a rule of keys.
+use Rattle.std.proofs.Common.{◌≡◌, ℕ, Bool, true, false, ◌&&◌, ◌||◌, not, cond, List, [], ◌∷◌, ◌++◌, Option, Some, None, is_some, refl, sym, ap, ap₂, ◌∙◌, subst, inl, inr, ◌⊎◌}
+use Rattle.std.specs.Prelude.{filter}
+use Rattle.std.specs.Option.{option_map_or}
+use Rattle.std.proofs.lemmas.Bool.{and_cases}
+use Rattle.std.proofs.lemmas.Slice.Eq.{bytes_eq-Decides}
+use Rattle.toml.specs.Data.{Data, array, table, Items, Members, no_members, member, get_member, at, is_sorted, members_are_sorted}
+use Rattle.model_registers.specs.Lists.{IsIn}
+use Rattle.board_file.specs.Texts.{same_text}
+use Rattle.board_file.specs.Entries.{file}
+use Rattle.board_file.specs.Schema.{Field, fields, form_at, level_at, has_needed, value_test, table_test, table_passes}
+use Rattle.board_file.specs.declared.schema.Level.{Level}
+use Rattle.board_file.specs.declared.schema.Form.{Form}
+use Rattle.board_file.specs.declared.schema.Form.TheVariants.{Table, Tables}
+use Rattle.board_file.specs.declared.schema.Check.{Check}
+use Rattle.board_file.specs.declared.schema.Check.TheVariants.{Types, Keys}
+use Rattle.board_check.specs.declared.entry.Entry.{Entry}
+use Rattle.board_check.specs.declared.rule.Rule.{Rule}
+use Rattle.board_check.specs.declared.rule.Rule.TheVariants as rule
+use Rattle.board_check.specs.Keys.{table_at, level_of, needs, is_needed, form_holds, table_keeps, key_keeps}
+use Rattle.board_check.specs.Problems.{Found, entries_of, at_field, at_fields, at_members, in_table, of_fields, of_members, of_rules, asked}
+use Rattle.board_check.proofs.Members.{in_left, in_right, in_flat}
+use Rattle.board_check.proofs.Blames.{found, Blame}
+use Rattle.board_check.proofs.BrokenNumbers.{either_of}
+use Rattle.board_check.proofs.SortedKeys.{IsMember, finds, sorted_inside}
+use Rattle.board_check.proofs.BadValues.{Before, BadMember, bad_member, before_member, BadValue, at_value, in_table as in_table_at, in_tables, bad_value, BadItem, bad_item}
+
+-- ---- fields
+
+-- the field of a key
+pub record FieldAt (fs : List Field) (k : List ℕ) (form : Form) : Type 0 where
+  pub field : Field
+  pub there : IsIn field fs
+  pub key : field.key ≡ k
+  pub is_form : field.form ≡ form
+
+abbrev pub is_deep : Field → Bool
+is_deep f = is_some (level_at (Some f.form))
+
+-- text that is the same is equal
+equal_text : (a b : List ℕ) → same_text a b ≡ true → a ≡ b
+equal_text a b h = (bytes_eq-Decides a b).0 h
+
+text_itself : (a : List ℕ) → same_text a a ≡ true
+text_itself a = (bytes_eq-Decides a a).1 refl
+
+pub field_at : (fs : List Field) (k : List ℕ) (form : Form) → form_at k fs ≡ Some form → FieldAt fs k form
+field_at [] k form h = cc
+field_at (f ∷ fs) k form h = by_case (field_at fs k form) (same_text f.key k) refl h
+  where
+    by_case : (form_at k fs ≡ Some form → FieldAt fs k form) → (b : Bool) → same_text f.key k ≡ b → cond b (Some f.form) (form_at k fs) ≡ Some form → FieldAt (f ∷ fs) k form
+    by_case rest true same h = record { field = f; there = inl refl; key = equal_text f.key k same; is_form = cc }
+    by_case rest false same h = let x = rest h in record { field = x.field; there = inr x.there; key = x.key; is_form = x.is_form }
+
+-- what passes a test is among those that pass
+in_filter : {A : Type 0} (p : A → Bool) (x : A) (xs : List A) → IsIn x xs → p x ≡ true → IsIn x (filter p xs)
+in_filter p x [] h k = absurd h
+in_filter p x (y ∷ ys) (inl h) k = by_case (p y) (sym (ap p h) ∙ k)
+  where
+    by_case : (b : Bool) → b ≡ true → IsIn x (cond b (y ∷ filter p ys) (filter p ys))
+    by_case true e = inl h
+    by_case false e = cc
+in_filter p x (y ∷ ys) (inr h) k = by_case (p y) (in_filter p x ys h k)
+  where
+    by_case : (b : Bool) → IsIn x (filter p ys) → IsIn x (cond b (y ∷ filter p ys) (filter p ys))
+    by_case true m = inr m
+    by_case false m = m
+
+-- a key whose form leads to tables is one of those
+pub deep_at : (fs : List Field) (k : List ℕ) (form : Form) → is_some (level_at (Some form)) ≡ true → form_at k fs ≡ Some form → FieldAt (filter is_deep fs) k form
+deep_at fs k form deep h =
+    let x = field_at fs k form h in
+    record { field = x.field; there = in_filter is_deep x.field fs x.there (ap (λ (g : Form). is_some (level_at (Some g))) x.is_form ∙ deep); key = x.key; is_form = x.is_form }
+
+-- ---- tables of entries
+
+-- the table of an entry, whose keys ascend
+pub record TableOf (ms : Members) (e : Entry) (l : Level) (t : Members) : Type 0 where
+  pub is_level : level_of e ≡ Some l
+  pub is_table : table_at ms e ≡ Some t
+  pub there : IsIn e (entries_of (file ms))
+  pub sorted : members_are_sorted t ≡ true
+
+abbrev pub number_of_check : Check → ℕ
+number_of_check Types = 102
+number_of_check Keys = 103
+
+record MissingField (fs : List Field) (t : Members) : Type 0 where
+  field : Field
+  there : IsIn field fs
+  needed : field.is_needed ≡ true
+  missing : is_some (get_member field.key t) ≡ false
+
+or_cases-false : (a b : Bool) → (not a || b) ≡ false → (a ≡ true) × (b ≡ false)
+or_cases-false true b h = (refl, h)
+or_cases-false false b h = cc
+
+missing_field : (fs : List Field) (t : Members) → has_needed fs t ≡ false → MissingField fs t
+missing_field [] t h = cc
+missing_field (f ∷ fs) t h = by_case (missing_field fs t) (and_cases (not f.is_needed || is_some (get_member f.key t)) (has_needed fs t) h)
+  where
+    by_case : (has_needed fs t ≡ false → MissingField fs t) → ((not f.is_needed || is_some (get_member f.key t)) ≡ false) ⊎ (has_needed fs t ≡ false) → MissingField (f ∷ fs) t
+    by_case rest (inl k) =
+        let (needed, missing) = or_cases-false f.is_needed (is_some (get_member f.key t)) k in
+        record { field = f; there = inl refl; needed = needed; missing = missing }
+    by_case rest (inr k) = let x = rest k in record { field = x.field; there = inr x.there; needed = x.needed; missing = x.missing }
+
+or_left : (a b : Bool) → a ≡ true → (a || b) ≡ true
+or_left true b h = refl
+or_left false b h = cc
+
+or_right : (a b : Bool) → b ≡ true → (a || b) ≡ true
+or_right true b h = refl
+or_right false b h = h
+
+needs_field : (f : Field) (fs : List Field) → IsIn f fs → f.is_needed ≡ true → needs f.key fs ≡ true
+needs_field f [] h k = absurd h
+needs_field f (g ∷ fs) (inl h) k =
+    or_left (g.is_needed && same_text g.key f.key) (needs f.key fs)
+    (ap₂ (λ (a b : Bool). a && b) (sym (ap (λ (x : Field). x.is_needed) h) ∙ k) (sym (ap (λ (x : Field). same_text x.key f.key) h) ∙ text_itself f.key))
+needs_field f (g ∷ fs) (inr h) k = or_right (g.is_needed && same_text g.key f.key) (needs f.key fs) (needs_field f fs h k)
+
+in_members : (e : Entry) (t : Members) (k : List ℕ) (d : Data) → IsMember k d t → IsIn (found e rule.Known k) (at_members e t)
+in_members e no_members k d h = absurd h
+in_members e (member j x t) k d (inl h) = inl (ap (found e rule.Known) h.0)
+in_members e (member j x t) k d (inr h) = inr (in_members e t k d h)
+
+module _ (ms : Members) (e : Entry) (l : Level) (t : Members) (of : TableOf ms e l t) where
+  keeps_there : (r : Rule) (k : List ℕ) → key_keeps ms e r k ≡ table_keeps r l k t
+  keeps_there r k =
+      ap (λ (o : Option Level). option_map_or (λ x. option_map_or (table_keeps r x k) (table_at ms e) true) o true) of.is_level
+      ∙ ap (λ (o : Option Members). option_map_or (table_keeps r l k) o true) of.is_table
+
+  asked_there : (x : Found) (f : Field) → IsIn f (fields l) → IsIn x (at_field e f) → IsIn x (asked ms e)
+  asked_there x f h k =
+      in_left x (of_fields e) (of_members ms e ++ of_rules e)
+      (subst (λ (o : Option Level). IsIn x (at_fields e o)) (sym of.is_level) (in_flat (at_field e) f x (fields l) h k))
+
+  by_needed : has_needed (fields l) t ≡ false → Blame ms 102
+  by_needed h =
+      let x = missing_field (fields l) t h in
+      let needed : is_needed l x.field.key ≡ true = needs_field x.field (fields l) x.there x.needed in
+      record {
+        entry = e;
+        rule = rule.Needed;
+        key = x.field.key;
+        there = of.there;
+        is_asked = asked_there (found e rule.Needed x.field.key) x.field x.there (inl refl);
+        of_check = refl;
+        broken = keeps_there rule.Needed x.field.key ∙ ap₂ (λ (a b : Bool). not a || b) needed x.missing;
+      }
+
+  by_form : (k : List ℕ) (d : Data) → get_member k t ≡ Some d → value_test Types (form_at k (fields l)) d ≡ false → Blame ms 102
+  by_form k d at h = by_case (form_at k (fields l)) refl h
+    where
+      by_case : (o : Option Form) → form_at k (fields l) ≡ o → value_test Types o d ≡ false → Blame ms 102
+      by_case None is h = cc
+      by_case (Some form) is h =
+          let x = field_at (fields l) k form is in
+          let same : table_keeps rule.Form l k t ≡ false =
+          ap (λ (o : Option Data). option_map_or (form_holds (form_at k (fields l))) o true) at ∙ (ap (λ (o : Option Form). form_holds o d) is ∙ h) in
+          record {
+            entry = e;
+            rule = rule.Form;
+            key = k;
+            there = of.there;
+            is_asked = subst (λ (j : List ℕ). IsIn (found e rule.Form j) (asked ms e)) x.key (asked_there (found e rule.Form x.field.key) x.field x.there (inr (inl refl)));
+            of_check = refl;
+            broken = keeps_there rule.Form k ∙ same;
+          }
+
+  by_known : (k : List ℕ) (d : Data) → IsMember k d t → get_member k t ≡ Some d → is_some (form_at k (fields l)) ≡ false → Blame ms 103
+  by_known k d m at h =
+      let x = found e rule.Known k in
+      record {
+        entry = e;
+        rule = rule.Known;
+        key = k;
+        there = of.there;
+        is_asked = in_right x (of_fields e) (of_members ms e ++ of_rules e)
+            (in_left x (of_members ms e) (of_rules e) (subst (λ (o : Option Members). IsIn x (in_table e o)) (sym of.is_table) (in_members e t k d m)));
+        of_check = refl;
+        broken = keeps_there rule.Known k ∙ ap₂ (λ (o : Option Data) (b : Bool). not (is_some o) || b) at h;
+      }
+
+  by_table : (c : Check) → table_test c l t ≡ false → Blame ms (number_of_check c)
+  by_table Types h = by_needed h
+  by_table Keys h = cc
+
+  by_value : (c : Check) (k : List ℕ) (d : Data) → IsMember k d t → get_member k t ≡ Some d → value_test c (form_at k (fields l)) d ≡ false → Blame ms (number_of_check c)
+  by_value Types k d m at h = by_form k d at h
+  by_value Keys k d m at h = by_known k d m at h
+
+  -- the check fails at this table, or deeper
+  pub by_parts : (c : Check) → Before c (table_passes Types l t)
+      → ((k : List ℕ) (m : Level) (u : Members) → form_at k (fields l) ≡ Some (Table m) → get_member k t ≡ Some (table u) → members_are_sorted u ≡ true → Before c (table_passes Types m u) → table_passes c m u ≡ false → Blame ms (number_of_check c))
+      → ((k : List ℕ) (m : Level) (ds : Items) → form_at k (fields l) ≡ Some (Tables m) → get_member k t ≡ Some (array ds) → BadItem c m ds → Blame ms (number_of_check c))
+      → table_passes c l t ≡ false → Blame ms (number_of_check c)
+  by_parts c before on_table on_tables h = either_of _ _ h (by_table c) (λ k. by_member (bad_member c l t k))
+    where
+      by_bad : (k : List ℕ) (d : Data) → IsMember k d t → get_member k t ≡ Some d → BadValue c (form_at k (fields l)) d → Blame ms (number_of_check c)
+      by_bad k d m at (at_value x) = by_value c k d m at x
+      by_bad k d m at (in_table_at n u form is b x) =
+          on_table k n u form (at ∙ ap Some is) (sym (ap is_sorted is) ∙ sorted_inside t of.sorted k d m) b x
+      by_bad k d m at (in_tables n ds form is all b x) =
+          on_tables k n ds form (at ∙ ap Some is) (bad_item c n ds all (sym (ap is_sorted is) ∙ sorted_inside t of.sorted k d m) b x)
+
+      by_member : BadMember c l t → Blame ms (number_of_check c)
+      by_member b =
+          by_bad b.key b.value b.there (finds t of.sorted b.key b.value b.there)
+          (bad_value c (form_at b.key (fields l)) b.value (before_member c l t before b.key b.value b.there) b.fails)
+
+  -- a table in which there are no tables
+  pub by_leaf : filter is_deep (fields l) ≡ [] → (c : Check) → Before c (table_passes Types l t) → table_passes c l t ≡ false → Blame ms (number_of_check c)
+  by_leaf none c before h =
+      by_parts c before (λ k m u form at sorted b x. absurd (no_deep k (Table m) refl form)) (λ k m ds form at x. absurd (no_deep k (Tables m) refl form)) h
+    where
+      no_deep : (k : List ℕ) (form : Form) → is_some (level_at (Some form)) ≡ true → form_at k (fields l) ≡ Some form → ⊥
+      no_deep k form deep is = let x = deep_at (fields l) k form deep is in subst (IsIn x.field) none x.there

@@ -1,0 +1,127 @@
+-- What is in the lists of a file's entries and of what is asked of an entry.
+use Rattle.std.proofs.Common.{◌≡◌, ℕ, zero, suc, ◌+◌, Bool, true, false, cond, List, [], ◌∷◌, ◌++◌, map, length, Some, refl, sym, ap, ◌∙◌, subst, arith, inl, inr}
+use Rattle.std.specs.Prelude.{slice_get, filter}
+use Rattle.std.specs.List.{flat_map, enumerate_from, range_with_len}
+use Rattle.model_registers.specs.Lists.{IsIn}
+use Rattle.board_file.specs.Entries.{Bar, Config, Endpoint, Bridge, Guest, File}
+use Rattle.board_check.specs.declared.entry.Entry.{Entry}
+use Rattle.board_check.specs.declared.entry.Entry.TheVariants as entry
+use Rattle.board_check.specs.Problems.{indices, with_endpoint, with_guest, entries_of}
+
+-- ---- lists
+
+pub in_left : {A : Type 0} (x : A) (xs ys : List A) → IsIn x xs → IsIn x (xs ++ ys)
+in_left x [] ys h = absurd h
+in_left x (z ∷ zs) ys (inl h) = inl h
+in_left x (z ∷ zs) ys (inr h) = inr (in_left x zs ys h)
+
+pub in_right : {A : Type 0} (x : A) (xs ys : List A) → IsIn x ys → IsIn x (xs ++ ys)
+in_right x [] ys h = h
+in_right x (z ∷ zs) ys h = inr (in_right x zs ys h)
+
+pub in_map : {A B : Type 0} (f : A → B) (x : A) (xs : List A) → IsIn x xs → IsIn (f x) (map f xs)
+in_map f x [] h = absurd h
+in_map f x (y ∷ ys) (inl h) = inl (ap f h)
+in_map f x (y ∷ ys) (inr h) = inr (in_map f x ys h)
+
+pub in_flat : {A B : Type 0} (f : A → List B) (x : A) (y : B) (xs : List A) → IsIn x xs → IsIn y (f x) → IsIn y (flat_map f xs)
+in_flat f x y [] h k = absurd h
+in_flat f x y (z ∷ zs) (inl h) k = in_left y (f z) (flat_map f zs) (subst (λ w. IsIn y (f w)) h k)
+in_flat f x y (z ∷ zs) (inr h) k = in_right y (f z) (flat_map f zs) (in_flat f x y zs h k)
+
+pub in_at : {A : Type 0} (xs : List A) (n : ℕ) (x : A) → slice_get xs n ≡ Some x → IsIn x xs
+in_at [] n x h = cc
+in_at (y ∷ ys) zero x h = let same : x ≡ y = cc in inl same
+in_at (y ∷ ys) (suc n) x h = inr (in_at ys n x h)
+
+in_range : {A : Type 0} (xs : List A) (from n : ℕ) (x : A) → slice_get xs n ≡ Some x → IsIn (from + n) (range_with_len from (length xs))
+in_range [] from n x h = cc
+in_range (y ∷ ys) from zero x h = inl (omega arith)
+in_range (y ∷ ys) from (suc n) x h =
+    let same : (from + 1) + n ≡ from + suc n = omega arith in
+    inr (subst (λ i. IsIn i (range_with_len (from + 1) (length ys))) same (in_range ys (from + 1) n x h))
+
+pub in_indices : {A : Type 0} (xs : List A) (n : ℕ) (x : A) → slice_get xs n ≡ Some x → IsIn n (indices xs)
+in_indices xs n x h = let same : 0 + n ≡ n = omega arith in subst (λ i. IsIn i (indices xs)) same (in_range xs 0 n x h)
+
+in_numbered : {A : Type 0} (xs : List A) (from n : ℕ) (x : A) → slice_get xs n ≡ Some x → IsIn (from + n, x) (enumerate_from from xs)
+in_numbered [] from n x h = cc
+in_numbered (y ∷ ys) from zero x h =
+    let same : from + 0 ≡ from = omega arith in
+    let is : x ≡ y = cc in
+    inl (ap (λ i. (i, x)) same ∙ ap (λ z. (from, z)) is)
+in_numbered (y ∷ ys) from (suc n) x h =
+    let same : (from + 1) + n ≡ from + suc n = omega arith in
+    inr (subst (λ i. IsIn (i, x) (enumerate_from (from + 1) ys)) same (in_numbered ys (from + 1) n x h))
+
+in_enumerated : {A : Type 0} (xs : List A) (n : ℕ) (x : A) → slice_get xs n ≡ Some x → IsIn (n, x) (enumerate_from 0 xs)
+in_enumerated xs n x h = let same : 0 + n ≡ n = omega arith in subst (λ i. IsIn (i, x) (enumerate_from 0 xs)) same (in_numbered xs 0 n x h)
+
+some_cond : {A : Type 0} (b : Bool) (x : A) (xs ys : List A) → b ≡ true → cond b (x ∷ xs) ys ≡ [] → ⊥
+some_cond true x xs ys h k = cc
+some_cond false x xs ys h k = cc
+
+-- what passes the test stays in the list
+pub filter_some : {A : Type 0} (p : A → Bool) (x : A) (xs : List A) → IsIn x xs → p x ≡ true → filter p xs ≡ [] → ⊥
+filter_some p x [] h k e = absurd h
+filter_some p x (y ∷ ys) (inl h) k e = some_cond (p y) y (filter p ys) (filter p ys) (ap p (sym h) ∙ k) e
+filter_some p x (y ∷ ys) (inr h) k e = by_case (filter_some p x ys h k) (p y) e
+  where
+    by_case : (filter p ys ≡ [] → ⊥) → (b : Bool) → cond b (y ∷ filter p ys) (filter p ys) ≡ [] → ⊥
+    by_case rest true e = cc
+    by_case rest false e = rest e
+
+-- ---- entries
+
+module _ (f : File) where
+  pub file_in : IsIn entry.File (entries_of f)
+  file_in = inl refl
+
+  pub host_in : IsIn entry.Host (entries_of f)
+  host_in = inr (inl refl)
+
+  abbrev of_endpoints : List Entry
+  of_endpoints = flat_map with_endpoint (enumerate_from 0 f.endpoints)
+
+  abbrev of_bridges : List Entry
+  of_bridges = map entry.Bridge (indices f.bridges)
+
+  abbrev of_guests : List Entry
+  of_guests = flat_map with_guest (enumerate_from 0 f.guests)
+
+  among_endpoints : (x : Entry) → IsIn x of_endpoints → IsIn x (entries_of f)
+  among_endpoints x h = inr (inr (in_left x of_endpoints (of_bridges ++ of_guests) h))
+
+  among_guests : (x : Entry) → IsIn x of_guests → IsIn x (entries_of f)
+  among_guests x h = inr (inr (in_right x of_endpoints (of_bridges ++ of_guests) (in_right x of_bridges of_guests h)))
+
+  module _ (i : ℕ) (e : Endpoint) (at : slice_get f.endpoints i ≡ Some e) where
+    with_it : (x : Entry) → IsIn x (with_endpoint (i, e)) → IsIn x (entries_of f)
+    with_it x h = among_endpoints x (in_flat with_endpoint (i, e) x (enumerate_from 0 f.endpoints) (in_enumerated f.endpoints i e at) h)
+
+    pub endpoint_in : IsIn (entry.Endpoint i) (entries_of f)
+    endpoint_in = with_it (entry.Endpoint i) (inl refl)
+
+    pub bar_in : (j : ℕ) (b : Bar) → slice_get e.bars j ≡ Some b → IsIn (entry.Bar i j) (entries_of f)
+    bar_in j b h =
+        with_it (entry.Bar i j)
+        (inr (in_left (entry.Bar i j) (map (entry.Bar i) (indices e.bars)) (map (entry.Config i) (indices e.configs)) (in_map (entry.Bar i) j (indices e.bars) (in_indices e.bars j b h))))
+
+    pub config_in : (j : ℕ) (c : Config) → slice_get e.configs j ≡ Some c → IsIn (entry.Config i j) (entries_of f)
+    config_in j c h =
+        with_it (entry.Config i j)
+        (inr (in_right (entry.Config i j) (map (entry.Bar i) (indices e.bars)) (map (entry.Config i) (indices e.configs)) (in_map (entry.Config i) j (indices e.configs) (in_indices e.configs j c h))))
+
+  pub bridge_in : (i : ℕ) (b : Bridge) → slice_get f.bridges i ≡ Some b → IsIn (entry.Bridge i) (entries_of f)
+  bridge_in i b h =
+      inr (inr (in_right (entry.Bridge i) of_endpoints (of_bridges ++ of_guests) (in_left (entry.Bridge i) of_bridges of_guests (in_map entry.Bridge i (indices f.bridges) (in_indices f.bridges i b h)))))
+
+  module _ (i : ℕ) (g : Guest) (at : slice_get f.guests i ≡ Some g) where
+    with_guest_here : (x : Entry) → IsIn x (with_guest (i, g)) → IsIn x (entries_of f)
+    with_guest_here x h = among_guests x (in_flat with_guest (i, g) x (enumerate_from 0 f.guests) (in_enumerated f.guests i g at) h)
+
+    pub guest_in : IsIn (entry.Guest i) (entries_of f)
+    guest_in = with_guest_here (entry.Guest i) (inl refl)
+
+    pub slot_in : (j : ℕ) (t : List ℕ) → slice_get g.slots j ≡ Some t → IsIn (entry.Slot i j) (entries_of f)
+    slot_in j t h = with_guest_here (entry.Slot i j) (inr (in_map (entry.Slot i) j (indices g.slots) (in_indices g.slots j t h)))
