@@ -1,5 +1,5 @@
 -- Tables with a place for each byte: they hold what the definitions say, by computing.
-use Rattle.std.proofs.Common.{◌≡◌, ℕ, ◌<◌, ◌≤◌, ◌==◌, Bool, true, false, cond, map, get_or, Option, Some, None}
+use Rattle.std.proofs.Common.{◌≡◌, ℕ, ◌+◌, ◌*◌, ◌/◌, ◌%◌, ◌<◌, ◌≤◌, ◌==◌, Bool, true, false, cond, map, get_or, Option, Some, None}
 use Rattle.std.proofs.Common.{refl, ap, ◌∙◌, arith}
 use Rattle.std.specs.Prelude.{unwrap_or}
 use Rattle.std.specs.List.{range_with_len}
@@ -9,7 +9,7 @@ use Rattle.model_guests.specs.Text.{is_blank}
 use Rattle.model_guests.specs.Numbers.{below, digit_of}
 use Rattle.std.specs.Fmt.{digit_glyph}
 use Rattle.lines.specs.declared.numbers.TheConstants.{DIGITS}
-use Rattle.lines.specs.declared.replies.TheConstants.{GLYPHS}
+use Rattle.lines.specs.declared.replies.TheConstants.{PAIRS}
 use Rattle.lines.specs.declared.words.TheConstants.{BLANKS}
 
 abbrev digit_mark : ℕ → ℕ
@@ -48,9 +48,30 @@ blank_at b h =
     (ap (λ t. get_or t b 0) blanks_are ∙ get_or-map-range_with_len blank_mark 0 256 b b 0 h (omega arith))
     ∙ marked (is_blank b)
 
-glyphs_are : GLYPHS ≡ map (digit_glyph false) (range_with_len 0 16)
-glyphs_are = refl
+-- at an even place the high digit of a byte, and at the next one the low digit
+abbrev pair_mark : ℕ → ℕ
+pair_mark k = digit_glyph false (cond (k % 2 == 0) (k / 32) (k / 2 % 16))
 
-pub glyph_at : (d : ℕ) → d < 16 → get_or GLYPHS d 0 ≡ digit_glyph false d
-glyph_at d h =
-    ap (λ t. get_or t d 0) glyphs_are ∙ get_or-map-range_with_len (digit_glyph false) 0 16 d d 0 h (omega arith)
+pairs_are : PAIRS.now ≡ map pair_mark (range_with_len 0 512)
+pairs_are = refl
+
+pair_at : (k : ℕ) → k < 512 → get_or PAIRS.now k 0 ≡ pair_mark k
+pair_at k h =
+    ap (λ t. get_or t k 0) pairs_are ∙ get_or-map-range_with_len pair_mark 0 512 k k 0 h (omega arith)
+
+even : (b : ℕ) → (2 * b % 2 == 0) ≡ true
+even b = grind (arith, nat_tests)
+
+odd : (b : ℕ) → ((2 * b + 1) % 2 == 0) ≡ false
+odd b = grind (arith, nat_tests)
+
+pub high_at : (b : ℕ) → b < 256 → get_or PAIRS.now (2 * b) 0 ≡ digit_glyph false (b / 16 % 16)
+high_at b h =
+    pair_at (2 * b) (omega arith) ∙ ap (λ t. digit_glyph false (cond t (2 * b / 32) (2 * b / 2 % 16))) (even b)
+    ∙ ap (digit_glyph false) (omega arith)
+
+pub low_at : (b : ℕ) → b < 256 → get_or PAIRS.now (2 * b + 1) 0 ≡ digit_glyph false (b % 16)
+low_at b h =
+    pair_at (2 * b + 1) (omega arith)
+    ∙ ap (λ t. digit_glyph false (cond t ((2 * b + 1) / 32) ((2 * b + 1) / 2 % 16))) (odd b)
+    ∙ ap (digit_glyph false) (omega arith)

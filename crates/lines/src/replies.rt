@@ -1,6 +1,5 @@
 //! The text of output lines.
-ghost use Rattle.std.specs.Prelude.{◌≡◌, ◌≤◌, ◌<◌, ◌+◌, ◌++◌, ◌∷◌, [], false, true, length, codes, decimal};
-ghost use Rattle.std.specs.Fmt.{digit_glyph};
+ghost use Rattle.std.specs.Prelude.{◌≡◌, ◌≤◌, ◌<◌, ◌+◌, ◌*◌, ◌++◌, ◌∷◌, [], true, length, codes, decimal};
 ghost use Rattle.model_guests.specs.Replies.{who_text, line_text, hex_digits, refusal_words};
 ghost use Rattle.accesses.specs.Accesses.{reply_of};
 ghost use Rattle.lines.specs.Lines.{texts, who_of, GuestIs};
@@ -32,19 +31,26 @@ pub fn refusal_text(number: u16) -> &'static [u8]
     }
 }
 
-/// The hexadecimal digits. A look at the table is faster than a test and two sums.
+/// The two hexadecimal digits of each byte. A look at the table is faster than a shift, a mask and a look for
+/// each digit.
 #[rattlefmt::skip]
-static GLYPHS: [u8; 16] = [
-    b'0', b'1', b'2', b'3', b'4', b'5', b'6', b'7', b'8', b'9', b'a', b'b', b'c', b'd', b'e', b'f',
-];
-
-#[tactic(auto, using(crate::proofs::Tables::glyph_at))]
-fn digit_glyph(digit: u8) -> u8
-    requires { digit < 16 }
-    ensures { result ≡ digit_glyph false digit }
-{
-    GLYPHS[digit as usize]
-}
+static PAIRS: &[u8; 512] = b"\
+    000102030405060708090a0b0c0d0e0f\
+    101112131415161718191a1b1c1d1e1f\
+    202122232425262728292a2b2c2d2e2f\
+    303132333435363738393a3b3c3d3e3f\
+    404142434445464748494a4b4c4d4e4f\
+    505152535455565758595a5b5c5d5e5f\
+    606162636465666768696a6b6c6d6e6f\
+    707172737475767778797a7b7c7d7e7f\
+    808182838485868788898a8b8c8d8e8f\
+    909192939495969798999a9b9c9d9e9f\
+    a0a1a2a3a4a5a6a7a8a9aaabacadaeaf\
+    b0b1b2b3b4b5b6b7b8b9babbbcbdbebf\
+    c0c1c2c3c4c5c6c7c8c9cacbcccdcecf\
+    d0d1d2d3d4d5d6d7d8d9dadbdcdddedf\
+    e0e1e2e3e4e5e6e7e8e9eaebecedeeef\
+    f0f1f2f3f4f5f6f7f8f9fafbfcfdfeff";
 
 fn push_all(text: &mut LineText, bytes: &[u8])
     requires { length text.old.items + length bytes.now ≤ 48 }
@@ -66,18 +72,37 @@ fn push_name(text: &mut LineText, name: &[u8])
     }
 }
 
-/// Appends the low hexadecimal digits of a value, as many as `digits`.
-fn push_hex(text: &mut LineText, value: u32, digits: u32)
-    requires few { digits ≤ 8 }
-    requires room { length text.old.items + digits ≤ 48 }
-    ensures items { text.new.items ≡ text.old.items ++ hex_digits digits value }
-    ensures len { length text.new.items ≡ length text.old.items + digits }
+/// Appends the two hexadecimal digits of a byte.
+#[inline]
+fn push_byte(text: &mut LineText, byte: u8)
+    requires { length text.old.items + 2 ≤ 48 }
+    ensures items { text.new.items ≡ text.old.items ++ hex_digits 2 byte }
+    ensures len { length text.new.items ≡ length text.old.items + 2 }
 {
-    let mut left = digits;
-    while left > 0 {
-        left -= 1;
-        let digit = (value >> (4 * left)) % 16;
-        text.push(digit_glyph(digit as u8));
+    let at = 2 * usize::from(byte);
+    text.push(PAIRS[at]);
+    text.push(PAIRS[at + 1]);
+}
+
+/// Appends the hexadecimal digits of the low bytes of a value, as many as `width`. There are four at most,
+/// and a loop would be slower.
+fn push_hex(text: &mut LineText, value: u32, width: u64)
+    requires few { width ≤ 4 }
+    requires room { length text.old.items + 2 * width ≤ 48 }
+    ensures items { text.new.items ≡ text.old.items ++ hex_digits (2 * width) value }
+    ensures len { length text.new.items ≡ length text.old.items + 2 * width }
+{
+    if width > 3 {
+        push_byte(text, (value >> 24) as u8);
+    }
+    if width > 2 {
+        push_byte(text, ((value >> 16) % 256) as u8);
+    }
+    if width > 1 {
+        push_byte(text, ((value >> 8) % 256) as u8);
+    }
+    if width > 0 {
+        push_byte(text, (value % 256) as u8);
     }
 }
 
@@ -109,7 +134,7 @@ pub fn push_line(text: &mut LineText, who: Who, names: &Names, reply: Reply)
         Reply::Value(value, width) => {
             text.push(b'0');
             text.push(b'x');
-            push_hex(text, value, 2 * width as u32);
+            push_hex(text, value, width);
         }
         Reply::Done => push_all(text, b"ok"),
         Reply::Refused(number) => push_all(text, refusal_text(number)),
