@@ -155,7 +155,7 @@ longer_is limit base n m cs None e = absurd (cc)
 longer_is limit base n m cs (Some d) e =
     ap (λ (k : ℕ). digits_from base k cs) (sym (value_is (nat_lt (n * base + d) limit) (n * base + d) m e))
 
-no_blank : (b : Bool) (limit base n m c : ℕ) → is_blank c ≡ b
+pub no_blank : (b : Bool) (limit base n m c : ℕ) → is_blank c ≡ b
     → Some m ≡ below limit (option_map (λ d. n * base + d) (below base (digit_of c))) → b ≡ false
 no_blank true limit base n m c h e = absurd (let missing = rw (digit_or_blank c h) at e in cc)
 no_blank false limit base n m c h e = refl

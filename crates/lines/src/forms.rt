@@ -9,7 +9,7 @@ ghost use Rattle.host_bridge.specs.BusAddresses.{bus_address_of};
 ghost use Rattle.accesses.specs.Accesses.{access_of, target_of, op_of, part_of, host_access_of};
 ghost use Rattle.lines.specs.Forms.{event_asked, placed, operated};
 
-use crate::cursor::{first_number, form_word, is_end, short_number};
+use crate::cursor::{first_number, form_word, is_end, other_number, short_number};
 use crate::numbers::{digit_in, number_of};
 use crate::words::first_words;
 use accesses::{Access, At, Bdf, HostAccess, HostAt, Op, Place};
@@ -79,7 +79,7 @@ fn placed(space: u8, text: &[u8]) -> Option<(At, &[u8])>
         b'm' => Some((At::Mem { addr: number }, rest)),
         b'i' => Some((At::Io { port: number }, rest)),
         b'c' => {
-            let (off, rest) = first_number(rest)?;
+            let (off, rest) = other_number(rest)?;
             Some((At::Config { slot: number, off }, rest))
         }
         _ => None,

@@ -3,21 +3,19 @@ use Rattle.std.proofs.lemmas.List.{at_drop_more}
 use Rattle.model_guests.specs.Text.{Text}
 use Rattle.model_guests.specs.Numbers.{below, digits_from}
 use Rattle.lines.specs.Cursors.{before_blank, after_blank}
-use Rattle.lines.proofs.Cursors.{digits_in-before, no_longer, one_longer}
-use Rattle.lines.proofs.cursor.digits_before_blank.Goals as goal
+use Rattle.lines.proofs.Cursors.{no_longer, one_longer}
+use Rattle.lines.proofs.cursor.more_digits.Goals as goal
 
-pub returns-in_default-with_digit : goal.returns-in_default-with_digit
-returns-in_default-with_digit c =
+pub returns-in_default : goal.returns-in_default
+returns-in_default c =
     let t = c.args.text.now in
     let base = c.args.base in
     let i = c.loop-i.i in
     let n = c.loop-i.number in
-    let word = sym c.is_blank.ensures ∙ c.if-is_blank.false in
-    let other = sym c.is_blank-in_default-with_digit.ensures ∙ c.if-is_blank-2.false in
-    ap (below (2 ^ 64)) (digits_in-before base t c.in-len1-up.len_at_least word)
-    ∙ sym c.loop-i.invariant.read
+    let other = sym c.is_blank.ensures ∙ c.if-is_blank.false in
+    sym c.loop-i.invariant.read
     ∙ at_drop_more (λ (xs : Text). below (2 ^ 64) (digits_from base n (before_blank xs))) t i 0 (omega arith)
-    ∙ sym (no_longer (2 ^ 64) base n (get_or t i 0) (drop (i + 1) t) c.requires other c.in_default-with_digit.ensures)
+    ∙ sym (no_longer (2 ^ 64) base n (get_or t i 0) (drop (i + 1) t) c.requires other c.in_default.ensures)
 
 pub loop-i-preserved : goal.loop-i-preserved
 loop-i-preserved c =

@@ -1,0 +1,43 @@
+use Rattle.std.proofs.Common.{◌≡◌, ℕ, zero, suc, ◌+◌, ◌*◌, ◌<◌, ◌^◌, false, Some, option_map, refl, drop, get_or, ap, sym, subst, ◌∙◌, arith}
+use Rattle.std.proofs.lemmas.List.{at_drop_more}
+use Rattle.model_guests.specs.Text.{Text, is_blank}
+use Rattle.model_guests.specs.Numbers.{below, digit_of, digits_from}
+use Rattle.lines.specs.Cursors.{before_blank, after_blank, IsRead}
+use Rattle.lines.proofs.Splitting.{rest_is}
+use Rattle.lines.proofs.Cursors.{one_longer, no_blank, digits_in-before}
+use Rattle.lines.proofs.cursor.eight_digits.Goals as goal
+
+-- the digit at the front is no blank, and the others change nothing
+word_begins : (t : Text) (i n m : ℕ)
+    → Some m ≡ below (2 ^ 64) (option_map (λ d. n * 16 + d) (below 16 (digit_of (get_or t i 0))))
+    → (0 < i → is_blank (get_or t 0 0) ≡ false) → is_blank (get_or t 0 0) ≡ false
+word_begins t zero n m e before = no_blank (is_blank (get_or t 0 0)) (2 ^ 64) 16 n m (get_or t 0 0) refl e
+word_begins t (suc i) n m e before = before (omega arith)
+
+pub loop-i-preserved : goal.loop-i-preserved
+loop-i-preserved c =
+    let t = c.args.text.now in
+    let i = c.loop-i.i in
+    let n = c.loop-i.number in
+    let step = sym c.in_ok-number.was ∙ c.with_digit.ensures in
+    let more = one_longer (2 ^ 64) 16 n c.in_ok-number.number (get_or t i 0) (drop (i + 1) t) step in
+    record {
+      read = record {
+        read = ap (below (2 ^ 64)) more.read
+            ∙ sym (at_drop_more (λ (xs : Text). below (2 ^ 64) (digits_from 16 n (before_blank xs))) t i 0 (omega arith))
+            ∙ c.loop-i.invariant.read.read;
+        after = more.after ∙ sym (at_drop_more after_blank t i 0 (omega arith)) ∙ c.loop-i.invariant.read.after;
+      };
+      word = λ h. word_begins t i n c.in_ok-number.number step c.loop-i.invariant.word;
+    }
+
+pub returns-clause-read : goal.returns-clause-read
+returns-clause-read c =
+    let t = c.args.text.now in
+    let all : c.loop-i.i ≡ 8 = omega (arith, c.loop-i-test.false) in
+    rw rest_is (subst (λ (k : ℕ). IsRead 16 t c.loop-i.number (drop k t)) all c.loop-i.invariant.read)
+
+pub returns-clause-some : goal.returns-clause-some
+returns-clause-some c =
+    digits_in-before 16 c.args.text.now (omega (arith, c.if-text-lt8.false))
+    (c.loop-i.invariant.word (omega (arith, c.loop-i-test.false)))
