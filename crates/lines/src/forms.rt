@@ -1,5 +1,5 @@
 //! The forms of a script's lines, after the word that says whose they are.
-ghost use Rattle.std.specs.Prelude.{◌≡◌, [], ◌∷◌, Some, None, map, length, option_map, MatchOption, codes};
+ghost use Rattle.std.specs.Prelude.{◌≡◌, [], ◌∷◌, Some, None, map, length, option_map, MatchOption, IfSome, codes};
 ghost use Rattle.model_guests.specs.Text.{words};
 ghost use Rattle.model_guests.specs.Accesses.{access};
 ghost use Rattle.model_guests.specs.Numbers.{below, number_of};
@@ -70,6 +70,7 @@ fn raise_form(words: &[&[u8]]) -> Option<Asked>
 /// Where an access goes, by the letter of its space, and what comes after its place: `m ADDR`, `i PORT`
 /// or `c SLOT OFF`. All begin with a number: where it is read before the letter is looked at, fewer copies
 /// of its loop are compiled.
+#[inline(always)]
 fn placed(space: u8, text: &[u8]) -> Option<(At, &[u8])>
     ensures { MatchOption result (placed space (words text.now) ≡ None) (λ p.
         placed space (words text.now) ≡ Some (record { target = target_of p.0; rest = words p.1.now })) }
@@ -88,6 +89,7 @@ fn placed(space: u8, text: &[u8]) -> Option<(At, &[u8])>
 
 /// What an access does, by the letter of its kind, and what comes after it: `r`, or `w V` with a value of
 /// 32 bits.
+#[inline(always)]
 fn operated(kind: u8, text: &[u8]) -> Option<(Op, &[u8])>
     ensures { MatchOption result (operated kind (words text.now) ≡ None) (λ p.
         operated kind (words text.now) ≡ Some (record { op = op_of p.0; rest = words p.1.now })) }
@@ -104,6 +106,7 @@ fn operated(kind: u8, text: &[u8]) -> Option<(Op, &[u8])>
 }
 
 /// An access, by the letters of its space and of its kind and by the text after them.
+#[inline(always)]
 #[tactic(auto, using(crate::proofs::GuestForms::accesses_are))]
 fn access_form(space: u8, kind: u8, text: &[u8]) -> Option<Access>
     ensures { option_map (λ a. access (access_of a)) result ≡ event_of ((space ∷ kind ∷ []) ∷ words text.now) }
@@ -127,6 +130,18 @@ fn longer_form(op: &[u8], words: &[&[u8]]) -> Option<Asked>
         return raise_form(words);
     }
     None
+}
+
+/// The access that the text after a guest's name asks, if its form has two letters and it asks one.
+#[inline(always)]
+pub(crate) fn guest_access_form(text: &[u8]) -> Option<Access>
+    ensures { IfSome result (λ a. event_of (words text.now) ≡ Some (access (access_of a))) }
+{
+    let (op, rest) = form_word(text)?;
+    match op {
+        [space, kind] => access_form(*space, *kind, rest),
+        _ => None,
+    }
 }
 
 /// What the text after a guest's name asks, if it is of a known form.

@@ -8,7 +8,7 @@ ghost use Rattle.model_guests.specs.Lines.{meaning_of_words, meaning};
 ghost use Rattle.lines.specs.Lines.{texts, name_of, meaning_of, GuestsAre, IsFirst, IsRefusable};
 
 use crate::cursor::name_word;
-use crate::forms::{Asked, guest_form, host_form};
+use crate::forms::{Asked, guest_access_form, guest_form, host_form};
 use crate::numbers::number_of;
 use crate::words::first_words;
 use accesses::{Access, HostAccess, Names, Place};
@@ -181,6 +181,26 @@ pub fn line_meaning(line: &[u8], names: &Names) -> What
         Some((first, text)) => named_line(first, text, names),
         None => What::Nothing,
     }
+}
+
+/// The guest and its access, where a line asks one. Most lines do: what such a line means is told here
+/// faster than by `line_meaning`, which puts it among all meanings.
+#[inline(always)]
+pub fn guest_access(line: &[u8], names: &Names) -> Option<(usize, Access)>
+    ensures meaning { IfSome result (λ p.
+        meaning_of (texts names.now) (What.Guest p.0 p.1) ≡ meaning (texts names.now) line.now) }
+    ensures guest { IfSome result (λ p. p.0 < length names.now.items) }
+{
+    if line.len() > LONGEST_LINE {
+        return None;
+    }
+    let (first, text) = name_word(line)?;
+    if is_comment(first) || first == b"host".as_slice() {
+        return None;
+    }
+    let guest = guest_named(first, names)?;
+    let access = guest_access_form(text)?;
+    Some((guest, access))
 }
 
 /// Reads a line, which is given without its line feed. Of several guests of one name the first is
