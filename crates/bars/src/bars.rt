@@ -79,7 +79,8 @@ impl Bars {
     /// The least register whose region decodes an address under this Command register, and the offset
     /// in the region.
     pub fn decode(&self, space: Space, addr: u64, command: u16) -> Option<(u8, u64)>
-        ensures { named_hit result ≡ first_hit (command_cells command ++ base_file self.now) (map opened self.now) (named_space space) addr }
+        ensures { named_hit result
+            ≡ first_hit (command_cells command ++ base_file self.now) (map opened self.now) (named_space space) addr }
     {
         if self.slots.is_outside(space, addr) {
             return None;

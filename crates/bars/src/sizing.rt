@@ -39,8 +39,10 @@ fn joined(kind: Kind, low: u32, high: u32) -> u64
 /// written to them (section 6.2.5.1). `high` counts for a base of 64 bits alone. `None` where no
 /// region shows these.
 pub fn size_of_mask(low: u32, high: u32) -> Option<(Kind, u64)>
-    ensures shown { IfSome result (λ m. IsLawfulSize (kind_of m.0) m.1 × ShowsSize (record { kind = kind_of m.0; size = m.1 }) low high) }
-    ensures found { (b : Bar) → IsLawfulSize b.kind b.size → ShowsSize b low high → option_map named_bar result ≡ Some b }
+    ensures shown { IfSome result (λ m.
+        IsLawfulSize (kind_of m.0) m.1 × ShowsSize (record { kind = kind_of m.0; size = m.1 }) low high) }
+    ensures found { (b : Bar) → IsLawfulSize b.kind b.size → ShowsSize b low high
+        → option_map named_bar result ≡ Some b }
 {
     let kind = kind_shown(low)?;
     let base = joined(kind, low, high) - u64::from(kind.type_bits());

@@ -51,7 +51,8 @@ abbrev pub host_keeps : Rule → File → Bool
 host_keeps rule.IoAperture f = is_natural f.io && is_io_aperture (aperture f.io)
 host_keeps rule.MemAperture f = is_natural f.mem && is_mem_aperture (aperture f.mem)
 host_keeps rule.PrefAperture f =
-    are_natural f.pref && (not (is_mem_aperture (aperture f.mem)) || has_lawful_pref (aperture f.mem) (option_map aperture f.pref))
+    are_natural f.pref
+    && (not (is_mem_aperture (aperture f.mem)) || has_lawful_pref (aperture f.mem) (option_map aperture f.pref))
 host_keeps _ f = true
 
 abbrev pub has_indices : Endpoint → Bool
@@ -127,10 +128,12 @@ bar_at i j f = option_and_then (λ e. slice_get e.bars j) (slice_get f.endpoints
 
 -- an entry inside another, which is asked with this one
 abbrev pub config_at : ℕ → File → (List Config → ℕ → Config → Bool) → ℕ → Bool
-config_at i f test j = option_map_or (λ e. option_map_or (test e.configs j) (slice_get e.configs j) true) (slice_get f.endpoints i) true
+config_at i f test j =
+    option_map_or (λ e. option_map_or (test e.configs j) (slice_get e.configs j) true) (slice_get f.endpoints i) true
 
 abbrev pub slot_at : ℕ → File → (List (List ℕ) → ℕ → List ℕ → Bool) → ℕ → Bool
-slot_at i f test j = option_map_or (λ g. option_map_or (test g.slots j) (slice_get g.slots j) true) (slice_get f.guests i) true
+slot_at i f test j =
+    option_map_or (λ g. option_map_or (test g.slots j) (slice_get g.slots j) true) (slice_get f.guests i) true
 
 -- a rule that is none of keys
 abbrev pub entry_keeps : File → Entry → Rule → Bool

@@ -1,7 +1,8 @@
 -- Which tables of a board file keep the rules of keys.
 --     table_at ms entry      the table of an entry
 --     value_at ms entry key      the value at a key of an entry; a slot is its value itself
---     owner_of entry, owner_key entry      the function or guest that an entry belongs to, and the key of its path or name
+--     owner_of entry      the function or guest that an entry belongs to
+--     owner_key entry      the key of its path or name
 --     level_of entry      the kind of table that it has to be
 --     key_keeps ms entry rule key      at this key the table keeps the rule, or isn't there
 use Rattle.std.specs.Prelude.{ℕ, codes, Bool, true, false, not, ◌&&◌, ◌||◌, List, [], ◌∷◌, Option, Some, None, is_some, option_and_then}
@@ -32,7 +33,8 @@ table_at ms (entry.Guest i) = table_in (codes "guest") i ms
 table_at ms (entry.Slot i j) = None
 
 abbrev pub value_at : Members → Entry → List ℕ → Option Data
-value_at ms (entry.Slot i j) k = option_and_then (at j) (option_and_then (get_member (codes "slots")) (table_at ms (entry.Guest i)))
+value_at ms (entry.Slot i j) k =
+    option_and_then (at j) (option_and_then (get_member (codes "slots")) (table_at ms (entry.Guest i)))
 value_at ms e k = option_and_then (get_member k) (table_at ms e)
 
 abbrev pub owner_of : Entry → Entry

@@ -157,7 +157,8 @@ fn config_at_keeps(
     configs: &[ConfigEntry<'_>],
     index: usize,
 ) -> Result<bool, AllocError>
-    ensures { IfOk result (λ b. b ≡ option_map_or (config_keeps rule configs.now index) (slice_get configs.now index) true) }
+    ensures { IfOk result (λ b.
+        b ≡ option_map_or (config_keeps rule configs.now index) (slice_get configs.now index) true) }
 {
     match configs.get(index) {
         Some(config) => config_keeps(alloc, rule, configs, index, config),
@@ -197,7 +198,9 @@ fn endpoint_at_keeps(
     index: usize,
 ) -> bool
     requires { functions.now ≡ standings file.now }
-    ensures { result ≡ option_map_or (λ e. endpoint_keeps rule e && place_keeps rule file.now index 0 e.at) (slice_get file.now.endpoints index) true }
+    ensures { result ≡ option_map_or
+        (λ e. endpoint_keeps rule e && place_keeps rule file.now index 0 e.at)
+        (slice_get file.now.endpoints index) true }
 {
     match file.endpoints.get(index) {
         Some(endpoint) => {
@@ -216,7 +219,9 @@ fn bridge_at_keeps(
     index: usize,
 ) -> bool
     requires { functions.now ≡ standings file.now }
-    ensures { result ≡ option_map_or (λ b. bridge_keeps rule b && place_keeps rule file.now (length file.now.endpoints) index b.at) (slice_get file.now.bridges index) true }
+    ensures { result ≡ option_map_or
+        (λ b. bridge_keeps rule b && place_keeps rule file.now (length file.now.endpoints) index b.at)
+        (slice_get file.now.bridges index) true }
 {
     let endpoints = file.endpoints.len();
     match file.bridges.get(index) {

@@ -82,7 +82,8 @@ pub(crate) fn table_at(table: &Table, entry: Entry) -> Option<&Table>
 
 /// The value at a key of a table that may be there.
 fn member_of<'v>(table: Option<&'v Table>, key: &str) -> Option<&'v Value>
-    ensures { option_map (λ v. view v.now) result ≡ option_and_then (get_member key.now) (option_map (λ t. table_view t.now) table.entry) }
+    ensures { option_map (λ v. view v.now) result
+        ≡ option_and_then (get_member key.now) (option_map (λ t. table_view t.now) table.entry) }
 {
     match table {
         Some(table) => member(table, key),
@@ -128,7 +129,8 @@ fn owner_key(entry: Entry) -> Option<&'static str>
 /// The path of the function, or the name of the guest, that an entry belongs to, as it was read.
 pub(crate) fn owner_name(document: &Table, entry: Entry) -> Option<&str>
     ensures { option_map (λ s. s.now) result
-        ≡ option_and_then as_str (option_and_then (value_at (table_view document.now) (owner_of entry)) (owner_key entry)) }
+        ≡ option_and_then as_str
+        (option_and_then (value_at (table_view document.now) (owner_of entry)) (owner_key entry)) }
 {
     let key = owner_key(entry)?;
     let value = value_at(document, owner_of(entry), key)?;

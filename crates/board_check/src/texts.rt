@@ -155,7 +155,8 @@ fn push_data(text: &mut String, value: &Value) -> Result<(), AllocError>
 
 /// Appends a value, where there is one.
 fn push_scalar(text: &mut String, value: Option<&Value>) -> Result<(), AllocError>
-    ensures { OnOk result (string_bytes text.new ≡ string_bytes text.old ++ scalar_text (option_map (λ v. view v.now) value.entry)) }
+    ensures { OnOk result (string_bytes text.new
+        ≡ string_bytes text.old ++ scalar_text (option_map (λ v. view v.now) value.entry)) }
 {
     match value {
         Some(value) => push_data(text, value),
@@ -165,7 +166,8 @@ fn push_scalar(text: &mut String, value: Option<&Value>) -> Result<(), AllocErro
 
 /// Appends the path or name of what an entry belongs to, where there is one.
 fn push_name(text: &mut String, name: Option<&str>) -> Result<(), AllocError>
-    ensures { OnOk result (string_bytes text.new ≡ string_bytes text.old ++ name_text (option_map (λ s. s.now) name.entry)) }
+    ensures { OnOk result (string_bytes text.new
+        ≡ string_bytes text.old ++ name_text (option_map (λ s. s.now) name.entry)) }
 {
     match name {
         Some(name) => {
@@ -191,7 +193,8 @@ fn push_place(
     entry: Entry,
     key: &str,
 ) -> Result<(), AllocError>
-    ensures { OnOk result (string_bytes text.new ≡ string_bytes text.old ++ place_text (table_view document.now) entry key.now) }
+    ensures { OnOk result (string_bytes text.new
+        ≡ string_bytes text.old ++ place_text (table_view document.now) entry key.now) }
 {
     push_entry(text, entry)?;
     push_key(text, key)?;
@@ -209,7 +212,8 @@ fn push_problem(
     document: &Table,
     told: &Told<'_>,
 ) -> Result<(), AllocError>
-    ensures { OnOk result (string_bytes text.new ≡ string_bytes text.old ++ problem_text name.now (table_view document.now) told.now) }
+    ensures { OnOk result (string_bytes text.new
+        ≡ string_bytes text.old ++ problem_text name.now (table_view document.now) told.now) }
 {
     text.push_str(name)?;
     push_line(text, told.line)?;
@@ -227,7 +231,8 @@ fn push_problems(
     document: &Table,
     told: &[Told<'_>],
 ) -> Result<(), AllocError>
-    ensures { OnOk result (string_bytes text.new ≡ string_bytes text.old ++ flat_map (problem_text name.now (table_view document.now)) told.now) }
+    ensures { OnOk result (string_bytes text.new
+        ≡ string_bytes text.old ++ flat_map (problem_text name.now (table_view document.now)) told.now) }
 {
     for one in told {
         push_problem(text, name, document, one)?;
@@ -266,7 +271,8 @@ pub(crate) fn push_lines(
     fault: BoardFault,
     told: &[Told<'_>],
 ) -> Result<(), AllocError>
-    ensures { OnOk result (string_bytes text.new ≡ string_bytes text.old ++ lines_text name.now (table_view document.now) fault told.now) }
+    ensures { OnOk result (string_bytes text.new
+        ≡ string_bytes text.old ++ lines_text name.now (table_view document.now) fault told.now) }
 {
     if told.is_empty() {
         return push_bare(text, name, None, fault);

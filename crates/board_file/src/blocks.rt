@@ -31,7 +31,8 @@ fn pattern_bytes(
     len: usize,
 ) -> Result<Option<Vec<u8>>, AllocError>
     ensures { let given = option_map (λ s. s.now) text.entry in
-        IfOk result (λ found. Gives (is_pattern len given) found (λ v. (v.items ≡ pattern_bytes len given) × (0 < length v.items))) }
+        IfOk result (λ found. Gives (is_pattern len given) found (λ v.
+        (v.items ≡ pattern_bytes len given) × (0 < length v.items))) }
 {
     match text {
         Some(text) => pattern(alloc, text, len),
@@ -54,7 +55,8 @@ fn cells(
     requires reset { 0 < length reset.now }
     requires rw { 0 < length rw.now }
     requires w1c { 0 < length w1c.now }
-    ensures { IfOk result (λ found. Gives (are_apart len rw.now w1c.now) found (λ v. v.items ≡ cells len reset.now rw.now w1c.now)) }
+    ensures { IfOk result (λ found.
+        Gives (are_apart len rw.now w1c.now) found (λ v. v.items ≡ cells len reset.now rw.now w1c.now)) }
 {
     let mut cells = Vec::new(alloc);
     for i in 0..len {
@@ -74,7 +76,8 @@ pub fn block(
     len: usize,
     patterns: &PatternTexts<'_>,
 ) -> Result<Option<Vec<Cell>>, AllocError>
-    ensures { IfOk result (λ found. Gives (is_block len patterns.now) found (λ v. v.items ≡ block_cells len patterns.now)) }
+    ensures { IfOk result (λ found.
+        Gives (is_block len patterns.now) found (λ v. v.items ≡ block_cells len patterns.now)) }
 {
     let Some(reset) = pattern_bytes(alloc, patterns.reset, len)? else {
         return Ok(None);

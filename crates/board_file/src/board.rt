@@ -38,7 +38,8 @@ fn endpoint_decls(
     entries: &[EndpointEntry<'_>],
 ) -> Result<Option<Vec<Decl>>, AllocError>
     requires { IsTrue (list_all is_declarable entries.now) }
-    ensures { IfOk result (λ found. Gives (list_all masks_hold entries.now) found (λ v. (v.items ≡ map said.endpoint_row entries.now) × HasLawfulDecls v.items)) }
+    ensures { IfOk result (λ found. Gives (list_all masks_hold entries.now) found (λ v.
+        (v.items ≡ map said.endpoint_row entries.now) × HasLawfulDecls v.items)) }
 {
     let mut decls = Vec::new(alloc);
     'entries: for entry in entries {
@@ -72,7 +73,8 @@ fn with_bridges(decls: Vec<Decl>, entries: &[BridgeEntry<'_>]) -> Result<Vec<Dec
 /// All functions, where the patterns are lawful.
 fn decls(alloc: Global, file: &FileEntries<'_>) -> Result<Option<Vec<Decl>>, AllocError>
     requires { IsJudged file.now }
-    ensures { IfOk result (λ found. Gives (list_all masks_hold file.now.endpoints) found (λ v. (v.items ≡ said.rows file.now) × HasLawfulDecls v.items)) }
+    ensures { IfOk result (λ found. Gives (list_all masks_hold file.now.endpoints) found (λ v.
+        (v.items ≡ said.rows file.now) × HasLawfulDecls v.items)) }
 {
     match endpoint_decls(alloc, &file.endpoints)? {
         Some(endpoints) => Ok(Some(with_bridges(endpoints, &file.bridges)?)),
@@ -107,7 +109,8 @@ fn build(alloc: Global, file: &FileEntries<'_>) -> Result<(Host, Vec<GuestDecl>)
     ensures world { IfOk result (λ r. world_in r.0 r.1.items ≡ world_of file.now) }
     ensures reset { IfOk result (λ r. IsAtReset r.0.state) }
     ensures lawful { IfOk result (λ r. IsLawfulWorld (world_of file.now)) }
-    ensures refused { IfErr result (λ e. (e ≡ Memory) ⊎ ((e ≡ CellMasks) × (list_all masks_hold file.now.endpoints ≡ false))) }
+    ensures refused { IfErr result (λ e.
+        (e ≡ Memory) ⊎ ((e ≡ CellMasks) × (list_all masks_hold file.now.endpoints ≡ false))) }
 {
     let apertures = apertures(file).unwrap();
     let decls = match decls(alloc, file)? {
@@ -141,10 +144,12 @@ fn read_table(alloc: Global, table: &Table) -> Result<(Host, Vec<GuestDecl>), Bo
 /// fails over the whole file, in the order 101, 102, 103, 104, 108, 105, 106, 107, 109, 110, 111,
 /// 112; bytes that are not UTF-8 are no TOML. Out of memory is answered at any point.
 pub fn read_board(alloc: Global, bytes: &[u8]) -> Result<(Host, Vec<GuestDecl>), BoardFault>
-    ensures world { IfOk result (λ r. IsUtf8 bytes.now × (document_meaning (parse_document bytes.now) ≡ Ok (world_in r.0 r.1.items))) }
+    ensures world { IfOk result (λ r.
+        IsUtf8 bytes.now × (document_meaning (parse_document bytes.now) ≡ Ok (world_in r.0 r.1.items))) }
     ensures reset { IfOk result (λ r. IsAtReset r.0.state) }
     ensures lawful { IfOk result (λ r. IsLawfulWorld (world_in r.0 r.1.items)) }
-    ensures refused { IfErr result (λ e. e ≢ Memory → IsUtf8 bytes.now → document_meaning (parse_document bytes.now) ≡ Err (number_of e)) }
+    ensures refused { IfErr result (λ e.
+        e ≢ Memory → IsUtf8 bytes.now → document_meaning (parse_document bytes.now) ≡ Err (number_of e)) }
     ensures not_text { IfErr result (λ e. e ≢ Memory → ¬ IsUtf8 bytes.now → e ≡ NotToml) }
 {
     match toml::table_from_slice(alloc, bytes) {

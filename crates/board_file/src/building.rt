@@ -68,7 +68,8 @@ fn region(alloc: Global, bar: &BarEntry<'_>) -> Result<Option<Region>, AllocErro
 
 fn regions(alloc: Global, bars: &[BarEntry<'_>]) -> Result<Option<Vec<Region>>, AllocError>
     requires { IsTrue (list_all is_region bars.now) }
-    ensures { IfOk result (λ found. Gives (list_all bar_holds bars.now) found (λ v. v.items ≡ map said.region bars.now)) }
+    ensures { IfOk result (λ found.
+        Gives (list_all bar_holds bars.now) found (λ v. v.items ≡ map said.region bars.now)) }
 {
     let mut regions = Vec::new(alloc);
     'bars: for bar in bars {
@@ -99,7 +100,8 @@ fn config_blocks(
     configs: &[ConfigEntry<'_>],
 ) -> Result<Option<Vec<ConfigBlock>>, AllocError>
     requires { IsTrue (list_all is_config_block configs.now) }
-    ensures { IfOk result (λ found. Gives (list_all config_holds configs.now) found (λ v. v.items ≡ map said.config_block configs.now)) }
+    ensures { IfOk result (λ found.
+        Gives (list_all config_holds configs.now) found (λ v. v.items ≡ map said.config_block configs.now)) }
 {
     let mut blocks = Vec::new(alloc);
     'configs: for config in configs {
@@ -134,8 +136,10 @@ fn values(entry: &EndpointEntry<'_>, bar: Vec<Region>, config: Vec<ConfigBlock>)
 
 /// The endpoint with these values, where its own registers are apart.
 fn declared(values: EndpointValues) -> Option<EndpointDecl>
-    requires { first_broken (endpoint_rules values) ≡ (if all_pairs blocks_apart values.blocks then None else Some 112) }
-    ensures { Gives (all_pairs blocks_apart values.blocks) result (λ d. (d ≡ with_ordered_regions values) × IsLawfulEndpoint d) }
+    requires { first_broken (endpoint_rules values)
+        ≡ (if all_pairs blocks_apart values.blocks then None else Some 112) }
+    ensures { Gives (all_pairs blocks_apart values.blocks) result (λ d.
+        (d ≡ with_ordered_regions values) × IsLawfulEndpoint d) }
 {
     match EndpointDecl::new(values) {
         Ok(decl) => Some(decl),
@@ -149,7 +153,8 @@ pub(crate) fn endpoint(
     entry: &EndpointEntry<'_>,
 ) -> Result<Option<EndpointDecl>, AllocError>
     requires { IsTrue (is_declarable entry.now) }
-    ensures { IfOk result (λ found. Gives (masks_hold entry.now) found (λ d. (d ≡ said.endpoint entry.now) × IsLawfulEndpoint d)) }
+    ensures { IfOk result (λ found.
+        Gives (masks_hold entry.now) found (λ d. (d ≡ said.endpoint entry.now) × IsLawfulEndpoint d)) }
 {
     let regions = match regions(alloc, &entry.bars)? {
         Some(regions) => regions,

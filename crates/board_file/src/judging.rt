@@ -23,7 +23,8 @@ use toml::Table;
 
 /// The first fault of keys, and of values that have not the form of their keys.
 pub(crate) fn form_fault(table: &Table) -> Option<BoardFault>
-    ensures { MatchOption result (HasForm (table_view table.now)) (λ e. first_broken (checks (table_view table.now)) ≡ Some (number_of e)) }
+    ensures { MatchOption result (HasForm (table_view table.now)) (λ e.
+        first_broken (checks (table_view table.now)) ≡ Some (number_of e)) }
 {
     if !table_passes(Check::Types, Level::Top, table) {
         return Some(BoardFault::Key);
@@ -67,7 +68,8 @@ pub(crate) fn first_fault(
     alloc: Global,
     file: &FileEntries<'_>,
 ) -> Result<Option<BoardFault>, AllocError>
-    ensures { IfOk result (λ found. MatchOption found (IsJudged file.now) (λ e. first_broken (rules file.now) ≡ Some (number_of e))) }
+    ensures { IfOk result (λ found.
+        MatchOption found (IsJudged file.now) (λ e. first_broken (rules file.now) ≡ Some (number_of e))) }
 {
     if !numbers_hold(file) {
         return Ok(Some(BoardFault::Number));

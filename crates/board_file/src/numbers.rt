@@ -208,7 +208,8 @@ fn have_few_slots(guests: &[GuestEntry<'_>]) -> bool
 }
 
 fn has_few_tables(file: &FileEntries<'_>) -> bool
-    ensures { result ≡ (nat_le (length file.now.endpoints + length file.now.bridges) 1024 && nat_le (length file.now.guests) 32) }
+    ensures { result
+        ≡ (nat_le (length file.now.endpoints + length file.now.bridges) 1024 && nat_le (length file.now.guests) 32) }
 {
     let endpoints = file.endpoints.len();
     let bridges = file.bridges.len();

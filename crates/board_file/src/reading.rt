@@ -53,7 +53,8 @@ fn text<'a>(table: &'a Table, key: &str) -> &'a str
 
 /// The array at a key.
 fn array_at<'a>(table: &'a Table, key: &str) -> Option<&'a Array>
-    ensures { option_map (λ a. array_view a.now) result ≡ option_and_then as_array (get_member key.now (table_view table.now)) }
+    ensures { option_map (λ a. array_view a.now) result
+        ≡ option_and_then as_array (get_member key.now (table_view table.now)) }
 {
     match value_at(table, key) {
         Some(value) => value.as_array(),
@@ -63,7 +64,8 @@ fn array_at<'a>(table: &'a Table, key: &str) -> Option<&'a Array>
 
 /// The tables of an array.
 fn tables_of(alloc: Global, items: &Array) -> Result<Vec<&Table>, AllocError>
-    ensures { IfOk result (λ v. map (λ t. table_view t.now) v.items ≡ filter_map as_table (list_of (array_view items.now))) }
+    ensures { IfOk result (λ v.
+        map (λ t. table_view t.now) v.items ≡ filter_map as_table (list_of (array_view items.now))) }
 {
     let mut tables = Vec::new(alloc);
     'items: for item in items {
@@ -261,7 +263,8 @@ fn range(table: &Table, key: &str) -> Bounds
 }
 
 fn table_at<'a>(table: &'a Table, key: &str) -> Option<&'a Table>
-    ensures { option_map (λ t. table_view t.now) result ≡ option_and_then as_table (get_member key.now (table_view table.now)) }
+    ensures { option_map (λ t. table_view t.now) result
+        ≡ option_and_then as_table (get_member key.now (table_view table.now)) }
 {
     match value_at(table, key) {
         Some(value) => value.as_table(),
@@ -279,7 +282,8 @@ fn host_range(table: &Table, key: &str) -> Bounds
 }
 
 fn pref_range(table: &Table) -> Option<Bounds>
-    ensures { let host = table_at (codes "host") (table_view table.now) in result ≡ option_map (λ _. range (codes "pref") host) (get_member (codes "pref") host) }
+    ensures { let host = table_at (codes "host") (table_view table.now) in result
+        ≡ option_map (λ _. range (codes "pref") host) (get_member (codes "pref") host) }
 {
     match table_at(table, "host") {
         Some(host) => match value_at(host, "pref") {

@@ -104,7 +104,9 @@ impl BridgeFn {
     /// Whether an address is forwarded: Command opens its space, and a window of that space holds it
     /// (PCI-to-PCI Bridge Architecture 1.2, chapter 4).
     pub(crate) fn forwards(&self, space: Space, addr: u64) -> bool
-        ensures { result ≡ (is_open self.now.file (named_space space) && is_in_window self.now.decl self.now.file (named_space space) addr) }
+        ensures { result
+            ≡ (is_open self.now.file (named_space space)
+            && is_in_window self.now.decl self.now.file (named_space space) addr) }
     {
         self.decoded.command & space.command_bit() != 0 && self.is_in_window(space, addr)
     }

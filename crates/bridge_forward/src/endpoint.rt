@@ -39,7 +39,11 @@ impl Model for EndpointFn {
 
     ghost Value = { Function };
 
-    ghost view = { λ e. record { decl = e.decl; file = e.config.now ++ region_parts e.bars (block_at e.blocks.items) } };
+    ghost view = { λ e. record {
+      decl = e.decl;
+      file = e.config.now
+          ++ region_parts e.bars (block_at e.blocks.items);
+    } };
 
     ghost invariant = { λ e. IsEndpointFn e.decl e.config e.command e.bars e.blocks.items };
 }

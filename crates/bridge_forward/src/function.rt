@@ -115,7 +115,9 @@ impl Function {
 
     /// Whether it is a bridge that takes cycles for the bus.
     pub(crate) fn covers(&self, bus: u8) -> bool
-        ensures { result ≡ (is_bridge (decl_of self.now) && nat_le (secondary_register (file_of self.now)) bus && nat_le bus (subordinate_register (file_of self.now))) }
+        ensures { result
+            ≡ (is_bridge (decl_of self.now) && nat_le (secondary_register (file_of self.now)) bus
+            && nat_le bus (subordinate_register (file_of self.now))) }
     {
         match self {
             Function::Endpoint(_) => false,

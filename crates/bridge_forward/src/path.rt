@@ -193,8 +193,10 @@ impl Path {
     /// tells it, since all before it are those of the bus.
     pub(crate) fn compare_on(&self, bus: &[Part], device: u8, function: u8) -> Ordering
         requires { IsTrue (leads_to bus.now self.now) }
-        ensures less { is_lt result ≡ path_before self.now (bus.now ++ record { device = device; function = function } ∷ []) }
-        ensures equal { is_eq result ≡ path_eq self.now (bus.now ++ record { device = device; function = function } ∷ []) }
+        ensures less { is_lt result
+            ≡ path_before self.now (bus.now ++ record { device = device; function = function } ∷ []) }
+        ensures equal { is_eq result
+            ≡ path_eq self.now (bus.now ++ record { device = device; function = function } ∷ []) }
     {
         let parts = self.parts();
         let depth = bus.len();

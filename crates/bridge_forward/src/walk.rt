@@ -27,8 +27,10 @@ fn bridge_on_bus(nodes: &[Node], from: usize, to: usize, number: u8) -> Option<u
     requires tree { IsTree nodes.now }
     requires range { to ≤ length nodes.now }
     ensures within { IfSome result (λ i. (from ≤ i) × (i < to)) }
-    ensures found { IfSome result (λ i. (bus : PathValue) → IsSide nodes.now bus from to → IsAt nodes.now i (taker (functions_of nodes.now) bus number)) }
-    ensures none { IfNone result ((bus : PathValue) → IsSide nodes.now bus from to → taker (functions_of nodes.now) bus number ≡ None) }
+    ensures found { IfSome result (λ i. (bus : PathValue) → IsSide nodes.now bus from to
+        → IsAt nodes.now i (taker (functions_of nodes.now) bus number)) }
+    ensures none { IfNone result ((bus : PathValue) → IsSide nodes.now bus from to
+        → taker (functions_of nodes.now) bus number ≡ None) }
 {
     let mut i = from;
     while i < to {
@@ -58,7 +60,8 @@ fn part_on_bus(
 ) -> Option<usize>
     requires tree { IsTree nodes.now }
     requires side { IsSide nodes.now bus.now from to }
-    ensures found { IfSome result (λ i. IsAt nodes.now i (find (is_named bus.now device function) (functions_of nodes.now))) }
+    ensures found { IfSome result (λ i.
+        IsAt nodes.now i (find (is_named bus.now device function) (functions_of nodes.now))) }
     ensures none { IfNone result (find (is_named bus.now device function) (functions_of nodes.now) ≡ None) }
 {
     let mut low = from;
@@ -144,7 +147,8 @@ pub(crate) fn reach(nodes: &[Node], known: &mut Routes, cycle: &Cycle) -> Option
 /// passes what stands behind a bridge that doesn't forward the address.
 pub(crate) fn locate(nodes: &[Node], space: Space, addr: u64) -> Option<Located>
     requires { IsTree nodes.now }
-    ensures claim { located_claim (functions_of nodes.now) result ≡ first_claim (functions_of nodes.now) (named_space space) addr }
+    ensures claim { located_claim (functions_of nodes.now) result
+        ≡ first_claim (functions_of nodes.now) (named_space space) addr }
     ensures there { IfSome result (λ l. IsSome (endpoint_nth (functions_of nodes.now) l.index)) }
 {
     let mut i = 0;
@@ -176,7 +180,8 @@ pub(crate) fn locate(nodes: &[Node], space: Space, addr: u64) -> Option<Located>
 /// Where the function with this path stands, found by halving, since nodes stand in path order.
 pub(crate) fn position(nodes: &[Node], path: &Path) -> Option<usize>
     requires { IsTree nodes.now }
-    ensures found { IfSome result (λ i. IsAt nodes.now i (find (λ f. path_eq f.path path.now) (functions_of nodes.now))) }
+    ensures found { IfSome result (λ i.
+        IsAt nodes.now i (find (λ f. path_eq f.path path.now) (functions_of nodes.now))) }
     ensures none { IfNone result (find (λ f. path_eq f.path path.now) (functions_of nodes.now) ≡ None) }
 {
     let mut low = 0;

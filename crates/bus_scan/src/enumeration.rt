@@ -34,10 +34,12 @@ struct Enumeration {
 
 /// Writes Primary, Secondary and Subordinate Bus Number of the bridge with an address.
 fn write_numbers(host: &mut Host, at: Bdf, primary: u8, secondary: u8, subordinate: u8)
-    ensures written { (b : Board) (numbers : PathValue → BusNumbers) (p : PathValue) → IsBoard b → IsTrue (is_bridge_at b p)
+    ensures written { (b : Board) (numbers : PathValue → BusNumbers) (p : PathValue)
+        → IsBoard b → IsTrue (is_bridge_at b p)
         → host.old.state ≡ state_of b (numbered_file b numbers)
         → reached host.old.state.functions (bus_address_of at) ≡ find (λ f. path_eq f.path p) host.old.state.functions
-        → host.new.state ≡ state_of b (numbered_file b (given p (record { primary = primary; secondary = secondary; subordinate = subordinate }) numbers)) }
+        → host.new.state ≡ state_of b (numbered_file b
+        (given p (record { primary = primary; secondary = secondary; subordinate = subordinate }) numbers)) }
     ensures kept { host.new.apertures ≡ host.old.apertures }
 {
     let numbers = u32::from_le_bytes([primary, secondary, subordinate, 0]);

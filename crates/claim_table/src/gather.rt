@@ -14,7 +14,8 @@ use window_packing::{Setting, Writes};
 
 /// The region of a register, if it lies in a space.
 fn entry_of(placed: Option<Region>, space: Space, function: usize, region: u8) -> Option<Entry>
-    ensures { option_to_list result ≡ map (entry_for function) (of_space (named_space space) (bases_from region (placed ∷ []))) }
+    ensures { option_to_list result
+        ≡ map (entry_for function) (of_space (named_space space) (bases_from region (placed ∷ []))) }
 {
     let placed = placed?;
     if placed.decl.kind().space() != space {
@@ -35,7 +36,8 @@ fn add_regions(
     function: usize,
     bases: &[Option<Region>; 6],
 ) -> Result<(), AllocError>
-    ensures { OnOk result (entries.new.items ≡ entries.old.items ++ map (entry_for function) (of_space (named_space space) (bases_from 0 bases.now))) }
+    ensures { OnOk result (entries.new.items
+        ≡ entries.old.items ++ map (entry_for function) (of_space (named_space space) (bases_from 0 bases.now))) }
 {
     for region in 0..6u8 {
         let placed = bases[usize::from(region)];

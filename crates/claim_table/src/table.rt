@@ -47,7 +47,8 @@ impl Table {
     /// The table of a board that is set up. It fits every host with the same routing registers. Nothing
     /// else refuses than that memory is out.
     pub fn build(alloc: Global, ready: &Ready) -> Result<Table, AllocError>
-        ensures { IfOk result (λ t. (h : HostState) → routing h.state.functions ≡ routing ready.now.host.state.functions → FitsTable t h) }
+        ensures { IfOk result (λ t.
+            (h : HostState) → routing h.state.functions ≡ routing ready.now.host.state.functions → FitsTable t h) }
     {
         let settings = ready.plan().settings();
         Ok(Table {

@@ -54,7 +54,8 @@ impl VirtualFunction {
     pub fn new(decls: [Option<BarDecl>; 6]) -> VirtualFunction
         requires { HasLawfulRegions (map opened (at_reset decls)) }
         ensures copies { result ≡ record { command = 0; bases = at_reset decls } }
-        ensures reset { (d : Endpoint) → Each (λ b. 0x40 ≤ b.offset) d.blocks → map closed d.regions ≡ at_reset decls → HoldsOwn (endpoint_reset d false) result }
+        ensures reset { (d : Endpoint) → Each (λ b. 0x40 ≤ b.offset) d.blocks
+            → map closed d.regions ≡ at_reset decls → HoldsOwn (endpoint_reset d false) result }
     {
         VirtualFunction {
             command: 0,
@@ -70,7 +71,8 @@ impl VirtualFunction {
         ensures own { result.0 ≡ read (own_file self.now) (config off) (lanes enables) }
         ensures others { lanes result.1 ≡ handed_on (config off) (lanes enables) }
         ensures four { result.1 < 16 }
-        ensures together { (file : File) → HoldsOwn file self.now → read file (config off) (lanes enables) ≡ result.0 + read file (config off) (lanes result.1) }
+        ensures together { (file : File) → HoldsOwn file self.now
+            → read file (config off) (lanes enables) ≡ result.0 + read file (config off) (lanes result.1) }
     {
         let word = Word::at(off);
         let own = match word {
@@ -90,7 +92,10 @@ impl VirtualFunction {
         ensures regions { map opened self.new.bases ≡ map opened self.old.bases }
         ensures others { lanes result ≡ handed_on (config off) (lanes enables) }
         ensures four { result < 16 }
-        ensures together { (file : File) → HoldsOwn file self.old → (p : Place) → cell_at (write (lanes enables) value (config off) file) p ≡ (if is_own p then cell_at (own_file self.new) p else cell_at (write (lanes result) value (config off) file) p) }
+        ensures together { (file : File) → HoldsOwn file self.old → (p : Place)
+            → cell_at (write (lanes enables) value (config off) file) p
+            ≡ (if is_own p then cell_at (own_file self.new) p
+            else cell_at (write (lanes result) value (config off) file) p) }
     {
         let word = Word::at(off);
         match word {
@@ -104,7 +109,8 @@ impl VirtualFunction {
     /// The least register whose region decodes an address by the guest's own Command and bases, and the
     /// offset in the region.
     pub fn decode(&self, space: Space, addr: u64) -> Option<(u8, u64)>
-        ensures { (f : Function) → HoldsOwn f.file self.now → map bare f.decl.regions ≡ map opened self.now.bases → named_hit result ≡ lone_claim f (named_space space) addr }
+        ensures { (f : Function) → HoldsOwn f.file self.now → map bare f.decl.regions ≡ map opened self.now.bases
+            → named_hit result ≡ lone_claim f (named_space space) addr }
     {
         self.bars.decode(space, addr, self.command)
     }
@@ -113,7 +119,8 @@ impl VirtualFunction {
     pub fn reset(&mut self)
         ensures copies { self.new ≡ record { command = 0; bases = map with_no_base self.old.bases } }
         ensures regions { map opened self.new.bases ≡ map opened self.old.bases }
-        ensures reset { (d : Endpoint) → Each (λ b. 0x40 ≤ b.offset) d.blocks → map bare d.regions ≡ map opened self.old.bases → HoldsOwn (endpoint_reset d false) self.new }
+        ensures reset { (d : Endpoint) → Each (λ b. 0x40 ≤ b.offset) d.blocks
+            → map bare d.regions ≡ map opened self.old.bases → HoldsOwn (endpoint_reset d false) self.new }
     {
         self.command = 0;
         self.bars.reset();

@@ -22,7 +22,8 @@ fn push_header(
     decl: &BridgeDecl,
     multifunction: bool,
 ) -> Result<(), AllocError>
-    ensures { OnOk result (file_of cells.new.items ≡ file_of cells.old.items ++ bridge_header decl.now multifunction no_bridge_values) }
+    ensures { OnOk result (file_of cells.new.items
+        ≡ file_of cells.old.items ++ bridge_header decl.now multifunction no_bridge_values) }
 {
     push_rows(
         cells,
@@ -60,7 +61,8 @@ fn push_mem_window(cells: &mut Vec<(u16, Cell)>) -> Result<(), AllocError>
 
 /// Appends the cells of the I/O window.
 fn push_io_window(cells: &mut Vec<(u16, Cell)>, decode: IoDecode) -> Result<(), AllocError>
-    ensures { OnOk result (file_of cells.new.items ≡ file_of cells.old.items ++ io_cells (io_decode_of decode) no_window) }
+    ensures { OnOk result (file_of cells.new.items
+        ≡ file_of cells.old.items ++ io_cells (io_decode_of decode) no_window) }
 {
     match decode {
         IoDecode::Unimplemented => Ok(()),
@@ -82,7 +84,8 @@ fn push_io_window(cells: &mut Vec<(u16, Cell)>, decode: IoDecode) -> Result<(), 
 
 /// Appends the cells of the prefetchable memory window.
 fn push_pref_window(cells: &mut Vec<(u16, Cell)>, decode: PrefDecode) -> Result<(), AllocError>
-    ensures { OnOk result (file_of cells.new.items ≡ file_of cells.old.items ++ pref_cells (pref_decode_of decode) no_window) }
+    ensures { OnOk result (file_of cells.new.items
+        ≡ file_of cells.old.items ++ pref_cells (pref_decode_of decode) no_window) }
 {
     match decode {
         PrefDecode::Unimplemented => Ok(()),
@@ -108,7 +111,8 @@ fn push_pref_window(cells: &mut Vec<(u16, Cell)>, decode: PrefDecode) -> Result<
 impl Bridge {
     /// The cells of a bridge at reset. `multifunction` says that its device has two functions or more.
     pub fn cells(alloc: Global, decl: &BridgeDecl, multifunction: bool) -> Result<Cells, AllocError>
-        ensures { IfOk result (λ f. f ≡ record { now = bridge_reset decl.now multifunction; initial = bridge_reset decl.now multifunction }) }
+        ensures { IfOk result (λ f.
+            f ≡ record { now = bridge_reset decl.now multifunction; initial = bridge_reset decl.now multifunction }) }
     {
         let mut cells = Vec::new(alloc);
         push_header(&mut cells, decl, multifunction)?;

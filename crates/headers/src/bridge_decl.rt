@@ -42,7 +42,8 @@ impl BridgeDecl {
         io: IoDecode,
         pref: PrefDecode,
     ) -> Result<BridgeDecl, DeclFault>
-        ensures refused { option_map number_of (result_err result) ≡ first_broken (bridge_rules (bridge_of vendor device revision io pref)) }
+        ensures refused { option_map number_of (result_err result)
+            ≡ first_broken (bridge_rules (bridge_of vendor device revision io pref)) }
         ensures declared { IfOk result (λ d. d ≡ bridge_of vendor device revision io pref) }
         ensures lawful { IfOk result IsLawfulBridge }
     {

@@ -68,7 +68,8 @@ impl Endpoint {
         decl: &EndpointDecl,
         multifunction: bool,
     ) -> Result<Cells, AllocError>
-        ensures { IfOk result (λ f. f ≡ record { now = config_reset decl.now multifunction; initial = config_reset decl.now multifunction }) }
+        ensures { IfOk result (λ f.
+            f ≡ record { now = config_reset decl.now multifunction; initial = config_reset decl.now multifunction }) }
     {
         let mut cells = Vec::new(alloc);
         push_header(&mut cells, decl, multifunction)?;

@@ -64,7 +64,8 @@ fn is_used_once<T: TakesRegisters>(regions: &[T], register: u64) -> bool
 
 /// Whether no register is used twice.
 fn use_registers_once<T: TakesRegisters>(regions: &[T]) -> bool
-    ensures { result ≡ list_all (λ n. nat_le (count_by (λ r. uses n (T.region r)) regions.now) 1) (0 ∷ 1 ∷ 2 ∷ 3 ∷ 4 ∷ 5 ∷ []) }
+    ensures { result
+        ≡ list_all (λ n. nat_le (count_by (λ r. uses n (T.region r)) regions.now) 1) (0 ∷ 1 ∷ 2 ∷ 3 ∷ 4 ∷ 5 ∷ []) }
 {
     is_used_once(regions, 0)
         && is_used_once(regions, 1)

@@ -22,7 +22,8 @@ pub(crate) struct Row(pub u8, pub u8, pub u32, pub Access);
 impl Access {
     /// The cell of the lowest byte.
     pub(crate) fn cell(self, value: u32) -> Cell
-        ensures { result ≡ record { value = value % 256; writable = writable_of self % 256; clearable = clearable_of self % 256 } }
+        ensures { result
+            ≡ record { value = value % 256; writable = writable_of self % 256; clearable = clearable_of self % 256 } }
     {
         let value = (value % 256) as u8;
         match self {

@@ -24,9 +24,12 @@ pub record Placed : Type 0 where
 -- m ADDR, i PORT, c SLOT OFF
 abbrev pub placed : ℕ → List Text → Option Placed
 placed space ws =
-    if space == 109 then option_map (λ (a : Numbered). record { target = address a.number; rest = a.rest }) (numbered ws)
-    else (if space == 105 then option_map (λ (a : Numbered). record { target = port a.number; rest = a.rest }) (numbered ws)
-    else (if space == 99 then option_and_then (λ (s : Numbered). option_map (λ (o : Numbered).
+    if space == 109
+    then option_map (λ (a : Numbered). record { target = address a.number; rest = a.rest }) (numbered ws)
+    else (if space == 105
+    then option_map (λ (a : Numbered). record { target = port a.number; rest = a.rest }) (numbered ws)
+    else (if space == 99
+    then option_and_then (λ (s : Numbered). option_map (λ (o : Numbered).
     record { target = configuration s.number o.number; rest = o.rest }) (numbered s.rest)) (numbered ws)
     else None))
 
@@ -50,6 +53,7 @@ ended (w ∷ ws) e = None
 
 -- an access by the letters of its space and of its kind: a place, a width, and a value where there is one
 abbrev pub accessed : ℕ → ℕ → List Text → Option Event
-accessed space kind ws = option_and_then (λ (p : Placed). option_and_then (λ (w : Numbered). option_and_then (λ (o : Operated).
+accessed space kind ws =
+    option_and_then (λ (p : Placed). option_and_then (λ (w : Numbered). option_and_then (λ (o : Operated).
     ended o.rest (access (record { target = p.target; width = w.number; op = o.op })))
     (operated kind w.rest)) (numbered p.rest)) (placed space ws)

@@ -71,7 +71,8 @@ pub(crate) fn write_guest(
 ) -> (Bdf, u8)
     requires holds { HoldsAt guests.old guest slot }
     requires aligned { word % 4 ≡ 0 }
-    ensures { (holds : HoldsAt guests.old guest slot) → WritesGuest guests.old guest slot holds word enables value guests.new result }
+    ensures { (holds : HoldsAt guests.old guest slot)
+        → WritesGuest guests.old guest slot holds word enables value guests.new result }
 {
     let guest = &mut guests[guest];
     write_own(&mut guest.slots, slot, word, enables, value)

@@ -177,7 +177,8 @@ impl<R: Route> Engine<R> {
     fn latch_access(&mut self, guest: usize, op: Op) -> Reply
         requires { guest < length self.old.guests }
         ensures reply { reply_of result ≡ reply_at (lone_nth self.old guest) (op_of op) 4 own_latch }
-        ensures after { self.new ≡ with_lone_nth guest (after_access_at (lone_nth self.old guest) (op_of op) 4 own_latch) self.old }
+        ensures after { self.new
+            ≡ with_lone_nth guest (after_access_at (lone_nth self.old guest) (op_of op) 4 own_latch) self.old }
         ensures shown { IsShown result }
     {
         match op {
@@ -215,7 +216,8 @@ impl<R: Route> Engine<R> {
     fn access(&mut self, guest: usize, access: Access) -> Reply
         requires { guest < length self.old.guests }
         ensures reply { reply_of result ≡ answer (lone_nth self.old guest) (guests.access (access_of access)) }
-        ensures after { self.new ≡ with_lone_nth guest (after_event (lone_nth self.old guest) (guests.access (access_of access))) self.old }
+        ensures after { self.new
+            ≡ with_lone_nth guest (after_event (lone_nth self.old guest) (guests.access (access_of access))) self.old }
         ensures shown { IsShown result }
     {
         if let Some(number) = access.fault() {

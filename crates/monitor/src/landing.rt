@@ -16,7 +16,8 @@ use bars::Space;
 /// The first function, by slot and then by base address register, that decodes an address by the
 /// guest's own registers: its slot, the region and the offset in it.
 pub(crate) fn landing(slots: &[Option<Held>], space: Space, addr: u64) -> Option<(usize, u8, u64)>
-    ensures landing { (b : Board) (a : Apertures) (qs : List (Option Path)) (fs : Slots) → AreSlots b a qs fs slots.now → option_map landing_of result ≡ landing_from 0 (named_space space) addr fs }
+    ensures landing { (b : Board) (a : Apertures) (qs : List (Option Path)) (fs : Slots)
+        → AreSlots b a qs fs slots.now → option_map landing_of result ≡ landing_from 0 (named_space space) addr fs }
     ensures there { IfSome result (λ l. LandsIn slots.now (named_space space) addr l) }
 {
     for slot in 0..slots.len() {

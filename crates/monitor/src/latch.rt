@@ -15,7 +15,8 @@ pub(crate) fn is_latch(port: u64, width: u64) -> bool
 /// Writes four bytes to a guest's address latch.
 pub(crate) fn write_latch(guests: &mut [Guest], guest: usize, value: u32)
     requires { guest < length guests.old }
-    ensures { (g : Guest) → slice_get guests.old guest ≡ Some g → guests.new ≡ slice_set guests.old guest (record g { latch = latched value }) }
+    ensures { (g : Guest) → slice_get guests.old guest ≡ Some g
+        → guests.new ≡ slice_set guests.old guest (record g { latch = latched value }) }
 {
     let guest = &mut guests[guest];
     guest.latch.write(value);

@@ -22,7 +22,8 @@ use host_bridge::Host;
 /// Whether a function in a slot has the byte: an offset of its configuration space, or one below the
 /// size of the region that begins at a base address register.
 pub(crate) fn has_place(held: &Held, place: Place, off: u64) -> bool
-    ensures { (b : Board) (a : Apertures) (p : Path) (f : Function) → IsHeld b a p f held.now → result ≡ is_some (raise_place f (part_of place) off) }
+    ensures { (b : Board) (a : Apertures) (p : Path) (f : Function) → IsHeld b a p f held.now
+        → result ≡ is_some (raise_place f (part_of place) off) }
 {
     match place {
         Place::Cfg => off <= 255,

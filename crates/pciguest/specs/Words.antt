@@ -1,5 +1,6 @@
 -- The program's command line, as a definition that `clap` reads.
---     demo_and_list_app, demo_list_and_check_app, pciguest_app      a command line with these subcommands; with all of them
+--     demo_and_list_app, demo_list_and_check_app      a command line with these subcommands
+--     pciguest_app      with all of them
 --     is_taken words      the command line takes these words, the program's name among them
 --     subcommand, board words      the subcommand that they name, and the path of its board file
 use Rattle.std.specs.Prelude.{ℕ, Bool, true, List, [], ◌∷◌, Option, codes, option_map, option_and_then, find, slice_get}

@@ -115,7 +115,8 @@ pub fn choose<'a>(alloc: Global, words: &'a [&'a str]) -> Result<Choice<'a>, Fau
     ensures only_taken { IfOk result (λ c. IsWork c → fault_of pciguest_app (map (λ w. w.now) words.entry.now) ≡ []) }
 
     // Words that the command line takes are refused where memory is out, and nowhere else.
-    ensures taken { is_taken (map (λ w. w.now) words.entry.now) ≡ true → MatchResult result IsWork (λ f. f ≡ Fault.WordMemory) }
+    ensures taken { is_taken (map (λ w. w.now) words.entry.now) ≡ true
+        → MatchResult result IsWork (λ f. f ≡ Fault.WordMemory) }
     ensures faults { IfErr result (λ f. (f ≡ Fault.Usage) ⊎ (f ≡ Fault.WordMemory)) }
 {
     let Ok(command) = command(alloc) else {

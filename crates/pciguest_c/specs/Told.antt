@@ -45,7 +45,9 @@ at_bus bus device function = record { bus = bus; part = record { device = device
 
 abbrev pub host_target_told : ℕ → BusAddress → ℕ → Option HostTarget
 host_target_told space at n =
-    if space == 0 then (if nat_lt at.part.device 32 then (if nat_lt at.part.function 8 then Some (host_configuration at n) else None) else None)
+    if space == 0
+    then (if nat_lt at.part.device 32
+    then (if nat_lt at.part.function 8 then Some (host_configuration at n) else None) else None)
     else (if space == 1 then Some (host_port n) else (if space == 2 then Some (host_address n) else None))
 
 -- 6 is configuration space

@@ -1,5 +1,5 @@
--- Whether firmware sees a function at a physical number. PCI Local Bus 3.0, chapter 6.1 (Vendor ID: 0xffff is that of no
--- vendor, and is what a read shows where nothing answers).
+-- Whether firmware sees a function at a physical number. PCI Local Bus 3.0, chapter 6.1 (Vendor ID: 0xffff is that of
+-- no vendor, and is what a read shows where nothing answers).
 --     vendor_id fs at      the Vendor ID that a configuration read shows there
 --     is_present fs at     that number is some vendor's
 --     function_0 d      function 0 of a device on bus 0

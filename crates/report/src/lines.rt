@@ -17,7 +17,8 @@ use window_packing::{Window, Writes};
 
 /// Appends the line of a region, whose first register has this index.
 fn push_region(text: &mut String, index: usize, region: &Region) -> Result<(), AllocError>
-    ensures { OnOk result (string_bytes text.new ≡ string_bytes text.old ++ ended (base_line (placed index region.now))) }
+    ensures { OnOk result (string_bytes text.new
+        ≡ string_bytes text.old ++ ended (base_line (placed index region.now))) }
 {
     let kind = kind_text(region.decl.kind());
     let base = region.base;
@@ -27,7 +28,8 @@ fn push_region(text: &mut String, index: usize, region: &Region) -> Result<(), A
 
 /// Appends the lines of regions, each at the index of its first register.
 fn push_regions(text: &mut String, bases: &[Option<Region>]) -> Result<(), AllocError>
-    ensures { OnOk result (string_bytes text.new ≡ string_bytes text.old ++ text_of_lines (map base_line (bases_from 0 bases.now))) }
+    ensures { OnOk result (string_bytes text.new
+        ≡ string_bytes text.old ++ text_of_lines (map base_line (bases_from 0 bases.now))) }
 {
     for (index, slot) in bases.iter().enumerate() {
         if let Some(region) = slot {
@@ -66,7 +68,8 @@ fn push_pin(text: &mut String, path: &Path, pin: u8) -> Result<(), AllocError>
 /// Appends the line of an interrupt pin. There is none for pin 0, which says that the function has no
 /// pin, and none above 4, which is no pin.
 fn push_known_pin(text: &mut String, path: &Path, pin: u8) -> Result<(), AllocError>
-    ensures { OnOk result (string_bytes text.new ≡ string_bytes text.old ++ text_of_lines (known_pin_lines path.now pin)) }
+    ensures { OnOk result (string_bytes text.new
+        ≡ string_bytes text.old ++ text_of_lines (known_pin_lines path.now pin)) }
 {
     if pin == 0 || pin > 4 {
         return Ok(());
@@ -76,7 +79,8 @@ fn push_known_pin(text: &mut String, path: &Path, pin: u8) -> Result<(), AllocEr
 
 /// Appends the line of a window, if it has items.
 fn push_window(text: &mut String, name: &str, window: &Window) -> Result<(), AllocError>
-    ensures { OnOk result (string_bytes text.new ≡ string_bytes text.old ++ text_of_lines (named_window_lines name.now window.now)) }
+    ensures { OnOk result (string_bytes text.new
+        ≡ string_bytes text.old ++ text_of_lines (named_window_lines name.now window.now)) }
 {
     let first = window.first;
     let last = window.last;
@@ -88,7 +92,8 @@ fn push_window(text: &mut String, name: &str, window: &Window) -> Result<(), All
 
 /// Appends the lines of the regions that were written into an endpoint.
 fn push_bases(text: &mut String, writes: &Writes) -> Result<(), AllocError>
-    ensures { OnOk result (string_bytes text.new ≡ string_bytes text.old ++ text_of_lines (base_lines (writes_of writes.now))) }
+    ensures { OnOk result (string_bytes text.new
+        ≡ string_bytes text.old ++ text_of_lines (base_lines (writes_of writes.now))) }
 {
     match writes {
         Writes::Endpoint { bases, .. } => push_regions(text, bases),
@@ -98,7 +103,8 @@ fn push_bases(text: &mut String, writes: &Writes) -> Result<(), AllocError>
 
 /// Appends the lines of the windows that were written into a bridge.
 fn push_windows(text: &mut String, writes: &Writes) -> Result<(), AllocError>
-    ensures { OnOk result (string_bytes text.new ≡ string_bytes text.old ++ text_of_lines (window_lines (writes_of writes.now))) }
+    ensures { OnOk result (string_bytes text.new
+        ≡ string_bytes text.old ++ text_of_lines (window_lines (writes_of writes.now))) }
 {
     match writes {
         Writes::Endpoint { .. } => Ok(()),
@@ -136,7 +142,8 @@ fn push_head(text: &mut String, row: &FunctionRow, kind: &str) -> Result<(), All
 
 /// Ends an endpoint's first line, and appends the lines of its regions and its pin.
 fn push_endpoint(text: &mut String, path: &Path, pin: u8, writes: &Writes) -> Result<(), AllocError>
-    ensures { OnOk result (string_bytes text.new ≡ string_bytes text.old ++ endpoint_text path.now pin (writes_of writes.now)) }
+    ensures { OnOk result (string_bytes text.new
+        ≡ string_bytes text.old ++ endpoint_text path.now pin (writes_of writes.now)) }
 {
     text.push_str("\n")?;
     push_bases(text, writes)?;
@@ -151,7 +158,8 @@ fn push_bridge(
     subordinate: u8,
     writes: &Writes,
 ) -> Result<(), AllocError>
-    ensures { OnOk result (string_bytes text.new ≡ string_bytes text.old ++ (range_text bus secondary subordinate ++ windows_text (writes_of writes.now))) }
+    ensures { OnOk result (string_bytes text.new
+        ≡ string_bytes text.old ++ (range_text bus secondary subordinate ++ windows_text (writes_of writes.now))) }
 {
     push_buses(text, bus, secondary, subordinate)?;
     text.push_str("\n")?;
@@ -193,7 +201,8 @@ fn push_slot(text: &mut String, name: &str, slot: usize, path: &Path) -> Result<
 
 /// Appends the lines of a guest's slots.
 pub(crate) fn push_guest(text: &mut String, guest: &GuestDecl) -> Result<(), AllocError>
-    ensures { OnOk result (string_bytes text.new ≡ string_bytes text.old ++ text_of_lines (slot_lines guest.now.name 0 guest.now.slots)) }
+    ensures { OnOk result (string_bytes text.new
+        ≡ string_bytes text.old ++ text_of_lines (slot_lines guest.now.name 0 guest.now.slots)) }
 {
     let name = guest.name.as_str();
     for (slot, path) in guest.slots.iter().enumerate() {

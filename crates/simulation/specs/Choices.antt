@@ -45,7 +45,8 @@ pub record IsFit (board : Text) (old new : Option Text) : Type 0 where
 pub record IsTold (name board : Text) (f : Fault) (old new : Option Text) : Type 0 where
   pub refused : number_of f < 199 → Refuses board (number_of f) × IsRefusalTold name board f old new
   pub misfit : 199 < number_of f → (w : World) × Declares board w
-      × (first_broken (set_up_rules w.board w.apertures) ≡ Some (number_of f)) × Appends old new (misfit_text name w.board w.apertures f)
+      × (first_broken (set_up_rules w.board w.apertures) ≡ Some (number_of f))
+      × Appends old new (misfit_text name w.board w.apertures f)
 
 -- so was a beginning of it, or of what is said where nothing is wrong
 pub record IsToldInPart (name board : Text) (old new : Option Text) : Type 0 where

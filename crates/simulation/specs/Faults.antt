@@ -46,8 +46,9 @@ number_of WordMemory = 799
 -- in the order of their numbers, which differ
 abbrev pub all_faults : List Fault
 all_faults =
-    NotToml ∷ Key ∷ UnknownKey ∷ Number ∷ Place ∷ Register ∷ Size ∷ TooMany ∷ GuestName ∷ Slot ∷ Aperture ∷ CellMasks ∷ FileMemory
-    ∷ Buses ∷ NoIoWindow ∷ IoPool ∷ MemoryPool ∷ PrefetchablePool ∷ SetUpMemory ∷ Read ∷ Write ∷ Usage ∷ BoardFile ∷ WordMemory ∷ []
+    NotToml ∷ Key ∷ UnknownKey ∷ Number ∷ Place ∷ Register ∷ Size ∷ TooMany ∷ GuestName ∷ Slot ∷ Aperture
+    ∷ CellMasks ∷ FileMemory ∷ Buses ∷ NoIoWindow ∷ IoPool ∷ MemoryPool ∷ PrefetchablePool ∷ SetUpMemory
+    ∷ Read ∷ Write ∷ Usage ∷ BoardFile ∷ WordMemory ∷ []
 
 abbrev pub fault_numbered : ℕ → Option Fault
 fault_numbered n = find (λ f. number_of f == n) all_faults

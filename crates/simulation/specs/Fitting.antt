@@ -32,7 +32,8 @@ number_text words n = words ++ hexadecimal n
 
 abbrev pub known_use_text : PoolUse → Text
 known_use_text u =
-    number_text (codes ": ") u.extent ++ (number_text (codes " of ") u.room ++ (number_text (codes " bytes used, from ") u.first ++ codes " on\n"))
+    number_text (codes ": ") u.extent ++ (number_text (codes " of ") u.room
+    ++ (number_text (codes " bytes used, from ") u.first ++ codes " on\n"))
 
 abbrev pub use_text : Option PoolUse → Text
 use_text None = codes ": more than 0x8000000000000000 bytes used\n"
@@ -40,7 +41,8 @@ use_text (Some u) = known_use_text u
 
 abbrev pub pool_text : Board → Apertures → Pool → Text
 pool_text b a pool = pool_words pool
-    ++ option_map_or (λ _. use_text (told_use b a (named_pool pool))) (aperture_of a (named_pool pool)) (codes ": no aperture\n")
+    ++ option_map_or (λ _. use_text (told_use b a (named_pool pool)))
+    (aperture_of a (named_pool pool)) (codes ": no aperture\n")
 
 abbrev pub fit_text : Board → Apertures → Text
 fit_text b a = codes "ok\n" ++ pool_text b a Io ++ pool_text b a Mem ++ pool_text b a Pref
@@ -56,7 +58,8 @@ pool_of _ = None
 
 abbrev pub known_need_text : PoolUse → Text
 known_need_text u =
-    number_text (codes " needs ") u.extent ++ (number_text (codes " bytes from ") u.first ++ number_text (codes " on, and its aperture has ") u.room)
+    number_text (codes " needs ") u.extent ++ (number_text (codes " bytes from ") u.first
+    ++ number_text (codes " on, and its aperture has ") u.room)
 
 abbrev pub need_text : Option PoolUse → Text
 need_text None = codes " needs more than 0x8000000000000000 bytes"

@@ -32,11 +32,13 @@ fn refuse<W: Writer>(
     writer: &mut W,
 ) -> Result<(), Fault>
     requires room { W.failures writer.old < 2 ^ 64 - 1 }
-    requires refused { fault ≢ Memory → IsUtf8 board.now → document_meaning (parse_document board.now) ≡ Err (of_file.number_of fault) }
+    requires refused { fault ≢ Memory → IsUtf8 board.now
+        → document_meaning (parse_document board.now) ≡ Err (of_file.number_of fault) }
     requires not_text { fault ≢ Memory → ¬ IsUtf8 board.now → fault ≡ NotToml }
     ensures never { OnOk result ⊥ }
     ensures file { IfErr result (λ f. number_of f < 199 → Refuses board.now (number_of f)) }
-    ensures told { IfErr result (λ f. number_of f < 199 → IsRefusalTold name.now board.now f (W.written writer.old) (W.written writer.new)) }
+    ensures told { IfErr result (λ f.
+        number_of f < 199 → IsRefusalTold name.now board.now f (W.written writer.old) (W.written writer.new)) }
     ensures flushed { IfErr result (λ f. number_of f < 199 → W.flushed writer.new ≡ W.written writer.new) }
     ensures faults { IfErr result (λ f. (number_of f ≤ 199) ⊎ (f ≡ Fault.Write)) }
     ensures memory { IfErr result (λ f. number_of f ≡ 199 → writer.new ≡ writer.old) }
@@ -68,20 +70,23 @@ pub fn check<W: Writer>(
     requires { W.failures writer.old < 2 ^ 64 - 1 }
 
     // The file declares a board that can be set up, and this was said.
-    ensures fits { OnOk result ((w : World) × Declares board.now w × (first_broken (set_up_rules w.board w.apertures) ≡ None)
+    ensures fits { OnOk result ((w : World) × Declares board.now w
+        × (first_broken (set_up_rules w.board w.apertures) ≡ None)
         × Appends (W.written writer.old) (W.written writer.new) (fit_text w.board w.apertures)) }
     ensures flushed { OnOk result (W.flushed writer.new ≡ W.written writer.new) }
 
     // The file is refused: what breaks this check was told.
     ensures file { IfErr result (λ f. number_of f < 199 → Refuses board.now (number_of f)) }
-    ensures told { IfErr result (λ f. number_of f < 199 → IsRefusalTold name.now board.now f (W.written writer.old) (W.written writer.new)) }
+    ensures told { IfErr result (λ f.
+        number_of f < 199 → IsRefusalTold name.now board.now f (W.written writer.old) (W.written writer.new)) }
 
     // The board can't be set up, and this was told.
     ensures misfit { IfErr result (λ f. 199 < number_of f → number_of f < 299 →
         (w : World) × Declares board.now w × (first_broken (set_up_rules w.board w.apertures) ≡ Some (number_of f))
         × Appends (W.written writer.old) (W.written writer.new) (misfit_text name.now w.board w.apertures f)) }
 
-    ensures told_flushed { IfErr result (λ f. number_of f < 299 → number_of f ≢ 199 → W.flushed writer.new ≡ W.written writer.new) }
+    ensures told_flushed { IfErr result (λ f.
+        number_of f < 299 → number_of f ≢ 199 → W.flushed writer.new ≡ W.written writer.new) }
     ensures stopped { IsErrOf result Fault.Write → (text : Text) × IsCheckText name.now board.now text
         × AppendsPart (W.written writer.old) (W.written writer.new) text }
     ensures faults { IfErr result IsOfList }

@@ -66,10 +66,12 @@ pub fn perform<R: Reader, W: Writer>(
     ensures stopped { IsErrOf result Fault.Write →
         IsDoneInPart choice.now (R.rest reader.old) (R.rest reader.new) (W.written writer.old) (W.written writer.new) }
     ensures unread { IfErr result (λ f. f ≢ Fault.Read → f ≢ Fault.Write → reader.new ≡ reader.old) }
-    ensures nothing { IfErr result (λ f. f ≢ Fault.Read → f ≢ Fault.Write → ¬ IsTelling choice.now f → writer.new ≡ writer.old) }
+    ensures nothing { IfErr result (λ f.
+        f ≢ Fault.Read → f ≢ Fault.Write → ¬ IsTelling choice.now f → writer.new ≡ writer.old) }
 
     // A check tells of a fault of the file or its board, and nothing else tells.
-    ensures told { IfErr result (λ f. IsTelling choice.now f → IsToldOf choice.now f (W.written writer.old) (W.written writer.new)) }
+    ensures told { IfErr result (λ f.
+        IsTelling choice.now f → IsToldOf choice.now f (W.written writer.old) (W.written writer.new)) }
     ensures told_flushed { IfErr result (λ f. IsTelling choice.now f → W.flushed writer.new ≡ W.written writer.new) }
 
     ensures faults { IfErr result (IsOfChoice choice.now) }

@@ -67,7 +67,8 @@ fn push_pool(
     apertures: &Apertures,
 ) -> Result<(), AllocError>
     requires { IsTableOf (board_in table.now) table.now }
-    ensures { OnOk result ((b : Board) → IsTableOf b table.now → string_bytes text.new ≡ string_bytes text.old ++ pool_text b apertures.now pool) }
+    ensures { OnOk result ((b : Board) → IsTableOf b table.now
+        → string_bytes text.new ≡ string_bytes text.old ++ pool_text b apertures.now pool) }
 {
     text.push_str(pool_words(pool))?;
     if !has_aperture(apertures, pool) {
@@ -102,7 +103,8 @@ fn accept<W: Writer>(
 ) -> Result<(), Fault>
     requires room { W.failures writer.old < 2 ^ 64 - 1 }
     requires table { IsTableOf (board_in table.now) table.now }
-    ensures said { OnOk result ((b : Board) → IsTableOf b table.now → Appends (W.written writer.old) (W.written writer.new) (fit_text b apertures.now)) }
+    ensures said { OnOk result ((b : Board) → IsTableOf b table.now
+        → Appends (W.written writer.old) (W.written writer.new) (fit_text b apertures.now)) }
     ensures flushed { OnOk result (W.flushed writer.new ≡ W.written writer.new) }
     ensures stopped { IsErrOf result Fault.Write → (b : Board) → IsTableOf b table.now →
         AppendsPart (W.written writer.old) (W.written writer.new) (fit_text b apertures.now) }
@@ -127,10 +129,12 @@ fn decline<W: Writer>(
     requires { W.failures writer.old < 2 ^ 64 - 1 }
     ensures never { OnOk result ⊥ }
     ensures fault { IfErr result (λ f. (f ≡ of_set_up fault) ⊎ (f ≡ Fault.SetUpMemory) ⊎ (f ≡ Fault.Write)) }
-    ensures told { IfErr result (λ f. number_of f < 299 → Appends (W.written writer.old) (W.written writer.new) (refusal_line name.now shortage f)) }
+    ensures told { IfErr result (λ f. number_of f < 299
+        → Appends (W.written writer.old) (W.written writer.new) (refusal_line name.now shortage f)) }
     ensures flushed { IfErr result (λ f. number_of f < 299 → W.flushed writer.new ≡ W.written writer.new) }
     ensures memory { IfErr result (λ f. number_of f ≡ 299 → writer.new ≡ writer.old) }
-    ensures stopped { IsErrOf result Fault.Write → AppendsPart (W.written writer.old) (W.written writer.new) (refusal_line name.now shortage (of_set_up fault)) }
+    ensures stopped { IsErrOf result Fault.Write
+        → AppendsPart (W.written writer.old) (W.written writer.new) (refusal_line name.now shortage (of_set_up fault)) }
     ensures failures { W.failures writer.new ≡ W.failures writer.old + write_faults result }
 {
     if fault == bus_scan::Fault::Memory {
@@ -178,7 +182,8 @@ fn can_be_placed(
     apertures: &Apertures,
 ) -> Result<(), bus_scan::Fault>
     requires { IsTableOf (board_in table.now) table.now }
-    ensures kept { IfOk result (λ _. (b : Board) → IsTableOf b table.now → first_broken (set_up_rules b apertures.now) ≡ None) }
+    ensures kept { IfOk result (λ _.
+        (b : Board) → IsTableOf b table.now → first_broken (set_up_rules b apertures.now) ≡ None) }
     ensures refused { IfErr result (λ f. (b : Board) → IsTableOf b table.now →
         (f ≡ Memory) ⊎ (first_broken (set_up_rules b apertures.now) ≡ Some (set_up.number_of f))) }
 {
@@ -196,7 +201,8 @@ fn fit<W: Writer>(
 ) -> Result<(), Fault>
     requires room { W.failures writer.old < 2 ^ 64 - 1 }
     requires table { IsTableOf (board_in table.now) table.now }
-    ensures fits { OnOk result ((b : Board) → IsTableOf b table.now → (first_broken (set_up_rules b apertures.now) ≡ None)
+    ensures fits { OnOk result ((b : Board) → IsTableOf b table.now
+        → (first_broken (set_up_rules b apertures.now) ≡ None)
         × Appends (W.written writer.old) (W.written writer.new) (fit_text b apertures.now)) }
     ensures flushed { OnOk result (W.flushed writer.new ≡ W.written writer.new) }
     ensures misfit { IfErr result (λ f. number_of f < 299 → (b : Board) → IsTableOf b table.now →
@@ -232,7 +238,8 @@ pub(crate) fn judge<W: Writer>(
         (first_broken (set_up_rules (board_below host) host.apertures) ≡ Some (number_of f))
         × Appends (W.written writer.old) (W.written writer.new) (misfit_text name.now (board_below host) host.apertures f)) }
     ensures told_flushed { IfErr result (λ f. number_of f < 299 → W.flushed writer.new ≡ W.written writer.new) }
-    ensures stopped { IsErrOf result Fault.Write → (text : Text) × IsFitText name.now (board_below host) host.apertures text
+    ensures stopped { IsErrOf result Fault.Write
+        → (text : Text) × IsFitText name.now (board_below host) host.apertures text
         × AppendsPart (W.written writer.old) (W.written writer.new) text }
     ensures faults { IfErr result (λ f. (201 ≤ number_of f) × IsOfList f) }
     ensures memory { IfErr result (λ f. number_of f ≡ 299 → writer.new ≡ writer.old) }

@@ -1,5 +1,6 @@
-//! What the program does, over bytes, a reader and a writer: the report of a board file, what is wrong with one, a script over
-//! its board, and a script over the demo board; and the law of two worlds, over the definitions alone.
+//! What the program does, over bytes, a reader and a writer: the report of a board file, what is
+//! wrong with one, a script over its board, and a script over the demo board; and the law of two
+//! worlds, over the definitions alone.
 #![tactic(auto)]
 
 mod checking;

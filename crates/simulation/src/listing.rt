@@ -21,7 +21,8 @@ pub fn list<W: Writer>(alloc: Global, board: &[u8], writer: &mut W) -> Result<()
     requires { W.failures writer.old < 2 ^ 64 - 1 }
 
     // The file declares a board that is set up, whose report was written and nothing else.
-    ensures listed { OnOk result ((w : World) × Declares board.now w × (first_broken (set_up_rules w.board w.apertures) ≡ None)
+    ensures listed { OnOk result ((w : World) × Declares board.now w
+        × (first_broken (set_up_rules w.board w.apertures) ≡ None)
         × IsListed w (W.written writer.old) (W.written writer.new)) }
     ensures flushed { OnOk result (W.flushed writer.new ≡ W.written writer.new) }
 

@@ -26,7 +26,9 @@ fn push_region(
     above: &Above,
     apertures: &Apertures,
 ) -> Result<(), AllocError>
-    ensures { IfOk result (λ _. (ds : List Bridge) → IsOver ds above.now → into.new.items ≡ into.old.items ++ pool_items apertures.now ds (named_pool pool) part (regions_from index (bar ∷ []))) }
+    ensures { IfOk result (λ _. (ds : List Bridge) → IsOver ds above.now
+        → into.new.items
+        ≡ into.old.items ++ pool_items apertures.now ds (named_pool pool) part (regions_from index (bar ∷ []))) }
 {
     if let Some(bar) = bar
         && pool_of(apertures, above, bar.kind()) == pool
@@ -50,7 +52,9 @@ fn push_regions(
     above: &Above,
     apertures: &Apertures,
 ) -> Result<(), AllocError>
-    ensures { IfOk result (λ _. (ds : List Bridge) → IsOver ds above.now → into.new.items ≡ into.old.items ++ pool_items apertures.now ds (named_pool pool) part (regions_from 0 bars.now)) }
+    ensures { IfOk result (λ _. (ds : List Bridge) → IsOver ds above.now
+        → into.new.items
+        ≡ into.old.items ++ pool_items apertures.now ds (named_pool pool) part (regions_from 0 bars.now)) }
 {
     'registers: for index in 0..6u8 {
         push_region(
@@ -74,7 +78,8 @@ fn push_window(
     behind: &BusPack,
 ) -> Result<(), AllocError>
     requires { behind.now.end ≤ 2 ^ 63 }
-    ensures { IfOk result (λ _. into.new.items ≡ into.old.items ++ window_of (unit_of (named_pool pool)) part behind.now behind.now.spots) }
+    ensures { IfOk result (λ _.
+        into.new.items ≡ into.old.items ++ window_of (unit_of (named_pool pool)) part behind.now behind.now.spots) }
 {
     if !behind.spots.is_empty() {
         into.push(Item {
@@ -98,7 +103,9 @@ pub(crate) fn push_own(
     behind: &BusPack,
 ) -> Result<(), AllocError>
     requires { behind.now.end ≤ 2 ^ 63 }
-    ensures { IfOk result (λ _. (ds : List Bridge) → IsOver ds above.now → into.new.items ≡ into.old.items ++ own_items apertures.now ds (named_pool pool) row.now.path row.now.decl behind.now) }
+    ensures { IfOk result (λ _. (ds : List Bridge) → IsOver ds above.now
+        → into.new.items
+        ≡ into.old.items ++ own_items apertures.now ds (named_pool pool) row.now.path row.now.decl behind.now) }
 {
     let part = row.path.last();
     match &row.found {

@@ -48,8 +48,11 @@ pub(crate) fn pack_pool(
     requires declarations { HasLawfulDecls (board_in rows.now) }
     requires above { AreAbove (board_in rows.now) above.now }
     requires apertures { IsLawfulApertures apertures.now }
-    ensures packed { IfOk result (λ r. MatchOption r (IsFalse (fits (board_in rows.now) apertures.now (named_pool pool))) (λ packs. packs.items ≡ packs_of (board_in rows.now) apertures.now (named_pool pool))) }
-    ensures large { IfOk result (λ r. IsNone r → 2 ^ 63 < (pack_of (board_in rows.now) apertures.now (named_pool pool) []).end) }
+    ensures packed { IfOk result (λ r. MatchOption r
+        (IsFalse (fits (board_in rows.now) apertures.now (named_pool pool)))
+        (λ packs. packs.items ≡ packs_of (board_in rows.now) apertures.now (named_pool pool))) }
+    ensures large { IfOk result (λ r.
+        IsNone r → 2 ^ 63 < (pack_of (board_in rows.now) apertures.now (named_pool pool) []).end) }
     ensures bounded { IfOk result (λ r. IfSome r (λ packs. Each IsBounded packs.items)) }
 {
     let unit = pool.unit();

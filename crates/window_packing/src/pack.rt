@@ -42,7 +42,8 @@ pub(crate) fn round_up(align: u64, n: u64) -> u64
 fn place(at: u64, item: &Item) -> Option<u64>
     requires at { at ≤ 2 ^ 63 }
     requires item { HasLawfulAlign item.now }
-    ensures { MatchOption result (2 ^ 63 < round_up item.now.align at + item.now.size) (λ first. (first ≡ round_up item.now.align at) × (first + item.now.size ≤ 2 ^ 63)) }
+    ensures { MatchOption result (2 ^ 63 < round_up item.now.align at + item.now.size) (λ first.
+        (first ≡ round_up item.now.align at) × (first + item.now.size ≤ 2 ^ 63)) }
 {
     let first = round_up(item.align, at);
     if first > LIMIT || item.size > LIMIT - first {
@@ -54,7 +55,8 @@ fn place(at: u64, item: &Item) -> Option<u64>
 /// Each item with its place, and where the last ends, if that is at the limit or below.
 fn place_all(alloc: Global, items: &[Item]) -> Result<Option<(Vec<Spot>, u64)>, AllocError>
     requires { Each HasLawfulAlign items.now }
-    ensures { IfOk result (λ r. MatchOption r (2 ^ 63 < end_from 0 items.now) (λ p. (p.0.items ≡ spots_from 0 items.now) × (p.1 ≡ end_from 0 items.now) × (p.1 ≤ 2 ^ 63))) }
+    ensures { IfOk result (λ r. MatchOption r (2 ^ 63 < end_from 0 items.now) (λ p.
+        (p.0.items ≡ spots_from 0 items.now) × (p.1 ≡ end_from 0 items.now) × (p.1 ≤ 2 ^ 63))) }
 {
     let mut spots = Vec::with_capacity(alloc, items.len())?;
     let mut at = 0;
@@ -87,7 +89,8 @@ pub(crate) fn pack_bus(
     items: Vec<Item>,
 ) -> Result<Option<BusPack>, AllocError>
     requires { IsPackable items.items }
-    ensures packed { IfOk result (λ r. MatchOption r (2 ^ 63 < end_from 0 (in_order items.items)) (λ p. p ≡ pack_items unit items.items)) }
+    ensures packed { IfOk result (λ r.
+        MatchOption r (2 ^ 63 < end_from 0 (in_order items.items)) (λ p. p ≡ pack_items unit items.items)) }
     ensures within { IfOk result (λ r. IfSome r (λ p. p.end ≤ 2 ^ 63)) }
 {
     let mut items = items;

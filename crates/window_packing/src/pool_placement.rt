@@ -90,7 +90,9 @@ fn aperture_of(apertures: &Apertures, pool: Pool) -> Option<Aperture>
 pub(crate) fn root_first(apertures: &Apertures, pool: Pool, root: &BusPack) -> u64
     requires some { 0 < root.now.align }
     requires align { root.now.align ≤ 2 ^ 40 }
-    ensures { result ≡ option_map_or (λ (ap : ApertureValue). round_up root.now.align ap.first) (aperture_of apertures.now (named_pool pool)) 0 }
+    ensures { result
+        ≡ option_map_or (λ (ap : ApertureValue). round_up root.now.align ap.first)
+        (aperture_of apertures.now (named_pool pool)) 0 }
 {
     match aperture_of(apertures, pool) {
         Some(aperture) => round_up(root.align, aperture.first),
@@ -114,7 +116,8 @@ fn fits(apertures: &Apertures, pool: Pool, end: u64, root: &BusPack) -> bool
     requires end { end ≡ aperture_end apertures.now (named_pool pool) }
     requires some { 0 < root.now.align }
     requires align { root.now.align ≤ 2 ^ 40 }
-    ensures { (b : Board) → root.now ≡ pack_of b apertures.now (named_pool pool) [] → result ≡ fits b apertures.now (named_pool pool) }
+    ensures { (b : Board) → root.now ≡ pack_of b apertures.now (named_pool pool) []
+        → result ≡ fits b apertures.now (named_pool pool) }
 {
     root.spots.is_empty()
         || (root.end <= end && root_first(apertures, pool, root) <= end - root.end)
@@ -124,7 +127,8 @@ fn fits(apertures: &Apertures, pool: Pool, end: u64, root: &BusPack) -> bool
 /// has none.
 fn window_offset(pack: &BusPack, part: Part, behind: &BusPack) -> u64
     requires order { EachPair (λ s t. IsTrue (stands_before s.item t.item)) pack.now.spots }
-    requires align { Each (λ s. IsTrue (is_item part a_window s.item) → s.item.align ≡ behind.now.align) pack.now.spots }
+    requires align { Each (λ s. IsTrue (is_item part a_window s.item)
+        → s.item.align ≡ behind.now.align) pack.now.spots }
     ensures { result ≡ offset_in pack.now.spots part a_window }
 {
     let key = Item {
@@ -152,7 +156,8 @@ fn bus_firsts(
     requires packs { packs.now ≡ packs_of (board_in rows.now) apertures.now (named_pool pool) }
     requires bounded { Each IsBounded packs.now }
     requires fit { IsTrue (fits (board_in rows.now) apertures.now (named_pool pool)) }
-    ensures { IfOk result (λ v. v.items ≡ map (bus_first (board_in rows.now) apertures.now (named_pool pool)) (bus_paths (board_in rows.now))) }
+    ensures { IfOk result (λ v. v.items
+        ≡ map (bus_first (board_in rows.now) apertures.now (named_pool pool)) (bus_paths (board_in rows.now))) }
 {
     let mut firsts = Vec::with_capacity(alloc, packs.len())?;
     firsts.push(root_first(apertures, pool, &packs[0]))?;
@@ -191,7 +196,8 @@ pub(crate) fn place_pool(
     requires declarations { HasLawfulDecls (board_in rows.now) }
     requires above { AreAbove (board_in rows.now) above.now }
     ensures placed { IfOk result (λ p. IsPlaced (board_in rows.now) apertures.now (named_pool pool) p) }
-    ensures refused { IfErr result (λ f. (f ≡ Memory) ⊎ ((f ≡ fault_of pool) × IsFalse (fits (board_in rows.now) apertures.now (named_pool pool)))) }
+    ensures refused { IfErr result (λ f.
+        (f ≡ Memory) ⊎ ((f ≡ fault_of pool) × IsFalse (fits (board_in rows.now) apertures.now (named_pool pool)))) }
 {
     let end = aperture_end(apertures, pool);
     let Some(packs) = pack_pool(alloc, pool, rows, above, apertures)? else {

@@ -30,7 +30,8 @@ fn first_from(spots: &[Spot], key: &Item) -> usize
 /// and 0 where there is none.
 pub(crate) fn offset_of(pack: &BusPack, key: &Item) -> u64
     requires order { EachPair (λ s t. IsTrue (stands_before s.item t.item)) pack.now.spots }
-    requires align { Each (λ s. IsTrue (is_item key.now.part key.now.what s.item) → s.item.align ≡ key.now.align) pack.now.spots }
+    requires align { Each (λ s. IsTrue (is_item key.now.part key.now.what s.item)
+        → s.item.align ≡ key.now.align) pack.now.spots }
     ensures { result ≡ offset_in pack.now.spots key.now.part key.now.what }
 {
     let at = first_from(&pack.spots, key);

@@ -61,7 +61,8 @@ fn command_of(bars: &[Option<BarDecl>; 6]) -> u16
 /// A region at its place on a bus that begins at `first`.
 fn based(part: Part, index: u8, bar: BarDecl, first: u64, pack: &BusPack) -> Region
     requires order { EachPair (λ s t. IsTrue (stands_before s.item t.item)) pack.now.spots }
-    requires align { Each (λ s. IsTrue (is_item part (a_region index) s.item) → s.item.align ≡ bar.size) pack.now.spots }
+    requires align { Each (λ s. IsTrue (is_item part (a_region index) s.item)
+        → s.item.align ≡ bar.size) pack.now.spots }
     requires room { first + offset_in pack.now.spots part (a_region index) < 2 ^ 64 }
     ensures { result ≡ record { decl = bar; base = first + offset_in pack.now.spots part (a_region index) } }
 {
@@ -94,7 +95,9 @@ fn base_of(
     requires there { i < length rows.now }
     requires above { IsAboveAt (board_in rows.now) i above.now }
     requires found { Each (IsRegionAt (board_in rows.now) i) (regions_from index (bar ∷ [])) }
-    ensures { (r : Row) → slice_get (board_in rows.now) i ≡ Some r → bases_from index (result ∷ []) ≡ map (placed_base (board_in rows.now) apertures.now r.path) (regions_from index (bar ∷ [])) }
+    ensures { (r : Row) → slice_get (board_in rows.now) i ≡ Some r
+        → bases_from index (result ∷ [])
+        ≡ map (placed_base (board_in rows.now) apertures.now r.path) (regions_from index (bar ∷ [])) }
 {
     let bar = bar?;
     let row = &rows[i];
@@ -119,7 +122,8 @@ fn bases_of(
     requires there { i < length rows.now }
     requires above { IsAboveAt (board_in rows.now) i above.now }
     requires found { Each (IsRegionAt (board_in rows.now) i) (regions_of bars.now) }
-    ensures { (r : Row) → slice_get (board_in rows.now) i ≡ Some r → bases_from 0 result ≡ map (placed_base (board_in rows.now) apertures.now r.path) (regions_of bars.now) }
+    ensures { (r : Row) → slice_get (board_in rows.now) i ≡ Some r
+        → bases_from 0 result ≡ map (placed_base (board_in rows.now) apertures.now r.path) (regions_of bars.now) }
 {
     let mut bases = [None; 6];
     for index in 0..6u8 {
@@ -135,7 +139,8 @@ fn window_of(pool: Pool, closed: u64, first: u64, pack: &BusPack) -> Window
     requires closed { closed < 2 ^ 12 }
     requires some { Each (λ s. 0 < round_up (unit_of (named_pool pool)) pack.now.end) pack.now.spots }
     requires room { Each (λ s. first + round_up (unit_of (named_pool pool)) pack.now.end ≤ 2 ^ 63) pack.now.spots }
-    ensures { (is : List ItemValue) → pack.now ≡ pack_items (unit_of (named_pool pool)) is → result ≡ window_of (unit_of (named_pool pool)) closed first is }
+    ensures { (is : List ItemValue) → pack.now ≡ pack_items (unit_of (named_pool pool)) is
+        → result ≡ window_of (unit_of (named_pool pool)) closed first is }
 {
     let unit = pool.unit();
     if pack.spots.is_empty() {
@@ -164,7 +169,8 @@ fn window_behind(
     requires placed { IsPlaced (board_in rows.now) apertures.now (named_pool pool) placed.now }
     requires there { i < length rows.now }
     requires closed { closed < 2 ^ 12 }
-    ensures { (r : Row) → slice_get (board_in rows.now) i ≡ Some r → result ≡ set_up_window (board_in rows.now) apertures.now (named_pool pool) closed r.path }
+    ensures { (r : Row) → slice_get (board_in rows.now) i ≡ Some r
+        → result ≡ set_up_window (board_in rows.now) apertures.now (named_pool pool) closed r.path }
 {
     window_of(pool, closed, placed.firsts[i + 1], &placed.packs[i + 1])
 }
@@ -182,7 +188,8 @@ fn writes_of(
     requires placed { IsPlacement (board_in rows.now) apertures.now placement.now }
     requires there { i < length rows.now }
     requires above { IsAboveAt (board_in rows.now) i above.now }
-    ensures { (r : Row) → slice_get (board_in rows.now) i ≡ Some r → named_writes result ≡ writes_of (board_in rows.now) apertures.now r.path r.decl }
+    ensures { (r : Row) → slice_get (board_in rows.now) i ≡ Some r
+        → named_writes result ≡ writes_of (board_in rows.now) apertures.now r.path r.decl }
 {
     let row = &rows[i];
     match &row.found {

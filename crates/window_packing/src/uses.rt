@@ -35,7 +35,8 @@ pub struct PoolUse {
 fn root_use(apertures: &Apertures, pool: Pool, end: u64, root: &BusPack) -> PoolUse
     requires end { end ≡ aperture_end apertures.now (named_pool pool) }
     requires bounded { IsBounded root.now }
-    ensures { (b : Board) → root.now ≡ pack_of b apertures.now (named_pool pool) [] → result ≡ pool_use b apertures.now (named_pool pool) }
+    ensures { (b : Board) → root.now ≡ pack_of b apertures.now (named_pool pool) []
+        → result ≡ pool_use b apertures.now (named_pool pool) }
 {
     let first = root_first(apertures, pool, root);
     PoolUse {
@@ -76,7 +77,8 @@ pub fn pool_use(
     requires { IsTableOf (board_in table.now) table.now }
 
     // Of whatever board this is the table. The pool fits where it takes no more than there is.
-    ensures value { IfOk result (λ u. (b : Board) → IsTableOf b table.now → u ≡ told_use b apertures.now (named_pool pool)) }
+    ensures value { IfOk result (λ u.
+        (b : Board) → IsTableOf b table.now → u ≡ told_use b apertures.now (named_pool pool)) }
     ensures fits { IfOk result (λ r. IfSome r (λ u. (b : Board) → IsTableOf b table.now →
         fits b apertures.now (named_pool pool) ≡ nat_le u.extent u.room)) }
 {
