@@ -108,9 +108,9 @@ static inline uint32_t pciguest_write(struct pciguest *machine, size_t guest, ui
     return pciguest_raw_write(machine, guest, space, slot, place, width, value);
 }
 
-/* Sets bits of one byte of the function in a guest's slot, as its device does. That a refused raise changes nothing is
- * proved where no two guests have one name, and pciguest_new refuses a file in which two have. 303: the slot is above
- * 31, or the function has no such byte. 601: the slot is empty. 902: there is no such guest, or the part is above 6. */
+/* Sets bits of one byte of the function in a guest's slot, as its device does. 303: the slot is above 31, or the
+ * function has no such byte. 601: the slot is empty. 902: there is no such guest, or the part is above 6. A raise that
+ * is refused changes nothing. */
 static inline uint32_t pciguest_raise(struct pciguest *machine, size_t guest, uint64_t slot, uint32_t part,
                                       uint64_t offset, uint8_t mask)
 {

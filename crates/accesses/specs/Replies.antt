@@ -1,6 +1,7 @@
 -- Which replies a line of output can have.
 --     IsShown      a value of at most four bytes, done, or a refusal that has words
-use Rattle.std.specs.Prelude.{◌≡◌, ◌≤◌, ℕ, Bool, true, ◌==◌, ◌||◌, ⊤}
+--     IsRefusal      a refusal
+use Rattle.std.specs.Prelude.{◌≡◌, ◌≤◌, ℕ, Bool, true, ◌==◌, ◌||◌, ⊤, ⊥}
 use Rattle.accesses.specs.declared.access.Reply.{Reply}
 use Rattle.accesses.specs.declared.access.Reply.TheVariants.{Value, Done, Refused}
 
@@ -11,3 +12,7 @@ abbrev pub IsShown : Reply → Type 0
 IsShown (Value v w) = w ≤ 4
 IsShown Done = ⊤
 IsShown (Refused n) = has_words n ≡ true
+
+abbrev pub IsRefusal : Reply → Type 0
+IsRefusal (Refused n) = ⊤
+IsRefusal _ = ⊥

@@ -4,7 +4,7 @@ ghost use Rattle.model_registers.specs.ByteEnables.{IsWidth};
 ghost use Rattle.model_guests.specs.Slots.{place_number, is_out_of_range, access_fault, fault_of, perform};
 ghost use Rattle.model_guests.specs.HostReads.{host_number, is_out_of_host_range, host_fault};
 ghost use Rattle.accesses.specs.Accesses.{access_of, op_of, target_of, host_target_of, host_access_of, reply_of};
-ghost use Rattle.accesses.specs.Replies.{IsShown};
+ghost use Rattle.accesses.specs.Replies.{IsRefusal, IsShown};
 
 use crate::access::{Access, At, HostAccess, HostAt, Op, Reply};
 use config_bytes::all_ones;
@@ -103,6 +103,7 @@ pub fn nothing(op: Op, width: u64) -> Reply
     requires { IsWidth width }
     ensures reply { reply_of result ≡ perform (op_of op) width [] None }
     ensures shown { IsShown result }
+    ensures served { ¬ IsRefusal result }
 {
     match op {
         Op::Read => Reply::Value(all_ones(width), width),

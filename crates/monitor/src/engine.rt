@@ -13,7 +13,7 @@ ghost use Rattle.model_guests.specs.WorldNow.{world_at_first, names_now, host_re
 ghost use Rattle.bars.specs.Kinds.{named_space};
 ghost use Rattle.host_bridge.specs.BusAddresses.{bus_address_of};
 ghost use Rattle.accesses.specs.Accesses.{access_of, host_access_of, op_of, part_of, reply_of};
-ghost use Rattle.accesses.specs.Replies.{IsShown};
+ghost use Rattle.accesses.specs.Replies.{IsRefusal, IsShown};
 ghost use Rattle.monitor.specs.Views.{texts};
 ghost use Rattle.monitor.specs.ByIndex.{name_nth, lone_nth, with_lone_nth};
 ghost use Rattle.monitor.specs.Reaches.{target_in};
@@ -99,6 +99,7 @@ impl<R: Route> Engine<R> {
         ensures after { let target = at_target (target_in (named_space space) addr) in
             self.new ≡ with_lone_nth guest (after_access_at (lone_nth self.old guest) (op_of op) width target) self.old }
         ensures shown { IsShown result }
+        ensures served { ¬ IsRefusal result }
     {
         let slots = &self.guests[guest].slots;
         let Some((slot, region, offset)) = landing(slots, space, addr) else {
@@ -126,6 +127,7 @@ impl<R: Route> Engine<R> {
             reply_of result ≡ reply_at (lone_nth self.old guest) reads width target }
         ensures after { self.new ≡ self.old }
         ensures shown { IsShown result }
+        ensures served { ¬ IsRefusal result }
     {
         let Some(held) = held_in(&self.guests[guest].slots, slot) else {
             return nothing(Op::Read, width);
@@ -163,6 +165,7 @@ impl<R: Route> Engine<R> {
         ensures after { let target = at_target (configuration slot off) in
             self.new ≡ with_lone_nth guest (after_access_at (lone_nth self.old guest) (op_of op) width target) self.old }
         ensures shown { IsShown result }
+        ensures served { ¬ IsRefusal result }
     {
         match op {
             Op::Read => self.config_read(guest, slot, off, width),
@@ -180,6 +183,7 @@ impl<R: Route> Engine<R> {
         ensures after { self.new
             ≡ with_lone_nth guest (after_access_at (lone_nth self.old guest) (op_of op) 4 own_latch) self.old }
         ensures shown { IsShown result }
+        ensures served { ¬ IsRefusal result }
     {
         match op {
             Op::Read => Reply::Value(self.guests[guest].latch.value(), 4),
@@ -201,6 +205,7 @@ impl<R: Route> Engine<R> {
         ensures after { let lone = lone_nth self.old guest in
             self.new ≡ with_lone_nth guest (after_access_at lone (op_of op) width (destination lone.latch width (port at))) self.old }
         ensures shown { IsShown result }
+        ensures served { ¬ IsRefusal result }
     {
         if is_latch(at, width) {
             return self.latch_access(guest, op);
@@ -219,6 +224,7 @@ impl<R: Route> Engine<R> {
         ensures after { self.new
             ≡ with_lone_nth guest (after_event (lone_nth self.old guest) (guests.access (access_of access))) self.old }
         ensures shown { IsShown result }
+        ensures refused { IsRefusal result → self.new ≡ self.old }
     {
         if let Some(number) = access.fault() {
             return Reply::Refused(number);
@@ -243,6 +249,7 @@ impl<R: Route> Engine<R> {
         ensures after { let e = guests.access (access_of access) in
             self.new ≡ after_meaning self.old (guest_event (name_nth self.old guest) e) }
         ensures shown { IsShown result }
+        ensures refused { IsRefusal result → self.new ≡ self.old }
     {
         let _ = &self.names;
         self.access(guest, access)
@@ -256,6 +263,7 @@ impl<R: Route> Engine<R> {
         ensures after { let e = guests.raises (record { slot = slot; part = part_of place; offset = off; mask = mask }) in
             self.new ≡ with_lone_nth guest (after_event (lone_nth self.old guest) e) self.old }
         ensures shown { IsShown result }
+        ensures refused { IsRefusal result → self.new ≡ self.old }
     {
         if slot > 31 {
             return Reply::Refused(303);
@@ -282,6 +290,7 @@ impl<R: Route> Engine<R> {
         ensures after { let e = guests.raises (record { slot = slot; part = part_of place; offset = off; mask = mask }) in
             self.new ≡ after_meaning self.old (guest_event (name_nth self.old guest) e) }
         ensures shown { IsShown result }
+        ensures refused { IsRefusal result → self.new ≡ self.old }
     {
         let _ = &self.names;
         self.raise_nth(guest, slot, place, off, mask)
@@ -296,6 +305,7 @@ impl<R: Route> Engine<R> {
         ensures reply { reply_of result ≡ move_reply self.old.guests (move_nth self.old from slot to target) }
         ensures after { self.new ≡ after_meaning self.old (host_move (move_nth self.old from slot to target)) }
         ensures shown { IsShown result }
+        ensures refused { IsRefusal result → self.new ≡ self.old }
     {
         let source = &self.guests[from].slots;
         if let Some(number) = move_fault(source, slot, &self.guests[to].slots, target) {

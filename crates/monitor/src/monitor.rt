@@ -8,7 +8,7 @@ ghost use Rattle.model_guests.specs.Lines.{guest_event, host_move};
 ghost use Rattle.model_guests.specs.WorldNow.{world_at_first, names_now, host_reply, move_reply, after_meaning};
 ghost use Rattle.bus_scan.specs.declared.fault.Fault.TheVariants.{Memory};
 ghost use Rattle.accesses.specs.Accesses.{access_of, host_access_of, part_of, reply_of};
-ghost use Rattle.accesses.specs.Replies.{IsShown};
+ghost use Rattle.accesses.specs.Replies.{IsRefusal, IsShown};
 ghost use Rattle.monitor.specs.Views.{texts};
 ghost use Rattle.monitor.specs.ByIndex.{name_nth};
 ghost use Rattle.monitor.specs.Moves.{move_nth};
@@ -67,6 +67,7 @@ impl Monitor {
         ensures after { let e = guests.access (access_of access) in
             self.new ≡ after_meaning self.old (guest_event (name_nth self.old guest) e) }
         ensures shown { IsShown result }
+        ensures refused { IsRefusal result → self.new ≡ self.old }
     {
         self.engine.step(guest, access)
     }
@@ -83,6 +84,7 @@ impl Monitor {
         ensures after { let e = guests.raises (record { slot = slot; part = part_of place; offset = off; mask = mask }) in
             self.new ≡ after_meaning self.old (guest_event (name_nth self.old guest) e) }
         ensures shown { IsShown result }
+        ensures refused { IsRefusal result → self.new ≡ self.old }
     {
         self.engine.raise(guest, slot, place, off, mask)
     }
@@ -96,6 +98,7 @@ impl Monitor {
         ensures reply { reply_of result ≡ move_reply self.old.guests (move_nth self.old from slot to target) }
         ensures after { self.new ≡ after_meaning self.old (host_move (move_nth self.old from slot to target)) }
         ensures shown { IsShown result }
+        ensures refused { IsRefusal result → self.new ≡ self.old }
     {
         self.engine.move_function(from, slot, to, target)
     }

@@ -1,8 +1,6 @@
--- Reads and refused accesses change nothing, and a refusal is the only reply with a number.
+-- Reads change nothing.
 --     reads_keep      guests after a read
---     refused_keeps      guests after an access that was refused
 --     place_told      a guest by its name, among the names that the program holds
---     move_keeps      guests after a move that was refused
 use Rattle.std.proofs.Common.{◌≡◌, ◌≢◌, ℕ, List, [], ◌∷◌, Bool, true, false, Option, Some, None, length, map, refl, sym, ap, ap₂, ◌∙◌}
 use Rattle.std.specs.Prelude.{if◌then◌else◌, is_some, position, cond, nat_lt, not, ◌+◌, suc}
 use Rattle.std.specs.List.{prefix_len}
@@ -37,37 +35,6 @@ reads_keep m name t width =
     let a : Access = record { target = t; width = width; op = reads } in
     ap (λ (gs : GuestsNow). record m { guests = gs })
     (with_same (guest_after (access a)) name m.guests (λ g. ap (λ (l : LoneGuest). record g { lone = l }) (same_if (is_some (fault_of a)) g.lone)))
-
-performed_told : (op : Op) (width : ℕ) (slots : Slots) (l : Option Landing) → number_told (perform op width slots l) ≡ 0
-performed_told reads width slots None = refl
-performed_told reads width slots (Some l) = refl
-performed_told (writes v) width slots l = refl
-
-reply_told : (g : LoneGuest) (op : Op) (width : ℕ) (d : Destination) → number_told (reply_at g op width d) ≡ 0
-reply_told g reads width own_latch = refl
-reply_told g (writes v) width own_latch = refl
-reply_told g op width no_function = performed_told op width g.slots None
-reply_told g op width (at_target t) = performed_told op width g.slots (landing g.slots t)
-
-is_refused : (g : LoneGuest) (a : Access) (o : Option ℕ) → number_told (option_map_or refused o (performed g (access a))) ≢ 0 → is_some o ≡ true
-is_refused g a None other = absurd (other (reply_told g a.op a.width (destination g.latch a.width a.target)))
-is_refused g a (Some n) other = refl
-
-pub refused_keeps : (m : WorldNow) (name : Text) (g : LoneGuest) (a : Access) → number_told (answer g (access a)) ≢ 0
-    → after_meaning m (guest_event name (access a)) ≡ m
-refused_keeps m name g a other =
-    let fault = is_refused g a (fault_of a) other in
-    ap (λ (gs : GuestsNow). record m { guests = gs })
-    (with_same (guest_after (access a)) name m.guests
-    (λ g. ap (λ (b : Bool). record g { lone = if b then g.lone else changed_by g.lone (access a) }) fault))
-
--- a refused move changes nothing
-pub move_keeps : (m : WorldNow) (v : Move) → number_told (move_reply m.guests v) ≢ 0 → after_meaning m (host_move v) ≡ m
-move_keeps m v other = ap (λ (gs : GuestsNow). record m { guests = gs }) (stays (move_fault m.guests v) other) where
-  stays : (o : Option ℕ) → number_told (option_map_or refused o done) ≢ 0
-      → (if is_some o then m.guests else handed_over v (path_in m.guests v.from v.slot) (function_in m.guests v.from v.slot) m.guests) ≡ m.guests
-  stays None no_fault = absurd (no_fault refl)
-  stays (Some n) fault = refl
 
 prefix_mapped : {A B : Type 0} (p : B → Bool) (f : A → B) (xs : List A) → prefix_len p (map f xs) ≡ prefix_len (λ x. p (f x)) xs
 prefix_mapped p f [] = refl

@@ -1,5 +1,4 @@
 mod Kept
 mod Moved
 mod Options
-mod RaiseKept
 mod Words

@@ -6,17 +6,14 @@
 --     at_bus      the function of a physical number
 --     host_target_told space at n      the same of a read by the host
 --     part_told n      where a raise goes: a region by its register, or configuration space
---     AreNamedApart m      no two guests have one name
 --     reply_asked, after_asked      a guest's event by its index: the reply, and the world after it
-use Rattle.std.specs.Prelude.{ℕ, IsFalse, ◌==◌, if◌then◌else◌, nat_lt, Option, Some, None}
-use Rattle.std.specs.Str.{bytes_eq}
-use Rattle.model_registers.specs.Lists.{EachPair}
+use Rattle.std.specs.Prelude.{ℕ, ◌==◌, if◌then◌else◌, nat_lt, Option, Some, None}
 use Rattle.model_board.specs.Cycles.{BusAddress}
 use Rattle.model_guests.specs.Accesses.{Target, configuration, port, address, RaisePlace, in_config, in_region}
 use Rattle.model_guests.specs.Accesses.{Event, Reply, answered, done, refused}
 use Rattle.model_guests.specs.Grammar.{HostTarget, host_configuration, host_port, host_address}
 use Rattle.model_guests.specs.Lone.{answer}
-use Rattle.model_guests.specs.Guests.{GuestNow, lone_of}
+use Rattle.model_guests.specs.Guests.{lone_of}
 use Rattle.model_guests.specs.Lines.{guest_event}
 use Rattle.model_guests.specs.WorldNow.{WorldNow, after_meaning}
 use Rattle.monitor.specs.ByIndex.{name_nth}
@@ -53,10 +50,6 @@ host_target_told space at n =
 -- 6 is configuration space
 abbrev pub part_told : ℕ → Option RaisePlace
 part_told n = if nat_lt n 6 then Some (in_region n) else (if n == 6 then Some in_config else None)
-
--- so it is in each world that a board file declares, and guests keep their names
-abbrev pub AreNamedApart : WorldNow → Type 0
-AreNamedApart m = EachPair (λ (g h : GuestNow). IsFalse (bytes_eq g.name h.name)) m.guests
 
 -- the guest's name stands for it, as no two guests have one name
 abbrev pub reply_asked : WorldNow → ℕ → Event → Reply

@@ -4,7 +4,7 @@ ghost use Rattle.std.specs.Str.{bytes_eq};
 ghost use Rattle.model_guests.specs.Accesses.{Target, RaisePlace, access, raises, reads, writes};
 ghost use Rattle.model_guests.specs.WorldNow.{names_now};
 ghost use Rattle.accesses.specs.Accesses.{target_of, part_of};
-ghost use Rattle.pciguest_c.specs.Told.{AreNamedApart, index_told, number_told, value_told, target_told, part_told, reply_asked, after_asked};
+ghost use Rattle.pciguest_c.specs.Told.{index_told, number_told, value_told, target_told, part_told, reply_asked, after_asked};
 
 use crate::numbers::{ARGUMENT, number_of};
 use accesses::{Access, At, Names, Op, Place, Reply};
@@ -112,7 +112,7 @@ pub fn raise(
     ensures raised { guest < length monitor.old.guests → (p : RaisePlace) → part_told part ≡ Some p →
         let e = raises (record { slot = slot; part = p; offset = offset; mask = mask }) in
         (result ≡ number_told (reply_asked monitor.old guest e)) × (monitor.new ≡ after_asked monitor.old guest e) }
-    ensures refused { AreNamedApart monitor.old → result ≢ 0 → monitor.new ≡ monitor.old }
+    ensures refused { result ≢ 0 → monitor.new ≡ monitor.old }
 {
     let Some(place) = place_of(part) else {
         return ARGUMENT;

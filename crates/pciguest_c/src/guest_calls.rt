@@ -3,7 +3,7 @@ ghost use Rattle.std.specs.Prelude.{◌≡◌, ◌≢◌, ◌<◌, ◌≤◌, No
 ghost use Rattle.std.specs.Str.{bytes_eq};
 ghost use Rattle.model_guests.specs.Accesses.{Target, RaisePlace, access, raises, reads, writes};
 ghost use Rattle.model_guests.specs.WorldNow.{names_now};
-ghost use Rattle.pciguest_c.specs.Told.{AreNamedApart, index_told, number_told, value_told, target_told, part_told, reply_asked, after_asked};
+ghost use Rattle.pciguest_c.specs.Told.{index_told, number_told, value_told, target_told, part_told, reply_asked, after_asked};
 
 use crate::asking::{guest_named, raise, read, write};
 use crate::handle::Handle;
@@ -111,8 +111,7 @@ pub extern "C" fn pciguest_raw_raise(
         (p : RaisePlace) → part_told part ≡ Some p →
         let e = raises (record { slot = slot; part = p; offset = offset; mask = mask }) in
         (result ≡ number_told (reply_asked m guest e)) × (handle.new.owner.value ≡ Some (after_asked m guest e))) }
-    ensures refused { IfSome handle.old.owner.value (λ m. AreNamedApart m → result ≢ 0 →
-        handle.new.owner.value ≡ Some m) }
+    ensures refused { result ≢ 0 → handle.new.owner.value ≡ handle.old.owner.value }
 {
     match handle.take(alloc) {
         Some(mut monitor) => {

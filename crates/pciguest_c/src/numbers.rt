@@ -1,6 +1,7 @@
 //! The numbers that calls answer.
-ghost use Rattle.std.specs.Prelude.{◌≡◌};
+ghost use Rattle.std.specs.Prelude.{◌≡◌, ◌≢◌};
 ghost use Rattle.accesses.specs.Accesses.{reply_of};
+ghost use Rattle.accesses.specs.Replies.{IsRefusal};
 ghost use Rattle.pciguest_c.specs.Told.{number_told};
 
 use accesses::Reply;
@@ -22,7 +23,8 @@ pub const MEMORY: u32 = 299;
 
 /// 0, or the number of a refusal.
 pub fn number_of(reply: Reply) -> u32
-    ensures { result ≡ number_told (reply_of reply) }
+    ensures told { result ≡ number_told (reply_of reply) }
+    ensures refused { result ≢ 0 → IsRefusal reply }
 {
     match reply {
         Reply::Value(..) | Reply::Done => 0,

@@ -1,0 +1,191 @@
+"""Board files with mistakes: what a check says of each, beside what this second hand says.
+
+    mistakes.py PROGRAM [--files N] [--seed S]
+
+Each file is that of a random board, with its tables in some order and a few mistakes. The rules are those
+of docs/FORMATS.md, without a line of the program's code. The same seed makes the same files."""
+import argparse
+import random
+import re
+import subprocess
+import sys
+import tempfile
+from pathlib import Path
+
+from board import board_file, random_board
+from rules import first_fault
+
+NUMBERS = [-1, 0, 1, 4, 5, 6, 17, 63, 64, 192, 255, 256, 3000, 4096, 4097, 0xF900, 0xFFFE, 0xFFFF, 0x10000,
+           1 << 24, 1 << 31, 1 << 40, 1 << 62, -(1 << 62)]
+TEXTS = ["x", "a", "host", "A", "", "0.0", "1.0", "01.0", "15.7", "16.0", "1.8", "1.0/2.0", "mem32", "io", "none", "64",
+         "ff", "f", "0g", "ffff", "/".join(["1.0"] * 17)]
+OTHERS = ["true", "[1, 2]", '["x"]', "[0x1000, 0x1fff]", "[-4096, 8191]", "[0x100000, 0xffffffff]"]
+
+
+def some_value(rng, old=""):
+    """A value as it is written, mostly of the type of the one before."""
+    if rng.random() < 0.1:
+        old = rng.choice(["1", '"', "["])
+    if old.startswith('"'):
+        return f'"{rng.choice(TEXTS)}"'
+    return rng.choice(OTHERS) if old.startswith("[") else str(rng.choice(NUMBERS))
+
+
+def keys_in(lines):
+    return [place for place, line in enumerate(lines) if " = " in line]
+
+
+def other_value(rng, lines):
+    place = rng.choice(keys_in(lines))
+    key, value = lines[place].split(" = ", 1)
+    lines[place] = f"{key} = {some_value(rng, value)}"
+
+
+def inner_value(rng, lines):
+    """Another value inside an array of inline tables."""
+    places = [place for place in keys_in(lines) if "{" in lines[place]]
+    if places:
+        place = rng.choice(places)
+        found = rng.choice(list(re.finditer(r'(\w+) = (\d+|"\w*")', lines[place])))
+        put = "" if rng.random() < 0.1 else f"{found[1]} = {some_value(rng, found[2])}"
+        if rng.random() < 0.1:
+            put = f"{found[0]}, colour = 1"
+        text = lines[place][:found.start()] + put + lines[place][found.end():]
+        lines[place] = text.replace("{ , ", "{ ").replace(", , ", ", ").replace(",  }", " }")
+
+
+def other_slot(rng, lines):
+    places = [place for place in keys_in(lines) if lines[place].startswith("slots") and '"' in lines[place]]
+    if places:
+        place = rng.choice(places)
+        texts = re.findall(r'"[^"]*"', lines[place])
+        texts[rng.randrange(len(texts))] = rng.choice(texts + [f'"{rng.choice(TEXTS)}"'])
+        lines[place] = f"slots = [{', '.join(texts)}]"
+
+
+def left_out(rng, lines):
+    del lines[rng.choice(keys_in(lines) if rng.random() < 0.95 else range(len(lines)))]
+
+
+def unknown_key(rng, lines):
+    lines.insert(rng.randrange(len(lines) + 1), f"colour = {some_value(rng)}")
+
+
+def table_again(rng, lines):
+    heads = [place for place, line in enumerate(lines) if line.startswith("[[")] + [len(lines)]
+    if len(heads) > 1:
+        at = rng.randrange(len(heads) - 1)
+        lines += lines[heads[at]:heads[at + 1]]
+
+
+MISTAKES = [other_value, other_value, other_value, inner_value, inner_value, other_slot, left_out, unknown_key,
+            table_again]
+
+
+def in_some_order(rng, text):
+    """The lines, with the tables in another order."""
+    tables = re.split(r"\n(?=\[)", text.strip())
+    rng.shuffle(tables)
+    return "\n".join(tables).split("\n")
+
+
+def lines_of_keys(lines):
+    """Where each key of a table with a header stands: of a list's tables by their index."""
+    where, table, counts = {}, ("", 0), {}
+    for number, line in enumerate(lines, 1):
+        if line.startswith("["):
+            name = line.strip("[]")
+            table = (name, counts.get(name, 0))
+            counts[name] = table[1] + 1
+        elif " = " in line:
+            where[*table, line.split(" = ")[0]] = number
+    return where
+
+
+def allowed_lines(where, problem):
+    """The lines that may be told: of a key that is missing those of its table, and of the file none."""
+    number = where.get((*problem.table, problem.outer))
+    if number:
+        return {number}
+    return {line for (name, index, _), line in where.items() if name and (name, index) == problem.table} or {None}
+
+
+def differs(lines, told, problems):
+    """What is wrong with the lines that a check told, if anything is."""
+    where, numbers, wanted = lines_of_keys(lines), [], {problem.text: problem for problem in problems}
+    if len(told) != len(wanted):
+        missing = wanted.keys() - {text for _, text in told}
+        return f"{len(told)} lines for {len(wanted)}: {missing or told}"
+    for number, text in told:
+        if text not in wanted:
+            return f"not wanted: {text}"
+        if number not in allowed_lines(where, wanted[text]):
+            return f"line {number}, not {allowed_lines(where, wanted[text])}: {text}"
+        numbers.append(number or 0)
+    return None if numbers == sorted(numbers) else f"order {numbers}"
+
+
+def told_lines(out):
+    """The lines of a check with their numbers, and the last line."""
+    *lines, count = out.split("\n")[:-1]
+    found = [re.match(r"board\.toml(?::(\d+))?: (.*)$", line) for line in lines]
+    return [(int(line[1]) if line[1] else None, line[2]) for line in found], count
+
+
+class Files:
+    """A folder for files, and counts."""
+
+    def __init__(self, program):
+        self.program = Path(program).resolve()
+        self.folder = Path(tempfile.mkdtemp(prefix="mistakes-"))
+        self.faults, self.told = {}, 0
+
+    def differ(self, seed, told):
+        print(f"seed {seed}: {told}; the file is in {self.folder}")
+        sys.exit(1)
+
+    def one(self, seed):
+        rng = random.Random(seed)
+        lines = in_some_order(rng, board_file(random_board(rng)))
+        for _ in range(rng.choice([1, 1, 1, 2, 4])):
+            if keys_in(lines):
+                rng.choice(MISTAKES)(rng, lines)
+        text = "\n".join(lines) + "\n"
+        (self.folder / "board.toml").write_text(text)
+        done = subprocess.run([self.program, "check", "board.toml"], cwd=self.folder, capture_output=True, text=True,
+                              timeout=60)
+        self.compare(seed, lines, first_fault(text), done)
+
+    def compare(self, seed, lines, wanted, done):
+        number, problems = wanted
+        fault = re.match(r"pciguest: fault (\d+) ", done.stderr)
+        got = int(fault[1]) if fault else 0
+        self.faults[got] = self.faults.get(got, 0) + 1
+        if got != number and not (number == 0 and 200 < got < 206):
+            self.differ(seed, f"fault {got}, not {number}")
+        if number == 101 and not re.fullmatch(r"board\.toml:\d+: refused \(101 not TOML\)\n", done.stdout):
+            self.differ(seed, done.stdout)
+        if number > 101:
+            told, count = told_lines(done.stdout)
+            wrong = differs(lines, told, problems)
+            if wrong or count != (f"{len(told)} problems" if len(told) != 1 else "1 problem"):
+                self.differ(seed, wrong or count)
+            self.told += len(told)
+
+
+def main():
+    words = argparse.ArgumentParser()
+    words.add_argument("program")
+    words.add_argument("--files", type=int, default=2000)
+    words.add_argument("--seed", type=int, default=1)
+    chosen = words.parse_args()
+    files = Files(chosen.program)
+    for seed in range(chosen.seed, chosen.seed + chosen.files):
+        files.one(seed)
+    subprocess.run(["rm", "-rf", files.folder])
+    faults = ", ".join(f"{number or 'ok'}: {count}" for number, count in sorted(files.faults.items()))
+    print(f"{chosen.files} files ({faults}), {files.told} lines told: all agree")
+
+
+if __name__ == "__main__":
+    main()

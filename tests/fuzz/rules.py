@@ -1,0 +1,286 @@
+"""The rules of a board file, by docs/FORMATS.md: the first check that a file fails, and all that breaks it."""
+import re
+import tomllib
+from dataclasses import dataclass
+
+WORDS = {102: "key", 103: "unknown key", 104: "number", 105: "place", 106: "register", 107: "size", 108: "too many",
+         109: "guest name", 110: "slot", 111: "aperture", 112: "cell masks"}
+NEEDED = {"": ["host"], "host": ["io", "mem"], "endpoint": ["at", "vendor", "device", "class"],
+          "bar": ["index", "kind", "size"], "config": ["off", "block"],
+          "bridge": ["at", "vendor", "device", "io", "pref"], "guest": ["name", "slots"]}
+OPTIONAL = {"": ["endpoint", "bridge", "guest"], "host": ["pref"],
+            "endpoint": ["revision", "subvendor", "subsystem", "pin", "min_gnt", "max_lat", "status", "bar", "config"],
+            "bar": ["block", "reset", "rw", "w1c"], "config": ["reset", "rw", "w1c"], "bridge": ["revision"], "guest": []}
+CHOICES = {("bar", "kind"): {"io", "mem32", "mem32p", "mem64", "mem64p"}, ("bridge", "io"): {"none", "16", "32"},
+           ("bridge", "pref"): {"none", "32", "64"}}
+TEXTS = {"at", "name", "reset", "rw", "w1c"}
+RANGES = {"vendor": 0xFFFE, "device": 0xFFFF, "revision": 0xFF, "class": 0xFFFFFF, "subvendor": 0xFFFF,
+          "subsystem": 0xFFFF, "pin": 4, "min_gnt": 0xFF, "max_lat": 0xFF}
+SIZES = {"io": (4, 256), "mem32": (16, 1 << 31), "mem32p": (16, 1 << 31), "mem64": (16, 1 << 62),
+         "mem64p": (16, 1 << 62)}
+
+
+@dataclass
+class Problem:
+    """What a line says, the table with a header that it is about, and the key of that table."""
+    text: str
+    table: tuple
+    outer: str
+
+
+@dataclass
+class Entry:
+    """A table or a slot: its kind, its name in a message, what it has, and where it stands in the file."""
+    kind: str
+    name: str
+    values: dict
+    table: tuple
+    outer: str | None
+    owner: str | None
+
+
+def is_integer(value):
+    return type(value) is int
+
+
+def are_tables(value):
+    return isinstance(value, list) and all(isinstance(one, dict) for one in value)
+
+
+def has_form(kind, key, value):
+    """Whether a value has the type, or is one of the words, that its key asks."""
+    if (kind, key) in CHOICES:
+        return value in CHOICES[kind, key] if isinstance(value, str) else False
+    if kind == "host":
+        return isinstance(value, list) and len(value) == 2 and all(map(is_integer, value))
+    if key == "host":
+        return isinstance(value, dict)
+    if key in {"endpoint", "bridge", "guest", "bar", "config"}:
+        return are_tables(value)
+    if key == "slots":
+        return isinstance(value, list) and all(isinstance(one, str) for one in value)
+    return isinstance(value, str) if key in TEXTS else is_integer(value)
+
+
+def tables(values, key):
+    found = values.get(key)
+    return [one for one in found if isinstance(one, dict)] if isinstance(found, list) else []
+
+
+def text_of(value):
+    return value if isinstance(value, str) else None
+
+
+def entries(document):
+    """All entries: the file, its apertures, endpoints, bridges and guests, each with what stands in it."""
+    yield Entry("", "file", document, ("", 0), None, None)
+    if isinstance(document.get("host"), dict):
+        yield Entry("host", "host", document["host"], ("host", 0), None, None)
+    for index, endpoint in enumerate(tables(document, "endpoint")):
+        table, owner = ("endpoint", index), text_of(endpoint.get("at"))
+        yield Entry("endpoint", f"endpoint[{index}]", endpoint, table, None, owner)
+        for kind in ["bar", "config"]:
+            for inner, values in enumerate(tables(endpoint, kind)):
+                yield Entry(kind, f"endpoint[{index}].{kind}[{inner}]", values, table, kind, owner)
+    for index, bridge in enumerate(tables(document, "bridge")):
+        yield Entry("bridge", f"bridge[{index}]", bridge, ("bridge", index), None, text_of(bridge.get("at")))
+    for index, guest in enumerate(tables(document, "guest")):
+        table, owner = ("guest", index), text_of(guest.get("name"))
+        yield Entry("guest", f"guest[{index}]", guest, table, None, owner)
+        slots = guest.get("slots")
+        for inner, slot in enumerate(slots if isinstance(slots, list) else []):
+            yield Entry("slot", f"guest[{index}].slots[{inner}]", {"": slot}, table, "slots", owner)
+
+
+def problem(entry, key, words, number):
+    value = entry.values.get(key)
+    shown = f" = {value}" if is_integer(value) else f' = "{value}"' if isinstance(value, str) else ""
+    owner = "" if entry.owner is None or key in {"at", "name"} else f' of "{entry.owner}"'
+    place = f"{entry.name}.{key}" if key else entry.name
+    return Problem(f"{place}{shown}{owner}: {words} ({number} {WORDS[number]})", entry.table, entry.outer or key)
+
+
+def key_problems(every):
+    for entry in every:
+        if entry.kind == "slot":
+            continue
+        for key in NEEDED[entry.kind] + OPTIONAL[entry.kind]:
+            if key not in entry.values:
+                if key in NEEDED[entry.kind]:
+                    yield problem(entry, key, "is missing", 102)
+            elif not has_form(entry.kind, key, entry.values[key]):
+                yield problem(entry, key, "has another type, or is another word, than its key asks", 102)
+
+
+def unknown_keys(every):
+    for entry in every:
+        if entry.kind != "slot":
+            for key in entry.values.keys() - set(NEEDED[entry.kind] + OPTIONAL[entry.kind]):
+                yield problem(entry, key, "is no key of this table", 103)
+
+
+def number_problems(every):
+    for entry in every:
+        values = entry.values
+        if entry.kind in {"endpoint", "bridge"}:
+            for key, greatest in RANGES.items():
+                if not 0 <= values.get(key, 0) <= greatest:
+                    yield problem(entry, key, f"is not from 0 to {greatest if key == 'pin' else hex(greatest)}", 104)
+            status = values.get("status", 0)
+            if not 0 <= status <= 0xFFFF or status & ~0xF900:
+                yield problem(entry, "status", "has bits outside 0xf900", 104)
+        if entry.kind == "bar" and not 0 <= values.get("block", 0) <= 4096:
+            yield problem(entry, "block", "is not from 0 to 4096", 104)
+        if entry.kind == "config":
+            if not 0x40 <= values["off"] <= 0xFF:
+                yield problem(entry, "off", "is not from 0x40 to 0xff", 104)
+            if not 1 <= values["block"] <= 192:
+                yield problem(entry, "block", "is not from 1 to 192", 104)
+            if values["off"] + values["block"] > 256:
+                yield problem(entry, "block", "ends after offset 0xff", 104)
+
+
+def count_problems(every):
+    for entry in every:
+        if entry.kind in {"endpoint", "bridge"} and entry.values["at"].count("/") > 15:
+            yield problem(entry, "at", "has more than 16 parts", 108)
+        if entry.kind == "guest" and len(entry.values["slots"]) > 32:
+            yield problem(entry, "slots", "more than 32 slots", 108)
+
+
+def is_path(text):
+    return all(re.fullmatch(r"(\d|1[0-5])\.[0-7]", part) for part in text.split("/"))
+
+
+def standing(every):
+    """The kind of function at each path."""
+    return {entry.values["at"]: entry.kind for entry in every if entry.kind in {"endpoint", "bridge"}}
+
+
+def place_problems(every):
+    earlier, stands = set(), standing(every)
+    bridges = {entry.values["at"] for entry in every if entry.kind == "bridge"}
+    for entry in every:
+        if entry.kind not in {"endpoint", "bridge"}:
+            continue
+        at = entry.values["at"]
+        *above, part = at.split("/")
+        if not is_path(at):
+            yield problem(entry, "at", "is no path", 105)
+            continue
+        if at in earlier:
+            yield problem(entry, "at", "is the path of an earlier function", 105)
+        if above and "/".join(above) not in bridges:
+            yield problem(entry, "at", "leads through something else than bridges", 105)
+        if "/".join([*above, part.split(".")[0] + ".0"]) not in stands:
+            yield problem(entry, "at", "is in a device without function 0", 105)
+        earlier.add(at)
+
+
+def register_problems(every):
+    for entry in every:
+        if entry.kind == "bar" and not 0 <= entry.values["index"] <= 5:
+            yield problem(entry, "index", "is not from 0 to 5", 106)
+        if entry.kind == "endpoint":
+            used = [bar["index"] + more for bar in entry.values.get("bar", [])
+                    for more in range(2 if bar["kind"].startswith("mem64") else 1)]
+            lawful = all(0 <= bar["index"] <= 5 for bar in entry.values.get("bar", []))
+            if lawful and (len(used) != len(set(used)) or 6 in used):
+                yield problem(entry, "bar", "a register is used twice, or a 64-bit kind has index 5", 106)
+
+
+def size_problems(every):
+    for entry in every:
+        if entry.kind == "bar":
+            size, (least, greatest) = entry.values["size"], SIZES[entry.values["kind"]]
+            if not least <= size <= greatest or size & (size - 1):
+                yield problem(entry, "size", "is no size of its kind", 107)
+            if entry.values.get("block", 0) > size:
+                yield problem(entry, "block", "is longer than the region", 107)
+
+
+def name_problems(every):
+    earlier = set()
+    for entry in every:
+        if entry.kind == "guest":
+            name = entry.values["name"]
+            if not re.fullmatch(r"[a-z][a-z0-9]{0,15}", name) or name == "host":
+                yield problem(entry, "name", "is no name that a guest may have", 109)
+            if name in earlier:
+                yield problem(entry, "name", "is the name of an earlier guest", 109)
+            earlier.add(name)
+
+
+def slot_problems(every):
+    earlier, stands = set(), standing(every)
+    for entry in every:
+        if entry.kind == "slot":
+            slot = entry.values[""]
+            if not is_path(slot) or stands.get(slot) != "endpoint":
+                yield problem(entry, "", "is no path of an endpoint", 110)
+            if is_path(slot) and slot in earlier:
+                yield problem(entry, "", "is in an earlier slot", 110)
+            earlier.add(slot)
+
+
+def is_of_units(unit, first, last):
+    return 0 <= first <= last and first % unit == 0 and (last + 1) % unit == 0
+
+
+def aperture_problems(every):
+    for host in [entry for entry in every if entry.kind == "host"]:
+        io, mem, pref = host.values["io"], host.values["mem"], host.values.get("pref")
+        is_memory = is_of_units(1 << 20, *map(abs, mem)) and abs(mem[1]) < 1 << 32
+        if not is_of_units(1 << 12, *io) or io[0] < 0x1000 or io[1] > 0xFFFF:
+            yield problem(host, "io", "is no lawful aperture", 111)
+        if min(mem) < 0 or not is_memory:
+            yield problem(host, "mem", "is no lawful aperture", 111)
+        if pref is None:
+            continue
+        sides = pref[1] < 1 << 32 or pref[0] >= 1 << 32
+        apart = abs(mem[1]) < pref[0] or pref[1] < abs(mem[0])
+        if min(pref) < 0 or is_memory and not (is_of_units(1 << 20, *pref) and sides and apart):
+            yield problem(host, "pref", "is no lawful aperture, or meets mem", 111)
+
+
+def has_masks(values):
+    """Whether the patterns of a block are lawful: none is longer, and no bit is in both masks."""
+    length, given = values.get("block", 0), {}
+    for key in ["reset", "rw", "w1c"]:
+        text = values.get(key)
+        if text is not None and not (re.fullmatch(r"([0-9a-fA-F]{2})+", text) and len(text) <= 2 * length):
+            return False
+        given[key] = bytes.fromhex(text) if text else b"\0"
+    return not any(given["rw"][n % len(given["rw"])] & given["w1c"][n % len(given["w1c"])] for n in range(length))
+
+
+def mask_problems(every):
+    earlier = {}
+    for entry in every:
+        if entry.kind in {"bar", "config"} and not has_masks(entry.values):
+            yield problem(entry, "block", "patterns that are not lawful", 112)
+        if entry.kind == "config":
+            begin, blocks = entry.values["off"], earlier.setdefault(entry.table, [])
+            end = begin + entry.values["block"]
+            if any(begin < other_end and other < end for other, other_end in blocks):
+                yield problem(entry, "off", "overlaps an earlier block", 112)
+            blocks.append((begin, end))
+
+
+CHECKS = [(102, key_problems), (103, unknown_keys), (104, number_problems), (108, count_problems),
+          (105, place_problems), (106, register_problems), (107, size_problems), (109, name_problems),
+          (110, slot_problems), (111, aperture_problems), (112, mask_problems)]
+
+
+def first_fault(text):
+    """The number of the first check that a file fails with all that breaks it, or 0 with nothing."""
+    try:
+        document = tomllib.loads(text)
+    except tomllib.TOMLDecodeError:
+        return 101, []
+    every = list(entries(document))
+    for number, check in CHECKS:
+        problems = list(check(every))
+        if problems:
+            return number, problems
+    return 0, []
