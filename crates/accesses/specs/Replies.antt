@@ -1,7 +1,7 @@
 -- Which replies a line of output can have.
 --     IsShown      a value of at most four bytes, done, or a refusal that has words
 --     IsRefusal      a refusal
-use Rattle.std.specs.Prelude.{◌≡◌, ◌≤◌, ℕ, Bool, true, ◌==◌, ◌||◌, ⊤, ⊥}
+use Rattle.std.specs.Prelude.{◌≡◌, ◌≤◌, ℕ, Bool, true, ◌==◌, ◌||◌, ⊤}
 use Rattle.accesses.specs.declared.access.Reply.{Reply}
 use Rattle.accesses.specs.declared.access.Reply.TheVariants.{Value, Done, Refused}
 
