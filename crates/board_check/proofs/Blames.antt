@@ -15,7 +15,7 @@ use Rattle.board_check.specs.declared.entry.Entry.{Entry}
 use Rattle.board_check.specs.declared.entry.Entry.TheVariants as entry
 use Rattle.board_check.specs.Rules.{fault_of, key_of}
 use Rattle.board_check.specs.Keeping.{keeps, entry_keeps, endpoint_keeps, bar_keeps, config_keeps, bridge_keeps, guest_keeps, slot_keeps, place_keeps}
-use Rattle.board_check.specs.Problems.{Found, entries_of, asked, other_rules, of_fields, of_members, of_rules, is_wrong, problems_of}
+use Rattle.board_check.specs.Problems.{Found, entries_of, asked, other_rules, of_fields, of_members, of_rule, of_rules, is_wrong, problems_of}
 use Rattle.board_check.proofs.Members.{in_right, in_map, in_flat, in_at, filter_some}
 
 abbrev pub found : Entry → Rule → List ℕ → Found
@@ -40,6 +40,7 @@ not_kept true true h k = cc
 not_kept false b h k = cc
 
 pub some_problem : (ms : Members) (fault : BoardFault) → Blame ms (number_of fault) → problems_of ms fault ≡ [] → ⊥
+unfolding is_wrong
 some_problem ms fault b =
     let x = found b.entry b.rule b.key in
     filter_some (is_wrong ms fault) x (flat_map (asked ms) (entries_of (file ms)))
@@ -59,6 +60,12 @@ pub record Breach (f : File) (number : ℕ) : Type 0 where
   pub is_other : (ms : Members) (k : List ℕ) → keeps ms entry rule k ≡ entry_keeps (file ms) entry rule
   pub broken : entry_keeps f entry rule ≡ false
 
+asked_rule : (ms : Members) (e : Entry) (r : Rule) → IsIn r other_rules → IsIn (found e r (key_of r)) (asked ms e)
+unfolding asked
+asked_rule ms e r h =
+    let x = found e r (key_of r) in
+    in_right x (of_fields e) (of_members ms e ++ of_rules e) (in_right x (of_members ms e) (of_rules e) (in_map (of_rule e) r other_rules h))
+
 pub blame : (ms : Members) (number : ℕ) → Breach (file ms) number → Blame ms number
 blame ms number b =
     let x = found b.entry b.rule (key_of b.rule) in
@@ -67,7 +74,7 @@ blame ms number b =
       rule = b.rule;
       key = key_of b.rule;
       there = b.there;
-      is_asked = in_right x (of_fields b.entry) (of_members ms b.entry ++ of_rules b.entry) (in_right x (of_members ms b.entry) (of_rules b.entry) (in_map (λ r. found b.entry r (key_of r)) b.rule other_rules (in_at other_rules b.place b.rule b.listed)));
+      is_asked = asked_rule ms b.entry b.rule (in_at other_rules b.place b.rule b.listed);
       of_check = b.of_check;
       broken = b.is_other ms (key_of b.rule) ∙ b.broken;
     }
@@ -121,109 +128,145 @@ breach f number e r l there broken = record {
 }
 
 pub of_vendor : Listed rule.Vendor 104
+unfolding other_rules
 of_vendor = record { place = 0; listed = refl; of_check = refl; is_other = λ ms e k. refl }
 
 pub of_device : Listed rule.Device 104
+unfolding other_rules
 of_device = record { place = 1; listed = refl; of_check = refl; is_other = λ ms e k. refl }
 
 pub of_revision : Listed rule.Revision 104
+unfolding other_rules
 of_revision = record { place = 2; listed = refl; of_check = refl; is_other = λ ms e k. refl }
 
 pub of_class : Listed rule.Class 104
+unfolding other_rules
 of_class = record { place = 3; listed = refl; of_check = refl; is_other = λ ms e k. refl }
 
 pub of_subvendor : Listed rule.Subvendor 104
+unfolding other_rules
 of_subvendor = record { place = 4; listed = refl; of_check = refl; is_other = λ ms e k. refl }
 
 pub of_subsystem : Listed rule.Subsystem 104
+unfolding other_rules
 of_subsystem = record { place = 5; listed = refl; of_check = refl; is_other = λ ms e k. refl }
 
 pub of_pin : Listed rule.Pin 104
+unfolding other_rules
 of_pin = record { place = 6; listed = refl; of_check = refl; is_other = λ ms e k. refl }
 
 pub of_min_gnt : Listed rule.MinGnt 104
+unfolding other_rules
 of_min_gnt = record { place = 7; listed = refl; of_check = refl; is_other = λ ms e k. refl }
 
 pub of_max_lat : Listed rule.MaxLat 104
+unfolding other_rules
 of_max_lat = record { place = 8; listed = refl; of_check = refl; is_other = λ ms e k. refl }
 
 pub of_status : Listed rule.Status 104
+unfolding other_rules
 of_status = record { place = 9; listed = refl; of_check = refl; is_other = λ ms e k. refl }
 
 pub of_bar_block : Listed rule.BarBlock 104
+unfolding other_rules
 of_bar_block = record { place = 10; listed = refl; of_check = refl; is_other = λ ms e k. refl }
 
 pub of_config_off : Listed rule.ConfigOff 104
+unfolding other_rules
 of_config_off = record { place = 11; listed = refl; of_check = refl; is_other = λ ms e k. refl }
 
 pub of_config_block : Listed rule.ConfigBlock 104
+unfolding other_rules
 of_config_block = record { place = 12; listed = refl; of_check = refl; is_other = λ ms e k. refl }
 
 pub of_config_end : Listed rule.ConfigEnd 104
+unfolding other_rules
 of_config_end = record { place = 13; listed = refl; of_check = refl; is_other = λ ms e k. refl }
 
 pub of_slashes : Listed rule.Slashes 108
+unfolding other_rules
 of_slashes = record { place = 14; listed = refl; of_check = refl; is_other = λ ms e k. refl }
 
 pub of_functions : Listed rule.Functions 108
+unfolding other_rules
 of_functions = record { place = 15; listed = refl; of_check = refl; is_other = λ ms e k. refl }
 
 pub of_guests : Listed rule.Guests 108
+unfolding other_rules
 of_guests = record { place = 16; listed = refl; of_check = refl; is_other = λ ms e k. refl }
 
 pub of_slots : Listed rule.Slots 108
+unfolding other_rules
 of_slots = record { place = 17; listed = refl; of_check = refl; is_other = λ ms e k. refl }
 
 pub of_index : Listed rule.Index 106
+unfolding other_rules
 of_index = record { place = 18; listed = refl; of_check = refl; is_other = λ ms e k. refl }
 
 pub of_size : Listed rule.Size 107
+unfolding other_rules
 of_size = record { place = 19; listed = refl; of_check = refl; is_other = λ ms e k. refl }
 
 pub of_block_fits : Listed rule.BlockFits 107
+unfolding other_rules
 of_block_fits = record { place = 20; listed = refl; of_check = refl; is_other = λ ms e k. refl }
 
 pub of_name : Listed rule.Name 109
+unfolding other_rules
 of_name = record { place = 21; listed = refl; of_check = refl; is_other = λ ms e k. refl }
 
 pub of_bar_masks : Listed rule.BarMasks 112
+unfolding other_rules
 of_bar_masks = record { place = 22; listed = refl; of_check = refl; is_other = λ ms e k. refl }
 
 pub of_config_masks : Listed rule.ConfigMasks 112
+unfolding other_rules
 of_config_masks = record { place = 23; listed = refl; of_check = refl; is_other = λ ms e k. refl }
 
 pub of_path : Listed rule.Path 105
+unfolding other_rules
 of_path = record { place = 24; listed = refl; of_check = refl; is_other = λ ms e k. refl }
 
 pub of_own_place : Listed rule.OwnPlace 105
+unfolding other_rules
 of_own_place = record { place = 25; listed = refl; of_check = refl; is_other = λ ms e k. refl }
 
 pub of_behind_bridge : Listed rule.BehindBridge 105
+unfolding other_rules
 of_behind_bridge = record { place = 26; listed = refl; of_check = refl; is_other = λ ms e k. refl }
 
 pub of_function_zero : Listed rule.FunctionZero 105
+unfolding other_rules
 of_function_zero = record { place = 27; listed = refl; of_check = refl; is_other = λ ms e k. refl }
 
 pub of_own_registers : Listed rule.OwnRegisters 106
+unfolding other_rules
 of_own_registers = record { place = 28; listed = refl; of_check = refl; is_other = λ ms e k. refl }
 
 pub of_own_name : Listed rule.OwnName 109
+unfolding other_rules
 of_own_name = record { place = 29; listed = refl; of_check = refl; is_other = λ ms e k. refl }
 
 pub of_names_endpoint : Listed rule.NamesEndpoint 110
+unfolding other_rules
 of_names_endpoint = record { place = 30; listed = refl; of_check = refl; is_other = λ ms e k. refl }
 
 pub of_own_slot : Listed rule.OwnSlot 110
+unfolding other_rules
 of_own_slot = record { place = 31; listed = refl; of_check = refl; is_other = λ ms e k. refl }
 
 pub of_io_aperture : Listed rule.IoAperture 111
+unfolding other_rules
 of_io_aperture = record { place = 32; listed = refl; of_check = refl; is_other = λ ms e k. refl }
 
 pub of_mem_aperture : Listed rule.MemAperture 111
+unfolding other_rules
 of_mem_aperture = record { place = 33; listed = refl; of_check = refl; is_other = λ ms e k. refl }
 
 pub of_pref_aperture : Listed rule.PrefAperture 111
+unfolding other_rules
 of_pref_aperture = record { place = 34; listed = refl; of_check = refl; is_other = λ ms e k. refl }
 
 pub of_own_offsets : Listed rule.OwnOffsets 112
+unfolding other_rules
 of_own_offsets = record { place = 35; listed = refl; of_check = refl; is_other = λ ms e k. refl }

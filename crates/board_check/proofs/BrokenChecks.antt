@@ -38,6 +38,7 @@ passing p (x ∷ xs) h = by_case (passing p xs) (p x) refl h
     by_case rest false is k = rest k
 
 pub problems_break_checks : ProblemsBreakChecks
+unfolding is_wrong
 problems_break_checks ms fault h =
     let x = passing (is_wrong ms fault) (flat_map (asked ms) (entries_of (file ms))) h in
     let (number, broken) = and_parts (number_of (fault_of x.value.rule) == number_of fault) (not (keeps ms x.value.entry x.value.rule x.value.key)) x.passes in

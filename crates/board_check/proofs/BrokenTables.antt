@@ -1,5 +1,5 @@
 -- Where a check of keys or forms fails in a document, the entry that breaks a rule of keys.
-use Rattle.std.proofs.Common.{◌≡◌, ℕ, Bool, true, false, ◌&&◌, ◌||◌, not, cond, List, [], ◌∷◌, ◌++◌, Option, Some, None, is_some, refl, sym, ap, ap₂, ◌∙◌, subst, inl, inr, ◌⊎◌}
+use Rattle.std.proofs.Common.{◌≡◌, ℕ, Bool, true, false, ◌&&◌, ◌||◌, not, cond, map, flat_map, List, [], ◌∷◌, ◌++◌, Option, Some, None, is_some, refl, sym, ap, ap₂, ◌∙◌, subst, inl, inr, ◌⊎◌}
 use Rattle.std.specs.Prelude.{filter}
 use Rattle.std.specs.Option.{option_map_or}
 use Rattle.std.proofs.lemmas.Bool.{and_cases}
@@ -18,7 +18,7 @@ use Rattle.board_check.specs.declared.entry.Entry.{Entry}
 use Rattle.board_check.specs.declared.rule.Rule.{Rule}
 use Rattle.board_check.specs.declared.rule.Rule.TheVariants as rule
 use Rattle.board_check.specs.Keys.{table_at, level_of, needs, is_needed, form_holds, table_keeps, key_keeps}
-use Rattle.board_check.specs.Problems.{Found, entries_of, at_field, at_fields, at_members, in_table, of_fields, of_members, of_rules, asked}
+use Rattle.board_check.specs.Problems.{Found, entries_of, keys_in, of_field, of_fields, of_member, of_members, of_rules, asked}
 use Rattle.board_check.proofs.Members.{in_left, in_right, in_flat}
 use Rattle.board_check.proofs.Blames.{found, Blame}
 use Rattle.board_check.proofs.BrokenNumbers.{either_of}
@@ -120,7 +120,7 @@ needs_field f (g ∷ fs) (inl h) k =
     (ap₂ (λ (a b : Bool). a && b) (sym (ap (λ (x : Field). x.is_needed) h) ∙ k) (sym (ap (λ (x : Field). same_text x.key f.key) h) ∙ text_itself f.key))
 needs_field f (g ∷ fs) (inr h) k = or_right (g.is_needed && same_text g.key f.key) (needs f.key fs) (needs_field f fs h k)
 
-in_members : (e : Entry) (t : Members) (k : List ℕ) (d : Data) → IsMember k d t → IsIn (found e rule.Known k) (at_members e t)
+in_members : (e : Entry) (t : Members) (k : List ℕ) (d : Data) → IsMember k d t → IsIn (found e rule.Known k) (map (of_member e) (keys_in t))
 in_members e no_members k d h = absurd h
 in_members e (member j x t) k d (inl h) = inl (ap (found e rule.Known) h.0)
 in_members e (member j x t) k d (inr h) = inr (in_members e t k d h)
@@ -131,10 +131,18 @@ module _ (ms : Members) (e : Entry) (l : Level) (t : Members) (of : TableOf ms e
       ap (λ (o : Option Level). option_map_or (λ x. option_map_or (table_keeps r x k) (table_at ms e) true) o true) of.is_level
       ∙ ap (λ (o : Option Members). option_map_or (table_keeps r l k) o true) of.is_table
 
-  asked_there : (x : Found) (f : Field) → IsIn f (fields l) → IsIn x (at_field e f) → IsIn x (asked ms e)
+  asked_there : (x : Found) (f : Field) → IsIn f (fields l) → IsIn x (of_field e f) → IsIn x (asked ms e)
+  unfolding asked
   asked_there x f h k =
       in_left x (of_fields e) (of_members ms e ++ of_rules e)
-      (subst (λ (o : Option Level). IsIn x (at_fields e o)) (sym of.is_level) (in_flat (at_field e) f x (fields l) h k))
+      (subst (λ (o : Option Level). IsIn x (option_map_or (λ m. flat_map (of_field e) (fields m)) o [])) (sym of.is_level) (in_flat (of_field e) f x (fields l) h k))
+
+  known_there : (k : List ℕ) (d : Data) → IsMember k d t → IsIn (found e rule.Known k) (asked ms e)
+  unfolding asked
+  known_there k d m =
+      let x = found e rule.Known k in
+      in_right x (of_fields e) (of_members ms e ++ of_rules e)
+      (in_left x (of_members ms e) (of_rules e) (subst (λ (o : Option Members). IsIn x (map (of_member e) (option_map_or keys_in o []))) (sym of.is_table) (in_members e t k d m)))
 
   by_needed : has_needed (fields l) t ≡ false → Blame ms 102
   by_needed h =
@@ -177,8 +185,7 @@ module _ (ms : Members) (e : Entry) (l : Level) (t : Members) (of : TableOf ms e
         rule = rule.Known;
         key = k;
         there = of.there;
-        is_asked = in_right x (of_fields e) (of_members ms e ++ of_rules e)
-            (in_left x (of_members ms e) (of_rules e) (subst (λ (o : Option Members). IsIn x (in_table e o)) (sym of.is_table) (in_members e t k d m)));
+        is_asked = known_there k d m;
         of_check = refl;
         broken = keeps_there rule.Known k ∙ ap₂ (λ (o : Option Data) (b : Bool). not (is_some o) || b) at h;
       }

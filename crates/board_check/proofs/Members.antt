@@ -90,10 +90,10 @@ module _ (f : File) where
   of_guests = flat_map with_guest (enumerate_from 0 f.guests)
 
   among_endpoints : (x : Entry) → IsIn x of_endpoints → IsIn x (entries_of f)
-  among_endpoints x h = inr (inr (in_left x of_endpoints (of_bridges ++ of_guests) h))
+  among_endpoints x h = inr (inr (in_left x (of_endpoints ++ of_bridges) of_guests (in_left x of_endpoints of_bridges h)))
 
   among_guests : (x : Entry) → IsIn x of_guests → IsIn x (entries_of f)
-  among_guests x h = inr (inr (in_right x of_endpoints (of_bridges ++ of_guests) (in_right x of_bridges of_guests h)))
+  among_guests x h = inr (inr (in_right x (of_endpoints ++ of_bridges) of_guests h))
 
   module _ (i : ℕ) (e : Endpoint) (at : slice_get f.endpoints i ≡ Some e) where
     with_it : (x : Entry) → IsIn x (with_endpoint (i, e)) → IsIn x (entries_of f)
@@ -114,7 +114,7 @@ module _ (f : File) where
 
   pub bridge_in : (i : ℕ) (b : Bridge) → slice_get f.bridges i ≡ Some b → IsIn (entry.Bridge i) (entries_of f)
   bridge_in i b h =
-      inr (inr (in_right (entry.Bridge i) of_endpoints (of_bridges ++ of_guests) (in_left (entry.Bridge i) of_bridges of_guests (in_map entry.Bridge i (indices f.bridges) (in_indices f.bridges i b h)))))
+      inr (inr (in_left (entry.Bridge i) (of_endpoints ++ of_bridges) of_guests (in_right (entry.Bridge i) of_endpoints of_bridges (in_map entry.Bridge i (indices f.bridges) (in_indices f.bridges i b h)))))
 
   module _ (i : ℕ) (g : Guest) (at : slice_get f.guests i ≡ Some g) where
     with_guest_here : (x : Entry) → IsIn x (with_guest (i, g)) → IsIn x (entries_of f)

@@ -1,7 +1,6 @@
 -- Which entries of a board file keep which rules.
 --     keeps ms entry rule key      the entry keeps the rule, or isn't asked to, or isn't there
---     IsProblem ms fault p      the entry breaks a rule whose fault this is
-use Rattle.std.specs.Prelude.{◌≡◌, ℕ, ◌+◌, nat_abs, pos, int_le, ◌+ℤ◌, Bool, true, false, not, ◌&&◌, ◌||◌, length, nat_le, take, map, slice_get, List, Option, option_map, option_and_then}
+use Rattle.std.specs.Prelude.{ℕ, ◌+◌, nat_abs, pos, int_le, ◌+ℤ◌, Bool, true, false, not, ◌&&◌, ◌||◌, length, nat_le, take, map, slice_get, List, Option, option_map, option_and_then}
 use Rattle.std.specs.List.{list_all}
 use Rattle.std.specs.Option.{option_map_or}
 use Rattle.std.specs.Str.{bytes_eq}
@@ -16,13 +15,10 @@ use Rattle.board_file.specs.Blocks.{is_block}
 use Rattle.board_file.specs.PathTexts.{is_path_text, path_at}
 use Rattle.board_file.specs.Functions.{region, standings, aperture}
 use Rattle.board_file.specs.Rules.{is_between, has_only_bits, has_few_slashes, is_root, is_size, is_natural, are_natural, names_endpoint}
-use Rattle.board_file.specs.declared.fault.BoardFault.{BoardFault}
 use Rattle.board_check.specs.declared.rule.Rule.{Rule}
 use Rattle.board_check.specs.declared.rule.Rule.TheVariants as rule
 use Rattle.board_check.specs.declared.entry.Entry.{Entry}
 use Rattle.board_check.specs.declared.entry.Entry.TheVariants as entry
-use Rattle.board_check.specs.declared.finding.Problem.{Problem}
-use Rattle.board_check.specs.Rules.{fault_of}
 use Rattle.board_check.specs.Keys.{key_keeps}
 
 -- two texts of the same path
@@ -153,7 +149,3 @@ keeps ms e rule.Needed k = key_keeps ms e rule.Needed k
 keeps ms e rule.Form k = key_keeps ms e rule.Form k
 keeps ms e rule.Known k = key_keeps ms e rule.Known k
 keeps ms e r k = entry_keeps (file ms) e r
-
-pub record IsProblem (ms : Members) (fault : BoardFault) (p : Problem) : Type 0 where
-  pub of_fault : fault_of p.rule ≡ fault
-  pub broken : keeps ms p.entry p.rule p.key.now ≡ false

@@ -4,18 +4,14 @@
 --     way_to entry key      the way to the value at a key of an entry; a slot is its value itself
 --     way_told ms entry key      the way to the value at a key of an entry, or where it has none to the entry
 --     IsLineOf      the line of a value at the end of this way, or inside the value there, whose place was confirmed
---     IsTold      a problem, with a line where one is known
-use Rattle.std.specs.Prelude.{◌≡◌, ℕ, codes, List, [], ◌∷◌, ◌++◌, map, is_some, if◌then◌else◌, IfSome}
+use Rattle.std.specs.Prelude.{◌≡◌, ℕ, codes, List, [], ◌∷◌, ◌++◌, map, is_some, if◌then◌else◌}
 use Rattle.toml.specs.Data.{Members}
 use Rattle.value_places.specs.declared.steps.Step.{Step}
 use Rattle.value_places.specs.declared.steps.Step.TheVariants.{Key, Index}
 use Rattle.value_places.specs.Places.{IsLineWithin}
-use Rattle.board_file.specs.declared.fault.BoardFault.{BoardFault}
 use Rattle.board_check.specs.declared.entry.Entry.{Entry}
 use Rattle.board_check.specs.declared.entry.Entry.TheVariants as entry
-use Rattle.board_check.specs.declared.lines.Told.{Told}
 use Rattle.board_check.specs.Keys.{value_at}
-use Rattle.board_check.specs.Keeping.{IsProblem}
 
 pub data Turn : Type 0 where
   at_key : List ℕ → Turn
@@ -49,7 +45,3 @@ pub record IsLineOf (text : List ℕ) (ms : Members) (e : Entry) (key : List ℕ
   pub way : List Step
   pub leads : map turn way ≡ way_told ms e key
   pub is_line : IsLineWithin text ms way line
-
-pub record IsTold (text : List ℕ) (ms : Members) (fault : BoardFault) (t : Told) : Type 0 where
-  pub problem : IsProblem ms fault t.problem
-  pub line : IfSome t.line (IsLineOf text ms t.problem.entry t.problem.key.now)
