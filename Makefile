@@ -67,11 +67,13 @@ hostile: pciguest
 	@for part in growths streams surroundings sizes; do python3 tests/hostile/$$part.py ./pciguest; done
 
 # Random boards and scripts, answered by the program, by the lone guests and by a second hand in Python:
-# about a million lines. make fuzz SEED=.. begins with another board.
+# about a million lines. Then board files with mistakes, and what a check says of them. make fuzz SEED=..
+# begins with another board.
 SEED := 1
 fuzz: pciguest
 	@cd crates/lone_answers && rt run > out/build.log 2>&1 || { cat out/build.log; exit 1; }
 	@python3 tests/fuzz/fuzz.py ./pciguest --lone crates/lone_answers/out/lone_answers --boards 850 --seed $(SEED)
+	@python3 tests/fuzz/mistakes.py ./pciguest --files 3000 --seed $(SEED)
 
 # A page that runs the proved code in a browser: pciguest.html. It takes Node or Chromium, to compare what the page
 # answers with the program.

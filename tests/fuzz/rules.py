@@ -153,13 +153,14 @@ def is_path(text):
 
 
 def standing(every):
-    """The kind of function at each path."""
-    return {entry.values["at"]: entry.kind for entry in every if entry.kind in {"endpoint", "bridge"}}
+    """Each function's path with its kind. A text that is no path stands for 0.0."""
+    return [(at if is_path(at) else "0.0", entry.kind) for entry in every if entry.kind in {"endpoint", "bridge"}
+            for at in [entry.values["at"]]]
 
 
 def place_problems(every):
-    earlier, stands = set(), standing(every)
-    bridges = {entry.values["at"] for entry in every if entry.kind == "bridge"}
+    earlier, stands = set(), {path for path, _ in standing(every)}
+    bridges = {path for path, kind in standing(every) if kind == "bridge"}
     for entry in every:
         if entry.kind not in {"endpoint", "bridge"}:
             continue
@@ -212,7 +213,7 @@ def name_problems(every):
 
 
 def slot_problems(every):
-    earlier, stands = set(), standing(every)
+    earlier, stands = set(), dict(standing(every))
     for entry in every:
         if entry.kind == "slot":
             slot = entry.values[""]
