@@ -8,6 +8,6 @@ mod numbers;
 mod replies;
 mod words;
 
-pub use line::{Line, What, Who, guest_access, line_meaning, parse_line};
+pub use line::{Line, What, Who, line_meaning, parse_line};
 pub use replies::{LineText, line_text, push_line, refusal_text};
 pub use words::line_feed_in;

@@ -165,10 +165,10 @@ fn named_line(first: &[u8], text: &[u8], names: &Names) -> What
     }
 }
 
-/// What a line means, which is given without its line feed. Of several guests of one name the first is
-/// meant. The words of the commonest lines are read one by one, which is faster than to cut the line into
-/// words first.
-pub fn line_meaning(line: &[u8], names: &Names) -> What
+/// What a line of any kind means. The words of the commonest lines are read one by one, which is faster
+/// than to cut the line into words first.
+#[inline(never)]
+fn any_meaning(line: &[u8], names: &Names) -> What
     ensures meaning { meaning_of (texts names.now) result ≡ meaning (texts names.now) line.now }
     ensures guests { GuestsAre (λ g. g < length names.now.items) result }
     ensures first { GuestsAre (IsFirst (texts names.now)) result }
@@ -183,13 +183,12 @@ pub fn line_meaning(line: &[u8], names: &Names) -> What
     }
 }
 
-/// The guest and its access, where a line asks one. Most lines do: what such a line means is told here
-/// faster than by `line_meaning`, which puts it among all meanings.
+/// The guest and its access, where a line asks one.
 #[inline(always)]
-pub fn guest_access(line: &[u8], names: &Names) -> Option<(usize, Access)>
+fn guest_access(line: &[u8], names: &Names) -> Option<(usize, Access)>
     ensures meaning { IfSome result (λ p.
         meaning_of (texts names.now) (What.Guest p.0 p.1) ≡ meaning (texts names.now) line.now) }
-    ensures guest { IfSome result (λ p. p.0 < length names.now.items) }
+    ensures first { IfSome result (λ p. IsFirst (texts names.now) p.0) }
 {
     if line.len() > LONGEST_LINE {
         return None;
@@ -201,6 +200,22 @@ pub fn guest_access(line: &[u8], names: &Names) -> Option<(usize, Access)>
     let guest = guest_named(first, names)?;
     let access = guest_access_form(text)?;
     Some((guest, access))
+}
+
+/// What a line means, which is given without its line feed. Of several guests of one name the first is
+/// meant. Most lines ask an access of a guest, which is seen at once: that is faster than to tell it among
+/// all meanings.
+#[inline(always)]
+pub fn line_meaning(line: &[u8], names: &Names) -> What
+    ensures meaning { meaning_of (texts names.now) result ≡ meaning (texts names.now) line.now }
+    ensures guests { GuestsAre (λ g. g < length names.now.items) result }
+    ensures first { GuestsAre (IsFirst (texts names.now)) result }
+    ensures refusable { IsRefusable result }
+{
+    match guest_access(line, names) {
+        Some((guest, access)) => What::Guest(guest, access),
+        None => any_meaning(line, names),
+    }
 }
 
 /// Reads a line, which is given without its line feed. Of several guests of one name the first is

@@ -8,13 +8,13 @@ ghost use Rattle.accesses.specs.Replies.{IsShown};
 ghost use Rattle.lines.specs.Lines.{who_of, GuestIs};
 ghost use Rattle.script.specs.Pieces.{IsBefore};
 
-use lines::{LineText, What, Who, guest_access, line_meaning, push_line};
+use lines::{LineText, What, Who, line_meaning, push_line};
 use monitor::{Monitor, Reply};
 
-/// Runs the event of a line of any kind, and gives under whose name it is answered and with what, if the
-/// line makes output.
-#[inline(never)]
-fn other_reply(monitor: &mut Monitor, line: &[u8]) -> Option<(Who, Reply)>
+/// Runs the event of a line, and gives under whose name it is answered and with what, if the line makes
+/// output.
+#[inline(always)]
+fn reply_to(monitor: &mut Monitor, line: &[u8]) -> Option<(Who, Reply)>
     ensures text { MatchOption result (line_output monitor.old line.now ≡ []) (λ a.
         line_output monitor.old line.now ≡ line_text (who_of (names_now monitor.new) a.0) (reply_of a.1) ++ 10 ∷ []) }
     ensures after { monitor.new ≡ after_line monitor.old line.now }
@@ -41,23 +41,6 @@ fn other_reply(monitor: &mut Monitor, line: &[u8]) -> Option<(Who, Reply)>
         }
         What::Bad(who, number) => Some((who, Reply::Refused(number))),
     }
-}
-
-/// The same, where an access of a guest is seen at once: most lines are one, and this is faster than to
-/// tell its meaning among all others.
-#[inline(always)]
-fn reply_to(monitor: &mut Monitor, line: &[u8]) -> Option<(Who, Reply)>
-    ensures text { MatchOption result (line_output monitor.old line.now ≡ []) (λ a.
-        line_output monitor.old line.now ≡ line_text (who_of (names_now monitor.new) a.0) (reply_of a.1) ++ 10 ∷ []) }
-    ensures after { monitor.new ≡ after_line monitor.old line.now }
-    ensures who { IfSome result (λ a. GuestIs (λ g. g < length (names_now monitor.new)) a.0) }
-    ensures shown { IfSome result (λ a. IsShown a.1) }
-{
-    if let Some((guest, access)) = guest_access(line, monitor.names()) {
-        let reply = monitor.step(guest, access);
-        return Some((Who::Guest(guest), reply));
-    }
-    other_reply(monitor, line)
 }
 
 /// Runs the event of a line, and writes what the line writes into an empty text: nothing, or one line with

@@ -3,7 +3,7 @@ use Rattle.model_guests.specs.Lines.{meaning_of_words}
 use Rattle.lines.specs.Lines.{texts}
 use Rattle.lines.proofs.NameLemmas.{meaning-long, meaning-short}
 use Rattle.lines.proofs.Refusals.{RefusalHasWords, refusal_has_words, is_refusable}
-use Rattle.lines.proofs.line.line_meaning.Goals as goal
+use Rattle.lines.proofs.line.any_meaning.Goals as goal
 
 pub returns-then-line-gt-LONGEST_LINE-clause-meaning : goal.returns-then-line-gt-LONGEST_LINE-clause-meaning
 returns-then-line-gt-LONGEST_LINE-clause-meaning c =
