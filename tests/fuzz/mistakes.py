@@ -90,7 +90,8 @@ def in_some_order(rng, text):
 
 
 def lines_of_keys(lines):
-    """Where each key of a table with a header stands: of a list's tables by their index."""
+    """The line of each key of a table with a header, or None of one without a value: of a list's tables by
+    their index."""
     where, table, counts = {}, ("", 0), {}
     for number, line in enumerate(lines, 1):
         if line.startswith("["):
@@ -98,16 +99,17 @@ def lines_of_keys(lines):
             table = (name, counts.get(name, 0))
             counts[name] = table[1] + 1
         elif " = " in line:
-            where[*table, line.split(" = ")[0]] = number
+            where[*table, line.split(" = ")[0]] = None if line.endswith(" = []") else number
     return where
 
 
 def allowed_lines(where, problem):
     """The lines that may be told: of a key that is missing those of its table, and of the file none."""
-    number = where.get((*problem.table, problem.outer))
-    if number:
-        return {number}
-    return {line for (name, index, _), line in where.items() if name and (name, index) == problem.table} or {None}
+    key = (*problem.table, problem.outer)
+    if key in where:
+        return {where[key]}
+    lines = {line for (name, index, _), line in where.items() if name and line and (name, index) == problem.table}
+    return lines or {None}
 
 
 def differs(lines, told, problems):

@@ -16,8 +16,8 @@ CHOICES = {("bar", "kind"): {"io", "mem32", "mem32p", "mem64", "mem64p"}, ("brid
 TEXTS = {"at", "name", "reset", "rw", "w1c"}
 RANGES = {"vendor": 0xFFFE, "device": 0xFFFF, "revision": 0xFF, "class": 0xFFFFFF, "subvendor": 0xFFFF,
           "subsystem": 0xFFFF, "pin": 4, "min_gnt": 0xFF, "max_lat": 0xFF}
-SIZES = {"io": (4, 256), "mem32": (16, 1 << 31), "mem32p": (16, 1 << 31), "mem64": (16, 1 << 62),
-         "mem64p": (16, 1 << 62)}
+SIZES = {"io": (4, 256), "mem32": (16, 1 << 31), "mem32p": (16, 1 << 31), "mem64": (16, 1 << 40),
+         "mem64p": (16, 1 << 40)}
 
 
 @dataclass
