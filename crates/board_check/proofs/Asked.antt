@@ -8,7 +8,7 @@
 use Rattle.std.proofs.Common.{◌≡◌, ℕ, ◌+◌, ◌≤◌, Bool, true, false, cond, not, ◌&&◌, List, [], ◌∷◌, ◌++◌, length, map, drop, String, Global, string_bytes, Some, refl, sym, ap, ◌∙◌, zero-add, append_assoc, append-nil}
 use Rattle.std.specs.List.{range_with_len, filter, flat_map}
 use Rattle.std.specs.Option.{option_map_or}
-use Rattle.std.proofs.lemmas.Bool.{ne_eqb, eq-eqb}
+use Rattle.std.proofs.lemmas.Bool.{and_from, and_right, ne_eqb, eq-eqb}
 use Rattle.std.proofs.lemmas.List.{drop_all, map-append}
 use Rattle.std.proofs.lemmas.List.FromFn.{map-range_with_len_more}
 use Rattle.std.proofs.lemmas.List.Elements.{filter-append}
@@ -61,22 +61,15 @@ unfolding is_wrong
 of_other_fault ms fault f other =
     ap (λ b. b && not (keeps ms f.entry f.rule f.key)) (ne_eqb (number_of (fault_of f.rule)) (number_of fault) other)
 
-and_not : (a b : Bool) → b ≡ true → (a && not b) ≡ false
-and_not true b is = ap not is
-and_not false b is = refl
-
 pub is_kept : (ms : Members) (fault : BoardFault) (f : Found) → keeps ms f.entry f.rule f.key ≡ true → is_wrong ms fault f ≡ false
 unfolding is_wrong
-is_kept ms fault f kept = and_not _ _ kept
-
-and_yes : (a b : Bool) → a ≡ true → b ≡ false → (a && not b) ≡ true
-and_yes true b is isnt = ap not isnt
-and_yes false b is isnt = is
+is_kept ms fault f kept = and_right _ _ (ap not kept)
 
 pub is_broken : (ms : Members) (fault : BoardFault) (f : Found)
     → number_of (fault_of f.rule) ≡ number_of fault → keeps ms f.entry f.rule f.key ≡ false → is_wrong ms fault f ≡ true
 unfolding is_wrong
-is_broken ms fault f same broken = and_yes _ _ (eq-eqb (number_of (fault_of f.rule)) (number_of fault) same) broken
+is_broken ms fault f same broken =
+    and_from _ _ (eq-eqb (number_of (fault_of f.rule)) (number_of fault) same) (ap not broken)
 
 -- ---- what is added to problems
 

@@ -1,9 +1,9 @@
 -- An entry of a file that breaks a rule, as a problem of the file.
-use Rattle.std.proofs.Common.{◌≡◌, ℕ, Bool, true, false, ◌&&◌, ◌==◌, not, List, [], ◌++◌, length, Some, refl, ap, ◌∙◌}
+use Rattle.std.proofs.Common.{◌≡◌, ℕ, true, false, ◌&&◌, List, [], ◌++◌, length, Some, refl, ap, ◌∙◌}
 use Rattle.std.specs.Prelude.{slice_get}
 use Rattle.std.specs.List.{flat_map}
 use Rattle.std.specs.Option.{option_map_or}
-use Rattle.std.proofs.lemmas.Bool.{and_left, and_right, eq-eqb}
+use Rattle.std.proofs.lemmas.Bool.{and_left, and_right}
 use Rattle.toml.specs.Data.{Members}
 use Rattle.model_registers.specs.Lists.{IsIn}
 use Rattle.board_file.specs.Entries.{Bar, Config, Endpoint, Bridge, Guest, File, file}
@@ -16,6 +16,7 @@ use Rattle.board_check.specs.declared.entry.Entry.TheVariants as entry
 use Rattle.board_check.specs.Rules.{fault_of, key_of}
 use Rattle.board_check.specs.Keeping.{keeps, entry_keeps, endpoint_keeps, bar_keeps, config_keeps, bridge_keeps, guest_keeps, slot_keeps, place_keeps}
 use Rattle.board_check.specs.Problems.{Found, entries_of, asked, other_rules, of_fields, of_members, of_rule, of_rules, is_wrong, problems_of}
+use Rattle.board_check.proofs.Asked.{is_broken}
 use Rattle.board_check.proofs.Members.{in_right, in_map, in_flat, in_at, filter_some}
 
 abbrev pub found : Entry → Rule → List ℕ → Found
@@ -31,21 +32,13 @@ pub record Blame (ms : Members) (number : ℕ) : Type 0 where
   pub of_check : number_of (fault_of rule) ≡ number
   pub broken : keeps ms entry rule key ≡ false
 
-same_number : (n m : ℕ) → n ≡ m → (n == m) ≡ true
-same_number n m h = eq-eqb n m h
-
-not_kept : (a b : Bool) → a ≡ true → b ≡ false → (a && not b) ≡ true
-not_kept true false h k = refl
-not_kept true true h k = cc
-not_kept false b h k = cc
-
 pub some_problem : (ms : Members) (fault : BoardFault) → Blame ms (number_of fault) → problems_of ms fault ≡ [] → ⊥
 unfolding is_wrong
 some_problem ms fault b =
     let x = found b.entry b.rule b.key in
     filter_some (is_wrong ms fault) x (flat_map (asked ms) (entries_of (file ms)))
     (in_flat (asked ms) b.entry x (entries_of (file ms)) b.there b.is_asked)
-    (not_kept (number_of (fault_of b.rule) == number_of fault) (keeps ms b.entry b.rule b.key) (same_number (number_of (fault_of b.rule)) (number_of fault) b.of_check) b.broken)
+    (is_broken ms fault x b.of_check b.broken)
 
 -- ---- the rules that are none of keys
 

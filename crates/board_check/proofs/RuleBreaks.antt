@@ -1,10 +1,10 @@
 -- An entry that breaks a rule that is none of keys breaks the file's check of the rule's fault.
-use Rattle.std.proofs.Common.{◌≡◌, ℕ, ◌+◌, Bool, true, false, ◌&&◌, ◌||◌, not, pos, List, map, take, length, nat_le, Option, Some, None, refl, sym, ap, ◌∙◌, inl, inr}
+use Rattle.std.proofs.Common.{◌≡◌, ℕ, ◌+◌, Bool, true, false, ◌&&◌, ◌||◌, not, pos, List, map, take, length, nat_le, Option, Some, None, refl, sym, ap, ◌∙◌}
 use Rattle.std.specs.Prelude.{slice_get, int_le, ◌+ℤ◌, option_map, option_and_then}
 use Rattle.std.specs.List.{list_all}
 use Rattle.std.specs.Option.{option_map_or}
 use Rattle.std.specs.Str.{bytes_eq}
-use Rattle.std.proofs.lemmas.Bool.{and_cases, and_left, and_right}
+use Rattle.std.proofs.lemmas.Bool.{and_left, and_right}
 use Rattle.std.proofs.lemmas.List.Folds.{list_all-append, list_all-map}
 use Rattle.std.proofs.Math.Seq.{take-length}
 use Rattle.model_registers.specs.Lists.{IsIn, all_pairs}
@@ -29,6 +29,7 @@ use Rattle.board_check.specs.Keeping.{are_same_place, is_own_place, is_behind_br
 use Rattle.board_check.proofs.Failures.{fails_at, all_pairs-map}
 use Rattle.board_check.proofs.Members.{in_at}
 use Rattle.board_check.proofs.PairTests.{fails_also, pairs_fail, first_pairs, second_pairs, across_pairs, flat_pairs}
+use Rattle.board_check.proofs.BrokenNumbers.{either_of}
 use Rattle.board_check.proofs.BrokenRegions.{same_apart}
 
 shown : (a b : Bool) → (not a || b) ≡ false → b ≡ false
@@ -98,9 +99,6 @@ module _ (f : File) where
   by_file rule.Guests h = counts_broken (and_left _ _ (and_right _ _ h))
   by_file _ h = cc
 
-  either_part : {R : Type 0} (a b : Bool) → (a && b) ≡ false → (a ≡ false → R) → (b ≡ false → R) → R
-  either_part a b h g k = elim (and_cases a b h) [ inl x ↦ g x | inr x ↦ k x ]
-
   abbrev io : Bool
   io = is_natural f.io
 
@@ -127,13 +125,13 @@ module _ (f : File) where
 
   by_host : (r : Rule) → host_keeps r f ≡ false → IsBrokenBy r
   by_host rule.IoAperture h =
-      either_part io lawful_io h (λ k. natural_broken (and_left (io && mem) pref (and_left io mem k)))
+      either_of io lawful_io h (λ k. natural_broken (and_left (io && mem) pref (and_left io mem k)))
       (λ k. lawful_broken (and_left (lawful_io && lawful_mem) lawful_pref (and_left lawful_io lawful_mem k)))
   by_host rule.MemAperture h =
-      either_part mem lawful_mem h (λ k. natural_broken (and_left (io && mem) pref (and_right io mem k)))
+      either_of mem lawful_mem h (λ k. natural_broken (and_left (io && mem) pref (and_right io mem k)))
       (λ k. lawful_broken (and_left (lawful_io && lawful_mem) lawful_pref (and_right lawful_io lawful_mem k)))
   by_host rule.PrefAperture h =
-      either_part pref (not lawful_mem || lawful_pref) h (λ k. natural_broken (and_right (io && mem) pref k))
+      either_of pref (not lawful_mem || lawful_pref) h (λ k. natural_broken (and_right (io && mem) pref k))
       (λ k. lawful_broken (and_right (lawful_io && lawful_mem) lawful_pref (shown lawful_mem lawful_pref k)))
   by_host _ h = cc
 
@@ -240,11 +238,11 @@ module _ (f : File) where
           (all_pairs-map are_apart_places endpoint_standing f.endpoints
           ∙ pairs_fail (λ d x. not (path_eq (path_at x.at) (path_at d.at))) f.endpoints i e at
           (fails_also (λ d. not (are_same_place d.at e.at)) (λ d. not (path_eq (path_at e.at) (path_at d.at))) (take i f.endpoints) (λ d k. met_later d.at e.at k)
-          (either_part (list_all (λ d. not (are_same_place d.at e.at)) (take i f.endpoints)) true h (λ k. k) (λ k. cc))));
+          (either_of (list_all (λ d. not (are_same_place d.at e.at)) (take i f.endpoints)) true h (λ k. k) (λ k. cc))));
     }
 
     endpoint_breach : (r : Rule) → (endpoint_keeps r e && place_keeps r f i 0 e.at) ≡ false → IsBrokenBy r
-    endpoint_breach r h = either_part (endpoint_keeps r e) (place_keeps r f i 0 e.at) h (by_endpoint r) (by_place i 0 e.at endpoint_stands r)
+    endpoint_breach r h = either_of (endpoint_keeps r e) (place_keeps r f i 0 e.at) h (by_endpoint r) (by_place i 0 e.at endpoint_stands r)
 
   -- ---- bridges
 
@@ -260,7 +258,7 @@ module _ (f : File) where
 
     own_of_bridge : is_own_place f (length f.endpoints) i b.at ≡ false → all_pairs are_apart_places (standings f) ≡ false
     own_of_bridge h =
-        either_part (list_all (λ d. not (are_same_place d.at b.at)) (take (length f.endpoints) f.endpoints)) (list_all (λ c. not (are_same_place c.at b.at)) (take i f.bridges)) h
+        either_of (list_all (λ d. not (are_same_place d.at b.at)) (take (length f.endpoints) f.endpoints)) (list_all (λ c. not (are_same_place c.at b.at)) (take i f.bridges)) h
         (λ k. across_pairs are_apart_places (map endpoint_standing f.endpoints) (map bridge_standing f.bridges)
         (list_all-map (λ t. list_all (λ s. are_apart_places s t) (map endpoint_standing f.endpoints)) bridge_standing f.bridges
         ∙ fails_at (λ c. list_all (λ s. are_apart_places s (bridge_standing c)) (map endpoint_standing f.endpoints)) f.bridges i b at
@@ -283,7 +281,7 @@ module _ (f : File) where
     }
 
     bridge_breach : (r : Rule) → (bridge_keeps r b && place_keeps r f (length f.endpoints) i b.at) ≡ false → IsBrokenBy r
-    bridge_breach r h = either_part (bridge_keeps r b) (place_keeps r f (length f.endpoints) i b.at) h (by_bridge r) (by_place (length f.endpoints) i b.at bridge_stands r)
+    bridge_breach r h = either_of (bridge_keeps r b) (place_keeps r f (length f.endpoints) i b.at) h (by_bridge r) (by_place (length f.endpoints) i b.at bridge_stands r)
 
   -- ---- guests
 
@@ -314,7 +312,7 @@ module _ (f : File) where
         slots_broken (and_right all_endpoints all_own
         (all_pairs-map (λ p q. not (path_eq p q)) path_at (slots f)
         ∙ flat_pairs (λ s u. not (path_eq (path_at s) (path_at u))) (λ k. k.slots) f.guests i g j t at inner
-        (either_part (list_all (λ k. list_all (λ s. not (are_same_place s t)) k.slots) (take i f.guests)) (list_all (λ s. not (are_same_place s t)) (take j g.slots)) h
+        (either_of (list_all (λ k. list_all (λ s. not (are_same_place s t)) k.slots) (take i f.guests)) (list_all (λ s. not (are_same_place s t)) (take j g.slots)) h
         (λ k. and_left (list_all (λ x. list_all (λ s. not (path_eq (path_at s) (path_at t))) x.slots) (take i f.guests)) (list_all (λ s. not (path_eq (path_at s) (path_at t))) (take j g.slots))
         (fails_also (λ x. list_all (λ s. not (are_same_place s t)) x.slots) (λ x. list_all (λ s. not (path_eq (path_at s) (path_at t))) x.slots) (take i f.guests) (λ x n. in_slots t x.slots n) k))
         (λ k. and_right (list_all (λ x. list_all (λ s. not (path_eq (path_at s) (path_at t))) x.slots) (take i f.guests)) (list_all (λ s. not (path_eq (path_at s) (path_at t))) (take j g.slots)) (in_slots t (take j g.slots) k)))))

@@ -1,6 +1,6 @@
 -- Which entries of a board file keep which rules.
 --     keeps ms entry rule key      the entry keeps the rule, or isn't asked to, or isn't there
-use Rattle.std.specs.Prelude.{ℕ, ◌+◌, nat_abs, pos, int_le, ◌+ℤ◌, Bool, true, false, not, ◌&&◌, ◌||◌, length, nat_le, take, map, slice_get, List, Option, option_map, option_and_then}
+use Rattle.std.specs.Prelude.{ℕ, ◌+◌, nat_abs, pos, int_le, ◌+ℤ◌, Bool, true, not, ◌&&◌, ◌||◌, length, nat_le, take, map, slice_get, List, Option, option_map, option_and_then}
 use Rattle.std.specs.List.{list_all}
 use Rattle.std.specs.Option.{option_map_or}
 use Rattle.std.specs.Str.{bytes_eq}

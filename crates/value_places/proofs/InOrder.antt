@@ -1,13 +1,9 @@
 -- Places that follow each other, and the text with their marks.
-use Rattle.std.proofs.Common.{◌≡◌, ◌≤◌, ◌<◌, ℕ, suc, ◌+◌, ◌-◌, Bool, true, false, ◌&&◌, List, [], ◌∷◌, ◌++◌, length, get_or, drop, take, refl, ap, ◌∙◌, append_assoc, arith}
-use Rattle.std.proofs.lemmas.Bool.{leb-true}
+use Rattle.std.proofs.Common.{◌≡◌, ◌≤◌, ◌<◌, ℕ, suc, ◌+◌, ◌-◌, true, List, [], ◌∷◌, ◌++◌, length, get_or, drop, take, ap, ◌∙◌, append_assoc, arith}
+use Rattle.std.proofs.lemmas.Bool.{and_parts, leb-true}
 use Rattle.std.proofs.Math.Seq.{drop-cons}
 use Rattle.value_places.specs.declared.scanning.Extent.{Extent}
 use Rattle.value_places.specs.Marks.{mark, quoted, are_in_order, with_marks}
-
-both : (a b : Bool) → (a && b) ≡ true → (a ≡ true) × (b ≡ true)
-both true b h = (refl, h)
-both false b h = absurd (cc)
 
 pub record Front (from len : ℕ) (e : Extent) (es : List Extent) : Type 0 where
   pub begins : from ≤ e.start
@@ -16,8 +12,8 @@ pub record Front (from len : ℕ) (e : Extent) (es : List Extent) : Type 0 where
 
 pub front : (from len : ℕ) (e : Extent) (es : List Extent) → are_in_order from len (e ∷ es) ≡ true → Front from len e es
 front from len e es h =
-    let one = both _ _ h in
-    let two = both _ _ one.0 in
+    let one = and_parts _ _ h in
+    let two = and_parts _ _ one.0 in
     record { begins = leb-true from e.start two.0; goes_on = leb-true _ e.end two.1; rest = one.1 }
 
 pub within : (from len : ℕ) (es : List Extent) → are_in_order from len es ≡ true → from ≤ len
