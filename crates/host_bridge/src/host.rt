@@ -13,6 +13,7 @@ ghost use Rattle.bridge_forward.specs.Lending.{endpoint_at, with_endpoint_reset}
 ghost use Rattle.bridge_forward.specs.Locating.{located_claim};
 ghost use Rattle.host_bridge.specs.BusAddresses.{bus_address_of};
 ghost use Rattle.host_bridge.specs.HostState.{with_functions, with_latch};
+ghost use Rattle.host_bridge.specs.Landings.{IsLanding};
 
 use crate::bdf::Bdf;
 use crate::latch::{Latch, Target};
@@ -165,18 +166,15 @@ impl Host {
         self.root.reset_endpoint(path);
     }
 
-    /// What `width` bytes at the claim of an address read.
-    fn read_claimed<R: Route>(&mut self, route: &R, space: Space, addr: u64, width: u64) -> u32
-        requires fits { R.fits route.now self.old }
+    /// What 1, 2 or 4 bytes read where an address lands. Who knows the claim needs no route.
+    #[inline(always)]
+    pub fn region_read(&mut self, from: Located, width: u64) -> u32
+        requires landing { IsLanding self.old.state.functions from width }
         requires width { IsWidth width }
-        requires aligned { addr % width ≡ 0 }
         ensures value { let fs = self.old.state.functions in
-            result ≡ claim_reply fs width (first_claim fs (named_space space) addr) }
+            result ≡ claim_reply fs width (located_claim fs (Some from)) }
         ensures after { self.new ≡ self.old }
     {
-        let Some(from) = route.located(self, space, addr) else {
-            return all_ones(width);
-        };
         let Located {
             index,
             region,
@@ -186,6 +184,43 @@ impl Host {
         match self.root.endpoint_nth(index) {
             Some(endpoint) => lowered(offset, endpoint.read(region, offset / 4 * 4, enables)),
             None => unreachable!(),
+        }
+    }
+
+    /// Writes the low 1, 2 or 4 bytes of a value where an address lands.
+    #[inline(always)]
+    pub fn region_write(&mut self, to: Located, width: u64, value: u32)
+        requires landing { IsLanding self.old.state.functions to width }
+        requires width { IsWidth width }
+        ensures { let fs = self.old.state.functions in
+            let claim = located_claim fs (Some to) in
+            self.new ≡ with_functions (after_claim_write fs width value claim) self.old }
+    {
+        let Located {
+            index,
+            region,
+            offset,
+        } = to;
+        let enables = enables_of(offset, width);
+        let data = into_lanes(offset, value);
+        match self.root.endpoint_nth(index) {
+            Some(endpoint) => endpoint.write(region, offset / 4 * 4, enables, data),
+            None => unreachable!(),
+        }
+    }
+
+    /// What `width` bytes at the claim of an address read.
+    fn read_claimed<R: Route>(&mut self, route: &R, space: Space, addr: u64, width: u64) -> u32
+        requires fits { R.fits route.now self.old }
+        requires width { IsWidth width }
+        requires aligned { addr % width ≡ 0 }
+        ensures value { let fs = self.old.state.functions in
+            result ≡ claim_reply fs width (first_claim fs (named_space space) addr) }
+        ensures after { self.new ≡ self.old }
+    {
+        match route.located(self, space, addr) {
+            Some(from) => self.region_read(from, width),
+            None => all_ones(width),
         }
     }
 
@@ -205,19 +240,9 @@ impl Host {
             let claim = first_claim fs (named_space space) addr in
             self.new ≡ with_functions (after_claim_write fs width value claim) self.old }
     {
-        let Some(to) = route.located(self, space, addr) else {
-            return;
-        };
-        let Located {
-            index,
-            region,
-            offset,
-        } = to;
-        let enables = enables_of(offset, width);
-        let data = into_lanes(offset, value);
-        match self.root.endpoint_nth(index) {
-            Some(endpoint) => endpoint.write(region, offset / 4 * 4, enables, data),
-            None => unreachable!(),
+        match route.located(self, space, addr) {
+            Some(to) => self.region_write(to, width, value),
+            None => {}
         }
     }
 

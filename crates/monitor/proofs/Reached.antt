@@ -1,21 +1,20 @@
 -- A guest's address on the board: where it lands, the claim there, and what is read and written.
-use Rattle.std.proofs.Common.{◌≡◌, ℕ, suc, ◌+◌, ◌%◌, ◌<◌, ◌^◌, Bool, true, false, ◌&&◌, inl, inr, List, [], ◌∷◌, Some, None, Option, slice_get, refl, sym, ap, ap₂, ◌∙◌, subst, arith}
-use Rattle.std.specs.Prelude.{find, map, IsTrue, not}
+use Rattle.std.proofs.Common.{◌≡◌, ℕ, ◌+◌, ◌%◌, Bool, true, false, ◌&&◌, inl, inr, List, [], ◌∷◌, Some, Option, slice_get, refl, sym, ap, ap₂, ◌∙◌, subst, arith}
+use Rattle.std.specs.Prelude.{find, map, IsTrue, not, option_map}
 use Rattle.std.specs.Option.{option_map_or}
-use Rattle.model_registers.specs.Lists.{IsIn, Each, EachPair}
+use Rattle.std.proofs.lemmas.Option.{slice_get_within}
+use Rattle.model_registers.specs.Lists.{Each, EachPair}
 use Rattle.model_registers.specs.Registers.{Place, block, File, read, all_bytes, number}
 use Rattle.model_registers.specs.ByteEnables.{IsWidth}
-use Rattle.model_registers.specs.EndpointTable.{BaseAddress}
 use Rattle.model_registers.specs.OwnCopies.{handed_on}
-use Rattle.model_registers.specs.Decoding.{Space, io, memory}
+use Rattle.model_registers.specs.Decoding.{Space}
 use Rattle.model_board.specs.Paths.{Path, path_eq, path_before}
 use Rattle.model_board.specs.Board.{endpoint, Row, Board, IsBoard}
 use Rattle.model_board.specs.State.{BoardFunction}
-use Rattle.model_board.specs.Claims.{first_claim}
+use Rattle.model_board.specs.Claims.{claim_at}
 use Rattle.model_board.specs.Reach.{row_at}
-use Rattle.model_board.specs.Ports.{claim_reply, port_target}
+use Rattle.model_board.specs.Ports.{claim_reply}
 use Rattle.model_board.specs.SetUp.{first_of, set_up_file}
-use Rattle.model_board.specs.SetUpWrites.{placed_base}
 use Rattle.model_registers.specs.CopiedFiles.{agreed_file, places_of}
 use Rattle.model_guests.specs.Slots.{slot_at}
 use Rattle.model_guests.specs.WorldNow.{WorldNow, board_state}
@@ -27,42 +26,18 @@ use Rattle.model_guests.proofs.Seats.{seats_at}
 use Rattle.model_guests.proofs.KeptNumbers.{keeps_numbers, shows_file}
 use Rattle.model_guests.proofs.RegionReach.{hit_reaches_region}
 use Rattle.bars.specs.Hits.{hit_in}
-use Rattle.bars.specs.Slots as bars
-use Rattle.bars.specs.declared.region.Region as program
+use Rattle.bridge_forward.specs.declared.bus.Located.{Located}
+use Rattle.bridge_forward.specs.Locating.{located_claim}
 use Rattle.host_bridge.specs.HostState.{HostState}
+use Rattle.host_bridge.specs.Landings.{IsLanding}
 use Rattle.host_bridge.proofs.Lent.{HasDistinctPaths, distinct_paths}
 use Rattle.host_bridge.proofs.ByIndex.{found_at}
 use Rattle.monitor.specs.declared.guest.Held.{Held}
 use Rattle.monitor.specs.declared.guest.Guest.{Guest}
 use Rattle.monitor.specs.Keeping.{IsKept}
-use Rattle.monitor.specs.Reaches.{LandsIn, IsOnBoard, IsOrdinary}
+use Rattle.monitor.specs.Reaches.{LandsIn}
 use Rattle.monitor.proofs.Shown.{board_there, file_named, same_as_left}
 use Rattle.monitor.proofs.Steps.{SlotOf, slot_there, GuestOf, named}
-
--- ---- a region in the six registers
-
-pub record PlacedAt (slots : List (Option program.Region)) (n : ℕ) (x : BaseAddress) : Type 0 where
-  pub k : ℕ
-  pub region : program.Region
-  pub there : bars.slot_at slots k ≡ Some region
-  pub is : x ≡ bars.placed (n + k) region
-
-placed_at : (slots : List (Option program.Region)) (n : ℕ) (x : BaseAddress) → IsIn x (bars.bases_from n slots) → PlacedAt slots n x
-placed_at [] n x h = absurd h
-placed_at (None ∷ slots) n x h =
-    let more = placed_at slots (n + 1) x h in
-    let next : n + 1 + more.k ≡ n + suc more.k = omega arith in
-    record { k = suc more.k; region = more.region; there = more.there; is = more.is ∙ ap (λ (m : ℕ). bars.placed m more.region) next }
-placed_at (Some r ∷ slots) n x (inl h) = let here : n ≡ n + 0 = omega arith in record { k = 0; region = r; there = refl; is = h ∙ ap (λ (m : ℕ). bars.placed m r) here }
-placed_at (Some r ∷ slots) n x (inr h) =
-    let more = placed_at slots (n + 1) x h in
-    let next : n + 1 + more.k ≡ n + suc more.k = omega arith in
-    record { k = suc more.k; region = more.region; there = more.there; is = more.is ∙ ap (λ (m : ℕ). bars.placed m more.region) next }
-
-mapped_in : {A B : Type 0} (f : A → B) (x : A) (xs : List A) → IsIn x xs → IsIn (f x) (map f xs)
-mapped_in f x [] h = absurd h
-mapped_in f x (y ∷ ys) (inl h) = inl (ap f h)
-mapped_in f x (y ∷ ys) (inr h) = inr (mapped_in f x ys h)
 
 -- ---- paths of the board
 
@@ -151,39 +126,22 @@ module _ (w : WorldNow) (h : HostState) (names : List (List ℕ)) (gs : List Gue
         hit_reaches_region w.board w.apertures kept.placeable w.guests kept.seated slot.p slot.f (seat l.0 lands.held slot) space addr (hit_in l.1 l.2)
         (sym (lands.decodes slot.f slot.held.own slot.held.regions))
 
-    pub region_at : PlacedAt lands.held.placed 0 (placed_base w.board w.apertures slot.p reach.region)
-    region_at =
-        placed_at lands.held.placed 0 (placed_base w.board w.apertures slot.p reach.region)
-        (subst (IsIn (placed_base w.board w.apertures slot.p reach.region)) (sym slot.held.placed) (mapped_in (placed_base w.board w.apertures slot.p) reach.region slot.f.decl.regions reach.declared))
+    -- where the byte stands on the board
+    abbrev pub address : ℕ
+    address = first_of w.board w.apertures slot.p reach.region + l.2
 
-    pub base_is : region_at.region.base ≡ first_of w.board w.apertures slot.p reach.region
-    base_is = ap (λ (x : BaseAddress). x.base) (sym region_at.is)
+    -- the function by its index
+    abbrev pub landed : Located
+    landed = record { index = lands.held.index; region = l.1; offset = l.2 }
 
-    pub register_is : region_at.k ≡ l.1
-    register_is = let e : reach.region.index ≡ 0 + region_at.k = ap (λ (x : BaseAddress). x.index) region_at.is in let f : l.1 ≡ reach.region.index = reach.hit.index in omega arith
+    pub claim_by_index : located_claim functions (Some landed) ≡ Some (record { path = slot.p; index = l.1; offset = l.2 })
+    claim_by_index = ap (option_map (λ (f : BoardFunction). claim_at f.path (hit_in l.1 l.2))) (board_row l.0 lands.held slot)
 
-    pub ends : (s : Space) → space ≡ s → first_of w.board w.apertures slot.p reach.region + l.2 < 2 ^ 64
-    ends io e = let low = reach.within.io_ends (reach.hit.space_is ∙ e) in let inside = reach.hit.inside in omega arith
-    ends memory e = let low = reach.within.memory_ends (reach.hit.space_is ∙ e) in let inside = reach.hit.inside in omega arith
-
-    abbrev pub stands_on_board : IsOnBoard g.slots.items l
-    stands_on_board = record {
-      held = lands.held;
-      there = lands.there;
-      region = region_at.region;
-      placed = ap (bars.slot_at lands.held.placed) (sym register_is) ∙ region_at.there;
-      fits = let e = base_is in let k = ends space refl in subst (λ (n : ℕ). n + l.2 < 2 ^ 64) (sym e) k;
+    pub is_landing : (width : ℕ) → IsWidth width → addr % width ≡ 0 → IsLanding functions landed width
+    is_landing width wide whole = record {
+      space = space;
+      address = address;
+      aligned = same_lanes addr address width wide reach.lanes whole;
+      claim = claim_by_index ∙ sym reach.claimed;
+      within = slice_get_within functions lands.held.index (on_board l.0 lands.held slot) (board_row l.0 lands.held slot);
     }
-
-    pub claimed : (n : ℕ) → n ≡ region_at.region.base + l.2 → first_claim functions space n ≡ Some (record { path = slot.p; index = l.1; offset = l.2 })
-    claimed n is = ap (first_claim functions space) (is ∙ ap (λ (m : ℕ). m + l.2) base_is) ∙ reach.claimed
-
-    pub aligned : (n width : ℕ) → n ≡ region_at.region.base + l.2 → IsWidth width → addr % width ≡ 0 → n % width ≡ 0
-    aligned n width is wide whole = same_lanes addr n width wide (ap (λ (m : ℕ). m % 4) (is ∙ ap (λ (m : ℕ). m + l.2) base_is) ∙ reach.lanes) whole
-
-    pub ordinary_there : (latch n width : ℕ) → n ≡ region_at.region.base + l.2 → IsOrdinary latch space n width
-    ordinary_there latch n width is = λ port.
-        let low = reach.within.io_ends (reach.hit.space_is ∙ port) in
-        let inside = reach.hit.inside in
-        let e = is ∙ ap (λ (m : ℕ). m + l.2) base_is in
-        (omega arith, ap (λ (m : ℕ). port_target latch m width) e ∙ reach.ordinary_port port latch width)

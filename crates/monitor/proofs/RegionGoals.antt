@@ -1,30 +1,34 @@
 -- The same as code holds it: the fields of an engine, the guest at an index and its slots.
-use Rattle.std.proofs.Common.{◌≡◌, ℕ, ◌+◌, ◌%◌, List, [], Some, None, Option, slice_get, refl, sym, ap, ◌∙◌, subst}
+use Rattle.std.proofs.Common.{◌≡◌, ℕ, ◌%◌, List, [], Some, None, Option, slice_get, refl, sym, ap, ◌∙◌, subst}
 use Rattle.std.specs.Prelude.{option_map}
 use Rattle.model_registers.specs.ByteEnables.{IsWidth}
 use Rattle.model_registers.specs.Decoding.{Space}
 use Rattle.model_board.specs.Paths.{Path}
 use Rattle.model_board.specs.Board.{Board}
 use Rattle.model_board.specs.Pools.{Apertures}
-use Rattle.model_board.specs.Claims.{first_claim}
+use Rattle.model_board.specs.Claims.{Claim}
 use Rattle.model_board.specs.Ports.{claim_reply, after_claim_write}
 use Rattle.model_board.specs.Routing.{routing}
 use Rattle.model_guests.specs.Accesses.{Reply, answered, Op, reads, writes}
 use Rattle.model_guests.specs.Slots.{Slots, landing_from, perform}
 use Rattle.model_guests.specs.Lone.{at_target, reply_at, after_access_at}
 use Rattle.model_guests.specs.WorldNow.{WorldNow}
+use Rattle.bridge_forward.specs.declared.bus.Located.{Located}
+use Rattle.bridge_forward.specs.Locating.{located_claim}
 use Rattle.host_bridge.specs.HostState.{HostState, with_functions}
+use Rattle.host_bridge.specs.Landings.{IsLanding}
 use Rattle.monitor.specs.declared.guest.Held.{Held}
 use Rattle.monitor.specs.declared.guest.Guest.{Guest}
 use Rattle.monitor.specs.Views.{world_shown}
+use Rattle.monitor.specs.Configs.{IsHolding}
 use Rattle.monitor.specs.Keeping.{AreSlots, IsKept, IsSound}
 use Rattle.monitor.specs.ByIndex.{lone_nth, with_lone_nth}
 use Rattle.monitor.specs.Landings.{landing_of}
-use Rattle.monitor.specs.Reaches.{LandsIn, IsOnBoard, IsOrdinary, target_in}
+use Rattle.monitor.specs.Reaches.{LandsIn, target_in}
 use Rattle.monitor.proofs.Shown.{is_shown, is_sound}
 use Rattle.monitor.proofs.Steps.{GuestOf, guest_there}
-use Rattle.monitor.proofs.Reached.{stands_on_board, region_at, aligned, ordinary_there}
-use Rattle.monitor.proofs.RegionSteps.{nothing_there, nothing_done, region_read, region_written, region_world, region_world_is, same_routing, with_same}
+use Rattle.monitor.proofs.Reached.{landed}
+use Rattle.monitor.proofs.RegionSteps.{nothing_there, nothing_done, landing_here, region_read, region_written, region_world, region_world_is, same_routing, with_same}
 
 -- what `landing` says of slots
 abbrev pub Lands : List (Option Held) → Space → ℕ → Option (ℕ × ℕ × ℕ) → Type 0
@@ -55,36 +59,38 @@ module _ (h : HostState) (names : List (List ℕ)) (gs : List Guest) (sound : Is
       lands_here : LandsIn g.slots.items space addr l
       lands_here = subst (λ (os : List (Option Held)). LandsIn os space addr l) same lands_in
 
-      pub stands : (others : List (Option Held)) → others ≡ g.slots.items → IsOnBoard others l
-      stands others is = subst (λ (os : List (Option Held)). IsOnBoard os l) (sym is) (stands_on_board shown_world h names gs sound i g guest_at space addr l lands_here)
+      pub holds_there : (others : List (Option Held)) → others ≡ g.slots.items → IsHolding others l.0
+      holds_there others is = subst (λ (os : List (Option Held)). IsHolding os l.0) (sym is) (record { held = lands_here.held; there = lands_here.there })
 
-      -- the address that code finds
-      module _ (others : List (Option Held)) (is : others ≡ g.slots.items) (n : ℕ) (found : (on : IsOnBoard others l) → n ≡ on.region.base + l.2) where
-        found_here : (on : IsOnBoard g.slots.items l) → n ≡ on.region.base + l.2
-        found_here = subst (λ (os : List (Option Held)). (on : IsOnBoard os l) → n ≡ on.region.base + l.2) is found
+      -- what code finds
+      module _ (others : List (Option Held)) (is : others ≡ g.slots.items) (r : Located) (found : (holds : IsHolding others l.0) → r ≡ record { index = holds.held.index; region = l.1; offset = l.2 }) where
+        found_here : r ≡ landed shown_world h names gs sound i g guest_at space addr l lands_here
+        found_here =
+            subst (λ (os : List (Option Held)). (holds : IsHolding os l.0) → r ≡ record { index = holds.held.index; region = l.1; offset = l.2 }) is found
+            (record { held = lands_here.held; there = lands_here.there })
 
-        address_is : n ≡ (region_at shown_world h names gs sound i g guest_at space addr l lands_here).region.base + l.2
-        address_is = found_here (stands_on_board shown_world h names gs sound i g guest_at space addr l lands_here)
+        module _ (width : ℕ) (landed_there : Lands slots space addr (Some l)) where
+          pub landing_at : (now_host : HostState) → now_host ≡ h → IsWidth width → addr % width ≡ 0 → IsLanding now_host.state.functions r width
+          landing_at k same_host wide whole =
+              subst (λ (x : HostState). IsLanding x.state.functions r width) (sym same_host)
+              (subst (λ (x : Located). IsLanding h.state.functions x width) (sym found_here)
+              (landing_here shown_world h names gs sound i g guest_at space addr l lands_here (lands_at (Some l) landed_there) width wide whole))
 
-        pub aligned_here : (width : ℕ) → IsWidth width → addr % width ≡ 0 → n % width ≡ 0
-        aligned_here width wide whole = aligned shown_world h names gs sound i g guest_at space addr l lands_here n width address_is wide whole
+          claim_here : located_claim h.state.functions (Some r) ≡ located_claim h.state.functions (Some (landed shown_world h names gs sound i g guest_at space addr l lands_here))
+          claim_here = ap (λ (x : Located). located_claim h.state.functions (Some x)) found_here
 
-        pub ordinary_here : (latch width : ℕ) → IsOrdinary latch space n width
-        ordinary_here latch width = ordinary_there shown_world h names gs sound i g guest_at space addr l lands_here latch n width address_is
-
-        module _ (width : ℕ) (landed : Lands slots space addr (Some l)) where
-          pub reply_read : (value : ℕ) → value ≡ claim_reply h.state.functions width (first_claim h.state.functions space n) → answered value width ≡ reply_at (lone_nth now i) reads width (at_target (target_in space addr))
+          pub reply_read : (value : ℕ) → value ≡ claim_reply h.state.functions width (located_claim h.state.functions (Some r)) → answered value width ≡ reply_at (lone_nth now i) reads width (at_target (target_in space addr))
           reply_read value reads_it =
-              region_read shown_world h names gs sound i g guest_at space addr l lands_here (lands_at (Some l) landed) n width value address_is reads_it
+              region_read shown_world h names gs sound i g guest_at space addr l lands_here (lands_at (Some l) landed_there) width value (reads_it ∙ ap (claim_reply h.state.functions width) claim_here)
               ∙ ap (λ (v : WorldNow). reply_at (lone_nth v i) reads width (at_target (target_in space addr))) view
 
           pub after_read : (new : HostState) → new ≡ h → world_shown new names gs ≡ with_lone_nth i (lone_nth now i) now
           after_read new is_same =
               ap (λ (k : HostState). world_shown k names gs) is_same ∙ sym (with_same shown_world h names gs sound i g guest_at) ∙ ap (λ (v : WorldNow). with_lone_nth i (lone_nth v i) v) view
 
-          module _ (v : ℕ) (new : HostState) (written : new ≡ with_functions (after_claim_write h.state.functions width v (first_claim h.state.functions space n)) h) where
-            kept_now : IsKept (region_world shown_world h names gs sound i g guest_at space addr l lands_here (lands_at (Some l) landed) n width v) new names gs
-            kept_now = region_written shown_world h names gs sound i g guest_at space addr l lands_here (lands_at (Some l) landed) n width v address_is there new written
+          module _ (v : ℕ) (new : HostState) (written : new ≡ with_functions (after_claim_write h.state.functions width v (located_claim h.state.functions (Some r))) h) where
+            kept_now : IsKept (region_world shown_world h names gs sound i g guest_at space addr l lands_here (lands_at (Some l) landed_there) width v) new names gs
+            kept_now = region_written shown_world h names gs sound i g guest_at space addr l lands_here (lands_at (Some l) landed_there) width v there new (written ∙ ap (λ (c : Option Claim). with_functions (after_claim_write h.state.functions width v c) h) claim_here)
 
             pub sound_written : IsSound new names gs
             sound_written = is_sound _ new names gs kept_now
@@ -94,5 +100,5 @@ module _ (h : HostState) (names : List (List ℕ)) (gs : List Guest) (sound : Is
 
             pub after_written : world_shown new names gs ≡ with_lone_nth i (after_access_at (lone_nth now i) (writes v) width (at_target (target_in space addr))) now
             after_written =
-                is_shown _ new names gs kept_now ∙ sym (region_world_is shown_world h names gs sound i g guest_at space addr l lands_here (lands_at (Some l) landed) n width v)
+                is_shown _ new names gs kept_now ∙ sym (region_world_is shown_world h names gs sound i g guest_at space addr l lands_here (lands_at (Some l) landed_there) width v)
                 ∙ ap (λ (x : WorldNow). with_lone_nth i (after_access_at (lone_nth x i) (writes v) width (at_target (target_in space addr))) x) view

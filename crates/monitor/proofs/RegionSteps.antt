@@ -1,11 +1,12 @@
 -- A read and a write of the region where a guest's address lands.
-use Rattle.std.proofs.Common.{◌≡◌, ℕ, zero, suc, ◌+◌, ◌/◌, ◌%◌, Bool, true, false, cond, List, [], ◌∷◌, Some, None, Option, slice_get, slice_set, refl, sym, ap, ap₂, ◌∙◌, subst}
+use Rattle.std.proofs.Common.{◌≡◌, ℕ, zero, suc, ◌/◌, ◌%◌, Bool, true, false, cond, List, [], ◌∷◌, Some, None, Option, slice_get, slice_set, refl, sym, ap, ap₂, ◌∙◌, subst}
 use Rattle.std.specs.Option.{option_map_or}
+use Rattle.model_registers.specs.ByteEnables.{IsWidth}
 use Rattle.model_registers.specs.Cell.{Cell, written}
 use Rattle.model_registers.specs.Registers.{Place, place_eq, block, after, Entry, File, changed, write, all_bytes, number}
 use Rattle.model_registers.specs.Decoding.{Space, io, memory, Function}
 use Rattle.model_board.specs.State.{State}
-use Rattle.model_board.specs.Claims.{Claim, first_claim}
+use Rattle.model_board.specs.Claims.{Claim}
 use Rattle.model_board.specs.Ports.{claim_reply, after_claim_write}
 use Rattle.model_board.specs.Routing.{routing}
 use Rattle.model_guests.specs.Accesses.{answered, Op, reads, writes}
@@ -18,14 +19,17 @@ use Rattle.model_guests.specs.ChangeLaws.{ChangesAlike, with_slot_changed}
 use Rattle.model_guests.proofs.AgreedFiles.{writes_alike}
 use Rattle.model_guests.proofs.AgreedBoards.{keeps_routing}
 use Rattle.guest_functions.proofs.HeldCopies.{block_written_held}
+use Rattle.bridge_forward.specs.declared.bus.Located.{Located}
+use Rattle.bridge_forward.specs.Locating.{located_claim}
 use Rattle.host_bridge.specs.HostState.{HostState, with_functions}
+use Rattle.host_bridge.specs.Landings.{IsLanding}
 use Rattle.monitor.specs.declared.guest.Guest.{Guest}
 use Rattle.monitor.specs.Keeping.{IsKept}
 use Rattle.monitor.specs.ByIndex.{lone_nth, with_lone_nth}
 use Rattle.monitor.specs.Landings.{landing_of}
 use Rattle.monitor.specs.Reaches.{LandsIn, target_in}
 use Rattle.monitor.proofs.Steps.{SlotOf, GuestOf, here, with_guest_at, kept_slot}
-use Rattle.monitor.proofs.Reached.{all_handed, block_shown, slot, region_at, claimed}
+use Rattle.monitor.proofs.Reached.{all_handed, block_shown, slot, landed, claim_by_index, is_landing}
 
 -- ---- lists and shapes
 
@@ -97,23 +101,27 @@ module _ (w : WorldNow) (h : HostState) (names : List (List ℕ)) (gs : List Gue
     nothing_done (writes v) width is =
         sym with_same ∙ ap (λ (o : Option Landing). with_lone_nth i (record (lone_nth w i) { slots = effect (writes v) width (lone_nth w i).slots o }) w) (sym (lands_nowhere None is))
 
-    module _ (l : ℕ × ℕ × ℕ) (lands : LandsIn g.slots.items space addr l) (lands_at : Some (landing_of l) ≡ landing_from 0 space addr at.x.lone.slots) (n width : ℕ) where
+    module _ (l : ℕ × ℕ × ℕ) (lands : LandsIn g.slots.items space addr l) (lands_at : Some (landing_of l) ≡ landing_from 0 space addr at.x.lone.slots) (width : ℕ) where
       abbrev place : Place
       place = block l.1 l.2
 
       abbrev of_slot : SlotOf w.board w.apertures at.x.paths at.x.lone.slots l.0 lands.held
       of_slot = slot w h names gs kept i g at space addr l lands
 
-      claim_is : n ≡ (region_at w h names gs kept i g at space addr l lands).region.base + l.2
-          → first_claim h.state.functions space n ≡ Some (record { path = of_slot.p; index = l.1; offset = l.2 })
-      claim_is is = ap (λ (s : State). first_claim s.functions space n) kept.agrees ∙ claimed w h names gs kept i g at space addr l lands n is
+      abbrev at_index : Located
+      at_index = landed w h names gs kept i g at space addr l lands
 
-      pub region_read : (value : ℕ) → n ≡ (region_at w h names gs kept i g at space addr l lands).region.base + l.2
-          → value ≡ claim_reply h.state.functions width (first_claim h.state.functions space n)
+      claim_is : located_claim h.state.functions (Some at_index) ≡ Some (record { path = of_slot.p; index = l.1; offset = l.2 })
+      claim_is = ap (λ (s : State). located_claim s.functions (Some at_index)) kept.agrees ∙ claim_by_index w h names gs kept i g at space addr l lands
+
+      pub landing_here : IsWidth width → addr % width ≡ 0 → IsLanding h.state.functions at_index width
+      landing_here wide whole = subst (λ (s : State). IsLanding s.functions at_index width) (sym kept.agrees) (is_landing w h names gs kept i g at space addr l lands width wide whole)
+
+      pub region_read : (value : ℕ) → value ≡ claim_reply h.state.functions width (located_claim h.state.functions (Some at_index))
           → answered value width ≡ reply_at (lone_nth w i) reads width (at_target (target_in space addr))
-      region_read value is reads_it =
+      region_read value reads_it =
           ap (λ (x : ℕ). answered x width)
-          (reads_it ∙ ap (claim_reply h.state.functions width) (claim_is is) ∙ ap (λ (s : State). claim_reply s.functions width (Some (record { path = of_slot.p; index = l.1; offset = l.2 }))) kept.agrees
+          (reads_it ∙ ap (claim_reply h.state.functions width) claim_is ∙ ap (λ (s : State). claim_reply s.functions width (Some (record { path = of_slot.p; index = l.1; offset = l.2 }))) kept.agrees
           ∙ block_shown w h names gs kept i g at l.0 lands.held of_slot l.1 l.2 width
           ∙ ap (λ (o : Option Function). number (option_map_or (λ (f : Function). f.file) o []) place width) (sym of_slot.function)
           ∙ ap (λ (x : LoneGuest). number (file_at x.slots l.0) place width) (sym lone_is))
@@ -135,12 +143,12 @@ module _ (w : WorldNow) (h : HostState) (names : List (List ℕ)) (gs : List Gue
         alike : ChangesAlike own_change own_change
         alike = subst (λ ons. ChangesAlike own_change (write ons v place)) (all_handed l.1 l.2 (all_bytes width)) (writes_alike (all_bytes width) v place)
 
-        pub region_written : n ≡ (region_at w h names gs kept i g at space addr l lands).region.base + l.2 → slice_get gs i ≡ Some g
-            → (new : HostState) → new ≡ with_functions (after_claim_write h.state.functions width v (first_claim h.state.functions space n)) h → IsKept region_world new names gs
-        region_written is there new is_new =
+        pub region_written : slice_get gs i ≡ Some g
+            → (new : HostState) → new ≡ with_functions (after_claim_write h.state.functions width v (located_claim h.state.functions (Some at_index))) h → IsKept region_world new names gs
+        region_written there new is_new =
             subst (IsKept region_world new names) (set_same gs i g there)
             (kept_slot w h names gs kept i g at l.0 lands.held of_slot own_change own_change alike (written_shape (all_bytes width) v place)
             lands.held.own (block_written_held lands.held.own of_slot.f.file of_slot.held.own (all_bytes width) v l.1 l.2) refl
             g refl (sym (set_same g.slots.items l.0 (Some lands.held) lands.there))
             new (ap (λ (k : HostState). k.apertures) is_new)
-            (ap (λ (k : HostState). k.state) is_new ∙ ap (λ (c : Option Claim). record h.state { functions = after_claim_write h.state.functions width v c }) (claim_is is)))
+            (ap (λ (k : HostState). k.state) is_new ∙ ap (λ (c : Option Claim). record h.state { functions = after_claim_write h.state.functions width v c }) claim_is))

@@ -21,11 +21,10 @@ ghost use Rattle.monitor.specs.Moves.{move_nth};
 ghost use Rattle.monitor.specs.Beginnings.{world_of};
 
 use crate::beginning::{guests_of, names_of};
-use crate::board::{board_address, read_claimed, write_claimed};
 use crate::config::{held_in, number_read, write_guest};
 use crate::cycles::write_enabled;
 use crate::guest::Guest;
-use crate::landing::landing;
+use crate::landing::{landing, located};
 use crate::latch::{is_latch, write_latch};
 use crate::moving::{hand_over, move_fault};
 use crate::raising::{has_place, raise_on_board};
@@ -89,7 +88,10 @@ impl<R: Route> Engine<R> {
     }
 
     /// Reads or writes what an address of a guest stands for. Where it stands for nothing, a read gives all
-    /// ones and a write is dropped.
+    /// ones and a write is dropped. The function is asked at once, since the board would route the address at
+    /// which the byte stands there to the same function; and the access is compiled at its calls apart. Both
+    /// are faster.
+    #[inline(always)]
     fn region_access(&mut self, guest: usize, space: Space, addr: u64, width: u64, op: Op) -> Reply
         requires there { guest < length self.old.guests }
         requires width { IsWidth width }
@@ -105,14 +107,14 @@ impl<R: Route> Engine<R> {
         let Some((slot, region, offset)) = landing(slots, space, addr) else {
             return nothing(op, width);
         };
-        let at = board_address(slots, slot, region, offset);
+        let at = located(slots, slot, region, offset);
         match op {
             Op::Read => {
-                let value = read_claimed(&mut self.host, &self.route, space, at, width);
+                let value = self.host.region_read(at, width);
                 Reply::Value(value, width)
             }
             Op::Write(value) => {
-                write_claimed(&mut self.host, &self.route, space, at, width, value);
+                self.host.region_write(at, width, value);
                 Reply::Done
             }
         }

@@ -5,6 +5,7 @@ ghost use Rattle.model_board.specs.Board.{Board};
 ghost use Rattle.model_board.specs.Pools.{Apertures};
 ghost use Rattle.model_guests.specs.Slots.{Slots, landing_from};
 ghost use Rattle.bars.specs.Kinds.{named_space};
+ghost use Rattle.monitor.specs.Configs.{IsHolding};
 ghost use Rattle.monitor.specs.Keeping.{AreSlots};
 ghost use Rattle.monitor.specs.Landings.{landing_of};
 ghost use Rattle.monitor.specs.Reaches.{LandsIn};
@@ -12,6 +13,7 @@ ghost use Rattle.monitor.specs.Reaches.{LandsIn};
 use crate::config::held_in;
 use crate::guest::Held;
 use bars::Space;
+use host_bridge::Located;
 
 /// The first function, by slot and then by base address register, that decodes an address by the
 /// guest's own registers: its slot, the region and the offset in it.
@@ -28,4 +30,20 @@ pub(crate) fn landing(slots: &[Option<Held>], space: Space, addr: u64) -> Option
         }
     }
     None
+}
+
+/// Where an offset in a region of the function in a slot stands on the board.
+pub(crate) fn located(slots: &[Option<Held>], slot: usize, region: u8, offset: u64) -> Located
+    requires { IsHolding slots.now slot }
+    ensures { (holds : IsHolding slots.now slot) →
+        result ≡ record { index = holds.held.index; region = region; offset = offset } }
+{
+    let Some(held) = &slots[slot] else {
+        unreachable!()
+    };
+    Located {
+        index: held.index,
+        region,
+        offset,
+    }
 }

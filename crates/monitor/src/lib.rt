@@ -15,7 +15,6 @@
 #![tactic(auto)]
 
 mod beginning;
-mod board;
 mod config;
 mod cycles;
 mod engine;

@@ -1,6 +1,5 @@
-use Rattle.std.proofs.Common.{◌≡◌, Some, sym, ap, refl, ◌∙◌}
+use Rattle.std.proofs.Common.{Some, sym, ap, refl, ◌∙◌}
 use Rattle.bars.specs.Kinds.{named_space}
-use Rattle.model_board.specs.Claims.{Claim, first_claim}
 use Rattle.host_bridge.proofs.ByIndex.{claim_stands, claim_by_path}
 use Rattle.host_bridge.proofs.route.Route.located.Goals as goal
 

@@ -9,7 +9,7 @@ use Rattle.monitor.specs.Views.{texts, world_shown}
 use Rattle.monitor.specs.ByIndex.{lone_nth, with_lone_nth}
 use Rattle.monitor.specs.Reaches.{target_in}
 use Rattle.monitor.proofs.Steps.{guests_within}
-use Rattle.monitor.proofs.RegionGoals.{reply_nowhere, after_nowhere, stands, aligned_here, ordinary_here, reply_read, after_read, sound_written, routes_written, after_written}
+use Rattle.monitor.proofs.RegionGoals.{reply_nowhere, after_nowhere, holds_there, landing_at, reply_read, after_read, sound_written, routes_written, after_written}
 use Rattle.monitor.proofs.engine.Engine.region_access.Goals as goal
 
 pub index-requires : goal.index-requires
@@ -40,55 +40,35 @@ returns-in_default-clause-after g c =
     let there : slice_get e.guests.items c.args.guest ≡ Some c.index.result.now = slice_get_read e.guests.items (length e.guests.items) c.args.guest c.index.result.now refl inside c.index.ensures in
     after_nowhere e.host (texts e.names) e.guests.items c.self.invariant.1 c.args.self.now c.self.view_is c.args.guest c.index.result.now there (named_space c.args.space) c.args.addr c.deref.result.now c.deref.ensures.value c.in_default.ensures.landing (op_of c.args.op) c.args.width
 
-pub board_address-at-requires : goal.board_address-at-requires
-board_address-at-requires g c =
+pub located-at-requires : goal.located-at-requires
+located-at-requires g c =
     let e = c.self.inside in
     let w : WorldNow = world_shown e.host (texts e.names) e.guests.items in
     let count : length e.guests.items ≡ length w.guests = guests_within w.board w.apertures (texts e.names) w.guests e.guests.items c.self.invariant.1.guests in
     let same : length w.guests ≡ length c.args.self.now.guests = ap (λ (v : WorldNow). length v.guests) c.self.view_is in
     let inside : c.args.guest < length e.guests.items = omega arith in
     let there : slice_get e.guests.items c.args.guest ≡ Some c.index.result.now = slice_get_read e.guests.items (length e.guests.items) c.args.guest c.index.result.now refl inside c.index.ensures in
-    stands e.host (texts e.names) e.guests.items c.self.invariant.1 c.args.self.now c.self.view_is c.args.guest c.index.result.now there (named_space c.args.space) c.args.addr c.deref.result.now c.deref.ensures.value (c.in-Some.slot, c.in-Some.region, c.in-Some.offset) c.in-Some.ensures.there c.deref-2.result.now c.deref-2.ensures.value
+    holds_there e.host (texts e.names) e.guests.items c.self.invariant.1 c.args.self.now c.self.view_is c.args.guest c.index.result.now there (named_space c.args.space) c.args.addr c.deref.result.now c.deref.ensures.value (c.in-Some.slot, c.in-Some.region, c.in-Some.offset) c.in-Some.ensures.there c.deref-2.result.now c.deref-2.ensures.value
 
-pub read_claimed-value-requires-clause-aligned : goal.read_claimed-value-requires-clause-aligned
-read_claimed-value-requires-clause-aligned g c =
+pub region_read-value-requires-clause-landing : goal.region_read-value-requires-clause-landing
+region_read-value-requires-clause-landing g c =
     let e = c.self.inside in
     let w : WorldNow = world_shown e.host (texts e.names) e.guests.items in
     let count : length e.guests.items ≡ length w.guests = guests_within w.board w.apertures (texts e.names) w.guests e.guests.items c.self.invariant.1.guests in
     let same : length w.guests ≡ length c.args.self.now.guests = ap (λ (v : WorldNow). length v.guests) c.self.view_is in
     let inside : c.args.guest < length e.guests.items = omega arith in
     let there : slice_get e.guests.items c.args.guest ≡ Some c.index.result.now = slice_get_read e.guests.items (length e.guests.items) c.args.guest c.index.result.now refl inside c.index.ensures in
-    aligned_here e.host (texts e.names) e.guests.items c.self.invariant.1 c.args.self.now c.self.view_is c.args.guest c.index.result.now there (named_space c.args.space) c.args.addr c.deref.result.now c.deref.ensures.value (c.in-Some.slot, c.in-Some.region, c.in-Some.offset) c.in-Some.ensures.there c.deref-2.result.now c.deref-2.ensures.value c.board_address-at.result c.board_address-at.ensures c.args.width c.requires.width c.requires.aligned
+    landing_at e.host (texts e.names) e.guests.items c.self.invariant.1 c.args.self.now c.self.view_is c.args.guest c.index.result.now there (named_space c.args.space) c.args.addr c.deref.result.now c.deref.ensures.value (c.in-Some.slot, c.in-Some.region, c.in-Some.offset) c.in-Some.ensures.there c.deref-2.result.now c.deref-2.ensures.value c.located-at.result c.located-at.ensures c.args.width c.in-Some.ensures.landing e.host refl c.requires.width c.requires.aligned
 
-pub read_claimed-value-requires-clause-ordinary : goal.read_claimed-value-requires-clause-ordinary
-read_claimed-value-requires-clause-ordinary g c =
+pub region_write-requires-clause-landing : goal.region_write-requires-clause-landing
+region_write-requires-clause-landing g c =
     let e = c.self.inside in
     let w : WorldNow = world_shown e.host (texts e.names) e.guests.items in
     let count : length e.guests.items ≡ length w.guests = guests_within w.board w.apertures (texts e.names) w.guests e.guests.items c.self.invariant.1.guests in
     let same : length w.guests ≡ length c.args.self.now.guests = ap (λ (v : WorldNow). length v.guests) c.self.view_is in
     let inside : c.args.guest < length e.guests.items = omega arith in
     let there : slice_get e.guests.items c.args.guest ≡ Some c.index.result.now = slice_get_read e.guests.items (length e.guests.items) c.args.guest c.index.result.now refl inside c.index.ensures in
-    ordinary_here e.host (texts e.names) e.guests.items c.self.invariant.1 c.args.self.now c.self.view_is c.args.guest c.index.result.now there (named_space c.args.space) c.args.addr c.deref.result.now c.deref.ensures.value (c.in-Some.slot, c.in-Some.region, c.in-Some.offset) c.in-Some.ensures.there c.deref-2.result.now c.deref-2.ensures.value c.board_address-at.result c.board_address-at.ensures e.host.state.latch c.args.width
-
-pub write_claimed-requires-clause-aligned : goal.write_claimed-requires-clause-aligned
-write_claimed-requires-clause-aligned g c =
-    let e = c.self.inside in
-    let w : WorldNow = world_shown e.host (texts e.names) e.guests.items in
-    let count : length e.guests.items ≡ length w.guests = guests_within w.board w.apertures (texts e.names) w.guests e.guests.items c.self.invariant.1.guests in
-    let same : length w.guests ≡ length c.args.self.now.guests = ap (λ (v : WorldNow). length v.guests) c.self.view_is in
-    let inside : c.args.guest < length e.guests.items = omega arith in
-    let there : slice_get e.guests.items c.args.guest ≡ Some c.index.result.now = slice_get_read e.guests.items (length e.guests.items) c.args.guest c.index.result.now refl inside c.index.ensures in
-    aligned_here e.host (texts e.names) e.guests.items c.self.invariant.1 c.args.self.now c.self.view_is c.args.guest c.index.result.now there (named_space c.args.space) c.args.addr c.deref.result.now c.deref.ensures.value (c.in-Some.slot, c.in-Some.region, c.in-Some.offset) c.in-Some.ensures.there c.deref-2.result.now c.deref-2.ensures.value c.board_address-at.result c.board_address-at.ensures c.args.width c.requires.width c.requires.aligned
-
-pub write_claimed-requires-clause-ordinary : goal.write_claimed-requires-clause-ordinary
-write_claimed-requires-clause-ordinary g c =
-    let e = c.self.inside in
-    let w : WorldNow = world_shown e.host (texts e.names) e.guests.items in
-    let count : length e.guests.items ≡ length w.guests = guests_within w.board w.apertures (texts e.names) w.guests e.guests.items c.self.invariant.1.guests in
-    let same : length w.guests ≡ length c.args.self.now.guests = ap (λ (v : WorldNow). length v.guests) c.self.view_is in
-    let inside : c.args.guest < length e.guests.items = omega arith in
-    let there : slice_get e.guests.items c.args.guest ≡ Some c.index.result.now = slice_get_read e.guests.items (length e.guests.items) c.args.guest c.index.result.now refl inside c.index.ensures in
-    ordinary_here e.host (texts e.names) e.guests.items c.self.invariant.1 c.args.self.now c.self.view_is c.args.guest c.index.result.now there (named_space c.args.space) c.args.addr c.deref.result.now c.deref.ensures.value (c.in-Some.slot, c.in-Some.region, c.in-Some.offset) c.in-Some.ensures.there c.deref-2.result.now c.deref-2.ensures.value c.board_address-at.result c.board_address-at.ensures e.host.state.latch c.args.width
+    landing_at e.host (texts e.names) e.guests.items c.self.invariant.1 c.args.self.now c.self.view_is c.args.guest c.index.result.now there (named_space c.args.space) c.args.addr c.deref.result.now c.deref.ensures.value (c.in-Some.slot, c.in-Some.region, c.in-Some.offset) c.in-Some.ensures.there c.deref-2.result.now c.deref-2.ensures.value c.located-at.result c.located-at.ensures c.args.width c.in-Some.ensures.landing e.host refl c.requires.width c.requires.aligned
 
 pub returns-in-Read-clause-reply : goal.returns-in-Read-clause-reply
 returns-in-Read-clause-reply g c =
@@ -98,7 +78,7 @@ returns-in-Read-clause-reply g c =
     let same : length w.guests ≡ length c.args.self.now.guests = ap (λ (v : WorldNow). length v.guests) c.self.view_is in
     let inside : c.args.guest < length e.guests.items = omega arith in
     let there : slice_get e.guests.items c.args.guest ≡ Some c.index.result.now = slice_get_read e.guests.items (length e.guests.items) c.args.guest c.index.result.now refl inside c.index.ensures in
-    reply_read e.host (texts e.names) e.guests.items c.self.invariant.1 c.args.self.now c.self.view_is c.args.guest c.index.result.now there (named_space c.args.space) c.args.addr c.deref.result.now c.deref.ensures.value (c.in-Some.slot, c.in-Some.region, c.in-Some.offset) c.in-Some.ensures.there c.deref-2.result.now c.deref-2.ensures.value c.board_address-at.result c.board_address-at.ensures c.args.width c.in-Some.ensures.landing c.read_claimed-value.result c.read_claimed-value.ensures.value
+    reply_read e.host (texts e.names) e.guests.items c.self.invariant.1 c.args.self.now c.self.view_is c.args.guest c.index.result.now there (named_space c.args.space) c.args.addr c.deref.result.now c.deref.ensures.value (c.in-Some.slot, c.in-Some.region, c.in-Some.offset) c.in-Some.ensures.there c.deref-2.result.now c.deref-2.ensures.value c.located-at.result c.located-at.ensures c.args.width c.in-Some.ensures.landing c.region_read-value.result c.region_read-value.ensures.value
     ∙ ap (λ (op : Op). reply_at (lone_nth c.args.self.now c.args.guest) (op_of op) c.args.width (at_target (target_in (named_space c.args.space) c.args.addr))) (sym c.in-Read.is)
 
 pub returns-in-Read-clause-after : goal.returns-in-Read-clause-after
@@ -109,7 +89,7 @@ returns-in-Read-clause-after g c =
     let same : length w.guests ≡ length c.args.self.now.guests = ap (λ (v : WorldNow). length v.guests) c.self.view_is in
     let inside : c.args.guest < length e.guests.items = omega arith in
     let there : slice_get e.guests.items c.args.guest ≡ Some c.index.result.now = slice_get_read e.guests.items (length e.guests.items) c.args.guest c.index.result.now refl inside c.index.ensures in
-    after_read e.host (texts e.names) e.guests.items c.self.invariant.1 c.args.self.now c.self.view_is c.args.guest c.index.result.now there (named_space c.args.space) c.args.addr c.deref.result.now c.deref.ensures.value (c.in-Some.slot, c.in-Some.region, c.in-Some.offset) c.in-Some.ensures.there c.deref-2.result.now c.deref-2.ensures.value c.board_address-at.result c.board_address-at.ensures c.args.width c.in-Some.ensures.landing c.read_claimed-value.new.host c.read_claimed-value.ensures.after
+    after_read e.host (texts e.names) e.guests.items c.self.invariant.1 c.args.self.now c.self.view_is c.args.guest c.index.result.now there (named_space c.args.space) c.args.addr c.deref.result.now c.deref.ensures.value (c.in-Some.slot, c.in-Some.region, c.in-Some.offset) c.in-Some.ensures.there c.deref-2.result.now c.deref-2.ensures.value c.located-at.result c.located-at.ensures c.args.width c.in-Some.ensures.landing c.region_read-value.new.self c.region_read-value.ensures.after
     ∙ ap (λ (op : Op). with_lone_nth c.args.guest (after_access_at (lone_nth c.args.self.now c.args.guest) (op_of op) c.args.width (at_target (target_in (named_space c.args.space) c.args.addr))) c.args.self.now) (sym c.in-Read.is)
 
 pub invariant_of-self-in-Write : goal.invariant_of-self-in-Write
@@ -120,7 +100,7 @@ invariant_of-self-in-Write g c =
     let same : length w.guests ≡ length c.args.self.now.guests = ap (λ (v : WorldNow). length v.guests) c.self.view_is in
     let inside : c.args.guest < length e.guests.items = omega arith in
     let there : slice_get e.guests.items c.args.guest ≡ Some c.index.result.now = slice_get_read e.guests.items (length e.guests.items) c.args.guest c.index.result.now refl inside c.index.ensures in
-    (g.met.R.Route.by_routing e.route e.host c.write_claimed.new.host (routes_written e.host (texts e.names) e.guests.items c.self.invariant.1 c.args.self.now c.self.view_is c.args.guest c.index.result.now there (named_space c.args.space) c.args.addr c.deref.result.now c.deref.ensures.value (c.in-Some.slot, c.in-Some.region, c.in-Some.offset) c.in-Some.ensures.there c.deref-2.result.now c.deref-2.ensures.value c.board_address-at.result c.board_address-at.ensures c.args.width c.in-Some.ensures.landing c.in-Write.value c.write_claimed.new.host c.write_claimed.ensures) c.self.invariant.0, sound_written e.host (texts e.names) e.guests.items c.self.invariant.1 c.args.self.now c.self.view_is c.args.guest c.index.result.now there (named_space c.args.space) c.args.addr c.deref.result.now c.deref.ensures.value (c.in-Some.slot, c.in-Some.region, c.in-Some.offset) c.in-Some.ensures.there c.deref-2.result.now c.deref-2.ensures.value c.board_address-at.result c.board_address-at.ensures c.args.width c.in-Some.ensures.landing c.in-Write.value c.write_claimed.new.host c.write_claimed.ensures)
+    (g.met.R.Route.by_routing e.route e.host c.region_write.new.self (routes_written e.host (texts e.names) e.guests.items c.self.invariant.1 c.args.self.now c.self.view_is c.args.guest c.index.result.now there (named_space c.args.space) c.args.addr c.deref.result.now c.deref.ensures.value (c.in-Some.slot, c.in-Some.region, c.in-Some.offset) c.in-Some.ensures.there c.deref-2.result.now c.deref-2.ensures.value c.located-at.result c.located-at.ensures c.args.width c.in-Some.ensures.landing c.in-Write.value c.region_write.new.self c.region_write.ensures) c.self.invariant.0, sound_written e.host (texts e.names) e.guests.items c.self.invariant.1 c.args.self.now c.self.view_is c.args.guest c.index.result.now there (named_space c.args.space) c.args.addr c.deref.result.now c.deref.ensures.value (c.in-Some.slot, c.in-Some.region, c.in-Some.offset) c.in-Some.ensures.there c.deref-2.result.now c.deref-2.ensures.value c.located-at.result c.located-at.ensures c.args.width c.in-Some.ensures.landing c.in-Write.value c.region_write.new.self c.region_write.ensures)
 
 pub returns-in-Write-clause-after : goal.returns-in-Write-clause-after
 returns-in-Write-clause-after g c =
@@ -130,5 +110,5 @@ returns-in-Write-clause-after g c =
     let same : length w.guests ≡ length c.args.self.now.guests = ap (λ (v : WorldNow). length v.guests) c.self.view_is in
     let inside : c.args.guest < length e.guests.items = omega arith in
     let there : slice_get e.guests.items c.args.guest ≡ Some c.index.result.now = slice_get_read e.guests.items (length e.guests.items) c.args.guest c.index.result.now refl inside c.index.ensures in
-    after_written e.host (texts e.names) e.guests.items c.self.invariant.1 c.args.self.now c.self.view_is c.args.guest c.index.result.now there (named_space c.args.space) c.args.addr c.deref.result.now c.deref.ensures.value (c.in-Some.slot, c.in-Some.region, c.in-Some.offset) c.in-Some.ensures.there c.deref-2.result.now c.deref-2.ensures.value c.board_address-at.result c.board_address-at.ensures c.args.width c.in-Some.ensures.landing c.in-Write.value c.write_claimed.new.host c.write_claimed.ensures
+    after_written e.host (texts e.names) e.guests.items c.self.invariant.1 c.args.self.now c.self.view_is c.args.guest c.index.result.now there (named_space c.args.space) c.args.addr c.deref.result.now c.deref.ensures.value (c.in-Some.slot, c.in-Some.region, c.in-Some.offset) c.in-Some.ensures.there c.deref-2.result.now c.deref-2.ensures.value c.located-at.result c.located-at.ensures c.args.width c.in-Some.ensures.landing c.in-Write.value c.region_write.new.self c.region_write.ensures
     ∙ ap (λ (op : Op). with_lone_nth c.args.guest (after_access_at (lone_nth c.args.self.now c.args.guest) (op_of op) c.args.width (at_target (target_in (named_space c.args.space) c.args.addr))) c.args.self.now) (sym c.in-Write.is)
