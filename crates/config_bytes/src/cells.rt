@@ -135,6 +135,7 @@ impl Cells {
 
     /// The little-endian word at `off`, a multiple of 4. Bit n of `enables`, 0 to 3, enables the byte at
     /// `off + n` (PCI Local Bus 3.0, chapter 3.2.2); a byte that is not enabled reads 0.
+    #[inline(always)]
     pub fn read(&self, off: u16, enables: u8) -> u32
         requires { off % 4 ≡ 0 }
         ensures word { result ≡ read self.now.now (config off) (lanes enables) }
@@ -182,6 +183,7 @@ impl Cells {
 
     /// Writes the bytes of the little-endian `data` that `enables` enables, at `off`, a multiple of 4. Each
     /// changes its cell by the cell's masks, and all other cells stay.
+    #[inline(always)]
     pub fn write(&mut self, off: u16, enables: u8, data: u32)
         requires { off % 4 ≡ 0 }
         ensures cells { self.new ≡ record self.old { now = write (lanes enables) «data» (config off) self.old.now } }
