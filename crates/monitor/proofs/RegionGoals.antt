@@ -70,11 +70,10 @@ module _ (h : HostState) (names : List (List ℕ)) (gs : List Guest) (sound : Is
             (record { held = lands_here.held; there = lands_here.there })
 
         module _ (width : ℕ) (landed_there : Lands slots space addr (Some l)) where
-          pub landing_at : (now_host : HostState) → now_host ≡ h → IsWidth width → addr % width ≡ 0 → IsLanding now_host.state.functions r width
-          landing_at k same_host wide whole =
-              subst (λ (x : HostState). IsLanding x.state.functions r width) (sym same_host)
-              (subst (λ (x : Located). IsLanding h.state.functions x width) (sym found_here)
-              (landing_here shown_world h names gs sound i g guest_at space addr l lands_here (lands_at (Some l) landed_there) width wide whole))
+          pub landing_at : IsWidth width → addr % width ≡ 0 → IsLanding h.state.functions r width
+          landing_at wide whole =
+              subst (λ (x : Located). IsLanding h.state.functions x width) (sym found_here)
+              (landing_here shown_world h names gs sound i g guest_at space addr l lands_here (lands_at (Some l) landed_there) width wide whole)
 
           claim_here : located_claim h.state.functions (Some r) ≡ located_claim h.state.functions (Some (landed shown_world h names gs sound i g guest_at space addr l lands_here))
           claim_here = ap (λ (x : Located). located_claim h.state.functions (Some x)) found_here

@@ -58,7 +58,7 @@ region_read-value-requires-clause-landing g c =
     let same : length w.guests ≡ length c.args.self.now.guests = ap (λ (v : WorldNow). length v.guests) c.self.view_is in
     let inside : c.args.guest < length e.guests.items = omega arith in
     let there : slice_get e.guests.items c.args.guest ≡ Some c.index.result.now = slice_get_read e.guests.items (length e.guests.items) c.args.guest c.index.result.now refl inside c.index.ensures in
-    landing_at e.host (texts e.names) e.guests.items c.self.invariant.1 c.args.self.now c.self.view_is c.args.guest c.index.result.now there (named_space c.args.space) c.args.addr c.deref.result.now c.deref.ensures.value (c.in-Some.slot, c.in-Some.region, c.in-Some.offset) c.in-Some.ensures.there c.deref-2.result.now c.deref-2.ensures.value c.located-at.result c.located-at.ensures c.args.width c.in-Some.ensures.landing e.host refl c.requires.width c.requires.aligned
+    landing_at e.host (texts e.names) e.guests.items c.self.invariant.1 c.args.self.now c.self.view_is c.args.guest c.index.result.now there (named_space c.args.space) c.args.addr c.deref.result.now c.deref.ensures.value (c.in-Some.slot, c.in-Some.region, c.in-Some.offset) c.in-Some.ensures.there c.deref-2.result.now c.deref-2.ensures.value c.located-at.result c.located-at.ensures c.args.width c.in-Some.ensures.landing c.requires.width c.requires.aligned
 
 pub region_write-requires-clause-landing : goal.region_write-requires-clause-landing
 region_write-requires-clause-landing g c =
@@ -68,7 +68,7 @@ region_write-requires-clause-landing g c =
     let same : length w.guests ≡ length c.args.self.now.guests = ap (λ (v : WorldNow). length v.guests) c.self.view_is in
     let inside : c.args.guest < length e.guests.items = omega arith in
     let there : slice_get e.guests.items c.args.guest ≡ Some c.index.result.now = slice_get_read e.guests.items (length e.guests.items) c.args.guest c.index.result.now refl inside c.index.ensures in
-    landing_at e.host (texts e.names) e.guests.items c.self.invariant.1 c.args.self.now c.self.view_is c.args.guest c.index.result.now there (named_space c.args.space) c.args.addr c.deref.result.now c.deref.ensures.value (c.in-Some.slot, c.in-Some.region, c.in-Some.offset) c.in-Some.ensures.there c.deref-2.result.now c.deref-2.ensures.value c.located-at.result c.located-at.ensures c.args.width c.in-Some.ensures.landing e.host refl c.requires.width c.requires.aligned
+    landing_at e.host (texts e.names) e.guests.items c.self.invariant.1 c.args.self.now c.self.view_is c.args.guest c.index.result.now there (named_space c.args.space) c.args.addr c.deref.result.now c.deref.ensures.value (c.in-Some.slot, c.in-Some.region, c.in-Some.offset) c.in-Some.ensures.there c.deref-2.result.now c.deref-2.ensures.value c.located-at.result c.located-at.ensures c.args.width c.in-Some.ensures.landing c.requires.width c.requires.aligned
 
 pub returns-in-Read-clause-reply : goal.returns-in-Read-clause-reply
 returns-in-Read-clause-reply g c =
