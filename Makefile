@@ -1,14 +1,20 @@
-# What a newcomer needs: `make demo` and `make test`. Both need the kit alone.
+# What a newcomer needs: `make demo`, which takes the kit alone, and `make test`, which also takes cc and Python 3.
 SHELL := bash
 .SHELLFLAGS := -eu -o pipefail -c
+# how many crates are proved side by side
 JOBS := $(shell nproc)
-# the lines of a check that tell how far it is: one as a crate begins, one as it is done
-PROGRESS := grep --line-buffered -E '^(== |[a-z_]+: |[0-9]+ of )|^[^ ]*: error|not proved'
+PROVE := tools/prove --jobs $(JOBS)
+
+# where `make install` puts the program and the library
+PREFIX := /usr/local
+DESTDIR :=
+LIBDIR := lib
+INSTALL := PREFIX='$(PREFIX)' DESTDIR='$(DESTDIR)' LIBDIR='$(LIBDIR)' tools/install
 
 # the board of `make list` and `make lspci`, unless they are given one
 BOARD := crates/examples/data/main.toml
 
-.PHONY: demo list lspci has-lspci gate test build library bench hostile fuzz page browse try clean
+.PHONY: demo list lspci has-lspci has-qemu gate test build library install uninstall dist bench hostile fuzz qemu page browse try clean
 
 # Proves and builds the program, and runs a script over the demo board.
 demo: build
@@ -30,36 +36,50 @@ pciguest:
 	@$(MAKE) --no-print-directory build
 
 # The gate: what the documents say of files, which takes a moment; every proof from nothing, the must-fail
-# edits, the tests and the programs; then the proved program as its user runs it, and the commands that the
-# documents print.
+# edits, the tests and the programs; then the proved program as its user runs it, the commands that the
+# documents print, and each growth of memory refused in turn on the main board.
 gate:
 	tests/documents.sh
+	tests/prove.sh
+	@rm -rf .prove
 	rt ci
 	tests/program.sh
 	tests/commands.sh
+	python3 tests/hostile/growths.py crates/pciguest/out/pciguest --quick
 
-# The gate, and then the library for C as its user links it. To build it, what lies below is proved once more
-# where no build has kept that, as the gate keeps none.
+# The gate, and then the library for C as its user links it, over what the gate left, and what is installed and packed.
 test: gate
-	tools/library
+	tools/library --after-gate
+	@cp crates/pciguest/out/pciguest pciguest
 	tests/library.sh
+	tests/install.sh
 
-# Leaves the proved program as ./pciguest.
+# Leaves the proved program as ./pciguest. Proved is what it stands on, and nothing else.
 build:
-	@rt all check --jobs $(JOBS) 2>&1 | $(PROGRESS)
-	@cd crates/pciguest && rt run -- demo < /dev/null > out/build.log 2>&1 || { cat out/build.log; exit 1; }
+	@$(PROVE) pciguest
 	@cp crates/pciguest/out/pciguest pciguest
 	@echo 'pciguest: proved and built'
 
-# Leaves the proved library for C as library/libpciguest.a, beside library/pciguest.h.
+# Leaves the proved library for C as library/libpciguest.a and library/libpciguest.so.0, beside library/pciguest.h.
 library:
-	@rt all check --jobs $(JOBS) 2>&1 | $(PROGRESS)
 	@tools/library
+
+# Puts the program, the library, its header, the manual and the completion for bash below PREFIX, once they are built:
+# make install PREFIX=/usr DESTDIR=package
+install:
+	@$(INSTALL)
+
+uninstall:
+	@$(INSTALL) --remove
+
+# A tarball for those without the kit: pciguest-VERSION-x86_64-linux.tar.gz.
+dist: build library
+	@tools/dist
 
 # What an access, an event of a guest and a call from C cost, in nanoseconds, on boards of 1, 4, 1003 and 1024 functions.
 bench: build
 	@bench/boards crates/bench_accesses/out/boards
-	@cd crates/bench_accesses && rt run > out/build.log 2>&1 || { cat out/build.log; exit 1; }
+	@$(PROVE) bench_accesses
 	@bench/run crates/bench_accesses/out/bench_accesses crates/bench_accesses/out/boards
 	@echo; tools/library
 	@$(CC) -O2 -Ilibrary -o crates/pciguest_c/out/calls bench/calls.c library/libpciguest.a
@@ -75,16 +95,27 @@ hostile: pciguest
 # begins with another board.
 SEED := 1
 fuzz: pciguest
-	@cd crates/lone_answers && rt run > out/build.log 2>&1 || { cat out/build.log; exit 1; }
+	@$(PROVE) lone_answers
 	@python3 tests/fuzz/fuzz.py ./pciguest --lone crates/lone_answers/out/lone_answers --boards 850 --seed $(SEED)
 	@python3 tests/fuzz/mistakes.py ./pciguest --files 3000 --seed $(SEED)
+
+# Functions of two guests in two machines of QEMU at once, under Linux; and strangers at the sockets. It takes QEMU 7.2
+# and Debian's packages, which it names where they are missing, and a minute or two beyond the proofs.
+qemu: has-qemu pciguest library/libpciguest.a
+	@$(MAKE) --no-print-directory -C examples/qemu check PROGRAM=$(CURDIR)/pciguest
+
+has-qemu:
+	@examples/qemu/needs
+
+library/libpciguest.a:
+	@$(MAKE) --no-print-directory library
 
 # A page that runs the proved code in a browser: pciguest.html. It takes Node or Chromium, to compare what the page
 # answers with the program.
 EXPORTS := $(addprefix pciguest_raw_,new free report check run_line)
 page: pciguest
 	@mkdir -p page/out
-	@cd crates/pciguest_c && rt lib > out/build.log 2>&1 || { cat out/build.log; exit 1; }
+	@$(PROVE) pciguest_c
 	@page/module pciguest_c page/out/pciguest.wasm $(EXPORTS)
 	@page/compare page/out/pciguest.wasm ./pciguest
 	@page/assemble page/out/pciguest.wasm pciguest.html
@@ -92,6 +123,7 @@ page: pciguest
 
 # The page as a reader uses it, in headless Chromium; screenshots are left in page/out.
 browse: page
+	@page/contrast
 	@page/browse pciguest.html page/out
 
 # The demo in about a minute: nothing is proved.
@@ -100,4 +132,6 @@ try:
 	@cd crates/pciguest && rt try -- demo < ../../examples/demo.script
 
 clean:
-	rm -rf crates/*/out page/out pciguest pciguest.html library/libpciguest.a
+	rm -rf crates/*/out page/out .prove pciguest pciguest.html library/libpciguest.a library/libpciguest.so.0
+	rm -f pciguest-*-x86_64-linux.tar.gz
+	@$(MAKE) --no-print-directory -C examples/qemu clean

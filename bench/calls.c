@@ -35,9 +35,9 @@ int main(int argc, char **argv)
     static const char line[] = "a mr 0xc0100010 4";
     struct pciguest machine = {0}, other = {0};
     FILE *file = argc == 2 ? fopen(argv[1], "rb") : NULL;
-    uint32_t value, faults = 0;
-    size_t length, written;
-    char reply[PCIGUEST_REPLY];
+    uint32_t value = 0, faults = 0;
+    size_t length, written = 0;
+    char reply[PCIGUEST_REPLY] = {0};
 
     if (!file)
         return 2;

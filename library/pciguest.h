@@ -15,17 +15,23 @@
 #include <stddef.h>
 #include <stdint.h>
 
+/* The version of this header and of the library beside it, as a text and as a number that grows. */
+#define PCIGUEST_VERSION "0.3.0"
+#define PCIGUEST_VERSION_NUMBER 300 /* 10000 * major + 100 * minor + patch */
+
 #ifdef __cplusplus
 extern "C" {
 #endif
 
-/* What a program holds of a machine: a board that is set up, with its guests. It begins with all bytes 0,
- * `struct pciguest machine = {0};`, and then holds none. Only the library looks at its fields. Two copies
- * of one struct are never both used; it may be moved, and the place that it left forgotten. */
+/* What a program holds of a machine: a board that is set up, with its guests. It begins as
+ * `struct pciguest machine = PCIGUEST_INIT;`, or with all bytes 0, and then holds none. Only the library looks at
+ * its fields. Two copies of one struct are never both used; it may be moved, and the place that it left forgotten. */
 struct pciguest {
     bool live;
     void *at;
 };
+
+#define PCIGUEST_INIT {false, NULL}
 
 /* Where an access goes: a byte offset of the configuration space of the function in a slot, an I/O port, or
  * a memory address. */
@@ -39,8 +45,8 @@ enum { PCIGUEST_REPLY = 48, PCIGUEST_WORDS = 20 };
 
 enum { PCIGUEST_NO_MACHINE = 901, PCIGUEST_ARGUMENT = 902, PCIGUEST_IN_USE = 903 };
 
-/* The calls of the library itself. They take no null pointer; those below, which test for it, are the ones
- * to use. */
+/* The calls of the library itself. They take no null pointer, and a line without its line feed; those below, which see
+ * to both, are the ones to use. */
 uint32_t pciguest_raw_new(struct pciguest *machine, const uint8_t *board, size_t length);
 void pciguest_raw_free(struct pciguest *machine);
 uint32_t pciguest_raw_guest(struct pciguest *machine, const uint8_t *name, size_t length, size_t *guest);
@@ -139,14 +145,17 @@ static inline uint32_t pciguest_move(struct pciguest *machine, size_t from, uint
     return pciguest_raw_move(machine, from, slot, to, target);
 }
 
-/* Runs one line of a script, without its line feed. The reply is one line with its line feed, or nothing for a blank
- * line or a comment; it has no 0 at its end, and `written` tells its length. A line that is refused is answered by its
- * reply, and the call by 0. 902: there is less room than PCIGUEST_REPLY. */
+/* Runs one line of a script, with its line feed or without; a line feed elsewhere makes it a bad line. The reply is one
+ * line with its line feed, or nothing for a blank line or a comment; it has no 0 at its end, and `written` tells its
+ * length. A line that is refused is answered by its reply, and the call by 0. 902: there is less room than
+ * PCIGUEST_REPLY. */
 static inline uint32_t pciguest_run_line(struct pciguest *machine, const char *line, size_t length, char *reply,
                                          size_t room, size_t *written)
 {
     if (!machine || (!line && length) || !reply || !written)
         return PCIGUEST_ARGUMENT;
+    if (length && line[length - 1] == '\n')
+        length--;
     return pciguest_raw_run_line(machine, (const uint8_t *)(line ? line : ""), length, (uint8_t *)reply, room, written);
 }
 

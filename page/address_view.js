@@ -1,44 +1,29 @@
-// A bar for each aperture, to scale: windows by the depth of their bus, regions below them, gaps between.
+// A bar for each aperture, to scale: windows by the depth of their bus, regions below them, gaps between. A bar can be
+// zoomed into, and read by mouse and by keys.
 
 import { aperture_of, hex, size_in_words } from './report.js';
-import { owner_in_words } from './board_view.js';
+import { make, mark_of, owner_in_words } from './marks.js';
+import { name_in, region_box, svg, ticks } from './bars.js';
 
-const ROW = 20;
+const ROW = 20, TICKS = 36;
 const NAMES = { io: 'I/O', mem: 'Memory', pref: 'Prefetchable memory' };
+const KEYS = 'arrow keys go from one to the next, Enter zooms into it, Escape shows all';
 
-function svg(tag, attributes) {
-  const element = document.createElementNS('http://www.w3.org/2000/svg', tag);
-  for (const [name, value] of Object.entries(attributes)) element.setAttribute(name, value);
-  return element;
-}
-
-// Everything that is placed in one aperture, with the depth of the bus it stands on.
+// Everything that is placed in one aperture, by address, with the depth of the bus it stands on.
 function spans_in(space, functions, apertures) {
   return functions.flatMap(one => one.windows.filter(window => aperture_of(window.space, window.first, apertures) === space)
     .map(window => ({ first: window.first, last: window.last, depth: one.depth, of: one, name: `${window.space} window` }))
     .concat(one.regions.filter(region => aperture_of(region.kind, region.first, apertures) === space)
-      .map(region => ({ first: region.first, last: region.first + region.size - 1n, depth: one.depth, of: one, name: region.name, region }))));
+      .map(region => ({ first: region.first, last: region.first + region.size - 1n, depth: one.depth, of: one, name: region.name, region }))))
+    .sort((a, b) => (a.first === b.first ? a.depth - b.depth : a.first < b.first ? -1 : 1));
 }
 
-// Where an address stands in a bar of a million parts.
-const share_of = (address, [first, last]) => Number((address - first) * 1000000n / (last - first + 1n)) / 10000;
+const least = (one, other) => (one < other ? one : other);
+const most = (one, other) => (one < other ? other : one);
 
-function bar_of(spans, range, owners, hues) {
-  const deepest = Math.max(...spans.map(span => span.depth)) + 1;
-  const bar = svg('svg', { height: deepest * ROW + 4, role: 'img' });
-  for (const span of spans) {
-    const from = share_of(span.first, range), to = share_of(span.last + 1n, range);
-    const rectangle = svg('rect', { x: `${from}%`, width: `${Math.max(to - from, 0.4)}%`, y: span.depth * ROW + 2,
-      height: span.region ? ROW - 1 : ROW * (deepest - span.depth), class: span.region ? 'region' : 'window' });
-    if (span.region) {
-      const owner = owners.get(span.of.path);
-      if (owner === undefined) rectangle.classList.add('nobody');
-      else rectangle.style.setProperty('--hue', hues.get(owner.guest));
-    }
-    bar.append(rectangle);
-  }
-  return bar;
-}
+// Where an address stands in a width, and what stands at a share of it.
+const place_of = (address, [first, last], width) => Number((address - first) * 1000000n / (last - first + 1n)) / 1000000 * width;
+const address_at = (share, [first, last]) => first + BigInt(Math.floor(share * 1000000)) * (last - first + 1n) / 1000000n;
 
 // What stands at an address: the region that has it, else the innermost window.
 function at_address(address, spans, owners) {
@@ -51,56 +36,148 @@ function at_address(address, spans, owners) {
   return window ? `nothing, in the ${window.name} of ${window.of.place}` : 'nothing';
 }
 
-function follow_pointer(bar, told, spans, range, owners, tell) {
-  const cursor = svg('line', { class: 'cursor', y1: 0, y2: '100%', visibility: 'hidden' });
-  bar.append(cursor);
-  bar.addEventListener('pointermove', event => {
-    const box = bar.getBoundingClientRect();
-    const share = Math.min(Math.max((event.clientX - box.left) / box.width, 0), 0.999999);
-    const address = range[0] + BigInt(Math.floor(share * 1000000)) * (range[1] - range[0] + 1n) / 1000000n;
-    cursor.setAttribute('x1', `${share * 100}%`);
-    cursor.setAttribute('x2', `${share * 100}%`);
-    cursor.setAttribute('visibility', 'visible');
-    told.textContent = `${hex(address)}: ${at_address(address, spans, owners)}`;
-    const region = spans.find(span => span.region && span.first <= address && address <= span.last);
-    tell(region ? region.of.path : null);
-  });
-  bar.addEventListener('pointerleave', () => {
-    cursor.setAttribute('visibility', 'hidden');
-    told.textContent = '';
-    tell(null);
-  });
-}
+const span_in_words = (span, owners) => `${span.of.place} ${span.name} ${hex(span.first)} to ${hex(span.last)}, `
+  + size_in_words(span.last - span.first + 1n) + (span.region ? `, ${owner_in_words(owners.get(span.of.path))}` : '');
 
-// The used part of an aperture in a thin strip of the whole.
-function strip_of(used, aperture) {
-  const strip = svg('svg', { class: 'strip', role: 'img' });
-  const from = share_of(used[0], aperture), to = share_of(used[1] + 1n, aperture);
-  strip.append(svg('rect', { x: `${from}%`, y: 0, width: `${Math.max(to - from, 0.3)}%`, height: '100%' }));
+// The used part of an aperture in a thin strip of the whole, and the part that is shown.
+function strip_of(used, shown, aperture, width) {
+  const strip = svg('svg', { class: 'strip', width, height: 9, 'aria-hidden': 'true' });
+  for (const [range, name] of [[used, 'used'], [shown, 'shown']]) {
+    const from = place_of(most(range[0], aperture[0]), aperture, width), to = place_of(least(range[1], aperture[1]) + 1n, aperture, width);
+    strip.append(svg('rect', { x: from, y: 1, width: Math.max(to - from, 3), height: 7, class: name }));
+  }
   return strip;
 }
 
-// `tell` is given the path of the function under the pointer, or null.
-export function draw_addresses(into, functions, apertures, owners, hues, tell) {
-  const figures = [];
-  for (const space of ['io', 'mem', 'pref']) {
-    const spans = spans_in(space, functions, apertures);
-    if (spans.length === 0) continue;
-    const first = spans.reduce((least, span) => span.first < least ? span.first : least, spans[0].first);
-    const last = spans.reduce((most, span) => span.last > most ? span.last : most, spans[0].last);
-    const figure = document.createElement('div');
-    figure.className = 'space';
-    const title = document.createElement('div');
-    title.className = 'title';
-    const aperture = apertures[space];
-    title.append(Object.assign(document.createElement('span'), { textContent: NAMES[space] }),
-      Object.assign(document.createElement('span'), { textContent: `${hex(first)} to ${hex(last)}, ${size_in_words(last - first + 1n)}` +
-        (aperture ? ` of the aperture's ${size_in_words(aperture[1] - aperture[0] + 1n)}` : '') }));
-    const bar = bar_of(spans, [first, last], owners, hues);
-    const told = Object.assign(document.createElement('div'), { className: 'told' });
-    follow_pointer(bar, told, spans, [first, last], owners, tell);
-    figure.append(title, ...(aperture ? [strip_of([first, last], aperture)] : []), bar, told);
-    figures.push(figure);
+export class Addresses {
+  // `light` is given the path of the function that is pointed at, or null.
+  constructor(into, light) {
+    Object.assign(this, { into, light, ranges: new Map(), at: new Map(), width: 0, board: null });
+    new ResizeObserver(() => { if (this.width !== this.into.clientWidth) this.redraw(); }).observe(into);
   }
-  into.replaceChildren(...figures);
+
+  forget() { this.ranges.clear(); this.at.clear(); }
+
+  draw(functions, apertures, owners, marks) {
+    this.board = { functions, apertures, owners, marks };
+    this.redraw();
+  }
+
+  redraw() {
+    if (this.board === null) return;
+    this.width = this.into.clientWidth;
+    this.into.replaceChildren(...Object.keys(NAMES).map(space => this.figure(space)).filter(one => one !== null));
+  }
+
+  // Shows another range of a bar, or all; the bar keeps the keys.
+  zoom(space, range) {
+    if (range === null) this.ranges.delete(space);
+    else this.ranges.set(space, range);
+    const old = this.into.querySelector(`[data-space=${space}]`), fresh = this.figure(space);
+    old.replaceWith(fresh);
+    fresh.querySelector('.bars').focus({ preventScroll: true });
+  }
+
+  figure(space) {
+    const { functions, apertures } = this.board, spans = spans_in(space, functions, apertures);
+    if (spans.length === 0) return null;
+    const used = [spans[0].first, spans.reduce((last, span) => most(last, span.last), 0n)];
+    const aperture = apertures[space] ?? used, range = this.ranges.get(space) ?? used;
+    const figure = make('div', 'space'), told = make('div', 'told'), bar = this.bar(spans, range);
+    figure.dataset.space = space;
+    told.setAttribute('role', 'status');
+    bar.setAttribute('aria-label', `${NAMES[space]}: ${KEYS}`);
+    this.follow_pointer(bar, told, space, spans, range);
+    this.follow_keys(bar, told, space, spans, range);
+    figure.append(this.title(space, range, used, aperture), strip_of(used, range, aperture, this.width), bar, told);
+    return figure;
+  }
+
+  title(space, range, used, aperture) {
+    const title = make('div', 'title'), buttons = make('span', 'buttons'), size = range[1] - range[0] + 1n;
+    title.append(make('span', '', NAMES[space]), make('span', '', `${hex(range[0])} to ${hex(range[1])}, ${size_in_words(size)}`
+      + ` of the aperture's ${size_in_words(aperture[1] - aperture[0] + 1n)}`), buttons);
+    const out = [most(range[0] - size / 2n, aperture[0]), least(range[1] + size / 2n, aperture[1])];
+    for (const [name, words, wanted] of [['−', 'Zoom out', out], ['used', 'Show all that is used', null], ['aperture', 'Show the whole aperture', aperture]]) {
+      const button = Object.assign(make('button', '', name), { type: 'button', title: words });
+      button.setAttribute('aria-label', `${words}, ${NAMES[space]}`);
+      button.addEventListener('click', () => this.zoom(space, wanted));
+      buttons.append(button);
+    }
+    return title;
+  }
+
+  bar(spans, range) {
+    const { owners, marks } = this.board, seen = spans.filter(span => span.first <= range[1] && range[0] <= span.last);
+    const deepest = Math.max(0, ...seen.map(span => span.depth)) + 1, height = deepest * ROW + 4;
+    const bar = svg('svg', { width: this.width, height: height + TICKS, class: 'bars', tabindex: 0, role: 'group' });
+    bar.append(svg('rect', { x: 0, y: 0, width: this.width, height, class: 'well' }));
+    for (const span of seen.slice().sort((a, b) => a.depth - b.depth || !a.region - !b.region)) {
+      const from = place_of(most(span.first, range[0]), range, this.width), to = place_of(least(span.last, range[1]) + 1n, range, this.width);
+      const y = span.depth * ROW + 2, mark = mark_of(owners.get(span.of.path), marks);
+      if (span.region) bar.append(region_box(from, to - from, y, ROW - 1, mark, [`${span.of.place} ${span.name}`, span.of.place]));
+      else bar.append(svg('rect', { x: from, width: Math.max(to - from, 2), y, height: ROW * (deepest - span.depth), class: 'window' }),
+        ...name_in([`${span.name} of ${span.of.place}`, `of ${span.of.place}`], from, to - from, y + ROW / 2 + 4, 'of'));
+    }
+    bar.append(...ticks(this.ticks_of(seen, range), this.width, height, 2, 14));
+    return bar;
+  }
+
+  // The ends of what is shown first, then those of windows, then where regions begin.
+  ticks_of(spans, range) {
+    const at = (address, past = 0n) => ({ x: place_of(address + past, range, this.width), text: hex(address) });
+    const inside = address => range[0] < address && address < range[1];
+    const windows = spans.filter(span => !span.region).flatMap(span => [[span.first, 0n], [span.last, 1n]]);
+    const regions = spans.filter(span => span.region).map(span => [span.first, 0n]);
+    return [at(range[0]), at(range[1], 1n), ...windows.concat(regions).filter(([address]) => inside(address)).map(one => at(...one))];
+  }
+
+  follow_pointer(bar, told, space, spans, range) {
+    const cursor = svg('line', { class: 'cursor', y1: 0, y2: bar.getAttribute('height') - TICKS, visibility: 'hidden' });
+    bar.append(cursor);
+    const pointed = event => {
+      const box = bar.getBoundingClientRect(), share = Math.min(Math.max((event.clientX - box.left) / box.width, 0), 0.999999);
+      return { share, address: address_at(share, range), row: Math.floor((event.clientY - box.top - 2) / ROW) };
+    };
+    bar.addEventListener('pointermove', event => {
+      const { share, address } = pointed(event);
+      for (const name of ['x1', 'x2']) cursor.setAttribute(name, share * this.width);
+      cursor.setAttribute('visibility', 'visible');
+      told.textContent = `${hex(address)}: ${at_address(address, spans, this.board.owners)}`;
+      this.light(spans.find(span => span.region && span.first <= address && address <= span.last)?.of.path ?? null);
+    });
+    bar.addEventListener('pointerleave', () => { cursor.setAttribute('visibility', 'hidden'); told.textContent = ''; this.light(null); });
+    bar.addEventListener('click', event => {
+      const { address, row } = pointed(event);
+      const those = spans.filter(span => span.first <= address && address <= span.last).sort((a, b) => b.depth - a.depth);
+      const one = those.find(span => span.depth <= row) ?? those[0];
+      if (one) this.zoom(space, this.around(one));
+    });
+  }
+
+  // A window as it is; a region with as much beside it.
+  around({ first, last, region }) {
+    const beside = region ? region.size / 2n : 0n;
+    return [most(first - beside, 0n), last + beside];
+  }
+
+  follow_keys(bar, told, space, spans, range) {
+    const show = nth => {
+      this.at.set(space, nth);
+      told.textContent = span_in_words(spans[nth], this.board.owners);
+      this.light(spans[nth].of.path);
+    };
+    const at = () => this.at.get(space) ?? -1;
+    const acts = {
+      ArrowRight: () => show(Math.min(at() + 1, spans.length - 1)), ArrowLeft: () => show(Math.max(at() - 1, 0)),
+      Enter: () => { if (at() >= 0) this.zoom(space, this.around(spans[at()])); },
+      Escape: () => this.zoom(space, null),
+    };
+    bar.addEventListener('keydown', event => {
+      if (acts[event.key] === undefined) return;
+      event.preventDefault();
+      acts[event.key]();
+    });
+    bar.addEventListener('blur', () => this.light(null));
+  }
 }

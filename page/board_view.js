@@ -1,98 +1,126 @@
-// The tree of buses and the table of functions.
+// The tree of buses and the table of functions. Buses fold, and a large board begins folded.
 
 import { hex, size_in_words } from './report.js';
+import { badge, colour, make, mark_of, owner_in_words } from './marks.js';
 
-const HUES = [250, 60, 150, 320, 25, 195, 105, 285];
+const LARGE = 64, MANY = 12;
 
-// The colour of each guest, in the order of the file: eight that are easy to tell apart, then ones between them.
-export function hues_of(slots) {
-  const hues = new Map();
-  for (const { guest } of slots) {
-    if (!hues.has(guest)) {
-      const nth = hues.size;
-      hues.set(guest, nth < HUES.length ? HUES[nth] : (nth * 137.5) % 360);
+const parent_of = path => (path.includes('/') ? path.slice(0, path.lastIndexOf('/')) : '');
+
+// What a function holds, part by part.
+export function places_of(one) {
+  const places = one.regions.map(region => `${region.name} ${region.kind} at ${hex(region.first)} to ${hex(region.first + region.size - 1n)}, ${size_in_words(region.size)}`)
+    .concat(one.windows.map(window => `${window.space} window ${hex(window.first)} to ${hex(window.last)}`));
+  if (one.buses) places.unshift(`bridge to bus ${one.buses[1]}, last bus ${one.buses[2]}`);
+  return places;
+}
+
+function button_of(text, words, act) {
+  const button = Object.assign(make('button', 'fold', text), { type: 'button' });
+  button.setAttribute('aria-label', words);
+  button.addEventListener('click', act);
+  return button;
+}
+
+export class Board {
+  // `parts` are the elements `tree`, `told` and `table`; `light` is given the path of a function, or null.
+  constructor(parts, light) { Object.assign(this, { parts, light, turned: new Set(), whole: new Set() }); }
+
+  forget() { this.turned.clear(); this.whole.clear(); }
+
+  draw(functions, owners, marks) {
+    Object.assign(this, { functions, owners, marks, below: new Map() });
+    for (const one of functions) {
+      const parent = parent_of(one.path);
+      if (!this.below.has(parent)) this.below.set(parent, []);
+      this.below.get(parent).push(one);
     }
+    this.redraw();
   }
-  return hues;
-}
 
-// Puts a guest's colour on an element, or nobody's.
-export function colour(element, owner, hues) {
-  element.classList.toggle('owned', owner !== undefined);
-  element.classList.toggle('nobody', owner === undefined);
-  if (owner !== undefined) element.style.setProperty('--hue', hues.get(owner.guest));
-}
-
-export const owner_in_words = owner => owner === undefined ? 'no guest' : `guest ${owner.guest}, slot ${owner.slot}`;
-
-function make(tag, name, text = '') {
-  const element = document.createElement(tag);
-  element.className = name;
-  element.textContent = text;
-  return element;
-}
-
-// `owners` maps a path to { guest, slot }.
-export function draw_tree(into, functions, owners, hues) {
-  const below = new Map();
-  for (const one of functions) {
-    const parent = one.path.includes('/') ? one.path.slice(0, one.path.lastIndexOf('/')) : '';
-    if (!below.has(parent)) below.set(parent, []);
-    below.get(parent).push(one);
+  redraw() {
+    this.parts.tree.replaceChildren(this.bus_of('', '00'));
+    this.draw_table();
   }
-  const bus_of = (parent, name) => {
-    const bus = make('div', 'bus');
-    const on = make('div', 'on');
-    for (const one of below.get(parent) ?? []) on.append(function_of(one));
+
+  // Whether a bus is open; a large board's are folded until they are turned.
+  is_open(key) { return this.turned.has(key) === (this.functions.length > LARGE); }
+
+  turn(set, key, find) {
+    if (!set.delete(key)) set.add(key);
+    this.redraw();
+    document.querySelector(find)?.focus({ preventScroll: true });
+  }
+
+  bus_of(parent, name) {
+    const bus = make('div', 'bus'), on = make('div', 'on'), all = this.below.get(parent) ?? [];
+    const few = all.length > MANY * 2 && !this.whole.has(parent) ? all.slice(0, MANY) : all;
+    on.append(...few.map(one => this.function_of(one)));
+    if (all.length > MANY * 2) {
+      const words = few === all ? 'show fewer' : `${all.length - MANY} more`;
+      const more = button_of(words, `bus ${name}: ${words}`, () => this.turn(this.whole, parent, `[data-more="${parent}"]`));
+      more.dataset.more = parent;
+      on.append(more);
+    }
     bus.append(make('div', 'rail', `bus ${name}`), on);
     return bus;
-  };
-  const function_of = one => {
+  }
+
+  function_of(one) {
     const row = make('div', 'function');
-    const chip = make('div', 'chip', one.place.slice(3));
-    chip.title = `${one.kind} ${one.path}, ${owner_in_words(owners.get(one.path))}`;
+    row.append(this.chip_of(one));
+    if (one.kind !== 'bridge') return row;
+    const open = this.is_open(one.path), count = (this.below.get(one.path) ?? []).length;
+    const fold = button_of(open ? '−' : `+${count}`, `${open ? 'Fold' : 'Unfold'} bus ${one.buses[1]}`,
+      () => this.turn(this.turned, one.path, `[data-fold="${one.path}"]`));
+    fold.dataset.fold = one.path;
+    fold.setAttribute('aria-expanded', open);
+    row.append(fold);
+    if (open) row.append(this.bus_of(one.path, one.buses[1]));
+    return row;
+  }
+
+  chip_of(one) {
+    const owner = this.owners.get(one.path), mark = mark_of(owner, this.marks), chip = make('div', 'chip');
+    const words = [`${one.place}, ${one.words}, ${one.path}`, ...(one.kind === 'bridge' ? [] : [owner_in_words(owner)]), ...places_of(one)];
+    chip.title = words.join('\n');
     chip.dataset.path = one.path;
-    chip.append(make('small', '', one.identity));
-    row.append(chip);
-    if (one.kind === 'bridge') {
-      chip.classList.add('bridge');
-      row.append(bus_of(one.path, one.buses[1]));
-    } else {
-      colour(chip, owners.get(one.path), hues);
-    }
-    return row;
-  };
-  into.replaceChildren(bus_of('', '00'));
-}
+    chip.tabIndex = 0;
+    if (one.kind === 'bridge') chip.classList.add('bridge');
+    else { colour(chip, mark); chip.append(badge(mark)); }
+    chip.append(`${one.place.slice(3)} ${one.words}`, make('small', '', one.identity));
+    const tell = said => { this.parts.told.textContent = said ? words.join('; ') : ''; this.light(said ? one.path : null); };
+    for (const event of ['focus', 'pointerenter']) chip.addEventListener(event, () => tell(true));
+    for (const event of ['blur', 'pointerleave']) chip.addEventListener(event, () => tell(false));
+    return chip;
+  }
 
-export function draw_key(into, hues) {
-  into.replaceChildren(...[...hues].map(([guest, hue]) => {
-    const one = make('span', 'owned', `guest ${guest}`);
-    one.style.setProperty('--hue', hue);
-    return one;
-  }));
-}
+  draw_table() {
+    const names = ['Number', 'Guest', 'Path', 'Class and identity', 'Regions and windows', 'Interrupt'], head = make('tr', '');
+    head.append(...names.map(name => make('th', '', name)));
+    const buses = new Map();
+    for (const one of this.functions) buses.set(one.bus, [...(buses.get(one.bus) ?? []), one]);
+    const groups = [...buses].flatMap(([bus, all]) => {
+      const key = `bus ${bus.toString(16).padStart(2, '0')}`, open = this.is_open(key), row = make('tr', 'group'), cell = make('td', '');
+      const fold = button_of(`${open ? '−' : '+'} ${key}: ${all.length}`, `${open ? 'Fold' : 'Unfold'} ${key} of the table`,
+        () => this.turn(this.turned, key, `[data-fold="${key}"]`));
+      fold.dataset.fold = key;
+      fold.setAttribute('aria-expanded', open);
+      cell.colSpan = names.length;
+      cell.append(fold);
+      row.append(cell);
+      return [row, ...(open ? all.map(one => this.row_of(one, names)) : [])];
+    });
+    this.parts.table.replaceChildren(head, ...groups);
+  }
 
-export function draw_functions(into, functions, owners, hues) {
-  const head = make('tr', '');
-  head.append(...['Number', 'Guest', 'Path', 'Identity', 'Regions and windows', 'Interrupt'].map(name => make('th', '', name)));
-  const rows = functions.map(one => {
-    const row = make('tr', '');
+  row_of(one, names) {
+    const row = make('tr', ''), owner = this.owners.get(one.path), held = make('td', ''), taken = make('td', 'owner');
     row.dataset.path = one.path;
-    const places = one.regions.map(region => `${region.name} ${region.kind} at ${hex(region.first)}, ${size_in_words(region.size)}`)
-      .concat(one.windows.map(window => `${window.space} window ${hex(window.first)} to ${hex(window.last)}`));
-    if (one.buses) places.unshift(`bridge to bus ${one.buses[1]}, last bus ${one.buses[2]}`);
-    const held = make('td', '');
-    places.forEach((place, nth) => { if (nth > 0) held.append(document.createElement('br')); held.append(place); });
-    const owner = make('td', 'owner');
-    const taken = owners.get(one.path);
-    if (taken !== undefined) {
-      const name = make('span', '', `${taken.guest} ${taken.slot}`);
-      colour(name, taken, hues);
-      owner.append(name);
-    }
-    row.append(make('td', '', one.place), owner, make('td', '', one.path), make('td', '', one.identity), held, make('td', '', one.interrupt));
+    for (const place of places_of(one)) held.append(make('div', '', place));
+    if (one.kind !== 'bridge') taken.append(badge(mark_of(owner, this.marks)), owner ? `${owner.guest} ${owner.slot}` : 'no guest');
+    row.append(make('td', '', one.place), taken, make('td', '', one.path), make('td', '', `${one.words} ${one.identity}`), held, make('td', '', one.interrupt));
+    [...row.children].forEach((cell, nth) => { cell.dataset.name = names[nth]; });
     return row;
-  });
-  into.replaceChildren(head, ...rows);
+  }
 }

@@ -1,18 +1,23 @@
 // The script's console: lines in, replies out, and stories that play themselves.
 
 const PAUSE = 650;
+const LONGEST = 500;
 
 export class Console {
-  // `parts` are its elements; `machine` gives the open machine or null; `moved` is told of each move that was done.
-  constructor(parts, machine, moved) {
-    Object.assign(this, { parts, machine, moved, hues: new Map(), before: [], back: 0, playing: 0 });
+  // `parts` are its elements; `machine` gives the open machine or null; `moved` is told of each move that was done, and
+  // `ran` after each line.
+  constructor(parts, machine, moved, ran) {
+    Object.assign(this, { parts, machine, moved, ran, marks: new Map(), before: [], back: 0, playing: 0, said: [] });
     parts.entry.addEventListener('submit', event => { event.preventDefault(); this.enter(); });
     parts.line.addEventListener('keydown', event => this.recall(event));
   }
 
-  clear(hues) {
+  // Begins anew, with a line to begin with.
+  clear(marks, first) {
     this.playing += 1;
-    this.hues = hues;
+    this.marks = marks;
+    this.said = [];
+    this.parts.line.placeholder = first;
     this.parts.transcript.replaceChildren();
   }
 
@@ -25,16 +30,26 @@ export class Console {
     return one;
   }
 
+  // The lines that were run, as a script.
+  script() { return this.said.join('\n'); }
+
   run(line) {
     const machine = this.machine();
     if (machine === null) { this.put('refused', 'The board is refused, so there is nothing to run.'); return; }
+    this.said = [...this.said, line].slice(-LONGEST);
     if (line.trimStart().startsWith('#')) { this.put('remark', line.trimStart().slice(1).trim()); return; }
     this.put('said', line);
+    this.tell(line, machine);
+    this.ran();
+  }
+
+  // The reply of a line.
+  tell(line, machine) {
     const reply = new TextDecoder().decode(machine.answer(new TextEncoder().encode(line))).trimEnd();
     if (reply === '') return;
     const who = reply.slice(0, reply.indexOf(':'));
     const one = this.put(who === 'host' ? 'reply host' : 'reply', reply);
-    if (this.hues.has(who)) one.style.setProperty('--hue', this.hues.get(who));
+    if (this.marks.has(who)) one.style.setProperty('--hue', this.marks.get(who).hue);
     one.classList.toggle('refused', reply.includes(': refused '));
     const words = line.trim().split(/\s+/);
     if (words[0] === 'host' && words[1] === 'move' && reply === 'host: ok') {

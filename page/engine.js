@@ -3,6 +3,7 @@
 const HANDLE = 16;
 const TOO_SMALL = 902;
 const LONGEST_REPLY = 48;
+const LONGEST_LINE = 256;
 
 export class Engine {
   static async of(bytes) {
@@ -58,21 +59,34 @@ export class Engine {
 }
 
 class Machine {
-  constructor(engine, handle) { this.engine = engine; this.handle = handle; }
+  // Its rooms are made once: a search for free memory takes long where a large board has taken much.
+  constructor(engine, handle) {
+    const [text, out, written] = [LONGEST_LINE, LONGEST_REPLY, 8].map(size => engine.exports.page_room(BigInt(size)));
+    Object.assign(this, { engine, handle, text, out, written });
+  }
 
   // The reply of one line of a script, with its line feed; nothing for a remark.
   answer(line) {
-    const { exports } = this.engine;
-    return this.engine.with_rooms([line.length, LONGEST_REPLY, 8], (text, out, written) => {
-      this.engine.bytes(text, line.length).set(line);
-      exports.pciguest_raw_run_line(this.handle, text, BigInt(line.length), out, BigInt(LONGEST_REPLY), written);
-      return this.engine.bytes(out, this.engine.word(written)).slice();
-    });
+    if (line.length <= LONGEST_LINE) return this.answer_in(this.text, line);
+    return this.engine.with_rooms([line.length], text => this.answer_in(text, line));
+  }
+
+  answer_in(text, line) {
+    const { engine, handle, out, written } = this;
+    engine.bytes(text, line.length).set(line);
+    engine.exports.pciguest_raw_run_line(handle, text, BigInt(line.length), out, BigInt(LONGEST_REPLY), written);
+    return engine.bytes(out, engine.word(written)).slice();
+  }
+
+  // The number that a line reads.
+  number(line) {
+    const reply = new TextDecoder().decode(this.answer(new TextEncoder().encode(line)));
+    return BigInt(reply.slice(reply.indexOf(':') + 2).trimEnd());
   }
 
   close() {
     this.engine.exports.pciguest_raw_free(this.handle);
-    this.engine.exports.rattle_dealloc(this.handle);
+    for (const room of [this.handle, this.text, this.out, this.written]) this.engine.exports.rattle_dealloc(room);
   }
 }
 

@@ -2,31 +2,54 @@
 
 import { Engine } from './engine.js';
 import { apertures_in, count_in_words, read_report } from './report.js';
-import { draw_functions, draw_key, draw_tree, hues_of } from './board_view.js';
-import { draw_addresses } from './address_view.js';
+import { class_of } from './classes.js';
+import { draw_key, marks_of } from './marks.js';
+import { patterns } from './bars.js';
+import { Board } from './board_view.js';
+import { Addresses } from './address_view.js';
+import { GuestMaps } from './guest_view.js';
 import { Console } from './console.js';
+import { fragment_of, keep, kept, kept_in } from './keep.js';
 
 const part = Object.fromEntries([...document.querySelectorAll('[id]')].map(one => [one.id, one]));
 const still = matchMedia('(prefers-reduced-motion: reduce)').matches;
-const wanted = new URLSearchParams(location.hash.slice(1));
-let engine = null, machine = null, functions = [], owners = new Map(), hues = new Map(), apertures = {};
+const wanted = () => new URLSearchParams(location.hash.slice(1));
+let engine = null, machine = null, functions = [], owners = new Map(), marks = new Map(), apertures = {};
 
+const board = new Board({ tree: part.tree, told: part.told, table: part.functions }, light);
+const addresses = new Addresses(part.addresses, light);
+const maps = new GuestMaps(part.maps, light);
 const script_console = new Console(part, () => machine, (from, to) => {
   const path = [...owners].find(([, owner]) => owner.guest === from.guest && owner.slot === from.slot)?.[0];
   if (path !== undefined) { owners.set(path, to); draw(); }
-});
+}, follow);
+const keep_it = () => keep(part.board.value, script_console.script());
+let following = false;
 
+// After the lines that run at once, and not after each, what guests open is drawn and the script is kept.
+function follow() {
+  if (following) return;
+  following = true;
+  queueMicrotask(() => {
+    following = false;
+    if (machine !== null) maps.draw(machine, functions, owners, marks);
+    keep_it();
+  });
+}
+
+// Marks a function where it is drawn; of one behind a folded bus, the bridge before it.
 function light(path) {
   for (const one of document.querySelectorAll('.lit')) one.classList.remove('lit');
-  if (path === null) return;
-  for (const one of document.querySelectorAll(`[data-path="${path}"]`)) one.classList.add('lit');
+  const drawn = at => document.querySelectorAll(`[data-path="${at}"]`);
+  while (path !== null && drawn(path).length === 0) path = path.includes('/') ? path.slice(0, path.lastIndexOf('/')) : null;
+  if (path !== null) for (const one of drawn(path)) one.classList.add('lit');
 }
 
 function draw() {
-  draw_key(part.guests, hues);
-  draw_tree(part.tree, functions, owners, hues);
-  draw_addresses(part.addresses, functions, apertures, owners, hues, light);
-  draw_functions(part.functions, functions, owners, hues);
+  draw_key(part.guests, marks, functions.some(one => one.kind !== 'bridge' && !owners.has(one.path)));
+  board.draw(functions, owners, marks);
+  addresses.draw(functions, apertures, owners, marks);
+  follow();
 }
 
 // Numbers the lines of the editor, and marks those of which a check tells.
@@ -60,69 +83,107 @@ function tell_check(text) {
   number_lines(new Set(told.values()));
 }
 
+// A line that works on this board, if it was taken.
+function first_line() {
+  if (machine === null) return '';
+  const taken = [...owners.values()][0];
+  return taken ? `${taken.guest} cr ${taken.slot} 0 4` : `host cr ${functions[0]?.place ?? '00:00.0'} 0 4`;
+}
+
+// Reads a report that was taken, and opens its machine.
+function take(text, file) {
+  const read = read_report(text);
+  machine = engine.open(file).machine;
+  functions = read.functions.map(one => ({ ...one, words: class_of(machine, one.place) }));
+  owners = new Map(read.slots.map(({ guest, slot, path }) => [path, { guest, slot }]));
+  marks = marks_of(read.slots);
+  apertures = apertures_in(part.board.value);
+  part.report.textContent = text;
+  const bridges = functions.filter(one => one.kind === 'bridge').length;
+  const counts = [[functions.length - bridges, 'endpoint'], [bridges, 'bridge'], [marks.size, 'guest']];
+  tell(false, `Set up: ${counts.map(([count, name]) => count_in_words(count, name)).join(', ')}`);
+}
+
 // Sets the board up anew, and draws it.
 function set_up() {
   if (machine !== null) machine.close();
   machine = null;
-  const file = new TextEncoder().encode(part.board.value);
-  const report = engine.report(file);
+  const file = new TextEncoder().encode(part.board.value), report = engine.report(file);
   tell_check(new TextDecoder().decode(engine.check(file).text));
+  board.forget();
+  addresses.forget();
   if (report.number === 0) {
-    const text = new TextDecoder().decode(report.text);
-    const read = read_report(text);
-    functions = read.functions;
-    owners = new Map(read.slots.map(({ guest, slot, path }) => [path, { guest, slot }]));
-    hues = hues_of(read.slots);
-    apertures = apertures_in(part.board.value);
-    machine = engine.open(file).machine;
-    part.report.textContent = text;
-    const bridges = functions.filter(one => one.kind === 'bridge').length;
-    const counts = [[functions.length - bridges, 'endpoint'], [bridges, 'bridge'], [hues.size, 'guest']];
-    tell(false, `Set up: ${counts.map(([count, name]) => count_in_words(count, name)).join(', ')}`);
+    take(new TextDecoder().decode(report.text), file);
     draw();
   } else {
     tell(true, `${report.number} ${WORDS[report.number] ?? ''}`);
   }
-  script_console.clear(hues);
+  script_console.clear(marks, first_line());
+  follow();
 }
 
 function tell(wrong, text) {
   part.verdict.textContent = text;
   part.verdict.classList.toggle('wrong', wrong);
   part.figures.classList.toggle('stale', wrong);
+  part.figures.hidden = wrong && functions.length === 0;
 }
 
-function show(name) {
-  part.boards.value = name;
-  part.board.value = BOARDS[name];
+function show_text(text) {
+  part.boards.value = Object.keys(BOARDS).find(name => BOARDS[name] === text) ?? '';
+  part.board.value = text;
   set_up();
 }
 
 function tell_story(title) {
   const story = STORIES.find(one => one.title === title);
-  show(story.board);
-  script_console.play(story.script, still || wanted.has('now'));
+  show_text(BOARDS[story.board]);
+  script_console.play(story.script, still || wanted().has('now'));
+  if (story.shows) part[story.shows].scrollIntoView({ block: 'center' });
 }
 
-function begin() {
+// Puts the board and the script that was run into the address, and into the clipboard where that is allowed.
+async function hand_out() {
+  const fragment = await fragment_of(part.board.value, script_console.script());
+  history.replaceState(null, '', `#${fragment}`);
+  await navigator.clipboard?.writeText(location.href).catch(() => {});
+  part.link.textContent = 'Link copied';
+  setTimeout(() => { part.link.textContent = 'Copy a link'; }, 2000);
+}
+
+// What the address asks for, else what the browser kept, else the first board.
+async function begin() {
+  const asked = wanted(), held = asked.has('kept') ? await kept_in(asked.get('kept')) : asked.size > 0 ? null : kept();
+  if (asked.has('story')) { tell_story(asked.get('story')); return; }
+  show_text(held?.board ?? BOARDS[asked.get('board') ?? Object.keys(BOARDS)[0]] ?? '');
+  if (held) script_console.play(held.script, true);
+}
+
+function wire() {
+  document.body.append(patterns());
   part.boards.append(...Object.keys(BOARDS).map(name => new Option(name)));
-  part.boards.addEventListener('change', () => show(part.boards.value));
+  part.boards.addEventListener('change', () => show_text(BOARDS[part.boards.value]));
   part.board.addEventListener('input', set_up);
   part.board.addEventListener('scroll', () => { part.numbers.scrollTop = part.board.scrollTop; });
   part.restart.addEventListener('click', set_up);
-  part.open.addEventListener('change', async () => { part.board.value = await part.open.files[0].text(); set_up(); });
+  part.link.addEventListener('click', hand_out);
+  part.open.addEventListener('change', async () => show_text(await part.open.files[0].text()));
+  for (const button of part.jump.querySelectorAll('button')) {
+    button.addEventListener('click', () => part[button.dataset.to].scrollIntoView({ block: 'start' }));
+  }
   part.stories.append('Stories: ', ...STORIES.map(({ title }) => {
     const button = Object.assign(document.createElement('button'), { type: 'button', textContent: title });
     button.addEventListener('click', () => tell_story(title));
     return button;
   }));
-  if (wanted.has('story')) tell_story(wanted.get('story'));
-  else show(wanted.get('board') ?? Object.keys(BOARDS)[0]);
+  addEventListener('hashchange', begin);
+  addEventListener('resize', follow);
 }
 
 try {
   engine = await Engine.of(Uint8Array.from(atob(MODULE), one => one.charCodeAt(0)));
-  begin();
+  wire();
+  await begin();
 } catch (wrong) {
   tell(true, `This browser can't run the module: ${wrong}. It needs WebAssembly with memories of 64-bit addresses, as Chromium and Firefox have them.`);
 }

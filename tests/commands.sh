@@ -4,13 +4,14 @@
 # In a block, a line '$ COMMAND' is run in a folder that has the program as ./pciguest and the repository's folders, and
 # the lines up to the next one are what has to come; `...` as the last of them leaves the rest open. A block under a line
 # 'Save this as `NAME`' is saved there first. A block of Rust or C stands, line by line, in the file that the text above links
-# last. Of `make` the target alone is looked for. The last line is 'N passed, M failed'.
+# last. Of `make` the target alone is looked for. In the manual a literal display is a block, and the program is called by
+# its name alone. The last line is 'N passed, M failed'.
 set -u
 cd "$(dirname "$0")/.."
 top=$PWD
 program=$(readlink -f "${1:-crates/pciguest/out/pciguest}")
 [ -x "$program" ] || { echo "no program at $program: make build"; echo '0 passed, 1 failed'; exit 1; }
-documents=(README.md docs/FORMATS.md docs/LSPCI.md)
+documents=(README.md docs/FORMATS.md docs/LSPCI.md man/pciguest.1)
 
 room=$(mktemp -d)
 trap 'rm -rf "$room"' EXIT
@@ -36,7 +37,7 @@ has_target() { grep -qE "^$1:" "$top/Makefile" && echo "$1"; }
 run() {
   local came wanted=$3
   [[ $2 != 'make '* ]] || return 0
-  came=$(cd "$room" && timeout 60 bash -c "$2" 2>&1)
+  came=$(cd "$room" && PATH=$room:$PATH timeout 60 bash -c "$2" 2>&1)
   if [ "$(tail -n 1 <<< "$wanted")" = ... ]; then
     wanted=$(head -n -1 <<< "$wanted")
     came=$(head -n "$(wc -l <<< "$wanted")" <<< "$came")
@@ -56,6 +57,14 @@ block() {
     fi
   done
   [ -z "$command" ] || run "$1" "$command" "$wanted"
+}
+
+# the text of a document; of the manual, as a document has it
+text_of() {
+  case $1 in
+    *.md) cat "$1" ;;
+    *) sed -e '/^Save this as$/ { N; s/\n\.Pa \([^ ]*\) :$/ `\1`:/; }' -e 's/^\.\(Bd -literal.*\|Ed\)$/```/' -e 's/\\-/-/g; s/\\e/\\/g' "$1" ;;
+  esac
 }
 
 # code without what stands before it on its lines, and without empty lines
@@ -80,7 +89,7 @@ document() {
       [[ $line =~ 'Save this as `'([a-z_.]+)'`' ]] && save=${BASH_REMATCH[1]}
       [[ $line =~ .*']('([a-z_/]+\.(rt|c))')' ]] && file=${BASH_REMATCH[1]}
     fi
-  done < "$top/$1"
+  done < <(text_of "$top/$1")
 }
 
 for name in "${documents[@]}"; do document "$name"; done

@@ -5,7 +5,7 @@ set -u
 cd "$(dirname "$0")/.."
 passed=0
 failed=0
-documents=(README.md docs/*.md examples/README.md)
+documents=(README.md CHANGELOG.md docs/*.md examples/README.md)
 index=docs/DEFINITIONS.md
 
 # holds NAME CHECK..: the check writes nothing
@@ -91,6 +91,18 @@ strange_code() {
     done
 }
 holds "code of a crate of one's own that is not there" strange_code
+
+# ---- the manual: the numbers of docs/FORMATS.md with their words, and the calls of the header
+lacking_numbers() {
+  sed -n '/^## 6/q; s/^| \([0-9]\{3\}\) | `\([^`]*\)` |.*/\1 Ta \2 Ta/p' docs/FORMATS.md | sort -u |
+    while read -r row; do grep -qF ".It $row " man/pciguest.1 || echo "man/pciguest.1: $row"; done
+}
+lacking_calls() {
+  grep -o '^static inline [a-z0-9_ ]* pciguest_[a-z_]*' library/pciguest.h | sed 's/.* //' |
+    while read -r call; do grep -q "^\.F[no] $call\( \|$\)" man/libpciguest.3 || echo "man/libpciguest.3: $call"; done
+}
+holds 'numbers that the manual lacks' lacking_numbers
+holds 'calls that the manual lacks' lacking_calls
 
 echo "$passed passed, $failed failed"
 [ "$failed" = 0 ]

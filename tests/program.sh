@@ -75,7 +75,7 @@ timeout 60 "$program" demo < long 2> err | head -c 0; status=${PIPESTATUS[0]}
 tell 'demo, its reader gone'
 
 # ---- list: the boards of the examples, each with its report or its fault
-awk '/^== / { file = NF == 2 ? $2 ".wanted" : NF == 3 ? $3 ".check" : $2 "@" $4 ".run"; next } { print > file }' "$top/crates/examples/stdout"
+awk '/^== / { file = NF == 2 ? $2 ".wanted" : NF == 3 ? $3 ".check" : NF == 4 ? $2 "@" $4 ".run" : NF == 6 ? $2 "@" $4 ".asked" : "/dev/null"; next } { print > file }' "$top/crates/examples/stdout"
 for wanted_report in *.wanted; do
   board=${wanted_report%.wanted}
   fault=$(sed -n 's/^fault //p' "$wanted_report")
@@ -170,6 +170,18 @@ full 'run' run "$boards/main.toml" < run.script
 fails_with 'run, a faulty file' '107 size' run "$boards/size.toml" < run.script
 fails_with 'run, a board that does not fit' '204 memory pool' run "$boards/memory_pool.toml" < run.script
 fails_with 'run, no such file' '702 board file' run nothing.toml < run.script
+
+# ---- firmware: its script of the examples, over a board at reset
+cp firmware.script@main.toml.asked wanted.out
+ends_with 'firmware' firmware "$boards/main.toml" < "$boards/firmware.script"
+full 'firmware' firmware "$boards/main.toml" < "$boards/firmware.script"
+: > wanted.out
+ends_with 'firmware, a board that does not fit' firmware "$boards/memory_pool.toml" < /dev/null
+echo '?: refused 402 unknown guest' > wanted.out
+ends_with 'firmware, a line of a guest of the file' firmware "$boards/main.toml" <<< 'a cr 0 0 4'
+fails_with 'firmware, a faulty file' '107 size' firmware "$boards/size.toml" < "$boards/firmware.script"
+fails_with 'firmware, no such file' '702 board file' firmware nothing.toml < /dev/null
+fails_with 'firmware, standard input closed' '501 read failed' firmware "$boards/main.toml" <&-
 
 # ---- run: lines at the ends of what a line may say
 longest=$(printf '%190s' '')
@@ -275,6 +287,7 @@ usage='701 usage'
 fails_with 'no word' "$usage"
 fails_with 'list alone' "$usage" list
 fails_with 'run alone' "$usage" run
+fails_with 'firmware alone' "$usage" firmware
 fails_with 'a word too many for list' "$usage" list "$boards/main.toml" y
 fails_with 'a word too many for demo' "$usage" demo demo
 fails_with 'an unknown word' "$usage" x

@@ -87,7 +87,7 @@ static uint8_t *bytes_of(const char *path, size_t *length)
 
 static void complain(uint32_t fault)
 {
-    char words[PCIGUEST_WORDS];
+    char words[PCIGUEST_WORDS] = {0};
     size_t length = 0;
 
     (void)pciguest_words(fault, words, sizeof words, &length);
@@ -96,7 +96,7 @@ static void complain(uint32_t fault)
 
 int main(int argc, char **argv)
 {
-    struct pciguest machine = {0};
+    struct pciguest machine = PCIGUEST_INIT;
     size_t length = 0, guest = 0;
     uint8_t *board = argc == 2 ? bytes_of(argv[1], &length) : NULL;
     uint32_t fault;

@@ -230,8 +230,9 @@ impl Machine {
         answered(unsafe { pciguest_raw_move(&mut self.handle, from, slot, to, target) })
     }
 
-    /// Runs one line of a script, without its line feed, and gives its reply with one, or nothing.
+    /// Runs one line of a script, with its line feed or without, and gives its reply with one, or nothing.
     pub fn run_line(&mut self, line: &[u8]) -> Result<Vec<u8>, Fault> {
+        let line = line.strip_suffix(b"\n").unwrap_or(line);
         let mut reply = vec![0; 48];
         let mut written = 0;
         answered(unsafe {

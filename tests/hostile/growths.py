@@ -1,9 +1,13 @@
-"""Each growth of memory refused in turn: to the one growth alone, and to it and all after it."""
+"""Each growth of memory refused in turn: to the one growth alone, and to it and all after it.
+
+    growths.py PROGRAM [--quick]
+
+With --quick the largest board is left out."""
 import collections
 import struct
 import sys
 
-from harness import DATA, LARGEST, MAIN, Room, fault_line
+from harness import DATA, LARGEST, MAIN, PLACES, Room, fault_line
 
 SCRIPTS = ["guest.script", "two_guests.script", "raise.script", "host.script", "ports.script", "move.script"]
 
@@ -16,19 +20,20 @@ def counts_of(room, words, script):
     return run, growths, before if reads else growths
 
 
-def refuse_each(room, name, words, script, numbers, mode):
+def refuse_each(room, name, words, script, numbers, mode, ends="ok"):
     """Refuses each growth in turn. Each refused run answers one of `numbers` and writes nothing. Where one
-    growth alone is refused, it may also ask for less, and then write the whole output."""
+    growth alone is refused, it may also ask for less, and then end as a run to which none is refused."""
     table = room.write("table", b"")
     run = room.run_script(words, script, seconds=600, REFUSE_EACH=mode, TABLE=table)
     plain = room.run_script(words, script)
     room.expect(f"{name}: the last run has the whole output",
-                run.answer() == "ok" and run.out == plain.out and plain.answer() == "ok", run.answer())
+                run.answer() == ends and plain.answer() == ends and run.out == plain.out, run.answer())
     rows = [line.rstrip(b"\n").split(b" ", 3) for line in open(table, "rb")]
     wanted = {fault_line(number).rstrip(b"\n"): number for number in numbers}
+    end = (b"%d" % plain.status, b"%d" % len(plain.out), plain.err.rstrip(b"\n"))
     answers = collections.Counter()
     for growth, status, written, err in rows:
-        whole = mode == "once" and (status, written, err) == (b"0", b"%d" % len(plain.out), b"")
+        whole = mode == "once" and (status, written, err) == end
         holds = whole or status == b"1" and written == b"0" and err in wanted
         room.expect(f"{name}, growth {growth.decode()} refused {mode}", holds,
                     f"status {status.decode()}, {written.decode()} bytes written, {err.decode()!r}")
@@ -59,21 +64,25 @@ def long_scripts():
     return scripts
 
 
-def main(program):
+def main(program, largest):
     room = Room(program, "growths refused")
     every = b"".join(content + b"\n" for _, content in long_scripts()[:-2])
     memory = [199, 299, 702, 799]
     for mode in ["onward", "once"]:
         refuse_each(room, "demo", ["demo"], (DATA / "guest.script").read_bytes(), [199, 299, 799], mode)
         refuse_each(room, "list, main board", ["list", MAIN], b"", memory, mode)
-        refuse_each(room, "list, largest board", ["list", LARGEST], b"", memory, mode)
+        refuse_each(room, "check, main board", ["check", MAIN], b"", memory, mode)
+        refuse_each(room, "check, many places", ["check", PLACES], b"", memory, mode, "105")
         refuse_each(room, "run, main board, empty script", ["run", MAIN], b"", memory, mode)
         refuse_each(room, "run, main board", ["run", MAIN], every, memory, mode)
-        refuse_each(room, "run, largest board", ["run", LARGEST], every, memory, mode)
+        if largest:
+            refuse_each(room, "list, largest board", ["list", LARGEST], b"", memory, mode)
+            refuse_each(room, "run, largest board", ["run", LARGEST], every, memory, mode)
     same_count(room, "run, main board", ["run", MAIN], long_scripts())
-    same_count(room, "run, largest board", ["run", LARGEST], long_scripts())
+    if largest:
+        same_count(room, "run, largest board", ["run", LARGEST], long_scripts())
     return room.end()
 
 
 if __name__ == "__main__":
-    sys.exit(0 if main(sys.argv[1]) else 1)
+    sys.exit(0 if main(sys.argv[1], "--quick" not in sys.argv) else 1)

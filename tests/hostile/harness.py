@@ -9,6 +9,7 @@ TOP = HERE.parent.parent
 DATA = TOP / "crates" / "examples" / "data"
 MAIN = str(DATA / "main.toml")
 LARGEST = str(DATA / "largest.toml")
+PLACES = str(DATA / "many_places.toml")
 
 FAULTS = {
     101: "not TOML", 102: "key", 103: "unknown key", 104: "number", 105: "place", 106: "register",

@@ -9,12 +9,12 @@ SCRIPTS = ["two_guests.script", "move.script"]
 ERRORS = [errno.EIO, errno.EAGAIN, errno.EBADF]
 
 
-def calls_of(room, words, script, **environment):
-    """How many reads and writes a run makes, and its output."""
+def counted(room, words, script, **environment):
+    """A run, and how many reads and writes it makes."""
     counts = room.path("counts")
     run = room.run_script(words, script, COUNTS=counts, **environment)
     _growths, _before, reads, writes = struct.unpack("4Q", open(counts, "rb").read())
-    return reads, writes, run.out
+    return run, reads, writes
 
 
 def lines_read(script, count):
@@ -23,39 +23,42 @@ def lines_read(script, count):
 
 
 def each_read(room, name, words, script, step):
-    """Each read fails: 501, after the output of the lines that were read up to their line feeds."""
-    reads, _, _ = calls_of(room, words, script, READ_AT_MOST=step)
+    """Each read fails, once or from then on, or is interrupted by a signal: 501, after the output of the lines
+    that were read up to their line feeds. It is not tried again."""
+    _, reads, _ = counted(room, words, script, READ_AT_MOST=step)
     wanted = {}
     for failing in range(1, reads + 1):
         given = lines_read(script, step * (failing - 1))
         if given not in wanted:
             wanted[given] = room.run_script(words, given).out
-        for onward, error in [(0, ERRORS[failing % 3]), (1, errno.EIO)]:
-            run = room.run_script(words, script, READ_AT_MOST=step, FAIL_READ=failing,
-                                  FAIL_ERROR=error, FAIL_ONWARD=onward)
-            room.expect(f"{name}, read {failing} of {step} bytes", run.answer() == "501", run.answer())
-            room.expect(f"{name}, read {failing} of {step} bytes: output", run.out == wanted[given], run.out)
+        for onward, error in [(0, ERRORS[failing % 3]), (0, errno.EINTR), (1, errno.EIO)]:
+            run, made, _ = counted(room, words, script, READ_AT_MOST=step, FAIL_READ=failing,
+                                   FAIL_ERROR=error, FAIL_ONWARD=onward)
+            test = f"{name}, read {failing} of {step} bytes, error {error}"
+            room.expect(test, run.answer() == "501" and made == failing, f"{run.answer()}, {made} reads")
+            room.expect(f"{test}: output", run.out == wanted[given], run.out)
     print(f"| {name} | {step} bytes a read, each of {reads} reads failing | 501, the lines read are answered |")
 
 
 def each_write(room, name, words, script, step):
-    """Each write fails or takes no byte: 502, after a beginning of the output. What a buffer keeps back is
-    tried once more as the program ends, so a writer that fails once alone may get more of it."""
+    """Each write fails or takes no byte, once or from then on, or is interrupted by a signal: 502, after what was
+    taken until then. Nothing more is written, not even tried, though a writer that fails once would take it."""
     more = {"READ_AT_MOST": 7, "WRITE_AT_MOST": step}
-    _, writes, whole = calls_of(room, words, script, **more)
+    whole, _, writes = counted(room, words, script, **more)
     before = b""
     for failing in range(1, writes + 1):
         outs = []
-        for onward, error in [(1, errno.ENOSPC), (1, 0), (0, ERRORS[failing % 3]), (0, 0)]:
-            run = room.run_script(words, script, FAIL_WRITE=failing, FAIL_ERROR=error,
-                                  FAIL_ONWARD=onward, **more)
-            room.expect(f"{name}, write {failing} of {step} bytes", run.answer() == "502", run.answer())
+        for onward, error in [(1, errno.ENOSPC), (1, 0), (0, ERRORS[failing % 3]), (0, errno.EINTR), (0, 0)]:
+            run, _, made = counted(room, words, script, FAIL_WRITE=failing, FAIL_ERROR=error,
+                                   FAIL_ONWARD=onward, **more)
+            room.expect(f"{name}, write {failing} of {step} bytes, error {error}",
+                        run.answer() == "502" and made == failing, f"{run.answer()}, {made} writes")
             outs.append(run.out)
-        holds = outs[0] == outs[1] and all(whole.startswith(out) and out.startswith(outs[0]) for out in outs)
+        holds = len(set(outs)) == 1 and whole.out.startswith(outs[0])
         longer = len(before) < len(outs[0]) <= len(before) + step or failing == 1 and not outs[0]
         room.expect(f"{name}, write {failing} of {step} bytes: output", holds and longer, outs)
         before = outs[0]
-    print(f"| {name} | {step} bytes a write, each of {writes} writes failing | 502, a beginning of the output |")
+    print(f"| {name} | {step} bytes a write, each of {writes} writes failing | 502, what was taken until then |")
 
 
 def short_calls(room, name, words, script):
@@ -65,19 +68,6 @@ def short_calls(room, name, words, script):
         run = room.run_script(words, script, READ_AT_MOST=reading, WRITE_AT_MOST=writing)
         room.expect(f"{name}, {reading} bytes a read and {writing} a write",
                     run.answer() == "ok" and run.out == whole, run.answer())
-
-
-def interrupted(room, name, words, script):
-    """A call that a signal interrupts: what is written is a beginning of the output or all of it."""
-    reads, writes, whole = calls_of(room, words, script, READ_AT_MOST=7)
-    answers = set()
-    for call, count in [("FAIL_READ", reads), ("FAIL_WRITE", writes)]:
-        for failing in range(1, count + 1):
-            run = room.run_script(words, script, READ_AT_MOST=7, FAIL_ERROR=errno.EINTR, **{call: failing})
-            holds = whole.startswith(run.out) and (run.answer() != "ok" or run.out == whole)
-            room.expect(f"{name}, {call} {failing} interrupted", holds, run.answer())
-            answers.add(f"{call[5:].lower()}: {run.answer()}")
-    print(f"| {name} | each call interrupted once | {', '.join(sorted(answers))} |")
 
 
 def main(program):
@@ -90,7 +80,6 @@ def main(program):
         for step in [1, 5, 4096]:
             each_write(room, name, words, script, step)
         short_calls(room, name, words, script)
-        interrupted(room, name, words, script)
     each_write(room, "list, main board", ["list", MAIN], b"", 5)
     each_write(room, "--help", ["--help"], b"", 50)
     cut = room.run_script(["run", MAIN], b"a cr 0 0 4\na cr 0 0", READ_AT_MOST=18, FAIL_READ=2)

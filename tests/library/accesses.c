@@ -129,7 +129,7 @@ int main(int argc, char **argv)
     static uint8_t board[65536];
     struct pciguest calls = {0}, lines = {0};
     FILE *file = argc == 6 ? fopen(argv[1], "rb") : NULL, *script, *replies;
-    size_t length, index = 7, written;
+    size_t length, index = 7, written = 0;
     int wrong = 0;
 
     if (!file)
@@ -144,7 +144,7 @@ int main(int argc, char **argv)
     for (size_t i = 0; i < 2; i++)
         wrong |= pciguest_guest(&calls, guests[i], 1, &index) != 0 || index != i;
     for (long left = atol(argv[2]); left > 0; left--) {
-        char line[200], reply[100], told[PCIGUEST_REPLY];
+        char line[200], reply[100], told[PCIGUEST_REPLY] = {0};
 
         step(&calls, line, reply);
         fputs(line, script);

@@ -11,7 +11,7 @@
 /* The fault as the program tells it. */
 static int fault(uint32_t number)
 {
-    char words[PCIGUEST_WORDS];
+    char words[PCIGUEST_WORDS] = {0};
     size_t length = 0;
 
     if (pciguest_words(number, words, sizeof words, &length) != 0 || length == 0)
@@ -34,7 +34,7 @@ int main(int argc, char **argv)
     fclose(file);
     if (pciguest_check(board, length, NULL, 0, &needed) != PCIGUEST_ARGUMENT)
         return 2;
-    text = malloc(needed);
+    text = calloc(needed, 1);
     number = pciguest_check(board, length, text, needed, &needed);
     fwrite(text, 1, needed, stdout);
     free(text);

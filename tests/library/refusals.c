@@ -85,9 +85,9 @@ static void without_a_machine(void)
 
 static void null_pointers(struct pciguest *machine)
 {
-    uint32_t value;
-    size_t count;
-    char reply[PCIGUEST_REPLY];
+    uint32_t value = 0;
+    size_t count = 0;
+    char reply[PCIGUEST_REPLY] = {0};
 
     IS(pciguest_new(NULL, "", 0), 902);
     IS(pciguest_new(machine, NULL, 1), 902);
@@ -108,7 +108,7 @@ static void bad_arguments(struct pciguest *machine, const uint8_t *board, size_t
 {
     uint32_t value = 7;
     size_t count = 8;
-    char reply[PCIGUEST_REPLY];
+    char reply[PCIGUEST_REPLY] = {0};
 
     IS(pciguest_new(machine, board, length), 903);
     IS(pciguest_read(machine, 2, PCIGUEST_CONFIG, 0, 0, 4, &value), 902);
@@ -130,6 +130,35 @@ static void bad_arguments(struct pciguest *machine, const uint8_t *board, size_t
     IS(count, 8);
     IS(pciguest_run_line(machine, "# a comment", 11, reply, sizeof reply, &count), 0);
     IS(count, 0);
+}
+
+static void reply_is(int line, struct pciguest *machine, const char *text, const char *wanted)
+{
+    char reply[PCIGUEST_REPLY];
+    size_t count = 0;
+
+    is(line, pciguest_run_line(machine, text, strlen(text), reply, sizeof reply, &count), 0);
+    is(line, count, strlen(wanted));
+    is(line, memcmp(reply, wanted, strlen(wanted)) == 0, 1);
+}
+
+/* A line feed at the end of a line is no part of it, and one elsewhere makes it a bad line. */
+static void line_feeds(struct pciguest *machine)
+{
+    char longest[202];
+
+    reply_is(__LINE__, machine, "a cr 0 0 2", "a: 0x1234\n");
+    reply_is(__LINE__, machine, "a cr 0 0 2\n", "a: 0x1234\n");
+    reply_is(__LINE__, machine, "a cr 0 0 2\r\n", "a: 0x1234\n");
+    reply_is(__LINE__, machine, "\n", "");
+    reply_is(__LINE__, machine, "a cr 0 0 2\n\n", "a: refused 401 bad line\n");
+    reply_is(__LINE__, machine, "a cr 0 0\n2", "a: refused 401 bad line\n");
+    memset(longest, ' ', 200);
+    memcpy(longest, "a cr 0 0 2", 10);
+    memcpy(longest + 200, "\n", 2);
+    reply_is(__LINE__, machine, longest, "a: 0x1234\n");
+    memcpy(longest + 200, " ", 2);
+    reply_is(__LINE__, machine, longest, "?: refused 403 long line\n");
 }
 
 /* The report tells how much room it needs, and writes nothing where there is less. */
@@ -155,7 +184,7 @@ static void reports(const uint8_t *board, size_t length)
  * refused, too. */
 static void checks(const uint8_t *board, size_t length)
 {
-    char text[1024];
+    char text[1024] = {0};
     size_t needed = 0;
 
     IS(pciguest_check(NULL, 1, NULL, 0, &needed), 902);
@@ -192,7 +221,7 @@ static void all_words(void)
 {
     static const uint32_t without[] = {0, 1, 100, 113, 200, 206, 300, 304, 400, 404, 603, 900, 904, 0xffffffff, 0x10065};
     uint32_t number, known = 0;
-    char text[PCIGUEST_WORDS];
+    char text[PCIGUEST_WORDS] = {0};
     size_t needed = 0;
 
     words(101, "not TOML");
@@ -246,7 +275,7 @@ static void check_out_of_memory(const void *board, size_t length, uint32_t wante
     long count = 0;
 
     do {
-        char text[1024];
+        char text[1024] = {0};
         size_t needed = 0;
         long before = blocks;
 
@@ -278,6 +307,7 @@ int main(int argc, char **argv)
     IS(pciguest_new(&machine, board, length), 0);
     null_pointers(&machine);
     bad_arguments(&machine, board, length);
+    line_feeds(&machine);
     pciguest_free(&machine);
     pciguest_free(&machine);
     reports(board, length);

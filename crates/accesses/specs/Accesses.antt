@@ -3,7 +3,7 @@
 --     part_of      where a raise goes
 --     host_target_of, host_access_of      a read by the host
 --     reply_of      an answer
-use Rattle.host_bridge.specs.BusAddresses.{bus_address_of}
+use Rattle.paths.specs.BusAddresses.{bus_address_of}
 use Rattle.model_guests.specs.Accesses as guests
 use Rattle.model_guests.specs.Grammar.{HostRead, HostTarget, host_configuration, host_port, host_address}
 use Rattle.accesses.specs.declared.access.Access.{Access}

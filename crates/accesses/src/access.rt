@@ -1,5 +1,5 @@
 //! What guests and the host ask, and what they are answered.
-use host_bridge::Bdf;
+use paths::Bdf;
 
 /// What is done at a place.
 #[derive(Clone, Copy, Debug, PartialEq, Eq)]

@@ -1,6 +1,6 @@
 //! The guests of a board.
 use arrayvec::{ArrayString, ArrayVec};
-use bridge_forward::Path;
+use paths::Path;
 use std::marker::Model;
 
 /// Guests' names, in the order of the guests: at most 32, each of at most 16 bytes.

@@ -9,4 +9,4 @@ pub use access::{Access, At, HostAccess, HostAt, Op, Reply};
 pub use checks::nothing;
 pub use guest::{GuestDecl, Names};
 pub use headers::Place;
-pub use host_bridge::Bdf;
+pub use paths::Bdf;

@@ -3,7 +3,7 @@ use Rattle.std.proofs.Common.{◌≡◌, ℕ, ◌+◌, ◌-◌, ◌<◌, ◌^◌
 use Rattle.std.specs.Prelude.{Option, Some, None, option_map, bit_and, nat_le, nat_lt}
 use Rattle.std.proofs.Math.Nat.{mod-eq_of_lt}
 use Rattle.std.proofs.lemmas.Bool.{eq-eqb, ne_eqb}
-use Rattle.model_registers.specs.Lists.{first_of_two, first_some}
+use Rattle.lists.specs.Elements.{first_of_two, first_some}
 use Rattle.model_registers.specs.Registers.{config, number, File}
 use Rattle.model_registers.specs.EndpointTable.{BaseAddress, command_cells, base_file, opened, HasLawfulBases}
 use Rattle.model_registers.specs.Decoding.{Space, command_bit, same_space, space_of, base_address, hit_at, first_hit}

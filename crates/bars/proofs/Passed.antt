@@ -1,7 +1,7 @@
 -- Registers that are passed, as no region there holds the address.
 use Rattle.std.proofs.Common.{◌≡◌, ℕ, zero, suc, ◌+◌, ◌<◌, List, [], ◌∷◌, length, drop, get_or, refl, ap, ◌∙◌, arith}
 use Rattle.std.specs.Prelude.{Option, Some, None, option_map}
-use Rattle.model_registers.specs.Lists.{first_of_two}
+use Rattle.lists.specs.Elements.{first_of_two}
 use Rattle.model_registers.specs.Decoding.{Space}
 use Rattle.bars.specs.declared.region.Region.{Region}
 use Rattle.bars.specs.Hits.{offset_in, hit_in, hit_from}

@@ -3,7 +3,7 @@ use Rattle.std.proofs.Common.{◌≡◌, ℕ, ◌+◌, ◌-◌, ◌^◌, ◌<◌
 use Rattle.std.proofs.Math.Nat.{mod-eq_of_lt}
 use Rattle.std.specs.Prelude.{Option, Some, None, bit_and, bit_or}
 use Rattle.std.proofs.lemmas.Nat.{and_block, pow_pos}
-use Rattle.model_registers.specs.Lists.{Each}
+use Rattle.lists.specs.Elements.{Each}
 use Rattle.model_registers.specs.Declarations.{Kind, io_kind, mem32, mem64, Bar, Region, IsLawfulSize, IsLawfulRegion, HasLawfulRegions}
 use Rattle.model_registers.specs.EndpointTable.{base_width, BaseAddress, opened, IsLawfulBase, HasLawfulBases}
 use Rattle.model_registers.specs.BaseLaws.{overwritten}
@@ -44,7 +44,7 @@ reset_each n (Some b ∷ bars) h = (record { size_is_lawful = h.0.size_is_lawful
 pub reset_lawful : (bars : List (Option Bar)) → HasLawfulRegions (map opened (at_reset bars)) → HasLawfulBases (at_reset bars)
 reset_lawful bars h = record { regions = h; each = reset_each 0 bars h.each }
 
-no_base_opened : (bs : List BaseAddress) → map opened (map with_no_base bs) ≡ map opened bs
+pub no_base_opened : (bs : List BaseAddress) → map opened (map with_no_base bs) ≡ map opened bs
 no_base_opened [] = refl
 no_base_opened (b ∷ bs) = ap (λ (rs : List Region). opened b ∷ rs) (no_base_opened bs)
 

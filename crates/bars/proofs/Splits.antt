@@ -1,14 +1,14 @@
 -- A slot of a function's registers, and the base address registers before and after it.
-use Rattle.std.proofs.Common.{◌≡◌, ℕ, zero, suc, ◌+◌, ◌*◌, ◌/◌, ◌%◌, ◌^◌, ◌<◌, ◌≤◌, ◌⊎◌, inl, inr, Bool, List, [], ◌∷◌, ◌++◌, map, refl, sym, ap, ap₂, ◌∙◌, subst, arith, lit<, lit≤}
+use Rattle.std.proofs.Common.{◌≡◌, ℕ, zero, suc, ◌+◌, ◌*◌, ◌/◌, ◌%◌, ◌^◌, ◌<◌, ◌≤◌, ◌⊎◌, inl, inr, Bool, List, [], ◌∷◌, ◌++◌, map, refl, sym, ap, ap₂, ◌∙◌, subst, arith, lit≤}
 use Rattle.std.proofs.lemmas.Nat.{shl_whole}
 use Rattle.std.proofs.Math.Nat.{add-zero, zero-add}
 use Rattle.std.specs.Prelude.{Option, Some, None, slice_set}
-use Rattle.model_registers.specs.Lists.{Each, EachPair}
+use Rattle.lists.specs.Elements.{Each, EachPair}
 use Rattle.model_registers.specs.ByteEnables.{enabled_bits}
-use Rattle.model_registers.specs.Declarations.{Kind, io_kind, mem32, mem64, Region, registers_of, HasLawfulRegions}
+use Rattle.model_registers.specs.Declarations.{Region, registers_of, HasLawfulRegions}
 use Rattle.model_registers.specs.EndpointTable.{BaseAddress, opened, IsLawfulBase, HasLawfulBases}
 use Rattle.model_registers.specs.BaseLaws.{shown, word_at, rebased, rewritten}
-use Rattle.model_registers.proofs.Bases.{word_low, word_high, word_apart, rewritten_low, rewritten_high, rewritten_apart, rewritten_lawful}
+use Rattle.model_registers.proofs.Bases.{word_low, word_high, word_apart, rewritten_low, rewritten_high, rewritten_apart, rewritten_lawful, registers_positive}
 use Rattle.bars.specs.declared.region.Region as regions
 use Rattle.bars.specs.declared.slots.Part.{Part}
 use Rattle.bars.specs.Slots.{placed, bases_from, slot_at}
@@ -59,11 +59,6 @@ IsApartFrom reg b = (reg ≡ b.index → ⊥) × (registers_of b.kind ≡ 2 → 
 
 abbrev InOrder : Region → Region → Type 0
 InOrder r s = r.index + registers_of r.kind ≤ s.index
-
-registers_positive : (kind : Kind) → 0 < registers_of kind
-registers_positive io_kind = lit< tt
-registers_positive (mem32 pref) = lit< tt
-registers_positive (mem64 pref) = lit< tt
 
 -- the register is one of b's
 abbrev IsOf : ℕ → BaseAddress → Type 0

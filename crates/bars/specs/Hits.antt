@@ -3,7 +3,7 @@
 --     hit_from      where the first region that holds an address stands
 --     named_hit      the index and the offset, in the words of the definitions
 use Rattle.std.specs.Prelude.{List, [], ◌∷◌, ℕ, ◌+◌, ◌-◌, ◌&&◌, nat_le, nat_lt, if◌then◌else◌, Option, Some, None, option_map}
-use Rattle.model_registers.specs.Lists.{first_of_two}
+use Rattle.lists.specs.Elements.{first_of_two}
 use Rattle.model_registers.specs.Decoding.{Space, same_space, space_of, Hit}
 use Rattle.bars.specs.declared.region.Region.{Region}
 

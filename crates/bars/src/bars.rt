@@ -8,9 +8,11 @@ ghost use Rattle.model_registers.specs.Decoding.{first_hit};
 ghost use Rattle.bars.specs.Kinds.{named_space};
 ghost use Rattle.bars.specs.Hits.{named_hit};
 ghost use Rattle.bars.specs.Resets.{at_reset, with_no_base};
+ghost use Rattle.bars.specs.Slots.{bases_from};
 
 use crate::decl::{BarDecl, Space};
 use crate::lanes::enabled_bits;
+use crate::region::Region;
 use crate::slots::Slots;
 use std::marker::Model;
 
@@ -46,6 +48,14 @@ impl Bars {
         Bars {
             slots: Slots::new(decls),
         }
+    }
+
+    /// The regions with the bases that they have now, each at the index of its first register.
+    pub fn regions(&self) -> &[Option<Region>; 6]
+        ensures bases { bases_from 0 result.now ≡ self.now }
+        ensures lawful { HasLawfulBases self.now }
+    {
+        self.slots.regions()
     }
 
     /// The enabled bytes of the register at an index; the other bytes read 0.

@@ -107,6 +107,13 @@ impl Slots {
         }
     }
 
+    /// All regions, each at the index of its first register.
+    pub fn regions(&self) -> &[Option<Region>; 6]
+        ensures { result.now ≡ self.now }
+    {
+        &self.regions
+    }
+
     /// What the register at an index shows: a region's lower half or its only register, or the upper
     /// half of the region below.
     pub fn part_at(&self, reg: u8) -> Option<Part>

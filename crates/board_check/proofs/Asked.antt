@@ -4,7 +4,7 @@
 --     at_end      what a loop over all items leaves
 --     of_other_fault, is_kept, is_broken      what is asked and is kept, or isn't
 --     adds_none, adds_one, adds_both      what is added to problems
---     after_fields, after_members, after_rules      what is wrong of each part of what is asked
+--     after_fields, after_members      what is wrong of each part of what is asked
 use Rattle.std.proofs.Common.{◌≡◌, ℕ, ◌+◌, ◌≤◌, Bool, true, false, cond, not, ◌&&◌, List, [], ◌∷◌, ◌++◌, length, map, drop, String, Global, string_bytes, Some, refl, sym, ap, ◌∙◌, zero-add, append_assoc, append-nil}
 use Rattle.std.specs.List.{range_with_len, filter, flat_map}
 use Rattle.std.specs.Option.{option_map_or}
@@ -21,13 +21,12 @@ use Rattle.board_file.specs.Schema.{field_of, fields}
 use Rattle.board_file.specs.declared.fault.BoardFault.{BoardFault}
 use Rattle.board_file.specs.declared.schema.Field.{Field as FieldInCode}
 use Rattle.board_file.specs.declared.schema.Level.{Level}
-use Rattle.board_check.specs.declared.rule.Rule.{Rule}
-use Rattle.board_check.specs.declared.entry.Entry.{Entry}
-use Rattle.board_check.specs.declared.finding.Problem.{Problem}
-use Rattle.board_check.specs.Rules.{fault_of}
-use Rattle.board_check.specs.Keys.{level_of, table_at}
-use Rattle.board_check.specs.Keeping.{keeps}
-use Rattle.board_check.specs.Problems.{Found, found_of, keys_in, of_field, of_fields, of_member, of_members, of_rule, of_rules, other_rules, is_wrong, AddsWrong}
+use Rattle.board_file.specs.declared.entry.Entry.{Entry}
+use Rattle.board_file.specs.declared.finding.Problem.{Problem}
+use Rattle.board_file.specs.RuleFaults.{fault_of}
+use Rattle.board_file.specs.Problems.{Found, found_of}
+use Rattle.board_check.specs.Keys.{level_of, table_at, key_keeps}
+use Rattle.board_check.specs.Problems.{keys_in, of_field, of_fields, of_member, of_members, is_wrong, AddsWrong}
 
 pub range_more : {X : Type 0} (f : ℕ → X) (n : ℕ) → map f (range_with_len 0 (n + 1)) ≡ map f (range_with_len 0 n) ++ f n ∷ []
 range_more f n = map-range_with_len_more f 0 n n (zero-add n)
@@ -59,14 +58,14 @@ pub of_other_fault : (ms : Members) (fault : BoardFault) (f : Found)
     → (number_of (fault_of f.rule) ≡ number_of fault → ⊥) → is_wrong ms fault f ≡ false
 unfolding is_wrong
 of_other_fault ms fault f other =
-    ap (λ b. b && not (keeps ms f.entry f.rule f.key)) (ne_eqb (number_of (fault_of f.rule)) (number_of fault) other)
+    ap (λ b. b && not (key_keeps ms f.entry f.rule f.key)) (ne_eqb (number_of (fault_of f.rule)) (number_of fault) other)
 
-pub is_kept : (ms : Members) (fault : BoardFault) (f : Found) → keeps ms f.entry f.rule f.key ≡ true → is_wrong ms fault f ≡ false
+pub is_kept : (ms : Members) (fault : BoardFault) (f : Found) → key_keeps ms f.entry f.rule f.key ≡ true → is_wrong ms fault f ≡ false
 unfolding is_wrong
 is_kept ms fault f kept = and_right _ _ (ap not kept)
 
 pub is_broken : (ms : Members) (fault : BoardFault) (f : Found)
-    → number_of (fault_of f.rule) ≡ number_of fault → keeps ms f.entry f.rule f.key ≡ false → is_wrong ms fault f ≡ true
+    → number_of (fault_of f.rule) ≡ number_of fault → key_keeps ms f.entry f.rule f.key ≡ false → is_wrong ms fault f ≡ true
 unfolding is_wrong
 is_broken ms fault f same broken =
     and_from _ _ (eq-eqb (number_of (fault_of f.rule)) (number_of fault) same) (ap not broken)
@@ -114,7 +113,3 @@ after_members p document e ms there =
     ∙ ap (λ ks. filter p (map (of_member e) ks)) (keys_in-view ms)
     ∙ filter-map p (of_member e) (map (λ m. string_bytes m.0) ms)
     ∙ flat_map-map (λ k. filter p (of_member e k ∷ [])) (λ m. string_bytes m.0) ms
-
-pub after_rules : (p : Found → Bool) (e : Entry) (rules : List Rule)
-    → rules ≡ other_rules → filter p (of_rules e) ≡ flat_map (λ r. filter p (of_rule e r ∷ [])) rules
-after_rules p e rules are = ap (λ rs. filter p (map (of_rule e) rs)) (sym are) ∙ filter-map p (of_rule e) rules

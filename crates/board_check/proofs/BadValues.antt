@@ -10,8 +10,10 @@ use Rattle.board_file.specs.declared.schema.Form.{Form}
 use Rattle.board_file.specs.declared.schema.Form.TheVariants.{Integer, Text, Word, Pair, Texts, Table, Tables}
 use Rattle.board_file.specs.declared.schema.Check.{Check}
 use Rattle.board_file.specs.declared.schema.Check.TheVariants.{Types, Keys}
-use Rattle.board_check.proofs.BrokenNumbers.{either_of}
 use Rattle.board_check.proofs.SortedKeys.{IsMember}
+
+pub either_of : {R : Type 0} (a b : Bool) → (a && b) ≡ false → (a ≡ false → R) → (b ≡ false → R) → R
+either_of a b h f g = elim (and_cases a b h) [ inl k ↦ f k | inr k ↦ g k ]
 
 -- what is known when a check is made: forms hold when keys are judged
 abbrev pub Before : Check → Bool → Type 0

@@ -1,7 +1,8 @@
 -- A check of keys or forms that fails in a document, level by level.
-use Rattle.std.proofs.Common.{◌≡◌, ℕ, zero, suc, true, false, List, [], ◌∷◌, map, codes, Option, Some, refl, sym, ap, ◌∙◌, subst, inl, inr}
+use Rattle.std.proofs.Common.{◌≡◌, ℕ, true, false, List, codes, Option, Some, refl, sym, ap, ◌∙◌, subst, inl, inr}
 use Rattle.std.specs.Prelude.{slice_get, option_and_then, unwrap_or, filter}
 use Rattle.std.specs.List.{filter_map}
+use Rattle.lists.proofs.Indices.{map_at}
 use Rattle.toml.specs.Data.{Data, array, table, Items, no_items, Members, get_member, at, as_table, as_array, members_are_sorted}
 use Rattle.board_file.specs.Entries.{tables, endpoint, bar, config, bridge, guest, file}
 use Rattle.board_file.specs.Schema.{Field, fields, form_at, list_of, table_passes}
@@ -11,7 +12,7 @@ use Rattle.board_file.specs.declared.schema.Form.{Form}
 use Rattle.board_file.specs.declared.schema.Form.TheVariants.{Table, Tables}
 use Rattle.board_file.specs.declared.schema.Check.{Check}
 use Rattle.board_file.specs.declared.schema.Check.TheVariants.{Types}
-use Rattle.board_check.specs.declared.entry.Entry.TheVariants as entry
+use Rattle.board_file.specs.declared.entry.Entry.TheVariants as entry
 use Rattle.board_check.specs.Keys.{table_in}
 use Rattle.board_check.proofs.Members.{file_in, host_in, endpoint_in, bar_in, config_in, bridge_in, guest_in}
 use Rattle.board_check.proofs.Blames.{Blame}
@@ -19,11 +20,6 @@ use Rattle.board_check.proofs.BadValues.{Before, BadItem}
 use Rattle.board_check.proofs.BrokenTables.{FieldAt, is_deep, deep_at, TableOf, number_of_check, by_parts, by_leaf}
 
 -- ---- tables of a list
-
-get_map : {A B : Type 0} (f : A → B) (xs : List A) (n : ℕ) (x : A) → slice_get xs n ≡ Some x → slice_get (map f xs) n ≡ Some (f x)
-get_map f [] n x h = cc
-get_map f (y ∷ ys) zero x h = let same : y ≡ x = cc in ap (λ z. Some (f z)) same
-get_map f (y ∷ ys) (suc n) x h = get_map f ys n x h
 
 module _ (k : List ℕ) (t : Members) (ds : Items) (at_key : get_member k t ≡ Some (array ds)) (c : Check) (l : Level) (x : BadItem c l ds) where
   among : slice_get (tables k t) x.index ≡ Some x.inner
@@ -60,7 +56,7 @@ module _ (ms : Members) (c : Check) where
         by_leaf ms (entry.Bar i x.index) m x.inner (record {
           is_level = ap Some (sym is);
           is_table = ap (λ (o : Option Members). option_and_then (table_in (codes "bar") x.index) o) of.is_table ∙ (sym (ap (λ (j : List ℕ). table_in j x.index t) key) ∙ table_there k t ds at_key c m x);
-          there = bar_in (file ms) i (endpoint t) said x.index (bar x.inner) (get_map bar (tables (codes "bar") t) x.index x.inner (sym (ap (λ (j : List ℕ). slice_get (tables j t) x.index) key) ∙ among k t ds at_key c m x));
+          there = bar_in (file ms) i (endpoint t) said x.index (bar x.inner) (map_at bar (tables (codes "bar") t) x.index x.inner (sym (ap (λ (j : List ℕ). slice_get (tables j t) x.index) key) ∙ among k t ds at_key c m x));
           sorted = x.sorted;
         })
         (ap (λ (n : Level). filter is_deep (fields n)) is) c x.before x.fails
@@ -70,7 +66,7 @@ module _ (ms : Members) (c : Check) where
         by_leaf ms (entry.Config i x.index) m x.inner (record {
           is_level = ap Some (sym is);
           is_table = ap (λ (o : Option Members). option_and_then (table_in (codes "config") x.index) o) of.is_table ∙ (sym (ap (λ (j : List ℕ). table_in j x.index t) key) ∙ table_there k t ds at_key c m x);
-          there = config_in (file ms) i (endpoint t) said x.index (config x.inner) (get_map config (tables (codes "config") t) x.index x.inner (sym (ap (λ (j : List ℕ). slice_get (tables j t) x.index) key) ∙ among k t ds at_key c m x));
+          there = config_in (file ms) i (endpoint t) said x.index (config x.inner) (map_at config (tables (codes "config") t) x.index x.inner (sym (ap (λ (j : List ℕ). slice_get (tables j t) x.index) key) ∙ among k t ds at_key c m x));
           sorted = x.sorted;
         })
         (ap (λ (n : Level). filter is_deep (fields n)) is) c x.before x.fails
@@ -117,7 +113,7 @@ module _ (ms : Members) (c : Check) where
         by_leaf ms (entry.Bridge x.index) m x.inner (record {
           is_level = ap Some (sym is);
           is_table = sym (ap (λ (j : List ℕ). table_in j x.index ms) key) ∙ table_there k ms ds at_key c m x;
-          there = bridge_in (file ms) x.index (bridge x.inner) (get_map bridge (tables (codes "bridge") ms) x.index x.inner (sym (ap (λ (j : List ℕ). slice_get (tables j ms) x.index) key) ∙ among k ms ds at_key c m x));
+          there = bridge_in (file ms) x.index (bridge x.inner) (map_at bridge (tables (codes "bridge") ms) x.index x.inner (sym (ap (λ (j : List ℕ). slice_get (tables j ms) x.index) key) ∙ among k ms ds at_key c m x));
           sorted = x.sorted;
         })
         (ap (λ (n : Level). filter is_deep (fields n)) is) c x.before x.fails
@@ -127,7 +123,7 @@ module _ (ms : Members) (c : Check) where
         by_leaf ms (entry.Guest x.index) m x.inner (record {
           is_level = ap Some (sym is);
           is_table = sym (ap (λ (j : List ℕ). table_in j x.index ms) key) ∙ table_there k ms ds at_key c m x;
-          there = guest_in (file ms) x.index (guest x.inner) (get_map guest (tables (codes "guest") ms) x.index x.inner (sym (ap (λ (j : List ℕ). slice_get (tables j ms) x.index) key) ∙ among k ms ds at_key c m x));
+          there = guest_in (file ms) x.index (guest x.inner) (map_at guest (tables (codes "guest") ms) x.index x.inner (sym (ap (λ (j : List ℕ). slice_get (tables j ms) x.index) key) ∙ among k ms ds at_key c m x));
           sorted = x.sorted;
         })
         (ap (λ (n : Level). filter is_deep (fields n)) is) c x.before x.fails
@@ -143,7 +139,7 @@ module _ (ms : Members) (c : Check) where
         said (subst (λ (n : Level). Before c (table_passes Types n x.inner)) is x.before) (sym (ap (λ (n : Level). table_passes c n x.inner) is) ∙ x.fails)
       where
         said : slice_get (file ms).endpoints x.index ≡ Some (endpoint x.inner)
-        said = get_map endpoint (tables (codes "endpoint") ms) x.index x.inner (sym (ap (λ (j : List ℕ). slice_get (tables j ms) x.index) key) ∙ among k ms ds at_key c m x)
+        said = map_at endpoint (tables (codes "endpoint") ms) x.index x.inner (sym (ap (λ (j : List ℕ). slice_get (tables j ms) x.index) key) ∙ among k ms ds at_key c m x)
 
     pub broken_tables : Before c (table_passes Types level.Top ms) → table_passes c level.Top ms ≡ false → Blame ms (number_of_check c)
     broken_tables before h = by_parts ms entry.File level.Top ms of_document c before on_table on_tables h

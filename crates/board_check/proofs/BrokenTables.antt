@@ -4,8 +4,9 @@ use Rattle.std.specs.Prelude.{filter}
 use Rattle.std.specs.Option.{option_map_or}
 use Rattle.std.proofs.lemmas.Bool.{and_cases}
 use Rattle.std.proofs.lemmas.Slice.Eq.{bytes_eq-Decides}
+use Rattle.lists.proofs.Members.{in_front, in_back, in_flat_map}
 use Rattle.toml.specs.Data.{Data, array, table, Items, Members, no_members, member, get_member, at, is_sorted, members_are_sorted}
-use Rattle.model_registers.specs.Lists.{IsIn}
+use Rattle.lists.specs.Elements.{IsIn}
 use Rattle.board_file.specs.Texts.{same_text}
 use Rattle.board_file.specs.Entries.{file}
 use Rattle.board_file.specs.Schema.{Field, fields, form_at, level_at, has_needed, value_test, table_test, table_passes}
@@ -14,16 +15,15 @@ use Rattle.board_file.specs.declared.schema.Form.{Form}
 use Rattle.board_file.specs.declared.schema.Form.TheVariants.{Table, Tables}
 use Rattle.board_file.specs.declared.schema.Check.{Check}
 use Rattle.board_file.specs.declared.schema.Check.TheVariants.{Types, Keys}
-use Rattle.board_check.specs.declared.entry.Entry.{Entry}
-use Rattle.board_check.specs.declared.rule.Rule.{Rule}
-use Rattle.board_check.specs.declared.rule.Rule.TheVariants as rule
+use Rattle.board_file.specs.declared.entry.Entry.{Entry}
+use Rattle.board_file.specs.declared.rule.Rule.{Rule}
+use Rattle.board_file.specs.declared.rule.Rule.TheVariants as rule
 use Rattle.board_check.specs.Keys.{table_at, level_of, needs, is_needed, form_holds, table_keeps, key_keeps}
-use Rattle.board_check.specs.Problems.{Found, entries_of, keys_in, of_field, of_fields, of_member, of_members, of_rules, asked}
-use Rattle.board_check.proofs.Members.{in_left, in_right, in_flat}
+use Rattle.board_file.specs.Problems.{Found}
+use Rattle.board_check.specs.Problems.{entries_of, keys_in, of_field, of_fields, of_member, of_members, asked}
 use Rattle.board_check.proofs.Blames.{found, Blame}
-use Rattle.board_check.proofs.BrokenNumbers.{either_of}
 use Rattle.board_check.proofs.SortedKeys.{IsMember, finds, sorted_inside}
-use Rattle.board_check.proofs.BadValues.{Before, BadMember, bad_member, before_member, BadValue, at_value, in_table as in_table_at, in_tables, bad_value, BadItem, bad_item}
+use Rattle.board_check.proofs.BadValues.{either_of, Before, BadMember, bad_member, before_member, BadValue, at_value, in_table as in_table_at, in_tables, bad_value, BadItem, bad_item}
 
 -- ---- fields
 
@@ -134,15 +134,15 @@ module _ (ms : Members) (e : Entry) (l : Level) (t : Members) (of : TableOf ms e
   asked_there : (x : Found) (f : Field) → IsIn f (fields l) → IsIn x (of_field e f) → IsIn x (asked ms e)
   unfolding asked
   asked_there x f h k =
-      in_left x (of_fields e) (of_members ms e ++ of_rules e)
-      (subst (λ (o : Option Level). IsIn x (option_map_or (λ m. flat_map (of_field e) (fields m)) o [])) (sym of.is_level) (in_flat (of_field e) f x (fields l) h k))
+      in_front x (of_fields e) (of_members ms e)
+      (subst (λ (o : Option Level). IsIn x (option_map_or (λ m. flat_map (of_field e) (fields m)) o [])) (sym of.is_level) (in_flat_map (of_field e) f x (fields l) h k))
 
   known_there : (k : List ℕ) (d : Data) → IsMember k d t → IsIn (found e rule.Known k) (asked ms e)
   unfolding asked
   known_there k d m =
       let x = found e rule.Known k in
-      in_right x (of_fields e) (of_members ms e ++ of_rules e)
-      (in_left x (of_members ms e) (of_rules e) (subst (λ (o : Option Members). IsIn x (map (of_member e) (option_map_or keys_in o []))) (sym of.is_table) (in_members e t k d m)))
+      in_back x (of_fields e) (of_members ms e)
+      (subst (λ (o : Option Members). IsIn x (map (of_member e) (option_map_or keys_in o []))) (sym of.is_table) (in_members e t k d m))
 
   by_needed : has_needed (fields l) t ≡ false → Blame ms 102
   by_needed h =

@@ -7,6 +7,7 @@ use Rattle.std.specs.Cmp.Lexicographic.{slice_cmp}
 use Rattle.std.proofs.lemmas.Bool.{and_parts, and_left, and_right, or_cases}
 use Rattle.std.proofs.lemmas.Map.Text.{is_eq-slice_cmp}
 use Rattle.std.proofs.lemmas.Slice.Eq.{bytes_eq-Decides}
+use Rattle.lists.proofs.Tests.{asked_parts}
 use Rattle.toml.specs.Data.{Data, string, integer, float, boolean, datetime, array, table, Items, no_items, item, Members, no_members, member, get_member, get_item, at, as_table}
 use Rattle.board_file.specs.Texts.{same_text}
 use Rattle.board_file.specs.Schema.{Field, fields, form_at, has_needed, value_test, table_test, value_passes, items_pass, members_pass, table_passes}
@@ -16,10 +17,10 @@ use Rattle.board_file.specs.declared.schema.Form.{Form}
 use Rattle.board_file.specs.declared.schema.Form.TheVariants.{Table, Tables}
 use Rattle.board_file.specs.declared.schema.Check.{Check}
 use Rattle.board_file.specs.declared.schema.Check.TheVariants.{Types, Keys}
-use Rattle.board_check.specs.declared.entry.Entry.{Entry}
-use Rattle.board_check.specs.declared.entry.Entry.TheVariants as entry
-use Rattle.board_check.specs.declared.rule.Rule.{Rule}
-use Rattle.board_check.specs.declared.rule.Rule.TheVariants as rule
+use Rattle.board_file.specs.declared.entry.Entry.{Entry}
+use Rattle.board_file.specs.declared.entry.Entry.TheVariants as entry
+use Rattle.board_file.specs.declared.rule.Rule.{Rule}
+use Rattle.board_file.specs.declared.rule.Rule.TheVariants as rule
 use Rattle.board_check.specs.Keys.{table_in, needs, is_needed, form_holds, table_keeps, key_keeps}
 
 -- ---- values that are there
@@ -133,10 +134,6 @@ needed_fails (f ∷ fs) k t h none = by_case (needed_fails fs k t) (or_cases (f.
         (ap₂ (λ (a b : Bool). not a || b) needed (ap (λ (x : List ℕ). is_some (get_member x t)) is ∙ none))
     by_case rest (inr more) = and_right (not f.is_needed || is_some (get_member f.key t)) (has_needed fs t) (rest more none)
 
-asked_for : (a b : Bool) → (not a || b) ≡ false → (a ≡ true) × (b ≡ false)
-asked_for true b h = (refl, h)
-asked_for false b h = cc
-
 same_test : (o : Option Form) (d : Data) → form_holds o d ≡ false → value_test Types o d ≡ false
 same_test None d h = h
 same_test (Some form) d h = h
@@ -147,13 +144,13 @@ some_value (Some d) h = (d, refl)
 
 fails_here : (r : Rule) (l : Level) (k : List ℕ) (t : Members) → table_keeps r l k t ≡ false → table_passes (check_of r) l t ≡ false
 fails_here rule.Needed l k t h =
-    let (needed, none) = asked_for (is_needed l k) (is_some (get_member k t)) h in
+    let (needed, none) = asked_parts (is_needed l k) (is_some (get_member k t)) h in
     and_left (has_needed (fields l) t) (members_pass Types l t) (needed_fails (fields l) k t needed none)
 fails_here rule.Form l k t h =
     let x = held (form_holds (form_at k (fields l))) (get_member k t) h in
     value_fails Types l t k x.value x.is (test_fails Types (form_at k (fields l)) x.value (same_test (form_at k (fields l)) x.value x.fails))
 fails_here rule.Known l k t h =
-    let (some, unknown) = asked_for (is_some (get_member k t)) (is_some (form_at k (fields l))) h in
+    let (some, unknown) = asked_parts (is_some (get_member k t)) (is_some (form_at k (fields l))) h in
     let (d, is) = some_value (get_member k t) some in
     value_fails Keys l t k d is (test_fails Keys (form_at k (fields l)) d unknown)
 fails_here _ l k t h = cc

@@ -1,17 +1,10 @@
-pub mod Failures
 pub mod Members
 pub mod Blames
-pub mod BrokenNumbers
-pub mod BrokenRegions
-pub mod BrokenPlaces
 pub mod SortedKeys
 pub mod BadValues
 pub mod BrokenTables
 pub mod BrokenKeys
 pub mod Refusals
 pub mod SortedDocuments
-pub mod PairTests
-pub mod RuleBreaks
 pub mod KeyBreaks
-pub mod BrokenChecks
 pub mod Asked

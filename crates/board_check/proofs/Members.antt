@@ -2,37 +2,14 @@
 use Rattle.std.proofs.Common.{◌≡◌, ℕ, zero, suc, ◌+◌, Bool, true, false, cond, List, [], ◌∷◌, ◌++◌, map, length, Some, refl, sym, ap, ◌∙◌, subst, arith, inl, inr}
 use Rattle.std.specs.Prelude.{slice_get, filter}
 use Rattle.std.specs.List.{flat_map, enumerate_from, range_with_len}
-use Rattle.model_registers.specs.Lists.{IsIn}
+use Rattle.lists.specs.Elements.{IsIn}
+use Rattle.lists.proofs.Members.{in_front, in_back, in_map, in_flat_map}
 use Rattle.board_file.specs.Entries.{Bar, Config, Endpoint, Bridge, Guest, File}
-use Rattle.board_check.specs.declared.entry.Entry.{Entry}
-use Rattle.board_check.specs.declared.entry.Entry.TheVariants as entry
+use Rattle.board_file.specs.declared.entry.Entry.{Entry}
+use Rattle.board_file.specs.declared.entry.Entry.TheVariants as entry
 use Rattle.board_check.specs.Problems.{indices, with_endpoint, with_guest, entries_of}
 
 -- ---- lists
-
-pub in_left : {A : Type 0} (x : A) (xs ys : List A) → IsIn x xs → IsIn x (xs ++ ys)
-in_left x [] ys h = absurd h
-in_left x (z ∷ zs) ys (inl h) = inl h
-in_left x (z ∷ zs) ys (inr h) = inr (in_left x zs ys h)
-
-pub in_right : {A : Type 0} (x : A) (xs ys : List A) → IsIn x ys → IsIn x (xs ++ ys)
-in_right x [] ys h = h
-in_right x (z ∷ zs) ys h = inr (in_right x zs ys h)
-
-pub in_map : {A B : Type 0} (f : A → B) (x : A) (xs : List A) → IsIn x xs → IsIn (f x) (map f xs)
-in_map f x [] h = absurd h
-in_map f x (y ∷ ys) (inl h) = inl (ap f h)
-in_map f x (y ∷ ys) (inr h) = inr (in_map f x ys h)
-
-pub in_flat : {A B : Type 0} (f : A → List B) (x : A) (y : B) (xs : List A) → IsIn x xs → IsIn y (f x) → IsIn y (flat_map f xs)
-in_flat f x y [] h k = absurd h
-in_flat f x y (z ∷ zs) (inl h) k = in_left y (f z) (flat_map f zs) (subst (λ w. IsIn y (f w)) h k)
-in_flat f x y (z ∷ zs) (inr h) k = in_right y (f z) (flat_map f zs) (in_flat f x y zs h k)
-
-pub in_at : {A : Type 0} (xs : List A) (n : ℕ) (x : A) → slice_get xs n ≡ Some x → IsIn x xs
-in_at [] n x h = cc
-in_at (y ∷ ys) zero x h = let same : x ≡ y = cc in inl same
-in_at (y ∷ ys) (suc n) x h = inr (in_at ys n x h)
 
 in_range : {A : Type 0} (xs : List A) (from n : ℕ) (x : A) → slice_get xs n ≡ Some x → IsIn (from + n) (range_with_len from (length xs))
 in_range [] from n x h = cc
@@ -90,14 +67,14 @@ module _ (f : File) where
   of_guests = flat_map with_guest (enumerate_from 0 f.guests)
 
   among_endpoints : (x : Entry) → IsIn x of_endpoints → IsIn x (entries_of f)
-  among_endpoints x h = inr (inr (in_left x (of_endpoints ++ of_bridges) of_guests (in_left x of_endpoints of_bridges h)))
+  among_endpoints x h = inr (inr (in_front x (of_endpoints ++ of_bridges) of_guests (in_front x of_endpoints of_bridges h)))
 
   among_guests : (x : Entry) → IsIn x of_guests → IsIn x (entries_of f)
-  among_guests x h = inr (inr (in_right x (of_endpoints ++ of_bridges) of_guests h))
+  among_guests x h = inr (inr (in_back x (of_endpoints ++ of_bridges) of_guests h))
 
   module _ (i : ℕ) (e : Endpoint) (at : slice_get f.endpoints i ≡ Some e) where
     with_it : (x : Entry) → IsIn x (with_endpoint (i, e)) → IsIn x (entries_of f)
-    with_it x h = among_endpoints x (in_flat with_endpoint (i, e) x (enumerate_from 0 f.endpoints) (in_enumerated f.endpoints i e at) h)
+    with_it x h = among_endpoints x (in_flat_map with_endpoint (i, e) x (enumerate_from 0 f.endpoints) (in_enumerated f.endpoints i e at) h)
 
     pub endpoint_in : IsIn (entry.Endpoint i) (entries_of f)
     endpoint_in = with_it (entry.Endpoint i) (inl refl)
@@ -105,23 +82,20 @@ module _ (f : File) where
     pub bar_in : (j : ℕ) (b : Bar) → slice_get e.bars j ≡ Some b → IsIn (entry.Bar i j) (entries_of f)
     bar_in j b h =
         with_it (entry.Bar i j)
-        (inr (in_left (entry.Bar i j) (map (entry.Bar i) (indices e.bars)) (map (entry.Config i) (indices e.configs)) (in_map (entry.Bar i) j (indices e.bars) (in_indices e.bars j b h))))
+        (inr (in_front (entry.Bar i j) (map (entry.Bar i) (indices e.bars)) (map (entry.Config i) (indices e.configs)) (in_map (entry.Bar i) j (indices e.bars) (in_indices e.bars j b h))))
 
     pub config_in : (j : ℕ) (c : Config) → slice_get e.configs j ≡ Some c → IsIn (entry.Config i j) (entries_of f)
     config_in j c h =
         with_it (entry.Config i j)
-        (inr (in_right (entry.Config i j) (map (entry.Bar i) (indices e.bars)) (map (entry.Config i) (indices e.configs)) (in_map (entry.Config i) j (indices e.configs) (in_indices e.configs j c h))))
+        (inr (in_back (entry.Config i j) (map (entry.Bar i) (indices e.bars)) (map (entry.Config i) (indices e.configs)) (in_map (entry.Config i) j (indices e.configs) (in_indices e.configs j c h))))
 
   pub bridge_in : (i : ℕ) (b : Bridge) → slice_get f.bridges i ≡ Some b → IsIn (entry.Bridge i) (entries_of f)
   bridge_in i b h =
-      inr (inr (in_left (entry.Bridge i) (of_endpoints ++ of_bridges) of_guests (in_right (entry.Bridge i) of_endpoints of_bridges (in_map entry.Bridge i (indices f.bridges) (in_indices f.bridges i b h)))))
+      inr (inr (in_front (entry.Bridge i) (of_endpoints ++ of_bridges) of_guests (in_back (entry.Bridge i) of_endpoints of_bridges (in_map entry.Bridge i (indices f.bridges) (in_indices f.bridges i b h)))))
 
   module _ (i : ℕ) (g : Guest) (at : slice_get f.guests i ≡ Some g) where
     with_guest_here : (x : Entry) → IsIn x (with_guest (i, g)) → IsIn x (entries_of f)
-    with_guest_here x h = among_guests x (in_flat with_guest (i, g) x (enumerate_from 0 f.guests) (in_enumerated f.guests i g at) h)
+    with_guest_here x h = among_guests x (in_flat_map with_guest (i, g) x (enumerate_from 0 f.guests) (in_enumerated f.guests i g at) h)
 
     pub guest_in : IsIn (entry.Guest i) (entries_of f)
     guest_in = with_guest_here (entry.Guest i) (inl refl)
-
-    pub slot_in : (j : ℕ) (t : List ℕ) → slice_get g.slots j ≡ Some t → IsIn (entry.Slot i j) (entries_of f)
-    slot_in j t h = with_guest_here (entry.Slot i j) (inr (in_map (entry.Slot i) j (indices g.slots) (in_indices g.slots j t h)))

@@ -1,83 +1,96 @@
--- A file that is refused has a problem of the fault for which it is.
-use Rattle.std.proofs.Common.{◌≡◌, ℕ, Bool, true, false, List, [], ◌∷◌, Option, Some, None, Err, refl, ap, subst}
-use Rattle.std.specs.List.{list_all}
+-- A file that is refused has a problem of the fault for which it is, and one with a problem of a fault fails its check.
+use Rattle.std.proofs.Common.{◌≡◌, ◌≢◌, ℕ, Bool, true, false, ◌&&◌, ◌||◌, ◌==◌, not, cond, List, [], ◌∷◌, Option, Some, None, Err, refl, sym, ap, subst, ◌∙◌, arith}
+use Rattle.std.specs.Prelude.{filter, slice_get}
+use Rattle.std.specs.List.{flat_map}
+use Rattle.std.specs.Option.{option_map_or}
+use Rattle.std.proofs.lemmas.Bool.{and_parts, and_left, and_right, not-true, eqb-true, eq-eqb}
+use Rattle.lists.proofs.Indices.{index_in}
 use Rattle.toml.specs.Data.{Members, members_are_sorted}
+use Rattle.lists.specs.Elements.{IsIn}
 use Rattle.model_registers.specs.DeclarationRules.{first_broken}
+use Rattle.board_file.specs.declared.schema.Level.{Level}
 use Rattle.board_file.specs.declared.schema.Level.TheVariants as level
 use Rattle.board_file.specs.declared.schema.Check.TheVariants.{Types, Keys}
+use Rattle.board_file.specs.declared.fault.BoardFault.{BoardFault}
+use Rattle.board_file.specs.declared.fault.BoardFault.TheVariants as fault
+use Rattle.board_file.specs.declared.entry.Entry.{Entry}
+use Rattle.board_file.specs.declared.rule.Rule.{Rule}
+use Rattle.board_file.specs.declared.rule.Rule.TheVariants as rule
 use Rattle.board_file.specs.Schema.{table_passes}
 use Rattle.board_file.specs.Entries.{File, file}
 use Rattle.board_file.specs.Faults.{number_of}
+use Rattle.board_file.specs.RuleFaults.{fault_of}
+use Rattle.board_file.specs.Problems.{Found, problems_in, holds}
 use Rattle.board_file.specs.Meaning.{rules, checks, unless, world_of}
-use Rattle.board_file.specs.Rules.{numbers_hold, counts_hold, places_hold, registers_hold, sizes_hold, names_hold, slots_hold, apertures_hold, masks_hold}
-use Rattle.board_check.specs.ProblemLaws.{RefusalsHaveProblems, RefusedDocumentsHaveProblems}
-use Rattle.board_check.proofs.Blames.{Blame, Breach, blame, some_problem}
-use Rattle.board_check.proofs.BrokenNumbers.{broken_numbers, broken_counts}
-use Rattle.board_check.proofs.BrokenRegions.{broken_registers, broken_sizes, broken_masks, broken_names, broken_apertures}
-use Rattle.board_check.proofs.BrokenPlaces.{broken_places, broken_slots}
+use Rattle.board_file.proofs.Tests.{and-true, none}
+use Rattle.board_file.proofs.NoProblems.{no_problems}
+use Rattle.board_check.specs.Keys.{level_of, table_at, key_keeps}
+use Rattle.board_check.specs.Problems.{entries_of, asked, is_wrong, key_problems, problems_of}
+use Rattle.board_check.specs.ProblemLaws.{RefusalsHaveProblems, RefusedDocumentsHaveProblems, ProblemsBreakChecks}
+use Rattle.board_check.proofs.Blames.{some_problem}
 use Rattle.board_check.proofs.BrokenKeys.{broken_tables}
+use Rattle.board_check.proofs.KeyBreaks.{key_breaks}
 use Rattle.board_check.proofs.SortedDocuments.{document_sorted}
 
--- what the first broken of some checks gives, from what each of them gives
-first_gives : (P : ℕ → Type 0) (n : ℕ) (b : Bool) (more : List (ℕ × Bool)) (m : ℕ) → (b ≡ false → P n) → (b ≡ true → first_broken more ≡ Some m → P m) → first_broken ((n, b) ∷ more) ≡ Some m → P m
-first_gives P n false more m here rest h = let same : n ≡ m = cc in subst P same (here refl)
-first_gives P n true more m here rest h = rest refl h
+-- ---- checks of a number
 
-module _ (f : File) (m : ℕ) where
-  abbrev from_masks : List (ℕ × Bool)
-  from_masks = (112, list_all masks_hold f.endpoints) ∷ []
+-- all checks of this number hold
+abbrev at_number : ℕ → List (ℕ × Bool) → Bool
+at_number n [] = true
+at_number n ((m, b) ∷ more) = (not (m == n) || b) && at_number n more
 
-  abbrev from_apertures : List (ℕ × Bool)
-  from_apertures = (111, apertures_hold f) ∷ from_masks
+broken_at : (n : ℕ) (cs : List (ℕ × Bool)) → first_broken cs ≡ Some n → at_number n cs ≡ false
+broken_at n [] h = cc
+broken_at n ((m, true) ∷ more) h = and_right (not (m == n) || true) (at_number n more) (broken_at n more h)
+broken_at n ((m, false) ∷ more) h =
+    let same : m ≡ n = cc in
+    and_left (not (m == n) || false) (at_number n more) (ap (λ (b : Bool). not b || false) (eq-eqb m n same))
 
-  abbrev from_slots : List (ℕ × Bool)
-  from_slots = (110, slots_hold f) ∷ from_apertures
+alone : (b : Bool) → (b && true) ≡ false → b ≡ false
+alone b h = sym (and-true b) ∙ h
 
-  abbrev from_names : List (ℕ × Bool)
-  from_names = (109, names_hold f) ∷ from_slots
+-- ---- what a file says
 
-  abbrev from_sizes : List (ℕ × Bool)
-  from_sizes = (107, list_all sizes_hold f.endpoints) ∷ from_names
+module _ (f : File) where
+  some_problem_in : (fault : BoardFault) → holds fault f ≡ false → problems_in f fault ≢ []
+  some_problem_in fault broken empty = let wrong : true ≡ false = ap none (sym empty) ∙ no_problems f fault ∙ broken in cc
 
-  abbrev from_registers : List (ℕ × Bool)
-  from_registers = (106, list_all registers_hold f.endpoints) ∷ from_sizes
+  broken_by : (fault : BoardFault) → problems_in f fault ≢ [] → holds fault f ≡ false
+  broken_by fault some = sym (no_problems f fault) ∙ not_none (problems_in f fault) some
+    where
+      not_none : (xs : List Found) → xs ≢ [] → none xs ≡ false
+      not_none [] h = absurd (h refl)
+      not_none (x ∷ xs) h = refl
 
-  abbrev from_places : List (ℕ × Bool)
-  from_places = (105, places_hold f) ∷ from_registers
+-- ---- refusals have problems
 
-  abbrev from_counts : List (ℕ × Bool)
-  from_counts = (108, counts_hold f) ∷ from_places
+first_number : (n m : ℕ) (more : List (ℕ × Bool)) → first_broken ((n, false) ∷ more) ≡ Some m → n ≡ m
+first_number n m more h = cc
 
-  last_breach : first_broken from_masks ≡ Some m → Breach f m
-  last_breach h = first_gives (Breach f) 112 (list_all masks_hold f.endpoints) [] m (broken_masks f) (λ k none. cc) h
-
-  end_breach : first_broken from_slots ≡ Some m → Breach f m
-  end_breach h =
-      first_gives (Breach f) 110 (slots_hold f) from_apertures m (broken_slots f)
-      (λ _ h. first_gives (Breach f) 111 (apertures_hold f) from_masks m (broken_apertures f) (λ _ h. last_breach h) h) h
-
-  later_breach : first_broken from_sizes ≡ Some m → Breach f m
-  later_breach h =
-      first_gives (Breach f) 107 (list_all sizes_hold f.endpoints) from_names m (broken_sizes f)
-      (λ _ h. first_gives (Breach f) 109 (names_hold f) from_slots m (broken_names f) (λ _ h. end_breach h) h) h
-
-  next_breach : first_broken from_places ≡ Some m → Breach f m
-  next_breach h =
-      first_gives (Breach f) 105 (places_hold f) from_registers m (broken_places f)
-      (λ _ h. first_gives (Breach f) 106 (list_all registers_hold f.endpoints) from_sizes m (broken_registers f) (λ _ h. later_breach h) h) h
-
-  first_breach : first_broken (rules f) ≡ Some m → Breach f m
-  first_breach h =
-      first_gives (Breach f) 104 (numbers_hold f) from_counts m (broken_numbers f)
-      (λ _ h. first_gives (Breach f) 108 (counts_hold f) from_places m (broken_counts f) (λ _ h. next_breach h) h) h
-
-first_blame : (ms : Members) → members_are_sorted ms ≡ true → (m : ℕ) → first_broken (checks ms) ≡ Some m → Blame ms m
-first_blame ms sorted m h =
-    first_gives (Blame ms) 102 (table_passes Types level.Top ms) ((103, table_passes Keys level.Top ms) ∷ rules (file ms)) m (broken_tables ms Types sorted tt)
-    (λ forms h. first_gives (Blame ms) 103 (table_passes Keys level.Top ms) (rules (file ms)) m (broken_tables ms Keys sorted forms) (λ _ h. blame ms m (first_breach (file ms) m h)) h) h
+-- of two checks, the first of which holds where the second is the first that fails
+first_holds : (b c : Bool) (more : List (ℕ × Bool)) → first_broken ((102, b) ∷ (103, c) ∷ more) ≡ Some 103 → b ≡ true
+first_holds true c more h = refl
+first_holds false c more h = absurd (omega (arith, first_number 102 103 ((103, c) ∷ more) h))
 
 pub refusals_have_problems : RefusalsHaveProblems
-refusals_have_problems ms sorted fault h = some_problem ms fault (first_blame ms sorted (number_of fault) h)
+refusals_have_problems ms sorted told h = by_fault told h (broken_at (number_of told) (checks ms) h)
+  where
+    by_fault : (f : BoardFault) → first_broken (checks ms) ≡ Some (number_of f) → at_number (number_of f) (checks ms) ≡ false → problems_of ms f ≢ []
+    by_fault fault.NotToml h broken = λ none. absurd (let wrong : true ≡ false = broken in cc)
+    by_fault fault.Key h broken = some_problem ms fault.Key (broken_tables ms Types sorted tt (alone (table_passes Types level.Top ms) broken))
+    by_fault fault.UnknownKey h broken =
+        some_problem ms fault.UnknownKey (broken_tables ms Keys sorted (first_holds (table_passes Types level.Top ms) (table_passes Keys level.Top ms) (rules (file ms)) h)
+        (alone (table_passes Keys level.Top ms) broken))
+    by_fault fault.Number h broken = some_problem_in (file ms) fault.Number (alone (holds fault.Number (file ms)) broken)
+    by_fault fault.TooMany h broken = some_problem_in (file ms) fault.TooMany (alone (holds fault.TooMany (file ms)) broken)
+    by_fault fault.Place h broken = some_problem_in (file ms) fault.Place (alone (holds fault.Place (file ms)) broken)
+    by_fault fault.Register h broken = some_problem_in (file ms) fault.Register (alone (holds fault.Register (file ms)) broken)
+    by_fault fault.Size h broken = some_problem_in (file ms) fault.Size (alone (holds fault.Size (file ms)) broken)
+    by_fault fault.GuestName h broken = some_problem_in (file ms) fault.GuestName (alone (holds fault.GuestName (file ms)) broken)
+    by_fault fault.Slot h broken = some_problem_in (file ms) fault.Slot (alone (holds fault.Slot (file ms)) broken)
+    by_fault fault.Aperture h broken = some_problem_in (file ms) fault.Aperture (alone (holds fault.Aperture (file ms)) broken)
+    by_fault fault.CellMasks h broken = some_problem_in (file ms) fault.CellMasks (alone (holds fault.CellMasks (file ms)) broken)
+    by_fault fault.Memory h broken = λ none. absurd (let wrong : true ≡ false = broken in cc)
 
 broken_of : {A : Type 0} (o : Option ℕ) (x : A) (n : ℕ) → unless o x ≡ Err n → o ≡ Some n
 broken_of None x n h = cc
@@ -86,3 +99,63 @@ broken_of (Some m) x n h = let same : m ≡ n = cc in ap Some same
 pub refused_documents_have_problems : RefusedDocumentsHaveProblems
 refused_documents_have_problems bytes ms read fault h =
     refusals_have_problems ms (document_sorted bytes ms read) fault (broken_of (first_broken (checks ms)) (world_of (file ms)) (number_of fault) h)
+
+-- ---- problems break checks
+
+-- what passes a test, where something does
+record Passing {A : Type 0} (p : A → Bool) : Type 0 where
+  value : A
+  passes : p value ≡ true
+
+passing : {A : Type 0} (p : A → Bool) (xs : List A) → filter p xs ≢ [] → Passing p
+passing p [] h = absurd (h refl)
+passing p (x ∷ xs) h = by_case (passing p xs) (p x) refl h
+  where
+    by_case : (filter p xs ≢ [] → Passing p) → (b : Bool) → p x ≡ b → cond b (x ∷ filter p xs) (filter p xs) ≢ [] → Passing p
+    by_case rest true is k = record { value = x; passes = is }
+    by_case rest false is k = rest k
+
+-- tables are asked no other rules
+not_asked : (o : Option Level) (t : Option Members) → option_map_or (λ (l : Level). option_map_or (λ (u : Members). true) t true) o true ≡ true
+not_asked None t = refl
+not_asked (Some l) None = refl
+not_asked (Some l) (Some u) = refl
+
+module _ (ms : Members) where
+  check_at : (place n : ℕ) (b : Bool) → slice_get (checks ms) place ≡ Some (n, b) → b ≡ false → IsIn (n, false) (checks ms)
+  check_at place n b at h = index_in (checks ms) place (n, false) (at ∙ ap (λ (x : Bool). Some (n, x)) h)
+
+  by_rule : (e : Entry) (r : Rule) (k : List ℕ) → key_keeps ms e r k ≡ false → IsIn (number_of (fault_of r), false) (checks ms)
+  by_rule e rule.Needed k h = check_at 0 102 (table_passes Types level.Top ms) refl (key_breaks ms rule.Needed k e h)
+  by_rule e rule.Form k h = check_at 0 102 (table_passes Types level.Top ms) refl (key_breaks ms rule.Form k e h)
+  by_rule e rule.Known k h = check_at 1 103 (table_passes Keys level.Top ms) refl (key_breaks ms rule.Known k e h)
+  by_rule e r k h = let wrong : true ≡ false = sym (not_asked (level_of e) (table_at ms e)) ∙ h in cc
+
+  by_keys : (fault : BoardFault) → key_problems ms fault ≢ [] → IsIn (number_of fault, false) (checks ms)
+  unfolding is_wrong
+  by_keys fault h =
+      let x = passing (is_wrong ms fault) (flat_map (asked ms) (entries_of (file ms))) h in
+      let (number, broken) = and_parts (number_of (fault_of x.value.rule) == number_of fault) (not (key_keeps ms x.value.entry x.value.rule x.value.key)) x.passes in
+      subst (λ (n : ℕ). IsIn (n, false) (checks ms)) (eqb-true (number_of (fault_of x.value.rule)) (number_of fault) number)
+      (by_rule x.value.entry x.value.rule x.value.key (not-true (key_keeps ms x.value.entry x.value.rule x.value.key) broken))
+
+  by_check : (place : ℕ) (fault : BoardFault) → slice_get (checks ms) place ≡ Some (number_of fault, holds fault (file ms)) → problems_in (file ms) fault ≢ [] → IsIn (number_of fault, false) (checks ms)
+  by_check place fault at some = check_at place (number_of fault) (holds fault (file ms)) at (broken_by (file ms) fault some)
+
+  always : (fault : BoardFault) → holds fault (file ms) ≡ true → problems_in (file ms) fault ≢ [] → IsIn (number_of fault, false) (checks ms)
+  always fault h some = absurd (let wrong : true ≡ false = sym h ∙ broken_by (file ms) fault some in cc)
+
+pub problems_break_checks : ProblemsBreakChecks
+problems_break_checks ms fault.NotToml h = always ms fault.NotToml refl h
+problems_break_checks ms fault.Key h = by_keys ms fault.Key h
+problems_break_checks ms fault.UnknownKey h = by_keys ms fault.UnknownKey h
+problems_break_checks ms fault.Number h = by_check ms 2 fault.Number refl h
+problems_break_checks ms fault.TooMany h = by_check ms 3 fault.TooMany refl h
+problems_break_checks ms fault.Place h = by_check ms 4 fault.Place refl h
+problems_break_checks ms fault.Register h = by_check ms 5 fault.Register refl h
+problems_break_checks ms fault.Size h = by_check ms 6 fault.Size refl h
+problems_break_checks ms fault.GuestName h = by_check ms 7 fault.GuestName refl h
+problems_break_checks ms fault.Slot h = by_check ms 8 fault.Slot refl h
+problems_break_checks ms fault.Aperture h = by_check ms 9 fault.Aperture refl h
+problems_break_checks ms fault.CellMasks h = by_check ms 10 fault.CellMasks refl h
+problems_break_checks ms fault.Memory h = always ms fault.Memory refl h

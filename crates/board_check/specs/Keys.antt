@@ -13,10 +13,10 @@ use Rattle.board_file.specs.Schema.{Field, fields, form_at, has_form}
 use Rattle.board_file.specs.declared.schema.Form.{Form}
 use Rattle.board_file.specs.declared.schema.Level.{Level}
 use Rattle.board_file.specs.declared.schema.Level.TheVariants as level
-use Rattle.board_check.specs.declared.rule.Rule.{Rule}
-use Rattle.board_check.specs.declared.rule.Rule.TheVariants as rule
-use Rattle.board_check.specs.declared.entry.Entry.{Entry}
-use Rattle.board_check.specs.declared.entry.Entry.TheVariants as entry
+use Rattle.board_file.specs.declared.rule.Rule.{Rule}
+use Rattle.board_file.specs.declared.rule.Rule.TheVariants as rule
+use Rattle.board_file.specs.declared.entry.Entry.{Entry}
+use Rattle.board_file.specs.declared.entry.Entry.TheVariants as entry
 
 -- the table at an index of the list at a key
 abbrev pub table_in : List ℕ → ℕ → Members → Option Members

@@ -1,6 +1,5 @@
 pub mod Rules
 pub mod Keys
-pub mod Keeping
 pub mod Problems
 pub mod ProblemLaws
 pub mod Lines

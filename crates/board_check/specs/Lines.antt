@@ -9,8 +9,8 @@ use Rattle.toml.specs.Data.{Members}
 use Rattle.value_places.specs.declared.steps.Step.{Step}
 use Rattle.value_places.specs.declared.steps.Step.TheVariants.{Key, Index}
 use Rattle.value_places.specs.Places.{IsLineWithin}
-use Rattle.board_check.specs.declared.entry.Entry.{Entry}
-use Rattle.board_check.specs.declared.entry.Entry.TheVariants as entry
+use Rattle.board_file.specs.declared.entry.Entry.{Entry}
+use Rattle.board_file.specs.declared.entry.Entry.TheVariants as entry
 use Rattle.board_check.specs.Keys.{value_at}
 
 pub data Turn : Type 0 where

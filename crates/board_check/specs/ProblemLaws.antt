@@ -5,7 +5,7 @@
 use Rattle.std.specs.Prelude.{◌≡◌, ◌≢◌, ℕ, true, false, List, [], Some, Err}
 use Rattle.toml.specs.Data.{Members, members_are_sorted}
 use Rattle.toml.specs.Parse.{parse_document}
-use Rattle.model_registers.specs.Lists.{IsIn}
+use Rattle.lists.specs.Elements.{IsIn}
 use Rattle.model_registers.specs.DeclarationRules.{first_broken}
 use Rattle.board_file.specs.declared.fault.BoardFault.{BoardFault}
 use Rattle.board_file.specs.Faults.{number_of}

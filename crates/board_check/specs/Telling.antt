@@ -9,13 +9,14 @@ use Rattle.std.specs.List.Sorted.{IsNonDecreasingBy, IsStableByKey}
 use Rattle.std.specs.Ordering.{nat_cmp}
 use Rattle.toml.specs.Data.{Members}
 use Rattle.toml.specs.Parse.{parse_document}
-use Rattle.model_registers.specs.Lists.{Each}
+use Rattle.lists.specs.Elements.{Each}
 use Rattle.value_places.specs.LineNumbers.{line_of}
 use Rattle.board_file.specs.declared.fault.BoardFault.{BoardFault}
-use Rattle.board_check.specs.declared.finding.Problem.{Problem}
+use Rattle.board_file.specs.declared.finding.Problem.{Problem}
 use Rattle.board_check.specs.declared.lines.Told.{Told}
 use Rattle.board_check.specs.Lines.{IsLineOf}
-use Rattle.board_check.specs.Problems.{Found, found_of, problems_of}
+use Rattle.board_file.specs.Problems.{Found, found_of}
+use Rattle.board_check.specs.Problems.{problems_of}
 use Rattle.board_check.specs.Texts.{bare_text, lines_text}
 
 abbrev pub problem_of : Told → Problem

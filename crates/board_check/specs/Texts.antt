@@ -12,10 +12,11 @@ use Rattle.toml.specs.Data.{Data, string, integer, Members, as_str}
 use Rattle.board_file.specs.declared.fault.BoardFault.{BoardFault}
 use Rattle.board_file.specs.Faults.{number_of}
 use Rattle.board_file.specs.Texts.{same_text}
-use Rattle.board_check.specs.declared.entry.Entry.{Entry}
-use Rattle.board_check.specs.declared.entry.Entry.TheVariants as entry
+use Rattle.board_file.specs.declared.entry.Entry.{Entry}
+use Rattle.board_file.specs.declared.entry.Entry.TheVariants as entry
 use Rattle.board_check.specs.declared.lines.Told.{Told}
-use Rattle.board_check.specs.Rules.{fault_of, words_of, fault_words}
+use Rattle.board_file.specs.RuleFaults.{fault_of}
+use Rattle.board_check.specs.Rules.{words_of, fault_words}
 use Rattle.board_check.specs.Keys.{value_at, owner_key, owner_of}
 
 abbrev pub nth_text : List ℕ → ℕ → List ℕ

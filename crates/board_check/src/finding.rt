@@ -2,28 +2,17 @@
 ghost use Rattle.std.specs.Prelude.{◌≡◌, ◌++◌, [], ◌∷◌, map, IfOk, OnOk};
 ghost use Rattle.toml.specs.View.{table_view};
 ghost use Rattle.board_file.specs.Entries as said;
-ghost use Rattle.board_file.specs.Functions.{standings};
-ghost use Rattle.board_check.specs.Problems.{found_of, with_endpoint, with_guest, entries_of, of_fields, of_members, of_rules, asked, problems_of, AddsWrong};
+ghost use Rattle.board_file.specs.Problems.{found_of};
+ghost use Rattle.board_check.specs.Problems.{with_endpoint, with_guest, entries_of, of_fields, of_members, asked, key_problems, problems_of, AddsWrong};
 
-use crate::entry::Entry;
-use crate::keeping::keeps;
-use crate::keys::{level_of, table_at};
-use crate::rule::Rule;
-use board_file::BoardFault;
+use crate::keys::{key_keeps, level_of, table_at};
 use board_file::entries::{EndpointEntry, FileEntries, GuestEntry};
 use board_file::keys::fields;
-use board_file::places::{FunctionPath, function_paths};
+use board_file::places::function_paths;
 use board_file::reading::read_entries;
+use board_file::{BoardFault, Entry, Problem, Rule};
 use std::alloc::{AllocError, Global};
 use toml::Table;
-
-/// An entry that breaks a rule, and the key at which it does.
-#[derive(Clone, Copy, Debug)]
-pub struct Problem<'a> {
-    pub entry: Entry,
-    pub rule: Rule,
-    pub key: &'a str,
-}
 
 /// Appends the tables of an endpoint's regions and own registers.
 fn push_endpoint(
@@ -79,31 +68,18 @@ fn entries(alloc: Global, file: &FileEntries<'_>) -> Result<Vec<Entry>, AllocErr
 
 /// Appends the problem, where the fault is the rule's and the entry breaks it.
 fn push_problem<'a>(
-    alloc: Global,
     problems: &mut Vec<Problem<'a>>,
     table: &Table,
-    file: &FileEntries<'_>,
-    functions: &[FunctionPath],
     fault: BoardFault,
     problem: Problem<'a>,
 ) -> Result<(), AllocError>
-    requires file { file.now ≡ said.file (table_view table.now) }
-    requires functions { functions.now ≡ standings file.now }
     ensures { let ms = table_view table.now in
         OnOk result (AddsWrong ms fault (found_of problem.entry ∷ []) problems.old.items problems.new.items) }
 {
     if problem.rule.fault().number() != fault.number() {
         return Ok(());
     }
-    if keeps(
-        alloc,
-        table,
-        file,
-        functions,
-        problem.entry,
-        problem.rule,
-        problem.key,
-    )? {
+    if key_keeps(table, problem.entry, problem.rule, problem.key) {
         return Ok(());
     }
     problems.push(problem)?;
@@ -112,16 +88,11 @@ fn push_problem<'a>(
 
 /// Appends what is wrong with the keys that an entry may have.
 fn push_fields<'a>(
-    alloc: Global,
     problems: &mut Vec<Problem<'a>>,
     table: &Table,
-    file: &FileEntries<'_>,
-    functions: &[FunctionPath],
     fault: BoardFault,
     entry: Entry,
 ) -> Result<(), AllocError>
-    requires file { file.now ≡ said.file (table_view table.now) }
-    requires functions { functions.now ≡ standings file.now }
     ensures { let ms = table_view table.now in
         OnOk result (AddsWrong ms fault (of_fields entry) problems.old.items problems.new.items) }
 {
@@ -135,29 +106,24 @@ fn push_fields<'a>(
             rule: Rule::Needed,
             key,
         };
-        push_problem(alloc, problems, table, file, functions, fault, missing)?;
+        push_problem(problems, table, fault, missing)?;
         let misformed = Problem {
             entry,
             rule: Rule::Form,
             key,
         };
-        push_problem(alloc, problems, table, file, functions, fault, misformed)?;
+        push_problem(problems, table, fault, misformed)?;
     }
     Ok(())
 }
 
 /// Appends the keys of an entry that its table doesn't have.
 fn push_unknown<'a>(
-    alloc: Global,
     problems: &mut Vec<Problem<'a>>,
     table: &'a Table,
-    file: &FileEntries<'_>,
-    functions: &[FunctionPath],
     fault: BoardFault,
     entry: Entry,
 ) -> Result<(), AllocError>
-    requires file { file.now ≡ said.file (table_view table.now) }
-    requires functions { functions.now ≡ standings file.now }
     ensures { let ms = table_view table.now in
         OnOk result (AddsWrong ms fault (of_members ms entry) problems.old.items problems.new.items) }
 {
@@ -170,55 +136,41 @@ fn push_unknown<'a>(
             rule: Rule::Known,
             key: key.as_str(),
         };
-        push_problem(alloc, problems, table, file, functions, fault, unknown)?;
+        push_problem(problems, table, fault, unknown)?;
     }
     Ok(())
 }
 
-/// Appends what else is wrong with an entry.
-fn push_others<'a>(
-    alloc: Global,
-    problems: &mut Vec<Problem<'a>>,
-    table: &Table,
-    file: &FileEntries<'_>,
-    functions: &[FunctionPath],
-    fault: BoardFault,
-    entry: Entry,
-) -> Result<(), AllocError>
-    requires file { file.now ≡ said.file (table_view table.now) }
-    requires functions { functions.now ≡ standings file.now }
-    ensures { let ms = table_view table.now in
-        OnOk result (AddsWrong ms fault (of_rules entry) problems.old.items problems.new.items) }
-{
-    'rules: for rule in Rule::others() {
-        let problem = Problem {
-            entry,
-            rule: *rule,
-            key: rule.key(),
-        };
-        push_problem(alloc, problems, table, file, functions, fault, problem)?;
-    }
-    Ok(())
-}
-
-/// Appends all that is wrong with an entry.
+/// Appends all that is wrong with the keys of an entry.
 fn push_entry<'a>(
-    alloc: Global,
     problems: &mut Vec<Problem<'a>>,
     table: &'a Table,
-    file: &FileEntries<'_>,
-    functions: &[FunctionPath],
     fault: BoardFault,
     entry: Entry,
 ) -> Result<(), AllocError>
-    requires file { file.now ≡ said.file (table_view table.now) }
-    requires functions { functions.now ≡ standings file.now }
     ensures { let ms = table_view table.now in
         OnOk result (AddsWrong ms fault (asked ms entry) problems.old.items problems.new.items) }
 {
-    push_fields(alloc, problems, table, file, functions, fault, entry)?;
-    push_unknown(alloc, problems, table, file, functions, fault, entry)?;
-    push_others(alloc, problems, table, file, functions, fault, entry)
+    push_fields(problems, table, fault, entry)?;
+    push_unknown(problems, table, fault, entry)
+}
+
+/// All entries that break a rule of keys whose fault this is.
+fn key_problems<'a>(
+    alloc: Global,
+    table: &'a Table,
+    file: &FileEntries<'_>,
+    fault: BoardFault,
+) -> Result<Vec<Problem<'a>>, AllocError>
+    requires { file.now ≡ said.file (table_view table.now) }
+    ensures { IfOk result (λ v. map found_of v.items ≡ key_problems (table_view table.now) fault) }
+{
+    let entries = entries(alloc, file)?;
+    let mut problems = Vec::new(alloc);
+    'entries: for entry in &entries {
+        push_entry(&mut problems, table, fault, *entry)?;
+    }
+    Ok(problems)
 }
 
 /// All entries that break a rule whose fault this is, each with this rule and the key at which it is
@@ -231,19 +183,11 @@ pub fn problems(
     ensures { IfOk result (λ v. map found_of v.items ≡ problems_of (table_view table.now) fault) }
 {
     let file = read_entries(alloc, table)?;
-    let functions = function_paths(alloc, &file)?;
-    let entries = entries(alloc, &file)?;
-    let mut problems = Vec::new(alloc);
-    'entries: for entry in &entries {
-        push_entry(
-            alloc,
-            &mut problems,
-            table,
-            &file,
-            &functions,
-            fault,
-            *entry,
-        )?;
+    match fault {
+        BoardFault::Key | BoardFault::UnknownKey => key_problems(alloc, table, &file, fault),
+        _ => {
+            let functions = function_paths(alloc, &file)?;
+            board_file::problems(alloc, &file, &functions, fault)
+        }
     }
-    Ok(problems)
 }

@@ -4,10 +4,9 @@ ghost use Rattle.toml.specs.Data.{get_member, at, as_table, as_str};
 ghost use Rattle.toml.specs.View.{view, table_view};
 ghost use Rattle.board_check.specs.Keys.{table_in, table_at, value_at, owner_of, owner_key, level_of, is_needed, form_holds, table_keeps, key_keeps};
 
-use crate::entry::Entry;
-use crate::rule::Rule;
 use board_file::keys::fields;
 use board_file::schema::{Form, Level, form_at, has_form};
+use board_file::{Entry, Rule};
 use toml::Table;
 use toml::value::Value;
 

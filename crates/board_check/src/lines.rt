@@ -1,13 +1,12 @@
 //! The lines of entries.
 ghost use Rattle.std.specs.Prelude.{◌≡◌, IfOk, IfSome, map};
 ghost use Rattle.toml.specs.View.{table_view};
-ghost use Rattle.model_registers.specs.Lists.{Each};
+ghost use Rattle.lists.specs.Elements.{Each};
 ghost use Rattle.board_check.specs.Lines.{turn, way_of, way_to, IsLineOf};
 ghost use Rattle.board_check.specs.Telling.{problem_of, HasLine};
 
-use crate::entry::Entry;
-use crate::finding::Problem;
 use crate::keys::value_at;
+use board_file::{Entry, Problem};
 use std::alloc::{AllocError, Global};
 use value_places::{Places, Step};
 

@@ -5,10 +5,10 @@ ghost use Rattle.toml.specs.View.{view, table_view};
 ghost use Rattle.board_check.specs.Rules.{fault_words};
 ghost use Rattle.board_check.specs.Texts.{nth_text, inner_text, entry_text, shown_byte, key_text, line_text, fault_text, quoted_text, data_text, scalar_text, name_text, is_own_name, place_text, problem_text, bare_text, count_text, lines_text};
 
-use crate::entry::Entry;
 use crate::keys::{owner_name, value_at};
 use crate::lines::Told;
-use board_file::BoardFault;
+use crate::words::rule_words;
+use board_file::{BoardFault, Entry};
 use std::alloc::AllocError;
 use toml::Table;
 use toml::value::Value;
@@ -220,7 +220,7 @@ fn push_problem(
     text.push_str(": ")?;
     push_place(text, document, told.problem.entry, told.problem.key)?;
     text.push_str(": ")?;
-    text.push_str(told.problem.rule.words())?;
+    text.push_str(rule_words(told.problem.rule))?;
     push_fault(text, told.problem.rule.fault())
 }
 

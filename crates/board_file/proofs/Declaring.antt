@@ -5,7 +5,7 @@ use Rattle.std.specs.List.{list_all}
 use Rattle.std.proofs.lemmas.Bool.{and_parts}
 use Rattle.std.proofs.lemmas.List.FromFn.{length-map-range_with_len}
 use Rattle.std.proofs.lemmas.List.Folds.{list_all-map}
-use Rattle.model_registers.specs.Lists.{all_pairs}
+use Rattle.lists.specs.Elements.{all_pairs}
 use Rattle.model_registers.specs.DeclarationRules as rules
 use Rattle.model_registers.specs.DeclarationRules.{first_broken, endpoint_rules, blocks_apart}
 use Rattle.board_file.specs.Entries.{Bar, Config, Endpoint, Patterns, File}

@@ -7,17 +7,16 @@ use Rattle.std.specs.Str.{bytes_eq}
 use Rattle.std.proofs.lemmas.Bool.{and_parts}
 use Rattle.std.proofs.lemmas.List.{length-map}
 use Rattle.std.proofs.lemmas.List.Folds.{list_all-append}
-use Rattle.model_registers.specs.Lists.{Each, EachPair, all_pairs}
+use Rattle.lists.specs.Elements.{Each, EachPair, all_pairs}
+use Rattle.lists.proofs.EachLemmas.{each_test}
 use Rattle.model_board.specs.Paths.{Path, path_eq}
 use Rattle.model_board.specs.Board.{Decl, endpoint, bridge, Row, Board, IsBoard, is_bridge, stands_at, is_bridge_at}
 use Rattle.model_board.specs.Places.{standing, has_path, has_bridge, board_of, AreLawfulPlaces}
 use Rattle.model_board.specs.Lawful.{HasLawfulDecls, IsLawfulDecl}
 use Rattle.model_board.proofs.PlacesLaw.{any_board, each_to_board, lawful_places_are_boards}
 use Rattle.model_registers.specs.Registers as registers
-use Rattle.model_board.specs.Reach.{row_at}
-use Rattle.model_board.specs.State.{State}
-use Rattle.model_board.specs.SetUp.{reset_state, reset_file}
-use Rattle.model_board.specs.AtReset.{board_at, IsAtReset}
+use Rattle.model_board.specs.State.{row_at, State}
+use Rattle.model_board.specs.AtReset.{reset_state, reset_file, board_at, IsAtReset}
 use Rattle.model_guests.specs.World as world
 use Rattle.model_guests.specs.World.{is_name, declared, HasLawfulGuests, IsLawfulWorld}
 use Rattle.board_file.specs.Entries.{Endpoint, Bridge, Guest, File}
@@ -26,7 +25,7 @@ use Rattle.board_file.specs.PathTexts.{is_path_text, path_at}
 use Rattle.board_file.specs.Rules.{have_few_slashes, have_paths, are_places, names, slots, is_endpoint, names_endpoint}
 use Rattle.board_file.specs.Judged.{IsJudged, IsShortGuest}
 use Rattle.board_file.specs.Meaning.{world_of}
-use Rattle.board_file.proofs.ListTests.{each_of_test, pairs_of_test, lawful_places}
+use Rattle.board_file.proofs.ListTests.{pairs_of_test, lawful_places}
 use Rattle.board_file.proofs.PathParts.{places_are_paths}
 
 -- ---- the board
@@ -149,7 +148,7 @@ lawful_guests f j =
     let (lawful, apart) = and_parts (list_all is_name (names f)) (all_pairs (λ m n. not (bytes_eq m n)) (names f)) j.names in
     let (named, others) = and_parts (list_all (λ (g : Guest). list_all (names_endpoint (standings f)) g.slots) f.guests) (all_pairs (λ p q. not (path_eq p q)) (map path_at (slots f))) j.slots in
     record {
-      lawful_names = subst (Each (λ n. IsTrue (is_name n))) (sym (same_names f.guests)) (each_of_test is_name (names f) lawful);
+      lawful_names = subst (Each (λ n. IsTrue (is_name n))) (sym (same_names f.guests)) (each_test is_name (names f) lawful);
       names_apart = subst (EachPair (λ m n. IsFalse (bytes_eq m n))) (sym (same_names f.guests)) (pairs_of_test bytes_eq (names f) apart);
       few_guests = few_guests f j;
       few_slots = few f.guests (few_slots f j);

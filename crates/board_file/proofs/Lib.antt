@@ -6,4 +6,6 @@ pub mod RepeatedBytes
 pub mod Declaring
 pub mod LawfulWorld
 pub mod NextEntry
-pub mod Breaches
+pub mod Tests
+pub mod Added
+pub mod NoProblems

@@ -1,54 +1,28 @@
 -- Tests of lists, of sizes and of where functions stand, as facts.
-use Rattle.std.proofs.Common.{◌≡◌, ℕ, ℤ, pos, negsuc, nat_abs, Bool, true, false, ◌&&◌, ◌||◌, not, List, [], ◌∷◌, nat_le, le-leb, leb-true, refl, sym, inl, inr, ◌⊎◌, IsTrue, IsFalse}
+use Rattle.std.proofs.Common.{◌≡◌, ℕ, ℤ, pos, negsuc, nat_abs, Bool, true, false, ◌&&◌, ◌||◌, not, List, [], ◌∷◌, nat_le, le-leb, leb-true, refl, inl, inr, ◌⊎◌, IsTrue, IsFalse}
 use Rattle.std.specs.Prelude.{int_le}
 use Rattle.std.specs.List.{list_all}
 use Rattle.std.specs.Int.{is_power_of_two}
-use Rattle.std.proofs.lemmas.Bool.{and_parts}
-use Rattle.model_registers.specs.Lists.{Each, EachPair, all_pairs}
+use Rattle.std.proofs.lemmas.Bool.{and_parts, not-true}
+use Rattle.lists.specs.Elements.{Each, EachPair, all_pairs}
+use Rattle.lists.proofs.Tests.{same_test}
 use Rattle.model_registers.specs.Declarations.{Kind, least_size, greatest_size, IsLawfulSize}
 use Rattle.model_board.specs.Paths.{Path, path_eq, parent, function_zero, IsPath}
 use Rattle.model_board.specs.Places.{Standing, has_path, has_bridge, IsFounded, AreLawfulPlaces}
 use Rattle.bars.proofs.Powers.{power_of_test, test_of_power}
 use Rattle.board_file.specs.Rules.{is_size, is_root, is_founded, are_places}
 
--- ---- tests
-
-pub same_test : (a b : Bool) → (a ≡ true → b ≡ true) → (b ≡ true → a ≡ true) → a ≡ b
-same_test true b f g = sym (f refl)
-same_test false true f g = g refl
-same_test false false f g = refl
-
 -- ---- lists
-
-pub each_of_test : {A : Type 0} (p : A → Bool) (xs : List A) → list_all p xs ≡ true → Each (λ x. IsTrue (p x)) xs
-each_of_test p [] h = tt
-each_of_test p (x ∷ xs) h = let (here, more) = and_parts (p x) (list_all p xs) h in (here, each_of_test p xs more)
-
-pub test_of_each : {A : Type 0} (p : A → Bool) (xs : List A) → Each (λ x. IsTrue (p x)) xs → list_all p xs ≡ true
-test_of_each p [] h = refl
-test_of_each p (x ∷ xs) h = rw h.0 (test_of_each p xs h.1)
-
-false_of_not : (b : Bool) → not b ≡ true → b ≡ false
-false_of_not true h = cc
-false_of_not false h = refl
 
 none_of_test : {A : Type 0} (p : A → Bool) (xs : List A) → list_all (λ x. not (p x)) xs ≡ true → Each (λ x. IsFalse (p x)) xs
 none_of_test p [] h = tt
-none_of_test p (x ∷ xs) h = let (here, more) = and_parts (not (p x)) (list_all (λ x. not (p x)) xs) h in (false_of_not (p x) here, none_of_test p xs more)
-
-test_of_none : {A : Type 0} (p : A → Bool) (xs : List A) → Each (λ x. IsFalse (p x)) xs → list_all (λ x. not (p x)) xs ≡ true
-test_of_none p [] h = refl
-test_of_none p (x ∷ xs) h = rw h.0 (test_of_none p xs h.1)
+none_of_test p (x ∷ xs) h = let (here, more) = and_parts (not (p x)) (list_all (λ x. not (p x)) xs) h in (not-true (p x) here, none_of_test p xs more)
 
 pub pairs_of_test : {A : Type 0} (r : A → A → Bool) (xs : List A) → all_pairs (λ x y. not (r x y)) xs ≡ true → EachPair (λ x y. IsFalse (r x y)) xs
 pairs_of_test r [] h = tt
 pairs_of_test r (x ∷ xs) h =
     let (here, more) = and_parts (list_all (λ y. not (r x y)) xs) (all_pairs (λ x y. not (r x y)) xs) h in
     (none_of_test (r x) xs here, pairs_of_test r xs more)
-
-pub test_of_pairs : {A : Type 0} (r : A → A → Bool) (xs : List A) → EachPair (λ x y. IsFalse (r x y)) xs → all_pairs (λ x y. not (r x y)) xs ≡ true
-test_of_pairs r [] h = refl
-test_of_pairs r (x ∷ xs) h = rw (test_of_none (r x) xs h.0) (test_of_pairs r xs h.1)
 
 -- ---- sizes
 
@@ -90,28 +64,13 @@ module _ (ss : List Standing) where
         function_zero = at_zero;
       }
 
-  test_of_founded : (s : Standing) → IsFounded ss s → is_founded ss s ≡ true
-  test_of_founded s h = rw h.function_zero (by_case (parent s.path) h.behind_bridge)
-    where
-      by_case : (p : Path) → (p ≡ []) ⊎ IsTrue (has_bridge ss p) → ((is_root p || has_bridge ss p) && true) ≡ true
-      by_case p (inl e) = rw e refl
-      by_case [] (inr b) = refl
-      by_case (x ∷ p) (inr b) = rw b refl
-
   all_founded : (ts : List Standing) → Each (λ t. IsPath t.path) ts → list_all (is_founded ss) ts ≡ true → Each (IsFounded ss) ts
   all_founded [] paths h = tt
   all_founded (t ∷ ts) paths h =
       let (here, more) = and_parts (is_founded ss t) (list_all (is_founded ss) ts) h in
       (founded t paths.0 here, all_founded ts paths.1 more)
 
-  test_of_all_founded : (ts : List Standing) → Each (IsFounded ss) ts → list_all (is_founded ss) ts ≡ true
-  test_of_all_founded [] h = refl
-  test_of_all_founded (t ∷ ts) h = rw (test_of_founded t h.0) (test_of_all_founded ts h.1)
-
 pub lawful_places : (ss : List Standing) → Each (λ s. IsPath s.path) ss → are_places ss ≡ true → AreLawfulPlaces ss
 lawful_places ss paths h =
     let (founded, apart) = and_parts (list_all (is_founded ss) ss) (all_pairs (λ s t. not (path_eq t.path s.path)) ss) h in
     record { founded = all_founded ss ss paths founded; apart = pairs_of_test (λ s t. path_eq t.path s.path) ss apart }
-
-pub test_of_places : (ss : List Standing) → AreLawfulPlaces ss → are_places ss ≡ true
-test_of_places ss h = rw (test_of_all_founded ss ss h.founded) (test_of_pairs (λ s t. path_eq t.path s.path) ss h.apart)

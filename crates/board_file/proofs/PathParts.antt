@@ -1,8 +1,9 @@
 -- What a text is read as is a path.
-use Rattle.std.proofs.Common.{◌≡◌, ℕ, zero, suc, ◌+◌, ◌-◌, ◌≤◌, ◌==◌, nat_le, Bool, true, false, ◌&&◌, cond, List, [], ◌∷◌, ◌++◌, map, length, Option, Some, None, option_map, unwrap_or, refl, arith, leb-true}
+use Rattle.std.proofs.Common.{◌≡◌, ℕ, zero, suc, ◌+◌, ◌-◌, ◌≤◌, ◌==◌, nat_le, Bool, true, false, ◌&&◌, cond, List, [], ◌∷◌, map, length, Option, Some, None, option_map, unwrap_or, refl, arith, leb-true}
 use Rattle.std.proofs.lemmas.Bool.{and_parts}
 use Rattle.std.specs.Prelude.{option_and_then}
-use Rattle.model_registers.specs.Lists.{Each, first_of_two}
+use Rattle.lists.specs.Elements.{Each, first_of_two}
+use Rattle.lists.proofs.EachLemmas.{each_append}
 use Rattle.model_board.specs.Paths.{Part, Path, IsPart, IsPath}
 use Rattle.model_board.specs.Places.{Standing}
 use Rattle.board_file.specs.Entries.{Endpoint, Bridge, File}
@@ -96,10 +97,6 @@ some_parts (Some found) h = longer found.0 h (parts_after 15 found.1) (within 15
 
 pub path_at_is_path : (text : List ℕ) → IsPath (path_at text)
 path_at_is_path text = some_parts (part_at_front text) (front text)
-
-each_append : {A : Type 0} (P : A → Type 0) (xs ys : List A) → Each P xs → Each P ys → Each P (xs ++ ys)
-each_append P [] ys h k = k
-each_append P (x ∷ xs) ys h k = (h.0, each_append P xs ys h.1 k)
 
 pub places_are_paths : (f : File) → Each (λ s. IsPath s.path) (standings f)
 places_are_paths f = each_append (λ (s : Standing). IsPath s.path) _ _ (endpoints f.endpoints) (bridges f.bridges)

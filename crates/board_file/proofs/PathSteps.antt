@@ -1,6 +1,5 @@
 -- One more part of a path.
-use Rattle.std.proofs.Common.{◌≡◌, ℕ, suc, ◌≤◌, length, get_or, drop, arith, ◌∷◌, List, Option, Some, None, is_some, option_map, refl, ◌∙◌, IfSome, ◌++◌, []}
-use Rattle.std.proofs.Common.{append_assoc}
+use Rattle.std.proofs.Common.{◌≡◌, ℕ, suc, ◌≤◌, length, get_or, drop, arith, ◌∷◌, List, Option, Some, None, is_some, option_map, refl, ◌∙◌, IfSome, ◌++◌, [], append_assoc}
 use Rattle.model_board.specs.Paths.{Part, Path}
 use Rattle.board_file.specs.PathTexts.{part_at_front, parts_after}
 

@@ -3,9 +3,11 @@ pub mod Schema
 pub mod Entries
 pub mod PathTexts
 pub mod Blocks
-pub mod Breaches
 pub mod Functions
 pub mod Rules
 pub mod Judged
+pub mod EntryRules
+pub mod RuleFaults
+pub mod Problems
 pub mod Faults
 pub mod Meaning

@@ -4,7 +4,7 @@
 --     path_of, is_path_text      the path of 1 to 16 parts that a text is
 --     path_at      that path, or 0.0 for any other text
 use Rattle.std.specs.Prelude.{ℕ, zero, suc, ◌+◌, ◌-◌, Bool, ◌&&◌, List, [], ◌∷◌, ◌==◌, nat_le, Option, Some, None, is_some, unwrap_or, option_map, option_and_then, if◌then◌else◌}
-use Rattle.model_registers.specs.Lists.{first_of_two}
+use Rattle.lists.specs.Elements.{first_of_two}
 use Rattle.model_board.specs.Paths.{Part, Path}
 
 abbrev pub is_byte_between : ℕ → ℕ → ℕ → Bool

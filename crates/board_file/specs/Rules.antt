@@ -12,7 +12,7 @@ use Rattle.std.specs.Prelude.{ℕ, ◌+◌, ℤ, pos, nat_abs, int_le, ◌+ℤ�
 use Rattle.std.specs.List.{list_all, flat_map}
 use Rattle.std.specs.Int.{is_power_of_two}
 use Rattle.std.specs.Str.{bytes_eq}
-use Rattle.model_registers.specs.Lists.{all_pairs}
+use Rattle.lists.specs.Elements.{all_pairs}
 use Rattle.model_registers.specs.Apertures.{are_lawful}
 use Rattle.model_registers.specs.Declarations.{Kind, least_size, greatest_size}
 use Rattle.model_registers.specs.DeclarationRules.{has_own_registers, blocks_apart}

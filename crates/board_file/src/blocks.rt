@@ -1,8 +1,10 @@
 //! The bytes at the beginning of a region or of a device's own registers.
-ghost use Rattle.std.specs.Prelude.{◌≡◌, ◌<◌, IfOk, length, option_map};
-ghost use Rattle.board_file.specs.Blocks.{pattern, is_pattern, pattern_bytes, are_apart, cells, is_block, block_cells, Gives};
+ghost use Rattle.std.specs.Prelude.{◌≡◌, ◌+◌, ◌<◌, IfOk, length, nat_abs, nat_le, option_map, take};
+ghost use Rattle.std.specs.List.{list_all};
+ghost use Rattle.board_file.specs.Blocks.{pattern, is_pattern, pattern_bytes, are_apart as share_no_bit, cells, is_block, block_cells, Gives};
+ghost use Rattle.board_file.specs.EntryRules.{are_apart};
 
-use crate::entries::PatternTexts;
+use crate::entries::{ConfigEntry, PatternTexts};
 use config_bytes::Cell;
 use hex::FromHexError;
 use std::alloc::{AllocError, Global};
@@ -56,7 +58,7 @@ fn cells(
     requires rw { 0 < length rw.now }
     requires w1c { 0 < length w1c.now }
     ensures { IfOk result (λ found.
-        Gives (are_apart len rw.now w1c.now) found (λ v. v.items ≡ cells len reset.now rw.now w1c.now)) }
+        Gives (share_no_bit len rw.now w1c.now) found (λ v. v.items ≡ cells len reset.now rw.now w1c.now)) }
 {
     let mut cells = Vec::new(alloc);
     for i in 0..len {
@@ -71,7 +73,7 @@ fn cells(
 
 /// The cells of a block of `len` bytes, where its patterns are lawful, and else None. It fails only where
 /// memory is out.
-pub fn block(
+pub(crate) fn block(
     alloc: Global,
     len: usize,
     patterns: &PatternTexts<'_>,
@@ -89,4 +91,48 @@ pub fn block(
         return Ok(None);
     };
     cells(alloc, len, &reset, &rw, &w1c)
+}
+
+/// Whether the patterns give a block of so many cells.
+pub(crate) fn is_block(
+    alloc: Global,
+    len: i64,
+    patterns: &PatternTexts<'_>,
+) -> Result<bool, AllocError>
+    ensures { IfOk result (λ b. b ≡ is_block (nat_abs len) patterns.now) }
+{
+    match block(alloc, len.unsigned_abs() as usize, patterns)? {
+        Some(_) => Ok(true),
+        None => Ok(false),
+    }
+}
+
+/// Whether the first ends before the second begins.
+fn ends_before(first: &ConfigEntry<'_>, second: &ConfigEntry<'_>) -> bool
+    ensures { result ≡ nat_le (nat_abs first.now.off + nat_abs first.now.block) (nat_abs second.now.off) }
+{
+    let begin = second.off.unsigned_abs();
+    let off = first.off.unsigned_abs();
+    off <= begin && first.block.unsigned_abs() <= begin - off
+}
+
+/// Whether the two don't overlap.
+fn are_apart(one: &ConfigEntry<'_>, other: &ConfigEntry<'_>) -> bool
+    ensures { result ≡ are_apart one.now other.now }
+{
+    ends_before(one, other) || ends_before(other, one)
+}
+
+/// Whether none of the first blocks overlaps it.
+pub(crate) fn has_own_offsets(
+    configs: &[ConfigEntry<'_>],
+    count: usize,
+    config: &ConfigEntry<'_>,
+) -> bool
+    ensures { result ≡ list_all (λ c. are_apart c config.now) (take count configs.now) }
+{
+    configs
+        .iter()
+        .take(count)
+        .all(|other| are_apart(other, config))
 }

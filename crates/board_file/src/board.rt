@@ -3,12 +3,11 @@ ghost use Rattle.std.specs.Prelude.{◌≡◌, ◌≢◌, ◌++◌, ◌⊎◌, I
 ghost use Rattle.std.specs.List.{list_all};
 ghost use Rattle.toml.specs.View.{table_view};
 ghost use Rattle.toml.specs.Parse.{parse_document};
-ghost use Rattle.model_registers.specs.Lists.{Each};
-ghost use Rattle.model_board.specs.AtReset.{IsAtReset};
+ghost use Rattle.lists.specs.Elements.{Each};
+ghost use Rattle.model_board.specs.AtReset.{IsAtReset, reset_state};
 ghost use Rattle.model_board.specs.Board.{IsBoard};
 ghost use Rattle.model_board.specs.Lawful.{HasLawfulDecls};
 ghost use Rattle.model_board.specs.Places.{board_of};
-ghost use Rattle.model_board.specs.SetUp.{reset_state};
 ghost use Rattle.model_guests.specs.World.{IsLawfulWorld};
 ghost use Rattle.board_file.specs.Blocks.{Gives};
 ghost use Rattle.board_file.specs.Entries.{file};

@@ -2,7 +2,7 @@
 ghost use Rattle.std.specs.Prelude.{◌≡◌, ◌<◌, ◌≤◌, ◌^◌, nat_abs, if◌then◌else◌, IsTrue, IfOk, map, length};
 ghost use Rattle.std.specs.List.{list_all};
 ghost use Rattle.model_registers.specs.DeclarationRules.{first_broken, endpoint_rules, blocks_apart, with_ordered_regions, IsLawfulEndpoint, IsLawfulBridge};
-ghost use Rattle.model_registers.specs.Lists.{all_pairs};
+ghost use Rattle.lists.specs.Elements.{all_pairs};
 ghost use Rattle.bars.specs.Kinds.{kind_of};
 ghost use Rattle.board_file.specs.Blocks.{Gives};
 ghost use Rattle.board_file.specs.Functions as said;
@@ -16,8 +16,8 @@ use crate::path_text::PathText;
 use accesses::GuestDecl;
 use arrayvec::{ArrayString, ArrayVec};
 use bars::{BarDecl, Kind};
-use bridge_forward::Path;
 use headers::{BridgeDecl, ConfigBlock, EndpointDecl, EndpointValues, Region};
+use paths::Path;
 use std::alloc::{AllocError, Global};
 
 /// The number, where it is not negative.

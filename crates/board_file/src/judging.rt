@@ -1,22 +1,17 @@
 //! The checks of a file, one after the other.
 ghost use Rattle.std.specs.Prelude.{◌≡◌, IfOk, Some, MatchOption};
-ghost use Rattle.std.specs.List.{list_all};
 ghost use Rattle.toml.specs.View.{table_view};
 ghost use Rattle.model_registers.specs.DeclarationRules.{first_broken};
-ghost use Rattle.board_file.specs.Breaches.{first_breach};
-ghost use Rattle.board_file.specs.Entries.{file};
-ghost use Rattle.board_file.specs.Rules.{registers_hold, sizes_hold};
+ghost use Rattle.board_file.specs.Functions.{standings};
 ghost use Rattle.board_file.specs.Judged.{IsJudged};
 ghost use Rattle.board_file.specs.Meaning.{checks, rules, HasForm};
 ghost use Rattle.board_file.specs.Faults.{number_of};
+ghost use Rattle.board_file.specs.Problems.{holds};
 
-use crate::apertures::apertures_hold;
-use crate::entries::{EndpointEntry, FileEntries};
+use crate::entries::FileEntries;
 use crate::fault::BoardFault;
-use crate::guests::names_hold;
-use crate::numbers::{counts_hold, numbers_hold};
-use crate::places::{function_paths, places_hold, slots_hold};
-use crate::regions::{registers_hold, sizes_hold};
+use crate::finding::problems;
+use crate::places::{FunctionPath, function_paths};
 use crate::schema::{Check, Level, table_passes};
 use std::alloc::{AllocError, Global};
 use toml::Table;
@@ -35,32 +30,18 @@ pub(crate) fn form_fault(table: &Table) -> Option<BoardFault>
     None
 }
 
-/// The first endpoint with a region outside the six registers, or with a register used twice.
-fn first_wrong_registers(endpoints: &[EndpointEntry<'_>]) -> Option<usize>
-    ensures { result ≡ first_breach registers_hold endpoints.now }
+/// Whether no entry breaks a rule with this fault.
+fn holds(
+    alloc: Global,
+    file: &FileEntries<'_>,
+    functions: &[FunctionPath],
+    fault: BoardFault,
+) -> Result<bool, AllocError>
+    requires { functions.now ≡ standings file.now }
+    ensures { IfOk result (λ b. b ≡ holds fault file.now) }
 {
-    endpoints
-        .iter()
-        .position(|endpoint| !registers_hold(endpoint))
-}
-
-fn all_registers_hold(endpoints: &[EndpointEntry<'_>]) -> bool
-    ensures { result ≡ list_all registers_hold endpoints.now }
-{
-    first_wrong_registers(endpoints).is_none()
-}
-
-/// The first endpoint with a region of a wrong size.
-fn first_wrong_sizes(endpoints: &[EndpointEntry<'_>]) -> Option<usize>
-    ensures { result ≡ first_breach sizes_hold endpoints.now }
-{
-    endpoints.iter().position(|endpoint| !sizes_hold(endpoint))
-}
-
-fn all_sizes_hold(endpoints: &[EndpointEntry<'_>]) -> bool
-    ensures { result ≡ list_all sizes_hold endpoints.now }
-{
-    first_wrong_sizes(endpoints).is_none()
+    let problems = problems(alloc, file, functions, fault)?;
+    Ok(problems.as_slice().is_empty())
 }
 
 /// The first fault of what the file says, but of its patterns.
@@ -71,29 +52,29 @@ pub(crate) fn first_fault(
     ensures { IfOk result (λ found.
         MatchOption found (IsJudged file.now) (λ e. first_broken (rules file.now) ≡ Some (number_of e))) }
 {
-    if !numbers_hold(file) {
+    let functions = function_paths(alloc, file)?;
+    if !holds(alloc, file, &functions, BoardFault::Number)? {
         return Ok(Some(BoardFault::Number));
     }
-    if !counts_hold(file) {
+    if !holds(alloc, file, &functions, BoardFault::TooMany)? {
         return Ok(Some(BoardFault::TooMany));
     }
-    let functions = function_paths(alloc, file)?;
-    if !places_hold(file, &functions) {
+    if !holds(alloc, file, &functions, BoardFault::Place)? {
         return Ok(Some(BoardFault::Place));
     }
-    if !all_registers_hold(&file.endpoints) {
+    if !holds(alloc, file, &functions, BoardFault::Register)? {
         return Ok(Some(BoardFault::Register));
     }
-    if !all_sizes_hold(&file.endpoints) {
+    if !holds(alloc, file, &functions, BoardFault::Size)? {
         return Ok(Some(BoardFault::Size));
     }
-    if !names_hold(alloc, file)? {
+    if !holds(alloc, file, &functions, BoardFault::GuestName)? {
         return Ok(Some(BoardFault::GuestName));
     }
-    if !slots_hold(alloc, file, &functions)? {
+    if !holds(alloc, file, &functions, BoardFault::Slot)? {
         return Ok(Some(BoardFault::Slot));
     }
-    if !apertures_hold(file) {
+    if !holds(alloc, file, &functions, BoardFault::Aperture)? {
         return Ok(Some(BoardFault::Aperture));
     }
     Ok(None)

@@ -2,22 +2,31 @@
 //! give out, and guests.
 #![tactic(auto)]
 
-pub mod apertures;
-pub mod blocks;
+mod apertures;
+mod blocks;
 mod board;
 mod building;
 pub mod entries;
+mod entry;
 mod fault;
-pub mod guests;
+mod finding;
+mod function_problems;
+mod guest_problems;
+mod guests;
 mod judging;
 pub mod keys;
-pub mod numbers;
+mod numbers;
 pub mod path_text;
 pub mod places;
 pub mod reading;
-pub mod regions;
+mod regions;
+mod rule;
 pub mod schema;
+mod slots;
 mod texts;
 
 pub use board::read_board;
+pub use entry::Entry;
 pub use fault::BoardFault;
+pub use finding::{Problem, problems};
+pub use rule::Rule;

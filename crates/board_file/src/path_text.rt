@@ -1,8 +1,9 @@
 //! Paths as texts.
 ghost use Rattle.std.specs.Prelude.{◌≡◌, ◌+◌, ◌≤◌, ◌++◌, length, option_map, is_some, IfSome};
+ghost use Rattle.board_file.specs.EntryRules.{are_same_place};
 ghost use Rattle.board_file.specs.PathTexts.{short_part, long_part, part_at_front, parts_after, path_of, is_path_text, path_at};
 
-use bridge_forward::{Part, Path};
+use paths::{Part, Path};
 use std::marker::Model;
 
 /// A part whose device has one digit, at the front of a text, and what comes after it.
@@ -138,5 +139,18 @@ impl<'a> PathText<'a> {
             Some(path) => path.copied(),
             None => Path::on_root(Part::new(0, 0)),
         }
+    }
+}
+
+/// Whether two texts are the same path. It copies neither, since it is asked of each pair of functions.
+pub(crate) fn are_same_place(one: &PathText<'_>, other: &PathText<'_>) -> bool
+    ensures { result ≡ are_same_place one.now other.now }
+{
+    match &one.path {
+        Some(first) => match &other.path {
+            Some(second) => *first == *second,
+            None => false,
+        },
+        None => false,
     }
 }

@@ -1,17 +1,14 @@
-//! The paths of functions and of slots.
-ghost use Rattle.std.specs.Prelude.{◌≡◌, ◌++◌, IfOk, OnOk, map, not};
-ghost use Rattle.std.specs.List.{list_all, flat_map};
-ghost use Rattle.model_registers.specs.Lists.{Each, all_pairs};
-ghost use Rattle.model_board.specs.Paths.{path_eq, IsPath};
+//! The paths of functions.
+ghost use Rattle.std.specs.Prelude.{◌≡◌, ◌<◌, ◌++◌, ◌||◌, [], IfOk, OnOk, length, map, not, take, MatchOption};
+ghost use Rattle.std.specs.List.{list_all};
 ghost use Rattle.model_board.specs.Places.{has_path, has_bridge};
-ghost use Rattle.board_file.specs.Breaches.{first_breach};
-ghost use Rattle.board_file.specs.PathTexts.{is_path_text, path_at};
+ghost use Rattle.board_file.specs.EntryRules.{are_same_place, is_own_place};
 ghost use Rattle.board_file.specs.Functions.{endpoint_standing, bridge_standing, standings};
-ghost use Rattle.board_file.specs.Rules.{have_paths, are_places, places_hold, is_endpoint, names_endpoint, slots_hold};
+ghost use Rattle.board_file.specs.Rules.{is_root, is_endpoint, names_endpoint};
 
-use crate::entries::{BridgeEntry, EndpointEntry, FileEntries, GuestEntry};
-use crate::path_text::PathText;
-use bridge_forward::{Path, Stands, are_lawful};
+use crate::entries::{BridgeEntry, EndpointEntry, FileEntries};
+use crate::path_text::{PathText, are_same_place};
+use paths::{Part, Path};
 use std::alloc::{AllocError, Global};
 use std::marker::Model;
 
@@ -28,18 +25,6 @@ impl Model for FunctionPath {
     ghost Value = { Standing };
 
     ghost view = { λ p. record { path = p.path; is_bridge = p.is_bridge } };
-}
-
-impl Stands for FunctionPath {
-    ghost standing = { λ p. p };
-
-    fn path(&self) -> &Path {
-        &self.path
-    }
-
-    fn is_bridge(&self) -> bool {
-        self.is_bridge
-    }
 }
 
 /// Appends the paths of endpoints.
@@ -88,63 +73,71 @@ pub fn function_paths(
     Ok(paths)
 }
 
-/// The first endpoint whose `at` is no path.
-fn first_pathless_endpoint(endpoints: &[EndpointEntry<'_>]) -> Option<usize>
-    ensures { result ≡ first_breach (λ e. is_path_text e.at) endpoints.now }
+/// Whether none of the first endpoints stands there.
+fn no_endpoint(endpoints: &[EndpointEntry<'_>], count: usize, at: &PathText<'_>) -> bool
+    ensures { result ≡ list_all (λ e. not (are_same_place e.at at.now)) (take count endpoints.now) }
 {
-    endpoints.iter().position(|endpoint| !endpoint.at.is_path())
+    endpoints
+        .iter()
+        .take(count)
+        .all(|endpoint| !are_same_place(&endpoint.at, at))
 }
 
-fn endpoints_have_paths(endpoints: &[EndpointEntry<'_>]) -> bool
-    ensures { result ≡ list_all (λ e. is_path_text e.at) endpoints.now }
+/// Whether none of the first bridges stands there.
+fn no_bridge(bridges: &[BridgeEntry<'_>], count: usize, at: &PathText<'_>) -> bool
+    ensures { result ≡ list_all (λ b. not (are_same_place b.at at.now)) (take count bridges.now) }
 {
-    first_pathless_endpoint(endpoints).is_none()
+    bridges
+        .iter()
+        .take(count)
+        .all(|bridge| !are_same_place(&bridge.at, at))
 }
 
-/// The first bridge whose `at` is no path.
-fn first_pathless_bridge(bridges: &[BridgeEntry<'_>]) -> Option<usize>
-    ensures { result ≡ first_breach (λ b. is_path_text b.at) bridges.now }
+/// Whether no function before it stands there: of so many endpoints and bridges.
+pub(crate) fn is_own_place(
+    file: &FileEntries<'_>,
+    endpoints: usize,
+    bridges: usize,
+    at: &PathText<'_>,
+) -> bool
+    ensures { result ≡ is_own_place file.now endpoints bridges at.now }
 {
-    bridges.iter().position(|bridge| !bridge.at.is_path())
+    no_endpoint(&file.endpoints, endpoints, at) && no_bridge(&file.bridges, bridges, at)
 }
 
-fn bridges_have_paths(bridges: &[BridgeEntry<'_>]) -> bool
-    ensures { result ≡ list_all (λ b. is_path_text b.at) bridges.now }
+/// The path of these parts.
+fn path_of(parts: &[Part]) -> Option<Path>
+    requires { length parts.now < 16 }
+    ensures { MatchOption result (parts.now ≡ []) (λ p. p ≡ parts.now) }
 {
-    first_pathless_bridge(bridges).is_none()
+    let (first, rest) = parts.split_first()?;
+    let mut path = Path::on_root(*first);
+    'rest: for part in rest {
+        path.push(*part);
+    }
+    Some(path)
 }
 
-fn have_paths(file: &FileEntries<'_>) -> bool
-    ensures { result ≡ have_paths file.now }
+/// Whether the bus of these parts is bus 0, or is behind a bridge.
+pub(crate) fn is_behind_bridge(functions: &[FunctionPath], bus: &[Part]) -> bool
+    requires { length bus.now < 16 }
+    ensures { result ≡ (is_root bus.now || has_bridge functions.now bus.now) }
 {
-    endpoints_have_paths(&file.endpoints) && bridges_have_paths(&file.bridges)
-}
-
-/// Whether the functions stand as those of a board.
-fn are_places(functions: &[FunctionPath]) -> bool
-    requires { Each (λ s. IsPath s.path) functions.now }
-    ensures { result ≡ are_places functions.now }
-{
-    are_lawful(functions)
-}
-
-/// Each `at` is the text of a path, and the functions stand as those of a board.
-pub(crate) fn places_hold(file: &FileEntries<'_>, functions: &[FunctionPath]) -> bool
-    requires { functions.now ≡ standings file.now }
-    ensures { result ≡ places_hold file.now }
-{
-    have_paths(file) && are_places(functions)
+    match path_of(bus) {
+        Some(bridge) => has_bridge(functions, &bridge),
+        None => true,
+    }
 }
 
 /// Whether a function stands at the path.
-pub fn has_path(functions: &[FunctionPath], path: &Path) -> bool
+pub(crate) fn has_path(functions: &[FunctionPath], path: &Path) -> bool
     ensures { result ≡ has_path functions.now path.now }
 {
     functions.iter().any(|function| function.path == *path)
 }
 
 /// Whether a bridge stands at the path.
-pub fn has_bridge(functions: &[FunctionPath], path: &Path) -> bool
+fn has_bridge(functions: &[FunctionPath], path: &Path) -> bool
     ensures { result ≡ has_bridge functions.now path.now }
 {
     functions
@@ -160,75 +153,8 @@ fn is_endpoint(functions: &[FunctionPath], path: &Path) -> bool
 }
 
 /// Whether the text is the path of an endpoint.
-pub fn names_endpoint(functions: &[FunctionPath], text: &PathText<'_>) -> bool
+pub(crate) fn names_endpoint(functions: &[FunctionPath], text: &PathText<'_>) -> bool
     ensures { result ≡ names_endpoint functions.now text.now }
 {
     text.is_path() && is_endpoint(functions, &text.path())
-}
-
-fn name_endpoints(functions: &[FunctionPath], texts: &[PathText<'_>]) -> bool
-    ensures { result ≡ list_all (names_endpoint functions.now) texts.now }
-{
-    texts.iter().all(|text| names_endpoint(functions, text))
-}
-
-fn slots_name_endpoints(functions: &[FunctionPath], guests: &[GuestEntry<'_>]) -> bool
-    ensures { result ≡ list_all (λ g. list_all (names_endpoint functions.now) g.slots) guests.now }
-{
-    guests
-        .iter()
-        .all(|guest| name_endpoints(functions, &guest.slots))
-}
-
-/// Appends the paths of texts.
-fn push_paths(paths: &mut Vec<Path>, texts: &[PathText<'_>]) -> Result<(), AllocError>
-    ensures { OnOk result (paths.new.items ≡ paths.old.items ++ map path_at texts.now) }
-{
-    'texts: for text in texts {
-        paths.push(text.path())?;
-    }
-    Ok(())
-}
-
-/// The paths of all slots, guest after guest.
-fn slot_paths(alloc: Global, guests: &[GuestEntry<'_>]) -> Result<Vec<Path>, AllocError>
-    ensures { IfOk result (λ v. v.items ≡ map path_at (flat_map (λ g. g.slots) guests.now)) }
-{
-    let mut paths = Vec::new(alloc);
-    'guests: for guest in guests {
-        push_paths(&mut paths, &guest.slots)?;
-    }
-    Ok(paths)
-}
-
-fn is_other(path: &Path, others: &[Path]) -> bool
-    ensures { result ≡ list_all (λ q. not (path_eq path.now q)) others.now }
-{
-    others.iter().all(|other| path != other)
-}
-
-fn are_apart(paths: &[Path]) -> bool
-    ensures { result ≡ all_pairs (λ p q. not (path_eq p q)) paths.now }
-{
-    let mut left = paths;
-    while let Some((first, rest)) = left.split_first() {
-        if !is_other(first, rest) {
-            return false;
-        }
-        left = rest;
-    }
-    true
-}
-
-/// Each slot is the path of an endpoint, and no endpoint is in two slots.
-pub(crate) fn slots_hold(
-    alloc: Global,
-    file: &FileEntries<'_>,
-    functions: &[FunctionPath],
-) -> Result<bool, AllocError>
-    requires { functions.now ≡ standings file.now }
-    ensures { IfOk result (λ b. b ≡ slots_hold file.now) }
-{
-    let paths = slot_paths(alloc, &file.guests)?;
-    Ok(slots_name_endpoints(functions, &file.guests) && are_apart(&paths))
 }

@@ -4,11 +4,11 @@ use Rattle.std.specs.Prelude.{◌==◌, IfOk, Result, Ok, Err}
 use Rattle.std.specs.List.{slice_get}
 use Rattle.std.proofs.lemmas.Grind.{common_steps}
 use Rattle.model_registers.specs.Cell.{Cell}
-use Rattle.model_registers.specs.Lists.{Each}
+use Rattle.lists.specs.Elements.{Each}
 use Rattle.model_registers.specs.Declarations.{Region}
 use Rattle.config_bytes.specs.CellFile.{offsets_from}
 use Rattle.bridge_forward.specs.EndpointParts.{region_at}
-use Rattle.bridge_forward.proofs.Indices.{each_at, found_at}
+use Rattle.lists.proofs.Indices.{each_at, found_at}
 
 next : (xs : List Cell) (a i : ℕ) (x : Cell) → slice_get xs i ≡ Some x → offsets_from a (take (suc i) xs) ≡ offsets_from a (take i xs) ++ (a + i, x) ∷ []
 next [] a i x e = absurd (cc)

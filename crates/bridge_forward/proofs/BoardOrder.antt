@@ -3,39 +3,23 @@ use Rattle.std.proofs.Common.{◌≡◌, ℕ, suc, ◌+◌, ◌<◌, ◌≤◌, 
 use Rattle.std.specs.Prelude.{sum_by}
 use Rattle.std.specs.Cmp.{IsStrictWeakOrder}
 use Rattle.std.specs.List.Sorted.{IsPermutation, IsSortedBy}
-use Rattle.std.proofs.lemmas.Bool.{true≢false}
+use Rattle.std.proofs.lemmas.Bool.{true≢false, false_from_ne_true}
 use Rattle.std.proofs.lemmas.List.Sorted.{sum_by-IsPermutation}
 use Rattle.std.proofs.lemmas.List.Sums.{sum_by-cons}
-use Rattle.model_registers.specs.Lists.{Each, EachPair}
-use Rattle.model_registers.proofs.EachLemmas.{each_map, each_permutation}
+use Rattle.lists.specs.Elements.{Each, EachPair, IsIn}
+use Rattle.lists.proofs.EachLemmas.{each_map, each_permutation}
 use Rattle.model_board.specs.Paths.{Path, path_eq, path_before}
 use Rattle.model_board.specs.Board.{Row, Board, IsBoard}
-use Rattle.model_board.specs.Members.{IsIn}
 use Rattle.model_board.specs.Places.{row_inserted, board_of}
-use Rattle.model_board.proofs.Members.{each_in, each_from}
+use Rattle.lists.proofs.Members.{each_in, each_from}
 use Rattle.model_board.proofs.PathOrder.{one, path_same, before_trans}
-use Rattle.model_board.proofs.PathEnds.{path_self, not_before_itself}
+use Rattle.model_board.proofs.PathEnds.{path_self, not_before_itself, no_turn}
 use Rattle.model_board.proofs.PlacesLaw.{path_total, each_from_board}
 
 abbrev pub before : Row → Row → Bool
 before r s = path_before r.path s.path
 
 -- ---- path order is a strict weak order
-
-by_test : (b : Bool) → (b ≡ true → ⊥) → b ≡ false
-by_test true h = absurd (h refl)
-by_test false h = refl
-
-no_turn : (p q : Path) → path_before p q ≡ true → path_before q p ≡ true → ⊥
-no_turn p q h k = by_own (path_before q q) refl (before_trans q p q h)
-  where
-    too_many : (t : Bool) → 1 + one t ≤ 0 → ⊥
-    too_many true h = omega (arith, h)
-    too_many false h = omega (arith, h)
-
-    by_own : (t : Bool) → path_before q q ≡ t → one (path_before q p) + one (path_eq q p) ≤ one (path_before q q) → ⊥
-    by_own true e le = not_before_itself q e
-    by_own false e le = let w = rw (k, e) at le in too_many (path_eq q p) w
 
 -- what is not before y comes at y or after it
 chain : (x y z : Path) → path_before x y ≡ false → path_before y z ≡ false → path_before x z ≡ true → ⊥
@@ -57,8 +41,8 @@ chain x y z a b c = by_equal (path_eq x y) refl
 
 pub weak_order : IsStrictWeakOrder before
 weak_order = record {
-  one_way = λ r s h. by_test (path_before s.path r.path) (no_turn r.path s.path h);
-  chain = λ r s t h k. by_test (path_before r.path t.path) (chain r.path s.path t.path h k);
+  one_way = λ r s h. false_from_ne_true (path_before s.path r.path) (no_turn r.path s.path h);
+  chain = λ r s t h k. false_from_ne_true (path_before r.path t.path) (chain r.path s.path t.path h k);
 }
 
 -- ---- rows with a path, counted
@@ -140,7 +124,7 @@ same_rows (b ∷ bs) (y ∷ ys) o u c a = by_head a.0 (same_rows bs ys o.1 u.1)
   where
     others : (cs : List Row) → Each (λ s. path_before b.path s.path ≡ true) cs → Each (λ s. path_eq s.path b.path ≡ false) cs
     others [] h = tt
-    others (x ∷ cs) h = (by_test (path_eq x.path b.path) (λ e. not_before_itself b.path (subst (λ (p : Path). path_before b.path p ≡ true) (path_same x.path b.path e) h.0)), others cs h.1)
+    others (x ∷ cs) h = (false_from_ne_true (path_eq x.path b.path) (λ e. not_before_itself b.path (subst (λ (p : Path). path_before b.path p ≡ true) (path_same x.path b.path e) h.0)), others cs h.1)
 
     tails : y ≡ b → (p : Path) → count p ys ≡ count p bs
     tails e p = let same : one (path_eq y.path p) ≡ one (path_eq b.path p) = ap (λ (r : Row). one (path_eq r.path p)) e in let all = c p in omega (arith, same, all)

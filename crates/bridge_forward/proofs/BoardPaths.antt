@@ -1,19 +1,14 @@
 -- The paths of a board stand in order.
 use Rattle.std.proofs.Common.{◌≡◌, ◌⊎◌, inl, inr, Bool, true, false, ◌&&◌, ◌||◌, List, [], ◌∷◌, map, refl, ap, sym, ◌∙◌, subst}
 use Rattle.std.specs.List.{list_any}
-use Rattle.model_registers.specs.Lists.{Each}
-use Rattle.model_registers.proofs.EachLemmas.{each_map}
+use Rattle.lists.proofs.EachLemmas.{each_map, each_of_map}
+use Rattle.lists.proofs.Members.{pairs_of_map}
 use Rattle.model_board.specs.Paths.{Path, path_eq, path_before, parent, IsPath}
 use Rattle.model_board.specs.Board.{Row, Board, IsBoard, is_bridge, is_bridge_at}
 use Rattle.model_board.specs.State.{BoardFunction}
-use Rattle.model_board.proofs.Members.{pairs_map}
 use Rattle.bridge_forward.specs.declared.bus.Node.{Node}
 use Rattle.bridge_forward.specs.Layout.{functions_of, paths_of, AreInOrder}
 use Rattle.bridge_forward.specs.Resets.{reset_function, reset_functions}
-
-each_mapped : {A B : Type 0} (P : B → Type 0) (f : A → B) (xs : List A) → Each (λ x. P (f x)) xs → Each P (map f xs)
-each_mapped P f [] h = tt
-each_mapped P f (x ∷ xs) h = (h.0, each_mapped P f xs h.1)
 
 -- a bridge at a path is a path
 any_path : (b : Board) (p : Path) → is_bridge_at b p ≡ true → list_any (λ q. path_eq q p) (map (λ (r : Row). r.path) b) ≡ true
@@ -27,9 +22,9 @@ any_path (r ∷ rs) p h = by_row (is_bridge r.decl) (path_eq r.path p) h (any_pa
 
 in_order : (b : Board) → IsBoard b → AreInOrder (map (λ (r : Row). r.path) b)
 in_order b h = record {
-  paths = each_mapped IsPath (λ (r : Row). r.path) b h.paths;
-  in_order = pairs_map (λ p q. path_before p q ≡ true) (λ (r : Row). r.path) b h.in_order;
-  founded = each_mapped (λ p. (parent p ≡ []) ⊎ (list_any (λ q. path_eq q (parent p)) (map (λ (r : Row). r.path) b) ≡ true)) (λ (r : Row). r.path) b
+  paths = each_of_map IsPath (λ (r : Row). r.path) b h.paths;
+  in_order = pairs_of_map (λ p q. path_before p q ≡ true) (λ (r : Row). r.path) b h.in_order;
+  founded = each_of_map (λ p. (parent p ≡ []) ⊎ (list_any (λ q. path_eq q (parent p)) (map (λ (r : Row). r.path) b) ≡ true)) (λ (r : Row). r.path) b
       (each_map (λ r. (parent r.path ≡ []) ⊎ (is_bridge_at b (parent r.path) ≡ true)) (λ r. (parent r.path ≡ []) ⊎ (list_any (λ q. path_eq q (parent r.path)) (map (λ (s : Row). s.path) b) ≡ true)) b (λ r k. founded r k) h.behind_bridges);
 }
   where

@@ -7,7 +7,7 @@ use Rattle.std.proofs.lemmas.Option.{slice_get_within}
 use borrow.Follows.Closed.{read_of}
 use base.Fml.{GName}
 use mathlib.Core.Option.{Option as Opt}
-use Rattle.model_registers.specs.Lists.{EachPair}
+use Rattle.lists.specs.Elements.{EachPair}
 use Rattle.model_registers.specs.Registers.{File}
 use Rattle.model_registers.specs.Decoding as decoding
 use Rattle.model_board.specs.Paths.{Path, path_eq, path_before}
@@ -24,7 +24,7 @@ use Rattle.bridge_forward.specs.ResetAlone.{after_leaf_reset}
 use Rattle.bridge_forward.specs.Layout.{paths_of, ends_of, function_of, functions_of, AreLaid, IsLaidOut}
 use Rattle.bridge_forward.specs.Lending.{as_endpoint, endpoint_at, with_endpoint, with_endpoint_reset}
 use Rattle.bridge_forward.specs.Search.{IsAt}
-use Rattle.bridge_forward.proofs.Indices.{read_at, same_at, map_at, at_map, map_set, set_same, found_at}
+use Rattle.lists.proofs.Indices.{read_at, same_at, map_at, at_map, map_set, set_same, found_at}
 use Rattle.bridge_forward.proofs.Nodes.{ordered}
 
 -- another function at one place leaves the layout
@@ -51,7 +51,7 @@ map_one t g (y ∷ ys) (suc i) x e h k =
     ap₂ (λ z zs. z ∷ zs) (ap (λ b. cond b (g y) y) (k 0 y (λ q. absurd (omega (arith, q))) refl)) (map_one t g ys i x e h (λ j z d f. k (suc j) z (λ q. d (omega arith)) f))
 
 -- files that are left as they are
-same_files : (p : Path) (fs : List BoardFunction) → with_file (λ file. file) p fs ≡ fs
+pub same_files : (p : Path) (fs : List BoardFunction) → with_file (λ file. file) p fs ≡ fs
 same_files p [] = refl
 same_files p (f ∷ fs) = ap₂ (λ (g : BoardFunction) (gs : List BoardFunction). g ∷ gs) (either (path_eq f.path p)) (same_files p fs)
   where

@@ -3,7 +3,7 @@ use Rattle.std.proofs.Common.{◌≡◌, ℕ, ◌+◌, ◌<◌, ◌≤◌, Bool,
 use Rattle.std.specs.Option.{option_map_or}
 use Rattle.std.specs.List.{slice_get, list_all}
 use Rattle.std.proofs.lemmas.Option.{slice_get_within}
-use Rattle.model_registers.specs.Lists.{first_of_two, first_some}
+use Rattle.lists.specs.Elements.{first_of_two, first_some}
 use Rattle.model_registers.specs.Decoding as decoding
 use Rattle.model_registers.specs.Decoding.{Space, Hit, lone_claim}
 use Rattle.model_board.specs.Paths.{leads_to}
@@ -15,7 +15,8 @@ use Rattle.bridge_forward.specs.declared.bus.Node.{Node}
 use Rattle.bridge_forward.specs.declared.function.Function.{Function}
 use Rattle.bridge_forward.specs.declared.function.Function.TheVariants.{Endpoint, Bridge}
 use Rattle.bridge_forward.specs.Layout.{function_of, functions_of, IsLaidOut}
-use Rattle.bridge_forward.proofs.Indices.{map_at, at_map}
+use Rattle.lists.proofs.Indices.{map_at, at_map, fails_at}
+use Rattle.lists.proofs.Tests.{asked_false}
 use Rattle.bridge_forward.proofs.Nodes.{inside, leads_within, within_of_leads, nested}
 
 -- ---- lists
@@ -33,21 +34,9 @@ all_at : {A : Type 0} (p : A → Bool) (xs : List A) → ((j : ℕ) (y : A) → 
 all_at p [] h = refl
 all_at p (x ∷ xs) h = rw (h 0 x refl) (all_at p xs (λ j y e. h (suc j) y e))
 
-not_all_at : {A : Type 0} (p : A → Bool) (xs : List A) (i : ℕ) (x : A) → slice_get xs i ≡ Some x → p x ≡ false → list_all p xs ≡ false
-not_all_at p [] i x e h = cc
-not_all_at p (y ∷ ys) zero x e h = let same : y ≡ x = cc in rw (ap p same ∙ h) refl
-not_all_at p (y ∷ ys) (suc i) x e h = rw (not_all_at p ys i x e h) (and_false (p y))
-  where
-    and_false : (b : Bool) → (b && false) ≡ false
-    and_false true = refl
-    and_false false = refl
-
 or_right : (b c : Bool) → (b ≡ true → c ≡ true) → (not b || c) ≡ true
 or_right true c h = h refl
 or_right false c h = refl
-
-shut : (b c : Bool) → b ≡ true → c ≡ false → (not b || c) ≡ false
-shut b c p q = rw (p, q) refl
 
 sides : (j i : ℕ) → (j < i) ⊎ ((j ≡ i) ⊎ (i < j))
 sides j i = grind arith
@@ -79,8 +68,8 @@ module _ (nodes : List Node) (laid : IsLaidOut nodes) (space : Space) (a : ℕ) 
   shut_behind : (i j : ℕ) (m n : Node) → slice_get nodes i ≡ Some m → slice_get nodes j ≡ Some n → i < j → j < m.end → forwards space a (function_of m) ≡ false → claim_of fs space a (function_of n) ≡ None
   shut_behind i j m n em en l g f =
       ap (λ t. cond t (option_map_or (λ (h : Hit). Some (claim_at n.path h)) (endpoint_hit (function_of n) space a) None) None)
-      (not_all_at (λ (x : BoardFunction). not (leads_to x.path n.path) || forwards space a x) fs i (function_of m) (map_at function_of nodes i m em)
-      (shut (leads_to m.path n.path) (forwards space a (function_of m)) (leads_within nodes laid i j m n em en l g) f))
+      (fails_at (λ (x : BoardFunction). not (leads_to x.path n.path) || forwards space a x) fs i (function_of m) (map_at function_of nodes i m em)
+      (asked_false (leads_to m.path n.path) (forwards space a (function_of m)) (leads_within nodes laid i j m n em en l g) f))
 
   no_claim : (n : Node) → endpoint_hit (function_of n) space a ≡ None → claim_of fs space a (function_of n) ≡ None
   no_claim n d = ap (λ o. cond (is_forwarded fs n.path space a) (option_map_or (λ (h : Hit). Some (claim_at n.path h)) o None) None) d ∙ none_either (is_forwarded fs n.path space a)

@@ -2,22 +2,24 @@
 use Rattle.std.proofs.Common.{◌≡◌, ◌≢◌, ℕ, zero, suc, ◌+◌, ◌*◌, ◌-◌, ◌/◌, ◌%◌, ◌^◌, ◌<◌, ◌≤◌, ◌⊎◌, inl, inr, Bool, true, false, cond, Some, get_or, List, [], ◌∷◌, ◌++◌, map, length, refl, ap, ap₂, sym, ◌∙◌, subst, arith}
 use Rattle.std.specs.Int.Bits.{or_zero_r, and_zero_r}
 use Rattle.std.specs.Prelude.{bit_and, bit_or, ◌==◌}
-use Rattle.model_registers.specs.Lists.{Each, EachPair}
-use Rattle.model_registers.specs.Cell.{Cell, raised}
-use Rattle.model_registers.specs.Registers.{Place, config, block, place_eq, Entry, File, cell_at, changed, read, write, raise, field, in_region}
-use Rattle.model_registers.specs.FileLaws.{has_place, HasNone, IsConfig, IsConfigFile}
-use Rattle.model_registers.specs.Declarations.{Region, Endpoint, Kind, io_kind, mem32, mem64, registers_of, HasLawfulRegions, IsLawfulRegion}
+use Rattle.lists.specs.Elements.{Each, EachPair}
+use Rattle.model_registers.specs.Cell.{raised}
+use Rattle.model_registers.specs.Registers.{config, block, Entry, File, cell_at, read, write, raise, field, in_region}
+use Rattle.model_registers.specs.FileLaws.{has_place, HasNone, IsConfigFile}
+use Rattle.model_registers.specs.Declarations.{Region, Endpoint, registers_of, HasLawfulRegions, IsLawfulRegion}
 use Rattle.model_registers.specs.EndpointTable.{type_bits, base_width, BaseAddress, register_cells, base_file, opened}
-use Rattle.model_registers.specs.OwnCopies.{bare}
-use Rattle.model_registers.proofs.Files.{joined_write, joined_change, read_none, write_none, change_none, region_has_no_config, region_has_no_other, config_has_no_block, region_write, region_change}
+use Rattle.model_registers.proofs.Files.{joined_write, joined_change, read_none, write_none, change_none, region_has_no_config, region_has_no_other, config_has_no_block, region_write, region_change, config_without_block}
 use Rattle.model_registers.proofs.Parts.{write_apart}
 use Rattle.std.specs.Option.{option_map_or}
 use Rattle.std.specs.List.{slice_get, slice_set}
 use Rattle.std.proofs.lemmas.Option.{slice_get_past}
 use Rattle.config_bytes.specs.CellFile.{CellFile}
-use Rattle.bridge_forward.proofs.Indices.{read_at}
+use Rattle.lists.proofs.Indices.{read_at}
+use Rattle.model_registers.proofs.BareRegions.{bare_lawful, Follows}
+use Rattle.model_registers.proofs.Owned.{no_base}
+use Rattle.model_registers.proofs.Bases.{registers_positive}
 use Rattle.bridge_forward.specs.EndpointParts.{block_at, region_parts, IsShort, AreParts}
-use Rattle.bridge_forward.proofs.RegionParts.{read_same, cell_second, cell_first, config_register, no_block_in, no_config_in, no_other_in, config_cell, no_base, Distinct, block_cell, IsChange, parts_changed, write_is_change, changed_is_change}
+use Rattle.bridge_forward.proofs.RegionParts.{read_same, cell_second, cell_first, config_register, no_config_in, no_other_in, config_cell, Distinct, block_cell, IsChange, parts_changed, write_is_change, changed_is_change}
 
 same_or_other : (x y : ℕ) → (x ≡ y) ⊎ (x ≢ y)
 same_or_other x y = grind arith
@@ -29,14 +31,6 @@ config_joined (x ∷ xs) ys h k = (h.0, config_joined xs ys h.1 k)
 config_bases : (bs : List BaseAddress) → IsConfigFile (base_file bs)
 config_bases [] = tt
 config_bases (b ∷ bs) = config_joined (register_cells b) (base_file bs) (config_register b) (config_bases bs)
-
-pub changed_config : (f : Cell → Cell) (p : Place) (xs : File) → IsConfigFile xs → IsConfigFile (changed f p xs)
-changed_config f p [] h = tt
-changed_config f p (x ∷ xs) h = (by_place (place_eq x.place p), changed_config f p xs h.1)
-  where
-    by_place : (t : Bool) → IsConfig (cond t (record x { cell = f x.cell }) x).place
-    by_place true = h.0
-    by_place false = h.0
 
 -- a word that begins outside the base address registers lies outside them
 pub word_away : (off : ℕ) → off % 4 ≡ 0 → (off < 0x10) ⊎ (0x28 ≤ off) → (off + 4 ≤ 0x10) ⊎ (0x28 ≤ off)
@@ -70,35 +64,9 @@ block_set blocks n f l = ap (λ o. option_map_or (λ (x : CellFile). x.now) o []
 pub other_blocks : (blocks : List CellFile) (n m : ℕ) (f : CellFile) → m ≢ n → block_at (slice_set blocks n f) m ≡ block_at blocks m
 other_blocks blocks n m f d = ap (λ o. option_map_or (λ (x : CellFile). x.now) o []) (get_other blocks n m f d)
 
--- ---- lawful regions
-
-bare_each : (rs : List Region) → Each IsLawfulRegion rs → Each IsLawfulRegion (map bare rs)
-bare_each [] h = tt
-bare_each (r ∷ rs) h = (record { registers = h.0.registers; size_is_lawful = h.0.size_is_lawful; block_fits = omega arith }, bare_each rs h.1)
-
-abbrev Follows : Region → Region → Type 0
-Follows r s = r.index + registers_of r.kind ≤ s.index
-
-bare_after : (r : Region) (rs : List Region) → Each (Follows r) rs → Each (Follows (bare r)) (map bare rs)
-bare_after r [] h = tt
-bare_after r (s ∷ rs) h = (h.0, bare_after r rs h.1)
-
-bare_order : (rs : List Region) → EachPair Follows rs → EachPair Follows (map bare rs)
-bare_order [] h = tt
-bare_order (r ∷ rs) h = (bare_after r rs h.0, bare_order rs h.1)
-
--- lawful regions stay lawful without their blocks
-pub bare_lawful : (rs : List Region) → HasLawfulRegions rs → HasLawfulRegions (map bare rs)
-bare_lawful rs h = record { each = bare_each rs h.each; in_order = bare_order rs h.in_order }
-
-pub some_register : (k : Kind) → 0 < registers_of k
-some_register io_kind = omega arith
-some_register (mem32 p) = omega arith
-some_register (mem64 p) = omega arith
-
 later : (b : BaseAddress) (bs : List BaseAddress) → Each (Follows (opened b)) (map opened bs) → Each (λ (c : BaseAddress). b.index ≢ c.index) bs
 later b [] h = tt
-later b (c ∷ bs) h = (λ e. let some = some_register b.kind in absurd (omega (arith, h.0, some, e)), later b bs h.1)
+later b (c ∷ bs) h = (λ e. let some = registers_positive b.kind in absurd (omega (arith, h.0, some, e)), later b bs h.1)
 
 distinct_opened : (bs : List BaseAddress) → EachPair Follows (map opened bs) → Distinct bs
 distinct_opened [] h = tt
@@ -122,7 +90,7 @@ write_in_block n off v ons = record {
 pub raise_in_block : (n off mask : ℕ) → IsBlockChange n (raise mask (block n off)) (raise mask (config off))
 raise_in_block n off mask = record {
   change_is = changed_is_change (raised mask) (block n off);
-  config_stays = λ xs h. change_none (raised mask) xs (block n off) (no_block_in xs n off h);
+  config_stays = λ xs h. change_none (raised mask) xs (block n off) (config_without_block xs n off h);
   here = λ xs h. region_change (raised mask) n off xs h;
   other = λ m xs e. change_none (raised mask) (in_region m xs) (block n off) (no_other_in m n off xs e);
 }
@@ -168,7 +136,7 @@ module _ (d : Endpoint) (cells : File) (bars : List BaseAddress) (g : ℕ → Fi
   -- at a block's offsets stands the block
   pub cell_of_block : (n q : ℕ) → cell_at file (block n q) ≡ cell_at (g n) (config q)
   cell_of_block n q =
-      cell_second cells (region_parts bars g) (block n q) (no_block_in cells n q parts.config_places)
+      cell_second cells (region_parts bars g) (block n q) (config_without_block cells n q parts.config_places)
       ∙ block_cell bars g n q distinct (parts.block_places n) (parts.unused n)
 
   -- and elsewhere than at base registers the header with the device's own registers

@@ -1,13 +1,13 @@
 -- What an endpoint decodes is told by its Command and its base address registers.
 use Rattle.std.proofs.Common.{◌≡◌, ℕ, zero, suc, ◌+◌, ◌*◌, ◌/◌, ◌^◌, ◌<◌, ◌≤◌, inl, inr, List, [], ◌∷◌, ◌++◌, map, refl, ap, ap₂, sym, ◌∙◌, arith}
 use Rattle.std.proofs.Math.Nat.{mod-eq_of_lt}
-use Rattle.model_registers.specs.Lists.{Each, first_some}
+use Rattle.lists.specs.Elements.{Each, first_some}
 use Rattle.model_registers.specs.Registers.{config, File, number, all_bytes}
 use Rattle.model_registers.specs.Declarations.{Region, Kind, io_kind, mem32, mem64, registers_of, IsLawfulRegion, Endpoint}
-use Rattle.model_registers.specs.EndpointTable.{BaseAddress, base_file, command_cells, opened}
+use Rattle.model_registers.specs.EndpointTable.{BaseAddress, base_file, command_cells, opened, HasLawfulBases}
 use Rattle.model_registers.specs.Decoding.{Space, base, base_address, hit_at, first_hit}
 use Rattle.model_registers.specs.OwnCopies.{bare}
-use Rattle.model_registers.proofs.Hits.{hits_by_bases}
+use Rattle.model_registers.proofs.Hits.{hits_by_bases, bases_of_registers}
 use Rattle.model_registers.proofs.RegisterFiles.{field_reads}
 use Rattle.model_registers.proofs.Parts.{read_apart}
 use Rattle.bridge_forward.specs.EndpointParts.{region_parts, AreParts}
@@ -17,7 +17,7 @@ standing_bare : (file : File) (rs : List Region) → map (base_address file) (ma
 standing_bare file [] = refl
 standing_bare file (r ∷ rs) = ap (λ (bs : List BaseAddress). base_address file r ∷ bs) (standing_bare file rs)
 
-module _ (d : Endpoint) (cells : File) (bars : List BaseAddress) (g : ℕ → File) (parts : AreParts d cells bars g) (command : ℕ) (is : command ≡ number cells (config 4) 2) (small : command < 2 ^ 16) where
+module _ (d : Endpoint) (cells : File) (bars : List BaseAddress) (g : ℕ → File) (parts : AreParts d cells bars g) (command : ℕ) where
   abbrev whole : File
   whole = cells ++ region_parts bars g
 
@@ -44,12 +44,23 @@ module _ (d : Endpoint) (cells : File) (bars : List BaseAddress) (g : ℕ → Fi
   same_standing (b ∷ bs) h =
       ap₂ (λ n (cs : List BaseAddress). record { index = b.index; kind = b.kind; size = b.size; base = n } ∷ cs) (same_base b.index b.kind h.0.registers) (same_standing bs h.1)
 
-  pub hits_same : (space : Space) (a : ℕ) → first_hit own (map opened bars) space a ≡ first_hit whole d.regions space a
-  hits_same space a =
-      let word : number own (config 4) 2 ≡ number whole (config 4) 2 =
-      field_reads 2 4 command 0x0547 0 (base_file bars) ∙ mod-eq_of_lt small ∙ is ∙ sym (read_config d cells bars g parts 4 (all_bytes 2) (inl (omega arith))) in
-      let stand : map (base_address own) (map opened bars) ≡ map (base_address whole) d.regions =
-      same_standing bars (lawful_bars d cells bars g parts).each ∙ ap (map (base_address whole)) parts.registers ∙ standing_bare whole d.regions in
-      hits_by_bases own (map opened bars) space a
-      ∙ ap₂ (λ c (bs : List BaseAddress). first_some (hit_at c space a) bs) word stand
-      ∙ sym (hits_by_bases whole d.regions space a)
+  stand_same : map (base_address own) (map opened bars) ≡ map (base_address whole) d.regions
+  stand_same = same_standing bars (lawful_bars d cells bars g parts).each ∙ ap (map (base_address whole)) parts.registers ∙ standing_bare whole d.regions
+
+  -- the regions as the registers of the endpoint have them
+  pub regions_now : HasLawfulBases bars → bars ≡ map (base_address whole) d.regions
+  regions_now lawful = sym (bases_of_registers bars lawful command) ∙ stand_same
+
+  module _ (is : command ≡ number cells (config 4) 2) (small : command < 2 ^ 16) where
+    word_same : number own (config 4) 2 ≡ number whole (config 4) 2
+    word_same = field_reads 2 4 command 0x0547 0 (base_file bars) ∙ mod-eq_of_lt small ∙ is ∙ sym (read_config d cells bars g parts 4 (all_bytes 2) (inl (omega arith)))
+
+    -- Command as its register has it
+    pub command_now : command ≡ number whole (config 4) 2
+    command_now = is ∙ sym (read_config d cells bars g parts 4 (all_bytes 2) (inl (omega arith)))
+
+    pub hits_same : (space : Space) (a : ℕ) → first_hit own (map opened bars) space a ≡ first_hit whole d.regions space a
+    hits_same space a =
+        hits_by_bases own (map opened bars) space a
+        ∙ ap₂ (λ c (bs : List BaseAddress). first_some (hit_at c space a) bs) word_same stand_same
+        ∙ sym (hits_by_bases whole d.regions space a)

@@ -4,7 +4,7 @@ use Rattle.std.specs.Prelude.{◌==◌, flat_map, option_map}
 use Rattle.std.proofs.lemmas.Bool.{ne_eqb, eq-eqb}
 use Rattle.std.specs.List.{slice_get}
 use Rattle.std.specs.Option.{option_map_or}
-use Rattle.model_registers.specs.Lists.{Each, EachPair}
+use Rattle.lists.specs.Elements.{Each, EachPair}
 use Rattle.model_registers.specs.Cell.{Cell}
 use Rattle.model_registers.specs.Registers.{Place, config, place_eq, File, field, cells_from, in_region}
 use Rattle.model_registers.specs.FileLaws.{has_place, IsConfigFile}
@@ -17,10 +17,12 @@ use Rattle.model_registers.proofs.Parts.{IsOutside}
 use Rattle.config_bytes.specs.CellFile.{CellFile}
 use Rattle.bars.specs.Resets.{reset_from, at_reset}
 use Rattle.bridge_forward.specs.EndpointParts.{block_at, region_parts, IsElsewhere, AreParts, region_at, declared_bar, declared_block, as_made}
-use Rattle.bridge_forward.proofs.Indices.{each_at, pair_at, find_at}
+use Rattle.lists.proofs.Indices.{each_at, pair_at, find_at, each_by_index}
+use Rattle.model_registers.proofs.BareRegions.{bare_lawful}
+use Rattle.model_registers.proofs.Bases.{registers_positive}
 use Rattle.bridge_forward.proofs.BlockLists.{found_each}
 use Rattle.bridge_forward.proofs.RegionParts.{config_field}
-use Rattle.bridge_forward.proofs.EndpointAccess.{bare_lawful, config_joined, some_register, no_block}
+use Rattle.bridge_forward.proofs.EndpointAccess.{config_joined, no_block}
 
 -- ---- where the header and the device's own registers stand
 
@@ -125,7 +127,7 @@ Rising r s = r.index < s.index
 
 rising_each : (r : Region) (rs : List Region) → Each (λ s. r.index + registers_of r.kind ≤ s.index) rs → Each (Rising r) rs
 rising_each r [] h = tt
-rising_each r (s ∷ rs) h = (let some = some_register r.kind in omega (arith, h.0, some), rising_each r rs h.1)
+rising_each r (s ∷ rs) h = (let some = registers_positive r.kind in omega (arith, h.0, some), rising_each r rs h.1)
 
 rising : (rs : List Region) → EachPair (λ r s. r.index + registers_of r.kind ≤ s.index) rs → EachPair Rising rs
 rising [] h = tt
@@ -181,7 +183,7 @@ bars_from (suc k) n (r ∷ rs) b o = by_head (at_or_above r.index n b.0.0) (bars
 
 between_six : (rs : List Region) → Each IsLawfulRegion rs → Each (Between 0 6) rs
 between_six [] h = tt
-between_six (r ∷ rs) h = (let some = some_register r.kind in let within = h.0.registers in (omega arith, omega (arith, some, within)), between_six rs h.1)
+between_six (r ∷ rs) h = (let some = registers_positive r.kind in let within = h.0.registers in (omega arith, omega (arith, some, within)), between_six rs h.1)
 
 bars_at_reset : (rs : List Region) → HasLawfulRegions rs → at_reset (map (declared_bar rs) (0 ∷ 1 ∷ 2 ∷ 3 ∷ 4 ∷ 5 ∷ [])) ≡ map closed rs
 bars_at_reset rs h = bars_from 6 0 rs (between_six rs h.each) (rising rs h.in_order)
@@ -204,10 +206,6 @@ opens_lawful d lawful bars is = subst HasLawfulRegions (sym (ap (map opened) is 
 own_region : (rs : List Region) → EachPair Rising rs → (i : ℕ) (r : Region) → slice_get rs i ≡ Some r → region_at rs r.index ≡ Some r
 own_region rs o i r e = find_at (λ (s : Region). s.index == r.index) rs i r e (eq-eqb r.index r.index refl)
     (λ j s l f. ne_eqb s.index r.index (λ z. let w = pair_at Rising rs j i s r o l f e in omega (arith, w, z)))
-
-each_by_index : {A : Type 0} (P : A → Type 0) (xs : List A) → ((i : ℕ) (x : A) → slice_get xs i ≡ Some x → P x) → Each P xs
-each_by_index P [] h = tt
-each_by_index P (x ∷ xs) h = (h 0 x refl, each_by_index P xs (λ i y e. h (suc i) y e))
 
 parts_of : (rs : List Region) (g : ℕ → File) → Each (λ r. g r.index ≡ cells_from (config 0) r.cells) rs → region_parts (map closed rs) g ≡ flat_map (region_cells (λ r. 0)) rs
 parts_of [] g h = refl
@@ -265,7 +263,7 @@ module _ (d : Endpoint) (lawful : IsLawfulEndpoint d) (blocks : List CellFile) (
   file_at_reset multifunction = ap (λ (xs : File). config_reset d multifunction ++ xs) (parts_of d.regions (block_at blocks)
       (each_by_index (λ r. block_at blocks r.index ≡ cells_from (config 0) r.cells) d.regions (λ i r e.
       let region : IsLawfulRegion r = each_at IsLawfulRegion d.regions i r lawful.regions.each e in
-      let some = some_register r.kind in
+      let some = registers_positive r.kind in
       let within = region.registers in
       filled r.index (omega (arith, some, within)) ∙ ap cells_of (own_region d.regions (rising d.regions lawful.regions.in_order) i r e))))
 

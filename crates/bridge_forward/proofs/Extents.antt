@@ -2,23 +2,15 @@
 use Rattle.std.proofs.Common.{◌≡◌, ℕ, ◌+◌, ◌<◌, ◌≤◌, Bool, true, false, ◌&&◌, Some, List, [], ◌∷◌, length, zero, suc, refl, ap, sym, ◌∙◌, arith, inl, inr, ◌⊎◌, subst}
 use Rattle.std.specs.Prelude.{nat_lt}
 use Rattle.std.specs.List.{slice_get, slice_set}
-use Rattle.std.proofs.lemmas.Bool.{lt-ltb}
+use Rattle.std.proofs.lemmas.Bool.{lt-ltb, and_from, false_from_ne_true}
 use Rattle.std.proofs.lemmas.Bool.Decides.{nat_tests}
 use Rattle.std.proofs.lemmas.Option.{slice_get_within}
 use Rattle.model_board.specs.Paths.{Path, path_eq, path_before, leads_to}
 use Rattle.model_board.proofs.PathOrder.{one, path_same, before_trans, behind_bound, leads_before}
-use Rattle.model_board.proofs.PathEnds.{not_before_itself}
+use Rattle.model_board.proofs.PathEnds.{not_before_itself, leads_longer}
 use Rattle.bridge_forward.specs.declared.bus.Node.{Node}
 use Rattle.bridge_forward.specs.Layout.{function_of, functions_of, paths_of, ends_of, AreInOrder, EndsAt, AreLaid, IsLaidOut}
-use Rattle.bridge_forward.proofs.Indices.{same_at, at_below, pair_at, map_at, at_map, map_set, set_same}
-use Rattle.bridge_forward.proofs.Nodes.{leads_longer}
-
-not_true : (b : Bool) → (b ≡ true → ⊥) → b ≡ false
-not_true true h = absurd (h refl)
-not_true false h = refl
-
-both : (a b : Bool) → a ≡ true → b ≡ true → (a && b) ≡ true
-both a b p q = rw (p, q) refl
+use Rattle.lists.proofs.Indices.{same_at, at_below, pair_at, map_at, at_map, map_set, set_same}
 
 -- ---- path order
 
@@ -66,7 +58,7 @@ pub record Behind (ps : List Path) (i end : ℕ) : Type 0 where
   pub all : (j : ℕ) (p q : Path) → i < j → j < end → slice_get ps i ≡ Some p → slice_get ps j ≡ Some q → leads_to p q ≡ true
 
 outside : (i j end : ℕ) → (j ≤ i) ⊎ (end ≤ j) → (nat_lt i j && nat_lt j end) ≡ false
-outside i j end h = not_true _ (λ t. elim h [ inl a ↦ grind (arith, nat_tests) | inr a ↦ grind (arith, nat_tests) ])
+outside i j end h = false_from_ne_true _ (λ t. elim h [ inl a ↦ grind (arith, nat_tests) | inr a ↦ grind (arith, nat_tests) ])
 
 sides : (i j end : ℕ) → ((i < j) × (j < end)) ⊎ ((j ≤ i) ⊎ (end ≤ j))
 sides i j end = grind arith
@@ -113,9 +105,9 @@ module _ (ps : List Path) (order : AreInOrder ps) where
           by_place r er f (inr s) = let g = between p r q t (ordered i end p r b.after ep er) (ordered end j r q s er eq) in cc
 
       by_side : (j : ℕ) (p q : Path) → slice_get ps i ≡ Some p → slice_get ps j ≡ Some q → ((i < j) × (j < end)) ⊎ ((j ≤ i) ⊎ (end ≤ j)) → leads_to p q ≡ (nat_lt i j && nat_lt j end)
-      by_side j p q ep eq (inl h) = b.all j p q h.0 h.1 ep eq ∙ sym (both (nat_lt i j) (nat_lt j end) (lt-ltb i j h.0) (lt-ltb j end h.1))
-      by_side j p q ep eq (inr (inl h)) = not_true (leads_to p q) (not_back i j p q ep eq h) ∙ sym (outside i j end (inl h))
-      by_side j p q ep eq (inr (inr h)) = not_true (leads_to p q) (no_more j p q ep eq h) ∙ sym (outside i j end (inr h))
+      by_side j p q ep eq (inl h) = b.all j p q h.0 h.1 ep eq ∙ sym (and_from (nat_lt i j) (nat_lt j end) (lt-ltb i j h.0) (lt-ltb j end h.1))
+      by_side j p q ep eq (inr (inl h)) = false_from_ne_true (leads_to p q) (not_back i j p q ep eq h) ∙ sym (outside i j end (inl h))
+      by_side j p q ep eq (inr (inr h)) = false_from_ne_true (leads_to p q) (no_more j p q ep eq h) ∙ sym (outside i j end (inr h))
 
   pub behind_more : (i end : ℕ) (p q : Path) → Behind ps i end → slice_get ps i ≡ Some p → slice_get ps end ≡ Some q → leads_to p q ≡ true → Behind ps i (end + 1)
   behind_more i end p q h ep eq t = record {
@@ -147,9 +139,6 @@ pub record Done (nodes initial : List Node) (i : ℕ) : Type 0 where
   pub paths : paths_of nodes ≡ paths_of initial
   pub functions : functions_of nodes ≡ functions_of initial
   pub ends : (k : ℕ) (n : Node) → k < i → slice_get nodes k ≡ Some n → EndsAt (paths_of initial) k n.end
-
-pub done_none : (nodes : List Node) → Done nodes nodes 0
-done_none nodes = record { paths = refl; functions = refl; ends = λ k n l e. absurd (omega arith) }
 
 set_at : (nodes : List Node) (i : ℕ) (m n : Node) → slice_get (slice_set nodes i m) i ≡ Some n → n ≡ m
 set_at [] i m n e = absurd (cc)

@@ -1,39 +1,20 @@
 -- The search for a path among nodes in path order.
-use Rattle.std.proofs.Common.{◌≡◌, ℕ, ◌+◌, ◌<◌, ◌≤◌, Bool, true, false, Some, None, List, [], ◌∷◌, ◌++◌, length, refl, ap, sym, ◌∙◌, arith, inl, inr, ◌⊎◌, subst}
+use Rattle.std.proofs.Common.{◌≡◌, ℕ, ◌+◌, ◌<◌, ◌≤◌, Bool, true, false, Some, None, List, [], ◌∷◌, ◌++◌, refl, ap, sym, ◌∙◌, arith, inl, inr, ◌⊎◌, subst}
 use Rattle.std.specs.Prelude.{find}
 use Rattle.std.specs.List.{slice_get}
-use Rattle.std.proofs.lemmas.Option.{slice_get_within}
 use Rattle.model_board.specs.Paths.{Part, Path, path_eq, path_before, leads_to}
-use Rattle.model_board.proofs.PathOrder.{one, path_same, before_trans}
-use Rattle.model_board.proofs.PathEnds.{not_before_itself, leads_self}
+use Rattle.model_board.proofs.PathOrder.{path_same}
+use Rattle.model_board.proofs.PathEnds.{not_before_itself, leads_self, no_turn}
 use Rattle.bridge_forward.specs.declared.bus.Node.{Node}
 use Rattle.bridge_forward.specs.Layout.{function_of, functions_of, IsLaidOut}
 use Rattle.bridge_forward.specs.Search.{IsSide, IsAt}
 use Rattle.bridge_forward.proofs.Nodes.{ordered, in_side}
-use Rattle.bridge_forward.proofs.Indices.{map_at, at_map, find_at, find_none}
+use Rattle.lists.proofs.Indices.{map_at, at_map, find_at, find_none}
 
 -- the path stands neither below low nor from high on
 pub record Halved (nodes : List Node) (path : Path) (low high : ℕ) : Type 0 where
   pub below : (j : ℕ) (n : Node) → j < low → slice_get nodes j ≡ Some n → path_eq n.path path ≡ false
   pub above : (j : ℕ) (n : Node) → high ≤ j → slice_get nodes j ≡ Some n → path_eq n.path path ≡ false
-
-pub halved_none : (nodes : List Node) (path : Path) → Halved nodes path 0 (length nodes)
-halved_none nodes path = record {
-  below = λ j n l e. absurd (omega arith);
-  above = λ j n l e. let w = slice_get_within nodes j n e in absurd (omega (arith, w));
-}
-
--- of two paths at most one is before the other
-no_turn : (p q : Path) → path_before p q ≡ true → path_before q p ≡ true → ⊥
-no_turn p q h k = by_case (path_before q q) refl (before_trans q p q h)
-  where
-    by_case : (t : Bool) → path_before q q ≡ t → one (path_before q p) + one (path_eq q p) ≤ one (path_before q q) → ⊥
-    by_case true e le = not_before_itself q e
-    by_case false e le = let w = rw (k, e) at le in none (path_eq q p) w
-      where
-        none : (t : Bool) → 1 + one t ≤ 0 → ⊥
-        none true h = omega (arith, h)
-        none false h = omega (arith, h)
 
 differs : (p q : Path) → (path_eq p q ≡ true → ⊥) → path_eq p q ≡ false
 differs p q h = by_case (path_eq p q) refl

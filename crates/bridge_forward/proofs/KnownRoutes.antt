@@ -18,7 +18,7 @@ use Rattle.bridge_forward.specs.Functions.{decl_of, file_of, with_cells, endpoin
 use Rattle.bridge_forward.specs.ResetAlone.{after_leaf_reset}
 use Rattle.bridge_forward.specs.Layout.{function_of, functions_of, paths_of}
 use Rattle.bridge_forward.specs.Leading.{LeadsTo, AreUnknown, AreRoutes, IsBus}
-use Rattle.bridge_forward.proofs.Indices.{at_map, read_at, same_at, map_at, map_set, set_same}
+use Rattle.lists.proofs.Indices.{at_map, read_at, same_at, map_at, map_set, set_same}
 use Rattle.bridge_forward.proofs.Searching.{taking}
 use Rattle.bridge_forward.proofs.Skipping.{covers_none, same_kind, set_cases, tree_set}
 use Rattle.bridge_forward.proofs.Changes.{laid_set}

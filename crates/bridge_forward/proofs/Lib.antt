@@ -1,6 +1,4 @@
-pub mod Paths
 pub mod Standings
-pub mod Indices
 pub mod Nodes
 pub mod Extents
 pub mod BoardOrder
@@ -11,7 +9,6 @@ pub mod Reaching
 pub mod Reached
 pub mod KnownRoutes
 pub mod Halving
-pub mod OnBus
 pub mod Changes
 pub mod Nth
 pub mod Claiming
@@ -23,3 +20,4 @@ pub mod EndpointReset
 pub mod ResetCells
 pub mod ResetKept
 pub mod BlocksReset
+pub mod RoutingRows

@@ -2,29 +2,20 @@
 use Rattle.std.proofs.Common.{◌≡◌, ℕ, ◌+◌, ◌<◌, ◌≤◌, Bool, true, false, ◌&&◌, Some, List, [], ◌∷◌, length, refl, ap, sym, ◌∙◌, arith, inl, inr, ◌⊎◌, subst}
 use Rattle.std.specs.Prelude.{nat_lt, nat_le}
 use Rattle.std.specs.List.{slice_get, list_any}
-use Rattle.std.proofs.lemmas.Bool.{ltb-true, lt-ltb, leb-true, le-leb}
+use Rattle.std.proofs.lemmas.Bool.{ltb-true, lt-ltb, leb-true, le-leb, and_from}
 use Rattle.std.proofs.lemmas.Option.{slice_get_within}
 use Rattle.std.proofs.lemmas.List.{length-map}
-use Rattle.model_registers.specs.Lists.{Each, EachPair}
+use Rattle.lists.specs.Elements.{Each, EachPair}
 use Rattle.model_board.specs.State.{BoardFunction}
-use Rattle.model_registers.proofs.Tests.{left_true, right_true}
-use Rattle.model_board.specs.Paths.{Path, part_eq, path_eq, path_before, leads_to, parent, last_part, IsPath}
+use Rattle.lists.proofs.Tests.{left_true, right_true}
+use Rattle.model_board.specs.Paths.{Path, path_eq, path_before, leads_to, parent, last_part, IsPath}
 use Rattle.model_board.proofs.PathOrder.{path_same}
-use Rattle.model_board.proofs.PathEnds.{snoc, leads_up, leads_self, leads_trans}
+use Rattle.model_board.proofs.PathEnds.{snoc, leads_up, leads_self, leads_trans, leads_longer}
 use Rattle.bridge_forward.specs.declared.bus.Node.{Node}
 use Rattle.bridge_forward.specs.Layout.{functions_of, paths_of, EndsAt, IsLaidOut}
 use Rattle.bridge_forward.specs.Search.{IsSide}
-use Rattle.bridge_forward.proofs.Indices.{at_below, each_at, pair_at, any_at, map_at, at_map}
-use Rattle.bridge_forward.proofs.Paths.{length-parent}
-
-both : (a b : Bool) → a ≡ true → b ≡ true → (a && b) ≡ true
-both a b p q = rw (p, q) refl
-
-pub leads_longer : (p q : Path) → leads_to p q ≡ true → length p < length q
-leads_longer [] [] h = absurd (cc)
-leads_longer [] (y ∷ ys) h = omega arith
-leads_longer (x ∷ xs) [] h = absurd (cc)
-leads_longer (x ∷ xs) (y ∷ ys) h = let l : length xs < length ys = leads_longer xs ys (right_true (part_eq x y) (leads_to xs ys) h) in omega (arith, l)
+use Rattle.lists.proofs.Indices.{at_below, each_at, pair_at, any_at, map_at, at_map}
+use Rattle.paths.proofs.Paths.{length-parent}
 
 -- a path behind a bus stands on it, or its parent is behind that bus
 pub on_or_behind : (bus p : Path) → 0 < length p → leads_to bus p ≡ true → (bus ≡ parent p) ⊎ (leads_to bus (parent p) ≡ true)
@@ -54,7 +45,7 @@ module _ (nodes : List Node) (laid : IsLaidOut nodes) where
 
   -- what stands within the extent of i is behind i, and nothing else
   pub leads_within : (i j : ℕ) (m n : Node) → slice_get nodes i ≡ Some m → slice_get nodes j ≡ Some n → i < j → j < m.end → leads_to m.path n.path ≡ true
-  leads_within i j m n em en l k = leads i j m n em en ∙ both _ _ (lt-ltb i j l) (lt-ltb j m.end k)
+  leads_within i j m n em en l k = leads i j m n em en ∙ and_from _ _ (lt-ltb i j l) (lt-ltb j m.end k)
 
   pub within_of_leads : (i j : ℕ) (m n : Node) → slice_get nodes i ≡ Some m → slice_get nodes j ≡ Some n → leads_to m.path n.path ≡ true → (i < j) × (j < m.end)
   within_of_leads i j m n em en a =
@@ -98,7 +89,7 @@ module _ (nodes : List Node) (laid : IsLaidOut nodes) where
     within = omega arith;
     behind = λ j n e.
         let l = slice_get_within nodes j n e in
-        leads_some n.path (path_of j n e).some ∙ sym (both (nat_le 0 j) (nat_lt j (length nodes)) (le-leb 0 j (omega arith)) (lt-ltb j (length nodes) l));
+        leads_some n.path (path_of j n e).some ∙ sym (and_from (nat_le 0 j) (nat_lt j (length nodes)) (le-leb 0 j (omega arith)) (lt-ltb j (length nodes) l));
   }
     where
       leads_some : (p : Path) → 0 < length p → leads_to [] p ≡ true
@@ -117,7 +108,7 @@ module _ (nodes : List Node) (laid : IsLaidOut nodes) where
 
   module _ (bus : Path) (from to : ℕ) (side : IsSide nodes bus from to) where
     pub behind_bus : (j : ℕ) (n : Node) → slice_get nodes j ≡ Some n → from ≤ j → j < to → leads_to bus n.path ≡ true
-    behind_bus j n e l h = side.behind j n e ∙ both _ _ (le-leb from j l) (lt-ltb j to h)
+    behind_bus j n e l h = side.behind j n e ∙ and_from _ _ (le-leb from j l) (lt-ltb j to h)
 
     pub in_side : (j : ℕ) (n : Node) → slice_get nodes j ≡ Some n → leads_to bus n.path ≡ true → (from ≤ j) × (j < to)
     in_side j n e h =

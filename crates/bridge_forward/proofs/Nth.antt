@@ -1,9 +1,8 @@
 -- One function of the list, by its index.
-use Rattle.std.proofs.Common.{◌≡◌, ℕ, ◌≤◌, ◌<◌, Option, Some, None, List, [], ◌∷◌, zero, suc, length, refl, ap, sym, ◌∙◌, arith, subst, inl, inr, ◌⊎◌}
+use Rattle.std.proofs.Common.{◌≡◌, ℕ, ◌≤◌, Option, Some, None, List, [], ◌∷◌, zero, suc, length, refl, ap, sym, ◌∙◌, arith, subst}
 use Rattle.std.specs.Prelude.{IsSome}
 use Rattle.std.specs.List.{slice_get, slice_set}
 use Rattle.std.specs.Option.{option_map_or}
-use Rattle.std.proofs.lemmas.List.{length-map}
 use Rattle.model_registers.specs.Decoding as decoding
 use Rattle.model_board.specs.Board.{endpoint}
 use Rattle.model_board.specs.State.{BoardFunction}
@@ -13,27 +12,12 @@ use Rattle.bridge_forward.specs.declared.function.Function.TheVariants.{Endpoint
 use Rattle.bridge_forward.specs.Functions.{endpoint_in}
 use Rattle.bridge_forward.specs.Layout.{function_of, functions_of}
 use Rattle.bridge_forward.specs.Lending.{as_endpoint, endpoint_nth, with_endpoint_nth}
-use Rattle.bridge_forward.proofs.Indices.{map_at, map_set}
+use Rattle.lists.proofs.Indices.{map_at, map_set}
 
 pub past_end : {A : Type 0} (xs : List A) (i : ℕ) → length xs ≤ i → slice_get xs i ≡ None
 past_end [] i h = refl
 past_end (x ∷ xs) zero h = absurd (omega arith)
 past_end (x ∷ xs) (suc i) h = past_end xs i (omega arith)
-
--- an endpoint at an index stands within the list
-pub nth_within : (nodes : List Node) (i : ℕ) → IsSome (endpoint_nth (functions_of nodes) i) → i < length nodes
-nth_within nodes i some = by_size (sides i (length nodes))
-  where
-    sides : (x y : ℕ) → (x < y) ⊎ (y ≤ x)
-    sides x y = grind arith
-
-    by_size : (i < length nodes) ⊎ (length nodes ≤ i) → i < length nodes
-    by_size (inl l) = l
-    by_size (inr l) =
-        absurd (none (subst (λ (o : Option BoardFunction). IsSome (option_map_or as_endpoint o None)) (past_end (functions_of nodes) i (rw (length-map nodes function_of) l)) some))
-      where
-        none : IsSome (option_map_or as_endpoint None None) → ⊥
-        none h = cc
 
 module _ (nodes : List Node) (i : ℕ) (n : Node) (e : slice_get nodes i ≡ Some n) where
   pub nth_set : (w : decoding.Function) → functions_of (slice_set nodes i (record n { function = Endpoint w })) ≡ with_endpoint_nth i w (functions_of nodes)

@@ -2,7 +2,7 @@
 use Rattle.std.proofs.Common.{[], ◌∷◌, ◌++◌, ◌≡◌, ℕ, true, false, ◌&&◌, Option, Some, None, List, ap, sym, ◌∙◌, eqb}
 use Rattle.std.specs.Prelude.{IfSome, IfNone, find, nat_le}
 use Rattle.std.specs.List.{slice_get}
-use Rattle.model_registers.proofs.Tests.{left_true, right_true}
+use Rattle.lists.proofs.Tests.{left_true, right_true}
 use Rattle.model_board.specs.Paths.{Path, Part, path_eq, parent}
 use Rattle.model_board.specs.Board.{is_bridge}
 use Rattle.model_board.specs.State.{BoardFunction}
@@ -10,7 +10,7 @@ use Rattle.model_board.specs.Cycles.{secondary_register, subordinate_register, c
 use Rattle.bridge_forward.specs.declared.bus.Node.{Node}
 use Rattle.bridge_forward.specs.Layout.{function_of, functions_of, IsLaidOut}
 use Rattle.bridge_forward.specs.Search.{is_named, IsAt}
-use Rattle.bridge_forward.proofs.Indices.{same_at, found_at}
+use Rattle.lists.proofs.Indices.{same_at, found_at}
 use Rattle.bridge_forward.specs.Leading.{LeadsTo, LeadsNowhere}
 use Rattle.bridge_forward.proofs.Reaching.{Passing, find_same, passing_next, routed, stuck}
 

@@ -3,29 +3,20 @@ use Rattle.std.proofs.Common.{◌≡◌, ℕ, ◌<◌, Bool, true, false, not, �
 use Rattle.std.specs.Prelude.{find}
 use Rattle.std.specs.Option.{option_map_or}
 use Rattle.std.specs.List.{slice_get}
-use Rattle.model_registers.proofs.Tests.{left_true, right_true}
+use Rattle.lists.proofs.Tests.{left_true, right_true, same_test, and_false}
 use Rattle.model_board.specs.Paths.{Part, Path, part_eq, path_eq, parent, last_part}
 use Rattle.model_board.specs.State.{BoardFunction}
 use Rattle.model_board.specs.Cycles.{secondary_register, taker, takes, is_route, ends_in, reached_type1}
-use Rattle.model_board.proofs.PathOrder.{part_same, path_same}
-use Rattle.model_board.proofs.PathEnds.{snoc, part_self, path_self}
+use Rattle.model_board.proofs.PathOrder.{part_same, path_same, part_self}
+use Rattle.model_board.proofs.PathEnds.{snoc, path_self}
 use Rattle.bridge_forward.specs.declared.bus.Node.{Node}
 use Rattle.bridge_forward.specs.Layout.{function_of, functions_of, IsLaidOut}
-use Rattle.bridge_forward.proofs.Indices.{at_map, find_none, found_at}
+use Rattle.lists.proofs.Indices.{at_map, find_none, found_at}
 use Rattle.bridge_forward.proofs.Nodes.{path_of}
 
 pub find_same : {A : Type 0} (t u : A → Bool) (xs : List A) → ((j : ℕ) (x : A) → slice_get xs j ≡ Some x → t x ≡ u x) → find t xs ≡ find u xs
 find_same t u [] h = refl
 find_same t u (x ∷ xs) h = ap₂ (λ b r. cond b (Some x) r) (h 0 x refl) (find_same t u xs (λ j y e. h (suc j) y e))
-
-pub same_test : (a b : Bool) → (a ≡ true → b ≡ true) → (b ≡ true → a ≡ true) → a ≡ b
-same_test true b f g = sym (f refl)
-same_test false true f g = g refl
-same_test false false f g = refl
-
-and_false : (a : Bool) → (a && false) ≡ false
-and_false true = refl
-and_false false = refl
 
 module _ (nodes : List Node) (laid : IsLaidOut nodes) where
   some_path : (j : ℕ) (f : BoardFunction) → slice_get (functions_of nodes) j ≡ Some f → 0 < length f.path

@@ -1,13 +1,12 @@
 -- An endpoint's cells, part by part: what a read finds, and what a change leaves.
 use Rattle.std.proofs.Common.{◌≡◌, ◌≢◌, ℕ, zero, suc, ◌+◌, ◌*◌, ◌/◌, ◌%◌, ◌-◌, ◌^◌, ◌<◌, ◌≤◌, ◌⊎◌, inl, inr, Bool, true, false, cond, List, [], ◌∷◌, ◌++◌, map, length, refl, ap, ap₂, sym, ◌∙◌, arith, append_assoc}
-use Rattle.model_registers.specs.Lists.{Each, EachPair}
+use Rattle.lists.specs.Elements.{Each, EachPair}
 use Rattle.model_registers.specs.Cell.{Cell, no_cell}
 use Rattle.model_registers.specs.Registers.{Place, config, block, after, File, cell_at, changed, read, write, field, in_region}
 use Rattle.model_registers.specs.FileLaws.{has_place, HasNone, IsConfigFile}
-use Rattle.model_registers.specs.Declarations.{Region, registers_of, IsLawfulRegion}
+use Rattle.model_registers.specs.Declarations.{Region, registers_of}
 use Rattle.model_registers.specs.EndpointTable.{base_register, type_bits, base_width, BaseAddress, register_cells, base_file, opened}
-use Rattle.model_registers.proofs.Files.{joined_cell, joined_change, joined_write, cell_none, region_has_no_config, region_has_no_other, config_has_no_block, region_cell}
-use Rattle.model_registers.proofs.Parts.{IsOutside, cell_outside}
+use Rattle.model_registers.proofs.Files.{joined_cell, joined_change, joined_write, cell_none, region_has_no_config, region_has_no_other, region_cell, config_without_block}
 use Rattle.bridge_forward.specs.EndpointParts.{region_parts}
 
 -- ---- reads, cell by cell
@@ -42,9 +41,6 @@ config_register b = config_field (0x10 + 4 * b.index) (4 * registers_of b.kind) 
 one_place : (file : File) (p : Place) → HasNone file p (true ∷ []) → has_place file p ≡ false
 one_place file p h = h.0 refl
 
-pub no_block_in : (file : File) (n a : ℕ) → IsConfigFile file → has_place file (block n a) ≡ false
-no_block_in file n a h = one_place file (block n a) (config_has_no_block (true ∷ []) n a file h)
-
 pub no_config_in : (n a : ℕ) (file : File) → has_place (in_region n file) (config a) ≡ false
 no_config_in n a file = one_place (in_region n file) (config a) (region_has_no_config (true ∷ []) n a file)
 
@@ -62,23 +58,13 @@ config_cell (b ∷ bs) g q =
     (cell_second (in_region b.index (g b.index)) (region_parts bs g) (config q) (no_config_in b.index q (g b.index)) ∙ config_cell bs g q)
     ∙ sym (joined_cell (register_cells b) (base_file bs) (config q))
 
-pub base_outside : (b : BaseAddress) (q : ℕ) → b.index + registers_of b.kind ≤ 6 → (q < 0x10) ⊎ (0x28 ≤ q) → IsOutside q (0x10 + 4 * b.index) (4 * registers_of b.kind)
-base_outside b q within (inl low) = inl (omega arith)
-base_outside b q within (inr high) = inr (omega arith)
-
-pub no_base : (bs : List BaseAddress) → Each IsLawfulRegion (map opened bs) → (q : ℕ) → (q < 0x10) ⊎ (0x28 ≤ q) → cell_at (base_file bs) (config q) ≡ no_cell
-no_base [] lawful q h = refl
-no_base (b ∷ bs) lawful q h =
-    cell_outside (4 * registers_of b.kind) (0x10 + 4 * b.index) q (b.base + type_bits b.kind) (2 ^ base_width b.kind - b.size) 0 (base_file bs) (base_outside b q lawful.0.registers h)
-    ∙ no_base bs lawful.1 q h
-
 -- ---- offsets of a block: the block of that region, and nothing else
 
 pub no_block_cell : (bs : List BaseAddress) (g : ℕ → File) (n q : ℕ) → Each (λ b. b.index ≢ n) bs → cell_at (region_parts bs g) (block n q) ≡ no_cell
 no_block_cell [] g n q h = refl
 no_block_cell (b ∷ bs) g n q h =
     ap (λ (file : File). cell_at file (block n q)) (append_assoc (register_cells b) (in_region b.index (g b.index)) (region_parts bs g))
-    ∙ cell_second (register_cells b) (in_region b.index (g b.index) ++ region_parts bs g) (block n q) (no_block_in (register_cells b) n q (config_register b))
+    ∙ cell_second (register_cells b) (in_region b.index (g b.index) ++ region_parts bs g) (block n q) (config_without_block (register_cells b) n q (config_register b))
     ∙ cell_second (in_region b.index (g b.index)) (region_parts bs g) (block n q) (no_other_in b.index n q (g b.index) h.0)
     ∙ no_block_cell bs g n q h.1
 
@@ -90,7 +76,7 @@ pub block_cell : (bs : List BaseAddress) (g : ℕ → File) (n q : ℕ) → Dist
 block_cell [] g n q d c u = sym (ap (λ (file : File). cell_at file (config q)) (u tt))
 block_cell (b ∷ bs) g n q d c u =
     ap (λ (file : File). cell_at file (block n q)) (append_assoc (register_cells b) (in_region b.index (g b.index)) (region_parts bs g))
-    ∙ cell_second (register_cells b) (in_region b.index (g b.index) ++ region_parts bs g) (block n q) (no_block_in (register_cells b) n q (config_register b))
+    ∙ cell_second (register_cells b) (in_region b.index (g b.index) ++ region_parts bs g) (block n q) (config_without_block (register_cells b) n q (config_register b))
     ∙ by_index (same_or_other b.index n) (λ e. block_cell bs g n q d.1 c (λ h. u (e, h)))
   where
     same_or_other : (x y : ℕ) → (x ≡ y) ⊎ (x ≢ y)

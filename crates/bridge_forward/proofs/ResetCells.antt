@@ -5,8 +5,9 @@ use Rattle.std.proofs.lemmas.Bool.Decides.{nat_tests}
 use Rattle.std.proofs.lemmas.List.{length-map}
 use Rattle.std.specs.List.{slice_get}
 use Rattle.std.specs.Option.{option_map_or}
-use Rattle.std.proofs.lemmas.Bool.{ne_eqb, eq-eqb, eqb-true, lt-ltb, le-leb}
-use Rattle.model_registers.specs.Lists.{Each}
+use Rattle.std.proofs.lemmas.Bool.{ne_eqb, eq-eqb, eqb-true, false_from_ne_true}
+use Rattle.lists.specs.Elements.{Each}
+use Rattle.model_registers.proofs.Owned.{base_is_own}
 use Rattle.model_registers.specs.Cell.{Cell}
 use Rattle.model_registers.specs.Registers.{Place, config, block, offset_of, place_eq, Entry, File, cell_at, field, cells_from, in_region}
 use Rattle.model_registers.specs.FileLaws.{has_place, IsConfig, IsConfigFile}
@@ -29,19 +30,12 @@ after_joined d (x ∷ xs) ys = ap (λ (es : File). entry_after d x ∷ es) (afte
 
 -- ---- base address registers stay
 
-own_base : (a : ℕ) → 0x10 ≤ a → a < 0x28 → is_own (config a) ≡ true
-own_base a low high = last_true (a == 4 || a == 5 || a == 0x0e) (nat_le 0x10 a && nat_lt a 0x28) (rw (le-leb 0x10 a low, lt-ltb a 0x28 high) refl)
-  where
-    last_true : (s t : Bool) → t ≡ true → (s || t) ≡ true
-    last_true true t h = refl
-    last_true false t h = h
-
 base_stays : (d : Endpoint) (w a v m c : ℕ) → 0x10 ≤ a → a + w ≤ 0x28 → after_reset d (field (config a) w v m c) ≡ field (config a) w v m c
 base_stays d zero a v m c low high = refl
 base_stays d (suc w) a v m c low high =
     let e : Entry = record { place = config a; cell = record { value = v % 256; writable = m % 256; clearable = c % 256 } } in
     ap₂ (λ (t : Bool) (es : File). cond t e (record e { cell = cell_at (endpoint_reset d false) e.place }) ∷ es)
-    (own_base a low (omega arith)) (base_stays d w (a + 1) (v / 256) (m / 256) (c / 256) (omega arith) (omega arith))
+    (base_is_own a low (omega arith)) (base_stays d w (a + 1) (v / 256) (m / 256) (c / 256) (omega arith) (omega arith))
 
 -- ---- blocks
 
@@ -86,15 +80,11 @@ again_at (f ∷ fs) (suc n) = again_at fs n
 
 -- ---- configuration cells
 
-not_true : (b : Bool) → (b ≡ true → ⊥) → b ≡ false
-not_true true h = absurd (h refl)
-not_true false h = refl
-
 none_between : (q : ℕ) → (q < 0x10) ⊎ (0x28 ≤ q) → (nat_le 0x10 q && nat_lt q 0x28) ≡ false
-none_between q h = not_true _ (λ t. elim h [ inl a ↦ grind (arith, nat_tests) | inr a ↦ grind (arith, nat_tests) ])
+none_between q h = false_from_ne_true _ (λ t. elim h [ inl a ↦ grind (arith, nat_tests) | inr a ↦ grind (arith, nat_tests) ])
 
 not_command : (q : ℕ) → q ≢ 4 → q ≢ 5 → (nat_le 4 q && nat_le q 5) ≡ false
-not_command q h k = not_true _ (λ t. grind (arith, nat_tests))
+not_command q h k = false_from_ne_true _ (λ t. grind (arith, nat_tests))
 
 not_own : (q : ℕ) → q ≢ 4 → q ≢ 5 → q ≢ 0x0e → (q < 0x10) ⊎ (0x28 ≤ q) → is_own (config q) ≡ false
 not_own q a b c h = rw (ne_eqb q 4 a, ne_eqb q 5 b, ne_eqb q 0x0e c) (none_between q h)

@@ -6,7 +6,7 @@ use Rattle.std.specs.List.{slice_get, slice_set}
 use Rattle.std.specs.Option.{option_map_or}
 use Rattle.std.proofs.lemmas.Bool.{ne_eqb}
 use Rattle.std.proofs.lemmas.List.{length-set}
-use Rattle.model_registers.specs.Lists.{Each}
+use Rattle.lists.specs.Elements.{Each}
 use Rattle.model_registers.specs.Cell.{Cell, written, raised}
 use Rattle.model_registers.specs.Registers.{Place, config, block, after, place_eq, File, cell_at, changed, write, field}
 use Rattle.model_registers.specs.FileLaws.{has_place}
@@ -16,7 +16,8 @@ use Rattle.model_registers.specs.EndpointTable.{block_cells, header_type, header
 use Rattle.model_registers.specs.OwnCopies.{is_own}
 use Rattle.config_bytes.specs.CellFile.{CellFile, places_of}
 use Rattle.bridge_forward.specs.EndpointParts.{block_at, block_at_reset, declared_block, IsConstant, IsHeaderKept, KnowReset, as_made}
-use Rattle.bridge_forward.proofs.Indices.{read_at}
+use Rattle.lists.proofs.Indices.{read_at}
+use Rattle.lists.proofs.EachLemmas.{each_append}
 use Rattle.bridge_forward.proofs.EndpointAccess.{get_set, get_other, block_there, block_set, other_blocks}
 use Rattle.bridge_forward.proofs.Nth.{past_end}
 use Rattle.bridge_forward.proofs.EndpointReset.{none_field, none_cells}
@@ -109,10 +110,6 @@ know_block d cells blocks know n f l there k same places = record {
 
 -- ---- at the beginning
 
-each_join : {A : Type 0} (P : A → Type 0) (xs ys : List A) → Each P xs → Each P ys → Each P (xs ++ ys)
-each_join P [] ys h k = k
-each_join P (x ∷ xs) ys h k = (h.0, each_join P xs ys h.1 k)
-
 no_header : (initial xs : File) → has_place xs (config 0x0e) ≡ false → Each (IsHeaderKept initial) xs
 no_header initial [] h = tt
 no_header initial (x ∷ xs) h = by_first (place_eq x.place (config 0x0e)) refl h (no_header initial xs)
@@ -125,7 +122,7 @@ record IsKept (initial xs : File) : Type 0 where
   each : Each (IsHeaderKept initial) xs
 
 join : {initial xs ys : File} → IsKept initial xs → IsKept initial ys → IsKept initial (xs ++ ys)
-join {initial} {xs} {ys} h k = record { each = each_join (IsHeaderKept initial) xs ys h.each k.each }
+join {initial} {xs} {ys} h k = record { each = each_append (IsHeaderKept initial) xs ys h.each k.each }
 
 below : (initial : File) (a w v m c : ℕ) → a + w ≤ 0x0e → IsKept initial (field (config a) w v m c)
 below initial a w v m c l = record { each = no_header initial (field (config a) w v m c) (none_field 0x0e w a v m c (inr l)) }
@@ -137,7 +134,7 @@ kept_blocks : (initial : File) (bs : List ConfigBlock) → Each IsConfigBlock bs
 kept_blocks initial [] h = tt
 kept_blocks initial (b ∷ bs) h =
     let begins = h.0.begins in
-    each_join (IsHeaderKept initial) (block_cells b) (flat_map block_cells bs)
+    each_append (IsHeaderKept initial) (block_cells b) (flat_map block_cells bs)
     (no_header initial (block_cells b) (none_cells 0x0e b.offset b.cells (inl (omega (arith, begins)))))
     (kept_blocks initial bs h.1)
 

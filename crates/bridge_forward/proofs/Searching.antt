@@ -1,6 +1,7 @@
 -- The search for a bridge along one bus.
 use Rattle.std.proofs.Common.{◌≡◌, ℕ, ◌<◌, ◌≤◌, Bool, true, false, ◌&&◌, Some, None, List, refl, ap, sym, ◌∙◌, arith, inl, inr, ◌⊎◌, subst}
 use Rattle.std.specs.List.{slice_get}
+use Rattle.std.proofs.lemmas.Bool.{and_right}
 use Rattle.model_board.specs.Paths.{Path, path_eq, parent}
 use Rattle.model_board.specs.State.{BoardFunction}
 use Rattle.model_board.specs.Cycles.{covers, taker}
@@ -9,7 +10,7 @@ use Rattle.model_board.proofs.PathEnds.{path_self}
 use Rattle.bridge_forward.specs.declared.bus.Node.{Node}
 use Rattle.bridge_forward.specs.Layout.{function_of, functions_of, IsLaidOut}
 use Rattle.bridge_forward.specs.Search.{IsSide, IsAt}
-use Rattle.bridge_forward.proofs.Indices.{at_map, find_at, find_none}
+use Rattle.lists.proofs.Indices.{at_map, find_at, find_none}
 use Rattle.bridge_forward.proofs.Nodes.{path_of, parent_leads, in_side, Ended, met_on_bus, ended_next, passed_by}
 
 -- a bridge of the bus that takes cycles for bus n
@@ -20,10 +21,6 @@ taking bus n f = path_eq (parent f.path) bus && covers n f
 pub record Passed (nodes : List Node) (laid : IsLaidOut nodes) (bus : Path) (number : ℕ) (from to : ℕ) (side : IsSide nodes bus from to) (i : ℕ) : Type 0 where
   pub ended : Ended nodes laid bus from to side i
   pub none : (j : ℕ) (m : Node) → j < i → slice_get nodes j ≡ Some m → taking bus number (function_of m) ≡ false
-
-and_false : (a b : Bool) → b ≡ false → (a && b) ≡ false
-and_false true b h = h
-and_false false b h = refl
 
 module _ (nodes : List Node) (laid : IsLaidOut nodes) (bus : Path) (number : ℕ) (from to : ℕ) (side : IsSide nodes bus from to) where
   -- what is outside the side stands on another bus
@@ -55,7 +52,7 @@ module _ (nodes : List Node) (laid : IsLaidOut nodes) (bus : Path) (number : ℕ
 
       by_side : (j : ℕ) (m : Node) → j < n.end → slice_get nodes j ≡ Some m → (j < i) ⊎ ((j ≡ i) ⊎ (i < j)) → taking bus number (function_of m) ≡ false
       by_side j m g em (inl b) = p.none j m b em
-      by_side j m g em (inr (inl q)) = let same : m ≡ n = cc in and_false _ _ (ap (λ (z : Node). covers number (function_of z)) same ∙ not)
+      by_side j m g em (inr (inl q)) = let same : m ≡ n = cc in and_right _ _ (ap (λ (z : Node). covers number (function_of z)) same ∙ not)
       by_side j m g em (inr (inr b)) = ap (λ t. t && covers number (function_of m)) (passed_by nodes laid bus from to side i j n m p.ended e em l h b g)
 
   pub first_here : (i : ℕ) (n : Node) → Passed nodes laid bus number from to side i → slice_get nodes i ≡ Some n → from ≤ i → i < to → covers number (function_of n) ≡ true
@@ -65,7 +62,7 @@ module _ (nodes : List Node) (laid : IsLaidOut nodes) (bus : Path) (number : ℕ
       record {
         node = n;
         there = e;
-        found = find_at (taking bus number) (functions_of nodes) i (function_of n) (Rattle.bridge_forward.proofs.Indices.map_at function_of nodes i n e) (rw (on, is) refl)
+        found = find_at (taking bus number) (functions_of nodes) i (function_of n) (Rattle.lists.proofs.Indices.map_at function_of nodes i n e) (rw (on, is) refl)
             (λ j f g ef. let m = at_map function_of nodes j f ef in subst (λ z. taking bus number z ≡ false) (sym m.2) (p.none j m.0 g m.1));
       }
 

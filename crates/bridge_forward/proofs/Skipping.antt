@@ -5,7 +5,7 @@ use Rattle.std.specs.List.{slice_get, slice_set}
 use Rattle.std.proofs.lemmas.Bool.{eqb-true}
 use Rattle.std.proofs.lemmas.Option.{slice_get_within}
 use Rattle.model_registers.specs.Registers.{File}
-use Rattle.model_registers.proofs.Tests.{left_true, right_true}
+use Rattle.lists.proofs.Tests.{left_true, right_true}
 use Rattle.model_board.specs.Paths.{Path}
 use Rattle.model_board.specs.Board.{is_bridge}
 use Rattle.model_board.specs.Cycles.{secondary_register, subordinate_register, covers}
@@ -16,7 +16,7 @@ use Rattle.bridge_forward.specs.Functions.{decl_of, with_cells}
 use Rattle.bridge_forward.specs.Layout.{function_of, functions_of, paths_of, ends_of, AreLaid, IsLaidOut}
 use Rattle.bridge_forward.specs.Skips.{AreSkipped, IsTree, is_passed, first_bridge}
 use Rattle.bridge_forward.specs.Search.{IsSide}
-use Rattle.bridge_forward.proofs.Indices.{at_below, map_at, map_set, set_same, same_at}
+use Rattle.lists.proofs.Indices.{at_below, map_at, map_set, set_same, same_at}
 use Rattle.bridge_forward.proofs.Searching.{Passed, passed_next}
 
 -- an element of a list in which one was set

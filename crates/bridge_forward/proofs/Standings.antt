@@ -1,8 +1,7 @@
 -- What a search for a path says of each place.
-use Rattle.std.proofs.Common.{◌≡◌, ◌↔◌, ℕ, suc, ◌+◌, ◌<◌, Bool, true, false, ◌||◌, List, [], ◌∷◌, map, drop, length, get_or, refl, ap, sym, subst, add-one, IsFalse, take, ◌-◌, arith}
+use Rattle.std.proofs.Common.{◌≡◌, ◌↔◌, ℕ, suc, ◌+◌, ◌<◌, Bool, true, false, ◌||◌, List, [], ◌∷◌, map, drop, length, get_or, refl, ap, sym, subst, add-one, IsFalse, ◌-◌}
 use Rattle.std.proofs.Math.Seq.{drop-cons}
-use Rattle.std.proofs.lemmas.Grind.{common_steps}
-use Rattle.model_registers.specs.Lists.{Each, EachPair}
+use Rattle.lists.specs.Elements.{Each, EachPair}
 use Rattle.model_board.specs.Paths.{Path, path_eq}
 use Rattle.model_board.specs.Places.{Standing, has_path}
 
@@ -21,9 +20,6 @@ none_at (s ∷ ss) p h = by_case (path_eq s.path p) refl h (none_at ss p)
 some_at : (ss : List Standing) (p : Path) → has_path ss p ≡ true → Each (λ t. IsFalse (path_eq t.path p)) ss → ⊥
 some_at [] p h k = cc
 some_at (s ∷ ss) p h k = some_at ss p (rw k.0 at h) k.1
-
-pub rest_is : {A : Type 0} (xs : List A) (n : ℕ) → take (length xs - n) (drop n xs) ≡ drop n xs
-rest_is xs n = grind (arith, common_steps)
 
 module _ {A : Type 0} (standing : A → Standing) where
   next : (xs : List A) (i : ℕ) (x : A) → i < length xs → x ≡ get_or xs i x → map standing (drop i xs) ≡ standing x ∷ map standing (drop (i + 1) xs)

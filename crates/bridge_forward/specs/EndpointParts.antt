@@ -11,7 +11,7 @@
 --     IsEndpointFn      all that the parts of every endpoint keep
 use Rattle.std.specs.Prelude.{List, [], ◌≡◌, ◌≢◌, ◌⊎◌, ℕ, ◌≤◌, ◌<◌, ◌++◌, ◌==◌, true, false, Option, option_map, map, flat_map, find, length, slice_get, bit_and}
 use Rattle.std.specs.Option.{option_map_or}
-use Rattle.model_registers.specs.Lists.{Each}
+use Rattle.lists.specs.Elements.{Each}
 use Rattle.model_registers.specs.Cell.{Cell}
 use Rattle.model_registers.specs.Registers.{Place, config, place_eq, Entry, File, cell_at, number, cells_from, in_region}
 use Rattle.model_registers.specs.FileLaws.{has_place, IsConfigFile}

@@ -5,7 +5,7 @@
 --     IsLaidOut      nodes in order, each with the end of what stands behind it
 use Rattle.std.specs.Prelude.{List, [], ◌≡◌, ◌⊎◌, ℕ, ◌<◌, ◌≤◌, ◌&&◌, nat_lt, Some, map, length, slice_get, IsTrue}
 use Rattle.std.specs.List.{list_any}
-use Rattle.model_registers.specs.Lists.{Each, EachPair}
+use Rattle.lists.specs.Elements.{Each, EachPair}
 use Rattle.model_board.specs.Paths.{Path, path_eq, path_before, leads_to, parent, IsPath}
 use Rattle.model_board.specs.State.{BoardFunction}
 use Rattle.bridge_forward.specs.declared.bus.Node.{Node}

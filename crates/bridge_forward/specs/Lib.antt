@@ -12,5 +12,4 @@ pub mod Search
 pub mod Skips
 pub mod Lending
 pub mod Locating
-pub mod PathOrders
-pub mod PathLaws
+pub mod RoutingRows

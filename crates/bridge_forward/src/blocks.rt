@@ -1,7 +1,7 @@
 //! What an endpoint's declaration has at each base address register.
 ghost use Rattle.std.specs.Prelude.{◌≡◌, ◌≤◌, ◌<◌, ℕ, IfOk, length, map, slice_get, Some, [], ◌∷◌};
 ghost use Rattle.std.specs.Option.{option_copied};
-ghost use Rattle.model_registers.specs.Lists.{Each};
+ghost use Rattle.lists.specs.Elements.{Each};
 ghost use Rattle.model_registers.specs.Registers.{config, cells_from};
 ghost use Rattle.bridge_forward.specs.EndpointParts.{region_at, declared_bar, declared_block, as_made, blocks_after};
 

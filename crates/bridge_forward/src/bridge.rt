@@ -4,13 +4,16 @@ ghost use Rattle.model_registers.specs.Registers.{config, number, read, write};
 ghost use Rattle.model_registers.specs.ByteEnables.{lanes};
 ghost use Rattle.model_registers.specs.DeclarationRules.{IsLawfulBridge};
 ghost use Rattle.model_registers.specs.BridgeTable.{bridge_reset};
-ghost use Rattle.model_registers.specs.Decoding.{is_open};
-ghost use Rattle.model_board.specs.Windows.{Window, is_in, is_in_window};
+ghost use Rattle.model_registers.specs.Decoding.{command_word, is_open};
+ghost use Rattle.model_board.specs.Routing.{windows};
+ghost use Rattle.model_board.specs.Windows.{Window, is_in, is_in_window, io_window, mem_window, pref_window};
 ghost use Rattle.model_board.specs.Cycles.{secondary_register, subordinate_register};
 ghost use Rattle.bars.specs.Kinds.{named_space};
 ghost use Rattle.headers.specs.WindowPairs.{pair_of};
 ghost use Rattle.bridge_forward.specs.Decoded.{IsDecoded};
+ghost use Rattle.bridge_forward.specs.RoutingRows.{named_ranges};
 
+use crate::routing::{Ranges, window_of};
 use bars::Space;
 use config_bytes::{Cells, enables_of, from_lanes};
 use headers::{Bridge, BridgeDecl, command, io_window, mem_window, pref_window};
@@ -117,6 +120,25 @@ impl BridgeFn {
         match space {
             Space::Io => is_in(addr, self.decoded.io),
             Space::Mem => is_in(addr, self.decoded.mem) || is_in(addr, self.decoded.pref),
+        }
+    }
+
+    /// What Command holds.
+    pub(crate) fn command(&self) -> u16
+        ensures { result ≡ command_word self.now.file }
+    {
+        self.decoded.command
+    }
+
+    /// The windows that the registers name.
+    pub(crate) fn windows(&self) -> Ranges
+        ensures { let file = self.now.file in let d = self.now.decl in
+            named_ranges result ≡ windows (io_window d.io file) (mem_window file) (pref_window d.pref file) }
+    {
+        Ranges::Windows {
+            io: window_of(self.decoded.io),
+            mem: window_of(self.decoded.mem),
+            pref: window_of(self.decoded.pref),
         }
     }
 

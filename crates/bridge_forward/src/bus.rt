@@ -2,13 +2,15 @@
 ghost use Rattle.std.specs.Prelude.{◌≡◌, ◌%◌, ◌<◌, IfOk, IfSome, IsSome, IsTrue, find, length, slice_get};
 ghost use Rattle.std.specs.Borrow.{sem};
 ghost use Rattle.std.specs.Option.{option_and_then, option_copied_mut};
-ghost use Rattle.model_registers.specs.Lists.{EachPair};
+ghost use Rattle.lists.specs.Elements.{EachPair};
+ghost use Rattle.model_board.specs.Routing.{routing};
+ghost use Rattle.bridge_forward.specs.Cycled.{reached_by};
+ghost use Rattle.bridge_forward.specs.RoutingRows.{secondary_nth};
 ghost use Rattle.model_board.specs.Paths.{path_before, path_eq};
 ghost use Rattle.model_board.specs.Board.{IsBoard};
 ghost use Rattle.model_board.specs.Places.{board_of};
 ghost use Rattle.model_board.specs.Claims.{first_claim};
-ghost use Rattle.model_board.specs.SetUp.{reset_state};
-ghost use Rattle.model_board.specs.AtReset.{IsAtReset};
+ghost use Rattle.model_board.specs.AtReset.{reset_state, IsAtReset};
 ghost use Rattle.bars.specs.Kinds.{named_space};
 
 use crate::build::{lay_out, nodes_at_reset};
@@ -16,10 +18,11 @@ use crate::cycle::Cycle;
 use crate::decl::Decl;
 use crate::endpoint::EndpointFn;
 use crate::function::Function;
-use crate::path::Path;
 use crate::routes::Routes;
+use crate::routing::RoutingRow;
 use crate::walk::{locate, position, reach};
 use bars::Space;
+use paths::Path;
 use std::alloc::{AllocError, Global};
 use std::marker::Model;
 
@@ -166,6 +169,39 @@ impl Bus {
         ensures within { IfSome result (λ i. i < length self.now) }
     {
         position(&self.nodes, path)
+    }
+
+    /// The routing registers of all functions as they stand, in path order. It is for an audit: no access
+    /// needs them.
+    pub fn routing(&self, alloc: Global) -> Result<Vec<RoutingRow>, AllocError>
+        ensures rows { IfOk result (λ v. v.items ≡ routing self.now) }
+        ensures in_order { EachPair (λ f g. IsTrue (path_before f.path g.path)) self.now }
+    {
+        let mut rows = Vec::with_capacity(alloc, self.nodes.len())?;
+        for node in &self.nodes {
+            rows.push(node.function.routing(alloc, &node.path)?)?;
+        }
+        Ok(rows)
+    }
+
+    /// The Secondary Bus Number of the bridge at an index, and None where no bridge stands.
+    pub fn secondary_nth(&self, index: usize) -> Option<u8>
+        ensures { result ≡ secondary_nth self.now index }
+    {
+        if index >= self.nodes.len() {
+            return None;
+        }
+        let node = &self.nodes[index];
+        node.function.secondary()
+    }
+
+    /// The index of the function that a configuration cycle reaches, put on bus 0. It changes nothing.
+    pub fn reached(&mut self, cycle: &Cycle) -> Option<usize>
+        ensures function { option_and_then (slice_get self.old) result ≡ reached_by self.old cycle.now }
+        ensures within { IfSome result (λ i. i < length self.old) }
+        ensures after { self.new ≡ self.old }
+    {
+        reach(&self.nodes, &mut self.known, cycle)
     }
 
     /// Lends the endpoint at a path, if one stands there. All else stays. No two functions stand at one

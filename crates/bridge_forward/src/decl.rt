@@ -5,9 +5,9 @@ ghost use Rattle.model_board.specs.Paths.{path_eq, path_before, same_device};
 ghost use Rattle.model_board.specs.Board.{IsBoard, is_multifunction};
 ghost use Rattle.model_board.specs.Places.{board_of, standing};
 
-use crate::path::Path;
 use crate::places::{Stands, are_lawful};
 use headers::{BridgeDecl, EndpointDecl};
+use paths::Path;
 use std::cmp::Ordering;
 use std::marker::Model;
 
@@ -37,7 +37,7 @@ impl Model for Decl {
 
 impl Decl {
     /// Path order.
-    #[tactic(auto, using(crate::specs::PathLaws::paths_before))]
+    #[tactic(auto, using(paths::specs::PathLaws::paths_before))]
     pub(crate) fn compare(&self, other: &Decl) -> Ordering
         ensures { is_lt result ≡ path_before self.now.path other.now.path }
     {

@@ -1,17 +1,20 @@
 //! An endpoint of the board, with its registers.
-ghost use Rattle.std.specs.Prelude.{◌≡◌, ◌%◌, ◌+◌, ◌*◌, ◌≤◌, ◌<◌, ◌⊎◌, IfOk, IfSome, IfNone};
+ghost use Rattle.std.specs.Prelude.{◌≡◌, ◌%◌, ◌+◌, ◌*◌, ◌≤◌, ◌<◌, ◌⊎◌, IfOk, IfSome, IfNone, map};
 ghost use Rattle.model_registers.specs.Registers.{config, block, read, write, raise};
 ghost use Rattle.model_registers.specs.ByteEnables.{lanes};
 ghost use Rattle.model_registers.specs.DeclarationRules.{IsLawfulEndpoint};
 ghost use Rattle.model_registers.specs.EndpointTable.{endpoint_reset};
-ghost use Rattle.model_registers.specs.Decoding.{lone_claim};
+ghost use Rattle.model_registers.specs.Decoding.{base_address, command_word, lone_claim};
 ghost use Rattle.bars.specs.Kinds.{named_space};
 ghost use Rattle.bars.specs.Hits.{named_hit};
 ghost use Rattle.headers.specs.Places.{place_of};
 ghost use Rattle.model_registers.specs.CopiedFiles.{after_reset};
+ghost use Rattle.bridge_forward.specs.RoutingRows.{base_of};
 
 use crate::blocks::{bar_decls, block_files, reset_all};
 use crate::offsets;
+use crate::region_now::RegionNow;
+use crate::routing::regions_of;
 use bars::{Bars, Space};
 use config_bytes::Cells;
 use headers::{Endpoint, EndpointDecl, Place, command};
@@ -77,6 +80,21 @@ impl EndpointFn {
         ensures { result.now ≡ self.now.decl }
     {
         &self.decl
+    }
+
+    /// What Command holds.
+    pub(crate) fn command(&self) -> u16
+        ensures { result ≡ command_word self.now.file }
+    {
+        self.command
+    }
+
+    /// The regions where their registers say now.
+    pub(crate) fn regions(&self, alloc: Global) -> Result<Vec<RegionNow>, AllocError>
+        ensures { IfOk result (λ v.
+            map base_of v.items ≡ map (base_address self.now.file) self.now.decl.regions) }
+    {
+        regions_of(alloc, self.bars.regions())
     }
 
     /// The enabled bytes of the word at `off`, a multiple of 4, in the block of the region at the base

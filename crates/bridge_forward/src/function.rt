@@ -4,7 +4,10 @@ ghost use Rattle.std.specs.Borrow.{sem};
 ghost use Rattle.std.specs.Option.{option_copied_mut};
 ghost use Rattle.model_registers.specs.Registers.{config, read, write};
 ghost use Rattle.model_registers.specs.ByteEnables.{lanes};
+ghost use Rattle.model_registers.specs.Decoding.{command_word};
 ghost use Rattle.model_board.specs.Board.{is_bridge};
+ghost use Rattle.model_board.specs.Routing.{ranges_of};
+ghost use Rattle.bridge_forward.specs.RoutingRows.{named_ranges, secondary_of};
 ghost use Rattle.model_board.specs.Lawful.{IsLawfulDecl};
 ghost use Rattle.model_board.specs.Cycles.{secondary_register, subordinate_register};
 
@@ -12,6 +15,8 @@ use crate::bridge::BridgeFn;
 use crate::cycle::Op;
 use crate::decl::Declared;
 use crate::endpoint::EndpointFn;
+use crate::routing::{Ranges, RoutingRow};
+use paths::Path;
 use std::alloc::{AllocError, Global};
 
 /// An endpoint or a bridge, with its registers.
@@ -84,6 +89,51 @@ impl Function {
             Function::Endpoint(endpoint) => endpoint.config_write(off, enables, data),
             Function::Bridge(bridge) => bridge.config_write(off, enables, data),
         }
+    }
+
+    /// What Command holds.
+    fn command(&self) -> u16
+        ensures { result ≡ command_word (file_of self.now) }
+    {
+        match self {
+            Function::Endpoint(endpoint) => endpoint.command(),
+            Function::Bridge(bridge) => bridge.command(),
+        }
+    }
+
+    /// The Secondary Bus Number, if it is a bridge.
+    pub(crate) fn secondary(&self) -> Option<u8>
+        ensures { result ≡ secondary_of (decl_of self.now) (file_of self.now) }
+    {
+        match self {
+            Function::Endpoint(_) => None,
+            Function::Bridge(bridge) => Some(bridge.secondary()),
+        }
+    }
+
+    /// The regions or windows where the registers say now.
+    fn ranges(&self, alloc: Global) -> Result<Ranges, AllocError>
+        ensures { IfOk result (λ r. named_ranges r ≡ ranges_of (file_of self.now) (decl_of self.now)) }
+    {
+        match self {
+            Function::Endpoint(endpoint) => Ok(Ranges::Regions(endpoint.regions(alloc)?)),
+            Function::Bridge(bridge) => Ok(bridge.windows()),
+        }
+    }
+
+    /// The routing registers, as those of the function at a path.
+    pub(crate) fn routing(&self, alloc: Global, path: &Path) -> Result<RoutingRow, AllocError>
+        ensures { IfOk result (λ r. r ≡ record {
+          path = path.now;
+          command = command_word (file_of self.now);
+          ranges = ranges_of (file_of self.now) (decl_of self.now);
+        }) }
+    {
+        Ok(RoutingRow {
+            path: path.copied(),
+            command: self.command(),
+            ranges: self.ranges(alloc)?,
+        })
     }
 
     /// Resets the endpoint, if it is one.

@@ -1,10 +1,10 @@
 //! Which functions may stand together on a board.
 ghost use Rattle.std.specs.Prelude.{◌≡◌, ◌<◌, ◌↔◌, ◌⊎◌, [], IsTrue, IsFalse, map, drop, length};
-ghost use Rattle.model_registers.specs.Lists.{Each, EachPair};
+ghost use Rattle.lists.specs.Elements.{Each, EachPair};
 ghost use Rattle.model_board.specs.Paths.{IsPath, path_eq, parent, function_zero};
 ghost use Rattle.model_board.specs.Places.{Standing, IsFounded, AreLawfulPlaces, has_path, has_bridge};
 
-use crate::path::{Part, Path, is_same};
+use paths::{Part, Path};
 
 /// What counts of a function for the places of a board: its path, and whether it is a bridge.
 pub trait Stands {
@@ -34,7 +34,7 @@ fn has_bridge<S: Stands>(places: &[S], parts: &[Part]) -> bool
     ensures { result ≡ has_bridge (map S.standing places.now) parts.now }
 {
     for place in places {
-        if place.is_bridge() && is_same(place.path().parts(), parts) {
+        if place.is_bridge() && place.path().has_parts(parts) {
             return true;
         }
     }

@@ -15,9 +15,9 @@ ghost use Rattle.bars.specs.Kinds.{named_space};
 use crate::bus::{Located, Node};
 use crate::cycle::{Cycle, CycleType};
 use crate::function::Function;
-use crate::path::{Part, Path};
 use crate::routes::Routes;
 use bars::Space;
+use paths::{Part, Path};
 use std::cmp::Ordering;
 
 /// The first bridge on a bus that takes cycles for the bus with this number, if what stands there are

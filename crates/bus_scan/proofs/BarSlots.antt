@@ -6,18 +6,19 @@ use Rattle.std.specs.Option.{option_map_or}
 use Rattle.std.proofs.lemmas.List.{get_or-set_same, get_or-set_other, length-set}
 use Rattle.std.proofs.lemmas.Option.{unwrap_or-slice_get}
 use Rattle.std.proofs.lemmas.Bool.{cases_eq, ne_eqb, eq-eqb, cond-true, and_right}
-use Rattle.model_registers.specs.Lists.{Each, EachPair}
+use Rattle.lists.specs.Elements.{Each, EachPair}
 use Rattle.model_registers.specs.Declarations.{registers_of, Bar, Region, IsLawfulRegion, HasLawfulRegions}
 use Rattle.model_registers.specs.EndpointTable.{opened}
 use Rattle.model_registers.specs.OwnCopies.{bare}
-use Rattle.model_registers.proofs.EachLemmas.{each_map}
+use Rattle.lists.proofs.EachLemmas.{each_map}
+use Rattle.model_registers.proofs.Bases.{registers_positive}
 use Rattle.model_board.specs.Cycles.{BusAddress}
 use Rattle.host_bridge.specs.HostState.{HostState}
 use Rattle.bars.specs.Resets.{reset_from}
 use Rattle.bus_scan.specs.Rows.{regions_of}
 use Rattle.bus_scan.specs.Probes.{regions_reached}
 use Rattle.bus_scan.specs.SizedRows.{bar_at, bars_of, is_upper_half, is_after_wide}
-use Rattle.bus_scan.proofs.ProbedEndpoints.{bar_of, at_low, at_high, elsewhere, side, not_wide, registers_positive}
+use Rattle.bus_scan.proofs.ProbedEndpoints.{bar_of, at_low, at_high, elsewhere, side, not_wide}
 use Rattle.bus_scan.proofs.SizedBars.{bar_other, none_later}
 
 pub record BarsBelow (first now : HostState) (at : BusAddress) (bars : List (Option Bar)) (n : ℕ) : Type 0 where
@@ -89,12 +90,6 @@ is_wide o = option_map_or (λ (b : Bar). eqb (registers_of b.kind) 2) o false
 or_none : (t : Bool) → (t || false) ≡ t
 or_none true = refl
 or_none false = refl
-
-next_test : (n m : ℕ) → eqb (n + 1) (m + 1) ≡ eqb n m
-next_test n m = elim (cases_eq n m) [
-  | inl e ↦ eq-eqb (n + 1) (m + 1) (omega arith) ∙ sym (eq-eqb n m e)
-  | inr other ↦ ne_eqb (n + 1) (m + 1) (λ e. other (omega arith)) ∙ sym (ne_eqb n m other)
-]
 
 upper_after : (n : ℕ) (rs : List Region) → EachPair InOrder rs → is_upper_half (n + 1) rs ≡ is_wide (bar_at n rs)
 unfolding is_wide

@@ -9,7 +9,7 @@ use Rattle.model_registers.specs.ByteEnables.{lanes}
 use Rattle.model_registers.specs.Declarations.{IoDecode, no_io, io16, io32, PrefDecode, no_pref, pref32, pref64, Bridge}
 use Rattle.model_registers.specs.BridgeTable.{no_window, bridge_header, io_cells, mem_cells, pref_cells, bridge_file}
 use Rattle.model_registers.proofs.Files.{joined_write}
-use Rattle.model_board.specs.Scanning.{BusNumbers, with_numbers}
+use Rattle.model_set_up.specs.Scanning.{BusNumbers, with_numbers}
 
 -- a byte whose bits are all writable
 abbrev byte : ℕ → Cell

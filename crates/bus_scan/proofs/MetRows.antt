@@ -1,29 +1,25 @@
 -- The rows of the functions that a scan has met.
-use Rattle.std.proofs.Common.{◌≡◌, ℕ, ◌+◌, inl, inr, Bool, true, false, cond, List, [], ◌∷◌, ◌++◌, length, map, refl, sym, ap, ap₂, ◌∙◌, subst, arith}
-use Rattle.std.specs.Prelude.{IsTrue, filter, count_by}
+use Rattle.std.proofs.Common.{◌≡◌, ℕ, ◌+◌, inr, Bool, true, false, cond, List, [], ◌∷◌, ◌++◌, length, map, refl, sym, ap, ap₂, ◌∙◌, subst, arith}
+use Rattle.std.specs.Prelude.{IsTrue, count_by}
 use Rattle.std.proofs.lemmas.List.{map-append, length-map}
 use Rattle.std.proofs.lemmas.List.Sums.{sum_by-cons}
 use Rattle.std.proofs.Math.ListN.{set}
 use Rattle.std.proofs.Math.Seq.{set-append_seam}
-use Rattle.model_registers.specs.Lists.{Each, EachPair}
-use Rattle.model_board.specs.Members.{IsIn}
+use Rattle.lists.specs.Elements.{Each, EachPair, IsIn}
 use Rattle.model_board.specs.Paths.{Path, path_eq, path_before}
 use Rattle.model_board.specs.Board.{Decl, endpoint, bridge, Board, Row, is_bridge, is_bridge_at, IsBoard}
 use Rattle.model_board.specs.BusNumbers.{bus_of}
-use Rattle.model_board.specs.FunctionTable.{TableRow, met_decl}
-use Rattle.model_board.specs.ScanOrder.{met}
-use Rattle.model_board.proofs.Members.{each_in, from_filter, none_pass, pairs_filter, in_back}
+use Rattle.model_set_up.specs.FunctionTable.{TableRow, met_decl}
+use Rattle.model_set_up.specs.ScanOrder.{met}
+use Rattle.lists.proofs.Members.{each_in, from_filter, none_pass, in_back}
+use Rattle.lists.proofs.EachLemmas.{pairs_filter, pairs_after}
 use Rattle.model_board.proofs.PathOrder.{one, path_same}
 use Rattle.model_board.proofs.PathEnds.{not_before_itself, path_eq-sym}
-use Rattle.model_board.proofs.Scanning.{goes_before}
+use Rattle.model_set_up.proofs.Scanning.{goes_before}
 use Rattle.bus_scan.specs.Scans.{met_row, range_of_numbers, StandsAt}
 use Rattle.bus_scan.proofs.States.{Numbers, map_same, bridge_there}
 
 -- ---- counts
-
-pub filter_same : {A : Type 0} (p q : A → Bool) (xs : List A) → ((x : A) → IsIn x xs → p x ≡ q x) → filter p xs ≡ filter q xs
-filter_same p q [] h = refl
-filter_same p q (x ∷ xs) h = ap₂ (λ t ys. cond t (x ∷ ys) ys) (h x (inl refl)) (filter_same p q xs (λ y m. h y (inr m)))
 
 pub count_more : (p : Row → Bool) (xs : Board) (x : Row) → count_by p (xs ++ x ∷ []) ≡ count_by p xs + one (p x)
 count_more p [] x = sum_by-cons (λ (s : Row). one (p s)) x [] ∙ swapped (one (p x))
@@ -79,10 +75,6 @@ module _ (b : Board) where
 pub met_grows : (b : Board) → IsBoard b → (here there : Path) → path_before here there ≡ true → (rest : Board) × (met b there ≡ met b here ++ rest)
 met_grows b lawful here there before = grows_from b b lawful.in_order here there before
 
-after_row : {A : Type 0} (R : A → A → Type 0) (xs : List A) (x : A) (ys : List A) → EachPair R (xs ++ x ∷ ys) → Each (R x) ys
-after_row R [] x ys h = h.0
-after_row R (y ∷ xs) x ys h = after_row R xs x ys h.1
-
 -- the row of a bridge is filled in
 pub row_filled : (b : Board) → IsBoard b → (p there : Path) (r : Row) → StandsAt b p r → (rest : Board) → met b there ≡ met b p ++ r ∷ rest → (n m : Numbers)
     → ((q : Path) → path_eq q p ≡ false → is_bridge_at b q ≡ true → n q ≡ m q) → set (map (met_row b n) (met b there)) (length (met b p)) (met_row b m r) ≡ map (met_row b m) (met b there)
@@ -104,7 +96,7 @@ row_filled b lawful p there r is rest splits n m h =
     not_before s before = not_same s.path p before (path_eq s.path p) refl
 
     later : Each (λ (s : Row). IsTrue (path_before r.path s.path)) rest
-    later = after_row (λ (x y : Row). IsTrue (path_before x.path y.path)) (met b p) r rest (subst (λ (xs : Board). EachPair (λ (x y : Row). IsTrue (path_before x.path y.path)) xs) splits (pairs_filter (λ (x y : Row). IsTrue (path_before x.path y.path)) (λ (s : Row). path_before s.path there) b lawful.in_order))
+    later = pairs_after (λ (x y : Row). IsTrue (path_before x.path y.path)) (met b p) r rest (subst (λ (xs : Board). EachPair (λ (x y : Row). IsTrue (path_before x.path y.path)) xs) splits (pairs_filter (λ (x y : Row). IsTrue (path_before x.path y.path)) (λ (s : Row). path_before s.path there) b lawful.in_order))
 
     not_after : (s : Row) → IsIn s rest → path_eq s.path p ≡ false
     not_after s k =

@@ -2,24 +2,23 @@
 use Rattle.std.proofs.Common.{◌≡◌, ◌+◌, ◌<◌, ◌≤◌, inl, inr, Bool, true, false, ◌&&◌, cond, List, [], ◌∷◌, map, Some, refl, sym, ap, ◌∙◌, subst, arith, eqb}
 use Rattle.std.specs.Prelude.{count_by, IsTrue}
 use Rattle.std.proofs.lemmas.List.Sums.{sum_by-cons}
-use Rattle.model_registers.specs.Lists.{Each, EachPair}
+use Rattle.lists.specs.Elements.{Each, EachPair, IsIn}
 use Rattle.model_registers.specs.BridgeTable.{bridge_file}
-use Rattle.model_board.specs.Members.{IsIn}
 use Rattle.model_board.specs.Paths.{Path, path_eq, path_before, leads_to}
 use Rattle.model_board.specs.Board.{Board, Row, Decl, endpoint, bridge, is_bridge, is_bridge_at, is_multifunction, IsBoard}
 use Rattle.model_board.specs.BusNumbers.{secondary, subordinate, bus_of}
-use Rattle.model_board.specs.State.{BoardFunction, State}
+use Rattle.model_board.specs.State.{BoardFunction, State, row_at}
 use Rattle.model_board.specs.Cycles.{BusAddress, reached, secondary_register, subordinate_register}
-use Rattle.model_board.specs.Reach.{row_at, HasNumbers}
-use Rattle.model_board.specs.Scanning.{BusNumbers, board_numbers, numbers_in, with_numbers, numbered_file}
-use Rattle.model_board.specs.AtReset.{board_at, IsNumbered}
-use Rattle.model_board.proofs.Members.{each_in, each_from}
-use Rattle.model_board.proofs.FirstFound.{each_found}
+use Rattle.model_set_up.specs.Reach.{HasNumbers}
+use Rattle.model_set_up.specs.Scanning.{BusNumbers, board_numbers, numbers_in, with_numbers, numbered_file, IsNumbered}
+use Rattle.model_board.specs.AtReset.{board_at}
+use Rattle.lists.proofs.Members.{each_in, each_from}
+use Rattle.lists.proofs.FirstFound.{each_found}
 use Rattle.model_board.proofs.PathOrder.{one, exclusive, path_same}
 use Rattle.model_board.proofs.PathEnds.{not_before_itself}
 use Rattle.model_board.proofs.BusNumbers.{bridges, bridges-cons, at, count_three, counted}
-use Rattle.model_board.proofs.Routes.{bridge_of}
-use Rattle.model_board.proofs.Scanning.{numbers_read, bus_not_more}
+use Rattle.model_set_up.proofs.Routes.{bridge_of}
+use Rattle.model_set_up.proofs.Scanning.{numbers_read, bus_not_more}
 
 -- ---- numbers of a board fit
 

@@ -3,16 +3,17 @@
 use Rattle.std.proofs.Common.{◌≡◌, ℕ, zero, suc, ◌+◌, ◌-◌, ◌*◌, ◌/◌, ◌%◌, ◌^◌, ◌<◌, ◌≤◌, ◌⊎◌, inl, inr, Bool, true, false, ◌&&◌, ◌||◌, cond, List, [], ◌∷◌, ◌++◌, length, refl, sym, ap₂, ◌∙◌, subst, arith, eqb, leb, ltb}
 use Rattle.std.specs.Prelude.{flat_map}
 use Rattle.std.proofs.lemmas.Bool.{cases_eq, cases_lt, or_cases, and_parts, ne_eqb, ltb-true, leb-true, cond-true, cond-false, eq-eqb, and_from, and_left, and_right}
-use Rattle.model_registers.specs.Lists.{Each, EachPair}
+use Rattle.lists.specs.Elements.{Each, EachPair}
 use Rattle.model_registers.specs.Cell.{Cell}
 use Rattle.model_registers.specs.Registers.{Place, config, block, place_eq, File, field, cells_from}
 use Rattle.model_registers.specs.FileLaws.{has_place, HasNone}
-use Rattle.model_registers.specs.Declarations.{Kind, io_kind, mem32, mem64, registers_of, Bar, Region, IsLawfulRegion, Endpoint, ConfigBlock}
+use Rattle.model_registers.specs.Declarations.{registers_of, Bar, Region, IsLawfulRegion, Endpoint, ConfigBlock}
 use Rattle.model_registers.specs.DeclarationRules.{IsConfigBlock, IsLawfulEndpoint}
 use Rattle.model_registers.specs.EndpointTable.{base_register, base_cells, base_width, type_bits, region_cells, block_cells, header_cells, config_cells, endpoint_reset}
 use Rattle.model_registers.specs.Sizing.{mask_of}
 use Rattle.model_registers.proofs.RegisterFiles.{above, below}
-use Rattle.model_registers.proofs.EachLemmas.{each_map}
+use Rattle.lists.proofs.EachLemmas.{each_map}
+use Rattle.model_registers.proofs.Bases.{registers_positive, one_or_two}
 use Rattle.bus_scan.proofs.ProbedFiles.{all_four, Probed, probed_none, probed_first, probed_second, probed_low, probed_high}
 
 -- ---- places without cells
@@ -93,11 +94,6 @@ pub data Side (n : ℕ) (r : Region) : Type 0 where
   at_high : n ≡ r.index + 1 → registers_of r.kind ≡ 2 → Side n r
   elsewhere : (n ≡ r.index → ⊥) → (registers_of r.kind ≡ 2 → n ≡ r.index + 1 → ⊥) → Side n r
 
-one_or_two : (kind : Kind) → (registers_of kind ≡ 1) ⊎ (registers_of kind ≡ 2)
-one_or_two io_kind = inl refl
-one_or_two (mem32 pref) = inl refl
-one_or_two (mem64 pref) = inr refl
-
 pub side : (n : ℕ) (r : Region) → Side n r
 side n r = elim (cases_eq n r.index) [
   | inl e ↦ at_low e
@@ -141,11 +137,6 @@ apart_lacks n r other m q from to = region_lacks r q (elim (one_or_two r.kind) [
   | inl one ↦ elim (cases_lt n r.index) [ inl below ↦ inl (omega arith) | inr above ↦ inr (omega (arith, other)) ]
   | inr two ↦ elim (cases_lt n r.index) [ inl below ↦ inl (omega arith) | inr above ↦ inr (omega (arith, other, m two)) ]
 ])
-
-pub registers_positive : (kind : Kind) → 0 < registers_of kind
-registers_positive io_kind = omega arith
-registers_positive (mem32 pref) = omega arith
-registers_positive (mem64 pref) = omega arith
 
 -- the first region has the register
 own_register : (n : ℕ) (r : Region) (rs : List Region) (mask : ℕ) → Each (λ s. n < s.index) rs → Probed all_four (base_register n) (base_cells r.index r.kind r.size 0) mask

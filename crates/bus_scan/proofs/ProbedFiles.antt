@@ -1,11 +1,11 @@
 -- What the registers of a file read after all ones, and that they take back what they held.
 --     Probed      an access of these bytes reads the mask after all ones, and a write of what was read before leaves the file as it was
-use Rattle.std.proofs.Common.{◌≡◌, ℕ, ◌+◌, ◌-◌, ◌*◌, ◌/◌, ◌%◌, ◌^◌, ◌<◌, ◌≤◌, ◌⊎◌, inl, inr, Bool, true, false, List, [], ◌∷◌, ◌++◌, refl, sym, ap, ap₂, ◌∙◌, subst, arith, append-nil, lit<}
+use Rattle.std.proofs.Common.{◌≡◌, ℕ, ◌+◌, ◌-◌, ◌*◌, ◌/◌, ◌%◌, ◌^◌, ◌<◌, ◌≤◌, inl, inr, Bool, true, false, List, [], ◌∷◌, ◌++◌, refl, sym, ap, ap₂, ◌∙◌, subst, arith, append-nil, lit<}
 use Rattle.std.specs.Prelude.{bit_and, bit_or}
-use Rattle.std.specs.Int.Bits.{or_zero_l, and_zero_r, and_zero_l}
-use Rattle.std.proofs.lemmas.Nat.{and_mask, and_comm, and_block, shr_split, mod_below, pow_pos, pow-add, pow_below}
+use Rattle.std.specs.Int.Bits.{or_zero_l, and_zero_l}
+use Rattle.std.proofs.lemmas.Nat.{and_mask, and_comm, pow-add, pow_below, pow_pos}
 use Rattle.std.proofs.lemmas.Bool.{cases_lt}
-use Rattle.std.proofs.Math.Nat.{mod-eq_of_lt, add-zero}
+use Rattle.std.proofs.Math.Nat.{mod-eq_of_lt}
 use Rattle.model_registers.specs.Registers.{Place, config, File, read, write, field}
 use Rattle.model_registers.specs.FileLaws.{HasNone}
 use Rattle.model_registers.specs.Declarations.{Kind, io_kind, mem32, mem64, registers_of, least_size, IsLawfulSize, Bar}
@@ -13,7 +13,7 @@ use Rattle.model_registers.specs.EndpointTable.{base_register, type_bits, base_w
 use Rattle.model_registers.specs.BaseLaws.{shown, rebased}
 use Rattle.model_registers.specs.Sizing.{mask_of}
 use Rattle.model_registers.proofs.Files.{read_none, write_none, read_second, read_first, joined_write}
-use Rattle.model_registers.proofs.Bases.{four, size_limits, write_one, rewritten_low, rewritten_high, read_low, read_high}
+use Rattle.model_registers.proofs.Bases.{four, size_limits, write_one, rewritten_low, rewritten_high, read_low, read_high, and_upper, one_or_two}
 use Rattle.bus_scan.proofs.WriteBack.{field_back}
 
 abbrev pub ones : ℕ
@@ -64,9 +64,6 @@ lower_eight = true ∷ true ∷ true ∷ true ∷ false ∷ false ∷ false ∷ 
 upper_eight : List Bool
 upper_eight = false ∷ false ∷ false ∷ false ∷ true ∷ true ∷ true ∷ true ∷ []
 
-field_cells : ℕ → ℕ → ℕ → ℕ → File
-field_cells a n v w = field (config a) n v w 0
-
 back_four : (x a v w : ℕ) → write all_four (read (field (config a) 4 v w 0) (config a) all_four) (config a) (write all_four x (config a) (field (config a) 4 v w 0)) ≡ field (config a) 4 v w 0
 back_four x a v w = field_back all_four x a v w
 
@@ -100,11 +97,6 @@ back_upper x a v w =
 abbrev pub at_index : ℕ → Bar → ℕ → BaseAddress
 at_index n b base = record { index = n; kind = b.kind; size = b.size; base = base }
 
-one_or_two : (kind : Kind) → (registers_of kind ≡ 1) ⊎ (registers_of kind ≡ 2)
-one_or_two io_kind = inl refl
-one_or_two (mem32 pref) = inl refl
-one_or_two (mem64 pref) = inr refl
-
 back_low : (b : BaseAddress) → write all_four (read (register_cells b) (base_register b.index) all_four) (base_register b.index) (write all_four ones (base_register b.index) (register_cells b)) ≡ register_cells b
 back_low b = elim (one_or_two b.kind) [ inl one ↦ by_width 1 one (back_four ones) | inr two ↦ by_width 2 two (back_lower ones) ]
   where
@@ -136,11 +128,6 @@ ones_rebased w m x e = ap (λ n. bit_or n (bit_and x (bit_and m e))) (and_zero_l
 
 low_mask : (m : ℕ) → bit_and ones (bit_and m ones) ≡ m % 2 ^ 32
 low_mask m = ap (bit_and ones) (and_mask m 32) ∙ and_comm ones (m % 2 ^ 32) ∙ and_mask (m % 2 ^ 32) 32 ∙ omega arith
-
-and_upper : (v e : ℕ) → bit_and v (e * 2 ^ 32) ≡ bit_and (v / 2 ^ 32) e * 2 ^ 32
-and_upper v e =
-    ap₂ bit_and (sym (shr_split v 32)) (sym (add-zero (e * 2 ^ 32))) ∙ and_block 32 (v / 2 ^ 32) e (v % 2 ^ 32) 0 (mod_below v (2 ^ 32) (pow_pos 32)) (pow_pos 32)
-    ∙ omega (arith, and_zero_r (v % 2 ^ 32))
 
 high_mask : (m : ℕ) → m < 2 ^ 64 → bit_and (ones * 2 ^ 32) (bit_and m (ones * 2 ^ 32)) ≡ m / 2 ^ 32 * 2 ^ 32
 high_mask m h =

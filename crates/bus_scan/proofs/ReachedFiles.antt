@@ -4,24 +4,24 @@ use Rattle.std.proofs.Common.{◌≡◌, ℕ, ◌+◌, ◌*◌, ◌/◌, ◌%◌
 use Rattle.std.specs.Prelude.{bit_or, IsTrue}
 use Rattle.std.specs.Option.{option_map_or}
 use Rattle.std.specs.Int.Bits.{or_zero_r, and_zero_r}
-use Rattle.model_registers.specs.Lists.{Each}
+use Rattle.lists.specs.Elements.{Each, IsIn}
 use Rattle.model_registers.specs.Cell.{Cell, written}
 use Rattle.model_registers.specs.Registers.{config, File, cell_at, changed, read, write}
 use Rattle.model_registers.specs.ByteEnables.{enabled_bits}
 use Rattle.model_registers.proofs.RegisterFiles.{change_at_place, above}
-use Rattle.model_board.specs.Members.{IsIn}
 use Rattle.model_board.specs.Paths.{Path, path_eq}
 use Rattle.model_board.specs.Board.{Board, Row, is_bridge, stands_at}
 use Rattle.model_board.specs.BusNumbers.{secondary, subordinate}
-use Rattle.model_board.specs.State.{BoardFunction, State, with_file}
+use Rattle.model_board.specs.State.{BoardFunction, State, with_file, row_at}
 use Rattle.model_board.specs.Cycles.{BusAddress, reached, secondary_register, subordinate_register}
 use Rattle.model_board.specs.Ports.{config_reply, after_config_write}
-use Rattle.model_board.specs.Reach.{row_at, HasNumbers, address_of}
-use Rattle.model_board.specs.AtReset.{board_at, IsNumbered}
-use Rattle.model_board.proofs.Members.{each_in, each_from, in_map, any_in}
+use Rattle.model_set_up.specs.Reach.{HasNumbers, address_of}
+use Rattle.model_board.specs.AtReset.{board_at}
+use Rattle.model_set_up.specs.Scanning.{IsNumbered}
+use Rattle.lists.proofs.Members.{each_in, each_from, in_map, any_in}
 use Rattle.model_board.proofs.PathEnds.{path_self}
-use Rattle.model_board.proofs.Routes.{reached_by_numbers}
-use Rattle.model_board.proofs.OnlyNamed.{only_named}
+use Rattle.model_set_up.proofs.Routes.{reached_by_numbers}
+use Rattle.model_set_up.proofs.OnlyNamed.{only_named}
 use Rattle.bus_scan.specs.Probes.{with_ones, mask_shown, TakesBack}
 use Rattle.bus_scan.proofs.ProbedFiles.{ones, Probed}
 use Rattle.bus_scan.proofs.NumberedStates.{has_numbers, no_latch, each_reached, in_itself, only_there}

@@ -4,13 +4,13 @@ use Rattle.std.specs.Prelude.{find}
 use Rattle.model_board.specs.Paths.{Path, path_eq}
 use Rattle.model_board.specs.Board.{Decl, endpoint, bridge, Board, Row, is_bridge, stands_at, is_multifunction}
 use Rattle.model_board.specs.BusNumbers.{bus_behind, bus_of}
-use Rattle.model_board.specs.FunctionTable.{TableRow}
+use Rattle.model_set_up.specs.FunctionTable.{TableRow}
 use Rattle.model_board.specs.State.{BoardFunction, State}
 use Rattle.model_board.specs.Cycles.{BusAddress, reached}
 use Rattle.model_board.specs.Lawful.{IsLawfulDecl}
-use Rattle.model_board.specs.Scanning.{BusNumbers, scan_numbers, scan_state, numbered_file}
-use Rattle.model_board.specs.ScanOrder.{nth_part, on, next_part}
-use Rattle.model_board.proofs.Members.{each_in}
+use Rattle.model_set_up.specs.Scanning.{BusNumbers, scan_numbers, scan_state, numbered_file}
+use Rattle.model_set_up.specs.ScanOrder.{nth_part, on, next_part}
+use Rattle.lists.proofs.Members.{each_in}
 use Rattle.model_board.proofs.PathEnds.{parent_snoc}
 use Rattle.bus_scan.specs.declared.seen.Seen.{Seen}
 use Rattle.bus_scan.specs.declared.seen.Layout.TheVariants.{Endpoint as EndpointLayout, Bridge as BridgeLayout}

@@ -4,14 +4,15 @@ use Rattle.std.proofs.Common.{◌≡◌, ℕ, ◌+◌, ◌/◌, ◌%◌, ◌^◌
 use Rattle.std.specs.Prelude.{bit_and, IfSome}
 use Rattle.std.proofs.lemmas.Nat.{and_mask}
 use Rattle.std.proofs.lemmas.Bool.{cases_lt, ne_eqb, cond-true, cond-false, eq-eqb, and_from, or_parts}
-use Rattle.model_registers.specs.Lists.{Each, EachPair}
+use Rattle.lists.specs.Elements.{Each, EachPair}
 use Rattle.model_registers.specs.Declarations.{Kind, io_kind, mem32, mem64, registers_of, Bar, Region, IsLawfulSize, IsLawfulRegion}
 use Rattle.model_registers.specs.Sizing.{mask_of, ShowsSize, SizeReads}
-use Rattle.model_registers.proofs.EachLemmas.{each_map}
+use Rattle.lists.proofs.EachLemmas.{each_map}
+use Rattle.model_registers.proofs.Bases.{registers_positive}
 use Rattle.model_registers.proofs.Sizes.{sizes_read}
 use Rattle.bus_scan.specs.SizedRows.{bar_at, is_upper_half}
 use Rattle.bus_scan.proofs.ProbedFiles.{sixteens}
-use Rattle.bus_scan.proofs.ProbedEndpoints.{bar_of, mask_at, at_low, at_high, elsewhere, side, mask_low, mask_high, mask_apart, registers_positive}
+use Rattle.bus_scan.proofs.ProbedEndpoints.{bar_of, mask_at, at_low, at_high, elsewhere, side, mask_low, mask_high, mask_apart}
 
 pub data Begins (n : ℕ) (rs : List Region) : Type 0 where
   nothing : bar_at n rs ≡ None → mask_at n rs ≡ 0 → Begins n rs

@@ -12,8 +12,8 @@ use Rattle.model_board.specs.Board.{Decl, endpoint, bridge, is_bridge, is_multif
 use Rattle.model_board.specs.State.{BoardFunction, State}
 use Rattle.model_board.specs.Cycles.{BusAddress, reached}
 use Rattle.model_board.specs.Lawful.{IsLawfulDecl}
-use Rattle.model_board.specs.Scanning.{board_numbers, with_numbers, numbered_file}
-use Rattle.model_board.specs.AtReset.{board_at, IsNumbered}
+use Rattle.model_set_up.specs.Scanning.{board_numbers, with_numbers, numbered_file, IsNumbered}
+use Rattle.model_board.specs.AtReset.{board_at}
 use Rattle.bus_scan.specs.Probes.{mask_shown, TakesBack, decl_reached, IsEndpointReached, IsBridgeReached, regions_in, io_in, pref_in, regions_reached, io_reached, pref_reached}
 use Rattle.bus_scan.proofs.ProbedFiles.{Probed}
 use Rattle.bus_scan.proofs.ProbedEndpoints.{mask_at, probed_endpoint}

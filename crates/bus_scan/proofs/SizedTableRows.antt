@@ -4,17 +4,18 @@ use Rattle.std.specs.Prelude.{option_map}
 use Rattle.std.specs.Option.{option_map_or}
 use Rattle.model_registers.specs.Declarations.{Bar, Endpoint, Bridge, no_io, no_pref}
 use Rattle.model_registers.specs.OwnCopies.{bare}
-use Rattle.model_board.specs.Members.{IsIn}
+use Rattle.lists.specs.Elements.{IsIn}
 use Rattle.model_board.specs.Paths.{Path, path_eq, last_part}
 use Rattle.model_board.specs.Board.{Board, Row, Decl, endpoint, bridge, stands_at}
-use Rattle.model_board.specs.State.{BoardFunction, State}
+use Rattle.model_board.specs.State.{BoardFunction, State, row_at}
 use Rattle.model_board.specs.Cycles.{BusAddress}
-use Rattle.model_board.specs.Reach.{row_at, address_of}
-use Rattle.model_board.specs.FunctionTable.{TableRow, table_row, met_decl, found_decl}
-use Rattle.model_board.specs.AtReset.{board_at, IsNumbered}
-use Rattle.model_board.proofs.Members.{each_in, from_map, any_in}
+use Rattle.model_set_up.specs.Reach.{address_of}
+use Rattle.model_set_up.specs.FunctionTable.{TableRow, table_row, met_decl, found_decl}
+use Rattle.model_board.specs.AtReset.{board_at}
+use Rattle.model_set_up.specs.Scanning.{IsNumbered}
+use Rattle.lists.proofs.Members.{each_in, from_map, any_in}
 use Rattle.model_board.proofs.PathEnds.{path_self}
-use Rattle.model_board.proofs.Routes.{reached_by_numbers}
+use Rattle.model_set_up.proofs.Routes.{reached_by_numbers}
 use Rattle.headers.specs.Decodes.{io_decode_of, pref_decode_of}
 use Rattle.headers.specs.declared.decodes.IoDecode.{IoDecode as ShownIo}
 use Rattle.headers.specs.declared.decodes.PrefDecode.{PrefDecode as ShownPref}

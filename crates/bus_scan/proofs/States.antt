@@ -6,19 +6,18 @@ use Rattle.std.specs.Option.{option_map_or}
 use Rattle.model_registers.specs.Registers.{config, File, write}
 use Rattle.model_registers.specs.ByteEnables.{lanes}
 use Rattle.model_registers.specs.BridgeTable.{bridge_file}
-use Rattle.model_board.specs.Members.{IsIn}
+use Rattle.lists.specs.Elements.{IsIn}
 use Rattle.model_board.specs.Paths.{Path, path_eq}
 use Rattle.model_board.specs.Board.{Decl, endpoint, bridge, Board, Row, is_bridge, is_bridge_at, stands_at, is_multifunction, IsBoard}
-use Rattle.model_board.specs.State.{BoardFunction, State, with_file}
+use Rattle.model_board.specs.State.{BoardFunction, State, with_file, state_of}
 use Rattle.model_board.specs.Cycles.{BusAddress, reached}
 use Rattle.model_board.specs.Ports.{after_config_write}
-use Rattle.model_board.specs.SetUp.{state_of}
-use Rattle.model_board.specs.Scanning.{BusNumbers, with_numbers, numbered_file}
-use Rattle.model_board.proofs.Members.{any_in, from_any}
+use Rattle.model_set_up.specs.Scanning.{BusNumbers, with_numbers, numbered_file}
+use Rattle.lists.proofs.Members.{any_in, from_any}
 use Rattle.model_board.proofs.PathOrder.{path_same}
 use Rattle.model_board.proofs.PathEnds.{path_self}
-use Rattle.model_board.proofs.Partings.{one_row, bridge_at}
-use Rattle.model_board.proofs.Routes.{found}
+use Rattle.model_set_up.proofs.Partings.{one_row, bridge_at}
+use Rattle.model_set_up.proofs.Routes.{found}
 use Rattle.bus_scan.specs.Scans.{given, StandsAt}
 use Rattle.bus_scan.proofs.BridgeNumbers.{numbers_word, FitBytes, bridge_written}
 

@@ -4,10 +4,10 @@
 use Rattle.std.proofs.Common.{◌≡◌, ℕ, zero, suc, ◌+◌, ◌<◌, ◌≤◌, inl, inr, List, [], ◌∷◌, ◌++◌, map, length, get_or, take, drop, refl, sym, ap, ◌∙◌, subst, arith}
 use Rattle.std.specs.Prelude.{slice_set}
 use Rattle.std.proofs.Math.Seq.{take-append_seam}
-use Rattle.model_board.specs.Members.{IsIn}
+use Rattle.lists.specs.Elements.{IsIn}
 use Rattle.model_board.specs.Board.{Board, Row}
 use Rattle.model_board.specs.AtReset.{board_at}
-use Rattle.model_board.specs.FunctionTable.{TableRow, table_row, met_decl, found_decl, scanned_table, sized_table}
+use Rattle.model_set_up.specs.FunctionTable.{TableRow, table_row, met_decl, found_decl, scanned_table, sized_table}
 use Rattle.host_bridge.specs.HostState.{HostState}
 use Rattle.bus_scan.specs.SizedRows.{IsScannedRow, SizesRow}
 

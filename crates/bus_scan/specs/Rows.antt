@@ -6,7 +6,7 @@ use Rattle.std.specs.Prelude.{List, [], ℕ, Option, Some, None, map}
 use Rattle.model_registers.specs.Declarations.{Bar, Region, Endpoint}
 use Rattle.model_registers.specs.EndpointTable.{opened}
 use Rattle.model_board.specs.Board.{Decl, endpoint, bridge}
-use Rattle.model_board.specs.FunctionTable.{BusRange}
+use Rattle.model_set_up.specs.FunctionTable.{BusRange}
 use Rattle.bars.specs.Resets.{at_reset}
 use Rattle.headers.specs.Decodes.{io_decode_of, pref_decode_of}
 use Rattle.bus_scan.specs.declared.table.Found.{Found}

@@ -6,17 +6,16 @@
 --     IsBridgeThere b bus number n r at      a bridge at a place, and its address
 --     IsRefused b f s      why it stops before the end, and what it leaves
 use Rattle.std.specs.Prelude.{List, ◌≡◌, ℕ, ◌+◌, ◌<◌, ◌⊎◌, Option, Some, None, map, if◌then◌else◌, IsTrue}
-use Rattle.model_board.specs.Members.{IsIn}
+use Rattle.lists.specs.Elements.{IsIn}
 use Rattle.model_board.specs.Paths.{Path, path_eq}
 use Rattle.model_board.specs.Board.{Decl, endpoint, bridge, is_bridge, Row, Board, is_multifunction, IsBoard}
 use Rattle.model_board.specs.BusNumbers.{secondary, bus_behind, bus_of, Enumerates}
 use Rattle.model_board.specs.State.{State}
 use Rattle.model_board.specs.Cycles.{BusAddress}
 use Rattle.model_board.specs.Lawful.{HasLawfulDecls}
-use Rattle.model_board.specs.FunctionTable.{BusRange, TableRow, met_decl}
-use Rattle.model_board.specs.Scanning.{BusNumbers, scan_numbers, scan_state, IsBus}
-use Rattle.model_board.specs.ScanOrder.{nth_part, on, met}
-use Rattle.model_board.specs.AtReset.{HasOwnNumbers}
+use Rattle.model_set_up.specs.FunctionTable.{BusRange, TableRow, met_decl}
+use Rattle.model_set_up.specs.Scanning.{BusNumbers, scan_numbers, scan_state, IsBus, HasOwnNumbers}
+use Rattle.model_set_up.specs.ScanOrder.{nth_part, on, met}
 use Rattle.host_bridge.specs.HostState.{HostState}
 use Rattle.bus_scan.specs.declared.enumeration.Enumeration.{Enumeration}
 use Rattle.bus_scan.specs.declared.fault.Fault.{Fault}

@@ -8,9 +8,9 @@
 use Rattle.std.specs.Prelude.{◌≡◌, List, [], ◌∷◌, ℕ, zero, suc, ◌+◌, Bool, false, ◌&&◌, ◌||◌, ◌==◌, if◌then◌else◌, Option, Some, None, map, slice_get, unwrap_or}
 use Rattle.std.specs.Option.{option_map_or}
 use Rattle.model_registers.specs.Declarations.{Bar, Region, registers_of}
-use Rattle.model_board.specs.Members.{IsIn}
+use Rattle.lists.specs.Elements.{IsIn}
 use Rattle.model_board.specs.Board.{Board, Row}
-use Rattle.model_board.specs.FunctionTable.{TableRow, table_row, met_decl, found_decl}
+use Rattle.model_set_up.specs.FunctionTable.{TableRow, table_row, met_decl, found_decl}
 
 abbrev pub bar_at : ℕ → List Region → Option Bar
 bar_at n [] = None

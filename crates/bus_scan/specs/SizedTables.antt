@@ -4,7 +4,7 @@ use Rattle.std.specs.Prelude.{List, ◌≡◌}
 use Rattle.model_board.specs.Board.{Board, IsBoard}
 use Rattle.model_board.specs.BusNumbers.{Enumerates}
 use Rattle.model_board.specs.Lawful.{HasLawfulDecls}
-use Rattle.model_board.specs.FunctionTable.{TableRow, sized_table}
+use Rattle.model_set_up.specs.FunctionTable.{TableRow, sized_table}
 
 pub record IsTableOf (b : Board) (t : List TableRow) : Type 0 where
   pub board : IsBoard b

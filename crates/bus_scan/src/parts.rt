@@ -1,7 +1,7 @@
 //! The parts of a bus: device 0 to 15, and in a device function 0 to 7.
 ghost use Rattle.std.specs.Prelude.{◌≡◌, ◌<◌, ◌+◌, ◌%◌, ◌==◌, ◌&&◌, not, if◌then◌else◌, [], ◌∷◌, ◌++◌, length};
-ghost use Rattle.model_board.specs.ScanOrder.{on, nth_part};
-ghost use Rattle.host_bridge.specs.BusAddresses.{bus_address_of};
+ghost use Rattle.model_set_up.specs.ScanOrder.{on, nth_part};
+ghost use Rattle.paths.specs.BusAddresses.{bus_address_of};
 
 use bridge_forward::Part;
 use host_bridge::{Bdf, Path};

@@ -5,9 +5,9 @@ ghost use Rattle.model_board.specs.Paths.{Path};
 ghost use Rattle.model_board.specs.Board.{Board, is_multifunction};
 ghost use Rattle.model_board.specs.Cycles.{reached};
 ghost use Rattle.model_board.specs.Lawful.{IsLawfulDecl};
-ghost use Rattle.model_board.specs.Scanning.{BusNumbers, numbered_file};
+ghost use Rattle.model_set_up.specs.Scanning.{BusNumbers, numbered_file};
 ghost use Rattle.model_board.specs.State.{BoardFunction};
-ghost use Rattle.host_bridge.specs.BusAddresses.{bus_address_of};
+ghost use Rattle.paths.specs.BusAddresses.{bus_address_of};
 ghost use Rattle.host_bridge.specs.HostState.{with_latch};
 ghost use Rattle.bus_scan.specs.Sights.{seen_of};
 

@@ -4,10 +4,11 @@ ghost use Rattle.std.specs.Prelude.{◌≡◌, ◌%◌, ◌<◌, IsFalse, IfSome
 ghost use Rattle.model_registers.specs.Declarations.{Bar, IsLawfulSize};
 ghost use Rattle.model_registers.specs.Sizing.{ShowsSize};
 ghost use Rattle.model_registers.specs.ByteEnables.{lanes};
-ghost use Rattle.model_board.specs.AtReset.{board_at, IsNumbered};
-ghost use Rattle.model_board.specs.FunctionTable.{scanned_table, sized_table, board_in};
+ghost use Rattle.model_board.specs.AtReset.{board_at};
+ghost use Rattle.model_set_up.specs.Scanning.{IsNumbered};
+ghost use Rattle.model_set_up.specs.FunctionTable.{scanned_table, sized_table, board_in};
 ghost use Rattle.headers.specs.Decodes.{io_decode_of, pref_decode_of};
-ghost use Rattle.host_bridge.specs.BusAddresses.{bus_address_of};
+ghost use Rattle.paths.specs.BusAddresses.{bus_address_of};
 ghost use Rattle.bus_scan.specs.SizedTables.{IsTableOf};
 ghost use Rattle.bus_scan.specs.Probes.{mask_shown, TakesBack, IsEndpointReached, IsBridgeReached, regions_reached, io_reached, pref_reached};
 ghost use Rattle.bus_scan.specs.SizedRows.{bar_at, bars_of, is_upper_half, is_after_wide, IsScannedRow, SizesRow};

@@ -36,7 +36,7 @@ pub struct FunctionRow {
 }
 
 impl Model for FunctionRow {
-    ghost use Rattle.model_board.specs.FunctionTable.{TableRow};
+    ghost use Rattle.model_set_up.specs.FunctionTable.{TableRow};
     ghost use Rattle.bus_scan.specs.Rows.{decl_of, range_of};
 
     ghost Value = { TableRow };
@@ -52,8 +52,8 @@ impl Model for FunctionRow {
 impl FunctionRow {
     ghost use Rattle.std.specs.Prelude.{Option, Some, IsSome};
     ghost use Rattle.model_board.specs.Paths.{last_part};
-    ghost use Rattle.model_board.specs.FunctionTable.{BusRange};
-    ghost use Rattle.host_bridge.specs.BusAddresses.{bus_address_of};
+    ghost use Rattle.model_set_up.specs.FunctionTable.{BusRange};
+    ghost use Rattle.paths.specs.BusAddresses.{bus_address_of};
     ghost use Rattle.bus_scan.specs.Rows.{ended};
 
     /// The number that the function is reached by.
@@ -86,7 +86,7 @@ pub struct FunctionTable {
 
 impl Model for FunctionTable {
     ghost use Rattle.std.specs.Prelude.{List};
-    ghost use Rattle.model_board.specs.FunctionTable.{TableRow};
+    ghost use Rattle.model_set_up.specs.FunctionTable.{TableRow};
 
     ghost Value = { List TableRow };
 

@@ -1,42 +1,40 @@
 -- The table of a board that is set up: its regions stand apart, and its claims are those of the board.
 --     IsSortedOf es fs      fs has the entries es, by first address
-use Rattle.std.proofs.Common.{◌≡◌, ℕ, zero, suc, ◌+◌, ◌-◌, ◌≤◌, ◌<◌, ◌⊎◌, inl, inr, Bool, true, false, ◌&&◌, cond, List, [], ◌∷◌, ◌++◌, length, get_or, Option, Some, None, refl, sym, ap, ap₂, ◌∙◌, subst, arith, leb, ltb}
-use Rattle.std.specs.Prelude.{map, filter, find, flat_map, slice_get, ◌↔◌}
+use Rattle.std.proofs.Common.{◌≡◌, ℕ, zero, suc, ◌+◌, ◌-◌, ◌≤◌, ◌<◌, ◌⊎◌, inl, inr, Bool, true, false, cond, List, [], ◌∷◌, ◌++◌, length, get_or, Option, Some, None, refl, sym, ap, ap₂, ◌∙◌, subst, arith, leb, ltb}
+use Rattle.std.specs.Prelude.{map, filter, find, slice_get, ◌↔◌}
 use Rattle.std.specs.Option.{option_map}
 use Rattle.std.specs.List.Sorted.{IsPermutation, IsNonDecreasingBy}
 use Rattle.std.proofs.lemmas.List.{map-append, length-map}
-use Rattle.model_registers.specs.Lists.{Each, EachPair, first_of_two, first_some}
-use Rattle.model_registers.proofs.EachLemmas.{each_map, each_permutation, pairs_map}
-use Rattle.model_registers.specs.Declarations.{Kind, io_kind, mem32, mem64, Region, least_size, IsLawfulRegion}
+use Rattle.lists.specs.Elements.{Each, EachPair, first_of_two, first_some, IsIn}
+use Rattle.lists.proofs.EachLemmas.{each_permutation, pairs_map, pairs_filter, each_append}
+use Rattle.model_registers.specs.Declarations.{Kind, io_kind, mem32, mem64, least_size, IsLawfulRegion}
 use Rattle.model_registers.specs.Decoding.{Space, io, memory, same_space}
-use Rattle.model_board.specs.Members.{IsIn}
 use Rattle.model_board.specs.Paths.{Path}
 use Rattle.model_board.specs.Board.{Row, Board}
 use Rattle.model_board.specs.State.{BoardFunction}
-use Rattle.model_board.specs.AtReset.{board_at}
 use Rattle.model_board.specs.Claims.{Claim, claim_at, first_claim}
 use Rattle.bridge_forward.specs.Locating.{located_claim}
 use Rattle.std.proofs.lemmas.Bool.{leb-true}
-use Rattle.model_registers.proofs.Tests.{left_true}
+use Rattle.lists.proofs.Tests.{left_true}
 use Rattle.std.proofs.lemmas.Option.{slice_get_within}
-use Rattle.model_board.specs.Pools.{Apertures}
-use Rattle.model_board.specs.FunctionTable.{TableRow, sized_table}
+use Rattle.model_registers.specs.Apertures.{Apertures}
+use Rattle.model_set_up.specs.FunctionTable.{TableRow}
 use Rattle.model_board.specs.Routing.{routing}
-use Rattle.model_board.specs.SetUp.{set_up_state}
-use Rattle.model_board.specs.SetUpWrites.{settings, Setting}
-use Rattle.model_board.specs.PlacedRegions.{PlacedRegion, placed_regions, holds, claim_in, placed_claim}
-use Rattle.model_board.specs.UniqueClaimant.{CanBePlaced, ShareNone, HasUniqueClaims}
-use Rattle.model_board.proofs.Members.{each_in, each_from, in_front, in_back, front_or_back, in_map, from_map, in_filter, from_filter, pairs_filter}
-use Rattle.model_board.proofs.FirstFound.{found_passes, each_found}
-use Rattle.model_board.proofs.Holders.{self_space}
-use Rattle.model_board.proofs.PlacedRegions.{Source, source, lawful_regions}
-use Rattle.model_board.proofs.UniqueClaimant.{unique_claimant, claim_in_any_order}
+use Rattle.model_set_up.specs.SetUp.{set_up_state}
+use Rattle.model_set_up.specs.SetUpWrites.{settings, Setting}
+use Rattle.model_set_up.specs.PlacedRegions.{PlacedRegion, placed_regions, claim_in, placed_claim}
+use Rattle.model_set_up.specs.UniqueClaimant.{CanBePlaced, ShareNone, HasUniqueClaims}
+use Rattle.lists.proofs.Members.{each_in, each_from, in_front, in_back, front_or_back, in_map, from_map, in_filter, from_filter}
+use Rattle.lists.proofs.FirstFound.{found_passes, each_found}
+use Rattle.model_set_up.proofs.Holders.{self_space}
+use Rattle.model_set_up.proofs.PlacedRegions.{Source, source, lawful_regions}
+use Rattle.model_set_up.proofs.UniqueClaimant.{unique_claimant, claim_in_any_order}
 use Rattle.host_bridge.specs.HostState.{HostState}
 use Rattle.window_packing.specs.Readies.{ReadyBoard, board_below, IsReady}
 use Rattle.claim_table.specs.declared.entry.Entry.{Entry}
 use Rattle.claim_table.specs.Tables.{TableEntry, table_claim, IsOfFunction, FitsTable}
-use Rattle.claim_table.specs.Entries.{entries_from, lies_in, by_space, AreApart, AreEntries, path_nth, table_entry, table_of}
-use Rattle.claim_table.specs.Fitting.{map_map, paths, same_paths, nth_path, fits_by_routing}
+use Rattle.claim_table.specs.Entries.{entries_from, lies_in, by_space, AreEntries, path_nth, table_entry, table_of}
+use Rattle.claim_table.specs.Fitting.{map_map, paths, nth_path, fits_by_routing}
 use Rattle.claim_table.proofs.Gathering.{region_of, is_of, of_board, paths_read, known}
 use Rattle.claim_table.proofs.Sorting.{moved, moved_back, Disjoint, sorted_apart}
 
@@ -152,10 +150,6 @@ of_functions fs qs space [] is h = tt
 of_functions fs qs space (e ∷ es) is h =
     (nth_path fs e.function ∙ ap (λ (xs : List Path). slice_get xs e.function) is ∙ path_there qs e.function h.0, of_functions fs qs space es is h.1)
 
-each_append : {A : Type 0} (P : A → Type 0) (xs ys : List A) → Each P xs → Each P ys → Each P (xs ++ ys)
-each_append P [] ys h k = k
-each_append P (x ∷ xs) ys h k = (h.0, each_append P xs ys h.1 k)
-
 -- ---- a board that is set up
 
 module _ (r : ReadyBoard) (ready : IsReady r) (qs : List Path) (paths_are : qs ≡ map (λ (t : TableRow). t.path) r.table) where
@@ -166,7 +160,7 @@ module _ (r : ReadyBoard) (ready : IsReady r) (qs : List Path) (paths_are : qs �
   board_paths = paths_are ∙ ap (map (λ (t : TableRow). t.path)) ready.table ∙ map_map (λ (t : TableRow). t.path) _ board
 
   sorted_of : (space : Space) (fs : List Entry) → IsSortedOf (entries_from space 0 r.plan.settings) fs → IsSortedOf (entries_from space 0 (settings board r.host.apertures)) fs
-  sorted_of space fs h = subst (λ (ss : List Setting). IsSortedOf (entries_from space 0 ss) fs) (ap (λ (p : Rattle.model_board.specs.SetUpWrites.Plan). p.settings) ready.plan) h
+  sorted_of space fs h = subst (λ (ss : List Setting). IsSortedOf (entries_from space 0 ss) fs) (ap (λ (p : Rattle.model_set_up.specs.SetUpWrites.Plan). p.settings) ready.plan) h
 
   pub ready_entries : (space : Space) (fs : List Entry) → IsSortedOf (entries_from space 0 r.plan.settings) fs → AreEntries qs fs
   ready_entries space fs h = subst (λ (xs : List Path). AreEntries xs fs) (sym board_paths) (entries board r.host.apertures ready.placeable space fs (sorted_of space fs h))
@@ -248,10 +242,6 @@ module _ (qs : List Path) (ports mems : List Entry) (n : ℕ) where
   claim_found memory = split memory ∙ ap₂ first_of_two (other_claim_memory qs n ports) (own_claim qs memory n mems)
 
 -- ---- what the table answers
-
-pub apart_in : (qs : List Path) (ports mems : List Entry) → AreEntries qs ports × AreEntries qs mems → (space : Space) → AreApart (by_space space ports mems)
-apart_in qs ports mems h io = h.0.apart
-apart_in qs ports mems h memory = h.1.apart
 
 pub known_in : (qs : List Path) (ports mems : List Entry) → AreEntries qs ports × AreEntries qs mems → (space : Space) → Each (λ (e : Entry). e.function < length qs) (by_space space ports mems)
 known_in qs ports mems h io = h.0.known

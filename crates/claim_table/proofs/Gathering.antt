@@ -1,25 +1,24 @@
 -- The regions of one space, gathered function by function.
-use Rattle.std.proofs.Common.{◌≡◌, ℕ, zero, suc, ◌+◌, ◌≤◌, ◌<◌, inl, inr, Bool, true, false, cond, List, [], ◌∷◌, ◌++◌, length, take, get_or, Option, Some, None, refl, sym, ap, ap₂, ◌∙◌, subst, arith, append_assoc}
-use Rattle.std.specs.Prelude.{map, filter, flat_map, slice_get, unwrap_or}
-use Rattle.std.proofs.lemmas.List.{map-append, append-nil}
+use Rattle.std.proofs.Common.{◌≡◌, ℕ, zero, suc, ◌+◌, ◌≤◌, ◌<◌, Bool, true, false, cond, List, [], ◌∷◌, ◌++◌, length, take, get_or, Option, Some, refl, sym, ap, ap₂, ◌∙◌, arith, append_assoc}
+use Rattle.std.specs.Prelude.{map, filter, flat_map, slice_get}
+use Rattle.std.proofs.lemmas.List.{map-append, append-nil, length-take}
 use Rattle.std.specs.Option.{option_to_list}
-use Rattle.std.proofs.lemmas.List.{length-take}
 use Rattle.std.proofs.lemmas.Option.{slice_get_within}
 use Rattle.bars.specs.declared.region.Region.{Region as Placed}
 use Rattle.bars.specs.Slots.{bases_from}
 use Rattle.window_packing.proofs.BarLists.{bases_push, take_at}
-use Rattle.model_registers.specs.Lists.{Each}
+use Rattle.lists.specs.Elements.{Each}
+use Rattle.model_registers.proofs.HitRegions.{space_same}
 use Rattle.model_registers.specs.Declarations.{Region}
 use Rattle.model_registers.specs.EndpointTable.{BaseAddress}
-use Rattle.model_registers.specs.Decoding.{Space, io, memory, space_of, same_space}
+use Rattle.model_registers.specs.Decoding.{Space, space_of, same_space}
 use Rattle.model_board.specs.Paths.{Path}
 use Rattle.model_board.specs.Board.{Decl, endpoint, bridge, Row, Board}
-use Rattle.model_board.specs.Pools.{Apertures}
-use Rattle.model_board.specs.PlacedRegions.{PlacedRegion, placed, placed_at, placed_regions}
-use Rattle.model_board.specs.Reach.{address_of}
-use Rattle.model_board.specs.SetUpWrites.{placed_base, Setting, writes_of}
+use Rattle.model_registers.specs.Apertures.{Apertures}
+use Rattle.model_set_up.specs.PlacedRegions.{PlacedRegion, placed, placed_at}
+use Rattle.model_set_up.specs.Reach.{address_of}
+use Rattle.model_set_up.specs.SetUpWrites.{placed_base, Setting, writes_of}
 use Rattle.claim_table.specs.declared.entry.Entry.{Entry}
-use Rattle.claim_table.specs.Tables.{TableEntry}
 use Rattle.claim_table.specs.Entries.{entry_for, bases_in, of_space, entries_at, entries_from, path_nth, table_entry}
 
 -- ---- one more function
@@ -38,12 +37,6 @@ region_of ps space e = (table_entry ps space e).region
 
 abbrev pub is_of : Space → PlacedRegion → Bool
 is_of space q = same_space q.space space
-
-space_same : (x y : Space) → same_space x y ≡ true → x ≡ y
-space_same io io h = refl
-space_same io memory h = cc
-space_same memory io h = cc
-space_same memory memory h = refl
 
 filter-append : {A : Type 0} (p : A → Bool) (xs ys : List A) → filter p (xs ++ ys) ≡ filter p xs ++ filter p ys
 filter-append p [] ys = refl

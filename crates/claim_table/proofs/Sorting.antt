@@ -1,16 +1,14 @@
 -- Regions that share no address, sorted by first address, stand apart.
-use Rattle.std.proofs.Common.{◌≡◌, ℕ, zero, suc, ◌+◌, ◌≤◌, ◌<◌, ◌⊎◌, inl, inr, Bool, true, false, ◌||◌, List, [], ◌∷◌, length, refl, sym, ap, ◌∙◌, subst, arith, leb}
-use Rattle.std.specs.Prelude.{not, map, filter}
+use Rattle.std.proofs.Common.{◌≡◌, suc, ◌+◌, ◌≤◌, ◌<◌, ◌⊎◌, inl, inr, Bool, true, false, ◌||◌, List, [], ◌∷◌, refl, ◌∙◌, arith, leb}
+use Rattle.std.specs.Prelude.{not}
 use Rattle.std.specs.List.{IsDistinct, AllByRecursion}
 use Rattle.std.specs.List.Sorted.{IsPermutation, IsNonDecreasingBy}
-use Rattle.std.proofs.lemmas.Bool.{leb-true}
-use Rattle.std.proofs.lemmas.Bool.Decides.{nat_tests}
+use Rattle.std.proofs.lemmas.Bool.{leb-true, le-leb}
 use Rattle.std.proofs.lemmas.List.Sorted.{IsPermutation-sym}
 use Rattle.std.proofs.lemmas.Map.Keys.{IsDistinct-IsPermutation}
-use Rattle.model_registers.specs.Lists.{Each, EachPair}
-use Rattle.model_registers.proofs.EachLemmas.{each-all, each_permutation}
-use Rattle.model_board.specs.Members.{IsIn}
-use Rattle.model_board.proofs.Members.{each_in, each_from}
+use Rattle.lists.specs.Elements.{Each, EachPair, IsIn}
+use Rattle.lists.proofs.EachLemmas.{each-all, each_permutation}
+use Rattle.lists.proofs.Members.{each_in, each_from}
 use Rattle.claim_table.specs.declared.entry.Entry.{Entry}
 use Rattle.claim_table.specs.Entries.{AreApart}
 
@@ -36,12 +34,9 @@ turned d e = or_turned (leb (d.first + d.size) e.first) (leb (e.first + e.size) 
 abbrev pub Disjoint : Entry → Entry → Type 0
 Disjoint d e = (d.first + d.size ≤ e.first) ⊎ (e.first + e.size ≤ d.first)
 
-le_test : (x y : ℕ) → x ≤ y → leb x y ≡ true
-le_test x y k = grind (arith, nat_tests)
-
 meet_none : (d e : Entry) → Disjoint d e → meet d e ≡ false
-meet_none d e (inl h) = let t : leb (d.first + d.size) e.first ≡ true = le_test (d.first + d.size) e.first h in rw t refl
-meet_none d e (inr h) = let t : leb (e.first + e.size) d.first ≡ true = le_test (e.first + e.size) d.first h in turned d e ∙ rw t refl
+meet_none d e (inl h) = let t : leb (d.first + d.size) e.first ≡ true = le-leb (d.first + d.size) e.first h in rw t refl
+meet_none d e (inr h) = let t : leb (e.first + e.size) d.first ≡ true = le-leb (e.first + e.size) d.first h in turned d e ∙ rw t refl
 
 -- one of the two tests holds
 either : (s t : Bool) → not (s || t) ≡ false → (s ≡ true) ⊎ (t ≡ true)

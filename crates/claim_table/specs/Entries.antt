@@ -4,12 +4,12 @@
 --     AreApart es      by address, each region ends before the next begins
 --     by_space      the list of a space
 --     table_entry, table_of      entries with their space and the paths of their functions
-use Rattle.std.specs.Prelude.{List, [], ◌∷◌, ◌++◌, ◌≡◌, ℕ, ◌+◌, ◌<◌, ◌≤◌, Bool, ◌&&◌, nat_le, nat_lt, map, filter, length, unwrap_or, slice_get}
-use Rattle.model_registers.specs.Lists.{Each, EachPair}
+use Rattle.std.specs.Prelude.{List, [], ◌∷◌, ◌++◌, ℕ, ◌+◌, ◌<◌, ◌≤◌, Bool, ◌&&◌, nat_le, nat_lt, map, filter, length, unwrap_or, slice_get}
+use Rattle.lists.specs.Elements.{Each, EachPair}
 use Rattle.model_registers.specs.Decoding.{Space, io, memory, space_of, same_space}
 use Rattle.model_registers.specs.EndpointTable.{BaseAddress}
 use Rattle.model_board.specs.Paths.{Path}
-use Rattle.model_board.specs.SetUpWrites.{Writes, to_endpoint, to_bridge, Setting}
+use Rattle.model_set_up.specs.SetUpWrites.{Writes, to_endpoint, to_bridge, Setting}
 use Rattle.claim_table.specs.declared.entry.Entry.{Entry}
 use Rattle.claim_table.specs.Tables.{TableEntry}
 

@@ -1,9 +1,8 @@
 -- A table fits by the routing registers alone.
-use Rattle.std.proofs.Common.{◌≡◌, ℕ, zero, suc, ◌<◌, List, [], ◌∷◌, length, Option, Some, None, refl, sym, ap, ◌∙◌, subst, arith}
+use Rattle.std.proofs.Common.{◌≡◌, ℕ, zero, suc, List, [], ◌∷◌, refl, sym, ap, ◌∙◌}
 use Rattle.std.specs.Prelude.{map, slice_get}
 use Rattle.std.specs.Option.{option_map}
-use Rattle.model_registers.specs.Lists.{Each}
-use Rattle.model_registers.proofs.EachLemmas.{each_map}
+use Rattle.lists.proofs.EachLemmas.{each_map}
 use Rattle.model_board.specs.Paths.{Path}
 use Rattle.model_board.specs.State.{BoardFunction}
 use Rattle.model_board.specs.Routing.{RoutingRow, routing}

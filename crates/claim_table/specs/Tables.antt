@@ -5,11 +5,11 @@
 --     FitsTable t h      the table has the claims of a host, and its indices are those of the host's functions
 use Rattle.std.specs.Prelude.{List, ◌≡◌, ℕ, Option, Some, map, slice_get}
 use Rattle.std.specs.Option.{option_map}
-use Rattle.model_registers.specs.Lists.{Each, first_some}
+use Rattle.lists.specs.Elements.{Each, first_some}
 use Rattle.model_registers.specs.Decoding.{Space}
 use Rattle.model_board.specs.State.{BoardFunction}
 use Rattle.model_board.specs.Claims.{Claim, first_claim}
-use Rattle.model_board.specs.PlacedRegions.{PlacedRegion, claim_in}
+use Rattle.model_set_up.specs.PlacedRegions.{PlacedRegion, claim_in}
 use Rattle.host_bridge.specs.HostState.{HostState}
 
 pub record TableEntry : Type 0 where

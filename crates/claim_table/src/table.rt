@@ -1,6 +1,6 @@
 //! The table.
 ghost use Rattle.std.specs.Prelude.{◌≡◌, IfOk, map};
-ghost use Rattle.model_board.specs.FunctionTable.{TableRow};
+ghost use Rattle.model_set_up.specs.FunctionTable.{TableRow};
 
 use crate::entry::Entry;
 use crate::gather::by_address;

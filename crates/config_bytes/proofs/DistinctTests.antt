@@ -2,9 +2,9 @@
 use Rattle.std.proofs.Common.{◌≡◌, ◌≢◌, ℕ, true, not, ◌&&◌, eqb, List, [], ◌∷◌, refl, sym, ap, ap₂, ◌∙◌}
 use Rattle.std.specs.List.{list_all}
 use Rattle.std.proofs.lemmas.Bool.{ne_eqb, eq-eqb}
-use Rattle.model_registers.specs.Lists.{Each, all_pairs}
+use Rattle.lists.specs.Elements.{Each, all_pairs}
 use Rattle.model_registers.specs.Cell.{Cell}
-use Rattle.model_registers.proofs.Tests.{left_true, right_true}
+use Rattle.lists.proofs.Tests.{left_true, right_true}
 use Rattle.config_bytes.specs.CellFile.{HasDistinctOffsets, differ}
 
 differ-true : (m n : ℕ) → not (eqb m n) ≡ true → m ≢ n

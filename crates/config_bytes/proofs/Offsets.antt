@@ -1,6 +1,6 @@
 -- Lists of offsets with cells: that no two stand at one offset, and the files that they are.
 use Rattle.std.proofs.Common.{◌≢◌, ℕ, ◌+◌, ◌<◌, ◌≤◌, List, [], ◌∷◌, ◌++◌, length, refl, ap, arith}
-use Rattle.model_registers.specs.Lists.{Each}
+use Rattle.lists.specs.Elements.{Each}
 use Rattle.model_registers.specs.Cell.{Cell}
 use Rattle.model_registers.specs.Registers.{config, File}
 use Rattle.config_bytes.specs.CellFile.{HasDistinctOffsets, offsets_from}

@@ -3,7 +3,7 @@ use Rattle.std.proofs.Common.{◌≡◌, ℕ, ◌<◌, ◌++◌, Bool, true, fal
 use Rattle.std.proofs.Math.ListN.{set}
 use Rattle.std.proofs.lemmas.Bool.{eqb-true, eqb-false}
 use Rattle.std.proofs.lemmas.List.{length-set, get_or-set_same, get_or-set_other, take_at}
-use Rattle.model_registers.specs.Lists.{Each}
+use Rattle.lists.specs.Elements.{Each}
 use Rattle.model_registers.specs.Cell.{Cell, no_cell}
 use Rattle.model_registers.specs.Registers.{config, Entry, File, cell_at}
 use Rattle.config_bytes.specs.CellFile.{is_between, reset_outside, file_of, file_from, table_at, placed, placed_outside, IsTable}

@@ -1,10 +1,10 @@
 -- Tables of cells by offset, and the files that they show.
-use Rattle.std.proofs.Common.{◌≡◌, ◌≢◌, ℕ, zero, suc, ◌<◌, ◌≤◌, Bool, true, false, cond, eqb, List, [], ◌∷◌, length, take, drop, replicate, get_or, ◌++◌, refl, sym, ap, ap₂, ◌∙◌, subst, arith, rules}
+use Rattle.std.proofs.Common.{◌≡◌, ◌≢◌, ℕ, zero, suc, ◌<◌, ◌≤◌, Bool, true, false, cond, eqb, List, [], ◌∷◌, length, take, drop, replicate, get_or, ◌++◌, refl, sym, ap, ap₂, ◌∙◌, subst, arith}
 use Rattle.std.proofs.Math.ListN.{set}
 use Rattle.std.proofs.lemmas.Bool.{eqb-true, eqb-false, eq-eqb, ne_eqb}
 use Rattle.std.proofs.lemmas.List.{length-set, get_or-set_same, get_or-set_other, get_or_past, get_or_default, take_at}
-use Rattle.model_registers.specs.Lists.{Each}
-use Rattle.model_registers.specs.Cell.{Cell, no_cell, written, raised}
+use Rattle.lists.specs.Elements.{Each}
+use Rattle.model_registers.specs.Cell.{Cell, no_cell}
 use Rattle.model_registers.specs.Registers.{Place, config, Entry, File, cell_at, changed}
 use Rattle.model_registers.specs.FileLaws.{IsConfigFile}
 use Rattle.config_bytes.specs.OffsetLaws.{FileOfConfig}
@@ -152,22 +152,11 @@ IsTable-placed cs table d room gaps = record {
 
 -- ---- loops
 
-pub each_at : (P : ℕ × Cell → Type 0) (cs : List (ℕ × Cell)) (i : ℕ) (d : ℕ × Cell) → i < length cs → Each P cs → P (get_or cs i d)
-each_at P [] i d h all = absurd (omega arith)
-each_at P (c ∷ cs) zero d h all = all.0
-each_at P (c ∷ cs) (suc i) d h all = each_at P cs i d (omega arith) all.1
-
 pub each_from : (P : ℕ × Cell → Type 0) (cs : List (ℕ × Cell)) → ((i : ℕ) (d : ℕ × Cell) → i < length cs → P (get_or cs i d)) → Each P cs
 each_from P [] h = tt
 each_from P (c ∷ cs) h = (h 0 c (omega arith), each_from P cs (λ i d within. h (suc i) d (omega arith)))
 
 -- ---- what the calls of `Cells` leave
-
-pub raised-no_cell : (m : ℕ) → raised m no_cell ≡ no_cell
-raised-no_cell m = search rules
-
-pub written-no_cell : (b : ℕ) → written b no_cell ≡ no_cell
-written-no_cell b = search rules
 
 -- the cell x, which is f of the one read at an index, is put back there
 pub put_changes : (f : Cell → Cell) (table : List Cell) (n at off : ℕ) (x old : Cell) → n ≡ length table → at ≡ off → at < n → old ≡ get_or table at old → x ≡ f old

@@ -27,7 +27,7 @@ use Rattle.std.specs.Prelude.{
   slice_set,
   slice_index_or,
 }
-use Rattle.model_registers.specs.Lists.{Each, EachPair}
+use Rattle.lists.specs.Elements.{Each, EachPair}
 use Rattle.model_registers.specs.Cell.{Cell, no_cell}
 use Rattle.model_registers.specs.Registers.{Place, config, block, Entry, File, cell_at}
 pub use Rattle.model_registers.specs.CopiedFiles.{places_of}

@@ -1,7 +1,7 @@
 -- Laws for who makes a list of offsets with cells: its file, and that no two cells stand at one offset.
 --     IsWithin first end cs      each offset is in a range, its end excluded
 use Rattle.std.specs.Prelude.{◌≡◌, ◌≢◌, ◌≤◌, ◌<◌, ℕ, ◌+◌, List, [], ◌∷◌, ◌++◌, length}
-use Rattle.model_registers.specs.Lists.{Each}
+use Rattle.lists.specs.Elements.{Each}
 use Rattle.model_registers.specs.Cell.{Cell}
 use Rattle.model_registers.specs.Registers.{config, cells_from}
 use Rattle.model_registers.specs.FileLaws.{IsConfigFile}

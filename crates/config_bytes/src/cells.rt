@@ -2,7 +2,7 @@
 ghost use Rattle.std.specs.Prelude.{◌≡◌, ◌==◌, ◌<◌, ◌%◌, ◌^◌, ◌↔◌, All, IfOk, IsTrue, not, length, if◌then◌else◌};
 ghost use Rattle.std.specs.List.{list_all};
 ghost use Rattle.model_registers.specs.Cell.{written};
-ghost use Rattle.model_registers.specs.Lists.{Each, all_pairs};
+ghost use Rattle.lists.specs.Elements.{Each, all_pairs};
 ghost use Rattle.model_registers.specs.Registers.{config, changed, read, write, raise, cell_at};
 ghost use Rattle.model_registers.specs.ByteEnables.{enabled_bytes, is_enabled, lanes};
 ghost use Rattle.model_registers.specs.FileLaws.{IsConfigFile};

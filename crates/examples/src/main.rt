@@ -1,9 +1,13 @@
 //! The boards of `data`, each with its report, or with the reason why it is refused; scripts, with what
-//! they write over a board; and what a check says of boards.
+//! they write over a board; firmware's lines over a board at reset; what a check says of boards; and guests'
+//! accesses to their regions, compared with accesses to the places where set-up put these.
 #![tactic(auto)]
 
+mod landings;
+
+use crate::landings::compare_landings;
 use fake_streams::FakeReader;
-use simulation::{Fault, OutputStream, board_bytes, check, list, whole};
+use simulation::{Fault, OutputStream, board_bytes, check, drive, list, whole};
 use std::alloc::Global;
 use std::io;
 use std::process::ExitCode;
@@ -86,7 +90,7 @@ const CHECKS: [&str; 23] = [
 fn show(rt: &(impl AllocGlobal + Files + Print), name: &str) -> Result<(), Fault> {
     let alloc = rt.alloc();
     let board = board_bytes(rt, alloc, name)?;
-    let mut writer = OutputStream::new(alloc, io::writer(rt))?;
+    let mut writer = OutputStream::buffered(alloc, io::writer(rt))?;
     list(alloc, &board, &mut writer)
 }
 
@@ -96,15 +100,25 @@ fn run(rt: &(impl AllocGlobal + Files + Print), board: &str, script: &str) -> Re
     let board = board_bytes(rt, alloc, board)?;
     let script = board_bytes(rt, alloc, script)?;
     let mut reader = FakeReader::new(script.as_slice(), 64, None);
-    let mut writer = OutputStream::new(alloc, io::writer(rt))?;
+    let mut writer = OutputStream::buffered(alloc, io::writer(rt))?;
     whole(alloc, &board, &mut reader, &mut writer)
+}
+
+/// Writes what firmware's lines write over a board at reset.
+fn ask(rt: &(impl AllocGlobal + Files + Print), board: &str, script: &str) -> Result<(), Fault> {
+    let alloc = rt.alloc();
+    let board = board_bytes(rt, alloc, board)?;
+    let script = board_bytes(rt, alloc, script)?;
+    let mut reader = FakeReader::new(script.as_slice(), 64, None);
+    let mut writer = OutputStream::buffered(alloc, io::writer(rt))?;
+    drive(alloc, &board, &mut reader, &mut writer)
 }
 
 /// Writes what is wrong with a board file.
 fn look(rt: &(impl AllocGlobal + Files + Print), name: &str) -> Result<(), Fault> {
     let alloc = rt.alloc();
     let board = board_bytes(rt, alloc, name)?;
-    let mut writer = OutputStream::new(alloc, io::writer(rt))?;
+    let mut writer = OutputStream::buffered(alloc, io::writer(rt))?;
     check(alloc, name, &board, &mut writer)
 }
 
@@ -118,13 +132,14 @@ fn tell(rt: &impl Print, outcome: Result<(), Fault>) -> io::Result<()> {
     Ok(())
 }
 
-/// Writes the name of a script, and under it what it writes.
+/// Writes the name of a script, and under it what it writes; of firmware's script too.
 fn run_all(rt: &(impl AllocGlobal + Files + Print)) -> io::Result<()> {
     for (board, script) in RUNS {
         println!(rt; "== {script} over {board}")?;
         tell(rt, run(rt, board, script))?;
     }
-    Ok(())
+    println!(rt; "== firmware.script over main.toml at reset")?;
+    tell(rt, ask(rt, "main.toml", "firmware.script"))
 }
 
 /// Writes the name of a board file, and under it its report or its fault.
@@ -145,10 +160,42 @@ fn look_at_all(rt: &(impl AllocGlobal + Files + Print)) -> io::Result<()> {
     Ok(())
 }
 
+/// Writes how many regions the guests of a board have, and how many accesses to them differed from those
+/// to their places. Of a board that is refused it writes nothing.
+fn land(rt: &(impl AllocGlobal + Files + Print), name: &str) -> io::Result<()> {
+    let alloc = rt.alloc();
+    let Ok(board) = board_bytes(rt, alloc, name) else {
+        return Ok(());
+    };
+    let Ok(tally) = compare_landings(alloc, &board) else {
+        return Ok(());
+    };
+    let regions = tally.regions;
+    let accesses = tally.accesses;
+    let different = tally.different;
+    println!(rt; "{name}: {regions} regions, {accesses} accesses, {different} different")
+}
+
+/// Writes that of each board, under a line that says so.
+fn land_on_all(rt: &(impl AllocGlobal + Files + Print)) -> io::Result<()> {
+    println!(rt; "== regions of guests, through the monitor and at their places")?;
+    for name in BOARDS {
+        land(rt, name)?;
+    }
+    Ok(())
+}
+
+/// Writes all of this.
+fn write_all(rt: &(impl AllocGlobal + Files + Print)) -> io::Result<()> {
+    show_all(rt)?;
+    run_all(rt)?;
+    look_at_all(rt)?;
+    land_on_all(rt)
+}
+
 fn main(rt: HostRuntime) -> ExitCode {
-    if show_all(&rt).is_ok() && run_all(&rt).is_ok() && look_at_all(&rt).is_ok() {
-        ExitCode::SUCCESS
-    } else {
-        ExitCode::FAILURE
+    match write_all(&rt) {
+        Ok(()) => ExitCode::SUCCESS,
+        Err(_) => ExitCode::FAILURE,
     }
 }

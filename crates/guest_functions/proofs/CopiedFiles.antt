@@ -1,21 +1,14 @@
 -- A file with a guest's own copies put in: what it reads, and how it changes.
-use Rattle.std.proofs.Common.{◌≡◌, ℕ, ◌+◌, ◌*◌, ◌/◌, ◌%◌, Bool, true, false, not, ◌&&◌, cond, [], ◌∷◌, refl, sym, ap, ap₂, ◌∙◌, arith}
+use Rattle.std.proofs.Common.{◌≡◌, ℕ, ◌+◌, ◌*◌, ◌/◌, ◌%◌, Bool, true, false, not, ◌&&◌, cond, [], ◌∷◌, refl, sym, ap, ap₂, ◌∙◌}
 use Rattle.std.specs.Prelude.{bit_or}
-use Rattle.std.proofs.lemmas.Bool.Decides.{nat_tests}
 use Rattle.std.specs.Int.Bits.{or_zero_r, and_zero_r}
+use Rattle.model_registers.proofs.Files.{same_place}
 use Rattle.model_registers.specs.Cell.{Cell, no_cell, written}
-use Rattle.model_registers.specs.Registers.{Place, config, block, place_eq, after, Entry, File, cell_at, changed, write}
+use Rattle.model_registers.specs.Registers.{Place, block, place_eq, after, Entry, File, cell_at, changed, write}
 use Rattle.model_registers.specs.OwnCopies.{is_own, handed_on}
-use Rattle.model_registers.proofs.RegisterFiles.{place_same, change_at_place}
+use Rattle.model_registers.proofs.RegisterFiles.{place_same, change_at_place, place_turned}
 use Rattle.model_registers.specs.CopiedFiles.{copied, with_copies}
 use Rattle.guest_functions.specs.CopyLaws.{OtherCell, HandedRead, BlockRead, CopiedWrite, BlockWrite, SameCopies, CopiesHeld}
-
--- the tests of places on both sides
-turned : (p q : Place) → place_eq p q ≡ place_eq q p
-turned (config a) (config b) = grind (arith, nat_tests)
-turned (block n a) (block m b) = grind (arith, nat_tests)
-turned (config a) (block m b) = refl
-turned (block n a) (config b) = refl
 
 pub apart : (p q : Place) → is_own p ≡ true → is_own q ≡ false → place_eq p q ≡ false
 apart p q own other = cases (place_eq p q) refl where
@@ -24,10 +17,6 @@ apart p q own other = cases (place_eq p q) refl where
   cases true e = let same = ap is_own (place_same p q e) in cc
 
 -- ---- one entry
-
-same_place : (t : Bool) (e : Entry) (c : Cell) → (cond t (record e { cell = c }) e).place ≡ e.place
-same_place true e c = refl
-same_place false e c = refl
 
 entry_place : (own : File) (e : Entry) → (copied own e).place ≡ e.place
 entry_place own e = same_place (is_own e.place) e (cell_at own e.place)
@@ -41,7 +30,7 @@ KeepsNoCell f = f no_cell ≡ no_cell
 -- a cell of the copies after a change of them
 after_change : (f : Cell → Cell) → KeepsNoCell f → (p : Place) (own : File) (e : Entry) (t : Bool) → place_eq e.place p ≡ t
     → cell_at (changed f p own) e.place ≡ cond t (f (cell_at own e.place)) (cell_at own e.place)
-after_change f still p own e t is = change_at_place f still own p e.place ∙ ap (λ (u : Bool). cond u (f (cell_at own e.place)) (cell_at own e.place)) (turned p e.place ∙ is)
+after_change f still p own e t is = change_at_place f still own p e.place ∙ ap (λ (u : Bool). cond u (f (cell_at own e.place)) (cell_at own e.place)) (place_turned p e.place ∙ is)
 
 -- at a place of the copies the copy is changed
 own_entry : (f : Cell → Cell) → KeepsNoCell f → (p : Place) (own : File) → is_own p ≡ true → (e : Entry) → changed_entry f p (copied own e) ≡ copied (changed f p own) e
@@ -49,7 +38,7 @@ own_entry f still p own mine e = cases (is_own e.place) refl (place_eq e.place p
   cases : (o : Bool) → is_own e.place ≡ o → (t : Bool) → place_eq e.place p ≡ t → changed_entry f p (copied own e) ≡ copied (changed f p own) e
   cases true i true k = rw (i, k, after_change f still p own e true k) refl
   cases true i false k = rw (i, k, after_change f still p own e false k) refl
-  cases false i true k = let other = apart p e.place mine i in let same = turned p e.place in cc
+  cases false i true k = let other = apart p e.place mine i in let same = place_turned p e.place in cc
   cases false i false k = rw (i, k) refl
 
 pub own_change : (f : Cell → Cell) → KeepsNoCell f → (p : Place) (own file : File) → is_own p ≡ true → changed f p (with_copies own file) ≡ with_copies (changed f p own) file
@@ -80,7 +69,7 @@ same_copies own given same (e ∷ es) = ap₂ (λ (x : Entry) (xs : File). x ∷
 unseen_change : (f : Cell → Cell) → KeepsNoCell f → (p : Place) (own file : File) → is_own p ≡ false → with_copies (changed f p own) file ≡ with_copies own file
 unseen_change f still p own file other = same_copies own (changed f p own) same file where
   same : (q : Place) → is_own q ≡ true → cell_at (changed f p own) q ≡ cell_at own q
-  same q mine = change_at_place f still own p q ∙ ap (λ (t : Bool). cond t (f (cell_at own q)) (cell_at own q)) (turned p q ∙ apart q p mine other)
+  same q mine = change_at_place f still own p q ∙ ap (λ (t : Bool). cond t (f (cell_at own q)) (cell_at own q)) (place_turned p q ∙ apart q p mine other)
 
 pub hidden_change : (f : Cell → Cell) (p : Place) (own file : File) → is_own p ≡ true → with_copies own (changed f p file) ≡ with_copies own file
 hidden_change f p own [] mine = refl
@@ -88,7 +77,7 @@ hidden_change f p own (e ∷ es) mine = ap₂ (λ (x : Entry) (xs : File). x ∷
   here : (o : Bool) → is_own e.place ≡ o → (t : Bool) → place_eq e.place p ≡ t → copied own (changed_entry f p e) ≡ copied own e
   here true i true k = rw (k, i) refl
   here o i false k = rw k refl
-  here false i true k = let other = apart p e.place mine i in let same = turned p e.place in cc
+  here false i true k = let other = apart p e.place mine i in let same = place_turned p e.place in cc
 
 -- ---- writes
 

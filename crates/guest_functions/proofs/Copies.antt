@@ -2,7 +2,7 @@
 use Rattle.std.proofs.Common.{◌≡◌, ℕ, ◌+◌, ◌-◌, ◌*◌, ◌/◌, ◌^◌, ◌<◌, ◌≤◌, ◌⊎◌, inl, inr, Bool, true, false, List, [], ◌∷◌, ◌++◌, length, map, sym, subst, ap, ap₂, ◌∙◌, arith, lit<, lit≤, zero-add}
 use Rattle.std.specs.Prelude.{bit_and, bit_or}
 use Rattle.std.proofs.lemmas.Nat.{and_block, and_le_l, and_le_r, or_lt}
-use Rattle.model_registers.specs.Lists.{Each}
+use Rattle.lists.specs.Elements.{Each}
 use Rattle.model_registers.specs.Registers.{config, File, read, write}
 use Rattle.model_registers.specs.ByteEnables.{is_enabled, lanes, enabled_bits}
 use Rattle.model_registers.specs.RegisterLaws.{merged}

@@ -1,26 +1,24 @@
 -- What a guest's own copies hold: bytes, of which none rises. A file goes on holding them.
-use Rattle.std.proofs.Common.{◌≡◌, ℕ, zero, suc, ◌+◌, ◌-◌, ◌*◌, ◌/◌, ◌%◌, ◌^◌, ◌≤◌, ◌<◌, Bool, true, false, not, ◌&&◌, cond, List, [], ◌∷◌, ◌++◌, map, length, refl, sym, ap, ap₂, subst, ◌∙◌, arith}
+use Rattle.std.proofs.Common.{◌≡◌, ℕ, zero, suc, ◌+◌, ◌-◌, ◌*◌, ◌/◌, ◌%◌, ◌^◌, ◌<◌, Bool, true, false, not, ◌&&◌, cond, List, [], ◌∷◌, length, refl, sym, ap, ap₂, subst, ◌∙◌, arith}
 use Rattle.std.specs.Prelude.{bit_and, bit_or}
 use Rattle.std.proofs.Math.Nat.{pow-suc}
 use Rattle.std.specs.Int.Bits.{or_zero_r, and_zero_r}
-use Rattle.model_registers.specs.Lists.{Each, EachPair}
-use Rattle.model_registers.specs.Cell.{Cell, no_cell, raised}
+use Rattle.lists.specs.Elements.{Each}
+use Rattle.lists.proofs.EachLemmas.{each_append}
+use Rattle.model_registers.proofs.BareRegions.{bare_lawful}
+use Rattle.model_registers.specs.Cell.{Cell, raised}
 use Rattle.model_registers.specs.Registers.{Place, config, block, place_eq, after, Entry, File, cell_at, read, write, raise, field}
 use Rattle.model_registers.specs.ByteEnables.{enabled_bytes}
 use Rattle.model_registers.specs.FileLaws.{IsConfig, IsConfigFile}
-use Rattle.model_registers.specs.Declarations.{Region, registers_of, IsLawfulRegion, HasLawfulRegions}
+use Rattle.model_registers.specs.Declarations.{registers_of, HasLawfulRegions}
 use Rattle.model_registers.specs.EndpointTable.{BaseAddress, base_file, command_cells, base_width, type_bits}
-use Rattle.model_registers.specs.OwnCopies.{is_own, OwnCopies, own_file, handed_on, bare}
+use Rattle.model_registers.specs.OwnCopies.{is_own, OwnCopies, own_file, handed_on}
 use Rattle.model_registers.proofs.Files.{write_none, config_has_no_block}
 use Rattle.model_registers.proofs.RegisterFiles.{change_at_place}
-use Rattle.model_registers.proofs.Owned.{none_else, own_writes}
+use Rattle.model_registers.proofs.Owned.{none_else, own_writes, raised_none}
 use Rattle.model_registers.specs.CopiedFiles.{with_copies}
 use Rattle.guest_functions.specs.CopyLaws.{CopiedRaise, HiddenRaise, CopiesStay, RaisedHeld, WrittenHeld, BlockWrittenHeld, LawfulCopies, SumOfBytes, EnabledBytesFit}
 use Rattle.guest_functions.proofs.CopiedFiles.{own_change, other_change, hidden_change}
-
-each_append : (P : Entry → Type 0) (xs ys : File) → Each P xs → Each P ys → Each P (xs ++ ys)
-each_append P [] ys p q = q
-each_append P (e ∷ es) ys p q = (p.0, each_append P es ys p.1 q)
 
 -- ---- what the copies are
 
@@ -57,9 +55,6 @@ not_raised : (m : ℕ) (c : Cell) → c.clearable ≡ 0 → raised m c ≡ c
 not_raised m c low =
     ap (λ n. record c { value = n }) (ap (λ n. bit_or c.value (bit_and m n)) low ∙ ap (bit_or c.value) (and_zero_r m) ∙ or_zero_r c.value)
 
-pub raised-no_cell : (m : ℕ) → raised m no_cell ≡ no_cell
-raised-no_cell m = not_raised m no_cell refl
-
 same_entry : (t : Bool) (m : ℕ) (e : Entry) → IsLowByte e → cond t (record e { cell = raised m e.cell }) e ≡ e
 same_entry true m e low = ap (λ (c : Cell). record e { cell = c }) (not_raised m e.cell low.low)
 same_entry false m e low = refl
@@ -72,24 +67,6 @@ pub copies_stay : CopiesStay
 copies_stay own m p = low_stays m p (own_file own) (low_own own)
 
 -- ---- copies of a lawful declaration
-
-bare_each : (rs : List Region) → Each IsLawfulRegion rs → Each IsLawfulRegion (map bare rs)
-bare_each [] all = tt
-bare_each (r ∷ rs) all = (record { registers = all.0.registers; size_is_lawful = all.0.size_is_lawful; block_fits = omega arith }, bare_each rs all.1)
-
-abbrev Follows : Region → Region → Type 0
-Follows r s = r.index + registers_of r.kind ≤ s.index
-
-bare_after : (r : Region) (rs : List Region) → Each (Follows r) rs → Each (Follows (bare r)) (map bare rs)
-bare_after r [] all = tt
-bare_after r (s ∷ ss) all = (all.0, bare_after r ss all.1)
-
-bare_order : (rs : List Region) → EachPair Follows rs → EachPair Follows (map bare rs)
-bare_order [] pairs = tt
-bare_order (r ∷ rs) pairs = (bare_after r rs pairs.0, bare_order rs pairs.1)
-
-bare_lawful : (rs : List Region) → HasLawfulRegions rs → HasLawfulRegions (map bare rs)
-bare_lawful rs lawful = record { each = bare_each rs lawful.each; in_order = bare_order rs lawful.in_order }
 
 pub lawful_copies : LawfulCopies
 lawful_copies own rs lawful same = subst HasLawfulRegions same (bare_lawful rs lawful)
@@ -140,7 +117,7 @@ enabled_bytes-fits (on ∷ ons) n = here on (enabled_bytes-fits ons (n / 256)) w
 -- a raise anywhere changes no cell of the copies
 pub raised_held : RaisedHeld
 raised_held own file holds m q p mine =
-    change_at_place (raised m) (raised-no_cell m) file q p ∙ here (place_eq q p) ∙ held where
+    change_at_place (raised m) (raised_none m) file q p ∙ here (place_eq q p) ∙ held where
       held : cell_at file p ≡ cell_at (own_file own) p
       held = holds p mine
 
@@ -178,7 +155,7 @@ block_written_held own file holds ons v n a =
 
 pub hidden_raise : HiddenRaise
 hidden_raise own m p file mine =
-    own_change (raised m) (raised-no_cell m) p (own_file own) file mine ∙ ap (λ (f : File). with_copies f file) (copies_stay own m p)
+    own_change (raised m) (raised_none m) p (own_file own) file mine ∙ ap (λ (f : File). with_copies f file) (copies_stay own m p)
 
 pub copied_raise : CopiedRaise
 copied_raise own m p file = here (is_own p) refl where

@@ -6,10 +6,6 @@ use Rattle.model_registers.specs.OwnCopies.{bare}
 use Rattle.bars.specs.Resets.{with_no_base}
 
 -- they open what they opened
-pub opened_with_no_base : (bs : List BaseAddress) → map opened (map with_no_base bs) ≡ map opened bs
-opened_with_no_base [] = refl
-opened_with_no_base (b ∷ bs) = ap (λ (rs : List Region). opened b ∷ rs) (opened_with_no_base bs)
-
 closed_opened : (bs : List BaseAddress) → map closed (map opened bs) ≡ map with_no_base bs
 closed_opened [] = refl
 closed_opened (b ∷ bs) = ap (λ (cs : List BaseAddress). with_no_base b ∷ cs) (closed_opened bs)

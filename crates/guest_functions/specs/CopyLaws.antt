@@ -1,7 +1,7 @@
 -- Laws of a file with a guest's own copies put in (PCI Local Bus 3.0, chapter 6.1): what it reads, how it changes, and
 -- that it goes on holding the copies.
 use Rattle.std.specs.Prelude.{◌≡◌, ◌<◌, ◌^◌, ◌+◌, ℕ, Bool, true, false, List, length, map}
-use Rattle.model_registers.specs.Lists.{Each}
+use Rattle.lists.specs.Elements.{Each}
 use Rattle.model_registers.specs.Registers.{Place, block, Entry, File, cell_at, read, write, raise}
 use Rattle.model_registers.specs.ByteEnables.{enabled_bytes}
 use Rattle.model_registers.specs.Declarations.{Region, HasLawfulRegions}

@@ -1,6 +1,6 @@
 //! A guest's own copies of Command, header type and base address registers.
 ghost use Rattle.std.specs.Prelude.{◌≡◌, ◌≤◌, ◌<◌, ◌+◌, ◌%◌, false, if◌then◌else◌, map, bit_and};
-ghost use Rattle.model_registers.specs.Lists.{Each};
+ghost use Rattle.lists.specs.Elements.{Each};
 ghost use Rattle.model_registers.specs.Registers.{Place, config, File, cell_at, read, write};
 ghost use Rattle.model_registers.specs.ByteEnables.{lanes, enabled_bits};
 ghost use Rattle.model_registers.specs.RegisterLaws.{merged};

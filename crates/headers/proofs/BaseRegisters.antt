@@ -1,15 +1,11 @@
 -- Declared base address registers, put at their indices.
 use Rattle.std.proofs.Common.{◌≡◌, ℕ, zero, suc, ◌+◌, ◌≤◌, ◌<◌, List, [], ◌∷◌, ◌++◌, Option, Some, None, length, map, get_or, set, take, drop, refl, sym, ap, ap₂, subst, ◌∙◌, arith, add-one, drop-cons}
 use Rattle.std.proofs.lemmas.List.{get_or-set_other, take_more, map-append}
-use Rattle.model_registers.specs.Lists.{Each, EachPair}
-use Rattle.model_registers.specs.Declarations.{Bar, Kind, io_kind, mem32, mem64, Region, registers_of, IsLawfulRegion, HasLawfulRegions}
+use Rattle.lists.specs.Elements.{Each, EachPair}
+use Rattle.model_registers.proofs.Bases.{registers_positive}
+use Rattle.model_registers.specs.Declarations.{Bar, Region, registers_of, IsLawfulRegion, HasLawfulRegions}
 use Rattle.model_registers.specs.EndpointTable.{BaseAddress, opened, closed}
 use Rattle.bars.specs.Resets.{reset_from, at_reset}
-
-pub some_registers : (kind : Kind) → 0 < registers_of kind
-some_registers io_kind = omega arith
-some_registers (mem32 pref) = omega arith
-some_registers (mem64 pref) = omega arith
 
 pub each_at : (P : Region → Type 0) (rs : List Region) (n : ℕ) (d : Region) → Each P rs → n < length rs → P (get_or rs n d)
 each_at P [] n d all h = absurd (omega arith)
@@ -53,7 +49,7 @@ later (q ∷ qs) (suc i) r pairs h is = later qs i r pairs.1 (omega arith) is
 still_free : (bars : List (Option Bar)) (k : ℕ) (r : Region) (o : Option Bar) (rs : List Region) → k ≡ r.index → Each (Follows r) rs → Each (λ s. IsFree bars s.index) rs → Each (λ s. IsFree (set bars k o) s.index) rs
 still_free bars k r o [] at follows free = tt
 still_free bars k r o (s ∷ ss) at follows free =
-    ((λ i h. get_or-set_other bars k i o None (λ e. absurd (omega (arith, follows.0, some_registers r.kind))) ∙ free.0 i h), still_free bars k r o ss at follows.1 free.1)
+    ((λ i h. get_or-set_other bars k i o None (λ e. absurd (omega (arith, follows.0, registers_positive r.kind))) ∙ free.0 i h), still_free bars k r o ss at follows.1 free.1)
 
 pub record HasRegisters (bars : List (Option Bar)) (rs : List Region) (i : ℕ) : Type 0 where
   pub made : at_reset bars ≡ map closed (take i rs)

@@ -3,14 +3,14 @@ use Rattle.std.proofs.Common.{◌≡◌, ◌≢◌, ℕ, suc, ◌+◌, ◌<◌, 
 use Rattle.std.specs.Prelude.{IsTrue, ◌⊎◌, flat_map, not}
 use Rattle.std.proofs.lemmas.Bool.{ltb-true}
 use Rattle.std.proofs.lemmas.Bool.Decides.{nat_tests}
-use Rattle.model_registers.specs.Lists.{Each, EachPair, all_pairs}
+use Rattle.lists.specs.Elements.{Each, EachPair, all_pairs}
 use Rattle.model_registers.specs.Cell.{Cell}
 use Rattle.model_registers.specs.Registers.{config, offset_of, Entry, File, cells_from}
 use Rattle.model_registers.specs.Declarations.{ConfigBlock, Endpoint, IoDecode, no_io, io16, io32, PrefDecode, no_pref, pref32, pref64, Bridge}
 use Rattle.model_registers.specs.BridgeTable.{bridge_reset}
 use Rattle.model_registers.specs.DeclarationRules.{blocks_apart, IsConfigBlock, IsLawfulEndpoint}
 use Rattle.model_registers.specs.EndpointTable.{block_cells, header_cells, config_reset}
-use Rattle.model_registers.proofs.EachLemmas.{each_map, each_test, pairs_test}
+use Rattle.lists.proofs.EachLemmas.{each_map, each_test, pairs_test, each_append, pairs_map}
 use Rattle.config_bytes.specs.CellFile.{HasDistinctOffsets, file_of}
 
 abbrev at : Entry → ℕ
@@ -18,10 +18,6 @@ at e = offset_of e.place
 
 abbrev Differ : Entry → Entry → Type 0
 Differ e f = at e ≢ at f
-
-each_append : {A : Type 0} (P : A → Type 0) (xs ys : List A) → Each P xs → Each P ys → Each P (xs ++ ys)
-each_append P [] ys h k = k
-each_append P (x ∷ xs) ys h k = (h.0, each_append P xs ys h.1 k)
 
 pairs_append : (xs ys : File) → EachPair Differ xs → EachPair Differ ys → Each (λ (e : Entry). Each (Differ e) ys) xs → EachPair Differ (xs ++ ys)
 pairs_append [] ys h k cross = k
@@ -78,10 +74,6 @@ blocks_above (b ∷ bs) h =
     (each_map (Within b.offset (b.offset + length b.cells)) (λ e. 0x40 ≤ at e) (block_cells b) (λ e w. omega arith) (block_within b.offset b.cells)) (blocks_above bs h.1)
 
 -- ---- the header
-
-pairs_map : {A : Type 0} (R S : A → A → Type 0) (xs : List A) → ((x y : A) → R x y → S x y) → EachPair R xs → EachPair S xs
-pairs_map R S [] f h = tt
-pairs_map R S (x ∷ xs) f h = (each_map (R x) (S x) xs (f x) h.0, pairs_map R S xs f h.1)
 
 abbrev differ : Entry → Entry → Bool
 differ e f = not (eqb (at e) (at f))

@@ -1,7 +1,7 @@
 //! Registers of a device's own in configuration space.
 ghost use Rattle.std.specs.Prelude.{◌≡◌};
 ghost use Rattle.std.specs.List.{list_all};
-ghost use Rattle.model_registers.specs.Lists.{all_pairs};
+ghost use Rattle.lists.specs.Elements.{all_pairs};
 ghost use Rattle.model_registers.specs.DeclarationRules.{is_config_block, blocks_apart};
 
 use config_bytes::Cell;

@@ -1,7 +1,7 @@
 //! What a board declares of an endpoint.
 ghost use Rattle.std.specs.Prelude.{◌≡◌, [], IfNone, IfOk, map, option_map};
 ghost use Rattle.std.specs.Result.{result_err};
-ghost use Rattle.model_registers.specs.Lists.{Each};
+ghost use Rattle.lists.specs.Elements.{Each};
 ghost use Rattle.model_registers.specs.Declarations.{IsLawfulSize, HasLawfulRegions};
 ghost use Rattle.model_registers.specs.EndpointTable.{opened, closed};
 ghost use Rattle.model_registers.specs.DeclarationRules.{first_broken, has_lawful_numbers, has_own_registers, endpoint_rules, with_ordered_regions, IsLawfulEndpoint};

@@ -2,7 +2,7 @@
 ghost use Rattle.std.specs.Prelude.{◌≡◌, nat_le, length, map};
 ghost use Rattle.std.specs.List.{list_all};
 ghost use Rattle.model_registers.specs.Declarations.{IsLawfulSize, HasLawfulRegions};
-ghost use Rattle.model_registers.specs.Lists.{Each};
+ghost use Rattle.lists.specs.Elements.{Each};
 ghost use Rattle.std.specs.Bool.{OnTrue};
 ghost use Rattle.model_registers.specs.EndpointTable.{opened, closed};
 ghost use Rattle.bars.specs.Resets.{at_reset};

@@ -1,11 +1,10 @@
 -- One function of a board, lent by its index: it is the one at its path.
 --     IsLocated fs space a l      the first claim of an address is in the function at an index
-use Rattle.std.proofs.Common.{◌≡◌, ℕ, ◌<◌, zero, suc, Bool, true, false, cond, List, [], ◌∷◌, length, Option, Some, None, refl, sym, ap, ap₂, subst, ◌∙◌, arith}
+use Rattle.std.proofs.Common.{◌≡◌, ℕ, ◌<◌, zero, suc, Bool, true, false, cond, List, [], ◌∷◌, length, Option, Some, None, refl, sym, ap, ap₂, subst, ◌∙◌}
 use Rattle.std.specs.Prelude.{find, map, IsFalse, IsSome}
 use Rattle.std.specs.List.{slice_get, slice_set}
 use Rattle.std.specs.Option.{option_map, option_map_or}
-use Rattle.std.proofs.lemmas.Option.{slice_get_within}
-use Rattle.model_registers.specs.Lists.{Each, first_of_two, first_some}
+use Rattle.lists.specs.Elements.{Each, first_of_two, first_some}
 use Rattle.model_registers.specs.Decoding.{Space, Function}
 use Rattle.model_board.specs.Paths.{Path, path_eq}
 use Rattle.model_board.specs.Board.{endpoint}
@@ -13,7 +12,8 @@ use Rattle.model_board.specs.State.{BoardFunction}
 use Rattle.model_board.specs.Claims.{Claim, claim_at, claim_of, first_claim}
 use Rattle.model_board.proofs.PathEnds.{path_self, path_eq-sym}
 use Rattle.model_board.proofs.PathOrder.{path_same}
-use Rattle.model_board.proofs.FirstFound.{found_passes}
+use Rattle.lists.proofs.FirstFound.{found_passes}
+use Rattle.lists.proofs.Indices.{at_below}
 use Rattle.bridge_forward.specs.declared.bus.Located.{Located}
 use Rattle.bridge_forward.specs.Lending.{as_endpoint, endpoint_at, with_endpoint, endpoint_nth, with_endpoint_nth}
 use Rattle.bridge_forward.specs.Locating.{located_claim}
@@ -22,18 +22,6 @@ use Rattle.host_bridge.proofs.Lent.{HasDistinctPaths, claimed_by, claimed_endpoi
 use Rattle.host_bridge.proofs.ClaimedAccesses.{IsClaimed}
 
 -- ---- an index within a list
-
-pub some_within : {A : Type 0} (xs : List A) (i : ℕ) → i < length xs → (x : A) × (slice_get xs i ≡ Some x)
-some_within [] i h = absurd (omega arith)
-some_within (x ∷ xs) zero h = (x, refl)
-some_within (x ∷ xs) (suc i) h = some_within xs i (omega arith)
-
-pub nth_within : (fs : List BoardFunction) (i : ℕ) → IsSome (endpoint_nth fs i) → i < length fs
-nth_within fs i h = by_case (slice_get fs i) refl h
-  where
-    by_case : (o : Option BoardFunction) → slice_get fs i ≡ o → IsSome (option_map_or as_endpoint o None) → i < length fs
-    by_case None e k = cc
-    by_case (Some f) e k = slice_get_within fs i f e
 
 -- ---- the function at an index is the one at its path
 
@@ -90,7 +78,7 @@ pub record IsLocated (fs : List BoardFunction) (space : Space) (a : ℕ) (l : Lo
 -- the board as code holds it, and as a clause names it
 pub located : (h now : HostState) (space : Space) (a : ℕ) (l : Located) → h ≡ now → located_claim now.state.functions (Some l) ≡ first_claim now.state.functions space a → l.index < length now.state.functions
     → IsLocated h.state.functions space a l
-located h now space a l is claim within = subst (λ (k : HostState). IsLocated k.state.functions space a l) (sym is) (by_nth (some_within now.state.functions l.index within))
+located h now space a l is claim within = subst (λ (k : HostState). IsLocated k.state.functions space a l) (sym is) (by_nth (at_below now.state.functions l.index within))
   where
     by_nth : (f : BoardFunction) × (slice_get now.state.functions l.index ≡ Some f) → IsLocated now.state.functions space a l
     by_nth w = record {

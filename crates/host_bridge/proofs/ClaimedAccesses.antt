@@ -9,17 +9,12 @@ use Rattle.model_board.specs.State.{BoardFunction}
 use Rattle.model_board.specs.Claims.{Claim, first_claim}
 use Rattle.model_board.specs.Ports.{claim_reply, after_claim_write}
 use Rattle.bridge_forward.specs.Lending.{endpoint_at, with_endpoint}
-use Rattle.host_bridge.specs.HostState.{HostState}
 use Rattle.model_board.proofs.ClaimLanes.{claims_keep_lanes}
 use Rattle.host_bridge.proofs.Lent.{HasDistinctPaths, file_at-endpoint, changed_endpoint, claimed_endpoint}
 
 -- an address has this claim
 pub record IsClaimed (fs : List BoardFunction) (space : Space) (a : ℕ) (c : Claim) : Type 0 where
   pub first : first_claim fs space a ≡ Some c
-
--- a claim of the board as code holds both, in fields
-pub claim_found : (h now : HostState) (space : Space) (a : ℕ) (c d : Claim) → h ≡ now → Some d ≡ first_claim now.state.functions space a → c ≡ d → IsClaimed h.state.functions space a c
-claim_found h now space a c d is found same = record { first = ap (λ (h : HostState). first_claim h.state.functions space a) is ∙ sym found ∙ ap Some (sym same) }
 
 module _ (fs : List BoardFunction) (space : Space) (a w : ℕ) (c : Claim) (is : IsClaimed fs space a c) where
   pub lies_in_word : IsWidth w → a % w ≡ 0 → LiesInWord c.offset w

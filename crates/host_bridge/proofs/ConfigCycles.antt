@@ -1,8 +1,8 @@
 -- What a configuration cycle does to the functions of a board.
-use Rattle.std.proofs.Common.{◌≡◌, ℕ, Bool, true, false, cond, List, [], ◌∷◌, Option, Some, None, refl, ap, ap₂, ◌∙◌}
+use Rattle.std.proofs.Common.{◌≡◌, ℕ, List, Option, Some, None, refl, ap, ap₂, ◌∙◌}
 use Rattle.std.specs.Option.{option_map_or}
+use Rattle.bridge_forward.proofs.Changes.{same_files}
 use Rattle.model_registers.specs.ByteEnables.{lanes}
-use Rattle.model_board.specs.Paths.{Path, path_eq}
 use Rattle.model_board.specs.State.{BoardFunction, with_file}
 use Rattle.model_board.specs.Cycles.{BusAddress, reached}
 use Rattle.model_board.specs.Ports.{after_config_write}
@@ -11,21 +11,12 @@ use Rattle.bridge_forward.specs.declared.cycle.Op.TheVariants.{Read, Write}
 use Rattle.bridge_forward.specs.declared.cycle.Cycle.{Cycle}
 use Rattle.bridge_forward.specs.Cycled.{reached_by, after_access, after_cycle}
 
--- cells that are put back as they are
-pub with_file-same : (p : Path) (fs : List BoardFunction) → with_file (λ file. file) p fs ≡ fs
-with_file-same p [] = refl
-with_file-same p (f ∷ fs) = ap₂ (λ g gs. g ∷ gs) (same (path_eq f.path p)) (with_file-same p fs)
-  where
-    same : (b : Bool) → cond b f f ≡ f
-    same true = refl
-    same false = refl
-
 abbrev changed_by : List BoardFunction → Op → ℕ → ℕ → Option BoardFunction → List BoardFunction
 changed_by fs op off enables r = option_map_or (λ (f : BoardFunction). with_file (after_access op off enables) f.path fs) r fs
 
 unchanged : (fs : List BoardFunction) (off enables : ℕ) (r : Option BoardFunction) → changed_by fs Read off enables r ≡ fs
 unchanged fs off enables None = refl
-unchanged fs off enables (Some f) = with_file-same f.path fs
+unchanged fs off enables (Some f) = same_files f.path fs
 
 pub read_changes_nothing : (fs : List BoardFunction) (c : Cycle) → c.op ≡ Read → after_cycle fs c ≡ fs
 read_changes_nothing fs c op = ap (λ o. changed_by fs o c.offset c.enables (reached_by fs c)) op ∙ unchanged fs c.offset c.enables (reached_by fs c)

@@ -4,7 +4,7 @@
 use Rattle.std.proofs.Common.{◌≡◌, ℕ, Bool, true, false, cond, List, [], ◌∷◌, Option, Some, None, refl, sym, ap, ap₂, subst, ◌∙◌}
 use Rattle.std.specs.Prelude.{find, IsTrue, IsFalse, IsSome}
 use Rattle.std.specs.Option.{option_map_or}
-use Rattle.model_registers.specs.Lists.{Each, EachPair, first_of_two, first_some}
+use Rattle.lists.specs.Elements.{Each, EachPair, first_of_two, first_some}
 use Rattle.model_registers.specs.Registers.{File}
 use Rattle.model_registers.specs.Decoding.{Space, Function, Hit}
 use Rattle.model_board.specs.Paths.{Path, path_eq, path_before}
@@ -13,26 +13,20 @@ use Rattle.model_board.specs.State.{BoardFunction, with_file}
 use Rattle.model_board.specs.Claims.{Claim, claim_at, is_forwarded, endpoint_hit, claim_of, first_claim}
 use Rattle.model_board.specs.Ports.{file_at}
 use Rattle.model_board.proofs.PathOrder.{path_same}
-use Rattle.model_board.proofs.PathEnds.{path_self, path_eq-sym, not_before_itself}
+use Rattle.model_board.proofs.PathEnds.{path_self, path_eq-sym}
 use Rattle.bridge_forward.specs.Lending.{as_endpoint, endpoint_at, with_endpoint}
-use Rattle.model_board.proofs.FirstFound.{found_passes, each_found}
-use Rattle.host_bridge.proofs.ConfigCycles.{with_file-same}
+use Rattle.lists.proofs.FirstFound.{found_passes, each_found}
+use Rattle.bridge_forward.proofs.Changes.{same_files}
+use Rattle.model_board.proofs.PlacesLaw.{before_apart}
 
 -- ---- paths in order are distinct
 
 abbrev pub HasDistinctPaths : List BoardFunction → Type 0
 HasDistinctPaths fs = EachPair (λ f g. IsFalse (path_eq f.path g.path)) fs
 
-apart : (p q : Path) → path_before p q ≡ true → path_eq p q ≡ false
-apart p q before = by_case (path_eq p q) refl
-  where
-    by_case : (b : Bool) → path_eq p q ≡ b → b ≡ false
-    by_case false e = refl
-    by_case true e = absurd (not_before_itself p (ap (path_before p) (path_same p q e) ∙ before))
-
 apart_from : (f : BoardFunction) (fs : List BoardFunction) → Each (λ g. IsTrue (path_before f.path g.path)) fs → Each (λ g. IsFalse (path_eq f.path g.path)) fs
 apart_from f [] h = tt
-apart_from f (g ∷ gs) h = (apart f.path g.path h.0, apart_from f gs h.1)
+apart_from f (g ∷ gs) h = (before_apart f.path g.path h.0, apart_from f gs h.1)
 
 pub distinct_paths : (fs : List BoardFunction) → EachPair (λ f g. IsTrue (path_before f.path g.path)) fs → HasDistinctPaths fs
 distinct_paths [] h = tt
@@ -80,7 +74,7 @@ with_endpoint-none : (p : Path) (e : Function) (fs : List BoardFunction) → Non
 with_endpoint-none p e [] h = refl
 with_endpoint-none p e (f ∷ fs) h = ap₂ (λ (b : Bool) gs. cond b (record { path = p; decl = endpoint e.decl; file = e.file }) f ∷ gs) h.0 (with_endpoint-none p e fs h.1)
 
-with_file-none : (g : File → File) (p : Path) (fs : List BoardFunction) → NoneAt p fs → with_file g p fs ≡ fs
+pub with_file-none : (g : File → File) (p : Path) (fs : List BoardFunction) → NoneAt p fs → with_file g p fs ≡ fs
 with_file-none g p [] h = refl
 with_file-none g p (f ∷ fs) h = ap₂ (λ (b : Bool) gs. cond b (record f { file = g f.file }) f ∷ gs) h.0 (with_file-none g p fs h.1)
 
@@ -106,7 +100,7 @@ pub changed_endpoint : (g : File → File) (p : Path) (e : Function) (fs : List 
 changed_endpoint g p e fs distinct h = let t = endpoint_there fs p e h in left_behind g p (record e { file = g e.file }) fs t.function distinct t.found t.is.decl (ap g (sym t.is.file))
 
 pub kept_endpoint : (p : Path) (e : Function) (fs : List BoardFunction) → HasDistinctPaths fs → endpoint_at fs p ≡ Some e → with_endpoint p e fs ≡ fs
-kept_endpoint p e fs distinct h = changed_endpoint (λ file. file) p e fs distinct h ∙ with_file-same p fs
+kept_endpoint p e fs distinct h = changed_endpoint (λ file. file) p e fs distinct h ∙ same_files p fs
 
 -- ---- the endpoint of a claim
 

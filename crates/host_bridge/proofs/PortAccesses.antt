@@ -1,20 +1,12 @@
 -- An access at CONFIG_DATA: the selected word takes it in the byte lanes in which the port lies.
-use Rattle.std.proofs.Common.{◌≡◌, ℕ, zero, suc, ◌+◌, ◌-◌, ◌*◌, ◌/◌, ◌%◌, ◌^◌, ◌≤◌, inl, inr, Bool, true, false, ◌&&◌, cond, refl, sym, ap, ap₂, subst, ◌∙◌, arith}
+use Rattle.std.proofs.Common.{◌≡◌, ℕ, ◌+◌, ◌-◌, ◌*◌, ◌/◌, ◌%◌, ◌^◌, ◌≤◌, inl, inr, Bool, true, false, ◌&&◌, cond, refl, sym, ap, ap₂, subst, ◌∙◌, arith}
 use Rattle.std.specs.Prelude.{nat_le, ◌==◌}
 use Rattle.std.proofs.lemmas.Bool.Decides.{nat_tests}
-use Rattle.std.proofs.Math.Nat.{pow-suc}
-use Rattle.std.proofs.Math.Pow.{pow-add}
-use Rattle.model_registers.proofs.Tests.{left_true, right_true}
+use Rattle.lists.proofs.Tests.{left_true, right_true}
 use Rattle.model_registers.specs.ByteEnables.{IsWidth, lanes, enables_of, into_lanes}
 use Rattle.model_board.specs.State.{State}
 use Rattle.model_board.specs.Ports.{is_enabled, selected, selected_register, config_reply, after_config_write, config_address, config_data, ordinary, port_target, target_reply, port_reply, after_target_write, after_port_write}
 use Rattle.model_board.proofs.ConfigAccesses.{config_read_by_lanes, config_write_by_lanes}
-
--- a shift by whole bytes
-pub byte_power : (k : ℕ) → 2 ^ (8 * k) ≡ 256 ^ k
-byte_power zero = refl
-byte_power (suc k) =
-    ap (λ n. 2 ^ n) (let more : 8 * suc k ≡ 8 * k + 8 = omega arith in more) ∙ pow-add 2 (8 * k) 8 ∙ ap (λ n. n * 256) (byte_power k) ∙ sym (pow-suc 256 k)
 
 -- the latch selects a function and a word, and the port a byte of it
 abbrev IsDataTarget : ℕ → ℕ → ℕ → Type 0

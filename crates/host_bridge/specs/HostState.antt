@@ -3,7 +3,7 @@
 --     with_functions fs h, with_latch n h      the host with other registers, and with another latch
 use Rattle.std.specs.Prelude.{List, ℕ}
 use Rattle.model_board.specs.State.{BoardFunction, State}
-use Rattle.model_board.specs.Pools.{Apertures}
+use Rattle.model_registers.specs.Apertures.{Apertures}
 
 pub record HostState : Type 0 where
   pub state : State

@@ -1,4 +1,3 @@
-pub mod BusAddresses
 pub mod HostState
 pub mod Landings
 pub mod Targets

@@ -1,27 +1,32 @@
 //! The host bridge.
-ghost use Rattle.std.specs.Prelude.{◌≡◌, ◌%◌, ◌<◌, IfSome, IsSome, find, length, slice_get};
+ghost use Rattle.std.specs.Prelude.{◌≡◌, ◌%◌, ◌<◌, IfOk, IfSome, IsSome, IsTrue, find, length, slice_get};
 ghost use Rattle.std.specs.Option.{option_and_then};
+ghost use Rattle.lists.specs.Elements.{EachPair};
 ghost use Rattle.model_registers.specs.Registers.{raise};
 ghost use Rattle.model_registers.specs.ByteEnables.{lanes, IsWidth};
 ghost use Rattle.bars.specs.Kinds.{named_space};
-ghost use Rattle.model_board.specs.Paths.{path_eq};
+ghost use Rattle.model_board.specs.Paths.{path_before, path_eq};
 ghost use Rattle.model_board.specs.State.{with_file};
+ghost use Rattle.model_board.specs.Cycles.{reached};
+ghost use Rattle.model_board.specs.Routing.{routing};
 ghost use Rattle.model_board.specs.Claims.{first_claim};
 ghost use Rattle.model_board.specs.Ports.{selected, selected_register, config_reply, after_config_write, claim_reply, after_claim_write, port_reply, after_port_write, memory_reply, after_memory_write};
 ghost use Rattle.headers.specs.Places.{place_of};
 ghost use Rattle.bridge_forward.specs.Lending.{endpoint_at, with_endpoint_reset};
 ghost use Rattle.bridge_forward.specs.Locating.{located_claim};
-ghost use Rattle.host_bridge.specs.BusAddresses.{bus_address_of};
+ghost use Rattle.bridge_forward.specs.RoutingRows.{secondary_nth};
+ghost use Rattle.paths.specs.BusAddresses.{bus_address_of};
 ghost use Rattle.host_bridge.specs.HostState.{with_functions, with_latch};
 ghost use Rattle.host_bridge.specs.Landings.{IsLanding};
 
-use crate::bdf::Bdf;
 use crate::latch::{Latch, Target};
 use crate::route::Route;
 use bars::{Space, enabled_bits};
-use bridge_forward::{Bus, Claim, Located, Op, Path};
+use bridge_forward::{Bus, Claim, Located, Op, Path, RoutingRow};
 use config_bytes::{all_ones, enables_of, into_lanes, lowered};
 use headers::{Apertures, Place};
+use paths::Bdf;
+use std::alloc::{AllocError, Global};
 use std::marker::Model;
 
 /// The host bridge: the tree of buses below it, the address latch, and the addresses that set-up may
@@ -140,6 +145,33 @@ impl Host {
         ensures within { IfSome result (λ i. i < length self.now.state.functions) }
     {
         self.root.index_of(path)
+    }
+
+    /// The routing registers of all functions as they stand, in path order: for an audit.
+    pub fn routing(&self, alloc: Global) -> Result<Vec<RoutingRow>, AllocError>
+        ensures rows { IfOk result (λ v. v.items ≡ routing self.now.state.functions) }
+        ensures in_order { EachPair (λ f g. IsTrue (path_before f.path g.path)) self.now.state.functions }
+    {
+        self.root.routing(alloc)
+    }
+
+    /// The Secondary Bus Number of the bridge at an index, and None where no bridge stands: for an audit.
+    pub fn secondary_nth(&self, index: usize) -> Option<u8>
+        ensures { result ≡ secondary_nth self.now.state.functions index }
+    {
+        self.root.secondary_nth(index)
+    }
+
+    /// The index of the function that configuration accesses at these bus registers' number reach. Nothing
+    /// changes: for an audit.
+    pub fn index_reached(&mut self, at: Bdf) -> Option<usize>
+        ensures function { let fs = self.old.state.functions in
+            option_and_then (slice_get fs) result ≡ reached fs (bus_address_of at) }
+        ensures within { IfSome result (λ i. i < length self.old.state.functions) }
+        ensures after { self.new ≡ self.old }
+    {
+        let cycle = Latch::select(at, 0).cycle(0, Op::Read);
+        self.root.reached(&cycle)
     }
 
     /// Raises the bits of `mask` that writing a one clears, in one cell of the endpoint at a path. All

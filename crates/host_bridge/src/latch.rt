@@ -3,12 +3,12 @@ ghost use Rattle.std.specs.Prelude.{◌≡◌, ◌%◌, List};
 ghost use Rattle.model_board.specs.State.{BoardFunction};
 ghost use Rattle.model_board.specs.Cycles.{reached};
 ghost use Rattle.model_board.specs.Ports.{latched, is_enabled, selected, selected_register, port_target};
-ghost use Rattle.host_bridge.specs.BusAddresses.{bus_address_of};
+ghost use Rattle.paths.specs.BusAddresses.{bus_address_of};
 ghost use Rattle.bridge_forward.specs.Cycled.{reached_by};
 ghost use Rattle.host_bridge.specs.Targets.{named_target};
 
-use crate::bdf::Bdf;
 use bridge_forward::{Cycle, CycleType, Op};
+use paths::Bdf;
 
 /// What CONFIG_ADDRESS, the dword port CF8h, holds: bit 31 enables CONFIG_DATA, bits 23 to 16 are a
 /// bus, 15 to 11 a device, 10 to 8 a function and 7 to 2 a register. All other bits read 0.

@@ -18,7 +18,6 @@
 //! ```
 #![tactic(auto)]
 
-mod bdf;
 mod host;
 mod latch;
 mod route;
@@ -26,7 +25,7 @@ mod route;
 mod tests;
 
 pub use bars::Space;
-pub use bdf::Bdf;
 pub use bridge_forward::{Claim, Located, Path};
 pub use host::Host;
+pub use paths::Bdf;
 pub use route::{Route, TreeWalk};

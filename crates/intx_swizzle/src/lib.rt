@@ -4,7 +4,7 @@
 ghost use Rattle.std.specs.Prelude.{◌≡◌, ◌≤◌, ◌+◌, ◌<◌, sum_by, length};
 ghost use Rattle.model_board.specs.Interrupts.{root_device, root_pin};
 
-use bridge_forward::{Part, Path};
+use paths::{Part, Path};
 
 /// The sum of the devices of some parts of a path.
 fn devices(parts: &[Part]) -> u32

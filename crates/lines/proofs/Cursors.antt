@@ -1,7 +1,5 @@
 -- The front of a text: its first word, and the number that this writes.
-use Rattle.std.proofs.Common.{◌≡◌, ℕ, ◌+◌, ◌<◌, ◌≤◌, ◌==◌, ◌&&◌, ◌||◌, ◌^◌, Bool, true, false, cond, List, [], ◌∷◌}
-use Rattle.std.proofs.Common.{Option, Some, None, length, drop, filter, option_map, refl, sym, ap, ◌∙◌, arith}
-use Rattle.std.proofs.Common.{◌*◌, nat_lt, get_or, Bor}
+use Rattle.std.proofs.Common.{◌≡◌, ℕ, ◌+◌, ◌<◌, ◌≤◌, ◌==◌, ◌&&◌, ◌||◌, ◌^◌, Bool, true, false, cond, List, [], ◌∷◌, Option, Some, None, length, drop, filter, option_map, refl, sym, ap, ◌∙◌, arith, ◌*◌, nat_lt, get_or, Bor}
 use Rattle.std.specs.Prelude.{MatchOption}
 use Rattle.std.specs.List.{starts_with}
 use Rattle.std.proofs.lemmas.Bool.Decides.{nat_tests}

@@ -1,6 +1,5 @@
 -- The hexadecimal digits of a number, the highest first.
-use Rattle.std.proofs.Common.{◌≡◌, ℕ, zero, suc, ◌/◌, ◌%◌, ◌^◌, ◌*◌, ◌<◌, ◌≤◌, min, false, ◌∷◌, [], ◌++◌, sym, ap, ◌∙◌, arith}
-use Rattle.std.proofs.Common.{append_assoc, append-nil}
+use Rattle.std.proofs.Common.{◌≡◌, ℕ, zero, suc, ◌/◌, ◌%◌, ◌^◌, ◌*◌, ◌<◌, ◌≤◌, min, false, ◌∷◌, [], ◌++◌, sym, ap, ◌∙◌, arith, append_assoc, append-nil}
 use Rattle.std.proofs.Math.Nat.{div-div-eq-div-mul, div-one, mul_comm}
 use Rattle.std.proofs.lemmas.Nat.{pow-add}
 use Rattle.std.specs.Fmt.{digit_glyph}

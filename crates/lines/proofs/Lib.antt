@@ -1,6 +1,7 @@
 pub mod Counts
 pub mod Cursors
 pub mod Digits
+pub mod FirmwareMeanings
 pub mod GuestForms
 pub mod GuestNames
 mod HexDigits
@@ -9,3 +10,5 @@ pub mod NameLemmas
 mod Refusals
 pub mod Splitting
 pub mod Tables
+pub mod WriteCounts
+pub mod WriteForms

@@ -6,8 +6,7 @@ use Rattle.model_guests.specs.Accesses.{Event}
 use Rattle.model_guests.specs.Text.{Text, words}
 use Rattle.model_guests.specs.Grammar.{HostRead, event_of, host_read_of, is_comment, has_name, is_long}
 use Rattle.model_guests.specs.Guests.{Move}
-use Rattle.model_guests.specs.Lines.{Meaning, nothing, guest_event, host_read, host_move, bad, event_or_bad}
-use Rattle.model_guests.specs.Lines.{read_or_move, move_of, meaning_of_words, meaning}
+use Rattle.model_guests.specs.Lines.{Meaning, nothing, guest_event, host_read, host_move, bad, event_or_bad, read_or_move, move_of, meaning_of_words, meaning}
 use Rattle.lines.specs.Lines.{meaning_of, IsRefusable}
 use Rattle.lines.specs.declared.line.What.{What}
 use Rattle.lines.specs.declared.line.What.TheVariants as what

@@ -1,3 +1,4 @@
 pub mod Cursors
 pub mod Forms
 pub mod Lines
+pub mod FirmwareLines

@@ -3,9 +3,8 @@ ghost use Rattle.std.specs.Prelude.{◌≡◌, [], ◌∷◌, Some, None, map, l
 ghost use Rattle.model_guests.specs.Text.{words};
 ghost use Rattle.model_guests.specs.Accesses.{access};
 ghost use Rattle.model_guests.specs.Numbers.{below, number_of};
-ghost use Rattle.model_guests.specs.Grammar.{raise_part, to_raise, event_of};
-ghost use Rattle.model_guests.specs.Grammar.{hex_pair, bus_address, host_read_of};
-ghost use Rattle.host_bridge.specs.BusAddresses.{bus_address_of};
+ghost use Rattle.model_guests.specs.Grammar.{raise_part, to_raise, event_of, hex_pair, bus_address, host_read_of};
+ghost use Rattle.paths.specs.BusAddresses.{bus_address_of};
 ghost use Rattle.accesses.specs.Accesses.{access_of, target_of, op_of, part_of, host_access_of};
 ghost use Rattle.lines.specs.Forms.{event_asked, placed, operated};
 
@@ -163,7 +162,7 @@ fn hex_pair(high: u8, low: u8) -> Option<u8>
 }
 
 /// `BB:DD.F`.
-fn bus_address(word: &[u8]) -> Option<Bdf>
+pub(crate) fn bus_address(word: &[u8]) -> Option<Bdf>
     ensures { option_map bus_address_of result ≡ bus_address word.now }
 {
     let [b1, b0, b':', d1, d0, b'.', f] = word else {

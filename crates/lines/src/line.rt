@@ -15,7 +15,7 @@ use accesses::{Access, HostAccess, Names, Place};
 use arrayvec::ArrayVec;
 
 /// The bytes of the longest line that is read, without its line feed.
-const LONGEST_LINE: usize = 200;
+pub(crate) const LONGEST_LINE: usize = 200;
 
 /// Under whose name a line is answered.
 #[derive(Clone, Copy, Debug, PartialEq, Eq)]
@@ -52,7 +52,7 @@ pub struct Line<'a> {
 }
 
 /// Whether a line that begins with this word is a comment.
-fn is_comment(word: &[u8]) -> bool
+pub(crate) fn is_comment(word: &[u8]) -> bool
     ensures { result ≡ is_comment word.now }
 {
     word.first() == Some(&b'#')

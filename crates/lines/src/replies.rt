@@ -1,6 +1,6 @@
 //! The text of output lines.
 ghost use Rattle.std.specs.Prelude.{◌≡◌, ◌≤◌, ◌<◌, ◌+◌, ◌*◌, ◌++◌, ◌∷◌, [], true, length, codes, decimal};
-ghost use Rattle.model_guests.specs.Replies.{who_text, line_text, hex_digits, refusal_words};
+ghost use Rattle.model_guests.specs.Replies.{who_text, reply_text, line_text, hex_digits, refusal_words};
 ghost use Rattle.accesses.specs.Accesses.{reply_of};
 ghost use Rattle.lines.specs.Lines.{texts, who_of, GuestIs};
 ghost use Rattle.accesses.specs.Replies.{IsShown, has_words};
@@ -119,15 +119,15 @@ fn name_of<'a>(who: Who, names: &'a Names) -> &'a [u8]
     }
 }
 
-/// Writes the output line of a reply, with its line feed, into an empty text.
+/// Writes the output line of a reply under a name, with its line feed, into an empty text.
 #[inline(always)]
-pub fn push_line(text: &mut LineText, who: Who, names: &Names, reply: Reply)
+pub fn push_named(text: &mut LineText, name: &[u8], reply: Reply)
     requires empty { text.old.items ≡ [] }
-    requires who { GuestIs (λ g. g < length names.now.items) who }
+    requires short { length name.now ≤ 16 }
     requires reply { IsShown reply }
-    ensures { text.new.items ≡ line_text (who_of (texts names.now) who) (reply_of reply) ++ 10 ∷ [] }
+    ensures { text.new.items ≡ name.now ++ codes ": " ++ reply_text (reply_of reply) ++ 10 ∷ [] }
 {
-    push_name(text, name_of(who, names));
+    push_name(text, name);
     text.push(b':');
     text.push(b' ');
     match reply {
@@ -140,6 +140,17 @@ pub fn push_line(text: &mut LineText, who: Who, names: &Names, reply: Reply)
         Reply::Refused(number) => push_all(text, refusal_text(number)),
     }
     text.push(b'\n');
+}
+
+/// Writes the output line of a reply, with its line feed, into an empty text.
+#[inline(always)]
+pub fn push_line(text: &mut LineText, who: Who, names: &Names, reply: Reply)
+    requires empty { text.old.items ≡ [] }
+    requires who { GuestIs (λ g. g < length names.now.items) who }
+    requires reply { IsShown reply }
+    ensures { text.new.items ≡ line_text (who_of (texts names.now) who) (reply_of reply) ++ 10 ∷ [] }
+{
+    push_named(text, name_of(who, names), reply);
 }
 
 /// The output line of a reply, with its line feed.

@@ -2,7 +2,7 @@
 use Rattle.std.proofs.Common.{◌≡◌, ℕ, ◌+◌, ◌≤◌, Bool, true, false, ◌&&◌, ◌||◌, [], ◌∷◌, refl, subst, arith}
 use Rattle.std.specs.Prelude.{count_by, IsTrue}
 use Rattle.std.proofs.lemmas.List.Sums.{sum_by-cons}
-use Rattle.model_registers.specs.Lists.{Each, EachPair}
+use Rattle.lists.specs.Elements.{Each, EachPair}
 use Rattle.model_board.specs.Board.{Board, Row, is_bridge, is_bridge_at}
 use Rattle.model_board.specs.Paths.{Path, path_eq, path_before, leads_to}
 use Rattle.model_board.specs.Numbering.{Numbering}

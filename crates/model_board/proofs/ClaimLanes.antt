@@ -9,7 +9,7 @@ use Rattle.model_board.specs.Board.{Decl, endpoint, bridge}
 use Rattle.model_board.specs.State.{BoardFunction}
 use Rattle.model_board.specs.Claims.{Claim, claim_at, is_forwarded, endpoint_hit, claim_of}
 use Rattle.model_board.specs.PortLaws.{ClaimsKeepLanes}
-use Rattle.model_board.proofs.FirstFound.{first_some_has}
+use Rattle.lists.proofs.FirstFound.{first_some_has}
 
 abbrev IsInLane : ℕ → Hit → Type 0
 IsInLane a h = h.offset % 4 ≡ a % 4

@@ -2,11 +2,8 @@
 use Rattle.std.proofs.Common.{◌≡◌, ◌+◌, ◌≤◌, ◌<◌, ◌⊎◌, inl, inr, Bool, true, false, ◌&&◌, [], ◌∷◌, ◌++◌, length, refl, ap, ap₂, arith}
 use Rattle.std.proofs.lemmas.Bool.Decides.{nat_tests}
 use Rattle.model_board.specs.Paths.{Part, Path, part_eq, path_eq, path_before, leads_to, parent, last_part}
-use Rattle.model_board.proofs.PathOrder.{one, before_trans, path_same}
-use Rattle.model_registers.proofs.Tests.{left_true, right_true}
-
-pub part_self : (a : Part) → part_eq a a ≡ true
-part_self a = grind (arith, nat_tests)
+use Rattle.model_board.proofs.PathOrder.{one, before_trans, path_same, part_self}
+use Rattle.lists.proofs.Tests.{left_true, right_true}
 
 pub path_self : (p : Path) → path_eq p p ≡ true
 path_self [] = refl
@@ -87,3 +84,26 @@ leads_trans (a ∷ p) (b ∷ q) (c ∷ r) h k =
   where
     part_trans : (a b c : Part) → part_eq a b ≡ true → part_eq b c ≡ true → part_eq a c ≡ true
     part_trans a b c h k = grind (arith, nat_tests)
+
+pub snoc_some : (p : Path) (u : Part) → 0 < length (p ++ u ∷ [])
+snoc_some [] u = omega arith
+snoc_some (a ∷ p) u = omega arith
+
+-- a path that leads to another is shorter
+pub leads_longer : (q p : Path) → leads_to q p ≡ true → length q < length p
+leads_longer [] [] h = cc
+leads_longer [] (y ∷ p) h = omega arith
+leads_longer (x ∷ q) [] h = cc
+leads_longer (x ∷ q) (y ∷ p) h = omega (arith, leads_longer q p (right_true (part_eq x y) (leads_to q p) h))
+
+-- of two paths one alone is before the other
+pub no_turn : (p q : Path) → path_before p q ≡ true → path_before q p ≡ true → ⊥
+no_turn p q h k = by_own (path_before q q) refl (before_trans q p q h)
+  where
+    too_many : (t : Bool) → 1 + one t ≤ 0 → ⊥
+    too_many true h = omega (arith, h)
+    too_many false h = omega (arith, h)
+
+    by_own : (t : Bool) → path_before q q ≡ t → one (path_before q p) + one (path_eq q p) ≤ one (path_before q q) → ⊥
+    by_own true e le = not_before_itself q e
+    by_own false e le = let w = rw (k, e) at le in too_many (path_eq q p) w

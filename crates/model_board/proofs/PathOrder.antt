@@ -3,7 +3,7 @@ use Rattle.std.proofs.Common.{◌≡◌, ℕ, ◌+◌, ◌≤◌, Bool, true, fa
 use Rattle.std.proofs.lemmas.Bool.Decides.{nat_tests}
 use Rattle.std.proofs.lemmas.Bool.{eqb-true}
 use Rattle.model_board.specs.Paths.{Part, Path, part_eq, part_before, path_eq, path_before, leads_to}
-use Rattle.model_registers.proofs.Tests.{left_true, right_true}
+use Rattle.lists.proofs.Tests.{left_true, right_true}
 
 abbrev pub one : Bool → ℕ
 one b = cond b 1 0
@@ -29,17 +29,14 @@ part_same a b h = same (eqb-true a.device b.device (left a b h)) (eqb-true a.fun
     same : a.device ≡ b.device → a.function ≡ b.function → a ≡ b
     same p q = λ i. record { device = p i; function = q i }
 
-part_self : (a : Part) → part_eq a a ≡ true
+pub part_self : (a : Part) → part_eq a a ≡ true
 part_self a = grind (arith, nat_tests)
 
 -- at or before b, and b before c: before c
 part_trans : (a b c : Part) → (part_before a b || part_eq a b) ≡ true → part_before b c ≡ true → part_before a c ≡ true
 part_trans a b c h k = grind (arith, nat_tests)
 
-part_turned : (a b : Part) → part_before a b ≡ true → part_eq b a ≡ false
-part_turned a b h = grind (arith, nat_tests)
-
-part_eq-sym : (a b : Part) → part_eq a b ≡ part_eq b a
+pub part_eq-sym : (a b : Part) → part_eq a b ≡ part_eq b a
 part_eq-sym a b = grind (arith, nat_tests)
 
 or_left : (a b : Bool) → (a || b) ≡ false → a ≡ false

@@ -2,13 +2,13 @@
 use Rattle.std.proofs.Common.{◌≡◌, ◌+◌, ◌≤◌, Bool, true, false, ◌&&◌, ◌||◌, cond, List, [], ◌∷◌, map, refl, sym, ap, ◌∙◌, arith, inl, inr, ◌⊎◌}
 use Rattle.std.specs.List.{list_any}
 use Rattle.std.proofs.lemmas.Bool.Decides.{nat_tests}
-use Rattle.model_registers.specs.Lists.{Each, EachPair}
-use Rattle.model_registers.proofs.Tests.{left_true, right_true}
+use Rattle.lists.specs.Elements.{Each, EachPair}
+use Rattle.lists.proofs.Tests.{left_true, right_true}
 use Rattle.model_board.specs.Paths.{Part, Path, part_eq, part_before, path_eq, path_before, leads_to, parent, function_zero, IsPath}
 use Rattle.model_board.specs.Board.{Row, Board, IsBoard, is_bridge, is_bridge_at, stands_at}
 use Rattle.model_board.specs.Places.{Standing, standing, has_path, has_bridge, IsFounded, AreLawfulPlaces, row_inserted, board_of, LawfulPlacesAreBoards}
 use Rattle.model_board.proofs.PathOrder.{one, exclusive, before_trans}
-use Rattle.model_board.proofs.Packing.{each_map, each_both}
+use Rattle.lists.proofs.EachLemmas.{each_map, each_both}
 
 -- ---- path order is total
 
@@ -45,14 +45,14 @@ path_turn (a ∷ p) (b ∷ q) h = both (part_turn a b (left_true (part_eq a b) (
     both : part_eq b a ≡ true → path_eq q p ≡ true → (part_eq b a && path_eq q p) ≡ true
     both x y = rw (x, y) refl
 
-apart_turn : (p q : Path) → path_eq p q ≡ false → path_eq q p ≡ false
+pub apart_turn : (p q : Path) → path_eq p q ≡ false → path_eq q p ≡ false
 apart_turn p q h = by_case (path_eq q p) refl
   where
     by_case : (t : Bool) → path_eq q p ≡ t → path_eq q p ≡ false
     by_case false e = e
     by_case true e = let back : path_eq p q ≡ true = path_turn q p e in let same : false ≡ true = sym h ∙ back in cc
 
-before_apart : (p q : Path) → path_before p q ≡ true → path_eq p q ≡ false
+pub before_apart : (p q : Path) → path_before p q ≡ true → path_eq p q ≡ false
 before_apart p q h = by_case (path_eq p q) refl (exclusive p q)
   where
     by_case : (t : Bool) → path_eq p q ≡ t → one (path_before p q) + one (path_eq p q) + one (leads_to q p) ≤ 1 → path_eq p q ≡ false

@@ -3,7 +3,7 @@ use Rattle.std.proofs.Common.{◌≡◌, ℕ, zero, suc, ◌+◌, ◌*◌, ◌/�
 use Rattle.std.specs.Prelude.{map, flat_map, slice_get, IsTrue}
 use Rattle.std.specs.Option.{option_map_or, option_to_list}
 use Rattle.std.proofs.lemmas.Bool.Decides.{nat_tests}
-use Rattle.model_registers.specs.Lists.{Each, first_of_two, first_some}
+use Rattle.lists.specs.Elements.{Each, first_of_two, first_some}
 use Rattle.model_registers.specs.Registers.{config, File, cell_at, number}
 use Rattle.model_registers.specs.Declarations.{Kind, io_kind, mem32, mem64, Region, registers_of, IsLawfulRegion, Endpoint, IoDecode, no_io, io16, io32, PrefDecode, no_pref, pref32, pref64, Bridge}
 use Rattle.model_registers.specs.Decoding.{Space, io, memory, base, base_address, Hit, hit_at, hit_of}

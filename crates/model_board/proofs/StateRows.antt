@@ -4,13 +4,11 @@ use Rattle.std.specs.Prelude.{map}
 use Rattle.model_registers.specs.Registers.{File}
 use Rattle.model_board.specs.Paths.{Path}
 use Rattle.model_board.specs.Board.{Decl, Row, Board, IsBoard}
-use Rattle.model_board.specs.State.{BoardFunction}
+use Rattle.model_board.specs.State.{BoardFunction, row_at, state_of}
 use Rattle.model_board.specs.Lawful.{HasLawfulDecls}
-use Rattle.model_board.specs.Reach.{row_at}
-use Rattle.model_board.specs.SetUp.{state_of, reset_file, reset_state}
-use Rattle.model_board.specs.AtReset.{board_at, IsAtReset}
+use Rattle.model_board.specs.AtReset.{reset_file, reset_state, board_at, IsAtReset}
 
-rows_of : (file : Path → Decl → File) (rs : List Row) → map row_at (map (λ (r : Row). record { path = r.path; decl = r.decl; file = file r.path r.decl }) rs) ≡ rs
+pub rows_of : (file : Path → Decl → File) (rs : List Row) → map row_at (map (λ (r : Row). record { path = r.path; decl = r.decl; file = file r.path r.decl }) rs) ≡ rs
 rows_of file [] = refl
 rows_of file (r ∷ rs) = ap (λ (xs : List Row). r ∷ xs) (rows_of file rs)
 

@@ -5,7 +5,7 @@
 --     IsBoard      no path twice, each path behind a bridge or on bus 0, and a function 0 in each device
 use Rattle.std.specs.Prelude.{List, [], ◌≡◌, Bool, true, false, ◌&&◌, not, filter, IsTrue, ◌⊎◌}
 use Rattle.std.specs.List.{list_any}
-use Rattle.model_registers.specs.Lists.{Each, EachPair}
+use Rattle.lists.specs.Elements.{Each, EachPair}
 use Rattle.model_registers.specs.Declarations.{Endpoint, Bridge}
 use Rattle.model_board.specs.Paths.{Path, path_eq, path_before, parent, same_device, function_zero, IsPath}
 

@@ -6,7 +6,7 @@
 use Rattle.std.specs.Prelude.{List, [], ℕ, Bool, if◌then◌else◌, not, ◌||◌, Option, Some, None, map, flat_map}
 use Rattle.std.specs.List.{list_all}
 use Rattle.std.specs.Option.{option_map_or, option_to_list}
-use Rattle.model_registers.specs.Lists.{first_some}
+use Rattle.lists.specs.Elements.{first_some}
 use Rattle.model_registers.specs.Decoding.{Space, Hit, hit_of, lone_claim}
 use Rattle.model_board.specs.Paths.{Path, leads_to}
 use Rattle.model_board.specs.Board.{endpoint, bridge}

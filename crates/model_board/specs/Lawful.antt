@@ -1,6 +1,6 @@
 -- What the declarations of a board keep.
 --     HasLawfulDecls      each declaration keeps its rules
-use Rattle.model_registers.specs.Lists.{Each}
+use Rattle.lists.specs.Elements.{Each}
 use Rattle.model_registers.specs.DeclarationRules.{IsLawfulEndpoint, IsLawfulBridge}
 use Rattle.model_board.specs.Board.{Decl, endpoint, bridge, Board}
 

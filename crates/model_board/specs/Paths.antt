@@ -5,7 +5,7 @@
 --     same_device, function_zero      two functions stand in one device; the first function of a device
 --     IsPart, IsPath      16 devices of 8 functions on a bus; at most 16 buses down
 use Rattle.std.specs.Prelude.{List, [], ◌∷◌, ℕ, ◌<◌, Bool, true, false, ◌&&◌, ◌==◌, ◌≤◌, length, ◌||◌, nat_lt}
-use Rattle.model_registers.specs.Lists.{Each}
+use Rattle.lists.specs.Elements.{Each}
 
 pub record Part : Type 0 where
   pub device : ℕ

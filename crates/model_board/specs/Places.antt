@@ -4,7 +4,7 @@
 --     board_of      the rows in path order
 use Rattle.std.specs.Prelude.{List, [], ◌∷◌, ◌≡◌, ◌⊎◌, Bool, ◌&&◌, if◌then◌else◌, map, IsTrue, IsFalse, ◌↔◌}
 use Rattle.std.specs.List.{list_any}
-use Rattle.model_registers.specs.Lists.{Each, EachPair}
+use Rattle.lists.specs.Elements.{Each, EachPair}
 use Rattle.model_board.specs.Paths.{Path, path_eq, path_before, parent, function_zero, IsPath}
 use Rattle.model_board.specs.Board.{Row, Board, IsBoard, is_bridge}
 

@@ -5,7 +5,7 @@
 --     SameClaims      the same routing has the same claims
 --     RoutingOfCells, RoutingOfChange      the same bytes are the same routing, so a change of other cells keeps it
 use Rattle.std.specs.Prelude.{List, [], ◌∷◌, ◌≡◌, ℕ, ◌+◌, Bool, ◌&&◌, ◌||◌, nat_lt, nat_le, ⊤, IsTrue, map}
-use Rattle.model_registers.specs.Lists.{Each}
+use Rattle.lists.specs.Elements.{Each}
 use Rattle.model_registers.specs.Registers.{config, cell_at}
 use Rattle.model_registers.specs.Decoding.{Space}
 use Rattle.model_board.specs.Paths.{Path}

@@ -3,18 +3,18 @@ use Rattle.std.proofs.Common.{◌≡◌, ℕ, zero, suc, Bool, true, false, cond
 use Rattle.std.specs.Prelude.{map, replicate, length, is_some, option_map, ◌-◌, IsSome}
 use Rattle.std.proofs.lemmas.Bool.Decides.{nat_tests}
 use Rattle.std.proofs.lemmas.List.{length-map}
-use Rattle.model_registers.specs.Lists.{Each, first_of_two}
+use Rattle.lists.specs.Elements.{Each, first_of_two}
 use Rattle.model_registers.specs.Registers.{config, File, cell_at}
 use Rattle.model_registers.specs.OwnCopies.{is_own}
 use Rattle.model_registers.specs.Declarations.{Endpoint}
 use Rattle.model_registers.specs.Decoding.{Function}
 use Rattle.model_board.specs.Paths.{Path, path_eq}
 use Rattle.model_board.specs.Board.{Decl, endpoint, bridge, Row, Board, IsBoard}
-use Rattle.model_board.specs.Pools.{Apertures}
+use Rattle.model_registers.specs.Apertures.{Apertures}
 use Rattle.model_board.specs.State.{BoardFunction}
 use Rattle.model_board.specs.Lawful.{IsLawfulDecl, HasLawfulDecls}
 use Rattle.model_board.specs.RoutingLaws.{is_routing_register, HasSameRouting}
-use Rattle.model_board.specs.SetUp.{set_up_state}
+use Rattle.model_set_up.specs.SetUp.{set_up_state}
 use Rattle.model_board.proofs.PathOrder.{path_same}
 use Rattle.model_board.proofs.Routing.{routing_of_change}
 use Rattle.model_guests.specs.Slots.{reset_function}

@@ -1,46 +1,31 @@
 -- The file that agrees with a guest's file: what it holds, that it is the only one, and how it changes.
-use Rattle.std.proofs.Common.{◌≡◌, ℕ, ◌/◌, ◌%◌, Bool, true, false, not, ◌&&◌, ◌||◌, cond, List, [], ◌∷◌, refl, sym, ap, ap₂, ◌∙◌, subst, arith, eqb}
+use Rattle.std.proofs.Common.{◌≡◌, ◌/◌, ◌%◌, Bool, true, false, not, ◌&&◌, ◌||◌, cond, List, [], ◌∷◌, refl, sym, ap, ap₂, ◌∙◌, subst, arith}
 use Rattle.std.specs.Prelude.{IsFalse}
 use Rattle.std.specs.List.{list_any}
-use Rattle.std.specs.Int.Bits.{and_zero_r}
-use Rattle.std.proofs.lemmas.Bool.{eqb-true}
 use Rattle.std.proofs.lemmas.Bool.Decides.{nat_tests}
-use Rattle.model_registers.specs.Lists.{Each, EachPair}
+use Rattle.lists.specs.Elements.{Each, EachPair}
 use Rattle.model_registers.specs.Cell.{Cell, no_cell, written, raised}
 use Rattle.model_registers.specs.Registers.{Place, config, block, place_eq, after, Entry, File, cell_at, changed, write, raise}
-use Rattle.model_registers.proofs.RegisterFiles.{change_at_place}
-use Rattle.model_registers.proofs.Tests.{left_true, right_true}
+use Rattle.model_registers.proofs.RegisterFiles.{change_at_place, place_same, place_turned}
+use Rattle.model_registers.proofs.Owned.{raised_none, no_cell_stays}
 use Rattle.model_registers.specs.OwnCopies.{is_own, handed_on}
-use Rattle.model_registers.specs.CopiedFiles.{agreed_file}
+use Rattle.model_registers.specs.CopiedFiles.{agreed_file, places_of}
 use Rattle.model_guests.proofs.DistinctPlaces.{HasDistinctPlaces}
-use Rattle.model_registers.specs.CopiedFiles.{places_of}
 use Rattle.model_guests.specs.AgreedLaws.{HoldsFile}
 use Rattle.model_guests.specs.ChangeLaws.{WritesAlike, RaisesAlike}
 
 -- ---- places
 
-pub same_place : (p q : Place) → place_eq p q ≡ true → p ≡ q
-same_place (config a) (config b) h = ap config (eqb-true a b h)
-same_place (block n a) (block m b) h = ap₂ block (eqb-true n m (left_true (eqb n m) (eqb a b) h)) (eqb-true a b (right_true (eqb n m) (eqb a b) h))
-same_place (config a) (block m b) h = cc
-same_place (block n a) (config b) h = cc
-
 pub place_self : (p : Place) → place_eq p p ≡ true
 place_self (config a) = grind (arith, nat_tests)
 place_self (block n a) = grind (arith, nat_tests)
-
-pub place_turned : (p q : Place) → place_eq p q ≡ place_eq q p
-place_turned (config a) (config b) = grind (arith, nat_tests)
-place_turned (block n a) (block m b) = grind (arith, nat_tests)
-place_turned (config a) (block m b) = refl
-place_turned (block n a) (config b) = refl
 
 other_place : (p q : Place) → is_own p ≡ true → is_own q ≡ false → place_eq p q ≡ false
 other_place p q h k = cases (place_eq p q) refl
   where
     cases : (t : Bool) → place_eq p q ≡ t → t ≡ false
     cases false e = refl
-    cases true e = let same = ap is_own (same_place p q e) in cc
+    cases true e = let same = ap is_own (place_same p q e) in cc
 
 -- ---- what the agreed file holds
 
@@ -63,7 +48,7 @@ agreed_kept (e ∷ es) own p h = cases (is_own e.place) refl (place_eq e.place p
     cases : (t : Bool) → is_own e.place ≡ t → (u : Bool) → place_eq e.place p ≡ u → cell_at (agreed_file es own) p ≡ cell_at es p
         → cell_at (agreed_file (e ∷ es) own) p ≡ cell_at (e ∷ es) p
     cases true i u k more = rw i (ap (λ (c : Cell). cond (place_eq e.place p) e.cell c) more)
-    cases false i true k more = let same = ap is_own (same_place e.place p k) in cc
+    cases false i true k more = let same = ap is_own (place_same e.place p k) in cc
     cases false i false k more = rw (i, k) more
 
 abbrev pub stands : Place → List Place → Bool
@@ -85,9 +70,9 @@ agreed_where (e ∷ es) own p h = cases (is_own e.place) refl (place_eq e.place 
   where
     cases : (t : Bool) → is_own e.place ≡ t → (u : Bool) → place_eq e.place p ≡ u → cell_at (agreed_file es own) p ≡ cond (stands p (places_of es)) (cell_at own p) no_cell
         → cell_at (agreed_file (e ∷ es) own) p ≡ cond (u || stands p (places_of es)) (cell_at own p) no_cell
-    cases true i true k more = let same = ap is_own (same_place e.place p k) in cc
+    cases true i true k more = let same = ap is_own (place_same e.place p k) in cc
     cases true i false k more = rw (i, k) more
-    cases false i true k more = rw (i, k) (ap (cell_at own) (same_place e.place p k))
+    cases false i true k more = rw (i, k) (ap (cell_at own) (place_same e.place p k))
     cases false i false k more = rw (i, k) more
 
 pub agreed_common : (left own : File) (p : Place) → places_of own ≡ places_of left → is_own p ≡ false → cell_at (agreed_file left own) p ≡ cell_at own p
@@ -163,7 +148,7 @@ changed_entry f p e = cond (place_eq e.place p) (record e { cell = f e.cell }) e
 
 board_entry : (f : Cell → Cell) → f no_cell ≡ no_cell → (p : Place) → is_own p ≡ false → (own : File) (e : Entry) (t : Bool) → is_own e.place ≡ t → (u : Bool) → place_eq e.place p ≡ u
     → agreed_entry (changed f p own) e ≡ changed_entry f p (agreed_entry own e)
-board_entry f none p h own e true i true k = let same = ap is_own (same_place e.place p k) in cc
+board_entry f none p h own e true i true k = let same = ap is_own (place_same e.place p k) in cc
 board_entry f none p h own e true i false k = rw (i, k)
 board_entry f none p h own e false i u k =
     let turned : place_eq p e.place ≡ u = place_turned p e.place ∙ k in
@@ -179,12 +164,6 @@ board_change f none p h [] own = refl
 board_change f none p h (e ∷ es) own =
     ap₂ (λ (x : Entry) (xs : File). x ∷ xs) (board_entry f none p h own e (is_own e.place) refl (place_eq e.place p) refl) (board_change f none p h es own)
 
-written_nothing : (b : ℕ) → written b no_cell ≡ no_cell
-written_nothing b = rw (and_zero_r b)
-
-raised_nothing : (m : ℕ) → raised m no_cell ≡ no_cell
-raised_nothing m = rw (and_zero_r m)
-
 pub writes_alike : WritesAlike
 writes_alike [] v p left own = refl
 writes_alike (on ∷ ons) v p left own =
@@ -194,12 +173,12 @@ writes_alike (on ∷ ons) v p left own =
     first : (on t : Bool) → is_own p ≡ t
         → agreed_file left (cond on (changed (written (v % 256)) p own) own) ≡ cond (on && not t) (changed (written (v % 256)) p (agreed_file left own)) (agreed_file left own)
     first false t h = refl
-    first true true h = own_change (written (v % 256)) (written_nothing (v % 256)) p h left own
-    first true false h = board_change (written (v % 256)) (written_nothing (v % 256)) p h left own
+    first true true h = own_change (written (v % 256)) (no_cell_stays (v % 256)) p h left own
+    first true false h = board_change (written (v % 256)) (no_cell_stays (v % 256)) p h left own
 
 pub raises_alike : RaisesAlike
 raises_alike m p left own = cases (is_own p) refl
   where
     cases : (t : Bool) → is_own p ≡ t → agreed_file left (raise m p own) ≡ cond t (agreed_file left own) (raise m p (agreed_file left own))
-    cases true h = own_change (raised m) (raised_nothing m) p h left own
-    cases false h = board_change (raised m) (raised_nothing m) p h left own
+    cases true h = own_change (raised m) (raised_none m) p h left own
+    cases false h = board_change (raised m) (raised_none m) p h left own

@@ -1,44 +1,34 @@
 -- The functions of a lawful board, as set-up left them.
-use Rattle.std.proofs.Common.{◌≡◌, Bool, true, false, [], ◌∷◌, refl, sym, ap, ◌∙◌, subst, arith}
+use Rattle.std.proofs.Common.{◌≡◌, true, false, [], ◌∷◌, refl, sym, ap, ◌∙◌, arith}
 use Rattle.std.specs.Prelude.{is_some, IsTrue, IsSome}
 use Rattle.std.proofs.lemmas.Bool.Decides.{nat_tests}
-use Rattle.model_registers.specs.Lists.{Each, EachPair}
+use Rattle.lists.specs.Elements.{Each, EachPair}
+use Rattle.model_board.proofs.PathEnds.{path_self}
+use Rattle.model_board.proofs.PlacesLaw.{before_apart}
 use Rattle.model_registers.specs.Registers.{File}
 use Rattle.model_registers.specs.Declarations.{Endpoint}
 use Rattle.model_registers.specs.EndpointTable.{endpoint_reset}
 use Rattle.model_board.specs.Paths.{Part, Path, part_eq, part_before, path_eq, path_before}
 use Rattle.model_board.specs.Board.{Decl, endpoint, bridge, Row, Board, is_multifunction}
-use Rattle.model_board.specs.Pools.{Apertures}
+use Rattle.model_registers.specs.Apertures.{Apertures}
 use Rattle.model_board.specs.State.{BoardFunction}
-use Rattle.model_board.specs.SetUp.{set_up_file, command_of, first_of}
-use Rattle.model_board.proofs.PathOrder.{path_same}
+use Rattle.model_set_up.specs.SetUp.{set_up_file, command_of, first_of}
+use Rattle.model_board.proofs.PathOrder.{part_self}
 use Rattle.model_board.specs.Lawful.{IsLawfulDecl}
 use Rattle.model_guests.specs.World.{World, endpoint_of, declared, IsLawfulWorld}
-use Rattle.model_registers.specs.CopiedFiles.{agreed_file}
+use Rattle.model_registers.specs.CopiedFiles.{agreed_file, places_of}
 use Rattle.model_guests.proofs.DistinctPlaces.{HasDistinctPlaces, distinct_places}
-use Rattle.model_registers.specs.CopiedFiles.{places_of}
-use Rattle.model_guests.proofs.GuestFiles.{path_self}
 use Rattle.model_guests.proofs.SlotPlaces.{IsFileOf}
 use Rattle.model_guests.proofs.TablePlaces.{Alike, alike_places, alike_tables, agreed_at_reset}
 
 part_irreflexive : (a : Part) → part_before a a ≡ false
 part_irreflexive a = grind (arith, nat_tests)
 
-part_self : (a : Part) → part_eq a a ≡ true
-part_self a = grind (arith, nat_tests)
-
 pub path_irreflexive : (p : Path) → path_before p p ≡ false
 path_irreflexive [] = refl
 path_irreflexive (a ∷ p) =
     let here : part_before a a ≡ false = part_irreflexive a in
     let part : part_eq a a ≡ true = part_self a in rw (here, part) (path_irreflexive p)
-
-pub apart : (p q : Path) → path_before p q ≡ true → path_eq p q ≡ false
-apart p q h = cases (path_eq p q) refl
-  where
-    cases : (t : Bool) → path_eq p q ≡ t → t ≡ false
-    cases false e = refl
-    cases true e = let below = subst (λ (x : Path). path_before p x ≡ true) (sym (path_same p q e)) h in cc (path_irreflexive p)
 
 -- in path order each row is found by its path
 pub rows_found : (b : Board) → EachPair (λ r s. IsTrue (path_before r.path s.path)) b → Each (λ r. declared b r.path ≡ endpoint_of r) b
@@ -50,7 +40,7 @@ rows_found (r ∷ rs) ordered = (here, later rs ordered.0 (rows_found rs ordered
 
     later : (ss : Board) → Each (λ s. IsTrue (path_before r.path s.path)) ss → Each (λ s. declared rs s.path ≡ endpoint_of s) ss → Each (λ s. declared (r ∷ rs) s.path ≡ endpoint_of s) ss
     later [] before found = tt
-    later (s ∷ ss) before found = let other : path_eq r.path s.path ≡ false = apart r.path s.path before.0 in (rw other found.0, later ss before.1 found.1)
+    later (s ∷ ss) before found = let other : path_eq r.path s.path ≡ false = before_apart r.path s.path before.0 in (rw other found.0, later ss before.1 found.1)
 
 abbrev pub set_up : World → Row → BoardFunction
 set_up w r = record { path = r.path; decl = r.decl; file = set_up_file w.board w.apertures r.path r.decl }

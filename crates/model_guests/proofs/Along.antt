@@ -11,7 +11,7 @@ use Rattle.model_guests.specs.Guests.{GuestNow, GuestsNow, Move, function_in, gu
 use Rattle.model_guests.specs.Lines.{Meaning, nothing, guest_event, host_read, host_move, bad, meaning}
 use Rattle.model_guests.specs.WorldNow.{WorldNow, world_at_first, names_of, names_now, after_meaning, after_line, after_lines}
 use Rattle.model_guests.specs.Seated.{AreSeated, ByIndex, NamesAlong, NamesStay, SeatedAlong}
-use Rattle.model_guests.proofs.ListFacts.{each_at}
+use Rattle.lists.proofs.Indices.{each_at}
 use Rattle.model_guests.proofs.Names.{same_text}
 use Rattle.model_guests.proofs.GuestFiles.{other_name}
 use Rattle.model_guests.proofs.GuestsByName.{Keeps, one_name}

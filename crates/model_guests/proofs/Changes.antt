@@ -2,6 +2,7 @@
 use Rattle.std.proofs.Common.{◌≡◌, ℕ, Bool, true, false, cond, List, [], ◌∷◌, Some, None, Option, refl, sym, ap, ap₂, ◌∙◌}
 use Rattle.std.specs.Prelude.{map, option_map, IsFalse, IsSome}
 use Rattle.std.specs.Str.{bytes_eq}
+use Rattle.model_board.proofs.PlacesLaw.{apart_turn}
 use Rattle.model_registers.specs.Registers.{Entry, File, cell_at}
 use Rattle.model_registers.specs.OwnCopies.{is_own}
 use Rattle.model_registers.specs.Decoding.{Function}
@@ -9,7 +10,7 @@ use Rattle.model_registers.specs.EndpointTable.{endpoint_reset}
 use Rattle.model_board.specs.Paths.{Path, path_eq}
 use Rattle.model_board.specs.Board.{Board}
 use Rattle.model_board.specs.State.{BoardFunction}
-use Rattle.model_board.specs.SetUp.{set_up_state}
+use Rattle.model_set_up.specs.SetUp.{set_up_state}
 use Rattle.model_board.proofs.PathOrder.{path_same}
 use Rattle.model_guests.specs.Slots.{Slots, slot_at, with_file}
 use Rattle.model_guests.specs.Text.{Text}
@@ -19,7 +20,7 @@ use Rattle.model_guests.specs.AgreedBoard.{agreed_function, agreed_state, with_c
 use Rattle.model_guests.specs.Seated.{AreSeated, IsSeat, IsSeatedGuest}
 use Rattle.model_guests.specs.ChangeLaws.{ChangesAlike, ChangesOneFunction, LatchKeepsBoard, OneFile, ResetsAlike, with_slot_changed}
 use Rattle.model_guests.proofs.AgreedChanges.{changed_function, agreed_by, changed_here, unchanged}
-use Rattle.model_guests.proofs.GuestFiles.{path_turned, slot_set, with_file_there}
+use Rattle.model_guests.proofs.GuestFiles.{slot_set, with_file_there}
 use Rattle.model_guests.proofs.Names.{same_text}
 use Rattle.model_guests.proofs.GuestsByName.{path_at, one, named_with, found, path_of, function_of, function_named}
 use Rattle.model_guests.proofs.Seats.{paths_stay}
@@ -38,7 +39,7 @@ module _ (own_change board_change : File → File) (alike : ChangesAlike own_cha
           let same : f.path ≡ p = path_same f.path p e in
           ap (λ (o : Option File). agreed_by o f) (ap new same ∙ after) ∙ ap (λ (file : File). record f { file = file }) (alike f.file own)
           ∙ sym (ap (λ (o : Option File). changed_function board_change p (agreed_by o f)) (ap old same ∙ before) ∙ changed_here board_change p (agreed_by (Some own) f) e)
-      cases false e = ap (λ (o : Option File). agreed_by o f) (others f.path (path_turned f.path p e)) ∙ sym (unchanged board_change p (old f.path) f e)
+      cases false e = ap (λ (o : Option File). agreed_by o f) (others f.path (apart_turn f.path p e)) ∙ sym (unchanged board_change p (old f.path) f e)
 
   functions_change : (fs : List BoardFunction) → map (agreed_function new) fs ≡ map (changed_function board_change p) (map (agreed_function old) fs)
   functions_change [] = refl
@@ -118,7 +119,7 @@ changes_one_function b a s seated name n p at own_change board_change alike = ca
 
 latch_files : (name : Text) (latch : ℕ) (q : Path) (s : GuestsNow) → file_of (with_guest (λ (t : GuestNow). record t { lone = record t.lone { latch = latch } }) name s) q ≡ file_of s q
 latch_files name latch q [] = refl
-latch_files name latch q (t ∷ ts) = ap₂ Rattle.model_registers.specs.Lists.first_of_two (cases (bytes_eq name t.name)) (latch_files name latch q ts)
+latch_files name latch q (t ∷ ts) = ap₂ Rattle.lists.specs.Elements.first_of_two (cases (bytes_eq name t.name)) (latch_files name latch q ts)
   where
     cases : (v : Bool) → file_in (cond v (record t { lone = record t.lone { latch = latch } }) t).paths (cond v (record t { lone = record t.lone { latch = latch } }) t).lone.slots q ≡ file_in t.paths t.lone.slots q
     cases true = refl

@@ -7,20 +7,20 @@ use Rattle.std.specs.Int.Bits.{or_zero_r, and_zero_r}
 use Rattle.std.proofs.lemmas.Bool.{eqb-true}
 use Rattle.std.proofs.lemmas.Bool.Decides.{nat_tests}
 use Rattle.model_registers.specs.Cell.{Cell, raised}
-use Rattle.model_registers.specs.Lists.{Each}
+use Rattle.lists.specs.Elements.{Each}
 use Rattle.model_registers.specs.Registers.{Place, config, block, place_eq, Entry, File, raise, field, cells_from}
 use Rattle.model_registers.specs.Declarations.{Kind, io_kind, mem32, mem64, Region, ConfigBlock, Endpoint}
 use Rattle.model_registers.specs.DeclarationRules.{IsLawfulEndpoint}
 use Rattle.model_registers.specs.EndpointTable.{base_cells, region_cells, block_cells, header_cells, config_cells, endpoint_reset}
-use Rattle.model_registers.proofs.Tests.{left_true, right_true}
+use Rattle.lists.proofs.Tests.{left_true, right_true}
 use Rattle.model_board.specs.Paths.{Path, path_eq}
 use Rattle.model_board.specs.Board.{Decl, endpoint, bridge, Board}
 use Rattle.model_board.specs.Lawful.{IsLawfulDecl}
 use Rattle.model_registers.specs.OwnCopies.{is_own}
 use Rattle.model_guests.specs.World.{endpoint_of, declared}
 use Rattle.model_guests.proofs.DistinctPlaces.{own_blocks}
-use Rattle.model_guests.proofs.ListFacts.{each_append}
-use Rattle.model_guests.proofs.AgreedFiles.{same_place}
+use Rattle.lists.proofs.EachLemmas.{each_append}
+use Rattle.model_registers.proofs.RegisterFiles.{place_same}
 
 -- no bit of the cell rises where the guest has a copy
 abbrev pub stays_low : Entry → Bool
@@ -42,7 +42,7 @@ not_raised m p own [] low = refl
 not_raised m p own (e ∷ es) low = ap₂ (λ (x : Entry) (xs : File). x ∷ xs) (here (place_eq e.place p) refl) (not_raised m p own es low.1)
   where
     here : (t : Bool) → place_eq e.place p ≡ t → cond t (record e { cell = raised m e.cell }) e ≡ e
-    here true same = low_cell m e (ap is_own (same_place e.place p same) ∙ own) low.0
+    here true same = low_cell m e (ap is_own (place_same e.place p same) ∙ own) low.0
     here false same = refl
 
 -- ---- files at reset

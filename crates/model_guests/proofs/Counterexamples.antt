@@ -7,10 +7,10 @@ use Rattle.model_registers.specs.Declarations.{Endpoint}
 use Rattle.model_registers.specs.EndpointTable.{endpoint_reset}
 use Rattle.model_board.specs.Paths.{Path}
 use Rattle.model_board.specs.Board.{endpoint, Board}
-use Rattle.model_board.specs.Pools.{Apertures}
+use Rattle.model_registers.specs.Apertures.{Apertures}
 use Rattle.model_registers.specs.Decoding.{Function}
 use Rattle.model_board.specs.State.{State}
-use Rattle.model_board.specs.Examples.{part, function_at, plain, main_apertures}
+use Rattle.model_set_up.specs.Examples.{part, function_at, plain, main_apertures}
 use Rattle.model_guests.specs.World.{World}
 use Rattle.model_guests.specs.Guests.{GuestsNow, Move, after_move, function_in, guests_at_first, move_fault, path_in}
 use Rattle.model_registers.specs.CopiedFiles.{after_reset, places_of}

@@ -5,7 +5,7 @@
 --     Dialogue      and each guest's inputs say the same over its functions alone
 use Prim.Native.String.{String}
 use Rattle.std.specs.Prelude.{List, ◌≡◌, map, filter, codes}
-use Rattle.model_registers.specs.Lists.{Each}
+use Rattle.lists.specs.Elements.{Each}
 use Rattle.model_guests.specs.Text.{Text, lines, text_of_lines}
 use Rattle.model_guests.specs.Grammar.{is_own_line}
 use Rattle.model_guests.specs.World.{Guest, World, declarations}

@@ -4,14 +4,14 @@ use Rattle.std.specs.Prelude.{flat_map, IsTrue, IsFalse}
 use Rattle.std.proofs.lemmas.Bool.{leb-true}
 use Rattle.std.proofs.lemmas.Bool.Decides.{nat_tests}
 use Rattle.model_registers.specs.Cell.{Cell}
-use Rattle.model_registers.specs.Lists.{Each, EachPair}
+use Rattle.lists.specs.Elements.{Each, EachPair}
 use Rattle.model_registers.specs.Registers.{Place, config, block, place_eq, after, File, cells_from}
 use Rattle.model_registers.specs.Declarations.{Kind, io_kind, mem32, mem64, registers_of, Region, ConfigBlock, Endpoint, IsLawfulRegion, HasLawfulRegions}
 use Rattle.model_registers.specs.DeclarationRules.{blocks_apart, IsConfigBlock, IsLawfulEndpoint}
 use Rattle.model_registers.specs.EndpointTable.{base_register, base_cells, region_cells, block_cells, header_cells, config_cells, endpoint_file}
-use Rattle.model_registers.proofs.EachLemmas.{each_map, pairs_map}
+use Rattle.lists.proofs.EachLemmas.{each_map, pairs_map, each_append}
+use Rattle.model_registers.proofs.Bases.{registers_positive}
 use Rattle.model_registers.specs.CopiedFiles.{places_of}
-use Rattle.model_guests.proofs.ListFacts.{each_append}
 
 -- ---- what a lawful declaration says of places
 
@@ -232,16 +232,11 @@ block_and_region b r h k =
 bases_apart : (i m j n : ℕ) → i + m ≤ j → AllApart (run (base_register i) (4 * m)) (run (base_register j) (4 * n))
 bases_apart i m j n h = configs_apart (0x10 + 4 * i) (4 * m) (0x10 + 4 * j) (4 * n) (inl (omega arith))
 
-some_registers : (kind : Kind) → 0 < registers_of kind
-some_registers io_kind = omega arith
-some_registers (mem32 pref) = omega arith
-some_registers (mem64 pref) = omega arith
-
 regions_apart : (r s : Region) → r.index + registers_of r.kind ≤ s.index → AllApart (region_run_of r) (region_run_of s)
 regions_apart r s h =
     let own : List Place = run (block r.index 0) (length r.cells) in
     let other : List Place = run (block s.index 0) (length s.cells) in
-    let later : r.index < s.index = omega (arith, some_registers r.kind) in
+    let later : r.index < s.index = omega (arith, registers_positive r.kind) in
     both_apart (base_run_of r) own (region_run_of s)
     (apart_from_both (base_run_of r) (base_run_of s) other (bases_apart r.index (registers_of r.kind) s.index (registers_of s.kind) h)
     (config_and_block (0x10 + 4 * r.index) (4 * registers_of r.kind) s.index 0 (length s.cells)))

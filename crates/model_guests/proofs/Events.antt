@@ -6,9 +6,9 @@ use Rattle.model_registers.specs.Registers.{Place, File, raise, all_bytes}
 use Rattle.model_registers.specs.Decoding.{Function}
 use Rattle.model_board.specs.Paths.{Path}
 use Rattle.model_board.specs.Board.{Board}
-use Rattle.model_board.specs.Pools.{Apertures}
+use Rattle.model_registers.specs.Apertures.{Apertures}
 use Rattle.model_board.specs.State.{BoardFunction}
-use Rattle.model_board.specs.SetUp.{set_up_state}
+use Rattle.model_set_up.specs.SetUp.{set_up_state}
 use Rattle.model_guests.specs.Accesses.{Event, Op, access, raises, reads, writes}
 use Rattle.model_guests.specs.Slots.{Landing, Slots, effect, event_fault, landing, raise_landing, slot_at, with_file}
 use Rattle.model_guests.specs.Lone.{Destination, LoneGuest, after_access_at, after_event, at_target, changed_by, destination, no_function, own_latch, reset_guest}

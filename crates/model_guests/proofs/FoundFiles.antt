@@ -2,7 +2,8 @@
 use Rattle.std.proofs.Common.{◌≡◌, ℕ, zero, suc, Bool, true, false, cond, List, [], ◌∷◌, Some, None, Option, refl, sym, ap, ap₂, ◌∙◌, subst, arith}
 use Rattle.std.specs.Prelude.{slice_set, option_map, IsFalse}
 use Rattle.std.specs.Str.{bytes_eq}
-use Rattle.model_registers.specs.Lists.{Each, EachPair, first_of_two}
+use Rattle.lists.specs.Elements.{Each, EachPair, first_of_two}
+use Rattle.model_board.proofs.PathEnds.{path_self}
 use Rattle.model_registers.specs.Registers.{Place, File}
 use Rattle.model_registers.specs.Decoding.{Function}
 use Rattle.model_registers.specs.EndpointTable.{endpoint_reset}
@@ -15,7 +16,7 @@ use Rattle.model_guests.specs.Guests.{GuestNow, GuestsNow, file_in, file_of, gue
 use Rattle.model_registers.specs.CopiedFiles.{places_of, shape_of}
 use Rattle.model_guests.specs.Seated.{AreSeats, IsSeatedGuest}
 use Rattle.model_guests.proofs.Names.{equal_texts, same_text}
-use Rattle.model_guests.proofs.GuestFiles.{path_self, other_name}
+use Rattle.model_guests.proofs.GuestFiles.{other_name}
 use Rattle.model_guests.proofs.SlotPlaces.{IsFileOf}
 use Rattle.model_guests.proofs.GuestsByName.{path_at, path_of, function_of, past_first}
 

@@ -1,33 +1,18 @@
 -- Slots, paths and names, one by one: which are the same, and what is in a slot after a change.
-use Rattle.std.proofs.Common.{◌≡◌, ℕ, zero, suc, Bool, true, false, cond, List, [], ◌∷◌, Some, Option, refl, ap, subst, arith}
+use Rattle.std.proofs.Common.{◌≡◌, ℕ, zero, suc, Bool, true, false, cond, List, [], ◌∷◌, Some, Option, refl, ap, subst}
 use Rattle.std.specs.Prelude.{map, find, flat_map, slice_get, slice_set, IsFalse}
 use Rattle.std.specs.Option.{option_map_or}
 use Rattle.std.specs.Str.{bytes_eq}
-use Rattle.std.proofs.lemmas.Bool.Decides.{nat_tests}
-use Rattle.model_registers.specs.Lists.{Each, EachPair}
+use Rattle.lists.specs.Elements.{Each, EachPair}
 use Rattle.model_registers.specs.Registers.{File}
 use Rattle.model_registers.specs.Decoding.{Function}
-use Rattle.model_board.specs.Paths.{Part, Path, part_eq, path_eq}
-use Rattle.model_board.proofs.PathOrder.{path_same}
+use Rattle.model_board.specs.Paths.{Path, path_eq}
 use Rattle.model_guests.specs.Slots.{Slots, slot_at, with_file}
 use Rattle.model_guests.specs.Text.{Text}
 use Rattle.model_guests.specs.World.{Guest}
-use Rattle.model_guests.proofs.ListFacts.{each_at, each_parts}
+use Rattle.lists.proofs.Indices.{each_at}
+use Rattle.lists.proofs.EachLemmas.{each_parts}
 use Rattle.model_guests.proofs.Names.{equal_texts, same_text}
-
-part_self : (a : Part) → part_eq a a ≡ true
-part_self a = grind (arith, nat_tests)
-
-pub path_self : (p : Path) → path_eq p p ≡ true
-path_self [] = refl
-path_self (a ∷ p) = rw (part_self a) (path_self p)
-
-pub path_turned : (p q : Path) → path_eq p q ≡ false → path_eq q p ≡ false
-path_turned p q h = cases (path_eq q p) refl
-  where
-    cases : (t : Bool) → path_eq q p ≡ t → t ≡ false
-    cases false e = refl
-    cases true e = let same : q ≡ p = path_same q p e in let other = subst (λ (x : Path). path_eq p x ≡ false) same h in cc (path_self p)
 
 pub slot_set : (slots : Slots) (n : ℕ) (f g : Function) → slot_at slots n ≡ Some f → slot_at (slice_set slots n (Some g)) n ≡ Some g
 slot_set [] n f g there = cc

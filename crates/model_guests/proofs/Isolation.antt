@@ -6,10 +6,11 @@ use Rattle.std.specs.Option.{option_map_or}
 use Rattle.std.specs.Str.{bytes_eq}
 use Rattle.std.proofs.lemmas.Slice.Eq.{bytes_eq-Decides}
 use Rattle.std.proofs.lemmas.List.Elements.{filter-append}
-use Rattle.model_registers.specs.Lists.{Each}
+use Rattle.std.proofs.lemmas.Bool.{not-true}
+use Rattle.lists.specs.Elements.{Each}
 use Rattle.model_registers.specs.Declarations.{Endpoint}
 use Rattle.model_registers.specs.Decoding.{Function}
-use Rattle.model_registers.proofs.Tests.{left_true, right_true}
+use Rattle.lists.proofs.Tests.{left_true, right_true}
 use Rattle.model_board.specs.Paths.{Path}
 use Rattle.model_guests.specs.Accesses.{Event, refused}
 use Rattle.model_guests.specs.Lone.{LoneGuest, after_event, answer, emptied, filled, reset_guest}
@@ -22,7 +23,7 @@ use Rattle.model_guests.specs.Replies.{line_text, reply_text}
 use Rattle.model_guests.specs.WorldNow.{WorldNow, world_at_first, names_now, host_reply, move_reply, written_by, after_meaning, after_line, after_lines}
 use Rattle.model_guests.specs.Inputs.{Input, after_input, after_inputs, after_own, gets, inputs, inputs_of_line, inputs_of_meaning, inputs_of_move, lone_event, lone_output, lone_reply, loses, own_line}
 use Rattle.model_guests.specs.Isolation.{Isolated, TwoWorlds}
-use Rattle.model_guests.proofs.Names.{lacks, not_true, NameFacts, named_facts, begins, equal_texts, same_text}
+use Rattle.model_guests.proofs.Names.{lacks, NameFacts, named_facts, begins, equal_texts, same_text}
 use Rattle.model_guests.proofs.Along.{names_stay, names_at_first}
 use Rattle.model_guests.proofs.WrittenLines.{written_along, lines_written}
 
@@ -142,7 +143,7 @@ own_words ns name (w ∷ ws) facts h first =
 own_meaning : (ns : List Text) (name l : Text) → NameFacts name → has_name ns name ≡ true → is_own_line name l ≡ true
     → meaning ns l ≡ event_or_bad name (lone_event l)
 own_meaning ns name l facts h own =
-    let short : is_long l ≡ false = not_true (is_long l) (left_true (not (is_long l)) (has_first_word name (words l)) own) in
+    let short : is_long l ≡ false = not-true (is_long l) (left_true (not (is_long l)) (has_first_word name (words l)) own) in
     rw short (own_words ns name (words l) facts h (right_true (not (is_long l)) (has_first_word name (words l)) own))
 
 begins_own : (name r : Text) → lacks 58 name ≡ true → starts_with eqb ((name ++ codes ": ") ++ r) (name ++ codes ": ") ≡ true

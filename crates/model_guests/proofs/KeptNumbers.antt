@@ -1,21 +1,20 @@
 -- The board that agrees with seated guests has its bus numbers, and shows the guests' bytes.
 use Rattle.std.proofs.Common.{◌≡◌, ℕ, ◌+◌, ◌*◌, ◌%◌, ◌≤◌, ◌<◌, inl, inr, Bool, true, false, not, ◌&&◌, cond, [], ◌∷◌, Some, None, Option, refl, sym, ap, ap₂, ◌∙◌, arith}
 use Rattle.std.specs.Prelude.{map, is_some, count_by, IsTrue, IsSome}
-use Rattle.model_registers.specs.Lists.{Each}
+use Rattle.lists.specs.Elements.{Each, IsIn}
 use Rattle.model_registers.specs.Registers.{after, File, cell_at}
 use Rattle.model_registers.specs.OwnCopies.{is_own}
 use Rattle.model_registers.specs.Declarations.{Bridge}
-use Rattle.model_board.specs.Members.{IsIn}
 use Rattle.model_board.specs.Paths.{Path, path_eq, path_before, leads_to}
 use Rattle.model_board.specs.Board.{Decl, endpoint, bridge, Row, Board, is_bridge, is_bridge_at}
 use Rattle.model_board.specs.BusNumbers.{secondary, subordinate, Enumerates}
 use Rattle.model_board.specs.Cycles.{secondary_register, subordinate_register}
-use Rattle.model_board.specs.Pools.{Apertures}
-use Rattle.model_board.specs.Reach.{row_at}
-use Rattle.model_board.specs.State.{BoardFunction}
-use Rattle.model_board.specs.SetUp.{set_up_file}
+use Rattle.model_registers.specs.Apertures.{Apertures}
+use Rattle.model_board.specs.State.{row_at, BoardFunction}
+use Rattle.model_set_up.specs.SetUp.{set_up_file}
 use Rattle.model_board.proofs.BusNumbers.{bridges, at, count_three, counted}
-use Rattle.model_board.proofs.Members.{any_in}
+use Rattle.lists.proofs.Members.{any_in}
+use Rattle.lists.proofs.Tests.{and_true}
 use Rattle.model_board.proofs.PathEnds.{path_self}
 use Rattle.model_board.proofs.PathOrder.{exclusive}
 use Rattle.model_guests.specs.World.{World, declared, endpoint_of}
@@ -30,10 +29,6 @@ use Rattle.model_guests.proofs.AgreedStates.{set_up, RowFacts}
 use Rattle.model_guests.proofs.AgreedBoards.{some_there, no_other, bare_world, bare_rows}
 
 -- ---- bus numbers fit their registers
-
-and_true : (t : Bool) → (t && true) ≡ t
-and_true true = refl
-and_true false = refl
 
 record Small (b : Board) (p : Path) : Type 0 where
   first : secondary b p < 256

@@ -1,4 +1,3 @@
-pub mod ListFacts
 pub mod Names
 pub mod OutputLines
 pub mod AgreedFiles

@@ -2,7 +2,7 @@
 use Rattle.std.proofs.Common.{◌≡◌, ℕ, zero, suc, Bool, true, false, cond, List, [], ◌∷◌, ◌++◌, Some, None, Option, refl, sym, ap, ap₂, ◌∙◌, subst}
 use Rattle.std.specs.Prelude.{slice_get, slice_set, is_some, IsFalse, IsSome}
 use Rattle.std.specs.Str.{bytes_eq}
-use Rattle.model_registers.specs.Lists.{EachPair}
+use Rattle.lists.specs.Elements.{EachPair}
 use Rattle.model_registers.specs.Decoding.{Function}
 use Rattle.model_board.specs.Paths.{Path}
 use Rattle.model_board.specs.Board.{Board}

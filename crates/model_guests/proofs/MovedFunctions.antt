@@ -7,7 +7,7 @@ use Rattle.model_registers.specs.Decoding.{Function}
 use Rattle.model_registers.specs.EndpointTable.{endpoint_reset}
 use Rattle.model_board.specs.Paths.{Path, path_eq}
 use Rattle.model_board.specs.Board.{Board}
-use Rattle.model_board.specs.SetUp.{set_up_state}
+use Rattle.model_set_up.specs.SetUp.{set_up_state}
 use Rattle.model_guests.specs.Slots.{Slots, slot_at}
 use Rattle.model_guests.specs.Guests.{GuestNow, GuestsNow, Move, file_of, function_in, guest_named, handed_over, move_fault, path_in, with_guest, with_slot_emptied, with_slot_filled}
 use Rattle.model_registers.specs.CopiedFiles.{after_reset}

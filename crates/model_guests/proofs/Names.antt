@@ -3,21 +3,14 @@ use Rattle.std.proofs.Common.{◌≡◌, ℕ, Bool, true, false, not, ◌&&◌, 
 use Rattle.std.specs.Prelude.{codes, IsTrue, nat_le, length}
 use Rattle.std.specs.List.{list_all, starts_with}
 use Rattle.std.specs.Str.{bytes_eq}
-use Rattle.std.proofs.lemmas.Bool.{eqb-true}
+use Rattle.std.proofs.lemmas.Bool.{eqb-true, and_from, not-true}
 use Rattle.std.proofs.lemmas.Bool.Decides.{nat_tests}
 use Rattle.std.proofs.lemmas.Slice.Eq.{bytes_eq-Decides}
-use Rattle.model_registers.specs.Lists.{Each}
-use Rattle.model_registers.proofs.Tests.{left_true, right_true}
+use Rattle.lists.specs.Elements.{Each}
+use Rattle.lists.proofs.Tests.{left_true, right_true}
 use Rattle.model_guests.specs.Text.{Text}
 use Rattle.model_guests.specs.Grammar.{is_comment, has_name}
 use Rattle.model_guests.specs.World.{is_name, is_name_byte, is_letter}
-
-pub not_true : (a : Bool) → not a ≡ true → a ≡ false
-not_true true h = cc
-not_true false h = refl
-
-pub both : (a b : Bool) → a ≡ true → b ≡ true → (a && b) ≡ true
-both a b h k = rw (h, k)
 
 -- the text is without this byte
 abbrev pub lacks : ℕ → Text → Bool
@@ -35,7 +28,7 @@ differs b c h k = cases (eqb c b) refl
 bytes_lack : (b : ℕ) (cs : Text) → is_name_byte b ≡ false → list_all is_name_byte cs ≡ true → lacks b cs ≡ true
 bytes_lack b [] h k = refl
 bytes_lack b (c ∷ cs) h k =
-    both (not (eqb c b)) (lacks b cs) (ap not (differs b c h (left_true (is_name_byte c) (list_all is_name_byte cs) k))) (bytes_lack b cs h (right_true (is_name_byte c) (list_all is_name_byte cs) k))
+    and_from (not (eqb c b)) (lacks b cs) (ap not (differs b c h (left_true (is_name_byte c) (list_all is_name_byte cs) k))) (bytes_lack b cs h (right_true (is_name_byte c) (list_all is_name_byte cs) k))
 
 letter_is_name_byte : (c : ℕ) → is_letter c ≡ true → is_name_byte c ≡ true
 letter_is_name_byte c h = ap (λ t. t || (nat_le 48 c && nat_le c 57)) h
@@ -56,12 +49,12 @@ name_facts (c ∷ cs) h =
     let three : (is_letter c && bytes && short) ≡ true = left_true (is_letter c && bytes && short) other h in
     let two : (is_letter c && bytes) ≡ true = left_true (is_letter c && bytes) short three in
     let first : is_name_byte c ≡ true = letter_is_name_byte c (left_true (is_letter c) bytes two) in
-    let all : list_all is_name_byte (c ∷ cs) ≡ true = both (is_name_byte c) bytes first (right_true (is_letter c) bytes two) in
+    let all : list_all is_name_byte (c ∷ cs) ≡ true = and_from (is_name_byte c) bytes first (right_true (is_letter c) bytes two) in
     let mark : eqb c 63 ≡ false = differs 63 c refl first in
     record {
       no_colon = bytes_lack 58 (c ∷ cs) refl all;
       one_line = bytes_lack 10 (c ∷ cs) refl all;
-      not_host = not_true (bytes_eq (c ∷ cs) (codes "host")) (right_true (is_letter c && bytes && short) other h);
+      not_host = not-true (bytes_eq (c ∷ cs) (codes "host")) (right_true (is_letter c && bytes && short) other h);
       not_nobody = rw mark;
       not_comment = differs 35 c refl first;
     }
@@ -90,8 +83,8 @@ eqb_turned a b h = grind (arith, nat_tests)
 pub begins : (x y r : Text) → lacks 58 x ≡ true → lacks 58 y ≡ true → starts_with eqb ((x ++ codes ": ") ++ r) (y ++ codes ": ") ≡ bytes_eq y x
 begins [] [] r h k = refl
 begins [] (c ∷ cs) r h k =
-    let e : eqb c 58 ≡ false = not_true (eqb c 58) (left_true (not (eqb c 58)) (lacks 58 cs) k) in rw e
+    let e : eqb c 58 ≡ false = not-true (eqb c 58) (left_true (not (eqb c 58)) (lacks 58 cs) k) in rw e
 begins (d ∷ ds) [] r h k =
-    let e : eqb 58 d ≡ false = eqb_turned d 58 (not_true (eqb d 58) (left_true (not (eqb d 58)) (lacks 58 ds) h)) in rw e
+    let e : eqb 58 d ≡ false = eqb_turned d 58 (not-true (eqb d 58) (left_true (not (eqb d 58)) (lacks 58 ds) h)) in rw e
 begins (d ∷ ds) (c ∷ cs) r h k =
     ap (λ b. eqb c d && b) (begins ds cs r (right_true (not (eqb d 58)) (lacks 58 ds) h) (right_true (not (eqb c 58)) (lacks 58 cs) k))

@@ -3,18 +3,19 @@ use Rattle.std.proofs.Common.{◌≡◌, ℕ, zero, suc, Bool, true, false, not,
 use Rattle.std.specs.Prelude.{codes, decimal}
 use Rattle.std.specs.Fmt.{digits, digits_onto, digit_glyph}
 use Rattle.std.proofs.lemmas.Bool.Decides.{nat_tests}
-use Rattle.model_registers.specs.Lists.{Each}
-use Rattle.model_registers.proofs.Tests.{left_true, right_true}
+use Rattle.std.proofs.lemmas.Bool.{and_from, not-true}
+use Rattle.lists.specs.Elements.{Each}
+use Rattle.lists.proofs.Tests.{left_true, right_true}
 use Rattle.model_guests.specs.Accesses.{Reply, answered, done, refused}
 use Rattle.model_guests.specs.Text.{Text, lines, onto, text_of_lines}
 use Rattle.model_guests.specs.Replies.{hex_digits, refusal_words, reply_text, who_text, line_text}
 use Rattle.model_guests.specs.Grammar.{Who}
-use Rattle.model_guests.proofs.Names.{lacks, not_true, both}
+use Rattle.model_guests.proofs.Names.{lacks}
 
 lacks_append : (b : ℕ) (s t : Text) → lacks b s ≡ true → lacks b t ≡ true → lacks b (s ++ t) ≡ true
 lacks_append b [] t h k = k
 lacks_append b (c ∷ cs) t h k =
-    both (not (eqb c b)) (lacks b (cs ++ t)) (left_true (not (eqb c b)) (lacks b cs) h) (lacks_append b cs t (right_true (not (eqb c b)) (lacks b cs) h) k)
+    and_from (not (eqb c b)) (lacks b (cs ++ t)) (left_true (not (eqb c b)) (lacks b cs) h) (lacks_append b cs t (right_true (not (eqb c b)) (lacks b cs) h) k)
 
 -- ---- cutting what was put together
 
@@ -22,7 +23,7 @@ lacks_append b (c ∷ cs) t h k =
 pub first_line : (l rest : Text) → lacks 10 l ≡ true → lines (l ++ 10 ∷ rest) ≡ l ∷ lines rest
 first_line [] rest h = refl
 first_line (c ∷ cs) rest h =
-    let e : eqb c 10 ≡ false = not_true (eqb c 10) (left_true (not (eqb c 10)) (lacks 10 cs) h) in
+    let e : eqb c 10 ≡ false = not-true (eqb c 10) (left_true (not (eqb c 10)) (lacks 10 cs) h) in
     ap (λ t. cond t ([] ∷ lines (cs ++ 10 ∷ rest)) (onto c (lines (cs ++ 10 ∷ rest)))) e
     ∙ ap (onto c) (first_line cs rest (right_true (not (eqb c 10)) (lacks 10 cs) h))
 
@@ -46,7 +47,7 @@ glyph d = glyph_at d (ltb d 10) refl
 
 hex_one_line : (k n : ℕ) → lacks 10 (hex_digits k n) ≡ true
 hex_one_line zero n = refl
-hex_one_line (suc k) n = lacks_append 10 (hex_digits k (n / 16)) (digit_glyph false (n % 16) ∷ []) (hex_one_line k (n / 16)) (both (not (eqb (digit_glyph false (n % 16)) 10)) true (glyph (n % 16)) refl)
+hex_one_line (suc k) n = lacks_append 10 (hex_digits k (n / 16)) (digit_glyph false (n % 16) ∷ []) (hex_one_line k (n / 16)) (and_from (not (eqb (digit_glyph false (n % 16)) 10)) true (glyph (n % 16)) refl)
 
 either : (b : Bool) (s t : Text) → lacks 10 s ≡ true → lacks 10 t ≡ true → lacks 10 (cond b s t) ≡ true
 either true s t h k = h
@@ -56,7 +57,7 @@ digits_one_line : (fuel n : ℕ) (acc : Text) → lacks 10 acc ≡ true → lack
 digits_one_line zero n acc h = h
 digits_one_line (suc fuel) n acc h =
     let more : Text = digit_glyph false (n % 10) ∷ acc in
-    let one : lacks 10 more ≡ true = both (not (eqb (digit_glyph false (n % 10)) 10)) (lacks 10 acc) (glyph (n % 10)) h in
+    let one : lacks 10 more ≡ true = and_from (not (eqb (digit_glyph false (n % 10)) 10)) (lacks 10 acc) (glyph (n % 10)) h in
     either (eqb (n / 10) 0) more (digits_onto fuel 10 false (n / 10) more) one (digits_one_line fuel (n / 10) more one)
 
 decimal_one_line : (n : ℕ) → lacks 10 (decimal n) ≡ true

@@ -1,7 +1,7 @@
 -- In a script without moves a guest's inputs are its own lines.
 use Rattle.std.proofs.Common.{◌≡◌, Bool, true, false, List, [], ◌∷◌, ◌++◌, Option, refl, sym, ap, ◌∙◌, subst}
 use Rattle.std.specs.Prelude.{map, IsFalse}
-use Rattle.model_registers.specs.Lists.{Each}
+use Rattle.lists.specs.Elements.{Each}
 use Rattle.model_registers.specs.Declarations.{Endpoint}
 use Rattle.model_guests.specs.Text.{Text, lines}
 use Rattle.model_guests.specs.Grammar.{is_own_line, own_lines}

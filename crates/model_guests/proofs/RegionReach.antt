@@ -3,7 +3,8 @@ use Rattle.std.proofs.Common.{◌≡◌, ℕ, ◌+◌, ◌%◌, ◌≤◌, Bool,
 use Rattle.std.specs.Prelude.{find, nat_le}
 use Rattle.std.specs.Option.{option_map_or}
 use Rattle.std.proofs.lemmas.Bool.Decides.{nat_tests}
-use Rattle.model_registers.specs.Lists.{IsIn}
+use Rattle.lists.specs.Elements.{IsIn}
+use Rattle.lists.proofs.Tests.{and_false}
 use Rattle.model_registers.specs.Declarations.{Endpoint}
 use Rattle.model_registers.specs.Decoding.{Space}
 use Rattle.model_registers.proofs.HitRegions.{hit_is_of_region}
@@ -13,10 +14,10 @@ use Rattle.model_board.specs.State.{BoardFunction}
 use Rattle.model_board.specs.Claims.{first_claim}
 use Rattle.model_registers.specs.ConfigAddress.{is_enabled, is_data_port, selected_offset}
 use Rattle.model_board.specs.Ports.{config_address, config_data, ordinary, port_target, selected}
-use Rattle.model_board.specs.SetUp.{first_of}
+use Rattle.model_set_up.specs.SetUp.{first_of}
 use Rattle.model_board.proofs.PathOrder.{path_same}
-use Rattle.model_board.proofs.PlacedWithinLaw.{placed_within}
-use Rattle.model_board.proofs.UniqueClaimant.{claim_of_region}
+use Rattle.model_set_up.proofs.PlacedWithinLaw.{placed_within}
+use Rattle.model_set_up.proofs.UniqueClaimant.{claim_of_region}
 use Rattle.model_guests.specs.World.{declared, endpoint_of}
 use Rattle.model_guests.specs.AgreedBoard.{agreed_state}
 use Rattle.model_guests.specs.RegionLaws.{HitReachesRegion}
@@ -43,10 +44,6 @@ declared_row (r ∷ rs) p d h = cases (path_eq r.path p) refl h (declared_row rs
 
 lanes_of : (first off n : ℕ) → first % 4 ≡ 0 → off % 4 ≡ n % 4 → (first + off) % 4 ≡ n % 4
 lanes_of first off n h k = omega arith
-
-and_false : (t : Bool) → (t && false) ≡ false
-and_false true = refl
-and_false false = refl
 
 no_less : (first off : ℕ) → 0x1000 ≤ first → 0x1000 ≤ first + off
 no_less first off h = omega arith

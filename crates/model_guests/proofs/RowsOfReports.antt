@@ -2,7 +2,7 @@
 use Rattle.std.proofs.Common.{◌≡◌, [], ◌∷◌, refl}
 use Rattle.std.specs.Fmt.{digits}
 use Rattle.model_board.specs.Board.{endpoint}
-use Rattle.model_board.specs.Examples.{part, function_at, aperture, main_apertures, memory_of, twin_bridges}
+use Rattle.model_set_up.specs.Examples.{part, function_at, aperture, main_apertures, memory_of, twin_bridges}
 use Rattle.std.specs.Prelude.{codes}
 use Rattle.model_guests.specs.Text.{text_of_lines}
 use Rattle.model_guests.specs.Report.{report}

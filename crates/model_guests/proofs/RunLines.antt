@@ -2,23 +2,35 @@
 use Rattle.std.proofs.Common.{◌≡◌, ℕ, Bool, true, false, not, ◌||◌, List, [], ◌∷◌, ◌++◌, length, take, refl, sym, ap, ap₂, ◌∙◌, subst, append_assoc, eqb}
 use Rattle.std.specs.List.{list_any}
 use Rattle.std.specs.Io.{StartsWith}
+use Rattle.std.proofs.lemmas.Bool.{and_from}
 use Rattle.model_guests.specs.Text.{Text, ends_line, lines, text_of_lines}
 use Rattle.model_guests.specs.Grammar.{nobody}
 use Rattle.model_guests.specs.Lines.{meaning, bad}
-use Rattle.model_guests.specs.WorldNow.{WorldNow, names_now, line_output, after_line, output, after_lines, written_by, after_meaning}
-use Rattle.model_guests.specs.Runs.{first_output, StoppedIsBeginning, CutIsBeginning, OutputAlong, AfterAlong, LinesOfPieces, LongLinesAlike}
-use Rattle.model_guests.proofs.Names.{lacks, both}
+use Rattle.model_guests.specs.WorldNow.{names_now, line_output, after_line, written_by, after_meaning}
+use Rattle.model_guests.specs.LineRuns.{Protocol, output, after_lines, first_output, StoppedIsBeginning, CutIsBeginning, OutputAlong, AfterAlong, LinesOfPieces}
+use Rattle.model_guests.specs.Runs.{OutputByProtocol, AfterByProtocol, LongLinesAlike}
+use Rattle.model_guests.proofs.Names.{lacks}
 use Rattle.model_guests.proofs.OutputLines.{first_line, one_more}
 
-pub after_along : AfterAlong
-after_along w [] ms = refl
-after_along w (l ∷ ls) ms = after_along (after_line w l) ls ms
+pub after_along : {S : Type 0} (p : Protocol S) → AfterAlong p
+after_along p s [] ms = refl
+after_along p s (l ∷ ls) ms = after_along p (p.next s l) ls ms
 
-pub output_along : OutputAlong
-output_along w [] ms = refl
-output_along w (l ∷ ls) ms =
-    ap (λ (t : Text). line_output w l ++ t) (output_along (after_line w l) ls ms)
-    ∙ sym (append_assoc (line_output w l) (output (after_line w l) ls) (output (after_lines (after_line w l) ls) ms))
+pub output_along : {S : Type 0} (p : Protocol S) → OutputAlong p
+output_along p s [] ms = refl
+output_along p s (l ∷ ls) ms =
+    ap (λ (t : Text). p.writes s l ++ t) (output_along p (p.next s l) ls ms)
+    ∙ sym (append_assoc (p.writes s l) (output p (p.next s l) ls) (output p (after_lines p (p.next s l) ls) ms))
+
+-- ---- worlds
+
+pub output_by_protocol : OutputByProtocol
+output_by_protocol w [] = refl
+output_by_protocol w (l ∷ ls) = ap (λ (t : Text). line_output w l ++ t) (output_by_protocol (after_line w l) ls)
+
+pub after_by_protocol : AfterByProtocol
+after_by_protocol w [] = refl
+after_by_protocol w (l ∷ ls) = after_by_protocol (after_line w l) ls
 
 -- ---- lines
 
@@ -28,7 +40,7 @@ lacks_end (c ∷ cs) h = cases (eqb c 10) refl h (lacks_end cs)
   where
     cases : (t : Bool) → eqb c 10 ≡ t → (t || list_any ends_line cs) ≡ false → (list_any ends_line cs ≡ false → lacks 10 cs ≡ true) → lacks 10 (c ∷ cs) ≡ true
     cases true e h more = cc
-    cases false e h more = both (not (eqb c 10)) (lacks 10 cs) (ap not e) (more h)
+    cases false e h more = and_from (not (eqb c 10)) (lacks 10 cs) (ap not e) (more h)
 
 pub lines_of_pieces : LinesOfPieces
 lines_of_pieces [] none rest = refl
@@ -62,28 +74,28 @@ starts_more (x ∷ xs) ys (z ∷ zs) h =
     let rest : take (length zs) xs ≡ zs = cc in
     ap₂ (λ (c : ℕ) (cs : Text). c ∷ cs) head (starts_more xs ys zs rest)
 
-first_begins : (w : WorldNow) (ls : List Text) (part : Text) → StartsWith (first_output w ls) part → StartsWith (output w ls) part
-first_begins w [] part h = h
-first_begins w (l ∷ ls) part h = starts_more (line_output w l) (output (after_line w l) ls) part h
+first_begins : {S : Type 0} (p : Protocol S) (s : S) (ls : List Text) (part : Text) → StartsWith (first_output p s ls) part → StartsWith (output p s ls) part
+first_begins p s [] part h = h
+first_begins p s (l ∷ ls) part h = starts_more (p.writes s l) (output p (p.next s l) ls) part h
 
-pub stopped_is_beginning : StoppedIsBeginning
-stopped_is_beginning w ls old new end h = record {
-  text = output w h.whole ++ h.part;
+pub stopped_is_beginning : {S : Type 0} (p : Protocol S) → StoppedIsBeginning p
+stopped_is_beginning p s ls old new end h = record {
+  text = output p s h.whole ++ h.part;
   written = h.written;
-  begins = subst (λ (t : Text). StartsWith t (output w h.whole ++ h.part)) (sym (ap (output w) h.in_order ∙ output_along w h.whole h.rest))
-      (starts_after (output w h.whole) (output (after_lines w h.whole) h.rest) h.part (first_begins (after_lines w h.whole) h.rest h.part h.begins));
+  begins = subst (λ (t : Text). StartsWith t (output p s h.whole ++ h.part)) (sym (ap (output p s) h.in_order ∙ output_along p s h.whole h.rest))
+      (starts_after (output p s h.whole) (output p (after_lines p s h.whole) h.rest) h.part (first_begins p (after_lines p s h.whole) h.rest h.part h.begins));
 }
 
-pub cut_is_beginning : CutIsBeginning
-cut_is_beginning w old_rest new_rest old new end h =
+pub cut_is_beginning : {S : Type 0} (p : Protocol S) → CutIsBeginning p
+cut_is_beginning p s old_rest new_rest old new end h =
     let read : Text = text_of_lines h.whole ++ h.part in
-    let all : output w (lines read) ≡ output w h.whole ++ output (after_lines w h.whole) (lines h.part) =
-    ap (output w) (lines_of_pieces h.whole h.each_line h.part) ∙ output_along w h.whole (lines h.part) in (
+    let all : output p s (lines read) ≡ output p s h.whole ++ output p (after_lines p s h.whole) (lines h.part) =
+    ap (output p s) (lines_of_pieces h.whole h.each_line h.part) ∙ output_along p s h.whole (lines h.part) in (
       read,
       h.read,
       record {
-        text = output w h.whole;
+        text = output p s h.whole;
         written = h.written;
-        begins = subst (λ (t : Text). StartsWith t (output w h.whole)) (sym all) (starts (output w h.whole) (output (after_lines w h.whole) (lines h.part)));
+        begins = subst (λ (t : Text). StartsWith t (output p s h.whole)) (sym all) (starts (output p s h.whole) (output p (after_lines p s h.whole) (lines h.part)));
       },
     )

@@ -4,7 +4,7 @@ use Rattle.std.specs.Prelude.{map, find, flat_map, replicate, slice_get, IsFalse
 use Rattle.std.specs.Option.{option_map_or}
 use Rattle.std.specs.Str.{bytes_eq}
 use Rattle.std.proofs.lemmas.List.{length-append, length-map, length-replicate}
-use Rattle.model_registers.specs.Lists.{Each, EachPair}
+use Rattle.lists.specs.Elements.{Each, EachPair}
 use Rattle.model_registers.specs.Declarations.{Endpoint}
 use Rattle.model_board.specs.Paths.{Path, path_eq}
 use Rattle.model_board.specs.Board.{Board}
@@ -13,9 +13,11 @@ use Rattle.model_guests.specs.Text.{Text}
 use Rattle.model_guests.specs.World.{Guest, World, declared}
 use Rattle.model_guests.specs.Guests.{GuestNow, guest_at_first, guest_named, path_in}
 use Rattle.model_guests.specs.Seated.{AreSeats, IsSeat, IsSeatedGuest, SeatedAtFirst}
-use Rattle.model_guests.proofs.ListFacts.{each_at, each_parts, PairParts, pair_parts}
+use Rattle.lists.proofs.Indices.{each_at}
+use Rattle.lists.proofs.EachLemmas.{each_parts, PairParts, pair_parts}
+use Rattle.model_board.proofs.PathEnds.{path_self}
 use Rattle.model_guests.proofs.Names.{equal_texts}
-use Rattle.model_guests.proofs.GuestFiles.{path_self, slots_among, NamesApart, PathsApart, of_slot}
+use Rattle.model_guests.proofs.GuestFiles.{slots_among, NamesApart, PathsApart, of_slot}
 use Rattle.model_guests.proofs.GuestsByName.{path_at, path_of}
 
 -- ---- one guest

@@ -3,7 +3,7 @@ use Rattle.std.proofs.Common.{◌≡◌, ℕ, zero, suc, Bool, true, false, cond
 use Rattle.std.specs.Prelude.{slice_set, is_some, option_map, IsFalse}
 use Rattle.std.specs.Str.{bytes_eq}
 use Rattle.std.proofs.lemmas.List.{length-set}
-use Rattle.model_registers.specs.Lists.{Each, EachPair}
+use Rattle.lists.specs.Elements.{Each, EachPair}
 use Rattle.model_registers.specs.Decoding.{Function}
 use Rattle.model_board.specs.Paths.{Path}
 use Rattle.model_board.specs.Board.{Board}

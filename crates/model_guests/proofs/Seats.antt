@@ -3,7 +3,7 @@ use Rattle.std.proofs.Common.{◌≡◌, ℕ, zero, suc, ◌/◌, ◌%◌, Bool,
 use Rattle.std.specs.Prelude.{slice_set, is_some, option_map, IsFalse}
 use Rattle.std.specs.Option.{option_map_or}
 use Rattle.std.specs.Str.{bytes_eq}
-use Rattle.model_registers.specs.Lists.{Each, EachPair}
+use Rattle.lists.specs.Elements.{Each, EachPair}
 use Rattle.model_registers.specs.Cell.{Cell, written, raised}
 use Rattle.model_registers.specs.Registers.{Place, place_eq, after, Entry, File, changed, write, raise, all_bytes}
 use Rattle.model_registers.specs.Decoding.{Function}

@@ -1,16 +1,15 @@
 -- The table of an endpoint after set-up and at reset: the same places, and the same cells but for those of which a guest has copies.
-use Rattle.std.proofs.Common.{◌≡◌, ℕ, zero, suc, ◌+◌, ◌*◌, ◌/◌, ◌≤◌, ◌<◌, Bool, true, false, cond, List, [], ◌∷◌, ◌++◌, refl, sym, ap, ap₂, ◌∙◌, arith}
+use Rattle.std.proofs.Common.{◌≡◌, ℕ, zero, suc, ◌+◌, ◌*◌, ◌/◌, ◌≤◌, Bool, true, false, cond, List, [], ◌∷◌, ◌++◌, refl, sym, ap, ap₂, ◌∙◌, arith}
 use Rattle.std.specs.Prelude.{flat_map, ⊤, IsFalse}
-use Rattle.std.proofs.lemmas.Bool.Decides.{nat_tests}
-use Rattle.model_registers.specs.Lists.{Each}
+use Rattle.lists.specs.Elements.{Each}
+use Rattle.model_registers.proofs.Owned.{base_is_own}
 use Rattle.model_registers.specs.Cell.{Cell}
 use Rattle.model_registers.specs.Registers.{Place, config, place_eq, Entry, File, cell_at, field}
 use Rattle.model_registers.specs.Declarations.{Kind, io_kind, mem32, mem64, registers_of, Region, Endpoint, IsLawfulRegion}
 use Rattle.model_registers.specs.EndpointTable.{base_cells, region_cells, block_cells, header_cells, config_cells, endpoint_file, endpoint_reset}
 use Rattle.model_registers.specs.OwnCopies.{is_own}
-use Rattle.model_registers.specs.CopiedFiles.{agreed_file}
+use Rattle.model_registers.specs.CopiedFiles.{agreed_file, places_of}
 use Rattle.model_guests.proofs.DistinctPlaces.{HasDistinctPlaces}
-use Rattle.model_registers.specs.CopiedFiles.{places_of}
 use Rattle.model_guests.proofs.AgreedFiles.{place_self}
 
 -- entry by entry: the same place, and the same cell unless the guest has a copy of it
@@ -39,9 +38,6 @@ alike_places [] [] h = refl
 alike_places [] (l ∷ ls) h = absurd h
 alike_places (o ∷ os) [] h = absurd h
 alike_places (o ∷ os) (l ∷ ls) h = ap₂ (λ (p : Place) (ps : List Place). p ∷ ps) h.0.place (alike_places os ls h.1)
-
-base_is_own : (a : ℕ) → 0x10 ≤ a → a < 0x28 → is_own (config a) ≡ true
-base_is_own a h k = grind (arith, nat_tests)
 
 -- a register of which the guest has a copy, with two values
 alike_registers : (w a v u m c : ℕ) → 0x10 ≤ a → a + w ≤ 0x28 → Alike (field (config a) w v m c) (field (config a) w u m c)

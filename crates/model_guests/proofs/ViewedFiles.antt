@@ -1,13 +1,14 @@
 -- A guest's file is the board's with the guest's copies put in.
 use Rattle.std.proofs.Common.{◌≡◌, Bool, true, false, cond, [], ◌∷◌, refl, sym, ap, ap₂, ◌∙◌}
 use Rattle.std.specs.Prelude.{IsTrue}
-use Rattle.model_registers.specs.Lists.{Each}
+use Rattle.lists.specs.Elements.{Each}
+use Rattle.model_registers.proofs.RegisterFiles.{place_same}
 use Rattle.model_registers.specs.Cell.{Cell}
 use Rattle.model_registers.specs.Registers.{Place, place_eq, Entry, File, cell_at}
 use Rattle.model_registers.specs.OwnCopies.{is_own}
 use Rattle.model_registers.specs.CopiedFiles.{agreed_file, copied, places_of, with_copies}
 use Rattle.model_guests.specs.ViewLaws.{ViewAgrees, ViewIsFile}
-use Rattle.model_guests.proofs.AgreedFiles.{same_place, agreed_common}
+use Rattle.model_guests.proofs.AgreedFiles.{agreed_common}
 use Rattle.model_guests.proofs.TablePlaces.{found_entries}
 
 abbrev agreed_entry : File → Entry → Entry
@@ -41,7 +42,7 @@ other_cell copies [] p h = refl
 other_cell copies (e ∷ es) p h = cases (is_own e.place) refl (place_eq e.place p) refl (other_cell copies es p h)
   where
     cases : (t : Bool) → is_own e.place ≡ t → (u : Bool) → place_eq e.place p ≡ u → cell_at (with_copies copies es) p ≡ cell_at es p → cell_at (with_copies copies (e ∷ es)) p ≡ cell_at (e ∷ es) p
-    cases true i true k more = let same = ap is_own (same_place e.place p k) in cc
+    cases true i true k more = let same = ap is_own (place_same e.place p k) in cc
     cases true i false k more = rw (i, k) more
     cases false i u k more = rw i (ap (λ (c : Cell). cond (place_eq e.place p) e.cell c) more)
 

@@ -3,7 +3,7 @@
 use Rattle.std.proofs.Common.{◌≡◌, Bool, true, false, cond, List, [], ◌∷◌, ◌++◌, Some, None, Option, refl, sym, ap, ◌∙◌, subst, append_assoc}
 use Rattle.std.specs.Prelude.{codes, IsTrue}
 use Rattle.std.specs.Str.{bytes_eq}
-use Rattle.model_registers.specs.Lists.{Each}
+use Rattle.lists.specs.Elements.{Each}
 use Rattle.model_guests.specs.Accesses.{Event, refused}
 use Rattle.model_guests.specs.Lone.{answer}
 use Rattle.model_guests.specs.Text.{Text, lines, words, text_of_lines}
@@ -15,7 +15,7 @@ use Rattle.model_guests.specs.Replies.{who_text}
 use Rattle.model_guests.specs.WorldNow.{WorldNow, names_now, host_reply, move_reply, written_by, after_line, output}
 use Rattle.model_guests.proofs.Along.{names_stay}
 use Rattle.model_guests.proofs.Names.{lacks, named_facts}
-use Rattle.model_guests.proofs.ListFacts.{each_append}
+use Rattle.lists.proofs.EachLemmas.{each_append}
 use Rattle.model_guests.proofs.OutputLines.{lines_again, line_one_line}
 
 abbrev pub written_along : WorldNow → List Text → List Text

@@ -13,12 +13,12 @@ use Rattle.model_registers.specs.Decoding.{Function}
 use Rattle.model_board.specs.Paths.{Path}
 use Rattle.model_board.specs.Board.{Board, IsBoard}
 use Rattle.model_board.specs.Lawful.{HasLawfulDecls}
-use Rattle.model_board.specs.Pools.{Apertures}
+use Rattle.model_registers.specs.Apertures.{Apertures}
 use Rattle.model_board.specs.BusNumbers.{Enumerates}
-use Rattle.model_board.specs.Reach.{HasNumbers}
+use Rattle.model_set_up.specs.Reach.{HasNumbers}
 use Rattle.model_board.specs.Routing.{routing}
 use Rattle.model_board.specs.State.{BoardFunction, State}
-use Rattle.model_board.specs.SetUp.{set_up_state}
+use Rattle.model_set_up.specs.SetUp.{set_up_state}
 use Rattle.model_registers.specs.CopiedFiles.{places_of, agreed_file}
 use Rattle.model_guests.specs.Text.{Text}
 use Rattle.model_guests.specs.World.{World, IsLawfulWorld}

@@ -14,7 +14,7 @@ use Rattle.model_registers.specs.EndpointTable.{endpoint_reset}
 use Rattle.model_registers.specs.OwnCopies.{is_own, handed_on}
 use Rattle.model_board.specs.Paths.{Path, path_eq}
 use Rattle.model_board.specs.Board.{Board}
-use Rattle.model_board.specs.Pools.{Apertures}
+use Rattle.model_registers.specs.Apertures.{Apertures}
 use Rattle.model_board.specs.State.{State}
 use Rattle.model_guests.specs.Accesses.{Event, access, raises, Op, reads, writes}
 use Rattle.model_registers.specs.CopiedFiles.{agreed_file, after_reset}

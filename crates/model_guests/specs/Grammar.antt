@@ -8,7 +8,7 @@ use Rattle.std.specs.Prelude.{List, [], ◌∷◌, ℕ, Bool, false, ◌&&◌, �
 use Rattle.std.specs.Prelude.{Option, Some, None, filter, codes, option_and_then}
 use Rattle.std.specs.List.{list_any}
 use Rattle.std.specs.Str.{bytes_eq}
-use Rattle.model_registers.specs.Lists.{first_of_two}
+use Rattle.lists.specs.Elements.{first_of_two}
 use Rattle.model_board.specs.Cycles.{BusAddress}
 use Rattle.model_guests.specs.Accesses.{Target, configuration, port, address, Op, reads, writes, RaisePlace, in_config}
 use Rattle.model_guests.specs.Accesses.{in_region, Event, access, raises}

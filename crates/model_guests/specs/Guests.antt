@@ -11,7 +11,7 @@ use Rattle.std.specs.Prelude.{unwrap_or, slice_get, slice_set, map, find, length
 use Rattle.std.specs.Prelude.{option_and_then}
 use Rattle.std.specs.Option.{option_map_or}
 use Rattle.std.specs.Str.{bytes_eq}
-use Rattle.model_registers.specs.Lists.{first_some}
+use Rattle.lists.specs.Elements.{first_some}
 use Rattle.model_registers.specs.Registers.{File}
 use Rattle.model_registers.specs.Declarations.{Endpoint}
 use Rattle.model_registers.specs.Decoding.{Function}

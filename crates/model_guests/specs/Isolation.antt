@@ -5,7 +5,7 @@
 --     HasNoMove, OwnLinesAlone      in a script without moves the inputs are the own lines
 --     IsolatedByOwnLines, TwoWorldsByOwnLines      so there a guest's own lines alone decide
 use Rattle.std.specs.Prelude.{List, ◌≡◌, Bool, true, false, map, IsTrue, IsFalse}
-use Rattle.model_registers.specs.Lists.{Each}
+use Rattle.lists.specs.Elements.{Each}
 use Rattle.model_guests.specs.Text.{Text, lines}
 use Rattle.model_guests.specs.Grammar.{has_name, own_lines}
 use Rattle.model_guests.specs.World.{World, names, declarations, HasLawfulNames}

@@ -19,6 +19,7 @@ pub mod ChangeLaws
 pub mod ViewLaws
 pub mod MoveLaws
 pub mod RegionLaws
+pub mod LineRuns
 pub mod Runs
 pub mod Report
 pub mod Examples

@@ -5,7 +5,7 @@
 --     MovedFunction      afterwards the target slot has the function of the path, at reset, and the source none
 use Rattle.std.specs.Prelude.{[], ◌∷◌, ◌≡◌, ℕ, false, Some, None, IsFalse, IsSome, slice_get, slice_set}
 use Rattle.std.specs.Str.{bytes_eq}
-use Rattle.model_registers.specs.Lists.{EachPair}
+use Rattle.lists.specs.Elements.{EachPair}
 use Rattle.model_registers.specs.Decoding.{Function}
 use Rattle.model_registers.specs.EndpointTable.{endpoint_reset}
 use Rattle.model_board.specs.Paths.{Path}

@@ -2,19 +2,19 @@
 --     ReachesRegion      a hit in a function stands for a byte of the board's region, placed and claimed there
 --     HitReachesRegion      each hit in a seated function does
 use Rattle.std.specs.Prelude.{List, ◌≡◌, ℕ, ◌+◌, ◌%◌, Some}
-use Rattle.model_registers.specs.Lists.{IsIn}
+use Rattle.lists.specs.Elements.{IsIn}
 use Rattle.model_registers.specs.Declarations.{Region}
 use Rattle.model_registers.specs.Decoding.{Space, io, Function, Hit, lone_claim}
 use Rattle.model_registers.specs.DecodingLaws.{IsHitIn}
 use Rattle.model_board.specs.Paths.{Path}
 use Rattle.model_board.specs.Board.{Board}
-use Rattle.model_board.specs.Pools.{Apertures}
+use Rattle.model_registers.specs.Apertures.{Apertures}
 use Rattle.model_board.specs.State.{BoardFunction}
 use Rattle.model_board.specs.Claims.{first_claim}
 use Rattle.model_board.specs.Ports.{port_target, ordinary}
-use Rattle.model_board.specs.SetUp.{first_of}
-use Rattle.model_board.specs.PlacedRegions.{placed}
-use Rattle.model_board.specs.UniqueClaimant.{CanBePlaced, IsPlacedWithin}
+use Rattle.model_set_up.specs.SetUp.{first_of}
+use Rattle.model_set_up.specs.PlacedRegions.{placed}
+use Rattle.model_set_up.specs.UniqueClaimant.{CanBePlaced, IsPlacedWithin}
 use Rattle.model_guests.specs.Guests.{GuestsNow}
 use Rattle.model_guests.specs.AgreedBoard.{agreed_state}
 use Rattle.model_guests.specs.Seated.{IsSeatedAt, AreSeated}

@@ -11,9 +11,10 @@ use Rattle.model_board.specs.Paths.{Part, Path, last_part}
 use Rattle.model_board.specs.Board.{Decl, endpoint, bridge, is_bridge, Board}
 use Rattle.model_board.specs.BusNumbers.{secondary, subordinate, bus_of}
 use Rattle.model_board.specs.Interrupts.{root_device, root_pin}
-use Rattle.model_board.specs.Pools.{Pool, io_pool, mem_pool, pref_pool, unit_of, Apertures}
-use Rattle.model_board.specs.Placement.{Item, need, items_on, bus_first}
-use Rattle.model_board.specs.SetUp.{first_of}
+use Rattle.model_set_up.specs.Pools.{Pool, io_pool, mem_pool, pref_pool, unit_of}
+use Rattle.model_registers.specs.Apertures.{Apertures}
+use Rattle.model_set_up.specs.Placement.{Item, need, items_on, bus_first}
+use Rattle.model_set_up.specs.SetUp.{first_of}
 use Rattle.model_guests.specs.Text.{Text, text_of_lines}
 use Rattle.model_guests.specs.World.{World}
 use Rattle.model_guests.specs.Replies.{hex_digits}

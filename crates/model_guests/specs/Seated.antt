@@ -7,7 +7,7 @@
 use Rattle.std.specs.Prelude.{List, [], ◌∷◌, ◌≡◌, ℕ, false, Option, Some, None, ⊤, IsFalse, length, slice_get}
 use Rattle.std.specs.Prelude.{slice_set}
 use Rattle.std.specs.Str.{bytes_eq}
-use Rattle.model_registers.specs.Lists.{Each, EachPair}
+use Rattle.lists.specs.Elements.{Each, EachPair}
 use Rattle.model_registers.specs.Decoding.{Function}
 use Rattle.model_registers.specs.EndpointTable.{endpoint_reset}
 use Rattle.model_board.specs.Paths.{Path}

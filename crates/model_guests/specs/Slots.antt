@@ -10,7 +10,7 @@ use Rattle.std.specs.Prelude.{length, ◌^◌, ◌++◌, not, ◌||◌, nat_lt, 
 use Rattle.std.specs.Prelude.{slice_set, unwrap_or, is_some, option_map}
 use Rattle.std.specs.List.{list_any}
 use Rattle.std.specs.Option.{option_map_or}
-use Rattle.model_registers.specs.Lists.{first_of_two}
+use Rattle.lists.specs.Elements.{first_of_two}
 use Rattle.model_registers.specs.Registers.{Place, config, block, File, write, raise, all_bytes, number, all_ones}
 use Rattle.model_registers.specs.Declarations.{Endpoint}
 use Rattle.model_registers.specs.EndpointTable.{endpoint_reset}

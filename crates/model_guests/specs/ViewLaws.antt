@@ -3,7 +3,7 @@
 --     ViewAgrees      the board agrees with its own view, whatever the copies hold
 use Rattle.std.specs.Prelude.{◌≡◌, IsTrue, IsFalse}
 use Rattle.model_registers.specs.Registers.{Place, place_eq, File, cell_at}
-use Rattle.model_registers.specs.Lists.{EachPair}
+use Rattle.lists.specs.Elements.{EachPair}
 use Rattle.model_registers.specs.OwnCopies.{is_own}
 use Rattle.model_registers.specs.CopiedFiles.{places_of, agreed_file, with_copies}
 

@@ -7,11 +7,11 @@ use Rattle.std.specs.Prelude.{map, find, flat_map, codes, IsTrue, IsFalse, IsSom
 use Rattle.std.specs.List.{list_all}
 use Rattle.std.specs.Option.{option_map_or}
 use Rattle.std.specs.Str.{bytes_eq}
-use Rattle.model_registers.specs.Lists.{Each, EachPair}
+use Rattle.lists.specs.Elements.{Each, EachPair}
 use Rattle.model_registers.specs.Declarations.{Endpoint}
 use Rattle.model_board.specs.Paths.{Path, path_eq}
 use Rattle.model_board.specs.Board.{endpoint, bridge, Row, Board, IsBoard}
-use Rattle.model_board.specs.Pools.{Apertures}
+use Rattle.model_registers.specs.Apertures.{Apertures}
 use Rattle.model_board.specs.Lawful.{HasLawfulDecls}
 use Rattle.model_guests.specs.Text.{Text}
 

@@ -7,7 +7,7 @@
 use Rattle.std.specs.Prelude.{List, [], ◌∷◌, ◌++◌, map}
 use Rattle.std.specs.Option.{option_map_or}
 use Rattle.model_board.specs.Board.{Board}
-use Rattle.model_board.specs.Pools.{Apertures}
+use Rattle.model_registers.specs.Apertures.{Apertures}
 use Rattle.model_board.specs.State.{State}
 use Rattle.model_guests.specs.Accesses.{Reply, done, refused}
 use Rattle.model_guests.specs.Text.{Text, text_of_lines}

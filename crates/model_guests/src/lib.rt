@@ -8,7 +8,8 @@ ghost use Rattle.model_guests.specs.ChangeLaws.{ChangesOneFunction, EventReaches
 ghost use Rattle.model_guests.specs.ViewLaws.{ViewAgrees, ViewIsFile};
 ghost use Rattle.model_guests.specs.MoveLaws.{InputsWithin, MoveBetween, MoveWithin, MovedFunction};
 ghost use Rattle.model_guests.specs.RegionLaws.{HitReachesRegion};
-ghost use Rattle.model_guests.specs.Runs.{AfterAlong, CutIsBeginning, LinesOfPieces, LongLinesAlike, OutputAlong, StoppedIsBeginning};
+ghost use Rattle.model_guests.specs.LineRuns.{AfterAlong, CutIsBeginning, LinesOfPieces, OutputAlong, StoppedIsBeginning};
+ghost use Rattle.model_guests.specs.Runs.{AfterByProtocol, LongLinesAlike, OutputByProtocol, world_protocol};
 
 /// To each guest a script's replies, and what it then holds, are those of its own functions and
 /// latch alone, to its own lines and the moves that touch it.
@@ -99,10 +100,12 @@ pub fn hits_reach_regions()
 /// Pieces of a script write and leave, one after the other, what the whole does, and a run that fails
 /// wrote a beginning of it.
 pub fn runs_in_pieces()
-    ensures output { OutputAlong }
-    ensures after { AfterAlong }
+    ensures world_output { OutputByProtocol }
+    ensures world_after { AfterByProtocol }
+    ensures output { OutputAlong world_protocol }
+    ensures after { AfterAlong world_protocol }
     ensures lines { LinesOfPieces }
     ensures long { LongLinesAlike }
-    ensures stopped { StoppedIsBeginning }
-    ensures cut { CutIsBeginning }
+    ensures stopped { StoppedIsBeginning world_protocol }
+    ensures cut { CutIsBeginning world_protocol }
 {}

@@ -7,7 +7,7 @@ use Rattle.std.proofs.lemmas.Bool.{cases_lt, cases_eq, cond-true, cond-false, eq
 use Rattle.std.proofs.Math.Nat.{mod-eq_of_lt, add-zero, mul-le-mul_right, mul_assoc}
 use Rattle.std.proofs.lemmas.Nat.Bits.{and_high}
 use Rattle.model_registers.specs.Registers.{config, File, read, write, field}
-use Rattle.model_registers.specs.Lists.{Each}
+use Rattle.lists.specs.Elements.{Each}
 use Rattle.model_registers.specs.ByteEnables.{is_enabled, enabled_bits}
 use Rattle.model_registers.specs.RegisterLaws.{merged}
 use Rattle.model_registers.specs.Declarations.{Kind, io_kind, mem32, mem64, registers_of, IsLawfulSize}
@@ -52,7 +52,7 @@ size_limits (mem32 false) size h = (omega arith, omega arith)
 size_limits (mem64 true) size h = (omega arith, omega arith)
 size_limits (mem64 false) size h = (omega arith, omega arith)
 
-exponent_below : (k w : ℕ) → 2 ^ k < 2 ^ w → k ≤ w
+pub exponent_below : (k w : ℕ) → 2 ^ k < 2 ^ w → k ≤ w
 exponent_below k w h = elim (cases_lt w k) [ inl above ↦ absurd (omega (arith, pow_below w k above)) | inr within ↦ within ]
 
 -- the exponents of a size and of what is left of the base's width
@@ -193,7 +193,12 @@ data Side (reg : ℕ) (b : BaseAddress) : Type 0 where
   high : reg ≡ b.index + 1 → registers_of b.kind ≡ 2 → Side reg b
   apart : (reg ≡ b.index → ⊥) → ((registers_of b.kind ≡ 2) → reg ≡ b.index + 1 → ⊥) → Side reg b
 
-one_or_two : (kind : Kind) → (registers_of kind ≡ 1) ⊎ (registers_of kind ≡ 2)
+pub registers_positive : (kind : Kind) → 0 < registers_of kind
+registers_positive io_kind = omega arith
+registers_positive (mem32 pref) = omega arith
+registers_positive (mem64 pref) = omega arith
+
+pub one_or_two : (kind : Kind) → (registers_of kind ≡ 1) ⊎ (registers_of kind ≡ 2)
 one_or_two io_kind = inl refl
 one_or_two (mem32 pref) = inl refl
 one_or_two (mem64 pref) = inr refl
@@ -281,7 +286,7 @@ read_low b rest p q r s = elim (one_or_two b.kind) [
   | inr two ↦ read_whole b rest (lower p q r s) (omega arith)
 ]
 
-and_upper : (v e : ℕ) → bit_and v (e * 2 ^ 32) ≡ bit_and (v / 2 ^ 32) e * 2 ^ 32
+pub and_upper : (v e : ℕ) → bit_and v (e * 2 ^ 32) ≡ bit_and (v / 2 ^ 32) e * 2 ^ 32
 and_upper v e =
     ap₂ bit_and (sym (shr_split v 32)) (sym (add-zero (e * 2 ^ 32))) ∙ and_block 32 (v / 2 ^ 32) e (v % 2 ^ 32) 0 (mod_below v (2 ^ 32) (pow_pos 32)) (pow_pos 32)
     ∙ omega (arith, and_zero_r (v % 2 ^ 32))

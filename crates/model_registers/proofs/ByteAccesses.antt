@@ -5,7 +5,7 @@ use Rattle.model_registers.proofs.RegisterFiles.{low_byte}
 use Rattle.std.specs.Prelude.{⊤}
 use Rattle.model_registers.specs.Cell.{written}
 use Rattle.model_registers.specs.Registers.{Place, config, block, place_eq, after, offset_of, File, cell_at, changed, read, write, number, all_bytes, all_ones}
-use Rattle.model_registers.specs.ByteEnables.{lanes, enabled_bytes, LiesInWord, enables_of, into_lanes, from_lanes, word_of}
+use Rattle.model_registers.specs.ByteEnables.{lanes, enabled_bytes, into_lanes, word_of}
 use Rattle.model_registers.specs.AccessLaws.{AlignedLiesInWord, NumberByLanes, LanesFit, NumberFromWord, AllOnesByLanes, WriteByLanes, DisabledRead, DisabledStay, HoldsBytes, NumberFits, ReadsEnabled}
 
 pub aligned_lies_in_word : AlignedLiesInWord
@@ -248,27 +248,3 @@ pub reads_enabled : ReadsEnabled
 reads_enabled file h p ons = read_takes_bytes file p ons (takes_bytes file h p ons)
 
 -- ---- an access in code: its offset a, width n, enables, word and lanes are known by equations
-
-enables_given : (off w a n enables : ℕ) → a ≡ off → n ≡ w → enables ≡ enables_of a n → lanes enables ≡ lanes (enables_of off w)
-enables_given off w a n enables is wide on = ap lanes (on ∙ ap₂ enables_of is wide)
-
-pub number_of_access : (file : File) (p at : Place) (w a n enables word out : ℕ) → LiesInWord (offset_of p) w → a ≡ offset_of p → n ≡ w → at ≡ word_of p
-    → enables ≡ enables_of a n → word ≡ read file at (lanes enables) → word ≡ enabled_bytes (lanes enables) word → out ≡ from_lanes a n word → out ≡ number file p w
-number_of_access file p at w a n enables word out within is wide place on reads only gives =
-    let ons : lanes enables ≡ lanes (enables_of (offset_of p) w) = enables_given (offset_of p) w a n enables is wide on in
-    gives ∙ ap₂ (λ x m. from_lanes x m word) is wide
-    ∙ number_from_word file p w word within (reads ∙ ap₂ (read file) place ons) (only ∙ ap (λ l. enabled_bytes l word) ons)
-
-pub write_of_access : (file : File) (p at : Place) (w v a n enables word : ℕ) → LiesInWord (offset_of p) w → a ≡ offset_of p → n ≡ w → at ≡ word_of p
-    → enables ≡ enables_of a n → word ≡ into_lanes a v → write (lanes enables) word at file ≡ write (all_bytes w) v p file
-write_of_access file p at w v a n enables word within is wide place on moved =
-    ap₂ (λ l x. write l x at file) (enables_given (offset_of p) w a n enables is wide on) (moved ∙ ap (λ x. into_lanes x v) is)
-    ∙ ap (λ q. write (lanes (enables_of (offset_of p) w)) (into_lanes (offset_of p) v) q file) place
-    ∙ sym (write_by_lanes file p w v within)
-
--- the word's place as code writes it
-pub word_of-config : (a : ℕ) → config (a - a % 4) ≡ word_of (config a)
-word_of-config a = ap config (omega arith)
-
-pub word_of-block : (n a : ℕ) → block n (a - a % 4) ≡ word_of (block n a)
-word_of-block n a = ap (block n) (omega arith)

@@ -69,7 +69,7 @@ read_first [] p xs ys h = refl
 read_first (true ∷ ons) p xs ys h = ap₂ (λ (c : Cell) n. c.value + 256 * n) (first_cell xs ys p (h.0 refl)) (read_first ons (after p) xs ys h.1)
 read_first (false ∷ ons) p xs ys h = ap (λ n. 0 + 256 * n) (read_first ons (after p) xs ys h.1)
 
-same_place : (t : Bool) (e : Entry) (c : Cell) → (cond t (record e { cell = c }) e).place ≡ e.place
+pub same_place : (t : Bool) (e : Entry) (c : Cell) → (cond t (record e { cell = c }) e).place ≡ e.place
 same_place true e c = refl
 same_place false e c = refl
 
@@ -85,20 +85,20 @@ places_stay (false ∷ ons) v p q file = places_stay ons (v / 256) (after p) q f
 
 -- ---- configuration cells
 
-config_changed : (f : Cell → Cell) (p : Place) (file : File) → IsConfigFile file → IsConfigFile (changed f p file)
-config_changed f p [] h = tt
-config_changed f p (e ∷ es) h = (subst IsConfig (sym (same_place (place_eq e.place p) e (f e.cell))) h.0, config_changed f p es h.1)
+pub changed_config : (f : Cell → Cell) (p : Place) (file : File) → IsConfigFile file → IsConfigFile (changed f p file)
+changed_config f p [] h = tt
+changed_config f p (e ∷ es) h = (subst IsConfig (sym (same_place (place_eq e.place p) e (f e.cell))) h.0, changed_config f p es h.1)
 
 pub config_stays : ConfigStays
 config_stays [] v p file h = h
-config_stays (true ∷ ons) v p file h = config_stays ons (v / 256) (after p) (changed (written (v % 256)) p file) (config_changed (written (v % 256)) p file h)
+config_stays (true ∷ ons) v p file h = config_stays ons (v / 256) (after p) (changed (written (v % 256)) p file) (changed_config (written (v % 256)) p file h)
 config_stays (false ∷ ons) v p file h = config_stays ons (v / 256) (after p) file h
 
 config_is_no_block : (q : Place) (n a : ℕ) → IsConfig q → place_eq q (block n a) ≡ false
 config_is_no_block (config b) n a h = refl
 config_is_no_block (block m b) n a h = absurd h
 
-config_without_block : (file : File) (n a : ℕ) → IsConfigFile file → has_place file (block n a) ≡ false
+pub config_without_block : (file : File) (n a : ℕ) → IsConfigFile file → has_place file (block n a) ≡ false
 config_without_block [] n a h = refl
 config_without_block (e ∷ es) n a h = ap₂ (λ (s t : Bool). s || t) (config_is_no_block e.place n a h.0) (config_without_block es n a h.1)
 
@@ -162,5 +162,5 @@ pub region_write : RegionWrite
 region_write [] v n a file h = refl
 region_write (true ∷ ons) v n a file h =
     ap (write ons (v / 256) (block n (a + 1))) (region_change (written (v % 256)) n a file h)
-    ∙ region_write ons (v / 256) n (a + 1) (changed (written (v % 256)) (config a) file) (config_changed (written (v % 256)) (config a) file h)
+    ∙ region_write ons (v / 256) n (a + 1) (changed (written (v % 256)) (config a) file) (changed_config (written (v % 256)) (config a) file h)
 region_write (false ∷ ons) v n a file h = region_write ons (v / 256) n (a + 1) file h

@@ -6,8 +6,8 @@ use Rattle.model_registers.specs.Registers.{File}
 use Rattle.model_registers.specs.Declarations.{Kind, io_kind, mem32, mem64, Region}
 use Rattle.model_registers.specs.Decoding.{Space, io, memory, space_of, same_space, base, command_word, is_open, base_address, decodes, Hit, hit_of}
 use Rattle.model_registers.specs.DecodingLaws.{IsHitIn, HitIsOfRegion}
-use Rattle.model_registers.proofs.Tests.{left_true, right_true}
-use Rattle.model_registers.proofs.FirstFound.{first_some_of}
+use Rattle.lists.proofs.Tests.{left_true, right_true}
+use Rattle.lists.proofs.FirstFound.{first_some_of}
 
 base_whole : (file : File) (n : ℕ) (k : Kind) → base file n k % 4 ≡ 0
 base_whole file n io_kind = omega arith

@@ -2,7 +2,7 @@
 use Rattle.std.proofs.Common.{◌≡◌, ℕ, ◌+◌, ◌-◌, ◌*◌, ◌/◌, ◌%◌, ◌^◌, ◌<◌, ◌≤◌, true, false, List, [], ◌∷◌, ◌++◌, map, refl, sym, ap, ap₂, ◌∙◌, arith, append_assoc, lit<, lit≤}
 use Rattle.std.proofs.lemmas.Nat.{shr_split, shr_high}
 use Rattle.std.proofs.Math.Nat.{mod-eq_of_lt}
-use Rattle.model_registers.specs.Lists.{Each, EachPair, first_of_two, first_some}
+use Rattle.lists.specs.Elements.{Each, EachPair, first_of_two, first_some}
 use Rattle.model_registers.specs.Registers.{config, File, number, all_bytes}
 use Rattle.model_registers.specs.Declarations.{Kind, io_kind, mem32, mem64, Region, least_size, registers_of}
 use Rattle.model_registers.specs.EndpointTable.{base_register, type_bits, base_width, BaseAddress, register_cells, base_file, command_cells, opened, IsLawfulBase, HasLawfulBases}
@@ -62,11 +62,16 @@ every : (rs : List Region) → Each (λ (r : Region). 6 ≤ 0x10 + 4 * r.index) 
 every [] = tt
 every (r ∷ rs) = (omega arith, every rs)
 
+-- registers that hold these bases hold them
+pub bases_of_registers : (bs : List BaseAddress) → HasLawfulBases bs → (command : ℕ) → map (base_address (command_cells command ++ base_file bs)) (map opened bs) ≡ bs
+bases_of_registers bs lawful command =
+    bases_stand bs lawful.each lawful.regions.in_order
+    (command_cells command ++ base_file bs) (command_cells command) 6 refl (field_below 2 4 command 0x0547 0 6 (omega arith)) (every (map opened bs))
+
 pub hits_of_registers : (bs : List BaseAddress) → HasLawfulBases bs → (command : ℕ) → command < 2 ^ 16 → (space : Space) (a : ℕ)
     → first_hit (command_cells command ++ base_file bs) (map opened bs) space a ≡ first_some (hit_at command space a) bs
 hits_of_registers bs lawful command small space a =
     let file : File = command_cells command ++ base_file bs in
     let word : number file (config 4) 2 ≡ command = field_reads 2 4 command 0x0547 0 (base_file bs) ∙ mod-eq_of_lt small in
-    let stand : map (base_address file) (map opened bs) ≡ bs = bases_stand bs lawful.each lawful.regions.in_order
-    file (command_cells command) 6 refl (field_below 2 4 command 0x0547 0 6 (omega arith)) (every (map opened bs)) in
+    let stand : map (base_address file) (map opened bs) ≡ bs = bases_of_registers bs lawful command in
     hits_by_bases file (map opened bs) space a ∙ ap₂ (λ c (xs : List BaseAddress). first_some (hit_at c space a) xs) word stand

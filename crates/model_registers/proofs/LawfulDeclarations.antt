@@ -3,12 +3,12 @@ use Rattle.std.proofs.Common.{◌≡◌, ◌+◌, ◌<◌, ◌≤◌, ◌^◌, B
 use Rattle.std.specs.Prelude.{IsTrue, bit_and}
 use Rattle.std.specs.List.{list_all}
 use Rattle.std.specs.List.Sorted.{IsPermutation, IsNonDecreasingBy}
-use Rattle.std.proofs.lemmas.Bool.{leb-true, ltb-true, eqb-true, le-leb, lt-ltb, eq-eqb}
-use Rattle.model_registers.specs.Lists.{Each, all_pairs}
+use Rattle.std.proofs.lemmas.Bool.{leb-true, ltb-true, eqb-true, le-leb, lt-ltb, eq-eqb, and_from}
+use Rattle.lists.specs.Elements.{Each, all_pairs}
 use Rattle.model_registers.specs.Declarations.{Region, registers_of, IsLawfulSize, IsLawfulRegion, ConfigBlock, Endpoint}
 use Rattle.model_registers.specs.DeclarationRules.{first_broken, is_config_block, has_own_registers, has_lawful_numbers, blocks_apart, endpoint_rules, IsConfigBlock, FitsRegisters, IsLawfulEndpoint}
-use Rattle.model_registers.proofs.Tests.{left_true, right_true}
-use Rattle.model_registers.proofs.EachLemmas.{each_map, each_both, each_test, each_permutation, pairs_test, both_true, test_each, test_pairs}
+use Rattle.lists.proofs.Tests.{left_true, right_true}
+use Rattle.lists.proofs.EachLemmas.{each_map, each_both, each_test, each_permutation, pairs_test, test_each, test_pairs}
 use Rattle.model_registers.proofs.RegisterOrder.{in_header, sorted_are_lawful, lawful_have_own_registers}
 
 -- the four tests of an endpoint
@@ -111,8 +111,8 @@ sorted_is_lawful d ys fits sizes none perm sorted =
 
 config_block_test : (b : ConfigBlock) → IsConfigBlock b → is_config_block b ≡ true
 config_block_test b h =
-    both_true (leb 0x40 b.offset && ltb 0 (length b.cells)) (leb (b.offset + length b.cells) 0x100)
-    (both_true (leb 0x40 b.offset) (ltb 0 (length b.cells)) (le-leb _ _ h.begins) (lt-ltb _ _ h.not_empty)) (le-leb _ _ h.ends)
+    and_from (leb 0x40 b.offset && ltb 0 (length b.cells)) (leb (b.offset + length b.cells) 0x100)
+    (and_from (leb 0x40 b.offset) (ltb 0 (length b.cells)) (le-leb _ _ h.begins) (lt-ltb _ _ h.not_empty)) (le-leb _ _ h.ends)
 
 numbers_test : (d : Endpoint) → IsLawfulEndpoint d → has_lawful_numbers d ≡ true
 numbers_test d h =
@@ -122,9 +122,9 @@ numbers_test d h =
     let e = eqb (bit_and d.status 0xf900) d.status in
     let f = list_all (λ r. leb (length r.cells) 4096) d.regions in
     let g = list_all is_config_block d.blocks in
-    both_true (a && b && c && e && f) g
-    (both_true (a && b && c && e) f
-    (both_true (a && b && c) e (both_true (a && b) c (both_true a b (lt-ltb _ _ h.vendor) (lt-ltb _ _ h.class)) (le-leb _ _ h.pin)) (eq-eqb _ _ h.status))
+    and_from (a && b && c && e && f) g
+    (and_from (a && b && c && e) f
+    (and_from (a && b && c) e (and_from (a && b) c (and_from a b (lt-ltb _ _ h.vendor) (lt-ltb _ _ h.class)) (le-leb _ _ h.pin)) (eq-eqb _ _ h.status))
     (test_each (λ r. leb (length r.cells) 4096) d.regions
     (each_map (λ (r : Region). length r.cells ≤ 4096) (λ r. IsTrue (leb (length r.cells) 4096)) d.regions (λ r p. le-leb _ _ p) h.region_blocks)))
     (test_each is_config_block d.blocks (each_map IsConfigBlock (λ b. IsTrue (is_config_block b)) d.blocks config_block_test h.config_blocks))

@@ -1,15 +1,13 @@
-pub mod Tests
 pub mod RegisterFiles
 pub mod ByteAccesses
 pub mod Files
-pub mod EachLemmas
 pub mod RegisterOrder
 pub mod LawfulDeclarations
 pub mod Parts
 pub mod EnabledBytes
 pub mod Bases
 pub mod Hits
-pub mod FirstFound
 pub mod HitRegions
 pub mod Sizes
 pub mod Owned
+pub mod BareRegions

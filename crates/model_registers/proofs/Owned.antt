@@ -2,8 +2,8 @@
 use Rattle.std.proofs.Common.{◌≡◌, ℕ, zero, suc, ◌+◌, ◌*◌, ◌/◌, ◌%◌, ◌<◌, ◌≤◌, ◌⊎◌, inl, inr, Bool, true, false, not, ◌&&◌, ◌||◌, cond, List, [], ◌∷◌, ◌++◌, length, map, refl, sym, ap, ap₂, ◌∙◌, subst, arith, eqb, leb, ltb, append_assoc, ◌-◌, ◌^◌, lit<}
 use Rattle.std.specs.Prelude.{bit_and, bit_or, flat_map}
 use Rattle.std.specs.Int.Bits.{or_zero_r, and_zero_r}
-use Rattle.std.proofs.lemmas.Bool.{cases_lt, cases_Bool, or_parts, and_cases, eqb-false, leb-false, ltb-false, or_right, and_from, le-leb, lt-ltb, or_cases, and_parts, eqb-true, leb-true, ltb-true, ne_eqb}
-use Rattle.model_registers.specs.Lists.{Each, first_some}
+use Rattle.std.proofs.lemmas.Bool.{cases_lt, cases_Bool, or_parts, and_cases, eqb-false, leb-false, ltb-false, or_right, and_from, le-leb, lt-ltb, or_cases, and_parts, eqb-true, leb-true, ltb-true, ne_eqb, and_right}
+use Rattle.lists.specs.Elements.{Each, first_some}
 use Rattle.model_registers.specs.Cell.{Cell, no_cell, written, raised}
 use Rattle.model_registers.specs.Registers.{Place, config, block, place_eq, after, File, cell_at, changed, read, write, all_bytes, number, field, cells_from}
 use Rattle.model_registers.specs.Declarations.{Endpoint, ConfigBlock, Kind, io_kind, mem32, mem64, Region, registers_of, IsLawfulRegion}
@@ -16,7 +16,7 @@ use Rattle.model_registers.proofs.Parts.{IsOutside, cell_outside}
 
 -- ---- writes
 
-no_cell_stays : (b : ℕ) → written b no_cell ≡ no_cell
+pub no_cell_stays : (b : ℕ) → written b no_cell ≡ no_cell
 no_cell_stays b = ap (λ n. record { value = n; writable = 0; clearable = 0 }) (ap (λ n. bit_or n 0) (and_zero_r b) ∙ or_zero_r 0)
 
 -- a cell after a write, by its place
@@ -31,10 +31,6 @@ cell_after (true ∷ ons) x p q file =
     cell_after ons (x / 256) (after p) q (changed (written (x % 256)) p file) ∙ ap (after_write ons (x / 256) (after p) q) (change_at_place (written (x % 256)) (no_cell_stays (x % 256)) file p q)
 cell_after (false ∷ ons) x p q file = cell_after ons (x / 256) (after p) q file
 
-right_false : (s t : Bool) → t ≡ false → (s && t) ≡ false
-right_false true t h = h
-right_false false t h = refl
-
 -- a cell that is no own copy takes what is handed on, and no more
 not_owned : (p q : Place) → is_own q ≡ false → (on : Bool) → (on && place_eq p q) ≡ (on && not (is_own p) && place_eq p q)
 not_owned p q other false = refl
@@ -42,7 +38,7 @@ not_owned p q other true = elim (cases_Bool (place_eq p q)) [
   | inl same ↦
       let own : is_own p ≡ false = ap is_own (place_same p q same) ∙ other in
       ap (λ (t : Bool). not t && place_eq p q) (sym own)
-  | inr apart ↦ ap (λ (t : Bool). true && t) apart ∙ sym (right_false (not (is_own p)) (place_eq p q) apart)
+  | inr apart ↦ ap (λ (t : Bool). true && t) apart ∙ sym (and_right (not (is_own p)) (place_eq p q) apart)
 ]
 
 other_after : (ons : List Bool) (x : ℕ) (p q : Place) (c : Cell) → is_own q ≡ false → after_write ons x p q c ≡ after_write (handed_on p ons) x p q c
@@ -83,11 +79,11 @@ is_else q other =
       bases = elim (and_cases (leb 0x10 q) (ltb q 0x28) parts.1) [ inl low ↦ inl (leb-false 0x10 q low) | inr high ↦ inr (ltb-false q 0x28 high) ];
     }
 
-base_outside : (b : BaseAddress) (q : ℕ) → b.index + registers_of b.kind ≤ 6 → (q < 0x10) ⊎ (0x28 ≤ q) → IsOutside q (0x10 + 4 * b.index) (4 * registers_of b.kind)
+pub base_outside : (b : BaseAddress) (q : ℕ) → b.index + registers_of b.kind ≤ 6 → (q < 0x10) ⊎ (0x28 ≤ q) → IsOutside q (0x10 + 4 * b.index) (4 * registers_of b.kind)
 base_outside b q within (inl low) = inl (omega arith)
 base_outside b q within (inr high) = inr (omega arith)
 
-no_base : (bs : List BaseAddress) → Each IsLawfulRegion (map opened bs) → (q : ℕ) → (q < 0x10) ⊎ (0x28 ≤ q) → cell_at (base_file bs) (config q) ≡ no_cell
+pub no_base : (bs : List BaseAddress) → Each IsLawfulRegion (map opened bs) → (q : ℕ) → (q < 0x10) ⊎ (0x28 ≤ q) → cell_at (base_file bs) (config q) ≡ no_cell
 no_base [] lawful q h = refl
 no_base (b ∷ bs) lawful q h =
     cell_outside (4 * registers_of b.kind) (0x10 + 4 * b.index) q (b.base + type_bits b.kind) (2 ^ base_width b.kind - b.size) 0 (base_file bs) (base_outside b q lawful.0.registers h)
@@ -145,7 +141,7 @@ still_bases (b ∷ bs) p = still_field (4 * registers_of b.kind) (0x10 + 4 * b.i
 still_own : (own : OwnCopies) (p : Place) → IsStill (cell_at (own_file own) p)
 still_own own p = still_field 2 4 own.command 0x0547 (base_file own.bases) p (still_bases own.bases p)
 
-raised_none : (m : ℕ) → raised m no_cell ≡ no_cell
+pub raised_none : (m : ℕ) → raised m no_cell ≡ no_cell
 raised_none m = ap (λ n. record { value = n; writable = 0; clearable = 0 }) (ap (bit_or 0) (and_zero_r m) ∙ or_zero_r 0)
 
 same_cell : (t : Bool) (c d : Cell) → (t ≡ true → c ≡ d) → cond t c d ≡ d
@@ -199,13 +195,13 @@ behind : (pre one two : File) (p : Place) → cell_at one p ≡ cell_at two p �
 behind [] one two p h = h
 behind (e ∷ es) one two p h = ap (cond (place_eq e.place p) e.cell) (behind es one two p h)
 
-cells_above : (cs : List Cell) (a q : ℕ) (rest : File) → q < a → cell_at (cells_from (config a) cs ++ rest) (config q) ≡ cell_at rest (config q)
+pub cells_above : (cs : List Cell) (a q : ℕ) (rest : File) → q < a → cell_at (cells_from (config a) cs ++ rest) (config q) ≡ cell_at rest (config q)
 cells_above [] a q rest h = refl
 cells_above (c ∷ cs) a q rest h =
     let apart : eqb a q ≡ false = above a q h in
     ap (λ (t : Bool). cond t c (cell_at (cells_from (config (a + 1)) cs ++ rest) (config q))) apart ∙ cells_above cs (a + 1) q rest (omega arith)
 
-cells_elsewhere : (cs : List Cell) (n a q : ℕ) (rest : File) → cell_at (cells_from (block n a) cs ++ rest) (config q) ≡ cell_at rest (config q)
+pub cells_elsewhere : (cs : List Cell) (n a q : ℕ) (rest : File) → cell_at (cells_from (block n a) cs ++ rest) (config q) ≡ cell_at rest (config q)
 cells_elsewhere [] n a q rest = refl
 cells_elsewhere (c ∷ cs) n a q rest = cells_elsewhere cs n (a + 1) q rest
 

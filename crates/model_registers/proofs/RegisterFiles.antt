@@ -10,13 +10,19 @@ use Rattle.std.proofs.Math.Nat.{pow-suc, one-le-pow, mod-one, mod-eq_of_lt}
 use Rattle.model_registers.specs.Cell.{Cell, no_cell, written}
 use Rattle.model_registers.specs.Registers.{Place, config, block, place_eq, Entry, File, cell_at, changed, field, number, write, all_bytes}
 use Rattle.model_registers.specs.RegisterLaws.{ChangeAtPlace, FieldReads, FieldWrites, merged}
-use Rattle.model_registers.proofs.Tests.{left_true, right_true}
+use Rattle.lists.proofs.Tests.{left_true, right_true}
 
 pub place_same : (p q : Place) → place_eq p q ≡ true → p ≡ q
 place_same (config a) (config b) h = ap config (eqb-true a b h)
 place_same (block n a) (block m b) h = ap₂ block (eqb-true n m (left_true (eqb n m) (eqb a b) h)) (eqb-true a b (right_true (eqb n m) (eqb a b) h))
 place_same (config a) (block m b) h = cc
 place_same (block n a) (config b) h = cc
+
+pub place_turned : (p q : Place) → place_eq p q ≡ place_eq q p
+place_turned (config a) (config b) = grind (arith, nat_tests)
+place_turned (block n a) (block m b) = grind (arith, nat_tests)
+place_turned (config a) (block m b) = refl
+place_turned (block n a) (config b) = refl
 
 change_cases : (f : Cell → Cell) (e : Entry) (es : File) (p q : Place) (t u : Bool) → place_eq e.place p ≡ t → place_eq p q ≡ u
     → cell_at (changed f p es) q ≡ cond u (f (cell_at es q)) (cell_at es q)

@@ -3,15 +3,15 @@ use Rattle.std.proofs.Common.{◌≡◌, ℕ, zero, suc, ◌+◌, ◌-◌, ◌<�
 use Rattle.std.specs.Prelude.{IsTrue, count_by}
 use Rattle.std.specs.List.{filter, list_all}
 use Rattle.std.specs.List.Sorted.{IsPermutation, IsNonDecreasingBy}
-use Rattle.std.proofs.lemmas.Bool.{false≢true, leb-true, le-leb}
+use Rattle.std.proofs.lemmas.Bool.{false≢true, leb-true, le-leb, and_from}
 use Rattle.std.proofs.lemmas.Bool.Decides.{nat_tests}
 use Rattle.std.proofs.lemmas.List.Sorted.{sum_by-IsPermutation}
 use Rattle.std.proofs.lemmas.List.Sums.{sum_by-cons, sum_by-le-sum_by, length-filter}
-use Rattle.model_registers.specs.Lists.{Each, EachPair}
+use Rattle.lists.specs.Elements.{Each, EachPair}
 use Rattle.model_registers.specs.Declarations.{io_kind, mem32, mem64, Region, registers_of, IsLawfulRegion, HasLawfulRegions}
 use Rattle.model_registers.specs.DeclarationRules.{uses, has_own_registers, in_register_order}
-use Rattle.model_registers.proofs.EachLemmas.{each_map, each_both, each_test, each_permutation, both_true, test_each, pairs_map}
-use Rattle.model_registers.proofs.Tests.{left_true, right_true}
+use Rattle.lists.proofs.EachLemmas.{each_map, each_both, each_test, each_permutation, test_each, pairs_map}
+use Rattle.lists.proofs.Tests.{left_true, right_true}
 
 abbrev stands_at : ℕ → Region → Bool
 stands_at n r = eqb r.index n
@@ -262,7 +262,7 @@ each_number P h = (h 0, (h 1, (h 2, (h 3, (h 4, (h 5, tt))))))
 
 pub lawful_have_own_registers : (rs : List Region) → HasLawfulRegions rs → has_own_registers rs ≡ true
 lawful_have_own_registers rs lawful =
-    both_true (list_all (λ (r : Region). leb (r.index + registers_of r.kind) 6) rs) (list_all (λ n. leb (count_by (uses n) rs) 1) (0 ∷ 1 ∷ 2 ∷ 3 ∷ 4 ∷ 5 ∷ []))
+    and_from (list_all (λ (r : Region). leb (r.index + registers_of r.kind) 6) rs) (list_all (λ n. leb (count_by (uses n) rs) 1) (0 ∷ 1 ∷ 2 ∷ 3 ∷ 4 ∷ 5 ∷ []))
     (test_each (λ r. leb (r.index + registers_of r.kind) 6) rs
     (each_map IsLawfulRegion (λ r. IsTrue (leb (r.index + registers_of r.kind) 6)) rs (λ r l. le-leb _ _ l.registers) lawful.each))
     (test_each (λ n. leb (count_by (uses n) rs) 1) (0 ∷ 1 ∷ 2 ∷ 3 ∷ 4 ∷ 5 ∷ [])

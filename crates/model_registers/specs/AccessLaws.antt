@@ -6,7 +6,7 @@
 --     DisabledRead, DisabledStay      bytes that are not enabled read 0 and stay
 --     HoldsBytes, NumberFits, ReadsEnabled      where each cell holds a byte, what is read has its bytes alone
 use Rattle.std.specs.Prelude.{◌≡◌, ◌<◌, ℕ, ◌-◌, ◌/◌, ◌%◌, ◌^◌, Bool, false, List, replicate}
-use Rattle.model_registers.specs.Lists.{Each}
+use Rattle.lists.specs.Elements.{Each}
 use Rattle.model_registers.specs.Registers.{Place, offset_of, Entry, File, read, write, number, all_bytes, all_ones}
 use Rattle.model_registers.specs.ByteEnables.{lanes, enabled_bytes, IsWidth, LiesInWord, enables_of, into_lanes}
 use Rattle.model_registers.specs.ByteEnables.{from_lanes, word_of}

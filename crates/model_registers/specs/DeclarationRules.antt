@@ -7,7 +7,7 @@
 use Rattle.std.specs.Prelude.{List, [], ◌∷◌, ◌≡◌, ℕ, ◌+◌, ◌^◌, ◌<◌, ◌≤◌, ◌==◌, Bool, ◌&&◌, ◌||◌, nat_lt, nat_le, IsTrue}
 use Rattle.std.specs.Prelude.{if◌then◌else◌, Option, Some, None, length, filter, flat_map, count_by, bit_and}
 use Rattle.std.specs.List.{list_all}
-use Rattle.model_registers.specs.Lists.{Each, EachPair, all_pairs}
+use Rattle.lists.specs.Elements.{Each, EachPair, all_pairs}
 use Rattle.model_registers.specs.Declarations.{registers_of, Region, HasLawfulRegions, ConfigBlock, Endpoint, Bridge}
 
 abbrev pub first_broken : List (ℕ × Bool) → Option ℕ

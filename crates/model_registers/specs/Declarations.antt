@@ -3,7 +3,7 @@
 --     Region      such a register's index, and the cells at the beginning of what it opens
 --     Endpoint, Bridge      the declared values of a function
 use Rattle.std.specs.Prelude.{List, ◌≡◌, ℕ, ◌+◌, Bool, ◌≤◌, length, ◌^◌}
-use Rattle.model_registers.specs.Lists.{Each, EachPair}
+use Rattle.lists.specs.Elements.{Each, EachPair}
 use Rattle.model_registers.specs.Cell.{Cell}
 
 -- a memory region is prefetchable or not

@@ -6,7 +6,7 @@
 --     first_hit, lone_claim      the hit in the first region, by register, that decodes an address
 use Rattle.std.specs.Prelude.{ℕ, ◌-◌, bit_and, ◌+◌, ◌*◌, ◌/◌, Bool, true, false, ◌&&◌, ◌==◌, if◌then◌else◌, List, not}
 use Rattle.std.specs.Prelude.{nat_lt, nat_le, Option, Some, None}
-use Rattle.model_registers.specs.Lists.{first_some}
+use Rattle.lists.specs.Elements.{first_some}
 use Rattle.model_registers.specs.Registers.{config, File, number}
 use Rattle.model_registers.specs.Declarations.{Kind, io_kind, mem32, mem64, Region, Endpoint}
 use Rattle.model_registers.specs.EndpointTable.{base_register, BaseAddress}

@@ -3,7 +3,7 @@
 --     HitsOfRegisters      registers decode by the bases that they hold
 --     HitIsOfRegion      a hit lies in a region of the space, in the byte lanes of the address
 use Rattle.std.specs.Prelude.{List, ◌≡◌, ℕ, ◌<◌, ◌%◌, ◌^◌, ◌++◌, Some, map}
-use Rattle.model_registers.specs.Lists.{IsIn, first_some}
+use Rattle.lists.specs.Elements.{IsIn, first_some}
 use Rattle.model_registers.specs.Registers.{File}
 use Rattle.model_registers.specs.Declarations.{Region}
 use Rattle.model_registers.specs.EndpointTable.{BaseAddress, base_file, command_cells, opened, HasLawfulBases}

@@ -5,7 +5,7 @@
 --     endpoint_file      all cells of an endpoint with a Command and bases, all others at reset
 --     endpoint_reset      all cells at reset
 use Rattle.std.specs.Prelude.{List, [], ◌≡◌, ℕ, ◌-◌, ◌+◌, ◌*◌, ◌%◌, ◌<◌, Bool, if◌then◌else◌, ◌^◌, ◌++◌, map, flat_map}
-use Rattle.model_registers.specs.Lists.{Each}
+use Rattle.lists.specs.Elements.{Each}
 use Rattle.model_registers.specs.Registers.{Place, config, block, File, field, cells_from}
 use Rattle.model_registers.specs.Declarations.{Kind, io_kind, mem32, mem64, registers_of, IsLawfulSize}
 use Rattle.model_registers.specs.Declarations.{HasLawfulRegions, Region, ConfigBlock, Endpoint}

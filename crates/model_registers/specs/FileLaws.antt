@@ -3,7 +3,7 @@
 --     HasNone file p ons      no cell stands at an enabled place from p on
 --     IsConfigFile file      each cell stands at a configuration offset
 use Rattle.std.specs.Prelude.{◌≡◌, ◌≢◌, ◌++◌, ⊤, ℕ, Bool, false, true, ◌||◌, if◌then◌else◌, List, [], ◌∷◌}
-use Rattle.model_registers.specs.Lists.{Each}
+use Rattle.lists.specs.Elements.{Each}
 use Rattle.model_registers.specs.Cell.{Cell}
 use Rattle.model_registers.specs.Registers.{Place, config, block, place_eq, after, Entry, File, cell_at, changed, read}
 use Rattle.model_registers.specs.Registers.{write, cells_from, in_region}

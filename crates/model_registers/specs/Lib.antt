@@ -1,4 +1,3 @@
-pub mod Lists
 pub mod Cell
 pub mod Registers
 pub mod ByteEnables

@@ -6,7 +6,7 @@
 --     handed_on p enables      the enables of the bytes from p on that are none of these
 use Rattle.std.specs.Prelude.{◌≡◌, ◌≤◌, ℕ, Bool, true, false, ◌&&◌, ◌||◌, not, ◌==◌, nat_le, nat_lt, if◌then◌else◌}
 use Rattle.std.specs.Prelude.{List, [], ◌∷◌, ◌++◌, ◌+◌, map}
-use Rattle.model_registers.specs.Lists.{Each}
+use Rattle.lists.specs.Elements.{Each}
 use Rattle.model_registers.specs.Registers.{Place, config, block, after, File, cell_at, read, write, raise}
 use Rattle.model_registers.specs.Declarations.{Region, HasLawfulRegions, Endpoint}
 use Rattle.model_registers.specs.EndpointTable.{BaseAddress, base_file, command_cells, opened, closed, endpoint_reset}

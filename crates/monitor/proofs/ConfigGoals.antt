@@ -1,16 +1,15 @@
 -- A write of configuration space as code holds it: the fields of an engine, and the guests as a vector gives them back.
 use Rattle.std.proofs.Common.{◌≡◌, ℕ, ◌*◌, ◌/◌, ◌%◌, ◌++◌, List, [], ◌∷◌, length, take, get_or, Some, Option, slice_get, slice_set, refl, sym, ap, ◌∙◌, subst}
 use Rattle.std.proofs.lemmas.Option.{slice_get_read, slice_get_within}
-use Rattle.model_registers.specs.ByteEnables.{IsWidth, enables_of, into_lanes}
+use Rattle.model_registers.specs.ByteEnables.{IsWidth, enables_of, into_lanes, lanes}
 use Rattle.model_board.specs.Ports.{after_config_write}
 use Rattle.model_board.specs.Routing.{routing}
-use Rattle.model_registers.specs.ByteEnables.{lanes}
 use Rattle.model_guests.specs.Accesses.{writes, configuration}
 use Rattle.model_guests.specs.Lone.{at_target, after_access_at}
 use Rattle.model_guests.specs.WorldNow.{WorldNow}
-use Rattle.host_bridge.specs.BusAddresses.{bus_address_of}
+use Rattle.paths.specs.BusAddresses.{bus_address_of}
 use Rattle.host_bridge.specs.HostState.{HostState, with_functions, with_latch}
-use Rattle.host_bridge.specs.declared.bdf.Bdf.{Bdf}
+use Rattle.paths.specs.declared.bdf.Bdf.{Bdf}
 use Rattle.monitor.specs.declared.guest.Held.{Held}
 use Rattle.monitor.specs.declared.guest.Guest.{Guest}
 use Rattle.monitor.specs.Views.{world_shown}

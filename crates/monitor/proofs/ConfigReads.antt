@@ -5,7 +5,7 @@ use Rattle.model_registers.specs.ByteEnables.{lanes, is_enabled, enables_of, IsW
 use Rattle.model_registers.specs.OwnCopies.{own_file, HoldsOwn, handed_on}
 use Rattle.model_registers.proofs.ByteAccesses.{aligned_lies_in_word, number_by_lanes}
 use Rattle.model_board.specs.Ports.{config_reply}
-use Rattle.host_bridge.specs.BusAddresses.{bus_address_of}
+use Rattle.paths.specs.BusAddresses.{bus_address_of}
 use Rattle.host_bridge.specs.HostState.{HostState}
 use Rattle.monitor.specs.declared.guest.Held.{Held}
 use Rattle.monitor.specs.Configs.{IsSeen}

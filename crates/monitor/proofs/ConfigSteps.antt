@@ -1,11 +1,11 @@
 -- A read and a write of the configuration space of the function in a slot.
-use Rattle.std.proofs.Common.{◌≡◌, ℕ, ◌+◌, ◌*◌, ◌/◌, ◌%◌, Bool, true, false, cond, List, [], ◌∷◌, Some, None, Option, slice_get, slice_set, refl, sym, ap, ap₂, ◌∙◌, subst}
+use Rattle.std.proofs.Common.{◌≡◌, ℕ, ◌*◌, ◌/◌, ◌%◌, Bool, true, false, cond, List, [], Some, None, Option, slice_get, slice_set, sym, ap, ap₂, ◌∙◌, subst}
 use Rattle.std.specs.Prelude.{find, map, is_some, unwrap_or, IsTrue}
 use Rattle.std.specs.Option.{option_map_or}
-use Rattle.model_registers.specs.Lists.{Each}
+use Rattle.lists.specs.Elements.{Each}
 use Rattle.model_registers.specs.Registers.{config, File, read, write, all_bytes, number}
 use Rattle.model_registers.specs.ByteEnables.{lanes, enabled_bits, enables_of, into_lanes, IsWidth}
-use Rattle.model_registers.specs.OwnCopies.{HoldsOwn, handed_on}
+use Rattle.model_registers.specs.OwnCopies.{handed_on}
 use Rattle.model_registers.specs.Decoding.{Function}
 use Rattle.model_registers.proofs.ByteAccesses.{aligned_lies_in_word, write_by_lanes}
 use Rattle.model_board.specs.Paths.{Path, path_eq}
@@ -13,10 +13,11 @@ use Rattle.model_board.specs.Board.{endpoint, Row, stands_at}
 use Rattle.model_board.specs.State.{BoardFunction, State, with_file}
 use Rattle.model_board.specs.Cycles.{reached}
 use Rattle.model_board.specs.Ports.{config_reply, after_config_write}
-use Rattle.model_board.proofs.FirstFound.{each_found}
-use Rattle.model_board.proofs.Members.{any_in}
+use Rattle.lists.proofs.FirstFound.{each_found}
+use Rattle.lists.proofs.Members.{any_in}
+use Rattle.lists.proofs.Indices.{each_by_index}
 use Rattle.model_board.proofs.PathEnds.{path_self}
-use Rattle.model_board.proofs.Routes.{reached_by_numbers}
+use Rattle.model_set_up.proofs.Routes.{reached_by_numbers}
 use Rattle.model_guests.specs.Accesses.{answered, reads, writes, configuration}
 use Rattle.model_guests.specs.Slots.{Landing, landing, perform, effect}
 use Rattle.model_guests.specs.Lone.{LoneGuest, at_target, reply_at, after_access_at}
@@ -26,9 +27,9 @@ use Rattle.model_guests.proofs.AgreedFiles.{writes_alike}
 use Rattle.model_guests.proofs.KeptNumbers.{keeps_numbers}
 use Rattle.model_guests.proofs.RegionReach.{declared_row}
 use Rattle.guest_functions.proofs.HeldCopies.{lawful_copies, written_held}
-use Rattle.host_bridge.specs.BusAddresses.{bus_address_of}
+use Rattle.paths.specs.BusAddresses.{bus_address_of}
 use Rattle.host_bridge.specs.HostState.{HostState, with_functions, with_latch}
-use Rattle.host_bridge.specs.declared.bdf.Bdf.{Bdf}
+use Rattle.paths.specs.declared.bdf.Bdf.{Bdf}
 use Rattle.host_bridge.proofs.Lent.{HasDistinctPaths}
 use Rattle.host_bridge.proofs.ByIndex.{found_at}
 use Rattle.monitor.specs.declared.guest.Held.{Held}
@@ -42,10 +43,6 @@ use Rattle.monitor.proofs.Reached.{functions, seat, distinct, on_board, found_on
 use Rattle.monitor.proofs.RegionSteps.{written_shape, lone_is, with_lone, with_same}
 
 -- ---- what a cycle reaches is found at its path
-
-each_by_index : {A : Type 0} (P : A → Type 0) (xs : List A) → ((i : ℕ) (x : A) → slice_get xs i ≡ Some x → P x) → Each P xs
-each_by_index P [] h = tt
-each_by_index P (x ∷ xs) h = (h 0 x refl, each_by_index P xs (λ i. h (Rattle.std.proofs.Common.suc i)))
 
 abbrev IsFound : List BoardFunction → BoardFunction → Type 0
 IsFound fs f = find (λ (g : BoardFunction). path_eq g.path f.path) fs ≡ Some f

@@ -1,13 +1,13 @@
 -- A configuration cycle in which no byte is enabled reads 0 and changes nothing.
 use Rattle.std.proofs.Common.{◌≡◌, ℕ, Bool, true, false, cond, List, [], ◌∷◌, Some, None, Option, refl, ap, ap₂, ◌∙◌}
 use Rattle.std.specs.Option.{option_map_or}
-use Rattle.model_registers.specs.Registers.{config, write, read}
-use Rattle.model_registers.specs.ByteEnables.{lanes, enabled_bits}
-use Rattle.model_registers.proofs.ByteAccesses.{disabled_read, disabled_stay}
+use Rattle.model_registers.specs.Registers.{config, write}
+use Rattle.model_registers.specs.ByteEnables.{lanes}
+use Rattle.model_registers.proofs.ByteAccesses.{disabled_stay}
 use Rattle.model_board.specs.Paths.{Path, path_eq}
 use Rattle.model_board.specs.State.{BoardFunction, with_file}
 use Rattle.model_board.specs.Cycles.{BusAddress, reached}
-use Rattle.model_board.specs.Ports.{config_reply, after_config_write}
+use Rattle.model_board.specs.Ports.{after_config_write}
 use Rattle.host_bridge.specs.HostState.{HostState, with_functions, with_latch}
 
 unchanged : (v off : ℕ) (p : Path) (fs : List BoardFunction) → with_file (write (lanes 0) v (config off)) p fs ≡ fs
@@ -24,13 +24,6 @@ nothing_written fs at off enables v none = ap (λ n. after_config_write fs at of
     of : (o : Option BoardFunction) → option_map_or (λ (f : BoardFunction). with_file (write (lanes 0) v (config off)) f.path fs) o fs ≡ fs
     of None = refl
     of (Some f) = unchanged v off f.path fs
-
-pub nothing_read : (fs : List BoardFunction) (at : BusAddress) (off enables : ℕ) → enables ≡ 0 → config_reply fs at off (lanes enables) ≡ 0
-nothing_read fs at off enables none = ap (λ n. config_reply fs at off (lanes n)) none ∙ of (reached fs at)
-  where
-    of : (o : Option BoardFunction) → option_map_or (λ (f : BoardFunction). read f.file (config off) (lanes 0)) o (enabled_bits (lanes 0)) ≡ 0
-    of None = refl
-    of (Some f) = disabled_read 4 f.file (config off)
 
 -- a latch that is clear is left so
 pub latch_clear : (h new : HostState) (fs : List BoardFunction) → h.state.latch ≡ 0 → new ≡ with_functions fs h → new ≡ with_latch 0 (with_functions fs h)

@@ -3,18 +3,18 @@ use Rattle.std.proofs.Common.{◌≡◌, ◌<◌, ◌≤◌, ◌+◌, ℕ, suc, 
 use Rattle.std.specs.Prelude.{map, find, slice_get, ⊤, IsTrue, IsSome, MatchOption}
 use Rattle.std.specs.Option.{option_map_or}
 use Rattle.std.proofs.lemmas.Option.{slice_get_within}
-use Rattle.model_registers.specs.Lists.{Each, EachPair}
-use Rattle.model_registers.proofs.EachLemmas.{each_map}
+use Rattle.lists.specs.Elements.{Each, EachPair}
+use Rattle.lists.proofs.EachLemmas.{each_map}
 use Rattle.model_registers.specs.Declarations.{Bar, Region, Endpoint, HasLawfulRegions}
 use Rattle.model_registers.specs.DeclarationRules.{IsLawfulEndpoint, IsConfigBlock}
 use Rattle.model_registers.specs.EndpointTable.{BaseAddress, opened, closed, endpoint_reset}
 use Rattle.model_registers.specs.OwnCopies.{OwnCopies, HoldsOwn, bare}
 use Rattle.model_board.specs.Paths.{Path, path_eq, path_before}
 use Rattle.model_board.specs.Board.{Decl, endpoint, bridge, Row, Board}
-use Rattle.model_board.specs.Pools.{Apertures}
-use Rattle.model_board.specs.FunctionTable.{TableRow, table_row, found_decl}
-use Rattle.model_board.specs.SetUpWrites.{Plan, Setting, writes_of}
-use Rattle.model_board.specs.Reach.{address_of}
+use Rattle.model_registers.specs.Apertures.{Apertures}
+use Rattle.model_set_up.specs.FunctionTable.{TableRow, table_row, found_decl}
+use Rattle.model_set_up.specs.SetUpWrites.{Plan, Setting, writes_of}
+use Rattle.model_set_up.specs.Reach.{address_of}
 use Rattle.model_board.proofs.PathOrder.{path_same}
 use Rattle.model_guests.specs.Slots.{reset_function}
 use Rattle.model_guests.specs.World.{endpoint_of, declared}
@@ -22,10 +22,10 @@ use Rattle.model_guests.proofs.CopiesNeverRise.{declared_lawful}
 use Rattle.bars.specs.Resets.{reset_from, at_reset}
 use Rattle.bars.specs.Slots.{bases_from}
 use Rattle.bars.specs.declared.region.Region.{Region as Placed}
-use Rattle.bridge_forward.proofs.EndpointAccess.{bare_lawful}
-use Rattle.bridge_forward.proofs.Indices.{read_at, same_at}
-use Rattle.host_bridge.specs.declared.bdf.Bdf.{Bdf}
-use Rattle.host_bridge.specs.BusAddresses.{bus_address_of}
+use Rattle.lists.proofs.Indices.{read_at, same_at, map_at}
+use Rattle.model_registers.proofs.BareRegions.{bare_lawful}
+use Rattle.paths.specs.declared.bdf.Bdf.{Bdf}
+use Rattle.paths.specs.BusAddresses.{bus_address_of}
 use Rattle.bus_scan.specs.Rows.{regions_of}
 use Rattle.bus_scan.specs.Probes.{regions_in}
 use Rattle.window_packing.specs.Readies.{ReadyBoard, board_below, IsReady}
@@ -33,7 +33,6 @@ use Rattle.claim_table.specs.Entries.{bases_in}
 use Rattle.monitor.specs.declared.guest.Held.{Held}
 use Rattle.monitor.specs.Keeping.{IsHeld, IsSlot}
 use Rattle.monitor.specs.Beginnings.{IsRowOf}
-use Rattle.monitor.proofs.Shown.{mapped_get}
 use Rattle.monitor.proofs.FirstIndices.{InOrder}
 
 -- ---- own copies
@@ -126,8 +125,8 @@ module _ (r : ReadyBoard) (ready : IsReady r) where
         row = table_row board found_decl there;
         setting = setting;
         declares = e;
-        row_there = ap (λ (xs : List TableRow). slice_get xs at.0) ready.table ∙ mapped_get (table_row board found_decl) board at.0 there at.1;
-        setting_there = ap (λ (q : Plan). slice_get q.settings at.0) ready.plan ∙ mapped_get (λ (x : Row). record { at = address_of board x.path; writes = writes_of board r.host.apertures x.path x.decl }) board at.0 there at.1;
+        row_there = ap (λ (xs : List TableRow). slice_get xs at.0) ready.table ∙ map_at (table_row board found_decl) board at.0 there at.1;
+        setting_there = ap (λ (q : Plan). slice_get q.settings at.0) ready.plan ∙ map_at (λ (x : Row). record { at = address_of board x.path; writes = writes_of board r.host.apertures x.path x.decl }) board at.0 there at.1;
         path = refl;
         is = record {
           lawful = subst (λ (o : Option Endpoint). MatchOption o ⊤ IsLawfulEndpoint) e (declared_lawful board ready.placeable.declarations p);

@@ -2,17 +2,18 @@
 use Rattle.std.proofs.Common.{◌≡◌, ◌≤◌, ◌+◌, ◌-◌, ℕ, zero, suc, List, [], ◌∷◌, ◌++◌, length, take, Option, Some, None, refl, sym, ap, ◌∙◌, subst, arith}
 use Rattle.std.specs.Prelude.{map, flat_map, replicate, slice_get, IsSome}
 use Rattle.std.proofs.lemmas.List.{map-append, length-map}
-use Rattle.model_registers.specs.Lists.{Each}
+use Rattle.lists.specs.Elements.{Each}
 use Rattle.model_registers.specs.Decoding.{Function}
 use Rattle.model_registers.specs.Declarations.{Endpoint}
 use Rattle.model_board.specs.Paths.{Path}
 use Rattle.model_board.specs.Board.{Board}
-use Rattle.model_board.specs.Pools.{Apertures}
+use Rattle.model_registers.specs.Apertures.{Apertures}
 use Rattle.model_guests.specs.Text.{Text}
 use Rattle.model_guests.specs.Slots.{Slots, reset_function}
 use Rattle.model_guests.specs.World.{Guest as Declared, World, declared, HasLawfulGuests}
 use Rattle.model_guests.specs.Guests.{GuestNow, GuestsNow, guest_at_first}
-use Rattle.model_guests.proofs.ListFacts.{each_parts, each_at}
+use Rattle.lists.proofs.EachLemmas.{each_parts}
+use Rattle.lists.proofs.Indices.{each_at}
 use Rattle.host_bridge.specs.HostState.{HostState}
 use Rattle.window_packing.specs.Readies.{board_below}
 use Rattle.window_packing.proofs.BarLists.{take_at}

@@ -4,12 +4,12 @@ use Rattle.std.specs.Prelude.{slice_get, IsTrue}
 use Rattle.std.specs.List.Sorted.{IsPartitionedBy, IsPartitionPoint}
 use Rattle.std.proofs.lemmas.Bool.{cases_lt}
 use Rattle.std.proofs.lemmas.Option.{slice_get_within, slice_get-get_or}
-use Rattle.model_registers.specs.Lists.{EachPair}
+use Rattle.lists.specs.Elements.{EachPair}
 use Rattle.model_board.specs.Paths.{Path, path_eq, path_before}
-use Rattle.model_board.specs.FunctionTable.{TableRow}
+use Rattle.model_set_up.specs.FunctionTable.{TableRow}
 use Rattle.model_board.proofs.PathOrder.{one, before_trans}
 use Rattle.model_board.proofs.PathEnds.{not_before_itself}
-use Rattle.bridge_forward.proofs.Indices.{at_below, pair_at}
+use Rattle.lists.proofs.Indices.{at_below, pair_at}
 
 before_through : (x q r : Path) → path_before x q ≡ true → path_before q r ≡ true → path_before x r ≡ true
 before_through x q r h k = by_case (path_before x r) refl (before_trans x q r k)

@@ -1,12 +1,12 @@
 -- Where an address of a guest lands: slot after slot, by the guest's own copies.
 use Rattle.std.proofs.Common.{◌≡◌, ℕ, zero, suc, ◌+◌, ◌<◌, ◌≤◌, List, [], ◌∷◌, length, Some, None, Option, drop, slice_get, refl, sym, ap, ◌∙◌, arith}
 use Rattle.std.specs.Prelude.{option_map, unwrap_or}
-use Rattle.model_registers.specs.Lists.{first_of_two}
+use Rattle.lists.specs.Elements.{first_of_two}
 use Rattle.model_registers.specs.Registers.{block}
 use Rattle.model_registers.specs.Decoding.{Space, Function, Hit}
 use Rattle.model_board.specs.Paths.{Path}
 use Rattle.model_board.specs.Board.{Board}
-use Rattle.model_board.specs.Pools.{Apertures}
+use Rattle.model_registers.specs.Apertures.{Apertures}
 use Rattle.model_guests.specs.Slots.{Slots, slot_at, Landing, landing_in, landing_from}
 use Rattle.monitor.specs.declared.guest.Held.{Held}
 use Rattle.monitor.specs.Keeping.{AreSlots}

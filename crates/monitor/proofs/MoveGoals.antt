@@ -10,7 +10,7 @@ use Rattle.model_guests.specs.Accesses.{done, refused}
 use Rattle.model_guests.specs.Guests.{after_move, function_in, guest_named, handed_over, move_fault, path_in, with_slot_emptied}
 use Rattle.model_guests.specs.Seated.{IsSeatedGuest}
 use Rattle.model_guests.specs.WorldNow.{WorldNow, move_reply}
-use Rattle.model_guests.proofs.ListFacts.{each_at}
+use Rattle.lists.proofs.Indices.{each_at}
 use Rattle.bridge_forward.specs.Lending.{with_endpoint_reset}
 use Rattle.host_bridge.specs.HostState.{HostState, with_functions}
 use Rattle.monitor.specs.declared.guest.Held.{Held}

@@ -8,11 +8,12 @@ use Rattle.model_registers.specs.EndpointTable.{BaseAddress, endpoint_reset}
 use Rattle.model_registers.specs.OwnCopies.{HoldsOwn}
 use Rattle.model_registers.specs.CopiedFiles.{after_reset}
 use Rattle.model_registers.specs.Decoding.{Function}
-use Rattle.model_registers.proofs.EachLemmas.{each_map}
+use Rattle.lists.proofs.EachLemmas.{each_map}
+use Rattle.bars.proofs.Regions.{no_base_opened}
 use Rattle.model_registers.proofs.Owned.{reset_holds_own}
 use Rattle.model_board.specs.Paths.{Path}
 use Rattle.model_board.specs.Board.{Board}
-use Rattle.model_board.specs.Pools.{Apertures}
+use Rattle.model_registers.specs.Apertures.{Apertures}
 use Rattle.model_board.specs.State.{BoardFunction, State, with_file}
 use Rattle.model_guests.specs.Text.{Text}
 use Rattle.model_guests.specs.Slots.{Slots, slot_at}
@@ -24,7 +25,7 @@ use Rattle.model_guests.specs.MoveLaws.{IsDone}
 use Rattle.model_guests.proofs.MoveIndices.{moves}
 use Rattle.model_guests.proofs.MovedFunctions.{move_resets_one_function}
 use Rattle.model_guests.proofs.SeatedMoves.{seated_after_moves}
-use Rattle.guest_functions.proofs.ResetCopies.{opened_with_no_base, closed_as_opened}
+use Rattle.guest_functions.proofs.ResetCopies.{closed_as_opened}
 use Rattle.bridge_forward.specs.Lending.{as_endpoint, with_endpoint_reset}
 use Rattle.host_bridge.specs.HostState.{HostState, with_functions}
 use Rattle.monitor.specs.declared.guest.Held.{Held}
@@ -81,7 +82,7 @@ module _ (b : Board) (a : Apertures) where
     row = held.row;
     at = held.at;
     placed = held.placed;
-    regions = held.regions ∙ sym (opened_with_no_base h.own.bases);
+    regions = held.regions ∙ sym (no_base_opened h.own.bases);
     own = subst (λ (bs : List BaseAddress). HoldsOwn (endpoint_reset f.decl false) (record { command = 0; bases = bs })) (closed_as_opened f.decl.regions h.own.bases held.regions)
         (reset_holds_own f.decl (each_map IsConfigBlock (λ (c : ConfigBlock). 0x40 ≤ c.offset) f.decl.blocks (λ c is. is.begins) lawful.config_blocks));
   }

@@ -3,14 +3,14 @@ use Rattle.std.proofs.Common.{◌≡◌, ℕ, ◌<◌, List, [], length, Some, N
 use Rattle.std.specs.Prelude.{unwrap_or, IsFalse}
 use Rattle.std.specs.Option.{option_map_or}
 use Rattle.std.specs.Str.{bytes_eq}
-use Rattle.model_registers.specs.Lists.{EachPair}
+use Rattle.lists.specs.Elements.{EachPair}
+use Rattle.lists.proofs.Indices.{at_below}
 use Rattle.model_guests.specs.Accesses.{Event}
 use Rattle.model_guests.specs.Lone.{after_event, reset_guest}
 use Rattle.model_guests.specs.Guests.{GuestNow, GuestsNow, lone_of, guest_after, after_guest_event}
 use Rattle.model_guests.specs.Lines.{guest_event}
 use Rattle.model_guests.specs.WorldNow.{WorldNow, after_meaning}
 use Rattle.model_guests.proofs.Along.{by_index}
-use Rattle.host_bridge.proofs.ByIndex.{some_within}
 use Rattle.monitor.specs.ByIndex.{guest_nth, name_nth, lone_nth, with_lone_nth}
 
 abbrev pub AreApart : WorldNow → Type 0
@@ -18,7 +18,7 @@ AreApart w = EachPair (λ (g h : GuestNow). IsFalse (bytes_eq g.name h.name)) w.
 
 module _ (now : WorldNow) (apart : AreApart now) (i : ℕ) (inside : i < length now.guests) where
   one : (x : GuestNow) × (slice_get now.guests i ≡ Some x)
-  one = some_within now.guests i inside
+  one = at_below now.guests i inside
 
   guest_is : guest_nth now i ≡ one.0
   guest_is = ap (λ (o : Option GuestNow). unwrap_or o (record { name = []; paths = []; lone = reset_guest [] })) one.1

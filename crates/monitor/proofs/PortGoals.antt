@@ -32,9 +32,6 @@ destination_is latch own a width s same not_latch is =
     ap (λ x. by_select (port a) (named_select x)) (is ∙ ap (λ l. program.select_at l a) same) ∙ ap (by_select (port a)) (same_select latch a)
     ∙ ap (λ t. cond t own_latch (by_select (port a) (lone.select_at latch a))) (sym not_latch)
 
-pub latch_is : (latch a width : ℕ) → is_address_port a width ≡ true → own_latch ≡ destination latch width (port a)
-latch_is latch a width h = ap (λ t. cond t own_latch (by_select (port a) (lone.select_at latch a))) (sym h)
-
 -- where nothing answers
 pub nothing_at : (l : lone.LoneGuest) (op : Op) (w : ℕ) → perform op w [] None ≡ reply_at l op w no_function
 nothing_at l reads w = refl

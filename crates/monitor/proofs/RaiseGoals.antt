@@ -4,7 +4,7 @@ use Rattle.std.specs.Prelude.{is_some, nat_le, unwrap_or, IsSome}
 use Rattle.model_registers.specs.Decoding.{Function}
 use Rattle.model_board.specs.Paths.{Path}
 use Rattle.model_board.specs.Board.{Board}
-use Rattle.model_board.specs.Pools.{Apertures}
+use Rattle.model_registers.specs.Apertures.{Apertures}
 use Rattle.model_board.specs.Routing.{routing}
 use Rattle.model_board.specs.State.{with_file}
 use Rattle.model_guests.specs.Accesses.{Raise, raises, done, refused}

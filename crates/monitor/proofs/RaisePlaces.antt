@@ -11,9 +11,9 @@ use Rattle.model_registers.specs.OwnCopies.{is_own}
 use Rattle.model_registers.specs.Decoding.{Function}
 use Rattle.model_board.specs.Paths.{Path, path_eq}
 use Rattle.model_board.specs.Board.{Board}
-use Rattle.model_board.specs.Pools.{Apertures}
+use Rattle.model_registers.specs.Apertures.{Apertures}
 use Rattle.model_board.specs.State.{BoardFunction, with_file}
-use Rattle.model_board.specs.SetUpWrites.{placed_base}
+use Rattle.model_set_up.specs.SetUpWrites.{placed_base}
 use Rattle.model_guests.specs.Accesses.{in_region}
 use Rattle.model_guests.specs.Slots.{raise_place}
 use Rattle.bars.specs.Slots.{bases_from, slot_at}

@@ -4,6 +4,7 @@ use Rattle.std.specs.Prelude.{is_some, not, nat_le, nat_lt, IsSome, if◌then◌
 use Rattle.std.specs.List.{list_any}
 use Rattle.std.specs.Option.{option_map_or}
 use Rattle.std.proofs.lemmas.Bool.{lt-leb}
+use Rattle.lists.proofs.Indices.{set_same}
 use Rattle.model_registers.specs.Cell.{raised}
 use Rattle.model_registers.specs.Registers.{Place, config, block, File, raise}
 use Rattle.model_registers.specs.Decoding.{Function}
@@ -31,7 +32,7 @@ use Rattle.monitor.specs.ByIndex.{lone_nth, with_lone_nth}
 use Rattle.monitor.specs.Raises.{raised_beside_copies}
 use Rattle.monitor.proofs.Steps.{SlotOf, GuestOf, with_guest_at, kept_slot}
 use Rattle.monitor.proofs.Reached.{found_on_board}
-use Rattle.monitor.proofs.RegionSteps.{set_same, changed_shape, lone_is, with_lone}
+use Rattle.monitor.proofs.RegionSteps.{changed_shape, lone_is, with_lone}
 
 abbrev pub raise_of : ℕ → headers.Place → ℕ → ℕ → Raise
 raise_of slot place off mask = record { slot = slot; part = part_of place; offset = off; mask = mask }

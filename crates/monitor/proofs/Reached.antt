@@ -3,25 +3,24 @@ use Rattle.std.proofs.Common.{◌≡◌, ℕ, ◌+◌, ◌%◌, Bool, true, fals
 use Rattle.std.specs.Prelude.{find, map, IsTrue, not, option_map}
 use Rattle.std.specs.Option.{option_map_or}
 use Rattle.std.proofs.lemmas.Option.{slice_get_within}
-use Rattle.model_registers.specs.Lists.{Each, EachPair}
+use Rattle.lists.specs.Elements.{Each, EachPair}
 use Rattle.model_registers.specs.Registers.{Place, block, File, read, all_bytes, number}
 use Rattle.model_registers.specs.ByteEnables.{IsWidth}
 use Rattle.model_registers.specs.OwnCopies.{handed_on}
 use Rattle.model_registers.specs.Decoding.{Space}
 use Rattle.model_board.specs.Paths.{Path, path_eq, path_before}
 use Rattle.model_board.specs.Board.{endpoint, Row, Board, IsBoard}
-use Rattle.model_board.specs.State.{BoardFunction}
+use Rattle.model_board.specs.State.{BoardFunction, row_at}
 use Rattle.model_board.specs.Claims.{claim_at}
-use Rattle.model_board.specs.Reach.{row_at}
 use Rattle.model_board.specs.Ports.{claim_reply}
-use Rattle.model_board.specs.SetUp.{first_of, set_up_file}
+use Rattle.model_set_up.specs.SetUp.{first_of, set_up_file}
 use Rattle.model_registers.specs.CopiedFiles.{agreed_file, places_of}
 use Rattle.model_guests.specs.Slots.{slot_at}
 use Rattle.model_guests.specs.WorldNow.{WorldNow, board_state}
 use Rattle.model_guests.specs.Seated.{IsSeat, IsSeatedAt, IsSeatedGuest}
 use Rattle.model_guests.specs.RegionLaws.{ReachesRegion}
 use Rattle.model_guests.proofs.GuestsByName.{path_at}
-use Rattle.model_guests.proofs.ListFacts.{each_at}
+use Rattle.lists.proofs.Indices.{each_at}
 use Rattle.model_guests.proofs.Seats.{seats_at}
 use Rattle.model_guests.proofs.KeptNumbers.{keeps_numbers, shows_file}
 use Rattle.model_guests.proofs.RegionReach.{hit_reaches_region}

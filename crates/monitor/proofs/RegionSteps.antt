@@ -1,6 +1,7 @@
 -- A read and a write of the region where a guest's address lands.
-use Rattle.std.proofs.Common.{◌≡◌, ℕ, zero, suc, ◌/◌, ◌%◌, Bool, true, false, cond, List, [], ◌∷◌, Some, None, Option, slice_get, slice_set, refl, sym, ap, ap₂, ◌∙◌, subst}
+use Rattle.std.proofs.Common.{◌≡◌, ℕ, ◌/◌, ◌%◌, Bool, true, false, cond, List, [], ◌∷◌, Some, None, Option, slice_get, refl, sym, ap, ap₂, ◌∙◌, subst}
 use Rattle.std.specs.Option.{option_map_or}
+use Rattle.lists.proofs.Indices.{set_same}
 use Rattle.model_registers.specs.ByteEnables.{IsWidth}
 use Rattle.model_registers.specs.Cell.{Cell, written}
 use Rattle.model_registers.specs.Registers.{Place, place_eq, block, after, Entry, File, changed, write, all_bytes, number}
@@ -33,11 +34,6 @@ use Rattle.monitor.proofs.Reached.{all_handed, block_shown, slot, landed, claim_
 
 -- ---- lists and shapes
 
-pub set_same : {A : Type 0} (xs : List A) (i : ℕ) (x : A) → slice_get xs i ≡ Some x → slice_set xs i x ≡ xs
-set_same [] i x h = refl
-set_same (y ∷ ys) zero x h = let same : y ≡ x = cc in ap (λ z. z ∷ ys) (sym same)
-set_same (y ∷ ys) (suc i) x h = ap (λ zs. y ∷ zs) (set_same ys i x h)
-
 abbrev bare_cell : Cell → Cell
 bare_cell c = record c { value = 0 }
 
@@ -63,7 +59,7 @@ pub same_routing : (w v : WorldNow) (h k : HostState) (names : List (List ℕ)) 
     → routing h.state.functions ≡ routing k.state.functions
 same_routing w v h k names gs hs one two board apertures =
     ap (λ (s : State). routing s.functions) one.agrees ∙ keeps_routing w.board w.apertures one.placeable.places one.placeable.declarations w.guests one.seated
-    ∙ ap₂ (λ b a. routing (Rattle.model_board.specs.SetUp.set_up_state b a).functions) (sym board) (sym apertures)
+    ∙ ap₂ (λ b a. routing (Rattle.model_set_up.specs.SetUp.set_up_state b a).functions) (sym board) (sym apertures)
     ∙ sym (keeps_routing v.board v.apertures two.placeable.places two.placeable.declarations v.guests two.seated) ∙ ap (λ (s : State). routing s.functions) (sym two.agrees)
 
 landing_in_space : (space : Space) (addr : ℕ) (slots : Slots) → landing slots (target_in space addr) ≡ landing_from 0 space addr slots

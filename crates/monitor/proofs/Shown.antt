@@ -2,7 +2,8 @@
 use Rattle.std.proofs.Common.{◌≡◌, ℕ, zero, suc, false, List, [], ◌∷◌, Some, None, Option, slice_get, refl, sym, ap, ap₂, ◌∙◌, subst}
 use Rattle.std.specs.Prelude.{map, option_map, MatchOption, ⊤}
 use Rattle.std.specs.Option.{option_map_or}
-use Rattle.model_registers.specs.Lists.{EachPair}
+use Rattle.lists.specs.Elements.{EachPair}
+use Rattle.lists.proofs.Indices.{map_at}
 use Rattle.model_registers.specs.Registers.{File}
 use Rattle.model_registers.specs.Declarations.{Endpoint}
 use Rattle.model_registers.specs.DeclarationRules.{IsLawfulEndpoint}
@@ -12,8 +13,8 @@ use Rattle.model_registers.specs.Decoding.{Function}
 use Rattle.model_board.specs.Paths.{Path}
 use Rattle.model_board.specs.Board.{endpoint, Row, Board}
 use Rattle.model_board.specs.Lawful.{HasLawfulDecls}
-use Rattle.model_board.specs.Pools.{Apertures}
-use Rattle.model_board.specs.SetUp.{set_up_file, set_up_state}
+use Rattle.model_registers.specs.Apertures.{Apertures}
+use Rattle.model_set_up.specs.SetUp.{set_up_file, set_up_state}
 use Rattle.model_board.specs.State.{BoardFunction, State}
 use Rattle.model_guests.specs.Accesses.{answered, refused}
 use Rattle.model_guests.specs.Grammar.{HostRead}
@@ -44,11 +45,6 @@ use Rattle.monitor.specs.Keeping.{IsHeld, AreSlots, AreGuests, IsKept, IsSound}
 
 -- ---- lists
 
-pub mapped_get : {A B : Type 0} (f : A → B) (xs : List A) (i : ℕ) (x : A) → slice_get xs i ≡ Some x → slice_get (map f xs) i ≡ Some (f x)
-mapped_get f [] i x h = cc
-mapped_get f (y ∷ ys) zero x h = let same : y ≡ x = cc in ap (λ z. Some (f z)) same
-mapped_get f (y ∷ ys) (suc i) x h = mapped_get f ys i x h
-
 -- ---- one function
 
 pub lawful_at : (b : Board) (p : Path) (f : Function) → HasLawfulDecls b → IsSeatedAt b p f → IsLawfulEndpoint f.decl
@@ -71,8 +67,8 @@ module _ (b : Board) (a : Apertures) (gs : GuestsNow) (decls : HasLawfulDecls b)
   pub board_there : (i : ℕ) → slice_get b i ≡ Some (record { path = p; decl = endpoint f.decl }) → file_of gs p ≡ Some f.file → slice_get (agreed_state b a gs).functions i ≡ Some on_board
   board_there i row file =
       let left : BoardFunction = record { path = p; decl = endpoint f.decl; file = left_file } in
-      let set : slice_get (set_up_state b a).functions i ≡ Some left = mapped_get (λ (r : Row). record { path = r.path; decl = r.decl; file = set_up_file b a r.path r.decl }) b i (record { path = p; decl = endpoint f.decl }) row in
-      mapped_get (agreed_function (file_of gs)) (set_up_state b a).functions i left set
+      let set : slice_get (set_up_state b a).functions i ≡ Some left = map_at (λ (r : Row). record { path = r.path; decl = r.decl; file = set_up_file b a r.path r.decl }) b i (record { path = p; decl = endpoint f.decl }) row in
+      map_at (agreed_function (file_of gs)) (set_up_state b a).functions i left set
       ∙ ap (λ (o : Option File). Some (option_map_or (λ (own : File). record left { file = agreed_file left.file own }) o left)) file
 
   pub same_as_left : places_of f.file ≡ places_of left_file
@@ -141,7 +137,7 @@ module _ (w : WorldNow) (h : HostState) (names : List Text) (gs : List Guest) (k
       let rows = ap Rattle.model_board.specs.AtReset.board_at functions ∙ (keeps_numbers w.board w.apertures kept.placeable.places kept.placeable.declarations w.guests kept.seated kept.few).rows in
       let guests = ap (λ fs. guests_shown fs names gs) functions
       ∙ all_shown w.board w.apertures w.guests kept.placeable.declarations kept.seated names w.guests gs kept.guests
-      (λ i g at. ((by_index w.guests kept.seated.names_apart i g at).0, (Rattle.model_guests.proofs.ListFacts.each_at _ w.guests i g kept.seated.guests at).seats)) in
+      (λ i g at. ((by_index w.guests kept.seated.names_apart i g at).0, (Rattle.lists.proofs.Indices.each_at _ w.guests i g kept.seated.guests at).seats)) in
       λ i. record { board = rows i; apertures = kept.apertures i; guests = guests i }
 
   pub is_sound : IsSound h names gs

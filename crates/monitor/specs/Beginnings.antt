@@ -7,10 +7,10 @@ use Rattle.model_registers.specs.Declarations.{Endpoint}
 use Rattle.model_registers.specs.DeclarationRules.{IsLawfulEndpoint}
 use Rattle.model_board.specs.Paths.{Path}
 use Rattle.model_board.specs.Board.{Board, endpoint}
-use Rattle.model_board.specs.Pools.{Apertures}
-use Rattle.model_board.specs.Reach.{address_of}
-use Rattle.model_board.specs.FunctionTable.{TableRow, found_decl}
-use Rattle.model_board.specs.SetUpWrites.{Setting, writes_of}
+use Rattle.model_registers.specs.Apertures.{Apertures}
+use Rattle.model_set_up.specs.Reach.{address_of}
+use Rattle.model_set_up.specs.FunctionTable.{TableRow, found_decl}
+use Rattle.model_set_up.specs.SetUpWrites.{Setting, writes_of}
 use Rattle.model_guests.specs.World.{Guest, World, declared}
 use Rattle.model_guests.specs.Slots.{reset_slots}
 use Rattle.host_bridge.specs.HostState.{HostState}

@@ -9,9 +9,9 @@ use Rattle.model_registers.specs.ByteEnables.{lanes}
 use Rattle.model_registers.specs.EndpointTable.{opened}
 use Rattle.model_registers.specs.OwnCopies.{OwnCopies, own_file, HoldsOwn, IsLawfulOwn, handed_on}
 use Rattle.model_board.specs.Ports.{config_reply}
-use Rattle.host_bridge.specs.BusAddresses.{bus_address_of}
+use Rattle.paths.specs.BusAddresses.{bus_address_of}
 use Rattle.host_bridge.specs.HostState.{HostState}
-use Rattle.host_bridge.specs.declared.bdf.Bdf.{Bdf}
+use Rattle.paths.specs.declared.bdf.Bdf.{Bdf}
 use Rattle.monitor.specs.declared.guest.Held.{Held}
 use Rattle.monitor.specs.declared.guest.Guest.{Guest}
 

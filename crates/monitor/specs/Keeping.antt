@@ -10,17 +10,17 @@ use Rattle.model_registers.specs.Decoding.{Function}
 use Rattle.model_board.specs.Paths.{Path}
 use Rattle.model_board.specs.Board.{endpoint, Board}
 use Rattle.model_board.specs.BusNumbers.{Enumerates}
-use Rattle.model_board.specs.Pools.{Apertures}
-use Rattle.model_board.specs.Reach.{address_of}
-use Rattle.model_board.specs.SetUpWrites.{placed_base}
-use Rattle.model_board.specs.UniqueClaimant.{CanBePlaced}
+use Rattle.model_registers.specs.Apertures.{Apertures}
+use Rattle.model_set_up.specs.Reach.{address_of}
+use Rattle.model_set_up.specs.SetUpWrites.{placed_base}
+use Rattle.model_set_up.specs.UniqueClaimant.{CanBePlaced}
 use Rattle.model_guests.specs.Text.{Text}
 use Rattle.model_guests.specs.Slots.{Slots}
 use Rattle.model_guests.specs.Guests.{GuestNow, GuestsNow}
 use Rattle.model_guests.specs.WorldNow.{WorldNow, board_state}
 use Rattle.model_guests.specs.Seated.{AreSeated}
 use Rattle.bars.specs.Slots.{bases_from}
-use Rattle.host_bridge.specs.BusAddresses.{bus_address_of}
+use Rattle.paths.specs.BusAddresses.{bus_address_of}
 use Rattle.host_bridge.specs.HostState.{HostState}
 use Rattle.monitor.specs.declared.guest.Held.{Held}
 use Rattle.monitor.specs.declared.guest.Guest.{Guest}

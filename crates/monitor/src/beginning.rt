@@ -1,12 +1,12 @@
 //! What the monitor keeps of a board that is set up and of its guests, before any guest did anything.
 ghost use Rattle.std.specs.Prelude.{◌≡◌, ◌≤◌, ℕ, Some, false, length, map, slice_get, IfOk, IsTrue, IsSome};
-ghost use Rattle.model_registers.specs.Lists.{Each, EachPair};
+ghost use Rattle.lists.specs.Elements.{Each, EachPair};
 ghost use Rattle.model_registers.specs.Declarations.{Endpoint, HasLawfulRegions};
 ghost use Rattle.model_registers.specs.EndpointTable.{endpoint_reset};
 ghost use Rattle.model_board.specs.Paths.{path_before};
 ghost use Rattle.model_board.specs.Board.{Board};
-ghost use Rattle.model_board.specs.Pools.{Apertures};
-ghost use Rattle.model_board.specs.FunctionTable.{TableRow};
+ghost use Rattle.model_registers.specs.Apertures.{Apertures};
+ghost use Rattle.model_set_up.specs.FunctionTable.{TableRow};
 ghost use Rattle.model_guests.specs.World.{Guest as GuestValue, names, HasLawfulGuests, declared};
 ghost use Rattle.model_guests.specs.Slots.{reset_function};
 ghost use Rattle.model_guests.specs.Guests.{guests_at_first};
@@ -22,9 +22,9 @@ ghost use Rattle.monitor.specs.Beginnings.{world_of, IsRowOf, AreSlotsAtFirst};
 use crate::guest::{Guest, Held};
 use accesses::{GuestDecl, Names};
 use bars::{BarDecl, Region};
-use bridge_forward::Path;
 use bus_scan::{Found, FunctionRow};
 use guest_functions::{Latch, VirtualFunction};
+use paths::Path;
 use std::alloc::{AllocError, Global};
 use window_packing::{Ready, Setting, Writes};
 

@@ -1,8 +1,8 @@
 //! What the monitor keeps of each guest.
 use bars::Region;
-use bridge_forward::Path;
 use guest_functions::{Latch, VirtualFunction};
 use host_bridge::Bdf;
+use paths::Path;
 
 /// A function in a guest's slot: the guest's own copies, and where the function and its regions stand
 /// on the board.

@@ -2,7 +2,7 @@
 ghost use Rattle.std.specs.Prelude.{◌≡◌, List, Option, IfSome, option_map};
 ghost use Rattle.model_board.specs.Paths.{Path};
 ghost use Rattle.model_board.specs.Board.{Board};
-ghost use Rattle.model_board.specs.Pools.{Apertures};
+ghost use Rattle.model_registers.specs.Apertures.{Apertures};
 ghost use Rattle.model_guests.specs.Slots.{Slots, landing_from};
 ghost use Rattle.bars.specs.Kinds.{named_space};
 ghost use Rattle.monitor.specs.Configs.{IsHolding};

@@ -4,7 +4,7 @@ ghost use Rattle.model_registers.specs.Decoding.{Function};
 ghost use Rattle.model_registers.specs.OwnCopies.{is_own};
 ghost use Rattle.model_board.specs.Paths.{Path};
 ghost use Rattle.model_board.specs.Board.{Board};
-ghost use Rattle.model_board.specs.Pools.{Apertures};
+ghost use Rattle.model_registers.specs.Apertures.{Apertures};
 ghost use Rattle.model_board.specs.State.{with_file};
 ghost use Rattle.model_guests.specs.Slots.{raise_place};
 ghost use Rattle.headers.specs.Places.{place_of};
@@ -16,8 +16,8 @@ ghost use Rattle.monitor.specs.Raises.{raised_beside_copies};
 
 use crate::guest::Held;
 use accesses::Place;
-use bridge_forward::Path;
 use host_bridge::Host;
+use paths::Path;
 
 /// Whether a function in a slot has the byte: an offset of its configuration space, or one below the
 /// size of the region that begins at a base address register.

@@ -1,12 +1,13 @@
 -- The first value of an argument, by the rows of a parse.
 use Rattle.std.proofs.Common.{◌≡◌, ◌⊎◌, inl, inr, ℕ, Bool, true, false, cond, List, [], ◌∷◌, Option, Some, None, map, refl, sym, ap, ◌∙◌}
-use Rattle.std.specs.Prelude.{◌≢◌, ◌&&◌, ◌||◌, not, is_some, option_map, option_and_then, find, slice_get, unwrap_or, codes, Box}
+use Rattle.std.specs.Prelude.{◌≢◌, ◌||◌, not, is_some, option_map, option_and_then, find, slice_get, unwrap_or, codes, Box}
 use Rattle.std.specs.Box.{box_value}
 use Rattle.std.specs.Borrow.{Bor}
 use Rattle.std.specs.Str.{bytes_eq}
 use Rattle.clap.specs.declared.parser.matches.MatchedArg.{MatchedArg}
 use Rattle.clap.specs.declared.parser.matches.Found.{Found}
 use Rattle.std.specs.List.{list_all, list_any}
+use Rattle.lists.proofs.Tests.{right_true, left_true}
 use Rattle.clap.specs.Facts.{explicit_source}
 use Rattle.clap.specs.Walk.{Row, rows_of, row_of, finished, nothing_held, stop_after, walk, walk_from}
 use Rattle.clap.specs.Matches.{first_value, subcommand_name_of}
@@ -70,14 +71,6 @@ asked m words name f e n r =
 
 -- ---- words that are taken name a subcommand, and no words name another
 
-and_left : (x y : Bool) → (x && y) ≡ true → x ≡ true
-and_left true y h = refl
-and_left false y h = absurd (let wrong : false ≡ true = h in cc)
-
-and_right : (x y : Bool) → (x && y) ≡ true → y ≡ true
-and_right true y h = h
-and_right false y h = absurd (let wrong : false ≡ true = h in cc)
-
 required_is_there : (r has : Bool) → r ≡ true → (not r || has) ≡ true → has ≡ true
 required_is_there true has e h = h
 required_is_there false has e h = absurd (let wrong : false ≡ true = e in cc)
@@ -88,41 +81,43 @@ enters_one a ws asks h =
     let has = is_some (entered a (walk a.top.rules (names_of a) nothing_held ws).stopped) in
     let end = (walk a.top.rules (names_of a) nothing_held ws).held in
     let level : level_passes a.top (names_of a) nothing_held ws has ≡ true =
-    and_right (entered_passes a (walk a.top.rules (names_of a) nothing_held ws).stopped) (level_passes a.top (names_of a) nothing_held ws has) h in
+    right_true (entered_passes a (walk a.top.rules (names_of a) nothing_held ws).stopped) (level_passes a.top (names_of a) nothing_held ws has) h in
     let valid : is_valid a.top (finished a.top.rules end) has ≡ true =
-    and_right (list_all default_passes a.top.rules) _ (and_right (settle_passes a.top.rules a.top.args_override_self end) _
-    (and_right (walk_passes a.top (names_of a) (walk_from nothing_held) ws) _ level)) in
-    required_is_there a.top.subcommand_required has asks (and_left (not a.top.subcommand_required || has) _ (and_right (not a.top.arg_required_else_help || (has || list_any (λ r. explicit_source r.source) (finished a.top.rules end))) _ valid))
+    right_true (list_all default_passes a.top.rules) _ (right_true (settle_passes a.top.rules a.top.args_override_self end) _
+    (right_true (walk_passes a.top (names_of a) (walk_from nothing_held) ws) _ level)) in
+    required_is_there a.top.subcommand_required has asks (left_true (not a.top.subcommand_required || has) _ (right_true (not a.top.arg_required_else_help || (has || list_any (λ r. explicit_source r.source) (finished a.top.rules end))) _ valid))
 
-one_of : (d l k r : Shape) (t u x v : Bool) (ws : List (List ℕ)) (n : List ℕ)
-    → Some n ≡ option_map (λ (q : List ℕ × List Row). q.0) (option_map (λ (s : Shape). rows_at s ws) (cond t (Some d) (cond u (Some l) (cond x (Some k) (cond v (Some r) None)))))
-    → (n ≡ d.name) ⊎ ((n ≡ l.name) ⊎ ((n ≡ k.name) ⊎ (n ≡ r.name)))
-one_of d l k r true u x v ws n h = inl (let same : n ≡ d.name = cc in same)
-one_of d l k r false true x v ws n h = inr (inl (let same : n ≡ l.name = cc in same))
-one_of d l k r false false true v ws n h = inr (inr (inl (let same : n ≡ k.name = cc in same)))
-one_of d l k r false false false true ws n h = inr (inr (inr (let same : n ≡ r.name = cc in same)))
-one_of d l k r false false false false ws n h = absurd (let wrong : Some n ≡ None = h in cc)
+one_of : (d l k r f : Shape) (t u x v y : Bool) (ws : List (List ℕ)) (n : List ℕ)
+    → Some n ≡ option_map (λ (q : List ℕ × List Row). q.0) (option_map (λ (s : Shape). rows_at s ws) (cond t (Some d) (cond u (Some l) (cond x (Some k) (cond v (Some r) (cond y (Some f) None))))))
+    → (n ≡ d.name) ⊎ ((n ≡ l.name) ⊎ ((n ≡ k.name) ⊎ ((n ≡ r.name) ⊎ (n ≡ f.name))))
+one_of d l k r f true u x v y ws n h = inl (let same : n ≡ d.name = cc in same)
+one_of d l k r f false true x v y ws n h = inr (inl (let same : n ≡ l.name = cc in same))
+one_of d l k r f false false true v y ws n h = inr (inr (inl (let same : n ≡ k.name = cc in same)))
+one_of d l k r f false false false true y ws n h = inr (inr (inr (inl (let same : n ≡ r.name = cc in same))))
+one_of d l k r f false false false false true ws n h = inr (inr (inr (inr (let same : n ≡ f.name = cc in same))))
+one_of d l k r f false false false false false ws n h = absurd (let wrong : Some n ≡ None = h in cc)
 
 abbrev IsKnown : List ℕ → Type 0
-IsKnown n = (n ≡ codes "demo") ⊎ ((n ≡ codes "list") ⊎ ((n ≡ codes "check") ⊎ (n ≡ codes "run")))
+IsKnown n = (n ≡ codes "demo") ⊎ ((n ≡ codes "list") ⊎ ((n ≡ codes "check") ⊎ ((n ≡ codes "run") ⊎ (n ≡ codes "firmware"))))
 
 stop_name : (stop : Option (List ℕ × List (List ℕ))) (n : List ℕ)
     → Some n ≡ option_map (λ (q : List ℕ × List Row). q.0) (entered (built pciguest_app) stop) → IsKnown n
 unfolding clap_on_literals
 stop_name None n h = absurd (let wrong : Some n ≡ None = h in cc)
-stop_name (Some p) n h = one_of _ _ _ _ _ _ _ _ p.1 n h
+stop_name (Some p) n h = one_of _ _ _ _ _ _ _ _ _ _ p.1 n h
 
 -- of the subcommand that a parse met
 pub no_other : (m : ArgMatches) (words : List (List ℕ)) (n : List ℕ) → subcommand_rows_of m ≡ subcommand_of pciguest_app words
-    → Some n ≡ subcommand_name_of m → n ≢ codes "demo" → n ≢ codes "list" → n ≢ codes "run" → n ≢ codes "check" → ⊥
-no_other m words n read known demo list run check =
+    → Some n ≡ subcommand_name_of m → n ≢ codes "demo" → n ≢ codes "list" → n ≢ codes "run" → n ≢ codes "check" → n ≢ codes "firmware" → ⊥
+no_other m words n read known demo list run check firmware =
     by_name (stop_name (stop_after (built pciguest_app).top.rules (names_of (built pciguest_app)) (argument_words pciguest_app words)) n (known ∙ named_by_rows (out-ArgMatches m).subcommand ∙ ap (option_map (λ (p : List ℕ × List Row). p.0)) read))
   where
     by_name : IsKnown n → ⊥
     by_name (inl is) = demo is
     by_name (inr (inl is)) = list is
     by_name (inr (inr (inl is))) = check is
-    by_name (inr (inr (inr is))) = run is
+    by_name (inr (inr (inr (inl is)))) = run is
+    by_name (inr (inr (inr (inr is)))) = firmware is
 
 none_is_none : (o : Option (List ℕ × List Row)) → None ≡ option_map (λ (p : List ℕ × List Row). p.0) o → is_some o ≡ true → ⊥
 none_is_none None same h = let wrong : false ≡ true = h in absurd cc
@@ -134,4 +129,4 @@ one_is_met m words read none taken =
     none_is_none (subcommand_of pciguest_app words)
     (none ∙ named_by_rows (out-ArgMatches m).subcommand ∙ ap (option_map (λ (p : List ℕ × List Row). p.0)) read)
     (enters_one (built pciguest_app) (argument_words pciguest_app words) refl
-    (and_right (is_simple pciguest_app) (built_takes (built pciguest_app) nothing_held (argument_words pciguest_app words)) taken))
+    (right_true (is_simple pciguest_app) (built_takes (built pciguest_app) nothing_held (argument_words pciguest_app words)) taken))

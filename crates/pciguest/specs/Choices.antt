@@ -12,6 +12,8 @@ IsAsked words choice.Demo = subcommand words ≡ Some (codes "demo")
 IsAsked words (choice.List path) = (subcommand words ≡ Some (codes "list")) × (path.now ≡ unwrap_or (board words) [])
 IsAsked words (choice.Check path) = (subcommand words ≡ Some (codes "check")) × (path.now ≡ unwrap_or (board words) [])
 IsAsked words (choice.Run path) = (subcommand words ≡ Some (codes "run")) × (path.now ≡ unwrap_or (board words) [])
+IsAsked words (choice.Firmware path) =
+    (subcommand words ≡ Some (codes "firmware")) × (path.now ≡ unwrap_or (board words) [])
 
 abbrev pub IsWork : Choice → Type 0
 IsWork (choice.Help text) = ⊥
@@ -19,6 +21,7 @@ IsWork choice.Demo = Unit {0}
 IsWork (choice.List path) = Unit {0}
 IsWork (choice.Check path) = Unit {0}
 IsWork (choice.Run path) = Unit {0}
+IsWork (choice.Firmware path) = Unit {0}
 
 abbrev pub IsHelp : Choice → Type 0
 IsHelp (choice.Help text) = Unit {0}
@@ -26,3 +29,4 @@ IsHelp choice.Demo = ⊥
 IsHelp (choice.List path) = ⊥
 IsHelp (choice.Check path) = ⊥
 IsHelp (choice.Run path) = ⊥
+IsHelp (choice.Firmware path) = ⊥

@@ -5,7 +5,8 @@ ghost use Rattle.clap.specs.Simple.{app_of, shape_of, new_shape};
 ghost use Rattle.clap.specs.Faults.{fault_of};
 ghost use Rattle.clap.specs.Values.{kind_of};
 ghost use Rattle.clap.specs.Walk.{rule_of};
-ghost use Rattle.pciguest.specs.Words.{board_rule, list_shape, check_shape, run_shape, demo_and_list_app, demo_list_and_check_app, pciguest_app, is_taken};
+ghost use Rattle.pciguest.specs.Words.{board_rule, list_shape, check_shape, run_shape, firmware_shape, is_taken};
+ghost use Rattle.pciguest.specs.Words.{demo_and_list_app, demo_list_and_check_app, without_firmware_app, pciguest_app};
 ghost use Rattle.pciguest.specs.Choices.{IsAsked, IsWork, IsHelp};
 
 use clap::error::ErrorKind;
@@ -59,7 +60,19 @@ fn check<'a>(alloc: Global) -> Result<Command<'a>, AllocError>
         .arg(board(alloc))
 }
 
-/// The program's command line but for `check` and `run`.
+/// `firmware BOARD`.
+fn firmware<'a>(alloc: Global) -> Result<Command<'a>, AllocError>
+    ensures shape { IfOk result (λ c. shape_of c ≡ firmware_shape) }
+    ensures local { IfOk result (λ c. (fields_of c).has_globals ≡ false) }
+{
+    Command::new(alloc, "firmware")
+        .about(
+            "Do what firmware asks on standard input, at the board of the file <board>, at reset",
+        )
+        .arg(board(alloc))
+}
+
+/// The program's command line but for `check`, `run` and `firmware`.
 fn demo_and_list<'a>(alloc: Global) -> Result<Command<'a>, AllocError>
     ensures { IfOk result (λ c. app_of c ≡ demo_and_list_app) }
 {
@@ -72,7 +85,7 @@ fn demo_and_list<'a>(alloc: Global) -> Result<Command<'a>, AllocError>
         .subcommand(list)
 }
 
-/// The program's command line but for `run`.
+/// The program's command line but for `run` and `firmware`.
 fn without_run<'a>(alloc: Global) -> Result<Command<'a>, AllocError>
     ensures { IfOk result (λ c. app_of c ≡ demo_list_and_check_app) }
 {
@@ -80,12 +93,20 @@ fn without_run<'a>(alloc: Global) -> Result<Command<'a>, AllocError>
     demo_and_list(alloc)?.subcommand(check)
 }
 
+/// The program's command line but for `firmware`.
+fn without_firmware<'a>(alloc: Global) -> Result<Command<'a>, AllocError>
+    ensures { IfOk result (λ c. app_of c ≡ without_firmware_app) }
+{
+    let run = run(alloc)?;
+    without_run(alloc)?.subcommand(run)
+}
+
 /// The program's command line.
 fn command<'a>(alloc: Global) -> Result<Command<'a>, AllocError>
     ensures { IfOk result (λ c. app_of c ≡ pciguest_app) }
 {
-    let run = run(alloc)?;
-    without_run(alloc)?.subcommand(run)
+    let firmware = firmware(alloc)?;
+    without_firmware(alloc)?.subcommand(firmware)
 }
 
 /// The answer to words that the command line refuses.
@@ -130,6 +151,9 @@ pub fn choose<'a>(alloc: Global, words: &'a [&'a str]) -> Result<Choice<'a>, Fau
             Some(("run", run)) => Ok(Choice::Run(run.get_str("board").unwrap_or(""))),
             Some(("check", checked)) => {
                 Ok(Choice::Check(checked.get_str("board").unwrap_or("")))
+            }
+            Some(("firmware", driven)) => {
+                Ok(Choice::Firmware(driven.get_str("board").unwrap_or("")))
             }
             _ => Err(Fault::Usage),
         },

@@ -30,7 +30,7 @@ fn serve(rt: &(impl Env + AllocGlobal + Files + Input + Print)) -> Result<(), Fa
     }
     let choice = choose(alloc, texts.as_slice())?;
     let mut reader = InputStream::new(rt.reader());
-    let mut writer = OutputStream::new(alloc, io::writer(rt))?;
+    let mut writer = OutputStream::buffered(alloc, io::writer(rt))?;
     perform(rt, alloc, &choice, &mut reader, &mut writer)
 }
 

@@ -2,7 +2,7 @@
 #![tactic(auto)]
 
 ghost use Rattle.std.specs.Prelude.{◌≡◌};
-ghost use Rattle.host_bridge.specs.BusAddresses.{bus_address_of};
+ghost use Rattle.paths.specs.BusAddresses.{bus_address_of};
 ghost use Rattle.host_bridge.specs.HostState.{with_latch};
 ghost use Rattle.presence.specs.Presence.{is_present, devices_below};
 

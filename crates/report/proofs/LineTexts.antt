@@ -6,8 +6,3 @@ pub text_of_lines-append : (a b : List Text) → text_of_lines (a ++ b) ≡ text
 text_of_lines-append [] b = refl
 text_of_lines-append (l ∷ a) b =
     ap (λ t. (l ++ 10 ∷ []) ++ t) (text_of_lines-append a b) ∙ sym (append_assoc (l ++ 10 ∷ []) (text_of_lines a) (text_of_lines b))
-
--- a line of pieces, and the lines after it
-pub after_head : (old front kind identity : Text) (ls : List Text)
-    → ((((old ++ front) ++ kind) ++ identity) ++ 10 ∷ []) ++ text_of_lines ls ≡ old ++ text_of_lines ((front ++ kind ++ identity) ∷ ls)
-after_head old front kind identity ls = simp append_assoc

@@ -2,8 +2,8 @@
 use Rattle.std.proofs.Common.{◌≡◌, ℕ, List, [], ◌∷◌, length, drop, min, refl, ap, ◌∙◌, ⊎_elim, arith}
 use Rattle.std.proofs.lemmas.List.{drop_all}
 use Rattle.std.proofs.lemmas.Bool.{cases_lt}
-use Rattle.model_board.specs.FunctionTable.{TableRow}
-use Rattle.model_board.specs.SetUpWrites.{Setting}
+use Rattle.model_set_up.specs.FunctionTable.{TableRow}
+use Rattle.model_set_up.specs.SetUpWrites.{Setting}
 use Rattle.report.specs.Found.{rows_text}
 
 rows_text_nil : (rs : List TableRow) → rows_text rs [] ≡ []

@@ -2,20 +2,21 @@
 use Rattle.std.proofs.Common.{◌≡◌, ℕ, zero, suc, ◌+◌, ◌-◌, ◌*◌, ◌<◌, ◌≤◌, Bool, List, [], ◌∷◌, ◌++◌, map, flat_map, not, cond, codes, decimal, refl, sym, ap, ap₂, ◌∙◌, append_assoc, ne_eqb, le-ltb, lt-ltb, lit<, inl, arith}
 use Rattle.std.specs.Prelude.{count_by}
 use Rattle.std.proofs.lemmas.List.Sums.{sum_by-cons}
-use Rattle.model_registers.specs.Lists.{Each}
+use Rattle.lists.specs.Elements.{Each}
 use Rattle.model_registers.specs.Declarations.{Region}
 use Rattle.model_board.specs.Paths.{Path}
 use Rattle.model_board.specs.Board.{Decl, endpoint, bridge, is_bridge, Row, Board}
 use Rattle.model_board.specs.BusNumbers.{secondary, subordinate, bus_of}
 use Rattle.model_board.specs.Lawful.{IsLawfulDecl, HasLawfulDecls}
-use Rattle.model_board.specs.Reach.{address_of}
-use Rattle.model_board.specs.Pools.{Pool, io_pool, mem_pool, pref_pool, unit_of, Apertures}
-use Rattle.model_board.specs.Placement.{Item, need, items_on, bus_first, end_from, in_order}
-use Rattle.model_board.specs.SetUp.{window_of, set_up_window}
-use Rattle.model_board.specs.SetUpWrites.{Plan, placed_base, writes_of, settings}
-use Rattle.model_board.specs.FunctionTable.{TableRow, found_decl, table_row, sized_table}
-use Rattle.model_board.proofs.Items.{IsPlaceable, some_end, end_below_need, items_placeable}
-use Rattle.model_board.proofs.Packing.{unit_positive}
+use Rattle.model_set_up.specs.Reach.{address_of}
+use Rattle.model_set_up.specs.Pools.{Pool, io_pool, mem_pool, pref_pool, unit_of}
+use Rattle.model_registers.specs.Apertures.{Apertures}
+use Rattle.model_set_up.specs.Placement.{Item, need, items_on, bus_first, end_from, in_order}
+use Rattle.model_set_up.specs.SetUp.{window_of, set_up_window}
+use Rattle.model_set_up.specs.SetUpWrites.{Plan, placed_base, writes_of, settings}
+use Rattle.model_set_up.specs.FunctionTable.{TableRow, found_decl, table_row, sized_table}
+use Rattle.model_set_up.proofs.Items.{IsPlaceable, some_end, end_below_need, items_placeable}
+use Rattle.model_set_up.proofs.Packing.{unit_positive}
 use Rattle.model_guests.specs.Text.{Text, text_of_lines}
 use Rattle.model_guests.specs.World.{Guest, World}
 use Rattle.model_guests.specs.Replies.{hex_digits}

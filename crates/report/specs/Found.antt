@@ -10,8 +10,8 @@ use Rattle.model_registers.specs.EndpointTable.{BaseAddress}
 use Rattle.model_registers.specs.BridgeTable.{Window}
 use Rattle.model_board.specs.Paths.{Part, Path, last_part}
 use Rattle.model_board.specs.Board.{Decl, endpoint, bridge, is_bridge}
-use Rattle.model_board.specs.FunctionTable.{BusRange, TableRow}
-use Rattle.model_board.specs.SetUpWrites.{Writes, to_endpoint, to_bridge, Setting}
+use Rattle.model_set_up.specs.FunctionTable.{BusRange, TableRow}
+use Rattle.model_set_up.specs.SetUpWrites.{Writes, to_endpoint, to_bridge, Setting}
 use Rattle.model_board.specs.Interrupts.{root_device, root_pin}
 use Rattle.model_guests.specs.Text.{Text, text_of_lines}
 use Rattle.model_guests.specs.World.{Guest}

@@ -2,8 +2,8 @@
 --     IsOf      the table, the plan and the guests are those that set-up and the board file give for a world
 use Rattle.std.specs.Prelude.{List, ◌≡◌}
 use Rattle.model_board.specs.Lawful.{HasLawfulDecls}
-use Rattle.model_board.specs.FunctionTable.{TableRow, sized_table}
-use Rattle.model_board.specs.SetUpWrites.{Plan, planned}
+use Rattle.model_set_up.specs.FunctionTable.{TableRow, sized_table}
+use Rattle.model_set_up.specs.SetUpWrites.{Plan, planned}
 use Rattle.model_guests.specs.World.{Guest, World}
 
 pub record IsOf (w : World) (table : List TableRow) (plan : Plan) (guests : List Guest) : Type 0 where

@@ -9,9 +9,9 @@ ghost use Rattle.report.specs.Found.{ended, base_line, known_pin_lines, named_wi
 use crate::texts::{kind_text, push_identity, push_numbers_and_path, push_path};
 use accesses::GuestDecl;
 use bars::Region;
-use bridge_forward::Path;
 use bus_scan::{Found, FunctionRow};
 use intx_swizzle::at_root;
+use paths::Path;
 use std::alloc::AllocError;
 use window_packing::{Window, Writes};
 

@@ -5,7 +5,7 @@ ghost use Rattle.bars.specs.Kinds.{kind_of};
 ghost use Rattle.report.specs.Found.{part_address, numbers_and_path};
 
 use bars::Kind;
-use bridge_forward::{Part, Path};
+use paths::{Part, Path};
 use std::alloc::AllocError;
 
 /// The word for what a region's register opens.

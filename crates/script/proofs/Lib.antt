@@ -1,7 +1,1 @@
-pub mod Buffers
-pub mod Endings
 pub mod LineAnswers
-pub mod LineEnds
-pub mod LongLines
-pub mod Reaching
-pub mod Results

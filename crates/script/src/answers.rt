@@ -1,13 +1,13 @@
 //! What a line does and writes.
 ghost use Rattle.std.specs.Prelude.{◌≡◌, ◌<◌, ◌++◌, ◌∷◌, [], length, MatchOption, IfSome};
-ghost use Rattle.model_guests.specs.Text.{Text};
 ghost use Rattle.model_guests.specs.Replies.{line_text};
 ghost use Rattle.model_guests.specs.WorldNow.{names_now, line_output, after_line};
 ghost use Rattle.accesses.specs.Accesses.{reply_of};
 ghost use Rattle.accesses.specs.Replies.{IsShown};
 ghost use Rattle.lines.specs.Lines.{who_of, GuestIs};
-ghost use Rattle.script.specs.Pieces.{IsBefore};
+ghost use Rattle.model_guests.specs.Runs.{world_protocol};
 
+use line_runs::Answers;
 use lines::{LineText, What, Who, line_meaning, push_line};
 use monitor::{Monitor, Reply};
 
@@ -68,18 +68,18 @@ pub fn run_line(monitor: &mut Monitor, line: &[u8]) -> LineText
     text
 }
 
-/// Runs the event of a line, and writes what the line writes into an empty text. Of a long line, whose
-/// first bytes were passed over, the others are enough: no event runs, and all such lines write the same.
-pub(crate) fn answer(monitor: &mut Monitor, line: &[u8], long: bool, text: &mut LineText)
-    requires { text.old.items ≡ [] }
-    ensures text { (before : Text) → IsBefore long before →
-        text.new.items ≡ line_output monitor.old (before ++ line.now) }
-    ensures after { (before : Text) → IsBefore long before →
-        monitor.new ≡ after_line monitor.old (before ++ line.now) }
-{
-    if long {
-        push_line(text, Who::Unknown, monitor.names(), Reply::Refused(403));
-        return;
+/// The language of scripts, whose lines a monitor answers.
+pub struct Script;
+
+impl Answers<Script> for Monitor {
+    ghost protocol = { world_protocol };
+
+    fn answer(&mut self, line: &[u8], long: bool, text: &mut LineText) {
+        // No event runs, and all such lines write the same.
+        if long {
+            push_line(text, Who::Unknown, self.names(), Reply::Refused(403));
+            return;
+        }
+        push_answer(self, line, text);
     }
-    push_answer(monitor, line, text);
 }

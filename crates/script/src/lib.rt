@@ -2,11 +2,10 @@
 #![tactic(auto)]
 
 mod answers;
-mod held;
-mod pieces;
 mod running;
 
-pub use answers::run_line;
+pub use answers::{Script, run_line};
+pub use line_runs::RunFault;
 pub use lines::{Line, LineText, What, Who, parse_line};
 pub use monitor::Monitor;
-pub use running::{RunFault, run};
+pub use running::run;

@@ -1,77 +1,17 @@
 //! A run of a whole script.
-ghost use Rattle.std.specs.Prelude.{◌≡◌, ◌+◌, ◌-◌, ◌^◌, ◌<◌, ◌≤◌, [], false, length, OnOk, IsErrOf};
+ghost use Rattle.std.specs.Prelude.{◌≡◌, ◌+◌, ◌-◌, ◌^◌, ◌<◌, OnOk, IsErrOf};
 ghost use Rattle.std.specs.Option.{ForSome};
-ghost use Rattle.std.specs.Io.KnownBytes.{Appends, Consumes, IsAtEnd};
-ghost use Rattle.model_guests.specs.Text.{Text, lines};
+ghost use Rattle.std.specs.Io.KnownBytes.{Appends, IsAtEnd};
+ghost use Rattle.model_guests.specs.Text.{lines};
 ghost use Rattle.model_guests.specs.WorldNow.{output, after_lines};
-ghost use Rattle.model_guests.specs.Runs.{HasNoEnd, IsCut};
-ghost use Rattle.script.specs.Faults.{read_failures_of, write_failures_of, number_of};
-ghost use Rattle.script.specs.Pieces.{Reaches, IsStoppedIn};
+ghost use Rattle.model_guests.specs.Runs.{IsCut};
+ghost use Rattle.line_runs.specs.Faults.{read_failures_of, write_failures_of};
+ghost use Rattle.script.specs.Stops.{IsStoppedIn};
 
-use crate::held::Held;
-use crate::pieces::{run_last, run_piece};
+use crate::answers::Script;
+use line_runs::RunFault;
 use monitor::Monitor;
 use streams::{Reader, Writer};
-use thiserror::Error;
-
-/// Why a run ended early.
-#[derive(Clone, Copy, Debug, PartialEq, Eq, Error)]
-pub enum RunFault {
-    #[error("read failed")]
-    Read,
-    /// A write or a flush failed, or a write took no byte.
-    #[error("write failed")]
-    Write,
-}
-
-impl RunFault {
-    /// The number of the fault: 501 or 502.
-    pub fn number(self) -> u16
-        ensures { result ≡ number_of self }
-    {
-        match self {
-            RunFault::Read => 501,
-            RunFault::Write => 502,
-        }
-    }
-}
-
-/// Runs the lines of a script that line feeds end, as they are read, and holds what is left at its end.
-fn run_pieces<R: Reader, W: Writer>(
-    monitor: &mut Monitor,
-    held: &mut Held,
-    reader: &mut R,
-    writer: &mut W,
-) -> Result<(), RunFault>
-    requires empty { held.old ≡ record { text = []; long = false } }
-    requires reader_has_room { R.failures reader.old < 2 ^ 64 - 1 }
-    requires writer_has_room { W.failures writer.old < 2 ^ 64 - 1 }
-    ensures reads { R.failures reader.new ≡ R.failures reader.old + read_failures_of result }
-    ensures writes { W.failures writer.new ≡ W.failures writer.old + write_failures_of result }
-    ensures end { OnOk result (IsAtEnd (R.rest reader.new)) }
-    ensures rest { OnOk result (HasNoEnd held.new.text) }
-    ensures runs { OnOk result ((read : Text) × Consumes (R.rest reader.old) (R.rest reader.new) read
-        × Reaches monitor.old read held.new.text held.new.long
-        (W.written writer.old) (W.written writer.new) monitor.new) }
-    ensures cut { IsErrOf result RunFault.Read →
-        IsCut monitor.old (R.rest reader.old) (R.rest reader.new)
-        (W.written writer.old) (W.written writer.new) monitor.new }
-    ensures stopped { IsErrOf result RunFault.Write → ForSome (R.rest reader.old) (λ script.
-        IsStoppedIn monitor.old script (R.rest reader.old) (R.rest reader.new)
-        (W.written writer.old) (W.written writer.new) monitor.new) }
-{
-    loop {
-        let Ok(more) = held.fill(reader) else {
-            return Err(RunFault::Read);
-        };
-        if !more {
-            return Ok(());
-        }
-        if run_piece(monitor, held, writer).is_err() {
-            return Err(RunFault::Write);
-        }
-    }
-}
 
 /// Runs a script over the monitor, in pieces as they are read. Each line is answered before the next
 /// is looked at, and all answers are flushed before more is read, so that who writes the script can
@@ -106,10 +46,5 @@ pub fn run<R: Reader, W: Writer>(
         IsStoppedIn monitor.old script (R.rest reader.old) (R.rest reader.new)
         (W.written writer.old) (W.written writer.new) monitor.new) }
 {
-    let mut held = Held::new();
-    run_pieces(monitor, &mut held, reader, writer)?;
-    if run_last(monitor, &held, writer).is_err() {
-        return Err(RunFault::Write);
-    }
-    Ok(())
+    line_runs::run::<Script, Monitor, R, W>(monitor, reader, writer)
 }

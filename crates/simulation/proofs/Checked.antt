@@ -1,6 +1,6 @@
 -- What the parts of a check say, put together.
 use Rattle.std.proofs.Common.{◌≡◌, ◌⊎◌, ◌<◌, ◌≤◌, Result, Ok, Err, Some, sym, ap, ◌∙◌, inl, inr, arith}
-use Rattle.std.specs.Prelude.{IfErr, Option, ℕ}
+use Rattle.std.specs.Prelude.{◌≢◌, IfErr, Option, ℕ}
 use Rattle.bus_scan.specs.declared.fault.Fault.{Fault as SetUpFault}
 use Rattle.bus_scan.specs.declared.fault.Fault.TheVariants as set_up
 use Rattle.bus_scan.specs.Faults as bus_scan
@@ -26,6 +26,12 @@ declined_large s f h = elim h [
     | inr write ↦ (let is : number_of f ≡ 502 = ap number_of write in omega arith)
   ]
 ]
+
+-- the rule for which a board is declined, where that is told
+pub told_rule : (s : SetUpFault) (rule : Option ℕ) → s ≢ set_up.Memory
+    → (s ≡ set_up.Memory) ⊎ (rule ≡ Some (bus_scan.number_of s)) → rule ≡ Some (number_of (of_set_up s))
+told_rule s rule known (inl memory) = absurd (known memory)
+told_rule s rule known (inr number) = number ∙ ap Some (sym (set_up_number s))
 
 -- the rule that the board breaks
 pub declined_rule : (s : SetUpFault) (f : Fault) (rule : Option ℕ) → IsDeclined s f → number_of f < 299

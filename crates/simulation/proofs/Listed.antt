@@ -1,12 +1,12 @@
 -- What the parts of a listing say, put together.
-use Rattle.std.proofs.Common.{◌≡◌, ◌<◌, ◌≤◌, Result, Ok, Err, refl, sym, ap, ap₂, ◌∙◌, lit≤, arith}
+use Rattle.std.proofs.Common.{◌≡◌, ◌<◌, ◌≤◌, Result, Ok, Err, refl, sym, ap, ap₂, ◌∙◌, subst, lit≤, arith}
 use Rattle.std.specs.Prelude.{◌≢◌, List, IfErr, IsErrOf, IsUtf8}
 use Rattle.std.specs.Result.{IsErrAnd}
 use Rattle.toml.specs.Parse.{parse_document}
 use Rattle.model_board.specs.Lawful.{HasLawfulDecls}
-use Rattle.model_board.specs.FunctionTable.{TableRow, sized_table}
-use Rattle.model_board.specs.SetUp.{set_up_state}
-use Rattle.model_board.specs.SetUpWrites.{Plan, planned}
+use Rattle.model_set_up.specs.FunctionTable.{TableRow, sized_table}
+use Rattle.model_set_up.specs.SetUp.{set_up_state}
+use Rattle.model_set_up.specs.SetUpWrites.{Plan, planned}
 use Rattle.host_bridge.specs.HostState.{HostState}
 use Rattle.window_packing.specs.Readies.{ReadyBoard, board_below, IsReady}
 use Rattle.model_guests.specs.Text.{Text}
@@ -50,17 +50,23 @@ file_number_small file.Memory = lit≤ tt
 pub of_file_small : (b : BoardFault) (f : Fault) → f ≡ of_file b → number_of f ≤ 199
 of_file_small b f same = omega (arith, file_number_small b, ap number_of same ∙ file_number b)
 
+pub refused_by : (bytes : Text) (b : BoardFault)
+    → (b ≢ file.Memory → IsUtf8 bytes → document_meaning (parse_document bytes) ≡ Err (board_file.number_of b))
+    → (b ≢ file.Memory → ¬ IsUtf8 bytes → b ≡ file.NotToml)
+    → b ≢ file.Memory → Refuses bytes (number_of (of_file b))
+refused_by bytes b said no_text other = record {
+  no_text = λ no. file_number b ∙ ap board_file.number_of (no_text other no);
+  meaning = λ yes. said other yes ∙ ap Err (sym (file_number b));
+}
+
 pub refused_by_file : (bytes : Text) (b : BoardFault)
     → (b ≢ file.Memory → IsUtf8 bytes → document_meaning (parse_document bytes) ≡ Err (board_file.number_of b))
     → (b ≢ file.Memory → ¬ IsUtf8 bytes → b ≡ file.NotToml)
     → (f : Fault) → f ≡ of_file b → number_of f < 199 → Refuses bytes (number_of f)
 refused_by_file bytes b said no_text f same h =
-    let number : number_of f ≡ board_file.number_of b = ap number_of same ∙ file_number b in
-    let other : b ≢ file.Memory = λ is. let full : board_file.number_of b ≡ 199 = ap board_file.number_of is in omega arith in
-    record {
-      no_text = λ no. number ∙ ap board_file.number_of (no_text other no);
-      meaning = λ yes. said other yes ∙ ap Err (sym number);
-    }
+    let other : b ≢ file.Memory = λ is.
+    let full : number_of f ≡ 199 = ap number_of same ∙ file_number b ∙ ap board_file.number_of is in omega arith in
+    subst (λ (g : Fault). Refuses bytes (number_of g)) (sym same) (refused_by bytes b said no_text other)
 
 -- a fault of the report is none of the file
 pub of_report_large : (r : ReportFault) (f : Fault) → f ≡ of_report r → 299 ≤ number_of f

@@ -3,19 +3,19 @@ use Rattle.std.proofs.Common.{◌≡◌, ◌≤◌, Result, Ok, Err, refl, sym, 
 use Rattle.std.specs.Prelude.{List, IsErrOf}
 use Rattle.std.specs.Result.{IsErrAnd}
 use Rattle.model_board.specs.Board.{Board}
-use Rattle.model_board.specs.Pools.{Apertures}
-use Rattle.model_board.specs.SetUp.{set_up_state}
+use Rattle.model_registers.specs.Apertures.{Apertures}
+use Rattle.model_set_up.specs.SetUp.{set_up_state}
 use Rattle.model_guests.specs.World.{Guest}
 use Rattle.model_guests.specs.WorldNow.{WorldNow, world_at_first}
 use Rattle.host_bridge.specs.HostState.{HostState}
 use Rattle.window_packing.specs.Readies.{ReadyBoard, board_below}
 use Rattle.board_file.specs.Meaning.{world_in}
 use Rattle.monitor.specs.Beginnings.{world_of}
-use Rattle.script.specs.declared.running.RunFault.{RunFault}
-use Rattle.script.specs.declared.running.RunFault.TheVariants as run
+use Rattle.line_runs.specs.declared.running.RunFault.{RunFault}
+use Rattle.line_runs.specs.declared.running.RunFault.TheVariants as run
 use Rattle.simulation.specs.declared.fault.Fault.{Fault}
 use Rattle.simulation.specs.declared.fault.Fault.TheVariants.{Read, Write}
-use Rattle.script.specs.Faults.{read_failures_of, write_failures_of}
+use Rattle.line_runs.specs.Faults.{read_failures_of, write_failures_of}
 use Rattle.simulation.specs.Faults.{number_of, of_run, read_faults, write_faults}
 
 -- a fault of the run is none of the file or of the board

@@ -1,7 +1,7 @@
 -- What a check says of a board file.
 --     IsRefusalOf name board f text      what is said of a file that is refused with this fault
 --     IsRefusalTold name board f old new      this was written, after what was written before
---     IsCheckText name board text      what is said of a file: of its board, or of a refusal
+--     IsCheckText name board text      what is said of a file: of its board, or of the check that it fails
 use Rattle.std.specs.Prelude.{◌≡◌, Option}
 use Rattle.std.specs.Io.KnownBytes.{Appends}
 use Rattle.model_guests.specs.Text.{Text}
@@ -9,9 +9,9 @@ use Rattle.model_guests.specs.World.{World}
 use Rattle.board_file.specs.declared.fault.BoardFault.{BoardFault}
 use Rattle.board_check.specs.Telling.{IsRefusalText}
 use Rattle.simulation.specs.declared.fault.Fault.{Fault}
-use Rattle.simulation.specs.Faults.{of_file}
+use Rattle.simulation.specs.Faults.{number_of, of_file}
 use Rattle.simulation.specs.Fitting.{IsFitText}
-use Rattle.simulation.specs.Listing.{Declares}
+use Rattle.simulation.specs.Listing.{Declares, Refuses}
 
 pub record IsRefusalOf (name board : Text) (f : Fault) (text : Text) : Type 0 where
   pub fault : BoardFault
@@ -25,4 +25,4 @@ pub record IsRefusalTold (name board : Text) (f : Fault) (old new : Option Text)
 
 pub data IsCheckText (name board text : Text) : Type 0 where
   of_board : (w : World) → Declares board w → IsFitText name w.board w.apertures text → IsCheckText name board text
-  of_refusal : (f : Fault) → IsRefusalOf name board f text → IsCheckText name board text
+  of_refusal : (f : Fault) → Refuses board (number_of f) → IsRefusalOf name board f text → IsCheckText name board text

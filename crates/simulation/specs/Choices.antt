@@ -7,7 +7,7 @@
 use Rattle.std.specs.Prelude.{◌≡◌, ◌≢◌, ◌<◌, ◌⊎◌, Option, None, Some, string_bytes}
 use Rattle.std.specs.Io.KnownBytes.{Appends}
 use Rattle.model_registers.specs.DeclarationRules.{first_broken}
-use Rattle.model_board.specs.SetUpWrites.{set_up_rules}
+use Rattle.model_set_up.specs.SetUpWrites.{set_up_rules}
 use Rattle.model_guests.specs.Text.{Text}
 use Rattle.model_guests.specs.World.{World}
 use Rattle.streams.specs.Ends.{AppendsPart}
@@ -17,8 +17,9 @@ use Rattle.simulation.specs.Listing.{Declares, Refuses, IsListed, IsListedInPart
 use Rattle.simulation.specs.Fitting.{fit_text, misfit_text}
 use Rattle.simulation.specs.Checking.{IsRefusalTold, IsCheckText}
 use Rattle.simulation.specs.Running.{IsRun, IsRunCut, IsRunStopped}
+use Rattle.simulation.specs.Driving.{IsDriven, IsDrivenCut, IsDrivenStopped, IsOfDriving}
 use Rattle.simulation.specs.declared.choice.Choice.{Choice}
-use Rattle.simulation.specs.declared.choice.Choice.TheVariants.{Help, Demo, List, Check, Run}
+use Rattle.simulation.specs.declared.choice.Choice.TheVariants.{Help, Demo, List, Check, Run, Firmware}
 use Rattle.simulation.specs.declared.fault.Fault.{Fault}
 use Rattle.simulation.specs.declared.fault.Fault.TheVariants.{Write, BoardFile}
 
@@ -69,6 +70,7 @@ IsDone Demo script old new = IsRun demo_board script old new
 IsDone (List path) script old new = (board : Text) × IsReported board old new
 IsDone (Check path) script old new = (board : Text) × IsFit board old new
 IsDone (Run path) script old new = (board : Text) × IsRun board script old new
+IsDone (Firmware path) script old new = (board : Text) × IsDriven board script old new
 
 abbrev pub IsDoneInPart : Choice → Option Text → Option Text → Option Text → Option Text → Type 0
 IsDoneInPart (Help text) old_rest new_rest old new = AppendsPart old new (string_bytes text)
@@ -76,6 +78,8 @@ IsDoneInPart Demo old_rest new_rest old new = IsRunStopped demo_board old_rest n
 IsDoneInPart (List path) old_rest new_rest old new = (board : Text) × IsReportedInPart board old new
 IsDoneInPart (Check path) old_rest new_rest old new = (board : Text) × IsToldInPart path.now board old new
 IsDoneInPart (Run path) old_rest new_rest old new = (board : Text) × IsRunStopped board old_rest new_rest old new
+IsDoneInPart (Firmware path) old_rest new_rest old new =
+    (board : Text) × IsDrivenStopped board old_rest new_rest old new
 
 -- help, reports and checks read nothing
 abbrev pub IsDoneAsRead : Choice → Option Text → Option Text → Option Text → Option Text → Type 0
@@ -84,6 +88,7 @@ IsDoneAsRead Demo old_rest new_rest old new = IsRunCut demo_board old_rest new_r
 IsDoneAsRead (List path) old_rest new_rest old new = ⊥
 IsDoneAsRead (Check path) old_rest new_rest old new = ⊥
 IsDoneAsRead (Run path) old_rest new_rest old new = (board : Text) × IsRunCut board old_rest new_rest old new
+IsDoneAsRead (Firmware path) old_rest new_rest old new = (board : Text) × IsDrivenCut board old_rest new_rest old new
 
 abbrev pub IsOfChoice : Choice → Fault → Type 0
 IsOfChoice (Help text) f = f ≡ Write
@@ -91,3 +96,4 @@ IsOfChoice Demo f = IsOfRun f
 IsOfChoice (List path) f = IsOfList f ⊎ (f ≡ BoardFile)
 IsOfChoice (Check path) f = IsOfList f ⊎ (f ≡ BoardFile)
 IsOfChoice (Run path) f = IsOfRun f ⊎ (f ≡ BoardFile)
+IsOfChoice (Firmware path) f = IsOfDriving f ⊎ (f ≡ BoardFile)

@@ -12,8 +12,8 @@ use Rattle.board_file.specs.declared.fault.BoardFault.{BoardFault}
 use Rattle.board_check.specs.Rules.{fault_words}
 use Rattle.report.specs.declared.writing.ReportFault.TheVariants as report
 use Rattle.report.specs.declared.writing.ReportFault.{ReportFault}
-use Rattle.script.specs.declared.running.RunFault.TheVariants as run
-use Rattle.script.specs.declared.running.RunFault.{RunFault}
+use Rattle.line_runs.specs.declared.running.RunFault.TheVariants as run
+use Rattle.line_runs.specs.declared.running.RunFault.{RunFault}
 use Rattle.simulation.specs.declared.fault.Fault.{Fault}
 use Rattle.simulation.specs.declared.fault.Fault.TheVariants.{NotToml, Key, UnknownKey, Number, Place, Register, Size, TooMany, GuestName, Slot, Aperture, CellMasks, FileMemory, Buses, NoIoWindow, IoPool, MemoryPool, PrefetchablePool, SetUpMemory, Read, Write, Usage, BoardFile, WordMemory}
 

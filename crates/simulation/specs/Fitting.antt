@@ -2,11 +2,14 @@
 --     pool_text      how much of its aperture a pool takes
 --     fit_text      what is said of a board that can be set up
 --     misfit_text      what is said of one that can't
---     IsFitText      one of both
+--     IsFitText      the one of both that is true of the board
 use Rattle.std.specs.Prelude.{◌≡◌, ℕ, ◌++◌, codes, decimal, Option, Some, None, option_map}
 use Rattle.std.specs.Option.{option_map_or}
+use Rattle.model_registers.specs.DeclarationRules.{first_broken}
 use Rattle.model_board.specs.Board.{Board}
-use Rattle.model_board.specs.Pools.{Apertures, aperture_of}
+use Rattle.model_registers.specs.Apertures.{Apertures}
+use Rattle.model_set_up.specs.Pools.{aperture_of}
+use Rattle.model_set_up.specs.SetUpWrites.{set_up_rules}
 use Rattle.model_guests.specs.Text.{Text}
 use Rattle.model_guests.specs.Report.{hexadecimal}
 use Rattle.window_packing.specs.declared.pool.Pool.{Pool}
@@ -82,5 +85,6 @@ abbrev pub misfit_text : Text → Board → Apertures → Fault → Text
 misfit_text name b a f = refusal_line name (shortage_of b a f) f
 
 pub data IsFitText (name : Text) (b : Board) (a : Apertures) (text : Text) : Type 0 where
-  of_fit : text ≡ fit_text b a → IsFitText name b a text
-  of_misfit : (f : Fault) → text ≡ misfit_text name b a f → IsFitText name b a text
+  of_fit : first_broken (set_up_rules b a) ≡ None → text ≡ fit_text b a → IsFitText name b a text
+  of_misfit : (f : Fault) → first_broken (set_up_rules b a) ≡ Some (number_of f) → text ≡ misfit_text name b a f
+      → IsFitText name b a text

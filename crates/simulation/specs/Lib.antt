@@ -4,4 +4,5 @@ pub mod Listing
 pub mod Fitting
 pub mod Checking
 pub mod Running
+pub mod Driving
 pub mod Choices

@@ -8,14 +8,14 @@ use Rattle.std.specs.Prelude.{◌≡◌, Option, None, IsTrue}
 use Rattle.std.specs.Option.{ForSome}
 use Rattle.std.specs.Io.KnownBytes.{Appends}
 use Rattle.model_registers.specs.DeclarationRules.{first_broken}
-use Rattle.model_board.specs.SetUpWrites.{set_up_rules}
+use Rattle.model_set_up.specs.SetUpWrites.{set_up_rules}
 use Rattle.model_guests.specs.Text.{Text, lines}
 use Rattle.model_guests.specs.Grammar.{has_name}
 use Rattle.model_guests.specs.World.{World, names, IsLawfulWorld}
 use Rattle.model_guests.specs.WorldNow.{WorldNow, world_at_first, output}
 use Rattle.model_guests.specs.Isolation.{IsIsolated}
 use Rattle.model_guests.specs.Runs.{IsCut}
-use Rattle.script.specs.Pieces.{IsStoppedIn}
+use Rattle.script.specs.Stops.{IsStoppedIn}
 use Rattle.simulation.specs.Listing.{Declares}
 
 pub record IsSetUp (board : Text) (w : World) : Type 0 where

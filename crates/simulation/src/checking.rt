@@ -3,7 +3,7 @@ ghost use Rattle.std.specs.Prelude.{◌≡◌, ◌≢◌, ◌⊎◌, ◌++◌, �
 ghost use Rattle.std.specs.Io.KnownBytes.{Appends};
 ghost use Rattle.toml.specs.Parse.{parse_document};
 ghost use Rattle.model_registers.specs.DeclarationRules.{first_broken};
-ghost use Rattle.model_board.specs.SetUpWrites.{set_up_rules};
+ghost use Rattle.model_set_up.specs.SetUpWrites.{set_up_rules};
 ghost use Rattle.model_guests.specs.Text.{Text};
 ghost use Rattle.model_guests.specs.World.{World};
 ghost use Rattle.streams.specs.Ends.{AppendsPart};

@@ -7,6 +7,7 @@ ghost use Rattle.simulation.specs.Faults.{read_faults, write_faults};
 
 use crate::checking::check;
 use crate::demonstration::demo;
+use crate::driving::drive;
 use crate::fault::Fault;
 use crate::files::board_bytes;
 use crate::listing::list;
@@ -28,6 +29,8 @@ pub enum Choice<'a> {
     Check(&'a str),
     /// Run a script over the board of the board file at this path.
     Run(&'a str),
+    /// Run firmware's lines over the board of the board file at this path, at reset.
+    Firmware(&'a str),
 }
 
 /// Writes a text and flushes once.
@@ -56,11 +59,11 @@ pub fn perform<R: Reader, W: Writer>(
     requires reader_has_room { R.failures reader.old < 2 ^ 64 - 1 }
     requires writer_has_room { W.failures writer.old < 2 ^ 64 - 1 }
 
-    // The text, the report of some board file, that a board fits or the script's output was written and flushed.
+    // The text, the report of some board file, that a board fits or the output of all lines was written and flushed.
     ensures done { OnOk result (IsDone choice.now (R.rest reader.old) (W.written writer.old) (W.written writer.new)) }
     ensures flushed { OnOk result (W.flushed writer.new ≡ W.written writer.new) }
 
-    // Only a failed write, or a failed read of the demo or a run, comes after a part of it was written.
+    // Only a failed write, or a failed read of lines, comes after a part of it was written.
     ensures cut { IsErrOf result Fault.Read →
         IsDoneAsRead choice.now (R.rest reader.old) (R.rest reader.new) (W.written writer.old) (W.written writer.new) }
     ensures stopped { IsErrOf result Fault.Write →
@@ -94,6 +97,10 @@ pub fn perform<R: Reader, W: Writer>(
         Choice::Run(path) => {
             let board = board_bytes(rt, alloc, path)?;
             whole(alloc, &board, reader, writer)
+        }
+        Choice::Firmware(path) => {
+            let board = board_bytes(rt, alloc, path)?;
+            drive(alloc, &board, reader, writer)
         }
     }
 }

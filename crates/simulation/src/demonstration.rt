@@ -2,7 +2,7 @@
 ghost use Rattle.std.specs.Prelude.{◌≡◌, ◌≢◌, ℕ, ◌+◌, ◌-◌, ◌^◌, ◌<◌, None, Some, OnOk, IfErr, IsErrOf};
 ghost use Rattle.std.specs.Io.KnownBytes.{IsAtEnd};
 ghost use Rattle.model_registers.specs.DeclarationRules.{first_broken};
-ghost use Rattle.model_board.specs.SetUpWrites.{set_up_rules};
+ghost use Rattle.model_set_up.specs.SetUpWrites.{set_up_rules};
 ghost use Rattle.model_guests.specs.World.{World};
 ghost use Rattle.simulation.specs.Demo.{demo_board};
 ghost use Rattle.simulation.specs.Faults.{number_of, read_faults, write_faults, IsOfRun};

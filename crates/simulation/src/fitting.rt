@@ -1,13 +1,13 @@
 //! Whether a board fits its apertures, and what is said of it.
-ghost use Rattle.std.specs.Prelude.{◌≡◌, ◌++◌, ◌⊎◌, ◌+◌, ◌-◌, ◌^◌, ◌<◌, ◌≤◌, true, false, None, Some, IfOk, OnOk, IfErr, IsErrOf, string_bytes};
+ghost use Rattle.std.specs.Prelude.{◌≡◌, ◌≢◌, ◌++◌, ◌⊎◌, ◌+◌, ◌-◌, ◌^◌, ◌<◌, ◌≤◌, true, false, None, Some, IfOk, OnOk, IfErr, IsErrOf, string_bytes};
 ghost use Rattle.std.specs.Option.{option_map_or};
 ghost use Rattle.std.specs.Io.KnownBytes.{Appends};
 ghost use Rattle.model_registers.specs.DeclarationRules.{first_broken};
 ghost use Rattle.model_board.specs.Board.{Board};
 ghost use Rattle.model_board.specs.AtReset.{IsAtReset};
-ghost use Rattle.model_board.specs.FunctionTable.{board_in};
-ghost use Rattle.model_board.specs.Pools.{aperture_of};
-ghost use Rattle.model_board.specs.SetUpWrites.{set_up_rules};
+ghost use Rattle.model_set_up.specs.FunctionTable.{board_in};
+ghost use Rattle.model_set_up.specs.Pools.{aperture_of};
+ghost use Rattle.model_set_up.specs.SetUpWrites.{set_up_rules};
 ghost use Rattle.model_guests.specs.Text.{Text};
 ghost use Rattle.streams.specs.Ends.{AppendsPart};
 ghost use Rattle.bus_scan.specs.Faults as set_up;
@@ -133,6 +133,7 @@ fn decline<W: Writer>(
         → Appends (W.written writer.old) (W.written writer.new) (refusal_line name.now shortage f)) }
     ensures flushed { IfErr result (λ f. number_of f < 299 → W.flushed writer.new ≡ W.written writer.new) }
     ensures memory { IfErr result (λ f. number_of f ≡ 299 → writer.new ≡ writer.old) }
+    ensures known { IsErrOf result Fault.Write → fault ≢ Memory }
     ensures stopped { IsErrOf result Fault.Write
         → AppendsPart (W.written writer.old) (W.written writer.new) (refusal_line name.now shortage (of_set_up fault)) }
     ensures failures { W.failures writer.new ≡ W.failures writer.old + write_faults result }
@@ -165,6 +166,7 @@ fn reject<W: Writer>(
         Appends (W.written writer.old) (W.written writer.new) (misfit_text name.now b apertures.now f)) }
     ensures flushed { IfErr result (λ f. number_of f < 299 → W.flushed writer.new ≡ W.written writer.new) }
     ensures memory { IfErr result (λ f. number_of f ≡ 299 → writer.new ≡ writer.old) }
+    ensures known { IsErrOf result Fault.Write → fault ≢ Memory }
     ensures stopped { IsErrOf result Fault.Write → (b : Board) → IsTableOf b table.now →
         AppendsPart (W.written writer.old) (W.written writer.new) (misfit_text name.now b apertures.now (of_set_up fault)) }
     ensures failures { W.failures writer.new ≡ W.failures writer.old + write_faults result }

@@ -1,11 +1,12 @@
 //! What the program does, over bytes, a reader and a writer: the report of a board file, what is
-//! wrong with one, a script over its board, and a script over the demo board; and the law of two
-//! worlds, over the definitions alone.
+//! wrong with one, a script over its board, firmware's lines over it, and a script over the demo
+//! board; and the law of two worlds, over the definitions alone.
 #![tactic(auto)]
 
 mod checking;
 mod choice;
 mod demonstration;
+mod driving;
 mod fault;
 mod fault_lines;
 mod files;
@@ -19,6 +20,7 @@ mod standard_streams;
 pub use checking::check;
 pub use choice::{Choice, perform};
 pub use demonstration::demo;
+pub use driving::drive;
 pub use fault::Fault;
 pub use fault_lines::fault_line;
 pub use files::board_bytes;

@@ -1,7 +1,7 @@
 //! The report of a board file.
 ghost use Rattle.std.specs.Prelude.{◌≡◌, ◌≢◌, ◌+◌, ◌-◌, ◌^◌, ◌<◌, Some, None, OnOk, IfErr, IsErrOf};
 ghost use Rattle.model_registers.specs.DeclarationRules.{first_broken};
-ghost use Rattle.model_board.specs.SetUpWrites.{set_up_rules};
+ghost use Rattle.model_set_up.specs.SetUpWrites.{set_up_rules};
 ghost use Rattle.model_guests.specs.World.{World};
 ghost use Rattle.simulation.specs.Faults.{number_of, write_faults, IsOfList};
 ghost use Rattle.simulation.specs.Listing.{Declares, Refuses, IsListed, IsListedInPart};

@@ -1,7 +1,7 @@
 //! What is said of a board that can't be set up.
 ghost use Rattle.std.specs.Prelude.{◌≡◌, ◌++◌, None, IfOk, OnOk, string_bytes};
 ghost use Rattle.model_board.specs.Board.{Board};
-ghost use Rattle.model_board.specs.FunctionTable.{board_in};
+ghost use Rattle.model_set_up.specs.FunctionTable.{board_in};
 ghost use Rattle.bus_scan.specs.SizedTables.{IsTableOf};
 ghost use Rattle.simulation.specs.Fitting.{number_text, pool_words, pool_of, known_need_text, need_text, shortage_of, reason_text, fault_text, refusal_line};
 

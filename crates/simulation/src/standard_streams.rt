@@ -1,10 +1,11 @@
 //! Standard input and output, with a count of their failures.
-ghost use Rattle.std.specs.Prelude.{◌≡◌, ◌↔◌, ◌-◌, ◌^◌, ◌<◌, IsOk, IfOk, IfErr};
+ghost use Rattle.std.specs.Prelude.{◌≡◌, ◌↔◌, ◌-◌, ◌^◌, ◌<◌, false, IsOk, IfOk, IfErr};
+ghost use Rattle.streams.specs.Kept.{is_stopped};
 
 use crate::fault::Fault;
 use std::alloc::Global;
-use std::io::{BufWriter, Read, Write};
-use streams::{Failed, Reader, Writer};
+use std::io::{Read, Write};
+use streams::{BufferedWriter, Failed, Reader, Writer};
 
 /// A reader that counts its failures. It gives up after 2^64 - 1 reads, and counts that too: so a
 /// script that never ends is a failure of its reader.
@@ -68,37 +69,36 @@ impl<R: Read> Reader for InputStream<R> {
 /// the system costs as much as some tens of lines.
 const CAPACITY: usize = 65536;
 
-/// A writer that counts its failures. It keeps a buffer, so that a line of output costs no call of
-/// the system.
+/// A writer that counts its failures. Each write and flush is one call of `inner`.
 #[derive(Drop)]
-pub struct OutputStream<W: Write + Drop> {
-    inner: BufWriter<W, Global>,
+pub struct OutputStream<W> {
+    inner: W,
     failures: u64,
 }
 
 impl<W: Write + Drop> OutputStream<W> {
-    /// A writer after what `inner` holds, with no failure yet. It fails where memory is out, and nowhere
-    /// else.
-    pub fn new(alloc: Global, inner: W) -> Result<Self, Fault>
-        ensures written { IfOk result (λ s. ⟦<OutputStream<W> as Writer>⟧.written s ≡ W.contents inner) }
-        ensures flushed { IfOk result (λ s. ⟦<OutputStream<W> as Writer>⟧.flushed s ≡ W.contents inner) }
-        ensures failures { IfOk result (λ s. ⟦<OutputStream<W> as Writer>⟧.failures s ≡ 0) }
+    /// A writer after what `inner` holds, with no failure yet, behind a buffer. It fails where memory is
+    /// out, and nowhere else.
+    pub fn buffered(alloc: Global, inner: W) -> Result<BufferedWriter<Self>, Fault>
+        ensures written { IfOk result (λ s. ⟦<BufferedWriter<Self> as Writer>⟧.written s ≡ W.contents inner) }
+        ensures flushed { IfOk result (λ s. ⟦<BufferedWriter<Self> as Writer>⟧.flushed s ≡ W.contents inner) }
+        ensures failures { IfOk result (λ s. ⟦<BufferedWriter<Self> as Writer>⟧.failures s ≡ 0) }
+        ensures goes_on { IfOk result (λ s. is_stopped s ≡ false) }
         ensures memory { IfErr result (λ f. f ≡ Fault.SetUpMemory) }
     {
-        match BufWriter::with_capacity(alloc, CAPACITY, inner) {
-            Ok(inner) => Ok(OutputStream { inner, failures: 0 }),
+        let stream = OutputStream { inner, failures: 0 };
+        match BufferedWriter::with_capacity(alloc, CAPACITY, stream) {
+            Ok(buffered) => Ok(buffered),
             Err(_) => Err(Fault::SetUpMemory),
         }
     }
 }
 
-impl<W: Write + Drop> Writer for OutputStream<W> {
-    ghost use Rattle.std.specs.Io.Buffered.{writer_contents, writer_inner};
+impl<W: Write> Writer for OutputStream<W> {
+    ghost written = { λ s. W.contents s.inner };
 
-    ghost written = { λ s. writer_contents W.contents s.inner };
-
-    // What the buffer keeps back was not flushed.
-    ghost flushed = { λ s. W.contents (writer_inner s.inner) };
+    // Nothing is kept back here.
+    ghost flushed = { λ s. W.contents s.inner };
 
     ghost failures = { λ s. s.failures };
 

@@ -1,19 +1,17 @@
 -- What stands above all functions of a board, one row after the other.
-use Rattle.std.proofs.Common.{◌≡◌, ℕ, zero, suc, ◌+◌, ◌-◌, ◌≤◌, ◌<◌, ◌⊎◌, inl, inr, Bool, true, false, ◌&&◌, List, [], ◌∷◌, ◌++◌, map, length, Some, refl, sym, ap, ap₂, ◌∙◌, subst, arith, get_or, ◌≢◌, length-append, replicate, get_or-set_other, get_or-set_same}
+use Rattle.std.proofs.Common.{◌≡◌, ℕ, zero, suc, ◌+◌, ◌-◌, ◌≤◌, ◌<◌, ◌⊎◌, inl, inr, Bool, true, false, ◌&&◌, List, [], ◌∷◌, ◌++◌, map, length, Some, refl, sym, ap, ap₂, ◌∙◌, subst, arith, get_or, ◌≢◌, length-append, get_or-set_other, get_or-set_same}
 use Rattle.std.specs.Prelude.{IsTrue}
 use Rattle.std.specs.List.{list_all, slice_get, slice_set}
 use Rattle.std.proofs.lemmas.Option.{slice_get_within}
 use Rattle.std.proofs.lemmas.Bool.{and_parts, cases_lt}
 use Rattle.std.proofs.Math.ListN.{length-set}
-use Rattle.model_registers.specs.Lists.{Each}
 use Rattle.model_board.specs.Paths.{Path, path_eq, path_before, leads_to, parent, last_part, IsPath}
 use Rattle.model_board.specs.Board.{is_bridge, is_bridge_at, Row, Board, IsBoard}
-use Rattle.model_board.specs.Pools.{bridges_above, has_io, has_pref, has_pref64}
-use Rattle.model_board.specs.FunctionTable.{TableRow, board_in}
-use Rattle.model_board.proofs.PathOrder.{one, path_same, before_trans, behind_trans, leads_before}
-use Rattle.model_board.proofs.PathEnds.{snoc, length_snoc, leads_self, not_before_itself}
-use Rattle.model_board.proofs.Partings.{leads_longer}
-use Rattle.bridge_forward.proofs.Indices.{same_at, at_below, each_at, pair_at, any_at, map_at, at_map}
+use Rattle.model_set_up.specs.Pools.{bridges_above, has_io, has_pref, has_pref64}
+use Rattle.model_set_up.specs.FunctionTable.{TableRow, board_in}
+use Rattle.model_board.proofs.PathOrder.{one, path_same, behind_trans, leads_before}
+use Rattle.model_board.proofs.PathEnds.{snoc, length_snoc, leads_self, not_before_itself, no_turn, leads_longer}
+use Rattle.lists.proofs.Indices.{same_at, at_below, each_at, pair_at, any_at, map_at, at_map, each_by_index}
 use Rattle.window_packing.specs.declared.above.Above.{Above}
 use Rattle.window_packing.specs.Buses.{bus_path, nothing_above, behind, AreAbove}
 use Rattle.window_packing.proofs.BridgesAbove.{Tells, tells_root, tells_behind}
@@ -23,10 +21,6 @@ maps_same f g [] [] n h = refl
 maps_same f g [] (y ∷ ys) n h = absurd (omega arith)
 maps_same f g (x ∷ xs) [] n h = absurd (omega arith)
 maps_same f g (x ∷ xs) (y ∷ ys) n h = ap₂ (λ z zs. z ∷ zs) (h 0 x y refl refl) (maps_same f g xs ys (omega arith) (λ k u v e l. h (suc k) u v e l))
-
-pub each_by_index : {A : Type 0} (P : A → Type 0) (xs : List A) → ((k : ℕ) (x : A) → slice_get xs k ≡ Some x → P x) → Each P xs
-each_by_index P [] h = tt
-each_by_index P (x ∷ xs) h = (h 0 x refl, each_by_index P xs (λ k y e. h (suc k) y e))
 
 -- what the loop keeps: the rows so far are told, and at each length of a path stands the last row that no row after it is up to
 pub record Followed (b : Board) (i : ℕ) (xs : List Above) (buses : List ℕ) : Type 0 where
@@ -50,38 +44,11 @@ all_told b xs buses f = record {
   pref64 = maps_same (λ (x : Above). x.pref64) (λ (r : Row). list_all (λ d. has_pref64 d.pref) (bridges_above b r.path)) xs b f.count (λ k x r e g. (f.tells k r x g e).pref64);
 }
 
-pub none_told : (b : Board) (buses : List ℕ) → buses ≡ replicate 17 0 → Followed b 0 [] buses
-none_told b buses e = record {
-  count = refl;
-  within = omega arith;
-  tells = λ k r x e f. absurd (cc);
-  depths = ap length e;
-  root = ap (λ (xs : List ℕ). get_or xs 0 0) e;
-  small = λ d. subst (λ (xs : List ℕ). get_or xs d 0 ≤ 0) (sym e) (zeros 17 d);
-  last = λ k r l e h. absurd (omega arith);
-}
-  where
-    zeros : (n d : ℕ) → get_or (replicate n 0) d 0 ≤ 0
-    zeros zero d = omega arith
-    zeros (suc n) zero = omega arith
-    zeros (suc n) (suc d) = zeros n d
-
 -- ---- the bus of the next row
 
 -- bus 0, or the bus behind an earlier row
 abbrev pub StandsOn : Board → Row → ℕ → ℕ → Type 0
 StandsOn b r i bus = ((bus ≡ 0) × (parent r.path ≡ [])) ⊎ ((k : ℕ) × (q : Row) × (bus ≡ suc k) × (k < i) × (slice_get b k ≡ Some q) × (parent r.path ≡ q.path))
-
-no_turn : (p q : Path) → path_before p q ≡ true → path_before q p ≡ true → ⊥
-no_turn p q h k = by_own (path_before q q) refl (before_trans q p q h)
-  where
-    too_many : (t : Bool) → 1 + one t ≤ 0 → ⊥
-    too_many true h = omega (arith, h)
-    too_many false h = omega (arith, h)
-
-    by_own : (t : Bool) → path_before q q ≡ t → one (path_before q p) + one (path_eq q p) ≤ one (path_before q q) → ⊥
-    by_own true e le = not_before_itself q e
-    by_own false e le = let w = rw (k, e) at le in too_many (path_eq q p) w
 
 -- what stands between a bridge and a function behind it stands behind it
 between : (p q r : Path) → path_before p q ≡ true → path_before q r ≡ true → leads_to p r ≡ true → leads_to p q ≡ true

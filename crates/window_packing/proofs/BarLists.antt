@@ -4,8 +4,8 @@ use Rattle.std.specs.List.{list_any, slice_get, slice_set}
 use Rattle.std.proofs.lemmas.List.{take_more_set, map-append}
 use Rattle.model_registers.specs.Declarations.{Bar, Region}
 use Rattle.model_registers.specs.Decoding.{Space, same_space, space_of}
-use Rattle.model_board.specs.Members.{IsIn}
-use Rattle.model_board.specs.Pools.{is_io}
+use Rattle.lists.specs.Elements.{IsIn}
+use Rattle.model_set_up.specs.Pools.{is_io}
 use Rattle.model_registers.specs.EndpointTable.{BaseAddress}
 use Rattle.std.proofs.lemmas.Option.{slice_get_within}
 use Rattle.bars.specs.declared.region.Region.{Region as Placed}

@@ -3,16 +3,18 @@ use Rattle.std.proofs.Common.{◌≡◌, Bool, true, false, cond, List, [], ◌�
 use Rattle.std.specs.Prelude.{map, IsTrue}
 use Rattle.std.specs.Option.{option_map_or}
 use Rattle.std.proofs.lemmas.List.{map-append}
-use Rattle.model_registers.specs.Lists.{Each}
+use Rattle.lists.specs.Elements.{Each}
+use Rattle.lists.proofs.EachLemmas.{each_append}
+use Rattle.host_bridge.proofs.Lent.{with_file-none}
 use Rattle.model_registers.specs.Registers.{File}
 use Rattle.model_board.specs.Paths.{Path, path_eq}
 use Rattle.model_board.specs.Board.{Board, Decl, is_bridge, stands_at, IsBoard}
 use Rattle.model_board.specs.BusNumbers.{secondary, subordinate}
-use Rattle.model_board.specs.State.{BoardFunction, with_file}
+use Rattle.model_board.specs.State.{BoardFunction, with_file, row_at}
 use Rattle.model_board.specs.Cycles.{secondary_register, subordinate_register}
-use Rattle.model_board.specs.Reach.{row_at, HasNumbers, address_of}
+use Rattle.model_set_up.specs.Reach.{HasNumbers, address_of}
 use Rattle.model_board.proofs.PathEnds.{path_self}
-use Rattle.model_board.proofs.Routes.{reached_by_numbers}
+use Rattle.model_set_up.proofs.Routes.{reached_by_numbers}
 use Rattle.window_packing.specs.WordWrites.{WordWrite, after_word, after_words}
 use Rattle.window_packing.proofs.FileWrites.{written_file, file_after}
 
@@ -28,14 +30,6 @@ word_at b board fs has p there w =
 -- no function stands at the path
 abbrev pub NoneAt : Path → List BoardFunction → Type 0
 NoneAt p fs = Each (λ g. path_eq g.path p ≡ false) fs
-
-with_file-none : (g : File → File) (p : Path) (fs : List BoardFunction) → NoneAt p fs → with_file g p fs ≡ fs
-with_file-none g p [] h = refl
-with_file-none g p (f ∷ fs) h = ap₂ (λ (b : Bool) gs. cond b (record f { file = g f.file }) f ∷ gs) h.0 (with_file-none g p fs h.1)
-
-each_append : {A : Type 0} (P : A → Type 0) (xs ys : List A) → Each P xs → Each P ys → Each P (xs ++ ys)
-each_append P [] ys h k = k
-each_append P (x ∷ xs) ys h k = (h.0, each_append P xs ys h.1 k)
 
 -- a bridge's registers hold its bus numbers
 abbrev pub HoldsNumbers : Board → BoardFunction → Type 0

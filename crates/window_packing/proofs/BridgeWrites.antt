@@ -8,8 +8,8 @@ use Rattle.model_registers.specs.Cell.{Cell, written}
 use Rattle.model_registers.specs.Registers.{config, Entry, File}
 use Rattle.model_registers.specs.Declarations.{IoDecode, no_io, io16, io32, PrefDecode, no_pref, pref32, pref64, Bridge}
 use Rattle.model_registers.specs.BridgeTable.{no_window, BridgeValues, address_bits, io_cells, mem_cells, pref_cells, bridge_header, bridge_file}
-use Rattle.model_board.specs.Scanning.{BusNumbers, with_numbers}
-use Rattle.model_board.specs.SetUpWrites.{Windows}
+use Rattle.model_set_up.specs.Scanning.{BusNumbers, with_numbers}
+use Rattle.model_set_up.specs.SetUpWrites.{Windows}
 use Rattle.window_packing.specs.WordWrites.{bridge_words, window_word, io_word, io_upper_word}
 use Rattle.window_packing.proofs.FileWrites.{file_after, joined_after}
 

@@ -1,17 +1,19 @@
 -- What stands above each function of a board, row by row.
-use Rattle.std.proofs.Common.{◌≡◌, ℕ, zero, suc, ◌≤◌, ◌<◌, ◌⊎◌, inl, inr, Bool, true, false, ◌&&◌, List, [], ◌∷◌, ◌++◌, length, Some, refl, sym, ap, ◌∙◌, subst, arith}
+use Rattle.std.proofs.Common.{◌≡◌, ℕ, suc, ◌≤◌, ◌<◌, ◌⊎◌, inl, inr, Bool, true, false, ◌&&◌, [], ◌∷◌, ◌++◌, length, Some, refl, sym, ap, ◌∙◌, subst, arith}
 use Rattle.std.specs.Prelude.{filter, IsTrue}
 use Rattle.std.specs.List.{list_all, slice_get}
 use Rattle.std.proofs.lemmas.Option.{slice_get_within}
 use Rattle.std.proofs.lemmas.Bool.{and_parts}
 use Rattle.model_registers.specs.Declarations.{Bridge}
-use Rattle.model_board.specs.Members.{IsIn}
+use Rattle.lists.specs.Elements.{IsIn}
 use Rattle.model_board.specs.Paths.{Path, path_before, leads_to, parent, last_part, IsPath}
 use Rattle.model_board.specs.Board.{Decl, endpoint, bridge, Row, Board, IsBoard}
-use Rattle.model_board.specs.Pools.{bridge_of, bridges_above, has_io, has_pref, has_pref64}
+use Rattle.model_set_up.specs.Pools.{bridge_of, bridges_above, has_io, has_pref, has_pref64}
 use Rattle.model_board.proofs.PathEnds.{snoc, leads_up, leads_self, leads_trans, not_before_itself}
-use Rattle.model_board.proofs.Members.{each_in, from_flat_map, in_flat_map, from_filter, in_filter}
-use Rattle.model_board.proofs.Partings.{pair_in}
+use Rattle.lists.proofs.Members.{each_in, from_flat_map, in_flat_map, from_filter, in_filter, all_in, all_from}
+use Rattle.lists.proofs.Tests.{same_test}
+use Rattle.lists.proofs.Indices.{index_in}
+use Rattle.model_set_up.proofs.Partings.{pair_in}
 use Rattle.window_packing.specs.declared.above.Above.{Above}
 use Rattle.window_packing.specs.Buses.{bus_path, nothing_above, behind}
 
@@ -26,30 +28,6 @@ pub record Tells (b : Board) (p : Path) (x : Above) : Type 0 where
   pub pref64 : x.pref64 ≡ list_all (λ d. has_pref64 d.pref) (bridges_above b p)
 
 -- ---- what all bridges above a path have
-
-both_ways : (u v : Bool) → (u ≡ true → v ≡ true) → (v ≡ true → u ≡ true) → u ≡ v
-both_ways true v h k = sym (h refl)
-both_ways false true h k = k refl
-both_ways false false h k = refl
-
-pub all_in : {A : Type 0} (p : A → Bool) (x : A) (xs : List A) → list_all p xs ≡ true → IsIn x xs → p x ≡ true
-all_in p x [] h m = absurd m
-all_in p x (y ∷ xs) h (inl e) = ap p e ∙ (and_parts (p y) (list_all p xs) h).0
-all_in p x (y ∷ xs) h (inr m) = all_in p x xs (and_parts (p y) (list_all p xs) h).1 m
-
-pub all_from : {A : Type 0} (p : A → Bool) (xs : List A) → ((x : A) → IsIn x xs → p x ≡ true) → list_all p xs ≡ true
-all_from p [] h = refl
-all_from p (x ∷ xs) h = rw (h x (inl refl)) (all_from p xs (λ y m. h y (inr m)))
-
-pub index_in : {A : Type 0} (xs : List A) (i : ℕ) (x : A) → slice_get xs i ≡ Some x → IsIn x xs
-index_in [] i x e = absurd (cc)
-index_in (y ∷ ys) zero x e = let same : x ≡ y = cc in inl same
-index_in (y ∷ ys) (suc i) x e = inr (index_in ys i x e)
-
-pub in_index : {A : Type 0} (xs : List A) (x : A) → IsIn x xs → (i : ℕ) × (slice_get xs i ≡ Some x)
-in_index [] x m = absurd m
-in_index (y ∷ ys) x (inl e) = (0, ap (λ z. Some z) (sym e))
-in_index (y ∷ ys) x (inr m) = let k = in_index ys x m in (suc k.0, k.1)
 
 -- a bridge above a path is that of a row
 record IsOver (b : Board) (p : Path) (d : Bridge) : Type 0 where
@@ -95,7 +73,7 @@ module _ (b : Board) (board : IsBoard b) (t : Bridge → Bool) where
       none d o = no_root o.row.path (some_path o.row o.there) (leads_up o.row.path [] (last_part p) (subst (λ (x : Path). leads_to o.row.path x ≡ true) split o.leads))
 
   all_behind : (r : Row) → IsIn r b → (p : Path) → 0 < length p → parent p ≡ r.path → list_all t (bridges_above b p) ≡ (list_all t (bridges_above b r.path) && list_all t (bridge_of r))
-  all_behind r there p some up = both_ways (list_all t (bridges_above b p)) (list_all t (bridges_above b r.path) && list_all t (bridge_of r)) down back
+  all_behind r there p some up = same_test (list_all t (bridges_above b p)) (list_all t (bridges_above b r.path) && list_all t (bridge_of r)) down back
     where
       split : p ≡ r.path ++ last_part p ∷ []
       split = snoc p some ∙ ap (λ (x : Path). x ++ last_part p ∷ []) up

@@ -3,7 +3,7 @@ use Rattle.std.proofs.Common.{◌≡◌, ℕ, zero, suc, ◌≤◌, ◌<◌, [],
 use Rattle.std.specs.List.{slice_get}
 use Rattle.model_board.specs.Paths.{Path}
 use Rattle.model_board.specs.Board.{Row, Board}
-use Rattle.model_board.specs.FunctionTable.{TableRow}
+use Rattle.model_set_up.specs.FunctionTable.{TableRow}
 use Rattle.window_packing.specs.Buses.{bus_path}
 use Rattle.window_packing.specs.Placed.{bus_paths}
 

@@ -2,11 +2,12 @@
 use Rattle.std.proofs.Common.{◌≡◌, ℕ, zero, suc, ◌+◌, ◌<◌, ◌≤◌, ◌⊎◌, inl, inr, Bool, true, false, Some, List, [], ◌∷◌, length, drop, refl, sym, ap, ◌∙◌, subst, arith}
 use Rattle.std.specs.Prelude.{filter, slice_get, IsTrue}
 use Rattle.std.proofs.lemmas.Bool.{cases_lt}
-use Rattle.model_board.specs.Paths.{Path, path_eq, path_before, leads_to, parent, last_part, IsPath}
+use Rattle.model_board.specs.Paths.{Path, path_eq, path_before, leads_to, parent, IsPath}
 use Rattle.model_board.specs.Board.{Row, Board, rows_on, IsBoard}
 use Rattle.model_board.proofs.PathOrder.{leads_before, path_same}
-use Rattle.model_board.proofs.PathEnds.{snoc, leads_self, not_before_itself}
-use Rattle.bridge_forward.proofs.Indices.{at_below, each_at, pair_at, same_at}
+use Rattle.model_board.proofs.PathEnds.{not_before_itself}
+use Rattle.lists.proofs.Indices.{at_below, each_at, pair_at, same_at}
+use Rattle.bridge_forward.proofs.Nodes.{parent_leads}
 use Rattle.bridge_forward.proofs.BoardOrder.{weak_order}
 use Rattle.window_packing.specs.Buses.{bus_path}
 
@@ -16,9 +17,6 @@ filter-drop t (suc n) [] h = refl
 filter-drop t (suc n) (x ∷ xs) h =
     let no : t x ≡ false = h 0 x (omega arith) refl in
     rw no (filter-drop t n xs (λ j y l e. h (suc j) y (omega arith) e))
-
-parent_leads : (p : Path) → 0 < length p → leads_to (parent p) p ≡ true
-parent_leads p some = subst (λ (q : Path). leads_to (parent p) q ≡ true) (sym (snoc p some)) (leads_self (parent p) (last_part p))
 
 module _ (b : Board) (board : IsBoard b) where
   some_path : (i : ℕ) (r : Row) → slice_get b i ≡ Some r → 0 < length r.path

@@ -2,23 +2,22 @@
 use Rattle.std.proofs.Common.{◌≡◌, ℕ, zero, suc, ◌<◌, ◌≤◌, ◌^◌, Bool, true, false, cond, List, [], ◌∷◌, refl, sym, ap, ◌∙◌, arith}
 use Rattle.std.specs.List.Sorted.{IsPermutation}
 use Rattle.std.proofs.lemmas.List.Sorted.{IsPermutation-trans}
-use Rattle.model_registers.specs.Lists.{Each}
+use Rattle.lists.specs.Elements.{Each, IsIn}
 use Rattle.model_registers.specs.Declarations.{Kind, io_kind, mem32, mem64, greatest_size, IsLawfulRegion}
-use Rattle.model_registers.proofs.EachLemmas.{each_permutation}
-use Rattle.model_board.specs.Members.{IsIn}
+use Rattle.lists.proofs.EachLemmas.{each_permutation}
 use Rattle.model_board.specs.Paths.{Part, Path, path_eq, parent, last_part}
 use Rattle.model_board.specs.Board.{Row, Decl, endpoint, bridge, Board, rows_on, IsBoard}
-use Rattle.model_board.specs.Pools.{Pool, io_pool, mem_pool, pref_pool, unit_of, Apertures, bridges_above}
-use Rattle.model_board.specs.Placement.{Item, stands_before, inserted, in_order, end_from, spots, spots_from, alignment, region_items, window_items, items_of, items_within, items_on}
+use Rattle.model_set_up.specs.Pools.{Pool, io_pool, mem_pool, pref_pool, unit_of, bridges_above}
+use Rattle.model_registers.specs.Apertures.{Apertures}
+use Rattle.model_set_up.specs.Placement.{Item, stands_before, inserted, in_order, end_from, spots, spots_from, alignment, region_items, window_items, items_of, items_within, items_on}
 use Rattle.model_board.specs.Lawful.{IsLawfulDecl, HasLawfulDecls}
-use Rattle.model_board.specs.OrderLaws.{IsOrderOf}
-use Rattle.model_board.proofs.Members.{each_in, each_from, from_flat_map, from_filter}
-use Rattle.model_board.proofs.Packing.{power_positive}
-use Rattle.model_board.proofs.Items.{region_of_item}
-use Rattle.model_board.proofs.ItemOrder.{order_is_sorted, one_order}
+use Rattle.model_set_up.specs.OrderLaws.{IsOrderOf}
+use Rattle.lists.proofs.Members.{each_in, each_from, from_flat_map, from_filter}
+use Rattle.model_set_up.proofs.Packing.{power_positive}
+use Rattle.model_set_up.proofs.Items.{region_of_item, unit_below}
+use Rattle.model_set_up.proofs.ItemOrder.{order_is_sorted, one_order}
 use Rattle.window_packing.specs.Packs.{BusPack, pack_items, pack_of, HasLawfulAlign, IsPackable, window_of, own_items}
 use Rattle.window_packing.proofs.ItemRanks.{alignment-in_order}
-use Rattle.window_packing.proofs.SpotEnds.{unit-le}
 
 -- ---- alignments
 
@@ -37,7 +36,7 @@ alignment_high unit [] u h = u
 alignment_high unit (i ∷ is) u h = let high : i.align ≤ 2 ^ 40 = h.0.1 in omega (arith, high, alignment_high unit is u h.1)
 
 pub alignment_bounds : (pool : Pool) (is : List Item) → Each HasLawfulAlign is → (0 < alignment (unit_of pool) is) × (alignment (unit_of pool) is ≤ 2 ^ 40)
-alignment_bounds pool is h = (omega (arith, unit-le (unit_of pool) is, (unit_bounds pool).0), alignment_high (unit_of pool) is (unit_bounds pool).1 h)
+alignment_bounds pool is h = (omega (arith, unit_below (unit_of pool) is, (unit_bounds pool).0), alignment_high (unit_of pool) is (unit_bounds pool).1 h)
 
 window_aligns : (pool : Pool) (p : Part) (is : List Item) → Each HasLawfulAlign is → Each HasLawfulAlign (window_items (unit_of pool) p is)
 window_aligns pool p [] h = tt

@@ -1,21 +1,21 @@
 -- The words of an endpoint, written over its cells at reset, leave its bases and its Command.
 use Rattle.std.proofs.Common.{◌≡◌, ℕ, zero, suc, ◌+◌, ◌-◌, ◌*◌, ◌/◌, ◌%◌, ◌^◌, ◌<◌, ◌≤◌, ◌⊎◌, inl, inr, Bool, true, false, ◌||◌, cond, List, [], ◌∷◌, ◌++◌, length, refl, sym, ap, ap₂, ◌∙◌, subst, arith, eqb}
 use Rattle.std.specs.Prelude.{map, flat_map, bit_and}
-use Rattle.std.proofs.lemmas.Nat.{and_mask, pow_pos, pow_below, shr_split, shr_below}
+use Rattle.std.proofs.lemmas.Nat.{and_mask, pow_pos, shr_split, shr_below}
 use Rattle.std.proofs.lemmas.Nat.Bits.{and_high}
-use Rattle.std.proofs.lemmas.Bool.{cases_lt, ne_eqb, or_parts}
+use Rattle.std.proofs.lemmas.Bool.{ne_eqb, or_parts}
 use Rattle.std.proofs.Math.Nat.{mod-eq_of_lt}
-use Rattle.model_registers.specs.Lists.{Each, EachPair}
+use Rattle.lists.specs.Elements.{Each, EachPair}
 use Rattle.model_registers.specs.Cell.{Cell, written}
 use Rattle.model_registers.specs.Registers.{config, block, place_eq, File, changed, write, cells_from}
 use Rattle.model_registers.specs.FileLaws.{has_place, HasNone}
 use Rattle.model_registers.specs.Declarations.{Kind, io_kind, mem32, mem64, Region, registers_of, IsLawfulRegion, HasLawfulRegions, ConfigBlock, Endpoint}
 use Rattle.model_registers.specs.Decoding.{io, memory}
-use Rattle.model_board.specs.SetUp.{opens, command_of}
-use Rattle.model_registers.proofs.EachLemmas.{each_map}
+use Rattle.model_set_up.specs.SetUp.{opens, command_of}
+use Rattle.lists.proofs.EachLemmas.{each_map}
 use Rattle.model_registers.specs.EndpointTable.{base_register, type_bits, base_width, base_cells, BaseAddress, register_cells, IsLawfulBase, region_cells, block_cells, header_cells, config_cells, endpoint_file, endpoint_reset}
 use Rattle.model_registers.specs.BaseLaws.{rebased}
-use Rattle.model_registers.proofs.Bases.{size_limits, four, write_whole}
+use Rattle.model_registers.proofs.Bases.{size_limits, four, write_whole, exponent_below}
 use Rattle.model_registers.proofs.Files.{write_none, joined_write}
 use Rattle.model_registers.proofs.Parts.{IsApart, write_apart}
 use Rattle.window_packing.specs.WordWrites.{word, base_words, endpoint_words}
@@ -37,9 +37,6 @@ bits_kept : (j k base : ℕ) → base % 2 ^ k ≡ 0 → base < 2 ^ (j + k) → b
 bits_kept j k base aligned fits =
     ap (bit_and base) (and_mask (2 ^ (j + k) - 2 ^ k) (j + k) ∙ mod-eq_of_lt (omega (arith, pow_pos k, pow_pos (j + k)))) ∙ and_high base j k
     ∙ ap (λ n. n * 2 ^ k) (mod-eq_of_lt (shr_below base j k fits)) ∙ omega (arith, shr_split base k)
-
-exponent_below : (k w : ℕ) → 2 ^ k < 2 ^ w → k ≤ w
-exponent_below k w h = elim (cases_lt w k) [ inl above ↦ absurd (omega (arith, pow_below w k above)) | inr within ↦ within ]
 
 rebased_whole : (b : BaseAddress) → IsLawfulBase b → rebased (at_zero b) b.base (2 ^ base_width b.kind - 1) ≡ b.base
 rebased_whole b h =

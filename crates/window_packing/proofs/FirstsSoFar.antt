@@ -5,20 +5,18 @@ use Rattle.std.specs.List.{slice_get}
 use Rattle.std.proofs.lemmas.Bool.{cases_lt}
 use Rattle.std.proofs.lemmas.Option.{slice_get_within}
 use Rattle.model_registers.specs.Apertures.{Apertures, IsLawfulApertures}
-use Rattle.model_registers.specs.Lists.{Each}
-use Rattle.model_board.specs.Members.{IsIn}
+use Rattle.lists.specs.Elements.{Each, IsIn}
 use Rattle.model_board.specs.Paths.{Part, parent, last_part}
 use Rattle.model_board.specs.Board.{Row, Board, IsBoard}
 use Rattle.model_board.specs.Lawful.{HasLawfulDecls}
-use Rattle.model_board.specs.Pools.{Pool}
-use Rattle.model_board.specs.Placement.{a_window, is_item, spots, offset_in, items_on, fits, offset_on, bus_first}
-use Rattle.bridge_forward.proofs.Indices.{same_at}
+use Rattle.model_set_up.specs.Pools.{Pool}
+use Rattle.model_set_up.specs.Placement.{a_window, is_item, spots, offset_in, items_on, fits, offset_on, bus_first}
+use Rattle.lists.proofs.Indices.{same_at, index_in}
 use Rattle.window_packing.specs.declared.above.Above.{Above}
 use Rattle.window_packing.specs.Buses.{bus_path, AreAbove}
 use Rattle.window_packing.specs.Packs.{BusPack, pack_of, packs_of}
 use Rattle.window_packing.specs.Placed.{bus_paths}
 use Rattle.window_packing.proofs.SpotSearch.{AreStrict}
-use Rattle.window_packing.proofs.BridgesAbove.{index_in}
 use Rattle.window_packing.proofs.BusIndex.{by_bus, count_buses, bus_behind}
 use Rattle.window_packing.proofs.BusIndices.{bus_before}
 use Rattle.window_packing.proofs.PoolSteps.{above_row}

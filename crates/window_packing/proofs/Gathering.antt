@@ -5,12 +5,13 @@ use Rattle.std.specs.List.Sorted.{IsPermutation}
 use Rattle.std.proofs.lemmas.List.{drop_all, reverse-append}
 use Rattle.std.proofs.lemmas.List.Sorted.{IsPermutation-refl, IsPermutation-trans, IsPermutation-append_comm, IsPermutation-append_left}
 use Rattle.std.proofs.lemmas.Bool.{cases_lt}
-use Rattle.model_registers.specs.Lists.{Each}
+use Rattle.lists.specs.Elements.{Each}
 use Rattle.model_board.specs.Paths.{Path, path_eq, parent}
 use Rattle.model_board.specs.Board.{Row, Board, rows_on, IsBoard}
-use Rattle.model_board.specs.Pools.{Pool, Apertures}
-use Rattle.model_board.specs.Placement.{Item, items_of, items_on}
-use Rattle.model_board.proofs.Levels.{items_by_bus}
+use Rattle.model_set_up.specs.Pools.{Pool}
+use Rattle.model_registers.specs.Apertures.{Apertures}
+use Rattle.model_set_up.specs.Placement.{Item, items_of, items_on}
+use Rattle.model_set_up.proofs.Levels.{items_by_bus}
 use Rattle.model_board.proofs.PathOrder.{path_same}
 use Rattle.model_board.proofs.PathEnds.{path_self}
 use Rattle.window_packing.specs.Buses.{bus_path}

@@ -2,7 +2,7 @@
 use Rattle.std.proofs.Common.{◌≡◌, ℕ, max, Bool, true, false, cond, List, [], ◌∷◌, refl, ap, ◌∙◌, arith}
 use Rattle.std.specs.Cmp.{IsStrictWeakOrder}
 use Rattle.std.proofs.lemmas.Bool.Decides.{nat_tests}
-use Rattle.model_board.specs.Placement.{Item, stands_before, inserted, in_order, alignment}
+use Rattle.model_set_up.specs.Placement.{Item, stands_before, inserted, in_order, alignment}
 
 pub weak_order : IsStrictWeakOrder stands_before
 weak_order = record {

@@ -3,15 +3,15 @@ use Rattle.std.proofs.Common.{◌≡◌, ℕ, zero, suc, ◌+◌, ◌-◌, ◌�
 use Rattle.std.specs.Prelude.{flat_map, unwrap_or}
 use Rattle.std.specs.List.{slice_get}
 use Rattle.std.proofs.lemmas.Option.{slice_get_within}
-use Rattle.model_registers.specs.Lists.{Each}
+use Rattle.lists.specs.Elements.{Each}
 use Rattle.model_registers.specs.Apertures.{Apertures}
 use Rattle.model_board.specs.Paths.{Path}
 use Rattle.model_board.specs.Board.{Row, Board, IsBoard}
 use Rattle.model_board.specs.Lawful.{HasLawfulDecls}
-use Rattle.model_board.specs.Pools.{Pool, io_pool, mem_pool, pref_pool}
-use Rattle.model_board.specs.Placement.{bus_first}
-use Rattle.model_board.specs.Layout.{LayoutRow, row_of, bus_rows, pool_rows, layout}
-use Rattle.model_board.specs.FunctionTable.{TableRow, board_in}
+use Rattle.model_set_up.specs.Pools.{Pool, io_pool, mem_pool, pref_pool}
+use Rattle.model_set_up.specs.Placement.{bus_first}
+use Rattle.model_set_up.specs.Layout.{LayoutRow, row_of, bus_rows, pool_rows, layout}
+use Rattle.model_set_up.specs.FunctionTable.{TableRow, board_in}
 use Rattle.window_packing.specs.Buses.{bus_path}
 use Rattle.window_packing.specs.Packs.{BusPack, pack_of}
 use Rattle.window_packing.specs.Placed.{bus_paths, PlacedPool, IsPlaced, Placement, IsPlacement}

@@ -5,28 +5,27 @@ use Rattle.std.specs.Option.{option_map_or}
 use Rattle.std.proofs.lemmas.Bool.{and_parts}
 use Rattle.std.proofs.lemmas.Bool.Decides.{nat_tests}
 use Rattle.std.proofs.Math.Nat.{div-mul-le_self}
-use Rattle.model_registers.specs.Lists.{Each, EachPair}
-use Rattle.model_registers.specs.Apertures.{Aperture, IsLawfulApertures, IsPrefOption}
+use Rattle.lists.specs.Elements.{Each, EachPair, IsIn}
+use Rattle.model_registers.specs.Apertures.{Aperture, IsLawfulApertures, IsPrefOption, Apertures}
 use Rattle.model_registers.specs.Declarations.{Endpoint, Region, Kind, registers_of, io_kind, mem32, mem64}
-use Rattle.model_board.specs.Members.{IsIn}
 use Rattle.model_board.specs.Paths.{Part, Path, part_eq, parent, last_part, IsPath}
 use Rattle.model_board.specs.Board.{Decl, endpoint, is_bridge, Row, Board, IsBoard}
-use Rattle.model_board.specs.Pools.{Pool, io_pool, mem_pool, pref_pool, unit_of, Apertures, aperture_of}
-use Rattle.model_board.specs.Placement.{Placed, a_region, a_window, same_placed, Item, Spot, is_item, stands_before, in_order, round_up, need, alignment, spots_from, spots, offset_in, items_on, fits, offset_on, bus_first}
-use Rattle.model_board.specs.Layout.{LayoutRow, IsLawful, bus_rows, pool_rows}
-use Rattle.model_board.specs.Extents.{IsInside}
-use Rattle.model_board.specs.PlacementLaws.{window_row}
+use Rattle.model_set_up.specs.Pools.{Pool, io_pool, mem_pool, pref_pool, unit_of, aperture_of}
+use Rattle.model_set_up.specs.Placement.{Placed, a_region, a_window, same_placed, Item, Spot, is_item, stands_before, in_order, round_up, need, alignment, spots_from, spots, offset_in, items_on, fits, offset_on, bus_first}
+use Rattle.model_set_up.specs.Layout.{LayoutRow, IsLawful, bus_rows, pool_rows}
+use Rattle.model_set_up.specs.Extents.{IsInside}
+use Rattle.model_set_up.specs.PlacementLaws.{window_row}
 use Rattle.model_board.specs.Lawful.{IsLawfulDecl, HasLawfulDecls}
-use Rattle.model_board.proofs.Members.{each_in, each_from}
+use Rattle.lists.proofs.Members.{each_in, each_from}
 use Rattle.model_board.proofs.PathOrder.{part_same}
 use Rattle.model_board.proofs.PathEnds.{snoc, length_snoc}
-use Rattle.model_board.proofs.Partings.{pair_in}
-use Rattle.model_board.proofs.Packing.{unit_positive}
-use Rattle.model_board.proofs.Items.{item_of, some_end, end_below_need, items_placeable, items_for, region_of_item, Origin, origin}
-use Rattle.model_board.proofs.ItemOrder.{Strictly, items_strict}
-use Rattle.model_board.proofs.Nesting.{HasItems, bus_first-snoc, window_of, bridge_of_bus}
-use Rattle.model_board.proofs.LawfulPlacement.{row_in, pool_lawful}
-use Rattle.model_board.proofs.DeclaredRows.{has_window_row}
+use Rattle.model_set_up.proofs.Partings.{pair_in}
+use Rattle.model_set_up.proofs.Packing.{unit_positive}
+use Rattle.model_set_up.proofs.Items.{item_of, some_end, end_below_need, items_placeable, items_for, region_of_item, Origin, origin}
+use Rattle.model_set_up.proofs.ItemOrder.{Strictly, items_strict}
+use Rattle.model_set_up.proofs.Nesting.{HasItems, bus_first-snoc, window_of, bridge_of_bus}
+use Rattle.model_set_up.proofs.LawfulPlacement.{row_in, pool_lawful}
+use Rattle.model_set_up.proofs.DeclaredRows.{has_window_row}
 use Rattle.window_packing.proofs.BridgesAbove.{same_row}
 use Rattle.window_packing.proofs.BusItems.{items_align, alignment_bounds}
 use Rattle.window_packing.proofs.SpotSearch.{AreStrict}

@@ -1,27 +1,25 @@
 -- Where the regions and the windows of one function of a placed board stand.
-use Rattle.std.proofs.Common.{◌≡◌, ℕ, suc, ◌+◌, ◌-◌, ◌*◌, ◌^◌, ◌≤◌, ◌<◌, List, [], ◌∷◌, length, map, Some, refl, sym, ap, ap₂, ◌∙◌, subst, arith}
+use Rattle.std.proofs.Common.{◌≡◌, ℕ, suc, ◌+◌, ◌*◌, ◌^◌, ◌≤◌, ◌<◌, List, [], ◌∷◌, length, map, Some, refl, sym, ap, ap₂, ◌∙◌, subst, arith}
 use Rattle.std.specs.Prelude.{IsTrue}
 use Rattle.std.specs.List.{slice_get}
 use Rattle.std.proofs.lemmas.Option.{slice_get_within}
-use Rattle.model_registers.specs.Lists.{Each}
+use Rattle.lists.specs.Elements.{Each, IsIn}
 use Rattle.model_registers.specs.Declarations.{Region}
 use Rattle.model_registers.specs.Apertures.{Apertures}
-use Rattle.model_board.specs.Members.{IsIn}
 use Rattle.model_board.specs.Paths.{Part, parent, last_part, IsPath}
 use Rattle.model_board.specs.Board.{endpoint, Row, Board, IsBoard}
 use Rattle.model_board.specs.Lawful.{HasLawfulDecls}
-use Rattle.model_board.specs.Pools.{Pool, io_pool, mem_pool, pref_pool, unit_of, bridges_above, pool_of}
-use Rattle.model_board.specs.Placement.{Placed, a_region, Item, Spot, is_item, in_order, end_from, round_up, need, spots, offset_in, items_on, offset_on, bus_first, region_first}
-use Rattle.model_board.specs.SetUp.{first_of, window_of}
-use Rattle.model_board.proofs.Members.{each_in, each_from}
-use Rattle.model_board.proofs.Items.{item_of}
-use Rattle.bridge_forward.proofs.Indices.{same_at}
+use Rattle.model_set_up.specs.Pools.{Pool, io_pool, mem_pool, pref_pool, unit_of, bridges_above, pool_of}
+use Rattle.model_set_up.specs.Placement.{Placed, a_region, Item, Spot, is_item, round_up, need, spots, offset_in, items_on, offset_on, bus_first, region_first}
+use Rattle.model_set_up.specs.SetUp.{first_of, window_of}
+use Rattle.lists.proofs.Members.{each_in, each_from}
+use Rattle.model_set_up.proofs.Items.{item_of}
+use Rattle.lists.proofs.Indices.{same_at, index_in}
 use Rattle.window_packing.specs.declared.above.Above.{Above}
 use Rattle.window_packing.specs.Buses.{bus_path}
 use Rattle.window_packing.specs.Packs.{BusPack, pack_of}
 use Rattle.window_packing.specs.Placed.{bus_paths, PlacedPool, IsPlaced, Placement, IsPlacement, pool_in, IsAboveAt, IsRegionAt}
 use Rattle.window_packing.proofs.SpotSearch.{AreStrict}
-use Rattle.window_packing.proofs.BridgesAbove.{index_in}
 use Rattle.window_packing.proofs.BusIndex.{by_bus, count_buses, bus_behind}
 use Rattle.window_packing.proofs.PackFits.{no_items}
 use Rattle.window_packing.proofs.PoolSteps.{IsAboveRow, above_row}
@@ -40,10 +38,6 @@ holds_of_some P (s ∷ ss) some h = h.0
 
 pub span_none : (unit closed first : ℕ) (is : List Item) → spots is ≡ [] → window_of unit closed first is ≡ record { first = closed * unit; last = 0 }
 span_none unit closed first is e = ap (window_of unit closed first) (no_items is e)
-
-pub span_some : (unit closed first : ℕ) (is : List Item) → (spots is ≡ [] → ⊥) → window_of unit closed first is ≡ record { first = first; last = first + round_up unit (end_from 0 (in_order is)) - 1 }
-span_some unit closed first [] some = absurd (some refl)
-span_some unit closed first (i ∷ is) some = refl
 
 module _ (b : Board) (a : Apertures) (board : IsBoard b) (lawful : HasLawfulDecls b) (pool : Pool) (pl : PlacedPool) (placed : IsPlaced b a pool pl) where
   pub count_pl : length pl.packs ≡ suc (length b)

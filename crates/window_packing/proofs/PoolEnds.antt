@@ -2,14 +2,14 @@
 use Rattle.std.proofs.Common.{◌≡◌, ◌+◌, ◌<◌, ◌≤◌, ◌^◌, ◌⊎◌, inl, inr, Bool, true, false, List, [], ◌∷◌, Option, Some, None, refl, arith}
 use Rattle.std.specs.Prelude.{IsFalse}
 use Rattle.std.proofs.lemmas.Bool.{leb-true}
-use Rattle.model_registers.specs.Apertures.{Aperture, IsLawfulApertures, IsPrefOption}
-use Rattle.model_board.specs.Members.{IsIn}
+use Rattle.model_registers.specs.Apertures.{Aperture, IsLawfulApertures, IsPrefOption, Apertures}
+use Rattle.lists.specs.Elements.{IsIn}
 use Rattle.model_board.specs.Paths.{Path, leads_to}
 use Rattle.model_board.specs.Board.{Board, IsBoard}
-use Rattle.model_board.specs.Pools.{Pool, io_pool, mem_pool, pref_pool, Apertures}
-use Rattle.model_board.specs.Placement.{Item, in_order, end_from, root_first, aperture_end, fits_items, fits, items_on}
+use Rattle.model_set_up.specs.Pools.{Pool, io_pool, mem_pool, pref_pool}
+use Rattle.model_set_up.specs.Placement.{Item, in_order, end_from, root_first, aperture_end, fits_items, fits, items_on}
 use Rattle.model_board.specs.Lawful.{HasLawfulDecls}
-use Rattle.model_board.proofs.Nesting.{HasItems, nested, IsWithin, root_has}
+use Rattle.model_set_up.proofs.Nesting.{HasItems, nested, IsWithin, root_has}
 use Rattle.std.specs.Option.{option_map_or}
 
 ends_below : (a : Apertures) → IsLawfulApertures a → (pool : Pool) → aperture_end a pool ≤ 2 ^ 63

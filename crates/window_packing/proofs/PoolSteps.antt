@@ -4,14 +4,15 @@ use Rattle.std.specs.Prelude.{map, reverse, slice_get, slice_set, option_to_list
 use Rattle.std.specs.List.{list_all}
 use Rattle.std.specs.List.Sorted.{IsPermutation}
 use Rattle.std.proofs.lemmas.List.{reverse-append}
-use Rattle.model_registers.specs.Lists.{Each}
-use Rattle.model_registers.proofs.EachLemmas.{each_map, each_both}
+use Rattle.lists.specs.Elements.{Each}
+use Rattle.lists.proofs.EachLemmas.{each_map, each_both}
 use Rattle.model_board.specs.Paths.{Path, parent}
 use Rattle.model_board.specs.Board.{Row, Board, IsBoard}
 use Rattle.model_board.specs.Lawful.{HasLawfulDecls}
-use Rattle.model_board.specs.Pools.{Pool, Apertures, bridges_above, has_pref, has_pref64}
-use Rattle.model_board.specs.Placement.{Item, items_of, items_on}
-use Rattle.bridge_forward.proofs.Indices.{map_at, each_at}
+use Rattle.model_set_up.specs.Pools.{Pool, bridges_above, has_pref, has_pref64}
+use Rattle.model_registers.specs.Apertures.{Apertures}
+use Rattle.model_set_up.specs.Placement.{Item, items_of, items_on}
+use Rattle.lists.proofs.Indices.{map_at, each_at}
 use Rattle.window_packing.specs.declared.above.Above.{Above}
 use Rattle.window_packing.specs.Buses.{bus_path, AreAbove}
 use Rattle.window_packing.specs.Packs.{BusPack, pack_of, IsBounded, IsOver}

@@ -1,19 +1,16 @@
 -- The least refusal, as pools are judged one after the other.
-use Rattle.std.proofs.Common.{◌≡◌, ◌⊎◌, inl, inr, true, false, Some, None, refl, sym, ap}
+use Rattle.std.proofs.Common.{◌≡◌, ◌⊎◌, inl, inr, true, Some, None, refl, sym, ap}
 use Rattle.std.specs.Prelude.{IsFalse}
 use Rattle.model_registers.specs.Apertures.{Apertures}
 use Rattle.model_registers.specs.DeclarationRules.{first_broken}
 use Rattle.model_board.specs.Board.{Board}
-use Rattle.model_board.specs.Pools.{io_pool, mem_pool, pref_pool, has_io_paths}
-use Rattle.model_board.specs.Placement.{fits}
-use Rattle.model_board.specs.SetUpWrites.{placement_rules}
+use Rattle.model_set_up.specs.Pools.{io_pool, mem_pool, pref_pool, has_io_paths}
+use Rattle.model_set_up.specs.Placement.{fits}
+use Rattle.model_set_up.specs.SetUpWrites.{placement_rules}
 use Rattle.bus_scan.specs.declared.fault.Fault.{Fault}
-use Rattle.bus_scan.specs.declared.fault.Fault.TheVariants.{NoIoWindow, IoPool, MemoryPool, PrefetchablePool, Memory}
+use Rattle.bus_scan.specs.declared.fault.Fault.TheVariants.{IoPool, MemoryPool, PrefetchablePool, Memory}
 use Rattle.bus_scan.specs.Faults.{number_of}
 use Rattle.window_packing.specs.Plans.{IsRefusal}
-
-pub refused_ways : (b : Board) (a : Apertures) → has_io_paths b ≡ false → IsRefusal b a NoIoWindow
-refused_ways b a ways = inr (rw ways refl)
 
 module _ (b : Board) (a : Apertures) (f : Fault) (ways : has_io_paths b ≡ true) where
   pub refused_io : (f ≡ Memory) ⊎ ((f ≡ IoPool) × IsFalse (fits b a io_pool)) → IsRefusal b a f

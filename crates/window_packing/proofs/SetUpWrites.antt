@@ -3,7 +3,7 @@ use Rattle.std.proofs.Common.{◌≡◌, ℕ, ◌+◌, ◌*◌, ◌/◌, ◌%◌
 use Rattle.std.specs.Prelude.{map, count_by}
 use Rattle.std.proofs.lemmas.List.{map-append}
 use Rattle.std.proofs.lemmas.Bool.{ne_eqb}
-use Rattle.model_registers.specs.Lists.{Each, EachPair}
+use Rattle.lists.specs.Elements.{Each, EachPair, IsIn}
 use Rattle.model_registers.specs.Cell.{Cell, written}
 use Rattle.model_registers.specs.Registers.{Place, config, place_eq, File, cell_at, changed, write}
 use Rattle.model_registers.specs.ByteEnables.{lanes}
@@ -12,24 +12,26 @@ use Rattle.model_registers.specs.DeclarationRules.{IsConfigBlock}
 use Rattle.model_registers.specs.BridgeTable.{BridgeValues, bridge_file}
 use Rattle.model_registers.proofs.RegisterFiles.{place_same}
 use Rattle.model_registers.proofs.Parts.{IsOutside}
-use Rattle.model_board.specs.Members.{IsIn}
 use Rattle.model_board.specs.Paths.{Path, path_eq, path_before, leads_to}
 use Rattle.model_board.specs.Board.{Board, Row, Decl, endpoint, bridge, is_bridge, is_bridge_at, is_multifunction}
 use Rattle.model_board.specs.BusNumbers.{secondary, subordinate, Enumerates}
-use Rattle.model_board.specs.State.{BoardFunction, State}
-use Rattle.model_board.specs.Reach.{row_at, address_of}
-use Rattle.model_board.specs.Pools.{Apertures}
-use Rattle.model_board.specs.SetUp.{first_of, bridge_values, set_up_file, set_up_state}
-use Rattle.model_board.specs.SetUpWrites.{Setting, windows_of, writes_of, Plan, planned}
-use Rattle.model_board.specs.Scanning.{board_numbers, with_numbers, numbered_file, numbered_state}
-use Rattle.model_board.specs.UniqueClaimant.{CanBePlaced}
-use Rattle.model_board.proofs.Members.{each_in, each_from, any_in, in_front, in_back}
+use Rattle.model_board.specs.State.{BoardFunction, State, row_at}
+use Rattle.model_set_up.specs.Reach.{address_of}
+use Rattle.model_registers.specs.Apertures.{Apertures}
+use Rattle.model_set_up.specs.SetUp.{first_of, bridge_values, set_up_file, set_up_state}
+use Rattle.model_set_up.specs.SetUpWrites.{Setting, windows_of, writes_of, Plan, planned}
+use Rattle.model_set_up.specs.Scanning.{board_numbers, with_numbers, numbered_file, numbered_state, IsNumbered}
+use Rattle.model_set_up.specs.UniqueClaimant.{CanBePlaced}
+use Rattle.lists.proofs.Members.{each_in, each_from, any_in, in_front, in_back}
+use Rattle.lists.proofs.EachLemmas.{each_of_map, pairs_after}
+use Rattle.lists.proofs.Tests.{and_true}
+use Rattle.model_board.proofs.StateRows.{rows_of}
+use Rattle.model_board.proofs.PlacesLaw.{before_apart}
 use Rattle.model_board.proofs.PathOrder.{exclusive}
-use Rattle.model_board.proofs.PathEnds.{path_self, path_eq-sym, not_before_itself}
-use Rattle.model_board.proofs.PathOrder.{path_same}
+use Rattle.model_board.proofs.PathEnds.{path_self, path_eq-sym}
 use Rattle.model_board.proofs.BusNumbers.{bridges, at, count_three, counted}
-use Rattle.model_board.proofs.PlacedRegions.{lawful_decl}
-use Rattle.model_board.specs.AtReset.{board_at, IsNumbered}
+use Rattle.model_set_up.proofs.PlacedRegions.{lawful_decl}
+use Rattle.model_board.specs.AtReset.{board_at}
 use Rattle.host_bridge.specs.HostState.{HostState, with_functions}
 use Rattle.window_packing.specs.WordWrites.{WordWrite, word, after_words, after_settings, words_of}
 use Rattle.window_packing.proofs.FileWrites.{file_after}
@@ -117,10 +119,6 @@ words_keep b a p (bridge e) = (
 
 -- ---- bus numbers fit their registers
 
-and_true : (t : Bool) → (t && true) ≡ t
-and_true true = refl
-and_true false = refl
-
 record Small (b : Board) (p : Path) : Type 0 where
   first : secondary b p < 256
   last : subordinate b p < 256
@@ -135,29 +133,10 @@ numbers_small b few p h =
 
 -- ---- lists in two parts
 
-rows_again : (file : Path → Decl → File) (rs : List Row) → map row_at (map (λ (r : Row). record { path = r.path; decl = r.decl; file = file r.path r.decl }) rs) ≡ rs
-rows_again file [] = refl
-rows_again file (r ∷ rs) = ap (λ (ss : List Row). r ∷ ss) (rows_again file rs)
-
 before_one : {A : Type 0} (R : A → A → Type 0) (xs : List A) (y : A) (ys : List A) → EachPair R (xs ++ y ∷ ys) → (x : A) → IsIn x xs → R x y
 before_one R [] y ys h x m = absurd m
 before_one {A} R (z ∷ xs) y ys h x (inl e) = subst (λ (w : A). R w y) (sym e) (each_in (R z) y (xs ++ y ∷ ys) h.0 (in_back y xs (y ∷ ys) (inl refl)))
 before_one R (z ∷ xs) y ys h x (inr m) = before_one R xs y ys h.1 x m
-
-after_one : {A : Type 0} (R : A → A → Type 0) (xs : List A) (y : A) (ys : List A) → EachPair R (xs ++ y ∷ ys) → Each (R y) ys
-after_one R [] y ys h = h.0
-after_one R (x ∷ xs) y ys h = after_one R xs y ys h.1
-
-each_mapped : {A B : Type 0} (P : B → Type 0) (f : A → B) (xs : List A) → Each (λ x. P (f x)) xs → Each P (map f xs)
-each_mapped P f [] h = tt
-each_mapped P f (x ∷ xs) h = (h.0, each_mapped P f xs h.1)
-
-apart : (p q : Path) → path_before p q ≡ true → path_eq p q ≡ false
-apart p q h = by_test (path_eq p q) refl
-  where
-    by_test : (t : Bool) → path_eq p q ≡ t → t ≡ false
-    by_test false e = refl
-    by_test true e = absurd (not_before_itself q (subst (λ (x : Path). path_before x q ≡ true) (path_same p q e) h))
 
 -- ---- one function after the other
 
@@ -205,13 +184,13 @@ module _ (b : Board) (a : Apertures) (can : CanBePlaced b a) (few : Enumerates b
       words_at b can.places (map set_up done) (map numbered todo) r.path r.decl
       (any_in (λ (s : Row). path_eq s.path r.path) r b there (path_self r.path))
       (map-append row_at (map set_up done) (record { path = r.path; decl = r.decl; file = [] } ∷ map numbered todo)
-      ∙ ap₂ (λ (xs ys : List Row). xs ++ r ∷ ys) (rows_again (set_up_file b a) done) (rows_again (numbered_file b (board_numbers b)) todo) ∙ sym split)
-      (each_mapped (λ (g : BoardFunction). path_eq g.path r.path ≡ false) set_up done (each_from (λ (x : Row). path_eq x.path r.path ≡ false) done
-      (λ x m. apart x.path r.path (before_one (λ (x y : Row). path_before x.path y.path ≡ true) done r todo order x m))))
-      (each_mapped (λ (g : BoardFunction). path_eq g.path r.path ≡ false) numbered todo (each_from (λ (x : Row). path_eq x.path r.path ≡ false) todo
-      (λ x m. path_eq-sym x.path r.path ∙ apart r.path x.path (each_in (λ (y : Row). path_before r.path y.path ≡ true) x todo (after_one (λ (x y : Row). path_before x.path y.path ≡ true) done r todo order) m))))
-      (each_mapped (HoldsNumbers b) set_up done (each_from (λ (x : Row). HoldsNumbers b (set_up x)) done (λ x m. set_up_holds x.path x.decl (small_at x (whole x (in_front x done (r ∷ todo) m))))))
-      (each_mapped (HoldsNumbers b) numbered todo (each_from (λ (x : Row). HoldsNumbers b (numbered x)) todo (λ x m. numbered_holds x.path x.decl (small_at x (whole x (in_back x done (r ∷ todo) (inr m)))))))
+      ∙ ap₂ (λ (xs ys : List Row). xs ++ r ∷ ys) (rows_of (set_up_file b a) done) (rows_of (numbered_file b (board_numbers b)) todo) ∙ sym split)
+      (each_of_map (λ (g : BoardFunction). path_eq g.path r.path ≡ false) set_up done (each_from (λ (x : Row). path_eq x.path r.path ≡ false) done
+      (λ x m. before_apart x.path r.path (before_one (λ (x y : Row). path_before x.path y.path ≡ true) done r todo order x m))))
+      (each_of_map (λ (g : BoardFunction). path_eq g.path r.path ≡ false) numbered todo (each_from (λ (x : Row). path_eq x.path r.path ≡ false) todo
+      (λ x m. path_eq-sym x.path r.path ∙ before_apart r.path x.path (each_in (λ (y : Row). path_before r.path y.path ≡ true) x todo (pairs_after (λ (x y : Row). path_before x.path y.path ≡ true) done r todo order) m))))
+      (each_of_map (HoldsNumbers b) set_up done (each_from (λ (x : Row). HoldsNumbers b (set_up x)) done (λ x m. set_up_holds x.path x.decl (small_at x (whole x (in_front x done (r ∷ todo) m))))))
+      (each_of_map (HoldsNumbers b) numbered todo (each_from (λ (x : Row). HoldsNumbers b (numbered x)) todo (λ x m. numbered_holds x.path x.decl (small_at x (whole x (in_back x done (r ∷ todo) (inr m)))))))
       (words_of (writes_of b a r.path r.decl)) (words_keep b a r.path r.decl) (numbered_file b (board_numbers b) r.path r.decl) (numbered_holds r.path r.decl (small_at r there))
       ∙ ap (λ (file : File). map set_up done ++ record { path = r.path; decl = r.decl; file = file } ∷ map numbered todo) (own_file r there r.decl refl)
     where

@@ -4,23 +4,23 @@ use Rattle.std.proofs.Common.{◌≡◌, ◌⊎◌, inl, inr, ℕ, Bool, true, f
 use Rattle.std.specs.Prelude.{nat_le, count_by, IsTrue}
 use Rattle.std.proofs.lemmas.Bool.{le-leb}
 use Rattle.model_registers.specs.DeclarationRules.{first_broken}
-use Rattle.model_registers.specs.Apertures.{IsLawfulApertures}
+use Rattle.model_registers.specs.Apertures.{IsLawfulApertures, Apertures}
 use Rattle.model_board.specs.Board.{Board, Row, is_bridge, IsBoard}
 use Rattle.model_board.specs.BusNumbers.{Enumerates}
 use Rattle.model_board.specs.Lawful.{HasLawfulDecls}
-use Rattle.model_board.specs.Pools.{Apertures, Pool, io_pool, mem_pool, pref_pool, has_io_paths}
-use Rattle.model_board.specs.Placement.{fits}
-use Rattle.model_board.specs.Layout.{IsLawful, layout}
+use Rattle.model_set_up.specs.Pools.{Pool, io_pool, mem_pool, pref_pool, has_io_paths}
+use Rattle.model_set_up.specs.Placement.{fits}
+use Rattle.model_set_up.specs.Layout.{IsLawful, layout}
 use Rattle.model_board.specs.State.{State}
 use Rattle.model_board.specs.Routing.{routing}
-use Rattle.model_board.specs.SetUp.{set_up_file, set_up_state}
-use Rattle.model_board.specs.SetUpWrites.{Plan, planned, placement_rules, set_up_rules}
-use Rattle.model_board.specs.FunctionTable.{TableRow, sized_table}
+use Rattle.model_set_up.specs.SetUp.{set_up_file, set_up_state}
+use Rattle.model_set_up.specs.SetUpWrites.{Plan, planned, placement_rules, set_up_rules}
+use Rattle.model_set_up.specs.FunctionTable.{TableRow, sized_table}
 use Rattle.model_board.specs.AtReset.{board_at}
-use Rattle.model_board.specs.UniqueClaimant.{CanBePlaced}
+use Rattle.model_set_up.specs.UniqueClaimant.{CanBePlaced}
 use Rattle.model_board.proofs.StateRows.{state_rows}
-use Rattle.model_board.proofs.LawfulPlacement.{layout_is_lawful}
-use Rattle.model_board.proofs.UniqueClaimant.{unique_claimant}
+use Rattle.model_set_up.proofs.LawfulPlacement.{layout_is_lawful}
+use Rattle.model_set_up.proofs.UniqueClaimant.{unique_claimant}
 use Rattle.host_bridge.specs.HostState.{HostState}
 use Rattle.bus_scan.specs.declared.fault.Fault.{Fault}
 use Rattle.bus_scan.specs.declared.fault.Fault.TheVariants.{Memory}

@@ -1,11 +1,11 @@
 -- Where items that follow one another end.
 use Rattle.std.proofs.Common.{ℕ, ◌+◌, ◌<◌, ◌≤◌, List, [], ◌∷◌, drop, length, get_or, arith}
 use Rattle.std.proofs.lemmas.List.{drop_more}
-use Rattle.model_registers.specs.Lists.{Each}
-use Rattle.model_registers.proofs.EachLemmas.{all-each, each-all}
+use Rattle.lists.specs.Elements.{Each}
+use Rattle.lists.proofs.EachLemmas.{all-each, each-all}
 use Rattle.std.proofs.lemmas.List.Elements.{All-drop}
-use Rattle.model_board.specs.Placement.{Item, round_up, end_from, alignment}
-use Rattle.model_board.proofs.Packing.{round_up_not_before}
+use Rattle.model_set_up.specs.Placement.{Item, round_up, end_from}
+use Rattle.model_set_up.proofs.Packing.{round_up_not_before}
 use Rattle.window_packing.specs.Packs.{HasLawfulAlign}
 
 -- the end is not before the beginning
@@ -19,7 +19,3 @@ pub end_from-past : (n k : ℕ) (d : Item) (is : List Item) → Each HasLawfulAl
 end_from-past n k d is h lt =
     let i = get_or is k d in
     rw (drop_more is k d lt) (end_from-le (round_up i.align n + i.size) (drop (k + 1) is) (each-all HasLawfulAlign (drop (k + 1) is) (All-drop HasLawfulAlign (k + 1) is (all-each HasLawfulAlign is h))))
-
-pub unit-le : (unit : ℕ) (is : List Item) → unit ≤ alignment unit is
-unit-le unit [] = omega arith
-unit-le unit (i ∷ is) = omega (arith, unit-le unit is)

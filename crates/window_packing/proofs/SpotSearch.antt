@@ -3,18 +3,16 @@ use Rattle.std.proofs.Common.{◌≡◌, ℕ, zero, suc, ◌≤◌, ◌<◌, ◌
 use Rattle.std.specs.Prelude.{IsTrue, nat_lt, ◌==◌, ◌||◌}
 use Rattle.std.specs.List.{slice_get}
 use Rattle.std.specs.List.Sorted.{IsPartitionedBy, IsPartitionPoint}
-use Rattle.std.proofs.lemmas.Bool.{and_parts, cases_lt}
+use Rattle.std.proofs.lemmas.Bool.{and_parts, cases_lt, false_from_ne_true}
 use Rattle.std.proofs.lemmas.Bool.Decides.{nat_tests}
 use Rattle.std.proofs.lemmas.Option.{slice_get_within}
-use Rattle.model_registers.specs.Lists.{Each, EachPair}
+use Rattle.lists.specs.Elements.{Each, EachPair}
 use Rattle.model_board.specs.Paths.{Part, part_eq}
-use Rattle.model_board.specs.Placement.{Placed, a_region, a_window, same_placed, register_of, Item, Spot, stands_before, is_item, offset_in}
+use Rattle.model_set_up.specs.Placement.{Placed, a_region, a_window, same_placed, register_of, Item, Spot, stands_before, is_item, offset_in}
 use Rattle.model_board.proofs.PathOrder.{part_same}
-use Rattle.bridge_forward.proofs.Indices.{at_below, each_at, pair_at}
+use Rattle.lists.proofs.Indices.{at_below, each_at, pair_at}
+use Rattle.model_set_up.proofs.ItemOrder.{one_way}
 use Rattle.window_packing.specs.Searching.{IsFirstFrom}
-
-one_way : (i j : Item) → stands_before i j ≡ true → stands_before j i ≡ false
-one_way i j h = grind (arith, nat_tests)
 
 chain : (i j k : Item) → stands_before i j ≡ false → stands_before j k ≡ false → stands_before i k ≡ false
 chain i j k h l = grind (arith, nat_tests)
@@ -38,10 +36,6 @@ before_like i j k a p r = λ n. before_key i (a n) (p n) (r n)
 
 abbrev pub AreStrict : List Spot → Type 0
 AreStrict ss = EachPair (λ (s t : Spot). IsTrue (stands_before s.item t.item)) ss
-
-fails : (v : Bool) → (v ≡ true → ⊥) → v ≡ false
-fails true h = absurd (h refl)
-fails false h = refl
 
 module _ (ss : List Spot) (key : Item) (strict : AreStrict ss) where
   sides : (x y : ℕ) → (x < y) ⊎ ((x ≡ y) ⊎ (y < x))
@@ -110,7 +104,7 @@ module _ (ss : List Spot) (key : Item) (strict : AreStrict ss) where
             let clash : true ≡ false = sym b ∙ like s.0.item k t e h ∙ no in cc
 
     pub none_there : ((t : Spot) → slice_get ss n ≡ Some t → is_item key.part key.what t.item ≡ false) → offset_in ss key.part key.what ≡ 0
-    none_there h = none ss (λ k t e. fails (is_item key.part key.what t.item) (λ u.
+    none_there h = none ss (λ k t e. false_from_ne_true (is_item key.part key.what t.item) (λ u.
         let at = only_there k t e u in
         let no : is_item key.part key.what t.item ≡ false = h t (subst (λ m. slice_get ss m ≡ Some t) at e) in
         let clash : true ≡ false = sym u ∙ no in cc))
@@ -120,7 +114,7 @@ module _ (ss : List Spot) (key : Item) (strict : AreStrict ss) where
         none (t ∷ ts) h = rw (h 0 t refl) (none ts (λ k u e. h (suc k) u e))
 
     pub there : (t : Spot) → slice_get ss n ≡ Some t → is_item key.part key.what t.item ≡ true → offset_in ss key.part key.what ≡ t.first
-    there t e h = one ss n t e h (λ k u l f. fails (is_item key.part key.what u.item) (λ v. absurd (omega (arith, l, only_there k u f v))))
+    there t e h = one ss n t e h (λ k u l f. false_from_ne_true (is_item key.part key.what u.item) (λ v. absurd (omega (arith, l, only_there k u f v))))
       where
         one : (ts : List Spot) (m : ℕ) (t : Spot) → slice_get ts m ≡ Some t → is_item key.part key.what t.item ≡ true → ((k : ℕ) (u : Spot) → k < m → slice_get ts k ≡ Some u → is_item key.part key.what u.item ≡ false) → offset_in ts key.part key.what ≡ t.first
         one [] m t e h none = absurd (cc)

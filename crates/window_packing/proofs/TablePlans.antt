@@ -1,19 +1,18 @@
 -- A plan that was made for what a table tells is the plan of every board with that table.
 use Rattle.std.proofs.Common.{◌≡◌, List, [], None, inl, inr, map, sym, ap, ◌∙◌, subst}
 use Rattle.model_registers.specs.DeclarationRules.{first_broken}
-use Rattle.model_registers.specs.Apertures.{IsLawfulApertures}
+use Rattle.model_registers.specs.Apertures.{IsLawfulApertures, Apertures}
 use Rattle.model_board.specs.Paths.{Path}
 use Rattle.model_board.specs.Board.{Board, IsBoard}
 use Rattle.model_board.specs.Lawful.{HasLawfulDecls}
-use Rattle.model_board.specs.Pools.{Apertures}
-use Rattle.model_board.specs.Layout.{IsLawful}
-use Rattle.model_board.specs.SetUpWrites.{Plan, Setting, planned, placement_rules, settings}
-use Rattle.model_board.specs.FunctionTable.{TableRow, board_in}
-use Rattle.model_board.specs.UniqueClaimant.{CanBePlaced}
-use Rattle.model_board.specs.Pools.{Pool}
-use Rattle.model_board.specs.Placement.{items_on}
-use Rattle.model_board.proofs.FoundBoards.{board_in_table}
-use Rattle.model_board.proofs.FoundPlacement.{on_bus, placed_as_found}
+use Rattle.model_set_up.specs.Layout.{IsLawful}
+use Rattle.model_set_up.specs.SetUpWrites.{Plan, Setting, planned, placement_rules, settings}
+use Rattle.model_set_up.specs.FunctionTable.{TableRow, board_in}
+use Rattle.model_set_up.specs.UniqueClaimant.{CanBePlaced}
+use Rattle.model_set_up.specs.Pools.{Pool}
+use Rattle.model_set_up.specs.Placement.{items_on}
+use Rattle.model_set_up.proofs.FoundBoards.{board_in_table}
+use Rattle.model_set_up.proofs.FoundPlacement.{on_bus, placed_as_found}
 use Rattle.bus_scan.specs.declared.fault.Fault.{Fault}
 use Rattle.bus_scan.specs.SizedTables.{IsTableOf}
 use Rattle.window_packing.specs.LayoutRows.{rows_of, AreListable}

@@ -3,12 +3,13 @@ use Rattle.std.proofs.Common.{◌≡◌, ◌+◌, ◌-◌, ◌<◌, ◌^◌, inl
 use Rattle.std.specs.Prelude.{ℕ, nat_le, if◌then◌else◌}
 use Rattle.std.proofs.lemmas.Bool.{le-leb}
 use Rattle.std.proofs.lemmas.Bool.Decides.{nat_tests}
-use Rattle.model_registers.specs.Lists.{Each}
+use Rattle.lists.specs.Elements.{Each}
 use Rattle.model_board.specs.Board.{Board}
 use Rattle.model_board.specs.Lawful.{HasLawfulDecls}
-use Rattle.model_board.specs.Pools.{Pool, Apertures, unit_of}
-use Rattle.model_board.specs.Placement.{Item, in_order, end_from, root_first, aperture_end, fits_items, fits, items_on}
-use Rattle.model_board.proofs.Items.{IsPlaceable, some_end, items_placeable}
+use Rattle.model_set_up.specs.Pools.{Pool, unit_of}
+use Rattle.model_registers.specs.Apertures.{Apertures}
+use Rattle.model_set_up.specs.Placement.{Item, in_order, end_from, root_first, aperture_end, fits_items, fits, items_on}
+use Rattle.model_set_up.proofs.Items.{IsPlaceable, some_end, items_placeable}
 use Rattle.window_packing.specs.declared.uses.PoolUse.{PoolUse}
 use Rattle.window_packing.specs.Uses.{use_by, told_use}
 

@@ -5,10 +5,10 @@
 use Rattle.std.specs.Prelude.{List, [], ◌≡◌, ℕ, zero, suc, ◌≤◌, true, ◌&&◌, length, map, slice_get}
 use Rattle.std.specs.Option.{option_map_or}
 use Rattle.std.specs.List.{list_all}
-use Rattle.model_registers.specs.Lists.{Each}
+use Rattle.lists.specs.Elements.{Each}
 use Rattle.model_board.specs.Paths.{Path, parent}
 use Rattle.model_board.specs.Board.{Decl, endpoint, bridge, Row, Board}
-use Rattle.model_board.specs.Pools.{bridges_above, has_io, has_pref, has_pref64}
+use Rattle.model_set_up.specs.Pools.{bridges_above, has_io, has_pref, has_pref64}
 use Rattle.window_packing.specs.declared.above.Above.{Above}
 
 abbrev pub bus_path : Board → ℕ → Path

@@ -3,10 +3,10 @@
 --     rows_along, rows_in, rows_of      the rows of buses, of a pool, and of all three pools
 --     IsListable, AreListable      a pool whose rows are no deeper than a path and below 2 ^ 64; all three pools
 use Rattle.std.specs.Prelude.{List, [], ◌∷◌, ◌++◌, ◌≡◌, ℕ, suc, ◌+◌, ◌<◌, ◌^◌, Some, map, length, slice_get, unwrap_or}
-use Rattle.model_registers.specs.Lists.{Each}
+use Rattle.lists.specs.Elements.{Each}
 use Rattle.model_board.specs.Paths.{Path}
-use Rattle.model_board.specs.Pools.{Pool, io_pool, mem_pool, pref_pool}
-use Rattle.model_board.specs.Layout.{LayoutRow, row_of}
+use Rattle.model_set_up.specs.Pools.{Pool, io_pool, mem_pool, pref_pool}
+use Rattle.model_set_up.specs.Layout.{LayoutRow, row_of}
 use Rattle.window_packing.specs.Packs.{BusPack}
 use Rattle.window_packing.specs.Placed.{PlacedPool, Placement}
 

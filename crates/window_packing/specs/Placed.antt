@@ -7,14 +7,14 @@
 --     IsRegionAt      a region of the endpoint of a row
 --     is_bar_in, is_port      a register's region lies in a space; it is of I/O
 use Rattle.std.specs.Prelude.{List, [], ◌∷◌, ◌≡◌, ℕ, Bool, false, Option, Some, None, map, slice_get, IsTrue}
-use Rattle.model_registers.specs.Apertures.{IsLawfulApertures}
+use Rattle.model_registers.specs.Apertures.{IsLawfulApertures, Apertures}
 use Rattle.model_board.specs.Paths.{Path}
 use Rattle.model_registers.specs.Declarations.{Bar, Region, Endpoint}
 use Rattle.model_registers.specs.Decoding.{Space, same_space, space_of}
-use Rattle.model_board.specs.Members.{IsIn}
+use Rattle.lists.specs.Elements.{IsIn}
 use Rattle.model_board.specs.Board.{endpoint, Row, Board}
-use Rattle.model_board.specs.Pools.{Pool, io_pool, mem_pool, pref_pool, Apertures, is_io}
-use Rattle.model_board.specs.Placement.{fits, bus_first}
+use Rattle.model_set_up.specs.Pools.{Pool, io_pool, mem_pool, pref_pool, is_io}
+use Rattle.model_set_up.specs.Placement.{fits, bus_first}
 use Rattle.window_packing.specs.declared.above.Above.{Above}
 use Rattle.window_packing.specs.Buses.{AreAbove}
 use Rattle.window_packing.specs.Packs.{BusPack, packs_of}

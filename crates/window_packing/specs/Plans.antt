@@ -7,12 +7,12 @@
 use Rattle.std.specs.Prelude.{◌≡◌, ◌⊎◌, Some}
 use Rattle.model_registers.specs.DeclarationRules.{first_broken}
 use Rattle.model_board.specs.Board.{Board}
-use Rattle.model_board.specs.Pools.{io_pool, mem_pool, pref_pool}
-use Rattle.model_board.specs.Pools as pools
-use Rattle.model_board.specs.Placement.{a_region, a_window}
-use Rattle.model_board.specs.Placement as placement
-use Rattle.model_board.specs.SetUpWrites.{to_endpoint, to_bridge, placement_rules}
-use Rattle.model_board.specs.SetUpWrites as set_up
+use Rattle.model_set_up.specs.Pools.{io_pool, mem_pool, pref_pool}
+use Rattle.model_set_up.specs.Pools as pools
+use Rattle.model_set_up.specs.Placement.{a_region, a_window}
+use Rattle.model_set_up.specs.Placement as placement
+use Rattle.model_set_up.specs.SetUpWrites.{to_endpoint, to_bridge, placement_rules}
+use Rattle.model_set_up.specs.SetUpWrites as set_up
 use Rattle.bars.specs.Slots.{bases_from}
 use Rattle.bus_scan.specs.declared.fault.Fault.{Fault}
 use Rattle.bus_scan.specs.declared.fault.Fault.TheVariants.{IoPool, MemoryPool, PrefetchablePool, Memory}

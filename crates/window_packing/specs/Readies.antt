@@ -11,14 +11,14 @@ use Rattle.std.specs.Prelude.{List, ◌≡◌}
 use Rattle.model_board.specs.Board.{Board}
 use Rattle.model_board.specs.BusNumbers.{Enumerates}
 use Rattle.model_board.specs.State.{BoardFunction}
-use Rattle.model_board.specs.AtReset.{board_at, IsNumbered}
-use Rattle.model_board.specs.FunctionTable.{TableRow, sized_table, board_in}
-use Rattle.model_board.specs.Layout.{IsLawful}
+use Rattle.model_board.specs.AtReset.{board_at}
+use Rattle.model_set_up.specs.Scanning.{IsNumbered, numbered_state}
+use Rattle.model_set_up.specs.FunctionTable.{TableRow, sized_table, board_in}
+use Rattle.model_set_up.specs.Layout.{IsLawful}
 use Rattle.model_board.specs.Routing.{routing}
-use Rattle.model_board.specs.Scanning.{numbered_state}
-use Rattle.model_board.specs.SetUp.{set_up_state}
-use Rattle.model_board.specs.SetUpWrites.{Plan, planned}
-use Rattle.model_board.specs.UniqueClaimant.{CanBePlaced, HasUniqueClaims}
+use Rattle.model_set_up.specs.SetUp.{set_up_state}
+use Rattle.model_set_up.specs.SetUpWrites.{Plan, planned}
+use Rattle.model_set_up.specs.UniqueClaimant.{CanBePlaced, HasUniqueClaims}
 use Rattle.host_bridge.specs.HostState.{HostState}
 use Rattle.bus_scan.specs.SizedTables.{IsTableOf}
 

@@ -1,7 +1,7 @@
 -- Where an item stands among the spots of a bus (this project's own order).
 --     IsFirstFrom ss i n      the spot at index n is the first whose item doesn't stand before i
 use Rattle.std.specs.Prelude.{List, ◌≡◌, ℕ, ◌<◌, ◌≤◌, Some, length, slice_get, IsTrue, IsFalse}
-use Rattle.model_board.specs.Placement.{Item, Spot, stands_before}
+use Rattle.model_set_up.specs.Placement.{Item, Spot, stands_before}
 
 pub record IsFirstFrom (ss : List Spot) (i : Item) (n : ℕ) : Type 0 where
   pub within : n ≤ length ss

@@ -12,7 +12,7 @@ use Rattle.model_registers.specs.BridgeTable.{Window, address_bits}
 use Rattle.model_board.specs.State.{BoardFunction}
 use Rattle.model_board.specs.Cycles.{BusAddress}
 use Rattle.model_board.specs.Ports.{after_config_write}
-use Rattle.model_board.specs.SetUpWrites.{Windows, Writes, to_endpoint, to_bridge, Setting}
+use Rattle.model_set_up.specs.SetUpWrites.{Windows, Writes, to_endpoint, to_bridge, Setting}
 use Rattle.host_bridge.specs.HostState.{HostState, with_functions, with_latch}
 
 pub record WordWrite : Type 0 where

@@ -1,7 +1,7 @@
 //! What stands above each function.
 ghost use Rattle.std.specs.Prelude.{◌≡◌, ℕ, suc, ◌≤◌, length, slice_get, IfOk};
 ghost use Rattle.model_board.specs.Board.{IsBoard};
-ghost use Rattle.model_board.specs.FunctionTable.{TableRow, board_in};
+ghost use Rattle.model_set_up.specs.FunctionTable.{TableRow, board_in};
 ghost use Rattle.window_packing.specs.Buses.{behind, nothing_above, AreAbove};
 ghost use Rattle.window_packing.specs.declared.above.Above.{Above as AboveValue};
 

@@ -20,7 +20,7 @@ pub struct Plan {
 }
 
 impl Model for Plan {
-    ghost use Rattle.model_board.specs.SetUpWrites.{Plan};
+    ghost use Rattle.model_set_up.specs.SetUpWrites.{Plan};
     ghost use Rattle.window_packing.specs.LayoutRows.{rows_of, AreListable};
 
     ghost Value = { Plan };

@@ -3,7 +3,7 @@ ghost use Rattle.std.specs.Prelude.{◌≡◌, ◌++◌, ◌≤◌, ◌^◌, Lis
 ghost use Rattle.model_registers.specs.Declarations.{Bridge};
 ghost use Rattle.window_packing.specs.Plans.{named_pool};
 ghost use Rattle.window_packing.specs.Packs.{IsOver, pool_items, regions_from, window_of, own_items};
-ghost use Rattle.model_board.specs.Pools.{unit_of};
+ghost use Rattle.model_set_up.specs.Pools.{unit_of};
 
 use crate::above::Above;
 use crate::item::Item;

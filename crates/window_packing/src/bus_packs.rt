@@ -1,11 +1,11 @@
 //! All buses of a board: what stands on a bus is known once those behind its bridges are packed.
 ghost use Rattle.std.specs.Prelude.{◌≡◌, ◌+◌, ◌<◌, ◌^◌, [], All, IfOk, IfSome, IsNone, IsFalse, MatchOption, length};
 ghost use Rattle.model_registers.specs.Apertures.{IsLawfulApertures};
-ghost use Rattle.model_registers.specs.Lists.{Each};
+ghost use Rattle.lists.specs.Elements.{Each};
 ghost use Rattle.model_board.specs.Board.{IsBoard};
 ghost use Rattle.model_board.specs.Lawful.{HasLawfulDecls};
-ghost use Rattle.model_board.specs.FunctionTable.{board_in};
-ghost use Rattle.model_board.specs.Placement.{fits};
+ghost use Rattle.model_set_up.specs.FunctionTable.{board_in};
+ghost use Rattle.model_set_up.specs.Placement.{fits};
 ghost use Rattle.window_packing.specs.Plans.{named_pool};
 ghost use Rattle.window_packing.specs.Buses.{AreAbove};
 ghost use Rattle.window_packing.specs.Packs.{pack_of, packs_of, IsBounded};

@@ -1,7 +1,7 @@
 //! What is placed on a bus.
 ghost use Rattle.std.specs.Ordering.{is_lt};
 ghost use Rattle.std.specs.Prelude.{◌≡◌};
-ghost use Rattle.model_board.specs.Placement.{register_of, stands_before};
+ghost use Rattle.model_set_up.specs.Placement.{register_of, stands_before};
 
 use crate::layout_row::Placed;
 use bridge_forward::Part;
@@ -19,7 +19,7 @@ pub(crate) struct Item {
 }
 
 impl Model for Item {
-    ghost use Rattle.model_board.specs.Placement.{Item};
+    ghost use Rattle.model_set_up.specs.Placement.{Item};
     ghost use Rattle.window_packing.specs.Plans.{named_placed, placed_named};
 
     ghost Value = { Item };
@@ -73,7 +73,7 @@ pub(crate) struct Spot {
 }
 
 impl Model for Spot {
-    ghost use Rattle.model_board.specs.Placement.{Spot};
+    ghost use Rattle.model_set_up.specs.Placement.{Spot};
 
     ghost Value = { Spot };
 

@@ -23,7 +23,7 @@ pub struct PlanRow {
 }
 
 impl Model for PlanRow {
-    ghost use Rattle.model_board.specs.Layout.{LayoutRow};
+    ghost use Rattle.model_set_up.specs.Layout.{LayoutRow};
     ghost use Rattle.window_packing.specs.Plans.{named_pool, named_placed};
 
     ghost Value = { LayoutRow };

@@ -37,7 +37,7 @@ mod uses;
 
 pub use board_plan::Plan;
 pub use layout_row::{Placed, PlanRow};
-pub use model_board::flat_need;
+pub use model_set_up::flat_need;
 pub use planning::plan;
 pub use pool::Pool;
 pub use programming::program;

@@ -1,6 +1,6 @@
 //! The items of a bus in the order in which they stand there.
 ghost use Rattle.std.specs.Prelude.{◌≡◌};
-ghost use Rattle.model_board.specs.Placement.{in_order};
+ghost use Rattle.model_set_up.specs.Placement.{in_order};
 ghost use Rattle.window_packing.specs.Packs.{HasOneOrder};
 
 use crate::item::Item;

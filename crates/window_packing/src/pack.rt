@@ -1,7 +1,7 @@
 //! One bus, its items placed one after the other.
 ghost use Rattle.std.specs.Prelude.{◌≡◌, ◌+◌, ◌<◌, ◌≤◌, ◌^◌, IfOk, IfSome, MatchOption};
-ghost use Rattle.model_registers.specs.Lists.{Each};
-ghost use Rattle.model_board.specs.Placement.{round_up, end_from, spots_from, in_order, alignment};
+ghost use Rattle.lists.specs.Elements.{Each};
+ghost use Rattle.model_set_up.specs.Placement.{round_up, end_from, spots_from, in_order, alignment};
 ghost use Rattle.window_packing.specs.Packs.{pack_items, IsPackable, HasLawfulAlign};
 
 use crate::item::{Item, Spot};

@@ -2,12 +2,12 @@
 ghost use Rattle.std.specs.Prelude.{◌≡◌, ◌<◌, ◌≤◌, ◌^◌, ◌⊎◌, [], IfSome, IfOk, IfErr, IsTrue, IsFalse, map};
 ghost use Rattle.std.specs.Option.{option_map_or};
 ghost use Rattle.model_registers.specs.Apertures.{Aperture as ApertureValue, IsLawfulApertures};
-ghost use Rattle.model_registers.specs.Lists.{Each, EachPair};
+ghost use Rattle.lists.specs.Elements.{Each, EachPair};
 ghost use Rattle.model_board.specs.Board.{Board, IsBoard};
 ghost use Rattle.model_board.specs.Lawful.{HasLawfulDecls};
-ghost use Rattle.model_board.specs.FunctionTable.{board_in};
-ghost use Rattle.model_board.specs.Pools.{aperture_of};
-ghost use Rattle.model_board.specs.Placement.{a_window, stands_before, is_item, offset_in, round_up, aperture_end, fits, bus_first};
+ghost use Rattle.model_set_up.specs.FunctionTable.{board_in};
+ghost use Rattle.model_set_up.specs.Pools.{aperture_of};
+ghost use Rattle.model_set_up.specs.Placement.{a_window, stands_before, is_item, offset_in, round_up, aperture_end, fits, bus_first};
 ghost use Rattle.bus_scan.specs.declared.fault.Fault.TheVariants.{Memory};
 ghost use Rattle.bus_scan.specs.declared.fault.Fault.{Fault as FaultValue};
 ghost use Rattle.window_packing.specs.Plans.{named_pool, fault_of};

@@ -1,7 +1,7 @@
 //! Where an item stands on a bus.
 ghost use Rattle.std.specs.Prelude.{◌≡◌, IsTrue};
-ghost use Rattle.model_registers.specs.Lists.{Each, EachPair};
-ghost use Rattle.model_board.specs.Placement.{stands_before, is_item, offset_in};
+ghost use Rattle.lists.specs.Elements.{Each, EachPair};
+ghost use Rattle.model_set_up.specs.Placement.{stands_before, is_item, offset_in};
 ghost use Rattle.window_packing.specs.Searching.{IsFirstFrom};
 
 use crate::item::{Item, Spot};

@@ -44,8 +44,8 @@ pub struct Setting {
 }
 
 impl Model for Setting {
-    ghost use Rattle.model_board.specs.SetUpWrites.{Setting};
-    ghost use Rattle.host_bridge.specs.BusAddresses.{bus_address_of};
+    ghost use Rattle.model_set_up.specs.SetUpWrites.{Setting};
+    ghost use Rattle.paths.specs.BusAddresses.{bus_address_of};
     ghost use Rattle.window_packing.specs.Plans.{writes_of};
 
     ghost Value = { Setting };

@@ -1,15 +1,15 @@
 //! What is written into each function.
 ghost use Rattle.std.specs.Prelude.{◌≡◌, ◌<◌, ◌≤◌, ◌+◌, ◌^◌, List, [], ◌∷◌, Some, if◌then◌else◌, slice_get, IfOk, IsTrue, map, length};
 ghost use Rattle.std.specs.List.{list_any};
-ghost use Rattle.model_registers.specs.Lists.{Each, EachPair};
+ghost use Rattle.lists.specs.Elements.{Each, EachPair};
 ghost use Rattle.model_registers.specs.Declarations.{Endpoint as EndpointValue};
 ghost use Rattle.model_board.specs.Board.{Row, IsBoard};
 ghost use Rattle.model_board.specs.Lawful.{HasLawfulDecls};
-ghost use Rattle.model_board.specs.FunctionTable.{board_in, sized_table};
-ghost use Rattle.model_board.specs.Pools.{unit_of};
-ghost use Rattle.model_board.specs.Placement.{a_region, is_item, Item as ItemValue, stands_before, offset_in, round_up};
-ghost use Rattle.model_board.specs.SetUp.{command_of, window_of, set_up_window};
-ghost use Rattle.model_board.specs.SetUpWrites.{placed_base, writes_of, settings};
+ghost use Rattle.model_set_up.specs.FunctionTable.{board_in, sized_table};
+ghost use Rattle.model_set_up.specs.Pools.{unit_of};
+ghost use Rattle.model_set_up.specs.Placement.{a_region, is_item, Item as ItemValue, stands_before, offset_in, round_up};
+ghost use Rattle.model_set_up.specs.SetUp.{command_of, window_of, set_up_window};
+ghost use Rattle.model_set_up.specs.SetUpWrites.{placed_base, writes_of, settings};
 ghost use Rattle.bars.specs.Kinds.{named_space};
 ghost use Rattle.bars.specs.Slots.{bases_from};
 ghost use Rattle.bus_scan.specs.Rows.{regions_of};

@@ -2,8 +2,8 @@
 ghost use Rattle.std.specs.Prelude.{◌≡◌, ◌-◌, [], IfOk, IfSome, nat_le};
 ghost use Rattle.model_board.specs.Board.{Board, IsBoard};
 ghost use Rattle.model_board.specs.Lawful.{HasLawfulDecls};
-ghost use Rattle.model_board.specs.FunctionTable.{board_in};
-ghost use Rattle.model_board.specs.Placement.{aperture_end, fits};
+ghost use Rattle.model_set_up.specs.FunctionTable.{board_in};
+ghost use Rattle.model_set_up.specs.Placement.{aperture_end, fits};
 ghost use Rattle.bus_scan.specs.SizedTables.{IsTableOf};
 ghost use Rattle.window_packing.specs.Buses.{AreAbove};
 ghost use Rattle.window_packing.specs.Packs.{pack_of, IsBounded};

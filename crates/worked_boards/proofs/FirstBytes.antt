@@ -1,19 +1,19 @@
 -- The first byte of a placed region is claimed by that region.
 use Rattle.std.proofs.Common.{◌≡◌, ℕ, ◌<◌, ◌==◌, ◌&&◌, Bool, true, false, cond, List, Some, refl, sym, ap, ◌∙◌, subst, arith, zero, suc, inl, inr, [], ◌∷◌, length, get_or}
-use Rattle.model_registers.specs.Lists.{Each}
-use Rattle.model_board.specs.Members.{IsIn}
+use Rattle.lists.specs.Elements.{Each, IsIn}
 use Rattle.model_board.specs.Paths.{Path}
 use Rattle.model_board.specs.Board.{Board}
-use Rattle.model_board.specs.SetUpWrites.{Plan}
+use Rattle.model_set_up.specs.SetUpWrites.{Plan}
 use Rattle.model_board.specs.Claims.{first_claim}
 use Rattle.model_board.specs.Ports.{config_address, ordinary, port_target, claim_reply}
-use Rattle.model_board.specs.Pools.{Pool, Apertures}
-use Rattle.model_board.specs.Placement.{Placed, a_region, a_window}
-use Rattle.model_board.specs.Layout.{LayoutRow, layout}
-use Rattle.model_board.specs.PlacedRegions.{PlacedRegion, placed_regions, placed_row, pool_space}
-use Rattle.model_board.specs.UniqueClaimant.{IsClaimed}
-use Rattle.model_board.proofs.Members.{each_in, each_from, in_flat_map}
-use Rattle.model_board.proofs.UniqueClaimant.{rows_are_placed as rows_law}
+use Rattle.model_set_up.specs.Pools.{Pool}
+use Rattle.model_registers.specs.Apertures.{Apertures}
+use Rattle.model_set_up.specs.Placement.{Placed, a_region, a_window}
+use Rattle.model_set_up.specs.Layout.{LayoutRow, layout}
+use Rattle.model_set_up.specs.PlacedRegions.{PlacedRegion, placed_regions, placed_row, pool_space}
+use Rattle.model_set_up.specs.UniqueClaimant.{IsClaimed}
+use Rattle.lists.proofs.Members.{each_in, each_from, in_flat_map}
+use Rattle.model_set_up.proofs.UniqueClaimant.{rows_are_placed as rows_law}
 use Rattle.host_bridge.specs.HostState.{HostState}
 use Rattle.window_packing.specs.Readies.{ReadyBoard, OwnClaims, IsReady, board_below}
 

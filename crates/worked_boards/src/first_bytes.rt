@@ -1,9 +1,8 @@
 //! A caller of set-up: it takes the board apart and reads the first byte of each placed region.
 ghost use Rattle.std.specs.Prelude.{◌≡◌, ◌<◌, Some};
-ghost use Rattle.model_registers.specs.Lists.{Each};
-ghost use Rattle.model_board.specs.Members.{IsIn};
+ghost use Rattle.lists.specs.Elements.{Each, IsIn};
 ghost use Rattle.model_board.specs.Ports.{claim_reply};
-ghost use Rattle.model_board.specs.PlacedRegions.{PlacedRegion, placed_regions, placed_row};
+ghost use Rattle.model_set_up.specs.PlacedRegions.{PlacedRegion, placed_regions, placed_row};
 ghost use Rattle.window_packing.specs.Readies.{OwnClaims, board_below};
 
 use crate::boards::*;

@@ -1,9 +1,11 @@
-//! The examples that `host_bridge`, `window_packing` and `monitor` show in their headings, as tests.
+//! The examples that `host_bridge`, `firmware`, `window_packing` and `monitor` show in their headings, as
+//! tests.
 
 use crate::asks::guests as guests_of;
 use crate::boards::MAIN;
 use accesses::{Access, At, HostAccess, HostAt, Op, Reply};
 use board_file::read_board;
+use firmware::{read, run_line, write};
 use host_bridge::{Bdf, TreeWalk};
 use monitor::Monitor;
 use std::test::Fail;
@@ -25,6 +27,28 @@ fn cycles_and_accesses_of_a_host(rt: HostRuntime) -> Result<(), Fail> {
     let low_half = host.load(&TreeWalk, 0xc000_0010, 2);
     assert_eq!(rt; identity, 0x0001_1234);
     assert_eq!(rt; low_half, 0x5678);
+    Ok(())
+}
+
+#[test]
+fn a_bridge_is_numbered_by_hand(rt: HostRuntime) -> Result<(), Fail> {
+    let (mut host, _) = read_board(rt.alloc(), MAIN.as_bytes())?;
+    let bridge = Bdf {
+        bus: 0,
+        device: 2,
+        function: 0,
+    };
+    let at = HostAt::Config {
+        bdf: bridge,
+        off: 0x18,
+    };
+    let numbers = HostAccess { at, width: 4 };
+    let numbered = write(&mut host, numbers, 0x0001_0100);
+    let numbers = read(&mut host, numbers);
+    let behind = run_line(&mut host, b"host cr 01:00.0 0 4");
+    assert!(rt; numbered == Reply::Done);
+    assert!(rt; numbers == Reply::Value(0x0001_0100, 4));
+    assert_eq!(rt; behind.as_slice(), b"host: 0x00031234\n".as_slice());
     Ok(())
 }
 

@@ -1,6 +1,6 @@
 use Rattle.std.proofs.Common.{◌≡◌, ◌++◌, map, drop}
 use Rattle.std.specs.List.{range_with_len, enumerate_from, flat_map}
-use Rattle.board_check.specs.declared.entry.Entry.TheVariants as entry
+use Rattle.board_file.specs.declared.entry.Entry.TheVariants as entry
 use Rattle.board_check.specs.Problems.{with_endpoint, with_guest}
 use Rattle.board_check.proofs.finding.entries.Given as goal
 

@@ -2,7 +2,8 @@ use Rattle.std.proofs.Common.{◌≡◌, ◌++◌, map, drop}
 use Rattle.std.specs.List.{flat_map, filter}
 use Rattle.toml.specs.View.{table_view}
 use Rattle.board_file.specs.Schema.{field_of}
-use Rattle.board_check.specs.Problems.{found_of, of_field, is_wrong}
+use Rattle.board_file.specs.Problems.{found_of}
+use Rattle.board_check.specs.Problems.{of_field, is_wrong}
 use Rattle.board_check.proofs.finding.push_fields.Given as goal
 
 abbrev pub invariant-fields : goal.invariant-fields

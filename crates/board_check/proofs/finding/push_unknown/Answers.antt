@@ -1,7 +1,8 @@
 use Rattle.std.proofs.Common.{◌++◌, ◌∷◌, [], map, string_bytes, append-nil, option_map, sym, ap, ◌∙◌}
 use Rattle.toml.specs.View.{table_view}
 use Rattle.std.specs.List.{filter, flat_map}
-use Rattle.board_check.specs.Problems.{found_of, of_member, is_wrong}
+use Rattle.board_file.specs.Problems.{found_of}
+use Rattle.board_check.specs.Problems.{of_member, is_wrong}
 use Rattle.board_check.proofs.Asked.{after_members}
 use Rattle.board_check.proofs.finding.push_unknown.Goals as goal
 

@@ -2,7 +2,8 @@ use Rattle.std.proofs.Common.{◌≡◌, ◌++◌, [], ◌∷◌, map}
 use Rattle.std.specs.List.{flat_map, filter}
 use Rattle.std.specs.Prelude.{string_bytes}
 use Rattle.toml.specs.View.{table_view}
-use Rattle.board_check.specs.Problems.{found_of, of_member, is_wrong}
+use Rattle.board_file.specs.Problems.{found_of}
+use Rattle.board_check.specs.Problems.{of_member, is_wrong}
 use Rattle.board_check.proofs.finding.push_unknown.Given as goal
 
 abbrev pub invariant-members : goal.invariant-members

@@ -1,4 +1,4 @@
-use Rattle.board_check.proofs.BrokenChecks.{problems_break_checks}
+use Rattle.board_check.proofs.Refusals.{problems_break_checks}
 use Rattle.board_check.proofs.laws.problems_break_checks.Goals as goal
 
 pub returns : goal.returns

@@ -1,8 +1,8 @@
 use Rattle.std.proofs.Common.{◌≡◌, List, [], ◌∷◌, ◌++◌, map, refl, ap, subst, ◌∙◌}
 use Rattle.toml.specs.View.{table_view}
-use Rattle.model_registers.specs.Lists.{Each}
+use Rattle.lists.specs.Elements.{Each}
 use Rattle.board_check.specs.declared.lines.Told.{Told}
-use Rattle.board_check.specs.Problems.{found_of}
+use Rattle.board_file.specs.Problems.{found_of}
 use Rattle.board_check.specs.Telling.{problem_of, found_in, HasLine}
 use Rattle.board_check.specs.Texts.{lines_text}
 use Rattle.board_check.proofs.telling.refusal.Goals as goal

@@ -1,5 +1,5 @@
 use Rattle.std.proofs.Common.{◌≡◌, ◌++◌, map, drop}
-use Rattle.model_registers.specs.Lists.{Each}
+use Rattle.lists.specs.Elements.{Each}
 use Rattle.board_file.specs.Functions.{guest}
 use Rattle.board_file.specs.Judged.{IsShortGuest}
 use Rattle.board_file.proofs.board.guests.Given as goal

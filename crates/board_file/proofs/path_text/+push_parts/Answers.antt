@@ -1,19 +1,19 @@
 use Rattle.std.proofs.Common.{◌≡◌, suc, ◌-◌, ◌∙◌, sym, ap, is_some, Some, drop, arith}
+use Rattle.std.proofs.lemmas.List.{take_rest}
 use Rattle.board_file.specs.PathTexts.{part_at_front}
-use Rattle.bridge_forward.proofs.Standings.{rest_is}
 use Rattle.board_file.proofs.PathSteps.{one_more, some_map, pushed_after}
 use Rattle.board_file.proofs.path_text.+push_parts.Goals as goal
 
 pub returns-in-Some-clause-all : goal.returns-in-Some-clause-all
 returns-in-Some-clause-all t c =
     let room : c.args.room ≡ suc (c.args.room - 1) = omega arith in
-    let found : part_at_front (drop 1 c.args.text.now) ≡ Some (c.in-Some.found.0, c.in-Some.found.1.now) = rw (rest_is c.args.text.now 1) at (sym c.in-Some.ensures) in
+    let found : part_at_front (drop 1 c.args.text.now) ≡ Some (c.in-Some.found.0, c.in-Some.found.1.now) = rw (take_rest c.args.text.now 1) at (sym c.in-Some.ensures) in
     let e = one_more c.args.room (c.args.room - 1) c.args.text.now (c.in-Some.found.0, c.in-Some.found.1.now) (omega arith) room c.if-slash-ne47.false found in
     c.push_parts.ensures.all ∙ sym (ap is_some e ∙ some_map _ _)
 
 pub returns-in-Some-clause-pushed : goal.returns-in-Some-clause-pushed
 returns-in-Some-clause-pushed t c =
     let room : c.args.room ≡ suc (c.args.room - 1) = omega arith in
-    let found : part_at_front (drop 1 c.args.text.now) ≡ Some (c.in-Some.found.0, c.in-Some.found.1.now) = rw (rest_is c.args.text.now 1) at (sym c.in-Some.ensures) in
+    let found : part_at_front (drop 1 c.args.text.now) ≡ Some (c.in-Some.found.0, c.in-Some.found.1.now) = rw (take_rest c.args.text.now 1) at (sym c.in-Some.ensures) in
     let e = one_more c.args.room (c.args.room - 1) c.args.text.now (c.in-Some.found.0, c.in-Some.found.1.now) (omega arith) room c.if-slash-ne47.false found in
     rw e (pushed_after c.in-Some.found.0 _ c.args.path.now _ _ c.push.ensures c.push_parts.ensures.pushed)

@@ -3,7 +3,7 @@ use Rattle.model_registers.specs.Cell.{Cell}
 use Rattle.config_bytes.specs.CellFile.{HasDistinctOffsets, offsets_from, file_of}
 use Rattle.config_bytes.proofs.Offsets.{file_of-offsets_from, HasDistinctOffsets-offsets_from}
 use Rattle.bridge_forward.specs.EndpointParts.{as_made}
-use Rattle.bridge_forward.proofs.Indices.{read_at}
+use Rattle.lists.proofs.Indices.{read_at}
 use Rattle.bridge_forward.proofs.BlockLists.{offsets_next, take_all, if_ok}
 use Rattle.bridge_forward.proofs.blocks.block_file.Goals as goal
 

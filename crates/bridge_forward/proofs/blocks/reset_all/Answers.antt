@@ -1,6 +1,6 @@
 use Rattle.std.proofs.Common.{◌∙◌, ap, sym, arith}
 use Rattle.config_bytes.specs.CellFile.{CellFile}
-use Rattle.bridge_forward.proofs.Indices.{read_at}
+use Rattle.lists.proofs.Indices.{read_at}
 use Rattle.bridge_forward.proofs.BlocksReset.{first_next, first_all}
 use Rattle.bridge_forward.proofs.blocks.reset_all.Goals as goal
 

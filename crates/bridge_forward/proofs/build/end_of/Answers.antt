@@ -3,7 +3,7 @@ use Rattle.std.proofs.lemmas.List.{length-map}
 use Rattle.std.proofs.lemmas.Option.{slice_get-get_or}
 use Rattle.bridge_forward.specs.declared.bus.Node.{Node}
 use Rattle.bridge_forward.specs.Layout.{paths_of}
-use Rattle.bridge_forward.proofs.Indices.{map_at}
+use Rattle.lists.proofs.Indices.{map_at}
 use Rattle.bridge_forward.proofs.Extents.{behind_more, stops, stops_past}
 use Rattle.bridge_forward.proofs.build.end_of.Goals as goal
 

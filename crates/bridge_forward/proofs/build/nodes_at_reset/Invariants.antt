@@ -1,5 +1,5 @@
 use Rattle.std.proofs.Common.{◌≡◌, map}
-use Rattle.model_registers.specs.Lists.{Each}
+use Rattle.lists.specs.Elements.{Each}
 use Rattle.model_board.specs.Board.{is_multifunction}
 use Rattle.model_board.specs.Lawful.{IsLawfulDecl}
 use Rattle.model_board.specs.Places.{board_of}

@@ -1,5 +1,5 @@
 use Rattle.std.proofs.Common.{◌↔◌, IsFalse, map, drop}
-use Rattle.model_registers.specs.Lists.{EachPair}
+use Rattle.lists.specs.Elements.{EachPair}
 use Rattle.model_board.specs.Paths.{path_eq}
 use Rattle.bridge_forward.proofs.places.are_apart.Given as goal
 

@@ -1,5 +1,5 @@
 use Rattle.std.proofs.Common.{◌↔◌, map, drop}
-use Rattle.model_registers.specs.Lists.{Each}
+use Rattle.lists.specs.Elements.{Each}
 use Rattle.model_board.specs.Places.{IsFounded}
 use Rattle.bridge_forward.proofs.places.are_founded.Given as goal
 

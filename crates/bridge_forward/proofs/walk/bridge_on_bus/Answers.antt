@@ -1,5 +1,5 @@
 use Rattle.std.proofs.Common.{arith, sym, ◌∙◌}
-use Rattle.bridge_forward.proofs.Indices.{read_at}
+use Rattle.lists.proofs.Indices.{read_at}
 use Rattle.bridge_forward.proofs.Nodes.{inside}
 use Rattle.bridge_forward.proofs.Searching.{passed_none, passed_next, first_here, none_on_bus}
 use Rattle.bridge_forward.proofs.Skipping.{passed_at, passed_whole}

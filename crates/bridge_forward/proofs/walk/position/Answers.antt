@@ -1,9 +1,9 @@
 use Rattle.std.proofs.Common.{◌≡◌, Ordering, Less, Equal, Greater, ◌+◌, ◌-◌, ◌/◌, arith, ap, sym, ◌∙◌}
 use Rattle.std.specs.Ordering.{is_eq, is_lt}
 use Rattle.model_board.specs.Paths.{Path, path_eq, path_before}
-use Rattle.bridge_forward.specs.PathOrders.{path_cmp}
-use Rattle.bridge_forward.specs.PathLaws.{paths_tied, paths_before}
-use Rattle.bridge_forward.proofs.Indices.{read_at}
+use Rattle.paths.specs.PathOrders.{path_cmp}
+use Rattle.paths.specs.PathLaws.{paths_tied, paths_before}
+use Rattle.lists.proofs.Indices.{read_at}
 use Rattle.bridge_forward.proofs.Halving.{here, below_here, above_here, nowhere}
 use Rattle.bridge_forward.proofs.walk.position.Goals as goal
 

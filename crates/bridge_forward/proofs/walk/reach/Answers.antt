@@ -4,7 +4,7 @@ use Rattle.std.specs.Prelude.{IfSome, IfNone, find}
 use Rattle.model_board.specs.Paths.{Path}
 use Rattle.bridge_forward.specs.Layout.{functions_of}
 use Rattle.bridge_forward.specs.Search.{is_named, IsSide, IsAt}
-use Rattle.bridge_forward.proofs.Indices.{read_at}
+use Rattle.lists.proofs.Indices.{read_at}
 use Rattle.bridge_forward.proofs.Nodes.{side_root, side_behind}
 use Rattle.bridge_forward.proofs.Reached.{type1_found, type1_missed}
 use Rattle.bridge_forward.proofs.walk.reach.Goals as goal

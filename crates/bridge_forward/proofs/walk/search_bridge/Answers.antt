@@ -1,6 +1,6 @@
 use Rattle.std.proofs.Common.{[], arith, sym, ◌∙◌}
-use Rattle.model_registers.proofs.Tests.{right_true}
-use Rattle.bridge_forward.proofs.Indices.{read_at}
+use Rattle.lists.proofs.Tests.{right_true}
+use Rattle.lists.proofs.Indices.{read_at}
 use Rattle.bridge_forward.proofs.Nodes.{side_root, side_behind}
 use Rattle.bridge_forward.proofs.Reaching.{passing_root}
 use Rattle.bridge_forward.proofs.Reached.{no_taker, next, leads_elsewhere, leads_here}

@@ -1,8 +1,8 @@
 use Rattle.std.proofs.Common.{◌≡◌, List, [], sym, ap, subst, refl, inl, ◌∙◌}
 use Rattle.std.proofs.lemmas.Result.{err_from_is_err_and}
-use Rattle.model_board.specs.FunctionTable.{TableRow, scanned_table}
-use Rattle.model_board.specs.ScanOrder.{on}
-use Rattle.model_board.specs.Scanning.{board_numbers}
+use Rattle.model_set_up.specs.FunctionTable.{TableRow, scanned_table}
+use Rattle.model_set_up.specs.ScanOrder.{on}
+use Rattle.model_set_up.specs.Scanning.{board_numbers}
 use Rattle.model_board.specs.AtReset.{board_at, IsAtReset}
 use Rattle.model_board.specs.State.{State}
 use Rattle.bus_scan.specs.Scans.{IsAt, OnBus}

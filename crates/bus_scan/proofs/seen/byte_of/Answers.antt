@@ -1,6 +1,6 @@
 use Rattle.std.proofs.Common.{◌*◌, ◌/◌, ◌%◌, ◌^◌, ap, ◌∙◌}
 use Rattle.std.proofs.lemmas.Nat.{and_mask}
-use Rattle.host_bridge.proofs.PortAccesses.{byte_power}
+use Rattle.config_bytes.proofs.Shifts.{byte_power}
 use Rattle.bus_scan.proofs.seen.byte_of.Goals as goal
 
 pub returns : goal.returns

@@ -1,7 +1,7 @@
 use Rattle.std.proofs.Common.{◌≡◌, ◌+◌, ◌*◌, ◌≤◌, ◌⊎◌, inl, inr, sym, ap, ◌∙◌, subst, arith}
 use Rattle.std.specs.Prelude.{bit_and}
 use Rattle.model_registers.specs.ByteEnables.{lanes}
-use Rattle.host_bridge.specs.BusAddresses.{bus_address_of}
+use Rattle.paths.specs.BusAddresses.{bus_address_of}
 use Rattle.host_bridge.specs.HostState.{HostState}
 use Rattle.bus_scan.specs.Probes.{mask_shown, TakesBack, regions_reached}
 use Rattle.bus_scan.proofs.ProbedEndpoints.{mask_at}

@@ -1,4 +1,4 @@
-use Rattle.host_bridge.specs.BusAddresses.{bus_address_of}
+use Rattle.paths.specs.BusAddresses.{bus_address_of}
 use Rattle.bus_scan.proofs.BarSlots.{BarsBelow}
 use Rattle.bus_scan.proofs.sizing.size_bars.Given as goal
 

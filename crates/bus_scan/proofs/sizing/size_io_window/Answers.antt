@@ -1,5 +1,5 @@
 use Rattle.std.proofs.Common.{◌∙◌}
-use Rattle.host_bridge.specs.BusAddresses.{bus_address_of}
+use Rattle.paths.specs.BusAddresses.{bus_address_of}
 use Rattle.bus_scan.specs.Probes.{io_reached}
 use Rattle.bus_scan.proofs.SizedFunctions.{io_taken, io_shown, io_none, io_narrow, io_wide}
 use Rattle.bus_scan.proofs.sizing.size_io_window.Goals as goal

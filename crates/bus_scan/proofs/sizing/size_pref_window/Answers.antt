@@ -1,5 +1,5 @@
 use Rattle.std.proofs.Common.{◌∙◌}
-use Rattle.host_bridge.specs.BusAddresses.{bus_address_of}
+use Rattle.paths.specs.BusAddresses.{bus_address_of}
 use Rattle.bus_scan.specs.Probes.{pref_reached}
 use Rattle.bus_scan.proofs.SizedFunctions.{pref_taken, pref_shown, pref_none, pref_narrow, pref_wide}
 use Rattle.bus_scan.proofs.sizing.size_pref_window.Goals as goal

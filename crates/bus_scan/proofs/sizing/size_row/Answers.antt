@@ -1,7 +1,7 @@
 use Rattle.std.proofs.Common.{◌≡◌, sym, ap, ◌∙◌, subst}
-use Rattle.host_bridge.specs.BusAddresses.{bus_address_of}
+use Rattle.paths.specs.BusAddresses.{bus_address_of}
 use Rattle.host_bridge.specs.HostState.{HostState}
-use Rattle.model_board.specs.FunctionTable.{TableRow}
+use Rattle.model_set_up.specs.FunctionTable.{TableRow}
 use Rattle.bus_scan.specs.declared.table.Found.TheVariants as variants
 use Rattle.bus_scan.specs.declared.table.FunctionRow.TheInside.{Inside}
 use Rattle.bus_scan.specs.Rows.{decl_of}

@@ -1,4 +1,4 @@
-use Rattle.std.proofs.Common.{◌≡◌, ◌++◌, ◌≤◌, map, take}
+use Rattle.std.proofs.Common.{◌≡◌, ◌++◌, map, take}
 use Rattle.bars.specs.Kinds.{named_space}
 use Rattle.bars.specs.Slots.{bases_from}
 use Rattle.claim_table.specs.Entries.{entry_for, of_space}

@@ -1,7 +1,7 @@
-use Rattle.std.proofs.Common.{◌≡◌, ◌++◌, [], List, ap, sym, ◌∙◌}
+use Rattle.std.proofs.Common.{◌++◌, ap, sym, ◌∙◌}
 use Rattle.std.proofs.lemmas.List.{append-nil}
 use Rattle.bars.specs.Kinds.{named_space}
-use Rattle.model_board.specs.SetUpWrites.{Setting}
+use Rattle.model_set_up.specs.SetUpWrites.{Setting}
 use Rattle.window_packing.specs.Plans.{writes_of}
 use Rattle.window_packing.specs.declared.setting.Writes.{Writes}
 use Rattle.claim_table.specs.Entries.{entries_at}

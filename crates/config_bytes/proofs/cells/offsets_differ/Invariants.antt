@@ -1,5 +1,5 @@
 use Rattle.std.proofs.Common.{◌≡◌, length}
-use Rattle.model_registers.specs.Lists.{all_pairs}
+use Rattle.lists.specs.Elements.{all_pairs}
 use Rattle.config_bytes.specs.CellFile.{differ}
 use Rattle.config_bytes.proofs.cells.offsets_differ.Given as goal
 

@@ -1,5 +1,5 @@
 use Rattle.std.proofs.Common.{◌≡◌, length}
-use Rattle.model_registers.specs.Lists.{all_pairs}
+use Rattle.lists.specs.Elements.{all_pairs}
 use Rattle.model_registers.specs.DeclarationRules.{blocks_apart}
 use Rattle.headers.proofs.config_block.are_apart.Given as goal
 

@@ -1,6 +1,6 @@
 use Rattle.std.proofs.Common.{◌≡◌, ◌++◌, length}
 use Rattle.std.specs.Prelude.{flat_map}
-use Rattle.model_registers.specs.Lists.{Each}
+use Rattle.lists.specs.Elements.{Each}
 use Rattle.model_registers.specs.DeclarationRules.{IsConfigBlock}
 use Rattle.model_registers.specs.EndpointTable.{block_cells}
 use Rattle.config_bytes.specs.CellFile.{file_of}

@@ -1,8 +1,9 @@
 use Rattle.std.proofs.Common.{◌≡◌, List, map, take, sym, ap, subst, ◌∙◌, arith}
 use Rattle.std.proofs.lemmas.List.{take_all}
+use Rattle.model_registers.proofs.Bases.{registers_positive}
 use Rattle.model_registers.specs.Declarations.{Bar, Region, IsLawfulRegion, HasLawfulRegions}
 use Rattle.model_registers.specs.EndpointTable.{BaseAddress, opened, closed}
-use Rattle.headers.proofs.BaseRegisters.{each_at, some_registers, next_register, opened_lawful}
+use Rattle.headers.proofs.BaseRegisters.{each_at, next_register, opened_lawful}
 use Rattle.headers.proofs.region.base_registers.Goals as goal
 
 pub loop-region-preserved : goal.loop-region-preserved
@@ -13,7 +14,7 @@ loop-region-preserved c =
     let at : c.from.result ≡ r.index = c.from.ensures ∙ ap (λ (q : Region). q.index) c.region.view_is in
     let lawful : IsLawfulRegion r = subst IsLawfulRegion (sym c.region-item.is) (each_at IsLawfulRegion rs i r c.requires.each (omega arith)) in
     let within = lawful.registers in
-    next_register c.loop-region.bars rs i c.from.result r c.region.inside.bar c.requires.in_order (omega arith) c.region-item.is at (omega (arith, some_registers r.kind))
+    next_register c.loop-region.bars rs i c.from.result r c.region.inside.bar c.requires.in_order (omega arith) c.region-item.is at (omega (arith, registers_positive r.kind))
     (ap (λ (q : Region). let b : Bar = record { kind = q.kind; size = q.size } in b) c.region.view_is) c.loop-region.invariant
 
 pub returns-clause-lawful : goal.returns-clause-lawful

@@ -1,6 +1,6 @@
 use Rattle.std.proofs.Common.{◌≡◌, Bool, List, length, leb}
 use Rattle.std.specs.List.{list_all}
-use Rattle.model_registers.specs.Lists.{Each}
+use Rattle.lists.specs.Elements.{Each}
 use Rattle.model_registers.specs.Declarations.{Region, IsLawfulSize}
 use Rattle.headers.proofs.region.blocks_fit.Given as goal
 

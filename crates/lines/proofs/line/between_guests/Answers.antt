@@ -2,8 +2,7 @@ use Rattle.std.proofs.Common.{◌≡◌, None, Some, option_map, sym, ap, ◌∙
 use Rattle.model_guests.specs.Guests.{Move}
 use Rattle.model_guests.specs.Lines.{host_move}
 use Rattle.lines.specs.Lines.{texts, name_of}
-use Rattle.lines.proofs.NameLemmas.{place_of, place_of-names, has_name-Some, has_name-None, name_of-found}
-use Rattle.lines.proofs.NameLemmas.{IsFirst-found, moved, move_there, move_from_nobody, move_to_nobody}
+use Rattle.lines.proofs.NameLemmas.{place_of, place_of-names, has_name-Some, has_name-None, name_of-found, IsFirst-found, moved, move_there, move_from_nobody, move_to_nobody}
 use Rattle.lines.proofs.line.between_guests.Goals as goal
 
 pub returns-in_err-from-clause-meaning : goal.returns-in_err-from-clause-meaning

@@ -3,8 +3,7 @@ use Rattle.model_guests.specs.Text.{words}
 use Rattle.model_guests.specs.Grammar.{event_of}
 use Rattle.model_guests.specs.Lines.{event_or_bad, meaning_of_words}
 use Rattle.lines.specs.Lines.{texts, name_of}
-use Rattle.lines.proofs.NameLemmas.{place_of, place_of-names, has_name-Some, name_of-found, IsFirst-found}
-use Rattle.lines.proofs.NameLemmas.{meaning-short, meaning_of_words-guest}
+use Rattle.lines.proofs.NameLemmas.{place_of, place_of-names, has_name-Some, name_of-found, IsFirst-found, meaning-short, meaning_of_words-guest}
 use Rattle.lines.proofs.line.guest_access.Goals as goal
 
 pub returns-clause-meaning : goal.returns-clause-meaning

@@ -3,8 +3,7 @@ use Rattle.model_guests.specs.Text.{words}
 use Rattle.model_guests.specs.Grammar.{event_of}
 use Rattle.model_guests.specs.Lines.{event_or_bad}
 use Rattle.lines.specs.Lines.{texts, IsFirst}
-use Rattle.lines.proofs.NameLemmas.{place_of, place_of-names, has_name-Some, has_name-None, name_of-found}
-use Rattle.lines.proofs.NameLemmas.{IsFirst-found, guests_are_this, meaning_of_words-guest, meaning_of_words-unknown}
+use Rattle.lines.proofs.NameLemmas.{place_of, place_of-names, has_name-Some, has_name-None, name_of-found, IsFirst-found, guests_are_this, meaning_of_words-guest, meaning_of_words-unknown}
 use Rattle.lines.proofs.line.named_line.Goals as goal
 
 pub returns-in-Some-clause-meaning : goal.returns-in-Some-clause-meaning

@@ -1,9 +1,9 @@
 use Rattle.std.proofs.Common.{◌≡◌, ◌+◌, List, take, ap, sym, ◌∙◌, subst}
 use Rattle.std.specs.Prelude.{IsSome}
-use Rattle.model_registers.specs.Lists.{Each}
+use Rattle.lists.specs.Elements.{Each}
 use Rattle.model_board.specs.Paths.{Path}
 use Rattle.model_guests.specs.World.{Guest as Declared, World, declared}
-use Rattle.bridge_forward.proofs.Indices.{read_at}
+use Rattle.lists.proofs.Indices.{read_at}
 use Rattle.monitor.specs.declared.guest.Guest.{Guest}
 use Rattle.monitor.specs.Beginnings.{world_of, AreSlotsAtFirst}
 use Rattle.monitor.proofs.FirstGuests.{slots_declared, AreFirst, guest_pushed}

@@ -1,5 +1,5 @@
 use Rattle.std.proofs.Common.{◌<◌, length, ap, sym, ◌∙◌, subst, arith}
-use Rattle.model_board.specs.SetUpWrites.{Plan}
+use Rattle.model_set_up.specs.SetUpWrites.{Plan}
 use Rattle.monitor.proofs.FirstIndices.{InOrder}
 use Rattle.monitor.proofs.FirstFunctions.{in_order, in_rows, in_settings, lawful_row, slot_at_first}
 use Rattle.monitor.proofs.beginning.held_at.Goals as goal

@@ -1,6 +1,6 @@
 use Rattle.std.proofs.Common.{ap, ◌∙◌}
-use Rattle.model_board.specs.FunctionTable.{TableRow}
-use Rattle.model_board.specs.SetUpWrites.{Setting}
+use Rattle.model_set_up.specs.FunctionTable.{TableRow}
+use Rattle.model_set_up.specs.SetUpWrites.{Setting}
 use Rattle.monitor.proofs.FirstFunctions.{held_at_first}
 use Rattle.monitor.proofs.beginning.held_of.Goals as goal
 

@@ -1,5 +1,5 @@
 use Rattle.std.proofs.Common.{◌≡◌, ◌+◌, ◌-◌, ℕ, suc, Option, List, length, take, sym, subst, arith}
-use Rattle.bridge_forward.proofs.Indices.{read_at}
+use Rattle.lists.proofs.Indices.{read_at}
 use Rattle.monitor.specs.declared.guest.Held.{Held}
 use Rattle.monitor.proofs.FirstGuests.{AreSlotsWith, slot_pushed, all_filled, empty_pushed, all_slots}
 use Rattle.monitor.proofs.beginning.slots_of.Goals as goal

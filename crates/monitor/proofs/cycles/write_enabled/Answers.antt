@@ -1,5 +1,5 @@
 use Rattle.std.proofs.Common.{ap, sym}
-use Rattle.host_bridge.specs.BusAddresses.{bus_address_of}
+use Rattle.paths.specs.BusAddresses.{bus_address_of}
 use Rattle.host_bridge.specs.HostState.{with_functions}
 use Rattle.monitor.proofs.EmptyCycles.{nothing_written}
 use Rattle.monitor.proofs.cycles.write_enabled.Goals as goal

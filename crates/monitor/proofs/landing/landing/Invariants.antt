@@ -1,7 +1,7 @@
 use Rattle.std.proofs.Common.{◌≡◌, List, Option, drop}
 use Rattle.model_board.specs.Paths.{Path}
 use Rattle.model_board.specs.Board.{Board}
-use Rattle.model_board.specs.Pools.{Apertures}
+use Rattle.model_registers.specs.Apertures.{Apertures}
 use Rattle.model_guests.specs.Slots.{Slots, landing_from}
 use Rattle.bars.specs.Kinds.{named_space}
 use Rattle.monitor.specs.Keeping.{AreSlots}

@@ -1,7 +1,7 @@
 use Rattle.std.proofs.Common.{◌≡◌, ◌++◌, string_bytes, codes, ap, ◌∙◌, append_assoc, refl, subst}
 use Rattle.std.proofs.lemmas.Result.{IfOk-equal}
 use Rattle.window_packing.specs.Plans.{writes_of}
-use Rattle.model_board.specs.FunctionTable.{TableRow}
+use Rattle.model_set_up.specs.FunctionTable.{TableRow}
 use Rattle.report.specs.Found.{row_head, range_text, windows_text, found_text}
 use Rattle.report.proofs.lines.push_function.Goals as goal
 

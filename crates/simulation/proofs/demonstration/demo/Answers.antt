@@ -1,7 +1,7 @@
 use Rattle.std.proofs.Common.{rules, ◌≡◌, ◌<◌, Some, subst}
 use Rattle.std.specs.Prelude.{OnOk, IfErr}
 use Rattle.model_registers.specs.DeclarationRules.{first_broken}
-use Rattle.model_board.specs.SetUpWrites.{set_up_rules}
+use Rattle.model_set_up.specs.SetUpWrites.{set_up_rules}
 use Rattle.model_guests.specs.Text.{Text}
 use Rattle.model_guests.specs.World.{World}
 use Rattle.simulation.specs.Demo.{demo_board}

@@ -3,15 +3,15 @@ use Rattle.std.specs.Io.KnownBytes.{Appends}
 use Rattle.streams.specs.Ends.{AppendsPart}
 use Rattle.model_registers.specs.DeclarationRules.{first_broken}
 use Rattle.model_board.specs.Board.{Board}
-use Rattle.model_board.specs.Pools.{Apertures}
-use Rattle.model_board.specs.SetUpWrites.{set_up_rules}
+use Rattle.model_registers.specs.Apertures.{Apertures}
+use Rattle.model_set_up.specs.SetUpWrites.{set_up_rules}
 use Rattle.host_bridge.specs.HostState.{HostState}
 use Rattle.bus_scan.specs.SizedTables.{IsTableOf}
 use Rattle.window_packing.specs.Readies.{board_below}
 use Rattle.model_guests.specs.Text.{Text}
 use Rattle.simulation.specs.Faults.{number_of, of_set_up}
 use Rattle.simulation.specs.Fitting.{fit_text, misfit_text, refusal_line, IsFitText, of_misfit}
-use Rattle.simulation.proofs.Checked.{if_err-map, declined_rule}
+use Rattle.simulation.proofs.Checked.{if_err-map, declined_rule, told_rule}
 use Rattle.simulation.proofs.Fitted.{on_ok, if_err-both, no_shortage, declined_bare}
 use Rattle.simulation.proofs.fitting.judge.Goals as goal
 
@@ -66,6 +66,6 @@ returns-clause-stopped g c is =
     let old = g.W.Writer.written c.args.writer.now in
     let new = g.W.Writer.written c.decline.new.writer in (
       misfit_text c.args.name.now b a (of_set_up s),
-      of_misfit (of_set_up s) refl,
+      of_misfit (of_set_up s) (told_rule s _ (c.decline.ensures.known is) c.in-Err.ensures.refused) refl,
       subst (λ n. AppendsPart old new (refusal_line c.args.name.now n (of_set_up s))) (sym (no_shortage b a s c.in-Err.ensures.fault)) (c.decline.ensures.stopped is),
     )

@@ -1,6 +1,6 @@
 use Rattle.std.proofs.Common.{◌++◌, string_bytes, codes, sym, ap, ◌∙◌, append_assoc}
 use Rattle.std.specs.Option.{option_map_or}
-use Rattle.model_board.specs.Pools.{aperture_of}
+use Rattle.model_set_up.specs.Pools.{aperture_of}
 use Rattle.window_packing.specs.Plans.{named_pool}
 use Rattle.window_packing.specs.Uses.{told_use}
 use Rattle.simulation.specs.Fitting.{pool_words, use_text}

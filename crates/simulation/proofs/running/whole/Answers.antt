@@ -1,13 +1,13 @@
 use Rattle.std.proofs.Common.{◌≡◌, ◌<◌, ◌+◌, ℕ, Some, Err, ap, sym, ◌∙◌, subst, arith}
 use Rattle.std.specs.Io.KnownBytes.{Appends}
 use Rattle.model_registers.specs.DeclarationRules.{first_broken}
-use Rattle.model_board.specs.SetUpWrites.{set_up_rules}
+use Rattle.model_set_up.specs.SetUpWrites.{set_up_rules}
 use Rattle.model_guests.specs.World.{World}
 use Rattle.model_guests.specs.Text.{lines}
 use Rattle.model_guests.specs.WorldNow.{WorldNow, output}
 use Rattle.model_guests.specs.Runs.{IsCut}
 use Rattle.model_guests.proofs.Isolation.{isolated}
-use Rattle.script.specs.Pieces.{IsStoppedIn}
+use Rattle.script.specs.Stops.{IsStoppedIn}
 use Rattle.simulation.specs.Faults.{number_of}
 use Rattle.simulation.specs.Listing.{Declares, Refuses}
 use Rattle.simulation.specs.declared.fault.Fault.{Fault}

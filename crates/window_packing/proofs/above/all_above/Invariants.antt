@@ -1,4 +1,4 @@
-use Rattle.model_board.specs.FunctionTable.{board_in}
+use Rattle.model_set_up.specs.FunctionTable.{board_in}
 use Rattle.window_packing.proofs.AboveRows.{Followed}
 use Rattle.window_packing.proofs.above.all_above.Given as goal
 

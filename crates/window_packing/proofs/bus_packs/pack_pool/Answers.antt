@@ -1,11 +1,11 @@
 use Rattle.std.proofs.Common.{◌≡◌, ◌-◌, ◌<◌, ◌≤◌, ◌^◌, length, false, List, [], get_or, set, ◌++◌, sym, ap, ◌∙◌, subst, arith}
 use Rattle.std.specs.Prelude.{reverse}
-use Rattle.model_registers.specs.Lists.{Each}
-use Rattle.bridge_forward.proofs.Indices.{at_below, read_at, map_at}
-use Rattle.model_board.specs.FunctionTable.{TableRow, board_in}
+use Rattle.lists.specs.Elements.{Each}
+use Rattle.lists.proofs.Indices.{at_below, read_at, map_at}
+use Rattle.model_set_up.specs.FunctionTable.{TableRow, board_in}
 use Rattle.model_board.specs.Board.{Row}
-use Rattle.model_board.specs.Pools.{bridges_above}
-use Rattle.model_board.specs.Placement.{Item}
+use Rattle.model_set_up.specs.Pools.{bridges_above}
+use Rattle.model_set_up.specs.Placement.{Item}
 use Rattle.window_packing.specs.Plans.{named_pool}
 use Rattle.window_packing.specs.declared.above.Above.{Above}
 use Rattle.window_packing.specs.Packs.{BusPack, IsBounded, pack_items, pack_of, own_items}

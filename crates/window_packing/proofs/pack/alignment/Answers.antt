@@ -1,10 +1,10 @@
 use Rattle.std.proofs.Common.{◌≡◌, [], drop, arith}
 use Rattle.std.proofs.lemmas.List.{drop_all}
-use Rattle.window_packing.proofs.SpotEnds.{unit-le}
+use Rattle.model_set_up.proofs.Items.{unit_below}
 use Rattle.window_packing.proofs.pack.alignment.Goals as goal
 
 pub items-init : goal.items-init
-items-init c = (omega arith, omega (arith, unit-le c.args.unit c.args.items.now))
+items-init c = (omega arith, omega (arith, unit_below c.args.unit c.args.items.now))
 
 pub returns : goal.returns
 returns c =

@@ -1,5 +1,5 @@
 use Rattle.std.proofs.Common.{◌≡◌, ◌≤◌, drop, max}
-use Rattle.model_board.specs.Placement.{alignment}
+use Rattle.model_set_up.specs.Placement.{alignment}
 use Rattle.window_packing.proofs.pack.alignment.Given as goal
 
 abbrev pub invariant-items : goal.invariant-items

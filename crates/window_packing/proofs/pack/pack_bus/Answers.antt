@@ -1,8 +1,8 @@
 use Rattle.std.proofs.Common.{◌≡◌, List, sym, ap, ◌∙◌, subst}
-use Rattle.model_registers.specs.Lists.{Each}
-use Rattle.model_registers.proofs.EachLemmas.{each_permutation}
-use Rattle.model_board.specs.Placement.{Item, in_order, alignment}
-use Rattle.model_board.proofs.ItemOrder.{order_is_sorted}
+use Rattle.lists.specs.Elements.{Each}
+use Rattle.lists.proofs.EachLemmas.{each_permutation}
+use Rattle.model_set_up.specs.Placement.{Item, in_order, alignment}
+use Rattle.model_set_up.proofs.ItemOrder.{order_is_sorted}
 use Rattle.window_packing.specs.Packs.{HasLawfulAlign}
 use Rattle.window_packing.proofs.ItemRanks.{alignment-in_order}
 use Rattle.window_packing.proofs.pack.pack_bus.Goals as goal

@@ -1,5 +1,5 @@
 use Rattle.std.proofs.Common.{◌≡◌, ◌≤◌, ◌^◌, ◌++◌, drop}
-use Rattle.model_board.specs.Placement.{spots_from, end_from}
+use Rattle.model_set_up.specs.Placement.{spots_from, end_from}
 use Rattle.window_packing.proofs.pack.place_all.Given as goal
 
 abbrev pub invariant-items : goal.invariant-items

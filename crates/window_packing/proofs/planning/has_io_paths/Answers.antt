@@ -2,14 +2,14 @@ use Rattle.std.proofs.Common.{◌≡◌, ◌||◌, Bool, false, not, Some, get_o
 use Rattle.std.specs.List.{slice_get, list_all}
 use Rattle.model_registers.specs.Declarations.{Bridge}
 use Rattle.model_board.specs.Board.{Row}
-use Rattle.model_board.specs.Pools.{bridges_above, opens_io, has_io}
-use Rattle.model_board.specs.FunctionTable.{board_in}
-use Rattle.bridge_forward.proofs.Indices.{read_at, map_at}
+use Rattle.model_set_up.specs.Pools.{bridges_above, opens_io, has_io}
+use Rattle.model_set_up.specs.FunctionTable.{board_in}
+use Rattle.lists.proofs.Indices.{read_at, map_at, fails_at}
 use Rattle.window_packing.specs.declared.above.Above.{Above}
 use Rattle.window_packing.proofs.AboveRows.{length_board, tells_at}
 use Rattle.window_packing.proofs.BusIndex.{row_in}
 use Rattle.window_packing.proofs.PoolSteps.{got, above_count}
-use Rattle.window_packing.proofs.RowTests.{all_more, one_fails, all_rows_pass}
+use Rattle.window_packing.proofs.RowTests.{all_more, all_rows_pass}
 use Rattle.window_packing.proofs.planning.has_io_paths.Goals as goal
 
 abbrev nothing : Above
@@ -28,7 +28,7 @@ returns-then-not-has_io_path c =
     let io : x.io ≡ list_all (λ (d : Bridge). has_io d.io) (bridges_above b t.path) = (tells_at b above i (row_in t) x c.requires at told).io in
     let test = c.has_io_path.ensures ∙ ap (λ (v : Bool). not (opens_io t.decl) || v) io in
     let passes : Row → Bool = λ r. not (opens_io r.decl) || list_all (λ (d : Bridge). has_io d.io) (bridges_above b r.path) in
-    sym (one_fails passes b i (row_in t) at (sym test ∙ c.if-not-has_io_path.true))
+    sym (fails_at passes b i (row_in t) at (sym test ∙ c.if-not-has_io_path.true))
 
 pub loop-i-preserved : goal.loop-i-preserved
 loop-i-preserved c =

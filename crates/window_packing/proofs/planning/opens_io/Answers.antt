@@ -1,6 +1,6 @@
 use Rattle.std.proofs.Common.{ap, sym, ◌∙◌}
-use Rattle.model_board.specs.Pools.{opens_io}
-use Rattle.model_board.specs.FunctionTable.{TableRow}
+use Rattle.model_set_up.specs.Pools.{opens_io}
+use Rattle.model_set_up.specs.FunctionTable.{TableRow}
 use Rattle.bus_scan.specs.declared.table.Found.{Found}
 use Rattle.bus_scan.specs.Rows.{decl_of}
 use Rattle.window_packing.proofs.BarLists.{any_port}

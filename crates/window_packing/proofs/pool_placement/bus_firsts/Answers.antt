@@ -3,10 +3,10 @@ use Rattle.std.specs.List.{slice_get}
 use Rattle.model_board.specs.Paths.{last_part}
 use Rattle.std.specs.Option.{option_map_or}
 use Rattle.model_registers.specs.Apertures.{Aperture}
-use Rattle.model_board.specs.Pools.{aperture_of}
-use Rattle.model_board.specs.Placement.{round_up, bus_first}
-use Rattle.model_board.specs.FunctionTable.{TableRow, board_in}
-use Rattle.bridge_forward.proofs.Indices.{read_at, same_at, map_at}
+use Rattle.model_set_up.specs.Pools.{aperture_of}
+use Rattle.model_set_up.specs.Placement.{round_up, bus_first}
+use Rattle.model_set_up.specs.FunctionTable.{TableRow, board_in}
+use Rattle.lists.proofs.Indices.{read_at, same_at, map_at}
 use Rattle.window_packing.specs.declared.above.Above.{Above}
 use Rattle.window_packing.specs.Buses.{bus_path}
 use Rattle.window_packing.specs.Packs.{BusPack}

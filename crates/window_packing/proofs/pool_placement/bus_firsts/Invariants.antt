@@ -1,4 +1,4 @@
-use Rattle.model_board.specs.FunctionTable.{board_in}
+use Rattle.model_set_up.specs.FunctionTable.{board_in}
 use Rattle.window_packing.specs.Plans.{named_pool}
 use Rattle.window_packing.proofs.FirstsSoFar.{AreFirsts}
 use Rattle.window_packing.proofs.pool_placement.bus_firsts.Given as goal

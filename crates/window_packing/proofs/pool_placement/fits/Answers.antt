@@ -1,5 +1,5 @@
 use Rattle.std.proofs.Common.{◌≡◌, length, [], sym, ap, ◌∙◌, arith}
-use Rattle.model_board.specs.Placement.{items_on}
+use Rattle.model_set_up.specs.Placement.{items_on}
 use Rattle.window_packing.specs.Packs.{BusPack}
 use Rattle.window_packing.specs.Plans.{named_pool}
 use Rattle.window_packing.proofs.PackFits.{fits_empty, empty_if}

@@ -2,7 +2,7 @@
 use Rattle.std.proofs.Common.{◌≡◌, drop}
 use Rattle.std.specs.Prelude.{flat_map}
 use Rattle.bars.specs.Slots.{bases_from}
-use Rattle.host_bridge.specs.BusAddresses.{bus_address_of}
+use Rattle.paths.specs.BusAddresses.{bus_address_of}
 use Rattle.window_packing.specs.WordWrites.{after_words, base_words, host_after}
 use Rattle.window_packing.proofs.programming.write_endpoint.Given as goal
 

@@ -1,5 +1,5 @@
 use Rattle.std.proofs.Common.{sym, ap, ◌∙◌, subst}
-use Rattle.model_board.specs.AtReset.{IsNumbered}
+use Rattle.model_set_up.specs.Scanning.{IsNumbered}
 use Rattle.host_bridge.specs.HostState.{HostState}
 use Rattle.window_packing.specs.Readies.{board_below}
 use Rattle.window_packing.proofs.ready.enumerate.Goals as goal

@@ -1,6 +1,6 @@
 use Rattle.std.proofs.Common.{◌≡◌, ◌-◌, length, sym, ap, ◌∙◌, arith, ◌++◌, [], ◌∷◌}
 use Rattle.model_board.specs.Paths.{Path}
-use Rattle.bridge_forward.proofs.Indices.{read_at}
+use Rattle.lists.proofs.Indices.{read_at}
 use Rattle.window_packing.proofs.LayoutRows.{bus_of_path}
 use Rattle.window_packing.proofs.rows.path_on.Goals as goal
 

@@ -1,6 +1,6 @@
 use Rattle.std.proofs.Common.{◌≡◌, ℕ, ◌<◌, ◌≤◌, List, length, Some, ap, subst, arith}
 use Rattle.std.specs.List.{slice_get}
-use Rattle.bridge_forward.proofs.Indices.{read_at}
+use Rattle.lists.proofs.Indices.{read_at}
 use Rattle.window_packing.specs.Packs.{BusPack}
 use Rattle.window_packing.specs.Placed.{PlacedPool}
 use Rattle.window_packing.specs.Plans.{named_pool}

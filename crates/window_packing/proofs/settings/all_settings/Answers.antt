@@ -3,10 +3,10 @@ use Rattle.std.specs.List.{slice_get}
 use Rattle.model_board.specs.Paths.{last_part}
 use Rattle.model_board.specs.Board.{Row}
 use Rattle.model_board.specs.Cycles.{BusAddress}
-use Rattle.model_board.specs.Reach.{address_of}
-use Rattle.model_board.specs.SetUpWrites.{Writes, Setting, writes_of, settings}
-use Rattle.model_board.specs.FunctionTable.{TableRow, found_decl, table_row, board_in, sized_table}
-use Rattle.bridge_forward.proofs.Indices.{read_at, same_at, map_at}
+use Rattle.model_set_up.specs.Reach.{address_of}
+use Rattle.model_set_up.specs.SetUpWrites.{Writes, Setting, writes_of, settings}
+use Rattle.model_set_up.specs.FunctionTable.{TableRow, found_decl, table_row, board_in, sized_table}
+use Rattle.lists.proofs.Indices.{read_at, same_at, map_at}
 use Rattle.window_packing.proofs.BarLists.{take_at}
 use Rattle.window_packing.proofs.BusIndex.{row_in}
 use Rattle.window_packing.proofs.settings.all_settings.Goals as goal

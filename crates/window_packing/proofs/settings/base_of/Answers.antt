@@ -1,19 +1,19 @@
 use Rattle.std.proofs.Common.{◌≡◌, ℕ, List, [], ◌∷◌, get_or, length, map, Option, Some, ap, sym, ◌∙◌, subst, arith}
 use Rattle.std.specs.List.{slice_get}
-use Rattle.model_registers.specs.Lists.{Each}
+use Rattle.lists.specs.Elements.{Each}
 use Rattle.model_registers.specs.Declarations.{Bar, Region}
 use Rattle.model_registers.specs.EndpointTable.{BaseAddress}
 use Rattle.model_board.specs.Paths.{last_part}
 use Rattle.model_board.specs.Board.{Row, IsBoard}
 use Rattle.model_board.specs.Lawful.{HasLawfulDecls}
 use Rattle.model_registers.specs.Apertures.{Apertures}
-use Rattle.model_board.specs.Pools.{Pool, bridges_above, pool_of}
-use Rattle.model_board.specs.Placement.{a_region}
-use Rattle.model_board.specs.SetUpWrites.{placed_base}
-use Rattle.model_board.specs.FunctionTable.{TableRow, board_in}
+use Rattle.model_set_up.specs.Pools.{Pool, bridges_above, pool_of}
+use Rattle.model_set_up.specs.Placement.{a_region}
+use Rattle.model_set_up.specs.SetUpWrites.{placed_base}
+use Rattle.model_set_up.specs.FunctionTable.{TableRow, board_in}
 use Rattle.bars.specs.declared.region.Region.{Region as Based}
 use Rattle.bars.specs.Slots.{placed}
-use Rattle.bridge_forward.proofs.Indices.{read_at, same_at, map_at}
+use Rattle.lists.proofs.Indices.{read_at, same_at, map_at}
 use Rattle.window_packing.specs.declared.above.Above.{Above}
 use Rattle.window_packing.specs.Packs.{BusPack, regions_from}
 use Rattle.window_packing.specs.Placed.{PlacedPool, IsPlaced, Placement, IsPlacement, pool_in, IsAboveAt, IsRegionAt}

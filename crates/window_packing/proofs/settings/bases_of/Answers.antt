@@ -1,10 +1,10 @@
 use Rattle.std.proofs.Common.{◌≡◌, ℕ, ◌+◌, [], ◌∷◌, length, map, take, get_or, Some, sym, ◌∙◌, subst, arith}
 use Rattle.std.specs.List.{slice_get, slice_set}
 use Rattle.std.proofs.lemmas.List.{length-set}
-use Rattle.model_board.specs.Members.{IsIn}
-use Rattle.model_board.specs.SetUpWrites.{placed_base}
-use Rattle.model_board.specs.FunctionTable.{board_in}
-use Rattle.model_board.proofs.Members.{each_in, each_from}
+use Rattle.lists.specs.Elements.{IsIn}
+use Rattle.model_set_up.specs.SetUpWrites.{placed_base}
+use Rattle.model_set_up.specs.FunctionTable.{board_in}
+use Rattle.lists.proofs.Members.{each_in, each_from}
 use Rattle.bars.specs.Slots.{bases_from}
 use Rattle.bus_scan.specs.Rows.{regions_of}
 use Rattle.window_packing.specs.Packs.{regions_from}

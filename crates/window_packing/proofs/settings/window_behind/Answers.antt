@@ -3,11 +3,11 @@ use Rattle.std.specs.List.{slice_get}
 use Rattle.model_registers.specs.Apertures.{Apertures}
 use Rattle.model_board.specs.Board.{IsBoard}
 use Rattle.model_board.specs.Lawful.{HasLawfulDecls}
-use Rattle.model_board.specs.Pools.{Pool, unit_of}
-use Rattle.model_board.specs.Placement.{items_on}
-use Rattle.model_board.specs.SetUp.{window_of}
-use Rattle.model_board.specs.FunctionTable.{TableRow, board_in}
-use Rattle.bridge_forward.proofs.Indices.{read_at, at_below}
+use Rattle.model_set_up.specs.Pools.{Pool, unit_of}
+use Rattle.model_set_up.specs.Placement.{items_on}
+use Rattle.model_set_up.specs.SetUp.{window_of}
+use Rattle.model_set_up.specs.FunctionTable.{TableRow, board_in}
+use Rattle.lists.proofs.Indices.{read_at, at_below}
 use Rattle.window_packing.specs.Packs.{BusPack}
 use Rattle.window_packing.specs.Placed.{PlacedPool, IsPlaced}
 use Rattle.window_packing.specs.Plans.{named_pool}

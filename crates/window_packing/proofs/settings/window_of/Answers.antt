@@ -1,10 +1,10 @@
 use Rattle.std.proofs.Common.{◌≡◌, ℕ, ◌+◌, ◌*◌, ◌^◌, ◌≤◌, ◌<◌, [], length, sym, ap, ap₂, ◌∙◌, arith}
 use Rattle.std.proofs.lemmas.Bool.Decides.{nat_tests}
-use Rattle.model_registers.specs.Lists.{Each}
+use Rattle.lists.specs.Elements.{Each}
 use Rattle.model_registers.specs.BridgeTable.{Window}
-use Rattle.model_board.specs.Pools.{unit_of}
-use Rattle.model_board.specs.Placement.{round_up}
-use Rattle.model_board.proofs.Packing.{round_up_not_before}
+use Rattle.model_set_up.specs.Pools.{unit_of}
+use Rattle.model_set_up.specs.Placement.{round_up}
+use Rattle.model_set_up.proofs.Packing.{round_up_not_before}
 use Rattle.window_packing.specs.Packs.{BusPack}
 use Rattle.window_packing.specs.Plans.{named_pool}
 use Rattle.window_packing.proofs.BusItems.{alignment_bounds}

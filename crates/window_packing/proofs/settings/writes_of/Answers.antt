@@ -1,10 +1,10 @@
 use Rattle.std.proofs.Common.{◌≡◌, Some, refl, ap, ap₂, sym, ◌∙◌}
 use Rattle.std.specs.List.{slice_get}
 use Rattle.model_board.specs.Board.{Decl, endpoint, Row}
-use Rattle.model_board.specs.SetUpWrites.{to_endpoint, to_bridge, windows_of, writes_of}
-use Rattle.model_board.specs.FunctionTable.{TableRow, board_in}
-use Rattle.model_board.proofs.Members.{each_from}
-use Rattle.bridge_forward.proofs.Indices.{read_at, same_at, map_at}
+use Rattle.model_set_up.specs.SetUpWrites.{to_endpoint, to_bridge, windows_of, writes_of}
+use Rattle.model_set_up.specs.FunctionTable.{TableRow, board_in}
+use Rattle.lists.proofs.Members.{each_from}
+use Rattle.lists.proofs.Indices.{read_at, same_at, map_at}
 use Rattle.bus_scan.specs.declared.table.Found.{Found}
 use Rattle.bus_scan.specs.Rows.{regions_of, with_identity, decl_of}
 use Rattle.window_packing.specs.Placed.{IsRegionAt}

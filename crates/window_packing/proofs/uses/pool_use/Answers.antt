@@ -2,9 +2,9 @@ use Rattle.std.proofs.Common.{◌≡◌, ◌∙◌, Option, Some, None, Result, 
 use Rattle.std.specs.Prelude.{IfOk, IfSome, nat_le}
 use Rattle.model_registers.specs.Apertures.{Apertures}
 use Rattle.model_board.specs.Board.{Board}
-use Rattle.model_board.specs.Pools.{Pool}
-use Rattle.model_board.specs.Placement.{fits}
-use Rattle.model_board.specs.FunctionTable.{TableRow, board_in}
+use Rattle.model_set_up.specs.Pools.{Pool}
+use Rattle.model_set_up.specs.Placement.{fits}
+use Rattle.model_set_up.specs.FunctionTable.{TableRow, board_in}
 use Rattle.bus_scan.specs.SizedTables.{IsTableOf}
 use Rattle.window_packing.specs.declared.uses.PoolUse.{PoolUse}
 use Rattle.window_packing.specs.Plans.{named_pool}

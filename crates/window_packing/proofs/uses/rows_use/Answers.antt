@@ -1,11 +1,12 @@
 use Rattle.std.proofs.Common.{◌≡◌, ◌^◌, true, List, [], get_or, Some, ap, ◌∙◌, subst}
 use Rattle.std.specs.Prelude.{nat_le}
 use Rattle.std.proofs.lemmas.Bool.{le-leb}
-use Rattle.model_registers.specs.Lists.{Each}
+use Rattle.lists.specs.Elements.{Each}
 use Rattle.model_board.specs.Board.{Board}
-use Rattle.model_board.specs.Pools.{Apertures, Pool}
-use Rattle.model_board.specs.Placement.{in_order, end_from, items_on}
-use Rattle.model_board.specs.FunctionTable.{board_in}
+use Rattle.model_registers.specs.Apertures.{Apertures}
+use Rattle.model_set_up.specs.Pools.{Pool}
+use Rattle.model_set_up.specs.Placement.{in_order, end_from, items_on}
+use Rattle.model_set_up.specs.FunctionTable.{board_in}
 use Rattle.window_packing.specs.declared.uses.PoolUse.{PoolUse}
 use Rattle.window_packing.specs.Packs.{BusPack, IsBounded, pack_of, packs_of}
 use Rattle.window_packing.specs.Plans.{named_pool}

@@ -1,9 +1,9 @@
 use Rattle.std.proofs.Common.{◌≡◌, ℕ, ◌⊎◌, inl, inr, sym, ap, ap₂, ◌∙◌}
 use Rattle.model_registers.specs.Decoding.{Space, memory}
-use Rattle.model_board.specs.Layout.{LayoutRow}
+use Rattle.model_set_up.specs.Layout.{LayoutRow}
 use Rattle.model_board.specs.Claims.{first_claim}
 use Rattle.model_board.specs.Ports.{target_reply, claim_reply}
-use Rattle.model_board.specs.PlacedRegions.{pool_space}
+use Rattle.model_set_up.specs.PlacedRegions.{pool_space}
 use Rattle.window_packing.specs.Plans.{named_pool}
 use Rattle.window_packing.specs.declared.pool.Pool.{Pool}
 use Rattle.window_packing.specs.declared.pool.Pool.TheVariants as pool

@@ -1,6 +1,6 @@
 use Rattle.std.proofs.Common.{◌≡◌, ap, subst, sym, ◌∙◌, ◌++◌, take, drop, length, arith}
 use Rattle.std.proofs.lemmas.Grind.{common_steps}
-use Rattle.model_board.specs.SetUp.{reset_state}
+use Rattle.model_board.specs.AtReset.{reset_state}
 use Rattle.model_board.specs.Places.{board_of}
 use Rattle.model_board.proofs.StateRows.{at_reset}
 use Rattle.bridge_forward.specs.Layout.{functions_of}

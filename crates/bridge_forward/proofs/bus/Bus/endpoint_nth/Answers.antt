@@ -5,7 +5,7 @@ use Rattle.std.proofs.lemmas.List.{length-map}
 use Rattle.model_board.specs.State.{BoardFunction}
 use Rattle.bridge_forward.specs.Layout.{function_of, functions_of}
 use Rattle.bridge_forward.specs.Lending.{as_endpoint, endpoint_nth, with_endpoint_nth}
-use Rattle.bridge_forward.proofs.Indices.{read_at}
+use Rattle.lists.proofs.Indices.{read_at}
 use Rattle.bridge_forward.proofs.Nodes.{functions_in_order}
 use Rattle.bridge_forward.proofs.Changes.{kept, same_read, same_order}
 use Rattle.bridge_forward.proofs.Nth.{past_end, nth_set, nth_there}

@@ -1,15 +1,15 @@
 use Rattle.std.proofs.Common.{◌++◌, ap, refl, sym, ◌∙◌, subst}
 use Rattle.std.proofs.lemmas.Bool.{ltb-true, ltb-false}
-use Rattle.model_registers.specs.Lists.{Each}
+use Rattle.lists.specs.Elements.{Each}
 use Rattle.model_registers.specs.Cell.{raised}
 use Rattle.model_registers.specs.Registers.{File, config, block, raise}
 use Rattle.model_registers.specs.FileLaws.{IsConfigFile, has_place}
 use Rattle.model_registers.specs.Decoding.{Function}
-use Rattle.model_registers.proofs.Files.{change_keeps_places}
+use Rattle.model_registers.proofs.Files.{change_keeps_places, changed_config}
 use Rattle.config_bytes.specs.CellFile.{CellFile, places_of}
 use Rattle.headers.specs.Places.{place_of}
 use Rattle.bridge_forward.specs.EndpointParts.{region_parts, block_at, IsShort, IsHeaderKept}
-use Rattle.bridge_forward.proofs.EndpointAccess.{block_there, no_block, block_short, changed_config, config_kept, raise_config, raise_in_block, table_changed, table_kept, nothing_there}
+use Rattle.bridge_forward.proofs.EndpointAccess.{block_there, no_block, block_short, config_kept, raise_config, raise_in_block, table_changed, table_kept, nothing_there}
 use Rattle.bridge_forward.proofs.ResetKept.{know_block, know_config, header_changed, constant_raised, places_changed}
 use Rattle.bridge_forward.proofs.endpoint.EndpointFn.raise.Goals as goal
 

@@ -2,10 +2,10 @@ use Rattle.std.proofs.Common.{◌≡◌, ℕ, ◌∙◌, List, [], ◌∷◌, �
 use Rattle.std.proofs.lemmas.Result.{err_from_is_err_and}
 use Rattle.model_board.specs.Paths.{Path}
 use Rattle.model_board.specs.Board.{Board, is_multifunction}
-use Rattle.model_board.specs.FunctionTable.{TableRow}
+use Rattle.model_set_up.specs.FunctionTable.{TableRow}
 use Rattle.model_board.specs.State.{State}
-use Rattle.model_board.specs.ScanOrder.{on, next_part}
-use Rattle.host_bridge.specs.BusAddresses.{bus_address_of}
+use Rattle.model_set_up.specs.ScanOrder.{on, next_part}
+use Rattle.paths.specs.BusAddresses.{bus_address_of}
 use Rattle.host_bridge.specs.HostState.{HostState}
 use Rattle.bus_scan.specs.declared.enumeration.Enumeration.{Enumeration}
 use Rattle.bus_scan.specs.Scans.{IsAt, OnBus}

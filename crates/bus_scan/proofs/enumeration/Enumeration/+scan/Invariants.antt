@@ -1,6 +1,6 @@
 use Rattle.std.proofs.Common.{◌≡◌, ◌+◌, ◌-◌, ◌*◌, ◌≤◌, length}
 use Rattle.model_board.specs.Board.{Board}
-use Rattle.model_board.specs.ScanOrder.{on}
+use Rattle.model_set_up.specs.ScanOrder.{on}
 use Rattle.bus_scan.specs.Scans.{OnBus, IsAt}
 use Rattle.bus_scan.proofs.enumeration.Enumeration.+scan.Given as goal
 

@@ -1,4 +1,4 @@
-use Rattle.host_bridge.specs.BusAddresses.{bus_address_of}
+use Rattle.paths.specs.BusAddresses.{bus_address_of}
 use Rattle.bus_scan.proofs.ScanSteps.{bridge_closed}
 use Rattle.bus_scan.proofs.enumeration.Enumeration.close_bridge.Goals as goal
 

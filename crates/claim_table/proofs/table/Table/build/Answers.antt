@@ -1,7 +1,7 @@
-use Rattle.std.proofs.Common.{◌≡◌, List, map, ap, sym, subst, ◌∙◌}
+use Rattle.std.proofs.Common.{◌≡◌, List, map, ap, subst, ◌∙◌}
 use Rattle.model_registers.specs.Decoding.{Space, io, memory}
-use Rattle.model_board.specs.FunctionTable.{TableRow}
-use Rattle.model_board.specs.SetUpWrites.{Plan, Setting}
+use Rattle.model_set_up.specs.FunctionTable.{TableRow}
+use Rattle.model_set_up.specs.SetUpWrites.{Plan, Setting}
 use Rattle.claim_table.specs.declared.entry.Entry.{Entry}
 use Rattle.claim_table.specs.Entries.{entries_from}
 use Rattle.claim_table.proofs.Building.{IsSortedOf, ready_entries, fits_ready}

@@ -1,9 +1,9 @@
-use Rattle.std.proofs.Common.{◌≡◌, ℕ, Some, None, List, length, ◌-◌, ◌<◌, ap, ap₂, sym, ◌∙◌, arith}
+use Rattle.std.proofs.Common.{Some, length, ◌-◌, ◌<◌, ap, ap₂, sym, ◌∙◌, arith}
 use Rattle.std.specs.Prelude.{find}
 use Rattle.bars.specs.Kinds.{named_space}
 use Rattle.model_board.specs.Paths.{Path}
 use Rattle.model_board.specs.Claims.{Claim}
-use Rattle.model_board.proofs.FirstFound.{each_found}
+use Rattle.lists.proofs.FirstFound.{each_found}
 use Rattle.claim_table.specs.declared.entry.Entry.{Entry}
 use Rattle.claim_table.specs.Entries.{lies_in, by_space}
 use Rattle.claim_table.proofs.Building.{known_in, none_claimed, from, claimed, path_at}

@@ -1,4 +1,4 @@
-use Rattle.std.proofs.Common.{◌≡◌, ap, ap₂, sym, ◌∙◌}
+use Rattle.std.proofs.Common.{ap, ap₂, sym, ◌∙◌}
 use Rattle.std.specs.Prelude.{find}
 use Rattle.bars.specs.Kinds.{named_space}
 use Rattle.bridge_forward.specs.Locating.{located_claim}

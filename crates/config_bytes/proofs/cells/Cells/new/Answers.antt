@@ -1,6 +1,6 @@
 use Rattle.std.proofs.Common.{◌≡◌, ◌<◌, ℕ, List, ◌++◌, take, drop, length, replicate, ◌∙◌, sym, subst, ap, ap₂}
 use Rattle.std.proofs.lemmas.List.Elements.{All-get_or}
-use Rattle.model_registers.specs.Lists.{Each}
+use Rattle.lists.specs.Elements.{Each}
 use Rattle.model_registers.specs.Cell.{Cell, no_cell}
 use Rattle.config_bytes.specs.CellFile.{CellFile, HasDistinctOffsets, file_of, placed}
 use Rattle.config_bytes.proofs.Tables.{HasGaps, HasGaps-empty, IsConfigFile-from, KeepsPlaces-from, each_from, IsTable-refilled, view_refilled}

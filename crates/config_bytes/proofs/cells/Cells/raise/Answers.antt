@@ -1,8 +1,9 @@
 use Rattle.std.proofs.Common.{◌∙◌}
 use Rattle.std.proofs.Math.ListN.{set}
 use Rattle.std.proofs.lemmas.List.{length-set}
+use Rattle.model_registers.proofs.Owned.{raised_none}
 use Rattle.model_registers.specs.Cell.{raised}
-use Rattle.config_bytes.proofs.Tables.{ChangesAt, raised-no_cell, put_changes, IsTable-changed, IsConfigFile-from, KeepsPlaces-from, IsConfigFile-view, KeepsPlaces-view, view_changes, view_past}
+use Rattle.config_bytes.proofs.Tables.{ChangesAt, put_changes, IsTable-changed, IsConfigFile-from, KeepsPlaces-from, IsConfigFile-view, KeepsPlaces-view, view_changes, view_past}
 use Rattle.config_bytes.proofs.cells.Cells.raise.Goals as goal
 
 changes : (c : goal.After-self-1) → ChangesAt (raised c.args.mask) c.args.off c.self.inside.table.items (set c.self.inside.table.items c.from-at.result c.raised.result)
@@ -13,7 +14,7 @@ changes c =
 pub invariant_of-self : goal.invariant_of-self
 invariant_of-self c =
     IsTable-changed (raised c.args.mask) c.args.off c.self.inside.table.items (set c.self.inside.table.items c.from-at.result c.raised.result)
-    c.self.inside.initial.items (raised-no_cell c.args.mask) (length-set c.self.inside.table.items c.from-at.result c.raised.result) (changes c) c.self.invariant
+    c.self.inside.initial.items (raised_none c.args.mask) (length-set c.self.inside.table.items c.from-at.result c.raised.result) (changes c) c.self.invariant
 
 pub returns-then-at-len-clause-cells : goal.returns-then-at-len-clause-cells
 returns-then-at-len-clause-cells c =
@@ -23,7 +24,7 @@ returns-then-at-len-clause-cells c =
 pub returns-else-at-len-clause-cells : goal.returns-else-at-len-clause-cells
 returns-else-at-len-clause-cells c =
     view_past (raised c.args.mask) c.self.inside.table.items c.self.inside.initial.items c.len.result c.from-at.result c.args.off c.args.self.now
-    (raised-no_cell c.args.mask) (c.len.ensures ∙ c.self.inside.table.ok.0) c.from-at.ensures c.if-at-len.false c.self.view_is
+    (raised_none c.args.mask) (c.len.ensures ∙ c.self.inside.table.ok.0) c.from-at.ensures c.if-at-len.false c.self.view_is
 
 pub returns-then-at-len-clause-places : goal.returns-then-at-len-clause-places
 returns-then-at-len-clause-places c =

@@ -1,8 +1,9 @@
 use Rattle.std.proofs.Common.{◌≡◌, true, false, ◌∙◌, refl}
 use Rattle.std.proofs.Math.ListN.{set}
 use Rattle.std.proofs.lemmas.List.{length-set}
+use Rattle.model_registers.proofs.Owned.{no_cell_stays}
 use Rattle.model_registers.specs.Cell.{written}
-use Rattle.config_bytes.proofs.Tables.{ChangesAt, written-no_cell, put_changes, IsTable-changed, IsConfigFile-from, KeepsPlaces-from, IsConfigFile-view, KeepsPlaces-view, view_changes, view_past, view_past_if}
+use Rattle.config_bytes.proofs.Tables.{ChangesAt, put_changes, IsTable-changed, IsConfigFile-from, KeepsPlaces-from, IsConfigFile-view, KeepsPlaces-view, view_changes, view_past, view_past_if}
 use Rattle.config_bytes.proofs.cells.Cells.write_byte.Goals as goal
 use Rattle.config_bytes.proofs.cells.Cells.write_byte.Goals.{else-at-len-via-then-at-len+else-enabled, else-at-len-via-else-at-len}
 
@@ -14,7 +15,7 @@ changes c =
 pub invariant_of-self : goal.invariant_of-self
 invariant_of-self c =
     IsTable-changed (written c.args.byte) c.args.off c.self.inside.table.items (set c.self.inside.table.items c.from-at.result c.written.result)
-    c.self.inside.initial.items (written-no_cell c.args.byte) (length-set c.self.inside.table.items c.from-at.result c.written.result) (changes c) c.self.invariant
+    c.self.inside.initial.items (no_cell_stays c.args.byte) (length-set c.self.inside.table.items c.from-at.result c.written.result) (changes c) c.self.invariant
 
 pub returns-then-enabled-clause-cells : goal.returns-then-enabled-clause-cells
 returns-then-enabled-clause-cells c =
@@ -28,7 +29,7 @@ returns-else-at-len-clause-cells c =
       | else-at-len-via-then-at-len+else-enabled w ↦ let off : c.args.enabled ≡ false = w.if-enabled.false in rw off refl
       | else-at-len-via-else-at-len w ↦ view_past_if c.args.enabled (written c.args.byte) c.args.off c.args.self.now
           (view_past (written c.args.byte) c.self.inside.table.items c.self.inside.initial.items c.len.result c.from-at.result c.args.off c.args.self.now
-          (written-no_cell c.args.byte) (c.len.ensures ∙ c.self.inside.table.ok.0) c.from-at.ensures w.if-at-len.false c.self.view_is)
+          (no_cell_stays c.args.byte) (c.len.ensures ∙ c.self.inside.table.ok.0) c.from-at.ensures w.if-at-len.false c.self.view_is)
     ]
 
 pub returns-then-enabled-clause-places : goal.returns-then-enabled-clause-places

@@ -1,14 +1,15 @@
 use Rattle.std.proofs.Common.{◌≡◌, List, false, map, subst, sym, ap, ◌∙◌}
+use Rattle.bars.proofs.Regions.{no_base_opened}
 use Rattle.model_registers.specs.Declarations.{HasLawfulRegions}
 use Rattle.model_registers.specs.EndpointTable.{BaseAddress, endpoint_reset, opened}
 use Rattle.model_registers.specs.OwnCopies.{OwnCopies, HoldsOwn}
 use Rattle.model_registers.proofs.Owned.{reset_holds_own}
-use Rattle.guest_functions.proofs.ResetCopies.{opened_with_no_base, closed_as_opened}
+use Rattle.guest_functions.proofs.ResetCopies.{closed_as_opened}
 use Rattle.guest_functions.proofs.virtual_function.VirtualFunction.reset.Goals as goal
 
 -- the registers open what they opened
 same_regions : (c : goal.After-reset) → map opened c.reset.new.self ≡ map opened c.self.inside.bars
-same_regions c = ap (map opened) c.reset.ensures ∙ opened_with_no_base c.self.inside.bars
+same_regions c = ap (map opened) c.reset.ensures ∙ no_base_opened c.self.inside.bars
 
 pub invariant_of-self : goal.invariant_of-self
 invariant_of-self c = subst HasLawfulRegions (sym (same_regions c)) c.self.invariant

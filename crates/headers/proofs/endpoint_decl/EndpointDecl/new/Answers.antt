@@ -2,7 +2,7 @@
 use Rattle.std.proofs.Common.{◌≡◌, List, None, Some, Ok, sym, ap, ◌∙◌, subst, rules}
 use Rattle.std.specs.List.Sorted.{IsNonDecreasingBy}
 use Rattle.std.proofs.lemmas.List.Sorted.{IsNonDecreasingBy-from_sort_by_key}
-use Rattle.model_registers.specs.Lists.{Each}
+use Rattle.lists.specs.Elements.{Each}
 use Rattle.model_registers.specs.Declarations.{Region, Endpoint, IsLawfulSize}
 use Rattle.model_registers.specs.DeclarationRules.{first_broken, endpoint_rules, with_ordered_regions, IsLawfulEndpoint}
 use Rattle.model_registers.proofs.LawfulDeclarations.{own_registers, sorted_is_lawful, lawful_breaks_none}

@@ -1,12 +1,12 @@
 use Rattle.std.proofs.Common.{◌≡◌, ◌<◌, ◌++◌, ◌∙◌, List, length, take, drop, slice_get, slice_set, Some, refl, ap, sym, subst, arith}
 use Rattle.std.proofs.lemmas.Option.{slice_get_read}
+use Rattle.lists.proofs.Indices.{at_below}
 use Rattle.model_registers.specs.ConfigAddress.{latched}
 use Rattle.model_guests.specs.Accesses.{answered}
 use Rattle.model_guests.specs.Lone.{own_latch, reply_at, after_access_at}
 use Rattle.model_guests.specs.WorldNow.{WorldNow}
 use Rattle.accesses.specs.Accesses.{op_of}
 use Rattle.accesses.specs.declared.access.Op.{Op}
-use Rattle.host_bridge.proofs.ByIndex.{some_within}
 use Rattle.monitor.specs.declared.guest.Guest.{Guest}
 use Rattle.monitor.specs.Views.{texts, world_shown}
 use Rattle.monitor.specs.ByIndex.{lone_nth, with_lone_nth}
@@ -55,7 +55,7 @@ invariant_of-self g c =
     let count : length e.guests.items ≡ length w.guests = guests_within w.board w.apertures (texts e.names) w.guests e.guests.items c.self.invariant.1.guests in
     let same : length w.guests ≡ length c.args.self.now.guests = ap (λ (v : WorldNow). length v.guests) c.self.view_is in
     let inside : c.args.guest < length e.guests.items = omega arith in
-    let one = some_within e.guests.items c.args.guest inside in
+    let one = at_below e.guests.items c.args.guest inside in
     let left = c.write_latch.new.guests in
     let back = take e.guests.len (left ++ drop (length left) e.guests.items) in
     let is_back : back ≡ left = given_back left (drop (length left) e.guests.items) e.guests.len (c.write_latch.auto.guests ∙ c.deref_mut.ensures.len) in
@@ -70,7 +70,7 @@ returns-in-Write-clause-after g c =
     let count : length e.guests.items ≡ length w.guests = guests_within w.board w.apertures (texts e.names) w.guests e.guests.items c.self.invariant.1.guests in
     let same : length w.guests ≡ length c.args.self.now.guests = ap (λ (v : WorldNow). length v.guests) c.self.view_is in
     let inside : c.args.guest < length e.guests.items = omega arith in
-    let one = some_within e.guests.items c.args.guest inside in
+    let one = at_below e.guests.items c.args.guest inside in
     let left = c.write_latch.new.guests in
     let back = take e.guests.len (left ++ drop (length left) e.guests.items) in
     let is_back : back ≡ left = given_back left (drop (length left) e.guests.items) e.guests.len (c.write_latch.auto.guests ∙ c.deref_mut.ensures.len) in

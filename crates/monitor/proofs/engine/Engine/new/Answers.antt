@@ -1,6 +1,6 @@
 use Rattle.std.proofs.Common.{◌≡◌, List, ap, sym, ◌∙◌, subst}
-use Rattle.model_board.specs.FunctionTable.{TableRow}
-use Rattle.model_board.specs.SetUpWrites.{Plan}
+use Rattle.model_set_up.specs.FunctionTable.{TableRow}
+use Rattle.model_set_up.specs.SetUpWrites.{Plan}
 use Rattle.host_bridge.specs.HostState.{HostState}
 use Rattle.monitor.specs.Views.{texts, world_shown}
 use Rattle.monitor.specs.Keeping.{IsSound}

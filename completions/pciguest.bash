@@ -1,0 +1,12 @@
+# Completion of the words of pciguest for bash. It is installed as share/bash-completion/completions/pciguest.
+_pciguest() {
+  local word=${COMP_WORDS[COMP_CWORD]}
+  COMPREPLY=()
+  if [ "$COMP_CWORD" = 1 ]; then
+    mapfile -t COMPREPLY < <(compgen -W 'check demo list run --help' -- "$word")
+  elif [ "$COMP_CWORD" = 2 ] && [[ ${COMP_WORDS[1]} == @(check|list|run) ]]; then
+    compopt -o filenames 2> /dev/null
+    mapfile -t COMPREPLY < <(compgen -f -X '!*.toml' -- "$word"; compgen -d -- "$word")
+  fi
+}
+complete -F _pciguest pciguest

@@ -1,0 +1,105 @@
+-- The least of addresses that may be there.
+use Rattle.std.proofs.Common.{◌≡◌, ℕ, Bool, true, false, ◌&&◌, cond, List, [], ◌∷◌, ◌++◌, Option, Some, None, refl, sym, ap, ap₂, ◌∙◌, append_assoc}
+use Rattle.std.specs.Prelude.{not, min, map, filter}
+use Rattle.std.specs.List.{list_any}
+use Rattle.std.specs.Option.{option_map_or, option_to_list}
+use Rattle.std.proofs.lemmas.List.{map-append}
+use Rattle.model_registers.specs.Decoding.{Space, io, memory, same_space}
+use Rattle.model_board.specs.Routing.{RoutingRow, row_forwards}
+use Rattle.model_set_up.specs.PlacedRegions.{PlacedRegion, holds}
+use Rattle.lists.proofs.Members.{none_pass}
+use Rattle.model_audit.specs.Agents.{Extent, extent_holds, forwarded_extents, Agent, answers}
+use Rattle.model_audit.specs.Problems.{least, unforwarded, shared}
+use Rattle.model_audit.proofs.Answering.{forwards_extents}
+use Rattle.board_audit.specs.Extents.{least_of}
+
+least_front : (o : Option ℕ) (ys : List ℕ) → least (option_to_list o ++ ys) ≡ least_of o (least ys)
+least_front None ys = refl
+least_front (Some x) ys = by (least ys)
+  where
+    by : (o : Option ℕ) → Some (option_map_or (min x) o x) ≡ least_of (Some x) o
+    by None = refl
+    by (Some y) = refl
+
+least_one : (o : Option ℕ) → least (option_to_list o) ≡ o
+least_one None = refl
+least_one (Some x) = refl
+
+filter_append : (t : ℕ → Bool) (xs ys : List ℕ) → filter t (xs ++ ys) ≡ filter t xs ++ filter t ys
+filter_append t [] ys = refl
+filter_append t (x ∷ xs) ys = by (t x) (filter_append t xs ys)
+  where
+    by : (u : Bool) → filter t (xs ++ ys) ≡ filter t xs ++ filter t ys → cond u (x ∷ filter t (xs ++ ys)) (filter t (xs ++ ys)) ≡ cond u (x ∷ filter t xs) (filter t xs) ++ filter t ys
+    by true h = ap (λ zs. x ∷ zs) h
+    by false h = h
+
+filter_same : (t u : ℕ → Bool) (xs : List ℕ) → ((n : ℕ) → t n ≡ u n) → filter t xs ≡ filter u xs
+filter_same t u [] h = refl
+filter_same t u (x ∷ xs) h = ap₂ (λ (b : Bool) (ys : List ℕ). cond b (x ∷ ys) ys) (h x) (filter_same t u xs h)
+
+-- the least of those that pass, piece by piece
+least_piece : (t : ℕ → Bool) (o : Option ℕ) (xs ys : List ℕ) → option_to_list o ≡ filter t xs → least (filter t (xs ++ ys)) ≡ least_of o (least (filter t ys))
+least_piece t o xs ys e = ap least (filter_append t xs ys ∙ ap (λ zs. zs ++ filter t ys) (sym e)) ∙ least_front o (filter t ys)
+
+least_last : (t : ℕ → Bool) (o : Option ℕ) (xs : List ℕ) → option_to_list o ≡ filter t xs → least (filter t xs) ≡ o
+least_last t o xs e = ap least (sym e) ∙ least_one o
+
+abbrev pub lost_among : PlacedRegion → List Extent → ℕ → Bool
+lost_among q es n = holds q.space n q && not (list_any (extent_holds n) es)
+
+pub least_lost : (r : RoutingRow) (q : PlacedRegion) (xs ys : List Extent) → xs ++ ys ≡ forwarded_extents q.space r → (a b c : Option ℕ)
+    → option_to_list a ≡ filter (lost_among q (xs ++ ys)) (q.first ∷ [])
+    → option_to_list b ≡ filter (lost_among q (xs ++ ys)) (map (λ e. e.end) xs)
+    → option_to_list c ≡ filter (lost_among q (xs ++ ys)) (map (λ e. e.end) ys)
+    → least_of a (least_of b c) ≡ unforwarded r q
+least_lost r q xs ys es a b c f g h =
+    ap (least_of a) (ap (least_of b) (sym (least_last t c (map (λ e. e.end) ys) h)) ∙ sym (least_piece t b (map (λ e. e.end) xs) (map (λ e. e.end) ys) g))
+    ∙ sym (least_piece t a (q.first ∷ []) (map (λ e. e.end) xs ++ map (λ e. e.end) ys) f)
+    ∙ ap (λ zs. least (filter t (q.first ∷ zs))) (sym (map-append (λ (e : Extent). e.end) xs ys) ∙ ap (map (λ e. e.end)) es)
+    ∙ ap least (filter_same t (λ n. holds q.space n q && not (row_forwards q.space n r)) (q.first ∷ map (λ e. e.end) (forwarded_extents q.space r)) same)
+  where
+    t : ℕ → Bool
+    t = lost_among q (xs ++ ys)
+
+    same : (n : ℕ) → lost_among q (xs ++ ys) n ≡ (holds q.space n q && not (row_forwards q.space n r))
+    same n = ap (λ (u : Bool). holds q.space n q && not u) (ap (list_any (extent_holds n)) es ∙ forwards_extents q.space n r.path r.command r.ranges)
+
+abbrev both_answer : Agent → Agent → ℕ → Bool
+both_answer x y n = answers x.space n x && answers x.space n y
+
+pub least_shared : (x y : Agent) (ks ls ms ns : List Extent) → x.extents ≡ ks ++ ls → y.extents ≡ ms ++ ns → (a b c d : Option ℕ)
+    → option_to_list a ≡ filter (both_answer x y) (map (λ e. e.first) ks)
+    → option_to_list b ≡ filter (both_answer x y) (map (λ e. e.first) ls)
+    → option_to_list c ≡ filter (both_answer x y) (map (λ e. e.first) ms)
+    → option_to_list d ≡ filter (both_answer x y) (map (λ e. e.first) ns)
+    → least_of a (least_of b (least_of c d)) ≡ shared x y
+least_shared x y ks ls ms ns p q a b c d f g h i =
+    ap (least_of a) (ap (least_of b) (ap (least_of c) (sym (least_last (both_answer x y) d (firsts ns) i)) ∙ sym (least_piece (both_answer x y) c (firsts ms) (firsts ns) h)) ∙ sym (least_piece (both_answer x y) b (firsts ls) (firsts ms ++ firsts ns) g))
+    ∙ sym (least_piece (both_answer x y) a (firsts ks) (firsts ls ++ (firsts ms ++ firsts ns)) f)
+    ∙ ap (λ zs. least (filter (both_answer x y) zs)) whole
+  where
+    firsts : List Extent → List ℕ
+    firsts es = map (λ e. e.first) es
+
+    whole : firsts ks ++ (firsts ls ++ (firsts ms ++ firsts ns)) ≡ firsts (x.extents ++ y.extents)
+    whole =
+        ap (λ zs. firsts ks ++ (firsts ls ++ zs)) (sym (map-append (λ (e : Extent). e.first) ms ns) ∙ ap firsts (sym q))
+        ∙ ap (λ zs. firsts ks ++ zs) (sym (map-append (λ (e : Extent). e.first) ls y.extents))
+        ∙ sym (map-append (λ (e : Extent). e.first) ks (ls ++ y.extents))
+        ∙ ap firsts (sym (append_assoc ks ls y.extents) ∙ ap (λ zs. zs ++ y.extents) (sym p))
+
+space_flip : (x y : Space) → same_space x y ≡ same_space y x
+space_flip io io = refl
+space_flip io memory = refl
+space_flip memory io = refl
+space_flip memory memory = refl
+
+pub none_shared : (x y : Agent) → same_space x.space y.space ≡ false → None ≡ shared x y
+none_shared x y h = ap least (sym (none_pass (both_answer x y) (map (λ e. e.first) (x.extents ++ y.extents)) (λ n m. fails n)))
+  where
+    fails : (n : ℕ) → both_answer x y n ≡ false
+    fails n = let e : same_space y.space x.space ≡ false = space_flip y.space x.space ∙ h in rw e (and_false (answers x.space n x))
+      where
+        and_false : (b : Bool) → (b && false) ≡ false
+        and_false true = refl
+        and_false false = refl

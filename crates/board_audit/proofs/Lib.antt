@@ -1,0 +1,4 @@
+pub mod Least
+pub mod Numbers
+pub mod Walk
+pub mod Above

@@ -1,0 +1,136 @@
+-- Spans in order of which each ends before the next begins are those of agents that are alone.
+use Rattle.std.proofs.Common.{◌≡◌, ℕ, zero, suc, ◌+◌, ◌-◌, ◌*◌, ◌<◌, ◌≤◌, ◌⊎◌, inl, inr, Bool, true, false, List, [], ◌∷◌, ◌++◌, length, take, get_or, refl, sym, ap, ap₂, ◌∙◌, subst, arith, append_assoc}
+use Rattle.std.specs.List.{Contains}
+use Rattle.std.specs.List.Sorted.{IsNonDecreasingBy, IsPermutation}
+use Rattle.std.proofs.lemmas.List.{length-take}
+use Rattle.std.proofs.lemmas.List.Sorted.{Contains-permutation}
+use Rattle.std.proofs.Math.Nat.{min-le_left, min-le_right}
+use Rattle.lists.specs.Elements.{EachPair, IsIn}
+use Rattle.model_registers.specs.Decoding.{Space, same_space}
+use Rattle.model_registers.proofs.HitRegions.{space_same}
+use Rattle.model_board.specs.Paths.{Path, parent}
+use Rattle.lists.proofs.Members.{each_from, in_map, in_front, in_back}
+use Rattle.model_board.proofs.PathOrder.{path_same}
+use Rattle.model_audit.specs.Agents.{Extent, Agent, answers}
+use Rattle.model_audit.specs.Orderly.{AreAlone}
+use Rattle.model_audit.specs.Problems.{contentions}
+use Rattle.model_audit.proofs.Problems.{Within, by_extent, no_contentions}
+use Rattle.board_audit.specs.declared.span.Span.{Span}
+use Rattle.board_audit.specs.Spans.{bus_key, space_key, group_of, extent_span, agent_spans, spans_from, place_of, key_of, AreApart}
+
+-- ---- spans in order
+
+-- between two spans of one group stand spans of that group
+between : (g h p q r a b c : ℕ) → p ≤ 0xffffffffffffffff → q ≤ 0xffffffffffffffff → r ≤ 0xffffffffffffffff → g * 0x10000000000000000 + p ≤ h * 0x10000000000000000 + q → h * 0x10000000000000000 + q ≤ g * 0x10000000000000000 + r → (g ≡ h) × (q ≤ r)
+between g h p q r a b c i j k l m = (omega arith, omega arith)
+
+get_any : {A : Type 0} (xs : List A) (k : ℕ) (d e : A) → k < length xs → get_or xs k d ≡ get_or xs k e
+get_any [] k d e h = absurd (omega arith)
+get_any (x ∷ xs) zero d e h = refl
+get_any (x ∷ xs) (suc k) d e h = get_any xs k d e (omega arith)
+
+module _ (spans : List Span) (rising : IsNonDecreasingBy key_of spans) (apart : AreApart spans) where
+  small : (s : Span) → place_of s ≤ 0xffffffffffffffff
+  small s = min-le_right s.first 0xffffffffffffffff
+
+  later : (i j : ℕ) (d : Span) → i < j → j < length spans → (get_or spans i d).group ≡ (get_or spans j d).group → (get_or spans i d).last < (get_or spans j d).first
+  later i j d before within same =
+      let low = rising i (i + 1) d (omega arith) (omega arith) in
+      let high = rising (i + 1) j d (omega arith) within in
+      let one = get_or spans i d in
+      let next = get_or spans (i + 1) d in
+      let other = get_or spans j d in
+      let b = between (get_or spans i d).group (get_or spans (i + 1) d).group (place_of one) (place_of next) (place_of other) 0 0 0 (small one) (small next) (small other) low
+      (subst (λ g. key_of next ≤ g * 0x10000000000000000 + place_of other) (sym same) high) in
+      let ends : (get_or spans i d).last < place_of next = apart i d (omega arith) b.0 in
+      let first : place_of other ≤ (get_or spans j d).first = min-le_left (get_or spans j d).first 0xffffffffffffffff in
+      omega (arith, ends, b.1, first)
+
+  -- two spans of two agents
+  pub two_spans : (s t : Span) → Contains spans s → Contains spans t → (s.agent ≡ t.agent → ⊥) → s.group ≡ t.group → (s.last < t.first) ⊎ (t.last < s.first)
+  two_spans s t (i, l, e) (j, m, f) differ same = by (sides i j)
+    where
+      sides : (i j : ℕ) → (i < j) ⊎ ((i ≡ j) ⊎ (j < i))
+      sides i j = grind arith
+
+      at_t : get_or spans j s ≡ t
+      at_t = get_any spans j s t m ∙ f
+
+      by : (i < j) ⊎ ((i ≡ j) ⊎ (j < i)) → (s.last < t.first) ⊎ (t.last < s.first)
+      by (inl h) = inl (subst (λ (x : Span). s.last < x.first) at_t (subst (λ (x : Span). x.last < (get_or spans j s).first) e (later i j s h m (ap (λ (x : Span). x.group) e ∙ same ∙ sym (ap (λ (x : Span). x.group) at_t)))))
+      by (inr (inl h)) = absurd (differ (ap (λ (x : Span). x.agent) (sym e ∙ ap (λ k. get_or spans k s) h ∙ at_t)))
+      by (inr (inr h)) = inr (subst (λ (x : Span). t.last < x.first) e (subst (λ (x : Span). x.last < (get_or spans i s).first) at_t (later j i s h l (ap (λ (x : Span). x.group) at_t ∙ sym same ∙ sym (ap (λ (x : Span). x.group) e)))))
+
+-- ---- agents
+
+contained : (x : Span) (xs : List Span) → IsIn x xs → Contains xs x
+contained x [] m = absurd m
+contained x (y ∷ ys) (inl e) = (0, omega arith, sym e)
+contained x (y ∷ ys) (inr m) = let c : Contains ys x = contained x ys m in (suc c.0, omega (arith, c.1), c.2)
+
+-- the spans of a later agent have a later index
+indexed : (n : ℕ) (b : Agent) (bs : List Agent) → IsIn b bs → (k : ℕ) × (n ≤ k) × ((x : Span) → IsIn x (agent_spans k b) → IsIn x (spans_from n bs))
+indexed n b [] m = absurd m
+indexed n b (c ∷ cs) (inl e) = (n, omega arith, λ x k. in_front x (agent_spans n c) (spans_from (n + 1) cs) (subst (λ (y : Agent). IsIn x (agent_spans n y)) e k))
+indexed n b (c ∷ cs) (inr m) = let r = indexed (n + 1) b cs m in (r.0, omega (arith, r.1), λ x k. in_back x (agent_spans n c) (spans_from (n + 1) cs) (r.2 x k))
+
+module _ (all spans : List Span) (moved : IsPermutation all spans) (rising : IsNonDecreasingBy key_of spans) (apart : AreApart spans) where
+  alone : (m n : ℕ) (a b : Agent) → m < n → ((x : Span) → IsIn x (agent_spans m a) → IsIn x all) → ((x : Span) → IsIn x (agent_spans n b) → IsIn x all) → AreAlone a b
+  alone m n a b less own other bus space x h = by (answers space x b) refl
+    where
+      by : (t : Bool) → answers space x b ≡ t → t ≡ false
+      by false e = refl
+      by true e = absurd (clash (by_extent space x a h) (by_extent space x b e))
+        where
+          clash : (same_space a.space space ≡ true) × (e : Extent) × IsIn e a.extents × Within x e → (same_space b.space space ≡ true) × (e : Extent) × IsIn e b.extents × Within x e → ⊥
+          clash (s, e, i, v) (t, f, j, w) = of (two_spans spans rising apart (extent_span m (group_of a) e) (extent_span n (group_of b) f)
+              (Contains-permutation all spans (extent_span m (group_of a) e) moved (contained (extent_span m (group_of a) e) all (own (extent_span m (group_of a) e) (in_map (extent_span m (group_of a)) e a.extents i))))
+              (Contains-permutation all spans (extent_span n (group_of b) f) moved (contained (extent_span n (group_of b) f) all (other (extent_span n (group_of b) f) (in_map (extent_span n (group_of b)) f b.extents j))))
+              (λ k. omega arith) same_group)
+            where
+              same_group : group_of a ≡ group_of b
+              same_group = ap₂ (λ (p : Path) (z : Space). bus_key p * 2 + space_key z) (path_same (parent a.path) (parent b.path) bus) (space_same a.space space s ∙ sym (space_same b.space space t))
+
+              of : (e.end - 1 < f.first) ⊎ (f.end - 1 < e.first) → ⊥
+              of (inl k) = omega (arith, v.from, v.below, w.from, w.below)
+              of (inr k) = omega (arith, v.from, v.below, w.from, w.below)
+
+  all_alone : (n : ℕ) (agents : List Agent) → ((x : Span) → IsIn x (spans_from n agents) → IsIn x all) → EachPair AreAlone agents
+  all_alone n [] there = tt
+  all_alone n (a ∷ bs) there = (each_from (AreAlone a) bs one, all_alone (n + 1) bs (λ x k. there x (in_back x (agent_spans n a) (spans_from (n + 1) bs) k)))
+    where
+      one : (b : Agent) → IsIn b bs → AreAlone a b
+      one b m = let r = indexed (n + 1) b bs m in
+          alone n r.0 a b (omega (arith, r.1)) (λ x k. there x (in_front x (agent_spans n a) (spans_from (n + 1) bs) k)) (λ x k. there x (in_back x (agent_spans n a) (spans_from (n + 1) bs) (r.2 x k)))
+
+pub none_contended : (agents : List Agent) (spans : List Span) → IsPermutation (spans_from 0 agents) spans → IsNonDecreasingBy key_of spans → AreApart spans → contentions agents ≡ []
+none_contended agents spans moved rising apart = no_contentions agents (all_alone (spans_from 0 agents) spans moved rising apart 0 agents (λ x m. m))
+
+-- ---- the spans of agents, one after the other
+
+pub spans_push : (n : ℕ) (xs : List Agent) (a : Agent) → spans_from n (xs ++ a ∷ []) ≡ spans_from n xs ++ agent_spans (n + length xs) a
+spans_push n [] a = let z : n ≡ n + 0 = omega arith in append_nil (agent_spans n a) ∙ ap (λ k. agent_spans k a) z
+  where
+    append_nil : (ys : List Span) → ys ++ [] ≡ ys
+    append_nil [] = refl
+    append_nil (y ∷ ys) = ap (λ zs. y ∷ zs) (append_nil ys)
+spans_push n (x ∷ xs) a =
+    let z : n + 1 + length xs ≡ n + suc (length xs) = omega arith in
+    ap (λ ys. agent_spans n x ++ ys) (spans_push (n + 1) xs a ∙ ap (λ k. spans_from (n + 1) xs ++ agent_spans k a) z)
+    ∙ sym (append_assoc (agent_spans n x) (spans_from (n + 1) xs) (agent_spans (n + suc (length xs)) a))
+
+take_more : (xs : List Agent) (i : ℕ) (a d : Agent) → a ≡ get_or xs i d → i < length xs → take (i + 1) xs ≡ take i xs ++ a ∷ []
+take_more xs i a d e h = let one : suc i ≡ i + 1 = omega arith in subst (λ n. take n xs ≡ take i xs ++ a ∷ []) one (by_suc xs i e h)
+  where
+    by_suc : (xs : List Agent) (i : ℕ) → a ≡ get_or xs i d → i < length xs → take (suc i) xs ≡ take i xs ++ a ∷ []
+    by_suc [] i e h = absurd (omega arith)
+    by_suc (x ∷ xs) zero e h = ap (λ z. z ∷ []) (sym e)
+    by_suc (x ∷ xs) (suc i) e h = ap (λ zs. x ∷ zs) (by_suc xs i e (omega arith))
+
+pub spans_more : (xs : List Agent) (i : ℕ) (a d : Agent) → a ≡ get_or xs i d → i < length xs → spans_from 0 (take i xs) ++ agent_spans i a ≡ spans_from 0 (take (i + 1) xs)
+spans_more xs i a d e h =
+    let size : 0 + length (take i xs) ≡ i = taken xs i h in
+    sym (ap (spans_from 0) (take_more xs i a d e h) ∙ spans_push 0 (take i xs) a ∙ ap (λ k. spans_from 0 (take i xs) ++ agent_spans k a) size)
+  where
+    taken : (xs : List Agent) (k : ℕ) → k < length xs → 0 + length (take k xs) ≡ k
+    taken xs k l = simp length-take (omega (arith, l))

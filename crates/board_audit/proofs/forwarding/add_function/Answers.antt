@@ -1,0 +1,22 @@
+use Rattle.std.proofs.Common.{◌≡◌, ◌++◌, List, map, ap, subst, ◌∙◌}
+use Rattle.std.specs.Prelude.{OnOk, filter, flat_map}
+use Rattle.std.specs.Option.{option_to_list}
+use Rattle.lists.specs.Elements.{first_some}
+use Rattle.model_board.specs.Paths.{leads_to}
+use Rattle.model_board.specs.Routing.{RoutingRow}
+use Rattle.model_set_up.specs.PlacedRegions.{PlacedRegion}
+use Rattle.model_audit.specs.OpenRegions.{open_of}
+use Rattle.model_audit.specs.Problems.{Problem, blame}
+use Rattle.board_audit.specs.Bridges.{rows_nth}
+use Rattle.board_audit.specs.Told.{problem_of}
+use Rattle.board_audit.proofs.Above.{function_blames}
+use Rattle.board_audit.proofs.forwarding.add_function.Goals as goal
+
+pub returns : goal.returns
+returns c =
+    let rows = c.args.rows.now in
+    let row = c.args.row.now in
+    let above = ap (rows_nth rows) c.deref.ensures.value ∙ c.in_ok-above.ensures ∙ ap (λ (x : RoutingRow). filter (λ (r : RoutingRow). leads_to r.path x.path) rows) c.row.view_is in
+    let regions = c.deref-2.ensures.value ∙ c.in_ok-add_open.ensures ∙ ap (λ (qs : List PlacedRegion). qs ++ open_of row) c.new-regions.ensures.items in
+    let whole = ap (λ (qs : List PlacedRegion). flat_map (λ q. option_to_list (first_some (blame q) (rows_nth rows c.deref.result.now))) qs) regions ∙ function_blames rows (rows_nth rows c.deref.result.now) row above in
+    subst (λ (ps : List Problem). OnOk c.add_blames.result (map problem_of c.add_blames.new.told.items ≡ map problem_of c.args.told.now.items ++ ps)) whole c.add_blames.ensures

@@ -1,0 +1,18 @@
+-- The addresses that agents answer, in the program's words.
+--     extent_of, extents_of      a window, both ends included, and up to two of them
+--     least_of      the lesser of two numbers that may be there
+use Rattle.std.specs.Prelude.{List, ◌++◌, ℕ, ◌+◌, min, Option, Some, None}
+use Rattle.std.specs.Option.{option_map, option_to_list}
+use Rattle.model_audit.specs.Agents.{Extent}
+use Rattle.bridge_forward.specs.declared.routing.Window.{Window}
+
+abbrev pub extent_of : Window → Extent
+extent_of w = record { first = w.first; end = w.last + 1 }
+
+abbrev pub extents_of : Option Window → Option Window → List Extent
+extents_of one other = option_to_list (option_map extent_of one) ++ option_to_list (option_map extent_of other)
+
+abbrev pub least_of : Option ℕ → Option ℕ → Option ℕ
+least_of None y = y
+least_of (Some x) None = Some x
+least_of (Some x) (Some y) = Some (min x y)

@@ -1,0 +1,4 @@
+pub mod Extents
+pub mod Bridges
+pub mod Spans
+pub mod Told

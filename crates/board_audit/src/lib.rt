@@ -1,0 +1,18 @@
+//! An audit of a board's registers as they stand: which open regions are not forwarded, which agents
+//! of one bus answer one address, and which functions no cycle finds.
+#![tactic(auto)]
+
+mod agent;
+mod finding;
+mod forwarding;
+mod gather;
+mod numbering;
+mod problem;
+mod region;
+mod row;
+mod span;
+
+pub use agent::Agent;
+pub use finding::problems;
+pub use problem::Problem;
+pub use region::OpenRegion;

@@ -1,0 +1,65 @@
+//! An open region.
+ghost use Rattle.std.specs.Prelude.{◌≡◌, ◌+◌, [], ◌∷◌, filter};
+ghost use Rattle.std.specs.Option.{option_to_list};
+ghost use Rattle.model_set_up.specs.PlacedRegions.{holds};
+ghost use Rattle.board_audit.specs.Extents.{extent_of};
+
+use crate::row::holds;
+use bridge_forward::{Path, RegionNow, Window};
+use std::marker::Model;
+
+/// A region whose space Command opens, and the path of its endpoint.
+#[derive(Debug, Drop)]
+pub struct OpenRegion {
+    pub path: Path,
+    pub region: RegionNow,
+}
+
+impl Model for OpenRegion {
+    ghost use Rattle.model_set_up.specs.PlacedRegions.{PlacedRegion};
+    ghost use Rattle.model_audit.specs.OpenRegions.{region_now};
+    ghost use Rattle.bridge_forward.specs.RoutingRows.{base_of};
+
+    ghost Value = { PlacedRegion };
+
+    ghost view = { λ r. region_now r.path (base_of r.region) };
+}
+
+/// The addresses of a region.
+pub(crate) fn extent(region: RegionNow) -> Window
+    ensures { extent_of result ≡ record { first = region.base; end = region.base + region.size } }
+{
+    Window {
+        first: region.base,
+        last: region.base + (region.size - 1),
+    }
+}
+
+impl OpenRegion {
+    /// Whether the region holds an address of its space.
+    pub(crate) fn holds(&self, addr: u64) -> bool
+        ensures { result ≡ holds self.now.space addr self.now }
+    {
+        holds(extent(self.region), addr)
+    }
+
+    /// The address after a window, if the region holds it.
+    pub(crate) fn end_held(&self, window: Window) -> Option<u64>
+        ensures { option_to_list result
+            ≡ filter (λ n. holds self.now.space n self.now) ((extent_of window).end ∷ []) }
+    {
+        let held = extent(self.region);
+        let end = window.last.checked_add(1)?;
+        if holds(held, end) { Some(end) } else { None }
+    }
+
+    /// The same region.
+    pub(crate) fn copied(&self) -> OpenRegion
+        ensures { result ≡ self.now }
+    {
+        OpenRegion {
+            path: self.path.copied(),
+            region: self.region,
+        }
+    }
+}

@@ -1,0 +1,144 @@
+-- The rules that the entries of a board file are asked, by the fault of a file in which one is broken: each with
+-- whether it is kept.
+--     file_rules, host_rules, endpoint_rules, bar_rules, config_rules, bridge_rules, guest_rules, slot_rules
+use Rattle.std.specs.Prelude.{ℕ, ℤ, ◌+◌, nat_abs, pos, int_le, ◌+ℤ◌, Bool, not, ◌&&◌, ◌||◌, length, nat_le, take, map, List, [], ◌∷◌, ◌++◌, option_map}
+use Rattle.std.specs.List.{list_all}
+use Rattle.std.specs.Str.{bytes_eq}
+use Rattle.model_registers.specs.Apertures.{is_io_aperture, is_mem_aperture, has_lawful_pref}
+use Rattle.model_registers.specs.DeclarationRules.{has_own_registers}
+use Rattle.model_board.specs.Paths.{Path, path_eq, parent, function_zero}
+use Rattle.model_board.specs.Places.{has_path, has_bridge}
+use Rattle.model_guests.specs.World.{is_name}
+use Rattle.board_file.specs.Entries.{Bar, Config, Endpoint, Bridge, Guest, File}
+use Rattle.board_file.specs.Blocks.{is_block}
+use Rattle.board_file.specs.PathTexts.{is_path_text, path_at}
+use Rattle.board_file.specs.Functions.{region, standings, aperture}
+use Rattle.board_file.specs.Rules.{is_between, has_only_bits, has_few_slashes, is_root, is_size, is_natural, are_natural, names_endpoint}
+use Rattle.board_file.specs.declared.rule.Rule.{Rule}
+use Rattle.board_file.specs.declared.rule.Rule.TheVariants as rule
+use Rattle.board_file.specs.declared.fault.BoardFault.{BoardFault}
+use Rattle.board_file.specs.declared.fault.BoardFault.TheVariants as fault
+
+-- ---- the file and the host
+
+abbrev pub file_rules : BoardFault → File → List (Rule × Bool)
+file_rules fault.TooMany f =
+    (rule.Functions, nat_le (length f.endpoints + length f.bridges) 1024) ∷ (rule.Guests, nat_le (length f.guests) 32) ∷ []
+file_rules _ f = []
+
+abbrev pub host_rules : BoardFault → File → List (Rule × Bool)
+host_rules fault.Aperture f =
+    (rule.IoAperture, is_natural f.io && is_io_aperture (aperture f.io))
+    ∷ (rule.MemAperture, is_natural f.mem && is_mem_aperture (aperture f.mem))
+    ∷ (
+      rule.PrefAperture,
+      are_natural f.pref
+          && (not (is_mem_aperture (aperture f.mem)) || has_lawful_pref (aperture f.mem) (option_map aperture f.pref)),
+    ) ∷ []
+host_rules _ f = []
+
+-- ---- functions
+
+-- two texts of the same path
+abbrev pub are_same_place : List ℕ → List ℕ → Bool
+are_same_place a b = is_path_text a && is_path_text b && path_eq (path_at a) (path_at b)
+
+-- no function with an earlier `at` stands at the same path: of the first n endpoints and the first m bridges
+abbrev pub is_own_place : File → ℕ → ℕ → List ℕ → Bool
+is_own_place f n m at =
+    list_all (λ e. not (are_same_place e.at at)) (take n f.endpoints)
+    && list_all (λ b. not (are_same_place b.at at)) (take m f.bridges)
+
+abbrev pub is_behind_bridge : File → Path → Bool
+is_behind_bridge f bus = is_root bus || has_bridge (standings f) bus
+
+-- of a function whose `at` comes after those of n endpoints and m bridges
+abbrev pub place_rules : File → ℕ → ℕ → List ℕ → List (Rule × Bool)
+place_rules f n m at =
+    (rule.Path, is_path_text at)
+    ∷ (rule.OwnPlace, is_own_place f n m at)
+    ∷ (rule.BehindBridge, is_behind_bridge f (parent (path_at at)))
+    ∷ (rule.FunctionZero, has_path (standings f) (function_zero (path_at at))) ∷ []
+
+abbrev pub has_indices : Endpoint → Bool
+has_indices e = list_all (λ b. is_between 0 5 b.index) e.bars
+
+abbrev pub identity_rules : ℤ → ℤ → ℤ → List (Rule × Bool)
+identity_rules vendor device revision =
+    (rule.Vendor, is_between 0 0xfffe vendor)
+    ∷ (rule.Device, is_between 0 0xffff device)
+    ∷ (rule.Revision, is_between 0 0xff revision) ∷ []
+
+abbrev pub class_rules : Endpoint → List (Rule × Bool)
+class_rules e =
+    (rule.Class, is_between 0 0xffffff e.class)
+    ∷ (rule.Subvendor, is_between 0 0xffff e.subvendor)
+    ∷ (rule.Subsystem, is_between 0 0xffff e.subsystem) ∷ []
+
+abbrev pub need_rules : Endpoint → List (Rule × Bool)
+need_rules e =
+    (rule.Pin, is_between 0 4 e.pin)
+    ∷ (rule.MinGnt, is_between 0 0xff e.min_gnt)
+    ∷ (rule.MaxLat, is_between 0 0xff e.max_lat)
+    ∷ (rule.Status, has_only_bits 0xf900 e.status) ∷ []
+
+abbrev pub endpoint_numbers : Endpoint → List (Rule × Bool)
+endpoint_numbers e = identity_rules e.vendor e.device e.revision ++ class_rules e ++ need_rules e
+
+abbrev pub endpoint_rules : BoardFault → File → ℕ → Endpoint → List (Rule × Bool)
+endpoint_rules fault.Number f n e = endpoint_numbers e
+endpoint_rules fault.TooMany f n e = (rule.Slashes, has_few_slashes e.at) ∷ []
+endpoint_rules fault.Place f n e = place_rules f n 0 e.at
+endpoint_rules fault.Register f n e =
+    (rule.OwnRegisters, not (has_indices e) || has_own_registers (map region e.bars)) ∷ []
+endpoint_rules _ f n e = []
+
+abbrev pub bar_rules : BoardFault → Bar → List (Rule × Bool)
+bar_rules fault.Number b = (rule.BarBlock, is_between 0 4096 b.block) ∷ []
+bar_rules fault.Register b = (rule.Index, is_between 0 5 b.index) ∷ []
+bar_rules fault.Size b = (rule.Size, is_size b.kind b.size) ∷ (rule.BlockFits, int_le b.block b.size) ∷ []
+bar_rules fault.CellMasks b = (rule.BarMasks, is_block (nat_abs b.block) b.patterns) ∷ []
+bar_rules _ b = []
+
+-- one block ends before the other begins
+abbrev pub are_apart : Config → Config → Bool
+are_apart c d =
+    nat_le (nat_abs c.off + nat_abs c.block) (nat_abs d.off) || nat_le (nat_abs d.off + nat_abs d.block) (nat_abs c.off)
+
+-- of a block of own registers that comes after n others of a device
+abbrev pub config_rules : BoardFault → List Config → ℕ → Config → List (Rule × Bool)
+config_rules fault.Number cs n c =
+    (rule.ConfigOff, is_between 0x40 0xff c.off)
+    ∷ (rule.ConfigBlock, is_between 1 192 c.block)
+    ∷ (rule.ConfigEnd, int_le (c.off +ℤ c.block) (pos 256)) ∷ []
+config_rules fault.CellMasks cs n c =
+    (rule.ConfigMasks, is_block (nat_abs c.block) c.patterns)
+    ∷ (rule.OwnOffsets, list_all (λ d. are_apart d c) (take n cs)) ∷ []
+config_rules _ cs n c = []
+
+abbrev pub bridge_rules : BoardFault → File → ℕ → Bridge → List (Rule × Bool)
+bridge_rules fault.Number f n b = identity_rules b.vendor b.device b.revision
+bridge_rules fault.TooMany f n b = (rule.Slashes, has_few_slashes b.at) ∷ []
+bridge_rules fault.Place f n b = place_rules f (length f.endpoints) n b.at
+bridge_rules _ f n b = []
+
+-- ---- guests
+
+-- of a guest that comes after n others
+abbrev pub guest_rules : BoardFault → File → ℕ → Guest → List (Rule × Bool)
+guest_rules fault.TooMany f n g = (rule.Slots, nat_le (length g.slots) 32) ∷ []
+guest_rules fault.GuestName f n g =
+    (rule.Name, is_name g.name)
+    ∷ (rule.OwnName, list_all (λ h. not (bytes_eq h.name g.name)) (take n f.guests)) ∷ []
+guest_rules _ f n g = []
+
+-- no earlier slot has the same path: of the first n guests, and the first m texts of the guest itself
+abbrev pub is_own_slot : File → ℕ → List (List ℕ) → ℕ → List ℕ → Bool
+is_own_slot f n own m t =
+    list_all (λ g. list_all (λ s. not (are_same_place s t)) g.slots) (take n f.guests)
+    && list_all (λ s. not (are_same_place s t)) (take m own)
+
+abbrev pub slot_rules : BoardFault → File → ℕ → List (List ℕ) → ℕ → List ℕ → List (Rule × Bool)
+slot_rules fault.Slot f n own m t =
+    (rule.NamesEndpoint, names_endpoint (standings f) t) ∷ (rule.OwnSlot, is_own_slot f n own m t) ∷ []
+slot_rules _ f n own m t = []

@@ -1,0 +1,336 @@
+//! The endpoints and bridges of a file that break a rule.
+ghost use Rattle.std.specs.Prelude.{◌≡◌, OnOk, flat_map};
+ghost use Rattle.std.specs.List.{enumerate_from};
+ghost use Rattle.board_file.specs.EntryRules.{identity_rules, class_rules, need_rules, endpoint_numbers, place_rules, endpoint_rules};
+ghost use Rattle.board_file.specs.Functions.{standings};
+ghost use Rattle.board_file.specs.Problems.{Adds, broken, of_bar, of_config, of_endpoint, of_bridge};
+
+use crate::blocks::{has_own_offsets, is_block};
+use crate::entries::{BarEntry, BridgeEntry, ConfigEntry, EndpointEntry, FileEntries};
+use crate::entry::Entry;
+use crate::fault::BoardFault;
+use crate::finding::{Problem, push_broken};
+use crate::numbers::{config_ends, has_few_slashes, has_only_bits, is_between};
+use crate::path_text::PathText;
+use crate::places::{FunctionPath, has_path, is_behind_bridge, is_own_place};
+use crate::regions::{has_own_registers, is_index, is_size};
+use crate::rule::Rule;
+use std::alloc::{AllocError, Global};
+
+/// Appends what is wrong with a region.
+fn push_bar(
+    alloc: Global,
+    problems: &mut Vec<Problem<'_>>,
+    fault: BoardFault,
+    endpoint: usize,
+    index: usize,
+    bar: &BarEntry<'_>,
+) -> Result<(), AllocError>
+    ensures { OnOk result (Adds (of_bar fault endpoint (index, bar.now)) problems.old.items problems.new.items) }
+{
+    let entry = Entry::Bar(endpoint, index);
+    match fault {
+        BoardFault::Number => {
+            let block = is_between(0, 4096, bar.block);
+            push_broken(problems, entry, &[(Rule::BarBlock, block)])
+        }
+        BoardFault::Register => push_broken(problems, entry, &[(Rule::Index, is_index(bar))]),
+        BoardFault::Size => push_broken(
+            problems,
+            entry,
+            &[
+                (Rule::Size, is_size(bar.kind, bar.size)),
+                (Rule::BlockFits, bar.block <= bar.size),
+            ],
+        ),
+        BoardFault::CellMasks => {
+            let masks = is_block(alloc, bar.block, &bar.patterns)?;
+            push_broken(problems, entry, &[(Rule::BarMasks, masks)])
+        }
+        _ => Ok(()),
+    }
+}
+
+/// Appends what is wrong with a block of own registers.
+fn push_config(
+    alloc: Global,
+    problems: &mut Vec<Problem<'_>>,
+    fault: BoardFault,
+    endpoint: usize,
+    configs: &[ConfigEntry<'_>],
+    index: usize,
+    config: &ConfigEntry<'_>,
+) -> Result<(), AllocError>
+    ensures { OnOk result
+        (Adds (of_config fault endpoint configs.now (index, config.now)) problems.old.items problems.new.items) }
+{
+    let entry = Entry::Config(endpoint, index);
+    match fault {
+        BoardFault::Number => push_broken(
+            problems,
+            entry,
+            &[
+                (Rule::ConfigOff, is_between(0x40, 0xff, config.off)),
+                (Rule::ConfigBlock, is_between(1, 192, config.block)),
+                (Rule::ConfigEnd, config_ends(config)),
+            ],
+        ),
+        BoardFault::CellMasks => {
+            let masks = is_block(alloc, config.block, &config.patterns)?;
+            push_broken(
+                problems,
+                entry,
+                &[
+                    (Rule::ConfigMasks, masks),
+                    (Rule::OwnOffsets, has_own_offsets(configs, index, config)),
+                ],
+            )
+        }
+        _ => Ok(()),
+    }
+}
+
+/// Appends what is wrong with the identity of an endpoint.
+fn push_identity(
+    problems: &mut Vec<Problem<'_>>,
+    entry: Entry,
+    endpoint: &EndpointEntry<'_>,
+) -> Result<(), AllocError>
+    ensures { let e = endpoint.now in OnOk result
+        (Adds (broken entry (identity_rules e.vendor e.device e.revision)) problems.old.items problems.new.items) }
+{
+    push_broken(
+        problems,
+        entry,
+        &[
+            (Rule::Vendor, is_between(0, 0xfffe, endpoint.vendor)),
+            (Rule::Device, is_between(0, 0xffff, endpoint.device)),
+            (Rule::Revision, is_between(0, 0xff, endpoint.revision)),
+        ],
+    )
+}
+
+/// Appends what is wrong with an endpoint's class and subsystem.
+fn push_class(
+    problems: &mut Vec<Problem<'_>>,
+    entry: Entry,
+    endpoint: &EndpointEntry<'_>,
+) -> Result<(), AllocError>
+    ensures { OnOk result (Adds (broken entry (class_rules endpoint.now)) problems.old.items problems.new.items) }
+{
+    push_broken(
+        problems,
+        entry,
+        &[
+            (Rule::Class, is_between(0, 0xff_ffff, endpoint.class)),
+            (Rule::Subvendor, is_between(0, 0xffff, endpoint.subvendor)),
+            (Rule::Subsystem, is_between(0, 0xffff, endpoint.subsystem)),
+        ],
+    )
+}
+
+/// Appends what is wrong with an endpoint's pin, what it needs of the bus, and its Status.
+fn push_needs(
+    problems: &mut Vec<Problem<'_>>,
+    entry: Entry,
+    endpoint: &EndpointEntry<'_>,
+) -> Result<(), AllocError>
+    ensures { OnOk result (Adds (broken entry (need_rules endpoint.now)) problems.old.items problems.new.items) }
+{
+    push_broken(
+        problems,
+        entry,
+        &[
+            (Rule::Pin, is_between(0, 4, endpoint.pin)),
+            (Rule::MinGnt, is_between(0, 0xff, endpoint.min_gnt)),
+            (Rule::MaxLat, is_between(0, 0xff, endpoint.max_lat)),
+            (Rule::Status, has_only_bits(0xf900, endpoint.status)),
+        ],
+    )
+}
+
+/// Appends what is wrong with the numbers of an endpoint.
+fn push_numbers(
+    problems: &mut Vec<Problem<'_>>,
+    entry: Entry,
+    endpoint: &EndpointEntry<'_>,
+) -> Result<(), AllocError>
+    ensures { OnOk result (Adds (broken entry (endpoint_numbers endpoint.now)) problems.old.items problems.new.items) }
+{
+    push_identity(problems, entry, endpoint)?;
+    push_class(problems, entry, endpoint)?;
+    push_needs(problems, entry, endpoint)
+}
+
+/// Appends what is wrong with where a function stands, whose `at` comes after those of so many endpoints and
+/// bridges.
+fn push_place(
+    problems: &mut Vec<Problem<'_>>,
+    file: &FileEntries<'_>,
+    functions: &[FunctionPath],
+    entry: Entry,
+    endpoints: usize,
+    bridges: usize,
+    at: &PathText<'_>,
+) -> Result<(), AllocError>
+    requires { functions.now ≡ standings file.now }
+    ensures { OnOk result
+        (Adds (broken entry (place_rules file.now endpoints bridges at.now)) problems.old.items problems.new.items) }
+{
+    let path = at.path();
+    push_broken(
+        problems,
+        entry,
+        &[
+            (Rule::Path, at.is_path()),
+            (Rule::OwnPlace, is_own_place(file, endpoints, bridges, at)),
+            (
+                Rule::BehindBridge,
+                is_behind_bridge(functions, path.parent()),
+            ),
+            (
+                Rule::FunctionZero,
+                has_path(functions, &path.function_zero()),
+            ),
+        ],
+    )
+}
+
+/// Appends what is wrong with an endpoint itself.
+fn push_endpoint(
+    problems: &mut Vec<Problem<'_>>,
+    file: &FileEntries<'_>,
+    functions: &[FunctionPath],
+    fault: BoardFault,
+    index: usize,
+    endpoint: &EndpointEntry<'_>,
+) -> Result<(), AllocError>
+    requires { functions.now ≡ standings file.now }
+    ensures { OnOk result (Adds (broken (Entry.Endpoint index) (endpoint_rules fault file.now index endpoint.now))
+        problems.old.items problems.new.items) }
+{
+    let entry = Entry::Endpoint(index);
+    match fault {
+        BoardFault::Number => push_numbers(problems, entry, endpoint),
+        BoardFault::TooMany => {
+            let slashes = has_few_slashes(&endpoint.at);
+            push_broken(problems, entry, &[(Rule::Slashes, slashes)])
+        }
+        BoardFault::Place => {
+            push_place(problems, file, functions, entry, index, 0, &endpoint.at)
+        }
+        BoardFault::Register => {
+            let own = has_own_registers(endpoint);
+            push_broken(problems, entry, &[(Rule::OwnRegisters, own)])
+        }
+        _ => Ok(()),
+    }
+}
+
+/// Appends what is wrong with regions.
+fn push_bars(
+    alloc: Global,
+    problems: &mut Vec<Problem<'_>>,
+    fault: BoardFault,
+    endpoint: usize,
+    bars: &[BarEntry<'_>],
+) -> Result<(), AllocError>
+    ensures { OnOk result
+        (Adds (flat_map (of_bar fault endpoint) (enumerate_from 0 bars.now)) problems.old.items problems.new.items) }
+{
+    'bars: for (index, bar) in bars.iter().enumerate() {
+        push_bar(alloc, problems, fault, endpoint, index, bar)?;
+    }
+    Ok(())
+}
+
+/// Appends what is wrong with blocks of own registers.
+fn push_configs(
+    alloc: Global,
+    problems: &mut Vec<Problem<'_>>,
+    fault: BoardFault,
+    endpoint: usize,
+    configs: &[ConfigEntry<'_>],
+) -> Result<(), AllocError>
+    ensures { OnOk result (Adds (flat_map (of_config fault endpoint configs.now) (enumerate_from 0 configs.now))
+        problems.old.items problems.new.items) }
+{
+    'configs: for (index, config) in configs.iter().enumerate() {
+        push_config(alloc, problems, fault, endpoint, configs, index, config)?;
+    }
+    Ok(())
+}
+
+/// Appends what is wrong with endpoints, each before its regions and its own registers.
+pub(crate) fn push_endpoints(
+    alloc: Global,
+    problems: &mut Vec<Problem<'_>>,
+    file: &FileEntries<'_>,
+    functions: &[FunctionPath],
+    fault: BoardFault,
+) -> Result<(), AllocError>
+    requires { functions.now ≡ standings file.now }
+    ensures { OnOk result (Adds (flat_map (of_endpoint fault file.now) (enumerate_from 0 file.now.endpoints))
+        problems.old.items problems.new.items) }
+{
+    'endpoints: for (index, endpoint) in file.endpoints.iter().enumerate() {
+        push_endpoint(problems, file, functions, fault, index, endpoint)?;
+        push_bars(alloc, problems, fault, index, &endpoint.bars)?;
+        push_configs(alloc, problems, fault, index, &endpoint.configs)?;
+    }
+    Ok(())
+}
+
+/// Appends what is wrong with a bridge.
+fn push_bridge(
+    problems: &mut Vec<Problem<'_>>,
+    file: &FileEntries<'_>,
+    functions: &[FunctionPath],
+    fault: BoardFault,
+    index: usize,
+    bridge: &BridgeEntry<'_>,
+) -> Result<(), AllocError>
+    requires { functions.now ≡ standings file.now }
+    ensures { OnOk result (Adds (of_bridge fault file.now (index, bridge.now)) problems.old.items problems.new.items) }
+{
+    let entry = Entry::Bridge(index);
+    match fault {
+        BoardFault::Number => push_broken(
+            problems,
+            entry,
+            &[
+                (Rule::Vendor, is_between(0, 0xfffe, bridge.vendor)),
+                (Rule::Device, is_between(0, 0xffff, bridge.device)),
+                (Rule::Revision, is_between(0, 0xff, bridge.revision)),
+            ],
+        ),
+        BoardFault::TooMany => {
+            let slashes = has_few_slashes(&bridge.at);
+            push_broken(problems, entry, &[(Rule::Slashes, slashes)])
+        }
+        BoardFault::Place => {
+            let endpoints = file.endpoints.len();
+            push_place(
+                problems, file, functions, entry, endpoints, index, &bridge.at,
+            )
+        }
+        _ => Ok(()),
+    }
+}
+
+/// Appends what is wrong with bridges.
+pub(crate) fn push_bridges(
+    problems: &mut Vec<Problem<'_>>,
+    file: &FileEntries<'_>,
+    functions: &[FunctionPath],
+    fault: BoardFault,
+) -> Result<(), AllocError>
+    requires { functions.now ≡ standings file.now }
+    ensures { OnOk result (Adds (flat_map (of_bridge fault file.now) (enumerate_from 0 file.now.bridges))
+        problems.old.items problems.new.items) }
+{
+    'bridges: for (index, bridge) in file.bridges.iter().enumerate() {
+        push_bridge(problems, file, functions, fault, index, bridge)?;
+    }
+    Ok(())
+}

@@ -1,0 +1,81 @@
+-- The regions of six registers, one after the other, and each within 64 bits.
+use Rattle.std.proofs.Common.{◌≡◌, ℕ, zero, suc, ◌+◌, ◌^◌, ◌<◌, ◌≤◌, List, [], ◌∷◌, ◌++◌, length, take, get_or, Option, Some, None, refl, sym, ap, ap₂, ◌∙◌, subst, arith}
+use Rattle.std.specs.Prelude.{map, slice_get, option_map}
+use Rattle.std.specs.Option.{option_to_list}
+use Rattle.std.proofs.lemmas.List.{map-append, length-take}
+use Rattle.std.proofs.lemmas.Option.{slice_get_within}
+use Rattle.lists.specs.Elements.{Each}
+use Rattle.model_registers.specs.EndpointTable.{BaseAddress, IsLawfulBase, base_width}
+use Rattle.model_registers.specs.Windows as model
+use Rattle.model_registers.proofs.Bases.{base_room}
+use Rattle.headers.specs.WindowPairs.{pair_of}
+use Rattle.bars.specs.declared.region.Region.{Region}
+use Rattle.bars.specs.Slots.{placed, bases_from}
+use Rattle.bars.proofs.Regions.{width_limit, size_positive}
+use Rattle.bridge_forward.specs.RoutingRows.{window_of, base_of}
+use Rattle.bridge_forward.specs.declared.region_now.RegionNow.{RegionNow}
+
+-- ---- one more register
+
+bases_push : (n : ℕ) (slots : List (Option Region)) (o : Option Region) → bases_from n (slots ++ o ∷ []) ≡ bases_from n slots ++ bases_from (n + length slots) (o ∷ [])
+bases_push n [] o = let z : n ≡ n + 0 = omega arith in ap (λ m. bases_from m (o ∷ [])) z
+bases_push n (None ∷ slots) o = let z : n + 1 + length slots ≡ n + suc (length slots) = omega arith in bases_push (n + 1) slots o ∙ ap (λ m. bases_from (n + 1) slots ++ bases_from m (o ∷ [])) z
+bases_push n (Some x ∷ slots) o =
+    let z : n + 1 + length slots ≡ n + suc (length slots) = omega arith in
+    ap (λ rs. placed n x ∷ rs) (bases_push (n + 1) slots o ∙ ap (λ m. bases_from (n + 1) slots ++ bases_from m (o ∷ [])) z)
+
+take_at : {A : Type 0} (xs : List A) (i : ℕ) (x : A) → slice_get xs i ≡ Some x → take (i + 1) xs ≡ take i xs ++ x ∷ []
+take_at xs i x e = let one : suc i ≡ i + 1 = omega arith in subst (λ n. take n xs ≡ take i xs ++ x ∷ []) one (by_suc xs i x e)
+  where
+    by_suc : {A : Type 0} (xs : List A) (i : ℕ) (x : A) → slice_get xs i ≡ Some x → take (suc i) xs ≡ take i xs ++ x ∷ []
+    by_suc [] i x e = absurd (cc)
+    by_suc (y ∷ xs) zero x e = let same : y ≡ x = cc in ap (λ z. z ∷ []) same
+    by_suc (y ∷ xs) (suc i) x e = ap (λ zs. y ∷ zs) (by_suc xs i x e)
+
+pub slot_there : (slots : List (Option Region)) (i j : ℕ) (o d : Option Region) → o ≡ get_or slots j d → j ≡ i → i < length slots → slice_get slots i ≡ Some o
+slot_there slots i j o d e same within = there slots i o d (e ∙ ap (λ k. get_or slots k d) same) within
+  where
+    there : (xs : List (Option Region)) (k : ℕ) (x y : Option Region) → x ≡ get_or xs k y → k < length xs → slice_get xs k ≡ Some x
+    there [] k x y e l = absurd (omega arith)
+    there (z ∷ xs) zero x y e l = ap Some (sym e)
+    there (z ∷ xs) (suc k) x y e l = there xs k x y e (omega arith)
+
+pub register_push : (slots : List (Option Region)) (i : ℕ) (o : Option Region) (rs : List RegionNow) (found : Option RegionNow) → slice_get slots i ≡ Some o
+    → map base_of rs ≡ bases_from 0 (take i slots) → map base_of (option_to_list found) ≡ bases_from i (o ∷ []) → map base_of (rs ++ option_to_list found) ≡ bases_from 0 (take (i + 1) slots)
+register_push slots i o rs found at so_far is =
+    let size : 0 + length (take i slots) ≡ i = taken slots i o at in
+    map-append base_of rs (option_to_list found) ∙ ap₂ ◌++◌ so_far is
+    ∙ sym (ap (bases_from 0) (take_at slots i o at) ∙ bases_push 0 (take i slots) o ∙ ap (λ k. bases_from 0 (take i slots) ++ bases_from k (o ∷ [])) size)
+  where
+    taken : (xs : List (Option Region)) (k : ℕ) (x : Option Region) → slice_get xs k ≡ Some x → 0 + length (take k xs) ≡ k
+    taken xs k x e = let l : k < length xs = slice_get_within xs k x e in simp length-take (omega (arith, l))
+
+-- ---- one region
+
+slot_in : (P : BaseAddress → Type 0) (n : ℕ) (slots : List (Option Region)) (i : ℕ) (r : Region) → Each P (bases_from n slots) → slice_get slots i ≡ Some (Some r) → P (placed (n + i) r)
+slot_in P n [] i r h e = absurd (cc)
+slot_in P n (None ∷ slots) zero r h e = absurd (cc)
+slot_in P n (Some x ∷ slots) zero r h e = let same : x ≡ r = cc in let z : n ≡ n + 0 = omega arith in subst (λ m. P (placed m r)) z (subst (λ y. P (placed n y)) same h.0)
+slot_in P n (None ∷ slots) (suc i) r h e = let z : n + 1 + i ≡ n + suc i = omega arith in subst (λ m. P (placed m r)) z (slot_in P (n + 1) slots i r h e)
+slot_in P n (Some x ∷ slots) (suc i) r h e = let z : n + 1 + i ≡ n + suc i = omega arith in subst (λ m. P (placed m r)) z (slot_in P (n + 1) slots i r h.1 e)
+
+pub record HasRoom (size base : ℕ) : Type 0 where
+  pub some : 0 < size
+  pub fits : base + size ≤ 2 ^ 64
+
+pub has_room : (slots : List (Option Region)) (i : ℕ) (r : Region) → Each IsLawfulBase (bases_from 0 slots) → slice_get slots i ≡ Some (Some r) → HasRoom r.decl.size r.base
+has_room slots i r h e =
+    let b : IsLawfulBase (placed (0 + i) r) = slot_in IsLawfulBase 0 slots i r h e in
+    let room : r.base + r.decl.size ≤ 2 ^ base_width r.decl.kind = base_room (placed (0 + i) r) b in
+    let limit : 2 ^ base_width r.decl.kind ≤ 2 ^ 64 = width_limit r.decl.kind in
+    record { some = size_positive r.decl.kind r.decl.size b.size_is_lawful; fits = omega (arith, room, limit) }
+
+-- ---- windows
+
+pub window_from : (first last : ℕ) (w : Option model.Window) → Some (first, last) ≡ option_map pair_of w → Some (window_of (record { first = first; last = last })) ≡ w
+window_from first last None e = cc
+window_from first last (Some w) e = let same : (first, last) ≡ (w.first, w.last) = cc in ap (λ (p : ℕ × ℕ). Some (record { first = p.0; last = p.1 })) same
+
+pub no_window : (w : Option model.Window) → None ≡ option_map pair_of w → None ≡ w
+no_window None e = refl
+no_window (Some w) e = cc

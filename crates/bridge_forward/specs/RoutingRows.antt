@@ -1,0 +1,37 @@
+-- The routing registers of a function, in the words of the definitions: PCI Local Bus 3.0, chapter 6.2.5; PCI-to-PCI
+-- Bridge Architecture 1.2, chapter 4.
+--     window_of, base_of      a window, and a region with its base
+--     named_ranges      the regions of an endpoint, or the windows of a bridge
+--     secondary_of, secondary_nth      the Secondary Bus Number of a bridge; of the one at an index of the list
+use Rattle.std.specs.Prelude.{List, ℕ, Option, Some, None, map, option_map, slice_get}
+use Rattle.std.specs.Option.{option_map_or}
+use Rattle.model_registers.specs.Registers.{File}
+use Rattle.model_registers.specs.EndpointTable.{BaseAddress}
+use Rattle.model_registers.specs.Windows as model
+use Rattle.model_board.specs.Board.{Decl, endpoint, bridge}
+use Rattle.model_board.specs.State.{BoardFunction}
+use Rattle.model_board.specs.Cycles.{secondary_register}
+use Rattle.model_board.specs.Routing as routing
+use Rattle.bars.specs.Kinds.{kind_of}
+use Rattle.bridge_forward.specs.declared.routing.Window.{Window}
+use Rattle.bridge_forward.specs.declared.region_now.RegionNow.{RegionNow}
+use Rattle.bridge_forward.specs.declared.routing.Ranges.{Ranges}
+use Rattle.bridge_forward.specs.declared.routing.Ranges.TheVariants.{Regions, Windows}
+
+abbrev pub window_of : Window → model.Window
+window_of w = record { first = w.first; last = w.last }
+
+abbrev pub base_of : RegionNow → BaseAddress
+base_of r = record { index = r.index; kind = kind_of r.kind; size = r.size; base = r.base }
+
+abbrev pub named_ranges : Ranges → routing.Ranges
+named_ranges (Regions rs) = routing.regions (map base_of rs.items)
+named_ranges (Windows wio wmem wpref) =
+    routing.windows (option_map window_of wio) (option_map window_of wmem) (option_map window_of wpref)
+
+abbrev pub secondary_of : Decl → File → Option ℕ
+secondary_of (endpoint d) file = None
+secondary_of (bridge d) file = Some (secondary_register file)
+
+abbrev pub secondary_nth : List BoardFunction → ℕ → Option ℕ
+secondary_nth fs i = option_map_or (λ (f : BoardFunction). secondary_of f.decl f.file) (slice_get fs i) None

@@ -1,0 +1,162 @@
+-- How a run ends: what it wrote of the whole script.
+use Rattle.std.proofs.Common.{◌≡◌, ◌<◌, inl, inr, Bool, List, [], ◌∷◌, ◌++◌, Option, Some, None, length, take, refl, sym, ap, subst, ◌∙◌, append_assoc, append-nil}
+use Rattle.std.specs.Io.{StartsWith}
+use Rattle.std.specs.Io.KnownBytes.{Appends, Consumes, IsAtEnd}
+use Rattle.std.proofs.KnownBytes.{Appends-trans}
+use Rattle.std.proofs.Transfers.{starts_with_of_append}
+use Rattle.lists.specs.Elements.{Each}
+use Rattle.model_guests.specs.Text.{Text, lines, text_of_lines}
+use Rattle.model_guests.specs.LineRuns.{Protocol, output, after_lines, HasNoEnd, IsStopped, IsCut, first_output}
+use Rattle.model_guests.proofs.RunLines.{output_along, after_along, lines_of_pieces}
+use Rattle.line_runs.specs.Pieces.{Reaches, StopsWithin, IsStoppedIn}
+use Rattle.line_runs.proofs.LineEnds.{no_end_along, some_line}
+use Rattle.line_runs.proofs.Reaching.{text_along, text_of_one}
+
+-- what is left of a known script
+consumed : (a b : Option Text) (xs script : Text) → Consumes a b xs → a ≡ Some script → (rest : Text) × (script ≡ xs ++ rest) × (IsAtEnd b → rest ≡ [])
+consumed None b xs script taken e = cc
+consumed (Some x) None xs script taken e = absurd taken
+consumed (Some x) (Some y) xs script taken e =
+    let same : script ≡ x = cc in
+    (y, same ∙ taken, λ end. end)
+
+-- a script that was read to its end
+pub whole_script : (a b : Option Text) (xs script : Text) → Consumes a b xs → IsAtEnd b → a ≡ Some script → xs ≡ script
+whole_script a b xs script taken end e =
+    let left = consumed a b xs script taken e in
+    sym (left.1 ∙ ap (λ (t : Text). xs ++ t) (left.2 end) ∙ append-nil xs)
+
+-- a failed read
+pub cut_of : {S : Type 0} (p : Protocol S) (w : S) (old_rest new_rest : Option Text) (text rest : Text) (long : Bool) (old new : Option Text) (end : S)
+    → Consumes old_rest new_rest text → Reaches p w text rest long old new end → HasNoEnd rest → IsCut p w old_rest new_rest old new end
+cut_of {S} p w old_rest new_rest text rest long old new end taken r clean = record {
+  whole = r.whole;
+  part = r.before ++ rest;
+  each_line = r.each_line;
+  last_line = no_end_along r.before rest r.clean clean;
+  read = subst (Consumes old_rest new_rest) r.in_order taken;
+  written = r.written;
+  events = r.events;
+}
+
+-- the lines of a text of which whole lines are read
+lines_read : (text line after more : Text) (whole : List Text) → Each HasNoEnd whole → HasNoEnd line → text ≡ text_of_lines whole ++ (line ++ 10 ∷ after)
+    → lines (text ++ more) ≡ whole ++ line ∷ lines (after ++ more)
+lines_read text line after more whole each clean e =
+    let order : text ++ more ≡ text_of_lines whole ++ (text_of_lines (line ∷ []) ++ (after ++ more)) =
+    ap (λ (t : Text). t ++ more) e ∙ append_assoc (text_of_lines whole) (line ++ 10 ∷ after) more
+    ∙ ap (λ (t : Text). text_of_lines whole ++ t) (append_assoc line (10 ∷ after) more ∙ sym (text_of_one line (after ++ more))) in
+    ap lines order ∙ lines_of_pieces whole each (text_of_lines (line ∷ []) ++ (after ++ more))
+    ∙ ap (λ (ls : List Text). whole ++ ls) (lines_of_pieces (line ∷ []) (clean, tt) (after ++ more))
+
+-- a failed write or flush at a line that LF ends
+pub stopped_of : {S : Type 0} (p : Protocol S) (w : S) (old_rest new_rest : Option Text) (text script : Text) (old new : Option Text) (end : S)
+    → Consumes old_rest new_rest text → StopsWithin p w text old new end → old_rest ≡ Some script → IsStoppedIn p w script old_rest new_rest old new end
+stopped_of {S} p w old_rest new_rest text script old new end taken s known =
+    let left = consumed old_rest new_rest text script taken known in
+    let ran : List Text = s.whole ++ s.line ∷ [] in
+    let order : text ≡ text_of_lines ran ++ s.after =
+    s.in_order ∙ ap (λ (t : Text). text_of_lines s.whole ++ t) (sym (text_of_one s.line s.after))
+    ∙ sym (append_assoc (text_of_lines s.whole) (text_of_lines (s.line ∷ [])) s.after) ∙ ap (λ (t : Text). t ++ s.after) (sym (text_along s.whole (s.line ∷ []))) in
+    record {
+      read = text;
+      consumed = taken;
+      stop = record {
+        whole = s.whole;
+        rest = s.line ∷ lines (s.after ++ left.0);
+        part = s.part;
+        in_order = ap lines left.1 ∙ lines_read text s.line s.after left.0 s.whole s.each_line s.last_line s.in_order;
+        begins = s.begins;
+        written = s.written;
+        events = s.events ∙ sym (after_along p w s.whole (s.line ∷ []));
+      };
+      in_time = inl (starts_with_of_append text (text_of_lines ran) s.after order);
+    }
+
+-- ---- what is left at the end is the last line
+
+last_lines : {S : Type 0} (p : Protocol S) (w : S) (text rest : Text) (long : Bool) (old mid : Option Text) (end : S)
+    → (r : Reaches p w text rest long old mid end) → lines text ≡ r.whole ++ lines (r.before ++ rest)
+last_lines {S} p w text rest long old mid end r = ap lines r.in_order ∙ lines_of_pieces r.whole r.each_line (r.before ++ rest)
+
+pub output_on : {S : Type 0} (p : Protocol S) (w : S) (text rest : Text) (long : Bool) (old mid new : Option Text) (end : S)
+    → (r : Reaches p w text rest long old mid end) → Appends mid new (output p end (lines (r.before ++ rest))) → Appends old new (output p w (lines text))
+output_on {S} p w text rest long old mid new end r written =
+    subst (Appends old new) (ap (λ (e : S). output p w r.whole ++ output p e (lines (r.before ++ rest))) r.events
+    ∙ sym (output_along p w r.whole (lines (r.before ++ rest))) ∙ sym (ap (output p w) (last_lines p w text rest long old mid end r)))
+    (Appends-trans old mid new (output p w r.whole) (output p end (lines (r.before ++ rest))) r.written written)
+
+pub after_on : {S : Type 0} (p : Protocol S) (w : S) (text rest : Text) (long : Bool) (old mid : Option Text) (end last : S)
+    → (r : Reaches p w text rest long old mid end) → last ≡ after_lines p end (lines (r.before ++ rest)) → last ≡ after_lines p w (lines text)
+after_on {S} p w text rest long old mid end last r events =
+    events ∙ ap (λ (e : S). after_lines p e (lines (r.before ++ rest))) r.events
+    ∙ sym (after_along p w r.whole (lines (r.before ++ rest))) ∙ sym (ap (after_lines p w) (last_lines p w text rest long old mid end r))
+
+pub stopped_on : {S : Type 0} (p : Protocol S) (w : S) (text rest : Text) (long : Bool) (old mid new : Option Text) (end last : S)
+    → (r : Reaches p w text rest long old mid end) → IsStopped p end (lines (r.before ++ rest)) mid new last → IsStopped p w (lines text) old new last
+stopped_on {S} p w text rest long old mid new end last r s =
+    let world : after_lines p end s.whole ≡ after_lines p w (r.whole ++ s.whole) =
+    ap (λ (e : S). after_lines p e s.whole) r.events ∙ sym (after_along p w r.whole s.whole) in
+    record {
+      whole = r.whole ++ s.whole;
+      rest = s.rest;
+      part = s.part;
+      in_order = last_lines p w text rest long old mid end r ∙ ap (λ (ls : List Text). r.whole ++ ls) s.in_order ∙ sym (append_assoc r.whole s.whole s.rest);
+      begins = subst (λ (e : S). StartsWith (first_output p e s.rest) s.part) world s.begins;
+      written = subst (Appends old new) (sym (append_assoc (output p w r.whole) (output p end s.whole) s.part)
+          ∙ ap (λ (t : Text). t ++ s.part) (ap (λ (e : S). output p w r.whole ++ output p e s.whole) r.events ∙ sym (output_along p w r.whole s.whole)))
+          (Appends-trans old mid new (output p w r.whole) (output p end s.whole ++ s.part) r.written s.written);
+      events = s.events ∙ ap (λ (e : S). after_lines p e (s.whole ++ take 1 s.rest)) r.events ∙ sym (after_along p w r.whole (s.whole ++ take 1 s.rest))
+          ∙ ap (after_lines p w) (sym (append_assoc r.whole s.whole (take 1 s.rest)));
+    }
+
+-- a failed write or flush at the end of the script
+pub stopped_last : {S : Type 0} (p : Protocol S) (w : S) (old_rest new_rest : Option Text) (text rest script : Text) (long : Bool) (old mid new : Option Text) (end last : S)
+    → Consumes old_rest new_rest text → IsAtEnd new_rest → (r : Reaches p w text rest long old mid end)
+    → IsStopped p end (lines (r.before ++ rest)) mid new last → old_rest ≡ Some script → IsStoppedIn p w script old_rest new_rest old new last
+stopped_last {S} p w old_rest new_rest text rest script long old mid new end last taken done r s known = record {
+  read = text;
+  consumed = taken;
+  stop = subst (λ (t : Text). IsStopped p w (lines t) old new last) (whole_script old_rest new_rest text script taken done known)
+      (stopped_on p w text rest long old mid new end last r s);
+  in_time = inr done;
+}
+
+-- all lines were answered, but what they wrote was not flushed
+pub stopped_after : {S : Type 0} (p : Protocol S) (w : S) (ls : List Text) (old new : Option Text) (end : S)
+    → Appends old new (output p w ls) → end ≡ after_lines p w ls → IsStopped p w ls old new end
+stopped_after {S} p w ls old new end written events = record {
+  whole = ls;
+  rest = [];
+  part = [];
+  in_order = sym (append-nil ls);
+  begins = refl;
+  written = subst (Appends old new) (sym (append-nil (output p w ls))) written;
+  events = events ∙ sym (ap (after_lines p w) (append-nil ls));
+}
+
+-- the answer to a last line was not written whole
+stopped_one : {S : Type 0} (p : Protocol S) (w : S) (line part : Text) (old new : Option Text) (end : S)
+    → StartsWith (p.writes w line) part → Appends old new part → end ≡ p.next w line → IsStopped p w (line ∷ []) old new end
+stopped_one {S} p w line part old new end begins written events = record {
+  whole = [];
+  rest = line ∷ [];
+  part = part;
+  in_order = refl;
+  begins = begins;
+  written = written;
+  events = events;
+}
+
+-- ---- one line
+
+pub last_output : {S : Type 0} (p : Protocol S) (w : S) (line : Text) → HasNoEnd line → 0 < length line → p.writes w line ≡ output p w (lines line)
+last_output {S} p w line clean some = sym (append-nil (p.writes w line)) ∙ ap (output p w) (sym (some_line line clean some))
+
+pub last_after : {S : Type 0} (p : Protocol S) (w : S) (line : Text) → HasNoEnd line → 0 < length line → p.next w line ≡ after_lines p w (lines line)
+last_after {S} p w line clean some = ap (after_lines p w) (sym (some_line line clean some))
+
+pub last_stopped : {S : Type 0} (p : Protocol S) (w : S) (line part : Text) (old new : Option Text) (end : S) → HasNoEnd line → 0 < length line
+    → StartsWith (p.writes w line) part → Appends old new part → end ≡ p.next w line → IsStopped p w (lines line) old new end
+last_stopped {S} p w line part old new end clean some begins written events =
+    subst (λ (ls : List Text). IsStopped p w ls old new end) (sym (some_line line clean some)) (stopped_one p w line part old new end begins written events)

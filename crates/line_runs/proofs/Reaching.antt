@@ -1,0 +1,233 @@
+-- How runs over pieces are put together.
+use Rattle.std.proofs.Common.{◌≡◌, ◌<◌, Bool, false, List, [], ◌∷◌, ◌++◌, Option, length, refl, sym, ap, subst, ◌∙◌, append_assoc, append-nil, length-append, arith}
+use Rattle.std.specs.Io.{StartsWith}
+use Rattle.std.specs.Io.KnownBytes.{Appends, Keeps}
+use Rattle.std.proofs.KnownBytes.{Appends-trans, Appends-nil, Appends-kept}
+use Rattle.std.proofs.Transfers.{starts_with_of_eq}
+use Rattle.lists.specs.Elements.{Each}
+use Rattle.model_guests.specs.Text.{Text, text_of_lines}
+use Rattle.model_guests.specs.LineRuns.{Protocol, output, after_lines, HasNoEnd}
+use Rattle.model_guests.proofs.RunLines.{output_along, after_along}
+use Rattle.line_runs.specs.Pieces.{IsBefore, Reaches, StopsWithin}
+use Rattle.line_runs.proofs.LineEnds.{no_end_along, no_end_first}
+
+each_along : (P : Text → Type 0) (a b : List Text) → Each P a → Each P b → Each P (a ++ b)
+each_along P [] b p q = q
+each_along P (x ∷ xs) b p q = (p.0, each_along P xs b p.1 q)
+
+pub text_along : (a b : List Text) → text_of_lines (a ++ b) ≡ text_of_lines a ++ text_of_lines b
+text_along [] b = refl
+text_along (l ∷ ls) b = ap (λ (t : Text). (l ++ 10 ∷ []) ++ t) (text_along ls b) ∙ sym (append_assoc (l ++ 10 ∷ []) (text_of_lines ls) (text_of_lines b))
+
+-- one line and what comes after it
+pub text_of_one : (l rest : Text) → text_of_lines (l ∷ []) ++ rest ≡ l ++ 10 ∷ rest
+text_of_one l rest = ap (λ (t : Text). t ++ rest) (append-nil (l ++ 10 ∷ [])) ∙ append_assoc l (10 ∷ []) rest
+
+-- before anything was read
+pub reaches_none : {S : Type 0} (p : Protocol S) (w : S) (old : Option Text) → Reaches p w [] [] false old old w
+reaches_none {S} p w old = record {
+  whole = [];
+  before = [];
+  each_line = tt;
+  clean = refl;
+  passed = refl;
+  in_order = refl;
+  written = Appends-nil old;
+  events = refl;
+}
+
+-- a piece at its beginning
+pub reaches_first : {S : Type 0} (p : Protocol S) (w : S) (before text : Text) (long : Bool) (old : Option Text) → HasNoEnd before → IsBefore long before
+    → Reaches p w (before ++ text) text long old old w
+reaches_first {S} p w before text long old clean passed = record {
+  whole = [];
+  before = before;
+  each_line = tt;
+  clean = clean;
+  passed = passed;
+  in_order = refl;
+  written = Appends-nil old;
+  events = refl;
+}
+
+-- more bytes came
+pub reaches_more : {S : Type 0} (p : Protocol S) (w : S) (text rest more : Text) (long : Bool) (old new : Option Text) (end : S)
+    → Reaches p w text rest long old new end → Reaches p w (text ++ more) (rest ++ more) long old new end
+reaches_more {S} p w text rest more long old new end r = record {
+  whole = r.whole;
+  before = r.before;
+  each_line = r.each_line;
+  clean = r.clean;
+  passed = r.passed;
+  in_order = ap (λ (t : Text). t ++ more) r.in_order ∙ append_assoc (text_of_lines r.whole) (r.before ++ rest) more
+      ∙ ap (λ (t : Text). text_of_lines r.whole ++ t) (append_assoc r.before rest more);
+  written = r.written;
+  events = r.events;
+}
+
+-- the next lines ran
+pub reaches_on : {S : Type 0} (p : Protocol S) (w : S) (text piece rest : Text) (long next : Bool) (old mid new : Option Text) (end last : S)
+    → (r : Reaches p w text piece long old mid end) → Reaches p end (r.before ++ piece) rest next mid new last → Reaches p w text rest next old new last
+reaches_on {S} p w text piece rest long next old mid new end last r s = record {
+  whole = r.whole ++ s.whole;
+  before = s.before;
+  each_line = each_along HasNoEnd r.whole s.whole r.each_line s.each_line;
+  clean = s.clean;
+  passed = s.passed;
+  in_order = r.in_order ∙ ap (λ (t : Text). text_of_lines r.whole ++ t) s.in_order
+      ∙ sym (append_assoc (text_of_lines r.whole) (text_of_lines s.whole) (s.before ++ rest))
+      ∙ ap (λ (t : Text). t ++ (s.before ++ rest)) (sym (text_along r.whole s.whole));
+  written = subst (Appends old new) (ap (λ (e : S). output p w r.whole ++ output p e s.whole) r.events ∙ sym (output_along p w r.whole s.whole))
+      (Appends-trans old mid new (output p w r.whole) (output p end s.whole) r.written s.written);
+  events = s.events ∙ ap (λ (e : S). after_lines p e s.whole) r.events ∙ sym (after_along p w r.whole s.whole);
+}
+
+-- a failure in the next lines
+pub stops_on : {S : Type 0} (p : Protocol S) (w : S) (text piece : Text) (long : Bool) (old mid new : Option Text) (end last : S)
+    → (r : Reaches p w text piece long old mid end) → StopsWithin p end (r.before ++ piece) mid new last → StopsWithin p w text old new last
+stops_on {S} p w text piece long old mid new end last r s =
+    let world : after_lines p end s.whole ≡ after_lines p w (r.whole ++ s.whole) =
+    ap (λ (e : S). after_lines p e s.whole) r.events ∙ sym (after_along p w r.whole s.whole) in
+    record {
+      whole = r.whole ++ s.whole;
+      line = s.line;
+      after = s.after;
+      part = s.part;
+      each_line = each_along HasNoEnd r.whole s.whole r.each_line s.each_line;
+      last_line = s.last_line;
+      in_order = r.in_order ∙ ap (λ (t : Text). text_of_lines r.whole ++ t) s.in_order
+          ∙ sym (append_assoc (text_of_lines r.whole) (text_of_lines s.whole) (s.line ++ 10 ∷ s.after))
+          ∙ ap (λ (t : Text). t ++ (s.line ++ 10 ∷ s.after)) (sym (text_along r.whole s.whole));
+      begins = subst (λ (e : S). StartsWith (p.writes e s.line) s.part) world s.begins;
+      written = subst (Appends old new) (sym (append_assoc (output p w r.whole) (output p end s.whole) s.part)
+          ∙ ap (λ (t : Text). t ++ s.part) (ap (λ (e : S). output p w r.whole ++ output p e s.whole) r.events ∙ sym (output_along p w r.whole s.whole)))
+          (Appends-trans old mid new (output p w r.whole) (output p end s.whole ++ s.part) r.written s.written);
+      events = s.events ∙ ap (λ (e : S). p.next e s.line) world;
+    }
+
+-- one more line ran
+pub reaches_line : {S : Type 0} (p : Protocol S) (w : S) (text piece line after : Text) (long : Bool) (old mid new : Option Text) (end last : S)
+    → piece ≡ line ++ 10 ∷ after → (r : Reaches p w text piece long old mid end) → HasNoEnd line
+    → Appends mid new (p.writes end (r.before ++ line)) → last ≡ p.next end (r.before ++ line)
+    → (s : Reaches p w text after false old new last) × (0 < length s.whole)
+reaches_line {S} p w text piece line after long old mid new end last cut r clean written events =
+    let one : List Text = (r.before ++ line) ∷ [] in
+    let wrote : output p w r.whole ++ p.writes end (r.before ++ line) ≡ output p w (r.whole ++ one) =
+    ap (λ (e : S). output p w r.whole ++ p.writes e (r.before ++ line)) r.events
+    ∙ ap (λ (t : Text). output p w r.whole ++ t) (sym (append-nil (p.writes (after_lines p w r.whole) (r.before ++ line))))
+    ∙ sym (output_along p w r.whole one) in
+    let order : text ≡ text_of_lines (r.whole ++ one) ++ after =
+    r.in_order ∙ ap (λ (t : Text). text_of_lines r.whole ++ t) (ap (λ (t : Text). r.before ++ t) cut ∙ sym (append_assoc r.before line (10 ∷ after)) ∙ sym (text_of_one (r.before ++ line) after))
+    ∙ sym (append_assoc (text_of_lines r.whole) (text_of_lines one) after) ∙ ap (λ (t : Text). t ++ after) (sym (text_along r.whole one)) in
+    let some : 0 < length (r.whole ++ one) = omega (arith, length-append r.whole one) in (
+      record {
+        whole = r.whole ++ one;
+        before = [];
+        each_line = each_along HasNoEnd r.whole one r.each_line (no_end_along r.before line r.clean clean, tt);
+        clean = refl;
+        passed = refl;
+        in_order = order;
+        written = subst (Appends old new) wrote (Appends-trans old mid new (output p w r.whole) (p.writes end (r.before ++ line)) r.written written);
+        events = events ∙ ap (λ (e : S). p.next e (r.before ++ line)) r.events ∙ sym (after_along p w r.whole one);
+      },
+      some,
+    )
+
+-- the answer to the next line was not written whole
+pub stops_at : {S : Type 0} (p : Protocol S) (w : S) (text piece line after part : Text) (long : Bool) (old mid new : Option Text) (end last : S)
+    → piece ≡ line ++ 10 ∷ after → (r : Reaches p w text piece long old mid end) → HasNoEnd line
+    → StartsWith (p.writes end (r.before ++ line)) part → Appends mid new part → last ≡ p.next end (r.before ++ line)
+    → StopsWithin p w text old new last
+stops_at {S} p w text piece line after part long old mid new end last cut r clean begins written events = record {
+  whole = r.whole;
+  line = r.before ++ line;
+  after = after;
+  part = part;
+  each_line = r.each_line;
+  last_line = no_end_along r.before line r.clean clean;
+  in_order = r.in_order ∙ ap (λ (t : Text). text_of_lines r.whole ++ t) (ap (λ (t : Text). r.before ++ t) cut ∙ sym (append_assoc r.before line (10 ∷ after)));
+  begins = subst (λ (e : S). StartsWith (p.writes e (r.before ++ line)) part) r.events begins;
+  written = Appends-trans old mid new (output p w r.whole) part r.written written;
+  events = events ∙ ap (λ (e : S). p.next e (r.before ++ line)) r.events;
+}
+
+last_of : (ls : List Text) → 0 < length ls → (most : List Text) × (last : Text) × (ls ≡ most ++ last ∷ [])
+last_of [] h = absurd (omega arith)
+last_of (l ∷ []) h = ([], l, refl)
+last_of (l ∷ m ∷ ms) h =
+    let more : 0 < length (m ∷ ms) = omega arith in
+    let v = last_of (m ∷ ms) more in
+    (l ∷ v.0, v.1, ap (λ (ls : List Text). l ∷ ls) v.2)
+
+each_first : (P : Text → Type 0) (a b : List Text) → Each P (a ++ b) → Each P a
+each_first P [] b h = tt
+each_first P (x ∷ xs) b h = (h.0, each_first P xs b h.1)
+
+each_last : (P : Text → Type 0) (a b : List Text) → Each P (a ++ b) → Each P b
+each_last P [] b h = h
+each_last P (x ∷ xs) b h = each_last P xs b h.1
+
+-- lines ran, and what they wrote was not flushed
+pub stops_flush : {S : Type 0} (p : Protocol S) (w : S) (text rest : Text) (long : Bool) (old new : Option Text) (end : S)
+    → (r : Reaches p w text rest long old new end) → 0 < length r.whole → StopsWithin p w text old new end
+stops_flush {S} p w text rest long old new end r some =
+    let v = last_of r.whole some in
+    let each : Each HasNoEnd (v.0 ++ v.1 ∷ []) = subst (Each HasNoEnd) v.2 r.each_line in
+    let left : Text = r.before ++ rest in
+    record {
+      whole = v.0;
+      line = v.1;
+      after = left;
+      part = p.writes (after_lines p w v.0) v.1;
+      each_line = each_first HasNoEnd v.0 (v.1 ∷ []) each;
+      last_line = (each_last HasNoEnd v.0 (v.1 ∷ []) each).0;
+      in_order = r.in_order ∙ ap (λ (ls : List Text). text_of_lines ls ++ left) v.2 ∙ ap (λ (t : Text). t ++ left) (text_along v.0 (v.1 ∷ []))
+          ∙ append_assoc (text_of_lines v.0) (text_of_lines (v.1 ∷ [])) left ∙ ap (λ (t : Text). text_of_lines v.0 ++ t) (text_of_one v.1 left);
+      begins = starts_with_of_eq (p.writes (after_lines p w v.0) v.1) (p.writes (after_lines p w v.0) v.1) refl;
+      written = subst (Appends old new) (ap (output p w) v.2 ∙ output_along p w v.0 (v.1 ∷ []) ∙ ap (λ (t : Text). output p w v.0 ++ t) (append-nil (p.writes (after_lines p w v.0) v.1))) r.written;
+      events = r.events ∙ ap (after_lines p w) v.2 ∙ after_along p w v.0 (v.1 ∷ []);
+    }
+
+-- a flush that wrote nothing
+pub reaches_kept : {S : Type 0} (p : Protocol S) (w : S) (text rest : Text) (long : Bool) (old mid new : Option Text) (end : S)
+    → Reaches p w text rest long old mid end → Keeps mid new → Reaches p w text rest long old new end
+reaches_kept {S} p w text rest long old mid new end r kept = record {
+  whole = r.whole;
+  before = r.before;
+  each_line = r.each_line;
+  clean = r.clean;
+  passed = r.passed;
+  in_order = r.in_order;
+  written = Appends-kept old mid new (output p w r.whole) r.written kept;
+  events = r.events;
+}
+
+pub stops_kept : {S : Type 0} (p : Protocol S) (w : S) (text : Text) (old mid new : Option Text) (end : S)
+    → StopsWithin p w text old mid end → Keeps mid new → StopsWithin p w text old new end
+stops_kept {S} p w text old mid new end s kept = record {
+  whole = s.whole;
+  line = s.line;
+  after = s.after;
+  part = s.part;
+  each_line = s.each_line;
+  last_line = s.last_line;
+  in_order = s.in_order;
+  begins = s.begins;
+  written = Appends-kept old mid new (output p w s.whole ++ s.part) s.written kept;
+  events = s.events;
+}
+
+-- what is left of the text may be held in another way
+pub reaches_held : {S : Type 0} (p : Protocol S) (w : S) (text rest kept : Text) (long next : Bool) (old new : Option Text) (end : S)
+    → (r : Reaches p w text rest long old new end) → HasNoEnd rest → (before : Text) → IsBefore next before → before ++ kept ≡ r.before ++ rest
+    → Reaches p w text kept next old new end
+reaches_held {S} p w text rest kept long next old new end r clean before passed same = record {
+  whole = r.whole;
+  before = before;
+  each_line = r.each_line;
+  clean = no_end_first before kept (subst HasNoEnd (sym same) (no_end_along r.before rest r.clean clean));
+  passed = passed;
+  in_order = r.in_order ∙ ap (λ (t : Text). text_of_lines r.whole ++ t) (sym same);
+  written = r.written;
+  events = r.events;
+}

@@ -1,0 +1,95 @@
+use Rattle.std.proofs.Common.{◌≡◌, ◌≤◌, ◌∙◌, ◌++◌, [], refl, sym, subst, length, arith, Option}
+use Rattle.std.proofs.KnownBytes.{Consumes-nil, Consumes-trans, Consumes-kept}
+use Rattle.model_guests.specs.Text.{Text}
+use Rattle.model_guests.specs.LineRuns.{Protocol, HasNoEnd}
+use Rattle.line_runs.specs.Pieces.{Held, Reaches}
+use Rattle.line_runs.proofs.Reaching.{reaches_none, reaches_more, reaches_on, stops_on}
+use Rattle.line_runs.proofs.Endings.{cut_of, stopped_of}
+use Rattle.line_runs.proofs.Results.{ok_part, err_part, none_failed}
+use Rattle.line_runs.proofs.running.run_pieces.Goals as goal
+
+pub loop-more-init : goal.loop-more-init
+loop-more-init g c =
+    let w = c.args.server.now in
+    let old = g.W.Writer.written c.args.writer.now in
+    let empty = sym c.requires.empty in
+    record {
+      runs = ([], Consumes-nil (g.R.Reader.rest c.args.reader.now), subst (λ (h : Held). Reaches g.S.Answers.protocol w [] h.text h.long old old w) empty (reaches_none g.S.Answers.protocol w old));
+      rest = subst (λ (h : Held). HasNoEnd h.text) empty refl;
+      few = subst (λ (h : Held). length h.text ≤ 200) empty (omega arith);
+      reads = refl;
+      writes = refl;
+    }
+
+pub returns-in_default-clause-cut : goal.returns-in_default-clause-cut
+returns-in_default-clause-cut g c = λ is.
+    let start = g.R.Reader.rest c.args.reader.now in
+    let far = g.R.Reader.rest c.loop-more.reader in
+    let end = g.R.Reader.rest c.fill.new.reader in
+    let runs = c.loop-more.invariant.runs in
+    cut_of g.S.Answers.protocol c.args.server.now start end runs.0 c.loop-more.held.text c.loop-more.held.long (g.W.Writer.written c.args.writer.now) (g.W.Writer.written c.loop-more.writer) c.loop-more.server
+    (Consumes-kept start far end runs.0 runs.1 c.in_default.ensures.kept) runs.2 c.loop-more.invariant.rest
+
+-- what was read with the bytes that came
+filled : {S : Type 0} (p : Protocol S) (w : S) (read more : Text) (old_held new_held : Held) (old mid : Option Text) (end : S)
+    → Reaches p w read old_held.text old_held.long old mid end → new_held ≡ record old_held { text = old_held.text ++ more }
+    → Reaches p w (read ++ more) new_held.text new_held.long old mid end
+filled p w read more old_held new_held old mid end r e =
+    subst (λ (h : Held). Reaches p w (read ++ more) h.text h.long old mid end) (sym e) (reaches_more p w read old_held.text more old_held.long old mid end r)
+
+pub returns-then-not-more-clause-runs : goal.returns-then-not-more-clause-runs
+returns-then-not-more-clause-runs g c =
+    let start = g.R.Reader.rest c.args.reader.now in
+    let far = g.R.Reader.rest c.loop-more.reader in
+    let end = g.R.Reader.rest c.fill.new.reader in
+    let runs = c.loop-more.invariant.runs in
+    let came = c.in-Ok.ensures.bytes in (
+      runs.0 ++ came.0,
+      Consumes-trans start far end runs.0 came.0 runs.1 came.1,
+      filled g.S.Answers.protocol c.args.server.now runs.0 came.0 c.loop-more.held c.fill.new.self (g.W.Writer.written c.args.writer.now) (g.W.Writer.written c.loop-more.writer) c.loop-more.server runs.2 came.2,
+    )
+
+pub returns-then-is_err-clause-stopped : goal.returns-then-is_err-clause-stopped
+returns-then-is_err-clause-stopped g c = λ is script known.
+    let w = c.args.server.now in
+    let start = g.R.Reader.rest c.args.reader.now in
+    let far = g.R.Reader.rest c.loop-more.reader in
+    let end = g.R.Reader.rest c.fill.new.reader in
+    let old = g.W.Writer.written c.args.writer.now in
+    let mid = g.W.Writer.written c.loop-more.writer in
+    let new = g.W.Writer.written c.run_piece.new.writer in
+    let runs = c.loop-more.invariant.runs in
+    let came = c.in-Ok.ensures.bytes in
+    let held = c.fill.new.self in
+    let run = filled g.S.Answers.protocol w runs.0 came.0 c.loop-more.held held old mid c.loop-more.server runs.2 came.2 in
+    let stops = err_part c.run_piece.result (sym c.is_err.ensures.value ∙ c.if-is_err.true) c.run_piece.ensures.stops in
+    stopped_of g.S.Answers.protocol w start end (runs.0 ++ came.0) script old new c.run_piece.new.server (Consumes-trans start far end runs.0 came.0 runs.1 came.1)
+    (stops_on g.S.Answers.protocol w (runs.0 ++ came.0) held.text held.long old mid new c.loop-more.server c.run_piece.new.server run (stops run.before run.clean run.passed)) known
+
+pub loop-more-preserved : goal.loop-more-preserved
+loop-more-preserved g c =
+    let w = c.args.server.now in
+    let start = g.R.Reader.rest c.args.reader.now in
+    let far = g.R.Reader.rest c.loop-more.reader in
+    let end = g.R.Reader.rest c.fill.new.reader in
+    let old = g.W.Writer.written c.args.writer.now in
+    let mid = g.W.Writer.written c.loop-more.writer in
+    let new = g.W.Writer.written c.run_piece.new.writer in
+    let runs = c.loop-more.invariant.runs in
+    let came = c.in-Ok.ensures.bytes in
+    let held = c.fill.new.self in
+    let run = filled g.S.Answers.protocol w runs.0 came.0 c.loop-more.held held old mid c.loop-more.server runs.2 came.2 in
+    let well = sym c.is_err.ensures.value ∙ c.if-is_err.false in
+    let more = ok_part c.run_piece.result well c.run_piece.ensures.runs in
+    record {
+      runs = (
+        runs.0 ++ came.0,
+        Consumes-trans start far end runs.0 came.0 runs.1 came.1,
+        reaches_on g.S.Answers.protocol w (runs.0 ++ came.0) held.text c.run_piece.new.held.text held.long c.run_piece.new.held.long old mid new c.loop-more.server c.run_piece.new.server
+            run (more run.before run.clean run.passed),
+      );
+      rest = ok_part c.run_piece.result well c.run_piece.ensures.rest;
+      few = ok_part c.run_piece.result well c.run_piece.ensures.few;
+      reads = omega (arith, c.in-Ok.ensures.failures, c.loop-more.invariant.reads);
+      writes = omega (arith, c.run_piece.ensures.failures, none_failed c.run_piece.result well, c.loop-more.invariant.writes);
+    }

@@ -1,0 +1,10 @@
+//! Runs of lines over anything that answers them, piece by piece as they are read.
+#![tactic(auto)]
+
+mod answers;
+mod held;
+mod pieces;
+mod running;
+
+pub use answers::Answers;
+pub use running::{RunFault, run};

@@ -1,0 +1,169 @@
+//! Runs over pieces of a text.
+ghost use Rattle.std.specs.Prelude.{◌≡◌, ℕ, ◌≤◌, ◌<◌, ◌+◌, ◌-◌, ◌^◌, ◌++◌, ◌∷◌, [], length};
+ghost use Rattle.std.specs.Prelude.{OnOk, OnErr, IfOk, MatchOption, IsTrue, IsFalse};
+ghost use Rattle.std.specs.Io.KnownBytes.{Appends, Keeps};
+ghost use Rattle.streams.specs.Ends.{failures_of};
+ghost use Rattle.model_guests.specs.Text.{Text, lines};
+ghost use Rattle.model_guests.specs.LineRuns.{output, after_lines, HasNoEnd, IsStopped};
+ghost use Rattle.line_runs.specs.Pieces.{IsBefore, rest_of, Reaches, StopsWithin};
+
+use crate::answers::Answers;
+use crate::held::Held;
+use lines::{LineText, line_feed_in};
+use streams::{Failed, Writer, write_all};
+
+/// The first line that a line feed ends, without it, and what comes after it.
+fn whole_line(text: &[u8]) -> Option<(&[u8], &[u8])>
+    ensures line { MatchOption result (HasNoEnd text.now) (λ p.
+        HasNoEnd p.0.now × (text.now ≡ p.0.now ++ 10 ∷ p.1.now)) }
+{
+    let end = line_feed_in(text)?;
+    Some((&text[..end], &text[end + 1..]))
+}
+
+/// What is left of a piece after its lines.
+#[derive(Clone, Copy)]
+struct Left {
+    /// The count of its last bytes, after the last line feed.
+    length: usize,
+    /// Whether they are of a long line of which bytes were passed over.
+    long: bool,
+    /// Whether the lines wrote anything.
+    wrote: bool,
+}
+
+/// Runs the lines of a piece that line feeds end, and writes what each writes before it looks at the
+/// next. If `long`, the first is a long line of which bytes were passed over.
+fn run_lines<L, S: Answers<L>, W: Writer>(
+    server: &mut S,
+    text: &[u8],
+    long: bool,
+    writer: &mut W,
+) -> Result<Left, Failed>
+    requires { W.failures writer.old < 2 ^ 64 - 1 }
+    ensures length { IfOk result (λ left. left.length ≤ length text.now) }
+    ensures rest { IfOk result (λ left. HasNoEnd (rest_of left.length text.now)) }
+    ensures runs { IfOk result (λ left. (before : Text) → HasNoEnd before → IsBefore long before →
+        (run : Reaches S.protocol server.old (before ++ text.now) (rest_of left.length text.now) left.long
+        (W.written writer.old) (W.written writer.new) server.new)
+        × (IsTrue left.wrote → 0 < length run.whole)) }
+    ensures stops { OnErr result ((before : Text) → HasNoEnd before → IsBefore long before →
+        StopsWithin S.protocol server.old (before ++ text.now)
+        (W.written writer.old) (W.written writer.new) server.new) }
+    ensures failures { W.failures writer.new ≡ W.failures writer.old + failures_of result }
+{
+    let mut rest = text;
+    let mut long = long;
+    let mut wrote = false;
+    while let Some((line, after)) = whole_line(rest) {
+        let mut reply = LineText::new();
+        server.answer(line, long, &mut reply);
+        let written = reply.as_slice();
+        write_all(writer, written)?;
+        wrote = wrote || !written.is_empty();
+        long = false;
+        rest = after;
+    }
+    Ok(Left {
+        length: rest.len(),
+        long,
+        wrote,
+    })
+}
+
+/// Flushes what was written, where anything was.
+fn flush_if<W: Writer>(writer: &mut W, wrote: bool) -> Result<(), Failed>
+    requires { W.failures writer.old < 2 ^ 64 - 1 }
+    ensures bytes { Keeps (W.written writer.old) (W.written writer.new) }
+    ensures wrote { OnErr result (IsTrue wrote) }
+    ensures failures { W.failures writer.new ≡ W.failures writer.old + failures_of result }
+{
+    if wrote {
+        return writer.flush();
+    }
+    Ok(())
+}
+
+/// Runs the lines that line feeds end among what is held, and keeps the rest. What was written is
+/// flushed, so that it can be read before more of the script is asked for.
+pub(crate) fn run_piece<L, S: Answers<L>, W: Writer>(
+    server: &mut S,
+    held: &mut Held,
+    writer: &mut W,
+) -> Result<(), Failed>
+    requires { W.failures writer.old < 2 ^ 64 - 1 }
+    ensures few { OnOk result (length held.new.text ≤ 200) }
+    ensures rest { OnOk result (HasNoEnd held.new.text) }
+    ensures runs { OnOk result ((before : Text) → HasNoEnd before → IsBefore held.old.long before →
+        Reaches S.protocol server.old (before ++ held.old.text) held.new.text held.new.long
+        (W.written writer.old) (W.written writer.new) server.new) }
+    ensures stops { OnErr result ((before : Text) → HasNoEnd before → IsBefore held.old.long before →
+        StopsWithin S.protocol server.old (before ++ held.old.text)
+        (W.written writer.old) (W.written writer.new) server.new) }
+    ensures failures { W.failures writer.new ≡ W.failures writer.old + failures_of result }
+{
+    let left = run_lines(server, held.text(), held.is_long(), writer)?;
+    flush_if(writer, left.wrote)?;
+    held.keep(left.length, left.long);
+    Ok(())
+}
+
+/// Whether a last line is left at the end of a script.
+fn is_line_left(text: &[u8], long: bool) -> bool
+    ensures some { IsTrue result → (before : Text) → IsBefore long before → 0 < length (before ++ text.now) }
+    ensures none { IsFalse result → (before : Text) → IsBefore long before → before ++ text.now ≡ [] }
+{
+    if long {
+        return true;
+    }
+    !text.is_empty()
+}
+
+/// Runs what is left at the end of a script as its last line, if there is any.
+fn answer_last<L, S: Answers<L>, W: Writer>(
+    server: &mut S,
+    text: &[u8],
+    long: bool,
+    writer: &mut W,
+) -> Result<(), Failed>
+    requires { W.failures writer.old < 2 ^ 64 - 1 }
+    ensures output { OnOk result ((before : Text) → IsBefore long before → HasNoEnd (before ++ text.now) →
+        Appends (W.written writer.old) (W.written writer.new)
+        (output S.protocol server.old (lines (before ++ text.now)))) }
+    ensures after { OnOk result ((before : Text) → IsBefore long before → HasNoEnd (before ++ text.now) →
+        server.new ≡ after_lines S.protocol server.old (lines (before ++ text.now))) }
+    ensures stopped { OnErr result ((before : Text) → IsBefore long before → HasNoEnd (before ++ text.now) →
+        IsStopped S.protocol server.old (lines (before ++ text.now))
+        (W.written writer.old) (W.written writer.new) server.new) }
+    ensures failures { W.failures writer.new ≡ W.failures writer.old + failures_of result }
+{
+    if !is_line_left(text, long) {
+        return Ok(());
+    }
+    let mut reply = LineText::new();
+    server.answer(text, long, &mut reply);
+    write_all(writer, reply.as_slice())
+}
+
+/// Runs what is left at the end of a script as its last line, and flushes.
+pub(crate) fn run_last<L, S: Answers<L>, W: Writer>(
+    server: &mut S,
+    held: &Held,
+    writer: &mut W,
+) -> Result<(), Failed>
+    requires { W.failures writer.old < 2 ^ 64 - 1 }
+    ensures output { OnOk result ((before : Text) → IsBefore held.now.long before → HasNoEnd (before ++ held.now.text) →
+        Appends (W.written writer.old) (W.written writer.new)
+        (output S.protocol server.old (lines (before ++ held.now.text)))) }
+    ensures after { OnOk result ((before : Text) → IsBefore held.now.long before → HasNoEnd (before ++ held.now.text) →
+        server.new ≡ after_lines S.protocol server.old (lines (before ++ held.now.text))) }
+    ensures flushed { OnOk result (W.flushed writer.new ≡ W.written writer.new) }
+    ensures stopped { OnErr result ((before : Text) → IsBefore held.now.long before →
+        HasNoEnd (before ++ held.now.text) →
+        IsStopped S.protocol server.old (lines (before ++ held.now.text))
+        (W.written writer.old) (W.written writer.new) server.new) }
+    ensures failures { W.failures writer.new ≡ W.failures writer.old + failures_of result }
+{
+    answer_last(server, held.text(), held.is_long(), writer)?;
+    writer.flush()
+}

@@ -1,0 +1,114 @@
+//! A run of a whole script.
+ghost use Rattle.std.specs.Prelude.{◌≡◌, ◌+◌, ◌-◌, ◌^◌, ◌<◌, ◌≤◌, [], false, length, OnOk, IsErrOf};
+ghost use Rattle.std.specs.Option.{ForSome};
+ghost use Rattle.std.specs.Io.KnownBytes.{Appends, Consumes, IsAtEnd};
+ghost use Rattle.model_guests.specs.Text.{Text, lines};
+ghost use Rattle.model_guests.specs.LineRuns.{output, after_lines, HasNoEnd, IsCut};
+ghost use Rattle.line_runs.specs.Faults.{read_failures_of, write_failures_of, number_of};
+ghost use Rattle.line_runs.specs.Pieces.{Reaches, IsStoppedIn};
+
+use crate::answers::Answers;
+use crate::held::Held;
+use crate::pieces::{run_last, run_piece};
+use streams::{Reader, Writer};
+use thiserror::Error;
+
+/// Why a run ended early.
+#[derive(Clone, Copy, Debug, PartialEq, Eq, Error)]
+pub enum RunFault {
+    #[error("read failed")]
+    Read,
+    /// A write or a flush failed, or a write took no byte.
+    #[error("write failed")]
+    Write,
+}
+
+impl RunFault {
+    /// The number of the fault: 501 or 502.
+    pub fn number(self) -> u16
+        ensures { result ≡ number_of self }
+    {
+        match self {
+            RunFault::Read => 501,
+            RunFault::Write => 502,
+        }
+    }
+}
+
+/// Runs the lines of a script that line feeds end, as they are read, and holds what is left at its end.
+fn run_pieces<L, S: Answers<L>, R: Reader, W: Writer>(
+    server: &mut S,
+    held: &mut Held,
+    reader: &mut R,
+    writer: &mut W,
+) -> Result<(), RunFault>
+    requires empty { held.old ≡ record { text = []; long = false } }
+    requires reader_has_room { R.failures reader.old < 2 ^ 64 - 1 }
+    requires writer_has_room { W.failures writer.old < 2 ^ 64 - 1 }
+    ensures reads { R.failures reader.new ≡ R.failures reader.old + read_failures_of result }
+    ensures writes { W.failures writer.new ≡ W.failures writer.old + write_failures_of result }
+    ensures end { OnOk result (IsAtEnd (R.rest reader.new)) }
+    ensures rest { OnOk result (HasNoEnd held.new.text) }
+    ensures runs { OnOk result ((read : Text) × Consumes (R.rest reader.old) (R.rest reader.new) read
+        × Reaches S.protocol server.old read held.new.text held.new.long
+        (W.written writer.old) (W.written writer.new) server.new) }
+    ensures cut { IsErrOf result RunFault.Read →
+        IsCut S.protocol server.old (R.rest reader.old) (R.rest reader.new)
+        (W.written writer.old) (W.written writer.new) server.new }
+    ensures stopped { IsErrOf result RunFault.Write → ForSome (R.rest reader.old) (λ script.
+        IsStoppedIn S.protocol server.old script (R.rest reader.old) (R.rest reader.new)
+        (W.written writer.old) (W.written writer.new) server.new) }
+{
+    loop {
+        let Ok(more) = held.fill(reader) else {
+            return Err(RunFault::Read);
+        };
+        if !more {
+            return Ok(());
+        }
+        if run_piece(server, held, writer).is_err() {
+            return Err(RunFault::Write);
+        }
+    }
+}
+
+/// Runs the lines of a script, in pieces as they are read. Each line is answered before the next
+/// is looked at, and all answers are flushed before more is read, so that who writes the script can
+/// wait for them. Of a long line nothing is kept, and no memory is taken. No failure is tried again.
+pub fn run<L, S: Answers<L>, R: Reader, W: Writer>(
+    server: &mut S,
+    reader: &mut R,
+    writer: &mut W,
+) -> Result<(), RunFault>
+    requires reader_has_room { R.failures reader.old < 2 ^ 64 - 1 }
+    requires writer_has_room { W.failures writer.old < 2 ^ 64 - 1 }
+
+    // A fault is the reader's or the writer's exactly where that end failed during the call.
+    ensures reads { R.failures reader.new ≡ R.failures reader.old + read_failures_of result }
+    ensures writes { W.failures writer.new ≡ W.failures writer.old + write_failures_of result }
+
+    // The script was read to its end, the output of all its lines was written, and all events ran.
+    ensures end { OnOk result (IsAtEnd (R.rest reader.new)) }
+    ensures output { OnOk result (ForSome (R.rest reader.old) (λ script.
+        Appends (W.written writer.old) (W.written writer.new) (output S.protocol server.old (lines script)))) }
+    ensures after { OnOk result (ForSome (R.rest reader.old) (λ script.
+        server.new ≡ after_lines S.protocol server.old (lines script))) }
+    ensures flushed { OnOk result (W.flushed writer.new ≡ W.written writer.new) }
+
+    // A failed read: the lines that were read up to their line feeds ran, and no part of a line.
+    ensures cut { IsErrOf result RunFault.Read →
+        IsCut S.protocol server.old (R.rest reader.old) (R.rest reader.new)
+        (W.written writer.old) (W.written writer.new) server.new }
+
+    // A failed write or flush ended the run within what some line writes.
+    ensures stopped { IsErrOf result RunFault.Write → ForSome (R.rest reader.old) (λ script.
+        IsStoppedIn S.protocol server.old script (R.rest reader.old) (R.rest reader.new)
+        (W.written writer.old) (W.written writer.new) server.new) }
+{
+    let mut held = Held::new();
+    run_pieces(server, &mut held, reader, writer)?;
+    if run_last(server, &held, writer).is_err() {
+        return Err(RunFault::Write);
+    }
+    Ok(())
+}

@@ -1,0 +1,28 @@
+-- Lines of firmware, in the words of its definitions.
+--     host_asked place op      what the host does at a place and in a width
+--     firmware_meaning_of what      what a line means
+--     IsFirmwareRefusable what      a refusal that has words
+use Rattle.std.specs.Prelude.{◌≡◌, ⊤, true}
+use Rattle.model_guests.specs.Accesses.{Op, reads, writes}
+use Rattle.model_guests.specs.Grammar.{host, nobody}
+use Rattle.model_firmware.specs.HostAccesses as firmware
+use Rattle.model_firmware.specs.FirmwareLines.{Meaning, nothing, asked, bad}
+use Rattle.accesses.specs.Accesses.{host_target_of}
+use Rattle.accesses.specs.Replies.{has_words}
+use Rattle.accesses.specs.declared.access.HostAccess.{HostAccess}
+use Rattle.lines.specs.declared.firmware_line.FirmwareWhat.{FirmwareWhat}
+use Rattle.lines.specs.declared.firmware_line.FirmwareWhat.TheVariants as what
+
+abbrev pub host_asked : HostAccess → Op → firmware.HostAccess
+host_asked place op = record { target = host_target_of place.at; width = place.width; op = op }
+
+abbrev pub firmware_meaning_of : FirmwareWhat → Meaning
+firmware_meaning_of what.Nothing = nothing
+firmware_meaning_of (what.Read place) = asked (host_asked place reads)
+firmware_meaning_of (what.Write place v) = asked (host_asked place (writes v))
+firmware_meaning_of what.NoForm = bad host 401
+firmware_meaning_of (what.NotOfHost n) = bad nobody n
+
+abbrev pub IsFirmwareRefusable : FirmwareWhat → Type 0
+IsFirmwareRefusable (what.NotOfHost n) = has_words n ≡ true
+IsFirmwareRefusable _ = ⊤

@@ -1,0 +1,178 @@
+//! Lines of firmware.
+ghost use Rattle.std.specs.Prelude.{◌≡◌, [], ◌∷◌, map, option_map, ◌^◌, IfSome};
+ghost use Rattle.model_guests.specs.Grammar.{host_port, host_address, host_at};
+ghost use Rattle.model_guests.specs.Numbers.{below, number_of};
+ghost use Rattle.model_guests.specs.Text.{words};
+ghost use Rattle.model_firmware.specs.FirmwareLines.{asked, config_place, written_at, host_write_of};
+ghost use Rattle.model_firmware.specs.FirmwareLines.{host_access_of as access_of_words, access_or_bad};
+ghost use Rattle.model_firmware.specs.FirmwareLines.{meaning_of_words, meaning};
+ghost use Rattle.accesses.specs.Accesses.{host_access_of};
+ghost use Rattle.lines.specs.FirmwareLines.{firmware_meaning_of, IsFirmwareRefusable};
+
+use crate::cursor::name_word;
+use crate::forms::{bus_address, host_form};
+use crate::line::{LONGEST_LINE, is_comment};
+use crate::numbers::number_of;
+use crate::words::first_words;
+use accesses::{HostAccess, HostAt};
+
+/// What a line of firmware means.
+#[derive(Clone, Copy, Debug, PartialEq, Eq)]
+pub enum FirmwareWhat {
+    /// The line makes no output.
+    Nothing,
+    Read(HostAccess),
+    /// A place, a width, and a value of which as many low bytes are written.
+    Write(HostAccess, u32),
+    /// A line of the host that has no form: 401.
+    NoForm,
+    /// No line of the host, which is refused by this number: 402 an unknown guest, 403 a long line.
+    NotOfHost(u16),
+}
+
+/// A value of 32 bits.
+fn value(word: &[u8]) -> Option<u32>
+    ensures { result ≡ below (2 ^ 32) (number_of word.now) }
+{
+    u32::try_from(number_of(word)?).ok()
+}
+
+/// A port and a width.
+fn port_place(at: &[u8], width: &[u8]) -> Option<HostAccess>
+    ensures { option_map host_access_of result ≡ host_at host_port at.now width.now }
+{
+    let port = number_of(at)?;
+    let width = number_of(width)?;
+    let at = HostAt::Io { port };
+    Some(HostAccess { at, width })
+}
+
+/// A memory address and a width.
+fn memory_place(at: &[u8], width: &[u8]) -> Option<HostAccess>
+    ensures { option_map host_access_of result ≡ host_at host_address at.now width.now }
+{
+    let addr = number_of(at)?;
+    let width = number_of(width)?;
+    let at = HostAt::Mem { addr };
+    Some(HostAccess { at, width })
+}
+
+/// A function's bus number, an offset and a width.
+fn config_place(bdf: &[u8], off: &[u8], width: &[u8]) -> Option<HostAccess>
+    ensures { option_map host_access_of result ≡ config_place bdf.now off.now width.now }
+{
+    let bdf = bus_address(bdf)?;
+    let off = number_of(off)?;
+    let width = number_of(width)?;
+    let at = HostAt::Config { bdf, off };
+    Some(HostAccess { at, width })
+}
+
+/// A write of a value at a place.
+fn written_at(place: Option<HostAccess>, bits: &[u8]) -> Option<FirmwareWhat>
+    ensures meaning { option_map firmware_meaning_of result
+        ≡ option_map asked (written_at bits.now (option_map host_access_of place)) }
+    ensures refusable { IfSome result IsFirmwareRefusable }
+{
+    let place = place?;
+    let value = value(bits)?;
+    Some(FirmwareWhat::Write(place, value))
+}
+
+/// A write with four words after `host`.
+fn write_of_four(op: &[u8], at: &[u8], width: &[u8], bits: &[u8]) -> Option<FirmwareWhat>
+    ensures meaning { option_map firmware_meaning_of result
+        ≡ option_map asked (host_write_of (op.now ∷ at.now ∷ width.now ∷ bits.now ∷ [])) }
+    ensures refusable { IfSome result IsFirmwareRefusable }
+{
+    if op == b"iw".as_slice() {
+        return written_at(port_place(at, width), bits);
+    }
+    if op == b"mw".as_slice() {
+        return written_at(memory_place(at, width), bits);
+    }
+    None
+}
+
+/// A write with five words after `host`.
+fn write_of_five(
+    op: &[u8],
+    bdf: &[u8],
+    off: &[u8],
+    width: &[u8],
+    bits: &[u8],
+) -> Option<FirmwareWhat>
+    ensures meaning { option_map firmware_meaning_of result
+        ≡ option_map asked (host_write_of (op.now ∷ bdf.now ∷ off.now ∷ width.now ∷ bits.now ∷ [])) }
+    ensures refusable { IfSome result IsFirmwareRefusable }
+{
+    if op == b"cw".as_slice() {
+        return written_at(config_place(bdf, off, width), bits);
+    }
+    None
+}
+
+/// The write that the words after `host` ask, if they are of a known form.
+#[tactic(auto, using(crate::proofs::WriteCounts::host_write_of_few, crate::proofs::WriteCounts::host_write_of_many))]
+fn host_write_form(words: &[&[u8]]) -> Option<FirmwareWhat>
+    ensures meaning { option_map firmware_meaning_of result
+        ≡ option_map asked (host_write_of (map (λ w. w.now) words.now)) }
+    ensures refusable { IfSome result IsFirmwareRefusable }
+{
+    match words {
+        [op, at, width, bits] => write_of_four(op, at, width, bits),
+        [op, bdf, off, width, bits] => write_of_five(op, bdf, off, width, bits),
+        _ => None,
+    }
+}
+
+/// What the words after `host` ask.
+fn of_host_words(words: &[&[u8]]) -> FirmwareWhat
+    ensures meaning { firmware_meaning_of result ≡ access_or_bad (access_of_words (map (λ w. w.now) words.now)) }
+    ensures refusable { IsFirmwareRefusable result }
+{
+    if let Some(read) = host_form(words) {
+        return FirmwareWhat::Read(read);
+    }
+    match host_write_form(words) {
+        Some(write) => write,
+        None => FirmwareWhat::NoForm,
+    }
+}
+
+/// A line of the host, by the text after `host`.
+fn host_line(text: &[u8]) -> FirmwareWhat
+    ensures meaning { firmware_meaning_of result ≡ access_or_bad (access_of_words (words text.now)) }
+    ensures refusable { IsFirmwareRefusable result }
+{
+    of_host_words(first_words(text).as_slice())
+}
+
+/// What a line means, by its first word and the text after it.
+fn named_line(first: &[u8], text: &[u8]) -> FirmwareWhat
+    ensures meaning { firmware_meaning_of result ≡ meaning_of_words (first.now ∷ words text.now) }
+    ensures refusable { IsFirmwareRefusable result }
+{
+    if is_comment(first) {
+        return FirmwareWhat::Nothing;
+    }
+    if first == b"host".as_slice() {
+        return host_line(text);
+    }
+    FirmwareWhat::NotOfHost(402)
+}
+
+/// What a line of firmware means, which is given without its line feed. No guest is there: of guests' names
+/// none is known.
+pub fn firmware_meaning(line: &[u8]) -> FirmwareWhat
+    ensures meaning { firmware_meaning_of result ≡ meaning line.now }
+    ensures refusable { IsFirmwareRefusable result }
+{
+    if line.len() > LONGEST_LINE {
+        return FirmwareWhat::NotOfHost(403);
+    }
+    match name_word(line) {
+        Some((first, text)) => named_line(first, text),
+        None => FirmwareWhat::Nothing,
+    }
+}

@@ -1,0 +1,176 @@
+-- Membership, and facts on pairs of elements, through filters, maps and lists end to end.
+use Rattle.std.proofs.Common.{◌≡◌, ◌⊎◌, inl, inr, Bool, true, false, ◌||◌, cond, List, [], ◌∷◌, ◌++◌, refl, sym, ap, ap₂, subst, ◌∙◌}
+use Rattle.std.specs.Prelude.{map, filter, flat_map}
+use Rattle.std.specs.List.{list_any, list_all}
+use Rattle.std.proofs.lemmas.Bool.{or_right}
+use Rattle.lists.specs.Elements.{IsIn, Each, EachPair}
+use Rattle.lists.proofs.Tests.{left_true, right_true}
+
+-- ---- what holds of each element
+
+pub each_in : {A : Type 0} (P : A → Type 0) (x : A) (xs : List A) → Each P xs → IsIn x xs → P x
+each_in P x [] h m = absurd m
+each_in P x (y ∷ ys) h (inl e) = subst P (sym e) h.0
+each_in P x (y ∷ ys) h (inr m) = each_in P x ys h.1 m
+
+pub each_from : {A : Type 0} (P : A → Type 0) (xs : List A) → ((x : A) → IsIn x xs → P x) → Each P xs
+each_from P [] f = tt
+each_from P (x ∷ xs) f = (f x (inl refl), each_from P xs (λ y m. f y (inr m)))
+
+-- ---- lists end to end
+
+pub in_front : {A : Type 0} (x : A) (xs ys : List A) → IsIn x xs → IsIn x (xs ++ ys)
+in_front x [] ys m = absurd m
+in_front x (y ∷ xs) ys (inl e) = inl e
+in_front x (y ∷ xs) ys (inr m) = inr (in_front x xs ys m)
+
+pub in_back : {A : Type 0} (x : A) (xs ys : List A) → IsIn x ys → IsIn x (xs ++ ys)
+in_back x [] ys m = m
+in_back x (y ∷ xs) ys m = inr (in_back x xs ys m)
+
+pub front_or_back : {A : Type 0} (x : A) (xs ys : List A) → IsIn x (xs ++ ys) → IsIn x xs ⊎ IsIn x ys
+front_or_back x [] ys m = inr m
+front_or_back x (y ∷ xs) ys (inl e) = inl (inl e)
+front_or_back x (y ∷ xs) ys (inr m) = later (front_or_back x xs ys m)
+  where
+    later : IsIn x xs ⊎ IsIn x ys → IsIn x (y ∷ xs) ⊎ IsIn x ys
+    later (inl h) = inl (inr h)
+    later (inr h) = inr h
+
+pub in_flat_map : {A B : Type 0} (f : A → List B) (x : A) (y : B) (xs : List A) → IsIn x xs → IsIn y (f x) → IsIn y (flat_map f xs)
+in_flat_map f x y [] m k = absurd m
+in_flat_map f x y (z ∷ xs) (inl e) k = in_front y (f z) (flat_map f xs) (subst (λ w. IsIn y (f w)) e k)
+in_flat_map f x y (z ∷ xs) (inr m) k = in_back y (f z) (flat_map f xs) (in_flat_map f x y xs m k)
+
+-- an element of the whole comes from one of the parts
+pub from_flat_map : {A B : Type 0} (f : A → List B) (y : B) (xs : List A) → IsIn y (flat_map f xs) → (x : A) × IsIn x xs × IsIn y (f x)
+from_flat_map f y [] m = absurd m
+from_flat_map {A} f y (z ∷ xs) m = by_part (front_or_back y (f z) (flat_map f xs) m) (from_flat_map f y xs)
+  where
+    later : (x : A) × IsIn x xs × IsIn y (f x) → (x : A) × IsIn x (z ∷ xs) × IsIn y (f x)
+    later (x, k, l) = (x, inr k, l)
+
+    by_part : IsIn y (f z) ⊎ IsIn y (flat_map f xs) → (IsIn y (flat_map f xs) → (x : A) × IsIn x xs × IsIn y (f x)) → (x : A) × IsIn x (z ∷ xs) × IsIn y (f x)
+    by_part (inl k) more = (z, inl refl, k)
+    by_part (inr k) more = later (more k)
+
+-- ---- maps and filters
+
+pub in_map : {A B : Type 0} (f : A → B) (x : A) (xs : List A) → IsIn x xs → IsIn (f x) (map f xs)
+in_map f x [] m = m
+in_map f x (y ∷ xs) (inl e) = inl (ap f e)
+in_map f x (y ∷ xs) (inr m) = inr (in_map f x xs m)
+
+pub from_map : {A B : Type 0} (f : A → B) (y : B) (xs : List A) → IsIn y (map f xs) → (x : A) × IsIn x xs × (y ≡ f x)
+from_map f y [] m = absurd m
+from_map f y (x ∷ xs) (inl e) = (x, inl refl, e)
+from_map {A} f y (x ∷ xs) (inr m) = later (from_map f y xs m)
+  where
+    later : (z : A) × IsIn z xs × (y ≡ f z) → (z : A) × IsIn z (x ∷ xs) × (y ≡ f z)
+    later (z, k, e) = (z, inr k, e)
+
+pub in_filter : {A : Type 0} (p : A → Bool) (x : A) (xs : List A) → IsIn x xs → p x ≡ true → IsIn x (filter p xs)
+in_filter p x [] m h = m
+in_filter p x (y ∷ xs) m h = by_test (p y) refl m (λ k. in_filter p x xs k h)
+  where
+    by_test : (t : Bool) → p y ≡ t → IsIn x (y ∷ xs) → (IsIn x xs → IsIn x (filter p xs)) → IsIn x (cond t (y ∷ filter p xs) (filter p xs))
+    by_test true e (inl k) more = inl k
+    by_test true e (inr k) more = inr (more k)
+    by_test false e (inl k) more = let no : true ≡ false = sym h ∙ ap p k ∙ e in cc
+    by_test false e (inr k) more = more k
+
+pub from_filter : {A : Type 0} (p : A → Bool) (x : A) (xs : List A) → IsIn x (filter p xs) → IsIn x xs × (p x ≡ true)
+from_filter p x [] m = absurd m
+from_filter p x (y ∷ xs) m = by_test (p y) refl m (from_filter p x xs)
+  where
+    later : IsIn x xs × (p x ≡ true) → IsIn x (y ∷ xs) × (p x ≡ true)
+    later (k, h) = (inr k, h)
+
+    by_test : (t : Bool) → p y ≡ t → IsIn x (cond t (y ∷ filter p xs) (filter p xs)) → (IsIn x (filter p xs) → IsIn x xs × (p x ≡ true)) → IsIn x (y ∷ xs) × (p x ≡ true)
+    by_test true e (inl k) more = (inl k, ap p k ∙ e)
+    by_test true e (inr k) more = later (more k)
+    by_test false e k more = later (more k)
+
+-- what one element passes, some element passes, and the other way round
+pub any_in : {A : Type 0} (p : A → Bool) (x : A) (xs : List A) → IsIn x xs → p x ≡ true → list_any p xs ≡ true
+any_in p x [] m h = absurd m
+any_in p x (y ∷ xs) (inl e) h = let here : p y ≡ true = sym (ap p e) ∙ h in rw here
+any_in p x (y ∷ xs) (inr m) h = or_right (p y) (list_any p xs) (any_in p x xs m h)
+
+pub from_any : {A : Type 0} (p : A → Bool) (xs : List A) → list_any p xs ≡ true → (x : A) × IsIn x xs × (p x ≡ true)
+from_any p [] h = cc
+from_any {A} p (y ∷ xs) h = by_test (p y) refl h (from_any p xs)
+  where
+    later : (x : A) × IsIn x xs × (p x ≡ true) → (x : A) × IsIn x (y ∷ xs) × (p x ≡ true)
+    later (x, m, k) = (x, inr m, k)
+
+    by_test : (t : Bool) → p y ≡ t → (t || list_any p xs) ≡ true → (list_any p xs ≡ true → (x : A) × IsIn x xs × (p x ≡ true)) → (x : A) × IsIn x (y ∷ xs) × (p x ≡ true)
+    by_test true e k more = (y, inl refl, e)
+    by_test false e k more = later (more k)
+
+-- a test of all holds where each element passes it, and the other way round
+pub all_in : {A : Type 0} (p : A → Bool) (x : A) (xs : List A) → list_all p xs ≡ true → IsIn x xs → p x ≡ true
+all_in p x [] h m = absurd m
+all_in p x (y ∷ xs) h (inl e) = ap p e ∙ left_true (p y) (list_all p xs) h
+all_in p x (y ∷ xs) h (inr m) = all_in p x xs (right_true (p y) (list_all p xs) h) m
+
+pub all_from : {A : Type 0} (p : A → Bool) (xs : List A) → ((x : A) → IsIn x xs → p x ≡ true) → list_all p xs ≡ true
+all_from p [] h = refl
+all_from p (x ∷ xs) h = rw (h x (inl refl)) (all_from p xs (λ y m. h y (inr m)))
+
+pub filter_same : {A : Type 0} (p q : A → Bool) (xs : List A) → ((x : A) → IsIn x xs → p x ≡ q x) → filter p xs ≡ filter q xs
+filter_same p q [] h = refl
+filter_same p q (x ∷ xs) h = ap₂ (λ t ys. cond t (x ∷ ys) ys) (h x (inl refl)) (filter_same p q xs (λ y m. h y (inr m)))
+
+-- ---- pairs
+
+pub pairs_weaker : {A : Type 0} (R S : A → A → Type 0) (xs : List A) → EachPair R xs → ((x y : A) → IsIn x xs → IsIn y xs → R x y → S x y) → EachPair S xs
+pairs_weaker R S [] h f = tt
+pairs_weaker R S (x ∷ xs) h f = (
+  each_from (S x) xs (λ y m. f x y (inl refl) (inr m) (each_in (R x) y xs h.0 m)),
+  pairs_weaker R S xs h.1 (λ y z m k. f y z (inr m) (inr k)),
+)
+
+pub pairs_append : {A : Type 0} (R : A → A → Type 0) (xs ys : List A) → EachPair R xs → EachPair R ys → ((x y : A) → IsIn x xs → IsIn y ys → R x y) → EachPair R (xs ++ ys)
+pairs_append R [] ys h k f = k
+pairs_append {A} R (x ∷ xs) ys h k f = (each_from (R x) (xs ++ ys) (λ y m. by_part y (front_or_back y xs ys m)), pairs_append R xs ys h.1 k (λ y z m n. f y z (inr m) n))
+  where
+    by_part : (y : A) → IsIn y xs ⊎ IsIn y ys → R x y
+    by_part y (inl m) = each_in (R x) y xs h.0 m
+    by_part y (inr m) = f x y (inl refl) m
+
+-- pairs of one part, and pairs of two parts
+pub pairs_flat_map : {A B : Type 0} (Q : A → A → Type 0) (R : B → B → Type 0) (f : A → List B) (xs : List A) → EachPair Q xs → ((x : A) → IsIn x xs → EachPair R (f x))
+    → ((x y : A) → IsIn x xs → IsIn y xs → Q x y → (r s : B) → IsIn r (f x) → IsIn s (f y) → R r s) → EachPair R (flat_map f xs)
+pairs_flat_map Q R f [] q one two = tt
+pairs_flat_map {A} {B} Q R f (x ∷ xs) q one two =
+    pairs_append R (f x) (flat_map f xs) (one x (inl refl)) (pairs_flat_map Q R f xs q.1 (λ y m. one y (inr m)) (λ y z m k. two y z (inr m) (inr k)))
+    (λ r s m k. later r s m (from_flat_map f s xs k))
+  where
+    later : (r s : B) → IsIn r (f x) → (y : A) × IsIn y xs × IsIn s (f y) → R r s
+    later r s m (y, k, l) = two x y (inl refl) (inr k) (each_in (Q x) y xs q.0 k) r s m l
+
+pub pairs_of_map : {A B : Type 0} (R : B → B → Type 0) (f : A → B) (xs : List A) → EachPair (λ x y. R (f x) (f y)) xs → EachPair R (map f xs)
+pairs_of_map R f [] h = tt
+pairs_of_map {A} {B} R f (x ∷ xs) h = (each_from (R (f x)) (map f xs) (λ y m. of_map y (from_map f y xs m)), pairs_of_map R f xs h.1)
+  where
+    of_map : (y : B) → (z : A) × IsIn z xs × (y ≡ f z) → R (f x) y
+    of_map y (z, m, e) = subst (R (f x)) (sym e) (each_in (λ w. R (f x) (f w)) z xs h.0 m)
+
+-- ---- an element that no other is told from by a test
+
+pub none_pass : {A : Type 0} (p : A → Bool) (xs : List A) → ((x : A) → IsIn x xs → p x ≡ false) → filter p xs ≡ []
+none_pass p [] h = refl
+none_pass p (x ∷ xs) h = let no : p x ≡ false = h x (inl refl) in rw no (none_pass p xs (λ y m. h y (inr m)))
+
+-- where a test passes x and nothing that stands before or after it, x alone passes
+pub one_passes : {A : Type 0} (p : A → Bool) (R : A → A → Type 0) (x : A) (xs : List A) → EachPair R xs → ((y : A) → R x y → p y ≡ false) → ((y : A) → R y x → p y ≡ false)
+    → p x ≡ true → IsIn x xs → filter p xs ≡ x ∷ []
+one_passes p R x [] h after before here m = absurd m
+one_passes p R x (y ∷ xs) h after before here (inl e) =
+    let passes : p y ≡ true = sym (ap p e) ∙ here in
+    let none : filter p xs ≡ [] = none_pass p xs (λ z k. after z (subst (λ w. R w z) (sym e) (each_in (R y) z xs h.0 k))) in
+    rw (passes, none) (ap (λ w. w ∷ []) (sym e))
+one_passes p R x (y ∷ xs) h after before here (inr m) =
+    let fails : p y ≡ false = before y (each_in (R y) x xs h.0 m) in
+    rw fails (one_passes p R x xs h.1 after before here m)

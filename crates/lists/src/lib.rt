@@ -1,0 +1,3 @@
+//! Words on lists, for definitions, and lemmas on lists and on tests of their elements, for proofs. No code and no
+//! contract.
+#![tactic(auto)]

@@ -1,0 +1,24 @@
+-- The worked examples, by computation.
+use Rattle.std.proofs.Common.{refl}
+use Rattle.model_audit.specs.Examples.{WorkedExamples}
+
+pub worked_examples : WorkedExamples
+worked_examples = record {
+  orderly = refl;
+  straddles = refl;
+  goes_on = refl;
+  one_agent = refl;
+  hole = refl;
+  upper = refl;
+  lower = refl;
+  closed = refl;
+  told = refl;
+  opens_on_nothing = refl;
+  overlap = refl;
+  apart = refl;
+  same_place = refl;
+  set_up = refl;
+  nothing_told = refl;
+  lost = refl;
+  beyond = refl;
+}

@@ -1,0 +1,9 @@
+pub mod Pairs
+pub mod Answering
+pub mod Apart
+pub mod Claims
+pub mod Problems
+pub mod Found
+pub mod Scan
+pub mod Witnesses
+pub mod Examples

@@ -1,0 +1,12 @@
+use Rattle.model_audit.proofs.Found.{numbering_decides}
+use Rattle.model_audit.proofs.Problems.{routing_decides}
+use Rattle.model_audit.proofs.Witnesses.{problems_are_real, problems_decide}
+use Rattle.model_audit.proofs.problems_decide.Goals as goal
+
+pub returns : goal.returns
+returns c = record {
+  real = problems_are_real;
+  decide = problems_decide;
+  routing = routing_decides;
+  numbering = numbering_decides;
+}

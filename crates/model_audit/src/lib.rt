@@ -1,0 +1,35 @@
+//! An audit of a board in any register state: definitions, and laws about them. Does every address reach one place,
+//! can every function be found, and if not, which bridge and which address?
+#![tactic(auto)]
+
+ghost use Rattle.model_audit.specs.Examples.{WorkedExamples};
+ghost use Rattle.model_audit.specs.Found.{FoundOnce, NumbersOfBoard, ScanFindsAll};
+ghost use Rattle.model_audit.specs.Orderly.{OrderlyClaims};
+ghost use Rattle.model_audit.specs.Witnesses.{NumberingDecides, ProblemsAreReal, ProblemsDecide, RoutingDecides};
+
+/// In an orderly state an address has the claim of the open region that holds it and no other, and each byte of an
+/// open region is claimed through every bridge above it.
+pub fn orderly_claims()
+    ensures { OrderlyClaims }
+{}
+
+/// Where no function is told as not found, each is reached by its address and by no other, and a scan of all
+/// addresses finds all functions. A board that holds its own bus numbers is such a state.
+pub fn numbers_find_all()
+    ensures once { FoundOnce }
+    ensures scan { ScanFindsAll }
+    ensures board { NumbersOfBoard }
+{}
+
+/// Each problem is real, as its witness shows, and there is none where and only where the state is in order.
+pub fn problems_decide()
+    ensures real { ProblemsAreReal }
+    ensures decide { ProblemsDecide }
+    ensures routing { RoutingDecides }
+    ensures numbering { NumberingDecides }
+{}
+
+/// What is told of some states.
+pub fn worked_examples()
+    ensures { WorkedExamples }
+{}

@@ -1,5 +1,0 @@
-use Rattle.model_board.proofs.Packing.{flat_need_on_bus}
-use Rattle.model_board.proofs.flat_need.Goals as goal
-
-pub returns : goal.returns
-returns c = flat_need_on_bus

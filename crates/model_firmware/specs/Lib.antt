@@ -1,0 +1,3 @@
+pub mod HostAccesses
+pub mod FirmwareLines
+pub mod FirmwareLaws

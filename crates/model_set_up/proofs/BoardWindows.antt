@@ -1,0 +1,251 @@
+-- After set-up the windows of a board's bridges are those that placement gave them: a pool's items stand behind bridges that can name its addresses alone.
+use Rattle.std.proofs.Common.{◌≡◌, ℕ, zero, suc, ◌+◌, ◌-◌, ◌%◌, ◌^◌, ◌≤◌, ◌<◌, inl, Bool, true, false, ◌&&◌, ◌||◌, not, cond, List, [], ◌∷◌, ◌++◌, length, Option, Some, None, MatchOption, refl, sym, ap, ◌∙◌, subst, arith}
+use Rattle.std.specs.Prelude.{filter, nat_lt, IsTrue, ⊤}
+use Rattle.std.specs.List.{list_all}
+use Rattle.std.proofs.lemmas.Bool.{ltb-true, and_parts}
+use Rattle.lists.specs.Elements.{Each, IsIn}
+use Rattle.model_registers.specs.Declarations.{Kind, io_kind, mem32, mem64, Region, Endpoint, IoDecode, no_io, io16, io32, PrefDecode, no_pref, pref32, pref64, Bridge}
+use Rattle.model_registers.specs.BridgeTable.{Window, BridgeValues, bridge_file}
+use Rattle.model_registers.specs.Apertures.{IsLawfulApertures, IsPrefOption, Aperture, Apertures}
+use Rattle.model_board.specs.Board.{Board, Row, Decl, endpoint, bridge, rows_on, is_multifunction, IsBoard}
+use Rattle.model_board.specs.Paths.{Path, leads_to, last_part, IsPath}
+use Rattle.model_set_up.specs.Pools.{Pool, io_pool, mem_pool, pref_pool, same_pool, unit_of, bridge_of, bridges_above, has_pref, has_pref64, pref_reaches, pref_or_mem, pool_of, is_io, opens_io, has_io, has_io_paths, aperture_of}
+use Rattle.model_set_up.specs.Placement.{Item, need, window_items, items_of, items_within, items_on, fits, bus_first}
+use Rattle.model_set_up.specs.Layout.{IsAligned, IsLawful, pool_rows}
+use Rattle.model_set_up.specs.Extents.{IsInside}
+use Rattle.model_set_up.specs.PlacementLaws.{window_row}
+use Rattle.model_board.specs.Lawful.{HasLawfulDecls}
+use Rattle.model_set_up.specs.SetUp.{window_of, bridge_values}
+use Rattle.model_board.specs.Windows.{io_window, mem_window, pref_window}
+use Rattle.model_set_up.specs.WindowLaws.{io_reach, pref_reach, IsWhole, window_over, HasPlacedWindows, SetUpWindows}
+use Rattle.lists.proofs.Members.{each_in, each_from, from_flat_map, in_filter, in_flat_map, any_in, all_in}
+use Rattle.model_board.proofs.PathEnds.{leads_self, leads_trans}
+use Rattle.model_set_up.proofs.Packing.{unit_positive}
+use Rattle.model_set_up.proofs.Items.{some_end, end_below_need, items_placeable, region_of_item, on_bus}
+use Rattle.model_set_up.proofs.Nesting.{HasItems}
+use Rattle.model_set_up.proofs.LawfulPlacement.{pool_lawful}
+use Rattle.model_set_up.proofs.DeclaredRows.{has_window_row}
+use Rattle.model_set_up.proofs.WindowReads.{closed_windows, windows_named}
+
+-- ---- items stand for regions behind
+
+-- a region of the pool behind a bridge
+record Behind (b : Board) (a : Apertures) (pool : Pool) (p : Path) : Type 0 where
+  row : Row
+  there : IsIn row b
+  leads : leads_to p row.path ≡ true
+  decl : Endpoint
+  decl_is : row.decl ≡ endpoint decl
+  region : Region
+  declared : IsIn region decl.regions
+  in_pool : same_pool (pool_of a (bridges_above b row.path) region.kind) pool ≡ true
+
+window_item : (unit : ℕ) (is : List Item) (p : Path) (i : Item) → IsIn i (window_items unit (last_part p) is) → (j : Item) × IsIn j is
+window_item unit [] p i m = absurd m
+window_item unit (j ∷ is) p i m = (j, inl refl)
+
+module _ (b : Board) (a : Apertures) (pool : Pool) (paths : Each (λ r. IsPath r.path) b) where
+  behind : (n : ℕ) (p : Path) (i : Item) → IsIn i (items_within b a pool n p) → Behind b a pool p
+  behind zero p i m = absurd m
+  behind (suc n) p i m = by_row (from_flat_map (items_of b a pool (items_within b a pool n)) i (rows_on b p) m) (behind n)
+    where
+      by_row : (r : Row) × IsIn r (rows_on b p) × IsIn i (items_of b a pool (items_within b a pool n) r) → ((q : Path) (j : Item) → IsIn j (items_within b a pool n q) → Behind b a pool q) → Behind b a pool p
+      by_row (r, m, k) more = by_decl r.decl refl k
+        where
+          on : IsIn r b × (r.path ≡ p ++ last_part r.path ∷ [])
+          on = on_bus b p r paths m
+
+          leads : leads_to p r.path ≡ true
+          leads = subst (λ (x : Path). leads_to p x ≡ true) (sym on.1) (leads_self p (last_part r.path))
+
+          deeper : Behind b a pool r.path → Behind b a pool p
+          deeper h = record {
+            row = h.row;
+            there = h.there;
+            leads = leads_trans p r.path h.row.path leads h.leads;
+            decl = h.decl;
+            decl_is = h.decl_is;
+            region = h.region;
+            declared = h.declared;
+            in_pool = h.in_pool;
+          }
+
+          by_decl : (d : Decl) → r.decl ≡ d → IsIn i (items_of b a pool (items_within b a pool n) (record { path = r.path; decl = d })) → Behind b a pool p
+          by_decl (endpoint d) e k =
+              let g = region_of_item b a pool r.path d i k in
+              record { row = r; there = on.0; leads = leads; decl = d; decl_is = e; region = g.0; declared = g.1; in_pool = g.2 }
+          by_decl (bridge d) e k = let j = window_item (unit_of pool) (items_within b a pool n r.path) r.path i k in deeper (more r.path j.0 j.1)
+
+-- a bridge of the board that leads to a path is above it
+above : (b : Board) (r : Row) (d : Bridge) (p : Path) → IsIn r b → r.decl ≡ bridge d → leads_to r.path p ≡ true → IsIn d (bridges_above b p)
+above b r d p m e leads = in_flat_map bridge_of r d (filter (λ r. leads_to r.path p) b) (in_filter (λ (r : Row). leads_to r.path p) r b m leads) (rw e (inl refl))
+
+-- ---- what the pool of a region says of the bridges above it
+
+no_io_pool : (t : Bool) → same_pool (cond t pref_pool mem_pool) io_pool ≡ true → ⊥
+no_io_pool true h = cc
+no_io_pool false h = cc
+
+io_of_pref : (o : Option Aperture) (ds : List Bridge) (wide : Bool) → same_pool (pref_or_mem o ds wide) io_pool ≡ true → ⊥
+io_of_pref None ds wide h = cc
+io_of_pref (Some ap) ds wide h = no_io_pool (pref_reaches ap ds wide) h
+
+is_io_of : (a : Apertures) (ds : List Bridge) (k : Kind) → same_pool (pool_of a ds k) io_pool ≡ true → is_io k ≡ true
+is_io_of a ds io_kind h = refl
+is_io_of a ds (mem32 true) h = absurd (io_of_pref a.pref ds false h)
+is_io_of a ds (mem32 false) h = cc
+is_io_of a ds (mem64 true) h = absurd (io_of_pref a.pref ds true h)
+is_io_of a ds (mem64 false) h = cc
+
+abbrev Reached : Option Aperture → List Bridge → Type 0
+Reached o ds = (ap : Aperture) × (wide : Bool) × (o ≡ Some ap) × (pref_reaches ap ds wide ≡ true)
+
+reached_if : (ap : Aperture) (ds : List Bridge) (wide t : Bool) → pref_reaches ap ds wide ≡ t → same_pool (cond t pref_pool mem_pool) pref_pool ≡ true → Reached (Some ap) ds
+reached_if ap ds wide true e h = (ap, wide, refl, e)
+reached_if ap ds wide false e h = cc
+
+reached_of : (o : Option Aperture) (ds : List Bridge) (wide : Bool) → same_pool (pref_or_mem o ds wide) pref_pool ≡ true → Reached o ds
+reached_of None ds wide h = cc
+reached_of (Some ap) ds wide h = reached_if ap ds wide (pref_reaches ap ds wide) refl h
+
+pref_of : (a : Apertures) (ds : List Bridge) (k : Kind) → same_pool (pool_of a ds k) pref_pool ≡ true → Reached a.pref ds
+pref_of a ds io_kind h = cc
+pref_of a ds (mem32 true) h = reached_of a.pref ds false h
+pref_of a ds (mem32 false) h = cc
+pref_of a ds (mem64 true) h = reached_of a.pref ds true h
+pref_of a ds (mem64 false) h = cc
+
+-- ---- each bridge above can name the pool's addresses
+
+reach_low : (k : PrefDecode) (n : ℕ) → n < 2 ^ 32 → has_pref k ≡ true → n < pref_reach k
+reach_low no_pref n h has = cc
+reach_low pref32 n h has = h
+reach_low pref64 n h has = omega arith
+
+reach_high : (k : PrefDecode) (n : ℕ) → n < 2 ^ 63 → has_pref64 k ≡ true → n < pref_reach k
+reach_high no_pref n h has = cc
+reach_high pref32 n h has = cc
+reach_high pref64 n h has = omega arith
+
+pref_reached : (ap : Aperture) (ds : List Bridge) (wide : Bool) (d : Bridge) → IsIn d ds → ap.last < 2 ^ 63 → pref_reaches ap ds wide ≡ true → ap.last < pref_reach d.pref
+pref_reached ap ds wide d m limit h = by_side (nat_lt ap.last (2 ^ 32)) refl h
+  where
+    by_side : (t : Bool) → nat_lt ap.last (2 ^ 32) ≡ t → cond t (list_all (λ d. has_pref d.pref) ds) (wide && list_all (λ d. has_pref64 d.pref) ds) ≡ true → ap.last < pref_reach d.pref
+    by_side true e k = reach_low d.pref ap.last (ltb-true ap.last (2 ^ 32) e) (all_in (λ (x : Bridge). has_pref x.pref) d ds k m)
+    by_side false e k = reach_high d.pref ap.last limit (all_in (λ (x : Bridge). has_pref64 x.pref) d ds (and_parts wide (list_all (λ d. has_pref64 d.pref) ds) k).1 m)
+
+io_reached : (k : IoDecode) (n : ℕ) → n < 2 ^ 16 → has_io k ≡ true → n < io_reach k
+io_reached no_io n h has = cc
+io_reached io16 n h has = h
+io_reached io32 n h has = omega arith
+
+or_second : (s t : Bool) → (not s || t) ≡ true → s ≡ true → t ≡ true
+or_second true t h k = h
+or_second false t h k = cc
+
+module _ (b : Board) (a : Apertures) (board : IsBoard b) (apertures : IsLawfulApertures a) (r : Row) (there : IsIn r b) (d : Bridge) (decl : r.decl ≡ bridge d) where
+  io_above : has_io_paths b ≡ true → HasItems b a io_pool r.path → a.io.last < io_reach d.io
+  io_above ways (i, m) =
+      let h : Behind b a io_pool r.path = behind b a io_pool board.paths 16 r.path i m in
+      let is : is_io h.region.kind ≡ true = is_io_of a (bridges_above b h.row.path) h.region.kind h.in_pool in
+      let opens : opens_io h.row.decl ≡ true = rw h.decl_is (any_in (λ (k : Region). is_io k.kind) h.region h.decl.regions h.declared is) in
+      let all : list_all (λ d. has_io d.io) (bridges_above b h.row.path) ≡ true =
+      or_second (opens_io h.row.decl) (list_all (λ d. has_io d.io) (bridges_above b h.row.path)) (all_in (λ (x : Row). not (opens_io x.decl) || list_all (λ d. has_io d.io) (bridges_above b x.path)) h.row b ways h.there) opens in
+      io_reached d.io a.io.last (omega (arith, apertures.io.ends)) (all_in (λ (x : Bridge). has_io x.io) d (bridges_above b h.row.path) all (above b r d h.row.path there decl h.leads))
+
+  pref_above : HasItems b a pref_pool r.path → MatchOption a.pref ⊤ (λ ap. ap.last < pref_reach d.pref)
+  pref_above (i, m) =
+      let h : Behind b a pref_pool r.path = behind b a pref_pool board.paths 16 r.path i m in
+      by_aperture (bridges_above b h.row.path) a.pref apertures.pref (pref_of a (bridges_above b h.row.path) h.region.kind h.in_pool) (above b r d h.row.path there decl h.leads)
+    where
+      by_aperture : (ds : List Bridge) (o : Option Aperture) → IsPrefOption a.mem o → Reached o ds → IsIn d ds → MatchOption o ⊤ (λ ap. ap.last < pref_reach d.pref)
+      by_aperture ds None lawful reached m = tt
+      by_aperture ds (Some x) lawful (y, wide, e, h) m =
+          let same : x ≡ y = cc in
+          pref_reached x ds wide d m lawful.ends (subst (λ (z : Aperture). pref_reaches z ds wide ≡ true) (sym same) h)
+
+-- ---- the window of a bus
+
+-- a bus's window is of whole units and inside the aperture
+record IsPlacedWindow (a : Apertures) (pool : Pool) (first size : ℕ) : Type 0 where
+  some : 0 < size
+  first_whole : first % unit_of pool ≡ 0
+  size_whole : size % unit_of pool ≡ 0
+  inside : MatchOption (aperture_of a pool) ⊥ (λ ap. first + size ≤ ap.last + 1)
+
+inside_of : (a : Apertures) (pool : Pool) (first size : ℕ) (o : Option Aperture) → MatchOption o ⊥ (λ ap. (ap.first ≤ first) × (first + size ≤ ap.last + 1)) → MatchOption o ⊥ (λ ap. first + size ≤ ap.last + 1)
+inside_of a pool first size None h = h
+inside_of a pool first size (Some x) h = h.1
+
+placed_here : (b : Board) (a : Apertures) (pool : Pool) → IsBoard b → HasLawfulDecls b → fits b a pool ≡ true → (p : Path) → 0 < length p → HasItems b a pool p
+    → IsPlacedWindow a pool (bus_first b a pool p) (need (unit_of pool) (items_on b a pool p))
+placed_here b a pool board lawful fit p long (i, m) =
+    let there = has_window_row b a pool board lawful p long (i, m) in
+    let whole : IsLawful b a (pool_rows b a pool) = pool_lawful b a pool board lawful fit in
+    let aligned = each_in (λ r. IsAligned r r.what) (window_row b a pool p) (pool_rows b a pool) whole.aligned there in
+    record {
+      some = omega (arith, some_end (unit_of pool) i (items_on b a pool p) (items_placeable b a pool lawful p) m, end_below_need (unit_of pool) (items_on b a pool p) (unit_positive pool));
+      first_whole = aligned.0;
+      size_whole = aligned.1;
+      inside = inside_of a pool (bus_first b a pool p) (need (unit_of pool) (items_on b a pool p)) (aperture_of a pool)
+          (each_in (λ r. MatchOption (aperture_of a r.pool) ⊥ (λ ap. IsInside ap.first (ap.last + 1) r.first r.size)) (window_row b a pool p) (pool_rows b a pool) whole.in_apertures there);
+    }
+
+io_whole : (first size last reach : ℕ) → first % 2 ^ 12 ≡ 0 → size % 2 ^ 12 ≡ 0 → 0 < size → first + size ≤ last + 1 → last < reach → IsWhole (2 ^ 12) reach (record { first = first; last = first + size - 1 })
+io_whole first size last reach f s some h k = record { first = f; end = omega arith; in_order = omega arith; reached = omega arith }
+
+memory_whole : (first size last reach : ℕ) → first % 2 ^ 20 ≡ 0 → size % 2 ^ 20 ≡ 0 → 0 < size → first + size ≤ last + 1 → last < reach → IsWhole (2 ^ 20) reach (record { first = first; last = first + size - 1 })
+memory_whole first size last reach f s some h k = record { first = f; end = omega arith; in_order = omega arith; reached = omega arith }
+
+-- registers that hold the window of a bus with these items name its window
+abbrev placed_from : ℕ → ℕ → List Item → Window
+placed_from first unit is = record { first = first; last = first + need unit is - 1 }
+
+module _ (d : Bridge) (multifunction : Bool) (r : BridgeValues) (first : ℕ) where
+  io_named : (is : List Item) → r.io ≡ window_of (2 ^ 12) 0xf first is → ((i : Item) → IsIn i is → IsWhole (2 ^ 12) (io_reach d.io) (placed_from first (2 ^ 12) is)) → io_window d.io (bridge_file d multifunction r) ≡ window_over (2 ^ 12) first is
+  io_named [] e whole = (closed_windows d multifunction r).io e
+  io_named (i ∷ is) e whole = (windows_named d multifunction r).io (subst (IsWhole (2 ^ 12) (io_reach d.io)) (sym e) (whole i (inl refl))) ∙ ap (λ s. Some s) e
+
+  mem_named : (is : List Item) → r.mem ≡ window_of (2 ^ 20) 0xfff first is → ((i : Item) → IsIn i is → IsWhole (2 ^ 20) (2 ^ 32) (placed_from first (2 ^ 20) is)) → mem_window (bridge_file d multifunction r) ≡ window_over (2 ^ 20) first is
+  mem_named [] e whole = (closed_windows d multifunction r).mem e
+  mem_named (i ∷ is) e whole = (windows_named d multifunction r).mem (subst (IsWhole (2 ^ 20) (2 ^ 32)) (sym e) (whole i (inl refl))) ∙ ap (λ s. Some s) e
+
+  pref_named : (is : List Item) → r.pref ≡ window_of (2 ^ 20) 0xfff first is → ((i : Item) → IsIn i is → IsWhole (2 ^ 20) (pref_reach d.pref) (placed_from first (2 ^ 20) is)) → pref_window d.pref (bridge_file d multifunction r) ≡ window_over (2 ^ 20) first is
+  pref_named [] e whole = (closed_windows d multifunction r).pref e
+  pref_named (i ∷ is) e whole = (windows_named d multifunction r).pref (subst (IsWhole (2 ^ 20) (pref_reach d.pref)) (sym e) (whole i (inl refl))) ∙ ap (λ s. Some s) e
+
+module _ (b : Board) (a : Apertures) (board : IsBoard b) (lawful : HasLawfulDecls b) (apertures : IsLawfulApertures a) (ways : has_io_paths b ≡ true) (fit : (pool : Pool) → IsTrue (fits b a pool)) where
+  module _ (r : Row) (there : IsIn r b) (d : Bridge) (decl : r.decl ≡ bridge d) where
+    whole : (pool : Pool) → HasItems b a pool r.path → IsPlacedWindow a pool (bus_first b a pool r.path) (need (unit_of pool) (items_on b a pool r.path))
+    whole pool has = placed_here b a pool board lawful (fit pool) r.path (each_in (λ (x : Row). IsPath x.path) r b board.paths there).some has
+
+    io_placed : HasItems b a io_pool r.path → IsWhole (2 ^ 12) (io_reach d.io) (placed_from (bus_first b a io_pool r.path) (2 ^ 12) (items_on b a io_pool r.path))
+    io_placed has =
+        let s = whole io_pool has in
+        io_whole (bus_first b a io_pool r.path) (need (2 ^ 12) (items_on b a io_pool r.path)) a.io.last (io_reach d.io) s.first_whole s.size_whole s.some s.inside (io_above b a board apertures r there d decl ways has)
+
+    mem_placed : HasItems b a mem_pool r.path → IsWhole (2 ^ 20) (2 ^ 32) (placed_from (bus_first b a mem_pool r.path) (2 ^ 20) (items_on b a mem_pool r.path))
+    mem_placed has =
+        let s = whole mem_pool has in
+        memory_whole (bus_first b a mem_pool r.path) (need (2 ^ 20) (items_on b a mem_pool r.path)) a.mem.last (2 ^ 32) s.first_whole s.size_whole s.some s.inside apertures.mem.ends
+
+    pref_placed : HasItems b a pref_pool r.path → IsWhole (2 ^ 20) (pref_reach d.pref) (placed_from (bus_first b a pref_pool r.path) (2 ^ 20) (items_on b a pref_pool r.path))
+    pref_placed has = by_aperture a.pref (whole pref_pool has).inside (pref_above b a board apertures r there d decl has)
+      where
+        by_aperture : (o : Option Aperture) → MatchOption o ⊥ (λ ap. bus_first b a pref_pool r.path + need (2 ^ 20) (items_on b a pref_pool r.path) ≤ ap.last + 1) → MatchOption o ⊤ (λ ap. ap.last < pref_reach d.pref)
+            → IsWhole (2 ^ 20) (pref_reach d.pref) (placed_from (bus_first b a pref_pool r.path) (2 ^ 20) (items_on b a pref_pool r.path))
+        by_aperture None inside reach = absurd inside
+        by_aperture (Some x) inside reach =
+            let s = whole pref_pool has in
+            memory_whole (bus_first b a pref_pool r.path) (need (2 ^ 20) (items_on b a pref_pool r.path)) x.last (pref_reach d.pref) s.first_whole s.size_whole s.some inside reach
+
+  windows : (r : Row) → IsIn r b → (d : Decl) → r.decl ≡ d → HasPlacedWindows b a r.path d
+  windows r m (endpoint d) e = tt
+  windows r m (bridge d) e = record {
+    io = io_named d (is_multifunction b r.path) (bridge_values b a r.path) (bus_first b a io_pool r.path) (items_on b a io_pool r.path) refl (λ i k. io_placed r m d e (i, k));
+    mem = mem_named d (is_multifunction b r.path) (bridge_values b a r.path) (bus_first b a mem_pool r.path) (items_on b a mem_pool r.path) refl (λ i k. mem_placed r m d e (i, k));
+    pref = pref_named d (is_multifunction b r.path) (bridge_values b a r.path) (bus_first b a pref_pool r.path) (items_on b a pref_pool r.path) refl (λ i k. pref_placed r m d e (i, k));
+  }
+
+pub set_up_windows : SetUpWindows
+set_up_windows b a board lawful apertures ways fit = each_from (λ r. HasPlacedWindows b a r.path r.decl) b (λ r m. windows b a board lawful apertures ways fit r m r.decl refl)

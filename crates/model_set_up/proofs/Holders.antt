@@ -1,0 +1,132 @@
+-- Regions that share no address: one at most holds an address, so their order doesn't count.
+use Rattle.std.proofs.Common.{◌≡◌, ℕ, ◌+◌, ◌≤◌, ◌<◌, ◌⊎◌, inl, inr, Bool, true, false, ◌&&◌, List, [], ◌∷◌, None, refl, sym, ap, ◌∙◌, arith, leb, ltb}
+use Rattle.std.specs.Prelude.{flat_map}
+use Rattle.std.specs.List.{list_any}
+use Rattle.std.specs.Option.{option_to_list}
+use Rattle.std.proofs.lemmas.Bool.Decides.{nat_tests}
+use Rattle.std.proofs.lemmas.Bool.{leb-true, ltb-true}
+use Rattle.lists.specs.Elements.{Each, EachPair, first_some, IsIn}
+use Rattle.model_registers.specs.Decoding.{Space, io, memory, same_space}
+use Rattle.lists.proofs.Tests.{left_true, right_true}
+use Rattle.model_board.specs.Claims.{Claim}
+use Rattle.model_set_up.specs.PlacedRegions.{PlacedRegion, holds, claim_in}
+use Rattle.model_set_up.specs.UniqueClaimant.{ShareNone}
+use Rattle.lists.proofs.Members.{each_in, any_in, from_any}
+use Rattle.model_set_up.proofs.Partings.{pair_in}
+
+same_spaces : (x y z : Space) → same_space x z ≡ true → same_space y z ≡ true → same_space x y ≡ true
+same_spaces io io z h k = refl
+same_spaces memory memory z h k = refl
+same_spaces io memory io h k = cc
+same_spaces io memory memory h k = cc
+same_spaces memory io io h k = cc
+same_spaces memory io memory h k = cc
+
+pub record Holds (space : Space) (n : ℕ) (q : PlacedRegion) : Type 0 where
+  pub space_is : same_space q.space space ≡ true
+  pub from : q.first ≤ n
+  pub below : n < q.first + q.size
+
+pub holds_is : (space : Space) (n : ℕ) (q : PlacedRegion) → holds space n q ≡ true → Holds space n q
+holds_is space n q h =
+    let front : (same_space q.space space && leb q.first n) ≡ true = left_true (same_space q.space space && leb q.first n) (ltb n (q.first + q.size)) h in record {
+      space_is = left_true (same_space q.space space) (leb q.first n) front;
+      from = leb-true q.first n (right_true (same_space q.space space) (leb q.first n) front);
+      below = ltb-true n (q.first + q.size) (right_true (same_space q.space space && leb q.first n) (ltb n (q.first + q.size)) h);
+    }
+
+pub is_held : (space : Space) (n : ℕ) (q : PlacedRegion) → Holds space n q → holds space n q ≡ true
+is_held space n q h = let e : leb q.first n ≡ true = le_test q.first n h.from in let f : ltb n (q.first + q.size) ≡ true = lt_test n (q.first + q.size) h.below in rw (h.space_is, e, f)
+  where
+    le_test : (x y : ℕ) → x ≤ y → leb x y ≡ true
+    le_test x y k = grind (arith, nat_tests)
+
+    lt_test : (x y : ℕ) → x < y → ltb x y ≡ true
+    lt_test x y k = grind (arith, nat_tests)
+
+-- what shares no address with a holder doesn't hold it
+not_held : (space : Space) (n : ℕ) (q t : PlacedRegion) → Holds space n q → ShareNone q t → holds space n t ≡ false
+not_held space n q t h apart = by_test (holds space n t) refl
+  where
+    by_side : Holds space n t → (q.first + q.size ≤ t.first) ⊎ (t.first + t.size ≤ q.first) → ⊥
+    by_side k (inl e) = omega (arith, h.from, h.below, k.from, k.below)
+    by_side k (inr e) = omega (arith, h.from, h.below, k.from, k.below)
+
+    by_test : (u : Bool) → holds space n t ≡ u → u ≡ false
+    by_test false e = refl
+    by_test true e = let k : Holds space n t = holds_is space n t e in absurd (by_side k (apart (same_spaces q.space t.space space h.space_is k.space_is)))
+
+-- all claims of placed regions
+abbrev pub claims_in : Space → ℕ → List PlacedRegion → List Claim
+claims_in space n qs = flat_map (λ q. option_to_list (claim_in space n q)) qs
+
+none_held : (space : Space) (n : ℕ) (q : PlacedRegion) (ts : List PlacedRegion) → Holds space n q → Each (ShareNone q) ts → claims_in space n ts ≡ []
+none_held space n q [] h apart = refl
+none_held space n q (t ∷ ts) h apart = let e : holds space n t ≡ false = not_held space n q t h apart.0 in rw e (none_held space n q ts h apart.1)
+
+pub one_at_most : (space : Space) (n : ℕ) (qs : List PlacedRegion) → EachPair ShareNone qs → claims_in space n qs ≡ option_to_list (first_some (claim_in space n) qs)
+one_at_most space n [] apart = refl
+one_at_most space n (q ∷ qs) apart = by_test (holds space n q) refl (one_at_most space n qs apart.1)
+  where
+    by_test : (u : Bool) → holds space n q ≡ u → claims_in space n qs ≡ option_to_list (first_some (claim_in space n) qs) → claims_in space n (q ∷ qs) ≡ option_to_list (first_some (claim_in space n) (q ∷ qs))
+    by_test true e more = let none : claims_in space n qs ≡ [] = none_held space n q qs (holds_is space n q e) apart.0 in rw (e, none)
+    by_test false e more = rw e more
+
+-- the holder is the first
+pub holder_first : (space : Space) (n : ℕ) (q : PlacedRegion) (qs : List PlacedRegion) → EachPair ShareNone qs → IsIn q qs → Holds space n q → first_some (claim_in space n) qs ≡ claim_in space n q
+holder_first space n q [] apart m h = absurd m
+holder_first space n q (t ∷ qs) apart (inl e) h = let here : holds space n t ≡ true = ap (holds space n) (sym e) ∙ is_held space n q h in rw here (sym (ap (claim_in space n) e ∙ rw here))
+holder_first space n q (t ∷ qs) apart (inr m) h = by_test (holds space n t) refl (holder_first space n q qs apart.1 m h)
+  where
+    by_test : (u : Bool) → holds space n t ≡ u → first_some (claim_in space n) qs ≡ claim_in space n q → first_some (claim_in space n) (t ∷ qs) ≡ claim_in space n q
+    by_test true e more =
+        let no : holds space n q ≡ false = not_held space n t q (holds_is space n t e) (each_in (ShareNone t) q qs apart.0 m) in
+        let bad : true ≡ false = sym (is_held space n q h) ∙ no in cc
+    by_test false e more = rw e more
+
+pub self_space : (space : Space) → same_space space space ≡ true
+self_space io = refl
+self_space memory = refl
+
+-- ---- in any order
+
+-- two holders are one
+one_holder : (space : Space) (n : ℕ) (q t : PlacedRegion) (qs : List PlacedRegion) → EachPair ShareNone qs → IsIn q qs → IsIn t qs → Holds space n q → Holds space n t → q ≡ t
+one_holder space n q t qs apart m k h l = by_pair (pair_in ShareNone q t qs apart m k)
+  where
+    clash : (x y : PlacedRegion) → ShareNone x y → Holds space n x → Holds space n y → ⊥
+    clash x y none h l = let bad : true ≡ false = sym (is_held space n y l) ∙ not_held space n x y h none in cc
+
+    by_pair : (q ≡ t) ⊎ (ShareNone q t ⊎ ShareNone t q) → q ≡ t
+    by_pair (inl e) = e
+    by_pair (inr (inl none)) = absurd (clash q t none h l)
+    by_pair (inr (inr none)) = absurd (clash t q none l h)
+
+-- a list whose holders are all q, and that has q, has q's claim first
+first_is : (space : Space) (n : ℕ) (q : PlacedRegion) (ts : List PlacedRegion) → Holds space n q → ((t : PlacedRegion) → IsIn t ts → Holds space n t → t ≡ q) → IsIn q ts → first_some (claim_in space n) ts ≡ claim_in space n q
+first_is space n q [] h one m = absurd m
+first_is space n q (t ∷ ts) h one m = by_test (holds space n t) refl m (λ k. first_is space n q ts h (λ u l. one u (inr l)) k)
+  where
+    by_test : (u : Bool) → holds space n t ≡ u → IsIn q (t ∷ ts) → (IsIn q ts → first_some (claim_in space n) ts ≡ claim_in space n q) → first_some (claim_in space n) (t ∷ ts) ≡ claim_in space n q
+    by_test true e k more = let same : t ≡ q = one t (inl refl) (holds_is space n t e) in rw e (sym (ap (claim_in space n) (sym same) ∙ rw e))
+    by_test false e (inl k) more = let bad : true ≡ false = sym (is_held space n q h) ∙ ap (holds space n) k ∙ e in cc
+    by_test false e (inr k) more = rw e (more k)
+
+none_first : (space : Space) (n : ℕ) (ts : List PlacedRegion) → ((t : PlacedRegion) → IsIn t ts → holds space n t ≡ false) → first_some (claim_in space n) ts ≡ None
+none_first space n [] h = refl
+none_first space n (t ∷ ts) h = let e : holds space n t ≡ false = h t (inl refl) in rw e (none_first space n ts (λ u m. h u (inr m)))
+
+-- lists with the same regions have the same claim of an address
+pub same_members : (space : Space) (n : ℕ) (qs ts : List PlacedRegion) → EachPair ShareNone qs → ((q : PlacedRegion) → IsIn q qs → IsIn q ts) → ((q : PlacedRegion) → IsIn q ts → IsIn q qs) → first_some (claim_in space n) ts ≡ first_some (claim_in space n) qs
+same_members space n qs ts apart into from = by_test (list_any (holds space n) qs) refl
+  where
+    by_holder : (q : PlacedRegion) → IsIn q qs → Holds space n q → first_some (claim_in space n) ts ≡ first_some (claim_in space n) qs
+    by_holder q m h = first_is space n q ts h (λ t k l. one_holder space n t q qs apart (from t k) m l h) (into q m) ∙ sym (holder_first space n q qs apart m h)
+
+    none_of : list_any (holds space n) qs ≡ false → (t : PlacedRegion) → IsIn t qs → (u : Bool) → holds space n t ≡ u → u ≡ false
+    none_of e t m true h = let bad : true ≡ false = sym (any_in (holds space n) t qs m h) ∙ e in cc
+    none_of e t m false h = refl
+
+    by_test : (u : Bool) → list_any (holds space n) qs ≡ u → first_some (claim_in space n) ts ≡ first_some (claim_in space n) qs
+    by_test true e = let f = from_any (holds space n) qs e in by_holder f.0 f.1 (holds_is space n f.0 f.2)
+    by_test false e = none_first space n ts (λ t m. none_of e t (from t m) (holds space n t) refl) ∙ sym (none_first space n qs (λ t m. none_of e t m (holds space n t) refl))

@@ -1,0 +1,183 @@
+-- Items in order are a sorted permutation, and on a bus the only one.
+use Rattle.std.proofs.Common.{◌≡◌, ℕ, zero, suc, ◌<◌, ◌⊎◌, inl, inr, Bool, true, false, ◌&&◌, cond, List, [], ◌∷◌, length, refl, sym, ap₂, ◌∙◌, subst, arith, eqb, All, IsPermutation, get_or, add-one}
+use Rattle.std.specs.List.{AllByRecursion, IsDistinct}
+use Rattle.std.proofs.lemmas.Bool.Decides.{nat_tests}
+use Rattle.std.proofs.lemmas.List.Sorted.{IsPermutation-refl, IsPermutation-cons, IsPermutation-swap, IsPermutation-trans, IsPermutation-sym, All-permutation}
+use Rattle.std.proofs.lemmas.List.Elements.{All-cons, All-head, All-tail}
+use Rattle.std.proofs.lemmas.Map.Keys.{IsDistinct-IsPermutation}
+use Rattle.lists.specs.Elements.{Each, EachPair, IsIn}
+use Rattle.model_registers.specs.Declarations.{Region}
+use Rattle.model_board.specs.Paths.{Part, Path, part_eq}
+use Rattle.model_board.specs.Board.{Board, IsBoard}
+use Rattle.model_set_up.specs.Pools.{Pool}
+use Rattle.model_registers.specs.Apertures.{Apertures}
+use Rattle.model_board.specs.Lawful.{HasLawfulDecls}
+use Rattle.model_set_up.specs.Placement.{Item, register_of, region_item, stands_before, inserted, in_order, items_on}
+use Rattle.model_set_up.specs.OrderLaws.{IsInOrder, OrderIsSorted, OneOrder}
+use Rattle.lists.proofs.Members.{each_in, each_from}
+use Rattle.model_board.proofs.PathOrder.{part_self}
+use Rattle.model_set_up.proofs.Items.{from_inserted, pairs_in_order, items_pairs}
+
+-- ---- the order
+
+abbrev NotBefore : Item → Item → Type 0
+NotBefore i j = stands_before j i ≡ false
+
+not_before_trans : (i j k : Item) → NotBefore i j → NotBefore j k → NotBefore i k
+not_before_trans i j k h l = grind (arith, nat_tests)
+
+pub one_way : (i j : Item) → stands_before i j ≡ true → stands_before j i ≡ false
+one_way i j h = grind (arith, nat_tests)
+
+-- of one function and register
+abbrev is_same : Item → Item → Bool
+is_same i j = part_eq i.part j.part && eqb (register_of i.what) (register_of j.what)
+
+abbrev pub Strictly : Item → Item → Type 0
+Strictly i j = stands_before i j ≡ true
+
+strictly : (i j : Item) → NotBefore i j → is_same i j ≡ false → Strictly i j
+strictly i j h k = grind (arith, nat_tests)
+
+is_same-sym : (i j : Item) → is_same i j ≡ is_same j i
+is_same-sym i j = grind (arith, nat_tests)
+
+-- ---- a permutation
+
+inserted_moves : (i : Item) (js : List Item) → IsPermutation (i ∷ js) (inserted i js)
+inserted_moves i [] = IsPermutation-refl (i ∷ [])
+inserted_moves i (j ∷ js) = by_test (stands_before j i) (inserted_moves i js)
+  where
+    turned : IsPermutation (i ∷ j ∷ js) (j ∷ i ∷ js)
+    turned = IsPermutation-swap (i ∷ j ∷ js) (j ∷ i ∷ js) 0 1 (omega arith) (omega arith) refl
+
+    by_test : (t : Bool) → IsPermutation (i ∷ js) (inserted i js) → IsPermutation (i ∷ j ∷ js) (cond t (j ∷ inserted i js) (i ∷ j ∷ js))
+    by_test true more = IsPermutation-trans (i ∷ j ∷ js) (j ∷ i ∷ js) (j ∷ inserted i js) turned (IsPermutation-cons j (i ∷ js) (inserted i js) more)
+    by_test false more = IsPermutation-refl (i ∷ j ∷ js)
+
+order_moves : (is : List Item) → IsPermutation is (in_order is)
+order_moves [] = IsPermutation-refl []
+order_moves (i ∷ is) = IsPermutation-trans (i ∷ is) (i ∷ in_order is) (inserted i (in_order is)) (IsPermutation-cons i is (in_order is) (order_moves is)) (inserted_moves i (in_order is))
+
+-- ---- sorted
+
+inserted_sorted : (i : Item) (js : List Item) → EachPair NotBefore js → EachPair NotBefore (inserted i js)
+inserted_sorted i [] h = (tt, tt)
+inserted_sorted i (j ∷ js) h = by_test (stands_before j i) refl (inserted_sorted i js h.1)
+  where
+    after : stands_before j i ≡ true → (x : Item) → (x ≡ i) ⊎ IsIn x js → NotBefore j x
+    after e x (inl same) = subst (NotBefore j) (sym same) (one_way j i e)
+    after e x (inr m) = each_in (NotBefore j) x js h.0 m
+
+    by_test : (t : Bool) → stands_before j i ≡ t → EachPair NotBefore (inserted i js) → EachPair NotBefore (cond t (j ∷ inserted i js) (i ∷ j ∷ js))
+    by_test true e more = (each_from (NotBefore j) (inserted i js) (λ x m. after e x (from_inserted x i js m)), more)
+    by_test false e more = ((e, each_from (NotBefore i) js (λ x m. not_before_trans i j x e (each_in (NotBefore j) x js h.0 m))), h)
+
+order_pairs : (is : List Item) → EachPair NotBefore (in_order is)
+order_pairs [] = tt
+order_pairs (i ∷ is) = inserted_sorted i (in_order is) (order_pairs is)
+
+-- by neighbours, and by all pairs
+neighbours : (is : List Item) → EachPair NotBefore is → (k : ℕ) (d : Item) → suc k < length is → stands_before (get_or is (suc k) d) (get_or is k d) ≡ false
+neighbours [] h k d l = absurd (omega arith)
+neighbours (i ∷ []) h k d l = absurd (omega arith)
+neighbours (i ∷ j ∷ is) h zero d l = h.0.0
+neighbours (i ∷ j ∷ is) h (suc k) d l = neighbours (j ∷ is) h.1 k d (omega arith)
+
+all_pairs : (is : List Item) → ((k : ℕ) (d : Item) → suc k < length is → stands_before (get_or is (suc k) d) (get_or is k d) ≡ false) → EachPair NotBefore is
+all_pairs [] h = tt
+all_pairs (i ∷ []) h = (tt, tt)
+all_pairs (i ∷ j ∷ is) h =
+    let rest : EachPair NotBefore (j ∷ is) = all_pairs (j ∷ is) (λ k d l. h (suc k) d (omega arith)) in
+    let first : NotBefore i j = h 0 i (omega arith) in
+    ((first, each_from (NotBefore i) is (λ x m. not_before_trans i j x first (each_in (NotBefore j) x is rest.0 m))), rest)
+
+sorted_from : (is : List Item) → EachPair NotBefore is → IsInOrder is
+sorted_from is h k d low l = rw add-one (neighbours is h k d (omega arith))
+
+pairs_from : (is : List Item) → IsInOrder is → EachPair NotBefore is
+pairs_from is h = all_pairs is (λ k d l. rw add-one at (h k d (omega arith) (omega arith)))
+
+pub order_is_sorted : OrderIsSorted
+order_is_sorted is = record { same = order_moves is; sorted = sorted_from (in_order is) (order_pairs is) }
+
+-- ---- the only one
+
+all_of : (P : Item → Type 0) (is : List Item) → Each P is → All P is
+all_of P [] h = λ k d l. absurd (omega arith)
+all_of P (i ∷ is) h = All-cons P i is h.0 (all_of P is h.1)
+
+each_of : (P : Item → Type 0) (is : List Item) → All P is → Each P is
+each_of P [] h = tt
+each_of P (i ∷ is) h = (All-head P i is h, each_of P is (All-tail P i is h))
+
+moved : (is js : List Item) → IsPermutation is js → (x : Item) → IsIn x js → IsIn x is
+moved is js perm x m = each_in (λ y. IsIn y is) x js (each_of (λ y. IsIn y is) js (All-permutation (λ y. IsIn y is) is js perm (all_of (λ y. IsIn y is) is (each_from (λ y. IsIn y is) is (λ y k. k))))) m
+
+abbrev Ranked : Item → Item → Type 0
+Ranked i j = is_same i j ≡ false
+
+distinct_from : (is : List Item) → EachPair Ranked is → IsDistinct is_same is
+unfolding IsDistinct
+distinct_from [] h = tt
+distinct_from (i ∷ is) h = (by_each is h.0, distinct_from is h.1)
+  where
+    by_each : (js : List Item) → Each (Ranked i) js → AllByRecursion (λ y. is_same i y ≡ false) js
+    by_each [] h = tt
+    by_each (j ∷ js) h = (h.0, by_each js h.1)
+
+pairs_of : (is : List Item) → IsDistinct is_same is → EachPair Ranked is
+unfolding IsDistinct
+pairs_of [] h = tt
+pairs_of (i ∷ is) h = (each_by is h.0, pairs_of is h.1)
+  where
+    each_by : (js : List Item) → AllByRecursion (λ y. is_same i y ≡ false) js → Each (Ranked i) js
+    each_by [] h = tt
+    each_by (j ∷ js) h = (h.0, each_by js h.1)
+
+strict_pairs : (is : List Item) → EachPair NotBefore is → EachPair Ranked is → EachPair Strictly is
+strict_pairs [] h k = tt
+strict_pairs (i ∷ is) h k = (each_from (Strictly i) is (λ x m. strictly i x (each_in (NotBefore i) x is h.0 m) (each_in (Ranked i) x is k.0 m)), strict_pairs is h.1 k.1)
+
+never : (i j : Item) → Strictly i j → Strictly j i → ⊥
+never i j h k = let no : true ≡ false = sym k ∙ one_way i j h in cc
+
+-- two strictly sorted lists of the same items are one
+same_list : (xs ys : List Item) → EachPair Strictly xs → EachPair Strictly ys → ((x : Item) → IsIn x xs → IsIn x ys) → ((x : Item) → IsIn x ys → IsIn x xs) → xs ≡ ys
+same_list [] [] h k to from = refl
+same_list [] (y ∷ ys) h k to from = absurd (from y (inl refl))
+same_list (x ∷ xs) [] h k to from = absurd (to x (inl refl))
+same_list (x ∷ xs) (y ∷ ys) h k to from =
+    let e : x ≡ y = heads (to x (inl refl)) (from y (inl refl)) in
+    ap₂ ◌∷◌ e (same_list xs ys h.1 k.1 (λ z m. later_to e z m (to z (inr m))) (λ z m. later_from e z m (from z (inr m))))
+  where
+    heads : (x ≡ y) ⊎ IsIn x ys → (y ≡ x) ⊎ IsIn y xs → x ≡ y
+    heads (inl e) n = e
+    heads (inr m) (inl e) = sym e
+    heads (inr m) (inr n) = absurd (never x y (each_in (Strictly x) y xs h.0 n) (each_in (Strictly y) x ys k.0 m))
+
+    later_to : x ≡ y → (z : Item) → IsIn z xs → (z ≡ y) ⊎ IsIn z ys → IsIn z ys
+    later_to e z m (inr n) = n
+    later_to e z m (inl f) = let loop : Strictly x x = subst (Strictly x) (f ∙ sym e) (each_in (Strictly x) z xs h.0 m) in absurd (never x x loop loop)
+
+    later_from : x ≡ y → (z : Item) → IsIn z ys → (z ≡ x) ⊎ IsIn z xs → IsIn z xs
+    later_from e z m (inr n) = n
+    later_from e z m (inl f) = let loop : Strictly y y = subst (Strictly y) (f ∙ e) (each_in (Strictly y) z ys k.0 m) in absurd (never y y loop loop)
+
+regions_ranked : (p : Part) (r s : Region) → r.index < s.index → Ranked (region_item p r) (region_item p s)
+regions_ranked p r s l = let other : eqb r.index s.index ≡ false = grind (arith, nat_tests) in rw (part_self p, other)
+
+-- the items of a bus stand in strict order
+pub items_strict : (b : Board) (a : Apertures) (pool : Pool) (bus : Path) → IsBoard b → HasLawfulDecls b → EachPair Strictly (in_order (items_on b a pool bus))
+items_strict b a pool bus board lawful =
+    let is : List Item = items_on b a pool bus in
+    let ranked : EachPair Ranked is = items_pairs b a pool board Ranked (λ i j e. rw e) regions_ranked lawful bus in
+    strict_pairs (in_order is) (order_pairs is) (pairs_in_order Ranked (λ i j e. is_same-sym j i ∙ e) is ranked)
+
+pub one_order : OneOrder
+one_order b a pool bus board lawful js h =
+    let is : List Item = items_on b a pool bus in
+    let ranked : EachPair Ranked is = items_pairs b a pool board Ranked (λ i j e. rw e) regions_ranked lawful bus in
+    let theirs : EachPair Strictly js = strict_pairs js (pairs_from js h.sorted) (pairs_of js (IsDistinct-IsPermutation is_same is_same-sym is js h.same (distinct_from is ranked))) in
+    let to : IsPermutation js (in_order is) = IsPermutation-trans js is (in_order is) (IsPermutation-sym is js h.same) (order_moves is) in
+    same_list js (in_order is) theirs (items_strict b a pool bus board lawful) (moved (in_order is) js (IsPermutation-sym js (in_order is) to)) (moved js (in_order is) to)

@@ -1,0 +1,346 @@
+-- What stands on a bus: each item has a power of two for its alignment and some size, and no two are of the same region or window.
+use Rattle.std.proofs.Common.{◌≡◌, ℕ, zero, suc, ◌+◌, ◌%◌, ◌≤◌, ◌<◌, max, ◌⊎◌, inl, inr, Bool, true, false, ◌&&◌, cond, List, [], ◌∷◌, ◌++◌, refl, sym, ap, ap₂, ◌∙◌, subst, arith, eqb}
+use Rattle.std.specs.Prelude.{filter, IsTrue}
+use Rattle.std.proofs.lemmas.Bool.{cases_lt}
+use Rattle.std.proofs.lemmas.Bool.Decides.{nat_tests}
+use Rattle.lists.specs.Elements.{Each, EachPair, IsIn}
+use Rattle.model_registers.specs.Declarations.{Endpoint, Region, Kind, registers_of, io_kind, mem32, mem64, IsLawfulRegion}
+use Rattle.model_board.specs.Board.{Board, Row, Decl, endpoint, bridge, rows_on, IsBoard}
+use Rattle.model_board.specs.Paths.{Part, Path, part_eq, path_eq, path_before, parent, last_part, IsPath}
+use Rattle.model_registers.specs.Apertures.{Apertures}
+use Rattle.model_set_up.specs.Pools.{Pool, io_pool, mem_pool, pref_pool, unit_of, same_pool, pool_of, bridges_above}
+use Rattle.model_set_up.specs.Placement.{Placed, a_region, a_window, same_placed, Item, is_item, inserted, stands_before, in_order, end_from, round_up, need, alignment, Spot, spot_end, spots_from, spots, offset_in, region_item, region_items, window_items, items_of, items_within, items_on}
+use Rattle.model_set_up.specs.Packing.{IsPowerOfTwo, IsRun}
+use Rattle.model_board.specs.Lawful.{IsLawfulDecl, HasLawfulDecls}
+use Rattle.lists.proofs.Members.{each_in, each_from, from_flat_map, from_map, from_filter, in_filter, in_flat_map, pairs_weaker, pairs_flat_map, pairs_of_map}
+use Rattle.lists.proofs.EachLemmas.{pairs_filter}
+use Rattle.model_board.proofs.PathOrder.{part_same, path_same, part_eq-sym, part_self}
+use Rattle.model_board.proofs.PathEnds.{snoc, path_self, not_before_itself}
+use Rattle.model_set_up.proofs.Packing.{power_positive, round_up_not_before, round_up_is_multiple, run_in_order}
+use Rattle.model_set_up.proofs.Levels.{items_by_bus}
+
+-- ---- items in order, and their spots
+
+in_inserted : (x i : Item) (js : List Item) → (x ≡ i) ⊎ IsIn x js → IsIn x (inserted i js)
+in_inserted x i [] m = m
+in_inserted x i (j ∷ js) m = by_test (stands_before j i) m (in_inserted x i js)
+  where
+    by_test : (t : Bool) → (x ≡ i) ⊎ IsIn x (j ∷ js) → ((x ≡ i) ⊎ IsIn x js → IsIn x (inserted i js)) → IsIn x (cond t (j ∷ inserted i js) (i ∷ j ∷ js))
+    by_test true (inl e) more = inr (more (inl e))
+    by_test true (inr (inl e)) more = inl e
+    by_test true (inr (inr k)) more = inr (more (inr k))
+    by_test false m more = m
+
+pub from_inserted : (x i : Item) (js : List Item) → IsIn x (inserted i js) → (x ≡ i) ⊎ IsIn x js
+from_inserted x i [] m = m
+from_inserted x i (j ∷ js) m = by_test (stands_before j i) m (from_inserted x i js)
+  where
+    later : (x ≡ i) ⊎ IsIn x js → (x ≡ i) ⊎ IsIn x (j ∷ js)
+    later (inl e) = inl e
+    later (inr k) = inr (inr k)
+
+    by_test : (t : Bool) → IsIn x (cond t (j ∷ inserted i js) (i ∷ j ∷ js)) → (IsIn x (inserted i js) → (x ≡ i) ⊎ IsIn x js) → (x ≡ i) ⊎ IsIn x (j ∷ js)
+    by_test true (inl e) more = inr (inl e)
+    by_test true (inr k) more = later (more k)
+    by_test false m more = m
+
+in_in_order : (x : Item) (is : List Item) → IsIn x is → IsIn x (in_order is)
+in_in_order x [] m = m
+in_in_order x (i ∷ is) (inl e) = in_inserted x i (in_order is) (inl e)
+in_in_order x (i ∷ is) (inr m) = in_inserted x i (in_order is) (inr (in_in_order x is m))
+
+from_in_order : (x : Item) (is : List Item) → IsIn x (in_order is) → IsIn x is
+from_in_order x [] m = m
+from_in_order x (i ∷ is) m = by_part (from_inserted x i (in_order is) m) (from_in_order x is)
+  where
+    by_part : (x ≡ i) ⊎ IsIn x (in_order is) → (IsIn x (in_order is) → IsIn x is) → IsIn x (i ∷ is)
+    by_part (inl e) more = inl e
+    by_part (inr k) more = inr (more k)
+
+abbrev SpotOf : Item → List Spot → Type 0
+SpotOf i ss = (s : Spot) × IsIn s ss × (s.item ≡ i)
+
+spot_from : (n : ℕ) (i : Item) (is : List Item) → IsIn i is → SpotOf i (spots_from n is)
+spot_from n i [] m = absurd m
+spot_from n i (j ∷ is) (inl e) = (record { item = j; first = round_up j.align n }, inl refl, sym e)
+spot_from n i (j ∷ is) (inr m) = later (spot_from (round_up j.align n + j.size) i is m)
+  where
+    later : SpotOf i (spots_from (round_up j.align n + j.size) is) → SpotOf i (spots_from n (j ∷ is))
+    later (s, k, e) = (s, inr k, e)
+
+-- each item has its spot
+pub spot_of : (i : Item) (is : List Item) → IsIn i is → SpotOf i (spots is)
+spot_of i is m = spot_from 0 i (in_order is) (in_in_order i is m)
+
+item_from : (n : ℕ) (s : Spot) (is : List Item) → IsIn s (spots_from n is) → IsIn s.item is
+item_from n s [] m = m
+item_from n s (i ∷ is) (inl e) = inl (ap (λ (t : Spot). t.item) e)
+item_from n s (i ∷ is) (inr m) = inr (item_from (round_up i.align n + i.size) s is m)
+
+-- and each spot is an item's
+pub item_of : (s : Spot) (is : List Item) → IsIn s (spots is) → IsIn s.item is
+item_of s is m = from_in_order s.item is (item_from 0 s (in_order is) m)
+
+-- ---- items of different regions and windows
+
+abbrev pub Differ : Item → Item → Type 0
+Differ i j = is_item j.part j.what i ≡ false
+
+pub same_placed-sym : (v w : Placed) → same_placed v w ≡ same_placed w v
+same_placed-sym (a_region n) (a_region m) = grind (arith, nat_tests)
+same_placed-sym (a_region n) a_window = refl
+same_placed-sym a_window (a_region m) = refl
+same_placed-sym a_window a_window = refl
+
+pub differ_sym : (i j : Item) → Differ i j → Differ j i
+differ_sym i j h = ap₂ ◌&&◌ (part_eq-sym j.part i.part) (same_placed-sym j.what i.what) ∙ h
+
+pub item_self : (i : Item) → is_item i.part i.what i ≡ true
+item_self i = by_what i.what
+  where
+    self : (n : ℕ) → eqb n n ≡ true
+    self n = grind (arith, nat_tests)
+
+    by_what : (w : Placed) → (part_eq i.part i.part && same_placed w w) ≡ true
+    by_what (a_region n) = rw (part_self i.part, self n)
+    by_what a_window = rw (part_self i.part)
+
+pairs_inserted : (R : Item → Item → Type 0) → ((i j : Item) → R i j → R j i) → (i : Item) (js : List Item) → Each (R i) js → EachPair R js → EachPair R (inserted i js)
+pairs_inserted R turn i [] h k = (tt, tt)
+pairs_inserted R turn i (j ∷ js) h k = by_test (stands_before j i) (pairs_inserted R turn i js h.1 k.1)
+  where
+    of_part : (x : Item) → (x ≡ i) ⊎ IsIn x js → R j x
+    of_part x (inl e) = subst (R j) (sym e) (turn i j h.0)
+    of_part x (inr m) = each_in (R j) x js k.0 m
+
+    by_test : (t : Bool) → EachPair R (inserted i js) → EachPair R (cond t (j ∷ inserted i js) (i ∷ j ∷ js))
+    by_test true more = (each_from (R j) (inserted i js) (λ x m. of_part x (from_inserted x i js m)), more)
+    by_test false more = (h, k)
+
+-- what holds of any two items, whichever comes first, holds of them in order
+pub pairs_in_order : (R : Item → Item → Type 0) → ((i j : Item) → R i j → R j i) → (is : List Item) → EachPair R is → EachPair R (in_order is)
+pairs_in_order R turn [] h = tt
+pairs_in_order R turn (i ∷ is) h = pairs_inserted R turn i (in_order is) (each_from (R i) (in_order is) (λ x m. each_in (R i) x is h.0 (from_in_order x is m))) (pairs_in_order R turn is h.1)
+
+abbrev pub SpotsDiffer : Spot → Spot → Type 0
+SpotsDiffer s t = Differ s.item t.item
+
+differ_from : (n : ℕ) (is : List Item) → EachPair Differ is → EachPair SpotsDiffer (spots_from n is)
+differ_from n [] h = tt
+differ_from n (i ∷ is) h = (
+  each_from (λ t. Differ i t.item) (spots_from (round_up i.align n + i.size) is) (λ t m. each_in (Differ i) t.item is h.0 (item_from (round_up i.align n + i.size) t is m)),
+  differ_from (round_up i.align n + i.size) is h.1,
+)
+
+pub spots_differ : (is : List Item) → EachPair Differ is → EachPair SpotsDiffer (spots is)
+spots_differ is h = differ_from 0 (in_order is) (pairs_in_order Differ differ_sym is h)
+
+-- where no two are of the same region or window, the look-up of a spot's item finds the spot
+pub offset_of_spot : (s : Spot) (ss : List Spot) → EachPair SpotsDiffer ss → IsIn s ss → offset_in ss s.item.part s.item.what ≡ s.first
+offset_of_spot s [] h m = absurd m
+offset_of_spot s (t ∷ ss) h (inl e) =
+    let here : is_item s.item.part s.item.what t.item ≡ true = subst (λ (u : Spot). is_item s.item.part s.item.what u.item ≡ true) e (item_self s.item) in
+    rw here (ap (λ (u : Spot). u.first) (sym e))
+offset_of_spot s (t ∷ ss) h (inr m) =
+    let other : is_item s.item.part s.item.what t.item ≡ false = each_in (SpotsDiffer t) s ss h.0 m in
+    rw other (offset_of_spot s ss h.1 m)
+
+-- ---- alignments
+
+max_power : (m n : ℕ) → IsPowerOfTwo m → IsPowerOfTwo n → IsPowerOfTwo (max m n)
+max_power m n p q = by_order (cases_lt m n)
+  where
+    by_order : (m < n) ⊎ (n ≤ m) → IsPowerOfTwo (max m n)
+    by_order (inl h) = let e : n ≡ max m n = omega arith in subst IsPowerOfTwo e q
+    by_order (inr h) = let e : m ≡ max m n = omega arith in subst IsPowerOfTwo e p
+
+pub alignment_power : (unit : ℕ) (is : List Item) → IsPowerOfTwo unit → Each (λ i. IsPowerOfTwo i.align) is → IsPowerOfTwo (alignment unit is)
+alignment_power unit [] p h = p
+alignment_power unit (i ∷ is) p h = max_power i.align (alignment unit is) h.0 (alignment_power unit is p h.1)
+
+pub unit_below : (unit : ℕ) (is : List Item) → unit ≤ alignment unit is
+unit_below unit [] = omega arith
+unit_below unit (i ∷ is) = omega (arith, unit_below unit is)
+
+pub align_below : (unit : ℕ) (i : Item) (is : List Item) → IsIn i is → i.align ≤ alignment unit is
+align_below unit i [] m = absurd m
+align_below unit i (j ∷ is) (inl e) = let same : i.align ≡ j.align = ap (λ (k : Item). k.align) e in omega arith
+align_below unit i (j ∷ is) (inr m) = omega (arith, align_below unit i is m)
+
+pub unit_power : (pool : Pool) → IsPowerOfTwo (unit_of pool)
+unit_power io_pool = (12, refl)
+unit_power mem_pool = (20, refl)
+unit_power pref_pool = (20, refl)
+
+-- ---- every item can be placed
+
+-- a region's alignment is its size; a window's is at least the unit, and its size whole units
+abbrev pub AlignsAs : ℕ → Item → Placed → Type 0
+AlignsAs unit i (a_region n) = i.align ≡ i.size
+AlignsAs unit i a_window = (unit ≤ i.align) × (i.size % unit ≡ 0)
+
+pub record IsPlaceable (unit : ℕ) (i : Item) : Type 0 where
+  pub power : IsPowerOfTwo i.align
+  pub some : 0 < i.size
+  pub aligns : AlignsAs unit i i.what
+
+positive : (unit : ℕ) (is : List Item) → Each (IsPlaceable unit) is → Each (λ i. 0 < i.align) is
+positive unit is h = each_from (λ i. 0 < i.align) is (λ i m. power_positive i.align (each_in (IsPlaceable unit) i is h m).power)
+
+powers : (unit : ℕ) (is : List Item) → Each (IsPlaceable unit) is → Each (λ i. IsPowerOfTwo i.align) is
+powers unit is h = each_from (λ i. IsPowerOfTwo i.align) is (λ i m. (each_in (IsPlaceable unit) i is h m).power)
+
+-- the spots of items that can be placed, before the bus's last end
+pub run_of : (unit : ℕ) (is : List Item) → Each (IsPlaceable unit) is → IsRun 0 (end_from 0 (in_order is)) (spots is)
+run_of unit is h = run_in_order is (positive unit is h)
+
+pub end_below_need : (unit : ℕ) (is : List Item) → 0 < unit → end_from 0 (in_order is) ≤ need unit is
+end_below_need unit is h = round_up_not_before unit (end_from 0 (in_order is)) h
+
+-- a bus with items has an end above 0
+pub some_end : (unit : ℕ) (i : Item) (is : List Item) → Each (IsPlaceable unit) is → IsIn i is → 0 < end_from 0 (in_order is)
+some_end unit i is h m = by_spot (spot_of i is m)
+  where
+    by_spot : SpotOf i (spots is) → 0 < end_from 0 (in_order is)
+    by_spot (s, k, e) =
+        let inside = each_in (λ (t : Spot). (0 ≤ t.first) × (spot_end t ≤ end_from 0 (in_order is))) s (spots is) (run_of unit is h).within k in
+        let size : s.item.size ≡ i.size = ap (λ (j : Item). j.size) e in
+        let some : 0 < i.size = (each_in (IsPlaceable unit) i is h m).some in
+        let last : s.first + s.item.size ≤ end_from 0 (in_order is) = inside.1 in
+        omega arith
+
+region_placeable : (unit : ℕ) (p : Part) (r : Region) → IsLawfulRegion r → IsPlaceable unit (region_item p r)
+region_placeable unit p r h = record { power = h.size_is_lawful.power; some = power_positive r.size h.size_is_lawful.power; aligns = refl }
+
+window_placeable : (unit : ℕ) (p : Part) (is : List Item) → IsPowerOfTwo unit → Each (IsPlaceable unit) is → Each (IsPlaceable unit) (window_items unit p is)
+window_placeable unit p [] u h = tt
+window_placeable unit p (i ∷ is) u h = (record { power = alignment_power unit (i ∷ is) u (powers unit (i ∷ is) h); some = some; aligns = (unit_below unit (i ∷ is), round_up_is_multiple unit (end_from 0 (in_order (i ∷ is)))) }, tt)
+  where
+    some : 0 < need unit (i ∷ is)
+    some = omega (arith, some_end unit i (i ∷ is) h (inl refl), end_below_need unit (i ∷ is) (power_positive unit u))
+
+module _ (b : Board) (a : Apertures) (pool : Pool) (lawful : HasLawfulDecls b) where
+  row_placeable : (behind : Path → List Item) (p : Path) (d : Decl) → IsLawfulDecl d → Each (IsPlaceable (unit_of pool)) (behind p) → Each (IsPlaceable (unit_of pool)) (items_of b a pool behind (record { path = p; decl = d }))
+  row_placeable behind p (endpoint d) h k = each_from (IsPlaceable (unit_of pool)) (region_items b a pool p d) (λ i m. of_region i (from_map (region_item (last_part p)) i (filter (λ (r : Region). same_pool (pool_of a (bridges_above b p) r.kind) pool) d.regions) m))
+    where
+      of_region : (i : Item) → (r : Region) × IsIn r (filter (λ (s : Region). same_pool (pool_of a (bridges_above b p) s.kind) pool) d.regions) × (i ≡ region_item (last_part p) r) → IsPlaceable (unit_of pool) i
+      of_region i (r, m, e) =
+          let there : IsIn r d.regions = (from_filter (λ (s : Region). same_pool (pool_of a (bridges_above b p) s.kind) pool) r d.regions m).0 in
+          subst (IsPlaceable (unit_of pool)) (sym e) (region_placeable (unit_of pool) (last_part p) r (each_in IsLawfulRegion r d.regions h.regions.each there))
+  row_placeable behind p (bridge d) h k = window_placeable (unit_of pool) (last_part p) (behind p) (unit_power pool) k
+
+  within_placeable : (n : ℕ) (bus : Path) → Each (IsPlaceable (unit_of pool)) (items_within b a pool n bus)
+  within_placeable zero bus = tt
+  within_placeable (suc n) bus = each_from (IsPlaceable (unit_of pool)) (items_within b a pool (suc n) bus) (λ i m. of_row i (from_flat_map (items_of b a pool (items_within b a pool n)) i (rows_on b bus) m) (within_placeable n))
+    where
+      of_row : (i : Item) → (r : Row) × IsIn r (rows_on b bus) × IsIn i (items_of b a pool (items_within b a pool n) r) → ((p : Path) → Each (IsPlaceable (unit_of pool)) (items_within b a pool n p)) → IsPlaceable (unit_of pool) i
+      of_row i (r, m, k) more =
+          let there : IsIn r b = (from_filter (λ (s : Row). path_eq (parent s.path) bus) r b m).0 in
+          each_in (IsPlaceable (unit_of pool)) i (items_of b a pool (items_within b a pool n) r) (row_placeable (items_within b a pool n) r.path r.decl (each_in (λ (s : Row). IsLawfulDecl s.decl) r b lawful there) (more r.path)) k
+
+  pub items_placeable : (bus : Path) → Each (IsPlaceable (unit_of pool)) (items_on b a pool bus)
+  items_placeable bus = within_placeable 16 bus
+
+-- ---- where the items of a bus come from
+
+-- the items of one function of a bus
+abbrev pub items_for : Board → Apertures → Pool → Path → Decl → List Item
+items_for b a pool p d = items_of b a pool (items_on b a pool) (record { path = p; decl = d })
+
+pub region_of_item : (b : Board) (a : Apertures) (pool : Pool) (p : Path) (d : Endpoint) (i : Item) → IsIn i (region_items b a pool p d)
+    → (r : Region) × IsIn r d.regions × (same_pool (pool_of a (bridges_above b p) r.kind) pool ≡ true) × (i ≡ region_item (last_part p) r)
+region_of_item b a pool p d i m = by_region (from_map (region_item (last_part p)) i (filter keeps d.regions) m)
+  where
+    keeps : Region → Bool
+    keeps r = same_pool (pool_of a (bridges_above b p) r.kind) pool
+
+    by_region : (r : Region) × IsIn r (filter keeps d.regions) × (i ≡ region_item (last_part p) r)
+        → (r : Region) × IsIn r d.regions × (same_pool (pool_of a (bridges_above b p) r.kind) pool ≡ true) × (i ≡ region_item (last_part p) r)
+    by_region (r, k, e) = (r, (from_filter keeps r d.regions k).0, (from_filter keeps r d.regions k).1, e)
+
+window_part : (unit : ℕ) (p : Part) (is : List Item) (i : Item) → IsIn i (window_items unit p is) → i.part ≡ p
+window_part unit p [] i m = absurd m
+window_part unit p (j ∷ is) i (inl e) = ap (λ (k : Item). k.part) e
+window_part unit p (j ∷ is) i (inr m) = absurd m
+
+pub part_of_item : (b : Board) (a : Apertures) (pool : Pool) (p : Path) (d : Decl) (i : Item) → IsIn i (items_for b a pool p d) → i.part ≡ last_part p
+part_of_item b a pool p (endpoint d) i m = ap (λ (k : Item). k.part) (region_of_item b a pool p d i m).3
+part_of_item b a pool p (bridge d) i m = window_part (unit_of pool) (last_part p) (items_on b a pool p) i m
+
+-- the function of the board whose item it is
+pub record Origin (b : Board) (a : Apertures) (pool : Pool) (bus : Path) (i : Item) : Type 0 where
+  pub row : Row
+  pub there : IsIn row b
+  pub path_is : row.path ≡ bus ++ i.part ∷ []
+  pub item : IsIn i (items_for b a pool row.path row.decl)
+
+pub on_bus : (b : Board) (bus : Path) (r : Row) → Each (λ s. IsPath s.path) b → IsIn r (rows_on b bus) → IsIn r b × (r.path ≡ bus ++ last_part r.path ∷ [])
+on_bus b bus r paths m =
+    let k = from_filter (λ (s : Row). path_eq (parent s.path) bus) r b m in
+    let split : r.path ≡ parent r.path ++ last_part r.path ∷ [] = snoc r.path (each_in (λ (s : Row). IsPath s.path) r b paths k.0).some in
+    (k.0, split ∙ ap (λ (x : Path). x ++ last_part r.path ∷ []) (path_same (parent r.path) bus k.1))
+
+module _ (b : Board) (a : Apertures) (pool : Pool) (board : IsBoard b) where
+  pub origin : (bus : Path) (i : Item) → IsIn i (items_on b a pool bus) → Origin b a pool bus i
+  origin bus i m = by_row (from_flat_map (items_of b a pool (items_on b a pool)) i (rows_on b bus) (subst (IsIn i) (items_by_bus b board a pool bus) m))
+    where
+      by_row : (r : Row) × IsIn r (rows_on b bus) × IsIn i (items_for b a pool r.path r.decl) → Origin b a pool bus i
+      by_row (r, k, l) =
+          let on = on_bus b bus r board.paths k in
+          record { row = r; there = on.0; path_is = on.1 ∙ ap (λ (x : Part). bus ++ x ∷ []) (sym (part_of_item b a pool r.path r.decl i l)); item = l }
+
+  -- and the items of each function of the board stand on its bus
+  pub on_own_bus : (r : Row) → IsIn r b → (i : Item) → IsIn i (items_for b a pool r.path r.decl) → IsIn i (items_on b a pool (parent r.path))
+  on_own_bus r m i k =
+      subst (IsIn i) (sym (items_by_bus b board a pool (parent r.path)))
+      (in_flat_map (items_of b a pool (items_on b a pool)) r i (rows_on b (parent r.path)) (in_filter (λ (s : Row). path_eq (parent s.path) (parent r.path)) r b m (path_self (parent r.path))) k)
+
+  abbrev PartsDiffer : Row → Row → Type 0
+  PartsDiffer r s = part_eq (last_part r.path) (last_part s.path) ≡ false
+
+  parts_differ : (bus : Path) → EachPair PartsDiffer (rows_on b bus)
+  parts_differ bus =
+      pairs_weaker (λ (r s : Row). IsTrue (path_before r.path s.path)) PartsDiffer (rows_on b bus) (pairs_filter (λ (r s : Row). IsTrue (path_before r.path s.path)) (λ r. path_eq (parent r.path) bus) b board.in_order)
+      (λ r s m k before. by_test r s m k before (part_eq (last_part r.path) (last_part s.path)) refl)
+    where
+      by_test : (r s : Row) → IsIn r (rows_on b bus) → IsIn s (rows_on b bus) → path_before r.path s.path ≡ true → (t : Bool) → part_eq (last_part r.path) (last_part s.path) ≡ t → t ≡ false
+      by_test r s m k before false e = refl
+      by_test r s m k before true e =
+          let same : r.path ≡ s.path = (on_bus b bus r board.paths m).1 ∙ ap (λ (x : Part). bus ++ x ∷ []) (part_same (last_part r.path) (last_part s.path) e) ∙ sym (on_bus b bus s board.paths k).1 in
+          absurd (not_before_itself s.path (subst (λ (x : Path). path_before x s.path ≡ true) same before))
+
+  -- what holds of items of different parts, and of the regions of one endpoint, holds of any two items of a bus
+  module _ (R : Item → Item → Type 0) (parts : (i j : Item) → part_eq i.part j.part ≡ false → R i j) (regions : (p : Part) (r s : Region) → r.index < s.index → R (region_item p r) (region_item p s)) where
+    one_window : (p : Part) (is : List Item) → EachPair R (window_items (unit_of pool) p is)
+    one_window p [] = tt
+    one_window p (i ∷ is) = (tt, tt)
+
+    of_regions : (p : Part) (r s : Region) (k : Kind) → r.index + registers_of k ≤ s.index → R (region_item p r) (region_item p s)
+    of_regions p r s io_kind h = regions p r s (omega arith)
+    of_regions p r s (mem32 q) h = regions p r s (omega arith)
+    of_regions p r s (mem64 q) h = regions p r s (omega arith)
+
+    of_one : (p : Path) (d : Decl) → IsLawfulDecl d → EachPair R (items_for b a pool p d)
+    of_one p (endpoint d) h =
+        let keeps : Region → Bool = λ r. same_pool (pool_of a (bridges_above b p) r.kind) pool in
+        pairs_of_map R (region_item (last_part p)) (filter keeps d.regions)
+        (pairs_weaker (λ (r s : Region). r.index + registers_of r.kind ≤ s.index) (λ r s. R (region_item (last_part p) r) (region_item (last_part p) s)) (filter keeps d.regions)
+        (pairs_filter (λ (r s : Region). r.index + registers_of r.kind ≤ s.index) keeps d.regions h.regions.in_order) (λ r s m k l. of_regions (last_part p) r s r.kind l))
+    of_one p (bridge d) h = one_window (last_part p) (items_on b a pool p)
+
+    pub items_pairs : HasLawfulDecls b → (bus : Path) → EachPair R (items_on b a pool bus)
+    items_pairs lawful bus =
+        subst (EachPair R) (sym (items_by_bus b board a pool bus))
+        (pairs_flat_map PartsDiffer R (items_of b a pool (items_on b a pool)) (rows_on b bus) (parts_differ bus)
+        (λ r m. of_one r.path r.decl (each_in (λ (s : Row). IsLawfulDecl s.decl) r b lawful (from_filter (λ (s : Row). path_eq (parent s.path) bus) r b m).0))
+        (λ r s m k other i j h l. parts i j (ap₂ part_eq (part_of_item b a pool r.path r.decl i h) (part_of_item b a pool s.path s.decl j l) ∙ other)))
+
+  -- no two items of a bus are of the same region or window
+  pub items_differ : HasLawfulDecls b → (bus : Path) → EachPair Differ (items_on b a pool bus)
+  items_differ lawful bus = items_pairs Differ parts regions lawful bus
+    where
+      parts : (i j : Item) → part_eq i.part j.part ≡ false → Differ i j
+      parts i j h = rw h
+
+      regions : (p : Part) (r s : Region) → r.index < s.index → Differ (region_item p r) (region_item p s)
+      regions p r s h = let other : eqb r.index s.index ≡ false = grind (arith, nat_tests) in rw (part_self p, other)

@@ -1,0 +1,166 @@
+-- Layouts that are not lawful, one rule at a time; and the main board keeps what the laws of placement ask for.
+use Rattle.std.proofs.Common.{◌≡◌, ℕ, ◌≤◌, ◌<◌, ◌^◌, ◌⊎◌, inl, inr, List, [], ◌∷◌, length, true, false, refl, arith, lit<, lit≤}
+use Rattle.std.specs.Prelude.{IsTrue, bit_and}
+use Rattle.lists.specs.Elements.{Each}
+use Rattle.model_registers.specs.Declarations.{Region, HasLawfulRegions}
+use Rattle.model_registers.specs.DeclarationRules.{IsLawfulEndpoint}
+use Rattle.model_registers.specs.Apertures.{IsLawfulApertures}
+use Rattle.model_board.specs.Paths.{Path, IsPart, IsPath}
+use Rattle.model_board.specs.Board.{Board, bridge, IsBoard}
+use Rattle.model_set_up.specs.Pools.{Pool, io_pool, mem_pool, pref_pool}
+use Rattle.model_set_up.specs.Placement.{a_region, a_window, fits}
+use Rattle.model_set_up.specs.Layout.{LayoutRow, IsLawful, layout}
+use Rattle.model_board.specs.Lawful.{HasLawfulDecls}
+use Rattle.model_set_up.specs.Examples.{part, function_at, plain, first_endpoint, second_endpoint, third_endpoint, main_board, main_apertures, memory_bridge}
+use Rattle.model_set_up.proofs.LawfulPlacement.{layout_is_lawful}
+
+abbrev window : Pool → Path → ℕ → ℕ → LayoutRow
+window pool p first size = record { path = p; what = a_window; pool = pool; first = first; size = size }
+
+abbrev placed : Pool → Path → ℕ → ℕ → LayoutRow
+placed pool p first size = record { path = p; what = a_region 0; pool = pool; first = first; size = size }
+
+abbrev Refused : List LayoutRow → Type 0
+Refused rows = IsLawful [] main_apertures rows → ⊥
+
+-- two rows that meet
+meet : (a b c d : ℕ) → a < b → c < d → (b ≤ a) ⊎ (d ≤ c) → ⊥
+meet a b c d h k (inl l) = omega arith
+meet a b c d h k (inr l) = omega arith
+
+-- ---- alignment
+
+pub region_off_its_size : Refused (placed mem_pool (part 1 0 ∷ []) 0xc0000800 0x1000 ∷ [])
+region_off_its_size h = let e : ◌≡◌ {A = ℕ} 0x800 0 = h.aligned.0 in omega arith
+
+pub window_off_its_unit : Refused (window io_pool (part 1 0 ∷ []) 0x1800 0x1000 ∷ [])
+window_off_its_unit h = let e : ◌≡◌ {A = ℕ} 0x800 0 = h.aligned.0.0 in omega arith
+
+pub window_of_half_a_unit : Refused (window mem_pool (part 1 0 ∷ []) 0xc0000000 0x80000 ∷ [])
+window_of_half_a_unit h = let e : ◌≡◌ {A = ℕ} 0x80000 0 = h.aligned.0.1 in omega arith
+
+-- ---- apertures
+
+pub before_the_aperture : Refused (placed mem_pool (part 1 0 ∷ []) 0xbffff000 0x1000 ∷ [])
+before_the_aperture h = let e : 0xc0000000 ≤ 0xbffff000 = h.in_apertures.0.0 in omega arith
+
+pub past_the_aperture : Refused (placed mem_pool (part 1 0 ∷ []) 0xe0000000 1 ∷ [])
+past_the_aperture h = let e : 0xe0000001 ≤ 0xe0000000 = h.in_apertures.0.1 in omega arith
+
+-- ---- rows of one bus
+
+pub one_shared_byte : Refused (placed io_pool (part 1 0 ∷ []) 0x1000 9 ∷ placed io_pool (part 2 0 ∷ []) 0x1008 8 ∷ [])
+one_shared_byte h = meet 0x1008 0x1009 0x1000 0x1010 (lit< tt) (lit< tt) (h.apart.0.0 refl)
+
+pub one_shared_byte_turned : Refused (placed io_pool (part 2 0 ∷ []) 0x1008 8 ∷ placed io_pool (part 1 0 ∷ []) 0x1000 9 ∷ [])
+one_shared_byte_turned h = meet 0x1000 0x1010 0x1008 0x1009 (lit< tt) (lit< tt) (h.apart.0.0 refl)
+
+pub windows_share_a_unit : Refused (window mem_pool (part 1 0 ∷ []) 0xc0000000 0x200000 ∷ window mem_pool (part 2 0 ∷ []) 0xc0100000 0x100000 ∷ [])
+windows_share_a_unit h = meet 0xc0100000 0xc0200000 0xc0000000 0xc0200000 (lit< tt) (lit< tt) (h.apart.0.0 refl)
+
+-- ---- windows above
+
+pub before_its_window : Refused (window mem_pool (part 1 0 ∷ []) 0xc0100000 0x100000 ∷ placed mem_pool (part 1 0 ∷ part 0 0 ∷ []) 0xc00ff000 0x1000 ∷ [])
+before_its_window h = let e : 0xc0100000 ≤ 0xc00ff000 = (h.under_windows.1.0.inside.0 refl).0 in omega arith
+
+pub past_its_window : Refused (window mem_pool (part 1 0 ∷ []) 0xc0100000 0x100000 ∷ placed mem_pool (part 1 0 ∷ part 0 0 ∷ []) 0xc0200000 1 ∷ [])
+past_its_window h = let e : 0xc0200001 ≤ 0xc0200000 = (h.under_windows.1.0.inside.0 refl).1 in omega arith
+
+-- a window two bridges up counts too
+pub past_the_upper_window : Refused (window mem_pool (part 1 0 ∷ []) 0xc0000000 0x100000 ∷ window mem_pool (part 1 0 ∷ part 0 0 ∷ []) 0xc0100000 0x100000 ∷ placed mem_pool (part 1 0 ∷ part 0 0 ∷ part 2 0 ∷ []) 0xc0100000 0x1000 ∷ [])
+past_the_upper_window h = let e : 0xc0101000 ≤ 0xc0100000 = (h.under_windows.1.1.0.inside.0 refl).1 in omega arith
+
+abbrev one_bridge : Board
+one_bridge = function_at (part 1 0 ∷ []) (bridge memory_bridge) ∷ []
+
+-- a bridge above without a window
+pub no_window_above : IsLawful one_bridge main_apertures (placed mem_pool (part 1 0 ∷ part 0 0 ∷ []) 0xc0000000 0x1000 ∷ []) → ⊥
+no_window_above h = let e : false ≡ true = h.under_windows.0.there.0 refl in cc
+
+-- with one in another pool, or of the bridge beside it
+pub window_of_another_pool : IsLawful one_bridge main_apertures (placed mem_pool (part 1 0 ∷ part 0 0 ∷ []) 0xc0000000 0x1000 ∷ window io_pool (part 1 0 ∷ []) 0x1000 0x1000 ∷ []) → ⊥
+window_of_another_pool h = let e : false ≡ true = h.under_windows.0.there.0 refl in cc
+
+pub window_of_another_bridge : IsLawful one_bridge main_apertures (placed mem_pool (part 1 0 ∷ part 0 0 ∷ []) 0xc0000000 0x1000 ∷ window mem_pool (part 2 0 ∷ []) 0xc0000000 0x100000 ∷ []) → ⊥
+window_of_another_bridge h = let e : false ≡ true = h.under_windows.0.there.0 refl in cc
+
+-- ---- the main board keeps the premises
+
+a_part : (d f : ℕ) → d < 16 → f < 8 → IsPart (part d f)
+a_part d f h k = record { device_fits = h; function_fits = k }
+
+on_bus_0 : (d : ℕ) → d < 16 → IsPath (part d 0 ∷ [])
+on_bus_0 d h = record { some = lit< tt; few = lit≤ tt; parts = (a_part d 0 h (lit< tt), tt) }
+
+behind_2 : (d : ℕ) → d < 16 → IsPath (part 2 0 ∷ part d 0 ∷ [])
+behind_2 d h = record { some = lit< tt; few = lit≤ tt; parts = (a_part 2 0 (lit< tt) (lit< tt), (a_part d 0 h (lit< tt), tt)) }
+
+pub main_is_board : IsBoard main_board
+main_is_board = record {
+  paths = (on_bus_0 1 (lit< tt), (on_bus_0 2 (lit< tt), (behind_2 0 (lit< tt), (behind_2 1 (lit< tt), tt))));
+  in_order = ((refl, (refl, (refl, tt))), ((refl, (refl, tt)), ((refl, tt), (tt, tt))));
+  behind_bridges = (inl refl, (inl refl, (inr refl, (inr refl, tt))));
+  function_zeros = (refl, (refl, (refl, (refl, tt))));
+}
+
+pub plain_is_lawful : (id status pin : ℕ) (rs : List Region) → id < 2 ^ 16 → bit_and status 0xf900 ≡ status → pin ≤ 4 → HasLawfulRegions rs → Each (λ r. length r.cells ≤ 4096) rs
+    → IsLawfulEndpoint (plain id status pin rs)
+plain_is_lawful id status pin rs device status_is small regions blocks = record {
+  fits = record { device = device; revision = lit< tt; subvendor = lit< tt; subsystem = lit< tt; min_gnt = lit< tt; max_lat = lit< tt };
+  vendor = lit< tt;
+  class = lit< tt;
+  pin = small;
+  status = status_is;
+  regions = regions;
+  region_blocks = blocks;
+  config_blocks = tt;
+  blocks_apart = tt;
+}
+
+first_regions : HasLawfulRegions (first_endpoint).regions
+first_regions = record {
+  each = (
+    record { registers = lit≤ tt; size_is_lawful = record { power = (5, refl); not_less = lit≤ tt; not_more = lit≤ tt }; block_fits = lit≤ tt },
+    (record { registers = lit≤ tt; size_is_lawful = record { power = (12, refl); not_less = lit≤ tt; not_more = lit≤ tt }; block_fits = lit≤ tt }, tt),
+  );
+  in_order = ((lit≤ tt, tt), (tt, tt));
+}
+
+second_regions : HasLawfulRegions (second_endpoint).regions
+second_regions = record {
+  each = (
+    record { registers = lit≤ tt; size_is_lawful = record { power = (20, refl); not_less = lit≤ tt; not_more = lit≤ tt }; block_fits = lit≤ tt },
+    (record { registers = lit≤ tt; size_is_lawful = record { power = (3, refl); not_less = lit≤ tt; not_more = lit≤ tt }; block_fits = lit≤ tt }, tt),
+  );
+  in_order = ((lit≤ tt, tt), (tt, tt));
+}
+
+third_regions : HasLawfulRegions (third_endpoint).regions
+third_regions = record { each = (record { registers = lit≤ tt; size_is_lawful = record { power = (24, refl); not_less = lit≤ tt; not_more = lit≤ tt }; block_fits = lit≤ tt }, tt); in_order = (tt, tt) }
+
+pub main_decls_lawful : HasLawfulDecls main_board
+main_decls_lawful = (
+  plain_is_lawful 1 0x8000 1 (first_endpoint).regions (lit< tt) refl (lit≤ tt) first_regions (lit≤ tt, (lit≤ tt, tt)),
+  (
+    record { vendor = lit< tt; device = lit< tt; revision = lit< tt },
+    (
+      plain_is_lawful 3 0 0 (second_endpoint).regions (lit< tt) refl (lit≤ tt) second_regions (lit≤ tt, (lit≤ tt, tt)),
+      (plain_is_lawful 4 0 1 (third_endpoint).regions (lit< tt) refl (lit≤ tt) third_regions (lit≤ tt, tt), tt),
+    ),
+  ),
+)
+
+pub main_apertures_lawful : IsLawfulApertures main_apertures
+main_apertures_lawful = record {
+  io = record { units = record { not_empty = lit≤ tt; begins = refl; ends = refl }; begins = lit≤ tt; ends = lit≤ tt };
+  mem = record { units = record { not_empty = lit≤ tt; begins = refl; ends = refl }; ends = lit< tt };
+  pref = record { units = record { not_empty = lit≤ tt; begins = refl; ends = refl }; ends = lit< tt; one_side = inr (lit≤ tt); apart = inl (lit< tt) };
+}
+
+main_pools_fit : (pool : Pool) → IsTrue (fits main_board main_apertures pool)
+main_pools_fit io_pool = refl
+main_pools_fit mem_pool = refl
+main_pools_fit pref_pool = refl
+
+pub main_layout_lawful : IsLawful main_board main_apertures (layout main_board main_apertures)
+main_layout_lawful = layout_is_lawful main_board main_apertures main_is_board main_decls_lawful main_pools_fit

@@ -1,0 +1,58 @@
+-- Sixteen levels are enough for every lawful board.
+use Rattle.std.proofs.Common.{◌≡◌, ℕ, zero, suc, ◌+◌, ◌≤◌, ◌<◌, Bool, true, false, cond, List, [], ◌∷◌, ◌++◌, length, refl, sym, ap, ap₂, arith}
+use Rattle.std.specs.Prelude.{flat_map}
+use Rattle.lists.specs.Elements.{Each}
+use Rattle.model_board.specs.Board.{Board, Row, Decl, endpoint, bridge, rows_on}
+use Rattle.model_board.specs.Paths.{Path, path_eq, part_eq, parent, IsPath}
+use Rattle.model_registers.specs.Apertures.{Apertures}
+use Rattle.model_set_up.specs.Pools.{Pool}
+use Rattle.model_set_up.specs.Placement.{Item, items_of, items_within}
+use Rattle.model_set_up.specs.Levels.{ItemsByBus}
+use Rattle.lists.proofs.EachLemmas.{each_filter, each_both, each_map, filter_passes}
+use Rattle.lists.proofs.Tests.{right_true}
+
+-- equal paths are as long
+path_eq-length : (p q : Path) → path_eq p q ≡ true → length p ≡ length q
+path_eq-length [] [] h = refl
+path_eq-length [] (y ∷ q) h = cc
+path_eq-length (x ∷ p) [] h = cc
+path_eq-length (x ∷ p) (y ∷ q) h = ap suc (path_eq-length p q (right_true (part_eq x y) (path_eq p q) h))
+
+parent-shorter : (p : Path) → 0 < length p → length p ≡ suc (length (parent p))
+parent-shorter [] h = absurd (omega arith)
+parent-shorter (p ∷ []) h = refl
+parent-shorter (p ∷ q ∷ ps) h = ap suc (parent-shorter (q ∷ ps) (omega arith))
+
+-- a function that agrees on each element gives the same
+flat_map_same : {A B : Type 0} (f g : A → List B) (xs : List A) → Each (λ x. f x ≡ g x) xs → flat_map f xs ≡ flat_map g xs
+flat_map_same f g [] h = refl
+flat_map_same f g (x ∷ xs) h = ap₂ ◌++◌ h.0 (flat_map_same f g xs h.1)
+
+items_of_same : (b : Board) (a : Apertures) (pool : Pool) (f g : Path → List Item) (p : Path) (d : Decl) → f p ≡ g p
+    → items_of b a pool f (record { path = p; decl = d }) ≡ items_of b a pool g (record { path = p; decl = d })
+items_of_same b a pool f g p (endpoint d) e = refl
+items_of_same b a pool f g p (bridge d) e = rw e
+
+no_rows : (b : Board) (bus : Path) → Each (λ r. IsPath r.path) b → 16 ≤ length bus → rows_on b bus ≡ []
+no_rows [] bus h deep = refl
+no_rows (r ∷ b) bus h deep = none (path_eq (parent r.path) bus) refl (no_rows b bus h.1 deep)
+  where
+    none : (t : Bool) → path_eq (parent r.path) bus ≡ t → rows_on b bus ≡ [] → cond t (r ∷ rows_on b bus) (rows_on b bus) ≡ []
+    none true e rest = absurd (omega (arith, path_eq-length (parent r.path) bus e, parent-shorter r.path h.0.some, h.0.few))
+    none false e rest = rest
+
+-- one more level changes nothing where the levels reach the longest path
+one_more : (b : Board) (a : Apertures) (pool : Pool) → Each (λ r. IsPath r.path) b → (n : ℕ) (bus : Path) → 16 ≤ n + length bus
+    → items_within b a pool n bus ≡ items_within b a pool (suc n) bus
+one_more b a pool paths zero bus deep = sym (ap (flat_map (items_of b a pool (items_within b a pool zero))) (no_rows b bus paths (omega arith)))
+one_more b a pool paths (suc n) bus deep =
+    flat_map_same (items_of b a pool (items_within b a pool n)) (items_of b a pool (items_within b a pool (suc n))) (rows_on b bus)
+    (each_map (λ (r : Row). (path_eq (parent r.path) bus ≡ true) × IsPath r.path) (λ r. items_of b a pool (items_within b a pool n) r ≡ items_of b a pool (items_within b a pool (suc n)) r) (rows_on b bus)
+    (λ r h. items_of_same b a pool (items_within b a pool n) (items_within b a pool (suc n)) r.path r.decl
+    (one_more b a pool paths n r.path (omega (arith, path_eq-length (parent r.path) bus h.0, parent-shorter r.path h.1.some))))
+    (each_both (λ (r : Row). path_eq (parent r.path) bus ≡ true) (λ r. IsPath r.path) (rows_on b bus)
+    (filter_passes (λ (r : Row). path_eq (parent r.path) bus) b)
+    (each_filter (λ (r : Row). IsPath r.path) (λ r. path_eq (parent r.path) bus) b paths)))
+
+pub items_by_bus : ItemsByBus
+items_by_bus b lawful a pool bus = one_more b a pool lawful.paths 16 bus (omega arith)

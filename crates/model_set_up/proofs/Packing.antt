@@ -1,0 +1,286 @@
+-- Compact placement of regions has no gaps, and spots that are apart take at least the sum of their sizes.
+use Rattle.std.proofs.Common.{◌≡◌, ℕ, zero, suc, ◌+◌, ◌-◌, ◌*◌, ◌/◌, ◌%◌, ◌^◌, ◌≤◌, ◌<◌, Bool, true, false, not, cond, List, [], ◌∷◌, length, refl, sym, ap, ◌∙◌, subst, arith}
+use Rattle.std.specs.Prelude.{map, sum, sum_by, filter, flat_map, nat_le}
+use Rattle.std.proofs.lemmas.Bool.Decides.{nat_tests}
+use Rattle.std.proofs.lemmas.Nat.{pow-add}
+use Rattle.std.proofs.Math.Nat.{mul_assoc, lt-div-mul-add, mul-mod_left, suc-mul, zero-add, div-eq_of_lt, div-lt_iff_lt-mul, add-mul-div_right, mul-le-mul_right}
+use Rattle.std.proofs.lemmas.List.Filters.{sum_by-filter_both}
+use Rattle.std.proofs.lemmas.List.Sums.{sum_by-cons, sum-map}
+use Rattle.std.proofs.lemmas.Bool.{leb-true, leb-false}
+use Rattle.std.proofs.Math.Pow.{pow-lt, pow_pos}
+use Rattle.lists.specs.Elements.{Each, EachPair}
+use Rattle.lists.proofs.EachLemmas.{each_append, each_of_map, pairs_filter, each_filter, each_map, each_both, filter_passes}
+use Rattle.model_registers.specs.Declarations.{Endpoint, Region}
+use Rattle.model_board.specs.Board.{Board, Row, Decl, endpoint, bridge, is_bridge, rows_on}
+use Rattle.model_board.specs.Paths.{Path, path_eq, parent, last_part}
+use Rattle.model_registers.specs.Apertures.{Apertures}
+use Rattle.model_set_up.specs.Pools.{Pool, io_pool, mem_pool, pref_pool, unit_of, same_pool, pool_of, bridges_above}
+use Rattle.model_set_up.specs.Placement.{region_item, region_items, items_of, items_within, items_on, Item, stands_before, inserted, in_order, round_up, end_from, need, spot_end, spots_from, spots}
+use Rattle.model_set_up.specs.Extents.{IsInside, AreApart}
+use Rattle.model_set_up.specs.Packing.{IsPowerOfTwo, Interval, FlatNeed, HasPowerSizes, FlatNeedOnBus, IsRun, CompactIsRun}
+
+-- ---- lists
+
+length_cases : {A : Type 0} (x : A) (ys : List A) (n : ℕ) (b : Bool) → length ys ≤ n → length (cond b (x ∷ ys) ys) ≤ suc n
+length_cases x ys n true h = omega arith
+length_cases x ys n false h = omega arith
+
+length_filter : {A : Type 0} (p : A → Bool) (xs : List A) → length (filter p xs) ≤ length xs
+length_filter p [] = omega arith
+length_filter p (x ∷ xs) = length_cases x (filter p xs) (length xs) (p x) (length_filter p xs)
+
+-- ---- spots that are apart
+
+abbrev SpotsApart : Interval → Interval → Type 0
+SpotsApart s t = AreApart s.first s.size t.first t.size
+
+abbrev SpotInside : ℕ → ℕ → Interval → Type 0
+SpotInside start stop s = IsInside start stop s.first s.size
+
+abbrev sizes : List Interval → ℕ
+sizes ss = sum_by (λ s. s.size) ss
+
+abbrev ends_before : Interval → Interval → Bool
+ends_before x s = nat_le (s.first + s.size) x.first
+
+abbrev not_before : Interval → Interval → Bool
+not_before x s = not (ends_before x s)
+
+before_within : (start stop : ℕ) (x s : Interval) → (ends_before x s ≡ true) × SpotInside start stop s → SpotInside start x.first s
+before_within start stop x s h = grind (arith, nat_tests, h.0, h.1.0, h.1.1)
+
+after_within : (start stop : ℕ) (x s : Interval) → (not_before x s ≡ true) × (SpotsApart x s × SpotInside start stop s) → SpotInside (x.first + x.size) stop s
+after_within start stop x s h = grind (arith, nat_tests, h.0, h.1.0, h.1.1.0, h.1.1.1)
+
+-- n bounds the number of spots
+spots_take : (n : ℕ) (ss : List Interval) (start stop : ℕ) → length ss ≤ n → start ≤ stop → Each (SpotInside start stop) ss → EachPair SpotsApart ss → sizes ss + start ≤ stop
+spots_take n [] start stop few h within apart = omega arith
+spots_take zero (x ∷ ss) start stop few h within apart = absurd (omega arith)
+spots_take (suc n) (x ∷ ss) start stop few h within apart =
+    let left = filter (ends_before x) ss in
+    let right = filter (not_before x) ss in
+    let few_left : length left ≤ n = omega (arith, length_filter (ends_before x) ss) in
+    let few_right : length right ≤ n = omega (arith, length_filter (not_before x) ss) in
+    let left_in : Each (SpotInside start x.first) left =
+    each_map (λ s. (ends_before x s ≡ true) × SpotInside start stop s) (SpotInside start x.first) left (before_within start stop x)
+    (each_both (λ s. ends_before x s ≡ true) (SpotInside start stop) left (filter_passes (ends_before x) ss) (each_filter (SpotInside start stop) (ends_before x) ss within.1)) in
+    let right_in : Each (SpotInside (x.first + x.size) stop) right =
+    each_map (λ s. (not_before x s ≡ true) × (SpotsApart x s × SpotInside start stop s)) (SpotInside (x.first + x.size) stop) right (after_within start stop x)
+    (each_both (λ s. not_before x s ≡ true) (λ s. SpotsApart x s × SpotInside start stop s) right (filter_passes (not_before x) ss)
+    (each_both (SpotsApart x) (SpotInside start stop) right (each_filter (SpotsApart x) (not_before x) ss apart.0) (each_filter (SpotInside start stop) (not_before x) ss within.1))) in
+    let low : sizes left + start ≤ x.first = spots_take n left start x.first few_left within.0.0 left_in (pairs_filter SpotsApart (ends_before x) ss apart.1) in
+    let high : sizes right + (x.first + x.size) ≤ stop = spots_take n right (x.first + x.size) stop few_right within.0.1 right_in (pairs_filter SpotsApart (not_before x) ss apart.1) in
+    let step : sizes (x ∷ ss) ≡ x.size + sizes ss = sum_by-cons (λ s. s.size) x ss in
+    let total : sizes left + sizes right ≡ sizes ss = sum_by-filter_both (ends_before x) (not_before x) (λ s. refl) (λ s. s.size) ss in
+    omega arith
+
+-- ---- the compact placement of regions
+
+abbrev total : List Item → ℕ
+total is = sum_by (λ i. i.size) is
+
+total-cons : (i : Item) (is : List Item) → total (i ∷ is) ≡ i.size + total is
+total-cons i is = sum_by-cons (λ (k : Item). k.size) i is
+
+total_inserted_cases : (i j : Item) (js : List Item) (b : Bool) → total (inserted i js) ≡ i.size + total js → total (cond b (j ∷ inserted i js) (i ∷ j ∷ js)) ≡ i.size + (j.size + total js)
+total_inserted_cases i j js true h = omega (arith, h, total-cons j (inserted i js))
+total_inserted_cases i j js false h = omega (arith, total-cons i (j ∷ js), total-cons j js)
+
+total_inserted : (i : Item) (js : List Item) → total (inserted i js) ≡ i.size + total js
+total_inserted i [] = total-cons i []
+total_inserted i (j ∷ js) = total_inserted_cases i j js (stands_before j i) (total_inserted i js) ∙ ap (λ n. i.size + n) (sym (total-cons j js))
+
+total_in_order : (is : List Item) → total (in_order is) ≡ total is
+total_in_order [] = refl
+total_in_order (i ∷ is) = total_inserted i (in_order is) ∙ ap (λ n. i.size + n) (total_in_order is) ∙ sym (total-cons i is)
+
+-- alignments don't rise
+abbrev Descends : List Item → Type 0
+Descends is = EachPair (λ i j. j.align ≤ i.align) is
+
+each_inserted_cases : (P : Item → Type 0) (i j : Item) (js : List Item) (b : Bool) → P i → P j → Each P js → Each P (inserted i js) → Each P (cond b (j ∷ inserted i js) (i ∷ j ∷ js))
+each_inserted_cases P i j js true hi hj h k = (hj, k)
+each_inserted_cases P i j js false hi hj h k = (hi, (hj, h))
+
+each_inserted : (P : Item → Type 0) (i : Item) (js : List Item) → P i → Each P js → Each P (inserted i js)
+each_inserted P i [] hi h = (hi, tt)
+each_inserted P i (j ∷ js) hi h = each_inserted_cases P i j js (stands_before j i) hi h.0 h.1 (each_inserted P i js hi h.1)
+
+each_in_order : (P : Item → Type 0) (is : List Item) → Each P is → Each P (in_order is)
+each_in_order P [] h = tt
+each_in_order P (i ∷ is) h = each_inserted P i (in_order is) h.0 (each_in_order P is h.1)
+
+before_aligns : (i j : Item) → stands_before j i ≡ true → i.align ≤ j.align
+before_aligns i j h = grind (arith, nat_tests)
+
+not_before_aligns : (i j : Item) → stands_before j i ≡ false → j.align ≤ i.align
+not_before_aligns i j h = grind (arith, nat_tests)
+
+descends_cases : (i j : Item) (js : List Item) (b : Bool) → stands_before j i ≡ b → Descends (j ∷ js) → Descends (inserted i js) → Descends (cond b (j ∷ inserted i js) (i ∷ j ∷ js))
+descends_cases i j js true e h k = (each_inserted (λ l. l.align ≤ j.align) i js (before_aligns i j e) h.0, k)
+descends_cases i j js false e h k =
+    let first : j.align ≤ i.align = not_before_aligns i j e in
+    ((first, each_map (λ l. l.align ≤ j.align) (λ l. l.align ≤ i.align) js (λ l p. omega arith) h.0), h)
+
+descends_inserted : (i : Item) (js : List Item) → Descends js → Descends (inserted i js)
+descends_inserted i [] h = (tt, tt)
+descends_inserted i (j ∷ js) h = descends_cases i j js (stands_before j i) refl h (descends_inserted i js h.1)
+
+descends_in_order : (is : List Item) → Descends (in_order is)
+descends_in_order [] = tt
+descends_in_order (i ∷ is) = descends_inserted i (in_order is) (descends_in_order is)
+
+-- ---- powers of two
+
+abbrev pub Divides : ℕ → ℕ → Type 0
+Divides a n = (k : ℕ) × (n ≡ k * a)
+
+pub divides_add : (a m n : ℕ) → Divides a m → Divides a n → Divides a (m + n)
+divides_add a m n h k = (h.0 + k.0, omega (arith, h.1, k.1))
+
+pub divides_chain : (a b n : ℕ) → Divides a b → Divides b n → Divides a n
+divides_chain a b n h k = (k.0 * h.0, k.1 ∙ ap (λ x. k.0 * x) h.1 ∙ sym (mul_assoc k.0 h.0 a))
+
+smaller_cases : (j k : ℕ) (b : Bool) → nat_le j k ≡ b → 2 ^ j ≤ 2 ^ k → Divides (2 ^ j) (2 ^ k)
+smaller_cases j k true e h =
+    let le : j ≤ k = leb-true j k e in
+    let split : k ≡ k - j + j = omega arith in
+    (2 ^ (k - j), ap (λ x. 2 ^ x) split ∙ pow-add 2 (k - j) j)
+smaller_cases j k false e h =
+    let gt : k < j = leb-false j k e in
+    absurd (omega (arith, pow-lt gt))
+
+pub smaller_divides : (j k : ℕ) → 2 ^ j ≤ 2 ^ k → Divides (2 ^ j) (2 ^ k)
+smaller_divides j k h = smaller_cases j k (nat_le j k) refl h
+
+pub powers_divide : (a b : ℕ) → IsPowerOfTwo a → IsPowerOfTwo b → a ≤ b → Divides a b
+powers_divide a b p q h = rw (p.1, q.1) (smaller_divides p.0 q.0 (rw (p.1, q.1) at h))
+
+pub power_positive : (a : ℕ) → IsPowerOfTwo a → 0 < a
+power_positive a p = rw p.1 (pow_pos p.0)
+
+round_up_multiple : (a n : ℕ) → 0 < a → Divides a n → round_up a n ≡ n
+round_up_multiple a n h k =
+    let front : n + (a - 1) ≡ a - 1 + k.0 * a = omega (arith, k.1) in
+    let small : (a - 1) / a ≡ 0 = div-eq_of_lt (omega arith) in
+    ap (λ x. x / a * a) front ∙ ap (λ x. x * a) (add-mul-div_right (a - 1) k.0 h ∙ ap (λ x. x + k.0) small ∙ zero-add k.0) ∙ sym k.1
+
+-- ---- no gaps
+
+-- a region: its alignment is its size, a power of two
+record IsRegion (i : Item) : Type 0 where
+  align_is_size : i.align ≡ i.size
+  power : IsPowerOfTwo i.size
+
+next_divides : (n : ℕ) (j : Item) → IsRegion j → (i : Item) → (i.align ≤ j.align) × (IsRegion i × Divides i.size n) → Divides i.size (n + j.size)
+next_divides n j rj i h =
+    let le : i.size ≤ j.size = omega (arith, h.0, h.1.0.align_is_size, rj.align_is_size) in
+    divides_add i.size n j.size h.1.1 (powers_divide i.size j.size h.1.0.power rj.power le)
+
+end_flat : (js : List Item) (n : ℕ) → Each IsRegion js → Descends js → Each (λ i. Divides i.size n) js → end_from n js ≡ n + total js
+end_flat [] n regions down divides = omega arith
+end_flat (j ∷ js) n regions down divides =
+    let at : round_up j.align n ≡ n =
+    round_up_multiple j.align n (rw regions.0.align_is_size (power_positive j.size regions.0.power)) (rw regions.0.align_is_size divides.0) in
+    let tail : Each (λ i. Divides i.size (n + j.size)) js =
+    each_map (λ i. (i.align ≤ j.align) × (IsRegion i × Divides i.size n)) (λ i. Divides i.size (n + j.size)) js (next_divides n j regions.0)
+    (each_both (λ i. i.align ≤ j.align) (λ i. IsRegion i × Divides i.size n) js down.0 (each_both IsRegion (λ i. Divides i.size n) js regions.1 divides.1)) in
+    ap (λ x. end_from (x + j.size) js) at ∙ end_flat js (n + j.size) regions.1 down.1 tail ∙ omega (arith, total-cons j js)
+
+each_true : (P : Item → Type 0) → ((i : Item) → P i) → (is : List Item) → Each P is
+each_true P f [] = tt
+each_true P f (i ∷ is) = (f i, each_true P f is)
+
+end_in_order : (is : List Item) → Each IsRegion is → end_from 0 (in_order is) ≡ total is
+end_in_order is regions =
+    end_flat (in_order is) 0 (each_in_order IsRegion is regions) (descends_in_order is) (each_true (λ i. Divides i.size 0) (λ i. (0, omega arith)) (in_order is))
+    ∙ ap (λ n. 0 + n) (total_in_order is) ∙ zero-add (total is)
+
+round_up_least : (unit n units : ℕ) → 0 < unit → n ≤ units * unit → round_up unit n ≤ units * unit
+round_up_least unit n units h k =
+    let many : n + (unit - 1) < suc units * unit = omega (arith, suc-mul units unit) in
+    let few : (n + (unit - 1)) / unit < suc units = (div-lt_iff_lt-mul h).1 many in
+    mul-le-mul_right unit (omega arith)
+
+placed_total : (is : List Item) (spots : List Interval) → map (λ (s : Interval). s.size) spots ≡ map (λ (i : Item). i.size) is → sizes spots ≡ total is
+placed_total is spots e = sym (sum-map (λ (s : Interval). s.size) spots) ∙ ap sum e ∙ sum-map (λ (i : Item). i.size) is
+
+flat_need_lem : (unit : ℕ) (is : List Item) → 0 < unit → Each IsRegion is → FlatNeed unit is
+flat_need_lem unit is h regions = record {
+  is_sum = ap (round_up unit) (end_in_order is regions);
+  least = λ start units spots p.
+      let take : sizes spots + start ≤ start + units * unit = spots_take (length spots) spots start (start + units * unit) (omega arith) (omega arith) p.within p.apart in
+      let same : sizes spots ≡ total is = placed_total is spots p.sizes in
+      let fits : total is ≤ units * unit = omega arith in
+      subst (λ n. round_up unit n ≤ units * unit) (sym (end_in_order is regions)) (round_up_least unit (total is) units h fits);
+}
+
+-- ---- on a bus
+
+pub unit_positive : (pool : Pool) → 0 < unit_of pool
+unit_positive io_pool = omega arith
+unit_positive mem_pool = omega arith
+unit_positive pref_pool = omega arith
+
+each_flat_map : {A B : Type 0} (P : B → Type 0) (f : A → List B) (xs : List A) → Each (λ x. Each P (f x)) xs → Each P (flat_map f xs)
+each_flat_map P f [] h = tt
+each_flat_map P f (x ∷ xs) h = each_append P (f x) (flat_map f xs) h.0 (each_flat_map P f xs h.1)
+
+region_items_are : (b : Board) (a : Apertures) (pool : Pool) (p : Path) (d : Endpoint) → Each (λ r. IsPowerOfTwo r.size) d.regions → Each IsRegion (region_items b a pool p d)
+region_items_are b a pool p d h =
+    let kept = filter (λ (r : Region). same_pool (pool_of a (bridges_above b p) r.kind) pool) d.regions in
+    each_of_map IsRegion (region_item (last_part p)) kept
+    (each_map (λ (r : Region). IsPowerOfTwo r.size) (λ r. IsRegion (region_item (last_part p) r)) kept (λ r power. record { align_is_size = refl; power = power })
+    (each_filter (λ (r : Region). IsPowerOfTwo r.size) (λ r. same_pool (pool_of a (bridges_above b p) r.kind) pool) d.regions h))
+
+row_items_are : (b : Board) (a : Apertures) (pool : Pool) (behind : Path → List Item) (p : Path) (d : Decl) → is_bridge d ≡ false → HasPowerSizes d
+    → Each IsRegion (items_of b a pool behind (record { path = p; decl = d }))
+row_items_are b a pool behind p (endpoint d) e h = region_items_are b a pool p d h
+row_items_are b a pool behind p (bridge d) e h = cc
+
+pub flat_need_on_bus : FlatNeedOnBus
+flat_need_on_bus b a pool bus plain sizes =
+    flat_need_lem (unit_of pool) (items_on b a pool bus) (unit_positive pool)
+    (each_flat_map IsRegion (items_of b a pool (items_within b a pool 15)) (rows_on b bus)
+    (each_map (λ (r : Row). (is_bridge r.decl ≡ false) × HasPowerSizes r.decl) (λ r. Each IsRegion (items_of b a pool (items_within b a pool 15) r)) (rows_on b bus)
+    (λ r h. row_items_are b a pool (items_within b a pool 15) r.path r.decl h.0 h.1)
+    (each_both (λ (r : Row). is_bridge r.decl ≡ false) (λ r. HasPowerSizes r.decl) (rows_on b bus) plain
+    (each_filter (λ (r : Row). HasPowerSizes r.decl) (λ r. path_eq (parent r.path) bus) b sizes))))
+
+-- ---- spots of one bus
+
+pub round_up_not_before : (a n : ℕ) → 0 < a → n ≤ round_up a n
+round_up_not_before a n h = omega (arith, lt-div-mul-add {a = n + (a - 1)} h)
+
+pub round_up_is_multiple : (a n : ℕ) → round_up a n % a ≡ 0
+round_up_is_multiple a n = mul-mod_left ((n + (a - 1)) / a) a
+
+end_not_before : (n : ℕ) (is : List Item) → Each (λ i. 0 < i.align) is → n ≤ end_from n is
+end_not_before n [] h = omega arith
+end_not_before n (i ∷ is) h = omega (arith, round_up_not_before i.align n h.0, end_not_before (round_up i.align n + i.size) is h.1)
+
+run_from : (n : ℕ) (is : List Item) → Each (λ i. 0 < i.align) is → IsRun n (end_from n is) (spots_from n is)
+run_from n [] h = record { aligned = tt; within = tt; apart = tt }
+run_from n (i ∷ is) h =
+    let first : ℕ = round_up i.align n in
+    let rest : IsRun (first + i.size) (end_from (first + i.size) is) (spots_from (first + i.size) is) = run_from (first + i.size) is h.1 in
+    let here : n ≤ first = round_up_not_before i.align n h.0 in
+    let more : first + i.size ≤ end_from (first + i.size) is = end_not_before (first + i.size) is h.1 in
+    record {
+      aligned = (round_up_is_multiple i.align n, rest.aligned);
+      within = ((here, more), each_map (λ s. (first + i.size ≤ s.first) × (spot_end s ≤ end_from (first + i.size) is)) (λ s. (n ≤ s.first) × (spot_end s ≤ end_from (first + i.size) is)) (spots_from (first + i.size) is) (λ s p. (omega arith, p.1)) rest.within);
+      apart = (each_map (λ s. (first + i.size ≤ s.first) × (spot_end s ≤ end_from (first + i.size) is)) (λ s. first + i.size ≤ s.first) (spots_from (first + i.size) is) (λ s p. p.0) rest.within, rest.apart);
+    }
+
+pub run_in_order : (is : List Item) → Each (λ i. 0 < i.align) is → IsRun 0 (end_from 0 (in_order is)) (spots is)
+run_in_order is positive = run_from 0 (in_order is) (each_in_order (λ i. 0 < i.align) is positive)
+
+pub compact_is_run : CompactIsRun
+compact_is_run unit is h positive =
+    let run : IsRun 0 (end_from 0 (in_order is)) (spots is) = run_in_order is positive in
+    let up : end_from 0 (in_order is) ≤ need unit is = round_up_not_before unit (end_from 0 (in_order is)) h in
+    record {
+      aligned = run.aligned;
+      within = each_map (λ s. (0 ≤ s.first) × (spot_end s ≤ end_from 0 (in_order is))) (λ s. (0 ≤ s.first) × (spot_end s ≤ need unit is)) (spots is) (λ s p. (p.0, omega arith)) run.within;
+      apart = run.apart;
+    }

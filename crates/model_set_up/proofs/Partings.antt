@@ -1,0 +1,98 @@
+-- Where the paths of two functions of a board part.
+use Rattle.std.proofs.Common.{◌≡◌, ℕ, zero, suc, ◌+◌, ◌≤◌, ◌<◌, ◌⊎◌, inl, inr, Bool, true, false, ◌&&◌, List, [], ◌∷◌, ◌++◌, length, refl, sym, ap, ap₂, ◌∙◌, subst, arith}
+use Rattle.std.specs.Prelude.{IsTrue}
+use Rattle.std.proofs.lemmas.Bool.{and_from}
+use Rattle.lists.specs.Elements.{EachPair, IsIn}
+use Rattle.lists.proofs.Tests.{left_true, right_true}
+use Rattle.model_board.specs.Board.{Board, Row, is_bridge, is_bridge_at, IsBoard}
+use Rattle.model_board.specs.Paths.{Part, Path, part_eq, path_eq, path_before, leads_to, parent, last_part}
+use Rattle.lists.proofs.Members.{each_in, from_any}
+use Rattle.model_board.proofs.PathOrder.{part_same, path_same, part_self}
+use Rattle.model_board.proofs.PathEnds.{snoc, length_snoc, leads_up, not_before_itself, leads_longer}
+
+-- ---- two paths
+
+-- equal, one above the other, or parting on a bus
+pub data Meeting (p q : Path) : Type 0 where
+  Same : p ≡ q → Meeting p q
+  Above : leads_to p q ≡ true → Meeting p q
+  Below : leads_to q p ≡ true → Meeting p q
+  Parting : (bus : Path) (x y : Part) (ps qs : Path) → p ≡ bus ++ x ∷ ps → q ≡ bus ++ y ∷ qs → part_eq x y ≡ false → Meeting p q
+
+pub meet : (p q : Path) → Meeting p q
+meet [] [] = Same refl
+meet [] (y ∷ q) = Above refl
+meet (x ∷ p) [] = Below refl
+meet (x ∷ p) (y ∷ q) = step (part_eq x y) refl (meet p q)
+  where
+    step : (t : Bool) → part_eq x y ≡ t → Meeting p q → Meeting (x ∷ p) (y ∷ q)
+    step false e m = Parting [] x y p q refl refl e
+    step true e (Same h) = Same (ap₂ ◌∷◌ (part_same x y e) h)
+    step true e (Above h) = Above (and_from (part_eq x y) (leads_to p q) e h)
+    step true e (Below h) = Below (and_from (part_eq y x) (leads_to q p) (ap (λ z. part_eq z x) (sym (part_same x y e)) ∙ part_self x) h)
+    step true e (Parting bus u v ps qs f g n) = Parting (x ∷ bus) u v ps qs (ap (λ (z : Path). x ∷ z) f) (ap₂ ◌∷◌ (sym (part_same x y e)) g) n
+
+pub leads_down : (bus : Path) (x z : Part) (zs : Path) → leads_to (bus ++ x ∷ []) (bus ++ x ∷ z ∷ zs) ≡ true
+leads_down [] x z zs = and_from (part_eq x x) true (part_self x) refl
+leads_down (b ∷ bus) x z zs = and_from (part_eq b b) (leads_to (bus ++ x ∷ []) (bus ++ x ∷ z ∷ zs)) (part_self b) (leads_down bus x z zs)
+
+-- ---- the functions of a board
+
+pub pair_in : {A : Type 0} (R : A → A → Type 0) (x y : A) (xs : List A) → EachPair R xs → IsIn x xs → IsIn y xs → (x ≡ y) ⊎ (R x y ⊎ R y x)
+pair_in R x y [] h m k = absurd m
+pair_in R x y (z ∷ zs) h (inl e) (inl f) = inl (e ∙ sym f)
+pair_in R x y (z ∷ zs) h (inl e) (inr k) = inr (inl (subst (λ w. R w y) (sym e) (each_in (R z) y zs h.0 k)))
+pair_in R x y (z ∷ zs) h (inr m) (inl f) = inr (inr (subst (λ w. R w x) (sym f) (each_in (R z) x zs h.0 m)))
+pair_in R x y (z ∷ zs) h (inr m) (inr k) = pair_in R x y zs h.1 m k
+
+module _ (b : Board) (lawful : IsBoard b) where
+  -- one function stands at a path
+  pub one_row : (r s : Row) → IsIn r b → IsIn s b → r.path ≡ s.path → r ≡ s
+  one_row r s m k e = by_order (pair_in (λ (t u : Row). IsTrue (path_before t.path u.path)) r s b lawful.in_order m k)
+    where
+      by_order : (r ≡ s) ⊎ (IsTrue (path_before r.path s.path) ⊎ IsTrue (path_before s.path r.path)) → r ≡ s
+      by_order (inl same) = same
+      by_order (inr (inl before)) = absurd (not_before_itself s.path (subst (λ (p : Path). path_before p s.path ≡ true) e before))
+      by_order (inr (inr before)) = absurd (not_before_itself s.path (subst (λ (p : Path). path_before s.path p ≡ true) e before))
+
+  -- the bridge at a path
+  abbrev pub BridgeAt : Path → Type 0
+  BridgeAt p = (r : Row) × IsIn r b × (is_bridge r.decl ≡ true) × (r.path ≡ p)
+
+  pub bridge_at : (p : Path) → is_bridge_at b p ≡ true → BridgeAt p
+  bridge_at p h =
+      let f = from_any (λ (r : Row). is_bridge r.decl && path_eq r.path p) b h in
+      (f.0, f.1, left_true (is_bridge f.0.decl) (path_eq f.0.path p) f.2, path_same f.0.path p (right_true (is_bridge f.0.decl) (path_eq f.0.path p) f.2))
+
+  -- what leads to a function of the board is a bridge of the board; n bounds the length of its path
+  above_within : (n : ℕ) (r : Row) (q : Path) → length r.path ≤ n → IsIn r b → leads_to q r.path ≡ true → 0 < length q → BridgeAt q
+  above_within zero r q few m h some = absurd (omega (arith, leads_longer q r.path h))
+  above_within (suc n) r q few m h some =
+      by_parent (each_in (λ s. (parent s.path ≡ []) ⊎ IsTrue (is_bridge_at b (parent s.path))) r b lawful.behind_bridges m)
+      (λ d there l. above_within n d q there.0 there.1 l some)
+    where
+      split : r.path ≡ parent r.path ++ last_part r.path ∷ []
+      split = snoc r.path (omega (arith, leads_longer q r.path h))
+
+      shorter : length r.path ≡ length (parent r.path) + 1
+      shorter = ap length split ∙ length_snoc (parent r.path) (last_part r.path)
+
+      up : (q ≡ parent r.path) ⊎ (leads_to q (parent r.path) ≡ true)
+      up = leads_up q (parent r.path) (last_part r.path) (subst (λ (p : Path). leads_to q p ≡ true) split h)
+
+      next : BridgeAt (parent r.path) → ((d : Row) → (length d.path ≤ n) × IsIn d b → leads_to q d.path ≡ true → BridgeAt q) → (q ≡ parent r.path) ⊎ (leads_to q (parent r.path) ≡ true) → BridgeAt q
+      next d more (inl e) = (d.0, d.1, d.2, d.3 ∙ sym e)
+      next d more (inr l) =
+          let few_more : length d.0.path ≤ n = omega (arith, ap length d.3, shorter) in
+          more d.0 (few_more, d.1) (subst (λ (p : Path). leads_to q p ≡ true) (sym d.3) l)
+
+      by_parent : (parent r.path ≡ []) ⊎ IsTrue (is_bridge_at b (parent r.path)) → ((d : Row) → (length d.path ≤ n) × IsIn d b → leads_to q d.path ≡ true → BridgeAt q) → BridgeAt q
+      by_parent (inl none) more = root up
+        where
+          root : (q ≡ parent r.path) ⊎ (leads_to q (parent r.path) ≡ true) → BridgeAt q
+          root (inl e) = absurd (omega (arith, ap length (e ∙ none)))
+          root (inr l) = absurd (omega (arith, leads_longer q (parent r.path) l, ap length none))
+      by_parent (inr there) more = next (bridge_at (parent r.path) there) more up
+
+  pub bridge_above : (r : Row) (q : Path) → IsIn r b → leads_to q r.path ≡ true → 0 < length q → BridgeAt q
+  bridge_above r q m h some = above_within (length r.path) r q (omega arith) m h some

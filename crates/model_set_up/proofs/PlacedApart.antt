@@ -1,0 +1,188 @@
+-- Two regions of a board share no address: where their paths part, two rows of one bus would both hold it.
+use Rattle.std.proofs.Common.{◌≡◌, ℕ, ◌+◌, ◌<◌, ◌⊎◌, inl, inr, Bool, true, false, ◌&&◌, cond, Option, Some, None, List, [], ◌∷◌, ◌++◌, length, refl, sym, ap, ◌∙◌, subst, arith}
+use Rattle.std.specs.Prelude.{IsTrue, MatchOption}
+use Rattle.std.specs.List.{list_any}
+use Rattle.model_registers.specs.Declarations.{Kind, io_kind, mem32, mem64, Bridge}
+use Rattle.model_registers.specs.Decoding.{memory, space_of, same_space}
+use Rattle.lists.proofs.Tests.{left_true, right_true}
+use Rattle.model_registers.specs.Apertures.{IsLawfulApertures, IsPrefOption, Aperture, Apertures}
+use Rattle.lists.specs.Elements.{IsIn}
+use Rattle.model_board.specs.Board.{Board, Row, is_bridge, IsBoard}
+use Rattle.model_board.specs.Paths.{Part, Path, part_eq, path_eq, leads_to, parent, last_part, IsPath}
+use Rattle.model_set_up.specs.Pools.{Pool, io_pool, mem_pool, pref_pool, same_pool, pref_reaches, pref_or_mem, pool_of, aperture_of}
+use Rattle.model_set_up.specs.Layout.{LayoutRow, is_window_over, IsUnderWindows, IsLawful}
+use Rattle.model_set_up.specs.Extents.{IsInside, AreApart}
+use Rattle.model_set_up.specs.Placement.{Placed, a_region, a_window}
+use Rattle.model_set_up.specs.PlacedRegions.{pool_space}
+use Rattle.lists.proofs.Members.{each_in, from_any}
+use Rattle.model_board.proofs.PathOrder.{path_same, part_self}
+use Rattle.model_board.proofs.PathEnds.{path_self, parent_snoc, last_snoc, length_snoc}
+use Rattle.model_set_up.proofs.Partings.{Meeting, Same, Above, Below, Parting, meet, leads_down, pair_in, one_row, BridgeAt, bridge_above}
+
+-- ---- pools
+
+pub pool_is : (p q : Pool) → same_pool p q ≡ true → p ≡ q
+pool_is io_pool io_pool h = refl
+pool_is io_pool mem_pool h = cc
+pool_is io_pool pref_pool h = cc
+pool_is mem_pool io_pool h = cc
+pool_is mem_pool mem_pool h = refl
+pool_is mem_pool pref_pool h = cc
+pool_is pref_pool io_pool h = cc
+pool_is pref_pool mem_pool h = cc
+pool_is pref_pool pref_pool h = refl
+
+same_pools : (p q : Pool) → p ≡ q → same_pool p q ≡ true
+same_pools io_pool q h = subst (λ x. same_pool io_pool x ≡ true) h refl
+same_pools mem_pool q h = subst (λ x. same_pool mem_pool x ≡ true) h refl
+same_pools pref_pool q h = subst (λ x. same_pool pref_pool x ≡ true) h refl
+
+pub or_space : (o : Option Aperture) (above : List Bridge) (wide : Bool) → pool_space (pref_or_mem o above wide) ≡ memory
+or_space None above wide = refl
+or_space (Some o) above wide = by_reach (pref_reaches o above wide)
+  where
+    by_reach : (t : Bool) → pool_space (cond t pref_pool mem_pool) ≡ memory
+    by_reach true = refl
+    by_reach false = refl
+
+-- a region's pool has addresses of its space
+pub pool_of_space : (a : Apertures) (above : List Bridge) (k : Kind) → pool_space (pool_of a above k) ≡ space_of k
+pool_of_space a above io_kind = refl
+pool_of_space a above (mem32 true) = or_space a.pref above false
+pool_of_space a above (mem32 false) = refl
+pool_of_space a above (mem64 true) = or_space a.pref above true
+pool_of_space a above (mem64 false) = refl
+
+-- ---- rows of a layout
+
+-- a window over a row is in the row's pool, above the row
+over_parts : (r : LayoutRow) (p : Path) (what : Placed) (pool : Pool) (first size : ℕ) → is_window_over r (record { path = p; what = what; pool = pool; first = first; size = size }) ≡ true
+    → (what ≡ a_window) × (same_pool pool r.pool ≡ true) × (leads_to p r.path ≡ true)
+over_parts r p (a_region n) pool first size h = cc
+over_parts r p a_window pool first size h = (refl, left_true (same_pool pool r.pool) (leads_to p r.path) h, right_true (same_pool pool r.pool) (leads_to p r.path) h)
+
+pub record WindowOver (rows : List LayoutRow) (r : LayoutRow) (q : Path) : Type 0 where
+  pub row : LayoutRow
+  pub there : IsIn row rows
+  pub what_is : row.what ≡ a_window
+  pub pool_is : row.pool ≡ r.pool
+  pub path_is : row.path ≡ q
+  pub inside : IsInside row.first (row.first + row.size) r.first r.size
+
+-- a row inside another is apart from what the other is apart from
+apart_inside : (w v r s : LayoutRow) → IsInside w.first (w.first + w.size) r.first r.size → IsInside v.first (v.first + v.size) s.first s.size → AreApart w.first w.size v.first v.size → AreApart r.first r.size s.first s.size
+apart_inside w v r s h k (inl e) = inl (omega (arith, h.1, k.0))
+apart_inside w v r s h k (inr e) = inr (omega (arith, h.0, k.1))
+
+apart_sym : (r s : LayoutRow) → AreApart s.first s.size r.first r.size → AreApart r.first r.size s.first s.size
+apart_sym r s (inl e) = inr e
+apart_sym r s (inr e) = inl e
+
+module _ (b : Board) (a : Apertures) (board : IsBoard b) (rows : List LayoutRow) (lawful : IsLawful b a rows) where
+  -- each bridge above a row has a window over it
+  pub window_over : (r : LayoutRow) (d : Row) → IsIn r rows → IsIn d b → leads_to d.path r.path ≡ true → WindowOver rows r d.path
+  window_over r d m k h =
+      let under : IsUnderWindows b rows r = each_in (IsUnderWindows b rows) r rows lawful.under_windows m in
+      let f = from_any (λ (w : LayoutRow). is_window_over r w && path_eq w.path d.path) rows (each_in (λ (e : Row). IsTrue (leads_to e.path r.path) → IsTrue (list_any (λ w. is_window_over r w && path_eq w.path e.path) rows)) d b under.there k h) in
+      let over : is_window_over r f.0 ≡ true = left_true (is_window_over r f.0) (path_eq f.0.path d.path) f.2 in
+      let parts = over_parts r f.0.path f.0.what f.0.pool f.0.first f.0.size over in
+      record {
+        row = f.0;
+        there = f.1;
+        what_is = parts.0;
+        pool_is = pool_is f.0.pool r.pool parts.1;
+        path_is = path_same f.0.path d.path (right_true (is_window_over r f.0) (path_eq f.0.path d.path) f.2);
+        inside = each_in (λ (w : LayoutRow). IsTrue (is_window_over r w) → IsInside w.first (w.first + w.size) r.first r.size) f.0 rows under.inside f.1 over;
+      }
+
+  -- on each bus of its path a row of its pool holds its addresses
+  record Holder (r : LayoutRow) (q : Path) : Type 0 where
+    row : LayoutRow
+    there : IsIn row rows
+    pool_is : row.pool ≡ r.pool
+    path_is : row.path ≡ q
+    inside : IsInside row.first (row.first + row.size) r.first r.size
+
+  holder : (r : LayoutRow) (s : Row) → IsIn r rows → IsIn s b → s.path ≡ r.path → (bus : Path) (x : Part) (ps : Path) → r.path ≡ bus ++ x ∷ ps → Holder r (bus ++ x ∷ [])
+  holder r s m k e bus x [] p = record { row = r; there = m; pool_is = refl; path_is = p; inside = (omega arith, omega arith) }
+  holder r s m k e bus x (z ∷ zs) p =
+      let leads : leads_to (bus ++ x ∷ []) r.path ≡ true = ap (leads_to (bus ++ x ∷ [])) p ∙ leads_down bus x z zs in
+      let d : BridgeAt b board (bus ++ x ∷ []) = bridge_above b board s (bus ++ x ∷ []) k (subst (λ (q : Path). leads_to (bus ++ x ∷ []) q ≡ true) (sym e) leads) (omega (arith, length_snoc bus x)) in
+      of_window d.0.path d.3 (window_over r d.0 m d.1 (subst (λ (q : Path). leads_to q r.path ≡ true) (sym d.3) leads))
+    where
+      of_window : (q : Path) → q ≡ bus ++ x ∷ [] → WindowOver rows r q → Holder r (bus ++ x ∷ [])
+      of_window q f w = record { row = w.row; there = w.there; pool_is = w.pool_is; path_is = w.path_is ∙ f; inside = w.inside }
+
+  -- two rows of one bus and one pool are one, or apart
+  one_bus : (r s : LayoutRow) → IsIn r rows → IsIn s rows → r.pool ≡ s.pool → parent r.path ≡ parent s.path → (r ≡ s) ⊎ AreApart r.first r.size s.first s.size
+  one_bus r s m k same bus = by_pair (pair_in (λ (t u : LayoutRow). IsTrue (same_pool t.pool u.pool && path_eq (parent t.path) (parent u.path)) → AreApart t.first t.size u.first u.size) r s rows lawful.apart m k)
+    where
+      both : (t u : LayoutRow) → t.pool ≡ u.pool → parent t.path ≡ parent u.path → (same_pool t.pool u.pool && path_eq (parent t.path) (parent u.path)) ≡ true
+      both t u e f = let p : same_pool t.pool u.pool ≡ true = same_pools t.pool u.pool e in let q : path_eq (parent t.path) (parent u.path) ≡ true = ap (path_eq (parent t.path)) (sym f) ∙ path_self (parent t.path) in rw (p, q)
+
+      by_pair : (r ≡ s) ⊎ ((IsTrue (same_pool r.pool s.pool && path_eq (parent r.path) (parent s.path)) → AreApart r.first r.size s.first s.size) ⊎ (IsTrue (same_pool s.pool r.pool && path_eq (parent s.path) (parent r.path)) → AreApart s.first s.size r.first r.size)) → (r ≡ s) ⊎ AreApart r.first r.size s.first s.size
+      by_pair (inl e) = inl e
+      by_pair (inr (inl f)) = inr (f (both r s same bus))
+      by_pair (inr (inr f)) = inr (apart_sym r s (f (both s r (sym same) (sym bus))))
+
+  -- a row of an endpoint of the board
+  pub record OfEndpoint (r : LayoutRow) : Type 0 where
+    pub there : IsIn r rows
+    pub function : Row
+    pub on_board : IsIn function b
+    pub is_endpoint : is_bridge function.decl ≡ false
+    pub path_is : function.path ≡ r.path
+
+  not_above : (r s : LayoutRow) → OfEndpoint r → OfEndpoint s → leads_to r.path s.path ≡ true → ⊥
+  not_above r s f g h =
+      let some : 0 < length f.function.path = (each_in (λ (x : Row). IsPath x.path) f.function b board.paths f.on_board).some in
+      let leads : leads_to f.function.path g.function.path ≡ true = subst (λ (q : Path). leads_to q g.function.path ≡ true) (sym f.path_is) (subst (λ (q : Path). leads_to r.path q ≡ true) (sym g.path_is) h) in
+      let d : BridgeAt b board f.function.path = bridge_above b board g.function f.function.path g.on_board leads some in
+      let same : is_bridge d.0.decl ≡ is_bridge f.function.decl = ap (λ (x : Row). is_bridge x.decl) (one_row b board d.0 f.function d.1 f.on_board d.3) in
+      let bad : true ≡ false = sym d.2 ∙ same ∙ f.is_endpoint in cc
+
+  -- two regions of one pool are one row, or apart
+  pub regions_apart : (r s : LayoutRow) → OfEndpoint r → OfEndpoint s → r.pool ≡ s.pool → (r ≡ s) ⊎ AreApart r.first r.size s.first s.size
+  regions_apart r s f g same = by_paths (meet r.path s.path)
+    where
+      by_paths : Meeting r.path s.path → (r ≡ s) ⊎ AreApart r.first r.size s.first s.size
+      by_paths (Same e) = one_bus r s f.there g.there same (ap parent e)
+      by_paths (Above h) = absurd (not_above r s f g h)
+      by_paths (Below h) = absurd (not_above s r g f h)
+      by_paths (Parting bus x y ps qs p q n) = inr (by_bus (one_bus w.row v.row w.there v.there (w.pool_is ∙ same ∙ sym v.pool_is) (ap parent w.path_is ∙ parent_snoc bus x ∙ sym (parent_snoc bus y) ∙ sym (ap parent v.path_is))))
+        where
+          w : Holder r (bus ++ x ∷ [])
+          w = holder r f.function f.there f.on_board f.path_is bus x ps p
+
+          v : Holder s (bus ++ y ∷ [])
+          v = holder s g.function g.there g.on_board g.path_is bus y qs q
+
+          by_bus : (w.row ≡ v.row) ⊎ AreApart w.row.first w.row.size v.row.first v.row.size → AreApart r.first r.size s.first s.size
+          by_bus (inl e) =
+              let one : x ≡ y = sym (last_snoc bus x) ∙ ap last_part (sym w.path_is ∙ ap (λ (l : LayoutRow). l.path) e ∙ v.path_is) ∙ last_snoc bus y in
+              let bad : true ≡ false = sym (part_self x) ∙ ap (part_eq x) one ∙ n in cc
+          by_bus (inr h) = apart_inside w.row v.row r s w.inside v.inside h
+
+  -- two rows of one space are apart where their pools differ: memory and prefetchable apertures are
+  pools_apart : (o : Option Aperture) (r s : LayoutRow) → IsPrefOption a.mem o → IsInside a.mem.first (a.mem.last + 1) r.first r.size → MatchOption o ⊥ (λ ap. IsInside ap.first (ap.last + 1) s.first s.size) → AreApart r.first r.size s.first s.size
+  pools_apart None r s h k l = absurd l
+  pools_apart (Some o) r s h k l = by_side h.apart
+    where
+      by_side : (a.mem.last < o.first) ⊎ (o.last < a.mem.first) → AreApart r.first r.size s.first s.size
+      by_side (inl e) = inl (omega (arith, k.1, l.0))
+      by_side (inr e) = inr (omega (arith, k.0, l.1))
+
+  in_aperture : (r : LayoutRow) → IsIn r rows → (pool : Pool) → r.pool ≡ pool → MatchOption (aperture_of a pool) ⊥ (λ ap. IsInside ap.first (ap.last + 1) r.first r.size)
+  in_aperture r m pool e = subst (λ x. MatchOption (aperture_of a x) ⊥ (λ ap. IsInside ap.first (ap.last + 1) r.first r.size)) e (each_in (λ (t : LayoutRow). MatchOption (aperture_of a t.pool) ⊥ (λ ap. IsInside ap.first (ap.last + 1) t.first t.size)) r rows lawful.in_apertures m)
+
+  -- two regions of one space are one row, or apart
+  pub spaces_apart : IsLawfulApertures a → (p q : Pool) (r s : LayoutRow) → OfEndpoint r → OfEndpoint s → r.pool ≡ p → s.pool ≡ q → same_space (pool_space p) (pool_space q) ≡ true → (r ≡ s) ⊎ AreApart r.first r.size s.first s.size
+  spaces_apart apertures io_pool io_pool r s f g e h same = regions_apart r s f g (e ∙ sym h)
+  spaces_apart apertures io_pool mem_pool r s f g e h same = cc
+  spaces_apart apertures io_pool pref_pool r s f g e h same = cc
+  spaces_apart apertures mem_pool io_pool r s f g e h same = cc
+  spaces_apart apertures mem_pool mem_pool r s f g e h same = regions_apart r s f g (e ∙ sym h)
+  spaces_apart apertures mem_pool pref_pool r s f g e h same = inr (pools_apart a.pref r s apertures.pref (in_aperture r f.there mem_pool e) (in_aperture s g.there pref_pool h))
+  spaces_apart apertures pref_pool io_pool r s f g e h same = cc
+  spaces_apart apertures pref_pool mem_pool r s f g e h same = inr (apart_sym r s (pools_apart a.pref s r apertures.pref (in_aperture s g.there mem_pool h) (in_aperture r f.there pref_pool e)))
+  spaces_apart apertures pref_pool pref_pool r s f g e h same = regions_apart r s f g (e ∙ sym h)

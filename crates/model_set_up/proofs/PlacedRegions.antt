@@ -1,0 +1,160 @@
+-- The placed regions of a board: each has its row in the layout, and no two of one space share an address.
+use Rattle.std.proofs.Common.{◌≡◌, ℕ, ◌+◌, ◌≤◌, ◌⊎◌, inl, inr, true, ◌&&◌, List, [], ◌∷◌, refl, sym, ap, ◌∙◌, subst, arith}
+use Rattle.std.specs.Prelude.{map, IsTrue}
+use Rattle.lists.specs.Elements.{EachPair, IsIn}
+use Rattle.model_registers.specs.Declarations.{Kind, io_kind, mem32, mem64, Region, registers_of, HasLawfulRegions, Endpoint}
+use Rattle.model_registers.specs.Decoding.{Space, space_of, same_space}
+use Rattle.model_registers.specs.Apertures.{IsLawfulApertures, Apertures}
+use Rattle.model_board.specs.Board.{Board, Row, Decl, endpoint, bridge, is_bridge, IsBoard}
+use Rattle.model_registers.specs.DeclarationRules.{IsLawfulEndpoint}
+use Rattle.model_board.specs.Paths.{Path, path_eq, path_before}
+use Rattle.model_set_up.specs.Pools.{Pool, io_pool, mem_pool, pref_pool, bridges_above}
+use Rattle.model_set_up.specs.Placement.{Placed, a_region, a_window, same_placed, Item, items_on}
+use Rattle.model_set_up.specs.SetUp.{first_of}
+use Rattle.model_set_up.specs.Layout.{LayoutRow, IsLawful, pool_rows, layout}
+use Rattle.model_set_up.specs.Extents.{AreApart}
+use Rattle.model_board.specs.Lawful.{IsLawfulDecl, HasLawfulDecls}
+use Rattle.model_set_up.specs.PlacementLaws.{pool_at, region_row, window_rows, rows_at, HasOwnRows, IsRowFor, HasRows}
+use Rattle.model_set_up.specs.PlacedRegions.{PlacedRegion, placed, placed_at, placed_regions, pool_space, placed_row, placed_rows}
+use Rattle.lists.proofs.Members.{each_in, in_map, in_flat_map, from_flat_map, from_map, from_filter, pairs_weaker, pairs_flat_map, pairs_of_map}
+use Rattle.model_set_up.specs.UniqueClaimant.{ShareNone}
+use Rattle.model_board.proofs.PathEnds.{not_before_itself}
+use Rattle.model_set_up.proofs.PlacedApart.{pool_of_space, OfEndpoint, spaces_apart}
+
+-- where a placed region comes from
+pub record Source (b : Board) (a : Apertures) (q : PlacedRegion) : Type 0 where
+  pub row : Row
+  pub there : IsIn row b
+  pub decl : Endpoint
+  pub decl_is : row.decl ≡ endpoint decl
+  pub region : Region
+  pub declared : IsIn region decl.regions
+  pub is : q ≡ placed b a row.path region
+
+of_decl : (b : Board) (a : Apertures) (p : Path) (d : Decl) (q : PlacedRegion) → IsIn q (placed_at b a (record { path = p; decl = d })) → (e : Endpoint) × (d ≡ endpoint e) × (g : Region) × IsIn g e.regions × (q ≡ placed b a p g)
+of_decl b a p (endpoint d) q m = let f = from_map (placed b a p) q d.regions m in (d, refl, f.0, f.1, f.2)
+of_decl b a p (bridge d) q m = absurd m
+
+pub source : (b : Board) (a : Apertures) (q : PlacedRegion) → IsIn q (placed_regions b a) → Source b a q
+source b a q m =
+    let f = from_flat_map (placed_at b a) q b m in
+    let g = of_decl b a f.0.path f.0.decl q f.2 in
+    record { row = f.0; there = f.1; decl = g.0; decl_is = g.1; region = g.2; declared = g.3; is = g.4 }
+
+each_pool : (pool : Pool) → IsIn pool (io_pool ∷ mem_pool ∷ pref_pool ∷ [])
+each_pool io_pool = inl refl
+each_pool mem_pool = inr (inl refl)
+each_pool pref_pool = inr (inr (inl refl))
+
+pub lawful_decl : (b : Board) → HasLawfulDecls b → (r : Row) (d : Endpoint) → IsIn r b → r.decl ≡ endpoint d → IsLawfulEndpoint d
+lawful_decl b lawful r d m e = subst IsLawfulDecl e (each_in (λ (s : Row). IsLawfulDecl s.decl) r b lawful m)
+
+pub lawful_regions : (b : Board) → HasLawfulDecls b → (r : Row) (d : Endpoint) → IsIn r b → r.decl ≡ endpoint d → HasLawfulRegions d.regions
+lawful_regions b lawful r d m e = (lawful_decl b lawful r d m e).regions
+
+spaces_same : (x y z w : Space) → x ≡ y → z ≡ w → same_space y w ≡ true → same_space x z ≡ true
+spaces_same x y z w e f h = subst (λ v. same_space x v ≡ true) (sym f) (subst (λ v. same_space v w ≡ true) (sym e) h)
+
+-- a region's row stands in the layout
+pub region_there : (b : Board) (a : Apertures) → HasRows b a → (r : Row) (d : Endpoint) (g : Region) → IsIn r b → r.decl ≡ endpoint d → IsIn g d.regions → IsIn (region_row b a r.path g) (layout b a)
+region_there b a has r d g m e k =
+    let own : HasOwnRows b a r.path (endpoint d) = subst (HasOwnRows b a r.path) e (each_in (λ (s : Row). HasOwnRows b a s.path s.decl) r b has.each_has m) in
+    let one : rows_at b a (pool_at b a r.path g) r.path (a_region g.index) ≡ region_row b a r.path g ∷ [] = each_in (λ (h : Region). rows_at b a (pool_at b a r.path h) r.path (a_region h.index) ≡ region_row b a r.path h ∷ []) g d.regions own k in
+    in_flat_map (pool_rows b a) (pool_at b a r.path g) (region_row b a r.path g) (io_pool ∷ mem_pool ∷ pref_pool ∷ []) (each_pool (pool_at b a r.path g))
+    (from_filter (λ (l : LayoutRow). path_eq l.path r.path && same_placed l.what (a_region g.index)) (region_row b a r.path g) (pool_rows b a (pool_at b a r.path g)) (subst (IsIn (region_row b a r.path g)) (sym one) (inl refl))).0
+
+module _ (b : Board) (a : Apertures) (board : IsBoard b) (decls : HasLawfulDecls b) (apertures : IsLawfulApertures a) (lawful : IsLawful b a (layout b a)) (has : HasRows b a) where
+  row_of : (q : PlacedRegion) (s : Source b a q) → OfEndpoint b a board (layout b a) lawful (region_row b a s.row.path s.region)
+  row_of q s = record {
+    there = region_there b a has s.row s.decl s.region s.there s.decl_is s.declared;
+    function = s.row;
+    on_board = s.there;
+    is_endpoint = ap is_bridge s.decl_is;
+    path_is = refl;
+  }
+
+  -- two placed regions of one space that are not one share no address
+  share_none : (q t : PlacedRegion) (s : Source b a q) (u : Source b a t) → (s.row.path ≡ u.row.path → s.region.index ≡ u.region.index → ⊥) → ShareNone q t
+  share_none q t s u differ =
+      subst (λ (x : PlacedRegion). ShareNone x t) (sym s.is) (subst (λ (x : PlacedRegion). ShareNone (placed b a s.row.path s.region) x) (sym u.is)
+      (λ same. by_rows (spaces_apart b a board (layout b a) lawful apertures (pool_at b a s.row.path s.region) (pool_at b a u.row.path u.region) (region_row b a s.row.path s.region) (region_row b a u.row.path u.region)
+      (row_of q s) (row_of t u) refl refl
+      (spaces_same (pool_space (pool_at b a s.row.path s.region)) (space_of s.region.kind) (pool_space (pool_at b a u.row.path u.region)) (space_of u.region.kind)
+      (pool_of_space a (bridges_above b s.row.path) s.region.kind) (pool_of_space a (bridges_above b u.row.path) u.region.kind) same))))
+    where
+      register : Placed → ℕ
+      register (a_region n) = n
+      register a_window = 0
+
+      by_rows : (region_row b a s.row.path s.region ≡ region_row b a u.row.path u.region) ⊎ AreApart (region_row b a s.row.path s.region).first (region_row b a s.row.path s.region).size (region_row b a u.row.path u.region).first (region_row b a u.row.path u.region).size
+          → AreApart (region_row b a s.row.path s.region).first (region_row b a s.row.path s.region).size (region_row b a u.row.path u.region).first (region_row b a u.row.path u.region).size
+      by_rows (inl e) = absurd (differ (ap (λ (l : LayoutRow). l.path) e) (ap (λ (l : LayoutRow). register l.what) e))
+      by_rows (inr h) = h
+
+  -- the regions of one function have registers of their own
+  one_function : (p : Path) (d : Decl) → IsIn (record { path = p; decl = d }) b → EachPair ShareNone (placed_at b a (record { path = p; decl = d }))
+  one_function p (bridge d) m = tt
+  one_function p (endpoint d) m =
+      pairs_of_map ShareNone (placed b a p) d.regions
+      (pairs_weaker (λ g h. g.index + registers_of g.kind ≤ h.index) (λ g h. ShareNone (placed b a p g) (placed b a p h)) d.regions (lawful_regions b decls (record { path = p; decl = endpoint d }) d m refl).in_order
+      (λ g h k l order. share_none (placed b a p g) (placed b a p h) (from g k) (from h l) (λ e f. absurd (some_registers g.kind g.index h.index order f))))
+    where
+      from : (g : Region) → IsIn g d.regions → Source b a (placed b a p g)
+      from g k = record { row = record { path = p; decl = endpoint d }; there = m; decl = d; decl_is = refl; region = g; declared = k; is = refl }
+
+      some_registers : (k : Kind) (i j : ℕ) → i + registers_of k ≤ j → i ≡ j → ⊥
+      some_registers io_kind i j h e = omega arith
+      some_registers (mem32 pref) i j h e = omega arith
+      some_registers (mem64 pref) i j h e = omega arith
+
+  -- no two placed regions of one space share an address
+  pub placed_apart : EachPair ShareNone (placed_regions b a)
+  placed_apart =
+      pairs_flat_map (λ (r s : Row). IsTrue (path_before r.path s.path)) ShareNone (placed_at b a) b board.in_order
+      (λ r m. one_function r.path r.decl m)
+      (λ r s m k before q t l n. two_functions r s m k before q t (of_decl b a r.path r.decl q l) (of_decl b a s.path s.decl t n))
+    where
+      two_functions : (r s : Row) → IsIn r b → IsIn s b → IsTrue (path_before r.path s.path) → (q t : PlacedRegion)
+          → ((d : Endpoint) × (r.decl ≡ endpoint d) × (g : Region) × IsIn g d.regions × (q ≡ placed b a r.path g))
+          → ((d : Endpoint) × (s.decl ≡ endpoint d) × (g : Region) × IsIn g d.regions × (t ≡ placed b a s.path g)) → ShareNone q t
+      two_functions r s m k before q t x y =
+          share_none q t
+          (record { row = r; there = m; decl = x.0; decl_is = x.1; region = x.2; declared = x.3; is = x.4 })
+          (record { row = s; there = k; decl = y.0; decl_is = y.1; region = y.2; declared = y.3; is = y.4 })
+          (λ e f. absurd (not_before_itself s.path (subst (λ (p : Path). path_before p s.path ≡ true) e before)))
+
+-- ---- rows of the layout
+
+-- the region of a row stands where the row says
+row_is_placed : (b : Board) (a : Apertures) (p : Path) (g : Region) → placed_row (region_row b a p g) ≡ placed b a p g ∷ []
+row_is_placed b a p g = ap (λ (x : Space). record { path = p; index = g.index; space = x; first = first_of b a p g; size = g.size } ∷ []) (pool_of_space a (bridges_above b p) g.kind)
+
+module _ (b : Board) (a : Apertures) (has : HasRows b a) where
+  of_rows : (q : PlacedRegion) (l : LayoutRow) (pool : Pool) (p : Path) (d : Decl) → IsIn q (placed_row l) → IsRowFor b a pool l p d → IsIn q (placed_at b a (record { path = p; decl = d }))
+  of_rows q l pool p (endpoint d) m row =
+      let here : IsIn q (placed b a p row.0 ∷ []) = subst (IsIn q) (ap placed_row row.3 ∙ row_is_placed b a p row.0) m in
+      one here (in_map (placed b a p) row.0 d.regions row.1)
+    where
+      one : IsIn q (placed b a p row.0 ∷ []) → IsIn (placed b a p row.0) (map (placed b a p) d.regions) → IsIn q (map (placed b a p) d.regions)
+      one (inl e) k = subst (λ (x : PlacedRegion). IsIn x (map (placed b a p) d.regions)) (sym e) k
+      one (inr h) k = absurd h
+  of_rows q l pool p (bridge d) m row = of_window (items_on b a pool p) row
+    where
+      of_window : (is : List Item) → IsIn l (window_rows b a pool p is) → IsIn q (placed_at b a (record { path = p; decl = bridge d }))
+      of_window [] h = absurd h
+      of_window (i ∷ is) (inl e) = absurd (subst (λ (x : LayoutRow). IsIn q (placed_row x)) e m)
+      of_window (i ∷ is) (inr h) = absurd h
+
+  pub rows_to_placed : (q : PlacedRegion) → IsIn q (placed_rows (layout b a)) → IsIn q (placed_regions b a)
+  rows_to_placed q m =
+      let l = from_flat_map placed_row q (layout b a) m in
+      let f = from_flat_map (pool_rows b a) l.0 (io_pool ∷ mem_pool ∷ pref_pool ∷ []) l.1 in
+      let g = each_in (λ (x : LayoutRow). (r : Row) × IsIn r b × IsRowFor b a f.0 x r.path r.decl) l.0 (pool_rows b a f.0) (has.no_others f.0) f.2 in
+      in_flat_map (placed_at b a) g.0 q b g.1 (of_rows q l.0 f.0 g.0.path g.0.decl l.2 g.2)
+
+  pub placed_to_rows : (q : PlacedRegion) → IsIn q (placed_regions b a) → IsIn q (placed_rows (layout b a))
+  placed_to_rows q m =
+      let s : Source b a q = source b a q m in
+      let row : LayoutRow = region_row b a s.row.path s.region in
+      in_flat_map placed_row row q (layout b a) (region_there b a has s.row s.decl s.region s.there s.decl_is s.declared)
+      (subst (IsIn q) (sym (row_is_placed b a s.row.path s.region)) (inl s.is))

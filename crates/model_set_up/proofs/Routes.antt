@@ -1,0 +1,310 @@
+-- Configuration cycles reach the function that the bus numbers name.
+--     Names      a bridge's registers cover a bus number exactly where the board's numbers do
+--     reached_by_names      where all bridges do so for the number of a bus, a cycle reaches the function that stands there, or none
+use Rattle.std.proofs.Common.{◌≡◌, ℕ, ◌≤◌, ◌<◌, ◌⊎◌, inl, inr, Bool, true, false, not, ◌&&◌, ◌||◌, cond, List, [], ◌∷◌, ◌++◌, length, Option, Some, None, refl, sym, ap, ap₂, ◌∙◌, subst, arith, eqb, leb, append_assoc}
+use Rattle.std.specs.Prelude.{find, map, IsTrue}
+use Rattle.std.specs.List.{list_any}
+use Rattle.std.proofs.lemmas.Bool.Decides.{nat_tests}
+use Rattle.std.specs.Option.{option_map_or}
+use Rattle.std.proofs.lemmas.Bool.{leb-true, true≢false, and_from, le-leb}
+use Rattle.lists.specs.Elements.{Each, IsIn}
+use Rattle.lists.proofs.Tests.{left_true, right_true, same_test}
+use Rattle.lists.proofs.EachLemmas.{each_map}
+use Rattle.model_board.specs.Board.{Board, Row, is_bridge, is_bridge_at, IsBoard}
+use Rattle.model_board.specs.Paths.{Part, Path, part_eq, path_eq, path_before, leads_to, parent, last_part, IsPath}
+use Rattle.model_board.specs.BusNumbers.{secondary, subordinate, bus_behind}
+use Rattle.model_board.specs.State.{BoardFunction, row_at}
+use Rattle.model_board.specs.Cycles.{is_route, takes, taker, covers, ends_in, secondary_register, subordinate_register, reached}
+use Rattle.model_board.specs.Numbering.{NumbersLead}
+use Rattle.model_set_up.specs.Reach.{HasNumbers, ReachedByNumbers, address_of}
+use Rattle.lists.proofs.Members.{each_in, in_map, from_map, any_in, from_any}
+use Rattle.model_registers.proofs.RegisterFiles.{self}
+use Rattle.model_board.proofs.PathOrder.{part_same, path_same, part_self}
+use Rattle.model_board.proofs.PathEnds.{path_self, snoc, parent_snoc, snoc_some}
+use Rattle.model_set_up.proofs.Partings.{BridgeAt, bridge_at, bridge_above, leads_down}
+use Rattle.model_board.proofs.PlacesLaw.{path_total}
+use Rattle.model_board.proofs.BusNumbers.{numbering}
+
+-- ---- find
+
+pub found : {A : Type 0} (t : A → Bool) (xs : List A) → list_any t xs ≡ true → (f : A) × (find t xs ≡ Some f) × IsIn f xs × (t f ≡ true)
+found t [] h = cc
+found {A} t (x ∷ xs) h = by_test (t x) refl h (found t xs)
+  where
+    later : (f : A) × (find t xs ≡ Some f) × IsIn f xs × (t f ≡ true) → (f : A) × (find t xs ≡ Some f) × IsIn f (x ∷ xs) × (t f ≡ true)
+    later (f, e, m, k) = (f, e, inr m, k)
+
+    by_test : (c : Bool) → t x ≡ c → (c || list_any t xs) ≡ true → (list_any t xs ≡ true → (f : A) × (find t xs ≡ Some f) × IsIn f xs × (t f ≡ true))
+        → (f : A) × (cond c (Some x) (find t xs) ≡ Some f) × IsIn f (x ∷ xs) × (t f ≡ true)
+    by_test true e k more = (x, refl, inl refl, e)
+    by_test false e k more = later (more k)
+
+find_same : {A : Type 0} (s t : A → Bool) → ((x : A) → s x ≡ t x) → (xs : List A) → find s xs ≡ find t xs
+find_same s t h [] = refl
+find_same s t h (x ∷ xs) = ap₂ (λ c o. cond c (Some x) o) (h x) (find_same s t h xs)
+
+-- ---- paths
+
+-- a path that begins as another and is at it or above it names the other's next part
+next_leads : (above : Path) (x p : Part) (rest : Path) → leads_to (above ++ x ∷ []) (above ++ p ∷ rest) ≡ true → part_eq x p ≡ true
+next_leads [] x p rest h = left_true (part_eq x p) (leads_to [] rest) h
+next_leads (a ∷ above) x p rest h = next_leads above x p rest (right_true (part_eq a a) (leads_to (above ++ x ∷ []) (above ++ p ∷ rest)) h)
+
+next_equal : (above : Path) (x p : Part) (rest : Path) → path_eq (above ++ x ∷ []) (above ++ p ∷ rest) ≡ true → part_eq x p ≡ true
+next_equal [] x p rest h = left_true (part_eq x p) (path_eq [] rest) h
+next_equal (a ∷ above) x p rest h = next_equal above x p rest (right_true (part_eq a a) (path_eq (above ++ x ∷ []) (above ++ p ∷ rest)) h)
+
+positive : (n : ℕ) → 0 < n → eqb n 0 ≡ false
+positive n h = grind (arith, nat_tests)
+
+differs : (m n : ℕ) → m < n → eqb m n ≡ false
+differs m n h = grind (arith, nat_tests)
+
+-- ---- at most one route, in any register state
+
+flags : (c e d : Bool) → cond c e (not e) ≡ true → cond c d (not d) ≡ true → e ≡ d
+flags true e d h k = h ∙ sym k
+flags false true d h k = cc
+flags false false true h k = cc
+flags false false false h k = refl
+
+one_taker : (o : Option BoardFunction) (above : Path) (n : ℕ) (p q : Part) (e d : Bool)
+    → option_map_or (λ (f : BoardFunction). path_eq f.path (above ++ p ∷ []) && cond (eqb (secondary_register f.file) n) e (not e)) o false ≡ true
+    → option_map_or (λ (f : BoardFunction). path_eq f.path (above ++ q ∷ []) && cond (eqb (secondary_register f.file) n) d (not d)) o false ≡ true
+    → (p ≡ q) × (e ≡ d)
+one_taker None above n p q e d h k = cc
+one_taker (Some f) above n p q e d h k =
+    let c : Bool = eqb (secondary_register f.file) n in
+    let at_p : f.path ≡ above ++ p ∷ [] = path_same f.path (above ++ p ∷ []) (left_true (path_eq f.path (above ++ p ∷ [])) (cond c e (not e)) h) in
+    let at_q : path_eq f.path (above ++ q ∷ []) ≡ true = left_true (path_eq f.path (above ++ q ∷ [])) (cond c d (not d)) k in (
+      part_same p q (next_equal above p q [] (subst (λ (x : Path). path_eq x (above ++ q ∷ []) ≡ true) at_p at_q)),
+      flags c e d (right_true (path_eq f.path (above ++ p ∷ [])) (cond c e (not e)) h) (right_true (path_eq f.path (above ++ q ∷ [])) (cond c d (not d)) k),
+    )
+
+module _ (fs : List BoardFunction) (n : ℕ) (t : Part) where
+  pub one_route : (p q above : Path) → is_route fs n above p ≡ true → is_route fs n above q ≡ true → ends_in p t ≡ true → ends_in q t ≡ true → p ≡ q
+  one_route [] q above h k e d = cc
+  one_route (a ∷ []) q above h k e d = cc
+  one_route (a ∷ c ∷ []) [] above h k e d = cc
+  one_route (a ∷ c ∷ []) (x ∷ []) above h k e d = cc
+  one_route (a ∷ c ∷ []) (x ∷ y ∷ []) above h k e d =
+      let s = one_taker (taker fs above n) above n a x true true h k in
+      ap₂ (λ (u v : Part). u ∷ v ∷ []) s.0 (part_same c t e ∙ sym (part_same y t d))
+  one_route (a ∷ c ∷ []) (x ∷ y ∷ z ∷ q) above h k e d =
+      let s = one_taker (taker fs above n) above n a x true false h (left_true (takes fs above n x false) (is_route fs n (above ++ x ∷ []) (y ∷ z ∷ q)) k) in
+      absurd (true≢false s.1)
+  one_route (a ∷ c ∷ b ∷ p) [] above h k e d = cc
+  one_route (a ∷ c ∷ b ∷ p) (x ∷ []) above h k e d = cc
+  one_route (a ∷ c ∷ b ∷ p) (x ∷ y ∷ []) above h k e d =
+      let s = one_taker (taker fs above n) above n a x false true (left_true (takes fs above n a false) (is_route fs n (above ++ a ∷ []) (c ∷ b ∷ p)) h) k in
+      absurd (true≢false (sym s.1))
+  one_route (a ∷ c ∷ b ∷ p) (x ∷ y ∷ z ∷ q) above h k e d =
+      let s = one_taker (taker fs above n) above n a x false false (left_true (takes fs above n a false) (is_route fs n (above ++ a ∷ []) (c ∷ b ∷ p)) h) (left_true (takes fs above n x false) (is_route fs n (above ++ x ∷ []) (y ∷ z ∷ q)) k) in
+      let below : is_route fs n (above ++ a ∷ []) (y ∷ z ∷ q) ≡ true =
+      subst (λ (u : Part). is_route fs n (above ++ u ∷ []) (y ∷ z ∷ q) ≡ true) (sym s.0) (right_true (takes fs above n x false) (is_route fs n (above ++ x ∷ []) (y ∷ z ∷ q)) k) in
+      ap₂ (λ (u : Part) (r : Path). u ∷ r) s.0 (one_route (c ∷ b ∷ p) (y ∷ z ∷ q) (above ++ a ∷ []) (right_true (takes fs above n a false) (is_route fs n (above ++ a ∷ []) (c ∷ b ∷ p)) h) below e d)
+
+-- ---- bridges of the board
+
+-- the registers of a bridge cover n exactly where the board's numbers do, and then its Secondary is the board's
+pub record Names (b : Board) (n : ℕ) (f : BoardFunction) : Type 0 where
+  pub covers_when : secondary b f.path ≤ n → n ≤ subordinate b f.path → covers n f ≡ true
+  pub covered : covers n f ≡ true → (secondary b f.path ≤ n) × (n ≤ subordinate b f.path) × (secondary_register f.file ≡ secondary b f.path)
+
+module _ (b : Board) (lawful : IsBoard b) (fs : List BoardFunction) (rows : map row_at fs ≡ b) where
+  row_in : (f : BoardFunction) → IsIn f fs → IsIn (row_at f) b
+  row_in f m = subst (λ (c : Board). IsIn (row_at f) c) rows (in_map row_at f fs m)
+
+  pub bridge_of : (f : BoardFunction) → IsIn f fs → is_bridge f.decl ≡ true → is_bridge_at b f.path ≡ true
+  bridge_of f m k = any_in (λ (r : Row). is_bridge r.decl && path_eq r.path f.path) (row_at f) b (row_in f m) (and_from (is_bridge f.decl) (path_eq f.path f.path) k (path_self f.path))
+
+  pub function_of : (r : Row) → IsIn r b → (f : BoardFunction) × IsIn f fs × (row_at f ≡ r)
+  function_of r m = turned (from_map row_at r fs (subst (λ (c : Board). IsIn r c) (sym rows) m))
+    where
+      turned : (f : BoardFunction) × IsIn f fs × (r ≡ row_at f) → (f : BoardFunction) × IsIn f fs × (row_at f ≡ r)
+      turned (f, l, e) = (f, l, sym e)
+
+  module _ (target : Path) (is_target : is_bridge_at b target ≡ true) (names : Each (λ f. IsTrue (is_bridge f.decl) → Names b (secondary b target) f) fs) where
+    abbrev goal : ℕ
+    goal = secondary b target
+
+    named : (f : BoardFunction) → IsIn f fs → is_bridge f.decl ≡ true → Names b goal f
+    named f m k = each_in (λ (g : BoardFunction). IsTrue (is_bridge g.decl) → Names b goal g) f fs names m k
+
+    -- a bridge whose numbers cover the target's is the target or leads to it
+    over : (p : Path) → is_bridge_at b p ≡ true → secondary b p ≤ goal → goal ≤ subordinate b p → (path_eq p target ≡ true) ⊎ (leads_to p target ≡ true)
+    over p h low high = by_equal (path_eq p target) refl
+      where
+        numbers : NumbersLead b p target
+        numbers = numbering b lawful p target h is_target
+
+        by_leads : (t u : Bool) → leads_to p target ≡ t → path_before p target ≡ u → path_eq p target ≡ false → (path_eq p target ≡ true) ⊎ (leads_to p target ≡ true)
+        by_leads true u e k d = inr e
+        by_leads false true e k d = absurd (omega (arith, numbers.later k e))
+        by_leads false false e k d = absurd (omega (arith, numbers.earlier (path_total p target k d)))
+
+        by_equal : (t : Bool) → path_eq p target ≡ t → (path_eq p target ≡ true) ⊎ (leads_to p target ≡ true)
+        by_equal true e = inl e
+        by_equal false e = by_leads (leads_to p target) (path_before p target) refl refl e
+
+    -- each beginning of the target is a bridge's path
+    bridge_on_way : (above : Path) (p : Part) (rest : Path) → target ≡ above ++ p ∷ rest → BridgeAt b lawful (above ++ p ∷ [])
+    bridge_on_way above p [] e = bridge_at b lawful (above ++ p ∷ []) (subst (λ (x : Path). is_bridge_at b x ≡ true) e is_target)
+    bridge_on_way above p (q ∷ rest) e =
+        let t = bridge_at b lawful target is_target in
+        bridge_above b lawful t.0 (above ++ p ∷ []) t.1 (subst (λ (x : Path). leads_to (above ++ p ∷ []) x ≡ true) (sym (t.3 ∙ e)) (leads_down above p q rest)) (snoc_some above p)
+
+    stands_on_way : (above : Path) (p : Part) (rest : Path) → target ≡ above ++ p ∷ rest → (f : BoardFunction) × IsIn f fs × (is_bridge f.decl ≡ true) × (f.path ≡ above ++ p ∷ [])
+    stands_on_way above p rest e =
+        let t = bridge_on_way above p rest e in
+        let f = function_of t.0 t.1 in
+        (f.0, f.1, ap (λ (r : Row). is_bridge r.decl) f.2 ∙ t.2, ap (λ (r : Row). r.path) f.2 ∙ t.3)
+
+    covering : (above : Path) (p : Part) (rest : Path) → target ≡ above ++ p ∷ rest → is_bridge_at b (above ++ p ∷ []) ≡ true
+        → (secondary b (above ++ p ∷ []) ≤ goal) × (goal ≤ subordinate b (above ++ p ∷ []))
+    covering above p [] e h = subst (λ (x : Path). (secondary b x ≤ goal) × (goal ≤ subordinate b x)) e (omega arith, omega arith)
+    covering above p (q ∷ rest) e h =
+        let leads : leads_to (above ++ p ∷ []) target ≡ true = subst (λ (x : Path). leads_to (above ++ p ∷ []) x ≡ true) (sym e) (leads_down above p q rest) in
+        let i = (numbering b lawful (above ++ p ∷ []) target h is_target).inside leads in
+        (omega (arith, i.0), i.1)
+
+    abbrev test_on : Path → BoardFunction → Bool
+    test_on above f = path_eq (parent f.path) above && covers goal f
+
+    -- the bridge that takes a cycle for the target's bus on the bus above is the next one on the way
+    abbrev Taken : Path → Part → Type 0
+    Taken above p = (f : BoardFunction) × (taker fs above goal ≡ Some f) × (f.path ≡ above ++ p ∷ []) × (secondary_register f.file ≡ secondary b (above ++ p ∷ []))
+
+    passes : (above : Path) (p : Part) (rest : Path) → target ≡ above ++ p ∷ rest → list_any (test_on above) fs ≡ true
+    passes above p rest e =
+        let g = stands_on_way above p rest e in
+        let h : is_bridge_at b (above ++ p ∷ []) ≡ true = subst (λ (x : Path). is_bridge_at b x ≡ true) g.3 (bridge_of g.0 g.1 g.2) in
+        let cover = subst (λ (x : Path). (secondary b x ≤ goal) × (goal ≤ subordinate b x)) (sym g.3) (covering above p rest e h) in
+        let parent_is : path_eq (parent g.0.path) above ≡ true = ap (λ (x : Path). path_eq x above) (ap parent g.3 ∙ parent_snoc above p) ∙ path_self above in
+        any_in (test_on above) g.0 fs g.1 (and_from (path_eq (parent g.0.path) above) (covers goal g.0) parent_is ((named g.0 g.1 g.2).covers_when cover.0 cover.1))
+
+    next_part : (above : Path) (x p : Part) (rest : Path) → (path_eq (above ++ x ∷ []) (above ++ p ∷ rest) ≡ true) ⊎ (leads_to (above ++ x ∷ []) (above ++ p ∷ rest) ≡ true) → x ≡ p
+    next_part above x p rest (inl e) = part_same x p (next_equal above x p rest e)
+    next_part above x p rest (inr e) = part_same x p (next_leads above x p rest e)
+
+    taken : (above : Path) (p : Part) (rest : Path) → target ≡ above ++ p ∷ rest → Taken above p
+    taken above p rest e =
+        let f = found (test_on above) fs (passes above p rest e) in
+        let parent_is : parent f.0.path ≡ above = path_same (parent f.0.path) above (left_true (path_eq (parent f.0.path) above) (covers goal f.0) f.3) in
+        let cover : covers goal f.0 ≡ true = right_true (path_eq (parent f.0.path) above) (covers goal f.0) f.3 in
+        let low : (is_bridge f.0.decl && leb (secondary_register f.0.file) goal) ≡ true = left_true (is_bridge f.0.decl && leb (secondary_register f.0.file) goal) (leb goal (subordinate_register f.0.file)) cover in
+        let bridge_is : is_bridge f.0.decl ≡ true = left_true (is_bridge f.0.decl) (leb (secondary_register f.0.file) goal) low in
+        let numbers = (named f.0 f.2 bridge_is).covered cover in
+        let path_some : 0 < length f.0.path = (each_in (λ (r : Row). IsPath r.path) (row_at f.0) b lawful.paths (row_in f.0 f.2)).some in
+        let split : f.0.path ≡ above ++ last_part f.0.path ∷ [] = snoc f.0.path path_some ∙ ap (λ (x : Path). x ++ last_part f.0.path ∷ []) parent_is in
+        let is_over = subst (λ (x : Path). (path_eq x (above ++ p ∷ rest) ≡ true) ⊎ (leads_to x (above ++ p ∷ rest) ≡ true)) split
+        (subst (λ (x : Path). (path_eq f.0.path x ≡ true) ⊎ (leads_to f.0.path x ≡ true)) e (over f.0.path (bridge_of f.0 f.2 bridge_is) numbers.0 numbers.1)) in
+        let path_is : f.0.path ≡ above ++ p ∷ [] = split ∙ ap (λ (x : Part). above ++ x ∷ []) (next_part above (last_part f.0.path) p rest is_over) in
+        (f.0, f.1, path_is, numbers.2 ∙ ap (secondary b) path_is)
+
+    -- ---- the route
+
+    takes_by : (above : Path) (p : Part) (ends : Bool) → (t : Taken above p) → cond (eqb (secondary b (above ++ p ∷ [])) goal) ends (not ends) ≡ true → takes fs above goal p ends ≡ true
+    takes_by above p ends (f, e, path_is, number_is) k =
+        let here : path_eq f.path (above ++ p ∷ []) ≡ true = ap (λ (x : Path). path_eq x (above ++ p ∷ [])) path_is ∙ path_self (above ++ p ∷ []) in
+        rw (e, here, number_is, k)
+
+    moved : (above : Path) (p : Part) (rest : Path) → above ++ p ∷ rest ≡ (above ++ p ∷ []) ++ rest
+    moved above p rest = sym (append_assoc above (p ∷ []) rest)
+
+    takes_last : (above : Path) (p : Part) → target ≡ above ++ p ∷ [] → takes fs above goal p true ≡ true
+    takes_last above p e =
+        let here : eqb (secondary b (above ++ p ∷ [])) goal ≡ true = ap (λ (x : Path). eqb (secondary b x) goal) (sym e) ∙ self goal in
+        takes_by above p true (taken above p [] e) (rw here)
+
+    takes_next : (above : Path) (p q : Part) (rest : Path) → target ≡ above ++ p ∷ q ∷ rest → takes fs above goal p false ≡ true
+    takes_next above p q rest e =
+        let g = stands_on_way above p (q ∷ rest) e in
+        let h : is_bridge_at b (above ++ p ∷ []) ≡ true = subst (λ (x : Path). is_bridge_at b x ≡ true) g.3 (bridge_of g.0 g.1 g.2) in
+        let leads : leads_to (above ++ p ∷ []) target ≡ true = subst (λ (x : Path). leads_to (above ++ p ∷ []) x ≡ true) (sym e) (leads_down above p q rest) in
+        let other : eqb (secondary b (above ++ p ∷ [])) goal ≡ false = differs (secondary b (above ++ p ∷ [])) goal ((numbering b lawful (above ++ p ∷ []) target h is_target).inside leads).0 in
+        takes_by above p false (taken above p (q ∷ rest) e) (rw other)
+
+    route : (rs : Path) (p t : Part) (above : Path) → target ≡ above ++ p ∷ rs → is_route fs goal above (p ∷ rs ++ t ∷ []) ≡ true
+    route [] p t above e = takes_last above p e
+    route (s ∷ rs) p t above e = two_parts rs (takes_next above p s rs e) (route rs s t (above ++ p ∷ []) (e ∙ moved above p (s ∷ rs)))
+      where
+        two_parts : (ts : Path) → takes fs above goal p false ≡ true → is_route fs goal (above ++ p ∷ []) (s ∷ ts ++ t ∷ []) ≡ true → is_route fs goal above (p ∷ s ∷ ts ++ t ∷ []) ≡ true
+        two_parts [] h k = and_from (takes fs above goal p false) (is_route fs goal (above ++ p ∷ []) (s ∷ t ∷ [])) h k
+        two_parts (u ∷ ts) h k = and_from (takes fs above goal p false) (is_route fs goal (above ++ p ∷ []) (s ∷ u ∷ ts ++ t ∷ [])) h k
+
+    ends_last : (p : Path) (q : Part) → ends_in (p ++ q ∷ []) q ≡ true
+    ends_last [] q = part_self q
+    ends_last (a ∷ []) q = part_self q
+    ends_last (a ∷ c ∷ p) q = ends_last (c ∷ p) q
+
+    -- a cycle for the target's bus goes to no other place
+    only_there : (a : Part) (rs : Path) → target ≡ a ∷ rs → (t : Part) (x : Path) → (ends_in x t && is_route fs goal [] x) ≡ path_eq x (target ++ t ∷ [])
+    only_there a rs e t x = same_test (ends_in x t && is_route fs goal [] x) (path_eq x (target ++ t ∷ [])) arrives goes
+      where
+        way : is_route fs goal [] (target ++ t ∷ []) ≡ true
+        way = subst (λ (y : Path). is_route fs goal [] (y ++ t ∷ []) ≡ true) (sym e) (route rs a t [] e)
+
+        arrives : (ends_in x t && is_route fs goal [] x) ≡ true → path_eq x (target ++ t ∷ []) ≡ true
+        arrives h =
+            let there : x ≡ target ++ t ∷ [] = one_route fs goal t x (target ++ t ∷ []) [] (right_true (ends_in x t) (is_route fs goal [] x) h) way (left_true (ends_in x t) (is_route fs goal [] x) h) (ends_last target t) in
+            ap (λ (y : Path). path_eq y (target ++ t ∷ [])) there ∙ path_self (target ++ t ∷ [])
+
+        goes : path_eq x (target ++ t ∷ []) ≡ true → (ends_in x t && is_route fs goal [] x) ≡ true
+        goes h =
+            subst (λ (y : Path). (ends_in y t && is_route fs goal [] y) ≡ true) (sym (path_same x (target ++ t ∷ []) h))
+            (and_from (ends_in (target ++ t ∷ []) t) (is_route fs goal [] (target ++ t ∷ [])) (ends_last target t) way)
+
+-- ---- the function that the numbers name
+
+pub reached_by_names : (b : Board) (lawful : IsBoard b) (fs : List BoardFunction) (rows : map row_at fs ≡ b) (bus : Path) → (bus ≡ []) ⊎ IsTrue (is_bridge_at b bus)
+    → Each (λ f. IsTrue (is_bridge f.decl) → Names b (bus_behind b bus) f) fs → (t : Part)
+    → reached fs (record { bus = bus_behind b bus; part = t }) ≡ find (λ f. path_eq f.path (bus ++ t ∷ [])) fs
+reached_by_names b lawful fs rows [] there names t = refl
+reached_by_names b lawful fs rows (a ∷ rs) (inl none) names t = cc
+reached_by_names b lawful fs rows (a ∷ rs) (inr there) names t =
+    let not_zero : eqb (secondary b (a ∷ rs)) 0 ≡ false = positive (secondary b (a ∷ rs)) (omega arith) in
+    rw not_zero (find_same (λ (f : BoardFunction). ends_in f.path t && is_route fs (secondary b (a ∷ rs)) [] f.path) (λ (f : BoardFunction). path_eq f.path (a ∷ rs ++ t ∷ []))
+    (λ f. only_there b lawful fs rows (a ∷ rs) there names a rs refl t f.path) fs)
+
+-- a bridge that holds the numbers c and d covers what lies between them
+pub covers_between : (n c d : ℕ) (f : BoardFunction) → is_bridge f.decl ≡ true → secondary_register f.file ≡ c → subordinate_register f.file ≡ d → c ≤ n → n ≤ d → covers n f ≡ true
+covers_between n c d f k low high h g =
+    and_from (is_bridge f.decl && leb (secondary_register f.file) n) (leb n (subordinate_register f.file))
+    (and_from (is_bridge f.decl) (leb (secondary_register f.file) n) k (rw low (le-leb c n h))) (rw high (le-leb n d g))
+
+pub between_covers : (n : ℕ) (f : BoardFunction) → covers n f ≡ true → (secondary_register f.file ≤ n) × (n ≤ subordinate_register f.file)
+between_covers n f h =
+    let low : (is_bridge f.decl && leb (secondary_register f.file) n) ≡ true = left_true (is_bridge f.decl && leb (secondary_register f.file) n) (leb n (subordinate_register f.file)) h in (
+      leb-true (secondary_register f.file) n (right_true (is_bridge f.decl) (leb (secondary_register f.file) n) low),
+      leb-true n (subordinate_register f.file) (right_true (is_bridge f.decl && leb (secondary_register f.file) n) (leb n (subordinate_register f.file)) h),
+    )
+
+abbrev pub HoldsNumbers : Board → BoardFunction → Type 0
+HoldsNumbers b f = (secondary_register f.file ≡ secondary b f.path) × (subordinate_register f.file ≡ subordinate b f.path)
+
+pub names_of : (b : Board) (n : ℕ) (f : BoardFunction) → is_bridge f.decl ≡ true → HoldsNumbers b f → Names b n f
+names_of b n f k h = record {
+  covers_when = λ low high. covers_between n (secondary b f.path) (subordinate b f.path) f k h.0 h.1 low high;
+  covered = λ c. let within = between_covers n f c in (subst (λ m. m ≤ n) h.0 within.0, subst (λ m. n ≤ m) h.1 within.1, h.0);
+}
+
+board_names : (b : Board) (fs : List BoardFunction) → HasNumbers b fs → (n : ℕ) → Each (λ f. IsTrue (is_bridge f.decl) → Names b n f) fs
+board_names b fs has n = each_map (λ f. IsTrue (is_bridge f.decl) → HoldsNumbers b f) (λ f. IsTrue (is_bridge f.decl) → Names b n f) fs (λ f h k. names_of b n f k (h k)) has.numbers
+
+pub reached_by_numbers : ReachedByNumbers
+reached_by_numbers b lawful fs has p h =
+    let r = from_any (λ (s : Row). path_eq s.path p) b h in
+    let at : r.0.path ≡ p = path_same r.0.path p r.2 in
+    let some : 0 < length p = subst (λ (x : Path). 0 < length x) at (each_in (λ (s : Row). IsPath s.path) r.0 b lawful.paths r.1).some in
+    let split : p ≡ parent p ++ last_part p ∷ [] = snoc p some in
+    let bus : (parent p ≡ []) ⊎ IsTrue (is_bridge_at b (parent p)) =
+    subst (λ (x : Path). (parent x ≡ []) ⊎ IsTrue (is_bridge_at b (parent x))) at (each_in (λ (s : Row). (parent s.path ≡ []) ⊎ IsTrue (is_bridge_at b (parent s.path))) r.0 b lawful.behind_bridges r.1) in
+    let reach : reached fs (address_of b p) ≡ find (λ f. path_eq f.path (parent p ++ last_part p ∷ [])) fs =
+    reached_by_names b lawful fs has.rows (parent p) bus (board_names b fs has (bus_behind b (parent p))) (last_part p) in
+    let there : (x : BoardFunction) × IsIn x fs × (row_at x ≡ r.0) = function_of b lawful fs has.rows r.0 r.1 in
+    let path_is : there.0.path ≡ parent p ++ last_part p ∷ [] = ap (λ (s : Row). s.path) there.2 ∙ at ∙ split in
+    let f = found (λ (g : BoardFunction). path_eq g.path (parent p ++ last_part p ∷ [])) fs
+    (any_in (λ (g : BoardFunction). path_eq g.path (parent p ++ last_part p ∷ [])) there.0 fs there.1
+    (ap (λ (x : Path). path_eq x (parent p ++ last_part p ∷ [])) path_is ∙ path_self (parent p ++ last_part p ∷ []))) in
+    (f.0, reach ∙ f.1, path_same f.0.path (parent p ++ last_part p ∷ []) f.3 ∙ sym split)

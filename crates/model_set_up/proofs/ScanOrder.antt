@@ -1,0 +1,293 @@
+-- A scan meets the functions in path order, and gives bus numbers in it.
+use Rattle.std.proofs.Common.{◌≡◌, ℕ, ◌+◌, ◌*◌, ◌/◌, ◌%◌, ◌≤◌, ◌<◌, ◌⊎◌, inl, inr, Bool, true, false, ◌&&◌, ◌||◌, not, cond, List, [], ◌∷◌, ◌++◌, append_assoc, length, zero-add, refl, sym, ap, ap₂, ◌∙◌, subst, arith, eqb}
+use Rattle.std.specs.Prelude.{filter, count_by, nat_le, nat_lt, IsTrue}
+use Rattle.std.proofs.lemmas.Bool.Decides.{nat_tests}
+use Rattle.std.proofs.lemmas.List.Sums.{sum_by-cons}
+use Rattle.std.proofs.lemmas.Bool.{false_from_ne_true, or_right}
+use Rattle.lists.specs.Elements.{Each, EachPair, IsIn}
+use Rattle.model_board.specs.Paths.{Part, Path, part_eq, path_eq, path_before, leads_to, IsPath}
+use Rattle.model_board.specs.Board.{Board, Row, is_bridge, is_bridge_at, stands_at, is_multifunction, IsBoard}
+use Rattle.model_set_up.specs.Scanning.{no_numbers, board_numbers, open_numbers}
+use Rattle.model_set_up.specs.ScanOrder.{nth_part, on, next_part, met, MeetsInPathOrder, GivesNumbersInPathOrder, ScanMeetsInPathOrder, ScanGivesNumbersInPathOrder}
+use Rattle.lists.proofs.Members.{each_in, any_in, none_pass, filter_same}
+use Rattle.lists.proofs.Tests.{same_test}
+use Rattle.model_board.proofs.PathOrder.{one, exclusive, part_same, path_same, part_self}
+use Rattle.model_board.proofs.PathEnds.{path_self, length_snoc, not_before_itself, leads_longer, snoc_some}
+use Rattle.model_set_up.proofs.Partings.{one_row, bridge_at, bridge_above}
+use Rattle.model_board.proofs.BusNumbers.{bridges, bridges-cons, at, counted, counted_once}
+use Rattle.model_set_up.proofs.Scanning.{goes_before}
+use Rattle.model_set_up.proofs.ScanParts.{before_first, before_last, before_later, leads_place, is_between, none_passed, row_path}
+
+-- ---- filters
+
+filter_all : {A : Type 0} (p : A → Bool) (xs : List A) → ((x : A) → IsIn x xs → p x ≡ true) → filter p xs ≡ xs
+filter_all p [] h = refl
+filter_all p (x ∷ xs) h = let here : p x ≡ true = h x (inl refl) in rw here (ap (λ ys. x ∷ ys) (filter_all p xs (λ y m. h y (inr m))))
+
+-- where a test passes what stands before x, another that passes x too adds x
+filter_adds : {A : Type 0} (p q : A → Bool) (R : A → A → Type 0) (x : A) (xs : List A) → EachPair R xs → ((y : A) → R y x → (p y ≡ true) × (q y ≡ true)) → ((y : A) → R x y → (p y ≡ false) × (q y ≡ false))
+    → p x ≡ false → q x ≡ true → IsIn x xs → filter q xs ≡ filter p xs ++ x ∷ []
+filter_adds p q R x [] h before after fails passes m = absurd m
+filter_adds {A} p q R x (y ∷ ys) h before after fails passes (inl e) =
+    let later : (z : A) → IsIn z ys → R x z = λ z k. subst (λ w. R w z) (sym e) (each_in (R y) z ys h.0 k) in
+    let old : p y ≡ false = sym (ap p e) ∙ fails in
+    let new : q y ≡ true = sym (ap q e) ∙ passes in
+    rw (old, new, none_pass p ys (λ z k. (after z (later z k)).0), none_pass q ys (λ z k. (after z (later z k)).1)) (ap (λ w. w ∷ []) (sym e))
+filter_adds p q R x (y ∷ ys) h before after fails passes (inr m) =
+    let both = before y (each_in (R y) x ys h.0 m) in
+    rw (both.0, both.1) (ap (λ zs. y ∷ zs) (filter_adds p q R x ys h.1 before after fails passes m))
+
+or_false : (s t : Bool) → t ≡ false → (s || t) ≡ s
+or_false true t h = refl
+or_false false t h = h
+
+module _ (b : Board) (lawful : IsBoard b) where
+  -- ---- functions
+
+  -- the functions before a part are those before a function, and that one
+  met_adds : (r : Row) → IsIn r b → (here : Path) → ((y : Row) → IsIn y b → path_before y.path here ≡ (path_before y.path r.path || path_eq y.path r.path)) → met b here ≡ met b r.path ++ r ∷ []
+  met_adds r m here h =
+      filter_same (λ y. path_before y.path here) (λ y. path_before y.path r.path || path_eq y.path r.path) b h
+      ∙ filter_adds (λ y. path_before y.path r.path) (λ y. path_before y.path r.path || path_eq y.path r.path) (λ y z. IsTrue (path_before y.path z.path)) r b lawful.in_order
+      (λ y k. (k, rw k)) (λ y k. (not_back y k, rw (not_back y k) (not_same y k)))
+      (false_from_ne_true (path_before r.path r.path) (not_before_itself r.path)) (or_right (path_before r.path r.path) (path_eq r.path r.path) (path_self r.path)) m
+    where
+      not_back : (y : Row) → path_before r.path y.path ≡ true → path_before y.path r.path ≡ false
+      not_back y k = false_from_ne_true (path_before y.path r.path) (λ l. not_before_itself r.path (goes_before r.path y.path r.path k l))
+
+      not_same : (y : Row) → path_before r.path y.path ≡ true → path_eq y.path r.path ≡ false
+      not_same y k = false_from_ne_true (path_eq y.path r.path) (λ e. not_before_itself r.path (subst (λ (x : Path). path_before r.path x ≡ true) (path_same y.path r.path e) k))
+
+  met_same : (from to : Path) → ((y : Row) → IsIn y b → path_before y.path to ≡ path_before y.path from) → met b to ≡ met b from
+  met_same from to h = filter_same (λ y. path_before y.path to) (λ y. path_before y.path from) b h
+
+  not_none : (y : Row) → IsIn y b → (path_before y.path [] || path_eq y.path []) ≡ false
+  not_none y m = by_path y.path (row_path b lawful y m).some
+    where
+      by_path : (x : Path) → 0 < length x → (path_before x [] || path_eq x []) ≡ false
+      by_path [] h = absurd (omega arith)
+      by_path (u ∷ x) h = refl
+
+  some_before_end : (x : Path) → (path_before x [] || path_eq x [] || leads_to [] x) ≡ true
+  some_before_end [] = refl
+  some_before_end (u ∷ x) = refl
+
+  -- ---- parts of a bus
+
+  next_later : (bus : Path) (n : ℕ) → n < next_part b bus n
+  next_later bus n = by_test (eqb (n % 8) 0 && not (stands_at b (on bus n) && is_multifunction b (on bus n)))
+    where
+      by_test : (t : Bool) → n < cond t (n + 8) (n + 1)
+      by_test true = omega arith
+      by_test false = omega arith
+
+  before_next : (bus : Path) (n : ℕ) (y : Row) → IsIn y b → path_before y.path (on bus (next_part b bus n)) ≡ (path_before y.path (on bus n) || is_between bus n (next_part b bus n) y.path)
+  before_next bus n y m = before_later y.path bus n (next_part b bus n) (omega (arith, next_later bus n)) (row_path b lawful y m).parts
+
+  -- what stands at a part or behind it is within that part and the next
+  self_within : (bus : Path) (n m : ℕ) → n < m → (rest : Path) → is_between bus n m (bus ++ nth_part n ∷ rest) ≡ true
+  self_within [] n m h rest = in_range (8 * (n / 8) + n % 8) (omega arith)
+    where
+      in_range : (k : ℕ) → k ≡ n → (nat_le n k && nat_lt k m) ≡ true
+      in_range k e = grind (arith, nat_tests)
+  self_within (a ∷ bus) n m h rest = rw (part_self a) (self_within bus n m h rest)
+
+  -- what is at a path or behind it goes on from there
+  goes_on : (p x : Path) → (path_eq x p || leads_to p x) ≡ true → (rest : Path) × (x ≡ p ++ rest)
+  goes_on [] [] h = ([], refl)
+  goes_on [] (u ∷ x) h = (u ∷ x, refl)
+  goes_on (a ∷ p) [] h = cc
+  goes_on (a ∷ p) (u ∷ x) h = by_part (part_eq u a) refl h (goes_on p x)
+    where
+      part_eq-sym : (c d : Part) → part_eq c d ≡ part_eq d c
+      part_eq-sym c d = grind (arith, nat_tests)
+
+      longer : u ≡ a → (rest : Path) × (x ≡ p ++ rest) → (rest : Path) × (u ∷ x ≡ a ∷ p ++ rest)
+      longer same (rest, e) = (rest, ap₂ ◌∷◌ same e)
+
+      by_part : (t : Bool) → part_eq u a ≡ t → ((part_eq u a && path_eq x p) || (part_eq a u && leads_to p x)) ≡ true → ((path_eq x p || leads_to p x) ≡ true → (rest : Path) × (x ≡ p ++ rest)) → (rest : Path) × (u ∷ x ≡ a ∷ p ++ rest)
+      by_part true e k more = longer (part_same u a e) (more (rw (e, part_eq-sym a u, e) at k))
+      by_part false e k more = let bad : false ≡ true = rw (e, part_eq-sym a u, e) at k in cc
+
+  -- the functions that are met from a part to the next are those at it and behind it
+  passed : (bus : Path) (n : ℕ) (y : Row) → IsIn y b → is_between bus n (next_part b bus n) y.path ≡ (path_eq y.path (on bus n) || leads_to (on bus n) y.path)
+  passed bus n y m = same_test (is_between bus n (next_part b bus n) y.path) (path_eq y.path (on bus n) || leads_to (on bus n) y.path) (λ h. either (none_passed b lawful bus n y m h)) stays
+    where
+      either : (path_eq y.path (on bus n) ≡ true) ⊎ (leads_to (on bus n) y.path ≡ true) → (path_eq y.path (on bus n) || leads_to (on bus n) y.path) ≡ true
+      either (inl e) = rw e
+      either (inr l) = or_right (path_eq y.path (on bus n)) (leads_to (on bus n) y.path) l
+
+      stays : (path_eq y.path (on bus n) || leads_to (on bus n) y.path) ≡ true → is_between bus n (next_part b bus n) y.path ≡ true
+      stays h =
+          let g = goes_on (on bus n) y.path h in
+          subst (λ (x : Path). is_between bus n (next_part b bus n) x ≡ true) (sym (g.1 ∙ append_assoc bus (nth_part n ∷ []) g.0)) (self_within bus n (next_part b bus n) (next_later bus n) g.0)
+
+  -- nothing stands behind what is no bridge
+  none_behind : (p : Path) → 0 < length p → is_bridge_at b p ≡ false → (y : Row) → IsIn y b → leads_to p y.path ≡ false
+  none_behind p some h y m = false_from_ne_true (leads_to p y.path) (λ l. absurd_by (bridge_above b lawful y p m l some))
+    where
+      absurd_by : (r : Row) × IsIn r b × (is_bridge r.decl ≡ true) × (r.path ≡ p) → ⊥
+      absurd_by (r, k, is, e) =
+          let there : is_bridge_at b p ≡ true = any_in (λ (s : Row). is_bridge s.decl && path_eq s.path p) r b k (rw (is, ap (λ (x : Path). path_eq x p) e) (path_self p)) in
+          let bad : true ≡ false = sym there ∙ h in
+          cc
+
+  -- a row at a path where no bridge stands is no bridge
+  met_next : (bus : Path) (n : ℕ) → is_bridge_at b (on bus n) ≡ false → (y : Row) → IsIn y b → path_before y.path (on bus (next_part b bus n)) ≡ (path_before y.path (on bus n) || path_eq y.path (on bus n))
+  met_next bus n h y m =
+      before_next bus n y m
+      ∙ ap (λ t. path_before y.path (on bus n) || t) (passed bus n y m ∙ ap (λ t. path_eq y.path (on bus n) || t) (none_behind (on bus n) (snoc_some bus (nth_part n)) h y m) ∙ or_false (path_eq y.path (on bus n)) false refl)
+
+  pub no_bridge_here : (r : Row) → IsIn r b → is_bridge r.decl ≡ false → is_bridge_at b r.path ≡ false
+  no_bridge_here r m h = false_from_ne_true (is_bridge_at b r.path) (λ t. by_row (bridge_at b lawful r.path t))
+    where
+      by_row : (s : Row) × IsIn s b × (is_bridge s.decl ≡ true) × (s.path ≡ r.path) → ⊥
+      by_row (s, k, is, e) = let bad : true ≡ false = sym is ∙ ap (λ (t : Row). is_bridge t.decl) (one_row b lawful s r k m e) ∙ h in cc
+
+  pub no_bridge_none : (p : Path) → stands_at b p ≡ false → is_bridge_at b p ≡ false
+  no_bridge_none p h = false_from_ne_true (is_bridge_at b p) (λ t. by_row (bridge_at b lawful p t))
+    where
+      by_row : (s : Row) × IsIn s b × (is_bridge s.decl ≡ true) × (s.path ≡ p) → ⊥
+      by_row (s, k, is, e) =
+          let there : stands_at b p ≡ true = any_in (λ (r : Row). path_eq r.path p) s b k (ap (λ (x : Path). path_eq x p) e ∙ path_self p) in
+          let bad : true ≡ false = sym there ∙ h in
+          cc
+
+  none_there : (p : Path) → stands_at b p ≡ false → (y : Row) → IsIn y b → path_eq y.path p ≡ false
+  none_there p h y m = false_from_ne_true (path_eq y.path p) (λ e. let bad : true ≡ false = sym (any_in (λ (r : Row). path_eq r.path p) y b m e) ∙ h in cc)
+
+  -- ---- the functions in order
+
+  meets : MeetsInPathOrder b
+  meets = record {
+    first = none_pass (λ y. path_before y.path (on [] 0)) b (λ y m. before_first y.path [] ∙ not_none y m);
+    last = filter_all (λ y. path_before y.path (on [] 128)) b (λ y m. before_last y.path [] (row_path b lawful y m).parts ∙ some_before_end y.path);
+    behind = λ r m. met_adds r m (on r.path 0) (λ y k. before_first y.path r.path);
+    endpoint = λ bus n r m e h.
+        subst (λ (x : Path). met b (on bus (next_part b bus n)) ≡ met b x ++ r ∷ []) e
+        (met_adds r m (on bus (next_part b bus n))
+        (λ y k. subst (λ (x : Path). path_before y.path (on bus (next_part b bus n)) ≡ (path_before y.path x || path_eq y.path x)) (sym e)
+        (met_next bus n (subst (λ (x : Path). is_bridge_at b x ≡ false) e (no_bridge_here r m h)) y k)));
+    none = λ bus n h. met_same (on bus n) (on bus (next_part b bus n))
+        (λ y m. met_next bus n (no_bridge_none (on bus n) h) y m ∙ or_false (path_before y.path (on bus n)) (path_eq y.path (on bus n)) (none_there (on bus n) h y m));
+    back = λ bus n h. met_same (on (on bus n) 128) (on bus (next_part b bus n))
+        (λ y m. before_next bus n y m ∙ ap (λ t. path_before y.path (on bus n) || t) (passed bus n y m)
+        ∙ sym (or_assoc (path_before y.path (on bus n)) (path_eq y.path (on bus n)) (leads_to (on bus n) y.path)) ∙ sym (before_last y.path (on bus n) (row_path b lawful y m).parts));
+  }
+    where
+      or_assoc : (s t u : Bool) → (s || t || u) ≡ (s || (t || u))
+      or_assoc true t u = refl
+      or_assoc false t u = refl
+
+  -- ---- bus numbers in order
+
+  bridge_row : (p : Path) → is_bridge_at b p ≡ true → (r : Row) × IsIn r b × (is_bridge r.decl ≡ true) × (r.path ≡ p)
+  bridge_row p h = bridge_at b lawful p h
+
+  -- what is said of the paths of the rows is said of the bridges' paths
+  at_bridge : (P : Path → Type 0) → ((y : Row) → IsIn y b → P y.path) → (q : Path) → is_bridge_at b q ≡ true → P q
+  at_bridge P h q there = let r = bridge_row q there in subst P r.3 (h r.0 r.1)
+
+  counted_met : (here : Path) (bs : Board) → count_by (λ r. is_bridge r.decl && path_before r.path here) bs ≡ count_by (λ r. is_bridge r.decl) (met bs here)
+  counted_met here [] = refl
+  counted_met here (r ∷ bs) = bridges-cons (λ x. path_before x here) r bs ∙ by_test (path_before r.path here) (counted_met here bs)
+    where
+      and_true : (t : Bool) → (t && true) ≡ t
+      and_true true = refl
+      and_true false = refl
+
+      and_false : (t : Bool) → (t && false) ≡ false
+      and_false true = refl
+      and_false false = refl
+
+      by_test : (t : Bool) → bridges (λ x. path_before x here) bs ≡ count_by (λ s. is_bridge s.decl) (met bs here)
+          → one (is_bridge r.decl && t) + bridges (λ x. path_before x here) bs ≡ count_by (λ s. is_bridge s.decl) (cond t (r ∷ met bs here) (met bs here))
+      by_test true e = ap₂ (λ t n. one t + n) (and_true (is_bridge r.decl)) e ∙ sym (sum_by-cons (λ (s : Row). one (is_bridge s.decl)) r (met bs here))
+      by_test false e = ap₂ (λ t n. one t + n) (and_false (is_bridge r.decl)) e ∙ zero-add (count_by (λ (s : Row). is_bridge s.decl) (met bs here))
+
+  -- the bridges before the end of a bus are those before its bridge, that bridge, and those behind it
+  counted_last : (p : Path) (bs : Board) → Each (λ r. IsPath r.path) bs → bridges (λ x. path_before x (on p 128)) bs ≡ bridges (λ x. path_before x p) bs + bridges (at p) bs + bridges (λ x. leads_to p x) bs
+  counted_last p [] h = refl
+  counted_last p (r ∷ bs) h =
+      let here = sum_of (is_bridge r.decl) (path_before r.path p) (path_eq r.path p) (leads_to p r.path) (exclusive r.path p) in
+      let same : one (is_bridge r.decl && path_before r.path (on p 128)) ≡ one (is_bridge r.decl && (path_before r.path p || path_eq r.path p || leads_to p r.path)) = ap (λ t. one (is_bridge r.decl && t)) (before_last r.path p h.0.parts) in
+      omega (arith, bridges-cons (λ x. path_before x (on p 128)) r bs, bridges-cons (λ x. path_before x p) r bs, bridges-cons (at p) r bs, bridges-cons (λ x. leads_to p x) r bs, here, same, counted_last p bs h.1)
+    where
+      sum_of : (k u v w : Bool) → one u + one v + one w ≤ 1 → one (k && (u || v || w)) ≡ one (k && u) + one (k && v) + one (k && w)
+      sum_of false u v w h = refl
+      sum_of true true true w h = absurd (omega arith)
+      sum_of true true false true h = absurd (omega arith)
+      sum_of true true false false h = refl
+      sum_of true false true true h = absurd (omega arith)
+      sum_of true false true false h = refl
+      sum_of true false false true h = refl
+      sum_of true false false false h = refl
+
+  some_path : (q : Path) → is_bridge_at b q ≡ true → (path_before q [] || path_eq q []) ≡ false
+  some_path q h = at_bridge (λ x. (path_before x [] || path_eq x []) ≡ false) not_none q h
+
+  none_leads : (q : Path) → is_bridge_at b q ≡ true → (leads_to q [] || path_eq q []) ≡ false
+  none_leads q h = at_bridge (λ x. (leads_to x [] || path_eq x []) ≡ false) (λ y m. by_path y.path (row_path b lawful y m).some) q h
+    where
+      by_path : (x : Path) → 0 < length x → (leads_to x [] || path_eq x []) ≡ false
+      by_path [] h = absurd (omega arith)
+      by_path (u ∷ x) h = refl
+
+  -- a bridge does not lead to the bus above it
+  not_above : (bus : Path) (n : ℕ) (q : Path) → path_eq q (on bus n) ≡ true → (leads_to q bus || path_eq q bus) ≡ false
+  not_above bus n q h = false_from_ne_true (leads_to q bus || path_eq q bus) (λ t. too_long (subst (λ (x : Path). (leads_to x bus || path_eq x bus) ≡ true) (path_same q (on bus n) h) t))
+    where
+      too_long : (leads_to (on bus n) bus || path_eq (on bus n) bus) ≡ true → ⊥
+      too_long t = by_test (leads_to (on bus n) bus) refl t
+        where
+          by_test : (s : Bool) → leads_to (on bus n) bus ≡ s → (s || path_eq (on bus n) bus) ≡ true → ⊥
+          by_test true l k = omega (arith, leads_longer (on bus n) bus l, length_snoc bus (nth_part n))
+          by_test false l k = omega (arith, ap length (path_same (on bus n) bus k), length_snoc bus (nth_part n))
+
+  behind_cases : {A : Type 0} (o m z : A) (l e t : Bool) → cond (l || e) o (cond (t || e) m z) ≡ cond e o (cond l o (cond t m z))
+  behind_cases o m z true true t = refl
+  behind_cases o m z true false t = refl
+  behind_cases o m z false true t = refl
+  behind_cases o m z false false true = refl
+  behind_cases o m z false false false = refl
+
+  back_cases : {A : Type 0} (o m z : A) (l e d t : Bool) → (e ≡ true → l ≡ false) → cond l o (cond (t || (e || d)) m z) ≡ cond e m (cond (l || e) o (cond (t || e || d) m z))
+  back_cases o m z l true d true h = let k : l ≡ false = h refl in rw k
+  back_cases o m z l true d false h = let k : l ≡ false = h refl in rw k
+  back_cases o m z true false d t h = refl
+  back_cases o m z false false d true h = refl
+  back_cases o m z false false d false h = refl
+
+  gives_numbers : GivesNumbersInPathOrder b
+  gives_numbers = record {
+    next_number = λ here. ap (λ n. 1 + n) (counted_met here b);
+    last_number = λ p h. omega (arith, counted_last p b lawful.paths, counted b p h, counted_once b p lawful.in_order);
+    first = λ q h. rw (leads_place q [] (nth_part 0) ∙ none_leads q h, before_first q [] ∙ some_path q h);
+    last = λ q h. rw (leads_place q [] (nth_part 128) ∙ none_leads q h, at_bridge (λ x. path_before x (on [] 128) ≡ true) (λ y m. before_last y.path [] (row_path b lawful y m).parts ∙ some_before_end y.path) q h);
+    behind = λ p q.
+        ap₂ (λ s t. cond s (open_numbers b q) (cond t (board_numbers b q) no_numbers)) (leads_place q p (nth_part 0)) (before_first q p)
+        ∙ behind_cases (open_numbers b q) (board_numbers b q) no_numbers (leads_to q p) (path_eq q p) (path_before q p);
+    no_bridge = λ bus n h q there.
+        ap₂ (λ s t. cond s (open_numbers b q) (cond t (board_numbers b q) no_numbers)) (leads_place q bus (nth_part (next_part b bus n)) ∙ sym (leads_place q bus (nth_part n))) (same_before bus n h q there);
+    back = λ bus n h q there.
+        ap₂ (λ s t. cond s (open_numbers b q) (cond t (board_numbers b q) no_numbers)) (leads_place q bus (nth_part (next_part b bus n)))
+        (at_bridge (λ x. path_before x (on bus (next_part b bus n)) ≡ (path_before x (on bus n) || (path_eq x (on bus n) || leads_to (on bus n) x))) (λ y m. before_next bus n y m ∙ ap (λ t. path_before y.path (on bus n) || t) (passed bus n y m)) q there)
+        ∙ back_cases (open_numbers b q) (board_numbers b q) no_numbers (leads_to q bus || path_eq q bus) (path_eq q (on bus n)) (leads_to (on bus n) q) (path_before q (on bus n)) (not_above bus n q)
+        ∙ ap (λ v. cond (path_eq q (on bus n)) (board_numbers b q) v) (sym (ap₂ (λ s t. cond s (open_numbers b q) (cond t (board_numbers b q) no_numbers))
+        (leads_place q (on bus n) (nth_part 128) ∙ ap (λ t. t || path_eq q (on bus n)) (leads_place q bus (nth_part n)))
+        (at_bridge (λ x. path_before x (on (on bus n) 128) ≡ (path_before x (on bus n) || path_eq x (on bus n) || leads_to (on bus n) x)) (λ y m. before_last y.path (on bus n) (row_path b lawful y m).parts) q there)));
+  }
+    where
+      not_itself : (bus : Path) (n : ℕ) → is_bridge_at b (on bus n) ≡ false → (q : Path) → is_bridge_at b q ≡ true → path_eq q (on bus n) ≡ false
+      not_itself bus n h q there = false_from_ne_true (path_eq q (on bus n)) (λ e. let bad : true ≡ false = sym there ∙ ap (is_bridge_at b) (path_same q (on bus n) e) ∙ h in cc)
+
+      same_before : (bus : Path) (n : ℕ) → is_bridge_at b (on bus n) ≡ false → (q : Path) → is_bridge_at b q ≡ true → path_before q (on bus (next_part b bus n)) ≡ path_before q (on bus n)
+      same_before bus n h q there =
+          at_bridge (λ x. path_before x (on bus (next_part b bus n)) ≡ (path_before x (on bus n) || path_eq x (on bus n))) (met_next bus n h) q there
+          ∙ or_false (path_before q (on bus n)) (path_eq q (on bus n)) (not_itself bus n h q there)
+
+pub scan_meets : ScanMeetsInPathOrder
+scan_meets b lawful = meets b lawful
+
+pub scan_gives_numbers : ScanGivesNumbersInPathOrder
+scan_gives_numbers b lawful = gives_numbers b lawful

@@ -1,0 +1,245 @@
+-- Parts of a bus in path order: which paths come before the first, the last and the next part.
+use Rattle.std.proofs.Common.{◌≡◌, ℕ, ◌+◌, ◌*◌, ◌/◌, ◌%◌, ◌≤◌, ◌<◌, ◌⊎◌, inl, inr, Bool, true, false, not, ◌&&◌, ◌||◌, cond, [], ◌∷◌, ◌++◌, refl, sym, ap, ap₂, ◌∙◌, subst, arith, eqb}
+use Rattle.std.specs.Prelude.{nat_lt, nat_le, IsTrue}
+use Rattle.std.proofs.lemmas.Bool.Decides.{nat_tests}
+use Rattle.lists.specs.Elements.{Each, IsIn}
+use Rattle.lists.proofs.Tests.{left_true, right_true}
+use Rattle.model_board.specs.Paths.{Part, Path, part_eq, part_before, path_eq, path_before, leads_to, parent, last_part, function_zero, IsPart, IsPath}
+use Rattle.model_board.specs.Board.{Board, Row, stands_at, is_multifunction, IsBoard}
+use Rattle.model_set_up.specs.ScanOrder.{nth_part, on, next_part}
+use Rattle.lists.proofs.Members.{each_in, any_in}
+use Rattle.model_board.proofs.PathOrder.{part_same, part_eq-sym}
+use Rattle.model_board.proofs.PathEnds.{path_self, parent_snoc, last_snoc, path_eq-snoc, snoc_some}
+use Rattle.model_set_up.proofs.Partings.{bridge_above, leads_down}
+
+-- ---- the first part behind a function
+
+no_part_before : (u : Part) → part_before u (nth_part 0) ≡ false
+no_part_before u = grind (arith, nat_tests)
+
+-- a, then b or c
+either : (u v a b c : Bool) → a ≡ (b || c) → (u || (v && a)) ≡ ((u || (v && b)) || (v && c))
+either true v a b c e = refl
+either false true a b c e = e
+either false false a b c e = refl
+
+pub before_first : (x p : Path) → path_before x (on p 0) ≡ (path_before x p || path_eq x p)
+before_first [] [] = refl
+before_first [] (a ∷ p) = refl
+before_first (u ∷ x) [] = nothing (part_before u (nth_part 0)) (part_eq u (nth_part 0)) (path_before x []) (no_part_before u) (none x)
+  where
+    none : (x : Path) → path_before x [] ≡ false
+    none [] = refl
+    none (u ∷ x) = refl
+
+    nothing : (c d e : Bool) → c ≡ false → e ≡ false → (c || (d && e)) ≡ false
+    nothing c true e h k = rw (h, k)
+    nothing c false e h k = rw h
+before_first (u ∷ x) (a ∷ p) = either (part_before u a) (part_eq u a) (path_before x (on p 0)) (path_before x p) (path_eq x p) (before_first x p)
+
+pub leads_place : (x p : Path) (q : Part) → leads_to x (p ++ q ∷ []) ≡ (leads_to x p || path_eq x p)
+leads_place [] [] q = refl
+leads_place [] (a ∷ p) q = refl
+leads_place (u ∷ x) [] q = nothing (part_eq u q) (leads_to x []) (none x)
+  where
+    none : (x : Path) → leads_to x [] ≡ false
+    none [] = refl
+    none (u ∷ x) = refl
+
+    nothing : (d e : Bool) → e ≡ false → (d && e) ≡ false
+    nothing true e h = h
+    nothing false e h = refl
+leads_place (u ∷ x) (a ∷ p) q = either false (part_eq u a) (leads_to x (p ++ q ∷ [])) (leads_to x p) (path_eq x p) (leads_place x p q)
+
+-- ---- past the last part of a bus
+
+part_of_bus : (u : Part) → u.device < 16 → part_before u (nth_part 128) ≡ true
+part_of_bus u h = grind (arith, nat_tests)
+
+three : (u v a b c d : Bool) → a ≡ (b || c || d) → (u || (v && a)) ≡ ((u || (v && b)) || (v && c) || (v && d))
+three true v a b c d e = refl
+three false true a b c d e = e
+three false false a b c d e = refl
+
+pub before_last : (x p : Path) → Each IsPart x → path_before x (on p 128) ≡ (path_before x p || path_eq x p || leads_to p x)
+before_last [] [] h = refl
+before_last [] (a ∷ p) h = refl
+before_last (u ∷ x) [] h = let e : part_before u (nth_part 128) ≡ true = part_of_bus u h.0.device_fits in rw e
+before_last (u ∷ x) (a ∷ p) h =
+    subst (λ t. path_before (u ∷ x) (on (a ∷ p) 128) ≡ (path_before (u ∷ x) (a ∷ p) || path_eq (u ∷ x) (a ∷ p) || (t && leads_to p x))) (part_eq-sym u a)
+    (three (part_before u a) (part_eq u a) (path_before x (on p 128)) (path_before x p) (path_eq x p) (leads_to p x) (before_last x p h.1))
+
+-- ---- from one part of a bus to a later one
+
+abbrev index : Part → ℕ
+index u = 8 * u.device + u.function
+
+-- the path is at or behind one of the parts m to n of the bus, n not included
+abbrev pub is_between : Path → ℕ → ℕ → Path → Bool
+is_between [] m n [] = false
+is_between [] m n (u ∷ x) = nat_le m (index u) && nat_lt (index u) n
+is_between (a ∷ p) m n [] = false
+is_between (a ∷ p) m n (u ∷ x) = part_eq u a && is_between p m n x
+
+lt_of : (m n : ℕ) → nat_lt m n ≡ true → m < n
+lt_of m n h = grind (arith, nat_tests)
+
+before_by_index : (u : Part) (n : ℕ) → u.function < 8 → part_before u (nth_part n) ≡ nat_lt (index u) n
+before_by_index u n h = same (part_before u (nth_part n)) (nat_lt (index u) n) refl refl
+  where
+    less : part_before u (nth_part n) ≡ true → index u < n
+    less e = by_device (nat_lt u.device (n / 8)) refl
+      where
+        second : nat_lt u.device (n / 8) ≡ false → (u.device ≡ n / 8) × (u.function < n % 8)
+        second d = grind (arith, nat_tests)
+
+        by_device : (t : Bool) → nat_lt u.device (n / 8) ≡ t → index u < n
+        by_device true d = let l : u.device < n / 8 = lt_of u.device (n / 8) d in omega arith
+        by_device false d = let s = second d in omega (arith, s.0, s.1)
+
+    not_less : part_before u (nth_part n) ≡ false → n ≤ index u
+    not_less e = by_device (nat_lt (n / 8) u.device) refl
+      where
+        equal : nat_lt (n / 8) u.device ≡ false → (u.device ≡ n / 8) × (n % 8 ≤ u.function)
+        equal d = grind (arith, nat_tests)
+
+        by_device : (t : Bool) → nat_lt (n / 8) u.device ≡ t → n ≤ index u
+        by_device true d = let l : n / 8 < u.device = lt_of (n / 8) u.device d in omega arith
+        by_device false d = let s = equal d in omega (arith, s.0, s.1)
+
+    same : (s t : Bool) → part_before u (nth_part n) ≡ s → nat_lt (index u) n ≡ t → s ≡ t
+    same true true e f = refl
+    same true false e f = let l : index u < n = less e in grind (arith, nat_tests)
+    same false true e f = let l : n ≤ index u = not_less e in grind (arith, nat_tests)
+    same false false e f = refl
+
+between : (i m n : ℕ) → m ≤ n → nat_lt i n ≡ (nat_lt i m || (nat_le m i && nat_lt i n))
+between i m n h = grind (arith, nat_tests)
+
+pub before_later : (x p : Path) (m n : ℕ) → m ≤ n → Each IsPart x → path_before x (on p n) ≡ (path_before x (on p m) || is_between p m n x)
+before_later [] [] m n h parts = refl
+before_later [] (a ∷ p) m n h parts = refl
+before_later (u ∷ x) [] m n h parts =
+    at_end (part_before u (nth_part n)) (part_eq u (nth_part n)) x (before_by_index u n parts.0.function_fits)
+    ∙ between (index u) m n h
+    ∙ ap (λ t. t || (nat_le m (index u) && nat_lt (index u) n)) (sym (at_end (part_before u (nth_part m)) (part_eq u (nth_part m)) x (before_by_index u m parts.0.function_fits)))
+  where
+    at_end : {e : Bool} (c d : Bool) (x : Path) → c ≡ e → (c || (d && path_before x [])) ≡ e
+    at_end true d x h = h
+    at_end false true [] h = h
+    at_end false true (u ∷ x) h = h
+    at_end false false x h = h
+before_later (u ∷ x) (a ∷ p) m n h parts = either (part_before u a) (part_eq u a) (path_before x (on p n)) (path_before x (on p m)) (is_between p m n x) (before_later x p m n h parts.1)
+
+-- ---- the functions of a board
+
+split_within : (p : Path) (m n : ℕ) (x : Path) → is_between p m n x ≡ true → (u : Part) × (rest : Path) × (x ≡ p ++ u ∷ rest) × (m ≤ index u) × (index u < n)
+split_within [] m n [] h = cc
+split_within [] m n (u ∷ x) h = (u, x, refl, le_of m (index u) (left_true (nat_le m (index u)) (nat_lt (index u) n) h), lt_of (index u) n (right_true (nat_le m (index u)) (nat_lt (index u) n) h))
+  where
+    le_of : (m n : ℕ) → nat_le m n ≡ true → m ≤ n
+    le_of m n h = grind (arith, nat_tests)
+split_within (a ∷ p) m n [] h = cc
+split_within (a ∷ p) m n (u ∷ x) h = longer (part_same u a (left_true (part_eq u a) (is_between p m n x) h)) (split_within p m n x (right_true (part_eq u a) (is_between p m n x) h))
+  where
+    longer : u ≡ a → (v : Part) × (rest : Path) × (x ≡ p ++ v ∷ rest) × (m ≤ index v) × (index v < n) → (v : Part) × (rest : Path) × (u ∷ x ≡ a ∷ p ++ v ∷ rest) × (m ≤ index v) × (index v < n)
+    longer same (v, rest, e, low, high) = (v, rest, ap₂ ◌∷◌ same e, low, high)
+
+part_in : (p : Path) (u : Part) (rest : Path) → Each IsPart (p ++ u ∷ rest) → IsPart u
+part_in [] u rest h = h.0
+part_in (a ∷ p) u rest h = part_in p u rest h.1
+
+pub zero_snoc : (p : Path) (u : Part) → function_zero (p ++ u ∷ []) ≡ p ++ record u { function = 0 } ∷ []
+zero_snoc [] u = refl
+zero_snoc (a ∷ []) u = refl
+zero_snoc (a ∷ c ∷ p) u = ap (λ (x : Path). a ∷ x) (zero_snoc (c ∷ p) u)
+
+same_part : (u v : Part) → u.device ≡ v.device → u.function ≡ v.function → u ≡ v
+same_part u v p q = λ i. record { device = p i; function = q i }
+
+abbrev device : Path → ℕ
+device x = (last_part x).device
+
+module _ (b : Board) (lawful : IsBoard b) where
+  pub row_path : (r : Row) → IsIn r b → IsPath r.path
+  row_path r m = each_in (λ (s : Row). IsPath s.path) r b lawful.paths m
+
+  -- what stands at or behind a part has a function at that part
+  stands_there : (r : Row) → IsIn r b → (p : Path) (u : Part) (rest : Path) → r.path ≡ p ++ u ∷ rest → (s : Row) × IsIn s b × (s.path ≡ p ++ u ∷ [])
+  stands_there r m p u [] e = (r, m, e)
+  stands_there r m p u (q ∷ rest) e =
+      let above = bridge_above b lawful r (p ++ u ∷ []) m (subst (λ (x : Path). leads_to (p ++ u ∷ []) x ≡ true) (sym e) (leads_down p u q rest)) (snoc_some p u) in
+      (above.0, above.1, above.3)
+
+  abbrev AtOrBehind : Row → Path → Type 0
+  AtOrBehind r p = (path_eq r.path p ≡ true) ⊎ (leads_to p r.path ≡ true)
+
+  at_or_behind : (r : Row) (p : Path) (u : Part) (rest : Path) → r.path ≡ p ++ u ∷ rest → AtOrBehind r (p ++ u ∷ [])
+  at_or_behind r p u [] e = inl (ap (λ (x : Path). path_eq x (p ++ u ∷ [])) e ∙ path_self (p ++ u ∷ []))
+  at_or_behind r p u (q ∷ rest) e = inr (subst (λ (x : Path). leads_to (p ++ u ∷ []) x ≡ true) (sym e) (leads_down p u q rest))
+
+  -- a device in which a further function stands has function 0, which says so
+  is_multifunction_here : (p : Path) (n : ℕ) → n % 8 ≡ 0 → (u : Part) → u.device ≡ n / 8 → 0 < u.function → (s : Row) → IsIn s b → s.path ≡ p ++ u ∷ [] → (stands_at b (on p n) && is_multifunction b (on p n)) ≡ true
+  is_multifunction_here p n first u dev fn s m e = rw (zero_stands, multifunction)
+    where
+      zero_is : function_zero s.path ≡ on p n
+      zero_is = ap function_zero e ∙ zero_snoc p u ∙ ap (λ (v : Part). p ++ v ∷ []) (same_part (record u { function = 0 }) (nth_part n) dev (sym first))
+
+      zero_stands : stands_at b (on p n) ≡ true
+      zero_stands = subst (λ (x : Path). stands_at b x ≡ true) zero_is (each_in (λ (r : Row). IsTrue (stands_at b (function_zero r.path))) s b lawful.function_zeros m)
+
+      parents : path_eq (parent (p ++ u ∷ [])) (parent (on p n)) ≡ true
+      parents = rw (parent_snoc p u, parent_snoc p (nth_part n)) (path_self p)
+
+      self : (k : ℕ) → eqb k k ≡ true
+      self k = grind (arith, nat_tests)
+
+      devices : eqb (device (p ++ u ∷ [])) (device (on p n)) ≡ true
+      devices = ap₂ eqb (ap (λ (v : Part). v.device) (last_snoc p u) ∙ dev) (ap (λ (v : Part). v.device) (last_snoc p (nth_part n))) ∙ self (n / 8)
+
+      apart : path_eq (p ++ u ∷ []) (on p n) ≡ false
+      apart = path_eq-snoc p u (nth_part n) ∙ other
+        where
+          other : part_eq u (nth_part n) ≡ false
+          other = grind (arith, nat_tests)
+
+      multifunction : is_multifunction b (on p n) ≡ true
+      multifunction =
+          any_in (λ (r : Row). path_eq (parent r.path) (parent (on p n)) && eqb (device r.path) (device (on p n)) && not (path_eq r.path (on p n))) s b m
+          (subst (λ (x : Path). (path_eq (parent x) (parent (on p n)) && eqb (device x) (device (on p n)) && not (path_eq x (on p n))) ≡ true) (sym e) (rw (parents, devices, apart)))
+
+  -- no function is passed over on the way to the next part
+  pub none_passed : (p : Path) (n : ℕ) (r : Row) → IsIn r b → is_between p n (next_part b p n) r.path ≡ true → AtOrBehind r (on p n)
+  none_passed p n r m h = by_test (eqb (n % 8) 0 && not (stands_at b (on p n) && is_multifunction b (on p n))) refl h
+    where
+      at_place : (u : Part) (rest : Path) → r.path ≡ p ++ u ∷ rest → u.device ≡ n / 8 → u.function ≡ n % 8 → AtOrBehind r (on p n)
+      at_place u rest e dev fn = subst (λ (v : Part). AtOrBehind r (p ++ v ∷ [])) (same_part u (nth_part n) dev fn) (at_or_behind r p u rest e)
+
+      part_of : (u : Part) (rest : Path) → r.path ≡ p ++ u ∷ rest → IsPart u
+      part_of u rest e = part_in p u rest (subst (λ (x : Path). Each IsPart x) e (row_path r m).parts)
+
+      by_function : (u : Part) (rest : Path) → r.path ≡ p ++ u ∷ rest → n % 8 ≡ 0 → u.device ≡ n / 8 → (t : Bool) → nat_lt 0 u.function ≡ t → not (stands_at b (on p n) && is_multifunction b (on p n)) ≡ true → AtOrBehind r (on p n)
+      by_function u rest e first dev true f alone =
+          let s = stands_there r m p u rest e in
+          let multifunction : (stands_at b (on p n) && is_multifunction b (on p n)) ≡ true = is_multifunction_here p n first u dev (lt_of 0 u.function f) s.0 s.1 s.2 in
+          let no : false ≡ true = rw multifunction at alone in
+          cc
+      by_function u rest e first dev false f alone = at_place u rest e dev (zero_of u.function f ∙ sym first)
+        where
+          zero_of : (k : ℕ) → nat_lt 0 k ≡ false → k ≡ 0
+          zero_of k h = grind (arith, nat_tests)
+
+      eq_of : (k l : ℕ) → eqb k l ≡ true → k ≡ l
+      eq_of k l h = grind (arith, nat_tests)
+
+      by_test : (t : Bool) → (eqb (n % 8) 0 && not (stands_at b (on p n) && is_multifunction b (on p n))) ≡ t → is_between p n (cond t (n + 8) (n + 1)) r.path ≡ true → AtOrBehind r (on p n)
+      by_test true e k =
+          let s = split_within p n (n + 8) r.path k in
+          let first : n % 8 ≡ 0 = eq_of (n % 8) 0 (left_true (eqb (n % 8) 0) (not (stands_at b (on p n) && is_multifunction b (on p n))) e) in
+          let dev : s.0.device ≡ n / 8 = omega (arith, s.3, s.4, (part_of s.0 s.1 s.2).function_fits) in
+          by_function s.0 s.1 s.2 first dev (nat_lt 0 s.0.function) refl (right_true (eqb (n % 8) 0) (not (stands_at b (on p n) && is_multifunction b (on p n))) e)
+      by_test false e k =
+          let s = split_within p n (n + 1) r.path k in
+          let dev : s.0.device ≡ n / 8 = omega (arith, s.3, s.4, (part_of s.0 s.1 s.2).function_fits) in
+          let fn : s.0.function ≡ n % 8 = omega (arith, s.3, s.4, (part_of s.0 s.1 s.2).function_fits) in
+          at_place s.0 s.1 s.2 dev fn

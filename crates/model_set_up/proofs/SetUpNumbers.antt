@@ -1,0 +1,60 @@
+-- Set-up leaves the board's numbers in its bridges.
+use Rattle.std.proofs.Common.{◌≡◌, ℕ, ◌+◌, ◌*◌, ◌%◌, ◌≤◌, ◌<◌, inl, inr, true, ◌&&◌, [], ◌∷◌, refl, ap, arith}
+use Rattle.std.specs.Prelude.{map, count_by, IsTrue}
+use Rattle.lists.specs.Elements.{Each, IsIn}
+use Rattle.model_registers.specs.Registers.{File}
+use Rattle.model_board.specs.Paths.{Path, path_eq, path_before, leads_to}
+use Rattle.model_board.specs.Board.{Decl, endpoint, bridge, Row, Board, is_bridge, is_bridge_at}
+use Rattle.model_board.specs.BusNumbers.{secondary, subordinate, Enumerates}
+use Rattle.model_board.specs.Cycles.{secondary_register, subordinate_register}
+use Rattle.model_registers.specs.Apertures.{Apertures}
+use Rattle.model_board.specs.State.{row_at, BoardFunction}
+use Rattle.model_set_up.specs.Reach.{SetUpHasNumbers}
+use Rattle.model_set_up.specs.SetUp.{set_up_file}
+use Rattle.model_board.proofs.BusNumbers.{bridges, at, count_three, counted}
+use Rattle.lists.proofs.Members.{any_in}
+use Rattle.lists.proofs.Tests.{and_true}
+use Rattle.model_board.proofs.PathEnds.{path_self}
+use Rattle.model_board.proofs.PathOrder.{exclusive}
+
+-- the numbers of a bridge are bytes
+pub record IsSmall (b : Board) (p : Path) : Type 0 where
+  pub first : secondary b p < 256
+  pub last : subordinate b p < 256
+
+-- so they are on a board that enumerates
+pub numbers_small : (b : Board) → Enumerates b → (p : Path) → is_bridge_at b p ≡ true → IsSmall b p
+numbers_small b few p h =
+    let parts : bridges (λ x. path_before x p) b + bridges (at p) b + bridges (λ x. leads_to p x) b ≤ bridges (λ x. true) b =
+    count_three (λ x. path_before x p) (at p) (λ x. leads_to p x) (λ x. true) (λ x. exclusive x p) b in
+    let whole : bridges (λ x. true) b ≡ count_by (λ r. is_bridge r.decl) b = λ i. count_by (λ r. and_true (is_bridge r.decl) i) b in
+    let here : 1 ≤ bridges (at p) b = counted b p h in
+    record { first = omega (arith, few); last = omega (arith, few) }
+
+abbrev pub HoldsNumbers : Board → Path → File → Type 0
+HoldsNumbers b p file = (secondary_register file ≡ secondary b p) × (subordinate_register file ≡ subordinate b p)
+
+byte : (k : ℕ) → k < 256 → k % 256 + 256 * 0 ≡ k
+byte k l = omega arith
+
+module _ (b : Board) (a : Apertures) (few : Enumerates b) where
+  abbrev left : Row → BoardFunction
+  left r = record { path = r.path; decl = r.decl; file = set_up_file b a r.path r.decl }
+
+  pub left_numbers : (p : Path) (d : Decl) → is_bridge_at b p ≡ true → is_bridge d ≡ true → HoldsNumbers b p (set_up_file b a p d)
+  left_numbers p (endpoint d) h k = cc
+  left_numbers p (bridge d) h k = let small : IsSmall b p = numbers_small b few p h in (byte (secondary b p) small.first, byte (subordinate b p) small.last)
+
+  rows_stay : (rs : Board) → map row_at (map left rs) ≡ rs
+  rows_stay [] = refl
+  rows_stay (r ∷ rs) = ap (λ (ss : Board). r ∷ ss) (rows_stay rs)
+
+  numbers_of : (rs : Board) → ((r : Row) → IsIn r rs → IsIn r b) → Each (λ (f : BoardFunction). IsTrue (is_bridge f.decl) → HoldsNumbers b f.path f.file) (map left rs)
+  numbers_of [] inside = tt
+  numbers_of (r ∷ rs) inside = (λ k. left_numbers r.path r.decl (here k) k, numbers_of rs (λ s m. inside s (inr m)))
+    where
+      here : is_bridge r.decl ≡ true → is_bridge_at b r.path ≡ true
+      here k = any_in (λ (s : Row). is_bridge s.decl && path_eq s.path r.path) r b (inside r (inl refl)) (rw (k, path_self r.path))
+
+pub set_up_has_numbers : SetUpHasNumbers
+set_up_has_numbers b a few = record { rows = rows_stay b a few b; numbers = numbers_of b a few b (λ r m. m) }

@@ -1,0 +1,164 @@
+-- The registers that set-up leaves read what it put there.
+use Rattle.std.proofs.Common.{◌≡◌, ℕ, zero, suc, ◌+◌, ◌-◌, ◌*◌, ◌/◌, ◌%◌, ◌^◌, ◌≤◌, ◌<◌, Bool, true, false, List, [], ◌∷◌, ◌++◌, refl, sym, ap, ◌∙◌, cond, arith, eqb, append_assoc}
+use Rattle.std.specs.Prelude.{flat_map, not, bit_and}
+use Rattle.std.proofs.lemmas.Bool.Decides.{nat_tests}
+use Rattle.lists.specs.Elements.{Each, EachPair}
+use Rattle.model_registers.proofs.Owned.{cells_above, cells_elsewhere}
+use Rattle.model_registers.specs.Cell.{Cell}
+use Rattle.model_registers.specs.Registers.{config, block, File, cell_at, number, field, cells_from}
+use Rattle.model_registers.specs.Declarations.{Kind, io_kind, mem32, mem64, Region, registers_of, least_size, ConfigBlock, Endpoint, Bridge}
+use Rattle.model_registers.specs.EndpointTable.{base_register, base_cells, region_cells, block_cells, header_cells, endpoint_file}
+use Rattle.model_registers.specs.BridgeTable.{BridgeValues, bridge_file}
+use Rattle.model_registers.specs.Decoding.{Space, io, memory, base, is_open}
+use Rattle.model_registers.proofs.RegisterFiles.{field_reads}
+use Rattle.model_set_up.specs.SetUp.{opens, command_of}
+use Rattle.model_board.proofs.Routing.{same_number}
+
+-- ---- a register is read past cells of other places
+
+other : (a b : ℕ) → a < b → eqb a b ≡ false
+other a b h = grind (arith, nat_tests)
+
+below : (a b : ℕ) → a < b → eqb b a ≡ false
+below a b h = grind (arith, nat_tests)
+
+past_field : (w b k v m c : ℕ) (rest : File) → b + w ≤ k → cell_at (field (config b) w v m c ++ rest) (config k) ≡ cell_at rest (config k)
+past_field zero b k v m c rest h = refl
+past_field (suc w) b k v m c rest h = let e : eqb b k ≡ false = other b k (omega arith) in rw e (past_field w (b + 1) k (v / 256) (m / 256) (c / 256) rest (omega arith))
+
+past_blocks : (bs : List ConfigBlock) (k : ℕ) (rest : File) → Each (λ b. 0x40 ≤ b.offset) bs → k < 0x40 → cell_at (flat_map block_cells bs ++ rest) (config k) ≡ cell_at rest (config k)
+past_blocks [] k rest h l = refl
+past_blocks (b ∷ bs) k rest h l =
+    ap (λ (f : File). cell_at f (config k)) (append_assoc (block_cells b) (flat_map block_cells bs) rest)
+    ∙ cells_above b.cells b.offset k (flat_map block_cells bs ++ rest) (omega (arith, h.0))
+    ∙ past_blocks bs k rest h.1 l
+
+same_cells : (w a : ℕ) (f g : File) → ((k : ℕ) → a ≤ k → k < a + w → cell_at f (config k) ≡ cell_at g (config k)) → number f (config a) w ≡ number g (config a) w
+same_cells w a f g h = same_number w a f g (λ k l u. ap (λ (c : Cell). c.value) (h k l u))
+
+-- ---- base address registers
+
+-- the base with the type bits
+abbrev with_type : Kind → ℕ → ℕ
+with_type io_kind b = b + 1
+with_type (mem32 pref) b = b + cond pref 8 0
+with_type (mem64 pref) b = b + cond pref 12 4
+
+base_here : (kind : Kind) (n size b : ℕ) (rest : File) → number (base_cells n kind size b ++ rest) (base_register n) (4 * registers_of kind) ≡ with_type kind b % 256 ^ (4 * registers_of kind)
+base_here io_kind n size b rest = field_reads 4 (16 + 4 * n) (b + 1) (2 ^ 32 - size) 0 rest
+base_here (mem32 pref) n size b rest = field_reads 4 (16 + 4 * n) (b + cond pref 8 0) (2 ^ 32 - size) 0 rest
+base_here (mem64 pref) n size b rest = field_reads 8 (16 + 4 * n) (b + cond pref 12 4) (2 ^ 64 - size) 0 rest
+
+past_base : (kind : Kind) (n size b k : ℕ) (rest : File) → 16 + 4 * (n + registers_of kind) ≤ k → cell_at (base_cells n kind size b ++ rest) (config k) ≡ cell_at rest (config k)
+past_base io_kind n size b k rest h = past_field 4 (16 + 4 * n) k (b + 1) (2 ^ 32 - size) 0 rest (omega arith)
+past_base (mem32 pref) n size b k rest h = past_field 4 (16 + 4 * n) k (b + cond pref 8 0) (2 ^ 32 - size) 0 rest (omega arith)
+past_base (mem64 pref) n size b k rest h = past_field 8 (16 + 4 * n) k (b + cond pref 12 4) (2 ^ 64 - size) 0 rest (omega arith)
+
+module _ (bases : Region → ℕ) where
+  split : (r : Region) (rest : File) → region_cells bases r ++ rest ≡ base_cells r.index r.kind r.size (bases r) ++ (cells_from (block r.index 0) r.cells ++ rest)
+  split r rest = append_assoc (base_cells r.index r.kind r.size (bases r)) (cells_from (block r.index 0) r.cells) rest
+
+  past_region : (r : Region) (k : ℕ) (rest : File) → 16 + 4 * (r.index + registers_of r.kind) ≤ k → cell_at (region_cells bases r ++ rest) (config k) ≡ cell_at rest (config k)
+  past_region r k rest h =
+      ap (λ (f : File). cell_at f (config k)) (split r rest)
+      ∙ past_base r.kind r.index r.size (bases r) k (cells_from (block r.index 0) r.cells ++ rest) h
+      ∙ cells_elsewhere r.cells r.index 0 k rest
+
+  -- the register of a region reads its base with the type bits
+  abbrev Reads : File → Region → Type 0
+  Reads file r = number file (base_register r.index) (4 * registers_of r.kind) ≡ with_type r.kind (bases r) % 256 ^ (4 * registers_of r.kind)
+
+  later : (r : Region) (rest : File) (rs : List Region) → Each (λ s. r.index + registers_of r.kind ≤ s.index) rs → Each (Reads rest) rs → Each (Reads (region_cells bases r ++ rest)) rs
+  later r rest [] h k = tt
+  later r rest (s ∷ rs) h k = (
+    same_cells (4 * registers_of s.kind) (16 + 4 * s.index) (region_cells bases r ++ rest) rest (λ m l u. past_region r m rest (omega (arith, h.0))) ∙ k.0,
+    later r rest rs h.1 k.1,
+  )
+
+  regions_read : (rs : List Region) → EachPair (λ r s. r.index + registers_of r.kind ≤ s.index) rs → Each (Reads (flat_map (region_cells bases) rs)) rs
+  regions_read [] h = tt
+  regions_read (r ∷ rs) h = (
+    ap (λ (f : File). number f (base_register r.index) (4 * registers_of r.kind)) (split r (flat_map (region_cells bases) rs))
+        ∙ base_here r.kind r.index r.size (bases r) (cells_from (block r.index 0) r.cells ++ flat_map (region_cells bases) rs),
+    later r (flat_map (region_cells bases) rs) rs h.0 (regions_read rs h.1),
+  )
+
+-- no register of the header stands among the base address registers, and all blocks stand behind them
+past_header_4 : (d : Endpoint) (multifunction : Bool) (command n : ℕ) (rest : File) → n < 6 → number (header_cells d multifunction command ++ rest) (base_register n) 4 ≡ number rest (base_register n) 4
+past_header_4 d multifunction command zero rest h = refl
+past_header_4 d multifunction command (suc zero) rest h = refl
+past_header_4 d multifunction command (suc (suc zero)) rest h = refl
+past_header_4 d multifunction command (suc (suc (suc zero))) rest h = refl
+past_header_4 d multifunction command (suc (suc (suc (suc zero)))) rest h = refl
+past_header_4 d multifunction command (suc (suc (suc (suc (suc zero))))) rest h = refl
+past_header_4 d multifunction command (suc (suc (suc (suc (suc (suc n)))))) rest h = absurd (omega arith)
+
+past_header_8 : (d : Endpoint) (multifunction : Bool) (command n : ℕ) (rest : File) → n < 5 → number (header_cells d multifunction command ++ rest) (base_register n) 8 ≡ number rest (base_register n) 8
+past_header_8 d multifunction command zero rest h = refl
+past_header_8 d multifunction command (suc zero) rest h = refl
+past_header_8 d multifunction command (suc (suc zero)) rest h = refl
+past_header_8 d multifunction command (suc (suc (suc zero))) rest h = refl
+past_header_8 d multifunction command (suc (suc (suc (suc zero)))) rest h = refl
+past_header_8 d multifunction command (suc (suc (suc (suc (suc n))))) rest h = absurd (omega arith)
+
+past_header : (kind : Kind) (d : Endpoint) (multifunction : Bool) (command n : ℕ) (rest : File) → n + registers_of kind ≤ 6 → number (header_cells d multifunction command ++ rest) (base_register n) (4 * registers_of kind) ≡ number rest (base_register n) (4 * registers_of kind)
+past_header io_kind d multifunction command n rest h = past_header_4 d multifunction command n rest (omega arith)
+past_header (mem32 pref) d multifunction command n rest h = past_header_4 d multifunction command n rest (omega arith)
+past_header (mem64 pref) d multifunction command n rest h = past_header_8 d multifunction command n rest (omega arith)
+
+-- an address that a base address register can hold
+pub record FitsRegister (kind : Kind) (b : ℕ) : Type 0 where
+  pub aligned : b % least_size kind ≡ 0
+  pub small : b < 256 ^ (4 * registers_of kind)
+
+low_io : (b : ℕ) → b % 4 ≡ 0 → b < 2 ^ 32 → (b + 1) % 2 ^ 32 / 4 * 4 ≡ b
+low_io b h l = omega arith
+
+low_32 : (b : ℕ) (pref : Bool) → b % 16 ≡ 0 → b < 2 ^ 32 → (b + cond pref 8 0) % 2 ^ 32 / 16 * 16 ≡ b
+low_32 b true h l = omega arith
+low_32 b false h l = omega arith
+
+low_64 : (b : ℕ) (pref : Bool) → b % 16 ≡ 0 → b < 2 ^ 64 → (b + cond pref 12 4) % 2 ^ 64 / 16 * 16 ≡ b
+low_64 b true h l = omega arith
+low_64 b false h l = omega arith
+
+without_type : (kind : Kind) (b : ℕ) (file : File) (n : ℕ) → FitsRegister kind b → number file (base_register n) (4 * registers_of kind) ≡ with_type kind b % 256 ^ (4 * registers_of kind) → base file n kind ≡ b
+without_type io_kind b file n fits e = ap (λ x. x / 4 * 4) e ∙ low_io b fits.aligned fits.small
+without_type (mem32 pref) b file n fits e = ap (λ x. x / 16 * 16) e ∙ low_32 b pref fits.aligned fits.small
+without_type (mem64 pref) b file n fits e = ap (λ x. x / 16 * 16) e ∙ low_64 b pref fits.aligned fits.small
+
+-- each base address register of an endpoint's file holds its base
+module _ (d : Endpoint) (multifunction : Bool) (command : ℕ) (bases : Region → ℕ) where
+  bases_from : (rest : File) (rs : List Region) → Each (λ b. 0x40 ≤ b.offset) d.blocks → rest ≡ flat_map (region_cells bases) d.regions → Each (λ r. r.index + registers_of r.kind ≤ 6) rs → Each (λ r. FitsRegister r.kind (bases r)) rs
+      → Each (Reads bases rest) rs → Each (λ r. base (endpoint_file d multifunction command bases) r.index r.kind ≡ bases r) rs
+  bases_from rest [] far e few fits h = tt
+  bases_from rest (r ∷ rs) far e few fits h = (
+    without_type r.kind (bases r) (endpoint_file d multifunction command bases) r.index fits.0
+        (past_header r.kind d multifunction command r.index (flat_map block_cells d.blocks ++ flat_map (region_cells bases) d.regions) few.0
+        ∙ same_cells (4 * registers_of r.kind) (16 + 4 * r.index) (flat_map block_cells d.blocks ++ flat_map (region_cells bases) d.regions) (flat_map (region_cells bases) d.regions)
+        (λ k l u. past_blocks d.blocks k (flat_map (region_cells bases) d.regions) far (omega (arith, few.0)))
+        ∙ ap (λ (f : File). number f (base_register r.index) (4 * registers_of r.kind)) (sym e) ∙ h.0),
+    bases_from rest rs far e few.1 fits.1 h.1,
+  )
+
+  pub bases_read : Each (λ b. 0x40 ≤ b.offset) d.blocks → EachPair (λ r s. r.index + registers_of r.kind ≤ s.index) d.regions → Each (λ r. r.index + registers_of r.kind ≤ 6) d.regions → Each (λ r. FitsRegister r.kind (bases r)) d.regions
+      → Each (λ r. base (endpoint_file d multifunction command bases) r.index r.kind ≡ bases r) d.regions
+  bases_read far order few fits = bases_from (flat_map (region_cells bases) d.regions) d.regions far refl few fits (regions_read bases d.regions order)
+
+-- ---- Command
+
+command_opens : (u v : Bool) (d : Endpoint) (multifunction : Bool) (bases : Region → ℕ) → (is_open (endpoint_file d multifunction (cond u 1 0 + cond v 2 0) bases) io ≡ u) × (is_open (endpoint_file d multifunction (cond u 1 0 + cond v 2 0) bases) memory ≡ v)
+command_opens true true d multifunction bases = (refl, refl)
+command_opens true false d multifunction bases = (refl, refl)
+command_opens false true d multifunction bases = (refl, refl)
+command_opens false false d multifunction bases = (refl, refl)
+
+-- an endpoint decodes in the spaces of its regions
+pub endpoint_opens : (d : Endpoint) (multifunction : Bool) (bases : Region → ℕ) (space : Space) → is_open (endpoint_file d multifunction (command_of d) bases) space ≡ opens d space
+endpoint_opens d multifunction bases io = (command_opens (opens d io) (opens d memory) d multifunction bases).0
+endpoint_opens d multifunction bases memory = (command_opens (opens d io) (opens d memory) d multifunction bases).1
+
+-- a bridge forwards in both spaces
+pub bridge_opens : (d : Bridge) (multifunction : Bool) (r : BridgeValues) (space : Space) → r.command ≡ 3 → is_open (bridge_file d multifunction r) space ≡ true
+bridge_opens d multifunction r io h = ap (λ n. not (eqb (bit_and (n % 256 + 256 * (n / 256 % 256 + 256 * 0)) 1) 0)) h
+bridge_opens d multifunction r memory h = ap (λ n. not (eqb (bit_and (n % 256 + 256 * (n / 256 % 256 + 256 * 0)) 2) 0)) h

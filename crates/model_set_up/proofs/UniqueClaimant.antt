@@ -1,0 +1,232 @@
+-- After set-up the claims of an address are those of the placed regions that hold it: one at most.
+use Rattle.std.proofs.Common.{◌≡◌, ℕ, ◌+◌, ◌-◌, ◌≤◌, ◌<◌, inl, inr, Bool, true, false, ◌&&◌, ◌||◌, cond, List, [], ◌∷◌, ◌++◌, length, Option, Some, None, refl, sym, ap, ap₂, ◌∙◌, subst, arith, leb, ltb}
+use Rattle.std.specs.Prelude.{not, map, flat_map, slice_get}
+use Rattle.std.specs.List.{list_all}
+use Rattle.std.specs.Option.{option_to_list}
+use Rattle.std.proofs.lemmas.List.{map-append}
+use Rattle.std.proofs.lemmas.Grind.{flat_map-append}
+use Rattle.std.proofs.lemmas.Bool.{and_from}
+use Rattle.lists.specs.Elements.{Each, EachPair, IsIn}
+use Rattle.model_registers.specs.Declarations.{Region, registers_of, IsLawfulRegion, HasLawfulRegions, Endpoint, Bridge}
+use Rattle.model_registers.specs.DeclarationRules.{IsConfigBlock}
+use Rattle.model_registers.specs.Registers.{File}
+use Rattle.model_registers.specs.Decoding.{Space, space_of, same_space, base, is_open, Hit, hit_of}
+use Rattle.model_registers.proofs.HitRegions.{space_same}
+use Rattle.model_board.specs.Board.{Board, Row, Decl, endpoint, bridge, is_bridge, is_multifunction}
+use Rattle.model_board.specs.Paths.{Path, leads_to, IsPath}
+use Rattle.model_board.specs.State.{BoardFunction}
+use Rattle.model_board.specs.Windows.{forwards, is_in_window}
+use Rattle.model_board.specs.Claims.{Claim, claim_at, claims_of, is_forwarded, claims, first_claim}
+use Rattle.model_set_up.specs.Pools.{Pool, unit_of, bridges_above}
+use Rattle.model_registers.specs.Apertures.{Apertures}
+use Rattle.model_set_up.specs.Placement.{Item, need, items_on, bus_first}
+use Rattle.model_set_up.specs.Layout.{LayoutRow, IsAligned, IsLawful, layout}
+use Rattle.model_set_up.specs.Extents.{IsInside}
+use Rattle.model_set_up.specs.SetUp.{first_of, command_of, bridge_values, set_up_file, set_up_state}
+use Rattle.model_board.specs.Routing.{RoutingRow, routing, is_routed, routed_claims}
+use Rattle.model_set_up.specs.PlacementLaws.{region_row, window_row, HasRows}
+use Rattle.model_set_up.specs.PlacedRegions.{pool_space, PlacedRegion, placed, placed_at, placed_regions, holds, claim_in, placed_claim}
+use Rattle.model_set_up.specs.UniqueClaimant.{CanBePlaced, IsClaimed, ShareNone, HasUniqueClaims, UniqueClaimant, ClaimOfRegion, ClaimInAnyOrder, RowsArePlaced}
+use Rattle.model_set_up.specs.WindowLaws.{HasPlacedWindows}
+use Rattle.lists.proofs.Members.{each_in, each_from, any_in, in_map, in_flat_map, all_from}
+use Rattle.model_set_up.proofs.Holders.{Holds, holds_is, is_held, self_space, claims_in, one_at_most, holder_first, same_members}
+use Rattle.model_board.proofs.Routing.{flat_map_map, first_listed, first_of_claims, forwarded_by_routing, claims_by_routing}
+use Rattle.model_set_up.proofs.SetUpRegisters.{FitsRegister, bases_read, endpoint_opens, bridge_opens}
+use Rattle.model_set_up.proofs.LawfulPlacement.{layout_is_lawful}
+use Rattle.model_set_up.proofs.DeclaredRows.{rows_are_declared}
+use Rattle.model_set_up.proofs.BoardWindows.{set_up_windows}
+use Rattle.model_set_up.proofs.Partings.{one_row, BridgeAt, bridge_above}
+use Rattle.model_set_up.proofs.PlacedApart.{pool_of_space, WindowOver, window_over}
+use Rattle.model_set_up.proofs.PlacedRegions.{Source, source, lawful_decl, lawful_regions, region_there, placed_apart, rows_to_placed, placed_to_rows}
+use Rattle.model_set_up.proofs.PlacedReads.{InAperture, fits_register}
+use Rattle.model_set_up.proofs.PlacedWindows.{IsBridgeWindow, bridge_window, window_holds}
+
+-- ---- claims function by function
+
+-- where each region's hit, if it is forwarded, is a claim, the claims of a function are those of its regions
+by_region : (t : Bool) (p : Path) (hit : Region → Option Hit) (claim : Region → Option Claim) (gs : List Region) → Each (λ g. cond t (map (claim_at p) (option_to_list (hit g))) [] ≡ option_to_list (claim g)) gs
+    → cond t (map (claim_at p) (flat_map (λ g. option_to_list (hit g)) gs)) [] ≡ flat_map (λ g. option_to_list (claim g)) gs
+by_region true p hit claim [] h = refl
+by_region false p hit claim [] h = refl
+by_region true p hit claim (g ∷ gs) h = map-append (claim_at p) (option_to_list (hit g)) (flat_map (λ k. option_to_list (hit k)) gs) ∙ ap₂ ◌++◌ h.0 (by_region true p hit claim gs h.1)
+by_region false p hit claim (g ∷ gs) h = ap₂ ◌++◌ h.0 (by_region false p hit claim gs h.1)
+
+-- a function with the cells that set-up leaves
+abbrev left : Board → Apertures → Row → BoardFunction
+left b a r = record { path = r.path; decl = r.decl; file = set_up_file b a r.path r.decl }
+
+all_map : {A B : Type 0} (t : B → Bool) (f : A → B) (xs : List A) → list_all t (map f xs) ≡ list_all (λ x. t (f x)) xs
+all_map t f [] = refl
+all_map t f (x ∷ xs) = ap (λ u. t (f x) && u) (all_map t f xs)
+
+no_claims : (t : Bool) → cond {A = List Claim} t [] [] ≡ []
+no_claims true = refl
+no_claims false = refl
+
+flat_map_same : {A B : Type 0} (f g : A → List B) (xs : List A) → ((x : A) → IsIn x xs → f x ≡ g x) → flat_map f xs ≡ flat_map g xs
+flat_map_same f g [] h = refl
+flat_map_same f g (x ∷ xs) h = ap₂ ◌++◌ (h x (inl refl)) (flat_map_same f g xs (λ y m. h y (inr m)))
+
+flat_map_flat : {A B C : Type 0} (f : B → List C) (g : A → List B) (xs : List A) → flat_map f (flat_map g xs) ≡ flat_map (λ x. flat_map f (g x)) xs
+flat_map_flat f g [] = refl
+flat_map_flat f g (x ∷ xs) = flat_map-append f (g x) (flat_map g xs) ∙ ap (λ ys. flat_map f (g x) ++ ys) (flat_map_flat f g xs)
+
+module _ (b : Board) (a : Apertures) (can : CanBePlaced b a) (lawful : IsLawful b a (layout b a)) (has : HasRows b a) (windows : Each (λ r. HasPlacedWindows b a r.path r.decl) b) where
+  -- a bridge above a row of the layout has a window that holds the row's addresses
+  bridge_forwards : (l : LayoutRow) (p : Path) (d : Bridge) (n : ℕ) → IsIn l (layout b a) → IsIn (record { path = p; decl = bridge d }) b → leads_to p l.path ≡ true → l.first ≤ n → n < l.first + l.size → is_in_window d (set_up_file b a p (bridge d)) (pool_space l.pool) n ≡ true
+  bridge_forwards l p d n m k h low high = by_window (window_over b a can.places (layout b a) lawful l (record { path = p; decl = bridge d }) m k h)
+    where
+      by_row : (w : LayoutRow) → w ≡ window_row b a l.pool p → (i : Item) → IsIn i (items_on b a l.pool p) → IsInside w.first (w.first + w.size) l.first l.size → is_in_window d (set_up_file b a p (bridge d)) (pool_space l.pool) n ≡ true
+      by_row w is i behind inside =
+          let within : IsInside (bus_first b a l.pool p) (bus_first b a l.pool p + need (unit_of l.pool) (items_on b a l.pool p)) l.first l.size = subst (λ (x : LayoutRow). IsInside x.first (x.first + x.size) l.first l.size) is inside in
+          window_holds b a p d (each_in (λ (r : Row). HasPlacedWindows b a r.path r.decl) (record { path = p; decl = bridge d }) b windows k) i n l.pool behind (omega (arith, within.0)) (omega (arith, within.1))
+
+      by_window : WindowOver (layout b a) l p → is_in_window d (set_up_file b a p (bridge d)) (pool_space l.pool) n ≡ true
+      by_window w =
+          let g : IsBridgeWindow b a w.row = bridge_window b a has w.row w.there w.what_is in
+          by_row w.row (g.is ∙ ap₂ (window_row b a) w.pool_is w.path_is) g.item (subst (λ (x : Pool). IsIn g.item (items_on b a x p)) w.pool_is (subst (λ (x : Path). IsIn g.item (items_on b a w.row.pool x)) w.path_is g.behind)) w.inside
+
+  -- ---- every bridge above a placed region forwards its addresses
+
+  module _ (r : Row) (e : Endpoint) (g : Region) (on_board : IsIn r b) (decl_is : r.decl ≡ endpoint e) (declared : IsIn g e.regions) where
+    abbrev row : LayoutRow
+    row = region_row b a r.path g
+
+    in_layout : IsIn row (layout b a)
+    in_layout = region_there b a has r e g on_board decl_is declared
+
+    by_bridge : (p : Path) (d : Bridge) (n : ℕ) → IsIn (record { path = p; decl = bridge d }) b → leads_to p r.path ≡ true → row.first ≤ n → n < row.first + row.size → forwards (space_of g.kind) n (left b a (record { path = p; decl = bridge d })) ≡ true
+    by_bridge p d n m h low high =
+        let opened : is_open (set_up_file b a p (bridge d)) (space_of g.kind) ≡ true = bridge_opens d (is_multifunction b p) (bridge_values b a p) (space_of g.kind) refl in
+        let held : is_in_window d (set_up_file b a p (bridge d)) (space_of g.kind) n ≡ true =
+        subst (λ (x : Space). is_in_window d (set_up_file b a p (bridge d)) x n ≡ true) (pool_of_space a (bridges_above b r.path) g.kind) (bridge_forwards row p d n in_layout m h low high) in
+        and_from (is_open (set_up_file b a p (bridge d)) (space_of g.kind)) (is_in_window d (set_up_file b a p (bridge d)) (space_of g.kind) n) opened held
+
+    by_decl : (p : Path) (d : Decl) (n : ℕ) → is_bridge d ≡ true → IsIn (record { path = p; decl = d }) b → leads_to p r.path ≡ true → row.first ≤ n → n < row.first + row.size → forwards (space_of g.kind) n (left b a (record { path = p; decl = d })) ≡ true
+    by_decl p (endpoint d) n is m h low high = cc
+    by_decl p (bridge d) n is m h low high = by_bridge p d n m h low high
+
+    by_row : (s : Row) (n : ℕ) → IsIn s b → row.first ≤ n → n < row.first + row.size → (t : Bool) → leads_to s.path r.path ≡ t → (not t || forwards (space_of g.kind) n (left b a s)) ≡ true
+    by_row s n m low high false h = refl
+    by_row s n m low high true h =
+        let some : 0 < length s.path = (each_in (λ (x : Row). IsPath x.path) s b can.places.paths m).some in
+        let d : BridgeAt b can.places s.path = bridge_above b can.places r s.path on_board h some in
+        let same : is_bridge d.0.decl ≡ is_bridge s.decl = ap (λ (x : Row). is_bridge x.decl) (one_row b can.places d.0 s d.1 m d.3) in
+        by_decl s.path s.decl n (sym same ∙ d.2) m h low high
+
+    forwarded : (n : ℕ) → row.first ≤ n → n < row.first + row.size → is_forwarded (set_up_state b a).functions r.path (space_of g.kind) n ≡ true
+    forwarded n low high =
+        all_map (λ (f : BoardFunction). not (leads_to f.path r.path) || forwards (space_of g.kind) n f) (left b a) b
+        ∙ all_from (λ (s : Row). not (leads_to s.path r.path) || forwards (space_of g.kind) n (left b a s)) b (λ s m. by_row s n m low high (leads_to s.path r.path) refl)
+
+  -- ---- an endpoint decodes where its regions are placed
+
+  bases : (r : Row) (e : Endpoint) → IsIn r b → r.decl ≡ endpoint e → Each (λ g. base (set_up_file b a r.path (endpoint e)) g.index g.kind ≡ first_of b a r.path g) e.regions
+  bases r e m decl_is =
+      let regions : HasLawfulRegions e.regions = lawful_regions b can.declarations r e m decl_is in
+      bases_read e (is_multifunction b r.path) (command_of e) (first_of b a r.path) (each_from (λ k. 0x40 ≤ k.offset) e.blocks (λ k i. (each_in IsConfigBlock k e.blocks (lawful_decl b can.declarations r e m decl_is).config_blocks i).begins)) regions.in_order
+      (each_from (λ g. g.index + registers_of g.kind ≤ 6) e.regions (λ g k. (each_in IsLawfulRegion g e.regions regions.each k).registers))
+      (each_from (λ g. FitsRegister g.kind (first_of b a r.path g)) e.regions (λ g k.
+      let there : IsIn (region_row b a r.path g) (layout b a) = region_there b a has r e g m decl_is k in
+      fits_register a (bridges_above b r.path) g (region_row b a r.path g) can.apertures (each_in IsLawfulRegion g e.regions regions.each k) refl
+      (each_in (λ (l : LayoutRow). IsAligned l l.what) (region_row b a r.path g) (layout b a) lawful.aligned there)
+      (each_in (λ (l : LayoutRow). InAperture a l.pool l) (region_row b a r.path g) (layout b a) lawful.in_apertures there)))
+
+  drop_open : (o t u v : Bool) → (t ≡ true → o ≡ true) → (o && t && u && v) ≡ (t && u && v)
+  drop_open true t u v h = refl
+  drop_open false true u v h = let bad : false ≡ true = h refl in cc
+  drop_open false false u v h = refl
+
+  -- a region's hit is that of its place
+  hit_is : (r : Row) (e : Endpoint) (g : Region) (space : Space) (n : ℕ) → IsIn r b → r.decl ≡ endpoint e → IsIn g e.regions
+      → hit_of (set_up_file b a r.path (endpoint e)) space n g ≡ cond (holds space n (placed b a r.path g)) (Some (record { index = g.index; offset = n - first_of b a r.path g })) None
+  hit_is r e g space n m decl_is k =
+      let file : File = set_up_file b a r.path (endpoint e) in
+      let opened : same_space (space_of g.kind) space ≡ true → is_open file space ≡ true =
+      (λ h. endpoint_opens e (is_multifunction b r.path) (first_of b a r.path) space ∙ any_in (λ (x : Region). same_space (space_of x.kind) space) g e.regions k h) in
+      ap (λ (x : ℕ). cond (is_open file space && same_space (space_of g.kind) space && leb x n && ltb n (x + g.size)) (Some (record { index = g.index; offset = n - x })) None)
+      (each_in (λ (x : Region). base file x.index x.kind ≡ first_of b a r.path x) g e.regions (bases r e m decl_is) k)
+      ∙ ap (λ (t : Bool). cond t (Some (record { index = g.index; offset = n - first_of b a r.path g })) None)
+      (drop_open (is_open file space) (same_space (space_of g.kind) space) (leb (first_of b a r.path g) n) (ltb n (first_of b a r.path g + g.size)) opened)
+
+  -- a hit of a placed region is a claim: it is forwarded
+  hit_is_claim : (r : Row) (e : Endpoint) (g : Region) (space : Space) (n : ℕ) → IsIn r b → r.decl ≡ endpoint e → IsIn g e.regions
+      → cond (is_forwarded (set_up_state b a).functions r.path space n) (map (claim_at r.path) (option_to_list (hit_of (set_up_file b a r.path (endpoint e)) space n g))) [] ≡ option_to_list (claim_in space n (placed b a r.path g))
+  hit_is_claim r e g space n m decl_is k =
+      ap (λ (h : Option Hit). cond t (map (claim_at r.path) (option_to_list h)) []) (hit_is r e g space n m decl_is k) ∙ by_test (holds space n (placed b a r.path g)) refl
+    where
+      t : Bool
+      t = is_forwarded (set_up_state b a).functions r.path space n
+
+      by_test : (u : Bool) → holds space n (placed b a r.path g) ≡ u
+          → cond t (map (claim_at r.path) (option_to_list (cond u (Some (record { index = g.index; offset = n - first_of b a r.path g })) None))) [] ≡ option_to_list (cond u (Some (record { path = r.path; index = g.index; offset = n - first_of b a r.path g })) None)
+      by_test true h =
+          let held : Holds space n (placed b a r.path g) = holds_is space n (placed b a r.path g) h in
+          let way : t ≡ true = subst (λ (x : Space). is_forwarded (set_up_state b a).functions r.path x n ≡ true) (space_same (space_of g.kind) space held.space_is) (forwarded r e g m decl_is k n held.from held.below) in rw way
+      by_test false h = no_claims t
+
+  -- ---- all claims are those of placed regions
+
+  function_claims : (space : Space) (n : ℕ) (p : Path) (d : Decl) → IsIn (record { path = p; decl = d }) b
+      → claims_of (set_up_state b a).functions space n (left b a (record { path = p; decl = d })) ≡ claims_in space n (placed_at b a (record { path = p; decl = d }))
+  function_claims space n p (bridge d) m = no_claims (is_forwarded (set_up_state b a).functions p space n)
+  function_claims space n p (endpoint e) m =
+      by_region (is_forwarded (set_up_state b a).functions p space n) p (hit_of (set_up_file b a p (endpoint e)) space n) (λ g. claim_in space n (placed b a p g)) e.regions
+      (each_from (λ g. cond (is_forwarded (set_up_state b a).functions p space n) (map (claim_at p) (option_to_list (hit_of (set_up_file b a p (endpoint e)) space n g))) [] ≡ option_to_list (claim_in space n (placed b a p g))) e.regions
+      (λ g k. hit_is_claim (record { path = p; decl = endpoint e }) e g space n m refl k))
+      ∙ sym (flat_map_map (λ q. option_to_list (claim_in space n q)) (placed b a p) e.regions)
+
+  apart : EachPair ShareNone (placed_regions b a)
+  apart = placed_apart b a can.places can.declarations can.apertures lawful has
+
+  set_up_claims : (space : Space) (n : ℕ) → claims (set_up_state b a).functions space n ≡ option_to_list (placed_claim b a space n)
+  set_up_claims space n =
+      flat_map_map (claims_of (set_up_state b a).functions space n) (left b a) b
+      ∙ flat_map_same (λ r. claims_of (set_up_state b a).functions space n (left b a r)) (λ r. claims_in space n (placed_at b a r)) b (λ r m. function_claims space n r.path r.decl m)
+      ∙ sym (flat_map_flat (λ q. option_to_list (claim_in space n q)) (placed_at b a) b)
+      ∙ one_at_most space n (placed_regions b a) apart
+
+  module _ (fs : List BoardFunction) (same : routing fs ≡ routing (set_up_state b a).functions) where
+    only : (space : Space) (n : ℕ) → claims fs space n ≡ option_to_list (placed_claim b a space n)
+    only space n = claims_by_routing fs space n ∙ ap (λ (rows : List RoutingRow). routed_claims rows space n) same ∙ sym (claims_by_routing (set_up_state b a).functions space n) ∙ set_up_claims space n
+
+    first : (space : Space) (n : ℕ) → first_claim fs space n ≡ placed_claim b a space n
+    first space n = first_of_claims fs space n ∙ ap (λ (cs : List Claim). slice_get cs 0) (only space n) ∙ sym (first_listed (placed_claim b a space n))
+
+    way : (p : Path) (space : Space) (n : ℕ) → is_forwarded fs p space n ≡ is_forwarded (set_up_state b a).functions p space n
+    way p space n = forwarded_by_routing fs p space n ∙ ap (λ (rows : List RoutingRow). is_routed rows p space n) same ∙ sym (forwarded_by_routing (set_up_state b a).functions p space n)
+
+    claimed : (q : PlacedRegion) → IsIn q (placed_regions b a) → same_space q.space q.space ≡ true → (k : ℕ) → k < q.size → first_claim fs q.space (q.first + k) ≡ Some (record { path = q.path; index = q.index; offset = k })
+    claimed q m self k small =
+        let held : Holds q.space (q.first + k) q = record { space_is = self; from = omega arith; below = omega arith } in
+        let offset : q.first + k - q.first ≡ k = omega arith in
+        first q.space (q.first + k) ∙ holder_first q.space (q.first + k) q (placed_regions b a) apart m held
+        ∙ ap (λ (t : Bool). cond t (Some (record { path = q.path; index = q.index; offset = q.first + k - q.first })) None) (is_held q.space (q.first + k) q held)
+        ∙ ap (λ (x : ℕ). Some (record { path = q.path; index = q.index; offset = x })) offset
+
+    byte : (q : PlacedRegion) → IsIn q (placed_regions b a) → (k : ℕ) → k < q.size → IsClaimed fs q k
+    byte q m k small = record { forwarded = reached (source b a q m) k small; claimed = claimed q m (self_space q.space) k small }
+      where
+        reached : Source b a q → (k : ℕ) → k < q.size → is_forwarded fs q.path q.space (q.first + k) ≡ true
+        reached s = subst (λ (x : PlacedRegion). (k : ℕ) → k < x.size → is_forwarded fs x.path x.space (x.first + k) ≡ true) (sym s.is)
+            (λ j l. way s.row.path (space_of s.region.kind) (first_of b a s.row.path s.region + j) ∙ forwarded s.row s.decl s.region s.there s.decl_is s.declared (first_of b a s.row.path s.region + j) (omega arith) (omega arith))
+
+    unique : HasUniqueClaims b a fs
+    unique = record { only = only; first = first; each_byte = each_from (λ q. (k : ℕ) → k < q.size → IsClaimed fs q k) (placed_regions b a) byte; apart = apart }
+
+pub unique_claimant : UniqueClaimant
+unique_claimant b a can fs same = unique b a can (layout_is_lawful b a can.places can.declarations can.room) (rows_are_declared b a can.places can.declarations) (set_up_windows b a can.places can.declarations can.apertures can.io_paths can.room) fs same
+
+pub claim_of_region : ClaimOfRegion
+claim_of_region b a can fs same p d on_board r declared k inside =
+    let row : Row = record { path = p; decl = endpoint d } in
+    let there : IsIn (placed b a p r) (placed_regions b a) = in_flat_map (placed_at b a) row (placed b a p r) b on_board (in_map (placed b a p) r d.regions declared) in
+    let unique : HasUniqueClaims b a fs = unique_claimant b a can fs same in
+    (each_in (λ (q : PlacedRegion). (j : ℕ) → j < q.size → IsClaimed fs q j) (placed b a p r) (placed_regions b a) unique.each_byte there k inside).claimed
+
+pub claim_in_any_order : ClaimInAnyOrder
+claim_in_any_order b a can qs same space n =
+    same_members space n (placed_regions b a) qs (placed_apart b a can.places can.declarations can.apertures (layout_is_lawful b a can.places can.declarations can.room) (rows_are_declared b a can.places can.declarations)) (λ q. (same q).1) (λ q. (same q).0)
+
+pub rows_are_placed : RowsArePlaced
+rows_are_placed b a board decls q = (rows_to_placed b a (rows_are_declared b a board decls) q, placed_to_rows b a (rows_are_declared b a board decls) q)

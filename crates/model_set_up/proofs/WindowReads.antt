@@ -1,0 +1,101 @@
+-- After set-up the window registers of each bridge name what placement put behind it.
+use Rattle.std.proofs.Common.{◌≡◌, ℕ, ◌+◌, ◌-◌, ◌*◌, ◌/◌, ◌%◌, ◌^◌, ◌≤◌, ◌<◌, Bool, true, Option, Some, None, refl, sym, ap, ap₂, ◌∙◌, subst, arith, div-add-mod', lit<}
+use Rattle.std.specs.Prelude.{nat_le}
+use Rattle.std.proofs.lemmas.Bool.{le-leb}
+use Rattle.model_registers.specs.Declarations.{IoDecode, no_io, io16, io32, PrefDecode, no_pref, pref32, pref64, Bridge}
+use Rattle.model_registers.specs.BridgeTable.{BridgeValues, bridge_file}
+use Rattle.model_board.specs.Windows.{Window, window, io_window, pref_window}
+use Rattle.model_set_up.specs.WindowLaws.{closed_io, closed_memory, Closes, ClosedWindows, io_reach, pref_reach, IsWhole, NamedWindows}
+use Rattle.model_set_up.specs.Pools.{has_io, has_pref}
+use Rattle.model_set_up.proofs.SetUpWindows.{io_reads, mem_reads, pref_reads_low, pref_reads}
+
+-- ---- windows
+
+-- addresses of whole units keep their bits
+whole_first : (unit n : ℕ) → n % unit ≡ 0 → n / unit * unit ≡ n
+whole_first unit n h = omega (arith, div-add-mod' n unit)
+
+io_last : (n : ℕ) → (n + 1) % 2 ^ 12 ≡ 0 → n / 2 ^ 12 * 2 ^ 12 + (2 ^ 12 - 1) ≡ n
+io_last n h = omega arith
+
+memory_last : (n : ℕ) → (n + 1) % 2 ^ 20 ≡ 0 → n / 2 ^ 20 * 2 ^ 20 + (2 ^ 20 - 1) ≡ n
+memory_last n h = omega arith
+
+in_order : (m n : ℕ) → m ≤ n → window m n ≡ Some (record { first = m; last = n })
+in_order m n h = let le : nat_le m n ≡ true = le-leb m n h in rw le
+
+abbrev named_by : ℕ → Window → Option Window
+named_by unit s = window (s.first / unit * unit) (s.last / unit * unit + (unit - 1))
+
+io_named : (s : Window) (reach : ℕ) → IsWhole (2 ^ 12) reach s → named_by (2 ^ 12) s ≡ Some s
+io_named s reach h = ap₂ window (whole_first (2 ^ 12) s.first h.first) (io_last s.last h.end) ∙ in_order s.first s.last h.in_order
+
+memory_named : (s : Window) (reach : ℕ) → IsWhole (2 ^ 20) reach s → named_by (2 ^ 20) s ≡ Some s
+memory_named s reach h = ap₂ window (whole_first (2 ^ 20) s.first h.first) (memory_last s.last h.end) ∙ in_order s.first s.last h.in_order
+
+-- ---- the registers of I/O with 32 address bits, above 64 KB too
+
+word_is : (q : ℕ) → q < 2 ^ 16 → q % 256 + 256 * (q / 256 % 256 + 256 * 0) ≡ q
+word_is q h = omega arith
+
+io_wide : (n : ℕ) → n < 2 ^ 32 → (n / 2 ^ 16 % 256 + 256 * (n / 2 ^ 16 / 256 % 256 + 256 * 0)) * 2 ^ 16 + ((n / 2 ^ 12 % 2 ^ 12 * 16 + 1) % 256 + 256 * 0) / 16 * 2 ^ 12 ≡ n / 2 ^ 12 * 2 ^ 12
+io_wide n h = ap (λ q. q * 2 ^ 16 + ((n / 2 ^ 12 % 2 ^ 12 * 16 + 1) % 256 + 256 * 0) / 16 * 2 ^ 12) (word_is (n / 2 ^ 16) (omega arith)) ∙ omega arith
+
+io_reads_wide : (vendor device revision : ℕ) (pref : PrefDecode) (multifunction : Bool) (r : BridgeValues) → r.io.first < 2 ^ 32 → r.io.last < 2 ^ 32
+    → io_window io32 (bridge_file (record { vendor = vendor; device = device; revision = revision; io = io32; pref = pref }) multifunction r) ≡ named_by (2 ^ 12) r.io
+io_reads_wide vendor device revision pref multifunction r f l = ap₂ (λ x y. window x (y + 0xfff)) (io_wide r.io.first f) (io_wide r.io.last l)
+
+-- a closed window lies within the reach of each decode, and its registers name no window
+record IsShut (unit reach : ℕ) (s : Window) : Type 0 where
+  first : s.first < reach
+  last : s.last < reach
+  shut : named_by unit s ≡ None
+
+io_shut : (s : Window) → s ≡ closed_io → IsShut (2 ^ 12) (2 ^ 16) s
+io_shut s e = subst (IsShut (2 ^ 12) (2 ^ 16)) (sym e) (record { first = lit< tt; last = lit< tt; shut = refl })
+
+memory_shut : (s : Window) → s ≡ closed_memory → IsShut (2 ^ 20) (2 ^ 32) s
+memory_shut s e = subst (IsShut (2 ^ 20) (2 ^ 32)) (sym e) (record { first = lit< tt; last = lit< tt; shut = refl })
+
+module _ (d : Bridge) (multifunction : Bool) (r : BridgeValues) where
+  io_closes : (k : IoDecode) → (has_io k ≡ true → io_window k (bridge_file d multifunction r) ≡ None) → io_window k (bridge_file d multifunction r) ≡ None
+  io_closes no_io h = refl
+  io_closes io16 h = h refl
+  io_closes io32 h = h refl
+
+  pref_closes : (k : PrefDecode) → (has_pref k ≡ true → pref_window k (bridge_file d multifunction r) ≡ None) → pref_window k (bridge_file d multifunction r) ≡ None
+  pref_closes no_pref h = refl
+  pref_closes pref32 h = h refl
+  pref_closes pref64 h = h refl
+
+  closes : Closes d multifunction r
+  closes = record {
+    io = λ e. let shut = io_shut r.io e in io_closes d.io (λ has. io_reads d multifunction r has shut.first shut.last ∙ shut.shut);
+    mem = λ e. let shut = memory_shut r.mem e in mem_reads d multifunction r shut.first shut.last ∙ shut.shut;
+    pref = λ e. let shut = memory_shut r.pref e in pref_closes d.pref (λ has. pref_reads_low d multifunction r has shut.first shut.last ∙ shut.shut);
+  }
+
+-- the same of the bridge's parts, one by one
+module _ (vendor device revision : ℕ) (multifunction : Bool) (r : BridgeValues) where
+  abbrev bridge_with : IoDecode → PrefDecode → Bridge
+  bridge_with k m = record { vendor = vendor; device = device; revision = revision; io = k; pref = m }
+
+  io_by : (k : IoDecode) (m : PrefDecode) → IsWhole (2 ^ 12) (io_reach k) r.io → io_window k (bridge_file (bridge_with k m) multifunction r) ≡ named_by (2 ^ 12) r.io
+  io_by no_io m h = absurd (omega (arith, h.reached))
+  io_by io16 m h = io_reads (bridge_with io16 m) multifunction r refl (omega (arith, h.in_order, h.reached)) h.reached
+  io_by io32 m h = io_reads_wide vendor device revision m multifunction r (omega (arith, h.in_order, h.reached)) h.reached
+
+  pref_by : (k : IoDecode) (m : PrefDecode) → IsWhole (2 ^ 20) (pref_reach m) r.pref → pref_window m (bridge_file (bridge_with k m) multifunction r) ≡ named_by (2 ^ 20) r.pref
+  pref_by k no_pref h = absurd (omega (arith, h.reached))
+  pref_by k pref32 h = pref_reads_low (bridge_with k pref32) multifunction r refl (omega (arith, h.in_order, h.reached)) h.reached
+  pref_by k pref64 h = pref_reads (bridge_with k pref64) multifunction r refl (omega (arith, h.in_order, h.reached)) h.reached
+
+pub closed_windows : ClosedWindows
+closed_windows d multifunction r = closes d multifunction r
+
+pub windows_named : NamedWindows
+windows_named d multifunction r = record {
+  io = λ h. io_by d.vendor d.device d.revision multifunction r d.io d.pref h ∙ io_named r.io (io_reach d.io) h;
+  mem = λ h. mem_reads d multifunction r (omega (arith, h.in_order, h.reached)) h.reached ∙ memory_named r.mem (2 ^ 32) h;
+  pref = λ h. pref_by d.vendor d.device d.revision multifunction r d.io d.pref h ∙ memory_named r.pref (pref_reach d.pref) h;
+}

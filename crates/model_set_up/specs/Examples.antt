@@ -1,0 +1,125 @@
+-- Boards and apertures of the worked examples.
+--     main_board, main_apertures      two endpoints behind a bridge, and one beside it
+--     twin_bridges      two bridges, each over 16 MB and 1 MB
+--     many_bridges      255 bridges
+--     chain      bridges one behind the other, and an endpoint at the end
+use Rattle.std.specs.Prelude.{List, [], ◌∷◌, ℕ, zero, suc, ◌/◌, ◌%◌, true, false, replicate, ◌^◌, ◌++◌, Some}
+use Rattle.model_registers.specs.Cell.{Cell}
+use Rattle.model_registers.specs.Declarations.{Kind, io_kind, mem32, mem64, Region, Endpoint, no_io, io16, no_pref}
+use Rattle.model_registers.specs.Declarations.{pref64, Bridge}
+use Rattle.model_board.specs.Paths.{Part, Path}
+use Rattle.model_board.specs.Board.{Decl, endpoint, bridge, Row, Board}
+use Rattle.model_registers.specs.Apertures.{Aperture, Apertures}
+
+abbrev pub part : ℕ → ℕ → Part
+part d f = record { device = d; function = f }
+
+abbrev pub function_at : Path → Decl → Row
+function_at p d = record { path = p; decl = d }
+
+abbrev pub aperture : ℕ → ℕ → Aperture
+aperture first last = record { first = first; last = last }
+
+-- a region without register cells
+abbrev pub region : ℕ → Kind → ℕ → Region
+region n kind size = record { index = n; kind = kind; size = size; cells = [] }
+
+abbrev pub writable_cell : ℕ → Cell
+writable_cell v = record { value = v; writable = 0xff; clearable = 0 }
+
+abbrev pub constant_cell : ℕ → Cell
+constant_cell v = record { value = v; writable = 0; clearable = 0 }
+
+abbrev pub plain : ℕ → ℕ → ℕ → List Region → Endpoint
+plain id status pin regions = record {
+  vendor = 0x1234;
+  device = id;
+  revision = 0;
+  class = 0xff0000;
+  subvendor = 0;
+  subsystem = 0;
+  pin = pin;
+  min_gnt = 0;
+  max_lat = 0;
+  status = status;
+  regions = regions;
+  blocks = [];
+}
+
+-- ---- the main board
+
+abbrev pub first_endpoint : Endpoint
+first_endpoint = plain 1 0x8000 1 (
+    region 0 io_kind 32
+    ∷ record { index = 1; kind = mem32 false; size = 4096; cells = replicate 64 (writable_cell 0) } ∷ [])
+
+abbrev pub main_bridge : Bridge
+main_bridge = record { vendor = 0x1234; device = 2; revision = 0; io = io16; pref = pref64 }
+
+abbrev pub second_endpoint : Endpoint
+second_endpoint = plain 3 0 0 (region 0 (mem32 false) 0x100000 ∷ region 1 io_kind 8 ∷ [])
+
+abbrev pub third_endpoint : Endpoint
+third_endpoint = plain 4 0 1 (
+    record { index = 0; kind = mem64 true; size = 0x1000000; cells = replicate 16 (constant_cell 0xa5) } ∷ [])
+
+-- the main board with another bridge
+abbrev pub main_board_with : Bridge → Board
+main_board_with d =
+    function_at (part 1 0 ∷ []) (endpoint first_endpoint)
+    ∷ function_at (part 2 0 ∷ []) (bridge d)
+    ∷ function_at (part 2 0 ∷ part 0 0 ∷ []) (endpoint second_endpoint)
+    ∷ function_at (part 2 0 ∷ part 1 0 ∷ []) (endpoint third_endpoint) ∷ []
+
+abbrev pub main_board : Board
+main_board = main_board_with main_bridge
+
+abbrev pub main_apertures : Apertures
+main_apertures = record {
+  io = aperture 0x1000 0xffff;
+  mem = aperture 0xc0000000 0xdfffffff;
+  pref = Some (aperture 0x400000000 0x4ffffffff);
+}
+
+-- ---- further boards
+
+-- a bridge that forwards memory alone
+abbrev pub memory_bridge : Bridge
+memory_bridge = record { vendor = 0x1234; device = 5; revision = 0; io = no_io; pref = no_pref }
+
+-- an endpoint with one memory region
+abbrev pub memory_of : ℕ → Endpoint
+memory_of size = plain 3 0 0 (region 0 (mem32 false) size ∷ [])
+
+-- a bridge over 16 MB and 1 MB
+abbrev pub pair_behind : ℕ → Board
+pair_behind d =
+    function_at (part d 0 ∷ []) (bridge memory_bridge)
+    ∷ function_at (part d 0 ∷ part 0 0 ∷ []) (endpoint (memory_of (2 ^ 24)))
+    ∷ function_at (part d 0 ∷ part 1 0 ∷ []) (endpoint (memory_of (2 ^ 20))) ∷ []
+
+abbrev pub twin_bridges : Board
+twin_bridges = pair_behind 1 ++ pair_behind 2
+
+-- a bridge with nothing behind it
+abbrev pub lone_bridge : Bridge → Board
+lone_bridge d = function_at (part 2 0 ∷ []) (bridge d) ∷ []
+
+-- 128 bridges on bus 0, and one behind each but the last
+abbrev pub many_pairs : ℕ → Board
+many_pairs zero = []
+many_pairs (suc n) = many_pairs n ++
+    function_at (part (n / 8) (n % 8) ∷ []) (bridge main_bridge)
+    ∷ function_at (part (n / 8) (n % 8) ∷ part 0 0 ∷ []) (bridge main_bridge) ∷ []
+
+abbrev pub many_bridges : Board
+many_bridges = many_pairs 127 ++ function_at (part 15 7 ∷ []) (bridge main_bridge) ∷ []
+
+-- n bridges behind the bus at `above`, one behind the other, and an endpoint at the end
+abbrev pub chain_below : Path → ℕ → Endpoint → Board
+chain_below above zero d = function_at (above ++ part 0 0 ∷ []) (endpoint d) ∷ []
+chain_below above (suc n) d =
+    function_at (above ++ part 0 0 ∷ []) (bridge memory_bridge) ∷ chain_below (above ++ part 0 0 ∷ []) n d
+
+abbrev pub chain : ℕ → Endpoint → Board
+chain n d = chain_below [] n d

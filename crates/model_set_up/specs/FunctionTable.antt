@@ -1,0 +1,88 @@
+-- What software finds of a board's functions by configuration cycles: PCI Local Bus 3.0, chapters 6.2.1 and 6.2.5.1;
+-- PCI-to-PCI Bridge Architecture 1.2, chapter 3.2.
+--     met_decl, found_decl      what a scan, and sizing after it, find of a declaration; all else counts as 0 or none
+--     BusRange, TableRow      the numbers of the buses behind a bridge; a function with the number of its bus
+--     scanned_table, sized_table      a board's functions as a scan, and as sizing after it, leave them in a table
+--     board_in      a table as a board of what was found
+--     PlacedAsFound      placement looks at nothing else of a board
+use Rattle.std.specs.Prelude.{List, [], ◌≡◌, ℕ, Option, Some, None, map}
+use Rattle.model_registers.specs.Declarations.{Endpoint, no_io, no_pref, Bridge}
+use Rattle.model_registers.specs.OwnCopies.{bare}
+use Rattle.model_board.specs.Paths.{Path}
+use Rattle.model_board.specs.Board.{Decl, endpoint, bridge, Row, Board, IsBoard}
+use Rattle.model_board.specs.BusNumbers.{secondary, subordinate, bus_of, Enumerates}
+use Rattle.model_registers.specs.Apertures.{Apertures}
+use Rattle.model_board.specs.Lawful.{HasLawfulDecls}
+use Rattle.model_set_up.specs.SetUpWrites.{planned, placement_rules}
+
+-- identity and pin
+abbrev pub met_endpoint : Endpoint → Endpoint
+met_endpoint d = record {
+  vendor = d.vendor;
+  device = d.device;
+  revision = 0;
+  class = 0;
+  subvendor = 0;
+  subsystem = 0;
+  pin = d.pin;
+  min_gnt = 0;
+  max_lat = 0;
+  status = 0;
+  regions = [];
+  blocks = [];
+}
+
+abbrev pub met_bridge : Bridge → Bridge
+met_bridge d = record { vendor = d.vendor; device = d.device; revision = 0; io = no_io; pref = no_pref }
+
+abbrev pub met_decl : Decl → Decl
+met_decl (endpoint d) = endpoint (met_endpoint d)
+met_decl (bridge d) = bridge (met_bridge d)
+
+-- the same with kinds and sizes, or with the decode of a bridge's windows
+abbrev pub found_decl : Decl → Decl
+found_decl (endpoint d) = endpoint (record (met_endpoint d) { regions = map bare d.regions })
+found_decl (bridge d) = bridge (record (met_bridge d) { io = d.io; pref = d.pref })
+
+-- Secondary and Subordinate Bus Number
+pub record BusRange : Type 0 where
+  pub first : ℕ
+  pub last : ℕ
+
+pub record TableRow : Type 0 where
+  pub path : Path
+  pub bus : ℕ
+  pub behind : Option BusRange
+  pub decl : Decl
+
+abbrev pub range_behind : Board → Path → Decl → Option BusRange
+range_behind b p (endpoint d) = None
+range_behind b p (bridge d) = Some (record { first = secondary b p; last = subordinate b p })
+
+abbrev pub table_row : Board → (Decl → Decl) → Row → TableRow
+table_row b found r =
+    record { path = r.path; bus = bus_of b r.path; behind = range_behind b r.path r.decl; decl = found r.decl }
+
+abbrev pub scanned_table : Board → List TableRow
+scanned_table b = map (table_row b met_decl) b
+
+abbrev pub sized_table : Board → List TableRow
+sized_table b = map (table_row b found_decl) b
+
+abbrev pub board_in : List TableRow → Board
+board_in rows = map (λ (r : TableRow). record { path = r.path; decl = r.decl }) rows
+
+-- ---- placement
+
+-- a lawful board as it was found is a lawful board with the same table, the same plan and the same causes of a refusal,
+-- and it enumerates where the board does
+pub record IsPlacedAsFound (b : Board) : Type 0 where
+  pub board : IsBoard (board_in (sized_table b))
+  pub declarations : HasLawfulDecls (board_in (sized_table b))
+  pub few : Enumerates b → Enumerates (board_in (sized_table b))
+  pub table : sized_table (board_in (sized_table b)) ≡ sized_table b
+  pub plan : (a : Apertures) → planned (board_in (sized_table b)) a ≡ planned b a
+  pub rules : (a : Apertures) → placement_rules (board_in (sized_table b)) a ≡ placement_rules b a
+
+abbrev pub PlacedAsFound : Type 0
+PlacedAsFound = (b : Board) → IsBoard b → HasLawfulDecls b → IsPlacedAsFound b

@@ -1,0 +1,26 @@
+-- The order in which items stand on a bus: a sorted permutation, and the only one.
+--     OrderIsSorted      in_order gives a sorted permutation
+--     OneOrder      however a bus's items are sorted, they come in this order
+use Rattle.std.specs.Prelude.{List, ◌≡◌}
+use Rattle.std.specs.List.Sorted.{IsPermutation, IsSortedBy}
+use Rattle.model_board.specs.Paths.{Path}
+use Rattle.model_board.specs.Board.{Board, IsBoard}
+use Rattle.model_set_up.specs.Pools.{Pool}
+use Rattle.model_registers.specs.Apertures.{Apertures}
+use Rattle.model_set_up.specs.Placement.{Item, stands_before, in_order, items_on}
+use Rattle.model_board.specs.Lawful.{HasLawfulDecls}
+
+-- no item stands before the one that it follows
+abbrev pub IsInOrder : List Item → Type 0
+IsInOrder is = IsSortedBy stands_before is
+
+pub record IsOrderOf (is js : List Item) : Type 0 where
+  pub same : IsPermutation is js
+  pub sorted : IsInOrder js
+
+abbrev pub OrderIsSorted : Type 0
+OrderIsSorted = (is : List Item) → IsOrderOf is (in_order is)
+
+abbrev pub OneOrder : Type 0
+OneOrder = (b : Board) (a : Apertures) (pool : Pool) (bus : Path) → IsBoard b → HasLawfulDecls b → (js : List Item)
+    → IsOrderOf (items_on b a pool bus) js → js ≡ in_order (items_on b a pool bus)

@@ -1,0 +1,155 @@
+-- Where set-up places regions and windows, one pool at a time: this project's own rule. A window extends over whole
+-- units: PCI-to-PCI Bridge Architecture 1.2, chapter 3.2.5.
+--     Placed, Item      the region of a register or a bridge's window; one of them on a bus, with alignment and size
+--     in_order      items by alignment descending, then device, function and register
+--     Spot, spots      an item and its offset on the bus; the items one after the other
+--     need, alignment      size and alignment of a bus's window
+--     items_on      what stands on a bus: its regions of the pool, and the windows of its bridges that have items
+--     fits      whether a pool fits its aperture
+--     bus_first, region_first      the address at which a bus begins, and a region
+use Rattle.std.specs.Prelude.{List, [], ◌∷◌, ℕ, ◌-◌, zero, suc, ◌+◌, ◌*◌, ◌/◌, Bool, true, false, ◌&&◌, ◌==◌}
+use Rattle.std.specs.Prelude.{if◌then◌else◌, ◌++◌, flat_map, ◌||◌, nat_lt, nat_le, map, filter, max}
+use Rattle.std.specs.Option.{option_map_or}
+use Rattle.model_registers.specs.Declarations.{Region, Endpoint}
+use Rattle.model_board.specs.Paths.{Part, Path, part_eq, parent, last_part}
+use Rattle.model_board.specs.Board.{endpoint, bridge, Row, Board, rows_on}
+use Rattle.model_set_up.specs.Pools.{Pool, same_pool, unit_of, bridges_above, pool_of, aperture_of}
+use Rattle.model_registers.specs.Apertures.{Aperture, Apertures}
+
+-- what is placed: the region of a base address register, or the window of a bridge
+pub data Placed : Type 0 where
+  a_region : ℕ → Placed
+  a_window : Placed
+
+abbrev pub same_placed : Placed → Placed → Bool
+same_placed (a_region n) (a_region m) = n == m
+same_placed a_window a_window = true
+same_placed (a_region n) a_window = false
+same_placed a_window (a_region m) = false
+
+-- the register that tells items of one function apart; a bridge has one item at most
+abbrev pub register_of : Placed → ℕ
+register_of (a_region n) = n
+register_of a_window = 0
+
+-- what one function of a bus has there
+pub record Item : Type 0 where
+  pub part : Part
+  pub what : Placed
+  pub align : ℕ
+  pub size : ℕ
+
+-- alignment descending, then device, function and register
+abbrev pub stands_before : Item → Item → Bool
+stands_before i j =
+    nat_lt j.align i.align || (i.align == j.align && (nat_lt i.part.device j.part.device
+    || (i.part.device == j.part.device && (nat_lt i.part.function j.part.function
+    || (i.part.function == j.part.function && nat_lt (register_of i.what) (register_of j.what))))))
+
+abbrev pub inserted : Item → List Item → List Item
+inserted i [] = i ∷ []
+inserted i (j ∷ js) = if stands_before j i then j ∷ inserted i js else i ∷ j ∷ js
+
+abbrev pub in_order : List Item → List Item
+in_order [] = []
+in_order (i ∷ is) = inserted i (in_order is)
+
+-- the least multiple of a that is not before n
+abbrev pub round_up : ℕ → ℕ → ℕ
+round_up a n = (n + (a - 1)) / a * a
+
+-- where the last of the items ends, if the first may begin at n
+abbrev pub end_from : ℕ → List Item → ℕ
+end_from n [] = n
+end_from n (i ∷ is) = end_from (round_up i.align n + i.size) is
+
+-- an item and the offset at which it begins
+pub record Spot : Type 0 where
+  pub item : Item
+  pub first : ℕ
+
+abbrev pub spot_end : Spot → ℕ
+spot_end s = s.first + s.item.size
+
+-- the items one after the other, each at the least multiple of its alignment that is not before the former's end
+abbrev pub spots_from : ℕ → List Item → List Spot
+spots_from n [] = []
+spots_from n (i ∷ is) = record { item = i; first = round_up i.align n } ∷ spots_from (round_up i.align n + i.size) is
+
+abbrev pub spots : List Item → List Spot
+spots is = spots_from 0 (in_order is)
+
+-- the item is what the function at this part has
+abbrev pub is_item : Part → Placed → Item → Bool
+is_item p w i = part_eq i.part p && same_placed i.what w
+
+-- its offset on the bus
+abbrev pub offset_in : List Spot → Part → Placed → ℕ
+offset_in [] p w = 0
+offset_in (s ∷ ss) p w = if is_item p w s.item then s.first else offset_in ss p w
+
+abbrev pub need : ℕ → List Item → ℕ
+need unit is = round_up unit (end_from 0 (in_order is))
+
+abbrev pub alignment : ℕ → List Item → ℕ
+alignment unit [] = unit
+alignment unit (i ∷ is) = max i.align (alignment unit is)
+
+abbrev pub region_item : Part → Region → Item
+region_item p r = record { part = p; what = a_region r.index; align = r.size; size = r.size }
+
+abbrev pub region_items : Board → Apertures → Pool → Path → Endpoint → List Item
+region_items b a pool p d =
+    map (region_item (last_part p)) (filter (λ r. same_pool (pool_of a (bridges_above b p) r.kind) pool) d.regions)
+
+-- a bus without items has no window
+abbrev pub window_items : ℕ → Part → List Item → List Item
+window_items unit p [] = []
+window_items unit p (i ∷ is) =
+    record { part = p; what = a_window; align = alignment unit (i ∷ is); size = need unit (i ∷ is) } ∷ []
+
+abbrev pub items_of : Board → Apertures → Pool → (Path → List Item) → Row → List Item
+items_of b a pool behind r =
+    elim r.decl [
+      | endpoint d ↦ region_items b a pool r.path d
+      | bridge d ↦ window_items (unit_of pool) (last_part r.path) (behind r.path)
+    ]
+
+-- the items of a bus, with at most n levels of buses from it down
+abbrev pub items_within : Board → Apertures → Pool → ℕ → Path → List Item
+items_within b a pool zero bus = []
+items_within b a pool (suc n) bus = flat_map (items_of b a pool (items_within b a pool n)) (rows_on b bus)
+
+-- a path has at most 16 parts, so there are at most 16 levels
+abbrev pub items_on : Board → Apertures → Pool → Path → List Item
+items_on b a pool bus = items_within b a pool 16 bus
+
+-- bus 0 begins at the least multiple of its alignment that is not before the aperture
+abbrev pub root_first : Apertures → Pool → List Item → ℕ
+root_first a pool is =
+    option_map_or (λ (ap : Aperture). round_up (alignment (unit_of pool) is) ap.first) (aperture_of a pool) 0
+
+abbrev pub aperture_end : Apertures → Pool → ℕ
+aperture_end a pool = option_map_or (λ (ap : Aperture). ap.last + 1) (aperture_of a pool) 0
+
+abbrev pub fits_items : Apertures → Pool → List Item → Bool
+fits_items a pool [] = true
+fits_items a pool (i ∷ is) = nat_le (root_first a pool (i ∷ is) + end_from 0 (in_order (i ∷ is))) (aperture_end a pool)
+
+abbrev pub fits : Board → Apertures → Pool → Bool
+fits b a pool = fits_items a pool (items_on b a pool [])
+
+abbrev pub offset_on : Board → Apertures → Pool → Path → Part → Placed → ℕ
+offset_on b a pool bus p w = offset_in (spots (items_on b a pool bus)) p w
+
+-- the first address of a bus in a pool, on the way from the bus `above` at `n` down the parts
+abbrev pub first_below : Board → Apertures → Pool → ℕ → Path → Path → ℕ
+first_below b a pool n above [] = n
+first_below b a pool n above (p ∷ ps) =
+    first_below b a pool (n + offset_on b a pool above p a_window) (above ++ p ∷ []) ps
+
+abbrev pub bus_first : Board → Apertures → Pool → Path → ℕ
+bus_first b a pool bus = first_below b a pool (root_first a pool (items_on b a pool [])) [] bus
+
+abbrev pub region_first : Board → Apertures → Pool → Path → ℕ → ℕ
+region_first b a pool p k = bus_first b a pool (parent p) + offset_on b a pool (parent p) (last_part p) (a_region k)

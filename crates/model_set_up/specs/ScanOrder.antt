@@ -1,0 +1,60 @@
+-- The order in which a scan meets functions: on a bus devices 0 to 15 and in a device functions 0 to 7, each bridge
+-- followed by all that stands behind it. Software looks for functions 1 to 7 where function 0 says that its device is
+-- a multifunction device: PCI Local Bus 3.0, chapter 6.2.1.
+--     nth_part n      the nth device and function of a bus; nth_part 128 is past the last
+--     next_part      the one of a bus that is looked at next
+--     met b here      the functions that a scan has met when it comes to a path
+--     MeetsInPathOrder, GivesNumbersInPathOrder      that order is path order, and bus numbers are given in it
+use Rattle.std.specs.Prelude.{[], ◌∷◌, ◌++◌, ◌≡◌, ℕ, ◌+◌, ◌/◌, ◌%◌, ◌&&◌, ◌==◌, if◌then◌else◌, not, filter, IsTrue}
+use Rattle.std.specs.Prelude.{IsFalse}
+use Rattle.lists.specs.Elements.{IsIn}
+use Rattle.model_board.specs.Paths.{Part, Path, path_eq, path_before}
+use Rattle.model_board.specs.Board.{is_bridge, Row, Board, stands_at, is_bridge_at, is_multifunction, IsBoard}
+use Rattle.model_board.specs.BusNumbers.{bridge_count, secondary, subordinate}
+use Rattle.model_set_up.specs.Scanning.{no_numbers, board_numbers, open_numbers, scan_numbers}
+
+abbrev pub nth_part : ℕ → Part
+nth_part n = record { device = n / 8; function = n % 8 }
+
+abbrev pub on : Path → ℕ → Path
+on bus n = bus ++ nth_part n ∷ []
+
+-- functions 1 to 7 are looked at where function 0 says that its device holds others
+abbrev pub next_part : Board → Path → ℕ → ℕ
+next_part b bus n =
+    if n % 8 == 0 && not (stands_at b (on bus n) && is_multifunction b (on bus n)) then n + 8 else n + 1
+
+abbrev pub met : Board → Path → Board
+met b here = filter (λ r. path_before r.path here) b
+
+pub record MeetsInPathOrder (b : Board) : Type 0 where
+  pub first : met b (on [] 0) ≡ []
+  pub last : met b (on [] 128) ≡ b
+  -- a function has been met when the scan comes to the first path behind it
+  pub behind : (r : Row) → IsIn r b → met b (on r.path 0) ≡ met b r.path ++ r ∷ []
+  -- an endpoint, or no function, stands at a path
+  pub endpoint : (bus : Path) (n : ℕ) → (r : Row) → IsIn r b → r.path ≡ on bus n → IsFalse (is_bridge r.decl)
+      → met b (on bus (next_part b bus n)) ≡ met b (on bus n) ++ r ∷ []
+  pub none : (bus : Path) (n : ℕ) → IsFalse (stands_at b (on bus n))
+      → met b (on bus (next_part b bus n)) ≡ met b (on bus n)
+  -- back from the end of the bus behind a bridge
+  pub back : (bus : Path) (n : ℕ) → IsTrue (is_bridge_at b (on bus n))
+      → met b (on bus (next_part b bus n)) ≡ met b (on (on bus n) 128)
+
+pub record GivesNumbersInPathOrder (b : Board) : Type 0 where
+  pub next_number : (here : Path) → secondary b here ≡ 1 + bridge_count (met b here)
+  pub last_number : (p : Path) → IsTrue (is_bridge_at b p) → secondary b (on p 128) ≡ 1 + subordinate b p
+  pub first : (q : Path) → IsTrue (is_bridge_at b q) → scan_numbers b (on [] 0) q ≡ no_numbers
+  pub last : (q : Path) → IsTrue (is_bridge_at b q) → scan_numbers b (on [] 128) q ≡ board_numbers b q
+  pub behind : (p q : Path) → scan_numbers b (on p 0) q ≡ (if path_eq q p then open_numbers b q else scan_numbers b p q)
+  pub no_bridge : (bus : Path) (n : ℕ) → IsFalse (is_bridge_at b (on bus n)) → (q : Path) → IsTrue (is_bridge_at b q)
+      → scan_numbers b (on bus (next_part b bus n)) q ≡ scan_numbers b (on bus n) q
+  pub back : (bus : Path) (n : ℕ) → IsTrue (is_bridge_at b (on bus n)) → (q : Path) → IsTrue (is_bridge_at b q)
+      → scan_numbers b (on bus (next_part b bus n)) q
+      ≡ (if path_eq q (on bus n) then board_numbers b q else scan_numbers b (on (on bus n) 128) q)
+
+abbrev pub ScanMeetsInPathOrder : Type 0
+ScanMeetsInPathOrder = (b : Board) → IsBoard b → MeetsInPathOrder b
+
+abbrev pub ScanGivesNumbersInPathOrder : Type 0
+ScanGivesNumbersInPathOrder = (b : Board) → IsBoard b → GivesNumbersInPathOrder b

@@ -1,0 +1,100 @@
+-- The bus numbers that bridges hold while a scan runs, and what a configuration cycle reaches then: PCI-to-PCI Bridge
+-- Architecture 1.2, chapter 3.2.5. A scan goes through the functions in path order, so when it comes to a path it has
+-- met the bridges before that path.
+--     BusNumbers      Primary, Secondary and Subordinate Bus Number
+--     board_numbers, open_numbers      the numbers of a bridge of the board; the same while its side is being scanned
+--     scan_numbers b here p      what the bridge at p holds when the scan comes to the path `here`
+--     scan_state, numbered_state      the board at such a time, and after the scan, all else at reset
+--     IsNumbered      a lawful board that enumerates, with its bus numbers, all else at reset
+--     HasOwnNumbers      some numbers stand in the bridges, all else is at reset
+--     HasScanNumbers      any registers with those numbers
+--     ReachedWhileScanning, NumbersOfScanState      with them a cycle reaches what stands there; a scan state has them
+use Rattle.std.specs.Prelude.{List, [], ◌∷◌, ◌++◌, ◌≡◌, ℕ, ◌≤◌, if◌then◌else◌, map, find, IsTrue, ◌⊎◌}
+use Rattle.lists.specs.Elements.{Each}
+use Rattle.model_registers.specs.Registers.{config, File, number}
+use Rattle.model_registers.specs.EndpointTable.{endpoint_reset}
+use Rattle.model_registers.specs.BridgeTable.{BridgeValues, no_bridge_values, bridge_file}
+use Rattle.model_board.specs.Paths.{Part, Path, path_eq, path_before, leads_to}
+use Rattle.model_board.specs.Board.{Decl, endpoint, bridge, is_bridge, is_bridge_at, is_multifunction, Board, IsBoard}
+use Rattle.model_board.specs.BusNumbers.{secondary, subordinate, bus_behind, bus_of, Enumerates}
+use Rattle.model_board.specs.State.{BoardFunction, State, row_at, state_of}
+use Rattle.model_board.specs.Cycles.{secondary_register, subordinate_register, reached}
+use Rattle.model_board.specs.Lawful.{HasLawfulDecls}
+use Rattle.model_board.specs.AtReset.{board_at}
+
+pub record BusNumbers : Type 0 where
+  pub primary : ℕ
+  pub secondary : ℕ
+  pub subordinate : ℕ
+
+abbrev pub no_numbers : BusNumbers
+no_numbers = record { primary = 0; secondary = 0; subordinate = 0 }
+
+abbrev pub board_numbers : Board → Path → BusNumbers
+board_numbers b p = record { primary = bus_of b p; secondary = secondary b p; subordinate = subordinate b p }
+
+-- a bridge whose side is being scanned takes all cycles for its own number and above
+abbrev pub open_numbers : Board → Path → BusNumbers
+open_numbers b p = record (board_numbers b p) { subordinate = 0xff }
+
+-- the sides of the bridges above the path are being scanned; the other bridges before it are done; those after it
+-- were not met
+abbrev pub scan_numbers : Board → Path → Path → BusNumbers
+scan_numbers b here p =
+    if leads_to p here then open_numbers b p else (if path_before p here then board_numbers b p else no_numbers)
+
+abbrev pub numbers_in : File → BusNumbers
+numbers_in file = record {
+  primary = number file (config 0x18) 1;
+  secondary = secondary_register file;
+  subordinate = subordinate_register file;
+}
+
+-- ---- whole states
+
+abbrev pub with_numbers : BusNumbers → BridgeValues
+with_numbers n = record no_bridge_values { primary = n.primary; secondary = n.secondary; subordinate = n.subordinate }
+
+-- the cells at reset, but for these numbers in the bridges
+abbrev pub numbered_file : Board → (Path → BusNumbers) → Path → Decl → File
+numbered_file b numbers p (endpoint d) = endpoint_reset d (is_multifunction b p)
+numbered_file b numbers p (bridge d) = bridge_file d (is_multifunction b p) (with_numbers (numbers p))
+
+abbrev pub scan_state : Board → Path → State
+scan_state b here = state_of b (numbered_file b (scan_numbers b here))
+
+abbrev pub numbered_state : Board → State
+numbered_state b = state_of b (numbered_file b (board_numbers b))
+
+pub record IsNumbered (s : State) : Type 0 where
+  pub board : IsBoard (board_at s.functions)
+  pub declarations : HasLawfulDecls (board_at s.functions)
+  pub few : Enumerates (board_at s.functions)
+  pub registers : s ≡ numbered_state (board_at s.functions)
+
+abbrev pub HasOwnNumbers : Board → State → Type 0
+HasOwnNumbers b s = (numbers : Path → BusNumbers) × (s ≡ state_of b (numbered_file b numbers))
+
+-- ---- reach
+
+-- the functions of the board, with these numbers in the bridges, whatever else their cells hold
+pub record HasScanNumbers (b : Board) (here : Path) (fs : List BoardFunction) : Type 0 where
+  pub rows : map row_at fs ≡ b
+  pub numbers : Each (λ f. IsTrue (is_bridge f.decl) → numbers_in f.file ≡ scan_numbers b here f.path) fs
+
+-- bus 0, or the bus behind a bridge
+abbrev pub IsBus : Board → Path → Type 0
+IsBus b bus = (bus ≡ []) ⊎ IsTrue (is_bridge_at b bus)
+
+-- where the scan has met at most 255 bridges, a cycle for a bus that it has met reaches the function that stands
+-- there, or none
+abbrev pub ReachedWhileScanning : Type 0
+ReachedWhileScanning = (b : Board) → IsBoard b → (here : Path) → secondary b here ≤ 256 → (fs : List BoardFunction)
+    → HasScanNumbers b here fs
+    → (bus : Path) → IsBus b bus → IsTrue (path_before bus here) → (t : Part)
+    → reached fs (record { bus = bus_behind b bus; part = t }) ≡ find (λ f. path_eq f.path (bus ++ t ∷ [])) fs
+
+-- a scan state has the numbers of the scan
+abbrev pub NumbersOfScanState : Type 0
+NumbersOfScanState = (b : Board) (here : Path) → secondary b here ≤ 256
+    → HasScanNumbers b here (scan_state b here).functions

@@ -1,0 +1,53 @@
+-- What set-up writes into the functions of a board, and why it refuses one: PCI Local Bus 3.0, chapters 6.2.2 and
+-- 6.2.5; PCI-to-PCI Bridge Architecture 1.2, chapter 3.2.5.
+--     Writes, Setting      Command, bases and windows of one function; the same with the numbers that reach it
+--     settings      of each function of a board, in path order
+--     Plan, planned      the rows of compact placement, and those settings
+--     placement_rules, set_up_rules      what a board must keep, in order, each with the number of its refusal
+use Rattle.std.specs.Prelude.{List, [], ◌∷◌, ℕ, Bool, map}
+use Rattle.model_registers.specs.Declarations.{Region}
+use Rattle.model_registers.specs.EndpointTable.{BaseAddress}
+use Rattle.model_board.specs.Paths.{Path}
+use Rattle.model_board.specs.Board.{Decl, endpoint, bridge, Row, Board}
+use Rattle.model_board.specs.BusNumbers.{numbers_suffice}
+use Rattle.model_board.specs.Cycles.{BusAddress}
+use Rattle.model_set_up.specs.Reach.{address_of}
+use Rattle.model_set_up.specs.Pools.{io_pool, mem_pool, pref_pool, has_io_paths}
+use Rattle.model_registers.specs.Apertures.{Apertures}
+use Rattle.model_set_up.specs.Placement.{fits}
+use Rattle.model_set_up.specs.Layout.{LayoutRow, layout}
+use Rattle.model_set_up.specs.SetUp.{first_of, command_of}
+pub use Rattle.model_set_up.specs.SetUp.{Windows, windows_of}
+
+pub data Writes : Type 0 where
+  to_endpoint : ℕ → List BaseAddress → Writes
+  to_bridge : Windows → Writes
+
+pub record Setting : Type 0 where
+  pub at : BusAddress
+  pub writes : Writes
+
+abbrev pub placed_base : Board → Apertures → Path → Region → BaseAddress
+placed_base b a p r = record { index = r.index; kind = r.kind; size = r.size; base = first_of b a p r }
+
+abbrev pub writes_of : Board → Apertures → Path → Decl → Writes
+writes_of b a p (endpoint d) = to_endpoint (command_of d) (map (placed_base b a p) d.regions)
+writes_of b a p (bridge d) = to_bridge (windows_of b a p)
+
+abbrev pub settings : Board → Apertures → List Setting
+settings b a = map (λ (r : Row). record { at = address_of b r.path; writes = writes_of b a r.path r.decl }) b
+
+pub record Plan : Type 0 where
+  pub rows : List LayoutRow
+  pub settings : List Setting
+
+abbrev pub planned : Board → Apertures → Plan
+planned b a = record { rows = layout b a; settings = settings b a }
+
+-- the numbers of the refusals of a board file's board
+abbrev pub placement_rules : Board → Apertures → List (ℕ × Bool)
+placement_rules b a =
+    (202, has_io_paths b) ∷ (203, fits b a io_pool) ∷ (204, fits b a mem_pool) ∷ (205, fits b a pref_pool) ∷ []
+
+abbrev pub set_up_rules : Board → Apertures → List (ℕ × Bool)
+set_up_rules b a = (201, numbers_suffice b) ∷ placement_rules b a

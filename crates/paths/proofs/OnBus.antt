@@ -1,0 +1,78 @@
+-- Path order on one bus: one part tells it.
+use Rattle.std.proofs.Common.{◌≡◌, ℕ, ◌+◌, ◌<◌, ◌≤◌, Bool, true, false, ◌&&◌, ◌||◌, [], ◌∷◌, ◌++◌, length, get_or, refl, ap, sym, ◌∙◌, arith, inl, inr, ◌⊎◌, subst}
+use Rattle.std.proofs.lemmas.Bool.Decides.{nat_tests}
+use Rattle.lists.proofs.Tests.{left_true, right_true}
+use Rattle.model_board.specs.Paths.{Part, Path, part_eq, part_before, path_eq, path_before, leads_to}
+
+or_false : (a b : Bool) → (a || (b && false)) ≡ a
+or_false true b = refl
+or_false false true = refl
+or_false false false = refl
+
+-- equal parts are in no order
+not_before : (a b : Part) → part_eq a b ≡ true → part_before b a ≡ false
+not_before a b h = grind (arith, nat_tests)
+
+turned : (a b : Part) → part_eq a b ≡ true → part_eq b a ≡ true
+turned a b h = grind (arith, nat_tests)
+
+pub before_on : (bus p : Path) (t d : Part) → leads_to bus p ≡ true → path_before p (bus ++ t ∷ []) ≡ part_before (get_or p (length bus) d) t
+before_on [] [] t d h = absurd (cc)
+before_on [] (x ∷ []) t d h = or_false (part_before x t) (part_eq x t)
+before_on [] (x ∷ y ∷ p) t d h = or_false (part_before x t) (part_eq x t)
+before_on (a ∷ bus) [] t d h = absurd (cc)
+before_on (a ∷ bus) (x ∷ p) t d h =
+    let same : part_eq a x ≡ true = left_true (part_eq a x) (leads_to bus p) h in
+    rw (not_before a x same, turned a x same) (before_on bus p t d (right_true (part_eq a x) (leads_to bus p) h))
+
+-- a path that goes on behind the part is another
+pub other_on : (bus p : Path) (t : Part) → leads_to bus p ≡ true → length bus + 1 < length p → path_eq p (bus ++ t ∷ []) ≡ false
+other_on [] [] t h l = absurd (cc)
+other_on [] (x ∷ []) t h l = absurd (omega arith)
+other_on [] (x ∷ y ∷ p) t h l = and_false (part_eq x t)
+  where
+    and_false : (a : Bool) → (a && false) ≡ false
+    and_false true = refl
+    and_false false = refl
+other_on (a ∷ bus) [] t h l = absurd (cc)
+other_on (a ∷ bus) (x ∷ p) t h l =
+    let same : part_eq a x ≡ true = left_true (part_eq a x) (leads_to bus p) h in
+    rw (turned a x same) (other_on bus p t (right_true (part_eq a x) (leads_to bus p) h) (omega arith))
+
+pub same_on : (bus p : Path) (t d : Part) → leads_to bus p ≡ true → length p ≤ length bus + 1 → path_eq p (bus ++ t ∷ []) ≡ part_eq (get_or p (length bus) d) t
+same_on [] [] t d h l = absurd (cc)
+same_on [] (x ∷ []) t d h l = and_true (part_eq x t)
+  where
+    and_true : (a : Bool) → (a && true) ≡ a
+    and_true true = refl
+    and_true false = refl
+same_on [] (x ∷ y ∷ p) t d h l = absurd (omega arith)
+same_on (a ∷ bus) [] t d h l = absurd (cc)
+same_on (a ∷ bus) (x ∷ p) t d h l =
+    let same : part_eq a x ≡ true = left_true (part_eq a x) (leads_to bus p) h in
+    rw (turned a x same) (same_on bus p t d (right_true (part_eq a x) (leads_to bus p) h) (omega arith))
+
+-- ---- the part that was read
+
+module _ (bus p ps : Path) (t x : Part) (leads : leads_to bus p ≡ true) (whole : ps ≡ p) (at : x ≡ get_or ps (length bus) x) where
+  here : get_or p (length bus) x ≡ x
+  here = sym (at ∙ ap (λ (q : Path). get_or q (length bus) x) whole)
+
+  pub less_on : path_before p (bus ++ t ∷ []) ≡ part_before x t
+  less_on = before_on bus p t x leads ∙ ap (λ (z : Part). part_before z t) here
+
+  pub equal_on : length ps ≤ length bus + 1 → path_eq p (bus ++ t ∷ []) ≡ part_eq x t
+  equal_on l = same_on bus p t x leads (subst (λ (q : Path). length q ≤ length bus + 1) whole l) ∙ ap (λ (z : Part). part_eq z t) here
+
+  pub longer_on : length bus + 1 < length ps → path_eq p (bus ++ t ∷ []) ≡ false
+  longer_on l = other_on bus p t leads (subst (λ (q : Path). length bus + 1 < length q) whole l)
+
+  pub differs_on : part_eq x t ≡ false → path_eq p (bus ++ t ∷ []) ≡ false
+  differs_on e = by_size (sides (length ps) (length bus + 1))
+    where
+      sides : (a b : ℕ) → (a ≤ b) ⊎ (b < a)
+      sides a b = grind arith
+
+      by_size : (length ps ≤ length bus + 1) ⊎ (length bus + 1 < length ps) → path_eq p (bus ++ t ∷ []) ≡ false
+      by_size (inl l) = equal_on l ∙ e
+      by_size (inr l) = longer_on l

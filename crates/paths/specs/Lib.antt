@@ -1,0 +1,3 @@
+pub mod PathOrders
+pub mod PathLaws
+pub mod BusAddresses

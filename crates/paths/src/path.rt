@@ -1,0 +1,320 @@
+//! Where a function stands.
+ghost use Rattle.std.specs.Prelude.{◌≡◌, ◌&&◌, not, IsTrue, ◌+◌, ◌<◌, [], ◌∷◌, ◌++◌, length, refl};
+ghost use Rattle.std.specs.Ordering.{is_lt, is_eq, as_partial_cmp};
+ghost use Rattle.model_board.specs.Paths.{part_eq, part_before, path_eq, path_before, leads_to, parent, same_device, function_zero, last_part, IsPath};
+ghost use Rattle.std.specs.Cmp.{po, partial_equiv_from_equiv};
+ghost use Rattle.paths.specs.PathOrders.{path_cmp};
+ghost use Rattle.paths.specs.PathLaws.{paths_equal, paths_ordered, paths_tied};
+
+use arrayvec::ArrayVec;
+use std::cmp::Ordering;
+use std::marker::Model;
+
+/// A device and a function number on one bus.
+#[derive(Clone, Copy, Debug, Default, PartialEq, Eq, PartialOrd, Ord)]
+pub struct Part {
+    device: u8,
+    function: u8,
+}
+
+impl Model for Part {
+    ghost use Rattle.std.specs.Prelude.{◌<◌};
+    ghost use Rattle.model_board.specs.Paths.{Part as PartValue};
+
+    ghost Value = { PartValue };
+
+    ghost view = { λ p. record { device = p.device; function = p.function } };
+
+    ghost invariant = { λ p. (p.device < 16) × (p.function < 8) };
+
+    ghost inverse = { λ p. record { device = p.device; function = p.function } };
+}
+
+impl Part {
+    /// The function with this number in the device, from 0 to 15, and from 0 to 7.
+    pub fn new(device: u8, function: u8) -> Part
+        requires device { device < 16 }
+        requires function { function < 8 }
+        ensures { result ≡ record { device = device; function = function } }
+    {
+        Part { device, function }
+    }
+
+    /// The device, from 0 to 15.
+    pub fn device(self) -> u8
+        ensures value { result ≡ self.device }
+        ensures range { result < 16 }
+    {
+        self.device
+    }
+
+    /// The function, from 0 to 7.
+    pub fn function(self) -> u8
+        ensures value { result ≡ self.function }
+        ensures range { result < 8 }
+    {
+        self.function
+    }
+
+    /// The order in which a bus is scanned, against a device and a function number of any size.
+    fn compare_numbers(self, device: u8, function: u8) -> Ordering
+        ensures less { is_lt result ≡ part_before self (record { device = device; function = function }) }
+        ensures equal { is_eq result ≡ part_eq self (record { device = device; function = function }) }
+    {
+        if self.device == device && self.function == function {
+            Ordering::Equal
+        } else if self.device < device || (self.device == device && self.function < function) {
+            Ordering::Less
+        } else {
+            Ordering::Greater
+        }
+    }
+
+    /// Whether this one is met first as a bus is scanned.
+    pub fn is_before(self, other: Part) -> bool
+        ensures { result ≡ part_before self other }
+    {
+        self.device < other.device
+            || (self.device == other.device && self.function < other.function)
+    }
+}
+
+/// The parts from bus 0 down: each but the last names a bridge. It takes no memory.
+#[derive(Drop, Debug)]
+pub struct Path {
+    parts: ArrayVec<Part, 16>,
+}
+
+impl Model for Path {
+    ghost use Rattle.model_board.specs.Paths.{Path as PathValue, IsPath};
+
+    ghost Value = { PathValue };
+
+    ghost view = { λ p. p.parts.items };
+
+    ghost invariant = { λ p. IsPath p.parts.items };
+}
+
+impl Default for Path {
+    /// The path of device 0 and function 0 on bus 0.
+    fn default() -> Path
+        ensures { result ≡ record { device = 0; function = 0 } ∷ [] }
+    {
+        Path::on_root(Part::new(0, 0))
+    }
+}
+
+impl PartialEq for Path {
+    ghost eq = { path_eq };
+
+    ghost laws = { partial_equiv_from_equiv paths_equal };
+
+    fn eq(&self, other: &Path) -> bool {
+        is_same(self.parts(), other.parts())
+    }
+}
+
+impl Eq for Path {
+    ghost laws = { paths_equal };
+}
+
+/// Path order: part by part, and a path before its extensions.
+impl Ord for Path {
+    ghost cmp = { path_cmp };
+
+    ghost total = { paths_ordered };
+
+    ghost matches_partial_cmp = { λ p q. refl };
+
+    ghost matches_eq = { paths_tied };
+
+    fn cmp(&self, other: &Path) -> Ordering {
+        compare(self.parts(), other.parts())
+    }
+}
+
+impl PartialOrd for Path {
+    ghost partial_cmp = { as_partial_cmp path_cmp };
+
+    ghost laws = { po paths_ordered paths_tied };
+
+    fn partial_cmp(&self, other: &Path) -> Option<Ordering> {
+        Some(self.cmp(other))
+    }
+}
+
+impl Path {
+    /// The path of a function on bus 0.
+    pub fn on_root(part: Part) -> Path
+        ensures { result ≡ part ∷ [] }
+    {
+        let mut parts = ArrayVec::new();
+        parts.push(part);
+        Path { parts }
+    }
+
+    /// Goes on to a function behind the bridge at this path, of at most 15 parts.
+    pub fn push(&mut self, part: Part)
+        requires { length self.old < 16 }
+        ensures { self.new ≡ self.old ++ part ∷ [] }
+    {
+        self.parts.push(part);
+    }
+
+    /// The parts, the one on bus 0 first.
+    pub fn parts(&self) -> &[Part]
+        ensures value { result.now ≡ self.now }
+        ensures path { IsPath self.now }
+    {
+        self.parts.as_slice()
+    }
+
+    /// A copy of this path. It takes no memory, so unlike a `clone` it can't fail.
+    pub fn copied(&self) -> Path
+        ensures { result ≡ self.now }
+    {
+        let mut parts = ArrayVec::new();
+        for part in self.parts() {
+            parts.push(*part);
+        }
+        Path { parts }
+    }
+
+    /// Whether these are the parts of this path.
+    pub fn has_parts(&self, parts: &[Part]) -> bool
+        ensures { result ≡ path_eq self.now parts.now }
+    {
+        is_same(self.parts(), parts)
+    }
+
+    /// Whether this path comes before the other: part by part, and a path before its extensions.
+    pub fn is_before(&self, other: &Path) -> bool
+        ensures { result ≡ path_before self.now other.now }
+    {
+        is_before(self.parts(), other.parts())
+    }
+
+    /// Path order against the function with these numbers on a bus that this path is behind. One part
+    /// tells it, since all before it are those of the bus.
+    pub fn compare_on(&self, bus: &[Part], device: u8, function: u8) -> Ordering
+        requires { IsTrue (leads_to bus.now self.now) }
+        ensures less { is_lt result
+            ≡ path_before self.now (bus.now ++ record { device = device; function = function } ∷ []) }
+        ensures equal { is_eq result
+            ≡ path_eq self.now (bus.now ++ record { device = device; function = function } ∷ []) }
+    {
+        let parts = self.parts();
+        let depth = bus.len();
+        match parts[depth].compare_numbers(device, function) {
+            Ordering::Less => Ordering::Less,
+            Ordering::Greater => Ordering::Greater,
+            Ordering::Equal => {
+                if parts.len() > depth + 1 {
+                    Ordering::Greater
+                } else {
+                    Ordering::Equal
+                }
+            }
+        }
+    }
+
+    /// Whether the other path is that of another function in the same device.
+    pub fn shares_device(&self, other: &Path) -> bool
+        ensures { result ≡ (same_device other.now self.now && not (path_eq other.now self.now)) }
+    {
+        is_same(other.parent(), self.parent())
+            && other.last().device() == self.last().device()
+            && other != self
+    }
+
+    /// Whether this path is a proper beginning of the other.
+    pub fn leads_to(&self, other: &Path) -> bool
+        ensures { result ≡ leads_to self.now other.now }
+    {
+        leads_to(self.parts(), other.parts())
+    }
+
+    /// The parts of the bridge above, and none for a function on bus 0.
+    pub fn parent(&self) -> &[Part]
+        ensures value { result.now ≡ parent self.now }
+        ensures short { length result.now < 16 }
+        ensures path { IsPath self.now }
+    {
+        let parts = self.parts();
+        &parts[..parts.len() - 1]
+    }
+
+    /// The path of function 0 in the same device.
+    pub fn function_zero(&self) -> Path
+        ensures { result ≡ function_zero self.now }
+    {
+        let parts = self.parts();
+        let device = parts[parts.len() - 1].device();
+        let mut zero = ArrayVec::new();
+        for part in &parts[..parts.len() - 1] {
+            zero.push(*part);
+        }
+        zero.push(Part::new(device, 0));
+        Path { parts: zero }
+    }
+
+    /// The device and function on the path's own bus.
+    pub fn last(&self) -> Part
+        ensures { result ≡ last_part self.now }
+    {
+        let parts = self.parts();
+        parts[parts.len() - 1]
+    }
+}
+
+fn is_same(xs: &[Part], ys: &[Part]) -> bool
+    ensures { result ≡ path_eq xs.now ys.now }
+{
+    match xs {
+        [] => ys.is_empty(),
+        [x, xs @ ..] => match ys {
+            [] => false,
+            [y, ys @ ..] => x == y && is_same(xs, ys),
+        },
+    }
+}
+
+fn is_before(xs: &[Part], ys: &[Part]) -> bool
+    ensures { result ≡ path_before xs.now ys.now }
+{
+    match xs {
+        [] => !ys.is_empty(),
+        [x, xs @ ..] => match ys {
+            [] => false,
+            [y, ys @ ..] => x.is_before(*y) || (x == y && is_before(xs, ys)),
+        },
+    }
+}
+
+fn leads_to(xs: &[Part], ys: &[Part]) -> bool
+    ensures { result ≡ leads_to xs.now ys.now }
+{
+    match xs {
+        [] => !ys.is_empty(),
+        [x, xs @ ..] => match ys {
+            [] => false,
+            [y, ys @ ..] => x == y && leads_to(xs, ys),
+        },
+    }
+}
+
+fn compare(xs: &[Part], ys: &[Part]) -> Ordering
+    ensures { result ≡ path_cmp xs.now ys.now }
+{
+    match xs {
+        [] if ys.is_empty() => Ordering::Equal,
+        [] => Ordering::Less,
+        [x, xs @ ..] => match ys {
+            [] => Ordering::Greater,
+            [y, ys @ ..] => match x.cmp(y) {
+                Ordering::Equal => compare(xs, ys),
+                other => other,
+            },
+        },
+    }
+}

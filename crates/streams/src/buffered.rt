@@ -1,0 +1,178 @@
+//! A writer that keeps bytes back.
+ghost use Rattle.std.specs.Prelude.{◌≡◌, ◌+◌, ◌-◌, ◌^◌, ◌<◌, [], false, true, length};
+ghost use Rattle.std.specs.Prelude.{IfOk, OnOk, OnErr, IsErr, IsTrue};
+ghost use Rattle.std.specs.Io.{WritesAtMost};
+ghost use Rattle.std.specs.Io.KnownBytes.{WriteAppends, Keeps, append_known};
+ghost use Rattle.streams.specs.Ends.{failures_of, write_failures_of};
+ghost use Rattle.streams.specs.Kept.{writer_behind, kept_back, is_stopped, refusals};
+
+use crate::ends::{Failed, Writer};
+use crate::kept::Kept;
+use std::alloc::{AllocError, Global};
+
+/// A writer that keeps back what it takes, until a flush or until it has no room for more, so that few
+/// bytes cost no call of the writer behind it.
+///
+/// Nothing is tried again. After the first call that fails each one fails and asks the writer behind for
+/// nothing more, and what is kept back then is never handed on, nor is it when this writer is dropped.
+#[derive(Drop)]
+pub struct BufferedWriter<W: Writer + Drop> {
+    inner: W,
+    kept: Kept,
+    /// Whether a call has failed.
+    stopped: bool,
+    /// The calls that failed without a call of `inner`.
+    refusals: u64,
+}
+
+impl<W: Writer + Drop> BufferedWriter<W> {
+    /// A writer that keeps back at most `capacity` bytes before `inner`, and nothing yet.
+    pub fn with_capacity(alloc: Global, capacity: usize, inner: W) -> Result<Self, AllocError>
+        ensures behind { IfOk result (λ w. writer_behind w ≡ inner) }
+        ensures kept { IfOk result (λ w. kept_back w ≡ []) }
+        ensures goes_on { IfOk result (λ w. is_stopped w ≡ false) }
+        ensures refusals { IfOk result (λ w. refusals w ≡ 0) }
+    {
+        Ok(BufferedWriter {
+            inner,
+            kept: Kept::with_capacity(alloc, capacity)?,
+            stopped: false,
+            refusals: 0,
+        })
+    }
+
+    /// The writer behind.
+    pub fn get_ref(&self) -> &W
+        ensures { result.now ≡ writer_behind self.now }
+    {
+        &self.inner
+    }
+
+    /// Fails without a call of the writer behind.
+    fn refuse(&mut self) -> Failed
+        requires { self.old.refusals < 2 ^ 64 - 1 }
+        ensures { self.new ≡ record self.old { stopped = true; refusals = self.old.refusals + 1 } }
+    {
+        self.stopped = true;
+        self.refusals += 1;
+        Failed
+    }
+
+    /// Hands on some of the bytes that are kept back.
+    fn hand_on_some(&mut self) -> Result<(), Failed>
+        requires room { W.failures self.old.inner < 2 ^ 64 - 1 }
+        ensures bytes { Keeps (append_known (W.written self.old.inner) self.old.kept.bytes)
+            (append_known (W.written self.new.inner) self.new.kept.bytes) }
+        ensures less { OnOk result (length self.new.kept.bytes < length self.old.kept.bytes) }
+        ensures same { self.new ≡ record self.old { inner = self.new.inner; kept = self.new.kept } }
+        ensures failures { W.failures self.new.inner ≡ W.failures self.old.inner + failures_of result }
+    {
+        let n = self.inner.write(self.kept.bytes())?;
+        if n == 0 {
+            return Err(Failed);
+        }
+        self.kept.let_go(n);
+        Ok(())
+    }
+
+    /// Hands on all that is kept back, or stops for good.
+    fn hand_on(&mut self) -> Result<(), Failed>
+        requires room { W.failures self.old.inner < 2 ^ 64 - 1 }
+        ensures bytes { Keeps (append_known (W.written self.old.inner) self.old.kept.bytes)
+            (append_known (W.written self.new.inner) self.new.kept.bytes) }
+        ensures empty { OnOk result (self.new.kept ≡ record self.new.kept { bytes = []; room = self.new.kept.capacity }) }
+        ensures goes_on { OnOk result (self.new.stopped ≡ false) }
+        ensures stops { OnErr result (self.new.stopped ≡ true) }
+        ensures refusals { self.new.refusals ≡ self.old.refusals }
+        ensures failures { W.failures self.new.inner ≡ W.failures self.old.inner + failures_of result }
+    {
+        self.stopped = true;
+        while !self.kept.bytes().is_empty() {
+            self.hand_on_some()?;
+        }
+        self.kept.clear();
+        self.stopped = false;
+        Ok(())
+    }
+
+    /// Takes bytes for which there may be no room, after what is kept back is handed on.
+    #[cold]
+    #[inline(never)]
+    fn make_room_and_keep(&mut self, bytes: &[u8]) -> Result<usize, Failed>
+        requires { W.failures self.old.inner + self.old.refusals < 2 ^ 64 - 1 }
+        ensures bound { WritesAtMost result bytes.now }
+        ensures bytes { WriteAppends (append_known (W.written self.old.inner) (kept_back self.old))
+            (append_known (W.written self.new.inner) (kept_back self.new)) result bytes.now }
+        ensures some { IfOk result (λ n. 0 < n) }
+        ensures goes_on { OnOk result (is_stopped self.new ≡ false) }
+        ensures stops { OnErr result (is_stopped self.new ≡ true) }
+        ensures stopped { IsTrue (is_stopped self.old) →
+            IsErr result × (writer_behind self.new ≡ writer_behind self.old) }
+        ensures failures { W.failures self.new.inner + self.new.refusals
+            ≡ W.failures self.old.inner + self.old.refusals + failures_of result }
+    {
+        if self.stopped || bytes.is_empty() {
+            return Err(self.refuse());
+        }
+        self.hand_on()?;
+        let n = bytes.len().min(self.kept.capacity());
+        if n == 0 {
+            return Err(self.refuse());
+        }
+        self.kept.keep(&bytes[..n]);
+        Ok(n)
+    }
+}
+
+impl<W: Writer + Drop> Writer for BufferedWriter<W> {
+    ghost written = { λ w. append_known (W.written (writer_behind w)) (kept_back w) };
+
+    ghost flushed = { λ w. W.flushed (writer_behind w) };
+
+    // Each failure of the writer behind is one, and no call of it that failed was tried again.
+    ghost failures = { λ w. W.failures (writer_behind w) + refusals w };
+
+    #[inline(always)]
+    fn write(&mut self, bytes: &[u8]) -> Result<usize, Failed>
+        requires { W.failures (writer_behind self.old) + refusals self.old < 2 ^ 64 - 1 }
+        ensures bound { WritesAtMost result bytes.now }
+        ensures bytes { WriteAppends (append_known (W.written (writer_behind self.old)) (kept_back self.old))
+            (append_known (W.written (writer_behind self.new)) (kept_back self.new)) result bytes.now }
+        ensures failures { W.failures (writer_behind self.new) + refusals self.new
+            ≡ W.failures (writer_behind self.old) + refusals self.old + write_failures_of result }
+        ensures goes_on { OnOk result (is_stopped self.new ≡ false) }
+        ensures stops { OnErr result (is_stopped self.new ≡ true) }
+        ensures stopped { IsTrue (is_stopped self.old) →
+            IsErr result × (writer_behind self.new ≡ writer_behind self.old) }
+    {
+        let room = self.kept.room();
+        if self.stopped || bytes.is_empty() || bytes.len() > room {
+            return self.make_room_and_keep(bytes);
+        }
+        self.kept.keep(bytes);
+        Ok(bytes.len())
+    }
+
+    fn flush(&mut self) -> Result<(), Failed>
+        requires { W.failures (writer_behind self.old) + refusals self.old < 2 ^ 64 - 1 }
+        ensures bytes { Keeps (append_known (W.written (writer_behind self.old)) (kept_back self.old))
+            (append_known (W.written (writer_behind self.new)) (kept_back self.new)) }
+        ensures flushed { OnOk result (W.flushed (writer_behind self.new)
+            ≡ append_known (W.written (writer_behind self.new)) (kept_back self.new)) }
+        ensures failures { W.failures (writer_behind self.new) + refusals self.new
+            ≡ W.failures (writer_behind self.old) + refusals self.old + failures_of result }
+        ensures goes_on { OnOk result (is_stopped self.new ≡ false) }
+        ensures stops { OnErr result (is_stopped self.new ≡ true) }
+        ensures stopped { IsTrue (is_stopped self.old) →
+            IsErr result × (writer_behind self.new ≡ writer_behind self.old) }
+    {
+        if self.stopped {
+            return Err(self.refuse());
+        }
+        self.hand_on()?;
+        self.stopped = true;
+        self.inner.flush()?;
+        self.stopped = false;
+        Ok(())
+    }
+}

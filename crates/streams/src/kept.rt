@@ -1,0 +1,91 @@
+//! Bytes that are kept back.
+ghost use Rattle.std.specs.Prelude.{◌≡◌, ◌≤◌, ◌-◌, ◌++◌, [], length, drop};
+ghost use Rattle.std.specs.Prelude.{IfOk};
+
+use std::alloc::{AllocError, Global};
+use std::marker::Model;
+
+/// Bytes that were taken and not handed on, in a place of a fixed size.
+#[derive(Drop)]
+pub(crate) struct Kept {
+    place: Vec<u8>,
+    /// So many of the bytes in `place` were handed on.
+    handed: usize,
+}
+
+impl Model for Kept {
+    ghost use Rattle.std.specs.Prelude.{◌≤◌, ◌-◌, drop, vec_len, vec_capacity};
+    ghost use Rattle.streams.specs.Keeping.{KeptBytes};
+
+    ghost Value = { KeptBytes };
+
+    ghost view = { λ k. record {
+      bytes = drop k.handed k.place.items;
+      room = vec_capacity k.place - vec_len k.place;
+      capacity = vec_capacity k.place;
+    } };
+
+    ghost invariant = { λ k. k.handed ≤ vec_len k.place };
+}
+
+impl Kept {
+    /// Room for `capacity` bytes.
+    pub(crate) fn with_capacity(alloc: Global, capacity: usize) -> Result<Kept, AllocError>
+        ensures { IfOk result (λ k. k ≡ record { bytes = []; room = capacity; capacity = capacity }) }
+    {
+        Ok(Kept {
+            place: Vec::with_capacity(alloc, capacity)?,
+            handed: 0,
+        })
+    }
+
+    /// The bytes.
+    pub(crate) fn bytes(&self) -> &[u8]
+        ensures { result.now ≡ self.now.bytes }
+    {
+        &self.place[self.handed..]
+    }
+
+    /// How many more bytes there is room for, before the place is cleared.
+    #[inline(always)]
+    pub(crate) fn room(&self) -> usize
+        ensures { result ≡ self.now.room }
+    {
+        self.place.capacity() - self.place.len()
+    }
+
+    /// How many bytes there is room for in a cleared place.
+    pub(crate) fn capacity(&self) -> usize
+        ensures { result ≡ self.now.capacity }
+    {
+        self.place.capacity()
+    }
+
+    /// Keeps more bytes.
+    #[inline(always)]
+    pub(crate) fn keep(&mut self, bytes: &[u8])
+        requires { length bytes.now ≤ self.old.room }
+        ensures bytes { self.new.bytes ≡ self.old.bytes ++ bytes.now }
+    {
+        let Ok(()) = self.place.extend_from_slice(bytes) else {
+            unreachable!()
+        };
+    }
+
+    /// Lets go of the first bytes, which were handed on.
+    pub(crate) fn let_go(&mut self, count: usize)
+        requires { count ≤ length self.old.bytes }
+        ensures { self.new ≡ record self.old { bytes = drop count self.old.bytes } }
+    {
+        self.handed += count;
+    }
+
+    /// Clears the place, whose bytes were all handed on.
+    pub(crate) fn clear(&mut self)
+        requires { self.old.bytes ≡ [] }
+        ensures { self.new ≡ record self.old { room = self.old.capacity } }
+    {
+        self.place.clear();
+        self.handed = 0;
+    }
+}

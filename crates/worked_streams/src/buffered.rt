@@ -1,0 +1,61 @@
+use fake_streams::FakeWriter;
+use std::test::Fail;
+use streams::{BufferedWriter, Writer, write_all};
+
+/// Behind a buffer of 10 bytes a writer that takes 4 bytes a call fails once, at each of its calls in
+/// turn, and would go on: it is asked for nothing more.
+#[test]
+fn nothing_is_written_after_a_failure(rt: HostRuntime) -> Result<(), Fail> {
+    let text = b"abcdefghijklmnopqrstuvwxy".as_slice();
+    let ends = [0, 4, 8, 10, 14, 18, 20, 24, 25];
+    for failing in 0..9u32 {
+        let fake = FakeWriter::<32>::new(4, Some(failing));
+        let mut writer = BufferedWriter::with_capacity(rt.alloc(), 10, fake)?;
+        let written = write_all(&mut writer, text);
+        assert_eq!(rt; written.is_err(), failing < 6, "call {failing}");
+        if written.is_ok() {
+            assert!(rt; writer.flush().is_err(), "call {failing}");
+        }
+        assert!(rt; writer.flush().is_err(), "call {failing}");
+        assert!(rt; writer.write(b"z").is_err(), "call {failing}");
+        assert!(rt; writer.flush().is_err(), "call {failing}");
+        let end = ends[failing as usize];
+        assert_eq!(rt; writer.get_ref().bytes(), &text[..end], "call {failing}");
+        assert_eq!(rt;
+            writer.get_ref().flushed(),
+            b"".as_slice(),
+            "call {failing}"
+        );
+    }
+    Ok(())
+}
+
+/// What is kept back is written when there is no room for more, and at a flush.
+#[test]
+fn bytes_are_kept_back(rt: HostRuntime) -> Result<(), Fail> {
+    let fake = FakeWriter::<32>::new(4, None);
+    let mut writer = BufferedWriter::with_capacity(rt.alloc(), 10, fake)?;
+    assert!(rt; write_all(&mut writer, b"abcdefg").is_ok());
+    assert!(rt; write_all(&mut writer, b"hij").is_ok());
+    assert_eq!(rt; writer.get_ref().bytes(), b"".as_slice());
+    assert!(rt; write_all(&mut writer, b"k").is_ok());
+    assert_eq!(rt; writer.get_ref().bytes(), b"abcdefghij".as_slice());
+    assert!(rt; writer.flush().is_ok());
+    assert_eq!(rt; writer.get_ref().flushed(), b"abcdefghijk".as_slice());
+    Ok(())
+}
+
+/// A write of no byte fails, and so does each write where there is no room at all.
+#[test]
+fn writes_that_take_nothing_fail(rt: HostRuntime) -> Result<(), Fail> {
+    let fake = FakeWriter::<8>::new(4, None);
+    let mut writer = BufferedWriter::with_capacity(rt.alloc(), 4, fake)?;
+    assert!(rt; writer.write(b"ab").is_ok());
+    assert!(rt; writer.write(b"").is_err());
+    assert!(rt; writer.flush().is_err());
+    assert_eq!(rt; writer.get_ref().bytes(), b"".as_slice());
+    let fake = FakeWriter::<8>::new(4, None);
+    let mut without_room = BufferedWriter::with_capacity(rt.alloc(), 0, fake)?;
+    assert!(rt; without_room.write(b"a").is_err());
+    Ok(())
+}

@@ -1,0 +1,56 @@
+// What bars are drawn of: regions with the mark of their guest and a name, and addresses below.
+
+const LETTER = 6.9;
+
+export function svg(tag, attributes, text) {
+  const element = document.createElementNS('http://www.w3.org/2000/svg', tag);
+  for (const [name, value] of Object.entries(attributes)) element.setAttribute(name, value);
+  if (text !== undefined) element.textContent = text;
+  return element;
+}
+
+// The longest of some names that fits a width, as text, or nothing.
+export function name_in(names, x, width, y, name = 'name') {
+  const fits = names.find(one => one.length * LETTER + 8 <= width);
+  return fits === undefined ? [] : [svg('text', { x: x + width / 2, y, class: name, 'text-anchor': 'middle' }, fits)];
+}
+
+// A region: its colour, its pattern, and the longest name that fits, behind its guest's letter.
+export function region_box(x, width, y, height, mark, names) {
+  const all = svg('g', { class: 'region' });
+  const sides = { x, width: Math.max(width, 2), y, height };
+  const fill = svg('rect', { ...sides, class: mark === undefined ? 'fill nobody' : 'fill' });
+  if (mark !== undefined) all.style.setProperty('--hue', mark.hue);
+  all.append(fill);
+  if (mark?.pattern) all.append(svg('rect', { ...sides, fill: `url(#pattern${mark.pattern})`, 'pointer-events': 'none' }));
+  const letter = mark?.letter ?? '–';
+  all.append(...name_in([...names.map(one => `${letter} ${one}`), letter], x, width, y + height / 2 + 4));
+  return all;
+}
+
+// Addresses under or above a bar: [{ x, text }], the first ones first. One that would lie on another is left out.
+export function ticks(wanted, width, y, rows, step) {
+  const taken = Array.from({ length: rows }, () => []);
+  const drawn = [];
+  for (const { x, text } of wanted) {
+    const half = text.length * LETTER / 2, from = Math.min(Math.max(x - half, 0), Math.max(width - 2 * half, 0));
+    drawn.push(svg('line', { x1: x, x2: x, y1: y, y2: y + 4 * Math.sign(step), class: 'tick' }));
+    const row = taken.findIndex(those => those.every(([a, b]) => from + 2 * half + 8 <= a || b + 8 <= from));
+    if (row < 0) continue;
+    taken[row].push([from, from + 2 * half]);
+    drawn.push(svg('text', { x: from, y: y + (step > 0 ? 15 : -6) + row * step, class: 'address' }, text));
+  }
+  return drawn;
+}
+
+// The patterns of marks, for the whole page. Those for the text's marks stand in the style sheet.
+export function patterns() {
+  const lines = ['', 'M0 8L8 0', 'M0 0L8 8', 'M4 0V8', 'M0 4H8', 'M4 0V8M0 4H8', 'M0 8L8 0M0 0L8 8'];
+  const all = svg('svg', { width: 0, height: 0, style: 'position: absolute', 'aria-hidden': 'true' });
+  lines.forEach((d, nth) => {
+    const one = svg('pattern', { id: `pattern${nth}`, width: 8, height: 8, patternUnits: 'userSpaceOnUse' });
+    one.append(svg('path', { d, class: 'weave' }));
+    all.append(one);
+  });
+  return all;
+}

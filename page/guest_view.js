@@ -1,0 +1,125 @@
+// Each guest's own addresses beside the board's: what its registers open now, and where on the board that stands.
+
+import { hex, size_in_words } from './report.js';
+import { all_open } from './guest_map.js';
+import { badge, make, mark_of } from './marks.js';
+import { region_box, svg, ticks } from './bars.js';
+
+const BAR = 20, LINKS = 36, EDGE = 18;
+const SPACES = { io: 'I/O', mem: 'Memory' };
+
+// From addresses to places in a width: order is kept and gaps are short, so that far and small regions are both seen.
+function scale_of(spans, width) {
+  const ends = [...new Set(spans.flatMap(({ first, last }) => [first, last + 1n]))].sort((a, b) => (a < b ? -1 : 1));
+  const sorted = spans.slice().sort((a, b) => (a.first < b.first ? -1 : 1));
+  const weights = [];
+  let next = 0, until = 0n;
+  for (let nth = 0; nth + 1 < ends.length; nth += 1) {
+    for (; next < sorted.length && sorted[next].first <= ends[nth]; next += 1) {
+      if (sorted[next].last + 1n > until) until = sorted[next].last + 1n;
+    }
+    weights.push(ends[nth] < until ? 1 + Math.log2(Number(ends[nth + 1] - ends[nth])) / 16 : 0.3);
+  }
+  const total = weights.reduce((sum, one) => sum + one, 0.6), places = new Map();
+  let at = 0.3;
+  ends.forEach((end, nth) => { places.set(end, at / total * width); at += weights[nth] ?? 0; });
+  return address => places.get(address);
+}
+
+const on_board = ({ region }) => ({ first: region.first, last: region.first + region.size - 1n });
+
+const in_words = one => `guest ${one.owner.guest}, slot ${one.owner.slot} ${one.region.name}: ${hex(one.first)} to ${hex(one.last)}, `
+  + `on the board ${hex(one.region.first)} to ${hex(on_board(one).last)} (${one.of.place}, ${size_in_words(one.region.size)})`;
+
+// Where spans begin, and then where they end.
+const ends_of = (spans, scale) => spans.map(({ first }) => ({ x: scale(first), text: hex(first) }))
+  .concat(spans.map(({ last }) => ({ x: scale(last + 1n), text: hex(last) })));
+
+// A guest's bar above, the board's below, and a band from each region to its place.
+function picture(those, all, scales, marks, width, tell) {
+  const top = EDGE, below = top + BAR + LINKS;
+  const picture = svg('svg', { height: below + BAR + EDGE, width, class: 'map', role: 'group', 'aria-label': 'What this guest opens, and where it stands' });
+  for (const y of [top, below]) picture.append(svg('rect', { x: 0, y, width, height: BAR, class: 'well' }));
+  for (const { first, last } of all.map(on_board)) {
+    const x = scales.board(first);
+    picture.append(svg('rect', { x, y: below, width: scales.board(last + 1n) - x, height: BAR, class: 'window' }));
+  }
+  for (const one of those.slice().reverse()) picture.append(joined(one, scales, marks, top, below, tell));
+  picture.append(...ticks(ends_of(those, scales.guest), width, top, 1, -1), ...ticks(ends_of(those.map(on_board), scales.board), width, below + BAR, 1, 1));
+  return picture;
+}
+
+function joined(one, scales, marks, top, below, tell) {
+  const a = scales.guest(one.first), b = scales.guest(one.last + 1n), place = on_board(one);
+  const c = scales.board(place.first), d = scales.board(place.last + 1n), mark = mark_of(one.owner, marks);
+  const all = svg('g', { class: 'joined', tabindex: 0, role: 'img', 'aria-label': in_words(one) });
+  all.style.setProperty('--hue', mark.hue);
+  all.append(svg('path', { d: `M${a} ${top + BAR}L${b} ${top + BAR}L${d} ${below}L${c} ${below}Z`, class: 'link' }),
+    region_box(a, b - a, top, BAR, mark, [`slot ${one.owner.slot} ${one.region.name}`, one.region.name]),
+    region_box(c, d - c, below, BAR, mark, [`${one.of.place} ${one.region.name}`, one.of.place]));
+  for (const event of ['pointerenter', 'focus']) all.addEventListener(event, () => tell(one));
+  for (const event of ['pointerleave', 'blur']) all.addEventListener(event, () => tell(null));
+  return all;
+}
+
+function table_of(all, marks) {
+  const table = make('table', 'opened');
+  const head = make('tr', '');
+  const names = ['Guest', 'Slot', 'Register', "Guest's addresses", "Board's addresses", 'Size'];
+  head.append(...names.map(name => make('th', '', name)));
+  table.append(head, ...all.map(one => {
+    const row = make('tr', ''), guest = make('td', '');
+    row.dataset.path = one.of.path;
+    guest.append(badge(mark_of(one.owner, marks)), one.owner.guest);
+    row.append(guest, ...[one.owner.slot, `${one.region.name} ${one.region.kind}`, `${hex(one.first)} to ${hex(one.last)}`,
+      `${hex(one.region.first)} to ${hex(on_board(one).last)}, ${one.of.place}`, size_in_words(one.region.size)].map(text => make('td', '', text)));
+    [...row.children].forEach((cell, nth) => { cell.dataset.name = names[nth]; });
+    return row;
+  }));
+  return table;
+}
+
+// What to type where nothing is open: the line that opens the first function of the first guest.
+function hint(owners) {
+  const one = make('p', 'hint'), first = [...owners.values()][0];
+  if (first === undefined) one.append('No guest has a function.');
+  else {
+    one.append('Nothing is open: no guest has set a Command bit. ', make('code', '', `${first.guest} cw ${first.slot} 4 2 3`),
+      ` opens what stands in slot ${first.slot} of guest ${first.guest}.`);
+  }
+  return one;
+}
+
+// `light` is given the path of a function, or null.
+export class GuestMaps {
+  constructor(into, light) { Object.assign(this, { into, light, seen: '' }); }
+
+  figure(space, all, marks, told) {
+    const width = Math.max(this.into.clientWidth, 240), figure = make('div', 'space');
+    const scales = { guest: scale_of(all, width), board: scale_of(all.map(on_board), width) };
+    figure.append(make('div', 'title', `${SPACES[space]}: in the order of addresses; gaps and sizes are not to scale`));
+    const tell = one => { told.textContent = one === null ? '' : in_words(one); this.light(one?.of.path ?? null); };
+    for (const guest of new Set(all.map(one => one.owner.guest))) {
+      const line = make('div', 'whose');
+      line.append(badge(marks.get(guest)), `guest ${guest} above, the board below`);
+      figure.append(line, picture(all.filter(one => one.owner.guest === guest), all, scales, marks, width, tell));
+    }
+    return figure;
+  }
+
+  draw(machine, functions, owners, marks) {
+    const all = all_open(machine, functions, owners).sort((a, b) => [...marks.keys()].indexOf(a.owner.guest) - [...marks.keys()].indexOf(b.owner.guest));
+    const now = all.map(in_words).join('\n') + this.into.clientWidth + [...owners.keys()];
+    if (now === this.seen && all.length > 0) return;
+    this.seen = now;
+    if (all.length === 0) { this.into.replaceChildren(hint(owners)); return; }
+    const told = make('div', 'told');
+    told.setAttribute('role', 'status');
+    const figures = Object.keys(SPACES).map(space => all.filter(one => one.space === space).length > 0
+      ? [this.figure(space, all.filter(one => one.space === space), marks, told)] : []).flat();
+    const scroll = make('div', 'scroll few');
+    scroll.tabIndex = 0;
+    scroll.append(table_of(all, marks));
+    this.into.replaceChildren(...figures, told, scroll);
+  }
+}

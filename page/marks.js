@@ -1,0 +1,53 @@
+// How a function's guest is told: by a colour, a letter and a pattern, in the order of the file.
+
+const HUES = [250, 60, 150, 320, 25, 195, 105, 285];
+const LETTERS = 'ABCDEFGHIJKLMNOPQRSTUVWXYZabcdef';
+const PATTERNS = 7;
+
+// The mark of each guest. Eight colours are easy to tell apart; the others lie between them. Letters tell all 32 apart.
+export function marks_of(slots) {
+  const marks = new Map();
+  for (const { guest } of slots) {
+    if (marks.has(guest)) continue;
+    const nth = marks.size;
+    marks.set(guest, { hue: nth < HUES.length ? HUES[nth] : (nth * 137.5) % 360, letter: LETTERS[nth], pattern: nth % PATTERNS });
+  }
+  return marks;
+}
+
+export const mark_of = (owner, marks) => owner === undefined ? undefined : marks.get(owner.guest);
+
+export function make(tag, name, text = '') {
+  const element = document.createElement(tag);
+  element.className = name;
+  element.textContent = text;
+  return element;
+}
+
+// Puts a guest's colour on an element, or nobody's.
+export function colour(element, mark) {
+  element.classList.toggle('owned', mark !== undefined);
+  element.classList.toggle('nobody', mark === undefined);
+  if (mark !== undefined) element.style.setProperty('--hue', mark.hue);
+}
+
+// A guest's letter on its pattern.
+export function badge(mark) {
+  const one = make('b', 'badge', mark?.letter ?? '–');
+  colour(one, mark);
+  if (mark !== undefined) one.classList.add(`pattern${mark.pattern}`);
+  return one;
+}
+
+export const owner_in_words = owner => owner === undefined ? 'no guest' : `guest ${owner.guest}, slot ${owner.slot}`;
+
+// The legend: each guest, and the functions that no guest has.
+export function draw_key(into, marks, some_have_none) {
+  const those = [...marks].map(([guest, mark]) => [`guest ${guest}`, mark]);
+  if (some_have_none) those.push(['no guest', undefined]);
+  into.replaceChildren(...those.map(([name, mark]) => {
+    const one = make('span', 'one');
+    one.append(badge(mark), name);
+    return one;
+  }));
+}

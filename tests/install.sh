@@ -1,0 +1,109 @@
+#!/usr/bin/env bash
+# Installs what `make build` and `make library` left into an empty folder, takes it away again, packs it, and uses the
+# tarball as somebody without the kit does. The last line is 'N passed, M failed'.
+set -u
+cd "$(dirname "$0")/.."
+top=$PWD
+room=$(mktemp -d)
+trap 'rm -rf "$room"' EXIT
+passed=0
+failed=0
+if ! [ -x pciguest ] || ! [ -e library/libpciguest.a ] || ! [ -e library/libpciguest.so.0 ]; then
+  echo 'nothing is built: make build library'; echo '0 passed, 1 failed'; exit 1
+fi
+
+# holds NAME COMMAND..: the command ends with 0
+holds() {
+  local name=$1; shift
+  if "$@" > "$room/told" 2>&1; then
+    passed=$((passed + 1))
+  else
+    failed=$((failed + 1))
+    echo "FAILED: $name"
+    head -c 2000 "$room/told"
+  fi
+}
+
+# same WANTED COMMAND..: what the command writes is the file, or the text, WANTED
+same() {
+  local wanted=$1; shift
+  if [ -e "$wanted" ]; then diff "$wanted" <("$@" 2>&1); else diff <(echo "$wanted") <("$@" 2>&1); fi
+}
+
+# ---- installed below a folder of a package, by make
+installing=(make --no-print-directory PREFIX=/usr "DESTDIR=$room/package" LIBDIR=lib/x86_64-linux-gnu)
+holds 'make install' "${installing[@]}" install
+at=$room/package/usr
+for file in bin/pciguest include/pciguest.h lib/x86_64-linux-gnu/libpciguest.a lib/x86_64-linux-gnu/libpciguest.so.0 \
+  lib/x86_64-linux-gnu/libpciguest.so lib/x86_64-linux-gnu/pkgconfig/pciguest.pc share/man/man1/pciguest.1 \
+  share/man/man3/libpciguest.3 share/bash-completion/completions/pciguest share/doc/pciguest/docs/FORMATS.md; do
+  holds "$file is installed" test -e "$at/$file"
+done
+holds 'the places in pciguest.pc' same 'prefix=/usr
+libdir=${prefix}/lib/x86_64-linux-gnu
+includedir=${prefix}/include' head -n 3 "$at/lib/x86_64-linux-gnu/pkgconfig/pciguest.pc"
+holds 'the installed program' same "$top/tests/help.txt" "$at/bin/pciguest" --help
+
+# ---- the completion of words
+completed() {
+  bash -c 'source "$1"; shift; COMP_WORDS=("$@"); COMP_CWORD=$(($# - 1)); _pciguest; echo "${COMPREPLY[@]}"' - \
+    "$at/share/bash-completion/completions/pciguest" "$@"
+}
+holds 'all words' same 'check demo list run --help' completed pciguest ''
+holds 'a word' same 'list' completed pciguest l
+board=$top/crates/examples/data/chain.toml
+holds 'a board' test "$(completed pciguest list "${board%ain.toml}")" = "$board"
+holds 'no board of the demo' same '' completed pciguest demo "${board%ain.toml}"
+
+# ---- the manual, where something that reads it is there
+if command -v mandoc > /dev/null; then
+  for page in man/pciguest.1 man/libpciguest.3; do holds "$page" mandoc -T lint -W warning "$page"; done
+elif command -v man > /dev/null; then
+  warnings() { man --warnings -E UTF-8 -l -Tutf8 -Z "$1" 2>&1 > /dev/null; }
+  for page in man/pciguest.1 man/libpciguest.3; do holds "$page" same '' warnings "$page"; done
+fi
+
+holds 'make uninstall' "${installing[@]}" uninstall
+holds 'nothing is left but folders' test -z "$(find "$room/package" ! -type d)"
+
+# ---- what the shared library gives and takes
+if command -v nm > /dev/null && command -v readelf > /dev/null; then
+  declared() { grep -o 'pciguest_raw_[a-z_]*(' library/pciguest.h | tr -d '(' | sort -u; }
+  visible() { nm -D --defined-only library/libpciguest.so.0 | awk '{ print $3 }' | sort -u; }
+  holds 'the calls of the header alone are visible' test "$(declared)" = "$(visible)"
+  needed() { readelf -dW library/libpciguest.so.0 | awk '/NEEDED|SONAME/ { print $NF }'; }
+  holds 'it needs the C library alone' same $'[libc.so.6]\n[libpciguest.so.0]' needed
+  no_text_changes() { ! readelf -dW library/libpciguest.so.0 | grep -q TEXTREL; }
+  holds 'its code is position independent' no_text_changes
+fi
+
+# ---- the tarball, in an empty folder and without the kit
+holds 'tools/dist' tools/dist "$room"
+mkdir "$room/empty"
+holds 'the tarball is unpacked' tar -C "$room/empty" -xzf "$room"/pciguest-*-x86_64-linux.tar.gz
+cd "$room"/empty/pciguest-* || { echo "$passed passed, $((failed + 1)) failed"; exit 1; }
+# as somebody without the kit runs a command: no rt, no toolchain of it, nothing of this repository
+outside() { env -i PATH=/usr/local/bin:/usr/bin:/bin HOME="$room" PKG_CONFIG_PATH="$PWD/lib/pkgconfig" "$@"; }
+holds 'the sums' outside sha256sum --quiet -c SHA256SUMS
+all_but_sums() { find . -type f ! -name SHA256SUMS | sed 's|^\./||' | LC_ALL=C sort; }
+holds 'a sum for each file' test "$(all_but_sums)" = "$(sed 's/^[^ ]*  //' SHA256SUMS)"
+command -v rt > /dev/null && holds 'the line of the kit' grep -qxF "proved with $(rt version)" VERSION
+holds 'the demo' same <("$top/pciguest" demo < "$top/examples/demo.script") outside bin/pciguest demo < examples/demo.script
+"$top/pciguest" list "$top/crates/examples/data/main.toml" > "$room/report"
+holds 'a report' same "$room/report" outside bin/pciguest list examples/boards/main.toml
+if command -v cc > /dev/null && command -v pkg-config > /dev/null; then
+  with() { outside sh -c "cc -O1 -Wall -Wextra -Werror -o $1 examples/device.c $2"; }
+  holds 'the version' same "$(sed -n 's/^pciguest //p' VERSION)" outside pkg-config --modversion pciguest
+  holds 'the example over the shared library is built' with shared '$(pkg-config --cflags --libs pciguest)'
+  holds 'the example over the shared library' same "$top/tests/library/device.stdout" \
+    outside env LD_LIBRARY_PATH=lib ./shared examples/boards/main.toml
+  holds 'it uses the shared library' sh -c 'readelf -dW shared | grep -q "NEEDED.*libpciguest.so.0"'
+  holds 'the example over the archive is built' with static \
+    '$(pkg-config --cflags pciguest) $(pkg-config --variable=libdir pciguest)/libpciguest.a'
+  holds 'the example over the archive' same "$top/tests/library/device.stdout" outside ./static examples/boards/main.toml
+else
+  echo 'no C compiler or no pkg-config: the library of the tarball is not tried'
+fi
+
+echo "$passed passed, $failed failed"
+[ "$failed" = 0 ]
