@@ -1,8 +1,8 @@
 //! What is wrong in a register state.
 use crate::agent::Agent;
 use crate::region::OpenRegion;
-use paths::Path;
 use host_bridge::Bdf;
+use paths::Path;
 
 /// A problem, with its witness.
 #[derive(Debug, Drop)]
