@@ -49,18 +49,19 @@ completed() {
   bash -c 'source "$1"; shift; COMP_WORDS=("$@"); COMP_CWORD=$(($# - 1)); _pciguest; echo "${COMPREPLY[@]}"' - \
     "$at/share/bash-completion/completions/pciguest" "$@"
 }
-holds 'all words' same 'check demo list run --help' completed pciguest ''
+holds 'all words' same 'check demo firmware list run --help' completed pciguest ''
 holds 'a word' same 'list' completed pciguest l
 board=$top/crates/examples/data/chain.toml
 holds 'a board' test "$(completed pciguest list "${board%ain.toml}")" = "$board"
+holds 'a board for firmware' test "$(completed pciguest firmware "${board%ain.toml}")" = "$board"
 holds 'no board of the demo' same '' completed pciguest demo "${board%ain.toml}"
 
 # ---- the manual, where something that reads it is there
 if command -v mandoc > /dev/null; then
   for page in man/pciguest.1 man/libpciguest.3; do holds "$page" mandoc -T lint -W warning "$page"; done
 elif command -v man > /dev/null; then
-  warnings() { man --warnings -E UTF-8 -l -Tutf8 -Z "$1" 2>&1 > /dev/null; }
-  for page in man/pciguest.1 man/libpciguest.3; do holds "$page" same '' warnings "$page"; done
+  is_clean() { [ -z "$(man --warnings -E UTF-8 -l -Tutf8 -Z "$1" 2>&1 > /dev/null | tee /dev/stderr)" ]; }
+  for page in man/pciguest.1 man/libpciguest.3; do holds "$page" is_clean "$page"; done
 fi
 
 holds 'make uninstall' "${installing[@]}" uninstall
