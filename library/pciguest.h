@@ -114,6 +114,71 @@ static inline uint32_t pciguest_write(struct pciguest *machine, size_t guest, ui
     return pciguest_raw_write(machine, guest, space, slot, place, width, value);
 }
 
+/* How many bytes the first lawful piece of an access has, with that many bytes left of it from a place on: 4, 2 or 1,
+ * the most that stand at a multiple of their number. */
+static inline uint32_t pciguest_piece(uint64_t place, uint32_t left)
+{
+    return place % 4 == 0 && left >= 4 ? 4 : place % 2 == 0 && left >= 2 ? 2 : 1;
+}
+
+/* Whether an access of 1 to 8 bytes ends where its space does, or before. */
+static inline bool pciguest_ends_within(uint32_t space, uint64_t place, uint32_t width)
+{
+    uint64_t last = space == PCIGUEST_CONFIG ? 0xff : space == PCIGUEST_IO ? 0xffff : UINT64_MAX;
+
+    return place <= last && width - 1 <= last - place;
+}
+
+/* Reads as a guest what a processor may ask at once and a cycle of the bus can't: 1 to 8 bytes, at any place. It is
+ * split as a bridge does, into the lawful pieces that pciguest_piece tells, in the order of addresses, and the byte at
+ * the lowest address is the lowest of the value. 302: the width is not 1 to 8. 303: the slot is out of range, or the
+ * access ends past its space. Other numbers as above. */
+static inline uint32_t pciguest_read_wide(struct pciguest *machine, size_t guest, uint32_t space, uint64_t slot,
+                                          uint64_t place, uint32_t width, uint64_t *value)
+{
+    uint64_t all = 0;
+    uint32_t done = 0;
+
+    if (!machine || !value)
+        return PCIGUEST_ARGUMENT;
+    if (width < 1 || width > 8)
+        return 302;
+    if (!pciguest_ends_within(space, place, width))
+        return 303;
+    while (done < width) {
+        uint32_t size = pciguest_piece(place + done, width - done), part = 0;
+        uint32_t number = pciguest_read(machine, guest, space, slot, place + done, size, &part);
+        if (number)
+            return number;
+        all |= (uint64_t)part << 8 * done;
+        done += size;
+    }
+    *value = all;
+    return 0;
+}
+
+/* Writes so the low bytes of a value, as many as it is wide. */
+static inline uint32_t pciguest_write_wide(struct pciguest *machine, size_t guest, uint32_t space, uint64_t slot,
+                                           uint64_t place, uint32_t width, uint64_t value)
+{
+    uint32_t done = 0;
+
+    if (!machine)
+        return PCIGUEST_ARGUMENT;
+    if (width < 1 || width > 8)
+        return 302;
+    if (!pciguest_ends_within(space, place, width))
+        return 303;
+    while (done < width) {
+        uint32_t size = pciguest_piece(place + done, width - done);
+        uint32_t number = pciguest_write(machine, guest, space, slot, place + done, size, (uint32_t)(value >> 8 * done));
+        if (number)
+            return number;
+        done += size;
+    }
+    return 0;
+}
+
 /* Sets bits of one byte of the function in a guest's slot, as its device does. 303: the slot is above 31, or the
  * function has no such byte. 601: the slot is empty. 902: there is no such guest, or the part is above 6. A raise that
  * is refused changes nothing. */

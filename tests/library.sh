@@ -59,6 +59,11 @@ for kind in "${kinds[@]}"; do
     holds "$kind: the program answers alike, seed $seed" cmp answers replies
   done
 
+  holds "$kind: the wide accesses are built" build "wide.$kind" "$top/tests/library/wide.c" "${words[@]}"
+  for seed in 1 2 3; do
+    holds "$kind: wide accesses, seed $seed" "./wide.$kind" "$board" 20000 "$seed"
+  done
+
   holds "$kind: the checks are built" build "checks.$kind" "$top/tests/library/checks.c" "${words[@]}"
   for file in "$top"/crates/examples/data/*.toml; do
     cp "$file" board.toml

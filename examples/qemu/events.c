@@ -103,21 +103,24 @@ static uint32_t config_event(struct board *board, const struct seat *seat, const
     return perform(board, seat, access);
 }
 
-/* An access of 8 bytes is two of 4, the lower first: no cycle of a bus of 32 bits has more. */
+/* An access of a processor may have 8 bytes, or stand at any place: it is split as a bridge does, and each piece is an
+ * event of its own, with its line in the log. */
 static uint64_t region_event(struct board *board, const struct seat *seat, const struct region_access *region,
                              bool is_write)
 {
     struct access access = {is_write, region->is_memory ? PCIGUEST_MEMORY : PCIGUEST_IO, region->place, region->width,
                             (uint32_t)region->value};
-    uint64_t lower;
+    uint64_t read = 0;
 
-    if (region->width != 8)
-        return perform(board, seat, access);
-    access.width = 4;
-    lower = perform(board, seat, access);
-    access.place += 4;
-    access.value = (uint32_t)(region->value >> 32);
-    return (uint64_t)perform(board, seat, access) << 32 | lower;
+    if (region->width < 1 || region->width > 8)
+        return perform(board, seat, access); /* the library refuses it */
+    for (uint32_t done = 0; done < region->width; done += access.width) {
+        access.place = region->place + done;
+        access.width = pciguest_piece(access.place, region->width - done);
+        access.value = (uint32_t)(region->value >> 8 * done);
+        read |= (uint64_t)perform(board, seat, access) << 8 * done;
+    }
+    return read;
 }
 
 bool message_event(struct board *board, const struct seat *seat, const struct message *message, uint64_t *answer)
