@@ -94,6 +94,14 @@ if command -v rustc > /dev/null; then
   holds 'Rust: the example prints what the one in C does' cmp device.rust.out "$top/tests/library/device.stdout"
 fi
 
+# ---- the crate for Rust: its tests, and the examples of its documentation
+if cargo --version > /dev/null 2>&1; then
+  holds 'Rust: the tests of the crate' env -C "$top/library/rust" CARGO_TARGET_DIR="$room/target" \
+    PCIGUEST_LIBRARY_DIR="$top/library" cargo test --offline --quiet
+else
+  echo 'no cargo: the crate for Rust is not tried. On Debian: apt-get install cargo'
+fi
+
 # ---- the lines that docs/LIBRARY.md prints, in a program: an empty file is refused
 awk '/^```c/ { on = 1; next } /^```/ { on = 0 } on' "$top/docs/LIBRARY.md" > lines.c
 {

@@ -1,0 +1,136 @@
+//! Refusals: a number and its words.
+
+use crate::raw::{pciguest_raw_words, WORDS};
+use std::fmt;
+
+/// The number of a refusal, with the words that the program has for it.
+#[derive(Clone, Copy, PartialEq, Eq)]
+pub struct Refusal {
+    number: u32,
+    text: [u8; WORDS],
+    length: usize,
+}
+
+impl Refusal {
+    fn of(number: u32) -> Refusal {
+        let mut text = [0; WORDS];
+        let mut length = 0;
+        // SAFETY: `text` has as many bytes as is said, and neither overlaps `length`.
+        let answer =
+            unsafe { pciguest_raw_words(number, text.as_mut_ptr(), text.len(), &mut length) };
+        if answer != 0 || length > text.len() {
+            length = 0;
+        }
+        Refusal {
+            number,
+            text,
+            length,
+        }
+    }
+
+    /// The number.
+    pub fn number(&self) -> u32 {
+        self.number
+    }
+
+    /// The words of the number, as `misaligned` for 301. A number that stands for nothing has none.
+    pub fn words(&self) -> &str {
+        std::str::from_utf8(&self.text[..self.length]).unwrap_or_default()
+    }
+}
+
+impl fmt::Display for Refusal {
+    fn fmt(&self, f: &mut fmt::Formatter<'_>) -> fmt::Result {
+        write!(f, "{} {}", self.number, self.words())
+    }
+}
+
+impl fmt::Debug for Refusal {
+    fn fmt(&self, f: &mut fmt::Formatter<'_>) -> fmt::Result {
+        write!(f, "Refusal({} {:?})", self.number, self.words())
+    }
+}
+
+/// Why a call is refused. A call that is refused changed nothing.
+///
+/// ```
+/// # const BOARD: &str = include_str!("board.toml");
+/// use pciguest::{At, Error, Machine};
+///
+/// let mut machine = Machine::new(BOARD)?;
+/// let a = machine.guest("a")?;
+/// match machine.read(a, At::Memory { address: 0x8000_0001 }, 4) {
+///     Err(Error::Access(refusal)) => assert_eq!((refusal.number(), refusal.words()), (301, "misaligned")),
+///     other => panic!("{other:?}"),
+/// }
+/// # Ok::<(), Error>(())
+/// ```
+#[derive(Clone, Copy, Debug, PartialEq, Eq)]
+#[non_exhaustive]
+pub enum Error {
+    /// 101 to 112: the board file is refused.
+    BoardFile(Refusal),
+    /// 201 to 205: the board can't be set up.
+    SetUp(Refusal),
+    /// 199, 299: out of memory.
+    Memory(Refusal),
+    /// 301, 302, 303: a place that is no multiple of the width, a width that is not 1, 2 or 4, or a slot or a place
+    /// out of range.
+    Access(Refusal),
+    /// 601, 602: a slot that is empty and must not be, or one that is taken.
+    Slot(Refusal),
+    /// 902: a guest, a region, a device or a function that can't be there, or a name that no guest has.
+    Argument(Refusal),
+    /// Any other number. The library has none today that a call of this crate meets.
+    Other(Refusal),
+}
+
+impl Error {
+    fn of(number: u32) -> Error {
+        let refusal = Refusal::of(number);
+        match number {
+            199 | 299 => Error::Memory(refusal),
+            101..=112 => Error::BoardFile(refusal),
+            201..=205 => Error::SetUp(refusal),
+            301..=303 => Error::Access(refusal),
+            601 | 602 => Error::Slot(refusal),
+            902 => Error::Argument(refusal),
+            _ => Error::Other(refusal),
+        }
+    }
+
+    /// The number with its words.
+    pub fn refusal(&self) -> Refusal {
+        match *self {
+            Error::BoardFile(refusal)
+            | Error::SetUp(refusal)
+            | Error::Memory(refusal)
+            | Error::Access(refusal)
+            | Error::Slot(refusal)
+            | Error::Argument(refusal)
+            | Error::Other(refusal) => refusal,
+        }
+    }
+
+    /// The number.
+    pub fn number(&self) -> u32 {
+        self.refusal().number()
+    }
+}
+
+/// The number and the words, as `301 misaligned`.
+impl fmt::Display for Error {
+    fn fmt(&self, f: &mut fmt::Formatter<'_>) -> fmt::Result {
+        self.refusal().fmt(f)
+    }
+}
+
+impl std::error::Error for Error {}
+
+/// What a call answers: 0, or the number of a refusal.
+pub(crate) fn answered(number: u32) -> Result<(), Error> {
+    match number {
+        0 => Ok(()),
+        number => Err(Error::of(number)),
+    }
+}

@@ -1,0 +1,53 @@
+//! A PCI board, its firmware, and the monitor that gives its functions to guests: the proved library of pciguest, by
+//! calls of Rust.
+//!
+//! A [`Machine`] is a board that is set up from a board file, with its guests. Each access, raise, move or line of a
+//! script is a call on it. `docs/FORMATS.md` explains board files, lines and numbers, and `docs/LIBRARY.md` what is
+//! proved of the calls; this crate itself is tested.
+//!
+//! ```
+//! use pciguest::{At, HostAt, Machine};
+//!
+//! let board = r#"
+//!     [host]
+//!     io = [0x1000, 0xffff]
+//!     mem = [0xc0000000, 0xdfffffff]
+//!
+//!     [[endpoint]]
+//!     at = "1.0"
+//!     vendor = 0x1234
+//!     device = 0x0001
+//!     class = 0xff0000
+//!     bar = [ { index = 0, kind = "mem32", size = 4096, block = 64, rw = "ff" } ]
+//!
+//!     [[guest]]
+//!     name = "a"
+//!     slots = ["1.0"]
+//! "#;
+//! let mut machine = Machine::new(board)?;
+//! let a = machine.guest("a")?;
+//!
+//! assert_eq!(machine.read(a, At::Config { slot: 0, offset: 0 }, 4)?, 0x0001_1234);
+//! machine.write(a, At::Config { slot: 0, offset: 0x10 }, 4, 0x8000_0000)?;
+//! assert_eq!(machine.read(a, At::Config { slot: 0, offset: 0x10 }, 4)?, 0x8000_0000);
+//!
+//! // The board's own register stays as set-up left it.
+//! let register = HostAt::Config { bus: 0, device: 1, function: 0, offset: 0x10 };
+//! assert_eq!(machine.host_read(register, 4)?, 0xc000_0000);
+//! # Ok::<(), pciguest::Error>(())
+//! ```
+//!
+//! A machine is not used in a signal handler, nor in a child that a process with several threads forked.
+
+#![warn(missing_docs)]
+
+mod error;
+mod machine;
+mod place;
+mod raw;
+mod text;
+
+pub use error::{Error, Refusal};
+pub use machine::Machine;
+pub use place::{At, Guest, HostAt, Part};
+pub use text::{check, report, words, Check};

@@ -1,0 +1,243 @@
+//! A board that is set up, with its guests.
+
+use crate::error::{answered, Error};
+use crate::place::{At, Guest, HostAt, Part};
+use crate::raw::{self, Handle, REPLY};
+use std::fmt;
+use std::ptr::null_mut;
+
+/// A board that is set up, with its guests. What it holds is freed when it is dropped.
+///
+/// Each call takes the machine mutably, also a read, since the library makes one call at a time on one machine. So a
+/// machine that several threads use stands in a lock:
+///
+/// ```
+/// # const BOARD: &str = include_str!("board.toml");
+/// use pciguest::{At, Machine};
+/// use std::sync::{Arc, Mutex};
+/// use std::thread;
+///
+/// let machine = Arc::new(Mutex::new(Machine::new(BOARD)?));
+/// let other = Arc::clone(&machine);
+/// let identity = thread::spawn(move || {
+///     let mut machine = other.lock().unwrap();
+///     let a = machine.guest("a")?;
+///     machine.read(a, At::Config { slot: 0, offset: 0 }, 4)
+/// });
+/// assert_eq!(identity.join().unwrap()?, 0x0001_1234);
+/// # Ok::<(), pciguest::Error>(())
+/// ```
+pub struct Machine {
+    handle: Handle,
+}
+
+// SAFETY: The library has no global state, and lets any thread make a call on a struct if something orders it after the
+// call before; that what a struct holds may go from thread to thread is proved. Here each call has the machine by a
+// mutable borrow, or drops it, and nothing else has the pointer in it. So two calls on one machine never overlap, and
+// what hands the machine to another thread orders them. `Sync` is not given; a lock doesn't ask for it.
+unsafe impl Send for Machine {}
+
+impl Machine {
+    /// Sets up the board of a board file, and gives its functions to the guests of the file. The machine then holds the
+    /// world that the file declares, before any access.
+    ///
+    /// # Errors
+    ///
+    /// The number of the first check that the file or its board fails, or of memory that is out.
+    ///
+    /// ```
+    /// let refused = pciguest::Machine::new("x = 1").unwrap_err();
+    /// assert_eq!(refused.to_string(), "102 key");
+    /// ```
+    pub fn new(board: impl AsRef<[u8]>) -> Result<Machine, Error> {
+        let board = board.as_ref();
+        let mut handle = Handle {
+            live: false,
+            at: null_mut(),
+        };
+        // SAFETY: the handle holds no machine, and `board` has as many bytes as is said.
+        answered(unsafe { raw::pciguest_raw_new(&mut handle, board.as_ptr(), board.len()) })?;
+        Ok(Machine { handle })
+    }
+
+    /// The guest of a name. 902: no guest has this name.
+    pub fn guest(&mut self, name: &str) -> Result<Guest, Error> {
+        let mut guest = 0;
+        // SAFETY: `name` has as many bytes as is said, and nothing overlaps.
+        answered(unsafe {
+            raw::pciguest_raw_guest(&mut self.handle, name.as_ptr(), name.len(), &mut guest)
+        })?;
+        Ok(Guest::of_index(guest))
+    }
+
+    /// Reads 1, 2 or 4 bytes as a guest: what the guest's own functions answer, and all ones where nothing of the
+    /// guest's answers. A read changes nothing.
+    ///
+    /// # Errors
+    ///
+    /// 302: the width is not 1, 2 or 4. 301: the place is no multiple of it. 303: the slot, offset or port is out of
+    /// range. 902: there is no such guest.
+    pub fn read(&mut self, guest: Guest, at: At, width: u32) -> Result<u32, Error> {
+        let (space, slot, place) = at.parts();
+        let mut value = 0;
+        // SAFETY: `value` is a place of its own.
+        answered(unsafe {
+            raw::pciguest_raw_read(
+                &mut self.handle,
+                guest.index(),
+                space,
+                slot,
+                place,
+                width,
+                &mut value,
+            )
+        })?;
+        Ok(value)
+    }
+
+    /// Writes the low 1, 2 or 4 bytes of a value as a guest. No other guest can tell. Refused as a read is.
+    ///
+    /// ```
+    /// # const BOARD: &str = include_str!("board.toml");
+    /// use pciguest::{At, Machine};
+    ///
+    /// let mut machine = Machine::new(BOARD)?;
+    /// let a = machine.guest("a")?;
+    /// let cell = At::Memory { address: 0x8000_0010 };
+    /// machine.write(a, At::Config { slot: 0, offset: 0x10 }, 4, 0x8000_0000)?; // where the region is to stand
+    /// machine.write(a, At::Config { slot: 0, offset: 0x04 }, 2, 2)?; // memory on
+    /// machine.write(a, cell, 4, 0x1234_5678)?;
+    /// assert_eq!(machine.read(a, cell, 2)?, 0x5678);
+    /// # Ok::<(), pciguest::Error>(())
+    /// ```
+    pub fn write(&mut self, guest: Guest, at: At, width: u32, value: u32) -> Result<(), Error> {
+        let (space, slot, place) = at.parts();
+        // SAFETY: no pointer but the handle is passed.
+        answered(unsafe {
+            raw::pciguest_raw_write(
+                &mut self.handle,
+                guest.index(),
+                space,
+                slot,
+                place,
+                width,
+                value,
+            )
+        })
+    }
+
+    /// Sets bits of one byte of the function in a guest's slot, as its device does. Only bits that writing a one clears
+    /// can rise.
+    ///
+    /// # Errors
+    ///
+    /// 303: the slot is above 31, or the function has no such byte. 601: the slot is empty. 902: there is no such
+    /// guest, or the region is above 5.
+    pub fn raise(
+        &mut self,
+        guest: Guest,
+        slot: u64,
+        part: Part,
+        offset: u64,
+        mask: u8,
+    ) -> Result<(), Error> {
+        // SAFETY: no pointer but the handle is passed.
+        answered(unsafe {
+            raw::pciguest_raw_raise(
+                &mut self.handle,
+                guest.index(),
+                slot,
+                part.number(),
+                offset,
+                mask,
+            )
+        })
+    }
+
+    /// Reads 1, 2 or 4 bytes as the host: what the board shows at a physical number, port or address. It changes
+    /// nothing. Refused as a read of a guest is; 902: a device above 31, or a function above 7.
+    pub fn host_read(&mut self, at: HostAt, width: u32) -> Result<u32, Error> {
+        let (space, bus, device, function, place) = at.parts();
+        let mut value = 0;
+        // SAFETY: `value` is a place of its own.
+        answered(unsafe {
+            raw::pciguest_raw_host_read(
+                &mut self.handle,
+                space,
+                bus,
+                device,
+                function,
+                place,
+                width,
+                &mut value,
+            )
+        })?;
+        Ok(value)
+    }
+
+    /// Moves the function in a slot of a guest to the slot `target` of another, or of the same. Nothing is carried
+    /// over: the function is then at reset.
+    ///
+    /// # Errors
+    ///
+    /// 303: a slot is above 31. 601: the slot that it leaves is empty. 602: the slot that it comes to is taken. 902:
+    /// there is no such guest.
+    pub fn move_function(
+        &mut self,
+        from: Guest,
+        slot: u64,
+        to: Guest,
+        target: u64,
+    ) -> Result<(), Error> {
+        // SAFETY: no pointer but the handle is passed.
+        answered(unsafe {
+            raw::pciguest_raw_move(&mut self.handle, from.index(), slot, to.index(), target)
+        })
+    }
+
+    /// Runs one line of a script, with its line feed or without; a line feed elsewhere makes it a bad line. The reply
+    /// stands without its line feed, and a blank line or a comment has none. A line that is refused is answered by its
+    /// reply.
+    ///
+    /// ```
+    /// # const BOARD: &str = include_str!("board.toml");
+    /// let mut machine = pciguest::Machine::new(BOARD)?;
+    /// assert_eq!(machine.run_line("a cr 0 0 4")?.as_deref(), Some("a: 0x00011234"));
+    /// assert_eq!(machine.run_line("a cr 0 1 4")?.as_deref(), Some("a: refused 301 misaligned"));
+    /// assert_eq!(machine.run_line("# a comment")?, None);
+    /// # Ok::<(), pciguest::Error>(())
+    /// ```
+    pub fn run_line(&mut self, line: impl AsRef<[u8]>) -> Result<Option<String>, Error> {
+        let line = line.as_ref();
+        let line = line.strip_suffix(b"\n").unwrap_or(line);
+        let mut reply = [0; REPLY];
+        let mut written = 0;
+        // SAFETY: `line` and `reply` have as many bytes as is said, and nothing overlaps.
+        answered(unsafe {
+            let (at, room) = (reply.as_mut_ptr(), reply.len());
+            raw::pciguest_raw_run_line(
+                &mut self.handle,
+                line.as_ptr(),
+                line.len(),
+                at,
+                room,
+                &mut written,
+            )
+        })?;
+        let reply = reply[..written].strip_suffix(b"\n");
+        Ok(reply.map(|text| String::from_utf8_lossy(text).into_owned()))
+    }
+}
+
+impl Drop for Machine {
+    fn drop(&mut self) {
+        // SAFETY: no call is made on the handle after this one.
+        unsafe { raw::pciguest_raw_free(&mut self.handle) }
+    }
+}
+
+impl fmt::Debug for Machine {
+    fn fmt(&self, f: &mut fmt::Formatter<'_>) -> fmt::Result {
+        f.write_str("Machine")
+    }
+}

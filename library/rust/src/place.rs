@@ -1,0 +1,116 @@
+//! Where an access or a raise goes.
+
+use crate::raw::{RAISE_CONFIG, RAISE_NOWHERE};
+
+/// A guest of a machine, as [`Machine::guest`](crate::Machine::guest) finds it by its name. It means the guest at the
+/// same index in another machine.
+#[derive(Clone, Copy, Debug, PartialEq, Eq, Hash)]
+pub struct Guest(usize);
+
+impl Guest {
+    /// The guest of an index: guests stand in the order of the board file, from 0 on. A call with an index that no
+    /// guest has is refused by 902.
+    pub fn of_index(index: usize) -> Guest {
+        Guest(index)
+    }
+
+    /// The index.
+    pub fn index(self) -> usize {
+        self.0
+    }
+}
+
+/// Where an access of a guest goes, by the guest's own view.
+#[derive(Clone, Copy, Debug, PartialEq, Eq)]
+pub enum At {
+    /// The configuration space of the function in a slot.
+    Config {
+        /// 0 to 31.
+        slot: u64,
+        /// In bytes, 0 to 255.
+        offset: u64,
+    },
+    /// I/O space.
+    Io {
+        /// 0 to FFFFFFFFh.
+        port: u64,
+    },
+    /// Memory space.
+    Memory {
+        /// Any.
+        address: u64,
+    },
+}
+
+impl At {
+    /// Space, slot and place, as the header takes them.
+    pub(crate) fn parts(self) -> (u32, u64, u64) {
+        match self {
+            At::Config { slot, offset } => (0, slot, offset),
+            At::Io { port } => (1, 0, port),
+            At::Memory { address } => (2, 0, address),
+        }
+    }
+}
+
+/// Where the host reads, by physical numbers.
+#[derive(Clone, Copy, Debug, PartialEq, Eq)]
+pub enum HostAt {
+    /// The configuration space of a function.
+    Config {
+        /// The number of the bus.
+        bus: u8,
+        /// 0 to 31.
+        device: u8,
+        /// 0 to 7.
+        function: u8,
+        /// In bytes, 0 to 255.
+        offset: u64,
+    },
+    /// I/O space.
+    Io {
+        /// 0 to FFFFFFFFh.
+        port: u64,
+    },
+    /// Memory space.
+    Memory {
+        /// Any.
+        address: u64,
+    },
+}
+
+impl HostAt {
+    /// Space, bus, device, function and place, as the header takes them.
+    pub(crate) fn parts(self) -> (u32, u8, u8, u8, u64) {
+        match self {
+            HostAt::Config {
+                bus,
+                device,
+                function,
+                offset,
+            } => (0, bus, device, function, offset),
+            HostAt::Io { port } => (1, 0, 0, 0, port),
+            HostAt::Memory { address } => (2, 0, 0, 0, address),
+        }
+    }
+}
+
+/// The part of a function in which its device raises bits.
+#[derive(Clone, Copy, Debug, PartialEq, Eq)]
+pub enum Part {
+    /// Configuration space.
+    Config,
+    /// The region of a base address register, 0 to 5.
+    Region(u8),
+}
+
+impl Part {
+    /// The part, as the header takes it.
+    pub(crate) fn number(self) -> u32 {
+        match self {
+            Part::Config => RAISE_CONFIG,
+            Part::Region(register) if register < 6 => u32::from(register),
+            Part::Region(_) => RAISE_NOWHERE,
+        }
+    }
+}

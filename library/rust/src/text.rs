@@ -1,0 +1,89 @@
+//! What is told of a board file and of a number. No machine is needed.
+
+use crate::error::{answered, Error};
+use crate::raw::{pciguest_raw_check, pciguest_raw_report, pciguest_raw_words, ARGUMENT, WORDS};
+
+/// What a check says of a board file.
+#[derive(Clone, Debug, PartialEq, Eq)]
+pub struct Check {
+    /// What is wrong with the file, or that its board fits, as `pciguest check board.toml` writes it.
+    pub text: String,
+    /// What the file or its board is refused by.
+    pub refusal: Option<Error>,
+}
+
+/// The report of a board file, as `pciguest list` writes it.
+///
+/// # Errors
+///
+/// As for [`Machine::new`](crate::Machine::new).
+///
+/// ```
+/// # const BOARD: &str = include_str!("board.toml");
+/// assert!(pciguest::report(BOARD)?.starts_with("endpoints 1 bridges 0\n00:01.0 1.0 endpoint 1234:0001\n"));
+/// # Ok::<(), pciguest::Error>(())
+/// ```
+pub fn report(board: impl AsRef<[u8]>) -> Result<String, Error> {
+    let board = board.as_ref();
+    // SAFETY: `board` has as many bytes as is said, and so has the text; nothing overlaps.
+    let (number, text) = told(4096, |text, room, needed| unsafe {
+        pciguest_raw_report(board.as_ptr(), board.len(), text, room, needed)
+    });
+    answered(number).map(|()| text)
+}
+
+/// What is wrong with a board file, or that its board fits.
+///
+/// # Errors
+///
+/// Out of memory alone. A file that is refused has a text, and its refusal beside it.
+///
+/// ```
+/// let check = pciguest::check("[host]\nio = [0x1000, 0xffff]\nmem = 7\n")?;
+/// assert_eq!(check.refusal.unwrap().to_string(), "102 key");
+/// assert!(check.text.starts_with("board.toml:3: host.mem"));
+/// # Ok::<(), pciguest::Error>(())
+/// ```
+pub fn check(board: impl AsRef<[u8]>) -> Result<Check, Error> {
+    let board = board.as_ref();
+    // SAFETY: as for a report.
+    let (number, text) = told(4096, |text, room, needed| unsafe {
+        pciguest_raw_check(board.as_ptr(), board.len(), text, room, needed)
+    });
+    match answered(number) {
+        Err(Error::Memory(refusal)) => Err(Error::Memory(refusal)),
+        answer => Ok(Check {
+            text,
+            refusal: answer.err(),
+        }),
+    }
+}
+
+/// The words of a number that a call answers, or that the program or a reply tells. One that stands for nothing has
+/// none.
+///
+/// ```
+/// assert_eq!(pciguest::words(602), "slot taken");
+/// assert_eq!(pciguest::words(0), "");
+/// ```
+pub fn words(number: u32) -> String {
+    // SAFETY: the text has as many bytes as is said, and nothing overlaps.
+    told(WORDS, |text, room, needed| unsafe {
+        pciguest_raw_words(number, text, room, needed)
+    })
+    .1
+}
+
+/// Calls with room for a text; where that is too little, once more with what the text needs. Gives the number that the
+/// call answers, and the text.
+fn told(room: usize, call: impl Fn(*mut u8, usize, &mut usize) -> u32) -> (u32, String) {
+    let mut text = vec![0; room];
+    let mut needed = 0;
+    let mut number = call(text.as_mut_ptr(), text.len(), &mut needed);
+    if number == ARGUMENT && needed > text.len() {
+        text.resize(needed, 0);
+        number = call(text.as_mut_ptr(), text.len(), &mut needed);
+    }
+    text.truncate(needed);
+    (number, String::from_utf8_lossy(&text).into_owned())
+}

@@ -1,0 +1,231 @@
+//! Each call on the main board of the examples, and what is refused.
+
+use pciguest::{At, Error, Guest, HostAt, Machine, Part};
+
+const BOARD: &str = include_str!("../../../crates/examples/data/main.toml");
+
+fn config(slot: u64, offset: u64) -> At {
+    At::Config { slot, offset }
+}
+
+fn on_bus_0(device: u8, function: u8, offset: u64) -> HostAt {
+    HostAt::Config {
+        bus: 0,
+        device,
+        function,
+        offset,
+    }
+}
+
+/// The number by which a call is refused.
+fn number<T>(answer: Result<T, Error>) -> u32 {
+    answer.err().expect("a refusal").number()
+}
+
+#[test]
+fn a_guest_uses_its_function() -> Result<(), Error> {
+    let mut machine = Machine::new(BOARD)?;
+    let (a, b) = (machine.guest("a")?, machine.guest("b")?);
+    assert_eq!((a.index(), b.index()), (0, 1));
+    assert_eq!(machine.read(a, config(0, 0), 4)?, 0x0001_1234);
+    assert_eq!(machine.read(b, config(0, 2), 2)?, 0x0003);
+    machine.write(a, config(0, 0x14), 4, 0xe000_0000)?;
+    machine.write(a, config(0, 4), 2, 2)?;
+    machine.write(
+        a,
+        At::Memory {
+            address: 0xe000_0010,
+        },
+        4,
+        0x1234_5678,
+    )?;
+    assert_eq!(
+        machine.read(
+            a,
+            At::Memory {
+                address: 0xe000_0012
+            },
+            1
+        )?,
+        0x34
+    );
+    assert_eq!(
+        machine.read(
+            b,
+            At::Memory {
+                address: 0xe000_0010
+            },
+            4
+        )?,
+        u32::MAX
+    );
+    Ok(())
+}
+
+#[test]
+fn a_guest_finds_its_function_by_ports() -> Result<(), Error> {
+    let mut machine = Machine::new(BOARD)?;
+    let a = machine.guest("a")?;
+    machine.write(a, At::Io { port: 0xcf8 }, 4, 0x8000_0800)?;
+    assert_eq!(machine.read(a, At::Io { port: 0xcfc }, 4)?, 0x0004_1234);
+    Ok(())
+}
+
+#[test]
+fn the_host_sees_the_board() -> Result<(), Error> {
+    let mut machine = Machine::new(BOARD)?;
+    assert_eq!(machine.host_read(on_bus_0(2, 0, 0), 4)?, 0x0002_1234);
+    let behind = HostAt::Config {
+        bus: 1,
+        device: 1,
+        function: 0,
+        offset: 2,
+    };
+    assert_eq!(machine.host_read(behind, 2)?, 0x0004);
+    let cell = HostAt::Memory {
+        address: 0x4_0000_0000,
+    };
+    assert_eq!(machine.host_read(cell, 1)?, 0xa5);
+    assert_eq!(machine.host_read(HostAt::Io { port: 0x4000 }, 2)?, 0xffff);
+    Ok(())
+}
+
+#[test]
+fn a_device_raises_a_bit() -> Result<(), Error> {
+    let mut machine = Machine::new(BOARD)?;
+    let a = machine.guest("a")?;
+    machine.raise(a, 0, Part::Config, 7, 0x80)?;
+    assert_eq!(machine.read(a, config(0, 6), 2)? & 0x8000, 0x8000);
+    machine.write(a, config(0, 6), 2, 0x8000)?;
+    assert_eq!(machine.read(a, config(0, 6), 2)? & 0x8000, 0);
+    machine.raise(a, 0, Part::Region(1), 0, 0xff)?;
+    assert_eq!(
+        number(machine.raise(a, 0, Part::Region(1), 4096, 0xff)),
+        303
+    );
+    assert_eq!(number(machine.raise(a, 31, Part::Config, 7, 0x80)), 601);
+    for register in [6, 7, 255] {
+        assert_eq!(
+            number(machine.raise(a, 0, Part::Region(register), 0, 1)),
+            902
+        );
+    }
+    Ok(())
+}
+
+#[test]
+fn a_function_moves() -> Result<(), Error> {
+    let mut machine = Machine::new(BOARD)?;
+    let (a, b) = (machine.guest("a")?, machine.guest("b")?);
+    machine.write(a, config(0, 4), 2, 2)?;
+    machine.move_function(a, 0, b, 5)?;
+    assert_eq!(machine.read(a, config(0, 0), 4)?, u32::MAX);
+    assert_eq!(machine.read(b, config(5, 0), 4)?, 0x0001_1234);
+    assert_eq!(machine.read(b, config(5, 4), 2)?, 0);
+    assert_eq!(number(machine.move_function(a, 0, b, 6)), 601);
+    assert_eq!(number(machine.move_function(a, 1, b, 5)), 602);
+    assert_eq!(number(machine.move_function(a, 1, b, 32)), 303);
+    Ok(())
+}
+
+#[test]
+fn lines_have_replies() -> Result<(), Error> {
+    let mut machine = Machine::new(BOARD)?;
+    let mut reply = |line: &str| machine.run_line(line);
+    assert_eq!(reply("a cr 0 0 4")?.as_deref(), Some("a: 0x00011234"));
+    assert_eq!(reply("a cr 0 0 2\n")?.as_deref(), Some("a: 0x1234"));
+    assert_eq!(
+        reply("a cr 0 0 2\n\n")?.as_deref(),
+        Some("a: refused 401 bad line")
+    );
+    assert_eq!(
+        reply("nobody cr 0 0 4")?.as_deref(),
+        Some("?: refused 402 unknown guest")
+    );
+    assert_eq!(
+        reply(&" ".repeat(201))?.as_deref(),
+        Some("?: refused 403 long line")
+    );
+    assert_eq!(reply("")?, None);
+    assert_eq!(reply("# a comment")?, None);
+    Ok(())
+}
+
+#[test]
+fn accesses_are_refused() -> Result<(), Error> {
+    let mut machine = Machine::new(BOARD)?;
+    let a = machine.guest("a")?;
+    let memory = At::Memory {
+        address: 0xd000_0001,
+    };
+    assert_eq!(
+        machine.read(a, memory, 4).unwrap_err().to_string(),
+        "301 misaligned"
+    );
+    assert!(
+        matches!(machine.read(a, memory, 3), Err(Error::Access(refusal)) if refusal.words() == "width")
+    );
+    assert_eq!(number(machine.read(a, config(32, 0), 4)), 303);
+    assert_eq!(number(machine.read(a, config(0, 256), 4)), 303);
+    assert_eq!(
+        number(machine.write(a, At::Io { port: 1 << 32 }, 1, 0)),
+        303
+    );
+    for index in [2, usize::MAX] {
+        let nobody = Guest::of_index(index);
+        assert!(matches!(
+            machine.read(nobody, config(0, 0), 4),
+            Err(Error::Argument(_))
+        ));
+        assert_eq!(number(machine.write(nobody, config(0, 0), 4, 0)), 902);
+        assert_eq!(number(machine.move_function(nobody, 0, a, 9)), 902);
+    }
+    assert_eq!(number(machine.guest("nobody")), 902);
+    assert_eq!(number(machine.guest("")), 902);
+    assert_eq!(number(machine.host_read(on_bus_0(32, 0, 0), 4)), 902);
+    assert_eq!(number(machine.host_read(on_bus_0(0, 8, 0), 4)), 902);
+    Ok(())
+}
+
+#[test]
+fn boards_are_refused() {
+    let refused = |board: &[u8]| Machine::new(board).unwrap_err();
+    assert_eq!(refused(b"x").to_string(), "101 not TOML");
+    assert_eq!(refused(b"\xff").to_string(), "101 not TOML");
+    assert!(matches!(refused(b""), Error::BoardFile(refusal) if refusal.number() == 102));
+    let io_pool = include_bytes!("../../../crates/examples/data/io_pool.toml");
+    assert!(
+        matches!(refused(io_pool), Error::SetUp(refusal) if refusal.to_string() == "203 I/O pool")
+    );
+}
+
+#[test]
+fn many_machines_come_and_go() -> Result<(), Error> {
+    let mut machines = Vec::new();
+    for value in 0..50 {
+        let mut machine = Machine::new(BOARD)?;
+        let a = machine.guest("a")?;
+        machine.write(a, config(0, 0x3c), 1, value)?;
+        machines.push(machine);
+    }
+    let threads: Vec<_> = machines
+        .into_iter()
+        .map(|mut machine| {
+            std::thread::spawn(move || machine.read(Guest::of_index(0), config(0, 0x3c), 1))
+        })
+        .collect();
+    for (value, thread) in threads.into_iter().enumerate() {
+        assert_eq!(thread.join().expect("a thread that ends")?, value as u32);
+    }
+    Ok(())
+}
+
+#[test]
+fn errors_go_where_errors_go() {
+    let error: Box<dyn std::error::Error + Send + Sync> = Machine::new("").unwrap_err().into();
+    assert_eq!(error.to_string(), "102 key");
+    assert_eq!(
+        format!("{:?}", Machine::new("").unwrap_err()),
+        "BoardFile(Refusal(102 \"key\"))"
+    );
+}
