@@ -102,6 +102,16 @@ else
   echo 'no cargo: the crate for Rust is not tried. On Debian: apt-get install cargo'
 fi
 
+# ---- the module for Python: its tests, and the examples of its documentation
+if ! command -v python3 > /dev/null; then
+  echo 'no Python 3: the module for Python is not tried. On Debian: apt-get install python3'
+elif [ ! -e "$top/library/libpciguest.so.0" ]; then
+  echo 'no library/libpciguest.so.0: the module for Python is not tried. make library'
+else
+  holds 'Python: the tests of the module' env -C "$top/library/python" PYTHONDONTWRITEBYTECODE=1 \
+    PCIGUEST_LIBRARY_DIR="$top/library" python3 -m unittest discover -s tests
+fi
+
 # ---- the lines that docs/LIBRARY.md prints, in a program: an empty file is refused
 awk '/^```c/ { on = 1; next } /^```/ { on = 0 } on' "$top/docs/LIBRARY.md" > lines.c
 {

@@ -1,0 +1,49 @@
+"""A PCI board, its firmware, and the monitor that gives its functions to guests, for tests of drivers and for teaching.
+
+A machine is a board that is set up from a board file, with its guests. An access is written [place:width], where the
+width is 1, 2 or 4 bytes; reading it gives a number, and assigning to it writes one.
+
+>>> from pciguest import Machine, Refusal
+>>> board = '''
+... [host]
+... io = [0x1000, 0xffff]
+... mem = [0xc0000000, 0xdfffffff]
+... [[endpoint]]
+... at = "1.0"
+... vendor = 0x1234
+... device = 0x0001
+... class = 0xff0000
+... bar = [ { index = 0, kind = "mem32", size = 4096, block = 64, rw = "ff" } ]
+... [[guest]]
+... name = "a"
+... slots = ["1.0"]
+... '''
+>>> with Machine(board) as machine:
+...     a = machine.guest("a")
+...     hex(a.config[0][0:4])  # 4 bytes at offset 0 of the function in slot 0
+...     a.config[0][0x10:4] = 0x80000000  # where its region is to stand
+...     a.config[0][4:2] = 2  # memory on
+...     a.memory[0x80000010:4] = 0x12345678
+...     hex(a.memory[0x80000010:2])
+...     hex(machine.host.config[0, 1, 0][0x10:4])  # the board's own register stays as set-up left it
+...     try:
+...         a.memory[0x80000001:4]
+...     except Refusal as refusal:
+...         print(refusal.number, refusal.words)
+'0x11234'
+'0x5678'
+'0xc0000000'
+301 misaligned
+
+It stands over the shared library libpciguest.so.0, by ctypes: that of the folder PCIGUEST_LIBRARY_DIR, or the one that
+`make library` leaves two folders above this one, or else the one that is installed. docs/FORMATS.md explains board
+files, lines and numbers, and docs/LIBRARY.md what is proved of the library. This module itself is tested.
+"""
+
+from ._machine import Guest, Host, Machine
+from ._refusal import Refusal, words
+from ._spaces import ReadableSpace, Space
+from ._texts import Check, check, report
+
+__all__ = ["Check", "Guest", "Host", "Machine", "ReadableSpace", "Refusal", "Space", "check", "report", "words"]
+__version__ = "0.3.0"

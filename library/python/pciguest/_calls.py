@@ -1,0 +1,101 @@
+"""The calls of library/pciguest.h, by ctypes. tests/test_header.py compares what is said here with the header."""
+
+from __future__ import annotations
+
+import ctypes
+import operator
+import os
+from ctypes import POINTER, c_char, c_char_p, c_size_t, c_uint8, c_uint32, c_uint64
+from pathlib import Path
+from typing import Any, Callable, Dict, SupportsIndex, Tuple
+
+NAME = "libpciguest.so.0"
+
+# the number of an argument that a call does not take, and of a text that needs more room
+ARGUMENT = 902
+
+# the room that a reply needs, and the most that the words of a number need
+REPLY = 48
+WORDS = 20
+
+# spaces, and the part of a raise that goes to configuration space
+CONFIG, IO, MEMORY = 0, 1, 2
+RAISE_CONFIG = 6
+
+
+class Handle(ctypes.Structure):
+    """The struct of the header. All bytes 0 are no machine."""
+
+    _fields_ = [("live", ctypes.c_bool), ("at", ctypes.c_void_p)]
+
+
+_MACHINE = POINTER(Handle)
+_ROOM = POINTER(c_char)
+_BOARD_TEXT = (c_char_p, c_size_t, _ROOM, c_size_t, POINTER(c_size_t))
+
+# what each call takes; `free` answers nothing, and all others a number
+PARAMETERS: Dict[str, Tuple[Any, ...]] = {
+    "new": (_MACHINE, c_char_p, c_size_t),
+    "free": (_MACHINE,),
+    "guest": (_MACHINE, c_char_p, c_size_t, POINTER(c_size_t)),
+    "read": (_MACHINE, c_size_t, c_uint32, c_uint64, c_uint64, c_uint32, POINTER(c_uint32)),
+    "write": (_MACHINE, c_size_t, c_uint32, c_uint64, c_uint64, c_uint32, c_uint32),
+    "raise": (_MACHINE, c_size_t, c_uint64, c_uint32, c_uint64, c_uint8),
+    "host_read": (_MACHINE, c_uint32, c_uint8, c_uint8, c_uint8, c_uint64, c_uint32, POINTER(c_uint32)),
+    "move": (_MACHINE, c_size_t, c_uint64, c_size_t, c_uint64),
+    "run_line": (_MACHINE, c_char_p, c_size_t, _ROOM, c_size_t, POINTER(c_size_t)),
+    "report": _BOARD_TEXT,
+    "check": _BOARD_TEXT,
+    "words": (c_uint32, _ROOM, c_size_t, POINTER(c_size_t)),
+}
+
+
+def _place() -> str:
+    """Where the shared library is: a path, or its name alone for one that is installed."""
+    folder = os.environ.get("PCIGUEST_LIBRARY_DIR")
+    if folder:
+        return str(Path(folder).resolve() / NAME)
+    left = Path(__file__).resolve().parents[2] / NAME
+    return str(left) if left.exists() else NAME
+
+
+def _load() -> Dict[str, Callable[..., Any]]:
+    place = _place()
+    try:
+        library = ctypes.CDLL(place)
+    except OSError as error:
+        raise ImportError(
+            f"{error}. `make library` at the top of the repository leaves {NAME} in library/, and PCIGUEST_LIBRARY_DIR "
+            "names the folder of one that stands elsewhere"
+        ) from error
+    calls: Dict[str, Callable[..., Any]] = {}
+    for name, parameters in PARAMETERS.items():
+        call = getattr(library, "pciguest_raw_" + name)
+        call.argtypes = parameters
+        call.restype = None if name == "free" else c_uint32
+        calls[name] = call
+    return calls
+
+
+CALLS = _load()
+
+
+def number(name: str, value: SupportsIndex, bits: int) -> int:
+    """The number that a value is, if it has no more than so many bits. ctypes would drop the others."""
+    found = operator.index(value)
+    if not 0 <= found < 1 << bits:
+        raise ValueError(f"{name}: {found:#x} is not from 0 to {(1 << bits) - 1:#x}")
+    return found
+
+
+def told(room: int, call: Callable[..., int]) -> Tuple[int, str]:
+    """Calls with room for a text; where that is too little, once more with what the text needs. Gives the number that
+    the call answers, and the text."""
+    needed = c_size_t(0)
+    text = ctypes.create_string_buffer(room)
+    answer = call(text, room, ctypes.byref(needed))
+    if answer == ARGUMENT and needed.value > room:
+        room = needed.value
+        text = ctypes.create_string_buffer(room)
+        answer = call(text, room, ctypes.byref(needed))
+    return answer, text.raw[: needed.value].decode("ascii", "replace")

@@ -1,0 +1,43 @@
+"""Refusals: a number and its words."""
+
+from __future__ import annotations
+
+from typing import Callable
+
+from ._calls import CALLS, WORDS, number, told
+
+
+class Refusal(Exception):
+    """Why a call is refused. A call that is refused changed nothing.
+
+    `number` is the number, as docs/FORMATS.md and docs/LIBRARY.md explain it, and `words` are its words.
+    """
+
+    number: int
+    words: str
+
+    def __init__(self, number: int) -> None:
+        super().__init__(number)
+        self.number = number
+        self.words = words(number)
+
+    def __str__(self) -> str:
+        return f"{self.number} {self.words}"
+
+
+def words(refusal: int) -> str:
+    """The words of a number that a call answers, or that the program or a reply tells. One that stands for nothing has
+    none.
+
+    >>> words(602)
+    'slot taken'
+    """
+    asked = number("number", refusal, 32)
+    call: Callable[..., int] = CALLS["words"]
+    return told(WORDS, lambda text, room, needed: call(asked, text, room, needed))[1]
+
+
+def answered(answer: int) -> None:
+    """Raises the refusal that a call answers, if it is not 0."""
+    if answer != 0:
+        raise Refusal(answer)

@@ -1,0 +1,61 @@
+"""What the module says of the calls is what library/pciguest.h says."""
+
+import re
+import unittest
+from ctypes import POINTER, c_char, c_char_p, c_size_t, c_uint8, c_uint32, c_uint64, c_void_p, sizeof
+
+import pciguest
+from boards import TOP
+from pciguest import _calls
+
+HEADER = (TOP / "library" / "pciguest.h").read_text()
+TYPES = {
+    "struct pciguest *": POINTER(_calls.Handle),
+    "const uint8_t *": c_char_p,
+    "uint8_t *": POINTER(c_char),
+    "uint32_t *": POINTER(c_uint32),
+    "size_t *": POINTER(c_size_t),
+    "size_t": c_size_t,
+    "uint8_t": c_uint8,
+    "uint32_t": c_uint32,
+    "uint64_t": c_uint64,
+}
+
+
+def declared():
+    """The calls of the header: by name, what each answers and the types of its parameters."""
+    calls = {}
+    for answer, name, inside in re.findall(r"^(\w+) pciguest_raw_(\w+)\(([^)]*)\);", HEADER, re.MULTILINE):
+        types = [re.match(r"(.*[ *])\w+$", part.strip()).group(1).strip() for part in inside.split(",")]
+        calls[name] = answer, tuple(TYPES[each] for each in types)
+    return calls
+
+
+class Header(unittest.TestCase):
+    def test_calls(self):
+        calls = declared()
+        self.assertEqual(len(calls), 12)
+        self.assertEqual({name: types for name, (_, types) in calls.items()}, _calls.PARAMETERS)
+        for name, (answer, types) in calls.items():
+            call = _calls.CALLS[name]
+            self.assertEqual(tuple(call.argtypes), types, name)
+            self.assertEqual(call.restype, {"void": None, "uint32_t": c_uint32}[answer], name)
+
+    def test_numbers(self):
+        given = dict(re.findall(r"PCIGUEST_(\w+) = (\d+)", HEADER))
+        for name in ("ARGUMENT", "REPLY", "WORDS", "CONFIG", "IO", "MEMORY", "RAISE_CONFIG"):
+            self.assertEqual(int(given[name]), getattr(_calls, name), name)
+
+    def test_handle(self):
+        fields = re.search(r"^struct pciguest \{\n    bool live;\n    void \*at;\n\};", HEADER, re.MULTILINE)
+        self.assertTrue(fields)
+        self.assertEqual(sizeof(_calls.Handle), 2 * sizeof(c_void_p))
+        self.assertEqual(_calls.Handle.at.offset, sizeof(c_void_p))
+
+    def test_version(self):
+        version = re.search(r'^#define PCIGUEST_VERSION "(.*)"', HEADER, re.MULTILINE).group(1)
+        self.assertEqual(pciguest.__version__, version)
+
+
+if __name__ == "__main__":
+    unittest.main()

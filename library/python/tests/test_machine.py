@@ -1,0 +1,202 @@
+"""Each call on the main board of the examples, and what is refused."""
+
+import gc
+import threading
+import unittest
+import unittest.mock
+
+from boards import DATA, MAIN
+from pciguest import Machine, Refusal
+from pciguest._calls import CALLS
+
+
+class Case(unittest.TestCase):
+    def setUp(self):
+        self.machine = Machine(MAIN)
+        self.addCleanup(self.machine.close)
+        self.a, self.b = self.machine.guest("a"), self.machine.guest("b")
+
+    def refused(self, number, call, *arguments):
+        with self.assertRaises(Refusal) as raised:
+            call(*arguments)
+        self.assertEqual(raised.exception.number, number)
+        return raised.exception
+
+
+class Guests(Case):
+    def test_a_guest_uses_its_function(self):
+        a, b = self.a, self.b
+        self.assertEqual((a.index, b.index), (0, 1))
+        self.assertEqual(a.config[0][0:4], 0x00011234)
+        self.assertEqual(b.config[0][2:2], 0x0003)
+        a.config[0][0x14:4] = 0xE0000000
+        a.config[0][4:2] = 2
+        a.memory[0xE0000010:4] = 0x12345678
+        self.assertEqual(a.memory[0xE0000012:1], 0x34)
+        self.assertEqual(b.memory[0xE0000010:4], 0xFFFFFFFF)
+
+    def test_ports(self):
+        self.a.io[0xCF8:4] = 0x80000800
+        self.assertEqual(self.a.io[0xCFC:4], 0x00041234)
+        self.assertEqual(self.b.io[0xCF8:4], 0)
+
+    def test_all_slots(self):
+        found = [function[0:4] for function in self.a.config]
+        self.assertEqual(found, [0x00011234, 0x00041234] + [0xFFFFFFFF] * 30)
+
+    def test_a_device_raises_a_bit(self):
+        status = self.a.config[0]
+        self.a.raise_bits(0, 7, 0x80)
+        self.assertEqual(status[6:2] & 0x8000, 0x8000)
+        status[6:2] = 0x8000
+        self.assertEqual(status[6:2] & 0x8000, 0)
+        self.a.raise_bits(0, 0, 0xFF, region=1)
+        self.refused(303, self.a.raise_bits, 0, 4096, 0xFF, 1)
+        self.refused(601, self.a.raise_bits, 31, 7, 0x80)
+        for region in (6, 7, 0xFFFFFFFF):
+            self.refused(902, self.a.raise_bits, 0, 7, 0x80, region)
+
+    def test_a_function_moves(self):
+        self.a.config[0][4:2] = 2
+        self.machine.move(self.a, 0, self.b, 5)
+        self.assertEqual(self.a.config[0][0:4], 0xFFFFFFFF)
+        self.assertEqual(self.b.config[5][0:4], 0x00011234)
+        self.assertEqual(self.b.config[5][4:2], 0)
+        self.refused(601, self.machine.move, self.a, 0, self.b, 6)
+        self.refused(602, self.machine.move, self.a, 1, self.b, 5)
+        self.refused(303, self.machine.move, self.a, 1, self.b, 32)
+        with Machine(MAIN) as other, self.assertRaises(ValueError):
+            other.move(self.a, 1, other.guest("b"), 6)
+
+
+class Hosts(Case):
+    def test_the_board(self):
+        host = self.machine.host
+        self.assertEqual(host.config[0, 2, 0][0:4], 0x00021234)
+        self.assertEqual(host.config[1, 1, 0][2:2], 0x0004)
+        self.assertEqual(host.memory[0x400000000:1], 0xA5)
+        self.assertEqual(host.io[0x4000:2], 0xFFFF)
+        self.refused(902, lambda: host.config[0, 32, 0][0:4])
+        self.refused(902, lambda: host.config[0, 0, 8][0:4])
+
+    def test_the_host_writes_nothing(self):
+        with self.assertRaises(TypeError):
+            self.machine.host.memory[0xC0000000:4] = 0
+        with self.assertRaises(TypeError):
+            self.machine.host.config[0]
+
+
+class Lines(Case):
+    def test_replies(self):
+        run = self.machine.run_line
+        self.assertEqual(run("a cr 0 0 4"), "a: 0x00011234")
+        self.assertEqual(run(b"a cr 0 0 2\n"), "a: 0x1234")
+        self.assertEqual(run("a cr 0 0 2\n\n"), "a: refused 401 bad line")
+        self.assertEqual(run("nobody cr 0 0 4"), "?: refused 402 unknown guest")
+        self.assertEqual(run(" " * 201), "?: refused 403 long line")
+        self.assertIsNone(run(""))
+        self.assertIsNone(run("# a comment"))
+
+
+class Refusals(Case):
+    def test_accesses(self):
+        a = self.a
+        refusal = self.refused(301, lambda: a.memory[0xD0000001:4])
+        self.assertEqual((refusal.words, str(refusal)), ("misaligned", "301 misaligned"))
+        self.refused(302, lambda: a.memory[0xD0000001:3])
+        self.refused(303, lambda: a.config[32][0:4])
+        self.refused(303, lambda: a.config[0][256:4])
+        self.refused(303, a.io.__setitem__, slice(1 << 32, 1), 0)
+        self.refused(902, self.machine.guest, "nobody")
+        self.refused(902, self.machine.guest, "")
+
+    def test_boards(self):
+        self.assertEqual(str(self.refused(101, Machine, "x")), "101 not TOML")
+        self.refused(101, Machine, b"\xff")
+        self.refused(102, Machine, "")
+        self.assertEqual(self.refused(203, Machine, (DATA / "io_pool.toml").read_text()).words, "I/O pool")
+
+    def test_numbers_that_do_not_fit(self):
+        space = self.a.config[0]
+        for key in (slice(-1, 4), slice(1 << 64, 4), slice(0, -1), slice(0, 1 << 32)):
+            with self.assertRaises(ValueError):
+                space[key]
+        for value in (-1, 1 << 32):
+            with self.assertRaises(ValueError):
+                space[4:2] = value
+        host, a = self.machine.host, self.a
+        for call in (lambda: a.config[-1], lambda: a.raise_bits(0, 7, 256), lambda: host.config[256, 0, 0]):
+            with self.assertRaises(ValueError):
+                call()
+
+    def test_accesses_of_another_form(self):
+        for key in (0, slice(None, 4), slice(0, None), slice(0, 4, 1), slice("0", 4), slice(0.0, 4)):
+            with self.assertRaises(TypeError):
+                self.a.memory[key]
+
+
+class Ends(Case):
+    def test_closed(self):
+        with Machine(MAIN) as machine:
+            guest = machine.guest("a")
+        self.assertEqual(str(self.refused(901, lambda: guest.config[0][0:4])), "901 no machine")
+        self.refused(901, machine.run_line, "a cr 0 0 4")
+        machine.close()
+
+    def test_what_is_left_is_freed(self):
+        kept = [Machine(MAIN) for _ in range(200)]
+        before = resident()
+        del kept
+        for _ in range(2000):
+            Machine(MAIN)
+        gc.collect()
+        self.assertLess(resident() - before, 4 << 20)
+
+    def test_threads(self):
+        """Calls of several threads on one machine: each answers as it does alone."""
+        wrong = []
+
+        def use(guest, value):
+            for _ in range(2000):
+                guest.config[0][0x3C:1] = value
+                if guest.config[0][0x3C:1] != value or guest.config[0][0:2] != 0x1234:
+                    wrong.append(guest)
+
+        threads = [threading.Thread(target=use, args=(each, value)) for value, each in enumerate((self.a, self.b), 1)]
+        for thread in threads:
+            thread.start()
+        for thread in threads:
+            thread.join()
+        self.assertEqual(wrong, [])
+
+
+class OneAtATime(Case):
+    def test_a_call_keeps_others_waiting(self):
+        """While a call is made, no other thread gets the lock of the machine, and another machine's is free."""
+        found = []
+
+        def take(lock):
+            found.append(lock.acquire(blocking=False))
+            if found[-1]:
+                lock.release()
+
+        def spy(*arguments):
+            for machine in (self.machine, other):
+                thread = threading.Thread(target=take, args=(machine._lock,))
+                thread.start()
+                thread.join()
+            return 0
+
+        with Machine(MAIN) as other, unittest.mock.patch.dict(CALLS, read=spy):
+            self.a.io[0xCF8:4]
+        self.assertEqual(found, [False, True])
+
+
+def resident():
+    """The memory of this process that is resident, in bytes, on pages of 4 KB."""
+    with open("/proc/self/statm") as told:
+        return 4096 * int(told.read().split()[1])
+
+
+if __name__ == "__main__":
+    unittest.main()

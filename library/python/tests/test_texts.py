@@ -1,0 +1,89 @@
+"""Reports, checks and words over all boards of the examples; the device model; and the examples in docstrings."""
+
+import doctest
+import unittest
+
+from boards import DATA, MAIN, TOP
+from pciguest import Machine, Refusal, check, report, words
+
+
+def load_tests(loader, tests, pattern):
+    for name in ("", "._machine", "._refusal", "._spaces", "._texts"):
+        tests.addTests(doctest.DocTestSuite("pciguest" + name))
+    return tests
+
+
+def number(call, board):
+    """The number by which a call refuses a board, or 0."""
+    try:
+        call(board)
+    except Refusal as refusal:
+        return refusal.number
+    return 0
+
+
+class Texts(unittest.TestCase):
+    def test_a_check_a_report_and_a_machine_agree(self):
+        boards = sorted(DATA.glob("*.toml"))
+        self.assertGreater(len(boards), 20)
+        for path in boards:
+            with self.subTest(board=path.name):
+                board = path.read_bytes()
+                told = check(board)
+                made = number(Machine, board)
+                self.assertEqual(told.refusal.number if told.refusal else 0, made)
+                self.assertEqual(number(report, board), made)
+                self.assertEqual(told.text.startswith("ok\n"), made == 0)
+                self.assertTrue(told.text.endswith("\n"))
+
+    def test_long_texts_come_whole(self):
+        text = report((DATA / "largest.toml").read_bytes())
+        self.assertGreater(len(text), 4096)
+        self.assertTrue(text.startswith("endpoints 769 bridges 255\n") and text.endswith("\n"))
+
+    def test_words(self):
+        self.assertEqual(sum(words(each) != "" for each in range(1000)), 35)
+        self.assertEqual(words(205), "prefetchable pool")
+        self.assertEqual(words(0xFFFFFFFF), "")
+
+
+# the accesses of the device models in C and in Rust: port or address, width, and what is written
+FIRMWARE = [
+    (0xCF8, 4, 0x80000000),
+    (0xCFC, 4, None),
+    (0xCF8, 4, 0x80003800),
+    (0xCFC, 4, None),
+    (0xCF8, 4, 0x80000014),
+    (0xCFC, 4, 0xFFFFFFFF),
+    (0xCFC, 4, None),
+    (0xCFC, 4, 0xE0000000),
+    (0xCF8, 4, 0x80000004),
+    (0xCFC, 2, 0x0002),
+    (0xE0000010, 4, 0x12345678),
+    (0xE0000010, 4, None),
+    (0xE0000012, 1, None),
+    (0xE0000011, 4, None),
+    (0xD0000000, 4, None),
+]
+
+
+class DeviceModel(unittest.TestCase):
+    def test_it_prints_what_the_one_in_c_does(self):
+        lines = []
+        with Machine(MAIN) as machine:
+            guest = machine.guest("a")
+            for place, width, written in FIRMWARE:
+                name, space = ("port", guest.io) if place < 0x10000 else ("memory", guest.memory)
+                if written is None:
+                    try:
+                        value = space[place:width]
+                    except Refusal:
+                        value = 0xFFFFFFFF
+                else:
+                    space[place:width] = value = written
+                lines.append(f"{'read ' if written is None else 'write'} {name} {place:#x} {width}: {value:#010x}\n")
+        self.assertEqual("".join(lines), (TOP / "tests" / "library" / "device.stdout").read_text())
+
+
+if __name__ == "__main__":
+    unittest.main()
