@@ -132,6 +132,6 @@ try:
 	@cd crates/pciguest && rt try -- demo < ../../examples/demo.script
 
 clean:
-	rm -rf crates/*/out page/out .prove pciguest pciguest.html library/libpciguest.a library/libpciguest.so.0
+	rm -rf crates/*/out page/out library/rust/target .prove pciguest pciguest.html library/libpciguest.a library/libpciguest.so.0
 	rm -f pciguest-*-x86_64-linux.tar.gz
 	@$(MAKE) --no-print-directory -C examples/qemu clean

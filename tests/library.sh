@@ -1,6 +1,7 @@
 #!/usr/bin/env bash
 # Uses the library for C as a C program does: the example, random accesses by calls and by lines, which the proved
 # program must answer alike, and what the library refuses. Where the compiler has sanitizers, all is run under them.
+# Then it runs the tests of the crate for Rust and of the module for Python, where cargo and Python 3 are there.
 #     tests/library.sh [PROGRAM]
 # PROGRAM is the one that `rt ci` or `make build` left, unless it is given. The last line is 'N passed, M failed'.
 set -u
