@@ -14,7 +14,8 @@ INSTALL := PREFIX='$(PREFIX)' DESTDIR='$(DESTDIR)' LIBDIR='$(LIBDIR)' tools/inst
 # the board of `make list` and `make lspci`, unless they are given one
 BOARD := crates/examples/data/main.toml
 
-.PHONY: demo list lspci has-lspci has-qemu gate test build library install uninstall dist bench hostile fuzz qemu page browse try clean
+.PHONY: demo list lspci has-lspci has-qemu has-firmware gate test build library install \
+  uninstall dist bench hostile fuzz qemu firmware page browse try clean
 
 # Proves and builds the program, and runs a script over the demo board.
 demo: build
@@ -106,6 +107,14 @@ qemu: has-qemu pciguest library/libpciguest.a
 
 has-qemu:
 	@examples/qemu/needs
+
+# Debian's SeaBIOS and U-Boot, unmodified, on boards of the program. It takes Debian's packages, which it names where they
+# are missing, and some minutes.
+firmware: has-firmware pciguest
+	@tests/firmware/firmware.py ./pciguest
+
+has-firmware:
+	@tests/firmware/needs
 
 library/libpciguest.a:
 	@$(MAKE) --no-print-directory library

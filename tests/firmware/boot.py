@@ -1,0 +1,91 @@
+"""Boots a firmware over the board of a file, and looks at what it left there."""
+import tomllib
+from pathlib import Path
+from typing import NamedTuple
+
+from board import BoardError, ProgramBoard, is_bridge, registers
+from pc import PC, BootError
+
+
+class Firmware(NamedTuple):
+    """A firmware of Debian: its ROM, the last words of its console, and what is typed where it waits."""
+
+    name: str
+    rom: str
+    ending: str
+    prompts: tuple
+    plain: bool  # for a processor without time stamps and APIC
+
+
+SEABIOS = Firmware("SeaBIOS", "/usr/share/seabios/bios-256k.bin", "No bootable device", (), True)
+UBOOT = Firmware("U-Boot", "/usr/lib/u-boot/qemu-x86/u-boot.rom", "\n=> ", (("stop autoboot: ", "\r"),), False)
+
+
+class Left(NamedTuple):
+    """What a boot left: each function's 256 bytes, regions that answer at their place, and all that is wrong."""
+
+    cells: dict
+    answering: int
+    wrong: list
+    lines: int
+    told: str
+
+
+def paths(cells):
+    """The path of each function, as a board file writes it."""
+    above, found = {0: ""}, {}
+    for at, bytes_of in cells.items():
+        found[at] = f"{above[at[0]]}{at[1]}.{at[2]}"
+        if is_bridge(bytes_of):
+            above[bytes_of[0x19]] = found[at] + "/"
+    return found
+
+
+def place_of(cells, bar):
+    """Where a declared region stands and whether its space is open: (is a port, address), or None where it is not."""
+    is_port, at = bar["kind"] == "io", 0x10 + 4 * bar["index"]
+    base = int.from_bytes(cells[at:at + (8 if "64" in bar["kind"] else 4)], "little") & (~3 if is_port else ~15)
+    return (is_port, base) if base and cells[4] & (1 if is_port else 2) else None
+
+
+def marked_regions(declared, cells):
+    """The placed regions whose first 4 bytes can be written, in a fixed order."""
+    by_path = {path: at for at, path in paths(cells).items()}
+    for endpoint in declared.get("endpoint", []):
+        for bar in endpoint.get("bar", []):
+            at = by_path.get(endpoint["at"])
+            place = at and place_of(cells[at], bar)
+            if place and bar.get("rw") == "ff" and bar.get("block", 0) >= 4:
+                yield f"{endpoint['at']} region {bar['index']}", *place
+
+
+def answering(board, declared, cells):
+    """Writes a mark of its own into each region, and then reads them: how many answer, and those that don't."""
+    regions = list(marked_regions(declared, cells))
+    for mark, (_, is_port, place) in enumerate(regions, 0x5A000001):
+        (board.port_write if is_port else board.memory_write)(place, 4, mark)
+    silent = []
+    for mark, (name, is_port, place) in enumerate(regions, 0x5A000001):
+        if (board.port_read if is_port else board.memory_read)(place, 4) != mark:
+            silent.append(f"{name} doesn't answer at {place:#x}")
+    return len(regions) - len(silent), silent
+
+
+def boot(program, file, firmware):
+    """Boots the firmware over the board of a file. A boot that doesn't end, or an access that is refused, is wrong."""
+    declared = tomllib.loads(Path(file).read_text())
+    board = ProgramBoard(program, file)
+    pc = PC(board, Path(firmware.rom).read_bytes(), firmware.plain)
+    pc.prompts = dict(firmware.prompts)
+    try:
+        pc.boot(firmware.ending)
+        lines = board.lines
+        cells = registers(board)
+        answered, wrong = answering(board, declared, cells)
+    except (BoardError, BootError, OSError) as error:
+        return Left({}, 0, [str(error)], board.lines, pc.told)
+    finally:
+        board.close()
+    expected = {entry["at"] for key in ("endpoint", "bridge") for entry in declared.get(key, [])}
+    wrong += [f"{path} isn't found" for path in sorted(expected - set(paths(cells).values()))]
+    return Left(cells, answered, wrong, lines, pc.told)

@@ -1,0 +1,157 @@
+"""The few devices of a PC that firmware waits for or asks: timer, clock memory, interrupt masks, consoles.
+
+Time is told in ticks of the timer, 1193182 a second, and goes on by one with each access to a port."""
+
+TICKS = 1193182
+
+
+class Counter:
+    """One counter of the 8254 timer. Its mode is 0 (counts down once) or another (counts in rounds)."""
+
+    def __init__(self):
+        self.reload, self.start, self.mode, self.access = 0x10000, 0, 2, 3
+        self.low, self.held = None, []
+
+    def count(self, now):
+        passed = now - self.start
+        return (self.reload - passed) & 0xFFFF if self.mode == 0 else self.reload - passed % self.reload
+
+    def is_done(self, now):
+        return now - self.start >= self.reload
+
+    def hold(self, now):
+        """Keeps the count as the bytes that the next reads give."""
+        count = self.count(now) & 0xFFFF
+        self.held = {1: [count & 0xFF], 2: [count >> 8]}.get(self.access, [count & 0xFF, count >> 8])
+
+    def command(self, value, now):
+        if value >> 4 & 3 == 0:
+            self.hold(now)
+        else:
+            self.access, self.mode, self.low, self.held = value >> 4 & 3, value >> 1 & 7, None, []
+
+    def read(self, now):
+        if not self.held:
+            self.hold(now)
+        return self.held.pop(0)
+
+    def write(self, value, now):
+        if self.access == 3 and self.low is None:
+            self.low = value
+            return
+        low = {1: value, 2: 0}.get(self.access, self.low)
+        high = 0 if self.access == 1 else value
+        self.reload, self.start, self.low = (high << 8 | low) or 0x10000, now, None
+
+
+class InterruptController:
+    """One 8259: its mask and its first vector. Interrupts themselves are the PC's."""
+
+    def __init__(self, vector):
+        self.vector, self.mask, self.step = vector, 0xFF, 0
+
+    def command(self, value):
+        if value & 0x10:
+            self.step = 1
+
+    def write(self, value):
+        """After a first word of initialisation come three more; all other writes are masks."""
+        if self.step == 0:
+            self.mask = value
+            return
+        if self.step == 1:
+            self.vector = value
+        self.step = (self.step + 1) % 4
+
+
+class SerialPort:
+    """A 16550 whose output is told, and whose input is what `type_text` was given."""
+
+    def __init__(self, told):
+        self.told, self.typed, self.kept = told, [], bytearray(8)
+
+    def type_text(self, text):
+        self.typed += text.encode()
+
+    def read(self, register):
+        if register == 0 and not self.kept[3] & 0x80:
+            return self.typed.pop(0) if self.typed else 0
+        return {2: 0x01, 5: 0x60 | bool(self.typed), 6: 0xB0}.get(register, self.kept[register])
+
+    def write(self, register, value):
+        if register == 0 and not self.kept[3] & 0x80:
+            self.told(value)
+        else:
+            self.kept[register] = value
+
+
+def clock_memory(ram):
+    """The battery-backed bytes: a date, and how many bytes of memory there are."""
+    cells = bytearray(128)
+    above_1, above_16 = min((ram >> 10) - 1024, 0xFFFF), (ram - (16 << 20)) >> 16
+    for at, value in {0x04: 0x12, 0x06: 2, 0x07: 1, 0x08: 1, 0x09: 0x24, 0x32: 0x20, 0x0A: 0x26, 0x0B: 2, 0x0D: 0x80,
+                      0x14: 6, 0x15: 0x80, 0x16: 2}.items():
+        cells[at] = value
+    for at, value in ((0x17, above_1), (0x30, above_1), (0x34, above_16)):
+        cells[at:at + 2] = value.to_bytes(2, "little")
+    return cells
+
+
+class Chipset:
+    """The ports of these devices. `readers` and `writers` have a call for each port; all others are the board's."""
+
+    def __init__(self, ram, told):
+        self.now = 0
+        self.counters = [Counter() for _ in range(3)]
+        self.controllers = {0x20: InterruptController(8), 0xA0: InterruptController(0x70)}
+        self.serial = SerialPort(told)
+        self.cells, self.index, self.kept = clock_memory(ram), 0, {0x61: 0, 0x92: 2}
+        self.readers = {0x61: self.read_speaker, 0x70: lambda: self.index, 0x71: lambda: self.cells[self.index & 127],
+                        0x92: lambda: self.kept[0x92], 0x402: lambda: 0xE9}
+        self.writers = {0x43: self.write_timer_command, 0x61: self.keep(0x61), 0x70: self.write_index,
+                        0x71: self.write_cell, 0x92: self.keep(0x92), 0x402: told}
+        self.add_timer()
+        self.add_controllers()
+        for register in range(8):
+            self.readers[0x3F8 + register] = lambda at=register: self.serial.read(at)
+            self.writers[0x3F8 + register] = lambda value, at=register: self.serial.write(at, value)
+
+    def add_timer(self):
+        for port, counter in enumerate(self.counters, 0x40):
+            self.readers[port] = lambda counter=counter: counter.read(self.now)
+            self.writers[port] = lambda value, counter=counter: counter.write(value, self.now)
+
+    def add_controllers(self):
+        for port, controller in self.controllers.items():
+            self.readers[port], self.writers[port] = (lambda: 0), controller.command
+            self.readers[port + 1] = lambda controller=controller: controller.mask
+            self.writers[port + 1] = controller.write
+
+    def keep(self, port):
+        def write(value):
+            self.kept[port] = value
+        return write
+
+    def write_index(self, value):
+        self.index = value
+
+    def write_cell(self, value):
+        self.cells[self.index & 127] = value
+
+    def write_timer_command(self, value):
+        if value >> 6 == 3:
+            for place, counter in enumerate(self.counters):
+                if value >> place & 2 and not value & 0x20:
+                    counter.hold(self.now)
+        else:
+            self.counters[value >> 6].command(value, self.now)
+
+    def read_speaker(self):
+        """Bit 5 is the output of counter 2, bit 4 goes to and fro."""
+        return self.kept[0x61] & 0x0F | self.counters[2].is_done(self.now) << 5 | self.now & 0x10
+
+    def next_tick(self):
+        """Lets time pass to the next interrupt of counter 0; its vector, or None where it is masked."""
+        counter, controller = self.counters[0], self.controllers[0x20]
+        self.now += counter.reload - (self.now - counter.start) % counter.reload
+        return None if controller.mask & 1 else controller.vector

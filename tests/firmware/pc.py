@@ -1,0 +1,160 @@
+"""A PC on which firmware runs unmodified: a processor (the Unicorn engine), memory, the chipset, and a board.
+
+Whatever port the chipset doesn't have, and whatever address is no memory below 4 GB, is the board's."""
+import struct
+import time
+
+from unicorn import (UC_ARCH_X86, UC_HOOK_INSN, UC_HOOK_INTR, UC_HOOK_MEM_WRITE_PROT, UC_MODE_16, UC_PROT_ALL,
+                     UC_PROT_EXEC, UC_PROT_READ, Uc, UcError)
+from unicorn import x86_const as x86
+
+from chipset import Chipset
+
+RAM = 128 << 20
+FOUR_GB = 1 << 32
+# interrupt controllers and timer of later PCs: memory that does nothing
+INERT = (0xFEC00000, 0xFED00000, 0xFEE00000)
+PATIENCE = 60  # seconds of a boot
+
+
+class BootError(Exception):
+    """The firmware stopped before it was done."""
+
+
+class PC:
+    """`told` is what the firmware wrote to its console. `plain` is a processor without time stamps and APIC."""
+
+    def __init__(self, board, rom, plain):
+        self.board, self.told, self.endings, self.prompts = board, "", [], {}
+        self.chipset = Chipset(RAM, self.tell)
+        self.interrupt, self.is_done = None, False
+        self.engine = Uc(UC_ARCH_X86, UC_MODE_16)
+        self.map_memory(rom)
+        hook = self.engine.hook_add
+        hook(UC_HOOK_INSN, self.port_in, arg1=x86.UC_X86_INS_IN)
+        hook(UC_HOOK_INSN, self.port_out, arg1=x86.UC_X86_INS_OUT)
+        if plain:
+            hook(UC_HOOK_INSN, self.identify, arg1=x86.UC_X86_INS_CPUID)
+        hook(UC_HOOK_INTR, self.interrupted)
+        hook(UC_HOOK_MEM_WRITE_PROT, lambda *_: True)  # writes to the ROM are dropped
+
+    def map_memory(self, rom):
+        """Memory, the ROM at the top of 4 GB with a copy of its end below 1 MB, and the board in the holes."""
+        engine, copy = self.engine, rom[-0x40000:]
+        engine.mem_map(0, 0xA0000, UC_PROT_ALL)
+        engine.mem_map(0xC0000, RAM - 0xC0000, UC_PROT_ALL)
+        for start in INERT:
+            engine.mem_map(start, 0x1000, UC_PROT_ALL)
+        engine.mem_map(FOUR_GB - len(rom), len(rom), UC_PROT_READ | UC_PROT_EXEC)
+        engine.mem_write(FOUR_GB - len(rom), rom)
+        engine.mem_write(0x100000 - len(copy), copy)
+        for start, end in ((0xA0000, 0xC0000), (RAM, INERT[0])):
+            engine.mmio_map(start, end - start, self.memory_read, start, self.memory_write, start)
+
+    def tell(self, value):
+        """A byte for the console: the run ends with an ending, and a prompt is answered once."""
+        self.told += chr(value)
+        last = self.told[-80:]
+        for prompt in [prompt for prompt in self.prompts if last.endswith(prompt)]:
+            self.chipset.serial.type_text(self.prompts.pop(prompt))
+        if any(last.endswith(ending) for ending in self.endings):
+            self.is_done = True
+            self.engine.emu_stop()
+
+    def port_in(self, _engine, port, width, _data):
+        self.chipset.now += 1
+        reader = self.chipset.readers.get(port)
+        if reader:
+            return reader()
+        return whole(lambda at, size: self.board.port_read(at, size), port, width)
+
+    def port_out(self, _engine, port, width, value, _data):
+        self.chipset.now += 1
+        writer = self.chipset.writers.get(port)
+        if writer:
+            writer(value & 0xFF)
+        else:
+            parted(lambda at, size, part: self.board.port_write(at, size, part), port, width, value)
+
+    def memory_read(self, _engine, offset, width, start):
+        return whole(lambda at, size: self.board.memory_read(at, size), start + offset, width)
+
+    def memory_write(self, _engine, offset, width, value, start):
+        parted(lambda at, size, part: self.board.memory_write(at, size, part), start + offset, width, value)
+
+    def identify(self, engine, _data):
+        """CPUID of a processor that has a floating-point unit and conditional moves, and says no more."""
+        leaf = engine.reg_read(x86.UC_X86_REG_EAX)
+        words = {0: (1, 0x756E6547, 0x6C65746E, 0x49656E69), 1: (0x633, 0, 0, 0x8001)}.get(leaf, (0, 0, 0, 0))
+        for register, word in zip((x86.UC_X86_REG_EAX, x86.UC_X86_REG_EBX, x86.UC_X86_REG_ECX, x86.UC_X86_REG_EDX),
+                                  words):
+            engine.reg_write(register, word)
+        return 1
+
+    def interrupted(self, engine, vector, _data):
+        self.interrupt = vector
+        engine.emu_stop()
+
+    def enter_interrupt(self, vector):
+        """Goes to the handler of a vector as a processor in real mode does."""
+        engine, read, write = self.engine, self.engine.reg_read, self.engine.reg_write
+        flags, stack = read(x86.UC_X86_REG_EFLAGS), read(x86.UC_X86_REG_SP) - 6 & 0xFFFF
+        frame = struct.pack("<3H", read(x86.UC_X86_REG_EIP) & 0xFFFF, read(x86.UC_X86_REG_CS), flags & 0xFFFF)
+        engine.mem_write((read(x86.UC_X86_REG_SS) << 4) + stack, frame)
+        offset, segment = struct.unpack("<2H", engine.mem_read(4 * vector, 4))
+        write(x86.UC_X86_REG_SP, stack)
+        write(x86.UC_X86_REG_EFLAGS, flags & ~0x300)
+        write(x86.UC_X86_REG_CS, segment)
+        write(x86.UC_X86_REG_EIP, offset)
+
+    def place(self):
+        return f"{self.engine.reg_read(x86.UC_X86_REG_CS):x}:{self.engine.reg_read(x86.UC_X86_REG_EIP):x}"
+
+    def resume(self):
+        """After a stop: an interrupt that was asked for, or time that passes while the processor halts."""
+        if self.engine.reg_read(x86.UC_X86_REG_CR0) & 1:
+            raise BootError(f"exception {self.interrupt} in protected mode at {self.place()}")
+        if self.interrupt is not None:
+            self.enter_interrupt(self.interrupt)
+        elif not self.engine.reg_read(x86.UC_X86_REG_EFLAGS) & 0x200:
+            raise BootError(f"halted with interrupts off at {self.place()}")
+        else:
+            vector = self.chipset.next_tick()
+            if vector is not None:
+                self.enter_interrupt(vector)
+
+    def boot(self, *endings):
+        """Runs from reset until the console has told one of the endings."""
+        self.endings = endings
+        engine, deadline = self.engine, time.monotonic() + PATIENCE
+        engine.reg_write(x86.UC_X86_REG_CS, 0xF000)
+        engine.reg_write(x86.UC_X86_REG_EFLAGS, 2)
+        start = 0xFFFF0
+        while True:
+            self.interrupt, left = None, deadline - time.monotonic()
+            if left <= 0:
+                raise BootError(f"not done after {PATIENCE} seconds, at {self.place()}")
+            try:
+                engine.emu_start(start, (1 << 64) - 1, timeout=int(left * 1e6))
+            except UcError as error:
+                raise BootError(f"{error} at {self.place()}") from error
+            if self.is_done:
+                return
+            if time.monotonic() < deadline:
+                self.resume()
+            start = (engine.reg_read(x86.UC_X86_REG_CS) << 4) + (engine.reg_read(x86.UC_X86_REG_EIP) & 0xFFFF)
+
+
+def pieces(place, width):
+    """The accesses of at most 4 bytes that an access is made of: aligned ones, or else bytes."""
+    size = 1 if place % min(width, 4) else min(width, 4)
+    return [(place + done, size, 8 * done) for done in range(0, width, size)]
+
+
+def whole(read, place, width):
+    return sum(read(at, size) << shift for at, size, shift in pieces(place, width))
+
+
+def parted(write, place, width, value):
+    for at, size, shift in pieces(place, width):
+        write(at, size, value >> shift & (1 << 8 * size) - 1)
