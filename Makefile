@@ -108,8 +108,9 @@ qemu: has-qemu pciguest library/libpciguest.a
 has-qemu:
 	@examples/qemu/needs
 
-# Debian's SeaBIOS and U-Boot, unmodified, on boards of the program. It takes Debian's packages, which it names where they
-# are missing, and some minutes.
+# Debian's SeaBIOS and U-Boot, unmodified, on boards of the program; and on random trees, where each byte that they leave
+# is compared with what they leave in QEMU. It takes Debian's packages, which it names where they are missing, and some
+# minutes.
 firmware: has-firmware pciguest
 	@tests/firmware/firmware.py ./pciguest
 

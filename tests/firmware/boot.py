@@ -42,10 +42,12 @@ def paths(cells):
 
 
 def place_of(cells, bar):
-    """Where a declared region stands and whether its space is open: (is a port, address), or None where it is not."""
-    is_port, at = bar["kind"] == "io", 0x10 + 4 * bar["index"]
-    base = int.from_bytes(cells[at:at + (8 if "64" in bar["kind"] else 4)], "little") & (~3 if is_port else ~15)
-    return (is_port, base) if base and cells[4] & (1 if is_port else 2) else None
+    """Where a declared region was placed: (is a port, address). None where it has no address (0, or all ones as sizing
+    leaves them), or where Command doesn't open its space."""
+    is_port, at, width = bar["kind"] == "io", 0x10 + 4 * bar["index"], 8 if "64" in bar["kind"] else 4
+    base = int.from_bytes(cells[at:at + width], "little") & (~3 if is_port else ~15)
+    is_placed = 0 < base < (1 << 8 * width) - bar["size"]
+    return (is_port, base) if is_placed and cells[4] & (1 if is_port else 2) else None
 
 
 def marked_regions(declared, cells):

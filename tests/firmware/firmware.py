@@ -1,15 +1,23 @@
 #!/usr/bin/python3 -B
-"""Boots firmware of others, unmodified, on boards of the program.
+"""Boots firmware of others, unmodified, on boards of the program, and compares what it leaves with what it leaves in
+QEMU.
 
-    firmware.py PROGRAM [--keep FOLDER]
+    firmware.py PROGRAM [--trees N] [--seed S] [--keep FOLDER]
 
-The boards are examples of this repository. With --keep what a firmware told on its console is kept. Status 1 says that
-a boot went wrong."""
+First each firmware boots on boards of the examples. Then it boots on N random trees (30), here and in QEMU's machine,
+and the configuration bytes of all functions are compared; the same seed makes the same trees. With --keep the consoles
+and the boards of the trees are kept. Status 1 says that a boot went wrong, or that a byte differs and no rule names
+it. The last line counts."""
 import argparse
 import sys
+import tempfile
 from pathlib import Path
 
+from board import registers
 from boot import SEABIOS, UBOOT, boot
+from machine import Machine, MachineError
+from rules import Comparison
+from trees import Reading, Tree
 
 EXAMPLES = Path(__file__).resolve().parents[2] / "crates/examples/data"
 # U-Boot stops before its first words on the other two
@@ -18,36 +26,88 @@ BOARDS = {SEABIOS: ["main", "server", "second_bridge", "kinds", "chain", "larges
 
 
 class Run:
-    """The options of a run, and how many boots went wrong."""
+    """The options of a run, and what it counts."""
 
-    def __init__(self, options):
-        self.program, self.keep, self.failed = options.program, options.keep and Path(options.keep), 0
-        if self.keep:
-            self.keep.mkdir(parents=True, exist_ok=True)
+    def __init__(self, options, room):
+        self.program, self.room, self.failed = options.program, Path(options.keep or room), 0
+        self.room.mkdir(parents=True, exist_ok=True)
+
+    def fail(self, what):
+        print(f"FAILED: {what}")
+        self.failed += 1
 
     def boot(self, name, file, firmware):
         """Boots a firmware on a board, and tells in a line what came of it."""
-        left = boot(self.program, file, firmware)
-        if self.keep:
-            (self.keep / f"{name}.{firmware.name}.told").write_text(left.told)
+        left = boot(self.program, str(file), firmware)
+        (self.room / f"{name}.{firmware.name}.told").write_text(left.told)
         print(f"{firmware.name:7} {name:13} functions {len(left.cells):4}  regions that answer {left.answering:3}"
-              f"  accesses {left.lines:6}")
+              f"  accesses {left.lines:6}", flush=True)
         for line in left.wrong:
-            print(f"FAILED: {firmware.name} on {name}: {line}")
-        self.failed += bool(left.wrong)
-        sys.stdout.flush()
+            self.fail(f"{firmware.name} on {name}: {line}")
         return left
+
+    def read_tree(self, seed):
+        """A random tree as QEMU has it at reset, and the file of its board."""
+        tree = Tree(seed)
+        machine = Machine(tree.words)
+        try:
+            reading = Reading(machine)
+        finally:
+            machine.close()
+        file = self.room / f"tree{seed}.toml"
+        file.write_text(reading.text)
+        return tree, reading, file
+
+    def boot_machine(self, seed, tree, firmware):
+        """What the firmware leaves in QEMU."""
+        machine = Machine(tree.words, firmware)
+        try:
+            machine.wait(firmware)
+            return registers(machine)
+        finally:
+            (self.room / f"tree{seed}.{firmware.name}.qemu.told").write_text(machine.told)
+            machine.close()
+
+    def compare(self, seed, comparison):
+        """Boots both firmwares on a tree, here and in QEMU."""
+        tree, reading, file = self.read_tree(seed)
+        for firmware in (SEABIOS, UBOOT):
+            theirs = self.boot_machine(seed, tree, firmware)
+            left = self.boot(f"tree{seed}", file, firmware)
+            known = len(comparison.unnamed)
+            comparison.add(reading.reset, theirs, left.cells)
+            for line in comparison.unnamed[known:]:
+                self.fail(f"{firmware.name} on tree{seed}: {line}")
+
+
+def examine(options, room):
+    """The whole run: the number of failures."""
+    run, comparison = Run(options, room), Comparison()
+    for firmware in (SEABIOS, UBOOT):
+        for name in BOARDS[firmware]:
+            run.boot(name, EXAMPLES / f"{name}.toml", firmware)
+    for seed in range(options.seed, options.seed + options.trees):
+        try:
+            run.compare(seed, comparison)
+        except MachineError as error:
+            run.fail(f"tree{seed}: {error}")
+    comparison.tell()
+    named = sum(comparison.by_rule.values())
+    print(f"trees {options.trees}, each with SeaBIOS and U-Boot: functions {comparison.functions}, "
+          f"bytes compared {comparison.bytes}, bytes that differ by rule {named}, "
+          f"differences not named {len(comparison.unnamed)}, boots that failed {run.failed - len(comparison.unnamed)}")
+    return run.failed
 
 
 def main():
-    parser = argparse.ArgumentParser()
+    parser = argparse.ArgumentParser(description=__doc__.split("\n\n")[0])
     parser.add_argument("program")
+    parser.add_argument("--trees", type=int, default=30)
+    parser.add_argument("--seed", type=int, default=1)
     parser.add_argument("--keep")
-    run = Run(parser.parse_args())
-    for firmware in (SEABIOS, UBOOT):
-        for name in BOARDS[firmware]:
-            run.boot(name, str(EXAMPLES / f"{name}.toml"), firmware)
-    sys.exit(run.failed > 0)
+    options = parser.parse_args()
+    with tempfile.TemporaryDirectory() as room:
+        sys.exit(examine(options, room) > 0)
 
 
 if __name__ == "__main__":

@@ -14,7 +14,7 @@ RAM = 128 << 20
 FOUR_GB = 1 << 32
 # interrupt controllers and timer of later PCs: memory that does nothing
 INERT = (0xFEC00000, 0xFED00000, 0xFEE00000)
-PATIENCE = 60  # seconds of a boot
+PATIENCE = 120  # seconds of a boot
 
 
 class BootError(Exception):
