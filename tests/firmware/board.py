@@ -33,8 +33,11 @@ class ProgramBoard:
     def ask(self, line):
         """Sends a line; the value of a read, or None."""
         self.lines += 1
-        self.process.stdin.write(b"host " + line.encode() + b"\n")
-        self.process.stdin.flush()
+        try:
+            self.process.stdin.write(b"host " + line.encode() + b"\n")
+            self.process.stdin.flush()
+        except BrokenPipeError:
+            raise BoardError(f"the program ended before 'host {line}'") from None
         reply = self.process.stdout.readline()
         match = REPLY.fullmatch(reply)
         if not match:
@@ -54,7 +57,10 @@ class ProgramBoard:
         self.ask(f"mw {address:#x} {width} {value:#x}")
 
     def close(self):
-        self.process.stdin.close()
+        try:
+            self.process.stdin.close()
+        except BrokenPipeError:
+            pass  # the program ended before
         self.process.wait(timeout=30)
         self.process.stdout.close()
 

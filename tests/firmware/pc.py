@@ -8,6 +8,7 @@ from unicorn import (UC_ARCH_X86, UC_HOOK_INSN, UC_HOOK_INTR, UC_HOOK_MEM_WRITE_
                      UC_PROT_EXEC, UC_PROT_READ, Uc, UcError)
 from unicorn import x86_const as x86
 
+from board import BoardError
 from chipset import Chipset
 
 RAM = 128 << 20
@@ -21,13 +22,25 @@ class BootError(Exception):
     """The firmware stopped before it was done."""
 
 
+def guarded(call):
+    """A call by the engine, which must not see errors: one of the board is kept, and ends the run."""
+    def guard(pc, engine, *words):
+        try:
+            return call(pc, *words)
+        except BoardError as error:
+            pc.error = error
+            engine.emu_stop()
+            return 0
+    return guard
+
+
 class PC:
     """`told` is what the firmware wrote to its console. `plain` is a processor without time stamps and APIC."""
 
     def __init__(self, board, rom, plain):
         self.board, self.told, self.endings, self.prompts = board, "", [], {}
         self.chipset = Chipset(RAM, self.tell)
-        self.interrupt, self.is_done = None, False
+        self.interrupt, self.is_done, self.error = None, False, None
         self.engine = Uc(UC_ARCH_X86, UC_MODE_16)
         self.map_memory(rom)
         hook = self.engine.hook_add
@@ -61,14 +74,16 @@ class PC:
             self.is_done = True
             self.engine.emu_stop()
 
-    def port_in(self, _engine, port, width, _data):
+    @guarded
+    def port_in(self, port, width, _data):
         self.chipset.now += 1
         reader = self.chipset.readers.get(port)
         if reader:
             return reader()
         return whole(lambda at, size: self.board.port_read(at, size), port, width)
 
-    def port_out(self, _engine, port, width, value, _data):
+    @guarded
+    def port_out(self, port, width, value, _data):
         self.chipset.now += 1
         writer = self.chipset.writers.get(port)
         if writer:
@@ -76,10 +91,12 @@ class PC:
         else:
             parted(lambda at, size, part: self.board.port_write(at, size, part), port, width, value)
 
-    def memory_read(self, _engine, offset, width, start):
+    @guarded
+    def memory_read(self, offset, width, start):
         return whole(lambda at, size: self.board.memory_read(at, size), start + offset, width)
 
-    def memory_write(self, _engine, offset, width, value, start):
+    @guarded
+    def memory_write(self, offset, width, value, start):
         parted(lambda at, size, part: self.board.memory_write(at, size, part), start + offset, width, value)
 
     def identify(self, engine, _data):
@@ -138,6 +155,8 @@ class PC:
                 engine.emu_start(start, (1 << 64) - 1, timeout=int(left * 1e6))
             except UcError as error:
                 raise BootError(f"{error} at {self.place()}") from error
+            if self.error:
+                raise self.error
             if self.is_done:
                 return
             if time.monotonic() < deadline:
