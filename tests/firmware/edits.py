@@ -1,5 +1,5 @@
 #!/usr/bin/python3 -B
-"""Does the comparison of firmware.py notice a board that isn't QEMU's tree? A board file is edited in one place at a time.
+"""Does the comparison of firmware.py notice a board that is not the tree of QEMU? A board file is edited in one place.
 
     edits.py PROGRAM [--seed S]
 
