@@ -1,10 +1,9 @@
 -- A move as code holds it: the guests as a slice that is changed twice, and the fields of an engine.
-use Rattle.std.proofs.Common.{◌≡◌, ℕ, zero, suc, ◌<◌, Bool, true, false, ◌||◌, not, cond, List, [], ◌∷◌, length, get_or, Some, None, Option, slice_get, slice_set, refl, sym, ap, ap₂, ◌∙◌, subst, arith}
+use Rattle.std.proofs.Common.{◌≡◌, ℕ, zero, suc, ◌<◌, Bool, true, false, ◌||◌, not, cond, List, [], ◌∷◌, length, Some, None, Option, slice_get, slice_set, refl, sym, ap, ap₂, ◌∙◌, subst, arith}
 use Rattle.std.specs.Prelude.{is_some, nat_le, unwrap_or, IsSome}
 use Rattle.std.specs.Option.{option_map_or}
 use Rattle.std.proofs.lemmas.Bool.Decides.{nat_tests}
 use Rattle.std.proofs.lemmas.List.{length-set}
-use Rattle.std.proofs.lemmas.Option.{slice_get_read}
 use Rattle.model_board.specs.Routing.{routing}
 use Rattle.model_guests.specs.Accesses.{done, refused}
 use Rattle.model_guests.specs.Guests.{after_move, function_in, guest_named, handed_over, move_fault, path_in, with_slot_emptied}
@@ -21,7 +20,7 @@ use Rattle.monitor.specs.ByIndex.{name_nth}
 use Rattle.monitor.specs.Configs.{IsHolding, HoldsAt}
 use Rattle.monitor.specs.Moves.{move_nth, is_taken, fault_between, reset_held, HasSlot, TakesOut, PutsIn, HandsOver}
 use Rattle.monitor.proofs.Shown.{is_shown, is_sound}
-use Rattle.monitor.proofs.Steps.{SlotOf, slot_there, GuestOf, guest_there, guests_within}
+use Rattle.monitor.proofs.Steps.{SlotOf, slot_there, GuestOf, guest_there}
 use Rattle.monitor.proofs.RegionSteps.{same_routing}
 use Rattle.monitor.proofs.RegionGoals.{guest_at}
 use Rattle.monitor.proofs.MoveSteps.{slots_count, named_nth, fault_shown, left_guests, kept_moved}
@@ -103,15 +102,6 @@ passes os ps n m h =
 module _ (h : HostState) (names : List (List ℕ)) (gs : List Guest) (sound : IsSound h names gs) (now : WorldNow) (view : world_shown h names gs ≡ now) where
   abbrev w : WorldNow
   w = world_shown h names gs
-
-  pub inside_guests : (i : ℕ) → i < length now.guests → i < length gs
-  inside_guests i inside =
-      let count : length gs ≡ length w.guests = guests_within w.board w.apertures names w.guests gs sound.guests in
-      let same : length w.guests ≡ length now.guests = ap (λ (v : WorldNow). length v.guests) view in
-      omega arith
-
-  pub guest_read : (i : ℕ) (g : Guest) → i < length now.guests → g ≡ get_or gs i g → slice_get gs i ≡ Some g
-  guest_read i g inside is = slice_get_read gs (length gs) i g refl (inside_guests i inside) is
 
   module _ (i n j m : ℕ) (g k : Guest) (there : slice_get gs i ≡ Some g) (to : slice_get gs j ≡ Some k) (os ps : List (Option Held)) (os_are : os ≡ g.slots.items) (ps_are : ps ≡ k.slots.items) where
     fault_kept : fault_between os n ps m ≡ move_fault w.guests (move_nth w i n j m)

@@ -1,6 +1,7 @@
 -- The same as code holds it: the fields of an engine, the guest at an index and its slots.
-use Rattle.std.proofs.Common.{◌≡◌, ℕ, ◌%◌, List, [], Some, None, Option, slice_get, refl, sym, ap, ◌∙◌, subst}
+use Rattle.std.proofs.Common.{◌≡◌, ℕ, ◌<◌, ◌%◌, List, [], Some, None, Option, length, get_or, slice_get, refl, sym, ap, ◌∙◌, subst, arith}
 use Rattle.std.specs.Prelude.{option_map}
+use Rattle.std.proofs.lemmas.Option.{slice_get_read}
 use Rattle.model_registers.specs.ByteEnables.{IsWidth}
 use Rattle.model_registers.specs.Decoding.{Space}
 use Rattle.model_board.specs.Paths.{Path}
@@ -26,13 +27,26 @@ use Rattle.monitor.specs.ByIndex.{lone_nth, with_lone_nth}
 use Rattle.monitor.specs.Landings.{landing_of}
 use Rattle.monitor.specs.Reaches.{LandsIn, target_in}
 use Rattle.monitor.proofs.Shown.{is_shown, is_sound}
-use Rattle.monitor.proofs.Steps.{GuestOf, guest_there}
+use Rattle.monitor.proofs.Steps.{GuestOf, guest_there, guests_within}
 use Rattle.monitor.proofs.Reached.{landed}
 use Rattle.monitor.proofs.RegionSteps.{nothing_there, nothing_done, landing_here, region_read, region_written, region_world, region_world_is, same_routing, with_same}
 
 -- what `landing` says of slots
 abbrev pub Lands : List (Option Held) → Space → ℕ → Option (ℕ × ℕ × ℕ) → Type 0
 Lands slots space addr o = (b : Board) (a : Apertures) (qs : List (Option Path)) (fs : Slots) → AreSlots b a qs fs slots → option_map landing_of o ≡ landing_from 0 space addr fs
+
+module _ (h : HostState) (names : List (List ℕ)) (gs : List Guest) (sound : IsSound h names gs) (now : WorldNow) (view : world_shown h names gs ≡ now) where
+  abbrev w : WorldNow
+  w = world_shown h names gs
+
+  pub inside_guests : (i : ℕ) → i < length now.guests → i < length gs
+  inside_guests i inside =
+      let count : length gs ≡ length w.guests = guests_within w.board w.apertures names w.guests gs sound.guests in
+      let same : length w.guests ≡ length now.guests = ap (λ (v : WorldNow). length v.guests) view in
+      omega arith
+
+  pub guest_read : (i : ℕ) (g : Guest) → i < length now.guests → g ≡ get_or gs i g → slice_get gs i ≡ Some g
+  guest_read i g inside is = slice_get_read gs (length gs) i g refl (inside_guests i inside) is
 
 module _ (h : HostState) (names : List (List ℕ)) (gs : List Guest) (sound : IsSound h names gs) (now : WorldNow) (view : world_shown h names gs ≡ now) (i : ℕ) (g : Guest) (there : slice_get gs i ≡ Some g) where
   abbrev pub shown_world : WorldNow

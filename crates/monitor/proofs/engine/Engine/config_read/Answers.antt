@@ -1,33 +1,27 @@
-use Rattle.std.proofs.Common.{◌≡◌, ◌<◌, ◌∙◌, List, Option, length, slice_get, Some, None, refl, ap, sym, arith}
+use Rattle.std.proofs.Common.{◌≡◌, ◌<◌, ◌∙◌, List, Option, length, slice_get, Some, None, ap, sym, arith}
 use Rattle.std.specs.Prelude.{unwrap_or}
-use Rattle.std.proofs.lemmas.Option.{slice_get_read}
 use Rattle.model_guests.specs.Accesses.{configuration, reads}
 use Rattle.model_guests.specs.Lone.{at_target, reply_at}
 use Rattle.model_guests.specs.WorldNow.{WorldNow}
 use Rattle.monitor.specs.declared.guest.Held.{Held}
 use Rattle.monitor.specs.Views.{texts, world_shown}
 use Rattle.monitor.specs.ByIndex.{lone_nth}
-use Rattle.monitor.proofs.Steps.{guests_within, slot_there}
-use Rattle.monitor.proofs.RegionGoals.{guest_at}
+use Rattle.monitor.proofs.Steps.{slot_there}
+use Rattle.monitor.proofs.RegionGoals.{inside_guests, guest_read, guest_at}
 use Rattle.monitor.proofs.ConfigSteps.{seen, config_reads, config_reads_ones}
 use Rattle.monitor.proofs.engine.Engine.config_read.Goals as goal
 
 pub index-requires : goal.index-requires
 index-requires g c =
     let e = c.self.inside in
-    let w : WorldNow = world_shown e.host (texts e.names) e.guests.items in
-    let count : length e.guests.items ≡ length w.guests = guests_within w.board w.apertures (texts e.names) w.guests e.guests.items c.self.invariant.1.guests in
-    let same : length w.guests ≡ length c.args.self.now.guests = ap (λ (v : WorldNow). length v.guests) c.self.view_is in
+    let inside : c.args.guest < length e.guests.items = inside_guests e.host (texts e.names) e.guests.items c.self.invariant.1 c.args.self.now c.self.view_is c.args.guest c.requires.there in
     omega arith
 
 pub returns-in_default-clause-reply : goal.returns-in_default-clause-reply
 returns-in_default-clause-reply g c =
     let e = c.self.inside in
     let w : WorldNow = world_shown e.host (texts e.names) e.guests.items in
-    let count : length e.guests.items ≡ length w.guests = guests_within w.board w.apertures (texts e.names) w.guests e.guests.items c.self.invariant.1.guests in
-    let same : length w.guests ≡ length c.args.self.now.guests = ap (λ (v : WorldNow). length v.guests) c.self.view_is in
-    let inside : c.args.guest < length e.guests.items = omega arith in
-    let there : slice_get e.guests.items c.args.guest ≡ Some c.index.result.now = slice_get_read e.guests.items (length e.guests.items) c.args.guest c.index.result.now refl inside c.index.ensures in
+    let there = guest_read e.host (texts e.names) e.guests.items c.self.invariant.1 c.args.self.now c.self.view_is c.args.guest c.index.result.now c.requires.there c.index.ensures in
     let at = guest_at e.host (texts e.names) e.guests.items c.self.invariant.1 c.args.self.now c.self.view_is c.args.guest c.index.result.now there in
     let empty : unwrap_or (slice_get c.index.result.now.slots.items c.args.slot) None ≡ None = ap (λ (os : List (Option Held)). unwrap_or (slice_get os c.args.slot) None) (sym c.deref.ensures.value) ∙ c.in_default.ensures.empty in
     c.nothing.ensures.reply ∙ config_reads_ones w e.host (texts e.names) e.guests.items c.self.invariant.1 c.args.guest c.index.result.now at c.args.slot empty c.args.off c.args.width
@@ -37,10 +31,7 @@ pub number_read-requires-clause-seen : goal.number_read-requires-clause-seen
 number_read-requires-clause-seen g c =
     let e = c.self.inside in
     let w : WorldNow = world_shown e.host (texts e.names) e.guests.items in
-    let count : length e.guests.items ≡ length w.guests = guests_within w.board w.apertures (texts e.names) w.guests e.guests.items c.self.invariant.1.guests in
-    let same : length w.guests ≡ length c.args.self.now.guests = ap (λ (v : WorldNow). length v.guests) c.self.view_is in
-    let inside : c.args.guest < length e.guests.items = omega arith in
-    let there : slice_get e.guests.items c.args.guest ≡ Some c.index.result.now = slice_get_read e.guests.items (length e.guests.items) c.args.guest c.index.result.now refl inside c.index.ensures in
+    let there = guest_read e.host (texts e.names) e.guests.items c.self.invariant.1 c.args.self.now c.self.view_is c.args.guest c.index.result.now c.requires.there c.index.ensures in
     let at = guest_at e.host (texts e.names) e.guests.items c.self.invariant.1 c.args.self.now c.self.view_is c.args.guest c.index.result.now there in
     let holds : slice_get c.index.result.now.slots.items c.args.slot ≡ Some (Some c.in-Some.held.now) = ap (λ (os : List (Option Held)). slice_get os c.args.slot) (sym c.deref.ensures.value) ∙ c.in-Some.ensures.there in
     let slot = slot_there w.board w.apertures at.x.paths at.x.lone.slots c.index.result.now.slots.items c.args.slot c.in-Some.held.now at.is.slots holds in
@@ -50,10 +41,7 @@ pub returns-clause-reply : goal.returns-clause-reply
 returns-clause-reply g c =
     let e = c.self.inside in
     let w : WorldNow = world_shown e.host (texts e.names) e.guests.items in
-    let count : length e.guests.items ≡ length w.guests = guests_within w.board w.apertures (texts e.names) w.guests e.guests.items c.self.invariant.1.guests in
-    let same : length w.guests ≡ length c.args.self.now.guests = ap (λ (v : WorldNow). length v.guests) c.self.view_is in
-    let inside : c.args.guest < length e.guests.items = omega arith in
-    let there : slice_get e.guests.items c.args.guest ≡ Some c.index.result.now = slice_get_read e.guests.items (length e.guests.items) c.args.guest c.index.result.now refl inside c.index.ensures in
+    let there = guest_read e.host (texts e.names) e.guests.items c.self.invariant.1 c.args.self.now c.self.view_is c.args.guest c.index.result.now c.requires.there c.index.ensures in
     let at = guest_at e.host (texts e.names) e.guests.items c.self.invariant.1 c.args.self.now c.self.view_is c.args.guest c.index.result.now there in
     let holds : slice_get c.index.result.now.slots.items c.args.slot ≡ Some (Some c.in-Some.held.now) = ap (λ (os : List (Option Held)). slice_get os c.args.slot) (sym c.deref.ensures.value) ∙ c.in-Some.ensures.there in
     let slot = slot_there w.board w.apertures at.x.paths at.x.lone.slots c.index.result.now.slots.items c.args.slot c.in-Some.held.now at.is.slots holds in

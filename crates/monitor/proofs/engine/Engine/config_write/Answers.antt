@@ -1,6 +1,5 @@
-use Rattle.std.proofs.Common.{◌≡◌, ◌<◌, ◌*◌, ◌/◌, ◌++◌, ◌∙◌, List, Option, length, take, drop, slice_get, Some, None, refl, ap, sym, subst, arith}
+use Rattle.std.proofs.Common.{◌≡◌, ◌<◌, ◌*◌, ◌/◌, ◌++◌, ◌∙◌, List, Option, length, take, drop, slice_get, None, refl, ap, sym, subst, arith}
 use Rattle.std.specs.Prelude.{unwrap_or}
-use Rattle.std.proofs.lemmas.Option.{slice_get_read}
 use Rattle.model_registers.specs.ByteEnables.{enables_of, into_lanes}
 use Rattle.model_guests.specs.Accesses.{configuration, writes}
 use Rattle.model_guests.specs.Lone.{at_target, after_access_at}
@@ -10,8 +9,7 @@ use Rattle.monitor.specs.declared.guest.Guest.{Guest}
 use Rattle.monitor.specs.Views.{texts, world_shown}
 use Rattle.monitor.specs.ByIndex.{lone_nth, with_lone_nth}
 use Rattle.monitor.specs.Configs.{HoldsAt, WritesGuest}
-use Rattle.monitor.proofs.Steps.{guests_within}
-use Rattle.monitor.proofs.RegionGoals.{guest_at}
+use Rattle.monitor.proofs.RegionGoals.{inside_guests, guest_read, guest_at}
 use Rattle.monitor.proofs.ConfigSteps.{config_drops}
 use Rattle.monitor.proofs.EmptyCycles.{latch_clear}
 use Rattle.monitor.proofs.ConfigGoals.{given_back, held_there, sound_after, routes_after, world_after}
@@ -20,19 +18,14 @@ use Rattle.monitor.proofs.engine.Engine.config_write.Goals as goal
 pub index-requires : goal.index-requires
 index-requires g c =
     let e = c.self.inside in
-    let w : WorldNow = world_shown e.host (texts e.names) e.guests.items in
-    let count : length e.guests.items ≡ length w.guests = guests_within w.board w.apertures (texts e.names) w.guests e.guests.items c.self.invariant.1.guests in
-    let same : length w.guests ≡ length c.args.self.now.guests = ap (λ (v : WorldNow). length v.guests) c.self.view_is in
+    let inside : c.args.guest < length e.guests.items = inside_guests e.host (texts e.names) e.guests.items c.self.invariant.1 c.args.self.now c.self.view_is c.args.guest c.requires.there in
     omega arith
 
 pub returns-in_default : goal.returns-in_default
 returns-in_default g c =
     let e = c.self.inside in
     let w : WorldNow = world_shown e.host (texts e.names) e.guests.items in
-    let count : length e.guests.items ≡ length w.guests = guests_within w.board w.apertures (texts e.names) w.guests e.guests.items c.self.invariant.1.guests in
-    let same : length w.guests ≡ length c.args.self.now.guests = ap (λ (v : WorldNow). length v.guests) c.self.view_is in
-    let inside : c.args.guest < length e.guests.items = omega arith in
-    let there : slice_get e.guests.items c.args.guest ≡ Some c.index.result.now = slice_get_read e.guests.items (length e.guests.items) c.args.guest c.index.result.now refl inside c.index.ensures in
+    let there = guest_read e.host (texts e.names) e.guests.items c.self.invariant.1 c.args.self.now c.self.view_is c.args.guest c.index.result.now c.requires.there c.index.ensures in
     let at = guest_at e.host (texts e.names) e.guests.items c.self.invariant.1 c.args.self.now c.self.view_is c.args.guest c.index.result.now there in
     let empty : unwrap_or (slice_get c.index.result.now.slots.items c.args.slot) None ≡ None = ap (λ (os : List (Option Held)). unwrap_or (slice_get os c.args.slot) None) (sym c.deref.ensures.value) ∙ c.in_default.ensures.empty in
     subst (λ (v : WorldNow). v ≡ with_lone_nth c.args.guest (after_access_at (lone_nth v c.args.guest) (writes c.args.value) c.args.width (at_target (configuration c.args.slot c.args.off))) v) c.self.view_is
@@ -41,11 +34,7 @@ returns-in_default g c =
 pub write_guest-others-requires-clause-holds : goal.write_guest-others-requires-clause-holds
 write_guest-others-requires-clause-holds g c =
     let e = c.self.inside in
-    let w : WorldNow = world_shown e.host (texts e.names) e.guests.items in
-    let count : length e.guests.items ≡ length w.guests = guests_within w.board w.apertures (texts e.names) w.guests e.guests.items c.self.invariant.1.guests in
-    let same : length w.guests ≡ length c.args.self.now.guests = ap (λ (v : WorldNow). length v.guests) c.self.view_is in
-    let inside : c.args.guest < length e.guests.items = omega arith in
-    let there : slice_get e.guests.items c.args.guest ≡ Some c.index.result.now = slice_get_read e.guests.items (length e.guests.items) c.args.guest c.index.result.now refl inside c.index.ensures in
+    let there = guest_read e.host (texts e.names) e.guests.items c.self.invariant.1 c.args.self.now c.self.view_is c.args.guest c.index.result.now c.requires.there c.index.ensures in
     let holds : HoldsAt e.guests.items c.args.guest c.args.slot = record {
       guest = c.index.result.now;
       there = there;
@@ -56,11 +45,7 @@ write_guest-others-requires-clause-holds g c =
 pub invariant_of-self : goal.invariant_of-self
 invariant_of-self g c =
     let e = c.self.inside in
-    let w : WorldNow = world_shown e.host (texts e.names) e.guests.items in
-    let count : length e.guests.items ≡ length w.guests = guests_within w.board w.apertures (texts e.names) w.guests e.guests.items c.self.invariant.1.guests in
-    let same : length w.guests ≡ length c.args.self.now.guests = ap (λ (v : WorldNow). length v.guests) c.self.view_is in
-    let inside : c.args.guest < length e.guests.items = omega arith in
-    let there : slice_get e.guests.items c.args.guest ≡ Some c.index.result.now = slice_get_read e.guests.items (length e.guests.items) c.args.guest c.index.result.now refl inside c.index.ensures in
+    let there = guest_read e.host (texts e.names) e.guests.items c.self.invariant.1 c.args.self.now c.self.view_is c.args.guest c.index.result.now c.requires.there c.index.ensures in
     let holds : HoldsAt e.guests.items c.args.guest c.args.slot = record {
       guest = c.index.result.now;
       there = there;
@@ -77,11 +62,7 @@ invariant_of-self g c =
 pub returns : goal.returns
 returns g c =
     let e = c.self.inside in
-    let w : WorldNow = world_shown e.host (texts e.names) e.guests.items in
-    let count : length e.guests.items ≡ length w.guests = guests_within w.board w.apertures (texts e.names) w.guests e.guests.items c.self.invariant.1.guests in
-    let same : length w.guests ≡ length c.args.self.now.guests = ap (λ (v : WorldNow). length v.guests) c.self.view_is in
-    let inside : c.args.guest < length e.guests.items = omega arith in
-    let there : slice_get e.guests.items c.args.guest ≡ Some c.index.result.now = slice_get_read e.guests.items (length e.guests.items) c.args.guest c.index.result.now refl inside c.index.ensures in
+    let there = guest_read e.host (texts e.names) e.guests.items c.self.invariant.1 c.args.self.now c.self.view_is c.args.guest c.index.result.now c.requires.there c.index.ensures in
     let holds : HoldsAt e.guests.items c.args.guest c.args.slot = record {
       guest = c.index.result.now;
       there = there;

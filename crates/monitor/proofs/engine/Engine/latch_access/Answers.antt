@@ -1,16 +1,14 @@
-use Rattle.std.proofs.Common.{◌≡◌, ◌<◌, ◌++◌, ◌∙◌, List, length, take, drop, slice_get, slice_set, Some, refl, ap, sym, subst, arith}
-use Rattle.std.proofs.lemmas.Option.{slice_get_read}
+use Rattle.std.proofs.Common.{◌≡◌, ◌<◌, ◌++◌, ◌∙◌, List, length, take, drop, slice_get, slice_set, Some, ap, sym, subst, arith}
 use Rattle.lists.proofs.Indices.{at_below}
 use Rattle.model_registers.specs.ConfigAddress.{latched}
 use Rattle.model_guests.specs.Accesses.{answered}
 use Rattle.model_guests.specs.Lone.{own_latch, reply_at, after_access_at}
-use Rattle.model_guests.specs.WorldNow.{WorldNow}
 use Rattle.accesses.specs.Accesses.{op_of}
 use Rattle.accesses.specs.declared.access.Op.{Op}
 use Rattle.monitor.specs.declared.guest.Guest.{Guest}
-use Rattle.monitor.specs.Views.{texts, world_shown}
+use Rattle.monitor.specs.Views.{texts}
 use Rattle.monitor.specs.ByIndex.{lone_nth, with_lone_nth}
-use Rattle.monitor.proofs.Steps.{guests_within}
+use Rattle.monitor.proofs.RegionGoals.{inside_guests, guest_read}
 use Rattle.monitor.proofs.ConfigGoals.{given_back}
 use Rattle.monitor.proofs.LatchGoals.{same_nth, latch_shown, sound_latched, world_latched}
 use Rattle.monitor.proofs.engine.Engine.latch_access.Goals as goal
@@ -18,28 +16,19 @@ use Rattle.monitor.proofs.engine.Engine.latch_access.Goals as goal
 pub index-requires : goal.index-requires
 index-requires g c =
     let e = c.self.inside in
-    let w : WorldNow = world_shown e.host (texts e.names) e.guests.items in
-    let count : length e.guests.items ≡ length w.guests = guests_within w.board w.apertures (texts e.names) w.guests e.guests.items c.self.invariant.1.guests in
-    let same : length w.guests ≡ length c.args.self.now.guests = ap (λ (v : WorldNow). length v.guests) c.self.view_is in
+    let inside : c.args.guest < length e.guests.items = inside_guests e.host (texts e.names) e.guests.items c.self.invariant.1 c.args.self.now c.self.view_is c.args.guest c.requires in
     omega arith
 
 pub write_latch-requires : goal.write_latch-requires
 write_latch-requires g c =
     let e = c.self.inside in
-    let w : WorldNow = world_shown e.host (texts e.names) e.guests.items in
-    let count : length e.guests.items ≡ length w.guests = guests_within w.board w.apertures (texts e.names) w.guests e.guests.items c.self.invariant.1.guests in
-    let same : length w.guests ≡ length c.args.self.now.guests = ap (λ (v : WorldNow). length v.guests) c.self.view_is in
-    let inside : c.args.guest < length e.guests.items = omega arith in
+    let inside : c.args.guest < length e.guests.items = inside_guests e.host (texts e.names) e.guests.items c.self.invariant.1 c.args.self.now c.self.view_is c.args.guest c.requires in
     subst (λ (gs : List Guest). c.args.guest < length gs) (sym c.deref_mut.ensures.value) inside
 
 pub returns-in-Read-clause-reply : goal.returns-in-Read-clause-reply
 returns-in-Read-clause-reply g c =
     let e = c.self.inside in
-    let w : WorldNow = world_shown e.host (texts e.names) e.guests.items in
-    let count : length e.guests.items ≡ length w.guests = guests_within w.board w.apertures (texts e.names) w.guests e.guests.items c.self.invariant.1.guests in
-    let same : length w.guests ≡ length c.args.self.now.guests = ap (λ (v : WorldNow). length v.guests) c.self.view_is in
-    let inside : c.args.guest < length e.guests.items = omega arith in
-    let there : slice_get e.guests.items c.args.guest ≡ Some c.index.result.now = slice_get_read e.guests.items (length e.guests.items) c.args.guest c.index.result.now refl inside c.index.ensures in
+    let there = guest_read e.host (texts e.names) e.guests.items c.self.invariant.1 c.args.self.now c.self.view_is c.args.guest c.index.result.now c.requires c.index.ensures in
     ap (λ n. answered n 4) (c.value.ensures ∙ latch_shown e.host (texts e.names) e.guests.items c.self.invariant.1 c.args.self.now c.self.view_is c.args.guest c.index.result.now there)
     ∙ ap (λ (op : Op). reply_at (lone_nth c.args.self.now c.args.guest) (op_of op) 4 own_latch) (sym c.in-Read.is)
 
@@ -51,10 +40,7 @@ returns-in-Read-clause-after g c =
 pub invariant_of-self : goal.invariant_of-self
 invariant_of-self g c =
     let e = c.self.inside in
-    let w : WorldNow = world_shown e.host (texts e.names) e.guests.items in
-    let count : length e.guests.items ≡ length w.guests = guests_within w.board w.apertures (texts e.names) w.guests e.guests.items c.self.invariant.1.guests in
-    let same : length w.guests ≡ length c.args.self.now.guests = ap (λ (v : WorldNow). length v.guests) c.self.view_is in
-    let inside : c.args.guest < length e.guests.items = omega arith in
+    let inside : c.args.guest < length e.guests.items = inside_guests e.host (texts e.names) e.guests.items c.self.invariant.1 c.args.self.now c.self.view_is c.args.guest c.requires in
     let one = at_below e.guests.items c.args.guest inside in
     let left = c.write_latch.new.guests in
     let back = take e.guests.len (left ++ drop (length left) e.guests.items) in
@@ -66,10 +52,7 @@ invariant_of-self g c =
 pub returns-in-Write-clause-after : goal.returns-in-Write-clause-after
 returns-in-Write-clause-after g c =
     let e = c.self.inside in
-    let w : WorldNow = world_shown e.host (texts e.names) e.guests.items in
-    let count : length e.guests.items ≡ length w.guests = guests_within w.board w.apertures (texts e.names) w.guests e.guests.items c.self.invariant.1.guests in
-    let same : length w.guests ≡ length c.args.self.now.guests = ap (λ (v : WorldNow). length v.guests) c.self.view_is in
-    let inside : c.args.guest < length e.guests.items = omega arith in
+    let inside : c.args.guest < length e.guests.items = inside_guests e.host (texts e.names) e.guests.items c.self.invariant.1 c.args.self.now c.self.view_is c.args.guest c.requires in
     let one = at_below e.guests.items c.args.guest inside in
     let left = c.write_latch.new.guests in
     let back = take e.guests.len (left ++ drop (length left) e.guests.items) in

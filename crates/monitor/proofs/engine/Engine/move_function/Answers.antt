@@ -6,7 +6,8 @@ use Rattle.monitor.specs.Views.{texts}
 use Rattle.monitor.specs.Configs.{HoldsAt}
 use Rattle.monitor.specs.Moves.{HandsOver}
 use Rattle.monitor.proofs.ConfigGoals.{given_back}
-use Rattle.monitor.proofs.MoveGoals.{inside_guests, guest_read, reply_refused, after_refused, reply_done, holds_there, has_there, sound_moved, routes_moved, world_moved}
+use Rattle.monitor.proofs.RegionGoals.{inside_guests, guest_read}
+use Rattle.monitor.proofs.MoveGoals.{reply_refused, after_refused, reply_done, holds_there, has_there, sound_moved, routes_moved, world_moved}
 use Rattle.monitor.proofs.engine.Engine.move_function.Goals as goal
 
 pub index-requires : goal.index-requires

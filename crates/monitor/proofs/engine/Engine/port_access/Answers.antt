@@ -1,13 +1,11 @@
-use Rattle.std.proofs.Common.{◌≡◌, ◌<◌, ◌∙◌, ℕ, length, slice_get, Some, refl, ap, sym, arith}
-use Rattle.std.proofs.lemmas.Option.{slice_get_read}
+use Rattle.std.proofs.Common.{◌≡◌, ◌<◌, ◌∙◌, ℕ, length, ap, sym, arith}
 use Rattle.model_guests.specs.Accesses.{port, configuration}
 use Rattle.model_guests.specs.Lone.{Destination, LoneGuest, at_target, by_select, destination, reply_at, after_access_at}
-use Rattle.model_guests.specs.WorldNow.{WorldNow}
 use Rattle.accesses.specs.Accesses.{op_of}
 use Rattle.guest_functions.specs.declared.latch.Select.TheVariants as select
-use Rattle.monitor.specs.Views.{texts, world_shown}
+use Rattle.monitor.specs.Views.{texts}
 use Rattle.monitor.specs.ByIndex.{lone_nth, with_lone_nth}
-use Rattle.monitor.proofs.Steps.{guests_within}
+use Rattle.monitor.proofs.RegionGoals.{inside_guests, guest_read}
 use Rattle.monitor.proofs.LatchGoals.{same_nth, latch_shown}
 use Rattle.monitor.proofs.PortGoals.{named_select, destination_is, nothing_at, nothing_after}
 use Rattle.monitor.proofs.engine.Engine.port_access.Goals as goal
@@ -15,19 +13,13 @@ use Rattle.monitor.proofs.engine.Engine.port_access.Goals as goal
 pub index-requires : goal.index-requires
 index-requires g c =
     let e = c.self.inside in
-    let w : WorldNow = world_shown e.host (texts e.names) e.guests.items in
-    let count : length e.guests.items ≡ length w.guests = guests_within w.board w.apertures (texts e.names) w.guests e.guests.items c.self.invariant.1.guests in
-    let same : length w.guests ≡ length c.args.self.now.guests = ap (λ (v : WorldNow). length v.guests) c.self.view_is in
+    let inside : c.args.guest < length e.guests.items = inside_guests e.host (texts e.names) e.guests.items c.self.invariant.1 c.args.self.now c.self.view_is c.args.guest c.requires.there in
     omega arith
 
 pub returns-in-Ordinary-clause-reply : goal.returns-in-Ordinary-clause-reply
 returns-in-Ordinary-clause-reply g c =
     let e = c.self.inside in
-    let w : WorldNow = world_shown e.host (texts e.names) e.guests.items in
-    let count : length e.guests.items ≡ length w.guests = guests_within w.board w.apertures (texts e.names) w.guests e.guests.items c.self.invariant.1.guests in
-    let same : length w.guests ≡ length c.args.self.now.guests = ap (λ (v : WorldNow). length v.guests) c.self.view_is in
-    let inside : c.args.guest < length e.guests.items = omega arith in
-    let there : slice_get e.guests.items c.args.guest ≡ Some c.index.result.now = slice_get_read e.guests.items (length e.guests.items) c.args.guest c.index.result.now refl inside c.index.ensures in
+    let there = guest_read e.host (texts e.names) e.guests.items c.self.invariant.1 c.args.self.now c.self.view_is c.args.guest c.index.result.now c.requires.there c.index.ensures in
     let lone = lone_nth c.args.self.now c.args.guest in
     let goes : by_select (port c.args.at) (named_select (select.Ordinary)) ≡ destination lone.latch c.args.width (port c.args.at) =
     destination_is lone.latch c.index.result.now.latch c.args.at c.args.width (select.Ordinary) (latch_shown e.host (texts e.names) e.guests.items c.self.invariant.1 c.args.self.now c.self.view_is c.args.guest c.index.result.now there) (sym c.is_latch.ensures ∙ c.if-is_latch.false) c.in-Ordinary.ensures.select in
@@ -36,11 +28,7 @@ returns-in-Ordinary-clause-reply g c =
 pub returns-in-Ordinary-clause-after : goal.returns-in-Ordinary-clause-after
 returns-in-Ordinary-clause-after g c =
     let e = c.self.inside in
-    let w : WorldNow = world_shown e.host (texts e.names) e.guests.items in
-    let count : length e.guests.items ≡ length w.guests = guests_within w.board w.apertures (texts e.names) w.guests e.guests.items c.self.invariant.1.guests in
-    let same : length w.guests ≡ length c.args.self.now.guests = ap (λ (v : WorldNow). length v.guests) c.self.view_is in
-    let inside : c.args.guest < length e.guests.items = omega arith in
-    let there : slice_get e.guests.items c.args.guest ≡ Some c.index.result.now = slice_get_read e.guests.items (length e.guests.items) c.args.guest c.index.result.now refl inside c.index.ensures in
+    let there = guest_read e.host (texts e.names) e.guests.items c.self.invariant.1 c.args.self.now c.self.view_is c.args.guest c.index.result.now c.requires.there c.index.ensures in
     let lone = lone_nth c.args.self.now c.args.guest in
     let goes : by_select (port c.args.at) (named_select (select.Ordinary)) ≡ destination lone.latch c.args.width (port c.args.at) =
     destination_is lone.latch c.index.result.now.latch c.args.at c.args.width (select.Ordinary) (latch_shown e.host (texts e.names) e.guests.items c.self.invariant.1 c.args.self.now c.self.view_is c.args.guest c.index.result.now there) (sym c.is_latch.ensures ∙ c.if-is_latch.false) c.in-Ordinary.ensures.select in
@@ -49,11 +37,7 @@ returns-in-Ordinary-clause-after g c =
 pub returns-in-Nowhere-clause-reply : goal.returns-in-Nowhere-clause-reply
 returns-in-Nowhere-clause-reply g c =
     let e = c.self.inside in
-    let w : WorldNow = world_shown e.host (texts e.names) e.guests.items in
-    let count : length e.guests.items ≡ length w.guests = guests_within w.board w.apertures (texts e.names) w.guests e.guests.items c.self.invariant.1.guests in
-    let same : length w.guests ≡ length c.args.self.now.guests = ap (λ (v : WorldNow). length v.guests) c.self.view_is in
-    let inside : c.args.guest < length e.guests.items = omega arith in
-    let there : slice_get e.guests.items c.args.guest ≡ Some c.index.result.now = slice_get_read e.guests.items (length e.guests.items) c.args.guest c.index.result.now refl inside c.index.ensures in
+    let there = guest_read e.host (texts e.names) e.guests.items c.self.invariant.1 c.args.self.now c.self.view_is c.args.guest c.index.result.now c.requires.there c.index.ensures in
     let lone = lone_nth c.args.self.now c.args.guest in
     let goes : by_select (port c.args.at) (named_select (select.Nowhere)) ≡ destination lone.latch c.args.width (port c.args.at) =
     destination_is lone.latch c.index.result.now.latch c.args.at c.args.width (select.Nowhere) (latch_shown e.host (texts e.names) e.guests.items c.self.invariant.1 c.args.self.now c.self.view_is c.args.guest c.index.result.now there) (sym c.is_latch.ensures ∙ c.if-is_latch.false) c.in-Nowhere.ensures.select in
@@ -62,11 +46,7 @@ returns-in-Nowhere-clause-reply g c =
 pub returns-in-Nowhere-clause-after : goal.returns-in-Nowhere-clause-after
 returns-in-Nowhere-clause-after g c =
     let e = c.self.inside in
-    let w : WorldNow = world_shown e.host (texts e.names) e.guests.items in
-    let count : length e.guests.items ≡ length w.guests = guests_within w.board w.apertures (texts e.names) w.guests e.guests.items c.self.invariant.1.guests in
-    let same : length w.guests ≡ length c.args.self.now.guests = ap (λ (v : WorldNow). length v.guests) c.self.view_is in
-    let inside : c.args.guest < length e.guests.items = omega arith in
-    let there : slice_get e.guests.items c.args.guest ≡ Some c.index.result.now = slice_get_read e.guests.items (length e.guests.items) c.args.guest c.index.result.now refl inside c.index.ensures in
+    let there = guest_read e.host (texts e.names) e.guests.items c.self.invariant.1 c.args.self.now c.self.view_is c.args.guest c.index.result.now c.requires.there c.index.ensures in
     let lone = lone_nth c.args.self.now c.args.guest in
     let goes : by_select (port c.args.at) (named_select (select.Nowhere)) ≡ destination lone.latch c.args.width (port c.args.at) =
     destination_is lone.latch c.index.result.now.latch c.args.at c.args.width (select.Nowhere) (latch_shown e.host (texts e.names) e.guests.items c.self.invariant.1 c.args.self.now c.self.view_is c.args.guest c.index.result.now there) (sym c.is_latch.ensures ∙ c.if-is_latch.false) c.in-Nowhere.ensures.select in
@@ -76,11 +56,7 @@ returns-in-Nowhere-clause-after g c =
 pub returns-in-Slot-clause-reply : goal.returns-in-Slot-clause-reply
 returns-in-Slot-clause-reply g c =
     let e = c.self.inside in
-    let w : WorldNow = world_shown e.host (texts e.names) e.guests.items in
-    let count : length e.guests.items ≡ length w.guests = guests_within w.board w.apertures (texts e.names) w.guests e.guests.items c.self.invariant.1.guests in
-    let same : length w.guests ≡ length c.args.self.now.guests = ap (λ (v : WorldNow). length v.guests) c.self.view_is in
-    let inside : c.args.guest < length e.guests.items = omega arith in
-    let there : slice_get e.guests.items c.args.guest ≡ Some c.index.result.now = slice_get_read e.guests.items (length e.guests.items) c.args.guest c.index.result.now refl inside c.index.ensures in
+    let there = guest_read e.host (texts e.names) e.guests.items c.self.invariant.1 c.args.self.now c.self.view_is c.args.guest c.index.result.now c.requires.there c.index.ensures in
     let lone = lone_nth c.args.self.now c.args.guest in
     let goes : by_select (port c.args.at) (named_select (select.Slot c.in-Slot.slot c.in-Slot.off)) ≡ destination lone.latch c.args.width (port c.args.at) =
     destination_is lone.latch c.index.result.now.latch c.args.at c.args.width (select.Slot c.in-Slot.slot c.in-Slot.off) (latch_shown e.host (texts e.names) e.guests.items c.self.invariant.1 c.args.self.now c.self.view_is c.args.guest c.index.result.now there) (sym c.is_latch.ensures ∙ c.if-is_latch.false) c.in-Slot.ensures.select in
@@ -89,11 +65,7 @@ returns-in-Slot-clause-reply g c =
 pub returns-in-Slot-clause-after : goal.returns-in-Slot-clause-after
 returns-in-Slot-clause-after g c =
     let e = c.self.inside in
-    let w : WorldNow = world_shown e.host (texts e.names) e.guests.items in
-    let count : length e.guests.items ≡ length w.guests = guests_within w.board w.apertures (texts e.names) w.guests e.guests.items c.self.invariant.1.guests in
-    let same : length w.guests ≡ length c.args.self.now.guests = ap (λ (v : WorldNow). length v.guests) c.self.view_is in
-    let inside : c.args.guest < length e.guests.items = omega arith in
-    let there : slice_get e.guests.items c.args.guest ≡ Some c.index.result.now = slice_get_read e.guests.items (length e.guests.items) c.args.guest c.index.result.now refl inside c.index.ensures in
+    let there = guest_read e.host (texts e.names) e.guests.items c.self.invariant.1 c.args.self.now c.self.view_is c.args.guest c.index.result.now c.requires.there c.index.ensures in
     let lone = lone_nth c.args.self.now c.args.guest in
     let goes : by_select (port c.args.at) (named_select (select.Slot c.in-Slot.slot c.in-Slot.off)) ≡ destination lone.latch c.args.width (port c.args.at) =
     destination_is lone.latch c.index.result.now.latch c.args.at c.args.width (select.Slot c.in-Slot.slot c.in-Slot.off) (latch_shown e.host (texts e.names) e.guests.items c.self.invariant.1 c.args.self.now c.self.view_is c.args.guest c.index.result.now there) (sym c.is_latch.ensures ∙ c.if-is_latch.false) c.in-Slot.ensures.select in
