@@ -1,7 +1,7 @@
 /* pciguest: a PCI board, its firmware and the monitor that gives its functions to guests.
  *
  * docs/LIBRARY.md says how to build and use the library, and what is proved of it. Every call answers 0,
- * or the number of a refusal. A call that answers a number other than 0 changed nothing and stored
+ * or the number of a refusal, but for pciguest_piece and pciguest_ends_within, which only compute. A call that answers a number other than 0 changed nothing and stored
  * nothing, but for a length that tells how much room a text needs, and for the text of pciguest_check.
  *
  *   101 to 112  the board file is refused           199, 299  out of memory
