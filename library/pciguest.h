@@ -1,8 +1,9 @@
 /* pciguest: a PCI board, its firmware and the monitor that gives its functions to guests.
  *
- * docs/LIBRARY.md says how to build and use the library, and what is proved of it. Every call answers 0,
- * or the number of a refusal, but for pciguest_piece and pciguest_ends_within, which only compute. A call that answers a number other than 0 changed nothing and stored
- * nothing, but for a length that tells how much room a text needs, and for the text of pciguest_check.
+ * docs/LIBRARY.md says how to build and use the library, and what is proved of it. Every call answers 0, or the
+ * number of a refusal, but for pciguest_piece and pciguest_ends_within, which only compute. A call that answers a
+ * number other than 0 changed nothing and stored nothing, but for a length that tells how much room a text needs,
+ * and for the text of pciguest_check.
  *
  *   101 to 112  the board file is refused           199, 299  out of memory
  *   201 to 205  the board can't be set up           301 302 303 601 602  an access or a move is refused
