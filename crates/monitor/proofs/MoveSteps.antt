@@ -73,10 +73,10 @@ module _ (b : Board) (a : Apertures) where
   slots_count (q ∷ qs) (f ∷ fs) [] are = absurd are
   slots_count (q ∷ qs) (f ∷ fs) (o ∷ os) are = ap suc (slots_count qs fs os are.1)
 
-  abbrev at_reset : Function → Function
+  abbrev pub at_reset : Function → Function
   at_reset f = record { decl = f.decl; file = endpoint_reset f.decl false }
 
-  held_reset : (p : Path) (f : Function) (h : Held) → IsLawfulEndpoint f.decl → IsHeld b a p f h → IsHeld b a p (at_reset f) (reset_held h)
+  pub held_reset : (p : Path) (f : Function) (h : Held) → IsLawfulEndpoint f.decl → IsHeld b a p f h → IsHeld b a p (at_reset f) (reset_held h)
   held_reset p f h lawful held = record {
     path = held.path;
     row = held.row;
@@ -127,17 +127,17 @@ module _ (w : WorldNow) (h : HostState) (names : List (List ℕ)) (gs : List Gue
       (taken_nth w h names gs kept i g at n) (taken_nth w h names gs kept j k to m)
 
   module _ (g : Guest) (at : GuestOf w.board w.apertures w.guests i g) (held : Held) (slot : SlotOf w.board w.apertures at.x.paths at.x.lone.slots n held) where
-    path_there : path_in w.guests (name_nth w i) n ≡ Some slot.p
+    pub path_there : path_in w.guests (name_nth w i) n ≡ Some slot.p
     path_there = ap (λ (t : Text). path_in w.guests t n) (name_here w h names gs kept i g at) ∙ path_named w h names gs kept i g at n ∙ slot.path
 
-    function_there : function_in w.guests (name_nth w i) n ≡ Some slot.f
+    pub function_there : function_in w.guests (name_nth w i) n ≡ Some slot.f
     function_there = function_nth w h names gs kept i g at n ∙ slot.function
 
-    lawful : IsLawfulEndpoint slot.f.decl
+    pub lawful : IsLawfulEndpoint slot.f.decl
     lawful = lawful_at w.board slot.p slot.f kept.placeable.declarations (seat w h names gs kept i g at n held slot)
 
     -- the board resets the function, and nothing else
-    board_reset : (new : HostState) → new ≡ with_functions (with_endpoint_reset held.path h.state.functions) h → new.state ≡ with_change_at (after_reset slot.f.decl) slot.p h.state
+    pub board_reset : (new : HostState) → new ≡ with_functions (with_endpoint_reset held.path h.state.functions) h → new.state ≡ with_change_at (after_reset slot.f.decl) slot.p h.state
     board_reset new is_new =
         ap (λ (k : HostState). k.state) is_new
         ∙ ap (λ (s : State). let t : State = record s { functions = with_endpoint_reset held.path s.functions } in t) kept.agrees

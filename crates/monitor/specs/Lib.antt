@@ -6,4 +6,5 @@ pub mod Reaches
 pub mod Configs
 pub mod Moves
 pub mod Raises
+pub mod Resets
 pub mod Beginnings

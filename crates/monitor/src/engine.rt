@@ -40,10 +40,10 @@ use window_packing::Ready;
 /// The monitor over any route: a host, a route that fits it, and the guests with the names that they have.
 #[derive(Drop)]
 pub struct Engine<R: Route> {
-    host: Host,
-    route: R,
-    names: Names,
-    guests: Vec<Guest>,
+    pub(crate) host: Host,
+    pub(crate) route: R,
+    pub(crate) names: Names,
+    pub(crate) guests: Vec<Guest>,
 }
 
 impl<R: Route> Model for Engine<R> {

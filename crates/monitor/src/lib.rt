@@ -24,6 +24,7 @@ mod latch;
 mod monitor;
 mod moving;
 mod raising;
+mod reset;
 
 pub use accesses::{Access, At, Bdf, GuestDecl, HostAccess, HostAt, Names, Op, Place, Reply};
 pub use engine::Engine;

@@ -6,6 +6,7 @@ ghost use Rattle.model_guests.specs.Lone.{answer};
 ghost use Rattle.model_guests.specs.Guests.{lone_of};
 ghost use Rattle.model_guests.specs.Lines.{guest_event, host_move};
 ghost use Rattle.model_guests.specs.WorldNow.{world_at_first, names_now, host_reply, move_reply, after_meaning};
+ghost use Rattle.model_devices.specs.DeviceEvents.{resets, device_answer, after_device};
 ghost use Rattle.bus_scan.specs.declared.fault.Fault.TheVariants.{Memory};
 ghost use Rattle.accesses.specs.Accesses.{access_of, host_access_of, part_of, reply_of};
 ghost use Rattle.accesses.specs.Replies.{IsRefusal, IsShown};
@@ -101,6 +102,18 @@ impl Monitor {
         ensures refused { IsRefusal result → self.new ≡ self.old }
     {
         self.engine.move_function(from, slot, to, target)
+    }
+
+    /// Resets the function in a guest's slot, where it is: nothing is carried over, as in a move. Or refuses it
+    /// and changes nothing: 303 for a slot above 31, else 601 for an empty slot. No memory is taken.
+    pub fn reset(&mut self, guest: usize, slot: u64) -> Reply
+        requires { guest < length self.old.guests }
+        ensures reply { reply_of result ≡ device_answer (lone_of self.old.guests (name_nth self.old guest)) (resets slot) }
+        ensures after { self.new ≡ after_device self.old (name_nth self.old guest) (resets slot) }
+        ensures shown { IsShown result }
+        ensures refused { IsRefusal result → self.new ≡ self.old }
+    {
+        self.engine.reset(guest, slot)
     }
 
     /// Answers a read by the host: what the board shows.

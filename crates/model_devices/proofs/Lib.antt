@@ -1,0 +1,3 @@
+pub mod OneGuest
+pub mod Resets
+pub mod Seats

@@ -1,0 +1,85 @@
+-- One guest among all, by its name: where it stands, and what changes of it come to.
+use Rattle.std.proofs.Common.{◌≡◌, ℕ, zero, suc, Bool, true, false, cond, List, [], ◌∷◌, Some, None, Option, refl, sym, ap, ap₂, ◌∙◌, subst}
+use Rattle.std.specs.Prelude.{slice_get, slice_set, unwrap_or, option_map, IsFalse, IsSome, is_some}
+use Rattle.std.specs.Option.{option_map_or}
+use Rattle.std.specs.Str.{bytes_eq}
+use Rattle.lists.specs.Elements.{Each, EachPair}
+use Rattle.lists.proofs.Indices.{set_same}
+use Rattle.model_guests.specs.Text.{Text}
+use Rattle.model_guests.specs.Lone.{LoneGuest, reset_guest}
+use Rattle.model_guests.specs.Guests.{GuestNow, GuestsNow, guest_named, lone_of, with_guest}
+use Rattle.model_guests.proofs.Names.{same_text}
+use Rattle.model_guests.proofs.Along.{by_index}
+use Rattle.model_guests.proofs.GuestsByName.{Keeps, one, one_name, named_with, found}
+
+abbrev pub AreApart : GuestsNow → Type 0
+AreApart gs = EachPair (λ (g h : GuestNow). IsFalse (bytes_eq g.name h.name)) gs
+
+index_of : (gs : GuestsNow) (name : Text) (x : GuestNow) → guest_named gs name ≡ Some x → (i : ℕ) × (slice_get gs i ≡ Some x)
+index_of [] name x at = cc
+index_of (t ∷ ts) name x at = cases (bytes_eq t.name name) at (index_of ts name x)
+  where
+    cases : (v : Bool) → cond v (Some t) (guest_named ts name) ≡ Some x → (guest_named ts name ≡ Some x → (i : ℕ) × (slice_get ts i ≡ Some x)) → (i : ℕ) × (slice_get (t ∷ ts) i ≡ Some x)
+    cases true e more = (zero, e)
+    cases false e more = (suc (more e).0, (more e).1)
+
+each_unit : (us : GuestsNow) → Each (λ (u : GuestNow). Unit {0}) us
+each_unit [] = tt
+each_unit (u ∷ us) = (tt, each_unit us)
+
+pub name_found : (gs : GuestsNow) (name : Text) (x : GuestNow) → guest_named gs name ≡ Some x → x.name ≡ name
+name_found gs name x at = (found (λ (u : GuestNow). Unit {0}) gs name x (each_unit gs) at).name_is
+
+pub lone_found : (gs : GuestsNow) (name : Text) (x : GuestNow) → guest_named gs name ≡ Some x → lone_of gs name ≡ x.lone
+lone_found gs name x at = ap (λ (o : Option GuestNow). option_map_or (λ (g : GuestNow). g.lone) o (reset_guest [])) at
+
+module _ (gs : GuestsNow) (apart : AreApart gs) (name : Text) (x : GuestNow) (at : guest_named gs name ≡ Some x) where
+  place : (i : ℕ) × (slice_get gs i ≡ Some x)
+  place = index_of gs name x at
+
+  with_there : (f : GuestNow → GuestNow) → with_guest f name gs ≡ slice_set gs place.0 (f x)
+  with_there f = ap (λ (t : Text). with_guest f t gs) (sym (name_found gs name x at)) ∙ (by_index gs apart place.0 x place.1).1 f
+
+  -- two changes that do the same to this guest
+  pub with_alike : (f g : GuestNow → GuestNow) → f x ≡ g x → with_guest f name gs ≡ with_guest g name gs
+  with_alike f g same = with_there f ∙ ap (slice_set gs place.0) same ∙ sym (with_there g)
+
+  -- a change that leaves this guest
+  pub with_none : (f : GuestNow → GuestNow) → f x ≡ x → with_guest f name gs ≡ gs
+  with_none f same = with_there f ∙ ap (slice_set gs place.0) same ∙ set_same gs place.0 x place.1
+
+-- two changes of one guest, one after the other
+pub with_twice : (f g : GuestNow → GuestNow) → Keeps g → (name : Text) (gs : GuestsNow) → with_guest f name (with_guest g name gs) ≡ with_guest (λ t. f (g t)) name gs
+with_twice f g keeps name [] = refl
+with_twice f g keeps name (t ∷ ts) = ap₂ (λ (x : GuestNow) (xs : GuestsNow). x ∷ xs) (head (bytes_eq name t.name) refl) (with_twice f g keeps name ts)
+  where
+    head : (v : Bool) → bytes_eq name t.name ≡ v → one f name (one g name t) ≡ one (λ u. f (g u)) name t
+    head v e = ap (λ (n : Text). cond (bytes_eq name n) (f (one g name t)) (one g name t)) (one_name g keeps name t) ∙ cases (bytes_eq name t.name)
+      where
+        cases : (u : Bool) → cond u (f (cond u (g t) t)) (cond u (g t) t) ≡ cond u (f (g t)) t
+        cases true = refl
+        cases false = refl
+
+-- ---- what guests hold after a change of one
+
+abbrev lone_in : Option GuestNow → LoneGuest
+lone_in o = option_map_or (λ (g : GuestNow). g.lone) o (reset_guest [])
+
+pub lone_own : (f : GuestNow → GuestNow) → Keeps f → (k : LoneGuest → LoneGuest) → ((t : GuestNow) → (f t).lone ≡ k t.lone) → (name : Text) (gs : GuestsNow) → IsSome (guest_named gs name)
+    → lone_of (with_guest f name gs) name ≡ k (lone_of gs name)
+lone_own f keeps k does name gs there = ap lone_in (named_with f keeps name name gs) ∙ cases (guest_named gs name) refl there
+  where
+    cases : (o : Option GuestNow) → guest_named gs name ≡ o → IsSome o → lone_in (option_map (one f name) o) ≡ k (lone_in o)
+    cases None e h = cc
+    cases (Some t) e h =
+        let here : bytes_eq name t.name ≡ true = ap (bytes_eq name) (name_found gs name t e) ∙ same_text name in
+        ap (λ (v : Bool). (cond v (f t) t).lone) here ∙ does t
+
+pub lone_other : (f : GuestNow → GuestNow) → Keeps f → (name other : Text) (gs : GuestsNow) → bytes_eq name other ≡ false → lone_of (with_guest f name gs) other ≡ lone_of gs other
+lone_other f keeps name other gs apart = ap lone_in (named_with f keeps name other gs) ∙ cases (guest_named gs other) refl
+  where
+    cases : (o : Option GuestNow) → guest_named gs other ≡ o → lone_in (option_map (one f name) o) ≡ lone_in o
+    cases None e = refl
+    cases (Some t) e =
+        let away : bytes_eq name t.name ≡ false = ap (bytes_eq name) (name_found gs other t e) ∙ apart in
+        ap (λ (v : Bool). (cond v (f t) t).lone) away

@@ -1,0 +1,2 @@
+pub mod DeviceEvents
+pub mod DeviceLaws

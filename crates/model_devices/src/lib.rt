@@ -1,0 +1,20 @@
+//! What happens to guests' functions at their devices, as definitions, and laws about it.
+#![tactic(auto)]
+
+ghost use Rattle.model_devices.specs.DeviceLaws.{NamesAfterDevices, OthersAfterDevice, OwnAfterDevice, ResetByMoves, ResetReachesBoard, SeatedAfterDevices};
+
+/// A reset of a function leaves what a move to an empty slot and back leaves, and reaches the board by
+/// the bytes of which the guest has no copy.
+pub fn resets_as_moves()
+    ensures moves { ResetByMoves }
+    ensures board { ResetReachesBoard }
+{}
+
+/// What a guest holds after an event at its device is told by what it held, and no other guest holds
+/// anything else than before. All stay seated and keep their names.
+pub fn devices_keep_guests()
+    ensures own { OwnAfterDevice }
+    ensures others { OthersAfterDevice }
+    ensures seated { SeatedAfterDevices }
+    ensures names { NamesAfterDevices }
+{}
