@@ -7,3 +7,4 @@ pub mod Configs
 pub mod Moves
 pub mod Raises
 pub mod Beginnings
+pub mod Queries
