@@ -8,3 +8,4 @@ pub mod Moves
 pub mod Raises
 pub mod Resets
 pub mod Beginnings
+pub mod Queries

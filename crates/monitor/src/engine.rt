@@ -19,6 +19,7 @@ ghost use Rattle.monitor.specs.ByIndex.{name_nth, lone_nth, with_lone_nth};
 ghost use Rattle.monitor.specs.Reaches.{target_in};
 ghost use Rattle.monitor.specs.Moves.{move_nth};
 ghost use Rattle.monitor.specs.Beginnings.{world_of};
+ghost use Rattle.monitor.specs.Queries.{IsGuestNth};
 
 use crate::beginning::{guests_of, names_of};
 use crate::config::{held_in, number_read, write_guest};
@@ -85,6 +86,14 @@ impl<R: Route> Engine<R> {
         ensures { texts result.now ≡ names_now self.now }
     {
         &self.names
+    }
+
+    /// What is kept of a guest.
+    pub(crate) fn guest(&self, guest: usize) -> &Guest
+        requires { guest < length self.now.guests }
+        ensures { IsGuestNth self.now guest result.now }
+    {
+        &self.guests[guest]
     }
 
     /// Reads or writes what an address of a guest stands for. Where it stands for nothing, a read gives all

@@ -21,11 +21,16 @@ mod engine;
 mod guest;
 mod landing;
 mod latch;
+mod locating;
 mod monitor;
 mod moving;
 mod raising;
+mod regions;
 mod reset;
 
 pub use accesses::{Access, At, Bdf, GuestDecl, HostAccess, HostAt, Names, Op, Place, Reply};
+pub use bars::Space;
 pub use engine::Engine;
+pub use locating::Hit;
 pub use monitor::Monitor;
+pub use regions::RegionNow;

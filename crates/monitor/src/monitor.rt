@@ -1,5 +1,6 @@
 //! The monitor, which gives functions of a board to guests.
-ghost use Rattle.std.specs.Prelude.{◌≡◌, ◌<◌, length, IfOk, IfErr};
+ghost use Rattle.std.specs.Prelude.{◌≡◌, ◌<◌, length, option_map, IfOk, IfErr};
+ghost use Rattle.std.specs.Result.{result_map_both};
 ghost use Rattle.model_guests.specs.Accesses as guests;
 ghost use Rattle.model_guests.specs.World.{HasLawfulGuests};
 ghost use Rattle.model_guests.specs.Lone.{answer};
@@ -8,15 +9,20 @@ ghost use Rattle.model_guests.specs.Lines.{guest_event, host_move};
 ghost use Rattle.model_guests.specs.WorldNow.{world_at_first, names_now, host_reply, move_reply, after_meaning};
 ghost use Rattle.model_devices.specs.DeviceEvents.{resets, device_answer, after_device};
 ghost use Rattle.bus_scan.specs.declared.fault.Fault.TheVariants.{Memory};
-ghost use Rattle.accesses.specs.Accesses.{access_of, host_access_of, part_of, reply_of};
+ghost use Rattle.model_queries.specs.Regions.{region_answer};
+ghost use Rattle.model_queries.specs.Located.{location};
+ghost use Rattle.accesses.specs.Accesses.{access_of, host_access_of, part_of, reply_of, target_of};
 ghost use Rattle.accesses.specs.Replies.{IsRefusal, IsShown};
 ghost use Rattle.monitor.specs.Views.{texts};
 ghost use Rattle.monitor.specs.ByIndex.{name_nth};
 ghost use Rattle.monitor.specs.Moves.{move_nth};
 ghost use Rattle.monitor.specs.Beginnings.{world_of};
+ghost use Rattle.monitor.specs.Queries.{region_named, hit_named};
 
 use crate::engine::Engine;
-use accesses::{Access, GuestDecl, HostAccess, Names, Place, Reply};
+use crate::locating::Hit;
+use crate::regions::RegionNow;
+use accesses::{Access, At, GuestDecl, HostAccess, Names, Place, Reply};
 use bus_scan::Fault;
 use claim_table::Table;
 use std::alloc::Global;
@@ -123,5 +129,28 @@ impl Monitor {
         ensures shown { IsShown result }
     {
         self.engine.host_read(read)
+    }
+
+    /// Where a region of a guest's function stands now, in the guest's own view: the region that begins at
+    /// a base address register, by its index. Or refuses: 303 for a slot above 31, else 601 for an empty
+    /// slot, else 303 for a register at which no region begins. No memory is taken.
+    pub fn region(&self, guest: usize, slot: u64, bar: u64) -> Result<RegionNow, u16>
+        requires { guest < length self.now.guests }
+        ensures { result_map_both region_named (λ n. n) result
+            ≡ region_answer (lone_of self.now.guests (name_nth self.now guest)) slot bar }
+    {
+        self.engine.region(guest, slot, bar)
+    }
+
+    /// What an access of a guest at a place hits: a byte of a function in one of its slots, or nothing.
+    /// Every access there lands at this byte, but for four bytes at CF8h, which are the guest's own address
+    /// latch. Or refuses, as a read of a byte there: 303 for a slot above 31, an offset above 255 or a port
+    /// above FFFFFFFFh. No memory is taken.
+    pub fn locate(&self, guest: usize, at: At) -> Result<Option<Hit>, u16>
+        requires { guest < length self.now.guests }
+        ensures { result_map_both (option_map hit_named) (λ n. n) result
+            ≡ location (lone_of self.now.guests (name_nth self.now guest)) (target_of at) }
+    {
+        self.engine.locate(guest, at)
     }
 }

@@ -1,0 +1,2 @@
+pub mod Landings
+pub mod Inside

@@ -1,0 +1,18 @@
+//! Where the regions of a guest's functions stand and what the guest's accesses hit, as definitions, and laws about them.
+#![tactic(auto)]
+
+ghost use Rattle.model_queries.specs.QueryLaws.{AccessLands, HitIsInside, InsideIsHit, NothingHit};
+
+/// What is told of a place is what an access there does: of any width, but for the one that is the
+/// guest's own address latch.
+pub fn accesses_land()
+    ensures lands { AccessLands }
+    ensures nothing { NothingHit }
+{}
+
+/// A hit lies in a region that is told there and is open, and each address of such a region hits
+/// something.
+pub fn hits_lie_in_regions()
+    ensures inside { HitIsInside }
+    ensures hit { InsideIsHit }
+{}

@@ -1,0 +1,234 @@
+-- What is kept of a guest shows what its regions are, and what its accesses hit.
+use Rattle.std.proofs.Common.{◌≡◌, ◌≤◌, ◌<◌, ℕ, zero, suc, ◌+◌, ◌*◌, ◌/◌, Bool, true, false, cond, eqb, List, [], ◌∷◌, length, Some, None, Option, Err, slice_get, refl, sym, ap, ap₂, ◌∙◌, subst, arith}
+use Rattle.std.specs.Prelude.{find, map, nat_le, option_map, unwrap_or}
+use Rattle.std.specs.Option.{option_map_or, ok_or}
+use Rattle.std.proofs.lemmas.Bool.Decides.{nat_tests}
+use Rattle.lists.proofs.Indices.{found_at, index_in}
+use Rattle.lists.proofs.Members.{each_in, in_map}
+use Rattle.model_registers.specs.Registers.{config, File, cell_at, read, number, all_bytes}
+use Rattle.model_registers.specs.ByteEnables.{lanes}
+use Rattle.model_registers.specs.Declarations.{Kind, mem64, Region, registers_of, IsLawfulRegion, HasLawfulRegions}
+use Rattle.model_registers.specs.EndpointTable.{BaseAddress}
+use Rattle.model_registers.specs.OwnCopies.{OwnCopies, HoldsOwn, IsLawfulOwn, handed_on, bare}
+use Rattle.model_registers.specs.Decoding.{Function, space_of, base, is_open}
+use Rattle.model_board.specs.Paths.{Path}
+use Rattle.model_board.specs.Board.{Board}
+use Rattle.model_registers.specs.Apertures.{Apertures}
+use Rattle.model_set_up.specs.SetUpWrites.{placed_base}
+use Rattle.model_guests.specs.Slots.{slot_at}
+use Rattle.model_guests.specs.Guests.{GuestNow}
+use Rattle.model_guests.specs.WorldNow.{WorldNow}
+use Rattle.model_queries.specs.Regions.{RegionNow, is_prefetchable, region_now, region_at, region_of, region_answer}
+use Rattle.bars.specs.Slots as bars
+use Rattle.bars.specs.declared.region.Region as program
+use Rattle.host_bridge.specs.HostState.{HostState}
+use Rattle.monitor.specs.declared.guest.Held.{Held}
+use Rattle.monitor.specs.declared.guest.Guest.{Guest}
+use Rattle.monitor.specs.Views.{world_shown}
+use Rattle.monitor.specs.Keeping.{IsHeld, AreSlots, IsSound}
+use Rattle.monitor.specs.ByIndex.{guest_nth, lone_nth}
+use Rattle.monitor.specs.Queries.{IsGuestNth}
+use Rattle.monitor.proofs.Steps.{slot_there, slot_empty, here}
+use Rattle.monitor.proofs.RegionGoals.{guest_at}
+use Rattle.monitor.proofs.ConfigSteps.{seen}
+use Rattle.monitor.proofs.Named.{AreApart, lone_named}
+
+-- ---- a base of 64 bits
+
+pub read_eight : (file : File) (a : ℕ) → number file (config a) 8 ≡ number file (config a) 4 + 0x100000000 * number file (config (a + 4)) 4
+read_eight file a =
+    let up : a + 1 + 1 + 1 + 1 ≡ a + 4 = omega arith in
+    let v0 : ℕ = (cell_at file (config a)).value in
+    let v1 : ℕ = (cell_at file (config (a + 1))).value in
+    let v2 : ℕ = (cell_at file (config (a + 1 + 1))).value in
+    let v3 : ℕ = (cell_at file (config (a + 1 + 1 + 1))).value in
+    ap (λ (m : ℕ). v0 + 256 * (v1 + 256 * (v2 + 256 * (v3 + 256 * number file (config m) 4)))) up
+    ∙ joined v0 v1 v2 v3 (number file (config (a + 4)) 4)
+  where
+    joined : (v0 v1 v2 v3 high : ℕ) → v0 + 256 * (v1 + 256 * (v2 + 256 * (v3 + 256 * high))) ≡ v0 + 256 * (v1 + 256 * (v2 + 256 * (v3 + 256 * 0))) + 0x100000000 * high
+    joined v0 v1 v2 v3 high = omega arith
+
+-- a register is an own copy, each of its bytes
+own_register : (n : ℕ) → n < 6 → handed_on (config (0x10 + 4 * n)) (all_bytes 4) ≡ false ∷ false ∷ false ∷ false ∷ []
+own_register zero h = refl
+own_register (suc zero) h = refl
+own_register (suc (suc zero)) h = refl
+own_register (suc (suc (suc zero))) h = refl
+own_register (suc (suc (suc (suc zero)))) h = refl
+own_register (suc (suc (suc (suc (suc zero))))) h = refl
+own_register (suc (suc (suc (suc (suc (suc n)))))) h = absurd (omega arith)
+
+-- what the copies give of a word at an offset, and the enables of its other bytes
+pub record IsWordRead (own : OwnCopies) (off v others : ℕ) : Type 0 where
+  pub others_are : lanes others ≡ handed_on (config off) (all_bytes 4)
+  pub together : (file : File) → HoldsOwn file own → read file (config off) (all_bytes 4) ≡ v + read file (config off) (lanes others)
+
+register_read : (own : OwnCopies) (file : File) → HoldsOwn file own → (n off v others : ℕ) → n < 6 → off ≡ 0x10 + 4 * n → IsWordRead own off v others → number file (config off) 4 ≡ v
+register_read own file holds n off v others low at is =
+    let alone : lanes others ≡ false ∷ false ∷ false ∷ false ∷ [] = is.others_are ∙ ap (λ (o : ℕ). handed_on (config o) (all_bytes 4)) at ∙ own_register n low in
+    let rest : v + read file (config off) (lanes others) ≡ v + 0 = ap (λ (ons : List Bool). v + read file (config off) ons) alone in
+    let none : v + 0 ≡ v = omega arith in
+    is.together file holds ∙ rest ∙ none
+
+pub wide_base : (own : OwnCopies) (file : File) → HoldsOwn file own → (n low high others more : ℕ) → IsWordRead own (0x10 + 4 * n) low others → IsWordRead own (0x10 + 4 * n + 4) high more
+    → (k : Kind) (pref : Bool) → k ≡ mem64 pref → n + registers_of k ≤ 6 → (low + 0x100000000 * high) / 16 * 16 ≡ base file n k
+wide_base own file holds n low high others more first second k pref is room =
+    let two : registers_of k ≡ 2 = ap registers_of is in
+    let here : n < 6 = omega (arith, room, two) in
+    let after : n + 1 < 6 = omega (arith, room, two) in
+    let next : 0x10 + 4 * n + 4 ≡ 0x10 + 4 * (n + 1) = omega arith in
+    let eight : number file (config (0x10 + 4 * n)) 8 ≡ low + 0x100000000 * high =
+    read_eight file (0x10 + 4 * n)
+    ∙ ap₂ (λ (x y : ℕ). x + 0x100000000 * y) (register_read own file holds n (0x10 + 4 * n) low others here refl first)
+    (register_read own file holds (n + 1) (0x10 + 4 * n + 4) high more after next second) in
+    ap (λ (m : ℕ). m / 16 * 16) (sym eight) ∙ ap (base file n) (sym is)
+
+-- ---- the region that begins at a register
+
+none_from : (n k : ℕ) (slots : List (Option program.Region)) → n < k → find (λ (x : BaseAddress). eqb x.index n) (bars.bases_from k slots) ≡ None
+none_from n k [] h = refl
+none_from n k (None ∷ slots) h = none_from n (k + 1) slots (omega arith)
+none_from n k (Some r ∷ slots) h =
+    let other : eqb k n ≡ false = grind (arith, nat_tests) in
+    ap (λ (t : Bool). cond t (Some (bars.placed k r)) (find (λ (x : BaseAddress). eqb x.index n) (bars.bases_from (k + 1) slots))) other
+    ∙ none_from n (k + 1) slots (omega arith)
+
+kept_at : (n k : ℕ) (slots : List (Option program.Region)) → find (λ (x : BaseAddress). eqb x.index (k + n)) (bars.bases_from k slots) ≡ option_map (bars.placed (k + n)) (bars.slot_at slots n)
+kept_at n k [] = refl
+kept_at zero k (None ∷ slots) = none_from (k + 0) (k + 1) slots (omega arith)
+kept_at zero k (Some r ∷ slots) =
+    let same : eqb k (k + 0) ≡ true = grind (arith, nat_tests) in
+    let stays : k ≡ k + 0 = omega arith in
+    ap (λ (t : Bool). cond t (Some (bars.placed k r)) (find (λ (x : BaseAddress). eqb x.index (k + 0)) (bars.bases_from (k + 1) slots))) same
+    ∙ ap (λ (m : ℕ). Some (bars.placed m r)) stays
+kept_at (suc n) k (None ∷ slots) =
+    let next : k + suc n ≡ k + 1 + n = omega arith in
+    ap (λ (m : ℕ). find (λ (x : BaseAddress). eqb x.index m) (bars.bases_from (k + 1) slots)) next ∙ kept_at n (k + 1) slots
+    ∙ ap (λ (m : ℕ). option_map (bars.placed m) (bars.slot_at slots n)) (sym next)
+kept_at (suc n) k (Some r ∷ slots) =
+    let next : k + suc n ≡ k + 1 + n = omega arith in
+    let other : eqb k (k + suc n) ≡ false = grind (arith, nat_tests) in
+    ap (λ (t : Bool). cond t (Some (bars.placed k r)) (find (λ (x : BaseAddress). eqb x.index (k + suc n)) (bars.bases_from (k + 1) slots))) other
+    ∙ ap (λ (m : ℕ). find (λ (x : BaseAddress). eqb x.index m) (bars.bases_from (k + 1) slots)) next ∙ kept_at n (k + 1) slots
+    ∙ ap (λ (m : ℕ). option_map (bars.placed m) (bars.slot_at slots n)) (sym next)
+
+placed_at : (b : Board) (a : Apertures) (p : Path) (n : ℕ) (rs : List Region) → find (λ (x : BaseAddress). eqb x.index n) (map (placed_base b a p) rs) ≡ option_map (placed_base b a p) (find (λ (r : Region). eqb r.index n) rs)
+placed_at b a p n [] = refl
+placed_at b a p n (r ∷ rs) = by_test (eqb r.index n) (placed_at b a p n rs)
+  where
+    by_test : (t : Bool) → find (λ (x : BaseAddress). eqb x.index n) (map (placed_base b a p) rs) ≡ option_map (placed_base b a p) (find (λ (r : Region). eqb r.index n) rs)
+        → cond t (Some (placed_base b a p r)) (find (λ (x : BaseAddress). eqb x.index n) (map (placed_base b a p) rs)) ≡ option_map (placed_base b a p) (cond t (Some r) (find (λ (r : Region). eqb r.index n) rs))
+    by_test true more = refl
+    by_test false more = more
+
+same_place : (b : Board) (a : Apertures) (p : Path) (f : Function) (h : Held) (n : ℕ) → IsHeld b a p f h → option_map (bars.placed n) (bars.slot_at h.placed n) ≡ option_map (placed_base b a p) (region_at f n)
+same_place b a p f h n held =
+    let zero_on : 0 + n ≡ n = omega arith in
+    ap (λ (m : ℕ). option_map (bars.placed m) (bars.slot_at h.placed n)) (sym zero_on) ∙ sym (kept_at n 0 h.placed)
+    ∙ ap (λ (m : ℕ). find (λ (x : BaseAddress). eqb x.index m) (bars.bases_from 0 h.placed)) zero_on
+    ∙ ap (find (λ (x : BaseAddress). eqb x.index n)) held.placed ∙ placed_at b a p n f.decl.regions
+
+-- none, or one of this kind and size
+pub record IsRegionAt (f : Function) (n : ℕ) (x : program.Region) : Type 0 where
+  pub region : Region
+  pub there : region_at f n ≡ Some region
+  pub index : region.index ≡ n
+  pub kind : region.kind ≡ x.decl.kind
+  pub size : region.size ≡ x.decl.size
+  pub room : n + registers_of region.kind ≤ 6
+
+pub no_region : (b : Board) (a : Apertures) (p : Path) (f : Function) (h : Held) (n : ℕ) → IsHeld b a p f h → bars.slot_at h.placed n ≡ None → region_at f n ≡ None
+no_region b a p f h n held none = by_region (region_at f n) (ap (option_map (bars.placed n)) (sym none) ∙ same_place b a p f h n held)
+  where
+    by_region : (o : Option Region) → None ≡ option_map (placed_base b a p) o → o ≡ None
+    by_region None e = refl
+    by_region (Some r) e = cc
+
+pub a_region : (b : Board) (a : Apertures) (p : Path) (f : Function) (h : Held) (n : ℕ) (x : program.Region) → IsHeld b a p f h → IsLawfulOwn h.own → bars.slot_at h.placed n ≡ Some x → IsRegionAt f n x
+a_region b a p f h n x held lawful some = by_region (region_at f n) refl (ap (option_map (bars.placed n)) (sym some) ∙ same_place b a p f h n held)
+  where
+    by_region : (o : Option Region) → region_at f n ≡ o → Some (bars.placed n x) ≡ option_map (placed_base b a p) o → IsRegionAt f n x
+    by_region None at e = cc
+    by_region (Some r) at e =
+        let same : bars.placed n x ≡ placed_base b a p r = cc in
+        let index : r.index ≡ n = ap (λ (y : BaseAddress). y.index) (sym same) in
+        let regions : HasLawfulRegions (map bare f.decl.regions) = subst HasLawfulRegions (sym held.regions) lawful in
+        let found = found_at (λ (y : Region). eqb y.index n) f.decl.regions r at in
+        let room : r.index + registers_of r.kind ≤ 6 = (each_in IsLawfulRegion (bare r) (map bare f.decl.regions) regions.each (in_map bare r f.decl.regions (index_in f.decl.regions found.1.0 r found.1.1))).registers in
+        record {
+          region = r;
+          there = at;
+          index = index;
+          kind = ap (λ (y : BaseAddress). y.kind) (sym same);
+          size = ap (λ (y : BaseAddress). y.size) (sym same);
+          room = omega (arith, room, index);
+        }
+
+same_region : (x y : RegionNow) → x.space ≡ y.space → x.first ≡ y.first → x.size ≡ y.size → x.prefetchable ≡ y.prefetchable → x.is_open ≡ y.is_open → x ≡ y
+same_region x y e1 e2 e3 e4 e5 =
+    ap (λ s. record x { space = s }) e1 ∙ ap (λ n. record x { space = y.space; first = n }) e2
+    ∙ ap (λ n. record x { space = y.space; first = y.first; size = n }) e3
+    ∙ ap (λ t. record y { prefetchable = t; is_open = x.is_open }) e4 ∙ ap (λ t. record y { is_open = t }) e5
+
+pub region_told : (f : Function) (n : ℕ) (x : program.Region) → IsRegionAt f n x → (k : Kind) → k ≡ x.decl.kind → (v : RegionNow) → v.space ≡ space_of k → (n + registers_of k ≤ 6 → v.first ≡ base f.file n k)
+    → v.size ≡ x.decl.size → v.prefetchable ≡ is_prefetchable k → v.is_open ≡ is_open f.file (space_of k) → Some v ≡ option_map (region_now f.file) (region_at f n)
+region_told f n x is k kind v space first size pref opened =
+    let same : k ≡ is.region.kind = kind ∙ sym is.kind in
+    let room : n + registers_of k ≤ 6 = subst (λ (y : Kind). n + registers_of y ≤ 6) (sym same) is.room in
+    ap (λ (r : RegionNow). Some r)
+    (same_region v (region_now f.file is.region) (space ∙ ap space_of same)
+    (first room ∙ ap (base f.file n) same ∙ ap (λ (m : ℕ). base f.file m is.region.kind) (sym is.index))
+    (size ∙ sym is.size) (pref ∙ ap is_prefetchable same) (opened ∙ ap (λ (y : Kind). is_open f.file (space_of y)) same))
+    ∙ ap (option_map (region_now f.file)) (sym is.there)
+
+-- ---- a guest by its index
+
+record IsGuestShown (v : WorldNow) (k : ℕ) (g : Guest) : Type 0 where
+  latch : (lone_nth v k).latch ≡ g.latch
+  slots : AreSlots v.board v.apertures (guest_nth v k).paths (lone_nth v k).slots g.slots.items
+
+module _ (h : HostState) (names : List (List ℕ)) (gs : List Guest) (sound : IsSound h names gs) (now : WorldNow) (view : world_shown h names gs ≡ now) (i : ℕ) (g : Guest) (there : slice_get gs i ≡ Some g) (inside : i < length now.guests) where
+  abbrev w : WorldNow
+  w = world_shown h names gs
+
+  pub guest_nth_is : IsGuestNth now i g
+  guest_nth_is =
+      let at = guest_at h names gs sound now view i g there in
+      let same : at.x ≡ guest_nth w i = sym (here w h names gs sound i g at) in
+      let apart : AreApart now = subst AreApart view sound.seated.names_apart in
+      let shown : IsGuestShown w i g = record {
+        latch = ap (λ (x : GuestNow). x.lone.latch) (sym same) ∙ at.is.latch;
+        slots = subst (λ (x : GuestNow). AreSlots w.board w.apertures x.paths x.lone.slots g.slots.items) same at.is.slots;
+      } in
+      let now_shown : IsGuestShown now i g = subst (λ (v : WorldNow). IsGuestShown v i g) view shown in
+      record {
+        named = lone_named now apart i inside;
+        latch = now_shown.latch;
+        slots = now_shown.slots;
+        lawful = λ n held its. (seen w h names gs sound i g at n held (slot_there w.board w.apertures at.x.paths at.x.lone.slots g.slots.items n held at.is.slots its)).lawful;
+      }
+
+-- ---- answers
+
+module _ (w : WorldNow) (i : ℕ) (g : Guest) (is : IsGuestNth w i g) (slots : List (Option Held)) (same : slots ≡ g.slots.items) (n m : ℕ) (few : n ≤ 31) where
+  low : nat_le 32 n ≡ false
+  low = grind (arith, nat_tests)
+
+  asked : (o : Option Function) → slot_at (lone_nth w i).slots n ≡ o → region_answer (lone_nth w i) n m ≡ option_map_or (λ (f : Function). region_of f m) o (Err 601)
+  asked o at =
+      ap (λ (t : Bool). cond t (Err 303) (option_map_or (λ (x : Function). region_of x m) (slot_at (lone_nth w i).slots n) (Err 601))) low
+      ∙ ap (λ (p : Option Function). option_map_or (λ (x : Function). region_of x m) p (Err 601)) at
+
+  pub answer_empty : unwrap_or (slice_get slots n) None ≡ None → region_answer (lone_nth w i) n m ≡ Err 601
+  answer_empty empty =
+      asked None (slot_empty w.board w.apertures (guest_nth w i).paths (lone_nth w i).slots g.slots.items n is.slots
+      (ap (λ (os : List (Option Held)). unwrap_or (slice_get os n) None) (sym same) ∙ empty))
+
+  pub answer_there : (held : Held) → slice_get slots n ≡ Some (Some held) → (o : Option RegionNow)
+      → ((b : Board) (a : Apertures) (p : Path) (f : Function) → IsHeld b a p f held → IsLawfulOwn held.own → o ≡ option_map (region_now f.file) (region_at f m))
+      → region_answer (lone_nth w i) n m ≡ ok_or o 303
+  answer_there held there o told =
+      let at : slice_get g.slots.items n ≡ Some (Some held) = ap (λ (os : List (Option Held)). slice_get os n) (sym same) ∙ there in
+      let slot = slot_there w.board w.apertures (guest_nth w i).paths (lone_nth w i).slots g.slots.items n held is.slots at in
+      asked (Some slot.f) slot.function
+      ∙ ap (λ (p : Option RegionNow). ok_or p 303) (sym (told w.board w.apertures slot.p slot.f slot.held (is.lawful n held at)))

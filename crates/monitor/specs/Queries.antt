@@ -1,0 +1,35 @@
+-- What code answers of a guest without changing anything.
+--     IsGuestNth w i g      what is kept of the guest at an index
+--     region_named, hit_named      a region and a hit, from the program's words
+use Rattle.std.specs.Prelude.{ℕ, Some, ◌≡◌, slice_get}
+use Rattle.bars.specs.Kinds.{named_space}
+use Rattle.headers.specs.Places.{place_of}
+use Rattle.model_registers.specs.OwnCopies.{IsLawfulOwn}
+use Rattle.model_guests.specs.Slots.{Landing}
+use Rattle.model_guests.specs.Guests.{lone_of}
+use Rattle.model_guests.specs.WorldNow.{WorldNow}
+use Rattle.model_queries.specs.Regions as model
+use Rattle.monitor.specs.declared.guest.Held.{Held}
+use Rattle.monitor.specs.declared.guest.Guest.{Guest}
+use Rattle.monitor.specs.declared.regions.RegionNow.{RegionNow}
+use Rattle.monitor.specs.declared.locating.Hit.{Hit}
+use Rattle.monitor.specs.Keeping.{AreSlots}
+use Rattle.monitor.specs.ByIndex.{guest_nth, name_nth, lone_nth}
+
+pub record IsGuestNth (w : WorldNow) (i : ℕ) (g : Guest) : Type 0 where
+  pub named : lone_of w.guests (name_nth w i) ≡ lone_nth w i
+  pub latch : (lone_nth w i).latch ≡ g.latch
+  pub slots : AreSlots w.board w.apertures (guest_nth w i).paths (lone_nth w i).slots g.slots.items
+  pub lawful : (n : ℕ) (h : Held) → slice_get g.slots.items n ≡ Some (Some h) → IsLawfulOwn h.own
+
+abbrev pub region_named : RegionNow → model.RegionNow
+region_named r = record {
+  space = named_space r.space;
+  first = r.first;
+  size = r.size;
+  prefetchable = r.prefetchable;
+  is_open = r.is_open;
+}
+
+abbrev pub hit_named : Hit → Landing
+hit_named h = record { slot = h.slot; place = place_of h.place h.offset }

@@ -1,0 +1,110 @@
+//! What a guest's accesses hit.
+ghost use Rattle.std.specs.Prelude.{◌≡◌, ◌<◌, ℕ, List, Option, length, option_map};
+ghost use Rattle.std.specs.Result.{result_map_both};
+ghost use Rattle.model_board.specs.Paths.{Path};
+ghost use Rattle.model_board.specs.Board.{Board};
+ghost use Rattle.model_registers.specs.Apertures.{Apertures};
+ghost use Rattle.model_guests.specs.Accesses.{configuration};
+ghost use Rattle.model_guests.specs.Slots.{Slots, landing, landing_from};
+ghost use Rattle.model_guests.specs.Guests.{lone_of};
+ghost use Rattle.model_guests.specs.WorldNow.{WorldNow};
+ghost use Rattle.model_queries.specs.Located.{located, location};
+ghost use Rattle.bars.specs.Kinds.{named_space};
+ghost use Rattle.accesses.specs.Accesses.{target_of};
+ghost use Rattle.monitor.specs.Keeping.{AreSlots};
+ghost use Rattle.monitor.specs.ByIndex.{name_nth, lone_nth};
+ghost use Rattle.monitor.specs.Queries.{IsGuestNth, hit_named};
+
+use crate::config::held_in;
+use crate::engine::Engine;
+use crate::guest::{Guest, Held};
+use crate::landing::landing;
+use accesses::{Access, At, Op, Place};
+use bars::Space;
+use guest_functions::Select;
+use host_bridge::Route;
+
+/// A byte of a function in a guest's slot: an offset in its configuration space, or in the region that
+/// begins at a base address register.
+#[derive(Clone, Copy, Debug, PartialEq, Eq)]
+pub struct Hit {
+    pub slot: usize,
+    pub place: Place,
+    pub offset: u64,
+}
+
+/// The byte of a region that an address stands for.
+fn region_hit(slots: &[Option<Held>], space: Space, addr: u64) -> Option<Hit>
+    ensures { (b : Board) (a : Apertures) (qs : List (Option Path)) (fs : Slots) → AreSlots b a qs fs slots.now
+        → option_map hit_named result ≡ landing_from 0 (named_space space) addr fs }
+{
+    let (slot, region, offset) = landing(slots, space, addr)?;
+    Some(Hit {
+        slot,
+        place: Place::Bar(region),
+        offset,
+    })
+}
+
+/// The byte of configuration space at an offset, where a function is in the slot.
+fn config_hit(slots: &[Option<Held>], slot: usize, offset: u64) -> Option<Hit>
+    ensures { (b : Board) (a : Apertures) (qs : List (Option Path)) (fs : Slots) → AreSlots b a qs fs slots.now
+        → option_map hit_named result ≡ landing fs (configuration slot offset) }
+{
+    match held_in(slots, slot) {
+        Some(_) => Some(Hit {
+            slot,
+            place: Place::Cfg,
+            offset,
+        }),
+        None => None,
+    }
+}
+
+/// What an access of a byte hits.
+fn hit_in(guest: &Guest, at: At) -> Option<Hit>
+    ensures { (w : WorldNow) (i : ℕ) → IsGuestNth w i guest.now
+        → option_map hit_named result ≡ located (lone_nth w i) (target_of at) }
+{
+    match at {
+        At::Config { slot, off } => config_hit(&guest.slots, slot as usize, off),
+        At::Io { port } => match guest.latch.select(port) {
+            Select::Ordinary => region_hit(&guest.slots, Space::Io, port),
+            Select::Nowhere => None,
+            Select::Slot(slot, off) => {
+                config_hit(&guest.slots, usize::from(slot), u64::from(off))
+            }
+        },
+        At::Mem { addr } => region_hit(&guest.slots, Space::Mem, addr),
+    }
+}
+
+/// The same, or the number of a refusal.
+fn locate_in(guest: &Guest, at: At) -> Result<Option<Hit>, u16>
+    ensures { (w : WorldNow) (i : ℕ) → IsGuestNth w i guest.now
+        → result_map_both (option_map hit_named) (λ n. n) result ≡ location (lone_nth w i) (target_of at) }
+{
+    let read = Access {
+        at,
+        width: 1,
+        op: Op::Read,
+    };
+    match read.fault() {
+        Some(number) => Err(number),
+        None => Ok(hit_in(guest, at)),
+    }
+}
+
+impl<R: Route> Engine<R> {
+    /// What an access of a guest at a place hits: a byte of a function in one of its slots, or nothing.
+    /// Every access there lands at this byte, but for four bytes at CF8h, which are the guest's own address
+    /// latch. Or refuses, as a read of a byte there: 303 for a slot above 31, an offset above 255 or a port
+    /// above FFFFFFFFh. No memory is taken.
+    pub fn locate(&self, guest: usize, at: At) -> Result<Option<Hit>, u16>
+        requires { guest < length self.now.guests }
+        ensures { result_map_both (option_map hit_named) (λ n. n) result
+            ≡ location (lone_of self.now.guests (name_nth self.now guest)) (target_of at) }
+    {
+        locate_in(self.guest(guest), at)
+    }
+}

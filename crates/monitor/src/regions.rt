@@ -1,0 +1,122 @@
+//! Where the regions of guests' functions stand.
+ghost use Rattle.std.specs.Prelude.{◌≡◌, ◌≤◌, ◌<◌, ◌+◌, ℕ, length, option_map};
+ghost use Rattle.std.specs.Result.{result_map_both};
+ghost use Rattle.model_registers.specs.Registers.{File};
+ghost use Rattle.model_registers.specs.Declarations.{registers_of};
+ghost use Rattle.model_registers.specs.OwnCopies.{HoldsOwn, IsLawfulOwn};
+ghost use Rattle.model_registers.specs.Decoding.{Function, base, is_open};
+ghost use Rattle.model_board.specs.Paths.{Path};
+ghost use Rattle.model_board.specs.Board.{Board};
+ghost use Rattle.model_registers.specs.Apertures.{Apertures};
+ghost use Rattle.model_guests.specs.Guests.{lone_of};
+ghost use Rattle.model_guests.specs.WorldNow.{WorldNow};
+ghost use Rattle.model_queries.specs.Regions.{is_prefetchable, region_now, region_at, region_answer};
+ghost use Rattle.bars.specs.Kinds.{kind_of, named_space};
+ghost use Rattle.monitor.specs.Keeping.{IsHeld};
+ghost use Rattle.monitor.specs.ByIndex.{name_nth, lone_nth};
+ghost use Rattle.monitor.specs.Queries.{IsGuestNth, region_named};
+
+use crate::config::held_in;
+use crate::engine::Engine;
+use crate::guest::{Guest, Held};
+use bars::{Kind, Space};
+use host_bridge::Route;
+
+/// A region of a guest's function, by the guest's own registers as they stand. It takes `size` addresses
+/// of its space from `first` on, and is decoded there where Command opens the space.
+#[derive(Clone, Copy, Debug, PartialEq, Eq)]
+pub struct RegionNow {
+    pub space: Space,
+    pub first: u64,
+    pub size: u64,
+    pub prefetchable: bool,
+    pub is_open: bool,
+}
+
+/// Whether a region of this kind is prefetchable memory.
+fn is_prefetchable(kind: Kind) -> bool
+    ensures { result ≡ is_prefetchable (kind_of kind) }
+{
+    match kind {
+        Kind::Io => false,
+        Kind::Mem32 { pref } | Kind::Mem64 { pref } => pref,
+    }
+}
+
+/// The base that the guest's own registers name, from the register at an index on.
+fn base_of(held: &Held, bar: u16, kind: Kind) -> u64
+    requires { bar < 6 }
+    ensures { (file : File) → HoldsOwn file held.now.own → bar + registers_of (kind_of kind) ≤ 6
+        → result ≡ base file bar (kind_of kind) }
+{
+    let at = 0x10 + 4 * bar;
+    let (low, _) = held.own.config_read(at, 0b1111);
+    match kind {
+        Kind::Io => u64::from(low) / 4 * 4,
+        Kind::Mem32 { pref: _ } => u64::from(low) / 16 * 16,
+        Kind::Mem64 { pref: _ } => {
+            let (high, _) = held.own.config_read(at + 4, 0b1111);
+            (u64::from(low) + 0x1_0000_0000 * u64::from(high)) / 16 * 16
+        }
+    }
+}
+
+/// Whether the guest's own Command opens a space.
+fn opens(held: &Held, space: Space) -> bool
+    ensures { (file : File) → HoldsOwn file held.now.own → result ≡ is_open file (named_space space) }
+{
+    let (command, _) = held.own.config_read(4, 0b0011);
+    command & u32::from(space.command_bit()) != 0
+}
+
+/// The region of a function in a slot that begins at a base address register, if one does.
+fn region_kept(held: &Held, bar: usize) -> Option<RegionNow>
+    ensures { (b : Board) (a : Apertures) (p : Path) (f : Function) → IsHeld b a p f held.now
+        → IsLawfulOwn held.now.own → option_map region_named result ≡ option_map (region_now f.file) (region_at f bar) }
+{
+    match held.placed.get(bar) {
+        Some(Some(region)) => {
+            let kind = region.decl.kind();
+            let space = kind.space();
+            Some(RegionNow {
+                space,
+                first: base_of(held, bar as u16, kind),
+                size: region.decl.size(),
+                prefetchable: is_prefetchable(kind),
+                is_open: opens(held, space),
+            })
+        }
+        Some(None) => None,
+        None => None,
+    }
+}
+
+/// The same of a slot of a guest, or the number of a refusal.
+fn region_in(guest: &Guest, slot: u64, bar: u64) -> Result<RegionNow, u16>
+    ensures { (w : WorldNow) (i : ℕ) → IsGuestNth w i guest.now
+        → result_map_both region_named (λ n. n) result ≡ region_answer (lone_nth w i) slot bar }
+{
+    if slot > 31 {
+        return Err(303);
+    }
+    let Some(held) = held_in(&guest.slots, slot as usize) else {
+        return Err(601);
+    };
+    match region_kept(held, bar as usize) {
+        Some(region) => Ok(region),
+        None => Err(303),
+    }
+}
+
+impl<R: Route> Engine<R> {
+    /// Where a region of a guest's function stands now, in the guest's own view: the region that begins at
+    /// a base address register, by its index. Or refuses: 303 for a slot above 31, else 601 for an empty
+    /// slot, else 303 for a register at which no region begins. No memory is taken.
+    pub fn region(&self, guest: usize, slot: u64, bar: u64) -> Result<RegionNow, u16>
+        requires { guest < length self.now.guests }
+        ensures { result_map_both region_named (λ n. n) result
+            ≡ region_answer (lone_of self.now.guests (name_nth self.now guest)) slot bar }
+    {
+        region_in(self.guest(guest), slot, bar)
+    }
+}
