@@ -11,6 +11,10 @@ NEEDED = {"": ["host"], "host": ["io", "mem"], "endpoint": ["at", "vendor", "dev
 OPTIONAL = {"": ["endpoint", "bridge", "guest"], "host": ["pref"],
             "endpoint": ["revision", "subvendor", "subsystem", "pin", "min_gnt", "max_lat", "status", "bar", "config"],
             "bar": ["block", "reset", "rw", "w1c"], "config": ["reset", "rw", "w1c"], "bridge": ["revision"], "guest": []}
+KEYS = {"": "host endpoint bridge guest", "host": "io mem pref",
+        "endpoint": "at vendor device revision class subvendor subsystem pin min_gnt max_lat status bar config",
+        "bar": "index kind size block reset rw w1c", "config": "off block reset rw w1c",
+        "bridge": "at vendor device revision io pref", "guest": "name slots"}
 CHOICES = {("bar", "kind"): {"io", "mem32", "mem32p", "mem64", "mem64p"}, ("bridge", "io"): {"none", "16", "32"},
            ("bridge", "pref"): {"none", "32", "64"}}
 TEXTS = {"at", "name", "reset", "rw", "w1c"}
@@ -100,6 +104,42 @@ def problem(entry, key, words, number):
     return Problem(f"{place}{shown}{owner}: {words} ({number} {WORDS[number]})", entry.table, entry.outer or key)
 
 
+FORMS = {"host": "a table, its header in brackets", "slots": "texts in brackets, each in quotes",
+         ("bar", "kind"): "one of io, mem32, mem32p, mem64, mem64p in quotes",
+         ("bridge", "io"): "one of none, 16, 32 in quotes", ("bridge", "pref"): "one of none, 32, 64 in quotes"}
+
+
+def asked(kind, key):
+    """What to write at a key."""
+    if (kind, key) in FORMS:
+        return FORMS[kind, key]
+    if kind == "host":
+        return "two integers in brackets, as [0x1000, 0xffff]"
+    if key in {"endpoint", "bridge", "guest", "bar", "config"}:
+        return "tables, each header in double brackets"
+    return FORMS.get(key) or ("a text in quotes" if key in TEXTS else "an integer, as 16 or 0x10, without quotes")
+
+
+def distance(word, other):
+    """How many letters are put in, taken out or changed."""
+    row = list(range(len(other) + 1))
+    for count, letter in enumerate(word, 1):
+        before, row = row, [count]
+        for place, wanted in enumerate(other):
+            row.append(min(row[place] + 1, before[place + 1] + 1, before[place] + (letter != wanted)))
+    return row[-1]
+
+
+def meant(kind, key):
+    """The key that may be meant, or all."""
+    keys = KEYS[kind].split()
+    for letters in [1, 2]:
+        for one in keys:
+            if 2 * letters <= len(one) and distance(key, one) <= letters:
+                return f": is {one} meant?"
+    return f", which has {', '.join(keys)}"
+
+
 def key_problems(every):
     for entry in every:
         if entry.kind == "slot":
@@ -109,14 +149,14 @@ def key_problems(every):
                 if key in NEEDED[entry.kind]:
                     yield problem(entry, key, "is missing", 102)
             elif not has_form(entry.kind, key, entry.values[key]):
-                yield problem(entry, key, "has another type, or is another word, than its key asks", 102)
+                yield problem(entry, key, f"is not what its key asks: write {asked(entry.kind, key)}", 102)
 
 
 def unknown_keys(every):
     for entry in every:
         if entry.kind != "slot":
             for key in entry.values.keys() - set(NEEDED[entry.kind] + OPTIONAL[entry.kind]):
-                yield problem(entry, key, "is no key of this table", 103)
+                yield problem(entry, key, f"is no key of its table{meant(entry.kind, key)}", 103)
 
 
 def number_problems(every):

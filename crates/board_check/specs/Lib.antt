@@ -1,5 +1,7 @@
 pub mod Rules
 pub mod Keys
+pub mod KeyCauses
+pub mod Causes
 pub mod Problems
 pub mod ProblemLaws
 pub mod Lines

@@ -9,8 +9,8 @@ use Rattle.board_file.specs.declared.rule.Rule.TheVariants as rule
 
 abbrev pub words_of : Rule → List ℕ
 words_of rule.Needed = codes "is missing"
-words_of rule.Form = codes "has another type, or is another word, than its key asks"
-words_of rule.Known = codes "is no key of this table"
+words_of rule.Form = codes "is not what its key asks"
+words_of rule.Known = codes "is no key of its table"
 words_of rule.Vendor = codes "is not from 0 to 0xfffe"
 words_of rule.Device = codes "is not from 0 to 0xffff"
 words_of rule.Revision = codes "is not from 0 to 0xff"

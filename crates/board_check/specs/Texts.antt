@@ -14,10 +14,12 @@ use Rattle.board_file.specs.Faults.{number_of}
 use Rattle.board_file.specs.Texts.{same_text}
 use Rattle.board_file.specs.declared.entry.Entry.{Entry}
 use Rattle.board_file.specs.declared.entry.Entry.TheVariants as entry
+use Rattle.board_file.specs.declared.finding.Problem.{Problem}
 use Rattle.board_check.specs.declared.lines.Told.{Told}
 use Rattle.board_file.specs.RuleFaults.{fault_of}
 use Rattle.board_check.specs.Rules.{words_of, fault_words}
 use Rattle.board_check.specs.Keys.{value_at, owner_key, owner_of}
+use Rattle.board_check.specs.Causes.{cause_text}
 
 abbrev pub nth_text : List ℕ → ℕ → List ℕ
 nth_text list i = list ++ codes "[" ++ decimal i ++ codes "]"
@@ -76,11 +78,15 @@ abbrev pub place_text : Members → Entry → List ℕ → List ℕ
 place_text ms e k =
     entry_text e ++ key_text k ++ scalar_text (value_at ms e k) ++ (if is_own_name k then [] else owner_text ms e)
 
+-- what is wrong, and why (N WORDS)
+abbrev pub said_text : Members → Problem → List ℕ
+said_text ms p = words_of p.rule ++ cause_text ms p.entry p.rule p.key.now ++ fault_text (fault_of p.rule)
+
 -- FILE:LINE: ENTRY.KEY = VALUE of OWNER: what is wrong (N WORDS)
 abbrev pub problem_text : List ℕ → Members → Told → List ℕ
 problem_text name ms t =
     name ++ line_text t.line ++ codes ": " ++ place_text ms t.problem.entry t.problem.key.now ++ codes ": "
-    ++ words_of t.problem.rule ++ fault_text (fault_of t.problem.rule)
+    ++ said_text ms t.problem
 
 -- of a fault of which no entry is told
 abbrev pub bare_text : List ℕ → Option ℕ → BoardFault → List ℕ

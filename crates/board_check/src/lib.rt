@@ -2,7 +2,9 @@
 //! their lines.
 #![tactic(auto)]
 
+mod causes;
 mod finding;
+mod key_causes;
 mod keys;
 pub mod laws;
 mod lines;

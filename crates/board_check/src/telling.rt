@@ -65,7 +65,7 @@ fn refusal(
     let mut told = with_lines(alloc, &places, &problems)?;
     sort_by_line(&mut told)?;
     let mut text = String::new(alloc);
-    push_lines(&mut text, name, document, fault, &told)?;
+    push_lines(alloc, &mut text, name, document, fault, &told)?;
     Ok(text)
 }
 

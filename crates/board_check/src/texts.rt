@@ -3,13 +3,14 @@ ghost use Rattle.std.specs.Prelude.{◌≡◌, ◌<◌, ◌++◌, ◌∷◌, [],
 ghost use Rattle.std.specs.List.{flat_map};
 ghost use Rattle.toml.specs.View.{view, table_view};
 ghost use Rattle.board_check.specs.Rules.{fault_words};
-ghost use Rattle.board_check.specs.Texts.{nth_text, inner_text, entry_text, shown_byte, key_text, line_text, fault_text, quoted_text, data_text, scalar_text, name_text, is_own_name, place_text, problem_text, bare_text, count_text, lines_text};
+ghost use Rattle.board_check.specs.Texts.{nth_text, inner_text, entry_text, shown_byte, key_text, line_text, fault_text, quoted_text, data_text, scalar_text, name_text, is_own_name, place_text, said_text, problem_text, bare_text, count_text, lines_text};
 
+use crate::causes::push_cause;
 use crate::keys::{owner_name, value_at};
 use crate::lines::Told;
 use crate::words::rule_words;
-use board_file::{BoardFault, Entry};
-use std::alloc::AllocError;
+use board_file::{BoardFault, Entry, Problem};
+use std::alloc::{AllocError, Global};
 use toml::Table;
 use toml::value::Value;
 
@@ -205,8 +206,24 @@ fn push_place(
     push_name(text, owner_name(document, entry))
 }
 
+/// Appends what is wrong and why, with the number and the words of the fault, and ends the line.
+fn push_said(
+    alloc: Global,
+    text: &mut String,
+    document: &Table,
+    problem: &Problem<'_>,
+) -> Result<(), AllocError>
+    ensures { OnOk result (string_bytes text.new
+        ≡ string_bytes text.old ++ said_text (table_view document.now) problem.now) }
+{
+    text.push_str(rule_words(problem.rule))?;
+    push_cause(alloc, text, document, problem)?;
+    push_fault(text, problem.rule.fault())
+}
+
 /// Appends the line of a problem.
 fn push_problem(
+    alloc: Global,
     text: &mut String,
     name: &str,
     document: &Table,
@@ -220,12 +237,12 @@ fn push_problem(
     text.push_str(": ")?;
     push_place(text, document, told.problem.entry, told.problem.key)?;
     text.push_str(": ")?;
-    text.push_str(rule_words(told.problem.rule))?;
-    push_fault(text, told.problem.rule.fault())
+    push_said(alloc, text, document, &told.problem)
 }
 
 /// Appends the lines of problems.
 fn push_problems(
+    alloc: Global,
     text: &mut String,
     name: &str,
     document: &Table,
@@ -235,7 +252,7 @@ fn push_problems(
         ≡ string_bytes text.old ++ flat_map (problem_text name.now (table_view document.now)) told.now) }
 {
     for one in told {
-        push_problem(text, name, document, one)?;
+        push_problem(alloc, text, name, document, one)?;
     }
     Ok(())
 }
@@ -265,6 +282,7 @@ fn push_count(text: &mut String, count: usize) -> Result<(), AllocError>
 
 /// Appends the lines of a fault.
 pub(crate) fn push_lines(
+    alloc: Global,
     text: &mut String,
     name: &str,
     document: &Table,
@@ -277,6 +295,6 @@ pub(crate) fn push_lines(
     if told.is_empty() {
         return push_bare(text, name, None, fault);
     }
-    push_problems(text, name, document, told)?;
+    push_problems(alloc, text, name, document, told)?;
     push_count(text, told.len())
 }

@@ -10,8 +10,8 @@ pub(crate) fn rule_words(rule: Rule) -> &'static str
 {
     match rule {
         Rule::Needed => "is missing",
-        Rule::Form => "has another type, or is another word, than its key asks",
-        Rule::Known => "is no key of this table",
+        Rule::Form => "is not what its key asks",
+        Rule::Known => "is no key of its table",
         Rule::Vendor => "is not from 0 to 0xfffe",
         Rule::Device | Rule::Subvendor | Rule::Subsystem => "is not from 0 to 0xffff",
         Rule::Revision | Rule::MinGnt | Rule::MaxLat => "is not from 0 to 0xff",

@@ -35,7 +35,7 @@ def check(board: Union[str, bytes]) -> Check:
     >>> told.refusal.number, told.refusal.words
     (102, 'key')
     >>> print(told.text.splitlines()[0])
-    board.toml:3: host.mem = 7: has another type, or is another word, than its key asks (102 key)
+    board.toml:3: host.mem = 7: is not what its key asks: write two integers in brackets, as [0x1000, 0xffff] (102 key)
     """
     text = as_bytes(board)
     call: Callable[..., int] = CALLS["check"]
