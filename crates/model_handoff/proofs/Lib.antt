@@ -1,0 +1,4 @@
+pub mod Functions
+pub mod Agreement
+pub mod Keeping
+pub mod First

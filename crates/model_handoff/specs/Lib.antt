@@ -1,0 +1,2 @@
+pub mod Handoffs
+pub mod AgreementLaws
