@@ -1,2 +1,6 @@
 pub mod Handoffs
 pub mod AgreementLaws
+pub mod Regions
+pub mod RegionLaws
+pub mod WorldOver
+pub mod IsolationLaws

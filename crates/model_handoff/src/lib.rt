@@ -2,6 +2,7 @@
 #![tactic(auto)]
 
 ghost use Rattle.model_handoff.specs.AgreementLaws.{FirstIsHandoff, FirstIsReset, KeepsAddresses, KeepsBoard, KeepsProblems, KeepsReach, KeepsRouting, StateAgrees, StateIsOnly, StaysInOrder};
+ghost use Rattle.model_handoff.specs.IsolationLaws.{GuestsAlike, IsolatedOver, RepliesAlike, TwoHandoffs};
 
 /// Just one state of the board agrees with the guests over a handoff; before any event it is the handoff with each
 /// given function at reset.
@@ -21,4 +22,12 @@ pub fn handoff_stays()
     ensures addresses { KeepsAddresses }
     ensures problems { KeepsProblems }
     ensures order { StaysInOrder }
+{}
+
+/// No guest can tell a handoff from another, or from what set-up leaves.
+pub fn isolated_over_handoffs()
+    ensures guests { GuestsAlike }
+    ensures replies { RepliesAlike }
+    ensures isolated { IsolatedOver }
+    ensures two { TwoHandoffs }
 {}
