@@ -96,7 +96,7 @@ module _ (g : BoardFunction → BoardFunction) (paths : (f : BoardFunction) → 
           ap (λ v. cond v (Some (g f)) (find t (map g fs))) there ∙ more ∙ ap (λ v. cond v (Some f) (find t fs)) (sym here)
 
   -- a search that looks at paths
-  find_path : (t u : BoardFunction → Bool) → ((f : BoardFunction) → t (g f) ≡ u f) → (fs : List BoardFunction) → find t (map g fs) ≡ option_map g (find u fs)
+  pub find_path : (t u : BoardFunction → Bool) → ((f : BoardFunction) → t (g f) ≡ u f) → (fs : List BoardFunction) → find t (map g fs) ≡ option_map g (find u fs)
   find_path t u same [] = refl
   find_path t u same (f ∷ fs) = ap₂ (λ (v : Bool) (o : Option BoardFunction). cond v (Some (g f)) o) (same f) (find_path t u same fs) ∙ by (u f)
     where

@@ -3,3 +3,8 @@ pub mod Agreement
 pub mod Keeping
 pub mod First
 pub mod Worlds
+pub mod Standing
+pub mod Regions
+pub mod Changes
+pub mod Accesses
+pub mod Served

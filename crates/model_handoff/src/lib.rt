@@ -3,6 +3,7 @@
 
 ghost use Rattle.model_handoff.specs.AgreementLaws.{FirstIsHandoff, FirstIsReset, KeepsAddresses, KeepsBoard, KeepsProblems, KeepsReach, KeepsRouting, StateAgrees, StateIsOnly, StaysInOrder};
 ghost use Rattle.model_handoff.specs.IsolationLaws.{GuestsAlike, IsolatedOver, RepliesAlike, TwoHandoffs};
+ghost use Rattle.model_handoff.specs.RegionLaws.{CycleReads, CycleWrites, FaultDecides, HitReachesOver, MemoryBySpace, PortsBySpace, RegionIsClaimed, RegionReads, RegionWrites, ServedAfterEvents, ServedAfterMoves, ServedAtFirst};
 
 /// Just one state of the board agrees with the guests over a handoff; before any event it is the handoff with each
 /// given function at reset.
@@ -30,4 +31,29 @@ pub fn isolated_over_handoffs()
     ensures replies { RepliesAlike }
     ensures isolated { IsolatedOver }
     ensures two { TwoHandoffs }
+{}
+
+/// A byte of an open region is claimed where an orderly handoff has it, by that region alone; a guest's hit stands for
+/// such a byte.
+pub fn regions_are_reached()
+    ensures claimed { RegionIsClaimed }
+    ensures hits { HitReachesOver }
+{}
+
+/// At the place that a handoff gives a guest's function, the board reads and changes what the guest's file holds.
+pub fn accesses_reach_files()
+    ensures reads { RegionReads }
+    ensures writes { RegionWrites }
+    ensures memory { MemoryBySpace }
+    ensures ports { PortsBySpace }
+    ensures cycle_reads { CycleReads }
+    ensures cycle_writes { CycleWrites }
+{}
+
+/// Where an audit passes and no region of a given function is closed, all of them stay open to whoever has them.
+pub fn given_are_served()
+    ensures first { ServedAtFirst }
+    ensures events { ServedAfterEvents }
+    ensures moves { ServedAfterMoves }
+    ensures faults { FaultDecides }
 {}
