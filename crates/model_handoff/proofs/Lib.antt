@@ -8,3 +8,5 @@ pub mod Regions
 pub mod Changes
 pub mod Accesses
 pub mod Served
+pub mod Events
+pub mod SetUpCase

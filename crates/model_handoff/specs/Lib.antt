@@ -4,3 +4,5 @@ pub mod Regions
 pub mod RegionLaws
 pub mod WorldOver
 pub mod IsolationLaws
+pub mod ChangeLaws
+pub mod SetUpCase

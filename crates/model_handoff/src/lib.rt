@@ -4,6 +4,8 @@
 ghost use Rattle.model_handoff.specs.AgreementLaws.{FirstIsHandoff, FirstIsReset, KeepsAddresses, KeepsBoard, KeepsProblems, KeepsReach, KeepsRouting, StateAgrees, StateIsOnly, StaysInOrder};
 ghost use Rattle.model_handoff.specs.IsolationLaws.{GuestsAlike, IsolatedOver, RepliesAlike, TwoHandoffs};
 ghost use Rattle.model_handoff.specs.RegionLaws.{CycleReads, CycleWrites, FaultDecides, HitReachesOver, MemoryBySpace, PortsBySpace, RegionIsClaimed, RegionReads, RegionWrites, ServedAfterEvents, ServedAfterMoves, ServedAtFirst};
+ghost use Rattle.model_handoff.specs.ChangeLaws.{ChangesOver, EventReachesOver, LatchOver, MoveResetsOver};
+ghost use Rattle.model_handoff.specs.SetUpCase.{SameLine, SameOutput, SameState, SetUpAddresses, SetUpCanBeGiven, SetUpIsHandoff, SetUpIsInOrder, SetUpPlaces};
 
 /// Just one state of the board agrees with the guests over a handoff; before any event it is the handoff with each
 /// given function at reset.
@@ -56,4 +58,26 @@ pub fn given_are_served()
     ensures events { ServedAfterEvents }
     ensures moves { ServedAfterMoves }
     ensures faults { FaultDecides }
+{}
+
+/// When a guest changes a function, the board over a handoff changes there alone, by the bytes of which the guest has no
+/// copy.
+pub fn changes_reach_board()
+    ensures function { ChangesOver }
+    ensures latch { LatchOver }
+    ensures moves { MoveResetsOver }
+    ensures events { EventReachesOver }
+{}
+
+/// What set-up leaves is a handoff in order, without a closed region; guests over it are the guests of a board that is
+/// set up.
+pub fn set_up_is_a_case()
+    ensures handoff { SetUpIsHandoff }
+    ensures order { SetUpIsInOrder }
+    ensures given { SetUpCanBeGiven }
+    ensures places { SetUpPlaces }
+    ensures addresses { SetUpAddresses }
+    ensures state { SameState }
+    ensures line { SameLine }
+    ensures output { SameOutput }
 {}
