@@ -1,0 +1,147 @@
+-- Reads and writes of the board over a handoff, where a guest has a function.
+use Rattle.std.proofs.Common.{◌≡◌, ℕ, ◌+◌, Bool, true, false, ◌&&◌, not, cond, List, [], ◌∷◌, inl, inr, Some, None, Option, refl, sym, ap, ap₂, ◌∙◌, subst, eqb}
+use Rattle.std.specs.Prelude.{map, find, option_map, IsTrue}
+use Rattle.std.specs.Option.{option_map_or}
+use Rattle.lists.specs.Elements.{Each, IsIn}
+use Rattle.lists.proofs.Members.{each_in}
+use Rattle.model_registers.specs.Registers.{Place, config, block, File, read, write, all_bytes, number}
+use Rattle.model_registers.specs.ByteEnables.{enabled_bits}
+use Rattle.model_registers.specs.Declarations.{Region, Endpoint}
+use Rattle.model_registers.specs.Decoding.{Space, space_of, Function}
+use Rattle.model_registers.specs.OwnCopies.{handed_on}
+use Rattle.model_registers.specs.CopiedFiles.{agreed_file, places_of}
+use Rattle.model_board.specs.Paths.{Path, path_eq}
+use Rattle.model_board.specs.Board.{endpoint, Board}
+use Rattle.model_board.specs.AtReset.{board_at}
+use Rattle.model_board.specs.Claims.{Claim}
+use Rattle.model_board.specs.Cycles.{BusAddress, ends_in, is_route, reached, reached_type0, reached_type1}
+use Rattle.model_board.specs.Ports.{file_at, claim_reply, after_claim_write, PortTarget, target_reply, after_target_write}
+use Rattle.model_board.specs.State.{BoardFunction, State, with_file, row_at}
+use Rattle.model_board.proofs.PathOrder.{path_same}
+use Rattle.model_audit.specs.Found.{address_now, IsNumbered, path_reached}
+use Rattle.model_audit.specs.Orderly.{IsStateOfBoard}
+use Rattle.model_audit.proofs.Found.{found_in}
+use Rattle.model_guests.specs.Guests.{GuestsNow, file_of}
+use Rattle.model_guests.specs.AgreedBoard.{agreed_function}
+use Rattle.model_guests.specs.ChangeLaws.{ChangesAlike}
+use Rattle.model_guests.specs.Seated.{AreSeated, IsSeatedAt}
+use Rattle.model_guests.specs.Text.{Text}
+use Rattle.model_guests.proofs.AgreedChanges.{agreed_by}
+use Rattle.model_guests.proofs.AgreedFiles.{writes_alike}
+use Rattle.model_guests.proofs.KeptCopies.{file_of_seat}
+use Rattle.model_guests.proofs.KeptNumbers.{shows_file}
+use Rattle.model_guests.proofs.RegionReach.{declared_row}
+use Rattle.model_handoff.specs.Handoffs.{state_over, IsHandoff, HasDeclaredPlaces}
+use Rattle.model_handoff.specs.RegionLaws.{RegionReads, RegionWrites, MemoryBySpace, PortsBySpace, CycleReads, CycleWrites, HasSlot, claim_in_region}
+use Rattle.model_handoff.proofs.Functions.{Facts, facts, path_stays}
+use Rattle.model_handoff.proofs.Agreement.{HasPlaces, places_in}
+use Rattle.model_handoff.proofs.Keeping.{find_path, keeps_reach}
+use Rattle.model_handoff.proofs.Standing.{at_path, endpoint_at, StandsAt, found, stands}
+use Rattle.model_handoff.proofs.Regions.{region_is_claimed, seat_of}
+use Rattle.model_handoff.proofs.Changes.{changes_slot}
+
+-- in a region there are no copies
+all_handed : (n a : ℕ) (ons : List Bool) → handed_on (block n a) ons ≡ ons
+all_handed n a [] = refl
+all_handed n a (on ∷ ons) = ap₂ (λ (x : Bool) (xs : List Bool). x ∷ xs) (and_true on) (all_handed n (a + 1) ons)
+  where
+    and_true : (t : Bool) → (t && not false) ≡ t
+    and_true true = refl
+    and_true false = refl
+
+region_alike : (w v n a : ℕ) → ChangesAlike (write (all_bytes w) v (block n a)) (write (all_bytes w) v (block n a))
+region_alike w v n a = subst (λ ons. ChangesAlike (write (all_bytes w) v (block n a)) (write ons v (block n a))) (all_handed n a (all_bytes w)) (writes_alike (all_bytes w) v (block n a))
+
+-- ---- a slot's function on the board
+
+module _ (s : State) (state : IsStateOfBoard s.functions) (gs : GuestsNow) (seated : AreSeated (board_at s.functions) gs) (name : Text) (n : ℕ) (p : Path) (f : Function) (has : HasSlot gs name n p f) where
+  abbrev b : Board
+  b = board_at s.functions
+
+  seat : IsSeatedAt b p f
+  seat = seat_of b gs seated name n p f has
+
+  row : IsIn (record { path = p; decl = endpoint f.decl }) b
+  row = declared_row b p f.decl seat.decl
+
+  abbrev left : File
+  left = file_at s.functions p
+
+  there : StandsAt s.functions p f.decl
+  there = stands s.functions state p f.decl row
+
+  own_file_is : file_of gs p ≡ Some f.file
+  own_file_is = file_of_seat b gs seated name n p f has.path has.function
+
+  now_is : agreed_function (file_of gs) (endpoint_at p f.decl left) ≡ endpoint_at p f.decl (agreed_file left f.file)
+  now_is = ap (λ (o : Option File). agreed_by o (endpoint_at p f.decl left)) own_file_is
+
+  found_now : find (at_path p) (state_over s gs).functions ≡ Some (endpoint_at p f.decl (agreed_file left f.file))
+  found_now =
+      find_path (agreed_function (file_of gs)) (λ g. path_stays (file_of gs g.path) g) (λ g. Rattle.model_handoff.proofs.Functions.decl_stays (file_of gs g.path) g)
+      (at_path p) (at_path p) (λ g. ap (λ (q : Path). path_eq q p) (path_stays (file_of gs g.path) g)) s.functions
+      ∙ ap (option_map (agreed_function (file_of gs))) there.found_is ∙ ap Some now_is
+
+  same_places : Each HasDeclaredPlaces s.functions → places_of f.file ≡ places_of left
+  same_places places =
+      (places_in b gs seated.guests (endpoint_at p f.decl left) (each_in (Facts b) (endpoint_at p f.decl left) s.functions (facts s.functions state) there.among)
+      (each_in HasDeclaredPlaces (endpoint_at p f.decl left) s.functions places there.among) f.file own_file_is).same
+
+  pub block_shown : Each HasDeclaredPlaces s.functions → (k a w : ℕ) → claim_reply (state_over s gs).functions w (Some (record { path = p; index = k; offset = a })) ≡ number f.file (block k a) w
+  block_shown places k a w =
+      let ons : List Bool = all_bytes w in
+      ap (λ (o : Option BoardFunction). number (option_map_or (λ (g : BoardFunction). g.file) o []) (block k a) w) found_now
+      ∙ ap (read (agreed_file left f.file) (block k a)) (sym (all_handed k a ons)) ∙ shows_file left f.file (same_places places) (block k a) ons
+      ∙ ap (read f.file (block k a)) (all_handed k a ons)
+
+  -- the cycle for its address
+  reached_is : IsNumbered s.functions → reached (state_over s gs).functions (address_now s.functions p) ≡ Some (endpoint_at p f.decl (agreed_file left f.file))
+  reached_is numbered =
+      keeps_reach s state gs seated (address_now s.functions p) ∙ ap (option_map (agreed_function (file_of gs))) handed ∙ ap Some now_is
+    where
+      among : (o : Option BoardFunction) → reached s.functions (address_now s.functions p) ≡ o → option_map (λ (g : BoardFunction). g.path) o ≡ Some p → reached s.functions (address_now s.functions p) ≡ Some (endpoint_at p f.decl left)
+      among None e h = cc
+      among (Some g) e h =
+          let path : g.path ≡ p = cc in
+          let member : IsIn g s.functions = by (eqb (address_now s.functions p).bus 0) e in
+          let other : find (at_path p) s.functions ≡ Some g = subst (λ (x : Path). find (at_path x) s.functions ≡ Some g) path (found s.functions state g member) in
+          e ∙ sym other ∙ there.found_is
+        where
+          by : (t : Bool) → cond t (reached_type0 s.functions (address_now s.functions p).part) (reached_type1 s.functions (address_now s.functions p).bus (address_now s.functions p).part) ≡ Some g → IsIn g s.functions
+          by true i = (found_in (λ (h : BoardFunction). path_eq h.path ((address_now s.functions p).part ∷ [])) s.functions g i).0
+          by false i = (found_in (λ (h : BoardFunction). ends_in h.path (address_now s.functions p).part && is_route s.functions (address_now s.functions p).bus [] h.path) s.functions g i).0
+
+      handed : reached s.functions (address_now s.functions p) ≡ Some (endpoint_at p f.decl left)
+      handed =
+          among (reached s.functions (address_now s.functions p)) refl
+          (each_in (λ (g : BoardFunction). path_reached s.functions g.path ≡ Some g.path) (endpoint_at p f.decl left) s.functions numbered.each there.among)
+
+pub region_reads : RegionReads
+region_reads s handoff orderly gs seated name n p f has r declared opened k small w =
+    let claimed = region_is_claimed s handoff.board orderly gs seated p f.decl (row s handoff.board gs seated name n p f has) r declared opened k small in
+    ap (claim_reply (state_over s gs).functions w) claimed.first ∙ block_shown s handoff.board gs seated name n p f has handoff.places r.index k w
+
+pub region_writes : RegionWrites
+region_writes s state orderly gs seated name n p f has r declared opened k small w v =
+    let claimed = region_is_claimed s state orderly gs seated p f.decl (row s state gs seated name n p f has) r declared opened k small in
+    ap (λ (o : Option Claim). record (state_over s gs) { functions = after_claim_write (state_over s gs).functions w v o }) claimed.first
+    ∙ sym (changes_slot (board_at s.functions) s gs seated name n p f has.path has.function (write (all_bytes w) v (block r.index k)) (write (all_bytes w) v (block r.index k)) (region_alike w v r.index k))
+
+pub memory_by_space : MemoryBySpace
+memory_by_space s a w v = (refl, refl)
+
+pub ports_by_space : PortsBySpace
+ports_by_space s a w v h = (ap (target_reply s a w) h, ap (after_target_write s a w v) h)
+
+pub cycle_reads : CycleReads
+cycle_reads s handoff numbered gs seated name n p f has off ons =
+    ap (λ (o : Option BoardFunction). option_map_or (λ (g : BoardFunction). read g.file (config off) (handed_on (config off) ons)) o (enabled_bits (handed_on (config off) ons)))
+    (reached_is s handoff.board gs seated name n p f has numbered)
+    ∙ shows_file (left s handoff.board gs seated name n p f has) f.file (same_places s handoff.board gs seated name n p f has handoff.places) (config off) ons
+
+pub cycle_writes : CycleWrites
+cycle_writes s state numbered gs seated name n p f has off ons v =
+    ap (λ (o : Option BoardFunction). option_map_or (λ (g : BoardFunction). with_file (write (handed_on (config off) ons) v (config off)) g.path (state_over s gs).functions) o (state_over s gs).functions)
+    (reached_is s state gs seated name n p f has numbered)
+    ∙ ap (λ (x : State). x.functions)
+    (sym (changes_slot (board_at s.functions) s gs seated name n p f has.path has.function (write ons v (config off)) (write (handed_on (config off) ons) v (config off)) (writes_alike ons v (config off))))

@@ -1,0 +1,78 @@
+-- There is one state that agrees with seated guests over a handoff.
+use Rattle.std.proofs.Common.{◌≡◌, true, false, List, [], ◌∷◌, Some, None, Option, refl, sym, ap, ap₂, ◌∙◌, subst}
+use Rattle.std.specs.Prelude.{map}
+use Rattle.lists.specs.Elements.{Each, EachPair}
+use Rattle.model_registers.specs.Registers.{Place, place_eq, File}
+use Rattle.model_registers.specs.Declarations.{Endpoint}
+use Rattle.model_registers.specs.EndpointTable.{endpoint_reset}
+use Rattle.model_registers.specs.CopiedFiles.{agreed_file, places_of}
+use Rattle.model_board.specs.Board.{Decl, endpoint, bridge, Board}
+use Rattle.model_board.specs.AtReset.{board_at}
+use Rattle.model_board.specs.Lawful.{IsLawfulDecl}
+use Rattle.model_board.specs.State.{BoardFunction, row_at}
+use Rattle.model_guests.specs.World.{declared, endpoint_of}
+use Rattle.model_guests.specs.Guests.{GuestsNow, file_of}
+use Rattle.model_guests.specs.AgreedBoard.{agreed_function}
+use Rattle.model_guests.specs.AgreedLaws.{AgreesAt, AgreesAtEach}
+use Rattle.model_guests.specs.Seated.{IsSeatedGuest}
+use Rattle.model_guests.proofs.AgreedChanges.{agreed_by}
+use Rattle.model_guests.proofs.AgreedFiles.{agreed_holds, only_file}
+use Rattle.model_guests.proofs.DistinctPlaces.{Apart, HasDistinctPlaces, distinct_places}
+use Rattle.model_guests.proofs.SlotPlaces.{IsFileOf}
+use Rattle.model_handoff.specs.Handoffs.{state_over, HasPlacesOf, HasDeclaredPlaces, IsHandoff}
+use Rattle.model_handoff.specs.AgreementLaws.{StateAgrees, StateIsOnly}
+use Rattle.model_handoff.proofs.Functions.{Facts, facts, file_is}
+
+-- a file with the places of the declaration at a path
+pub record HasPlaces (left own : File) : Type 0 where
+  pub same : places_of own ≡ places_of left
+  pub distinct : HasDistinctPlaces left
+
+pub distinct_left : (d : Endpoint) → IsLawfulDecl (endpoint d) → (left : File) → places_of left ≡ places_of (endpoint_reset d false) → HasDistinctPlaces left
+distinct_left d lawful left same = subst (λ (ps : List Place). EachPair Apart ps) (sym same) (distinct_places d lawful false 0 (λ r. 0))
+
+has_places : (b : Board) (f : BoardFunction) (d : Decl) → f.decl ≡ d → declared b f.path ≡ endpoint_of (record { path = f.path; decl = d }) → IsLawfulDecl d → HasPlacesOf d f.file
+    → (own : File) → IsFileOf places_of b f.path own → HasPlaces f.file own
+has_places b f (endpoint d) e found lawful places own is =
+    let same : is.decl ≡ d = cc (is.declares, found) in
+    record {
+      same = is.same ∙ ap (λ (x : Endpoint). places_of (endpoint_reset x false)) same ∙ sym places;
+      distinct = distinct_left d lawful f.file places;
+    }
+has_places b f (bridge d) e found lawful places own is = cc (is.declares, found)
+
+module _ (b : Board) (gs : GuestsNow) (all : Each (IsSeatedGuest b) gs) where
+  pub places_in : (f : BoardFunction) → Facts b f → HasDeclaredPlaces f → (own : File) → file_of gs f.path ≡ Some own → HasPlaces f.file own
+  places_in f facts places own e = has_places b f f.decl refl facts.found facts.lawful places own (file_is b gs all f own e)
+
+  function_agrees : (f : BoardFunction) → Facts b f → HasDeclaredPlaces f → (own : Option File) → file_of gs f.path ≡ own → AgreesAt f own (agreed_by own f)
+  function_agrees f facts places None e = record { path = refl; decl = refl; cells = refl }
+  function_agrees f facts places (Some file) e =
+      record { path = refl; decl = refl; cells = agreed_holds f.file file (places_in f facts places file e).same }
+
+  functions_agree : (fs : List BoardFunction) → Each (Facts b) fs → Each HasDeclaredPlaces fs → AgreesAtEach (file_of gs) fs (map (agreed_function (file_of gs)) fs)
+  functions_agree [] facts places = tt
+  functions_agree (f ∷ fs) facts places = (function_agrees f facts.0 places.0 (file_of gs f.path) refl, functions_agree fs facts.1 places.1)
+
+  function_is_only : (f : BoardFunction) → Facts b f → HasDeclaredPlaces f → (own : Option File) → file_of gs f.path ≡ own → (now : BoardFunction) → AgreesAt f own now → now ≡ agreed_by own f
+  function_is_only f facts places None e now agrees = λ i. record { path = agrees.path i; decl = agrees.decl i; file = agrees.cells i }
+  function_is_only f facts places (Some file) e now agrees =
+      let same : now.file ≡ agreed_file f.file file = only_file f.file file now.file (places_in f facts places file e).distinct agrees.cells in
+      λ i. record { path = agrees.path i; decl = agrees.decl i; file = same i }
+
+  functions_are_only : (fs : List BoardFunction) → Each (Facts b) fs → Each HasDeclaredPlaces fs → (ns : List BoardFunction) → AgreesAtEach (file_of gs) fs ns → ns ≡ map (agreed_function (file_of gs)) fs
+  functions_are_only [] facts places [] agrees = refl
+  functions_are_only [] facts places (n ∷ ns) agrees = absurd agrees
+  functions_are_only (f ∷ fs) facts places [] agrees = absurd agrees
+  functions_are_only (f ∷ fs) facts places (n ∷ ns) agrees =
+      ap₂ (λ (x : BoardFunction) (xs : List BoardFunction). x ∷ xs) (function_is_only f facts.0 places.0 (file_of gs f.path) refl n agrees.0) (functions_are_only fs facts.1 places.1 ns agrees.1)
+
+pub state_agrees : StateAgrees
+state_agrees s handoff gs seated =
+    record { functions = functions_agree (board_at s.functions) gs seated.guests s.functions (facts s.functions handoff.board) handoff.places; latch = refl }
+
+pub state_is_only : StateIsOnly
+state_is_only s handoff gs seated now agrees =
+    let functions : now.functions ≡ (state_over s gs).functions =
+    functions_are_only (board_at s.functions) gs seated.guests s.functions (facts s.functions handoff.board) handoff.places now.functions agrees.functions in
+    λ i. record { functions = functions i; latch = agrees.latch i }

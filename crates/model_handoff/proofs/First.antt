@@ -1,0 +1,116 @@
+-- Before any event each given function is at reset.
+use Rattle.std.proofs.Common.{◌≡◌, ℕ, zero, suc, Bool, true, false, ◌||◌, cond, ◌-◌, List, [], ◌∷◌, ◌++◌, length, Some, None, Option, refl, sym, ap, ap₂, ◌∙◌, subst}
+use Rattle.std.specs.Prelude.{map, flat_map, replicate, option_map, IsTrue}
+use Rattle.std.specs.List.{list_any}
+use Rattle.lists.specs.Elements.{Each, first_of_two}
+use Rattle.model_registers.specs.Registers.{File}
+use Rattle.model_registers.specs.Declarations.{Endpoint}
+use Rattle.model_registers.specs.Decoding.{Function}
+use Rattle.model_registers.specs.CopiedFiles.{agreed_file}
+use Rattle.model_board.specs.Paths.{Path, path_eq}
+use Rattle.model_board.specs.Board.{Decl, endpoint, bridge, Board}
+use Rattle.model_board.specs.AtReset.{board_at}
+use Rattle.model_board.specs.Lawful.{IsLawfulDecl}
+use Rattle.model_board.specs.State.{BoardFunction, State}
+use Rattle.model_board.proofs.PathOrder.{path_same}
+use Rattle.model_guests.specs.Slots.{reset_function}
+use Rattle.model_guests.specs.World.{Guest, World, declared, endpoint_of, given_paths}
+use Rattle.model_guests.specs.Guests.{file_in, file_of, guest_at_first, guests_at_first}
+use Rattle.model_guests.specs.AgreedBoard.{agreed_function}
+use Rattle.model_guests.proofs.AgreedChanges.{agreed_by}
+use Rattle.model_guests.proofs.AgreedFiles.{only_file}
+use Rattle.model_guests.proofs.Changes.{files_same}
+use Rattle.model_handoff.specs.Handoffs.{HasPlacesOf, HasDeclaredPlaces, is_given, file_at_reset, reset_files, HoldsReset}
+use Rattle.model_handoff.specs.AgreementLaws.{FirstIsReset, FirstIsHandoff}
+use Rattle.model_handoff.proofs.Functions.{Facts, facts}
+use Rattle.model_handoff.proofs.Agreement.{distinct_left}
+
+any_append : {A : Type 0} (t : A → Bool) (xs ys : List A) → list_any t (xs ++ ys) ≡ (list_any t xs || list_any t ys)
+any_append t [] ys = refl
+any_append t (x ∷ xs) ys = by (t x) (any_append t xs ys)
+  where
+    by : (v : Bool) → list_any t (xs ++ ys) ≡ (list_any t xs || list_any t ys) → (v || list_any t (xs ++ ys)) ≡ ((v || list_any t xs) || list_any t ys)
+    by true more = refl
+    by false more = more
+
+module _ (w : World) (p : Path) where
+  abbrev reset_here : Option File
+  reset_here = option_map file_at_reset (declared w.board p)
+
+  abbrev among : List Path → Bool
+  among qs = list_any (λ q. path_eq q p) qs
+
+  none : (k j : ℕ) → file_in (replicate k None) (map reset_function (replicate j None)) p ≡ None
+  none zero j = refl
+  none (suc k) zero = refl
+  none (suc k) (suc j) = none k j
+
+  one_file : (q : Path) → q ≡ p → option_map (λ (f : Function). f.file) (reset_function (declared w.board q)) ≡ reset_here
+  one_file q e = ap (λ (x : Path). option_map (λ (f : Function). f.file) (reset_function (declared w.board x))) e ∙ by (declared w.board p)
+    where
+      by : (o : Option Endpoint) → option_map (λ (f : Function). f.file) (reset_function o) ≡ option_map file_at_reset o
+      by None = refl
+      by (Some d) = refl
+
+  in_slots : (qs : List Path) (k j : ℕ) → file_in (map Some qs ++ replicate k None) (map reset_function (map (declared w.board) qs ++ replicate j None)) p ≡ cond (among qs) reset_here None
+  in_slots [] k j = none k j
+  in_slots (q ∷ qs) k j = by (path_eq q p) refl (in_slots qs k j)
+    where
+      by : (t : Bool) → path_eq q p ≡ t → file_in (map Some qs ++ replicate k None) (map reset_function (map (declared w.board) qs ++ replicate j None)) p ≡ cond (among qs) reset_here None
+          → cond t (option_map (λ (f : Function). f.file) (reset_function (declared w.board q))) (file_in (map Some qs ++ replicate k None) (map reset_function (map (declared w.board) qs ++ replicate j None)) p)
+          ≡ cond (t || among qs) reset_here None
+      by true e more = one_file q (path_same q p e)
+      by false e more = more
+
+  joined : (u v : Bool) (o : Option File) → first_of_two (cond u o None) (cond v o None) ≡ cond (u || v) o None
+  joined true true None = refl
+  joined true true (Some f) = refl
+  joined true false None = refl
+  joined true false (Some f) = refl
+  joined false true None = refl
+  joined false true (Some f) = refl
+  joined false false None = refl
+  joined false false (Some f) = refl
+
+  in_guests : (gs : List Guest) → file_of (map (guest_at_first w) gs) p ≡ cond (among (flat_map (λ (g : Guest). g.slots) gs)) reset_here None
+  in_guests [] = refl
+  in_guests (g ∷ gs) =
+      ap₂ first_of_two (in_slots g.slots (32 - length g.slots) (32 - length (map (declared w.board) g.slots))) (in_guests gs)
+      ∙ joined (among g.slots) (among (flat_map (λ (h : Guest). h.slots) gs)) reset_here
+      ∙ ap (λ t. cond t reset_here None) (sym (any_append (λ q. path_eq q p) g.slots (flat_map (λ (h : Guest). h.slots) gs)))
+
+pub first_is_reset : FirstIsReset
+first_is_reset w s =
+    ap (λ (fs : List BoardFunction). record s { functions = fs }) (files_same (reset_files w) (file_of (guests_at_first w)) (λ p. in_guests w p w.guests) s.functions)
+
+-- ---- where they are at reset
+
+module _ (w : World) (b : Board) (same : b ≡ w.board) where
+  one_stays : (f : BoardFunction) (d : Decl) → f.decl ≡ d → declared b f.path ≡ endpoint_of (record { path = f.path; decl = d }) → IsLawfulDecl d → HasPlacesOf d f.file
+      → (IsTrue (is_given w f.path) → HoldsReset d f.file) → agreed_function (reset_files w) f ≡ f
+  one_stays f d e found lawful places reset = by (is_given w f.path) refl
+    where
+      of_decl : (d : Decl) → declared b f.path ≡ endpoint_of (record { path = f.path; decl = d }) → IsLawfulDecl d → HasPlacesOf d f.file → HoldsReset d f.file
+          → agreed_by (option_map file_at_reset (declared w.board f.path)) f ≡ f
+      of_decl (bridge d) found lawful places holds =
+          let none : declared w.board f.path ≡ None = ap (λ (x : Board). declared x f.path) (sym same) ∙ found in
+          ap (λ (o : Option Endpoint). agreed_by (option_map file_at_reset o) f) none
+      of_decl (endpoint d) found lawful places holds =
+          let here : declared w.board f.path ≡ Some d = ap (λ (x : Board). declared x f.path) (sym same) ∙ found in
+          let file : f.file ≡ agreed_file f.file (file_at_reset d) =
+          only_file f.file (file_at_reset d) f.file (distinct_left d lawful f.file places) (record { places = refl; kept = λ p h. refl; common = holds }) in
+          ap (λ (o : Option Endpoint). agreed_by (option_map file_at_reset o) f) here ∙ ap (λ (x : File). record f { file = x }) (sym file)
+
+      by : (t : Bool) → is_given w f.path ≡ t → agreed_by (cond t (option_map file_at_reset (declared w.board f.path)) None) f ≡ f
+      by false g = refl
+      by true g = of_decl d found lawful places (reset g)
+
+  all_stay : (fs : List BoardFunction) → Each (Facts b) fs → Each HasDeclaredPlaces fs → Each (λ f. IsTrue (is_given w f.path) → HoldsReset f.decl f.file) fs → map (agreed_function (reset_files w)) fs ≡ fs
+  all_stay [] facts places reset = refl
+  all_stay (f ∷ fs) facts places reset =
+      ap₂ (λ (x : BoardFunction) (xs : List BoardFunction). x ∷ xs) (one_stays f f.decl refl facts.0.found facts.0.lawful places.0 reset.0) (all_stay fs facts.1 places.1 reset.1)
+
+pub first_is_handoff : FirstIsHandoff
+first_is_handoff w s handoff same reset =
+    first_is_reset w s
+    ∙ ap (λ (fs : List BoardFunction). record s { functions = fs }) (all_stay w (board_at s.functions) same s.functions (facts s.functions handoff.board) handoff.places reset)

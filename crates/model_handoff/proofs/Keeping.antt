@@ -1,0 +1,198 @@
+-- What guests can't change of a handoff: its board, its routing registers, what configuration cycles reach, and what an
+-- audit tells.
+use Rattle.std.proofs.Common.{◌≡◌, ℕ, Bool, true, false, ◌&&◌, cond, List, [], ◌∷◌, ◌++◌, Some, None, Option, refl, sym, ap, ap₂, ◌∙◌, subst, eqb, nat_le}
+use Rattle.std.specs.Prelude.{map, find, flat_map, not}
+use Rattle.std.specs.Option.{option_map, option_map_or}
+use Rattle.lists.specs.Elements.{Each}
+use Rattle.lists.proofs.EachLemmas.{each_map}
+use Rattle.lists.proofs.Tests.{and_false}
+use Rattle.model_registers.specs.Registers.{config, File, cell_at}
+use Rattle.model_registers.specs.OwnCopies.{is_own}
+use Rattle.model_registers.specs.Declarations.{Endpoint}
+use Rattle.model_registers.specs.CopiedFiles.{agreed_file}
+use Rattle.std.proofs.lemmas.Bool.Decides.{nat_tests}
+use Rattle.std.proofs.Common.{arith}
+use Rattle.model_board.specs.Paths.{Part, Path, path_eq, parent, last_part}
+use Rattle.model_board.specs.Board.{Decl, endpoint, bridge, Row, Board, is_bridge}
+use Rattle.model_board.specs.AtReset.{board_at}
+use Rattle.model_board.specs.Cycles.{secondary_register, subordinate_register, covers, taker, takes, is_route, ends_in, reached_type0, reached_type1, BusAddress, reached}
+use Rattle.model_board.specs.Lawful.{IsLawfulDecl}
+use Rattle.model_board.specs.Routing.{routing}
+use Rattle.model_board.specs.RoutingLaws.{is_routing_register, HasSameRouting}
+use Rattle.model_board.specs.State.{BoardFunction, State, row_at}
+use Rattle.model_board.proofs.Routing.{flat_map_map, routing_of_change}
+use Rattle.model_audit.specs.Found.{is_bridge_at, bus_now, address_now, path_reached}
+use Rattle.model_audit.specs.Problems.{Problem, not_found, routing_problems, numbering_problem, numbering_problems, problems}
+use Rattle.model_audit.proofs.Witnesses.{problems_decide}
+use Rattle.model_guests.specs.Guests.{GuestsNow, file_of}
+use Rattle.model_guests.specs.AgreedBoard.{agreed_function}
+use Rattle.model_guests.specs.Seated.{IsSeatedGuest}
+use Rattle.model_guests.proofs.AgreedChanges.{agreed_by}
+use Rattle.model_guests.proofs.AgreedFiles.{agreed_kept}
+use Rattle.model_handoff.specs.Handoffs.{state_over}
+use Rattle.model_handoff.specs.AgreementLaws.{KeepsBoard, KeepsRouting, KeepsReach, KeepsAddresses, KeepsProblems, StaysInOrder}
+use Rattle.model_handoff.proofs.Functions.{Facts, facts, file_is, bridge_stays, path_stays, decl_stays, row_stays}
+
+-- ---- the same rows
+
+rows_stay : (files : Path → Option File) (fs : List BoardFunction) → map row_at (map (agreed_function files) fs) ≡ map row_at fs
+rows_stay files [] = refl
+rows_stay files (f ∷ fs) = ap₂ (λ (x : Row) (xs : Board). x ∷ xs) (row_stays (files f.path) f) (rows_stay files fs)
+
+pub keeps_board : KeepsBoard
+keeps_board s gs = rows_stay (file_of gs) s.functions
+
+-- ---- routing registers
+
+-- an endpoint's are among those of which a guest has copies
+endpoint_routes : (d : Endpoint) (left own : File) (n : ℕ) → is_routing_register (endpoint d) n ≡ true → (cell_at left (config n)).value ≡ (cell_at (agreed_file left own) (config n)).value
+endpoint_routes d left own n routes = ap (λ c. c.value) (sym (agreed_kept left own (config n) (mine routes)))
+  where
+    mine : is_routing_register (endpoint d) n ≡ true → is_own (config n) ≡ true
+    mine h = grind (arith, nat_tests, h)
+
+module _ (b : Board) (gs : GuestsNow) (all : Each (IsSeatedGuest b) gs) where
+  abbrev pub now_of : BoardFunction → BoardFunction
+  now_of = agreed_function (file_of gs)
+
+  function_routes : (f : BoardFunction) → Facts b f → HasSameRouting f (now_of f)
+  function_routes f facts = record {
+    path = sym (path_stays (file_of gs f.path) f);
+    decl = sym (decl_stays (file_of gs f.path) f);
+    registers = by_decl f.decl refl;
+  }
+    where
+      of_endpoint : (d : Endpoint) (own : Option File) (n : ℕ) → is_routing_register (endpoint d) n ≡ true → (cell_at f.file (config n)).value ≡ (cell_at (agreed_by own f).file (config n)).value
+      of_endpoint d None n h = refl
+      of_endpoint d (Some file) n h = endpoint_routes d f.file file n h
+
+      by_decl : (d : Decl) → f.decl ≡ d → (n : ℕ) → is_routing_register f.decl n ≡ true → (cell_at f.file (config n)).value ≡ (cell_at (now_of f).file (config n)).value
+      by_decl (endpoint d) e n h = of_endpoint d (file_of gs f.path) n (subst (λ (x : Decl). is_routing_register x n ≡ true) e h)
+      by_decl (bridge d) e n h = ap (λ (g : BoardFunction). (cell_at g.file (config n)).value) (sym (bridge_stays b gs all f facts (ap is_bridge e)))
+
+  same_routing : (fs : List BoardFunction) → Each (Facts b) fs → routing (map now_of fs) ≡ routing fs
+  same_routing fs facts =
+      routing_of_change now_of fs (each_map (Facts b) (λ f. IsLawfulDecl f.decl) fs (λ f h. h.lawful) facts) (each_map (Facts b) (λ f. HasSameRouting f (now_of f)) fs function_routes facts)
+
+pub keeps_routing : KeepsRouting
+keeps_routing s board gs seated = same_routing (board_at s.functions) gs seated.guests s.functions (facts s.functions board)
+
+-- ---- configuration cycles
+
+module _ (g : BoardFunction → BoardFunction) (paths : (f : BoardFunction) → (g f).path ≡ f.path) (decls : (f : BoardFunction) → (g f).decl ≡ f.decl) where
+  abbrev Stays : BoardFunction → Type 0
+  Stays f = is_bridge f.decl ≡ true → g f ≡ f
+
+  -- a search for a bridge
+  find_bridge : (t : BoardFunction → Bool) → ((f : BoardFunction) → is_bridge f.decl ≡ false → t f ≡ false) → (fs : List BoardFunction) → Each Stays fs → find t (map g fs) ≡ find t fs
+  find_bridge t only [] stays = refl
+  find_bridge t only (f ∷ fs) stays = by (is_bridge f.decl) refl (find_bridge t only fs stays.1)
+    where
+      by : (v : Bool) → is_bridge f.decl ≡ v → find t (map g fs) ≡ find t fs → find t (g f ∷ map g fs) ≡ find t (f ∷ fs)
+      by true e more = ap₂ (λ (x : BoardFunction) (o : Option BoardFunction). cond (t x) (Some x) o) (stays.0 e) more
+      by false e more =
+          let here : t f ≡ false = only f e in
+          let there : t (g f) ≡ false = only (g f) (ap is_bridge (decls f) ∙ e) in
+          ap (λ v. cond v (Some (g f)) (find t (map g fs))) there ∙ more ∙ ap (λ v. cond v (Some f) (find t fs)) (sym here)
+
+  -- a search that looks at paths
+  pub find_path : (t u : BoardFunction → Bool) → ((f : BoardFunction) → t (g f) ≡ u f) → (fs : List BoardFunction) → find t (map g fs) ≡ option_map g (find u fs)
+  find_path t u same [] = refl
+  find_path t u same (f ∷ fs) = ap₂ (λ (v : Bool) (o : Option BoardFunction). cond v (Some (g f)) o) (same f) (find_path t u same fs) ∙ by (u f)
+    where
+      by : (v : Bool) → cond v (Some (g f)) (option_map g (find u fs)) ≡ option_map g (cond v (Some f) (find u fs))
+      by true = refl
+      by false = refl
+
+  module _ (fs : List BoardFunction) (stays : Each Stays fs) where
+    abbrev now : List BoardFunction
+    now = map g fs
+
+    taker_stays : (bus : Path) (n : ℕ) → taker now bus n ≡ taker fs bus n
+    taker_stays bus n = find_bridge (λ f. path_eq (parent f.path) bus && covers n f) no_endpoint fs stays
+      where
+        no_endpoint : (f : BoardFunction) → is_bridge f.decl ≡ false → (path_eq (parent f.path) bus && covers n f) ≡ false
+        no_endpoint f h =
+            ap (λ v. path_eq (parent f.path) bus && (v && nat_le (secondary_register f.file) n && nat_le n (subordinate_register f.file))) h ∙ and_false (path_eq (parent f.path) bus)
+
+    takes_stays : (bus : Path) (n : ℕ) (p : Part) (ends : Bool) → takes now bus n p ends ≡ takes fs bus n p ends
+    takes_stays bus n p ends =
+        ap (λ (o : Option BoardFunction). option_map_or (λ (f : BoardFunction). path_eq f.path (bus ++ p ∷ []) && cond (eqb (secondary_register f.file) n) ends (not ends)) o false) (taker_stays bus n)
+
+    route_stays : (n : ℕ) (above p : Path) → is_route now n above p ≡ is_route fs n above p
+    route_stays n above [] = refl
+    route_stays n above (p ∷ []) = refl
+    route_stays n above (p ∷ q ∷ []) = takes_stays above n p true
+    route_stays n above (p ∷ q ∷ r ∷ ps) = ap₂ (λ (x y : Bool). x && y) (takes_stays above n p false) (route_stays n (above ++ p ∷ []) (q ∷ r ∷ ps))
+
+    pub reach_stays : (at : BusAddress) → reached now at ≡ option_map g (reached fs at)
+    reach_stays at =
+        ap₂ (λ (x y : Option BoardFunction). cond (eqb at.bus 0) x y)
+        (find_path (λ f. path_eq f.path (at.part ∷ [])) (λ f. path_eq f.path (at.part ∷ [])) (λ f. ap (λ (p : Path). path_eq p (at.part ∷ [])) (paths f)) fs)
+        (find_path (λ f. ends_in f.path at.part && is_route now at.bus [] f.path) (λ f. ends_in f.path at.part && is_route fs at.bus [] f.path)
+        (λ f. ap (λ (p : Path). ends_in p at.part && is_route now at.bus [] p) (paths f) ∙ ap (λ v. ends_in f.path at.part && v) (route_stays at.bus [] f.path)) fs)
+        ∙ by (eqb at.bus 0)
+      where
+        by : (v : Bool) → cond v (option_map g (reached_type0 fs at.part)) (option_map g (reached_type1 fs at.bus at.part)) ≡ option_map g (cond v (reached_type0 fs at.part) (reached_type1 fs at.bus at.part))
+        by true = refl
+        by false = refl
+
+    bus_stays : (p : Path) → bus_now now p ≡ bus_now fs p
+    bus_stays [] = refl
+    bus_stays (p ∷ ps) =
+        ap (λ (o : Option BoardFunction). option_map_or (λ (f : BoardFunction). secondary_register f.file) o 0)
+        (find_bridge (is_bridge_at (p ∷ ps)) (λ f h. ap (λ v. v && path_eq f.path (p ∷ ps)) h) fs stays)
+
+    pub address_stays : (p : Path) → address_now now p ≡ address_now fs p
+    address_stays p = ap (λ (n : ℕ). record { bus = n; part = last_part p }) (bus_stays (parent p))
+
+    found_path_stays : (p : Path) → path_reached now p ≡ path_reached fs p
+    found_path_stays p =
+        ap (λ (at : BusAddress). option_map (λ (f : BoardFunction). f.path) (reached now at)) (address_stays p)
+        ∙ ap (option_map (λ (f : BoardFunction). f.path)) (reach_stays (address_now fs p)) ∙ by (reached fs (address_now fs p))
+      where
+        by : (o : Option BoardFunction) → option_map (λ (f : BoardFunction). f.path) (option_map g o) ≡ option_map (λ (f : BoardFunction). f.path) o
+        by None = refl
+        by (Some f) = ap Some (paths f)
+
+    abbrev told : Path → BusAddress → Option Path → List Problem
+    told p at o = cond (option_map_or (λ q. path_eq q p) o false) [] (not_found p at o ∷ [])
+
+    one_told : (f : BoardFunction) → numbering_problem now (g f) ≡ numbering_problem fs f
+    one_told f =
+        ap (λ (p : Path). told p (address_now now p) (path_reached now p)) (paths f)
+        ∙ ap₂ (λ (at : BusAddress) (o : Option Path). told f.path at o) (address_stays f.path) (found_path_stays f.path)
+
+    all_told : (hs : List BoardFunction) → flat_map (λ f. numbering_problem now (g f)) hs ≡ flat_map (numbering_problem fs) hs
+    all_told [] = refl
+    all_told (h ∷ hs) = ap₂ (λ (x y : List Problem). x ++ y) (one_told h) (all_told hs)
+
+    pub numbering_stays : numbering_problems now ≡ numbering_problems fs
+    numbering_stays = flat_map_map (numbering_problem now) g fs ∙ all_told fs
+
+module _ (s : State) (gs : GuestsNow) where
+  now_path : (f : BoardFunction) → (agreed_function (file_of gs) f).path ≡ f.path
+  now_path f = path_stays (file_of gs f.path) f
+
+  now_decl : (f : BoardFunction) → (agreed_function (file_of gs) f).decl ≡ f.decl
+  now_decl f = decl_stays (file_of gs f.path) f
+
+pub keeps_reach : KeepsReach
+keeps_reach s board gs seated =
+    reach_stays (agreed_function (file_of gs)) (now_path s gs) (now_decl s gs) s.functions
+    (each_map (Facts (board_at s.functions)) (λ f. is_bridge f.decl ≡ true → agreed_function (file_of gs) f ≡ f) s.functions (bridge_stays (board_at s.functions) gs seated.guests) (facts s.functions board))
+
+pub keeps_addresses : KeepsAddresses
+keeps_addresses s board gs seated =
+    address_stays (agreed_function (file_of gs)) (now_path s gs) (now_decl s gs) s.functions
+    (each_map (Facts (board_at s.functions)) (λ f. is_bridge f.decl ≡ true → agreed_function (file_of gs) f ≡ f) s.functions (bridge_stays (board_at s.functions) gs seated.guests) (facts s.functions board))
+
+pub keeps_problems : KeepsProblems
+keeps_problems s board gs seated =
+    ap₂ (λ (x y : List Problem). x ++ y) (ap routing_problems (keeps_routing s board gs seated))
+    (numbering_stays (agreed_function (file_of gs)) (now_path s gs) (now_decl s gs) s.functions
+    (each_map (Facts (board_at s.functions)) (λ f. is_bridge f.decl ≡ true → agreed_function (file_of gs) f ≡ f) s.functions (bridge_stays (board_at s.functions) gs seated.guests) (facts s.functions board)))
+
+pub stays_in_order : StaysInOrder
+stays_in_order s board gs seated order =
+    (problems_decide (state_over s gs).functions).0 (keeps_problems s board gs seated ∙ (problems_decide s.functions).1 order)

@@ -1,0 +1,12 @@
+pub mod Functions
+pub mod Agreement
+pub mod Keeping
+pub mod First
+pub mod Worlds
+pub mod Standing
+pub mod Regions
+pub mod Changes
+pub mod Accesses
+pub mod Served
+pub mod Events
+pub mod SetUpCase

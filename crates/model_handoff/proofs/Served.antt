@@ -1,0 +1,126 @@
+-- Given functions are served, whatever guests do.
+use Rattle.std.proofs.Common.{◌≡◌, ℕ, zero, suc, Bool, true, false, not, cond, ◌||◌, ◌-◌, List, [], ◌∷◌, ◌++◌, length, inl, inr, Some, None, Option, refl, sym, ap, ◌∙◌, subst}
+use Rattle.std.specs.Prelude.{map, filter, flat_map, replicate, is_some, IsTrue, slice_get}
+use Rattle.std.specs.List.{list_any}
+use Rattle.std.specs.Str.{bytes_eq}
+use Rattle.lists.specs.Elements.{Each, IsIn}
+use Rattle.lists.proofs.Members.{each_from, any_in, in_front, in_back, in_map, in_filter, in_flat_map}
+use Rattle.lists.proofs.Indices.{index_in}
+use Rattle.model_registers.specs.Registers.{File}
+use Rattle.model_registers.specs.Declarations.{Region, Endpoint}
+use Rattle.model_registers.specs.Decoding.{Function, space_of, base_address, opens_space, command_word}
+use Rattle.model_board.specs.Paths.{Path, path_eq}
+use Rattle.model_board.specs.AtReset.{board_at}
+use Rattle.model_board.specs.Ports.{file_at}
+use Rattle.model_board.specs.Routing.{row_of, routing}
+use Rattle.model_board.specs.State.{State}
+use Rattle.model_board.proofs.PathEnds.{path_self}
+use Rattle.model_set_up.specs.PlacedRegions.{PlacedRegion}
+use Rattle.model_audit.specs.OpenRegions.{region_now, closed_of, closed_regions}
+use Rattle.model_audit.specs.Problems.{Problem, problems}
+use Rattle.model_audit.proofs.Witnesses.{problems_decide}
+use Rattle.model_guests.specs.Text.{Text}
+use Rattle.model_guests.specs.World.{Guest, World, given_paths}
+use Rattle.model_guests.specs.Guests.{GuestNow, GuestsNow, Move, guest_at_first, guests_at_first, guest_after, guest_named, handed_over, move_fault, path_in, function_in, with_guest, with_slot_emptied, with_slot_filled}
+use Rattle.model_guests.proofs.GuestsByName.{path_at, path_of}
+use Rattle.model_guests.proofs.RegionReach.{declared_row}
+use Rattle.model_guests.proofs.SeatedMoves.{Placed, placed, put_there, was_there}
+use Rattle.model_guests.proofs.Seats.{paths_stay}
+use Rattle.model_handoff.specs.Handoffs.{is_given}
+use Rattle.model_handoff.specs.Regions.{opens_region, closed_given, first_problem, first_closed, AreServed}
+use Rattle.model_handoff.specs.RegionLaws.{ServedAtFirst, ServedAfterEvents, ServedAfterMoves, FaultDecides}
+use Rattle.model_handoff.proofs.Standing.{endpoint_at, StandsAt, stands}
+
+-- ---- a path in a slot at first is a given one
+
+in_slots : (qs : List Path) (k n : ℕ) (p : Path) → path_at (map Some qs ++ replicate k None) n ≡ Some p → IsIn p qs
+in_slots [] zero n p h = cc
+in_slots [] (suc k) zero p h = cc
+in_slots [] (suc k) (suc n) p h = in_slots [] k n p h
+in_slots (q ∷ qs) k zero p h = inl (cc h)
+in_slots (q ∷ qs) k (suc n) p h = inr (in_slots qs k n p h)
+
+among : (w : World) (gs : List Guest) (name : Text) (n : ℕ) (p : Path) → path_in (map (guest_at_first w) gs) name n ≡ Some p → IsIn p (flat_map (λ (g : Guest). g.slots) gs)
+among w [] name n p h = cc
+among w (g ∷ gs) name n p h = by (bytes_eq g.name name) h (among w gs name n p)
+  where
+    by : (t : Bool) → path_of (cond t (Some (guest_at_first w g)) (guest_named (map (guest_at_first w) gs) name)) n ≡ Some p
+        → (path_in (map (guest_at_first w) gs) name n ≡ Some p → IsIn p (flat_map (λ (x : Guest). x.slots) gs)) → IsIn p (flat_map (λ (x : Guest). x.slots) (g ∷ gs))
+    by true i more = in_front p g.slots (flat_map (λ (x : Guest). x.slots) gs) (in_slots g.slots (32 - length g.slots) n p i)
+    by false i more = in_back p g.slots (flat_map (λ (x : Guest). x.slots) gs) (more i)
+
+no_member : {A : Type 0} (x : A) (xs : List A) → xs ≡ [] → IsIn x xs → ⊥
+no_member x [] e m = m
+no_member x (y ∷ ys) e m = cc
+
+pub served_at_first : ServedAtFirst
+served_at_first w s state none name n p at d declares = each_from (λ r. IsTrue (opens_region s p r)) d.regions one
+  where
+    file : File
+    file = file_at s.functions p
+
+    given : is_given w p ≡ true
+    given = any_in (λ q. path_eq q p) p (given_paths w) (among w w.guests name n p at) (path_self p)
+
+    one : (r : Region) → IsIn r d.regions → opens_region s p r ≡ true
+    one r m = by (opens_region s p r) refl
+      where
+        by : (t : Bool) → opens_region s p r ≡ t → t ≡ true
+        by true e = refl
+        by false e =
+            let there : StandsAt s.functions p d = stands s.functions state p d (declared_row (board_at s.functions) p d declares) in
+            let q : PlacedRegion = region_now p (base_address (file_at s.functions p) r) in
+            let closed : IsIn q (closed_regions (routing s.functions)) =
+            in_flat_map closed_of (row_of (endpoint_at p d (file_at s.functions p))) q (routing s.functions) (in_map row_of (endpoint_at p d (file_at s.functions p)) s.functions there.among)
+            (in_filter (λ (x : PlacedRegion). not (opens_space (command_word (file_at s.functions p)) x.space)) q (map (region_now p) (map (base_address (file_at s.functions p)) d.regions))
+            (in_map (region_now p) (base_address (file_at s.functions p) r) (map (base_address (file_at s.functions p)) d.regions) (in_map (base_address (file_at s.functions p)) r d.regions m)) (ap not e)) in
+            absurd (no_member q (closed_given w s) none (in_filter (λ (x : PlacedRegion). is_given w x.path) q (closed_regions (routing s.functions)) closed given))
+
+-- ---- afterwards
+
+pub served_after_events : ServedAfterEvents
+served_after_events s gs served name e a n p at = served a n p (sym (paths_stay (guest_after e) (λ t. refl) (λ t. refl) name a n gs) ∙ at)
+
+pub served_after_moves : ServedAfterMoves
+served_after_moves s gs served m = by (is_some (move_fault gs m)) (function_in gs m.from m.slot)
+  where
+    left : GuestsNow
+    left = with_guest (with_slot_emptied m.slot) m.from gs
+
+    emptied : (a : Text) (n : ℕ) (p : Path) → path_in (with_guest (with_slot_emptied m.slot) m.from gs) a n ≡ Some p → path_in gs a n ≡ Some p
+    emptied a n p at = of (placed (with_slot_emptied m.slot) m.slot None (λ t. refl) (λ t. refl) gs m.from a n p at)
+      where
+        of : Placed gs m.from a m.slot n None p → path_in gs a n ≡ Some p
+        of (put_there x y z) = cc
+        of (was_there x y) = x
+
+    after : (o : Option Function) → AreServed s (handed_over m (path_in gs m.from m.slot) o gs)
+    after None a n p at = served a n p at
+    after (Some f) a n p at =
+        of (placed (with_slot_filled m.target (path_in gs m.from m.slot) f.decl) m.target (path_in gs m.from m.slot) (λ t. refl) (λ t. refl) (with_guest (with_slot_emptied m.slot) m.from gs) m.to a n p at)
+      where
+        of : Placed (with_guest (with_slot_emptied m.slot) m.from gs) m.to a m.target n (path_in gs m.from m.slot) p → Rattle.model_handoff.specs.Regions.HasOpenRegions s p
+        of (put_there x y z) = served m.from m.slot p z
+        of (was_there x y) = served a n p (emptied a n p x)
+
+    by : (t : Bool) (o : Option Function) → AreServed s (cond t gs (handed_over m (path_in gs m.from m.slot) o gs))
+    by true o = served
+    by false o = after o
+
+-- ---- faults
+
+pub fault_decides : FaultDecides
+fault_decides w s = (
+  λ h. let parts = of_none (problems s.functions) (closed_given w s) h in record { order = (problems_decide s.functions).0 parts.0; none_closed = parts.1 },
+  λ can. of_parts (problems s.functions) (closed_given w s) ((problems_decide s.functions).1 can.order) can.none_closed,
+)
+  where
+    of_none : (ps : List Problem) (qs : List PlacedRegion) → Rattle.lists.specs.Elements.first_of_two (first_problem ps) (first_closed qs) ≡ None → (ps ≡ []) × (qs ≡ [])
+    of_none [] [] h = (refl, refl)
+    of_none [] (q ∷ qs) h = cc
+    of_none (p ∷ ps) qs h = cc
+
+    of_parts : (ps : List Problem) (qs : List PlacedRegion) → ps ≡ [] → qs ≡ [] → Rattle.lists.specs.Elements.first_of_two (first_problem ps) (first_closed qs) ≡ None
+    of_parts [] [] e f = refl
+    of_parts [] (q ∷ qs) e f = cc
+    of_parts (p ∷ ps) qs e f = cc

@@ -1,0 +1,176 @@
+-- What set-up leaves is one handoff.
+use Rattle.std.proofs.Common.{◌≡◌, Bool, true, false, not, cond, List, [], ◌∷◌, ◌++◌, inl, inr, Some, Option, refl, sym, ap, ap₂, ◌∙◌, subst}
+use Rattle.std.specs.Prelude.{map, find}
+use Rattle.std.specs.Option.{option_map_or}
+use Rattle.lists.specs.Elements.{Each, IsIn}
+use Rattle.lists.proofs.EachLemmas.{each_of_map, each_map}
+use Rattle.lists.proofs.Members.{any_in, each_from, in_map, from_map, from_filter, from_flat_map}
+use Rattle.model_registers.specs.Registers.{File}
+use Rattle.model_registers.specs.EndpointTable.{BaseAddress, endpoint_reset}
+use Rattle.model_registers.specs.Declarations.{Region, Endpoint}
+use Rattle.model_registers.specs.Decoding.{space_of, same_space, base, base_address, opens_space, command_word, is_open}
+use Rattle.model_registers.specs.Apertures.{Apertures}
+use Rattle.model_board.specs.Paths.{Path}
+use Rattle.model_board.specs.Board.{Decl, endpoint, bridge, Row, Board, IsBoard, is_multifunction}
+use Rattle.model_board.specs.Lawful.{IsLawfulDecl, HasLawfulDecls}
+use Rattle.model_board.specs.AtReset.{board_at}
+use Rattle.model_board.specs.Ports.{file_at}
+use Rattle.model_board.specs.Routing.{RoutingRow, row_of, routing}
+use Rattle.model_board.specs.State.{BoardFunction}
+use Rattle.model_board.proofs.StateRows.{state_rows}
+use Rattle.model_set_up.specs.PlacedRegions.{PlacedRegion, placed}
+use Rattle.model_set_up.specs.SetUp.{first_of, set_up_file, set_up_state}
+use Rattle.model_set_up.specs.UniqueClaimant.{CanBePlaced}
+use Rattle.model_set_up.proofs.DeclaredRows.{rows_are_declared}
+use Rattle.model_set_up.proofs.Holders.{self_space}
+use Rattle.model_set_up.proofs.LawfulPlacement.{layout_is_lawful}
+use Rattle.model_set_up.proofs.SetUpNumbers.{set_up_has_numbers}
+use Rattle.model_set_up.proofs.SetUpRegisters.{endpoint_opens}
+use Rattle.model_audit.specs.OpenRegions.{region_now, regions_of, closed_of, closed_regions}
+use Rattle.model_audit.specs.Orderly.{IsStateOfBoard}
+use Rattle.model_audit.proofs.Found.{numbers_of_board}
+use Rattle.model_audit.proofs.Witnesses.{problems_decide}
+use Rattle.model_set_up_audit.proofs.Placing.{left, regions_placed}
+use Rattle.model_set_up_audit.proofs.SetUpPasses.{set_up_passes}
+use Rattle.model_guests.specs.Text.{Text}
+use Rattle.model_guests.specs.Lines.{Meaning, nothing, guest_event, host_read, host_move, bad, meaning}
+use Rattle.model_guests.specs.WorldNow.{WorldNow, world_at_first}
+use Rattle.model_guests.specs.WorldNow as set_up
+use Rattle.model_guests.proofs.AgreedStates.{alike}
+use Rattle.model_guests.proofs.TablePlaces.{alike_places}
+use Rattle.model_handoff.specs.Handoffs.{HasPlacesOf, HasDeclaredPlaces, is_given}
+use Rattle.model_handoff.specs.Regions.{base_in, opens_region, closed_given}
+use Rattle.model_handoff.specs.WorldOver.{WorldOver, written_by, after_meaning, names_now, line_output, after_line, output, after_lines}
+use Rattle.model_handoff.specs.SetUpCase.{SetUpIsHandoff, SetUpIsInOrder, SetUpCanBeGiven, SetUpPlaces, SetUpAddresses, SameState, SameLine, SameOutput, over_set_up}
+use Rattle.model_handoff.proofs.Standing.{found}
+
+state_is : (b : Board) (a : Apertures) → IsBoard b → HasLawfulDecls b → IsStateOfBoard (set_up_state b a).functions
+state_is b a board decls = record {
+  places = subst IsBoard (sym (state_rows b (set_up_file b a))) board;
+  declarations = subst HasLawfulDecls (sym (state_rows b (set_up_file b a))) decls;
+}
+
+places_are : (b : Board) (a : Apertures) (p : Path) (d : Decl) → IsLawfulDecl d → HasPlacesOf d (set_up_file b a p d)
+places_are b a p (endpoint d) lawful = sym (alike_places (endpoint_reset d false) (set_up_file b a p (endpoint d)) (alike b a p d lawful))
+places_are b a p (bridge d) lawful = tt
+
+pub set_up_is_handoff : SetUpIsHandoff
+set_up_is_handoff b a board decls = (
+  record {
+    board = state_is b a board decls;
+    places = each_of_map HasDeclaredPlaces (left b a) b (each_map (λ (r : Row). IsLawfulDecl r.decl) (λ (r : Row). HasDeclaredPlaces (left b a r)) b (λ r h. places_are b a r.path r.decl h) decls);
+  },
+  state_rows b (set_up_file b a),
+)
+
+pub set_up_is_in_order : SetUpIsInOrder
+set_up_is_in_order b a few can = (problems_decide (set_up_state b a).functions).0 (set_up_passes b a few can)
+
+pub set_up_addresses : SetUpAddresses
+set_up_addresses b a board few = (numbers_of_board b board (set_up_state b a).functions (set_up_has_numbers b a few)).1
+
+-- ---- regions
+
+maps_at : {A B C : Type 0} (f : B → C) (h : A → B) (g : A → C) (xs : List A) → map f (map h xs) ≡ map g xs → (x : A) → IsIn x xs → f (h x) ≡ g x
+maps_at f h g [] e x m = absurd m
+maps_at f h g (y ∷ ys) e x (inl same) = let here : f (h y) ≡ g y = cc in ap (λ z. f (h z)) same ∙ here ∙ ap g (sym same)
+maps_at f h g (y ∷ ys) e x (inr m) = let rest : map f (map h ys) ≡ map g ys = cc in maps_at f h g ys rest x m
+
+opens_own : (b : Board) (a : Apertures) (p : Path) (d : Endpoint) (r : Region) → IsIn r d.regions → is_open (set_up_file b a p (endpoint d)) (space_of r.kind) ≡ true
+opens_own b a p d r m =
+    endpoint_opens d (is_multifunction b p) (first_of b a p) (space_of r.kind)
+    ∙ any_in (λ (x : Region). same_space (space_of x.kind) (space_of r.kind)) r d.regions m (self_space (space_of r.kind))
+
+pub set_up_places : SetUpPlaces
+set_up_places b a can p d row r m =
+    let fs : List BoardFunction = (set_up_state b a).functions in
+    let file : File = set_up_file b a p (endpoint d) in
+    let f : BoardFunction = left b a (record { path = p; decl = endpoint d }) in
+    let is : file_at fs p ≡ file = ap (λ (o : Option BoardFunction). option_map_or (λ (g : BoardFunction). g.file) o []) (found fs (state_is b a can.places can.declarations) f (in_map (left b a) (record { path = p; decl = endpoint d }) b row)) in
+    let placed_there : region_now p (base_address file r) ≡ placed b a p r =
+    maps_at (region_now p) (base_address file) (placed b a p) d.regions
+    (regions_placed b a can (layout_is_lawful b a can.places can.declarations can.room) (rows_are_declared b a can.places can.declarations) p (endpoint d) row) r m in (
+      ap (λ (x : File). base x r.index r.kind) is ∙ ap (λ (q : PlacedRegion). q.first) placed_there,
+      ap (λ (x : File). is_open x (space_of r.kind)) is ∙ opens_own b a p d r m,
+    )
+
+none_in : {A : Type 0} (xs : List A) → ((x : A) → IsIn x xs → ⊥) → xs ≡ []
+none_in [] h = refl
+none_in (x ∷ xs) h = absurd (h x (inl refl))
+
+module _ (b : Board) (a : Apertures) where
+  none_closed : (p : Path) (d : Decl) (q : PlacedRegion) → IsIn q (closed_of (row_of (left b a (record { path = p; decl = d })))) → ⊥
+  none_closed p (bridge d) q m = m
+  none_closed p (endpoint d) q m = of_base (from_map (region_now p) q (map (base_address file) d.regions) passed.0)
+    where
+      file : File
+      file = set_up_file b a p (endpoint d)
+
+      passed : IsIn q (map (region_now p) (map (base_address (set_up_file b a p (endpoint d))) d.regions)) × (not (opens_space (command_word (set_up_file b a p (endpoint d))) q.space) ≡ true)
+      passed = from_filter (λ (x : PlacedRegion). not (opens_space (command_word (set_up_file b a p (endpoint d))) x.space)) q (map (region_now p) (map (base_address (set_up_file b a p (endpoint d))) d.regions)) m
+
+      of_region : (c : BaseAddress) → q ≡ region_now p c → (r : Region) × IsIn r d.regions × (c ≡ base_address (set_up_file b a p (endpoint d)) r) → ⊥
+      of_region c e (r, k, i) =
+          let space : q.space ≡ space_of r.kind = ap (λ (x : PlacedRegion). x.space) e ∙ ap (λ (x : BaseAddress). space_of x.kind) i in
+          let opened : opens_space (command_word (set_up_file b a p (endpoint d))) q.space ≡ true = ap (opens_space (command_word (set_up_file b a p (endpoint d)))) space ∙ opens_own b a p d r k in
+          let bad : false ≡ true = ap not (sym opened) ∙ passed.1 in cc
+
+      of_base : (c : BaseAddress) × IsIn c (map (base_address (set_up_file b a p (endpoint d))) d.regions) × (q ≡ region_now p c) → ⊥
+      of_base (c, k, e) = of_region c e (from_map (base_address (set_up_file b a p (endpoint d))) c d.regions k)
+
+  nothing_closed : (q : PlacedRegion) → IsIn q (closed_regions (routing (set_up_state b a).functions)) → ⊥
+  nothing_closed q m = of_row (from_flat_map closed_of q (routing (set_up_state b a).functions) m)
+    where
+      of_board : (f : BoardFunction) → IsIn q (closed_of (row_of f)) → (s : Row) × IsIn s b × (f ≡ left b a s) → ⊥
+      of_board f l (s, k, e) = none_closed s.path s.decl q (subst (λ (g : BoardFunction). IsIn q (closed_of (row_of g))) e l)
+
+      of_function : (r : RoutingRow) → IsIn q (closed_of r) → (f : BoardFunction) × IsIn f (set_up_state b a).functions × (r ≡ row_of f) → ⊥
+      of_function r l (f, k, e) = of_board f (subst (λ (x : RoutingRow). IsIn q (closed_of x)) e l) (from_map (left b a) f b k)
+
+      of_row : (r : RoutingRow) × IsIn r (routing (set_up_state b a).functions) × IsIn q (closed_of r) → ⊥
+      of_row (r, k, l) = of_function r l (from_map row_of r (set_up_state b a).functions k)
+
+pub set_up_can_be_given : SetUpCanBeGiven
+set_up_can_be_given w few can = record {
+  order = set_up_is_in_order w.board w.apertures few can;
+  none_closed = none_in (closed_given w (set_up_state w.board w.apertures))
+      (λ q m. nothing_closed w.board w.apertures q (from_filter (λ (x : PlacedRegion). is_given w x.path) q (closed_regions (routing (set_up_state w.board w.apertures).functions)) m).0);
+}
+
+-- ---- worlds
+
+pub same_state : SameState
+same_state b a gs = refl
+
+same_written : (v : WorldNow) (m : Meaning) → written_by (over_set_up v) m ≡ set_up.written_by v m
+same_written v nothing = refl
+same_written v (guest_event name e) = refl
+same_written v (host_read r) = refl
+same_written v (host_move m) = refl
+same_written v (bad who n) = refl
+
+same_after : (v : WorldNow) (m : Meaning) → after_meaning (over_set_up v) m ≡ over_set_up (set_up.after_meaning v m)
+same_after v nothing = refl
+same_after v (guest_event name e) = refl
+same_after v (host_read r) = refl
+same_after v (host_move m) = refl
+same_after v (bad who n) = refl
+
+pub same_line : SameLine
+same_line v line = record {
+  writes = ap Rattle.model_guests.specs.Text.text_of_lines (same_written v (meaning (names_now (over_set_up v)) line));
+  leaves = same_after v (meaning (names_now (over_set_up v)) line);
+}
+
+run_writes : (ls : List Text) (v : WorldNow) → output (over_set_up v) ls ≡ set_up.output v ls
+run_writes [] v = refl
+run_writes (l ∷ ls) v =
+    ap₂ (λ (x y : Text). x ++ y) (same_line v l).writes
+    (ap (λ (w : WorldOver). output w ls) (same_line v l).leaves ∙ run_writes ls (set_up.after_line v l))
+
+run_leaves : (ls : List Text) (v : WorldNow) → after_lines (over_set_up v) ls ≡ over_set_up (set_up.after_lines v ls)
+run_leaves [] v = refl
+run_leaves (l ∷ ls) v = ap (λ (w : WorldOver). after_lines w ls) (same_line v l).leaves ∙ run_leaves ls (set_up.after_line v l)
+
+pub same_output : SameOutput
+same_output w ls = record { writes = run_writes ls (world_at_first w); leaves = run_leaves ls (world_at_first w) }

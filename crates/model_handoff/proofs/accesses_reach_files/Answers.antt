@@ -1,0 +1,12 @@
+use Rattle.model_handoff.proofs.Accesses.{region_reads, region_writes, memory_by_space, ports_by_space, cycle_reads, cycle_writes}
+use Rattle.model_handoff.proofs.accesses_reach_files.Goals as goal
+
+pub returns : goal.returns
+returns c = record {
+  reads = region_reads;
+  writes = region_writes;
+  memory = memory_by_space;
+  ports = ports_by_space;
+  cycle_reads = cycle_reads;
+  cycle_writes = cycle_writes;
+}

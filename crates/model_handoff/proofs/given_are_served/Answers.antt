@@ -1,0 +1,5 @@
+use Rattle.model_handoff.proofs.Served.{served_at_first, served_after_events, served_after_moves, fault_decides}
+use Rattle.model_handoff.proofs.given_are_served.Goals as goal
+
+pub returns : goal.returns
+returns c = record { first = served_at_first; events = served_after_events; moves = served_after_moves; faults = fault_decides }

@@ -1,0 +1,67 @@
+-- What it is that a state of the board agrees with guests over a handoff, and what no guest can change of it.
+--     AgreesOver s gs now      said cell by cell, without building the state
+--     StateAgrees, StateIsOnly      there is a state that agrees, and no other
+--     FirstIsReset, FirstIsHandoff      before any event each given function is at reset; where it was, the state is the handoff
+--     KeepsBoard, KeepsRouting      the same functions, with the routing registers that were handed over
+--     KeepsReach, KeepsAddresses      a configuration cycle reaches what it reached, by the addresses that were handed over
+--     KeepsProblems, StaysInOrder      an audit tells what it told of the handoff; so an orderly board stays so
+use Rattle.std.specs.Prelude.{◌≡◌, option_map, map}
+use Rattle.model_board.specs.Paths.{Path}
+use Rattle.model_board.specs.AtReset.{board_at}
+use Rattle.model_board.specs.State.{State}
+use Rattle.model_board.specs.Cycles.{BusAddress, reached}
+use Rattle.model_board.specs.Routing.{routing}
+use Rattle.model_audit.specs.Found.{address_now}
+use Rattle.model_audit.specs.Orderly.{IsStateOfBoard}
+use Rattle.model_audit.specs.Problems.{problems}
+use Rattle.model_audit.specs.Witnesses.{IsInOrder}
+use Rattle.model_guests.specs.World.{World}
+use Rattle.model_guests.specs.Guests.{GuestsNow, guests_at_first, file_of}
+use Rattle.model_guests.specs.AgreedBoard.{agreed_function}
+use Rattle.model_guests.specs.AgreedLaws.{AgreesAtEach}
+use Rattle.model_guests.specs.Seated.{AreSeated}
+use Rattle.model_handoff.specs.Handoffs.{state_over, IsHandoff, with_given_reset, HasGivenAtReset}
+
+pub record AgreesOver (s : State) (gs : GuestsNow) (now : State) : Type 0 where
+  pub functions : AgreesAtEach (file_of gs) s.functions now.functions
+  pub latch : now.latch ≡ s.latch
+
+-- what holds over any state of a lawful board, and over any handoff, whatever seated guests there are
+abbrev pub OverBoards : (State → GuestsNow → Type 0) → Type 0
+OverBoards P = (s : State) → IsStateOfBoard s.functions → (gs : GuestsNow) → AreSeated (board_at s.functions) gs → P s gs
+
+abbrev pub OverHandoffs : (State → GuestsNow → Type 0) → Type 0
+OverHandoffs P = (s : State) → IsHandoff s → (gs : GuestsNow) → AreSeated (board_at s.functions) gs → P s gs
+
+abbrev pub StateAgrees : Type 0
+StateAgrees = OverHandoffs (λ s gs. AgreesOver s gs (state_over s gs))
+
+abbrev pub StateIsOnly : Type 0
+StateIsOnly = OverHandoffs (λ s gs. (now : State) → AgreesOver s gs now → now ≡ state_over s gs)
+
+abbrev pub FirstIsReset : Type 0
+FirstIsReset = (w : World) (s : State) → state_over s (guests_at_first w) ≡ with_given_reset w s
+
+abbrev pub FirstIsHandoff : Type 0
+FirstIsHandoff = (w : World) (s : State) → IsHandoff s → board_at s.functions ≡ w.board → HasGivenAtReset w s
+    → state_over s (guests_at_first w) ≡ s
+
+abbrev pub KeepsBoard : Type 0
+KeepsBoard = (s : State) (gs : GuestsNow) → board_at (state_over s gs).functions ≡ board_at s.functions
+
+abbrev pub KeepsRouting : Type 0
+KeepsRouting = OverBoards (λ s gs. routing (state_over s gs).functions ≡ routing s.functions)
+
+-- the function as it is now
+abbrev pub KeepsReach : Type 0
+KeepsReach = OverBoards (λ s gs. (at : BusAddress)
+    → reached (state_over s gs).functions at ≡ option_map (agreed_function (file_of gs)) (reached s.functions at))
+
+abbrev pub KeepsAddresses : Type 0
+KeepsAddresses = OverBoards (λ s gs. (p : Path) → address_now (state_over s gs).functions p ≡ address_now s.functions p)
+
+abbrev pub KeepsProblems : Type 0
+KeepsProblems = OverBoards (λ s gs. problems (state_over s gs).functions ≡ problems s.functions)
+
+abbrev pub StaysInOrder : Type 0
+StaysInOrder = OverBoards (λ s gs. IsInOrder s.functions → IsInOrder (state_over s gs).functions)

@@ -1,0 +1,62 @@
+-- A board as firmware hands it over, and its one register state that agrees with the guests as they are now. PCI
+-- Firmware Specification 3.0, chapter 3.5 (device state at firmware/operating system handoff).
+--     state_over s gs      the handoff s, with the guests' files in it wherever a guest has a function
+--     HasDeclaredPlaces f      an endpoint's cells stand where its declaration puts them, whatever they hold
+--     IsHandoff s      a state of a lawful board with such cells
+--     is_given w p      a guest of the world is given the function at a path
+--     with_given_reset w s      the handoff with each given function at reset, but for what guests have copies of
+--     HasGivenAtReset w s      each given function is so already
+use Rattle.std.specs.Prelude.{◌≡◌, Bool, false, if◌then◌else◌, Option, None, option_map, ⊤, IsTrue, IsFalse}
+use Rattle.std.specs.List.{list_any}
+use Rattle.lists.specs.Elements.{Each}
+use Rattle.model_registers.specs.Registers.{Place, File, cell_at}
+use Rattle.model_registers.specs.Declarations.{Endpoint}
+use Rattle.model_registers.specs.EndpointTable.{endpoint_reset}
+use Rattle.model_registers.specs.OwnCopies.{is_own}
+use Rattle.model_registers.specs.CopiedFiles.{places_of}
+use Rattle.model_board.specs.Paths.{Path, path_eq}
+use Rattle.model_board.specs.Board.{Decl, endpoint, bridge}
+use Rattle.model_board.specs.State.{BoardFunction, State}
+use Rattle.model_audit.specs.Orderly.{IsStateOfBoard}
+use Rattle.model_guests.specs.World.{World, declared, given_paths}
+use Rattle.model_guests.specs.Guests.{GuestsNow, file_of}
+use Rattle.model_guests.specs.AgreedBoard.{with_files}
+
+-- bridges, functions in no slot and the address latch are as they were handed over
+abbrev pub state_over : State → GuestsNow → State
+state_over s gs = with_files (file_of gs) s
+
+-- ---- handoffs
+
+abbrev pub HasPlacesOf : Decl → File → Type 0
+HasPlacesOf (endpoint d) file = places_of file ≡ places_of (endpoint_reset d false)
+HasPlacesOf (bridge d) file = ⊤
+
+abbrev pub HasDeclaredPlaces : BoardFunction → Type 0
+HasDeclaredPlaces f = HasPlacesOf f.decl f.file
+
+pub record IsHandoff (s : State) : Type 0 where
+  pub board : IsStateOfBoard s.functions
+  pub places : Each HasDeclaredPlaces s.functions
+
+-- ---- before any event
+
+abbrev pub is_given : World → Path → Bool
+is_given w p = list_any (λ q. path_eq q p) (given_paths w)
+
+abbrev pub file_at_reset : Endpoint → File
+file_at_reset d = endpoint_reset d false
+
+abbrev pub reset_files : World → Path → Option File
+reset_files w p = if is_given w p then option_map file_at_reset (declared w.board p) else None
+
+abbrev pub with_given_reset : World → State → State
+with_given_reset w s = with_files (reset_files w) s
+
+abbrev pub HoldsReset : Decl → File → Type 0
+HoldsReset (endpoint d) file = (p : Place) → IsFalse (is_own p) → cell_at file p ≡ cell_at (file_at_reset d) p
+HoldsReset (bridge d) file = ⊤
+
+-- firmware may have written Command, base registers and what stands in no slot, and no other register
+abbrev pub HasGivenAtReset : World → State → Type 0
+HasGivenAtReset w s = Each (λ f. IsTrue (is_given w f.path) → HoldsReset f.decl f.file) s.functions

@@ -1,0 +1,139 @@
+-- What a guest's access comes to on a board that was handed over in order: PCI Local Bus 3.0, chapters 3.2.2.3.2 and
+-- 6.2.5; PCI-to-PCI Bridge Architecture 1.2, chapters 3 and 4.
+--     space_reply, after_space_write      an access to what claims an address, where the address latch takes no port
+--     RegionIsClaimed      a byte of an open region is claimed where the handoff has it, by that region alone
+--     HasSlot      a slot of a guest, with its path and its function
+--     HitReachesOver      a hit in a served function stands for a byte of such a region, in the same byte lanes
+--     RegionReads, RegionWrites      an access there reads and changes what the guest's own file holds
+--     CycleReads, CycleWrites      a configuration cycle for the function's address in the handoff does so too
+--     MemoryBySpace, PortsBySpace      these are the accesses of the board at its memory addresses and ordinary ports
+--     ServedAtFirst, ServedAfterEvents, ServedAfterMoves      given functions are served, whatever guests do
+--     FaultDecides      functions may be given where and only where there is no fault
+use Rattle.std.specs.Prelude.{List, [], ◌∷◌, ◌≡◌, ℕ, ◌<◌, ◌+◌, ◌%◌, Bool, Some, None, IsTrue, ◌↔◌}
+use Rattle.lists.specs.Elements.{IsIn}
+use Rattle.model_registers.specs.Registers.{config, block, read, write, all_bytes, number}
+use Rattle.model_registers.specs.OwnCopies.{handed_on}
+use Rattle.model_registers.specs.Declarations.{Region, Endpoint}
+use Rattle.model_registers.specs.Decoding.{Space, io, memory, space_of, Function, Hit, lone_claim}
+use Rattle.model_registers.specs.DecodingLaws.{IsHitIn}
+use Rattle.model_board.specs.Paths.{Path}
+use Rattle.model_board.specs.Board.{endpoint}
+use Rattle.model_board.specs.AtReset.{board_at}
+use Rattle.model_board.specs.State.{BoardFunction, State}
+use Rattle.model_board.specs.Claims.{Claim, claims, first_claim}
+use Rattle.model_board.specs.Ports.{claim_reply, after_claim_write, config_reply, after_config_write, port_target}
+use Rattle.model_board.specs.Ports.{ordinary, port_reply, after_port_write, memory_reply, after_memory_write}
+use Rattle.model_board.specs.Routing.{routing}
+use Rattle.model_audit.specs.Found.{address_now, IsNumbered}
+use Rattle.model_audit.specs.Orderly.{IsOrderly, IsStateOfBoard}
+use Rattle.model_guests.specs.Accesses.{Event}
+use Rattle.model_guests.specs.Text.{Text}
+use Rattle.model_guests.specs.World.{World}
+use Rattle.model_guests.specs.Guests.{GuestsNow, guests_at_first, path_in, function_in, with_guest, after_guest_event}
+use Rattle.model_guests.specs.Guests.{Move, after_move}
+use Rattle.model_guests.specs.Seated.{AreSeated}
+use Rattle.model_guests.specs.ChangeLaws.{with_slot_changed}
+use Rattle.model_handoff.specs.Handoffs.{state_over, IsHandoff}
+use Rattle.model_handoff.specs.Regions.{base_in, opens_region, closed_given, first_fault, CanBeGiven, AreServed}
+
+abbrev pub space_reply : State → Space → ℕ → ℕ → ℕ
+space_reply s space a w = claim_reply s.functions w (first_claim s.functions space a)
+
+abbrev pub after_space_write : State → Space → ℕ → ℕ → ℕ → State
+after_space_write s space a w v =
+    record s { functions = after_claim_write s.functions w v (first_claim s.functions space a) }
+
+-- one claim, and no other
+pub record IsClaimedAlone (fs : List BoardFunction) (space : Space) (a : ℕ) (c : Claim) : Type 0 where
+  pub first : first_claim fs space a ≡ Some c
+  pub alone : claims fs space a ≡ c ∷ []
+
+abbrev pub claim_in_region : Path → Region → ℕ → Claim
+claim_in_region p r k = record { path = p; index = r.index; offset = k }
+
+-- of any endpoint of the board, whatever guests did
+abbrev pub RegionIsClaimed : Type 0
+RegionIsClaimed = (s : State) → IsStateOfBoard s.functions → IsOrderly (routing s.functions)
+    → (gs : GuestsNow) → AreSeated (board_at s.functions) gs
+    → (p : Path) (d : Endpoint) → IsIn (record { path = p; decl = endpoint d }) (board_at s.functions)
+    → (r : Region) → IsIn r d.regions → IsTrue (opens_region s p r) → (k : ℕ) → k < r.size
+    → IsClaimedAlone (state_over s gs).functions (space_of r.kind) (base_in s p r + k) (claim_in_region p r k)
+
+pub record HasSlot (gs : GuestsNow) (name : Text) (n : ℕ) (p : Path) (f : Function) : Type 0 where
+  pub path : path_in gs name n ≡ Some p
+  pub function : function_in gs name n ≡ Some f
+
+-- for the function f at p, where n is the guest's address
+pub record ReachesOver (s : State) (gs : GuestsNow) (p : Path) (f : Function) (space : Space) (n : ℕ) (h : Hit)
+    : Type 0 where
+  pub region : Region
+  pub declared : IsIn region f.decl.regions
+  pub hit : IsHitIn space n region h
+  pub claimed : IsClaimedAlone (state_over s gs).functions space (base_in s p region + h.offset)
+      (record { path = p; index = h.index; offset = h.offset })
+  pub lanes : (base_in s p region + h.offset) % 4 ≡ n % 4
+
+abbrev pub HitReachesOver : Type 0
+HitReachesOver = (s : State) → IsStateOfBoard s.functions → IsOrderly (routing s.functions)
+    → (gs : GuestsNow) → AreSeated (board_at s.functions) gs → AreServed s gs
+    → (name : Text) (k : ℕ) (p : Path) (f : Function) → HasSlot gs name k p f
+    → (space : Space) (n : ℕ) (h : Hit) → lone_claim f space n ≡ Some h → ReachesOver s gs p f space n h
+
+-- ---- regions
+
+abbrev pub RegionReads : Type 0
+RegionReads = (s : State) → IsHandoff s → IsOrderly (routing s.functions)
+    → (gs : GuestsNow) → AreSeated (board_at s.functions) gs
+    → (name : Text) (n : ℕ) (p : Path) (f : Function) → HasSlot gs name n p f
+    → (r : Region) → IsIn r f.decl.regions → IsTrue (opens_region s p r) → (k : ℕ) → k < r.size → (w : ℕ)
+    → space_reply (state_over s gs) (space_of r.kind) (base_in s p r + k) w ≡ number f.file (block r.index k) w
+
+abbrev pub RegionWrites : Type 0
+RegionWrites = (s : State) → IsStateOfBoard s.functions → IsOrderly (routing s.functions)
+    → (gs : GuestsNow) → AreSeated (board_at s.functions) gs
+    → (name : Text) (n : ℕ) (p : Path) (f : Function) → HasSlot gs name n p f
+    → (r : Region) → IsIn r f.decl.regions → IsTrue (opens_region s p r) → (k : ℕ) → k < r.size → (w v : ℕ)
+    → after_space_write (state_over s gs) (space_of r.kind) (base_in s p r + k) w v
+    ≡ state_over s (with_guest (with_slot_changed (write (all_bytes w) v (block r.index k)) n) name gs)
+
+abbrev pub MemoryBySpace : Type 0
+MemoryBySpace = (s : State) (a w v : ℕ)
+    → (memory_reply s a w ≡ space_reply s memory a w)
+    × (after_memory_write s a w v ≡ after_space_write s memory a w v)
+
+abbrev pub PortsBySpace : Type 0
+PortsBySpace = (s : State) (a w v : ℕ) → port_target s.latch a w ≡ ordinary
+    → (port_reply s a w ≡ space_reply s io a w) × (after_port_write s a w v ≡ after_space_write s io a w v)
+
+-- ---- configuration
+
+-- by the bytes of which the guest has no copy
+abbrev pub CycleReads : Type 0
+CycleReads = (s : State) → IsHandoff s → IsNumbered s.functions
+    → (gs : GuestsNow) → AreSeated (board_at s.functions) gs
+    → (name : Text) (n : ℕ) (p : Path) (f : Function) → HasSlot gs name n p f → (off : ℕ) (ons : List Bool)
+    → config_reply (state_over s gs).functions (address_now s.functions p) off (handed_on (config off) ons)
+    ≡ read f.file (config off) (handed_on (config off) ons)
+
+abbrev pub CycleWrites : Type 0
+CycleWrites = (s : State) → IsStateOfBoard s.functions → IsNumbered s.functions
+    → (gs : GuestsNow) → AreSeated (board_at s.functions) gs
+    → (name : Text) (n : ℕ) (p : Path) (f : Function) → HasSlot gs name n p f → (off : ℕ) (ons : List Bool) (v : ℕ)
+    → after_config_write (state_over s gs).functions (address_now s.functions p) off (handed_on (config off) ons) v
+    ≡ (state_over s (with_guest (with_slot_changed (write ons v (config off)) n) name gs)).functions
+
+-- ---- served functions
+
+abbrev pub ServedAtFirst : Type 0
+ServedAtFirst = (w : World) (s : State) → IsStateOfBoard s.functions → closed_given w s ≡ []
+    → AreServed s (guests_at_first w)
+
+abbrev pub ServedAfterEvents : Type 0
+ServedAfterEvents = (s : State) (gs : GuestsNow) → AreServed s gs → (name : Text) (e : Event)
+    → AreServed s (after_guest_event name e gs)
+
+abbrev pub ServedAfterMoves : Type 0
+ServedAfterMoves = (s : State) (gs : GuestsNow) → AreServed s gs → (m : Move) → AreServed s (after_move gs m)
+
+abbrev pub FaultDecides : Type 0
+FaultDecides = (w : World) (s : State) → (first_fault w s ≡ None) ↔ CanBeGiven w s

@@ -1,0 +1,67 @@
+-- Where a handoff has the regions of a function, and which functions guests may be given over it: PCI Local Bus 3.0,
+-- chapter 6.2.5.
+--     base_in s p r      the address that a region's base address register holds in the handoff
+--     opens_region s p r      the function's Command opens the region's space there
+--     closed_given w s      the regions of given functions that Command doesn't open, in path order, then by register
+--     HandoffFault, first_fault w s      a problem of the audit, or a closed region; the first of them
+--     CanBeGiven w s      there is neither
+--     HasOpenRegions s p, AreServed s gs      all regions of the function are open; of each function in a slot they are
+use Rattle.std.specs.Prelude.{List, [], ◌∷◌, ◌≡◌, ℕ, Bool, Option, Some, None, filter, IsTrue}
+use Rattle.lists.specs.Elements.{Each, first_of_two}
+use Rattle.model_registers.specs.Declarations.{Region, Endpoint}
+use Rattle.model_registers.specs.Decoding.{space_of, base, is_open}
+use Rattle.model_board.specs.Paths.{Path}
+use Rattle.model_board.specs.AtReset.{board_at}
+use Rattle.model_board.specs.Ports.{file_at}
+use Rattle.model_board.specs.Routing.{routing}
+use Rattle.model_board.specs.State.{State}
+use Rattle.model_set_up.specs.PlacedRegions.{PlacedRegion}
+use Rattle.model_audit.specs.OpenRegions.{closed_regions}
+use Rattle.model_audit.specs.Problems.{Problem, problems}
+use Rattle.model_audit.specs.Witnesses.{IsInOrder}
+use Rattle.model_guests.specs.Text.{Text}
+use Rattle.model_guests.specs.World.{World, declared}
+use Rattle.model_guests.specs.Guests.{GuestsNow, path_in}
+use Rattle.model_handoff.specs.Handoffs.{is_given}
+
+abbrev pub base_in : State → Path → Region → ℕ
+base_in s p r = base (file_at s.functions p) r.index r.kind
+
+abbrev pub opens_region : State → Path → Region → Bool
+opens_region s p r = is_open (file_at s.functions p) (space_of r.kind)
+
+-- ---- what may be given
+
+abbrev pub closed_given : World → State → List PlacedRegion
+closed_given w s = filter (λ q. is_given w q.path) (closed_regions (routing s.functions))
+
+-- a closed region is refusal 206, and comes after all problems: a guest would see a hit there that the board doesn't
+-- serve. The space isn't opened for the guest, since that could make a second claimant or an address that no bridge
+-- forwards: the audit would be one of another state than the handoff.
+pub data HandoffFault : Type 0 where
+  in_disorder : Problem → HandoffFault
+  closed_region : PlacedRegion → HandoffFault
+
+abbrev pub first_problem : List Problem → Option HandoffFault
+first_problem [] = None
+first_problem (p ∷ ps) = Some (in_disorder p)
+
+abbrev pub first_closed : List PlacedRegion → Option HandoffFault
+first_closed [] = None
+first_closed (q ∷ qs) = Some (closed_region q)
+
+abbrev pub first_fault : World → State → Option HandoffFault
+first_fault w s = first_of_two (first_problem (problems s.functions)) (first_closed (closed_given w s))
+
+pub record CanBeGiven (w : World) (s : State) : Type 0 where
+  pub order : IsInOrder s.functions
+  pub none_closed : closed_given w s ≡ []
+
+-- ---- what guests have
+
+abbrev pub HasOpenRegions : State → Path → Type 0
+HasOpenRegions s p = (d : Endpoint) → declared (board_at s.functions) p ≡ Some d
+    → Each (λ r. IsTrue (opens_region s p r)) d.regions
+
+abbrev pub AreServed : State → GuestsNow → Type 0
+AreServed s gs = (name : Text) (n : ℕ) (p : Path) → path_in gs name n ≡ Some p → HasOpenRegions s p

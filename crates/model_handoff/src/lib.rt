@@ -1,0 +1,83 @@
+//! Guests over a board in the state in which any firmware hands it over, as definitions, and laws about them.
+#![tactic(auto)]
+
+ghost use Rattle.model_handoff.specs.AgreementLaws.{FirstIsHandoff, FirstIsReset, KeepsAddresses, KeepsBoard, KeepsProblems, KeepsReach, KeepsRouting, StateAgrees, StateIsOnly, StaysInOrder};
+ghost use Rattle.model_handoff.specs.IsolationLaws.{GuestsAlike, IsolatedOver, RepliesAlike, TwoHandoffs};
+ghost use Rattle.model_handoff.specs.RegionLaws.{CycleReads, CycleWrites, FaultDecides, HitReachesOver, MemoryBySpace, PortsBySpace, RegionIsClaimed, RegionReads, RegionWrites, ServedAfterEvents, ServedAfterMoves, ServedAtFirst};
+ghost use Rattle.model_handoff.specs.ChangeLaws.{ChangesOver, EventReachesOver, LatchOver, MoveResetsOver};
+ghost use Rattle.model_handoff.specs.SetUpCase.{SameLine, SameOutput, SameState, SetUpAddresses, SetUpCanBeGiven, SetUpIsHandoff, SetUpIsInOrder, SetUpPlaces};
+
+/// Just one state of the board agrees with the guests over a handoff; before any event it is the handoff with each
+/// given function at reset.
+pub fn agreement_is_one()
+    ensures agrees { StateAgrees }
+    ensures is_only { StateIsOnly }
+    ensures first { FirstIsReset }
+    ensures at_reset { FirstIsHandoff }
+{}
+
+/// Whatever guests do, the board has the functions, the routing registers and the bus numbers that were handed over,
+/// and an audit of it tells the same.
+pub fn handoff_stays()
+    ensures board { KeepsBoard }
+    ensures routing { KeepsRouting }
+    ensures reach { KeepsReach }
+    ensures addresses { KeepsAddresses }
+    ensures problems { KeepsProblems }
+    ensures order { StaysInOrder }
+{}
+
+/// No guest can tell a handoff from another, or from what set-up leaves.
+pub fn isolated_over_handoffs()
+    ensures guests { GuestsAlike }
+    ensures replies { RepliesAlike }
+    ensures isolated { IsolatedOver }
+    ensures two { TwoHandoffs }
+{}
+
+/// A byte of an open region is claimed where an orderly handoff has it, by that region alone; a guest's hit stands for
+/// such a byte.
+pub fn regions_are_reached()
+    ensures claimed { RegionIsClaimed }
+    ensures hits { HitReachesOver }
+{}
+
+/// At the place that a handoff gives a guest's function, the board reads and changes what the guest's file holds.
+pub fn accesses_reach_files()
+    ensures reads { RegionReads }
+    ensures writes { RegionWrites }
+    ensures memory { MemoryBySpace }
+    ensures ports { PortsBySpace }
+    ensures cycle_reads { CycleReads }
+    ensures cycle_writes { CycleWrites }
+{}
+
+/// Where an audit passes and no region of a given function is closed, all of them stay open to whoever has them.
+pub fn given_are_served()
+    ensures first { ServedAtFirst }
+    ensures events { ServedAfterEvents }
+    ensures moves { ServedAfterMoves }
+    ensures faults { FaultDecides }
+{}
+
+/// When a guest changes a function, the board over a handoff changes there alone, by the bytes of which the guest has no
+/// copy.
+pub fn changes_reach_board()
+    ensures function { ChangesOver }
+    ensures latch { LatchOver }
+    ensures moves { MoveResetsOver }
+    ensures events { EventReachesOver }
+{}
+
+/// What set-up leaves is a handoff in order, without a closed region; guests over it are the guests of a board that is
+/// set up.
+pub fn set_up_is_a_case()
+    ensures handoff { SetUpIsHandoff }
+    ensures order { SetUpIsInOrder }
+    ensures given { SetUpCanBeGiven }
+    ensures places { SetUpPlaces }
+    ensures addresses { SetUpAddresses }
+    ensures state { SameState }
+    ensures line { SameLine }
+    ensures output { SameOutput }
+{}
