@@ -1,8 +1,10 @@
 -- The worked examples, by computation.
 use Rattle.std.proofs.Common.{refl}
+use Rattle.std.specs.Fmt.{digits}
 use Rattle.model_audit.specs.Examples.{WorkedExamples}
 
 pub worked_examples : WorkedExamples
+unfolding digits
 worked_examples = record {
   orderly = refl;
   straddles = refl;
@@ -21,4 +23,9 @@ worked_examples = record {
   nothing_told = refl;
   lost = refl;
   beyond = refl;
+  text_of_none = refl;
+  text_of_lost = refl;
+  text_of_straddles = refl;
+  text_of_overlap = refl;
+  text_of_same_place = refl;
 }

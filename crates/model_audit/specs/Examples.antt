@@ -2,7 +2,7 @@
 --     between first last      a window
 --     one_card, two_bridges      a bridge with a card of 1 MB behind it; the same behind each of two bridges
 --     renumbered n      the main board after set-up, with another Secondary Bus Number in its bridge
-use Rattle.std.specs.Prelude.{List, [], ◌∷◌, ◌≡◌, ℕ, ◌*◌, false, Option, Some, None}
+use Rattle.std.specs.Prelude.{List, [], ◌∷◌, ◌≡◌, ℕ, ◌*◌, false, Option, Some, None, codes}
 use Rattle.model_registers.specs.Registers.{config, write}
 use Rattle.model_registers.specs.ByteEnables.{lanes}
 use Rattle.model_registers.specs.Declarations.{mem32}
@@ -17,10 +17,12 @@ use Rattle.model_board.specs.Windows.{Window}
 use Rattle.model_board.specs.Cycles.{BusAddress}
 use Rattle.model_board.specs.Routing.{RoutingRow, regions, windows}
 use Rattle.model_set_up.specs.PlacedRegions.{PlacedRegion}
+use Rattle.model_guests.specs.Text.{text_of_lines}
 use Rattle.model_audit.specs.OpenRegions.{region_now, closed_regions}
 use Rattle.model_audit.specs.Agents.{region_agent, bridge_agent}
 use Rattle.model_audit.specs.Problems.{not_forwarded, contended, not_found, routing_problems, problems}
 use Rattle.model_audit.specs.Notes.{idle, idle_windows, notes}
+use Rattle.model_audit.specs.AuditText.{audit_text, audit}
 
 abbrev pub between : ℕ → ℕ → Option Window
 between first last = Some (record { first = first; last = last })
@@ -120,3 +122,23 @@ pub record WorkedExamples : Type 0 where
   -- a Secondary above the Subordinate: no cycle for that bus is taken
   pub beyond :
       problems (renumbered 2) ≡ not_found (behind 2 0) (at_bus 2 0) None ∷ not_found (behind 2 1) (at_bus 2 1) None ∷ []
+  -- what is said of them
+  pub text_of_none : audit (set_up_state main_board main_apertures).functions ≡ text_of_lines (codes "audit: ok" ∷ [])
+  pub text_of_lost :
+      audit (reset_state main_board).functions
+      ≡ text_of_lines (
+      codes "audit: 2.0/0.0: a cycle for 00:00.0 reaches nothing"
+      ∷ codes "audit: 2.0/1.0: a cycle for 00:01.0 reaches 1.0"
+      ∷ codes "audit: 2 problems" ∷ [])
+  pub text_of_straddles :
+      audit_text (routing_problems (one_card (between 0xc0000000 0xc00fffff) None 2 0xc0080000))
+      ≡ text_of_lines (
+      codes "audit: 2.0/0.0 bar0 at 0xc0080000 size 0x100000: 0xc0100000 is not forwarded by 2.0"
+      ∷ codes "audit: 1 problem" ∷ [])
+  pub text_of_overlap :
+      audit_text (routing_problems (two_bridges (between 0xc0000000 0xc02fffff) (between 0xc0200000 0xc03fffff)))
+      ≡ text_of_lines (codes "audit: 2.0 and 3.0 both answer memory 0xc0200000" ∷ codes "audit: 1 problem" ∷ [])
+  pub text_of_same_place :
+      audit_text (routing_problems (card (on_root 1) 2 0xc0000000 ∷ card (on_root 2) 2 0xc0000000 ∷ []))
+      ≡ text_of_lines (
+      codes "audit: 1.0 bar0 and 2.0 bar0 both answer memory 0xc0000000" ∷ codes "audit: 1 problem" ∷ [])

@@ -5,4 +5,5 @@ pub mod Found
 pub mod Problems
 pub mod Witnesses
 pub mod Notes
+pub mod AuditText
 pub mod Examples

@@ -7,4 +7,5 @@ mod texts;
 mod whole;
 mod writing;
 
+pub use texts::push_path;
 pub use writing::{ReportFault, report};

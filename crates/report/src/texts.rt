@@ -19,8 +19,9 @@ pub(crate) fn kind_text(kind: Kind) -> &'static str
     }
 }
 
-/// Appends the text of a path.
-pub(crate) fn push_path(text: &mut String, path: &Path) -> Result<(), AllocError>
+/// Appends the text of a path: device and function number of each part, as in `2.0/1.0`. Without memory for
+/// it, some of it may stand there.
+pub fn push_path(text: &mut String, path: &Path) -> Result<(), AllocError>
     ensures { OnOk result (string_bytes text.new ≡ string_bytes text.old ++ path_text path.now) }
 {
     let mut is_first = true;

@@ -1,0 +1,172 @@
+//! A problem's line, and the last line.
+ghost use Rattle.std.specs.Prelude.{◌≡◌, ◌++◌, codes, OnOk, string_bytes};
+ghost use Rattle.std.specs.Option.{option_map_or};
+ghost use Rattle.paths.specs.BusAddresses.{bus_address_of};
+ghost use Rattle.model_guests.specs.Report.{hexadecimal, path_text};
+ghost use Rattle.model_audit.specs.AuditText.{region_text, agent_text, space_text, number_text, problem_text, total_text, audit_line};
+ghost use Rattle.model_audit.specs.Problems.{not_forwarded, contended, not_found};
+ghost use Rattle.board_audit.specs.Told.{problem_of};
+ghost use Rattle.report.specs.Found.{ended};
+
+use bars::Space;
+use board_audit::{Agent, OpenRegion, Problem};
+use paths::{Bdf, Path};
+use report::push_path;
+use std::alloc::AllocError;
+
+/// Appends the path of a region, its register, and where it stands.
+fn push_region(text: &mut String, region: &OpenRegion) -> Result<(), AllocError>
+    ensures { OnOk result (string_bytes text.new ≡ string_bytes text.old ++ region_text region.now) }
+{
+    push_path(text, &region.path)?;
+    let index = region.region.index;
+    let base = region.region.base;
+    let size = region.region.size;
+    write!(text, " bar{index} at 0x{base:x} size 0x{size:x}")
+}
+
+/// Appends the path of an agent, and its register, if it has one.
+fn push_agent(text: &mut String, agent: &Agent) -> Result<(), AllocError>
+    ensures { OnOk result (string_bytes text.new ≡ string_bytes text.old ++ agent_text agent.now) }
+{
+    push_path(text, &agent.path)?;
+    match agent.register {
+        Some(index) => write!(text, " bar{index}"),
+        None => Ok(()),
+    }
+}
+
+/// Appends an address.
+fn push_address(text: &mut String, address: u64) -> Result<(), AllocError>
+    ensures { OnOk result (string_bytes text.new ≡ string_bytes text.old ++ hexadecimal address) }
+{
+    write!(text, "0x{address:x}")
+}
+
+/// Appends the name of the space whose addresses an agent answers.
+fn push_space(text: &mut String, agent: &Agent) -> Result<(), AllocError>
+    ensures { OnOk result (string_bytes text.new ≡ string_bytes text.old ++ space_text agent.now.space) }
+{
+    match agent.space {
+        Space::Io => text.push_str("I/O"),
+        Space::Mem => text.push_str("memory"),
+    }
+}
+
+/// Appends a bus, device and function number.
+fn push_number(text: &mut String, bus: u8, device: u8, function: u8) -> Result<(), AllocError>
+    ensures { OnOk result (string_bytes text.new
+        ≡ string_bytes text.old ++ number_text (record { bus = bus; part = record { device = device; function = function } })) }
+{
+    write!(text, "{bus:02x}:{device:02x}.{function}")
+}
+
+/// Appends a path, or `nothing`.
+fn push_reached(text: &mut String, path: &Option<Path>) -> Result<(), AllocError>
+    ensures { OnOk result (string_bytes text.new
+        ≡ string_bytes text.old ++ option_map_or path_text path.now (codes "nothing")) }
+{
+    match path {
+        Some(path) => push_path(text, path),
+        None => text.push_str("nothing"),
+    }
+}
+
+/// Appends what is wrong with the forwarding to a region.
+fn push_not_forwarded(
+    text: &mut String,
+    region: &OpenRegion,
+    bridge: &Path,
+    address: u64,
+) -> Result<(), AllocError>
+    ensures { OnOk result (string_bytes text.new
+        ≡ string_bytes text.old ++ problem_text (not_forwarded region.now bridge.now address)) }
+{
+    push_region(text, region)?;
+    text.push_str(": ")?;
+    push_address(text, address)?;
+    text.push_str(" is not forwarded by ")?;
+    push_path(text, bridge)
+}
+
+/// Appends what is wrong between two agents.
+fn push_contended(
+    text: &mut String,
+    one: &Agent,
+    other: &Agent,
+    address: u64,
+) -> Result<(), AllocError>
+    ensures { OnOk result (string_bytes text.new
+        ≡ string_bytes text.old ++ problem_text (contended one.now other.now address)) }
+{
+    push_agent(text, one)?;
+    text.push_str(" and ")?;
+    push_agent(text, other)?;
+    text.push_str(" both answer ")?;
+    push_space(text, one)?;
+    text.push_str(" ")?;
+    push_address(text, address)
+}
+
+/// Appends what is wrong with the number of a function.
+fn push_not_found(
+    text: &mut String,
+    path: &Path,
+    address: Bdf,
+    instead: &Option<Path>,
+) -> Result<(), AllocError>
+    ensures { OnOk result (string_bytes text.new
+        ≡ string_bytes text.old ++ problem_text (not_found path.now (bus_address_of address) instead.now)) }
+{
+    push_path(text, path)?;
+    text.push_str(": a cycle for ")?;
+    push_number(text, address.bus, address.device, address.function)?;
+    text.push_str(" reaches ")?;
+    push_reached(text, instead)
+}
+
+/// Appends a problem.
+fn push_told(text: &mut String, problem: &Problem) -> Result<(), AllocError>
+    ensures { OnOk result (string_bytes text.new ≡ string_bytes text.old ++ problem_text (problem_of problem.now)) }
+{
+    match problem {
+        Problem::NotForwarded {
+            region,
+            bridge,
+            address,
+        } => push_not_forwarded(text, region, bridge, *address),
+        Problem::Contended {
+            one,
+            other,
+            address,
+        } => push_contended(text, one, other, *address),
+        Problem::NotFound {
+            path,
+            address,
+            instead,
+        } => push_not_found(text, path, *address, instead),
+    }
+}
+
+/// Appends the line of a problem.
+pub(crate) fn push_problem(text: &mut String, problem: &Problem) -> Result<(), AllocError>
+    ensures { OnOk result (string_bytes text.new
+        ≡ string_bytes text.old ++ ended (audit_line (problem_text (problem_of problem.now)))) }
+{
+    text.push_str("audit: ")?;
+    push_told(text, problem)?;
+    text.push('\n')
+}
+
+/// Appends the line that counts the problems.
+pub(crate) fn push_total(text: &mut String, count: usize) -> Result<(), AllocError>
+    ensures { OnOk result (string_bytes text.new ≡ string_bytes text.old ++ ended (audit_line (total_text count))) }
+{
+    if count == 0 {
+        return text.push_str("audit: ok\n");
+    }
+    if count == 1 {
+        return writeln!(text, "audit: {count} problem");
+    }
+    writeln!(text, "audit: {count} problems")
+}
