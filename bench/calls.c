@@ -55,6 +55,9 @@ int main(int argc, char **argv)
     COST("write CONFIG_ADDRESS", 1000000, pciguest_write(&machine, 0, PCIGUEST_IO, 0, 0xcf8, 4, 0x80000000));
     COST("read CONFIG_DATA", 1000000, pciguest_read(&machine, 0, PCIGUEST_IO, 0, 0xcfc, 4, &value));
     COST("raise a bit of Status", 1000000, pciguest_raise(&machine, 0, 0, PCIGUEST_RAISE_CONFIG, 7, 0x80));
+    COST("reset a function", 1000000, pciguest_reset(&machine, 0, 0));
+    pciguest_write(&machine, 0, PCIGUEST_CONFIG, 0, 0x14, 4, 0xc0100000);
+    pciguest_write(&machine, 0, PCIGUEST_CONFIG, 0, 4, 2, 2);
     COST("read memory as the host", 1000000, pciguest_host_read(&machine, PCIGUEST_MEMORY, 0, 0, 0, 0xc0100010, 4, &value));
     COST("run a line that reads memory", 300000, pciguest_run_line(&machine, line, sizeof line - 1, reply, sizeof reply, &written));
     COST("new and free", 300, pciguest_new(&other, board, length) + (pciguest_free(&other), 0));

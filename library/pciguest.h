@@ -60,6 +60,7 @@ uint32_t pciguest_raw_raise(struct pciguest *machine, size_t guest, uint64_t slo
 uint32_t pciguest_raw_host_read(struct pciguest *machine, uint32_t space, uint8_t bus, uint8_t device,
                                 uint8_t function, uint64_t place, uint32_t width, uint32_t *value);
 uint32_t pciguest_raw_move(struct pciguest *machine, size_t from, uint64_t slot, size_t to, uint64_t target);
+uint32_t pciguest_raw_reset(struct pciguest *machine, size_t guest, uint64_t slot);
 uint32_t pciguest_raw_run_line(struct pciguest *machine, const uint8_t *line, size_t length, uint8_t *reply,
                                size_t room, size_t *written);
 uint32_t pciguest_raw_report(const uint8_t *board, size_t length, uint8_t *text, size_t room, size_t *needed);
@@ -209,6 +210,16 @@ static inline uint32_t pciguest_move(struct pciguest *machine, size_t from, uint
     if (!machine)
         return PCIGUEST_ARGUMENT;
     return pciguest_raw_move(machine, from, slot, to, target);
+}
+
+/* Resets the function in a guest's slot, where it is: nothing is carried over, as in a move. It has no line of a script;
+ * two moves do the same, to an empty slot and back. 303: the slot is above 31. 601: the slot is empty. 902: there is no
+ * such guest. */
+static inline uint32_t pciguest_reset(struct pciguest *machine, size_t guest, uint64_t slot)
+{
+    if (!machine)
+        return PCIGUEST_ARGUMENT;
+    return pciguest_raw_reset(machine, guest, slot);
 }
 
 /* Runs one line of a script, with its line feed or without; a line feed elsewhere makes it a bad line. The reply is one

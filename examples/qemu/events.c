@@ -67,32 +67,47 @@ static uint32_t perform(struct board *board, const struct seat *seat, struct acc
     return read;
 }
 
-static uint32_t move(struct board *board, const struct seat *seat, uint64_t from, uint64_t to)
+/* The last slot of the guest that is empty, or one past all slots: no function reads all ones. */
+static uint64_t empty_slot(struct board *board, const struct seat *seat)
 {
-    uint32_t number = pciguest_move(&board->machine, seat->index, from, seat->index, to);
+    enum { SLOTS = 32 };
 
-    if (board->log) {
-        fprintf(board->log, "host move %s %" PRIu64 " %s %" PRIu64 "\n", seat->guest, from, seat->guest, to);
-        log_reply(board->log, "host", number);
+    for (uint64_t slot = SLOTS; slot-- > 0;) {
+        uint32_t identity = 0;
+
+        if (!pciguest_read(&board->machine, seat->index, PCIGUEST_CONFIG, slot, 0, 4, &identity) && identity == UINT32_MAX)
+            return slot;
     }
-    return number;
+    return SLOTS;
 }
 
-/* Puts the function in a slot at reset: a move to a slot of the guest that is empty and, strictly after it, one back.
- * A library with a call for this, `pciguest_reset(&board->machine, seat->index, seat->slot)`, needs that one call here,
- * and a line of the log; as long as it has none, a function of a guest without an empty slot keeps its state. */
+static void log_move(FILE *log, const char *guest, uint64_t from, uint64_t to, uint32_t number)
+{
+    fprintf(log, "host move %s %" PRIu64 " %s %" PRIu64 "\n", guest, from, guest, to);
+    log_reply(log, "host", number);
+}
+
+/* No line of a script says a reset, and two moves do the same: to a slot of the guest that is empty, and back. Where
+ * none is empty, a comment stands in their place, and the log can't be run again. */
+static void log_reset(struct board *board, const struct seat *seat, uint32_t number)
+{
+    uint64_t spare = empty_slot(board, seat);
+
+    if (number == 0 && spare > 31) {
+        fprintf(board->log, "#reset %s %" PRIu64 "\n", seat->guest, seat->slot);
+        return;
+    }
+    log_move(board->log, seat->guest, seat->slot, spare, number);
+    if (number == 0)
+        log_move(board->log, seat->guest, spare, seat->slot, 0);
+}
+
 static void reset(struct board *board, const struct seat *seat)
 {
-    enum { TAKEN = 602, LAST_SLOT = 31 };
+    uint32_t number = pciguest_reset(&board->machine, seat->index, seat->slot);
 
-    for (uint64_t spare = LAST_SLOT + 1; spare-- > 0;) {
-        uint32_t number = move(board, seat, seat->slot, spare);
-
-        if (number == 0)
-            (void)move(board, seat, spare, seat->slot);
-        if (number != TAKEN)
-            return;
-    }
+    if (board->log)
+        log_reset(board, seat, number);
 }
 
 static uint32_t config_event(struct board *board, const struct seat *seat, const struct config_access *config,

@@ -73,6 +73,7 @@ static void without_a_machine(void)
     IS(pciguest_raise(&none, 0, 0, PCIGUEST_RAISE_CONFIG, 7, 1), 901);
     IS(pciguest_host_read(&none, PCIGUEST_MEMORY, 0, 0, 0, 0, 4, &value), 901);
     IS(pciguest_move(&none, 0, 0, 0, 1), 901);
+    IS(pciguest_reset(&none, 0, 0), 901);
     IS(pciguest_guest(&none, "a", 1, &count), 901);
     IS(pciguest_run_line(&none, "a cr 0 0 4", 10, reply, sizeof reply, &count), 901);
     pciguest_free(&none);
@@ -98,6 +99,7 @@ static void null_pointers(struct pciguest *machine)
     IS(pciguest_raise(NULL, 0, 0, 0, 0, 0), 902);
     IS(pciguest_host_read(machine, PCIGUEST_IO, 0, 0, 0, 0, 1, NULL), 902);
     IS(pciguest_move(NULL, 0, 0, 0, 0), 902);
+    IS(pciguest_reset(NULL, 0, 0), 902);
     IS(pciguest_guest(machine, "a", 1, NULL), 902);
     IS(pciguest_run_line(machine, "", 0, NULL, 0, &count), 902);
     IS(pciguest_run_line(machine, "", 0, reply, sizeof reply, NULL), 902);
@@ -124,12 +126,38 @@ static void bad_arguments(struct pciguest *machine, const uint8_t *board, size_t
     IS(pciguest_host_read(machine, PCIGUEST_CONFIG, 0, 0, 8, 0, 4, &value), 902);
     IS(pciguest_move(machine, 0, 0, 2, 1), 902);
     IS(pciguest_move(machine, 0, 31, 0, 1), 601);
+    IS(pciguest_reset(machine, 2, 0), 902);
+    IS(pciguest_reset(machine, 0, 31), 601);
+    IS(pciguest_reset(machine, 0, 32), 303);
     IS(pciguest_guest(machine, "nobody", 6, &count), 902);
     IS(pciguest_run_line(machine, "a cr 0 0 4", 10, reply, sizeof reply - 1, &count), 902);
     IS(value, 7);
     IS(count, 8);
     IS(pciguest_run_line(machine, "# a comment", 11, reply, sizeof reply, &count), 0);
     IS(count, 0);
+}
+
+/* A reset leaves the function at reset in its slot, takes no memory, and leaves the guest's other function. */
+static void resets(struct pciguest *machine)
+{
+    uint32_t value = 7;
+    long before = blocks;
+
+    IS(pciguest_write(machine, 0, PCIGUEST_CONFIG, 0, 4, 2, 2), 0);
+    IS(pciguest_write(machine, 0, PCIGUEST_CONFIG, 0, 0x3c, 1, 0x5a), 0);
+    IS(pciguest_write(machine, 0, PCIGUEST_CONFIG, 1, 4, 2, 2), 0);
+    calls_left = 1;
+    IS(pciguest_reset(machine, 0, 0), 0);
+    calls_left = -1;
+    IS((uint64_t)blocks, (uint64_t)before);
+    IS(pciguest_read(machine, 0, PCIGUEST_CONFIG, 0, 0, 4, &value), 0);
+    IS(value, 0x00011234);
+    IS(pciguest_read(machine, 0, PCIGUEST_CONFIG, 0, 4, 2, &value), 0);
+    IS(value, 0);
+    IS(pciguest_read(machine, 0, PCIGUEST_CONFIG, 0, 0x3c, 1, &value), 0);
+    IS(value, 0);
+    IS(pciguest_read(machine, 0, PCIGUEST_CONFIG, 1, 4, 2, &value), 0);
+    IS(value, 2);
 }
 
 static void reply_is(int line, struct pciguest *machine, const char *text, const char *wanted)
@@ -307,6 +335,7 @@ int main(int argc, char **argv)
     IS(pciguest_new(&machine, board, length), 0);
     null_pointers(&machine);
     bad_arguments(&machine, board, length);
+    resets(&machine);
     line_feeds(&machine);
     pciguest_free(&machine);
     pciguest_free(&machine);

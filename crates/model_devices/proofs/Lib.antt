@@ -1,3 +1,4 @@
 pub mod OneGuest
 pub mod Resets
 pub mod Seats
+pub mod Calls

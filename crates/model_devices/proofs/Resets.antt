@@ -1,32 +1,30 @@
 -- A reset of a function is a move to an empty slot and back, and resets the function on the board.
-use Rattle.std.proofs.Common.{◌≡◌, ℕ, zero, suc, ◌<◌, Bool, true, false, not, ◌||◌, cond, List, [], ◌∷◌, Some, None, Option, refl, sym, ap, ap₂, ◌∙◌, subst, arith}
+use Rattle.std.proofs.Common.{◌≡◌, ℕ, zero, suc, Bool, true, false, not, ◌||◌, cond, List, [], ◌∷◌, Some, None, Option, refl, sym, ap, ap₂, ◌∙◌, subst}
 use Rattle.std.specs.Prelude.{slice_get, slice_set, unwrap_or, is_some, nat_le, option_map, IsSome}
 use Rattle.std.specs.Option.{option_map_or}
 use Rattle.model_registers.specs.Registers.{File}
 use Rattle.model_registers.specs.Decoding.{Function}
 use Rattle.model_registers.specs.EndpointTable.{endpoint_reset}
 use Rattle.model_registers.specs.CopiedFiles.{after_reset}
-use Rattle.model_registers.specs.Apertures.{Apertures}
 use Rattle.model_board.specs.Paths.{Path}
 use Rattle.model_board.specs.Board.{Board}
 use Rattle.model_guests.specs.Accesses.{done, refused}
 use Rattle.model_guests.specs.Slots.{Slots, slot_at, reset_function}
 use Rattle.model_guests.specs.Text.{Text}
-use Rattle.model_guests.specs.Lone.{LoneGuest, filled, emptied}
+use Rattle.model_guests.specs.Lone.{LoneGuest, filled}
 use Rattle.model_guests.specs.Guests.{GuestNow, GuestsNow, guest_named, lone_of, path_in, function_in, with_guest, Move, move_fault, after_move, handed_over, with_slot_emptied, with_slot_filled}
 use Rattle.model_guests.specs.AgreedBoard.{agreed_state}
 use Rattle.model_guests.specs.ChangeLaws.{with_slot_changed}
-use Rattle.model_guests.specs.Seated.{AreSeated, IsSeat, IsSeatedGuest}
+use Rattle.model_guests.specs.Seated.{AreSeated, IsSeat}
 use Rattle.model_guests.specs.MoveLaws.{IsMoved}
 use Rattle.model_guests.proofs.GuestsByName.{path_at, path_of, function_of, function_named, one, named_with}
 use Rattle.model_guests.proofs.GuestFiles.{with_file_there}
-use Rattle.model_guests.proofs.Seats.{seats_at}
 use Rattle.model_guests.proofs.SeatedMoves.{seat_in, Placed, put_there, was_there, place_left, left_names, left_guests}
 use Rattle.model_guests.proofs.MoveIndices.{moved_function}
 use Rattle.model_guests.proofs.Changes.{changes_one_function, resets_alike}
 use Rattle.model_devices.specs.DeviceEvents.{resets, slot_fault, reset_in, after_device_event, device_answer, device_after, after_guest_device}
 use Rattle.model_devices.specs.DeviceLaws.{between, IsMoveAndBack, ResetByMoves, ResetReachesBoard}
-use Rattle.model_devices.proofs.OneGuest.{name_found, lone_found, with_alike, with_none, with_twice}
+use Rattle.model_devices.proofs.OneGuest.{lone_found, with_alike, with_none, with_twice}
 use Rattle.model_devices.proofs.Seats.{set_own}
 
 -- ---- lists

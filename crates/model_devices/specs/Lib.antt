@@ -1,2 +1,3 @@
 pub mod DeviceEvents
 pub mod DeviceLaws
+pub mod Calls

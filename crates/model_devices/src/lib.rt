@@ -1,6 +1,7 @@
 //! What happens to guests' functions at their devices, as definitions, and laws about it.
 #![tactic(auto)]
 
+ghost use Rattle.model_devices.specs.Calls.{IsolatedByCalls};
 ghost use Rattle.model_devices.specs.DeviceLaws.{NamesAfterDevices, OthersAfterDevice, OwnAfterDevice, ResetByMoves, ResetReachesBoard, SeatedAfterDevices};
 
 /// A reset of a function leaves what a move to an empty slot and back leaves, and reaches the board by
@@ -17,4 +18,10 @@ pub fn devices_keep_guests()
     ensures others { OthersAfterDevice }
     ensures seated { SeatedAfterDevices }
     ensures names { NamesAfterDevices }
+{}
+
+/// Along any calls, lines and events at devices alike, what a guest is told and what it holds are those
+/// of its own events, those at its devices and the moves that touch it, over what it held before.
+pub fn calls_are_isolated()
+    ensures { IsolatedByCalls }
 {}

@@ -2,3 +2,4 @@ pub mod Checks
 pub mod NumberWords
 pub mod Owning
 pub mod Told
+pub mod DevicesTold

@@ -10,6 +10,7 @@ mod life;
 mod number_words;
 mod numbers;
 mod owner;
+mod resetting;
 mod text;
 mod text_calls;
 mod unboxed;

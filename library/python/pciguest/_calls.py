@@ -43,6 +43,7 @@ PARAMETERS: Dict[str, Tuple[Any, ...]] = {
     "raise": (_MACHINE, c_size_t, c_uint64, c_uint32, c_uint64, c_uint8),
     "host_read": (_MACHINE, c_uint32, c_uint8, c_uint8, c_uint8, c_uint64, c_uint32, POINTER(c_uint32)),
     "move": (_MACHINE, c_size_t, c_uint64, c_size_t, c_uint64),
+    "reset": (_MACHINE, c_size_t, c_uint64),
     "run_line": (_MACHINE, c_char_p, c_size_t, _ROOM, c_size_t, POINTER(c_size_t)),
     "report": _BOARD_TEXT,
     "check": _BOARD_TEXT,

@@ -154,6 +154,13 @@ class Guest:
         place = number("slot", slot, 64), part, number("offset", offset, 64)
         self.machine._call("raise", self.index, *place, number("mask", mask, 8))
 
+    def reset(self, slot: int) -> None:
+        """Resets the function in a slot, where it is: nothing is carried over, as in a move.
+
+        303: the slot is above 31. 601: the slot is empty.
+        """
+        self.machine._call("reset", self.index, number("slot", slot, 64))
+
     def _space(self, space: int, slot: int) -> Space:
         def read(place: int, width: int) -> int:
             value = c_uint32(0)

@@ -68,6 +68,17 @@ class Guests(Case):
         with Machine(MAIN) as other, self.assertRaises(ValueError):
             other.move(self.a, 1, other.guest("b"), 6)
 
+    def test_a_function_is_reset(self):
+        function, other = self.a.config[0], self.a.config[1]
+        function[4:2] = other[4:2] = 2
+        function[0x3C:1] = 0x5A
+        self.a.reset(0)
+        self.assertEqual((function[0:4], function[4:2], function[0x3C:1], other[4:2]), (0x00011234, 0, 0, 2))
+        self.refused(601, self.a.reset, 31)
+        self.refused(303, self.a.reset, 32)
+        with self.assertRaises(ValueError):
+            self.a.reset(-1)
+
 
 class Hosts(Case):
     def test_the_board(self):

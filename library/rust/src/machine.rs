@@ -195,6 +195,16 @@ impl Machine {
         })
     }
 
+    /// Resets the function in a guest's slot, where it is: nothing is carried over, as in a move.
+    ///
+    /// # Errors
+    ///
+    /// 303: the slot is above 31. 601: the slot is empty. 902: there is no such guest.
+    pub fn reset(&mut self, guest: Guest, slot: u64) -> Result<(), Error> {
+        // SAFETY: no pointer but the handle is passed.
+        answered(unsafe { raw::pciguest_raw_reset(&mut self.handle, guest.index(), slot) })
+    }
+
     /// Runs one line of a script, with its line feed or without; a line feed elsewhere makes it a bad line. The reply
     /// stands without its line feed, and a blank line or a comment has none. A line that is refused is answered by its
     /// reply.

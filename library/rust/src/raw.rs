@@ -74,6 +74,7 @@ extern "C" {
         to: usize,
         target: u64,
     ) -> u32;
+    pub fn pciguest_raw_reset(machine: *mut Handle, guest: usize, slot: u64) -> u32;
     pub fn pciguest_raw_run_line(
         machine: *mut Handle,
         line: *const u8,

@@ -65,7 +65,7 @@ fn bound() -> Vec<Call> {
 
 #[test]
 fn calls_are_those_of_the_header() {
-    assert_eq!(declared().len(), 12);
+    assert_eq!(declared().len(), 13);
     assert_eq!(declared(), bound());
 }
 

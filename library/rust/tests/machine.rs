@@ -129,6 +129,24 @@ fn a_function_moves() -> Result<(), Error> {
 }
 
 #[test]
+fn a_function_is_reset() -> Result<(), Error> {
+    let mut machine = Machine::new(BOARD)?;
+    let a = machine.guest("a")?;
+    machine.write(a, config(0, 4), 2, 2)?;
+    machine.write(a, config(0, 0x3c), 1, 0x5a)?;
+    machine.write(a, config(1, 4), 2, 2)?;
+    machine.reset(a, 0)?;
+    assert_eq!(machine.read(a, config(0, 0), 4)?, 0x0001_1234);
+    assert_eq!(machine.read(a, config(0, 4), 2)?, 0);
+    assert_eq!(machine.read(a, config(0, 0x3c), 1)?, 0);
+    assert_eq!(machine.read(a, config(1, 4), 2)?, 2);
+    assert_eq!(number(machine.reset(a, 31)), 601);
+    assert_eq!(number(machine.reset(a, 32)), 303);
+    assert_eq!(number(machine.reset(Guest::of_index(2), 0)), 902);
+    Ok(())
+}
+
+#[test]
 fn lines_have_replies() -> Result<(), Error> {
     let mut machine = Machine::new(BOARD)?;
     let mut reply = |line: &str| machine.run_line(line);
