@@ -10,3 +10,4 @@ pub mod Accesses
 pub mod Served
 pub mod Events
 pub mod SetUpCase
+pub mod Examples

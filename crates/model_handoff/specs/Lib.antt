@@ -6,3 +6,4 @@ pub mod WorldOver
 pub mod IsolationLaws
 pub mod ChangeLaws
 pub mod SetUpCase
+pub mod Examples

@@ -6,6 +6,7 @@ ghost use Rattle.model_handoff.specs.IsolationLaws.{GuestsAlike, IsolatedOver, R
 ghost use Rattle.model_handoff.specs.RegionLaws.{CycleReads, CycleWrites, FaultDecides, HitReachesOver, MemoryBySpace, PortsBySpace, RegionIsClaimed, RegionReads, RegionWrites, ServedAfterEvents, ServedAfterMoves, ServedAtFirst};
 ghost use Rattle.model_handoff.specs.ChangeLaws.{ChangesOver, EventReachesOver, LatchOver, MoveResetsOver};
 ghost use Rattle.model_handoff.specs.SetUpCase.{SameLine, SameOutput, SameState, SetUpAddresses, SetUpCanBeGiven, SetUpIsHandoff, SetUpIsInOrder, SetUpPlaces};
+ghost use Rattle.model_handoff.specs.Examples.{WorkedExamples};
 
 /// Just one state of the board agrees with the guests over a handoff; before any event it is the handoff with each
 /// given function at reset.
@@ -80,4 +81,9 @@ pub fn set_up_is_a_case()
     ensures state { SameState }
     ensures line { SameLine }
     ensures output { SameOutput }
+{}
+
+/// What guests see over some handoffs.
+pub fn worked_examples()
+    ensures { WorkedExamples }
 {}
