@@ -11,3 +11,4 @@ pub mod Served
 pub mod Events
 pub mod SetUpCase
 pub mod Examples
+pub mod Kept

@@ -7,3 +7,4 @@ pub mod IsolationLaws
 pub mod ChangeLaws
 pub mod SetUpCase
 pub mod Examples
+pub mod Kept

@@ -1,11 +1,12 @@
 //! Guests over a board in the state in which any firmware hands it over, as definitions, and laws about them.
 #![tactic(auto)]
 
-ghost use Rattle.model_handoff.specs.AgreementLaws.{FirstIsHandoff, FirstIsReset, KeepsAddresses, KeepsBoard, KeepsProblems, KeepsReach, KeepsRouting, StateAgrees, StateIsOnly, StaysInOrder};
+ghost use Rattle.model_handoff.specs.AgreementLaws.{FirstIsHandoff, FirstIsReset, KeepsAddresses, KeepsBoard, KeepsBridges, KeepsProblems, KeepsReach, KeepsRouting, StateAgrees, StateIsOnly, StaysInOrder};
 ghost use Rattle.model_handoff.specs.IsolationLaws.{GuestsAlike, IsolatedOver, RepliesAlike, TwoHandoffs};
 ghost use Rattle.model_handoff.specs.RegionLaws.{CycleReads, CycleWrites, FaultDecides, HitReachesOver, MemoryBySpace, PortsBySpace, RegionIsClaimed, RegionReads, RegionWrites, ServedAfterEvents, ServedAfterMoves, ServedAtFirst};
 ghost use Rattle.model_handoff.specs.ChangeLaws.{ChangesOver, EventReachesOver, LatchOver, MoveResetsOver};
 ghost use Rattle.model_handoff.specs.SetUpCase.{SameLine, SameOutput, SameState, SetUpAddresses, SetUpCanBeGiven, SetUpIsHandoff, SetUpIsInOrder, SetUpPlaces};
+ghost use Rattle.model_handoff.specs.Kept.{LawfulAfter, LawfulAlong, LawfulAtFirst};
 ghost use Rattle.model_handoff.specs.Examples.{WorkedExamples};
 
 /// Just one state of the board agrees with the guests over a handoff; before any event it is the handoff with each
@@ -21,6 +22,7 @@ pub fn agreement_is_one()
 /// and an audit of it tells the same.
 pub fn handoff_stays()
     ensures board { KeepsBoard }
+    ensures bridges { KeepsBridges }
     ensures routing { KeepsRouting }
     ensures reach { KeepsReach }
     ensures addresses { KeepsAddresses }
@@ -53,12 +55,16 @@ pub fn accesses_reach_files()
     ensures cycle_writes { CycleWrites }
 {}
 
-/// Where an audit passes and no region of a given function is closed, all of them stay open to whoever has them.
+/// Where an audit passes and no region of a given function is closed, all of them stay open to whoever has them, and
+/// the world stays lawful along any script.
 pub fn given_are_served()
     ensures first { ServedAtFirst }
     ensures events { ServedAfterEvents }
     ensures moves { ServedAfterMoves }
     ensures faults { FaultDecides }
+    ensures lawful_first { LawfulAtFirst }
+    ensures lawful_after { LawfulAfter }
+    ensures lawful_along { LawfulAlong }
 {}
 
 /// When a guest changes a function, the board over a handoff changes there alone, by the bytes of which the guest has no
