@@ -22,7 +22,7 @@ use Rattle.model_board.specs.RoutingLaws.{is_routing_register, HasSameRouting}
 use Rattle.model_board.specs.State.{BoardFunction, State, row_at}
 use Rattle.model_board.proofs.Routing.{flat_map_map, routing_of_change}
 use Rattle.model_audit.specs.Found.{is_bridge_at, bus_now, address_now, path_reached}
-use Rattle.model_audit.specs.Problems.{Problem, not_found, routing_problems, numbering_problem, numbering_problems, problems}
+use Rattle.model_audit.specs.Problems.{Problem, not_found, routing_problems, numbering_problem, numbering_problems}
 use Rattle.model_audit.proofs.Witnesses.{problems_decide}
 use Rattle.model_guests.specs.Guests.{GuestsNow, file_of}
 use Rattle.model_guests.specs.AgreedBoard.{agreed_function}
@@ -31,7 +31,7 @@ use Rattle.model_guests.proofs.AgreedChanges.{agreed_by}
 use Rattle.model_guests.proofs.AgreedFiles.{agreed_kept}
 use Rattle.model_handoff.specs.Handoffs.{state_over}
 use Rattle.model_handoff.specs.AgreementLaws.{KeepsBoard, KeepsBridges, KeepsRouting, KeepsReach, KeepsAddresses, KeepsProblems, StaysInOrder}
-use Rattle.model_handoff.proofs.Functions.{Facts, facts, file_is, bridge_stays, path_stays, decl_stays, row_stays}
+use Rattle.model_handoff.proofs.Functions.{Facts, facts, bridge_stays, path_stays, decl_stays, row_stays}
 
 -- ---- the same rows
 

@@ -1,11 +1,10 @@
 -- Along a script guests stay seated and served.
-use Rattle.std.proofs.Common.{◌≡◌, List, [], ◌∷◌, sym, subst}
+use Rattle.std.proofs.Common.{[], ◌∷◌, sym, subst}
 use Rattle.model_board.specs.Board.{Board}
 use Rattle.model_board.specs.AtReset.{board_at}
 use Rattle.model_guests.specs.Guests.{guests_at_first}
 use Rattle.model_guests.specs.Lines.{Meaning, nothing, guest_event, host_read, host_move, bad, meaning}
 use Rattle.model_guests.specs.Seated.{AreSeated}
-use Rattle.model_guests.specs.Text.{Text}
 use Rattle.model_guests.proofs.SeatedFirst.{seated_at_first}
 use Rattle.model_guests.proofs.SeatedMoves.{seated_after_moves}
 use Rattle.model_guests.proofs.Seats.{seated_after_events}

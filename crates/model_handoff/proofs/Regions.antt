@@ -1,23 +1,23 @@
 -- A byte of an open region is claimed where the handoff has it, whatever guests did.
-use Rattle.std.proofs.Common.{◌≡◌, ℕ, ◌+◌, ◌%◌, ◌<◌, true, false, not, cond, List, [], ◌∷◌, Some, None, Option, refl, sym, ap, ◌∙◌, subst, arith}
+use Rattle.std.proofs.Common.{◌≡◌, ℕ, ◌+◌, ◌%◌, ◌<◌, true, List, Some, Option, sym, ap, ◌∙◌, subst, arith}
 use Rattle.std.specs.Prelude.{map, IsTrue}
 use Rattle.std.specs.Option.{option_to_list}
-use Rattle.lists.specs.Elements.{Each, IsIn}
-use Rattle.lists.proofs.Members.{each_in, each_from, in_map, in_filter, in_flat_map}
+use Rattle.lists.specs.Elements.{IsIn}
+use Rattle.lists.proofs.Members.{each_in, in_map, in_filter, in_flat_map}
 use Rattle.model_registers.specs.Registers.{File}
 use Rattle.model_registers.specs.Declarations.{Kind, io_kind, mem32, mem64, Region, Endpoint}
-use Rattle.model_registers.specs.Decoding.{Space, space_of, base, base_address, opens_space, command_word, Function, Hit}
+use Rattle.model_registers.specs.Decoding.{Space, space_of, base, base_address, opens_space, command_word, Function}
 use Rattle.model_registers.proofs.HitRegions.{hit_is_of_region}
 use Rattle.model_board.specs.Paths.{Path}
 use Rattle.model_board.specs.Board.{endpoint, Board}
 use Rattle.model_board.specs.AtReset.{board_at}
-use Rattle.model_board.specs.Claims.{Claim, claims, first_claim}
+use Rattle.model_board.specs.Claims.{Claim}
 use Rattle.model_board.specs.Ports.{file_at}
 use Rattle.model_board.specs.Routing.{RoutingRow, row_of, routing}
-use Rattle.model_board.specs.State.{BoardFunction, State, row_at}
+use Rattle.model_board.specs.State.{BoardFunction, State}
 use Rattle.model_set_up.specs.PlacedRegions.{PlacedRegion}
 use Rattle.model_set_up.specs.UniqueClaimant.{IsClaimed}
-use Rattle.model_audit.specs.OpenRegions.{region_now, open_of, open_regions, regions_of}
+use Rattle.model_audit.specs.OpenRegions.{region_now, open_of, open_regions}
 use Rattle.model_audit.specs.Orderly.{IsOrderly, IsStateOfBoard, HasClaimsOfRegions}
 use Rattle.model_audit.proofs.Claims.{orderly_claims}
 use Rattle.model_guests.specs.Guests.{GuestsNow, path_in}

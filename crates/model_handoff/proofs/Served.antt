@@ -1,19 +1,16 @@
 -- Given functions are served, whatever guests do.
-use Rattle.std.proofs.Common.{◌≡◌, ℕ, zero, suc, Bool, true, false, not, cond, ◌||◌, ◌-◌, List, [], ◌∷◌, ◌++◌, length, inl, inr, Some, None, Option, refl, sym, ap, ◌∙◌, subst}
-use Rattle.std.specs.Prelude.{map, filter, flat_map, replicate, is_some, IsTrue, slice_get}
-use Rattle.std.specs.List.{list_any}
+use Rattle.std.proofs.Common.{◌≡◌, ℕ, zero, suc, Bool, true, false, not, cond, ◌-◌, List, [], ◌∷◌, ◌++◌, length, inl, inr, Some, None, Option, refl, sym, ap, ◌∙◌}
+use Rattle.std.specs.Prelude.{map, flat_map, replicate, is_some, IsTrue}
 use Rattle.std.specs.Str.{bytes_eq}
 use Rattle.lists.specs.Elements.{Each, IsIn}
 use Rattle.lists.proofs.Members.{each_from, any_in, in_front, in_back, in_map, in_filter, in_flat_map}
-use Rattle.lists.proofs.Indices.{index_in}
 use Rattle.model_registers.specs.Registers.{File}
-use Rattle.model_registers.specs.Declarations.{Region, Endpoint}
-use Rattle.model_registers.specs.Decoding.{Function, space_of, base_address, opens_space, command_word}
+use Rattle.model_registers.specs.Declarations.{Region}
+use Rattle.model_registers.specs.Decoding.{Function, base_address, opens_space, command_word}
 use Rattle.model_board.specs.Paths.{Path, path_eq}
 use Rattle.model_board.specs.AtReset.{board_at}
 use Rattle.model_board.specs.Ports.{file_at}
 use Rattle.model_board.specs.Routing.{row_of, routing}
-use Rattle.model_board.specs.State.{State}
 use Rattle.model_board.proofs.PathEnds.{path_self}
 use Rattle.model_set_up.specs.PlacedRegions.{PlacedRegion}
 use Rattle.model_audit.specs.OpenRegions.{region_now, closed_of, closed_regions}
@@ -21,7 +18,7 @@ use Rattle.model_audit.specs.Problems.{Problem, problems}
 use Rattle.model_audit.proofs.Witnesses.{problems_decide}
 use Rattle.model_guests.specs.Text.{Text}
 use Rattle.model_guests.specs.World.{Guest, World, given_paths}
-use Rattle.model_guests.specs.Guests.{GuestNow, GuestsNow, Move, guest_at_first, guests_at_first, guest_after, guest_named, handed_over, move_fault, path_in, function_in, with_guest, with_slot_emptied, with_slot_filled}
+use Rattle.model_guests.specs.Guests.{GuestsNow, guest_at_first, guest_after, guest_named, handed_over, move_fault, path_in, function_in, with_guest, with_slot_emptied, with_slot_filled}
 use Rattle.model_guests.proofs.GuestsByName.{path_at, path_of}
 use Rattle.model_guests.proofs.RegionReach.{declared_row}
 use Rattle.model_guests.proofs.SeatedMoves.{Placed, placed, put_there, was_there}

@@ -1,12 +1,12 @@
 -- Where a function stands among those of a board, and what guests change of it.
-use Rattle.std.proofs.Common.{◌≡◌, Bool, true, false, cond, List, [], ◌∷◌, inl, inr, Some, None, Option, refl, sym, ap, ap₂, ◌∙◌, subst}
-use Rattle.std.specs.Prelude.{map, find, option_map, IsTrue}
-use Rattle.lists.specs.Elements.{Each, EachPair, IsIn}
+use Rattle.std.proofs.Common.{◌≡◌, Bool, true, false, cond, List, [], ◌∷◌, inl, inr, Some, Option, sym, ap, ◌∙◌, subst}
+use Rattle.std.specs.Prelude.{find, IsTrue}
+use Rattle.lists.specs.Elements.{EachPair, IsIn}
 use Rattle.lists.proofs.Members.{each_in, from_map}
 use Rattle.model_registers.specs.Registers.{File}
 use Rattle.model_registers.specs.Declarations.{Endpoint}
 use Rattle.model_board.specs.Paths.{Path, path_eq, path_before}
-use Rattle.model_board.specs.Board.{Decl, endpoint, Row}
+use Rattle.model_board.specs.Board.{endpoint, Row}
 use Rattle.model_board.specs.AtReset.{board_at}
 use Rattle.model_board.specs.Ports.{file_at}
 use Rattle.model_board.specs.State.{BoardFunction, row_at}

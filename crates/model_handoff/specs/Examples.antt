@@ -3,9 +3,8 @@
 --     other_handoff      another bus number, another place for a region, and an Interrupt Line that is set
 --     closed_handoff      the same, with the Command of a given function closed
 --     lost_handoff      the same, with a Secondary Bus Number above the Subordinate
-use Rattle.std.specs.Prelude.{List, [], ◌∷◌, ◌≡◌, ℕ, true, Option, Some, None, codes, option_map}
+use Rattle.std.specs.Prelude.{[], ◌∷◌, ◌≡◌, ℕ, Some, None, codes}
 use Rattle.model_registers.specs.Registers.{config, write, all_bytes}
-use Rattle.model_registers.specs.Declarations.{mem32, mem64, Region}
 use Rattle.model_registers.specs.Decoding.{memory}
 use Rattle.model_board.specs.Paths.{Path}
 use Rattle.model_board.specs.Claims.{first_claim}
@@ -17,7 +16,7 @@ use Rattle.model_set_up.specs.PlacedRegions.{PlacedRegion}
 use Rattle.model_set_up.specs.SetUp.{set_up_state}
 use Rattle.model_audit.specs.Found.{address_now}
 use Rattle.model_audit.specs.Problems.{not_found, problems}
-use Rattle.model_guests.specs.Text.{Text, text_of_lines}
+use Rattle.model_guests.specs.Text.{text_of_lines}
 use Rattle.model_guests.specs.Examples.{main_world, on_bus_0, behind}
 use Rattle.model_guests.specs.Guests.{guests_at_first}
 use Rattle.model_guests.specs.AgreedBoard.{with_change_at}
