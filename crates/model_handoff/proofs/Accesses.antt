@@ -31,7 +31,7 @@ use Rattle.model_guests.proofs.KeptNumbers.{shows_file}
 use Rattle.model_guests.proofs.RegionReach.{declared_row}
 use Rattle.model_handoff.specs.Handoffs.{state_over, HasDeclaredPlaces}
 use Rattle.model_handoff.specs.RegionLaws.{RegionReads, RegionWrites, MemoryBySpace, PortsBySpace, CycleReads, CycleWrites, HasSlot}
-use Rattle.model_handoff.proofs.Functions.{Facts, facts, path_stays}
+use Rattle.model_handoff.proofs.Functions.{Facts, facts, path_stays, decl_stays}
 use Rattle.model_handoff.proofs.Agreement.{places_in}
 use Rattle.model_handoff.proofs.Keeping.{find_path, keeps_reach}
 use Rattle.model_handoff.proofs.Standing.{at_path, endpoint_at, StandsAt, found, stands}
@@ -76,7 +76,7 @@ module _ (s : State) (state : IsStateOfBoard s.functions) (gs : GuestsNow) (seat
 
   found_now : find (at_path p) (state_over s gs).functions ≡ Some (endpoint_at p f.decl (agreed_file left f.file))
   found_now =
-      find_path (agreed_function (file_of gs)) (λ g. path_stays (file_of gs g.path) g) (λ g. Rattle.model_handoff.proofs.Functions.decl_stays (file_of gs g.path) g)
+      find_path (agreed_function (file_of gs)) (λ g. path_stays (file_of gs g.path) g) (λ g. decl_stays (file_of gs g.path) g)
       (at_path p) (at_path p) (λ g. ap (λ (q : Path). path_eq q p) (path_stays (file_of gs g.path) g)) s.functions
       ∙ ap (option_map (agreed_function (file_of gs))) there.found_is ∙ ap Some now_is
 

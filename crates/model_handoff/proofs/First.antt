@@ -25,7 +25,7 @@ use Rattle.model_handoff.specs.AgreementLaws.{FirstIsReset, FirstIsHandoff}
 use Rattle.model_handoff.proofs.Functions.{Facts, facts}
 use Rattle.model_handoff.proofs.Agreement.{distinct_left}
 
-any_append : {A : Type 0} (t : A → Bool) (xs ys : List A) → list_any t (xs ++ ys) ≡ (list_any t xs || list_any t ys)
+pub any_append : {A : Type 0} (t : A → Bool) (xs ys : List A) → list_any t (xs ++ ys) ≡ (list_any t xs || list_any t ys)
 any_append t [] ys = refl
 any_append t (x ∷ xs) ys = by (t x) (any_append t xs ys)
   where

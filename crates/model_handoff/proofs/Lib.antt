@@ -12,3 +12,4 @@ pub mod Events
 pub mod SetUpCase
 pub mod Examples
 pub mod Kept
+pub mod Views

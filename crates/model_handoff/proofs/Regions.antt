@@ -9,7 +9,7 @@ use Rattle.model_registers.specs.Declarations.{Kind, io_kind, mem32, mem64, Regi
 use Rattle.model_registers.specs.Decoding.{Space, space_of, base, base_address, opens_space, command_word, Function}
 use Rattle.model_registers.proofs.HitRegions.{hit_is_of_region}
 use Rattle.model_board.specs.Paths.{Path}
-use Rattle.model_board.specs.Board.{endpoint, Board}
+use Rattle.model_board.specs.Board.{endpoint, Board, IsBoard}
 use Rattle.model_board.specs.AtReset.{board_at}
 use Rattle.model_board.specs.Claims.{Claim}
 use Rattle.model_board.specs.Ports.{file_at}
@@ -30,12 +30,13 @@ use Rattle.model_handoff.specs.Regions.{base_in, opens_region}
 use Rattle.model_handoff.specs.RegionLaws.{IsClaimedAlone, claim_in_region, RegionIsClaimed, HasSlot, HitReachesOver}
 use Rattle.model_handoff.proofs.Keeping.{keeps_board, keeps_routing}
 use Rattle.model_handoff.proofs.Standing.{endpoint_at, StandsAt, stands}
+use Rattle.model_board.specs.Lawful.{HasLawfulDecls}
 
 -- the board with guests is a board
 pub state_stays : (s : State) → IsStateOfBoard s.functions → (gs : GuestsNow) → IsStateOfBoard (state_over s gs).functions
 state_stays s state gs = record {
-  places = subst Rattle.model_board.specs.Board.IsBoard (sym (keeps_board s gs)) state.places;
-  declarations = subst Rattle.model_board.specs.Lawful.HasLawfulDecls (sym (keeps_board s gs)) state.declarations;
+  places = subst IsBoard (sym (keeps_board s gs)) state.places;
+  declarations = subst HasLawfulDecls (sym (keeps_board s gs)) state.declarations;
 }
 
 -- an open region of an endpoint is an open region of the board

@@ -30,7 +30,7 @@ use Rattle.model_audit.proofs.Found.{numbers_of_board}
 use Rattle.model_audit.proofs.Witnesses.{problems_decide}
 use Rattle.model_set_up_audit.proofs.Placing.{left, regions_placed}
 use Rattle.model_set_up_audit.proofs.SetUpPasses.{set_up_passes}
-use Rattle.model_guests.specs.Text.{Text}
+use Rattle.model_guests.specs.Text.{Text, text_of_lines}
 use Rattle.model_guests.specs.Lines.{Meaning, nothing, guest_event, host_read, host_move, bad, meaning}
 use Rattle.model_guests.specs.WorldNow.{WorldNow, world_at_first}
 use Rattle.model_guests.specs.WorldNow as set_up
@@ -156,7 +156,7 @@ same_after v (bad who n) = refl
 
 pub same_line : SameLine
 same_line v line = record {
-  writes = ap Rattle.model_guests.specs.Text.text_of_lines (same_written v (meaning (names_now (over_set_up v)) line));
+  writes = ap text_of_lines (same_written v (meaning (names_now (over_set_up v)) line));
   leaves = same_after v (meaning (names_now (over_set_up v)) line);
 }
 

@@ -8,3 +8,4 @@ pub mod ChangeLaws
 pub mod SetUpCase
 pub mod Examples
 pub mod Kept
+pub mod ViewLaws

@@ -6,6 +6,7 @@ ghost use Rattle.model_handoff.specs.IsolationLaws.{GuestsAlike, IsolatedOver, R
 ghost use Rattle.model_handoff.specs.RegionLaws.{CycleReads, CycleWrites, FaultDecides, HitReachesOver, MemoryBySpace, PortsBySpace, RegionIsClaimed, RegionReads, RegionWrites, ServedAfterEvents, ServedAfterMoves, ServedAtFirst};
 ghost use Rattle.model_handoff.specs.ChangeLaws.{ChangesOver, EventReachesOver, LatchOver, MoveResetsOver};
 ghost use Rattle.model_handoff.specs.SetUpCase.{SameLine, SameOutput, SameState, SetUpAddresses, SetUpCanBeGiven, SetUpIsHandoff, SetUpIsInOrder, SetUpPlaces};
+ghost use Rattle.model_handoff.specs.ViewLaws.{OverReset, ResetAfterEvents, ResetAfterMoves, ResetAtFirst, ResetShown};
 ghost use Rattle.model_handoff.specs.Kept.{LawfulAfter, LawfulAlong, LawfulAtFirst};
 ghost use Rattle.model_handoff.specs.Examples.{WorkedExamples};
 
@@ -74,6 +75,15 @@ pub fn changes_reach_board()
     ensures latch { LatchOver }
     ensures moves { MoveResetsOver }
     ensures events { EventReachesOver }
+{}
+
+/// With each function in a slot at reset the board shows over which handoff its guests are, whatever they did.
+pub fn handoff_is_shown()
+    ensures over { OverReset }
+    ensures shown { ResetShown }
+    ensures first { ResetAtFirst }
+    ensures events { ResetAfterEvents }
+    ensures moves { ResetAfterMoves }
 {}
 
 /// What set-up leaves is a handoff in order, without a closed region; guests over it are the guests of a board that is
