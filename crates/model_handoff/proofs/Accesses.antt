@@ -1,23 +1,21 @@
 -- Reads and writes of the board over a handoff, where a guest has a function.
-use Rattle.std.proofs.Common.{◌≡◌, ℕ, ◌+◌, Bool, true, false, ◌&&◌, not, cond, List, [], ◌∷◌, inl, inr, Some, None, Option, refl, sym, ap, ap₂, ◌∙◌, subst, eqb}
-use Rattle.std.specs.Prelude.{map, find, option_map, IsTrue}
+use Rattle.std.proofs.Common.{◌≡◌, ℕ, ◌+◌, Bool, true, false, ◌&&◌, not, cond, List, [], ◌∷◌, Some, None, Option, refl, sym, ap, ap₂, ◌∙◌, subst, eqb}
+use Rattle.std.specs.Prelude.{find, option_map}
 use Rattle.std.specs.Option.{option_map_or}
 use Rattle.lists.specs.Elements.{Each, IsIn}
 use Rattle.lists.proofs.Members.{each_in}
-use Rattle.model_registers.specs.Registers.{Place, config, block, File, read, write, all_bytes, number}
+use Rattle.model_registers.specs.Registers.{config, block, File, read, write, all_bytes, number}
 use Rattle.model_registers.specs.ByteEnables.{enabled_bits}
-use Rattle.model_registers.specs.Declarations.{Region, Endpoint}
-use Rattle.model_registers.specs.Decoding.{Space, space_of, Function}
+use Rattle.model_registers.specs.Decoding.{Function}
 use Rattle.model_registers.specs.OwnCopies.{handed_on}
 use Rattle.model_registers.specs.CopiedFiles.{agreed_file, places_of}
 use Rattle.model_board.specs.Paths.{Path, path_eq}
 use Rattle.model_board.specs.Board.{endpoint, Board}
 use Rattle.model_board.specs.AtReset.{board_at}
 use Rattle.model_board.specs.Claims.{Claim}
-use Rattle.model_board.specs.Cycles.{BusAddress, ends_in, is_route, reached, reached_type0, reached_type1}
-use Rattle.model_board.specs.Ports.{file_at, claim_reply, after_claim_write, PortTarget, target_reply, after_target_write}
-use Rattle.model_board.specs.State.{BoardFunction, State, with_file, row_at}
-use Rattle.model_board.proofs.PathOrder.{path_same}
+use Rattle.model_board.specs.Cycles.{ends_in, is_route, reached, reached_type0, reached_type1}
+use Rattle.model_board.specs.Ports.{file_at, claim_reply, after_claim_write, target_reply, after_target_write}
+use Rattle.model_board.specs.State.{BoardFunction, State, with_file}
 use Rattle.model_audit.specs.Found.{address_now, IsNumbered, path_reached}
 use Rattle.model_audit.specs.Orderly.{IsStateOfBoard}
 use Rattle.model_audit.proofs.Found.{found_in}
@@ -31,10 +29,10 @@ use Rattle.model_guests.proofs.AgreedFiles.{writes_alike}
 use Rattle.model_guests.proofs.KeptCopies.{file_of_seat}
 use Rattle.model_guests.proofs.KeptNumbers.{shows_file}
 use Rattle.model_guests.proofs.RegionReach.{declared_row}
-use Rattle.model_handoff.specs.Handoffs.{state_over, IsHandoff, HasDeclaredPlaces}
-use Rattle.model_handoff.specs.RegionLaws.{RegionReads, RegionWrites, MemoryBySpace, PortsBySpace, CycleReads, CycleWrites, HasSlot, claim_in_region}
-use Rattle.model_handoff.proofs.Functions.{Facts, facts, path_stays}
-use Rattle.model_handoff.proofs.Agreement.{HasPlaces, places_in}
+use Rattle.model_handoff.specs.Handoffs.{state_over, HasDeclaredPlaces}
+use Rattle.model_handoff.specs.RegionLaws.{RegionReads, RegionWrites, MemoryBySpace, PortsBySpace, CycleReads, CycleWrites, HasSlot}
+use Rattle.model_handoff.proofs.Functions.{Facts, facts, path_stays, decl_stays}
+use Rattle.model_handoff.proofs.Agreement.{places_in}
 use Rattle.model_handoff.proofs.Keeping.{find_path, keeps_reach}
 use Rattle.model_handoff.proofs.Standing.{at_path, endpoint_at, StandsAt, found, stands}
 use Rattle.model_handoff.proofs.Regions.{region_is_claimed, seat_of}
@@ -78,7 +76,7 @@ module _ (s : State) (state : IsStateOfBoard s.functions) (gs : GuestsNow) (seat
 
   found_now : find (at_path p) (state_over s gs).functions ≡ Some (endpoint_at p f.decl (agreed_file left f.file))
   found_now =
-      find_path (agreed_function (file_of gs)) (λ g. path_stays (file_of gs g.path) g) (λ g. Rattle.model_handoff.proofs.Functions.decl_stays (file_of gs g.path) g)
+      find_path (agreed_function (file_of gs)) (λ g. path_stays (file_of gs g.path) g) (λ g. decl_stays (file_of gs g.path) g)
       (at_path p) (at_path p) (λ g. ap (λ (q : Path). path_eq q p) (path_stays (file_of gs g.path) g)) s.functions
       ∙ ap (option_map (agreed_function (file_of gs))) there.found_is ∙ ap Some now_is
 

@@ -1,15 +1,15 @@
 -- There is one state that agrees with seated guests over a handoff.
-use Rattle.std.proofs.Common.{◌≡◌, true, false, List, [], ◌∷◌, Some, None, Option, refl, sym, ap, ap₂, ◌∙◌, subst}
+use Rattle.std.proofs.Common.{◌≡◌, false, List, [], ◌∷◌, Some, None, Option, refl, sym, ap, ap₂, ◌∙◌, subst}
 use Rattle.std.specs.Prelude.{map}
 use Rattle.lists.specs.Elements.{Each, EachPair}
-use Rattle.model_registers.specs.Registers.{Place, place_eq, File}
+use Rattle.model_registers.specs.Registers.{Place, File}
 use Rattle.model_registers.specs.Declarations.{Endpoint}
 use Rattle.model_registers.specs.EndpointTable.{endpoint_reset}
 use Rattle.model_registers.specs.CopiedFiles.{agreed_file, places_of}
 use Rattle.model_board.specs.Board.{Decl, endpoint, bridge, Board}
 use Rattle.model_board.specs.AtReset.{board_at}
 use Rattle.model_board.specs.Lawful.{IsLawfulDecl}
-use Rattle.model_board.specs.State.{BoardFunction, row_at}
+use Rattle.model_board.specs.State.{BoardFunction}
 use Rattle.model_guests.specs.World.{declared, endpoint_of}
 use Rattle.model_guests.specs.Guests.{GuestsNow, file_of}
 use Rattle.model_guests.specs.AgreedBoard.{agreed_function}
@@ -19,7 +19,7 @@ use Rattle.model_guests.proofs.AgreedChanges.{agreed_by}
 use Rattle.model_guests.proofs.AgreedFiles.{agreed_holds, only_file}
 use Rattle.model_guests.proofs.DistinctPlaces.{Apart, HasDistinctPlaces, distinct_places}
 use Rattle.model_guests.proofs.SlotPlaces.{IsFileOf}
-use Rattle.model_handoff.specs.Handoffs.{state_over, HasPlacesOf, HasDeclaredPlaces, IsHandoff}
+use Rattle.model_handoff.specs.Handoffs.{state_over, HasPlacesOf, HasDeclaredPlaces}
 use Rattle.model_handoff.specs.AgreementLaws.{StateAgrees, StateIsOnly}
 use Rattle.model_handoff.proofs.Functions.{Facts, facts, file_is}
 

@@ -1,6 +1,6 @@
 -- A change of one guest's function changes the board over a handoff there, and nowhere else.
-use Rattle.std.proofs.Common.{◌≡◌, ℕ, true, false, Bool, cond, List, [], ◌∷◌, Some, None, Option, refl, sym, ap, ap₂, ◌∙◌}
-use Rattle.std.specs.Prelude.{is_some, IsSome}
+use Rattle.std.proofs.Common.{◌≡◌, ℕ, true, false, Bool, cond, List, [], ◌∷◌, Some, None, Option, refl, ap, ap₂, ◌∙◌}
+use Rattle.std.specs.Prelude.{is_some}
 use Rattle.std.specs.Str.{bytes_eq}
 use Rattle.lists.specs.Elements.{first_of_two}
 use Rattle.model_registers.specs.Registers.{File}
@@ -12,7 +12,7 @@ use Rattle.model_board.specs.Board.{Board}
 use Rattle.model_board.specs.AtReset.{board_at}
 use Rattle.model_board.specs.State.{BoardFunction, State}
 use Rattle.model_guests.specs.Text.{Text}
-use Rattle.model_guests.specs.Guests.{GuestNow, GuestsNow, file_in, file_of, with_guest, path_in, function_in, handed_over}
+use Rattle.model_guests.specs.Guests.{GuestsNow, file_in, file_of, with_guest, path_in, function_in, handed_over}
 use Rattle.model_guests.specs.AgreedBoard.{with_change_at}
 use Rattle.model_guests.specs.ChangeLaws.{ChangesAlike, with_slot_changed, with_latch}
 use Rattle.model_guests.specs.Seated.{AreSeated, IsSeat}

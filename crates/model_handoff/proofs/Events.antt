@@ -1,5 +1,5 @@
 -- What an event of a guest does to the board over a handoff.
-use Rattle.std.proofs.Common.{◌≡◌, ℕ, Bool, true, false, cond, List, [], Some, None, Option, refl, sym, ap, ◌∙◌, subst}
+use Rattle.std.proofs.Common.{◌≡◌, ℕ, Bool, true, false, cond, [], Some, None, Option, refl, sym, ap, ◌∙◌, subst}
 use Rattle.std.specs.Prelude.{is_some, option_map, slice_set}
 use Rattle.std.specs.Option.{option_map_or}
 use Rattle.model_registers.specs.Registers.{Place, File, raise, all_bytes}
@@ -13,7 +13,7 @@ use Rattle.model_guests.specs.Accesses.{Event, Op, access, raises, reads, writes
 use Rattle.model_guests.specs.Slots.{Landing, Slots, effect, event_fault, landing, raise_landing, slot_at, with_file}
 use Rattle.model_guests.specs.Lone.{Destination, LoneGuest, after_access_at, after_event, at_target, changed_by, destination, no_function, own_latch, reset_guest}
 use Rattle.model_guests.specs.Text.{Text}
-use Rattle.model_guests.specs.Guests.{GuestNow, GuestsNow, file_in, file_of, function_in, guest_after, guest_named, lone_of, path_in, with_guest}
+use Rattle.model_guests.specs.Guests.{GuestNow, GuestsNow, file_in, function_in, guest_after, guest_named, lone_of, path_in, with_guest}
 use Rattle.model_guests.specs.AgreedBoard.{with_change_at}
 use Rattle.model_guests.specs.Seated.{AreSeated, IsSeat}
 use Rattle.model_guests.specs.ChangeLaws.{ChangesAlike, board_after, board_effect, board_write, landing_at, landing_of, lands, own_effect, own_write, with_slot_changed}

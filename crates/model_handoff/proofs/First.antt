@@ -1,5 +1,5 @@
 -- Before any event each given function is at reset.
-use Rattle.std.proofs.Common.{◌≡◌, ℕ, zero, suc, Bool, true, false, ◌||◌, cond, ◌-◌, List, [], ◌∷◌, ◌++◌, length, Some, None, Option, refl, sym, ap, ap₂, ◌∙◌, subst}
+use Rattle.std.proofs.Common.{◌≡◌, ℕ, zero, suc, Bool, true, false, ◌||◌, cond, ◌-◌, List, [], ◌∷◌, ◌++◌, length, Some, None, Option, refl, sym, ap, ap₂, ◌∙◌}
 use Rattle.std.specs.Prelude.{map, flat_map, replicate, option_map, IsTrue}
 use Rattle.std.specs.List.{list_any}
 use Rattle.lists.specs.Elements.{Each, first_of_two}
@@ -11,10 +11,10 @@ use Rattle.model_board.specs.Paths.{Path, path_eq}
 use Rattle.model_board.specs.Board.{Decl, endpoint, bridge, Board}
 use Rattle.model_board.specs.AtReset.{board_at}
 use Rattle.model_board.specs.Lawful.{IsLawfulDecl}
-use Rattle.model_board.specs.State.{BoardFunction, State}
+use Rattle.model_board.specs.State.{BoardFunction}
 use Rattle.model_board.proofs.PathOrder.{path_same}
 use Rattle.model_guests.specs.Slots.{reset_function}
-use Rattle.model_guests.specs.World.{Guest, World, declared, endpoint_of, given_paths}
+use Rattle.model_guests.specs.World.{Guest, World, declared, endpoint_of}
 use Rattle.model_guests.specs.Guests.{file_in, file_of, guest_at_first, guests_at_first}
 use Rattle.model_guests.specs.AgreedBoard.{agreed_function}
 use Rattle.model_guests.proofs.AgreedChanges.{agreed_by}
@@ -25,7 +25,7 @@ use Rattle.model_handoff.specs.AgreementLaws.{FirstIsReset, FirstIsHandoff}
 use Rattle.model_handoff.proofs.Functions.{Facts, facts}
 use Rattle.model_handoff.proofs.Agreement.{distinct_left}
 
-any_append : {A : Type 0} (t : A → Bool) (xs ys : List A) → list_any t (xs ++ ys) ≡ (list_any t xs || list_any t ys)
+pub any_append : {A : Type 0} (t : A → Bool) (xs ys : List A) → list_any t (xs ++ ys) ≡ (list_any t xs || list_any t ys)
 any_append t [] ys = refl
 any_append t (x ∷ xs) ys = by (t x) (any_append t xs ys)
   where

@@ -1,6 +1,5 @@
 -- The functions of a state of a lawful board, with the guests that are seated there.
-use Rattle.std.proofs.Common.{◌≡◌, Bool, true, false, List, Some, None, Option, refl, sym, ap, ◌∙◌}
-use Rattle.std.specs.Prelude.{is_some}
+use Rattle.std.proofs.Common.{◌≡◌, true, List, Some, None, Option, refl, ap, ◌∙◌}
 use Rattle.lists.specs.Elements.{Each}
 use Rattle.lists.proofs.EachLemmas.{each_both, each_map}
 use Rattle.model_registers.specs.Registers.{File}

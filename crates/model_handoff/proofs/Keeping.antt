@@ -22,7 +22,7 @@ use Rattle.model_board.specs.RoutingLaws.{is_routing_register, HasSameRouting}
 use Rattle.model_board.specs.State.{BoardFunction, State, row_at}
 use Rattle.model_board.proofs.Routing.{flat_map_map, routing_of_change}
 use Rattle.model_audit.specs.Found.{is_bridge_at, bus_now, address_now, path_reached}
-use Rattle.model_audit.specs.Problems.{Problem, not_found, routing_problems, numbering_problem, numbering_problems, problems}
+use Rattle.model_audit.specs.Problems.{Problem, not_found, routing_problems, numbering_problem, numbering_problems}
 use Rattle.model_audit.proofs.Witnesses.{problems_decide}
 use Rattle.model_guests.specs.Guests.{GuestsNow, file_of}
 use Rattle.model_guests.specs.AgreedBoard.{agreed_function}
@@ -30,8 +30,8 @@ use Rattle.model_guests.specs.Seated.{IsSeatedGuest}
 use Rattle.model_guests.proofs.AgreedChanges.{agreed_by}
 use Rattle.model_guests.proofs.AgreedFiles.{agreed_kept}
 use Rattle.model_handoff.specs.Handoffs.{state_over}
-use Rattle.model_handoff.specs.AgreementLaws.{KeepsBoard, KeepsRouting, KeepsReach, KeepsAddresses, KeepsProblems, StaysInOrder}
-use Rattle.model_handoff.proofs.Functions.{Facts, facts, file_is, bridge_stays, path_stays, decl_stays, row_stays}
+use Rattle.model_handoff.specs.AgreementLaws.{KeepsBoard, KeepsBridges, KeepsRouting, KeepsReach, KeepsAddresses, KeepsProblems, StaysInOrder}
+use Rattle.model_handoff.proofs.Functions.{Facts, facts, bridge_stays, path_stays, decl_stays, row_stays}
 
 -- ---- the same rows
 
@@ -177,21 +177,22 @@ module _ (s : State) (gs : GuestsNow) where
   now_decl : (f : BoardFunction) → (agreed_function (file_of gs) f).decl ≡ f.decl
   now_decl f = decl_stays (file_of gs f.path) f
 
+pub keeps_bridges : KeepsBridges
+keeps_bridges s board gs seated =
+    each_map (Facts (board_at s.functions)) (λ f. is_bridge f.decl ≡ true → agreed_function (file_of gs) f ≡ f) s.functions (bridge_stays (board_at s.functions) gs seated.guests) (facts s.functions board)
+
 pub keeps_reach : KeepsReach
 keeps_reach s board gs seated =
-    reach_stays (agreed_function (file_of gs)) (now_path s gs) (now_decl s gs) s.functions
-    (each_map (Facts (board_at s.functions)) (λ f. is_bridge f.decl ≡ true → agreed_function (file_of gs) f ≡ f) s.functions (bridge_stays (board_at s.functions) gs seated.guests) (facts s.functions board))
+    reach_stays (agreed_function (file_of gs)) (now_path s gs) (now_decl s gs) s.functions (keeps_bridges s board gs seated)
 
 pub keeps_addresses : KeepsAddresses
 keeps_addresses s board gs seated =
-    address_stays (agreed_function (file_of gs)) (now_path s gs) (now_decl s gs) s.functions
-    (each_map (Facts (board_at s.functions)) (λ f. is_bridge f.decl ≡ true → agreed_function (file_of gs) f ≡ f) s.functions (bridge_stays (board_at s.functions) gs seated.guests) (facts s.functions board))
+    address_stays (agreed_function (file_of gs)) (now_path s gs) (now_decl s gs) s.functions (keeps_bridges s board gs seated)
 
 pub keeps_problems : KeepsProblems
 keeps_problems s board gs seated =
     ap₂ (λ (x y : List Problem). x ++ y) (ap routing_problems (keeps_routing s board gs seated))
-    (numbering_stays (agreed_function (file_of gs)) (now_path s gs) (now_decl s gs) s.functions
-    (each_map (Facts (board_at s.functions)) (λ f. is_bridge f.decl ≡ true → agreed_function (file_of gs) f ≡ f) s.functions (bridge_stays (board_at s.functions) gs seated.guests) (facts s.functions board)))
+    (numbering_stays (agreed_function (file_of gs)) (now_path s gs) (now_decl s gs) s.functions (keeps_bridges s board gs seated))
 
 pub stays_in_order : StaysInOrder
 stays_in_order s board gs seated order =

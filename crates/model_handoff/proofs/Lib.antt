@@ -10,3 +10,6 @@ pub mod Accesses
 pub mod Served
 pub mod Events
 pub mod SetUpCase
+pub mod Examples
+pub mod Kept
+pub mod Views

@@ -1,23 +1,23 @@
 -- A byte of an open region is claimed where the handoff has it, whatever guests did.
-use Rattle.std.proofs.Common.{◌≡◌, ℕ, ◌+◌, ◌%◌, ◌<◌, true, false, not, cond, List, [], ◌∷◌, Some, None, Option, refl, sym, ap, ◌∙◌, subst, arith}
+use Rattle.std.proofs.Common.{◌≡◌, ℕ, ◌+◌, ◌%◌, ◌<◌, true, List, Some, Option, sym, ap, ◌∙◌, subst, arith}
 use Rattle.std.specs.Prelude.{map, IsTrue}
 use Rattle.std.specs.Option.{option_to_list}
-use Rattle.lists.specs.Elements.{Each, IsIn}
-use Rattle.lists.proofs.Members.{each_in, each_from, in_map, in_filter, in_flat_map}
+use Rattle.lists.specs.Elements.{IsIn}
+use Rattle.lists.proofs.Members.{each_in, in_map, in_filter, in_flat_map}
 use Rattle.model_registers.specs.Registers.{File}
 use Rattle.model_registers.specs.Declarations.{Kind, io_kind, mem32, mem64, Region, Endpoint}
-use Rattle.model_registers.specs.Decoding.{Space, space_of, base, base_address, opens_space, command_word, Function, Hit}
+use Rattle.model_registers.specs.Decoding.{Space, space_of, base, base_address, opens_space, command_word, Function}
 use Rattle.model_registers.proofs.HitRegions.{hit_is_of_region}
 use Rattle.model_board.specs.Paths.{Path}
-use Rattle.model_board.specs.Board.{endpoint, Board}
+use Rattle.model_board.specs.Board.{endpoint, Board, IsBoard}
 use Rattle.model_board.specs.AtReset.{board_at}
-use Rattle.model_board.specs.Claims.{Claim, claims, first_claim}
+use Rattle.model_board.specs.Claims.{Claim}
 use Rattle.model_board.specs.Ports.{file_at}
 use Rattle.model_board.specs.Routing.{RoutingRow, row_of, routing}
-use Rattle.model_board.specs.State.{BoardFunction, State, row_at}
+use Rattle.model_board.specs.State.{BoardFunction, State}
 use Rattle.model_set_up.specs.PlacedRegions.{PlacedRegion}
 use Rattle.model_set_up.specs.UniqueClaimant.{IsClaimed}
-use Rattle.model_audit.specs.OpenRegions.{region_now, open_of, open_regions, regions_of}
+use Rattle.model_audit.specs.OpenRegions.{region_now, open_of, open_regions}
 use Rattle.model_audit.specs.Orderly.{IsOrderly, IsStateOfBoard, HasClaimsOfRegions}
 use Rattle.model_audit.proofs.Claims.{orderly_claims}
 use Rattle.model_guests.specs.Guests.{GuestsNow, path_in}
@@ -30,12 +30,13 @@ use Rattle.model_handoff.specs.Regions.{base_in, opens_region}
 use Rattle.model_handoff.specs.RegionLaws.{IsClaimedAlone, claim_in_region, RegionIsClaimed, HasSlot, HitReachesOver}
 use Rattle.model_handoff.proofs.Keeping.{keeps_board, keeps_routing}
 use Rattle.model_handoff.proofs.Standing.{endpoint_at, StandsAt, stands}
+use Rattle.model_board.specs.Lawful.{HasLawfulDecls}
 
 -- the board with guests is a board
 pub state_stays : (s : State) → IsStateOfBoard s.functions → (gs : GuestsNow) → IsStateOfBoard (state_over s gs).functions
 state_stays s state gs = record {
-  places = subst Rattle.model_board.specs.Board.IsBoard (sym (keeps_board s gs)) state.places;
-  declarations = subst Rattle.model_board.specs.Lawful.HasLawfulDecls (sym (keeps_board s gs)) state.declarations;
+  places = subst IsBoard (sym (keeps_board s gs)) state.places;
+  declarations = subst HasLawfulDecls (sym (keeps_board s gs)) state.declarations;
 }
 
 -- an open region of an endpoint is an open region of the board

@@ -1,19 +1,16 @@
 -- Given functions are served, whatever guests do.
-use Rattle.std.proofs.Common.{◌≡◌, ℕ, zero, suc, Bool, true, false, not, cond, ◌||◌, ◌-◌, List, [], ◌∷◌, ◌++◌, length, inl, inr, Some, None, Option, refl, sym, ap, ◌∙◌, subst}
-use Rattle.std.specs.Prelude.{map, filter, flat_map, replicate, is_some, IsTrue, slice_get}
-use Rattle.std.specs.List.{list_any}
+use Rattle.std.proofs.Common.{◌≡◌, ℕ, zero, suc, Bool, true, false, not, cond, ◌-◌, List, [], ◌∷◌, ◌++◌, length, inl, inr, Some, None, Option, refl, sym, ap, ◌∙◌}
+use Rattle.std.specs.Prelude.{map, flat_map, replicate, is_some, IsTrue}
 use Rattle.std.specs.Str.{bytes_eq}
-use Rattle.lists.specs.Elements.{Each, IsIn}
+use Rattle.lists.specs.Elements.{Each, IsIn, first_of_two}
 use Rattle.lists.proofs.Members.{each_from, any_in, in_front, in_back, in_map, in_filter, in_flat_map}
-use Rattle.lists.proofs.Indices.{index_in}
 use Rattle.model_registers.specs.Registers.{File}
-use Rattle.model_registers.specs.Declarations.{Region, Endpoint}
-use Rattle.model_registers.specs.Decoding.{Function, space_of, base_address, opens_space, command_word}
+use Rattle.model_registers.specs.Declarations.{Region}
+use Rattle.model_registers.specs.Decoding.{Function, base_address, opens_space, command_word}
 use Rattle.model_board.specs.Paths.{Path, path_eq}
 use Rattle.model_board.specs.AtReset.{board_at}
 use Rattle.model_board.specs.Ports.{file_at}
 use Rattle.model_board.specs.Routing.{row_of, routing}
-use Rattle.model_board.specs.State.{State}
 use Rattle.model_board.proofs.PathEnds.{path_self}
 use Rattle.model_set_up.specs.PlacedRegions.{PlacedRegion}
 use Rattle.model_audit.specs.OpenRegions.{region_now, closed_of, closed_regions}
@@ -21,13 +18,13 @@ use Rattle.model_audit.specs.Problems.{Problem, problems}
 use Rattle.model_audit.proofs.Witnesses.{problems_decide}
 use Rattle.model_guests.specs.Text.{Text}
 use Rattle.model_guests.specs.World.{Guest, World, given_paths}
-use Rattle.model_guests.specs.Guests.{GuestNow, GuestsNow, Move, guest_at_first, guests_at_first, guest_after, guest_named, handed_over, move_fault, path_in, function_in, with_guest, with_slot_emptied, with_slot_filled}
+use Rattle.model_guests.specs.Guests.{GuestsNow, guest_at_first, guest_after, guest_named, handed_over, move_fault, path_in, function_in, with_guest, with_slot_emptied, with_slot_filled}
 use Rattle.model_guests.proofs.GuestsByName.{path_at, path_of}
 use Rattle.model_guests.proofs.RegionReach.{declared_row}
 use Rattle.model_guests.proofs.SeatedMoves.{Placed, placed, put_there, was_there}
 use Rattle.model_guests.proofs.Seats.{paths_stay}
 use Rattle.model_handoff.specs.Handoffs.{is_given}
-use Rattle.model_handoff.specs.Regions.{opens_region, closed_given, first_problem, first_closed, AreServed}
+use Rattle.model_handoff.specs.Regions.{opens_region, closed_given, first_problem, first_closed, AreServed, HasOpenRegions}
 use Rattle.model_handoff.specs.RegionLaws.{ServedAtFirst, ServedAfterEvents, ServedAfterMoves, FaultDecides}
 use Rattle.model_handoff.proofs.Standing.{endpoint_at, StandsAt, stands}
 
@@ -99,7 +96,7 @@ served_after_moves s gs served m = by (is_some (move_fault gs m)) (function_in g
     after (Some f) a n p at =
         of (placed (with_slot_filled m.target (path_in gs m.from m.slot) f.decl) m.target (path_in gs m.from m.slot) (λ t. refl) (λ t. refl) (with_guest (with_slot_emptied m.slot) m.from gs) m.to a n p at)
       where
-        of : Placed (with_guest (with_slot_emptied m.slot) m.from gs) m.to a m.target n (path_in gs m.from m.slot) p → Rattle.model_handoff.specs.Regions.HasOpenRegions s p
+        of : Placed (with_guest (with_slot_emptied m.slot) m.from gs) m.to a m.target n (path_in gs m.from m.slot) p → HasOpenRegions s p
         of (put_there x y z) = served m.from m.slot p z
         of (was_there x y) = served a n p (emptied a n p x)
 
@@ -115,12 +112,12 @@ fault_decides w s = (
   λ can. of_parts (problems s.functions) (closed_given w s) ((problems_decide s.functions).1 can.order) can.none_closed,
 )
   where
-    of_none : (ps : List Problem) (qs : List PlacedRegion) → Rattle.lists.specs.Elements.first_of_two (first_problem ps) (first_closed qs) ≡ None → (ps ≡ []) × (qs ≡ [])
+    of_none : (ps : List Problem) (qs : List PlacedRegion) → first_of_two (first_problem ps) (first_closed qs) ≡ None → (ps ≡ []) × (qs ≡ [])
     of_none [] [] h = (refl, refl)
     of_none [] (q ∷ qs) h = cc
     of_none (p ∷ ps) qs h = cc
 
-    of_parts : (ps : List Problem) (qs : List PlacedRegion) → ps ≡ [] → qs ≡ [] → Rattle.lists.specs.Elements.first_of_two (first_problem ps) (first_closed qs) ≡ None
+    of_parts : (ps : List Problem) (qs : List PlacedRegion) → ps ≡ [] → qs ≡ [] → first_of_two (first_problem ps) (first_closed qs) ≡ None
     of_parts [] [] e f = refl
     of_parts [] (q ∷ qs) e f = cc
     of_parts (p ∷ ps) qs e f = cc

@@ -1,10 +1,10 @@
 -- What set-up leaves is one handoff.
-use Rattle.std.proofs.Common.{◌≡◌, Bool, true, false, not, cond, List, [], ◌∷◌, ◌++◌, inl, inr, Some, Option, refl, sym, ap, ap₂, ◌∙◌, subst}
-use Rattle.std.specs.Prelude.{map, find}
+use Rattle.std.proofs.Common.{◌≡◌, true, false, not, List, [], ◌∷◌, ◌++◌, inl, inr, Option, refl, sym, ap, ap₂, ◌∙◌, subst}
+use Rattle.std.specs.Prelude.{map}
 use Rattle.std.specs.Option.{option_map_or}
-use Rattle.lists.specs.Elements.{Each, IsIn}
+use Rattle.lists.specs.Elements.{IsIn}
 use Rattle.lists.proofs.EachLemmas.{each_of_map, each_map}
-use Rattle.lists.proofs.Members.{any_in, each_from, in_map, from_map, from_filter, from_flat_map}
+use Rattle.lists.proofs.Members.{any_in, in_map, from_map, from_filter, from_flat_map}
 use Rattle.model_registers.specs.Registers.{File}
 use Rattle.model_registers.specs.EndpointTable.{BaseAddress, endpoint_reset}
 use Rattle.model_registers.specs.Declarations.{Region, Endpoint}
@@ -13,34 +13,32 @@ use Rattle.model_registers.specs.Apertures.{Apertures}
 use Rattle.model_board.specs.Paths.{Path}
 use Rattle.model_board.specs.Board.{Decl, endpoint, bridge, Row, Board, IsBoard, is_multifunction}
 use Rattle.model_board.specs.Lawful.{IsLawfulDecl, HasLawfulDecls}
-use Rattle.model_board.specs.AtReset.{board_at}
 use Rattle.model_board.specs.Ports.{file_at}
 use Rattle.model_board.specs.Routing.{RoutingRow, row_of, routing}
 use Rattle.model_board.specs.State.{BoardFunction}
 use Rattle.model_board.proofs.StateRows.{state_rows}
 use Rattle.model_set_up.specs.PlacedRegions.{PlacedRegion, placed}
 use Rattle.model_set_up.specs.SetUp.{first_of, set_up_file, set_up_state}
-use Rattle.model_set_up.specs.UniqueClaimant.{CanBePlaced}
 use Rattle.model_set_up.proofs.DeclaredRows.{rows_are_declared}
 use Rattle.model_set_up.proofs.Holders.{self_space}
 use Rattle.model_set_up.proofs.LawfulPlacement.{layout_is_lawful}
 use Rattle.model_set_up.proofs.SetUpNumbers.{set_up_has_numbers}
 use Rattle.model_set_up.proofs.SetUpRegisters.{endpoint_opens}
-use Rattle.model_audit.specs.OpenRegions.{region_now, regions_of, closed_of, closed_regions}
+use Rattle.model_audit.specs.OpenRegions.{region_now, closed_of, closed_regions}
 use Rattle.model_audit.specs.Orderly.{IsStateOfBoard}
 use Rattle.model_audit.proofs.Found.{numbers_of_board}
 use Rattle.model_audit.proofs.Witnesses.{problems_decide}
 use Rattle.model_set_up_audit.proofs.Placing.{left, regions_placed}
 use Rattle.model_set_up_audit.proofs.SetUpPasses.{set_up_passes}
-use Rattle.model_guests.specs.Text.{Text}
+use Rattle.model_guests.specs.Text.{Text, text_of_lines}
 use Rattle.model_guests.specs.Lines.{Meaning, nothing, guest_event, host_read, host_move, bad, meaning}
 use Rattle.model_guests.specs.WorldNow.{WorldNow, world_at_first}
 use Rattle.model_guests.specs.WorldNow as set_up
 use Rattle.model_guests.proofs.AgreedStates.{alike}
 use Rattle.model_guests.proofs.TablePlaces.{alike_places}
 use Rattle.model_handoff.specs.Handoffs.{HasPlacesOf, HasDeclaredPlaces, is_given}
-use Rattle.model_handoff.specs.Regions.{base_in, opens_region, closed_given}
-use Rattle.model_handoff.specs.WorldOver.{WorldOver, written_by, after_meaning, names_now, line_output, after_line, output, after_lines}
+use Rattle.model_handoff.specs.Regions.{closed_given}
+use Rattle.model_handoff.specs.WorldOver.{WorldOver, written_by, after_meaning, names_now, output, after_lines}
 use Rattle.model_handoff.specs.SetUpCase.{SetUpIsHandoff, SetUpIsInOrder, SetUpCanBeGiven, SetUpPlaces, SetUpAddresses, SameState, SameLine, SameOutput, over_set_up}
 use Rattle.model_handoff.proofs.Standing.{found}
 
@@ -158,7 +156,7 @@ same_after v (bad who n) = refl
 
 pub same_line : SameLine
 same_line v line = record {
-  writes = ap Rattle.model_guests.specs.Text.text_of_lines (same_written v (meaning (names_now (over_set_up v)) line));
+  writes = ap text_of_lines (same_written v (meaning (names_now (over_set_up v)) line));
   leaves = same_after v (meaning (names_now (over_set_up v)) line);
 }
 

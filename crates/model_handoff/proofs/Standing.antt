@@ -1,12 +1,12 @@
 -- Where a function stands among those of a board, and what guests change of it.
-use Rattle.std.proofs.Common.{◌≡◌, Bool, true, false, cond, List, [], ◌∷◌, inl, inr, Some, None, Option, refl, sym, ap, ap₂, ◌∙◌, subst}
-use Rattle.std.specs.Prelude.{map, find, option_map, IsTrue}
-use Rattle.lists.specs.Elements.{Each, EachPair, IsIn}
+use Rattle.std.proofs.Common.{◌≡◌, Bool, true, false, cond, List, [], ◌∷◌, inl, inr, Some, Option, sym, ap, ◌∙◌, subst}
+use Rattle.std.specs.Prelude.{find, IsTrue}
+use Rattle.lists.specs.Elements.{EachPair, IsIn}
 use Rattle.lists.proofs.Members.{each_in, from_map}
 use Rattle.model_registers.specs.Registers.{File}
 use Rattle.model_registers.specs.Declarations.{Endpoint}
 use Rattle.model_board.specs.Paths.{Path, path_eq, path_before}
-use Rattle.model_board.specs.Board.{Decl, endpoint, Row}
+use Rattle.model_board.specs.Board.{endpoint, Row}
 use Rattle.model_board.specs.AtReset.{board_at}
 use Rattle.model_board.specs.Ports.{file_at}
 use Rattle.model_board.specs.State.{BoardFunction, row_at}
@@ -14,6 +14,7 @@ use Rattle.model_board.proofs.PathEnds.{path_self}
 use Rattle.model_board.proofs.PlacesLaw.{before_apart}
 use Rattle.model_audit.specs.Orderly.{IsStateOfBoard}
 use Rattle.model_audit.proofs.Pairs.{pairs_from_map}
+use Rattle.std.specs.Option.{option_map_or}
 
 abbrev pub at_path : Path → BoardFunction → Bool
 at_path p f = path_eq f.path p
@@ -46,6 +47,6 @@ stands fs state p d m = of (from_map row_at (record { path = p; decl = endpoint 
         let path : f.path ≡ p = ap (λ (r : Row). r.path) (sym e) in
         let decl : f.decl ≡ endpoint d = ap (λ (r : Row). r.decl) (sym e) in
         let is_found : find (at_path p) fs ≡ Some f = subst (λ (x : Path). find (at_path x) fs ≡ Some f) path (found fs state f k) in
-        let file : file_at fs p ≡ f.file = ap (λ (o : Option BoardFunction). Rattle.std.specs.Option.option_map_or (λ (g : BoardFunction). g.file) o []) is_found in
+        let file : file_at fs p ≡ f.file = ap (λ (o : Option BoardFunction). option_map_or (λ (g : BoardFunction). g.file) o []) is_found in
         let same : f ≡ endpoint_at p d (file_at fs p) = λ i. record { path = path i; decl = decl i; file = sym file i } in
         record { among = subst (λ (g : BoardFunction). IsIn g fs) same k; found_is = is_found ∙ ap Some same }

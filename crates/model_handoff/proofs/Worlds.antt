@@ -1,21 +1,18 @@
 -- What guests are told over a handoff is what they are told after set-up.
-use Rattle.std.proofs.Common.{◌≡◌, Bool, true, false, not, ◌&&◌, cond, List, [], ◌∷◌, ◌++◌, refl, sym, ap, ap₂, ◌∙◌, subst, append_assoc, eqb}
-use Rattle.std.specs.Prelude.{codes, filter, IsTrue}
+use Rattle.std.proofs.Common.{◌≡◌, Bool, true, false, cond, List, [], ◌∷◌, ◌++◌, refl, sym, ap, ap₂, ◌∙◌, subst, append_assoc, eqb}
+use Rattle.std.specs.Prelude.{codes, filter}
 use Rattle.std.specs.List.{starts_with}
-use Rattle.std.specs.Str.{bytes_eq}
 use Rattle.std.proofs.lemmas.List.Elements.{filter-append}
 use Rattle.lists.specs.Elements.{Each}
 use Rattle.lists.proofs.EachLemmas.{each_append, each_parts}
 use Rattle.model_registers.specs.Apertures.{Apertures}
 use Rattle.model_board.specs.Board.{Board}
-use Rattle.model_board.specs.State.{State}
 use Rattle.model_guests.specs.Text.{Text, lines, onto, text_of_lines}
-use Rattle.model_guests.specs.Grammar.{HostRead, host}
+use Rattle.model_guests.specs.Grammar.{host}
 use Rattle.model_guests.specs.Guests.{lone_of}
-use Rattle.model_guests.specs.Lone.{LoneGuest}
 use Rattle.model_guests.specs.Lines.{Meaning, nothing, guest_event, host_read, host_move, bad, meaning}
-use Rattle.model_guests.specs.Replies.{line_text, reply_text, reply_lines}
-use Rattle.model_guests.specs.World.{World, names, is_name, HasLawfulNames}
+use Rattle.model_guests.specs.Replies.{reply_text}
+use Rattle.model_guests.specs.World.{names}
 use Rattle.model_guests.specs.WorldNow.{WorldNow, world_at_first}
 use Rattle.model_guests.specs.WorldNow as set_up
 use Rattle.model_guests.proofs.Along.{names_at_first}

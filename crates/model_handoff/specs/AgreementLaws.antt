@@ -3,9 +3,12 @@
 --     StateAgrees, StateIsOnly      there is a state that agrees, and no other
 --     FirstIsReset, FirstIsHandoff      before any event each given function is at reset; where it was, the state is the handoff
 --     KeepsBoard, KeepsRouting      the same functions, with the routing registers that were handed over
+--     KeepsBridges      no guest has a bridge: bus numbers and windows are as they were handed over
 --     KeepsReach, KeepsAddresses      a configuration cycle reaches what it reached, by the addresses that were handed over
 --     KeepsProblems, StaysInOrder      an audit tells what it told of the handoff; so an orderly board stays so
-use Rattle.std.specs.Prelude.{◌≡◌, option_map, map}
+use Rattle.std.specs.Prelude.{◌≡◌, option_map, IsTrue}
+use Rattle.lists.specs.Elements.{Each}
+use Rattle.model_board.specs.Board.{is_bridge}
 use Rattle.model_board.specs.Paths.{Path}
 use Rattle.model_board.specs.AtReset.{board_at}
 use Rattle.model_board.specs.State.{State}
@@ -51,6 +54,10 @@ KeepsBoard = (s : State) (gs : GuestsNow) → board_at (state_over s gs).functio
 
 abbrev pub KeepsRouting : Type 0
 KeepsRouting = OverBoards (λ s gs. routing (state_over s gs).functions ≡ routing s.functions)
+
+abbrev pub KeepsBridges : Type 0
+KeepsBridges =
+    OverBoards (λ s gs. Each (λ f. IsTrue (is_bridge f.decl) → agreed_function (file_of gs) f ≡ f) s.functions)
 
 -- the function as it is now
 abbrev pub KeepsReach : Type 0

@@ -6,3 +6,6 @@ pub mod WorldOver
 pub mod IsolationLaws
 pub mod ChangeLaws
 pub mod SetUpCase
+pub mod Examples
+pub mod Kept
+pub mod ViewLaws

@@ -1,11 +1,14 @@
 //! Guests over a board in the state in which any firmware hands it over, as definitions, and laws about them.
 #![tactic(auto)]
 
-ghost use Rattle.model_handoff.specs.AgreementLaws.{FirstIsHandoff, FirstIsReset, KeepsAddresses, KeepsBoard, KeepsProblems, KeepsReach, KeepsRouting, StateAgrees, StateIsOnly, StaysInOrder};
+ghost use Rattle.model_handoff.specs.AgreementLaws.{FirstIsHandoff, FirstIsReset, KeepsAddresses, KeepsBoard, KeepsBridges, KeepsProblems, KeepsReach, KeepsRouting, StateAgrees, StateIsOnly, StaysInOrder};
 ghost use Rattle.model_handoff.specs.IsolationLaws.{GuestsAlike, IsolatedOver, RepliesAlike, TwoHandoffs};
 ghost use Rattle.model_handoff.specs.RegionLaws.{CycleReads, CycleWrites, FaultDecides, HitReachesOver, MemoryBySpace, PortsBySpace, RegionIsClaimed, RegionReads, RegionWrites, ServedAfterEvents, ServedAfterMoves, ServedAtFirst};
 ghost use Rattle.model_handoff.specs.ChangeLaws.{ChangesOver, EventReachesOver, LatchOver, MoveResetsOver};
 ghost use Rattle.model_handoff.specs.SetUpCase.{SameLine, SameOutput, SameState, SetUpAddresses, SetUpCanBeGiven, SetUpIsHandoff, SetUpIsInOrder, SetUpPlaces};
+ghost use Rattle.model_handoff.specs.ViewLaws.{OverReset, ResetAfterEvents, ResetAfterMoves, ResetAtFirst, ResetShown};
+ghost use Rattle.model_handoff.specs.Kept.{LawfulAfter, LawfulAlong, LawfulAtFirst};
+ghost use Rattle.model_handoff.specs.Examples.{WorkedExamples};
 
 /// Just one state of the board agrees with the guests over a handoff; before any event it is the handoff with each
 /// given function at reset.
@@ -20,6 +23,7 @@ pub fn agreement_is_one()
 /// and an audit of it tells the same.
 pub fn handoff_stays()
     ensures board { KeepsBoard }
+    ensures bridges { KeepsBridges }
     ensures routing { KeepsRouting }
     ensures reach { KeepsReach }
     ensures addresses { KeepsAddresses }
@@ -52,12 +56,16 @@ pub fn accesses_reach_files()
     ensures cycle_writes { CycleWrites }
 {}
 
-/// Where an audit passes and no region of a given function is closed, all of them stay open to whoever has them.
+/// Where an audit passes and no region of a given function is closed, all of them stay open to whoever has them, and
+/// the world stays lawful along any script.
 pub fn given_are_served()
     ensures first { ServedAtFirst }
     ensures events { ServedAfterEvents }
     ensures moves { ServedAfterMoves }
     ensures faults { FaultDecides }
+    ensures lawful_first { LawfulAtFirst }
+    ensures lawful_after { LawfulAfter }
+    ensures lawful_along { LawfulAlong }
 {}
 
 /// When a guest changes a function, the board over a handoff changes there alone, by the bytes of which the guest has no
@@ -67,6 +75,15 @@ pub fn changes_reach_board()
     ensures latch { LatchOver }
     ensures moves { MoveResetsOver }
     ensures events { EventReachesOver }
+{}
+
+/// With each function in a slot at reset the board shows over which handoff its guests are, whatever they did.
+pub fn handoff_is_shown()
+    ensures over { OverReset }
+    ensures shown { ResetShown }
+    ensures first { ResetAtFirst }
+    ensures events { ResetAfterEvents }
+    ensures moves { ResetAfterMoves }
 {}
 
 /// What set-up leaves is a handoff in order, without a closed region; guests over it are the guests of a board that is
@@ -80,4 +97,9 @@ pub fn set_up_is_a_case()
     ensures state { SameState }
     ensures line { SameLine }
     ensures output { SameOutput }
+{}
+
+/// What guests see over some handoffs.
+pub fn worked_examples()
+    ensures { WorkedExamples }
 {}

@@ -1,5 +1,14 @@
 use Rattle.model_handoff.proofs.Served.{served_at_first, served_after_events, served_after_moves, fault_decides}
+use Rattle.model_handoff.proofs.Kept.{lawful_at_first, lawful_after, lawful_along}
 use Rattle.model_handoff.proofs.given_are_served.Goals as goal
 
 pub returns : goal.returns
-returns c = record { first = served_at_first; events = served_after_events; moves = served_after_moves; faults = fault_decides }
+returns c = record {
+  first = served_at_first;
+  events = served_after_events;
+  moves = served_after_moves;
+  faults = fault_decides;
+  lawful_first = lawful_at_first;
+  lawful_after = lawful_after;
+  lawful_along = lawful_along;
+}

@@ -1,0 +1,181 @@
+-- The handoff as the board shows it later.
+use Rattle.std.proofs.Common.{◌≡◌, ℕ, zero, suc, ◌-◌, Bool, true, false, ◌||◌, cond, List, [], ◌∷◌, ◌++◌, length, Some, None, Option, refl, sym, ap, ap₂, ◌∙◌, subst}
+use Rattle.std.specs.Prelude.{map, flat_map, replicate, is_some, option_map, IsFalse, IsSome}
+use Rattle.std.specs.List.{list_any}
+use Rattle.std.specs.Str.{bytes_eq}
+use Rattle.lists.specs.Elements.{Each, first_of_two}
+use Rattle.model_registers.specs.Registers.{Entry, File, cell_at}
+use Rattle.model_registers.specs.Decoding.{Function}
+use Rattle.model_registers.specs.OwnCopies.{is_own}
+use Rattle.model_registers.specs.CopiedFiles.{agreed_file}
+use Rattle.model_registers.specs.Declarations.{Endpoint}
+use Rattle.model_board.specs.Paths.{Path, path_eq}
+use Rattle.model_board.specs.Board.{Board}
+use Rattle.model_board.specs.AtReset.{board_at}
+use Rattle.model_board.specs.State.{BoardFunction, State}
+use Rattle.model_guests.specs.Slots.{Slots}
+use Rattle.model_guests.specs.World.{Guest, World, declared}
+use Rattle.model_guests.specs.Guests.{GuestNow, GuestsNow, Move, file_in, file_of, function_in, guest_after, guest_at_first, guest_named, guests_at_first, handed_over, move_fault, path_in, with_guest, after_move}
+use Rattle.model_guests.specs.AgreedBoard.{agreed_function, with_files}
+use Rattle.model_guests.specs.Seated.{AreSeated, AreSeats, IsSeatedGuest, IsSeat}
+use Rattle.model_guests.proofs.AgreedChanges.{agreed_by}
+use Rattle.model_guests.proofs.Changes.{files_same}
+use Rattle.model_guests.proofs.MovedFunctions.{NoFault, no_fault, moved, moved_seated, moved_before, moved_after, moved_others}
+use Rattle.model_board.proofs.PathOrder.{path_same}
+use Rattle.model_handoff.specs.Handoffs.{file_at_reset, is_given, reset_files, state_over}
+use Rattle.model_handoff.specs.ViewLaws.{is_at, sits, seated_files, with_seated_reset, OverReset, ResetShown, ResetAtFirst, ResetAfterEvents, ResetAfterMoves}
+use Rattle.model_handoff.proofs.Changes.{there_in}
+use Rattle.model_handoff.proofs.First.{any_append}
+use Rattle.model_handoff.proofs.Functions.{path_stays}
+use Rattle.model_handoff.proofs.Keeping.{keeps_board}
+use Rattle.model_guests.proofs.SeatedMoves.{seat_in}
+use Rattle.model_guests.proofs.FoundFiles.{seated_file}
+
+-- ---- a file put in twice
+
+abbrev put_in : File → Entry → Entry
+put_in file e = cond (is_own e.place) e (record e { cell = cell_at file e.place })
+
+entry_twice : (one other : File) (e : Entry) (t : Bool) → is_own e.place ≡ t → put_in other (put_in one e) ≡ put_in other e
+entry_twice one other e true h = rw (h, h)
+entry_twice one other e false h = rw (h, h)
+
+put_twice : (left one other : File) → agreed_file (agreed_file left one) other ≡ agreed_file left other
+put_twice [] one other = refl
+put_twice (e ∷ es) one other = ap₂ (λ (x : Entry) (xs : File). x ∷ xs) (entry_twice one other e (is_own e.place) refl) (put_twice es one other)
+
+-- what the first tells, the second tells too
+twice : (one other : Option File) (f : BoardFunction) → (is_some one ≡ true → is_some other ≡ true) → agreed_by other (agreed_by one f) ≡ agreed_by other f
+twice None other f h = refl
+twice (Some x) None f h = let bad : false ≡ true = h refl in cc
+twice (Some x) (Some y) f h = ap (λ (file : File). record f { file = file }) (put_twice f.file x y)
+
+functions_twice : (one other : Path → Option File) → ((p : Path) → is_some (one p) ≡ true → is_some (other p) ≡ true) → (fs : List BoardFunction)
+    → map (agreed_function other) (map (agreed_function one) fs) ≡ map (agreed_function other) fs
+functions_twice one other more [] = refl
+functions_twice one other more (f ∷ fs) =
+    ap₂ (λ (x : BoardFunction) (xs : List BoardFunction). x ∷ xs)
+    (ap (λ (p : Path). agreed_by (other p) (agreed_by (one f.path) f)) (path_stays (one f.path) f) ∙ twice (one f.path) (other f.path) f (more f.path))
+    (functions_twice one other more fs)
+
+-- ---- who sits where
+
+-- a path in a slot finds a file, and no other path does
+sits_in : (b : Board) (qs : List (Option Path)) (fs : Slots) (p : Path) → AreSeats b qs fs → is_some (file_in qs fs p) ≡ list_any (is_at p) qs
+sits_in b [] [] p h = refl
+sits_in b [] (f ∷ fs) p h = absurd h
+sits_in b (q ∷ qs) [] p h = absurd h
+sits_in b (None ∷ qs) (f ∷ fs) p h = sits_in b qs fs p h.1
+sits_in b (Some r ∷ qs) (None ∷ fs) p h = absurd h.0
+sits_in b (Some r ∷ qs) (Some f ∷ fs) p h = by (path_eq r p) (sits_in b qs fs p h.1)
+  where
+    by : (t : Bool) → is_some (file_in qs fs p) ≡ list_any (is_at p) qs → is_some (cond t (Some f.file) (file_in qs fs p)) ≡ (t || list_any (is_at p) qs)
+    by true more = refl
+    by false more = more
+
+pub sits_is : (b : Board) (gs : GuestsNow) → Each (IsSeatedGuest b) gs → (p : Path) → is_some (file_of gs p) ≡ sits gs p
+sits_is b [] all p = refl
+sits_is b (g ∷ gs) all p = first (file_in g.paths g.lone.slots p) (file_of gs p) ∙ ap₂ ◌||◌ (sits_in b g.paths g.lone.slots p all.0.seats) (sits_is b gs all.1 p)
+  where
+    first : (x y : Option File) → is_some (first_of_two x y) ≡ (is_some x || is_some y)
+    first None y = refl
+    first (Some f) y = refl
+
+module _ (s : State) (gs : GuestsNow) (seated : AreSeated (board_at s.functions) gs) where
+  abbrev b : Board
+  b = board_at s.functions
+
+  seated_has : (p : Path) (t : Bool) → sits gs p ≡ t → is_some (cond t (option_map file_at_reset (declared b p)) None) ≡ true → is_some (file_of gs p) ≡ true
+  seated_has p true e h = sits_is b gs seated.guests p ∙ e
+  seated_has p false e h = cc
+
+  declares : (p : Path) (o : Option File) → file_of gs p ≡ o → is_some o ≡ true → is_some (option_map file_at_reset (declared b p)) ≡ true
+  declares p None e h = cc
+  declares p (Some file) e h =
+      let is = seated_file b gs p file seated.guests e in
+      ap (λ (o : Option Endpoint). is_some (option_map file_at_reset o)) is.declares
+
+  has_seated : (p : Path) → is_some (file_of gs p) ≡ true → is_some (seated_files s gs p) ≡ true
+  has_seated p h =
+      let there : sits gs p ≡ true = sym (sits_is b gs seated.guests p) ∙ h in
+      ap (λ t. is_some (cond t (option_map file_at_reset (declared b p)) None)) there ∙ declares p (file_of gs p) refl h
+
+pub over_reset : OverReset
+over_reset s gs seated =
+    ap (λ (fs : List BoardFunction). record s { functions = fs })
+    (functions_twice (seated_files s gs) (file_of gs) (λ p. seated_has s gs seated p (sits gs p) refl) s.functions)
+
+pub reset_shown : ResetShown
+reset_shown s gs seated =
+    ap (λ (x : Board). with_files (λ p. cond (sits gs p) (option_map file_at_reset (declared x p)) None) (state_over s gs)) (keeps_board s gs)
+    ∙ ap (λ (fs : List BoardFunction). record s { functions = fs }) (functions_twice (file_of gs) (seated_files s gs) (has_seated s gs seated) s.functions)
+
+-- ---- at first
+
+some_paths : (qs : List Path) (k : ℕ) (p : Path) → list_any (is_at p) (map Some qs ++ replicate k None) ≡ list_any (λ q. path_eq q p) qs
+some_paths [] zero p = refl
+some_paths [] (suc k) p = some_paths [] k p
+some_paths (q ∷ qs) k p = ap (λ t. path_eq q p || t) (some_paths qs k p)
+
+sits_first : (w : World) (gs : List Guest) (p : Path) → sits (map (guest_at_first w) gs) p ≡ list_any (λ q. path_eq q p) (flat_map (λ (g : Guest). g.slots) gs)
+sits_first w [] p = refl
+sits_first w (g ∷ gs) p =
+    ap₂ ◌||◌ (some_paths g.slots (32 - length g.slots) p) (sits_first w gs p) ∙ sym (any_append (λ q. path_eq q p) g.slots (flat_map (λ (h : Guest). h.slots) gs))
+
+same_reset : (s : State) (one other : Path → Option File) → ((p : Path) → other p ≡ one p)
+    → with_files other s ≡ with_files one s
+same_reset s one other same = ap (λ (fs : List BoardFunction). record s { functions = fs }) (files_same one other same s.functions)
+
+pub reset_at_first : ResetAtFirst
+reset_at_first w s same =
+    same_reset s (reset_files w) (seated_files s (guests_at_first w))
+    (λ p. ap₂ (λ (t : Bool) (x : Board). cond t (option_map file_at_reset (declared x p)) None) (sits_first w w.guests p) same)
+
+-- ---- afterwards
+
+sits_with : (change : GuestNow → GuestNow) → ((g : GuestNow) → (change g).paths ≡ g.paths) → (name : List ℕ) (gs : GuestsNow) (p : Path) → sits (with_guest change name gs) p ≡ sits gs p
+sits_with change same name [] p = refl
+sits_with change same name (g ∷ gs) p = ap₂ ◌||◌ (by (bytes_eq name g.name)) (sits_with change same name gs p)
+  where
+    by : (t : Bool) → list_any (is_at p) (cond t (change g) g).paths ≡ list_any (is_at p) g.paths
+    by true = ap (list_any (is_at p)) (same g)
+    by false = refl
+
+abbrev seated_in : State → Path → Bool → Option File
+seated_in s p t = cond t (option_map file_at_reset (declared (board_at s.functions) p)) None
+
+pub reset_after_events : ResetAfterEvents
+reset_after_events s gs name e =
+    same_reset s (seated_files s gs) (seated_files s (with_guest (guest_after e) name gs)) (λ p. ap (seated_in s p) (sits_with (guest_after e) (λ g. refl) name gs p))
+
+module _ (s : State) (gs : GuestsNow) (seated : AreSeated (board_at s.functions) gs) (m : Move) (to_there : IsSome (guest_named gs m.to)) where
+  sits_moved : (f : Function) (is : function_in gs m.from m.slot ≡ Some f) (p : Path) (at : path_in gs m.from m.slot ≡ Some p) (can : NoFault gs m) (q : Path)
+      → sits (moved (board_at s.functions) gs seated m f is p at to_there can) q ≡ sits gs q
+  sits_moved f is p at can q =
+      sym (sits_is (board_at s.functions) (moved (board_at s.functions) gs seated m f is p at to_there can) (moved_seated (board_at s.functions) gs seated m f is p at to_there can).guests q)
+      ∙ by (path_eq p q) refl ∙ sits_is (board_at s.functions) gs seated.guests q
+    where
+      by : (t : Bool) → path_eq p q ≡ t → is_some (file_of (moved (board_at s.functions) gs seated m f is p at to_there can) q) ≡ is_some (file_of gs q)
+      by true e =
+          subst (λ (x : Path). is_some (file_of (moved (board_at s.functions) gs seated m f is p at to_there can) x) ≡ is_some (file_of gs x)) (path_same p q e)
+          (ap is_some (moved_after (board_at s.functions) gs seated m f is p at to_there can) ∙ sym (ap is_some (moved_before (board_at s.functions) gs seated m f is p at to_there can)))
+      by false e = ap is_some (moved_others (board_at s.functions) gs seated m f is p at to_there can q e)
+
+  handed : (o : Option Function) → function_in gs m.from m.slot ≡ o → (x : Option Path) → path_in gs m.from m.slot ≡ x → NoFault gs m → (q : Path) → sits (handed_over m (path_in gs m.from m.slot) o gs) q ≡ sits gs q
+  handed None e x i can q = refl
+  handed (Some f) e None i can q =
+      absurd (no_seat (subst (λ (y : Option Path). IsSeat (board_at s.functions) y (Some f)) i
+      (subst (IsSeat (board_at s.functions) (path_in gs m.from m.slot)) e (seat_in (board_at s.functions) gs seated.guests m.from m.slot))))
+    where
+      no_seat : IsSeat (board_at s.functions) None (Some f) → ⊥
+      no_seat h = h
+  handed (Some f) e (Some p) i can q = sits_moved f e p i can q
+
+  by_fault : (x : Option ℕ) → move_fault gs m ≡ x → (q : Path) → sits (cond (is_some x) gs (handed_over m (path_in gs m.from m.slot) (function_in gs m.from m.slot) gs)) q ≡ sits gs q
+  by_fault (Some n) e q = refl
+  by_fault None e q = handed (function_in gs m.from m.slot) refl (path_in gs m.from m.slot) refl (no_fault gs m e) q
+
+pub reset_after_moves : ResetAfterMoves
+reset_after_moves s gs seated m to_there =
+    same_reset s (seated_files s gs) (seated_files s (after_move gs m))
+    (λ p. ap (seated_in s p) (by_fault s gs seated m to_there (move_fault gs m) refl p))

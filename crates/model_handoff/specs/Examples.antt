@@ -1,0 +1,80 @@
+-- Worked examples: handoffs of the main board, as firmware other than set-up might leave it, and what guests see there.
+--     written_to p w off v s      a state after a write to a configuration register
+--     other_handoff      another bus number, another place for a region, and an Interrupt Line that is set
+--     closed_handoff      the same, with the Command of a given function closed
+--     lost_handoff      the same, with a Secondary Bus Number above the Subordinate
+use Rattle.std.specs.Prelude.{[], ◌∷◌, ◌≡◌, ℕ, Some, None, codes}
+use Rattle.model_registers.specs.Registers.{config, write, all_bytes}
+use Rattle.model_registers.specs.Decoding.{memory}
+use Rattle.model_board.specs.Paths.{Path}
+use Rattle.model_board.specs.Claims.{first_claim}
+use Rattle.model_board.specs.Cycles.{BusAddress}
+use Rattle.model_board.specs.Ports.{config_reply}
+use Rattle.model_board.specs.State.{State}
+use Rattle.model_set_up.specs.Examples.{part, main_board, main_apertures}
+use Rattle.model_set_up.specs.PlacedRegions.{PlacedRegion}
+use Rattle.model_set_up.specs.SetUp.{set_up_state}
+use Rattle.model_audit.specs.Found.{address_now}
+use Rattle.model_audit.specs.Problems.{not_found, problems}
+use Rattle.model_guests.specs.Text.{text_of_lines}
+use Rattle.model_guests.specs.Examples.{main_world, on_bus_0, behind}
+use Rattle.model_guests.specs.Guests.{guests_at_first}
+use Rattle.model_guests.specs.AgreedBoard.{with_change_at}
+use Rattle.model_handoff.specs.Handoffs.{state_over}
+use Rattle.model_handoff.specs.Regions.{in_disorder, closed_region, closed_given, first_fault}
+use Rattle.model_handoff.specs.WorldOver.{world_over, output}
+
+abbrev pub written_to : Path → ℕ → ℕ → ℕ → State → State
+written_to p w off v s = with_change_at (write (all_bytes w) v (config off)) p s
+
+-- bus 5 in place of bus 1; the first endpoint's memory at D0000000h; line 11 for the second endpoint
+abbrev pub other_handoff : State
+other_handoff =
+    written_to (on_bus_0 2) 2 0x19 0x0505
+    (written_to (on_bus_0 1) 4 0x14 0xd0000000
+    (written_to (behind 2 0) 1 0x3c 0x0b (set_up_state main_board main_apertures)))
+
+abbrev pub closed_handoff : State
+closed_handoff = written_to (behind 2 1) 2 4 0 other_handoff
+
+abbrev pub lost_handoff : State
+lost_handoff = written_to (on_bus_0 2) 1 0x19 6 closed_handoff
+
+-- the third endpoint's region
+abbrev pub closed_one : PlacedRegion
+closed_one = record { path = behind 2 1; index = 0; space = memory; first = 0x400000000; size = 0x1000000 }
+
+abbrev pub on_bus : ℕ → ℕ → BusAddress
+on_bus bus d = record { bus = bus; part = part d 0 }
+
+pub record WorkedExamples : Type 0 where
+  -- an audit passes it, and its functions may be given
+  pub passes : problems other_handoff.functions ≡ []
+  pub may_be_given : first_fault main_world other_handoff ≡ None
+  pub number : address_now other_handoff.functions (behind 2 0) ≡ on_bus 5 0
+  -- the region is claimed where the handoff has it, and no longer where set-up would have placed it
+  pub claimed :
+      first_claim (state_over other_handoff (guests_at_first main_world)).functions memory 0xd0000010
+      ≡ Some (record { path = on_bus_0 1; index = 1; offset = 0x10 })
+  pub left :
+      first_claim (state_over other_handoff (guests_at_first main_world)).functions memory 0xc0100010 ≡ None
+  -- a given function begins at reset, whatever firmware wrote to its Interrupt Line
+  pub line_before : config_reply other_handoff.functions (on_bus 5 0) 0x3c (all_bytes 1) ≡ 0x0b
+  pub line_at_first :
+      config_reply (state_over other_handoff (guests_at_first main_world)).functions (on_bus 5 0) 0x3c (all_bytes 1) ≡ 0
+  -- the guest is told the same as after set-up; the host finds the bytes at the handoff's place
+  pub dialogue :
+      output (world_over main_world other_handoff)
+      (codes "a cw 0 4 2 2" ∷ codes "a cw 0 0x14 4 0x80000000" ∷ codes "a mw 0x80000010 4 0x12345678"
+      ∷ codes "a mr 0x80000010 4" ∷ codes "host mr 0xd0000010 4" ∷ codes "host mr 0xc0100010 4"
+      ∷ codes "host cr 05:00.0 0 4" ∷ codes "host cr 01:00.0 0 4" ∷ codes "b cr 0 0x3c 1" ∷ [])
+      ≡ text_of_lines (
+      codes "a: ok" ∷ codes "a: ok" ∷ codes "a: ok" ∷ codes "a: 0x12345678" ∷ codes "host: 0x12345678"
+      ∷ codes "host: 0xffffffff" ∷ codes "host: 0x00031234" ∷ codes "host: 0xffffffff" ∷ codes "b: 0x00" ∷ [])
+  -- a closed region stands in the way of those to whom the function is given alone
+  pub closed : closed_given main_world closed_handoff ≡ closed_one ∷ []
+  pub refused : first_fault main_world closed_handoff ≡ Some (closed_region closed_one)
+  pub given_to_none : first_fault (record main_world { guests = [] }) closed_handoff ≡ None
+  -- and a problem comes first
+  pub lost :
+      first_fault main_world lost_handoff ≡ Some (in_disorder (not_found (behind 2 0) (on_bus 6 0) None))

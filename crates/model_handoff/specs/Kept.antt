@@ -1,0 +1,31 @@
+-- What holds of a world over a handoff from the first line of any script to the last: a monitor has to keep no more of
+-- the board than this.
+--     IsLawfulOver w      a handoff in order, whose guests are seated on its board and served
+--     LawfulAtFirst      so it is where functions may be given
+--     LawfulAfter, LawfulAlong      and after a line, and along lines
+use Rattle.std.specs.Prelude.{List, ◌≡◌}
+use Rattle.model_board.specs.AtReset.{board_at}
+use Rattle.model_board.specs.State.{State}
+use Rattle.model_audit.specs.Witnesses.{IsInOrder}
+use Rattle.model_guests.specs.Text.{Text}
+use Rattle.model_guests.specs.World.{World, HasLawfulGuests}
+use Rattle.model_guests.specs.Seated.{AreSeated}
+use Rattle.model_handoff.specs.Handoffs.{IsHandoff}
+use Rattle.model_handoff.specs.Regions.{CanBeGiven, AreServed}
+use Rattle.model_handoff.specs.WorldOver.{WorldOver, world_over, after_line, after_lines}
+
+pub record IsLawfulOver (w : WorldOver) : Type 0 where
+  pub handoff : IsHandoff w.handoff
+  pub order : IsInOrder w.handoff.functions
+  pub seated : AreSeated (board_at w.handoff.functions) w.guests
+  pub served : AreServed w.handoff w.guests
+
+abbrev pub LawfulAtFirst : Type 0
+LawfulAtFirst = (w : World) (s : State) → IsHandoff s → board_at s.functions ≡ w.board → HasLawfulGuests w
+    → CanBeGiven w s → IsLawfulOver (world_over w s)
+
+abbrev pub LawfulAfter : Type 0
+LawfulAfter = (w : WorldOver) (line : Text) → IsLawfulOver w → IsLawfulOver (after_line w line)
+
+abbrev pub LawfulAlong : Type 0
+LawfulAlong = (w : WorldOver) (ls : List Text) → IsLawfulOver w → IsLawfulOver (after_lines w ls)

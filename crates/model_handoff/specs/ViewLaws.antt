@@ -1,0 +1,55 @@
+-- The handoff as the board shows it later: with each function in a slot at reset, it is the same whatever guests did. So
+-- a monitor that keeps the board's registers and its guests, and no copy of the handoff, still says over which it stands.
+--     sits gs p      a guest has the function at a path in a slot
+--     with_seated_reset s gs      a state with each function in a slot at reset, but for what guests have copies of
+--     OverReset      guests can't tell it from the state itself
+--     ResetShown      it is the same of the handoff and of the board over it
+--     ResetAtFirst, ResetAfterEvents, ResetAfterMoves      it is that of the given functions, and stays so
+use Rattle.std.specs.Prelude.{◌≡◌, Bool, false, if◌then◌else◌, Option, None, option_map, IsSome}
+use Rattle.std.specs.List.{list_any}
+use Rattle.std.specs.Option.{option_map_or}
+use Rattle.model_registers.specs.Registers.{File}
+use Rattle.model_registers.specs.Decoding.{Function}
+use Rattle.model_board.specs.Paths.{Path, path_eq}
+use Rattle.model_board.specs.AtReset.{board_at}
+use Rattle.model_board.specs.State.{State}
+use Rattle.model_guests.specs.Accesses.{Event}
+use Rattle.model_guests.specs.Text.{Text}
+use Rattle.model_guests.specs.World.{World, declared}
+use Rattle.model_guests.specs.Guests.{GuestNow, GuestsNow, guests_at_first, guest_named, after_guest_event}
+use Rattle.model_guests.specs.Guests.{Move, move_fault, after_move}
+use Rattle.model_guests.specs.AgreedBoard.{with_files}
+use Rattle.model_handoff.specs.Handoffs.{state_over, file_at_reset, with_given_reset}
+use Rattle.model_handoff.specs.ChangeLaws.{OverSeated}
+
+abbrev pub is_at : Path → Option Path → Bool
+is_at p q = option_map_or (λ (x : Path). path_eq x p) q false
+
+abbrev pub sits : GuestsNow → Path → Bool
+sits gs p = list_any (λ (g : GuestNow). list_any (is_at p) g.paths) gs
+
+abbrev pub seated_files : State → GuestsNow → Path → Option File
+seated_files s gs p =
+    if sits gs p then option_map file_at_reset (declared (board_at s.functions) p) else None
+
+abbrev pub with_seated_reset : State → GuestsNow → State
+with_seated_reset s gs = with_files (seated_files s gs) s
+
+abbrev pub OverReset : Type 0
+OverReset = OverSeated (λ s gs. state_over (with_seated_reset s gs) gs ≡ state_over s gs)
+
+abbrev pub ResetShown : Type 0
+ResetShown = OverSeated (λ s gs. with_seated_reset (state_over s gs) gs ≡ with_seated_reset s gs)
+
+abbrev pub ResetAtFirst : Type 0
+ResetAtFirst = (w : World) (s : State) → board_at s.functions ≡ w.board
+    → with_seated_reset s (guests_at_first w) ≡ with_given_reset w s
+
+abbrev pub ResetAfterEvents : Type 0
+ResetAfterEvents = (s : State) (gs : GuestsNow) (name : Text) (e : Event)
+    → with_seated_reset s (after_guest_event name e gs) ≡ with_seated_reset s gs
+
+-- between guests that are there
+abbrev pub ResetAfterMoves : Type 0
+ResetAfterMoves = OverSeated (λ s gs. (m : Move) → IsSome (guest_named gs m.to)
+    → with_seated_reset s (after_move gs m) ≡ with_seated_reset s gs)
