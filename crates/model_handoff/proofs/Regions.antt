@@ -9,7 +9,7 @@ use Rattle.model_registers.specs.Declarations.{Kind, io_kind, mem32, mem64, Regi
 use Rattle.model_registers.specs.Decoding.{Space, space_of, base, base_address, opens_space, command_word, Function}
 use Rattle.model_registers.proofs.HitRegions.{hit_is_of_region}
 use Rattle.model_board.specs.Paths.{Path}
-use Rattle.model_board.specs.Board.{endpoint, Board, IsBoard}
+use Rattle.model_board.specs.Board.{Board, IsBoard}
 use Rattle.model_board.specs.AtReset.{board_at}
 use Rattle.model_board.specs.Claims.{Claim}
 use Rattle.model_board.specs.Ports.{file_at}

@@ -2,7 +2,7 @@
 use Rattle.std.proofs.Common.{◌≡◌, ℕ, zero, suc, Bool, true, false, not, cond, ◌-◌, List, [], ◌∷◌, ◌++◌, length, inl, inr, Some, None, Option, refl, sym, ap, ◌∙◌}
 use Rattle.std.specs.Prelude.{map, flat_map, replicate, is_some, IsTrue}
 use Rattle.std.specs.Str.{bytes_eq}
-use Rattle.lists.specs.Elements.{Each, IsIn, first_of_two}
+use Rattle.lists.specs.Elements.{IsIn, first_of_two}
 use Rattle.lists.proofs.Members.{each_from, any_in, in_front, in_back, in_map, in_filter, in_flat_map}
 use Rattle.model_registers.specs.Registers.{File}
 use Rattle.model_registers.specs.Declarations.{Region}

@@ -1,6 +1,6 @@
 -- The handoff as the board shows it later.
 use Rattle.std.proofs.Common.{◌≡◌, ℕ, zero, suc, ◌-◌, Bool, true, false, ◌||◌, cond, List, [], ◌∷◌, ◌++◌, length, Some, None, Option, refl, sym, ap, ap₂, ◌∙◌, subst}
-use Rattle.std.specs.Prelude.{map, flat_map, replicate, is_some, option_map, IsFalse, IsSome}
+use Rattle.std.specs.Prelude.{map, flat_map, replicate, is_some, option_map, IsSome}
 use Rattle.std.specs.List.{list_any}
 use Rattle.std.specs.Str.{bytes_eq}
 use Rattle.lists.specs.Elements.{Each, first_of_two}
@@ -22,9 +22,8 @@ use Rattle.model_guests.proofs.AgreedChanges.{agreed_by}
 use Rattle.model_guests.proofs.Changes.{files_same}
 use Rattle.model_guests.proofs.MovedFunctions.{NoFault, no_fault, moved, moved_seated, moved_before, moved_after, moved_others}
 use Rattle.model_board.proofs.PathOrder.{path_same}
-use Rattle.model_handoff.specs.Handoffs.{file_at_reset, is_given, reset_files, state_over}
-use Rattle.model_handoff.specs.ViewLaws.{is_at, sits, seated_files, with_seated_reset, OverReset, ResetShown, ResetAtFirst, ResetAfterEvents, ResetAfterMoves}
-use Rattle.model_handoff.proofs.Changes.{there_in}
+use Rattle.model_handoff.specs.Handoffs.{file_at_reset, reset_files, state_over}
+use Rattle.model_handoff.specs.ViewLaws.{is_at, sits, seated_files, OverReset, ResetShown, ResetAtFirst, ResetAfterEvents, ResetAfterMoves}
 use Rattle.model_handoff.proofs.First.{any_append}
 use Rattle.model_handoff.proofs.Functions.{path_stays}
 use Rattle.model_handoff.proofs.Keeping.{keeps_board}

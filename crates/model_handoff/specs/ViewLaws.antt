@@ -9,7 +9,6 @@ use Rattle.std.specs.Prelude.{◌≡◌, Bool, false, if◌then◌else◌, Optio
 use Rattle.std.specs.List.{list_any}
 use Rattle.std.specs.Option.{option_map_or}
 use Rattle.model_registers.specs.Registers.{File}
-use Rattle.model_registers.specs.Decoding.{Function}
 use Rattle.model_board.specs.Paths.{Path, path_eq}
 use Rattle.model_board.specs.AtReset.{board_at}
 use Rattle.model_board.specs.State.{State}
@@ -17,7 +16,7 @@ use Rattle.model_guests.specs.Accesses.{Event}
 use Rattle.model_guests.specs.Text.{Text}
 use Rattle.model_guests.specs.World.{World, declared}
 use Rattle.model_guests.specs.Guests.{GuestNow, GuestsNow, guests_at_first, guest_named, after_guest_event}
-use Rattle.model_guests.specs.Guests.{Move, move_fault, after_move}
+use Rattle.model_guests.specs.Guests.{Move, after_move}
 use Rattle.model_guests.specs.AgreedBoard.{with_files}
 use Rattle.model_handoff.specs.Handoffs.{state_over, file_at_reset, with_given_reset}
 use Rattle.model_handoff.specs.ChangeLaws.{OverSeated}
