@@ -1,0 +1,2 @@
+mod Declared
+mod Kept

@@ -1,0 +1,127 @@
+//! A board that firmware drives.
+ghost use Rattle.std.specs.Prelude.{◌≡◌, ◌≢◌, ◌<◌, ◌≤◌, ◌||◌, Some, false, not, IfOk, IfErr};
+ghost use Rattle.std.specs.Bool.{OnTrue};
+ghost use Rattle.model_registers.specs.DeclarationRules.{first_broken};
+ghost use Rattle.model_set_up.specs.SetUpWrites.{set_up_rules};
+ghost use Rattle.model_guests.specs.Accesses.{reads, writes};
+ghost use Rattle.model_guests.specs.World.{World};
+ghost use Rattle.model_firmware.specs.HostAccesses.{answer};
+ghost use Rattle.model_firmware.specs.FirmwareLines.{line_output};
+ghost use Rattle.accesses.specs.Accesses.{reply_of};
+ghost use Rattle.accesses.specs.Replies.{IsRefusal};
+ghost use Rattle.lines.specs.FirmwareLines.{host_asked};
+ghost use Rattle.board_file.specs.declared.fault.BoardFault.TheVariants.{Memory};
+ghost use Rattle.board_file.specs.Faults.{number_of as file_number};
+ghost use Rattle.simulation.specs.Faults.{number_of};
+ghost use Rattle.simulation.specs.Listing.{Declares, Refuses};
+ghost use Rattle.simulation.specs.Running.{IsOpened};
+ghost use Rattle.driven_board.specs.Boards.{IsResetBoard, after_read, after_write, after_line};
+
+use board_file::{BoardFault, read_board};
+use firmware::{Host, HostAccess, Reply};
+use lines::LineText;
+use simulation::{Fault, Monitor};
+use std::alloc::Global;
+use std::marker::Model;
+
+/// What a line writes whose write was done.
+const OK_LINE: &[u8] = b"host: ok\n";
+
+/// The board that a board file declares, from reset on, with the bytes of the file. Whether a write was
+/// done since reset is kept, so that our own set-up runs on a board at reset alone.
+#[derive(Drop)]
+pub struct Board {
+    file: Vec<u8>,
+    host: Host,
+    written: bool,
+}
+
+impl Model for Board {
+    ghost use Rattle.std.specs.Prelude.{◌≡◌, false};
+    ghost use Rattle.driven_board.specs.Boards.{BoardNow, IsResetBoard};
+
+    ghost Value = { BoardNow };
+
+    ghost view = { λ b. record { file = b.file.items; host = b.host; written = b.written } };
+
+    ghost invariant = { λ b. b.written ≡ false → IsResetBoard b.file.items b.host };
+}
+
+impl Board {
+    /// The board of a board file, at reset. The guests of the file are checked, and no function is given to
+    /// them. Refused are the file (101 to 112) and lack of memory (199).
+    pub fn open(alloc: Global, file: &[u8]) -> Result<Board, BoardFault>
+        ensures file { IfOk result (λ b. b.file ≡ file.now) }
+        ensures untouched { IfOk result (λ b. b.written ≡ false) }
+        ensures reset { IfOk result (λ b. IsResetBoard file.now b.host) }
+        ensures refused { IfErr result (λ f. f ≢ Memory → Refuses file.now (file_number f)) }
+    {
+        let (host, _guests) = read_board(alloc, file)?;
+        let Ok(kept) = Vec::from_slice(alloc, file) else {
+            return Err(BoardFault::Memory);
+        };
+        Ok(Board {
+            file: kept,
+            host,
+            written: false,
+        })
+    }
+
+    /// Whether the board is at reset, as no write was done on it.
+    pub fn is_at_reset(&self) -> bool
+        ensures untouched { result ≡ not self.now.written }
+        ensures reset { OnTrue result (IsResetBoard self.now.file self.now.host) }
+    {
+        !self.written
+    }
+
+    /// Answers a read of firmware, or refuses it and changes nothing. No memory is taken.
+    pub fn read(&mut self, from: HostAccess) -> Reply
+        ensures reply { reply_of result ≡ answer self.old.host.state (host_asked from reads) }
+        ensures after { self.new ≡ after_read self.old (host_asked from reads) }
+        ensures refused { IsRefusal result → self.new ≡ self.old }
+    {
+        firmware::read(&mut self.host, from)
+    }
+
+    /// Writes as firmware does, or refuses the write and changes nothing. No memory is taken.
+    pub fn write(&mut self, to: HostAccess, value: u32) -> Reply
+        ensures reply { reply_of result ≡ answer self.old.host.state (host_asked to (writes value)) }
+        ensures after { self.new ≡ after_write self.old (host_asked to (writes value)) }
+        ensures refused { IsRefusal result → self.new ≡ self.old }
+    {
+        let reply = firmware::write(&mut self.host, to, value);
+        if matches!(reply, Reply::Done) {
+            self.written = true;
+        }
+        reply
+    }
+
+    /// Runs a line of firmware, which is given without its line feed, and gives what the line writes:
+    /// nothing, or one line with its line feed. No memory is taken.
+    pub fn run_line(&mut self, line: &[u8]) -> LineText
+        ensures text { result.items ≡ line_output self.old.host.state line.now }
+        ensures after { self.new ≡ after_line self.old line.now }
+    {
+        let text = firmware::run_line(&mut self.host, line);
+        if text.as_slice() == OK_LINE {
+            self.written = true;
+        }
+        text
+    }
+
+    /// What our own set-up makes of this board, which is at reset: a board that is set up, with its functions
+    /// given to the guests of the file. It reads the file once more, so this board stays as it is, whatever
+    /// comes of it. Refused are the board (201 to 205) and lack of memory (199 or 299).
+    pub fn set_up(&self, alloc: Global) -> Result<Monitor, Fault>
+        requires { self.now.written ≡ false }
+        ensures opened { IfOk result (IsOpened self.now.file) }
+        ensures placement { IfErr result (λ f. 199 < number_of f → number_of f < 299 →
+            (w : World) × Declares self.now.file w
+            × (first_broken (set_up_rules w.board w.apertures) ≡ Some (number_of f))) }
+        ensures accepted { IfErr result (λ f. ¬ (number_of f < 199)) }
+        ensures faults { IfErr result (λ f. number_of f ≤ 299) }
+    {
+        simulation::open(alloc, &self.file)
+    }
+}
