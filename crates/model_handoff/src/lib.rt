@@ -3,10 +3,11 @@
 
 ghost use Rattle.model_handoff.specs.AgreementLaws.{FirstIsHandoff, FirstIsReset, KeepsAddresses, KeepsBoard, KeepsBridges, KeepsProblems, KeepsReach, KeepsRouting, StateAgrees, StateIsOnly, StaysInOrder};
 ghost use Rattle.model_handoff.specs.IsolationLaws.{GuestsAlike, IsolatedOver, RepliesAlike, TwoHandoffs};
-ghost use Rattle.model_handoff.specs.RegionLaws.{CycleReads, CycleWrites, FaultDecides, HitReachesOver, MemoryBySpace, PortsBySpace, RegionIsClaimed, RegionReads, RegionWrites, ServedAfterEvents, ServedAfterMoves, ServedAtFirst};
+ghost use Rattle.model_handoff.specs.RegionLaws.{CycleReads, CycleWrites, FaultDecides, HitActs, HitReachesOver, MemoryBySpace, PortsBySpace, RegionIsClaimed, RegionReads, RegionWrites, ServedAfterEvents, ServedAfterMoves, ServedAtFirst};
 ghost use Rattle.model_handoff.specs.ChangeLaws.{ChangesOver, EventReachesOver, LatchOver, MoveResetsOver};
 ghost use Rattle.model_handoff.specs.SetUpCase.{SameLine, SameOutput, SameState, SetUpAddresses, SetUpCanBeGiven, SetUpIsHandoff, SetUpIsInOrder, SetUpPlaces};
 ghost use Rattle.model_handoff.specs.ViewLaws.{OverReset, ResetAfterEvents, ResetAfterMoves, ResetAtFirst, ResetShown};
+ghost use Rattle.model_handoff.specs.Sessions.{AccessLeaves, LinesLeave, ResetIsHandoff};
 ghost use Rattle.model_handoff.specs.Kept.{LawfulAfter, LawfulAlong, LawfulAtFirst};
 ghost use Rattle.model_handoff.specs.Examples.{WorkedExamples};
 
@@ -50,6 +51,7 @@ pub fn regions_are_reached()
 pub fn accesses_reach_files()
     ensures reads { RegionReads }
     ensures writes { RegionWrites }
+    ensures hits { HitActs }
     ensures memory { MemoryBySpace }
     ensures ports { PortsBySpace }
     ensures cycle_reads { CycleReads }
@@ -75,6 +77,13 @@ pub fn changes_reach_board()
     ensures latch { LatchOver }
     ensures moves { MoveResetsOver }
     ensures events { EventReachesOver }
+{}
+
+/// Whatever firmware does to a board at reset, it hands over a handoff of that board.
+pub fn firmware_hands_over()
+    ensures reset { ResetIsHandoff }
+    ensures access { AccessLeaves }
+    ensures lines { LinesLeave }
 {}
 
 /// With each function in a slot at reset the board shows over which handoff its guests are, whatever they did.
