@@ -1,26 +1,25 @@
 -- Whatever firmware does to a board at reset, it hands over a handoff.
-use Rattle.std.proofs.Common.{◌≡◌, ℕ, ◌/◌, ◌%◌, Bool, true, false, cond, List, [], ◌∷◌, Some, None, Option, refl, sym, ap, ap₂, ◌∙◌, subst}
+use Rattle.std.proofs.Common.{◌≡◌, ℕ, ◌/◌, ◌%◌, Bool, true, false, cond, List, [], ◌∷◌, Some, None, Option, refl, sym, ap₂, ◌∙◌, subst}
 use Rattle.std.specs.Prelude.{map, is_some}
 use Rattle.std.specs.Option.{option_map_or}
 use Rattle.lists.specs.Elements.{Each}
 use Rattle.lists.proofs.EachLemmas.{each_of_map, each_map}
 use Rattle.model_registers.specs.Cell.{Cell, written}
-use Rattle.model_registers.specs.Registers.{Place, config, block, place_eq, after, Entry, File, changed, write, all_bytes}
+use Rattle.model_registers.specs.Registers.{Place, config, block, place_eq, after, File, changed, write, all_bytes}
 use Rattle.model_registers.specs.CopiedFiles.{places_of}
 use Rattle.model_registers.specs.EndpointTable.{endpoint_reset}
 use Rattle.model_board.specs.Paths.{Path, path_eq}
 use Rattle.model_board.specs.Board.{Decl, endpoint, bridge, Row, Board, IsBoard, is_multifunction}
-use Rattle.model_board.specs.AtReset.{reset_file, reset_state, board_at, IsAtReset}
+use Rattle.model_board.specs.AtReset.{reset_file, board_at}
 use Rattle.model_board.specs.Claims.{Claim, first_claim}
-use Rattle.model_board.specs.Cycles.{BusAddress, reached}
+use Rattle.model_board.specs.Cycles.{reached}
 use Rattle.model_board.specs.Lawful.{IsLawfulDecl, HasLawfulDecls}
-use Rattle.model_board.specs.Ports.{PortTarget, config_address, config_data, ordinary, port_target, after_config_write, after_claim_write, after_target_write}
+use Rattle.model_board.specs.Ports.{PortTarget, config_address, config_data, ordinary, port_target, after_claim_write, after_target_write}
 use Rattle.model_board.specs.State.{BoardFunction, State, with_file, row_at}
-use Rattle.model_registers.specs.Decoding.{Space, io, memory}
+use Rattle.model_registers.specs.Decoding.{io, memory}
 use Rattle.model_guests.specs.Accesses.{Op, reads, writes}
 use Rattle.model_guests.specs.Grammar.{HostTarget, host_configuration, host_port, host_address}
 use Rattle.model_guests.specs.LineRuns.{after_lines}
-use Rattle.model_guests.specs.Text.{Text}
 use Rattle.model_guests.proofs.TablePlaces.{alike_places, alike_tables}
 use Rattle.model_firmware.specs.FirmwareLines.{Meaning, nothing, asked, bad, meaning, after_meaning, after_line, board_protocol}
 use Rattle.model_firmware.specs.HostAccesses.{HostAccess, effect, fault_of, after_access}
