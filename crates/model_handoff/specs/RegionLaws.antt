@@ -109,7 +109,8 @@ HitActs = (s : State) → IsHandoff s → IsOrderly (routing s.functions)
     → (gs : GuestsNow) → AreSeated (board_at s.functions) gs → AreServed s gs
     → (name : Text) (k : ℕ) (p : Path) (f : Function) → HasSlot gs name k p f
     → (space : Space) (n : ℕ) (h : Hit) → lone_claim f space n ≡ Some h
-    → (reach : ReachesOver s gs p f space n h) × ((w v : ℕ) → ActsOver s gs name k f space h (base_in s p reach.region + h.offset) w v)
+    → (reach : ReachesOver s gs p f space n h)
+    × ((w v : ℕ) → ActsOver s gs name k f space h (base_in s p reach.region + h.offset) w v)
 
 abbrev pub MemoryBySpace : Type 0
 MemoryBySpace = (s : State) (a w v : ℕ)

@@ -1,11 +1,16 @@
 //! Guests over a board in the state in which any firmware hands it over, as definitions, and laws about them.
 #![tactic(auto)]
 
-ghost use Rattle.model_handoff.specs.AgreementLaws.{FirstIsHandoff, FirstIsReset, KeepsAddresses, KeepsBoard, KeepsBridges, KeepsProblems, KeepsReach, KeepsRouting, StateAgrees, StateIsOnly, StaysInOrder};
+ghost use Rattle.model_handoff.specs.AgreementLaws.{FirstIsHandoff, FirstIsReset, KeepsAddresses, KeepsBoard};
+ghost use Rattle.model_handoff.specs.AgreementLaws.{KeepsBridges, KeepsProblems, KeepsReach, KeepsRouting};
+ghost use Rattle.model_handoff.specs.AgreementLaws.{StateAgrees, StateIsOnly, StaysInOrder};
 ghost use Rattle.model_handoff.specs.IsolationLaws.{GuestsAlike, IsolatedOver, RepliesAlike, TwoHandoffs};
-ghost use Rattle.model_handoff.specs.RegionLaws.{CycleReads, CycleWrites, FaultDecides, HitActs, HitReachesOver, MemoryBySpace, PortsBySpace, RegionIsClaimed, RegionReads, RegionWrites, ServedAfterEvents, ServedAfterMoves, ServedAtFirst};
+ghost use Rattle.model_handoff.specs.RegionLaws.{CycleReads, CycleWrites, FaultDecides, HitActs, HitReachesOver};
+ghost use Rattle.model_handoff.specs.RegionLaws.{MemoryBySpace, PortsBySpace, RegionIsClaimed, RegionReads};
+ghost use Rattle.model_handoff.specs.RegionLaws.{RegionWrites, ServedAfterEvents, ServedAfterMoves, ServedAtFirst};
 ghost use Rattle.model_handoff.specs.ChangeLaws.{ChangesOver, EventReachesOver, LatchOver, MoveResetsOver};
-ghost use Rattle.model_handoff.specs.SetUpCase.{SameLine, SameOutput, SameState, SetUpAddresses, SetUpCanBeGiven, SetUpIsHandoff, SetUpIsInOrder, SetUpPlaces};
+ghost use Rattle.model_handoff.specs.SetUpCase.{SameLine, SameOutput, SameState, SetUpAddresses, SetUpCanBeGiven};
+ghost use Rattle.model_handoff.specs.SetUpCase.{SetUpIsHandoff, SetUpIsInOrder, SetUpPlaces};
 ghost use Rattle.model_handoff.specs.ViewLaws.{OverReset, ResetAfterEvents, ResetAfterMoves, ResetAtFirst, ResetShown};
 ghost use Rattle.model_handoff.specs.Sessions.{AccessLeaves, LinesLeave, ResetIsHandoff};
 ghost use Rattle.model_handoff.specs.Kept.{LawfulAfter, LawfulAlong, LawfulAtFirst};
@@ -70,8 +75,8 @@ pub fn given_are_served()
     ensures lawful_along { LawfulAlong }
 {}
 
-/// When a guest changes a function, the board over a handoff changes there alone, by the bytes of which the guest has no
-/// copy.
+/// When a guest changes a function, the board over a handoff changes there alone, by the bytes of which the guest has
+/// no copy.
 pub fn changes_reach_board()
     ensures function { ChangesOver }
     ensures latch { LatchOver }
