@@ -30,12 +30,13 @@ use Rattle.model_guests.proofs.KeptCopies.{file_of_seat}
 use Rattle.model_guests.proofs.KeptNumbers.{shows_file}
 use Rattle.model_guests.proofs.RegionReach.{declared_row}
 use Rattle.model_handoff.specs.Handoffs.{state_over, HasDeclaredPlaces}
-use Rattle.model_handoff.specs.RegionLaws.{RegionReads, RegionWrites, MemoryBySpace, PortsBySpace, CycleReads, CycleWrites, HasSlot}
+use Rattle.model_handoff.specs.Regions.{base_in}
+use Rattle.model_handoff.specs.RegionLaws.{HitActs, ActsOver, ReachesOver, RegionReads, RegionWrites, MemoryBySpace, PortsBySpace, CycleReads, CycleWrites, HasSlot}
 use Rattle.model_handoff.proofs.Functions.{Facts, facts, path_stays, decl_stays}
 use Rattle.model_handoff.proofs.Agreement.{places_in}
 use Rattle.model_handoff.proofs.Keeping.{find_path, keeps_reach}
 use Rattle.model_handoff.proofs.Standing.{at_path, endpoint_at, StandsAt, found, stands}
-use Rattle.model_handoff.proofs.Regions.{region_is_claimed, seat_of}
+use Rattle.model_handoff.proofs.Regions.{hit_reaches_over, region_is_claimed, seat_of}
 use Rattle.model_handoff.proofs.Changes.{changes_slot}
 
 -- in a region there are no copies
@@ -124,6 +125,21 @@ region_writes s state orderly gs seated name n p f has r declared opened k small
     let claimed = region_is_claimed s state orderly gs seated p f.decl (row s state gs seated name n p f has) r declared opened k small in
     ap (λ (o : Option Claim). record (state_over s gs) { functions = after_claim_write (state_over s gs).functions w v o }) claimed.first
     ∙ sym (changes_slot (board_at s.functions) s gs seated name n p f has.path has.function (write (all_bytes w) v (block r.index k)) (write (all_bytes w) v (block r.index k)) (region_alike w v r.index k))
+
+pub hit_acts : HitActs
+hit_acts s handoff orderly gs seated served name k p f has space n h e = (reach, acts)
+  where
+    reach : ReachesOver s gs p f space n h
+    reach = hit_reaches_over s handoff.board orderly gs seated served name k p f has space n h e
+
+    acts : (w v : ℕ) → ActsOver s gs name k f space h (base_in s p (hit_reaches_over s handoff.board orderly gs seated served name k p f has space n h e).region + h.offset) w v
+    acts w v =
+        let claimed = (hit_reaches_over s handoff.board orderly gs seated served name k p f has space n h e).claimed in
+        record {
+          reads = ap (claim_reply (state_over s gs).functions w) claimed.first ∙ block_shown s handoff.board gs seated name k p f has handoff.places h.index h.offset w;
+          writes = ap (λ (o : Option Claim). record (state_over s gs) { functions = after_claim_write (state_over s gs).functions w v o }) claimed.first
+              ∙ sym (changes_slot (board_at s.functions) s gs seated name k p f has.path has.function (write (all_bytes w) v (block h.index h.offset)) (write (all_bytes w) v (block h.index h.offset)) (region_alike w v h.index h.offset));
+        }
 
 pub memory_by_space : MemoryBySpace
 memory_by_space s a w v = (refl, refl)

@@ -13,3 +13,4 @@ pub mod SetUpCase
 pub mod Examples
 pub mod Kept
 pub mod Views
+pub mod Sessions

@@ -1,10 +1,10 @@
 -- What it is that a state of the board agrees with guests over a handoff, and what no guest can change of it.
 --     AgreesOver s gs now      said cell by cell, without building the state
 --     StateAgrees, StateIsOnly      there is a state that agrees, and no other
---     FirstIsReset, FirstIsHandoff      before any event each given function is at reset; where it was, the state is the handoff
+--     FirstIsReset, FirstIsHandoff      before any event the given functions are at reset; if they were, it is the handoff
 --     KeepsBoard, KeepsRouting      the same functions, with the routing registers that were handed over
 --     KeepsBridges      no guest has a bridge: bus numbers and windows are as they were handed over
---     KeepsReach, KeepsAddresses      a configuration cycle reaches what it reached, by the addresses that were handed over
+--     KeepsReach, KeepsAddresses      configuration cycles reach what they reached, by the same addresses
 --     KeepsProblems, StaysInOrder      an audit tells what it told of the handoff; so an orderly board stays so
 use Rattle.std.specs.Prelude.{◌≡◌, option_map, IsTrue}
 use Rattle.lists.specs.Elements.{Each}
@@ -31,7 +31,8 @@ pub record AgreesOver (s : State) (gs : GuestsNow) (now : State) : Type 0 where
 
 -- what holds over any state of a lawful board, and over any handoff, whatever seated guests there are
 abbrev pub OverBoards : (State → GuestsNow → Type 0) → Type 0
-OverBoards P = (s : State) → IsStateOfBoard s.functions → (gs : GuestsNow) → AreSeated (board_at s.functions) gs → P s gs
+OverBoards P = (s : State) → IsStateOfBoard s.functions → (gs : GuestsNow) → AreSeated (board_at s.functions) gs
+    → P s gs
 
 abbrev pub OverHandoffs : (State → GuestsNow → Type 0) → Type 0
 OverHandoffs P = (s : State) → IsHandoff s → (gs : GuestsNow) → AreSeated (board_at s.functions) gs → P s gs

@@ -1,6 +1,6 @@
 -- How a change of what guests hold changes the board over a handoff: there alone, and by the bytes without a copy.
 --     OverSeated      over any state, whatever guests are seated on its board
---     ChangesOver, LatchOver      a guest's change of a function changes the board there; its latch is nothing of the board's
+--     ChangesOver, LatchOver      a change of a guest's function changes the board there; its latch nothing
 --     MoveResetsOver      a move resets the function, but for what its guests have copies of
 --     EventReachesOver      what any event of a guest does to the board
 use Rattle.std.specs.Prelude.{◌≡◌, ℕ, Some, None, IsSome}
@@ -12,8 +12,8 @@ use Rattle.model_board.specs.AtReset.{board_at}
 use Rattle.model_board.specs.State.{State}
 use Rattle.model_guests.specs.Accesses.{Event}
 use Rattle.model_guests.specs.Text.{Text}
-use Rattle.model_guests.specs.Guests.{GuestsNow, guest_named, lone_of, with_guest, after_guest_event, function_in, path_in}
-use Rattle.model_guests.specs.Guests.{Move, move_fault, after_move}
+use Rattle.model_guests.specs.Guests.{GuestsNow, guest_named, lone_of, with_guest, after_guest_event, function_in}
+use Rattle.model_guests.specs.Guests.{path_in, Move, move_fault, after_move}
 use Rattle.model_guests.specs.AgreedBoard.{with_change_at}
 use Rattle.model_guests.specs.Seated.{AreSeated}
 use Rattle.model_guests.specs.ChangeLaws.{ChangesAlike, with_slot_changed, with_latch, lands, board_after}

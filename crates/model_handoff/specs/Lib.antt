@@ -9,3 +9,4 @@ pub mod SetUpCase
 pub mod Examples
 pub mod Kept
 pub mod ViewLaws
+pub mod Sessions

@@ -5,6 +5,7 @@
 --     HasSlot      a slot of a guest, with its path and its function
 --     HitReachesOver      a hit in a served function stands for a byte of such a region, in the same byte lanes
 --     RegionReads, RegionWrites      an access there reads and changes what the guest's own file holds
+--     HitActs      so an access of a guest that hits is one to the byte where the handoff has it
 --     CycleReads, CycleWrites      a configuration cycle for the function's address in the handoff does so too
 --     MemoryBySpace, PortsBySpace      these are the accesses of the board at its memory addresses and ordinary ports
 --     ServedAtFirst, ServedAfterEvents, ServedAfterMoves      given functions are served, whatever guests do
@@ -95,6 +96,21 @@ RegionWrites = (s : State) → IsStateOfBoard s.functions → IsOrderly (routing
     → (r : Region) → IsIn r f.decl.regions → IsTrue (opens_region s p r) → (k : ℕ) → k < r.size → (w v : ℕ)
     → after_space_write (state_over s gs) (space_of r.kind) (base_in s p r + k) w v
     ≡ state_over s (with_guest (with_slot_changed (write (all_bytes w) v (block r.index k)) n) name gs)
+
+-- w bytes at the board's address where a hit of the guest's function in slot k stands
+pub record ActsOver (s : State) (gs : GuestsNow) (name : Text) (k : ℕ) (f : Function) (space : Space) (h : Hit)
+    (address w v : ℕ) : Type 0 where
+  pub reads : space_reply (state_over s gs) space address w ≡ number f.file (block h.index h.offset) w
+  pub writes : after_space_write (state_over s gs) space address w v
+      ≡ state_over s (with_guest (with_slot_changed (write (all_bytes w) v (block h.index h.offset)) k) name gs)
+
+abbrev pub HitActs : Type 0
+HitActs = (s : State) → IsHandoff s → IsOrderly (routing s.functions)
+    → (gs : GuestsNow) → AreSeated (board_at s.functions) gs → AreServed s gs
+    → (name : Text) (k : ℕ) (p : Path) (f : Function) → HasSlot gs name k p f
+    → (space : Space) (n : ℕ) (h : Hit) → lone_claim f space n ≡ Some h
+    → (reach : ReachesOver s gs p f space n h)
+    × ((w v : ℕ) → ActsOver s gs name k f space h (base_in s p reach.region + h.offset) w v)
 
 abbrev pub MemoryBySpace : Type 0
 MemoryBySpace = (s : State) (a w v : ℕ)

@@ -1,4 +1,4 @@
--- What set-up leaves is one handoff: all that is said of a board that is set up, with guests, is said of guests over it.
+-- What set-up leaves is one handoff: what is said of a board that is set up, with guests, is said of guests over it.
 --     SetUpIsHandoff, SetUpIsInOrder      it is a handoff of the board, and in order
 --     SetUpCanBeGiven      no given function has a closed region there
 --     SetUpPlaces, SetUpAddresses      its regions are where set-up placed them, and its bus numbers are the board's

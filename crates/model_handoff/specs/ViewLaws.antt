@@ -1,5 +1,5 @@
--- The handoff as the board shows it later: with each function in a slot at reset, it is the same whatever guests did. So
--- a monitor that keeps the board's registers and its guests, and no copy of the handoff, still says over which it stands.
+-- The handoff as the board shows it later: with each function in a slot at reset, it is the same whatever guests did.
+-- So a monitor that keeps the board's registers and its guests, and no copy of the handoff, says over which it stands.
 --     sits gs p      a guest has the function at a path in a slot
 --     with_seated_reset s gs      a state with each function in a slot at reset, but for what guests have copies of
 --     OverReset      guests can't tell it from the state itself

@@ -1,12 +1,18 @@
 //! Guests over a board in the state in which any firmware hands it over, as definitions, and laws about them.
 #![tactic(auto)]
 
-ghost use Rattle.model_handoff.specs.AgreementLaws.{FirstIsHandoff, FirstIsReset, KeepsAddresses, KeepsBoard, KeepsBridges, KeepsProblems, KeepsReach, KeepsRouting, StateAgrees, StateIsOnly, StaysInOrder};
+ghost use Rattle.model_handoff.specs.AgreementLaws.{FirstIsHandoff, FirstIsReset, KeepsAddresses, KeepsBoard};
+ghost use Rattle.model_handoff.specs.AgreementLaws.{KeepsBridges, KeepsProblems, KeepsReach, KeepsRouting};
+ghost use Rattle.model_handoff.specs.AgreementLaws.{StateAgrees, StateIsOnly, StaysInOrder};
 ghost use Rattle.model_handoff.specs.IsolationLaws.{GuestsAlike, IsolatedOver, RepliesAlike, TwoHandoffs};
-ghost use Rattle.model_handoff.specs.RegionLaws.{CycleReads, CycleWrites, FaultDecides, HitReachesOver, MemoryBySpace, PortsBySpace, RegionIsClaimed, RegionReads, RegionWrites, ServedAfterEvents, ServedAfterMoves, ServedAtFirst};
+ghost use Rattle.model_handoff.specs.RegionLaws.{CycleReads, CycleWrites, FaultDecides, HitActs, HitReachesOver};
+ghost use Rattle.model_handoff.specs.RegionLaws.{MemoryBySpace, PortsBySpace, RegionIsClaimed, RegionReads};
+ghost use Rattle.model_handoff.specs.RegionLaws.{RegionWrites, ServedAfterEvents, ServedAfterMoves, ServedAtFirst};
 ghost use Rattle.model_handoff.specs.ChangeLaws.{ChangesOver, EventReachesOver, LatchOver, MoveResetsOver};
-ghost use Rattle.model_handoff.specs.SetUpCase.{SameLine, SameOutput, SameState, SetUpAddresses, SetUpCanBeGiven, SetUpIsHandoff, SetUpIsInOrder, SetUpPlaces};
+ghost use Rattle.model_handoff.specs.SetUpCase.{SameLine, SameOutput, SameState, SetUpAddresses, SetUpCanBeGiven};
+ghost use Rattle.model_handoff.specs.SetUpCase.{SetUpIsHandoff, SetUpIsInOrder, SetUpPlaces};
 ghost use Rattle.model_handoff.specs.ViewLaws.{OverReset, ResetAfterEvents, ResetAfterMoves, ResetAtFirst, ResetShown};
+ghost use Rattle.model_handoff.specs.Sessions.{AccessLeaves, LinesLeave, ResetIsHandoff};
 ghost use Rattle.model_handoff.specs.Kept.{LawfulAfter, LawfulAlong, LawfulAtFirst};
 ghost use Rattle.model_handoff.specs.Examples.{WorkedExamples};
 
@@ -50,6 +56,7 @@ pub fn regions_are_reached()
 pub fn accesses_reach_files()
     ensures reads { RegionReads }
     ensures writes { RegionWrites }
+    ensures hits { HitActs }
     ensures memory { MemoryBySpace }
     ensures ports { PortsBySpace }
     ensures cycle_reads { CycleReads }
@@ -68,13 +75,20 @@ pub fn given_are_served()
     ensures lawful_along { LawfulAlong }
 {}
 
-/// When a guest changes a function, the board over a handoff changes there alone, by the bytes of which the guest has no
-/// copy.
+/// When a guest changes a function, the board over a handoff changes there alone, by the bytes of which the guest has
+/// no copy.
 pub fn changes_reach_board()
     ensures function { ChangesOver }
     ensures latch { LatchOver }
     ensures moves { MoveResetsOver }
     ensures events { EventReachesOver }
+{}
+
+/// Whatever firmware does to a board at reset, it hands over a handoff of that board.
+pub fn firmware_hands_over()
+    ensures reset { ResetIsHandoff }
+    ensures access { AccessLeaves }
+    ensures lines { LinesLeave }
 {}
 
 /// With each function in a slot at reset the board shows over which handoff its guests are, whatever they did.

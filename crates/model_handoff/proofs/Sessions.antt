@@ -1,0 +1,156 @@
+-- Whatever firmware does to a board at reset, it hands over a handoff.
+use Rattle.std.proofs.Common.{◌≡◌, ℕ, ◌/◌, ◌%◌, Bool, true, false, cond, List, [], ◌∷◌, Some, None, Option, refl, sym, ap₂, ◌∙◌, subst}
+use Rattle.std.specs.Prelude.{map, is_some}
+use Rattle.std.specs.Option.{option_map_or}
+use Rattle.lists.specs.Elements.{Each}
+use Rattle.lists.proofs.EachLemmas.{each_of_map, each_map}
+use Rattle.model_registers.specs.Cell.{Cell, written}
+use Rattle.model_registers.specs.Registers.{Place, config, block, place_eq, after, File, changed, write, all_bytes}
+use Rattle.model_registers.specs.CopiedFiles.{places_of}
+use Rattle.model_registers.specs.EndpointTable.{endpoint_reset}
+use Rattle.model_board.specs.Paths.{Path, path_eq}
+use Rattle.model_board.specs.Board.{Decl, endpoint, bridge, Row, Board, IsBoard, is_multifunction}
+use Rattle.model_board.specs.AtReset.{reset_file, board_at}
+use Rattle.model_board.specs.Claims.{Claim, first_claim}
+use Rattle.model_board.specs.Cycles.{reached}
+use Rattle.model_board.specs.Lawful.{IsLawfulDecl, HasLawfulDecls}
+use Rattle.model_board.specs.Ports.{PortTarget, config_address, config_data, ordinary, port_target, after_claim_write, after_target_write}
+use Rattle.model_board.specs.State.{BoardFunction, State, with_file, row_at}
+use Rattle.model_registers.specs.Decoding.{io, memory}
+use Rattle.model_guests.specs.Accesses.{Op, reads, writes}
+use Rattle.model_guests.specs.Grammar.{HostTarget, host_configuration, host_port, host_address}
+use Rattle.model_guests.specs.LineRuns.{after_lines}
+use Rattle.model_guests.proofs.TablePlaces.{alike_places, alike_tables}
+use Rattle.model_firmware.specs.FirmwareLines.{Meaning, nothing, asked, bad, meaning, after_meaning, after_line, board_protocol}
+use Rattle.model_firmware.specs.HostAccesses.{HostAccess, effect, fault_of, after_access}
+use Rattle.model_handoff.specs.Handoffs.{HasPlacesOf, HasDeclaredPlaces, IsHandoff}
+use Rattle.model_handoff.specs.Sessions.{ResetIsHandoff, IsHandoffAlike, AccessLeaves, LinesLeave}
+
+-- ---- at reset
+
+reset_places : (b : Board) (p : Path) (d : Decl) → IsLawfulDecl d → HasPlacesOf d (reset_file b p d)
+reset_places b p (endpoint d) lawful =
+    sym (alike_places (endpoint_reset d false) (endpoint_reset d (is_multifunction b p)) (alike_tables d (is_multifunction b p) 0 (λ r. 0) lawful.regions.each))
+reset_places b p (bridge d) lawful = tt
+
+pub reset_is_handoff : ResetIsHandoff
+reset_is_handoff s h = record {
+  board = record { places = h.board; declarations = h.declarations };
+  places = subst (λ (x : State). Each HasDeclaredPlaces x.functions) (sym h.registers)
+      (each_of_map HasDeclaredPlaces (λ (r : Row). record { path = r.path; decl = r.decl; file = reset_file (board_at s.functions) r.path r.decl }) (board_at s.functions)
+      (each_map (λ (r : Row). IsLawfulDecl r.decl) (λ (r : Row). HasPlacesOf r.decl (reset_file (board_at s.functions) r.path r.decl)) (board_at s.functions) (λ r l. reset_places (board_at s.functions) r.path r.decl l) h.declarations));
+}
+
+-- ---- a write moves no cell
+
+changed_places : (f : Cell → Cell) (p : Place) (file : File) → places_of (changed f p file) ≡ places_of file
+changed_places f p [] = refl
+changed_places f p (e ∷ es) = ap₂ (λ (x : Place) (xs : List Place). x ∷ xs) (by (place_eq e.place p)) (changed_places f p es)
+  where
+    by : (t : Bool) → (cond t (record e { cell = f e.cell }) e).place ≡ e.place
+    by true = refl
+    by false = refl
+
+written_places : (ons : List Bool) (v : ℕ) (p : Place) (file : File) → places_of (write ons v p file) ≡ places_of file
+written_places [] v p file = refl
+written_places (on ∷ ons) v p file = written_places ons (v / 256) (after p) (cond on (changed (written (v % 256)) p file) file) ∙ by on
+  where
+    by : (t : Bool) → places_of (cond t (changed (written (v % 256)) p file) file) ≡ places_of file
+    by true = changed_places (written (v % 256)) p file
+    by false = refl
+
+-- the same functions, with their cells at the same places
+record Alike (fs gs : List BoardFunction) : Type 0 where
+  rows : map row_at gs ≡ map row_at fs
+  places : Each HasDeclaredPlaces fs → Each HasDeclaredPlaces gs
+
+unchanged : (fs : List BoardFunction) → Alike fs fs
+unchanged fs = record { rows = refl; places = λ h. h }
+
+module _ (g : File → File) (stays : (file : File) → places_of (g file) ≡ places_of file) (p : Path) where
+  abbrev one : BoardFunction → BoardFunction
+  one f = cond (path_eq f.path p) (record f { file = g f.file }) f
+
+  one_row : (f : BoardFunction) → row_at (one f) ≡ row_at f
+  one_row f = by (path_eq f.path p)
+    where
+      by : (t : Bool) → row_at (cond t (record f { file = g f.file }) f) ≡ row_at f
+      by true = refl
+      by false = refl
+
+  places_stay : (d : Decl) (file : File) → HasPlacesOf d file → HasPlacesOf d (g file)
+  places_stay (endpoint d) file h = stays file ∙ h
+  places_stay (bridge d) file h = tt
+
+  one_places : (f : BoardFunction) → HasDeclaredPlaces f → HasDeclaredPlaces (one f)
+  one_places f h = by (path_eq f.path p)
+    where
+      by : (t : Bool) → HasDeclaredPlaces (cond t (record f { file = g f.file }) f)
+      by true = places_stay f.decl f.file h
+      by false = h
+
+  all_rows : (fs : List BoardFunction) → map row_at (with_file g p fs) ≡ map row_at fs
+  all_rows [] = refl
+  all_rows (f ∷ fs) = ap₂ (λ (x : Row) (xs : Board). x ∷ xs) (one_row f) (all_rows fs)
+
+  all_places : (fs : List BoardFunction) → Each HasDeclaredPlaces fs → Each HasDeclaredPlaces (with_file g p fs)
+  all_places [] h = tt
+  all_places (f ∷ fs) h = (one_places f h.0, all_places fs h.1)
+
+  with_file_alike : (fs : List BoardFunction) → Alike fs (with_file g p fs)
+  with_file_alike fs = record { rows = all_rows fs; places = all_places fs }
+
+config_alike : (fs : List BoardFunction) (off : ℕ) (ons : List Bool) (v : ℕ) (o : Option BoardFunction) → Alike fs (option_map_or (λ (f : BoardFunction). with_file (write ons v (config off)) f.path fs) o fs)
+config_alike fs off ons v None = unchanged fs
+config_alike fs off ons v (Some f) = with_file_alike (write ons v (config off)) (written_places ons v (config off)) f.path fs
+
+claim_alike : (fs : List BoardFunction) (w v : ℕ) (o : Option Claim) → Alike fs (after_claim_write fs w v o)
+claim_alike fs w v None = unchanged fs
+claim_alike fs w v (Some c) = with_file_alike (write (all_bytes w) v (block c.index c.offset)) (written_places (all_bytes w) v (block c.index c.offset)) c.path fs
+
+target_alike : (s : State) (a w v : ℕ) (t : PortTarget) → Alike s.functions (after_target_write s a w v t).functions
+target_alike s a w v config_address = unchanged s.functions
+target_alike s a w v (config_data at off) = config_alike s.functions off (all_bytes w) v (reached s.functions at)
+target_alike s a w v ordinary = claim_alike s.functions w v (first_claim s.functions io a)
+
+effect_alike : (s : State) (w : ℕ) (at : HostTarget) (op : Op) → Alike s.functions (effect s w at op).functions
+effect_alike s w (host_configuration at off) reads = unchanged s.functions
+effect_alike s w (host_configuration at off) (writes v) = config_alike s.functions off (all_bytes w) v (reached s.functions at)
+effect_alike s w (host_port a) reads = unchanged s.functions
+effect_alike s w (host_port a) (writes v) = target_alike s a w v (port_target s.latch a w)
+effect_alike s w (host_address a) reads = unchanged s.functions
+effect_alike s w (host_address a) (writes v) = claim_alike s.functions w v (first_claim s.functions memory a)
+
+access_alike : (s : State) (a : HostAccess) → Alike s.functions (after_access s a).functions
+access_alike s a = by (is_some (fault_of a))
+  where
+    by : (t : Bool) → Alike s.functions (cond t s (effect s a.width a.target a.op)).functions
+    by true = unchanged s.functions
+    by false = effect_alike s a.width a.target a.op
+
+handoff_alike : (s now : State) → IsHandoff s → Alike s.functions now.functions → IsHandoffAlike s now
+handoff_alike s now h alike = record {
+  handoff = record {
+    board = record {
+      places = subst IsBoard (sym alike.rows) h.board.places;
+      declarations = subst HasLawfulDecls (sym alike.rows) h.board.declarations;
+    };
+    places = alike.places h.places;
+  };
+  board = alike.rows;
+}
+
+pub access_leaves : AccessLeaves
+access_leaves s h a = handoff_alike s (after_access s a) h (access_alike s a)
+
+line_leaves : (s : State) → IsHandoff s → (m : Meaning) → IsHandoffAlike s (after_meaning s m)
+line_leaves s h nothing = record { handoff = h; board = refl }
+line_leaves s h (asked a) = access_leaves s h a
+line_leaves s h (bad who n) = record { handoff = h; board = refl }
+
+pub lines_leave : LinesLeave
+lines_leave s h [] = record { handoff = h; board = refl }
+lines_leave s h (l ∷ ls) =
+    let one : IsHandoffAlike s (after_line s l) = line_leaves s h (meaning l) in
+    let rest : IsHandoffAlike (after_line s l) (after_lines board_protocol (after_line s l) ls) = lines_leave (after_line s l) one.handoff ls in
+    record { handoff = rest.handoff; board = rest.board ∙ one.board }
