@@ -20,7 +20,7 @@ use Rattle.model_devices.proofs.OneGuest.{lone_own, lone_other}
 
 -- ---- one guest after a change of one
 
-lone_by : (f : GuestNow → GuestNow) → Keeps f → (k : LoneGuest → LoneGuest) → ((t : GuestNow) → (f t).lone ≡ k t.lone) → (n name : Text) (gs : GuestsNow) → IsSome (guest_named gs name)
+pub lone_by : (f : GuestNow → GuestNow) → Keeps f → (k : LoneGuest → LoneGuest) → ((t : GuestNow) → (f t).lone ≡ k t.lone) → (n name : Text) (gs : GuestsNow) → IsSome (guest_named gs name)
     → lone_of (with_guest f n gs) name ≡ cond (bytes_eq n name) (k (lone_of gs name)) (lone_of gs name)
 lone_by f keeps k does n name gs there = cases (bytes_eq n name) refl
   where
@@ -28,7 +28,7 @@ lone_by f keeps k does n name gs there = cases (bytes_eq n name) refl
     cases true e = ap (λ (x : Text). lone_of (with_guest f x gs) name) (equal_texts n name e) ∙ lone_own f keeps k does name gs there
     cases false e = lone_other f keeps n name gs e
 
-still : (f : GuestNow → GuestNow) → Keeps f → (n name : Text) (gs : GuestsNow) → IsSome (guest_named gs name) → IsSome (guest_named (with_guest f n gs) name)
+pub still : (f : GuestNow → GuestNow) → Keeps f → (n name : Text) (gs : GuestsNow) → IsSome (guest_named gs name) → IsSome (guest_named (with_guest f n gs) name)
 still f keeps n name gs there = subst IsSome (sym (named_with f keeps n name gs)) (some (guest_named gs name) there)
   where
     some : (o : Option GuestNow) → IsSome o → IsSome (option_map (one f n) o)

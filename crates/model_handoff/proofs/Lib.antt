@@ -14,3 +14,5 @@ pub mod Examples
 pub mod Kept
 pub mod Views
 pub mod Sessions
+pub mod DevicesOver
+pub mod RunsOver

@@ -10,6 +10,7 @@ use Rattle.model_registers.specs.Decoding.{Function, base_address, opens_space, 
 use Rattle.model_board.specs.Paths.{Path, path_eq}
 use Rattle.model_board.specs.AtReset.{board_at}
 use Rattle.model_board.specs.Ports.{file_at}
+use Rattle.model_board.specs.State.{State}
 use Rattle.model_board.specs.Routing.{row_of, routing}
 use Rattle.model_board.proofs.PathEnds.{path_self}
 use Rattle.model_set_up.specs.PlacedRegions.{PlacedRegion}
@@ -18,8 +19,8 @@ use Rattle.model_audit.specs.Problems.{Problem, problems}
 use Rattle.model_audit.proofs.Witnesses.{problems_decide}
 use Rattle.model_guests.specs.Text.{Text}
 use Rattle.model_guests.specs.World.{Guest, World, given_paths}
-use Rattle.model_guests.specs.Guests.{GuestsNow, guest_at_first, guest_after, guest_named, handed_over, move_fault, path_in, function_in, with_guest, with_slot_emptied, with_slot_filled}
-use Rattle.model_guests.proofs.GuestsByName.{path_at, path_of}
+use Rattle.model_guests.specs.Guests.{GuestNow, GuestsNow, guest_at_first, guest_after, guest_named, handed_over, move_fault, path_in, function_in, with_guest, with_slot_emptied, with_slot_filled}
+use Rattle.model_guests.proofs.GuestsByName.{Keeps, path_at, path_of}
 use Rattle.model_guests.proofs.RegionReach.{declared_row}
 use Rattle.model_guests.proofs.SeatedMoves.{Placed, placed, put_there, was_there}
 use Rattle.model_guests.proofs.Seats.{paths_stay}
@@ -75,8 +76,13 @@ served_at_first w s state none name n p at d declares = each_from (λ r. IsTrue 
 
 -- ---- afterwards
 
+-- a change of a guest that keeps its name and its paths
+pub served_with : (change : GuestNow → GuestNow) → Keeps change → ((t : GuestNow) → (change t).paths ≡ t.paths)
+    → (s : State) (gs : GuestsNow) → AreServed s gs → (name : Text) → AreServed s (with_guest change name gs)
+served_with change keeps paths s gs served name a n p at = served a n p (sym (paths_stay change keeps paths name a n gs) ∙ at)
+
 pub served_after_events : ServedAfterEvents
-served_after_events s gs served name e a n p at = served a n p (sym (paths_stay (guest_after e) (λ t. refl) (λ t. refl) name a n gs) ∙ at)
+served_after_events s gs served name e = served_with (guest_after e) (λ t. refl) (λ t. refl) s gs served name
 
 pub served_after_moves : ServedAfterMoves
 served_after_moves s gs served m = by (is_some (move_fault gs m)) (function_in gs m.from m.slot)

@@ -23,7 +23,7 @@ use Rattle.model_guests.proofs.Changes.{files_same}
 use Rattle.model_guests.proofs.MovedFunctions.{NoFault, no_fault, moved, moved_seated, moved_before, moved_after, moved_others}
 use Rattle.model_board.proofs.PathOrder.{path_same}
 use Rattle.model_handoff.specs.Handoffs.{file_at_reset, reset_files, state_over}
-use Rattle.model_handoff.specs.ViewLaws.{is_at, sits, seated_files, OverReset, ResetShown, ResetAtFirst, ResetAfterEvents, ResetAfterMoves}
+use Rattle.model_handoff.specs.ViewLaws.{is_at, sits, seated_files, with_seated_reset, OverReset, ResetShown, ResetAtFirst, ResetAfterEvents, ResetAfterMoves}
 use Rattle.model_handoff.proofs.First.{any_append}
 use Rattle.model_handoff.proofs.Functions.{path_stays}
 use Rattle.model_handoff.proofs.Keeping.{keeps_board}
@@ -143,9 +143,14 @@ sits_with change same name (g ∷ gs) p = ap₂ ◌||◌ (by (bytes_eq name g.na
 abbrev seated_in : State → Path → Bool → Option File
 seated_in s p t = cond t (option_map file_at_reset (declared (board_at s.functions) p)) None
 
+-- a change of a guest that keeps its paths
+pub reset_with : (change : GuestNow → GuestNow) → ((g : GuestNow) → (change g).paths ≡ g.paths)
+    → (s : State) (gs : GuestsNow) (name : List ℕ) → with_seated_reset s (with_guest change name gs) ≡ with_seated_reset s gs
+reset_with change paths s gs name =
+    same_reset s (seated_files s gs) (seated_files s (with_guest change name gs)) (λ p. ap (seated_in s p) (sits_with change paths name gs p))
+
 pub reset_after_events : ResetAfterEvents
-reset_after_events s gs name e =
-    same_reset s (seated_files s gs) (seated_files s (with_guest (guest_after e) name gs)) (λ p. ap (seated_in s p) (sits_with (guest_after e) (λ g. refl) name gs p))
+reset_after_events s gs name e = reset_with (guest_after e) (λ g. refl) s gs name
 
 module _ (s : State) (gs : GuestsNow) (seated : AreSeated (board_at s.functions) gs) (m : Move) (to_there : IsSome (guest_named gs m.to)) where
   sits_moved : (f : Function) (is : function_in gs m.from m.slot ≡ Some f) (p : Path) (at : path_in gs m.from m.slot ≡ Some p) (can : NoFault gs m) (q : Path)

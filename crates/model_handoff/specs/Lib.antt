@@ -10,3 +10,5 @@ pub mod Examples
 pub mod Kept
 pub mod ViewLaws
 pub mod Sessions
+pub mod DevicesOver
+pub mod RunsOver

@@ -12,7 +12,9 @@ ghost use Rattle.model_handoff.specs.ChangeLaws.{ChangesOver, EventReachesOver, 
 ghost use Rattle.model_handoff.specs.SetUpCase.{SameLine, SameOutput, SameState, SetUpAddresses, SetUpCanBeGiven};
 ghost use Rattle.model_handoff.specs.SetUpCase.{SetUpIsHandoff, SetUpIsInOrder, SetUpPlaces};
 ghost use Rattle.model_handoff.specs.ViewLaws.{OverReset, ResetAfterEvents, ResetAfterMoves, ResetAtFirst, ResetShown};
+ghost use Rattle.model_handoff.specs.RunsOver.{AfterByProtocol, LongLinesAlike, NamesStay, OutputByProtocol, SameCut, SameStop};
 ghost use Rattle.model_handoff.specs.Sessions.{AccessLeaves, LinesLeave, ResetIsHandoff};
+ghost use Rattle.model_handoff.specs.DevicesOver.{CallsAlike, LawfulAfterDevices, ResetAfterDevices, ResetReachesOver};
 ghost use Rattle.model_handoff.specs.Kept.{LawfulAfter, LawfulAlong, LawfulAtFirst};
 ghost use Rattle.model_handoff.specs.Examples.{WorkedExamples};
 
@@ -100,6 +102,15 @@ pub fn handoff_is_shown()
     ensures moves { ResetAfterMoves }
 {}
 
+/// What happens at devices over a handoff: a reset resets the function on the board, the world stays lawful, and the
+/// same handoff is shown. Along any calls guests hold what they hold on a board that is set up.
+pub fn devices_over_handoffs()
+    ensures board { ResetReachesOver }
+    ensures lawful { LawfulAfterDevices }
+    ensures shown { ResetAfterDevices }
+    ensures calls { CallsAlike }
+{}
+
 /// What set-up leaves is a handoff in order, without a closed region; guests over it are the guests of a board that is
 /// set up.
 pub fn set_up_is_a_case()
@@ -111,6 +122,17 @@ pub fn set_up_is_a_case()
     ensures state { SameState }
     ensures line { SameLine }
     ensures output { SameOutput }
+{}
+
+/// A run of a script over a handoff writes and leaves line by line what its definition says; over what set-up leaves
+/// it is the run over the board that is set up, also where a failure ends it.
+pub fn runs_over_handoffs()
+    ensures output { OutputByProtocol }
+    ensures after { AfterByProtocol }
+    ensures long { LongLinesAlike }
+    ensures names { NamesStay }
+    ensures cut { SameCut }
+    ensures stopped { SameStop }
 {}
 
 /// What guests see over some handoffs.

@@ -15,7 +15,7 @@ no_byte : (a : ℕ) → is_address_port a 1 ≡ false
 no_byte a = and_false (a == 0xcf8)
 
 -- every other access goes where a byte goes
-same_destination : (latch w : ℕ) (t : Target) → is_latch_access t w ≡ false → destination latch w t ≡ destination latch 1 t
+pub same_destination : (latch w : ℕ) (t : Target) → is_latch_access t w ≡ false → destination latch w t ≡ destination latch 1 t
 same_destination latch w (configuration slot off) other = refl
 same_destination latch w (address a) other = refl
 same_destination latch w (port a) other =
@@ -31,7 +31,7 @@ by_selection t ordinary = goes_to t
 by_selection t nowhere = goes_nowhere
 by_selection t (in_slot n off) = goes_to (configuration n off)
 
-byte_goes : (latch : ℕ) (t : Target) → Goes (destination latch 1 t)
+pub byte_goes : (latch : ℕ) (t : Target) → Goes (destination latch 1 t)
 byte_goes latch (configuration slot off) = goes_to (configuration slot off)
 byte_goes latch (address a) = goes_to (address a)
 byte_goes latch (port a) = subst (λ (b : Bool). Goes (cond b own_latch (by_select (port a) (select_at latch a)))) (sym (no_byte a)) (by_selection (port a) (select_at latch a))
@@ -43,7 +43,7 @@ performed_there g (writes v) w no_function goes = refl
 performed_there g reads w (at_target t) goes = refl
 performed_there g (writes v) w (at_target t) goes = refl
 
-changed_there : (g : LoneGuest) (op : Op) (w : ℕ) (d : Destination) → Goes d → after_access_at g op w d ≡ record g { slots = effect op w g.slots (landing_at g d) }
+pub changed_there : (g : LoneGuest) (op : Op) (w : ℕ) (d : Destination) → Goes d → after_access_at g op w d ≡ record g { slots = effect op w g.slots (landing_at g d) }
 changed_there g op w own_latch goes = elim goes [ ]
 changed_there g reads w no_function goes = refl
 changed_there g (writes v) w no_function goes = refl

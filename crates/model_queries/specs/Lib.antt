@@ -1,3 +1,4 @@
 pub mod Regions
 pub mod Located
 pub mod QueryLaws
+pub mod StayLaws

@@ -2,6 +2,7 @@
 #![tactic(auto)]
 
 ghost use Rattle.model_queries.specs.QueryLaws.{AccessLands, HitIsInside, InsideIsHit, NothingHit};
+ghost use Rattle.model_queries.specs.StayLaws.{RegionsStay};
 
 /// What is told of a place is what an access there does: of any width, but for the one that is the
 /// guest's own address latch.
@@ -15,4 +16,10 @@ pub fn accesses_land()
 pub fn hits_lie_in_regions()
     ensures inside { HitIsInside }
     ensures hit { InsideIsHit }
+{}
+
+/// Where a region of a guest's function stands changes by nothing else than the guest's own writes of
+/// Command or of base address registers, moves that touch its slot, and resets at its device.
+pub fn regions_stay()
+    ensures { RegionsStay }
 {}
