@@ -6,7 +6,7 @@ use Rattle.model_board.specs.Ports.{after_config_write}
 use Rattle.model_board.specs.Routing.{routing}
 use Rattle.model_guests.specs.Accesses.{writes, configuration}
 use Rattle.model_guests.specs.Lone.{at_target, after_access_at}
-use Rattle.model_guests.specs.WorldNow.{WorldNow}
+use Rattle.model_handoff.specs.WorldOver.{WorldOver}
 use Rattle.paths.specs.BusAddresses.{bus_address_of}
 use Rattle.host_bridge.specs.HostState.{HostState, with_functions, with_latch}
 use Rattle.paths.specs.declared.bdf.Bdf.{Bdf}
@@ -54,21 +54,21 @@ guest_written gs i n word enables value holds slots new r guest same written lat
 
 -- ---- an engine
 
-module _ (h : HostState) (names : List (List ℕ)) (gs : List Guest) (sound : IsSound h names gs) (now : WorldNow) (view : world_shown h names gs ≡ now) (i n : ℕ) (holds : HoldsAt gs i n)
+module _ (h : HostState) (names : List (List ℕ)) (gs : List Guest) (sound : IsSound h names gs) (now : WorldOver) (view : world_shown h names gs ≡ now) (i n : ℕ) (holds : HoldsAt gs i n)
     (off width v : ℕ) (wide : IsWidth width) (aligned : off % width ≡ 0)
     (word enables moved : ℕ) (word_is : word ≡ off / 4 * 4) (enables_are : enables ≡ enables_of off width) (moved_is : moved ≡ into_lanes off v)
     (left : List Guest) (r : Bdf × ℕ) (written : WritesGuest gs i n holds word enables moved left r)
     (back : List Guest) (is_back : back ≡ left)
     (new : HostState) (is_new : new ≡ with_latch 0 (with_functions (after_config_write h.state.functions (bus_address_of r.0) word (lanes r.1) moved) h)) where
-  abbrev w : WorldNow
+  abbrev w : WorldOver
   w = world_shown h names gs
 
-  slot : SlotOf w.board w.apertures (guest_at h names gs sound now view i holds.guest holds.there).x.paths (guest_at h names gs sound now view i holds.guest holds.there).x.lone.slots n holds.slot.held
+  slot : SlotOf w.handoff (guest_at h names gs sound now view i holds.guest holds.there).x.paths (guest_at h names gs sound now view i holds.guest holds.there).x.lone.slots n holds.slot.held
   slot =
       let g = guest_at h names gs sound now view i holds.guest holds.there in
-      slot_there w.board w.apertures g.x.paths g.x.lone.slots holds.guest.slots.items n holds.slot.held g.is.slots holds.slot.there
+      slot_there w.handoff g.x.paths g.x.lone.slots holds.guest.slots.items n holds.slot.held g.is.slots holds.slot.there
 
-  abbrev after_world : WorldNow
+  abbrev after_world : WorldOver
   after_world = config_world w h names gs sound i holds.guest (guest_at h names gs sound now view i holds.guest holds.there) n holds.slot.held slot off width v wide aligned
 
   kept_now : IsKept after_world new names back
@@ -82,10 +82,10 @@ module _ (h : HostState) (names : List (List ℕ)) (gs : List Guest) (sound : Is
   sound_after = is_sound after_world new names back kept_now
 
   pub routes_after : routing h.state.functions ≡ routing new.state.functions
-  routes_after = same_routing w after_world h new names gs back sound kept_now refl refl
+  routes_after = same_routing w after_world h new names gs back sound kept_now refl
 
   pub world_after : world_shown new names back ≡ with_lone_nth i (after_access_at (lone_nth now i) (writes v) width (at_target (configuration n off))) now
   world_after =
       is_shown after_world new names back kept_now
       ∙ sym (config_world_is w h names gs sound i holds.guest (guest_at h names gs sound now view i holds.guest holds.there) n holds.slot.held slot off width v wide aligned)
-      ∙ ap (λ (x : WorldNow). with_lone_nth i (after_access_at (lone_nth x i) (writes v) width (at_target (configuration n off))) x) view
+      ∙ ap (λ (x : WorldOver). with_lone_nth i (after_access_at (lone_nth x i) (writes v) width (at_target (configuration n off))) x) view

@@ -4,13 +4,14 @@ use Rattle.std.specs.Prelude.{unwrap_or}
 use Rattle.lists.proofs.Indices.{at_below}
 use Rattle.model_guests.specs.Lone.{LoneGuest, reset_guest}
 use Rattle.model_guests.specs.Guests.{GuestNow, GuestsNow, lone_of}
-use Rattle.model_guests.specs.WorldNow.{WorldNow}
+use Rattle.model_handoff.specs.DevicesOver.{after_device}
+use Rattle.model_handoff.specs.WorldOver.{WorldOver}
 use Rattle.model_guests.proofs.Along.{by_index}
-use Rattle.model_devices.specs.DeviceEvents.{DeviceEvent, after_device_event, after_guest_device, after_device, device_after, device_answer}
+use Rattle.model_devices.specs.DeviceEvents.{DeviceEvent, after_device_event, after_guest_device, device_after, device_answer}
 use Rattle.monitor.specs.ByIndex.{guest_nth, name_nth, lone_nth, with_lone_nth}
 use Rattle.monitor.proofs.Named.{AreApart, lone_named}
 
-module _ (now : WorldNow) (apart : AreApart now) (i : ℕ) (inside : i < length now.guests) where
+module _ (now : WorldOver) (apart : AreApart now) (i : ℕ) (inside : i < length now.guests) where
   one : (x : GuestNow) × (slice_get now.guests i ≡ Some x)
   one = at_below now.guests i inside
 

@@ -7,7 +7,7 @@ use Rattle.model_registers.specs.Decoding.{Function}
 use Rattle.model_registers.specs.Declarations.{Endpoint}
 use Rattle.model_board.specs.Paths.{Path}
 use Rattle.model_board.specs.Board.{Board}
-use Rattle.model_registers.specs.Apertures.{Apertures}
+use Rattle.model_board.specs.State.{State}
 use Rattle.model_guests.specs.Text.{Text}
 use Rattle.model_guests.specs.Slots.{Slots, reset_function}
 use Rattle.model_guests.specs.World.{Guest as Declared, World, declared, HasLawfulGuests}
@@ -24,9 +24,9 @@ use Rattle.monitor.specs.Beginnings.{AreSlotsAtFirst}
 
 -- ---- one more
 
-module _ (b : Board) (a : Apertures) where
-  slots_push : (qs : List (Option Path)) (fs : Slots) (os : List (Option Held)) (q : Option Path) (f : Option Function) (o : Option Held) → AreSlots b a qs fs os → IsSlot b a q f o
-      → AreSlots b a (qs ++ q ∷ []) (fs ++ f ∷ []) (os ++ o ∷ [])
+module _ (now : State) where
+  slots_push : (qs : List (Option Path)) (fs : Slots) (os : List (Option Held)) (q : Option Path) (f : Option Function) (o : Option Held) → AreSlots now qs fs os → IsSlot now q f o
+      → AreSlots now (qs ++ q ∷ []) (fs ++ f ∷ []) (os ++ o ∷ [])
   slots_push [] [] [] q f o are is = (is, tt)
   slots_push [] [] (p ∷ os) q f o are is = absurd are
   slots_push [] (g ∷ fs) os q f o are is = absurd are
@@ -34,8 +34,8 @@ module _ (b : Board) (a : Apertures) where
   slots_push (p ∷ qs) (g ∷ fs) [] q f o are is = absurd are
   slots_push (p ∷ qs) (g ∷ fs) (k ∷ os) q f o are is = (are.0, slots_push qs fs os q f o are.1 is)
 
-  guests_push : (ts : List Text) (ws : GuestsNow) (gs : List Guest) (t : Text) (w : GuestNow) (g : Guest) → AreGuests b a ts ws gs → IsGuest b a t w g
-      → AreGuests b a (ts ++ t ∷ []) (ws ++ w ∷ []) (gs ++ g ∷ [])
+  guests_push : (ts : List Text) (ws : GuestsNow) (gs : List Guest) (t : Text) (w : GuestNow) (g : Guest) → AreGuests now ts ws gs → IsGuest now t w g
+      → AreGuests now (ts ++ t ∷ []) (ws ++ w ∷ []) (gs ++ g ∷ [])
   guests_push [] [] [] t w g are is = (is, tt)
   guests_push [] [] (k ∷ gs) t w g are is = absurd are
   guests_push [] (v ∷ ws) gs t w g are is = absurd are
@@ -56,7 +56,7 @@ take_past (x ∷ xs) (suc i) h = ap (λ ys. x ∷ ys) (take_past xs i (omega ari
 
 -- with k empty ones
 abbrev pub AreSlotsWith : HostState → List Path → ℕ → List (Option Held) → Type 0
-AreSlotsWith h ps k os = AreSlots (board_below h) h.apertures (map Some ps ++ replicate k None) (map reset_function (map (declared (board_below h)) ps ++ replicate k None)) os
+AreSlotsWith h ps k os = AreSlots h.state (map Some ps ++ replicate k None) (map reset_function (map (declared (board_below h)) ps ++ replicate k None)) os
 
 nothing_more : {A : Type 0} (xs : List A) → xs ++ [] ≡ xs
 nothing_more [] = refl
@@ -78,16 +78,16 @@ module _ (h : HostState) where
   no_slots ps = tt
 
   pub slot_pushed : (ps : List Path) (i : ℕ) (p : Path) (o : Held) (os : List (Option Held)) → slice_get ps i ≡ Some p → AreSlotsWith h (take i ps) 0 os
-      → IsSlot b h.apertures (Some p) (reset_function (declared b p)) (Some o) → AreSlotsWith h (take (i + 1) ps) 0 (os ++ Some o ∷ [])
+      → IsSlot h.state (Some p) (reset_function (declared b p)) (Some o) → AreSlotsWith h (take (i + 1) ps) 0 (os ++ Some o ∷ [])
   slot_pushed ps i p o os at are is =
       let qs : List (Option Path) = map Some (take i ps) in
       let ds : List (Option Endpoint) = map (declared b) (take i ps) in
       let paths : (qs ++ []) ++ Some p ∷ [] ≡ map Some (take (i + 1) ps) ++ [] = ap (λ xs. xs ++ Some p ∷ []) (nothing_more qs) ∙ sym (map_push Some ps i p at) ∙ sym (nothing_more (map Some (take (i + 1) ps))) in
       let decls : (ds ++ []) ++ declared b p ∷ [] ≡ map (declared b) (take (i + 1) ps) ++ [] = ap (λ xs. xs ++ declared b p ∷ []) (nothing_more ds) ∙ sym (map_push (declared b) ps i p at) ∙ sym (nothing_more (map (declared b) (take (i + 1) ps))) in
       let functions : map reset_function (ds ++ []) ++ reset_function (declared b p) ∷ [] ≡ map reset_function (map (declared b) (take (i + 1) ps) ++ []) = sym (map-append reset_function (ds ++ []) (declared b p ∷ [])) ∙ ap (map reset_function) decls in
-      subst (λ (xs : List (Option Path)). AreSlots b h.apertures xs (map reset_function (map (declared b) (take (i + 1) ps) ++ [])) (os ++ Some o ∷ [])) paths
-      (subst (λ (fs : Slots). AreSlots b h.apertures ((qs ++ []) ++ Some p ∷ []) fs (os ++ Some o ∷ [])) functions
-      (slots_push b h.apertures (qs ++ []) (map reset_function (ds ++ [])) os (Some p) (reset_function (declared b p)) (Some o) are is))
+      subst (λ (xs : List (Option Path)). AreSlots h.state xs (map reset_function (map (declared b) (take (i + 1) ps) ++ [])) (os ++ Some o ∷ [])) paths
+      (subst (λ (fs : Slots). AreSlots h.state ((qs ++ []) ++ Some p ∷ []) fs (os ++ Some o ∷ [])) functions
+      (slots_push h.state (qs ++ []) (map reset_function (ds ++ [])) os (Some p) (reset_function (declared b p)) (Some o) are is))
 
   pub all_filled : (ps : List Path) (i : ℕ) (os : List (Option Held)) → length ps ≤ i → AreSlotsWith h (take i ps) 0 os → (k : ℕ) → k ≡ 0 → AreSlotsWith h ps k os
   all_filled ps i os past are k none =
@@ -100,14 +100,14 @@ module _ (h : HostState) where
       let paths : (qs ++ replicate k None) ++ None ∷ [] ≡ qs ++ replicate (suc k) None = grouped qs (replicate k None) (None ∷ []) ∙ ap (λ xs. qs ++ xs) (one_more k None) in
       let decls : (ds ++ replicate k None) ++ None ∷ [] ≡ ds ++ replicate (suc k) None = grouped ds (replicate k None) (None ∷ []) ∙ ap (λ xs. ds ++ xs) (one_more k None) in
       let functions : map reset_function (ds ++ replicate k None) ++ None ∷ [] ≡ map reset_function (ds ++ replicate (suc k) None) = sym (map-append reset_function (ds ++ replicate k None) (None ∷ [])) ∙ ap (map reset_function) decls in
-      subst (λ (xs : List (Option Path)). AreSlots b h.apertures xs (map reset_function (ds ++ replicate (suc k) None)) (os ++ None ∷ [])) paths
-      (subst (λ (fs : Slots). AreSlots b h.apertures ((qs ++ replicate k None) ++ None ∷ []) fs (os ++ None ∷ [])) functions
-      (slots_push b h.apertures (qs ++ replicate k None) (map reset_function (ds ++ replicate k None)) os None None None are tt))
+      subst (λ (xs : List (Option Path)). AreSlots h.state xs (map reset_function (ds ++ replicate (suc k) None)) (os ++ None ∷ [])) paths
+      (subst (λ (fs : Slots). AreSlots h.state ((qs ++ replicate k None) ++ None ∷ []) fs (os ++ None ∷ [])) functions
+      (slots_push h.state (qs ++ replicate k None) (map reset_function (ds ++ replicate k None)) os None None None are tt))
 
   pub all_slots : (ps : List Path) (k : ℕ) (os : List (Option Held)) → k ≡ 32 - length ps → AreSlotsWith h ps k os → AreSlotsAtFirst h ps os
   all_slots ps k os all are =
       let short : 32 - length (map (declared b) ps) ≡ 32 - length ps = ap (λ n. 32 - n) (length-map ps (declared b)) in
-      subst (λ n. AreSlots b h.apertures (map Some ps ++ replicate (32 - length ps) None) (map reset_function (map (declared b) ps ++ replicate n None)) os) (sym short)
+      subst (λ n. AreSlots h.state (map Some ps ++ replicate (32 - length ps) None) (map reset_function (map (declared b) ps ++ replicate n None)) os) (sym short)
       (subst (λ n. AreSlotsWith h ps n os) all are)
 
 -- ---- guests
@@ -124,13 +124,15 @@ module _ (w : World) where
   pub slots_declared : HasLawfulGuests w → (i : ℕ) (g : Declared) → slice_get w.guests i ≡ Some g → Each (λ p. IsSome (declared w.board p)) g.slots
   slots_declared lawful i g at = of_guest (λ p. IsSome (declared w.board p)) w.guests i g lawful.endpoints at
 
+-- over a state of the board
+module _ (now : State) (w : World) where
   abbrev pub AreFirst : List Declared → List Guest → Type 0
-  AreFirst ds gs = AreGuests w.board w.apertures (map (λ (g : Declared). g.name) ds) (map (guest_at_first w) ds) gs
+  AreFirst ds gs = AreGuests now (map (λ (g : Declared). g.name) ds) (map (guest_at_first w) ds) gs
 
   pub guest_pushed : (ds : List Declared) (i : ℕ) (d : Declared) (g : Guest) (gs : List Guest) → slice_get ds i ≡ Some d → AreFirst (take i ds) gs
-      → g.latch ≡ 0 → AreSlots w.board w.apertures (guest_at_first w d).paths (guest_at_first w d).lone.slots g.slots.items → AreFirst (take (i + 1) ds) (gs ++ g ∷ [])
+      → g.latch ≡ 0 → AreSlots now (guest_at_first w d).paths (guest_at_first w d).lone.slots g.slots.items → AreFirst (take (i + 1) ds) (gs ++ g ∷ [])
   guest_pushed ds i d g gs at are latch slots =
-      subst (λ (ts : List Text). AreGuests w.board w.apertures ts (map (guest_at_first w) (take (i + 1) ds)) (gs ++ g ∷ [])) (sym (map_push (λ (g : Declared). g.name) ds i d at))
-      (subst (λ (ws : GuestsNow). AreGuests w.board w.apertures (map (λ (g : Declared). g.name) (take i ds) ++ d.name ∷ []) ws (gs ++ g ∷ [])) (sym (map_push (guest_at_first w) ds i d at))
-      (guests_push w.board w.apertures (map (λ (g : Declared). g.name) (take i ds)) (map (guest_at_first w) (take i ds)) gs d.name (guest_at_first w d) g are
+      subst (λ (ts : List Text). AreGuests now ts (map (guest_at_first w) (take (i + 1) ds)) (gs ++ g ∷ [])) (sym (map_push (λ (g : Declared). g.name) ds i d at))
+      (subst (λ (ws : GuestsNow). AreGuests now (map (λ (g : Declared). g.name) (take i ds) ++ d.name ∷ []) ws (gs ++ g ∷ [])) (sym (map_push (guest_at_first w) ds i d at))
+      (guests_push now (map (λ (g : Declared). g.name) (take i ds)) (map (guest_at_first w) (take i ds)) gs d.name (guest_at_first w d) g are
       (record { name_is = refl; latch = sym latch; slots = slots })))

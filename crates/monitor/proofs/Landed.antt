@@ -5,21 +5,20 @@ use Rattle.lists.specs.Elements.{first_of_two}
 use Rattle.model_registers.specs.Registers.{block}
 use Rattle.model_registers.specs.Decoding.{Space, Function, Hit}
 use Rattle.model_board.specs.Paths.{Path}
-use Rattle.model_board.specs.Board.{Board}
-use Rattle.model_registers.specs.Apertures.{Apertures}
+use Rattle.model_board.specs.State.{State}
 use Rattle.model_guests.specs.Slots.{Slots, slot_at, Landing, landing_in, landing_from}
 use Rattle.monitor.specs.declared.guest.Held.{Held}
 use Rattle.monitor.specs.Keeping.{AreSlots}
 use Rattle.monitor.specs.Reaches.{Decodes}
 use Rattle.monitor.proofs.Steps.{slot_there, slot_empty}
 
-same_count : (b : Board) (a : Apertures) (qs : List (Option Path)) (fs : Slots) (os : List (Option Held)) → AreSlots b a qs fs os → length fs ≡ length os
-same_count b a [] [] [] are = refl
-same_count b a [] [] (o ∷ os) are = absurd are
-same_count b a [] (f ∷ fs) os are = absurd are
-same_count b a (q ∷ qs) [] os are = absurd are
-same_count b a (q ∷ qs) (f ∷ fs) [] are = absurd are
-same_count b a (q ∷ qs) (f ∷ fs) (o ∷ os) are = ap suc (same_count b a qs fs os are.1)
+same_count : (s : State) (qs : List (Option Path)) (fs : Slots) (os : List (Option Held)) → AreSlots s qs fs os → length fs ≡ length os
+same_count s [] [] [] are = refl
+same_count s [] [] (o ∷ os) are = absurd are
+same_count s [] (f ∷ fs) os are = absurd are
+same_count s (q ∷ qs) [] os are = absurd are
+same_count s (q ∷ qs) (f ∷ fs) [] are = absurd are
+same_count s (q ∷ qs) (f ∷ fs) (o ∷ os) are = ap suc (same_count s qs fs os are.1)
 
 dropped_all : (fs : Slots) (n : ℕ) → length fs ≤ n → drop n fs ≡ []
 dropped_all [] zero h = refl
@@ -36,22 +35,22 @@ module _ (space : Space) (addr : ℕ) where
       let one : suc (n + 1) ≡ suc n + 1 = omega arith in
       next fs n k (omega arith) ∙ ap (λ (m : ℕ). first_of_two (landing_in k space addr (slot_at fs n)) (landing_from (k + 1) space addr (drop m (f ∷ fs)))) one
 
-  module _ (b : Board) (a : Apertures) (qs : List (Option Path)) (fs : Slots) (os : List (Option Held)) (are : AreSlots b a qs fs os) (n : ℕ) (within : n < length os) where
+  module _ (s : State) (qs : List (Option Path)) (fs : Slots) (os : List (Option Held)) (are : AreSlots s qs fs os) (n : ℕ) (within : n < length os) where
     inside : n < length fs
-    inside = omega (arith, same_count b a qs fs os are)
+    inside = omega (arith, same_count s qs fs os are)
 
     -- an empty slot
     pub passed_empty : unwrap_or (slice_get os n) None ≡ None → landing_from n space addr (drop n fs) ≡ landing_from (n + 1) space addr (drop (n + 1) fs)
     passed_empty none =
         next fs n n inside
         ∙ ap (λ (o : Option Function). first_of_two (landing_in n space addr o) (landing_from (n + 1) space addr (drop (n + 1) fs)))
-        (slot_empty b a qs fs os n are none)
+        (slot_empty s qs fs os n are none)
 
     decoded : (h : Held) → slice_get os n ≡ Some (Some h) → (o : Option Hit) → Decodes h.own space addr o
         → landing_from n space addr (drop n fs)
         ≡ first_of_two (option_map (λ (k : Hit). let l : Landing = record { slot = n; place = block k.index k.offset } in l) o) (landing_from (n + 1) space addr (drop (n + 1) fs))
     decoded h at o decodes =
-        let slot = slot_there b a qs fs os n h are at in
+        let slot = slot_there s qs fs os n h are at in
         next fs n n inside
         ∙ ap (λ (s : Option Function). first_of_two (landing_in n space addr s) (landing_from (n + 1) space addr (drop (n + 1) fs))) slot.function
         ∙ ap (λ (c : Option Hit). first_of_two (option_map (λ (k : Hit). let l : Landing = record { slot = n; place = block k.index k.offset } in l) c) (landing_from (n + 1) space addr (drop (n + 1) fs)))
@@ -64,5 +63,5 @@ module _ (space : Space) (addr : ℕ) where
         → landing_from n space addr (drop n fs) ≡ Some (record { slot = n; place = block hit.index hit.offset })
     landed h hit at decodes = decoded h at (Some hit) decodes
 
-  pub nowhere : (b : Board) (a : Apertures) (qs : List (Option Path)) (fs : Slots) (os : List (Option Held)) → AreSlots b a qs fs os → (n : ℕ) → length os ≤ n → landing_from n space addr (drop n fs) ≡ None
-  nowhere b a qs fs os are n h = ap (landing_from n space addr) (dropped_all fs n (omega (arith, same_count b a qs fs os are)))
+  pub nowhere : (s : State) (qs : List (Option Path)) (fs : Slots) (os : List (Option Held)) → AreSlots s qs fs os → (n : ℕ) → length os ≤ n → landing_from n space addr (drop n fs) ≡ None
+  nowhere s qs fs os are n h = ap (landing_from n space addr) (dropped_all fs n (omega (arith, same_count s qs fs os are)))

@@ -4,11 +4,13 @@ use Rattle.std.specs.Prelude.{is_some, nat_le, unwrap_or, IsSome}
 use Rattle.std.specs.Option.{option_map_or}
 use Rattle.std.proofs.lemmas.Bool.Decides.{nat_tests}
 use Rattle.std.proofs.lemmas.List.{length-set}
+use Rattle.model_board.specs.AtReset.{board_at}
 use Rattle.model_board.specs.Routing.{routing}
 use Rattle.model_guests.specs.Accesses.{done, refused}
 use Rattle.model_guests.specs.Guests.{after_move, function_in, guest_named, handed_over, move_fault, path_in, with_slot_emptied}
 use Rattle.model_guests.specs.Seated.{IsSeatedGuest}
-use Rattle.model_guests.specs.WorldNow.{WorldNow, move_reply}
+use Rattle.model_guests.specs.WorldNow.{move_reply}
+use Rattle.model_handoff.specs.WorldOver.{WorldOver}
 use Rattle.lists.proofs.Indices.{each_at}
 use Rattle.bridge_forward.specs.Lending.{with_endpoint_reset}
 use Rattle.host_bridge.specs.HostState.{HostState, with_functions}
@@ -99,8 +101,8 @@ passes os ps n m h =
 
 -- ---- an engine
 
-module _ (h : HostState) (names : List (List ℕ)) (gs : List Guest) (sound : IsSound h names gs) (now : WorldNow) (view : world_shown h names gs ≡ now) where
-  abbrev w : WorldNow
+module _ (h : HostState) (names : List (List ℕ)) (gs : List Guest) (sound : IsSound h names gs) (now : WorldOver) (view : world_shown h names gs ≡ now) where
+  abbrev w : WorldOver
   w = world_shown h names gs
 
   module _ (i n j m : ℕ) (g k : Guest) (there : slice_get gs i ≡ Some g) (to : slice_get gs j ≡ Some k) (os ps : List (Option Held)) (os_are : os ≡ g.slots.items) (ps_are : ps ≡ k.slots.items) where
@@ -110,15 +112,15 @@ module _ (h : HostState) (names : List (List ℕ)) (gs : List Guest) (sound : Is
         ∙ fault_shown w h names gs sound i n j m g (guest_at h names gs sound now view i g there) k (guest_at h names gs sound now view j k to)
 
     fault_now : fault_between os n ps m ≡ move_fault now.guests (move_nth now i n j m)
-    fault_now = fault_kept ∙ ap (λ (v : WorldNow). move_fault v.guests (move_nth v i n j m)) view
+    fault_now = fault_kept ∙ ap (λ (v : WorldOver). move_fault v.guests (move_nth v i n j m)) view
 
     pub reply_refused : (number : ℕ) → Some number ≡ fault_between os n ps m → refused number ≡ move_reply now.guests (move_nth now i n j m)
     reply_refused number is = ap (λ (o : Option ℕ). option_map_or refused o done) (is ∙ fault_now)
 
-    pub after_refused : (number : ℕ) → Some number ≡ fault_between os n ps m → now ≡ (let v : WorldNow = record now { guests = after_move now.guests (move_nth now i n j m) } in v)
+    pub after_refused : (number : ℕ) → Some number ≡ fault_between os n ps m → now ≡ (let v : WorldOver = record now { guests = after_move now.guests (move_nth now i n j m) } in v)
     after_refused number is =
         let t = move_nth now i n j m in
-        ap (λ (o : Option ℕ). let v : WorldNow = record now { guests = cond (is_some o) now.guests (handed_over t (path_in now.guests t.from t.slot) (function_in now.guests t.from t.slot) now.guests) } in v)
+        ap (λ (o : Option ℕ). let v : WorldOver = record now { guests = cond (is_some o) now.guests (handed_over t (path_in now.guests t.from t.slot) (function_in now.guests t.from t.slot) now.guests) } in v)
         (is ∙ fault_now)
 
     module _ (passed : None ≡ fault_between os n ps m) where
@@ -133,25 +135,25 @@ module _ (h : HostState) (names : List (List ℕ)) (gs : List Guest) (sound : Is
       pub has_there : (lent : List Guest) → lent ≡ gs → HasSlot lent j m
       has_there lent is =
           let x = guest_at h names gs sound now view j k to in
-          let count : length k.slots.items ≡ 32 = slots_count w.board w.apertures x.x.paths x.x.lone.slots k.slots.items x.is.slots ∙ (each_at (IsSeatedGuest w.board) w.guests j x.x sound.seated.guests x.there).count in
+          let count : length k.slots.items ≡ 32 = slots_count w.handoff x.x.paths x.x.lone.slots k.slots.items x.is.slots ∙ (each_at (IsSeatedGuest (board_at w.handoff.functions)) w.guests j x.x sound.lawful.seated.guests x.there).count in
           record { guest = k; there = ap (λ (ls : List Guest). slice_get ls j) is ∙ to; inside = subst (λ (l : ℕ). m < l) (sym count) (passes os ps n m passed).in_range }
 
       -- the guests and the host as the call leaves them
       module _ (holds : HoldsAt gs i n) (left : List Guest) (over : HandsOver gs i n holds j m left) (back : List Guest) (is_back : back ≡ left)
           (new : HostState) (is_new : new ≡ with_functions (with_endpoint_reset holds.slot.held.path h.state.functions) h) where
-        at : GuestOf w.board w.apertures w.guests i holds.guest
+        at : GuestOf w.handoff w.guests i holds.guest
         at = guest_at h names gs sound now view i holds.guest holds.there
 
-        slot : SlotOf w.board w.apertures at.x.paths at.x.lone.slots n holds.slot.held
-        slot = slot_there w.board w.apertures at.x.paths at.x.lone.slots holds.guest.slots.items n holds.slot.held at.is.slots holds.slot.there
+        slot : SlotOf w.handoff at.x.paths at.x.lone.slots n holds.slot.held
+        slot = slot_there w.handoff at.x.paths at.x.lone.slots holds.guest.slots.items n holds.slot.held at.is.slots holds.slot.there
 
-        taker : GuestOf w.board w.apertures (slice_set w.guests i (with_slot_emptied n at.x)) j over.has.guest
+        taker : GuestOf w.handoff (slice_set w.guests i (with_slot_emptied n at.x)) j over.has.guest
         taker =
-            guest_there w.board w.apertures names (slice_set w.guests i (with_slot_emptied n at.x)) (slice_set gs i over.takes.guest) j over.has.guest
+            guest_there w.handoff names (slice_set w.guests i (with_slot_emptied n at.x)) (slice_set gs i over.takes.guest) j over.has.guest
             (left_guests w h names gs sound i n j m holds.guest at holds.slot.held slot over.takes.guest over.takes.latch over.takes.items)
             (ap (λ (ls : List Guest). slice_get ls j) (sym over.takes.after) ∙ over.has.there)
 
-        abbrev moved_world : WorldNow
+        abbrev moved_world : WorldOver
         moved_world = record w { guests = after_move w.guests (move_nth w i n j m) }
 
         kept_now : IsKept moved_world new names back
@@ -167,9 +169,9 @@ module _ (h : HostState) (names : List (List ℕ)) (gs : List Guest) (sound : Is
         sound_moved = is_sound moved_world new names back kept_now
 
         pub routes_moved : routing h.state.functions ≡ routing new.state.functions
-        routes_moved = same_routing w moved_world h new names gs back sound kept_now refl refl
+        routes_moved = same_routing w moved_world h new names gs back sound kept_now refl
 
-        pub world_moved : world_shown new names back ≡ (let v : WorldNow = record now { guests = after_move now.guests (move_nth now i n j m) } in v)
+        pub world_moved : world_shown new names back ≡ (let v : WorldOver = record now { guests = after_move now.guests (move_nth now i n j m) } in v)
         world_moved =
             is_shown moved_world new names back kept_now
-            ∙ ap (λ (x : WorldNow). let v : WorldNow = record x { guests = after_move x.guests (move_nth x i n j m) } in v) view
+            ∙ ap (λ (x : WorldOver). let v : WorldOver = record x { guests = after_move x.guests (move_nth x i n j m) } in v) view

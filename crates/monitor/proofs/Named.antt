@@ -9,14 +9,14 @@ use Rattle.model_guests.specs.Accesses.{Event}
 use Rattle.model_guests.specs.Lone.{after_event, reset_guest}
 use Rattle.model_guests.specs.Guests.{GuestNow, GuestsNow, lone_of, guest_after, after_guest_event}
 use Rattle.model_guests.specs.Lines.{guest_event}
-use Rattle.model_guests.specs.WorldNow.{WorldNow, after_meaning}
+use Rattle.model_handoff.specs.WorldOver.{WorldOver, after_meaning}
 use Rattle.model_guests.proofs.Along.{by_index}
 use Rattle.monitor.specs.ByIndex.{guest_nth, name_nth, lone_nth, with_lone_nth}
 
-abbrev pub AreApart : WorldNow → Type 0
+abbrev pub AreApart : WorldOver → Type 0
 AreApart w = EachPair (λ (g h : GuestNow). IsFalse (bytes_eq g.name h.name)) w.guests
 
-module _ (now : WorldNow) (apart : AreApart now) (i : ℕ) (inside : i < length now.guests) where
+module _ (now : WorldOver) (apart : AreApart now) (i : ℕ) (inside : i < length now.guests) where
   one : (x : GuestNow) × (slice_get now.guests i ≡ Some x)
   one = at_below now.guests i inside
 

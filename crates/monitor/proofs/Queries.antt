@@ -10,14 +10,13 @@ use Rattle.model_registers.specs.ByteEnables.{lanes}
 use Rattle.model_registers.specs.Declarations.{Kind, mem64, Region, registers_of, IsLawfulRegion, HasLawfulRegions}
 use Rattle.model_registers.specs.EndpointTable.{BaseAddress}
 use Rattle.model_registers.specs.OwnCopies.{OwnCopies, HoldsOwn, IsLawfulOwn, handed_on, bare}
-use Rattle.model_registers.specs.Decoding.{Function, space_of, base, is_open}
+use Rattle.model_registers.specs.Decoding.{Function, space_of, base, is_open, base_address}
 use Rattle.model_board.specs.Paths.{Path}
-use Rattle.model_board.specs.Board.{Board}
-use Rattle.model_registers.specs.Apertures.{Apertures}
-use Rattle.model_set_up.specs.SetUpWrites.{placed_base}
+use Rattle.model_board.specs.State.{State}
+use Rattle.model_board.specs.Ports.{file_at}
 use Rattle.model_guests.specs.Slots.{slot_at}
 use Rattle.model_guests.specs.Guests.{GuestNow}
-use Rattle.model_guests.specs.WorldNow.{WorldNow}
+use Rattle.model_handoff.specs.WorldOver.{WorldOver}
 use Rattle.model_queries.specs.Regions.{RegionNow, is_prefetchable, region_now, region_at, region_of, region_answer}
 use Rattle.bars.specs.Slots as bars
 use Rattle.bars.specs.declared.region.Region as program
@@ -112,21 +111,21 @@ kept_at (suc n) k (Some r ∷ slots) =
     ∙ ap (λ (m : ℕ). find (λ (x : BaseAddress). eqb x.index m) (bars.bases_from (k + 1) slots)) next ∙ kept_at n (k + 1) slots
     ∙ ap (λ (m : ℕ). option_map (bars.placed m) (bars.slot_at slots n)) (sym next)
 
-placed_at : (b : Board) (a : Apertures) (p : Path) (n : ℕ) (rs : List Region) → find (λ (x : BaseAddress). eqb x.index n) (map (placed_base b a p) rs) ≡ option_map (placed_base b a p) (find (λ (r : Region). eqb r.index n) rs)
-placed_at b a p n [] = refl
-placed_at b a p n (r ∷ rs) = by_test (eqb r.index n) (placed_at b a p n rs)
+placed_at : (s : State) (p : Path) (n : ℕ) (rs : List Region) → find (λ (x : BaseAddress). eqb x.index n) (map (base_address (file_at s.functions p)) rs) ≡ option_map (base_address (file_at s.functions p)) (find (λ (r : Region). eqb r.index n) rs)
+placed_at s p n [] = refl
+placed_at s p n (r ∷ rs) = by_test (eqb r.index n) (placed_at s p n rs)
   where
-    by_test : (t : Bool) → find (λ (x : BaseAddress). eqb x.index n) (map (placed_base b a p) rs) ≡ option_map (placed_base b a p) (find (λ (r : Region). eqb r.index n) rs)
-        → cond t (Some (placed_base b a p r)) (find (λ (x : BaseAddress). eqb x.index n) (map (placed_base b a p) rs)) ≡ option_map (placed_base b a p) (cond t (Some r) (find (λ (r : Region). eqb r.index n) rs))
+    by_test : (t : Bool) → find (λ (x : BaseAddress). eqb x.index n) (map (base_address (file_at s.functions p)) rs) ≡ option_map (base_address (file_at s.functions p)) (find (λ (r : Region). eqb r.index n) rs)
+        → cond t (Some (base_address (file_at s.functions p) r)) (find (λ (x : BaseAddress). eqb x.index n) (map (base_address (file_at s.functions p)) rs)) ≡ option_map (base_address (file_at s.functions p)) (cond t (Some r) (find (λ (r : Region). eqb r.index n) rs))
     by_test true more = refl
     by_test false more = more
 
-same_place : (b : Board) (a : Apertures) (p : Path) (f : Function) (h : Held) (n : ℕ) → IsHeld b a p f h → option_map (bars.placed n) (bars.slot_at h.placed n) ≡ option_map (placed_base b a p) (region_at f n)
-same_place b a p f h n held =
+same_place : (s : State) (p : Path) (f : Function) (h : Held) (n : ℕ) → IsHeld s p f h → option_map (bars.placed n) (bars.slot_at h.placed n) ≡ option_map (base_address (file_at s.functions p)) (region_at f n)
+same_place s p f h n held =
     let zero_on : 0 + n ≡ n = omega arith in
     ap (λ (m : ℕ). option_map (bars.placed m) (bars.slot_at h.placed n)) (sym zero_on) ∙ sym (kept_at n 0 h.placed)
     ∙ ap (λ (m : ℕ). find (λ (x : BaseAddress). eqb x.index m) (bars.bases_from 0 h.placed)) zero_on
-    ∙ ap (find (λ (x : BaseAddress). eqb x.index n)) held.placed ∙ placed_at b a p n f.decl.regions
+    ∙ ap (find (λ (x : BaseAddress). eqb x.index n)) held.placed ∙ placed_at s p n f.decl.regions
 
 -- none, or one of this kind and size
 pub record IsRegionAt (f : Function) (n : ℕ) (x : program.Region) : Type 0 where
@@ -137,20 +136,20 @@ pub record IsRegionAt (f : Function) (n : ℕ) (x : program.Region) : Type 0 whe
   pub size : region.size ≡ x.decl.size
   pub room : n + registers_of region.kind ≤ 6
 
-pub no_region : (b : Board) (a : Apertures) (p : Path) (f : Function) (h : Held) (n : ℕ) → IsHeld b a p f h → bars.slot_at h.placed n ≡ None → region_at f n ≡ None
-no_region b a p f h n held none = by_region (region_at f n) (ap (option_map (bars.placed n)) (sym none) ∙ same_place b a p f h n held)
+pub no_region : (s : State) (p : Path) (f : Function) (h : Held) (n : ℕ) → IsHeld s p f h → bars.slot_at h.placed n ≡ None → region_at f n ≡ None
+no_region s p f h n held none = by_region (region_at f n) (ap (option_map (bars.placed n)) (sym none) ∙ same_place s p f h n held)
   where
-    by_region : (o : Option Region) → None ≡ option_map (placed_base b a p) o → o ≡ None
+    by_region : (o : Option Region) → None ≡ option_map (base_address (file_at s.functions p)) o → o ≡ None
     by_region None e = refl
     by_region (Some r) e = cc
 
-pub a_region : (b : Board) (a : Apertures) (p : Path) (f : Function) (h : Held) (n : ℕ) (x : program.Region) → IsHeld b a p f h → IsLawfulOwn h.own → bars.slot_at h.placed n ≡ Some x → IsRegionAt f n x
-a_region b a p f h n x held lawful some = by_region (region_at f n) refl (ap (option_map (bars.placed n)) (sym some) ∙ same_place b a p f h n held)
+pub a_region : (s : State) (p : Path) (f : Function) (h : Held) (n : ℕ) (x : program.Region) → IsHeld s p f h → IsLawfulOwn h.own → bars.slot_at h.placed n ≡ Some x → IsRegionAt f n x
+a_region s p f h n x held lawful some = by_region (region_at f n) refl (ap (option_map (bars.placed n)) (sym some) ∙ same_place s p f h n held)
   where
-    by_region : (o : Option Region) → region_at f n ≡ o → Some (bars.placed n x) ≡ option_map (placed_base b a p) o → IsRegionAt f n x
+    by_region : (o : Option Region) → region_at f n ≡ o → Some (bars.placed n x) ≡ option_map (base_address (file_at s.functions p)) o → IsRegionAt f n x
     by_region None at e = cc
     by_region (Some r) at e =
-        let same : bars.placed n x ≡ placed_base b a p r = cc in
+        let same : bars.placed n x ≡ base_address (file_at s.functions p) r = cc in
         let index : r.index ≡ n = ap (λ (y : BaseAddress). y.index) (sym same) in
         let regions : HasLawfulRegions (map bare f.decl.regions) = subst HasLawfulRegions (sym held.regions) lawful in
         let found = found_at (λ (y : Region). eqb y.index n) f.decl.regions r at in
@@ -183,34 +182,34 @@ region_told f n x is k kind v space first size pref opened =
 
 -- ---- a guest by its index
 
-record IsGuestShown (v : WorldNow) (k : ℕ) (g : Guest) : Type 0 where
+record IsGuestShown (v : WorldOver) (k : ℕ) (g : Guest) : Type 0 where
   latch : (lone_nth v k).latch ≡ g.latch
-  slots : AreSlots v.board v.apertures (guest_nth v k).paths (lone_nth v k).slots g.slots.items
+  slots : AreSlots v.handoff (guest_nth v k).paths (lone_nth v k).slots g.slots.items
 
-module _ (h : HostState) (names : List (List ℕ)) (gs : List Guest) (sound : IsSound h names gs) (now : WorldNow) (view : world_shown h names gs ≡ now) (i : ℕ) (g : Guest) (there : slice_get gs i ≡ Some g) (inside : i < length now.guests) where
-  abbrev w : WorldNow
+module _ (h : HostState) (names : List (List ℕ)) (gs : List Guest) (sound : IsSound h names gs) (now : WorldOver) (view : world_shown h names gs ≡ now) (i : ℕ) (g : Guest) (there : slice_get gs i ≡ Some g) (inside : i < length now.guests) where
+  abbrev w : WorldOver
   w = world_shown h names gs
 
   pub guest_nth_is : IsGuestNth now i g
   guest_nth_is =
       let at = guest_at h names gs sound now view i g there in
       let same : at.x ≡ guest_nth w i = sym (here w h names gs sound i g at) in
-      let apart : AreApart now = subst AreApart view sound.seated.names_apart in
+      let apart : AreApart now = subst AreApart view sound.lawful.seated.names_apart in
       let shown : IsGuestShown w i g = record {
         latch = ap (λ (x : GuestNow). x.lone.latch) (sym same) ∙ at.is.latch;
-        slots = subst (λ (x : GuestNow). AreSlots w.board w.apertures x.paths x.lone.slots g.slots.items) same at.is.slots;
+        slots = subst (λ (x : GuestNow). AreSlots w.handoff x.paths x.lone.slots g.slots.items) same at.is.slots;
       } in
-      let now_shown : IsGuestShown now i g = subst (λ (v : WorldNow). IsGuestShown v i g) view shown in
+      let now_shown : IsGuestShown now i g = subst (λ (v : WorldOver). IsGuestShown v i g) view shown in
       record {
         named = lone_named now apart i inside;
         latch = now_shown.latch;
         slots = now_shown.slots;
-        lawful = λ n held its. (seen w h names gs sound i g at n held (slot_there w.board w.apertures at.x.paths at.x.lone.slots g.slots.items n held at.is.slots its)).lawful;
+        lawful = λ n held its. (seen w h names gs sound i g at n held (slot_there w.handoff at.x.paths at.x.lone.slots g.slots.items n held at.is.slots its)).lawful;
       }
 
 -- ---- answers
 
-module _ (w : WorldNow) (i : ℕ) (g : Guest) (is : IsGuestNth w i g) (slots : List (Option Held)) (same : slots ≡ g.slots.items) (n m : ℕ) (few : n ≤ 31) where
+module _ (w : WorldOver) (i : ℕ) (g : Guest) (is : IsGuestNth w i g) (slots : List (Option Held)) (same : slots ≡ g.slots.items) (n m : ℕ) (few : n ≤ 31) where
   low : nat_le 32 n ≡ false
   low = grind (arith, nat_tests)
 
@@ -221,14 +220,14 @@ module _ (w : WorldNow) (i : ℕ) (g : Guest) (is : IsGuestNth w i g) (slots : L
 
   pub answer_empty : unwrap_or (slice_get slots n) None ≡ None → region_answer (lone_nth w i) n m ≡ Err 601
   answer_empty empty =
-      asked None (slot_empty w.board w.apertures (guest_nth w i).paths (lone_nth w i).slots g.slots.items n is.slots
+      asked None (slot_empty w.handoff (guest_nth w i).paths (lone_nth w i).slots g.slots.items n is.slots
       (ap (λ (os : List (Option Held)). unwrap_or (slice_get os n) None) (sym same) ∙ empty))
 
   pub answer_there : (held : Held) → slice_get slots n ≡ Some (Some held) → (o : Option RegionNow)
-      → ((b : Board) (a : Apertures) (p : Path) (f : Function) → IsHeld b a p f held → IsLawfulOwn held.own → o ≡ option_map (region_now f.file) (region_at f m))
+      → ((s : State) (p : Path) (f : Function) → IsHeld s p f held → IsLawfulOwn held.own → o ≡ option_map (region_now f.file) (region_at f m))
       → region_answer (lone_nth w i) n m ≡ ok_or o 303
   answer_there held there o told =
       let at : slice_get g.slots.items n ≡ Some (Some held) = ap (λ (os : List (Option Held)). slice_get os n) (sym same) ∙ there in
-      let slot = slot_there w.board w.apertures (guest_nth w i).paths (lone_nth w i).slots g.slots.items n held is.slots at in
+      let slot = slot_there w.handoff (guest_nth w i).paths (lone_nth w i).slots g.slots.items n held is.slots at in
       asked (Some slot.f) slot.function
-      ∙ ap (λ (p : Option RegionNow). ok_or p 303) (sym (told w.board w.apertures slot.p slot.f slot.held (is.lawful n held at)))
+      ∙ ap (λ (p : Option RegionNow). ok_or p 303) (sym (told w.handoff slot.p slot.f slot.held (is.lawful n held at)))

@@ -8,12 +8,10 @@ use Rattle.model_registers.specs.Registers.{Place, block, raise}
 use Rattle.model_registers.specs.Declarations.{Region}
 use Rattle.model_registers.specs.EndpointTable.{BaseAddress}
 use Rattle.model_registers.specs.OwnCopies.{is_own}
-use Rattle.model_registers.specs.Decoding.{Function}
+use Rattle.model_registers.specs.Decoding.{Function, base_address}
 use Rattle.model_board.specs.Paths.{Path, path_eq}
-use Rattle.model_board.specs.Board.{Board}
-use Rattle.model_registers.specs.Apertures.{Apertures}
-use Rattle.model_board.specs.State.{BoardFunction, with_file}
-use Rattle.model_set_up.specs.SetUpWrites.{placed_base}
+use Rattle.model_board.specs.State.{BoardFunction, with_file, State}
+use Rattle.model_board.specs.Ports.{file_at}
 use Rattle.model_guests.specs.Accesses.{in_region}
 use Rattle.model_guests.specs.Slots.{raise_place}
 use Rattle.bars.specs.Slots.{bases_from, slot_at}
@@ -59,16 +57,16 @@ any_kept (suc n) k off (Some r ∷ slots) =
 
 -- ---- a region of the declaration
 
-any_placed : (b : Board) (a : Apertures) (p : Path) (n off : ℕ) (rs : List Region) → list_any (reaches n off) (map (placed_base b a p) rs) ≡ list_any (λ (r : Region). eqb r.index n && nat_lt off r.size) rs
-any_placed b a p n off [] = refl
-any_placed b a p n off (r ∷ rs) = ap (λ (t : Bool). (eqb r.index n && nat_lt off r.size) || t) (any_placed b a p n off rs)
+any_placed : (s : State) (p : Path) (n off : ℕ) (rs : List Region) → list_any (reaches n off) (map (base_address (file_at s.functions p)) rs) ≡ list_any (λ (r : Region). eqb r.index n && nat_lt off r.size) rs
+any_placed s p n off [] = refl
+any_placed s p n off (r ∷ rs) = ap (λ (t : Bool). (eqb r.index n && nat_lt off r.size) || t) (any_placed s p n off rs)
 
-pub region_reaches : (b : Board) (a : Apertures) (p : Path) (f : Function) (h : Held) (n off : ℕ) (o : Option program.Region) → IsHeld b a p f h → slot_at h.placed n ≡ o
+pub region_reaches : (s : State) (p : Path) (f : Function) (h : Held) (n off : ℕ) (o : Option program.Region) → IsHeld s p f h → slot_at h.placed n ≡ o
     → kept_size off o ≡ is_some (raise_place f (in_region n) off)
-region_reaches b a p f h n off o held at =
+region_reaches s p f h n off o held at =
     let zero_on : 0 + n ≡ n = omega arith in
     ap (kept_size off) (sym at) ∙ sym (any_kept n 0 off h.placed) ∙ ap (λ (m : ℕ). list_any (reaches m off) (bases_from 0 h.placed)) zero_on
-    ∙ ap (list_any (reaches n off)) held.placed ∙ any_placed b a p n off f.decl.regions
+    ∙ ap (list_any (reaches n off)) held.placed ∙ any_placed s p n off f.decl.regions
     ∙ some_if (list_any (λ (r : Region). eqb r.index n && nat_lt off r.size) f.decl.regions) (block n off)
   where
     some_if : (t : Bool) (q : Place) → t ≡ is_some (cond t (Some q) None)

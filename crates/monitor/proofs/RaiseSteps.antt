@@ -14,7 +14,7 @@ use Rattle.model_guests.specs.Accesses.{Raise, raises, Reply, done, refused}
 use Rattle.model_guests.specs.Slots.{slot_at, raise_place, raise_landing, raise_fault, affected}
 use Rattle.model_guests.specs.Slots as guests
 use Rattle.model_guests.specs.Lone.{LoneGuest, answer, after_event}
-use Rattle.model_guests.specs.WorldNow.{WorldNow}
+use Rattle.model_handoff.specs.WorldOver.{WorldOver}
 use Rattle.model_guests.specs.AgreedBoard.{with_change_at}
 use Rattle.model_guests.specs.ChangeLaws.{with_slot_changed}
 use Rattle.model_guests.proofs.AgreedFiles.{raises_alike}
@@ -95,7 +95,7 @@ named_place f place off h = of place h
 
 -- ---- a function in a slot of a world that is kept
 
-module _ (w : WorldNow) (h : HostState) (names : List (List ℕ)) (gs : List Guest) (kept : IsKept w h names gs) (i : ℕ) (g : Guest) (at : GuestOf w.board w.apertures w.guests i g) where
+module _ (w : WorldOver) (h : HostState) (names : List (List ℕ)) (gs : List Guest) (kept : IsKept w h names gs) (i : ℕ) (g : Guest) (at : GuestOf w.handoff w.guests i g) where
   -- a raise that is refused
   pub raise_refused : (r : Raise) (n : ℕ) → RaiseIs at.x.lone r (refused n) at.x.lone → (refused n ≡ answer (lone_nth w i) (raises r)) × (w ≡ with_lone_nth i (after_event (lone_nth w i) (raises r)) w)
   raise_refused r n is = (
@@ -104,12 +104,12 @@ module _ (w : WorldNow) (h : HostState) (names : List (List ℕ)) (gs : List Gue
         ∙ sym (with_lone w h names gs kept i g at (λ l. after_event l (raises r))),
   )
 
-  module _ (n : ℕ) (held : Held) (slot : SlotOf w.board w.apertures at.x.paths at.x.lone.slots n held) where
+  module _ (n : ℕ) (held : Held) (slot : SlotOf w.handoff at.x.paths at.x.lone.slots n held) where
     -- the board has the endpoint
     pub endpoint_there : IsSome (endpoint_at h.state.functions held.path)
     endpoint_there =
         let found = ap (λ (s : State). endpoint_at s.functions held.path) kept.agrees
-        ∙ ap (λ (p : Path). endpoint_at (Rattle.model_guests.specs.WorldNow.board_state w).functions p) slot.held.path
+        ∙ ap (λ (p : Path). endpoint_at (Rattle.model_handoff.specs.WorldOver.board_state w).functions p) slot.held.path
         ∙ ap (λ (o : Option BoardFunction). option_map_or as_endpoint o None) (found_on_board w h names gs kept i g at n held slot) in
         subst IsSome (sym found) refl
 
@@ -117,7 +117,7 @@ module _ (w : WorldNow) (h : HostState) (names : List (List ℕ)) (gs : List Gue
       abbrev own_change : File → File
       own_change = raise mask (place_of place off)
 
-      abbrev pub raised_world : WorldNow
+      abbrev pub raised_world : WorldOver
       raised_world = with_guest_at i (with_slot_changed own_change n at.x) w
 
       pub raise_done : n ≤ 31 → is_some (raise_place slot.f (part_of place) off) ≡ true
@@ -137,5 +137,5 @@ module _ (w : WorldNow) (h : HostState) (names : List (List ℕ)) (gs : List Gue
           (changed_shape (raised mask) (λ c. refl) (place_of place off))
           held.own (raised_held held.own slot.f.file slot.held.own mask (place_of place off)) refl
           g refl (sym (set_same g.slots.items n (Some held) holds))
-          new (ap (λ (k : HostState). k.apertures) is_new)
+          new
           (ap (λ (k : HostState). k.state) is_new ∙ ap (λ (p : Path). with_change_at (raised_beside_copies mask (place_of place off)) p h.state) slot.held.path))

@@ -12,18 +12,22 @@ use Rattle.model_board.specs.Paths.{Path, path_eq, path_before}
 use Rattle.model_board.specs.Board.{endpoint, Row, Board, IsBoard}
 use Rattle.model_board.specs.State.{BoardFunction, row_at}
 use Rattle.model_board.specs.Claims.{claim_at}
-use Rattle.model_board.specs.Ports.{claim_reply}
-use Rattle.model_set_up.specs.SetUp.{first_of, set_up_file}
+use Rattle.model_board.specs.AtReset.{board_at}
+use Rattle.model_board.specs.Ports.{claim_reply, file_at}
 use Rattle.model_registers.specs.CopiedFiles.{agreed_file, places_of}
 use Rattle.model_guests.specs.Slots.{slot_at}
-use Rattle.model_guests.specs.WorldNow.{WorldNow, board_state}
+use Rattle.model_guests.specs.Lone.{reset_guest}
+use Rattle.model_guests.specs.Guests.{GuestNow}
+use Rattle.model_handoff.specs.WorldOver.{WorldOver, board_state}
 use Rattle.model_guests.specs.Seated.{IsSeat, IsSeatedAt, IsSeatedGuest}
-use Rattle.model_guests.specs.RegionLaws.{ReachesRegion}
 use Rattle.model_guests.proofs.GuestsByName.{path_at}
 use Rattle.lists.proofs.Indices.{each_at}
 use Rattle.model_guests.proofs.Seats.{seats_at}
-use Rattle.model_guests.proofs.KeptNumbers.{keeps_numbers, shows_file}
-use Rattle.model_guests.proofs.RegionReach.{hit_reaches_region}
+use Rattle.model_guests.proofs.KeptNumbers.{shows_file}
+use Rattle.model_handoff.specs.Regions.{base_in}
+use Rattle.model_handoff.specs.RegionLaws.{HasSlot, ReachesOver}
+use Rattle.model_handoff.proofs.Keeping.{keeps_board}
+use Rattle.model_handoff.proofs.Regions.{hit_reaches_over}
 use Rattle.bars.specs.Hits.{hit_in}
 use Rattle.bridge_forward.specs.declared.bus.Located.{Located}
 use Rattle.bridge_forward.specs.Locating.{located_claim}
@@ -36,7 +40,7 @@ use Rattle.monitor.specs.declared.guest.Guest.{Guest}
 use Rattle.monitor.specs.Keeping.{IsKept}
 use Rattle.monitor.specs.Reaches.{LandsIn}
 use Rattle.monitor.proofs.Shown.{board_there, file_named, same_as_left}
-use Rattle.monitor.proofs.Steps.{SlotOf, slot_there, GuestOf, named}
+use Rattle.monitor.proofs.Steps.{SlotOf, slot_there, GuestOf, named, path_named}
 
 -- ---- paths of the board
 
@@ -74,39 +78,49 @@ same_lanes a c w (inr (inr e)) h k =
 
 -- ---- a guest's slot of a world that is kept
 
-module _ (w : WorldNow) (h : HostState) (names : List (List ℕ)) (gs : List Guest) (kept : IsKept w h names gs) (i : ℕ) (g : Guest) (at : GuestOf w.board w.apertures w.guests i g) where
+module _ (w : WorldOver) (h : HostState) (names : List (List ℕ)) (gs : List Guest) (kept : IsKept w h names gs) (i : ℕ) (g : Guest) (at : GuestOf w.handoff w.guests i g) where
   abbrev pub functions : List BoardFunction
   functions = (board_state w).functions
 
-  pub seat : (n : ℕ) (held : Held) (slot : SlotOf w.board w.apertures at.x.paths at.x.lone.slots n held) → IsSeatedAt w.board slot.p slot.f
+  abbrev board : Board
+  board = board_at w.handoff.functions
+
+  pub seat : (n : ℕ) (held : Held) (slot : SlotOf w.handoff at.x.paths at.x.lone.slots n held) → IsSeatedAt (board_at w.handoff.functions) slot.p slot.f
   seat n held slot =
-      let all : IsSeatedGuest w.board at.x = each_at (IsSeatedGuest w.board) w.guests i at.x kept.seated.guests at.there in
-      let one : IsSeat w.board (path_at at.x.paths n) (slot_at at.x.lone.slots n) = seats_at w.board at.x.paths at.x.lone.slots n all.seats in
-      subst (λ (q : Option Path). IsSeat w.board q (Some slot.f)) slot.path (subst (IsSeat w.board (path_at at.x.paths n)) slot.function one)
+      let all : IsSeatedGuest board at.x = each_at (IsSeatedGuest board) w.guests i at.x kept.lawful.seated.guests at.there in
+      let one : IsSeat board (path_at at.x.paths n) (slot_at at.x.lone.slots n) = seats_at board at.x.paths at.x.lone.slots n all.seats in
+      subst (λ (q : Option Path). IsSeat board q (Some slot.f)) slot.path (subst (IsSeat board (path_at at.x.paths n)) slot.function one)
 
   pub distinct : HasDistinctPaths functions
-  distinct = board_distinct w.board functions kept.placeable.places (keeps_numbers w.board w.apertures kept.placeable.places kept.placeable.declarations w.guests kept.seated kept.few).rows
+  distinct = board_distinct board functions kept.lawful.handoff.board.places (keeps_board w.handoff w.guests)
 
-  module _ (n : ℕ) (held : Held) (slot : SlotOf w.board w.apertures at.x.paths at.x.lone.slots n held) where
+  module _ (n : ℕ) (held : Held) (slot : SlotOf w.handoff at.x.paths at.x.lone.slots n held) where
+    -- by the guest's name
+    pub named_slot : HasSlot w.guests at.x.name n slot.p slot.f
+    named_slot = record {
+      path = path_named w h names gs kept i g at n ∙ slot.path;
+      function = ap (λ (o : Option GuestNow). slot_at (option_map_or (λ (t : GuestNow). t.lone) o (reset_guest [])).slots n) (named w h names gs kept i g at) ∙ slot.function;
+    }
+
     abbrev pub left : File
-    left = set_up_file w.board w.apertures slot.p (endpoint slot.f.decl)
+    left = file_at w.handoff.functions slot.p
 
     abbrev pub on_board : BoardFunction
     on_board = record { path = slot.p; decl = endpoint slot.f.decl; file = agreed_file left slot.f.file }
 
     pub board_row : slice_get functions held.index ≡ Some on_board
     board_row =
-        board_there w.board w.apertures w.guests kept.placeable.declarations slot.p slot.f (seat n held slot) held.index slot.held.row
-        (file_named w.board w.guests at.x n slot.p slot.f kept.seated (named w h names gs kept i g at) slot.path slot.function)
+        board_there w.handoff kept.lawful.handoff w.guests slot.p slot.f (seat n held slot) held.index slot.held.row
+        (file_named board w.guests at.x n slot.p slot.f kept.lawful.seated (named w h names gs kept i g at) slot.path slot.function)
 
     pub found_on_board : find (λ (f : BoardFunction). path_eq f.path slot.p) functions ≡ Some on_board
     found_on_board = found_at on_board functions held.index distinct board_row
 
-    pub places_same : places_of slot.f.file ≡ places_of left
-    places_same = same_as_left w.board w.apertures w.guests kept.placeable.declarations slot.p slot.f (seat n held slot)
+    places_same : places_of slot.f.file ≡ places_of left
+    places_same = same_as_left w.handoff kept.lawful.handoff w.guests slot.p slot.f (seat n held slot)
 
     -- what the board shows of the bytes of which the guest has no copy
-    pub board_shows : (p : Place) (ons : List Bool) → read on_board.file p (handed_on p ons) ≡ read slot.f.file p (handed_on p ons)
+    board_shows : (p : Place) (ons : List Bool) → read on_board.file p (handed_on p ons) ≡ read slot.f.file p (handed_on p ons)
     board_shows p ons = shows_file left slot.f.file places_same p ons
 
     pub block_shown : (k a width : ℕ) → claim_reply functions width (Some (record { path = slot.p; index = k; offset = a })) ≡ number slot.f.file (block k a) width
@@ -117,17 +131,17 @@ module _ (w : WorldNow) (h : HostState) (names : List (List ℕ)) (gs : List Gue
 
   -- where an address lands
   module _ (space : Space) (addr : ℕ) (l : ℕ × ℕ × ℕ) (lands : LandsIn g.slots.items space addr l) where
-    pub slot : SlotOf w.board w.apertures at.x.paths at.x.lone.slots l.0 lands.held
-    slot = slot_there w.board w.apertures at.x.paths at.x.lone.slots g.slots.items l.0 lands.held at.is.slots lands.there
+    pub slot : SlotOf w.handoff at.x.paths at.x.lone.slots l.0 lands.held
+    slot = slot_there w.handoff at.x.paths at.x.lone.slots g.slots.items l.0 lands.held at.is.slots lands.there
 
-    pub reach : ReachesRegion w.board w.apertures functions slot.p slot.f space addr (hit_in l.1 l.2)
+    pub reach : ReachesOver w.handoff w.guests slot.p slot.f space addr (hit_in l.1 l.2)
     reach =
-        hit_reaches_region w.board w.apertures kept.placeable w.guests kept.seated slot.p slot.f (seat l.0 lands.held slot) space addr (hit_in l.1 l.2)
-        (sym (lands.decodes slot.f slot.held.own slot.held.regions))
+        hit_reaches_over w.handoff kept.lawful.handoff.board kept.lawful.order.routes w.guests kept.lawful.seated kept.lawful.served at.x.name l.0 slot.p slot.f
+        (named_slot l.0 lands.held slot) space addr (hit_in l.1 l.2) (sym (lands.decodes slot.f slot.held.own slot.held.regions))
 
     -- where the byte stands on the board
     abbrev pub address : ℕ
-    address = first_of w.board w.apertures slot.p reach.region + l.2
+    address = base_in w.handoff slot.p reach.region + l.2
 
     -- the function by its index
     abbrev pub landed : Located
@@ -141,6 +155,6 @@ module _ (w : WorldNow) (h : HostState) (names : List (List ℕ)) (gs : List Gue
       space = space;
       address = address;
       aligned = same_lanes addr address width wide reach.lanes whole;
-      claim = claim_by_index ∙ sym reach.claimed;
+      claim = claim_by_index ∙ sym reach.claimed.first;
       within = slice_get_within functions lands.held.index (on_board l.0 lands.held slot) (board_row l.0 lands.held slot);
     }

@@ -5,15 +5,14 @@ use Rattle.std.proofs.lemmas.Option.{slice_get_read}
 use Rattle.model_registers.specs.ByteEnables.{IsWidth}
 use Rattle.model_registers.specs.Decoding.{Space}
 use Rattle.model_board.specs.Paths.{Path}
-use Rattle.model_board.specs.Board.{Board}
-use Rattle.model_registers.specs.Apertures.{Apertures}
+use Rattle.model_board.specs.State.{State}
 use Rattle.model_board.specs.Claims.{Claim}
 use Rattle.model_board.specs.Ports.{claim_reply, after_claim_write}
 use Rattle.model_board.specs.Routing.{routing}
 use Rattle.model_guests.specs.Accesses.{Reply, answered, Op, reads, writes}
 use Rattle.model_guests.specs.Slots.{Slots, landing_from, perform}
 use Rattle.model_guests.specs.Lone.{at_target, reply_at, after_access_at}
-use Rattle.model_guests.specs.WorldNow.{WorldNow}
+use Rattle.model_handoff.specs.WorldOver.{WorldOver}
 use Rattle.bridge_forward.specs.declared.bus.Located.{Located}
 use Rattle.bridge_forward.specs.Locating.{located_claim}
 use Rattle.host_bridge.specs.HostState.{HostState, with_functions}
@@ -33,40 +32,40 @@ use Rattle.monitor.proofs.RegionSteps.{nothing_there, nothing_done, landing_here
 
 -- what `landing` says of slots
 abbrev pub Lands : List (Option Held) → Space → ℕ → Option (ℕ × ℕ × ℕ) → Type 0
-Lands slots space addr o = (b : Board) (a : Apertures) (qs : List (Option Path)) (fs : Slots) → AreSlots b a qs fs slots → option_map landing_of o ≡ landing_from 0 space addr fs
+Lands slots space addr o = (s : State) (qs : List (Option Path)) (fs : Slots) → AreSlots s qs fs slots → option_map landing_of o ≡ landing_from 0 space addr fs
 
-module _ (h : HostState) (names : List (List ℕ)) (gs : List Guest) (sound : IsSound h names gs) (now : WorldNow) (view : world_shown h names gs ≡ now) where
-  abbrev w : WorldNow
+module _ (h : HostState) (names : List (List ℕ)) (gs : List Guest) (sound : IsSound h names gs) (now : WorldOver) (view : world_shown h names gs ≡ now) where
+  abbrev w : WorldOver
   w = world_shown h names gs
 
   pub inside_guests : (i : ℕ) → i < length now.guests → i < length gs
   inside_guests i inside =
-      let count : length gs ≡ length w.guests = guests_within w.board w.apertures names w.guests gs sound.guests in
-      let same : length w.guests ≡ length now.guests = ap (λ (v : WorldNow). length v.guests) view in
+      let count : length gs ≡ length w.guests = guests_within w.handoff names w.guests gs sound.guests in
+      let same : length w.guests ≡ length now.guests = ap (λ (v : WorldOver). length v.guests) view in
       omega arith
 
   pub guest_read : (i : ℕ) (g : Guest) → i < length now.guests → g ≡ get_or gs i g → slice_get gs i ≡ Some g
   guest_read i g inside is = slice_get_read gs (length gs) i g refl (inside_guests i inside) is
 
-module _ (h : HostState) (names : List (List ℕ)) (gs : List Guest) (sound : IsSound h names gs) (now : WorldNow) (view : world_shown h names gs ≡ now) (i : ℕ) (g : Guest) (there : slice_get gs i ≡ Some g) where
-  abbrev pub shown_world : WorldNow
+module _ (h : HostState) (names : List (List ℕ)) (gs : List Guest) (sound : IsSound h names gs) (now : WorldOver) (view : world_shown h names gs ≡ now) (i : ℕ) (g : Guest) (there : slice_get gs i ≡ Some g) where
+  abbrev pub shown_world : WorldOver
   shown_world = world_shown h names gs
 
-  pub guest_at : GuestOf shown_world.board shown_world.apertures shown_world.guests i g
-  guest_at = guest_there shown_world.board shown_world.apertures names shown_world.guests gs i g sound.guests there
+  pub guest_at : GuestOf shown_world.handoff shown_world.guests i g
+  guest_at = guest_there shown_world.handoff names shown_world.guests gs i g sound.guests there
 
   module _ (space : Space) (addr : ℕ) (slots : List (Option Held)) (same : slots ≡ g.slots.items) where
     lands_at : (o : Option (ℕ × ℕ × ℕ)) → Lands slots space addr o → option_map landing_of o ≡ landing_from 0 space addr guest_at.x.lone.slots
-    lands_at o lands = lands shown_world.board shown_world.apertures guest_at.x.paths guest_at.x.lone.slots (subst (AreSlots shown_world.board shown_world.apertures guest_at.x.paths guest_at.x.lone.slots) (sym same) guest_at.is.slots)
+    lands_at o lands = lands shown_world.handoff guest_at.x.paths guest_at.x.lone.slots (subst (AreSlots shown_world.handoff guest_at.x.paths guest_at.x.lone.slots) (sym same) guest_at.is.slots)
 
     pub reply_nowhere : Lands slots space addr None → (op : Op) (width : ℕ) (r : Reply) → r ≡ perform op width [] None → r ≡ reply_at (lone_nth now i) op width (at_target (target_in space addr))
     reply_nowhere lands op width r is =
         is ∙ nothing_there shown_world h names gs sound i g guest_at space addr op width (lands_at None lands)
-        ∙ ap (λ (v : WorldNow). reply_at (lone_nth v i) op width (at_target (target_in space addr))) view
+        ∙ ap (λ (v : WorldOver). reply_at (lone_nth v i) op width (at_target (target_in space addr))) view
 
     pub after_nowhere : Lands slots space addr None → (op : Op) (width : ℕ) → now ≡ with_lone_nth i (after_access_at (lone_nth now i) op width (at_target (target_in space addr))) now
     after_nowhere lands op width =
-        subst (λ (v : WorldNow). v ≡ with_lone_nth i (after_access_at (lone_nth v i) op width (at_target (target_in space addr))) v) view
+        subst (λ (v : WorldOver). v ≡ with_lone_nth i (after_access_at (lone_nth v i) op width (at_target (target_in space addr))) v) view
         (nothing_done shown_world h names gs sound i g guest_at space addr op width (lands_at None lands))
 
     module _ (l : ℕ × ℕ × ℕ) (lands_in : LandsIn slots space addr l) where
@@ -95,11 +94,11 @@ module _ (h : HostState) (names : List (List ℕ)) (gs : List Guest) (sound : Is
           pub reply_read : (value : ℕ) → value ≡ claim_reply h.state.functions width (located_claim h.state.functions (Some r)) → answered value width ≡ reply_at (lone_nth now i) reads width (at_target (target_in space addr))
           reply_read value reads_it =
               region_read shown_world h names gs sound i g guest_at space addr l lands_here (lands_at (Some l) landed_there) width value (reads_it ∙ ap (claim_reply h.state.functions width) claim_here)
-              ∙ ap (λ (v : WorldNow). reply_at (lone_nth v i) reads width (at_target (target_in space addr))) view
+              ∙ ap (λ (v : WorldOver). reply_at (lone_nth v i) reads width (at_target (target_in space addr))) view
 
           pub after_read : (new : HostState) → new ≡ h → world_shown new names gs ≡ with_lone_nth i (lone_nth now i) now
           after_read new is_same =
-              ap (λ (k : HostState). world_shown k names gs) is_same ∙ sym (with_same shown_world h names gs sound i g guest_at) ∙ ap (λ (v : WorldNow). with_lone_nth i (lone_nth v i) v) view
+              ap (λ (k : HostState). world_shown k names gs) is_same ∙ sym (with_same shown_world h names gs sound i g guest_at) ∙ ap (λ (v : WorldOver). with_lone_nth i (lone_nth v i) v) view
 
           module _ (v : ℕ) (new : HostState) (written : new ≡ with_functions (after_claim_write h.state.functions width v (located_claim h.state.functions (Some r))) h) where
             kept_now : IsKept (region_world shown_world h names gs sound i g guest_at space addr l lands_here (lands_at (Some l) landed_there) width v) new names gs
@@ -109,9 +108,9 @@ module _ (h : HostState) (names : List (List ℕ)) (gs : List Guest) (sound : Is
             sound_written = is_sound _ new names gs kept_now
 
             pub routes_written : routing h.state.functions ≡ routing new.state.functions
-            routes_written = same_routing _ _ h new names gs gs sound kept_now refl refl
+            routes_written = same_routing _ _ h new names gs gs sound kept_now refl
 
             pub after_written : world_shown new names gs ≡ with_lone_nth i (after_access_at (lone_nth now i) (writes v) width (at_target (target_in space addr))) now
             after_written =
                 is_shown _ new names gs kept_now ∙ sym (region_world_is shown_world h names gs sound i g guest_at space addr l lands_here (lands_at (Some l) landed_there) width v)
-                ∙ ap (λ (x : WorldNow). with_lone_nth i (after_access_at (lone_nth x i) (writes v) width (at_target (target_in space addr))) x) view
+                ∙ ap (λ (x : WorldOver). with_lone_nth i (after_access_at (lone_nth x i) (writes v) width (at_target (target_in space addr))) x) view

@@ -15,10 +15,10 @@ use Rattle.model_registers.specs.CopiedFiles.{shape_of}
 use Rattle.model_guests.specs.Slots.{Slots, file_at, Landing, landing, landing_from, perform, effect}
 use Rattle.model_guests.specs.Lone.{LoneGuest, at_target, reply_at, after_access_at}
 use Rattle.model_guests.specs.Guests.{GuestNow}
-use Rattle.model_guests.specs.WorldNow.{WorldNow}
+use Rattle.model_handoff.specs.WorldOver.{WorldOver}
 use Rattle.model_guests.specs.ChangeLaws.{ChangesAlike, with_slot_changed}
 use Rattle.model_guests.proofs.AgreedFiles.{writes_alike}
-use Rattle.model_guests.proofs.AgreedBoards.{keeps_routing}
+use Rattle.model_handoff.proofs.Keeping.{keeps_routing}
 use Rattle.guest_functions.proofs.HeldCopies.{block_written_held}
 use Rattle.bridge_forward.specs.declared.bus.Located.{Located}
 use Rattle.bridge_forward.specs.Locating.{located_claim}
@@ -55,12 +55,12 @@ written_shape (on ∷ ons) v p file = written_shape ons (v / 256) (after p) (con
 
 -- ---- routing stays, whatever is kept
 
-pub same_routing : (w v : WorldNow) (h k : HostState) (names : List (List ℕ)) (gs hs : List Guest) → IsKept w h names gs → IsKept v k names hs → v.board ≡ w.board → v.apertures ≡ w.apertures
+pub same_routing : (w v : WorldOver) (h k : HostState) (names : List (List ℕ)) (gs hs : List Guest) → IsKept w h names gs → IsKept v k names hs → v.handoff ≡ w.handoff
     → routing h.state.functions ≡ routing k.state.functions
-same_routing w v h k names gs hs one two board apertures =
-    ap (λ (s : State). routing s.functions) one.agrees ∙ keeps_routing w.board w.apertures one.placeable.places one.placeable.declarations w.guests one.seated
-    ∙ ap₂ (λ b a. routing (Rattle.model_set_up.specs.SetUp.set_up_state b a).functions) (sym board) (sym apertures)
-    ∙ sym (keeps_routing v.board v.apertures two.placeable.places two.placeable.declarations v.guests two.seated) ∙ ap (λ (s : State). routing s.functions) (sym two.agrees)
+same_routing w v h k names gs hs one two same =
+    ap (λ (s : State). routing s.functions) one.agrees ∙ keeps_routing w.handoff one.lawful.handoff.board w.guests one.lawful.seated
+    ∙ ap (λ (s : State). routing s.functions) (sym same)
+    ∙ sym (keeps_routing v.handoff two.lawful.handoff.board v.guests two.lawful.seated) ∙ ap (λ (s : State). routing s.functions) (sym two.agrees)
 
 landing_in_space : (space : Space) (addr : ℕ) (slots : Slots) → landing slots (target_in space addr) ≡ landing_from 0 space addr slots
 landing_in_space io addr slots = refl
@@ -68,7 +68,7 @@ landing_in_space memory addr slots = refl
 
 -- ---- an access at a target, by what stands there
 
-module _ (w : WorldNow) (h : HostState) (names : List (List ℕ)) (gs : List Guest) (kept : IsKept w h names gs) (i : ℕ) (g : Guest) (at : GuestOf w.board w.apertures w.guests i g) where
+module _ (w : WorldOver) (h : HostState) (names : List (List ℕ)) (gs : List Guest) (kept : IsKept w h names gs) (i : ℕ) (g : Guest) (at : GuestOf w.handoff w.guests i g) where
   pub lone_is : lone_nth w i ≡ at.x.lone
   lone_is = ap (λ (x : GuestNow). x.lone) (here w h names gs kept i g at)
 
@@ -101,7 +101,7 @@ module _ (w : WorldNow) (h : HostState) (names : List (List ℕ)) (gs : List Gue
       abbrev place : Place
       place = block l.1 l.2
 
-      abbrev of_slot : SlotOf w.board w.apertures at.x.paths at.x.lone.slots l.0 lands.held
+      abbrev of_slot : SlotOf w.handoff at.x.paths at.x.lone.slots l.0 lands.held
       of_slot = slot w h names gs kept i g at space addr l lands
 
       abbrev at_index : Located
@@ -127,7 +127,7 @@ module _ (w : WorldNow) (h : HostState) (names : List (List ℕ)) (gs : List Gue
         abbrev own_change : File → File
         own_change = write (all_bytes width) v place
 
-        abbrev pub region_world : WorldNow
+        abbrev pub region_world : WorldOver
         region_world = with_guest_at i (with_slot_changed own_change l.0 at.x) w
 
         pub region_world_is : with_lone_nth i (after_access_at (lone_nth w i) (writes v) width (at_target (target_in space addr))) w ≡ region_world
@@ -146,5 +146,5 @@ module _ (w : WorldNow) (h : HostState) (names : List (List ℕ)) (gs : List Gue
             (kept_slot w h names gs kept i g at l.0 lands.held of_slot own_change own_change alike (written_shape (all_bytes width) v place)
             lands.held.own (block_written_held lands.held.own of_slot.f.file of_slot.held.own (all_bytes width) v l.1 l.2) refl
             g refl (sym (set_same g.slots.items l.0 (Some lands.held) lands.there))
-            new (ap (λ (k : HostState). k.apertures) is_new)
+            new
             (ap (λ (k : HostState). k.state) is_new ∙ ap (λ (c : Option Claim). record h.state { functions = after_claim_write h.state.functions width v c }) claim_is))

@@ -1,5 +1,5 @@
 -- A reset of a function in a slot: the checks in their order, and the world after it.
-use Rattle.std.proofs.Common.{◌≡◌, ◌≤◌, ℕ, Bool, true, false, cond, List, Some, None, Option, slice_get, slice_set, refl, sym, ap, ◌∙◌, subst, arith}
+use Rattle.std.proofs.Common.{◌≡◌, ◌≤◌, ℕ, Bool, true, false, cond, List, Some, None, Option, slice_set, refl, sym, ap, ◌∙◌, subst, arith}
 use Rattle.std.specs.Prelude.{is_some, not, nat_le}
 use Rattle.std.specs.Option.{option_map_or}
 use Rattle.std.proofs.lemmas.Bool.{lt-leb}
@@ -9,15 +9,15 @@ use Rattle.model_registers.specs.CopiedFiles.{after_reset}
 use Rattle.model_guests.specs.Accesses.{done, refused}
 use Rattle.model_guests.specs.Slots.{Slots, slot_at}
 use Rattle.model_guests.specs.Lone.{LoneGuest}
-use Rattle.model_guests.specs.Guests.{GuestNow, GuestsNow, path_in, function_in, lone_of}
-use Rattle.model_guests.specs.Text.{Text}
-use Rattle.model_guests.specs.WorldNow.{WorldNow}
-use Rattle.model_guests.specs.AgreedBoard.{agreed_state, with_change_at}
-use Rattle.model_guests.specs.Seated.{AreSeated}
-use Rattle.model_devices.specs.DeviceEvents.{resets, reset_in, slot_fault, device_answer, after_device_event, device_after, after_guest_device}
+use Rattle.model_guests.specs.Guests.{GuestsNow, path_in, function_in, lone_of}
+use Rattle.model_handoff.specs.WorldOver.{WorldOver}
+use Rattle.model_guests.specs.AgreedBoard.{with_change_at}
+use Rattle.model_board.specs.AtReset.{board_at}
+use Rattle.model_devices.specs.DeviceEvents.{resets, reset_in, slot_fault, device_answer, after_device_event, device_after}
 use Rattle.model_devices.proofs.OneGuest.{lone_found}
-use Rattle.model_devices.proofs.Resets.{taken_passes, reset_there, answer_there, reset_reaches_board}
+use Rattle.model_devices.proofs.Resets.{taken_passes, reset_there, answer_there}
 use Rattle.model_devices.proofs.Seats.{seated_after}
+use Rattle.model_handoff.proofs.DevicesOver.{reset_reaches_over}
 use Rattle.bridge_forward.specs.Lending.{with_endpoint_reset}
 use Rattle.host_bridge.specs.HostState.{HostState, with_functions}
 use Rattle.monitor.specs.declared.guest.Held.{Held}
@@ -25,7 +25,7 @@ use Rattle.monitor.specs.declared.guest.Guest.{Guest}
 use Rattle.monitor.specs.Keeping.{IsKept, AreSlots}
 use Rattle.monitor.specs.ByIndex.{lone_nth, with_lone_nth}
 use Rattle.monitor.specs.Moves.{reset_held}
-use Rattle.monitor.proofs.Steps.{SlotOf, GuestOf, with_guest_at, with_named, named, path_named, guests_set, slots_set}
+use Rattle.monitor.proofs.Steps.{SlotOf, GuestOf, with_guest_at, named, path_named, kept_changed, slots_set}
 use Rattle.monitor.proofs.RegionSteps.{lone_is, with_lone}
 use Rattle.monitor.proofs.MoveSteps.{at_reset, held_reset, lawful, board_reset}
 
@@ -57,8 +57,8 @@ module _ (g : LoneGuest) (n : ℕ) where
 
 -- ---- a function in a slot of a world that is kept
 
-module _ (w : WorldNow) (h : HostState) (names : List (List ℕ)) (gs : List Guest) (kept : IsKept w h names gs) (i : ℕ) (g : Guest) (at : GuestOf w.board w.apertures w.guests i g) (n : ℕ) where
-  abbrev pub reset_world : WorldNow
+module _ (w : WorldOver) (h : HostState) (names : List (List ℕ)) (gs : List Guest) (kept : IsKept w h names gs) (i : ℕ) (g : Guest) (at : GuestOf w.handoff w.guests i g) (n : ℕ) where
+  abbrev pub reset_world : WorldOver
   reset_world = with_guest_at i (device_after (resets n) at.x) w
 
   pub reset_is : with_lone_nth i (after_device_event (lone_nth w i) (resets n)) w ≡ reset_world
@@ -73,7 +73,7 @@ module _ (w : WorldNow) (h : HostState) (names : List (List ℕ)) (gs : List Gue
         ∙ sym reset_is,
   )
 
-  module _ (held : Held) (slot : SlotOf w.board w.apertures at.x.paths at.x.lone.slots n held) (low : n ≤ 31) where
+  module _ (held : Held) (slot : SlotOf w.handoff at.x.paths at.x.lone.slots n held) (low : n ≤ 31) where
     pub reset_done : done ≡ device_answer (lone_nth w i) (resets n)
     reset_done =
         sym (answer_there at.x.lone n slot.f (low_slot at.x.lone n low) slot.function) ∙ ap (λ (l : LoneGuest). device_answer l (resets n)) (sym (lone_is w h names gs kept i g at))
@@ -91,27 +91,21 @@ module _ (w : WorldNow) (h : HostState) (names : List (List ℕ)) (gs : List Gue
     passes = ap (λ (l : LoneGuest). slot_fault l.slots n) lone_there ∙ taken_passes at.x.lone.slots n slot.f (low_slot at.x.lone n low) slot.function
 
     abbrev fresh : Function
-    fresh = at_reset w.board w.apertures slot.f
+    fresh = at_reset w.handoff slot.f
 
     pub reset_kept : (k : Guest) → k.latch ≡ g.latch → k.slots.items ≡ slice_set g.slots.items n (Some (reset_held held))
         → (new : HostState) → new ≡ with_functions (with_endpoint_reset held.path h.state.functions) h → IsKept reset_world new names (slice_set gs i k)
     reset_kept k latch items new is_new =
-        let guests : after_guest_device at.x.name (resets n) w.guests ≡ slice_set w.guests i (device_after (resets n) at.x) = with_named w h names gs kept i g at (device_after (resets n)) in
         let after : after_device_event at.x.lone (resets n) ≡ record at.x.lone { slots = slice_set at.x.lone.slots n (Some fresh) } = reset_there at.x.lone n slot.f (low_slot at.x.lone n low) slot.function in
-        record {
-          placeable = kept.placeable;
-          few = kept.few;
-          seated = subst (AreSeated w.board) guests (seated_after w.board w.guests kept.seated at.x.name (resets n));
-          apertures = ap (λ (x : HostState). x.apertures) is_new ∙ kept.apertures;
-          agrees = board_reset w h names gs kept i n i n g at held slot new is_new ∙ ap (with_change_at (after_reset slot.f.decl) slot.p) kept.agrees
-              ∙ sym (reset_reaches_board w.board w.apertures w.guests kept.seated at.x.name n passes slot.p slot.f path_there function_there)
-              ∙ ap (agreed_state w.board w.apertures) guests;
-          guests = guests_set w.board w.apertures names w.guests gs i at.x (device_after (resets n) at.x) k kept.guests at.there (λ t e. record {
-            name_is = e;
-            latch = ap (λ (l : LoneGuest). l.latch) after ∙ at.is.latch ∙ sym latch;
-            slots = subst (λ (fs : Slots). AreSlots w.board w.apertures at.x.paths fs k.slots.items) (ap (λ (l : LoneGuest). l.slots) (sym after))
-                (subst (AreSlots w.board w.apertures at.x.paths (slice_set at.x.lone.slots n (Some fresh))) (sym items)
-                (slots_set w.board w.apertures at.x.paths at.x.lone.slots g.slots.items n slot.p fresh (reset_held held) at.is.slots slot.path
-                (held_reset w.board w.apertures slot.p slot.f held (lawful w h names gs kept i n i n g at held slot) slot.held)));
-          });
-        }
+        kept_changed w h names gs kept i g at (device_after (resets n)) (λ t. refl) (λ t. refl)
+        (seated_after (board_at w.handoff.functions) w.guests kept.lawful.seated at.x.name (resets n))
+        new (board_reset w h names gs kept i n i n g at held slot new is_new ∙ ap (with_change_at (after_reset slot.f.decl) slot.p) kept.agrees
+        ∙ sym (reset_reaches_over w.handoff w.guests kept.lawful.seated at.x.name n passes slot.p slot.f path_there function_there))
+        k (λ t e. record {
+          name_is = e;
+          latch = ap (λ (l : LoneGuest). l.latch) after ∙ at.is.latch ∙ sym latch;
+          slots = subst (λ (fs : Slots). AreSlots w.handoff at.x.paths fs k.slots.items) (ap (λ (l : LoneGuest). l.slots) (sym after))
+              (subst (AreSlots w.handoff at.x.paths (slice_set at.x.lone.slots n (Some fresh))) (sym items)
+              (slots_set w.handoff at.x.paths at.x.lone.slots g.slots.items n slot.p fresh (reset_held held) at.is.slots slot.path
+              (held_reset w.handoff slot.p slot.f held (lawful w h names gs kept i n i n g at held slot) slot.held)));
+        })

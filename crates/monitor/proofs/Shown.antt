@@ -1,80 +1,96 @@
 -- Of a world that is kept, what the host and the guests show is that world.
 use Rattle.std.proofs.Common.{◌≡◌, ℕ, zero, suc, false, List, [], ◌∷◌, Some, None, Option, slice_get, refl, sym, ap, ap₂, ◌∙◌, subst}
-use Rattle.std.specs.Prelude.{map, option_map, MatchOption, ⊤}
+use Rattle.std.specs.Prelude.{find, map, option_map, MatchOption, ⊤}
 use Rattle.std.specs.Option.{option_map_or}
 use Rattle.lists.specs.Elements.{EachPair}
-use Rattle.lists.proofs.Indices.{map_at}
+use Rattle.lists.proofs.Indices.{at_map, each_at, index_in, map_at}
+use Rattle.lists.proofs.Members.{each_in}
 use Rattle.model_registers.specs.Registers.{File}
 use Rattle.model_registers.specs.Declarations.{Endpoint}
 use Rattle.model_registers.specs.DeclarationRules.{IsLawfulEndpoint}
 use Rattle.model_registers.specs.EndpointTable.{endpoint_reset}
 use Rattle.model_registers.specs.OwnCopies.{own_file}
 use Rattle.model_registers.specs.Decoding.{Function}
-use Rattle.model_board.specs.Paths.{Path}
-use Rattle.model_board.specs.Board.{endpoint, Row, Board}
+use Rattle.model_registers.specs.CopiedFiles.{agreed_file, with_copies, places_of}
+use Rattle.model_board.specs.Paths.{Path, path_eq}
+use Rattle.model_board.specs.Board.{endpoint, Board}
+use Rattle.model_board.specs.AtReset.{board_at}
 use Rattle.model_board.specs.Lawful.{HasLawfulDecls}
-use Rattle.model_registers.specs.Apertures.{Apertures}
-use Rattle.model_set_up.specs.SetUp.{set_up_file, set_up_state}
-use Rattle.model_board.specs.State.{BoardFunction, State}
+use Rattle.model_board.specs.Ports.{file_at}
+use Rattle.model_board.specs.State.{BoardFunction, State, row_at}
 use Rattle.model_guests.specs.Accesses.{answered, refused}
 use Rattle.model_guests.specs.Grammar.{HostRead}
 use Rattle.model_guests.specs.HostReads.{host_fault, shown}
 use Rattle.model_guests.specs.Text.{Text}
-use Rattle.model_registers.specs.CopiedFiles.{agreed_file, with_copies, places_of}
 use Rattle.model_guests.specs.Slots.{Slots, slot_at}
 use Rattle.model_guests.specs.Guests.{GuestNow, GuestsNow, guest_named, file_of}
-use Rattle.model_guests.specs.WorldNow.{WorldNow, names_of, board_state, host_reply}
-use Rattle.model_guests.specs.AgreedBoard.{agreed_function, agreed_state}
-use Rattle.model_guests.specs.Seated.{IsSeatedAt, AreSeats, AreSeated}
+use Rattle.model_guests.specs.WorldNow.{names_of}
+use Rattle.model_guests.specs.AgreedBoard.{agreed_function}
+use Rattle.model_guests.specs.Seated.{IsSeatedAt, AreSeats, AreSeated, IsSeatedGuest}
 use Rattle.model_guests.proofs.DistinctPlaces.{Apart, distinct_places}
-use Rattle.model_guests.proofs.TablePlaces.{alike_places}
-use Rattle.model_guests.proofs.AgreedStates.{alike}
 use Rattle.model_guests.proofs.FoundFiles.{same_places}
 use Rattle.model_guests.proofs.CopiesNeverRise.{declared_lawful}
 use Rattle.model_guests.proofs.ViewedFiles.{view_is_file}
 use Rattle.model_guests.proofs.GuestsByName.{path_at, path_of, function_of, function_named}
 use Rattle.model_guests.proofs.KeptCopies.{file_of_seat}
-use Rattle.model_guests.proofs.KeptNumbers.{keeps_numbers}
+use Rattle.model_guests.proofs.RegionReach.{declared_row}
 use Rattle.model_guests.proofs.Along.{by_index}
+use Rattle.model_handoff.specs.Handoffs.{IsHandoff, HasDeclaredPlaces, state_over}
+use Rattle.model_handoff.specs.ViewLaws.{with_seated_reset}
+use Rattle.model_handoff.specs.WorldOver.{WorldOver, board_state, host_reply}
+use Rattle.model_handoff.proofs.Standing.{endpoint_at, found, StandsAt, stands}
+use Rattle.model_handoff.proofs.Views.{reset_shown}
 use Rattle.bridge_forward.specs.Lending.{as_endpoint}
 use Rattle.host_bridge.specs.HostState.{HostState}
 use Rattle.monitor.specs.declared.guest.Held.{Held}
 use Rattle.monitor.specs.declared.guest.Guest.{Guest}
-use Rattle.monitor.specs.Views.{function_shown, slot_shown, path_shown, guest_shown, guests_shown, world_shown}
+use Rattle.monitor.specs.Views.{function_shown, slot_shown, path_shown, guest_shown, guests_shown, handoff_shown, world_shown}
 use Rattle.monitor.specs.Keeping.{IsHeld, AreSlots, AreGuests, IsKept, IsSound}
-
--- ---- lists
 
 -- ---- one function
 
 pub lawful_at : (b : Board) (p : Path) (f : Function) → HasLawfulDecls b → IsSeatedAt b p f → IsLawfulEndpoint f.decl
 lawful_at b p f decls seat = subst (λ (o : Option Endpoint). MatchOption o ⊤ IsLawfulEndpoint) seat.decl (declared_lawful b decls p)
 
-module _ (b : Board) (a : Apertures) (gs : GuestsNow) (decls : HasLawfulDecls b) (p : Path) (f : Function) (seat : IsSeatedAt b p f) where
+module _ (s : State) (handoff : IsHandoff s) (gs : GuestsNow) (p : Path) (f : Function) (seat : IsSeatedAt (board_at s.functions) p f) where
   lawful : IsLawfulEndpoint f.decl
-  lawful = lawful_at b p f decls seat
+  lawful = lawful_at (board_at s.functions) p f handoff.board.declarations seat
 
   places : places_of f.file ≡ places_of (endpoint_reset f.decl false)
   places = same_places f.file (endpoint_reset f.decl false) seat.shape
 
   abbrev left_file : File
-  left_file = set_up_file b a p (endpoint f.decl)
+  left_file = file_at s.functions p
+
+  abbrev left : BoardFunction
+  left = endpoint_at p f.decl left_file
+
+  there : StandsAt s.functions p f.decl
+  there = stands s.functions handoff.board p f.decl (declared_row (board_at s.functions) p f.decl seat.decl)
 
   -- the function on the board, while its guest has the file
   abbrev pub on_board : BoardFunction
-  on_board = record { path = p; decl = endpoint f.decl; file = agreed_file left_file f.file }
+  on_board = endpoint_at p f.decl (agreed_file left_file f.file)
 
-  pub board_there : (i : ℕ) → slice_get b i ≡ Some (record { path = p; decl = endpoint f.decl }) → file_of gs p ≡ Some f.file → slice_get (agreed_state b a gs).functions i ≡ Some on_board
+  left_there : (i : ℕ) → slice_get (board_at s.functions) i ≡ Some (record { path = p; decl = endpoint f.decl }) → slice_get s.functions i ≡ Some left
+  left_there i row = of (at_map row_at s.functions i (record { path = p; decl = endpoint f.decl }) row)
+    where
+      of : (g : BoardFunction) × (slice_get s.functions i ≡ Some g) × (record { path = p; decl = endpoint f.decl } ≡ row_at g) → slice_get s.functions i ≡ Some left
+      of (g, at, e) =
+          let path : g.path ≡ p = ap (λ r. r.path) (sym e) in
+          let again : Some g ≡ Some (endpoint_at p f.decl (file_at s.functions p)) =
+          sym (found s.functions handoff.board g (index_in s.functions i g at)) ∙ ap (λ (q : Path). find (λ (h : BoardFunction). path_eq h.path q) s.functions) path ∙ there.found_is in
+          at ∙ again
+
+  pub board_there : (i : ℕ) → slice_get (board_at s.functions) i ≡ Some (record { path = p; decl = endpoint f.decl }) → file_of gs p ≡ Some f.file → slice_get (state_over s gs).functions i ≡ Some on_board
   board_there i row file =
-      let left : BoardFunction = record { path = p; decl = endpoint f.decl; file = left_file } in
-      let set : slice_get (set_up_state b a).functions i ≡ Some left = map_at (λ (r : Row). record { path = r.path; decl = r.decl; file = set_up_file b a r.path r.decl }) b i (record { path = p; decl = endpoint f.decl }) row in
-      map_at (agreed_function (file_of gs)) (set_up_state b a).functions i left set
+      map_at (agreed_function (file_of gs)) s.functions i left (left_there i row)
       ∙ ap (λ (o : Option File). Some (option_map_or (λ (own : File). record left { file = agreed_file left.file own }) o left)) file
 
   pub same_as_left : places_of f.file ≡ places_of left_file
-  same_as_left = places ∙ alike_places (endpoint_reset f.decl false) left_file (alike b a p f.decl lawful)
+  same_as_left = places ∙ sym (each_in HasDeclaredPlaces left s.functions handoff.places there.among)
 
-  pub shown_there : (h : Held) → IsHeld b a p f h → file_of gs p ≡ Some f.file → function_shown (agreed_state b a gs).functions h ≡ Some f
+  pub shown_there : (h : Held) → IsHeld s p f h → file_of gs p ≡ Some f.file → function_shown (state_over s gs).functions h ≡ Some f
   shown_there h held file =
       ap (λ (o : Option BoardFunction). option_map (λ (g : Function). record g { file = with_copies (own_file h.own) g.file }) (option_map_or as_endpoint o None)) (board_there h.index held.row file)
       ∙ ap (λ (x : File). Some (record f { file = x }))
@@ -89,10 +105,13 @@ file_named b gs w n p f seated found at is =
 
 -- ---- all of them
 
-module _ (b : Board) (a : Apertures) (gs : GuestsNow) (decls : HasLawfulDecls b) where
-  slots_shown : (qs : List (Option Path)) (fs : Slots) (os : List (Option Held)) → AreSeats b qs fs → AreSlots b a qs fs os
+module _ (s : State) (handoff : IsHandoff s) (gs : GuestsNow) where
+  abbrev b : Board
+  b = board_at s.functions
+
+  slots_shown : (qs : List (Option Path)) (fs : Slots) (os : List (Option Held)) → AreSeats b qs fs → AreSlots s qs fs os
       → ((n : ℕ) (p : Path) (f : Function) → path_at qs n ≡ Some p → slot_at fs n ≡ Some f → file_of gs p ≡ Some f.file)
-      → (map path_shown os ≡ qs) × (map (slot_shown (agreed_state b a gs).functions) os ≡ fs)
+      → (map path_shown os ≡ qs) × (map (slot_shown (state_over s gs).functions) os ≡ fs)
   slots_shown [] [] [] seats are files = (refl, refl)
   slots_shown [] [] (o ∷ os) seats are files = absurd are
   slots_shown [] (f ∷ fs) os seats are files = absurd are
@@ -108,12 +127,12 @@ module _ (b : Board) (a : Apertures) (gs : GuestsNow) (decls : HasLawfulDecls b)
   slots_shown (Some p ∷ qs) (Some f ∷ fs) (Some h ∷ os) seats are files =
       let more = slots_shown qs fs os seats.1 are.1 (λ n. files (suc n)) in (
         ap₂ (λ (x : Path) (xs : List (Option Path)). Some x ∷ xs) are.0.path more.0,
-        ap₂ (λ (x : Option Function) (xs : Slots). x ∷ xs) (shown_there b a gs decls p f seats.0 h are.0 (files zero p f refl refl)) more.1,
+        ap₂ (λ (x : Option Function) (xs : Slots). x ∷ xs) (shown_there s handoff gs p f seats.0 h are.0 (files zero p f refl refl)) more.1,
       )
 
-  all_shown : AreSeated b gs → (ts : List Text) (ws : GuestsNow) (hs : List Guest) → AreGuests b a ts ws hs
+  all_shown : AreSeated b gs → (ts : List Text) (ws : GuestsNow) (hs : List Guest) → AreGuests s ts ws hs
       → ((i : ℕ) (w : GuestNow) → slice_get ws i ≡ Some w → (guest_named gs w.name ≡ Some w) × AreSeats b w.paths w.lone.slots)
-      → guests_shown (agreed_state b a gs).functions ts hs ≡ ws
+      → guests_shown (state_over s gs).functions ts hs ≡ ws
   all_shown seated [] [] [] are named = refl
   all_shown seated [] [] (g ∷ hs) are named = absurd are
   all_shown seated [] (w ∷ ws) hs are named = absurd are
@@ -124,36 +143,41 @@ module _ (b : Board) (a : Apertures) (gs : GuestsNow) (decls : HasLawfulDecls b)
       files : (n : ℕ) (p : Path) (f : Function) → path_at w.paths n ≡ Some p → slot_at w.lone.slots n ≡ Some f → file_of gs p ≡ Some f.file
       files n p f at is = file_named b gs w n p f seated (named zero w refl).0 at is
 
-      slots : (map path_shown g.slots.items ≡ w.paths) × (map (slot_shown (agreed_state b a gs).functions) g.slots.items ≡ w.lone.slots)
+      slots : (map path_shown g.slots.items ≡ w.paths) × (map (slot_shown (state_over s gs).functions) g.slots.items ≡ w.lone.slots)
       slots = slots_shown w.paths w.lone.slots g.slots.items (named zero w refl).1 are.0.slots files
 
-      here : guest_shown (agreed_state b a gs).functions t g ≡ w
+      here : guest_shown (state_over s gs).functions t g ≡ w
       here = λ i. record { name = sym are.0.name_is i; paths = slots.0 i; lone = record { slots = slots.1 i; latch = sym are.0.latch i } }
 
-module _ (w : WorldNow) (h : HostState) (names : List Text) (gs : List Guest) (kept : IsKept w h names gs) where
+shown_as_handed : (s : State) (gs : GuestsNow) → handoff_shown (state_over s gs) gs ≡ with_seated_reset (state_over s gs) gs
+unfolding handoff_shown
+shown_as_handed s gs = refl
+
+module _ (w : WorldOver) (h : HostState) (names : List Text) (gs : List Guest) (kept : IsKept w h names gs) where
   pub is_shown : world_shown h names gs ≡ w
   is_shown =
-      let functions : h.state.functions ≡ (agreed_state w.board w.apertures w.guests).functions = ap (λ s. s.functions) kept.agrees in
-      let rows = ap Rattle.model_board.specs.AtReset.board_at functions ∙ (keeps_numbers w.board w.apertures kept.placeable.places kept.placeable.declarations w.guests kept.seated kept.few).rows in
-      let guests = ap (λ fs. guests_shown fs names gs) functions
-      ∙ all_shown w.board w.apertures w.guests kept.placeable.declarations kept.seated names w.guests gs kept.guests
-      (λ i g at. ((by_index w.guests kept.seated.names_apart i g at).0, (Rattle.lists.proofs.Indices.each_at _ w.guests i g kept.seated.guests at).seats)) in
-      λ i. record { board = rows i; apertures = kept.apertures i; guests = guests i }
+      let seated : AreSeated (board_at w.handoff.functions) w.guests = kept.lawful.seated in
+      let guests : guests_shown h.state.functions names gs ≡ w.guests = ap (λ (s : State). guests_shown s.functions names gs) kept.agrees
+      ∙ all_shown w.handoff kept.lawful.handoff w.guests seated names w.guests gs kept.guests
+      (λ i g at. ((by_index w.guests seated.names_apart i g at).0, (each_at (IsSeatedGuest (board_at w.handoff.functions)) w.guests i g seated.guests at).seats)) in
+      let handoff : handoff_shown h.state (guests_shown h.state.functions names gs) ≡ w.handoff =
+      ap₂ handoff_shown kept.agrees guests ∙ shown_as_handed w.handoff w.guests ∙ reset_shown w.handoff w.guests seated ∙ kept.at_reset in
+      λ i. record { handoff = handoff i; guests = guests i }
 
   pub is_sound : IsSound h names gs
-  is_sound = subst (λ (v : WorldNow). IsKept v h names gs) (sym is_shown) kept
+  is_sound = subst (λ (v : WorldOver). IsKept v h names gs) (sym is_shown) kept
 
 -- ---- what is asked of it
 
-pub names_shown : (b : Board) (a : Apertures) (fs : List BoardFunction) (ts : List Text) (ws : GuestsNow) (gs : List Guest) → AreGuests b a ts ws gs → names_of (guests_shown fs ts gs) ≡ ts
-names_shown b a fs [] [] [] are = refl
-names_shown b a fs [] [] (g ∷ gs) are = refl
-names_shown b a fs [] (w ∷ ws) gs are = refl
-names_shown b a fs (t ∷ ts) [] gs are = absurd are
-names_shown b a fs (t ∷ ts) (w ∷ ws) [] are = absurd are
-names_shown b a fs (t ∷ ts) (w ∷ ws) (g ∷ gs) are = ap (λ (x : List Text). t ∷ x) (names_shown b a fs ts ws gs are.1)
+pub names_shown : (s : State) (fs : List BoardFunction) (ts : List Text) (ws : GuestsNow) (gs : List Guest) → AreGuests s ts ws gs → names_of (guests_shown fs ts gs) ≡ ts
+names_shown s fs [] [] [] are = refl
+names_shown s fs [] [] (g ∷ gs) are = refl
+names_shown s fs [] (w ∷ ws) gs are = refl
+names_shown s fs (t ∷ ts) [] gs are = absurd are
+names_shown s fs (t ∷ ts) (w ∷ ws) [] are = absurd are
+names_shown s fs (t ∷ ts) (w ∷ ws) (g ∷ gs) are = ap (λ (x : List Text). t ∷ x) (names_shown s fs ts ws gs are.1)
 
-pub host_replied : (s : State) (w : WorldNow) (r : HostRead) (o : Option ℕ) (value : ℕ) → s ≡ board_state w → o ≡ host_fault r → o ≡ None → value ≡ shown s r.width r.target
+pub host_replied : (s : State) (w : WorldOver) (r : HostRead) (o : Option ℕ) (value : ℕ) → s ≡ board_state w → o ≡ host_fault r → o ≡ None → value ≡ shown s r.width r.target
     → answered value r.width ≡ host_reply w r
 host_replied s w r o value same fault passed is =
     ap (λ n. answered n r.width) (is ∙ ap (λ (t : State). shown t r.width r.target) same)

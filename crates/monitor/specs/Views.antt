@@ -2,7 +2,8 @@
 --     texts      guests' names as texts
 --     function_shown, slot_shown      a function in a slot: the board's registers, with the guest's own copies put in
 --     guest_shown, guests_shown      guests as they are now
---     world_shown      the board with its guests as they are now
+--     handoff_shown      the handoff, as the board shows it: with all functions in slots at reset
+--     world_shown      the handoff with the guests as they are now
 use Rattle.std.specs.Prelude.{List, [], ◌∷◌, Option, None, map, option_map}
 use Rattle.std.specs.Option.{option_map_or}
 use Rattle.arrayvec.specs.ArrayVec.{ArrayVec}
@@ -10,12 +11,12 @@ use Rattle.arrayvec.specs.ArrayString.{ArrayString}
 use Rattle.model_registers.specs.OwnCopies.{own_file}
 use Rattle.model_registers.specs.Decoding.{Function}
 use Rattle.model_board.specs.Paths.{Path}
-use Rattle.model_board.specs.State.{BoardFunction}
-use Rattle.model_board.specs.AtReset.{board_at}
+use Rattle.model_board.specs.State.{BoardFunction, State}
 use Rattle.model_guests.specs.Text.{Text}
 use Rattle.model_registers.specs.CopiedFiles.{with_copies}
 use Rattle.model_guests.specs.Guests.{GuestNow, GuestsNow}
-use Rattle.model_guests.specs.WorldNow.{WorldNow}
+use Rattle.model_handoff.specs.ViewLaws.{with_seated_reset}
+use Rattle.model_handoff.specs.WorldOver.{WorldOver}
 use Rattle.bridge_forward.specs.Lending.{endpoint_nth}
 use Rattle.host_bridge.specs.HostState.{HostState}
 use Rattle.monitor.specs.declared.guest.Held.{Held}
@@ -47,9 +48,11 @@ guests_shown fs [] gs = []
 guests_shown fs (t ∷ ts) [] = []
 guests_shown fs (t ∷ ts) (g ∷ gs) = guest_shown fs t g ∷ guests_shown fs ts gs
 
-abbrev pub world_shown : HostState → List Text → List Guest → WorldNow
+unfoldable pub handoff_shown : State → GuestsNow → State
+handoff_shown s gs = with_seated_reset s gs
+
+abbrev pub world_shown : HostState → List Text → List Guest → WorldOver
 world_shown h names gs = record {
-  board = board_at h.state.functions;
-  apertures = h.apertures;
+  handoff = handoff_shown h.state (guests_shown h.state.functions names gs);
   guests = guests_shown h.state.functions names gs;
 }

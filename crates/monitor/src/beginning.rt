@@ -4,8 +4,7 @@ ghost use Rattle.lists.specs.Elements.{Each, EachPair};
 ghost use Rattle.model_registers.specs.Declarations.{Endpoint, HasLawfulRegions};
 ghost use Rattle.model_registers.specs.EndpointTable.{endpoint_reset};
 ghost use Rattle.model_board.specs.Paths.{path_before};
-ghost use Rattle.model_board.specs.Board.{Board};
-ghost use Rattle.model_registers.specs.Apertures.{Apertures};
+ghost use Rattle.model_board.specs.State.{State};
 ghost use Rattle.model_set_up.specs.FunctionTable.{TableRow};
 ghost use Rattle.model_guests.specs.World.{Guest as GuestValue, names, HasLawfulGuests, declared};
 ghost use Rattle.model_guests.specs.Slots.{reset_function};
@@ -86,8 +85,8 @@ fn placed_in(setting: &Setting) -> [Option<Region>; 6]
 /// An endpoint in a guest's slot, with all own copies at reset, where set-up placed it.
 fn held_of(index: usize, row: &FunctionRow, setting: &Setting) -> Held
     requires { HasLawfulRegions (regions_in row.now.decl) }
-    ensures { (b : Board) (a : Apertures) (d : Endpoint) → IsRowOf b a d index row.now setting.now
-        → IsHeld b a row.now.path (record { decl = d; file = endpoint_reset d false }) result }
+    ensures { (s : State) (d : Endpoint) → IsRowOf s d index row.now setting.now
+        → IsHeld s row.now.path (record { decl = d; file = endpoint_reset d false }) result }
 {
     Held {
         own: VirtualFunction::new(registers_in(row)),
@@ -102,7 +101,7 @@ fn held_of(index: usize, row: &FunctionRow, setting: &Setting) -> Held
 fn held_at(ready: &Ready, path: &Path) -> Held
     requires { IsSome (declared (board_below ready.now.host) path.now) }
     ensures { let b = board_below ready.now.host in
-        IsSlot b ready.now.host.apertures (Some path.now) (reset_function (declared b path.now)) (Some result) }
+        IsSlot ready.now.host.state (Some path.now) (reset_function (declared b path.now)) (Some result) }
 {
     let rows = ready.table().rows();
     let settings = ready.plan().settings();
@@ -134,7 +133,7 @@ pub(crate) fn guests_of(
 ) -> Result<Vec<Guest>, AllocError>
     requires { HasLawfulGuests (world_of ready.now decls.now) }
     ensures { let w = world_of ready.now decls.now in
-        IfOk result (λ v. AreGuests w.board w.apertures (names w) (guests_at_first w) v.items) }
+        IfOk result (λ v. AreGuests ready.now.host.state (names w) (guests_at_first w) v.items) }
 {
     let mut guests = Vec::with_capacity(alloc, decls.len())?;
     for decl in decls {

@@ -9,7 +9,9 @@ ghost use Rattle.model_guests.specs.Accesses as guests;
 ghost use Rattle.model_guests.specs.Lone.{answer, after_event, own_latch, at_target, destination, reply_at, after_access_at};
 ghost use Rattle.model_guests.specs.Guests.{lone_of};
 ghost use Rattle.model_guests.specs.Lines.{guest_event, host_move};
-ghost use Rattle.model_guests.specs.WorldNow.{world_at_first, names_now, host_reply, move_reply, after_meaning};
+ghost use Rattle.model_guests.specs.WorldNow.{world_at_first, move_reply};
+ghost use Rattle.model_handoff.specs.SetUpCase.{over_set_up};
+ghost use Rattle.model_handoff.specs.WorldOver.{names_now, host_reply, after_meaning};
 ghost use Rattle.bars.specs.Kinds.{named_space};
 ghost use Rattle.paths.specs.BusAddresses.{bus_address_of};
 ghost use Rattle.accesses.specs.Accesses.{access_of, host_access_of, op_of, part_of, reply_of};
@@ -51,9 +53,9 @@ impl<R: Route> Model for Engine<R> {
     ghost use Rattle.model_guests.specs.Accesses.{configuration, port, reads, writes};
     ghost use Rattle.model_guests.specs.Accesses as guests;
     ghost use Rattle.model_guests.specs.Lone.{answer, after_event, own_latch, at_target, destination, reply_at, after_access_at};
-    ghost use Rattle.model_guests.specs.WorldNow.{WorldNow};
+    ghost use Rattle.model_handoff.specs.WorldOver.{WorldOver};
 
-    ghost Value = { WorldNow };
+    ghost Value = { WorldOver };
 
     ghost use Rattle.monitor.specs.Views.{texts, world_shown};
     ghost use Rattle.monitor.specs.Keeping.{IsSound};
@@ -363,7 +365,7 @@ impl<R: Route + Drop> Engine<R> {
     ) -> Result<Engine<R>, AllocError>
         requires fits { R.fits route ready.host }
         requires lawful { HasLawfulGuests (world_of ready guests.now) }
-        ensures { IfOk result (λ e. e ≡ world_at_first (world_of ready guests.now)) }
+        ensures { IfOk result (λ e. e ≡ over_set_up (world_at_first (world_of ready guests.now))) }
     {
         let names = names_of(guests);
         let guests = guests_of(alloc, &ready, guests)?;

@@ -10,7 +10,7 @@ use paths::Path;
 pub(crate) struct Held {
     /// Command and base address registers as the guest has them.
     pub(crate) own: VirtualFunction,
-    /// At the index of its first register, each region where set-up placed it.
+    /// At the index of its first register, each region where the handoff has it.
     pub(crate) placed: [Option<Region>; 6],
     /// The number that reaches the function.
     pub(crate) at: Bdf,

@@ -2,12 +2,11 @@
 ghost use Rattle.std.specs.Prelude.{◌≡◌, ◌<◌, ℕ, List, Option, length, option_map};
 ghost use Rattle.std.specs.Result.{result_map_both};
 ghost use Rattle.model_board.specs.Paths.{Path};
-ghost use Rattle.model_board.specs.Board.{Board};
-ghost use Rattle.model_registers.specs.Apertures.{Apertures};
+ghost use Rattle.model_board.specs.State.{State};
 ghost use Rattle.model_guests.specs.Accesses.{configuration};
 ghost use Rattle.model_guests.specs.Slots.{Slots, landing, landing_from};
 ghost use Rattle.model_guests.specs.Guests.{lone_of};
-ghost use Rattle.model_guests.specs.WorldNow.{WorldNow};
+ghost use Rattle.model_handoff.specs.WorldOver.{WorldOver};
 ghost use Rattle.model_queries.specs.Located.{located, location};
 ghost use Rattle.bars.specs.Kinds.{named_space};
 ghost use Rattle.accesses.specs.Accesses.{target_of};
@@ -35,7 +34,7 @@ pub struct Hit {
 
 /// The byte of a region that an address stands for.
 fn region_hit(slots: &[Option<Held>], space: Space, addr: u64) -> Option<Hit>
-    ensures { (b : Board) (a : Apertures) (qs : List (Option Path)) (fs : Slots) → AreSlots b a qs fs slots.now
+    ensures { (s : State) (qs : List (Option Path)) (fs : Slots) → AreSlots s qs fs slots.now
         → option_map hit_named result ≡ landing_from 0 (named_space space) addr fs }
 {
     let (slot, region, offset) = landing(slots, space, addr)?;
@@ -48,7 +47,7 @@ fn region_hit(slots: &[Option<Held>], space: Space, addr: u64) -> Option<Hit>
 
 /// The byte of configuration space at an offset, where a function is in the slot.
 fn config_hit(slots: &[Option<Held>], slot: usize, offset: u64) -> Option<Hit>
-    ensures { (b : Board) (a : Apertures) (qs : List (Option Path)) (fs : Slots) → AreSlots b a qs fs slots.now
+    ensures { (s : State) (qs : List (Option Path)) (fs : Slots) → AreSlots s qs fs slots.now
         → option_map hit_named result ≡ landing fs (configuration slot offset) }
 {
     match held_in(slots, slot) {
@@ -63,7 +62,7 @@ fn config_hit(slots: &[Option<Held>], slot: usize, offset: u64) -> Option<Hit>
 
 /// What an access of a byte hits.
 fn hit_in(guest: &Guest, at: At) -> Option<Hit>
-    ensures { (w : WorldNow) (i : ℕ) → IsGuestNth w i guest.now
+    ensures { (w : WorldOver) (i : ℕ) → IsGuestNth w i guest.now
         → option_map hit_named result ≡ located (lone_nth w i) (target_of at) }
 {
     match at {
@@ -81,7 +80,7 @@ fn hit_in(guest: &Guest, at: At) -> Option<Hit>
 
 /// The same, or the number of a refusal.
 fn locate_in(guest: &Guest, at: At) -> Result<Option<Hit>, u16>
-    ensures { (w : WorldNow) (i : ℕ) → IsGuestNth w i guest.now
+    ensures { (w : WorldOver) (i : ℕ) → IsGuestNth w i guest.now
         → result_map_both (option_map hit_named) (λ n. n) result ≡ location (lone_nth w i) (target_of at) }
 {
     let read = Access {

@@ -6,8 +6,11 @@ ghost use Rattle.model_guests.specs.World.{HasLawfulGuests};
 ghost use Rattle.model_guests.specs.Lone.{answer};
 ghost use Rattle.model_guests.specs.Guests.{lone_of};
 ghost use Rattle.model_guests.specs.Lines.{guest_event, host_move};
-ghost use Rattle.model_guests.specs.WorldNow.{world_at_first, names_now, host_reply, move_reply, after_meaning};
-ghost use Rattle.model_devices.specs.DeviceEvents.{resets, device_answer, after_device};
+ghost use Rattle.model_guests.specs.WorldNow.{world_at_first, move_reply};
+ghost use Rattle.model_handoff.specs.DevicesOver.{after_device};
+ghost use Rattle.model_handoff.specs.SetUpCase.{over_set_up};
+ghost use Rattle.model_handoff.specs.WorldOver.{names_now, host_reply, after_meaning};
+ghost use Rattle.model_devices.specs.DeviceEvents.{resets, device_answer};
 ghost use Rattle.bus_scan.specs.declared.fault.Fault.TheVariants.{Memory};
 ghost use Rattle.model_queries.specs.Regions.{region_answer};
 ghost use Rattle.model_queries.specs.Located.{location};
@@ -37,9 +40,9 @@ pub struct Monitor {
 }
 
 impl Model for Monitor {
-    ghost use Rattle.model_guests.specs.WorldNow.{WorldNow};
+    ghost use Rattle.model_handoff.specs.WorldOver.{WorldOver};
 
-    ghost Value = { WorldNow };
+    ghost Value = { WorldOver };
 
     ghost view = { λ m. m.engine };
 }
@@ -49,7 +52,7 @@ impl Monitor {
     /// the board is dropped.
     pub fn new(alloc: Global, ready: Ready, guests: &[GuestDecl]) -> Result<Monitor, Fault>
         requires { HasLawfulGuests (world_of ready guests.now) }
-        ensures made { IfOk result (λ m. m ≡ world_at_first (world_of ready guests.now)) }
+        ensures made { IfOk result (λ m. m ≡ over_set_up (world_at_first (world_of ready guests.now))) }
         ensures refused { IfErr result (λ f. f ≡ Memory) }
     {
         let table = Table::build(alloc, &ready)?;

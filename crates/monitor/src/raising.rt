@@ -3,9 +3,7 @@ ghost use Rattle.std.specs.Prelude.{◌≡◌, IsSome, is_some};
 ghost use Rattle.model_registers.specs.Decoding.{Function};
 ghost use Rattle.model_registers.specs.OwnCopies.{is_own};
 ghost use Rattle.model_board.specs.Paths.{Path};
-ghost use Rattle.model_board.specs.Board.{Board};
-ghost use Rattle.model_registers.specs.Apertures.{Apertures};
-ghost use Rattle.model_board.specs.State.{with_file};
+ghost use Rattle.model_board.specs.State.{with_file, State};
 ghost use Rattle.model_guests.specs.Slots.{raise_place};
 ghost use Rattle.headers.specs.Places.{place_of};
 ghost use Rattle.bridge_forward.specs.Lending.{endpoint_at};
@@ -22,7 +20,7 @@ use paths::Path;
 /// Whether a function in a slot has the byte: an offset of its configuration space, or one below the
 /// size of the region that begins at a base address register.
 pub(crate) fn has_place(held: &Held, place: Place, off: u64) -> bool
-    ensures { (b : Board) (a : Apertures) (p : Path) (f : Function) → IsHeld b a p f held.now
+    ensures { (s : State) (p : Path) (f : Function) → IsHeld s p f held.now
         → result ≡ is_some (raise_place f (part_of place) off) }
 {
     match place {

@@ -6,10 +6,9 @@ ghost use Rattle.model_registers.specs.Declarations.{registers_of};
 ghost use Rattle.model_registers.specs.OwnCopies.{HoldsOwn, IsLawfulOwn};
 ghost use Rattle.model_registers.specs.Decoding.{Function, base, is_open};
 ghost use Rattle.model_board.specs.Paths.{Path};
-ghost use Rattle.model_board.specs.Board.{Board};
-ghost use Rattle.model_registers.specs.Apertures.{Apertures};
+ghost use Rattle.model_board.specs.State.{State};
 ghost use Rattle.model_guests.specs.Guests.{lone_of};
-ghost use Rattle.model_guests.specs.WorldNow.{WorldNow};
+ghost use Rattle.model_handoff.specs.WorldOver.{WorldOver};
 ghost use Rattle.model_queries.specs.Regions.{is_prefetchable, region_now, region_at, region_answer};
 ghost use Rattle.bars.specs.Kinds.{kind_of, named_space};
 ghost use Rattle.monitor.specs.Keeping.{IsHeld};
@@ -71,7 +70,7 @@ fn opens(held: &Held, space: Space) -> bool
 
 /// The region of a function in a slot that begins at a base address register, if one does.
 fn region_kept(held: &Held, bar: usize) -> Option<RegionNow>
-    ensures { (b : Board) (a : Apertures) (p : Path) (f : Function) → IsHeld b a p f held.now
+    ensures { (s : State) (p : Path) (f : Function) → IsHeld s p f held.now
         → IsLawfulOwn held.now.own → option_map region_named result ≡ option_map (region_now f.file) (region_at f bar) }
 {
     match held.placed.get(bar) {
@@ -93,7 +92,7 @@ fn region_kept(held: &Held, bar: usize) -> Option<RegionNow>
 
 /// The same of a slot of a guest, or the number of a refusal.
 fn region_in(guest: &Guest, slot: u64, bar: u64) -> Result<RegionNow, u16>
-    ensures { (w : WorldNow) (i : ℕ) → IsGuestNth w i guest.now
+    ensures { (w : WorldOver) (i : ℕ) → IsGuestNth w i guest.now
         → result_map_both region_named (λ n. n) result ≡ region_answer (lone_nth w i) slot bar }
 {
     if slot > 31 {

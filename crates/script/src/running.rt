@@ -3,8 +3,8 @@ ghost use Rattle.std.specs.Prelude.{◌≡◌, ◌+◌, ◌-◌, ◌^◌, ◌<�
 ghost use Rattle.std.specs.Option.{ForSome};
 ghost use Rattle.std.specs.Io.KnownBytes.{Appends, IsAtEnd};
 ghost use Rattle.model_guests.specs.Text.{lines};
-ghost use Rattle.model_guests.specs.WorldNow.{output, after_lines};
-ghost use Rattle.model_guests.specs.Runs.{IsCut};
+ghost use Rattle.model_handoff.specs.WorldOver.{output, after_lines};
+ghost use Rattle.model_handoff.specs.RunsOver.{IsCut};
 ghost use Rattle.line_runs.specs.Faults.{read_failures_of, write_failures_of};
 ghost use Rattle.script.specs.Stops.{IsStoppedIn};
 

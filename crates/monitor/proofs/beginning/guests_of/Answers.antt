@@ -25,6 +25,6 @@ loop-decl-preserved c =
     let i = c.loop-decl.decl-index in
     let d : Declared = c.decl-item.result in
     let slots : c.as_slice.result.now ≡ d.slots = c.as_slice.ensures.value ∙ ap (λ (g : Declared). g.slots) c.decl.view_is in
-    subst (λ (gs : List Guest). AreFirst w (take (i + 1) ds) gs) (sym c.in_ok-push.ensures.items)
-    (guest_pushed w ds i d (record { latch = c.new.result; slots = c.in_ok-slots_of.field-0 }) c.loop-decl.guests.items (read_at ds i d c.loop-decl-test.true c.decl-item.is) c.loop-decl.invariant
+    subst (λ (gs : List Guest). AreFirst c.args.ready.now.host.state w (take (i + 1) ds) gs) (sym c.in_ok-push.ensures.items)
+    (guest_pushed c.args.ready.now.host.state w ds i d (record { latch = c.new.result; slots = c.in_ok-slots_of.field-0 }) c.loop-decl.guests.items (read_at ds i d c.loop-decl-test.true c.decl-item.is) c.loop-decl.invariant
     c.new.ensures (subst (λ (ps : List Path). AreSlotsAtFirst c.args.ready.now.host ps c.in_ok-slots_of.field-0.items) slots c.in_ok-slots_of.ensures))

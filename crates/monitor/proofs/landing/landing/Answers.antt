@@ -6,26 +6,26 @@ use Rattle.monitor.proofs.landing.landing.Goals as goal
 use Rattle.monitor.proofs.landing.landing.Goals.{in-Some+in_default-decode, in_default}
 
 pub returns-in-Some-decode-clause-landing : goal.returns-in-Some-decode-clause-landing
-returns-in-Some-decode-clause-landing c = λ b a qs fs are.
+returns-in-Some-decode-clause-landing c = λ s qs fs are.
     let slots = c.args.slots.now in
     let n = c.loop-slot.slot in
     let within : n < length slots = omega (arith, c.loop-slot-test.true) in
-    sym (c.loop-slot.invariant b a qs fs are
-    ∙ landed (named_space c.args.space) c.args.addr b a qs fs slots are n within c.in-Some.held.now (hit_in c.in-Some-decode.region c.in-Some-decode.offset) c.in-Some.ensures.there c.in-Some-decode.ensures)
+    sym (c.loop-slot.invariant s qs fs are
+    ∙ landed (named_space c.args.space) c.args.addr s qs fs slots are n within c.in-Some.held.now (hit_in c.in-Some-decode.region c.in-Some-decode.offset) c.in-Some.ensures.there c.in-Some-decode.ensures)
 
 pub returns-in-Some-decode-clause-there : goal.returns-in-Some-decode-clause-there
 returns-in-Some-decode-clause-there c = record { held = c.in-Some.held.now; there = c.in-Some.ensures.there; decodes = c.in-Some-decode.ensures }
 
 pub loop-slot-preserved : goal.loop-slot-preserved
-loop-slot-preserved c = λ b a qs fs are.
+loop-slot-preserved c = λ s qs fs are.
     let slots = c.args.slots.now in
     let n = c.loop-slot.slot in
     let within : n < length slots = omega (arith, c.loop-slot-test.true) in
-    c.loop-slot.invariant b a qs fs are
+    c.loop-slot.invariant s qs fs are
     ∙ elim c.match-held_in.branch [
-      | in-Some+in_default-decode w ↦ passed (named_space c.args.space) c.args.addr b a qs fs slots are n within w.in-Some.held.now w.in-Some.ensures.there w.in_default-decode.ensures
-      | in_default w ↦ passed_empty (named_space c.args.space) c.args.addr b a qs fs slots are n within w.in_default.ensures.empty
+      | in-Some+in_default-decode w ↦ passed (named_space c.args.space) c.args.addr s qs fs slots are n within w.in-Some.held.now w.in-Some.ensures.there w.in_default-decode.ensures
+      | in_default w ↦ passed_empty (named_space c.args.space) c.args.addr s qs fs slots are n within w.in_default.ensures.empty
     ]
 
 pub returns-clause-landing : goal.returns-clause-landing
-returns-clause-landing c = λ b a qs fs are. sym (c.loop-slot.invariant b a qs fs are ∙ nowhere (named_space c.args.space) c.args.addr b a qs fs c.args.slots.now are c.loop-slot.slot (omega arith))
+returns-clause-landing c = λ s qs fs are. sym (c.loop-slot.invariant s qs fs are ∙ nowhere (named_space c.args.space) c.args.addr s qs fs c.args.slots.now are c.loop-slot.slot (omega arith))

@@ -7,11 +7,11 @@ use Rattle.monitor.proofs.Steps.{slot_there, slot_empty}
 use Rattle.monitor.proofs.locating.config_hit.Goals as goal
 
 pub returns-in-Some : goal.returns-in-Some
-returns-in-Some c = λ b a qs fs are.
-    let slot = slot_there b a qs fs c.args.slots.now c.args.slot c.in-Some.field-0.now are c.in-Some.ensures.there in
+returns-in-Some c = λ s qs fs are.
+    let slot = slot_there s qs fs c.args.slots.now c.args.slot c.in-Some.field-0.now are c.in-Some.ensures.there in
     sym (ap (λ (o : Option Function). cond (is_some o) (Some (let l : Landing = record { slot = c.args.slot; place = config c.args.offset } in l)) None) slot.function)
 
 pub returns-in-None : goal.returns-in-None
-returns-in-None c = λ b a qs fs are.
+returns-in-None c = λ s qs fs are.
     sym (ap (λ (o : Option Function). cond (is_some o) (Some (let l : Landing = record { slot = c.args.slot; place = config c.args.offset } in l)) None)
-    (slot_empty b a qs fs c.args.slots.now c.args.slot are c.in-None.ensures.empty))
+    (slot_empty s qs fs c.args.slots.now c.args.slot are c.in-None.ensures.empty))

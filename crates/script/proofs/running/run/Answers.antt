@@ -2,7 +2,7 @@ use Rattle.std.proofs.Common.{sym, subst, ◌∙◌}
 use Rattle.std.specs.Io.KnownBytes.{Appends}
 use Rattle.std.proofs.lemmas.Result.{on_ok_weaker}
 use Rattle.model_guests.specs.Text.{lines}
-use Rattle.model_guests.proofs.RunLines.{output_by_protocol, after_by_protocol}
+use Rattle.model_handoff.proofs.RunsOver.{output_by_protocol, after_by_protocol}
 use Rattle.script.proofs.running.run.Goals as goal
 
 pub returns-clause-output : goal.returns-clause-output

@@ -9,10 +9,10 @@ pub returns-clause-reply : goal.returns-clause-reply
 returns-clause-reply g c =
     c.raise_nth.ensures.reply
     ∙ ap (λ (l : LoneGuest). answer l (guests.raises (raise_of c.args.slot c.args.place c.args.off c.args.mask)))
-    (sym (lone_named c.args.self.now (subst AreApart c.self.view_is c.self.invariant.1.seated.names_apart) c.args.guest c.requires))
+    (sym (lone_named c.args.self.now (subst AreApart c.self.view_is c.self.invariant.1.lawful.seated.names_apart) c.args.guest c.requires))
 
 pub returns-clause-after : goal.returns-clause-after
 returns-clause-after g c =
     c.raise_nth.ensures.after
-    ∙ after_named c.args.self.now (subst AreApart c.self.view_is c.self.invariant.1.seated.names_apart) c.args.guest c.requires
+    ∙ after_named c.args.self.now (subst AreApart c.self.view_is c.self.invariant.1.lawful.seated.names_apart) c.args.guest c.requires
     (guests.raises (raise_of c.args.slot c.args.place c.args.off c.args.mask))

@@ -37,7 +37,7 @@ returns-then-not-has_place-clause-reply g c =
     let e = c.self.inside in
     let there = guest_read e.host (texts e.names) e.guests.items c.self.invariant.1 c.args.self.now c.self.view_is c.args.guest c.index.result.now c.requires c.index.ensures in
     let holds : slice_get c.index.result.now.slots.items c.args.slot ≡ Some (Some c.in-Some.held.now) = ap (λ (os : List (Option Held)). slice_get os c.args.slot) (sym c.deref.ensures.value) ∙ c.in-Some.ensures.there in
-    let has : HasPlace c.in-Some.held.now c.args.place c.args.off false = λ b a p f held. sym c.if-not-has_place.true ∙ c.has_place.ensures b a p f held in
+    let has : HasPlace c.in-Some.held.now c.args.place c.args.off false = λ s p f held. sym c.if-not-has_place.true ∙ c.has_place.ensures s p f held in
     (place_refused e.host (texts e.names) e.guests.items c.self.invariant.1 c.args.self.now c.self.view_is c.args.guest c.index.result.now there c.args.slot c.args.place c.args.off c.args.mask c.in-Some.held.now holds c.if-slot-gt31.false has).reply
 
 pub returns-then-not-has_place-clause-after : goal.returns-then-not-has_place-clause-after
@@ -45,7 +45,7 @@ returns-then-not-has_place-clause-after g c =
     let e = c.self.inside in
     let there = guest_read e.host (texts e.names) e.guests.items c.self.invariant.1 c.args.self.now c.self.view_is c.args.guest c.index.result.now c.requires c.index.ensures in
     let holds : slice_get c.index.result.now.slots.items c.args.slot ≡ Some (Some c.in-Some.held.now) = ap (λ (os : List (Option Held)). slice_get os c.args.slot) (sym c.deref.ensures.value) ∙ c.in-Some.ensures.there in
-    let has : HasPlace c.in-Some.held.now c.args.place c.args.off false = λ b a p f held. sym c.if-not-has_place.true ∙ c.has_place.ensures b a p f held in
+    let has : HasPlace c.in-Some.held.now c.args.place c.args.off false = λ s p f held. sym c.if-not-has_place.true ∙ c.has_place.ensures s p f held in
     (place_refused e.host (texts e.names) e.guests.items c.self.invariant.1 c.args.self.now c.self.view_is c.args.guest c.index.result.now there c.args.slot c.args.place c.args.off c.args.mask c.in-Some.held.now holds c.if-slot-gt31.false has).after
 
 pub raise_on_board-requires : goal.raise_on_board-requires
@@ -60,7 +60,7 @@ invariant_of-self g c =
     let e = c.self.inside in
     let there = guest_read e.host (texts e.names) e.guests.items c.self.invariant.1 c.args.self.now c.self.view_is c.args.guest c.index.result.now c.requires c.index.ensures in
     let holds : slice_get c.index.result.now.slots.items c.args.slot ≡ Some (Some c.in-Some.held.now) = ap (λ (os : List (Option Held)). slice_get os c.args.slot) (sym c.deref.ensures.value) ∙ c.in-Some.ensures.there in
-    let has : HasPlace c.in-Some.held.now c.args.place c.args.off true = λ b a p f held. sym c.if-not-has_place.false ∙ c.has_place.ensures b a p f held in
+    let has : HasPlace c.in-Some.held.now c.args.place c.args.off true = λ s p f held. sym c.if-not-has_place.false ∙ c.has_place.ensures s p f held in
     (g.met.R.Route.by_routing e.route e.host c.raise_on_board.new.host (routes_raised e.host (texts e.names) e.guests.items c.self.invariant.1 c.args.self.now c.self.view_is c.args.guest c.index.result.now there c.args.slot c.args.place c.args.off c.args.mask c.in-Some.held.now holds c.if-slot-gt31.false has c.raise_on_board.new.host c.raise_on_board.ensures) c.self.invariant.0, sound_raised e.host (texts e.names) e.guests.items c.self.invariant.1 c.args.self.now c.self.view_is c.args.guest c.index.result.now there c.args.slot c.args.place c.args.off c.args.mask c.in-Some.held.now holds c.if-slot-gt31.false has c.raise_on_board.new.host c.raise_on_board.ensures)
 
 pub returns-clause-reply : goal.returns-clause-reply
@@ -68,7 +68,7 @@ returns-clause-reply g c =
     let e = c.self.inside in
     let there = guest_read e.host (texts e.names) e.guests.items c.self.invariant.1 c.args.self.now c.self.view_is c.args.guest c.index.result.now c.requires c.index.ensures in
     let holds : slice_get c.index.result.now.slots.items c.args.slot ≡ Some (Some c.in-Some.held.now) = ap (λ (os : List (Option Held)). slice_get os c.args.slot) (sym c.deref.ensures.value) ∙ c.in-Some.ensures.there in
-    let has : HasPlace c.in-Some.held.now c.args.place c.args.off true = λ b a p f held. sym c.if-not-has_place.false ∙ c.has_place.ensures b a p f held in
+    let has : HasPlace c.in-Some.held.now c.args.place c.args.off true = λ s p f held. sym c.if-not-has_place.false ∙ c.has_place.ensures s p f held in
     reply_done e.host (texts e.names) e.guests.items c.self.invariant.1 c.args.self.now c.self.view_is c.args.guest c.index.result.now there c.args.slot c.args.place c.args.off c.args.mask c.in-Some.held.now holds c.if-slot-gt31.false has
 
 pub returns-clause-after : goal.returns-clause-after
@@ -76,5 +76,5 @@ returns-clause-after g c =
     let e = c.self.inside in
     let there = guest_read e.host (texts e.names) e.guests.items c.self.invariant.1 c.args.self.now c.self.view_is c.args.guest c.index.result.now c.requires c.index.ensures in
     let holds : slice_get c.index.result.now.slots.items c.args.slot ≡ Some (Some c.in-Some.held.now) = ap (λ (os : List (Option Held)). slice_get os c.args.slot) (sym c.deref.ensures.value) ∙ c.in-Some.ensures.there in
-    let has : HasPlace c.in-Some.held.now c.args.place c.args.off true = λ b a p f held. sym c.if-not-has_place.false ∙ c.has_place.ensures b a p f held in
+    let has : HasPlace c.in-Some.held.now c.args.place c.args.off true = λ s p f held. sym c.if-not-has_place.false ∙ c.has_place.ensures s p f held in
     after_raised e.host (texts e.names) e.guests.items c.self.invariant.1 c.args.self.now c.self.view_is c.args.guest c.index.result.now there c.args.slot c.args.place c.args.off c.args.mask c.in-Some.held.now holds c.if-slot-gt31.false has c.raise_on_board.new.host c.raise_on_board.ensures

@@ -14,11 +14,11 @@ use Rattle.monitor.proofs.engine.Engine.reset.Goals as goal
 
 pub returns-then-slot-gt31-clause-reply : goal.returns-then-slot-gt31-clause-reply
 returns-then-slot-gt31-clause-reply g c =
-    (past_refused c.args.self.now (subst AreApart c.self.view_is c.self.invariant.1.seated.names_apart) c.args.guest c.args.slot c.requires (le-leb 32 c.args.slot (omega (arith, c.if-slot-gt31.true)))).reply
+    (past_refused c.args.self.now (subst AreApart c.self.view_is c.self.invariant.1.lawful.seated.names_apart) c.args.guest c.args.slot c.requires (le-leb 32 c.args.slot (omega (arith, c.if-slot-gt31.true)))).reply
 
 pub returns-then-slot-gt31-clause-after : goal.returns-then-slot-gt31-clause-after
 returns-then-slot-gt31-clause-after g c =
-    (past_refused c.args.self.now (subst AreApart c.self.view_is c.self.invariant.1.seated.names_apart) c.args.guest c.args.slot c.requires (le-leb 32 c.args.slot (omega (arith, c.if-slot-gt31.true)))).after
+    (past_refused c.args.self.now (subst AreApart c.self.view_is c.self.invariant.1.lawful.seated.names_apart) c.args.guest c.args.slot c.requires (le-leb 32 c.args.slot (omega (arith, c.if-slot-gt31.true)))).after
 
 pub index-requires : goal.index-requires
 index-requires g c =
