@@ -13,7 +13,7 @@ import tempfile
 from pathlib import Path
 
 from board import board_file, random_board
-from rules import first_fault
+from rules import all_faults, place_of
 
 NUMBERS = [-1, 0, 1, 4, 5, 6, 17, 63, 64, 192, 255, 256, 3000, 4096, 4097, 0xF900, 0xFFFE, 0xFFFF, 0x10000,
            1 << 24, 1 << 31, 1 << 40, 1 << 62, -(1 << 62)]
@@ -103,27 +103,36 @@ def lines_of_keys(lines):
     return where
 
 
-def allowed_lines(where, problem):
+def allowed_lines(where, table, key):
     """The lines that may be told: of a key that is missing those of its table, and of the file none."""
-    key = (*problem.table, problem.outer)
-    if key in where:
-        return {where[key]}
-    lines = {line for (name, index, _), line in where.items() if name and line and (name, index) == problem.table}
+    if (*table, key) in where:
+        return {where[*table, key]}
+    lines = {line for (name, index, _), line in where.items() if name and line and (name, index) == table}
     return lines or {None}
+
+
+def without_other(text):
+    """What a line says without the line of an earlier entry, and that line."""
+    found = re.search(r" in line (\d+)(?= \(\d+ [A-Za-z ]+\)$)", text)
+    return (text[:found.start()] + text[found.end():], int(found[1])) if found else (text, None)
 
 
 def differs(lines, told, problems):
     """What is wrong with the lines that a check told, if anything is."""
     where, numbers, wanted = lines_of_keys(lines), [], {problem.text: problem for problem in problems}
     if len(told) != len(wanted):
-        missing = wanted.keys() - {text for _, text in told}
+        missing = wanted.keys() - {without_other(text)[0] for _, text in told}
         return f"{len(told)} lines for {len(wanted)}: {missing or told}"
-    for number, text in told:
+    for number, line in told:
+        text, other = without_other(line)
         if text not in wanted:
             return f"not wanted: {text}"
-        if number not in allowed_lines(where, wanted[text]):
-            return f"line {number}, not {allowed_lines(where, wanted[text])}: {text}"
-        numbers.append(number or 0)
+        problem = wanted[text]
+        places = [(number, problem.table, problem.outer)] + ([(other, *problem.other)] if problem.other else [])
+        for given, table, key in places:
+            if given not in allowed_lines(where, table, key):
+                return f"line {given}, not {allowed_lines(where, table, key)}: {line}"
+        numbers.append((place_of(problem.number), number or 0))
     return None if numbers == sorted(numbers) else f"order {numbers}"
 
 
@@ -156,7 +165,7 @@ class Files:
         (self.folder / "board.toml").write_text(text)
         done = subprocess.run([self.program, "check", "board.toml"], cwd=self.folder, capture_output=True, text=True,
                               timeout=60)
-        self.compare(seed, lines, first_fault(text), done)
+        self.compare(seed, lines, all_faults(text), done)
 
     def compare(self, seed, lines, wanted, done):
         number, problems = wanted

@@ -1,4 +1,5 @@
-"""The rules of a board file, by docs/FORMATS.md: the first check that a file fails, and all that breaks it."""
+"""The rules of a board file, by docs/FORMATS.md: the first check that a file fails, all that breaks it, and what breaks
+a later one and needn't wait."""
 import re
 import tomllib
 from dataclasses import dataclass
@@ -26,10 +27,16 @@ SIZES = {"io": (4, 256), "mem32": (16, 1 << 31), "mem32p": (16, 1 << 31), "mem64
 
 @dataclass
 class Problem:
-    """What a line says, the table with a header that it is about, and the key of that table."""
+    """What a line says, the table with a header that it is about, and the key of that table; the same place of an
+    earlier entry that it names; and the entry, its key, what is wrong, and the number of the check."""
     text: str
     table: tuple
     outer: str
+    other: tuple | None
+    entry: str
+    key: str
+    words: str
+    number: int
 
 
 @dataclass
@@ -96,12 +103,15 @@ def entries(document):
             yield Entry("slot", f"guest[{index}].slots[{inner}]", {"": slot}, table, "slots", owner)
 
 
-def problem(entry, key, words, number):
+def problem(entry, key, words, number, other=None):
     value = entry.values.get(key)
     shown = f" = {value}" if is_integer(value) else f' = "{value}"' if isinstance(value, str) else ""
     owner = "" if entry.owner is None or key in {"at", "name"} else f' of "{entry.owner}"'
     place = f"{entry.name}.{key}" if key else entry.name
-    return Problem(f"{place}{shown}{owner}: {words} ({number} {WORDS[number]})", entry.table, entry.outer or key)
+    beside = f": {other.name}" if other else ""
+    text = f"{place}{shown}{owner}: {words}{beside} ({number} {WORDS[number]})"
+    return Problem(text, entry.table, entry.outer or key, other and (other.table, other.outer or key), entry.name, key,
+                   words, number)
 
 
 FORMS = {"host": "a table, its header in brackets", "slots": "texts in brackets, each in quotes",
@@ -182,7 +192,7 @@ def number_problems(every):
 
 def count_problems(every):
     for entry in every:
-        if entry.kind in {"endpoint", "bridge"} and entry.values["at"].count("/") > 15:
+        if entry.kind in {"endpoint", "bridge"} and entry.values.get("at", "").count("/") > 15:
             yield problem(entry, "at", "has more than 16 parts", 108)
         if entry.kind == "guest" and len(entry.values["slots"]) > 32:
             yield problem(entry, "slots", "more than 32 slots", 108)
@@ -195,27 +205,41 @@ def is_path(text):
 def standing(every):
     """Each function's path with its kind. A text that is no path stands for 0.0."""
     return [(at if is_path(at) else "0.0", entry.kind) for entry in every if entry.kind in {"endpoint", "bridge"}
-            for at in [entry.values["at"]]]
+            for at in [entry.values.get("at", "")]]
+
+
+def meant_path(text):
+    """The path that may be meant by a text, or what a path is."""
+    short = text.removeprefix("00:")
+    padded = re.fullmatch(r"0([0-9a-f])\.([0-7])", short)
+    if is_path(short):
+        return f": is {short} meant?"
+    if padded:
+        return f": is {int(padded[1], 16)}.{padded[2]} meant?"
+    return (": write parts of device and function, as 2.0/1.0: devices are 0 to 15, functions 0 to 7, "
+            "without leading zeros")
 
 
 def place_problems(every):
-    earlier, stands = set(), {path for path, _ in standing(every)}
+    earlier, stands = {}, {path for path, _ in standing(every)}
     bridges = {path for path, kind in standing(every) if kind == "bridge"}
     for entry in every:
         if entry.kind not in {"endpoint", "bridge"}:
             continue
-        at = entry.values["at"]
+        at = entry.values.get("at", "")
         *above, part = at.split("/")
         if not is_path(at):
-            yield problem(entry, "at", "is no path", 105)
+            yield problem(entry, "at", f"is no path{meant_path(at)}", 105)
             continue
         if at in earlier:
-            yield problem(entry, "at", "is the path of an earlier function", 105)
+            yield problem(entry, "at", "is the path of an earlier function", 105, earlier[at])
         if above and "/".join(above) not in bridges:
-            yield problem(entry, "at", "leads through something else than bridges", 105)
-        if "/".join([*above, part.split(".")[0] + ".0"]) not in stands:
-            yield problem(entry, "at", "is in a device without function 0", 105)
-        earlier.add(at)
+            gap = next(path for count in range(len(above)) for path in ["/".join(above[:count + 1])] if path not in bridges)
+            yield problem(entry, "at", f"leads through something else than bridges: no bridge at {gap}", 105)
+        zero = "/".join([*above, part.split(".")[0] + ".0"])
+        if zero not in stands:
+            yield problem(entry, "at", f"is in a device without function 0: no function at {zero}", 105)
+        earlier.setdefault(at, entry)
 
 
 def register_problems(every):
@@ -230,42 +254,70 @@ def register_problems(every):
                 yield problem(entry, "bar", "a register is used twice, or a 64-bit kind has index 5", 106)
 
 
+def size_cause(kind, size):
+    """Why a kind doesn't allow a size."""
+    least, greatest = SIZES[kind]
+    space = {"io": "I/O", "mem32": "32-bit memory", "mem64": "64-bit memory"}[kind.removesuffix("p")]
+    if least <= size <= greatest:
+        power = 1 << size.bit_length() - 1
+        return f": no power of two, as {hex(power)} and {hex(2 * power)} are"
+    return f": too {'small' if size < least else 'large'}, {space} takes {least} to {hex(greatest)} bytes"
+
+
 def size_problems(every):
     for entry in every:
         if entry.kind == "bar":
             size, (least, greatest) = entry.values["size"], SIZES[entry.values["kind"]]
             if not least <= size <= greatest or size & (size - 1):
-                yield problem(entry, "size", "is no size of its kind", 107)
+                yield problem(entry, "size", f"is no size of its kind{size_cause(entry.values['kind'], size)}", 107)
             if entry.values.get("block", 0) > size:
                 yield problem(entry, "block", "is longer than the region", 107)
 
 
 def name_problems(every):
-    earlier = set()
+    earlier = {}
     for entry in every:
         if entry.kind == "guest":
-            name = entry.values["name"]
+            name = entry.values.get("name", "")
             if not re.fullmatch(r"[a-z][a-z0-9]{0,15}", name) or name == "host":
                 yield problem(entry, "name", "is no name that a guest may have", 109)
             if name in earlier:
-                yield problem(entry, "name", "is the name of an earlier guest", 109)
-            earlier.add(name)
+                yield problem(entry, "name", "is the name of an earlier guest", 109, earlier[name])
+            earlier.setdefault(name, entry)
 
 
 def slot_problems(every):
-    earlier, stands = set(), dict(standing(every))
+    earlier, stands = {}, dict(standing(every))
     for entry in every:
         if entry.kind == "slot":
             slot = entry.values[""]
             if not is_path(slot) or stands.get(slot) != "endpoint":
                 yield problem(entry, "", "is no path of an endpoint", 110)
             if is_path(slot) and slot in earlier:
-                yield problem(entry, "", "is in an earlier slot", 110)
-            earlier.add(slot)
+                yield problem(entry, "", "is in an earlier slot", 110, earlier[slot])
+            earlier.setdefault(slot, entry)
 
 
 def is_of_units(unit, first, last):
     return 0 <= first <= last and first % unit == 0 and (last + 1) % unit == 0
+
+
+def aperture_cause(unit, example, bounds, *others):
+    """The first rule that an aperture breaks."""
+    first, last = map(abs, bounds)
+    rules = [("an address is negative", min(bounds) >= 0), ("empty, the last address is below the first", first <= last),
+             (f"not whole units of {example} are", first % unit == 0 and (last + 1) % unit == 0), *others]
+    return next((f": {words}" for words, is_kept in rules if not is_kept), "")
+
+
+def io_cause(io):
+    return aperture_cause(1 << 12, "4 KB, as 0x1000 to 0xffff", io,
+                          ("too low, it begins below 0x1000", abs(io[0]) >= 0x1000),
+                          ("too high, it ends above 0xffff", abs(io[1]) <= 0xFFFF))
+
+
+def memory_cause(bounds, *others):
+    return aperture_cause(1 << 20, "1 MB, as 0xc0000000 to 0xdfffffff", bounds, *others)
 
 
 def aperture_problems(every):
@@ -273,15 +325,18 @@ def aperture_problems(every):
         io, mem, pref = host.values["io"], host.values["mem"], host.values.get("pref")
         is_memory = is_of_units(1 << 20, *map(abs, mem)) and abs(mem[1]) < 1 << 32
         if not is_of_units(1 << 12, *io) or io[0] < 0x1000 or io[1] > 0xFFFF:
-            yield problem(host, "io", "is no lawful aperture", 111)
+            yield problem(host, "io", f"is no lawful aperture{io_cause(io)}", 111)
         if min(mem) < 0 or not is_memory:
-            yield problem(host, "mem", "is no lawful aperture", 111)
+            high = ("too high, it ends above 0xffffffff", abs(mem[1]) < 1 << 32)
+            yield problem(host, "mem", f"is no lawful aperture{memory_cause(mem, high)}", 111)
         if pref is None:
             continue
         sides = pref[1] < 1 << 32 or pref[0] >= 1 << 32
         apart = abs(mem[1]) < pref[0] or pref[1] < abs(mem[0])
         if min(pref) < 0 or is_memory and not (is_of_units(1 << 20, *pref) and sides and apart):
-            yield problem(host, "pref", "is no lawful aperture, or meets mem", 111)
+            across = ("across 4 GB, it begins below 0x100000000 and ends above", sides)
+            why = memory_cause(pref, across, ("meets mem", apart))
+            yield problem(host, "pref", f"is no lawful aperture{why}", 111)
 
 
 def has_masks(values):
@@ -303,9 +358,11 @@ def mask_problems(every):
         if entry.kind == "config":
             begin, blocks = entry.values["off"], earlier.setdefault(entry.table, [])
             end = begin + entry.values["block"]
-            if any(begin < other_end and other < end for other, other_end in blocks):
-                yield problem(entry, "off", "overlaps an earlier block", 112)
-            blocks.append((begin, end))
+            met = [other for other in blocks if begin < other.values["off"] + other.values["block"]
+                   and other.values["off"] < end]
+            if met:
+                yield problem(entry, "off", "overlaps an earlier block", 112, met[0])
+            blocks.append(entry)
 
 
 CHECKS = [(102, key_problems), (103, unknown_keys), (104, number_problems), (108, count_problems),
@@ -313,15 +370,75 @@ CHECKS = [(102, key_problems), (103, unknown_keys), (104, number_problems), (108
           (110, slot_problems), (111, aperture_problems), (112, mask_problems)]
 
 
-def first_fault(text):
-    """The number of the first check that a file fails with all that breaks it, or 0 with nothing."""
+def range_of(value):
+    """The two addresses of an aperture, 0 for what is none."""
+    two = value if isinstance(value, list) and len(value) == 2 else [0, 0]
+    return [one if is_integer(one) else 0 for one in two]
+
+
+def read(kind, values):
+    """A table as later checks read it, whatever stands there: of a number that is none 0, of a list what has its type."""
+    said = {key: value for key, value in values.items() if isinstance(value, str) and key in TEXTS}
+    for key in NEEDED[kind] + OPTIONAL[kind]:
+        value = values.get(key)
+        if kind == "host":
+            said |= {key: range_of(value)} if key in values or key != "pref" else {}
+        elif key == "host":
+            said |= {key: read(key, value)} if isinstance(value, dict) else {}
+        elif key in {"endpoint", "bridge", "guest", "bar", "config"}:
+            said[key] = [read(key, one) for one in tables(values, key)]
+        elif key == "slots":
+            said[key] = [one for one in value if isinstance(one, str)] if isinstance(value, list) else []
+        elif (kind, key) in CHOICES:
+            said[key] = value if has_form(kind, key, value) else "io"
+        elif key not in TEXTS and (key in values or key in NEEDED[kind]):
+            said[key] = value if is_integer(value) else 0
+    return said
+
+
+ASKS = {"is the path of an earlier function": "functions", "leads through": "functions", "is in a device": "functions",
+        "is no path of an endpoint": "functions", "is the name of": "guests", "is in an earlier slot": "guests",
+        "a register": "parts", "overlaps": "parts"}
+
+
+def holders(name):
+    """The lists in which an entry stands: the entry that has each, and its key."""
+    parts = [part.split("[")[0] for part in name.split(".")]
+    return [] if name == "file" else [("file", parts[0])] + [(name.split(".")[0], part) for part in parts[1:]]
+
+
+def keeps_from(earlier, later):
+    """Whether an earlier problem keeps a rule from being asked."""
+    if earlier.entry == later.entry:
+        return True
+    is_of_form = earlier.number == 102
+    if is_of_form and (earlier.entry, earlier.key) in holders(later.entry):
+        return True
+    asks = next((asked for words, asked in ASKS.items() if later.words.startswith(words)), None)
+    is_of_lists = earlier.number in {102, 103} and earlier.entry == "file"
+    if asks == "functions":
+        return is_of_lists or earlier.key == "at"
+    if asks == "guests":
+        return is_of_lists or earlier.key in {"name", "slots"}
+    return asks == "parts" and earlier.entry.split(".")[0] == later.entry.split(".")[0]
+
+
+def all_faults(text):
+    """The number of the first check that a file fails with all that breaks it and what breaks later ones and needn't
+    wait, or 0 with nothing."""
     try:
         document = tomllib.loads(text)
     except tomllib.TOMLDecodeError:
         return 101, []
-    every = list(entries(document))
+    every, said, found = list(entries(document)), list(entries(read("", document))), []
     for number, check in CHECKS:
-        problems = list(check(every))
-        if problems:
-            return number, problems
-    return 0, []
+        if number == 112 and found:
+            break  # patterns are asked by their own check alone
+        problems = list(check(every if number < 104 else said))
+        found += [one for one in problems if number == 103 or not any(keeps_from(other, one) for other in found)]
+    return (found[0].number if found else 0), found
+
+
+def place_of(number):
+    """The place of a check in their order."""
+    return [one for one, _ in CHECKS].index(number)

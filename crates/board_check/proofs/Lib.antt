@@ -8,3 +8,5 @@ pub mod Refusals
 pub mod SortedDocuments
 pub mod KeyBreaks
 pub mod Asked
+pub mod Pushed
+pub mod Clear

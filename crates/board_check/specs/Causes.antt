@@ -1,14 +1,50 @@
 -- What is said of a problem beyond the words of its rule.
---     cause_text      what is said of an entry that breaks a rule at a key
-use Rattle.std.specs.Prelude.{ℕ, List, []}
-use Rattle.toml.specs.Data.{Members}
+--     path_cause_text      what is said of the path of a function
+--     own_text      what is said of an entry that breaks a rule at a key
+--     other_text      the earlier entry that has what it asks for, with its line
+--     cause_text      both
+use Rattle.std.specs.Prelude.{ℕ, List, [], ◌++◌, codes, Option, Some, None}
+use Rattle.std.specs.Option.{option_map_or}
+use Rattle.model_board.specs.Places.{Standing}
+use Rattle.board_file.specs.Entries.{File}
+use Rattle.board_file.specs.Functions.{standings}
 use Rattle.board_file.specs.declared.entry.Entry.{Entry}
 use Rattle.board_file.specs.declared.rule.Rule.{Rule}
 use Rattle.board_file.specs.declared.rule.Rule.TheVariants as rule
+use Rattle.board_check.specs.declared.lines.Other.{Other}
+use Rattle.board_check.specs.declared.lines.Told.{Told}
 use Rattle.board_check.specs.Keys.{level_of}
 use Rattle.board_check.specs.KeyCauses.{known_text, asked_text}
+use Rattle.board_check.specs.SizeCauses.{bar_text}
+use Rattle.board_check.specs.ApertureCauses.{first_words, io_parts, mem_parts, pref_text}
+use Rattle.board_check.specs.PathCauses.{path_form_text, bridge_text, zero_text}
+use Rattle.board_check.specs.Said.{bar_of, at_of}
+use Rattle.board_check.specs.Shown.{entry_text, in_line_text}
 
-abbrev pub cause_text : Members → Entry → Rule → List ℕ → List ℕ
-cause_text ms e rule.Known k = known_text (level_of e) k
-cause_text ms e rule.Form k = asked_text (level_of e) k
-cause_text ms e _ k = []
+abbrev pub at_text : List Standing → Rule → List ℕ → List ℕ
+at_text ss rule.Path at = path_form_text at
+at_text ss rule.BehindBridge at = bridge_text ss at
+at_text ss rule.FunctionZero at = zero_text at
+at_text ss _ at = []
+
+abbrev pub path_cause_text : File → Entry → Rule → List ℕ
+path_cause_text f e r = option_map_or (at_text (standings f) r) (at_of f e) []
+
+abbrev pub own_text : File → Entry → Rule → List ℕ → List ℕ
+own_text f e rule.Known k = known_text (level_of e) k
+own_text f e rule.Form k = asked_text (level_of e) k
+own_text f e rule.Size k = option_map_or bar_text (bar_of f e) []
+own_text f e rule.IoAperture k = first_words (io_parts f.io)
+own_text f e rule.MemAperture k = first_words (mem_parts f.mem)
+own_text f e rule.PrefAperture k = pref_text f.mem f.pref
+own_text f e rule.Path k = path_cause_text f e rule.Path
+own_text f e rule.BehindBridge k = path_cause_text f e rule.BehindBridge
+own_text f e rule.FunctionZero k = path_cause_text f e rule.FunctionZero
+own_text f e _ k = []
+
+abbrev pub other_text : Option Other → List ℕ
+other_text None = []
+other_text (Some o) = codes ": " ++ entry_text o.entry ++ in_line_text o.line
+
+abbrev pub cause_text : File → Told → List ℕ
+cause_text f t = own_text f t.problem.entry t.problem.rule t.problem.key.now ++ other_text t.other

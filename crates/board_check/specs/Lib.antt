@@ -1,9 +1,17 @@
 pub mod Rules
+pub mod Shown
+pub mod Said
 pub mod Keys
 pub mod KeyCauses
+pub mod SizeCauses
+pub mod ApertureCauses
+pub mod PathCauses
+pub mod Others
 pub mod Causes
 pub mod Problems
 pub mod ProblemLaws
+pub mod Spoiling
+pub mod AllProblems
 pub mod Lines
 pub mod Texts
 pub mod Telling

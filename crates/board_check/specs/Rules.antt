@@ -45,7 +45,7 @@ words_of rule.NamesEndpoint = codes "is no path of an endpoint"
 words_of rule.OwnSlot = codes "is in an earlier slot"
 words_of rule.IoAperture = codes "is no lawful aperture"
 words_of rule.MemAperture = codes "is no lawful aperture"
-words_of rule.PrefAperture = codes "is no lawful aperture, or meets mem"
+words_of rule.PrefAperture = codes "is no lawful aperture"
 words_of rule.OwnOffsets = codes "overlaps an earlier block"
 
 abbrev pub fault_words : BoardFault → List ℕ

@@ -2,9 +2,10 @@
 --     IsRefusalText name bytes fault text      a line for each of its problems, by their lines in the file; or one line,
 --                                              where the bytes are no document
 --     problem_of, found_in      the problem that is told
---     HasLine text ms told      its line, where there is one, is that of its value
+--     IsTold text ms f told      its line, where there is one, is that of its value, and so is the line of the other entry
 --     IsByLine found told      the same problems, in the order of their lines
-use Rattle.std.specs.Prelude.{◌≡◌, ◌≤◌, ◌⊎◌, ℕ, List, length, map, Option, Some, None, IfSome, IsUtf8, unwrap_or, IsPermutation}
+--     IsByCheck found told      the same problems, in the order of their checks
+use Rattle.std.specs.Prelude.{◌≡◌, ◌≤◌, ◌⊎◌, ℕ, List, length, map, option_map, Option, Some, None, IfSome, IsUtf8, unwrap_or, IsPermutation}
 use Rattle.std.specs.List.Sorted.{IsNonDecreasingBy, IsStableByKey}
 use Rattle.std.specs.Ordering.{nat_cmp}
 use Rattle.toml.specs.Data.{Members}
@@ -13,10 +14,15 @@ use Rattle.lists.specs.Elements.{Each}
 use Rattle.value_places.specs.LineNumbers.{line_of}
 use Rattle.board_file.specs.declared.fault.BoardFault.{BoardFault}
 use Rattle.board_file.specs.declared.finding.Problem.{Problem}
+use Rattle.board_file.specs.declared.entry.Entry.{Entry}
+use Rattle.board_file.specs.Entries.{File, file}
+use Rattle.board_check.specs.declared.lines.Other.{Other}
 use Rattle.board_check.specs.declared.lines.Told.{Told}
 use Rattle.board_check.specs.Lines.{IsLineOf}
+use Rattle.board_check.specs.Others.{other_of}
 use Rattle.board_file.specs.Problems.{Found, found_of}
-use Rattle.board_check.specs.Problems.{problems_of}
+use Rattle.board_file.specs.RuleFaults.{fault_of}
+use Rattle.board_check.specs.AllProblems.{all_problems, rank}
 use Rattle.board_check.specs.Texts.{bare_text, lines_text}
 
 abbrev pub problem_of : Told → Problem
@@ -25,8 +31,14 @@ problem_of t = t.problem
 abbrev pub found_in : Told → Found
 found_in t = found_of t.problem
 
-abbrev pub HasLine : List ℕ → Members → Told → Type 0
-HasLine text ms t = IfSome t.line (IsLineOf text ms t.problem.entry t.problem.key.now)
+abbrev pub entry_of : Other → Entry
+entry_of o = o.entry
+
+-- what is told beside a problem
+pub record IsTold (text : List ℕ) (ms : Members) (f : File) (t : Told) : Type 0 where
+  pub line : IfSome t.line (IsLineOf text ms t.problem.entry t.problem.key.now)
+  pub other : option_map entry_of t.other ≡ other_of f t.problem.entry t.problem.rule
+  pub other_line : IfSome t.other (λ o. IfSome o.line (IsLineOf text ms o.entry t.problem.key.now))
 
 -- the line of a problem, or 0 where none is known
 abbrev pub line_or_zero : Told → ℕ
@@ -38,15 +50,27 @@ pub record IsByLine (found told : List Told) : Type 0 where
   pub in_order : IsNonDecreasingBy line_or_zero told
   pub is_stable : IsStableByKey line_or_zero nat_cmp found told
 
--- all problems of the document in the order of its entries, and then in the order of their lines
+-- the place of the check that a problem is of
+abbrev pub rank_of : Told → ℕ
+rank_of t = rank (fault_of t.problem.rule)
+
+-- check after check, each in the order that it had
+pub record IsByCheck (found told : List Told) : Type 0 where
+  pub are_same : IsPermutation found told
+  pub in_order : IsNonDecreasingBy rank_of told
+  pub is_stable : IsStableByKey rank_of nat_cmp found told
+
+-- all problems that can be asked, first those of the fault, check after check and in each in the order of their lines
 pub record IsRefusal (name bytes : List ℕ) (fault : BoardFault) (text : List ℕ) : Type 0 where
   pub document : Members
   pub parsed : parse_document bytes ≡ Some document
   pub found : List Told
-  pub are_all : map found_in found ≡ problems_of document fault
-  pub have_lines : Each (HasLine bytes document) found
+  pub are_all : map found_in found ≡ all_problems document fault
+  pub have_lines : Each (IsTold bytes document (file document)) found
+  pub by_line : List Told
+  pub has_lines : IsByLine found by_line
   pub told : List Told
-  pub in_order : IsByLine found told
+  pub in_order : IsByCheck by_line told
   pub is_text : text ≡ lines_text name document fault told
 
 -- the line of some place in the text

@@ -1,11 +1,10 @@
 -- What is said of problems.
---     entry_text      where an entry stands in its file
 --     scalar_text      an integer or a text, as it was read
 --     place_text      an entry with its key, its value and its owner
 --     owner_text      the path of the function, or the name of the guest, that an entry belongs to
 --     problem_text      the line of a problem
 --     lines_text      all lines of a file that is refused
-use Rattle.std.specs.Prelude.{ℕ, ◌==◌, Bool, List, [], ◌∷◌, ◌++◌, length, codes, decimal, map, Option, Some, None, flat_map, if◌then◌else◌, nat_le, ◌&&◌, ◌||◌, option_and_then}
+use Rattle.std.specs.Prelude.{ℕ, ◌==◌, Bool, List, [], ◌∷◌, ◌++◌, length, codes, decimal, map, Option, Some, None, flat_map, if◌then◌else◌, ◌||◌, option_and_then}
 use Rattle.std.specs.Option.{option_map_or}
 use Rattle.std.specs.Fmt.{signed_decimal}
 use Rattle.toml.specs.Data.{Data, string, integer, Members, as_str}
@@ -13,34 +12,15 @@ use Rattle.board_file.specs.declared.fault.BoardFault.{BoardFault}
 use Rattle.board_file.specs.Faults.{number_of}
 use Rattle.board_file.specs.Texts.{same_text}
 use Rattle.board_file.specs.declared.entry.Entry.{Entry}
-use Rattle.board_file.specs.declared.entry.Entry.TheVariants as entry
-use Rattle.board_file.specs.declared.finding.Problem.{Problem}
+use Rattle.board_file.specs.Entries.{File, file}
 use Rattle.board_check.specs.declared.lines.Told.{Told}
 use Rattle.board_file.specs.RuleFaults.{fault_of}
 use Rattle.board_check.specs.Rules.{words_of, fault_words}
 use Rattle.board_check.specs.Keys.{value_at, owner_key, owner_of}
 use Rattle.board_check.specs.Causes.{cause_text}
+use Rattle.board_check.specs.Shown.{shown_byte, entry_text}
 
-abbrev pub nth_text : List ℕ → ℕ → List ℕ
-nth_text list i = list ++ codes "[" ++ decimal i ++ codes "]"
-
-abbrev pub inner_text : List ℕ → ℕ → List ℕ → ℕ → List ℕ
-inner_text outer i inner j = nth_text outer i ++ codes "." ++ nth_text inner j
-
-abbrev pub entry_text : Entry → List ℕ
-entry_text entry.File = codes "file"
-entry_text entry.Host = codes "host"
-entry_text (entry.Endpoint i) = nth_text (codes "endpoint") i
-entry_text (entry.Bar i j) = inner_text (codes "endpoint") i (codes "bar") j
-entry_text (entry.Config i j) = inner_text (codes "endpoint") i (codes "config") j
-entry_text (entry.Bridge i) = nth_text (codes "bridge") i
-entry_text (entry.Guest i) = nth_text (codes "guest") i
-entry_text (entry.Slot i j) = inner_text (codes "guest") i (codes "slots") j
-
--- 46 is a dot; other bytes than those of printable ASCII are written as ?, which is 63
-abbrev pub shown_byte : ℕ → ℕ
-shown_byte b = if nat_le 32 b && nat_le b 126 then b else 63
-
+-- 46 is a dot
 abbrev pub key_text : List ℕ → List ℕ
 key_text k = if length k == 0 then [] else 46 ∷ map shown_byte k
 
@@ -79,14 +59,14 @@ place_text ms e k =
     entry_text e ++ key_text k ++ scalar_text (value_at ms e k) ++ (if is_own_name k then [] else owner_text ms e)
 
 -- what is wrong, and why (N WORDS)
-abbrev pub said_text : Members → Problem → List ℕ
-said_text ms p = words_of p.rule ++ cause_text ms p.entry p.rule p.key.now ++ fault_text (fault_of p.rule)
+abbrev pub said_text : File → Told → List ℕ
+said_text f t = words_of t.problem.rule ++ cause_text f t ++ fault_text (fault_of t.problem.rule)
 
 -- FILE:LINE: ENTRY.KEY = VALUE of OWNER: what is wrong (N WORDS)
 abbrev pub problem_text : List ℕ → Members → Told → List ℕ
 problem_text name ms t =
     name ++ line_text t.line ++ codes ": " ++ place_text ms t.problem.entry t.problem.key.now ++ codes ": "
-    ++ said_text ms t.problem
+    ++ said_text (file ms) t
 
 -- of a fault of which no entry is told
 abbrev pub bare_text : List ℕ → Option ℕ → BoardFault → List ℕ

@@ -1,28 +1,110 @@
 //! What is said of a problem beyond the words of its rule.
-ghost use Rattle.std.specs.Prelude.{◌≡◌, ◌++◌, OnOk, string_bytes};
-ghost use Rattle.toml.specs.View.{table_view};
-ghost use Rattle.board_check.specs.Causes.{cause_text};
+ghost use Rattle.std.specs.Prelude.{◌≡◌, ◌++◌, [], OnOk, string_bytes};
+ghost use Rattle.std.specs.Option.{option_map_or};
+ghost use Rattle.board_file.specs.Functions.{standings};
+ghost use Rattle.board_check.specs.Causes.{path_cause_text, own_text, other_text, cause_text};
+ghost use Rattle.board_check.specs.Said.{bar_of};
+ghost use Rattle.board_check.specs.SizeCauses.{bar_text};
 
+use crate::aperture_causes::{io_words, mem_words, pref_words};
 use crate::key_causes::{push_asked, push_known};
 use crate::keys::level_of;
-use board_file::{Problem, Rule};
+use crate::lines::{Other, Told};
+use crate::path_causes::{push_bridge, push_path_form, push_zero};
+use crate::said::{at_of, bar_of};
+use crate::shown::{push_entry, push_in_line};
+use crate::size_causes::push_bar;
+use board_file::entries::FileEntries;
+use board_file::places::FunctionPath;
+use board_file::{Entry, Problem, Rule};
 use std::alloc::{AllocError, Global};
-use toml::Table;
 
-/// Appends what is said of a problem beyond the words of its rule.
-pub(crate) fn push_cause(
+/// Appends what is wrong with the size of the region of an entry.
+fn push_size(text: &mut String, file: &FileEntries<'_>, entry: Entry) -> Result<(), AllocError>
+    ensures { OnOk result (string_bytes text.new
+        ≡ string_bytes text.old ++ option_map_or bar_text (bar_of file.now entry) []) }
+{
+    match bar_of(file, entry) {
+        Some(bar) => push_bar(text, bar),
+        None => Ok(()),
+    }
+}
+
+/// Appends what is wrong with the path of a function.
+fn push_path(
     alloc: Global,
     text: &mut String,
-    _document: &Table,
+    file: &FileEntries<'_>,
+    functions: &[FunctionPath],
     problem: &Problem<'_>,
 ) -> Result<(), AllocError>
+    requires { functions.now ≡ standings file.now }
     ensures { let p = problem.now in OnOk result (string_bytes text.new
-        ≡ string_bytes text.old ++ cause_text (table_view _document.now) p.entry p.rule p.key.now) }
+        ≡ string_bytes text.old ++ path_cause_text file.now p.entry p.rule) }
+{
+    let Some(at) = at_of(file, problem.entry) else {
+        return Ok(());
+    };
+    match problem.rule {
+        Rule::Path => push_path_form(alloc, text, at),
+        Rule::BehindBridge => push_bridge(text, functions, at),
+        Rule::FunctionZero => push_zero(text, at),
+        _ => Ok(()),
+    }
+}
+
+/// Appends what is said of an entry that breaks a rule at a key.
+fn push_own(
+    alloc: Global,
+    text: &mut String,
+    file: &FileEntries<'_>,
+    functions: &[FunctionPath],
+    problem: &Problem<'_>,
+) -> Result<(), AllocError>
+    requires { functions.now ≡ standings file.now }
+    ensures { let p = problem.now in OnOk result (string_bytes text.new
+        ≡ string_bytes text.old ++ own_text file.now p.entry p.rule p.key.now) }
 {
     let level = level_of(problem.entry);
     match problem.rule {
         Rule::Known => push_known(alloc, text, level, problem.key),
         Rule::Form => push_asked(text, level, problem.key),
+        Rule::Size => push_size(text, file, problem.entry),
+        Rule::IoAperture => text.push_str(io_words(file.io)),
+        Rule::MemAperture => text.push_str(mem_words(file.mem)),
+        Rule::PrefAperture => text.push_str(pref_words(file.mem, file.pref)),
+        Rule::Path | Rule::BehindBridge | Rule::FunctionZero => {
+            push_path(alloc, text, file, functions, problem)
+        }
         _ => Ok(()),
     }
+}
+
+/// Appends the earlier entry that has what a problem's entry asks for itself.
+fn push_other(text: &mut String, other: Option<Other>) -> Result<(), AllocError>
+    ensures { OnOk result (string_bytes text.new ≡ string_bytes text.old ++ other_text other) }
+{
+    match other {
+        Some(other) => {
+            text.push_str(": ")?;
+            push_entry(text, other.entry)?;
+            push_in_line(text, other.line)
+        }
+        None => Ok(()),
+    }
+}
+
+/// Appends what is said of a problem beyond the words of its rule.
+pub(crate) fn push_cause(
+    alloc: Global,
+    text: &mut String,
+    file: &FileEntries<'_>,
+    functions: &[FunctionPath],
+    told: &Told<'_>,
+) -> Result<(), AllocError>
+    requires { functions.now ≡ standings file.now }
+    ensures { OnOk result (string_bytes text.new ≡ string_bytes text.old ++ cause_text file.now told.now) }
+{
+    push_own(alloc, text, file, functions, &told.problem)?;
+    push_other(text, told.other)
 }

@@ -6,10 +6,9 @@ ghost use Rattle.board_file.specs.Problems.{found_of};
 ghost use Rattle.board_check.specs.Problems.{with_endpoint, with_guest, entries_of, of_fields, of_members, asked, key_problems, problems_of, AddsWrong};
 
 use crate::keys::{key_keeps, level_of, table_at};
+use crate::source::Source;
 use board_file::entries::{EndpointEntry, FileEntries, GuestEntry};
 use board_file::keys::fields;
-use board_file::places::function_paths;
-use board_file::reading::read_entries;
 use board_file::{BoardFault, Entry, Problem, Rule};
 use std::alloc::{AllocError, Global};
 use toml::Table;
@@ -175,19 +174,17 @@ fn key_problems<'a>(
 
 /// All entries that break a rule whose fault this is, each with this rule and the key at which it is
 /// broken, in the order of the file.
-pub fn problems(
+pub(crate) fn problems<'a>(
     alloc: Global,
-    table: &Table,
+    source: &Source<'a>,
     fault: BoardFault,
-) -> Result<Vec<Problem<'_>>, AllocError>
-    ensures { IfOk result (λ v. map found_of v.items ≡ problems_of (table_view table.now) fault) }
+) -> Result<Vec<Problem<'a>>, AllocError>
+    ensures { IfOk result (λ v. map found_of v.items ≡ problems_of (table_view source.now.document.now) fault) }
 {
-    let file = read_entries(alloc, table)?;
     match fault {
-        BoardFault::Key | BoardFault::UnknownKey => key_problems(alloc, table, &file, fault),
-        _ => {
-            let functions = function_paths(alloc, &file)?;
-            board_file::problems(alloc, &file, &functions, fault)
+        BoardFault::Key | BoardFault::UnknownKey => {
+            key_problems(alloc, source.document, &source.file, fault)
         }
+        _ => board_file::problems(alloc, &source.file, &source.functions, fault),
     }
 }

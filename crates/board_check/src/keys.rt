@@ -104,7 +104,7 @@ pub(crate) fn value_at<'v>(document: &'v Table, entry: Entry, key: &str) -> Opti
 }
 
 /// The function or guest that an entry belongs to.
-fn owner_of(entry: Entry) -> Entry
+pub(crate) fn owner_of(entry: Entry) -> Entry
     ensures { result ≡ owner_of entry }
 {
     match entry {

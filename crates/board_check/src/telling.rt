@@ -2,12 +2,13 @@
 ghost use Rattle.std.specs.Prelude.{◌≡◌, ◌++◌, IfOk, IfSome, OnOk, Some, string_bytes};
 ghost use Rattle.toml.specs.View.{table_view};
 ghost use Rattle.board_check.specs.Texts.{bare_text, lines_text};
-ghost use Rattle.board_check.specs.Telling.{IsRefusalText, IsRefusal, IsLineIn, IsByLine};
+ghost use Rattle.board_check.specs.Telling.{IsRefusalText, IsRefusal, IsLineIn, IsByLine, IsByCheck, rank_of};
 ghost use Rattle.toml.specs.Errors.{IsWithin};
 ghost use Rattle.toml.specs.Parse.{parse_document};
 
-use crate::finding::problems;
+use crate::all_problems::{all_problems, rank};
 use crate::lines::{Told, with_lines};
+use crate::source::Source;
 use crate::texts::{push_bare, push_lines};
 use board_file::BoardFault;
 use std::alloc::{AllocError, Global};
@@ -49,6 +50,21 @@ fn sort_by_line(told: &mut Vec<Told<'_>>) -> Result<(), AllocError>
     Ok(())
 }
 
+/// The place of the check that a problem is of.
+fn rank_of(told: &Told<'_>) -> usize
+    ensures { result ≡ rank_of told.now }
+{
+    rank(told.problem.rule.fault())
+}
+
+/// Puts the problems in the order of their checks. Those of one check keep their order.
+fn sort_by_check(told: &mut Vec<Told<'_>>) -> Result<(), AllocError>
+    ensures { OnOk result (IsByCheck told.old.items told.new.items) }
+{
+    told.sort_by_key(|one| rank_of(one))?;
+    Ok(())
+}
+
 /// The lines of a document that is refused.
 fn refusal(
     alloc: Global,
@@ -60,18 +76,21 @@ fn refusal(
     requires { parse_document bytes.now ≡ Some (table_view document.now) }
     ensures { IfOk result (λ t. IsRefusal name.now bytes.now fault (string_bytes t)) }
 {
-    let problems = problems(alloc, document, fault)?;
+    let source = Source::new(alloc, document)?;
+    let problems = all_problems(alloc, &source, fault)?;
     let places = Places::new(alloc, bytes, document)?;
-    let mut told = with_lines(alloc, &places, &problems)?;
+    let mut told = with_lines(alloc, &places, &source.file, &problems)?;
     sort_by_line(&mut told)?;
+    sort_by_check(&mut told)?;
     let mut text = String::new(alloc);
-    push_lines(alloc, &mut text, name, document, fault, &told)?;
+    push_lines(alloc, &mut text, name, &source, fault, &told)?;
     Ok(text)
 }
 
 /// What is told of a board file that is refused with this fault: a line for each entry that breaks a
-/// rule with this fault, in the order of their lines in the file, or one line where none is known or
-/// the bytes are no document. `name` is what the file is called.
+/// rule with this fault, and then for those that break a rule of a later check and wait for no earlier
+/// problem; check after check, in each in the order of their lines in the file. It is one line where none
+/// is known or the bytes are no document. `name` is what the file is called.
 pub fn refusal_text(
     alloc: Global,
     name: &str,

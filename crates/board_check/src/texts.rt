@@ -1,15 +1,17 @@
 //! What is said of problems.
-ghost use Rattle.std.specs.Prelude.{◌≡◌, ◌<◌, ◌++◌, ◌∷◌, [], OnOk, map, option_map, string_bytes};
+ghost use Rattle.std.specs.Prelude.{◌≡◌, ◌++◌, OnOk, option_map, string_bytes};
 ghost use Rattle.std.specs.List.{flat_map};
 ghost use Rattle.toml.specs.View.{view, table_view};
 ghost use Rattle.board_check.specs.Rules.{fault_words};
-ghost use Rattle.board_check.specs.Texts.{nth_text, inner_text, entry_text, shown_byte, key_text, line_text, fault_text, quoted_text, data_text, scalar_text, name_text, is_own_name, place_text, said_text, problem_text, bare_text, count_text, lines_text};
+ghost use Rattle.board_check.specs.Texts.{key_text, line_text, fault_text, quoted_text, data_text, scalar_text, name_text, is_own_name, place_text, said_text, problem_text, bare_text, count_text, lines_text};
 
 use crate::causes::push_cause;
 use crate::keys::{owner_name, value_at};
 use crate::lines::Told;
+use crate::shown::{push_entry, push_shown};
+use crate::source::Source;
 use crate::words::rule_words;
-use board_file::{BoardFault, Entry, Problem};
+use board_file::{BoardFault, Entry};
 use std::alloc::{AllocError, Global};
 use toml::Table;
 use toml::value::Value;
@@ -33,71 +35,6 @@ pub fn fault_words(fault: BoardFault) -> &'static str
         BoardFault::CellMasks => "cell masks",
         BoardFault::Memory => "memory",
     }
-}
-
-/// Appends an item of a list.
-fn push_nth(text: &mut String, list: &str, index: usize) -> Result<(), AllocError>
-    ensures { OnOk result (string_bytes text.new ≡ string_bytes text.old ++ nth_text list.now index) }
-{
-    write!(text, "{list}[{index}]")
-}
-
-/// Appends an item of a list in an item of another.
-fn push_inner(
-    text: &mut String,
-    outer: &str,
-    i: usize,
-    inner: &str,
-    j: usize,
-) -> Result<(), AllocError>
-    ensures { OnOk result (string_bytes text.new ≡ string_bytes text.old ++ inner_text outer.now i inner.now j) }
-{
-    write!(text, "{outer}[{i}].{inner}[{j}]")
-}
-
-/// Appends where an entry stands.
-fn push_entry(text: &mut String, entry: Entry) -> Result<(), AllocError>
-    ensures { OnOk result (string_bytes text.new ≡ string_bytes text.old ++ entry_text entry) }
-{
-    match entry {
-        Entry::File => text.push_str("file"),
-        Entry::Host => text.push_str("host"),
-        Entry::Endpoint(i) => push_nth(text, "endpoint", i),
-        Entry::Bar(i, j) => push_inner(text, "endpoint", i, "bar", j),
-        Entry::Config(i, j) => push_inner(text, "endpoint", i, "config", j),
-        Entry::Bridge(i) => push_nth(text, "bridge", i),
-        Entry::Guest(i) => push_nth(text, "guest", i),
-        Entry::Slot(i, j) => push_inner(text, "guest", i, "slots", j),
-    }
-}
-
-/// The character that is shown for a byte.
-fn shown_byte(byte: u8) -> char
-    ensures value { result ≡ shown_byte byte }
-    ensures ascii { result < 128 }
-{
-    if 32 <= byte && byte <= 126 {
-        char::from(byte)
-    } else {
-        '?'
-    }
-}
-
-/// Appends a byte as it is shown.
-fn push_byte(text: &mut String, byte: u8) -> Result<(), AllocError>
-    ensures { OnOk result (string_bytes text.new ≡ string_bytes text.old ++ shown_byte byte ∷ []) }
-{
-    text.push(shown_byte(byte))
-}
-
-/// Appends the bytes as they are shown.
-fn push_shown(text: &mut String, bytes: &[u8]) -> Result<(), AllocError>
-    ensures { OnOk result (string_bytes text.new ≡ string_bytes text.old ++ map shown_byte bytes.now) }
-{
-    'bytes: for byte in bytes {
-        push_byte(text, *byte)?;
-    }
-    Ok(())
 }
 
 /// Appends a key, where there is one.
@@ -210,15 +147,14 @@ fn push_place(
 fn push_said(
     alloc: Global,
     text: &mut String,
-    document: &Table,
-    problem: &Problem<'_>,
+    source: &Source<'_>,
+    told: &Told<'_>,
 ) -> Result<(), AllocError>
-    ensures { OnOk result (string_bytes text.new
-        ≡ string_bytes text.old ++ said_text (table_view document.now) problem.now) }
+    ensures { OnOk result (string_bytes text.new ≡ string_bytes text.old ++ said_text source.now.file told.now) }
 {
-    text.push_str(rule_words(problem.rule))?;
-    push_cause(alloc, text, document, problem)?;
-    push_fault(text, problem.rule.fault())
+    text.push_str(rule_words(told.problem.rule))?;
+    push_cause(alloc, text, &source.file, &source.functions, told)?;
+    push_fault(text, told.problem.rule.fault())
 }
 
 /// Appends the line of a problem.
@@ -226,18 +162,18 @@ fn push_problem(
     alloc: Global,
     text: &mut String,
     name: &str,
-    document: &Table,
+    source: &Source<'_>,
     told: &Told<'_>,
 ) -> Result<(), AllocError>
     ensures { OnOk result (string_bytes text.new
-        ≡ string_bytes text.old ++ problem_text name.now (table_view document.now) told.now) }
+        ≡ string_bytes text.old ++ problem_text name.now (table_view source.now.document.now) told.now) }
 {
     text.push_str(name)?;
     push_line(text, told.line)?;
     text.push_str(": ")?;
-    push_place(text, document, told.problem.entry, told.problem.key)?;
+    push_place(text, source.document, told.problem.entry, told.problem.key)?;
     text.push_str(": ")?;
-    push_said(alloc, text, document, &told.problem)
+    push_said(alloc, text, source, told)
 }
 
 /// Appends the lines of problems.
@@ -245,14 +181,14 @@ fn push_problems(
     alloc: Global,
     text: &mut String,
     name: &str,
-    document: &Table,
+    source: &Source<'_>,
     told: &[Told<'_>],
 ) -> Result<(), AllocError>
     ensures { OnOk result (string_bytes text.new
-        ≡ string_bytes text.old ++ flat_map (problem_text name.now (table_view document.now)) told.now) }
+        ≡ string_bytes text.old ++ flat_map (problem_text name.now (table_view source.now.document.now)) told.now) }
 {
     for one in told {
-        push_problem(alloc, text, name, document, one)?;
+        push_problem(alloc, text, name, source, one)?;
     }
     Ok(())
 }
@@ -285,16 +221,16 @@ pub(crate) fn push_lines(
     alloc: Global,
     text: &mut String,
     name: &str,
-    document: &Table,
+    source: &Source<'_>,
     fault: BoardFault,
     told: &[Told<'_>],
 ) -> Result<(), AllocError>
     ensures { OnOk result (string_bytes text.new
-        ≡ string_bytes text.old ++ lines_text name.now (table_view document.now) fault told.now) }
+        ≡ string_bytes text.old ++ lines_text name.now (table_view source.now.document.now) fault told.now) }
 {
     if told.is_empty() {
         return push_bare(text, name, None, fault);
     }
-    push_problems(alloc, text, name, document, told)?;
+    push_problems(alloc, text, name, source, told)?;
     push_count(text, told.len())
 }

@@ -39,8 +39,7 @@ pub(crate) fn rule_words(rule: Rule) -> &'static str
         Rule::OwnName => "is the name of an earlier guest",
         Rule::NamesEndpoint => "is no path of an endpoint",
         Rule::OwnSlot => "is in an earlier slot",
-        Rule::IoAperture | Rule::MemAperture => "is no lawful aperture",
-        Rule::PrefAperture => "is no lawful aperture, or meets mem",
+        Rule::IoAperture | Rule::MemAperture | Rule::PrefAperture => "is no lawful aperture",
         Rule::OwnOffsets => "overlaps an earlier block",
     }
 }

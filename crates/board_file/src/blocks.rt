@@ -10,7 +10,7 @@ use hex::FromHexError;
 use std::alloc::{AllocError, Global};
 
 /// The bytes of hexadecimal text of 1 to `len` bytes.
-fn pattern(alloc: Global, text: &str, len: usize) -> Result<Option<Vec<u8>>, AllocError>
+pub fn pattern(alloc: Global, text: &str, len: usize) -> Result<Option<Vec<u8>>, AllocError>
     ensures { IfOk result (λ found. option_map (λ v. v.items) found ≡ pattern len text.now) }
 {
     match hex::decode(alloc, text.as_bytes()) {
@@ -27,7 +27,7 @@ fn pattern(alloc: Global, text: &str, len: usize) -> Result<Option<Vec<u8>>, All
 }
 
 /// The bytes of a pattern, a zero byte where it is absent.
-fn pattern_bytes(
+pub fn pattern_bytes(
     alloc: Global,
     text: Option<&str>,
     len: usize,
@@ -117,7 +117,7 @@ fn ends_before(first: &ConfigEntry<'_>, second: &ConfigEntry<'_>) -> bool
 }
 
 /// Whether the two don't overlap.
-fn are_apart(one: &ConfigEntry<'_>, other: &ConfigEntry<'_>) -> bool
+pub fn are_apart(one: &ConfigEntry<'_>, other: &ConfigEntry<'_>) -> bool
     ensures { result ≡ are_apart one.now other.now }
 {
     ends_before(one, other) || ends_before(other, one)

@@ -3,7 +3,7 @@
 #![tactic(auto)]
 
 mod apertures;
-mod blocks;
+pub mod blocks;
 mod board;
 mod building;
 pub mod entries;

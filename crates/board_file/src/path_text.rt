@@ -72,7 +72,7 @@ fn push_parts(path: &mut Path, text: &[u8], room: usize) -> bool
 
 /// The path that a text is: 1 to 16 parts with slashes between them, each a device from 0 to 15, a
 /// dot and a function from 0 to 7, without leading zeros.
-fn path_of(text: &[u8]) -> Option<Path>
+pub fn path_of(text: &[u8]) -> Option<Path>
     ensures { result ≡ path_of text.now }
 {
     match part_at_front(text) {
@@ -143,7 +143,7 @@ impl<'a> PathText<'a> {
 }
 
 /// Whether two texts are the same path. It copies neither, since it is asked of each pair of functions.
-pub(crate) fn are_same_place(one: &PathText<'_>, other: &PathText<'_>) -> bool
+pub fn are_same_place(one: &PathText<'_>, other: &PathText<'_>) -> bool
     ensures { result ≡ are_same_place one.now other.now }
 {
     match &one.path {

@@ -130,14 +130,14 @@ pub(crate) fn is_behind_bridge(functions: &[FunctionPath], bus: &[Part]) -> bool
 }
 
 /// Whether a function stands at the path.
-pub(crate) fn has_path(functions: &[FunctionPath], path: &Path) -> bool
+pub fn has_path(functions: &[FunctionPath], path: &Path) -> bool
     ensures { result ≡ has_path functions.now path.now }
 {
     functions.iter().any(|function| function.path == *path)
 }
 
 /// Whether a bridge stands at the path.
-fn has_bridge(functions: &[FunctionPath], path: &Path) -> bool
+pub fn has_bridge(functions: &[FunctionPath], path: &Path) -> bool
     ensures { result ≡ has_bridge functions.now path.now }
 {
     functions

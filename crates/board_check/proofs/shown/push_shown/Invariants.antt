@@ -1,6 +1,6 @@
 use Rattle.std.proofs.Common.{◌≡◌, ◌++◌, map, drop, string_bytes}
-use Rattle.board_check.specs.Texts.{shown_byte}
-use Rattle.board_check.proofs.texts.push_shown.Given as goal
+use Rattle.board_check.specs.Shown.{shown_byte}
+use Rattle.board_check.proofs.shown.push_shown.Given as goal
 
 abbrev pub invariant-bytes : goal.invariant-bytes
 invariant-bytes l =

@@ -1,0 +1,37 @@
+//! What a file says of an entry.
+ghost use Rattle.std.specs.Prelude.{◌≡◌, option_map};
+ghost use Rattle.board_check.specs.Said.{bar_of, at_of};
+
+use board_file::Entry;
+use board_file::entries::{BarEntry, FileEntries};
+use board_file::path_text::PathText;
+
+/// The region of an entry.
+pub(crate) fn bar_of<'f, 'a>(file: &'f FileEntries<'a>, entry: Entry) -> Option<&'f BarEntry<'a>>
+    ensures { option_map (λ b. b.now) result ≡ bar_of file.now entry }
+{
+    match entry {
+        Entry::Bar(i, j) => match file.endpoints.get(i) {
+            Some(endpoint) => endpoint.bars.get(j),
+            None => None,
+        },
+        _ => None,
+    }
+}
+
+/// The text of the path of a function.
+pub(crate) fn at_of<'f, 'a>(file: &'f FileEntries<'a>, entry: Entry) -> Option<&'f PathText<'a>>
+    ensures { option_map (λ a. a.now) result ≡ at_of file.now entry }
+{
+    match entry {
+        Entry::Endpoint(i) => match file.endpoints.get(i) {
+            Some(endpoint) => Some(&endpoint.at),
+            None => None,
+        },
+        Entry::Bridge(i) => match file.bridges.get(i) {
+            Some(bridge) => Some(&bridge.at),
+            None => None,
+        },
+        _ => None,
+    }
+}
