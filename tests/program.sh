@@ -122,6 +122,75 @@ for wanted_run in *.run; do
   ends_with "run $example over $board" run "$boards/$board" < "$boards/$example"
 done
 
+# ---- rows: the files of tests/rows
+# A section begins with '== run BOARD: TITLE' or '== firmware BOARD: TITLE' and has rows 'LINE -> REPLY', of one script; or
+# with '== list BOARD: TITLE' and has rows 'OLD | NEW | FAULT', each of a board that is refused. NEW stands in the place
+# where OLD stood first in the board's file, as it does after a row 'with OLD | NEW' for the whole section. A board lies in
+# tests/rows or among the examples; where the guests of the board are in a file BOARD.guests, lone guests answer its scripts too.
+lone=$top/crates/lone_answers/out/lone_answers
+
+# put OLD NEW FROM TO: one text in the place of another
+put() {
+  local text; text=$(< "$3")
+  [[ $text == *"$1"* ]] || { failed=$((failed + 1)); echo "FAILED: $section: no '$1' in $board"; }
+  printf '%s\n' "${text/"$1"/"$2"}" > "$4"
+}
+
+# begin 'VERB BOARD: TITLE'
+begin() {
+  verb=${1%% *} board=${1#* } section=$file:${1#*:}
+  board=${board%%:*}
+  if [ -e "$top/tests/rows/$board" ]; then cp "$top/tests/rows/$board" asked.toml; else cp "$boards/$board" asked.toml; fi
+  guests=$top/tests/rows/${board%.toml}.guests
+  : > lines; : > replies; : > lone_replies
+}
+
+# one row of a section
+take() {
+  local line=${1%% -> *} reply=${1##* -> }
+  if [[ $1 =~ ^with\ ([^|]*)\ \|\ ?([^|]*)$ ]]; then
+    put "${BASH_REMATCH[1]}" "${BASH_REMATCH[2]}" asked.toml asked.toml
+    guests=
+  elif [[ $1 =~ ^([^|]*)\ \|\ ?([^|]*)\ \|\ ([^|]*)$ ]]; then
+    put "${BASH_REMATCH[1]}" "${BASH_REMATCH[2]}" asked.toml changed.toml
+    fails_with "$section, ${BASH_REMATCH[2]}" "${BASH_REMATCH[3]}" list changed.toml < /dev/null
+  elif [[ $1 == *' -> '* ]]; then
+    echo "${line%"${line##*[! ]}"}" >> lines
+    echo "$reply" >> replies
+    # what the host reads, no lone guest answers
+    [[ $line == 'host '[cim]'r '* ]] || echo "$reply" >> lone_replies
+  else
+    failed=$((failed + 1))
+    echo "FAILED: $section: a row of no form: $1"
+  fi
+}
+
+# the end of a section
+finish() {
+  [ -s lines ] || return 0
+  cp replies wanted.out
+  ends_with "$section" "$verb" asked.toml < lines
+  if [ -x "$lone" ] && [ -n "$guests" ] && [ -e "$guests" ]; then
+    timeout 60 "$lone" "$guests" < lines > out 2> err; status=$?
+    cp lone_replies wanted.out; : > wanted.err; wanted=0
+    tell "$section, by lone guests"
+  fi
+  : > lines
+}
+
+: > lines
+for file in "$top"/tests/rows/*.rows; do
+  rows=$file file=rows/${file##*/}
+  while IFS= read -r row; do
+    case $row in
+      '' | '#'*) ;;
+      '== '*) finish; begin "${row#== }" ;;
+      *) take "$row" ;;
+    esac
+  done < "$rows"
+  finish
+done
+
 # ---- run: guests, a move, and what the host sees
 cat > run.script <<'END'
 # a guest programs its function, and another is given it
@@ -175,6 +244,8 @@ fails_with 'run, no such file' '702 board file' run nothing.toml < run.script
 cp firmware.script@main.toml.asked wanted.out
 ends_with 'firmware' firmware "$boards/main.toml" < "$boards/firmware.script"
 full 'firmware' firmware "$boards/main.toml" < "$boards/firmware.script"
+printf 'host: %s\n' 0xffffffff ok ok 0x00031234 ok ok 0xffffffff ok ok ok ok 0x00000000 ok ok ok 0x00000000 > wanted.out
+ends_with 'firmware, a bridge and its window' firmware "$boards/main.toml" < "$boards/bridge.script"
 : > wanted.out
 ends_with 'firmware, a board that does not fit' firmware "$boards/memory_pool.toml" < /dev/null
 echo '?: refused 402 unknown guest' > wanted.out
@@ -182,6 +253,29 @@ ends_with 'firmware, a line of a guest of the file' firmware "$boards/main.toml"
 fails_with 'firmware, a faulty file' '107 size' firmware "$boards/size.toml" < "$boards/firmware.script"
 fails_with 'firmware, no such file' '702 board file' firmware nothing.toml < /dev/null
 fails_with 'firmware, standard input closed' '501 read failed' firmware "$boards/main.toml" <&-
+
+# ---- audit: firmware's lines, answered as by firmware, and then what is wrong; what is broken on purpose stands in
+# examples/audit, and tests/commands.sh runs it
+{ cat firmware.script@main.toml.asked; echo 'audit: ok'; } > wanted.out
+ends_with 'audit' audit "$boards/main.toml" < "$boards/firmware.script"
+ends_with 'audit, its lines in two pieces' audit "$boards/main.toml" \
+  < <(head -c 300 "$boards/firmware.script"; sleep 0.2; tail -c +301 "$boards/firmware.script")
+full 'audit' audit "$boards/main.toml" < "$boards/firmware.script"
+full 'audit, without a line' audit "$boards/main.toml" < /dev/null
+echo 'audit: ok' > wanted.out
+ends_with 'audit, no function at all' audit "$boards/host_alone.toml" < /dev/null
+cat > wanted.out <<'END'
+audit: 2.0/0.0: a cycle for 00:00.0 reaches nothing
+audit: 2.0/1.0: a cycle for 00:01.0 reaches 1.0
+audit: 2 problems
+END
+ends_with 'audit, a board at reset' audit "$boards/main.toml" < /dev/null
+{ echo 'host: ok'; cat wanted.out; } > wanted.more; mv wanted.more wanted.out
+ends_with 'audit, a last line without a line feed' audit "$boards/main.toml" < <(printf 'host mw 0 4 1')
+ends_with 'audit, a register that routes nothing' audit "$boards/main.toml" <<< 'host cw 00:02.0 0x18 1 7'
+fails_with 'audit, a faulty file' '107 size' audit "$boards/size.toml" < /dev/null
+fails_with 'audit, no such file' '702 board file' audit nothing.toml < /dev/null
+fails_with 'audit, standard input closed' '501 read failed' audit "$boards/main.toml" <&-
 
 # ---- run: lines at the ends of what a line may say
 longest=$(printf '%190s' '')
@@ -191,6 +285,7 @@ longest=$(printf '%190s' '')
   printf 'a ir 0x100000000 4\na cr 0 254 4\na cw 0 4 2 0x100000000\na cw 0 0x3c 1 0x1ff\na cr 0 0x3c 1\n'
   printf 'a cr 0X0 00 4\na cr +0 0 4\na cr 0x 0 4\na \377\n\377\n\000\n\ta cr 0 0 4\r\n   \r\n'
   printf 'a cr 0 0 4%s\na cr 0 0 4%s \n' "$longest" "$longest"
+  printf '#%199s\n\n#%200s\na cr 0 0' '' ''
 } > ends.script
 cat > wanted.out <<'END'
 a: ok
@@ -213,6 +308,8 @@ a: refused 401 bad line
 a: 0x00011234
 a: 0x00011234
 ?: refused 403 long line
+?: refused 403 long line
+a: refused 401 bad line
 END
 ends_with 'run, lines at the ends of what they may say' run "$boards/main.toml" < ends.script
 
@@ -288,6 +385,7 @@ fails_with 'no word' "$usage"
 fails_with 'list alone' "$usage" list
 fails_with 'run alone' "$usage" run
 fails_with 'firmware alone' "$usage" firmware
+fails_with 'audit alone' "$usage" audit
 fails_with 'a word too many for list' "$usage" list "$boards/main.toml" y
 fails_with 'a word too many for demo' "$usage" demo demo
 fails_with 'an unknown word' "$usage" x

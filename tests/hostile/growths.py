@@ -7,9 +7,10 @@ import collections
 import struct
 import sys
 
-from harness import DATA, LARGEST, MAIN, PLACES, Room, fault_line
+from harness import AUDIT, DATA, LARGEST, MAIN, PLACES, Room, fault_line
 
 SCRIPTS = ["guest.script", "two_guests.script", "raise.script", "host.script", "ports.script", "move.script"]
+BROKEN = ["set_up", "limit_short", "half_base", "same_secondary"]
 
 
 def counts_of(room, words, script):
@@ -67,6 +68,7 @@ def long_scripts():
 def main(program, largest):
     room = Room(program, "growths refused")
     every = b"".join(content + b"\n" for _, content in long_scripts()[:-2])
+    broken = b"".join((AUDIT / f"{name}.script").read_bytes() for name in BROKEN)
     memory = [199, 299, 702, 799]
     for mode in ["onward", "once"]:
         refuse_each(room, "demo", ["demo"], (DATA / "guest.script").read_bytes(), [199, 299, 799], mode)
@@ -75,6 +77,7 @@ def main(program, largest):
         refuse_each(room, "check, many places", ["check", PLACES], b"", memory, mode, "105")
         refuse_each(room, "run, main board, empty script", ["run", MAIN], b"", memory, mode)
         refuse_each(room, "run, main board", ["run", MAIN], every, memory, mode)
+        refuse_each(room, "audit, broken", ["audit", AUDIT / "board.toml"], broken, memory, mode)
         if largest:
             refuse_each(room, "list, largest board", ["list", LARGEST], b"", memory, mode)
             refuse_each(room, "run, largest board", ["run", LARGEST], every, memory, mode)

@@ -7,6 +7,7 @@ from pathlib import Path
 HERE = Path(__file__).resolve().parent
 TOP = HERE.parent.parent
 DATA = TOP / "crates" / "examples" / "data"
+AUDIT = TOP / "examples" / "audit"
 MAIN = str(DATA / "main.toml")
 LARGEST = str(DATA / "largest.toml")
 PLACES = str(DATA / "many_places.toml")

@@ -1,10 +1,12 @@
 //! A board that firmware drives.
-ghost use Rattle.std.specs.Prelude.{◌≡◌, ◌≢◌, ◌<◌, ◌≤◌, ◌||◌, Some, false, not, IfOk, IfErr};
+ghost use Rattle.std.specs.Prelude.{◌≡◌, ◌≢◌, ◌<◌, ◌≤◌, ◌||◌, Some, false, not, IfOk, IfErr, length, string_bytes};
 ghost use Rattle.std.specs.Bool.{OnTrue};
 ghost use Rattle.model_registers.specs.DeclarationRules.{first_broken};
 ghost use Rattle.model_set_up.specs.SetUpWrites.{set_up_rules};
 ghost use Rattle.model_guests.specs.Accesses.{reads, writes};
 ghost use Rattle.model_guests.specs.World.{World};
+ghost use Rattle.model_audit.specs.AuditText.{audit};
+ghost use Rattle.model_audit.specs.Problems.{problems};
 ghost use Rattle.model_firmware.specs.HostAccesses.{answer};
 ghost use Rattle.model_firmware.specs.FirmwareLines.{line_output};
 ghost use Rattle.accesses.specs.Accesses.{reply_of};
@@ -17,15 +19,24 @@ ghost use Rattle.simulation.specs.Listing.{Declares, Refuses};
 ghost use Rattle.simulation.specs.Running.{IsOpened};
 ghost use Rattle.driven_board.specs.Boards.{IsResetBoard, after_read, after_write, after_line};
 
+use audit_text::problems_text;
+use board_audit::problems;
 use board_file::{BoardFault, read_board};
 use firmware::{Host, HostAccess, Reply};
 use lines::LineText;
 use simulation::{Fault, Monitor};
-use std::alloc::Global;
+use std::alloc::{AllocError, Global};
 use std::marker::Model;
 
 /// What a line writes whose write was done.
 const OK_LINE: &[u8] = b"host: ok\n";
+
+/// What is wrong in the registers of a board: its text, and how many problems there are.
+#[derive(Drop)]
+pub struct Audit {
+    pub text: String,
+    pub problems: usize,
+}
 
 /// The board that a board file declares, from reset on, with the bytes of the file. Whether a write was
 /// done since reset is kept, so that our own set-up runs on a board at reset alone.
@@ -123,5 +134,20 @@ impl Board {
         ensures faults { IfErr result (λ f. number_of f ≤ 299) }
     {
         simulation::open(alloc, &self.file)
+    }
+
+    /// All that is wrong in the registers as they stand, whoever wrote them. Nothing changes, also where memory
+    /// is out.
+    pub fn audit(&mut self, alloc: Global) -> Result<Audit, AllocError>
+        ensures text { IfOk result (λ a. string_bytes a.text ≡ audit self.old.host.state.functions) }
+        ensures problems { IfOk result (λ a. a.problems ≡ length (problems self.old.host.state.functions)) }
+        ensures after { self.new ≡ self.old }
+    {
+        let found = problems(alloc, &mut self.host)?;
+        let text = problems_text(alloc, &found)?;
+        Ok(Audit {
+            text,
+            problems: found.len(),
+        })
     }
 }

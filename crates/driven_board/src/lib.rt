@@ -3,5 +3,5 @@
 
 mod board;
 
-pub use board::Board;
+pub use board::{Audit, Board};
 pub use firmware::{HostAccess, Reply};

@@ -87,29 +87,30 @@ enters_one a ws asks h =
     (right_true (walk_passes a.top (names_of a) (walk_from nothing_held) ws) _ level)) in
     required_is_there a.top.subcommand_required has asks (left_true (not a.top.subcommand_required || has) _ (right_true (not a.top.arg_required_else_help || (has || list_any (λ r. explicit_source r.source) (finished a.top.rules end))) _ valid))
 
-one_of : (d l k r f : Shape) (t u x v y : Bool) (ws : List (List ℕ)) (n : List ℕ)
-    → Some n ≡ option_map (λ (q : List ℕ × List Row). q.0) (option_map (λ (s : Shape). rows_at s ws) (cond t (Some d) (cond u (Some l) (cond x (Some k) (cond v (Some r) (cond y (Some f) None))))))
-    → (n ≡ d.name) ⊎ ((n ≡ l.name) ⊎ ((n ≡ k.name) ⊎ ((n ≡ r.name) ⊎ (n ≡ f.name))))
-one_of d l k r f true u x v y ws n h = inl (let same : n ≡ d.name = cc in same)
-one_of d l k r f false true x v y ws n h = inr (inl (let same : n ≡ l.name = cc in same))
-one_of d l k r f false false true v y ws n h = inr (inr (inl (let same : n ≡ k.name = cc in same)))
-one_of d l k r f false false false true y ws n h = inr (inr (inr (inl (let same : n ≡ r.name = cc in same))))
-one_of d l k r f false false false false true ws n h = inr (inr (inr (inr (let same : n ≡ f.name = cc in same))))
-one_of d l k r f false false false false false ws n h = absurd (let wrong : Some n ≡ None = h in cc)
+one_of : (d l k r f a : Shape) (t u x v y z : Bool) (ws : List (List ℕ)) (n : List ℕ)
+    → Some n ≡ option_map (λ (q : List ℕ × List Row). q.0) (option_map (λ (s : Shape). rows_at s ws) (cond t (Some d) (cond u (Some l) (cond x (Some k) (cond v (Some r) (cond y (Some f) (cond z (Some a) None)))))))
+    → (n ≡ d.name) ⊎ ((n ≡ l.name) ⊎ ((n ≡ k.name) ⊎ ((n ≡ r.name) ⊎ ((n ≡ f.name) ⊎ (n ≡ a.name)))))
+one_of d l k r f a true u x v y z ws n h = inl (let same : n ≡ d.name = cc in same)
+one_of d l k r f a false true x v y z ws n h = inr (inl (let same : n ≡ l.name = cc in same))
+one_of d l k r f a false false true v y z ws n h = inr (inr (inl (let same : n ≡ k.name = cc in same)))
+one_of d l k r f a false false false true y z ws n h = inr (inr (inr (inl (let same : n ≡ r.name = cc in same))))
+one_of d l k r f a false false false false true z ws n h = inr (inr (inr (inr (inl (let same : n ≡ f.name = cc in same)))))
+one_of d l k r f a false false false false false true ws n h = inr (inr (inr (inr (inr (let same : n ≡ a.name = cc in same)))))
+one_of d l k r f a false false false false false false ws n h = absurd (let wrong : Some n ≡ None = h in cc)
 
 abbrev IsKnown : List ℕ → Type 0
-IsKnown n = (n ≡ codes "demo") ⊎ ((n ≡ codes "list") ⊎ ((n ≡ codes "check") ⊎ ((n ≡ codes "run") ⊎ (n ≡ codes "firmware"))))
+IsKnown n = (n ≡ codes "demo") ⊎ ((n ≡ codes "list") ⊎ ((n ≡ codes "check") ⊎ ((n ≡ codes "run") ⊎ ((n ≡ codes "firmware") ⊎ (n ≡ codes "audit")))))
 
 stop_name : (stop : Option (List ℕ × List (List ℕ))) (n : List ℕ)
     → Some n ≡ option_map (λ (q : List ℕ × List Row). q.0) (entered (built pciguest_app) stop) → IsKnown n
 unfolding clap_on_literals
 stop_name None n h = absurd (let wrong : Some n ≡ None = h in cc)
-stop_name (Some p) n h = one_of _ _ _ _ _ _ _ _ _ _ p.1 n h
+stop_name (Some p) n h = one_of _ _ _ _ _ _ _ _ _ _ _ _ p.1 n h
 
 -- of the subcommand that a parse met
 pub no_other : (m : ArgMatches) (words : List (List ℕ)) (n : List ℕ) → subcommand_rows_of m ≡ subcommand_of pciguest_app words
-    → Some n ≡ subcommand_name_of m → n ≢ codes "demo" → n ≢ codes "list" → n ≢ codes "run" → n ≢ codes "check" → n ≢ codes "firmware" → ⊥
-no_other m words n read known demo list run check firmware =
+    → Some n ≡ subcommand_name_of m → n ≢ codes "demo" → n ≢ codes "list" → n ≢ codes "run" → n ≢ codes "check" → n ≢ codes "firmware" → n ≢ codes "audit" → ⊥
+no_other m words n read known demo list run check firmware audit =
     by_name (stop_name (stop_after (built pciguest_app).top.rules (names_of (built pciguest_app)) (argument_words pciguest_app words)) n (known ∙ named_by_rows (out-ArgMatches m).subcommand ∙ ap (option_map (λ (p : List ℕ × List Row). p.0)) read))
   where
     by_name : IsKnown n → ⊥
@@ -117,7 +118,8 @@ no_other m words n read known demo list run check firmware =
     by_name (inr (inl is)) = list is
     by_name (inr (inr (inl is))) = check is
     by_name (inr (inr (inr (inl is)))) = run is
-    by_name (inr (inr (inr (inr is)))) = firmware is
+    by_name (inr (inr (inr (inr (inl is))))) = firmware is
+    by_name (inr (inr (inr (inr (inr is))))) = audit is
 
 none_is_none : (o : Option (List ℕ × List Row)) → None ≡ option_map (λ (p : List ℕ × List Row). p.0) o → is_some o ≡ true → ⊥
 none_is_none None same h = let wrong : false ≡ true = h in absurd cc

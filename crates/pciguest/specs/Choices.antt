@@ -14,6 +14,7 @@ IsAsked words (choice.Check path) = (subcommand words ≡ Some (codes "check")) 
 IsAsked words (choice.Run path) = (subcommand words ≡ Some (codes "run")) × (path.now ≡ unwrap_or (board words) [])
 IsAsked words (choice.Firmware path) =
     (subcommand words ≡ Some (codes "firmware")) × (path.now ≡ unwrap_or (board words) [])
+IsAsked words (choice.Audit path) = (subcommand words ≡ Some (codes "audit")) × (path.now ≡ unwrap_or (board words) [])
 
 abbrev pub IsWork : Choice → Type 0
 IsWork (choice.Help text) = ⊥
@@ -22,6 +23,7 @@ IsWork (choice.List path) = Unit {0}
 IsWork (choice.Check path) = Unit {0}
 IsWork (choice.Run path) = Unit {0}
 IsWork (choice.Firmware path) = Unit {0}
+IsWork (choice.Audit path) = Unit {0}
 
 abbrev pub IsHelp : Choice → Type 0
 IsHelp (choice.Help text) = Unit {0}
@@ -30,3 +32,4 @@ IsHelp (choice.List path) = ⊥
 IsHelp (choice.Check path) = ⊥
 IsHelp (choice.Run path) = ⊥
 IsHelp (choice.Firmware path) = ⊥
+IsHelp (choice.Audit path) = ⊥

@@ -1,5 +1,5 @@
 -- The program's command line, as a definition that `clap` reads.
---     demo_and_list_app, demo_list_and_check_app, without_firmware_app      a command line with some subcommands
+--     demo_and_list_app, demo_list_and_check_app, without_firmware_app, without_audit_app      with some subcommands
 --     pciguest_app      with all of them
 --     is_taken words      the command line takes these words, the program's name among them
 --     subcommand, board words      the subcommand that they name, and the path of its board file
@@ -12,7 +12,7 @@ use Rattle.clap.specs.Takes.{takes}
 abbrev pub board_rule : Rule
 board_rule = record (new_rule (codes "board")) { required = true }
 
--- `list BOARD`, `check BOARD`, `run BOARD` and `firmware BOARD`
+-- `list BOARD`, `check BOARD`, `run BOARD`, `firmware BOARD` and `audit BOARD`
 abbrev pub list_shape : Shape
 list_shape = record (new_shape (codes "list")) { rules = board_rule ∷ [] }
 
@@ -24,6 +24,9 @@ run_shape = record (new_shape (codes "run")) { rules = board_rule ∷ [] }
 
 abbrev pub firmware_shape : Shape
 firmware_shape = record (new_shape (codes "firmware")) { rules = board_rule ∷ [] }
+
+abbrev pub audit_shape : Shape
+audit_shape = record (new_shape (codes "audit")) { rules = board_rule ∷ [] }
 
 -- `pciguest demo` and `pciguest list BOARD`, with no help subcommand and no version
 abbrev pub demo_and_list_app : App
@@ -41,8 +44,12 @@ abbrev pub without_firmware_app : App
 without_firmware_app = with_subcommand demo_list_and_check_app run_shape
 
 -- and `pciguest firmware BOARD`
+abbrev pub without_audit_app : App
+without_audit_app = with_subcommand without_firmware_app firmware_shape
+
+-- and `pciguest audit BOARD`
 abbrev pub pciguest_app : App
-pciguest_app = with_subcommand without_firmware_app firmware_shape
+pciguest_app = with_subcommand without_audit_app audit_shape
 
 abbrev pub is_taken : List (List ℕ) → Bool
 is_taken words = takes pciguest_app words

@@ -5,8 +5,9 @@ ghost use Rattle.clap.specs.Simple.{app_of, shape_of, new_shape};
 ghost use Rattle.clap.specs.Faults.{fault_of};
 ghost use Rattle.clap.specs.Values.{kind_of};
 ghost use Rattle.clap.specs.Walk.{rule_of};
-ghost use Rattle.pciguest.specs.Words.{board_rule, list_shape, check_shape, run_shape, firmware_shape, is_taken};
-ghost use Rattle.pciguest.specs.Words.{demo_and_list_app, demo_list_and_check_app, without_firmware_app, pciguest_app};
+ghost use Rattle.pciguest.specs.Words.{board_rule, list_shape, check_shape, run_shape, firmware_shape, audit_shape};
+ghost use Rattle.pciguest.specs.Words.{demo_and_list_app, demo_list_and_check_app, without_firmware_app};
+ghost use Rattle.pciguest.specs.Words.{without_audit_app, pciguest_app, is_taken};
 ghost use Rattle.pciguest.specs.Choices.{IsAsked, IsWork, IsHelp};
 
 use clap::error::ErrorKind;
@@ -72,7 +73,17 @@ fn firmware<'a>(alloc: Global) -> Result<Command<'a>, AllocError>
         .arg(board(alloc))
 }
 
-/// The program's command line but for `check`, `run` and `firmware`.
+/// `audit BOARD`.
+fn audit<'a>(alloc: Global) -> Result<Command<'a>, AllocError>
+    ensures shape { IfOk result (λ c. shape_of c ≡ audit_shape) }
+    ensures local { IfOk result (λ c. (fields_of c).has_globals ≡ false) }
+{
+    Command::new(alloc, "audit")
+        .about("Do the same, and then say what is wrong in the board's registers as they stand")
+        .arg(board(alloc))
+}
+
+/// The program's command line but for `check`, `run`, `firmware` and `audit`.
 fn demo_and_list<'a>(alloc: Global) -> Result<Command<'a>, AllocError>
     ensures { IfOk result (λ c. app_of c ≡ demo_and_list_app) }
 {
@@ -85,7 +96,7 @@ fn demo_and_list<'a>(alloc: Global) -> Result<Command<'a>, AllocError>
         .subcommand(list)
 }
 
-/// The program's command line but for `run` and `firmware`.
+/// The program's command line but for `run`, `firmware` and `audit`.
 fn without_run<'a>(alloc: Global) -> Result<Command<'a>, AllocError>
     ensures { IfOk result (λ c. app_of c ≡ demo_list_and_check_app) }
 {
@@ -93,7 +104,7 @@ fn without_run<'a>(alloc: Global) -> Result<Command<'a>, AllocError>
     demo_and_list(alloc)?.subcommand(check)
 }
 
-/// The program's command line but for `firmware`.
+/// The program's command line but for `firmware` and `audit`.
 fn without_firmware<'a>(alloc: Global) -> Result<Command<'a>, AllocError>
     ensures { IfOk result (λ c. app_of c ≡ without_firmware_app) }
 {
@@ -101,12 +112,20 @@ fn without_firmware<'a>(alloc: Global) -> Result<Command<'a>, AllocError>
     without_run(alloc)?.subcommand(run)
 }
 
+/// The program's command line but for `audit`.
+fn without_audit<'a>(alloc: Global) -> Result<Command<'a>, AllocError>
+    ensures { IfOk result (λ c. app_of c ≡ without_audit_app) }
+{
+    let firmware = firmware(alloc)?;
+    without_firmware(alloc)?.subcommand(firmware)
+}
+
 /// The program's command line.
 fn command<'a>(alloc: Global) -> Result<Command<'a>, AllocError>
     ensures { IfOk result (λ c. app_of c ≡ pciguest_app) }
 {
-    let firmware = firmware(alloc)?;
-    without_firmware(alloc)?.subcommand(firmware)
+    let audit = audit(alloc)?;
+    without_audit(alloc)?.subcommand(audit)
 }
 
 /// The answer to words that the command line refuses.
@@ -154,6 +173,9 @@ pub fn choose<'a>(alloc: Global, words: &'a [&'a str]) -> Result<Choice<'a>, Fau
             }
             Some(("firmware", driven)) => {
                 Ok(Choice::Firmware(driven.get_str("board").unwrap_or("")))
+            }
+            Some(("audit", audited)) => {
+                Ok(Choice::Audit(audited.get_str("board").unwrap_or("")))
             }
             _ => Err(Fault::Usage),
         },

@@ -1,4 +1,5 @@
 mod FaultNumbers
+mod Audited
 mod Checked
 mod Fitted
 mod Listed

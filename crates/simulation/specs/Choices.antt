@@ -3,6 +3,7 @@
 --     IsDoneInPart choice old_rest new_rest old new      so was a beginning of it, as a write or flush failed
 --     IsDoneAsRead choice old_rest new_rest old new      so was that of the lines before a read that failed
 --     IsTelling choice f, IsToldOf choice f old new      the choice tells of the fault; what is wrong was written
+--     IsUnaudited choice f, IsDriving choice script old new      memory is out for the audit; what the lines write was written
 --     IsOfChoice choice f      a fault that the choice can end with
 use Rattle.std.specs.Prelude.{◌≡◌, ◌≢◌, ◌<◌, ◌⊎◌, Option, None, Some, string_bytes}
 use Rattle.std.specs.Io.KnownBytes.{Appends}
@@ -18,10 +19,11 @@ use Rattle.simulation.specs.Fitting.{fit_text, misfit_text}
 use Rattle.simulation.specs.Checking.{IsRefusalTold, IsCheckText}
 use Rattle.simulation.specs.Running.{IsRun, IsRunCut, IsRunStopped}
 use Rattle.simulation.specs.Driving.{IsDriven, IsDrivenCut, IsDrivenStopped, IsOfDriving}
+use Rattle.simulation.specs.Auditing.{IsAudited, IsAuditStopped, IsOfAudit}
 use Rattle.simulation.specs.declared.choice.Choice.{Choice}
-use Rattle.simulation.specs.declared.choice.Choice.TheVariants.{Help, Demo, List, Check, Run, Firmware}
+use Rattle.simulation.specs.declared.choice.Choice.TheVariants.{Help, Demo, List, Check, Run, Firmware, Audit}
 use Rattle.simulation.specs.declared.fault.Fault.{Fault}
-use Rattle.simulation.specs.declared.fault.Fault.TheVariants.{Write, BoardFile}
+use Rattle.simulation.specs.declared.fault.Fault.TheVariants.{SetUpMemory, Write, BoardFile}
 
 -- the report of the board that some bytes declare, once it is set up
 pub record IsReported (board : Text) (old new : Option Text) : Type 0 where
@@ -64,6 +66,15 @@ abbrev pub IsToldOf : Choice → Fault → Option Text → Option Text → Type 
 IsToldOf (Check path) f old new = (board : Text) × IsTold path.now board f old new
 IsToldOf _ f old new = ⊥
 
+-- no memory for an audit, once the lines ran
+abbrev pub IsUnaudited : Choice → Fault → Type 0
+IsUnaudited (Audit path) f = f ≡ SetUpMemory
+IsUnaudited _ f = ⊥
+
+abbrev pub IsDriving : Choice → Option Text → Option Text → Option Text → Type 0
+IsDriving (Audit path) script old new = (board : Text) × IsDriven board script old new
+IsDriving _ script old new = ⊥
+
 abbrev pub IsDone : Choice → Option Text → Option Text → Option Text → Type 0
 IsDone (Help text) script old new = Appends old new (string_bytes text)
 IsDone Demo script old new = IsRun demo_board script old new
@@ -71,6 +82,7 @@ IsDone (List path) script old new = (board : Text) × IsReported board old new
 IsDone (Check path) script old new = (board : Text) × IsFit board old new
 IsDone (Run path) script old new = (board : Text) × IsRun board script old new
 IsDone (Firmware path) script old new = (board : Text) × IsDriven board script old new
+IsDone (Audit path) script old new = (board : Text) × IsAudited board script old new
 
 abbrev pub IsDoneInPart : Choice → Option Text → Option Text → Option Text → Option Text → Type 0
 IsDoneInPart (Help text) old_rest new_rest old new = AppendsPart old new (string_bytes text)
@@ -80,6 +92,7 @@ IsDoneInPart (Check path) old_rest new_rest old new = (board : Text) × IsToldIn
 IsDoneInPart (Run path) old_rest new_rest old new = (board : Text) × IsRunStopped board old_rest new_rest old new
 IsDoneInPart (Firmware path) old_rest new_rest old new =
     (board : Text) × IsDrivenStopped board old_rest new_rest old new
+IsDoneInPart (Audit path) old_rest new_rest old new = (board : Text) × IsAuditStopped board old_rest new_rest old new
 
 -- help, reports and checks read nothing
 abbrev pub IsDoneAsRead : Choice → Option Text → Option Text → Option Text → Option Text → Type 0
@@ -89,6 +102,7 @@ IsDoneAsRead (List path) old_rest new_rest old new = ⊥
 IsDoneAsRead (Check path) old_rest new_rest old new = ⊥
 IsDoneAsRead (Run path) old_rest new_rest old new = (board : Text) × IsRunCut board old_rest new_rest old new
 IsDoneAsRead (Firmware path) old_rest new_rest old new = (board : Text) × IsDrivenCut board old_rest new_rest old new
+IsDoneAsRead (Audit path) old_rest new_rest old new = (board : Text) × IsDrivenCut board old_rest new_rest old new
 
 abbrev pub IsOfChoice : Choice → Fault → Type 0
 IsOfChoice (Help text) f = f ≡ Write
@@ -97,3 +111,4 @@ IsOfChoice (List path) f = IsOfList f ⊎ (f ≡ BoardFile)
 IsOfChoice (Check path) f = IsOfList f ⊎ (f ≡ BoardFile)
 IsOfChoice (Run path) f = IsOfRun f ⊎ (f ≡ BoardFile)
 IsOfChoice (Firmware path) f = IsOfDriving f ⊎ (f ≡ BoardFile)
+IsOfChoice (Audit path) f = IsOfAudit f ⊎ (f ≡ BoardFile)

@@ -5,4 +5,5 @@ pub mod Fitting
 pub mod Checking
 pub mod Running
 pub mod Driving
+pub mod Auditing
 pub mod Choices

@@ -2,9 +2,11 @@
 ghost use Rattle.std.specs.Prelude.{◌≡◌, ◌≢◌, ◌+◌, ◌-◌, ◌^◌, ◌<◌, OnOk, OnErr, IfErr, IsErrOf};
 ghost use Rattle.std.specs.Io.KnownBytes.{Appends};
 ghost use Rattle.streams.specs.Ends.{AppendsPart};
-ghost use Rattle.simulation.specs.Choices.{IsDone, IsDoneInPart, IsDoneAsRead, IsTelling, IsToldOf, IsOfChoice};
+ghost use Rattle.simulation.specs.Choices.{IsDone, IsDoneInPart, IsDoneAsRead, IsOfChoice};
+ghost use Rattle.simulation.specs.Choices.{IsTelling, IsToldOf, IsUnaudited, IsDriving};
 ghost use Rattle.simulation.specs.Faults.{read_faults, write_faults};
 
+use crate::auditing::audit;
 use crate::checking::check;
 use crate::demonstration::demo;
 use crate::driving::drive;
@@ -31,6 +33,8 @@ pub enum Choice<'a> {
     Run(&'a str),
     /// Run firmware's lines over the board of the board file at this path, at reset.
     Firmware(&'a str),
+    /// Do the same, and then write all that is wrong in the registers as they stand.
+    Audit(&'a str),
 }
 
 /// Writes a text and flushes once.
@@ -68,14 +72,22 @@ pub fn perform<R: Reader, W: Writer>(
         IsDoneAsRead choice.now (R.rest reader.old) (R.rest reader.new) (W.written writer.old) (W.written writer.new) }
     ensures stopped { IsErrOf result Fault.Write →
         IsDoneInPart choice.now (R.rest reader.old) (R.rest reader.new) (W.written writer.old) (W.written writer.new) }
-    ensures unread { IfErr result (λ f. f ≢ Fault.Read → f ≢ Fault.Write → reader.new ≡ reader.old) }
+    ensures unread { IfErr result (λ f.
+        f ≢ Fault.Read → f ≢ Fault.Write → ¬ IsUnaudited choice.now f → reader.new ≡ reader.old) }
     ensures nothing { IfErr result (λ f.
-        f ≢ Fault.Read → f ≢ Fault.Write → ¬ IsTelling choice.now f → writer.new ≡ writer.old) }
+        f ≢ Fault.Read → f ≢ Fault.Write → ¬ IsTelling choice.now f → ¬ IsUnaudited choice.now f
+        → writer.new ≡ writer.old) }
 
     // A check tells of a fault of the file or its board, and nothing else tells.
     ensures told { IfErr result (λ f.
         IsTelling choice.now f → IsToldOf choice.now f (W.written writer.old) (W.written writer.new)) }
     ensures told_flushed { IfErr result (λ f. IsTelling choice.now f → W.flushed writer.new ≡ W.written writer.new) }
+
+    // Where memory is out for an audit alone, all that the lines write was written.
+    ensures unaudited { IfErr result (λ f. IsUnaudited choice.now f
+        → IsDriving choice.now (R.rest reader.old) (W.written writer.old) (W.written writer.new)) }
+    ensures unaudited_flushed { IfErr result (λ f.
+        IsUnaudited choice.now f → W.flushed writer.new ≡ W.written writer.new) }
 
     ensures faults { IfErr result (IsOfChoice choice.now) }
 
@@ -101,6 +113,10 @@ pub fn perform<R: Reader, W: Writer>(
         Choice::Firmware(path) => {
             let board = board_bytes(rt, alloc, path)?;
             drive(alloc, &board, reader, writer)
+        }
+        Choice::Audit(path) => {
+            let board = board_bytes(rt, alloc, path)?;
+            audit(alloc, &board, reader, writer)
         }
     }
 }

@@ -1,15 +1,44 @@
 //! Firmware's lines over the board of a board file, at reset.
-ghost use Rattle.std.specs.Prelude.{◌≡◌, ◌+◌, ◌-◌, ◌^◌, ◌<◌, OnOk, IfErr, IsErrOf};
+ghost use Rattle.std.specs.Prelude.{◌≡◌, ◌+◌, ◌-◌, ◌^◌, ◌<◌, OnOk, IfOk, IfErr, IsErrOf};
 ghost use Rattle.std.specs.Io.KnownBytes.{IsAtEnd};
-ghost use Rattle.simulation.specs.Driving.{IsDriven, IsDrivenCut, IsDrivenStopped, IsOfDriving};
+ghost use Rattle.simulation.specs.Driving.{IsDriven, IsDrivenTo, IsDrivenCut, IsDrivenStopped, IsOfDriving};
 ghost use Rattle.simulation.specs.Faults.{number_of, read_faults, write_faults};
 ghost use Rattle.simulation.specs.Listing.{Refuses};
 
 use crate::fault::Fault;
 use board_file::read_board;
-use firmware::run;
+use firmware::{Host, run};
 use std::alloc::Global;
 use streams::{Reader, Writer};
+
+/// Runs firmware's lines as [`drive`] does, and gives the host bridge as they left it.
+pub(crate) fn driven<R: Reader, W: Writer>(
+    alloc: Global,
+    board: &[u8],
+    reader: &mut R,
+    writer: &mut W,
+) -> Result<Host, Fault>
+    requires reader_has_room { R.failures reader.old < 2 ^ 64 - 1 }
+    requires writer_has_room { W.failures writer.old < 2 ^ 64 - 1 }
+
+    ensures end { OnOk result (IsAtEnd (R.rest reader.new)) }
+    ensures output { IfOk result
+        (IsDrivenTo board.now (R.rest reader.old) (W.written writer.old) (W.written writer.new)) }
+    ensures flushed { OnOk result (W.flushed writer.new ≡ W.written writer.new) }
+    ensures file { IfErr result (λ f. number_of f < 199 → Refuses board.now (number_of f)) }
+    ensures faults { IfErr result IsOfDriving }
+    ensures nothing { IfErr result (λ f. number_of f < 500 → (reader.new ≡ reader.old) × (writer.new ≡ writer.old)) }
+    ensures cut { IsErrOf result Fault.Read →
+        IsDrivenCut board.now (R.rest reader.old) (R.rest reader.new) (W.written writer.old) (W.written writer.new) }
+    ensures stopped { IsErrOf result Fault.Write →
+        IsDrivenStopped board.now (R.rest reader.old) (R.rest reader.new) (W.written writer.old) (W.written writer.new) }
+    ensures reads { R.failures reader.new ≡ R.failures reader.old + read_faults result }
+    ensures writes { W.failures writer.new ≡ W.failures writer.old + write_faults result }
+{
+    let (mut host, _guests) = read_board(alloc, board)?;
+    run(&mut host, reader, writer)?;
+    Ok(host)
+}
 
 /// Runs firmware's lines over the board that a board file declares, as it is at reset: set-up does not run.
 /// The guests of the file are checked, and no function is given to them.
@@ -45,7 +74,6 @@ pub fn drive<R: Reader, W: Writer>(
     ensures reads { R.failures reader.new ≡ R.failures reader.old + read_faults result }
     ensures writes { W.failures writer.new ≡ W.failures writer.old + write_faults result }
 {
-    let (mut host, _guests) = read_board(alloc, board)?;
-    run(&mut host, reader, writer)?;
+    driven(alloc, board, reader, writer)?;
     Ok(())
 }

@@ -1,8 +1,9 @@
 //! What the program does, over bytes, a reader and a writer: the report of a board file, what is
-//! wrong with one, a script over its board, firmware's lines over it, and a script over the demo
-//! board; and the law of two worlds, over the definitions alone.
+//! wrong with one, a script over its board, firmware's lines over it and an audit after them, and a
+//! script over the demo board; and the law of two worlds, over the definitions alone.
 #![tactic(auto)]
 
+mod auditing;
 mod checking;
 mod choice;
 mod demonstration;
@@ -17,6 +18,7 @@ mod numbered;
 mod running;
 mod standard_streams;
 
+pub use auditing::audit;
 pub use checking::check;
 pub use choice::{Choice, perform};
 pub use demonstration::demo;

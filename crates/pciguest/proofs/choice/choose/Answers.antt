@@ -88,6 +88,21 @@ returns-in-Some-firmware-default-clause-asked c =
     let both = asked c.in-Ok-try_get_matches_from.matches words found.field-0-0.now (found_of found.driven.now) read found.ensures.name found.ensures.rows in
     (both.0 ∙ ap Some found.is-firmware, ap (λ (s : Bor (List ℕ)). s.now) c.unwrap_or-in-Some-firmware-default.ensures ∙ shown_or_empty c.get_str-in-Some-firmware-default.result _ refl ∙ ap (λ o. unwrap_or o []) (c.get_str-in-Some-firmware-default.ensures ∙ sym both.1))
 
+pub returns-in-Some-audit-default-clause-only_taken : goal.returns-in-Some-audit-default-clause-only_taken
+returns-in-Some-audit-default-clause-only_taken c h =
+    let same : app_of c.in-Ok.command ≡ pciguest_app = c.in-Ok.ensures in
+    subst (λ (a : App). fault_of a (map (λ w. w.now) c.args.words.now) ≡ []) same (c.in-Ok-try_get_matches_from.ensures.kinds (ap is_simple_and_free same ∙ simple))
+
+pub returns-in-Some-audit-default-clause-asked : goal.returns-in-Some-audit-default-clause-asked
+returns-in-Some-audit-default-clause-asked c =
+    let words = map (λ (w : Bor (List ℕ)). w.now) c.args.words.now in
+    let same : app_of c.in-Ok.command ≡ pciguest_app = c.in-Ok.ensures in
+    let read : subcommand_rows_of c.in-Ok-try_get_matches_from.matches ≡ subcommand_of pciguest_app words =
+    (c.in-Ok-try_get_matches_from.ensures.matches (ap is_simple same ∙ is_one)).1 ∙ ap (λ a. subcommand_of a words) same in
+    let found = c.in-Some-audit-default in
+    let both = asked c.in-Ok-try_get_matches_from.matches words found.field-0-0.now (found_of found.audited.now) read found.ensures.name found.ensures.rows in
+    (both.0 ∙ ap Some found.is-audit, ap (λ (s : Bor (List ℕ)). s.now) c.unwrap_or-in-Some-audit-default.ensures ∙ shown_or_empty c.get_str-in-Some-audit-default.result _ refl ∙ ap (λ o. unwrap_or o []) (c.get_str-in-Some-audit-default.ensures ∙ sym both.1))
+
 pub returns-in-Ok-try_get_matches_from-clause-taken : goal.returns-in-Ok-try_get_matches_from-clause-taken
 returns-in-Ok-try_get_matches_from-clause-taken c h =
     let words = map (λ (w : Bor (List ℕ)). w.now) c.args.words.now in
@@ -98,8 +113,8 @@ returns-in-Ok-try_get_matches_from-clause-taken c h =
     absurd (elim c.in_default-subcommand.branch [
       | in_default-subcommand-via-in-Some+in_default-subcommand w ↦
           (let found = w.in_default-subcommand in
-          let met = found.t15-1-own.given in
-          no_other m words met.0.0.0.now read (ap (option_map (λ p. p.0.now)) (sym met.1) ∙ c.subcommand.ensures.name) found.if-str_eq-not-demo found.if-str_eq-2-not-list found.if-str_eq-3-not-run found.if-str_eq-4-not-check found.if-str_eq-5-not-firmware)
+          let met = found.t16-1-own.given in
+          no_other m words met.0.0.0.now read (ap (option_map (λ p. p.0.now)) (sym met.1) ∙ c.subcommand.ensures.name) found.if-str_eq-not-demo found.if-str_eq-2-not-list found.if-str_eq-3-not-run found.if-str_eq-4-not-check found.if-str_eq-5-not-firmware found.if-str_eq-6-not-audit)
       | in_default-subcommand-via-in_default w ↦
           one_is_met m words read (ap (option_map (λ p. p.0.now)) (sym w.in_default-subcommand.is) ∙ c.subcommand.ensures.name) h
     ])

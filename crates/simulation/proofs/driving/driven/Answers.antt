@@ -2,7 +2,7 @@ use Rattle.std.proofs.Common.{◌≡◌, ◌<◌, ◌+◌, ℕ, Err, inl, ap, �
 use Rattle.std.specs.Io.KnownBytes.{Appends}
 use Rattle.model_board.specs.State.{State}
 use Rattle.model_guests.specs.Text.{lines}
-use Rattle.model_guests.specs.LineRuns.{output, IsCut}
+use Rattle.model_guests.specs.LineRuns.{output, after_lines, IsCut}
 use Rattle.host_bridge.specs.HostState.{HostState}
 use Rattle.line_runs.specs.Pieces.{IsStoppedIn}
 use Rattle.board_file.specs.Meaning.{world_in}
@@ -13,7 +13,7 @@ use Rattle.simulation.specs.Listing.{Refuses}
 use Rattle.simulation.specs.declared.fault.Fault.{Fault}
 use Rattle.simulation.proofs.Listed.{by_error, refused_by_file, of_file_small}
 use Rattle.simulation.proofs.Ran.{of_run_large, read_failed, write_failed, same_reads, same_writes}
-use Rattle.simulation.proofs.driving.drive.Goals as goal
+use Rattle.simulation.proofs.driving.driven.Goals as goal
 
 pub returns-in_err-host-clause-file : goal.returns-in_err-host-clause-file
 returns-in_err-host-clause-file g c =
@@ -77,4 +77,6 @@ returns-clause-output g c =
       declared = record { is_text = c.in_ok-host.ensures.world.0; meaning = c.in_ok-host.ensures.world.1 };
       written = λ s known. subst (λ (k : HostState). Appends (g.W.Writer.written c.args.writer.now) (g.W.Writer.written c.run.new.writer) (output host_protocol k (lines s))) reset
           (c.in_ok-run.ensures.output s known);
+      events = λ s known. subst (λ (k : HostState). c.run.new.host ≡ after_lines host_protocol k (lines s)) reset
+          (c.in_ok-run.ensures.after s known);
     }
