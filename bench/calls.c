@@ -33,11 +33,15 @@ int main(int argc, char **argv)
 {
     static uint8_t board[65536];
     static const char line[] = "a mr 0xc0100010 4";
+    static const char asked[] = "host mr 0xc0100010 4";
     struct pciguest machine = {0}, other = {0};
+    struct pciguest_board at_reset = {0}, driven = {0};
     FILE *file = argc == 2 ? fopen(argv[1], "rb") : NULL;
     uint32_t value = 0, faults = 0;
-    size_t length, written = 0;
-    char reply[PCIGUEST_REPLY] = {0};
+    size_t length, written = 0, count = 0;
+    char reply[PCIGUEST_REPLY] = {0}, text[1024] = {0};
+    struct pciguest_region region = {0};
+    struct pciguest_hit hit = {0};
 
     if (!file)
         return 2;
@@ -58,9 +62,26 @@ int main(int argc, char **argv)
     COST("reset a function", 1000000, pciguest_reset(&machine, 0, 0));
     pciguest_write(&machine, 0, PCIGUEST_CONFIG, 0, 0x14, 4, 0xc0100000);
     pciguest_write(&machine, 0, PCIGUEST_CONFIG, 0, 4, 2, 2);
+    COST("tell where a region stands", 1000000, pciguest_region(&machine, 0, 0, 1, &region));
+    COST("tell what an address hits", 1000000, pciguest_locate(&machine, 0, PCIGUEST_MEMORY, 0, 0xc0100010, &hit));
     COST("read memory as the host", 1000000, pciguest_host_read(&machine, PCIGUEST_MEMORY, 0, 0, 0, 0xc0100010, 4, &value));
     COST("run a line that reads memory", 300000, pciguest_run_line(&machine, line, sizeof line - 1, reply, sizeof reply, &written));
     COST("new and free", 300, pciguest_new(&other, board, length) + (pciguest_free(&other), 0));
+    if (pciguest_board_new(&at_reset, board, length) || pciguest_board_new(&driven, board, length))
+        return 1;
+    pciguest_board_write(&driven, PCIGUEST_CONFIG, 0, 1, 0, 0x14, 4, 0xc0100000);
+    pciguest_board_write(&driven, PCIGUEST_CONFIG, 0, 1, 0, 4, 2, 2);
+    COST("firmware reads identity", 1000000, pciguest_board_read(&driven, PCIGUEST_CONFIG, 0, 1, 0, 0, 4, &value));
+    COST("firmware writes Command", 1000000, pciguest_board_write(&driven, PCIGUEST_CONFIG, 0, 1, 0, 4, 2, 2));
+    COST("firmware reads memory", 1000000, pciguest_board_read(&driven, PCIGUEST_MEMORY, 0, 0, 0, 0xc0100010, 4, &value));
+    COST("firmware writes memory", 1000000, pciguest_board_write(&driven, PCIGUEST_MEMORY, 0, 0, 0, 0xc0100010, 4, i));
+    COST("run a line of firmware that reads memory", 300000,
+         pciguest_board_run_line(&driven, asked, sizeof asked - 1, reply, sizeof reply, &written));
+    COST("audit a board", 3000, pciguest_board_audit(&driven, text, sizeof text, &written, &count));
+    pciguest_board_free(&driven);
+    COST("new and free a board", 300, pciguest_board_new(&driven, board, length) + (pciguest_board_free(&driven), 0));
+    COST("set up a board, and free the machine", 300, pciguest_set_up(&at_reset, &other) + (pciguest_free(&other), 0));
+    pciguest_board_free(&at_reset);
     pciguest_free(&machine);
     return faults != 0;
 }

@@ -7,7 +7,8 @@
  *
  *   101 to 112  the board file is refused           199, 299  out of memory
  *   201 to 205  the board can't be set up           301 302 303 601 602  an access or a move is refused
- *   901  the handle holds no machine   902  an argument   903  the handle holds a machine already
+ *   901  the handle holds no machine, or no board   902  an argument   903  the handle holds one already
+ *   904  a write was done on the board since reset
  */
 #ifndef PCIGUEST_H
 #define PCIGUEST_H
@@ -34,6 +35,16 @@ struct pciguest {
 
 #define PCIGUEST_INIT {false, NULL}
 
+/* What a program holds of a board that its own firmware drives, from reset on. It begins as
+ * `struct pciguest_board board = PCIGUEST_BOARD_INIT;`, or with all bytes 0, and then holds none. What is said of the
+ * struct above holds for it too. */
+struct pciguest_board {
+    bool live;
+    void *at;
+};
+
+#define PCIGUEST_BOARD_INIT {false, NULL}
+
 /* Where an access goes: a byte offset of the configuration space of the function in a slot, an I/O port, or
  * a memory address. */
 enum pciguest_space { PCIGUEST_CONFIG = 0, PCIGUEST_IO = 1, PCIGUEST_MEMORY = 2 };
@@ -41,10 +52,30 @@ enum pciguest_space { PCIGUEST_CONFIG = 0, PCIGUEST_IO = 1, PCIGUEST_MEMORY = 2 
 /* Where a raise goes that is not in a region: regions are told by base address register, 0 to 5. */
 enum { PCIGUEST_RAISE_CONFIG = 6 };
 
-/* The room that pciguest_run_line needs for its reply, and the most that pciguest_words needs. */
+/* Where a region of a guest's function stands now, by the guest's own registers. It takes `size` addresses of its space
+ * from `first` on, and answers there where `is_open` is 1. */
+struct pciguest_region {
+    uint64_t first;
+    uint64_t size;
+    uint32_t space;        /* PCIGUEST_IO or PCIGUEST_MEMORY */
+    uint32_t prefetchable; /* 1 or 0 */
+    uint32_t is_open;      /* 1 or 0: whether the guest's Command opens the space */
+};
+
+/* The byte that an access hits. The part is as for pciguest_raise: a region by its base address register, 0 to 5, or
+ * PCIGUEST_RAISE_CONFIG. Where nothing is hit, all of it is 0. */
+struct pciguest_hit {
+    uint64_t slot;
+    uint64_t offset; /* in the region, or in configuration space */
+    uint32_t part;
+    uint32_t found; /* 1 or 0 */
+};
+
+/* The room that pciguest_run_line and pciguest_board_run_line need for a reply, and the most that pciguest_words
+ * needs. */
 enum { PCIGUEST_REPLY = 48, PCIGUEST_WORDS = 20 };
 
-enum { PCIGUEST_NO_MACHINE = 901, PCIGUEST_ARGUMENT = 902, PCIGUEST_IN_USE = 903 };
+enum { PCIGUEST_NO_MACHINE = 901, PCIGUEST_ARGUMENT = 902, PCIGUEST_IN_USE = 903, PCIGUEST_NOT_AT_RESET = 904 };
 
 /* The calls of the library itself. They take no null pointer, and a line without its line feed; those below, which see
  * to both, are the ones to use. */
@@ -61,11 +92,26 @@ uint32_t pciguest_raw_host_read(struct pciguest *machine, uint32_t space, uint8_
                                 uint8_t function, uint64_t place, uint32_t width, uint32_t *value);
 uint32_t pciguest_raw_move(struct pciguest *machine, size_t from, uint64_t slot, size_t to, uint64_t target);
 uint32_t pciguest_raw_reset(struct pciguest *machine, size_t guest, uint64_t slot);
+uint32_t pciguest_raw_region(struct pciguest *machine, size_t guest, uint64_t slot, uint32_t bar,
+                             struct pciguest_region *region);
+uint32_t pciguest_raw_locate(struct pciguest *machine, size_t guest, uint32_t space, uint64_t slot, uint64_t place,
+                             struct pciguest_hit *hit);
 uint32_t pciguest_raw_run_line(struct pciguest *machine, const uint8_t *line, size_t length, uint8_t *reply,
                                size_t room, size_t *written);
 uint32_t pciguest_raw_report(const uint8_t *board, size_t length, uint8_t *text, size_t room, size_t *needed);
 uint32_t pciguest_raw_check(const uint8_t *board, size_t length, uint8_t *text, size_t room, size_t *needed);
 uint32_t pciguest_raw_words(uint32_t number, uint8_t *text, size_t room, size_t *needed);
+uint32_t pciguest_raw_board_new(struct pciguest_board *board, const uint8_t *file, size_t length);
+void pciguest_raw_board_free(struct pciguest_board *board);
+uint32_t pciguest_raw_board_read(struct pciguest_board *board, uint32_t space, uint8_t bus, uint8_t device,
+                                 uint8_t function, uint64_t place, uint32_t width, uint32_t *value);
+uint32_t pciguest_raw_board_write(struct pciguest_board *board, uint32_t space, uint8_t bus, uint8_t device,
+                                  uint8_t function, uint64_t place, uint32_t width, uint32_t value);
+uint32_t pciguest_raw_board_run_line(struct pciguest_board *board, const uint8_t *line, size_t length, uint8_t *reply,
+                                     size_t room, size_t *written);
+uint32_t pciguest_raw_board_audit(struct pciguest_board *board, uint8_t *text, size_t room, size_t *needed,
+                                  size_t *count);
+uint32_t pciguest_raw_set_up(struct pciguest_board *board, struct pciguest *machine);
 
 /* Sets up the board of a board file, given as its bytes, and gives its functions to the guests of the file.
  * 0: the machine holds the world that the file declares, before any access. Otherwise the number of the first
@@ -222,6 +268,29 @@ static inline uint32_t pciguest_reset(struct pciguest *machine, size_t guest, ui
     return pciguest_raw_reset(machine, guest, slot);
 }
 
+/* Where the region that begins at a base address register, 0 to 5, stands now, in the guest's own view. It takes no
+ * memory and changes nothing. The answer stays until the guest writes Command or a base address register of this
+ * function, the function is moved, or it is reset. 303: the slot is above 31, or no region begins at this register. 601:
+ * the slot is empty. 902: there is no such guest. */
+static inline uint32_t pciguest_region(struct pciguest *machine, size_t guest, uint64_t slot, uint32_t bar,
+                                       struct pciguest_region *region)
+{
+    if (!machine || !region)
+        return PCIGUEST_ARGUMENT;
+    return pciguest_raw_region(machine, guest, slot, bar, region);
+}
+
+/* What an access of the guest at a place hits, as pciguest_read and pciguest_write take the place: a byte of a function
+ * in one of its slots, or nothing. It takes no memory and changes nothing. Every access there begins at this byte, but
+ * for four bytes at port CF8h, which are the guest's own CONFIG_ADDRESS. Numbers as for a read of one byte there. */
+static inline uint32_t pciguest_locate(struct pciguest *machine, size_t guest, uint32_t space, uint64_t slot,
+                                       uint64_t place, struct pciguest_hit *hit)
+{
+    if (!machine || !hit)
+        return PCIGUEST_ARGUMENT;
+    return pciguest_raw_locate(machine, guest, space, slot, place, hit);
+}
+
 /* Runs one line of a script, with its line feed or without; a line feed elsewhere makes it a bad line. The reply is one
  * line with its line feed, or nothing for a blank line or a comment; it has no 0 at its end, and `written` tells its
  * length. A line that is refused is answered by its reply, and the call by 0. 902: there is less room than
@@ -269,6 +338,86 @@ static inline uint32_t pciguest_words(uint32_t number, char *text, size_t room, 
     if ((!text && room) || !needed)
         return PCIGUEST_ARGUMENT;
     return pciguest_raw_words(number, text ? (uint8_t *)text : &none, room, needed);
+}
+
+/* Makes the board of a board file, given as its bytes, at reset, for firmware of one's own to drive: no number and no
+ * address is given out, and every function is off. The guests of the file are checked, and no function is given to them.
+ * 0: the struct holds the board. 101 to 112: the number of the first check that the file fails. 199: out of memory. 903:
+ * the struct holds a board already. */
+static inline uint32_t pciguest_board_new(struct pciguest_board *board, const void *file, size_t length)
+{
+    if (!board || (!file && length))
+        return PCIGUEST_ARGUMENT;
+    return pciguest_raw_board_new(board, file ? (const uint8_t *)file : (const uint8_t *)"", length);
+}
+
+/* Frees the board. The struct then holds none, and may be used for a new one. Where it held none, nothing happens. */
+static inline void pciguest_board_free(struct pciguest_board *board)
+{
+    if (board)
+        pciguest_raw_board_free(board);
+}
+
+/* Reads as firmware does, in whatever state the registers are: configuration space by bus, device, function and byte
+ * offset, I/O by port, or memory by address; all ones where nothing answers. Bus, device and function are looked at for
+ * configuration space alone; by ports it is reached at CF8h and CFCh. A read there by number leaves 0 in CONFIG_ADDRESS
+ * (CF8h); else a read changes nothing.
+ * 302: the width is not 1, 2 or 4 bytes. 301: the place is no multiple of it. 303: the offset is above 255, or the port
+ * above FFFFFFFFh. 902: there is no such space, the device is above 31, or the function above 7. */
+static inline uint32_t pciguest_board_read(struct pciguest_board *board, uint32_t space, uint8_t bus, uint8_t device,
+                                           uint8_t function, uint64_t place, uint32_t width, uint32_t *value)
+{
+    if (!board || !value)
+        return PCIGUEST_ARGUMENT;
+    return pciguest_raw_board_read(board, space, bus, device, function, place, width, value);
+}
+
+/* Writes the low bytes of a value as firmware does, as many as it is wide; what nothing takes is dropped. A write of
+ * configuration space by number leaves 0 in CONFIG_ADDRESS. Numbers as above. */
+static inline uint32_t pciguest_board_write(struct pciguest_board *board, uint32_t space, uint8_t bus, uint8_t device,
+                                            uint8_t function, uint64_t place, uint32_t width, uint32_t value)
+{
+    if (!board)
+        return PCIGUEST_ARGUMENT;
+    return pciguest_raw_board_write(board, space, bus, device, function, place, width, value);
+}
+
+/* Runs one line of firmware, as `pciguest firmware` does, with its line feed or without. The reply and 902 are as for
+ * pciguest_run_line. */
+static inline uint32_t pciguest_board_run_line(struct pciguest_board *board, const char *line, size_t length,
+                                               char *reply, size_t room, size_t *written)
+{
+    if (!board || (!line && length) || !reply || !written)
+        return PCIGUEST_ARGUMENT;
+    if (length && line[length - 1] == '\n')
+        length--;
+    return pciguest_raw_board_run_line(board, (const uint8_t *)(line ? line : ""), length, (uint8_t *)reply, room,
+                                       written);
+}
+
+/* Writes what is wrong in the registers of a board as they stand, whoever wrote them: a line for each problem, and a last
+ * line `audit: ok` or `audit: N problems`. A problem is a byte of an open region that a bridge above doesn't forward, an
+ * address that two answer on one bus, or a function that no cycle finds. It tells the text's length, which has no 0 at its
+ * end, and how many problems there are. The board stays as it is.
+ * 902: there is less room than the text needs, whose length alone is told. 299: out of memory. */
+static inline uint32_t pciguest_board_audit(struct pciguest_board *board, char *text, size_t room, size_t *needed,
+                                            size_t *count)
+{
+    uint8_t none;
+    if (!board || (!text && room) || !needed || !count)
+        return PCIGUEST_ARGUMENT;
+    return pciguest_raw_board_audit(board, text ? (uint8_t *)text : &none, room, needed, count);
+}
+
+/* Sets up a board that is at reset as pciguest_new does, in place of firmware of one's own, and gives its functions to
+ * the guests of its file: the machine is then the one that pciguest_new makes of the file. The board stays as it is.
+ * 901: there is no board. 903: the struct of the machine holds one already. 904: a write was done on the board since
+ * reset. 201 to 205: the board can't be set up. 199, 299: out of memory. The first of these that holds is answered. */
+static inline uint32_t pciguest_set_up(struct pciguest_board *board, struct pciguest *machine)
+{
+    if (!board || !machine)
+        return PCIGUEST_ARGUMENT;
+    return pciguest_raw_set_up(board, machine);
 }
 
 #ifdef __cplusplus

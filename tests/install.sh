@@ -49,7 +49,7 @@ completed() {
   bash -c 'source "$1"; shift; COMP_WORDS=("$@"); COMP_CWORD=$(($# - 1)); _pciguest; echo "${COMPREPLY[@]}"' - \
     "$at/share/bash-completion/completions/pciguest" "$@"
 }
-holds 'all words' same 'check demo firmware list run --help' completed pciguest ''
+holds 'all words' same 'audit check demo firmware list run --help' completed pciguest ''
 holds 'a word' same 'list' completed pciguest l
 board=$top/crates/examples/data/chain.toml
 holds 'a board' test "$(completed pciguest list "${board%ain.toml}")" = "$board"

@@ -1,6 +1,6 @@
 #!/usr/bin/env bash
 # Uses the library for C as a C program does: the example, random accesses by calls and by lines, which the proved
-# program must answer alike, and what the library refuses. Where the compiler has sanitizers, all is run under them.
+# program must answer alike, boards that firmware drives, and what the library refuses. Where the compiler has sanitizers, all is run under them.
 # Then it runs the tests of the crate for Rust and of the module for Python, where cargo and Python 3 are there.
 #     tests/library.sh [PROGRAM]
 # PROGRAM is the one that `rt ci` or `make build` left, unless it is given. The last line is 'N passed, M failed'.
@@ -60,10 +60,23 @@ for kind in "${kinds[@]}"; do
     holds "$kind: the program answers alike, seed $seed" cmp answers replies
   done
 
+  holds "$kind: the queries are built" build "queries.$kind" "$top/tests/library/queries.c" "${words[@]}"
+  for seed in 1 2 3; do
+    holds "$kind: queries, seed $seed" "./queries.$kind" "$board" 2000 "$seed"
+  done
+
   holds "$kind: the wide accesses are built" build "wide.$kind" "$top/tests/library/wide.c" "${words[@]}"
   for seed in 1 2 3; do
     holds "$kind: wide accesses, seed $seed" "./wide.$kind" "$board" 20000 "$seed"
   done
+
+  holds "$kind: the boards are built" build "boards.$kind" "$top/tests/library/boards.c" "${wraps[@]}" "${words[@]}"
+  for seed in 1 2 3; do
+    holds "$kind: boards of firmware, by calls and by lines, seed $seed" "./boards.$kind" "$board" 20000 "$seed"
+  done
+  holds "$kind: the firmware is built" build "firmware.$kind" "$top/tests/library/firmware.c" "${words[@]}"
+  "./firmware.$kind" "$board" > "firmware.$kind.out" 2>&1
+  holds "$kind: the firmware" cmp "firmware.$kind.out" "$top/tests/library/firmware.stdout"
 
   holds "$kind: the checks are built" build "checks.$kind" "$top/tests/library/checks.c" "${words[@]}"
   for file in "$top"/crates/examples/data/*.toml; do
@@ -113,16 +126,19 @@ else
     PCIGUEST_LIBRARY_DIR="$top/library" python3 -m unittest discover -s tests
 fi
 
-# ---- the lines that docs/LIBRARY.md prints, in a program: an empty file is refused
+# ---- the lines that docs/LIBRARY.md prints, in a program: its firmware reads what the region on the board begins with,
+# and an empty file is refused
 awk '/^```c/ { on = 1; next } /^```/ { on = 0 } on' "$top/docs/LIBRARY.md" > lines.c
 {
+  echo '#include <stdio.h>'
   grep '^#include' lines.c
-  echo 'int main(void) { const char board[] = ""; size_t length = 0;'
+  echo 'static char board[65536]; int main(void) { size_t length = fread(board, 1, sizeof board, stdin);'
   grep -v '^#include' lines.c
-  echo 'return fault == 102 ? 0 : 1; }'
+  echo 'printf("%u %x\n", fault, value); return 0; }'
 } > printed.c
-holds 'the lines of LIBRARY.md are built' build printed printed.c -Wno-unused-but-set-variable
-holds 'the lines of LIBRARY.md' ./printed
+holds 'the lines of LIBRARY.md are built' build printed printed.c
+holds 'the lines of LIBRARY.md' test "$(./printed < "$board")" = '0 a5a5a5a5'
+holds 'the lines of LIBRARY.md over an empty file' test "$(./printed < /dev/null)" = '102 0'
 
 # ---- what the library takes from outside, and what it gives
 needs() {

@@ -5,59 +5,9 @@
  * It is linked with --wrap for malloc, realloc and free. The exit status is 1 where an answer is wrong, or memory
  * is lost. */
 #include "pciguest.h"
+#include "refusing.h"
 
-#include <stdio.h>
-#include <stdlib.h>
 #include <string.h>
-
-static long calls_left = -1, blocks;
-
-extern void *__real_malloc(size_t size);
-extern void *__real_realloc(void *old, size_t size);
-extern void __real_free(void *block);
-void *__wrap_malloc(size_t size);
-void *__wrap_realloc(void *old, size_t size);
-void __wrap_free(void *block);
-
-/* Whether this allocation is the one that fails. */
-static bool fails(void)
-{
-    if (calls_left > 0)
-        calls_left--;
-    return calls_left == 0;
-}
-
-void *__wrap_malloc(size_t size)
-{
-    void *block = fails() ? NULL : __real_malloc(size);
-    blocks += block != NULL;
-    return block;
-}
-
-void *__wrap_realloc(void *old, size_t size)
-{
-    void *block = fails() ? NULL : __real_realloc(old, size);
-    blocks += !old && block;
-    return block;
-}
-
-void __wrap_free(void *block)
-{
-    blocks -= block != NULL;
-    __real_free(block);
-}
-
-static int wrong;
-
-static void is(int line, uint64_t found, uint64_t wanted)
-{
-    if (found != wanted) {
-        fprintf(stderr, "refusals.c:%d: %llu in place of %llu\n", line, (unsigned long long)found, (unsigned long long)wanted);
-        wrong = 1;
-    }
-}
-
-#define IS(found, wanted) is(__LINE__, (found), (wanted))
 
 /* No call does anything to a machine that isn't there. */
 static void without_a_machine(void)
@@ -66,6 +16,8 @@ static void without_a_machine(void)
     uint32_t value = 7;
     size_t count = 8;
     char reply[PCIGUEST_REPLY] = "unchanged";
+    struct pciguest_region region = {.size = 9};
+    struct pciguest_hit hit = {.found = 9};
 
     IS(sizeof none, 2 * sizeof(void *));
     IS(pciguest_read(&none, 0, PCIGUEST_CONFIG, 0, 0, 4, &value), 901);
@@ -74,6 +26,8 @@ static void without_a_machine(void)
     IS(pciguest_host_read(&none, PCIGUEST_MEMORY, 0, 0, 0, 0, 4, &value), 901);
     IS(pciguest_move(&none, 0, 0, 0, 1), 901);
     IS(pciguest_reset(&none, 0, 0), 901);
+    IS(pciguest_region(&none, 0, 0, 0, &region), 901);
+    IS(pciguest_locate(&none, 0, PCIGUEST_IO, 0, 0, &hit), 901);
     IS(pciguest_guest(&none, "a", 1, &count), 901);
     IS(pciguest_run_line(&none, "a cr 0 0 4", 10, reply, sizeof reply, &count), 901);
     pciguest_free(&none);
@@ -82,6 +36,8 @@ static void without_a_machine(void)
     IS(value, 7);
     IS(count, 8);
     IS(strcmp(reply, "unchanged"), 0);
+    IS(region.size, 9);
+    IS(hit.found, 9);
 }
 
 static void null_pointers(struct pciguest *machine)
@@ -89,6 +45,8 @@ static void null_pointers(struct pciguest *machine)
     uint32_t value = 0;
     size_t count = 0;
     char reply[PCIGUEST_REPLY] = {0};
+    struct pciguest_region region = {0};
+    struct pciguest_hit hit = {0};
 
     IS(pciguest_new(NULL, "", 0), 902);
     IS(pciguest_new(machine, NULL, 1), 902);
@@ -100,6 +58,10 @@ static void null_pointers(struct pciguest *machine)
     IS(pciguest_host_read(machine, PCIGUEST_IO, 0, 0, 0, 0, 1, NULL), 902);
     IS(pciguest_move(NULL, 0, 0, 0, 0), 902);
     IS(pciguest_reset(NULL, 0, 0), 902);
+    IS(pciguest_region(NULL, 0, 0, 0, &region), 902);
+    IS(pciguest_region(machine, 0, 0, 0, NULL), 902);
+    IS(pciguest_locate(NULL, 0, PCIGUEST_IO, 0, 0, &hit), 902);
+    IS(pciguest_locate(machine, 0, PCIGUEST_IO, 0, 0, NULL), 902);
     IS(pciguest_guest(machine, "a", 1, NULL), 902);
     IS(pciguest_run_line(machine, "", 0, NULL, 0, &count), 902);
     IS(pciguest_run_line(machine, "", 0, reply, sizeof reply, NULL), 902);
@@ -165,9 +127,9 @@ static void reply_is(int line, struct pciguest *machine, const char *text, const
     char reply[PCIGUEST_REPLY];
     size_t count = 0;
 
-    is(line, pciguest_run_line(machine, text, strlen(text), reply, sizeof reply, &count), 0);
-    is(line, count, strlen(wanted));
-    is(line, memcmp(reply, wanted, strlen(wanted)) == 0, 1);
+    is(__FILE__, line, pciguest_run_line(machine, text, strlen(text), reply, sizeof reply, &count), 0);
+    is(__FILE__, line, count, strlen(wanted));
+    is(__FILE__, line, memcmp(reply, wanted, strlen(wanted)) == 0, 1);
 }
 
 /* A line feed at the end of a line is no part of it, and one elsewhere makes it a bad line. */
@@ -247,7 +209,7 @@ static void words(uint32_t number, const char *wanted)
 
 static void all_words(void)
 {
-    static const uint32_t without[] = {0, 1, 100, 113, 200, 206, 300, 304, 400, 404, 603, 900, 904, 0xffffffff, 0x10065};
+    static const uint32_t without[] = {0, 1, 100, 113, 200, 206, 300, 304, 400, 404, 603, 900, 905, 0xffffffff, 0x10065};
     uint32_t number, known = 0;
     char text[PCIGUEST_WORDS] = {0};
     size_t needed = 0;
@@ -265,13 +227,14 @@ static void all_words(void)
     words(901, "no machine");
     words(902, "argument");
     words(903, "in use");
+    words(904, "not at reset");
     for (size_t i = 0; i < sizeof without / sizeof *without; i++)
         words(without[i], "");
     for (number = 0; number < 1 << 17; number++) {
         IS(pciguest_words(number, text, sizeof text, &needed), 0);
         known += needed != 0;
     }
-    IS(known, 35);
+    IS(known, 36);
 }
 
 /* Each allocation fails in turn: the answer is out of memory, the handle stays empty, and nothing is lost. */

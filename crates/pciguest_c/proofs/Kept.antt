@@ -1,22 +1,20 @@
 -- Reads change nothing.
 --     reads_keep      guests after a read
 --     place_told      a guest by its name, among the names that the program holds
-use Rattle.std.proofs.Common.{◌≡◌, ◌≢◌, ℕ, List, [], ◌∷◌, Bool, true, false, Option, Some, None, length, map, refl, sym, ap, ap₂, ◌∙◌}
+use Rattle.std.proofs.Common.{◌≡◌, ℕ, List, [], ◌∷◌, Bool, true, false, Some, None, length, map, refl, sym, ap, ap₂, ◌∙◌}
 use Rattle.std.specs.Prelude.{if◌then◌else◌, is_some, position, cond, nat_lt, not, ◌+◌, suc}
 use Rattle.std.specs.List.{prefix_len}
-use Rattle.std.specs.Option.{option_map_or}
 use Rattle.std.specs.Str.{bytes_eq}
 use Rattle.model_guests.specs.Text.{Text}
-use Rattle.model_guests.specs.Accesses.{Target, Op, reads, writes, Access, access, done, refused}
-use Rattle.model_guests.specs.Slots.{Slots, Landing, fault_of, perform, landing}
-use Rattle.model_guests.specs.Lone.{LoneGuest, Destination, own_latch, no_function, at_target, reply_at, changed_by, performed, answer, destination}
-use Rattle.model_guests.specs.Guests.{GuestNow, GuestsNow, guest_after, with_guest, Move, move_fault, handed_over, path_in, function_in}
-use Rattle.model_guests.specs.Lines.{guest_event, host_move}
-use Rattle.model_guests.specs.WorldNow.{WorldNow, names_now, after_meaning, move_reply}
+use Rattle.model_guests.specs.Accesses.{Target, reads, Access, access}
+use Rattle.model_guests.specs.Slots.{fault_of}
+use Rattle.model_guests.specs.Lone.{LoneGuest}
+use Rattle.model_guests.specs.Guests.{GuestNow, GuestsNow, guest_after, with_guest}
+use Rattle.model_guests.specs.Lines.{guest_event}
+use Rattle.model_handoff.specs.WorldOver.{WorldOver, names_now, after_meaning}
 use Rattle.arrayvec.specs.ArrayVec.{ArrayVec}
 use Rattle.arrayvec.specs.ArrayString.{ArrayString}
 use Rattle.monitor.specs.Views.{texts}
-use Rattle.pciguest_c.specs.Told.{number_told}
 
 same_if : {T : Type 0} (b : Bool) (x : T) → (if b then x else x) ≡ x
 same_if true x = refl
@@ -29,7 +27,7 @@ with_same f name (g ∷ gs) same =
     (ap (λ (x : GuestNow). if bytes_eq name g.name then x else g) (same g) ∙ same_if (bytes_eq name g.name) g)
     (with_same f name gs same)
 
-pub reads_keep : (m : WorldNow) (name : Text) (t : Target) (width : ℕ)
+pub reads_keep : (m : WorldOver) (name : Text) (t : Target) (width : ℕ)
     → after_meaning m (guest_event name (access (record { target = t; width = width; op = reads }))) ≡ m
 reads_keep m name t width =
     let a : Access = record { target = t; width = width; op = reads } in
@@ -49,7 +47,7 @@ position_mapped p f xs =
     ap₂ (λ (k n : ℕ). cond (nat_lt k n) (Some k) None) (prefix_mapped (λ y. not (p y)) f xs) (length_mapped f xs)
 
 -- a guest's place among the names that the program holds
-pub place_told : (name : Text) (names : ArrayVec ArrayString) (m : WorldNow) → texts names ≡ names_now m
+pub place_told : (name : Text) (names : ArrayVec ArrayString) (m : WorldOver) → texts names ≡ names_now m
     → position (λ n. bytes_eq n.bytes name) names.items ≡ position (λ n. bytes_eq n name) (names_now m)
 place_told name names m same =
     sym (position_mapped (λ (n : Text). bytes_eq n name) (λ (n : ArrayString). n.bytes) names.items)

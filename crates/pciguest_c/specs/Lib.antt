@@ -3,3 +3,4 @@ pub mod NumberWords
 pub mod Owning
 pub mod Told
 pub mod DevicesTold
+pub mod QueriesTold

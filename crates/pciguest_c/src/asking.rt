@@ -2,7 +2,7 @@
 ghost use Rattle.std.specs.Prelude.{◌≡◌, ◌≢◌, ◌<◌, ◌≤◌, None, Some, length, nat_lt, option_map, position, unwrap_or};
 ghost use Rattle.std.specs.Str.{bytes_eq};
 ghost use Rattle.model_guests.specs.Accesses.{Target, RaisePlace, access, raises, reads, writes};
-ghost use Rattle.model_guests.specs.WorldNow.{names_now};
+ghost use Rattle.model_handoff.specs.WorldOver.{names_now};
 ghost use Rattle.accesses.specs.Accesses.{target_of, part_of};
 ghost use Rattle.pciguest_c.specs.Told.{index_told, number_told, value_told, target_told, part_told, reply_asked, after_asked};
 
@@ -11,7 +11,7 @@ use accesses::{Access, At, Names, Op, Place, Reply};
 use monitor::Monitor;
 
 /// Where an access goes, if there is such a space.
-fn at_of(space: u32, slot: u64, place: u64) -> Option<At>
+pub fn at_of(space: u32, slot: u64, place: u64) -> Option<At>
     ensures { option_map target_of result ≡ target_told space slot place }
 {
     match space {

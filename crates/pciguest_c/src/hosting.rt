@@ -2,7 +2,8 @@
 ghost use Rattle.std.specs.Prelude.{◌≡◌, ◌≢◌, ◌<◌, ◌≤◌, None, Some, length, option_map};
 ghost use Rattle.model_guests.specs.Grammar.{HostTarget};
 ghost use Rattle.model_guests.specs.Lines.{host_move};
-ghost use Rattle.model_guests.specs.WorldNow.{host_reply, move_reply, after_meaning};
+ghost use Rattle.model_guests.specs.WorldNow.{move_reply};
+ghost use Rattle.model_handoff.specs.WorldOver.{host_reply, after_meaning};
 ghost use Rattle.accesses.specs.Accesses.{host_target_of};
 ghost use Rattle.monitor.specs.Moves.{move_nth};
 ghost use Rattle.pciguest_c.specs.Told.{at_bus, number_told, value_told, host_target_told};
@@ -12,8 +13,8 @@ use crate::numbers::{ARGUMENT, number_of};
 use accesses::{Bdf, HostAccess, HostAt, Reply};
 use monitor::Monitor;
 
-/// Where a read by the host goes, if there is such a space and such a physical number.
-fn host_at(space: u32, bus: u8, device: u8, function: u8, place: u64) -> Option<HostAt>
+/// Where an access of the host goes, if there is such a space and such a physical number.
+pub fn host_at(space: u32, bus: u8, device: u8, function: u8, place: u64) -> Option<HostAt>
     ensures { option_map host_target_of result ≡ host_target_told space (at_bus bus device function) place }
 {
     match space {

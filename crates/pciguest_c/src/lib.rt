@@ -1,7 +1,15 @@
-//! The library for C: a monitor of a board file behind a handle, and what it is asked.
+//! The library for C: a monitor of a board file, or its board at reset, behind a handle, and what each is
+//! asked.
 #![tactic(auto)]
 
 mod asking;
+mod auditing;
+mod board_calls;
+mod board_handle;
+mod board_life;
+mod board_owner;
+mod board_set_up;
+mod driving;
 mod guest_calls;
 mod handle;
 mod host_calls;
@@ -10,6 +18,7 @@ mod life;
 mod number_words;
 mod numbers;
 mod owner;
+mod querying;
 mod resetting;
 mod text;
 mod text_calls;

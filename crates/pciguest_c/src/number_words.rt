@@ -26,6 +26,7 @@ fn own_words(number: u32) -> &'static [u8]
         901 => b"no machine",
         902 => b"argument",
         903 => b"in use",
+        904 => b"not at reset",
         _ => b"",
     }
 }

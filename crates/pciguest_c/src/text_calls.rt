@@ -6,7 +6,7 @@ ghost use Rattle.model_set_up.specs.SetUpWrites.{set_up_rules};
 ghost use Rattle.model_guests.specs.Text.{Text};
 ghost use Rattle.model_guests.specs.World.{World};
 ghost use Rattle.model_guests.specs.Report.{report};
-ghost use Rattle.model_guests.specs.WorldNow.{line_output, after_line};
+ghost use Rattle.model_handoff.specs.WorldOver.{line_output, after_line};
 ghost use Rattle.simulation.specs.Listing.{Declares, Refuses};
 ghost use Rattle.pciguest_c.specs.Checks.{IsCheckOf};
 ghost use Rattle.pciguest_c.specs.NumberWords.{words_of_number};
@@ -19,10 +19,10 @@ use script::run_line;
 use std::alloc::Global;
 
 /// The bytes of the longest line that answers a line.
-const LONGEST_REPLY: usize = 48;
+pub const LONGEST_REPLY: usize = 48;
 
 /// Puts a text at the front of a buffer that has room for it.
-fn put(out: &mut [u8], text: &[u8])
+pub fn put(out: &mut [u8], text: &[u8])
     requires { length text.now ≤ length out.old }
     ensures { out.new ≡ text.now ++ drop (length text.now) out.old }
 {
@@ -30,7 +30,7 @@ fn put(out: &mut [u8], text: &[u8])
 }
 
 /// Tells how long a text is, and puts it at the front of a buffer, if that has room for it.
-fn tell(text: &[u8], out: &mut [u8], needed: &mut usize) -> bool
+pub fn tell(text: &[u8], out: &mut [u8], needed: &mut usize) -> bool
     ensures room { IsTrue result ↔ (length text.now ≤ length out.old) }
     ensures text { OnTrue result (out.new ≡ text.now ++ drop (length text.now) out.old) }
     ensures unwritten { OnFalse result (out.new ≡ out.old) }

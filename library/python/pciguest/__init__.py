@@ -1,7 +1,8 @@
 """A PCI board, its firmware, and the monitor that gives its functions to guests, for tests of drivers and for teaching.
 
-A machine is a board that is set up from a board file, with its guests. An access is written [place:width], where the
-width is 1, 2 or 4 bytes; reading it gives a number, and assigning to it writes one.
+A machine is a board that is set up from a board file, with its guests; a `Board` is one that firmware of one's own
+drives, from reset on. An access is written [place:width], where the width is 1, 2 or 4 bytes; reading it gives a
+number, and assigning to it writes one.
 
 >>> from pciguest import Machine, Refusal
 >>> board = '''
@@ -40,10 +41,28 @@ It stands over the shared library libpciguest.so.0, by ctypes: that of the folde
 files, lines and numbers, and docs/LIBRARY.md what is proved of the library. This module itself is tested.
 """
 
+from ._board import Audit, Board
 from ._machine import Guest, Host, Machine
 from ._refusal import Refusal, words
-from ._spaces import ReadableSpace, Space
+from ._regions import Hit, Region
+from ._spaces import Functions, ReadableSpace, Space
 from ._texts import Check, check, report
 
-__all__ = ["Check", "Guest", "Host", "Machine", "ReadableSpace", "Refusal", "Space", "check", "report", "words"]
+__all__ = [
+    "Audit",
+    "Board",
+    "Check",
+    "Functions",
+    "Guest",
+    "Hit",
+    "Host",
+    "Machine",
+    "ReadableSpace",
+    "Refusal",
+    "Region",
+    "Space",
+    "check",
+    "report",
+    "words",
+]
 __version__ = "0.3.0"

@@ -29,11 +29,36 @@ class Handle(ctypes.Structure):
     _fields_ = [("live", ctypes.c_bool), ("at", ctypes.c_void_p)]
 
 
+class BoardHandle(ctypes.Structure):
+    """The struct of the header for a board that firmware drives. All bytes 0 are no board."""
+
+    _fields_ = [("live", ctypes.c_bool), ("at", ctypes.c_void_p)]
+
+
+class RegionTold(ctypes.Structure):
+    """What is told of a region: `space` is one of those above, and the last two are 1 or 0."""
+
+    _fields_ = [
+        ("first", c_uint64),
+        ("size", c_uint64),
+        ("space", c_uint32),
+        ("prefetchable", c_uint32),
+        ("is_open", c_uint32),
+    ]
+
+
+class HitTold(ctypes.Structure):
+    """What is told of a hit: `found` is 1 or 0."""
+
+    _fields_ = [("slot", c_uint64), ("offset", c_uint64), ("part", c_uint32), ("found", c_uint32)]
+
+
 _MACHINE = POINTER(Handle)
+_BOARD = POINTER(BoardHandle)
 _ROOM = POINTER(c_char)
 _BOARD_TEXT = (c_char_p, c_size_t, _ROOM, c_size_t, POINTER(c_size_t))
 
-# what each call takes; `free` answers nothing, and all others a number
+# what each call takes; those that free answer nothing, and all others a number
 PARAMETERS: Dict[str, Tuple[Any, ...]] = {
     "new": (_MACHINE, c_char_p, c_size_t),
     "free": (_MACHINE,),
@@ -44,10 +69,19 @@ PARAMETERS: Dict[str, Tuple[Any, ...]] = {
     "host_read": (_MACHINE, c_uint32, c_uint8, c_uint8, c_uint8, c_uint64, c_uint32, POINTER(c_uint32)),
     "move": (_MACHINE, c_size_t, c_uint64, c_size_t, c_uint64),
     "reset": (_MACHINE, c_size_t, c_uint64),
+    "region": (_MACHINE, c_size_t, c_uint64, c_uint32, POINTER(RegionTold)),
+    "locate": (_MACHINE, c_size_t, c_uint32, c_uint64, c_uint64, POINTER(HitTold)),
     "run_line": (_MACHINE, c_char_p, c_size_t, _ROOM, c_size_t, POINTER(c_size_t)),
     "report": _BOARD_TEXT,
     "check": _BOARD_TEXT,
     "words": (c_uint32, _ROOM, c_size_t, POINTER(c_size_t)),
+    "board_new": (_BOARD, c_char_p, c_size_t),
+    "board_free": (_BOARD,),
+    "board_read": (_BOARD, c_uint32, c_uint8, c_uint8, c_uint8, c_uint64, c_uint32, POINTER(c_uint32)),
+    "board_write": (_BOARD, c_uint32, c_uint8, c_uint8, c_uint8, c_uint64, c_uint32, c_uint32),
+    "board_run_line": (_BOARD, c_char_p, c_size_t, _ROOM, c_size_t, POINTER(c_size_t)),
+    "board_audit": (_BOARD, _ROOM, c_size_t, POINTER(c_size_t), POINTER(c_size_t)),
+    "set_up": (_BOARD, _MACHINE),
 }
 
 
@@ -73,7 +107,7 @@ def _load() -> Dict[str, Callable[..., Any]]:
     for name, parameters in PARAMETERS.items():
         call = getattr(library, "pciguest_raw_" + name)
         call.argtypes = parameters
-        call.restype = None if name == "free" else c_uint32
+        call.restype = None if name in ("free", "board_free") else c_uint32
         calls[name] = call
     return calls
 

@@ -2,24 +2,16 @@
 
 from __future__ import annotations
 
-import ctypes
-import threading
-import weakref
 from ctypes import byref, c_size_t, c_uint32
-from types import TracebackType
-from typing import Any, Iterator, Optional, Tuple, Type, Union
+from typing import Any, Callable, Iterator, Optional, Union
 
-from ._calls import CALLS, CONFIG, IO, MEMORY, RAISE_CONFIG, REPLY, Handle, number
-from ._refusal import answered
-from ._spaces import ReadableSpace, Space
-
-
-def as_bytes(text: Union[str, bytes]) -> bytes:
-    """A text as the library takes it: UTF-8."""
-    return text.encode() if isinstance(text, str) else bytes(text)
+from ._calls import CALLS, CONFIG, IO, MEMORY, RAISE_CONFIG, Handle, HitTold, RegionTold, number
+from ._held import Held, as_bytes
+from ._regions import Hit, Region
+from ._spaces import Functions, ReadableSpace, Space
 
 
-class Machine:
+class Machine(Held):
     """A board that is set up, with its guests.
 
     `Machine(open("board.toml").read())` sets up the board of a board file, and gives its functions to the guests of the
@@ -31,34 +23,14 @@ class Machine:
 
     def __init__(self, board: Union[str, bytes]) -> None:
         text = as_bytes(board)
-        self._handle = Handle()
-        # A signal's handler of Python runs between calls, and may make one within a call of this class.
-        self._lock = threading.RLock()
-        answered(CALLS["new"](byref(self._handle), text, len(text)))
-        self._free = weakref.finalize(self, CALLS["free"], self._handle)
-        self._free.atexit = False
+        super().__init__(Handle(), "free", lambda handle: CALLS["new"](handle, text, len(text)))
 
-    def close(self) -> None:
-        """Frees what the machine holds. A second time nothing happens."""
-        with self._lock:
-            self._free()
-
-    def __enter__(self) -> Machine:
-        return self
-
-    def __exit__(
-        self,
-        kind: Optional[Type[BaseException]],
-        error: Optional[BaseException],
-        trace: Optional[TracebackType],
-    ) -> None:
-        self.close()
-
-    def _call(self, name: str, *arguments: Any) -> None:
-        """Makes a call on the machine, once the one before has ended. Arguments are in range."""
-        with self._lock:
-            answer = CALLS[name](byref(self._handle), *arguments)
-        answered(answer)
+    @classmethod
+    def _made_by(cls, make: Callable[[Any], int]) -> Machine:
+        """The machine that a call leaves in a struct that holds none."""
+        machine = cls.__new__(cls)
+        Held.__init__(machine, Handle(), "free", make)
+        return machine
 
     def guest(self, name: str) -> Guest:
         """The guest of a name. 902: no guest has this name."""
@@ -86,14 +58,7 @@ class Machine:
         """Runs one line of a script, with its line feed or without; a line feed elsewhere makes it a bad line. The
         reply stands without its line feed, and a blank line or a comment has none. A line that is refused is answered
         by its reply: 'a: refused 301 misaligned'."""
-        text = as_bytes(line)
-        if text.endswith(b"\n"):
-            text = text[:-1]
-        reply, written = ctypes.create_string_buffer(REPLY), c_size_t(0)
-        self._call("run_line", text, len(text), reply, REPLY, byref(written))
-        if written.value == 0:
-            return None
-        return reply.raw[: written.value - 1].decode("ascii", "replace")
+        return self._reply("run_line", line)
 
 
 class _Slots:
@@ -161,6 +126,33 @@ class Guest:
         """
         self.machine._call("reset", self.index, number("slot", slot, 64))
 
+    def region(self, slot: int, register: int) -> Region:
+        """Where the region that begins at a base address register, 0 to 5, of the function in a slot stands now, in the
+        guest's own view. The answer stays until the guest writes Command or a base address register of this function,
+        the function is moved, or it is reset. It changes nothing.
+
+        303: the slot is above 31, or no region begins at this register. 601: the slot is empty.
+        """
+        told = RegionTold()
+        place = number("slot", slot, 64), number("register", register, 32)
+        self.machine._call("region", self.index, *place, byref(told))
+        space = "io" if told.space == IO else "memory"
+        return Region(space, told.first, told.size, bool(told.prefetchable), bool(told.is_open))
+
+    def locate(self, space: str, place: int) -> Optional[Hit]:
+        """What an access of the guest at a port ("io") or at an address ("memory") hits: a byte of a function in one of
+        its slots, or nothing. Every access there begins at this byte, but for four bytes at port CF8h, which are the
+        guest's own CONFIG_ADDRESS. It changes nothing. 303: the port is out of range.
+        """
+        if space not in ("io", "memory"):
+            raise ValueError(f"space: {space!r} is neither 'io' nor 'memory'")
+        told = HitTold()
+        asked = IO if space == "io" else MEMORY
+        self.machine._call("locate", self.index, asked, 0, number("place", place, 64), byref(told))
+        if not told.found:
+            return None
+        return Hit(told.slot, None if told.part == RAISE_CONFIG else told.part, told.offset)
+
     def _space(self, space: int, slot: int) -> Space:
         def read(place: int, width: int) -> int:
             value = c_uint32(0)
@@ -171,21 +163,6 @@ class Guest:
             self.machine._call("write", self.index, space, slot, place, width, value)
 
         return Space(read, write)
-
-
-class _Functions:
-    """Configuration space by number: functions[bus, device, function]."""
-
-    def __init__(self, host: Host) -> None:
-        self._host = host
-
-    def __getitem__(self, key: Tuple[int, int, int]) -> ReadableSpace:
-        if not isinstance(key, tuple) or len(key) != 3:
-            raise TypeError("a function is written [bus, device, function]")
-        bus, device, function = key
-        return self._host._space(
-            CONFIG, number("bus", bus, 8), number("device", device, 8), number("function", function, 8)
-        )
 
 
 class Host:
@@ -199,9 +176,9 @@ class Host:
         self.machine = machine
 
     @property
-    def config(self) -> _Functions:
+    def config(self) -> Functions[ReadableSpace]:
         """Configuration space by number: `config[0, 2, 0][0:4]` is 4 bytes at offset 0 of 00:02.0."""
-        return _Functions(self)
+        return Functions(lambda *at: self._space(CONFIG, *at))
 
     @property
     def io(self) -> ReadableSpace:

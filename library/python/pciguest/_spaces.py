@@ -2,7 +2,7 @@
 
 from __future__ import annotations
 
-from typing import Callable, Tuple
+from typing import Callable, Generic, Tuple, TypeVar
 
 from ._calls import number
 
@@ -39,3 +39,19 @@ class Space(ReadableSpace):
     def __setitem__(self, key: slice, value: int) -> None:
         place, width = place_and_width(key)
         self._write(place, width, number("value", value, 32))
+
+
+AnySpace = TypeVar("AnySpace", bound=ReadableSpace)
+
+
+class Functions(Generic[AnySpace]):
+    """Configuration space by number: functions[bus, device, function]."""
+
+    def __init__(self, space: Callable[[int, int, int], AnySpace]) -> None:
+        self._space = space
+
+    def __getitem__(self, key: Tuple[int, int, int]) -> AnySpace:
+        if not isinstance(key, tuple) or len(key) != 3:
+            raise TypeError("a function is written [bus, device, function]")
+        bus, device, function = key
+        return self._space(number("bus", bus, 8), number("device", device, 8), number("function", function, 8))

@@ -5,7 +5,7 @@ from __future__ import annotations
 from typing import Callable, NamedTuple, Optional, Union
 
 from ._calls import CALLS, told
-from ._machine import as_bytes
+from ._held import as_bytes
 from ._refusal import Refusal, answered
 
 

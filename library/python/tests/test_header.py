@@ -11,10 +11,13 @@ from pciguest import _calls
 HEADER = (TOP / "library" / "pciguest.h").read_text()
 TYPES = {
     "struct pciguest *": POINTER(_calls.Handle),
+    "struct pciguest_board *": POINTER(_calls.BoardHandle),
     "const uint8_t *": c_char_p,
     "uint8_t *": POINTER(c_char),
     "uint32_t *": POINTER(c_uint32),
     "size_t *": POINTER(c_size_t),
+    "struct pciguest_region *": POINTER(_calls.RegionTold),
+    "struct pciguest_hit *": POINTER(_calls.HitTold),
     "size_t": c_size_t,
     "uint8_t": c_uint8,
     "uint32_t": c_uint32,
@@ -34,7 +37,7 @@ def declared():
 class Header(unittest.TestCase):
     def test_calls(self):
         calls = declared()
-        self.assertEqual(len(calls), 13)
+        self.assertEqual(len(calls), 22)
         self.assertEqual({name: types for name, (_, types) in calls.items()}, _calls.PARAMETERS)
         for name, (answer, types) in calls.items():
             call = _calls.CALLS[name]
@@ -47,10 +50,17 @@ class Header(unittest.TestCase):
             self.assertEqual(int(given[name]), getattr(_calls, name), name)
 
     def test_handle(self):
-        fields = re.search(r"^struct pciguest \{\n    bool live;\n    void \*at;\n\};", HEADER, re.MULTILINE)
-        self.assertTrue(fields)
-        self.assertEqual(sizeof(_calls.Handle), 2 * sizeof(c_void_p))
-        self.assertEqual(_calls.Handle.at.offset, sizeof(c_void_p))
+        for name, handle in (("pciguest", _calls.Handle), ("pciguest_board", _calls.BoardHandle)):
+            struct = rf"^struct {name} \{{\n    bool live;\n    void \*at;\n\}};"
+            self.assertTrue(re.search(struct, HEADER, re.MULTILINE))
+            self.assertEqual(sizeof(handle), 2 * sizeof(c_void_p))
+            self.assertEqual(handle.at.offset, sizeof(c_void_p))
+
+    def test_structs(self):
+        for name, told in (("region", _calls.RegionTold), ("hit", _calls.HitTold)):
+            inside = re.search(r"^struct pciguest_" + name + r" \{\n(.*?)^\};", HEADER, re.MULTILINE | re.DOTALL).group(1)
+            fields = [(field, TYPES[kind]) for kind, field in re.findall(r"^    (\w+) (\w+);", inside, re.MULTILINE)]
+            self.assertEqual(fields, told._fields_, name)
 
     def test_version(self):
         version = re.search(r'^#define PCIGUEST_VERSION "(.*)"', HEADER, re.MULTILINE).group(1)

@@ -56,6 +56,27 @@ class Guests(Case):
         for region in (6, 7, 0xFFFFFFFF):
             self.refused(902, self.a.raise_bits, 0, 7, 0x80, region)
 
+    def test_regions_stand_where_their_guest_put_them(self):
+        a, function = self.a, self.a.config[1]
+        self.assertEqual(a.region(0, 0), ("io", 0, 32, False, False))
+        function[0x14:4] = 0x20
+        function[4:2] = 2
+        self.assertEqual(a.region(1, 0), ("memory", 0x2000000000, 0x1000000, True, True))
+        self.assertEqual(a.locate("memory", 0x2000000010), (1, 0, 0x10))
+        self.assertIsNone(self.b.locate("memory", 0x2000000010))
+        a.io[0xCF8:4] = 0x80000840
+        self.assertEqual(a.locate("io", 0xCFE), (1, None, 0x42))
+        a.reset(1)
+        self.assertFalse(a.region(1, 0).is_open)
+        self.assertIsNone(a.locate("memory", 0x2000000010))
+        for slot, register, answer in ((0, 2, 303), (0, 0xFFFFFFFF, 303), (31, 0, 601), (32, 0, 303)):
+            self.refused(answer, a.region, slot, register)
+        self.refused(303, a.locate, "io", 1 << 32)
+        with self.assertRaises(ValueError):
+            a.locate("config", 0)
+        with self.assertRaises(ValueError):
+            a.region(0, -1)
+
     def test_a_function_moves(self):
         self.a.config[0][4:2] = 2
         self.machine.move(self.a, 0, self.b, 5)

@@ -8,8 +8,8 @@ from pciguest import Machine, Refusal, check, report, words
 
 
 def load_tests(loader, tests, pattern):
-    for name in ("", "._machine", "._refusal", "._spaces", "._texts"):
-        tests.addTests(doctest.DocTestSuite("pciguest" + name))
+    for name in ("", "._board", "._held", "._machine", "._refusal", "._spaces", "._texts"):
+        tests.addTests(doctest.DocTestSuite("pciguest" + name, extraglobs={"BOARD": MAIN}))
     return tests
 
 
@@ -42,7 +42,7 @@ class Texts(unittest.TestCase):
         self.assertTrue(text.startswith("endpoints 769 bridges 255\n") and text.endswith("\n"))
 
     def test_words(self):
-        self.assertEqual(sum(words(each) != "" for each in range(1000)), 35)
+        self.assertEqual(sum(words(each) != "" for each in range(1000)), 36)
         self.assertEqual(words(205), "prefetchable pool")
         self.assertEqual(words(0xFFFFFFFF), "")
 

@@ -81,6 +81,8 @@ pub enum Error {
     Slot(Refusal),
     /// 902: a guest, a region, a device or a function that can't be there, or a name that no guest has.
     Argument(Refusal),
+    /// 904: a write was done on a board since reset.
+    NotAtReset(Refusal),
     /// Any other number. The library has none today that a call of this crate meets.
     Other(Refusal),
 }
@@ -95,6 +97,7 @@ impl Error {
             301..=303 => Error::Access(refusal),
             601 | 602 => Error::Slot(refusal),
             902 => Error::Argument(refusal),
+            904 => Error::NotAtReset(refusal),
             _ => Error::Other(refusal),
         }
     }
@@ -108,6 +111,7 @@ impl Error {
             | Error::Access(refusal)
             | Error::Slot(refusal)
             | Error::Argument(refusal)
+            | Error::NotAtReset(refusal)
             | Error::Other(refusal) => refusal,
         }
     }

@@ -2,7 +2,7 @@
 //! calls of Rust.
 //!
 //! A [`Machine`] is a board that is set up from a board file, with its guests. Each access, raise, move or line of a
-//! script is a call on it. `docs/FORMATS.md` explains board files, lines and numbers, and `docs/LIBRARY.md` what is
+//! script is a call on it. A [`Board`] is one that firmware of one's own drives, from reset on. `docs/FORMATS.md` explains board files, lines and numbers, and `docs/LIBRARY.md` what is
 //! proved of the calls; this crate itself is tested.
 //!
 //! ```
@@ -37,17 +37,19 @@
 //! # Ok::<(), pciguest::Error>(())
 //! ```
 //!
-//! A machine is not used in a signal handler, nor in a child that a process with several threads forked.
+//! Neither is used in a signal handler, nor in a child that a process with several threads forked.
 
 #![warn(missing_docs)]
 
+mod board;
 mod error;
 mod machine;
 mod place;
 mod raw;
 mod text;
 
+pub use board::{Audit, Board};
 pub use error::{Error, Refusal};
 pub use machine::Machine;
-pub use place::{At, Guest, HostAt, Part};
+pub use place::{At, Guest, Hit, HostAt, Part, Region, Space};
 pub use text::{check, report, words, Check};

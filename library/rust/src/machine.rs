@@ -1,8 +1,9 @@
 //! A board that is set up, with its guests.
 
 use crate::error::{answered, Error};
-use crate::place::{At, Guest, HostAt, Part};
-use crate::raw::{self, Handle, REPLY};
+use crate::place::{At, Guest, Hit, HostAt, Part, Region};
+use crate::raw::{self, Handle};
+use crate::text::reply_to;
 use std::fmt;
 use std::ptr::null_mut;
 
@@ -51,12 +52,19 @@ impl Machine {
     /// ```
     pub fn new(board: impl AsRef<[u8]>) -> Result<Machine, Error> {
         let board = board.as_ref();
+        // SAFETY: the handle holds no machine, and `board` has as many bytes as is said.
+        Machine::made_by(|handle| unsafe {
+            raw::pciguest_raw_new(handle, board.as_ptr(), board.len())
+        })
+    }
+
+    /// The machine that a call leaves in a handle that holds none.
+    pub(crate) fn made_by(call: impl FnOnce(&mut Handle) -> u32) -> Result<Machine, Error> {
         let mut handle = Handle {
             live: false,
             at: null_mut(),
         };
-        // SAFETY: the handle holds no machine, and `board` has as many bytes as is said.
-        answered(unsafe { raw::pciguest_raw_new(&mut handle, board.as_ptr(), board.len()) })?;
+        answered(call(&mut handle))?;
         Ok(Machine { handle })
     }
 
@@ -205,6 +213,72 @@ impl Machine {
         answered(unsafe { raw::pciguest_raw_reset(&mut self.handle, guest.index(), slot) })
     }
 
+    /// Where the region that begins at a base address register, 0 to 5, stands now, in the guest's own view. The answer
+    /// stays until the guest writes Command or a base address register of this function, the function is moved, or it
+    /// is reset. It changes nothing.
+    ///
+    /// # Errors
+    ///
+    /// 303: the slot is above 31, or no region begins at this register. 601: the slot is empty. 902: there is no such
+    /// guest.
+    ///
+    /// ```
+    /// # const BOARD: &str = include_str!("board.toml");
+    /// use pciguest::{At, Machine, Space};
+    ///
+    /// let mut machine = Machine::new(BOARD)?;
+    /// let a = machine.guest("a")?;
+    /// machine.write(a, At::Config { slot: 0, offset: 0x10 }, 4, 0x8000_0000)?;
+    /// machine.write(a, At::Config { slot: 0, offset: 0x04 }, 2, 2)?;
+    /// let region = machine.region(a, 0, 0)?;
+    /// assert_eq!((region.space, region.first, region.size), (Space::Memory, 0x8000_0000, 4096));
+    /// assert!(region.is_open);
+    /// # Ok::<(), pciguest::Error>(())
+    /// ```
+    pub fn region(&mut self, guest: Guest, slot: u64, register: u32) -> Result<Region, Error> {
+        let mut told = raw::Region::default();
+        // SAFETY: `told` is a place of its own.
+        answered(unsafe {
+            raw::pciguest_raw_region(&mut self.handle, guest.index(), slot, register, &mut told)
+        })?;
+        Ok(Region::of(&told))
+    }
+
+    /// What an access of the guest at a place hits: a byte of a function in one of its slots, or nothing. Every access
+    /// there begins at this byte, but for four bytes at port CF8h, which are the guest's own CONFIG_ADDRESS. It changes
+    /// nothing. Refused as a read of one byte is.
+    ///
+    /// ```
+    /// # const BOARD: &str = include_str!("board.toml");
+    /// use pciguest::{At, Hit, Machine, Part};
+    ///
+    /// let mut machine = Machine::new(BOARD)?;
+    /// let a = machine.guest("a")?;
+    /// let bell = At::Memory { address: 0x8000_0010 };
+    /// assert_eq!(machine.locate(a, bell)?, None);
+    /// machine.write(a, At::Config { slot: 0, offset: 0x10 }, 4, 0x8000_0000)?;
+    /// machine.write(a, At::Config { slot: 0, offset: 0x04 }, 2, 2)?;
+    /// let hit = Hit { slot: 0, part: Part::Region(0), offset: 0x10 };
+    /// assert_eq!(machine.locate(a, bell)?, Some(hit));
+    /// # Ok::<(), pciguest::Error>(())
+    /// ```
+    pub fn locate(&mut self, guest: Guest, at: At) -> Result<Option<Hit>, Error> {
+        let (space, slot, place) = at.parts();
+        let mut told = raw::Hit::default();
+        // SAFETY: `told` is a place of its own.
+        answered(unsafe {
+            raw::pciguest_raw_locate(
+                &mut self.handle,
+                guest.index(),
+                space,
+                slot,
+                place,
+                &mut told,
+            )
+        })?;
+        Ok(Hit::of(&told))
+    }
+
     /// Runs one line of a script, with its line feed or without; a line feed elsewhere makes it a bad line. The reply
     /// stands without its line feed, and a blank line or a comment has none. A line that is refused is answered by its
     /// reply.
@@ -218,24 +292,12 @@ impl Machine {
     /// # Ok::<(), pciguest::Error>(())
     /// ```
     pub fn run_line(&mut self, line: impl AsRef<[u8]>) -> Result<Option<String>, Error> {
-        let line = line.as_ref();
-        let line = line.strip_suffix(b"\n").unwrap_or(line);
-        let mut reply = [0; REPLY];
-        let mut written = 0;
-        // SAFETY: `line` and `reply` have as many bytes as is said, and nothing overlaps.
-        answered(unsafe {
-            let (at, room) = (reply.as_mut_ptr(), reply.len());
-            raw::pciguest_raw_run_line(
-                &mut self.handle,
-                line.as_ptr(),
-                line.len(),
-                at,
-                room,
-                &mut written,
-            )
-        })?;
-        let reply = reply[..written].strip_suffix(b"\n");
-        Ok(reply.map(|text| String::from_utf8_lossy(text).into_owned()))
+        reply_to(line.as_ref(), |line, length, reply, room, written| {
+            // SAFETY: `line` and `reply` have as many bytes as is said, and nothing overlaps.
+            unsafe {
+                raw::pciguest_raw_run_line(&mut self.handle, line, length, reply, room, written)
+            }
+        })
     }
 }
 

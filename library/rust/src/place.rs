@@ -1,6 +1,6 @@
-//! Where an access or a raise goes.
+//! Where an access or a raise goes, and where regions stand.
 
-use crate::raw::{RAISE_CONFIG, RAISE_NOWHERE};
+use crate::raw::{self, RAISE_CONFIG, RAISE_NOWHERE};
 
 /// A guest of a machine, as [`Machine::guest`](crate::Machine::guest) finds it by its name. It means the guest at the
 /// same index in another machine.
@@ -53,7 +53,7 @@ impl At {
     }
 }
 
-/// Where the host reads, by physical numbers.
+/// Where the host reads, and where firmware reads and writes, by physical numbers.
 #[derive(Clone, Copy, Debug, PartialEq, Eq)]
 pub enum HostAt {
     /// The configuration space of a function.
@@ -95,7 +95,7 @@ impl HostAt {
     }
 }
 
-/// The part of a function in which its device raises bits.
+/// A part of a function: where its device raises bits, or where an access of its guest lands.
 #[derive(Clone, Copy, Debug, PartialEq, Eq)]
 pub enum Part {
     /// Configuration space.
@@ -112,5 +112,75 @@ impl Part {
             Part::Region(register) if register < 6 => u32::from(register),
             Part::Region(_) => RAISE_NOWHERE,
         }
+    }
+
+    /// The part of a number that the library tells.
+    fn of_number(number: u32) -> Part {
+        match number {
+            RAISE_CONFIG => Part::Config,
+            register => Part::Region(register as u8),
+        }
+    }
+}
+
+/// A space in which a region stands.
+#[derive(Clone, Copy, Debug, PartialEq, Eq, Hash)]
+pub enum Space {
+    /// I/O space.
+    Io,
+    /// Memory space.
+    Memory,
+}
+
+/// Where a region of a guest's function stands now, by the guest's own registers. It takes `size` addresses of its
+/// space from `first` on, and answers there where it is open.
+#[derive(Clone, Copy, Debug, PartialEq, Eq)]
+pub struct Region {
+    /// The space.
+    pub space: Space,
+    /// The first address.
+    pub first: u64,
+    /// In bytes.
+    pub size: u64,
+    /// Whether it is prefetchable memory.
+    pub prefetchable: bool,
+    /// Whether the guest's Command opens the space.
+    pub is_open: bool,
+}
+
+impl Region {
+    pub(crate) fn of(told: &raw::Region) -> Region {
+        Region {
+            space: if told.space == 1 {
+                Space::Io
+            } else {
+                Space::Memory
+            },
+            first: told.first,
+            size: told.size,
+            prefetchable: told.prefetchable != 0,
+            is_open: told.is_open != 0,
+        }
+    }
+}
+
+/// The byte of a guest's function that an access hits.
+#[derive(Clone, Copy, Debug, PartialEq, Eq)]
+pub struct Hit {
+    /// 0 to 31.
+    pub slot: u64,
+    /// The region, or configuration space.
+    pub part: Part,
+    /// The offset in the part, in bytes.
+    pub offset: u64,
+}
+
+impl Hit {
+    pub(crate) fn of(told: &raw::Hit) -> Option<Hit> {
+        (told.found != 0).then_some(Hit {
+            slot: told.slot,
+            part: Part::of_number(told.part),
+            offset: told.offset,
+        })
     }
 }

@@ -9,6 +9,34 @@ pub struct Handle {
     pub at: *mut c_void,
 }
 
+/// The struct of the header for a board that firmware drives. `live` false is no board.
+#[repr(C)]
+pub struct BoardHandle {
+    pub live: bool,
+    pub at: *mut c_void,
+}
+
+/// What is told of a region: `space` is 1 for ports and 2 for memory, and the last two are 1 or 0.
+#[repr(C)]
+#[derive(Default)]
+pub struct Region {
+    pub first: u64,
+    pub size: u64,
+    pub space: u32,
+    pub prefetchable: u32,
+    pub is_open: u32,
+}
+
+/// What is told of a hit: `found` is 1 or 0.
+#[repr(C)]
+#[derive(Default)]
+pub struct Hit {
+    pub slot: u64,
+    pub offset: u64,
+    pub part: u32,
+    pub found: u32,
+}
+
 /// The number of an argument that a call does not take, and of a text that needs more room.
 pub const ARGUMENT: u32 = 902;
 
@@ -75,6 +103,21 @@ extern "C" {
         target: u64,
     ) -> u32;
     pub fn pciguest_raw_reset(machine: *mut Handle, guest: usize, slot: u64) -> u32;
+    pub fn pciguest_raw_region(
+        machine: *mut Handle,
+        guest: usize,
+        slot: u64,
+        bar: u32,
+        region: *mut Region,
+    ) -> u32;
+    pub fn pciguest_raw_locate(
+        machine: *mut Handle,
+        guest: usize,
+        space: u32,
+        slot: u64,
+        place: u64,
+        hit: *mut Hit,
+    ) -> u32;
     pub fn pciguest_raw_run_line(
         machine: *mut Handle,
         line: *const u8,
@@ -98,4 +141,42 @@ extern "C" {
         needed: *mut usize,
     ) -> u32;
     pub fn pciguest_raw_words(number: u32, text: *mut u8, room: usize, needed: *mut usize) -> u32;
+    pub fn pciguest_raw_board_new(board: *mut BoardHandle, file: *const u8, length: usize) -> u32;
+    pub fn pciguest_raw_board_free(board: *mut BoardHandle);
+    pub fn pciguest_raw_board_read(
+        board: *mut BoardHandle,
+        space: u32,
+        bus: u8,
+        device: u8,
+        function: u8,
+        place: u64,
+        width: u32,
+        value: *mut u32,
+    ) -> u32;
+    pub fn pciguest_raw_board_write(
+        board: *mut BoardHandle,
+        space: u32,
+        bus: u8,
+        device: u8,
+        function: u8,
+        place: u64,
+        width: u32,
+        value: u32,
+    ) -> u32;
+    pub fn pciguest_raw_board_run_line(
+        board: *mut BoardHandle,
+        line: *const u8,
+        length: usize,
+        reply: *mut u8,
+        room: usize,
+        written: *mut usize,
+    ) -> u32;
+    pub fn pciguest_raw_board_audit(
+        board: *mut BoardHandle,
+        text: *mut u8,
+        room: usize,
+        needed: *mut usize,
+        count: *mut usize,
+    ) -> u32;
+    pub fn pciguest_raw_set_up(board: *mut BoardHandle, machine: *mut Handle) -> u32;
 }

@@ -1,7 +1,9 @@
-//! What is told of a board file and of a number. No machine is needed.
+//! What is told of a board file and of a number, for which no machine is needed; and replies to lines.
 
 use crate::error::{answered, Error};
-use crate::raw::{pciguest_raw_check, pciguest_raw_report, pciguest_raw_words, ARGUMENT, WORDS};
+use crate::raw::{
+    pciguest_raw_check, pciguest_raw_report, pciguest_raw_words, ARGUMENT, REPLY, WORDS,
+};
 
 /// What a check says of a board file.
 #[derive(Clone, Debug, PartialEq, Eq)]
@@ -76,7 +78,10 @@ pub fn words(number: u32) -> String {
 
 /// Calls with room for a text; where that is too little, once more with what the text needs. Gives the number that the
 /// call answers, and the text.
-fn told(room: usize, call: impl Fn(*mut u8, usize, &mut usize) -> u32) -> (u32, String) {
+pub(crate) fn told(
+    room: usize,
+    mut call: impl FnMut(*mut u8, usize, &mut usize) -> u32,
+) -> (u32, String) {
     let mut text = vec![0; room];
     let mut needed = 0;
     let mut number = call(text.as_mut_ptr(), text.len(), &mut needed);
@@ -86,4 +91,19 @@ fn told(room: usize, call: impl Fn(*mut u8, usize, &mut usize) -> u32) -> (u32, 
     }
     text.truncate(needed);
     (number, String::from_utf8_lossy(&text).into_owned())
+}
+
+/// Runs a line by a call, which takes it without its line feed. The reply stands without its line feed, and a blank line
+/// or a comment has none.
+pub(crate) fn reply_to(
+    line: &[u8],
+    call: impl FnOnce(*const u8, usize, *mut u8, usize, &mut usize) -> u32,
+) -> Result<Option<String>, Error> {
+    let line = line.strip_suffix(b"\n").unwrap_or(line);
+    let mut reply = [0; REPLY];
+    let mut written = 0;
+    let (at, room) = (reply.as_mut_ptr(), reply.len());
+    answered(call(line.as_ptr(), line.len(), at, room, &mut written))?;
+    let reply = reply[..written].strip_suffix(b"\n");
+    Ok(reply.map(|text| String::from_utf8_lossy(text).into_owned()))
 }

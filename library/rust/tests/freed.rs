@@ -1,6 +1,6 @@
 //! What is dropped is freed. The test is alone in its process, so that no other one takes memory beside it.
 
-use pciguest::{Error, Machine};
+use pciguest::{Board, Error, Machine};
 
 const BOARD: &str = include_str!("../../../crates/examples/data/main.toml");
 
@@ -19,6 +19,7 @@ fn what_is_dropped_is_freed() -> Result<(), Error> {
     for _ in 0..2000 {
         drop(Machine::new(BOARD)?);
         assert!(Machine::new(&BOARD[1..]).is_err());
+        drop(Board::new(BOARD)?.set_up()?);
     }
     let grown = resident().saturating_sub(before);
     assert!(grown < 4 << 20, "{grown} bytes more than 200 machines took");

@@ -11,10 +11,13 @@ fn in_rust(parameter: &str) -> String {
     let end = parameter.rfind([' ', '*']).expect("a name") + 1;
     let rust = match parameter[..end].trim() {
         "struct pciguest *" => "*mut Handle",
+        "struct pciguest_board *" => "*mut BoardHandle",
         "const uint8_t *" => "*const u8",
         "uint8_t *" => "*mut u8",
         "uint32_t *" => "*mut u32",
         "size_t *" => "*mut usize",
+        "struct pciguest_region *" => "*mut Region",
+        "struct pciguest_hit *" => "*mut Hit",
         "size_t" => "usize",
         "uint8_t" => "u8",
         "uint32_t" => "u32",
@@ -65,8 +68,39 @@ fn bound() -> Vec<Call> {
 
 #[test]
 fn calls_are_those_of_the_header() {
-    assert_eq!(declared().len(), 13);
+    assert_eq!(declared().len(), 22);
     assert_eq!(declared(), bound());
+}
+
+/// The fields of a struct of the header, as Rust writes them.
+fn fields(name: &str) -> Vec<String> {
+    let head = format!("struct {name} {{");
+    let from = HEADER.find(&head).expect("a struct") + head.len();
+    let inside = &HEADER[from..from + HEADER[from..].find("};").expect("};")];
+    let lines = inside.lines().filter_map(|line| line.split(';').next());
+    lines
+        .map(str::trim)
+        .filter(|line| !line.is_empty())
+        .map(|line| {
+            let (kind, field) = line.rsplit_once(' ').expect("a field");
+            format!("pub {field}: {}", in_rust(&format!("{kind} it")))
+        })
+        .collect()
+}
+
+#[test]
+fn structs_are_those_of_the_header() {
+    for (there, here) in [("pciguest_region", "Region"), ("pciguest_hit", "Hit")] {
+        let head = format!("#[repr(C)]\n#[derive(Default)]\npub struct {here} {{");
+        let from = RAW.find(&head).expect(here) + head.len();
+        let inside = &RAW[from..from + RAW[from..].find('}').expect("}")];
+        let ours: Vec<&str> = inside
+            .split(',')
+            .map(str::trim)
+            .filter(|field| !field.is_empty())
+            .collect();
+        assert_eq!(fields(there), ours);
+    }
 }
 
 #[test]

@@ -1,6 +1,6 @@
 //! Each call on the main board of the examples, and what is refused.
 
-use pciguest::{At, Error, Guest, HostAt, Machine, Part};
+use pciguest::{At, Error, Guest, Hit, HostAt, Machine, Part, Space};
 
 const BOARD: &str = include_str!("../../../crates/examples/data/main.toml");
 
@@ -110,6 +110,51 @@ fn a_device_raises_a_bit() -> Result<(), Error> {
             902
         );
     }
+    Ok(())
+}
+
+#[test]
+fn regions_stand_where_their_guest_put_them() -> Result<(), Error> {
+    let mut machine = Machine::new(BOARD)?;
+    let (a, b) = (machine.guest("a")?, machine.guest("b")?);
+    let ports = machine.region(a, 0, 0)?;
+    assert_eq!(
+        (ports.space, ports.size, ports.is_open),
+        (Space::Io, 32, false)
+    );
+    machine.write(a, config(1, 0x10), 4, 0)?;
+    machine.write(a, config(1, 0x14), 4, 0x20)?;
+    machine.write(a, config(1, 4), 2, 2)?;
+    let wide = machine.region(a, 1, 0)?;
+    assert_eq!(
+        (wide.space, wide.first, wide.size),
+        (Space::Memory, 0x20_0000_0000, 0x100_0000)
+    );
+    assert!(wide.prefetchable && wide.is_open);
+    let bell = At::Memory {
+        address: 0x20_0000_0010,
+    };
+    let hit = Hit {
+        slot: 1,
+        part: Part::Region(0),
+        offset: 0x10,
+    };
+    assert_eq!(machine.locate(a, bell)?, Some(hit));
+    assert_eq!(machine.locate(b, bell)?, None);
+    machine.write(a, At::Io { port: 0xcf8 }, 4, 0x8000_0840)?;
+    let selected = Hit {
+        slot: 1,
+        part: Part::Config,
+        offset: 0x42,
+    };
+    assert_eq!(machine.locate(a, At::Io { port: 0xcfe })?, Some(selected));
+    machine.reset(a, 1)?;
+    assert!(!machine.region(a, 1, 0)?.is_open);
+    for (slot, register, answer) in [(0, 2, 303), (0, u32::MAX, 303), (31, 0, 601), (32, 0, 303)] {
+        assert_eq!(number(machine.region(a, slot, register)), answer);
+    }
+    assert_eq!(number(machine.region(Guest::of_index(2), 0, 0)), 902);
+    assert_eq!(number(machine.locate(a, config(0, 256))), 303);
     Ok(())
 }
 

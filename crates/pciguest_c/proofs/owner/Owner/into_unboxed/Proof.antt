@@ -16,8 +16,8 @@ use denote.Triple.Walked.{Stays, stay_dropped, walk_of, says, Goes-dropped, ends
 use Rattle.std.proofs.raw_atomic.Walks.{proved}
 use Rattle.monitor.specs.contracts.monitor.Monitor as Monitor
 use Rattle.pciguest_c.proofs.owner.Owner.TheLaws as owner
-use Rattle.std.specs.Prelude.{◌≡◌, Option, Some, None, IsSome, true, false}
-use Rattle.pciguest_c.proofs.Moved.{Ours}
+use Rattle.std.specs.Prelude.{Option, IsSome}
+use Rattle.pciguest_c.proofs.Moved.{Ours, some_of}
 use Rattle.pciguest_c.specs.contracts.owner.Owner.into_unboxed as f
 use Rattle.pciguest_c.specs.contracts.owner.Owner.{the_row as Owner}
 use Rattle.pciguest_c.proofs.owner.Owner.into_unboxed.Statement.{statement}
@@ -25,10 +25,6 @@ use Rattle.pciguest_c.proofs.owner.Owner.into_unboxed.Code as code
 
 abbrev stayed : Stays f.ended.signature.params f.ended.kept
 stayed = (stay_dropped _ yes, tt)
-
-some_of : {T : Type 0} (o : Option T) → IsSome o → (m : T) × (o ≡ Some m)
-some_of None wrong = absurd (let no : false ≡ true = wrong in cc)
-some_of (Some m) is = (m, refl)
 
 pub into_unboxed_spec : {M : Type 1} → statement M
 into_unboxed_spec 𝓤 𝓛 𝓜 𝓡 wired =

@@ -1,0 +1,16 @@
+-- What an owner owns may go to another thread: nothing, or a board with the right to free its block.
+use denote.Struct.Struct.{exits_of}
+use denote.Struct.Owning.{shape, fields, to}
+use denote.Param.Send.{IsSend, AllSend, owning_send, struct_send, sendable}
+use Rattle.std_alloc.proofs.SendSync.{quiet}
+use Rattle.std_heap.proofs.Global.TheSendSync as handle
+use Rattle.driven_board.specs.contracts.board.Board as Board
+use Rattle.driven_board.proofs.board.Board.TheSendSync.{the_send as board_send}
+use Rattle.pciguest_c.proofs.Moved.{keyless}
+use Rattle.pciguest_c.specs.contracts.board_owner.BoardOwner.{the_row, the_type}
+
+pub send : IsSend the_row
+send =
+    let all : AllSend (fields the_type) = (search sendable, (handle.the_field_send, tt)) in
+    owning_send the_type all (λ d. keyless Board.the_row board_send d.alloc d.at d.value)
+    (λ k. quiet (to the_type) (exits_of k (fields the_type)) ((struct_send (shape the_type) all).leaving k))

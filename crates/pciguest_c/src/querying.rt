@@ -1,0 +1,180 @@
+//! Where the regions of guests' functions stand, and what guests' accesses hit.
+ghost use Rattle.std.specs.Prelude.{◌≡◌, ◌<◌, ◌≤◌, None, Some, IfNone, IfSome, length, option_map};
+ghost use Rattle.model_guests.specs.Accesses.{Target};
+ghost use Rattle.monitor.specs.Queries.{region_named, hit_named};
+ghost use Rattle.pciguest_c.specs.Told.{target_told};
+ghost use Rattle.pciguest_c.specs.QueriesTold.{number_answered, region_asked, hit_asked, region_told, region_left, hit_told, hit_left};
+
+use crate::asking::{at_of, has_guest};
+use crate::handle::Handle;
+use crate::numbers::{ARGUMENT, NO_MACHINE};
+use accesses::Place;
+use monitor::{Hit, Monitor, RegionNow, Space};
+use std::alloc::Global;
+
+/// A region of a guest's function, as C is told of it: `space` is 1 for ports and 2 for memory.
+#[repr(C)]
+#[derive(Clone, Copy)]
+pub struct RegionTold {
+    pub first: u64,
+    pub size: u64,
+    pub space: u32,
+    pub prefetchable: u32,
+    pub is_open: u32,
+}
+
+/// What an access hits, as C is told of it: the part is a region by its base address register, or 6 for
+/// configuration space. Where nothing is found, all of it is 0.
+#[repr(C)]
+#[derive(Clone, Copy)]
+pub struct HitTold {
+    pub slot: u64,
+    pub offset: u64,
+    pub part: u32,
+    pub found: u32,
+}
+
+/// A region for C.
+fn region_for(region: RegionNow) -> RegionTold
+    ensures { result ≡ region_told (region_named region) }
+{
+    RegionTold {
+        first: region.first,
+        size: region.size,
+        space: match region.space {
+            Space::Io => 1,
+            Space::Mem => 2,
+        },
+        prefetchable: u32::from(region.prefetchable),
+        is_open: u32::from(region.is_open),
+    }
+}
+
+/// What is hit, for C.
+fn hit_for(hit: Option<Hit>) -> HitTold
+    ensures { result ≡ hit_told (option_map hit_named hit) }
+{
+    match hit {
+        None => HitTold {
+            slot: 0,
+            offset: 0,
+            part: 0,
+            found: 0,
+        },
+        Some(hit) => HitTold {
+            slot: hit.slot as u64,
+            offset: hit.offset,
+            part: match hit.place {
+                Place::Cfg => 6,
+                Place::Bar(register) => u32::from(register),
+            },
+            found: 1,
+        },
+    }
+}
+
+/// Where a region of a guest's function stands.
+fn region(monitor: &Monitor, guest: usize, slot: u64, bar: u64, told: &mut RegionTold) -> u32
+    ensures guest { length monitor.now.guests ≤ guest → (result ≡ 902) × (told.new ≡ told.old) }
+    ensures told { guest < length monitor.now.guests → let r = region_asked monitor.now guest slot bar in
+        (result ≡ number_answered r) × (told.new ≡ region_left told.old r) }
+{
+    if !has_guest(monitor, guest) {
+        return ARGUMENT;
+    }
+    match monitor.region(guest, slot, bar) {
+        Ok(region) => {
+            *told = region_for(region);
+            0
+        }
+        Err(number) => u32::from(number),
+    }
+}
+
+/// What an access of a guest hits.
+fn locate(
+    monitor: &Monitor,
+    guest: usize,
+    space: u32,
+    slot: u64,
+    place: u64,
+    told: &mut HitTold,
+) -> u32
+    ensures space { target_told space slot place ≡ None → (result ≡ 902) × (told.new ≡ told.old) }
+    ensures guest { length monitor.now.guests ≤ guest → (result ≡ 902) × (told.new ≡ told.old) }
+    ensures told { guest < length monitor.now.guests → (t : Target) → target_told space slot place ≡ Some t →
+        let r = hit_asked monitor.now guest t in
+        (result ≡ number_answered r) × (told.new ≡ hit_left told.old r) }
+{
+    let Some(at) = at_of(space, slot, place) else {
+        return ARGUMENT;
+    };
+    if !has_guest(monitor, guest) {
+        return ARGUMENT;
+    }
+    match monitor.locate(guest, at) {
+        Ok(hit) => {
+            *told = hit_for(hit);
+            0
+        }
+        Err(number) => u32::from(number),
+    }
+}
+
+/// Where the region that begins at a base address register stands now, by the guest's own registers.
+#[unsafe(no_mangle)]
+pub extern "C" fn pciguest_raw_region(
+    alloc: Global,
+    handle: &mut Handle,
+    guest: usize,
+    slot: u64,
+    bar: u32,
+    told: &mut RegionTold,
+) -> u32
+    ensures none { IfNone handle.old.owner.value ((result ≡ 901) × (told.new ≡ told.old)) }
+    ensures guest { IfSome handle.old.owner.value (λ m. length m.guests ≤ guest →
+        (result ≡ 902) × (told.new ≡ told.old)) }
+    ensures told { IfSome handle.old.owner.value (λ m. guest < length m.guests → let r = region_asked m guest slot bar in
+        (result ≡ number_answered r) × (told.new ≡ region_left told.old r)) }
+    ensures kept { handle.new.owner.value ≡ handle.old.owner.value }
+{
+    match handle.take(alloc) {
+        Some(monitor) => {
+            let number = region(&monitor, guest, slot, u64::from(bar), told);
+            *handle = Handle::of(monitor);
+            number
+        }
+        None => NO_MACHINE,
+    }
+}
+
+/// What an access of a guest at a place hits: a byte of a function in one of its slots, or nothing.
+#[unsafe(no_mangle)]
+pub extern "C" fn pciguest_raw_locate(
+    alloc: Global,
+    handle: &mut Handle,
+    guest: usize,
+    space: u32,
+    slot: u64,
+    place: u64,
+    told: &mut HitTold,
+) -> u32
+    ensures none { IfNone handle.old.owner.value ((result ≡ 901) × (told.new ≡ told.old)) }
+    ensures space { IfSome handle.old.owner.value (λ _. target_told space slot place ≡ None →
+        (result ≡ 902) × (told.new ≡ told.old)) }
+    ensures guest { IfSome handle.old.owner.value (λ m. length m.guests ≤ guest →
+        (result ≡ 902) × (told.new ≡ told.old)) }
+    ensures told { IfSome handle.old.owner.value (λ m. guest < length m.guests →
+        (t : Target) → target_told space slot place ≡ Some t → let r = hit_asked m guest t in
+        (result ≡ number_answered r) × (told.new ≡ hit_left told.old r)) }
+    ensures kept { handle.new.owner.value ≡ handle.old.owner.value }
+{
+    match handle.take(alloc) {
+        Some(monitor) => {
+            let number = locate(&monitor, guest, space, slot, place, told);
+            *handle = Handle::of(monitor);
+            number
+        }
+        None => NO_MACHINE,
+    }
+}

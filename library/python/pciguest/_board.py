@@ -1,0 +1,108 @@
+"""A board that firmware of one's own drives, from reset on."""
+
+from __future__ import annotations
+
+from ctypes import byref, c_size_t, c_uint32
+from typing import NamedTuple, Optional, Union
+
+from ._calls import CALLS, CONFIG, IO, MEMORY, BoardHandle, told
+from ._held import Held, as_bytes
+from ._machine import Machine
+from ._refusal import answered
+from ._spaces import Functions, Space
+
+
+class Audit(NamedTuple):
+    """What is wrong in the registers of a board."""
+
+    #: a line for each problem, and a last line that counts them
+    text: str
+    #: how many problems there are
+    problems: int
+
+
+class Board(Held):
+    """A board that firmware of one's own drives, from reset on: it gives out the numbers of buses and the addresses of
+    regions.
+
+    `Board(open("board.toml").read())` is the board of a board file, at reset. It is refused by the first check that the
+    file fails, or by 199 where memory is out. The guests of the file are checked, and no function is given to them.
+
+    `config[bus, device, function][offset:width]`, `io[port:width]` and `memory[address:width]` are its accesses, in
+    whatever state the registers are: a read gives all ones where nothing answers, and a write that nothing takes is
+    dropped. An access of `config` leaves 0 in CONFIG_ADDRESS; else a read changes nothing. 902: a device above 31, or a
+    function above 7.
+
+    What it holds is freed as what a `Machine` holds.
+
+    >>> with Board(BOARD) as board:
+    ...     function = board.config[0, 1, 0]
+    ...     function[0x14:4] = 0xFFFFFFFF  # how long is its region?
+    ...     hex((0xFFFFFFFF ^ function[0x14:4]) + 1)
+    ...     function[0x14:4] = 0xD0000000  # where it is to stand
+    ...     function[4:2] = 2  # memory on
+    ...     board.memory[0xD0000010:4] = 0x12345678
+    ...     hex(board.memory[0xD0000010:2])
+    '0x1000'
+    '0x5678'
+    """
+
+    def __init__(self, file: Union[str, bytes]) -> None:
+        text = as_bytes(file)
+        super().__init__(BoardHandle(), "board_free", lambda handle: CALLS["board_new"](handle, text, len(text)))
+
+    @property
+    def config(self) -> Functions[Space]:
+        """Configuration space by number: `config[0, 2, 0][0:4]` is 4 bytes at offset 0 of what the bridges' numbers
+        make 00:02.0."""
+        return Functions(lambda *at: self._space(CONFIG, *at))
+
+    @property
+    def io(self) -> Space:
+        """I/O space: `io[0xcf8:4]` is CONFIG_ADDRESS."""
+        return self._space(IO, 0, 0, 0)
+
+    @property
+    def memory(self) -> Space:
+        """Memory: `memory[0xc0000000:4]` is 4 bytes at address C0000000h."""
+        return self._space(MEMORY, 0, 0, 0)
+
+    def run_line(self, line: Union[str, bytes]) -> Optional[str]:
+        """Runs one line of firmware, as `pciguest firmware` does. Line and reply are as those of `Machine.run_line`.
+
+        >>> Board(BOARD).run_line("host cr 00:01.0 0 4")
+        'host: 0x00011234'
+        """
+        return self._reply("board_run_line", line)
+
+    def audit(self) -> Audit:
+        """What is wrong in the registers as they stand, whoever wrote them: bytes of open regions that a bridge above
+        doesn't forward, addresses that two answer on one bus, and functions that no cycle finds. The board stays as it
+        is. It is refused by 299 where memory is out.
+
+        >>> print(Board(BOARD).audit().text.splitlines()[0])
+        audit: 2.0/0.0: a cycle for 00:00.0 reaches nothing
+        """
+        count = c_size_t(0)
+        with self._lock:
+            answer, text = told(1024, lambda *room: CALLS["board_audit"](byref(self._handle), *room, byref(count)))
+        answered(answer)
+        return Audit(text, count.value)
+
+    def set_up(self) -> Machine:
+        """The machine that `Machine` makes of the same file: our own set-up, in place of firmware of one's own. The board
+        has to be at reset, and stays as it is. It is refused by 904 where a write was done since reset, and else as a
+        machine is by its board."""
+        with self._lock:
+            return Machine._made_by(lambda machine: CALLS["set_up"](byref(self._handle), machine))
+
+    def _space(self, space: int, bus: int, device: int, function: int) -> Space:
+        def read(place: int, width: int) -> int:
+            value = c_uint32(0)
+            self._call("board_read", space, bus, device, function, place, width, byref(value))
+            return value.value
+
+        def write(place: int, width: int, value: int) -> None:
+            self._call("board_write", space, bus, device, function, place, width, value)
+
+        return Space(read, write)

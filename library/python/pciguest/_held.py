@@ -1,0 +1,66 @@
+"""What a struct of the header holds."""
+
+from __future__ import annotations
+
+import ctypes
+import threading
+import weakref
+from ctypes import byref, c_size_t
+from types import TracebackType
+from typing import Any, Callable, Optional, Type, TypeVar, Union
+
+from ._calls import CALLS, REPLY
+from ._refusal import answered
+
+Self = TypeVar("Self", bound="Held")
+
+
+def as_bytes(text: Union[str, bytes]) -> bytes:
+    """A text as the library takes it: UTF-8."""
+    return text.encode() if isinstance(text, str) else bytes(text)
+
+
+class Held:
+    """What a struct of the header holds. It is freed by `close`, at the end of `with`, or when nothing refers to it. Then
+    each call is refused by 901. Several threads may use it: one call is made at a time."""
+
+    def __init__(self, handle: ctypes.Structure, free: str, make: Callable[[Any], int]) -> None:
+        self._handle = handle
+        # A signal's handler of Python runs between calls, and may make one within a call of this class.
+        self._lock = threading.RLock()
+        answered(make(byref(handle)))
+        self._free = weakref.finalize(self, CALLS[free], handle)
+        self._free.atexit = False
+
+    def close(self) -> None:
+        """Frees what is held. A second time nothing happens."""
+        with self._lock:
+            self._free()
+
+    def __enter__(self: Self) -> Self:
+        return self
+
+    def __exit__(
+        self,
+        kind: Optional[Type[BaseException]],
+        error: Optional[BaseException],
+        trace: Optional[TracebackType],
+    ) -> None:
+        self.close()
+
+    def _call(self, name: str, *arguments: Any) -> None:
+        """Makes a call on what is held, once the one before has ended. Arguments are in range."""
+        with self._lock:
+            answer = CALLS[name](byref(self._handle), *arguments)
+        answered(answer)
+
+    def _reply(self, name: str, line: Union[str, bytes]) -> Optional[str]:
+        """Runs a line by a call, which takes it without its line feed."""
+        text = as_bytes(line)
+        if text.endswith(b"\n"):
+            text = text[:-1]
+        reply, written = ctypes.create_string_buffer(REPLY), c_size_t(0)
+        self._call(name, text, len(text), reply, REPLY, byref(written))
+        if written.value == 0:
+            return None
+        return reply.raw[: written.value - 1].decode("ascii", "replace")

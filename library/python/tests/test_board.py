@@ -1,0 +1,127 @@
+"""Firmware on the main board of the examples, by calls and by lines, and what is refused."""
+
+import random
+import unittest
+
+from boards import DATA, MAIN
+from pciguest import Board, Machine, Refusal
+
+
+class Case(unittest.TestCase):
+    def setUp(self):
+        self.board = Board(MAIN)
+        self.addCleanup(self.board.close)
+
+    def refused(self, number, call, *arguments):
+        with self.assertRaises(Refusal) as raised:
+            call(*arguments)
+        self.assertEqual(raised.exception.number, number)
+        return raised.exception
+
+
+class Firmware(Case):
+    def test_firmware_places_a_region(self):
+        board, bridge, behind = self.board, self.board.config[0, 2, 0], self.board.config[1, 1, 0]
+        self.assertEqual(behind[0:4], 0xFFFFFFFF)
+        bridge[0x18:4] = 0x00010100
+        self.assertEqual(behind[0:4], 0x00041234)
+        behind[0x10:4] = 0xFFFFFFFF
+        self.assertEqual(behind[0x10:4], 0xFF00000C)
+        behind[0x10:4] = 0xC0000000
+        bridge[0x24:4] = 0xC0F0C000
+        bridge[4:2] = 2
+        behind[4:2] = 2
+        self.assertEqual(board.memory[0xC0000000:4], 0xA5A5A5A5)
+
+    def test_ports_and_lines(self):
+        self.board.io[0xCF8:4] = 0x80001000
+        self.assertEqual(self.board.io[0xCFC:4], 0x00021234)
+        self.assertEqual(self.board.run_line("host cr 00:02.0 0 4\n"), "host: 0x00021234")
+        self.assertEqual(self.board.io[0xCF8:4], 0)  # an access by number leaves it so
+        self.assertIsNone(self.board.run_line("# a comment"))
+
+    def test_calls_and_lines_answer_alike(self):
+        chosen = random.Random(1)
+        with Board(MAIN) as other:
+            for _ in range(10000):
+                width, value = chosen.choice((1, 2, 4, 4, 3)), chosen.choice((0xFFFFFFFF, chosen.getrandbits(32)))
+                bus, device, offset = chosen.randrange(3), chosen.randrange(4), chosen.randrange(0x108)
+                place = f"{bus:02x}:{device:02x}.0 {offset} {width}"
+                space = self.board.config[bus, device, 0]
+                if chosen.random() < 0.5:
+                    wanted = other.run_line(f"host cr {place}")
+                    found = self.told(lambda: f"0x{space[offset:width]:0{2 * width}x}")
+                else:
+                    wanted = other.run_line(f"host cw {place} {value}")
+                    found = self.told(lambda: space.__setitem__(slice(offset, width), value) or "ok")
+                self.assertEqual(f"host: {found}", wanted)
+
+    def told(self, access):
+        try:
+            return access()
+        except Refusal as refusal:
+            return f"refused {refusal}"
+
+
+class Audits(Case):
+    def test_an_audit_tells_what_is_wrong(self):
+        audit = self.board.audit()
+        self.assertTrue(audit.text.endswith("\naudit: 2 problems\n"))
+        self.assertEqual(audit.problems, 2)
+        self.board.config[0, 2, 0][0x18:4] = 0x00010100
+        self.assertEqual(self.board.audit(), ("audit: ok\n", 0))
+
+    def test_long_texts_come_whole(self):
+        with Board((DATA / "largest.toml").read_bytes()) as board:
+            audit = board.audit()
+        self.assertGreater(len(audit.text), 4096)
+        self.assertEqual(audit.text.count("\n"), audit.problems + 1)
+
+
+class SetUp(Case):
+    def test_a_board_at_reset_is_set_up(self):
+        with self.board.set_up() as machine, Machine(MAIN) as other:
+            self.assertEqual(machine.guest("a").config[0][0:4], 0x00011234)
+            for offset in range(0, 256, 4):
+                at = machine.host.config[1, 1, 0], other.host.config[1, 1, 0]
+                self.assertEqual(at[0][offset:4], at[1][offset:4])
+        self.assertEqual(self.board.config[1, 1, 0][0:4], 0xFFFFFFFF)
+
+    def test_a_board_that_was_written_is_not(self):
+        self.refused(301, self.board.config[0, 1, 0].__setitem__, slice(5, 2), 2)
+        self.board.set_up().close()
+        self.board.config[0, 1, 0][4:2] = 0
+        self.assertEqual(str(self.refused(904, self.board.set_up)), "904 not at reset")
+
+    def test_a_board_that_does_not_fit(self):
+        with Board((DATA / "io_pool.toml").read_bytes()) as board:
+            self.refused(203, board.set_up)
+
+
+class Refusals(Case):
+    def test_accesses(self):
+        space = self.board.config[0, 1, 0]
+        self.refused(302, lambda: space[257:3])
+        self.refused(301, lambda: space[257:4])
+        self.refused(303, lambda: space[256:4])
+        self.refused(902, lambda: self.board.config[0, 32, 0][0:4])
+        self.refused(303, self.board.io.__setitem__, slice(1 << 32, 1), 0)
+        with self.assertRaises(ValueError):
+            space[4:2] = 1 << 32
+
+    def test_boards(self):
+        self.refused(101, Board, "x")
+        self.refused(102, Board, "")
+
+    def test_closed(self):
+        with Board(MAIN) as board:
+            pass
+        self.refused(901, lambda: board.io[0:1])
+        self.refused(901, board.set_up)
+        self.refused(901, board.audit)
+        self.refused(901, board.run_line, "host ir 0 1")
+        board.close()
+
+
+if __name__ == "__main__":
+    unittest.main()

@@ -1,0 +1,195 @@
+//! A board that firmware of one's own drives, from reset on.
+
+use crate::error::{answered, Error};
+use crate::machine::Machine;
+use crate::place::HostAt;
+use crate::raw::{self, BoardHandle};
+use crate::text::{reply_to, told};
+use std::fmt;
+use std::ptr::null_mut;
+
+/// What is wrong in the registers of a board.
+#[derive(Clone, Debug, PartialEq, Eq)]
+pub struct Audit {
+    /// A line for each problem, and a last line that counts them.
+    pub text: String,
+    /// How many problems there are.
+    pub problems: usize,
+}
+
+/// A board that firmware of one's own drives, from reset on: it gives out the numbers of buses and the addresses of
+/// regions. What it holds is freed when it is dropped.
+///
+/// Each call takes the board mutably, as for a [`Machine`].
+///
+/// ```
+/// # const BOARD: &str = include_str!("board.toml");
+/// use pciguest::{Board, HostAt};
+///
+/// let mut board = Board::new(BOARD)?;
+/// let on_bus_0 = |offset| HostAt::Config { bus: 0, device: 1, function: 0, offset };
+/// assert_eq!(board.read(on_bus_0(0), 4)?, 0x0001_1234);
+/// board.write(on_bus_0(0x10), 4, 0xffff_ffff)?; // how long is its region?
+/// assert_eq!(!board.read(on_bus_0(0x10), 4)? + 1, 4096);
+/// board.write(on_bus_0(0x10), 4, 0xd000_0000)?; // where it is to stand
+/// board.write(on_bus_0(4), 2, 2)?; // memory on
+/// board.write(HostAt::Memory { address: 0xd000_0010 }, 4, 0x1234_5678)?;
+/// assert_eq!(board.read(HostAt::Memory { address: 0xd000_0010 }, 2)?, 0x5678);
+/// # Ok::<(), pciguest::Error>(())
+/// ```
+pub struct Board {
+    handle: BoardHandle,
+}
+
+// SAFETY: as for `Machine`.
+unsafe impl Send for Board {}
+
+impl Board {
+    /// The board of a board file, at reset. The guests of the file are checked, and no function is given to them.
+    ///
+    /// # Errors
+    ///
+    /// The number of the first check that the file fails, or of memory that is out.
+    pub fn new(file: impl AsRef<[u8]>) -> Result<Board, Error> {
+        let file = file.as_ref();
+        let mut handle = BoardHandle {
+            live: false,
+            at: null_mut(),
+        };
+        // SAFETY: the handle holds no board, and `file` has as many bytes as is said.
+        answered(unsafe { raw::pciguest_raw_board_new(&mut handle, file.as_ptr(), file.len()) })?;
+        Ok(Board { handle })
+    }
+
+    /// Reads 1, 2 or 4 bytes as firmware does, in whatever state the registers are: all ones where nothing answers. A
+    /// read of configuration space by number leaves 0 in CONFIG_ADDRESS; else a read changes nothing.
+    ///
+    /// # Errors
+    ///
+    /// 302: the width is not 1, 2 or 4. 301: the place is no multiple of it. 303: the offset is above 255, or the port
+    /// above FFFFFFFFh. 902: the device is above 31, or the function above 7.
+    pub fn read(&mut self, at: HostAt, width: u32) -> Result<u32, Error> {
+        let (space, bus, device, function, place) = at.parts();
+        let mut value = 0;
+        // SAFETY: `value` is a place of its own.
+        answered(unsafe {
+            raw::pciguest_raw_board_read(
+                &mut self.handle,
+                space,
+                bus,
+                device,
+                function,
+                place,
+                width,
+                &mut value,
+            )
+        })?;
+        Ok(value)
+    }
+
+    /// Writes the low 1, 2 or 4 bytes of a value as firmware does; what nothing takes is dropped. A write of
+    /// configuration space by number leaves 0 in CONFIG_ADDRESS. Refused as a read is.
+    pub fn write(&mut self, at: HostAt, width: u32, value: u32) -> Result<(), Error> {
+        let (space, bus, device, function, place) = at.parts();
+        // SAFETY: no pointer but the handle is passed.
+        answered(unsafe {
+            raw::pciguest_raw_board_write(
+                &mut self.handle,
+                space,
+                bus,
+                device,
+                function,
+                place,
+                width,
+                value,
+            )
+        })
+    }
+
+    /// Runs one line of firmware, as `pciguest firmware` does, with its line feed or without. The reply is as that of
+    /// [`Machine::run_line`].
+    ///
+    /// ```
+    /// # const BOARD: &str = include_str!("board.toml");
+    /// let mut board = pciguest::Board::new(BOARD)?;
+    /// assert_eq!(board.run_line("host cw 00:01.0 4 2 2")?.as_deref(), Some("host: ok"));
+    /// assert_eq!(board.run_line("host cr 00:01.0 4 2")?.as_deref(), Some("host: 0x0002"));
+    /// # Ok::<(), pciguest::Error>(())
+    /// ```
+    pub fn run_line(&mut self, line: impl AsRef<[u8]>) -> Result<Option<String>, Error> {
+        reply_to(line.as_ref(), |line, length, reply, room, written| {
+            // SAFETY: `line` and `reply` have as many bytes as is said, and nothing overlaps.
+            unsafe {
+                raw::pciguest_raw_board_run_line(
+                    &mut self.handle,
+                    line,
+                    length,
+                    reply,
+                    room,
+                    written,
+                )
+            }
+        })
+    }
+
+    /// What is wrong in the registers as they stand, whoever wrote them: bytes of open regions that a bridge above
+    /// doesn't forward, addresses that two answer on one bus, and functions that no cycle finds. The board stays as it
+    /// is.
+    ///
+    /// # Errors
+    ///
+    /// Out of memory alone.
+    ///
+    /// ```
+    /// # const BOARD: &str = include_str!("board.toml");
+    /// let mut board = pciguest::Board::new(BOARD)?;
+    /// let audit = board.audit()?;
+    /// assert_eq!((audit.text.as_str(), audit.problems), ("audit: ok\n", 0));
+    /// # Ok::<(), pciguest::Error>(())
+    /// ```
+    pub fn audit(&mut self) -> Result<Audit, Error> {
+        let mut problems = 0;
+        // SAFETY: the text has as many bytes as is said, and nothing overlaps.
+        let (number, text) = told(1024, |text, room, needed| unsafe {
+            raw::pciguest_raw_board_audit(&mut self.handle, text, room, needed, &mut problems)
+        });
+        answered(number).map(|()| Audit { text, problems })
+    }
+
+    /// The machine that [`Machine::new`] makes of the same file: our own set-up, in place of firmware of one's own. The
+    /// board has to be at reset, and stays as it is.
+    ///
+    /// # Errors
+    ///
+    /// 904: a write was done on the board since reset. Otherwise 201 to 205, or of memory that is out.
+    ///
+    /// ```
+    /// # const BOARD: &str = include_str!("board.toml");
+    /// use pciguest::{Board, HostAt};
+    ///
+    /// let mut board = Board::new(BOARD)?;
+    /// let register = HostAt::Config { bus: 0, device: 1, function: 0, offset: 0x10 };
+    /// let mut machine = board.set_up()?;
+    /// assert_eq!(machine.host_read(register, 4)?, 0xc000_0000);
+    /// board.write(register, 4, 0)?;
+    /// assert_eq!(board.set_up().unwrap_err().to_string(), "904 not at reset");
+    /// # Ok::<(), pciguest::Error>(())
+    /// ```
+    pub fn set_up(&mut self) -> Result<Machine, Error> {
+        // SAFETY: the handle holds no machine, and the two handles don't overlap.
+        Machine::made_by(|machine| unsafe { raw::pciguest_raw_set_up(&mut self.handle, machine) })
+    }
+}
+
+impl Drop for Board {
+    fn drop(&mut self) {
+        // SAFETY: no call is made on the handle after this one.
+        unsafe { raw::pciguest_raw_board_free(&mut self.handle) }
+    }
+}
+
+impl fmt::Debug for Board {
+    fn fmt(&self, f: &mut fmt::Formatter<'_>) -> fmt::Result {
+        f.write_str("Board")
+    }
+}

@@ -1,0 +1,104 @@
+//! Firmware on the main board of the examples, by calls, and what is refused.
+
+use pciguest::{Board, Error, HostAt, Machine};
+use std::thread;
+
+const BOARD: &str = include_str!("../../../crates/examples/data/main.toml");
+const LARGEST: &str = include_str!("../../../crates/examples/data/largest.toml");
+const IO_POOL: &str = include_str!("../../../crates/examples/data/io_pool.toml");
+
+fn config(bus: u8, device: u8, offset: u64) -> HostAt {
+    HostAt::Config {
+        bus,
+        device,
+        function: 0,
+        offset,
+    }
+}
+
+/// The number by which a call is refused.
+fn number<T>(answer: Result<T, Error>) -> u32 {
+    answer.err().expect("a refusal").number()
+}
+
+#[test]
+fn firmware_places_a_region() -> Result<(), Error> {
+    let mut board = Board::new(BOARD)?;
+    assert_eq!(board.read(config(1, 1, 0), 4)?, u32::MAX);
+    board.write(config(0, 2, 0x18), 4, 0x0001_0100)?;
+    assert_eq!(board.read(config(1, 1, 0), 4)?, 0x0004_1234);
+    board.write(config(1, 1, 0x10), 4, 0xc000_0000)?;
+    board.write(config(0, 2, 0x24), 4, 0xc0f0_c000)?;
+    board.write(config(0, 2, 4), 2, 2)?;
+    board.write(config(1, 1, 4), 2, 2)?;
+    let place = HostAt::Memory {
+        address: 0xc000_0000,
+    };
+    assert_eq!(board.read(place, 4)?, 0xa5a5_a5a5);
+    Ok(())
+}
+
+#[test]
+fn ports_lines_and_numbers_reach_the_same() -> Result<(), Error> {
+    let mut board = Board::new(BOARD)?;
+    board.write(HostAt::Io { port: 0xcf8 }, 4, 0x8000_1000)?;
+    assert_eq!(board.read(HostAt::Io { port: 0xcfc }, 4)?, 0x0002_1234);
+    let reply = board.run_line("host cr 00:02.0 0 4\n")?;
+    assert_eq!(reply.as_deref(), Some("host: 0x00021234"));
+    assert_eq!(board.run_line("# a comment")?, None);
+    let reply = board.run_line("a cr 0 0 4")?;
+    assert_eq!(reply.as_deref(), Some("?: refused 402 unknown guest"));
+    Ok(())
+}
+
+#[test]
+fn set_up_takes_a_board_at_reset() -> Result<(), Error> {
+    let mut board = Board::new(BOARD)?;
+    assert_eq!(number(board.write(config(0, 1, 5), 2, 2)), 301);
+    let (mut machine, mut other) = (board.set_up()?, Machine::new(BOARD)?);
+    for offset in (0..256).step_by(4) {
+        let at = config(1, 1, offset);
+        assert_eq!(machine.host_read(at, 4)?, other.host_read(at, 4)?);
+    }
+    assert_eq!(board.read(config(1, 1, 0), 4)?, u32::MAX);
+    board.write(config(0, 1, 4), 2, 0)?;
+    let refused = board.set_up().err().expect("a refusal");
+    assert!(matches!(refused, Error::NotAtReset(_)));
+    assert_eq!(refused.to_string(), "904 not at reset");
+    Ok(())
+}
+
+#[test]
+fn an_audit_tells_what_is_wrong() -> Result<(), Error> {
+    let mut board = Board::new(BOARD)?;
+    let audit = board.audit()?;
+    assert!(audit.text.ends_with("\naudit: 2 problems\n"));
+    assert_eq!(audit.problems, 2);
+    board.write(config(0, 2, 0x18), 4, 0x0001_0100)?;
+    assert_eq!(board.audit()?.text, "audit: ok\n");
+    let mut largest = Board::new(LARGEST)?;
+    let audit = largest.audit()?;
+    assert!(audit.text.len() > 4096 && audit.text.lines().count() == audit.problems + 1);
+    Ok(())
+}
+
+#[test]
+fn what_is_refused() -> Result<(), Error> {
+    assert_eq!(number(Board::new("x")), 101);
+    assert_eq!(number(Board::new(IO_POOL)?.set_up()), 203);
+    let mut board = Board::new(BOARD)?;
+    assert_eq!(number(board.read(config(0, 1, 257), 3)), 302);
+    assert_eq!(number(board.read(config(0, 1, 257), 4)), 301);
+    assert_eq!(number(board.read(config(0, 1, 256), 4)), 303);
+    assert_eq!(number(board.read(config(0, 32, 0), 4)), 902);
+    assert_eq!(number(board.write(HostAt::Io { port: 1 << 32 }, 1, 0)), 303);
+    Ok(())
+}
+
+#[test]
+fn a_board_goes_to_another_thread() -> Result<(), Error> {
+    let mut board = Board::new(BOARD)?;
+    let read = thread::spawn(move || board.read(config(0, 1, 0), 4));
+    assert_eq!(read.join().expect("no panic")?, 0x0001_1234);
+    Ok(())
+}

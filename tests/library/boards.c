@@ -1,0 +1,331 @@
+/* Boards that firmware drives, by calls: what the calls refuse, our own set-up of such a board, each allocation failing in
+ * turn, and random accesses by calls and by lines, which answer alike.
+ *
+ *     boards BOARD COUNT SEED
+ *
+ * It is linked with --wrap for malloc, realloc and free. The exit status is 1 where an answer is wrong, or memory
+ * is lost. */
+#include "pciguest.h"
+#include "refusing.h"
+
+#include <inttypes.h>
+#include <string.h>
+
+static uint8_t file[65536];
+static size_t length;
+
+static uint32_t config_read(struct pciguest_board *board, uint8_t device, uint64_t offset)
+{
+    uint32_t value = 7;
+
+    IS(pciguest_board_read(board, PCIGUEST_CONFIG, 0, device, 0, offset, 4, &value), 0);
+    return value;
+}
+
+static uint32_t line(struct pciguest_board *board, const char *text, char *reply, size_t *written)
+{
+    return pciguest_board_run_line(board, text, strlen(text), reply, PCIGUEST_REPLY, written);
+}
+
+/* No call does anything to a board that isn't there. */
+static void without_a_board(void)
+{
+    struct pciguest_board none = {0};
+    struct pciguest machine = {0};
+    uint32_t value = 7;
+    size_t count = 8;
+    char reply[PCIGUEST_REPLY] = "unchanged";
+
+    IS(sizeof none, 2 * sizeof(void *));
+    IS(pciguest_board_read(&none, PCIGUEST_IO, 0, 0, 0, 0, 1, &value), 901);
+    IS(pciguest_board_write(&none, PCIGUEST_IO, 0, 0, 0, 0, 1, 0), 901);
+    IS(line(&none, "host ir 0 1", reply, &count), 901);
+    IS(pciguest_board_audit(&none, reply, sizeof reply, &count, &count), 901);
+    IS(pciguest_set_up(&none, &machine), 901);
+    pciguest_board_free(&none);
+    pciguest_board_free(&none);
+    IS(none.live, 0);
+    IS(machine.live, 0);
+    IS(value, 7);
+    IS(count, 8);
+    IS(strcmp(reply, "unchanged"), 0);
+}
+
+static void null_pointers(struct pciguest_board *board)
+{
+    struct pciguest machine = {0};
+    uint32_t value = 0;
+    size_t count = 0;
+    char reply[PCIGUEST_REPLY] = {0};
+
+    IS(pciguest_board_new(NULL, "", 0), 902);
+    IS(pciguest_board_new(board, NULL, 1), 902);
+    pciguest_board_free(NULL);
+    IS(pciguest_board_read(NULL, PCIGUEST_IO, 0, 0, 0, 0, 1, &value), 902);
+    IS(pciguest_board_read(board, PCIGUEST_IO, 0, 0, 0, 0, 1, NULL), 902);
+    IS(pciguest_board_write(NULL, PCIGUEST_IO, 0, 0, 0, 0, 1, 0), 902);
+    IS(pciguest_board_run_line(NULL, "", 0, reply, sizeof reply, &count), 902);
+    IS(pciguest_board_run_line(board, NULL, 1, reply, sizeof reply, &count), 902);
+    IS(pciguest_board_run_line(board, "", 0, NULL, 0, &count), 902);
+    IS(pciguest_board_run_line(board, "", 0, reply, sizeof reply, NULL), 902);
+    IS(pciguest_board_audit(NULL, reply, sizeof reply, &count, &count), 902);
+    IS(pciguest_board_audit(board, NULL, 1, &count, &count), 902);
+    IS(pciguest_board_audit(board, reply, sizeof reply, NULL, &count), 902);
+    IS(pciguest_board_audit(board, reply, sizeof reply, &count, NULL), 902);
+    IS(pciguest_set_up(NULL, &machine), 902);
+    IS(pciguest_set_up(board, NULL), 902);
+}
+
+/* What is refused, in the order of the checks; none of it is a write, so the board is at reset afterwards. */
+static void refusals(struct pciguest_board *board)
+{
+    uint32_t value = 7;
+    size_t count = 8;
+    char reply[PCIGUEST_REPLY] = {0};
+
+    IS(pciguest_board_new(board, file, length), 903);
+    IS(pciguest_board_read(board, 3, 0, 0, 0, 0, 4, &value), 902);
+    IS(pciguest_board_read(board, PCIGUEST_CONFIG, 0, 32, 0, 0, 4, &value), 902);
+    IS(pciguest_board_read(board, PCIGUEST_CONFIG, 0, 0, 8, 0, 4, &value), 902);
+    IS(pciguest_board_read(board, PCIGUEST_CONFIG, 0, 1, 0, 257, 3, &value), 302);
+    IS(pciguest_board_read(board, PCIGUEST_CONFIG, 0, 1, 0, 257, 4, &value), 301);
+    IS(pciguest_board_read(board, PCIGUEST_CONFIG, 0, 1, 0, 256, 4, &value), 303);
+    IS(pciguest_board_read(board, PCIGUEST_IO, 0, 32, 8, 1ull << 32, 1, &value), 303);
+    IS(pciguest_board_read(board, PCIGUEST_MEMORY, 0, 0, 0, 0, 8, &value), 302);
+    IS(pciguest_board_write(board, 3, 0, 0, 0, 0, 4, 0), 902);
+    IS(pciguest_board_write(board, PCIGUEST_CONFIG, 0, 32, 0, 4, 2, 2), 902);
+    IS(pciguest_board_write(board, PCIGUEST_CONFIG, 0, 1, 0, 5, 3, 2), 302);
+    IS(pciguest_board_write(board, PCIGUEST_CONFIG, 0, 1, 0, 5, 2, 2), 301);
+    IS(pciguest_board_write(board, PCIGUEST_MEMORY, 0, 0, 0, UINT64_MAX, 2, 2), 301);
+    IS(pciguest_board_write(board, PCIGUEST_IO, 0, 0, 0, 1ull << 32, 4, 2), 303);
+    IS(pciguest_board_run_line(board, "host ir 0 1", 11, reply, sizeof reply - 1, &count), 902);
+    IS(value, 7);
+    IS(count, 8);
+    IS(line(board, "# a comment", reply, &count), 0);
+    IS(count, 0);
+    IS(line(board, "host cw 00:01.0 5 2 2", reply, &count), 0);
+    IS(memcmp(reply, "host: refused 301 misaligned\n", count), 0);
+    IS(line(board, "a cr 0 0 4\n", reply, &count), 0);
+    IS(memcmp(reply, "?: refused 402 unknown guest\n", count), 0);
+    IS(config_read(board, 1, 0), 0x00011234);
+    IS(config_read(board, 9, 0), UINT32_MAX);
+}
+
+/* The machine of our own set-up is the one that a file gives; and it is had from a board at reset alone. */
+static void set_ups(struct pciguest_board *board)
+{
+    struct pciguest machine = {0}, other = {0};
+    uint32_t here = 0, there = 1;
+    size_t count = 0;
+    char reply[PCIGUEST_REPLY] = {0};
+
+    IS(pciguest_set_up(board, &machine), 0);
+    IS(pciguest_set_up(board, &machine), 903);
+    IS(pciguest_new(&other, file, length), 0);
+    for (uint8_t device = 0; device < 32; device++)
+        for (uint64_t offset = 0; offset < 256; offset += 4) {
+            IS(pciguest_host_read(&machine, PCIGUEST_CONFIG, 0, device, 0, offset, 4, &here), 0);
+            IS(pciguest_host_read(&other, PCIGUEST_CONFIG, 0, device, 0, offset, 4, &there), 0);
+            IS(here, there);
+        }
+    pciguest_free(&machine);
+    IS(config_read(board, 1, 4), 0x80000000); /* the board is at reset as before */
+    IS(pciguest_board_write(board, PCIGUEST_CONFIG, 0, 1, 0, 4, 2, 2), 0);
+    IS(pciguest_set_up(board, &other), 903);
+    IS(pciguest_set_up(board, &machine), 904);
+    IS(machine.live, 0);
+    IS(config_read(board, 1, 4), 0x80000002);
+    pciguest_board_free(board);
+    IS(pciguest_board_new(board, file, length), 0);
+    IS(line(board, "host mw 0 4 0", reply, &count), 0);
+    IS(pciguest_set_up(board, &machine), 904);
+    pciguest_free(&other);
+}
+
+static void audit_is(struct pciguest_board *board, const char *wanted, size_t problems)
+{
+    char text[256];
+    size_t needed = 0, count = 9;
+
+    memset(text, '?', sizeof text);
+    IS(pciguest_board_audit(board, NULL, 0, &needed, &count), 902);
+    IS(needed, strlen(wanted));
+    IS(pciguest_board_audit(board, text, needed - 1, &needed, &count), 902);
+    IS(text[0], '?');
+    IS(count, 9);
+    IS(pciguest_board_audit(board, text, sizeof text, &needed, &count), 0);
+    IS(memcmp(text, wanted, needed), 0);
+    IS(text[needed], '?');
+    IS(count, problems);
+}
+
+/* At reset no cycle finds what stands behind the bridge; once the bridge has its numbers, the audit has nothing to say. */
+static void audits(void)
+{
+    struct pciguest_board board = PCIGUEST_BOARD_INIT;
+    uint32_t fault = 299;
+    long kept;
+
+    IS(pciguest_board_new(&board, file, length), 0);
+    audit_is(&board, "audit: 2.0/0.0: a cycle for 00:00.0 reaches nothing\n"
+                     "audit: 2.0/1.0: a cycle for 00:01.0 reaches 1.0\naudit: 2 problems\n", 2);
+    IS(pciguest_board_write(&board, PCIGUEST_CONFIG, 0, 2, 0, 0x18, 4, 0x00010100), 0);
+    audit_is(&board, "audit: ok\n", 0);
+    IS(pciguest_board_write(&board, PCIGUEST_CONFIG, 1, 1, 0, 0x10, 4, 0xc0000000), 0);
+    IS(pciguest_board_write(&board, PCIGUEST_CONFIG, 1, 1, 0, 4, 2, 2), 0);
+    audit_is(&board, "audit: 2.0/1.0 bar0 at 0xc0000000 size 0x1000000: 0xc0000000 is not forwarded by 2.0\n"
+                     "audit: 1 problem\n", 1);
+    kept = blocks;
+    for (long left = 1; fault == 299; left++) {
+        char text[256] = "unchanged";
+        size_t needed = 8, count = 9;
+
+        calls_left = left;
+        fault = pciguest_board_audit(&board, text, sizeof text, &needed, &count);
+        calls_left = -1;
+        IS(fault == 0 || (fault == 299 && needed == 8 && count == 9 && strcmp(text, "unchanged") == 0), 1);
+        IS((uint64_t)blocks, (uint64_t)kept);
+    }
+    pciguest_board_free(&board);
+}
+
+/* A board that can't be set up is a board all the same. */
+static void unfit(void)
+{
+    static const char text[] = "[host]\nio = [0x1000, 0x1fff]\nmem = [0xc0000000, 0xc00fffff]\n[[endpoint]]\nat = \"1.0\"\n"
+                               "vendor = 1\ndevice = 2\nclass = 0\nbar = [ { index = 0, kind = \"mem32\", size = 0x200000 } ]\n";
+    struct pciguest_board board = PCIGUEST_BOARD_INIT;
+    struct pciguest machine = PCIGUEST_INIT;
+
+    IS(pciguest_board_new(&board, text, sizeof text - 1), 0);
+    IS(pciguest_set_up(&board, &machine), 204);
+    IS(machine.live, 0);
+    IS(config_read(&board, 1, 0), 0x00020001);
+    pciguest_board_free(&board);
+}
+
+/* Each allocation fails in turn: the answer is out of memory, the struct stays empty, and nothing is lost. */
+static void out_of_memory(void)
+{
+    uint32_t fault = 1;
+    long count = 0;
+
+    for (; fault != 0; count++) {
+        struct pciguest_board board = {0};
+        long before = blocks;
+
+        calls_left = count + 1;
+        fault = pciguest_board_new(&board, file, length);
+        calls_left = -1;
+        if (fault != 0)
+            IS(fault, 199);
+        IS(board.live, fault == 0);
+        pciguest_board_free(&board);
+        IS((uint64_t)blocks, (uint64_t)before);
+    }
+    IS(count > 50, 1);
+}
+
+/* The same of a set-up, which leaves the board as it is; and no access takes memory. */
+static void set_up_out_of_memory(struct pciguest_board *board)
+{
+    uint32_t fault = 1;
+    size_t written = 0;
+    long count = 0, before = blocks;
+    char reply[PCIGUEST_REPLY];
+
+    for (; fault != 0; count++) {
+        struct pciguest machine = {0};
+
+        calls_left = count + 1;
+        fault = pciguest_set_up(board, &machine);
+        calls_left = -1;
+        if (fault != 0 && fault != 199)
+            IS(fault, 299);
+        IS(machine.live, fault == 0);
+        pciguest_free(&machine);
+        IS((uint64_t)blocks, (uint64_t)before);
+    }
+    IS(count > 100, 1);
+    calls_left = 1;
+    IS(config_read(board, 1, 0), 0x00011234);
+    IS(pciguest_board_write(board, PCIGUEST_MEMORY, 0, 0, 0, 0, 4, 0), 0);
+    IS(line(board, "host ir 0xcfc 4", reply, &written), 0);
+    calls_left = -1;
+}
+
+static uint64_t seed;
+
+static uint32_t below(uint32_t count)
+{
+    seed = seed * 6364136223846793005u + 1442695040888963407u;
+    return (uint32_t)(seed >> 33) % count;
+}
+
+/* A random access on one board by a call, on another by a line: the replies are alike. */
+static void access(struct pciguest_board *by_calls, struct pciguest_board *by_lines)
+{
+    static const char *const kinds = "cim";
+    static const uint32_t widths[] = {1, 2, 4, 4, 4, 3};
+    uint32_t space = below(3), width = widths[below(6)], value = below(4) == 0 ? UINT32_MAX : below(1u << 31);
+    uint8_t bus = (uint8_t)below(3), device = (uint8_t)below(4);
+    uint64_t place = space == 0 ? below(66) * 4 + below(8) / 7 : below(64) * 4;
+    char text[80], reply[PCIGUEST_REPLY], wanted[PCIGUEST_REPLY] = "host: ok\n", words[PCIGUEST_WORDS];
+    bool reads = below(3) == 0;
+    size_t written = 0, count = 0;
+    uint32_t number, at = space == 0 ? 0 : below(3);
+
+    place = at == 1 ? 0xcf8 + below(8) : at == 2 ? 0xc0000000 + place : place;
+    if (space == 0)
+        snprintf(text, sizeof text, "host c%c %02x:%02x.0 %" PRIu64 " %u", reads ? 'r' : 'w', bus, device, place, width);
+    else
+        snprintf(text, sizeof text, "host %c%c %" PRIu64 " %u", kinds[space], reads ? 'r' : 'w', place, width);
+    if (!reads)
+        snprintf(text + strlen(text), sizeof text - strlen(text), " %u", value);
+    number = reads ? pciguest_board_read(by_calls, space, bus, device, 0, place, width, &value)
+                   : pciguest_board_write(by_calls, space, bus, device, 0, place, width, value);
+    if (number != 0) {
+        IS(pciguest_words(number, words, sizeof words, &count), 0);
+        snprintf(wanted, sizeof wanted, "host: refused %u %.*s\n", number, (int)count, words);
+    } else if (reads) {
+        snprintf(wanted, sizeof wanted, "host: 0x%0*x\n", (int)width * 2, value);
+    }
+    IS(line(by_lines, text, reply, &written), 0);
+    IS(written, strlen(wanted));
+    IS(memcmp(reply, wanted, strlen(wanted)), 0);
+}
+
+int main(int argc, char **argv)
+{
+    struct pciguest_board board = {0}, other = {0};
+    FILE *stream = argc == 4 ? fopen(argv[1], "rb") : NULL;
+
+    if (!stream)
+        return 2;
+    length = fread(file, 1, sizeof file, stream);
+    fclose(stream);
+    without_a_board();
+    IS(pciguest_board_new(&board, "x", 1), 101);
+    IS(board.live, 0);
+    IS(pciguest_board_new(&board, file, length), 0);
+    null_pointers(&board);
+    refusals(&board);
+    set_ups(&board);
+    pciguest_board_free(&board);
+    pciguest_board_free(&board);
+    unfit();
+    audits();
+    out_of_memory();
+    IS(pciguest_board_new(&board, file, length), 0);
+    set_up_out_of_memory(&board);
+    pciguest_board_free(&board);
+    IS(pciguest_board_new(&board, file, length), 0);
+    IS(pciguest_board_new(&other, file, length), 0);
+    seed = strtoull(argv[3], NULL, 10);
+    for (uint64_t count = strtoull(argv[2], NULL, 10); count != 0; count--)
+        access(&board, &other);
+    pciguest_board_free(&board);
+    pciguest_board_free(&other);
+    IS((uint64_t)blocks, 0);
+    return wrong;
+}

@@ -1,0 +1,154 @@
+/* Random events of two guests. After each, where every region stands is compared with the base address registers and
+ * the Command that its guest reads there, what addresses hit with the first such region that is open, and where
+ * nothing happened that may move a region, each answer with the one before.
+ *
+ *     queries BOARD COUNT SEED
+ *
+ * BOARD is crates/examples/data/main.toml.
+ */
+#include "pciguest.h"
+
+#include <inttypes.h>
+#include <stdio.h>
+#include <stdlib.h>
+#include <string.h>
+
+enum { GUESTS = 2, SLOTS = 32, REGISTERS = 6 };
+
+struct answer {
+    uint32_t number;
+    struct pciguest_region region;
+};
+
+static struct answer answers[GUESTS][SLOTS][REGISTERS];
+static uint64_t state;
+static int wrong;
+
+/* xorshift64 */
+static uint64_t below(uint64_t n)
+{
+    state ^= state << 13;
+    state ^= state >> 7;
+    state ^= state << 17;
+    return state % n;
+}
+
+static void is(int line, uint64_t found, uint64_t wanted)
+{
+    if (found != wanted && !wrong++)
+        fprintf(stderr, "queries.c:%d: 0x%" PRIx64 " in place of 0x%" PRIx64 "\n", line, found, wanted);
+}
+
+#define IS(found, wanted) is(__LINE__, (found), (wanted))
+
+static uint32_t config(struct pciguest *machine, size_t guest, uint64_t slot, uint64_t offset, uint32_t width)
+{
+    uint32_t value = 0;
+
+    IS(pciguest_read(machine, guest, PCIGUEST_CONFIG, slot, offset, width, &value), 0);
+    return value;
+}
+
+/* A region as its guest sees it by reads of configuration space alone, but for its size. */
+static void compare(struct pciguest *machine, size_t guest, uint64_t slot, uint32_t bar,
+                    const struct pciguest_region *region)
+{
+    uint32_t low = config(machine, guest, slot, 0x10 + 4 * bar, 4), command = config(machine, guest, slot, 4, 2);
+    uint64_t high = (low & 7) == 4 ? config(machine, guest, slot, 0x14 + 4 * bar, 4) : 0;
+
+    IS(region->space, low & 1 ? PCIGUEST_IO : PCIGUEST_MEMORY);
+    IS(region->first, high << 32 | (low & (low & 1 ? ~3u : ~15u)));
+    IS(region->prefetchable, !(low & 1) && low & 8);
+    IS(region->is_open, command >> (low & 1 ? 0 : 1) & 1);
+    IS(region->size & (region->size - 1), 0);
+    IS(region->first % region->size, 0);
+}
+
+/* Asks for all regions; `same` says that each answer is to be the one before. */
+static void ask(struct pciguest *machine, bool same)
+{
+    for (size_t guest = 0; guest < GUESTS; guest++)
+        for (uint64_t slot = 0; slot < SLOTS; slot++)
+            for (uint32_t bar = 0; bar < REGISTERS; bar++) {
+                struct answer *kept = &answers[guest][slot][bar], now = {0};
+
+                now.number = pciguest_region(machine, guest, slot, bar, &now.region);
+                if (now.number == 0)
+                    compare(machine, guest, slot, bar, &now.region);
+                else
+                    IS(now.number, config(machine, guest, slot, 0, 4) == UINT32_MAX ? 601 : 303);
+                if (same)
+                    IS(memcmp(&now, kept, sizeof now), 0);
+                *kept = now;
+            }
+}
+
+/* What an address hits, by the regions that were told. */
+static void locate(struct pciguest *machine, size_t guest, uint32_t space, uint64_t place)
+{
+    struct pciguest_hit hit = {0}, wanted = {0};
+
+    for (uint64_t slot = 0; slot < SLOTS && !wanted.found; slot++)
+        for (uint32_t bar = 0; bar < REGISTERS && !wanted.found; bar++) {
+            const struct answer *told = &answers[guest][slot][bar];
+
+            if (!told->number && told->region.is_open && told->region.space == space && place >= told->region.first
+                && place - told->region.first < told->region.size)
+                wanted = (struct pciguest_hit){slot, place - told->region.first, bar, 1};
+        }
+    IS(pciguest_locate(machine, guest, space, 0, place, &hit), 0);
+    IS(hit.found, wanted.found);
+    IS(hit.slot, wanted.slot);
+    IS(hit.part, wanted.part);
+    IS(hit.offset, wanted.offset);
+}
+
+/* An event at random; whether it may move a region. */
+static bool event(struct pciguest *machine)
+{
+    static const uint8_t offsets[] = {0x04, 0x10, 0x14, 0x18, 0x00, 0x0c, 0x28, 0x3c};
+    size_t guest = below(GUESTS);
+    uint64_t slot = below(3), offset = offsets[below(sizeof offsets)];
+
+    switch (below(6)) {
+    case 0:
+        (void)pciguest_move(machine, guest, slot, below(GUESTS), below(3));
+        return true;
+    case 1:
+        (void)pciguest_reset(machine, guest, slot);
+        return true;
+    case 2:
+        (void)pciguest_raise(machine, guest, slot, below(2) ? PCIGUEST_RAISE_CONFIG : 1, below(0x40), 0xff);
+        return false;
+    case 3:
+        (void)pciguest_write(machine, guest, PCIGUEST_MEMORY, 0, below(4) << 20, 4, (uint32_t)below(1 << 20));
+        return false;
+    default:
+        (void)pciguest_write(machine, guest, PCIGUEST_CONFIG, slot, offset, 4,
+                             offset == 4 ? 3 : (uint32_t)below(4) << 20);
+        return offset == 4 || (offset >= 0x10 && offset < 0x28);
+    }
+}
+
+int main(int argc, char **argv)
+{
+    static uint8_t board[65536];
+    struct pciguest machine = PCIGUEST_INIT;
+    FILE *file = argc == 4 ? fopen(argv[1], "rb") : NULL;
+    size_t length;
+
+    if (!file)
+        return 2;
+    length = fread(board, 1, sizeof board, file);
+    fclose(file);
+    state = strtoull(argv[3], NULL, 10) * 0x9e3779b97f4a7c15u + 1;
+    IS(pciguest_new(&machine, board, length), 0);
+    ask(&machine, false);
+    for (uint64_t left = strtoull(argv[2], NULL, 10); left > 0; left--) {
+        ask(&machine, !event(&machine));
+        locate(&machine, below(GUESTS), PCIGUEST_MEMORY, (below(4) << 20) + below(0x100));
+        locate(&machine, below(GUESTS), PCIGUEST_IO, below(0x40));
+    }
+    pciguest_free(&machine);
+    return wrong != 0;
+}
