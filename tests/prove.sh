@@ -70,7 +70,7 @@ holds 'that rt is not asked' has '4 of them are as they were when they were prov
 touch -d '1 minute ago' crates/left/out/rlib/stamp
 rm crates/left/out/prove.key
 prove app
-holds 'that rt finds it proved' has '\[4 of 4\] left \.\. proved before'
+holds 'that rt finds it proved, and what stands above it' has '\[3 of 4\] left \.\. proved before'
 echo other > crates/left/out/rlib/stamp
 prove app
 holds 'what another rt left is proved anew' test "$status" = 0 -a "$(grep -c '^left ' log)" = 2 -a "$(grep -c '^low ' log)" = 1

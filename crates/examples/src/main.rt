@@ -60,7 +60,7 @@ const RUNS: [(&str, &str); 8] = [
 
 /// Boards that are checked: two that fit, one for each reason of a refusal, and some with many things
 /// wrong.
-const CHECKS: [&str; 23] = [
+const CHECKS: [&str; 24] = [
     "main.toml",
     "demo.toml",
     "not_toml.toml",
@@ -83,6 +83,7 @@ const CHECKS: [&str; 23] = [
     "many_keys.toml",
     "many_numbers.toml",
     "many_places.toml",
+    "many_checks.toml",
     "bridge_first.toml",
 ];
 

@@ -1,0 +1,179 @@
+//! The examples that `host_bridge`, `firmware`, `window_packing` and `monitor` show in their headings, as
+//! tests.
+ghost use Rattle.std.specs.Prelude.{◌≡◌, length};
+
+use accesses::{Access, At, HostAccess, HostAt, Op, Reply};
+use board_file::read_board;
+use firmware::{read, run_line, write};
+use host_bridge::{Bdf, TreeWalk};
+use monitor::{Engine, Monitor};
+use std::test::Fail;
+use window_packing::set_up;
+
+/// An endpoint beside a bridge, two behind it, and two guests.
+const MAIN: &str = "[host]
+io = [0x1000, 0xffff]
+mem = [0xc0000000, 0xdfffffff]
+pref = [0x400000000, 0x4ffffffff]
+
+[[endpoint]]
+at = \"1.0\"
+vendor = 0x1234
+device = 0x0001
+class = 0xff0000
+status = 0x8000
+pin = 1
+bar = [
+  { index = 0, kind = \"io\", size = 32 },
+  { index = 1, kind = \"mem32\", size = 4096, block = 64, rw = \"ff\" },
+]
+
+[[bridge]]
+at = \"2.0\"
+vendor = 0x1234
+device = 0x0002
+io = \"16\"
+pref = \"64\"
+
+[[endpoint]]
+at = \"2.0/0.0\"
+vendor = 0x1234
+device = 0x0003
+class = 0xff0000
+bar = [
+  { index = 0, kind = \"mem32\", size = 0x100000 },
+  { index = 1, kind = \"io\", size = 8 },
+]
+
+[[endpoint]]
+at = \"2.0/1.0\"
+vendor = 0x1234
+device = 0x0004
+class = 0xff0000
+pin = 1
+bar = [ { index = 0, kind = \"mem64p\", size = 0x1000000, block = 16, reset = \"a5\" } ]
+
+[[guest]]
+name = \"a\"
+slots = [\"1.0\", \"2.0/1.0\"]
+
+[[guest]]
+name = \"b\"
+slots = [\"2.0/0.0\"]
+";
+
+/// How many guests a monitor has.
+fn guests_of(monitor: &Monitor) -> usize
+    ensures { result ≡ length monitor.now.guests }
+{
+    monitor.names().len()
+}
+
+/// The same over a walk of the board.
+fn guests_by_walk(engine: &Engine<TreeWalk>) -> usize
+    ensures { result ≡ length engine.now.guests }
+{
+    engine.names().len()
+}
+
+#[test]
+fn cycles_and_accesses_of_a_host(rt: HostRuntime) -> Result<(), Fail> {
+    let alloc = rt.alloc();
+    let (mut host, _) = read_board(alloc, MAIN.as_bytes())?;
+    let card = Bdf {
+        bus: 0,
+        device: 1,
+        function: 0,
+    };
+    let identity = host.config_read(card, 0, 0b1111);
+    host.config_write(card, 0x14, 0b1111, 0xc000_0000);
+    host.config_write(card, 4, 0b0011, 2);
+    host.store(&TreeWalk, 0xc000_0010, 4, 0x1234_5678);
+    let low_half = host.load(&TreeWalk, 0xc000_0010, 2);
+    assert_eq!(rt; identity, 0x0001_1234);
+    assert_eq!(rt; low_half, 0x5678);
+    Ok(())
+}
+
+#[test]
+fn a_bridge_is_numbered_by_hand(rt: HostRuntime) -> Result<(), Fail> {
+    let (mut host, _) = read_board(rt.alloc(), MAIN.as_bytes())?;
+    let bridge = Bdf {
+        bus: 0,
+        device: 2,
+        function: 0,
+    };
+    let at = HostAt::Config {
+        bdf: bridge,
+        off: 0x18,
+    };
+    let numbers = HostAccess { at, width: 4 };
+    let numbered = write(&mut host, numbers, 0x0001_0100);
+    let numbers = read(&mut host, numbers);
+    let behind = run_line(&mut host, b"host cr 01:00.0 0 4");
+    assert!(rt; numbered == Reply::Done);
+    assert!(rt; numbers == Reply::Value(0x0001_0100, 4));
+    assert_eq!(rt; behind.as_slice(), b"host: 0x00031234\n".as_slice());
+    Ok(())
+}
+
+#[test]
+fn a_board_is_set_up(rt: HostRuntime) -> Result<(), Fail> {
+    let alloc = rt.alloc();
+    let (host, _) = read_board(alloc, MAIN.as_bytes())?;
+    let ready = set_up(alloc, host)?;
+    let found = ready.table().rows().len();
+    let (mut host, _, _) = ready.into_parts();
+    let card = Bdf {
+        bus: 0,
+        device: 1,
+        function: 0,
+    };
+    let base = host.config_read(card, 0x14, 0b1111);
+    assert_eq!(rt; found, 4);
+    assert_eq!(rt; base, 0xc010_0000);
+    Ok(())
+}
+
+#[test]
+fn a_guest_and_the_host(rt: HostRuntime) -> Result<(), Fail> {
+    let alloc = rt.alloc();
+    let (host, guests) = read_board(alloc, MAIN.as_bytes())?;
+    let ready = set_up(alloc, host)?;
+    let mut monitor = Monitor::new(alloc, ready, &guests)?;
+    assert!(rt; 0 < guests_of(&monitor));
+    let identity = Access {
+        at: At::Config { slot: 0, off: 0 },
+        width: 4,
+        op: Op::Read,
+    };
+    let reply = monitor.step(0, identity);
+    let at = HostAt::Mem { addr: 0xc010_0000 };
+    let seen = monitor.host_read(HostAccess { at, width: 4 });
+    assert!(rt; reply == Reply::Value(0x0001_1234, 4));
+    assert!(rt; seen == Reply::Value(0, 4));
+    Ok(())
+}
+
+/// An engine over a walk of the board answers as the monitor does.
+#[test]
+fn a_guest_and_the_host_by_a_walk(rt: HostRuntime) -> Result<(), Fail> {
+    let alloc = rt.alloc();
+    let (host, guests) = read_board(alloc, MAIN.as_bytes())?;
+    let ready = set_up(alloc, host)?;
+    let mut engine = Engine::new(alloc, ready, TreeWalk, &guests)?;
+    assert!(rt; 0 < guests_by_walk(&engine));
+    let identity = Access {
+        at: At::Config { slot: 0, off: 0 },
+        width: 4,
+        op: Op::Read,
+    };
+    let reply = engine.step(0, identity);
+    let at = HostAt::Mem {
+        addr: 0x4_0000_0000,
+    };
+    let seen = engine.host_read(HostAccess { at, width: 4 });
+    assert!(rt; reply == Reply::Value(0x0001_1234, 4));
+    assert!(rt; seen == Reply::Value(0xa5a5_a5a5, 4));
+    Ok(())
+}
