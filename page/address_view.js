@@ -3,7 +3,7 @@
 
 import { aperture_of, hex, size_in_words } from './report.js';
 import { make, mark_of, owner_in_words } from './marks.js';
-import { name_in, region_box, svg, ticks } from './bars.js';
+import { bang_at, name_in, region_box, svg, ticks } from './bars.js';
 
 const ROW = 20, TICKS = 36;
 const NAMES = { io: 'I/O', mem: 'Memory', pref: 'Prefetchable memory' };
@@ -25,19 +25,27 @@ const most = (one, other) => (one < other ? other : one);
 const place_of = (address, [first, last], width) => Number((address - first) * 1000000n / (last - first + 1n)) / 1000000 * width;
 const address_at = (share, [first, last]) => first + BigInt(Math.floor(share * 1000000)) * (last - first + 1n) / 1000000n;
 
+// Whose a region is, on a board that has guests.
+const whose = (path, { owners, marks }) => (marks.size === 0 ? '' : `, ${owner_in_words(owners.get(path))}`);
+
 // What stands at an address: the region that has it, else the innermost window.
-function at_address(address, spans, owners) {
+function at_address(address, spans, board) {
   const those = spans.filter(span => span.first <= address && address <= span.last);
   const region = those.find(span => span.region);
   if (region) {
-    return `${region.of.place} ${region.name} + ${hex(address - region.first)}, ${owner_in_words(owners.get(region.of.path))}`;
+    return `${region.of.place} ${region.name} + ${hex(address - region.first)}${whose(region.of.path, board)}`;
   }
   const window = those.sort((a, b) => b.depth - a.depth)[0];
   return window ? `nothing, in the ${window.name} of ${window.of.place}` : 'nothing';
 }
 
-const span_in_words = (span, owners) => `${span.of.place} ${span.name} ${hex(span.first)} to ${hex(span.last)}, `
-  + size_in_words(span.last - span.first + 1n) + (span.region ? `, ${owner_in_words(owners.get(span.of.path))}` : '');
+// The problems that name a region or, where they name no register, a window of its bridge at their address.
+const wrong_with = ({ of, region, first, last }, problems) => problems.filter(one => one.of.some(({ path, register }) => path === of.path
+  && (region ? register === region.name : register === null && (one.address === null || (first <= one.address && one.address <= last)))));
+
+const span_in_words = (span, board, problems) => `${span.of.place} ${span.name} ${hex(span.first)} to ${hex(span.last)}, `
+  + size_in_words(span.last - span.first + 1n) + (span.region ? whose(span.of.path, board) : '')
+  + wrong_with(span, problems).map(one => `; ! ${one.text}`).join('');
 
 // The used part of an aperture in a thin strip of the whole, and the part that is shown.
 function strip_of(used, shown, aperture, width) {
@@ -58,15 +66,17 @@ export class Addresses {
 
   forget() { this.ranges.clear(); this.at.clear(); }
 
-  draw(functions, apertures, owners, marks) {
-    this.board = { functions, apertures, owners, marks };
+  // `problems` have the address and the space at which they are seen; `none` is told where there is nothing to draw.
+  draw(functions, apertures, owners, marks, problems = [], none = '') {
+    this.board = { functions, apertures, owners, marks, problems, none };
     this.redraw();
   }
 
   redraw() {
     if (this.board === null) return;
     this.width = this.into.clientWidth;
-    this.into.replaceChildren(...Object.keys(NAMES).map(space => this.figure(space)).filter(one => one !== null));
+    const figures = Object.keys(NAMES).map(space => this.figure(space)).filter(one => one !== null);
+    this.into.replaceChildren(...(figures.length > 0 ? figures : [make('p', 'hint', this.board.none)]));
   }
 
   // Shows another range of a bar, or all; the bar keeps the keys.
@@ -79,24 +89,37 @@ export class Addresses {
   }
 
   figure(space) {
-    const { functions, apertures } = this.board, spans = spans_in(space, functions, apertures);
+    const { functions, apertures } = this.board, spans = spans_in(space, functions, apertures), problems = this.problems_in(space);
     if (spans.length === 0) return null;
-    const used = [spans[0].first, spans.reduce((last, span) => most(last, span.last), 0n)];
-    const aperture = apertures[space] ?? used, range = this.ranges.get(space) ?? used;
-    const figure = make('div', 'space'), told = make('div', 'told'), bar = this.bar(spans, range);
+    const [aperture, used, outside] = this.extent_of(spans, apertures[space]), range = this.ranges.get(space) ?? used;
+    const figure = make('div', 'space'), told = make('div', 'told'), bar = this.bar(spans, range, problems);
     figure.dataset.space = space;
     told.setAttribute('role', 'status');
     bar.setAttribute('aria-label', `${NAMES[space]}: ${KEYS}`);
     this.follow_pointer(bar, told, space, spans, range);
-    this.follow_keys(bar, told, space, spans, range);
-    figure.append(this.title(space, range, used, aperture), strip_of(used, range, aperture, this.width), bar, told);
+    this.follow_keys(bar, told, space, spans, problems);
+    figure.append(this.title(space, range, outside, aperture), strip_of(used, range, aperture, this.width), bar, told);
     return figure;
   }
 
-  title(space, range, used, aperture) {
+  problems_in(space) {
+    const { problems, apertures } = this.board;
+    return problems.filter(one => one.address !== null && aperture_of(one.space, one.address, apertures) === space);
+  }
+
+  // The aperture, what is used of it, and how many spans stand outside, which only firmware leaves. Where nothing is in the
+  // aperture, it is what is used.
+  extent_of(spans, aperture) {
+    const inside = aperture ? spans.filter(span => span.first <= aperture[1] && aperture[0] <= span.last) : spans;
+    const those = inside.length > 0 ? inside : spans, used = [those[0].first, those.reduce((last, span) => most(last, span.last), 0n)];
+    if (inside.length === 0 || !aperture) return [used, used, 0];
+    return [[least(aperture[0], used[0]), most(aperture[1], used[1])], used, spans.length - inside.length];
+  }
+
+  title(space, range, outside, aperture) {
     const title = make('div', 'title'), buttons = make('span', 'buttons'), size = range[1] - range[0] + 1n;
     title.append(make('span', '', NAMES[space]), make('span', '', `${hex(range[0])} to ${hex(range[1])}, ${size_in_words(size)}`
-      + ` of the aperture's ${size_in_words(aperture[1] - aperture[0] + 1n)}`), buttons);
+      + ` of the aperture's ${size_in_words(aperture[1] - aperture[0] + 1n)}${outside > 0 ? `; ${outside} outside it, by the arrow keys` : ''}`), buttons);
     const out = [most(range[0] - size / 2n, aperture[0]), least(range[1] + size / 2n, aperture[1])];
     for (const [name, words, wanted] of [['−', 'Zoom out', out], ['used', 'Show all that is used', null], ['aperture', 'Show the whole aperture', aperture]]) {
       const button = Object.assign(make('button', '', name), { type: 'button', title: words });
@@ -107,19 +130,22 @@ export class Addresses {
     return title;
   }
 
-  bar(spans, range) {
+  bar(spans, range, problems) {
     const { owners, marks } = this.board, seen = spans.filter(span => span.first <= range[1] && range[0] <= span.last);
     const deepest = Math.max(0, ...seen.map(span => span.depth)) + 1, height = deepest * ROW + 4;
     const bar = svg('svg', { width: this.width, height: height + TICKS, class: 'bars', tabindex: 0, role: 'group' });
     bar.append(svg('rect', { x: 0, y: 0, width: this.width, height, class: 'well' }));
-    for (const span of seen.slice().sort((a, b) => a.depth - b.depth || !a.region - !b.region)) {
+    for (const span of seen.slice().sort((a, b) => a.depth - b.depth || !b.region - !a.region)) {
       const from = place_of(most(span.first, range[0]), range, this.width), to = place_of(least(span.last, range[1]) + 1n, range, this.width);
       const y = span.depth * ROW + 2, mark = mark_of(owners.get(span.of.path), marks);
-      if (span.region) bar.append(region_box(from, to - from, y, ROW - 1, mark, [`${span.of.place} ${span.name}`, span.of.place]));
-      else bar.append(svg('rect', { x: from, width: Math.max(to - from, 2), y, height: ROW * (deepest - span.depth), class: 'window' }),
+      const wrong = wrong_with(span, problems).length > 0 ? ' wrong' : '';
+      if (span.region) bar.append(region_box(from, to - from, y, ROW - 1, mark, [`${span.of.place} ${span.name}`, span.of.place], wrong, this.board.marks.size > 0));
+      else bar.append(svg('rect', { x: from, width: Math.max(to - from, 2), y, height: ROW * (deepest - span.depth), class: `window${wrong}` }),
         ...name_in([`${span.name} of ${span.of.place}`, `of ${span.of.place}`], from, to - from, y + ROW / 2 + 4, 'of'));
     }
     bar.append(...ticks(this.ticks_of(seen, range), this.width, height, 2, 14));
+    bar.append(...problems.filter(({ address }) => range[0] <= address && address <= range[1])
+      .map(one => bang_at(place_of(one.address, range, this.width), this.width, height, one.text)));
     return bar;
   }
 
@@ -133,6 +159,7 @@ export class Addresses {
   }
 
   follow_pointer(bar, told, space, spans, range) {
+    const problems = this.problems_in(space);
     const cursor = svg('line', { class: 'cursor', y1: 0, y2: bar.getAttribute('height') - TICKS, visibility: 'hidden' });
     bar.append(cursor);
     const pointed = event => {
@@ -143,7 +170,8 @@ export class Addresses {
       const { share, address } = pointed(event);
       for (const name of ['x1', 'x2']) cursor.setAttribute(name, share * this.width);
       cursor.setAttribute('visibility', 'visible');
-      told.textContent = `${hex(address)}: ${at_address(address, spans, this.board.owners)}`;
+      told.textContent = `${hex(address)}: ${at_address(address, spans, this.board)}`
+        + problems.filter(one => spans.some(span => span.first <= address && address <= span.last && wrong_with(span, [one]).length > 0)).map(one => `; ! ${one.text}`).join('');
       this.light(spans.find(span => span.region && span.first <= address && address <= span.last)?.of.path ?? null);
     });
     bar.addEventListener('pointerleave', () => { cursor.setAttribute('visibility', 'hidden'); told.textContent = ''; this.light(null); });
@@ -161,10 +189,10 @@ export class Addresses {
     return [most(first - beside, 0n), last + beside];
   }
 
-  follow_keys(bar, told, space, spans, range) {
+  follow_keys(bar, told, space, spans, problems) {
     const show = nth => {
       this.at.set(space, nth);
-      told.textContent = span_in_words(spans[nth], this.board.owners);
+      told.textContent = span_in_words(spans[nth], this.board, problems);
       this.light(spans[nth].of.path);
     };
     const at = () => this.at.get(space) ?? -1;

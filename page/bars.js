@@ -15,16 +15,24 @@ export function name_in(names, x, width, y, name = 'name') {
   return fits === undefined ? [] : [svg('text', { x: x + width / 2, y, class: name, 'text-anchor': 'middle' }, fits)];
 }
 
-// A region: its colour, its pattern, and the longest name that fits, behind its guest's letter.
-export function region_box(x, width, y, height, mark, names) {
-  const all = svg('g', { class: 'region' });
+// A region: its colour, its pattern, and the longest name that fits, behind its guest's letter where there are guests.
+export function region_box(x, width, y, height, mark, names, wrong = '', lettered = true) {
+  const all = svg('g', { class: `region${wrong}` });
   const sides = { x, width: Math.max(width, 2), y, height };
   const fill = svg('rect', { ...sides, class: mark === undefined ? 'fill nobody' : 'fill' });
   if (mark !== undefined) all.style.setProperty('--hue', mark.hue);
   all.append(fill);
   if (mark?.pattern) all.append(svg('rect', { ...sides, fill: `url(#pattern${mark.pattern})`, 'pointer-events': 'none' }));
   const letter = mark?.letter ?? '–';
-  all.append(...name_in([...names.map(one => `${letter} ${one}`), letter], x, width, y + height / 2 + 4));
+  const told = lettered ? [...names.map(one => `${letter} ${one}`), letter] : names;
+  all.append(...name_in(told, x, width, y + height / 2 + 4));
+  return all;
+}
+
+// Where a problem is seen.
+export function bang_at(x, width, height, text) {
+  const all = svg('g', { class: 'bang-at' }), at = Math.min(Math.max(x, 6), width - 6);
+  all.append(svg('title', {}, text), svg('line', { x1: x, x2: x, y1: 0, y2: height }), svg('path', { d: `M${at - 6} 0H${at + 6}L${x} 10Z` }));
   return all;
 }
 

@@ -1,18 +1,19 @@
 // The tree of buses and the table of functions. Buses fold, and a large board begins folded.
 
-import { hex, size_in_words } from './report.js';
+import { hex, parent_of, size_in_words } from './report.js';
 import { badge, colour, make, mark_of, owner_in_words } from './marks.js';
 
-const LARGE = 64, MANY = 12;
-
-const parent_of = path => (path.includes('/') ? path.slice(0, path.lastIndexOf('/')) : '');
+export const LARGE = 64;
+const MANY = 12;
 
 // What a function holds, part by part.
 export function places_of(one) {
   const places = one.regions.map(region => `${region.name} ${region.kind} at ${hex(region.first)} to ${hex(region.first + region.size - 1n)}, ${size_in_words(region.size)}`)
     .concat(one.windows.map(window => `${window.space} window ${hex(window.first)} to ${hex(window.last)}`));
+  const shut = [...(one.all_regions ?? []).filter(region => !region.open).map(region => `${region.name} ${region.kind} shut, ${size_in_words(region.size)}`),
+    ...(one.all_windows ?? []).filter(window => !window.open).map(window => `${window.space} window shut`)];
   if (one.buses) places.unshift(`bridge to bus ${one.buses[1]}, last bus ${one.buses[2]}`);
-  return places;
+  return [...places, ...shut];
 }
 
 function button_of(text, words, act) {
@@ -23,13 +24,15 @@ function button_of(text, words, act) {
 }
 
 export class Board {
-  // `parts` are the elements `tree`, `told` and `table`; `light` is given the path of a function, or null.
-  constructor(parts, light) { Object.assign(this, { parts, light, turned: new Set(), whole: new Set() }); }
+  // `parts` are the elements `tree`, `told` and `table`; `light` is given the path of a function, or null, and `choose` that of
+  // one that is chosen.
+  constructor(parts, light, choose) { Object.assign(this, { parts, light, choose, chosen: null, turned: new Set(), whole: new Set() }); }
 
   forget() { this.turned.clear(); this.whole.clear(); }
 
-  draw(functions, owners, marks) {
-    Object.assign(this, { functions, owners, marks, below: new Map() });
+  // `troubles` are the texts that name a function as wrong, by its path.
+  draw(functions, owners, marks, troubles = new Map()) {
+    Object.assign(this, { functions, owners, marks, troubles, below: new Map() });
     for (const one of functions) {
       const parent = parent_of(one.path);
       if (!this.below.has(parent)) this.below.set(parent, []);
@@ -80,19 +83,39 @@ export class Board {
     return row;
   }
 
+  // What is wrong with a function, and behind a bridge whose bus is folded.
+  troubles_at(one) {
+    const own = this.troubles.get(one.path) ?? [];
+    if (one.kind !== 'bridge' || this.is_open(one.path)) return own;
+    return [...new Set([...own, ...[...this.troubles].filter(([path]) => path.startsWith(`${one.path}/`)).flatMap(([, texts]) => texts)])];
+  }
+
   chip_of(one) {
-    const owner = this.owners.get(one.path), mark = mark_of(owner, this.marks), chip = make('div', 'chip');
-    const words = [`${one.place}, ${one.words}, ${one.path}`, ...(one.kind === 'bridge' ? [] : [owner_in_words(owner)]), ...places_of(one)];
+    const owner = this.owners.get(one.path), mark = mark_of(owner, this.marks), chip = make('div', 'chip'), troubles = this.troubles_at(one);
+    const owned = one.kind === 'bridge' || this.marks.size === 0 ? [] : [owner_in_words(owner)];
+    const words = [`${one.place}, ${one.words}, ${one.path}`, ...troubles, ...owned, ...places_of(one)];
     chip.title = words.join('\n');
     chip.dataset.path = one.path;
     chip.tabIndex = 0;
     if (one.kind === 'bridge') chip.classList.add('bridge');
     else { colour(chip, mark); chip.append(badge(mark)); }
-    chip.append(`${one.place.slice(3)} ${one.words}`, make('small', '', one.identity));
+    chip.append(`${one.place.slice(3)} ${one.words}`, ...(troubles.length > 0 ? [make('b', 'bang', troubles.length === 1 ? '!' : `! ${troubles.length}`)] : []),
+      make('small', '', one.identity));
+    chip.classList.toggle('troubled', troubles.length > 0);
+    chip.classList.toggle('lost', Boolean(one.lost));
+    if (this.chosen !== null) this.let_choose(chip, one.path);
     const tell = said => { this.parts.told.textContent = said ? words.join('; ') : ''; this.light(said ? one.path : null); };
     for (const event of ['focus', 'pointerenter']) chip.addEventListener(event, () => tell(true));
     for (const event of ['blur', 'pointerleave']) chip.addEventListener(event, () => tell(false));
     return chip;
+  }
+
+  let_choose(chip, path) {
+    chip.setAttribute('role', 'button');
+    chip.setAttribute('aria-pressed', path === this.chosen);
+    chip.classList.toggle('chosen', path === this.chosen);
+    chip.addEventListener('click', () => this.choose(path));
+    chip.addEventListener('keydown', event => { if (event.key === 'Enter' || event.key === ' ') { event.preventDefault(); this.choose(path); } });
   }
 
   draw_table() {
@@ -101,7 +124,7 @@ export class Board {
     const buses = new Map();
     for (const one of this.functions) buses.set(one.bus, [...(buses.get(one.bus) ?? []), one]);
     const groups = [...buses].flatMap(([bus, all]) => {
-      const key = `bus ${bus.toString(16).padStart(2, '0')}`, open = this.is_open(key), row = make('tr', 'group'), cell = make('td', '');
+      const key = `bus ${bus}`, open = this.is_open(key), row = make('tr', 'group'), cell = make('td', '');
       const fold = button_of(`${open ? '−' : '+'} ${key}: ${all.length}`, `${open ? 'Fold' : 'Unfold'} ${key} of the table`,
         () => this.turn(this.turned, key, `[data-fold="${key}"]`));
       fold.dataset.fold = key;
@@ -117,6 +140,7 @@ export class Board {
   row_of(one, names) {
     const row = make('tr', ''), owner = this.owners.get(one.path), held = make('td', ''), taken = make('td', 'owner');
     row.dataset.path = one.path;
+    for (const text of this.troubles.get(one.path) ?? []) held.append(make('div', 'wrong', `! ${text}`));
     for (const place of places_of(one)) held.append(make('div', '', place));
     if (one.kind !== 'bridge') taken.append(badge(mark_of(owner, this.marks)), owner ? `${owner.guest} ${owner.slot}` : 'no guest');
     row.append(make('td', '', one.place), taken, make('td', '', one.path), make('td', '', `${one.words} ${one.identity}`), held, make('td', '', one.interrupt));

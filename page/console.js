@@ -2,9 +2,10 @@
 
 const PAUSE = 650;
 const LONGEST = 500;
+const NOTED = 4;
 
 export class Console {
-  // `parts` are its elements; `machine` gives the open machine or null; `moved` is told of each move that was done, and
+  // `parts` are its elements; `machine` gives what answers lines, or null; `moved` is told of each move that was done, and
   // `ran` after each line.
   constructor(parts, machine, moved, ran) {
     Object.assign(this, { parts, machine, moved, ran, marks: new Map(), before: [], back: 0, playing: 0, said: [] });
@@ -60,11 +61,24 @@ export class Console {
   enter() {
     const line = this.parts.line.value;
     if (line.trim() === '') return;
-    this.playing += 1;
     this.before.push(line);
     this.back = 0;
     this.parts.line.value = '';
+    this.give(line);
+  }
+
+  // Runs a line of the reader's, which ends a story.
+  give(line) {
+    this.playing += 1;
     this.run(line);
+  }
+
+  // Tells of problems that came and went.
+  note(came, gone) {
+    for (const [name, sign, texts] of [['came', '+', came], ['gone', '−', gone]]) {
+      for (const text of texts.slice(0, NOTED)) this.put(name, `${sign} ${text}`);
+      if (texts.length > NOTED) this.put(name, `${sign} ${texts.length - NOTED} more`);
+    }
   }
 
   // The arrow keys bring back earlier lines.

@@ -24,13 +24,12 @@ export class Engine {
 
   word(at) { return Number(new DataView(this.exports.memory.buffer).getBigUint64(Number(at), true)); }
 
-  // What a call writes of a board file: { number, text }, where number is 0 or a refusal's.
-  written(call, file) {
+  // What a call writes into a room that is large enough: { number, text }, where number is 0 or a refusal's.
+  told(call) {
     for (let size = 1 << 16; ; ) {
-      const [number, needed, text] = this.with_rooms([file.length, size, 8], (board, out, length) => {
-        this.bytes(board, file.length).set(file);
+      const [number, needed, text] = this.with_rooms([size, 8], (out, length) => {
         this.bytes(length, 8).fill(0);
-        const number = call(board, BigInt(file.length), out, BigInt(size), length);
+        const number = call(out, BigInt(size), length);
         const needed = this.word(length);
         return [number, needed, this.bytes(out, number === TOO_SMALL ? 0 : needed).slice()];
       });
@@ -39,33 +38,48 @@ export class Engine {
     }
   }
 
+  // What a call writes of a board file.
+  written(call, file) {
+    return this.with_rooms([file.length], board => {
+      this.bytes(board, file.length).set(file);
+      return this.told((...rooms) => call(board, BigInt(file.length), ...rooms));
+    });
+  }
+
   // The report of a board file; nothing where it is refused.
   report(file) { return this.written(this.exports.pciguest_raw_report, file); }
 
   // What a check says of a board file, which is called board.toml there.
   check(file) { return this.written(this.exports.pciguest_raw_check, file); }
 
-  // A board with its guests, or the number that refuses it.
-  open(file) {
+  // What a call makes of a board file, behind a handle: { number, made }, where number is 0 or a refusal's.
+  made(call, file, kind) {
     const handle = this.exports.page_room(BigInt(HANDLE));
     this.bytes(handle, HANDLE).fill(0);
     const number = this.with_rooms([file.length], text => {
       this.bytes(text, file.length).set(file);
-      return this.exports.pciguest_raw_new(handle, text, BigInt(file.length));
+      return call(handle, text, BigInt(file.length));
     });
-    if (number !== 0) { this.exports.rattle_dealloc(handle); return { number, machine: null }; }
-    return { number, machine: new Machine(this, handle) };
+    if (number !== 0) { this.exports.rattle_dealloc(handle); return { number, made: null }; }
+    return { number, made: new kind(this, handle) };
   }
+
+  // A board that is set up, with its guests.
+  open(file) { return this.made(this.exports.pciguest_raw_new, file, Machine); }
+
+  // A board at reset, which firmware drives.
+  open_at_reset(file) { return this.made(this.exports.pciguest_raw_board_new, file, Driven); }
 }
 
-class Machine {
+// What is held behind a handle and answers lines.
+class Held {
   // Its rooms are made once: a search for free memory takes long where a large board has taken much.
   constructor(engine, handle) {
-    const [text, out, written] = [LONGEST_LINE, LONGEST_REPLY, 8].map(size => engine.exports.page_room(BigInt(size)));
+    const [text, out, written] = [LONGEST_LINE, LONGEST_REPLY, 32].map(size => engine.exports.page_room(BigInt(size)));
     Object.assign(this, { engine, handle, text, out, written });
   }
 
-  // The reply of one line of a script, with its line feed; nothing for a remark.
+  // The reply of one line, with its line feed; nothing for a remark.
   answer(line) {
     if (line.length <= LONGEST_LINE) return this.answer_in(this.text, line);
     return this.engine.with_rooms([line.length], text => this.answer_in(text, line));
@@ -74,7 +88,7 @@ class Machine {
   answer_in(text, line) {
     const { engine, handle, out, written } = this;
     engine.bytes(text, line.length).set(line);
-    engine.exports.pciguest_raw_run_line(handle, text, BigInt(line.length), out, BigInt(LONGEST_REPLY), written);
+    this.run_line(handle, text, BigInt(line.length), out, BigInt(LONGEST_REPLY), written);
     return engine.bytes(out, engine.word(written)).slice();
   }
 
@@ -85,18 +99,57 @@ class Machine {
   }
 
   close() {
-    this.engine.exports.pciguest_raw_free(this.handle);
+    this.free(this.handle);
     for (const room of [this.handle, this.text, this.out, this.written]) this.engine.exports.rattle_dealloc(room);
   }
 }
 
+class Machine extends Held {
+  run_line(...words) { return this.engine.exports.pciguest_raw_run_line(...words); }
+
+  free(handle) { this.engine.exports.pciguest_raw_free(handle); }
+
+  // The place of a guest's name among all names.
+  guest(name) {
+    const { engine, handle, text, written } = this, bytes = new TextEncoder().encode(name);
+    engine.bytes(text, bytes.length).set(bytes);
+    engine.exports.pciguest_raw_guest(handle, text, BigInt(bytes.length), written);
+    return engine.word(written);
+  }
+
+  // Where the region that begins at a base address register of a guest's function stands now: { first, size, space, open },
+  // or null where none does.
+  region(guest, slot, register) {
+    const { engine, handle, written } = this;
+    const number = engine.exports.pciguest_raw_region(handle, BigInt(this.guest(guest)), BigInt(slot), register, written);
+    if (number !== 0) return null;
+    const told = new DataView(engine.exports.memory.buffer, Number(written), 32);
+    return { first: told.getBigUint64(0, true), size: told.getBigUint64(8, true), space: told.getUint32(16, true) === 1 ? 'io' : 'mem',
+      open: told.getUint32(24, true) !== 0 };
+  }
+}
+
+class Driven extends Held {
+  run_line(...words) { return this.engine.exports.pciguest_raw_board_run_line(...words); }
+
+  free(handle) { this.engine.exports.pciguest_raw_board_free(handle); }
+
+  // What is wrong in the registers as they stand: a line for each problem, and one that counts them.
+  audit() {
+    const { exports } = this.engine;
+    const { number, text } = this.engine.told((...rooms) => exports.pciguest_raw_board_audit(this.handle, ...rooms, this.written));
+    if (number !== 0) throw new Error(`the audit is refused: ${number}`);
+    return text;
+  }
+}
+
 // Every output of the lines of a script, as one text.
-export function run(machine, script) {
+export function run(held, script) {
   const parts = [];
   let start = 0;
   while (start < script.length) {
     const feed = script.indexOf(10, start), end = feed < 0 ? script.length : feed;
-    parts.push(machine.answer(script.subarray(start, end)));
+    parts.push(held.answer(script.subarray(start, end)));
     start = end + 1;
   }
   return parts;

@@ -8,28 +8,28 @@ async function through(bytes, stream) {
   return new Uint8Array(await new Response(new Blob([bytes]).stream().pipeThrough(stream)).arrayBuffer());
 }
 
-// The fragment of a link that holds a board file and the lines that were run.
-export async function fragment_of(board, script) {
-  const bytes = new TextEncoder().encode(JSON.stringify({ board, script }));
+// What was kept: a board file, the lines that were run, and whom they are of.
+function read_kept(text) {
+  const { board, script, as } = JSON.parse(text);
+  return typeof board === 'string' && typeof script === 'string' ? { board, script, as: as === 'firmware' ? as : 'guests' } : null;
+}
+
+// The fragment of a link that holds it.
+export async function fragment_of(held) {
+  const bytes = new TextEncoder().encode(JSON.stringify(held));
   return `kept=${coded(await through(bytes, new CompressionStream('deflate-raw')))}`;
 }
 
 // What such a link holds, or null where it is none.
 export async function kept_in(text) {
-  try {
-    const { board, script } = JSON.parse(new TextDecoder().decode(await through(decoded(text), new DecompressionStream('deflate-raw'))));
-    return typeof board === 'string' && typeof script === 'string' ? { board, script } : null;
-  } catch { return null; }
+  try { return read_kept(new TextDecoder().decode(await through(decoded(text), new DecompressionStream('deflate-raw')))); } catch { return null; }
 }
 
 // A browser that keeps nothing, as some do for files, is no fault.
-export function keep(board, script) {
-  try { localStorage.setItem(KEY, JSON.stringify({ board, script })); } catch { /* the page works without */ }
+export function keep(held) {
+  try { localStorage.setItem(KEY, JSON.stringify(held)); } catch { /* the page works without */ }
 }
 
 export function kept() {
-  try {
-    const { board, script } = JSON.parse(localStorage.getItem(KEY));
-    return typeof board === 'string' && typeof script === 'string' ? { board, script } : null;
-  } catch { return null; }
+  try { return read_kept(localStorage.getItem(KEY)); } catch { return null; }
 }

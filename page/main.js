@@ -1,55 +1,70 @@
 // The page: its parts, and what happens as one types.
 
 import { Engine } from './engine.js';
-import { apertures_in, count_in_words, read_report } from './report.js';
+import { apertures_in, count_in_words, parent_of, read_report } from './report.js';
 import { class_of } from './classes.js';
 import { draw_key, marks_of } from './marks.js';
 import { patterns } from './bars.js';
-import { Board } from './board_view.js';
+import { Board, LARGE } from './board_view.js';
 import { Addresses } from './address_view.js';
 import { GuestMaps } from './guest_view.js';
 import { Console } from './console.js';
+import { Firmware } from './firmware_view.js';
 import { fragment_of, keep, kept, kept_in } from './keep.js';
 
 const part = Object.fromEntries([...document.querySelectorAll('[id]')].map(one => [one.id, one]));
 const still = matchMedia('(prefers-reduced-motion: reduce)').matches;
 const wanted = () => new URLSearchParams(location.hash.slice(1));
-let engine = null, machine = null, functions = [], owners = new Map(), marks = new Map(), apertures = {};
+let engine = null, machine = null, functions = [], owners = new Map(), marks = new Map(), apertures = {}, as = 'guests';
 
-const board = new Board({ tree: part.tree, told: part.told, table: part.functions }, light);
+const board = new Board({ tree: part.tree, told: part.told, table: part.functions }, light, path => firmware.choose(path));
 const addresses = new Addresses(part.addresses, light);
 const maps = new GuestMaps(part.maps, light);
-const script_console = new Console(part, () => machine, (from, to) => {
+const firmware = new Firmware(part, board, addresses, light, line => script_console.give(line));
+const script_console = new Console(part, () => (as === 'firmware' ? firmware.driven : machine), (from, to) => {
   const path = [...owners].find(([, owner]) => owner.guest === from.guest && owner.slot === from.slot)?.[0];
   if (path !== undefined) { owners.set(path, to); draw(); }
-}, follow);
-const keep_it = () => keep(part.board.value, script_console.script());
+}, ran);
+const held = () => ({ board: part.board.value, script: script_console.script(), as });
 let following = false;
 
-// After the lines that run at once, and not after each, what guests open is drawn and the script is kept.
+// What is wrong after a line of firmware is noted under it; on a large board, after all that run at once.
+function ran() {
+  if (as === 'firmware' && functions.length <= LARGE) note();
+  follow();
+}
+
+function note() {
+  const { came, gone } = firmware.look();
+  script_console.note(came, gone);
+}
+
+// After the lines that run at once, and not after each, what guests or firmware open is drawn and the script is kept.
 function follow() {
   if (following) return;
   following = true;
   queueMicrotask(() => {
     following = false;
-    if (machine !== null) maps.draw(machine, functions, owners, marks);
-    keep_it();
+    if (as === 'firmware') { if (functions.length > LARGE) note(); firmware.draw(apertures); } else if (machine !== null) maps.draw(machine, functions, owners, marks);
+    keep(held());
   });
 }
 
-// Marks a function where it is drawn; of one behind a folded bus, the bridge before it.
-function light(path) {
+// Marks functions where they are drawn; of one behind a folded bus, the bridge before it.
+function light(...paths) {
   for (const one of document.querySelectorAll('.lit')) one.classList.remove('lit');
   const drawn = at => document.querySelectorAll(`[data-path="${at}"]`);
-  while (path !== null && drawn(path).length === 0) path = path.includes('/') ? path.slice(0, path.lastIndexOf('/')) : null;
-  if (path !== null) for (const one of drawn(path)) one.classList.add('lit');
+  for (let path of paths) {
+    while (path && drawn(path).length === 0) path = parent_of(path);
+    if (path) for (const one of drawn(path)) one.classList.add('lit');
+  }
 }
 
 function draw() {
+  if (as === 'firmware') { firmware.draw(apertures); return; }
   draw_key(part.guests, marks, functions.some(one => one.kind !== 'bridge' && !owners.has(one.path)));
   board.draw(functions, owners, marks);
   addresses.draw(functions, apertures, owners, marks);
-  follow();
 }
 
 // Numbers the lines of the editor, and marks those of which a check tells.
@@ -85,6 +100,7 @@ function tell_check(text) {
 
 // A line that works on this board, if it was taken.
 function first_line() {
+  if (as === 'firmware') return firmware.first_line();
   if (machine === null) return '';
   const taken = [...owners.values()][0];
   return taken ? `${taken.guest} cr ${taken.slot} 0 4` : `host cr ${functions[0]?.place ?? '00:00.0'} 0 4`;
@@ -93,31 +109,33 @@ function first_line() {
 // Reads a report that was taken, and opens its machine.
 function take(text, file) {
   const read = read_report(text);
-  machine = engine.open(file).machine;
+  machine = engine.open(file).made;
   functions = read.functions.map(one => ({ ...one, words: class_of(machine, one.place) }));
   owners = new Map(read.slots.map(({ guest, slot, path }) => [path, { guest, slot }]));
   marks = marks_of(read.slots);
   apertures = apertures_in(part.board.value);
   part.report.textContent = text;
   const bridges = functions.filter(one => one.kind === 'bridge').length;
-  const counts = [[functions.length - bridges, 'endpoint'], [bridges, 'bridge'], [marks.size, 'guest']];
-  tell(false, `Set up: ${counts.map(([count, name]) => count_in_words(count, name)).join(', ')}`);
+  const counts = [[functions.length - bridges, 'endpoint'], [bridges, 'bridge'], ...(as === 'firmware' ? [] : [[marks.size, 'guest']])];
+  tell(false, `${as === 'firmware' ? 'At reset' : 'Set up'}: ${counts.map(([count, name]) => count_in_words(count, name)).join(', ')}`);
 }
 
 // Sets the board up anew, and draws it.
 function set_up() {
   if (machine !== null) machine.close();
   machine = null;
+  firmware.close();
   const file = new TextEncoder().encode(part.board.value), report = engine.report(file);
   tell_check(new TextDecoder().decode(engine.check(file).text));
   board.forget();
   addresses.forget();
   if (report.number === 0) {
     take(new TextDecoder().decode(report.text), file);
-    draw();
   } else {
     tell(true, `${report.number} ${WORDS[report.number] ?? ''}`);
   }
+  if (as === 'firmware') firmware.open(engine.open_at_reset(file).made, machine, machine === null ? [] : functions);
+  if (machine !== null) draw();
   script_console.clear(marks, first_line());
   follow();
 }
@@ -129,7 +147,15 @@ function tell(wrong, text) {
   part.figures.hidden = wrong && functions.length === 0;
 }
 
-function show_text(text) {
+// The reader is guests and their host, over the board that is set up, or firmware, over the board at reset.
+function be(whom) {
+  as = whom === 'firmware' ? whom : 'guests';
+  document.body.dataset.as = as;
+  for (const one of part.as.querySelectorAll('input')) one.checked = one.value === as;
+}
+
+function show_text(text, whom = as) {
+  be(whom);
   part.boards.value = Object.keys(BOARDS).find(name => BOARDS[name] === text) ?? '';
   part.board.value = text;
   set_up();
@@ -137,14 +163,14 @@ function show_text(text) {
 
 function tell_story(title) {
   const story = STORIES.find(one => one.title === title);
-  show_text(BOARDS[story.board]);
+  show_text(BOARDS[story.board], story.as);
   script_console.play(story.script, still || wanted().has('now'));
   if (story.shows) part[story.shows].scrollIntoView({ block: 'center' });
 }
 
 // Puts the board and the script that was run into the address, and into the clipboard where that is allowed.
 async function hand_out() {
-  const fragment = await fragment_of(part.board.value, script_console.script());
+  const fragment = await fragment_of(held());
   history.replaceState(null, '', `#${fragment}`);
   await navigator.clipboard?.writeText(location.href).catch(() => {});
   part.link.textContent = 'Link copied';
@@ -153,10 +179,10 @@ async function hand_out() {
 
 // What the address asks for, else what the browser kept, else the first board.
 async function begin() {
-  const asked = wanted(), held = asked.has('kept') ? await kept_in(asked.get('kept')) : asked.size > 0 ? null : kept();
+  const asked = wanted(), before = asked.has('kept') ? await kept_in(asked.get('kept')) : asked.size > 0 ? null : kept();
   if (asked.has('story')) { tell_story(asked.get('story')); return; }
-  show_text(held?.board ?? BOARDS[asked.get('board') ?? Object.keys(BOARDS)[0]] ?? '');
-  if (held) script_console.play(held.script, true);
+  show_text(before?.board ?? BOARDS[asked.get('board') ?? Object.keys(BOARDS)[0]] ?? '', before?.as ?? asked.get('as'));
+  if (before) script_console.play(before.script, true);
 }
 
 function wire() {
@@ -166,6 +192,7 @@ function wire() {
   part.board.addEventListener('input', set_up);
   part.board.addEventListener('scroll', () => { part.numbers.scrollTop = part.board.scrollTop; });
   part.restart.addEventListener('click', set_up);
+  part.as.addEventListener('change', event => { be(event.target.value); set_up(); });
   part.link.addEventListener('click', hand_out);
   part.open.addEventListener('change', async () => show_text(await part.open.files[0].text()));
   for (const button of part.jump.querySelectorAll('button')) {

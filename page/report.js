@@ -13,8 +13,7 @@ export function read_report(text) {
       read_detail(functions[functions.length - 1], words);
     } else if (words.length >= 4) {
       const [place, path, kind, identity, , primary, secondary, subordinate] = words;
-      const bus = parseInt(place.slice(0, 2), 16);
-      functions.push({ place, path, kind, identity, bus, depth: path.split('/').length - 1, regions: [], windows: [],
+      functions.push({ place, path, kind, identity, bus: place.slice(0, 2), depth: path.split('/').length - 1, regions: [], windows: [],
         buses: kind === 'bridge' ? [primary, secondary, subordinate] : null, interrupt: '' });
     }
   }
@@ -50,6 +49,8 @@ export function apertures_in(file) {
   }
   return found;
 }
+
+export const parent_of = path => (path.includes('/') ? path.slice(0, path.lastIndexOf('/')) : '');
 
 export const hex = value => '0x' + value.toString(16);
 

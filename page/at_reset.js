@@ -1,0 +1,89 @@
+// A board from reset on, as firmware's own cycles read it: where functions are found, what they open, and what is wrong.
+
+import { hex, parent_of } from './report.js';
+import { read_audit } from './audit.js';
+
+const COMMAND = 0x04, FIRST_BASE = 0x10, BUSES = 0x18;
+const DWORDS = [COMMAND, FIRST_BASE, 0x14, BUSES, 0x1c, 0x20, 0x24, 0x28, 0x2c, 0x30];
+const two = value => value.toString(16).padStart(2, '0');
+const bits = { io: 1, mem: 2, pref: 2 };
+
+// Which windows a bridge has, as set-up left them: one that is there is never left with all bits 0.
+export function decodes_of(machine, place) {
+  const [io, pref] = [0x1c, 0x24].map(offset => Number(machine.number(`host cr ${place} ${hex(offset)} 4`)));
+  return { io: (io & 0xffff) === 0 ? 0 : (io & 15) === 1 ? 32 : 16, pref: pref === 0 ? 0 : (pref & 15) === 1 ? 64 : 32 };
+}
+
+// Where a function's regions stand by its base address registers, and whether Command opens them.
+function regions_now(one, values) {
+  return one.regions.map(region => {
+    const space = region.kind === 'io' ? 'io' : 'mem', offset = FIRST_BASE + 4 * Number(region.name.slice(3));
+    const low = BigInt(values.get(offset)) & (space === 'io' ? ~3n : ~15n);
+    const high = region.kind.startsWith('mem64') ? BigInt(values.get(offset + 4)) : 0n;
+    return { ...region, first: (high << 32n) + low, open: (values.get(COMMAND) & bits[space]) !== 0 };
+  });
+}
+
+// A bridge's windows by its base and limit registers: PCI-to-PCI Bridge Architecture 1.2, chapter 3.2.5.
+function windows_now({ io, pref }, values) {
+  const command = values.get(COMMAND), [ports, mem, far] = [0x1c, 0x20, 0x24].map(offset => values.get(offset));
+  const upper = io === 32 ? values.get(0x30) : 0, [above, end_above] = pref === 64 ? [values.get(0x28), values.get(0x2c)] : [0, 0];
+  const memory = word => [(word & 0xfff0) * 2 ** 16, (word >>> 16 & 0xfff0) * 2 ** 16 + 0xfffff];
+  const all = [['mem', ...memory(mem)]];
+  if (io) all.unshift(['io', (upper & 0xffff) * 2 ** 16 + (ports & 0xf0) * 2 ** 8, (upper >>> 16) * 2 ** 16 + (ports >> 8 & 0xf0) * 2 ** 8 + 0xfff]);
+  if (pref) all.push(['pref', ...memory(far)]);
+  const high = { pref: [BigInt(above) << 32n, BigInt(end_above) << 32n] };
+  return all.map(([space, low, low_last]) => {
+    const [from, to] = high[space] ?? [0n, 0n], first = from + BigInt(low), last = to + BigInt(low_last);
+    return { space, first, last, open: (command & bits[space]) !== 0 && first <= last };
+  });
+}
+
+export class AtReset {
+  // `functions` are the report's; `decodes` has the windows of each bridge, by its path.
+  constructor(driven, functions, decodes) {
+    Object.assign(this, { driven, declared: functions, decodes, read: new Map(), functions: [], problems: [] });
+    this.look();
+  }
+
+  tell(line) { return new TextDecoder().decode(this.driven.answer(new TextEncoder().encode(line))).trimEnd(); }
+
+  // Looks at all registers, and tells which problems came and which went. A cycle by number leaves 0 in CONFIG_ADDRESS, so what
+  // stood there is written back.
+  look() {
+    const latch = this.driven.number('host ir 0xcf8 4'), before = this.problems;
+    this.problems = read_audit(new TextDecoder().decode(this.driven.audit()));
+    const lost = new Map(this.problems.filter(one => one.number !== null).map(one => [one.of[0].path, one]));
+    const buses = new Map([['', 0]]);
+    this.functions = this.declared.map(one => this.function_now(one, lost.get(one.path), buses));
+    if (latch !== 0n) this.tell(`host iw 0xcf8 4 ${hex(latch)}`);
+    for (const one of this.problems) one.space ??= this.space_of(one);
+    const [old, now] = [before, this.problems].map(those => new Set(those.map(one => one.text)));
+    return { came: [...now].filter(text => !old.has(text)), gone: [...old].filter(text => !now.has(text)) };
+  }
+
+  // A problem with a region is in the region's space.
+  space_of({ of, address }) {
+    if (address === null) return null;
+    const region = this.functions.find(one => one.path === of[0].path)?.all_regions.find(one => one.name === of[0].register);
+    return region?.kind === 'io' ? 'io' : 'mem';
+  }
+
+  // A function that no cycle finds has the registers that were read last, since nothing wrote them since.
+  function_now(one, lost, buses) {
+    const bus = buses.get(parent_of(one.path)), place = lost?.number ?? `${two(bus)}:${one.place.slice(3)}`;
+    const values = lost ? this.read.get(one.path) ?? new Map(DWORDS.map(offset => [offset, 0])) : this.values_at(place);
+    this.read.set(one.path, values);
+    const now = { ...one, place, bus: bus === 0 && one.depth > 0 ? '–' : two(bus), lost: lost?.text ?? null, values };
+    const all_regions = regions_now(one, values), all_windows = one.kind === 'bridge' ? windows_now(this.decodes.get(one.path), values) : [];
+    if (one.kind === 'bridge') {
+      now.buses = [0, 8, 16].map(shift => values.get(BUSES) >> shift & 0xff).map(number => (number === 0 ? '–' : two(number)));
+      if (one.depth === 0) now.buses[0] = two(values.get(BUSES) & 0xff);
+      buses.set(one.path, values.get(BUSES) >> 8 & 0xff);
+    }
+    return { ...now, all_regions, all_windows, regions: all_regions.filter(region => region.open), windows: all_windows.filter(window => window.open),
+      decodes: this.decodes.get(one.path) };
+  }
+
+  values_at(place) { return new Map(DWORDS.map(offset => [offset, Number(this.driven.number(`host cr ${place} ${hex(offset)} 4`))])); }
+}

@@ -1,0 +1,73 @@
+"""Headless Chromium, as page/browse uses it."""
+import base64
+import json
+import os
+import shutil
+import subprocess
+import sys
+import time
+
+
+class Browser:
+    """Chromium's own protocol, over two pipes."""
+
+    def __init__(self, room):
+        (their_in, self.out), (self.back, their_out) = os.pipe(), os.pipe()
+        words = [shutil.which('chromium'), '--headless=new', '--no-sandbox', '--disable-gpu', '--hide-scrollbars',
+                 f'--user-data-dir={room}', '--remote-debugging-pipe']
+        self.process = subprocess.Popen(
+            ['bash', '-c', 'exec "$@" 3<&"$IN" 4>&"$OUT"', 'bash', *words], pass_fds=[their_in, their_out],
+            env={**os.environ, 'IN': str(their_in), 'OUT': str(their_out)}, stderr=subprocess.DEVNULL, stdout=subprocess.DEVNULL)
+        os.close(their_in), os.close(their_out)
+        self.count, self.rest, self.session = 0, b'', None
+        target = self.ask('Target.createTarget', url='about:blank')['targetId']
+        self.session = self.ask('Target.attachToTarget', targetId=target, flatten=True)['sessionId']
+
+    def ask(self, method, **parameters):
+        self.count += 1
+        message = {'id': self.count, 'method': method, 'params': parameters}
+        if self.session:
+            message['sessionId'] = self.session
+        os.write(self.out, json.dumps(message).encode() + b'\0')
+        while True:
+            while b'\0' not in self.rest:
+                self.rest += os.read(self.back, 1 << 20)
+            said, self.rest = self.rest.split(b'\0', 1)
+            answer = json.loads(said)
+            if answer.get('id') == self.count:
+                if 'error' in answer:
+                    sys.exit(f'{method}: {answer["error"]["message"]}')
+                return answer['result']
+
+    def run(self, script):
+        answer = self.ask('Runtime.evaluate', expression=script, returnByValue=True, awaitPromise=True)
+        return answer['result'].get('value', answer.get('exceptionDetails'))
+
+    def open(self, address, width=1100, height=1000, scheme='light'):
+        self.ask('Emulation.setDeviceMetricsOverride', width=width, height=height, deviceScaleFactor=1, mobile=False)
+        self.ask('Emulation.setEmulatedMedia', features=[{'name': 'prefers-color-scheme', 'value': scheme}])
+        self.ask('Page.navigate', url='about:blank')
+        self.ask('Page.navigate', url=address)
+        for _ in range(200):
+            if self.run("document.readyState === 'complete' && document.getElementById('verdict')?.textContent !== ''") is True:
+                return
+            time.sleep(0.05)
+        sys.exit(f'{address} does not come up')
+
+    def picture(self, file):
+        file.write_bytes(base64.b64decode(self.ask('Page.captureScreenshot', format='png')['data']))
+
+
+def press(browser, key, text=''):
+    codes = {'Enter': 13, 'Escape': 27, 'ArrowRight': 39}
+    browser.ask('Input.dispatchKeyEvent', type='keyDown', key=key, code=key, windowsVirtualKeyCode=codes[key], **({'text': text} if text else {}))
+    browser.ask('Input.dispatchKeyEvent', type='keyUp', key=key, code=key, windowsVirtualKeyCode=codes[key])
+
+
+def put_mouse(browser, find, across, down, click=False):
+    box = browser.run(f"(() => {{ const one = document.querySelector('{find}'); one.scrollIntoView({{ block: 'center' }}); "
+                      "const b = one.getBoundingClientRect(); return [b.x, b.y, b.width, b.height]; })()")
+    at = {'x': box[0] + box[2] * across, 'y': box[1] + down}
+    browser.ask('Input.dispatchMouseEvent', type='mouseMoved', **at)
+    for kind in ['mousePressed', 'mouseReleased'] if click else []:
+        browser.ask('Input.dispatchMouseEvent', type=kind, button='left', clickCount=1, **at)

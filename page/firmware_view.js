@@ -1,0 +1,62 @@
+// The reader as firmware: what its cycles read of a board from reset on, its problems, and the registers of one function.
+
+import { AtReset, decodes_of } from './at_reset.js';
+import { troubles_of } from './audit.js';
+import { Audit } from './audit_view.js';
+import { Fields } from './fields.js';
+
+export class Firmware {
+  // `give` runs a line in the console.
+  constructor(parts, board, addresses, light, give) {
+    Object.assign(this, { board, addresses, driven: null, now: null, came: [] });
+    this.audit = new Audit(parts, light, path => this.choose(path));
+    this.fields = new Fields(parts, give, path => this.choose(path));
+  }
+
+  // A board at reset, with the functions of its report and its machine after set-up; without a report nothing is drawn.
+  open(driven, machine, functions) {
+    this.driven = driven;
+    if (driven === null) return;
+    const bridges = functions.filter(one => one.kind === 'bridge');
+    this.now = new AtReset(driven, functions, new Map(bridges.map(one => [one.path, decodes_of(machine, one.place)])));
+    this.board.chosen = (bridges[0] ?? functions[0])?.path ?? null;
+  }
+
+  close() {
+    this.driven?.close();
+    Object.assign(this, { driven: null, now: null, came: [] });
+    this.board.chosen = null;
+  }
+
+  // Problems that came and went since the last look.
+  look() {
+    if (this.now === null) return { came: [], gone: [] };
+    const found = this.now.look();
+    this.came = found.came;
+    return found;
+  }
+
+  draw(apertures) {
+    if (this.now === null) return;
+    const { functions, problems } = this.now, nobody = new Map();
+    this.audit.draw(problems, this.came);
+    if (functions.length === 0) return;
+    this.board.draw(functions, nobody, nobody, troubles_of(problems));
+    this.addresses.draw(functions, apertures, nobody, nobody, problems, 'No region and no window is open.');
+    this.fields.draw(functions, this.board.chosen);
+  }
+
+  choose(path) {
+    if (this.now === null) return;
+    this.board.chosen = path;
+    this.board.redraw();
+    document.querySelector(`#tree [data-path="${path}"]`)?.focus({ preventScroll: true });
+    this.fields.draw(this.now.functions, path);
+  }
+
+  // A bridge's Secondary Bus Number, or what the first function is.
+  first_line() {
+    const functions = this.now?.functions ?? [], bridge = functions.find(one => one.kind === 'bridge');
+    return bridge ? `host cw ${bridge.place} 0x19 1 1` : `host cr ${functions[0]?.place ?? '00:00.0'} 0 4`;
+  }
+}
