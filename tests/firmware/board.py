@@ -1,13 +1,15 @@
-"""A board as firmware reaches it: four calls by port and by address. Behind them stands the program, over a pipe.
+"""A board as firmware reaches it: four calls by port and by address. Behind them stands the library, by library/python.
 
 A width is 1, 2 or 4 bytes, and a port or address is a multiple of it. A read that nothing answers gives all ones of
 the width; a write that nothing takes is dropped."""
-import re
-import subprocess
+import sys
+from pathlib import Path
 from typing import Protocol
 
+sys.path.append(str(Path(__file__).resolve().parents[2] / "library/python"))
+import pciguest
+
 LATCH, DATA = 0xCF8, 0xCFC
-REPLY = re.compile(rb"host: (?:0x([0-9a-f]+)|ok)\n")
 
 
 class Board(Protocol):
@@ -20,49 +22,36 @@ class Board(Protocol):
 
 
 class BoardError(Exception):
-    """The board refused an access, or is gone."""
+    """The board refused an access."""
 
 
-class ProgramBoard:
-    """The board of a file at reset, behind `pciguest firmware`. `lines` counts what it was asked."""
+class LibraryBoard:
+    """The board of a file at reset, by calls of the library."""
 
-    def __init__(self, program, file):
-        self.lines = 0
-        self.process = subprocess.Popen([program, "firmware", file], stdin=subprocess.PIPE, stdout=subprocess.PIPE)
+    def __init__(self, file):
+        self.board = pciguest.Board(Path(file).read_bytes())
 
-    def ask(self, line):
-        """Sends a line; the value of a read, or None."""
-        self.lines += 1
+    def asked(self, what, access, *words):
+        """The value of an access."""
         try:
-            self.process.stdin.write(b"host " + line.encode() + b"\n")
-            self.process.stdin.flush()
-        except BrokenPipeError:
-            raise BoardError(f"the program ended before 'host {line}'") from None
-        reply = self.process.stdout.readline()
-        match = REPLY.fullmatch(reply)
-        if not match:
-            raise BoardError(f"'host {line}' is answered '{reply.decode().strip() or 'end of output'}'")
-        return int(match[1], 16) if match[1] else None
+            return access(*words)
+        except pciguest.Refusal as refusal:
+            raise BoardError(f"{what} is refused by {refusal}") from None
 
     def port_read(self, port, width):
-        return self.ask(f"ir {port:#x} {width}")
+        return self.asked(f"a read at port {port:#x}", self.board.io.__getitem__, slice(port, width))
 
     def port_write(self, port, width, value):
-        self.ask(f"iw {port:#x} {width} {value:#x}")
+        self.asked(f"a write at port {port:#x}", self.board.io.__setitem__, slice(port, width), value)
 
     def memory_read(self, address, width):
-        return self.ask(f"mr {address:#x} {width}")
+        return self.asked(f"a read at {address:#x}", self.board.memory.__getitem__, slice(address, width))
 
     def memory_write(self, address, width, value):
-        self.ask(f"mw {address:#x} {width} {value:#x}")
+        self.asked(f"a write at {address:#x}", self.board.memory.__setitem__, slice(address, width), value)
 
     def close(self):
-        try:
-            self.process.stdin.close()
-        except BrokenPipeError:
-            pass  # the program ended before
-        self.process.wait(timeout=30)
-        self.process.stdout.close()
+        self.board.close()
 
 
 def configuration(board, bus, device, function, offset):

@@ -3,7 +3,8 @@ import tomllib
 from pathlib import Path
 from typing import NamedTuple
 
-from board import BoardError, ProgramBoard, is_bridge, registers
+from audit import Logged
+from board import BoardError, LibraryBoard, is_bridge, registers
 from pc import PC, BootError
 
 
@@ -22,13 +23,15 @@ UBOOT = Firmware("U-Boot", "/usr/lib/u-boot/qemu-x86/u-boot.rom", "\n=> ", (("st
 
 
 class Left(NamedTuple):
-    """What a boot left: each function's 256 bytes, regions that answer at their place, and all that is wrong."""
+    """What a boot left: each function's 256 bytes, regions that answer at their place, all that is wrong, and what an
+    audit says."""
 
     cells: dict
     answering: int
     wrong: list
-    lines: int
+    accesses: int
     told: str
+    audit: list
 
 
 def paths(cells):
@@ -76,18 +79,18 @@ def answering(board, declared, cells):
 def boot(program, file, firmware):
     """Boots the firmware over the board of a file. A boot that doesn't end, or an access that is refused, is wrong."""
     declared = tomllib.loads(Path(file).read_text())
-    board = ProgramBoard(program, file)
+    board = Logged(LibraryBoard(file))
     pc = PC(board, Path(firmware.rom).read_bytes(), firmware.plain)
     pc.prompts = dict(firmware.prompts)
     try:
         pc.boot(firmware.ending)
-        lines = board.lines
+        accesses, audit = len(board.lines), board.audit(program, file)
         cells = registers(board)
         answered, wrong = answering(board, declared, cells)
     except (BoardError, BootError, OSError) as error:
-        return Left({}, 0, [str(error)], board.lines, pc.told)
+        return Left({}, 0, [str(error)], len(board.lines), pc.told, [])
     finally:
         board.close()
     expected = {entry["at"] for key in ("endpoint", "bridge") for entry in declared.get(key, [])}
     wrong += [f"{path} isn't found" for path in sorted(expected - set(paths(cells).values()))]
-    return Left(cells, answered, wrong, lines, pc.told)
+    return Left(cells, answered, wrong, accesses, pc.told, audit)

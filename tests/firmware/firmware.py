@@ -1,16 +1,18 @@
 #!/usr/bin/python3 -B
-"""Boots firmware of others, unmodified, on boards of the program, and compares what it leaves with what it leaves in
+"""Boots firmware of others, unmodified, on boards of the library, and compares what it leaves with what it leaves in
 QEMU.
 
     firmware.py PROGRAM [--trees N] [--seed S] [--keep FOLDER]
 
 First each firmware boots on boards of the examples. Then it boots on N random trees (30), here and in QEMU's machine,
-and the configuration bytes of all functions are compared; the same seed makes the same trees. With --keep the consoles
-and the boards of the trees are kept. Status 1 says that a boot went wrong, or that a byte differs and no rule names
-it. The last line counts."""
+and the configuration bytes of all functions are compared; the same seed makes the same trees. After each boot the
+program audits what the firmware left, and what is wrong there is told. With --keep the consoles and the boards of the
+trees are kept. Status 1 says that a boot went wrong, or that a byte differs and no rule names it. The last line
+counts."""
 import argparse
 import sys
 import tempfile
+from collections import Counter
 from pathlib import Path
 
 from board import registers
@@ -30,6 +32,7 @@ class Run:
 
     def __init__(self, options, room):
         self.program, self.room, self.failed = options.program, Path(options.keep or room), 0
+        self.boots, self.in_order = Counter(), Counter()
         self.room.mkdir(parents=True, exist_ok=True)
 
     def fail(self, what):
@@ -41,7 +44,11 @@ class Run:
         left = boot(self.program, str(file), firmware)
         (self.room / f"{name}.{firmware.name}.told").write_text(left.told)
         print(f"{firmware.name:7} {name:13} functions {len(left.cells):4}  regions that answer {left.answering:3}"
-              f"  accesses {left.lines:6}", flush=True)
+              f"  accesses {left.accesses:6}  {left.audit[-1] if left.audit else 'no audit'}", flush=True)
+        for line in left.audit[:-1]:
+            print(f"  {line}")
+        self.boots[firmware.name] += 1
+        self.in_order[firmware.name] += left.audit == ["audit: ok"]
         for line in left.wrong:
             self.fail(f"{firmware.name} on {name}: {line}")
         return left
@@ -92,6 +99,8 @@ def examine(options, room):
         except MachineError as error:
             run.fail(f"tree{seed}: {error}")
     comparison.tell()
+    for name, count in run.boots.items():
+        print(f"{name}: boots {count}, in order by their audit {run.in_order[name]}")
     named = sum(comparison.by_rule.values())
     print(f"trees {options.trees}, each with SeaBIOS and U-Boot: functions {comparison.functions}, "
           f"bytes compared {comparison.bytes}, bytes that differ by rule {named}, "
