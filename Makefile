@@ -77,11 +77,13 @@ uninstall:
 dist: build library
 	@tools/dist
 
-# What an access, an event of a guest and a call from C cost, in nanoseconds, on boards of 1, 4, 1003 and 1024 functions.
+# What an access, an event of a guest and a call from C cost, in nanoseconds, on boards of 1, 4, 1003 and 1024 functions;
+# and what an audit costs, which takes Python 3.
 bench: build
 	@bench/boards crates/bench_accesses/out/boards
 	@$(PROVE) bench_accesses
 	@bench/run crates/bench_accesses/out/bench_accesses crates/bench_accesses/out/boards
+	@echo; bench/audits crates/pciguest/out/pciguest crates/bench_accesses/out/boards
 	@echo; tools/library
 	@$(CC) -O2 -Ilibrary -o crates/pciguest_c/out/calls bench/calls.c library/libpciguest.a
 	@crates/pciguest_c/out/calls crates/examples/data/main.toml
@@ -92,13 +94,14 @@ hostile: pciguest
 	@for part in growths streams surroundings sizes; do python3 tests/hostile/$$part.py ./pciguest; done
 
 # Random boards and scripts, answered by the program, by the lone guests and by a second hand in Python:
-# about a million lines. Then board files with mistakes, and what a check says of them. make fuzz SEED=..
-# begins with another board.
+# about a million lines. Then board files with mistakes, and what a check says of them; and random register
+# states, and what an audit says of them. make fuzz SEED=.. begins with another board.
 SEED := 1
 fuzz: pciguest
 	@$(PROVE) lone_answers
 	@python3 tests/fuzz/fuzz.py ./pciguest --lone crates/lone_answers/out/lone_answers --boards 850 --seed $(SEED)
 	@python3 tests/fuzz/mistakes.py ./pciguest --files 3000 --seed $(SEED)
+	@python3 tests/fuzz/audit.py ./pciguest --states 2000 --seed $(SEED)
 
 # Functions of two guests in two machines of QEMU at once, under Linux; and strangers at the sockets. It takes QEMU 7.2
 # and Debian's packages, which it names where they are missing, and a minute or two beyond the proofs.
@@ -108,21 +111,22 @@ qemu: has-qemu pciguest library/libpciguest.a
 has-qemu:
 	@examples/qemu/needs
 
-# Debian's SeaBIOS and U-Boot, unmodified, on boards of the program; and on random trees, where each byte that they leave
+# Debian's SeaBIOS and U-Boot, unmodified, on boards of the library; and on random trees, where each byte that they leave
 # is compared with what they leave in QEMU. It takes Debian's packages, which it names where they are missing, and some
 # minutes.
-firmware: has-firmware pciguest
+firmware: has-firmware pciguest library/libpciguest.so.0
 	@tests/firmware/firmware.py ./pciguest
 
 has-firmware:
 	@tests/firmware/needs
 
-library/libpciguest.a:
+library/libpciguest.a library/libpciguest.so.0:
 	@$(MAKE) --no-print-directory library
 
 # A page that runs the proved code in a browser: pciguest.html. It takes Node or Chromium, to compare what the page
 # answers with the program.
-EXPORTS := $(addprefix pciguest_raw_,new free report check run_line)
+EXPORTS := $(addprefix pciguest_raw_,new free guest region report check run_line \
+  board_new board_free board_run_line board_audit)
 page: pciguest
 	@mkdir -p page/out
 	@$(PROVE) pciguest_c

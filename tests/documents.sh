@@ -5,7 +5,7 @@ set -u
 cd "$(dirname "$0")/.."
 passed=0
 failed=0
-documents=(README.md CHANGELOG.md docs/*.md examples/README.md)
+documents=(README.md CHANGELOG.md docs/*.md examples/README.md examples/audit/README.md)
 index=docs/DEFINITIONS.md
 
 # holds NAME CHECK..: the check writes nothing
@@ -73,7 +73,7 @@ holds 'files that are not there' lost_files
 
 # ---- examples in the headings of crates: their lines stand in a test, one after the other
 strange_examples() {
-  local tests; tests=$(sed 's/^ *//' crates/worked_*/src/examples.rt)
+  local tests; tests=$(sed 's/^ *//' crates/test_worked/src/examples.rt)
   for heading in crates/*/src/lib.rt; do
     example=$(awk '/^\/\/! ```/ { inside = !inside; next } inside { sub(/^\/\/! */, ""); print }' "$heading")
     [[ -z $example || $tests == *"$example"* ]] || echo "$heading"
