@@ -112,10 +112,12 @@ has-qemu:
 	@examples/qemu/needs
 
 # Debian's SeaBIOS and U-Boot, unmodified, on boards of the library; and on random trees, where each byte that they leave
-# is compared with what they leave in QEMU. It takes Debian's packages, which it names where they are missing, and some
-# minutes.
+# is compared with what they leave in QEMU. Then whether that comparison notices an edited board, and the audit a SeaBIOS
+# that is broken on purpose. It takes Debian's packages, which it names where they are missing, and some minutes.
 firmware: has-firmware pciguest library/libpciguest.so.0
 	@tests/firmware/firmware.py ./pciguest
+	@tests/firmware/edits.py ./pciguest
+	@tests/firmware/broken.py ./pciguest
 
 has-firmware:
 	@tests/firmware/needs

@@ -1,7 +1,7 @@
 #!/usr/bin/python3 -B
 """Does the comparison of firmware.py notice a board that is not the tree of QEMU? A board file is edited in one place.
 
-    edits.py [--seed S]
+    edits.py PROGRAM [--seed S]
 
 SeaBIOS boots on a random tree in QEMU, and here on the tree's board with each edit. Without an edit nothing may be
 noticed. Status 1 says that something was, or that an edit finds nothing to change in this tree."""
@@ -35,8 +35,8 @@ EDITS = [
 ]
 
 
-def differences(file, reset, theirs):
-    left = boot(file, SEABIOS)
+def differences(program, file, reset, theirs):
+    left = boot(program, str(file), SEABIOS)
     comparison = Comparison()
     comparison.add(reset, theirs, left.cells)
     return len(comparison.unnamed)
@@ -44,6 +44,7 @@ def differences(file, reset, theirs):
 
 def main():
     parser = argparse.ArgumentParser(description=__doc__.split("\n\n")[0])
+    parser.add_argument("program")
     parser.add_argument("--seed", type=int, default=2)
     parser.add_argument("--keep")
     options, wrong, noticed = parser.parse_args(), 0, 0
@@ -51,13 +52,13 @@ def main():
         run = Run(options, room)
         tree, reading, file = run.read_tree(options.seed)
         theirs = run.boot_machine(options.seed, tree, SEABIOS)
-        if differences(file, reading.reset, theirs):
+        if differences(run.program, file, reading.reset, theirs):
             print("FAILED: something is noticed without an edit")
             wrong += 1
         for name, pattern, instead in EDITS:
             text = re.sub(pattern, instead, reading.text, count=1)
             file.write_text(text)
-            count = differences(file, reading.reset, theirs)
+            count = differences(run.program, file, reading.reset, theirs)
             noticed += count > 0
             print(f"{name}: {f'noticed, {count} differences' if count else 'not noticed'}", flush=True)
             if text == reading.text:
