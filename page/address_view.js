@@ -179,7 +179,9 @@ export class Addresses {
       const { address, row } = pointed(event);
       const those = spans.filter(span => span.first <= address && address <= span.last).sort((a, b) => b.depth - a.depth);
       const one = those.find(span => span.depth <= row) ?? those[0];
-      if (one) this.zoom(space, this.around(one));
+      if (!one) return;
+      this.at.set(space, spans.indexOf(one));
+      this.zoom(space, this.around(one));
     });
   }
 
@@ -206,6 +208,7 @@ export class Addresses {
       event.preventDefault();
       acts[event.key]();
     });
-    bar.addEventListener('blur', () => this.light(null));
+    bar.addEventListener('focus', () => { if (spans[at()]) show(at()); else told.textContent = `The ${KEYS}`; });
+    bar.addEventListener('blur', () => { this.light(null); told.textContent = ''; });
   }
 }
