@@ -36,16 +36,18 @@ export function bang_at(x, width, height, text) {
   return all;
 }
 
-// Addresses under or above a bar: [{ x, text }], the first ones first. One that would lie on another is left out.
+// Addresses under or above a bar: [{ x, text }], the first ones first. One that would lie on another, or say the same, is left out.
 export function ticks(wanted, width, y, rows, step) {
   const taken = Array.from({ length: rows }, () => []);
-  const drawn = [];
+  const drawn = [], told = new Set();
   for (const { x, text } of wanted) {
+    if (told.has(text)) continue;
     const half = text.length * LETTER / 2, from = Math.min(Math.max(x - half, 0), Math.max(width - 2 * half, 0));
     drawn.push(svg('line', { x1: x, x2: x, y1: y, y2: y + 4 * Math.sign(step), class: 'tick' }));
     const row = taken.findIndex(those => those.every(([a, b]) => from + 2 * half + 8 <= a || b + 8 <= from));
     if (row < 0) continue;
     taken[row].push([from, from + 2 * half]);
+    told.add(text);
     drawn.push(svg('text', { x: from, y: y + (step > 0 ? 15 : -6) + row * step, class: 'address' }, text));
   }
   return drawn;

@@ -142,7 +142,7 @@ export class Board {
     row.dataset.path = one.path;
     for (const text of this.troubles.get(one.path) ?? []) held.append(make('div', 'wrong', `! ${text}`));
     for (const place of places_of(one)) held.append(make('div', '', place));
-    if (one.kind !== 'bridge') taken.append(badge(mark_of(owner, this.marks)), owner ? `${owner.guest}, slot ${owner.slot}` : 'no guest');
+    if (one.kind !== 'bridge') taken.append(badge(mark_of(owner, this.marks)), owner ? `${owner.guest}, slot\u00a0${owner.slot}` : 'no guest');
     row.append(make('td', '', one.place), taken, make('td', '', one.path), make('td', '', `${one.words} ${one.identity}`), held, make('td', '', one.interrupt));
     [...row.children].forEach((cell, nth) => { cell.dataset.name = names[nth]; });
     return row;

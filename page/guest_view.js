@@ -90,6 +90,16 @@ function hint(owners) {
   return one;
 }
 
+// The guests that have functions and nothing open, where others have.
+function shut_of(all, owners, marks) {
+  const open = new Set(all.map(one => one.owner.guest)), held = new Set([...owners.values()].map(one => one.guest));
+  return [...marks].filter(([guest]) => held.has(guest) && !open.has(guest)).map(([guest, mark]) => {
+    const line = make('div', 'whose');
+    line.append(badge(mark), `guest ${guest}: nothing is open`);
+    return line;
+  });
+}
+
 // `light` is given the path of a function, or null.
 export class GuestMaps {
   constructor(into, light) { Object.assign(this, { into, light, seen: '' }); }
@@ -120,6 +130,6 @@ export class GuestMaps {
     const scroll = make('div', 'scroll few');
     scroll.tabIndex = 0;
     scroll.append(table_of(all, marks));
-    this.into.replaceChildren(...figures, told, scroll);
+    this.into.replaceChildren(...figures, ...shut_of(all, owners, marks), told, scroll);
   }
 }
