@@ -54,9 +54,16 @@ export class Firmware {
     this.fields.draw(this.now.functions, path);
   }
 
-  // A bridge's Secondary Bus Number, or what the first function is.
+  // A bridge's Secondary Bus Number, or what the first function is; nothing where the board is refused.
   first_line() {
+    if (this.driven === null) return '';
     const functions = this.now?.functions ?? [], bridge = functions.find(one => one.kind === 'bridge');
-    return bridge ? `host cw ${bridge.place} 0x19 1 1` : `host cr ${functions[0]?.place ?? '00:00.0'} 0 4`;
+    return bridge ? `host cw ${bridge.place} 0x19 1 1` : `host cr ${functions[0]?.place ?? this.first_place()} 0 4`;
+  }
+
+  // The first device that answers on bus 0, of a board without a report.
+  first_place() {
+    const places = Array.from({ length: 16 }, (_, device) => `00:${device.toString(16).padStart(2, '0')}.0`);
+    return places.find(place => this.driven.number(`host cr ${place} 0 4`) !== 0xffffffffn) ?? places[0];
   }
 }
