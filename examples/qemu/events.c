@@ -3,6 +3,8 @@
 
 #include <inttypes.h>
 
+enum { SLOTS = 32, EMPTY_SLOT = 601, COMMAND = 0x04, FIRST_BASE = 0x10, LAST_BASE = 0x24, CONFIG_ADDRESS = 0xcf8 };
+
 struct access {
     bool is_write;
     enum pciguest_space space;
@@ -33,15 +35,22 @@ static void log_reply(FILE *log, const char *name, uint32_t number)
     fputc('\n', log);
 }
 
-static void log_access(FILE *log, const struct seat *seat, const struct access *access, uint32_t number,
-                       uint32_t read)
+/* An access as a line of a script has it, but for the guest's name and a written value. */
+static void log_words(FILE *log, const struct seat *seat, const struct access *access)
 {
     static const char spaces[] = {'c', 'i', 'm'};
 
-    fprintf(log, "%s %c%c ", seat->guest, spaces[access->space], access->is_write ? 'w' : 'r');
+    fprintf(log, "%c%c ", spaces[access->space], access->is_write ? 'w' : 'r');
     if (access->space == PCIGUEST_CONFIG)
         fprintf(log, "%" PRIu64 " ", seat->slot);
     fprintf(log, "0x%" PRIx64 " %" PRIu32, access->place, access->width);
+}
+
+static void log_access(FILE *log, const struct seat *seat, const struct access *access, uint32_t number,
+                       uint32_t read)
+{
+    fprintf(log, "%s ", seat->guest);
+    log_words(log, seat, access);
     if (access->is_write)
         fprintf(log, " 0x%" PRIx32, access->value);
     fputc('\n', log);
@@ -67,55 +76,124 @@ static uint32_t perform(struct board *board, const struct seat *seat, struct acc
     return read;
 }
 
-/* The last slot of the guest that is empty, or one past all slots: no function reads all ones. */
-static uint64_t empty_slot(struct board *board, const struct seat *seat)
+static void log_region(FILE *log, const struct seat *seat, unsigned bar, const struct pciguest_region *region)
 {
-    enum { SLOTS = 32 };
-
-    for (uint64_t slot = SLOTS; slot-- > 0;) {
-        uint32_t identity = 0;
-
-        if (!pciguest_read(&board->machine, seat->index, PCIGUEST_CONFIG, slot, 0, 4, &identity) && identity == UINT32_MAX)
-            return slot;
-    }
-    return SLOTS;
+    fprintf(log, "#region %s %" PRIu64 " bar%u ", seat->guest, seat->slot, bar);
+    if (region->size == 0)
+        fputs("gone\n", log);
+    else
+        fprintf(log, "%s 0x%" PRIx64 " 0x%" PRIx64 " %s\n",
+                region->space == PCIGUEST_IO ? "io" : region->prefetchable ? "prefetchable" : "memory", region->first,
+                region->size, region->is_open ? "open" : "closed");
 }
 
-static void log_move(FILE *log, const char *guest, uint64_t from, uint64_t to, uint32_t number)
+static bool is_same(const struct pciguest_region *one, const struct pciguest_region *other)
 {
-    fprintf(log, "host move %s %" PRIu64 " %s %" PRIu64 "\n", guest, from, guest, to);
+    return one->first == other->first && one->size == other->size && one->space == other->space &&
+           one->prefetchable == other->prefetchable && one->is_open == other->is_open;
+}
+
+void log_regions(struct board *board, struct seat *seat)
+{
+    for (unsigned bar = 0; board->log && bar < REGISTERS; bar++) {
+        struct pciguest_region now = {0}, *told = &seat->regions[bar];
+
+        (void)pciguest_region(&board->machine, seat->index, seat->slot, bar, &now); /* none: its size stays 0 */
+        if (!is_same(&now, told))
+            log_region(board->log, seat, bar, &now);
+        *told = now;
+    }
+}
+
+/* An empty slot of a seat's guest; false where none is. */
+static bool find_empty(struct board *board, const struct seat *seat, struct seat *empty)
+{
+    struct pciguest_region region;
+
+    empty->guest = seat->guest;
+    for (empty->slot = SLOTS; empty->slot-- > 0;)
+        if (pciguest_region(&board->machine, seat->index, empty->slot, 0, &region) == EMPTY_SLOT)
+            return true;
+    return false;
+}
+
+/* An empty slot of this guest or, where it has none, of another of whom functions are given away. */
+static bool find_spare(struct board *board, const struct seat *seat, struct seat *spare)
+{
+    bool is_found = find_empty(board, seat, spare);
+
+    for (size_t i = 0; i < board->count && !is_found; i++)
+        is_found = find_empty(board, &board->seats[i], spare);
+    return is_found;
+}
+
+static void log_move(FILE *log, const struct seat *from, const struct seat *to, uint32_t number)
+{
+    fprintf(log, "host move %s %" PRIu64 " %s %" PRIu64 "\n", from->guest, from->slot, to->guest, to->slot);
     log_reply(log, "host", number);
 }
 
-/* No line of a script says a reset, and two moves do the same: to a slot of the guest that is empty, and back. Where
- * none is empty, a comment stands in their place, and the log can't be run again. */
+/* No line of a script says a reset, and two moves do the same: to an empty slot, and back. Where none is empty, a
+ * comment stands in their place, and the log can't be run again. */
 static void log_reset(struct board *board, const struct seat *seat, uint32_t number)
 {
-    uint64_t spare = empty_slot(board, seat);
+    struct seat spare;
 
-    if (number == 0 && spare > 31) {
+    if (!find_spare(board, seat, &spare)) {
         fprintf(board->log, "#reset %s %" PRIu64 "\n", seat->guest, seat->slot);
         return;
     }
-    log_move(board->log, seat->guest, seat->slot, spare, number);
+    log_move(board->log, seat, &spare, number);
     if (number == 0)
-        log_move(board->log, seat->guest, spare, seat->slot, 0);
+        log_move(board->log, &spare, seat, 0);
 }
 
-static void reset(struct board *board, const struct seat *seat)
+static void reset_event(struct board *board, struct seat *seat)
 {
     uint32_t number = pciguest_reset(&board->machine, seat->index, seat->slot);
 
     if (board->log)
         log_reset(board, seat, number);
+    log_regions(board, seat);
 }
 
-static uint32_t config_event(struct board *board, const struct seat *seat, const struct config_access *config,
-                             bool is_write)
+static uint32_t config_event(struct board *board, struct seat *seat, const struct config_access *config, bool is_write)
 {
     struct access access = {is_write, PCIGUEST_CONFIG, config->offset, (uint32_t)config->width, config->value};
+    uint32_t read = perform(board, seat, access), word = config->offset & ~3u;
 
-    return perform(board, seat, access);
+    if (is_write && (word == COMMAND || (word >= FIRST_BASE && word <= LAST_BASE)))
+        log_regions(board, seat); /* by no other write does the guest move or open them */
+    return read;
+}
+
+/* Whether an access hits a region of the function in the seat's slot, and where. */
+static bool find_hit(struct board *board, const struct seat *seat, const struct access *access,
+                     struct pciguest_hit *hit)
+{
+    bool is_latch = access->space == PCIGUEST_IO && access->place == CONFIG_ADDRESS && access->width == 4;
+
+    return !is_latch &&
+           pciguest_locate(&board->machine, seat->index, access->space, seat->slot, access->place, hit) == 0 &&
+           hit->found && hit->slot == seat->slot && hit->part < REGISTERS;
+}
+
+/* An access that a machine sends to a region of this function, and no other: elsewhere it hits nothing. */
+static uint32_t perform_at_region(struct board *board, const struct seat *seat, struct access access)
+{
+    struct pciguest_hit hit = {0};
+    bool is_hit = find_hit(board, seat, &access, &hit);
+    uint32_t read = is_hit ? perform(board, seat, access) : UINT32_MAX;
+
+    if (board->log) {
+        fprintf(board->log, "#%s %s %" PRIu64 " ", is_hit ? "hit" : "missed", seat->guest, seat->slot);
+        if (is_hit)
+            fprintf(board->log, "bar%" PRIu32 " 0x%" PRIx64, hit.part, hit.offset);
+        else
+            log_words(board->log, seat, &access);
+        fputc('\n', board->log);
+    }
+    return read;
 }
 
 /* An access of a processor may have 8 bytes, or stand at any place: it is split as a bridge does, and each piece is an
@@ -127,18 +205,18 @@ static uint64_t region_event(struct board *board, const struct seat *seat, const
                             (uint32_t)region->value};
     uint64_t read = 0;
 
-    if (region->width < 1 || region->width > 8)
+    if (region->width < 1 || region->width > 8 || !pciguest_ends_within(access.space, region->place, region->width))
         return perform(board, seat, access); /* the library refuses it */
     for (uint32_t done = 0; done < region->width; done += access.width) {
         access.place = region->place + done;
         access.width = pciguest_piece(access.place, region->width - done);
         access.value = (uint32_t)(region->value >> 8 * done);
-        read |= (uint64_t)perform(board, seat, access) << 8 * done;
+        read |= (uint64_t)perform_at_region(board, seat, access) << 8 * done;
     }
     return read;
 }
 
-bool message_event(struct board *board, const struct seat *seat, const struct message *message, uint64_t *answer)
+bool message_event(struct board *board, struct seat *seat, const struct message *message, uint64_t *answer)
 {
     *answer = 0;
     switch (message->head.command) {
@@ -155,7 +233,7 @@ bool message_event(struct board *board, const struct seat *seat, const struct me
         *answer = region_event(board, seat, &message->body.region, false);
         return true;
     case RESET:
-        reset(board, seat);
+        reset_event(board, seat);
         return true;
     default: /* memory for DMA and descriptors for interrupts: the board has neither */
         return false;
@@ -171,8 +249,10 @@ void line_event(struct board *board, const char *line, size_t length, FILE *repl
         return;
     fwrite(reply, 1, written, replies);
     fflush(replies);
-    if (board->log) {
-        fwrite(line, 1, length, board->log);
-        fprintf(board->log, "\n# %.*s", (int)written, reply);
-    }
+    if (!board->log)
+        return;
+    fwrite(line, 1, length, board->log);
+    fprintf(board->log, "\n# %.*s", (int)written, reply);
+    for (size_t i = 0; i < board->count; i++)
+        log_regions(board, &board->seats[i]);
 }

@@ -11,28 +11,35 @@
 #include <sys/un.h>
 #include <unistd.h>
 
-static void tell(const struct gift *gift, const char *what, const char *why)
+static void tell_in(FILE *file, const char *head, const struct gift *gift, const char *what, const char *why)
 {
-    fprintf(stderr, "serve: %s:%" PRIu64 ": %s%s%s\n", gift->seat.guest, gift->seat.slot, what, why ? ": " : "",
+    fprintf(file, "%s%s:%" PRIu64 ": %s%s%s\n", head, gift->seat->guest, gift->seat->slot, what, why ? ": " : "",
             why ? why : "");
 }
 
-static void drop(struct gift *gift, const char *why)
+static void tell(const struct board *board, const struct gift *gift, const char *what, const char *why)
 {
-    tell(gift, why ? "dropped" : "gone", why);
+    tell_in(stderr, "serve: ", gift, what, why);
+    if (board->log)
+        tell_in(board->log, "#", gift, what, why);
+}
+
+static void drop(const struct board *board, struct gift *gift, const char *why)
+{
+    tell(board, gift, why ? "dropped" : "gone", why);
     peer_end(&gift->peer);
 }
 
-bool gift_read(struct gift *gift, char *text)
+bool gift_read(struct gift *gift, struct seat *seat, char *text)
 {
     char *colon = strchr(text, ':'), *equals = colon ? strchr(colon, '=') : NULL, *end;
 
     if (!equals || equals == colon + 1 || !equals[1])
         return false;
     *colon = *equals = '\0';
-    *gift = (struct gift){.seat.guest = text, .path = equals + 1, .listener = -1, .peer.socket = -1};
-    gift->seat.slot = strtoul(colon + 1, &end, 10);
-    return end == equals && gift->seat.slot < 32;
+    *seat = (struct seat){.guest = text, .slot = strtoul(colon + 1, &end, 10)};
+    *gift = (struct gift){.seat = seat, .path = equals + 1, .listener = -1, .peer.socket = -1};
+    return end == equals && seat->slot < 32;
 }
 
 /* Binds a socket that this user alone may connect to, and listens there. */
@@ -55,19 +62,20 @@ static bool open_socket(struct gift *gift)
     return gift->is_bound && listen(gift->listener, 1) == 0;
 }
 
-bool gifts_open(struct gift *gifts, size_t count, struct pciguest *machine)
+bool gifts_open(struct gift *gifts, size_t count, struct board *board)
 {
     for (struct gift *gift = gifts; gift < gifts + count; gift++) {
-        struct seat *seat = &gift->seat;
+        struct seat *seat = gift->seat;
 
-        if (pciguest_guest(machine, seat->guest, strlen(seat->guest), &seat->index)) {
-            tell(gift, "no such guest", NULL);
+        if (pciguest_guest(&board->machine, seat->guest, strlen(seat->guest), &seat->index)) {
+            tell(board, gift, "no such guest", NULL);
             return false;
         }
         if (!open_socket(gift)) {
-            tell(gift, gift->path, strerror(errno));
+            tell(board, gift, gift->path, strerror(errno));
             return false;
         }
+        log_regions(board, seat);
     }
     return true;
 }
@@ -112,39 +120,39 @@ static void serve_peer(struct gift *gift, struct board *board)
 
     if (peer->unsent) {
         if (!peer_flush(peer))
-            drop(gift, "its answer can't be sent");
+            drop(board, gift, "its answer can't be sent");
         return;
     }
     switch (peer_receive(peer, &why)) {
     case NOTHING_YET:
         break;
     case WHOLE_MESSAGE:
-        if (message_event(board, &gift->seat, &peer->message, &answer) && !peer_answer(peer, answer))
-            drop(gift, "its answer can't be sent");
+        if (message_event(board, gift->seat, &peer->message, &answer) && !peer_answer(peer, answer))
+            drop(board, gift, "its answer can't be sent");
         break;
     case PEER_ENDED:
     case PEER_BROKEN:
-        drop(gift, why);
+        drop(board, gift, why);
     }
 }
 
 /* Lets in who comes, if nobody stands there. */
-static bool welcome(struct gift *gift)
+static bool welcome(const struct board *board, struct gift *gift)
 {
     int socket = accept4(gift->listener, NULL, NULL, SOCK_NONBLOCK | SOCK_CLOEXEC);
 
     if (socket < 0 && (errno == EAGAIN || errno == EINTR || errno == ECONNABORTED))
         return true;
     if (socket < 0) {
-        tell(gift, "nobody can be let in", strerror(errno));
+        tell(board, gift, "nobody can be let in", strerror(errno));
         return false;
     }
     if (gift->peer.socket >= 0) {
         close(socket);
-        tell(gift, "turned away: another stands there", NULL);
+        tell(board, gift, "turned away: another stands there", NULL);
     } else {
         peer_begin(&gift->peer, socket);
-        tell(gift, "came", NULL);
+        tell(board, gift, "came", NULL);
     }
     return true;
 }
@@ -159,10 +167,10 @@ bool gifts_serve(struct gift *gifts, size_t count, const struct pollfd *events, 
         if (events[2 * i].revents)
             serve_peer(&gifts[i], board);
         if (peer->socket >= 0 && peer_deadline(peer) && peer_deadline(peer) <= now())
-            drop(&gifts[i], "half a message, and nothing more");
+            drop(board, &gifts[i], "half a message, and nothing more");
     }
     for (size_t i = 0; i < count; i++)
         if (events[2 * i + 1].revents)
-            is_open = welcome(&gifts[i]) && is_open;
+            is_open = welcome(board, &gifts[i]) && is_open;
     return is_open;
 }

@@ -4,7 +4,7 @@
  *
  * Lines of a script on standard input are run as they come, each answered on standard output: so the host reads the
  * board, moves functions, and lets devices raise bits. The server ends as standard input does, or by SIGINT or SIGTERM.
- * Who comes, goes and is dropped is told on standard error. */
+ * Who comes, goes and is dropped is told on standard error, and in the log. */
 #define _GNU_SOURCE
 #include "gifts.h"
 
@@ -58,8 +58,7 @@ static bool take_lines(struct console *console, struct board *board)
 
 struct server {
     struct board board;
-    struct gift *gifts;
-    size_t count;
+    struct gift *gifts;    /* as many as the board has seats */
     struct pollfd *events; /* two of each gift, and standard input */
     struct console console;
 };
@@ -67,8 +66,8 @@ struct server {
 /* Waits for what comes next, and serves it. False at the end of standard input, or where nothing can be waited for. */
 static bool serve_next(struct server *server, const sigset_t *unblocked)
 {
-    size_t last = 2 * server->count;
-    int64_t wait = gifts_watch(server->gifts, server->count, server->events);
+    size_t count = server->board.count, last = 2 * count;
+    int64_t wait = gifts_watch(server->gifts, count, server->events);
     struct timespec time = {wait / 1000, wait % 1000 * 1000000};
     bool goes_on = true;
 
@@ -77,7 +76,7 @@ static bool serve_next(struct server *server, const sigset_t *unblocked)
         return errno == EINTR;
     if (server->events[last].revents)
         goes_on = take_lines(&server->console, &server->board);
-    goes_on = gifts_serve(server->gifts, server->count, server->events, &server->board) && goes_on;
+    goes_on = gifts_serve(server->gifts, count, server->events, &server->board) && goes_on;
     if (server->board.log)
         fflush(server->board.log);
     return goes_on;
@@ -145,9 +144,9 @@ static bool run(struct server *server, const char *path, const char *log)
     catch_signals(&unblocked);
     if (log && !(board->log = fopen(log, "w")))
         fprintf(stderr, "serve: %s: %s\n", log, strerror(errno));
-    else if (set_up(&board->machine, path) && gifts_open(server->gifts, server->count, &board->machine))
+    else if (set_up(&board->machine, path) && gifts_open(server->gifts, board->count, board))
         is_well = serve(server, &unblocked);
-    gifts_close(server->gifts, server->count);
+    gifts_close(server->gifts, board->count);
     pciguest_free(&board->machine);
     return !(board->log && fclose(board->log) != 0) && is_well;
 }
@@ -157,25 +156,29 @@ static const char *read_words(struct server *server, const char **log, int argc,
 {
     static const struct option options[] = {
         {"log", required_argument, NULL, 'l'}, {"give", required_argument, NULL, 'g'}, {NULL, 0, NULL, 0}};
+    struct board *board = &server->board;
     int option;
 
     while ((option = getopt_long(argc, argv, "", options, NULL)) != -1) {
         if (option == 'l')
             *log = optarg;
-        else if (option != 'g' || !gift_read(&server->gifts[server->count++], optarg))
+        else if (option != 'g' || !gift_read(&server->gifts[board->count], &board->seats[board->count], optarg))
             return NULL;
+        else
+            board->count++;
     }
-    return optind + 1 == argc && server->count > 0 ? argv[optind] : NULL;
+    return optind + 1 == argc && board->count > 0 ? argv[optind] : NULL;
 }
 
 int main(int argc, char **argv)
 {
-    struct server server = {.gifts = calloc((size_t)argc, sizeof *server.gifts),
+    struct server server = {.board.seats = calloc((size_t)argc, sizeof *server.board.seats),
+                            .gifts = calloc((size_t)argc, sizeof *server.gifts),
                             .events = calloc(2 * (size_t)argc + 1, sizeof *server.events)};
     const char *log = NULL, *path;
     int status = 1;
 
-    if (!server.gifts || !server.events) {
+    if (!server.board.seats || !server.gifts || !server.events) {
         fputs("serve: out of memory\n", stderr);
     } else if (!(path = read_words(&server, &log, argc, argv))) {
         fputs("serve [--log FILE] --give GUEST:SLOT=SOCKET [--give ..] BOARD\n", stderr);
@@ -183,6 +186,7 @@ int main(int argc, char **argv)
     } else if (run(&server, path, log)) {
         status = 0;
     }
+    free(server.board.seats);
     free(server.gifts);
     free(server.events);
     return status;

@@ -32,13 +32,13 @@ def region(command, place, width, value=0, is_memory=1):
 
 
 class Server:
-    """The server over a board, with a socket for each of three slots."""
+    """The server over a board, with a socket for each of some slots."""
 
-    def __init__(self, serve, board):
+    def __init__(self, serve, board, slots=("a:0", "a:1", "b:0")):
         self.room = tempfile.mkdtemp()
         self.log = os.path.join(self.room, "log.script")
         self.told = open(os.path.join(self.room, "told"), "w+")
-        gives = [word for slot in ("a:0", "a:1", "b:0") for word in ("--give", f"{slot}={self.path(slot)}")]
+        gives = [word for slot in slots for word in ("--give", f"{slot}={self.path(slot)}")]
         self.process = subprocess.Popen([serve, "--log", self.log, *gives, board], stdin=subprocess.PIPE,
                                         stdout=subprocess.PIPE, stderr=self.told)
         deadline = time.time() + 20
@@ -67,6 +67,13 @@ class Server:
         """Seconds of processor time that the server has taken."""
         fields = open(f"/proc/{self.process.pid}/stat").read().rsplit(")", 1)[1].split()
         return (int(fields[11]) + int(fields[12])) / os.sysconf("SC_CLK_TCK")
+
+    def run_again(self, program, board):
+        """The log of a server that has ended, the replies that it tells, and what the program answers to it."""
+        log = open(self.log, "rb").read()
+        replies = b"".join(line[2:] + b"\n" for line in log.split(b"\n") if line.startswith(b"# "))
+        again = subprocess.run([program, "run", board], input=log, capture_output=True, timeout=60)
+        return log, replies, again.stdout
 
     def close(self):
         if self.process.poll() is None:
@@ -212,6 +219,29 @@ def try_lawful(server, tell, other):
     tell("the other is answered", other())
 
 
+def try_reach(server, tell, other):
+    """A socket reaches the regions of its own function alone, and no port of configuration space."""
+    with server.connect("a:0") as first, server.connect("a:1") as second:
+        tell("two functions are placed", ask(first, config(CONFIG_WRITE, 0x10, 4, 0x1000)) == 0
+             and ask(first, config(CONFIG_WRITE, 4, 2, 3)) == 0
+             and ask(second, config(CONFIG_WRITE, 0x10, 4, 0x1020)) == 0
+             and ask(second, config(CONFIG_WRITE, 4, 2, 1)) == 0)
+        tell("a write to one's own port is read", ask(first, region(REGION_WRITE, 0x1008, 1, 0x41, 0)) == 0
+             and ask(first, region(REGION_READ, 0x1008, 1, 0, 0)) == 0x41)
+        tell("the next slot's socket doesn't read it", ask(second, region(REGION_READ, 0x1008, 1, 0, 0)) == 0xFFFFFFFF)
+        tell("nor write it", ask(second, region(REGION_WRITE, 0x1008, 1, 0x42, 0)) == 0
+             and ask(first, region(REGION_READ, 0x1008, 1, 0, 0)) == 0x41)
+        tell("an access past the end of a region reads no other's",
+             ask(first, region(REGION_READ, 0x101C, 8, 0, 0)) == 0xFFFFFFFF00000000)
+        tell("CONFIG_ADDRESS is no region", ask(first, region(REGION_WRITE, 0xCF8, 4, 0x80000000, 0)) == 0
+             and ask(first, region(REGION_READ, 0xCFC, 4, 0, 0)) == 0xFFFFFFFF)
+        ask(first, config(CONFIG_WRITE, 0x10, 4, 0xCE0))
+        tell("nor where a region stands over it", ask(first, region(REGION_WRITE, 0xCF8, 4, 0x80000000, 0)) == 0
+             and ask(first, region(REGION_READ, 0xCF8, 4, 0, 0)) == 0xFFFFFFFF
+             and ask(first, region(REGION_READ, 0xCFC, 4, 0, 0)) == 0)
+    tell("the other is answered", other())
+
+
 def try_floods(server, tell, other):
     """Who asks and never takes an answer; who asks and dies; who comes and goes."""
     peer = server.connect("a:0")
@@ -245,10 +275,42 @@ def try_end(server, tell, program, board):
          b"host: refused 401 bad line\n")
     tell("it ends well", server.process.returncode == 0)
     tell("its sockets are gone", not any(os.path.exists(server.path(slot)) for slot in ("a:0", "a:1", "b:0")))
-    log = open(server.log, "rb").read()
-    replies = b"".join(line[2:] + b"\n" for line in log.split(b"\n") if line.startswith(b"# "))
-    again = subprocess.run([program, "run", board], input=log, capture_output=True, timeout=60)
-    tell(f"its log, run again, is answered alike: {replies.count(10)} events", replies == again.stdout and replies)
+    log, replies, again = server.run_again(program, board)
+    tell(f"its log, run again, is answered alike: {replies.count(10)} events", replies == again and replies)
+    told = [line[len("serve: "):] for line in open(server.told.name).read().splitlines() if line != "serve: ready"]
+    logged = [line[1:].decode() for line in log.split(b"\n") if line[:3] in (b"#a:", b"#b:")]
+    tell("its log has who came, went and was dropped", told == logged and told)
+
+
+def full_board(path, has_other):
+    """Writes a board whose guest a has a function in each slot, and b, if it is there, has one."""
+    places = [f"{1 + number // 8}.{number % 8}" for number in range(33)]
+    with open(path, "w") as file:
+        file.write("[host]\nio = [0x1000, 0xffff]\nmem = [0xc0000000, 0xcfffffff]\n")
+        for place in places:
+            file.write(f'[[endpoint]]\nat = "{place}"\nvendor = 0x1234\ndevice = 10\nclass = 0xff0000\n')
+        for name, given in (("a", places[:32]), ("b", places[32:]))[: 1 + has_other]:
+            file.write(f'[[guest]]\nname = "{name}"\nslots = {given}\n'.replace("'", '"'))
+
+
+def try_full(serve, tell, program):
+    """A reset in a guest that has no empty slot: its log goes by another guest's or, where there is none, says so."""
+    for has_other in (True, False):
+        with tempfile.TemporaryDirectory() as room:
+            board = os.path.join(room, "board.toml")
+            full_board(board, has_other)
+            server = Server(serve, board, ("a:3", "b:0") if has_other else ("a:3",))
+            with server.connect("a:3") as peer:
+                ask(peer, config(CONFIG_WRITE, 0x3C, 1, 0x55))
+                tell("a full guest: a reset", ask(peer, config(CONFIG_READ, 0x3C, 1)) == 0x55
+                     and ask(peer, message(RESET)) == 0 and ask(peer, config(CONFIG_READ, 0x3C, 1)) == 0)
+            server.process.communicate(timeout=20)
+            log, replies, again = server.run_again(program, board)
+            if has_other:
+                tell("a full guest: its log is answered alike", replies == again and b"host move a 3 b 31\n" in log)
+            else:
+                tell("no empty slot: its log says a reset", b"\n#reset a 3\n" in log)
+            server.close()
 
 
 def try_words(serve, tell, board):
@@ -283,9 +345,10 @@ def main():
             def other():
                 return ask(peer, config(CONFIG_READ, 0, 4)) == 0x000B1234
 
-            for test in (try_dropped, try_descriptors, try_lawful, try_floods):
+            for test in (try_dropped, try_descriptors, try_lawful, try_reach, try_floods):
                 test(server, tell, other)
         try_end(server, tell, program, board)
+        try_full(serve, tell, program)
         try_words(serve, tell, board)
     finally:
         server.close()
