@@ -97,11 +97,11 @@ if command -v cc > /dev/null && command -v pkg-config > /dev/null; then
   holds 'the version' same "$(sed -n 's/^pciguest //p' VERSION)" outside pkg-config --modversion pciguest
   holds 'the example over the shared library is built' with shared '$(pkg-config --cflags --libs pciguest)'
   holds 'the example over the shared library' same "$top/tests/library/device.stdout" \
-    outside env LD_LIBRARY_PATH=lib ./shared examples/boards/main.toml
+    outside env LD_LIBRARY_PATH=lib ./shared examples/device.toml
   holds 'it uses the shared library' sh -c 'readelf -dW shared | grep -q "NEEDED.*libpciguest.so.0"'
   holds 'the example over the archive is built' with static \
     '$(pkg-config --cflags pciguest) $(pkg-config --variable=libdir pciguest)/libpciguest.a'
-  holds 'the example over the archive' same "$top/tests/library/device.stdout" outside ./static examples/boards/main.toml
+  holds 'the example over the archive' same "$top/tests/library/device.stdout" outside ./static examples/device.toml
 else
   echo 'no C compiler or no pkg-config: the library of the tarball is not tried'
 fi

@@ -51,7 +51,7 @@ for kind in "${kinds[@]}"; do
   holds "$kind: the accesses are built" build "accesses.$kind" "$top/tests/library/accesses.c" "${words[@]}"
   holds "$kind: the refusals are built" build "refusals.$kind" "$top/tests/library/refusals.c" "${wraps[@]}" "${words[@]}"
 
-  "./device.$kind" "$board" > "device.$kind.out" 2>&1
+  "./device.$kind" "$top/examples/device.toml" > "device.$kind.out" 2>&1
   holds "$kind: the example" cmp "device.$kind.out" "$top/tests/library/device.stdout"
 
   for seed in 1 2 3; do
@@ -104,7 +104,7 @@ fi
 if command -v rustc > /dev/null; then
   holds 'Rust: the example is built' rustc --edition 2021 -D warnings -o device.rust "$top/examples/rust/device.rs" \
     -L "native=$top/library" -l static=pciguest
-  holds 'Rust: the example runs' sh -c "./device.rust '$board' > device.rust.out"
+  holds 'Rust: the example runs' sh -c "./device.rust '$top/examples/device.toml' > device.rust.out"
   holds 'Rust: the example prints what the one in C does' cmp device.rust.out "$top/tests/library/device.stdout"
 fi
 
@@ -116,7 +116,7 @@ else
   echo 'no cargo: the crate for Rust is not tried. On Debian: apt-get install cargo'
 fi
 
-# ---- the module for Python: its tests, and the examples of its documentation
+# ---- the module for Python: its tests, the examples of its documentation, and the example
 if ! command -v python3 > /dev/null; then
   echo 'no Python 3: the module for Python is not tried. On Debian: apt-get install python3'
 elif [ ! -e "$top/library/libpciguest.so.0" ]; then
@@ -124,6 +124,9 @@ elif [ ! -e "$top/library/libpciguest.so.0" ]; then
 else
   holds 'Python: the tests of the module' env -C "$top/library/python" PYTHONDONTWRITEBYTECODE=1 \
     PCIGUEST_LIBRARY_DIR="$top/library" python3 -m unittest discover -s tests
+  env PYTHONPATH="$top/library/python" PYTHONDONTWRITEBYTECODE=1 PCIGUEST_LIBRARY_DIR="$top/library" \
+    python3 "$top/examples/python/device.py" "$top/examples/device.toml" > device.python.out 2>&1
+  holds 'Python: the example prints what the one in C does' cmp device.python.out "$top/tests/library/device.stdout"
 fi
 
 # ---- the lines that docs/LIBRARY.md prints, in a program: its firmware reads what the region on the board begins with,

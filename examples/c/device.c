@@ -1,10 +1,20 @@
-/* A device model over pciguest: serves what a guest's processor traps, by two calls.
+/* A device model over pciguest: what a hypervisor does with the accesses that it traps, and what the device does when
+ * its driver rings.
  *
- * A hypervisor that runs a guest stops at each access to a port, to configuration space or to memory of a device,
- * and asks who emulates it. Here that is `serve`. In place of a processor a table of accesses is run: firmware
- * that finds its device by the ports CF8h and CFCh, asks for the size of a region, places it, and uses it.
+ * A hypervisor that runs a guest stops at each access to a port, to configuration space or to memory of a device, and
+ * asks who emulates it. Here that is `serve`, and `act` is the device. In place of a processor a table of accesses is
+ * run: firmware that finds the device by the ports CF8h and CFCh, asks for the size of its region and places it, and a
+ * driver that rings, sees what came of it, and clears that.
  *
- *     device BOARD      a board file with a guest `a`, as crates/examples/data/main.toml
+ *     device BOARD      examples/device.toml, whose guest `a` has this device
+ *
+ * The device has one region of memory:
+ *
+ *     00h  STATUS    1 byte, bit 0: a ring was served. Writing a one clears it
+ *     04h  TALLY     4 bytes: one bit more for each ring, from the lowest on. Writing ones clears them
+ *     08h  DOORBELL  4 bytes: a write rings, and what was written stays
+ *
+ * A device's side sets bits, and its driver clears them: so what it counts are bits.
  */
 #include "pciguest.h"
 
@@ -12,46 +22,100 @@
 #include <stdio.h>
 #include <stdlib.h>
 
-/* What the processor tells of an access that it trapped. */
+enum { STATUS = 0x00, TALLY = 0x04, DOORBELL = 0x08, SERVED = 1 };
+
+/* What the processor tells of an access that it trapped: 1 to 8 bytes, at any place. */
 struct trap {
     bool is_write;
     enum pciguest_space space;
     uint64_t place;
     uint32_t width;
-    uint32_t value;
+    uint64_t value;
 };
 
-/* Serves one trapped access of a guest. A real bus has no refusal: a read that no one takes gives all ones, and
- * a write is lost. */
-static uint32_t serve(struct pciguest *machine, size_t guest, struct trap trap)
+/* Whether an access of a guest hits anything here, and what. Where it doesn't, the hypervisor's own UART or RAM is meant,
+ * or nobody. Four bytes at CF8h are CONFIG_ADDRESS, which is always here. */
+static bool find(struct pciguest *machine, size_t guest, struct trap trap, struct pciguest_hit *hit)
 {
-    uint32_t value = UINT32_MAX;
+    bool is_selection = trap.space == PCIGUEST_IO && trap.place == 0xcf8 && trap.width == 4;
+
+    return pciguest_locate(machine, guest, trap.space, 0, trap.place, hit) == 0 && (hit->found || is_selection);
+}
+
+/* Serves one access, and answers what is read. A real bus has no refusal: a write that no one takes is lost. */
+static uint64_t serve(struct pciguest *machine, size_t guest, struct trap trap)
+{
+    uint64_t value = UINT64_MAX;
 
     if (trap.is_write)
-        (void)pciguest_write(machine, guest, trap.space, 0, trap.place, trap.width, trap.value);
+        (void)pciguest_write_wide(machine, guest, trap.space, 0, trap.place, trap.width, trap.value);
     else
-        (void)pciguest_read(machine, guest, trap.space, 0, trap.place, trap.width, &value);
+        (void)pciguest_read_wide(machine, guest, trap.space, 0, trap.place, trap.width, &value);
     return value;
+}
+
+/* The device serves a ring: it sets one bit more of TALLY, unless all are set, and the bit of STATUS. */
+static void ring(struct pciguest *machine, size_t guest, const struct pciguest_hit *hit, uint64_t base)
+{
+    uint32_t tally = 0, bit = 0;
+
+    (void)pciguest_read(machine, guest, PCIGUEST_MEMORY, 0, base + TALLY, 4, &tally);
+    while (bit < 31 && (tally >> bit & 1))
+        bit++;
+    (void)pciguest_raise(machine, guest, hit->slot, hit->part, TALLY + bit / 8, (uint8_t)(1 << bit % 8));
+    (void)pciguest_raise(machine, guest, hit->slot, hit->part, STATUS, SERVED);
+    printf("ring\n");
+}
+
+/* Tells which addresses of a slot's function have to be trapped from here on. */
+static void tell_traps(struct pciguest *machine, size_t guest, uint64_t slot)
+{
+    struct pciguest_region region;
+
+    for (uint32_t bar = 0; bar < 6; bar++)
+        if (pciguest_region(machine, guest, slot, bar, &region) == 0 && region.is_open)
+            printf("trap %s 0x%" PRIx64 " to 0x%" PRIx64 "\n", region.space == PCIGUEST_IO ? "port" : "memory",
+                   region.first, region.first + region.size - 1);
+}
+
+/* After a write: regions stand elsewhere where Command or a base address register was hit, and the device acts where its
+ * doorbell was. An access that begins before the doorbell may ring it too. */
+static void act(struct pciguest *machine, size_t guest, struct trap trap, const struct pciguest_hit *hit)
+{
+    bool is_moving = hit->offset / 2 == 0x04 / 2 || (hit->offset >= 0x10 && hit->offset < 0x28);
+    bool is_ringing = hit->offset < DOORBELL + 4 && hit->offset + trap.width > DOORBELL;
+
+    if (!trap.is_write || !hit->found)
+        return;
+    if (hit->part != PCIGUEST_RAISE_CONFIG && is_ringing)
+        ring(machine, guest, hit, trap.place - hit->offset);
+    else if (hit->part == PCIGUEST_RAISE_CONFIG && is_moving)
+        tell_traps(machine, guest, hit->slot);
 }
 
 /* What CONFIG_ADDRESS holds for a register of a device of bus 0. */
 #define REGISTER(device, offset) (0x80000000u | (device) << 11 | (offset))
 
-static const struct trap firmware[] = {
-    {true, PCIGUEST_IO, 0xcf8, 4, REGISTER(0, 0x00)}, /* who is device 0? */
+static const struct trap accesses[] = {
+    {true, PCIGUEST_IO, 0xcf8, 4, REGISTER(0, 0x00)}, /* firmware: who is device 0? */
     {false, PCIGUEST_IO, 0xcfc, 4, 0},
     {true, PCIGUEST_IO, 0xcf8, 4, REGISTER(7, 0x00)}, /* and device 7? */
     {false, PCIGUEST_IO, 0xcfc, 4, 0},
-    {true, PCIGUEST_IO, 0xcf8, 4, REGISTER(0, 0x14)}, /* the size of its second region */
+    {true, PCIGUEST_IO, 0xcf8, 4, REGISTER(0, 0x10)}, /* the size of its region */
     {true, PCIGUEST_IO, 0xcfc, 4, 0xffffffff},
     {false, PCIGUEST_IO, 0xcfc, 4, 0},
     {true, PCIGUEST_IO, 0xcfc, 4, 0xe0000000}, /* a place for it */
     {true, PCIGUEST_IO, 0xcf8, 4, REGISTER(0, 0x04)},
     {true, PCIGUEST_IO, 0xcfc, 2, 0x0002}, /* memory on */
-    {true, PCIGUEST_MEMORY, 0xe0000010, 4, 0x12345678},
-    {false, PCIGUEST_MEMORY, 0xe0000010, 4, 0},
-    {false, PCIGUEST_MEMORY, 0xe0000012, 1, 0},
-    {false, PCIGUEST_MEMORY, 0xe0000011, 4, 0}, /* not aligned: no bus cycle does this */
+    {true, PCIGUEST_MEMORY, 0xe0000008, 4, 0x12345678}, /* the driver rings */
+    {false, PCIGUEST_MEMORY, 0xe0000000, 1, 0},
+    {false, PCIGUEST_MEMORY, 0xe0000008, 4, 0},
+    {true, PCIGUEST_MEMORY, 0xe000000a, 1, 0xff}, /* and again, by one byte of it */
+    {false, PCIGUEST_MEMORY, 0xe0000000, 8, 0}, /* STATUS and TALLY at once */
+    {true, PCIGUEST_MEMORY, 0xe0000000, 1, SERVED}, /* it clears STATUS, and the lowest bit of TALLY */
+    {true, PCIGUEST_MEMORY, 0xe0000004, 4, 1},
+    {true, PCIGUEST_MEMORY, 0xe0000006, 8, 0}, /* across alignment, and over the doorbell */
+    {false, PCIGUEST_MEMORY, 0xe0000000, 8, 0},
     {false, PCIGUEST_MEMORY, 0xd0000000, 4, 0}, /* nobody there */
 };
 
@@ -59,12 +123,19 @@ static void run(struct pciguest *machine, size_t guest)
 {
     static const char *const names[] = {"config", "port", "memory"};
 
-    for (size_t i = 0; i < sizeof firmware / sizeof *firmware; i++) {
-        const struct trap *trap = &firmware[i];
-        uint32_t value = serve(machine, guest, *trap);
+    for (size_t i = 0; i < sizeof accesses / sizeof *accesses; i++) {
+        struct trap trap = accesses[i];
+        struct pciguest_hit hit = {0};
 
-        printf("%s %s 0x%" PRIx64 " %" PRIu32 ": 0x%08" PRIx32 "\n", trap->is_write ? "write" : "read ",
-               names[trap->space], trap->place, trap->width, trap->is_write ? trap->value : value);
+        printf("%s %s 0x%" PRIx64 " %" PRIu32 ": ", trap.is_write ? "write" : "read ", names[trap.space], trap.place,
+               trap.width);
+        if (!find(machine, guest, trap, &hit)) {
+            printf("nobody here\n");
+            continue;
+        }
+        uint64_t read = serve(machine, guest, trap);
+        printf("0x%0*" PRIx64 "\n", (int)trap.width * 2, trap.is_write ? trap.value : read);
+        act(machine, guest, trap, &hit);
     }
 }
 

@@ -1,111 +1,202 @@
-//! A device model over pciguest: serves what a guest's processor traps, by two calls. It is `examples/c/device.c` over the
-//! wrapper in `pciguest.rs`, and prints the same. Then it asks the same of the machine by a line of a script.
+//! A device model over pciguest: what a hypervisor does with the accesses that it traps (`serve`), and what the device
+//! does when its driver rings (`act`). It is `examples/c/device.c` over the wrapper in `pciguest.rs`, and prints the same.
+//! Then it asks the same of the machine by a line of a script.
 //!
-//!     device BOARD      a board file with a guest `a`, as crates/examples/data/main.toml
+//!     device BOARD      examples/device.toml, whose guest `a` has this device
 
 // a wrapper offers more than one program uses
 #[allow(dead_code)]
 mod pciguest;
 
-use pciguest::{At, Machine};
+use pciguest::{At, Fault, Hit, Machine, Part};
 use std::process::ExitCode;
 
-/// What the processor tells of an access that it trapped: where, how wide, and what a write wrote.
+/// The registers of the device's region: bit 0 of STATUS says that a ring was served, TALLY has one bit more for each,
+/// and a write of DOORBELL rings. Writing ones clears bits of the first two.
+const STATUS: u64 = 0x00;
+const TALLY: u64 = 0x04;
+const DOORBELL: u64 = 0x08;
+const SERVED: u8 = 1;
+
+/// What the processor tells of an access that it trapped: where, how wide (1 to 8 bytes), and what a write wrote.
+#[derive(Clone, Copy)]
 struct Trap {
     at: At,
     width: u32,
-    written: Option<u32>,
+    written: Option<u64>,
 }
 
-/// Serves one trapped access of a guest. A real bus has no refusal: a read that no one takes gives all ones, and a write
-/// is lost.
-fn serve(machine: &mut Machine, guest: usize, trap: &Trap) -> u32 {
-    match trap.written {
-        Some(value) => {
-            let _ = machine.write(guest, trap.at, trap.width, value);
-            value
+/// The machine of the board, and the guest whose processor it is.
+struct Board {
+    machine: Machine,
+    guest: usize,
+}
+
+impl Board {
+    /// What an access hits. Where nothing is hit, the hypervisor's own UART or RAM is meant, or nobody.
+    fn find(&mut self, trap: Trap) -> Option<Hit> {
+        self.machine.locate(self.guest, trap.at).ok().flatten()
+    }
+
+    /// Serves one access, and gives what is read. A real bus has no refusal: a write that no one takes is lost.
+    fn serve(&mut self, trap: Trap) -> u64 {
+        match trap.written {
+            Some(value) => {
+                let _ = self.machine.write_wide(self.guest, trap.at, trap.width, value);
+                value
+            }
+            None => self
+                .machine
+                .read_wide(self.guest, trap.at, trap.width)
+                .unwrap_or(u64::MAX),
         }
-        None => machine.read(guest, trap.at, trap.width).unwrap_or(u32::MAX),
+    }
+
+    /// The device serves a ring: it sets one bit more of TALLY, unless all are set, and the bit of STATUS.
+    fn ring(&mut self, hit: Hit, base: u64) -> Result<(), Fault> {
+        let tally = self.machine.read(self.guest, At::Memory { address: base + TALLY }, 4)?;
+        let bit = tally.trailing_ones().min(31);
+        let (byte, mask) = (TALLY + u64::from(bit / 8), 1 << (bit % 8));
+        self.machine.raise(self.guest, hit.slot, hit.part, byte, mask)?;
+        self.machine.raise(self.guest, hit.slot, hit.part, STATUS, SERVED)?;
+        println!("ring");
+        Ok(())
+    }
+
+    /// Tells which addresses of a slot's function have to be trapped from here on.
+    fn tell_traps(&mut self, slot: u64) {
+        let regions = (0..6).filter_map(|register| self.machine.region(self.guest, slot, register).ok());
+        for region in regions.filter(|region| region.is_open) {
+            let space = if region.is_io { "port" } else { "memory" };
+            println!(
+                "trap {space} {:#x} to {:#x}",
+                region.first,
+                region.first + region.size - 1
+            );
+        }
+    }
+
+    /// After a write: regions stand elsewhere where Command or a base address register was hit, and the device acts where
+    /// its doorbell was. An access that begins before the doorbell may ring it too.
+    fn act(&mut self, trap: Trap, hit: Hit) -> Result<(), Fault> {
+        let rings = hit.offset < DOORBELL + 4 && hit.offset + u64::from(trap.width) > DOORBELL;
+        match (hit.part, trap.at) {
+            (Part::Config, _) => {
+                if matches!(hit.offset, 0x04..=0x05 | 0x10..=0x27) {
+                    self.tell_traps(hit.slot);
+                }
+                Ok(())
+            }
+            (Part::Region(_), At::Memory { address }) if rings => self.ring(hit, address - hit.offset),
+            (Part::Region(_), _) => Ok(()),
+        }
+    }
+
+    /// Serves an access, prints it, and lets the device act.
+    fn step(&mut self, trap: Trap) -> Result<(), Fault> {
+        let (space, place) = match trap.at {
+            At::Config { offset, .. } => ("config", offset),
+            At::Io { port } => ("port", port),
+            At::Memory { address } => ("memory", address),
+        };
+        let name = if trap.written.is_some() { "write" } else { "read " };
+        print!("{name} {space} {place:#x} {}: ", trap.width);
+        // four bytes at CF8h are CONFIG_ADDRESS, which is always here
+        let is_selection = matches!(
+            trap,
+            Trap {
+                at: At::Io { port: 0xcf8 },
+                width: 4,
+                ..
+            }
+        );
+        let hit = self.find(trap);
+        if hit.is_none() && !is_selection {
+            println!("nobody here");
+            return Ok(());
+        }
+        println!("{:#0digits$x}", self.serve(trap), digits = trap.width as usize * 2 + 2);
+        match hit {
+            Some(hit) if trap.written.is_some() => self.act(trap, hit),
+            _ => Ok(()),
+        }
     }
 }
 
 fn read(at: At, width: u32) -> Trap {
-    Trap {
-        at,
-        width,
-        written: None,
-    }
+    let written = None;
+    Trap { at, width, written }
 }
 
-fn write(at: At, width: u32, value: u32) -> Trap {
-    Trap {
-        at,
-        width,
-        written: Some(value),
-    }
+fn write(at: At, width: u32, value: u64) -> Trap {
+    let written = Some(value);
+    Trap { at, width, written }
 }
 
 /// Selects a register of a device of bus 0 by CONFIG_ADDRESS.
-fn select(device: u32, offset: u32) -> Trap {
+fn select(device: u64, offset: u64) -> Trap {
     write(At::Io { port: 0xcf8 }, 4, 0x8000_0000 | device << 11 | offset)
 }
 
 const DATA: At = At::Io { port: 0xcfc };
 
-/// Firmware that finds its device by the ports CF8h and CFCh, asks for the size of a region, places it, and uses it.
-fn firmware() -> Vec<Trap> {
-    let memory = |address| At::Memory { address };
+/// Firmware that finds the device by the ports CF8h and CFCh, asks for the size of its region and places it; and a driver
+/// that rings, sees what came of it, and clears that.
+fn accesses() -> Vec<Trap> {
+    let register = |offset| At::Memory {
+        address: 0xe000_0000 + offset,
+    };
     vec![
-        select(0, 0x00), // who is device 0?
+        select(0, 0x00), // firmware: who is device 0?
         read(DATA, 4),
         select(7, 0x00), // and device 7?
         read(DATA, 4),
-        select(0, 0x14), // the size of its second region
+        select(0, 0x10), // the size of its region
         write(DATA, 4, 0xffff_ffff),
         read(DATA, 4),
         write(DATA, 4, 0xe000_0000), // a place for it
         select(0, 0x04),
-        write(DATA, 2, 0x0002), // memory on
-        write(memory(0xe000_0010), 4, 0x1234_5678),
-        read(memory(0xe000_0010), 4),
-        read(memory(0xe000_0012), 1),
-        read(memory(0xe000_0011), 4), // not aligned: no bus cycle does this
-        read(memory(0xd000_0000), 4), // nobody there
+        write(DATA, 2, 0x0002),                    // memory on
+        write(register(DOORBELL), 4, 0x1234_5678), // the driver rings
+        read(register(STATUS), 1),
+        read(register(DOORBELL), 4),
+        write(register(DOORBELL + 2), 1, 0xff),    // and again, by one byte of it
+        read(register(STATUS), 8),                 // STATUS and TALLY at once
+        write(register(STATUS), 1, SERVED.into()), // it clears STATUS, and the lowest bit of TALLY
+        write(register(TALLY), 4, 1),
+        write(register(TALLY + 2), 8, 0), // across alignment, and over the doorbell
+        read(register(STATUS), 8),
+        read(At::Memory { address: 0xd000_0000 }, 4), // nobody there
     ]
 }
 
-fn print(trap: &Trap, value: u32) {
-    let (space, place) = match trap.at {
-        At::Config { offset, .. } => ("config", offset),
-        At::Io { port } => ("port", port),
-        At::Memory { address } => ("memory", address),
-    };
-    let name = if trap.written.is_some() { "write" } else { "read " };
-    println!("{name} {space} {place:#x} {}: {value:#010x}", trap.width);
+/// The board of a file, with its guest `a`.
+fn open(bytes: &[u8]) -> Result<Board, Fault> {
+    let mut machine = Machine::new(bytes)?;
+    let guest = machine.guest("a")?;
+    Ok(Board { machine, guest })
+}
+
+/// Runs the accesses, and asks by a line of a script what the last ring left.
+fn run(board: &mut Board) -> Result<bool, Fault> {
+    accesses().into_iter().try_for_each(|trap| board.step(trap))?;
+    Ok(board.machine.run_line(b"a mr 0xe0000004 4")? == b"a: 0x00000003\n")
 }
 
 fn main() -> ExitCode {
-    let Some(board) = std::env::args().nth(1).and_then(|path| std::fs::read(path).ok()) else {
+    let Some(bytes) = std::env::args().nth(1).and_then(|path| std::fs::read(path).ok()) else {
         eprintln!("device BOARD");
         return ExitCode::from(2);
     };
-    let opened = Machine::new(&board).and_then(|mut machine| Ok((machine.guest("a")?, machine)));
-    let (guest, mut machine) = match opened {
-        Ok(opened) => opened,
+    match open(&bytes).and_then(|mut board| run(&mut board)) {
+        Ok(true) => ExitCode::SUCCESS,
+        Ok(false) => ExitCode::FAILURE,
         Err(fault) => {
             eprintln!("device: fault {fault}");
-            if let (text, Err(_)) = pciguest::check(&board) {
+            if let (text, Err(_)) = pciguest::check(&bytes) {
                 eprint!("{}", String::from_utf8_lossy(&text));
             }
-            return ExitCode::FAILURE;
+            ExitCode::FAILURE
         }
-    };
-    for trap in firmware() {
-        let value = serve(&mut machine, guest, &trap);
-        print(&trap, value);
-    }
-    match machine.run_line(b"a mr 0xe0000010 4") {
-        Ok(reply) if reply == b"a: 0x12345678\n" => ExitCode::SUCCESS,
-        _ => ExitCode::FAILURE,
     }
 }

@@ -13,6 +13,26 @@ struct Handle {
     at: *mut c_void,
 }
 
+/// The structs of the header in which a region and a hit are told.
+#[repr(C)]
+#[derive(Default)]
+struct RegionTold {
+    first: u64,
+    size: u64,
+    space: u32,
+    prefetchable: u32,
+    is_open: u32,
+}
+
+#[repr(C)]
+#[derive(Default)]
+struct HitTold {
+    slot: u64,
+    offset: u64,
+    part: u32,
+    found: u32,
+}
+
 extern "C" {
     fn pciguest_raw_new(handle: *mut Handle, board: *const u8, length: usize) -> u32;
     fn pciguest_raw_free(handle: *mut Handle);
@@ -47,6 +67,15 @@ extern "C" {
         value: *mut u32,
     ) -> u32;
     fn pciguest_raw_move(handle: *mut Handle, from: usize, slot: u64, to: usize, target: u64) -> u32;
+    fn pciguest_raw_region(handle: *mut Handle, guest: usize, slot: u64, bar: u32, region: *mut RegionTold) -> u32;
+    fn pciguest_raw_locate(
+        handle: *mut Handle,
+        guest: usize,
+        space: u32,
+        slot: u64,
+        place: u64,
+        hit: *mut HitTold,
+    ) -> u32;
     fn pciguest_raw_run_line(
         handle: *mut Handle,
         line: *const u8,
@@ -59,7 +88,9 @@ extern "C" {
     fn pciguest_raw_words(number: u32, text: *mut u8, room: usize, needed: *mut usize) -> u32;
 }
 
-/// The number of a text that needs more room.
+/// The numbers of a width, of a place that is out of range, and of a text that needs more room.
+const WIDTH: u32 = 302;
+const RANGE: u32 = 303;
 const ARGUMENT: u32 = 902;
 
 /// The number of a refusal.
@@ -124,13 +155,63 @@ impl At {
             At::Memory { address } => (2, 0, address),
         }
     }
+
+    /// The place so many bytes further on; none where it would be past its space.
+    fn further(self, bytes: u32) -> Option<At> {
+        let (_, _, place) = self.parts();
+        let place = place.checked_add(u64::from(bytes))?;
+        match self {
+            At::Config { slot, .. } if place <= 0xff => Some(At::Config { slot, offset: place }),
+            At::Io { .. } if place <= 0xffff => Some(At::Io { port: place }),
+            At::Memory { .. } => Some(At::Memory { address: place }),
+            _ => None,
+        }
+    }
 }
 
-/// Where a device raises bits: in configuration space, or in the region of a base address register, 0 to 5.
-#[derive(Clone, Copy, Debug)]
+/// The lawful accesses that one of 1 to 8 bytes at any place is split into, as a bridge does: how far on each begins, and
+/// how wide it is.
+fn pieces(at: At, width: u32) -> Result<Vec<(u32, u32)>, Fault> {
+    if !(1..=8).contains(&width) {
+        return Err(Fault(WIDTH));
+    }
+    at.further(width - 1).ok_or(Fault(RANGE))?;
+    let (_, _, place) = at.parts();
+    let mut pieces = Vec::new();
+    let mut done = 0;
+    while done < width {
+        let fits = |bytes: u32| (place + u64::from(done)) % u64::from(bytes) == 0 && width - done >= bytes;
+        let piece = [4, 2].into_iter().find(|&bytes| fits(bytes)).unwrap_or(1);
+        pieces.push((done, piece));
+        done += piece;
+    }
+    Ok(pieces)
+}
+
+/// Where a device raises bits, and what an access hits: configuration space, or the region of a base address register,
+/// 0 to 5.
+#[derive(Clone, Copy, Debug, PartialEq, Eq)]
 pub enum Part {
     Config,
     Region(u8),
+}
+
+/// Where a region of a guest's function stands now, by the guest's own registers.
+#[derive(Clone, Copy, Debug)]
+pub struct Region {
+    pub is_io: bool,
+    pub first: u64,
+    pub size: u64,
+    pub is_prefetchable: bool,
+    pub is_open: bool,
+}
+
+/// The byte that an access hits: of a part of the function in a slot.
+#[derive(Clone, Copy, Debug)]
+pub struct Hit {
+    pub slot: u64,
+    pub part: Part,
+    pub offset: u64,
 }
 
 /// Where the host reads, by physical numbers.
@@ -188,6 +269,50 @@ impl Machine {
     pub fn write(&mut self, guest: usize, at: At, width: u32, value: u32) -> Result<(), Fault> {
         let (space, slot, place) = at.parts();
         answered(unsafe { pciguest_raw_write(&mut self.handle, guest, space, slot, place, width, value) })
+    }
+
+    /// Reads 1 to 8 bytes at any place, split as a bridge does; the byte at the lowest address is the lowest.
+    pub fn read_wide(&mut self, guest: usize, at: At, width: u32) -> Result<u64, Fault> {
+        pieces(at, width)?.into_iter().try_fold(0, |value, (done, piece)| {
+            let at = at.further(done).ok_or(Fault(RANGE))?;
+            Ok(value | u64::from(self.read(guest, at, piece)?) << (8 * done))
+        })
+    }
+
+    /// Writes so the low bytes of a value, as many as it is wide.
+    pub fn write_wide(&mut self, guest: usize, at: At, width: u32, value: u64) -> Result<(), Fault> {
+        pieces(at, width)?.into_iter().try_for_each(|(done, piece)| {
+            let at = at.further(done).ok_or(Fault(RANGE))?;
+            self.write(guest, at, piece, (value >> (8 * done)) as u32)
+        })
+    }
+
+    /// Where the region that begins at a base address register, 0 to 5, stands now, in the guest's own view.
+    pub fn region(&mut self, guest: usize, slot: u64, register: u8) -> Result<Region, Fault> {
+        let mut told = RegionTold::default();
+        answered(unsafe { pciguest_raw_region(&mut self.handle, guest, slot, u32::from(register), &mut told) })?;
+        Ok(Region {
+            is_io: told.space == 1,
+            first: told.first,
+            size: told.size,
+            is_prefetchable: told.prefetchable == 1,
+            is_open: told.is_open == 1,
+        })
+    }
+
+    /// What an access of the guest hits: a byte of a function in one of its slots, or nothing.
+    pub fn locate(&mut self, guest: usize, at: At) -> Result<Option<Hit>, Fault> {
+        let (space, slot, place) = at.parts();
+        let mut told = HitTold::default();
+        answered(unsafe { pciguest_raw_locate(&mut self.handle, guest, space, slot, place, &mut told) })?;
+        Ok((told.found == 1).then_some(Hit {
+            slot: told.slot,
+            part: u8::try_from(told.part)
+                .ok()
+                .filter(|&register| register < 6)
+                .map_or(Part::Config, Part::Region),
+            offset: told.offset,
+        }))
     }
 
     /// Sets bits of one byte of the function in a guest's slot, as its device does.

@@ -1,9 +1,9 @@
-"""Reports, checks and words over all boards of the examples; the device model; and the examples in docstrings."""
+"""Reports, checks and words over all boards of the examples; and the examples in docstrings."""
 
 import doctest
 import unittest
 
-from boards import DATA, MAIN, TOP
+from boards import DATA, MAIN
 from pciguest import Machine, Refusal, check, report, words
 
 
@@ -45,44 +45,6 @@ class Texts(unittest.TestCase):
         self.assertEqual(sum(words(each) != "" for each in range(1000)), 36)
         self.assertEqual(words(205), "prefetchable pool")
         self.assertEqual(words(0xFFFFFFFF), "")
-
-
-# the accesses of the device models in C and in Rust: port or address, width, and what is written
-FIRMWARE = [
-    (0xCF8, 4, 0x80000000),
-    (0xCFC, 4, None),
-    (0xCF8, 4, 0x80003800),
-    (0xCFC, 4, None),
-    (0xCF8, 4, 0x80000014),
-    (0xCFC, 4, 0xFFFFFFFF),
-    (0xCFC, 4, None),
-    (0xCFC, 4, 0xE0000000),
-    (0xCF8, 4, 0x80000004),
-    (0xCFC, 2, 0x0002),
-    (0xE0000010, 4, 0x12345678),
-    (0xE0000010, 4, None),
-    (0xE0000012, 1, None),
-    (0xE0000011, 4, None),
-    (0xD0000000, 4, None),
-]
-
-
-class DeviceModel(unittest.TestCase):
-    def test_it_prints_what_the_one_in_c_does(self):
-        lines = []
-        with Machine(MAIN) as machine:
-            guest = machine.guest("a")
-            for place, width, written in FIRMWARE:
-                name, space = ("port", guest.io) if place < 0x10000 else ("memory", guest.memory)
-                if written is None:
-                    try:
-                        value = space[place:width]
-                    except Refusal:
-                        value = 0xFFFFFFFF
-                else:
-                    space[place:width] = value = written
-                lines.append(f"{'read ' if written is None else 'write'} {name} {place:#x} {width}: {value:#010x}\n")
-        self.assertEqual("".join(lines), (TOP / "tests" / "library" / "device.stdout").read_text())
 
 
 if __name__ == "__main__":

@@ -1,8 +1,7 @@
-//! Reports, checks and words, over all boards of the examples; and the library's device model.
+//! Reports, checks and words, over all boards of the examples.
 
-use pciguest::{check, report, words, At, Error, Machine};
+use pciguest::{check, report, words, Machine};
 use std::ffi::OsStr;
-use std::fmt::Write;
 use std::fs;
 use std::path::{Path, PathBuf};
 
@@ -56,47 +55,4 @@ fn numbers_have_words() {
     assert_eq!(known, 36);
     assert_eq!(words(205), "prefetchable pool");
     assert_eq!(words(u32::MAX), "");
-}
-
-/// What the device models in C and in `examples/rust` print.
-#[test]
-fn the_device_model_answers_alike() -> Result<(), Error> {
-    let select = |device: u32, offset: u32| (0xcf8, 4, Some(0x8000_0000 | device << 11 | offset));
-    let accesses = [
-        select(0, 0),
-        (0xcfc, 4, None),
-        select(7, 0),
-        (0xcfc, 4, None),
-        select(0, 0x14),
-        (0xcfc, 4, Some(u32::MAX)),
-        (0xcfc, 4, None),
-        (0xcfc, 4, Some(0xe000_0000)),
-        select(0, 4),
-        (0xcfc, 2, Some(2)),
-        (0xe000_0010, 4, Some(0x1234_5678)),
-        (0xe000_0010, 4, None),
-        (0xe000_0012, 1, None),
-        (0xe000_0011, 4, None),
-        (0xd000_0000, 4, None),
-    ];
-    let mut machine = Machine::new(fs::read(examples().join("data/main.toml")).unwrap())?;
-    let a = machine.guest("a")?;
-    let mut printed = String::new();
-    for (place, width, written) in accesses {
-        let (space, at) = match place {
-            0..=0xffff => ("port", At::Io { port: place }),
-            _ => ("memory", At::Memory { address: place }),
-        };
-        let value = match written {
-            Some(value) => machine.write(a, at, width, value).map(|()| value)?,
-            None => machine.read(a, at, width).unwrap_or(u32::MAX),
-        };
-        let name = if written.is_some() { "write" } else { "read " };
-        writeln!(printed, "{name} {space} {place:#x} {width}: {value:#010x}").unwrap();
-    }
-    assert_eq!(
-        printed,
-        include_str!("../../../tests/library/device.stdout")
-    );
-    Ok(())
 }

@@ -1,0 +1,155 @@
+#!/usr/bin/env python3
+"""A device model over pciguest: what a hypervisor does with the accesses that it traps (`serve`), and what the device does
+when its driver rings (`act`). It is examples/c/device.c over the module of library/python, and prints the same.
+    PYTHONPATH=library/python examples/python/device.py BOARD
+BOARD is examples/device.toml, whose guest `a` has this device."""
+import sys
+from dataclasses import dataclass
+from typing import Iterator, Optional, Tuple
+
+from pciguest import Guest, Hit, Machine, Refusal
+
+# The registers of the device's region: bit 0 of STATUS says that a ring was served, TALLY has one bit more for each, and a
+# write of DOORBELL rings. Writing ones clears bits of the first two.
+STATUS, TALLY, DOORBELL, SERVED = 0x00, 0x04, 0x08, 1
+
+
+@dataclass(frozen=True)
+class Trap:
+    """What the processor tells of an access that it trapped: 1 to 8 bytes, at any place."""
+
+    space: str
+    place: int
+    width: int
+    written: Optional[int] = None
+
+    def pieces(self) -> Iterator[Tuple[int, int]]:
+        """How far on each lawful access begins that this one is split into, as a bridge does, and how wide it is."""
+        done = 0
+        while done < self.width:
+            fits = (size for size in (4, 2, 1) if (self.place + done) % size == 0 and self.width - done >= size)
+            size = next(fits)
+            yield done, size
+            done += size
+
+
+def find(guest: Guest, trap: Trap) -> Tuple[bool, Optional[Hit]]:
+    """Whether an access hits anything here, and what. Where it doesn't, the hypervisor's own UART or RAM is meant, or
+    nobody. Four bytes at CF8h are CONFIG_ADDRESS, which is always here."""
+    hit = guest.locate(trap.space, trap.place)
+    return hit is not None or (trap.space, trap.place, trap.width) == ("io", 0xCF8, 4), hit
+
+
+def serve(guest: Guest, trap: Trap) -> int:
+    """Serves one access, and gives what is read or written. A real bus has no refusal: a write that no one takes is lost."""
+    space = guest.io if trap.space == "io" else guest.memory
+    value = 0
+    for done, size in trap.pieces():
+        try:
+            if trap.written is None:
+                value |= space[trap.place + done:size] << 8 * done
+            else:
+                space[trap.place + done:size] = trap.written >> 8 * done & 0xFFFFFFFF
+        except Refusal:
+            value |= (1 << 8 * size) - 1 << 8 * done
+    return value if trap.written is None else trap.written
+
+
+def ring(guest: Guest, hit: Hit, base: int) -> None:
+    """The device serves a ring: it sets one bit more of TALLY, unless all are set, and the bit of STATUS."""
+    tally = guest.memory[base + TALLY:4]
+    bit = next((bit for bit in range(32) if not tally >> bit & 1), 31)
+    guest.raise_bits(hit.slot, TALLY + bit // 8, 1 << bit % 8, region=hit.region)
+    guest.raise_bits(hit.slot, STATUS, SERVED, region=hit.region)
+    print("ring")
+
+
+def tell_traps(guest: Guest, slot: int) -> None:
+    """Tells which addresses of a slot's function have to be trapped from here on."""
+    for register in range(6):
+        try:
+            region = guest.region(slot, register)
+        except Refusal:
+            continue
+        if region.is_open:
+            name = "port" if region.space == "io" else "memory"
+            print(f"trap {name} {region.first:#x} to {region.first + region.size - 1:#x}")
+
+
+def act(guest: Guest, trap: Trap, hit: Hit) -> None:
+    """After a write: regions stand elsewhere where Command or a base address register was hit, and the device acts where
+    its doorbell was. An access that begins before the doorbell may ring it too."""
+    if hit.region is None:
+        if hit.offset in (0x04, 0x05) or 0x10 <= hit.offset < 0x28:
+            tell_traps(guest, hit.slot)
+    elif hit.offset < DOORBELL + 4 and hit.offset + trap.width > DOORBELL:
+        ring(guest, hit, trap.place - hit.offset)
+
+
+def step(guest: Guest, trap: Trap) -> None:
+    """Serves an access, prints it, and lets the device act."""
+    name = "read " if trap.written is None else "write"
+    space = "port" if trap.space == "io" else trap.space
+    is_here, hit = find(guest, trap)
+    value = f"0x{serve(guest, trap):0{2 * trap.width}x}" if is_here else "nobody here"
+    print(f"{name} {space} {trap.place:#x} {trap.width}: {value}")
+    if hit is not None and trap.written is not None:
+        act(guest, trap, hit)
+
+
+def select(device: int, offset: int) -> Trap:
+    """Selects a register of a device of bus 0 by CONFIG_ADDRESS."""
+    return Trap("io", 0xCF8, 4, 0x80000000 | device << 11 | offset)
+
+
+def data(width: int, written: Optional[int] = None) -> Trap:
+    return Trap("io", 0xCFC, width, written)
+
+
+def register(offset: int, width: int, written: Optional[int] = None) -> Trap:
+    return Trap("memory", 0xE0000000 + offset, width, written)
+
+
+# Firmware that finds the device by the ports CF8h and CFCh, asks for the size of its region and places it; and a driver
+# that rings, sees what came of it, and clears that.
+ACCESSES = (
+    select(0, 0x00),  # firmware: who is device 0?
+    data(4),
+    select(7, 0x00),  # and device 7?
+    data(4),
+    select(0, 0x10),  # the size of its region
+    data(4, 0xFFFFFFFF),
+    data(4),
+    data(4, 0xE0000000),  # a place for it
+    select(0, 0x04),
+    data(2, 0x0002),  # memory on
+    register(DOORBELL, 4, 0x12345678),  # the driver rings
+    register(STATUS, 1),
+    register(DOORBELL, 4),
+    register(DOORBELL + 2, 1, 0xFF),  # and again, by one byte of it
+    register(STATUS, 8),  # STATUS and TALLY at once
+    register(STATUS, 1, SERVED),  # it clears STATUS, and the lowest bit of TALLY
+    register(TALLY, 4, 1),
+    register(TALLY + 2, 8, 0),  # across alignment, and over the doorbell
+    register(STATUS, 8),
+    Trap("memory", 0xD0000000, 4),  # nobody there
+)
+
+
+def main() -> int:
+    if len(sys.argv) != 2:
+        print("device.py BOARD", file=sys.stderr)
+        return 2
+    try:
+        with open(sys.argv[1], "rb") as file, Machine(file.read()) as machine:
+            guest = machine.guest("a")
+            for trap in ACCESSES:
+                step(guest, trap)
+    except (OSError, Refusal) as error:
+        print(f"device.py: {error}", file=sys.stderr)
+        return 1
+    return 0
+
+
+if __name__ == "__main__":
+    sys.exit(main())
