@@ -110,7 +110,7 @@ static bool find_empty(struct board *board, const struct seat *seat, struct seat
 {
     struct pciguest_region region;
 
-    empty->guest = seat->guest;
+    *empty = *seat;
     for (empty->slot = SLOTS; empty->slot-- > 0;)
         if (pciguest_region(&board->machine, seat->index, empty->slot, 0, &region) == EMPTY_SLOT)
             return true;
