@@ -1,11 +1,12 @@
--- Spans in order of which each ends before the next begins are those of agents that are alone.
-use Rattle.std.proofs.Common.{◌≡◌, ℕ, zero, suc, ◌+◌, ◌-◌, ◌*◌, ◌<◌, ◌≤◌, ◌⊎◌, inl, inr, Bool, true, false, List, [], ◌∷◌, ◌++◌, length, take, get_or, refl, sym, ap, ap₂, ◌∙◌, subst, arith, append_assoc}
+-- Where spans in order end before the next begin, agents are alone; so those of other buses and spaces needn't be compared.
+use Rattle.std.proofs.Common.{◌≡◌, ℕ, zero, suc, ◌+◌, ◌-◌, ◌*◌, ◌<◌, ◌≤◌, ◌⊎◌, inl, inr, Bool, true, false, cond, List, [], ◌∷◌, ◌++◌, length, take, get_or, refl, sym, ap, ap₂, ◌∙◌, subst, arith, append_assoc}
+use Rattle.std.specs.Prelude.{filter, flat_map}
 use Rattle.std.specs.List.{Contains}
 use Rattle.std.specs.List.Sorted.{IsNonDecreasingBy, IsPermutation}
 use Rattle.std.proofs.lemmas.List.{length-take}
 use Rattle.std.proofs.lemmas.List.Sorted.{Contains-permutation}
 use Rattle.std.proofs.Math.Nat.{min-le_left, min-le_right}
-use Rattle.lists.specs.Elements.{EachPair, IsIn}
+use Rattle.lists.specs.Elements.{IsIn}
 use Rattle.model_registers.specs.Decoding.{Space, same_space}
 use Rattle.model_registers.proofs.HitRegions.{space_same}
 use Rattle.model_board.specs.Paths.{Path, parent}
@@ -13,10 +14,10 @@ use Rattle.lists.proofs.Members.{each_from, in_map, in_front, in_back}
 use Rattle.model_board.proofs.PathOrder.{path_same}
 use Rattle.model_audit.specs.Agents.{Extent, Agent, answers}
 use Rattle.model_audit.specs.Orderly.{AreAlone}
-use Rattle.model_audit.specs.Problems.{contentions}
-use Rattle.model_audit.proofs.Problems.{Within, by_extent, no_contentions}
+use Rattle.model_audit.specs.Problems.{contention, contentions}
+use Rattle.model_audit.proofs.Problems.{Within, by_extent, none_front, none_each, each_none, no_contentions}
 use Rattle.board_audit.specs.declared.span.Span.{Span}
-use Rattle.board_audit.specs.Spans.{bus_key, space_key, group_of, extent_span, agent_spans, spans_from, place_of, key_of, AreApart}
+use Rattle.board_audit.specs.Spans.{bus_key, space_key, group_of, extent_span, agent_spans, spans_from, place_of, key_of, crowds, AreApartBut, is_crowded}
 
 -- ---- spans in order
 
@@ -29,12 +30,12 @@ get_any [] k d e h = absurd (omega arith)
 get_any (x ∷ xs) zero d e h = refl
 get_any (x ∷ xs) (suc k) d e h = get_any xs k d e (omega arith)
 
-module _ (spans : List Span) (rising : IsNonDecreasingBy key_of spans) (apart : AreApart spans) where
+module _ (spans : List Span) (rising : IsNonDecreasingBy key_of spans) (groups : List ℕ) (apart : AreApartBut groups spans) where
   small : (s : Span) → place_of s ≤ 0xffffffffffffffff
   small s = min-le_right s.first 0xffffffffffffffff
 
-  later : (i j : ℕ) (d : Span) → i < j → j < length spans → (get_or spans i d).group ≡ (get_or spans j d).group → (get_or spans i d).last < (get_or spans j d).first
-  later i j d before within same =
+  later : (i j : ℕ) (d : Span) → i < j → j < length spans → (get_or spans i d).group ≡ (get_or spans j d).group → crowds groups (get_or spans j d).group ≡ false → (get_or spans i d).last < (get_or spans j d).first
+  later i j d before within same quiet =
       let low = rising i (i + 1) d (omega arith) (omega arith) in
       let high = rising (i + 1) j d (omega arith) within in
       let one = get_or spans i d in
@@ -42,13 +43,13 @@ module _ (spans : List Span) (rising : IsNonDecreasingBy key_of spans) (apart : 
       let other = get_or spans j d in
       let b = between (get_or spans i d).group (get_or spans (i + 1) d).group (place_of one) (place_of next) (place_of other) 0 0 0 (small one) (small next) (small other) low
       (subst (λ g. key_of next ≤ g * 0x10000000000000000 + place_of other) (sym same) high) in
-      let ends : (get_or spans i d).last < place_of next = apart i d (omega arith) b.0 in
+      let ends : (get_or spans i d).last < place_of next = apart i d (omega arith) (ap (crowds groups) (sym b.0 ∙ same) ∙ quiet) b.0 in
       let first : place_of other ≤ (get_or spans j d).first = min-le_left (get_or spans j d).first 0xffffffffffffffff in
       omega (arith, ends, b.1, first)
 
   -- two spans of two agents
-  pub two_spans : (s t : Span) → Contains spans s → Contains spans t → (s.agent ≡ t.agent → ⊥) → s.group ≡ t.group → (s.last < t.first) ⊎ (t.last < s.first)
-  two_spans s t (i, l, e) (j, m, f) differ same = by (sides i j)
+  pub two_spans : (s t : Span) → Contains spans s → Contains spans t → (s.agent ≡ t.agent → ⊥) → s.group ≡ t.group → crowds groups t.group ≡ false → (s.last < t.first) ⊎ (t.last < s.first)
+  two_spans s t (i, l, e) (j, m, f) differ same quiet = by (sides i j)
     where
       sides : (i j : ℕ) → (i < j) ⊎ ((i ≡ j) ⊎ (j < i))
       sides i j = grind arith
@@ -57,9 +58,9 @@ module _ (spans : List Span) (rising : IsNonDecreasingBy key_of spans) (apart : 
       at_t = get_any spans j s t m ∙ f
 
       by : (i < j) ⊎ ((i ≡ j) ⊎ (j < i)) → (s.last < t.first) ⊎ (t.last < s.first)
-      by (inl h) = inl (subst (λ (x : Span). s.last < x.first) at_t (subst (λ (x : Span). x.last < (get_or spans j s).first) e (later i j s h m (ap (λ (x : Span). x.group) e ∙ same ∙ sym (ap (λ (x : Span). x.group) at_t)))))
+      by (inl h) = inl (subst (λ (x : Span). s.last < x.first) at_t (subst (λ (x : Span). x.last < (get_or spans j s).first) e (later i j s h m (ap (λ (x : Span). x.group) e ∙ same ∙ sym (ap (λ (x : Span). x.group) at_t)) (ap (λ (x : Span). crowds groups x.group) at_t ∙ quiet))))
       by (inr (inl h)) = absurd (differ (ap (λ (x : Span). x.agent) (sym e ∙ ap (λ k. get_or spans k s) h ∙ at_t)))
-      by (inr (inr h)) = inr (subst (λ (x : Span). t.last < x.first) e (subst (λ (x : Span). x.last < (get_or spans i s).first) at_t (later j i s h l (ap (λ (x : Span). x.group) at_t ∙ sym same ∙ sym (ap (λ (x : Span). x.group) e)))))
+      by (inr (inr h)) = inr (subst (λ (x : Span). t.last < x.first) e (subst (λ (x : Span). x.last < (get_or spans i s).first) at_t (later j i s h l (ap (λ (x : Span). x.group) at_t ∙ sym same ∙ sym (ap (λ (x : Span). x.group) e)) (ap (λ (x : Span). crowds groups x.group) e ∙ ap (crowds groups) same ∙ quiet))))
 
 -- ---- agents
 
@@ -74,37 +75,59 @@ indexed n b [] m = absurd m
 indexed n b (c ∷ cs) (inl e) = (n, omega arith, λ x k. in_front x (agent_spans n c) (spans_from (n + 1) cs) (subst (λ (y : Agent). IsIn x (agent_spans n y)) e k))
 indexed n b (c ∷ cs) (inr m) = let r = indexed (n + 1) b cs m in (r.0, omega (arith, r.1), λ x k. in_back x (agent_spans n c) (spans_from (n + 1) cs) (r.2 x k))
 
-module _ (all spans : List Span) (moved : IsPermutation all spans) (rising : IsNonDecreasingBy key_of spans) (apart : AreApart spans) where
-  alone : (m n : ℕ) (a b : Agent) → m < n → ((x : Span) → IsIn x (agent_spans m a) → IsIn x all) → ((x : Span) → IsIn x (agent_spans n b) → IsIn x all) → AreAlone a b
-  alone m n a b less own other bus space x h = by (answers space x b) refl
+one_pair : (a b : Agent) → AreAlone a b → contention a b ≡ []
+one_pair a b h =
+    let none : contentions (a ∷ b ∷ []) ≡ [] = no_contentions (a ∷ b ∷ []) ((h, tt), (tt, tt)) in
+    (none_each (contention a) (b ∷ []) (none_front (flat_map (contention a) (b ∷ [])) (contentions (b ∷ [])) none)).0
+
+-- what gives nothing may be left out
+left_out : {A B : Type 0} (f : A → List B) (p : A → Bool) (xs : List A) → ((x : A) → IsIn x xs → p x ≡ false → f x ≡ []) → flat_map f (filter p xs) ≡ flat_map f xs
+left_out f p [] none = refl
+left_out f p (x ∷ xs) none = by (p x) refl (left_out f p xs (λ y m. none y (inr m)))
+  where
+    by : (t : Bool) → p x ≡ t → flat_map f (filter p xs) ≡ flat_map f xs → flat_map f (cond t (x ∷ filter p xs) (filter p xs)) ≡ f x ++ flat_map f xs
+    by true e rest = ap (λ ys. f x ++ ys) rest
+    by false e rest = rest ∙ sym (ap (λ ys. ys ++ flat_map f xs) (none x (inl refl) e))
+
+module _ (all spans : List Span) (moved : IsPermutation all spans) (rising : IsNonDecreasingBy key_of spans) (groups : List ℕ) (apart : AreApartBut groups spans) where
+  alone : (m n : ℕ) (a b : Agent) → m < n → ((x : Span) → IsIn x (agent_spans m a) → IsIn x all) → ((x : Span) → IsIn x (agent_spans n b) → IsIn x all) → (is_crowded groups a ≡ false) ⊎ (is_crowded groups b ≡ false) → AreAlone a b
+  alone m n a b less own other quiet bus space x h = by (answers space x b) refl
     where
       by : (t : Bool) → answers space x b ≡ t → t ≡ false
       by false e = refl
       by true e = absurd (clash (by_extent space x a h) (by_extent space x b e))
         where
           clash : (same_space a.space space ≡ true) × (e : Extent) × IsIn e a.extents × Within x e → (same_space b.space space ≡ true) × (e : Extent) × IsIn e b.extents × Within x e → ⊥
-          clash (s, e, i, v) (t, f, j, w) = of (two_spans spans rising apart (extent_span m (group_of a) e) (extent_span n (group_of b) f)
+          clash (s, e, i, v) (t, f, j, w) = of (two_spans spans rising groups apart (extent_span m (group_of a) e) (extent_span n (group_of b) f)
               (Contains-permutation all spans (extent_span m (group_of a) e) moved (contained (extent_span m (group_of a) e) all (own (extent_span m (group_of a) e) (in_map (extent_span m (group_of a)) e a.extents i))))
               (Contains-permutation all spans (extent_span n (group_of b) f) moved (contained (extent_span n (group_of b) f) all (other (extent_span n (group_of b) f) (in_map (extent_span n (group_of b)) f b.extents j))))
-              (λ k. omega arith) same_group)
+              (λ k. omega arith) same_group (quiet_there quiet))
             where
               same_group : group_of a ≡ group_of b
               same_group = ap₂ (λ (p : Path) (z : Space). bus_key p * 2 + space_key z) (path_same (parent a.path) (parent b.path) bus) (space_same a.space space s ∙ sym (space_same b.space space t))
+
+              quiet_there : (is_crowded groups a ≡ false) ⊎ (is_crowded groups b ≡ false) → is_crowded groups b ≡ false
+              quiet_there (inl k) = ap (crowds groups) (sym same_group) ∙ k
+              quiet_there (inr k) = k
 
               of : (e.end - 1 < f.first) ⊎ (f.end - 1 < e.first) → ⊥
               of (inl k) = omega (arith, v.from, v.below, w.from, w.below)
               of (inr k) = omega (arith, v.from, v.below, w.from, w.below)
 
-  all_alone : (n : ℕ) (agents : List Agent) → ((x : Span) → IsIn x (spans_from n agents) → IsIn x all) → EachPair AreAlone agents
-  all_alone n [] there = tt
-  all_alone n (a ∷ bs) there = (each_from (AreAlone a) bs one, all_alone (n + 1) bs (λ x k. there x (in_back x (agent_spans n a) (spans_from (n + 1) bs) k)))
+  pruned : (n : ℕ) (agents : List Agent) → ((x : Span) → IsIn x (spans_from n agents) → IsIn x all) → contentions (filter (is_crowded groups) agents) ≡ contentions agents
+  pruned n [] there = refl
+  pruned n (a ∷ bs) there = by (is_crowded groups a) refl (pruned (n + 1) bs (λ x k. there x (in_back x (agent_spans n a) (spans_from (n + 1) bs) k)))
     where
-      one : (b : Agent) → IsIn b bs → AreAlone a b
-      one b m = let r = indexed (n + 1) b bs m in
-          alone n r.0 a b (omega (arith, r.1)) (λ x k. there x (in_front x (agent_spans n a) (spans_from (n + 1) bs) k)) (λ x k. there x (in_back x (agent_spans n a) (spans_from (n + 1) bs) (r.2 x k)))
+      none : (b : Agent) → IsIn b bs → (is_crowded groups a ≡ false) ⊎ (is_crowded groups b ≡ false) → contention a b ≡ []
+      none b m quiet = let r = indexed (n + 1) b bs m in
+          one_pair a b (alone n r.0 a b (omega (arith, r.1)) (λ x k. there x (in_front x (agent_spans n a) (spans_from (n + 1) bs) k)) (λ x k. there x (in_back x (agent_spans n a) (spans_from (n + 1) bs) (r.2 x k))) quiet)
 
-pub none_contended : (agents : List Agent) (spans : List Span) → IsPermutation (spans_from 0 agents) spans → IsNonDecreasingBy key_of spans → AreApart spans → contentions agents ≡ []
-none_contended agents spans moved rising apart = no_contentions agents (all_alone (spans_from 0 agents) spans moved rising apart 0 agents (λ x m. m))
+      by : (t : Bool) → is_crowded groups a ≡ t → contentions (filter (is_crowded groups) bs) ≡ contentions bs → contentions (cond t (a ∷ filter (is_crowded groups) bs) (filter (is_crowded groups) bs)) ≡ contentions (a ∷ bs)
+      by true e rest = ap₂ ◌++◌ (left_out (contention a) (is_crowded groups) bs (λ b m k. none b m (inr k))) rest
+      by false e rest = rest ∙ sym (ap (λ ps. ps ++ contentions bs) (each_none (contention a) bs (each_from (λ b. contention a b ≡ []) bs (λ b m. none b m (inl e)))))
+
+pub few_contended : (agents : List Agent) (spans : List Span) (groups : List ℕ) → IsPermutation (spans_from 0 agents) spans → IsNonDecreasingBy key_of spans → AreApartBut groups spans → contentions (filter (is_crowded groups) agents) ≡ contentions agents
+few_contended agents spans groups moved rising apart = pruned (spans_from 0 agents) spans moved rising groups apart 0 agents (λ x m. m)
 
 -- ---- the spans of agents, one after the other
 

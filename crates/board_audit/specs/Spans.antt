@@ -2,8 +2,12 @@
 --     bus_key, group_of      a number of a bus, and of an agent's bus and space
 --     window_span, agent_spans, spans_from      the spans of a window, of an agent and of agents from an index on
 --     place_of, key_of      a first address; the order of spans: by bus and space, then by first address
---     EndsBefore, AreApart      each span ends before the next one of its bus and space begins
-use Rattle.std.specs.Prelude.{List, [], ◌∷◌, ◌++◌, ◌≡◌, ℕ, ◌+◌, ◌-◌, ◌*◌, ◌%◌, ◌<◌, min, map, length, slice_index_or}
+--     EndsBefore s t      a span ends before the next one begins, if that is of the same bus and space
+--     crowds groups g      one of some buses and spaces
+--     AreApartBut groups spans      but in these, each span ends before the next one begins
+--     is_crowded groups a      an agent there
+use Rattle.std.specs.Prelude.{List, [], ◌∷◌, ◌++◌, ◌≡◌, ℕ, ◌+◌, ◌-◌, ◌*◌, ◌%◌, ◌<◌, ◌==◌, Bool, IsFalse, min, map, length, slice_index_or}
+use Rattle.std.specs.List.{list_any}
 use Rattle.model_registers.specs.Decoding.{Space, io, memory}
 use Rattle.model_board.specs.Paths.{Path, parent}
 use Rattle.model_audit.specs.Agents.{Extent, Agent}
@@ -44,6 +48,13 @@ key_of s = s.group * 0x10000000000000000 + place_of s
 abbrev pub EndsBefore : Span → Span → Type 0
 EndsBefore s t = s.group ≡ t.group → s.last < place_of t
 
-abbrev pub AreApart : List Span → Type 0
-AreApart spans = (i : ℕ) (d : Span) → i + 1 < length spans
+abbrev pub crowds : List ℕ → ℕ → Bool
+crowds groups g = list_any (λ h. h == g) groups
+
+abbrev pub AreApartBut : List ℕ → List Span → Type 0
+AreApartBut groups spans = (i : ℕ) (d : Span) → i + 1 < length spans
+    → IsFalse (crowds groups (slice_index_or spans (i + 1) d).group)
     → EndsBefore (slice_index_or spans i d) (slice_index_or spans (i + 1) d)
+
+abbrev pub is_crowded : List ℕ → Agent → Bool
+is_crowded groups a = crowds groups (group_of a)

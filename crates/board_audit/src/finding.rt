@@ -16,7 +16,7 @@ use crate::numbering::add_numbering;
 use crate::problem::Problem;
 use crate::region::OpenRegion;
 use crate::row::{forwarded, holds_any, is_same_space};
-use crate::span::are_apart;
+use crate::span::crowded;
 use bridge_forward::{RoutingRow, Window};
 use host_bridge::Host;
 use std::alloc::{AllocError, Global};
@@ -166,24 +166,21 @@ fn add_all_contentions(told: &mut Vec<Problem>, agents: &[Agent]) -> Result<(), 
 }
 
 /// What is wrong with the routing registers: open regions that are not forwarded, then agents of one
-/// bus that answer one
-/// address. Agents are compared two by two only where a walk in the order of addresses sees that some
-/// are not apart.
+/// bus that answer one address. Agents are compared two by two only on a bus on which a walk in the order
+/// of addresses sees that some are not apart.
 fn routing_problems(alloc: Global, rows: &[RoutingRow]) -> Result<Vec<Problem>, AllocError>
     ensures { IfOk result (λ v. map problem_of v.items ≡ routing_problems rows.now) }
 {
     let mut told = Vec::new(alloc);
     add_forwarding(alloc, &mut told, rows)?;
     let agents = agents(alloc, rows)?;
-    if !are_apart(alloc, &agents)? {
-        add_all_contentions(&mut told, &agents)?;
-    }
+    let crowded = crowded(alloc, &agents)?;
+    add_all_contentions(&mut told, &crowded)?;
     Ok(told)
 }
 
 /// All that is wrong in the registers of a board as they stand: open regions that are not forwarded,
-/// agents of one bus
-/// that answer one address, and functions that no cycle finds. Nothing changes.
+/// agents of one bus that answer one address, and functions that no cycle finds. Nothing changes.
 pub fn problems(alloc: Global, host: &mut Host) -> Result<Vec<Problem>, AllocError>
     ensures told { IfOk result (λ v. map problem_of v.items ≡ problems host.old.state.functions) }
     ensures after { host.new ≡ host.old }

@@ -1,9 +1,9 @@
-//! Whether agents are apart, seen by a walk over what they answer in the order of addresses.
-ghost use Rattle.std.specs.Prelude.{◌≡◌, [], ◌++◌, ◌^◌, ◌<◌, IfOk, OnOk, IsTrue, map};
+//! Agents that may answer one address, found by a walk over what they answer in the order of addresses.
+ghost use Rattle.std.specs.Prelude.{◌≡◌, ℕ, ◌++◌, ◌^◌, ◌<◌, IfOk, OnOk, IsTrue, map, filter};
 ghost use Rattle.std.specs.Option.{option_to_list};
 ghost use Rattle.std.specs.List.Sorted.{IsNonDecreasingBy, IsPermutation};
 ghost use Rattle.model_audit.specs.Problems.{contentions};
-ghost use Rattle.board_audit.specs.Spans.{bus_key, group_of, key_of, window_span, agent_spans, spans_from, EndsBefore, AreApart};
+ghost use Rattle.board_audit.specs.Spans.{bus_key, group_of, key_of, window_span, agent_spans, spans_from, EndsBefore, crowds, AreApartBut, is_crowded};
 
 use crate::agent::Agent;
 use bars::Space;
@@ -110,23 +110,57 @@ fn is_before(before: Span, here: Span) -> bool
     before.group != here.group || before.last < here.first
 }
 
-/// Whether each span ends before the next one of its bus and space begins.
-fn are_apart_in_order(spans: &[Span]) -> bool
-    ensures { IsTrue result → AreApart spans.now }
+/// Adds a bus and space, unless it was the last one added.
+fn add_group(groups: &mut Vec<u64>, group: u64) -> Result<(), AllocError>
+    ensures added { OnOk result (IsTrue (crowds groups.new.items group)) }
+    ensures kept { OnOk result ((g : ℕ) → IsTrue (crowds groups.old.items g) → IsTrue (crowds groups.new.items g)) }
 {
-    for index in 1..spans.len() {
-        if !is_before(spans[index - 1], spans[index]) {
-            return false;
-        }
+    if groups.last() == Some(&group) {
+        return Ok(());
     }
-    true
+    groups.push(group)?;
+    Ok(())
 }
 
-/// Whether a walk over the agents in the order of addresses sees that no two of them answer one
-/// address.
-pub(crate) fn are_apart(alloc: Global, agents: &[Agent]) -> Result<bool, AllocError>
-    ensures { IfOk result (λ apart. IsTrue apart → contentions agents.now ≡ []) }
+/// The buses and spaces in which a span doesn't end before the next one begins.
+fn crowded_groups(alloc: Global, spans: &[Span]) -> Result<Vec<u64>, AllocError>
+    ensures { IfOk result (λ v. AreApartBut v.items spans.now) }
+{
+    let mut groups = Vec::new(alloc);
+    for index in 1..spans.len() {
+        if !is_before(spans[index - 1], spans[index]) {
+            add_group(&mut groups, spans[index].group)?;
+        }
+    }
+    Ok(groups)
+}
+
+/// Whether this is one of the buses and spaces.
+fn crowds(groups: &[u64], group: u64) -> bool
+    ensures { result ≡ crowds groups.now group }
+{
+    groups.iter().any(|crowded| *crowded == group)
+}
+
+/// The agents of those buses and spaces in which a walk in the order of addresses sees that some may answer
+/// one address. No other agent shares an address with any.
+pub(crate) fn crowded(alloc: Global, agents: &[Agent]) -> Result<Vec<Agent>, AllocError>
+    ensures { IfOk result (λ v. contentions v.items ≡ contentions agents.now) }
 {
     let spans = sorted_spans(alloc, agents)?;
-    Ok(are_apart_in_order(&spans))
+    let groups = crowded_groups(alloc, &spans)?;
+    crowded_agents(alloc, agents, &groups)
+}
+
+/// The agents of some buses and spaces.
+fn crowded_agents(alloc: Global, agents: &[Agent], groups: &[u64]) -> Result<Vec<Agent>, AllocError>
+    ensures { IfOk result (λ v. v.items ≡ filter (is_crowded groups.now) agents.now) }
+{
+    let mut crowded = Vec::new(alloc);
+    for agent in agents {
+        if crowds(groups, group_of(agent)) {
+            crowded.push(agent.copied())?;
+        }
+    }
+    Ok(crowded)
 }
