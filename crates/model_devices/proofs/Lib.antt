@@ -1,4 +1,5 @@
 pub mod OneGuest
 pub mod Resets
 pub mod Seats
+pub mod Bytes
 pub mod Calls

@@ -1,19 +1,21 @@
 -- After an event at a device guests stay seated, and hold what the law says.
-use Rattle.std.proofs.Common.{◌≡◌, ℕ, zero, suc, Bool, true, false, cond, List, [], ◌∷◌, Some, None, Option, refl, sym, ap, ap₂, ◌∙◌, subst}
+use Rattle.std.proofs.Common.{◌≡◌, ℕ, zero, suc, ◌%◌, Bool, true, false, cond, List, [], ◌∷◌, Some, None, Option, refl, sym, ap, ap₂, ◌∙◌, subst}
 use Rattle.std.specs.Prelude.{slice_set, is_some}
 use Rattle.std.specs.Option.{option_map_or}
 use Rattle.model_registers.specs.Decoding.{Function}
 use Rattle.model_board.specs.Paths.{Path}
 use Rattle.model_board.specs.Board.{Board}
-use Rattle.model_guests.specs.Slots.{slot_at, reset_function}
+use Rattle.model_registers.specs.Registers.{Place}
+use Rattle.model_registers.specs.DeviceBytes.{with_value, set_value}
+use Rattle.model_guests.specs.Slots.{Slots, slot_at, with_file, reset_function}
 use Rattle.model_guests.specs.Text.{Text}
 use Rattle.model_guests.specs.Lone.{LoneGuest, filled}
 use Rattle.model_guests.specs.Guests.{GuestNow, GuestsNow, with_guest}
 use Rattle.model_guests.specs.WorldNow.{names_of}
 use Rattle.model_guests.specs.Seated.{AreSeats, IsSeat, IsSeatedGuest}
 use Rattle.model_guests.proofs.GuestsByName.{path_at, Keeps, one_name}
-use Rattle.model_guests.proofs.Seats.{seats_at, seats_set, names_stay, guests_stay, paths_stay}
-use Rattle.model_devices.specs.DeviceEvents.{DeviceEvent, resets, device_fault, device_changed, reset_in, after_device_event, device_after}
+use Rattle.model_guests.proofs.Seats.{seats_at, seats_set, changed_shape, with_file_seats, names_stay, guests_stay, paths_stay}
+use Rattle.model_devices.specs.DeviceEvents.{DeviceEvent, resets, device_reads, device_writes, DeviceByte, byte_landing, with_byte, device_fault, device_changed, reset_in, after_device_event, device_after}
 use Rattle.model_devices.specs.DeviceLaws.{NamesAfterDevices, OthersAfterDevice, OwnAfterDevice, SeatedAfterDevices}
 use Rattle.model_devices.proofs.OneGuest.{lone_own, lone_other}
 
@@ -38,8 +40,17 @@ reset_seats b qs n g h = cases (slot_at g.slots n) refl
         subst (λ (x : List (Option Path)). AreSeats b x (slice_set g.slots n (reset_function (Some f.decl)))) (set_own qs n)
         (seats_set b qs g.slots n (path_at qs n) (reset_function (Some f.decl)) h (at_reset b (path_at qs n) f seat))
 
+byte_seats : (b : Board) (qs : List (Option Path)) (d : DeviceByte) (v : ℕ) (slots : Slots) → AreSeats b qs slots → AreSeats b qs (with_byte d v slots)
+byte_seats b qs d v slots h = cases (byte_landing (slot_at slots d.slot) d)
+  where
+    cases : (o : Option Place) → AreSeats b qs (option_map_or (λ (p : Place). with_file (set_value v p) d.slot slots) o slots)
+    cases None = h
+    cases (Some p) = with_file_seats b qs (set_value v p) (λ file. changed_shape (with_value (v % 256)) (λ c. refl) p file) d.slot slots h
+
 changed_seats : (b : Board) (qs : List (Option Path)) (g : LoneGuest) (e : DeviceEvent) → AreSeats b qs g.slots → AreSeats b qs (device_changed g e).slots
 changed_seats b qs g (resets n) h = reset_seats b qs n g h
+changed_seats b qs g (device_reads d) h = h
+changed_seats b qs g (device_writes d v) h = byte_seats b qs d v g.slots h
 
 device_seats : (b : Board) (qs : List (Option Path)) (g : LoneGuest) (e : DeviceEvent) → AreSeats b qs g.slots → AreSeats b qs (after_device_event g e).slots
 device_seats b qs g e h = cases (is_some (device_fault g.slots e))

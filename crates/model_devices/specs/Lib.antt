@@ -1,3 +1,4 @@
 pub mod DeviceEvents
 pub mod DeviceLaws
+pub mod DeviceByteLaws
 pub mod Calls

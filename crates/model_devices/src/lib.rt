@@ -2,6 +2,7 @@
 #![tactic(auto)]
 
 ghost use Rattle.model_devices.specs.Calls.{IsolatedByCalls};
+ghost use Rattle.model_devices.specs.DeviceByteLaws.{ReadsLeaveGuests, ReadsWritten, WriteReachesBoard};
 ghost use Rattle.model_devices.specs.DeviceLaws.{NamesAfterDevices, OthersAfterDevice, OwnAfterDevice, ResetByMoves, ResetReachesBoard, SeatedAfterDevices};
 
 /// A reset of a function leaves what a move to an empty slot and back leaves, and reaches the board by
@@ -18,6 +19,14 @@ pub fn devices_keep_guests()
     ensures others { OthersAfterDevice }
     ensures seated { SeatedAfterDevices }
     ensures names { NamesAfterDevices }
+{}
+
+/// What a device reads changes nothing. What it writes is read again where a cell stands, and changes the
+/// board in its function alone, by that byte.
+pub fn devices_own_bytes()
+    ensures reads { ReadsLeaveGuests }
+    ensures written { ReadsWritten }
+    ensures board { WriteReachesBoard }
 {}
 
 /// Along any calls, lines and events at devices alike, what a guest is told and what it holds are those

@@ -9,16 +9,16 @@ use Rattle.model_registers.specs.Decoding.{Function}
 use Rattle.model_registers.specs.EndpointTable.{endpoint_reset}
 use Rattle.model_board.specs.Paths.{Path, path_eq}
 use Rattle.model_board.specs.Board.{Board}
-use Rattle.model_board.specs.State.{BoardFunction}
+use Rattle.model_board.specs.State.{BoardFunction, State}
 use Rattle.model_set_up.specs.SetUp.{set_up_state}
 use Rattle.model_board.proofs.PathOrder.{path_same}
 use Rattle.model_guests.specs.Slots.{Slots, slot_at, with_file}
 use Rattle.model_guests.specs.Text.{Text}
 use Rattle.model_guests.specs.Guests.{GuestNow, GuestsNow, file_in, file_of, function_in, guest_named, path_in, with_guest}
 use Rattle.model_registers.specs.CopiedFiles.{agreed_file}
-use Rattle.model_guests.specs.AgreedBoard.{agreed_function, agreed_state, with_change_at}
+use Rattle.model_guests.specs.AgreedBoard.{agreed_function, agreed_state, with_change_at, with_files}
 use Rattle.model_guests.specs.Seated.{AreSeated, IsSeat, IsSeatedGuest}
-use Rattle.model_guests.specs.ChangeLaws.{ChangesAlike, ChangesOneFunction, LatchKeepsBoard, OneFile, ResetsAlike, with_slot_changed}
+use Rattle.model_guests.specs.ChangeLaws.{ChangesOneFunction, LatchKeepsBoard, OneFile, ResetsAlike, with_slot_changed}
 use Rattle.model_guests.proofs.AgreedChanges.{changed_function, agreed_by, changed_here, unchanged}
 use Rattle.model_guests.proofs.GuestFiles.{slot_set, with_file_there}
 use Rattle.model_guests.proofs.Names.{same_text}
@@ -29,7 +29,7 @@ use Rattle.model_guests.proofs.FoundFiles.{file_beside, file_found, file_stays, 
 
 -- ---- whatever tells the files
 
-module _ (own_change board_change : File → File) (alike : ChangesAlike own_change board_change) (old new : Path → Option File) (p : Path) (own : File)
+module _ (own_change board_change : File → File) (own : File) (alike : (left : File) → agreed_file left (own_change own) ≡ board_change (agreed_file left own)) (old new : Path → Option File) (p : Path)
     (before : old p ≡ Some own) (after : new p ≡ Some (own_change own)) (others : (q : Path) → IsFalse (path_eq p q) → new q ≡ old q) where
   function_changes : (f : BoardFunction) → agreed_function new f ≡ changed_function board_change p (agreed_function old f)
   function_changes f = cases (path_eq f.path p) refl
@@ -37,7 +37,7 @@ module _ (own_change board_change : File → File) (alike : ChangesAlike own_cha
       cases : (t : Bool) → path_eq f.path p ≡ t → agreed_function new f ≡ changed_function board_change p (agreed_function old f)
       cases true e =
           let same : f.path ≡ p = path_same f.path p e in
-          ap (λ (o : Option File). agreed_by o f) (ap new same ∙ after) ∙ ap (λ (file : File). record f { file = file }) (alike f.file own)
+          ap (λ (o : Option File). agreed_by o f) (ap new same ∙ after) ∙ ap (λ (file : File). record f { file = file }) (alike f.file)
           ∙ sym (ap (λ (o : Option File). changed_function board_change p (agreed_by o f)) (ap old same ∙ before) ∙ changed_here board_change p (agreed_by (Some own) f) e)
       cases false e = ap (λ (o : Option File). agreed_by o f) (others f.path (apart_turn f.path p e)) ∙ sym (unchanged board_change p (old f.path) f e)
 
@@ -45,9 +45,14 @@ module _ (own_change board_change : File → File) (alike : ChangesAlike own_cha
   functions_change [] = refl
   functions_change (f ∷ fs) = ap₂ (λ (x : BoardFunction) (xs : List BoardFunction). x ∷ xs) (function_changes f) (functions_change fs)
 
+-- where the changes are alike for this file of the guest
+pub one_file_of : (own_change board_change : File → File) (own : File) → ((left : File) → agreed_file left (own_change own) ≡ board_change (agreed_file left own)) → (old new : Path → Option File) (p : Path)
+    → old p ≡ Some own → new p ≡ Some (own_change own) → ((q : Path) → IsFalse (path_eq p q) → new q ≡ old q) → (s : State) → with_files new s ≡ with_change_at board_change p (with_files old s)
+one_file_of own_change board_change own alike old new p before after others s =
+    ap (λ (fs : List BoardFunction). record s { functions = fs }) (functions_change own_change board_change own alike old new p before after others s.functions)
+
 pub one_file : OneFile
-one_file own_change board_change alike old new p own before after others s =
-    ap (λ (fs : List BoardFunction). record s { functions = fs }) (functions_change own_change board_change alike old new p own before after others s.functions)
+one_file own_change board_change alike old new p own before after others s = one_file_of own_change board_change own (λ left. alike left own) old new p before after others s
 
 pub files_same : (old new : Path → Option File) → ((q : Path) → new q ≡ old q) → (fs : List BoardFunction) → map (agreed_function new) fs ≡ map (agreed_function old) fs
 files_same old new same [] = refl

@@ -23,7 +23,7 @@ use Rattle.model_guests.proofs.GuestsByName.{path_at, Keeps, one, one_name, name
 abbrev bare : Cell → Cell
 bare c = record c { value = 0 }
 
-changed_shape : (f : Cell → Cell) → ((c : Cell) → bare (f c) ≡ bare c) → (p : Place) (file : File) → shape_of (changed f p file) ≡ shape_of file
+pub changed_shape : (f : Cell → Cell) → ((c : Cell) → bare (f c) ≡ bare c) → (p : Place) (file : File) → shape_of (changed f p file) ≡ shape_of file
 changed_shape f keeps p [] = refl
 changed_shape f keeps p (e ∷ es) = ap₂ (λ (x : Entry) (xs : File). x ∷ xs) (here (place_eq e.place p)) (changed_shape f keeps p es)
   where

@@ -14,9 +14,10 @@ use Rattle.model_devices.specs.Calls as set_up
 use Rattle.model_devices.specs.DeviceEvents.{after_guest_device, device_after}
 use Rattle.model_handoff.specs.WorldOver.{WorldOver}
 use Rattle.model_devices.proofs.Resets.{slot_taken, as_changed}
+use Rattle.model_devices.proofs.Bytes.{write_reaches}
 use Rattle.model_devices.proofs.Seats.{seated_after}
 use Rattle.model_handoff.specs.Handoffs.{state_over}
-use Rattle.model_handoff.specs.DevicesOver.{ResetReachesOver, LawfulAfterDevices, ResetAfterDevices, after_call, CallsAlike}
+use Rattle.model_handoff.specs.DevicesOver.{ResetReachesOver, WriteReachesOver, LawfulAfterDevices, ResetAfterDevices, after_call, CallsAlike}
 use Rattle.model_handoff.proofs.Changes.{changes_slot}
 use Rattle.model_handoff.proofs.Served.{served_with}
 use Rattle.model_handoff.proofs.Views.{reset_with}
@@ -25,6 +26,9 @@ pub reset_reaches_over : ResetReachesOver
 reset_reaches_over s gs seated name n fault p f path is =
     ap (state_over s) (as_changed (board_at s.functions) gs seated name n f is p path (slot_taken (lone_of gs name).slots n fault))
     ∙ changes_slot (board_at s.functions) s gs seated name n p f path is (λ (own : File). endpoint_reset f.decl false) (after_reset f.decl) (resets_alike f.decl)
+
+pub write_reaches_over : WriteReachesOver
+write_reaches_over s gs seated name d v fault p f q path is at = write_reaches (board_at s.functions) gs seated name d v fault p f q path is at s
 
 pub lawful_after_devices : LawfulAfterDevices
 lawful_after_devices w name e h = record {

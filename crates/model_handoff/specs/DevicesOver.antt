@@ -1,11 +1,13 @@
 -- What happens at devices of guests over a handoff.
 --     after_device      the world after it
 --     ResetReachesOver      a reset resets the function on the board, but for what guests have copies of
+--     WriteReachesOver      a device's write changes the board in its function alone, by that byte
 --     LawfulAfterDevices      the world stays lawful
 --     ResetAfterDevices      and its handoff is shown as before
 --     after_call, after_calls      the world after lines and events at devices, in any order
 --     CallsAlike      along any calls guests hold what they hold on a board that is set up, so they are told the same
 use Rattle.std.specs.Prelude.{◌≡◌, ℕ, List, [], ◌∷◌, Some, None}
+use Rattle.model_registers.specs.Registers.{Place}
 use Rattle.model_registers.specs.Decoding.{Function}
 use Rattle.model_registers.specs.CopiedFiles.{after_reset}
 use Rattle.model_board.specs.Paths.{Path}
@@ -16,7 +18,9 @@ use Rattle.model_guests.specs.WorldNow.{WorldNow}
 use Rattle.model_guests.specs.AgreedBoard.{with_change_at}
 use Rattle.model_devices.specs.Calls.{Call, asks, at_device}
 use Rattle.model_devices.specs.Calls as set_up
-use Rattle.model_devices.specs.DeviceEvents.{DeviceEvent, resets, device_fault, after_guest_device}
+use Rattle.model_devices.specs.DeviceByteLaws.{byte_change}
+use Rattle.model_devices.specs.DeviceEvents.{DeviceByte, DeviceEvent, resets, device_writes, device_place, device_fault}
+use Rattle.model_devices.specs.DeviceEvents.{after_guest_device}
 use Rattle.model_handoff.specs.Handoffs.{state_over}
 use Rattle.model_handoff.specs.ChangeLaws.{OverSeated}
 use Rattle.model_handoff.specs.Kept.{IsLawfulOver}
@@ -30,6 +34,14 @@ abbrev pub ResetReachesOver : Type 0
 ResetReachesOver = OverSeated (λ s gs. (name : Text) (n : ℕ) → device_fault (lone_of gs name).slots (resets n) ≡ None
     → (p : Path) (f : Function) → path_in gs name n ≡ Some p → function_in gs name n ≡ Some f
     → state_over s (after_guest_device name (resets n) gs) ≡ with_change_at (after_reset f.decl) p (state_over s gs))
+
+abbrev pub WriteReachesOver : Type 0
+WriteReachesOver = OverSeated (λ s gs. (name : Text) (d : DeviceByte) (v : ℕ)
+    → device_fault (lone_of gs name).slots (device_writes d v) ≡ None
+    → (p : Path) (f : Function) (q : Place) → path_in gs name d.slot ≡ Some p → function_in gs name d.slot ≡ Some f
+    → device_place f d.part d.offset ≡ Some q
+    → state_over s (after_guest_device name (device_writes d v) gs)
+    ≡ with_change_at (byte_change f.file v q) p (state_over s gs))
 
 abbrev pub LawfulAfterDevices : Type 0
 LawfulAfterDevices = (w : WorldOver) (name : Text) (e : DeviceEvent) → IsLawfulOver w

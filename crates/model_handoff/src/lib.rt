@@ -14,7 +14,7 @@ ghost use Rattle.model_handoff.specs.SetUpCase.{SetUpIsHandoff, SetUpIsInOrder, 
 ghost use Rattle.model_handoff.specs.ViewLaws.{OverReset, ResetAfterEvents, ResetAfterMoves, ResetAtFirst, ResetShown};
 ghost use Rattle.model_handoff.specs.RunsOver.{AfterByProtocol, LongLinesAlike, NamesStay, OutputByProtocol, SameCut, SameStop};
 ghost use Rattle.model_handoff.specs.Sessions.{AccessLeaves, LinesLeave, ResetIsHandoff};
-ghost use Rattle.model_handoff.specs.DevicesOver.{CallsAlike, LawfulAfterDevices, ResetAfterDevices, ResetReachesOver};
+ghost use Rattle.model_handoff.specs.DevicesOver.{CallsAlike, LawfulAfterDevices, ResetAfterDevices, ResetReachesOver, WriteReachesOver};
 ghost use Rattle.model_handoff.specs.Kept.{LawfulAfter, LawfulAlong, LawfulAtFirst};
 ghost use Rattle.model_handoff.specs.Examples.{WorkedExamples};
 
@@ -102,10 +102,12 @@ pub fn handoff_is_shown()
     ensures moves { ResetAfterMoves }
 {}
 
-/// What happens at devices over a handoff: a reset resets the function on the board, the world stays lawful, and the
-/// same handoff is shown. Along any calls guests hold what they hold on a board that is set up.
+/// What happens at devices over a handoff: a reset resets the function on the board, a device's write changes its
+/// byte there alone, the world stays lawful, and the same handoff is shown. Along any calls guests hold what they hold
+/// on a board that is set up.
 pub fn devices_over_handoffs()
     ensures board { ResetReachesOver }
+    ensures written { WriteReachesOver }
     ensures lawful { LawfulAfterDevices }
     ensures shown { ResetAfterDevices }
     ensures calls { CallsAlike }

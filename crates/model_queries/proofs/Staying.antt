@@ -19,7 +19,7 @@ use Rattle.model_board.specs.Paths.{Path}
 use Rattle.model_board.specs.Board.{Board}
 use Rattle.model_board.specs.Lawful.{HasLawfulDecls}
 use Rattle.model_guests.specs.Accesses.{Event, access, raises, Access, Raise, Target, configuration, port, address, Op, reads, writes}
-use Rattle.model_guests.specs.Slots.{Slots, slot_at, with_file, Landing, effect, event_fault, raise_landing, affected}
+use Rattle.model_guests.specs.Slots.{Slots, slot_at, with_file, Landing, effect, event_fault, raise_place, raise_landing, affected}
 use Rattle.model_guests.specs.Text.{Text}
 use Rattle.model_guests.specs.Lone.{LoneGuest, Destination, own_latch, by_select, select_at, destination, after_access_at, after_event, changed_by, filled, emptied}
 use Rattle.model_guests.specs.Guests.{GuestNow, GuestsNow, guest_named, lone_of, with_guest, guest_after, function_in, path_in, Move, move_fault, handed_over, with_slot_emptied, with_slot_filled}
@@ -30,8 +30,11 @@ use Rattle.model_guests.proofs.GuestsByName.{Keeps}
 use Rattle.model_guests.proofs.SeatedMoves.{seat_in}
 use Rattle.model_guests.proofs.CopiesNeverRise.{declared_lawful}
 use Rattle.model_guests.proofs.KeptCopies.{copies_never_rise}
-use Rattle.model_devices.specs.DeviceEvents.{resets, device_fault, reset_in, after_device_event, device_after}
+use Rattle.model_devices.specs.DeviceEvents.{resets, device_reads, device_writes, DeviceByte, byte_landing, with_byte, device_changed, device_fault, reset_in, after_device_event, device_after}
 use Rattle.model_devices.specs.Calls.{asks, at_device}
+use Rattle.model_registers.specs.DeviceBytes.{is_device_byte, with_value, set_value}
+use Rattle.model_registers.proofs.DeviceBytes.{device_not_own, change_beside}
+use Rattle.model_devices.proofs.Bytes.{reached, read_leaves}
 use Rattle.model_devices.proofs.Calls.{lone_by, still}
 use Rattle.model_queries.specs.Regions.{RegionNow, region_now, region_at, region_of, region_answer}
 use Rattle.model_queries.specs.Located.{located, is_latch_access}
@@ -183,18 +186,20 @@ module _ (b : Board) (decls : HasLawfulDecls b) (gs : GuestsNow) (seated : AreSe
           (ap (after_access_at g a.op a.width) (same_destination g.latch a.width a.target e) ∙ changed_there g a.op a.width (destination g.latch 1 a.target) (byte_goes g.latch a.target))
           ∙ by_op a.op a.width a.target none
 
+  own_elsewhere : (p q : Place) → is_own p ≡ false → tells_regions q ≡ true → place_eq p q ≡ false
+  own_elsewhere p q other tells = cases (place_eq p q) refl
+    where
+      cases : (t : Bool) → place_eq p q ≡ t → t ≡ false
+      cases false e = refl
+      cases true e = sym (ap is_own (place_same p q e) ∙ tells_own q tells) ∙ other
+
   raised_alike : (m : ℕ) (p : Place) (f : Function) → slot_at g.slots slot ≡ Some f → Alike (raise m p f.file) f.file
   raised_alike m p f there q tells = cases (is_own p) refl
     where
       cases : (t : Bool) → is_own p ≡ t → cell_at (raise m p f.file) q ≡ cell_at f.file q
       cases true own = ap (λ (x : File). cell_at x q) (copies_never_rise b decls gs seated name slot f there m p own)
       cases false other =
-          let apart : place_eq p q ≡ false = elsewhere (place_eq p q) refl in
-          change_at_place (raised m) (raised_none m) f.file p q ∙ ap (λ (t : Bool). cond t (raised m (cell_at f.file q)) (cell_at f.file q)) apart
-        where
-          elsewhere : (t : Bool) → place_eq p q ≡ t → t ≡ false
-          elsewhere false e = refl
-          elsewhere true e = sym (ap is_own (place_same p q e) ∙ tells_own q tells) ∙ other
+          change_at_place (raised m) (raised_none m) f.file p q ∙ ap (λ (t : Bool). cond t (raised m (cell_at f.file q)) (cell_at f.file q)) (own_elsewhere p q other tells)
 
   by_raise : (r : Raise) → answer_of slot n (slot_at (affected g.slots (raises r)) slot) ≡ answer_of slot n (slot_at g.slots slot)
   by_raise r = cases (raise_landing (slot_at g.slots r.slot) r)
@@ -204,6 +209,33 @@ module _ (b : Board) (decls : HasLawfulDecls b) (gs : GuestsNow) (seated : AreSe
       cases (Some p) =
           changed_answer (raise r.mask p) r.slot slot n g.slots
           (λ here f there. same_of f (lawful_regions slot f there) (raise r.mask p f.file) (raised_alike r.mask p f there) n)
+
+  -- a device writes none of the bytes that tell of regions
+  by_byte : (d : DeviceByte) (v : ℕ) → answer_of slot n (slot_at (with_byte d v g.slots) slot) ≡ answer_of slot n (slot_at g.slots slot)
+  by_byte d v = cases (byte_landing (slot_at g.slots d.slot) d) refl
+    where
+      place_of : (o : Option Function) (p : Place) → byte_landing o d ≡ Some p → is_device_byte p ≡ true
+      place_of None p h = cc
+      place_of (Some f) p h = (reached (raise_place f d.part d.offset) p h).1
+
+      cases : (o : Option Place) → byte_landing (slot_at g.slots d.slot) d ≡ o
+          → answer_of slot n (slot_at (option_map_or (λ (p : Place). with_file (set_value v p) d.slot g.slots) o g.slots) slot) ≡ answer_of slot n (slot_at g.slots slot)
+      cases None e = refl
+      cases (Some p) e =
+          let other : is_own p ≡ false = device_not_own p (place_of (slot_at g.slots d.slot) p e) in
+          changed_answer (set_value v p) d.slot slot n g.slots
+          (λ here f there. same_of f (lawful_regions slot f there) (set_value v p f.file)
+          (λ q tells. change_beside (with_value (v % 256)) f.file p q (own_elsewhere p q other tells)) n)
+
+  pub by_device_read : (d : DeviceByte) → Stays (after_device_event g (device_reads d))
+  by_device_read d = ap (λ (h : LoneGuest). region_answer h slot n) (read_leaves g d)
+
+  pub by_device_write : (d : DeviceByte) (v : ℕ) → Stays (after_device_event g (device_writes d v))
+  by_device_write d v = cases (is_some (device_fault g.slots (device_writes d v)))
+    where
+      cases : (t : Bool) → Stays (cond t g (device_changed g (device_writes d v)))
+      cases true = refl
+      cases false = by_byte d v
 
   pub by_event : (e : Event) → rewrites slot g e ≡ false → Stays (after_event g e)
   by_event e none = cases (is_some (event_fault g.slots e))
@@ -280,3 +312,9 @@ regions_stay w decls seated name there slot n (asks (bad who k)) none = refl
 regions_stay w decls seated name there slot n (at_device who (resets k)) none =
     beside (device_after (resets k)) (λ t. refl) (λ (g : LoneGuest). after_device_event g (resets k)) (λ t. refl) who name w.guests there slot n
     (λ here. reset_beside (lone_of w.guests name) k slot n (asked (bytes_eq who name) (eqb k slot) none here))
+regions_stay w decls seated name there slot n (at_device who (device_reads d)) none =
+    beside (device_after (device_reads d)) (λ t. refl) (λ (g : LoneGuest). after_device_event g (device_reads d)) (λ t. refl) who name w.guests there slot n
+    (λ here. by_device_read w.board decls w.guests seated name slot n d)
+regions_stay w decls seated name there slot n (at_device who (device_writes d v)) none =
+    beside (device_after (device_writes d v)) (λ t. refl) (λ (g : LoneGuest). after_device_event g (device_writes d v)) (λ t. refl) who name w.guests there slot n
+    (λ here. by_device_write w.board decls w.guests seated name slot n d v)

@@ -18,7 +18,7 @@ use Rattle.model_guests.specs.Guests.{GuestsNow, guest_named, lone_of, Move, mov
 use Rattle.model_guests.specs.Lines.{nothing, guest_event, host_read, host_move, bad}
 use Rattle.model_guests.specs.WorldNow.{WorldNow}
 use Rattle.model_guests.specs.Seated.{AreSeated}
-use Rattle.model_devices.specs.DeviceEvents.{resets}
+use Rattle.model_devices.specs.DeviceEvents.{resets, device_reads, device_writes}
 use Rattle.model_devices.specs.Calls.{Call, asks, at_device, after_call}
 use Rattle.model_queries.specs.Regions.{region_answer}
 use Rattle.model_queries.specs.Located.{located}
@@ -55,6 +55,8 @@ moves_regions name slot gs (asks (host_read r)) = false
 moves_regions name slot gs (asks (host_move m)) = touches name slot gs m
 moves_regions name slot gs (asks (bad who k)) = false
 moves_regions name slot gs (at_device n (resets k)) = bytes_eq n name && k == slot
+moves_regions name slot gs (at_device n (device_reads d)) = false
+moves_regions name slot gs (at_device n (device_writes d v)) = false
 
 -- whatever other guests, their devices and the host do
 abbrev pub RegionsStay : Type 0

@@ -11,3 +11,4 @@ pub mod HitRegions
 pub mod Sizes
 pub mod Owned
 pub mod BareRegions
+pub mod DeviceBytes

@@ -17,3 +17,4 @@ pub mod DecodingLaws
 pub mod OwnCopies
 pub mod ConfigAddress
 pub mod CopiedFiles
+pub mod DeviceBytes

@@ -1,0 +1,175 @@
+-- What a device reads and writes of its function's registers: the checks, the guest afterwards, and the board.
+use Rattle.std.proofs.Common.{◌≡◌, ℕ, ◌%◌, Bool, true, false, not, cond, [], ◌∷◌, Some, None, Option, refl, sym, ap, ap₂, ◌∙◌, subst}
+use Rattle.std.specs.Prelude.{is_some, nat_le}
+use Rattle.std.specs.Option.{option_map_or}
+use Rattle.std.specs.Str.{bytes_eq}
+use Rattle.model_registers.specs.Cell.{Cell}
+use Rattle.model_registers.specs.Registers.{Place, place_eq, Entry, File, cell_at, changed}
+use Rattle.model_registers.specs.FileLaws.{has_place}
+use Rattle.model_registers.specs.OwnCopies.{is_own}
+use Rattle.model_registers.specs.DeviceBytes.{is_device_byte, with_value, set_value}
+use Rattle.model_registers.specs.Decoding.{Function}
+use Rattle.model_registers.specs.CopiedFiles.{agreed_file}
+use Rattle.model_registers.proofs.RegisterFiles.{place_same, place_turned}
+use Rattle.model_registers.proofs.Files.{change_none}
+use Rattle.model_registers.proofs.DeviceBytes.{device_not_own, change_beside, change_there}
+use Rattle.model_board.specs.Paths.{Path}
+use Rattle.model_board.specs.Board.{Board}
+use Rattle.model_guests.specs.Accesses.{answered, done, refused}
+use Rattle.model_guests.specs.Slots.{Slots, slot_at, file_at, with_file, raise_place}
+use Rattle.model_guests.specs.Text.{Text}
+use Rattle.model_guests.specs.Lone.{LoneGuest}
+use Rattle.model_guests.specs.Guests.{GuestNow, GuestsNow, guest_named, path_in, function_in, file_of, lone_of, with_guest}
+use Rattle.model_guests.specs.AgreedBoard.{with_files, with_change_at}
+use Rattle.model_board.specs.State.{State}
+use Rattle.model_set_up.specs.SetUp.{set_up_state}
+use Rattle.model_guests.specs.ChangeLaws.{with_slot_changed}
+use Rattle.model_guests.specs.Seated.{AreSeated}
+use Rattle.model_guests.proofs.GuestFiles.{slot_set, with_file_there}
+use Rattle.model_guests.proofs.GuestsByName.{function_of, function_named}
+use Rattle.model_guests.proofs.Changes.{one_file_of, file_before, file_after, file_others}
+use Rattle.model_devices.specs.DeviceEvents.{DeviceByte, device_reads, device_writes, if_device_byte, device_place, byte_landing, byte_fault, byte_in, with_byte, device_fault, device_answer, after_device_event, device_after, after_guest_device}
+use Rattle.model_devices.specs.DeviceByteLaws.{ReadsLeaveGuests, ReadsWritten, byte_change, WriteReachesBoard}
+use Rattle.model_devices.proofs.OneGuest.{lone_found, with_alike}
+
+-- ---- the place
+
+-- a place that a device reaches is one of its own bytes
+pub reached : (o : Option Place) (p : Place) → if_device_byte o ≡ Some p → (o ≡ Some p) × (is_device_byte p ≡ true)
+reached None p h = cc
+reached (Some q) p h = cases (is_device_byte q) refl h
+  where
+    cases : (t : Bool) → is_device_byte q ≡ t → cond t (Some q) None ≡ Some p → (Some q ≡ Some p) × (is_device_byte p ≡ true)
+    cases true e h = let same : q ≡ p = cc in (h, subst (λ (x : Place). is_device_byte x ≡ true) same e)
+    cases false e h = cc
+
+-- ---- the checks
+
+-- by the tests that they make
+abbrev pub fault_by : Bool → Option Function → DeviceByte → Option ℕ
+fault_by past o d = cond past (Some 303) (cond (not (is_some o)) (Some 601) (cond (not (is_some (byte_landing o d))) (Some 303) None))
+
+pub low_slot : (slots : Slots) (d : DeviceByte) → byte_fault slots d ≡ None → nat_le 32 d.slot ≡ false
+low_slot slots d h = cases (nat_le 32 d.slot) h
+  where
+    cases : (t : Bool) → fault_by t (slot_at slots d.slot) d ≡ None → t ≡ false
+    cases true e = cc
+    cases false e = refl
+
+module _ (slots : Slots) (d : DeviceByte) (low : nat_le 32 d.slot ≡ false) (f : Function) (there : slot_at slots d.slot ≡ Some f) where
+  pub checked : byte_fault slots d ≡ fault_by false (Some f) d
+  checked = ap (λ (t : Bool). fault_by t (slot_at slots d.slot) d) low ∙ ap (λ (o : Option Function). fault_by false o d) there
+
+  module _ (p : Place) (at : device_place f d.part d.offset ≡ Some p) where
+    pub passes : byte_fault slots d ≡ None
+    passes = checked ∙ ap (λ (o : Option Place). cond {A = Option ℕ} (not (is_some o)) (Some 303) None) at
+
+    pub lands : byte_landing (slot_at slots d.slot) d ≡ Some p
+    lands = ap (λ (o : Option Function). byte_landing o d) there ∙ at
+
+    pub byte_there : byte_in slots d ≡ (cell_at f.file p).value
+    byte_there =
+        ap (λ (o : Option Place). option_map_or (λ (q : Place). (cell_at (file_at slots d.slot) q).value) o 0) lands
+        ∙ ap (λ (o : Option Function). (cell_at (option_map_or (λ (g : Function). g.file) o []) p).value) there
+
+    pub with_byte_there : (v : ℕ) → with_byte d v slots ≡ with_file (set_value v p) d.slot slots
+    with_byte_there v = ap (λ (o : Option Place). option_map_or (λ (q : Place). with_file (set_value v q) d.slot slots) o slots) lands
+
+-- ---- one guest
+
+module _ (g : LoneGuest) (d : DeviceByte) (low : nat_le 32 d.slot ≡ false) (f : Function) (there : slot_at g.slots d.slot ≡ Some f) (p : Place) (at : device_place f d.part d.offset ≡ Some p) where
+  pub read_there : device_answer g (device_reads d) ≡ answered (cell_at f.file p).value 1
+  read_there =
+      ap (λ (o : Option ℕ). option_map_or refused o (answered (byte_in g.slots d) 1)) (passes g.slots d low f there p at)
+      ∙ ap (λ (n : ℕ). answered n 1) (byte_there g.slots d low f there p at)
+
+  pub write_answered : (v : ℕ) → device_answer g (device_writes d v) ≡ done
+  write_answered v = ap (λ (o : Option ℕ). option_map_or refused o done) (passes g.slots d low f there p at)
+
+  pub written_there : (v : ℕ) → after_device_event g (device_writes d v) ≡ record g { slots = with_file (set_value v p) d.slot g.slots }
+  written_there v =
+      ap (λ (o : Option ℕ). cond (is_some o) g (record g { slots = with_byte d v g.slots })) (passes g.slots d low f there p at)
+      ∙ ap (λ (ss : Slots). record g { slots = ss }) (with_byte_there g.slots d low f there p at v)
+
+pub read_leaves : (g : LoneGuest) (d : DeviceByte) → after_device_event g (device_reads d) ≡ g
+read_leaves g d = cases (is_some (byte_fault g.slots d))
+  where
+    cases : (t : Bool) → cond t g g ≡ g
+    cases true = refl
+    cases false = refl
+
+pub reads_leave_guests : ReadsLeaveGuests
+reads_leave_guests name d [] = refl
+reads_leave_guests name d (t ∷ ts) = ap₂ (λ (x : GuestNow) (xs : GuestsNow). x ∷ xs) (cases (bytes_eq name t.name)) (reads_leave_guests name d ts)
+  where
+    cases : (v : Bool) → cond v (device_after (device_reads d) t) t ≡ t
+    cases true = ap (λ (l : LoneGuest). let x : GuestNow = record t { lone = l } in x) (read_leaves t.lone d)
+    cases false = refl
+
+pub reads_written : ReadsWritten
+reads_written g d v fault f p there at stands =
+    let low : nat_le 32 d.slot ≡ false = low_slot g.slots d fault in
+    let new : Function = record f { file = set_value v p f.file } in
+    let slots : Slots = with_file (set_value v p) d.slot g.slots in
+    let now : slot_at slots d.slot ≡ Some new = ap (λ (ss : Slots). slot_at ss d.slot) (with_file_there (set_value v p) d.slot g.slots f there) ∙ slot_set g.slots d.slot f new there in
+    ap (λ (l : LoneGuest). device_answer l (device_reads d)) (written_there g d low f there p at v)
+    ∙ read_there (record g { slots = slots }) d low new now p at
+    ∙ ap (λ (c : Cell). answered c.value 1) (change_there (with_value (v % 256)) f.file p stands)
+
+-- ---- the board
+
+-- one byte of the agreed file, where the guest's has a cell there
+board_byte : (f : Cell → Cell) (p : Place) → is_own p ≡ false → (left own : File) → has_place own p ≡ true → agreed_file left (changed f p own) ≡ changed f p (agreed_file left own)
+board_byte f p other [] own stands = refl
+board_byte f p other (e ∷ es) own stands = ap₂ (λ (x : Entry) (xs : File). x ∷ xs) (entry (is_own e.place) refl (place_eq e.place p) refl) (board_byte f p other es own stands)
+  where
+    agreed_entry : File → Entry
+    agreed_entry file = cond (is_own e.place) e (record e { cell = cell_at file e.place })
+
+    entry : (t : Bool) → is_own e.place ≡ t → (u : Bool) → place_eq e.place p ≡ u
+        → agreed_entry (changed f p own) ≡ cond (place_eq (agreed_entry own).place p) (record (agreed_entry own) { cell = f (agreed_entry own).cell }) (agreed_entry own)
+    entry true i true k = let same = ap is_own (place_same e.place p k) in cc
+    entry true i false k = rw (i, k)
+    entry false i true k =
+        let cell : cell_at (changed f p own) e.place ≡ f (cell_at own e.place) =
+        subst (λ (x : Place). cell_at (changed f p own) x ≡ f (cell_at own x)) (sym (place_same e.place p k)) (change_there f own p stands) in
+        rw (i, cell, k)
+    entry false i false k =
+        let cell : cell_at (changed f p own) e.place ≡ cell_at own e.place = change_beside f own p e.place (place_turned p e.place ∙ k) in
+        rw (i, cell, k)
+
+pub bytes_alike : (v : ℕ) (p : Place) → is_device_byte p ≡ true → (own left : File) → agreed_file left (set_value v p own) ≡ byte_change own v p (agreed_file left own)
+bytes_alike v p reaches own left = cases (has_place own p) refl
+  where
+    cases : (t : Bool) → has_place own p ≡ t → agreed_file left (set_value v p own) ≡ cond t (set_value v p (agreed_file left own)) (agreed_file left own)
+    cases true stands = board_byte (with_value (v % 256)) p (device_not_own p reaches) left own stands
+    cases false none = ap (agreed_file left) (change_none (with_value (v % 256)) own p none)
+
+guest_of_function : (o : Option GuestNow) (n : ℕ) (f : Function) → function_of o n ≡ Some f → (x : GuestNow) × (o ≡ Some x)
+guest_of_function None n f h = cc
+guest_of_function (Some x) n f h = (x, refl)
+
+module _ (b : Board) (gs : GuestsNow) (seated : AreSeated b gs) (name : Text) (d : DeviceByte) (v : ℕ) (fault : device_fault (lone_of gs name).slots (device_writes d v) ≡ None)
+    (p : Path) (f : Function) (q : Place) (path : path_in gs name d.slot ≡ Some p) (is : function_in gs name d.slot ≡ Some f) (at : device_place f d.part d.offset ≡ Some q) where
+  guest_there : (x : GuestNow) × (guest_named gs name ≡ Some x)
+  guest_there = guest_of_function (guest_named gs name) d.slot f (sym (function_named gs name d.slot) ∙ is)
+
+  abbrev x : GuestNow
+  x = guest_there.0
+
+  as_written : after_guest_device name (device_writes d v) gs ≡ with_guest (with_slot_changed (set_value v q) d.slot) name gs
+  as_written =
+      with_alike gs seated.names_apart name x guest_there.1 (device_after (device_writes d v)) (with_slot_changed (set_value v q) d.slot)
+      (ap (λ (l : LoneGuest). let y : GuestNow = record x { lone = l } in y)
+      (written_there x.lone d (low_slot (lone_of gs name).slots d fault) f (ap (λ (l : LoneGuest). slot_at l.slots d.slot) (sym (lone_found gs name x guest_there.1)) ∙ is) q at v))
+
+  -- over any state
+  pub write_reaches : (s : State) → with_files (file_of (after_guest_device name (device_writes d v) gs)) s ≡ with_change_at (byte_change f.file v q) p (with_files (file_of gs) s)
+  write_reaches s =
+      ap (λ (new : GuestsNow). with_files (file_of new) s) as_written
+      ∙ one_file_of (set_value v q) (byte_change f.file v q) f.file (bytes_alike v q (reached (raise_place f d.part d.offset) q at).1 f.file)
+      (file_of gs) (file_of (with_guest (with_slot_changed (set_value v q) d.slot) name gs)) p
+      (file_before b gs seated name d.slot p path (set_value v q) f is) (file_after b gs seated name d.slot p path (set_value v q) f is) (file_others b gs seated name d.slot p path (set_value v q) f is) s
+
+pub write_reaches_board : WriteReachesBoard
+write_reaches_board b a gs seated name d v fault p f q path is at = write_reaches b gs seated name d v fault p f q path is at (set_up_state b a)

@@ -1,0 +1,18 @@
+-- A device's own side of its registers, whatever an access may change of them: PCI Local Bus 3.0, chapters 6.2.3 (Status)
+-- and 6.1 (40h to FFh are the device's).
+--     is_device_byte p      Status, one of a device's own registers in configuration space, or a byte of a region
+--     with_value v c      the cell with another value; its masks stay
+--     set_value v p file      the file with the low byte of v at a place; where no cell stands nothing changes
+use Rattle.std.specs.Prelude.{ℕ, ◌%◌, Bool, true, ◌||◌, ◌==◌, nat_le}
+use Rattle.model_registers.specs.Cell.{Cell}
+use Rattle.model_registers.specs.Registers.{Place, config, block, File, changed}
+
+abbrev pub is_device_byte : Place → Bool
+is_device_byte (config off) = off == 6 || off == 7 || nat_le 0x40 off
+is_device_byte (block n off) = true
+
+abbrev pub with_value : ℕ → Cell → Cell
+with_value v c = record c { value = v }
+
+abbrev pub set_value : ℕ → Place → File → File
+set_value v p file = changed (with_value (v % 256)) p file
