@@ -21,3 +21,4 @@ pub mod ResetCells
 pub mod ResetKept
 pub mod BlocksReset
 pub mod RoutingRows
+pub mod DeviceBytes

@@ -1,6 +1,7 @@
 //! An endpoint of the board, with its registers.
-ghost use Rattle.std.specs.Prelude.{◌≡◌, ◌%◌, ◌+◌, ◌*◌, ◌≤◌, ◌<◌, ◌⊎◌, IfOk, IfSome, IfNone, map};
-ghost use Rattle.model_registers.specs.Registers.{config, block, read, write, raise};
+ghost use Rattle.std.specs.Prelude.{◌≡◌, ◌%◌, ◌+◌, ◌*◌, ◌≤◌, ◌<◌, ◌⊎◌, IfOk, IfSome, IfNone, IsTrue, map};
+ghost use Rattle.model_registers.specs.Registers.{config, block, cell_at, read, write, raise};
+ghost use Rattle.model_registers.specs.DeviceBytes.{is_device_byte, set_value};
 ghost use Rattle.model_registers.specs.ByteEnables.{lanes};
 ghost use Rattle.model_registers.specs.DeclarationRules.{IsLawfulEndpoint};
 ghost use Rattle.model_registers.specs.EndpointTable.{endpoint_reset};
@@ -133,6 +134,39 @@ impl EndpointFn {
             Place::Bar(reg) => {
                 if let Some(block) = self.blocks.get_mut(usize::from(reg)) {
                     offsets::raise(block, off, mask);
+                }
+            }
+        }
+    }
+
+    /// What a byte of the device's own holds, 0 where no cell stands.
+    pub fn value(&self, place: Place, off: u64) -> u8
+        requires { IsTrue (is_device_byte (place_of place off)) }
+        ensures { result ≡ (cell_at self.now.file (place_of place off)).value }
+    {
+        match place {
+            Place::Cfg => offsets::value(&self.config, off),
+            Place::Bar(reg) => match self.blocks.get(usize::from(reg)) {
+                Some(block) => offsets::value(block, off),
+                None => 0,
+            },
+        }
+    }
+
+    /// Puts a value into a byte of the device's own, whatever the cell's masks, which stay. All other
+    /// cells stay, and where none stands nothing changes.
+    pub fn set(&mut self, place: Place, off: u64, value: u8)
+        requires { IsTrue (is_device_byte (place_of place off)) }
+        ensures { self.new ≡ record self.old { file = set_value value (place_of place off) self.old.file } }
+    {
+        match place {
+            Place::Cfg => {
+                offsets::set(&mut self.config, off, value);
+                self.command = command(&self.config).0;
+            }
+            Place::Bar(reg) => {
+                if let Some(block) = self.blocks.get_mut(usize::from(reg)) {
+                    offsets::set(block, off, value);
                 }
             }
         }

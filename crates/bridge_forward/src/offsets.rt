@@ -1,7 +1,8 @@
 //! Cells by offsets of any size: past those that a file of cells can hold, nothing reads as anything
 //! but 0, and nothing changes.
 ghost use Rattle.std.specs.Prelude.{◌≡◌, ◌%◌};
-ghost use Rattle.model_registers.specs.Registers.{config, read, write, raise};
+ghost use Rattle.model_registers.specs.Registers.{config, cell_at, read, write, raise};
+ghost use Rattle.model_registers.specs.DeviceBytes.{set_value};
 ghost use Rattle.model_registers.specs.ByteEnables.{lanes};
 ghost use Rattle.model_registers.specs.FileLaws.{IsConfigFile};
 ghost use Rattle.bridge_forward.specs.EndpointParts.{IsShort};
@@ -38,5 +39,26 @@ pub(crate) fn raise(cells: &mut Cells, off: u64, mask: u8)
 {
     if let Ok(off) = u16::try_from(off) {
         cells.raise(off, mask);
+    }
+}
+
+/// What the cell at `off` holds, 0 where none stands.
+pub(crate) fn value(cells: &Cells, off: u64) -> u8
+    requires { IsShort cells.now.now }
+    ensures { result ≡ (cell_at cells.now.now (config off)).value }
+{
+    let Ok(off) = u16::try_from(off) else {
+        return 0;
+    };
+    cells.value(off)
+}
+
+/// Puts a value into the cell at `off`, whatever its masks.
+pub(crate) fn set(cells: &mut Cells, off: u64, value: u8)
+    requires { IsShort cells.old.now }
+    ensures { cells.new ≡ record cells.old { now = set_value value (config off) cells.old.now } }
+{
+    if let Ok(off) = u16::try_from(off) {
+        cells.set(off, value);
     }
 }

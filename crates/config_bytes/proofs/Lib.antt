@@ -3,3 +3,4 @@ pub mod Offsets
 pub mod Shifts
 pub mod Outside
 pub mod DistinctTests
+pub mod Values

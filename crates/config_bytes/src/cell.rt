@@ -1,6 +1,7 @@
 //! One byte of configuration space or of a region.
 ghost use Rattle.std.specs.Prelude.{◌≡◌, ◌↔◌, IsOk, IfOk, bit_and};
 ghost use Rattle.model_registers.specs.Cell.{IsCell, constant, written, raised};
+ghost use Rattle.model_registers.specs.DeviceBytes.{with_value};
 
 use std::marker::Model;
 use thiserror::Error;
@@ -103,5 +104,14 @@ impl Cell {
         let Cell { value, rw, w1c } = self;
         let value = value | (mask & w1c);
         Cell { value, rw, w1c }
+    }
+    /// The cell with another value, whatever its masks, which stay.
+    pub fn with_value(self, byte: u8) -> Cell
+        ensures { result ≡ with_value byte self }
+    {
+        Cell {
+            value: byte,
+            ..self
+        }
     }
 }

@@ -4,6 +4,7 @@ ghost use Rattle.std.specs.List.{list_all};
 ghost use Rattle.model_registers.specs.Cell.{written};
 ghost use Rattle.lists.specs.Elements.{Each, all_pairs};
 ghost use Rattle.model_registers.specs.Registers.{config, changed, read, write, raise, cell_at};
+ghost use Rattle.model_registers.specs.DeviceBytes.{set_value};
 ghost use Rattle.model_registers.specs.ByteEnables.{enabled_bytes, is_enabled, lanes};
 ghost use Rattle.model_registers.specs.FileLaws.{IsConfigFile};
 ghost use Rattle.config_bytes.specs.CellFile.{HasDistinctOffsets, differ, KeepsPlaces, file_of, placed, placed_outside, reset_outside};
@@ -210,6 +211,27 @@ impl Cells {
         if at < self.table.len() {
             self.table[at] = self.table[at].raised(mask);
         }
+    }
+
+    /// What the cell at `off` holds, 0 where none stands.
+    pub fn value(&self, off: u16) -> u8
+        ensures { result ≡ (cell_at self.now.now (config off)).value }
+    {
+        self.byte_at(off, true)
+    }
+
+    /// Puts a value into the cell at `off`, whatever its masks, which stay. All other cells stay, and
+    /// where none stands nothing changes. A gap of the table looks like a cell, so the offsets are asked.
+    pub fn set(&mut self, off: u16, value: u8)
+        ensures cells { self.new ≡ record self.old { now = set_value value (config off) self.old.now } }
+        ensures places { IsConfigFile self.new.now }
+        ensures kept { KeepsPlaces self.new }
+    {
+        if is_free(off, &self.initial) {
+            return;
+        }
+        let at = usize::from(off);
+        self.table[at] = self.table[at].with_value(value);
     }
 
     /// Goes back to the cells that `new` was given.

@@ -1,3 +1,4 @@
 pub mod HostState
 pub mod Landings
 pub mod Targets
+pub mod DeviceValues

@@ -3,6 +3,7 @@ ghost use Rattle.std.specs.Prelude.{◌≡◌, ◌%◌, ◌<◌, IfOk, IfSome, I
 ghost use Rattle.std.specs.Option.{option_and_then};
 ghost use Rattle.lists.specs.Elements.{EachPair};
 ghost use Rattle.model_registers.specs.Registers.{raise};
+ghost use Rattle.model_registers.specs.DeviceBytes.{is_device_byte, set_value};
 ghost use Rattle.model_registers.specs.ByteEnables.{lanes, IsWidth};
 ghost use Rattle.bars.specs.Kinds.{named_space};
 ghost use Rattle.model_board.specs.Paths.{path_before, path_eq};
@@ -16,6 +17,7 @@ ghost use Rattle.bridge_forward.specs.Lending.{endpoint_at, with_endpoint_reset}
 ghost use Rattle.bridge_forward.specs.Locating.{located_claim};
 ghost use Rattle.bridge_forward.specs.RoutingRows.{secondary_nth};
 ghost use Rattle.paths.specs.BusAddresses.{bus_address_of};
+ghost use Rattle.host_bridge.specs.DeviceValues.{value_at};
 ghost use Rattle.host_bridge.specs.HostState.{with_functions, with_latch};
 ghost use Rattle.host_bridge.specs.Landings.{IsLanding};
 
@@ -184,6 +186,34 @@ impl Host {
     {
         match self.root.endpoint_mut(path) {
             Some(endpoint) => endpoint.raise(place, off, mask),
+            None => unreachable!(),
+        }
+    }
+
+    /// What a byte of the device's own holds in the endpoint at a path, 0 where no cell stands.
+    pub fn device_value(&mut self, path: &Path, place: Place, off: u64) -> u8
+        requires there { IsSome (endpoint_at self.old.state.functions path.now) }
+        requires own { IsTrue (is_device_byte (place_of place off)) }
+        ensures value { result ≡ value_at (place_of place off) (endpoint_at self.old.state.functions path.now) }
+        ensures after { self.new ≡ self.old }
+    {
+        match self.root.endpoint_mut(path) {
+            Some(endpoint) => endpoint.value(place, off),
+            None => unreachable!(),
+        }
+    }
+
+    /// Puts a value into a byte of the device's own in the endpoint at a path, whatever the cell's masks,
+    /// which stay. All other cells stay, and where none stands nothing changes.
+    pub fn set_device_value(&mut self, path: &Path, place: Place, off: u64, value: u8)
+        requires there { IsSome (endpoint_at self.old.state.functions path.now) }
+        requires own { IsTrue (is_device_byte (place_of place off)) }
+        ensures { let fs = self.old.state.functions in
+            let set = with_file (set_value value (place_of place off)) path.now fs in
+            self.new ≡ with_functions set self.old }
+    {
+        match self.root.endpoint_mut(path) {
+            Some(endpoint) => endpoint.set(place, off, value),
             None => unreachable!(),
         }
     }

@@ -1,0 +1,87 @@
+-- A value that is put into a cell of a table, where one stands.
+use Rattle.std.proofs.Common.{◌≡◌, ℕ, ◌<◌, ◌%◌, Bool, true, false, not, ◌&&◌, ◌||◌, cond, eqb, List, [], ◌∷◌, length, get_or, refl, sym, ap, ◌∙◌, subst, arith}
+use Rattle.std.specs.List.{list_all}
+use Rattle.std.proofs.Math.ListN.{set}
+use Rattle.std.proofs.lemmas.List.{length-set}
+use Rattle.lists.specs.Elements.{Each}
+use Rattle.std.proofs.lemmas.Bool.{eqb-true}
+use Rattle.model_registers.specs.Cell.{Cell}
+use Rattle.model_registers.specs.Registers.{config, File, cell_at, changed}
+use Rattle.model_registers.specs.FileLaws.{has_place}
+use Rattle.model_registers.specs.DeviceBytes.{with_value, set_value}
+use Rattle.model_registers.proofs.RegisterFiles.{place_turned}
+use Rattle.model_registers.proofs.Files.{change_none}
+use Rattle.model_registers.proofs.DeviceBytes.{change_beside, change_there}
+use Rattle.config_bytes.specs.CellFile.{CellFile, file_of, file_from, IsTable}
+use Rattle.config_bytes.proofs.Tables.{ChangesAt, put_changes, file_from-changed, view_changes}
+
+-- no cell stands at the offset
+abbrev pub free : ℕ → List (ℕ × Cell) → Bool
+free off cs = list_all (λ c. not (eqb off c.0)) cs
+
+-- as a test of the file
+stands-is : (off : ℕ) (table : List Cell) (cs : List (ℕ × Cell)) → has_place (file_from table cs) (config off) ≡ not (free off cs)
+stands-is off table [] = refl
+stands-is off table (c ∷ cs) =
+    let turned : eqb c.0 off ≡ eqb off c.0 = place_turned (config c.0) (config off) in
+    ap (λ (t : Bool). t || has_place (file_from table cs) (config off)) turned ∙ ap (λ (t : Bool). eqb off c.0 || t) (stands-is off table cs) ∙ joined (eqb off c.0) (free off cs)
+  where
+    joined : (t u : Bool) → (t || not u) ≡ not (not t && u)
+    joined true u = refl
+    joined false u = refl
+
+within : (off n : ℕ) (cs : List (ℕ × Cell)) → Each (λ c. c.0 < n) cs → free off cs ≡ false → off < n
+within off n [] room h = cc
+within off n (c ∷ cs) room h = cases (eqb off c.0) refl h (within off n cs room.1)
+  where
+    cases : (t : Bool) → eqb off c.0 ≡ t → (not t && free off cs) ≡ false → (free off cs ≡ false → off < n) → off < n
+    cases true e h more = let same : off ≡ c.0 = eqb-true off c.0 e in let P : ℕ → Type 0 = λ m. m < n in subst P (sym same) room.0
+    cases false e h more = more h
+
+-- a cell that stands changes at its place alone
+change_at : (f : Cell → Cell) (file : File) (a b : ℕ) → has_place file (config a) ≡ true → cell_at (changed f (config a) file) (config b) ≡ cond (eqb a b) (f (cell_at file (config b))) (cell_at file (config b))
+change_at f file a b stands = cases (eqb a b) refl
+  where
+    cases : (t : Bool) → eqb a b ≡ t → cell_at (changed f (config a) file) (config b) ≡ cond t (f (cell_at file (config b))) (cell_at file (config b))
+    cases true e =
+        let P : ℕ → Type 0 = λ n. cell_at (changed f (config a) file) (config n) ≡ f (cell_at file (config n)) in
+        subst P (eqb-true a b e) (change_there f file (config a) stands)
+    cases false e = change_beside f file (config a) (config b) e
+
+module _ (table : List Cell) (cs : List (ℕ × Cell)) (is : IsTable table cs) (off v : ℕ) (byte : v < 256) where
+  abbrev before : CellFile
+  before = record { now = file_from table cs; initial = file_of cs }
+
+  low : v % 256 ≡ v
+  low = omega (arith, byte)
+
+  -- nothing stands there
+  pub none_set : free off cs ≡ true → (old : CellFile) → before ≡ old → old ≡ record old { now = set_value v (config off) old.now }
+  none_set none old shown =
+      let P : CellFile → Type 0 = λ x. x ≡ record x { now = set_value v (config off) x.now } in
+      subst P shown
+      (ap (λ (file : File). let x : CellFile = record { now = file; initial = file_of cs } in x)
+      (sym (change_none (with_value (v % 256)) (file_from table cs) (config off) (stands-is off table cs ∙ ap not none))))
+
+  module _ (taken : free off cs ≡ false) where
+    pub inside : off < length table
+    inside = within off (length table) cs is.room taken
+
+    module _ (at : ℕ) (same : at ≡ off) (x old : Cell) (read : old ≡ get_or table at old) (becomes : x ≡ with_value v old) where
+      changes : ChangesAt (with_value v) off table (set table at x)
+      changes = put_changes (with_value v) table (length table) at off x old refl same (let P : ℕ → Type 0 = λ n. n < length table in subst P (sym same) inside) read becomes
+
+      pub table_set : IsTable (set table at x) cs
+      table_set = record {
+        distinct = is.distinct;
+        room = subst (λ n. Each (λ (c : ℕ × Cell). c.0 < n) cs) (sym (length-set table at x)) is.room;
+        shows = λ q.
+            changes q ∙ ap (λ (c : Cell). cond (eqb off q) (with_value v c) c) (is.shows q)
+            ∙ sym (change_at (with_value v) (file_from table cs) off q (stands-is off table cs ∙ ap not taken))
+            ∙ sym (ap (λ (file : File). cell_at file (config q)) (file_from-changed (with_value v) off table (set table at x) changes cs));
+      }
+
+      pub view_set : (was : CellFile) → before ≡ was → let left : CellFile = record { now = file_from (set table at x) cs; initial = file_of cs } in left ≡ record was { now = set_value v (config off) was.now }
+      view_set was shown =
+          view_changes (with_value v) table (set table at x) cs off was changes shown
+          ∙ ap (λ (n : ℕ). let left : CellFile = record was { now = changed (with_value n) (config off) was.now } in left) (sym low)
