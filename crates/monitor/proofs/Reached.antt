@@ -116,7 +116,7 @@ module _ (w : WorldOver) (h : HostState) (names : List (List ℕ)) (gs : List Gu
     pub found_on_board : find (λ (f : BoardFunction). path_eq f.path slot.p) functions ≡ Some on_board
     found_on_board = found_at on_board functions held.index distinct board_row
 
-    places_same : places_of slot.f.file ≡ places_of left
+    pub places_same : places_of slot.f.file ≡ places_of left
     places_same = same_as_left w.handoff kept.lawful.handoff w.guests slot.p slot.f (seat n held slot)
 
     -- what the board shows of the bytes of which the guest has no copy

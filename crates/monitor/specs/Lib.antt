@@ -7,5 +7,6 @@ pub mod Configs
 pub mod Moves
 pub mod Raises
 pub mod Resets
+pub mod DeviceBytes
 pub mod Beginnings
 pub mod Queries

@@ -17,6 +17,7 @@
 mod beginning;
 mod config;
 mod cycles;
+mod device;
 mod engine;
 mod guest;
 mod landing;

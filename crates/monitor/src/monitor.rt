@@ -10,7 +10,7 @@ ghost use Rattle.model_guests.specs.WorldNow.{world_at_first, move_reply};
 ghost use Rattle.model_handoff.specs.DevicesOver.{after_device};
 ghost use Rattle.model_handoff.specs.SetUpCase.{over_set_up};
 ghost use Rattle.model_handoff.specs.WorldOver.{names_now, host_reply, after_meaning};
-ghost use Rattle.model_devices.specs.DeviceEvents.{resets, device_answer};
+ghost use Rattle.model_devices.specs.DeviceEvents.{device_answer, device_reads, device_writes, resets};
 ghost use Rattle.bus_scan.specs.declared.fault.Fault.TheVariants.{Memory};
 ghost use Rattle.model_queries.specs.Regions.{region_answer};
 ghost use Rattle.model_queries.specs.Located.{location};
@@ -19,6 +19,7 @@ ghost use Rattle.accesses.specs.Replies.{IsRefusal, IsShown};
 ghost use Rattle.monitor.specs.Views.{texts};
 ghost use Rattle.monitor.specs.ByIndex.{name_nth};
 ghost use Rattle.monitor.specs.Moves.{move_nth};
+ghost use Rattle.monitor.specs.DeviceBytes.{device_byte};
 ghost use Rattle.monitor.specs.Beginnings.{world_of};
 ghost use Rattle.monitor.specs.Queries.{region_named, hit_named};
 
@@ -123,6 +124,44 @@ impl Monitor {
         ensures refused { IsRefusal result → self.new ≡ self.old }
     {
         self.engine.reset(guest, slot)
+    }
+
+    /// What a byte of a guest's function holds, as its device reads it. Or refuses it: 303 for a slot
+    /// above 31, else 601 for an empty slot, else 303 for a configuration offset that is neither 6, 7 nor 40h
+    /// to FFh, a base address register at which no region begins or an offset that is not below the
+    /// region's size. 0 where no cell stands. Nothing changes, and no memory is taken.
+    pub fn device_read(&mut self, guest: usize, slot: u64, place: Place, off: u64) -> Reply
+        requires { guest < length self.old.guests }
+        ensures reply { let e = device_reads (device_byte slot place off) in
+            reply_of result ≡ device_answer (lone_of self.old.guests (name_nth self.old guest)) e }
+        ensures after { let e = device_reads (device_byte slot place off) in
+            self.new ≡ after_device self.old (name_nth self.old guest) e }
+        ensures same { self.new ≡ self.old }
+        ensures shown { IsShown result }
+    {
+        self.engine.device_read(guest, slot, place, off)
+    }
+
+    /// Puts a value into such a byte, as its device does: whatever the cell's masks, which stay. Or
+    /// refuses it and changes nothing, as a read does. Where no cell stands, nothing changes. No memory
+    /// is taken.
+    pub fn device_write(
+        &mut self,
+        guest: usize,
+        slot: u64,
+        place: Place,
+        off: u64,
+        value: u8,
+    ) -> Reply
+        requires { guest < length self.old.guests }
+        ensures reply { let e = device_writes (device_byte slot place off) value in
+            reply_of result ≡ device_answer (lone_of self.old.guests (name_nth self.old guest)) e }
+        ensures after { let e = device_writes (device_byte slot place off) value in
+            self.new ≡ after_device self.old (name_nth self.old guest) e }
+        ensures shown { IsShown result }
+        ensures refused { IsRefusal result → self.new ≡ self.old }
+    {
+        self.engine.device_write(guest, slot, place, off, value)
     }
 
     /// Answers a read by the host: what the board shows.

@@ -1,0 +1,33 @@
+-- A byte of a device, as code holds it.
+--     device_byte n place off      the byte of the function in slot n
+--     Reaches      the function in a slot whose device reaches the byte
+--     Refuses      the slots for which such an event is refused by a number
+use Rattle.std.specs.Prelude.{ℕ, List, Option, Some, ◌≡◌, ◌≤◌, true, slice_get, is_some}
+use Rattle.model_registers.specs.DeviceBytes.{is_device_byte}
+use Rattle.model_registers.specs.Decoding.{Function}
+use Rattle.model_board.specs.Paths.{Path}
+use Rattle.model_board.specs.State.{State}
+use Rattle.model_guests.specs.Slots.{Slots}
+use Rattle.model_devices.specs.DeviceEvents.{DeviceByte, device_place, byte_fault}
+use Rattle.headers.specs.declared.place.Place.{Place}
+use Rattle.headers.specs.Places.{place_of}
+use Rattle.accesses.specs.Accesses.{part_of}
+use Rattle.monitor.specs.declared.guest.Held.{Held}
+use Rattle.monitor.specs.Keeping.{IsHeld, AreSlots}
+
+abbrev pub device_byte : ℕ → Place → ℕ → DeviceByte
+device_byte n place off = record { slot = n; part = part_of place; offset = off }
+
+pub record Reaches (slots : List (Option Held)) (n : ℕ) (place : Place) (off : ℕ) (path : Path) : Type 0 where
+  pub held : Held
+  pub there : slice_get slots n ≡ Some (Some held)
+  pub path_is : path ≡ held.path
+  pub low : n ≤ 31
+  pub reaches : (s : State) (p : Path) (f : Function) → IsHeld s p f held
+      → is_some (device_place f (part_of place) off) ≡ true
+  pub own : is_device_byte (place_of place off) ≡ true
+
+abbrev pub Refuses : List (Option Held) → ℕ → Place → ℕ → ℕ → Type 0
+Refuses slots n place off number =
+    (s : State) (qs : List (Option Path)) (fs : Slots) → AreSlots s qs fs slots
+    → byte_fault fs (device_byte n place off) ≡ Some number

@@ -1,0 +1,114 @@
+//! What a device itself reads and writes of its function's registers.
+ghost use Rattle.std.specs.Prelude.{◌≡◌, ◌<◌, IfErr, IfOk, IsTrue, is_some, length};
+ghost use Rattle.model_registers.specs.Decoding.{Function};
+ghost use Rattle.model_registers.specs.DeviceBytes.{is_device_byte};
+ghost use Rattle.model_board.specs.Paths.{Path};
+ghost use Rattle.model_board.specs.State.{State};
+ghost use Rattle.model_guests.specs.Guests.{lone_of};
+ghost use Rattle.model_devices.specs.DeviceEvents.{device_answer, device_place, device_reads, device_writes};
+ghost use Rattle.model_handoff.specs.DevicesOver.{after_device};
+ghost use Rattle.headers.specs.Places.{place_of};
+ghost use Rattle.accesses.specs.Accesses.{part_of, reply_of};
+ghost use Rattle.accesses.specs.Replies.{IsRefusal, IsShown, has_words};
+ghost use Rattle.monitor.specs.ByIndex.{name_nth};
+ghost use Rattle.monitor.specs.Keeping.{IsHeld};
+ghost use Rattle.monitor.specs.DeviceBytes.{Reaches, Refuses, device_byte};
+
+use crate::config::held_in;
+use crate::engine::Engine;
+use crate::guest::Held;
+use crate::raising::has_place;
+use accesses::{Place, Reply};
+use host_bridge::Route;
+use paths::Path;
+
+/// Whether the byte is a device's own: Status, a register from 40h on, or a byte of a region.
+fn is_device_byte(place: Place, off: u64) -> bool
+    ensures { result ≡ is_device_byte (place_of place off) }
+{
+    match place {
+        Place::Cfg => off == 0x06 || off == 0x07 || off >= 0x40,
+        Place::Bar(_) => true,
+    }
+}
+
+/// Whether the device of a function in a slot reaches the byte.
+fn reaches(held: &Held, place: Place, off: u64) -> bool
+    ensures place { (s : State) (p : Path) (f : Function) → IsHeld s p f held.now
+        → result ≡ is_some (device_place f (part_of place) off) }
+    ensures own { IsTrue result → IsTrue (is_device_byte (place_of place off)) }
+{
+    has_place(held, place, off) && is_device_byte(place, off)
+}
+
+/// The path of the function in a slot, if its device reaches the byte, or the number of the refusal.
+fn reached(slots: &[Option<Held>], slot: u64, place: Place, off: u64) -> Result<&Path, u16>
+    ensures path { IfOk result (λ p. Reaches slots.now slot place off p.now) }
+    ensures refused { IfErr result (λ n. Refuses slots.now slot place off n) }
+    ensures words { IfErr result (λ n. IsTrue (has_words n)) }
+{
+    if slot > 31 {
+        return Err(303);
+    }
+    let Some(held) = held_in(slots, slot as usize) else {
+        return Err(601);
+    };
+    if !reaches(held, place, off) {
+        return Err(303);
+    }
+    Ok(&held.path)
+}
+
+impl<R: Route> Engine<R> {
+    ghost use Rattle.monitor.specs.Views.{texts, world_shown};
+    ghost use Rattle.monitor.specs.Keeping.{IsSound};
+
+    /// What a byte of a guest's function holds, as its device reads it. Or refuses it: 303 for a slot
+    /// above 31, else 601 for an empty slot, else 303 for a configuration offset that is neither 6, 7 nor 40h
+    /// to FFh, a base address register at which no region begins or an offset that is not below the
+    /// region's size. 0 where no cell stands. Nothing changes, and no memory is taken.
+    pub fn device_read(&mut self, guest: usize, slot: u64, place: Place, off: u64) -> Reply
+        requires { guest < length self.old.guests }
+        ensures reply { let e = device_reads (device_byte slot place off) in
+            reply_of result ≡ device_answer (lone_of self.old.guests (name_nth self.old guest)) e }
+        ensures after { let e = device_reads (device_byte slot place off) in
+            self.new ≡ after_device self.old (name_nth self.old guest) e }
+        ensures same { self.new ≡ self.old }
+        ensures shown { IsShown result }
+    {
+        let _ = &self.names;
+        match reached(&self.guests[guest].slots, slot, place, off) {
+            Ok(path) => Reply::Value(u32::from(self.host.device_value(path, place, off)), 1),
+            Err(number) => Reply::Refused(number),
+        }
+    }
+
+    /// Puts a value into such a byte, as its device does: whatever the cell's masks, which stay. Or
+    /// refuses it and changes nothing, as a read does. Where no cell stands, nothing changes. No memory
+    /// is taken.
+    pub fn device_write(
+        &mut self,
+        guest: usize,
+        slot: u64,
+        place: Place,
+        off: u64,
+        value: u8,
+    ) -> Reply
+        requires { guest < length self.old.guests }
+        ensures reply { let e = device_writes (device_byte slot place off) value in
+            reply_of result ≡ device_answer (lone_of self.old.guests (name_nth self.old guest)) e }
+        ensures after { let e = device_writes (device_byte slot place off) value in
+            self.new ≡ after_device self.old (name_nth self.old guest) e }
+        ensures shown { IsShown result }
+        ensures refused { IsRefusal result → self.new ≡ self.old }
+    {
+        let _ = &self.names;
+        match reached(&self.guests[guest].slots, slot, place, off) {
+            Ok(path) => {
+                self.host.set_device_value(path, place, off, value);
+                Reply::Done
+            }
+            Err(number) => Reply::Refused(number),
+        }
+    }
+}
