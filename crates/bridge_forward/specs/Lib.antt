@@ -13,3 +13,4 @@ pub mod Skips
 pub mod Lending
 pub mod Locating
 pub mod RoutingRows
+pub mod BasesNow

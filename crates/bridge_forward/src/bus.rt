@@ -4,6 +4,8 @@ ghost use Rattle.std.specs.Borrow.{sem};
 ghost use Rattle.std.specs.Option.{option_and_then, option_copied_mut};
 ghost use Rattle.lists.specs.Elements.{EachPair};
 ghost use Rattle.model_board.specs.Routing.{routing};
+ghost use Rattle.bars.specs.Slots.{bases_from};
+ghost use Rattle.bridge_forward.specs.BasesNow.{bases_nth};
 ghost use Rattle.bridge_forward.specs.Cycled.{reached_by};
 ghost use Rattle.bridge_forward.specs.RoutingRows.{secondary_nth};
 ghost use Rattle.model_board.specs.Paths.{path_before, path_eq};
@@ -21,7 +23,7 @@ use crate::function::Function;
 use crate::routes::Routes;
 use crate::routing::RoutingRow;
 use crate::walk::{locate, position, reach};
-use bars::Space;
+use bars::{Region, Space};
 use paths::Path;
 use std::alloc::{AllocError, Global};
 use std::marker::Model;
@@ -193,6 +195,18 @@ impl Bus {
         }
         let node = &self.nodes[index];
         node.function.secondary()
+    }
+
+    /// At the index of its first register, each region of the endpoint at an index, where its registers say
+    /// now; none where no endpoint stands.
+    pub fn placed_nth(&self, index: usize) -> [Option<Region>; 6]
+        ensures { bases_from 0 result ≡ bases_nth self.now index }
+    {
+        if index >= self.nodes.len() {
+            return [None; 6];
+        }
+        let node = &self.nodes[index];
+        node.function.placed()
     }
 
     /// The index of the function that a configuration cycle reaches, put on bus 0. It changes nothing.

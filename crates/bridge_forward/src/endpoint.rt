@@ -7,6 +7,7 @@ ghost use Rattle.model_registers.specs.DeclarationRules.{IsLawfulEndpoint};
 ghost use Rattle.model_registers.specs.EndpointTable.{endpoint_reset};
 ghost use Rattle.model_registers.specs.Decoding.{base_address, command_word, lone_claim};
 ghost use Rattle.bars.specs.Kinds.{named_space};
+ghost use Rattle.bars.specs.Slots.{bases_from};
 ghost use Rattle.bars.specs.Hits.{named_hit};
 ghost use Rattle.headers.specs.Places.{place_of};
 ghost use Rattle.model_registers.specs.CopiedFiles.{after_reset};
@@ -16,11 +17,20 @@ use crate::blocks::{bar_decls, block_files, reset_all};
 use crate::offsets;
 use crate::region_now::RegionNow;
 use crate::routing::regions_of;
-use bars::{Bars, Space};
+use bars::{Bars, Region, Space};
 use config_bytes::Cells;
 use headers::{Endpoint, EndpointDecl, Place, command};
 use std::alloc::{AllocError, Global};
 use std::marker::Model;
+
+/// A copy of what stands at six registers.
+fn six(regions: &[Option<Region>; 6]) -> [Option<Region>; 6]
+    ensures { result ≡ regions.now }
+{
+    [
+        regions[0], regions[1], regions[2], regions[3], regions[4], regions[5],
+    ]
+}
 
 /// An endpoint: what is declared of it, and its registers as they stand.
 ///
@@ -96,6 +106,13 @@ impl EndpointFn {
             map base_of v.items ≡ map (base_address self.now.file) self.now.decl.regions) }
     {
         regions_of(alloc, self.bars.regions())
+    }
+
+    /// The same by the index of its first register, without memory.
+    pub(crate) fn placed(&self) -> [Option<Region>; 6]
+        ensures { bases_from 0 result ≡ map (base_address self.now.file) self.now.decl.regions }
+    {
+        six(self.bars.regions())
     }
 
     /// The enabled bytes of the word at `off`, a multiple of 4, in the block of the region at the base

@@ -7,6 +7,8 @@ ghost use Rattle.model_registers.specs.ByteEnables.{lanes};
 ghost use Rattle.model_registers.specs.Decoding.{command_word};
 ghost use Rattle.model_board.specs.Board.{is_bridge};
 ghost use Rattle.model_board.specs.Routing.{ranges_of};
+ghost use Rattle.bars.specs.Slots.{bases_from};
+ghost use Rattle.bridge_forward.specs.BasesNow.{bases_of};
 ghost use Rattle.bridge_forward.specs.RoutingRows.{named_ranges, secondary_of};
 ghost use Rattle.model_board.specs.Lawful.{IsLawfulDecl};
 ghost use Rattle.model_board.specs.Cycles.{secondary_register, subordinate_register};
@@ -16,6 +18,7 @@ use crate::cycle::Op;
 use crate::decl::Declared;
 use crate::endpoint::EndpointFn;
 use crate::routing::{Ranges, RoutingRow};
+use bars::Region;
 use paths::Path;
 use std::alloc::{AllocError, Global};
 
@@ -118,6 +121,16 @@ impl Function {
         match self {
             Function::Endpoint(endpoint) => Ok(Ranges::Regions(endpoint.regions(alloc)?)),
             Function::Bridge(bridge) => Ok(bridge.windows()),
+        }
+    }
+
+    /// At the index of its first register, each region where its registers say now; none of a bridge.
+    pub(crate) fn placed(&self) -> [Option<Region>; 6]
+        ensures { bases_from 0 result ≡ bases_of (decl_of self.now) (file_of self.now) }
+    {
+        match self {
+            Function::Endpoint(endpoint) => endpoint.placed(),
+            Function::Bridge(_) => [None; 6],
         }
     }
 

@@ -15,6 +15,8 @@ ghost use Rattle.model_board.specs.Ports.{selected, selected_register, config_re
 ghost use Rattle.headers.specs.Places.{place_of};
 ghost use Rattle.bridge_forward.specs.Lending.{endpoint_at, with_endpoint_reset};
 ghost use Rattle.bridge_forward.specs.Locating.{located_claim};
+ghost use Rattle.bars.specs.Slots.{bases_from};
+ghost use Rattle.bridge_forward.specs.BasesNow.{bases_nth};
 ghost use Rattle.bridge_forward.specs.RoutingRows.{secondary_nth};
 ghost use Rattle.paths.specs.BusAddresses.{bus_address_of};
 ghost use Rattle.host_bridge.specs.DeviceValues.{value_at};
@@ -23,7 +25,7 @@ ghost use Rattle.host_bridge.specs.Landings.{IsLanding};
 
 use crate::latch::{Latch, Target};
 use crate::route::Route;
-use bars::{Space, enabled_bits};
+use bars::{Region, Space, enabled_bits};
 use bridge_forward::{Bus, Claim, Located, Op, Path, RoutingRow};
 use config_bytes::{all_ones, enables_of, into_lanes, lowered};
 use headers::{Apertures, Place};
@@ -123,6 +125,13 @@ impl Host {
         self.latch = Latch::CLEAR;
     }
 
+    /// Clears the address latch: it is 0 afterwards, and enables no CONFIG_DATA.
+    pub fn clear_latch(&mut self)
+        ensures { self.new ≡ with_latch 0 self.old }
+    {
+        self.latch = Latch::CLEAR;
+    }
+
     /// The first claim of an address in path order, then by register: a region that decodes it, where
     /// each bridge above forwards it.
     pub fn claimant(&self, space: Space, addr: u64) -> Option<Claim>
@@ -141,7 +150,7 @@ impl Host {
     }
 
     /// The index of the function at a path, if one stands there.
-    pub(crate) fn index_of(&self, path: &Path) -> Option<usize>
+    pub fn index_of(&self, path: &Path) -> Option<usize>
         ensures function { let fs = self.now.state.functions in
             option_and_then (slice_get fs) result ≡ find (λ f. path_eq f.path path.now) fs }
         ensures within { IfSome result (λ i. i < length self.now.state.functions) }
@@ -162,6 +171,14 @@ impl Host {
         ensures { result ≡ secondary_nth self.now.state.functions index }
     {
         self.root.secondary_nth(index)
+    }
+
+    /// At the index of its first register, each region of the endpoint at an index, where its registers say
+    /// now; none where no endpoint stands.
+    pub fn placed_nth(&self, index: usize) -> [Option<Region>; 6]
+        ensures { bases_from 0 result ≡ bases_nth self.now.state.functions index }
+    {
+        self.root.placed_nth(index)
     }
 
     /// The index of the function that configuration accesses at these bus registers' number reach. Nothing
