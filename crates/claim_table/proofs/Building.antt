@@ -1,14 +1,12 @@
 -- The table of a board that is set up: its regions stand apart, and its claims are those of the board.
---     IsSortedOf es fs      fs has the entries es, by first address
-use Rattle.std.proofs.Common.{◌≡◌, ℕ, zero, suc, ◌+◌, ◌-◌, ◌≤◌, ◌<◌, ◌⊎◌, inl, inr, Bool, true, false, cond, List, [], ◌∷◌, ◌++◌, length, get_or, Option, Some, None, refl, sym, ap, ap₂, ◌∙◌, subst, arith, leb, ltb}
-use Rattle.std.specs.Prelude.{map, filter, find, slice_get, ◌↔◌}
+use Rattle.std.proofs.Common.{◌≡◌, ℕ, zero, suc, ◌+◌, ◌-◌, ◌≤◌, ◌<◌, Bool, true, false, cond, List, [], ◌∷◌, ◌++◌, length, get_or, Option, Some, None, refl, sym, ap, ap₂, ◌∙◌, subst, arith, leb, ltb}
+use Rattle.std.specs.Prelude.{map, filter, find, slice_get}
 use Rattle.std.specs.Option.{option_map}
-use Rattle.std.specs.List.Sorted.{IsPermutation, IsNonDecreasingBy}
 use Rattle.std.proofs.lemmas.List.{map-append, length-map}
-use Rattle.lists.specs.Elements.{Each, EachPair, first_of_two, first_some, IsIn}
-use Rattle.lists.proofs.EachLemmas.{each_permutation, pairs_map, pairs_filter, each_append}
+use Rattle.lists.specs.Elements.{Each, first_of_two, first_some, IsIn}
+use Rattle.lists.proofs.EachLemmas.{each_append}
 use Rattle.model_registers.specs.Declarations.{Kind, io_kind, mem32, mem64, least_size, IsLawfulRegion}
-use Rattle.model_registers.specs.Decoding.{Space, io, memory, same_space}
+use Rattle.model_registers.specs.Decoding.{Space, io, memory}
 use Rattle.model_board.specs.Paths.{Path}
 use Rattle.model_board.specs.Board.{Row, Board}
 use Rattle.model_board.specs.State.{BoardFunction}
@@ -23,12 +21,11 @@ use Rattle.model_board.specs.Routing.{routing}
 use Rattle.model_set_up.specs.SetUp.{set_up_state}
 use Rattle.model_set_up.specs.SetUpWrites.{settings, Setting}
 use Rattle.model_set_up.specs.PlacedRegions.{PlacedRegion, placed_regions, claim_in, placed_claim}
-use Rattle.model_set_up.specs.UniqueClaimant.{CanBePlaced, ShareNone, HasUniqueClaims}
-use Rattle.lists.proofs.Members.{each_in, each_from, in_front, in_back, front_or_back, in_map, from_map, in_filter, from_filter}
+use Rattle.model_set_up.specs.UniqueClaimant.{CanBePlaced, HasUniqueClaims}
+use Rattle.lists.proofs.Members.{each_in, each_from}
 use Rattle.lists.proofs.FirstFound.{found_passes, each_found}
-use Rattle.model_set_up.proofs.Holders.{self_space}
 use Rattle.model_set_up.proofs.PlacedRegions.{Source, source, lawful_regions}
-use Rattle.model_set_up.proofs.UniqueClaimant.{unique_claimant, claim_in_any_order}
+use Rattle.model_set_up.proofs.UniqueClaimant.{unique_claimant}
 use Rattle.host_bridge.specs.HostState.{HostState}
 use Rattle.window_packing.specs.Readies.{ReadyBoard, board_below, IsReady}
 use Rattle.claim_table.specs.declared.entry.Entry.{Entry}
@@ -36,23 +33,9 @@ use Rattle.claim_table.specs.Tables.{TableEntry, table_claim, IsOfFunction, Fits
 use Rattle.claim_table.specs.Entries.{entries_from, lies_in, by_space, AreEntries, path_nth, table_entry, table_of}
 use Rattle.claim_table.specs.Fitting.{map_map, paths, nth_path, fits_by_routing}
 use Rattle.claim_table.proofs.Gathering.{region_of, is_of, of_board, paths_read, known}
-use Rattle.claim_table.proofs.Sorting.{moved, moved_back, Disjoint, sorted_apart}
+use Rattle.claim_table.proofs.Listing.{IsSortedOf, each_unmap, AreGathered, entries_are, claims_listed}
 
-pub record IsSortedOf (es fs : List Entry) : Type 0 where
-  pub all : IsPermutation es fs
-  pub rising : IsNonDecreasingBy (λ (e : Entry). e.first) fs
-
--- ---- what holds of the values of a map holds of its elements
-
-each_unmap : {A B : Type 0} (P : B → Type 0) (f : A → B) (xs : List A) → Each P (map f xs) → Each (λ x. P (f x)) xs
-each_unmap P f [] h = tt
-each_unmap P f (x ∷ xs) h = (h.0, each_unmap P f xs h.1)
-
-pairs_unmap : {A B : Type 0} (R : B → B → Type 0) (f : A → B) (xs : List A) → EachPair R (map f xs) → EachPair (λ x y. R (f x) (f y)) xs
-pairs_unmap R f [] h = tt
-pairs_unmap R f (x ∷ xs) h = (each_unmap (R (f x)) f xs h.0, pairs_unmap R f xs h.1)
-
-some_bytes : (kind : Kind) (n : ℕ) → least_size kind ≤ n → 0 < n
+pub some_bytes : (kind : Kind) (n : ℕ) → least_size kind ≤ n → 0 < n
 some_bytes io_kind n h = omega (arith, h)
 some_bytes (mem32 pref) n h = omega (arith, h)
 some_bytes (mem64 pref) n h = omega (arith, h)
@@ -79,64 +62,20 @@ module _ (b : Board) (a : Apertures) (can : CanBePlaced b a) where
           let some : 0 < s.region.size = some_bytes s.region.kind s.region.size lawful.size_is_lawful.not_less in
           let same : q.size ≡ s.region.size = ap (λ (x : PlacedRegion). x.size) s.is in omega (arith, some, same)
 
-  sizes : (space : Space) → Each (λ (e : Entry). 0 < e.size) (all_of space)
-  sizes space = each_unmap (λ (q : PlacedRegion). 0 < q.size) (region_of ps space) (all_of space)
-      (subst (Each (λ (q : PlacedRegion). 0 < q.size)) (sym (regions_are space)) (each_from (λ (q : PlacedRegion). 0 < q.size) (filter (is_of space) (placed_regions b a)) (λ q m. positive q (from_filter (is_of space) q (placed_regions b a) m).0)))
-
-  disjoint : (space : Space) → EachPair Disjoint (all_of space)
-  disjoint space =
-      pairs_map (λ (d e : Entry). ShareNone (region_of ps space d) (region_of ps space e)) Disjoint (all_of space) (λ d e none. none (self_space space))
-      (pairs_unmap ShareNone (region_of ps space) (all_of space) (subst (EachPair ShareNone) (sym (regions_are space)) (pairs_filter ShareNone (is_of space) (placed_regions b a) unique.apart)))
-
-  pub entries : (space : Space) (fs : List Entry) → IsSortedOf (all_of space) fs → AreEntries ps fs
-  entries space fs h = record {
-    apart = sorted_apart (all_of space) fs (disjoint space) (sizes space) h.all h.rising;
-    known =
-        each_permutation (λ (e : Entry). e.function < length ps) (all_of space) fs h.all
-        (known space 0 (settings b a) (length ps) (let n : length (settings b a) ≡ length b = length-map b _ in let m : length ps ≡ length b = length-map b (λ (r : Row). r.path) in omega (arith, n, m)));
+  gathered : AreGathered ps (placed_regions b a) all_of
+  gathered = record {
+    regions = regions_are;
+    apart = unique.apart;
+    sized = each_from (λ (q : PlacedRegion). 0 < q.size) (placed_regions b a) positive;
+    known = λ space. known space 0 (settings b a) (length ps) (let n : length (settings b a) ≡ length b = length-map b _ in let m : length ps ≡ length b = length-map b (λ (r : Row). r.path) in omega (arith, n, m));
   }
 
-  -- ---- the claims
+  pub entries : (space : Space) (fs : List Entry) → IsSortedOf (all_of space) fs → AreEntries ps fs
+  entries space fs h = entries_are ps (placed_regions b a) all_of gathered space fs h
 
   module _ (ports mems : List Entry) (hp : IsSortedOf (all_of io) ports) (hm : IsSortedOf (all_of memory) mems) where
-    abbrev listed : List PlacedRegion
-    listed = map (region_of ps io) ports ++ map (region_of ps memory) mems
-
-    placed_of : (space : Space) (fs : List Entry) → IsPermutation (all_of space) fs → (q : PlacedRegion) → IsIn q (map (region_of ps space) fs) → IsIn q (placed_regions b a)
-    placed_of space fs perm q m =
-        let f = from_map (region_of ps space) q fs m in
-        let k : IsIn (region_of ps space f.0) (map (region_of ps space) (all_of space)) = in_map (region_of ps space) f.0 (all_of space) (moved (all_of space) fs perm f.0 f.1) in
-        let l : IsIn (region_of ps space f.0) (filter (is_of space) (placed_regions b a)) = subst (IsIn (region_of ps space f.0)) (regions_are space) k in
-        subst (λ (x : PlacedRegion). IsIn x (placed_regions b a)) (sym f.2) (from_filter (is_of space) (region_of ps space f.0) (placed_regions b a) l).0
-
-    listed_in : (space : Space) (fs : List Entry) → IsPermutation (all_of space) fs → (q : PlacedRegion) → IsIn q (placed_regions b a) → same_space q.space space ≡ true → IsIn q (map (region_of ps space) fs)
-    listed_in space fs perm q m here =
-        let l : IsIn q (map (region_of ps space) (all_of space)) = subst (IsIn q) (sym (regions_are space)) (in_filter (is_of space) q (placed_regions b a) m here) in
-        let f = from_map (region_of ps space) q (all_of space) l in
-        subst (λ (x : PlacedRegion). IsIn x (map (region_of ps space) fs)) (sym f.2) (in_map (region_of ps space) f.0 fs (moved_back (all_of space) fs perm f.0 f.1))
-
-    of_either : (s : Space) → (same_space s io ≡ true) ⊎ (same_space s memory ≡ true)
-    of_either io = inl refl
-    of_either memory = inr refl
-
-    same_regions : (q : PlacedRegion) → IsIn q listed ↔ IsIn q (placed_regions b a)
-    same_regions q = (λ m. by_part (front_or_back q (map (region_of ps io) ports) (map (region_of ps memory) mems) m), λ m. by_space m (of_either q.space))
-      where
-        by_part : IsIn q (map (region_of ps io) ports) ⊎ IsIn q (map (region_of ps memory) mems) → IsIn q (placed_regions b a)
-        by_part (inl m) = placed_of io ports hp.all q m
-        by_part (inr m) = placed_of memory mems hm.all q m
-
-        by_space : IsIn q (placed_regions b a) → (same_space q.space io ≡ true) ⊎ (same_space q.space memory ≡ true) → IsIn q listed
-        by_space m (inl here) = in_front q (map (region_of ps io) ports) (map (region_of ps memory) mems) (listed_in io ports hp.all q m here)
-        by_space m (inr here) = in_back q (map (region_of ps io) ports) (map (region_of ps memory) mems) (listed_in memory mems hm.all q m here)
-
-    regions_listed : map (λ (e : TableEntry). e.region) (table_of ps ports mems) ≡ listed
-    regions_listed =
-        map-append (λ (e : TableEntry). e.region) (map (table_entry ps io) ports) (map (table_entry ps memory) mems)
-        ∙ ap₂ ◌++◌ (map_map (λ (e : TableEntry). e.region) (table_entry ps io) ports) (map_map (λ (e : TableEntry). e.region) (table_entry ps memory) mems)
-
     pub claims_placed : (space : Space) (n : ℕ) → table_claim (table_of ps ports mems) space n ≡ placed_claim b a space n
-    claims_placed space n = ap (first_some (claim_in space n)) regions_listed ∙ claim_in_any_order b a can listed same_regions space n
+    claims_placed space n = claims_listed ps (placed_regions b a) all_of gathered ports mems hp hm space n
 
 -- ---- the functions
 
@@ -145,7 +84,7 @@ path_there [] i h = absurd (omega arith)
 path_there (q ∷ qs) zero h = refl
 path_there (q ∷ qs) (suc i) h = path_there qs i (omega arith)
 
-of_functions : (fs : List BoardFunction) (qs : List Path) (space : Space) (es : List Entry) → paths fs ≡ qs → Each (λ (e : Entry). e.function < length qs) es → Each (IsOfFunction fs) (map (table_entry qs space) es)
+pub of_functions : (fs : List BoardFunction) (qs : List Path) (space : Space) (es : List Entry) → paths fs ≡ qs → Each (λ (e : Entry). e.function < length qs) es → Each (IsOfFunction fs) (map (table_entry qs space) es)
 of_functions fs qs space [] is h = tt
 of_functions fs qs space (e ∷ es) is h =
     (nth_path fs e.function ∙ ap (λ (xs : List Path). slice_get xs e.function) is ∙ path_there qs e.function h.0, of_functions fs qs space es is h.1)

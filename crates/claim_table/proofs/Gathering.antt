@@ -38,7 +38,7 @@ region_of ps space e = (table_entry ps space e).region
 abbrev pub is_of : Space → PlacedRegion → Bool
 is_of space q = same_space q.space space
 
-filter-append : {A : Type 0} (p : A → Bool) (xs ys : List A) → filter p (xs ++ ys) ≡ filter p xs ++ filter p ys
+pub filter-append : {A : Type 0} (p : A → Bool) (xs ys : List A) → filter p (xs ++ ys) ≡ filter p xs ++ filter p ys
 filter-append p [] ys = refl
 filter-append {A} p (x ∷ xs) ys = by_test (p x) (filter-append p xs ys)
   where

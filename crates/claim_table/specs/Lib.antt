@@ -1,3 +1,4 @@
 pub mod Tables
 pub mod Entries
 pub mod Fitting
+pub mod OpenEntries

@@ -1,9 +1,10 @@
-//! Who claims an address of a board that is set up, found in a flat table of its regions (PCI-to-PCI
+//! Who claims an address of a board that is set up, or in order, found in a flat table of its regions (PCI-to-PCI
 //! Bridge Architecture 1.2, chapter 4).
 #![tactic(auto)]
 
 mod entry;
 mod gather;
+mod gather_open;
 mod search;
 mod table;
 

@@ -1,17 +1,20 @@
 //! The table.
 ghost use Rattle.std.specs.Prelude.{◌≡◌, IfOk, map};
 ghost use Rattle.model_set_up.specs.FunctionTable.{TableRow};
+ghost use Rattle.model_board.specs.Routing.{RoutingRow as RowValue};
 
 use crate::entry::Entry;
 use crate::gather::by_address;
+use crate::gather_open::open_by_address;
 use crate::search::{entry_at, of_space};
+use bridge_forward::RoutingRow;
 use bus_scan::FunctionRow;
 use host_bridge::{Claim, Host, Located, Path, Route, Space};
 use std::alloc::{AllocError, Global};
 use std::marker::Model;
 use window_packing::Ready;
 
-/// The regions of a board that is set up, by space and first address, each with the index of its
+/// The regions of a board that is set up, or the open ones of a board in order, by space and first address, each with the index of its
 /// function in the list of the board's functions. An address is looked up by halving.
 #[derive(Drop)]
 pub struct Table {
@@ -39,8 +42,16 @@ fn paths_of(alloc: Global, rows: &[FunctionRow]) -> Result<Vec<Path>, AllocError
     rows.iter().map(|row| row.path.copied()).collect(alloc)
 }
 
+/// The paths of all rows.
+fn paths_in(alloc: Global, rows: &[RoutingRow]) -> Result<Vec<Path>, AllocError>
+    ensures { IfOk result (λ v. v.items ≡ map (λ (r : RowValue). r.path) rows.now) }
+{
+    rows.iter().map(|row| row.path.copied()).collect(alloc)
+}
+
 impl Table {
     ghost use Rattle.model_board.specs.Routing.{routing};
+    ghost use Rattle.model_audit.specs.Orderly.{IsOrderly, IsStateOfBoard};
     ghost use Rattle.host_bridge.specs.HostState.{HostState};
     ghost use Rattle.claim_table.specs.Tables.{FitsTable};
 
@@ -55,6 +66,22 @@ impl Table {
             paths: paths_of(alloc, ready.table().rows())?,
             ports: by_address(alloc, Space::Io, settings)?,
             memory: by_address(alloc, Space::Mem, settings)?,
+        })
+    }
+
+    /// The table of the open regions of a board in order, whoever set it up. It fits every host with the
+    /// same routing registers. Nothing else refuses than that memory is out.
+    pub fn of_open_regions(alloc: Global, host: &Host) -> Result<Table, AllocError>
+        requires board { IsStateOfBoard host.now.state.functions }
+        requires order { IsOrderly (routing host.now.state.functions) }
+        ensures { IfOk result (λ t.
+            (h : HostState) → routing h.state.functions ≡ routing host.now.state.functions → FitsTable t h) }
+    {
+        let rows = host.routing(alloc)?;
+        Ok(Table {
+            paths: paths_in(alloc, &rows)?,
+            ports: open_by_address(alloc, Space::Io, &rows)?,
+            memory: open_by_address(alloc, Space::Mem, &rows)?,
         })
     }
 }

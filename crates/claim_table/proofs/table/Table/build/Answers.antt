@@ -4,7 +4,8 @@ use Rattle.model_set_up.specs.FunctionTable.{TableRow}
 use Rattle.model_set_up.specs.SetUpWrites.{Plan, Setting}
 use Rattle.claim_table.specs.declared.entry.Entry.{Entry}
 use Rattle.claim_table.specs.Entries.{entries_from}
-use Rattle.claim_table.proofs.Building.{IsSortedOf, ready_entries, fits_ready}
+use Rattle.claim_table.proofs.Building.{ready_entries, fits_ready}
+use Rattle.claim_table.proofs.Listing.{IsSortedOf}
 use Rattle.claim_table.proofs.table.Table.build.Goals as goal
 
 -- by the settings of the plan

@@ -1,0 +1,101 @@
+-- Some regions that share no address, as a table lists them: its entries stand apart, and its claims are theirs.
+--     IsSortedOf es fs      fs has the entries es, by first address
+use Rattle.std.proofs.Common.{◌≡◌, ℕ, ◌<◌, ◌⊎◌, inl, inr, true, List, [], ◌∷◌, ◌++◌, length, refl, sym, ap, ap₂, ◌∙◌, subst}
+use Rattle.std.specs.Prelude.{map, filter, ◌↔◌}
+use Rattle.std.specs.List.Sorted.{IsPermutation, IsNonDecreasingBy}
+use Rattle.std.proofs.lemmas.List.{map-append}
+use Rattle.lists.specs.Elements.{Each, EachPair, first_some, IsIn}
+use Rattle.lists.proofs.EachLemmas.{each_permutation, pairs_map, pairs_filter, each_filter}
+use Rattle.lists.proofs.Members.{in_front, in_back, front_or_back, in_map, from_map, in_filter, from_filter}
+use Rattle.model_registers.specs.Decoding.{Space, io, memory, same_space}
+use Rattle.model_board.specs.Paths.{Path}
+use Rattle.model_set_up.specs.PlacedRegions.{PlacedRegion, claim_in}
+use Rattle.model_set_up.specs.UniqueClaimant.{ShareNone}
+use Rattle.model_set_up.proofs.Holders.{self_space, same_members}
+use Rattle.claim_table.specs.declared.entry.Entry.{Entry}
+use Rattle.claim_table.specs.Tables.{TableEntry, table_claim}
+use Rattle.claim_table.specs.Entries.{AreEntries, table_entry, table_of}
+use Rattle.claim_table.specs.Fitting.{map_map}
+use Rattle.claim_table.proofs.Gathering.{region_of, is_of}
+use Rattle.claim_table.proofs.Sorting.{moved, moved_back, Disjoint, sorted_apart}
+
+pub record IsSortedOf (es fs : List Entry) : Type 0 where
+  pub all : IsPermutation es fs
+  pub rising : IsNonDecreasingBy (λ (e : Entry). e.first) fs
+
+-- ---- what holds of the values of a map holds of its elements
+
+pub each_unmap : {A B : Type 0} (P : B → Type 0) (f : A → B) (xs : List A) → Each P (map f xs) → Each (λ x. P (f x)) xs
+each_unmap P f [] h = tt
+each_unmap P f (x ∷ xs) h = (h.0, each_unmap P f xs h.1)
+
+pairs_unmap : {A B : Type 0} (R : B → B → Type 0) (f : A → B) (xs : List A) → EachPair R (map f xs) → EachPair (λ x y. R (f x) (f y)) xs
+pairs_unmap R f [] h = tt
+pairs_unmap R f (x ∷ xs) h = (each_unmap (R (f x)) f xs h.0, pairs_unmap R f xs h.1)
+
+-- ---- the regions rs, gathered by space
+
+pub record AreGathered (ps : List Path) (rs : List PlacedRegion) (all_of : Space → List Entry) : Type 0 where
+  pub regions : (space : Space) → map (region_of ps space) (all_of space) ≡ filter (is_of space) rs
+  pub apart : EachPair ShareNone rs
+  pub sized : Each (λ (q : PlacedRegion). 0 < q.size) rs
+  pub known : (space : Space) → Each (λ (e : Entry). e.function < length ps) (all_of space)
+
+module _ (ps : List Path) (rs : List PlacedRegion) (all_of : Space → List Entry) (of : AreGathered ps rs all_of) where
+  sizes : (space : Space) → Each (λ (e : Entry). 0 < e.size) (all_of space)
+  sizes space = each_unmap (λ (q : PlacedRegion). 0 < q.size) (region_of ps space) (all_of space)
+      (subst (Each (λ (q : PlacedRegion). 0 < q.size)) (sym (of.regions space)) (each_filter (λ (q : PlacedRegion). 0 < q.size) (is_of space) rs of.sized))
+
+  disjoint : (space : Space) → EachPair Disjoint (all_of space)
+  disjoint space =
+      pairs_map (λ (d e : Entry). ShareNone (region_of ps space d) (region_of ps space e)) Disjoint (all_of space) (λ d e none. none (self_space space))
+      (pairs_unmap ShareNone (region_of ps space) (all_of space) (subst (EachPair ShareNone) (sym (of.regions space)) (pairs_filter ShareNone (is_of space) rs of.apart)))
+
+  pub entries_are : (space : Space) (fs : List Entry) → IsSortedOf (all_of space) fs → AreEntries ps fs
+  entries_are space fs h = record {
+    apart = sorted_apart (all_of space) fs (disjoint space) (sizes space) h.all h.rising;
+    known = each_permutation (λ (e : Entry). e.function < length ps) (all_of space) fs h.all (of.known space);
+  }
+
+  -- ---- the claims
+
+  module _ (ports mems : List Entry) (hp : IsSortedOf (all_of io) ports) (hm : IsSortedOf (all_of memory) mems) where
+    abbrev listed : List PlacedRegion
+    listed = map (region_of ps io) ports ++ map (region_of ps memory) mems
+
+    placed_of : (space : Space) (fs : List Entry) → IsPermutation (all_of space) fs → (q : PlacedRegion) → IsIn q (map (region_of ps space) fs) → IsIn q rs
+    placed_of space fs perm q m =
+        let f = from_map (region_of ps space) q fs m in
+        let k : IsIn (region_of ps space f.0) (map (region_of ps space) (all_of space)) = in_map (region_of ps space) f.0 (all_of space) (moved (all_of space) fs perm f.0 f.1) in
+        let l : IsIn (region_of ps space f.0) (filter (is_of space) rs) = subst (IsIn (region_of ps space f.0)) (of.regions space) k in
+        subst (λ (x : PlacedRegion). IsIn x rs) (sym f.2) (from_filter (is_of space) (region_of ps space f.0) rs l).0
+
+    listed_in : (space : Space) (fs : List Entry) → IsPermutation (all_of space) fs → (q : PlacedRegion) → IsIn q rs → same_space q.space space ≡ true → IsIn q (map (region_of ps space) fs)
+    listed_in space fs perm q m here =
+        let l : IsIn q (map (region_of ps space) (all_of space)) = subst (IsIn q) (sym (of.regions space)) (in_filter (is_of space) q rs m here) in
+        let f = from_map (region_of ps space) q (all_of space) l in
+        subst (λ (x : PlacedRegion). IsIn x (map (region_of ps space) fs)) (sym f.2) (in_map (region_of ps space) f.0 fs (moved_back (all_of space) fs perm f.0 f.1))
+
+    of_either : (s : Space) → (same_space s io ≡ true) ⊎ (same_space s memory ≡ true)
+    of_either io = inl refl
+    of_either memory = inr refl
+
+    same_regions : (q : PlacedRegion) → IsIn q listed ↔ IsIn q rs
+    same_regions q = (λ m. by_part (front_or_back q (map (region_of ps io) ports) (map (region_of ps memory) mems) m), λ m. by_space m (of_either q.space))
+      where
+        by_part : IsIn q (map (region_of ps io) ports) ⊎ IsIn q (map (region_of ps memory) mems) → IsIn q rs
+        by_part (inl m) = placed_of io ports hp.all q m
+        by_part (inr m) = placed_of memory mems hm.all q m
+
+        by_space : IsIn q rs → (same_space q.space io ≡ true) ⊎ (same_space q.space memory ≡ true) → IsIn q listed
+        by_space m (inl here) = in_front q (map (region_of ps io) ports) (map (region_of ps memory) mems) (listed_in io ports hp.all q m here)
+        by_space m (inr here) = in_back q (map (region_of ps io) ports) (map (region_of ps memory) mems) (listed_in memory mems hm.all q m here)
+
+    regions_listed : map (λ (e : TableEntry). e.region) (table_of ps ports mems) ≡ listed
+    regions_listed =
+        map-append (λ (e : TableEntry). e.region) (map (table_entry ps io) ports) (map (table_entry ps memory) mems)
+        ∙ ap₂ ◌++◌ (map_map (λ (e : TableEntry). e.region) (table_entry ps io) ports) (map_map (λ (e : TableEntry). e.region) (table_entry ps memory) mems)
+
+    pub claims_listed : (space : Space) (n : ℕ) → table_claim (table_of ps ports mems) space n ≡ first_some (claim_in space n) rs
+    claims_listed space n =
+        ap (first_some (claim_in space n)) regions_listed ∙ same_members space n rs listed of.apart (λ q. (same_regions q).1) (λ q. (same_regions q).0)

@@ -1,0 +1,30 @@
+use Rattle.std.proofs.Common.{◌≡◌, List, map, ap, subst, ◌∙◌}
+use Rattle.model_registers.specs.Decoding.{Space, io, memory}
+use Rattle.model_board.specs.Routing.{RoutingRow}
+use Rattle.claim_table.specs.declared.entry.Entry.{Entry}
+use Rattle.claim_table.specs.OpenEntries.{open_entries}
+use Rattle.claim_table.proofs.Listing.{IsSortedOf}
+use Rattle.claim_table.proofs.OpenListing.{open_are, fits_open}
+use Rattle.claim_table.proofs.table.Table.of_open_regions.Goals as goal
+
+of_rows : (space : Space) (read rows : List RoutingRow) (es : List Entry) → read ≡ rows → IsSortedOf (open_entries space 0 read) es → IsSortedOf (open_entries space 0 rows) es
+of_rows space read rows es same h = subst (λ (xs : List RoutingRow). IsSortedOf (open_entries space 0 xs) es) same h
+
+pub invariant_of-result : goal.invariant_of-result
+invariant_of-result c =
+    let rows = c.in_ok-rows.rows.items in
+    let paths = c.in_ok-paths_in.field-0.items in
+    let paths_are = c.in_ok-paths_in.ensures ∙ ap (map (λ (r : RoutingRow). r.path)) c.deref.ensures.value in (
+      open_are c.args.host.now c.requires.board c.requires.order paths rows c.in_ok-rows.ensures.rows paths_are io c.in_ok-open_by_address.field-0.items
+          (of_rows io _ _ _ c.deref-2.ensures.value (record { all = c.in_ok-open_by_address.ensures.all; rising = c.in_ok-open_by_address.ensures.rising })),
+      open_are c.args.host.now c.requires.board c.requires.order paths rows c.in_ok-rows.ensures.rows paths_are memory c.in_ok-open_by_address-2.field-0.items
+          (of_rows memory _ _ _ c.deref-3.ensures.value (record { all = c.in_ok-open_by_address-2.ensures.all; rising = c.in_ok-open_by_address-2.ensures.rising })),
+    )
+
+pub returns : goal.returns
+returns c =
+    let paths_are = c.in_ok-paths_in.ensures ∙ ap (map (λ (r : RoutingRow). r.path)) c.deref.ensures.value in
+    fits_open c.args.host.now c.requires.board c.requires.order c.in_ok-paths_in.field-0.items c.in_ok-rows.rows.items c.in_ok-rows.ensures.rows paths_are
+    c.in_ok-open_by_address.field-0.items c.in_ok-open_by_address-2.field-0.items
+    (of_rows io _ _ _ c.deref-2.ensures.value (record { all = c.in_ok-open_by_address.ensures.all; rising = c.in_ok-open_by_address.ensures.rising }))
+    (of_rows memory _ _ _ c.deref-3.ensures.value (record { all = c.in_ok-open_by_address-2.ensures.all; rising = c.in_ok-open_by_address-2.ensures.rising }))

@@ -1,0 +1,94 @@
+//! The open regions of a board in one space, in the order of their addresses.
+ghost use Rattle.std.specs.Prelude.{◌≡◌, ◌++◌, map, IfOk, OnOk};
+ghost use Rattle.std.specs.List.Sorted.{IsPermutation, IsNonDecreasingBy};
+ghost use Rattle.bars.specs.Kinds.{named_space};
+ghost use Rattle.model_registers.specs.Decoding.{opens_space};
+ghost use Rattle.bridge_forward.specs.RoutingRows.{base_of};
+ghost use Rattle.claim_table.specs.declared.entry.Entry.{Entry as EntryValue};
+ghost use Rattle.claim_table.specs.Entries.{entry_for, of_space};
+ghost use Rattle.claim_table.specs.OpenEntries.{open_at, open_entries};
+
+use crate::entry::Entry;
+use bars::Space;
+use bridge_forward::{Ranges, RegionNow, RoutingRow};
+use std::alloc::{AllocError, Global};
+
+/// Whether the word of the Command register opens a space.
+fn opens(command: u16, space: Space) -> bool
+    ensures { result ≡ opens_space command (named_space space) }
+{
+    command & space.command_bit() != 0
+}
+
+/// Adds those regions of a function that lie in a space.
+fn add_regions(
+    entries: &mut Vec<Entry>,
+    space: Space,
+    function: usize,
+    regions: &[RegionNow],
+) -> Result<(), AllocError>
+    ensures { OnOk result (entries.new.items
+        ≡ entries.old.items ++ map (entry_for function) (of_space (named_space space) (map base_of regions.now))) }
+{
+    for region in regions {
+        if region.kind.space() == space {
+            entries.push(Entry {
+                first: region.base,
+                size: region.size,
+                function,
+                region: region.index,
+            })?;
+        }
+    }
+    Ok(())
+}
+
+/// Adds the open regions of one space of a function.
+fn add_open(
+    entries: &mut Vec<Entry>,
+    space: Space,
+    function: usize,
+    row: &RoutingRow,
+) -> Result<(), AllocError>
+    ensures { OnOk result (entries.new.items ≡ entries.old.items ++ open_at (named_space space) function row.now) }
+{
+    match &row.ranges {
+        Ranges::Regions(regions) => {
+            if opens(row.command, space) {
+                add_regions(entries, space, function, regions)
+            } else {
+                Ok(())
+            }
+        }
+        Ranges::Windows {
+            io: _,
+            mem: _,
+            pref: _,
+        } => Ok(()),
+    }
+}
+
+/// The open regions of one space of all functions, in path order.
+fn all_open(alloc: Global, space: Space, rows: &[RoutingRow]) -> Result<Vec<Entry>, AllocError>
+    ensures { IfOk result (λ v. v.items ≡ open_entries (named_space space) 0 rows.now) }
+{
+    let mut entries = Vec::new(alloc);
+    for (function, row) in rows.iter().enumerate() {
+        add_open(&mut entries, space, function, row)?;
+    }
+    Ok(entries)
+}
+
+/// The open regions of one space of all functions, by address.
+pub(crate) fn open_by_address(
+    alloc: Global,
+    space: Space,
+    rows: &[RoutingRow],
+) -> Result<Vec<Entry>, AllocError>
+    ensures all { IfOk result (λ v. IsPermutation (open_entries (named_space space) 0 rows.now) v.items) }
+    ensures rising { IfOk result (λ v. IsNonDecreasingBy (λ (e : EntryValue). e.first) v.items) }
+{
+    let mut entries = all_open(alloc, space, rows)?;
+    entries.sort_unstable_by_key(|entry| entry.first);
+    Ok(entries)
+}
