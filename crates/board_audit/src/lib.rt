@@ -14,5 +14,6 @@ mod span;
 
 pub use agent::Agent;
 pub use finding::problems;
+pub use numbering::address_now;
 pub use problem::Problem;
 pub use region::OpenRegion;

@@ -49,8 +49,9 @@ fn bus_now(host: &Host, rows: &[RoutingRow], bus: &[Part]) -> u8
     }
 }
 
-/// The number by which a function is looked for.
-fn address_now(host: &Host, rows: &[RoutingRow], path: &Path) -> Bdf
+/// The number by which a function is looked for: that of its bus, as the bridge above it holds it, and its
+/// device and function. The rows are the host's.
+pub fn address_now(host: &Host, rows: &[RoutingRow], path: &Path) -> Bdf
     requires { rows.now ≡ routing host.now.state.functions }
     ensures { bus_address_of result ≡ address_now host.now.state.functions path.now }
 {

@@ -46,7 +46,7 @@ module _ (now : State) where
 pub map_push : {A B : Type 0} (f : A → B) (xs : List A) (i : ℕ) (x : A) → slice_get xs i ≡ Some x → map f (take (i + 1) xs) ≡ map f (take i xs) ++ f x ∷ []
 map_push f xs i x at = ap (map f) (take_at xs i x at) ∙ map-append f (take i xs) (x ∷ [])
 
-take_past : {A : Type 0} (xs : List A) (i : ℕ) → length xs ≤ i → take i xs ≡ xs
+pub take_past : {A : Type 0} (xs : List A) (i : ℕ) → length xs ≤ i → take i xs ≡ xs
 take_past [] zero h = refl
 take_past [] (suc i) h = refl
 take_past (x ∷ xs) zero h = absurd (omega arith)

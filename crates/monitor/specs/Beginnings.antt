@@ -1,37 +1,49 @@
--- Guests before they did anything, on a board that is set up.
---     world_of      the board of a host that is set up, with guests
---     IsRowOf now d i row s      what was found of an endpoint of a board, and what set-up wrote into it
+-- Guests before they did anything, on the board of a host.
+--     world_on, world_of      the board of a host, or of a host that is set up, with guests
+--     taken_over w s      a handoff as a monitor takes it over: given functions at reset, and the address latch clear
+--     files_given b ps      the files at reset of the endpoints at these paths
+--     declared_in      what a base address register opens
+--     IsStanding s i p f      the endpoint f at reset stands in row i of the board, at the path p
 --     AreSlotsAtFirst      a guest's slots, the first of them with the endpoints at these paths
-use Rattle.std.specs.Prelude.{ℕ, ◌-◌, ◌≡◌, List, ◌++◌, Option, Some, None, map, length, replicate, slice_get}
-use Rattle.model_registers.specs.Declarations.{Endpoint}
+use Rattle.std.specs.Prelude.{ℕ, ◌-◌, ◌≡◌, false, List, ◌++◌, Option, Some, None, map, option_map, if◌then◌else◌, length, replicate, slice_get}
+use Rattle.std.specs.List.{list_any}
+use Rattle.bars.specs.declared.region.Region.{Region}
+use Rattle.model_registers.specs.Declarations.{Bar}
 use Rattle.model_registers.specs.DeclarationRules.{IsLawfulEndpoint}
-use Rattle.model_board.specs.Paths.{Path}
-use Rattle.model_board.specs.Board.{endpoint}
-use Rattle.model_board.specs.AtReset.{board_at}
-use Rattle.model_board.specs.Ports.{file_at}
+use Rattle.model_registers.specs.EndpointTable.{endpoint_reset}
+use Rattle.model_registers.specs.Registers.{File}
+use Rattle.model_registers.specs.Decoding.{Function}
+use Rattle.model_board.specs.Paths.{Path, path_eq}
+use Rattle.model_board.specs.Board.{endpoint, Board}
 use Rattle.model_board.specs.State.{State}
-use Rattle.model_registers.specs.Decoding.{base_address}
-use Rattle.model_audit.specs.Found.{address_now}
-use Rattle.model_set_up.specs.FunctionTable.{TableRow, found_decl}
-use Rattle.model_set_up.specs.SetUpWrites.{Setting}
+use Rattle.model_board.specs.Ports.{file_at}
 use Rattle.model_guests.specs.World.{Guest, World, declared}
 use Rattle.model_guests.specs.Slots.{reset_slots}
+use Rattle.model_handoff.specs.Handoffs.{file_at_reset, with_given_reset}
 use Rattle.host_bridge.specs.HostState.{HostState}
 use Rattle.window_packing.specs.Readies.{ReadyBoard, board_below}
-use Rattle.claim_table.specs.Entries.{bases_in}
 use Rattle.monitor.specs.declared.guest.Held.{Held}
 use Rattle.monitor.specs.Keeping.{AreSlots}
 
-abbrev pub world_of : ReadyBoard → List Guest → World
-world_of r guests = record { board = board_below r.host; apertures = r.host.apertures; guests = guests }
+abbrev pub world_on : HostState → List Guest → World
+world_on h guests = record { board = board_below h; apertures = h.apertures; guests = guests }
 
--- the endpoint d in row i of the board, as a state has it
-pub record IsRowOf (now : State) (d : Endpoint) (i : ℕ) (row : TableRow) (s : Setting) : Type 0 where
-  pub lawful : IsLawfulEndpoint d
-  pub there : slice_get (board_at now.functions) i ≡ Some (record { path = row.path; decl = endpoint d })
-  pub found : row.decl ≡ found_decl (endpoint d)
-  pub at : s.at ≡ address_now now.functions row.path
-  pub placed : bases_in s.writes ≡ map (base_address (file_at now.functions row.path)) d.regions
+abbrev pub world_of : ReadyBoard → List Guest → World
+world_of r guests = world_on r.host guests
+
+abbrev pub taken_over : World → State → State
+taken_over w s = record (with_given_reset w s) { latch = 0 }
+
+abbrev pub files_given : Board → List Path → Path → Option File
+files_given b ps p = if list_any (λ q. path_eq q p) ps then option_map file_at_reset (declared b p) else None
+
+abbrev pub declared_in : Option Region → Option Bar
+declared_in o = option_map (λ (r : Region). r.decl) o
+
+pub record IsStanding (s : State) (i : ℕ) (p : Path) (f : Function) : Type 0 where
+  pub lawful : IsLawfulEndpoint f.decl
+  pub there : slice_get s.functions i ≡ Some (record { path = p; decl = endpoint f.decl; file = file_at s.functions p })
+  pub at_reset : f.file ≡ endpoint_reset f.decl false
 
 -- all functions are at reset, and the slots past the paths are empty
 abbrev pub AreSlotsAtFirst : HostState → List Path → List (Option Held) → Type 0

@@ -10,3 +10,5 @@ pub mod Resets
 pub mod DeviceBytes
 pub mod Beginnings
 pub mod Queries
+pub mod Passing
+pub mod Audits

@@ -1,123 +1,101 @@
-//! What the monitor keeps of a board that is set up and of its guests, before any guest did anything.
-ghost use Rattle.std.specs.Prelude.{◌≡◌, ◌≤◌, ℕ, Some, false, length, map, slice_get, IfOk, IsTrue, IsSome};
-ghost use Rattle.lists.specs.Elements.{Each, EachPair};
-ghost use Rattle.model_registers.specs.Declarations.{Endpoint, HasLawfulRegions};
-ghost use Rattle.model_registers.specs.EndpointTable.{endpoint_reset};
-ghost use Rattle.model_board.specs.Paths.{path_before};
-ghost use Rattle.model_board.specs.State.{State};
-ghost use Rattle.model_set_up.specs.FunctionTable.{TableRow};
+//! What the monitor keeps of a board and of its guests, before any guest did anything.
+ghost use Rattle.std.specs.Prelude.{◌≡◌, ◌≤◌, length, map, Some, IfOk, IsSome};
+ghost use Rattle.lists.specs.Elements.{Each};
+ghost use Rattle.model_registers.specs.Declarations.{HasLawfulRegions};
+ghost use Rattle.model_registers.specs.EndpointTable.{opened};
+ghost use Rattle.model_registers.specs.Decoding.{Function};
+ghost use Rattle.model_board.specs.Routing.{routing};
+ghost use Rattle.model_audit.specs.Orderly.{IsStateOfBoard};
 ghost use Rattle.model_guests.specs.World.{Guest as GuestValue, names, HasLawfulGuests, declared};
 ghost use Rattle.model_guests.specs.Slots.{reset_function};
 ghost use Rattle.model_guests.specs.Guests.{guests_at_first};
-ghost use Rattle.bars.specs.Slots.{bases_from};
-ghost use Rattle.bus_scan.specs.Rows.{regions_of};
-ghost use Rattle.bus_scan.specs.Probes.{regions_in};
+ghost use Rattle.bars.specs.Resets.{at_reset, with_no_base};
+ghost use Rattle.bridge_forward.specs.BasesNow.{bases_nth};
 ghost use Rattle.window_packing.specs.Readies.{board_below};
-ghost use Rattle.claim_table.specs.Entries.{bases_in};
 ghost use Rattle.monitor.specs.Views.{texts};
 ghost use Rattle.monitor.specs.Keeping.{IsHeld, IsSlot, AreGuests};
-ghost use Rattle.monitor.specs.Beginnings.{world_of, IsRowOf, AreSlotsAtFirst};
+ghost use Rattle.monitor.specs.Beginnings.{world_on, declared_in, IsStanding, AreSlotsAtFirst};
 
 use crate::guest::{Guest, Held};
 use accesses::{GuestDecl, Names};
 use bars::{BarDecl, Region};
-use bus_scan::{Found, FunctionRow};
+use board_audit::address_now;
+use bridge_forward::RoutingRow;
 use guest_functions::{Latch, VirtualFunction};
+use host_bridge::Host;
 use paths::Path;
 use std::alloc::{AllocError, Global};
-use window_packing::{Ready, Setting, Writes};
 
-/// The index of the function at a path, found by halving, since rows stand in path order.
-fn index_of(rows: &[FunctionRow], path: &Path) -> usize
-    requires { EachPair (λ (r s : TableRow). IsTrue (path_before r.path s.path)) rows.now }
-    ensures { (i : ℕ) (r : TableRow) → slice_get rows.now i ≡ Some r → r.path ≡ path.now → result ≡ i }
+/// What a base address register opens, whatever it holds.
+fn decl_of(region: Option<Region>) -> Option<BarDecl>
+    ensures { result ≡ declared_in region }
 {
-    rows.partition_point(
-        |row: &FunctionRow| -> bool
-            ensures { result ≡ path_before row.now.path path.entry.now }
-        { row.path.is_before(path) },
-    )
+    match region {
+        Some(region) => Some(region.decl),
+        None => None,
+    }
 }
 
-/// A copy of what is kept for each of a function's six base address registers.
-fn six<T: Copy>(registers: &[T; 6]) -> [T; 6]
-    ensures { result ≡ registers.now }
+/// What each base address register of a function opens.
+fn decls_of(placed: &[Option<Region>; 6]) -> [Option<BarDecl>; 6]
+    ensures { result ≡ map declared_in placed.now }
 {
     [
-        registers[0],
-        registers[1],
-        registers[2],
-        registers[3],
-        registers[4],
-        registers[5],
+        decl_of(placed[0]),
+        decl_of(placed[1]),
+        decl_of(placed[2]),
+        decl_of(placed[3]),
+        decl_of(placed[4]),
+        decl_of(placed[5]),
     ]
 }
 
-/// What each base address register of a function opens; nothing, where it is a bridge.
-fn registers_in(row: &FunctionRow) -> [Option<BarDecl>; 6]
-    ensures { regions_of result ≡ regions_in row.now.decl }
+/// An endpoint in a guest's slot, with all own copies at reset, where the host has it.
+fn held_of(host: &Host, rows: &[RoutingRow], index: usize, path: &Path) -> Held
+    requires rows { rows.now ≡ routing host.now.state.functions }
+    requires lawful { HasLawfulRegions (map opened (map with_no_base (bases_nth host.now.state.functions index))) }
+    ensures { (f : Function) → IsStanding host.now.state index path.now f → IsHeld host.now.state path.now f result }
 {
-    match &row.found {
-        Found::Endpoint { pin: _, bars } => six(bars),
-        Found::Bridge {
-            secondary: _,
-            subordinate: _,
-            io: _,
-            pref: _,
-        } => [None; 6],
-    }
-}
-
-/// The regions of a function at their places; none, where it is a bridge.
-fn placed_in(setting: &Setting) -> [Option<Region>; 6]
-    ensures { bases_from 0 result ≡ bases_in setting.now.writes }
-{
-    match &setting.writes {
-        Writes::Endpoint { command: _, bases } => six(bases),
-        Writes::Bridge {
-            io: _,
-            mem: _,
-            pref: _,
-        } => [None; 6],
-    }
-}
-
-/// An endpoint in a guest's slot, with all own copies at reset, where set-up placed it.
-fn held_of(index: usize, row: &FunctionRow, setting: &Setting) -> Held
-    requires { HasLawfulRegions (regions_in row.now.decl) }
-    ensures { (s : State) (d : Endpoint) → IsRowOf s d index row.now setting.now
-        → IsHeld s row.now.path (record { decl = d; file = endpoint_reset d false }) result }
-{
+    let placed = host.placed_nth(index);
     Held {
-        own: VirtualFunction::new(registers_in(row)),
-        placed: placed_in(setting),
-        at: setting.at,
+        own: VirtualFunction::new(decls_of(&placed)),
+        placed,
+        at: address_now(host, rows, path),
         index,
-        path: row.path.copied(),
+        path: path.copied(),
     }
 }
 
 /// The endpoint at a path, in a guest's slot.
-fn held_at(ready: &Ready, path: &Path) -> Held
-    requires { IsSome (declared (board_below ready.now.host) path.now) }
-    ensures { let b = board_below ready.now.host in
-        IsSlot ready.now.host.state (Some path.now) (reset_function (declared b path.now)) (Some result) }
+fn held_at(host: &Host, rows: &[RoutingRow], path: &Path) -> Held
+    requires board { IsStateOfBoard host.now.state.functions }
+    requires rows { rows.now ≡ routing host.now.state.functions }
+    requires there { IsSome (declared (board_below host.now) path.now) }
+    ensures { let b = board_below host.now in
+        IsSlot host.now.state (Some path.now) (reset_function (declared b path.now)) (Some result) }
 {
-    let rows = ready.table().rows();
-    let settings = ready.plan().settings();
-    let index = index_of(rows, path);
-    held_of(index, &rows[index], &settings[index])
+    match host.index_of(path) {
+        Some(index) => held_of(host, rows, index, path),
+        None => unreachable!(),
+    }
 }
 
 /// The 32 slots of a guest with endpoints at these paths, slot 0 first; the slots past them are empty.
-fn slots_of(alloc: Global, ready: &Ready, paths: &[Path]) -> Result<Vec<Option<Held>>, AllocError>
+fn slots_of(
+    alloc: Global,
+    host: &Host,
+    rows: &[RoutingRow],
+    paths: &[Path],
+) -> Result<Vec<Option<Held>>, AllocError>
+    requires board { IsStateOfBoard host.now.state.functions }
+    requires rows { rows.now ≡ routing host.now.state.functions }
     requires few { length paths.now ≤ 32 }
-    requires there { Each (λ p. IsSome (declared (board_below ready.now.host) p)) paths.now }
-    ensures { IfOk result (λ v. AreSlotsAtFirst ready.now.host paths.now v.items) }
+    requires there { Each (λ p. IsSome (declared (board_below host.now) p)) paths.now }
+    ensures { IfOk result (λ v. AreSlotsAtFirst host.now paths.now v.items) }
 {
     let mut slots = Vec::with_capacity(alloc, 32)?;
     for path in paths {
-        slots.push(Some(held_at(ready, path)))?;
+        slots.push(Some(held_at(host, rows, path)))?;
     }
     for _empty in paths.len()..32 {
         slots.push(None)?;
@@ -128,18 +106,21 @@ fn slots_of(alloc: Global, ready: &Ready, paths: &[Path]) -> Result<Vec<Option<H
 /// The guests, each with its address latch clear and its endpoints in its slots.
 pub(crate) fn guests_of(
     alloc: Global,
-    ready: &Ready,
+    host: &Host,
+    rows: &[RoutingRow],
     decls: &[GuestDecl],
 ) -> Result<Vec<Guest>, AllocError>
-    requires { HasLawfulGuests (world_of ready.now decls.now) }
-    ensures { let w = world_of ready.now decls.now in
-        IfOk result (λ v. AreGuests ready.now.host.state (names w) (guests_at_first w) v.items) }
+    requires board { IsStateOfBoard host.now.state.functions }
+    requires rows { rows.now ≡ routing host.now.state.functions }
+    requires lawful { HasLawfulGuests (world_on host.now decls.now) }
+    ensures { let w = world_on host.now decls.now in
+        IfOk result (λ v. AreGuests host.now.state (names w) (guests_at_first w) v.items) }
 {
     let mut guests = Vec::with_capacity(alloc, decls.len())?;
     for decl in decls {
         guests.push(Guest {
             latch: Latch::new(),
-            slots: slots_of(alloc, ready, decl.slots.as_slice())?,
+            slots: slots_of(alloc, host, rows, decl.slots.as_slice())?,
         })?;
     }
     Ok(guests)

@@ -1,16 +1,14 @@
 //! A host with its guests, over any way to find who claims an address.
-ghost use Rattle.std.specs.Prelude.{◌≡◌, ◌<◌, ◌%◌, length, IfOk};
+ghost use Rattle.std.specs.Prelude.{◌≡◌, ◌<◌, ◌%◌, length};
 ghost use Rattle.model_registers.specs.Registers.{all_bytes};
 ghost use Rattle.model_registers.specs.ByteEnables.{IsWidth};
 ghost use Rattle.model_board.specs.Ports.{config_reply};
-ghost use Rattle.model_guests.specs.World.{HasLawfulGuests};
 ghost use Rattle.model_guests.specs.Accesses.{configuration, port, reads, writes};
 ghost use Rattle.model_guests.specs.Accesses as guests;
 ghost use Rattle.model_guests.specs.Lone.{answer, after_event, own_latch, at_target, destination, reply_at, after_access_at};
 ghost use Rattle.model_guests.specs.Guests.{lone_of};
 ghost use Rattle.model_guests.specs.Lines.{guest_event, host_move};
-ghost use Rattle.model_guests.specs.WorldNow.{world_at_first, move_reply};
-ghost use Rattle.model_handoff.specs.SetUpCase.{over_set_up};
+ghost use Rattle.model_guests.specs.WorldNow.{move_reply};
 ghost use Rattle.model_handoff.specs.WorldOver.{names_now, host_reply, after_meaning};
 ghost use Rattle.bars.specs.Kinds.{named_space};
 ghost use Rattle.paths.specs.BusAddresses.{bus_address_of};
@@ -20,10 +18,8 @@ ghost use Rattle.monitor.specs.Views.{texts};
 ghost use Rattle.monitor.specs.ByIndex.{name_nth, lone_nth, with_lone_nth};
 ghost use Rattle.monitor.specs.Reaches.{target_in};
 ghost use Rattle.monitor.specs.Moves.{move_nth};
-ghost use Rattle.monitor.specs.Beginnings.{world_of};
 ghost use Rattle.monitor.specs.Queries.{IsGuestNth};
 
-use crate::beginning::{guests_of, names_of};
 use crate::config::{held_in, number_read, write_guest};
 use crate::cycles::write_enabled;
 use crate::guest::Guest;
@@ -31,14 +27,12 @@ use crate::landing::{landing, located};
 use crate::latch::{is_latch, write_latch};
 use crate::moving::{hand_over, move_fault};
 use crate::raising::{has_place, raise_on_board};
-use accesses::{Access, At, GuestDecl, HostAccess, HostAt, Names, Op, Place, Reply, nothing};
+use accesses::{Access, At, HostAccess, HostAt, Names, Op, Place, Reply, nothing};
 use bars::Space;
 use config_bytes::{enables_of, into_lanes, lowered};
 use guest_functions::Select;
 use host_bridge::{Bdf, Host, Route};
-use std::alloc::{AllocError, Global};
 use std::marker::Model;
-use window_packing::Ready;
 
 /// The monitor over any route: a host, a route that fits it, and the guests with the names that they have.
 #[derive(Drop)]
@@ -70,7 +64,7 @@ impl<R: Route> Engine<R> {
     ghost use Rattle.monitor.specs.Keeping.{IsSound};
 
     /// A host whose board agrees with these guests.
-    fn of_parts(host: Host, route: R, names: Names, guests: Vec<Guest>) -> Engine<R>
+    pub(crate) fn of_parts(host: Host, route: R, names: Names, guests: Vec<Guest>) -> Engine<R>
         requires fits { R.fits route host }
         requires sound { IsSound host (texts names) guests.items }
         ensures { result ≡ world_shown host (texts names) guests.items }
@@ -351,26 +345,6 @@ impl<R: Route> Engine<R> {
             HostAt::Mem { addr } => self.host.load(&self.route, addr, width),
         };
         Reply::Value(value, width)
-    }
-}
-
-impl<R: Route + Drop> Engine<R> {
-    /// Gives functions of a board that is set up to guests, over a route that fits the board. Only where
-    /// memory is out it refuses, and then the board is dropped.
-    pub fn new(
-        alloc: Global,
-        ready: Ready,
-        route: R,
-        guests: &[GuestDecl],
-    ) -> Result<Engine<R>, AllocError>
-        requires fits { R.fits route ready.host }
-        requires lawful { HasLawfulGuests (world_of ready guests.now) }
-        ensures { IfOk result (λ e. e ≡ over_set_up (world_at_first (world_of ready guests.now))) }
-    {
-        let names = names_of(guests);
-        let guests = guests_of(alloc, &ready, guests)?;
-        let (host, _table, _plan) = ready.into_parts();
-        Ok(Engine::of_parts(host, route, names, guests))
     }
 }
 

@@ -14,11 +14,14 @@
 //! ```
 #![tactic(auto)]
 
+mod audited;
 mod beginning;
+mod closed;
 mod config;
 mod cycles;
 mod device;
 mod engine;
+mod giving;
 mod guest;
 mod landing;
 mod latch;
@@ -28,9 +31,13 @@ mod moving;
 mod raising;
 mod regions;
 mod reset;
+mod taking;
 
 pub use accesses::{Access, At, Bdf, GuestDecl, HostAccess, HostAt, Names, Op, Place, Reply};
+pub use audited::{AuditFault, Audited, Unfit};
 pub use bars::Space;
+pub use board_audit::Problem;
+pub use closed::{ClosedRegion, Ungiven};
 pub use engine::Engine;
 pub use locating::Hit;
 pub use monitor::Monitor;

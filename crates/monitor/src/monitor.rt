@@ -1,5 +1,5 @@
 //! The monitor, which gives functions of a board to guests.
-ghost use Rattle.std.specs.Prelude.{◌≡◌, ◌<◌, length, option_map, IfOk, IfErr};
+ghost use Rattle.std.specs.Prelude.{◌≡◌, ◌<◌, length, option_map, IfOk, IfErr, None};
 ghost use Rattle.std.specs.Result.{result_map_both};
 ghost use Rattle.model_guests.specs.Accesses as guests;
 ghost use Rattle.model_guests.specs.World.{HasLawfulGuests};
@@ -9,7 +9,8 @@ ghost use Rattle.model_guests.specs.Lines.{guest_event, host_move};
 ghost use Rattle.model_guests.specs.WorldNow.{world_at_first, move_reply};
 ghost use Rattle.model_handoff.specs.DevicesOver.{after_device};
 ghost use Rattle.model_handoff.specs.SetUpCase.{over_set_up};
-ghost use Rattle.model_handoff.specs.WorldOver.{names_now, host_reply, after_meaning};
+ghost use Rattle.model_handoff.specs.Regions.{first_fault};
+ghost use Rattle.model_handoff.specs.WorldOver.{names_now, host_reply, after_meaning, world_over};
 ghost use Rattle.model_devices.specs.DeviceEvents.{device_answer, device_reads, device_writes, resets};
 ghost use Rattle.bus_scan.specs.declared.fault.Fault.TheVariants.{Memory};
 ghost use Rattle.model_queries.specs.Regions.{region_answer};
@@ -20,9 +21,12 @@ ghost use Rattle.monitor.specs.Views.{texts};
 ghost use Rattle.monitor.specs.ByIndex.{name_nth};
 ghost use Rattle.monitor.specs.Moves.{move_nth};
 ghost use Rattle.monitor.specs.DeviceBytes.{device_byte};
-ghost use Rattle.monitor.specs.Beginnings.{world_of};
+ghost use Rattle.monitor.specs.Audits.{IsRefusalOf};
+ghost use Rattle.monitor.specs.Beginnings.{world_on, world_of, taken_over};
 ghost use Rattle.monitor.specs.Queries.{region_named, hit_named};
 
+use crate::audited::Audited;
+use crate::closed::{Ungiven, first_closed};
 use crate::engine::Engine;
 use crate::locating::Hit;
 use crate::regions::RegionNow;
@@ -33,8 +37,8 @@ use std::alloc::Global;
 use std::marker::Model;
 use window_packing::Ready;
 
-/// A board that is set up, and the guests to which its functions are given. Guests' bytes stand on the
-/// board, and all else there is as set-up left it.
+/// A board that is set up, by our own set-up or by other firmware, and the guests to which its functions
+/// are given. Guests' bytes stand on the board, and all else there is as it was handed over.
 #[derive(Drop)]
 pub struct Monitor {
     engine: Engine<Table>,
@@ -59,6 +63,31 @@ impl Monitor {
         let table = Table::build(alloc, &ready)?;
         let engine = Engine::new(alloc, ready, table, guests)?;
         Ok(Monitor { engine })
+    }
+
+    /// Gives functions of a board that passed its audit to guests, whoever set it up. Each of them is reset
+    /// first, but for what guests have copies of, and the address latch is cleared. Refused are a closed
+    /// region of theirs (206), where the board is given back as it was, and lack of memory; then it is
+    /// dropped.
+    pub fn over(alloc: Global, audited: Audited, guests: &[GuestDecl]) -> Result<Monitor, Ungiven>
+        requires { HasLawfulGuests (world_on audited guests.now) }
+        ensures made { let w = world_on audited guests.now in
+            IfOk result (λ m. m ≡ world_over w (taken_over w audited.state)) }
+        ensures given { IfOk result (λ _. first_fault (world_on audited guests.now) audited.state ≡ None) }
+        ensures refused { IfErr result (λ u. IsRefusalOf (world_on audited guests.now) audited u) }
+    {
+        match first_closed(alloc, &audited, guests)? {
+            Some(region) => Err(Ungiven::Closed {
+                board: audited,
+                region,
+            }),
+            None => {
+                let host = audited.into_host();
+                let table = Table::of_open_regions(alloc, &host)?;
+                let engine = Engine::over(alloc, host, table, guests)?;
+                Ok(Monitor { engine })
+            }
+        }
     }
 
     /// The guests' names, in the order of the guests.

@@ -1,10 +1,19 @@
-use Rattle.std.proofs.Common.{ap, ◌∙◌}
-use Rattle.model_set_up.specs.FunctionTable.{TableRow}
-use Rattle.model_set_up.specs.SetUpWrites.{Setting}
-use Rattle.monitor.proofs.FirstFunctions.{held_at_first}
+use Rattle.std.proofs.Common.{sym, subst, List, map}
+use Rattle.model_registers.specs.Declarations.{HasLawfulRegions}
+use Rattle.model_registers.specs.EndpointTable.{BaseAddress, opened}
+use Rattle.bridge_forward.specs.BasesNow.{bases_nth}
+use Rattle.monitor.proofs.FirstFunctions.{decls_reset, held_at_first}
 use Rattle.monitor.proofs.beginning.held_of.Goals as goal
 
+pub new-requires : goal.new-requires
+new-requires c =
+    let bs = bases_nth c.args.host.now.state.functions c.args.index in
+    let rest = decls_reset c.decls_of.result c.placed_nth-placed.result bs c.decls_of.ensures c.placed_nth-placed.ensures in
+    subst (λ (xs : List BaseAddress). HasLawfulRegions (map opened xs)) (sym rest) c.requires.lawful
+
 pub returns : goal.returns
-returns c = λ s d is.
-    held_at_first s d c.args.index c.args.row.now c.args.setting.now is c.registers_in.result c.registers_in.ensures c.new.result c.new.ensures.copies c.new.ensures.reset
-    c.placed_in.result c.placed_in.ensures c.setting.inside.at (ap (λ (s : Setting). s.at) c.setting.view_is) c.copied.result (c.copied.ensures ∙ ap (λ (r : TableRow). r.path) c.row.view_is)
+returns c = λ f is.
+    let bs = bases_nth c.args.host.now.state.functions c.args.index in
+    let rest = decls_reset c.decls_of.result c.placed_nth-placed.result bs c.decls_of.ensures c.placed_nth-placed.ensures in
+    held_at_first c.args.host.now.state c.args.index c.args.path.now f is c.decls_of.result rest c.new.result c.new.ensures.copies c.new.ensures.reset
+    c.placed_nth-placed.result c.placed_nth-placed.ensures c.address_now.result c.address_now.ensures c.copied.result c.copied.ensures

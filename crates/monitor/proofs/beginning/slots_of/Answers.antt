@@ -6,7 +6,7 @@ use Rattle.monitor.proofs.beginning.slots_of.Goals as goal
 
 pub loop-path-preserved : goal.loop-path-preserved
 loop-path-preserved c =
-    let h = c.args.ready.now.host in
+    let h = c.args.host.now in
     let ps = c.args.paths.now in
     let i = c.loop-path.path-index in
     subst (λ (os : List (Option Held)). AreSlotsWith h (take (i + 1) ps) 0 os) (sym c.in_ok-push.ensures.items)
@@ -15,11 +15,11 @@ loop-path-preserved c =
 pub loop-empty-init : goal.loop-empty-init
 loop-empty-init c =
     let ps = c.args.paths.now in
-    all_filled c.args.ready.now.host ps c.loop-path.path-index c.loop-path.slots.items c.loop-path-test.false c.loop-path.invariant (length ps - length ps) (omega arith)
+    all_filled c.args.host.now ps c.loop-path.path-index c.loop-path.slots.items c.loop-path-test.false c.loop-path.invariant (length ps - length ps) (omega arith)
 
 pub loop-empty-preserved : goal.loop-empty-preserved
 loop-empty-preserved c =
-    let h = c.args.ready.now.host in
+    let h = c.args.host.now in
     let ps = c.args.paths.now in
     let n = c.loop-empty._empty in
     let next : suc (n - length ps) ≡ (n + 1) - length ps = omega (arith, c.loop-empty.auto._empty) in
@@ -31,4 +31,4 @@ returns c =
     let ps = c.args.paths.now in
     let n = c.loop-empty._empty in
     let all : n - length ps ≡ 32 - length ps = omega (arith, c.requires.few) in
-    all_slots c.args.ready.now.host ps (n - length ps) c.loop-empty.slots.items all c.loop-empty.invariant
+    all_slots c.args.host.now ps (n - length ps) c.loop-empty.slots.items all c.loop-empty.invariant

@@ -3,7 +3,7 @@ use Rattle.monitor.proofs.FirstGuests.{AreSlotsWith}
 use Rattle.monitor.proofs.beginning.slots_of.Given as goal
 
 abbrev pub invariant-loop-path : goal.invariant-loop-path
-invariant-loop-path l = AreSlotsWith l.ready.host (take l.path-index l.paths) 0 l.slots.items
+invariant-loop-path l = AreSlotsWith l.host (take l.path-index l.paths) 0 l.slots.items
 
 abbrev pub invariant-loop-empty : goal.invariant-loop-empty
-invariant-loop-empty l = AreSlotsWith l.ready.host l.paths (l._empty - length l.paths) l.slots.items
+invariant-loop-empty l = AreSlotsWith l.host l.paths (l._empty - length l.paths) l.slots.items

@@ -1,0 +1,132 @@
+-- The first closed region of given functions, row by row.
+use Rattle.std.proofs.Common.{◌≡◌, ℕ, suc, ◌+◌, ◌<◌, add-one, Bool, true, false, ◌||◌, cond, not, List, [], ◌∷◌, ◌++◌, length, drop, get_or, Option, Some, None, refl, sym, ap, ◌∙◌}
+use Rattle.std.proofs.Math.Seq.{drop-cons}
+use Rattle.std.specs.Prelude.{map, flat_map, filter, slice_get}
+use Rattle.std.specs.List.{list_any}
+use Rattle.lists.specs.Elements.{Each, first_of_two}
+use Rattle.lists.proofs.EachLemmas.{each_of_map, each_filter}
+use Rattle.model_registers.specs.EndpointTable.{BaseAddress}
+use Rattle.model_registers.specs.Decoding.{opens_space, space_of}
+use Rattle.model_board.specs.Paths.{Path, path_eq}
+use Rattle.model_board.specs.Routing.{Ranges, regions, windows, RoutingRow}
+use Rattle.model_board.specs.State.{State}
+use Rattle.model_set_up.specs.PlacedRegions.{PlacedRegion}
+use Rattle.model_audit.specs.OpenRegions.{region_now, closed_of, closed_regions}
+use Rattle.model_audit.specs.Problems.{Problem}
+use Rattle.model_audit.specs.Witnesses.{IsInOrder}
+use Rattle.model_audit.proofs.Witnesses.{problems_decide}
+use Rattle.model_guests.specs.World.{Guest, World}
+use Rattle.model_handoff.specs.Regions.{closed_region, first_problem, first_closed, closed_given, first_fault, CanBeGiven}
+use Rattle.model_handoff.proofs.First.{any_append}
+use Rattle.bars.specs.Kinds.{kind_of}
+use Rattle.bridge_forward.specs.declared.region_now.RegionNow.{RegionNow}
+use Rattle.bridge_forward.specs.RoutingRows.{base_of}
+use Rattle.monitor.specs.Passing.{closed_if_given, is_among, first_closed_at}
+
+dropped : {A : Type 0} (xs : List A) (i : ℕ) (x : A) → i < length xs → x ≡ get_or xs i x → drop i xs ≡ x ∷ drop (i + 1) xs
+dropped xs i x h e = rw (add-one, drop-cons xs i x) (ap (λ y. y ∷ drop (suc i) xs) (sym e))
+
+-- ---- a path among guests' paths
+
+pub among_guests : (p : Path) (gs : List Guest) → list_any (λ (g : Guest). list_any (λ q. path_eq q p) g.slots) gs ≡ list_any (λ q. path_eq q p) (flat_map (λ (g : Guest). g.slots) gs)
+among_guests p [] = refl
+among_guests p (g ∷ gs) = ap (λ t. list_any (λ q. path_eq q p) g.slots || t) (among_guests p gs) ∙ sym (any_append (λ q. path_eq q p) g.slots (flat_map (λ (h : Guest). h.slots) gs))
+
+-- ---- a row
+
+module _ (ps : List Path) where
+  abbrev given : Path → Bool
+  given p = list_any (λ q. path_eq q p) ps
+
+  abbrev IsAt : Path → PlacedRegion → Type 0
+  IsAt p q = q.path ≡ p
+
+  all_at : (p : Path) (command : ℕ) (bs : List BaseAddress) → Each (IsAt p) (filter (λ (q : PlacedRegion). not (opens_space command q.space)) (map (region_now p) bs))
+  all_at p command bs = each_filter (IsAt p) (λ (q : PlacedRegion). not (opens_space command q.space)) (map (region_now p) bs) (each_of_map (IsAt p) (region_now p) bs (every bs))
+    where
+      every : (bs : List BaseAddress) → Each (λ (b : BaseAddress). p ≡ p) bs
+      every [] = tt
+      every (b ∷ bs) = (refl, every bs)
+
+  of_row : (r : RoutingRow) → Each (IsAt r.path) (closed_of r)
+  of_row r = by r.path r.command r.ranges
+    where
+      by : (p : Path) (command : ℕ) (rs : Ranges) → Each (IsAt p) (closed_of (record { path = p; command = command; ranges = rs }))
+      by p command (regions bs) = all_at p command bs
+      by p command (windows wio wmem wpref) = tt
+
+  kept : (p : Path) (t : Bool) → given p ≡ t → (qs : List PlacedRegion) → Each (IsAt p) qs → filter (is_among ps) qs ≡ cond t qs []
+  kept p true e [] at = refl
+  kept p false e [] at = refl
+  kept p true e (q ∷ qs) at =
+      let here : is_among ps q ≡ true = ap given at.0 ∙ e in
+      ap (λ t. cond t (q ∷ filter (is_among ps) qs) (filter (is_among ps) qs)) here ∙ ap (λ (xs : List PlacedRegion). q ∷ xs) (kept p true e qs at.1)
+  kept p false e (q ∷ qs) at =
+      let here : is_among ps q ≡ false = ap given at.0 ∙ e in
+      ap (λ t. cond t (q ∷ filter (is_among ps) qs) (filter (is_among ps) qs)) here ∙ kept p false e qs at.1
+
+  filter-append : (xs ys : List PlacedRegion) → filter (is_among ps) (xs ++ ys) ≡ filter (is_among ps) xs ++ filter (is_among ps) ys
+  filter-append [] ys = refl
+  filter-append (x ∷ xs) ys = by (is_among ps x) (filter-append xs ys)
+    where
+      by : (t : Bool) → filter (is_among ps) (xs ++ ys) ≡ filter (is_among ps) xs ++ filter (is_among ps) ys
+          → cond t (x ∷ filter (is_among ps) (xs ++ ys)) (filter (is_among ps) (xs ++ ys)) ≡ cond t (x ∷ filter (is_among ps) xs) (filter (is_among ps) xs) ++ filter (is_among ps) ys
+      by true more = ap (λ (zs : List PlacedRegion). x ∷ zs) more
+      by false more = more
+
+  front : (xs ys : List PlacedRegion) → slice_get (xs ++ ys) 0 ≡ first_of_two (slice_get xs 0) (slice_get ys 0)
+  front [] ys = refl
+  front (x ∷ xs) ys = refl
+
+  one_row : (r : RoutingRow) (rows : List RoutingRow) → first_closed_at ps (r ∷ rows) ≡ first_of_two (closed_if_given ps r) (first_closed_at ps rows)
+  one_row r rows =
+      ap (λ (xs : List PlacedRegion). slice_get xs 0) (filter-append (closed_of r) (closed_regions rows))
+      ∙ front (filter (is_among ps) (closed_of r)) (filter (is_among ps) (closed_regions rows))
+      ∙ ap (λ (xs : List PlacedRegion). first_of_two (slice_get xs 0) (first_closed_at ps rows)) (kept r.path (given r.path) refl (closed_of r) (of_row r))
+      ∙ by (given r.path)
+    where
+      by : (t : Bool) → first_of_two (slice_get (cond t (closed_of r) []) 0) (first_closed_at ps rows) ≡ first_of_two (cond t (slice_get (closed_of r) 0) None) (first_closed_at ps rows)
+      by true = refl
+      by false = refl
+
+  -- the rows from an index on
+  pub row_step : (rows : List RoutingRow) (i : ℕ) (r : RoutingRow) → i < length rows → r ≡ get_or rows i r → first_closed_at ps (drop i rows) ≡ first_of_two (closed_if_given ps r) (first_closed_at ps (drop (i + 1) rows))
+  row_step rows i r h e = ap (first_closed_at ps) (dropped rows i r h e) ∙ one_row r (drop (i + 1) rows)
+
+-- ---- one function, from a register on
+
+module _ (p : Path) (command : ℕ) where
+  abbrev pub shut : List RegionNow → Option PlacedRegion
+  shut rs = slice_get (filter (λ (q : PlacedRegion). not (opens_space command q.space)) (map (region_now p) (map base_of rs))) 0
+
+  one_region : (r : RegionNow) (rs : List RegionNow) (t : Bool) → opens_space command (space_of (kind_of r.kind)) ≡ t → shut (r ∷ rs) ≡ cond t (shut rs) (Some (region_now p (base_of r)))
+  one_region r rs true e = rw e refl
+  one_region r rs false e = rw e refl
+
+  pub region_step : (rs : List RegionNow) (i : ℕ) (r : RegionNow) (t : Bool) → i < length rs → r ≡ get_or rs i r → opens_space command (space_of (kind_of r.kind)) ≡ t
+      → shut (drop i rs) ≡ cond t (shut (drop (i + 1) rs)) (Some (region_now p (base_of r)))
+  region_step rs i r t h e opened = ap shut (dropped rs i r h e) ∙ one_region r (drop (i + 1) rs) t opened
+
+-- ---- the first fault
+
+pub none_listed : {A : Type 0} (xs : List A) → slice_get xs 0 ≡ None → xs ≡ []
+none_listed [] e = refl
+none_listed (x ∷ xs) e = cc
+
+module _ (w : World) (s : State) (order : IsInOrder s.functions) where
+  fault_is : first_fault w s ≡ first_closed (closed_given w s)
+  fault_is = ap (λ (ps : List Problem). first_of_two (first_problem ps) (first_closed (closed_given w s))) ((problems_decide s.functions).1 order)
+
+  pub closed_first : (q : PlacedRegion) → slice_get (closed_given w s) 0 ≡ Some q → first_fault w s ≡ Some (closed_region q)
+  closed_first q e = fault_is ∙ by (closed_given w s) e
+    where
+      by : (qs : List PlacedRegion) → slice_get qs 0 ≡ Some q → first_closed qs ≡ Some (closed_region q)
+      by [] e = cc
+      by (x ∷ qs) e = let same : x ≡ q = cc in ap (λ (y : PlacedRegion). Some (closed_region y)) same
+
+  module _ (none : slice_get (closed_given w s) 0 ≡ None) where
+    pub no_fault : first_fault w s ≡ None
+    no_fault = fault_is ∙ ap first_closed (none_listed (closed_given w s) none)
+
+    pub can_be_given : CanBeGiven w s
+    can_be_given = record { order = order; none_closed = none_listed (closed_given w s) none }

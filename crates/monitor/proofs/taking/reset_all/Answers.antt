@@ -1,0 +1,19 @@
+use Rattle.std.proofs.Common.{ap, ◌∙◌}
+use Rattle.lists.proofs.Indices.{read_at}
+use Rattle.monitor.proofs.FirstGuests.{take_past}
+use Rattle.monitor.proofs.TakenOver.{reset_on, none_reset, path_reset}
+use Rattle.monitor.proofs.taking.reset_all.Goals as goal
+
+pub loop-path-init : goal.loop-path-init
+loop-path-init c = none_reset c.args.host.now
+
+pub loop-path-preserved : goal.loop-path-preserved
+loop-path-preserved c =
+    let ps = c.args.paths.now in
+    let i = c.loop-path.path-index in
+    path_reset c.args.host.now c.loop-path.host c.reset_endpoint.new.self ps i c.path-item.result (read_at ps i c.path-item.result c.loop-path-test.true c.path-item.is) c.loop-path.invariant c.reset_endpoint.ensures
+
+pub returns : goal.returns
+returns c =
+    let ps = c.args.paths.now in
+    c.loop-path.invariant ∙ ap (reset_on c.args.host.now) (take_past ps c.loop-path.path-index c.loop-path-test.false)

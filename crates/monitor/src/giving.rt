@@ -1,0 +1,58 @@
+//! Functions of a board that are given to guests.
+ghost use Rattle.std.specs.Prelude.{◌≡◌, IfOk};
+ghost use Rattle.model_guests.specs.World.{HasLawfulGuests};
+ghost use Rattle.model_guests.specs.WorldNow.{world_at_first};
+ghost use Rattle.model_handoff.specs.Handoffs.{IsHandoff};
+ghost use Rattle.model_handoff.specs.Regions.{CanBeGiven};
+ghost use Rattle.model_handoff.specs.SetUpCase.{over_set_up};
+ghost use Rattle.model_handoff.specs.WorldOver.{world_over};
+ghost use Rattle.monitor.specs.Beginnings.{world_on, world_of, taken_over};
+
+use crate::beginning::{guests_of, names_of};
+use crate::engine::Engine;
+use crate::taking::take_over;
+use accesses::GuestDecl;
+use host_bridge::{Host, Route};
+use std::alloc::{AllocError, Global};
+use window_packing::Ready;
+
+impl<R: Route + Drop> Engine<R> {
+    /// Gives functions of a board that is in order to guests, over a route that fits the board. No region of
+    /// theirs is closed. Each of them is reset first, but for what guests have copies of, and the address
+    /// latch is cleared. Only where memory is out it refuses, and then the board is dropped.
+    pub fn over(
+        alloc: Global,
+        host: Host,
+        route: R,
+        guests: &[GuestDecl],
+    ) -> Result<Engine<R>, AllocError>
+        requires fits { R.fits route host }
+        requires handoff { IsHandoff host.state }
+        requires lawful { HasLawfulGuests (world_on host guests.now) }
+        requires given { CanBeGiven (world_on host guests.now) host.state }
+        ensures { let w = world_on host guests.now in IfOk result (λ e. e ≡ world_over w (taken_over w host.state)) }
+    {
+        let mut host = host;
+        let names = names_of(guests);
+        take_over(&mut host, guests);
+        let rows = host.routing(alloc)?;
+        let kept = guests_of(alloc, &host, &rows, guests)?;
+        Ok(Engine::of_parts(host, route, names, kept))
+    }
+
+    /// Gives functions of a board that is set up to guests, over a route that fits the board. Only where
+    /// memory is out it refuses, and then the board is dropped.
+    pub fn new(
+        alloc: Global,
+        ready: Ready,
+        route: R,
+        guests: &[GuestDecl],
+    ) -> Result<Engine<R>, AllocError>
+        requires fits { R.fits route ready.host }
+        requires lawful { HasLawfulGuests (world_of ready guests.now) }
+        ensures { IfOk result (λ e. e ≡ over_set_up (world_at_first (world_of ready guests.now))) }
+    {
+        let (host, _table, _plan) = ready.into_parts();
+        Engine::over(alloc, host, route, guests)
+    }
+}

@@ -1,0 +1,31 @@
+//! A board that a monitor takes over.
+ghost use Rattle.std.specs.Prelude.{◌≡◌, map};
+ghost use Rattle.model_guests.specs.AgreedBoard.{agreed_function};
+ghost use Rattle.host_bridge.specs.HostState.{with_functions};
+ghost use Rattle.window_packing.specs.Readies.{board_below};
+ghost use Rattle.monitor.specs.Beginnings.{world_on, taken_over, files_given};
+
+use accesses::GuestDecl;
+use host_bridge::Host;
+use paths::Path;
+
+/// Resets the endpoints at these paths, but for what their guests have copies of.
+fn reset_all(host: &mut Host, paths: &[Path])
+    ensures { let files = files_given (board_below host.old) paths.now in
+        host.new ≡ with_functions (map (agreed_function files) host.old.state.functions) host.old }
+{
+    for path in paths {
+        host.reset_endpoint(path);
+    }
+}
+
+/// Resets each given function, but for what guests have copies of, and clears the address latch.
+pub(crate) fn take_over(host: &mut Host, decls: &[GuestDecl])
+    ensures { let w = world_on host.old decls.now in
+        host.new ≡ record host.old { state = taken_over w host.old.state } }
+{
+    for decl in decls {
+        reset_all(host, decl.slots.as_slice());
+    }
+    host.clear_latch();
+}
