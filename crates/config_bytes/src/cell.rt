@@ -105,6 +105,7 @@ impl Cell {
         let value = value | (mask & w1c);
         Cell { value, rw, w1c }
     }
+
     /// The cell with another value, whatever its masks, which stay.
     pub fn with_value(self, byte: u8) -> Cell
         ensures { result ≡ with_value byte self }
