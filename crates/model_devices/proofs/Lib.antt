@@ -3,3 +3,4 @@ pub mod Resets
 pub mod Seats
 pub mod Bytes
 pub mod Calls
+pub mod Examples

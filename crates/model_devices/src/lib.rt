@@ -3,6 +3,7 @@
 
 ghost use Rattle.model_devices.specs.Calls.{IsolatedByCalls};
 ghost use Rattle.model_devices.specs.DeviceByteLaws.{ReadsLeaveGuests, ReadsWritten, WriteReachesBoard};
+ghost use Rattle.model_devices.specs.Examples.{WorkedExamples};
 ghost use Rattle.model_devices.specs.DeviceLaws.{NamesAfterDevices, OthersAfterDevice, OwnAfterDevice, ResetByMoves, ResetReachesBoard, SeatedAfterDevices};
 
 /// A reset of a function leaves what a move to an empty slot and back leaves, and reaches the board by
@@ -33,4 +34,9 @@ pub fn devices_own_bytes()
 /// of its own events, those at its devices and the moves that touch it, over what it held before.
 pub fn calls_are_isolated()
     ensures { IsolatedByCalls }
+{}
+
+/// A device that counts in a register that its driver only reads.
+pub fn worked_examples()
+    ensures { WorkedExamples }
 {}
