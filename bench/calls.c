@@ -60,6 +60,8 @@ int main(int argc, char **argv)
     COST("read CONFIG_DATA", 1000000, pciguest_read(&machine, 0, PCIGUEST_IO, 0, 0xcfc, 4, &value));
     COST("raise a bit of Status", 1000000, pciguest_raise(&machine, 0, 0, PCIGUEST_RAISE_CONFIG, 7, 0x80));
     COST("reset a function", 1000000, pciguest_reset(&machine, 0, 0));
+    COST("read a byte as the device", 1000000, pciguest_device_read(&machine, 0, 0, 1, 0x10, &value));
+    COST("write a byte as the device", 1000000, pciguest_device_write(&machine, 0, 0, 1, 0x10, (uint8_t)i));
     pciguest_write(&machine, 0, PCIGUEST_CONFIG, 0, 0x14, 4, 0xc0100000);
     pciguest_write(&machine, 0, PCIGUEST_CONFIG, 0, 4, 2, 2);
     COST("tell where a region stands", 1000000, pciguest_region(&machine, 0, 0, 1, &region));

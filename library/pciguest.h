@@ -49,7 +49,7 @@ struct pciguest_board {
  * a memory address. */
 enum pciguest_space { PCIGUEST_CONFIG = 0, PCIGUEST_IO = 1, PCIGUEST_MEMORY = 2 };
 
-/* Where a raise goes that is not in a region: regions are told by base address register, 0 to 5. */
+/* Where a raise goes, or a device's own access, that is not in a region: regions are told by base address register, 0 to 5. */
 enum { PCIGUEST_RAISE_CONFIG = 6 };
 
 /* Where a region of a guest's function stands now, by the guest's own registers. It takes `size` addresses of its space
@@ -92,6 +92,10 @@ uint32_t pciguest_raw_host_read(struct pciguest *machine, uint32_t space, uint8_
                                 uint8_t function, uint64_t place, uint32_t width, uint32_t *value);
 uint32_t pciguest_raw_move(struct pciguest *machine, size_t from, uint64_t slot, size_t to, uint64_t target);
 uint32_t pciguest_raw_reset(struct pciguest *machine, size_t guest, uint64_t slot);
+uint32_t pciguest_raw_device_read(struct pciguest *machine, size_t guest, uint64_t slot, uint32_t part, uint64_t offset,
+                                  uint32_t *value);
+uint32_t pciguest_raw_device_write(struct pciguest *machine, size_t guest, uint64_t slot, uint32_t part, uint64_t offset,
+                                   uint8_t value);
 uint32_t pciguest_raw_region(struct pciguest *machine, size_t guest, uint64_t slot, uint32_t bar,
                              struct pciguest_region *region);
 uint32_t pciguest_raw_locate(struct pciguest *machine, size_t guest, uint32_t space, uint64_t slot, uint64_t place,
@@ -266,6 +270,28 @@ static inline uint32_t pciguest_reset(struct pciguest *machine, size_t guest, ui
     if (!machine)
         return PCIGUEST_ARGUMENT;
     return pciguest_raw_reset(machine, guest, slot);
+}
+
+/* Reads one byte of the function in a guest's slot, as its device does: of a region, or of configuration space the two
+ * bytes of Status (06h, 07h) and the device's own registers (40h to FFh). A byte that has no register reads 0. It
+ * changes nothing. 303: the slot is above 31, or the device has no such byte. 601: the slot is empty. 902: there is no
+ * such guest, or the part is above 6. */
+static inline uint32_t pciguest_device_read(struct pciguest *machine, size_t guest, uint64_t slot, uint32_t part,
+                                            uint64_t offset, uint32_t *value)
+{
+    if (!machine || !value)
+        return PCIGUEST_ARGUMENT;
+    return pciguest_raw_device_read(machine, guest, slot, part, offset, value);
+}
+
+/* Writes such a byte as its device does: it takes the value, whatever a guest's writes may change of it, and what they
+ * may change of it stays. Where no register is, nothing changes. Numbers as above. It has no line of a script. */
+static inline uint32_t pciguest_device_write(struct pciguest *machine, size_t guest, uint64_t slot, uint32_t part,
+                                             uint64_t offset, uint8_t value)
+{
+    if (!machine)
+        return PCIGUEST_ARGUMENT;
+    return pciguest_raw_device_write(machine, guest, slot, part, offset, value);
 }
 
 /* Where the region that begins at a base address register, 0 to 5, stands now, in the guest's own view. It takes no

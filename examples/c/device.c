@@ -11,10 +11,10 @@
  * The device has one region of memory:
  *
  *     00h  STATUS    1 byte, bit 0: a ring was served. Writing a one clears it
- *     04h  TALLY     4 bytes: one bit more for each ring, from the lowest on. Writing ones clears them
+ *     04h  COUNT     4 bytes: how many rings were served. A driver only reads it
  *     08h  DOORBELL  4 bytes: a write rings, and what was written stays
  *
- * A device's side sets bits, and its driver clears them: so what it counts are bits.
+ * The board file says what a driver's writes change. The device writes its registers whatever that says.
  */
 #include "pciguest.h"
 
@@ -22,7 +22,7 @@
 #include <stdio.h>
 #include <stdlib.h>
 
-enum { STATUS = 0x00, TALLY = 0x04, DOORBELL = 0x08, SERVED = 1 };
+enum { STATUS = 0x00, COUNT = 0x04, DOORBELL = 0x08, SERVED = 1 };
 
 /* What the processor tells of an access that it trapped: 1 to 8 bytes, at any place. */
 struct trap {
@@ -54,15 +54,15 @@ static uint64_t serve(struct pciguest *machine, size_t guest, struct trap trap)
     return value;
 }
 
-/* The device serves a ring: it sets one bit more of TALLY, unless all are set, and the bit of STATUS. */
-static void ring(struct pciguest *machine, size_t guest, const struct pciguest_hit *hit, uint64_t base)
+/* The device serves a ring: it counts it, byte by byte as long as one goes over, and sets the bit of STATUS. */
+static void ring(struct pciguest *machine, size_t guest, const struct pciguest_hit *hit)
 {
-    uint32_t tally = 0, bit = 0;
+    uint32_t byte = 0, place = COUNT;
 
-    (void)pciguest_read(machine, guest, PCIGUEST_MEMORY, 0, base + TALLY, 4, &tally);
-    while (bit < 31 && (tally >> bit & 1))
-        bit++;
-    (void)pciguest_raise(machine, guest, hit->slot, hit->part, TALLY + bit / 8, (uint8_t)(1 << bit % 8));
+    do {
+        (void)pciguest_device_read(machine, guest, hit->slot, hit->part, place, &byte);
+        (void)pciguest_device_write(machine, guest, hit->slot, hit->part, place, (uint8_t)(byte + 1));
+    } while (byte == 0xff && ++place < COUNT + 4);
     (void)pciguest_raise(machine, guest, hit->slot, hit->part, STATUS, SERVED);
     printf("ring\n");
 }
@@ -88,7 +88,7 @@ static void act(struct pciguest *machine, size_t guest, struct trap trap, const 
     if (!trap.is_write || !hit->found)
         return;
     if (hit->part != PCIGUEST_RAISE_CONFIG && is_ringing)
-        ring(machine, guest, hit, trap.place - hit->offset);
+        ring(machine, guest, hit);
     else if (hit->part == PCIGUEST_RAISE_CONFIG && is_moving)
         tell_traps(machine, guest, hit->slot);
 }
@@ -111,8 +111,8 @@ static const struct trap accesses[] = {
     {false, PCIGUEST_MEMORY, 0xe0000000, 1, 0},
     {false, PCIGUEST_MEMORY, 0xe0000008, 4, 0},
     {true, PCIGUEST_MEMORY, 0xe000000a, 1, 0xff}, /* and again, by one byte of it */
-    {false, PCIGUEST_MEMORY, 0xe0000000, 8, 0}, /* STATUS and TALLY at once */
-    {true, PCIGUEST_MEMORY, 0xe0000000, 1, SERVED}, /* it clears STATUS, and the lowest bit of TALLY */
+    {false, PCIGUEST_MEMORY, 0xe0000000, 8, 0}, /* STATUS and COUNT at once */
+    {true, PCIGUEST_MEMORY, 0xe0000000, 1, SERVED}, /* it clears STATUS, and leaves COUNT */
     {true, PCIGUEST_MEMORY, 0xe0000004, 4, 1},
     {true, PCIGUEST_MEMORY, 0xe0000006, 8, 0}, /* across alignment, and over the doorbell */
     {false, PCIGUEST_MEMORY, 0xe0000000, 8, 0},

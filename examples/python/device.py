@@ -9,9 +9,9 @@ from typing import Iterator, Optional, Tuple
 
 from pciguest import Guest, Hit, Machine, Refusal
 
-# The registers of the device's region: bit 0 of STATUS says that a ring was served, TALLY has one bit more for each, and a
-# write of DOORBELL rings. Writing ones clears bits of the first two.
-STATUS, TALLY, DOORBELL, SERVED = 0x00, 0x04, 0x08, 1
+# The registers of the device's region: bit 0 of STATUS says that a ring was served, and writing a one clears it; COUNT says
+# how many were, and a driver only reads it; a write of DOORBELL rings.
+STATUS, COUNT, DOORBELL, SERVED = 0x00, 0x04, 0x08, 1
 
 
 @dataclass(frozen=True)
@@ -55,11 +55,13 @@ def serve(guest: Guest, trap: Trap) -> int:
     return value if trap.written is None else trap.written
 
 
-def ring(guest: Guest, hit: Hit, base: int) -> None:
-    """The device serves a ring: it sets one bit more of TALLY, unless all are set, and the bit of STATUS."""
-    tally = guest.memory[base + TALLY:4]
-    bit = next((bit for bit in range(32) if not tally >> bit & 1), 31)
-    guest.raise_bits(hit.slot, TALLY + bit // 8, 1 << bit % 8, region=hit.region)
+def ring(guest: Guest, hit: Hit) -> None:
+    """The device serves a ring: it counts it, byte by byte as long as one goes over, and sets the bit of STATUS."""
+    for place in range(COUNT, COUNT + 4):
+        byte = guest.device_read(hit.slot, place, region=hit.region)
+        guest.device_write(hit.slot, place, byte + 1 & 0xFF, region=hit.region)
+        if byte < 0xFF:
+            break
     guest.raise_bits(hit.slot, STATUS, SERVED, region=hit.region)
     print("ring")
 
@@ -83,7 +85,7 @@ def act(guest: Guest, trap: Trap, hit: Hit) -> None:
         if hit.offset in (0x04, 0x05) or 0x10 <= hit.offset < 0x28:
             tell_traps(guest, hit.slot)
     elif hit.offset < DOORBELL + 4 and hit.offset + trap.width > DOORBELL:
-        ring(guest, hit, trap.place - hit.offset)
+        ring(guest, hit)
 
 
 def step(guest: Guest, trap: Trap) -> None:
@@ -127,10 +129,10 @@ ACCESSES = (
     register(STATUS, 1),
     register(DOORBELL, 4),
     register(DOORBELL + 2, 1, 0xFF),  # and again, by one byte of it
-    register(STATUS, 8),  # STATUS and TALLY at once
-    register(STATUS, 1, SERVED),  # it clears STATUS, and the lowest bit of TALLY
-    register(TALLY, 4, 1),
-    register(TALLY + 2, 8, 0),  # across alignment, and over the doorbell
+    register(STATUS, 8),  # STATUS and COUNT at once
+    register(STATUS, 1, SERVED),  # it clears STATUS, and leaves COUNT
+    register(COUNT, 4, 1),
+    register(COUNT + 2, 8, 0),  # across alignment, and over the doorbell
     register(STATUS, 8),
     Trap("memory", 0xD0000000, 4),  # nobody there
 )

@@ -11,10 +11,10 @@ mod pciguest;
 use pciguest::{At, Fault, Hit, Machine, Part};
 use std::process::ExitCode;
 
-/// The registers of the device's region: bit 0 of STATUS says that a ring was served, TALLY has one bit more for each,
-/// and a write of DOORBELL rings. Writing ones clears bits of the first two.
+/// The registers of the device's region: bit 0 of STATUS says that a ring was served, and writing a one clears it; COUNT
+/// says how many were, and a driver only reads it; a write of DOORBELL rings.
 const STATUS: u64 = 0x00;
-const TALLY: u64 = 0x04;
+const COUNT: u64 = 0x04;
 const DOORBELL: u64 = 0x08;
 const SERVED: u8 = 1;
 
@@ -52,13 +52,17 @@ impl Board {
         }
     }
 
-    /// The device serves a ring: it sets one bit more of TALLY, unless all are set, and the bit of STATUS.
-    fn ring(&mut self, hit: Hit, base: u64) -> Result<(), Fault> {
-        let tally = self.machine.read(self.guest, At::Memory { address: base + TALLY }, 4)?;
-        let bit = tally.trailing_ones().min(31);
-        let (byte, mask) = (TALLY + u64::from(bit / 8), 1 << (bit % 8));
-        self.machine.raise(self.guest, hit.slot, hit.part, byte, mask)?;
-        self.machine.raise(self.guest, hit.slot, hit.part, STATUS, SERVED)?;
+    /// The device serves a ring: it counts it, byte by byte as long as one goes over, and sets the bit of STATUS.
+    fn ring(&mut self, hit: Hit) -> Result<(), Fault> {
+        let Hit { slot, part, .. } = hit;
+        for place in COUNT..COUNT + 4 {
+            let byte = self.machine.device_read(self.guest, slot, part, place)?;
+            self.machine.device_write(self.guest, slot, part, place, byte.wrapping_add(1))?;
+            if byte < 0xff {
+                break;
+            }
+        }
+        self.machine.raise(self.guest, slot, part, STATUS, SERVED)?;
         println!("ring");
         Ok(())
     }
@@ -80,15 +84,15 @@ impl Board {
     /// its doorbell was. An access that begins before the doorbell may ring it too.
     fn act(&mut self, trap: Trap, hit: Hit) -> Result<(), Fault> {
         let rings = hit.offset < DOORBELL + 4 && hit.offset + u64::from(trap.width) > DOORBELL;
-        match (hit.part, trap.at) {
-            (Part::Config, _) => {
+        match hit.part {
+            Part::Config => {
                 if matches!(hit.offset, 0x04..=0x05 | 0x10..=0x27) {
                     self.tell_traps(hit.slot);
                 }
                 Ok(())
             }
-            (Part::Region(_), At::Memory { address }) if rings => self.ring(hit, address - hit.offset),
-            (Part::Region(_), _) => Ok(()),
+            Part::Region(_) if rings => self.ring(hit),
+            Part::Region(_) => Ok(()),
         }
     }
 
@@ -161,10 +165,10 @@ fn accesses() -> Vec<Trap> {
         read(register(STATUS), 1),
         read(register(DOORBELL), 4),
         write(register(DOORBELL + 2), 1, 0xff),    // and again, by one byte of it
-        read(register(STATUS), 8),                 // STATUS and TALLY at once
-        write(register(STATUS), 1, SERVED.into()), // it clears STATUS, and the lowest bit of TALLY
-        write(register(TALLY), 4, 1),
-        write(register(TALLY + 2), 8, 0), // across alignment, and over the doorbell
+        read(register(STATUS), 8),                 // STATUS and COUNT at once
+        write(register(STATUS), 1, SERVED.into()), // it clears STATUS, and leaves COUNT
+        write(register(COUNT), 4, 1),
+        write(register(COUNT + 2), 8, 0), // across alignment, and over the doorbell
         read(register(STATUS), 8),
         read(At::Memory { address: 0xd000_0000 }, 4), // nobody there
     ]

@@ -56,6 +56,22 @@ extern "C" {
         value: u32,
     ) -> u32;
     fn pciguest_raw_raise(handle: *mut Handle, guest: usize, slot: u64, part: u32, offset: u64, mask: u8) -> u32;
+    fn pciguest_raw_device_read(
+        handle: *mut Handle,
+        guest: usize,
+        slot: u64,
+        part: u32,
+        offset: u64,
+        value: *mut u32,
+    ) -> u32;
+    fn pciguest_raw_device_write(
+        handle: *mut Handle,
+        guest: usize,
+        slot: u64,
+        part: u32,
+        offset: u64,
+        value: u8,
+    ) -> u32;
     fn pciguest_raw_host_read(
         handle: *mut Handle,
         space: u32,
@@ -188,12 +204,23 @@ fn pieces(at: At, width: u32) -> Result<Vec<(u32, u32)>, Fault> {
     Ok(pieces)
 }
 
-/// Where a device raises bits, and what an access hits: configuration space, or the region of a base address register,
+/// Where a device raises bits, reads and writes, and what an access hits: configuration space, or the region of a base address register,
 /// 0 to 5.
 #[derive(Clone, Copy, Debug, PartialEq, Eq)]
 pub enum Part {
     Config,
     Region(u8),
+}
+
+impl Part {
+    fn number(self) -> u32 {
+        match self {
+            Part::Config => 6,
+            Part::Region(register) if register < 6 => u32::from(register),
+            // 7 is no part, and is refused by the library
+            Part::Region(_) => 7,
+        }
+    }
 }
 
 /// Where a region of a guest's function stands now, by the guest's own registers.
@@ -317,18 +344,21 @@ impl Machine {
 
     /// Sets bits of one byte of the function in a guest's slot, as its device does.
     pub fn raise(&mut self, guest: usize, slot: u64, part: Part, offset: u64, mask: u8) -> Result<(), Fault> {
-        let part = match part {
-            Part::Config => 6,
-            // 7 is no part, and is refused by the library
-            Part::Region(register) => {
-                if register < 6 {
-                    u32::from(register)
-                } else {
-                    7
-                }
-            }
-        };
-        answered(unsafe { pciguest_raw_raise(&mut self.handle, guest, slot, part, offset, mask) })
+        answered(unsafe { pciguest_raw_raise(&mut self.handle, guest, slot, part.number(), offset, mask) })
+    }
+
+    /// Reads one byte of the function in a guest's slot, as its device does.
+    pub fn device_read(&mut self, guest: usize, slot: u64, part: Part, offset: u64) -> Result<u8, Fault> {
+        let mut value = 0;
+        answered(unsafe {
+            pciguest_raw_device_read(&mut self.handle, guest, slot, part.number(), offset, &mut value)
+        })?;
+        Ok(value as u8)
+    }
+
+    /// Writes such a byte, as its device does.
+    pub fn device_write(&mut self, guest: usize, slot: u64, part: Part, offset: u64, value: u8) -> Result<(), Fault> {
+        answered(unsafe { pciguest_raw_device_write(&mut self.handle, guest, slot, part.number(), offset, value) })
     }
 
     /// Reads 1, 2 or 4 bytes as the host.

@@ -110,7 +110,7 @@ static bool event(struct pciguest *machine)
     size_t guest = below(GUESTS);
     uint64_t slot = below(3), offset = offsets[below(sizeof offsets)];
 
-    switch (below(6)) {
+    switch (below(7)) {
     case 0:
         (void)pciguest_move(machine, guest, slot, below(GUESTS), below(3));
         return true;
@@ -121,6 +121,10 @@ static bool event(struct pciguest *machine)
         (void)pciguest_raise(machine, guest, slot, below(2) ? PCIGUEST_RAISE_CONFIG : 1, below(0x40), 0xff);
         return false;
     case 3:
+        (void)pciguest_device_write(machine, guest, slot, below(2) ? PCIGUEST_RAISE_CONFIG : 1, below(0x100),
+                                    (uint8_t)below(256));
+        return false;
+    case 4:
         (void)pciguest_write(machine, guest, PCIGUEST_MEMORY, 0, below(4) << 20, 4, (uint32_t)below(1 << 20));
         return false;
     default:

@@ -26,6 +26,8 @@ static void without_a_machine(void)
     IS(pciguest_host_read(&none, PCIGUEST_MEMORY, 0, 0, 0, 0, 4, &value), 901);
     IS(pciguest_move(&none, 0, 0, 0, 1), 901);
     IS(pciguest_reset(&none, 0, 0), 901);
+    IS(pciguest_device_read(&none, 0, 0, 1, 0, &value), 901);
+    IS(pciguest_device_write(&none, 0, 0, 1, 0, 1), 901);
     IS(pciguest_region(&none, 0, 0, 0, &region), 901);
     IS(pciguest_locate(&none, 0, PCIGUEST_IO, 0, 0, &hit), 901);
     IS(pciguest_guest(&none, "a", 1, &count), 901);
@@ -58,6 +60,9 @@ static void null_pointers(struct pciguest *machine)
     IS(pciguest_host_read(machine, PCIGUEST_IO, 0, 0, 0, 0, 1, NULL), 902);
     IS(pciguest_move(NULL, 0, 0, 0, 0), 902);
     IS(pciguest_reset(NULL, 0, 0), 902);
+    IS(pciguest_device_read(NULL, 0, 0, 1, 0, &value), 902);
+    IS(pciguest_device_read(machine, 0, 0, 1, 0, NULL), 902);
+    IS(pciguest_device_write(NULL, 0, 0, 1, 0, 1), 902);
     IS(pciguest_region(NULL, 0, 0, 0, &region), 902);
     IS(pciguest_region(machine, 0, 0, 0, NULL), 902);
     IS(pciguest_locate(NULL, 0, PCIGUEST_IO, 0, 0, &hit), 902);
@@ -91,6 +96,16 @@ static void bad_arguments(struct pciguest *machine, const uint8_t *board, size_t
     IS(pciguest_reset(machine, 2, 0), 902);
     IS(pciguest_reset(machine, 0, 31), 601);
     IS(pciguest_reset(machine, 0, 32), 303);
+    IS(pciguest_device_read(machine, 2, 0, 1, 0, &value), 902);
+    IS(pciguest_device_read(machine, 0, 0, 7, 0, &value), 902);
+    IS(pciguest_device_read(machine, 0, 32, 1, 0, &value), 303);
+    IS(pciguest_device_read(machine, 0, 31, 1, 0, &value), 601);
+    IS(pciguest_device_read(machine, 0, 0, 1, 4096, &value), 303);
+    IS(pciguest_device_write(machine, 2, 0, 1, 0, 1), 902);
+    IS(pciguest_device_write(machine, 0, 0, 7, 0, 1), 902);
+    IS(pciguest_device_write(machine, 0, 32, 1, 0, 1), 303);
+    IS(pciguest_device_write(machine, 0, 31, 1, 0, 1), 601);
+    IS(pciguest_device_write(machine, 0, 0, 1, 4096, 1), 303);
     IS(pciguest_guest(machine, "nobody", 6, &count), 902);
     IS(pciguest_run_line(machine, "a cr 0 0 4", 10, reply, sizeof reply - 1, &count), 902);
     IS(value, 7);
@@ -120,6 +135,36 @@ static void resets(struct pciguest *machine)
     IS(value, 0);
     IS(pciguest_read(machine, 0, PCIGUEST_CONFIG, 1, 4, 2, &value), 0);
     IS(value, 2);
+}
+
+/* A device reaches Status, 40h to FFh and its regions, and no other byte: not the guest's copies, nor identity. What it
+ * writes its driver reads, whatever the driver's own writes may change; it takes no memory. */
+static void devices(struct pciguest *machine)
+{
+    uint32_t value = 7;
+    long before = blocks;
+
+    calls_left = 1;
+    for (uint64_t offset = 0; offset < 0x101; offset++) {
+        bool reached = offset == 6 || offset == 7 || (offset >= 0x40 && offset < 0x100);
+
+        IS(pciguest_device_read(machine, 0, 0, PCIGUEST_RAISE_CONFIG, offset, &value), reached ? 0 : 303);
+        IS(pciguest_device_write(machine, 0, 0, PCIGUEST_RAISE_CONFIG, offset, (uint8_t)value), reached ? 0 : 303);
+    }
+    IS(pciguest_device_write(machine, 0, 0, PCIGUEST_RAISE_CONFIG, 7, 0xa5), 0);
+    IS(pciguest_device_read(machine, 0, 0, PCIGUEST_RAISE_CONFIG, 7, &value), 0);
+    IS(value, 0xa5);
+    IS(pciguest_read(machine, 0, PCIGUEST_CONFIG, 0, 7, 1, &value), 0);
+    IS(value, 0xa5);
+    IS(pciguest_write(machine, 0, PCIGUEST_CONFIG, 0, 7, 1, 0xff), 0); /* the driver clears what it may */
+    IS(pciguest_device_read(machine, 0, 0, PCIGUEST_RAISE_CONFIG, 7, &value), 0);
+    IS(value, 0xa5 & ~0xf9);
+    IS(pciguest_device_write(machine, 0, 0, 1, 4095, 0x5a), 0); /* no cell stands there */
+    IS(pciguest_device_read(machine, 0, 0, 1, 4095, &value), 0);
+    IS(value, 0);
+    IS(pciguest_reset(machine, 0, 0), 0);
+    calls_left = -1;
+    IS((uint64_t)blocks, (uint64_t)before);
 }
 
 static void reply_is(int line, struct pciguest *machine, const char *text, const char *wanted)
@@ -299,6 +344,7 @@ int main(int argc, char **argv)
     null_pointers(&machine);
     bad_arguments(&machine, board, length);
     resets(&machine);
+    devices(&machine);
     line_feeds(&machine);
     pciguest_free(&machine);
     pciguest_free(&machine);

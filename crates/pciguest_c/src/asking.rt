@@ -88,7 +88,7 @@ pub fn write(
 }
 
 /// Where a raise goes: a region by its register, or 6 for configuration space.
-fn place_of(part: u32) -> Option<Place>
+pub fn place_of(part: u32) -> Option<Place>
     ensures { option_map part_of result ≡ part_told part }
 {
     match part {

@@ -9,6 +9,7 @@ mod board_handle;
 mod board_life;
 mod board_owner;
 mod board_set_up;
+mod device_calls;
 mod driving;
 mod guest_calls;
 mod handle;

@@ -3,7 +3,7 @@
 from __future__ import annotations
 
 from ctypes import byref, c_size_t, c_uint32
-from typing import Any, Callable, Iterator, Optional, Union
+from typing import Any, Callable, Iterator, Optional, Tuple, Union
 
 from ._calls import CALLS, CONFIG, IO, MEMORY, RAISE_CONFIG, Handle, HitTold, RegionTold, number
 from ._held import Held, as_bytes
@@ -111,13 +111,33 @@ class Guest:
 
         303: the slot is above 31, or the function has no such byte. 601: the slot is empty. 902: the region is above 5.
         """
+        place = self._byte(slot, offset, region)
+        self.machine._call("raise", self.index, *place, number("mask", mask, 8))
+
+    def _byte(self, slot: int, offset: int, region: Optional[int]) -> Tuple[int, int, int]:
         part = RAISE_CONFIG
         if region is not None:
             # the library's number of configuration space is no register; the next one is nothing, and is refused
             asked = number("region", region, 32)
             part = asked if asked < RAISE_CONFIG else RAISE_CONFIG + 1
-        place = number("slot", slot, 64), part, number("offset", offset, 64)
-        self.machine._call("raise", self.index, *place, number("mask", mask, 8))
+        return number("slot", slot, 64), part, number("offset", offset, 64)
+
+    def device_read(self, slot: int, offset: int, region: Optional[int] = None) -> int:
+        """One byte of the function in a slot, as its device reads it: of the region of a base address register, 0 to 5,
+        or of configuration space the two bytes of Status (06h, 07h) and the device's own registers (40h to FFh). A byte
+        that has no register reads 0. It changes nothing.
+
+        303: the slot is above 31, or the device has no such byte. 601: the slot is empty. 902: the region is above 5.
+        """
+        told = c_uint32()
+        self.machine._call("device_read", self.index, *self._byte(slot, offset, region), byref(told))
+        return told.value
+
+    def device_write(self, slot: int, offset: int, value: int, region: Optional[int] = None) -> None:
+        """Writes such a byte as its device does: it takes the value, whatever a guest's writes may change of it, and
+        what they may change of it stays. Where no register is, nothing changes. Refused as a read is.
+        """
+        self.machine._call("device_write", self.index, *self._byte(slot, offset, region), number("value", value, 8))
 
     def reset(self, slot: int) -> None:
         """Resets the function in a slot, where it is: nothing is carried over, as in a move.

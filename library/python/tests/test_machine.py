@@ -89,6 +89,19 @@ class Guests(Case):
         with Machine(MAIN) as other, self.assertRaises(ValueError):
             other.move(self.a, 1, other.guest("b"), 6)
 
+    def test_a_device_reads_and_writes_its_own(self):
+        a = self.a
+        a.device_write(0, 7, 0xA5)
+        self.assertEqual((a.device_read(0, 7), a.config[0][7:1]), (0xA5, 0xA5))
+        for offset in (0, 4, 5, 8, 0x0E, 0x10, 0x3C, 0x3F, 0x100):
+            self.refused(303, a.device_read, 0, offset)
+            self.refused(303, a.device_write, 0, offset, 1)
+        self.refused(303, a.device_write, 0, 4096, 1, 1)
+        self.refused(601, a.device_read, 31, 0, 1)
+        self.refused(902, a.device_read, 0, 0, 6)
+        with self.assertRaises(ValueError):
+            a.device_write(0, 7, 256)
+
     def test_a_function_is_reset(self):
         function, other = self.a.config[0], self.a.config[1]
         function[4:2] = other[4:2] = 2

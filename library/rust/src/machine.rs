@@ -213,6 +213,59 @@ impl Machine {
         answered(unsafe { raw::pciguest_raw_reset(&mut self.handle, guest.index(), slot) })
     }
 
+    /// Reads one byte of the function in a guest's slot, as its device does: of a region, or of configuration space
+    /// the two bytes of Status (06h, 07h) and the device's own registers (40h to FFh). A byte that has no register
+    /// reads 0. It changes nothing.
+    ///
+    /// # Errors
+    ///
+    /// 303: the slot is above 31, or the device has no such byte. 601: the slot is empty. 902: there is no such
+    /// guest, or the region is above 5.
+    pub fn device_read(
+        &mut self,
+        guest: Guest,
+        slot: u64,
+        part: Part,
+        offset: u64,
+    ) -> Result<u8, Error> {
+        let mut value = 0;
+        // SAFETY: `value` is a place of its own.
+        answered(unsafe {
+            raw::pciguest_raw_device_read(
+                &mut self.handle,
+                guest.index(),
+                slot,
+                part.number(),
+                offset,
+                &mut value,
+            )
+        })?;
+        Ok(value as u8)
+    }
+
+    /// Writes such a byte as its device does: it takes the value, whatever a guest's writes may change of it, and
+    /// what they may change of it stays. Where no register is, nothing changes. Refused as a read is.
+    pub fn device_write(
+        &mut self,
+        guest: Guest,
+        slot: u64,
+        part: Part,
+        offset: u64,
+        value: u8,
+    ) -> Result<(), Error> {
+        // SAFETY: no pointer but the handle is passed.
+        answered(unsafe {
+            raw::pciguest_raw_device_write(
+                &mut self.handle,
+                guest.index(),
+                slot,
+                part.number(),
+                offset,
+                value,
+            )
+        })
+    }
+
     /// Where the region that begins at a base address register, 0 to 5, stands now, in the guest's own view. The answer
     /// stays until the guest writes Command or a base address register of this function, the function is moved, or it
     /// is reset. It changes nothing.

@@ -95,7 +95,7 @@ impl HostAt {
     }
 }
 
-/// A part of a function: where its device raises bits, or where an access of its guest lands.
+/// A part of a function: where its device raises bits, reads and writes, or where an access of its guest lands.
 #[derive(Clone, Copy, Debug, PartialEq, Eq)]
 pub enum Part {
     /// Configuration space.

@@ -103,6 +103,22 @@ extern "C" {
         target: u64,
     ) -> u32;
     pub fn pciguest_raw_reset(machine: *mut Handle, guest: usize, slot: u64) -> u32;
+    pub fn pciguest_raw_device_read(
+        machine: *mut Handle,
+        guest: usize,
+        slot: u64,
+        part: u32,
+        offset: u64,
+        value: *mut u32,
+    ) -> u32;
+    pub fn pciguest_raw_device_write(
+        machine: *mut Handle,
+        guest: usize,
+        slot: u64,
+        part: u32,
+        offset: u64,
+        value: u8,
+    ) -> u32;
     pub fn pciguest_raw_region(
         machine: *mut Handle,
         guest: usize,

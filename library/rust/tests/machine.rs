@@ -174,6 +174,29 @@ fn a_function_moves() -> Result<(), Error> {
 }
 
 #[test]
+fn a_device_reads_and_writes_its_own() -> Result<(), Error> {
+    let mut machine = Machine::new(BOARD)?;
+    let a = machine.guest("a")?;
+    machine.device_write(a, 0, Part::Config, 7, 0xa5)?;
+    assert_eq!(machine.device_read(a, 0, Part::Config, 7)?, 0xa5);
+    assert_eq!(machine.read(a, config(0, 7), 1)?, 0xa5);
+    for offset in [0, 4, 5, 8, 0x0e, 0x10, 0x3c, 0x3f, 0x100] {
+        assert_eq!(number(machine.device_read(a, 0, Part::Config, offset)), 303);
+        assert_eq!(
+            number(machine.device_write(a, 0, Part::Config, offset, 1)),
+            303
+        );
+    }
+    assert_eq!(
+        number(machine.device_write(a, 0, Part::Region(1), 4096, 1)),
+        303
+    );
+    assert_eq!(number(machine.device_read(a, 31, Part::Region(1), 0)), 601);
+    assert_eq!(number(machine.device_read(a, 0, Part::Region(6), 0)), 902);
+    Ok(())
+}
+
+#[test]
 fn a_function_is_reset() -> Result<(), Error> {
     let mut machine = Machine::new(BOARD)?;
     let a = machine.guest("a")?;
