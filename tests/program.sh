@@ -170,7 +170,7 @@ finish() {
   [ -s lines ] || return 0
   cp replies wanted.out
   ends_with "$section" "$verb" asked.toml < lines
-  if [ -x "$lone" ] && [ -n "$guests" ] && [ -e "$guests" ]; then
+  if [ "$verb" = run ] && [ -x "$lone" ] && [ -n "$guests" ] && [ -e "$guests" ]; then
     timeout 60 "$lone" "$guests" < lines > out 2> err; status=$?
     cp lone_replies wanted.out; : > wanted.err; wanted=0
     tell "$section, by lone guests"

@@ -68,7 +68,7 @@ fn bound() -> Vec<Call> {
 
 #[test]
 fn calls_are_those_of_the_header() {
-    assert_eq!(declared().len(), 22);
+    assert_eq!(declared().len(), 24);
     assert_eq!(declared(), bound());
 }
 
