@@ -67,20 +67,6 @@ least_lost r q xs ys es a b c f g h =
 abbrev both_answer : Agent → Agent → ℕ → Bool
 both_answer x y n = answers x.space n x && answers x.space n y
 
-pub least_shared : (x y : Agent) (ks ls ms ns : List Extent) → x.extents ≡ ks ++ ls → y.extents ≡ ms ++ ns → (a b c d : Option ℕ)
-    → option_to_list a ≡ filter (both_answer x y) (map (λ e. e.first) ks)
-    → option_to_list b ≡ filter (both_answer x y) (map (λ e. e.first) ls)
-    → option_to_list c ≡ filter (both_answer x y) (map (λ e. e.first) ms)
-    → option_to_list d ≡ filter (both_answer x y) (map (λ e. e.first) ns)
-    → least_of a (least_of b (least_of c d)) ≡ shared x y
-least_shared x y ks ls ms ns p q a b c d f g h i =
-    ap (least_of a) (ap (least_of b) (ap (least_of c) (sym (least_last (both_answer x y) d (firsts ns) i)) ∙ sym (least_piece (both_answer x y) c (firsts ms) (firsts ns) h)) ∙ sym (least_piece (both_answer x y) b (firsts ls) (firsts ms ++ firsts ns) g))
-    ∙ sym (least_piece (both_answer x y) a (firsts ks) (firsts ls ++ (firsts ms ++ firsts ns)) f)
-    ∙ ap (λ zs. least (filter (both_answer x y) zs)) whole
-  where
-    firsts : List Extent → List ℕ
-    firsts es = map (λ e. e.first) es
-
     whole : firsts ks ++ (firsts ls ++ (firsts ms ++ firsts ns)) ≡ firsts (x.extents ++ y.extents)
     whole =
         ap (λ zs. firsts ks ++ (firsts ls ++ zs)) (sym (map-append (λ (e : Extent). e.first) ms ns) ∙ ap firsts (sym q))

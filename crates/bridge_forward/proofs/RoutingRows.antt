@@ -72,10 +72,6 @@ has_room slots i r h e =
 
 -- ---- windows
 
-pub window_from : (first last : ℕ) (w : Option model.Window) → Some (first, last) ≡ option_map pair_of w → Some (window_of (record { first = first; last = last })) ≡ w
-window_from first last None e = cc
-window_from first last (Some w) e = let same : (first, last) ≡ (w.first, w.last) = cc in ap (λ (p : ℕ × ℕ). Some (record { first = p.0; last = p.1 })) same
-
 pub no_window : (w : Option model.Window) → None ≡ option_map pair_of w → None ≡ w
 no_window None e = refl
 no_window (Some w) e = cc

@@ -55,10 +55,6 @@ IsAll p file fs = Each (λ g. path_eq g.path p ≡ true → g.file ≡ file) fs
 abbrev changed_one : (File → File) → Bool → BoardFunction → BoardFunction
 changed_one g t f = cond t (record f { file = g f.file }) f
 
-same_path : (g : File → File) (t : Bool) (f : BoardFunction) → (changed_one g t f).path ≡ f.path
-same_path g true f = refl
-same_path g false f = refl
-
 same_row : (g : File → File) (t : Bool) (f : BoardFunction) → row_at (changed_one g t f) ≡ row_at f
 same_row g true f = refl
 same_row g false f = refl

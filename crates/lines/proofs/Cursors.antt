@@ -9,10 +9,6 @@ use Rattle.lines.specs.Cursors.{before_blank, after_blank, IsAtWord, Numbered, n
 use Rattle.lines.proofs.Digits.{longer, longer-None}
 use Rattle.lines.proofs.Splitting.{is_word}
 
--- a blank at the front is in no word
-pub words-blank : (c : ℕ) (cs : Text) → is_blank c ≡ true → words (c ∷ cs) ≡ words cs
-words-blank c cs h = rw h refl
-
 by_next : (b : Bool) (c d : ℕ) (ds : Text)
     → onto d (pieces is_blank ds) ≡ (d ∷ before_blank ds) ∷ pieces is_blank (after_blank ds)
     → onto c (cond b ([] ∷ pieces is_blank ds) (onto d (pieces is_blank ds)))
@@ -36,9 +32,6 @@ pub words-first : (c : ℕ) (cs : Text) → is_blank c ≡ false
     → words (c ∷ cs) ≡ before_blank (c ∷ cs) ∷ words (after_blank (c ∷ cs))
 words-first c cs h =
     rw h (ap (filter is_word) (pieces-onto c cs) ∙ kept (c ∷ before_blank cs) (pieces is_blank (after_blank cs)) (omega arith))
-
-pub at_blank : (c : ℕ) (cs : Text) → is_blank c ≡ true → (before_blank (c ∷ cs) ≡ []) × (after_blank (c ∷ cs) ≡ cs)
-at_blank c cs h = (rw h refl, rw h refl)
 
 pub at_other : (c : ℕ) (cs : Text) → is_blank c ≡ false
     → (before_blank (c ∷ cs) ≡ c ∷ before_blank cs) × (after_blank (c ∷ cs) ≡ after_blank cs)

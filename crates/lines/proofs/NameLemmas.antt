@@ -97,17 +97,6 @@ pub meaning_of_words-unknown : (ns : List Text) (w : Text) (ws : List Text) → 
 meaning_of_words-unknown ns w ws o n =
     by_no_word _ _ (is_comment w) (bytes_eq w (codes "host")) (has_name ns w) _ (bad nobody 402) o.0 o.1 n
 
--- a line's first seven words decide what it means
-pub meaning_of_words-take : (ns ws : List Text) → meaning_of_words ns (take 7 ws) ≡ meaning_of_words ns ws
-meaning_of_words-take ns [] = refl
-meaning_of_words-take ns (a ∷ []) = refl
-meaning_of_words-take ns (a ∷ b ∷ []) = refl
-meaning_of_words-take ns (a ∷ b ∷ c ∷ []) = refl
-meaning_of_words-take ns (a ∷ b ∷ c ∷ d ∷ []) = refl
-meaning_of_words-take ns (a ∷ b ∷ c ∷ d ∷ e ∷ []) = refl
-meaning_of_words-take ns (a ∷ b ∷ c ∷ d ∷ e ∷ f ∷ []) = refl
-meaning_of_words-take ns (a ∷ b ∷ c ∷ d ∷ e ∷ f ∷ g ∷ ws) = refl
-
 short_line : (b : Bool) (l m : Meaning) → b ≡ false → m ≡ cond b l m
 short_line b l m h = rw h refl
 
@@ -153,9 +142,6 @@ guests_within P Q (what.Raise h slot place off mask) f p = f h p
 guests_within P Q (what.Host r) f p = tt
 guests_within P Q (what.Move from slot to target) f p = (f from p.0, f to p.1)
 guests_within P Q (what.Bad w n) f p = answered_within P Q w f p
-
-pub first_within : (ns : List Text) (g : ℕ) → IsFirst ns g → g < length ns
-first_within ns g e = (position-Some (λ n. bytes_eq n (name_of ns g)) ns g [] e).0
 
 -- ---- moves between guests that are there
 

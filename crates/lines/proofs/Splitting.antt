@@ -49,17 +49,6 @@ pieces-split p [] = refl
 pieces-split p (x ∷ xs) =
     by_test (p x) x (slice_split p xs) (pieces p xs) (without_last-split p [] xs) (pieces-split p xs)
 
-filter-without_last : (ps : List Text) → filter is_word (without_last ps) ≡ filter is_word ps
-filter-without_last [] = refl
-filter-without_last ([] ∷ []) = refl
-filter-without_last ((c ∷ cs) ∷ []) = refl
-filter-without_last (p ∷ q ∷ ps) = ap (λ qs. cond (is_word p) (p ∷ qs) qs) (filter-without_last (q ∷ ps))
-
--- the words are the parts between blanks that have a byte
-pub words-split : (line : Text) → filter is_word (slice_split is_blank line) ≡ words line
-words-split line =
-    sym (filter-without_last (slice_split is_blank line)) ∙ ap (filter is_word) (pieces-split is_blank line)
-
 -- `&xs[n..]`
 pub rest_is : (xs : Text) (n : ℕ) → take (length xs - n) (drop n xs) ≡ drop n xs
 rest_is xs n = grind (arith, common_steps)

@@ -12,11 +12,5 @@ pub write_of_mw : (op a w v : Text) → bytes_eq op (codes "iw") ≡ false → b
     → written_at v (host_at host_address a w) ≡ host_write_of (op ∷ a ∷ w ∷ v ∷ [])
 write_of_mw op a w v other is = rw (other, is) refl
 
-pub write_of_none : (op a w v : Text) → bytes_eq op (codes "iw") ≡ false → bytes_eq op (codes "mw") ≡ false → None ≡ host_write_of (op ∷ a ∷ w ∷ v ∷ [])
-write_of_none op a w v other is = rw (other, is) refl
-
 pub write_of_cw : (op a b w v : Text) → bytes_eq op (codes "cw") ≡ true → written_at v (config_place a b w) ≡ host_write_of (op ∷ a ∷ b ∷ w ∷ v ∷ [])
 write_of_cw op a b w v is = rw is refl
-
-pub write_of_no_cw : (op a b w v : Text) → bytes_eq op (codes "cw") ≡ false → None ≡ host_write_of (op ∷ a ∷ b ∷ w ∷ v ∷ [])
-write_of_no_cw op a b w v is = rw is refl

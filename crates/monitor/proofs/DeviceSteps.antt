@@ -51,17 +51,6 @@ use Rattle.monitor.proofs.RaiseSteps.{named_place}
 
 -- ---- the place
 
--- both tests, as one of the place
-pub both_tests : (o : Option Place) (q : Place) (has byte : Bool) → has ≡ is_some o → (is_some o ≡ true → o ≡ Some q) → byte ≡ is_device_byte q → (has && byte) ≡ is_some (if_device_byte o)
-both_tests None q has byte is is_q own = ap (λ (t : Bool). t && byte) is
-both_tests (Some p) q has byte is is_q own =
-    let same : Some p ≡ Some q = is_q refl in
-    ap₂ (λ (t u : Bool). t && u) is own ∙ found (is_device_byte q) refl ∙ ap (λ (o : Option Place). is_some (if_device_byte o)) (sym same)
-  where
-    found : (t : Bool) → is_device_byte q ≡ t → t ≡ is_some (cond t (Some q) None)
-    found true e = refl
-    found false e = refl
-
 named_byte : (o : Option Place) (q : Place) → (is_some o ≡ true → o ≡ Some q) → is_some (if_device_byte o) ≡ true → if_device_byte o ≡ Some q
 named_byte None q is_q h = cc
 named_byte (Some p) q is_q h =

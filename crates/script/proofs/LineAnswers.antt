@@ -62,11 +62,6 @@ pub who_among : (names : ArrayVec ArrayString) (known : List Text) (who : Who) �
 who_among names known who e inside =
     subst (λ (n : ℕ). GuestIs (λ g. g < n) who) (ap length (sym e) ∙ length-map names.items (λ n. n.bytes)) inside
 
--- of as many as there are
-pub guest_within : (w : WorldOver) (names : ArrayVec ArrayString) (g : ℕ) → texts names ≡ names_now w → g < length names.items → g < length w.guests
-guest_within w names g known inside =
-    subst (λ (n : ℕ). g < n) (sym (length-map names.items (λ n. n.bytes)) ∙ ap length known ∙ length-map w.guests (λ (x : GuestNow). x.name)) inside
-
 -- the meaning with the guest's name in the world
 pub guest_said : (w : WorldOver) (line : Text) (ns : List Text) (g : ℕ) (e : Event) → ns ≡ names_now w
     → guest_event (name_of ns g) e ≡ meaning ns line → guest_event (name_nth w g) e ≡ meaning ns line
@@ -96,15 +91,6 @@ answered_guest w new line ns later g e r items known known_later said events rep
       after = d.after;
     }
 
-pub answered_read : (w new : WorldOver) (line : Text) (ns : List Text) (h : HostRead) (r : Reply) (items : Text)
-    → ns ≡ names_now w → host_read h ≡ meaning ns line → new ≡ w → r ≡ host_reply w h → items ≡ line_text host r ++ 10 ∷ [] → Answered w new line items
-answered_read w new line ns h r items known said events reply wrote =
-    let d = did w new line ns (host_read h) known said events in
-    record {
-      text = wrote_one w new line (host_read h) host (host_reply w h) items d refl (wrote ∙ ap (λ (x : Reply). line_text host x ++ 10 ∷ []) reply);
-      after = d.after;
-    }
-
 pub answered_move : (w new : WorldOver) (line : Text) (ns : List Text) (from slot to target : ℕ) (r : Reply) (items : Text)
     → ns ≡ names_now w → host_move (record { from = name_of ns from; slot = slot; to = name_of ns to; target = target }) ≡ meaning ns line
     → new ≡ after_meaning w (host_move (move_nth w from slot to target)) → r ≡ move_reply w.guests (move_nth w from slot to target)
@@ -116,15 +102,3 @@ answered_move w new line ns from slot to target r items known said events reply 
       text = wrote_one w new line (host_move m) host (move_reply w.guests m) items d refl (wrote ∙ ap (λ (x : Reply). line_text host x ++ 10 ∷ []) reply);
       after = d.after;
     }
-
-pub answered_bad : (w : WorldOver) (line : Text) (ns later : List Text) (who : grammar.Who) (n : ℕ) (items : Text)
-    → ns ≡ names_now w → bad who n ≡ meaning ns line → items ≡ line_text who (refused n) ++ 10 ∷ [] → Answered w w line items
-answered_bad w line ns later who n items known said wrote =
-    let d = did w w line ns (bad who n) known said refl in
-    record { text = wrote_one w w line (bad who n) who (refused n) items d refl wrote; after = d.after }
-
-pub answered_nothing : (w : WorldOver) (line : Text) (ns : List Text) (items : Text)
-    → ns ≡ names_now w → nothing ≡ meaning ns line → items ≡ [] → Answered w w line items
-answered_nothing w line ns items known said wrote =
-    let d = did w w line ns nothing known said refl in
-    record { text = wrote ∙ ap (λ (x : Meaning). text_of_lines (written_by w x)) d.means; after = d.after }

@@ -18,13 +18,6 @@ if_err-map (Err e) P Q f h = f e h
 abbrev pub IsDeclined : SetUpFault → Fault → Type 0
 IsDeclined s f = (f ≡ of_set_up s) ⊎ (f ≡ SetUpMemory) ⊎ (f ≡ Write)
 
-pub declined_large : (s : SetUpFault) (f : Fault) → IsDeclined s f → 201 ≤ number_of f
-declined_large s f h = elim h [
-  | inl same ↦ of_set_up_large s f same
-  | inr other ↦ elim other [
-    | inl memory ↦ (let is : number_of f ≡ 299 = ap number_of memory in omega arith)
-    | inr write ↦ (let is : number_of f ≡ 502 = ap number_of write in omega arith)
-  ]
 ]
 
 -- the rule for which a board is declined, where that is told
