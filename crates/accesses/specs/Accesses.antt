@@ -13,6 +13,7 @@ use Rattle.accesses.specs.declared.access.Op.{Op}
 use Rattle.accesses.specs.declared.access.Op.TheVariants as op
 use Rattle.accesses.specs.declared.access.Reply.{Reply}
 use Rattle.accesses.specs.declared.access.Reply.TheVariants as reply
+use Rattle.accesses.specs.Refusals.{number_of}
 use Rattle.accesses.specs.declared.access.HostAccess.{HostAccess}
 use Rattle.accesses.specs.declared.access.HostAt.{HostAt}
 use Rattle.accesses.specs.declared.access.HostAt.TheVariants as hostat
@@ -46,4 +47,4 @@ host_access_of a = record { target = host_target_of a.at; width = a.width }
 abbrev pub reply_of : Reply → guests.Reply
 reply_of (reply.Value v w) = guests.answered v w
 reply_of reply.Done = guests.done
-reply_of (reply.Refused n) = guests.refused n
+reply_of (reply.Refused why) = guests.refused (number_of why)

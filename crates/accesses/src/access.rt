@@ -1,4 +1,5 @@
 //! What guests and the host ask, and what they are answered.
+use crate::refusal::Refusal;
 use paths::Bdf;
 
 /// What is done at a place.
@@ -34,8 +35,7 @@ pub enum Reply {
     /// What a read gave, and its width in bytes.
     Value(u32, u64),
     Done,
-    /// The number of the refusal.
-    Refused(u16),
+    Refused(Refusal),
 }
 
 /// Where a read by the host goes, by physical numbers.

@@ -1,30 +1,32 @@
 //! The checks of accesses, and the answer where there is nothing.
-ghost use Rattle.std.specs.Prelude.{◌≡◌, Option, [], None};
+ghost use Rattle.std.specs.Prelude.{◌≡◌, Option, [], None, option_map};
 ghost use Rattle.model_registers.specs.ByteEnables.{IsWidth};
 ghost use Rattle.model_guests.specs.Slots.{place_number, is_out_of_range, access_fault, fault_of, perform};
 ghost use Rattle.model_guests.specs.HostReads.{host_number, is_out_of_host_range, host_fault};
 ghost use Rattle.accesses.specs.Accesses.{access_of, op_of, target_of, host_target_of, host_access_of, reply_of};
+ghost use Rattle.accesses.specs.Refusals.{number_of};
 ghost use Rattle.accesses.specs.Replies.{IsRefusal, IsShown};
 
 use crate::access::{Access, At, HostAccess, HostAt, Op, Reply};
+use crate::refusal::Refusal;
 use config_bytes::all_ones;
 
-/// The first of three checks that fails: 302 the width is not 1, 2 or 4; 301 the number is no multiple
-/// of the width; 303 it is out of range.
-fn first_fault(width: u64, number: u64, is_out_of_range: bool) -> Option<u16>
-    ensures { result ≡ access_fault width number is_out_of_range }
+/// The first of three checks that fails: the width is 1, 2 or 4; the number is a multiple of the width; it
+/// is in range.
+fn first_fault(width: u64, number: u64, is_out_of_range: bool) -> Option<Refusal>
+    ensures { option_map number_of result ≡ access_fault width number is_out_of_range }
 {
     // For each width apart: a remainder by a constant is a mask, and by a variable a slow division.
     let remainder = match width {
         1 => number % 1,
         2 => number % 2,
         4 => number % 4,
-        _ => return Some(302),
+        _ => return Some(Refusal::Width),
     };
     if remainder != 0 {
-        Some(301)
+        Some(Refusal::Misaligned)
     } else if is_out_of_range {
-        Some(303)
+        Some(Refusal::Range)
     } else {
         None
     }
@@ -55,11 +57,11 @@ impl At {
 }
 
 impl Access {
-    /// The number of the first check that the access fails: 302 its width is not 1, 2 or 4; 301 its
-    /// offset, port or address is no multiple of the width; 303 its slot is above 31, its offset above
-    /// 255 or its port above FFFFFFFFh.
-    pub fn fault(&self) -> Option<u16>
-        ensures { result ≡ fault_of (access_of self.now) }
+    /// The first check that the access fails: 302 its width is not 1, 2 or 4; 301 its offset, port or
+    /// address is no multiple of the width; 303 its slot is above 31, its offset above 255 or its port
+    /// above FFFFFFFFh.
+    pub fn fault(&self) -> Option<Refusal>
+        ensures { option_map number_of result ≡ fault_of (access_of self.now) }
     {
         first_fault(self.width, self.at.number(), self.at.is_out_of_range())
     }
@@ -88,11 +90,10 @@ impl HostAt {
 }
 
 impl HostAccess {
-    /// The number of the first check that the read fails: 302 its width is not 1, 2 or 4; 301 its
-    /// offset, port or address is no multiple of the width; 303 its offset is above 255 or its port
-    /// above FFFFFFFFh.
-    pub fn fault(&self) -> Option<u16>
-        ensures { result ≡ host_fault (host_access_of self.now) }
+    /// The first check that the read fails: 302 its width is not 1, 2 or 4; 301 its offset, port or
+    /// address is no multiple of the width; 303 its offset is above 255 or its port above FFFFFFFFh.
+    pub fn fault(&self) -> Option<Refusal>
+        ensures { option_map number_of result ≡ host_fault (host_access_of self.now) }
     {
         first_fault(self.width, self.at.number(), self.at.is_out_of_range())
     }

@@ -4,9 +4,11 @@
 mod access;
 mod checks;
 mod guest;
+mod refusal;
 
 pub use access::{Access, At, HostAccess, HostAt, Op, Reply};
 pub use checks::nothing;
 pub use guest::{GuestDecl, Names};
 pub use headers::Place;
 pub use paths::Bdf;
+pub use refusal::Refusal;

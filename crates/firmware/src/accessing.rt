@@ -51,8 +51,8 @@ pub fn read(host: &mut Host, from: HostAccess) -> Reply
     ensures shown { IsShown result }
     ensures refused { IsRefusal result → host.new ≡ host.old }
 {
-    if let Some(number) = from.fault() {
-        return Reply::Refused(number);
+    if let Some(why) = from.fault() {
+        return Reply::Refused(why);
     }
     let HostAccess { at, width } = from;
     let value = match at {
@@ -71,8 +71,8 @@ pub fn write(host: &mut Host, to: HostAccess, value: u32) -> Reply
     ensures shown { IsShown result }
     ensures refused { IsRefusal result → host.new ≡ host.old }
 {
-    if let Some(number) = to.fault() {
-        return Reply::Refused(number);
+    if let Some(why) = to.fault() {
+        return Reply::Refused(why);
     }
     let HostAccess { at, width } = to;
     match at {

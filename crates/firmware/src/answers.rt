@@ -7,7 +7,7 @@ ghost use Rattle.accesses.specs.Replies.{IsShown};
 ghost use Rattle.firmware.specs.Hosts.{host_protocol};
 
 use crate::accessing::{read, write};
-use accesses::Reply;
+use accesses::{Refusal, Reply};
 use host_bridge::Host;
 use line_runs::Answers;
 use lines::{FirmwareWhat, LineText, firmware_meaning, push_named};
@@ -32,8 +32,8 @@ fn reply_to(host: &mut Host, line: &[u8]) -> Option<(&'static [u8], Reply)>
             let reply = write(host, to, value);
             Some((b"host", reply))
         }
-        FirmwareWhat::NoForm => Some((b"host", Reply::Refused(401))),
-        FirmwareWhat::NotOfHost(number) => Some((b"?", Reply::Refused(number))),
+        FirmwareWhat::NoForm => Some((b"host", Reply::Refused(Refusal::BadLine))),
+        FirmwareWhat::NotOfHost(why) => Some((b"?", Reply::Refused(why))),
     }
 }
 
@@ -70,7 +70,7 @@ impl Answers<FirmwareLines> for Host {
     fn answer(&mut self, line: &[u8], long: bool, text: &mut LineText) {
         // No event runs, and all such lines write the same.
         if long {
-            push_named(text, b"?", Reply::Refused(403));
+            push_named(text, b"?", Reply::Refused(Refusal::LongLine));
             return;
         }
         push_answer(self, line, text);

@@ -7,7 +7,6 @@ pub mod GuestNames
 mod HexDigits
 mod LineEnds
 pub mod NameLemmas
-mod Refusals
 pub mod Splitting
 pub mod Tables
 pub mod WriteCounts

@@ -5,8 +5,8 @@ use Rattle.std.proofs.lemmas.Bool.Decides.{nat_tests}
 use Rattle.std.proofs.lemmas.List.Splits.{slice_split_first, slice_split_none}
 use Rattle.std.proofs.lemmas.List.Sums.{fails_before_first}
 use Rattle.std.proofs.lemmas.List.Quantifiers.{position-Some}
-use Rattle.std.specs.List.{slice_split, onto_first, filter, position, position_or_len}
-use Rattle.model_guests.specs.Text.{Text, onto, pieces, is_blank, words}
+use Rattle.std.specs.List.{slice_split, onto_first, position, position_or_len}
+use Rattle.model_guests.specs.Text.{Text, onto, pieces}
 
 abbrev pub is_word : Text → Bool
 is_word w = not (length w == 0)

@@ -1,5 +1,5 @@
 -- Writes of firmware, by their first word.
-use Rattle.std.proofs.Common.{◌≡◌, Bool, true, false, [], ◌∷◌, None, codes, refl}
+use Rattle.std.proofs.Common.{◌≡◌, true, false, [], ◌∷◌, codes, refl}
 use Rattle.std.specs.Str.{bytes_eq}
 use Rattle.model_guests.specs.Grammar.{host_port, host_address, host_at}
 use Rattle.model_guests.specs.Text.{Text}

@@ -1,14 +1,12 @@
 -- Lines of firmware, in the words of its definitions.
 --     host_asked place op      what the host does at a place and in a width
 --     firmware_meaning_of what      what a line means
---     IsFirmwareRefusable what      a refusal that has words
-use Rattle.std.specs.Prelude.{◌≡◌, ⊤, true}
 use Rattle.model_guests.specs.Accesses.{Op, reads, writes}
 use Rattle.model_guests.specs.Grammar.{host, nobody}
 use Rattle.model_firmware.specs.HostAccesses as firmware
 use Rattle.model_firmware.specs.FirmwareLines.{Meaning, nothing, asked, bad}
 use Rattle.accesses.specs.Accesses.{host_target_of}
-use Rattle.accesses.specs.Replies.{has_words}
+use Rattle.accesses.specs.Refusals.{number_of}
 use Rattle.accesses.specs.declared.access.HostAccess.{HostAccess}
 use Rattle.lines.specs.declared.firmware_line.FirmwareWhat.{FirmwareWhat}
 use Rattle.lines.specs.declared.firmware_line.FirmwareWhat.TheVariants as what
@@ -21,8 +19,4 @@ firmware_meaning_of what.Nothing = nothing
 firmware_meaning_of (what.Read place) = asked (host_asked place reads)
 firmware_meaning_of (what.Write place v) = asked (host_asked place (writes v))
 firmware_meaning_of what.NoForm = bad host 401
-firmware_meaning_of (what.NotOfHost n) = bad nobody n
-
-abbrev pub IsFirmwareRefusable : FirmwareWhat → Type 0
-IsFirmwareRefusable (what.NotOfHost n) = has_words n ≡ true
-IsFirmwareRefusable _ = ⊤
+firmware_meaning_of (what.NotOfHost why) = bad nobody (number_of why)

@@ -4,8 +4,7 @@
 --     meaning_of names what      what a line means
 --     GuestIs P who, GuestsAre P what      P holds of the guest that is answered, or of each that a line names
 --     IsFirst names g      guest g is the first of its name
---     IsRefusable what      a refusal that has words
-use Rattle.std.specs.Prelude.{◌≡◌, ℕ, List, [], Some, ⊤, true, map, position, slice_index_or}
+use Rattle.std.specs.Prelude.{◌≡◌, ℕ, List, [], Some, ⊤, map, position, slice_index_or}
 use Rattle.std.specs.Str.{bytes_eq}
 use Rattle.arrayvec.specs.ArrayVec.{ArrayVec}
 use Rattle.arrayvec.specs.ArrayString.{ArrayString}
@@ -14,7 +13,7 @@ use Rattle.model_guests.specs.Text.{Text}
 use Rattle.model_guests.specs.Grammar as grammar
 use Rattle.model_guests.specs.Lines as meanings
 use Rattle.accesses.specs.Accesses.{access_of, part_of, host_access_of}
-use Rattle.accesses.specs.Replies.{has_words}
+use Rattle.accesses.specs.Refusals.{number_of}
 use Rattle.lines.specs.declared.line.Who.{Who}
 use Rattle.lines.specs.declared.line.Who.TheVariants as who
 use Rattle.lines.specs.declared.line.What.{What}
@@ -40,7 +39,7 @@ meaning_of names (what.Raise g slot p off mask) = meanings.guest_event (name_of 
 meaning_of names (what.Host r) = meanings.host_read (host_access_of r)
 meaning_of names (what.Move from slot to target) =
     meanings.host_move (record { from = name_of names from; slot = slot; to = name_of names to; target = target })
-meaning_of names (what.Bad w n) = meanings.bad (who_of names w) n
+meaning_of names (what.Bad w why) = meanings.bad (who_of names w) (number_of why)
 
 abbrev pub GuestIs : (ℕ → Type 0) → Who → Type 0
 GuestIs P (who.Guest g) = P g
@@ -53,15 +52,7 @@ GuestsAre P (what.Guest g a) = P g
 GuestsAre P (what.Raise g slot p off mask) = P g
 GuestsAre P (what.Host r) = ⊤
 GuestsAre P (what.Move from slot to target) = P from × P to
-GuestsAre P (what.Bad w n) = GuestIs P w
+GuestsAre P (what.Bad w why) = GuestIs P w
 
 abbrev pub IsFirst : List Text → ℕ → Type 0
 IsFirst names g = position (λ n. bytes_eq n (name_of names g)) names ≡ Some g
-
-abbrev pub IsRefusable : What → Type 0
-IsRefusable what.Nothing = ⊤
-IsRefusable (what.Guest g a) = ⊤
-IsRefusable (what.Raise g slot p off mask) = ⊤
-IsRefusable (what.Host r) = ⊤
-IsRefusable (what.Move from slot to target) = ⊤
-IsRefusable (what.Bad w n) = has_words n ≡ true

@@ -1,5 +1,5 @@
 //! Lines of firmware.
-ghost use Rattle.std.specs.Prelude.{◌≡◌, [], ◌∷◌, map, option_map, ◌^◌, IfSome};
+ghost use Rattle.std.specs.Prelude.{◌≡◌, [], ◌∷◌, map, option_map, ◌^◌};
 ghost use Rattle.model_guests.specs.Grammar.{host_port, host_address, host_at};
 ghost use Rattle.model_guests.specs.Numbers.{below, number_of};
 ghost use Rattle.model_guests.specs.Text.{words};
@@ -7,14 +7,14 @@ ghost use Rattle.model_firmware.specs.FirmwareLines.{asked, config_place, writte
 ghost use Rattle.model_firmware.specs.FirmwareLines.{host_access_of as access_of_words, access_or_bad};
 ghost use Rattle.model_firmware.specs.FirmwareLines.{meaning_of_words, meaning};
 ghost use Rattle.accesses.specs.Accesses.{host_access_of};
-ghost use Rattle.lines.specs.FirmwareLines.{firmware_meaning_of, IsFirmwareRefusable};
+ghost use Rattle.lines.specs.FirmwareLines.{firmware_meaning_of};
 
 use crate::cursor::name_word;
 use crate::forms::{bus_address, host_form};
 use crate::line::{LONGEST_LINE, is_comment};
 use crate::numbers::number_of;
 use crate::words::first_words;
-use accesses::{HostAccess, HostAt};
+use accesses::{HostAccess, HostAt, Refusal};
 
 /// What a line of firmware means.
 #[derive(Clone, Copy, Debug, PartialEq, Eq)]
@@ -26,8 +26,8 @@ pub enum FirmwareWhat {
     Write(HostAccess, u32),
     /// A line of the host that has no form: 401.
     NoForm,
-    /// No line of the host, which is refused by this number: 402 an unknown guest, 403 a long line.
-    NotOfHost(u16),
+    /// No line of the host, which is refused: it is of an unknown guest, or is long.
+    NotOfHost(Refusal),
 }
 
 /// A value of 32 bits.
@@ -70,9 +70,8 @@ fn config_place(bdf: &[u8], off: &[u8], width: &[u8]) -> Option<HostAccess>
 
 /// A write of a value at a place.
 fn written_at(place: Option<HostAccess>, bits: &[u8]) -> Option<FirmwareWhat>
-    ensures meaning { option_map firmware_meaning_of result
+    ensures { option_map firmware_meaning_of result
         ≡ option_map asked (written_at bits.now (option_map host_access_of place)) }
-    ensures refusable { IfSome result IsFirmwareRefusable }
 {
     let place = place?;
     let value = value(bits)?;
@@ -81,9 +80,8 @@ fn written_at(place: Option<HostAccess>, bits: &[u8]) -> Option<FirmwareWhat>
 
 /// A write with four words after `host`.
 fn write_of_four(op: &[u8], at: &[u8], width: &[u8], bits: &[u8]) -> Option<FirmwareWhat>
-    ensures meaning { option_map firmware_meaning_of result
+    ensures { option_map firmware_meaning_of result
         ≡ option_map asked (host_write_of (op.now ∷ at.now ∷ width.now ∷ bits.now ∷ [])) }
-    ensures refusable { IfSome result IsFirmwareRefusable }
 {
     if op == b"iw".as_slice() {
         return written_at(port_place(at, width), bits);
@@ -102,9 +100,8 @@ fn write_of_five(
     width: &[u8],
     bits: &[u8],
 ) -> Option<FirmwareWhat>
-    ensures meaning { option_map firmware_meaning_of result
+    ensures { option_map firmware_meaning_of result
         ≡ option_map asked (host_write_of (op.now ∷ bdf.now ∷ off.now ∷ width.now ∷ bits.now ∷ [])) }
-    ensures refusable { IfSome result IsFirmwareRefusable }
 {
     if op == b"cw".as_slice() {
         return written_at(config_place(bdf, off, width), bits);
@@ -115,9 +112,8 @@ fn write_of_five(
 /// The write that the words after `host` ask, if they are of a known form.
 #[tactic(auto, using(crate::proofs::WriteCounts::host_write_of_few, crate::proofs::WriteCounts::host_write_of_many))]
 fn host_write_form(words: &[&[u8]]) -> Option<FirmwareWhat>
-    ensures meaning { option_map firmware_meaning_of result
+    ensures { option_map firmware_meaning_of result
         ≡ option_map asked (host_write_of (map (λ w. w.now) words.now)) }
-    ensures refusable { IfSome result IsFirmwareRefusable }
 {
     match words {
         [op, at, width, bits] => write_of_four(op, at, width, bits),
@@ -128,8 +124,7 @@ fn host_write_form(words: &[&[u8]]) -> Option<FirmwareWhat>
 
 /// What the words after `host` ask.
 fn of_host_words(words: &[&[u8]]) -> FirmwareWhat
-    ensures meaning { firmware_meaning_of result ≡ access_or_bad (access_of_words (map (λ w. w.now) words.now)) }
-    ensures refusable { IsFirmwareRefusable result }
+    ensures { firmware_meaning_of result ≡ access_or_bad (access_of_words (map (λ w. w.now) words.now)) }
 {
     if let Some(read) = host_form(words) {
         return FirmwareWhat::Read(read);
@@ -142,16 +137,14 @@ fn of_host_words(words: &[&[u8]]) -> FirmwareWhat
 
 /// A line of the host, by the text after `host`.
 fn host_line(text: &[u8]) -> FirmwareWhat
-    ensures meaning { firmware_meaning_of result ≡ access_or_bad (access_of_words (words text.now)) }
-    ensures refusable { IsFirmwareRefusable result }
+    ensures { firmware_meaning_of result ≡ access_or_bad (access_of_words (words text.now)) }
 {
     of_host_words(first_words(text).as_slice())
 }
 
 /// What a line means, by its first word and the text after it.
 fn named_line(first: &[u8], text: &[u8]) -> FirmwareWhat
-    ensures meaning { firmware_meaning_of result ≡ meaning_of_words (first.now ∷ words text.now) }
-    ensures refusable { IsFirmwareRefusable result }
+    ensures { firmware_meaning_of result ≡ meaning_of_words (first.now ∷ words text.now) }
 {
     if is_comment(first) {
         return FirmwareWhat::Nothing;
@@ -159,17 +152,16 @@ fn named_line(first: &[u8], text: &[u8]) -> FirmwareWhat
     if first == b"host".as_slice() {
         return host_line(text);
     }
-    FirmwareWhat::NotOfHost(402)
+    FirmwareWhat::NotOfHost(Refusal::UnknownGuest)
 }
 
 /// What a line of firmware means, which is given without its line feed. No guest is there: of guests' names
 /// none is known.
 pub fn firmware_meaning(line: &[u8]) -> FirmwareWhat
-    ensures meaning { firmware_meaning_of result ≡ meaning line.now }
-    ensures refusable { IsFirmwareRefusable result }
+    ensures { firmware_meaning_of result ≡ meaning line.now }
 {
     if line.len() > LONGEST_LINE {
-        return FirmwareWhat::NotOfHost(403);
+        return FirmwareWhat::NotOfHost(Refusal::LongLine);
     }
     match name_word(line) {
         Some((first, text)) => named_line(first, text),

@@ -11,5 +11,5 @@ mod words;
 
 pub use firmware_line::{FirmwareWhat, firmware_meaning};
 pub use line::{Line, What, Who, line_meaning, parse_line};
-pub use replies::{LineText, line_text, push_line, push_named, refusal_text};
+pub use replies::{LineText, line_text, push_line, push_named};
 pub use words::line_feed_in;

@@ -5,13 +5,13 @@ ghost use Rattle.model_guests.specs.Text.{Text, words};
 ghost use Rattle.model_guests.specs.Grammar.{is_comment, event_of, host_read_of};
 ghost use Rattle.model_guests.specs.Lines.{host_move, event_or_bad, read_or_move, between_guests, move_of};
 ghost use Rattle.model_guests.specs.Lines.{meaning_of_words, meaning};
-ghost use Rattle.lines.specs.Lines.{texts, name_of, meaning_of, GuestsAre, IsFirst, IsRefusable};
+ghost use Rattle.lines.specs.Lines.{texts, name_of, meaning_of, GuestsAre, IsFirst};
 
 use crate::cursor::name_word;
 use crate::forms::{Asked, guest_access_form, guest_form, host_form};
 use crate::numbers::number_of;
 use crate::words::first_words;
-use accesses::{Access, HostAccess, Names, Place};
+use accesses::{Access, HostAccess, Names, Place, Refusal};
 use arrayvec::ArrayVec;
 
 /// The bytes of the longest line that is read, without its line feed.
@@ -40,8 +40,8 @@ pub enum What {
     Host(HostAccess),
     /// A guest and its slot, from which the host moves a function, and the guest and the slot to which.
     Move(usize, u64, usize, u64),
-    /// The line is refused by this number: 401 a bad line, 402 an unknown guest, 403 a long line.
-    Bad(Who, u16),
+    /// The line is refused: it has no form, is of an unknown guest, or is long.
+    Bad(Who, Refusal),
 }
 
 /// A line's first seven words at most, as slices of it, and what it means.
@@ -76,7 +76,7 @@ fn guest_line(guest: usize, text: &[u8]) -> What
     match guest_form(text) {
         Some(Asked::Access(access)) => What::Guest(guest, access),
         Some(Asked::Raise(slot, place, off, mask)) => What::Raise(guest, slot, place, off, mask),
-        None => What::Bad(Who::Guest(guest), 401),
+        None => What::Bad(Who::Guest(guest), Refusal::BadLine),
     }
 }
 
@@ -134,7 +134,7 @@ fn of_host_words(words: &[&[u8]], names: &Names) -> What
     }
     match move_form(words, names) {
         Some(moved) => moved,
-        None => What::Bad(Who::Host, 401),
+        None => What::Bad(Who::Host, Refusal::BadLine),
     }
 }
 
@@ -161,7 +161,7 @@ fn named_line(first: &[u8], text: &[u8], names: &Names) -> What
     }
     match guest_named(first, names) {
         Some(guest) => guest_line(guest, text),
-        None => What::Bad(Who::Unknown, 402),
+        None => What::Bad(Who::Unknown, Refusal::UnknownGuest),
     }
 }
 
@@ -172,10 +172,9 @@ fn any_meaning(line: &[u8], names: &Names) -> What
     ensures meaning { meaning_of (texts names.now) result ≡ meaning (texts names.now) line.now }
     ensures guests { GuestsAre (λ g. g < length names.now.items) result }
     ensures first { GuestsAre (IsFirst (texts names.now)) result }
-    ensures refusable { IsRefusable result }
 {
     if line.len() > LONGEST_LINE {
-        return What::Bad(Who::Unknown, 403);
+        return What::Bad(Who::Unknown, Refusal::LongLine);
     }
     match name_word(line) {
         Some((first, text)) => named_line(first, text, names),
@@ -210,7 +209,6 @@ pub fn line_meaning(line: &[u8], names: &Names) -> What
     ensures meaning { meaning_of (texts names.now) result ≡ meaning (texts names.now) line.now }
     ensures guests { GuestsAre (λ g. g < length names.now.items) result }
     ensures first { GuestsAre (IsFirst (texts names.now)) result }
-    ensures refusable { IsRefusable result }
 {
     match guest_access(line, names) {
         Some((guest, access)) => What::Guest(guest, access),
@@ -225,7 +223,6 @@ pub fn parse_line<'a>(line: &'a [u8], names: &Names) -> Line<'a>
     ensures meaning { meaning_of (texts names.now) result.what ≡ meaning (texts names.now) line.now }
     ensures guests { GuestsAre (λ g. g < length names.now.items) result.what }
     ensures first { GuestsAre (IsFirst (texts names.now)) result.what }
-    ensures refusable { IsRefusable result.what }
 {
     Line {
         words: first_words(line),

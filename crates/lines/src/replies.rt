@@ -1,9 +1,9 @@
 //! The text of output lines.
-ghost use Rattle.std.specs.Prelude.{◌≡◌, ◌≤◌, ◌<◌, ◌+◌, ◌*◌, ◌++◌, ◌∷◌, [], true, length, codes, decimal};
-ghost use Rattle.model_guests.specs.Replies.{who_text, reply_text, line_text, hex_digits, refusal_words};
+ghost use Rattle.std.specs.Prelude.{◌≡◌, ◌≤◌, ◌<◌, ◌+◌, ◌*◌, ◌++◌, ◌∷◌, [], length, codes};
+ghost use Rattle.model_guests.specs.Replies.{who_text, reply_text, line_text, hex_digits};
 ghost use Rattle.accesses.specs.Accesses.{reply_of};
 ghost use Rattle.lines.specs.Lines.{texts, who_of, GuestIs};
-ghost use Rattle.accesses.specs.Replies.{IsShown, has_words};
+ghost use Rattle.accesses.specs.Replies.{IsShown};
 
 use crate::line::Who;
 use accesses::{Names, Reply};
@@ -12,24 +12,6 @@ use arrayvec::ArrayVec;
 /// An output line with its line feed: a name of at most 16 bytes, a colon and a space, and at most
 /// `refused 402 unknown guest`.
 pub type LineText = ArrayVec<u8, 48>;
-
-/// The text of a refusal: `refused`, its number and its words.
-pub fn refusal_text(number: u16) -> &'static [u8]
-    requires { has_words number ≡ true }
-    ensures text { result.now ≡ codes "refused " ++ decimal number ++ codes " " ++ refusal_words number }
-    ensures short { length result.now ≤ 25 }
-{
-    match number {
-        301 => b"refused 301 misaligned",
-        302 => b"refused 302 width",
-        303 => b"refused 303 range",
-        401 => b"refused 401 bad line",
-        402 => b"refused 402 unknown guest",
-        403 => b"refused 403 long line",
-        601 => b"refused 601 empty slot",
-        _ => b"refused 602 slot taken",
-    }
-}
 
 /// The two hexadecimal digits of each byte. A look at the table is faster than a shift, a mask and a look for
 /// each digit.
@@ -137,7 +119,7 @@ pub fn push_named(text: &mut LineText, name: &[u8], reply: Reply)
             push_hex(text, value, width);
         }
         Reply::Done => push_all(text, b"ok"),
-        Reply::Refused(number) => push_all(text, refusal_text(number)),
+        Reply::Refused(why) => push_all(text, why.text()),
     }
     text.push(b'\n');
 }

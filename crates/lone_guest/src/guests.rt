@@ -1,11 +1,10 @@
 //! Guests with their functions and address latches.
-ghost use Rattle.std.specs.Prelude.{◌≤◌, ◌≡◌, true, MatchOption, IfSome};
-ghost use Rattle.accesses.specs.Replies.{IsShown, has_words};
-ghost use Rattle.lines.specs.Lines.{IsRefusable};
+ghost use Rattle.std.specs.Prelude.{◌≤◌, None, ◌≡◌, IfSome};
+ghost use Rattle.accesses.specs.Replies.{IsShown};
 
 use crate::declared::LoneEndpoint;
 use crate::function::Function;
-use accesses::{Access, At, Names, Op, Place, Reply};
+use accesses::{Access, At, Names, Op, Place, Refusal, Reply};
 use bars::Space;
 use lines::{LineText, What, Who, line_text, parse_line};
 use std::alloc::{AllocError, Global};
@@ -21,8 +20,8 @@ pub struct LoneGuests {
 }
 
 /// The first check that an access fails.
-fn refusal(at: At, width: u64) -> Option<u16>
-    ensures { MatchOption result (width ≤ 4) (λ number. has_words number ≡ true) }
+fn refusal(at: At, width: u64) -> Option<Refusal>
+    ensures { result ≡ None → width ≤ 4 }
 {
     let (number, out_of_range) = match at {
         At::Config { slot, off } => (off, slot > 31 || off > 255),
@@ -30,11 +29,11 @@ fn refusal(at: At, width: u64) -> Option<u16>
         At::Mem { addr } => (addr, false),
     };
     if width != 1 && width != 2 && width != 4 {
-        Some(302)
+        Some(Refusal::Width)
     } else if number % width != 0 {
-        Some(301)
+        Some(Refusal::Misaligned)
     } else if out_of_range {
-        Some(303)
+        Some(Refusal::Range)
     } else {
         None
     }
@@ -139,8 +138,8 @@ impl LoneGuests {
         ensures { IsShown result }
     {
         let Access { at, width, op } = access;
-        if let Some(number) = refusal(at, width) {
-            return Reply::Refused(number);
+        if let Some(why) = refusal(at, width) {
+            return Reply::Refused(why);
         }
         if width == 4 && at == (At::Io { port: 0xcf8 }) {
             return self.access_latch(guest, op);
@@ -159,16 +158,16 @@ impl LoneGuests {
         ensures { IsShown result }
     {
         if slot > 31 {
-            return Reply::Refused(303);
+            return Reply::Refused(Refusal::Range);
         }
         let Some(index) = self.function_in(guest, slot) else {
-            return Reply::Refused(601);
+            return Reply::Refused(Refusal::EmptySlot);
         };
         let Some(function) = self.functions.get_mut(index) else {
-            return Reply::Refused(601);
+            return Reply::Refused(Refusal::EmptySlot);
         };
         if !function.has(place, off) {
-            return Reply::Refused(303);
+            return Reply::Refused(Refusal::Range);
         }
         function.raise(place, off, mask);
         Reply::Done
@@ -178,13 +177,13 @@ impl LoneGuests {
         ensures { IsShown result }
     {
         if slot > 31 || target > 31 {
-            return Reply::Refused(303);
+            return Reply::Refused(Refusal::Range);
         }
         let Some(index) = self.function_in(from, slot) else {
-            return Reply::Refused(601);
+            return Reply::Refused(Refusal::EmptySlot);
         };
         if self.function_in(to, target).is_some() {
-            return Reply::Refused(602);
+            return Reply::Refused(Refusal::SlotTaken);
         }
         if let Some(function) = self.functions.get_mut(index) {
             function.move_to(to, target);
@@ -195,7 +194,6 @@ impl LoneGuests {
     /// The reply to what a line asks. `None` is for a line that asks nothing, and for a read by the
     /// host, which has no answer here.
     pub fn reply(&mut self, what: What) -> Option<Reply>
-        requires { IsRefusable what }
         ensures { IfSome result IsShown }
     {
         match what {
@@ -207,7 +205,7 @@ impl LoneGuests {
             What::Move(from, slot, to, target) => {
                 Some(self.move_function(from, slot, to, target))
             }
-            What::Bad(_, number) => Some(Reply::Refused(number)),
+            What::Bad(_, why) => Some(Reply::Refused(why)),
         }
     }
 

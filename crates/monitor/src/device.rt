@@ -9,7 +9,8 @@ ghost use Rattle.model_devices.specs.DeviceEvents.{device_answer, device_place, 
 ghost use Rattle.model_handoff.specs.DevicesOver.{after_device};
 ghost use Rattle.headers.specs.Places.{place_of};
 ghost use Rattle.accesses.specs.Accesses.{part_of, reply_of};
-ghost use Rattle.accesses.specs.Replies.{IsRefusal, IsShown, has_words};
+ghost use Rattle.accesses.specs.Refusals.{number_of};
+ghost use Rattle.accesses.specs.Replies.{IsRefusal, IsShown};
 ghost use Rattle.monitor.specs.ByIndex.{name_nth};
 ghost use Rattle.monitor.specs.Keeping.{IsHeld};
 ghost use Rattle.monitor.specs.DeviceBytes.{Reaches, Refuses, device_byte};
@@ -18,7 +19,7 @@ use crate::config::held_in;
 use crate::engine::Engine;
 use crate::guest::Held;
 use crate::raising::has_place;
-use accesses::{Place, Reply};
+use accesses::{Place, Refusal, Reply};
 use host_bridge::Route;
 use paths::Path;
 
@@ -41,20 +42,19 @@ fn reaches(held: &Held, place: Place, off: u64) -> bool
     has_place(held, place, off) && is_device_byte(place, off)
 }
 
-/// The path of the function in a slot, if its device reaches the byte, or the number of the refusal.
-fn reached(slots: &[Option<Held>], slot: u64, place: Place, off: u64) -> Result<&Path, u16>
+/// The path of the function in a slot, if its device reaches the byte, or why it doesn't.
+fn reached(slots: &[Option<Held>], slot: u64, place: Place, off: u64) -> Result<&Path, Refusal>
     ensures path { IfOk result (λ p. Reaches slots.now slot place off p.now) }
-    ensures refused { IfErr result (λ n. Refuses slots.now slot place off n) }
-    ensures words { IfErr result (λ n. IsTrue (has_words n)) }
+    ensures refused { IfErr result (λ why. Refuses slots.now slot place off (number_of why)) }
 {
     if slot > 31 {
-        return Err(303);
+        return Err(Refusal::Range);
     }
     let Some(held) = held_in(slots, slot as usize) else {
-        return Err(601);
+        return Err(Refusal::EmptySlot);
     };
     if !reaches(held, place, off) {
-        return Err(303);
+        return Err(Refusal::Range);
     }
     Ok(&held.path)
 }
@@ -79,7 +79,7 @@ impl<R: Route> Engine<R> {
         let _ = &self.names;
         match reached(&self.guests[guest].slots, slot, place, off) {
             Ok(path) => Reply::Value(u32::from(self.host.device_value(path, place, off)), 1),
-            Err(number) => Reply::Refused(number),
+            Err(why) => Reply::Refused(why),
         }
     }
 
@@ -108,7 +108,7 @@ impl<R: Route> Engine<R> {
                 self.host.set_device_value(path, place, off, value);
                 Reply::Done
             }
-            Err(number) => Reply::Refused(number),
+            Err(why) => Reply::Refused(why),
         }
     }
 }

@@ -27,7 +27,7 @@ use crate::landing::{landing, located};
 use crate::latch::{is_latch, write_latch};
 use crate::moving::{hand_over, move_fault};
 use crate::raising::{has_place, raise_on_board};
-use accesses::{Access, At, HostAccess, HostAt, Names, Op, Place, Reply, nothing};
+use accesses::{Access, At, HostAccess, HostAt, Names, Op, Place, Refusal, Reply, nothing};
 use bars::Space;
 use config_bytes::{enables_of, into_lanes, lowered};
 use guest_functions::Select;
@@ -233,8 +233,8 @@ impl<R: Route> Engine<R> {
         ensures shown { IsShown result }
         ensures refused { IsRefusal result → self.new ≡ self.old }
     {
-        if let Some(number) = access.fault() {
-            return Reply::Refused(number);
+        if let Some(why) = access.fault() {
+            return Reply::Refused(why);
         }
         let Access { at, width, op } = access;
         match at {
@@ -273,13 +273,13 @@ impl<R: Route> Engine<R> {
         ensures refused { IsRefusal result → self.new ≡ self.old }
     {
         if slot > 31 {
-            return Reply::Refused(303);
+            return Reply::Refused(Refusal::Range);
         }
         let Some(held) = held_in(&self.guests[guest].slots, slot as usize) else {
-            return Reply::Refused(601);
+            return Reply::Refused(Refusal::EmptySlot);
         };
         if !has_place(held, place, off) {
-            return Reply::Refused(303);
+            return Reply::Refused(Refusal::Range);
         }
         raise_on_board(&mut self.host, &held.path, place, off, mask);
         Reply::Done
@@ -315,8 +315,8 @@ impl<R: Route> Engine<R> {
         ensures refused { IsRefusal result → self.new ≡ self.old }
     {
         let source = &self.guests[from].slots;
-        if let Some(number) = move_fault(source, slot, &self.guests[to].slots, target) {
-            return Reply::Refused(number);
+        if let Some(why) = move_fault(source, slot, &self.guests[to].slots, target) {
+            return Reply::Refused(why);
         }
         hand_over(
             &mut self.host,
@@ -335,8 +335,8 @@ impl<R: Route> Engine<R> {
         ensures after { self.new ≡ self.old }
         ensures shown { IsShown result }
     {
-        if let Some(number) = read.fault() {
-            return Reply::Refused(number);
+        if let Some(why) = read.fault() {
+            return Reply::Refused(why);
         }
         let HostAccess { at, width } = read;
         let value = match at {

@@ -10,6 +10,7 @@ ghost use Rattle.model_handoff.specs.WorldOver.{WorldOver};
 ghost use Rattle.model_queries.specs.Located.{located, location};
 ghost use Rattle.bars.specs.Kinds.{named_space};
 ghost use Rattle.accesses.specs.Accesses.{target_of};
+ghost use Rattle.accesses.specs.Refusals.{number_of};
 ghost use Rattle.monitor.specs.Keeping.{AreSlots};
 ghost use Rattle.monitor.specs.ByIndex.{name_nth, lone_nth};
 ghost use Rattle.monitor.specs.Queries.{IsGuestNth, hit_named};
@@ -18,7 +19,7 @@ use crate::config::held_in;
 use crate::engine::Engine;
 use crate::guest::{Guest, Held};
 use crate::landing::landing;
-use accesses::{Access, At, Op, Place};
+use accesses::{Access, At, Op, Place, Refusal};
 use bars::Space;
 use guest_functions::Select;
 use host_bridge::Route;
@@ -78,10 +79,10 @@ fn hit_in(guest: &Guest, at: At) -> Option<Hit>
     }
 }
 
-/// The same, or the number of a refusal.
-fn locate_in(guest: &Guest, at: At) -> Result<Option<Hit>, u16>
+/// The same, or why it is refused.
+fn locate_in(guest: &Guest, at: At) -> Result<Option<Hit>, Refusal>
     ensures { (w : WorldOver) (i : ℕ) → IsGuestNth w i guest.now
-        → result_map_both (option_map hit_named) (λ n. n) result ≡ location (lone_nth w i) (target_of at) }
+        → result_map_both (option_map hit_named) number_of result ≡ location (lone_nth w i) (target_of at) }
 {
     let read = Access {
         at,
@@ -89,7 +90,7 @@ fn locate_in(guest: &Guest, at: At) -> Result<Option<Hit>, u16>
         op: Op::Read,
     };
     match read.fault() {
-        Some(number) => Err(number),
+        Some(why) => Err(why),
         None => Ok(hit_in(guest, at)),
     }
 }
@@ -99,9 +100,9 @@ impl<R: Route> Engine<R> {
     /// Every access there lands at this byte, but for four bytes at CF8h, which are the guest's own address
     /// latch. Or refuses, as a read of a byte there: 303 for a slot above 31, an offset above 255 or a port
     /// above FFFFFFFFh. No memory is taken.
-    pub fn locate(&self, guest: usize, at: At) -> Result<Option<Hit>, u16>
+    pub fn locate(&self, guest: usize, at: At) -> Result<Option<Hit>, Refusal>
         requires { guest < length self.now.guests }
-        ensures { result_map_both (option_map hit_named) (λ n. n) result
+        ensures { result_map_both (option_map hit_named) number_of result
             ≡ location (lone_of self.now.guests (name_nth self.now guest)) (target_of at) }
     {
         locate_in(self.guest(guest), at)

@@ -16,6 +16,7 @@ ghost use Rattle.bus_scan.specs.declared.fault.Fault.TheVariants.{Memory};
 ghost use Rattle.model_queries.specs.Regions.{region_answer};
 ghost use Rattle.model_queries.specs.Located.{location};
 ghost use Rattle.accesses.specs.Accesses.{access_of, host_access_of, part_of, reply_of, target_of};
+ghost use Rattle.accesses.specs.Refusals.{number_of};
 ghost use Rattle.accesses.specs.Replies.{IsRefusal, IsShown};
 ghost use Rattle.monitor.specs.Views.{texts};
 ghost use Rattle.monitor.specs.ByIndex.{name_nth};
@@ -30,7 +31,7 @@ use crate::closed::{Ungiven, first_closed};
 use crate::engine::Engine;
 use crate::locating::Hit;
 use crate::regions::RegionNow;
-use accesses::{Access, At, GuestDecl, HostAccess, Names, Place, Reply};
+use accesses::{Access, At, GuestDecl, HostAccess, Names, Place, Refusal, Reply};
 use bus_scan::Fault;
 use claim_table::Table;
 use std::alloc::Global;
@@ -205,9 +206,9 @@ impl Monitor {
     /// Where a region of a guest's function stands now, in the guest's own view: the region that begins at
     /// a base address register, by its index. Or refuses: 303 for a slot above 31, else 601 for an empty
     /// slot, else 303 for a register at which no region begins. No memory is taken.
-    pub fn region(&self, guest: usize, slot: u64, bar: u64) -> Result<RegionNow, u16>
+    pub fn region(&self, guest: usize, slot: u64, bar: u64) -> Result<RegionNow, Refusal>
         requires { guest < length self.now.guests }
-        ensures { result_map_both region_named (λ n. n) result
+        ensures { result_map_both region_named number_of result
             ≡ region_answer (lone_of self.now.guests (name_nth self.now guest)) slot bar }
     {
         self.engine.region(guest, slot, bar)
@@ -217,9 +218,9 @@ impl Monitor {
     /// Every access there lands at this byte, but for four bytes at CF8h, which are the guest's own address
     /// latch. Or refuses, as a read of a byte there: 303 for a slot above 31, an offset above 255 or a port
     /// above FFFFFFFFh. No memory is taken.
-    pub fn locate(&self, guest: usize, at: At) -> Result<Option<Hit>, u16>
+    pub fn locate(&self, guest: usize, at: At) -> Result<Option<Hit>, Refusal>
         requires { guest < length self.now.guests }
-        ensures { result_map_both (option_map hit_named) (λ n. n) result
+        ensures { result_map_both (option_map hit_named) number_of result
             ≡ location (lone_of self.now.guests (name_nth self.now guest)) (target_of at) }
     {
         self.engine.locate(guest, at)

@@ -1,6 +1,6 @@
 //! Functions that are moved to another slot.
-ghost use Rattle.std.specs.Prelude.{◌≡◌, ◌<◌, IfSome, IsTrue, Some, None, length, slice_set};
-ghost use Rattle.accesses.specs.Replies.{has_words};
+ghost use Rattle.std.specs.Prelude.{◌≡◌, ◌<◌, Some, None, length, option_map, slice_set};
+ghost use Rattle.accesses.specs.Refusals.{number_of};
 ghost use Rattle.bridge_forward.specs.Lending.{with_endpoint_reset};
 ghost use Rattle.host_bridge.specs.HostState.{with_functions};
 ghost use Rattle.monitor.specs.Configs.{IsHolding, HoldsAt};
@@ -8,6 +8,7 @@ ghost use Rattle.monitor.specs.Moves.{is_taken, fault_between, reset_held, HasSl
 
 use crate::config::held_in;
 use crate::guest::{Guest, Held};
+use accesses::Refusal;
 use host_bridge::Host;
 
 /// Whether a function is in a slot.
@@ -24,16 +25,15 @@ pub(crate) fn move_fault(
     slot: u64,
     to: &[Option<Held>],
     target: u64,
-) -> Option<u16>
-    ensures fault { result ≡ fault_between from.now slot to.now target }
-    ensures words { IfSome result (λ n. IsTrue (has_words n)) }
+) -> Option<Refusal>
+    ensures { option_map number_of result ≡ fault_between from.now slot to.now target }
 {
     if slot > 31 || target > 31 {
-        Some(303)
+        Some(Refusal::Range)
     } else if !is_taken(from, slot as usize) {
-        Some(601)
+        Some(Refusal::EmptySlot)
     } else if is_taken(to, target as usize) {
-        Some(602)
+        Some(Refusal::SlotTaken)
     } else {
         None
     }

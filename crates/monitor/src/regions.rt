@@ -10,6 +10,7 @@ ghost use Rattle.model_board.specs.State.{State};
 ghost use Rattle.model_guests.specs.Guests.{lone_of};
 ghost use Rattle.model_handoff.specs.WorldOver.{WorldOver};
 ghost use Rattle.model_queries.specs.Regions.{is_prefetchable, region_now, region_at, region_answer};
+ghost use Rattle.accesses.specs.Refusals.{number_of};
 ghost use Rattle.bars.specs.Kinds.{kind_of, named_space};
 ghost use Rattle.monitor.specs.Keeping.{IsHeld};
 ghost use Rattle.monitor.specs.ByIndex.{name_nth, lone_nth};
@@ -18,6 +19,7 @@ ghost use Rattle.monitor.specs.Queries.{IsGuestNth, region_named};
 use crate::config::held_in;
 use crate::engine::Engine;
 use crate::guest::{Guest, Held};
+use accesses::Refusal;
 use bars::{Kind, Space};
 use host_bridge::Route;
 
@@ -90,20 +92,20 @@ fn region_kept(held: &Held, bar: usize) -> Option<RegionNow>
     }
 }
 
-/// The same of a slot of a guest, or the number of a refusal.
-fn region_in(guest: &Guest, slot: u64, bar: u64) -> Result<RegionNow, u16>
+/// The same of a slot of a guest, or why it is refused.
+fn region_in(guest: &Guest, slot: u64, bar: u64) -> Result<RegionNow, Refusal>
     ensures { (w : WorldOver) (i : ℕ) → IsGuestNth w i guest.now
-        → result_map_both region_named (λ n. n) result ≡ region_answer (lone_nth w i) slot bar }
+        → result_map_both region_named number_of result ≡ region_answer (lone_nth w i) slot bar }
 {
     if slot > 31 {
-        return Err(303);
+        return Err(Refusal::Range);
     }
     let Some(held) = held_in(&guest.slots, slot as usize) else {
-        return Err(601);
+        return Err(Refusal::EmptySlot);
     };
     match region_kept(held, bar as usize) {
         Some(region) => Ok(region),
-        None => Err(303),
+        None => Err(Refusal::Range),
     }
 }
 
@@ -111,9 +113,9 @@ impl<R: Route> Engine<R> {
     /// Where a region of a guest's function stands now, in the guest's own view: the region that begins at
     /// a base address register, by its index. Or refuses: 303 for a slot above 31, else 601 for an empty
     /// slot, else 303 for a register at which no region begins. No memory is taken.
-    pub fn region(&self, guest: usize, slot: u64, bar: u64) -> Result<RegionNow, u16>
+    pub fn region(&self, guest: usize, slot: u64, bar: u64) -> Result<RegionNow, Refusal>
         requires { guest < length self.now.guests }
-        ensures { result_map_both region_named (λ n. n) result
+        ensures { result_map_both region_named number_of result
             ≡ region_answer (lone_of self.now.guests (name_nth self.now guest)) slot bar }
     {
         region_in(self.guest(guest), slot, bar)

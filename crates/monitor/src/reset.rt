@@ -13,7 +13,7 @@ ghost use Rattle.monitor.specs.Resets.{ResetsCopies};
 use crate::config::held_in;
 use crate::engine::Engine;
 use crate::guest::{Guest, Held};
-use accesses::Reply;
+use accesses::{Refusal, Reply};
 use host_bridge::Route;
 
 /// Sets the own copies of the function in a slot back to what they are at reset.
@@ -52,10 +52,10 @@ impl<R: Route> Engine<R> {
     {
         let _ = &self.names;
         if slot > 31 {
-            return Reply::Refused(303);
+            return Reply::Refused(Refusal::Range);
         }
         let Some(held) = held_in(&self.guests[guest].slots, slot as usize) else {
-            return Reply::Refused(601);
+            return Reply::Refused(Refusal::EmptySlot);
         };
         self.host.reset_endpoint(&held.path);
         reset_guest_copies(&mut self.guests, guest, slot as usize);

@@ -5,7 +5,7 @@ use Rattle.std.specs.Prelude.{ℕ, [], ◌==◌, if◌then◌else◌, codes}
 use Rattle.std.specs.Option.{option_map_or}
 use Rattle.model_guests.specs.Text.{Text}
 use Rattle.model_guests.specs.Replies.{refusal_words}
-use Rattle.accesses.specs.Replies.{has_words}
+use Rattle.accesses.specs.Refusals.{number_of, refusal_numbered}
 use Rattle.simulation.specs.Faults.{words_of, fault_numbered}
 
 abbrev pub own_words : ℕ → Text
@@ -15,4 +15,5 @@ own_words n =
     else (if n == 903 then codes "in use" else (if n == 904 then codes "not at reset" else [])))
 
 abbrev pub words_of_number : ℕ → Text
-words_of_number n = if has_words n then refusal_words n else option_map_or words_of (fault_numbered n) (own_words n)
+words_of_number n =
+    option_map_or (λ why. refusal_words (number_of why)) (refusal_numbered n) (option_map_or words_of (fault_numbered n) (own_words n))

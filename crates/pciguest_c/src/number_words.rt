@@ -1,21 +1,20 @@
 //! The words of numbers.
-ghost use Rattle.std.specs.Prelude.{◌≡◌, ◌≤◌, true, length};
+ghost use Rattle.std.specs.Prelude.{◌≡◌, ◌≤◌, length};
 ghost use Rattle.model_guests.specs.Replies.{refusal_words};
-ghost use Rattle.accesses.specs.Replies.{has_words};
+ghost use Rattle.accesses.specs.Refusals.{number_of};
 ghost use Rattle.pciguest_c.specs.NumberWords.{own_words, words_of_number};
 
-use lines::refusal_text;
+use accesses::Refusal;
 use simulation::Fault;
 
 /// The bytes of `refused 301 `, which stand before the words of a refusal.
 const BEFORE_WORDS: usize = 12;
 
 /// The words of a refusal in a reply.
-fn refusal_words(number: u16) -> &'static [u8]
-    requires { has_words number ≡ true }
-    ensures { result.now ≡ refusal_words number }
+fn refusal_words(why: Refusal) -> &'static [u8]
+    ensures { result.now ≡ refusal_words (number_of why) }
 {
-    &refusal_text(number)[BEFORE_WORDS..]
+    &why.text()[BEFORE_WORDS..]
 }
 
 /// The words of a number that only calls from C answer.
@@ -36,8 +35,8 @@ pub fn words_of(number: u32) -> &'static [u8]
     ensures words { result.now ≡ words_of_number number }
     ensures short { length result.now ≤ 20 }
 {
-    if matches!(number, 301..=303 | 401..=403 | 601 | 602) {
-        return refusal_words(number as u16);
+    if let Some(why) = Refusal::of_number(number) {
+        return refusal_words(why);
     }
     match Fault::of_number(number) {
         Some(fault) => fault.words().as_bytes(),

@@ -31,6 +31,6 @@ pub fn number_of(reply: Reply) -> u32
 {
     match reply {
         Reply::Value(..) | Reply::Done => 0,
-        Reply::Refused(number) => u32::from(number),
+        Reply::Refused(why) => u32::from(why.number()),
     }
 }

@@ -87,7 +87,7 @@ fn region(monitor: &Monitor, guest: usize, slot: u64, bar: u64, told: &mut Regio
             *told = region_for(region);
             0
         }
-        Err(number) => u32::from(number),
+        Err(why) => u32::from(why.number()),
     }
 }
 
@@ -117,7 +117,7 @@ fn locate(
             *told = hit_for(hit);
             0
         }
-        Err(number) => u32::from(number),
+        Err(why) => u32::from(why.number()),
     }
 }
 

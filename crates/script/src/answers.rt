@@ -9,7 +9,7 @@ ghost use Rattle.model_handoff.specs.RunsOver.{over_protocol};
 
 use line_runs::Answers;
 use lines::{LineText, What, Who, line_meaning, push_line};
-use monitor::{Monitor, Reply};
+use monitor::{Monitor, Refusal, Reply};
 
 /// Runs the event of a line, and gives under whose name it is answered and with what, if the line makes
 /// output.
@@ -39,7 +39,7 @@ fn reply_to(monitor: &mut Monitor, line: &[u8]) -> Option<(Who, Reply)>
             let reply = monitor.move_function(from, slot, to, target);
             Some((Who::Host, reply))
         }
-        What::Bad(who, number) => Some((who, Reply::Refused(number))),
+        What::Bad(who, why) => Some((who, Reply::Refused(why))),
     }
 }
 
@@ -77,7 +77,7 @@ impl Answers<Script> for Monitor {
     fn answer(&mut self, line: &[u8], long: bool, text: &mut LineText) {
         // No event runs, and all such lines write the same.
         if long {
-            push_line(text, Who::Unknown, self.names(), Reply::Refused(403));
+            push_line(text, Who::Unknown, self.names(), Reply::Refused(Refusal::LongLine));
             return;
         }
         push_answer(self, line, text);
