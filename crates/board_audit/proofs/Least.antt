@@ -67,13 +67,6 @@ least_lost r q xs ys es a b c f g h =
 abbrev both_answer : Agent → Agent → ℕ → Bool
 both_answer x y n = answers x.space n x && answers x.space n y
 
-    whole : firsts ks ++ (firsts ls ++ (firsts ms ++ firsts ns)) ≡ firsts (x.extents ++ y.extents)
-    whole =
-        ap (λ zs. firsts ks ++ (firsts ls ++ zs)) (sym (map-append (λ (e : Extent). e.first) ms ns) ∙ ap firsts (sym q))
-        ∙ ap (λ zs. firsts ks ++ zs) (sym (map-append (λ (e : Extent). e.first) ls y.extents))
-        ∙ sym (map-append (λ (e : Extent). e.first) ks (ls ++ y.extents))
-        ∙ ap firsts (sym (append_assoc ks ls y.extents) ∙ ap (λ zs. zs ++ y.extents) (sym p))
-
 space_flip : (x y : Space) → same_space x y ≡ same_space y x
 space_flip io io = refl
 space_flip io memory = refl

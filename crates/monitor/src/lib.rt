@@ -33,7 +33,9 @@ mod regions;
 mod reset;
 mod taking;
 
-pub use accesses::{Access, At, Bdf, GuestDecl, HostAccess, HostAt, Names, Op, Place, Refusal, Reply};
+pub use accesses::{
+    Access, At, Bdf, GuestDecl, HostAccess, HostAt, Names, Op, Place, Refusal, Reply,
+};
 pub use audited::{AuditFault, Audited, Unfit};
 pub use bars::Space;
 pub use board_audit::Problem;

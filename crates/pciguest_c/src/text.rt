@@ -1,5 +1,5 @@
 //! The report of a board file, and what a check says of it, in memory.
-ghost use Rattle.std.specs.Prelude.{◌≡◌, ◌≢◌, ◌⊎◌, ◌≤◌, ◌<◌, ◌-◌, ◌^◌, Some, None, [], IfOk, IfErr};
+ghost use Rattle.std.specs.Prelude.{◌≡◌, ◌≢◌, ◌⊎◌, ◌≤◌, ◌<◌, ◌-◌, ◌^◌, Some, None, IfOk, IfErr, string_bytes};
 ghost use Rattle.model_registers.specs.DeclarationRules.{first_broken};
 ghost use Rattle.model_set_up.specs.SetUpWrites.{set_up_rules};
 ghost use Rattle.model_guests.specs.World.{World};
@@ -8,7 +8,7 @@ ghost use Rattle.simulation.specs.Listing.{Declares, Refuses};
 ghost use Rattle.pciguest_c.specs.Checks.{IsCheckOf};
 
 use crate::numbers::{FILE_MEMORY, MEMORY};
-use simulation::{Fault, check, list};
+use simulation::{check, list_text};
 use std::alloc::Global;
 use streams::{Failed, Writer};
 
@@ -43,21 +43,16 @@ impl Writer for Text {
 }
 
 /// The report of a board file, or the number of its refusal.
-pub fn report_of(alloc: Global, board: &[u8]) -> Result<Vec<u8>, u32>
-    ensures report { IfOk result (λ v. (w : World) × Declares board.now w
-        × (first_broken (set_up_rules w.board w.apertures) ≡ None) × (v.items ≡ report w)) }
+pub fn report_of(alloc: Global, board: &[u8]) -> Result<String, u32>
+    ensures report { IfOk result (λ t. (w : World) × Declares board.now w
+        × (first_broken (set_up_rules w.board w.apertures) ≡ None) × (string_bytes t ≡ report w)) }
     ensures file { IfErr result (λ n. n < 199 → Refuses board.now n) }
     ensures placement { IfErr result (λ n. 199 < n → n < 299 →
         (w : World) × Declares board.now w × (first_broken (set_up_rules w.board w.apertures) ≡ Some n)) }
     ensures numbers { IfErr result (λ n. (n ≢ 0) × (n ≤ 299)) }
 {
-    let mut text = Text {
-        bytes: Vec::new(alloc),
-        failures: 0,
-    };
-    match list(alloc, board, &mut text) {
-        Ok(()) => Ok(text.bytes),
-        Err(Fault::Write) => Err(MEMORY),
+    match list_text(alloc, board) {
+        Ok(text) => Ok(text),
         Err(fault) => Err(u32::from(fault.number())),
     }
 }

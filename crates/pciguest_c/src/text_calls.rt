@@ -106,7 +106,7 @@ pub extern "C" fn pciguest_raw_report(
 {
     match report_of(alloc, board) {
         Ok(text) => {
-            if tell(&text, out, needed) {
+            if tell(text.as_bytes(), out, needed) {
                 0
             } else {
                 ARGUMENT

@@ -2,6 +2,5 @@ pub mod HexTexts
 pub mod LineTexts
 pub mod Loops
 pub mod PathTexts
-pub mod Results
 pub mod RowTexts
 pub mod SetUpReport

@@ -5,7 +5,6 @@
 mod lines;
 mod texts;
 mod whole;
-mod writing;
 
 pub use texts::push_path;
-pub use writing::{ReportFault, report};
+pub use whole::report_text;

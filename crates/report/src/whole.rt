@@ -1,7 +1,10 @@
 //! The whole text.
 ghost use Rattle.std.specs.Prelude.{◌≡◌, ◌++◌, OnOk, IfOk, not, count_by, string_bytes};
 ghost use Rattle.model_board.specs.Board.{is_bridge};
+ghost use Rattle.model_guests.specs.World.{World};
+ghost use Rattle.model_guests.specs.Report.{report};
 ghost use Rattle.report.specs.Found.{ended, count_line, rows_text, guests_text, found_report};
+ghost use Rattle.report.specs.OfWorld.{IsOf};
 
 use crate::lines::{push_function, push_guest};
 use accesses::GuestDecl;
@@ -64,8 +67,8 @@ fn push_guests(text: &mut String, guests: &[GuestDecl]) -> Result<(), AllocError
     Ok(())
 }
 
-/// The report's text.
-pub(crate) fn report_text(
+/// The text, from what was found and placed.
+fn found_text(
     alloc: Global,
     table: &FunctionTable,
     plan: &Plan,
@@ -78,4 +81,18 @@ pub(crate) fn report_text(
     push_functions(&mut text, table.rows(), plan.settings())?;
     push_guests(&mut text, guests)?;
     Ok(text)
+}
+
+/// The report of a board that is set up, from its table, its plan and its guests. Only lack of memory refuses
+/// it.
+pub fn report_text(
+    alloc: Global,
+    table: &FunctionTable,
+    plan: &Plan,
+    guests: &[GuestDecl],
+) -> Result<String, AllocError>
+    // Whatever world these are of, it is its report.
+    ensures { IfOk result (λ t. (w : World) → IsOf w table.now plan.now guests.now → string_bytes t ≡ report w) }
+{
+    found_text(alloc, table, plan, guests)
 }

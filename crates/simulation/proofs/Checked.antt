@@ -8,7 +8,6 @@ use Rattle.simulation.specs.declared.fault.Fault.{Fault}
 use Rattle.simulation.specs.declared.fault.Fault.TheVariants.{SetUpMemory, Write}
 use Rattle.simulation.specs.Faults.{number_of, of_set_up}
 use Rattle.simulation.proofs.FaultNumbers.{set_up_number}
-use Rattle.simulation.proofs.Listed.{of_set_up_large}
 
 pub if_err-map : {T E : Type 0} (r : Result T E) (P Q : E → Type 0) → ((e : E) → P e → Q e) → IfErr r P → IfErr r Q
 if_err-map (Ok x) P Q f h = tt
@@ -17,8 +16,6 @@ if_err-map (Err e) P Q f h = f e h
 -- the faults with which a board is declined
 abbrev pub IsDeclined : SetUpFault → Fault → Type 0
 IsDeclined s f = (f ≡ of_set_up s) ⊎ (f ≡ SetUpMemory) ⊎ (f ≡ Write)
-
-]
 
 -- the rule for which a board is declined, where that is told
 pub told_rule : (s : SetUpFault) (rule : Option ℕ) → s ≢ set_up.Memory

@@ -17,12 +17,9 @@ use Rattle.board_file.specs.Faults as board_file
 use Rattle.board_file.specs.Meaning.{world_in, document_meaning}
 use Rattle.bus_scan.specs.declared.fault.Fault.{Fault as SetUpFault}
 use Rattle.bus_scan.specs.declared.fault.Fault.TheVariants as set_up
-use Rattle.report.specs.declared.writing.ReportFault.{ReportFault}
-use Rattle.report.specs.declared.writing.ReportFault.TheVariants as report
 use Rattle.report.specs.OfWorld.{IsOf}
 use Rattle.simulation.specs.declared.fault.Fault.{Fault}
-use Rattle.simulation.specs.declared.fault.Fault.TheVariants.{SetUpMemory, Write}
-use Rattle.simulation.specs.Faults.{number_of, of_file, of_set_up, of_report}
+use Rattle.simulation.specs.Faults.{number_of, of_file, of_set_up}
 use Rattle.simulation.specs.Listing.{Refuses}
 use Rattle.simulation.proofs.FaultNumbers.{file_number}
 
@@ -68,11 +65,6 @@ refused_by_file bytes b said no_text f same h =
     let full : number_of f ≡ 199 = ap number_of same ∙ file_number b ∙ ap board_file.number_of is in omega arith in
     subst (λ (g : Fault). Refuses bytes (number_of g)) (sym same) (refused_by bytes b said no_text other)
 
--- a fault of the report is none of the file
-pub of_report_large : (r : ReportFault) (f : Fault) → f ≡ of_report r → 299 ≤ number_of f
-of_report_large report.Memory f same = let is : number_of f ≡ 299 = ap number_of same in omega arith
-of_report_large report.Write f same = let is : number_of f ≡ 502 = ap number_of same in omega arith
-
 -- a fault of the set-up is none of the file
 pub of_set_up_large : (s : SetUpFault) (f : Fault) → f ≡ of_set_up s → 201 ≤ number_of f
 of_set_up_large set_up.Buses f same = let is : number_of f ≡ 201 = ap number_of same in omega arith
@@ -81,14 +73,6 @@ of_set_up_large set_up.IoPool f same = let is : number_of f ≡ 203 = ap number_
 of_set_up_large set_up.MemoryPool f same = let is : number_of f ≡ 204 = ap number_of same in omega arith
 of_set_up_large set_up.PrefetchablePool f same = let is : number_of f ≡ 205 = ap number_of same in omega arith
 of_set_up_large set_up.Memory f same = let is : number_of f ≡ 299 = ap number_of same in omega arith
-
-write_of_report : (r : ReportFault) (f : Fault) → f ≡ of_report r → f ≡ Write → r ≡ report.Write
-write_of_report report.Memory f same is = absurd (let wrong : SetUpMemory ≡ Write = sym same ∙ is in cc)
-write_of_report report.Write f same is = refl
-
-pub failed_write : {T : Type 0} (r : Result T Fault) (e : ReportFault) → IsErrAnd r (λ f. f ≡ of_report e) → IsErrOf r Write → e ≡ report.Write
-failed_write (Ok x) e h is = absurd h
-failed_write (Err f) e h is = write_of_report e f h (let same : f ≡ Write = cc in same)
 
 -- a board that is set up, as the report asks for it
 pub of_world : (h : HostState) (r : ReadyBoard) (gs : List Guest) (table : List TableRow) (plan : Plan) (guests : List Guest)

@@ -1,7 +1,7 @@
 -- Why the program fails, as numbers and words.
 --     number_of, words_of, line_of      the number, the words and the line of a fault
 --     fault_numbered n      the fault of a number
---     of_file, of_set_up, of_report, of_run      the fault of a file, a set-up, a report or a run, by the same number
+--     of_file, of_set_up, of_run      the fault of a file, a set-up or a run, by the same number
 --     read_faults, write_faults      whether a result is the fault of the reader, or of the writer
 --     IsOfList, IsOfRun      a fault of a listing, or of a run over a board
 use Rattle.std.specs.Prelude.{◌≡◌, ◌⊎◌, ◌≤◌, ◌==◌, ℕ, ◌++◌, List, [], ◌∷◌, Option, Result, Ok, Err, codes, decimal, find}
@@ -10,8 +10,6 @@ use Rattle.bus_scan.specs.declared.fault.Fault.{Fault as SetUpFault}
 use Rattle.board_file.specs.declared.fault.BoardFault.TheVariants as file
 use Rattle.board_file.specs.declared.fault.BoardFault.{BoardFault}
 use Rattle.board_check.specs.Rules.{fault_words}
-use Rattle.report.specs.declared.writing.ReportFault.TheVariants as report
-use Rattle.report.specs.declared.writing.ReportFault.{ReportFault}
 use Rattle.line_runs.specs.declared.running.RunFault.TheVariants as run
 use Rattle.line_runs.specs.declared.running.RunFault.{RunFault}
 use Rattle.simulation.specs.declared.fault.Fault.{Fault}
@@ -105,10 +103,6 @@ of_set_up set_up.IoPool = IoPool
 of_set_up set_up.MemoryPool = MemoryPool
 of_set_up set_up.PrefetchablePool = PrefetchablePool
 of_set_up set_up.Memory = SetUpMemory
-
-abbrev pub of_report : ReportFault → Fault
-of_report report.Memory = SetUpMemory
-of_report report.Write = Write
 
 abbrev pub of_run : RunFault → Fault
 of_run run.Read = Read

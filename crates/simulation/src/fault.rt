@@ -1,10 +1,9 @@
 //! Why the program fails.
 ghost use Rattle.std.specs.Prelude.{◌≡◌};
-ghost use Rattle.simulation.specs.Faults.{number_of, words_of, of_file, of_set_up, of_report, of_run};
+ghost use Rattle.simulation.specs.Faults.{number_of, words_of, of_file, of_set_up, of_run};
 
 use board_check::fault_words;
 use board_file::BoardFault;
-use report::ReportFault;
 use script::RunFault;
 use thiserror::Error;
 
@@ -183,17 +182,6 @@ impl From<bus_scan::Fault> for Fault {
             bus_scan::Fault::MemoryPool => Fault::MemoryPool,
             bus_scan::Fault::PrefetchablePool => Fault::PrefetchablePool,
             bus_scan::Fault::Memory => Fault::SetUpMemory,
-        }
-    }
-}
-
-impl From<ReportFault> for Fault {
-    ghost from_gives = { λ r f. f ≡ of_report r };
-
-    fn from(fault: ReportFault) -> Fault {
-        match fault {
-            ReportFault::Memory => Fault::SetUpMemory,
-            ReportFault::Write => Fault::Write,
         }
     }
 }

@@ -26,7 +26,7 @@ pub use driving::drive;
 pub use fault::Fault;
 pub use fault_lines::fault_line;
 pub use files::board_bytes;
-pub use listing::list;
+pub use listing::{list, list_text};
 pub use model_guests::two_worlds;
 pub use monitor::Monitor;
 pub use running::{open, whole};

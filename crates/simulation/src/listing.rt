@@ -1,17 +1,38 @@
 //! The report of a board file.
-ghost use Rattle.std.specs.Prelude.{◌≡◌, ◌≢◌, ◌+◌, ◌-◌, ◌^◌, ◌<◌, Some, None, OnOk, IfErr, IsErrOf};
+ghost use Rattle.std.specs.Prelude.{◌≡◌, ◌≢◌, ◌+◌, ◌-◌, ◌^◌, ◌<◌, ◌≤◌, Some, None, OnOk, IfOk, IfErr, IsErrOf, string_bytes};
 ghost use Rattle.model_registers.specs.DeclarationRules.{first_broken};
 ghost use Rattle.model_set_up.specs.SetUpWrites.{set_up_rules};
 ghost use Rattle.model_guests.specs.World.{World};
+ghost use Rattle.model_guests.specs.Report.{report};
 ghost use Rattle.simulation.specs.Faults.{number_of, write_faults, IsOfList};
 ghost use Rattle.simulation.specs.Listing.{Declares, Refuses, IsListed, IsListedInPart};
 
+use crate::choice::print;
 use crate::fault::Fault;
 use board_file::read_board;
-use report::report;
+use report::report_text;
 use std::alloc::Global;
 use streams::Writer;
 use window_packing::set_up;
+
+/// The report of the board that a board file declares, once it is set up.
+///
+/// A refusal is the file's (101 to 112), the board's (201 to 205), or out of memory (199 or 299).
+pub fn list_text(alloc: Global, board: &[u8]) -> Result<String, Fault>
+    ensures report { IfOk result (λ t. (w : World) × Declares board.now w
+        × (first_broken (set_up_rules w.board w.apertures) ≡ None) × (string_bytes t ≡ report w)) }
+    ensures file { IfErr result (λ f. number_of f < 199 → Refuses board.now (number_of f)) }
+    ensures placement { IfErr result (λ f. 199 < number_of f → number_of f < 299 →
+        (w : World) × Declares board.now w × (first_broken (set_up_rules w.board w.apertures) ≡ Some (number_of f))) }
+    ensures faults { IfErr result (λ f. number_of f ≤ 299) }
+{
+    let (host, guests) = read_board(alloc, board)?;
+    let ready = set_up(alloc, host)?;
+    let Ok(text) = report_text(alloc, ready.table(), ready.plan(), &guests) else {
+        return Err(Fault::SetUpMemory);
+    };
+    Ok(text)
+}
 
 /// Writes the report of the board that a board file declares, once it is set up, and flushes once.
 ///
@@ -37,8 +58,7 @@ pub fn list<W: Writer>(alloc: Global, board: &[u8], writer: &mut W) -> Result<()
     // A fault is the writer's exactly where the writer failed during the call.
     ensures failures { W.failures writer.new ≡ W.failures writer.old + write_faults result }
 {
-    let (host, guests) = read_board(alloc, board)?;
-    let ready = set_up(alloc, host)?;
-    report(alloc, ready.table(), ready.plan(), &guests, writer)?;
+    let text = list_text(alloc, board)?;
+    print(text.as_str(), writer)?;
     Ok(())
 }

@@ -1,42 +1,15 @@
-use Rattle.std.proofs.Common.{◌<◌, Err, ap, arith}
-use Rattle.board_file.specs.Meaning.{world_in}
+use Rattle.std.proofs.Common.{◌≡◌, ◌<◌, Some, sym, subst}
+use Rattle.model_registers.specs.DeclarationRules.{first_broken}
+use Rattle.model_set_up.specs.SetUpWrites.{set_up_rules}
+use Rattle.model_guests.specs.World.{World}
 use Rattle.simulation.specs.Faults.{number_of}
-use Rattle.simulation.specs.Listing.{Refuses}
+use Rattle.simulation.specs.Listing.{Declares}
 use Rattle.simulation.specs.declared.fault.Fault.{Fault}
-use Rattle.simulation.proofs.Listed.{by_error, refused_by_file, of_file_small, of_set_up_large, of_report_large, failed_write, of_world}
+use Rattle.simulation.proofs.Listed.{by_error}
 use Rattle.simulation.proofs.listing.list.Goals as goal
 
-pub returns-in_err-host-clause-file : goal.returns-in_err-host-clause-file
-returns-in_err-host-clause-file g c =
-    by_error (λ (f : Fault). number_of f < 199 → Refuses c.args.board.now (number_of f)) c.from_residual.result c.from_residual.ensures.1
-    (λ f same. refused_by_file c.args.board.now _ c.in_err-host.ensures.refused c.in_err-host.ensures.not_text f same)
-
-pub returns-in_err-host-clause-placement : goal.returns-in_err-host-clause-placement
-returns-in_err-host-clause-placement g c =
+pub returns-in_err-text-clause-placement : goal.returns-in_err-text-clause-placement
+returns-in_err-text-clause-placement g c =
     by_error _ c.from_residual.result c.from_residual.ensures.1
-    (λ f same large. let small = of_file_small _ f same in absurd (omega arith))
-
-pub returns-in_err-ready-clause-file : goal.returns-in_err-ready-clause-file
-returns-in_err-ready-clause-file g c =
-    by_error (λ (f : Fault). number_of f < 199 → Refuses c.args.board.now (number_of f)) c.from_residual-in_err-ready.result c.from_residual-in_err-ready.ensures.1
-    (λ f same small. let large = of_set_up_large _ f same in absurd (omega arith))
-
-pub returns-in_err-report-clause-file : goal.returns-in_err-report-clause-file
-returns-in_err-report-clause-file g c =
-    by_error (λ (f : Fault). number_of f < 199 → Refuses c.args.board.now (number_of f)) c.from_residual-in_err-report.result c.from_residual-in_err-report.ensures.1
-    (λ f same small. let large = of_report_large _ f same in absurd (omega arith))
-
-pub returns-in_err-report-clause-stopped : goal.returns-in_err-report-clause-stopped
-returns-in_err-report-clause-stopped g c is =
-    let w = world_in c.in_ok-host.host c.in_ok-host.guests.items in
-    let of = of_world c.in_ok-host.host c.in_ok-ready.ready c.in_ok-host.guests.items c.table.result.now c.plan.result.now c.deref.result.now
-    c.in_ok-host.ensures.lawful.functions c.table.ensures.ready c.in_ok-ready.ensures.board c.in_ok-ready.ensures.ready c.table.ensures.value c.plan.ensures.value c.deref.ensures.value in
-    let fault = failed_write c.from_residual-in_err-report.result _ c.from_residual-in_err-report.ensures.1 is in
-    (w, record { is_text = c.in_ok-host.ensures.world.0; meaning = c.in_ok-host.ensures.world.1 }, c.in_err-report.ensures.stopped (ap Err fault) w of)
-
-pub returns-clause-listed : goal.returns-clause-listed
-returns-clause-listed g c =
-    let w = world_in c.in_ok-host.host c.in_ok-host.guests.items in
-    let of = of_world c.in_ok-host.host c.in_ok-ready.ready c.in_ok-host.guests.items c.table.result.now c.plan.result.now c.deref.result.now
-    c.in_ok-host.ensures.lawful.functions c.table.ensures.ready c.in_ok-ready.ensures.board c.in_ok-ready.ensures.ready c.table.ensures.value c.plan.ensures.value c.deref.ensures.value in
-    (w, record { is_text = c.in_ok-host.ensures.world.0; meaning = c.in_ok-host.ensures.world.1 }, c.in_ok-ready.ensures.kept, c.in_ok-report.ensures.written w of)
+    (λ f same. subst (λ (e : Fault). 199 < number_of e → number_of e < 299 → (w : World) × Declares c.args.board.now w × (first_broken (set_up_rules w.board w.apertures) ≡ Some (number_of e)))
+      (sym same) c.in_err-text.ensures.placement)

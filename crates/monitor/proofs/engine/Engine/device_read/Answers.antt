@@ -36,10 +36,10 @@ pub returns-in-Err-clause-reply : goal.returns-in-Err-clause-reply
 returns-in-Err-clause-reply g c =
     let e = c.self.inside in
     let there = guest_read e.host (texts e.names) e.guests.items c.self.invariant.1 c.args.self.now c.self.view_is c.args.guest c.index.result.now c.requires c.index.ensures in
-    (refused_there e.host (texts e.names) e.guests.items c.self.invariant.1 c.args.self.now c.self.view_is c.args.guest c.requires c.index.result.now there c.deref.result.now c.deref.ensures.value (device_reads (device_byte c.args.slot c.args.place c.args.off)) c.in-Err.number c.in-Err.ensures.refused).reply
+    (refused_there e.host (texts e.names) e.guests.items c.self.invariant.1 c.args.self.now c.self.view_is c.args.guest c.requires c.index.result.now there c.deref.result.now c.deref.ensures.value (device_reads (device_byte c.args.slot c.args.place c.args.off)) _ c.in-Err.ensures.refused).reply
 
 pub returns-in-Err-clause-after : goal.returns-in-Err-clause-after
 returns-in-Err-clause-after g c =
     let e = c.self.inside in
     let there = guest_read e.host (texts e.names) e.guests.items c.self.invariant.1 c.args.self.now c.self.view_is c.args.guest c.index.result.now c.requires c.index.ensures in
-    (refused_there e.host (texts e.names) e.guests.items c.self.invariant.1 c.args.self.now c.self.view_is c.args.guest c.requires c.index.result.now there c.deref.result.now c.deref.ensures.value (device_reads (device_byte c.args.slot c.args.place c.args.off)) c.in-Err.number c.in-Err.ensures.refused).after
+    (refused_there e.host (texts e.names) e.guests.items c.self.invariant.1 c.args.self.now c.self.view_is c.args.guest c.requires c.index.result.now there c.deref.result.now c.deref.ensures.value (device_reads (device_byte c.args.slot c.args.place c.args.off)) _ c.in-Err.ensures.refused).after
