@@ -1,14 +1,15 @@
 //! Places that were confirmed: with a mark there, the value that is meant is the mark.
-ghost use Rattle.std.specs.Prelude.{◌≡◌, IfOk, IfSome, IsTrue, Some};
+ghost use Rattle.std.specs.Prelude.{◌≡◌, IfOk, IfSome, Some};
 ghost use Rattle.std.specs.Option.{ForSome};
 ghost use Rattle.toml.specs.Parse.{parse_document};
 ghost use Rattle.toml.specs.View.{table_view};
 ghost use Rattle.value_places.specs.Marks.{with_marks};
-ghost use Rattle.value_places.specs.Places.{Begins, IsMarked, IsPlace, IsLine, IsLineWithin};
+ghost use Rattle.value_places.specs.Places.{IsMarked, Stands, IsPlace, IsPlaceWithin, IsLineWithin};
 
 use crate::descent::push_descent;
 use crate::line_numbers::line_of;
 use crate::marking::{are_in_order, is_mark, marked_start, with_marks};
+use crate::place::Place;
 use crate::scanning::{Extent, scalars};
 use crate::shapes::members_have_one_shape;
 use crate::steps::{Step, value_at};
@@ -50,13 +51,19 @@ fn marked_document(
     }
 }
 
-/// Whether one of the places begins there.
-fn begins_one(places: &[Extent], start: usize) -> bool
-    ensures { IsTrue result → Begins places.now start }
+/// Where the place ends that begins there, if one does.
+fn end_of(places: &[Extent], start: usize) -> Option<usize>
+    ensures { IfSome result (Stands places.now start) }
 {
     match places.binary_search_by_key(&start, |place| place.start) {
-        Ok(i) => places[i].start == start,
-        Err(_) => false,
+        Ok(i) => {
+            if places[i].start == start {
+                Some(places[i].end)
+            } else {
+                None
+            }
+        }
+        Err(_) => None,
     }
 }
 
@@ -76,8 +83,8 @@ impl<'a> Places<'a> {
         })
     }
 
-    /// Where the scalar at the end of the way begins, where that is known.
-    pub fn start(&self, way: &[Step<'_>]) -> Option<usize>
+    /// The place of the scalar at the end of the way, where it is known.
+    pub fn place(&self, way: &[Step<'_>]) -> Option<Place>
         ensures { IfSome result (IsPlace self.now.text.now (table_view self.now.document.now) way.now) }
     {
         if way.is_empty() {
@@ -88,31 +95,22 @@ impl<'a> Places<'a> {
         };
         let value = value_at(way, marked)?;
         let start = marked_start(value)?;
-        if !begins_one(&self.places, start) {
+        let end = end_of(&self.places, start)?;
+        if start > self.text.len() {
             return None;
         }
+        let line = line_of(start, self.text);
         if is_mark(start, Some(value)) && !is_mark(start, value_at(way, self.document)) {
-            return Some(start);
+            return Some(Place { line, start, end });
         }
         None
     }
 
-    /// The line of the scalar at the end of the way, where its place is known.
-    pub fn line(&self, way: &[Step<'_>]) -> Option<usize>
-        ensures { IfSome result (IsLine self.now.text.now (table_view self.now.document.now) way.now) }
-    {
-        let start = self.start(way)?;
-        if start > self.text.len() {
-            return None;
-        }
-        Some(line_of(start, self.text))
-    }
-
-    /// The line of the scalar at the end of the way, or of the first one inside the value there,
-    /// where its place is known.
-    pub fn line_within(&self, alloc: Global, way: &[Step<'_>]) -> Result<Option<usize>, AllocError>
+    /// The place of the scalar at the end of the way, or of the first one inside the value there,
+    /// where it is known.
+    pub fn place_within(&self, alloc: Global, way: &[Step<'_>]) -> Result<Option<Place>, AllocError>
         ensures { IfOk result (λ found.
-            IfSome found (IsLineWithin self.now.text.now (table_view self.now.document.now) way.now)) }
+            IfSome found (IsPlaceWithin self.now.text.now (table_view self.now.document.now) way.now)) }
     {
         if way.is_empty() {
             return Ok(None);
@@ -126,6 +124,17 @@ impl<'a> Places<'a> {
         let mut longer = Vec::new(alloc);
         longer.extend_from_slice(way)?;
         push_descent(&mut longer, value)?;
-        Ok(self.line(&longer))
+        Ok(self.place(&longer))
+    }
+
+    /// The line of the same place.
+    pub fn line_within(&self, alloc: Global, way: &[Step<'_>]) -> Result<Option<usize>, AllocError>
+        ensures { IfOk result (λ found.
+            IfSome found (IsLineWithin self.now.text.now (table_view self.now.document.now) way.now)) }
+    {
+        match self.place_within(alloc, way)? {
+            Some(place) => Ok(Some(place.line)),
+            None => Ok(None),
+        }
     }
 }

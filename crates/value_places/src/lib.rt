@@ -5,6 +5,7 @@ mod confirmation;
 mod descent;
 mod line_numbers;
 mod marking;
+mod place;
 mod scanning;
 mod shapes;
 mod steps;
@@ -13,4 +14,5 @@ mod tests;
 
 pub use confirmation::Places;
 pub use line_numbers::line_of;
+pub use place::Place;
 pub use steps::Step;

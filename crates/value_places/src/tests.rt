@@ -11,7 +11,10 @@ fn line(rt: &HostRuntime, text: &str, way: &[Step<'_>]) -> usize {
     let Ok(places) = Places::new(alloc, bytes, &document) else {
         return 0;
     };
-    places.line(way).unwrap_or(0)
+    match places.place(way) {
+        Some(place) => place.line,
+        None => 0,
+    }
 }
 
 /// The line of the value at the end of a way or inside the value there, or 0.
@@ -27,6 +30,22 @@ fn line_within(rt: &HostRuntime, text: &str, way: &[Step<'_>]) -> usize {
     match places.line_within(alloc, way) {
         Ok(Some(line)) => line,
         _ => 0,
+    }
+}
+
+/// Whether the value at the end of a way is written so in its place.
+fn is_at(rt: &HostRuntime, text: &str, way: &[Step<'_>], written: &str) -> bool {
+    let alloc = rt.alloc();
+    let bytes = text.as_bytes();
+    let Ok(document) = toml::table_from_slice(alloc, bytes) else {
+        return false;
+    };
+    let Ok(places) = Places::new(alloc, bytes, &document) else {
+        return false;
+    };
+    match places.place(way) {
+        Some(place) => bytes.get(place.start..place.end) == Some(written.as_bytes()),
+        None => false,
     }
 }
 
@@ -127,6 +146,17 @@ fn quotes_of_every_kind(rt: HostRuntime) {
     assert_eq!(rt; at(&[Key("k")]), 7);
     assert_eq!(rt; at(&[]), 0);
     assert_eq!(rt; at(&[Key("a")]), 0);
+}
+
+#[test]
+fn places_of_every_writing(rt: HostRuntime) {
+    let vendor = [Key("endpoint"), Index(1), Key("vendor")];
+    assert!(rt; is_at(&rt, BOARD, &vendor, "0x1ffff"));
+    let at = [Key("endpoint"), Index(2), Key("at")];
+    assert!(rt; is_at(&rt, BOARD, &at, "\"\"\"\ntwo\nlines\"\"\""));
+    let mem = [Key("host"), Key("mem"), Index(1)];
+    assert!(rt; is_at(&rt, BOARD, &mem, "0xdfffffff"));
+    assert!(rt; is_at(&rt, QUOTES, &[Key("a=b"), Key("q\"q"), Key("r")], "true"));
 }
 
 /// A float, a date, a text that is the mark of its own place, and a table that has no value.
