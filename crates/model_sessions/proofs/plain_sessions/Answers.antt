@@ -1,0 +1,5 @@
+use Rattle.model_sessions.proofs.SessionLines as lines
+use Rattle.model_sessions.proofs.plain_sessions.Goals as goal
+
+pub returns : goal.returns
+returns c = lines.plain_sessions
