@@ -7,6 +7,10 @@ _pciguest() {
   elif [ "$COMP_CWORD" = 2 ] && [[ ${COMP_WORDS[1]} == @(audit|check|firmware|list|run) ]]; then
     compopt -o filenames 2> /dev/null
     mapfile -t COMPREPLY < <(compgen -f -X '!*.toml' -- "$word"; compgen -d -- "$word")
+    [ "${COMP_WORDS[1]}" != check ] || mapfile -t -O "${#COMPREPLY[@]}" COMPREPLY < <(compgen -W '--plain' -- "$word")
+  elif [ "$COMP_CWORD" = 3 ] && [ "${COMP_WORDS[1]}" = check ] && [ "${COMP_WORDS[2]}" = --plain ]; then
+    compopt -o filenames 2> /dev/null
+    mapfile -t COMPREPLY < <(compgen -f -X '!*.toml' -- "$word"; compgen -d -- "$word")
   fi
 }
 complete -F _pciguest pciguest

@@ -54,6 +54,8 @@ holds 'a word' same 'list' completed pciguest l
 board=$top/crates/examples/data/chain.toml
 holds 'a board' test "$(completed pciguest list "${board%ain.toml}")" = "$board"
 holds 'a board for firmware' test "$(completed pciguest firmware "${board%ain.toml}")" = "$board"
+holds 'a word of a check' same '--plain' completed pciguest check --p
+holds 'a board after it' test "$(completed pciguest check --plain "${board%ain.toml}")" = "$board"
 holds 'no board of the demo' same '' completed pciguest demo "${board%ain.toml}"
 
 # ---- the manual, where something that reads it is there

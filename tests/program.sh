@@ -75,7 +75,7 @@ timeout 60 "$program" demo < long 2> err | head -c 0; status=${PIPESTATUS[0]}
 tell 'demo, its reader gone'
 
 # ---- list: the boards of the examples, each with its report or its fault
-awk '/^== / { file = NF == 2 ? $2 ".wanted" : NF == 3 ? $3 ".check" : NF == 4 ? $2 "@" $4 ".run" : NF == 6 ? $2 "@" $4 ".asked" : "/dev/null"; next } { print > file }' "$top/crates/examples/stdout"
+awk '/^== / { file = NF == 2 ? $2 ".wanted" : NF == 3 ? $3 ".check" : NF == 4 ? $2 "@" $4 ".run" : NF == 5 ? $3 ".excerpts" : NF == 6 ? $2 "@" $4 ".asked" : "/dev/null"; next } { print > file }' "$top/crates/examples/stdout"
 for wanted_report in *.wanted; do
   board=${wanted_report%.wanted}
   fault=$(sed -n 's/^fault //p' "$wanted_report")
@@ -112,6 +112,31 @@ for wanted_check in *.check; do
 done
 fails_with 'check, no such file' '702 board file' check nothing.toml
 fails_with 'check, no board' '701 usage' check
+fails_with 'check --plain, no board' '701 usage' check --plain
+fails_with 'check --plain twice' '701 usage' check --plain --plain "$boards/main.toml"
+cp main.toml.check wanted.out
+ends_with 'check --plain' check --plain "$boards/main.toml"
+ends_with 'check, and then --plain' check "$boards/main.toml" --plain
+
+# ---- check on a terminal, with the lines of the files, and --plain there; where Python 3 makes a terminal
+on_terminal() { python3 -c 'import os, pty, sys; sys.exit(os.waitstatus_to_exitcode(pty.spawn(sys.argv[1:])))' "$@" | tr -d '\r'; }
+if command -v python3 > /dev/null; then
+  for wanted_excerpts in *.excerpts; do
+    board=${wanted_excerpts%.excerpts}
+    cp "$boards/$board" "$board"
+    sed 's/^fault /pciguest: fault /' "$wanted_excerpts" > wanted.out
+    : > wanted.err
+    wanted=1
+    on_terminal "$program" check "$board" > out 2> err < /dev/null; status=${PIPESTATUS[0]}
+    tell "check $board on a terminal"
+    [ ! -f "$board.check" ] || {
+      sed 's/^fault /pciguest: fault /' "$board.check" > wanted.out
+      on_terminal "$program" check --plain "$board" > out 2> err < /dev/null; status=${PIPESTATUS[0]}
+      tell "check --plain $board on a terminal"
+    }
+    rm "$board"
+  done
+fi
 full 'check' check "$boards/main.toml"
 full 'check, a board that is refused' check "$boards/size.toml"
 

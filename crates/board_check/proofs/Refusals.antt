@@ -5,7 +5,7 @@ use Rattle.std.specs.List.{flat_map}
 use Rattle.std.specs.Option.{option_map_or}
 use Rattle.std.proofs.lemmas.Bool.{and_parts, and_left, and_right, not-true, eqb-true, eq-eqb}
 use Rattle.lists.proofs.Indices.{index_in}
-use Rattle.toml.specs.Data.{Members, members_are_sorted}
+use Rattle.toml.specs.Data.{Members}
 use Rattle.lists.specs.Elements.{IsIn}
 use Rattle.model_registers.specs.DeclarationRules.{first_broken}
 use Rattle.board_file.specs.declared.schema.Level.{Level}

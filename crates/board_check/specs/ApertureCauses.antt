@@ -2,8 +2,7 @@
 --     io_parts, mem_parts, pref_parts      the rules of an aperture, each with what is said where it is broken
 --     pref_text      of the prefetchable aperture beside one of memory, where there is one
 use Rattle.std.specs.Prelude.{ℕ, ◌+◌, ◌%◌, ◌==◌, ◌&&◌, ◌||◌, ◌^◌, Bool, nat_le, nat_lt, List, [], ◌∷◌, codes, Option, Some, None, if◌then◌else◌}
-use Rattle.model_registers.specs.Apertures.{Aperture, is_mem_aperture}
-use Rattle.board_file.specs.Entries.{File}
+use Rattle.model_registers.specs.Apertures.{Aperture}
 use Rattle.board_file.specs.Functions.{aperture}
 use Rattle.board_file.specs.Rules.{is_natural}
 use Rattle.board_file.specs.declared.entries.Bounds.{Bounds}

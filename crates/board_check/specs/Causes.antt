@@ -14,6 +14,7 @@ use Rattle.board_file.specs.declared.rule.Rule.TheVariants as rule
 use Rattle.board_check.specs.declared.lines.Other.{Other}
 use Rattle.board_check.specs.declared.lines.Told.{Told}
 use Rattle.board_check.specs.Keys.{level_of}
+use Rattle.board_check.specs.Lines.{line_at}
 use Rattle.board_check.specs.KeyCauses.{known_text, asked_text}
 use Rattle.board_check.specs.SizeCauses.{bar_text}
 use Rattle.board_check.specs.ApertureCauses.{first_words, io_parts, mem_parts, pref_text}
@@ -44,7 +45,7 @@ own_text f e _ k = []
 
 abbrev pub other_text : Option Other → List ℕ
 other_text None = []
-other_text (Some o) = codes ": " ++ entry_text o.entry ++ in_line_text o.line
+other_text (Some o) = codes ": " ++ entry_text o.entry ++ in_line_text (line_at o.place)
 
 abbrev pub cause_text : File → Told → List ℕ
 cause_text f t = own_text f t.problem.entry t.problem.rule t.problem.key.now ++ other_text t.other

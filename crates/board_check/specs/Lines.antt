@@ -3,12 +3,14 @@
 --     way_of entry      the way to the entry itself
 --     way_to entry key      the way to the value at a key of an entry; a slot is its value itself
 --     way_told ms entry key      the way to the value at a key of an entry, or where it has none to the entry
---     IsLineOf      the line of a value at the end of this way, or inside the value there, whose place was confirmed
-use Rattle.std.specs.Prelude.{◌≡◌, ℕ, codes, List, [], ◌∷◌, ◌++◌, map, is_some, if◌then◌else◌}
+--     IsPlaceOf      the place of a value at the end of this way, or inside the value there, which was confirmed
+--     line_at      its line
+use Rattle.std.specs.Prelude.{◌≡◌, ℕ, codes, List, [], ◌∷◌, ◌++◌, map, Option, option_map, is_some, if◌then◌else◌}
 use Rattle.toml.specs.Data.{Members}
 use Rattle.value_places.specs.declared.steps.Step.{Step}
 use Rattle.value_places.specs.declared.steps.Step.TheVariants.{Key, Index}
-use Rattle.value_places.specs.Places.{IsLineWithin}
+use Rattle.value_places.specs.declared.place.Place.{Place}
+use Rattle.value_places.specs.Places.{IsPlaceWithin}
 use Rattle.board_file.specs.declared.entry.Entry.{Entry}
 use Rattle.board_file.specs.declared.entry.Entry.TheVariants as entry
 use Rattle.board_check.specs.Keys.{value_at}
@@ -41,7 +43,10 @@ way_to e k = way_of e ++ at_key k ∷ []
 abbrev pub way_told : Members → Entry → List ℕ → List Turn
 way_told ms e k = if is_some (value_at ms e k) then way_to e k else way_of e
 
-pub record IsLineOf (text : List ℕ) (ms : Members) (e : Entry) (key : List ℕ) (line : ℕ) : Type 0 where
+pub record IsPlaceOf (text : List ℕ) (ms : Members) (e : Entry) (key : List ℕ) (p : Place) : Type 0 where
   pub way : List Step
   pub leads : map turn way ≡ way_told ms e key
-  pub is_line : IsLineWithin text ms way line
+  pub is_place : IsPlaceWithin text ms way p
+
+abbrev pub line_at : Option Place → Option ℕ
+line_at p = option_map (λ p. p.line) p

@@ -3,7 +3,7 @@
 --     path_form_text      that path, or what a path is
 --     first_gap      of the beginnings of a path text, the first that is no bridge's path
 --     zero_text      function 0 of the device
-use Rattle.std.specs.Prelude.{ℕ, ◌-◌, ◌+◌, ◌==◌, ◌&&◌, not, Bool, List, [], ◌∷◌, ◌++◌, length, take, map, codes, Option, Some, None, option_map, if◌then◌else◌}
+use Rattle.std.specs.Prelude.{ℕ, ◌-◌, ◌==◌, ◌&&◌, not, Bool, List, [], ◌∷◌, ◌++◌, length, take, map, codes, Option, Some, None, option_map, if◌then◌else◌}
 use Rattle.std.specs.List.{position, range_with_len, slice_index}
 use Rattle.std.specs.Option.{option_map_or}
 use Rattle.model_board.specs.Places.{Standing, has_bridge}

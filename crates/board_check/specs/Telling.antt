@@ -1,8 +1,8 @@
 -- What is told of a board file that is refused.
---     IsRefusalText name bytes fault text      a line for each of its problems, by their lines in the file; or one line,
---                                              where the bytes are no document
+--     IsRefusalText style name bytes fault text      a line for each of its problems, by their lines in the file; or one
+--                                                    line, where the bytes are no document
 --     problem_of, found_in      the problem that is told
---     IsTold text ms f told      its line, where there is one, is that of its value, and so is the line of the other entry
+--     IsTold text ms f told      its place, where it is known, is that of its value, and so is that of the other entry
 --     IsByLine found told      the same problems, in the order of their lines
 --     IsByCheck found told      the same problems, in the order of their checks
 use Rattle.std.specs.Prelude.{◌≡◌, ◌≤◌, ◌⊎◌, ℕ, List, length, map, option_map, Option, Some, None, IfSome, IsUtf8, unwrap_or, IsPermutation}
@@ -12,18 +12,20 @@ use Rattle.toml.specs.Data.{Members}
 use Rattle.toml.specs.Parse.{parse_document}
 use Rattle.lists.specs.Elements.{Each}
 use Rattle.value_places.specs.LineNumbers.{line_of}
+use Rattle.value_places.specs.declared.place.Place.{Place}
 use Rattle.board_file.specs.declared.fault.BoardFault.{BoardFault}
 use Rattle.board_file.specs.declared.finding.Problem.{Problem}
 use Rattle.board_file.specs.declared.entry.Entry.{Entry}
 use Rattle.board_file.specs.Entries.{File, file}
 use Rattle.board_check.specs.declared.lines.Other.{Other}
 use Rattle.board_check.specs.declared.lines.Told.{Told}
-use Rattle.board_check.specs.Lines.{IsLineOf}
+use Rattle.board_check.specs.declared.style.Style.{Style}
+use Rattle.board_check.specs.Lines.{IsPlaceOf, line_at}
 use Rattle.board_check.specs.Others.{other_of}
 use Rattle.board_file.specs.Problems.{Found, found_of}
 use Rattle.board_file.specs.RuleFaults.{fault_of}
 use Rattle.board_check.specs.AllProblems.{all_problems, rank}
-use Rattle.board_check.specs.Texts.{bare_text, lines_text}
+use Rattle.board_check.specs.Texts.{unread_text, lines_text}
 
 abbrev pub problem_of : Told → Problem
 problem_of t = t.problem
@@ -36,13 +38,13 @@ entry_of o = o.entry
 
 -- what is told beside a problem
 pub record IsTold (text : List ℕ) (ms : Members) (f : File) (t : Told) : Type 0 where
-  pub line : IfSome t.line (IsLineOf text ms t.problem.entry t.problem.key.now)
+  pub place : IfSome t.place (IsPlaceOf text ms t.problem.entry t.problem.key.now)
   pub other : option_map entry_of t.other ≡ other_of f t.problem.entry t.problem.rule
-  pub other_line : IfSome t.other (λ o. IfSome o.line (IsLineOf text ms o.entry t.problem.key.now))
+  pub other_place : IfSome t.other (λ o. IfSome o.place (IsPlaceOf text ms o.entry t.problem.key.now))
 
 -- the line of a problem, or 0 where none is known
 abbrev pub line_or_zero : Told → ℕ
-line_or_zero t = unwrap_or t.line 0
+line_or_zero t = unwrap_or (line_at t.place) 0
 
 -- those without a line come first, and those of one line keep their order
 pub record IsByLine (found told : List Told) : Type 0 where
@@ -61,28 +63,33 @@ pub record IsByCheck (found told : List Told) : Type 0 where
   pub is_stable : IsStableByKey rank_of nat_cmp found told
 
 -- all problems that can be asked, first those of the fault, check after check and in each in the order of their lines
-pub record IsRefusal (name bytes : List ℕ) (fault : BoardFault) (text : List ℕ) : Type 0 where
+pub record IsRefusal (style : Style) (name bytes : List ℕ) (fault : BoardFault) (text : List ℕ) : Type 0 where
   pub document : Members
   pub parsed : parse_document bytes ≡ Some document
   pub found : List Told
   pub are_all : map found_in found ≡ all_problems document fault
-  pub have_lines : Each (IsTold bytes document (file document)) found
+  pub have_places : Each (IsTold bytes document (file document)) found
   pub by_line : List Told
   pub has_lines : IsByLine found by_line
   pub told : List Told
   pub in_order : IsByCheck by_line told
-  pub is_text : text ≡ lines_text name document fault told
+  pub is_text : text ≡ lines_text style name document bytes fault told
 
--- the line of some place in the text
-abbrev pub IsLineIn : List ℕ → ℕ → Type 0
-IsLineIn bytes line = (offset : ℕ) × (offset ≤ length bytes) × (line ≡ line_of offset bytes)
+-- a part of the text, with its line
+pub record IsPlaceIn (bytes : List ℕ) (p : Place) : Type 0 where
+  pub begins : p.start ≤ p.end
+  pub ends : p.end ≤ length bytes
+  pub is_line : p.line ≡ line_of p.start bytes
 
--- bytes that are no document have no entries; the line is that at which they were given up
-pub record IsUnread (name bytes : List ℕ) (fault : BoardFault) (text : List ℕ) : Type 0 where
+-- bytes that are no document have no entries; the place is that at which they were given up, and the reason is the
+-- reader's
+pub record IsUnread (style : Style) (name bytes : List ℕ) (fault : BoardFault) (text : List ℕ) : Type 0 where
   pub no_document : IsUtf8 bytes → parse_document bytes ≡ None
-  pub line : Option ℕ
-  pub within : IfSome line (IsLineIn bytes)
-  pub is_text : text ≡ bare_text name line fault
+  pub place : Option Place
+  pub within : IfSome place (IsPlaceIn bytes)
+  pub reason : List ℕ
+  pub is_text : text ≡ unread_text style name bytes place reason fault
 
-abbrev pub IsRefusalText : (name bytes : List ℕ) → BoardFault → List ℕ → Type 0
-IsRefusalText name bytes fault text = IsUnread name bytes fault text ⊎ IsRefusal name bytes fault text
+abbrev pub IsRefusalText : Style → (name bytes : List ℕ) → BoardFault → List ℕ → Type 0
+IsRefusalText style name bytes fault text =
+    IsUnread style name bytes fault text ⊎ IsRefusal style name bytes fault text

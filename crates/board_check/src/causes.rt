@@ -9,7 +9,7 @@ ghost use Rattle.board_check.specs.SizeCauses.{bar_text};
 use crate::aperture_causes::{io_words, mem_words, pref_words};
 use crate::key_causes::{push_asked, push_known};
 use crate::keys::level_of;
-use crate::lines::{Other, Told};
+use crate::lines::{Other, Told, line_at};
 use crate::path_causes::{push_bridge, push_path_form, push_zero};
 use crate::said::{at_of, bar_of};
 use crate::shown::{push_entry, push_in_line};
@@ -88,7 +88,7 @@ fn push_other(text: &mut String, other: Option<Other>) -> Result<(), AllocError>
         Some(other) => {
             text.push_str(": ")?;
             push_entry(text, other.entry)?;
-            push_in_line(text, other.line)
+            push_in_line(text, line_at(other.place))
         }
         None => Ok(()),
     }

@@ -17,10 +17,12 @@ mod shown;
 mod size_causes;
 mod source;
 mod spoiling;
+mod style;
 mod telling;
 mod texts;
 mod words;
 
 pub use board_file::{Entry, Problem, Rule};
+pub use style::Style;
 pub use telling::refusal_text;
 pub use texts::fault_words;

@@ -1,8 +1,8 @@
-//! The lines of entries.
+//! The places of entries, with their lines.
 ghost use Rattle.std.specs.Prelude.{◌≡◌, IfOk, IfSome, map, option_map};
 ghost use Rattle.toml.specs.View.{table_view};
 ghost use Rattle.lists.specs.Elements.{Each};
-ghost use Rattle.board_check.specs.Lines.{turn, way_of, way_to, IsLineOf};
+ghost use Rattle.board_check.specs.Lines.{turn, way_of, way_to, line_at, IsPlaceOf};
 ghost use Rattle.board_check.specs.Others.{other_of};
 ghost use Rattle.board_check.specs.Telling.{problem_of, entry_of, IsTold};
 
@@ -11,21 +11,31 @@ use crate::others::other_of;
 use board_file::entries::FileEntries;
 use board_file::{Entry, Problem};
 use std::alloc::{AllocError, Global};
-use value_places::{Places, Step};
+use value_places::{Place, Places, Step};
 
-/// An earlier entry that has what another asks for itself, and its line, where that is known and was confirmed.
+/// An earlier entry that has what another asks for itself, and its place, where that is known and was confirmed.
 #[derive(Clone, Copy, Debug)]
 pub struct Other {
     pub entry: Entry,
-    pub line: Option<usize>,
+    pub place: Option<Place>,
 }
 
-/// A problem, and its line, where that is known and was confirmed.
+/// A problem, and its place, where that is known and was confirmed.
 #[derive(Clone, Copy, Debug)]
 pub struct Told<'a> {
     pub problem: Problem<'a>,
-    pub line: Option<usize>,
+    pub place: Option<Place>,
     pub other: Option<Other>,
+}
+
+/// The line of a place, where that is known.
+pub(crate) fn line_at(place: Option<Place>) -> Option<usize>
+    ensures { result ≡ line_at place }
+{
+    match place {
+        Some(place) => Some(place.line),
+        None => None,
+    }
 }
 
 /// The way to an entry.
@@ -66,27 +76,27 @@ fn way_to<'k>(alloc: Global, entry: Entry, key: &'k str) -> Result<Vec<Step<'k>>
     Ok(way)
 }
 
-/// The line of the value at a key of an entry, or where there is none of a value of the entry,
+/// The place of the value at a key of an entry, or where there is none of a value of the entry,
 /// where that is known and was confirmed.
-fn line_of(
+fn place_of(
     alloc: Global,
     places: &Places<'_>,
     entry: Entry,
     key: &str,
-) -> Result<Option<usize>, AllocError>
+) -> Result<Option<Place>, AllocError>
     ensures { IfOk result (λ found.
-        IfSome found (IsLineOf places.now.text.now (table_view places.now.document.now) entry key.now)) }
+        IfSome found (IsPlaceOf places.now.text.now (table_view places.now.document.now) entry key.now)) }
 {
     if value_at(places.document, entry, key).is_some() {
         let way = way_to(alloc, entry, key)?;
-        places.line_within(alloc, &way)
+        places.place_within(alloc, &way)
     } else {
         let way = way_of(alloc, entry)?;
-        places.line_within(alloc, &way)
+        places.place_within(alloc, &way)
     }
 }
 
-/// The earlier entry that has what the entry of a problem asks for itself, with its line.
+/// The earlier entry that has what the entry of a problem asks for itself, with its place.
 fn find_other(
     alloc: Global,
     places: &Places<'_>,
@@ -94,19 +104,19 @@ fn find_other(
     problem: &Problem<'_>,
 ) -> Result<Option<Other>, AllocError>
     ensures entry { IfOk result (λ o. option_map entry_of o ≡ other_of file.now problem.now.entry problem.now.rule) }
-    ensures line { IfOk result (λ o. IfSome o (λ o. IfSome o.line
-        (IsLineOf places.now.text.now (table_view places.now.document.now) o.entry problem.now.key.now))) }
+    ensures place { IfOk result (λ o. IfSome o (λ o. IfSome o.place
+        (IsPlaceOf places.now.text.now (table_view places.now.document.now) o.entry problem.now.key.now))) }
 {
     match other_of(file, problem.entry, problem.rule) {
         Some(entry) => {
-            let line = line_of(alloc, places, entry, problem.key)?;
-            Ok(Some(Other { entry, line }))
+            let place = place_of(alloc, places, entry, problem.key)?;
+            Ok(Some(Other { entry, place }))
         }
         None => Ok(None),
     }
 }
 
-/// A problem with its lines.
+/// A problem with its place.
 fn tell<'a>(
     alloc: Global,
     places: &Places<'_>,
@@ -114,26 +124,26 @@ fn tell<'a>(
     problem: &Problem<'a>,
 ) -> Result<Told<'a>, AllocError>
     ensures same { IfOk result (λ t. t.problem ≡ problem.now) }
-    ensures lines { IfOk result (IsTold places.now.text.now (table_view places.now.document.now) file.now) }
+    ensures told { IfOk result (IsTold places.now.text.now (table_view places.now.document.now) file.now) }
 {
-    let line = line_of(alloc, places, problem.entry, problem.key)?;
+    let place = place_of(alloc, places, problem.entry, problem.key)?;
     let other = find_other(alloc, places, file, problem)?;
     Ok(Told {
         problem: *problem,
-        line,
+        place,
         other,
     })
 }
 
-/// The problems with their lines.
-pub(crate) fn with_lines<'a>(
+/// The problems with their places.
+pub(crate) fn with_places<'a>(
     alloc: Global,
     places: &Places<'_>,
     file: &FileEntries<'_>,
     problems: &[Problem<'a>],
 ) -> Result<Vec<Told<'a>>, AllocError>
     ensures same { IfOk result (λ v. map problem_of v.items ≡ problems.now) }
-    ensures lines { IfOk result (λ v.
+    ensures told { IfOk result (λ v.
         Each (IsTold places.now.text.now (table_view places.now.document.now) file.now) v.items) }
 {
     let mut all = Vec::new(alloc);

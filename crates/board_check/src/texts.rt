@@ -3,18 +3,21 @@ ghost use Rattle.std.specs.Prelude.{◌≡◌, ◌++◌, OnOk, option_map, strin
 ghost use Rattle.std.specs.List.{flat_map};
 ghost use Rattle.toml.specs.View.{view, table_view};
 ghost use Rattle.board_check.specs.Rules.{fault_words};
-ghost use Rattle.board_check.specs.Texts.{key_text, line_text, fault_text, quoted_text, data_text, scalar_text, name_text, is_own_name, place_text, said_text, problem_text, bare_text, count_text, lines_text};
+ghost use Rattle.board_check.specs.Texts.{key_text, line_text, fault_text, quoted_text, data_text, scalar_text, name_text, is_own_name, place_text, said_text, problem_text, shown_text, below_text, told_text, bare_text, reasoned_text, unread_text, count_text, lines_text};
 
 use crate::causes::push_cause;
 use crate::keys::{owner_name, value_at};
-use crate::lines::Told;
+use crate::lines::{Told, line_at};
 use crate::shown::{push_entry, push_shown};
 use crate::source::Source;
+use crate::style::{Style, Telling};
 use crate::words::rule_words;
 use board_file::{BoardFault, Entry};
+use excerpts::{push_excerpt, push_line as push_file_line};
 use std::alloc::{AllocError, Global};
 use toml::Table;
 use toml::value::Value;
+use value_places::Place;
 
 /// What is said of a fault.
 pub fn fault_words(fault: BoardFault) -> &'static str
@@ -158,7 +161,7 @@ fn push_said(
 }
 
 /// Appends the line of a problem.
-fn push_problem(
+fn push_problem_line(
     alloc: Global,
     text: &mut String,
     name: &str,
@@ -169,32 +172,88 @@ fn push_problem(
         ≡ string_bytes text.old ++ problem_text name.now (table_view source.now.document.now) told.now) }
 {
     text.push_str(name)?;
-    push_line(text, told.line)?;
+    push_line(text, line_at(told.place))?;
     text.push_str(": ")?;
     push_place(text, source.document, told.problem.entry, told.problem.key)?;
     text.push_str(": ")?;
     push_said(alloc, text, source, told)
 }
 
-/// Appends the lines of problems.
+/// Appends a line of the file, with a mark below the value where there is one.
+fn push_shown_line(
+    alloc: Global,
+    text: &mut String,
+    bytes: &[u8],
+    has_value: bool,
+    place: Option<Place>,
+) -> Result<(), AllocError>
+    ensures { OnOk result (string_bytes text.new
+        ≡ string_bytes text.old ++ shown_text bytes.now has_value place) }
+{
+    match place {
+        Some(place) => {
+            if has_value {
+                push_excerpt(alloc, text, bytes, place)
+            } else {
+                push_file_line(text, bytes, place)
+            }
+        }
+        None => Ok(()),
+    }
+}
+
+/// Appends the line of the file in which a problem is.
+fn push_below(
+    alloc: Global,
+    text: &mut String,
+    bytes: &[u8],
+    document: &Table,
+    told: &Told<'_>,
+) -> Result<(), AllocError>
+    ensures { OnOk result (string_bytes text.new
+        ≡ string_bytes text.old ++ below_text (table_view document.now) bytes.now told.now) }
+{
+    let has_value = value_at(document, told.problem.entry, told.problem.key).is_some();
+    push_shown_line(alloc, text, bytes, has_value, told.place)
+}
+
+/// Appends what is told of a problem.
+fn push_problem(
+    alloc: Global,
+    text: &mut String,
+    telling: &Telling<'_>,
+    source: &Source<'_>,
+    told: &Told<'_>,
+) -> Result<(), AllocError>
+    ensures { OnOk result (string_bytes text.new
+        ≡ string_bytes text.old ++ told_text telling.now.style telling.now.name.now (table_view source.now.document.now) telling.now.bytes.now told.now) }
+{
+    push_problem_line(alloc, text, telling.name, source, told)?;
+    match telling.style {
+        Style::Plain => Ok(()),
+        Style::WithExcerpts => push_below(alloc, text, telling.bytes, source.document, told),
+    }
+}
+
+/// Appends what is told of problems.
 fn push_problems(
     alloc: Global,
     text: &mut String,
-    name: &str,
+    telling: &Telling<'_>,
     source: &Source<'_>,
     told: &[Told<'_>],
 ) -> Result<(), AllocError>
-    ensures { OnOk result (string_bytes text.new
-        ≡ string_bytes text.old ++ flat_map (problem_text name.now (table_view source.now.document.now)) told.now) }
+    ensures { OnOk result (string_bytes text.new ≡ string_bytes text.old
+        ++ flat_map (told_text telling.now.style telling.now.name.now (table_view source.now.document.now) telling.now.bytes.now) told.now) }
 {
     for one in told {
-        push_problem(alloc, text, name, source, one)?;
+        push_problem(alloc, text, telling, source, one)?;
     }
     Ok(())
 }
 
 /// Appends the line of a fault of which no entry is told.
-pub(crate) fn push_bare(
+fn push_bare(
     text: &mut String,
     name: &str,
     line: Option<usize>,
@@ -206,6 +265,46 @@ pub(crate) fn push_bare(
     push_line(text, line)?;
     text.push_str(": refused")?;
     push_fault(text, fault)
+}
+
+/// Appends the line of a fault of bytes that are no document, with the reason of the reader.
+fn push_reasoned(
+    text: &mut String,
+    name: &str,
+    line: Option<usize>,
+    reason: &str,
+    fault: BoardFault,
+) -> Result<(), AllocError>
+    ensures { OnOk result (string_bytes text.new
+        ≡ string_bytes text.old ++ reasoned_text name.now line reason.now fault) }
+{
+    text.push_str(name)?;
+    push_line(text, line)?;
+    text.push_str(": refused: ")?;
+    text.push_str(reason)?;
+    push_fault(text, fault)
+}
+
+/// Appends what is said of bytes that are no document.
+pub(crate) fn push_unread(
+    alloc: Global,
+    text: &mut String,
+    telling: &Telling<'_>,
+    place: Option<Place>,
+    reason: &str,
+    fault: BoardFault,
+) -> Result<(), AllocError>
+    ensures { OnOk result (string_bytes text.new ≡ string_bytes text.old
+        ++ unread_text telling.now.style telling.now.name.now telling.now.bytes.now place reason.now fault) }
+{
+    let line = line_at(place);
+    match telling.style {
+        Style::Plain => push_bare(text, telling.name, line, fault),
+        Style::WithExcerpts => {
+            push_reasoned(text, telling.name, line, reason, fault)?;
+            push_shown_line(alloc, text, telling.bytes, true, place)
+        }
+    }
 }
 
 /// Appends how many problems there are.
@@ -220,17 +319,17 @@ fn push_count(text: &mut String, count: usize) -> Result<(), AllocError>
 pub(crate) fn push_lines(
     alloc: Global,
     text: &mut String,
-    name: &str,
+    telling: &Telling<'_>,
     source: &Source<'_>,
     fault: BoardFault,
     told: &[Told<'_>],
 ) -> Result<(), AllocError>
-    ensures { OnOk result (string_bytes text.new
-        ≡ string_bytes text.old ++ lines_text name.now (table_view source.now.document.now) fault told.now) }
+    ensures { OnOk result (string_bytes text.new ≡ string_bytes text.old
+        ++ lines_text telling.now.style telling.now.name.now (table_view source.now.document.now) telling.now.bytes.now fault told.now) }
 {
     if told.is_empty() {
-        return push_bare(text, name, None, fault);
+        return push_bare(text, telling.name, None, fault);
     }
-    push_problems(alloc, text, name, source, told)?;
+    push_problems(alloc, text, telling, source, told)?;
     push_count(text, told.len())
 }

@@ -7,7 +7,7 @@ mod landings;
 
 use crate::landings::compare_landings;
 use fake_streams::FakeReader;
-use simulation::{Fault, OutputStream, board_bytes, check, drive, list, whole};
+use simulation::{Fault, OutputStream, Style, board_bytes, check, drive, list, whole};
 use std::alloc::Global;
 use std::io;
 use std::process::ExitCode;
@@ -87,6 +87,18 @@ const CHECKS: [&str; 24] = [
     "bridge_first.toml",
 ];
 
+/// Boards that are checked with the lines of their files: two that are no TOML, and some with one thing
+/// wrong or many.
+const EXCERPTS: [&str; 7] = [
+    "no_number.toml",
+    "key_twice.toml",
+    "key.toml",
+    "size.toml",
+    "aperture.toml",
+    "many_places.toml",
+    "many_checks.toml",
+];
+
 /// Writes the report of a board file.
 fn show(rt: &(impl AllocGlobal + Files + Print), name: &str) -> Result<(), Fault> {
     let alloc = rt.alloc();
@@ -116,11 +128,15 @@ fn ask(rt: &(impl AllocGlobal + Files + Print), board: &str, script: &str) -> Re
 }
 
 /// Writes what is wrong with a board file.
-fn look(rt: &(impl AllocGlobal + Files + Print), name: &str) -> Result<(), Fault> {
+fn look(
+    rt: &(impl AllocGlobal + Files + Print),
+    style: Style,
+    name: &str,
+) -> Result<(), Fault> {
     let alloc = rt.alloc();
     let board = board_bytes(rt, alloc, name)?;
     let mut writer = OutputStream::buffered(alloc, io::writer(rt))?;
-    check(alloc, name, &board, &mut writer)
+    check(alloc, style, name, &board, &mut writer)
 }
 
 /// Writes why a board or a script has no more output.
@@ -156,7 +172,16 @@ fn show_all(rt: &(impl AllocGlobal + Files + Print)) -> io::Result<()> {
 fn look_at_all(rt: &(impl AllocGlobal + Files + Print)) -> io::Result<()> {
     for name in CHECKS {
         println!(rt; "== check {name}")?;
-        tell(rt, look(rt, name))?;
+        tell(rt, look(rt, Style::Plain, name))?;
+    }
+    Ok(())
+}
+
+/// Writes the same of some, with the lines of their files.
+fn look_with_excerpts(rt: &(impl AllocGlobal + Files + Print)) -> io::Result<()> {
+    for name in EXCERPTS {
+        println!(rt; "== check {name} with excerpts")?;
+        tell(rt, look(rt, Style::WithExcerpts, name))?;
     }
     Ok(())
 }
@@ -191,6 +216,7 @@ fn write_all(rt: &(impl AllocGlobal + Files + Print)) -> io::Result<()> {
     show_all(rt)?;
     run_all(rt)?;
     look_at_all(rt)?;
+    look_with_excerpts(rt)?;
     land_on_all(rt)
 }
 

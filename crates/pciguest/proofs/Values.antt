@@ -17,7 +17,7 @@ use Rattle.clap.proofs.OnLiterals.{clap_on_literals}
 use Rattle.clap.specs.declared.parser.matches.ArgMatches.{ArgMatches}
 use Rattle.clap.specs.declared.parser.matches.ArgMatches.TheViews.{out-ArgMatches, out-SubCommand}
 use Rattle.clap.specs.declared.parser.matches.SubCommand.{SubCommand}
-use Rattle.pciguest.specs.Words.{pciguest_app, is_taken, subcommand, board, value_in}
+use Rattle.pciguest.specs.Words.{pciguest_app, is_taken, subcommand, value, value_in}
 
 abbrev Entry : Type 0
 Entry = Bor (List ℕ) × MatchedArg
@@ -55,19 +55,19 @@ named_by_rows (Some b) = refl
 
 by_subcommand : (s : Option (List ℕ × List Row)) (name : List ℕ) (rows : List Row)
     → Some name ≡ option_map (λ (p : List ℕ × List Row). p.0) s → Some rows ≡ option_map (λ (p : List ℕ × List Row). p.1) s
-    → (option_map (λ (p : List ℕ × List Row). p.0) s ≡ Some name) × (option_and_then (λ (p : List ℕ × List Row). value_in p.1 (codes "board")) s ≡ value_in rows (codes "board"))
+    → (option_map (λ (p : List ℕ × List Row). p.0) s ≡ Some name) × ((id : List ℕ) → option_and_then (λ (p : List ℕ × List Row). value_in p.1 id) s ≡ value_in rows id)
 by_subcommand None name rows n r = absurd (let wrong : Some name ≡ None = n in cc)
-by_subcommand (Some p) name rows n r = (sym n, let same : rows ≡ p.1 = cc in ap (λ rs. value_in rs (codes "board")) (sym same))
+by_subcommand (Some p) name rows n r = (sym n, let same : rows ≡ p.1 = cc in λ id. ap (λ (rs : List Row). value_in rs id) (sym same))
 
 -- what a parse found of a subcommand is what the words say
 pub asked : (m : ArgMatches) (words : List (List ℕ)) (name : List ℕ) (f : Found) → subcommand_rows_of m ≡ subcommand_of pciguest_app words
     → Some name ≡ subcommand_name_of m → Some (rows_of f) ≡ option_map (λ p. p.1) (subcommand_rows_of m)
-    → (subcommand words ≡ Some name) × (board words ≡ first_value f (codes "board"))
+    → (subcommand words ≡ Some name) × ((id : List ℕ) → value words id ≡ first_value f id)
 asked m words name f e n r =
     let both = by_subcommand (subcommand_of pciguest_app words) name (rows_of f)
     (n ∙ named_by_rows (out-ArgMatches m).subcommand ∙ ap (option_map (λ (p : List ℕ × List Row). p.0)) e)
     (r ∙ ap (option_map (λ (p : List ℕ × List Row). p.1)) e) in
-    (both.0, both.1 ∙ sym (first_value_is f (codes "board")))
+    (both.0, λ id. both.1 id ∙ sym (first_value_is f id))
 
 -- ---- words that are taken name a subcommand, and no words name another
 

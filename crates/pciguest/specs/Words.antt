@@ -3,8 +3,10 @@
 --     pciguest_app      with all of them
 --     is_taken words      the command line takes these words, the program's name among them
 --     subcommand, board words      the subcommand that they name, and the path of its board file
-use Rattle.std.specs.Prelude.{ℕ, Bool, true, List, [], ◌∷◌, Option, codes, option_map, option_and_then, find, slice_get}
+--     plain words      what they give for `--plain`
+use Rattle.std.specs.Prelude.{ℕ, Bool, true, List, [], ◌∷◌, Option, Some, codes, option_map, option_and_then, find, slice_get}
 use Rattle.std.specs.Str.{bytes_eq}
+use Rattle.clap.specs.declared.builder.action.ArgAction.TheVariants.{SetTrue}
 use Rattle.clap.specs.Walk.{Row, Rule}
 use Rattle.clap.specs.Simple.{App, Shape, new_app, new_rule, new_shape, with_subcommand, on_top, subcommand_of}
 use Rattle.clap.specs.Takes.{takes}
@@ -12,12 +14,15 @@ use Rattle.clap.specs.Takes.{takes}
 abbrev pub board_rule : Rule
 board_rule = record (new_rule (codes "board")) { required = true }
 
--- `list BOARD`, `check BOARD`, `run BOARD`, `firmware BOARD` and `audit BOARD`
+abbrev pub plain_rule : Rule
+plain_rule = record (new_rule (codes "plain")) { long = Some (codes "plain"); action = Some SetTrue }
+
+-- `list BOARD`, `check [--plain] BOARD`, `run BOARD`, `firmware BOARD` and `audit BOARD`
 abbrev pub list_shape : Shape
 list_shape = record (new_shape (codes "list")) { rules = board_rule ∷ [] }
 
 abbrev pub check_shape : Shape
-check_shape = record (new_shape (codes "check")) { rules = board_rule ∷ [] }
+check_shape = record (new_shape (codes "check")) { rules = plain_rule ∷ board_rule ∷ [] }
 
 abbrev pub run_shape : Shape
 run_shape = record (new_shape (codes "run")) { rules = board_rule ∷ [] }
@@ -35,7 +40,7 @@ demo_and_list_app =
     (on_top (λ s. record s { disable_help_subcommand = true; subcommand_required = true }) (new_app (codes "pciguest")))
     (new_shape (codes "demo"))) list_shape
 
--- and `pciguest check BOARD`
+-- and `pciguest check [--plain] BOARD`
 abbrev pub demo_list_and_check_app : App
 demo_list_and_check_app = with_subcommand demo_and_list_app check_shape
 
@@ -61,5 +66,11 @@ subcommand words = option_map (λ s. s.0) (subcommand_of pciguest_app words)
 abbrev pub value_in : List Row → List ℕ → Option (List ℕ)
 value_in rows id = option_and_then (λ r. slice_get r.values 0) (find (λ r. bytes_eq r.id id) rows)
 
+abbrev pub value : List (List ℕ) → List ℕ → Option (List ℕ)
+value words id = option_and_then (λ s. value_in s.1 id) (subcommand_of pciguest_app words)
+
 abbrev pub board : List (List ℕ) → Option (List ℕ)
-board words = option_and_then (λ s. value_in s.1 (codes "board")) (subcommand_of pciguest_app words)
+board words = value words (codes "board")
+
+abbrev pub plain : List (List ℕ) → Option (List ℕ)
+plain words = value words (codes "plain")

@@ -1,18 +1,18 @@
 //! What the words of the command line ask for.
-ghost use Rattle.std.specs.Prelude.{◌≡◌, ◌⊎◌, [], true, false, map, codes, IfOk, IfErr, MatchResult};
+ghost use Rattle.std.specs.Prelude.{◌≡◌, ◌⊎◌, [], true, false, map, option_map, codes, IfOk, IfErr, MatchResult};
 ghost use Rattle.clap.specs.declared.builder.command.Command.TheViews.{out-Command as fields_of};
 ghost use Rattle.clap.specs.Simple.{app_of, shape_of, new_shape};
 ghost use Rattle.clap.specs.Faults.{fault_of};
 ghost use Rattle.clap.specs.Values.{kind_of};
 ghost use Rattle.clap.specs.Walk.{rule_of};
-ghost use Rattle.pciguest.specs.Words.{board_rule, list_shape, check_shape, run_shape, firmware_shape, audit_shape};
+ghost use Rattle.pciguest.specs.Words.{board_rule, plain_rule, list_shape, check_shape, run_shape, firmware_shape, audit_shape};
 ghost use Rattle.pciguest.specs.Words.{demo_and_list_app, demo_list_and_check_app, without_firmware_app};
 ghost use Rattle.pciguest.specs.Words.{without_audit_app, pciguest_app, is_taken};
-ghost use Rattle.pciguest.specs.Choices.{IsAsked, IsWork, IsHelp};
+ghost use Rattle.pciguest.specs.Choices.{is_true, style_of, IsAsked, IsWork, IsHelp};
 
 use clap::error::ErrorKind;
-use clap::{Arg, Command, Error};
-use simulation::{Choice, Fault};
+use clap::{Arg, ArgAction, Command, Error};
+use simulation::{Choice, Fault, Style};
 use std::alloc::{AllocError, Global};
 
 /// The argument that names a board file.
@@ -51,13 +51,25 @@ fn run<'a>(alloc: Global) -> Result<Command<'a>, AllocError>
         .arg(board(alloc))
 }
 
-/// `check BOARD`.
+/// The flag that asks a check for lines alone.
+fn plain<'a>(alloc: Global) -> Arg<'a>
+    ensures rule { rule_of result ≡ plain_rule }
+    ensures local { result.global ≡ false }
+{
+    Arg::new(alloc, "plain")
+        .long("plain")
+        .action(ArgAction::SetTrue)
+        .help("Write a line for each problem and nothing below it")
+}
+
+/// `check [--plain] BOARD`.
 fn check<'a>(alloc: Global) -> Result<Command<'a>, AllocError>
     ensures shape { IfOk result (λ c. shape_of c ≡ check_shape) }
     ensures local { IfOk result (λ c. (fields_of c).has_globals ≡ false) }
 {
     Command::new(alloc, "check")
         .about("Say what is wrong with the board file <board>, or that its board fits")
+        .arg(plain(alloc))?
         .arg(board(alloc))
 }
 
@@ -146,12 +158,38 @@ fn refusal<'a>(alloc: Global, error: &Error) -> Result<Choice<'a>, Fault>
     }
 }
 
-/// What the words ask for. The first of them is the program's name.
+/// Whether a flag is given, by its value.
+fn is_true(given: Option<&str>) -> bool
+    ensures { result ≡ is_true (option_map (λ s. s.now) given.entry) }
+{
+    match given {
+        Some(text) => text == "true",
+        None => false,
+    }
+}
+
+/// How a check tells: with excerpts where it writes to a terminal, unless lines alone are asked for.
+fn style_of(plain: Option<&str>, is_terminal: bool) -> Style
+    ensures { result ≡ style_of (option_map (λ s. s.now) plain.entry) is_terminal }
+{
+    if is_terminal && !is_true(plain) {
+        Style::WithExcerpts
+    } else {
+        Style::Plain
+    }
+}
+
+/// What the words ask for. The first of them is the program's name. `is_terminal` tells whether what is
+/// done writes to a terminal.
 ///
 /// Words that the command line doesn't take are `Help` where they ask for help, and else
 /// `Fault::Usage`.
-pub fn choose<'a>(alloc: Global, words: &'a [&'a str]) -> Result<Choice<'a>, Fault>
-    ensures asked { IfOk result (IsAsked (map (λ w. w.now) words.entry.now)) }
+pub fn choose<'a>(
+    alloc: Global,
+    words: &'a [&'a str],
+    is_terminal: bool,
+) -> Result<Choice<'a>, Fault>
+    ensures asked { IfOk result (IsAsked (map (λ w. w.now) words.entry.now) is_terminal) }
     ensures only_taken { IfOk result (λ c. IsWork c → fault_of pciguest_app (map (λ w. w.now) words.entry.now) ≡ []) }
 
     // Words that the command line takes are refused where memory is out, and nowhere else.
@@ -169,7 +207,8 @@ pub fn choose<'a>(alloc: Global, words: &'a [&'a str]) -> Result<Choice<'a>, Fau
             Some(("list", list)) => Ok(Choice::List(list.get_str("board").unwrap_or(""))),
             Some(("run", run)) => Ok(Choice::Run(run.get_str("board").unwrap_or(""))),
             Some(("check", checked)) => {
-                Ok(Choice::Check(checked.get_str("board").unwrap_or("")))
+                let style = style_of(checked.get_str("plain"), is_terminal);
+                Ok(Choice::Check(checked.get_str("board").unwrap_or(""), style))
             }
             Some(("firmware", driven)) => {
                 Ok(Choice::Firmware(driven.get_str("board").unwrap_or("")))

@@ -5,6 +5,7 @@ mod choice;
 
 use crate::choice::choose;
 use simulation::{Fault, InputStream, OutputStream, fault_line, perform};
+use std::io::IsTerminal;
 use std::process::ExitCode;
 use std::rt::{Env, Files};
 use std::{env, io};
@@ -18,8 +19,11 @@ fn words_given(rt: &(impl Env + AllocGlobal)) -> Result<Vec<String>, Fault> {
     }
 }
 
-/// Does what the words ask, over standard input and output.
-fn serve(rt: &(impl Env + AllocGlobal + Files + Input + Print)) -> Result<(), Fault> {
+/// Does what the words ask, over standard input and output. `is_terminal` tells whether the output is one.
+fn serve(
+    rt: &(impl Env + AllocGlobal + Files + Input + Print),
+    is_terminal: bool,
+) -> Result<(), Fault> {
     let alloc = rt.alloc();
     let words = words_given(rt)?;
     let mut texts = Vec::new(alloc);
@@ -28,14 +32,14 @@ fn serve(rt: &(impl Env + AllocGlobal + Files + Input + Print)) -> Result<(), Fa
             return Err(Fault::WordMemory);
         }
     }
-    let choice = choose(alloc, texts.as_slice())?;
+    let choice = choose(alloc, texts.as_slice(), is_terminal)?;
     let mut reader = InputStream::new(rt.reader());
     let mut writer = OutputStream::buffered(alloc, io::writer(rt))?;
     perform(rt, alloc, &choice, &mut reader, &mut writer)
 }
 
 fn main(rt: HostRuntime) -> ExitCode {
-    match serve(&rt) {
+    match serve(&rt, rt.stdout().is_terminal()) {
         Ok(()) => ExitCode::SUCCESS,
         Err(fault) => {
             let _ = rt.eprint(fault_line(fault));

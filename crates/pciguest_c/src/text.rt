@@ -8,7 +8,7 @@ ghost use Rattle.simulation.specs.Listing.{Declares, Refuses};
 ghost use Rattle.pciguest_c.specs.Checks.{IsCheckOf};
 
 use crate::numbers::{FILE_MEMORY, MEMORY};
-use simulation::{check, list_text};
+use simulation::{Style, check, list_text};
 use std::alloc::Global;
 use streams::{Failed, Writer};
 
@@ -70,7 +70,7 @@ pub fn check_of(alloc: Global, board: &[u8]) -> Result<(Vec<u8>, u32), u32>
         bytes: Vec::new(alloc),
         failures: 0,
     };
-    match check(alloc, BOARD_NAME, board, &mut text) {
+    match check(alloc, Style::Plain, BOARD_NAME, board, &mut text) {
         Ok(()) => Ok((text.bytes, 0)),
         Err(fault) => {
             let number = u32::from(fault.number());

@@ -1,28 +1,30 @@
 -- What a check says of a board file.
---     IsRefusalOf name board f text      what is said of a file that is refused with this fault
---     IsRefusalTold name board f old new      this was written, after what was written before
---     IsCheckText name board text      what is said of a file: of its board, or of the check that it fails
+--     IsRefusalOf style name board f text      what is said of a file that is refused with this fault
+--     IsRefusalTold style name board f old new      this was written, after what was written before
+--     IsCheckText style name board text      what is said of a file: of its board, or of the check that it fails
 use Rattle.std.specs.Prelude.{◌≡◌, Option}
 use Rattle.std.specs.Io.KnownBytes.{Appends}
 use Rattle.model_guests.specs.Text.{Text}
 use Rattle.model_guests.specs.World.{World}
 use Rattle.board_file.specs.declared.fault.BoardFault.{BoardFault}
+use Rattle.board_check.specs.declared.style.Style.{Style}
 use Rattle.board_check.specs.Telling.{IsRefusalText}
 use Rattle.simulation.specs.declared.fault.Fault.{Fault}
 use Rattle.simulation.specs.Faults.{number_of, of_file}
 use Rattle.simulation.specs.Fitting.{IsFitText}
 use Rattle.simulation.specs.Listing.{Declares, Refuses}
 
-pub record IsRefusalOf (name board : Text) (f : Fault) (text : Text) : Type 0 where
+pub record IsRefusalOf (style : Style) (name board : Text) (f : Fault) (text : Text) : Type 0 where
   pub fault : BoardFault
   pub same : f ≡ of_file fault
-  pub told : IsRefusalText name board fault text
+  pub told : IsRefusalText style name board fault text
 
-pub record IsRefusalTold (name board : Text) (f : Fault) (old new : Option Text) : Type 0 where
+pub record IsRefusalTold (style : Style) (name board : Text) (f : Fault) (old new : Option Text) : Type 0 where
   pub text : Text
-  pub is_told : IsRefusalOf name board f text
+  pub is_told : IsRefusalOf style name board f text
   pub written : Appends old new text
 
-pub data IsCheckText (name board text : Text) : Type 0 where
-  of_board : (w : World) → Declares board w → IsFitText name w.board w.apertures text → IsCheckText name board text
-  of_refusal : (f : Fault) → Refuses board (number_of f) → IsRefusalOf name board f text → IsCheckText name board text
+pub data IsCheckText (style : Style) (name board text : Text) : Type 0 where
+  of_board : (w : World) → Declares board w → IsFitText name w.board w.apertures text → IsCheckText style name board text
+  of_refusal : (f : Fault) → Refuses board (number_of f) → IsRefusalOf style name board f text
+      → IsCheckText style name board text

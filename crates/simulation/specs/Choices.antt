@@ -12,6 +12,7 @@ use Rattle.model_set_up.specs.SetUpWrites.{set_up_rules}
 use Rattle.model_guests.specs.Text.{Text}
 use Rattle.model_guests.specs.World.{World}
 use Rattle.streams.specs.Ends.{AppendsPart}
+use Rattle.board_check.specs.declared.style.Style.{Style}
 use Rattle.simulation.specs.Demo.{demo_board}
 use Rattle.simulation.specs.Faults.{number_of, IsOfList, IsOfRun}
 use Rattle.simulation.specs.Listing.{Declares, Refuses, IsListed, IsListedInPart}
@@ -45,25 +46,25 @@ pub record IsFit (board : Text) (old new : Option Text) : Type 0 where
   pub said : Appends old new (fit_text world.board world.apertures)
 
 -- what is wrong with a file or its board was told
-pub record IsTold (name board : Text) (f : Fault) (old new : Option Text) : Type 0 where
-  pub refused : number_of f < 199 → Refuses board (number_of f) × IsRefusalTold name board f old new
+pub record IsTold (style : Style) (name board : Text) (f : Fault) (old new : Option Text) : Type 0 where
+  pub refused : number_of f < 199 → Refuses board (number_of f) × IsRefusalTold style name board f old new
   pub misfit : 199 < number_of f → (w : World) × Declares board w
       × (first_broken (set_up_rules w.board w.apertures) ≡ Some (number_of f))
       × Appends old new (misfit_text name w.board w.apertures f)
 
 -- so was a beginning of it, or of what is said where nothing is wrong
-pub record IsToldInPart (name board : Text) (old new : Option Text) : Type 0 where
+pub record IsToldInPart (style : Style) (name board : Text) (old new : Option Text) : Type 0 where
   pub text : Text
-  pub is_text : IsCheckText name board text
+  pub is_text : IsCheckText style name board text
   pub part : AppendsPart old new text
 
 -- a fault of the file or its board, which a check tells of
 abbrev pub IsTelling : Choice → Fault → Type 0
-IsTelling (Check path) f = (number_of f < 299) × (number_of f ≢ 199)
+IsTelling (Check path style) f = (number_of f < 299) × (number_of f ≢ 199)
 IsTelling _ f = ⊥
 
 abbrev pub IsToldOf : Choice → Fault → Option Text → Option Text → Type 0
-IsToldOf (Check path) f old new = (board : Text) × IsTold path.now board f old new
+IsToldOf (Check path style) f old new = (board : Text) × IsTold style path.now board f old new
 IsToldOf _ f old new = ⊥
 
 -- no memory for an audit, once the lines ran
@@ -79,7 +80,7 @@ abbrev pub IsDone : Choice → Option Text → Option Text → Option Text → T
 IsDone (Help text) script old new = Appends old new (string_bytes text)
 IsDone Demo script old new = IsRun demo_board script old new
 IsDone (List path) script old new = (board : Text) × IsReported board old new
-IsDone (Check path) script old new = (board : Text) × IsFit board old new
+IsDone (Check path style) script old new = (board : Text) × IsFit board old new
 IsDone (Run path) script old new = (board : Text) × IsRun board script old new
 IsDone (Firmware path) script old new = (board : Text) × IsDriven board script old new
 IsDone (Audit path) script old new = (board : Text) × IsAudited board script old new
@@ -88,7 +89,7 @@ abbrev pub IsDoneInPart : Choice → Option Text → Option Text → Option Text
 IsDoneInPart (Help text) old_rest new_rest old new = AppendsPart old new (string_bytes text)
 IsDoneInPart Demo old_rest new_rest old new = IsRunStopped demo_board old_rest new_rest old new
 IsDoneInPart (List path) old_rest new_rest old new = (board : Text) × IsReportedInPart board old new
-IsDoneInPart (Check path) old_rest new_rest old new = (board : Text) × IsToldInPart path.now board old new
+IsDoneInPart (Check path style) old_rest new_rest old new = (board : Text) × IsToldInPart style path.now board old new
 IsDoneInPart (Run path) old_rest new_rest old new = (board : Text) × IsRunStopped board old_rest new_rest old new
 IsDoneInPart (Firmware path) old_rest new_rest old new =
     (board : Text) × IsDrivenStopped board old_rest new_rest old new
@@ -99,7 +100,7 @@ abbrev pub IsDoneAsRead : Choice → Option Text → Option Text → Option Text
 IsDoneAsRead (Help text) old_rest new_rest old new = ⊥
 IsDoneAsRead Demo old_rest new_rest old new = IsRunCut demo_board old_rest new_rest old new
 IsDoneAsRead (List path) old_rest new_rest old new = ⊥
-IsDoneAsRead (Check path) old_rest new_rest old new = ⊥
+IsDoneAsRead (Check path style) old_rest new_rest old new = ⊥
 IsDoneAsRead (Run path) old_rest new_rest old new = (board : Text) × IsRunCut board old_rest new_rest old new
 IsDoneAsRead (Firmware path) old_rest new_rest old new = (board : Text) × IsDrivenCut board old_rest new_rest old new
 IsDoneAsRead (Audit path) old_rest new_rest old new = (board : Text) × IsDrivenCut board old_rest new_rest old new
@@ -108,7 +109,7 @@ abbrev pub IsOfChoice : Choice → Fault → Type 0
 IsOfChoice (Help text) f = f ≡ Write
 IsOfChoice Demo f = IsOfRun f
 IsOfChoice (List path) f = IsOfList f ⊎ (f ≡ BoardFile)
-IsOfChoice (Check path) f = IsOfList f ⊎ (f ≡ BoardFile)
+IsOfChoice (Check path style) f = IsOfList f ⊎ (f ≡ BoardFile)
 IsOfChoice (Run path) f = IsOfRun f ⊎ (f ≡ BoardFile)
 IsOfChoice (Firmware path) f = IsOfDriving f ⊎ (f ≡ BoardFile)
 IsOfChoice (Audit path) f = IsOfAudit f ⊎ (f ≡ BoardFile)

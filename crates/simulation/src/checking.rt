@@ -18,7 +18,7 @@ ghost use Rattle.simulation.specs.Checking.{IsRefusalOf, IsRefusalTold, IsCheckT
 use crate::choice::print;
 use crate::fault::Fault;
 use crate::fitting::judge;
-use board_check::refusal_text;
+use board_check::{Style, refusal_text};
 use board_file::{BoardFault, read_board};
 use std::alloc::Global;
 use streams::Writer;
@@ -26,6 +26,7 @@ use streams::Writer;
 /// Writes what is wrong with a file that is refused, and answers the fault.
 fn refuse<W: Writer>(
     alloc: Global,
+    style: Style,
     name: &str,
     board: &[u8],
     fault: BoardFault,
@@ -38,18 +39,18 @@ fn refuse<W: Writer>(
     ensures never { OnOk result ⊥ }
     ensures file { IfErr result (λ f. number_of f < 199 → Refuses board.now (number_of f)) }
     ensures told { IfErr result (λ f.
-        number_of f < 199 → IsRefusalTold name.now board.now f (W.written writer.old) (W.written writer.new)) }
+        number_of f < 199 → IsRefusalTold style name.now board.now f (W.written writer.old) (W.written writer.new)) }
     ensures flushed { IfErr result (λ f. number_of f < 199 → W.flushed writer.new ≡ W.written writer.new) }
     ensures faults { IfErr result (λ f. (number_of f ≤ 199) ⊎ (f ≡ Fault.Write)) }
     ensures memory { IfErr result (λ f. number_of f ≡ 199 → writer.new ≡ writer.old) }
-    ensures stopped { IsErrOf result Fault.Write → (text : Text) × IsCheckText name.now board.now text
+    ensures stopped { IsErrOf result Fault.Write → (text : Text) × IsCheckText style name.now board.now text
         × AppendsPart (W.written writer.old) (W.written writer.new) text }
     ensures failures { W.failures writer.new ≡ W.failures writer.old + write_faults result }
 {
     if fault == BoardFault::Memory {
         return Err(Fault::FileMemory);
     }
-    let Ok(text) = refusal_text(alloc, name, board, fault) else {
+    let Ok(text) = refusal_text(alloc, style, name, board, fault) else {
         return Err(Fault::FileMemory);
     };
     print(text.as_str(), writer)?;
@@ -58,11 +59,13 @@ fn refuse<W: Writer>(
 
 /// Writes what is wrong with a board file, a line for each entry that breaks the first check that the
 /// file fails, and flushes once; or `ok`, where its board can be set up, with how much of each aperture
-/// it takes. `name` is what the file is called.
+/// it takes. `name` is what the file is called. With excerpts the line of the file stands below what is
+/// said of an entry.
 ///
 /// The answer is that of `list`, but for faults of the report itself.
 pub fn check<W: Writer>(
     alloc: Global,
+    style: Style,
     name: &str,
     board: &[u8],
     writer: &mut W,
@@ -78,7 +81,7 @@ pub fn check<W: Writer>(
     // The file is refused: what breaks this check was told.
     ensures file { IfErr result (λ f. number_of f < 199 → Refuses board.now (number_of f)) }
     ensures told { IfErr result (λ f.
-        number_of f < 199 → IsRefusalTold name.now board.now f (W.written writer.old) (W.written writer.new)) }
+        number_of f < 199 → IsRefusalTold style name.now board.now f (W.written writer.old) (W.written writer.new)) }
 
     // The board can't be set up, and this was told.
     ensures misfit { IfErr result (λ f. 199 < number_of f → number_of f < 299 →
@@ -87,7 +90,7 @@ pub fn check<W: Writer>(
 
     ensures told_flushed { IfErr result (λ f.
         number_of f < 299 → number_of f ≢ 199 → W.flushed writer.new ≡ W.written writer.new) }
-    ensures stopped { IsErrOf result Fault.Write → (text : Text) × IsCheckText name.now board.now text
+    ensures stopped { IsErrOf result Fault.Write → (text : Text) × IsCheckText style name.now board.now text
         × AppendsPart (W.written writer.old) (W.written writer.new) text }
     ensures faults { IfErr result IsOfList }
     ensures memory { IfErr result (λ f. (number_of f ≡ 199) ⊎ (number_of f ≡ 299) → writer.new ≡ writer.old) }
@@ -97,6 +100,6 @@ pub fn check<W: Writer>(
 {
     match read_board(alloc, board) {
         Ok((host, _)) => judge(alloc, name, host, writer),
-        Err(fault) => refuse(alloc, name, board, fault, writer),
+        Err(fault) => refuse(alloc, style, name, board, fault, writer),
     }
 }

@@ -14,6 +14,7 @@ use crate::fault::Fault;
 use crate::files::board_bytes;
 use crate::listing::list;
 use crate::running::whole;
+use board_check::Style;
 use std::alloc::Global;
 use std::rt::Files;
 use streams::{Reader, Writer, write_and_flush};
@@ -28,7 +29,7 @@ pub enum Choice<'a> {
     /// Write the report of the board file at this path.
     List(&'a str),
     /// Say what is wrong with the board file at this path, or that its board fits.
-    Check(&'a str),
+    Check(&'a str, Style),
     /// Run a script over the board of the board file at this path.
     Run(&'a str),
     /// Run firmware's lines over the board of the board file at this path, at reset.
@@ -102,9 +103,9 @@ pub fn perform<R: Reader, W: Writer>(
             let board = board_bytes(rt, alloc, path)?;
             list(alloc, &board, writer)
         }
-        Choice::Check(path) => {
+        Choice::Check(path, style) => {
             let board = board_bytes(rt, alloc, path)?;
-            check(alloc, path, &board, writer)
+            check(alloc, *style, path, &board, writer)
         }
         Choice::Run(path) => {
             let board = board_bytes(rt, alloc, path)?;

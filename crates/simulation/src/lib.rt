@@ -19,6 +19,7 @@ mod running;
 mod standard_streams;
 
 pub use auditing::audit;
+pub use board_check::Style;
 pub use checking::check;
 pub use choice::{Choice, perform};
 pub use demonstration::demo;

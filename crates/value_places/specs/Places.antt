@@ -5,7 +5,6 @@
 --                  another, is the mark
 --     GoesOn way longer      the longer way begins with the way
 --     IsPlaceWithin      the place of a value at the end of a way, or of one inside that value
---     IsLineWithin      the line of such a place
 use Rattle.std.specs.Prelude.{◌≡◌, ℕ, true, false, List, ◌++◌, length, Some, option_map}
 use Rattle.std.specs.List.{slice_get}
 use Rattle.toml.specs.Data.{table, Members}
@@ -49,8 +48,3 @@ pub record IsPlaceWithin (text : List ℕ) (before : Members) (way : List Step) 
   pub longer : List Step
   pub goes_on : GoesOn way longer
   pub is_place : IsPlace text before longer p
-
-pub record IsLineWithin (text : List ℕ) (before : Members) (way : List Step) (line : ℕ) : Type 0 where
-  pub place : Place
-  pub within : IsPlaceWithin text before way place
-  pub is_line : line ≡ place.line

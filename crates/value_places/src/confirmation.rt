@@ -4,7 +4,7 @@ ghost use Rattle.std.specs.Option.{ForSome};
 ghost use Rattle.toml.specs.Parse.{parse_document};
 ghost use Rattle.toml.specs.View.{table_view};
 ghost use Rattle.value_places.specs.Marks.{with_marks};
-ghost use Rattle.value_places.specs.Places.{IsMarked, Stands, IsPlace, IsPlaceWithin, IsLineWithin};
+ghost use Rattle.value_places.specs.Places.{IsMarked, Stands, IsPlace, IsPlaceWithin};
 
 use crate::descent::push_descent;
 use crate::line_numbers::line_of;
@@ -125,16 +125,5 @@ impl<'a> Places<'a> {
         longer.extend_from_slice(way)?;
         push_descent(&mut longer, value)?;
         Ok(self.place(&longer))
-    }
-
-    /// The line of the same place.
-    pub fn line_within(&self, alloc: Global, way: &[Step<'_>]) -> Result<Option<usize>, AllocError>
-        ensures { IfOk result (λ found.
-            IfSome found (IsLineWithin self.now.text.now (table_view self.now.document.now) way.now)) }
-    {
-        match self.place_within(alloc, way)? {
-            Some(place) => Ok(Some(place.line)),
-            None => Ok(None),
-        }
     }
 }

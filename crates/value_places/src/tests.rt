@@ -27,8 +27,8 @@ fn line_within(rt: &HostRuntime, text: &str, way: &[Step<'_>]) -> usize {
     let Ok(places) = Places::new(alloc, bytes, &document) else {
         return 0;
     };
-    match places.line_within(alloc, way) {
-        Ok(Some(line)) => line,
+    match places.place_within(alloc, way) {
+        Ok(Some(place)) => place.line,
         _ => 0,
     }
 }

@@ -17,15 +17,17 @@ map-found_in (t ∷ ts) = ap (λ fs. found_of t.problem ∷ fs) (map-found_in ts
 pub returns : goal.returns
 returns c =
     let ms = table_view c.args.document.now in
-    let bytes = c.args.bytes.now in
+    let telling = c.args.telling.now in
+    let bytes = telling.bytes.now in
     let told = c.in_ok-told.told.items in
     let source = c.in_ok-source.source in
     let document : source.document.now ≡ c.args.document.now = c.in_ok-source.ensures in
     let says : source.file ≡ file ms = source.entries ∙ ap (λ d. file (table_view d)) document in
     let in_text = subst (λ text. Each (IsTold text (table_view c.in_ok-places.places.document.now) source.file) told)
-    c.in_ok-places.ensures.text c.in_ok-told.ensures.lines in
+    c.in_ok-places.ensures.text c.in_ok-told.ensures.told in
     let in_document = subst (λ d. Each (IsTold bytes (table_view d) source.file) told) c.in_ok-places.ensures.document in_text in
-    let name = c.args.name.now in
+    let style = telling.style in
+    let name = telling.name.now in
     let fault = c.args.fault in
     record {
       document = ms;
@@ -33,13 +35,13 @@ returns c =
       found = told;
       are_all = map-found_in told ∙ ap (map found_of) (c.in_ok-told.ensures.same ∙ c.deref.ensures.value) ∙ c.in_ok-problems.ensures
           ∙ ap (λ d. all_problems (table_view d) c.args.fault) document;
-      have_lines = subst (λ f. Each (IsTold bytes ms f) told) says in_document;
+      have_places = subst (λ f. Each (IsTold bytes ms f) told) says in_document;
       by_line = c.sort_by_line.new.told.items;
       has_lines = c.in_ok-sort_by_line.ensures;
       told = c.sort_by_check.new.told.items;
       in_order = c.in_ok-sort_by_check.ensures;
       is_text = c.in_ok-push_lines.ensures
-          ∙ ap (λ b. b ++ lines_text name (table_view source.document.now) fault c.deref-2.result.now) c.new-text.ensures.bytes
-          ∙ ap (lines_text name (table_view source.document.now) fault) c.deref-2.ensures.value
-          ∙ ap (λ d. lines_text name (table_view d) fault c.sort_by_check.new.told.items) document;
+          ∙ ap (λ b. b ++ lines_text style name (table_view source.document.now) bytes fault c.deref-2.result.now) c.new-text.ensures.bytes
+          ∙ ap (lines_text style name (table_view source.document.now) bytes fault) c.deref-2.ensures.value
+          ∙ ap (λ d. lines_text style name (table_view d) bytes fault c.sort_by_check.new.told.items) document;
     }

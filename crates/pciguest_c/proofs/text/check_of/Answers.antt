@@ -2,6 +2,7 @@ use Rattle.std.proofs.Common.{◌≡◌, ◌<◌, ℕ, List, Some, sym, subst, �
 use Rattle.simulation.specs.declared.fault.Fault.{Fault}
 use Rattle.simulation.specs.declared.fault.Fault.TheVariants as fault
 use Rattle.simulation.specs.Faults.{number_of}
+use Rattle.board_check.specs.declared.style.Style.TheVariants.{Plain}
 use Rattle.simulation.specs.Choices.{IsTold}
 use Rattle.pciguest_c.specs.Checks.{board_name}
 use Rattle.pciguest_c.proofs.text.check_of.Goals as goal
@@ -38,7 +39,7 @@ returns-else-number-eq-FILE_MEMORY-clause-told c =
     let same : c.from-number.result ≡ number_of f = c.from-number.ensures ∙ c.number.ensures in
     let small : number_of f < 299 = omega (arith, same, c.if-number-ge-MEMORY.false) in
     let said = c.in-Err.ensures in
-    let Told : List ℕ → Type 0 = λ old. IsTold board_name c.args.board.now f (Some old) (Some c.check.new.writer.bytes.items) in
+    let Told : List ℕ → Type 0 = λ old. IsTold Plain board_name c.args.board.now f (Some old) (Some c.check.new.writer.bytes.items) in
     record {
       fit = λ zero. absurd (nonzero f (sym same ∙ zero));
       told = λ _. (

@@ -14,7 +14,7 @@ returns-in_err-print-clause-stopped g c is =
     cc
     in (
       c.as_str.result.now,
-      subst (λ t. IsCheckText c.args.name.now c.args.board.now t) (sym c.as_str.ensures.value)
+      subst (λ t. IsCheckText c.args.style c.args.name.now c.args.board.now t) (sym c.as_str.ensures.value)
           (of_refusal (of_file c.args.fault) (refused_by c.args.board.now c.args.fault c.requires.refused c.requires.not_text known) (record { fault = c.args.fault; same = refl; told = c.in-Ok.ensures })),
       part,
     )

@@ -1,7 +1,0 @@
-use Rattle.std.proofs.Common.{◌≤◌, length, arith}
-use Rattle.board_check.proofs.telling.last_line.Goals as goal
-
-pub returns-in-Some : goal.returns-in-Some
-returns-in-Some c =
-    let within : c.in-Some.range.start ≤ length c.args.bytes.now = omega (arith, c.requires, c.in-Some.ensures.range) in
-    (c.in-Some.range.start, within, c.line_of.ensures)
