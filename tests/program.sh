@@ -119,7 +119,10 @@ ends_with 'check --plain' check --plain "$boards/main.toml"
 ends_with 'check, and then --plain' check "$boards/main.toml" --plain
 
 # ---- check on a terminal, with the lines of the files, and --plain there; where Python 3 makes a terminal
-on_terminal() { python3 -c 'import os, pty, sys; sys.exit(os.waitstatus_to_exitcode(pty.spawn(sys.argv[1:])))' "$@" | tr -d '\r'; }
+on_terminal() (
+  set -o pipefail
+  python3 -c 'import os, pty, sys; sys.exit(os.waitstatus_to_exitcode(pty.spawn(sys.argv[1:])))' "$@" | tr -d '\r'
+)
 if command -v python3 > /dev/null; then
   for wanted_excerpts in *.excerpts; do
     board=${wanted_excerpts%.excerpts}
@@ -127,11 +130,11 @@ if command -v python3 > /dev/null; then
     sed 's/^fault /pciguest: fault /' "$wanted_excerpts" > wanted.out
     : > wanted.err
     wanted=1
-    on_terminal "$program" check "$board" > out 2> err < /dev/null; status=${PIPESTATUS[0]}
+    on_terminal "$program" check "$board" > out 2> err < /dev/null; status=$?
     tell "check $board on a terminal"
     [ ! -f "$board.check" ] || {
       sed 's/^fault /pciguest: fault /' "$board.check" > wanted.out
-      on_terminal "$program" check --plain "$board" > out 2> err < /dev/null; status=${PIPESTATUS[0]}
+      on_terminal "$program" check --plain "$board" > out 2> err < /dev/null; status=$?
       tell "check --plain $board on a terminal"
     }
     rm "$board"
