@@ -128,11 +128,7 @@ fn ask(rt: &(impl AllocGlobal + Files + Print), board: &str, script: &str) -> Re
 }
 
 /// Writes what is wrong with a board file.
-fn look(
-    rt: &(impl AllocGlobal + Files + Print),
-    style: Style,
-    name: &str,
-) -> Result<(), Fault> {
+fn look(rt: &(impl AllocGlobal + Files + Print), style: Style, name: &str) -> Result<(), Fault> {
     let alloc = rt.alloc();
     let board = board_bytes(rt, alloc, name)?;
     let mut writer = OutputStream::buffered(alloc, io::writer(rt))?;

@@ -77,7 +77,12 @@ impl Answers<Script> for Monitor {
     fn answer(&mut self, line: &[u8], long: bool, text: &mut LineText) {
         // No event runs, and all such lines write the same.
         if long {
-            push_line(text, Who::Unknown, self.names(), Reply::Refused(Refusal::LongLine));
+            push_line(
+                text,
+                Who::Unknown,
+                self.names(),
+                Reply::Refused(Refusal::LongLine),
+            );
             return;
         }
         push_answer(self, line, text);

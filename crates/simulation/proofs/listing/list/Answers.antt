@@ -12,4 +12,4 @@ pub returns-in_err-text-clause-placement : goal.returns-in_err-text-clause-place
 returns-in_err-text-clause-placement g c =
     by_error _ c.from_residual.result c.from_residual.ensures.1
     (λ f same. subst (λ (e : Fault). 199 < number_of e → number_of e < 299 → (w : World) × Declares c.args.board.now w × (first_broken (set_up_rules w.board w.apertures) ≡ Some (number_of e)))
-      (sym same) c.in_err-text.ensures.placement)
+    (sym same) c.in_err-text.ensures.placement)
