@@ -1,5 +1,5 @@
 -- What a search for a path says of each place.
-use Rattle.std.proofs.Common.{◌≡◌, ◌↔◌, ℕ, suc, ◌+◌, ◌<◌, Bool, true, false, ◌||◌, List, [], ◌∷◌, map, drop, length, get_or, refl, ap, sym, subst, add-one, IsFalse, ◌-◌}
+use Rattle.std.proofs.Common.{◌≡◌, ◌↔◌, ℕ, suc, ◌+◌, ◌<◌, Bool, true, false, ◌||◌, List, [], ◌∷◌, map, drop, length, get_or, refl, ap, sym, subst, add-one, IsFalse}
 use Rattle.std.proofs.Math.Seq.{drop-cons}
 use Rattle.lists.specs.Elements.{Each, EachPair}
 use Rattle.model_board.specs.Paths.{Path, path_eq}

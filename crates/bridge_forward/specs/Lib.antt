@@ -14,3 +14,4 @@ pub mod Lending
 pub mod Locating
 pub mod RoutingRows
 pub mod BasesNow
+pub mod ByIndex

@@ -10,9 +10,11 @@ ghost use Rattle.model_board.specs.Windows.{Window, is_in, is_in_window, io_wind
 ghost use Rattle.model_board.specs.Cycles.{secondary_register, subordinate_register};
 ghost use Rattle.bars.specs.Kinds.{named_space};
 ghost use Rattle.headers.specs.WindowPairs.{pair_of};
+ghost use Rattle.bridge_forward.specs.ByIndex.{ranges_told};
 ghost use Rattle.bridge_forward.specs.Decoded.{IsDecoded};
 ghost use Rattle.bridge_forward.specs.RoutingRows.{named_ranges};
 
+use crate::by_index::RangesNow;
 use crate::routing::{Ranges, window_of};
 use bars::Space;
 use config_bytes::{Cells, enables_of, from_lanes};
@@ -139,6 +141,19 @@ impl BridgeFn {
             io: window_of(self.decoded.io),
             mem: window_of(self.decoded.mem),
             pref: window_of(self.decoded.pref),
+        }
+    }
+
+    /// The same without memory.
+    pub(crate) fn windows_now(&self) -> RangesNow
+        ensures { let file = self.now.file in let d = self.now.decl in
+            ranges_told result ≡ windows (io_window d.io file) (mem_window file) (pref_window d.pref file) }
+    {
+        let Decoded { io, mem, pref, .. } = self.decoded;
+        RangesNow::Windows {
+            io: window_of(io),
+            mem: window_of(mem),
+            pref: window_of(pref),
         }
     }
 

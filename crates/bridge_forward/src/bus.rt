@@ -47,7 +47,7 @@ pub(crate) struct Node {
 /// the number of the bus once a cycle has found it, until a bridge is written.
 #[derive(Drop)]
 pub struct Bus {
-    nodes: Vec<Node>,
+    pub(crate) nodes: Vec<Node>,
     known: Routes,
 }
 

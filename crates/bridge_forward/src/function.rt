@@ -2,23 +2,26 @@
 ghost use Rattle.std.specs.Prelude.{◌≡◌, ◌%◌, ◌&&◌, ◌==◌, nat_le, IfOk};
 ghost use Rattle.std.specs.Borrow.{sem};
 ghost use Rattle.std.specs.Option.{option_copied_mut};
-ghost use Rattle.model_registers.specs.Registers.{config, read, write};
-ghost use Rattle.model_registers.specs.ByteEnables.{lanes};
+ghost use Rattle.model_registers.specs.Registers.{config, number, read, write};
+ghost use Rattle.model_registers.specs.ByteEnables.{LiesInWord, lanes};
 ghost use Rattle.model_registers.specs.Decoding.{command_word};
 ghost use Rattle.model_board.specs.Board.{is_bridge};
 ghost use Rattle.model_board.specs.Routing.{ranges_of};
 ghost use Rattle.bars.specs.Slots.{bases_from};
 ghost use Rattle.bridge_forward.specs.BasesNow.{bases_of};
+ghost use Rattle.bridge_forward.specs.ByIndex.{ranges_told};
 ghost use Rattle.bridge_forward.specs.RoutingRows.{named_ranges, secondary_of};
 ghost use Rattle.model_board.specs.Lawful.{IsLawfulDecl};
 ghost use Rattle.model_board.specs.Cycles.{secondary_register, subordinate_register};
 
 use crate::bridge::BridgeFn;
+use crate::by_index::RangesNow;
 use crate::cycle::Op;
 use crate::decl::Declared;
 use crate::endpoint::EndpointFn;
 use crate::routing::{Ranges, RoutingRow};
 use bars::Region;
+use config_bytes::{enables_of, lowered};
 use paths::Path;
 use std::alloc::{AllocError, Global};
 
@@ -132,6 +135,26 @@ impl Function {
             Function::Endpoint(endpoint) => endpoint.placed(),
             Function::Bridge(_) => [None; 6],
         }
+    }
+
+    /// The regions or windows where the registers say now, without memory.
+    pub(crate) fn ranges_now(&self) -> RangesNow
+        ensures { ranges_told result ≡ ranges_of (file_of self.now) (decl_of self.now) }
+    {
+        match self {
+            Function::Endpoint(endpoint) => RangesNow::Regions(endpoint.placed()),
+            Function::Bridge(bridge) => bridge.windows_now(),
+        }
+    }
+
+    /// The number of so many bytes of configuration space at an offset, which lie in one word.
+    pub(crate) fn number(&self, off: u8, width: u64) -> u32
+        requires { LiesInWord off width }
+        ensures { result ≡ number (file_of self.now) (config off) width }
+    {
+        let from = u64::from(off);
+        let word = self.config_read(off / 4 * 4, enables_of(from, width));
+        lowered(from, word)
     }
 
     /// The routing registers, as those of the function at a path.

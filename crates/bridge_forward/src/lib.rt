@@ -5,6 +5,7 @@ mod blocks;
 mod bridge;
 mod build;
 mod bus;
+mod by_index;
 mod cycle;
 mod decl;
 mod endpoint;
@@ -17,6 +18,7 @@ mod routing;
 mod walk;
 
 pub use bus::{Bus, Claim, Located};
+pub use by_index::RangesNow;
 pub use cycle::{Cycle, CycleType, Op};
 pub use decl::{Decl, Declared, lawful_places};
 pub use endpoint::EndpointFn;

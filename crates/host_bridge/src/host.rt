@@ -37,7 +37,7 @@ use std::marker::Model;
 /// give out. It hands out neither the tree nor a function, so every access is one of the calls here.
 #[derive(Drop)]
 pub struct Host {
-    root: Bus,
+    pub(crate) root: Bus,
     latch: Latch,
     apertures: Apertures,
 }

@@ -18,6 +18,7 @@
 //! ```
 #![tactic(auto)]
 
+mod by_index;
 mod host;
 mod latch;
 mod route;
@@ -25,7 +26,7 @@ mod route;
 mod tests;
 
 pub use bars::Space;
-pub use bridge_forward::{Claim, Located, Path};
+pub use bridge_forward::{Claim, Located, Path, RangesNow};
 pub use host::Host;
 pub use paths::Bdf;
 pub use route::{Route, TreeWalk};

@@ -1,3 +1,5 @@
 pub mod Landings
 pub mod Inside
 mod Staying
+mod Seats
+mod FunctionExamples

@@ -11,7 +11,7 @@ use Rattle.model_registers.specs.Cell.{Cell, written, raised}
 use Rattle.model_registers.specs.Registers.{Place, config, block, place_eq, after, File, cell_at, changed, read, write, raise, all_bytes}
 use Rattle.model_registers.specs.Declarations.{Kind, io_kind, mem32, mem64, Region, Endpoint, registers_of, IsLawfulRegion}
 use Rattle.model_registers.specs.DeclarationRules.{IsLawfulEndpoint}
-use Rattle.model_registers.specs.Decoding.{Function, space_of, base, command_word, opens_space, is_open}
+use Rattle.model_registers.specs.Decoding.{Function, space_of, base, command_word, opens_space}
 use Rattle.model_registers.specs.OwnCopies.{is_own}
 use Rattle.model_registers.proofs.RegisterFiles.{place_same, change_at_place}
 use Rattle.model_registers.proofs.Owned.{no_cell_stays, raised_none}

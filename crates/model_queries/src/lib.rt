@@ -1,6 +1,9 @@
-//! Where the regions of a guest's functions stand and what the guest's accesses hit, as definitions, and laws about them.
+//! Where the regions of a guest's functions stand, what the guest's accesses hit, and what is told of each function of
+//! the board, as definitions, and laws about them.
 #![tactic(auto)]
 
+ghost use Rattle.model_queries.specs.FunctionExamples.{WorkedExamples};
+ghost use Rattle.model_queries.specs.FunctionLaws.{NoSeatHolds, SeatsHold};
 ghost use Rattle.model_queries.specs.QueryLaws.{AccessLands, HitIsInside, InsideIsHit, NothingHit};
 ghost use Rattle.model_queries.specs.StayLaws.{RegionsStay};
 
@@ -22,4 +25,15 @@ pub fn hits_lie_in_regions()
 /// Command or of base address registers, moves that touch its slot, and resets at its device.
 pub fn regions_stay()
     ensures { RegionsStay }
+{}
+
+/// A seat that is told of a function holds it, and where none is told no slot of a guest does.
+pub fn seats_hold()
+    ensures held { SeatsHold }
+    ensures none { NoSeatHolds }
+{}
+
+/// Functions of a board that is set up, as they are told once one of them was moved.
+pub fn worked_examples()
+    ensures { WorkedExamples }
 {}

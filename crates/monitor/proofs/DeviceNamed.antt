@@ -1,5 +1,5 @@
 -- An event at a device of the guest by its index is that of the guest of its name.
-use Rattle.std.proofs.Common.{◌≡◌, ℕ, ◌<◌, [], length, Some, None, Option, slice_get, slice_set, refl, sym, ap, ◌∙◌}
+use Rattle.std.proofs.Common.{◌≡◌, ℕ, ◌<◌, [], length, Some, Option, slice_get, slice_set, sym, ap, ◌∙◌}
 use Rattle.std.specs.Prelude.{unwrap_or}
 use Rattle.lists.proofs.Indices.{at_below}
 use Rattle.model_guests.specs.Lone.{LoneGuest, reset_guest}

@@ -19,7 +19,6 @@ use Rattle.model_board.specs.State.{BoardFunction, State, with_file}
 use Rattle.model_board.specs.AtReset.{board_at}
 use Rattle.model_guests.specs.Accesses.{answered, done, refused}
 use Rattle.model_guests.specs.Slots.{Slots, slot_at, raise_place}
-use Rattle.model_guests.specs.Slots as guests
 use Rattle.model_guests.specs.Lone.{LoneGuest}
 use Rattle.model_guests.specs.Guests.{GuestsNow, path_in, function_in, lone_of}
 use Rattle.model_guests.specs.AgreedBoard.{with_change_at}
@@ -45,7 +44,7 @@ use Rattle.monitor.specs.Keeping.{IsHeld, AreSlots, IsKept}
 use Rattle.monitor.specs.ByIndex.{lone_nth, with_lone_nth}
 use Rattle.monitor.specs.DeviceBytes.{device_byte, Refuses}
 use Rattle.monitor.proofs.Steps.{SlotOf, slot_there, slots_set, GuestOf, with_guest_at, named, path_named, kept_changed}
-use Rattle.monitor.proofs.Reached.{functions, distinct, left, found_on_board, places_same}
+use Rattle.monitor.proofs.Reached.{distinct, left, found_on_board, places_same}
 use Rattle.monitor.proofs.RegionSteps.{lone_is, with_lone}
 use Rattle.monitor.proofs.RaiseSteps.{named_place}
 

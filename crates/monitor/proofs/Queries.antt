@@ -92,7 +92,7 @@ none_from n k (Some r ∷ slots) h =
     ap (λ (t : Bool). cond t (Some (bars.placed k r)) (find (λ (x : BaseAddress). eqb x.index n) (bars.bases_from (k + 1) slots))) other
     ∙ none_from n (k + 1) slots (omega arith)
 
-kept_at : (n k : ℕ) (slots : List (Option program.Region)) → find (λ (x : BaseAddress). eqb x.index (k + n)) (bars.bases_from k slots) ≡ option_map (bars.placed (k + n)) (bars.slot_at slots n)
+pub kept_at : (n k : ℕ) (slots : List (Option program.Region)) → find (λ (x : BaseAddress). eqb x.index (k + n)) (bars.bases_from k slots) ≡ option_map (bars.placed (k + n)) (bars.slot_at slots n)
 kept_at n k [] = refl
 kept_at zero k (None ∷ slots) = none_from (k + 0) (k + 1) slots (omega arith)
 kept_at zero k (Some r ∷ slots) =

@@ -12,3 +12,4 @@ pub mod Beginnings
 pub mod Queries
 pub mod Passing
 pub mod Audits
+pub mod FunctionsTold

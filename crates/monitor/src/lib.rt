@@ -21,6 +21,7 @@ mod config;
 mod cycles;
 mod device;
 mod engine;
+mod functions;
 mod giving;
 mod guest;
 mod landing;
@@ -31,6 +32,7 @@ mod moving;
 mod raising;
 mod regions;
 mod reset;
+mod seat;
 mod taking;
 
 pub use accesses::{
@@ -41,6 +43,8 @@ pub use bars::Space;
 pub use board_audit::Problem;
 pub use closed::{ClosedRegion, Ungiven};
 pub use engine::Engine;
+pub use functions::FunctionNow;
 pub use locating::Hit;
 pub use monitor::Monitor;
 pub use regions::RegionNow;
+pub use seat::Seat;

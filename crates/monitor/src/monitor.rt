@@ -10,11 +10,12 @@ ghost use Rattle.model_guests.specs.WorldNow.{world_at_first, move_reply};
 ghost use Rattle.model_handoff.specs.DevicesOver.{after_device};
 ghost use Rattle.model_handoff.specs.SetUpCase.{over_set_up};
 ghost use Rattle.model_handoff.specs.Regions.{first_fault};
-ghost use Rattle.model_handoff.specs.WorldOver.{names_now, host_reply, after_meaning, world_over};
+ghost use Rattle.model_handoff.specs.WorldOver.{names_now, board_state, host_reply, after_meaning, world_over};
 ghost use Rattle.model_devices.specs.DeviceEvents.{device_answer, device_reads, device_writes, resets};
 ghost use Rattle.bus_scan.specs.declared.fault.Fault.TheVariants.{Memory};
 ghost use Rattle.model_queries.specs.Regions.{region_answer};
 ghost use Rattle.model_queries.specs.Located.{location};
+ghost use Rattle.model_queries.specs.Functions.{function_nth, slot_answer};
 ghost use Rattle.accesses.specs.Accesses.{access_of, host_access_of, part_of, reply_of, target_of};
 ghost use Rattle.accesses.specs.Refusals.{number_of};
 ghost use Rattle.accesses.specs.Replies.{IsRefusal, IsShown};
@@ -25,10 +26,12 @@ ghost use Rattle.monitor.specs.DeviceBytes.{device_byte};
 ghost use Rattle.monitor.specs.Audits.{IsRefusalOf};
 ghost use Rattle.monitor.specs.Beginnings.{world_on, world_of, taken_over};
 ghost use Rattle.monitor.specs.Queries.{region_named, hit_named};
+ghost use Rattle.monitor.specs.FunctionsTold.{function_named};
 
 use crate::audited::Audited;
 use crate::closed::{Ungiven, first_closed};
 use crate::engine::Engine;
+use crate::functions::FunctionNow;
 use crate::locating::Hit;
 use crate::regions::RegionNow;
 use accesses::{Access, At, GuestDecl, HostAccess, Names, Place, Refusal, Reply};
@@ -224,5 +227,31 @@ impl Monitor {
             ≡ location (lone_of self.now.guests (name_nth self.now guest)) (target_of at) }
     {
         self.engine.locate(guest, at)
+    }
+
+    /// How many functions the board has, bridges among them.
+    pub fn count(&self) -> usize
+        ensures { result ≡ length (board_state self.now).functions }
+    {
+        self.engine.count()
+    }
+
+    /// What is told of the function at an index, in path order, and none past the last: where it stands, its
+    /// number, its identity, its regions or windows where the board's registers have them, and the guest and
+    /// slot that hold it now. No memory is taken.
+    pub fn function(&self, index: usize) -> Option<FunctionNow>
+        ensures { option_map function_named result ≡ function_nth (board_state self.now) self.now.guests index }
+    {
+        self.engine.function(index)
+    }
+
+    /// The same of the function in a slot of a guest. Or refuses: 303 for a slot above 31, else 601 for an
+    /// empty slot. No memory is taken.
+    pub fn slot_function(&self, guest: usize, slot: u64) -> Result<FunctionNow, u16>
+        requires { guest < length self.now.guests }
+        ensures { result_map_both function_named (λ n. n) result
+            ≡ slot_answer (board_state self.now) self.now.guests (name_nth self.now guest) slot }
+    {
+        self.engine.slot_function(guest, slot)
     }
 }

@@ -1,4 +1,4 @@
-use Rattle.std.proofs.Common.{◌≡◌, List, subst}
+use Rattle.std.proofs.Common.{List, subst}
 use Rattle.std.specs.Prelude.{IsTrue}
 use Rattle.lists.specs.Elements.{EachPair}
 use Rattle.model_board.specs.Paths.{path_before}

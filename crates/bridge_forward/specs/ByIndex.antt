@@ -1,0 +1,18 @@
+-- What is told of a function by its index, in the words of the definitions.
+--     ranges_told      the regions of six registers, or the windows of a bridge
+--     ranges_nth fs i      those of the function at an index of the list
+use Rattle.std.specs.Prelude.{List, ℕ, Option, option_map, slice_get}
+use Rattle.model_board.specs.State.{BoardFunction}
+use Rattle.model_board.specs.Routing.{Ranges, regions, windows, ranges_of}
+use Rattle.bars.specs.Slots.{bases_from}
+use Rattle.bridge_forward.specs.RoutingRows.{window_of}
+use Rattle.bridge_forward.specs.declared.by_index.RangesNow.{RangesNow}
+use Rattle.bridge_forward.specs.declared.by_index.RangesNow.TheVariants.{Regions, Windows}
+
+abbrev pub ranges_told : RangesNow → Ranges
+ranges_told (Regions slots) = regions (bases_from 0 slots)
+ranges_told (Windows wio wmem wpref) =
+    windows (option_map window_of wio) (option_map window_of wmem) (option_map window_of wpref)
+
+abbrev pub ranges_nth : List BoardFunction → ℕ → Option Ranges
+ranges_nth fs i = option_map (λ (f : BoardFunction). ranges_of f.file f.decl) (slice_get fs i)

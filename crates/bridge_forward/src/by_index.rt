@@ -1,0 +1,58 @@
+//! What is told of a function by its index, as its registers stand. No answer takes memory.
+ghost use Rattle.std.specs.Prelude.{◌≡◌, length, option_map, slice_get};
+ghost use Rattle.model_registers.specs.Registers.{config, number};
+ghost use Rattle.model_registers.specs.ByteEnables.{LiesInWord};
+ghost use Rattle.model_board.specs.State.{BoardFunction};
+ghost use Rattle.bridge_forward.specs.ByIndex.{ranges_told, ranges_nth};
+
+use crate::bus::Bus;
+use crate::routing::Window;
+use bars::Region;
+use paths::Path;
+
+/// The regions of an endpoint, each at the index of its first register, or the windows of a bridge, where
+/// the registers say now.
+#[derive(Clone, Copy, Debug)]
+pub enum RangesNow {
+    Regions([Option<Region>; 6]),
+    Windows {
+        io: Option<Window>,
+        mem: Option<Window>,
+        pref: Option<Window>,
+    },
+}
+
+impl Bus {
+    /// How many functions the board has.
+    pub fn count(&self) -> usize
+        ensures { result ≡ length self.now }
+    {
+        self.nodes.len()
+    }
+
+    /// The path of the function at an index, in path order.
+    pub fn path_nth(&self, index: usize) -> Option<Path>
+        ensures { result ≡ option_map (λ (f : BoardFunction). f.path) (slice_get self.now index) }
+    {
+        let node = self.nodes.get(index)?;
+        Some(node.path.copied())
+    }
+
+    /// The number of so many bytes of configuration space at an offset of this function. They lie in one word.
+    pub fn number_nth(&self, index: usize, off: u8, width: u64) -> Option<u32>
+        requires { LiesInWord off width }
+        ensures { result
+            ≡ option_map (λ (f : BoardFunction). number f.file (config off) width) (slice_get self.now index) }
+    {
+        let node = self.nodes.get(index)?;
+        Some(node.function.number(off, width))
+    }
+
+    /// The regions or windows of this function.
+    pub fn ranges_nth(&self, index: usize) -> Option<RangesNow>
+        ensures { option_map ranges_told result ≡ ranges_nth self.now index }
+    {
+        let node = self.nodes.get(index)?;
+        Some(node.function.ranges_now())
+    }
+}

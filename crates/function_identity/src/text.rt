@@ -1,0 +1,81 @@
+//! The text of a path, as board files and reports have it.
+ghost use Rattle.std.specs.Prelude.{◌≡◌, ◌≤◌, ◌<◌, ◌+◌, ◌*◌, ◌++◌, length, map, decimal};
+ghost use Rattle.std.specs.List.{join_with_byte};
+ghost use Rattle.model_guests.specs.Report.{part_text, path_text};
+
+use arrayvec::ArrayVec;
+use paths::{Part, Path};
+
+/// The longest text has sixteen parts of four bytes, and a slash between each two.
+pub type PathText = ArrayVec<u8, 79>;
+
+/// The decimal digits of a device or a function.
+fn number_text(number: u8) -> &'static [u8]
+    requires { number < 16 }
+    ensures text { result.now ≡ decimal number }
+    ensures short { length result.now ≤ 2 }
+    ensures digit { number < 10 → length result.now ≤ 1 }
+{
+    match number {
+        0 => b"0",
+        1 => b"1",
+        2 => b"2",
+        3 => b"3",
+        4 => b"4",
+        5 => b"5",
+        6 => b"6",
+        7 => b"7",
+        8 => b"8",
+        9 => b"9",
+        10 => b"10",
+        11 => b"11",
+        12 => b"12",
+        13 => b"13",
+        14 => b"14",
+        _ => b"15",
+    }
+}
+
+fn push_all(text: &mut PathText, bytes: &[u8])
+    requires { length text.old.items + length bytes.now ≤ 79 }
+    ensures items { text.new.items ≡ text.old.items ++ bytes.now }
+    ensures len { length text.new.items ≡ length text.old.items + length bytes.now }
+{
+    let _ = text.try_extend_from_slice(bytes);
+}
+
+/// Appends a device and a function with a dot between them.
+fn push_part(text: &mut PathText, part: Part)
+    requires { length text.old.items + 4 ≤ 79 }
+    ensures items { text.new.items ≡ text.old.items ++ part_text part }
+    ensures len { length text.new.items ≤ length text.old.items + 4 }
+{
+    push_all(text, number_text(part.device()));
+    push_all(text, b".");
+    push_all(text, number_text(part.function()));
+}
+
+/// Appends parts with a slash between each two.
+fn push_parts(text: &mut PathText, parts: &[Part])
+    requires { length text.old.items + 5 * length parts.now ≤ 80 }
+    ensures { text.new.items ≡ text.old.items ++ join_with_byte 47 (map part_text parts.now) }
+{
+    match parts {
+        [] => (),
+        [last] => push_part(text, *last),
+        [first, rest @ ..] => {
+            push_part(text, *first);
+            push_all(text, b"/");
+            push_parts(text, rest);
+        }
+    }
+}
+
+/// The text of a path, without memory.
+pub fn path_text(path: &Path) -> PathText
+    ensures { result.items ≡ path_text path.now }
+{
+    let mut text = PathText::new();
+    push_parts(&mut text, path.parts());
+    text
+}

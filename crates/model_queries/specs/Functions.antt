@@ -1,0 +1,93 @@
+-- What is told of a function of the board, as the registers and the guests are now: PCI Local Bus 3.0, chapter 6;
+-- PCI-to-PCI Bridge Architecture 1.2, chapter 3.
+--     Identity, identity_now      who made a function and what it is, by its identity registers
+--     Seat, seat_of gs p      the guest, by its index, and the slot that hold the function at a path
+--     FunctionNow, function_now s gs      a function with its number, its identity, its regions or windows, and its seat
+--     function_nth s gs i      the function at an index, in path order
+--     slot_answer s gs name n      the function in a slot of a guest, or the number of a refusal
+use Rattle.std.specs.Prelude.{[], ◌∷◌, ℕ, ◌+◌, Bool, false, if◌then◌else◌, nat_le, Option, None, Result, Err}
+use Rattle.std.specs.Prelude.{find, position, option_map, option_and_then, slice_get}
+use Rattle.std.specs.Option.{option_map_or, ok_or}
+use Rattle.lists.specs.Elements.{first_of_two}
+use Rattle.model_registers.specs.Registers.{config, File, number}
+use Rattle.model_board.specs.Paths.{Path, path_eq}
+use Rattle.model_board.specs.Board.{Decl, endpoint, bridge}
+use Rattle.model_board.specs.State.{BoardFunction, State}
+use Rattle.model_board.specs.Cycles.{BusAddress}
+use Rattle.model_board.specs.Routing.{Ranges, ranges_of}
+use Rattle.model_audit.specs.Found.{address_now}
+use Rattle.model_guests.specs.Text.{Text}
+use Rattle.model_guests.specs.Guests.{GuestNow, GuestsNow, path_in}
+
+pub record Identity : Type 0 where
+  pub vendor : ℕ
+  pub device : ℕ
+  pub revision : ℕ
+  pub class : ℕ
+  pub subvendor : ℕ
+  pub subsystem : ℕ
+
+-- an endpoint's alone; a bridge has none, and 0 is told of it
+abbrev pub subsystem_number : Decl → File → ℕ → ℕ
+subsystem_number (endpoint d) file off = number file (config off) 2
+subsystem_number (bridge d) file off = 0
+
+abbrev pub identity_now : Decl → File → Identity
+identity_now d file = record {
+  vendor = number file (config 0) 2;
+  device = number file (config 2) 2;
+  revision = number file (config 8) 1;
+  class = number file (config 9) 3;
+  subvendor = subsystem_number d file 0x2c;
+  subsystem = subsystem_number d file 0x2e;
+}
+
+-- ---- seats
+
+pub record Seat : Type 0 where
+  pub guest : ℕ
+  pub slot : ℕ
+
+abbrev pub is_there : Path → Option Path → Bool
+is_there p q = option_map_or (λ (x : Path). path_eq x p) q false
+
+abbrev pub seat_in : Path → ℕ → GuestNow → Option Seat
+seat_in p i g = option_map (λ (n : ℕ). record { guest = i; slot = n }) (position (is_there p) g.paths)
+
+-- i is the index of the first guest of the list
+abbrev pub seat_from : Path → ℕ → GuestsNow → Option Seat
+seat_from p i [] = None
+seat_from p i (g ∷ gs) = first_of_two (seat_in p i g) (seat_from p (i + 1) gs)
+
+abbrev pub seat_of : GuestsNow → Path → Option Seat
+seat_of gs p = seat_from p 0 gs
+
+-- ---- functions
+
+-- the ranges are the regions of an endpoint, or the windows of a bridge, where the board's registers have them
+pub record FunctionNow : Type 0 where
+  pub path : Path
+  pub at : BusAddress
+  pub identity : Identity
+  pub ranges : Ranges
+  pub seat : Option Seat
+
+abbrev pub function_now : State → GuestsNow → BoardFunction → FunctionNow
+function_now s gs f = record {
+  path = f.path;
+  at = address_now s.functions f.path;
+  identity = identity_now f.decl f.file;
+  ranges = ranges_of f.file f.decl;
+  seat = seat_of gs f.path;
+}
+
+abbrev pub function_nth : State → GuestsNow → ℕ → Option FunctionNow
+function_nth s gs i = option_map (function_now s gs) (slice_get s.functions i)
+
+abbrev pub function_at : State → GuestsNow → Path → Option FunctionNow
+function_at s gs p = option_map (function_now s gs) (find (λ (f : BoardFunction). path_eq f.path p) s.functions)
+
+-- the checks in their order, as for a raise: the slot's number, the slot's function
+abbrev pub slot_answer : State → GuestsNow → Text → ℕ → Result FunctionNow ℕ
+slot_answer s gs name n =
+    if nat_le 32 n then Err 303 else ok_or (option_and_then (function_at s gs) (path_in gs name n)) 601

@@ -1,0 +1,89 @@
+//! What is told of each function of the board, as it is now.
+ghost use Rattle.std.specs.Prelude.{◌≡◌, ◌<◌, ◌^◌, length, option_map};
+ghost use Rattle.std.specs.Result.{result_map_both};
+ghost use Rattle.model_board.specs.Paths as board;
+ghost use Rattle.model_audit.specs.Orderly.{IsStateOfBoard};
+ghost use Rattle.model_guests.specs.Guests.{GuestsNow};
+ghost use Rattle.model_handoff.specs.WorldOver.{board_state};
+ghost use Rattle.model_queries.specs.Functions.{seat_of, function_nth, slot_answer};
+ghost use Rattle.monitor.specs.ByIndex.{name_nth};
+ghost use Rattle.monitor.specs.FunctionsTold.{function_named, seat_kept};
+
+use crate::config::held_in;
+use crate::engine::Engine;
+use crate::guest::Guest;
+use crate::seat::{Seat, seat_from};
+use function_identity::{Identity, address_of, identity_nth};
+use host_bridge::{Bdf, Host, RangesNow, Route};
+use paths::Path;
+
+/// A function of the board: where it stands, its number, its identity, its regions or windows where the
+/// board's registers have them, and the guest and slot that hold it, if any do.
+#[derive(Debug, Drop)]
+pub struct FunctionNow {
+    pub path: Path,
+    pub at: Bdf,
+    pub identity: Identity,
+    pub ranges: RangesNow,
+    pub seat: Option<Seat>,
+}
+
+/// What is told of the function at an index.
+fn function_nth(host: &Host, guests: &[Guest], index: usize) -> Option<FunctionNow>
+    requires board { IsStateOfBoard host.now.state.functions }
+    requires few { length guests.now < 2 ^ 63 }
+    ensures { (gs : GuestsNow) → ((p : board.Path) → seat_kept p 0 guests.now ≡ seat_of gs p)
+        → option_map function_named result ≡ function_nth host.now.state gs index }
+{
+    let path = host.path_nth(index)?;
+    let identity = identity_nth(host, index)?;
+    let ranges = host.ranges_nth(index)?;
+    Some(FunctionNow {
+        at: address_of(host, &path),
+        identity,
+        ranges,
+        seat: seat_from(guests, &path, 0),
+        path,
+    })
+}
+
+impl<R: Route> Engine<R> {
+    /// How many functions the board has, bridges among them.
+    pub fn count(&self) -> usize
+        ensures { result ≡ length (board_state self.now).functions }
+    {
+        let _ = &self.names;
+        self.host.count()
+    }
+
+    /// What is told of the function at an index, in path order, and none past the last. No memory is taken.
+    pub fn function(&self, index: usize) -> Option<FunctionNow>
+        ensures { option_map function_named result ≡ function_nth (board_state self.now) self.now.guests index }
+    {
+        let _ = &self.names;
+        function_nth(&self.host, &self.guests, index)
+    }
+
+    /// The same of the function in a slot of a guest. Or refuses: 303 for a slot above 31, else 601 for an
+    /// empty slot. No memory is taken.
+    pub fn slot_function(&self, guest: usize, slot: u64) -> Result<FunctionNow, u16>
+        requires { guest < length self.now.guests }
+        ensures { result_map_both function_named (λ n. n) result
+            ≡ slot_answer (board_state self.now) self.now.guests (name_nth self.now guest) slot }
+    {
+        let _ = &self.names;
+        if slot > 31 {
+            return Err(303);
+        }
+        let Some(held) = held_in(&self.guests[guest].slots, slot as usize) else {
+            return Err(601);
+        };
+        let Some(index) = self.host.index_of(&held.path) else {
+            return Err(601);
+        };
+        match function_nth(&self.host, &self.guests, index) {
+            Some(function) => Ok(function),
+            None => Err(601),
+        }
+    }
+}
