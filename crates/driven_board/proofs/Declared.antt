@@ -1,4 +1,5 @@
 -- A file that declares a board.
+--     same_world      it declares one world
 --     accepted      such a file is refused by no number
 --     refused_by      a file that is refused, by what reading it answers
 use Rattle.std.proofs.Common.{◌≡◌, ◌<◌, ℕ, Result, Ok, Err, sym, ap, ◌∙◌}
@@ -15,6 +16,12 @@ use Rattle.simulation.specs.declared.fault.Fault.{Fault}
 use Rattle.simulation.specs.Faults.{number_of}
 use Rattle.simulation.specs.Listing.{Declares, Refuses}
 use Rattle.driven_board.specs.Boards.{IsResetBoard}
+
+same_value : (m : Result World ℕ) (v w : World) → m ≡ Ok v → m ≡ Ok w → v ≡ w
+same_value m v w one other = let same : Ok v ≡ Ok w = sym one ∙ other in cc
+
+pub same_world : (bytes : Text) (v w : World) → Declares bytes v → Declares bytes w → v ≡ w
+same_world bytes v w one other = same_value (document_meaning (parse_document bytes)) v w one.meaning other.meaning
 
 not_both : (m : Result World ℕ) (w : World) (n : ℕ) → m ≡ Ok w → m ≡ Err n → ⊥
 not_both m w n good bad = absurd (let wrong : Ok w ≡ Err n = sym good ∙ bad in cc)

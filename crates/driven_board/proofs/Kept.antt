@@ -1,9 +1,8 @@
 -- What leaves a board at reset as it is: reads, and all that is refused.
 --     read_kept, write_kept, line_kept      a host bridge with latch 0 after a read, a write that is not done, and a line that does none
-use Rattle.std.proofs.Common.{◌≡◌, ℕ, Bool, true, false, Option, None, Some, refl, sym, ap, ◌∙◌}
-use Rattle.std.specs.Prelude.{if◌then◌else◌, is_some, List, [], ◌∷◌}
+use Rattle.std.proofs.Common.{◌≡◌, ℕ, Bool, true, false, Option, None, Some, refl, sym, ap}
+use Rattle.std.specs.Prelude.{if◌then◌else◌, is_some, [], ◌∷◌}
 use Rattle.std.specs.Option.{option_map_or}
-use Rattle.std.specs.Str.{bytes_eq}
 use Rattle.model_board.specs.State.{State}
 use Rattle.model_guests.specs.Accesses.{Op, reads, writes, refused, done}
 use Rattle.model_guests.specs.Grammar.{HostTarget, host_configuration, host_port, host_address, host}

@@ -1,2 +1,4 @@
 mod Declared
 mod Kept
+mod Handed
+mod Given

@@ -42,20 +42,20 @@ pub struct Audit {
 /// done since reset is kept, so that our own set-up runs on a board at reset alone.
 #[derive(Drop)]
 pub struct Board {
-    file: Vec<u8>,
-    host: Host,
-    written: bool,
+    pub(crate) file: Vec<u8>,
+    pub(crate) host: Host,
+    pub(crate) written: bool,
 }
 
 impl Model for Board {
     ghost use Rattle.std.specs.Prelude.{◌≡◌, false};
-    ghost use Rattle.driven_board.specs.Boards.{BoardNow, IsResetBoard};
+    ghost use Rattle.driven_board.specs.Boards.{BoardNow, IsBoardOf, IsResetBoard};
 
     ghost Value = { BoardNow };
 
     ghost view = { λ b. record { file = b.file.items; host = b.host; written = b.written } };
 
-    ghost invariant = { λ b. b.written ≡ false → IsResetBoard b.file.items b.host };
+    ghost invariant = { λ b. IsBoardOf b.file.items b.host × (b.written ≡ false → IsResetBoard b.file.items b.host) };
 }
 
 impl Board {

@@ -1,7 +1,7 @@
 -- The first closed region of given functions, row by row.
-use Rattle.std.proofs.Common.{◌≡◌, ℕ, suc, ◌+◌, ◌<◌, add-one, Bool, true, false, ◌||◌, cond, not, List, [], ◌∷◌, ◌++◌, length, drop, get_or, Option, Some, None, refl, sym, ap, ◌∙◌}
+use Rattle.std.proofs.Common.{◌≡◌, ℕ, suc, ◌+◌, ◌<◌, add-one, Bool, true, false, ◌||◌, cond, not, List, [], ◌∷◌, ◌++◌, length, drop, get_or, Option, Some, None, Result, Ok, Err, refl, sym, ap, ◌∙◌}
 use Rattle.std.proofs.Math.Seq.{drop-cons}
-use Rattle.std.specs.Prelude.{map, flat_map, filter, slice_get}
+use Rattle.std.specs.Prelude.{map, flat_map, filter, slice_get, IfOk}
 use Rattle.std.specs.List.{list_any}
 use Rattle.lists.specs.Elements.{Each, first_of_two}
 use Rattle.lists.proofs.EachLemmas.{each_of_map, each_filter}
@@ -130,3 +130,9 @@ module _ (w : World) (s : State) (order : IsInOrder s.functions) where
 
     pub can_be_given : CanBeGiven w s
     can_be_given = record { order = order; none_closed = none_listed (closed_given w s) none }
+
+-- ---- what is so whatever came of it
+
+pub where_ok : {A E P : Type 0} (r : Result A E) → P → IfOk r (λ x. P)
+where_ok (Ok x) p = p
+where_ok (Err e) p = tt

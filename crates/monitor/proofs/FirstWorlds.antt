@@ -4,13 +4,14 @@ use Rattle.std.specs.Prelude.{map, filter}
 use Rattle.lists.specs.Elements.{Each}
 use Rattle.model_registers.specs.Registers.{File}
 use Rattle.model_registers.specs.CopiedFiles.{agreed_file}
-use Rattle.model_board.specs.Board.{Decl, endpoint, bridge, Board}
+use Rattle.model_board.specs.Board.{Decl, endpoint, bridge}
 use Rattle.model_board.specs.Paths.{Path}
 use Rattle.model_board.specs.AtReset.{board_at}
 use Rattle.model_board.specs.Routing.{RoutingRow, routing}
 use Rattle.model_board.specs.State.{BoardFunction, State}
 use Rattle.model_set_up.specs.PlacedRegions.{PlacedRegion}
 use Rattle.model_set_up.specs.SetUp.{set_up_state}
+use Rattle.model_audit.specs.Found.{address_now}
 use Rattle.model_audit.specs.OpenRegions.{closed_regions}
 use Rattle.model_audit.specs.Orderly.{IsStateOfBoard}
 use Rattle.model_audit.specs.Witnesses.{IsInOrder}
@@ -25,12 +26,13 @@ use Rattle.model_guests.proofs.AgreedChanges.{agreed_by}
 use Rattle.model_guests.proofs.AgreedFiles.{agreed_places}
 use Rattle.model_guests.proofs.SeatedFirst.{seated_at_first}
 use Rattle.model_handoff.specs.Handoffs.{IsHandoff, HasDeclaredPlaces, HasPlacesOf, is_given, reset_files, state_over, with_given_reset}
+use Rattle.model_handoff.specs.Kept.{IsLawfulOver}
 use Rattle.model_handoff.specs.Regions.{CanBeGiven}
 use Rattle.model_handoff.specs.SetUpCase.{over_set_up}
 use Rattle.model_handoff.specs.ViewLaws.{with_seated_reset}
 use Rattle.model_handoff.specs.WorldOver.{world_over}
 use Rattle.model_handoff.proofs.First.{first_is_reset}
-use Rattle.model_handoff.proofs.Keeping.{keeps_board, keeps_routing, stays_in_order}
+use Rattle.model_handoff.proofs.Keeping.{keeps_board, keeps_routing, keeps_addresses, stays_in_order}
 use Rattle.model_handoff.proofs.Kept.{lawful_at_first}
 use Rattle.model_handoff.proofs.Regions.{state_stays}
 use Rattle.model_handoff.proofs.SetUpCase.{set_up_is_handoff, set_up_can_be_given}
@@ -41,6 +43,7 @@ use Rattle.monitor.specs.declared.guest.Guest.{Guest}
 use Rattle.monitor.specs.Keeping.{AreGuests, IsKept, IsSound}
 use Rattle.monitor.specs.Views.{world_shown}
 use Rattle.monitor.specs.Beginnings.{world_on, world_of, taken_over}
+use Rattle.monitor.proofs.Carried.{guests_carried}
 use Rattle.monitor.proofs.Shown.{is_shown, is_sound}
 
 -- ---- cells stand where they stood
@@ -96,11 +99,17 @@ module _ (h : HostState) (ds : List Declared) (handoff : IsHandoff h.state) (law
   pub routing_kept : routing t.functions ≡ routing s.functions
   routing_kept = sym (ap routing functions_are) ∙ keeps_routing s handoff.board gs seated
 
+  addresses_kept : (p : Path) → address_now t.functions p ≡ address_now s.functions p
+  addresses_kept p = sym (ap (λ (fs : List BoardFunction). address_now fs p) functions_are) ∙ keeps_addresses s handoff.board gs seated p
+
   can_still : CanBeGiven w t
   can_still = record {
     order = subst IsInOrder functions_are (stays_in_order s handoff.board gs seated can.order);
     none_closed = ap (λ (rows : List RoutingRow). filter (λ (q : PlacedRegion). is_given w q.path) (closed_regions rows)) routing_kept ∙ can.none_closed;
   }
+
+  pub lawful_taken : IsLawfulOver (world_over w t)
+  lawful_taken = lawful_at_first w t handoff_kept board_kept lawful can_still
 
   agrees : state_over t gs ≡ t
   agrees =
@@ -115,28 +124,17 @@ module _ (h : HostState) (ds : List Declared) (handoff : IsHandoff h.state) (law
 
   -- the host k that was taken over
   module _ (k : HostState) (taken : k ≡ record h { state = t }) where
-    pub board_on : IsStateOfBoard k.state.functions
-    board_on = subst (λ (x : HostState). IsStateOfBoard x.state.functions) (sym taken) board_of_taken
-
     pub routing_on : routing h.state.functions ≡ routing k.state.functions
     routing_on = sym (ap (λ (x : HostState). routing x.state.functions) taken ∙ routing_kept)
 
-    pub world_kept : world_on k ds ≡ w
-    world_kept = ap (λ (x : HostState). world_on x ds) taken ∙ ap (λ (b : Board). let v : World = record { board = b; apertures = h.apertures; guests = ds } in v) board_kept
-
-    pub lawful_on : HasLawfulGuests (world_on k ds)
-    lawful_on = subst HasLawfulGuests (sym world_kept) lawful
-
-    module _ (names : List Text) (names_are : names ≡ map (λ (g : Declared). g.name) ds) (kept_guests : List Guest) (are : AreGuests k.state (map (λ (g : Declared). g.name) ds) (guests_at_first (world_on k ds)) kept_guests) where
+    module _ (names : List Text) (names_are : names ≡ map (λ (g : Declared). g.name) ds) (kept_guests : List Guest) (are : AreGuests s (map (λ (g : Declared). g.name) ds) gs kept_guests) where
       pub kept_at_first : IsKept (world_over w t) k names kept_guests
       kept_at_first = subst (λ (ts : List Text). IsKept (world_over w t) k ts kept_guests) (sym names_are) (record {
-        lawful = lawful_at_first w t handoff_kept board_kept lawful can_still;
+        lawful = lawful_taken;
         clear = refl;
         at_reset = at_reset;
         agrees = ap (λ (x : HostState). x.state) taken ∙ sym agrees;
-        guests =
-            subst (λ (x : State). AreGuests x (map (λ (g : Declared). g.name) ds) gs kept_guests) (ap (λ (x : HostState). x.state) taken)
-            (subst (λ (v : World). AreGuests k.state (map (λ (g : Declared). g.name) ds) (guests_at_first v) kept_guests) world_kept are);
+        guests = guests_carried s t handoff.board board_of_taken board_kept routing_kept addresses_kept (map (λ (g : Declared). g.name) ds) gs kept_guests are;
       })
 
       pub sound_at_first : IsSound k names kept_guests

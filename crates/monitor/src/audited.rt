@@ -79,6 +79,14 @@ impl Audited {
         }
     }
 
+    /// A board that passed before, and is as it was then.
+    pub(crate) fn as_it_was(host: Host) -> Audited
+        requires { HasPassed host }
+        ensures { result ≡ host }
+    {
+        Audited { host }
+    }
+
     /// The board.
     pub(crate) fn host(&self) -> &Host
         ensures board { result.now ≡ self.now }

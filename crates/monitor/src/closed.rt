@@ -8,12 +8,13 @@ ghost use Rattle.model_guests.specs.World.{Guest as GuestValue};
 ghost use Rattle.model_audit.specs.OpenRegions.{region_now, closed_of};
 ghost use Rattle.bars.specs.Kinds.{named_space};
 ghost use Rattle.bridge_forward.specs.RoutingRows.{base_of};
-ghost use Rattle.monitor.specs.Passing.{closed_if_given, first_closed_at};
+ghost use Rattle.monitor.specs.Passing.{HasPassed, closed_if_given, first_closed_at};
 
 use crate::audited::Audited;
 use accesses::GuestDecl;
 use bars::Space;
 use bridge_forward::{Ranges, RegionNow, RoutingRow};
+use host_bridge::Host;
 use paths::Path;
 use std::alloc::{AllocError, Global};
 use std::marker::Model;
@@ -36,23 +37,33 @@ impl Model for ClosedRegion {
 }
 
 /// Why functions of a board that passed its audit are not given to guests: the first closed region of
-/// theirs, with the board as it was (206), or lack of memory (299); then the board is dropped.
+/// theirs (206), or lack of memory (299).
 #[derive(Drop)]
-pub enum Ungiven {
-    Closed {
-        board: Audited,
-        region: ClosedRegion,
-    },
+pub enum RegionFault {
+    Closed(ClosedRegion),
     Memory,
 }
 
-impl From<AllocError> for Ungiven {
-    ghost use Rattle.monitor.specs.declared.closed.Ungiven.TheVariants.{Memory};
+/// A board whose functions are not given to guests, as it was.
+#[derive(Drop)]
+pub struct Ungiven {
+    pub board: Audited,
+    pub fault: RegionFault,
+}
 
-    ghost from_gives = { λ _ u. u ≡ Memory };
+impl Ungiven {
+    ghost use Rattle.monitor.specs.declared.closed.RegionFault.TheVariants.{Memory};
 
-    fn from(_error: AllocError) -> Self {
-        Self::Memory
+    /// A board that passed its audit, where memory is out.
+    pub(crate) fn out_of_memory(host: Host) -> Ungiven
+        requires { HasPassed host }
+        ensures board { result.board ≡ host }
+        ensures fault { result.fault ≡ Memory }
+    {
+        Ungiven {
+            board: Audited::as_it_was(host),
+            fault: RegionFault::Memory,
+        }
     }
 }
 
@@ -137,7 +148,8 @@ pub(crate) fn first_closed(
     audited: &Audited,
     decls: &[GuestDecl],
 ) -> Result<Option<ClosedRegion>, AllocError>
-    ensures { let ps = flat_map (λ (g : GuestValue). g.slots) decls.now in
+    ensures passed { HasPassed audited.now }
+    ensures first { let ps = flat_map (λ (g : GuestValue). g.slots) decls.now in
         IfOk result (λ r. r ≡ first_closed_at ps (routing audited.now.state.functions)) }
 {
     let rows = audited.host().routing(alloc)?;

@@ -1,5 +1,5 @@
 //! Functions of a board that are given to guests.
-ghost use Rattle.std.specs.Prelude.{◌≡◌, IfOk};
+ghost use Rattle.std.specs.Prelude.{◌≡◌, IfOk, IfErr};
 ghost use Rattle.model_guests.specs.World.{HasLawfulGuests};
 ghost use Rattle.model_guests.specs.WorldNow.{world_at_first};
 ghost use Rattle.model_handoff.specs.Handoffs.{IsHandoff};
@@ -19,25 +19,29 @@ use window_packing::Ready;
 impl<R: Route + Drop> Engine<R> {
     /// Gives functions of a board that is in order to guests, over a route that fits the board. No region of
     /// theirs is closed. Each of them is reset first, but for what guests have copies of, and the address
-    /// latch is cleared. Only where memory is out it refuses, and then the board is dropped.
+    /// latch is cleared. Only where memory is out it refuses, and then it gives the board back as it was.
     pub fn over(
         alloc: Global,
         host: Host,
         route: R,
         guests: &[GuestDecl],
-    ) -> Result<Engine<R>, AllocError>
+    ) -> Result<Engine<R>, Host>
         requires fits { R.fits route host }
         requires handoff { IsHandoff host.state }
         requires lawful { HasLawfulGuests (world_on host guests.now) }
         requires given { CanBeGiven (world_on host guests.now) host.state }
-        ensures { let w = world_on host guests.now in IfOk result (λ e. e ≡ world_over w (taken_over w host.state)) }
+        ensures made { let w = world_on host guests.now in IfOk result (λ e. e ≡ world_over w (taken_over w host.state)) }
+        ensures kept { IfErr result (λ h. h ≡ host) }
     {
+        let Ok(rows) = host.routing(alloc) else {
+            return Err(host);
+        };
+        let Ok(kept) = guests_of(alloc, &host, &rows, guests) else {
+            return Err(host);
+        };
         let mut host = host;
-        let names = names_of(guests);
         take_over(&mut host, guests);
-        let rows = host.routing(alloc)?;
-        let kept = guests_of(alloc, &host, &rows, guests)?;
-        Ok(Engine::of_parts(host, route, names, kept))
+        Ok(Engine::of_parts(host, route, names_of(guests), kept))
     }
 
     /// Gives functions of a board that is set up to guests, over a route that fits the board. Only where
@@ -53,6 +57,9 @@ impl<R: Route + Drop> Engine<R> {
         ensures { IfOk result (λ e. e ≡ over_set_up (world_at_first (world_of ready guests.now))) }
     {
         let (host, _table, _plan) = ready.into_parts();
-        Engine::over(alloc, host, route, guests)
+        match Engine::over(alloc, host, route, guests) {
+            Ok(engine) => Ok(engine),
+            Err(_host) => Err(AllocError),
+        }
     }
 }

@@ -41,7 +41,7 @@ pub use accesses::{
 pub use audited::{AuditFault, Audited, Unfit};
 pub use bars::Space;
 pub use board_audit::Problem;
-pub use closed::{ClosedRegion, Ungiven};
+pub use closed::{ClosedRegion, RegionFault, Ungiven};
 pub use engine::Engine;
 pub use functions::FunctionNow;
 pub use locating::Hit;

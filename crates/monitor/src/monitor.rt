@@ -9,7 +9,7 @@ ghost use Rattle.model_guests.specs.Lines.{guest_event, host_move};
 ghost use Rattle.model_guests.specs.WorldNow.{world_at_first, move_reply};
 ghost use Rattle.model_handoff.specs.DevicesOver.{after_device};
 ghost use Rattle.model_handoff.specs.SetUpCase.{over_set_up};
-ghost use Rattle.model_handoff.specs.Regions.{first_fault};
+ghost use Rattle.model_handoff.specs.Regions.{CanBeGiven, first_fault};
 ghost use Rattle.model_handoff.specs.WorldOver.{names_now, board_state, host_reply, after_meaning, world_over};
 ghost use Rattle.model_devices.specs.DeviceEvents.{device_answer, device_reads, device_writes, resets};
 ghost use Rattle.bus_scan.specs.declared.fault.Fault.TheVariants.{Memory};
@@ -24,12 +24,14 @@ ghost use Rattle.monitor.specs.ByIndex.{name_nth};
 ghost use Rattle.monitor.specs.Moves.{move_nth};
 ghost use Rattle.monitor.specs.DeviceBytes.{device_byte};
 ghost use Rattle.monitor.specs.Audits.{IsRefusalOf};
+ghost use Rattle.monitor.specs.Passing.{HasPassed};
+ghost use Rattle.monitor.specs.declared.closed.RegionFault.TheVariants.{Memory as OutOfMemory};
 ghost use Rattle.monitor.specs.Beginnings.{world_on, world_of, taken_over};
 ghost use Rattle.monitor.specs.Queries.{region_named, hit_named};
 ghost use Rattle.monitor.specs.FunctionsTold.{function_named};
 
 use crate::audited::Audited;
-use crate::closed::{Ungiven, first_closed};
+use crate::closed::{RegionFault, Ungiven, first_closed};
 use crate::engine::Engine;
 use crate::functions::FunctionNow;
 use crate::locating::Hit;
@@ -37,6 +39,7 @@ use crate::regions::RegionNow;
 use accesses::{Access, At, GuestDecl, HostAccess, Names, Place, Refusal, Reply};
 use bus_scan::Fault;
 use claim_table::Table;
+use host_bridge::Host;
 use std::alloc::Global;
 use std::marker::Model;
 use window_packing::Ready;
@@ -71,26 +74,45 @@ impl Monitor {
 
     /// Gives functions of a board that passed its audit to guests, whoever set it up. Each of them is reset
     /// first, but for what guests have copies of, and the address latch is cleared. Refused are a closed
-    /// region of theirs (206), where the board is given back as it was, and lack of memory; then it is
-    /// dropped.
+    /// region of theirs (206) and lack of memory (299); the board is then given back as it was.
     pub fn over(alloc: Global, audited: Audited, guests: &[GuestDecl]) -> Result<Monitor, Ungiven>
         requires { HasLawfulGuests (world_on audited guests.now) }
         ensures made { let w = world_on audited guests.now in
             IfOk result (λ m. m ≡ world_over w (taken_over w audited.state)) }
         ensures given { IfOk result (λ _. first_fault (world_on audited guests.now) audited.state ≡ None) }
-        ensures refused { IfErr result (λ u. IsRefusalOf (world_on audited guests.now) audited u) }
+        ensures kept { IfErr result (λ u. u.board ≡ audited) }
+        ensures refused { IfErr result (λ u. IsRefusalOf (world_on audited guests.now) audited u.fault) }
     {
-        match first_closed(alloc, &audited, guests)? {
-            Some(region) => Err(Ungiven::Closed {
-                board: audited,
-                region,
-            }),
-            None => {
-                let host = audited.into_host();
-                let table = Table::of_open_regions(alloc, &host)?;
-                let engine = Engine::over(alloc, host, table, guests)?;
-                Ok(Monitor { engine })
-            }
+        match first_closed(alloc, &audited, guests) {
+            Ok(first) => match first {
+                Some(region) => {
+                    let fault = RegionFault::Closed(region);
+                    Err(Ungiven {
+                        board: audited,
+                        fault,
+                    })
+                }
+                None => Monitor::over_open(alloc, audited.into_host(), guests),
+            },
+            Err(_) => Err(Ungiven::out_of_memory(audited.into_host())),
+        }
+    }
+
+    /// The same of a board that passed, where no region of a given function is closed.
+    fn over_open(alloc: Global, host: Host, guests: &[GuestDecl]) -> Result<Monitor, Ungiven>
+        requires passed { HasPassed host }
+        requires lawful { HasLawfulGuests (world_on host guests.now) }
+        requires given { CanBeGiven (world_on host guests.now) host.state }
+        ensures made { let w = world_on host guests.now in IfOk result (λ m. m ≡ world_over w (taken_over w host.state)) }
+        ensures kept { IfErr result (λ u. u.board ≡ host) }
+        ensures memory { IfErr result (λ u. u.fault ≡ OutOfMemory) }
+    {
+        let Ok(table) = Table::of_open_regions(alloc, &host) else {
+            return Err(Ungiven::out_of_memory(host));
+        };
+        match Engine::over(alloc, host, table, guests) {
+            Ok(engine) => Ok(Monitor { engine }),
+            Err(host) => Err(Ungiven::out_of_memory(host)),
         }
     }
 

@@ -19,6 +19,6 @@ returns-clause-placement c =
 pub returns-clause-accepted : goal.returns-clause-accepted
 returns-clause-accepted c =
     accepted c.self.inside.file.items c.self.inside.host
-    (c.self.invariant (ap (λ (b : BoardNow). b.written) c.self.view_is ∙ c.requires)) c.open.result
+    (c.self.invariant.1 (ap (λ (b : BoardNow). b.written) c.self.view_is ∙ c.requires)) c.open.result
     (subst (λ (text : Text). IfErr c.open.result (λ f. number_of f < 199 → Refuses text (number_of f)))
     c.deref.ensures.value c.open.ensures.file)

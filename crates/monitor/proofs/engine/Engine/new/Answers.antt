@@ -1,5 +1,4 @@
 use Rattle.std.proofs.Common.{◌≡◌, List, ap, sym, ◌∙◌, subst}
-use Rattle.std.specs.Prelude.{IfOk}
 use Rattle.model_set_up.specs.FunctionTable.{TableRow}
 use Rattle.model_set_up.specs.SetUpWrites.{Plan}
 use Rattle.model_guests.specs.World.{World, HasLawfulGuests}
@@ -31,9 +30,8 @@ over-requires-clause-given g c =
     let host : c.into_parts-host.result.0 ≡ c.args.ready.host = ap (λ (x : HostState × List TableRow × Plan). x.0) c.into_parts-host.ensures.parts in
     subst (λ (h : HostState). CanBeGiven (world_on h c.args.guests.now) h.state) (sym host) (ready_given c.args.ready c.into_parts-host.ensures.ready c.args.guests.now c.requires.lawful)
 
-pub returns : goal.returns
-returns g c =
+pub returns-in-Ok : goal.returns-in-Ok
+returns-in-Ok g c =
     let host : c.into_parts-host.result.0 ≡ c.args.ready.host = ap (λ (x : HostState × List TableRow × Plan). x.0) c.into_parts-host.ensures.parts in
     let left : HostState → WorldOver = λ (h : HostState). let w : World = world_on h c.args.guests.now in world_over w (taken_over w h.state) in
-    subst (λ (x : WorldOver). IfOk c.over.result (λ e. e ≡ x))
-    (ap left host ∙ ready_world c.args.ready c.into_parts-host.ensures.ready c.args.guests.now c.requires.lawful) c.over.ensures
+    c.in-Ok.ensures.made ∙ ap left host ∙ ready_world c.args.ready c.into_parts-host.ensures.ready c.args.guests.now c.requires.lawful

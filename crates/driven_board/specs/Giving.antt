@@ -1,0 +1,61 @@
+-- The board of a board file whose functions are given to the guests of the file, whoever set it up.
+--     IsGiven file h m      the guests of the file before any line, over the board as it was handed over
+--     number_of f      the number of a refusal
+--     of_audit, of_region      the refusal for a fault of the audit, and for one of a board that passed it
+--     IsFaultOf w h f      the first fault of a world over a board: a problem of its audit, or a closed region
+--     IsRefusalOf file h f      the same of the world that a file declares
+use Rattle.std.specs.Prelude.{◌≡◌, ℕ, Some, ⊤}
+use Rattle.model_guests.specs.Text.{Text}
+use Rattle.model_guests.specs.World.{World, IsLawfulWorld}
+use Rattle.model_handoff.specs.Handoffs.{IsHandoff}
+use Rattle.model_handoff.specs.Regions.{CanBeGiven, HandoffFault, in_disorder, closed_region, first_fault}
+use Rattle.model_handoff.specs.WorldOver.{WorldOver, world_over}
+use Rattle.board_audit.specs.Told.{problem_of}
+use Rattle.host_bridge.specs.HostState.{HostState}
+use Rattle.monitor.specs.Beginnings.{world_on, taken_over}
+use Rattle.monitor.specs.declared.audited.AuditFault.{AuditFault}
+use Rattle.monitor.specs.declared.audited.AuditFault.TheVariants as audit
+use Rattle.monitor.specs.declared.closed.RegionFault.{RegionFault}
+use Rattle.monitor.specs.declared.closed.RegionFault.TheVariants as region
+use Rattle.simulation.specs.Listing.{Declares}
+use Rattle.driven_board.specs.declared.giving.GivingFault.{GivingFault}
+use Rattle.driven_board.specs.declared.giving.GivingFault.TheVariants.{NotInOrder, Closed, FileMemory, Memory}
+
+-- each given function is at reset, but for what guests have copies of, and the address latch is clear
+pub record IsGiven (file : Text) (h : HostState) (m : WorldOver) : Type 0 where
+  pub world : World
+  pub declared : Declares file world
+  pub lawful : IsLawfulWorld world
+  pub board : world_on h world.guests ≡ world
+  pub handoff : IsHandoff h.state
+  pub can : CanBeGiven world h.state
+  pub begins : m ≡ world_over world (taken_over world h.state)
+
+abbrev pub number_of : GivingFault → ℕ
+number_of (NotInOrder p) = 207
+number_of (Closed r) = 206
+number_of FileMemory = 199
+number_of Memory = 299
+
+abbrev pub of_audit : AuditFault → GivingFault
+of_audit (audit.Problem p) = NotInOrder p
+of_audit audit.Memory = Memory
+
+abbrev pub of_region : RegionFault → GivingFault
+of_region (region.Closed r) = Closed r
+of_region region.Memory = Memory
+
+abbrev pub IsFaultOf : World → HostState → GivingFault → Type 0
+IsFaultOf w h (NotInOrder p) = first_fault w h.state ≡ Some (in_disorder (problem_of p))
+IsFaultOf w h (Closed r) = first_fault w h.state ≡ Some (closed_region r)
+IsFaultOf w h FileMemory = ⊤
+IsFaultOf w h Memory = ⊤
+
+abbrev pub HasFault : Text → HostState → HandoffFault → Type 0
+HasFault file h f = (w : World) × Declares file w × (first_fault w h.state ≡ Some f)
+
+abbrev pub IsRefusalOf : Text → HostState → GivingFault → Type 0
+IsRefusalOf file h (NotInOrder p) = HasFault file h (in_disorder (problem_of p))
+IsRefusalOf file h (Closed r) = HasFault file h (closed_region r)
+IsRefusalOf file h FileMemory = ⊤
+IsRefusalOf file h Memory = ⊤

@@ -1,0 +1,88 @@
+-- What is kept of guests over a handoff is kept over another with the same board, routing registers and bus numbers.
+use Rattle.std.proofs.Common.{◌≡◌, ℕ, List, [], ◌∷◌, Some, None, Option, sym, ap, ◌∙◌, subst}
+use Rattle.std.specs.Prelude.{find, map, slice_get}
+use Rattle.std.specs.Option.{option_map_or}
+use Rattle.lists.proofs.Indices.{at_map, index_in, map_at}
+use Rattle.model_registers.specs.Registers.{File}
+use Rattle.model_registers.specs.Declarations.{Endpoint}
+use Rattle.model_registers.specs.EndpointTable.{BaseAddress}
+use Rattle.model_registers.specs.Decoding.{Function, base_address}
+use Rattle.model_board.specs.Paths.{Path}
+use Rattle.model_board.specs.Board.{Decl, endpoint, Row, Board}
+use Rattle.model_board.specs.AtReset.{board_at}
+use Rattle.model_board.specs.Ports.{file_at}
+use Rattle.model_board.specs.Routing.{Ranges, regions, windows, RoutingRow, ranges_of, row_of, routing}
+use Rattle.model_board.specs.State.{BoardFunction, State, row_at}
+use Rattle.model_audit.specs.Found.{address_now}
+use Rattle.model_audit.specs.Orderly.{IsStateOfBoard}
+use Rattle.model_guests.specs.Text.{Text}
+use Rattle.model_guests.specs.Slots.{Slots}
+use Rattle.model_guests.specs.Guests.{GuestNow, GuestsNow}
+use Rattle.model_handoff.proofs.Standing.{at_path, found}
+use Rattle.monitor.specs.declared.guest.Held.{Held}
+use Rattle.monitor.specs.declared.guest.Guest.{Guest}
+use Rattle.monitor.specs.Keeping.{IsHeld, IsSlot, AreSlots, IsGuest, AreGuests}
+
+-- ---- the bases of an endpoint, by its routing row
+
+abbrev bases_in : Ranges → List BaseAddress
+bases_in (regions bs) = bs
+bases_in (windows wio wmem wpref) = []
+
+abbrev bases_routed : List RoutingRow → ℕ → List BaseAddress
+bases_routed rows i = option_map_or (λ (r : RoutingRow). bases_in r.ranges) (slice_get rows i) []
+
+bases_held : (fs : List BoardFunction) → IsStateOfBoard fs → (i : ℕ) (p : Path) (d : Endpoint) → slice_get (board_at fs) i ≡ Some (record { path = p; decl = endpoint d })
+    → bases_routed (routing fs) i ≡ map (base_address (file_at fs p)) d.regions
+bases_held fs state i p d at = of (at_map row_at fs i (record { path = p; decl = endpoint d }) at)
+  where
+    of : (f : BoardFunction) × (slice_get fs i ≡ Some f) × (record { path = p; decl = endpoint d } ≡ row_at f) → bases_routed (routing fs) i ≡ map (base_address (file_at fs p)) d.regions
+    of (f, there, row) =
+        let path : f.path ≡ p = ap (λ (r : Row). r.path) (sym row) in
+        let decl : f.decl ≡ endpoint d = ap (λ (r : Row). r.decl) (sym row) in
+        let is_found : find (at_path p) fs ≡ Some f = subst (λ (x : Path). find (at_path x) fs ≡ Some f) path (found fs state f (index_in fs i f there)) in
+        let file : file_at fs p ≡ f.file = ap (λ (o : Option BoardFunction). option_map_or (λ (g : BoardFunction). g.file) o []) is_found in
+        ap (λ (o : Option RoutingRow). option_map_or (λ (r : RoutingRow). bases_in r.ranges) o []) (map_at row_of fs i f there)
+        ∙ ap (λ (x : Decl). bases_in (ranges_of f.file x)) decl ∙ ap (λ (x : File). map (base_address x) d.regions) (sym file)
+
+-- ---- slot by slot
+
+module _ (s t : State) (on_s : IsStateOfBoard s.functions) (on_t : IsStateOfBoard t.functions) (same_board : board_at t.functions ≡ board_at s.functions) (same_routing : routing t.functions ≡ routing s.functions) (same_addresses : (p : Path) → address_now t.functions p ≡ address_now s.functions p) where
+  held_carried : (p : Path) (f : Function) (h : Held) → IsHeld s p f h → IsHeld t p f h
+  held_carried p f h is =
+      let row_now : slice_get (board_at t.functions) h.index ≡ Some (record { path = p; decl = endpoint f.decl }) = ap (λ (b : Board). slice_get b h.index) same_board ∙ is.row in
+      record {
+        path = is.path;
+        row = row_now;
+        at = is.at ∙ sym (same_addresses p);
+        placed = is.placed ∙ sym (bases_held s.functions on_s h.index p f.decl is.row) ∙ ap (λ (rows : List RoutingRow). bases_routed rows h.index) (sym same_routing) ∙ bases_held t.functions on_t h.index p f.decl row_now;
+        regions = is.regions;
+        own = is.own;
+      }
+
+  slot_carried : (q : Option Path) (f : Option Function) (o : Option Held) → IsSlot s q f o → IsSlot t q f o
+  slot_carried None None None is = tt
+  slot_carried None None (Some h) is = absurd is
+  slot_carried None (Some f) o is = absurd is
+  slot_carried (Some p) None o is = absurd is
+  slot_carried (Some p) (Some f) None is = absurd is
+  slot_carried (Some p) (Some f) (Some h) is = held_carried p f h is
+
+  slots_carried : (qs : List (Option Path)) (fs : Slots) (os : List (Option Held)) → AreSlots s qs fs os → AreSlots t qs fs os
+  slots_carried [] [] [] are = tt
+  slots_carried [] [] (o ∷ os) are = absurd are
+  slots_carried [] (f ∷ fs) os are = absurd are
+  slots_carried (q ∷ qs) [] os are = absurd are
+  slots_carried (q ∷ qs) (f ∷ fs) [] are = absurd are
+  slots_carried (q ∷ qs) (f ∷ fs) (o ∷ os) are = (slot_carried q f o are.0, slots_carried qs fs os are.1)
+
+  guest_carried : (name : Text) (w : GuestNow) (g : Guest) → IsGuest s name w g → IsGuest t name w g
+  guest_carried name w g is = record { name_is = is.name_is; latch = is.latch; slots = slots_carried w.paths w.lone.slots g.slots.items is.slots }
+
+  pub guests_carried : (ts : List Text) (ws : GuestsNow) (gs : List Guest) → AreGuests s ts ws gs → AreGuests t ts ws gs
+  guests_carried [] [] [] are = tt
+  guests_carried [] [] (g ∷ gs) are = absurd are
+  guests_carried [] (w ∷ ws) gs are = absurd are
+  guests_carried (name ∷ ts) [] gs are = absurd are
+  guests_carried (name ∷ ts) (w ∷ ws) [] are = absurd are
+  guests_carried (name ∷ ts) (w ∷ ws) (g ∷ gs) are = (guest_carried name w g are.0, guests_carried ts ws gs are.1)
