@@ -1,4 +1,4 @@
--- A guest's address latch, in the program's words: PCI Local Bus 3.0, chapter 3.2.2.3.2.
+-- Where a guest's ports lead by its address latch, in the program's words: PCI Local Bus 3.0, chapter 3.2.2.3.2.
 --     select_at latch a      what port a is by the latch: an ordinary one, or CONFIG_DATA of no function or of a slot
 --     IsSelectAt a s      a slot is one of 32, and the offset in it has the byte lane of the port
 use Rattle.std.specs.Prelude.{◌≡◌, ◌<◌, ⊤, ℕ, ◌%◌, ◌&&◌, ◌==◌, if◌then◌else◌, not}

@@ -7,7 +7,7 @@ mod latch;
 mod virtual_function;
 mod word;
 
-pub use latch::{Latch, Select};
+pub use latch::{Select, selection};
 pub use virtual_function::VirtualFunction;
 
 #[cfg(test)]

@@ -23,8 +23,9 @@ ghost use Rattle.host_bridge.specs.DeviceValues.{value_at};
 ghost use Rattle.host_bridge.specs.HostState.{with_functions, with_latch};
 ghost use Rattle.host_bridge.specs.Landings.{IsLanding};
 
-use crate::latch::{Latch, Target};
+use crate::latch::{Target, cycle_of, target_of};
 use crate::route::Route;
+use address_latch::Latch;
 use bars::{Region, Space, enabled_bits};
 use bridge_forward::{Bus, Claim, Located, Op, Path, RoutingRow};
 use config_bytes::{all_ones, enables_of, into_lanes, lowered};
@@ -48,7 +49,7 @@ impl Model for Host {
     ghost Value = { HostState };
 
     ghost view = { λ h. record {
-      state = record { functions = h.root; latch = h.latch.bits };
+      state = record { functions = h.root; latch = h.latch };
       apertures = h.apertures;
     } };
 }
@@ -63,7 +64,7 @@ impl Host {
     {
         Host {
             root,
-            latch: Latch::CLEAR,
+            latch: Latch::clear(),
             apertures,
         }
     }
@@ -82,7 +83,7 @@ impl Host {
         ensures after { self.new ≡ self.old }
     {
         self.root
-            .cycle(self.latch.cycle(enables, Op::Read))
+            .cycle(cycle_of(self.latch, enables, Op::Read))
             .unwrap_or_else(|| enabled_bits(enables))
     }
 
@@ -92,7 +93,9 @@ impl Host {
             let fs = after_config_write s.functions (selected s.latch) off (lanes enables) «data» in
             self.new ≡ with_functions fs self.old }
     {
-        let _ = self.root.cycle(self.latch.cycle(enables, Op::Write(data)));
+        let _ = self
+            .root
+            .cycle(cycle_of(self.latch, enables, Op::Write(data)));
     }
 
     /// Reads the enabled bytes of the configuration word at `off`, a multiple of 4, of the function that
@@ -105,9 +108,9 @@ impl Host {
             result ≡ config_reply fs (bus_address_of at) off (lanes enables) }
         ensures after { self.new ≡ with_latch 0 self.old }
     {
-        self.latch = Latch::select(at, off);
+        self.latch = Latch::selecting(at, off);
         let word = self.read_data(enables);
-        self.latch = Latch::CLEAR;
+        self.latch = Latch::clear();
         word
     }
 
@@ -120,16 +123,16 @@ impl Host {
             let changed = after_config_write fs (bus_address_of at) off (lanes enables) «data» in
             self.new ≡ with_latch 0 (with_functions changed self.old) }
     {
-        self.latch = Latch::select(at, off);
+        self.latch = Latch::selecting(at, off);
         self.write_data(enables, data);
-        self.latch = Latch::CLEAR;
+        self.latch = Latch::clear();
     }
 
     /// Clears the address latch: it is 0 afterwards, and enables no CONFIG_DATA.
     pub fn clear_latch(&mut self)
         ensures { self.new ≡ with_latch 0 self.old }
     {
-        self.latch = Latch::CLEAR;
+        self.latch = Latch::clear();
     }
 
     /// The first claim of an address in path order, then by register: a region that decodes it, where
@@ -189,7 +192,7 @@ impl Host {
         ensures within { IfSome result (λ i. i < length self.old.state.functions) }
         ensures after { self.new ≡ self.old }
     {
-        let cycle = Latch::select(at, 0).cycle(0, Op::Read);
+        let cycle = cycle_of(Latch::selecting(at, 0), 0, Op::Read);
         self.root.reached(&cycle)
     }
 
@@ -336,7 +339,7 @@ impl Host {
         ensures after { self.new ≡ self.old }
     {
         let addr = u64::from(port);
-        match self.latch.target(port, width) {
+        match target_of(self.latch, port, width) {
             Target::ConfigAddress => self.latch.value(),
             Target::ConfigData => lowered(addr, self.read_data(enables_of(addr, width))),
             Target::Ordinary => self.read_claimed(route, Space::Io, addr, width),
@@ -354,7 +357,7 @@ impl Host {
             self.new ≡ record self.old { state = state } }
     {
         let addr = u64::from(port);
-        match self.latch.target(port, width) {
+        match target_of(self.latch, port, width) {
             Target::ConfigAddress => self.latch = Latch::written(value),
             Target::ConfigData => {
                 self.write_data(enables_of(addr, width), into_lanes(addr, value));

@@ -18,10 +18,11 @@ ghost use Rattle.monitor.specs.Beginnings.{world_on, declared_in, IsStanding, Ar
 
 use crate::guest::{Guest, Held};
 use accesses::{GuestDecl, Names};
+use address_latch::Latch;
 use bars::{BarDecl, Region};
 use board_audit::address_now;
 use bridge_forward::RoutingRow;
-use guest_functions::{Latch, VirtualFunction};
+use guest_functions::VirtualFunction;
 use host_bridge::Host;
 use paths::Path;
 use std::alloc::{AllocError, Global};
@@ -119,7 +120,7 @@ pub(crate) fn guests_of(
     let mut guests = Vec::with_capacity(alloc, decls.len())?;
     for decl in decls {
         guests.push(Guest {
-            latch: Latch::new(),
+            latch: Latch::clear(),
             slots: slots_of(alloc, host, rows, decl.slots.as_slice())?,
         })?;
     }

@@ -24,13 +24,14 @@ use crate::config::{held_in, number_read, write_guest};
 use crate::cycles::write_enabled;
 use crate::guest::Guest;
 use crate::landing::{landing, located};
-use crate::latch::{is_latch, write_latch};
+use crate::latch::write_latch;
 use crate::moving::{hand_over, move_fault};
 use crate::raising::{has_place, raise_on_board};
 use accesses::{Access, At, HostAccess, HostAt, Names, Op, Place, Refusal, Reply, nothing};
+use address_latch::is_address_port;
 use bars::Space;
 use config_bytes::{enables_of, into_lanes, lowered};
-use guest_functions::Select;
+use guest_functions::{Select, selection};
 use host_bridge::{Bdf, Host, Route};
 use std::marker::Model;
 
@@ -214,10 +215,10 @@ impl<R: Route> Engine<R> {
         ensures shown { IsShown result }
         ensures served { ¬ IsRefusal result }
     {
-        if is_latch(at, width) {
+        if is_address_port(at, width) {
             return self.latch_access(guest, op);
         }
-        match self.guests[guest].latch.select(at) {
+        match selection(self.guests[guest].latch, at) {
             Select::Ordinary => self.region_access(guest, Space::Io, at, width, op),
             Select::Nowhere => nothing(op, width),
             Select::Slot(slot, off) => self.config_access(guest, usize::from(slot), off, width, op),

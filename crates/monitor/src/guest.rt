@@ -1,6 +1,7 @@
 //! What the monitor keeps of each guest.
+use address_latch::Latch;
 use bars::Region;
-use guest_functions::{Latch, VirtualFunction};
+use guest_functions::VirtualFunction;
 use host_bridge::Bdf;
 use paths::Path;
 

@@ -1,16 +1,10 @@
 //! Guests' address latches.
 ghost use Rattle.std.specs.Prelude.{◌≡◌, ◌<◌, Some, length, slice_get, slice_set};
-ghost use Rattle.model_registers.specs.ConfigAddress.{is_address_port, latched};
+ghost use Rattle.model_registers.specs.ConfigAddress.{latched};
 ghost use Rattle.monitor.specs.declared.guest.Guest.{Guest};
 
 use crate::guest::Guest;
-
-/// Whether an access at a port is one of the address latch: 4 bytes at CF8h.
-pub(crate) fn is_latch(port: u64, width: u64) -> bool
-    ensures { result ≡ is_address_port port width }
-{
-    port == 0xcf8 && width == 4
-}
+use address_latch::Latch;
 
 /// Writes four bytes to a guest's address latch.
 pub(crate) fn write_latch(guests: &mut [Guest], guest: usize, value: u32)
@@ -19,5 +13,5 @@ pub(crate) fn write_latch(guests: &mut [Guest], guest: usize, value: u32)
         → guests.new ≡ slice_set guests.old guest (record g { latch = latched value }) }
 {
     let guest = &mut guests[guest];
-    guest.latch.write(value);
+    guest.latch = Latch::written(value);
 }

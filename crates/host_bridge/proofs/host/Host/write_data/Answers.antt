@@ -4,6 +4,6 @@ use Rattle.host_bridge.proofs.host.Host.write_data.Goals as goal
 
 pub returns : goal.returns
 returns c =
-    let cycle = c.cycle.result in
+    let cycle = c.cycle_of.result in
     let root = c.self.inside.root in
-    rw (← c.self.view_is, c.cycle-2.ensures.after, write_changes root cycle _ _ _ _ (c.cycle.ensures.reached root) c.cycle.ensures.offset c.cycle.ensures.enables c.cycle.ensures.op) refl
+    rw (← c.self.view_is, c.cycle.ensures.after, write_changes root cycle _ _ _ _ (c.cycle_of.ensures.reached root) c.cycle_of.ensures.offset c.cycle_of.ensures.enables c.cycle_of.ensures.op) refl

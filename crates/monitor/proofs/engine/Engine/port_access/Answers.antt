@@ -22,7 +22,7 @@ returns-in-Ordinary-clause-reply g c =
     let there = guest_read e.host (texts e.names) e.guests.items c.self.invariant.1 c.args.self.now c.self.view_is c.args.guest c.index.result.now c.requires.there c.index.ensures in
     let lone = lone_nth c.args.self.now c.args.guest in
     let goes : by_select (port c.args.at) (named_select (select.Ordinary)) ≡ destination lone.latch c.args.width (port c.args.at) =
-    destination_is lone.latch c.index.result.now.latch c.args.at c.args.width (select.Ordinary) (latch_shown e.host (texts e.names) e.guests.items c.self.invariant.1 c.args.self.now c.self.view_is c.args.guest c.index.result.now there) (sym c.is_latch.ensures ∙ c.if-is_latch.false) c.in-Ordinary.ensures.select in
+    destination_is lone.latch c.index.result.now.latch c.args.at c.args.width (select.Ordinary) (latch_shown e.host (texts e.names) e.guests.items c.self.invariant.1 c.args.self.now c.self.view_is c.args.guest c.index.result.now there) (sym c.is_address_port.ensures ∙ c.if-is_address_port.false) c.in-Ordinary.ensures.select in
     c.region_access.ensures.reply ∙ ap (λ (d : Destination). reply_at lone (op_of c.args.op) c.args.width d) goes
 
 pub returns-in-Ordinary-clause-after : goal.returns-in-Ordinary-clause-after
@@ -31,7 +31,7 @@ returns-in-Ordinary-clause-after g c =
     let there = guest_read e.host (texts e.names) e.guests.items c.self.invariant.1 c.args.self.now c.self.view_is c.args.guest c.index.result.now c.requires.there c.index.ensures in
     let lone = lone_nth c.args.self.now c.args.guest in
     let goes : by_select (port c.args.at) (named_select (select.Ordinary)) ≡ destination lone.latch c.args.width (port c.args.at) =
-    destination_is lone.latch c.index.result.now.latch c.args.at c.args.width (select.Ordinary) (latch_shown e.host (texts e.names) e.guests.items c.self.invariant.1 c.args.self.now c.self.view_is c.args.guest c.index.result.now there) (sym c.is_latch.ensures ∙ c.if-is_latch.false) c.in-Ordinary.ensures.select in
+    destination_is lone.latch c.index.result.now.latch c.args.at c.args.width (select.Ordinary) (latch_shown e.host (texts e.names) e.guests.items c.self.invariant.1 c.args.self.now c.self.view_is c.args.guest c.index.result.now there) (sym c.is_address_port.ensures ∙ c.if-is_address_port.false) c.in-Ordinary.ensures.select in
     c.region_access.ensures.after ∙ ap (λ (d : Destination). with_lone_nth c.args.guest (after_access_at lone (op_of c.args.op) c.args.width d) c.args.self.now) goes
 
 pub returns-in-Nowhere-clause-reply : goal.returns-in-Nowhere-clause-reply
@@ -40,7 +40,7 @@ returns-in-Nowhere-clause-reply g c =
     let there = guest_read e.host (texts e.names) e.guests.items c.self.invariant.1 c.args.self.now c.self.view_is c.args.guest c.index.result.now c.requires.there c.index.ensures in
     let lone = lone_nth c.args.self.now c.args.guest in
     let goes : by_select (port c.args.at) (named_select (select.Nowhere)) ≡ destination lone.latch c.args.width (port c.args.at) =
-    destination_is lone.latch c.index.result.now.latch c.args.at c.args.width (select.Nowhere) (latch_shown e.host (texts e.names) e.guests.items c.self.invariant.1 c.args.self.now c.self.view_is c.args.guest c.index.result.now there) (sym c.is_latch.ensures ∙ c.if-is_latch.false) c.in-Nowhere.ensures.select in
+    destination_is lone.latch c.index.result.now.latch c.args.at c.args.width (select.Nowhere) (latch_shown e.host (texts e.names) e.guests.items c.self.invariant.1 c.args.self.now c.self.view_is c.args.guest c.index.result.now there) (sym c.is_address_port.ensures ∙ c.if-is_address_port.false) c.in-Nowhere.ensures.select in
     c.nothing.ensures.reply ∙ nothing_at lone (op_of c.args.op) c.args.width ∙ ap (λ (d : Destination). reply_at lone (op_of c.args.op) c.args.width d) goes
 
 pub returns-in-Nowhere-clause-after : goal.returns-in-Nowhere-clause-after
@@ -49,7 +49,7 @@ returns-in-Nowhere-clause-after g c =
     let there = guest_read e.host (texts e.names) e.guests.items c.self.invariant.1 c.args.self.now c.self.view_is c.args.guest c.index.result.now c.requires.there c.index.ensures in
     let lone = lone_nth c.args.self.now c.args.guest in
     let goes : by_select (port c.args.at) (named_select (select.Nowhere)) ≡ destination lone.latch c.args.width (port c.args.at) =
-    destination_is lone.latch c.index.result.now.latch c.args.at c.args.width (select.Nowhere) (latch_shown e.host (texts e.names) e.guests.items c.self.invariant.1 c.args.self.now c.self.view_is c.args.guest c.index.result.now there) (sym c.is_latch.ensures ∙ c.if-is_latch.false) c.in-Nowhere.ensures.select in
+    destination_is lone.latch c.index.result.now.latch c.args.at c.args.width (select.Nowhere) (latch_shown e.host (texts e.names) e.guests.items c.self.invariant.1 c.args.self.now c.self.view_is c.args.guest c.index.result.now there) (sym c.is_address_port.ensures ∙ c.if-is_address_port.false) c.in-Nowhere.ensures.select in
     sym (same_nth c.args.self.now c.args.guest c.requires.there)
     ∙ ap (λ (l : LoneGuest). with_lone_nth c.args.guest l c.args.self.now) (nothing_after lone (op_of c.args.op) c.args.width) ∙ ap (λ (d : Destination). with_lone_nth c.args.guest (after_access_at lone (op_of c.args.op) c.args.width d) c.args.self.now) goes
 
@@ -59,7 +59,7 @@ returns-in-Slot-clause-reply g c =
     let there = guest_read e.host (texts e.names) e.guests.items c.self.invariant.1 c.args.self.now c.self.view_is c.args.guest c.index.result.now c.requires.there c.index.ensures in
     let lone = lone_nth c.args.self.now c.args.guest in
     let goes : by_select (port c.args.at) (named_select (select.Slot c.in-Slot.slot c.in-Slot.off)) ≡ destination lone.latch c.args.width (port c.args.at) =
-    destination_is lone.latch c.index.result.now.latch c.args.at c.args.width (select.Slot c.in-Slot.slot c.in-Slot.off) (latch_shown e.host (texts e.names) e.guests.items c.self.invariant.1 c.args.self.now c.self.view_is c.args.guest c.index.result.now there) (sym c.is_latch.ensures ∙ c.if-is_latch.false) c.in-Slot.ensures.select in
+    destination_is lone.latch c.index.result.now.latch c.args.at c.args.width (select.Slot c.in-Slot.slot c.in-Slot.off) (latch_shown e.host (texts e.names) e.guests.items c.self.invariant.1 c.args.self.now c.self.view_is c.args.guest c.index.result.now there) (sym c.is_address_port.ensures ∙ c.if-is_address_port.false) c.in-Slot.ensures.select in
     c.config_access.ensures.reply ∙ ap (λ (n : ℕ). reply_at lone (op_of c.args.op) c.args.width (at_target (configuration n c.in-Slot.off))) c.from.ensures ∙ ap (λ (d : Destination). reply_at lone (op_of c.args.op) c.args.width d) goes
 
 pub returns-in-Slot-clause-after : goal.returns-in-Slot-clause-after
@@ -68,5 +68,5 @@ returns-in-Slot-clause-after g c =
     let there = guest_read e.host (texts e.names) e.guests.items c.self.invariant.1 c.args.self.now c.self.view_is c.args.guest c.index.result.now c.requires.there c.index.ensures in
     let lone = lone_nth c.args.self.now c.args.guest in
     let goes : by_select (port c.args.at) (named_select (select.Slot c.in-Slot.slot c.in-Slot.off)) ≡ destination lone.latch c.args.width (port c.args.at) =
-    destination_is lone.latch c.index.result.now.latch c.args.at c.args.width (select.Slot c.in-Slot.slot c.in-Slot.off) (latch_shown e.host (texts e.names) e.guests.items c.self.invariant.1 c.args.self.now c.self.view_is c.args.guest c.index.result.now there) (sym c.is_latch.ensures ∙ c.if-is_latch.false) c.in-Slot.ensures.select in
+    destination_is lone.latch c.index.result.now.latch c.args.at c.args.width (select.Slot c.in-Slot.slot c.in-Slot.off) (latch_shown e.host (texts e.names) e.guests.items c.self.invariant.1 c.args.self.now c.self.view_is c.args.guest c.index.result.now there) (sym c.is_address_port.ensures ∙ c.if-is_address_port.false) c.in-Slot.ensures.select in
     c.config_access.ensures.after ∙ ap (λ (n : ℕ). with_lone_nth c.args.guest (after_access_at lone (op_of c.args.op) c.args.width (at_target (configuration n c.in-Slot.off))) c.args.self.now) c.from.ensures ∙ ap (λ (d : Destination). with_lone_nth c.args.guest (after_access_at lone (op_of c.args.op) c.args.width d) c.args.self.now) goes

@@ -1,0 +1,100 @@
+//! The bits of the latch, and its ports.
+ghost use Rattle.std.specs.Prelude.{◌≡◌, ◌%◌, ◌&&◌};
+ghost use Rattle.model_registers.specs.ConfigAddress.{latched, is_enabled, selected_register, is_address_port, is_data_port};
+ghost use Rattle.model_board.specs.Ports.{selected};
+ghost use Rattle.paths.specs.BusAddresses.{bus_address_of};
+
+use paths::Bdf;
+use std::marker::Model;
+
+/// Whether an access of `width` bytes at a port is one of CONFIG_ADDRESS: 4 bytes at CF8h.
+pub fn is_address_port(port: u64, width: u64) -> bool
+    ensures { result ≡ is_address_port port width }
+{
+    port == 0xcf8 && width == 4
+}
+
+/// What CONFIG_ADDRESS holds: bit 31 enables CONFIG_DATA, bits 23 to 16 are a bus, 15 to 11 a device, 10 to 8 a
+/// function and 7 to 2 a register. All other bits read 0.
+#[derive(Clone, Copy, Debug, PartialEq, Eq)]
+pub struct Latch {
+    bits: u32,
+}
+
+impl Model for Latch {
+    ghost use Rattle.std.specs.Prelude.{ℕ};
+
+    ghost Value = { ℕ };
+
+    ghost view = { λ l. l.bits };
+
+    ghost inverse = { λ n. record { bits = n } };
+}
+
+impl Latch {
+    /// The latch at the beginning, which selects nothing.
+    pub fn clear() -> Latch
+        ensures { result ≡ 0 }
+    {
+        Latch { bits: 0 }
+    }
+
+    /// What a write of four bytes to CONFIG_ADDRESS leaves. The bits that are not used stay 0.
+    pub fn written(value: u32) -> Latch
+        ensures { result ≡ latched value }
+    {
+        Latch {
+            bits: value & 0x80ff_fffc,
+        }
+    }
+
+    /// Enables CONFIG_DATA, and selects the word at `off`, a multiple of 4, of a function.
+    pub fn selecting(at: Bdf, off: u8) -> Latch
+        requires { off % 4 ≡ 0 }
+        ensures function { selected result ≡ bus_address_of at }
+        ensures register { selected_register result ≡ off }
+    {
+        let device_function = at.device * 8 + at.function;
+        Latch {
+            bits: u32::from_le_bytes([off, device_function, at.bus, 0x80]),
+        }
+    }
+
+    /// What a read of four bytes of CONFIG_ADDRESS shows.
+    pub fn value(self) -> u32
+        ensures { result ≡ self }
+    {
+        self.bits
+    }
+
+    fn is_enabled(self) -> bool
+        ensures { result ≡ is_enabled self }
+    {
+        self.bits >> 31 == 1
+    }
+
+    /// Whether a port is one of CONFIG_DATA, CFCh to CFFh, while the latch enables it.
+    pub fn shows_data(self, port: u64) -> bool
+        ensures { result ≡ (is_enabled self && is_data_port port) }
+    {
+        self.is_enabled() && (0xcfc..=0xcff).contains(&port)
+    }
+
+    /// The function that is selected.
+    pub fn function(self) -> Bdf
+        ensures { bus_address_of result ≡ selected self }
+    {
+        Bdf {
+            bus: (self.bits >> 16 & 0xff) as u8,
+            device: (self.bits >> 11 & 0x1f) as u8,
+            function: (self.bits >> 8 & 7) as u8,
+        }
+    }
+
+    /// The offset of the word that is selected.
+    pub fn register(self) -> u8
+        ensures { result ≡ selected_register self }
+    {
+        (self.bits >> 2 & 0x3f) as u8 * 4
+    }
+}
