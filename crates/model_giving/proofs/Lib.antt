@@ -1,0 +1,4 @@
+pub mod OneReset
+pub mod Seats
+pub mod Giving
+pub mod Actions
