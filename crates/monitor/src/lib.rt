@@ -33,6 +33,7 @@ mod raising;
 mod regions;
 mod reset;
 mod seat;
+mod seating;
 mod taking;
 
 pub use accesses::{

@@ -7,6 +7,7 @@ ghost use Rattle.model_guests.specs.Lone.{answer};
 ghost use Rattle.model_guests.specs.Guests.{lone_of};
 ghost use Rattle.model_guests.specs.Lines.{guest_event, host_move};
 ghost use Rattle.model_guests.specs.WorldNow.{world_at_first, move_reply};
+ghost use Rattle.model_giving.specs.Giving.{take_reply, after_take};
 ghost use Rattle.model_handoff.specs.DevicesOver.{after_device};
 ghost use Rattle.model_handoff.specs.SetUpCase.{over_set_up};
 ghost use Rattle.model_handoff.specs.Regions.{CanBeGiven, first_fault};
@@ -179,6 +180,19 @@ impl Monitor {
         ensures refused { IsRefusal result → self.new ≡ self.old }
     {
         self.engine.reset(guest, slot)
+    }
+
+    /// Takes the function in a slot from its guest: the slot is then empty, and on the board the function is at
+    /// reset, but for what guests have copies of. Or refuses it and changes nothing: 303 for a slot above 31,
+    /// else 601 for an empty slot. No memory is taken.
+    pub fn take(&mut self, guest: usize, slot: u64) -> Reply
+        requires { guest < length self.old.guests }
+        ensures reply { reply_of result ≡ take_reply self.old (name_nth self.old guest) slot }
+        ensures after { self.new ≡ after_take self.old (name_nth self.old guest) slot }
+        ensures shown { IsShown result }
+        ensures refused { IsRefusal result → self.new ≡ self.old }
+    {
+        self.engine.take(guest, slot)
     }
 
     /// What a byte of a guest's function holds, as its device reads it. Or refuses it: 303 for a slot

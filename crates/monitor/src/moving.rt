@@ -53,7 +53,7 @@ fn take_out(slots: &mut [Option<Held>], slot: usize) -> Held
 }
 
 /// The same of a slot of a guest.
-fn take_from(guests: &mut [Guest], guest: usize, slot: usize) -> Held
+pub(crate) fn take_from(guests: &mut [Guest], guest: usize, slot: usize) -> Held
     requires { HoldsAt guests.old guest slot }
     ensures { (holds : HoldsAt guests.old guest slot) → TakesOut guests.old guest slot holds guests.new result }
 {
