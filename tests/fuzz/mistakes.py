@@ -1,4 +1,5 @@
-"""Board files with mistakes: what a check says of each, beside what this second hand says.
+"""Board files with mistakes: what a check says of each, beside what this second hand says. Of a file that is accepted
+that is how much of each aperture its board takes, and what may be a mistake.
 
     mistakes.py PROGRAM [--files N] [--seed S]
 
@@ -10,9 +11,11 @@ import re
 import subprocess
 import sys
 import tempfile
+import tomllib
 from pathlib import Path
 
 from board import board_file, random_board
+from judged import judged
 from rules import all_faults, place_of
 
 NUMBERS = [-1, 0, 1, 4, 5, 6, 17, 63, 64, 192, 255, 256, 3000, 4096, 4097, 0xF900, 0xFFFE, 0xFFFF, 0x10000,
@@ -136,11 +139,31 @@ def differs(lines, told, problems):
     return None if numbers == sorted(numbers) else f"order {numbers}"
 
 
+def with_numbers(lines):
+    """Lines of a check, each with the number of its line in the file."""
+    found = [re.match(r"board\.toml(?::(\d+))?: (.*)$", line) for line in lines]
+    return [(int(line[1]) if line[1] else None, line[2]) for line in found]
+
+
 def told_lines(out):
     """The lines of a check with their numbers, and the last line."""
     *lines, count = out.split("\n")[:-1]
-    found = [re.match(r"board\.toml(?::(\d+))?: (.*)$", line) for line in lines]
-    return [(int(line[1]) if line[1] else None, line[2]) for line in found], count
+    return with_numbers(lines), count
+
+
+def judged_differs(lines, text, out):
+    """What is wrong with what a check said of a file that is accepted, if anything is."""
+    head, warnings = judged(tomllib.loads(text))
+    said = out.split("\n")[:-1]
+    if said[:4] != head:
+        return f"{said[:4]}, not {head}"
+    where, told = lines_of_keys(lines), with_numbers(said[4:])
+    if [line for _, line in told] != [warning.text for warning in warnings]:
+        return f"{told}, not {warnings}"
+    for (number, line), warning in zip(told, warnings):
+        if number not in allowed_lines(where, warning.table, warning.outer):
+            return f"line {number}, not {allowed_lines(where, warning.table, warning.outer)}: {line}"
+    return None
 
 
 class Files:
@@ -149,7 +172,7 @@ class Files:
     def __init__(self, program):
         self.program = Path(program).resolve()
         self.folder = Path(tempfile.mkdtemp(prefix="mistakes-"))
-        self.faults, self.told = {}, 0
+        self.faults, self.told, self.warned = {}, 0, 0
 
     def differ(self, seed, told):
         print(f"seed {seed}: {told}; the file is in {self.folder}")
@@ -165,15 +188,20 @@ class Files:
         (self.folder / "board.toml").write_text(text)
         done = subprocess.run([self.program, "check", "board.toml"], cwd=self.folder, capture_output=True, text=True,
                               timeout=60)
-        self.compare(seed, lines, all_faults(text), done)
+        self.compare(seed, lines, text, done)
 
-    def compare(self, seed, lines, wanted, done):
-        number, problems = wanted
+    def compare(self, seed, lines, text, done):
+        number, problems = all_faults(text)
         fault = re.match(r"pciguest: fault (\d+) ", done.stderr)
         got = int(fault[1]) if fault else 0
         self.faults[got] = self.faults.get(got, 0) + 1
         if got != number and not (number == 0 and 200 < got < 206):
             self.differ(seed, f"fault {got}, not {number}")
+        if got == 0:
+            wrong = judged_differs(lines, text, done.stdout)
+            if wrong:
+                self.differ(seed, wrong)
+            self.warned += done.stdout.count(": warning: ")
         if number == 101 and not re.fullmatch(r"board\.toml:\d+: refused \(101 not TOML\)\n", done.stdout):
             self.differ(seed, done.stdout)
         if number > 101:
@@ -195,7 +223,7 @@ def main():
         files.one(seed)
     subprocess.run(["rm", "-rf", files.folder])
     faults = ", ".join(f"{number or 'ok'}: {count}" for number, count in sorted(files.faults.items()))
-    print(f"{chosen.files} files ({faults}), {files.told} lines told: all agree")
+    print(f"{chosen.files} files ({faults}), {files.told} lines told, {files.warned} warnings: all agree")
 
 
 if __name__ == "__main__":

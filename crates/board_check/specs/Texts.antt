@@ -3,7 +3,7 @@
 --     place_text      an entry with its key, its value and its owner
 --     owner_text      the path of the function, or the name of the guest, that an entry belongs to
 --     problem_text      the line of a problem
---     below_text      the line of the file in which it is, with a mark below the value
+--     below_text      the line of the file at a place, with a mark below the value
 --     lines_text      all lines of a file that is refused
 --     unread_text      what is said of bytes that are no document
 use Rattle.std.specs.Prelude.{ℕ, ◌==◌, Bool, true, List, [], ◌∷◌, ◌++◌, length, codes, decimal, map, Option, Some, None, flat_map, if◌then◌else◌, ◌||◌, option_and_then, is_some}
@@ -80,12 +80,16 @@ abbrev pub shown_text : List ℕ → Bool → Option Place → List ℕ
 shown_text bytes has_value None = []
 shown_text bytes has_value (Some p) = if has_value then excerpt bytes p else line_row bytes p
 
-abbrev pub below_text : Members → List ℕ → Told → List ℕ
-below_text ms bytes t = shown_text bytes (is_some (value_at ms t.problem.entry t.problem.key.now)) t.place
+-- the place of a key of an entry
+abbrev pub below_text : Members → List ℕ → Entry → List ℕ → Option Place → List ℕ
+below_text ms bytes e k place = shown_text bytes (is_some (value_at ms e k)) place
+
+abbrev pub below_problem_text : Members → List ℕ → Told → List ℕ
+below_problem_text ms bytes t = below_text ms bytes t.problem.entry t.problem.key.now t.place
 
 abbrev pub told_text : Style → List ℕ → Members → List ℕ → Told → List ℕ
 told_text Plain name ms bytes t = problem_text name ms t
-told_text WithExcerpts name ms bytes t = problem_text name ms t ++ below_text ms bytes t
+told_text WithExcerpts name ms bytes t = problem_text name ms t ++ below_problem_text ms bytes t
 
 -- of a fault of which no entry is told
 abbrev pub bare_text : List ℕ → Option ℕ → BoardFault → List ℕ

@@ -23,6 +23,7 @@ mod texts;
 mod words;
 
 pub use board_file::{Entry, Problem, Rule};
+pub use lines::{line_at, place_of};
 pub use style::Style;
 pub use telling::refusal_text;
-pub use texts::fault_words;
+pub use texts::{fault_words, push_below, push_line, push_place};

@@ -29,7 +29,7 @@ pub struct Told<'a> {
 }
 
 /// The line of a place, where that is known.
-pub(crate) fn line_at(place: Option<Place>) -> Option<usize>
+pub fn line_at(place: Option<Place>) -> Option<usize>
     ensures { result ≡ line_at place }
 {
     match place {
@@ -78,7 +78,7 @@ fn way_to<'k>(alloc: Global, entry: Entry, key: &'k str) -> Result<Vec<Step<'k>>
 
 /// The place of the value at a key of an entry, or where there is none of a value of the entry,
 /// where that is known and was confirmed.
-fn place_of(
+pub fn place_of(
     alloc: Global,
     places: &Places<'_>,
     entry: Entry,

@@ -3,7 +3,7 @@ ghost use Rattle.std.specs.Prelude.{◌≡◌, ◌++◌, OnOk, option_map, strin
 ghost use Rattle.std.specs.List.{flat_map};
 ghost use Rattle.toml.specs.View.{view, table_view};
 ghost use Rattle.board_check.specs.Rules.{fault_words};
-ghost use Rattle.board_check.specs.Texts.{key_text, line_text, fault_text, quoted_text, data_text, scalar_text, name_text, is_own_name, place_text, said_text, problem_text, shown_text, below_text, told_text, bare_text, reasoned_text, unread_text, count_text, lines_text};
+ghost use Rattle.board_check.specs.Texts.{key_text, line_text, fault_text, quoted_text, data_text, scalar_text, name_text, is_own_name, place_text, said_text, problem_text, shown_text, below_text, below_problem_text, told_text, bare_text, reasoned_text, unread_text, count_text, lines_text};
 
 use crate::causes::push_cause;
 use crate::keys::{owner_name, value_at};
@@ -53,7 +53,7 @@ fn push_key(text: &mut String, key: &str) -> Result<(), AllocError>
 }
 
 /// Appends a line's number, where it is known.
-fn push_line(text: &mut String, line: Option<usize>) -> Result<(), AllocError>
+pub fn push_line(text: &mut String, line: Option<usize>) -> Result<(), AllocError>
     ensures { OnOk result (string_bytes text.new ≡ string_bytes text.old ++ line_text line) }
 {
     match line {
@@ -128,7 +128,7 @@ fn is_own_name(key: &str) -> bool
 
 /// Appends where a problem is: the entry with its key and value, and what it belongs to, unless the value
 /// says that.
-fn push_place(
+pub fn push_place(
     text: &mut String,
     document: &Table,
     entry: Entry,
@@ -202,8 +202,26 @@ fn push_shown_line(
     }
 }
 
-/// Appends the line of the file in which a problem is.
-fn push_below(
+/// Appends the line of the file at the place of a key of an entry, where that is known, with a mark below
+/// the value where there is one.
+pub fn push_below(
+    alloc: Global,
+    text: &mut String,
+    bytes: &[u8],
+    document: &Table,
+    entry: Entry,
+    key: &str,
+    place: Option<Place>,
+) -> Result<(), AllocError>
+    ensures { OnOk result (string_bytes text.new
+        ≡ string_bytes text.old ++ below_text (table_view document.now) bytes.now entry key.now place) }
+{
+    let has_value = value_at(document, entry, key).is_some();
+    push_shown_line(alloc, text, bytes, has_value, place)
+}
+
+/// The same for a problem.
+fn push_below_problem(
     alloc: Global,
     text: &mut String,
     bytes: &[u8],
@@ -211,10 +229,18 @@ fn push_below(
     told: &Told<'_>,
 ) -> Result<(), AllocError>
     ensures { OnOk result (string_bytes text.new
-        ≡ string_bytes text.old ++ below_text (table_view document.now) bytes.now told.now) }
+        ≡ string_bytes text.old ++ below_problem_text (table_view document.now) bytes.now told.now) }
 {
-    let has_value = value_at(document, told.problem.entry, told.problem.key).is_some();
-    push_shown_line(alloc, text, bytes, has_value, told.place)
+    let problem = told.problem;
+    push_below(
+        alloc,
+        text,
+        bytes,
+        document,
+        problem.entry,
+        problem.key,
+        told.place,
+    )
 }
 
 /// Appends what is told of a problem.
@@ -231,7 +257,13 @@ fn push_problem(
     push_problem_line(alloc, text, telling.name, source, told)?;
     match telling.style {
         Style::Plain => Ok(()),
-        Style::WithExcerpts => push_below(alloc, text, telling.bytes, source.document, told),
+        Style::WithExcerpts => push_below_problem(
+            alloc,
+            text,
+            telling.bytes,
+            source.document,
+            told,
+        ),
     }
 }
 

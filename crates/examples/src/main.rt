@@ -58,11 +58,12 @@ const RUNS: [(&str, &str); 8] = [
     ("server.toml", "server.script"),
 ];
 
-/// Boards that are checked: two that fit, one for each reason of a refusal, and some with many things
-/// wrong.
-const CHECKS: [&str; 24] = [
+/// Boards that are checked: three that fit, the last with all that is warned of, one for each reason of a
+/// refusal, and some with many things wrong.
+const CHECKS: [&str; 25] = [
     "main.toml",
     "demo.toml",
+    "warnings.toml",
     "not_toml.toml",
     "key.toml",
     "unknown_key.toml",
@@ -88,8 +89,8 @@ const CHECKS: [&str; 24] = [
 ];
 
 /// Boards that are checked with the lines of their files: two that are no TOML, and some with one thing
-/// wrong or many.
-const EXCERPTS: [&str; 7] = [
+/// wrong or many; and one that fits, with all that is warned of.
+const EXCERPTS: [&str; 8] = [
     "no_number.toml",
     "key_twice.toml",
     "key.toml",
@@ -97,6 +98,7 @@ const EXCERPTS: [&str; 7] = [
     "aperture.toml",
     "many_places.toml",
     "many_checks.toml",
+    "warnings.toml",
 ];
 
 /// Writes the report of a board file.

@@ -13,5 +13,5 @@ board_name = codes "board.toml"
 
 -- what `pciguest check --plain` writes, where nothing was written before
 pub record IsCheckOf (board : Text) (n : ℕ) (text : Text) : Type 0 where
-  pub fit : n ≡ 0 → IsFit board (Some []) (Some text)
+  pub fit : n ≡ 0 → IsFit Plain board_name board (Some []) (Some text)
   pub told : n ≢ 0 → (f : Fault) × (number_of f ≡ n) × IsTold Plain board_name board f (Some []) (Some text)

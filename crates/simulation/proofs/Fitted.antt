@@ -1,6 +1,6 @@
 -- What the parts of what is said of a board say, put together.
 use Rattle.std.proofs.Common.{◌≡◌, ◌⊎◌, ◌++◌, ◌<◌, inl, inr, true, false, Option, Some, None, Result, Ok, Err, refl, ap, ◌∙◌, append_assoc, arith}
-use Rattle.std.specs.Prelude.{OnOk, OnErr, IfErr, IsErrOf, is_ok, if◌then◌else◌}
+use Rattle.std.specs.Prelude.{OnOk, OnErr, IfOk, IfErr, IsErrOf, is_ok, if◌then◌else◌}
 use Rattle.std.specs.Option.{option_map_or}
 use Rattle.model_board.specs.Board.{Board}
 use Rattle.model_registers.specs.Apertures.{Apertures}
@@ -15,6 +15,10 @@ use Rattle.simulation.proofs.Checked.{IsDeclined}
 pub on_ok : {T E : Type 0} (r : Result T E) (P Q : Type 0) → (P → Q) → OnOk r P → OnOk r Q
 on_ok (Ok x) P Q f h = f h
 on_ok (Err e) P Q f h = tt
+
+pub if_ok-map : {T E : Type 0} (r : Result T E) (P Q : T → Type 0) → ((x : T) → P x → Q x) → IfOk r P → IfOk r Q
+if_ok-map (Ok x) P Q f h = f x h
+if_ok-map (Err e) P Q f h = tt
 
 pub if_err-both : {T E : Type 0} (r : Result T E) (P Q R : E → Type 0) → ((e : E) → P e → Q e → R e) → IfErr r P → IfErr r Q → IfErr r R
 if_err-both (Ok x) P Q R f h k = tt

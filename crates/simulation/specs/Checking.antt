@@ -11,7 +11,7 @@ use Rattle.board_check.specs.declared.style.Style.{Style}
 use Rattle.board_check.specs.Telling.{IsRefusalText}
 use Rattle.simulation.specs.declared.fault.Fault.{Fault}
 use Rattle.simulation.specs.Faults.{number_of, of_file}
-use Rattle.simulation.specs.Fitting.{IsFitText}
+use Rattle.simulation.specs.Fitting.{IsVerdict}
 use Rattle.simulation.specs.Listing.{Declares, Refuses}
 
 pub record IsRefusalOf (style : Style) (name board : Text) (f : Fault) (text : Text) : Type 0 where
@@ -25,6 +25,7 @@ pub record IsRefusalTold (style : Style) (name board : Text) (f : Fault) (old ne
   pub written : Appends old new text
 
 pub data IsCheckText (style : Style) (name board text : Text) : Type 0 where
-  of_board : (w : World) → Declares board w → IsFitText name w.board w.apertures text → IsCheckText style name board text
+  of_board : (w : World) → Declares board w → (fault : Option Fault)
+      → IsVerdict style name board w.board w.apertures fault text → IsCheckText style name board text
   of_refusal : (f : Fault) → Refuses board (number_of f) → IsRefusalOf style name board f text
       → IsCheckText style name board text

@@ -16,7 +16,7 @@ use Rattle.board_check.specs.declared.style.Style.{Style}
 use Rattle.simulation.specs.Demo.{demo_board}
 use Rattle.simulation.specs.Faults.{number_of, IsOfList, IsOfRun}
 use Rattle.simulation.specs.Listing.{Declares, Refuses, IsListed, IsListedInPart}
-use Rattle.simulation.specs.Fitting.{fit_text, misfit_text}
+use Rattle.simulation.specs.Fitting.{IsVerdictTold}
 use Rattle.simulation.specs.Checking.{IsRefusalTold, IsCheckText}
 use Rattle.simulation.specs.Running.{IsRun, IsRunCut, IsRunStopped}
 use Rattle.simulation.specs.Driving.{IsDriven, IsDrivenCut, IsDrivenStopped, IsOfDriving}
@@ -39,18 +39,16 @@ pub record IsReportedInPart (board : Text) (old new : Option Text) : Type 0 wher
   pub listed : IsListedInPart world old new
 
 -- the board that some bytes declare fits, and this was said
-pub record IsFit (board : Text) (old new : Option Text) : Type 0 where
+pub record IsFit (style : Style) (name board : Text) (old new : Option Text) : Type 0 where
   pub world : World
   pub declared : Declares board world
-  pub set_up : first_broken (set_up_rules world.board world.apertures) ≡ None
-  pub said : Appends old new (fit_text world.board world.apertures)
+  pub told : IsVerdictTold style name board world.board world.apertures None old new
 
 -- what is wrong with a file or its board was told
 pub record IsTold (style : Style) (name board : Text) (f : Fault) (old new : Option Text) : Type 0 where
   pub refused : number_of f < 199 → Refuses board (number_of f) × IsRefusalTold style name board f old new
   pub misfit : 199 < number_of f → (w : World) × Declares board w
-      × (first_broken (set_up_rules w.board w.apertures) ≡ Some (number_of f))
-      × Appends old new (misfit_text name w.board w.apertures f)
+      × IsVerdictTold style name board w.board w.apertures (Some f) old new
 
 -- so was a beginning of it, or of what is said where nothing is wrong
 pub record IsToldInPart (style : Style) (name board : Text) (old new : Option Text) : Type 0 where
@@ -80,7 +78,7 @@ abbrev pub IsDone : Choice → Option Text → Option Text → Option Text → T
 IsDone (Help text) script old new = Appends old new (string_bytes text)
 IsDone Demo script old new = IsRun demo_board script old new
 IsDone (List path) script old new = (board : Text) × IsReported board old new
-IsDone (Check path style) script old new = (board : Text) × IsFit board old new
+IsDone (Check path style) script old new = (board : Text) × IsFit style path.now board old new
 IsDone (Run path) script old new = (board : Text) × IsRun board script old new
 IsDone (Firmware path) script old new = (board : Text) × IsDriven board script old new
 IsDone (Audit path) script old new = (board : Text) × IsAudited board script old new

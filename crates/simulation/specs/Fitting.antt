@@ -1,10 +1,12 @@
 -- What is said of how a board fits its apertures.
 --     pool_text      how much of its aperture a pool takes
---     fit_text      what is said of a board that can be set up
+--     fit_text, IsFitText      what is said of a board that can be set up, and with what may be a mistake in its file
 --     misfit_text      what is said of one that can't
---     IsFitText      the one of both that is true of the board
+--     IsVerdict style name bytes b a fault text      the one of both that is true of the board, with the fault of the latter
+--     IsVerdictTold      it was written
 use Rattle.std.specs.Prelude.{◌≡◌, ℕ, ◌++◌, codes, decimal, Option, Some, None, option_map}
 use Rattle.std.specs.Option.{option_map_or}
+use Rattle.std.specs.Io.KnownBytes.{Appends}
 use Rattle.model_registers.specs.DeclarationRules.{first_broken}
 use Rattle.model_board.specs.Board.{Board}
 use Rattle.model_registers.specs.Apertures.{Apertures}
@@ -17,6 +19,8 @@ use Rattle.window_packing.specs.declared.pool.Pool.TheVariants.{Io, Mem, Pref}
 use Rattle.window_packing.specs.declared.uses.PoolUse.{PoolUse}
 use Rattle.window_packing.specs.Plans.{named_pool}
 use Rattle.window_packing.specs.Uses.{told_use}
+use Rattle.board_check.specs.declared.style.Style.{Style}
+use Rattle.board_fit.specs.Telling.{AreWarnings}
 use Rattle.simulation.specs.declared.fault.Fault.{Fault}
 use Rattle.simulation.specs.declared.fault.Fault.TheVariants.{IoPool, MemoryPool, PrefetchablePool}
 use Rattle.simulation.specs.declared.misfit.Shortage.{Shortage}
@@ -84,7 +88,26 @@ refusal_line name s f = name ++ reason_text s ++ fault_text f
 abbrev pub misfit_text : Text → Board → Apertures → Fault → Text
 misfit_text name b a f = refusal_line name (shortage_of b a f) f
 
-pub data IsFitText (name : Text) (b : Board) (a : Apertures) (text : Text) : Type 0 where
-  of_fit : first_broken (set_up_rules b a) ≡ None → text ≡ fit_text b a → IsFitText name b a text
-  of_misfit : (f : Fault) → first_broken (set_up_rules b a) ≡ Some (number_of f) → text ≡ misfit_text name b a f
-      → IsFitText name b a text
+-- ---- either
+
+-- what is said of a board that can be set up, with what may be a mistake in its file
+pub record IsFitText (style : Style) (name bytes : Text) (b : Board) (a : Apertures) (text : Text) : Type 0 where
+  pub warnings : Text
+  pub are_warnings : AreWarnings style name bytes b a warnings
+  pub is_text : text ≡ fit_text b a ++ warnings
+
+abbrev pub IsSaid : Style → (name bytes : Text) → Board → Apertures → Option Fault → Text → Type 0
+IsSaid style name bytes b a None text = IsFitText style name bytes b a text
+IsSaid style name bytes b a (Some f) text = text ≡ misfit_text name b a f
+
+-- the fault is that of the first rule of set-up that the board breaks, or none
+pub record IsVerdict (style : Style) (name bytes : Text) (b : Board) (a : Apertures) (fault : Option Fault) (text : Text) : Type 0 where
+  pub rule : first_broken (set_up_rules b a) ≡ option_map number_of fault
+  pub said : IsSaid style name bytes b a fault text
+
+-- it was written, after what was written before
+pub record IsVerdictTold (style : Style) (name bytes : Text) (b : Board) (a : Apertures) (fault : Option Fault)
+    (old new : Option Text) : Type 0 where
+  pub text : Text
+  pub is_verdict : IsVerdict style name bytes b a fault text
+  pub written : Appends old new text

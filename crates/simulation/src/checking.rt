@@ -1,9 +1,6 @@
 //! What is wrong with a board file, or that nothing is.
 ghost use Rattle.std.specs.Prelude.{◌≡◌, ◌≢◌, ◌⊎◌, ◌++◌, ◌+◌, ◌-◌, ◌^◌, ◌<◌, ◌≤◌, Some, None, Err, OnOk, IfOk, IfErr, IsErrOf, IsUtf8, string_bytes};
-ghost use Rattle.std.specs.Io.KnownBytes.{Appends};
 ghost use Rattle.toml.specs.Parse.{parse_document};
-ghost use Rattle.model_registers.specs.DeclarationRules.{first_broken};
-ghost use Rattle.model_set_up.specs.SetUpWrites.{set_up_rules};
 ghost use Rattle.model_guests.specs.Text.{Text};
 ghost use Rattle.model_guests.specs.World.{World};
 ghost use Rattle.streams.specs.Ends.{AppendsPart};
@@ -12,7 +9,7 @@ ghost use Rattle.board_file.specs.Faults as of_file;
 ghost use Rattle.board_file.specs.declared.fault.BoardFault.TheVariants.{NotToml, Memory};
 ghost use Rattle.simulation.specs.Faults.{number_of, write_faults, IsOfList};
 ghost use Rattle.simulation.specs.Listing.{Declares, Refuses};
-ghost use Rattle.simulation.specs.Fitting.{fit_text, misfit_text};
+ghost use Rattle.simulation.specs.Fitting.{IsVerdictTold};
 ghost use Rattle.simulation.specs.Checking.{IsRefusalOf, IsRefusalTold, IsCheckText};
 
 use crate::choice::print;
@@ -59,8 +56,8 @@ fn refuse<W: Writer>(
 
 /// Writes what is wrong with a board file, a line for each entry that breaks the first check that the
 /// file fails, and flushes once; or `ok`, where its board can be set up, with how much of each aperture
-/// it takes. `name` is what the file is called. With excerpts the line of the file stands below what is
-/// said of an entry.
+/// it takes, and a line for each thing that may be a mistake and is no fault. `name` is what the file is
+/// called. With excerpts the line of the file stands below what is said of an entry.
 ///
 /// The answer is that of `list`, but for faults of the report itself.
 pub fn check<W: Writer>(
@@ -74,8 +71,7 @@ pub fn check<W: Writer>(
 
     // The file declares a board that can be set up, and this was said.
     ensures fits { OnOk result ((w : World) × Declares board.now w
-        × (first_broken (set_up_rules w.board w.apertures) ≡ None)
-        × Appends (W.written writer.old) (W.written writer.new) (fit_text w.board w.apertures)) }
+        × IsVerdictTold style name.now board.now w.board w.apertures None (W.written writer.old) (W.written writer.new)) }
     ensures flushed { OnOk result (W.flushed writer.new ≡ W.written writer.new) }
 
     // The file is refused: what breaks this check was told.
@@ -85,8 +81,8 @@ pub fn check<W: Writer>(
 
     // The board can't be set up, and this was told.
     ensures misfit { IfErr result (λ f. 199 < number_of f → number_of f < 299 →
-        (w : World) × Declares board.now w × (first_broken (set_up_rules w.board w.apertures) ≡ Some (number_of f))
-        × Appends (W.written writer.old) (W.written writer.new) (misfit_text name.now w.board w.apertures f)) }
+        (w : World) × Declares board.now w
+        × IsVerdictTold style name.now board.now w.board w.apertures (Some f) (W.written writer.old) (W.written writer.new)) }
 
     ensures told_flushed { IfErr result (λ f.
         number_of f < 299 → number_of f ≢ 199 → W.flushed writer.new ≡ W.written writer.new) }
@@ -99,7 +95,7 @@ pub fn check<W: Writer>(
     ensures failures { W.failures writer.new ≡ W.failures writer.old + write_faults result }
 {
     match read_board(alloc, board) {
-        Ok((host, _)) => judge(alloc, name, host, writer),
+        Ok((host, _)) => judge(alloc, style, name, board, host, writer),
         Err(fault) => refuse(alloc, style, name, board, fault, writer),
     }
 }

@@ -1,7 +1,6 @@
 //! Whether a board fits its apertures, and what is said of it.
-ghost use Rattle.std.specs.Prelude.{◌≡◌, ◌≢◌, ◌++◌, ◌⊎◌, ◌+◌, ◌-◌, ◌^◌, ◌<◌, ◌≤◌, true, false, None, Some, IfOk, OnOk, IfErr, IsErrOf, string_bytes};
+ghost use Rattle.std.specs.Prelude.{◌≡◌, ◌≢◌, ◌++◌, ◌⊎◌, ◌+◌, ◌-◌, ◌^◌, ◌<◌, ◌≤◌, true, false, None, Some, IfOk, OnOk, IfErr, IsErrOf, option_map, string_bytes, Option};
 ghost use Rattle.std.specs.Option.{option_map_or};
-ghost use Rattle.std.specs.Io.KnownBytes.{Appends};
 ghost use Rattle.model_registers.specs.DeclarationRules.{first_broken};
 ghost use Rattle.model_board.specs.Board.{Board};
 ghost use Rattle.model_board.specs.AtReset.{IsAtReset};
@@ -16,11 +15,13 @@ ghost use Rattle.bus_scan.specs.declared.fault.Fault.TheVariants.{Memory};
 ghost use Rattle.window_packing.specs.Plans.{named_pool};
 ghost use Rattle.window_packing.specs.Readies.{board_below};
 ghost use Rattle.simulation.specs.Faults.{number_of, of_set_up, write_faults, IsOfList};
-ghost use Rattle.simulation.specs.Fitting.{known_use_text, use_text, pool_text, fit_text, misfit_text, shortage_of, refusal_line, IsFitText};
+ghost use Rattle.simulation.specs.Fitting.{known_use_text, use_text, pool_text, fit_text, misfit_text, refusal_line, IsFitText, IsVerdict, IsVerdictTold};
 
 use crate::choice::print;
 use crate::fault::Fault;
 use crate::misfit::{Shortage, find_shortage, pool_words, push_number, refusal_line};
+use board_check::Style;
+use board_fit::warnings_text;
 use bus_scan::FunctionTable;
 use headers::Apertures;
 use host_bridge::Host;
@@ -94,87 +95,70 @@ fn fit_text(
     Ok(text)
 }
 
-/// Writes what is said of a board that can be set up.
-fn accept<W: Writer>(
-    alloc: Global,
-    table: &FunctionTable,
-    apertures: &Apertures,
-    writer: &mut W,
-) -> Result<(), Fault>
-    requires room { W.failures writer.old < 2 ^ 64 - 1 }
-    requires table { IsTableOf (board_in table.now) table.now }
-    ensures said { OnOk result ((b : Board) → IsTableOf b table.now
-        → Appends (W.written writer.old) (W.written writer.new) (fit_text b apertures.now)) }
-    ensures flushed { OnOk result (W.flushed writer.new ≡ W.written writer.new) }
-    ensures stopped { IsErrOf result Fault.Write → (b : Board) → IsTableOf b table.now →
-        AppendsPart (W.written writer.old) (W.written writer.new) (fit_text b apertures.now) }
-    ensures faults { IfErr result (λ f. (f ≡ Fault.SetUpMemory) ⊎ (f ≡ Fault.Write)) }
-    ensures memory { IfErr result (λ f. number_of f ≡ 299 → writer.new ≡ writer.old) }
-    ensures failures { W.failures writer.new ≡ W.failures writer.old + write_faults result }
-{
-    let Ok(text) = fit_text(alloc, table, apertures) else {
-        return Err(Fault::SetUpMemory);
-    };
-    print(text.as_str(), writer)
+/// What is said of a board, and the fault with which a check of it ends, if it does.
+#[derive(Drop)]
+struct Verdict {
+    text: String,
+    fault: Option<bus_scan::Fault>,
 }
 
-/// Writes why a board can't be set up, and answers the fault.
-fn decline<W: Writer>(
+/// Of a board that can be set up: how it fits, and what may be a mistake in its file.
+fn accept(
+    alloc: Global,
+    style: Style,
+    name: &str,
+    board: &[u8],
+    table: &FunctionTable,
+    apertures: &Apertures,
+) -> Result<Verdict, AllocError>
+    requires { IsTableOf (board_in table.now) table.now }
+    ensures fault { IfOk result (λ v. v.fault ≡ None) }
+    ensures text { IfOk result (λ v. (b : Board) → IsTableOf b table.now
+        → IsFitText style name.now board.now b apertures.now (string_bytes v.text)) }
+{
+    let mut text = fit_text(alloc, table, apertures)?;
+    let warnings = warnings_text(alloc, style, name, board, table, apertures)?;
+    text.push_str(warnings.as_str())?;
+    Ok(Verdict { text, fault: None })
+}
+
+/// Of a board that can't: its line. It fails where memory is out.
+fn decline(
     alloc: Global,
     name: &str,
     shortage: Option<Shortage>,
     fault: bus_scan::Fault,
-    writer: &mut W,
-) -> Result<(), Fault>
-    requires { W.failures writer.old < 2 ^ 64 - 1 }
-    ensures never { OnOk result ⊥ }
-    ensures fault { IfErr result (λ f. (f ≡ of_set_up fault) ⊎ (f ≡ Fault.SetUpMemory) ⊎ (f ≡ Fault.Write)) }
-    ensures told { IfErr result (λ f. number_of f < 299
-        → Appends (W.written writer.old) (W.written writer.new) (refusal_line name.now shortage f)) }
-    ensures flushed { IfErr result (λ f. number_of f < 299 → W.flushed writer.new ≡ W.written writer.new) }
-    ensures memory { IfErr result (λ f. number_of f ≡ 299 → writer.new ≡ writer.old) }
-    ensures known { IsErrOf result Fault.Write → fault ≢ Memory }
-    ensures stopped { IsErrOf result Fault.Write
-        → AppendsPart (W.written writer.old) (W.written writer.new) (refusal_line name.now shortage (of_set_up fault)) }
-    ensures failures { W.failures writer.new ≡ W.failures writer.old + write_faults result }
+) -> Result<Verdict, AllocError>
+    ensures known { IfOk result (λ v. fault ≢ Memory) }
+    ensures fault { IfOk result (λ v. v.fault ≡ Some fault) }
+    ensures text { IfOk result (λ v. string_bytes v.text ≡ refusal_line name.now shortage (of_set_up fault)) }
 {
     if fault == bus_scan::Fault::Memory {
-        return Err(Fault::SetUpMemory);
+        return Err(AllocError);
     }
-    let fault = Fault::from(fault);
-    let Ok(text) = refusal_line(alloc, name, shortage, fault) else {
-        return Err(Fault::SetUpMemory);
-    };
-    print(text.as_str(), writer)?;
-    Err(fault)
+    let text = refusal_line(alloc, name, shortage, Fault::from(fault))?;
+    Ok(Verdict {
+        text,
+        fault: Some(fault),
+    })
 }
 
 /// The same, by the table of its functions.
-fn reject<W: Writer>(
+fn reject(
     alloc: Global,
     name: &str,
     table: &FunctionTable,
     apertures: &Apertures,
     fault: bus_scan::Fault,
-    writer: &mut W,
-) -> Result<(), Fault>
-    requires room { W.failures writer.old < 2 ^ 64 - 1 }
-    requires table { IsTableOf (board_in table.now) table.now }
-    ensures never { OnOk result ⊥ }
-    ensures fault { IfErr result (λ f. (f ≡ of_set_up fault) ⊎ (f ≡ Fault.SetUpMemory) ⊎ (f ≡ Fault.Write)) }
-    ensures told { IfErr result (λ f. number_of f < 299 → (b : Board) → IsTableOf b table.now →
-        Appends (W.written writer.old) (W.written writer.new) (misfit_text name.now b apertures.now f)) }
-    ensures flushed { IfErr result (λ f. number_of f < 299 → W.flushed writer.new ≡ W.written writer.new) }
-    ensures memory { IfErr result (λ f. number_of f ≡ 299 → writer.new ≡ writer.old) }
-    ensures known { IsErrOf result Fault.Write → fault ≢ Memory }
-    ensures stopped { IsErrOf result Fault.Write → (b : Board) → IsTableOf b table.now →
-        AppendsPart (W.written writer.old) (W.written writer.new) (misfit_text name.now b apertures.now (of_set_up fault)) }
-    ensures failures { W.failures writer.new ≡ W.failures writer.old + write_faults result }
+) -> Result<Verdict, AllocError>
+    requires { IsTableOf (board_in table.now) table.now }
+    ensures known { IfOk result (λ v. fault ≢ Memory) }
+    ensures fault { IfOk result (λ v. v.fault ≡ Some fault) }
+    ensures text { IfOk result (λ v. (b : Board) → IsTableOf b table.now
+        → string_bytes v.text ≡ misfit_text name.now b apertures.now (of_set_up fault)) }
 {
-    let Ok(shortage) = find_shortage(alloc, table, apertures, Fault::from(fault)) else {
-        return Err(Fault::SetUpMemory);
-    };
-    decline(alloc, name, shortage, fault, writer)
+    let shortage = find_shortage(alloc, table, apertures, Fault::from(fault))?;
+    decline(alloc, name, shortage, fault)
 }
 
 /// Whether a board with this table can be set up.
@@ -193,63 +177,78 @@ fn can_be_placed(
     Ok(())
 }
 
-/// Writes whether a board with this table fits the apertures, and flushes once.
-fn fit<W: Writer>(
+/// What is said of a board with this table.
+fn fit(
     alloc: Global,
+    style: Style,
     name: &str,
+    board: &[u8],
     table: &FunctionTable,
     apertures: &Apertures,
-    writer: &mut W,
-) -> Result<(), Fault>
-    requires room { W.failures writer.old < 2 ^ 64 - 1 }
-    requires table { IsTableOf (board_in table.now) table.now }
-    ensures fits { OnOk result ((b : Board) → IsTableOf b table.now
-        → (first_broken (set_up_rules b apertures.now) ≡ None)
-        × Appends (W.written writer.old) (W.written writer.new) (fit_text b apertures.now)) }
-    ensures flushed { OnOk result (W.flushed writer.new ≡ W.written writer.new) }
-    ensures misfit { IfErr result (λ f. number_of f < 299 → (b : Board) → IsTableOf b table.now →
-        (first_broken (set_up_rules b apertures.now) ≡ Some (number_of f))
-        × Appends (W.written writer.old) (W.written writer.new) (misfit_text name.now b apertures.now f)) }
-    ensures told_flushed { IfErr result (λ f. number_of f < 299 → W.flushed writer.new ≡ W.written writer.new) }
-    ensures stopped { IsErrOf result Fault.Write → (b : Board) → IsTableOf b table.now → (text : Text)
-        × IsFitText name.now b apertures.now text × AppendsPart (W.written writer.old) (W.written writer.new) text }
-    ensures faults { IfErr result (λ f. (201 ≤ number_of f) × IsOfList f) }
-    ensures memory { IfErr result (λ f. number_of f ≡ 299 → writer.new ≡ writer.old) }
-    ensures failures { W.failures writer.new ≡ W.failures writer.old + write_faults result }
+) -> Result<Verdict, AllocError>
+    requires { IsTableOf (board_in table.now) table.now }
+    ensures known { IfOk result (λ v. v.fault ≢ Some Memory) }
+    ensures verdict { IfOk result (λ v. (b : Board) → IsTableOf b table.now
+        → IsVerdict style name.now board.now b apertures.now (option_map of_set_up v.fault) (string_bytes v.text)) }
 {
     match can_be_placed(alloc, table, apertures) {
-        Ok(()) => accept(alloc, table, apertures, writer),
-        Err(fault) => reject(alloc, name, table, apertures, fault, writer),
+        Ok(()) => accept(alloc, style, name, board, table, apertures),
+        Err(fault) => reject(alloc, name, table, apertures, fault),
     }
 }
 
-/// Writes whether the board of a host at reset can be set up, and how much of each aperture its pools
-/// take, and flushes once.
+/// What is said of the board of a host at reset.
+fn decide(
+    alloc: Global,
+    style: Style,
+    name: &str,
+    board: &[u8],
+    host: Host,
+) -> Result<Verdict, AllocError>
+    requires { IsAtReset host.state }
+    ensures known { IfOk result (λ v. v.fault ≢ Some Memory) }
+    ensures verdict { IfOk result (λ v. IsVerdict style name.now board.now (board_below host) host.apertures
+        (option_map of_set_up v.fault) (string_bytes v.text)) }
+{
+    let mut host = host;
+    match enumerate(alloc, &mut host) {
+        Ok(table) => fit(alloc, style, name, board, &table, &host.apertures()),
+        Err(fault) => decline(alloc, name, None, fault),
+    }
+}
+
+/// Writes whether the board of a host at reset can be set up, how much of each aperture its pools take
+/// and what may be a mistake in its file, which has these bytes, and flushes once.
 pub(crate) fn judge<W: Writer>(
     alloc: Global,
+    style: Style,
     name: &str,
+    board: &[u8],
     host: Host,
     writer: &mut W,
 ) -> Result<(), Fault>
     requires room { W.failures writer.old < 2 ^ 64 - 1 }
     requires reset { IsAtReset host.state }
-    ensures fits { OnOk result ((first_broken (set_up_rules (board_below host) host.apertures) ≡ None)
-        × Appends (W.written writer.old) (W.written writer.new) (fit_text (board_below host) host.apertures)) }
+    ensures fits { OnOk result (IsVerdictTold style name.now board.now (board_below host) host.apertures None
+        (W.written writer.old) (W.written writer.new)) }
     ensures flushed { OnOk result (W.flushed writer.new ≡ W.written writer.new) }
     ensures misfit { IfErr result (λ f. number_of f < 299 →
-        (first_broken (set_up_rules (board_below host) host.apertures) ≡ Some (number_of f))
-        × Appends (W.written writer.old) (W.written writer.new) (misfit_text name.now (board_below host) host.apertures f)) }
+        IsVerdictTold style name.now board.now (board_below host) host.apertures (Some f)
+        (W.written writer.old) (W.written writer.new)) }
     ensures told_flushed { IfErr result (λ f. number_of f < 299 → W.flushed writer.new ≡ W.written writer.new) }
-    ensures stopped { IsErrOf result Fault.Write
-        → (text : Text) × IsFitText name.now (board_below host) host.apertures text
+    ensures stopped { IsErrOf result Fault.Write → (fault : Option Fault) × (text : Text)
+        × IsVerdict style name.now board.now (board_below host) host.apertures fault text
         × AppendsPart (W.written writer.old) (W.written writer.new) text }
     ensures faults { IfErr result (λ f. (201 ≤ number_of f) × IsOfList f) }
     ensures memory { IfErr result (λ f. number_of f ≡ 299 → writer.new ≡ writer.old) }
     ensures failures { W.failures writer.new ≡ W.failures writer.old + write_faults result }
 {
-    let mut host = host;
-    match enumerate(alloc, &mut host) {
-        Ok(table) => fit(alloc, name, &table, &host.apertures(), writer),
-        Err(fault) => decline(alloc, name, None, fault, writer),
+    let Ok(verdict) = decide(alloc, style, name, board, host) else {
+        return Err(Fault::SetUpMemory);
+    };
+    print(verdict.text.as_str(), writer)?;
+    match verdict.fault {
+        None => Ok(()),
+        Some(fault) => Err(Fault::from(fault)),
     }
 }

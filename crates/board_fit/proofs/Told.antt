@@ -1,0 +1,7 @@
+-- What is told, by the parts that say it.
+use Rattle.std.proofs.Common.{Result, Ok, Err}
+use Rattle.std.specs.Prelude.{IfOk}
+
+pub if_ok-map : {T E : Type 0} (r : Result T E) (P Q : T → Type 0) → ((t : T) → P t → Q t) → IfOk r P → IfOk r Q
+if_ok-map (Ok x) P Q f h = f x h
+if_ok-map (Err e) P Q f h = tt

@@ -1,0 +1,48 @@
+-- What is told of a board file whose board is judged.
+--     warning_text      the line of a remark: FILE:LINE: warning: ENTRY.KEY = VALUE: what is said
+--     told_text      the same, with the line of the file below it where that is asked
+--     IsLocated text ms l      the place of a remark, where there is one, is that of the value at its key
+--     AreWarnings style name bytes b a text      a line for each thing that may be a mistake in the file with these
+--                                                bytes and in its board, in order
+use Rattle.std.specs.Prelude.{◌≡◌, ℕ, List, ◌++◌, codes, map, flat_map, Some, IfSome}
+use Rattle.toml.specs.Data.{Members}
+use Rattle.toml.specs.Parse.{parse_document}
+use Rattle.lists.specs.Elements.{Each}
+use Rattle.model_registers.specs.Apertures.{Apertures}
+use Rattle.model_board.specs.Board.{Board}
+use Rattle.board_file.specs.Entries.{file}
+use Rattle.board_check.specs.Lines.{IsPlaceOf, line_at}
+use Rattle.board_check.specs.Texts.{line_text, below_text}
+use Rattle.board_check.specs.declared.style.Style.{Style}
+use Rattle.board_check.specs.declared.style.Style.TheVariants.{Plain, WithExcerpts}
+use Rattle.board_fit.specs.declared.remark.Remark.{Remark}
+use Rattle.board_fit.specs.declared.located.Located.{Located}
+use Rattle.board_fit.specs.Warnings.{warnings}
+use Rattle.board_fit.specs.Texts.{entry_of, key_of, said_text}
+
+abbrev pub warning_text : List ℕ → Members → Located → List ℕ
+warning_text name ms l = name ++ line_text (line_at l.place) ++ codes ": warning: " ++ said_text ms l.remark
+
+abbrev pub below_remark_text : Members → List ℕ → Located → List ℕ
+below_remark_text ms bytes l = below_text ms bytes (entry_of l.remark) (key_of l.remark) l.place
+
+abbrev pub told_text : Style → List ℕ → Members → List ℕ → Located → List ℕ
+told_text Plain name ms bytes l = warning_text name ms l
+told_text WithExcerpts name ms bytes l = warning_text name ms l ++ below_remark_text ms bytes l
+
+abbrev pub remark_of : Located → Remark
+remark_of l = l.remark
+
+abbrev pub IsLocated : List ℕ → Members → Located → Type 0
+IsLocated text ms l = IfSome l.place (IsPlaceOf text ms (entry_of l.remark) (key_of l.remark))
+
+pub record AreTold (style : Style) (name bytes : List ℕ) (ms : Members) (rs : List Remark) (text : List ℕ) : Type 0 where
+  pub located : List Located
+  pub are_all : map remark_of located ≡ rs
+  pub have_places : Each (IsLocated bytes ms) located
+  pub is_text : text ≡ flat_map (told_text style name ms bytes) located
+
+pub record AreWarnings (style : Style) (name bytes : List ℕ) (b : Board) (a : Apertures) (text : List ℕ) : Type 0 where
+  pub document : Members
+  pub parsed : parse_document bytes ≡ Some document
+  pub told : AreTold style name bytes document (warnings (file document) b a) text

@@ -1,0 +1,100 @@
+-- What may be a mistake in a board file whose board can be set up, and is no fault.
+--     has_none_behind      of these functions none stands on the bus behind the bridge at a path
+--     is_given      one of the guests has the function at a path in a slot
+--     is_wide      the aperture of a pool is more than ten times what the pool uses, and it uses something
+--     empty_bridges, endpoints_of_none (where the file has guests), guests_without_slots, wide_apertures      all of which this is so, in order
+--     warnings      all of these
+use Rattle.std.specs.Prelude.{ℕ, ◌+◌, ◌-◌, ◌*◌, ◌==◌, Bool, false, not, ◌&&◌, nat_lt, List, [], ◌∷◌, ◌++◌, length, map, flat_map, Option, Some, None, if◌then◌else◌}
+use Rattle.std.specs.List.{list_all, list_any, enumerate_from}
+use Rattle.model_registers.specs.Apertures.{Aperture, Apertures}
+use Rattle.model_board.specs.Board.{Board}
+use Rattle.model_board.specs.Paths.{Path, path_eq, parent}
+use Rattle.model_set_up.specs.Pools.{aperture_of}
+use Rattle.board_file.specs.Entries.{Endpoint, Bridge, Guest, File}
+use Rattle.board_file.specs.EntryRules.{are_same_place}
+use Rattle.board_file.specs.PathTexts.{path_at}
+use Rattle.window_packing.specs.declared.pool.Pool.{Pool}
+use Rattle.window_packing.specs.declared.pool.Pool.TheVariants.{Io, Mem, Pref}
+use Rattle.window_packing.specs.declared.uses.PoolUse.{PoolUse}
+use Rattle.window_packing.specs.Plans.{named_pool}
+use Rattle.window_packing.specs.Uses.{told_use}
+use Rattle.board_fit.specs.declared.remark.Remark.{Remark}
+use Rattle.board_fit.specs.declared.remark.Remark.TheVariants as remark
+
+abbrev pub if_so : Bool → Remark → List Remark
+if_so holds r = if holds then r ∷ [] else []
+
+-- ---- bridges
+
+abbrev pub endpoint_path : Endpoint → Path
+endpoint_path e = path_at e.at
+
+abbrev pub bridge_path : Bridge → Path
+bridge_path b = path_at b.at
+
+abbrev pub all_paths : File → List Path
+all_paths f = map endpoint_path f.endpoints ++ map bridge_path f.bridges
+
+-- on the bus behind a bridge
+abbrev pub is_behind : Path → Path → Bool
+is_behind bridge p = path_eq bridge (parent p)
+
+abbrev pub has_none_behind : List Path → Path → Bool
+has_none_behind paths bridge = list_all (λ p. not (is_behind bridge p)) paths
+
+abbrev pub empty_bridge : List Path → ℕ × Bridge → List Remark
+empty_bridge paths (i, b) = if_so (has_none_behind paths (bridge_path b)) (remark.EmptyBridge i)
+
+abbrev pub empty_bridges : File → List Remark
+empty_bridges f = flat_map (empty_bridge (all_paths f)) (enumerate_from 0 f.bridges)
+
+-- ---- endpoints
+
+abbrev pub has_as_slot : List ℕ → Guest → Bool
+has_as_slot at g = list_any (λ s. are_same_place s at) g.slots
+
+abbrev pub is_given : List Guest → List ℕ → Bool
+is_given gs at = list_any (has_as_slot at) gs
+
+abbrev pub endpoint_of_none : List Guest → ℕ × Endpoint → List Remark
+endpoint_of_none gs (i, e) = if_so (not (is_given gs e.at)) (remark.EndpointOfNone i)
+
+abbrev pub all_endpoints_of_none : File → List Remark
+all_endpoints_of_none f = flat_map (endpoint_of_none f.guests) (enumerate_from 0 f.endpoints)
+
+-- a file without guests is for none
+abbrev pub endpoints_of_none : File → List Remark
+endpoints_of_none f = if length f.guests == 0 then [] else all_endpoints_of_none f
+
+-- ---- guests
+
+abbrev pub guest_without_slots : ℕ × Guest → List Remark
+guest_without_slots (i, g) = if_so (length g.slots == 0) (remark.GuestWithoutSlots i)
+
+abbrev pub guests_without_slots : File → List Remark
+guests_without_slots f = flat_map guest_without_slots (enumerate_from 0 f.guests)
+
+-- ---- apertures
+
+-- an aperture has the addresses from its first to its last
+abbrev pub is_wide_use : Aperture → PoolUse → Bool
+is_wide_use a u = not (u.extent == 0) && nat_lt (u.extent * 10) (a.last + 1 - a.first)
+
+abbrev pub is_wide_for : Option Aperture → Option PoolUse → Bool
+is_wide_for (Some a) (Some u) = is_wide_use a u
+is_wide_for (Some a) None = false
+is_wide_for None u = false
+
+abbrev pub is_wide : Board → Apertures → Pool → Bool
+is_wide b a pool = is_wide_for (aperture_of a (named_pool pool)) (told_use b a (named_pool pool))
+
+abbrev pub wide_aperture : Board → Apertures → Pool → List Remark
+wide_aperture b a pool = if_so (is_wide b a pool) (remark.WideAperture pool)
+
+abbrev pub wide_apertures : Board → Apertures → List Remark
+wide_apertures b a = wide_aperture b a Io ++ wide_aperture b a Mem ++ wide_aperture b a Pref
+
+-- ---- all
+
+abbrev pub warnings : File → Board → Apertures → List Remark
+warnings f b a = empty_bridges f ++ endpoints_of_none f ++ guests_without_slots f ++ wide_apertures b a

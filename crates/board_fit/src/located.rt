@@ -1,0 +1,43 @@
+//! The places of remarks.
+ghost use Rattle.std.specs.Prelude.{◌≡◌, IfOk, map};
+ghost use Rattle.toml.specs.View.{table_view};
+ghost use Rattle.lists.specs.Elements.{Each};
+ghost use Rattle.board_fit.specs.Telling.{remark_of, IsLocated};
+
+use crate::remark::Remark;
+use board_check::place_of;
+use std::alloc::{AllocError, Global};
+use value_places::{Place, Places};
+
+/// A remark, and its place, where that is known and was confirmed.
+#[derive(Clone, Copy, Debug)]
+pub struct Located {
+    pub remark: Remark,
+    pub place: Option<Place>,
+}
+
+/// A remark with its place.
+fn locate(alloc: Global, places: &Places<'_>, remark: Remark) -> Result<Located, AllocError>
+    ensures same { IfOk result (λ l. l.remark ≡ remark) }
+    ensures place { IfOk result (IsLocated places.now.text.now (table_view places.now.document.now)) }
+{
+    let place = place_of(alloc, places, remark.entry(), remark.key())?;
+    Ok(Located { remark, place })
+}
+
+/// The remarks with their places.
+pub(crate) fn with_places(
+    alloc: Global,
+    places: &Places<'_>,
+    remarks: &[Remark],
+) -> Result<Vec<Located>, AllocError>
+    ensures same { IfOk result (λ v. map remark_of v.items ≡ remarks.now) }
+    ensures places { IfOk result (λ v.
+        Each (IsLocated places.now.text.now (table_view places.now.document.now)) v.items) }
+{
+    let mut all = Vec::new(alloc);
+    'remarks: for remark in remarks {
+        all.push(locate(alloc, places, *remark)?)?;
+    }
+    Ok(all)
+}

@@ -1,0 +1,92 @@
+//! What is told of a board file whose board is judged.
+ghost use Rattle.std.specs.Prelude.{◌≡◌, IfOk, Some, string_bytes};
+ghost use Rattle.toml.specs.Parse.{parse_document};
+ghost use Rattle.toml.specs.View.{table_view};
+ghost use Rattle.model_board.specs.Board.{Board};
+ghost use Rattle.model_set_up.specs.FunctionTable.{board_in};
+ghost use Rattle.bus_scan.specs.SizedTables.{IsTableOf};
+ghost use Rattle.board_file.specs.Entries.{file};
+ghost use Rattle.board_fit.specs.Warnings.{warnings};
+ghost use Rattle.board_fit.specs.Telling.{AreTold, AreWarnings};
+
+use crate::located::with_places;
+use crate::remark::Remark;
+use crate::texts::push_remarks;
+use crate::warnings::warnings;
+use board_check::Style;
+use board_file::reading::read_entries;
+use bus_scan::FunctionTable;
+use headers::Apertures;
+use std::alloc::{AllocError, Global};
+use toml::Table;
+use value_places::Places;
+
+/// How a file is told of: the style, what the file is called, and its bytes.
+#[derive(Clone, Copy)]
+pub(crate) struct Telling<'a> {
+    pub(crate) style: Style,
+    pub(crate) name: &'a str,
+    pub(crate) bytes: &'a [u8],
+}
+
+/// What is told of remarks on a document.
+fn told_text(
+    alloc: Global,
+    telling: &Telling<'_>,
+    document: &Table,
+    remarks: &[Remark],
+) -> Result<String, AllocError>
+    ensures { let t = telling.now in IfOk result (λ text.
+        AreTold t.style t.name.now t.bytes.now (table_view document.now) remarks.now (string_bytes text)) }
+{
+    let places = Places::new(alloc, telling.bytes, document)?;
+    let located = with_places(alloc, &places, remarks)?;
+    let mut text = String::new(alloc);
+    push_remarks(alloc, &mut text, telling, document, &located)?;
+    Ok(text)
+}
+
+/// The warnings of a document.
+fn document_warnings(
+    alloc: Global,
+    telling: &Telling<'_>,
+    document: &Table,
+    table: &FunctionTable,
+    apertures: &Apertures,
+) -> Result<String, AllocError>
+    requires { IsTableOf (board_in table.now) table.now }
+    ensures { let t = telling.now in IfOk result (λ text. (b : Board) → IsTableOf b table.now
+        → AreTold t.style t.name.now t.bytes.now (table_view document.now)
+        (warnings (file (table_view document.now)) b apertures.now) (string_bytes text)) }
+{
+    let file = read_entries(alloc, document)?;
+    let warnings = warnings(alloc, &file, table, apertures)?;
+    told_text(alloc, telling, document, &warnings)
+}
+
+/// What may be a mistake in a board file that was accepted, and is no fault: a line for each bridge with
+/// nothing behind it, each endpoint in no slot where the file has guests, each guest without slots, and each
+/// aperture of more than ten times what its pool uses, where it uses something; in this order, and of each
+/// kind in the order of the file. `name` is what the file is called, and the table is that of its board.
+/// With excerpts the line of the file stands below each. It fails where memory is out, and where the bytes
+/// are no document.
+pub fn warnings_text(
+    alloc: Global,
+    style: Style,
+    name: &str,
+    bytes: &[u8],
+    table: &FunctionTable,
+    apertures: &Apertures,
+) -> Result<String, AllocError>
+    requires { IsTableOf (board_in table.now) table.now }
+
+    // Of whatever board this is the table.
+    ensures { IfOk result (λ t. (b : Board) → IsTableOf b table.now
+        → AreWarnings style name.now bytes.now b apertures.now (string_bytes t)) }
+{
+    let telling = Telling { style, name, bytes };
+    match toml::table_from_slice(alloc, bytes) {
+        Ok(document) => document_warnings(alloc, &telling, &document, table, apertures),
+        Err(_) => Err(AllocError),
+    }
+}

@@ -1,0 +1,66 @@
+"""What a check says of a board file that is accepted, by docs/FORMATS.md: how much of each aperture the board takes, and
+what may be a mistake."""
+from board import Bar, Board, Bridge, Endpoint
+from placement import Layout, up
+from rules import Problem, entries, problem
+
+POOLS = {"io": "I/O pool", "mem": "memory pool", "pref": "prefetchable pool"}
+
+
+def path_of(text):
+    return tuple(tuple(map(int, part.split("."))) for part in text.split("/"))
+
+
+def board_of(document):
+    """The board of a document that is accepted."""
+    endpoints = [Endpoint(path_of(one["at"]), one, [Bar(bar["index"], bar["kind"], bar["size"], 0, {})
+                                                    for bar in one.get("bar", [])], [])
+                 for one in document.get("endpoint", [])]
+    bridges = [Bridge(path_of(one["at"]), one, one["io"], one["pref"]) for one in document.get("bridge", [])]
+    functions = sorted(endpoints + bridges, key=lambda function: function.path)
+    return Board(document["host"], functions, [])
+
+
+def pool_line(layout, pool):
+    """How much of its aperture a pool takes."""
+    if pool not in layout.board.apertures:
+        return f"{POOLS[pool]}: no aperture"
+    end, alignment = layout.pack((), pool)
+    first, last = layout.board.apertures[pool]
+    at = up(first, alignment)
+    return f"{POOLS[pool]}: {end:#x} of {last + 1 - at:#x} bytes used, from {at:#x} on"
+
+
+def warning(entry, key, words):
+    """What may be a mistake: a line as that of a problem, without the number of a fault."""
+    told = problem(entry, key, words, 102)
+    text = "warning: " + told.text.removesuffix(" (102 key)")
+    return Problem(text, told.table, told.outer, None, told.entry, key, words, 0)
+
+
+def warnings_of(document, layout):
+    """All that may be a mistake, in order."""
+    every, found = list(entries(document)), []
+    paths = {path_of(entry.values["at"]) for entry in every if entry.kind in {"endpoint", "bridge"}}
+    slots = {path_of(entry.values[""]) for entry in every if entry.kind == "slot"}
+    for entry in every:
+        if entry.kind == "bridge" and not any(path[:-1] == path_of(entry.values["at"]) for path in paths):
+            found.append(warning(entry, "at", "nothing stands behind it"))
+    for entry in every:
+        if entry.kind == "endpoint" and document.get("guest") and path_of(entry.values["at"]) not in slots:
+            found.append(warning(entry, "at", "is in no slot of a guest"))
+    found += [warning(entry, "name", "has no slots") for entry in every
+              if entry.kind == "guest" and not entry.values["slots"]]
+    host = next(entry for entry in every if entry.kind == "host")
+    for pool in POOLS:
+        if pool in document["host"]:
+            (first, last), (end, _) = document["host"][pool], layout.pack((), pool)
+            if 0 < 10 * end < last + 1 - first:
+                found.append(warning(host, pool, "is more than ten times what its pool uses"))
+    return found
+
+
+def judged(document):
+    """The first lines of a check, and the warnings after them."""
+    layout = Layout(board_of(document))
+    return ["ok"] + [pool_line(layout, pool) for pool in POOLS], warnings_of(document, layout)
