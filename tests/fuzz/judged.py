@@ -35,7 +35,7 @@ def warning(entry, key, words):
     """What may be a mistake: a line as that of a problem, without the number of a fault."""
     told = problem(entry, key, words, 102)
     text = "warning: " + told.text.removesuffix(" (102 key)")
-    return Problem(text, told.table, told.outer, None, told.entry, key, words, 0)
+    return Problem(text, told.table, told.outer, [], told.entry, key, words, 0)
 
 
 def warnings_of(document, layout):

@@ -114,24 +114,28 @@ def allowed_lines(where, table, key):
     return lines or {None}
 
 
-def without_other(text):
-    """What a line says without the line of an earlier entry, and that line."""
-    found = re.search(r" in line (\d+)(?= \(\d+ [A-Za-z ]+\)$)", text)
-    return (text[:found.start()] + text[found.end():], int(found[1])) if found else (text, None)
+IN_LINE = re.compile(r" in line (\d+)(?= \(\d+ [A-Za-z ]+\)$| takes a register of | is of a 64-bit kind)")
+
+
+def without_others(text):
+    """What a line says without the lines of other entries, and these lines."""
+    return IN_LINE.sub("", text), [int(line) for line in IN_LINE.findall(text)]
 
 
 def differs(lines, told, problems):
     """What is wrong with the lines that a check told, if anything is."""
     where, numbers, wanted = lines_of_keys(lines), [], {problem.text: problem for problem in problems}
     if len(told) != len(wanted):
-        missing = wanted.keys() - {without_other(text)[0] for _, text in told}
+        missing = wanted.keys() - {without_others(text)[0] for _, text in told}
         return f"{len(told)} lines for {len(wanted)}: {missing or told}"
     for number, line in told:
-        text, other = without_other(line)
+        text, others = without_others(line)
         if text not in wanted:
             return f"not wanted: {text}"
         problem = wanted[text]
-        places = [(number, problem.table, problem.outer)] + ([(other, *problem.other)] if problem.other else [])
+        if len(others) != len(problem.others):
+            return f"{len(others)} other lines, not {len(problem.others)}: {line}"
+        places = [(number, problem.table, problem.outer), *((one, *at) for one, at in zip(others, problem.others))]
         for given, table, key in places:
             if given not in allowed_lines(where, table, key):
                 return f"line {given}, not {allowed_lines(where, table, key)}: {line}"

@@ -27,12 +27,12 @@ SIZES = {"io": (4, 256), "mem32": (16, 1 << 31), "mem32p": (16, 1 << 31), "mem64
 
 @dataclass
 class Problem:
-    """What a line says, the table with a header that it is about, and the key of that table; the same place of an
-    earlier entry that it names; and the entry, its key, what is wrong, and the number of the check."""
+    """What a line says, the table with a header that it is about, and the key of that table; the same places of the
+    other entries that it names; and the entry, its key, what is wrong, and the number of the check."""
     text: str
     table: tuple
     outer: str
-    other: tuple | None
+    others: list
     entry: str
     key: str
     words: str
@@ -103,15 +103,15 @@ def entries(document):
             yield Entry("slot", f"guest[{index}].slots[{inner}]", {"": slot}, table, "slots", owner)
 
 
-def problem(entry, key, words, number, other=None):
+def problem(entry, key, words, number, *others):
     value = entry.values.get(key)
     shown = f" = {value}" if is_integer(value) else f' = "{value}"' if isinstance(value, str) else ""
     owner = "" if entry.owner is None or key in {"at", "name"} else f' of "{entry.owner}"'
     place = f"{entry.name}.{key}" if key else entry.name
-    beside = f": {other.name}" if other else ""
+    beside = ": " + " takes a register of ".join(other.name for other in others) if others else ""
     text = f"{place}{shown}{owner}: {words}{beside} ({number} {WORDS[number]})"
-    return Problem(text, entry.table, entry.outer or key, other and (other.table, other.outer or key), entry.name, key,
-                   words, number)
+    named = [(other.table, other.outer or key) for other in others]
+    return Problem(text, entry.table, entry.outer or key, named, entry.name, key, words, number)
 
 
 FORMS = {"host": "a table, its header in brackets", "slots": "texts in brackets, each in quotes",
@@ -242,16 +242,35 @@ def place_problems(every):
         earlier.setdefault(at, entry)
 
 
+WIDE = " is of a 64-bit kind, which takes two registers, and begins at the last"
+
+
 def register_problems(every):
     for entry in every:
         if entry.kind == "bar" and not 0 <= entry.values["index"] <= 5:
             yield problem(entry, "index", "is not from 0 to 5", 106)
         if entry.kind == "endpoint":
-            used = [bar["index"] + more for bar in entry.values.get("bar", [])
-                    for more in range(2 if bar["kind"].startswith("mem64") else 1)]
-            lawful = all(0 <= bar["index"] <= 5 for bar in entry.values.get("bar", []))
-            if lawful and (len(used) != len(set(used)) or 6 in used):
-                yield problem(entry, "bar", "a register is used twice, or a 64-bit kind has index 5", 106)
+            bars = [bar for bar in every if bar.kind == "bar" and bar.table == entry.table]
+            if all(0 <= bar.values["index"] <= 5 for bar in bars):
+                yield from own_registers(entry, bars)
+
+
+def own_registers(entry, bars):
+    """The first region that takes a register of an earlier one, or has no second register."""
+    taken = {}
+    for bar in bars:
+        registers = [bar.values["index"] + more for more in range(2 if bar.values["kind"].startswith("mem64") else 1)]
+        met = [taken[register] for register in registers if register in taken]
+        words = "not each region has registers of its own"
+        if met:
+            yield problem(entry, "bar", words, 106, bar, min(met, key=bars.index))
+            return
+        if 6 in registers:
+            told = problem(entry, "bar", words, 106, bar)
+            told.text = told.text.removesuffix(" (106 register)") + WIDE + " (106 register)"
+            yield told
+            return
+        taken |= dict.fromkeys(registers, bar)
 
 
 def size_cause(kind, size):
@@ -339,22 +358,34 @@ def aperture_problems(every):
             yield problem(host, "pref", f"is no lawful aperture{why}", 111)
 
 
-def has_masks(values):
-    """Whether the patterns of a block are lawful: none is longer, and no bit is in both masks."""
+def pattern_cause(length, text):
+    """Why a text is no pattern of a block, if it is none."""
+    rules = [("begins with 0x, write the digits alone", not text.startswith("0x")),
+             ("has a character that is no hexadecimal digit", re.fullmatch(r"[0-9a-fA-F]*", text)),
+             ("has an odd number of digits, a byte has two", len(text) % 2 == 0), ("is empty", text),
+             ("has bytes, and block is missing or 0", length), ("has more bytes than block", len(text) <= 2 * length)]
+    return next((words for words, is_kept in rules if not is_kept), None)
+
+
+def mask_cause(values):
+    """Why the patterns of a block aren't lawful, if they aren't: one is no pattern, or a bit is in both masks."""
     length, given = values.get("block", 0), {}
     for key in ["reset", "rw", "w1c"]:
         text = values.get(key)
-        if text is not None and not (re.fullmatch(r"([0-9a-fA-F]{2})+", text) and len(text) <= 2 * length):
-            return False
+        why = None if text is None else pattern_cause(length, text)
+        if why:
+            return f"{key} {why}"
         given[key] = bytes.fromhex(text) if text else b"\0"
-    return not any(given["rw"][n % len(given["rw"])] & given["w1c"][n % len(given["w1c"])] for n in range(length))
+    meet = any(given["rw"][n % len(given["rw"])] & given["w1c"][n % len(given["w1c"])] for n in range(length))
+    return "a bit is in both rw and w1c" if meet else None
 
 
 def mask_problems(every):
     earlier = {}
     for entry in every:
-        if entry.kind in {"bar", "config"} and not has_masks(entry.values):
-            yield problem(entry, "block", "patterns that are not lawful", 112)
+        why = mask_cause(entry.values) if entry.kind in {"bar", "config"} else None
+        if why:
+            yield problem(entry, "block", f"patterns that are not lawful: {why}", 112)
         if entry.kind == "config":
             begin, blocks = entry.values["off"], earlier.setdefault(entry.table, [])
             end = begin + entry.values["block"]

@@ -2,7 +2,8 @@
 --     path_cause_text      what is said of the path of a function
 --     own_text      what is said of an entry that breaks a rule at a key
 --     other_text      the earlier entry that has what it asks for, with its line
---     cause_text      both
+--     taker_text      the region without registers of its own and the one that it meets, with their lines
+--     cause_text      all of this
 use Rattle.std.specs.Prelude.{ℕ, List, [], ◌++◌, codes, Option, Some, None}
 use Rattle.std.specs.Option.{option_map_or}
 use Rattle.model_board.specs.Places.{Standing}
@@ -18,8 +19,9 @@ use Rattle.board_check.specs.Lines.{line_at}
 use Rattle.board_check.specs.KeyCauses.{known_text, asked_text}
 use Rattle.board_check.specs.SizeCauses.{bar_text}
 use Rattle.board_check.specs.ApertureCauses.{first_words, io_parts, mem_parts, pref_text}
+use Rattle.board_check.specs.PatternCauses.{bar_masks_text, config_masks_text}
 use Rattle.board_check.specs.PathCauses.{path_form_text, bridge_text, zero_text}
-use Rattle.board_check.specs.Said.{bar_of, at_of}
+use Rattle.board_check.specs.Said.{bar_of, config_of, at_of}
 use Rattle.board_check.specs.Shown.{entry_text, in_line_text}
 
 abbrev pub at_text : List Standing → Rule → List ℕ → List ℕ
@@ -31,10 +33,16 @@ at_text ss _ at = []
 abbrev pub path_cause_text : File → Entry → Rule → List ℕ
 path_cause_text f e r = option_map_or (at_text (standings f) r) (at_of f e) []
 
+-- the patterns of a region or of a block of own registers
+abbrev pub patterns_text : File → Entry → List ℕ
+patterns_text f e = option_map_or bar_masks_text (bar_of f e) (option_map_or config_masks_text (config_of f e) [])
+
 abbrev pub own_text : File → Entry → Rule → List ℕ → List ℕ
 own_text f e rule.Known k = known_text (level_of e) k
 own_text f e rule.Form k = asked_text (level_of e) k
 own_text f e rule.Size k = option_map_or bar_text (bar_of f e) []
+own_text f e rule.BarMasks k = patterns_text f e
+own_text f e rule.ConfigMasks k = patterns_text f e
 own_text f e rule.IoAperture k = first_words (io_parts f.io)
 own_text f e rule.MemAperture k = first_words (mem_parts f.mem)
 own_text f e rule.PrefAperture k = pref_text f.mem f.pref
@@ -43,9 +51,24 @@ own_text f e rule.BehindBridge k = path_cause_text f e rule.BehindBridge
 own_text f e rule.FunctionZero k = path_cause_text f e rule.FunctionZero
 own_text f e _ k = []
 
+abbrev pub named_text : Other → List ℕ
+named_text o = entry_text o.entry ++ in_line_text (line_at o.place)
+
 abbrev pub other_text : Option Other → List ℕ
 other_text None = []
-other_text (Some o) = codes ": " ++ entry_text o.entry ++ in_line_text (line_at o.place)
+other_text (Some o) = codes ": " ++ named_text o
+
+-- why a region has no registers of its own
+abbrev pub met_text : Option Other → List ℕ
+met_text None = codes " is of a 64-bit kind, which takes two registers, and begins at the last"
+met_text (Some o) = codes " takes a register of " ++ named_text o
+
+abbrev pub taker_text : Other → Option Other → List ℕ
+taker_text t o = codes ": " ++ named_text t ++ met_text o
+
+abbrev pub beside_text : Option Other → Option Other → List ℕ
+beside_text None o = other_text o
+beside_text (Some t) o = taker_text t o
 
 abbrev pub cause_text : File → Told → List ℕ
-cause_text f t = own_text f t.problem.entry t.problem.rule t.problem.key.now ++ other_text t.other
+cause_text f t = own_text f t.problem.entry t.problem.rule t.problem.key.now ++ beside_text t.taker t.other

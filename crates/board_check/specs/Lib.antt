@@ -6,6 +6,8 @@ pub mod KeyCauses
 pub mod SizeCauses
 pub mod ApertureCauses
 pub mod PathCauses
+pub mod PatternCauses
+pub mod RegisterCauses
 pub mod Others
 pub mod Causes
 pub mod Problems

@@ -1,4 +1,4 @@
--- The earlier entry that has what another entry asks for itself.
+-- The earlier entry that has what another entry asks for itself; of regions the one that has a register of another.
 --     place_before      the first function that stands at a path, of so many endpoints and bridges
 --     name_before      the first guest with a name, of so many
 --     slot_before      the first slot with a path, of so many guests and so many texts of the guest itself
@@ -10,6 +10,7 @@ use Rattle.std.specs.Str.{bytes_eq}
 use Rattle.lists.specs.Elements.{first_of_two, first_some}
 use Rattle.board_file.specs.Entries.{Config, Guest, File}
 use Rattle.board_file.specs.EntryRules.{are_same_place, are_apart}
+use Rattle.board_check.specs.RegisterCauses.{met_of}
 use Rattle.board_file.specs.declared.rule.Rule.{Rule}
 use Rattle.board_file.specs.declared.rule.Rule.TheVariants as rule
 use Rattle.board_file.specs.declared.entry.Entry.{Entry}
@@ -60,4 +61,5 @@ other_of f e rule.OwnPlace = other_place f e
 other_of f e rule.OwnName = other_name f e
 other_of f e rule.OwnSlot = other_slot f e
 other_of f e rule.OwnOffsets = other_block f e
+other_of f e rule.OwnRegisters = met_of f e
 other_of f e _ = None

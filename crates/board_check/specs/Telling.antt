@@ -2,7 +2,7 @@
 --     IsRefusalText style name bytes fault text      a line for each of its problems, by their lines in the file; or one
 --                                                    line, where the bytes are no document
 --     problem_of, found_in      the problem that is told
---     IsTold text ms f told      its place, where it is known, is that of its value, and so is that of the other entry
+--     IsTold text ms f told      its place, where it is known, is that of its value, and so are those of the other entries
 --     IsByLine found told      the same problems, in the order of their lines
 --     IsByCheck found told      the same problems, in the order of their checks
 use Rattle.std.specs.Prelude.{◌≡◌, ◌≤◌, ◌⊎◌, ℕ, List, length, map, option_map, Option, Some, None, IfSome, IsUtf8, unwrap_or, IsPermutation}
@@ -22,6 +22,7 @@ use Rattle.board_check.specs.declared.lines.Told.{Told}
 use Rattle.board_check.specs.declared.style.Style.{Style}
 use Rattle.board_check.specs.Lines.{IsPlaceOf, line_at}
 use Rattle.board_check.specs.Others.{other_of}
+use Rattle.board_check.specs.RegisterCauses.{taker_of}
 use Rattle.board_file.specs.Problems.{Found, found_of}
 use Rattle.board_file.specs.RuleFaults.{fault_of}
 use Rattle.board_check.specs.AllProblems.{all_problems, rank}
@@ -39,6 +40,8 @@ entry_of o = o.entry
 -- what is told beside a problem
 pub record IsTold (text : List ℕ) (ms : Members) (f : File) (t : Told) : Type 0 where
   pub place : IfSome t.place (IsPlaceOf text ms t.problem.entry t.problem.key.now)
+  pub taker : option_map entry_of t.taker ≡ taker_of f t.problem.entry t.problem.rule
+  pub taker_place : IfSome t.taker (λ o. IfSome o.place (IsPlaceOf text ms o.entry t.problem.key.now))
   pub other : option_map entry_of t.other ≡ other_of f t.problem.entry t.problem.rule
   pub other_place : IfSome t.other (λ o. IfSome o.place (IsPlaceOf text ms o.entry t.problem.key.now))
 

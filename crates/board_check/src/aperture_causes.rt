@@ -8,7 +8,7 @@ use board_file::entries::Bounds;
 use headers::Aperture;
 
 /// The words of the first that isn't kept.
-fn first_words(parts: &[(&'static str, bool)]) -> &'static str
+pub(crate) fn first_words(parts: &[(&'static str, bool)]) -> &'static str
     ensures { result.now ≡ first_words (map (λ p. (p.0.now, p.1)) parts.now) }
 {
     'parts: for (words, is_kept) in parts {

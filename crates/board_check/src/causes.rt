@@ -2,7 +2,7 @@
 ghost use Rattle.std.specs.Prelude.{◌≡◌, ◌++◌, [], OnOk, string_bytes};
 ghost use Rattle.std.specs.Option.{option_map_or};
 ghost use Rattle.board_file.specs.Functions.{standings};
-ghost use Rattle.board_check.specs.Causes.{path_cause_text, own_text, other_text, cause_text};
+ghost use Rattle.board_check.specs.Causes.{patterns_text, path_cause_text, own_text, named_text, other_text, met_text, taker_text, beside_text, cause_text};
 ghost use Rattle.board_check.specs.Said.{bar_of};
 ghost use Rattle.board_check.specs.SizeCauses.{bar_text};
 
@@ -11,7 +11,8 @@ use crate::key_causes::{push_asked, push_known};
 use crate::keys::level_of;
 use crate::lines::{Other, Told, line_at};
 use crate::path_causes::{push_bridge, push_path_form, push_zero};
-use crate::said::{at_of, bar_of};
+use crate::pattern_causes::{push_bar_masks, push_config_masks};
+use crate::said::{at_of, bar_of, config_of};
 use crate::shown::{push_entry, push_in_line};
 use crate::size_causes::push_bar;
 use board_file::entries::FileEntries;
@@ -26,6 +27,19 @@ fn push_size(text: &mut String, file: &FileEntries<'_>, entry: Entry) -> Result<
 {
     match bar_of(file, entry) {
         Some(bar) => push_bar(text, bar),
+        None => Ok(()),
+    }
+}
+
+/// Appends what is wrong with the patterns of the region or the block of an entry.
+fn push_patterns(text: &mut String, file: &FileEntries<'_>, entry: Entry) -> Result<(), AllocError>
+    ensures { OnOk result (string_bytes text.new ≡ string_bytes text.old ++ patterns_text file.now entry) }
+{
+    if let Some(bar) = bar_of(file, entry) {
+        return push_bar_masks(text, bar);
+    }
+    match config_of(file, entry) {
+        Some(config) => push_config_masks(text, config),
         None => Ok(()),
     }
 }
@@ -70,6 +84,7 @@ fn push_own(
         Rule::Known => push_known(alloc, text, level, problem.key),
         Rule::Form => push_asked(text, level, problem.key),
         Rule::Size => push_size(text, file, problem.entry),
+        Rule::BarMasks | Rule::ConfigMasks => push_patterns(text, file, problem.entry),
         Rule::IoAperture => text.push_str(io_words(file.io)),
         Rule::MemAperture => text.push_str(mem_words(file.mem)),
         Rule::PrefAperture => text.push_str(pref_words(file.mem, file.pref)),
@@ -80,6 +95,14 @@ fn push_own(
     }
 }
 
+/// Appends an entry with its line, where that is known.
+fn push_named(text: &mut String, other: Other) -> Result<(), AllocError>
+    ensures { OnOk result (string_bytes text.new ≡ string_bytes text.old ++ named_text other) }
+{
+    push_entry(text, other.entry)?;
+    push_in_line(text, line_at(other.place))
+}
+
 /// Appends the earlier entry that has what a problem's entry asks for itself.
 fn push_other(text: &mut String, other: Option<Other>) -> Result<(), AllocError>
     ensures { OnOk result (string_bytes text.new ≡ string_bytes text.old ++ other_text other) }
@@ -87,10 +110,47 @@ fn push_other(text: &mut String, other: Option<Other>) -> Result<(), AllocError>
     match other {
         Some(other) => {
             text.push_str(": ")?;
-            push_entry(text, other.entry)?;
-            push_in_line(text, line_at(other.place))
+            push_named(text, other)
         }
         None => Ok(()),
+    }
+}
+
+/// Appends why a region has no registers of its own.
+fn push_met(text: &mut String, met: Option<Other>) -> Result<(), AllocError>
+    ensures { OnOk result (string_bytes text.new ≡ string_bytes text.old ++ met_text met) }
+{
+    match met {
+        Some(met) => {
+            text.push_str(" takes a register of ")?;
+            push_named(text, met)
+        }
+        None => text.push_str(
+            " is of a 64-bit kind, which takes two registers, and begins at the last",
+        ),
+    }
+}
+
+/// Appends the region that has no registers of its own, and why.
+fn push_taker(text: &mut String, taker: Other, met: Option<Other>) -> Result<(), AllocError>
+    ensures { OnOk result (string_bytes text.new ≡ string_bytes text.old ++ taker_text taker met) }
+{
+    text.push_str(": ")?;
+    push_named(text, taker)?;
+    push_met(text, met)
+}
+
+/// Appends what other entries have to do with a problem.
+fn push_beside(
+    text: &mut String,
+    taker: Option<Other>,
+    other: Option<Other>,
+) -> Result<(), AllocError>
+    ensures { OnOk result (string_bytes text.new ≡ string_bytes text.old ++ beside_text taker other) }
+{
+    match taker {
+        Some(taker) => push_taker(text, taker, other),
+        None => push_other(text, other),
     }
 }
 
@@ -106,5 +166,5 @@ pub(crate) fn push_cause(
     ensures { OnOk result (string_bytes text.new ≡ string_bytes text.old ++ cause_text file.now told.now) }
 {
     push_own(alloc, text, file, functions, &told.problem)?;
-    push_other(text, told.other)
+    push_beside(text, told.taker, told.other)
 }

@@ -12,6 +12,8 @@ pub mod laws;
 mod lines;
 mod others;
 mod path_causes;
+mod pattern_causes;
+mod register_causes;
 mod said;
 mod shown;
 mod size_causes;

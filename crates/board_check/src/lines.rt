@@ -3,17 +3,18 @@ ghost use Rattle.std.specs.Prelude.{◌≡◌, IfOk, IfSome, map, option_map};
 ghost use Rattle.toml.specs.View.{table_view};
 ghost use Rattle.lists.specs.Elements.{Each};
 ghost use Rattle.board_check.specs.Lines.{turn, way_of, way_to, line_at, IsPlaceOf};
-ghost use Rattle.board_check.specs.Others.{other_of};
 ghost use Rattle.board_check.specs.Telling.{problem_of, entry_of, IsTold};
 
 use crate::keys::value_at;
 use crate::others::other_of;
+use crate::register_causes::taker_of;
 use board_file::entries::FileEntries;
 use board_file::{Entry, Problem};
 use std::alloc::{AllocError, Global};
 use value_places::{Place, Places, Step};
 
-/// An earlier entry that has what another asks for itself, and its place, where that is known and was confirmed.
+/// An entry that is told of beside that of the problem, as an earlier one that has what another asks for itself,
+/// and its place, where that is known and was confirmed.
 #[derive(Clone, Copy, Debug)]
 pub struct Other {
     pub entry: Entry,
@@ -25,6 +26,8 @@ pub struct Other {
 pub struct Told<'a> {
     pub problem: Problem<'a>,
     pub place: Option<Place>,
+    /// The region without registers of its own, where the problem is that.
+    pub taker: Option<Other>,
     pub other: Option<Other>,
 }
 
@@ -96,20 +99,20 @@ pub fn place_of(
     }
 }
 
-/// The earlier entry that has what the entry of a problem asks for itself, with its place.
-fn find_other(
+/// Another entry of a problem at a key, with its place.
+fn with_place(
     alloc: Global,
     places: &Places<'_>,
-    file: &FileEntries<'_>,
-    problem: &Problem<'_>,
+    entry: Option<Entry>,
+    key: &str,
 ) -> Result<Option<Other>, AllocError>
-    ensures entry { IfOk result (λ o. option_map entry_of o ≡ other_of file.now problem.now.entry problem.now.rule) }
+    ensures entry { IfOk result (λ o. option_map entry_of o ≡ entry) }
     ensures place { IfOk result (λ o. IfSome o (λ o. IfSome o.place
-        (IsPlaceOf places.now.text.now (table_view places.now.document.now) o.entry problem.now.key.now))) }
+        (IsPlaceOf places.now.text.now (table_view places.now.document.now) o.entry key.now))) }
 {
-    match other_of(file, problem.entry, problem.rule) {
+    match entry {
         Some(entry) => {
-            let place = place_of(alloc, places, entry, problem.key)?;
+            let place = place_of(alloc, places, entry, key)?;
             Ok(Some(Other { entry, place }))
         }
         None => Ok(None),
@@ -127,10 +130,14 @@ fn tell<'a>(
     ensures told { IfOk result (IsTold places.now.text.now (table_view places.now.document.now) file.now) }
 {
     let place = place_of(alloc, places, problem.entry, problem.key)?;
-    let other = find_other(alloc, places, file, problem)?;
+    let taker = taker_of(file, problem.entry, problem.rule);
+    let taker = with_place(alloc, places, taker, problem.key)?;
+    let other = other_of(file, problem.entry, problem.rule);
+    let other = with_place(alloc, places, other, problem.key)?;
     Ok(Told {
         problem: *problem,
         place,
+        taker,
         other,
     })
 }

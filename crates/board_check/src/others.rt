@@ -6,6 +6,7 @@ ghost use Rattle.lists.specs.Elements.{first_some};
 ghost use Rattle.board_file.specs.EntryRules.{are_same_place, are_apart};
 ghost use Rattle.board_check.specs.Others.{place_before, name_before, slot_in, slot_before, block_before, other_place, other_name, other_slot, other_block, other_of};
 
+use crate::register_causes::met_of;
 use board_file::blocks::are_apart;
 use board_file::entries::{BridgeEntry, ConfigEntry, EndpointEntry, FileEntries, GuestEntry};
 use board_file::path_text::{PathText, are_same_place};
@@ -225,6 +226,7 @@ pub(crate) fn other_of(file: &FileEntries<'_>, entry: Entry, rule: Rule) -> Opti
         Rule::OwnName => other_name(file, entry),
         Rule::OwnSlot => other_slot(file, entry),
         Rule::OwnOffsets => other_block(file, entry),
+        Rule::OwnRegisters => met_of(file, entry),
         _ => None,
     }
 }

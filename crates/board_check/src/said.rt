@@ -1,9 +1,9 @@
 //! What a file says of an entry.
 ghost use Rattle.std.specs.Prelude.{◌≡◌, option_map};
-ghost use Rattle.board_check.specs.Said.{bar_of, at_of};
+ghost use Rattle.board_check.specs.Said.{bar_of, config_of, at_of};
 
 use board_file::Entry;
-use board_file::entries::{BarEntry, FileEntries};
+use board_file::entries::{BarEntry, ConfigEntry, FileEntries};
 use board_file::path_text::PathText;
 
 /// The region of an entry.
@@ -13,6 +13,22 @@ pub(crate) fn bar_of<'f, 'a>(file: &'f FileEntries<'a>, entry: Entry) -> Option<
     match entry {
         Entry::Bar(i, j) => match file.endpoints.get(i) {
             Some(endpoint) => endpoint.bars.get(j),
+            None => None,
+        },
+        _ => None,
+    }
+}
+
+/// The block of own registers of an entry.
+pub(crate) fn config_of<'f, 'a>(
+    file: &'f FileEntries<'a>,
+    entry: Entry,
+) -> Option<&'f ConfigEntry<'a>>
+    ensures { option_map (λ c. c.now) result ≡ config_of file.now entry }
+{
+    match entry {
+        Entry::Config(i, j) => match file.endpoints.get(i) {
+            Some(endpoint) => endpoint.configs.get(j),
             None => None,
         },
         _ => None,

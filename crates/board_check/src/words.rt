@@ -35,7 +35,7 @@ pub(crate) fn rule_words(rule: Rule) -> &'static str
         Rule::OwnPlace => "is the path of an earlier function",
         Rule::BehindBridge => "leads through something else than bridges",
         Rule::FunctionZero => "is in a device without function 0",
-        Rule::OwnRegisters => "a register is used twice, or a 64-bit kind has index 5",
+        Rule::OwnRegisters => "not each region has registers of its own",
         Rule::OwnName => "is the name of an earlier guest",
         Rule::NamesEndpoint => "is no path of an endpoint",
         Rule::OwnSlot => "is in an earlier slot",

@@ -101,6 +101,38 @@ const EXCERPTS: [&str; 8] = [
     "warnings.toml",
 ];
 
+/// One board with one mistake each, as people make them.
+const MISTAKES: [&str; 28] = [
+    "misspelt_key.toml",
+    "number_in_quotes.toml",
+    "key_of_another_table.toml",
+    "kind_without_width.toml",
+    "single_brackets.toml",
+    "comma_forgotten.toml",
+    "path_of_lspci.toml",
+    "padded_device.toml",
+    "bridge_forgotten.toml",
+    "function_one_alone.toml",
+    "two_at_one_path.toml",
+    "size_between_powers.toml",
+    "ports_as_wide_as_memory.toml",
+    "register_used_twice.toml",
+    "wide_at_the_last_register.toml",
+    "block_longer_than_its_region.toml",
+    "pattern_with_0x.toml",
+    "pattern_without_digits.toml",
+    "masks_that_meet.toml",
+    "block_forgotten.toml",
+    "register_in_the_header.toml",
+    "guest_in_capitals.toml",
+    "slot_of_a_bridge.toml",
+    "endpoint_in_two_slots.toml",
+    "apertures_that_meet.toml",
+    "length_for_an_end.toml",
+    "end_one_too_far.toml",
+    "small_aperture.toml",
+];
+
 /// Writes the report of a board file.
 fn show(rt: &(impl AllocGlobal + Files + Print), name: &str) -> Result<(), Fault> {
     let alloc = rt.alloc();
@@ -184,6 +216,15 @@ fn look_with_excerpts(rt: &(impl AllocGlobal + Files + Print)) -> io::Result<()>
     Ok(())
 }
 
+/// Writes what is said of each mistake, with the lines of its file.
+fn look_at_mistakes(rt: &(impl AllocGlobal + Files + Print)) -> io::Result<()> {
+    for name in MISTAKES {
+        println!(rt; "== check {name} with excerpts")?;
+        tell(rt, look(rt, Style::WithExcerpts, name))?;
+    }
+    Ok(())
+}
+
 /// Writes how many regions the guests of a board have, and how many accesses to them differed from those
 /// to their places. Of a board that is refused it writes nothing.
 fn land(rt: &(impl AllocGlobal + Files + Print), name: &str) -> io::Result<()> {
@@ -215,6 +256,7 @@ fn write_all(rt: &(impl AllocGlobal + Files + Print)) -> io::Result<()> {
     run_all(rt)?;
     look_at_all(rt)?;
     look_with_excerpts(rt)?;
+    look_at_mistakes(rt)?;
     land_on_all(rt)
 }
 
