@@ -8,7 +8,7 @@ use Rattle.lists.specs.Elements.{Each}
 use Rattle.model_guests.specs.Text.{Text, lines, text_of_lines}
 use Rattle.model_guests.specs.LineRuns.{Protocol, output, after_lines, HasNoEnd, IsStopped, IsCut, first_output}
 use Rattle.model_guests.proofs.RunLines.{output_along, after_along, lines_of_pieces}
-use Rattle.line_runs.specs.Pieces.{Reaches, StopsWithin, IsStoppedIn}
+use Rattle.line_runs.specs.Pieces.{Reaches, StopsWithin, IsStoppedIn, LacksWithin, IsLackingIn}
 use Rattle.line_runs.proofs.LineEnds.{no_end_along, some_line}
 use Rattle.line_runs.proofs.Reaching.{text_along, text_of_one}
 
@@ -71,6 +71,27 @@ stopped_of {S} p w old_rest new_rest text script old new end taken s known =
         events = s.events ∙ sym (after_along p w s.whole (s.line ∷ []));
       };
       in_time = inl (starts_with_of_append text (text_of_lines ran) s.after order);
+    }
+
+-- memory is out for a line that LF ends
+pub lacking_of : {S : Type 0} (p : Protocol S) (w : S) (old_rest new_rest : Option Text) (text script : Text) (old new : Option Text) (end : S)
+    → Consumes old_rest new_rest text → LacksWithin p w text old new end → old_rest ≡ Some script → IsLackingIn p w script old_rest new_rest old new end
+lacking_of {S} p w old_rest new_rest text script old new end taken s known =
+    let left = consumed old_rest new_rest text script taken known in
+    let ran : List Text = s.whole ++ s.line ∷ [] in
+    let order : text ≡ text_of_lines ran ++ s.after =
+    s.in_order ∙ ap (λ (t : Text). text_of_lines s.whole ++ t) (sym (text_of_one s.line s.after))
+    ∙ sym (append_assoc (text_of_lines s.whole) (text_of_lines (s.line ∷ [])) s.after) ∙ ap (λ (t : Text). t ++ s.after) (sym (text_along s.whole (s.line ∷ []))) in
+    record {
+      read = text;
+      consumed = taken;
+      whole = s.whole;
+      line = s.line;
+      rest = lines (s.after ++ left.0);
+      in_order = ap lines left.1 ∙ lines_read text s.line s.after left.0 s.whole s.each_line s.last_line s.in_order;
+      in_time = inl (starts_with_of_append text (text_of_lines ran) s.after order);
+      written = s.written;
+      events = s.events;
     }
 
 -- ---- what is left at the end is the last line
@@ -160,3 +181,20 @@ pub last_stopped : {S : Type 0} (p : Protocol S) (w : S) (line part : Text) (old
     → StartsWith (p.writes w line) part → Appends old new part → end ≡ p.next w line → IsStopped p w (lines line) old new end
 last_stopped {S} p w line part old new end clean some begins written events =
     subst (λ (ls : List Text). IsStopped p w ls old new end) (sym (some_line line clean some)) (stopped_one p w line part old new end begins written events)
+
+-- memory is out for the last line
+pub lacking_last : {S : Type 0} (p : Protocol S) (w : S) (old_rest new_rest : Option Text) (text rest script : Text) (long : Bool) (old mid : Option Text) (end : S)
+    → Consumes old_rest new_rest text → IsAtEnd new_rest → (r : Reaches p w text rest long old mid end) → HasNoEnd (r.before ++ rest) → 0 < length (r.before ++ rest)
+    → old_rest ≡ Some script → IsLackingIn p w script old_rest new_rest old mid end
+lacking_last {S} p w old_rest new_rest text rest script long old mid end taken done r clean some known = record {
+  read = text;
+  consumed = taken;
+  whole = r.whole;
+  line = r.before ++ rest;
+  rest = [];
+  in_order = ap lines (sym (whole_script old_rest new_rest text script taken done known)) ∙ last_lines p w text rest long old mid end r
+      ∙ ap (λ (ls : List Text). r.whole ++ ls) (some_line (r.before ++ rest) clean some);
+  in_time = inr done;
+  written = r.written;
+  events = r.events;
+}

@@ -8,7 +8,7 @@ use Rattle.lists.specs.Elements.{Each}
 use Rattle.model_guests.specs.Text.{Text, text_of_lines}
 use Rattle.model_guests.specs.LineRuns.{Protocol, output, after_lines, HasNoEnd}
 use Rattle.model_guests.proofs.RunLines.{output_along, after_along}
-use Rattle.line_runs.specs.Pieces.{IsBefore, Reaches, StopsWithin}
+use Rattle.line_runs.specs.Pieces.{IsBefore, Reaches, StopsWithin, LacksWithin}
 use Rattle.line_runs.proofs.LineEnds.{no_end_along, no_end_first}
 
 each_along : (P : Text → Type 0) (a b : List Text) → Each P a → Each P b → Each P (a ++ b)
@@ -82,6 +82,23 @@ reaches_on {S} p w text piece rest long next old mid new end last r s = record {
   events = s.events ∙ ap (λ (e : S). after_lines p e s.whole) r.events ∙ sym (after_along p w r.whole s.whole);
 }
 
+-- memory is out in the next lines
+pub lacks_on : {S : Type 0} (p : Protocol S) (w : S) (text piece : Text) (long : Bool) (old mid new : Option Text) (end last : S)
+    → (r : Reaches p w text piece long old mid end) → LacksWithin p end (r.before ++ piece) mid new last → LacksWithin p w text old new last
+lacks_on {S} p w text piece long old mid new end last r s = record {
+  whole = r.whole ++ s.whole;
+  line = s.line;
+  after = s.after;
+  each_line = each_along HasNoEnd r.whole s.whole r.each_line s.each_line;
+  last_line = s.last_line;
+  in_order = r.in_order ∙ ap (λ (t : Text). text_of_lines r.whole ++ t) s.in_order
+      ∙ sym (append_assoc (text_of_lines r.whole) (text_of_lines s.whole) (s.line ++ 10 ∷ s.after))
+      ∙ ap (λ (t : Text). t ++ (s.line ++ 10 ∷ s.after)) (sym (text_along r.whole s.whole));
+  written = subst (Appends old new) (ap (λ (e : S). output p w r.whole ++ output p e s.whole) r.events ∙ sym (output_along p w r.whole s.whole))
+      (Appends-trans old mid new (output p w r.whole) (output p end s.whole) r.written s.written);
+  events = s.events ∙ ap (λ (e : S). after_lines p e s.whole) r.events ∙ sym (after_along p w r.whole s.whole);
+}
+
 -- a failure in the next lines
 pub stops_on : {S : Type 0} (p : Protocol S) (w : S) (text piece : Text) (long : Bool) (old mid new : Option Text) (end last : S)
     → (r : Reaches p w text piece long old mid end) → StopsWithin p end (r.before ++ piece) mid new last → StopsWithin p w text old new last
@@ -149,6 +166,20 @@ stops_at {S} p w text piece line after part long old mid new end last cut r clea
   begins = subst (λ (e : S). StartsWith (p.writes e (r.before ++ line)) part) r.events begins;
   written = Appends-trans old mid new (output p w r.whole) part r.written written;
   events = events ∙ ap (λ (e : S). p.next e (r.before ++ line)) r.events;
+}
+
+-- memory is out for the next line
+pub lacks_at : {S : Type 0} (p : Protocol S) (w : S) (text piece line after : Text) (long : Bool) (old mid new : Option Text) (end : S)
+    → piece ≡ line ++ 10 ∷ after → (r : Reaches p w text piece long old mid end) → HasNoEnd line → Keeps mid new → LacksWithin p w text old new end
+lacks_at {S} p w text piece line after long old mid new end cut r clean kept = record {
+  whole = r.whole;
+  line = r.before ++ line;
+  after = after;
+  each_line = r.each_line;
+  last_line = no_end_along r.before line r.clean clean;
+  in_order = r.in_order ∙ ap (λ (t : Text). text_of_lines r.whole ++ t) (ap (λ (t : Text). r.before ++ t) cut ∙ sym (append_assoc r.before line (10 ∷ after)));
+  written = Appends-kept old mid new (output p w r.whole) r.written kept;
+  events = r.events;
 }
 
 last_of : (ls : List Text) → 0 < length ls → (most : List Text) × (last : Text) × (ls ≡ most ++ last ∷ [])

@@ -1,11 +1,13 @@
 //! Runs over pieces of a text.
 ghost use Rattle.std.specs.Prelude.{◌≡◌, ℕ, ◌≤◌, ◌<◌, ◌+◌, ◌-◌, ◌^◌, ◌++◌, ◌∷◌, [], length};
-ghost use Rattle.std.specs.Prelude.{OnOk, OnErr, IfOk, MatchOption, IsTrue, IsFalse};
+ghost use Rattle.std.specs.Prelude.{OnOk, OnErr, IfOk, IsErrOf, MatchOption, IsTrue, IsFalse};
+ghost use Rattle.std.specs.Prelude.{◌⊎◌, option_map, string_bytes};
 ghost use Rattle.std.specs.Io.KnownBytes.{Appends, Keeps};
-ghost use Rattle.streams.specs.Ends.{failures_of};
+ghost use Rattle.streams.specs.Ends.{failures_of, AppendsPart};
 ghost use Rattle.model_guests.specs.Text.{Text, lines};
 ghost use Rattle.model_guests.specs.LineRuns.{output, after_lines, HasNoEnd, IsStopped};
-ghost use Rattle.line_runs.specs.Pieces.{IsBefore, rest_of, Reaches, StopsWithin};
+ghost use Rattle.line_runs.specs.Faults.{stop_failures_of};
+ghost use Rattle.line_runs.specs.Pieces.{IsBefore, rest_of, with_more, Reaches, StopsWithin, LacksWithin};
 
 use crate::answers::Answers;
 use crate::held::Held;
@@ -32,14 +34,105 @@ struct Left {
     wrote: bool,
 }
 
+/// Why the lines of a piece did not all run.
+#[derive(Clone, Copy)]
+pub(crate) enum Stop {
+    /// A write or a flush failed.
+    Failed,
+    /// Memory is out for a line.
+    Memory,
+}
+
+/// Writes what a line writes.
+fn write_answer<W: Writer>(writer: &mut W, text: &[u8], more: &Option<String>) -> Result<(), Failed>
+    requires { W.failures writer.old < 2 ^ 64 - 1 }
+    ensures ok { OnOk result (Appends (W.written writer.old) (W.written writer.new)
+        (with_more text.now (option_map string_bytes more.now))) }
+    ensures err { OnErr result (AppendsPart (W.written writer.old) (W.written writer.new)
+        (with_more text.now (option_map string_bytes more.now))) }
+    ensures failures { W.failures writer.new ≡ W.failures writer.old + failures_of result }
+{
+    write_all(writer, text)?;
+    match more {
+        Some(more) => write_all(writer, more.as_bytes()),
+        None => Ok(()),
+    }
+}
+
+/// Answers a line, writes what it writes, and says whether that is anything.
+#[inline(always)]
+fn answer_line<L, S: Answers<L>, W: Writer>(
+    server: &mut S,
+    line: &[u8],
+    long: bool,
+    writer: &mut W,
+) -> Result<bool, Stop>
+    requires { W.failures writer.old < 2 ^ 64 - 1 }
+    ensures output { OnOk result ((before : Text) → IsBefore long before →
+        Appends (W.written writer.old) (W.written writer.new) (S.protocol.writes server.old (before ++ line.now))) }
+    ensures after { OnOk result ((before : Text) → IsBefore long before →
+        server.new ≡ S.protocol.next server.old (before ++ line.now)) }
+    ensures silent { IfOk result (λ wrote. IsFalse wrote → writer.new ≡ writer.old) }
+    ensures failed { IsErrOf result Stop.Failed → (before : Text) → IsBefore long before →
+        AppendsPart (W.written writer.old) (W.written writer.new) (S.protocol.writes server.old (before ++ line.now)) }
+    ensures failed_after { IsErrOf result Stop.Failed → (before : Text) → IsBefore long before →
+        server.new ≡ S.protocol.next server.old (before ++ line.now) }
+    ensures lacking { IsErrOf result Stop.Memory → (server.new ≡ server.old) × (writer.new ≡ writer.old) }
+    ensures memory { IsErrOf result Stop.Memory → S.TakesMemory }
+    ensures failures { W.failures writer.new ≡ W.failures writer.old + stop_failures_of result }
+{
+    let mut reply = LineText::new();
+    let Ok(more) = server.answer(line, long, &mut reply) else {
+        return Err(Stop::Memory);
+    };
+    if reply.as_slice().is_empty() && more.is_none() {
+        return Ok(false);
+    }
+    if write_answer(writer, reply.as_slice(), &more).is_err() {
+        return Err(Stop::Failed);
+    }
+    Ok(true)
+}
+
+/// Flushes what was written, where anything was.
+fn flush_if<W: Writer>(writer: &mut W, wrote: bool) -> Result<(), Failed>
+    requires { W.failures writer.old < 2 ^ 64 - 1 }
+    ensures bytes { Keeps (W.written writer.old) (W.written writer.new) }
+    ensures wrote { OnErr result (IsTrue wrote) }
+    ensures flushed { OnOk result (IsTrue wrote → W.flushed writer.new ≡ W.written writer.new) }
+    ensures kept { IsFalse wrote → writer.new ≡ writer.old }
+    ensures failures { W.failures writer.new ≡ W.failures writer.old + failures_of result }
+{
+    if wrote {
+        return writer.flush();
+    }
+    Ok(())
+}
+
+/// What ends the lines where memory is out, once what was written is flushed.
+fn flushed<W: Writer>(writer: &mut W, wrote: bool) -> Stop
+    requires { W.failures writer.old < 2 ^ 64 - 1 }
+    ensures bytes { Keeps (W.written writer.old) (W.written writer.new) }
+    ensures wrote { result ≡ Stop.Failed → IsTrue wrote }
+    ensures flushed { result ≡ Stop.Memory → IsTrue wrote → W.flushed writer.new ≡ W.written writer.new }
+    ensures kept { IsFalse wrote → writer.new ≡ writer.old }
+    ensures failures { W.failures writer.new ≡ W.failures writer.old + stop_failures_of {T = Unit {0}} (Err result) }
+{
+    if flush_if(writer, wrote).is_err() {
+        return Stop::Failed;
+    }
+    Stop::Memory
+}
+
 /// Runs the lines of a piece that line feeds end, and writes what each writes before it looks at the
-/// next. If `long`, the first is a long line of which bytes were passed over.
+/// next. If `long`, the first is a long line of which bytes were passed over. Where memory is out for a
+/// line, what those before it wrote is flushed.
 fn run_lines<L, S: Answers<L>, W: Writer>(
     server: &mut S,
     text: &[u8],
     long: bool,
     writer: &mut W,
-) -> Result<Left, Failed>
+) -> Result<Left, Stop>
     requires { W.failures writer.old < 2 ^ 64 - 1 }
     ensures length { IfOk result (λ left. left.length ≤ length text.now) }
     ensures rest { IfOk result (λ left. HasNoEnd (rest_of left.length text.now)) }
@@ -47,20 +140,28 @@ fn run_lines<L, S: Answers<L>, W: Writer>(
         (run : Reaches S.protocol server.old (before ++ text.now) (rest_of left.length text.now) left.long
         (W.written writer.old) (W.written writer.new) server.new)
         × (IsTrue left.wrote → 0 < length run.whole)) }
-    ensures stops { OnErr result ((before : Text) → HasNoEnd before → IsBefore long before →
+    ensures silent { IfOk result (λ left. IsFalse left.wrote → writer.new ≡ writer.old) }
+    ensures stops { IsErrOf result Stop.Failed → (before : Text) → HasNoEnd before → IsBefore long before →
         StopsWithin S.protocol server.old (before ++ text.now)
-        (W.written writer.old) (W.written writer.new) server.new) }
-    ensures failures { W.failures writer.new ≡ W.failures writer.old + failures_of result }
+        (W.written writer.old) (W.written writer.new) server.new }
+    ensures lacks { IsErrOf result Stop.Memory → (before : Text) → HasNoEnd before → IsBefore long before →
+        LacksWithin S.protocol server.old (before ++ text.now)
+        (W.written writer.old) (W.written writer.new) server.new }
+    ensures memory { IsErrOf result Stop.Memory → S.TakesMemory }
+    ensures flushed { IsErrOf result Stop.Memory →
+        (W.flushed writer.new ≡ W.written writer.new) ⊎ (writer.new ≡ writer.old) }
+    ensures failures { W.failures writer.new ≡ W.failures writer.old + stop_failures_of result }
 {
     let mut rest = text;
     let mut long = long;
     let mut wrote = false;
     while let Some((line, after)) = whole_line(rest) {
-        let mut reply = LineText::new();
-        server.answer(line, long, &mut reply);
-        let written = reply.as_slice();
-        write_all(writer, written)?;
-        wrote = wrote || !written.is_empty();
+        let answered = match answer_line(server, line, long, writer) {
+            Ok(answered) => answered,
+            Err(Stop::Failed) => return Err(Stop::Failed),
+            Err(Stop::Memory) => return Err(flushed(writer, wrote)),
+        };
+        wrote = wrote || answered;
         long = false;
         rest = after;
     }
@@ -71,39 +172,35 @@ fn run_lines<L, S: Answers<L>, W: Writer>(
     })
 }
 
-/// Flushes what was written, where anything was.
-fn flush_if<W: Writer>(writer: &mut W, wrote: bool) -> Result<(), Failed>
-    requires { W.failures writer.old < 2 ^ 64 - 1 }
-    ensures bytes { Keeps (W.written writer.old) (W.written writer.new) }
-    ensures wrote { OnErr result (IsTrue wrote) }
-    ensures failures { W.failures writer.new ≡ W.failures writer.old + failures_of result }
-{
-    if wrote {
-        return writer.flush();
-    }
-    Ok(())
-}
-
 /// Runs the lines that line feeds end among what is held, and keeps the rest. What was written is
 /// flushed, so that it can be read before more of the script is asked for.
 pub(crate) fn run_piece<L, S: Answers<L>, W: Writer>(
     server: &mut S,
     held: &mut Held,
     writer: &mut W,
-) -> Result<(), Failed>
+) -> Result<(), Stop>
     requires { W.failures writer.old < 2 ^ 64 - 1 }
     ensures few { OnOk result (length held.new.text ≤ 200) }
     ensures rest { OnOk result (HasNoEnd held.new.text) }
     ensures runs { OnOk result ((before : Text) → HasNoEnd before → IsBefore held.old.long before →
         Reaches S.protocol server.old (before ++ held.old.text) held.new.text held.new.long
         (W.written writer.old) (W.written writer.new) server.new) }
-    ensures stops { OnErr result ((before : Text) → HasNoEnd before → IsBefore held.old.long before →
+    ensures stops { IsErrOf result Stop.Failed → (before : Text) → HasNoEnd before → IsBefore held.old.long before →
         StopsWithin S.protocol server.old (before ++ held.old.text)
-        (W.written writer.old) (W.written writer.new) server.new) }
-    ensures failures { W.failures writer.new ≡ W.failures writer.old + failures_of result }
+        (W.written writer.old) (W.written writer.new) server.new }
+    ensures lacks { IsErrOf result Stop.Memory → (before : Text) → HasNoEnd before → IsBefore held.old.long before →
+        LacksWithin S.protocol server.old (before ++ held.old.text)
+        (W.written writer.old) (W.written writer.new) server.new }
+    ensures memory { IsErrOf result Stop.Memory → S.TakesMemory }
+    ensures flushed { OnOk result ((W.flushed writer.new ≡ W.written writer.new) ⊎ (writer.new ≡ writer.old)) }
+    ensures lacking_flushed { IsErrOf result Stop.Memory →
+        (W.flushed writer.new ≡ W.written writer.new) ⊎ (writer.new ≡ writer.old) }
+    ensures failures { W.failures writer.new ≡ W.failures writer.old + stop_failures_of result }
 {
     let left = run_lines(server, held.text(), held.is_long(), writer)?;
-    flush_if(writer, left.wrote)?;
+    if flush_if(writer, left.wrote).is_err() {
+        return Err(Stop::Failed);
+    }
     held.keep(left.length, left.long);
     Ok(())
 }
@@ -125,24 +222,27 @@ fn answer_last<L, S: Answers<L>, W: Writer>(
     text: &[u8],
     long: bool,
     writer: &mut W,
-) -> Result<(), Failed>
+) -> Result<(), Stop>
     requires { W.failures writer.old < 2 ^ 64 - 1 }
     ensures output { OnOk result ((before : Text) → IsBefore long before → HasNoEnd (before ++ text.now) →
         Appends (W.written writer.old) (W.written writer.new)
         (output S.protocol server.old (lines (before ++ text.now)))) }
     ensures after { OnOk result ((before : Text) → IsBefore long before → HasNoEnd (before ++ text.now) →
         server.new ≡ after_lines S.protocol server.old (lines (before ++ text.now))) }
-    ensures stopped { OnErr result ((before : Text) → IsBefore long before → HasNoEnd (before ++ text.now) →
+    ensures stopped { IsErrOf result Stop.Failed → (before : Text) → IsBefore long before →
+        HasNoEnd (before ++ text.now) →
         IsStopped S.protocol server.old (lines (before ++ text.now))
-        (W.written writer.old) (W.written writer.new) server.new) }
-    ensures failures { W.failures writer.new ≡ W.failures writer.old + failures_of result }
+        (W.written writer.old) (W.written writer.new) server.new }
+    ensures lacking { IsErrOf result Stop.Memory → (server.new ≡ server.old) × (writer.new ≡ writer.old) }
+    ensures some { IsErrOf result Stop.Memory → (before : Text) → IsBefore long before → 0 < length (before ++ text.now) }
+    ensures memory { IsErrOf result Stop.Memory → S.TakesMemory }
+    ensures failures { W.failures writer.new ≡ W.failures writer.old + stop_failures_of result }
 {
     if !is_line_left(text, long) {
         return Ok(());
     }
-    let mut reply = LineText::new();
-    server.answer(text, long, &mut reply);
-    write_all(writer, reply.as_slice())
+    answer_line(server, text, long, writer)?;
+    Ok(())
 }
 
 /// Runs what is left at the end of a script as its last line, and flushes.
@@ -150,7 +250,7 @@ pub(crate) fn run_last<L, S: Answers<L>, W: Writer>(
     server: &mut S,
     held: &Held,
     writer: &mut W,
-) -> Result<(), Failed>
+) -> Result<(), Stop>
     requires { W.failures writer.old < 2 ^ 64 - 1 }
     ensures output { OnOk result ((before : Text) → IsBefore held.now.long before → HasNoEnd (before ++ held.now.text) →
         Appends (W.written writer.old) (W.written writer.new)
@@ -158,12 +258,19 @@ pub(crate) fn run_last<L, S: Answers<L>, W: Writer>(
     ensures after { OnOk result ((before : Text) → IsBefore held.now.long before → HasNoEnd (before ++ held.now.text) →
         server.new ≡ after_lines S.protocol server.old (lines (before ++ held.now.text))) }
     ensures flushed { OnOk result (W.flushed writer.new ≡ W.written writer.new) }
-    ensures stopped { OnErr result ((before : Text) → IsBefore held.now.long before →
+    ensures stopped { IsErrOf result Stop.Failed → (before : Text) → IsBefore held.now.long before →
         HasNoEnd (before ++ held.now.text) →
         IsStopped S.protocol server.old (lines (before ++ held.now.text))
-        (W.written writer.old) (W.written writer.new) server.new) }
-    ensures failures { W.failures writer.new ≡ W.failures writer.old + failures_of result }
+        (W.written writer.old) (W.written writer.new) server.new }
+    ensures lacking { IsErrOf result Stop.Memory → (server.new ≡ server.old) × (writer.new ≡ writer.old) }
+    ensures some { IsErrOf result Stop.Memory → (before : Text) → IsBefore held.now.long before →
+        0 < length (before ++ held.now.text) }
+    ensures memory { IsErrOf result Stop.Memory → S.TakesMemory }
+    ensures failures { W.failures writer.new ≡ W.failures writer.old + stop_failures_of result }
 {
     answer_last(server, held.text(), held.is_long(), writer)?;
-    writer.flush()
+    if writer.flush().is_err() {
+        return Err(Stop::Failed);
+    }
+    Ok(())
 }

@@ -1,15 +1,15 @@
 //! A run of a whole script.
-ghost use Rattle.std.specs.Prelude.{◌≡◌, ◌+◌, ◌-◌, ◌^◌, ◌<◌, ◌≤◌, [], false, length, OnOk, IsErrOf};
+ghost use Rattle.std.specs.Prelude.{◌≡◌, ◌+◌, ◌-◌, ◌^◌, ◌<◌, ◌≤◌, [], false, length, ◌⊎◌, OnOk, IsErrOf};
 ghost use Rattle.std.specs.Option.{ForSome};
 ghost use Rattle.std.specs.Io.KnownBytes.{Appends, Consumes, IsAtEnd};
 ghost use Rattle.model_guests.specs.Text.{Text, lines};
 ghost use Rattle.model_guests.specs.LineRuns.{output, after_lines, HasNoEnd, IsCut};
-ghost use Rattle.line_runs.specs.Faults.{read_failures_of, write_failures_of, number_of};
-ghost use Rattle.line_runs.specs.Pieces.{Reaches, IsStoppedIn};
+ghost use Rattle.line_runs.specs.Faults.{read_failures_of, write_failures_of, number_of, of_stop};
+ghost use Rattle.line_runs.specs.Pieces.{Reaches, IsStoppedIn, IsLackingIn};
 
 use crate::answers::Answers;
 use crate::held::Held;
-use crate::pieces::{run_last, run_piece};
+use crate::pieces::{Stop, run_last, run_piece};
 use streams::{Reader, Writer};
 use thiserror::Error;
 
@@ -21,16 +21,31 @@ pub enum RunFault {
     /// A write or a flush failed, or a write took no byte.
     #[error("write failed")]
     Write,
+    /// Out of memory for a line, in a language in which some line takes memory.
+    #[error("memory")]
+    Memory,
 }
 
 impl RunFault {
-    /// The number of the fault: 501 or 502.
+    /// The number of the fault: 501, 502 or 299.
     pub fn number(self) -> u16
         ensures { result ≡ number_of self }
     {
         match self {
             RunFault::Read => 501,
             RunFault::Write => 502,
+            RunFault::Memory => 299,
+        }
+    }
+}
+
+impl From<Stop> for RunFault {
+    ghost from_gives = { λ s f. f ≡ of_stop s };
+
+    fn from(stop: Stop) -> RunFault {
+        match stop {
+            Stop::Failed => RunFault::Write,
+            Stop::Memory => RunFault::Memory,
         }
     }
 }
@@ -58,6 +73,13 @@ fn run_pieces<L, S: Answers<L>, R: Reader, W: Writer>(
     ensures stopped { IsErrOf result RunFault.Write → ForSome (R.rest reader.old) (λ script.
         IsStoppedIn S.protocol server.old script (R.rest reader.old) (R.rest reader.new)
         (W.written writer.old) (W.written writer.new) server.new) }
+    ensures lacking { IsErrOf result RunFault.Memory → ForSome (R.rest reader.old) (λ script.
+        IsLackingIn S.protocol server.old script (R.rest reader.old) (R.rest reader.new)
+        (W.written writer.old) (W.written writer.new) server.new) }
+    ensures memory { IsErrOf result RunFault.Memory → S.TakesMemory }
+    ensures flushed { OnOk result ((W.flushed writer.new ≡ W.written writer.new) ⊎ (writer.new ≡ writer.old)) }
+    ensures lacking_flushed { IsErrOf result RunFault.Memory →
+        (W.flushed writer.new ≡ W.written writer.new) ⊎ (writer.new ≡ writer.old) }
 {
     loop {
         let Ok(more) = held.fill(reader) else {
@@ -66,15 +88,14 @@ fn run_pieces<L, S: Answers<L>, R: Reader, W: Writer>(
         if !more {
             return Ok(());
         }
-        if run_piece(server, held, writer).is_err() {
-            return Err(RunFault::Write);
-        }
+        run_piece(server, held, writer)?;
     }
 }
 
 /// Runs the lines of a script, in pieces as they are read. Each line is answered before the next
 /// is looked at, and all answers are flushed before more is read, so that who writes the script can
-/// wait for them. Of a long line nothing is kept, and no memory is taken. No failure is tried again.
+/// wait for them. Of a long line nothing is kept, and no memory is taken but by lines of a language in which
+/// some take it. No failure is tried again.
 pub fn run<L, S: Answers<L>, R: Reader, W: Writer>(
     server: &mut S,
     reader: &mut R,
@@ -104,11 +125,17 @@ pub fn run<L, S: Answers<L>, R: Reader, W: Writer>(
     ensures stopped { IsErrOf result RunFault.Write → ForSome (R.rest reader.old) (λ script.
         IsStoppedIn S.protocol server.old script (R.rest reader.old) (R.rest reader.new)
         (W.written writer.old) (W.written writer.new) server.new) }
+
+    // No memory for a line: those before it ran, and all that they write was written and flushed.
+    ensures lacking { IsErrOf result RunFault.Memory → ForSome (R.rest reader.old) (λ script.
+        IsLackingIn S.protocol server.old script (R.rest reader.old) (R.rest reader.new)
+        (W.written writer.old) (W.written writer.new) server.new) }
+    ensures lacking_flushed { IsErrOf result RunFault.Memory →
+        (W.flushed writer.new ≡ W.written writer.new) ⊎ (writer.new ≡ writer.old) }
+    ensures memory { IsErrOf result RunFault.Memory → S.TakesMemory }
 {
     let mut held = Held::new();
     run_pieces(server, &mut held, reader, writer)?;
-    if run_last(server, &held, writer).is_err() {
-        return Err(RunFault::Write);
-    }
+    run_last(server, &held, writer)?;
     Ok(())
 }

@@ -4,11 +4,10 @@ use Rattle.model_guests.specs.Text.{Text, lines}
 use Rattle.model_guests.specs.LineRuns.{output, HasNoEnd, IsStopped}
 use Rattle.line_runs.specs.Pieces.{IsBefore}
 use Rattle.line_runs.proofs.Endings.{stopped_after}
-use Rattle.line_runs.proofs.Results.{on_err}
 use Rattle.line_runs.proofs.pieces.run_last.Goals as goal
 
-pub returns-clause-stopped : goal.returns-clause-stopped
-returns-clause-stopped g c = on_err c.flush.result (λ before passed clean.
+pub returns-then-is_err-clause-stopped : goal.returns-then-is_err-clause-stopped
+returns-then-is_err-clause-stopped g c = λ is before passed clean.
     let w = c.args.server.now in
     let held = c.text.result.now in
     let old = g.W.Writer.written c.args.writer.now in
@@ -18,4 +17,4 @@ returns-clause-stopped g c = on_err c.flush.result (λ before passed clean.
     subst (λ (t : Text). IsStopped g.S.Answers.protocol w (lines (before ++ t)) old new c.answer_last.new.server) c.text.ensures
     (stopped_after g.S.Answers.protocol w (lines (before ++ held)) old new c.answer_last.new.server
     (Appends-kept old (g.W.Writer.written c.answer_last.new.writer) new (output g.S.Answers.protocol w (lines (before ++ held))) (c.in_ok-answer_last.ensures.output before passed_here clean_here) c.flush.ensures.bytes)
-    (c.in_ok-answer_last.ensures.after before passed_here clean_here)))
+    (c.in_ok-answer_last.ensures.after before passed_here clean_here))

@@ -1,12 +1,12 @@
-use Rattle.std.proofs.Common.{◌≡◌, ◌++◌, ◌∷◌, ◌<◌, ◌∙◌, true, false, [], sym, ap, subst, append_assoc, length, arith, rules}
+use Rattle.std.proofs.Common.{◌≡◌, ◌++◌, ◌∷◌, ◌<◌, ◌∙◌, true, false, [], Err, refl, sym, ap, subst, append_assoc, length, arith, rules}
 use Rattle.std.specs.Prelude.{IsTrue}
-use Rattle.std.specs.Io.{StartsWith}
-use Rattle.std.specs.Io.KnownBytes.{Appends}
+use Rattle.std.specs.Io.KnownBytes.{Keeps}
 use Rattle.model_guests.specs.Text.{Text}
-use Rattle.line_runs.specs.Pieces.{Reaches}
+use Rattle.line_runs.specs.declared.pieces.Stop.TheVariants.{Failed, Memory}
+use Rattle.line_runs.specs.Pieces.{Reaches, StopsWithin, LacksWithin}
 use Rattle.line_runs.proofs.Buffers.{rest_is_last}
-use Rattle.line_runs.proofs.Reaching.{reaches_first, reaches_line, stops_at}
-use Rattle.line_runs.proofs.Results.{on_err}
+use Rattle.line_runs.proofs.Reaching.{reaches_first, reaches_line, stops_at, stops_flush, stops_kept, lacks_at}
+use Rattle.line_runs.proofs.Results.{by_flag}
 use Rattle.line_runs.proofs.pieces.run_lines.Goals as goal
 
 -- a line and its LF are taken off the front
@@ -21,18 +21,54 @@ loop-line-init g c = record {
     reaches_first g.S.Answers.protocol c.args.server.now before c.args.text.now c.args.long (g.W.Writer.written c.args.writer.now) clean passed,
     λ wrote. absurd (let wrong : false ≡ true = wrote in cc),
   );
+  silent = λ untold. refl;
   failures = search rules;
 }
 
-pub returns-in_err-write_all-clause-stops : goal.returns-in_err-write_all-clause-stops
-returns-in_err-write_all-clause-stops g c = on_err c.from_residual.result (λ before clean passed.
+pub returns-in-Err-Failed-clause-stops : goal.returns-in-Err-Failed-clause-stops
+returns-in-Err-Failed-clause-stops g c = λ is before clean passed.
     let run = (c.loop-line.invariant.runs before clean passed).0 in
-    let failed = c.in_err-write_all.ensures.err in
-    let line = c.in-Some.line.now in
-    let text : c.as_slice-written.result.now ≡ g.S.Answers.protocol.writes c.loop-line.server (run.before ++ line) = c.as_slice-written.ensures.value ∙ c.answer.ensures.text run.before run.passed in
-    stops_at g.S.Answers.protocol c.args.server.now (before ++ c.args.text.now) c.loop-line.rest.now line c.in-Some.after.now failed.0 c.loop-line.long (g.W.Writer.written c.args.writer.now)
-    (g.W.Writer.written c.loop-line.writer) (g.W.Writer.written c.write_all.new.writer) c.loop-line.server c.answer.new.self
-    c.in-Some.ensures.line.1 run c.in-Some.ensures.line.0 (subst (λ (t : Text). StartsWith t failed.0) text failed.1) failed.2 (c.answer.ensures.after run.before run.passed))
+    let failed = c.in-Err-Failed.ensures.failed (ap Err (let same : c.in-Err-Failed.field-0 ≡ Failed = cc in same)) run.before run.passed in
+    stops_at g.S.Answers.protocol c.args.server.now (before ++ c.args.text.now) c.loop-line.rest.now c.in-Some.line.now c.in-Some.after.now failed.0 c.loop-line.long (g.W.Writer.written c.args.writer.now)
+    (g.W.Writer.written c.loop-line.writer) (g.W.Writer.written c.answer_line.new.writer) c.loop-line.server c.answer_line.new.server
+    c.in-Some.ensures.line.1 run c.in-Some.ensures.line.0 failed.1 failed.2 (c.in-Err-Failed.ensures.failed_after (ap Err (let same : c.in-Err-Failed.field-0 ≡ Failed = cc in same)) run.before run.passed)
+
+pub returns-in-Err-Memory-clause-stops : goal.returns-in-Err-Memory-clause-stops
+returns-in-Err-Memory-clause-stops g c = λ is before clean passed.
+    let p = g.S.Answers.protocol in
+    let text = before ++ c.args.text.now in
+    let rest = c.loop-line.rest.now in
+    let old = g.W.Writer.written c.args.writer.now in
+    let mid = g.W.Writer.written c.loop-line.writer in
+    let new = g.W.Writer.written c.flushed.new.writer in
+    let lacking = c.in-Err-Memory.ensures.lacking (ap Err (let same : c.in-Err-Memory.field-0 ≡ Memory = cc in same)) in
+    let run = c.loop-line.invariant.runs before clean passed in
+    let wrote : c.flushed.result ≡ Failed = cc in
+    let kept = subst (λ (x : g.row.W.Denot). Keeps (g.W.Writer.written x) new) lacking.1 c.flushed.ensures.bytes in
+    subst (λ (x : g.row.S.Denot). StopsWithin p c.args.server.now text old new x) (sym lacking.0)
+    (stops_kept p c.args.server.now text old mid new c.loop-line.server
+    (stops_flush p c.args.server.now text rest c.loop-line.long old mid c.loop-line.server run.0 (run.1 (c.flushed.ensures.wrote wrote))) kept)
+
+pub returns-in-Err-Memory-clause-lacks : goal.returns-in-Err-Memory-clause-lacks
+returns-in-Err-Memory-clause-lacks g c = λ is before clean passed.
+    let p = g.S.Answers.protocol in
+    let text = before ++ c.args.text.now in
+    let old = g.W.Writer.written c.args.writer.now in
+    let mid = g.W.Writer.written c.loop-line.writer in
+    let new = g.W.Writer.written c.flushed.new.writer in
+    let lacking = c.in-Err-Memory.ensures.lacking (ap Err (let same : c.in-Err-Memory.field-0 ≡ Memory = cc in same)) in
+    let run = c.loop-line.invariant.runs before clean passed in
+    let kept = subst (λ (x : g.row.W.Denot). Keeps (g.W.Writer.written x) new) lacking.1 c.flushed.ensures.bytes in
+    subst (λ (x : g.row.S.Denot). LacksWithin p c.args.server.now text old new x) (sym lacking.0)
+    (lacks_at p c.args.server.now text c.loop-line.rest.now c.in-Some.line.now c.in-Some.after.now c.loop-line.long old mid new c.loop-line.server
+    c.in-Some.ensures.line.1 run.0 c.in-Some.ensures.line.0 kept)
+
+pub returns-in-Err-Memory-clause-flushed : goal.returns-in-Err-Memory-clause-flushed
+returns-in-Err-Memory-clause-flushed g c = λ is.
+    let lacking = c.in-Err-Memory.ensures.lacking (ap Err (let same : c.in-Err-Memory.field-0 ≡ Memory = cc in same)) in
+    let here : c.flushed.result ≡ Memory = cc in
+    by_flag c.loop-line.wrote (λ wrote. c.flushed.ensures.flushed here wrote)
+    (λ untold. c.flushed.ensures.kept untold ∙ lacking.1 ∙ c.loop-line.invariant.silent untold)
 
 pub loop-line-preserved-then-wrote : goal.loop-line-preserved-then-wrote
 loop-line-preserved-then-wrote g c =
@@ -42,14 +78,14 @@ loop-line-preserved-then-wrote g c =
       taken = (taken.0 ++ (line ++ 10 ∷ []), taken_more c.args.text.now taken.0 c.loop-line.rest.now line c.in-Some.after.now taken.1 c.in-Some.ensures.line.1);
       runs = λ before clean passed.
           let run = (c.loop-line.invariant.runs before clean passed).0 in
-          let text : c.as_slice-written.result.now ≡ g.S.Answers.protocol.writes c.loop-line.server (run.before ++ line) = c.as_slice-written.ensures.value ∙ c.answer.ensures.text run.before run.passed in
           let more = reaches_line g.S.Answers.protocol c.args.server.now (before ++ c.args.text.now) c.loop-line.rest.now line c.in-Some.after.now c.loop-line.long
-          (g.W.Writer.written c.args.writer.now) (g.W.Writer.written c.loop-line.writer) (g.W.Writer.written c.write_all.new.writer) c.loop-line.server c.answer.new.self
+          (g.W.Writer.written c.args.writer.now) (g.W.Writer.written c.loop-line.writer) (g.W.Writer.written c.answer_line.new.writer) c.loop-line.server c.answer_line.new.server
           c.in-Some.ensures.line.1 run c.in-Some.ensures.line.0
-          (subst (Appends (g.W.Writer.written c.loop-line.writer) (g.W.Writer.written c.write_all.new.writer)) text c.in_ok-write_all.ensures.ok)
-          (c.answer.ensures.after run.before run.passed) in
+          (c.in-Ok.ensures.output run.before run.passed)
+          (c.in-Ok.ensures.after run.before run.passed) in
           (more.0, λ wrote. more.1);
-      failures = omega (arith, c.in_ok-write_all.ensures.failures, c.loop-line.invariant.failures);
+      silent = λ untold. absurd (let wrong : true ≡ false = sym c.if-wrote.true ∙ untold in cc);
+      failures = omega (arith, c.in-Ok.ensures.failures, c.loop-line.invariant.failures);
     }
 
 pub loop-line-preserved : goal.loop-line-preserved
@@ -60,14 +96,14 @@ loop-line-preserved g c =
       taken = (taken.0 ++ (line ++ 10 ∷ []), taken_more c.args.text.now taken.0 c.loop-line.rest.now line c.in-Some.after.now taken.1 c.in-Some.ensures.line.1);
       runs = λ before clean passed.
           let run = (c.loop-line.invariant.runs before clean passed).0 in
-          let text : c.as_slice-written.result.now ≡ g.S.Answers.protocol.writes c.loop-line.server (run.before ++ line) = c.as_slice-written.ensures.value ∙ c.answer.ensures.text run.before run.passed in
           let more = reaches_line g.S.Answers.protocol c.args.server.now (before ++ c.args.text.now) c.loop-line.rest.now line c.in-Some.after.now c.loop-line.long
-          (g.W.Writer.written c.args.writer.now) (g.W.Writer.written c.loop-line.writer) (g.W.Writer.written c.write_all.new.writer) c.loop-line.server c.answer.new.self
+          (g.W.Writer.written c.args.writer.now) (g.W.Writer.written c.loop-line.writer) (g.W.Writer.written c.answer_line.new.writer) c.loop-line.server c.answer_line.new.server
           c.in-Some.ensures.line.1 run c.in-Some.ensures.line.0
-          (subst (Appends (g.W.Writer.written c.loop-line.writer) (g.W.Writer.written c.write_all.new.writer)) text c.in_ok-write_all.ensures.ok)
-          (c.answer.ensures.after run.before run.passed) in
+          (c.in-Ok.ensures.output run.before run.passed)
+          (c.in-Ok.ensures.after run.before run.passed) in
           (more.0, λ wrote. more.1);
-      failures = omega (arith, c.in_ok-write_all.ensures.failures, c.loop-line.invariant.failures);
+      silent = λ untold. c.in-Ok.ensures.silent untold ∙ c.loop-line.invariant.silent c.if-wrote.false;
+      failures = omega (arith, c.in-Ok.ensures.failures, c.loop-line.invariant.failures);
     }
 
 pub returns-clause-runs : goal.returns-clause-runs

@@ -1,5 +1,5 @@
 use Rattle.std.proofs.Common.{◌≡◌, ◌++◌, ◌<◌, length}
-use Rattle.std.specs.Prelude.{IsTrue}
+use Rattle.std.specs.Prelude.{IsTrue, IsFalse}
 use Rattle.model_guests.specs.Text.{Text}
 use Rattle.model_guests.specs.LineRuns.{HasNoEnd}
 use Rattle.line_runs.specs.Pieces.{IsBefore, Reaches}
@@ -11,6 +11,7 @@ invariant-loop-line g l = record {
   runs : (before : Text) → HasNoEnd before → IsBefore l.fn.long before →
       (run : Reaches g.S.Answers.protocol l.fn.server (before ++ l.fn.text) l.rest l.long (g.W.Writer.written l.fn.writer) (g.W.Writer.written l.writer) l.server)
       × (IsTrue l.wrote → 0 < length run.whole);
+  silent : IsFalse l.wrote → l.writer ≡ l.fn.writer;
   failures : g.W.Writer.failures l.writer ≡ g.W.Writer.failures l.fn.writer;
 }
 

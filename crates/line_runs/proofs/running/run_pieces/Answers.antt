@@ -1,12 +1,19 @@
-use Rattle.std.proofs.Common.{◌≡◌, ◌≤◌, ◌∙◌, ◌++◌, [], refl, sym, subst, length, arith, Option}
+use Rattle.std.proofs.Common.{◌≡◌, ◌≤◌, ◌⊎◌, inl, inr, ◌∙◌, ◌++◌, [], Err, refl, sym, ap, subst, length, arith, Option}
 use Rattle.std.proofs.KnownBytes.{Consumes-nil, Consumes-trans, Consumes-kept}
 use Rattle.model_guests.specs.Text.{Text}
 use Rattle.model_guests.specs.LineRuns.{Protocol, HasNoEnd}
 use Rattle.line_runs.specs.Pieces.{Held, Reaches}
-use Rattle.line_runs.proofs.Reaching.{reaches_none, reaches_more, reaches_on, stops_on}
-use Rattle.line_runs.proofs.Endings.{cut_of, stopped_of}
-use Rattle.line_runs.proofs.Results.{ok_part, err_part, none_failed}
+use Rattle.line_runs.proofs.Reaching.{reaches_none, reaches_more, reaches_on, stops_on, lacks_on}
+use Rattle.line_runs.proofs.Endings.{cut_of, stopped_of, lacking_of}
+use Rattle.line_runs.proofs.Results.{write_failed, lacked}
 use Rattle.line_runs.proofs.running.run_pieces.Goals as goal
+
+-- all is flushed, or nothing was written, also after more of it
+flushed_from : {W : Type 0} (flushed written : W → Option Text) (old mid new : W) → (flushed mid ≡ written mid) ⊎ (mid ≡ old)
+    → (flushed new ≡ written new) ⊎ (new ≡ mid) → (flushed new ≡ written new) ⊎ (new ≡ old)
+flushed_from flushed written old mid new first (inl is) = inl is
+flushed_from {W} flushed written old mid new (inl was) (inr same) = inl (ap flushed same ∙ was ∙ sym (ap written same))
+flushed_from flushed written old mid new (inr was) (inr same) = inr (same ∙ was)
 
 pub loop-more-init : goal.loop-more-init
 loop-more-init g c =
@@ -17,6 +24,7 @@ loop-more-init g c =
       runs = ([], Consumes-nil (g.R.Reader.rest c.args.reader.now), subst (λ (h : Held). Reaches g.S.Answers.protocol w [] h.text h.long old old w) empty (reaches_none g.S.Answers.protocol w old));
       rest = subst (λ (h : Held). HasNoEnd h.text) empty refl;
       few = subst (λ (h : Held). length h.text ≤ 200) empty (omega arith);
+      flushed = inr refl;
       reads = refl;
       writes = refl;
     }
@@ -49,8 +57,8 @@ returns-then-not-more-clause-runs g c =
       filled g.S.Answers.protocol c.args.server.now runs.0 came.0 c.loop-more.held c.fill.new.self (g.W.Writer.written c.args.writer.now) (g.W.Writer.written c.loop-more.writer) c.loop-more.server runs.2 came.2,
     )
 
-pub returns-then-is_err-clause-stopped : goal.returns-then-is_err-clause-stopped
-returns-then-is_err-clause-stopped g c = λ is script known.
+pub returns-in_err-run_piece-clause-stopped : goal.returns-in_err-run_piece-clause-stopped
+returns-in_err-run_piece-clause-stopped g c = λ is script known.
     let w = c.args.server.now in
     let start = g.R.Reader.rest c.args.reader.now in
     let far = g.R.Reader.rest c.loop-more.reader in
@@ -62,9 +70,31 @@ returns-then-is_err-clause-stopped g c = λ is script known.
     let came = c.in-Ok.ensures.bytes in
     let held = c.fill.new.self in
     let run = filled g.S.Answers.protocol w runs.0 came.0 c.loop-more.held held old mid c.loop-more.server runs.2 came.2 in
-    let stops = err_part c.run_piece.result (sym c.is_err.ensures.value ∙ c.if-is_err.true) c.run_piece.ensures.stops in
+    let stops = c.in_err-run_piece.ensures.stops (ap Err (write_failed c.from_residual.result _ c.from_residual.ensures.1 is)) in
     stopped_of g.S.Answers.protocol w start end (runs.0 ++ came.0) script old new c.run_piece.new.server (Consumes-trans start far end runs.0 came.0 runs.1 came.1)
     (stops_on g.S.Answers.protocol w (runs.0 ++ came.0) held.text held.long old mid new c.loop-more.server c.run_piece.new.server run (stops run.before run.clean run.passed)) known
+
+pub returns-in_err-run_piece-clause-lacking : goal.returns-in_err-run_piece-clause-lacking
+returns-in_err-run_piece-clause-lacking g c = λ is script known.
+    let w = c.args.server.now in
+    let start = g.R.Reader.rest c.args.reader.now in
+    let far = g.R.Reader.rest c.loop-more.reader in
+    let end = g.R.Reader.rest c.fill.new.reader in
+    let old = g.W.Writer.written c.args.writer.now in
+    let mid = g.W.Writer.written c.loop-more.writer in
+    let new = g.W.Writer.written c.run_piece.new.writer in
+    let runs = c.loop-more.invariant.runs in
+    let came = c.in-Ok.ensures.bytes in
+    let held = c.fill.new.self in
+    let run = filled g.S.Answers.protocol w runs.0 came.0 c.loop-more.held held old mid c.loop-more.server runs.2 came.2 in
+    let lacks = c.in_err-run_piece.ensures.lacks (ap Err (lacked c.from_residual.result _ c.from_residual.ensures.1 is)) in
+    lacking_of g.S.Answers.protocol w start end (runs.0 ++ came.0) script old new c.run_piece.new.server (Consumes-trans start far end runs.0 came.0 runs.1 came.1)
+    (lacks_on g.S.Answers.protocol w (runs.0 ++ came.0) held.text held.long old mid new c.loop-more.server c.run_piece.new.server run (lacks run.before run.clean run.passed)) known
+
+pub returns-in_err-run_piece-clause-lacking_flushed : goal.returns-in_err-run_piece-clause-lacking_flushed
+returns-in_err-run_piece-clause-lacking_flushed g c = λ is.
+    flushed_from g.W.Writer.flushed g.W.Writer.written c.args.writer.now c.loop-more.writer c.run_piece.new.writer c.loop-more.invariant.flushed
+    (c.in_err-run_piece.ensures.lacking_flushed (ap Err (lacked c.from_residual.result _ c.from_residual.ensures.1 is)))
 
 pub loop-more-preserved : goal.loop-more-preserved
 loop-more-preserved g c =
@@ -79,8 +109,7 @@ loop-more-preserved g c =
     let came = c.in-Ok.ensures.bytes in
     let held = c.fill.new.self in
     let run = filled g.S.Answers.protocol w runs.0 came.0 c.loop-more.held held old mid c.loop-more.server runs.2 came.2 in
-    let well = sym c.is_err.ensures.value ∙ c.if-is_err.false in
-    let more = ok_part c.run_piece.result well c.run_piece.ensures.runs in
+    let more = c.in_ok-run_piece.ensures.runs in
     record {
       runs = (
         runs.0 ++ came.0,
@@ -88,8 +117,12 @@ loop-more-preserved g c =
         reaches_on g.S.Answers.protocol w (runs.0 ++ came.0) held.text c.run_piece.new.held.text held.long c.run_piece.new.held.long old mid new c.loop-more.server c.run_piece.new.server
             run (more run.before run.clean run.passed),
       );
-      rest = ok_part c.run_piece.result well c.run_piece.ensures.rest;
-      few = ok_part c.run_piece.result well c.run_piece.ensures.few;
+      rest = c.in_ok-run_piece.ensures.rest;
+      few = c.in_ok-run_piece.ensures.few;
+      flushed = flushed_from g.W.Writer.flushed g.W.Writer.written c.args.writer.now c.loop-more.writer c.run_piece.new.writer c.loop-more.invariant.flushed c.in_ok-run_piece.ensures.flushed;
       reads = omega (arith, c.in-Ok.ensures.failures, c.loop-more.invariant.reads);
-      writes = omega (arith, c.run_piece.ensures.failures, none_failed c.run_piece.result well, c.loop-more.invariant.writes);
+      writes = omega (arith, c.in_ok-run_piece.ensures.failures, c.loop-more.invariant.writes);
     }
+
+pub returns-then-not-more-clause-flushed : goal.returns-then-not-more-clause-flushed
+returns-then-not-more-clause-flushed g c = c.loop-more.invariant.flushed

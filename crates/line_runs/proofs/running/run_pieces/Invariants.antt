@@ -1,4 +1,4 @@
-use Rattle.std.proofs.Common.{◌≡◌, ◌≤◌, length}
+use Rattle.std.proofs.Common.{◌≡◌, ◌≤◌, ◌⊎◌, length}
 use Rattle.std.specs.Io.KnownBytes.{Consumes}
 use Rattle.model_guests.specs.Text.{Text}
 use Rattle.model_guests.specs.LineRuns.{HasNoEnd}
@@ -11,6 +11,7 @@ invariant-loop-more g l = record {
       × Reaches g.S.Answers.protocol l.fn.server read l.held.text l.held.long (g.W.Writer.written l.fn.writer) (g.W.Writer.written l.writer) l.server;
   rest : HasNoEnd l.held.text;
   few : length l.held.text ≤ 200;
+  flushed : (g.W.Writer.flushed l.writer ≡ g.W.Writer.written l.writer) ⊎ (l.writer ≡ l.fn.writer);
   reads : g.R.Reader.failures l.reader ≡ g.R.Reader.failures l.fn.reader;
   writes : g.W.Writer.failures l.writer ≡ g.W.Writer.failures l.fn.writer;
 }
