@@ -11,6 +11,7 @@ use accesses::{Refusal, Reply};
 use host_bridge::Host;
 use line_runs::Answers;
 use lines::{FirmwareWhat, LineText, firmware_meaning, push_named};
+use std::alloc::AllocError;
 
 /// Runs the event of a line, and gives under which name it is answered and with what, if the line makes
 /// output.
@@ -67,12 +68,20 @@ pub struct FirmwareLines;
 impl Answers<FirmwareLines> for Host {
     ghost protocol = { host_protocol };
 
-    fn answer(&mut self, line: &[u8], long: bool, text: &mut LineText) {
+    ghost TakesMemory = { ⊥ };
+
+    fn answer(
+        &mut self,
+        line: &[u8],
+        long: bool,
+        text: &mut LineText,
+    ) -> Result<Option<String>, AllocError> {
         // No event runs, and all such lines write the same.
         if long {
             push_named(text, b"?", Reply::Refused(Refusal::LongLine));
-            return;
+            return Ok(None);
         }
         push_answer(self, line, text);
+        Ok(None)
     }
 }

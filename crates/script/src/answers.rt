@@ -10,6 +10,7 @@ ghost use Rattle.model_handoff.specs.RunsOver.{over_protocol};
 use line_runs::Answers;
 use lines::{LineText, What, Who, line_meaning, push_line};
 use monitor::{Monitor, Refusal, Reply};
+use std::alloc::AllocError;
 
 /// Runs the event of a line, and gives under whose name it is answered and with what, if the line makes
 /// output.
@@ -74,7 +75,14 @@ pub struct Script;
 impl Answers<Script> for Monitor {
     ghost protocol = { over_protocol };
 
-    fn answer(&mut self, line: &[u8], long: bool, text: &mut LineText) {
+    ghost TakesMemory = { ⊥ };
+
+    fn answer(
+        &mut self,
+        line: &[u8],
+        long: bool,
+        text: &mut LineText,
+    ) -> Result<Option<String>, AllocError> {
         // No event runs, and all such lines write the same.
         if long {
             push_line(
@@ -83,8 +91,9 @@ impl Answers<Script> for Monitor {
                 self.names(),
                 Reply::Refused(Refusal::LongLine),
             );
-            return;
+            return Ok(None);
         }
         push_answer(self, line, text);
+        Ok(None)
     }
 }

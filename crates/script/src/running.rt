@@ -28,6 +28,9 @@ pub fn run<R: Reader, W: Writer>(
     ensures reads { R.failures reader.new ≡ R.failures reader.old + read_failures_of result }
     ensures writes { W.failures writer.new ≡ W.failures writer.old + write_failures_of result }
 
+    // No line takes memory.
+    ensures memory { ¬ IsErrOf result RunFault.Memory }
+
     // The script was read to its end, the output of all its lines was written, and all events ran.
     ensures end { OnOk result (IsAtEnd (R.rest reader.new)) }
     ensures output { OnOk result (ForSome (R.rest reader.old) (λ script.
