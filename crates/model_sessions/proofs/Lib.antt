@@ -1,1 +1,2 @@
 pub mod SessionLines
+pub mod HandoverLines

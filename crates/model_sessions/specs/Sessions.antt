@@ -1,30 +1,95 @@
--- A session of firmware: its lines, and among them `host audit`, at which the text of an audit is written.
---     is_audit line      whether a line asks for an audit
---     session_output, after_session_line      what a line writes, and the board after it
+-- A session over a board: firmware's lines from reset on, and among them `host audit`, which writes the text of an audit,
+-- and `host guests`, which hands the board to its guests. After that each line is a line of a script.
+--     host_word line      the second of a line's two words, where the first is `host`
+--     is_audit, is_handover      whether a line asks for an audit, or for guests
+--     SessionNow      the board of a world as firmware drives it, or the guests over it
+--     handed_over w s      the board as guests get it: given functions at reset, and the address latch clear
+--     handover_lines f      what is written, by the first fault
+--     session_output, after_session_line      what a line writes, and the session after it
 --     session_protocol      the two as a protocol, so that they go along lines
-use Rattle.std.specs.Prelude.{List, [], ◌∷◌, Bool, false, ◌&&◌, not, if◌then◌else◌, codes}
+use Rattle.std.specs.Prelude.{List, [], ◌∷◌, ℕ, ◌++◌, Bool, false, if◌then◌else◌, Option, None, Some, codes, decimal}
+use Rattle.std.specs.Option.{option_map_or}
 use Rattle.std.specs.Str.{bytes_eq}
 use Rattle.model_board.specs.State.{State}
-use Rattle.model_guests.specs.Text.{Text, words}
-use Rattle.model_guests.specs.Grammar.{is_long}
+use Rattle.model_set_up.specs.PlacedRegions.{PlacedRegion}
+use Rattle.model_guests.specs.Text.{Text, words, text_of_lines}
+use Rattle.model_guests.specs.Grammar.{on_word, host, is_long}
+use Rattle.model_guests.specs.Accesses.{done}
+use Rattle.model_guests.specs.Replies.{line_text}
+use Rattle.model_guests.specs.Report.{path_text}
+use Rattle.model_guests.specs.World.{World}
 use Rattle.model_guests.specs.LineRuns.{Protocol}
 use Rattle.model_firmware.specs.FirmwareLines.{line_output, after_line}
-use Rattle.model_audit.specs.AuditText.{audit}
+use Rattle.model_audit.specs.AuditText.{audit, audit_line, problem_text, register_text}
+use Rattle.model_handoff.specs.Handoffs.{with_given_reset}
+use Rattle.model_handoff.specs.Regions.{HandoffFault, in_disorder, closed_region, first_fault}
+use Rattle.model_handoff.specs.WorldOver.{WorldOver, world_over}
+use Rattle.model_handoff.specs.WorldOver as over
 
-abbrev pub are_of_audit : List Text → Bool
-are_of_audit (first ∷ second ∷ []) = bytes_eq first (codes "host") && bytes_eq second (codes "audit")
-are_of_audit _ = false
+abbrev pub host_word_in : List Text → Option Text
+host_word_in (first ∷ second ∷ []) = on_word first (codes "host") (Some second)
+host_word_in _ = None
 
 -- a long line asks for nothing
+abbrev pub host_word : Text → Option Text
+host_word line = if is_long line then None else host_word_in (words line)
+
+abbrev pub is_host_line : Text → Text → Bool
+is_host_line word line = option_map_or (λ (w : Text). bytes_eq w word) (host_word line) false
+
 abbrev pub is_audit : Text → Bool
-is_audit line = not (is_long line) && are_of_audit (words line)
+is_audit line = is_host_line (codes "audit") line
 
--- all that is wrong in the registers as they stand at that line
-abbrev pub session_output : State → Text → Text
-session_output s line = if is_audit line then audit s.functions else line_output s line
+abbrev pub is_handover : Text → Bool
+is_handover line = is_host_line (codes "guests") line
 
-abbrev pub after_session_line : State → Text → State
-after_session_line s line = if is_audit line then s else after_line s line
+-- ---- the handover
 
-abbrev pub session_protocol : Protocol State
+pub data SessionNow : Type 0 where
+  driven : World → State → SessionNow
+  given : WorldOver → SessionNow
+
+abbrev pub handed_over : World → State → State
+handed_over w s = record (with_given_reset w s) { latch = 0 }
+
+abbrev pub closed_text : PlacedRegion → Text
+closed_text q = codes "closed: " ++ path_text q.path ++ register_text q.index
+
+abbrev pub refused_line : ℕ → Text → Text
+refused_line n words = codes "host: refused " ++ decimal n ++ codes " " ++ words
+
+-- what is wrong, and its number
+abbrev pub handover_lines : Option HandoffFault → List Text
+handover_lines None = line_text host done ∷ []
+handover_lines (Some (in_disorder p)) = audit_line (problem_text p) ∷ refused_line 207 (codes "not in order") ∷ []
+handover_lines (Some (closed_region q)) = closed_text q ∷ refused_line 206 (codes "region closed") ∷ []
+
+abbrev pub handover_output : Option HandoffFault → Text
+handover_output f = text_of_lines (handover_lines f)
+
+abbrev pub after_handover : World → State → Option HandoffFault → SessionNow
+after_handover w s None = given (world_over w (handed_over w s))
+after_handover w s (Some f) = driven w s
+
+-- ---- a line
+
+abbrev pub driven_output : World → State → Text → Text
+driven_output w s line =
+    if is_audit line then audit s.functions
+    else (if is_handover line then handover_output (first_fault w s) else line_output s line)
+
+abbrev pub after_driven : World → State → Text → SessionNow
+after_driven w s line =
+    if is_audit line then driven w s
+    else (if is_handover line then after_handover w s (first_fault w s) else driven w (after_line s line))
+
+abbrev pub session_output : SessionNow → Text → Text
+session_output (driven w s) line = driven_output w s line
+session_output (given m) line = over.line_output m line
+
+abbrev pub after_session_line : SessionNow → Text → SessionNow
+after_session_line (driven w s) line = after_driven w s line
+after_session_line (given m) line = given (over.after_line m line)
+
+abbrev pub session_protocol : Protocol SessionNow
 session_protocol = record { writes = session_output; next = after_session_line }
