@@ -299,7 +299,7 @@ def name_problems(every):
         if entry.kind == "guest":
             name = entry.values.get("name", "")
             if not re.fullmatch(r"[a-z][a-z0-9]{0,15}", name) or name == "host":
-                yield problem(entry, "name", "is no name that a guest may have", 109)
+                yield problem(entry, "name", "is no name that a guest may have: write up to 16 of a to z and 0 to 9, a letter first, and not host", 109)
             if name in earlier:
                 yield problem(entry, "name", "is the name of an earlier guest", 109, earlier[name])
             earlier.setdefault(name, entry)
@@ -311,7 +311,9 @@ def slot_problems(every):
         if entry.kind == "slot":
             slot = entry.values[""]
             if not is_path(slot) or stands.get(slot) != "endpoint":
-                yield problem(entry, "", "is no path of an endpoint", 110)
+                there = ": a bridge is there" if stands.get(slot) == "bridge" else ": no function is there"
+                why = there if is_path(slot) else meant_path(slot)
+                yield problem(entry, "", f"is no path of an endpoint{why}", 110)
             if is_path(slot) and slot in earlier:
                 yield problem(entry, "", "is in an earlier slot", 110, earlier[slot])
             earlier.setdefault(slot, entry)

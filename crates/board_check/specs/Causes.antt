@@ -1,5 +1,5 @@
 -- What is said of a problem beyond the words of its rule.
---     path_cause_text      what is said of the path of a function
+--     path_cause_text      what is said of the path of a function or a slot
 --     own_text      what is said of an entry that breaks a rule at a key
 --     other_text      the earlier entry that has what it asks for, with its line
 --     taker_text      the region without registers of its own and the one that it meets, with their lines
@@ -20,7 +20,7 @@ use Rattle.board_check.specs.KeyCauses.{known_text, asked_text}
 use Rattle.board_check.specs.SizeCauses.{bar_text}
 use Rattle.board_check.specs.ApertureCauses.{first_words, io_parts, mem_parts, pref_text}
 use Rattle.board_check.specs.PatternCauses.{bar_masks_text, config_masks_text}
-use Rattle.board_check.specs.PathCauses.{path_form_text, bridge_text, zero_text}
+use Rattle.board_check.specs.PathCauses.{path_form_text, bridge_text, zero_text, slot_text}
 use Rattle.board_check.specs.Said.{bar_of, config_of, at_of}
 use Rattle.board_check.specs.Shown.{entry_text, in_line_text}
 
@@ -28,6 +28,7 @@ abbrev pub at_text : List Standing → Rule → List ℕ → List ℕ
 at_text ss rule.Path at = path_form_text at
 at_text ss rule.BehindBridge at = bridge_text ss at
 at_text ss rule.FunctionZero at = zero_text at
+at_text ss rule.NamesEndpoint at = slot_text ss at
 at_text ss _ at = []
 
 abbrev pub path_cause_text : File → Entry → Rule → List ℕ
@@ -49,6 +50,7 @@ own_text f e rule.PrefAperture k = pref_text f.mem f.pref
 own_text f e rule.Path k = path_cause_text f e rule.Path
 own_text f e rule.BehindBridge k = path_cause_text f e rule.BehindBridge
 own_text f e rule.FunctionZero k = path_cause_text f e rule.FunctionZero
+own_text f e rule.NamesEndpoint k = path_cause_text f e rule.NamesEndpoint
 own_text f e _ k = []
 
 abbrev pub named_text : Other → List ℕ

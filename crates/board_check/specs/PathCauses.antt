@@ -3,6 +3,7 @@
 --     path_form_text      that path, or what a path is
 --     first_gap      of the beginnings of a path text, the first that is no bridge's path
 --     zero_text      function 0 of the device
+--     slot_text      what stands at a path that is no endpoint's
 use Rattle.std.specs.Prelude.{ℕ, ◌-◌, ◌==◌, ◌&&◌, not, Bool, List, [], ◌∷◌, ◌++◌, length, take, map, codes, Option, Some, None, option_map, if◌then◌else◌}
 use Rattle.std.specs.List.{position, range_with_len, slice_index}
 use Rattle.std.specs.Option.{option_map_or}
@@ -58,3 +59,11 @@ bridge_text ss at = option_map_or (gap_text at) (first_gap ss at) []
 -- the last byte of a path is its function
 abbrev pub zero_text : List ℕ → List ℕ
 zero_text at = codes ": no function at " ++ map shown_byte (take (length at - 1) at) ++ codes "0"
+
+-- ---- a slot that is no path of an endpoint
+
+abbrev pub slot_text : List Standing → List ℕ → List ℕ
+slot_text ss at =
+    if is_path_text at
+    then if has_bridge ss (path_at at) then codes ": a bridge is there" else codes ": no function is there"
+    else path_form_text at

@@ -1,6 +1,6 @@
 -- What a file says of an entry.
 --     bar_of, config_of      the region, or the block of own registers, of an entry
---     at_of      the text of the path of a function
+--     at_of      the text of the path of a function or a slot
 use Rattle.std.specs.Prelude.{ℕ, List, Option, None, option_map, option_and_then}
 use Rattle.std.specs.List.{slice_get}
 use Rattle.board_file.specs.Entries.{Bar, Config, File}
@@ -18,4 +18,5 @@ config_of f _ = None
 abbrev pub at_of : File → Entry → Option (List ℕ)
 at_of f (entry.Endpoint i) = option_map (λ e. e.at) (slice_get f.endpoints i)
 at_of f (entry.Bridge i) = option_map (λ b. b.at) (slice_get f.bridges i)
+at_of f (entry.Slot i j) = option_and_then (λ g. slice_get g.slots j) (slice_get f.guests i)
 at_of f _ = None

@@ -10,7 +10,7 @@ use crate::aperture_causes::{io_words, mem_words, pref_words};
 use crate::key_causes::{push_asked, push_known};
 use crate::keys::level_of;
 use crate::lines::{Other, Told, line_at};
-use crate::path_causes::{push_bridge, push_path_form, push_zero};
+use crate::path_causes::{push_bridge, push_path_form, push_slot, push_zero};
 use crate::pattern_causes::{push_bar_masks, push_config_masks};
 use crate::said::{at_of, bar_of, config_of};
 use crate::shown::{push_entry, push_in_line};
@@ -44,7 +44,7 @@ fn push_patterns(text: &mut String, file: &FileEntries<'_>, entry: Entry) -> Res
     }
 }
 
-/// Appends what is wrong with the path of a function.
+/// Appends what is wrong with the path of a function or a slot.
 fn push_path(
     alloc: Global,
     text: &mut String,
@@ -63,6 +63,7 @@ fn push_path(
         Rule::Path => push_path_form(alloc, text, at),
         Rule::BehindBridge => push_bridge(text, functions, at),
         Rule::FunctionZero => push_zero(text, at),
+        Rule::NamesEndpoint => push_slot(alloc, text, functions, at),
         _ => Ok(()),
     }
 }
@@ -88,7 +89,7 @@ fn push_own(
         Rule::IoAperture => text.push_str(io_words(file.io)),
         Rule::MemAperture => text.push_str(mem_words(file.mem)),
         Rule::PrefAperture => text.push_str(pref_words(file.mem, file.pref)),
-        Rule::Path | Rule::BehindBridge | Rule::FunctionZero => {
+        Rule::Path | Rule::BehindBridge | Rule::FunctionZero | Rule::NamesEndpoint => {
             push_path(alloc, text, file, functions, problem)
         }
         _ => Ok(()),
@@ -103,8 +104,8 @@ fn push_named(text: &mut String, other: Other) -> Result<(), AllocError>
     push_in_line(text, line_at(other.place))
 }
 
-/// Appends the earlier entry that has what a problem's entry asks for itself.
-fn push_other(text: &mut String, other: Option<Other>) -> Result<(), AllocError>
+/// Appends another entry with its line, after a colon.
+pub fn push_other(text: &mut String, other: Option<Other>) -> Result<(), AllocError>
     ensures { OnOk result (string_bytes text.new ≡ string_bytes text.old ++ other_text other) }
 {
     match other {

@@ -25,7 +25,8 @@ mod texts;
 mod words;
 
 pub use board_file::{Entry, Problem, Rule};
-pub use lines::{line_at, place_of};
+pub use causes::push_other;
+pub use lines::{Other, line_at, place_of, with_place};
 pub use style::Style;
 pub use telling::refusal_text;
 pub use texts::{fault_words, push_below, push_line, push_place};

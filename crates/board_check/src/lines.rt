@@ -99,8 +99,8 @@ pub fn place_of(
     }
 }
 
-/// Another entry of a problem at a key, with its place.
-fn with_place(
+/// Another entry that is told of at a key, with its place.
+pub fn with_place(
     alloc: Global,
     places: &Places<'_>,
     entry: Option<Entry>,

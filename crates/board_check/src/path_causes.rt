@@ -2,7 +2,7 @@
 ghost use Rattle.std.specs.Prelude.{◌≡◌, ◌<◌, ◌≤◌, ◌++◌, codes, length, map, take, IfOk, IfSome, OnOk, option_map, string_bytes};
 ghost use Rattle.board_file.specs.PathTexts.{path_at};
 ghost use Rattle.board_check.specs.Shown.{shown_byte};
-ghost use Rattle.board_check.specs.PathCauses.{without_bus, unpadded, meant_path, meant_text, path_form_text, is_gap, first_gap, gap_text, bridge_text, zero_text};
+ghost use Rattle.board_check.specs.PathCauses.{without_bus, unpadded, meant_path, meant_text, path_form_text, is_gap, first_gap, gap_text, bridge_text, zero_text, slot_text};
 
 use crate::shown::push_shown;
 use board_file::path_text::{PathText, path_of};
@@ -154,4 +154,23 @@ pub(crate) fn push_zero(text: &mut String, at: &PathText<'_>) -> Result<(), Allo
 {
     let bytes = at.text().as_bytes();
     push_function_zero(text, bytes, bytes.len().saturating_sub(1))
+}
+
+/// Appends what stands at a path that is no endpoint's, or what may be meant by a text that is no path.
+pub(crate) fn push_slot(
+    alloc: Global,
+    text: &mut String,
+    functions: &[FunctionPath],
+    at: &PathText<'_>,
+) -> Result<(), AllocError>
+    ensures { OnOk result (string_bytes text.new ≡ string_bytes text.old ++ slot_text functions.now at.now) }
+{
+    let bytes = at.text().as_bytes();
+    if path_of(bytes).is_none() {
+        return push_path_form(alloc, text, at);
+    }
+    if has_bridge(functions, &path_at(bytes)) {
+        return text.push_str(": a bridge is there");
+    }
+    text.push_str(": no function is there")
 }

@@ -35,7 +35,7 @@ pub(crate) fn config_of<'f, 'a>(
     }
 }
 
-/// The text of the path of a function.
+/// The text of the path of a function or a slot.
 pub(crate) fn at_of<'f, 'a>(file: &'f FileEntries<'a>, entry: Entry) -> Option<&'f PathText<'a>>
     ensures { option_map (λ a. a.now) result ≡ at_of file.now entry }
 {
@@ -46,6 +46,10 @@ pub(crate) fn at_of<'f, 'a>(file: &'f FileEntries<'a>, entry: Entry) -> Option<&
         },
         Entry::Bridge(i) => match file.bridges.get(i) {
             Some(bridge) => Some(&bridge.at),
+            None => None,
+        },
+        Entry::Slot(i, j) => match file.guests.get(i) {
+            Some(guest) => guest.slots.get(j),
             None => None,
         },
         _ => None,

@@ -29,7 +29,8 @@ pub(crate) fn rule_words(rule: Rule) -> &'static str
         Rule::Index => "is not from 0 to 5",
         Rule::Size => "is no size of its kind",
         Rule::BlockFits => "is longer than the region",
-        Rule::Name => "is no name that a guest may have",
+        Rule::Name =>
+            "is no name that a guest may have: write up to 16 of a to z and 0 to 9, a letter first, and not host",
         Rule::BarMasks | Rule::ConfigMasks => "patterns that are not lawful",
         Rule::Path => "is no path",
         Rule::OwnPlace => "is the path of an earlier function",
