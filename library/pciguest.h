@@ -71,6 +71,49 @@ struct pciguest_hit {
     uint32_t found; /* 1 or 0 */
 };
 
+/* The room that the text of a path has, of which a path takes 79 bytes at most, and the base address registers of a
+ * function, and the windows of a bridge. */
+enum { PCIGUEST_PATH = 80, PCIGUEST_BARS = 6, PCIGUEST_WINDOWS = 3 };
+
+/* The region that begins at a base address register, as the register on the board has it: `size` addresses of its space
+ * from `first` on. Where none begins there, all of it is 0. */
+struct pciguest_bar {
+    uint64_t first;
+    uint64_t size;
+    uint32_t space;        /* PCIGUEST_IO or PCIGUEST_MEMORY */
+    uint32_t prefetchable; /* 1 or 0 */
+    uint32_t is_64_bit;    /* 1 or 0: whether the next register has the high half of the address */
+};
+
+/* A window of a bridge, as its registers on the board have it: the addresses from `first` to `last`, both included.
+ * Where the bridge has no such window, or its base is above its limit, all of it is 0. */
+struct pciguest_window {
+    uint64_t first;
+    uint64_t last;
+    uint32_t is_there; /* 1 or 0 */
+};
+
+/* A function of the board as it is now. */
+struct pciguest_function {
+    uint8_t path[PCIGUEST_PATH]; /* as board files write it, as "2.0/1.0"; all bytes after it are 0 */
+    size_t path_length;          /* in bytes, without a 0 */
+    uint32_t bus;                /* 0 on bus 0, else the Secondary Bus Number of the bridge above */
+    uint32_t device;             /* 0 to 31 */
+    uint32_t function;           /* 0 to 7 */
+    uint32_t vendor_id;
+    uint32_t device_id;
+    uint32_t revision_id;
+    uint32_t class_code;          /* 24 bits: base class, sub-class, programming interface */
+    uint32_t subsystem_vendor_id; /* 0 in a bridge, as is the next */
+    uint32_t subsystem_id;
+    uint32_t is_bridge;                             /* 1 or 0 */
+    struct pciguest_bar regions[PCIGUEST_BARS];       /* by register; all 0 in a bridge */
+    struct pciguest_window windows[PCIGUEST_WINDOWS]; /* I/O, memory, prefetchable memory; all 0 in an endpoint */
+    size_t guest;                                   /* where is_given is 1, the guest that has it; else 0 */
+    uint64_t slot;                                  /* where is_given is 1, its slot there; else 0 */
+    uint32_t is_given;                              /* 1 or 0: whether a guest has it */
+};
+
 /* The room that pciguest_run_line and pciguest_board_run_line need for a reply, and the most that pciguest_words
  * needs. */
 enum { PCIGUEST_REPLY = 48, PCIGUEST_WORDS = 20 };
@@ -100,6 +143,9 @@ uint32_t pciguest_raw_region(struct pciguest *machine, size_t guest, uint64_t sl
                              struct pciguest_region *region);
 uint32_t pciguest_raw_locate(struct pciguest *machine, size_t guest, uint32_t space, uint64_t slot, uint64_t place,
                              struct pciguest_hit *hit);
+uint32_t pciguest_raw_count(struct pciguest *machine, size_t *count);
+uint32_t pciguest_raw_function(struct pciguest *machine, size_t index, struct pciguest_function *function);
+uint32_t pciguest_raw_slot(struct pciguest *machine, size_t guest, uint64_t slot, struct pciguest_function *function);
 uint32_t pciguest_raw_run_line(struct pciguest *machine, const uint8_t *line, size_t length, uint8_t *reply,
                                size_t room, size_t *written);
 uint32_t pciguest_raw_report(const uint8_t *board, size_t length, uint8_t *text, size_t room, size_t *needed);
@@ -315,6 +361,35 @@ static inline uint32_t pciguest_locate(struct pciguest *machine, size_t guest, u
     if (!machine || !hit)
         return PCIGUEST_ARGUMENT;
     return pciguest_raw_locate(machine, guest, space, slot, place, hit);
+}
+
+/* How many functions the board has, endpoints and bridges. */
+static inline uint32_t pciguest_count(struct pciguest *machine, size_t *count)
+{
+    if (!machine || !count)
+        return PCIGUEST_ARGUMENT;
+    return pciguest_raw_count(machine, count);
+}
+
+/* The function at an index, from 0 to one less than pciguest_count tells, in the order of paths: a bridge stands before
+ * what is behind it. Where regions and windows stand, and by which number it is reached, is told as the board's own
+ * registers have it, which no guest writes; who has it, as it is after the last move. It takes no memory and changes
+ * nothing. 902: there is no such function. */
+static inline uint32_t pciguest_function(struct pciguest *machine, size_t index, struct pciguest_function *function)
+{
+    if (!machine || !function)
+        return PCIGUEST_ARGUMENT;
+    return pciguest_raw_function(machine, index, function);
+}
+
+/* The same of the function in a slot of a guest. 303: the slot is above 31. 601: the slot is empty. 902: there is no
+ * such guest. */
+static inline uint32_t pciguest_slot(struct pciguest *machine, size_t guest, uint64_t slot,
+                                     struct pciguest_function *function)
+{
+    if (!machine || !function)
+        return PCIGUEST_ARGUMENT;
+    return pciguest_raw_slot(machine, guest, slot, function);
 }
 
 /* Runs one line of a script, with its line feed or without; a line feed elsewhere makes it a bad line. The reply is one

@@ -1,3 +1,4 @@
+mod FunctionRows
 mod Kept
 mod Moved
 mod Options

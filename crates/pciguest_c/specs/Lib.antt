@@ -4,3 +4,4 @@ pub mod Owning
 pub mod Told
 pub mod DevicesTold
 pub mod QueriesTold
+pub mod FunctionsTold

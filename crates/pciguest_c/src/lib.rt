@@ -11,6 +11,8 @@ mod board_owner;
 mod board_set_up;
 mod device_calls;
 mod driving;
+mod function_calls;
+mod function_row;
 mod guest_calls;
 mod handle;
 mod host_calls;

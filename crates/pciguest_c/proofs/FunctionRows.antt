@@ -1,0 +1,48 @@
+-- The regions that begin at six registers, one by one.
+--     slot_row      what C is told of a register, from the program's word
+--     row_told      that it is what the definitions tell of the register
+--     six_alike      six such rows
+use Rattle.std.proofs.Common.{◌≡◌, ◌≢◌, ℕ, zero, suc, ◌+◌, ◌<◌, List, [], ◌∷◌, Option, Some, None, true, false, length, get_or, refl, sym, ◌∙◌, arith}
+use Rattle.std.proofs.lemmas.Bool.Decides.{nat_tests}
+use Rattle.std.specs.Prelude.{find, ◌==◌}
+use Rattle.std.specs.Option.{option_map_or}
+use Rattle.model_registers.specs.EndpointTable.{BaseAddress}
+use Rattle.bars.specs.declared.region.Region.{Region}
+use Rattle.bars.specs.Slots.{placed, bases_from}
+use Rattle.pciguest_c.specs.declared.function_row.RegionRow.{RegionRow}
+use Rattle.pciguest_c.specs.FunctionsTold.{region_row, no_region, region_row_at}
+
+abbrev pub slot_row : Option Region → RegionRow
+slot_row slot = option_map_or (λ (r : Region). region_row (placed 0 r)) slot no_region
+
+same : (k j : ℕ) → j ≡ k → (k == j) ≡ true
+same k j is = grind (arith, nat_tests)
+
+differs : (k j : ℕ) → j ≢ k → (k == j) ≡ false
+differs k j not = grind (arith, nat_tests)
+
+-- no register before the first of a list
+none_from : (slots : List (Option Region)) (k j : ℕ) → j < k
+    → find (λ (b : BaseAddress). b.index == j) (bases_from k slots) ≡ None
+none_from [] k j before = refl
+none_from (None ∷ slots) k j before = none_from slots (k + 1) j (omega arith)
+none_from (Some r ∷ slots) k j before =
+    rw (differs k j (λ e. omega arith)) (none_from slots (k + 1) j (omega arith))
+
+-- k is the index of the first register of the list
+row_from : (slots : List (Option Region)) (k j n : ℕ) (d : Option Region) → j ≡ k + n → n < length slots
+    → region_row_at (bases_from k slots) j ≡ slot_row (get_or slots n d)
+row_from [] k j n d is within = absurd (omega arith)
+row_from (None ∷ slots) k j zero d is within = rw (none_from slots (k + 1) j (omega arith)) refl
+row_from (None ∷ slots) k j (suc n) d is within = row_from slots (k + 1) j n d (omega arith) (omega arith)
+row_from (Some r ∷ slots) k j zero d is within = rw (same k j (omega arith)) refl
+row_from (Some r ∷ slots) k j (suc n) d is within =
+    rw (differs k j (λ e. omega arith)) (row_from slots (k + 1) j n d (omega arith) (omega arith))
+
+pub row_told : (slots : List (Option Region)) → length slots ≡ 6 → (j : ℕ) → j < 6 → (d : Option Region) (row : RegionRow)
+    → row ≡ slot_row (get_or slots j d) → row ≡ region_row_at (bases_from 0 slots) j
+row_told slots six j within d row is = is ∙ sym (row_from slots 0 j j d (omega arith) (omega arith))
+
+pub six_alike : (a b c d e f p q r s t u : RegionRow) → a ≡ p → b ≡ q → c ≡ r → d ≡ s → e ≡ t → f ≡ u
+    → (a ∷ b ∷ c ∷ d ∷ e ∷ f ∷ []) ≡ (p ∷ q ∷ r ∷ s ∷ t ∷ u ∷ [])
+six_alike a b c d e f p q r s t u a-is b-is c-is d-is e-is f-is = cc

@@ -1,0 +1,96 @@
+-- What C is told of a function of the board: PCI Local Bus 3.0, chapter 6; PCI-to-PCI Bridge Architecture 1.2, chapter 3.
+--     region_row b, no_region      a base address register with its region, and where none begins
+--     region_rows r      those of the six base address registers; a bridge has none
+--     window_row w, window_rows r      a window, and a bridge's windows for ports, memory and prefetchable memory
+--     text_room, text_row t      a text at the front of the bytes that are there for it, the others 0
+--     function_row f      all that is told of a function
+--     function_number f      0 where there is a function, or 902
+--     found_left old f, row_left old r      what a call leaves where an answer goes: the answer, or what stood there
+use Rattle.std.specs.Prelude.{◌==◌, ◌-◌, ◌++◌, ℕ, List, [], ◌∷◌, map, length, replicate, find, is_some}
+use Rattle.std.specs.Prelude.{Option, Some, None, Result, Ok, Err}
+use Rattle.std.specs.Option.{option_map_or}
+use Rattle.model_registers.specs.Declarations.{registers_of}
+use Rattle.model_registers.specs.Decoding.{space_of}
+use Rattle.model_registers.specs.EndpointTable.{BaseAddress}
+use Rattle.model_board.specs.Windows.{Window}
+use Rattle.model_board.specs.Routing.{Ranges, regions, windows}
+use Rattle.model_guests.specs.Text.{Text}
+use Rattle.model_guests.specs.Report.{path_text}
+use Rattle.model_queries.specs.Regions.{is_prefetchable}
+use Rattle.model_queries.specs.Functions.{FunctionNow, Seat}
+use Rattle.pciguest_c.specs.QueriesTold.{one_if, space_number}
+use Rattle.pciguest_c.specs.declared.function_row.RegionRow.{RegionRow}
+use Rattle.pciguest_c.specs.declared.function_row.WindowRow.{WindowRow}
+use Rattle.pciguest_c.specs.declared.function_row.FunctionRow.{FunctionRow}
+
+abbrev pub no_region : RegionRow
+no_region = record { first = 0; size = 0; space = 0; prefetchable = 0; is_64_bit = 0 }
+
+-- a region of 64 bits takes two registers
+abbrev pub region_row : BaseAddress → RegionRow
+region_row b = record {
+  first = b.base;
+  size = b.size;
+  space = space_number (space_of b.kind);
+  prefetchable = one_if (is_prefetchable b.kind);
+  is_64_bit = one_if (registers_of b.kind == 2);
+}
+
+abbrev pub region_row_at : List BaseAddress → ℕ → RegionRow
+region_row_at bs n = option_map_or region_row (find (λ (b : BaseAddress). b.index == n) bs) no_region
+
+abbrev pub region_rows : Ranges → List RegionRow
+region_rows (regions bs) = map (region_row_at bs) (0 ∷ 1 ∷ 2 ∷ 3 ∷ 4 ∷ 5 ∷ [])
+region_rows (windows wio wmem wpref) = replicate 6 no_region
+
+abbrev pub window_row : Option Window → WindowRow
+window_row None = record { first = 0; last = 0; is_there = 0 }
+window_row (Some w) = record { first = w.first; last = w.last; is_there = 1 }
+
+abbrev pub window_rows : Ranges → List WindowRow
+window_rows (regions bs) = replicate 3 (window_row None)
+window_rows (windows wio wmem wpref) = window_row wio ∷ window_row wmem ∷ window_row wpref ∷ []
+
+abbrev pub bridge_number : Ranges → ℕ
+bridge_number (regions bs) = 0
+bridge_number (windows wio wmem wpref) = 1
+
+-- the longest text of a path has 79 bytes
+abbrev pub text_room : ℕ
+text_room = 80
+
+abbrev pub text_row : Text → List ℕ
+text_row t = t ++ replicate (text_room - length t) 0
+
+abbrev pub function_row : FunctionNow → FunctionRow
+function_row f = record {
+  path = text_row (path_text f.path);
+  path_length = length (path_text f.path);
+  bus = f.at.bus;
+  device = f.at.part.device;
+  function = f.at.part.function;
+  vendor_id = f.identity.vendor;
+  device_id = f.identity.device;
+  revision_id = f.identity.revision;
+  class_code = f.identity.class;
+  subsystem_vendor_id = f.identity.subvendor;
+  subsystem_id = f.identity.subsystem;
+  is_bridge = bridge_number f.ranges;
+  regions = region_rows f.ranges;
+  windows = window_rows f.ranges;
+  is_given = one_if (is_some f.seat);
+  guest = option_map_or (λ (s : Seat). s.guest) f.seat 0;
+  slot = option_map_or (λ (s : Seat). s.slot) f.seat 0;
+}
+
+abbrev pub function_number : Option FunctionNow → ℕ
+function_number None = 902
+function_number (Some f) = 0
+
+abbrev pub found_left : FunctionRow → Option FunctionNow → FunctionRow
+found_left old None = old
+found_left old (Some f) = function_row f
+
+abbrev pub row_left : FunctionRow → Result FunctionNow ℕ → FunctionRow
+row_left old (Ok f) = function_row f
+row_left old (Err n) = old

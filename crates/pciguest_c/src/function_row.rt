@@ -1,0 +1,205 @@
+//! What C is told of a function of the board, as one struct without pointers.
+ghost use Rattle.std.specs.Prelude.{◌≡◌, ◌≤◌, length, option_map};
+ghost use Rattle.std.specs.Option.{option_map_or};
+ghost use Rattle.model_board.specs.Routing.{regions};
+ghost use Rattle.model_guests.specs.Report.{path_text};
+ghost use Rattle.model_queries.specs.Regions.{is_prefetchable};
+ghost use Rattle.bars.specs.Kinds.{kind_of};
+ghost use Rattle.bars.specs.Slots.{placed, bases_from};
+ghost use Rattle.bridge_forward.specs.RoutingRows.{window_of};
+ghost use Rattle.bridge_forward.specs.ByIndex.{ranges_told};
+ghost use Rattle.monitor.specs.FunctionsTold.{function_named};
+ghost use Rattle.pciguest_c.specs.QueriesTold.{one_if};
+ghost use Rattle.pciguest_c.specs.FunctionsTold.{no_region, region_row, region_rows, window_row, window_rows, bridge_number, text_row, function_row};
+
+use crate::text_calls::put;
+use bars::{Kind, Region, Space};
+use bridge_forward::Window;
+use function_identity::path_text;
+use host_bridge::RangesNow;
+use monitor::{FunctionNow, Seat};
+
+/// A region by its base address register, as C is told of it: `space` is 1 for ports and 2 for memory. Where
+/// none begins at the register, all of it is 0.
+#[repr(C)]
+#[derive(Clone, Copy)]
+pub struct RegionRow {
+    pub first: u64,
+    pub size: u64,
+    pub space: u32,
+    pub prefetchable: u32,
+    pub is_64_bit: u32,
+}
+
+/// A window of a bridge, as C is told of it. Where there is none, all of it is 0.
+#[repr(C)]
+#[derive(Clone, Copy)]
+pub struct WindowRow {
+    pub first: u64,
+    pub last: u64,
+    pub is_there: u32,
+}
+
+/// A function of the board, as C is told of it. `guest` and `slot` are 0 where no guest has it.
+#[repr(C)]
+#[derive(Clone, Copy)]
+pub struct FunctionRow {
+    pub path: [u8; 80],
+    pub path_length: usize,
+    pub bus: u32,
+    pub device: u32,
+    pub function: u32,
+    pub vendor_id: u32,
+    pub device_id: u32,
+    pub revision_id: u32,
+    pub class_code: u32,
+    pub subsystem_vendor_id: u32,
+    pub subsystem_id: u32,
+    pub is_bridge: u32,
+    pub regions: [RegionRow; 6],
+    pub windows: [WindowRow; 3],
+    pub guest: usize,
+    pub slot: u64,
+    pub is_given: u32,
+}
+
+/// No region.
+const NO_REGION: RegionRow = RegionRow {
+    first: 0,
+    size: 0,
+    space: 0,
+    prefetchable: 0,
+    is_64_bit: 0,
+};
+
+/// Whether a region of this kind is prefetchable memory, as 1 or 0.
+fn prefetchable_of(kind: Kind) -> u32
+    ensures { result ≡ one_if (is_prefetchable (kind_of kind)) }
+{
+    match kind {
+        Kind::Io => 0,
+        Kind::Mem32 { pref } | Kind::Mem64 { pref } => u32::from(pref),
+    }
+}
+
+/// The region that begins at a register.
+fn region_row(slot: Option<Region>) -> RegionRow
+    ensures { result ≡ option_map_or (λ (r : Region). region_row (placed 0 r)) slot no_region }
+{
+    let Some(region) = slot else {
+        return NO_REGION;
+    };
+    let kind = region.decl.kind();
+    RegionRow {
+        first: region.base,
+        size: region.decl.size(),
+        space: match kind.space() {
+            Space::Io => 1,
+            Space::Mem => 2,
+        },
+        prefetchable: prefetchable_of(kind),
+        is_64_bit: u32::from(kind.is_wide()),
+    }
+}
+
+/// The regions of six registers.
+fn regions_of(slots: &[Option<Region>; 6]) -> [RegionRow; 6]
+    ensures { result ≡ region_rows (regions (bases_from 0 slots.now)) }
+{
+    [
+        region_row(slots[0]),
+        region_row(slots[1]),
+        region_row(slots[2]),
+        region_row(slots[3]),
+        region_row(slots[4]),
+        region_row(slots[5]),
+    ]
+}
+
+/// A window.
+fn window_row(window: Option<Window>) -> WindowRow
+    ensures { result ≡ window_row (option_map window_of window) }
+{
+    match window {
+        Some(window) => WindowRow {
+            first: window.first,
+            last: window.last,
+            is_there: 1,
+        },
+        None => WindowRow {
+            first: 0,
+            last: 0,
+            is_there: 0,
+        },
+    }
+}
+
+/// The regions of an endpoint, by register.
+fn region_rows(ranges: RangesNow) -> [RegionRow; 6]
+    ensures { result ≡ region_rows (ranges_told ranges) }
+{
+    match ranges {
+        RangesNow::Regions(slots) => regions_of(&slots),
+        RangesNow::Windows { .. } => [NO_REGION; 6],
+    }
+}
+
+/// The windows of a bridge, for ports, memory and prefetchable memory.
+fn window_rows(ranges: RangesNow) -> [WindowRow; 3]
+    ensures { result ≡ window_rows (ranges_told ranges) }
+{
+    match ranges {
+        RangesNow::Regions(_) => [window_row(None); 3],
+        RangesNow::Windows { io, mem, pref } => {
+            [window_row(io), window_row(mem), window_row(pref)]
+        }
+    }
+}
+
+/// Whether these are windows, as 1 or 0.
+fn bridge_number(ranges: RangesNow) -> u32
+    ensures { result ≡ bridge_number (ranges_told ranges) }
+{
+    match ranges {
+        RangesNow::Regions(_) => 0,
+        RangesNow::Windows { .. } => 1,
+    }
+}
+
+/// A text at the front of 80 bytes, of which the others are 0.
+fn text_row(text: &[u8]) -> [u8; 80]
+    requires { length text.now ≤ 80 }
+    ensures { result ≡ text_row text.now }
+{
+    let mut bytes = [0; 80];
+    put(&mut bytes, text);
+    bytes
+}
+
+/// A function for C.
+pub fn function_row(function: &FunctionNow) -> FunctionRow
+    ensures { result ≡ function_row (function_named function.now) }
+{
+    let text = path_text(&function.path);
+    let identity = function.identity;
+    let seat = function.seat.unwrap_or(Seat { guest: 0, slot: 0 });
+    FunctionRow {
+        path: text_row(&text),
+        path_length: text.len(),
+        bus: u32::from(function.at.bus),
+        device: u32::from(function.at.device),
+        function: u32::from(function.at.function),
+        vendor_id: identity.vendor,
+        device_id: identity.device,
+        revision_id: identity.revision,
+        class_code: identity.class,
+        subsystem_vendor_id: identity.subvendor,
+        subsystem_id: identity.subsystem,
+        is_bridge: bridge_number(function.ranges),
+        regions: region_rows(function.ranges),
+        windows: window_rows(function.ranges),
+        guest: seat.guest,
+        slot: seat.slot as u64,
+        is_given: u32::from(function.seat.is_some()),
+    }
+}
