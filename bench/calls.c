@@ -42,6 +42,7 @@ int main(int argc, char **argv)
     char reply[PCIGUEST_REPLY] = {0}, text[1024] = {0};
     struct pciguest_region region = {0};
     struct pciguest_hit hit = {0};
+    struct pciguest_function function = {0};
 
     if (!file)
         return 2;
@@ -66,6 +67,8 @@ int main(int argc, char **argv)
     pciguest_write(&machine, 0, PCIGUEST_CONFIG, 0, 4, 2, 2);
     COST("tell where a region stands", 1000000, pciguest_region(&machine, 0, 0, 1, &region));
     COST("tell what an address hits", 1000000, pciguest_locate(&machine, 0, PCIGUEST_MEMORY, 0, 0xc0100010, &hit));
+    COST("tell of a function by its index", 1000000, pciguest_function(&machine, 0, &function));
+    COST("tell of a function by its slot", 1000000, pciguest_slot(&machine, 0, 0, &function));
     COST("read memory as the host", 1000000, pciguest_host_read(&machine, PCIGUEST_MEMORY, 0, 0, 0, 0xc0100010, 4, &value));
     COST("run a line that reads memory", 300000, pciguest_run_line(&machine, line, sizeof line - 1, reply, sizeof reply, &written));
     COST("new and free", 300, pciguest_new(&other, board, length) + (pciguest_free(&other), 0));

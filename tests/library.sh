@@ -65,6 +65,11 @@ for kind in "${kinds[@]}"; do
     holds "$kind: queries, seed $seed" "./queries.$kind" "$board" 2000 "$seed"
   done
 
+  holds "$kind: the functions are built" build "functions.$kind" "$top/tests/library/functions.c" "${words[@]}"
+  for seed in 1 2 3; do
+    holds "$kind: functions of the board, seed $seed" "./functions.$kind" "$board" 2000 "$seed"
+  done
+
   holds "$kind: the wide accesses are built" build "wide.$kind" "$top/tests/library/wide.c" "${words[@]}"
   for seed in 1 2 3; do
     holds "$kind: wide accesses, seed $seed" "./wide.$kind" "$board" 20000 "$seed"

@@ -18,6 +18,7 @@ static void without_a_machine(void)
     char reply[PCIGUEST_REPLY] = "unchanged";
     struct pciguest_region region = {.size = 9};
     struct pciguest_hit hit = {.found = 9};
+    struct pciguest_function function = {.class_code = 9};
 
     IS(sizeof none, 2 * sizeof(void *));
     IS(pciguest_read(&none, 0, PCIGUEST_CONFIG, 0, 0, 4, &value), 901);
@@ -30,6 +31,9 @@ static void without_a_machine(void)
     IS(pciguest_device_write(&none, 0, 0, 1, 0, 1), 901);
     IS(pciguest_region(&none, 0, 0, 0, &region), 901);
     IS(pciguest_locate(&none, 0, PCIGUEST_IO, 0, 0, &hit), 901);
+    IS(pciguest_count(&none, &count), 901);
+    IS(pciguest_function(&none, 0, &function), 901);
+    IS(pciguest_slot(&none, 0, 0, &function), 901);
     IS(pciguest_guest(&none, "a", 1, &count), 901);
     IS(pciguest_run_line(&none, "a cr 0 0 4", 10, reply, sizeof reply, &count), 901);
     pciguest_free(&none);
@@ -40,6 +44,7 @@ static void without_a_machine(void)
     IS(strcmp(reply, "unchanged"), 0);
     IS(region.size, 9);
     IS(hit.found, 9);
+    IS(function.class_code, 9);
 }
 
 static void null_pointers(struct pciguest *machine)
@@ -49,6 +54,7 @@ static void null_pointers(struct pciguest *machine)
     char reply[PCIGUEST_REPLY] = {0};
     struct pciguest_region region = {0};
     struct pciguest_hit hit = {0};
+    struct pciguest_function function = {0};
 
     IS(pciguest_new(NULL, "", 0), 902);
     IS(pciguest_new(machine, NULL, 1), 902);
@@ -67,6 +73,12 @@ static void null_pointers(struct pciguest *machine)
     IS(pciguest_region(machine, 0, 0, 0, NULL), 902);
     IS(pciguest_locate(NULL, 0, PCIGUEST_IO, 0, 0, &hit), 902);
     IS(pciguest_locate(machine, 0, PCIGUEST_IO, 0, 0, NULL), 902);
+    IS(pciguest_count(NULL, &count), 902);
+    IS(pciguest_count(machine, NULL), 902);
+    IS(pciguest_function(NULL, 0, &function), 902);
+    IS(pciguest_function(machine, 0, NULL), 902);
+    IS(pciguest_slot(NULL, 0, 0, &function), 902);
+    IS(pciguest_slot(machine, 0, 0, NULL), 902);
     IS(pciguest_guest(machine, "a", 1, NULL), 902);
     IS(pciguest_run_line(machine, "", 0, NULL, 0, &count), 902);
     IS(pciguest_run_line(machine, "", 0, reply, sizeof reply, NULL), 902);

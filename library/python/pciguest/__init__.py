@@ -42,6 +42,7 @@ files, lines and numbers, and docs/LIBRARY.md what is proved of the library. Thi
 """
 
 from ._board import Audit, Board
+from ._functions import Bar, Function, Window, Windows
 from ._machine import Guest, Host, Machine
 from ._refusal import Refusal, words
 from ._regions import Hit, Region
@@ -50,8 +51,10 @@ from ._texts import Check, check, report
 
 __all__ = [
     "Audit",
+    "Bar",
     "Board",
     "Check",
+    "Function",
     "Functions",
     "Guest",
     "Hit",
@@ -61,6 +64,8 @@ __all__ = [
     "Refusal",
     "Region",
     "Space",
+    "Window",
+    "Windows",
     "check",
     "report",
     "words",

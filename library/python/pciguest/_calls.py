@@ -53,6 +53,48 @@ class HitTold(ctypes.Structure):
     _fields_ = [("slot", c_uint64), ("offset", c_uint64), ("part", c_uint32), ("found", c_uint32)]
 
 
+class BarTold(ctypes.Structure):
+    """What is told of a region by its register on the board: all 0 where none begins there."""
+
+    _fields_ = [
+        ("first", c_uint64),
+        ("size", c_uint64),
+        ("space", c_uint32),
+        ("prefetchable", c_uint32),
+        ("is_64_bit", c_uint32),
+    ]
+
+
+class WindowTold(ctypes.Structure):
+    """What is told of a window: `is_there` is 1 or 0."""
+
+    _fields_ = [("first", c_uint64), ("last", c_uint64), ("is_there", c_uint32)]
+
+
+class FunctionTold(ctypes.Structure):
+    """What is told of a function of the board: `is_bridge` and `is_given` are 1 or 0."""
+
+    _fields_ = [
+        ("path", c_uint8 * 80),
+        ("path_length", c_size_t),
+        ("bus", c_uint32),
+        ("device", c_uint32),
+        ("function", c_uint32),
+        ("vendor_id", c_uint32),
+        ("device_id", c_uint32),
+        ("revision_id", c_uint32),
+        ("class_code", c_uint32),
+        ("subsystem_vendor_id", c_uint32),
+        ("subsystem_id", c_uint32),
+        ("is_bridge", c_uint32),
+        ("regions", BarTold * 6),
+        ("windows", WindowTold * 3),
+        ("guest", c_size_t),
+        ("slot", c_uint64),
+        ("is_given", c_uint32),
+    ]
+
+
 _MACHINE = POINTER(Handle)
 _BOARD = POINTER(BoardHandle)
 _ROOM = POINTER(c_char)
@@ -73,6 +115,9 @@ PARAMETERS: Dict[str, Tuple[Any, ...]] = {
     "device_write": (_MACHINE, c_size_t, c_uint64, c_uint32, c_uint64, c_uint8),
     "region": (_MACHINE, c_size_t, c_uint64, c_uint32, POINTER(RegionTold)),
     "locate": (_MACHINE, c_size_t, c_uint32, c_uint64, c_uint64, POINTER(HitTold)),
+    "count": (_MACHINE, POINTER(c_size_t)),
+    "function": (_MACHINE, c_size_t, POINTER(FunctionTold)),
+    "slot": (_MACHINE, c_size_t, c_uint64, POINTER(FunctionTold)),
     "run_line": (_MACHINE, c_char_p, c_size_t, _ROOM, c_size_t, POINTER(c_size_t)),
     "report": _BOARD_TEXT,
     "check": _BOARD_TEXT,

@@ -5,7 +5,8 @@ from __future__ import annotations
 from ctypes import byref, c_size_t, c_uint32
 from typing import Any, Callable, Iterator, Optional, Tuple, Union
 
-from ._calls import CALLS, CONFIG, IO, MEMORY, RAISE_CONFIG, Handle, HitTold, RegionTold, number
+from ._calls import CALLS, CONFIG, IO, MEMORY, RAISE_CONFIG, FunctionTold, Handle, HitTold, RegionTold, number
+from ._functions import Function, function_of
 from ._held import Held, as_bytes
 from ._regions import Hit, Region
 from ._spaces import Functions, ReadableSpace, Space
@@ -53,6 +54,26 @@ class Machine(Held):
             raise ValueError("a guest of another machine")
         slots = number("slot", slot, 64), number("target_slot", target_slot, 64)
         self._call("move", source.index, slots[0], target.index, slots[1])
+
+    def count(self) -> int:
+        """How many functions the board has, endpoints and bridges."""
+        count = c_size_t(0)
+        self._call("count", byref(count))
+        return count.value
+
+    def function(self, index: int) -> Function:
+        """The function at an index, from 0 on, in the order of paths. It changes nothing. 902: there is no such
+        function."""
+        told = FunctionTold()
+        self._call("function", number("index", index, 64), byref(told))
+        return function_of(told)
+
+    def functions(self) -> Iterator[Function]:
+        """All functions of the board, in the order of paths, each as it is when it is asked for.
+
+        `[function.path for function in machine.functions()]` are their paths.
+        """
+        return (self.function(index) for index in range(self.count()))
 
     def run_line(self, line: Union[str, bytes]) -> Optional[str]:
         """Runs one line of a script, with its line feed or without; a line feed elsewhere makes it a bad line. The
@@ -158,6 +179,15 @@ class Guest:
         self.machine._call("region", self.index, *place, byref(told))
         space = "io" if told.space == IO else "memory"
         return Region(space, told.first, told.size, bool(told.prefetchable), bool(told.is_open))
+
+    def function(self, slot: int) -> Function:
+        """The function in a slot, as the board's own registers have it. It changes nothing.
+
+        303: the slot is above 31. 601: the slot is empty.
+        """
+        told = FunctionTold()
+        self.machine._call("slot", self.index, number("slot", slot, 64), byref(told))
+        return function_of(told)
 
     def locate(self, space: str, place: int) -> Optional[Hit]:
         """What an access of the guest at a port ("io") or at an address ("memory") hits: a byte of a function in one of

@@ -18,6 +18,9 @@ TYPES = {
     "size_t *": POINTER(c_size_t),
     "struct pciguest_region *": POINTER(_calls.RegionTold),
     "struct pciguest_hit *": POINTER(_calls.HitTold),
+    "struct pciguest_function *": POINTER(_calls.FunctionTold),
+    "struct pciguest_bar": _calls.BarTold,
+    "struct pciguest_window": _calls.WindowTold,
     "size_t": c_size_t,
     "uint8_t": c_uint8,
     "uint32_t": c_uint32,
@@ -37,7 +40,7 @@ def declared():
 class Header(unittest.TestCase):
     def test_calls(self):
         calls = declared()
-        self.assertEqual(len(calls), 24)
+        self.assertEqual(len(calls), 27)
         self.assertEqual({name: types for name, (_, types) in calls.items()}, _calls.PARAMETERS)
         for name, (answer, types) in calls.items():
             call = _calls.CALLS[name]
@@ -57,10 +60,20 @@ class Header(unittest.TestCase):
             self.assertEqual(handle.at.offset, sizeof(c_void_p))
 
     def test_structs(self):
-        for name, told in (("region", _calls.RegionTold), ("hit", _calls.HitTold)):
+        given = dict(re.findall(r"PCIGUEST_(\w+) = (\d+)", HEADER))
+        structs = {
+            "region": _calls.RegionTold,
+            "hit": _calls.HitTold,
+            "bar": _calls.BarTold,
+            "window": _calls.WindowTold,
+            "function": _calls.FunctionTold,
+        }
+        for name, told in structs.items():
             inside = re.search(r"^struct pciguest_" + name + r" \{\n(.*?)^\};", HEADER, re.MULTILINE | re.DOTALL).group(1)
-            fields = [(field, TYPES[kind]) for kind, field in re.findall(r"^    (\w+) (\w+);", inside, re.MULTILINE)]
+            found = re.findall(r"^    ((?:struct )?\w+) (\w+)(?:\[PCIGUEST_(\w+)\])?;", inside, re.MULTILINE)
+            fields = [(field, TYPES[kind] * int(given[room]) if room else TYPES[kind]) for kind, field, room in found]
             self.assertEqual(fields, told._fields_, name)
+            self.assertEqual(len(fields), len(inside.splitlines()), name)
 
     def test_version(self):
         version = re.search(r'^#define PCIGUEST_VERSION "(.*)"', HEADER, re.MULTILINE).group(1)

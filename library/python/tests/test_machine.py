@@ -6,7 +6,7 @@ import unittest
 import unittest.mock
 
 from boards import DATA, MAIN
-from pciguest import Machine, Refusal
+from pciguest import Bar, Machine, Refusal
 from pciguest._calls import CALLS
 
 
@@ -129,6 +129,38 @@ class Hosts(Case):
             self.machine.host.memory[0xC0000000:4] = 0
         with self.assertRaises(TypeError):
             self.machine.host.config[0]
+
+
+class BoardFunctions(Case):
+    def test_all_functions(self):
+        machine = self.machine
+        all_of_them = list(machine.functions())
+        self.assertEqual(machine.count(), 4)
+        self.assertEqual([each.path for each in all_of_them], ["1.0", "2.0", "2.0/0.0", "2.0/1.0"])
+        self.assertEqual([each.seat for each in all_of_them], [(0, 0), None, (1, 0), (0, 1)])
+        self.assertEqual([each.is_bridge for each in all_of_them], [False, True, False, False])
+        bridge, last = all_of_them[1], all_of_them[3]
+        self.assertEqual((last.bus, last.device, last.function), (1, 1, 0))
+        self.assertEqual((last.vendor_id, last.device_id, last.class_code), (0x1234, 4, 0xFF0000))
+        self.assertEqual(last.regions, (Bar("memory", 0x400000000, 0x1000000, True, True),) + (None,) * 5)
+        self.assertIsNone(last.windows)
+        self.assertEqual(bridge.windows.io, (0x1000, 0x1FFF))
+        self.assertEqual(bridge.windows.prefetchable, (0x400000000, 0x400FFFFFF))
+        self.assertEqual(bridge.regions, (None,) * 6)
+        self.refused(902, machine.function, 4)
+
+    def test_a_function_by_its_slot(self):
+        a, b = self.a, self.b
+        self.machine.move(a, 1, b, 7)
+        moved = b.function(7)
+        self.assertEqual((moved.path, moved.seat), ("2.0/1.0", (1, 7)))
+        self.assertEqual(moved, self.machine.function(3))
+        self.refused(601, a.function, 1)
+        self.refused(303, a.function, 32)
+        with self.assertRaises(ValueError):
+            a.function(-1)
+        with self.assertRaises(ValueError):
+            self.machine.function(-1)
 
 
 class Lines(Case):

@@ -43,6 +43,7 @@
 
 mod board;
 mod error;
+mod function;
 mod machine;
 mod place;
 mod raw;
@@ -50,6 +51,7 @@ mod text;
 
 pub use board::{Audit, Board};
 pub use error::{Error, Refusal};
+pub use function::{Bar, Function, Functions, Ranges, Window};
 pub use machine::Machine;
 pub use place::{At, Guest, Hit, HostAt, Part, Region, Space};
 pub use text::{check, report, words, Check};

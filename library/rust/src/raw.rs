@@ -37,6 +37,73 @@ pub struct Hit {
     pub found: u32,
 }
 
+/// What is told of a region by its register on the board: `space` is 1 for ports and 2 for memory, and the last two are 1
+/// or 0. All 0 where none begins there.
+#[repr(C)]
+#[derive(Clone, Copy, Default)]
+pub struct Bar {
+    pub first: u64,
+    pub size: u64,
+    pub space: u32,
+    pub prefetchable: u32,
+    pub is_64_bit: u32,
+}
+
+/// What is told of a window: `is_there` is 1 or 0.
+#[repr(C)]
+#[derive(Clone, Copy, Default)]
+pub struct Window {
+    pub first: u64,
+    pub last: u64,
+    pub is_there: u32,
+}
+
+/// What is told of a function of the board: `is_bridge` and `is_given` are 1 or 0.
+#[repr(C)]
+pub struct Function {
+    pub path: [u8; 80],
+    pub path_length: usize,
+    pub bus: u32,
+    pub device: u32,
+    pub function: u32,
+    pub vendor_id: u32,
+    pub device_id: u32,
+    pub revision_id: u32,
+    pub class_code: u32,
+    pub subsystem_vendor_id: u32,
+    pub subsystem_id: u32,
+    pub is_bridge: u32,
+    pub regions: [Bar; 6],
+    pub windows: [Window; 3],
+    pub guest: usize,
+    pub slot: u64,
+    pub is_given: u32,
+}
+
+impl Default for Function {
+    fn default() -> Function {
+        Function {
+            path: [0; 80],
+            path_length: 0,
+            bus: 0,
+            device: 0,
+            function: 0,
+            vendor_id: 0,
+            device_id: 0,
+            revision_id: 0,
+            class_code: 0,
+            subsystem_vendor_id: 0,
+            subsystem_id: 0,
+            is_bridge: 0,
+            regions: [Bar::default(); 6],
+            windows: [Window::default(); 3],
+            guest: 0,
+            slot: 0,
+            is_given: 0,
+        }
+    }
+}
+
 /// The number of an argument that a call does not take, and of a text that needs more room.
 pub const ARGUMENT: u32 = 902;
 
@@ -133,6 +200,18 @@ extern "C" {
         slot: u64,
         place: u64,
         hit: *mut Hit,
+    ) -> u32;
+    pub fn pciguest_raw_count(machine: *mut Handle, count: *mut usize) -> u32;
+    pub fn pciguest_raw_function(
+        machine: *mut Handle,
+        index: usize,
+        function: *mut Function,
+    ) -> u32;
+    pub fn pciguest_raw_slot(
+        machine: *mut Handle,
+        guest: usize,
+        slot: u64,
+        function: *mut Function,
     ) -> u32;
     pub fn pciguest_raw_run_line(
         machine: *mut Handle,

@@ -18,6 +18,9 @@ fn in_rust(parameter: &str) -> String {
         "size_t *" => "*mut usize",
         "struct pciguest_region *" => "*mut Region",
         "struct pciguest_hit *" => "*mut Hit",
+        "struct pciguest_function *" => "*mut Function",
+        "struct pciguest_bar" => "Bar",
+        "struct pciguest_window" => "Window",
         "size_t" => "usize",
         "uint8_t" => "u8",
         "uint32_t" => "u32",
@@ -68,7 +71,7 @@ fn bound() -> Vec<Call> {
 
 #[test]
 fn calls_are_those_of_the_header() {
-    assert_eq!(declared().len(), 24);
+    assert_eq!(declared().len(), 27);
     assert_eq!(declared(), bound());
 }
 
@@ -83,16 +86,35 @@ fn fields(name: &str) -> Vec<String> {
         .filter(|line| !line.is_empty())
         .map(|line| {
             let (kind, field) = line.rsplit_once(' ').expect("a field");
-            format!("pub {field}: {}", in_rust(&format!("{kind} it")))
+            let kind = in_rust(&format!("{kind} it"));
+            match field.trim_end_matches(']').split_once('[') {
+                Some((field, count)) => format!("pub {field}: [{kind}; {}]", number_of(count)),
+                None => format!("pub {field}: {kind}"),
+            }
         })
         .collect()
 }
 
+/// The number that the header gives a name.
+fn number_of(name: &str) -> &str {
+    let from = HEADER.find(&format!("{name} = ")).expect(name) + name.len() + " = ".len();
+    let digits = HEADER[from..].find(|c: char| !c.is_ascii_digit());
+    &HEADER[from..from + digits.expect("an end")]
+}
+
 #[test]
 fn structs_are_those_of_the_header() {
-    for (there, here) in [("pciguest_region", "Region"), ("pciguest_hit", "Hit")] {
-        let head = format!("#[repr(C)]\n#[derive(Default)]\npub struct {here} {{");
+    for (there, here) in [
+        ("pciguest_region", "Region"),
+        ("pciguest_hit", "Hit"),
+        ("pciguest_bar", "Bar"),
+        ("pciguest_window", "Window"),
+        ("pciguest_function", "Function"),
+    ] {
+        let head = format!("pub struct {here} {{");
         let from = RAW.find(&head).expect(here) + head.len();
+        let above = RAW[..from].rsplit("\n\n").next().expect("a line");
+        assert!(above.contains("#[repr(C)]\n"), "{here}");
         let inside = &RAW[from..from + RAW[from..].find('}').expect("}")];
         let ours: Vec<&str> = inside
             .split(',')

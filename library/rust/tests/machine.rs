@@ -1,6 +1,6 @@
 //! Each call on the main board of the examples, and what is refused.
 
-use pciguest::{At, Error, Guest, Hit, HostAt, Machine, Part, Space};
+use pciguest::{At, Bar, Error, Guest, Hit, HostAt, Machine, Part, Ranges, Space, Window};
 
 const BOARD: &str = include_str!("../../../crates/examples/data/main.toml");
 
@@ -314,4 +314,63 @@ fn errors_go_where_errors_go() {
         format!("{:?}", Machine::new("").unwrap_err()),
         "BoardFile(Refusal(102 \"key\"))"
     );
+}
+
+#[test]
+fn functions_of_the_board_are_told() -> Result<(), Error> {
+    let mut machine = Machine::new(BOARD)?;
+    let (a, b) = (machine.guest("a")?, machine.guest("b")?);
+    assert_eq!(machine.count()?, 4);
+    let all: Vec<_> = machine.functions().collect();
+    let paths: Vec<&str> = all.iter().map(|function| function.path.as_str()).collect();
+    assert_eq!(paths, ["1.0", "2.0", "2.0/0.0", "2.0/1.0"]);
+    let seats: Vec<_> = all.iter().map(|function| function.seat).collect();
+    assert_eq!(seats, [Some((a, 0)), None, Some((b, 0)), Some((a, 1))]);
+    let last = &all[3];
+    assert_eq!((last.bus, last.device, last.function), (1, 1, 0));
+    assert_eq!(
+        (last.vendor_id, last.device_id, last.class_code),
+        (0x1234, 4, 0xff_0000)
+    );
+    let region = Bar {
+        space: Space::Memory,
+        first: 0x4_0000_0000,
+        size: 0x100_0000,
+        prefetchable: true,
+        is_64_bit: true,
+    };
+    let regions = [Some(region), None, None, None, None, None];
+    assert_eq!(last.ranges, Ranges::Regions(regions));
+    assert!(all[1].is_bridge() && !last.is_bridge());
+    let windows = Ranges::Windows {
+        io: Some(Window {
+            first: 0x1000,
+            last: 0x1fff,
+        }),
+        memory: Some(Window {
+            first: 0xc000_0000,
+            last: 0xc00f_ffff,
+        }),
+        prefetchable: Some(Window {
+            first: 0x4_0000_0000,
+            last: 0x4_00ff_ffff,
+        }),
+    };
+    assert_eq!(all[1].ranges, windows);
+    Ok(())
+}
+
+#[test]
+fn a_function_is_told_by_its_slot() -> Result<(), Error> {
+    let mut machine = Machine::new(BOARD)?;
+    let (a, b) = (machine.guest("a")?, machine.guest("b")?);
+    machine.move_function(a, 1, b, 7)?;
+    let moved = machine.slot_function(b, 7)?;
+    assert_eq!((moved.path.as_str(), moved.seat), ("2.0/1.0", Some((b, 7))));
+    assert_eq!(moved, machine.function(3)?);
+    assert_eq!(number(machine.slot_function(a, 1)), 601);
+    assert_eq!(number(machine.slot_function(a, 32)), 303);
+    assert_eq!(number(machine.slot_function(Guest::of_index(2), 0)), 902);
+    assert_eq!(number(machine.function(4)), 902);
+    Ok(())
 }

@@ -1,0 +1,164 @@
+//! What is told of each function of the board.
+
+use crate::machine::Machine;
+use crate::place::{Guest, Space};
+use crate::raw;
+use std::iter::FusedIterator;
+
+/// A function of the board as it is now.
+#[derive(Clone, Debug, PartialEq, Eq)]
+pub struct Function {
+    /// Where it stands, as board files write it: `2.0/1.0`.
+    pub path: String,
+    /// 0 on bus 0, else the Secondary Bus Number of the bridge above.
+    pub bus: u8,
+    /// 0 to 31.
+    pub device: u8,
+    /// 0 to 7.
+    pub function: u8,
+    /// The Vendor ID.
+    pub vendor_id: u16,
+    /// The Device ID.
+    pub device_id: u16,
+    /// The Revision ID.
+    pub revision_id: u8,
+    /// Base class, sub-class and programming interface, 24 bits.
+    pub class_code: u32,
+    /// The Subsystem Vendor ID, 0 in a bridge.
+    pub subsystem_vendor_id: u16,
+    /// The Subsystem ID, 0 in a bridge.
+    pub subsystem_id: u16,
+    /// Its regions or windows.
+    pub ranges: Ranges,
+    /// The guest and the slot that hold it, if a guest has it.
+    pub seat: Option<(Guest, u64)>,
+}
+
+/// The regions of an endpoint or the windows of a bridge, as the registers on the board have them.
+#[derive(Clone, Debug, PartialEq, Eq)]
+pub enum Ranges {
+    /// The regions of an endpoint, each at the index of its first base address register.
+    Regions([Option<Bar>; 6]),
+    /// The windows of a bridge: none where it has no such window, or its base is above its limit.
+    Windows {
+        /// I/O.
+        io: Option<Window>,
+        /// Memory.
+        memory: Option<Window>,
+        /// Prefetchable memory.
+        prefetchable: Option<Window>,
+    },
+}
+
+/// A region as its base address register on the board has it: `size` addresses of its space from `first` on.
+#[derive(Clone, Copy, Debug, PartialEq, Eq)]
+pub struct Bar {
+    /// The space.
+    pub space: Space,
+    /// The first address.
+    pub first: u64,
+    /// In bytes.
+    pub size: u64,
+    /// Whether it is prefetchable memory.
+    pub prefetchable: bool,
+    /// Whether the next register has the high half of the address.
+    pub is_64_bit: bool,
+}
+
+/// The addresses that a window of a bridge holds.
+#[derive(Clone, Copy, Debug, PartialEq, Eq)]
+pub struct Window {
+    /// The first address.
+    pub first: u64,
+    /// The last address, which is in the window.
+    pub last: u64,
+}
+
+impl Function {
+    pub(crate) fn of(told: &raw::Function) -> Function {
+        Function {
+            path: String::from_utf8_lossy(&told.path[..told.path_length]).into_owned(),
+            bus: told.bus as u8,
+            device: told.device as u8,
+            function: told.function as u8,
+            vendor_id: told.vendor_id as u16,
+            device_id: told.device_id as u16,
+            revision_id: told.revision_id as u8,
+            class_code: told.class_code,
+            subsystem_vendor_id: told.subsystem_vendor_id as u16,
+            subsystem_id: told.subsystem_id as u16,
+            ranges: Ranges::of(told),
+            seat: (told.is_given != 0).then_some((Guest::of_index(told.guest), told.slot)),
+        }
+    }
+
+    /// Whether it is a bridge.
+    pub fn is_bridge(&self) -> bool {
+        matches!(self.ranges, Ranges::Windows { .. })
+    }
+}
+
+impl Ranges {
+    fn of(told: &raw::Function) -> Ranges {
+        if told.is_bridge == 0 {
+            return Ranges::Regions(told.regions.map(|bar| Bar::of(&bar)));
+        }
+        let [io, memory, prefetchable] = told.windows.map(|window| Window::of(&window));
+        Ranges::Windows {
+            io,
+            memory,
+            prefetchable,
+        }
+    }
+}
+
+impl Bar {
+    fn of(told: &raw::Bar) -> Option<Bar> {
+        (told.size != 0).then_some(Bar {
+            space: if told.space == 1 {
+                Space::Io
+            } else {
+                Space::Memory
+            },
+            first: told.first,
+            size: told.size,
+            prefetchable: told.prefetchable != 0,
+            is_64_bit: told.is_64_bit != 0,
+        })
+    }
+}
+
+impl Window {
+    fn of(told: &raw::Window) -> Option<Window> {
+        (told.is_there != 0).then_some(Window {
+            first: told.first,
+            last: told.last,
+        })
+    }
+}
+
+/// The functions of a board, in the order of paths: [`Machine::functions`](crate::Machine::functions).
+#[derive(Debug)]
+pub struct Functions<'a> {
+    machine: &'a mut Machine,
+    next: usize,
+}
+
+impl<'a> Functions<'a> {
+    pub(crate) fn of(machine: &'a mut Machine) -> Functions<'a> {
+        Functions { machine, next: 0 }
+    }
+}
+
+impl Iterator for Functions<'_> {
+    type Item = Function;
+
+    /// The next function: none past the last, which the library refuses by 902.
+    fn next(&mut self) -> Option<Function> {
+        let function = self.machine.function(self.next).ok()?;
+        self.next += 1;
+        Some(function)
+    }
+}
+
+impl FusedIterator for Functions<'_> {}
