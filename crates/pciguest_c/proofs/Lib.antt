@@ -1,4 +1,5 @@
 mod FunctionRows
+mod Blocks
 mod Kept
 mod Moved
 mod Options

@@ -5,3 +5,4 @@ pub mod Told
 pub mod DevicesTold
 pub mod QueriesTold
 pub mod FunctionsTold
+pub mod Giving

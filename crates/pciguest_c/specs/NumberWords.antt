@@ -10,9 +10,11 @@ use Rattle.simulation.specs.Faults.{words_of, fault_numbered}
 
 abbrev pub own_words : ℕ → Text
 own_words n =
-    if n == 901 then codes "no machine"
+    if n == 206 then codes "closed region"
+    else (if n == 207 then codes "not in order"
+    else (if n == 901 then codes "no machine"
     else (if n == 902 then codes "argument"
-    else (if n == 903 then codes "in use" else (if n == 904 then codes "not at reset" else [])))
+    else (if n == 903 then codes "in use" else (if n == 904 then codes "not at reset" else [])))))
 
 abbrev pub words_of_number : ℕ → Text
 words_of_number n =

@@ -5,6 +5,7 @@
 mod asking;
 mod auditing;
 mod board_calls;
+mod board_guests;
 mod board_handle;
 mod board_life;
 mod board_owner;

@@ -22,6 +22,8 @@ fn own_words(number: u32) -> &'static [u8]
     ensures { result.now ≡ own_words number }
 {
     match number {
+        206 => b"closed region",
+        207 => b"not in order",
         901 => b"no machine",
         902 => b"argument",
         903 => b"in use",

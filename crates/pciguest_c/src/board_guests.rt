@@ -1,0 +1,86 @@
+//! The board of a handle, as firmware left it, given to the guests of its file.
+ghost use Rattle.std.specs.Prelude.{◌≡◌, ◌≢◌, None, IfNone, IfSome, IsSome, IfOk, IfErr};
+ghost use Rattle.driven_board.specs.Giving.{IsGiven, IsRefusalOf};
+ghost use Rattle.pciguest_c.specs.Giving.{IsNumberOfRefusal};
+
+use crate::board_handle::BoardHandle;
+use crate::handle::Handle;
+use crate::numbers::{IN_USE, NO_MACHINE};
+use crate::unboxed::Unboxed;
+use driven_board::{Board, GivingFault, NotGiven};
+use monitor::Monitor;
+use std::alloc::Global;
+use std_alloc::room::Vacant;
+
+/// A board that is not given to guests, as it was.
+#[derive(Drop)]
+struct NotHanded {
+    board: Box<Board>,
+    fault: GivingFault,
+}
+
+/// Gives a board to the guests of its file. The block of the monitor is taken first, and that of the board is
+/// kept until it is given, so that a board that is refused has its place again.
+fn hand_over(alloc: Global, board: Box<Board>) -> Result<Box<Monitor>, NotHanded>
+    ensures given { IfOk result (λ m. IsGiven board.value.file board.value.host m.value) }
+    ensures kept { IfErr result (λ n. n.board.value ≡ board.value) }
+    ensures refused { IfErr result (λ n. IsRefusalOf board.value.file board.value.host n.fault) }
+{
+    let Ok(room) = Vacant::take(alloc) else {
+        let fault = GivingFault::Memory;
+        return Err(NotHanded { board, fault });
+    };
+    let (whole, place) = Unboxed::of(board).empty();
+    match whole.give(alloc) {
+        Ok(monitor) => {
+            place.free();
+            Ok(Unboxed::fill(room, monitor).into_box())
+        }
+        Err(not_given) => {
+            room.free();
+            let NotGiven { board, fault } = not_given;
+            let board = Unboxed::fill(place, board).into_box();
+            Err(NotHanded { board, fault })
+        }
+    }
+}
+
+/// Gives the functions of a board to the guests of its file, as the board stands, whoever set it up, and leaves
+/// the machine in its handle. The board is then taken: its handle holds none. A refusal is 901 where there is no
+/// board, 903 where the handle of the machine holds one already, 207 for a problem that the audit tells, 206 for
+/// a closed region of a given function, or out of memory (199 or 299). Then both handles are as they were.
+#[unsafe(no_mangle)]
+pub extern "C" fn pciguest_raw_board_guests(
+    alloc: Global,
+    handle: &mut BoardHandle,
+    machine: &mut Handle,
+) -> u32
+    ensures none { IfNone handle.old.owner.value (result ≡ 901) }
+    ensures in_use { IfSome handle.old.owner.value (λ _. IfSome machine.old.owner.value (λ _. result ≡ 903)) }
+    ensures given { result ≡ 0 → IfSome handle.old.owner.value (λ b.
+        IfSome machine.new.owner.value (IsGiven b.file b.host) × IsSome machine.new.owner.value) }
+    ensures taken { result ≡ 0 → handle.new.owner.value ≡ None }
+    ensures faults { IfSome handle.old.owner.value (λ b. IfNone machine.old.owner.value (result ≢ 0 →
+        IsNumberOfRefusal b.file b.host result)) }
+    ensures kept { result ≢ 0 → handle.new.owner.value ≡ handle.old.owner.value }
+    ensures refused { result ≢ 0 → machine.new.owner.value ≡ machine.old.owner.value }
+{
+    let Some(board) = handle.take(alloc) else {
+        return NO_MACHINE;
+    };
+    if machine.is_live() {
+        *handle = BoardHandle::of(board);
+        return IN_USE;
+    }
+    match hand_over(alloc, board) {
+        Ok(monitor) => {
+            *machine = Handle::of(monitor);
+            0
+        }
+        Err(not_handed) => {
+            let NotHanded { board, fault } = not_handed;
+            *handle = BoardHandle::of(board);
+            u32::from(fault.number())
+        }
+    }
+}
