@@ -9,6 +9,7 @@
  *   201 to 205  the board can't be set up           301 302 303 601 602  an access or a move is refused
  *   901  the handle holds no machine, or no board   902  an argument   903  the handle holds one already
  *   904  a write was done on the board since reset
+ *   206  a region of a given function is closed     207  the board doesn't pass its audit
  */
 #ifndef PCIGUEST_H
 #define PCIGUEST_H
@@ -162,6 +163,7 @@ uint32_t pciguest_raw_board_run_line(struct pciguest_board *board, const uint8_t
 uint32_t pciguest_raw_board_audit(struct pciguest_board *board, uint8_t *text, size_t room, size_t *needed,
                                   size_t *count);
 uint32_t pciguest_raw_set_up(struct pciguest_board *board, struct pciguest *machine);
+uint32_t pciguest_raw_board_guests(struct pciguest_board *board, struct pciguest *machine);
 
 /* Sets up the board of a board file, given as its bytes, and gives its functions to the guests of the file.
  * 0: the machine holds the world that the file declares, before any access. Otherwise the number of the first
@@ -519,6 +521,20 @@ static inline uint32_t pciguest_set_up(struct pciguest_board *board, struct pcig
     if (!board || !machine)
         return PCIGUEST_ARGUMENT;
     return pciguest_raw_set_up(board, machine);
+}
+
+/* Gives the functions of a board to the guests of its file as the board stands, whoever set it up: where its audit tells
+ * no problem and each region of their functions is open, the machine is then over this board. Each function that is given
+ * is reset first, but for what guests have copies of, and the board's CONFIG_ADDRESS is cleared. The struct of the board
+ * then holds none. Where it is refused, both structs are as they were.
+ * 901: there is no board. 903: the struct of the machine holds one already. 207: the audit tells a problem. 206: a region
+ * of a function that is to be given is closed. 199, 299: out of memory. 901, 903 and 207 come in this order before 206;
+ * pciguest_board_audit tells the problems of 207. */
+static inline uint32_t pciguest_board_guests(struct pciguest_board *board, struct pciguest *machine)
+{
+    if (!board || !machine)
+        return PCIGUEST_ARGUMENT;
+    return pciguest_raw_board_guests(board, machine);
 }
 
 #ifdef __cplusplus

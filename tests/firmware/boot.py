@@ -5,6 +5,7 @@ from typing import NamedTuple
 
 from audit import Logged
 from board import BoardError, LibraryBoard, is_bridge, registers
+from guests import Given
 from pc import PC, BootError
 
 
@@ -23,8 +24,8 @@ UBOOT = Firmware("U-Boot", "/usr/lib/u-boot/qemu-x86/u-boot.rom", "\n=> ", (("st
 
 
 class Left(NamedTuple):
-    """What a boot left: each function's 256 bytes, regions that answer at their place, all that is wrong, and what an
-    audit says."""
+    """What a boot left: each function's 256 bytes, regions that answer at their place, all that is wrong, what an audit
+    says, and what came of giving the board to the guests of its file."""
 
     cells: dict
     answering: int
@@ -32,6 +33,7 @@ class Left(NamedTuple):
     accesses: int
     told: str
     audit: list
+    given: Given
 
 
 def paths(cells):
@@ -87,10 +89,11 @@ def boot(program, file, firmware):
         accesses, audit = len(board.lines), board.audit(program, file)
         cells = registers(board)
         answered, wrong = answering(board, declared, cells)
+        given = Given(program, file, board.board.board, audit)
     except (BoardError, BootError, OSError) as error:
-        return Left({}, 0, [str(error)], len(board.lines), pc.told, [])
+        return Left({}, 0, [str(error)], len(board.lines), pc.told, [], None)
     finally:
         board.close()
     expected = {entry["at"] for key in ("endpoint", "bridge") for entry in declared.get(key, [])}
     wrong += [f"{path} isn't found" for path in sorted(expected - set(paths(cells).values()))]
-    return Left(cells, answered, wrong, accesses, pc.told, audit)
+    return Left(cells, answered, wrong + given.wrong, accesses, pc.told, audit, given)

@@ -7,7 +7,8 @@ changed.
 Each row of BREAKS says what is changed, and what the program's audit then has to tell, among others. Whether that is so
 is asked of the board itself: the address that is not forwarded reads all ones, and the byte before it, where that is
 the region's, doesn't; two that both answer have the address in their windows; a cycle for a function's number reads
-what the audit says. Status 1 says that a break was not told, or that something was told that isn't so."""
+what the audit says. No such board is given to its guests: 207 refuses it, and what the library's audit tells first is what
+the program's does. Status 1 says that a break was not told, or that something was told that isn't so."""
 import argparse
 import re
 import sys
@@ -18,6 +19,7 @@ from typing import Callable, NamedTuple
 from audit import Logged
 from board import DATA, LATCH, LibraryBoard, configuration, registers
 from boot import SEABIOS, paths
+from guests import Given
 from pc import PC
 
 SERVER = Path(__file__).resolve().parents[2] / "crates/examples/data/server.toml"
@@ -110,6 +112,8 @@ def examine(program, broken, identities):
         told = board.audit(program, SERVER)
         print(f"{broken.name}: {told[-1]}", *told[:-1], sep="\n  ", flush=True)
         wrong = [f"isn't so: {line}" for line in told[:-1] if not is_so(board, identities, line)]
+        given = Given(program, SERVER, board.board.board, told)
+        wrong += given.wrong + ["it is given to guests"] * (given.number != 207)
         return wrong + [f"isn't told: {broken.told}"] * (f"audit: {broken.told}" not in told)
     finally:
         board.close()

@@ -6,7 +6,8 @@ QEMU.
 
 First each firmware boots on boards of the examples. Then it boots on N random trees (30), here and in QEMU's machine,
 and the configuration bytes of all functions are compared; the same seed makes the same trees. After each boot the
-program audits what the firmware left, and what is wrong there is told. With --keep the consoles and the boards of the
+program audits what the firmware left, and what is wrong there is told; then the board is given to the guests of its
+file, or refused, and scripts are told what they are after our own set-up. With --keep the consoles and the boards of the
 trees are kept. Status 1 says that a boot went wrong, or that a byte differs and no rule names it. The last line
 counts."""
 import argparse
@@ -17,6 +18,7 @@ from pathlib import Path
 
 from board import registers
 from boot import SEABIOS, UBOOT, boot
+from guests import guests_text
 from machine import Machine, MachineError
 from rules import Comparison
 from trees import Reading, Tree
@@ -32,7 +34,7 @@ class Run:
 
     def __init__(self, options, room):
         self.program, self.room, self.failed = options.program, Path(options.keep or room), 0
-        self.boots, self.in_order = Counter(), Counter()
+        self.boots, self.in_order, self.given, self.replies = Counter(), Counter(), Counter(), Counter()
         self.room.mkdir(parents=True, exist_ok=True)
 
     def fail(self, what):
@@ -49,9 +51,19 @@ class Run:
             print(f"  {line}")
         self.boots[firmware.name] += 1
         self.in_order[firmware.name] += left.audit == ["audit: ok"]
+        if left.given:
+            self.given[firmware.name, left.given.number] += 1
+            self.replies[firmware.name] += left.given.lines
         for line in left.wrong:
             self.fail(f"{firmware.name} on {name}: {line}")
         return left
+
+    def tell(self):
+        """What came of the boots of each firmware."""
+        for name, count in self.boots.items():
+            print(f"{name}: boots {count}, in order by their audit {self.in_order[name]}, given to guests "
+                  f"{self.given[name, 0]}, refused by 207 {self.given[name, 207]}, by 206 {self.given[name, 206]}; "
+                  f"replies to guests, each as after our own set-up, {self.replies[name]}")
 
     def read_tree(self, seed):
         """A random tree as QEMU has it at reset, and the file of its board."""
@@ -62,7 +74,7 @@ class Run:
         finally:
             machine.close()
         file = self.room / f"tree{seed}.toml"
-        file.write_text(reading.text)
+        file.write_text(reading.text + guests_text(reading.text, seed))
         return tree, reading, file
 
     def boot_machine(self, seed, tree, firmware):
@@ -99,8 +111,7 @@ def examine(options, room):
         except MachineError as error:
             run.fail(f"tree{seed}: {error}")
     comparison.tell()
-    for name, count in run.boots.items():
-        print(f"{name}: boots {count}, in order by their audit {run.in_order[name]}")
+    run.tell()
     named = sum(comparison.by_rule.values())
     print(f"trees {options.trees}, each with SeaBIOS and U-Boot: functions {comparison.functions}, "
           f"bytes compared {comparison.bytes}, bytes that differ by rule {named}, "

@@ -129,6 +129,7 @@ PARAMETERS: Dict[str, Tuple[Any, ...]] = {
     "board_run_line": (_BOARD, c_char_p, c_size_t, _ROOM, c_size_t, POINTER(c_size_t)),
     "board_audit": (_BOARD, _ROOM, c_size_t, POINTER(c_size_t), POINTER(c_size_t)),
     "set_up": (_BOARD, _MACHINE),
+    "board_guests": (_BOARD, _MACHINE),
 }
 
 

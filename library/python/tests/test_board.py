@@ -98,6 +98,42 @@ class SetUp(Case):
             self.refused(203, board.set_up)
 
 
+class Guests(Case):
+    def set_up_by_hand(self):
+        """The bridge is numbered and forwards what is behind it, each region has a place, and each function but the last
+        answers there."""
+        for (bus, device), offset, value in (
+            ((0, 1), 0x10, 0x1000),
+            ((0, 1), 0x14, 0xD0000000),
+            ((0, 1), 4, 3),
+            ((0, 2), 0x18, 0x00010100),
+            ((0, 2), 0x1C, 0x3030),
+            ((0, 2), 0x20, 0xD110D110),
+            ((0, 2), 0x24, 0xD2F0D200),
+            ((0, 2), 4, 3),
+            ((1, 0), 0x10, 0xD1100000),
+            ((1, 0), 0x14, 0x3010),
+            ((1, 0), 4, 3),
+            ((1, 1), 0x10, 0xD2000000),
+        ):
+            self.board.config[bus, device, 0][offset:4] = value
+
+    def test_a_board_of_ones_own_is_given(self):
+        self.set_up_by_hand()
+        self.assertEqual(str(self.refused(206, self.board.into_guests)), "206 closed region")
+        self.board.config[1, 1, 0][4:2] = 2
+        with self.board.into_guests() as machine, Machine(MAIN) as other:
+            for line in ("a cr 0 0x14 4", "a cw 1 4 2 2", "a mr 0 4", "b cr 0 4 4", "host move a 0 b 3", "b cr 3 0 4"):
+                self.assertEqual(machine.run_line(line), other.run_line(line))
+            self.assertEqual(machine.host.config[1, 1, 0][0x10:4], 0xD200000C)
+        self.refused(901, self.board.audit)
+        self.refused(901, self.board.into_guests)
+
+    def test_a_board_that_is_not_in_order_stays(self):
+        self.assertEqual(str(self.refused(207, self.board.into_guests)), "207 not in order")
+        self.assertEqual(self.board.audit().problems, 2)
+
+
 class Refusals(Case):
     def test_accesses(self):
         space = self.board.config[0, 1, 0]
@@ -118,6 +154,7 @@ class Refusals(Case):
             pass
         self.refused(901, lambda: board.io[0:1])
         self.refused(901, board.set_up)
+        self.refused(901, board.into_guests)
         self.refused(901, board.audit)
         self.refused(901, board.run_line, "host ir 0 1")
         board.close()

@@ -179,7 +179,62 @@ impl Board {
         // SAFETY: the handle holds no machine, and the two handles don't overlap.
         Machine::made_by(|machine| unsafe { raw::pciguest_raw_set_up(&mut self.handle, machine) })
     }
+
+    /// The board with its functions given to the guests of its file, as it stands, whoever set it up. Each function that
+    /// is given is reset first, but for what guests have copies of.
+    ///
+    /// # Errors
+    ///
+    /// The board comes back as it was, with why: 207, its [audit](Board::audit) tells a problem; 206, a region of a
+    /// function that is to be given is closed; or memory is out.
+    ///
+    /// ```
+    /// # const BOARD: &str = include_str!("board.toml");
+    /// use pciguest::{At, Board, HostAt, NotGiven};
+    ///
+    /// let mut board = Board::new(BOARD)?;
+    /// let register = |offset| HostAt::Config { bus: 0, device: 1, function: 0, offset };
+    /// board.write(register(0x10), 4, 0xd000_0000)?;
+    /// let NotGiven { mut board, error } = board.into_guests().unwrap_err();
+    /// assert_eq!(error.to_string(), "206 closed region");
+    /// board.write(register(4), 2, 2)?; // memory on
+    /// let mut machine = board.into_guests()?;
+    /// let a = machine.guest("a")?;
+    /// assert_eq!(machine.read(a, At::Config { slot: 0, offset: 0x10 }, 4)?, 0);
+    /// assert_eq!(machine.host_read(register(0x10), 4)?, 0xd000_0000);
+    /// # Ok::<(), pciguest::Error>(())
+    /// ```
+    pub fn into_guests(mut self) -> Result<Machine, NotGiven> {
+        // SAFETY: the handle holds no machine, and the two handles don't overlap.
+        let made = Machine::made_by(|machine| unsafe {
+            raw::pciguest_raw_board_guests(&mut self.handle, machine)
+        });
+        made.map_err(|error| NotGiven { board: self, error })
+    }
 }
+
+/// A board that was not given to guests, as it was, and why.
+#[derive(Debug)]
+pub struct NotGiven {
+    /// The board.
+    pub board: Board,
+    /// Why it was not given.
+    pub error: Error,
+}
+
+impl From<NotGiven> for Error {
+    fn from(not_given: NotGiven) -> Error {
+        not_given.error
+    }
+}
+
+impl fmt::Display for NotGiven {
+    fn fmt(&self, f: &mut fmt::Formatter<'_>) -> fmt::Result {
+        self.error.fmt(f)
+    }
+}
+
+impl std::error::Error for NotGiven {}
 
 impl Drop for Board {
     fn drop(&mut self) {

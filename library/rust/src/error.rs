@@ -72,6 +72,10 @@ pub enum Error {
     BoardFile(Refusal),
     /// 201 to 205: the board can't be set up.
     SetUp(Refusal),
+    /// 206: a region of a function that is to be given to a guest is closed.
+    ClosedRegion(Refusal),
+    /// 207: the board doesn't pass its audit.
+    NotInOrder(Refusal),
     /// 199, 299: out of memory.
     Memory(Refusal),
     /// 301, 302, 303: a place that is no multiple of the width, a width that is not 1, 2 or 4, or a slot or a place
@@ -94,6 +98,8 @@ impl Error {
             199 | 299 => Error::Memory(refusal),
             101..=112 => Error::BoardFile(refusal),
             201..=205 => Error::SetUp(refusal),
+            206 => Error::ClosedRegion(refusal),
+            207 => Error::NotInOrder(refusal),
             301..=303 => Error::Access(refusal),
             601 | 602 => Error::Slot(refusal),
             902 => Error::Argument(refusal),
@@ -107,6 +113,8 @@ impl Error {
         match *self {
             Error::BoardFile(refusal)
             | Error::SetUp(refusal)
+            | Error::ClosedRegion(refusal)
+            | Error::NotInOrder(refusal)
             | Error::Memory(refusal)
             | Error::Access(refusal)
             | Error::Slot(refusal)

@@ -49,7 +49,7 @@ mod place;
 mod raw;
 mod text;
 
-pub use board::{Audit, Board};
+pub use board::{Audit, Board, NotGiven};
 pub use error::{Error, Refusal};
 pub use function::{Bar, Function, Functions, Ranges, Window};
 pub use machine::Machine;

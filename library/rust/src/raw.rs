@@ -274,4 +274,5 @@ extern "C" {
         count: *mut usize,
     ) -> u32;
     pub fn pciguest_raw_set_up(board: *mut BoardHandle, machine: *mut Handle) -> u32;
+    pub fn pciguest_raw_board_guests(board: *mut BoardHandle, machine: *mut Handle) -> u32;
 }

@@ -68,6 +68,56 @@ fn set_up_takes_a_board_at_reset() -> Result<(), Error> {
     Ok(())
 }
 
+/// A board that this program set up by hand: the bridge is numbered and forwards what is behind it, each region has a
+/// place, and each function but the last answers there.
+fn set_up_by_hand() -> Result<Board, Error> {
+    let mut board = Board::new(BOARD)?;
+    for (bus, device, offset, value) in [
+        (0, 1, 0x10, 0x1000),
+        (0, 1, 0x14, 0xd000_0000),
+        (0, 1, 4, 3),
+        (0, 2, 0x18, 0x0001_0100),
+        (0, 2, 0x1c, 0x3030),
+        (0, 2, 0x20, 0xd110_d110),
+        (0, 2, 0x24, 0xd2f0_d200),
+        (0, 2, 4, 3),
+        (1, 0, 0x10, 0xd110_0000),
+        (1, 0, 0x14, 0x3010),
+        (1, 0, 4, 3),
+        (1, 1, 0x10, 0xd200_0000),
+    ] {
+        board.write(config(bus, device, offset), 4, value)?;
+    }
+    Ok(board)
+}
+
+#[test]
+fn guests_over_a_board_of_ones_own() -> Result<(), Error> {
+    let refused = Board::new(BOARD)?
+        .into_guests()
+        .expect_err("nothing behind the bridge is found");
+    assert_eq!(refused.to_string(), "207 not in order");
+    let refused = set_up_by_hand()?
+        .into_guests()
+        .expect_err("a closed region");
+    assert!(matches!(refused.error, Error::ClosedRegion(_)));
+    let mut board = refused.board;
+    board.write(config(1, 1, 4), 2, 2)?;
+    let (mut machine, mut other) = (board.into_guests()?, Machine::new(BOARD)?);
+    for line in [
+        "a cr 0 0x14 4",
+        "a cw 1 4 2 2",
+        "a mr 0 4",
+        "b cr 0 4 4",
+        "host move a 0 b 3",
+        "b cr 3 0 4",
+    ] {
+        assert_eq!(machine.run_line(line)?, other.run_line(line)?);
+    }
+    assert_eq!(machine.host_read(config(1, 1, 0x10), 4)?, 0xd200_000c);
+    Ok(())
+}
+
 #[test]
 fn an_audit_tells_what_is_wrong() -> Result<(), Error> {
     let mut board = Board::new(BOARD)?;

@@ -20,6 +20,7 @@ fn what_is_dropped_is_freed() -> Result<(), Error> {
         drop(Machine::new(BOARD)?);
         assert!(Machine::new(&BOARD[1..]).is_err());
         drop(Board::new(BOARD)?.set_up()?);
+        assert!(Board::new(BOARD)?.into_guests().is_err());
     }
     let grown = resident().saturating_sub(before);
     assert!(grown < 4 << 20, "{grown} bytes more than 200 machines took");
