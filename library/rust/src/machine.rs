@@ -1,7 +1,6 @@
 //! A board that is set up, with its guests.
 
 use crate::error::{answered, Error};
-use crate::function::{Function, Functions};
 use crate::place::{At, Guest, Hit, HostAt, Part, Region};
 use crate::raw::{self, Handle};
 use crate::text::reply_to;
@@ -30,7 +29,7 @@ use std::ptr::null_mut;
 /// # Ok::<(), pciguest::Error>(())
 /// ```
 pub struct Machine {
-    handle: Handle,
+    pub(crate) handle: Handle,
 }
 
 // SAFETY: The library has no global state, and lets any thread make a call on a struct if something orders it after the
@@ -331,57 +330,6 @@ impl Machine {
             )
         })?;
         Ok(Hit::of(&told))
-    }
-
-    /// How many functions the board has, endpoints and bridges.
-    pub fn count(&mut self) -> Result<usize, Error> {
-        let mut count = 0;
-        // SAFETY: `count` is a place of its own.
-        answered(unsafe { raw::pciguest_raw_count(&mut self.handle, &mut count) })?;
-        Ok(count)
-    }
-
-    /// The function at an index, from 0 on, in the order of paths. Where regions and windows stand, and by which number
-    /// it is reached, is told as the board's own registers have it; who has it, as it is after the last move. It changes
-    /// nothing. 902: there is no such function.
-    pub fn function(&mut self, index: usize) -> Result<Function, Error> {
-        let mut told = raw::Function::default();
-        // SAFETY: `told` is a place of its own.
-        answered(unsafe { raw::pciguest_raw_function(&mut self.handle, index, &mut told) })?;
-        Ok(Function::of(&told))
-    }
-
-    /// All functions of the board, in the order of paths.
-    ///
-    /// ```
-    /// # const BOARD: &str = include_str!("board.toml");
-    /// use pciguest::{Machine, Ranges};
-    ///
-    /// let mut machine = Machine::new(BOARD)?;
-    /// for function in machine.functions() {
-    ///     assert_eq!((function.path.as_str(), function.vendor_id), ("1.0", 0x1234));
-    ///     assert_eq!(function.seat.map(|(guest, slot)| (guest.index(), slot)), Some((0, 0)));
-    ///     let Ranges::Regions(regions) = function.ranges else { panic!("a bridge") };
-    ///     assert_eq!(regions[0].map(|region| (region.first, region.size)), Some((0xc000_0000, 4096)));
-    /// }
-    /// # Ok::<(), pciguest::Error>(())
-    /// ```
-    pub fn functions(&mut self) -> Functions<'_> {
-        Functions::of(self)
-    }
-
-    /// The function in a slot of a guest.
-    ///
-    /// # Errors
-    ///
-    /// 303: the slot is above 31. 601: the slot is empty. 902: there is no such guest.
-    pub fn slot_function(&mut self, guest: Guest, slot: u64) -> Result<Function, Error> {
-        let mut told = raw::Function::default();
-        // SAFETY: `told` is a place of its own.
-        answered(unsafe {
-            raw::pciguest_raw_slot(&mut self.handle, guest.index(), slot, &mut told)
-        })?;
-        Ok(Function::of(&told))
     }
 
     /// Runs one line of a script, with its line feed or without; a line feed elsewhere makes it a bad line. The reply
