@@ -148,6 +148,16 @@ holds 'the lines of LIBRARY.md are built' build printed printed.c
 holds 'the lines of LIBRARY.md' test "$(./printed < "$board")" = '0 a5a5a5a5'
 holds 'the lines of LIBRARY.md over an empty file' test "$(./printed < /dev/null)" = '102 0'
 
+# ---- the rows of functions that it prints
+{
+  printf '#include <stdio.h>\n#include "pciguest.h"\nstatic char board[65536]; int main(void) {\n'
+  echo 'struct pciguest machine = PCIGUEST_INIT; pciguest_new(&machine, board, fread(board, 1, sizeof board, stdin));'
+  sed -n '/^struct pciguest_function row;/,/^```/p' "$top/docs/LIBRARY.md" | grep -v '^```'
+  echo 'pciguest_free(&machine); return 0; }'
+} > rows.c
+holds 'the rows of LIBRARY.md are built' build rows rows.c
+holds 'the rows of LIBRARY.md' test "$(./rows < "$board" | tail -n 1)" = '01:01.0 2.0/1.0 1234:0004'
+
 # ---- what the library takes from outside, and what it gives
 needs() {
   nm -u "$top/library/libpciguest.a" | awk 'NF == 2 && $2 !~ /^rattle_/ { print $2 }' | sort -u | tr '\n' ' '
