@@ -79,6 +79,8 @@ for kind in "${kinds[@]}"; do
   for seed in 1 2 3; do
     holds "$kind: boards of firmware, by calls and by lines, seed $seed" "./boards.$kind" "$board" 20000 "$seed"
   done
+  holds "$kind: the boards that are given are built" build "given.$kind" "$top/tests/library/given.c" "${wraps[@]}" "${words[@]}"
+  holds "$kind: guests over a board of one's own" "./given.$kind" "$board"
   holds "$kind: the firmware is built" build "firmware.$kind" "$top/tests/library/firmware.c" "${words[@]}"
   "./firmware.$kind" "$board" > "firmware.$kind.out" 2>&1
   holds "$kind: the firmware" cmp "firmware.$kind.out" "$top/tests/library/firmware.stdout"

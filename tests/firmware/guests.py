@@ -1,4 +1,4 @@
-"""Guests over a board that a firmware set up, and over the same board after our own set-up: scripts tell them the same."""
+"""Guests over a board that a firmware set up, and over the same board after our own set-up: scripts tell them alike."""
 import json
 import random
 import subprocess
@@ -32,8 +32,9 @@ def placing(name, slot, endpoint):
                     f"{name} cw {slot} {register} 4 {place:#x}", f"{name} cr {slot} {register} 4")
         if "64" in bar["kind"]:
             yield f"{name} cw {slot} {register + 4} 4 0"
-        yield from (f"{name} cw {slot} 4 2 3", f"{name} {kind}r {place:#x} 4", f"{name} {kind}w {place:#x} 4 0x5aa5c33c",
-                    f"{name} {kind}r {place:#x} 4", f"{name} raise {slot} bar{bar['index']} 1 0xff", f"{name} {kind}r {place:#x} 2")
+        yield from (f"{name} cw {slot} 4 2 3", f"{name} {kind}r {place:#x} 4",
+                    f"{name} {kind}w {place:#x} 4 0x5aa5c33c", f"{name} {kind}r {place:#x} 4",
+                    f"{name} raise {slot} bar{bar['index']} 1 0xff", f"{name} {kind}r {place:#x} 2")
 
 
 def script_of(declared):
@@ -52,13 +53,14 @@ def is_of_guests(line):
 def scripts(file):
     """The scripts of the examples and that of the board, without the host's reads."""
     texts = [script.read_text().splitlines() for script in SCRIPTS]
-    return [[line for line in lines if is_of_guests(line)] for lines in [*texts, script_of(tomllib.loads(Path(file).read_text()))]]
+    texts.append(script_of(tomllib.loads(Path(file).read_text())))
+    return [[line for line in lines if is_of_guests(line)] for lines in texts]
 
 
 def after_our_set_up(program, file, lines):
     """What the program answers to a script over the board of a file that it sets up itself."""
-    ran = subprocess.run([program, "run", file], input="".join(f"{line}\n" for line in lines), capture_output=True, text=True)
-    return ran.stdout.splitlines()
+    script = "".join(f"{line}\n" for line in lines)
+    return subprocess.run([program, "run", file], input=script, capture_output=True, text=True).stdout.splitlines()
 
 
 def tell(machine, lines):
@@ -74,13 +76,13 @@ class Given:
         """`board` is of the library, and `audit` are the lines that the program's audit tells of it."""
         self.number, self.lines, self.wrong = 0, 0, []
         before = board.audit().text.splitlines()
+        self.wrong += [f"the library's audit tells {before[0]} in place of {audit[0]}"] * (before != audit)
         try:
             machine = board.into_guests()
         except pciguest.Refusal as refusal:
             self.number = refusal.number
             self.wrong += [f"{refusal}: another board is left"] * (board.audit().text.splitlines() != before)
-            self.wrong += [f"{refusal}: the audit tells {before[0]}"] * ((refusal.number == 207) != (before[-1] != "audit: ok"))
-            self.wrong += [f"{refusal}: the program tells {audit[0]} first"] * (before != audit)
+            self.wrong += [f"{refusal} though {before[0]}"] * ((refusal.number == 207) != (before[-1] != "audit: ok"))
             return
         with machine:
             self.compare(program, file, machine)
@@ -92,4 +94,4 @@ class Given:
         found, wanted = tell(machine, lines), after_our_set_up(program, file, lines)
         self.lines = len(found)
         self.wrong += [f"{len(found)} replies in place of {len(wanted)}"] * (len(found) != len(wanted))
-        self.wrong += [f"the guests are told {one} in place of {other}" for one, other in zip(found, wanted) if one != other]
+        self.wrong += [f"guests are told {one} in place of {other}" for one, other in zip(found, wanted) if one != other]

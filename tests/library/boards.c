@@ -207,88 +207,6 @@ static void unfit(void)
     pciguest_board_free(&board);
 }
 
-/* Writes of firmware of ten accesses: the bridge of the main board is numbered and forwards what is behind it, each region
- * has a place, and each function answers there. */
-static void set_up_by_hand(struct pciguest_board *board)
-{
-    static const struct {
-        uint8_t bus, device;
-        uint64_t offset;
-        uint32_t value;
-    } writes[] = {{0, 1, 0x10, 0x1000}, {0, 1, 0x14, 0xd0000000}, {0, 1, 4, 3}, {0, 2, 0x18, 0x00010100},
-                  {0, 2, 0x1c, 0x3030}, {0, 2, 0x20, 0xd110d110}, {0, 2, 0x24, 0xd2f0d200}, {0, 2, 4, 3},
-                  {1, 0, 0x10, 0xd1100000}, {1, 0, 0x14, 0x3010}, {1, 0, 4, 3}, {1, 1, 0x10, 0xd2000000}};
-
-    for (size_t i = 0; i < sizeof writes / sizeof writes[0]; i++)
-        IS(pciguest_board_write(board, PCIGUEST_CONFIG, writes[i].bus, writes[i].device, 0, writes[i].offset, 4,
-                                writes[i].value), 0);
-}
-
-/* What is asked of two machines answers alike, whoever set their boards up: a few lines of guests. */
-static void told_alike(struct pciguest *machine, struct pciguest *other)
-{
-    static const char *const lines[] = {
-        "a cw 0 4 2 3", "a cw 0 0x14 4 0xe0000000", "a mw 0xe0000000 4 0x12345678", "a mr 0xe0000001 1", "a cr 0 0x14 4",
-        "a cw 1 0x10 4 0x90000000", "a cw 1 4 2 2", "a mr 0x90000000 4", "b cr 0 0 4", "b cr 0 0x10 4", "b cr 1 0 4",
-        "b iw 0xcf8 4 0x80000000", "b ir 0xcfc 4", "a raise 0 6 7 0x80", "a cr 0 6 2", "host move a 0 b 3", "b cr 3 4 4"};
-
-    for (size_t i = 0; i < sizeof lines / sizeof lines[0]; i++) {
-        char reply[PCIGUEST_REPLY] = {0}, wanted[PCIGUEST_REPLY] = {0};
-        size_t written = 0, length_wanted = 1;
-
-        IS(pciguest_run_line(machine, lines[i], strlen(lines[i]), reply, sizeof reply, &written), 0);
-        IS(pciguest_run_line(other, lines[i], strlen(lines[i]), wanted, sizeof wanted, &length_wanted), 0);
-        IS(written, length_wanted);
-        IS(memcmp(reply, wanted, sizeof reply), 0);
-    }
-}
-
-/* Guests over a board that this program set up by hand. It is refused as long as its audit tells a problem, or a region of
- * a given function is closed; and each allocation fails in turn. A board that is refused is as it was. */
-static void guests_over_a_board(void)
-{
-    struct pciguest_board board = PCIGUEST_BOARD_INIT;
-    struct pciguest machine = PCIGUEST_INIT, other = PCIGUEST_INIT;
-    uint32_t value = 0, fault = 299;
-    long count = 0, before = blocks, kept;
-
-    IS(pciguest_board_new(&board, file, length), 0);
-    IS(pciguest_board_guests(&board, &machine), 207);
-    IS(config_read(&board, 1, 4), 0x80000000);
-    set_up_by_hand(&board);
-    IS(pciguest_board_guests(&board, &machine), 206);
-    IS(machine.live, 0);
-    IS(pciguest_board_write(&board, PCIGUEST_CONFIG, 1, 1, 0, 4, 2, 2), 0);
-    audit_is(&board, "audit: ok\n", 0);
-    IS(pciguest_new(&other, file, length), 0);
-    IS(pciguest_board_guests(&board, &other), 903);
-    IS(pciguest_board_write(&board, PCIGUEST_MEMORY, 0, 0, 0, 0xd0000004, 4, 0x600d600d), 0);
-    for (kept = blocks; fault != 0; count++) {
-        IS(board.live, 1);
-        IS(pciguest_board_read(&board, PCIGUEST_MEMORY, 0, 0, 0, 0xd0000004, 4, &value), 0);
-        IS(value, 0x600d600d);
-        IS((uint64_t)blocks, (uint64_t)kept);
-        calls_left = count + 1;
-        fault = pciguest_board_guests(&board, &machine);
-        calls_left = -1;
-        if (fault != 0 && fault != 199)
-            IS(fault, 299);
-        IS(machine.live, fault == 0);
-    }
-    IS(count > 50, 1);
-    IS(board.live, 0);
-    IS(pciguest_board_read(&board, PCIGUEST_IO, 0, 0, 0, 0, 1, &value), 901);
-    IS(pciguest_host_read(&machine, PCIGUEST_CONFIG, 1, 1, 0, 0x10, 4, &value), 0);
-    IS(value, 0xd200000c);
-    IS(pciguest_host_read(&machine, PCIGUEST_MEMORY, 0, 0, 0, 0xd0000004, 4, &value), 0);
-    IS(value, 0); /* the function was reset */
-    told_alike(&machine, &other);
-    pciguest_free(&machine);
-    pciguest_free(&other);
-    pciguest_board_free(&board);
-    IS((uint64_t)blocks, (uint64_t)before);
-}
-
 /* Each allocation fails in turn: the answer is out of memory, the struct stays empty, and nothing is lost. */
 static void out_of_memory(void)
 {
@@ -400,7 +318,6 @@ int main(int argc, char **argv)
     pciguest_board_free(&board);
     unfit();
     audits();
-    guests_over_a_board();
     out_of_memory();
     IS(pciguest_board_new(&board, file, length), 0);
     set_up_out_of_memory(&board);

@@ -100,8 +100,8 @@ class SetUp(Case):
 
 class Guests(Case):
     def set_up_by_hand(self):
-        """The bridge is numbered and forwards what is behind it, each region has a place, and each function but the last
-        answers there."""
+        """The bridge is numbered and forwards what is behind it, each region has a place, and each function but the
+        last answers there."""
         for (bus, device), offset, value in (
             ((0, 1), 0x10, 0x1000),
             ((0, 1), 0x14, 0xD0000000),
