@@ -1,3 +1,4 @@
 pub mod Warnings
+pub mod Misfits
 pub mod Texts
 pub mod Telling

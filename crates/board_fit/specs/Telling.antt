@@ -1,10 +1,12 @@
 -- What is told of a board file whose board is judged.
---     warning_text      the line of a remark: FILE:LINE: warning: ENTRY.KEY = VALUE: what is said
+--     remark_text      the line of a remark: FILE:LINE: LABEL ENTRY.KEY = VALUE of OWNER: what is said
 --     told_text      the same, with the line of the file below it where that is asked
---     IsLocated text ms l      the place of a remark, where there is one, is that of the value at its key
+--     IsLocated text ms l      the place of a remark, where there is one, is that of the value at its key, and so is
+--                              that of the other entry
 --     AreWarnings style name bytes b a text      a line for each thing that may be a mistake in the file with these
 --                                                bytes and in its board, in order
-use Rattle.std.specs.Prelude.{◌≡◌, ℕ, List, ◌++◌, codes, map, flat_map, Some, IfSome}
+--     AreReasons style name bytes m text      the same for all in the file that is why its board can't be set up
+use Rattle.std.specs.Prelude.{◌≡◌, ℕ, List, ◌++◌, codes, map, flat_map, Some, option_map, IfSome}
 use Rattle.toml.specs.Data.{Members}
 use Rattle.toml.specs.Parse.{parse_document}
 use Rattle.lists.specs.Elements.{Each}
@@ -18,23 +20,33 @@ use Rattle.board_check.specs.declared.style.Style.TheVariants.{Plain, WithExcerp
 use Rattle.board_fit.specs.declared.remark.Remark.{Remark}
 use Rattle.board_fit.specs.declared.located.Located.{Located}
 use Rattle.board_fit.specs.Warnings.{warnings}
-use Rattle.board_fit.specs.Texts.{entry_of, key_of, said_text}
+use Rattle.board_fit.specs.Texts.{entry_of, key_of, label_of, other_of, other_key, said_text}
+use Rattle.board_fit.specs.declared.misfit.Misfit.{Misfit}
+use Rattle.board_fit.specs.Misfits.{reasons}
+use Rattle.board_check.specs.declared.lines.Other.{Other}
+use Rattle.board_file.specs.declared.entry.Entry.{Entry}
 
-abbrev pub warning_text : List ℕ → Members → Located → List ℕ
-warning_text name ms l = name ++ line_text (line_at l.place) ++ codes ": warning: " ++ said_text ms l.remark
+abbrev pub remark_text : List ℕ → Members → Located → List ℕ
+remark_text name ms l =
+    name ++ line_text (line_at l.place) ++ codes ": " ++ label_of l.remark ++ said_text ms l.remark l.other
 
 abbrev pub below_remark_text : Members → List ℕ → Located → List ℕ
 below_remark_text ms bytes l = below_text ms bytes (entry_of l.remark) (key_of l.remark) l.place
 
 abbrev pub told_text : Style → List ℕ → Members → List ℕ → Located → List ℕ
-told_text Plain name ms bytes l = warning_text name ms l
-told_text WithExcerpts name ms bytes l = warning_text name ms l ++ below_remark_text ms bytes l
+told_text Plain name ms bytes l = remark_text name ms l
+told_text WithExcerpts name ms bytes l = remark_text name ms l ++ below_remark_text ms bytes l
 
 abbrev pub remark_of : Located → Remark
 remark_of l = l.remark
 
-abbrev pub IsLocated : List ℕ → Members → Located → Type 0
-IsLocated text ms l = IfSome l.place (IsPlaceOf text ms (entry_of l.remark) (key_of l.remark))
+abbrev pub other_entry : Other → Entry
+other_entry o = o.entry
+
+pub record IsLocated (text : List ℕ) (ms : Members) (l : Located) : Type 0 where
+  pub place : IfSome l.place (IsPlaceOf text ms (entry_of l.remark) (key_of l.remark))
+  pub other : option_map other_entry l.other ≡ other_of l.remark
+  pub other_place : IfSome l.other (λ o. IfSome o.place (IsPlaceOf text ms o.entry other_key))
 
 pub record AreTold (style : Style) (name bytes : List ℕ) (ms : Members) (rs : List Remark) (text : List ℕ) : Type 0 where
   pub located : List Located
@@ -46,3 +58,8 @@ pub record AreWarnings (style : Style) (name bytes : List ℕ) (b : Board) (a : 
   pub document : Members
   pub parsed : parse_document bytes ≡ Some document
   pub told : AreTold style name bytes document (warnings (file document) b a) text
+
+pub record AreReasons (style : Style) (name bytes : List ℕ) (m : Misfit) (text : List ℕ) : Type 0 where
+  pub document : Members
+  pub parsed : parse_document bytes ≡ Some document
+  pub told : AreTold style name bytes document (reasons (file document) m) text

@@ -1,13 +1,16 @@
 -- What is said of remarks.
 --     entry_of, key_of      the entry that a remark is about, and the key at which it is shown
---     words_of      what is said of the entry
+--     label_of      what stands before the entry: warnings are called so
+--     words_of, other_of      what is said of the entry, and the other entry that is named
 --     ending_text      the same up to the end of the line
 --     said_text      the entry as it is shown, and what is said of it
-use Rattle.std.specs.Prelude.{ℕ, List, ◌++◌, codes}
+use Rattle.std.specs.Prelude.{ℕ, List, [], ◌++◌, codes, Option, Some, None}
 use Rattle.toml.specs.Data.{Members}
 use Rattle.board_file.specs.declared.entry.Entry.{Entry}
 use Rattle.board_file.specs.declared.entry.Entry.TheVariants as entry
 use Rattle.board_check.specs.Texts.{place_text}
+use Rattle.board_check.specs.Causes.{other_text}
+use Rattle.board_check.specs.declared.lines.Other.{Other}
 use Rattle.window_packing.specs.declared.pool.Pool.{Pool}
 use Rattle.window_packing.specs.declared.pool.Pool.TheVariants.{Io, Mem, Pref}
 use Rattle.board_fit.specs.declared.remark.Remark.{Remark}
@@ -23,22 +26,42 @@ entry_of (remark.EmptyBridge i) = entry.Bridge i
 entry_of (remark.EndpointOfNone i) = entry.Endpoint i
 entry_of (remark.GuestWithoutSlots i) = entry.Guest i
 entry_of (remark.WideAperture pool) = entry.Host
+entry_of (remark.BridgeTooMany i) = entry.Bridge i
+entry_of (remark.ClosedRegion i j k) = entry.Bar i j
 
 abbrev pub key_of : Remark → List ℕ
 key_of (remark.EmptyBridge i) = codes "at"
 key_of (remark.EndpointOfNone i) = codes "at"
 key_of (remark.GuestWithoutSlots i) = codes "name"
 key_of (remark.WideAperture pool) = aperture_key pool
+key_of (remark.BridgeTooMany i) = codes "at"
+key_of (remark.ClosedRegion i j k) = codes "kind"
 
 abbrev pub words_of : Remark → List ℕ
 words_of (remark.EmptyBridge i) = codes "nothing stands behind it"
 words_of (remark.EndpointOfNone i) = codes "is in no slot of a guest"
 words_of (remark.GuestWithoutSlots i) = codes "has no slots"
 words_of (remark.WideAperture pool) = codes "is more than ten times what its pool uses"
+words_of (remark.BridgeTooMany i) = codes "is the first bridge for which no bus number is left"
+words_of (remark.ClosedRegion i j k) = codes "is behind a bridge without an I/O window"
 
-abbrev pub ending_text : Remark → List ℕ
-ending_text r = codes ": " ++ words_of r ++ codes "\n"
+abbrev pub label_of : Remark → List ℕ
+label_of (remark.BridgeTooMany i) = []
+label_of (remark.ClosedRegion i j k) = []
+label_of _ = codes "warning: "
 
--- ENTRY.KEY = VALUE: what is said
-abbrev pub said_text : Members → Remark → List ℕ
-said_text ms r = place_text ms (entry_of r) (key_of r) ++ ending_text r
+-- the bridge above the region
+abbrev pub other_of : Remark → Option Entry
+other_of (remark.ClosedRegion i j k) = Some (entry.Bridge k)
+other_of _ = None
+
+-- the key of the other entry at which its line is told
+abbrev pub other_key : List ℕ
+other_key = codes "io"
+
+abbrev pub ending_text : Remark → Option Other → List ℕ
+ending_text r o = codes ": " ++ words_of r ++ other_text o ++ codes "\n"
+
+-- ENTRY.KEY = VALUE of OWNER: what is said
+abbrev pub said_text : Members → Remark → Option Other → List ℕ
+said_text ms r o = place_text ms (entry_of r) (key_of r) ++ ending_text r o

@@ -5,24 +5,33 @@ ghost use Rattle.lists.specs.Elements.{Each};
 ghost use Rattle.board_fit.specs.Telling.{remark_of, IsLocated};
 
 use crate::remark::Remark;
-use board_check::place_of;
+use board_check::{Other, place_of, with_place};
 use std::alloc::{AllocError, Global};
 use value_places::{Place, Places};
 
-/// A remark, and its place, where that is known and was confirmed.
+/// A remark, and its place, where that is known and was confirmed; with the other entry that it names.
 #[derive(Clone, Copy, Debug)]
 pub struct Located {
     pub remark: Remark,
     pub place: Option<Place>,
+    pub other: Option<Other>,
 }
+
+/// The key of the other entry at which its line is told.
+const OTHER_KEY: &str = "io";
 
 /// A remark with its place.
 fn locate(alloc: Global, places: &Places<'_>, remark: Remark) -> Result<Located, AllocError>
     ensures same { IfOk result (λ l. l.remark ≡ remark) }
-    ensures place { IfOk result (IsLocated places.now.text.now (table_view places.now.document.now)) }
+    ensures located { IfOk result (IsLocated places.now.text.now (table_view places.now.document.now)) }
 {
     let place = place_of(alloc, places, remark.entry(), remark.key())?;
-    Ok(Located { remark, place })
+    let other = with_place(alloc, places, remark.other(), OTHER_KEY)?;
+    Ok(Located {
+        remark,
+        place,
+        other,
+    })
 }
 
 /// The remarks with their places.

@@ -1,11 +1,11 @@
-//! What is remarked of a board that can be set up.
+//! What is remarked of a board file that is accepted.
 ghost use Rattle.std.specs.Prelude.{◌≡◌};
-ghost use Rattle.board_fit.specs.Texts.{aperture_key, entry_of, key_of, words_of};
+ghost use Rattle.board_fit.specs.Texts.{aperture_key, entry_of, key_of, label_of, words_of, other_of};
 
 use board_file::Entry;
 use window_packing::Pool;
 
-/// What may be a mistake, and is no fault. Lists of the file begin at 0.
+/// What may be a mistake and is no fault, or why a board can't be set up. Lists of the file begin at 0.
 #[derive(Clone, Copy, Debug)]
 pub enum Remark {
     /// Nothing stands behind a bridge.
@@ -16,6 +16,10 @@ pub enum Remark {
     GuestWithoutSlots(usize),
     /// An aperture is more than ten times what its pool uses.
     WideAperture(Pool),
+    /// More bridges than bus numbers: the first too many.
+    BridgeTooMany(usize),
+    /// A region of I/O, by its endpoint and its place in the list, is behind a bridge without an I/O window.
+    ClosedRegion(usize, usize, usize),
 }
 
 /// The key of the aperture of a pool.
@@ -39,6 +43,8 @@ impl Remark {
             Remark::EndpointOfNone(index) => Entry::Endpoint(index),
             Remark::GuestWithoutSlots(index) => Entry::Guest(index),
             Remark::WideAperture(_) => Entry::Host,
+            Remark::BridgeTooMany(index) => Entry::Bridge(index),
+            Remark::ClosedRegion(endpoint, bar, _) => Entry::Bar(endpoint, bar),
         }
     }
 
@@ -47,9 +53,30 @@ impl Remark {
         ensures { result.now ≡ key_of self }
     {
         match self {
-            Remark::EmptyBridge(_) | Remark::EndpointOfNone(_) => "at",
+            Remark::EmptyBridge(_) | Remark::EndpointOfNone(_) | Remark::BridgeTooMany(_) => "at",
             Remark::GuestWithoutSlots(_) => "name",
             Remark::WideAperture(pool) => aperture_key(pool),
+            Remark::ClosedRegion(_, _, _) => "kind",
+        }
+    }
+
+    /// What stands before the entry.
+    pub(crate) fn label(self) -> &'static str
+        ensures { result.now ≡ label_of self }
+    {
+        match self {
+            Remark::BridgeTooMany(_) | Remark::ClosedRegion(_, _, _) => "",
+            _ => "warning: ",
+        }
+    }
+
+    /// The other entry that it names.
+    pub(crate) fn other(self) -> Option<Entry>
+        ensures { result ≡ other_of self }
+    {
+        match self {
+            Remark::ClosedRegion(_, _, bridge) => Some(Entry::Bridge(bridge)),
+            _ => None,
         }
     }
 
@@ -62,6 +89,8 @@ impl Remark {
             Remark::EndpointOfNone(_) => "is in no slot of a guest",
             Remark::GuestWithoutSlots(_) => "has no slots",
             Remark::WideAperture(_) => "is more than ten times what its pool uses",
+            Remark::BridgeTooMany(_) => "is the first bridge for which no bus number is left",
+            Remark::ClosedRegion(_, _, _) => "is behind a bridge without an I/O window",
         }
     }
 }

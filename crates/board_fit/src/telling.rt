@@ -7,9 +7,11 @@ ghost use Rattle.model_set_up.specs.FunctionTable.{board_in};
 ghost use Rattle.bus_scan.specs.SizedTables.{IsTableOf};
 ghost use Rattle.board_file.specs.Entries.{file};
 ghost use Rattle.board_fit.specs.Warnings.{warnings};
-ghost use Rattle.board_fit.specs.Telling.{AreTold, AreWarnings};
+ghost use Rattle.board_fit.specs.Misfits.{reasons};
+ghost use Rattle.board_fit.specs.Telling.{AreTold, AreWarnings, AreReasons};
 
 use crate::located::with_places;
+use crate::misfit::{Misfit, reasons};
 use crate::remark::Remark;
 use crate::texts::push_remarks;
 use crate::warnings::warnings;
@@ -87,6 +89,42 @@ pub fn warnings_text(
     let telling = Telling { style, name, bytes };
     match toml::table_from_slice(alloc, bytes) {
         Ok(document) => document_warnings(alloc, &telling, &document, table, apertures),
+        Err(_) => Err(AllocError),
+    }
+}
+
+/// The entries of a document that are why its board can't be set up.
+fn document_reasons(
+    alloc: Global,
+    telling: &Telling<'_>,
+    document: &Table,
+    misfit: Misfit,
+) -> Result<String, AllocError>
+    ensures { let t = telling.now in IfOk result (λ text.
+        AreTold t.style t.name.now t.bytes.now (table_view document.now)
+        (reasons (file (table_view document.now)) misfit) (string_bytes text)) }
+{
+    let file = read_entries(alloc, document)?;
+    let reasons = reasons(alloc, &file, misfit)?;
+    told_text(alloc, telling, document, &reasons)
+}
+
+/// Why the board of a file that was accepted can't be set up: a line for the first bridge for which no bus
+/// number is left, or for each region of I/O behind a bridge without an I/O window, with that bridge; in the
+/// order of the file. `name` is what the file is called. With excerpts the line of the file stands below
+/// each. It fails where memory is out, and where the bytes are no document.
+pub fn reasons_text(
+    alloc: Global,
+    style: Style,
+    name: &str,
+    bytes: &[u8],
+    misfit: Misfit,
+) -> Result<String, AllocError>
+    ensures { IfOk result (λ t. AreReasons style name.now bytes.now misfit (string_bytes t)) }
+{
+    let telling = Telling { style, name, bytes };
+    match toml::table_from_slice(alloc, bytes) {
+        Ok(document) => document_reasons(alloc, &telling, &document, misfit),
         Err(_) => Err(AllocError),
     }
 }

@@ -3,47 +3,54 @@ ghost use Rattle.std.specs.Prelude.{◌≡◌, ◌++◌, OnOk, string_bytes};
 ghost use Rattle.std.specs.List.{flat_map};
 ghost use Rattle.toml.specs.View.{table_view};
 ghost use Rattle.board_fit.specs.Texts.{ending_text, said_text};
-ghost use Rattle.board_fit.specs.Telling.{warning_text, told_text};
+ghost use Rattle.board_fit.specs.Telling.{remark_text, told_text};
 
 use crate::located::Located;
 use crate::remark::Remark;
 use crate::telling::Telling;
-use board_check::{Style, line_at, push_below, push_line, push_place};
+use board_check::{Other, Style, line_at, push_below, push_line, push_other, push_place};
 use std::alloc::{AllocError, Global};
 use toml::Table;
 
 /// Appends what is said of an entry, and ends the line.
-fn push_words(text: &mut String, remark: Remark) -> Result<(), AllocError>
-    ensures { OnOk result (string_bytes text.new ≡ string_bytes text.old ++ ending_text remark) }
+fn push_words(text: &mut String, remark: Remark, other: Option<Other>) -> Result<(), AllocError>
+    ensures { OnOk result (string_bytes text.new ≡ string_bytes text.old ++ ending_text remark other) }
 {
     text.push_str(": ")?;
     text.push_str(remark.words())?;
+    push_other(text, other)?;
     text.push_str("\n")
 }
 
 /// Appends the entry that a remark is about, and what is said of it, and ends the line.
-fn push_said(text: &mut String, document: &Table, remark: Remark) -> Result<(), AllocError>
+fn push_said(
+    text: &mut String,
+    document: &Table,
+    remark: Remark,
+    other: Option<Other>,
+) -> Result<(), AllocError>
     ensures { OnOk result (string_bytes text.new
-        ≡ string_bytes text.old ++ said_text (table_view document.now) remark) }
+        ≡ string_bytes text.old ++ said_text (table_view document.now) remark other) }
 {
     push_place(text, document, remark.entry(), remark.key())?;
-    push_words(text, remark)
+    push_words(text, remark, other)
 }
 
 /// Appends the line of a remark.
-fn push_warning(
+fn push_remark(
     text: &mut String,
     name: &str,
     document: &Table,
     located: &Located,
 ) -> Result<(), AllocError>
     ensures { OnOk result (string_bytes text.new
-        ≡ string_bytes text.old ++ warning_text name.now (table_view document.now) located.now) }
+        ≡ string_bytes text.old ++ remark_text name.now (table_view document.now) located.now) }
 {
     text.push_str(name)?;
     push_line(text, line_at(located.place))?;
-    text.push_str(": warning: ")?;
-    push_said(text, document, located.remark)
+    text.push_str(": ")?;
+    text.push_str(located.remark.label())?;
+    push_said(text, document, located.remark, located.other)
 }
 
 /// Appends what is told of a remark.
@@ -57,7 +64,7 @@ fn push_told(
     ensures { OnOk result (string_bytes text.new ≡ string_bytes text.old
         ++ told_text telling.now.style telling.now.name.now (table_view document.now) telling.now.bytes.now located.now) }
 {
-    push_warning(text, telling.name, document, located)?;
+    push_remark(text, telling.name, document, located)?;
     let remark = located.remark;
     match telling.style {
         Style::Plain => Ok(()),

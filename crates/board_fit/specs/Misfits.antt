@@ -1,0 +1,56 @@
+-- Why the board of a file can't be set up, by the entries of the file.
+--     first_closed bs p      of these bridges the first above the function at a path that has no I/O window
+--     closed_regions      all regions of I/O behind such a bridge, in order
+--     bridge_too_many      the bridge after the 255 that have bus numbers
+--     reasons      the one or the other
+use Rattle.std.specs.Prelude.{ℕ, nat_lt, Bool, true, false, ◌&&◌, List, [], ◌∷◌, length, flat_map, Option, if◌then◌else◌}
+use Rattle.std.specs.List.{position, enumerate_from}
+use Rattle.std.specs.Option.{option_map_or}
+use Rattle.model_registers.specs.Declarations.{Kind, io_kind, mem32, mem64, IoDecode, no_io, io16, io32}
+use Rattle.model_board.specs.Paths.{Path, leads_to}
+use Rattle.board_file.specs.Entries.{Bar, Endpoint, Bridge, File}
+use Rattle.board_file.specs.PathTexts.{path_at}
+use Rattle.board_fit.specs.declared.misfit.Misfit.{Misfit}
+use Rattle.board_fit.specs.declared.misfit.Misfit.TheVariants.{Buses, IoWindows}
+use Rattle.board_fit.specs.declared.remark.Remark.{Remark}
+use Rattle.board_fit.specs.declared.remark.Remark.TheVariants as remark
+
+abbrev pub is_io : Kind → Bool
+is_io io_kind = true
+is_io (mem32 pref) = false
+is_io (mem64 pref) = false
+
+abbrev pub is_closed : IoDecode → Bool
+is_closed no_io = true
+is_closed io16 = false
+is_closed io32 = false
+
+abbrev pub closes : Path → Bridge → Bool
+closes p b = is_closed b.io && leads_to (path_at b.at) p
+
+abbrev pub first_closed : List Bridge → Path → Option ℕ
+first_closed bs p = position (closes p) bs
+
+abbrev pub closed_remarks : ℕ → ℕ → Option ℕ → List Remark
+closed_remarks i j o = option_map_or (λ k. remark.ClosedRegion i j k ∷ []) o []
+
+abbrev pub closed_region : ℕ → Option ℕ → ℕ × Bar → List Remark
+closed_region i o (j, b) = if is_io b.kind then closed_remarks i j o else []
+
+-- those of a list of regions
+abbrev pub closed_bars : ℕ → Option ℕ → List Bar → List Remark
+closed_bars i o bars = flat_map (closed_region i o) (enumerate_from 0 bars)
+
+unfoldable pub closed_in : List Bridge → ℕ × Endpoint → List Remark
+closed_in bs (i, e) = closed_bars i (first_closed bs (path_at e.at)) e.bars
+
+abbrev pub closed_regions : File → List Remark
+closed_regions f = flat_map (closed_in f.bridges) (enumerate_from 0 f.endpoints)
+
+-- a bridge has one of the bus numbers from 1 to 255
+abbrev pub bridge_too_many : File → List Remark
+bridge_too_many f = if nat_lt 255 (length f.bridges) then remark.BridgeTooMany 255 ∷ [] else []
+
+abbrev pub reasons : File → Misfit → List Remark
+reasons f Buses = bridge_too_many f
+reasons f IoWindows = closed_regions f

@@ -1,0 +1,151 @@
+//! Why the board of a file can't be set up, by the entries of the file.
+ghost use Rattle.std.specs.Prelude.{◌≡◌, ◌++◌, IfOk, OnOk};
+ghost use Rattle.bars.specs.Kinds.{kind_of};
+ghost use Rattle.headers.specs.Decodes.{io_decode_of};
+ghost use Rattle.board_fit.specs.Misfits.{is_io, is_closed, closes, first_closed, closed_remarks, closed_region, closed_bars, closed_in, closed_regions, bridge_too_many, reasons};
+
+use crate::remark::Remark;
+use bars::Kind;
+use board_file::entries::{BarEntry, BridgeEntry, EndpointEntry, FileEntries};
+use headers::IoDecode;
+use paths::Path;
+use std::alloc::{AllocError, Global};
+
+/// Of which kind the entries are that are told.
+#[derive(Clone, Copy, Debug)]
+pub enum Misfit {
+    /// More bridges than bus numbers.
+    Buses,
+    /// Regions of I/O behind bridges without an I/O window.
+    IoWindows,
+}
+
+/// Whether the kind is that of I/O.
+fn is_io(kind: Kind) -> bool
+    ensures { result ≡ is_io (kind_of kind) }
+{
+    match kind {
+        Kind::Io => true,
+        Kind::Mem32 { pref: _ } | Kind::Mem64 { pref: _ } => false,
+    }
+}
+
+/// Whether there is no I/O window.
+fn is_closed(io: IoDecode) -> bool
+    ensures { result ≡ is_closed (io_decode_of io) }
+{
+    match io {
+        IoDecode::Unimplemented => true,
+        _ => false,
+    }
+}
+
+/// Whether a bridge above the path has no I/O window.
+fn closes(path: &Path, bridge: &BridgeEntry<'_>) -> bool
+    ensures { result ≡ closes path.now bridge.now }
+{
+    is_closed(bridge.io) && bridge.at.path().leads_to(path)
+}
+
+/// The first such bridge.
+fn first_closed(bridges: &[BridgeEntry<'_>], path: &Path) -> Option<usize>
+    ensures { result ≡ first_closed bridges.now path.now }
+{
+    bridges.iter().position(|bridge| closes(path, bridge))
+}
+
+/// Appends a region behind such a bridge, where there is one.
+fn push_closed(
+    remarks: &mut Vec<Remark>,
+    endpoint: usize,
+    bar: usize,
+    bridge: Option<usize>,
+) -> Result<(), AllocError>
+    ensures { OnOk result (remarks.new.items ≡ remarks.old.items ++ closed_remarks endpoint bar bridge) }
+{
+    if let Some(bridge) = bridge {
+        remarks.push(Remark::ClosedRegion(endpoint, bar, bridge))?;
+    }
+    Ok(())
+}
+
+/// The same of a region of any kind.
+fn push_region(
+    remarks: &mut Vec<Remark>,
+    endpoint: usize,
+    bridge: Option<usize>,
+    index: usize,
+    bar: &BarEntry<'_>,
+) -> Result<(), AllocError>
+    ensures { OnOk result (remarks.new.items ≡ remarks.old.items ++ closed_region endpoint bridge (index, bar.now)) }
+{
+    if is_io(bar.kind) {
+        push_closed(remarks, endpoint, index, bridge)?;
+    }
+    Ok(())
+}
+
+/// Appends the regions of I/O of an endpoint behind such a bridge.
+fn push_bars(
+    remarks: &mut Vec<Remark>,
+    endpoint: usize,
+    bridge: Option<usize>,
+    bars: &[BarEntry<'_>],
+) -> Result<(), AllocError>
+    ensures { OnOk result (remarks.new.items ≡ remarks.old.items ++ closed_bars endpoint bridge bars.now) }
+{
+    'bars: for (index, bar) in bars.iter().enumerate() {
+        push_region(remarks, endpoint, bridge, index, bar)?;
+    }
+    Ok(())
+}
+
+/// Appends the regions of an endpoint that are behind such a bridge.
+#[tactic(auto, unfolding(crate::specs::Misfits::closed_in))]
+fn push_endpoint(
+    remarks: &mut Vec<Remark>,
+    bridges: &[BridgeEntry<'_>],
+    index: usize,
+    endpoint: &EndpointEntry<'_>,
+) -> Result<(), AllocError>
+    ensures { OnOk result (remarks.new.items ≡ remarks.old.items ++ closed_in bridges.now (index, endpoint.now)) }
+{
+    let bridge = first_closed(bridges, &endpoint.at.path());
+    push_bars(remarks, index, bridge, &endpoint.bars)
+}
+
+/// Appends the regions of all endpoints that are behind such a bridge.
+fn push_closed_regions(remarks: &mut Vec<Remark>, file: &FileEntries<'_>) -> Result<(), AllocError>
+    ensures { OnOk result (remarks.new.items ≡ remarks.old.items ++ closed_regions file.now) }
+{
+    'endpoints: for (index, endpoint) in file.endpoints.iter().enumerate() {
+        push_endpoint(remarks, &file.bridges, index, endpoint)?;
+    }
+    Ok(())
+}
+
+/// Appends the first bridge for which there is no bus number.
+fn push_too_many(remarks: &mut Vec<Remark>, file: &FileEntries<'_>) -> Result<(), AllocError>
+    ensures { OnOk result (remarks.new.items ≡ remarks.old.items ++ bridge_too_many file.now) }
+{
+    if 255 < file.bridges.len() {
+        remarks.push(Remark::BridgeTooMany(255))?;
+    }
+    Ok(())
+}
+
+/// All entries of a file that are why its board can't be set up.
+pub(crate) fn reasons(
+    alloc: Global,
+    file: &FileEntries<'_>,
+    misfit: Misfit,
+) -> Result<Vec<Remark>, AllocError>
+    ensures { IfOk result (λ v. v.items ≡ reasons file.now misfit) }
+{
+    let mut remarks = Vec::new(alloc);
+    match misfit {
+        Misfit::Buses => push_too_many(&mut remarks, file)?,
+        Misfit::IoWindows => push_closed_regions(&mut remarks, file)?,
+    }
+    Ok(remarks)
+}
