@@ -21,8 +21,8 @@ def guests_text(text, seed):
 
 
 def placing(name, slot, endpoint):
-    """Lines of a guest that sizes and places the regions of its function, opens them, and writes and reads there."""
-    yield f"{name} cr {slot} 0 4"
+    """Lines of a guest that reads all of its function's registers, sizes, places and opens its regions, and uses them."""
+    yield from (f"{name} cr {slot} {offset} 4" for offset in range(0, 256, 4))
     for bar in endpoint.get("bar", []):
         register, port = 0x10 + 4 * bar["index"], bar["kind"] == "io"
         place = 0x4000 + 0x100 * slot if port else 0x40000000 + 0x4000000 * slot
@@ -51,9 +51,9 @@ def is_of_guests(line):
 
 
 def scripts(file):
-    """The scripts of the examples and that of the board, without the host's reads."""
-    texts = [script.read_text().splitlines() for script in SCRIPTS]
-    texts.append(script_of(tomllib.loads(Path(file).read_text())))
+    """The script of the board and then those of the examples, without the host's reads."""
+    texts = [script_of(tomllib.loads(Path(file).read_text()))]
+    texts += [script.read_text().splitlines() for script in SCRIPTS]
     return [[line for line in lines if is_of_guests(line)] for lines in texts]
 
 
