@@ -1,5 +1,5 @@
-"""What a check says of a board file that is accepted, by docs/FORMATS.md: how much of each aperture the board takes, and
-what may be a mistake."""
+"""What a check says of a board file that is accepted, by docs/FORMATS.md: how much of each aperture the board takes, what
+may be a mistake, and why its board can't be set up."""
 from board import Bar, Board, Bridge, Endpoint
 from placement import Layout, up
 from rules import Problem, entries, problem
@@ -31,11 +31,33 @@ def pool_line(layout, pool):
     return f"{POOLS[pool]}: {end:#x} of {last + 1 - at:#x} bytes used, from {at:#x} on"
 
 
-def warning(entry, key, words):
-    """What may be a mistake: a line as that of a problem, without the number of a fault."""
+def remark(label, entry, key, words, *others):
+    """A line as that of a problem, without the number of a fault."""
     told = problem(entry, key, words, 102)
-    text = "warning: " + told.text.removesuffix(" (102 key)")
-    return Problem(text, told.table, told.outer, [], told.entry, key, words, 0)
+    text = label + told.text.removesuffix(" (102 key)") + "".join(f": {other.name}" for other in others)
+    return Problem(text, told.table, told.outer, [(other.table, "io") for other in others], told.entry, key, words, 0)
+
+
+def warning(entry, key, words):
+    """What may be a mistake."""
+    return remark("warning: ", entry, key, words)
+
+
+def reasons(document, number):
+    """The entries that are why a board can't be set up."""
+    every = list(entries(document))
+    bridges = [entry for entry in every if entry.kind == "bridge"]
+    if number == 201:
+        return [remark("", bridges[255], "at", "is the first bridge for which no bus number is left")]
+    found = []
+    for entry in every:
+        if number == 202 and entry.kind == "bar" and entry.values["kind"] == "io":
+            above = [bridge for bridge in bridges if bridge.values["io"] == "none"
+                     and entry.owner.startswith(bridge.values["at"] + "/")]
+            if above:
+                words = "is behind a bridge without an I/O window"
+                found.append(remark("", entry, "kind", words, above[0]))
+    return found
 
 
 def warnings_of(document, layout):

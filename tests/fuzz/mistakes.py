@@ -15,7 +15,7 @@ import tomllib
 from pathlib import Path
 
 from board import board_file, random_board
-from judged import judged
+from judged import judged, reasons
 from rules import all_faults, place_of
 
 NUMBERS = [-1, 0, 1, 4, 5, 6, 17, 63, 64, 192, 255, 256, 3000, 4096, 4097, 0xF900, 0xFFFE, 0xFFFF, 0x10000,
@@ -114,7 +114,7 @@ def allowed_lines(where, table, key):
     return lines or {None}
 
 
-IN_LINE = re.compile(r" in line (\d+)(?= \(\d+ [A-Za-z ]+\)$| takes a register of | is of a 64-bit kind)")
+IN_LINE = re.compile(r" in line (\d+)(?=$| \(\d+ [A-Za-z ]+\)$| takes a register of | is of a 64-bit kind)")
 
 
 def without_others(text):
@@ -161,13 +161,27 @@ def judged_differs(lines, text, out):
     said = out.split("\n")[:-1]
     if said[:4] != head:
         return f"{said[:4]}, not {head}"
-    where, told = lines_of_keys(lines), with_numbers(said[4:])
-    if [line for _, line in told] != [warning.text for warning in warnings]:
-        return f"{told}, not {warnings}"
-    for (number, line), warning in zip(told, warnings):
-        if number not in allowed_lines(where, warning.table, warning.outer):
-            return f"line {number}, not {allowed_lines(where, warning.table, warning.outer)}: {line}"
+    return remarks_differ(lines, with_numbers(said[4:]), warnings)
+
+
+def remarks_differ(lines, told, remarks):
+    """What is wrong with the lines of remarks, if anything is."""
+    where, said = lines_of_keys(lines), [(number, *without_others(line)) for number, line in told]
+    if [(text, len(others)) for _, text, others in said] != [(one.text, len(one.others)) for one in remarks]:
+        return f"{told}, not {remarks}"
+    for (number, _, others), one in zip(said, remarks):
+        for given, table, key in [(number, one.table, one.outer), *((o, *at) for o, at in zip(others, one.others))]:
+            if given not in allowed_lines(where, table, key):
+                return f"line {given}, not {allowed_lines(where, table, key)}: {one.text}"
     return None
+
+
+def misfit_differs(lines, text, number, out):
+    """What is wrong with what a check said of a board that can't be set up, if anything is."""
+    first, *said = out.split("\n")[:-1]
+    if number < 203 and not first.startswith(f"board.toml: cannot be set up ({number} "):
+        return first
+    return remarks_differ(lines, with_numbers(said), reasons(tomllib.loads(text), number))
 
 
 class Files:
@@ -201,10 +215,10 @@ class Files:
         self.faults[got] = self.faults.get(got, 0) + 1
         if got != number and not (number == 0 and 200 < got < 206):
             self.differ(seed, f"fault {got}, not {number}")
-        if got == 0:
-            wrong = judged_differs(lines, text, done.stdout)
-            if wrong:
-                self.differ(seed, wrong)
+        if number == 0:
+            judged_so = judged_differs(lines, text, done.stdout) if got == 0 else misfit_differs(lines, text, got, done.stdout)
+            if judged_so:
+                self.differ(seed, judged_so)
             self.warned += done.stdout.count(": warning: ")
         if number == 101 and not re.fullmatch(r"board\.toml:\d+: refused \(101 not TOML\)\n", done.stdout):
             self.differ(seed, done.stdout)

@@ -1,10 +1,10 @@
 -- What is said of how a board fits its apertures.
 --     pool_text      how much of its aperture a pool takes
 --     fit_text, IsFitText      what is said of a board that can be set up, and with what may be a mistake in its file
---     misfit_text      what is said of one that can't
+--     IsMisfitText      what is said of one that can't, with the entries of its file that are why
 --     IsVerdict style name bytes b a fault text      the one of both that is true of the board, with the fault of the latter
 --     IsVerdictTold      it was written
-use Rattle.std.specs.Prelude.{◌≡◌, ℕ, ◌++◌, codes, decimal, Option, Some, None, option_map}
+use Rattle.std.specs.Prelude.{◌≡◌, ℕ, ◌++◌, [], codes, decimal, Option, Some, None, option_map}
 use Rattle.std.specs.Option.{option_map_or}
 use Rattle.std.specs.Io.KnownBytes.{Appends}
 use Rattle.model_registers.specs.DeclarationRules.{first_broken}
@@ -20,9 +20,11 @@ use Rattle.window_packing.specs.declared.uses.PoolUse.{PoolUse}
 use Rattle.window_packing.specs.Plans.{named_pool}
 use Rattle.window_packing.specs.Uses.{told_use}
 use Rattle.board_check.specs.declared.style.Style.{Style}
-use Rattle.board_fit.specs.Telling.{AreWarnings}
+use Rattle.board_fit.specs.declared.misfit.Misfit.{Misfit}
+use Rattle.board_fit.specs.declared.misfit.Misfit.TheVariants as misfit
+use Rattle.board_fit.specs.Telling.{AreWarnings, AreReasons}
 use Rattle.simulation.specs.declared.fault.Fault.{Fault}
-use Rattle.simulation.specs.declared.fault.Fault.TheVariants.{IoPool, MemoryPool, PrefetchablePool}
+use Rattle.simulation.specs.declared.fault.Fault.TheVariants.{Buses, NoIoWindow, IoPool, MemoryPool, PrefetchablePool}
 use Rattle.simulation.specs.declared.misfit.Shortage.{Shortage}
 use Rattle.simulation.specs.Faults.{number_of, words_of}
 
@@ -85,8 +87,24 @@ fault_text f = codes " (" ++ decimal (number_of f) ++ codes " " ++ words_of f ++
 abbrev pub refusal_line : Text → Option Shortage → Fault → Text
 refusal_line name s f = name ++ reason_text s ++ fault_text f
 
-abbrev pub misfit_text : Text → Board → Apertures → Fault → Text
-misfit_text name b a f = refusal_line name (shortage_of b a f) f
+-- the entries of its file that are told
+abbrev pub misfit_of : Fault → Option Misfit
+misfit_of Buses = Some misfit.Buses
+misfit_of NoIoWindow = Some misfit.IoWindows
+misfit_of _ = None
+
+abbrev pub AreReasonsOf : Style → (name bytes : Text) → Option Misfit → Text → Type 0
+AreReasonsOf style name bytes None text = text ≡ []
+AreReasonsOf style name bytes (Some m) text = AreReasons style name bytes m text
+
+-- the line of a fault, with these entries
+pub record IsMisfit (style : Style) (name bytes : Text) (s : Option Shortage) (f : Fault) (text : Text) : Type 0 where
+  pub reasons : Text
+  pub are_reasons : AreReasonsOf style name bytes (misfit_of f) reasons
+  pub is_text : text ≡ refusal_line name s f ++ reasons
+
+abbrev pub IsMisfitText : Style → (name bytes : Text) → Board → Apertures → Fault → Text → Type 0
+IsMisfitText style name bytes b a f text = IsMisfit style name bytes (shortage_of b a f) f text
 
 -- ---- either
 
@@ -98,7 +116,7 @@ pub record IsFitText (style : Style) (name bytes : Text) (b : Board) (a : Apertu
 
 abbrev pub IsSaid : Style → (name bytes : Text) → Board → Apertures → Option Fault → Text → Type 0
 IsSaid style name bytes b a None text = IsFitText style name bytes b a text
-IsSaid style name bytes b a (Some f) text = text ≡ misfit_text name b a f
+IsSaid style name bytes b a (Some f) text = IsMisfitText style name bytes b a f text
 
 -- the fault is that of the first rule of set-up that the board breaks, or none
 pub record IsVerdict (style : Style) (name bytes : Text) (b : Board) (a : Apertures) (fault : Option Fault) (text : Text) : Type 0 where

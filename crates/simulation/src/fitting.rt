@@ -15,11 +15,12 @@ ghost use Rattle.bus_scan.specs.declared.fault.Fault.TheVariants.{Memory};
 ghost use Rattle.window_packing.specs.Plans.{named_pool};
 ghost use Rattle.window_packing.specs.Readies.{board_below};
 ghost use Rattle.simulation.specs.Faults.{number_of, of_set_up, write_faults, IsOfList};
-ghost use Rattle.simulation.specs.Fitting.{known_use_text, use_text, pool_text, fit_text, misfit_text, refusal_line, IsFitText, IsVerdict, IsVerdictTold};
+ghost use Rattle.simulation.specs.Fitting.{known_use_text, use_text, pool_text, fit_text, IsMisfit, IsMisfitText, IsFitText, IsVerdict, IsVerdictTold};
 
 use crate::choice::print;
 use crate::fault::Fault;
-use crate::misfit::{Shortage, find_shortage, pool_words, push_number, refusal_line};
+use crate::misfit::{Shortage, find_shortage, pool_words, push_number};
+use crate::reasons::misfit_lines;
 use board_check::Style;
 use board_fit::warnings_text;
 use bus_scan::FunctionTable;
@@ -122,21 +123,24 @@ fn accept(
     Ok(Verdict { text, fault: None })
 }
 
-/// Of a board that can't: its line. It fails where memory is out.
+/// Of a board that can't: its line, and the entries of its file that are why. It fails where memory is out.
 fn decline(
     alloc: Global,
+    style: Style,
     name: &str,
+    board: &[u8],
     shortage: Option<Shortage>,
     fault: bus_scan::Fault,
 ) -> Result<Verdict, AllocError>
     ensures known { IfOk result (λ v. fault ≢ Memory) }
     ensures fault { IfOk result (λ v. v.fault ≡ Some fault) }
-    ensures text { IfOk result (λ v. string_bytes v.text ≡ refusal_line name.now shortage (of_set_up fault)) }
+    ensures text { IfOk result (λ v.
+        IsMisfit style name.now board.now shortage (of_set_up fault) (string_bytes v.text)) }
 {
     if fault == bus_scan::Fault::Memory {
         return Err(AllocError);
     }
-    let text = refusal_line(alloc, name, shortage, Fault::from(fault))?;
+    let text = misfit_lines(alloc, style, name, board, shortage, Fault::from(fault))?;
     Ok(Verdict {
         text,
         fault: Some(fault),
@@ -146,7 +150,9 @@ fn decline(
 /// The same, by the table of its functions.
 fn reject(
     alloc: Global,
+    style: Style,
     name: &str,
+    board: &[u8],
     table: &FunctionTable,
     apertures: &Apertures,
     fault: bus_scan::Fault,
@@ -155,10 +161,10 @@ fn reject(
     ensures known { IfOk result (λ v. fault ≢ Memory) }
     ensures fault { IfOk result (λ v. v.fault ≡ Some fault) }
     ensures text { IfOk result (λ v. (b : Board) → IsTableOf b table.now
-        → string_bytes v.text ≡ misfit_text name.now b apertures.now (of_set_up fault)) }
+        → IsMisfitText style name.now board.now b apertures.now (of_set_up fault) (string_bytes v.text)) }
 {
     let shortage = find_shortage(alloc, table, apertures, Fault::from(fault))?;
-    decline(alloc, name, shortage, fault)
+    decline(alloc, style, name, board, shortage, fault)
 }
 
 /// Whether a board with this table can be set up.
@@ -193,7 +199,7 @@ fn fit(
 {
     match can_be_placed(alloc, table, apertures) {
         Ok(()) => accept(alloc, style, name, board, table, apertures),
-        Err(fault) => reject(alloc, name, table, apertures, fault),
+        Err(fault) => reject(alloc, style, name, board, table, apertures, fault),
     }
 }
 
@@ -213,7 +219,7 @@ fn decide(
     let mut host = host;
     match enumerate(alloc, &mut host) {
         Ok(table) => fit(alloc, style, name, board, &table, &host.apertures()),
-        Err(fault) => decline(alloc, name, None, fault),
+        Err(fault) => decline(alloc, style, name, board, None, fault),
     }
 }
 

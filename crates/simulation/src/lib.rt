@@ -15,6 +15,7 @@ mod fitting;
 mod listing;
 mod misfit;
 mod numbered;
+mod reasons;
 mod running;
 mod standard_streams;
 
