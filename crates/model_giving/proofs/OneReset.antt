@@ -64,7 +64,7 @@ module _ (files : Path → Option File) where
   command_found None = refl
   command_found (Some f) = command_by (files f.path) f
 
-  command_at : (fs : List BoardFunction) (p : Path) → command_word (file_at (map (agreed_function files) fs) p) ≡ command_word (file_at fs p)
+  pub command_at : (fs : List BoardFunction) (p : Path) → command_word (file_at (map (agreed_function files) fs) p) ≡ command_word (file_at fs p)
   command_at fs p =
       ap (λ (o : Option BoardFunction). command_word (option_map_or (λ (f : BoardFunction). f.file) o []))
       (find_path (agreed_function files) (λ f. path_stays (files f.path) f) (λ f. decl_stays (files f.path) f) (λ f. path_eq f.path p) (λ f. path_eq f.path p)

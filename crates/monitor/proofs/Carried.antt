@@ -48,7 +48,7 @@ bases_held fs state i p d at = of (at_map row_at fs i (record { path = p; decl =
 -- ---- slot by slot
 
 module _ (s t : State) (on_s : IsStateOfBoard s.functions) (on_t : IsStateOfBoard t.functions) (same_board : board_at t.functions ≡ board_at s.functions) (same_routing : routing t.functions ≡ routing s.functions) (same_addresses : (p : Path) → address_now t.functions p ≡ address_now s.functions p) where
-  held_carried : (p : Path) (f : Function) (h : Held) → IsHeld s p f h → IsHeld t p f h
+  pub held_carried : (p : Path) (f : Function) (h : Held) → IsHeld s p f h → IsHeld t p f h
   held_carried p f h is =
       let row_now : slice_get (board_at t.functions) h.index ≡ Some (record { path = p; decl = endpoint f.decl }) = ap (λ (b : Board). slice_get b h.index) same_board ∙ is.row in
       record {

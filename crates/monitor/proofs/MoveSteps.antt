@@ -41,7 +41,7 @@ use Rattle.monitor.proofs.Reached.{functions, seat, found_on_board}
 -- ---- slots
 
 module _ (s : State) where
-  slots_put : (qs : List (Option Path)) (fs : Slots) (os : List (Option Held)) (n : ℕ) (q : Option Path) (f : Option Function) (o : Option Held) → AreSlots s qs fs os → IsSlot s q f o
+  pub slots_put : (qs : List (Option Path)) (fs : Slots) (os : List (Option Held)) (n : ℕ) (q : Option Path) (f : Option Function) (o : Option Held) → AreSlots s qs fs os → IsSlot s q f o
       → AreSlots s (slice_set qs n q) (slice_set fs n f) (slice_set os n o)
   slots_put [] [] [] n q f o are is = tt
   slots_put [] [] (x ∷ os) n q f o are is = absurd are
@@ -111,7 +111,7 @@ module _ (w : WorldOver) (h : HostState) (names : List (List ℕ)) (gs : List Gu
   function_nth : (n : ℕ) → function_in w.guests (name_nth w i) n ≡ slot_at at.x.lone.slots n
   function_nth n = ap (λ (o : Option GuestNow). slot_at (option_map_or (λ (t : GuestNow). t.lone) o (reset_guest [])).slots n) named_nth
 
-  taken_nth : (n : ℕ) → is_taken g.slots.items n ≡ is_some (function_in w.guests (name_nth w i) n)
+  pub taken_nth : (n : ℕ) → is_taken g.slots.items n ≡ is_some (function_in w.guests (name_nth w i) n)
   taken_nth n = taken_is w.handoff at.x.paths at.x.lone.slots g.slots.items n at.is.slots ∙ ap is_some (sym (function_nth n))
 
 -- a move between two guests, or from one to itself

@@ -76,7 +76,7 @@ of_decl : (p : Path) (d : Decl) (file : File) → endpoint_of (record { path = p
 of_decl p (endpoint d) file = refl
 of_decl p (bridge d) file = refl
 
-declared_there : (fs : List BoardFunction) (p : Path) → declared (board_at fs) p ≡ option_map (λ (e : Function). e.decl) (endpoint_at fs p)
+pub declared_there : (fs : List BoardFunction) (p : Path) → declared (board_at fs) p ≡ option_map (λ (e : Function). e.decl) (endpoint_at fs p)
 declared_there [] p = refl
 declared_there (f ∷ fs) p = by (path_eq f.path p) (declared_there fs p)
   where
@@ -116,7 +116,7 @@ module _ (b : Board) (p : Path) where
       nothing true = refl
       nothing false = refl
 
-  some_here : (fs : List BoardFunction) (d : Endpoint) → declared b p ≡ Some d → map (agreed_function (files_given b (p ∷ []))) fs ≡ with_file (after_reset d) p fs
+  pub some_here : (fs : List BoardFunction) (d : Endpoint) → declared b p ≡ Some d → map (agreed_function (files_given b (p ∷ []))) fs ≡ with_file (after_reset d) p fs
   some_here [] d e = refl
   some_here (f ∷ fs) d e =
       ap₂ (λ (x : BoardFunction) (xs : List BoardFunction). x ∷ xs)

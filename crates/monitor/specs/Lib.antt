@@ -13,3 +13,4 @@ pub mod Queries
 pub mod Passing
 pub mod Audits
 pub mod FunctionsTold
+pub mod Seatings

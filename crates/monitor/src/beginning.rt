@@ -38,7 +38,7 @@ fn decl_of(region: Option<Region>) -> Option<BarDecl>
 }
 
 /// What each base address register of a function opens.
-fn decls_of(placed: &[Option<Region>; 6]) -> [Option<BarDecl>; 6]
+pub(crate) fn decls_of(placed: &[Option<Region>; 6]) -> [Option<BarDecl>; 6]
     ensures { result ≡ map declared_in placed.now }
 {
     [

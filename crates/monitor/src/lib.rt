@@ -22,6 +22,7 @@ mod cycles;
 mod device;
 mod engine;
 mod functions;
+mod gift;
 mod giving;
 mod guest;
 mod landing;
@@ -35,6 +36,7 @@ mod reset;
 mod seat;
 mod seating;
 mod taking;
+mod withheld;
 
 pub use accesses::{
     Access, At, Bdf, GuestDecl, HostAccess, HostAt, Names, Op, Place, Refusal, Reply,
@@ -49,3 +51,4 @@ pub use locating::Hit;
 pub use monitor::Monitor;
 pub use regions::RegionNow;
 pub use seat::Seat;
+pub use withheld::Withheld;

@@ -7,7 +7,7 @@ ghost use Rattle.model_guests.specs.Lone.{answer};
 ghost use Rattle.model_guests.specs.Guests.{lone_of};
 ghost use Rattle.model_guests.specs.Lines.{guest_event, host_move};
 ghost use Rattle.model_guests.specs.WorldNow.{world_at_first, move_reply};
-ghost use Rattle.model_giving.specs.Giving.{take_reply, after_take};
+ghost use Rattle.model_giving.specs.Giving.{give_fault, after_give, take_reply, after_take};
 ghost use Rattle.model_handoff.specs.DevicesOver.{after_device};
 ghost use Rattle.model_handoff.specs.SetUpCase.{over_set_up};
 ghost use Rattle.model_handoff.specs.Regions.{CanBeGiven, first_fault};
@@ -30,6 +30,7 @@ ghost use Rattle.monitor.specs.declared.closed.RegionFault.TheVariants.{Memory a
 ghost use Rattle.monitor.specs.Beginnings.{world_on, world_of, taken_over};
 ghost use Rattle.monitor.specs.Queries.{region_named, hit_named};
 ghost use Rattle.monitor.specs.FunctionsTold.{function_named};
+ghost use Rattle.monitor.specs.Seatings.{fault_told, gift_nth};
 
 use crate::audited::Audited;
 use crate::closed::{RegionFault, Ungiven, first_closed};
@@ -37,10 +38,12 @@ use crate::engine::Engine;
 use crate::functions::FunctionNow;
 use crate::locating::Hit;
 use crate::regions::RegionNow;
+use crate::withheld::Withheld;
 use accesses::{Access, At, GuestDecl, HostAccess, Names, Place, Refusal, Reply};
 use bus_scan::Fault;
 use claim_table::Table;
 use host_bridge::Host;
+use paths::Path;
 use std::alloc::Global;
 use std::marker::Model;
 use window_packing::Ready;
@@ -180,6 +183,19 @@ impl Monitor {
         ensures refused { IsRefusal result → self.new ≡ self.old }
     {
         self.engine.reset(guest, slot)
+    }
+
+    /// Gives the function at a path, which no guest has, to a guest, into an empty slot: there and on the board
+    /// it is at reset, on the board but for what guests have copies of. Or refuses it and changes nothing: 303
+    /// for a slot above 31, else 303 where no endpoint stands at the path, else 602 where a guest has it, else
+    /// 602 for a slot that is taken, else 206 where one of its regions is closed. No memory is taken.
+    pub fn give(&mut self, path: &Path, guest: usize, slot: u64) -> Result<(), Withheld>
+        requires { guest < length self.old.guests }
+        ensures reply { fault_told result ≡ give_fault self.old (gift_nth self.old path.now guest slot) }
+        ensures after { self.new ≡ after_give self.old (gift_nth self.old path.now guest slot) }
+        ensures refused { IfErr result (λ _. self.new ≡ self.old) }
+    {
+        self.engine.give(path, guest, slot)
     }
 
     /// Takes the function in a slot from its guest: the slot is then empty, and on the board the function is at

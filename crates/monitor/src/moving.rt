@@ -12,7 +12,7 @@ use accesses::Refusal;
 use host_bridge::Host;
 
 /// Whether a function is in a slot.
-fn is_taken(slots: &[Option<Held>], slot: usize) -> bool
+pub(crate) fn is_taken(slots: &[Option<Held>], slot: usize) -> bool
     ensures { result ≡ is_taken slots.now slot }
 {
     held_in(slots, slot).is_some()
@@ -70,7 +70,7 @@ fn put_in(slots: &mut [Option<Held>], slot: usize, held: Held)
 }
 
 /// The same of a slot of a guest.
-fn put_to(guests: &mut [Guest], guest: usize, slot: usize, held: Held)
+pub(crate) fn put_to(guests: &mut [Guest], guest: usize, slot: usize, held: Held)
     requires { HasSlot guests.old guest slot }
     ensures { (has : HasSlot guests.old guest slot) → PutsIn guests.old guest slot has held guests.new }
 {

@@ -1,19 +1,43 @@
 //! Functions of the board that come to a guest from none, and leave it for none.
-ghost use Rattle.std.specs.Prelude.{◌≡◌, ◌<◌, length};
-ghost use Rattle.model_giving.specs.Giving.{take_reply, after_take};
+ghost use Rattle.std.specs.Prelude.{◌≡◌, ◌<◌, length, IfErr};
+ghost use Rattle.model_giving.specs.Giving.{give_fault, after_give, take_reply, after_take};
 ghost use Rattle.accesses.specs.Accesses.{reply_of};
 ghost use Rattle.accesses.specs.Replies.{IsRefusal, IsShown};
 ghost use Rattle.monitor.specs.ByIndex.{name_nth};
+ghost use Rattle.monitor.specs.Seatings.{fault_told, gift_nth};
 
 use crate::config::held_in;
 use crate::engine::Engine;
-use crate::moving::take_from;
+use crate::gift::gift;
+use crate::moving::{put_to, take_from};
+use crate::withheld::Withheld;
 use accesses::{Refusal, Reply};
 use host_bridge::Route;
+use paths::Path;
 
 impl<R: Route> Engine<R> {
     ghost use Rattle.monitor.specs.Views.{texts, world_shown};
     ghost use Rattle.monitor.specs.Keeping.{IsSound};
+
+    /// Gives the function at a path, which no guest has, to a guest, into an empty slot: there and on the board
+    /// it is at reset, on the board but for what guests have copies of. Or refuses it and changes nothing: 303
+    /// for a slot above 31, else 303 where no endpoint stands at the path, else 602 where a guest has it, else
+    /// 602 for a slot that is taken, else 206 where one of its regions is closed. No memory is taken.
+    pub fn give(&mut self, path: &Path, guest: usize, slot: u64) -> Result<(), Withheld>
+        requires { guest < length self.old.guests }
+        ensures reply { fault_told result ≡ give_fault self.old (gift_nth self.old path.now guest slot) }
+        ensures after { self.new ≡ after_give self.old (gift_nth self.old path.now guest slot) }
+        ensures refused { IfErr result (λ _. self.new ≡ self.old) }
+    {
+        let _ = &self.names;
+        let held = match gift(&self.host, &self.guests, path, guest, slot) {
+            Ok(held) => held,
+            Err(why) => return Err(why),
+        };
+        self.host.reset_endpoint(path);
+        put_to(&mut self.guests, guest, slot as usize, held);
+        Ok(())
+    }
 
     /// Takes the function in a slot from its guest: the slot is then empty, and on the board the function is at
     /// reset, but for what guests have copies of. Or refuses it and changes nothing: 303 for a slot above 31,

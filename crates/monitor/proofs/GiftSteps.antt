@@ -1,0 +1,269 @@
+-- A function of the board that no guest of a world that is kept has: the checks in their order, and how it is kept in a slot.
+use Rattle.std.proofs.Common.{◌≡◌, ◌≤◌, ◌+◌, ℕ, Bool, true, false, not, ◌||◌, cond, List, [], ◌∷◌, Some, None, Option, refl, sym, ap, ap₂, ◌∙◌, subst, arith}
+use Rattle.std.specs.Prelude.{find, map, is_some, nat_le, option_map, slice_get, Ok, Err, MatchOption, ⊤}
+use Rattle.std.specs.List.{list_any}
+use Rattle.std.specs.Option.{option_map_or}
+use Rattle.std.proofs.lemmas.Bool.{lt-leb}
+use Rattle.model_registers.specs.Registers.{File, config, number}
+use Rattle.model_registers.specs.Declarations.{Region as Declared, Endpoint, HasLawfulRegions}
+use Rattle.model_registers.specs.DeclarationRules.{IsLawfulEndpoint}
+use Rattle.model_registers.specs.EndpointTable.{BaseAddress, opened}
+use Rattle.model_registers.specs.Decoding.{Function, base_address, command_word, opens_space, space_of}
+use Rattle.model_board.specs.Paths.{Path, path_eq}
+use Rattle.model_board.specs.Board.{Board, Decl, endpoint, bridge}
+use Rattle.model_board.specs.AtReset.{board_at}
+use Rattle.model_board.specs.Ports.{file_at}
+use Rattle.model_board.specs.Routing.{regions, windows, ranges_of}
+use Rattle.model_board.specs.Windows.{Window}
+use Rattle.model_board.specs.State.{BoardFunction, State}
+use Rattle.model_board.proofs.PathOrder.{path_same}
+use Rattle.model_audit.specs.Orderly.{IsStateOfBoard}
+use Rattle.model_guests.specs.Slots.{Slots, reset_function}
+use Rattle.model_guests.specs.Text.{Text}
+use Rattle.model_guests.specs.World.{declared}
+use Rattle.model_guests.specs.Guests.{GuestsNow, file_of, function_in}
+use Rattle.model_guests.proofs.CopiesNeverRise.{declared_lawful}
+use Rattle.model_handoff.specs.ViewLaws.{is_at, sits}
+use Rattle.model_handoff.specs.WorldOver.{WorldOver, board_state}
+use Rattle.model_handoff.proofs.Keeping.{keeps_board, keeps_routing, keeps_addresses}
+use Rattle.model_handoff.proofs.Regions.{state_stays}
+use Rattle.model_handoff.proofs.Standing.{at_path}
+use Rattle.model_giving.specs.Giving.{has_closed_region, give_fault, endpoint_fault}
+use Rattle.model_giving.proofs.OneReset.{command_at}
+use Rattle.bars.specs.declared.region.Region.{Region}
+use Rattle.bars.specs.Resets.{with_no_base}
+use Rattle.bars.specs.Slots.{bases_from}
+use Rattle.bridge_forward.specs.BasesNow.{bases_of, bases_nth}
+use Rattle.bridge_forward.specs.ByIndex.{ranges_told}
+use Rattle.bridge_forward.specs.Lending.{as_endpoint}
+use Rattle.bridge_forward.specs.RoutingRows.{window_of}
+use Rattle.bridge_forward.specs.declared.by_index.RangesNow.{RangesNow}
+use Rattle.bridge_forward.specs.declared.by_index.RangesNow.TheVariants.{Regions, Windows}
+use Rattle.host_bridge.specs.HostState.{HostState}
+use Rattle.monitor.specs.declared.guest.Held.{Held}
+use Rattle.monitor.specs.declared.guest.Guest.{Guest}
+use Rattle.monitor.specs.Beginnings.{IsStanding}
+use Rattle.monitor.specs.ByIndex.{name_nth}
+use Rattle.monitor.specs.Keeping.{AreGuests, AreSlots, IsHeld, IsKept, IsSlot}
+use Rattle.monitor.specs.Moves.{is_taken}
+use Rattle.monitor.specs.Seatings.{IsEndpointAt, MakesGift, gift_nth, has_path, is_closed_base, is_closed_slot, is_in}
+use Rattle.monitor.specs.declared.withheld.Withheld.TheVariants.{PastSlots, NoEndpoint, HasGuest, SlotTaken, ClosedRegion}
+use Rattle.monitor.proofs.Carried.{held_carried}
+use Rattle.monitor.proofs.FirstFunctions.{function_of, lawful_there}
+use Rattle.monitor.proofs.MoveSteps.{taken_nth}
+use Rattle.monitor.proofs.Steps.{GuestOf, guest_there}
+use Rattle.monitor.proofs.TakenOver.{declared_there}
+
+-- ---- the endpoint at a path
+
+abbrev there_at : State → Path → Option BoardFunction
+there_at s p = find (at_path p) s.functions
+
+declared_by : (s : State) (p : Path) (o : Option BoardFunction) → there_at s p ≡ o
+    → declared (board_at s.functions) p ≡ option_map (λ (e : Function). e.decl) (option_map_or as_endpoint o None)
+declared_by s p o e = declared_there s.functions p ∙ ap (λ (x : Option BoardFunction). option_map (λ (f : Function). f.decl) (option_map_or as_endpoint x None)) e
+
+pub not_there : (s : State) (p : Path) → None ≡ there_at s p → declared (board_at s.functions) p ≡ None
+not_there s p e = declared_by s p None (sym e)
+
+bridge_there : (s : State) (p : Path) (f : BoardFunction) → there_at s p ≡ Some f → (wio wmem wpref : Option Window) → windows wio wmem wpref ≡ ranges_of f.file f.decl → declared (board_at s.functions) p ≡ None
+bridge_there s p f e wio wmem wpref is = declared_by s p (Some f) e ∙ by f.decl refl
+  where
+    by : (d : Decl) → f.decl ≡ d → option_map (λ (x : Function). x.decl) (as_endpoint f) ≡ None
+    by (endpoint d) k = absurd (clash (is ∙ ap (ranges_of f.file) k))
+      where
+        clash : {bs : List BaseAddress} → windows wio wmem wpref ≡ regions bs → ⊥
+        clash {bs} h = cc
+    by (bridge d) k = ap (λ (x : Decl). option_map (λ (y : Function). y.decl) (as_endpoint (record { path = f.path; decl = x; file = f.file }))) k
+
+-- a search finds what it looks for
+found_path : (p : Path) (fs : List BoardFunction) (f : BoardFunction) → find (at_path p) fs ≡ Some f → f.path ≡ p
+found_path p [] f e = cc
+found_path p (g ∷ gs) f e = by (path_eq g.path p) refl e (found_path p gs f)
+  where
+    by : (t : Bool) → path_eq g.path p ≡ t → cond t (Some g) (find (at_path p) gs) ≡ Some f → (find (at_path p) gs ≡ Some f → f.path ≡ p) → f.path ≡ p
+    by true k e more = let same : g ≡ f = cc in ap (λ (x : BoardFunction). x.path) (sym same) ∙ path_same g.path p k
+    by false k e more = more e
+
+pub endpoint_there : (s : State) (p : Path) (i : ℕ) → slice_get s.functions i ≡ there_at s p → (bs : List BaseAddress) → Some (regions bs) ≡ option_map (λ (f : BoardFunction). ranges_of f.file f.decl) (slice_get s.functions i) → IsEndpointAt s p i
+endpoint_there s p i at bs ranges = by (slice_get s.functions i) refl ranges
+  where
+    file_is : (f : BoardFunction) → there_at s p ≡ Some f → file_at s.functions p ≡ f.file
+    file_is f e = ap (λ (o : Option BoardFunction). option_map_or (λ (g : BoardFunction). g.file) o []) e
+
+    clash : (x y z : Option Window) → regions bs ≡ windows x y z → ⊥
+    clash x y z h = cc
+
+    of : (f : BoardFunction) → slice_get s.functions i ≡ Some f → regions bs ≡ ranges_of f.file f.decl → (d : Decl) → f.decl ≡ d → IsEndpointAt s p i
+    of f e k (bridge d) j = absurd (clash _ _ _ (k ∙ ap (ranges_of f.file) j))
+    of f e k (endpoint d) j =
+        let there : there_at s p ≡ Some f = sym at ∙ e in
+        let path : f.path ≡ p = found_path p s.functions f there in
+        let file : file_at s.functions p ≡ f.file = file_is f there in
+        let same : f ≡ record { path = p; decl = endpoint d; file = file_at s.functions p } = λ n. record { path = path n; decl = j n; file = sym file n } in
+        record {
+          d = d;
+          declares = declared_by s p (Some f) there ∙ ap (λ (g : BoardFunction). option_map (λ (x : Function). x.decl) (as_endpoint g)) same;
+          there = e ∙ ap Some same;
+        }
+
+    by : (o : Option BoardFunction) → slice_get s.functions i ≡ o → Some (regions bs) ≡ option_map (λ (f : BoardFunction). ranges_of f.file f.decl) o → IsEndpointAt s p i
+    by None e k = cc
+    by (Some f) e k = of f e (cc k) f.decl refl
+
+pub lawful_bases : (s : State) → IsStateOfBoard s.functions → (p : Path) (i : ℕ) → IsEndpointAt s p i → HasLawfulRegions (map opened (map with_no_base (bases_nth s.functions i)))
+lawful_bases s state p i is =
+    lawful_there s i p (function_of is.d) (record {
+      lawful = subst (λ (o : Option Endpoint). MatchOption o ⊤ IsLawfulEndpoint) is.declares (declared_lawful (board_at s.functions) state.declarations p);
+      there = is.there;
+      at_reset = refl;
+    })
+
+-- what else stands there is no endpoint
+pub bridge_at : (s : State) (p : Path) (i : ℕ) → slice_get s.functions i ≡ there_at s p → (wio wmem wpref : Option Window) → Some (windows wio wmem wpref) ≡ option_map (λ (f : BoardFunction). ranges_of f.file f.decl) (slice_get s.functions i)
+    → declared (board_at s.functions) p ≡ None
+bridge_at s p i at wio wmem wpref told = by (slice_get s.functions i) refl told
+  where
+    by : (o : Option BoardFunction) → slice_get s.functions i ≡ o → Some (windows wio wmem wpref) ≡ option_map (λ (f : BoardFunction). ranges_of f.file f.decl) o → declared (board_at s.functions) p ≡ None
+    by None e k = cc
+    by (Some f) e k = bridge_there s p f (sym at ∙ e) wio wmem wpref (cc k)
+
+abbrev pub AreWindows : RangesNow → Type 0
+AreWindows (Regions slots) = ⊥
+AreWindows (Windows wio wmem wpref) = ⊤
+
+pub windows_at : (s : State) (p : Path) (i : ℕ) → slice_get s.functions i ≡ there_at s p → (r : RangesNow) → AreWindows r → Some (ranges_told r) ≡ option_map (λ (f : BoardFunction). ranges_of f.file f.decl) (slice_get s.functions i)
+    → declared (board_at s.functions) p ≡ None
+windows_at s p i at (Regions slots) are told = absurd are
+windows_at s p i at (Windows wio wmem wpref) are told = bridge_at s p i at (option_map window_of wio) (option_map window_of wmem) (option_map window_of wpref) told
+
+pub none_at : (s : State) (p : Path) (i : ℕ) → slice_get s.functions i ≡ there_at s p → None ≡ option_map (λ (f : BoardFunction). ranges_of f.file f.decl) (slice_get s.functions i) → declared (board_at s.functions) p ≡ None
+none_at s p i at told = by (slice_get s.functions i) refl told
+  where
+    by : (o : Option BoardFunction) → slice_get s.functions i ≡ o → None ≡ option_map (λ (f : BoardFunction). ranges_of f.file f.decl) o → declared (board_at s.functions) p ≡ None
+    by None e k = not_there s p (sym e ∙ at)
+    by (Some f) e k = cc
+
+-- ---- who has it
+
+in_slots : (s : State) (p : Path) (qs : List (Option Path)) (fs : Slots) (os : List (Option Held)) → AreSlots s qs fs os → list_any (is_in p) os ≡ list_any (is_at p) qs
+in_slots s p [] [] [] are = refl
+in_slots s p [] [] (o ∷ os) are = absurd are
+in_slots s p [] (f ∷ fs) os are = absurd are
+in_slots s p (q ∷ qs) [] os are = absurd are
+in_slots s p (q ∷ qs) (f ∷ fs) [] are = absurd are
+in_slots s p (None ∷ qs) (None ∷ fs) (None ∷ os) are = in_slots s p qs fs os are.1
+in_slots s p (None ∷ qs) (None ∷ fs) (Some h ∷ os) are = absurd are.0
+in_slots s p (None ∷ qs) (Some f ∷ fs) (o ∷ os) are = absurd are.0
+in_slots s p (Some q ∷ qs) (None ∷ fs) (o ∷ os) are = absurd are.0
+in_slots s p (Some q ∷ qs) (Some f ∷ fs) (None ∷ os) are = absurd are.0
+in_slots s p (Some q ∷ qs) (Some f ∷ fs) (Some h ∷ os) are = ap₂ ◌||◌ (ap (λ (x : Path). path_eq x p) are.0.path) (in_slots s p qs fs os are.1)
+
+pub in_guests : (s : State) (p : Path) (ts : List Text) (ws : GuestsNow) (gs : List Guest) → AreGuests s ts ws gs → has_path p gs ≡ sits ws p
+in_guests s p [] [] [] are = refl
+in_guests s p [] [] (g ∷ gs) are = absurd are
+in_guests s p [] (w ∷ ws) gs are = absurd are
+in_guests s p (t ∷ ts) [] gs are = absurd are
+in_guests s p (t ∷ ts) (w ∷ ws) [] are = absurd are
+in_guests s p (t ∷ ts) (w ∷ ws) (g ∷ gs) are = ap₂ ◌||◌ (in_slots s p w.paths w.lone.slots g.slots.items are.0.slots) (in_guests s p ts ws gs are.1)
+
+-- ---- closed regions
+
+pub closed_slots : (command n : ℕ) (slots : List (Option Region)) → list_any (is_closed_slot command) slots ≡ list_any (is_closed_base command) (bases_from n slots)
+closed_slots command n [] = refl
+closed_slots command n (None ∷ slots) = closed_slots command (n + 1) slots
+closed_slots command n (Some r ∷ slots) = ap (λ t. not (opens_space command (space_of r.decl.kind)) || t) (closed_slots command (n + 1) slots)
+
+closed_bases : (command : ℕ) (file : File) (rs : List Declared) → list_any (is_closed_base command) (map (base_address file) rs) ≡ list_any (λ (r : Declared). not (opens_space command (space_of r.kind))) rs
+closed_bases command file [] = refl
+closed_bases command file (r ∷ rs) = ap (λ t. not (opens_space command (space_of r.kind)) || t) (closed_bases command file rs)
+
+pub closed_told : (fs : List BoardFunction) (i : ℕ) (f : BoardFunction) → slice_get fs i ≡ Some f → (command : ℕ) → Some command ≡ option_map (λ (g : BoardFunction). number g.file (config 4) 2) (slice_get fs i) → (placed : List (Option Region)) → bases_from 0 placed ≡ bases_nth fs i
+    → list_any (is_closed_slot command) placed ≡ list_any (is_closed_base (command_word f.file)) (bases_of f.decl f.file)
+closed_told fs i f at command told placed bases =
+    let is : command ≡ command_word f.file = cc (told ∙ ap (option_map (λ (g : BoardFunction). number g.file (config 4) 2)) at) in
+    closed_slots command 0 placed ∙ ap (list_any (is_closed_base command)) (bases ∙ ap (λ (o : Option BoardFunction). option_map_or (λ (g : BoardFunction). bases_of g.decl g.file) o []) at)
+    ∙ ap (λ (n : ℕ). list_any (is_closed_base n) (bases_of f.decl f.file)) is
+
+-- ---- a world that is kept
+
+module _ (w : WorldOver) (h : HostState) (names : List Text) (gs : List Guest) (kept : IsKept w h names gs) (p : Path) where
+  board_is : board_at h.state.functions ≡ board_at w.handoff.functions
+  board_is = ap (λ (s : State). board_at s.functions) kept.agrees ∙ keeps_board w.handoff w.guests
+
+  pub declared_is : declared (board_at h.state.functions) p ≡ declared (board_at w.handoff.functions) p
+  declared_is = ap (λ (b : Board). declared b p) board_is
+
+  command_is : command_word (file_at h.state.functions p) ≡ command_word (file_at w.handoff.functions p)
+  command_is = ap (λ (s : State). command_word (file_at s.functions p)) kept.agrees ∙ command_at (file_of w.guests) w.handoff.functions p
+
+  module _ (i : ℕ) (is : IsEndpointAt h.state p i) where
+    pub closed_is : list_any (is_closed_base (command_word (file_at h.state.functions p))) (map (base_address (file_at h.state.functions p)) is.d.regions) ≡ has_closed_region w.handoff p is.d
+    closed_is =
+        closed_bases (command_word (file_at h.state.functions p)) (file_at h.state.functions p) is.d.regions
+        ∙ ap (λ (c : ℕ). list_any (λ (r : Declared). not (opens_space c (space_of r.kind))) is.d.regions) command_is
+
+    lawful : IsLawfulEndpoint is.d
+    lawful =
+        subst (λ (o : Option Endpoint). MatchOption o ⊤ IsLawfulEndpoint) (sym declared_is ∙ is.declares)
+        (declared_lawful (board_at w.handoff.functions) kept.lawful.handoff.board.declarations p)
+
+    pub standing_is : IsStanding h.state i p (function_of is.d)
+    standing_is = record { lawful = lawful; there = is.there; at_reset = refl }
+
+    -- where the board has the function, the handoff has it
+    pub held_is : (held : Held) → ((f : Function) → IsStanding h.state i p f → IsHeld h.state p f held) → IsSlot w.handoff (Some p) (reset_function (declared (board_at w.handoff.functions) p)) (Some held)
+    held_is held holds =
+        subst (λ (o : Option Endpoint). IsSlot w.handoff (Some p) (reset_function o) (Some held)) (sym (sym declared_is ∙ is.declares))
+        (held_carried (board_state w) w.handoff (state_stays w.handoff kept.lawful.handoff.board w.guests) kept.lawful.handoff.board
+        (sym (keeps_board w.handoff w.guests)) (sym (keeps_routing w.handoff kept.lawful.handoff.board w.guests kept.lawful.seated))
+        (λ q. sym (keeps_addresses w.handoff kept.lawful.handoff.board w.guests kept.lawful.seated q))
+        p (function_of is.d) held (subst (λ (s : State). IsHeld s p (function_of is.d) held) kept.agrees (holds (function_of is.d) standing_is)))
+
+  module _ (j n : ℕ) where
+    abbrev fault_by : Bool → Option Endpoint → Option ℕ
+    fault_by past o = cond past (Some 303) (endpoint_fault w (gift_nth w p j n) o)
+
+    pub past_withheld : nat_le 32 n ≡ true → MakesGift w p j n (Err PastSlots)
+    past_withheld e = record { fault = sym (ap (λ t. fault_by t (declared (board_at w.handoff.functions) p)) e); comes = tt }
+
+    within : n ≤ 31 → give_fault w (gift_nth w p j n) ≡ endpoint_fault w (gift_nth w p j n) (declared (board_at w.handoff.functions) p)
+    within low = let few : nat_le 32 n ≡ false = lt-leb 32 n (omega arith) in ap (λ t. fault_by t (declared (board_at w.handoff.functions) p)) few
+
+    pub absent_withheld : n ≤ 31 → declared (board_at h.state.functions) p ≡ None → MakesGift w p j n (Err NoEndpoint)
+    absent_withheld low none = record { fault = sym (within low ∙ ap (endpoint_fault w (gift_nth w p j n)) (sym declared_is ∙ none)); comes = tt }
+
+    module _ (low : n ≤ 31) (i : ℕ) (is : IsEndpointAt h.state p i) where
+      abbrev after_path : Bool → Bool → Bool → Option ℕ
+      after_path had full closed = cond had (Some 602) (cond full (Some 602) (cond closed (Some 206) None))
+
+      fault_is : (had full closed : Bool) → sits w.guests p ≡ had → is_some (function_in w.guests (name_nth w j) n) ≡ full → has_closed_region w.handoff p is.d ≡ closed
+          → give_fault w (gift_nth w p j n) ≡ after_path had full closed
+      fault_is had full closed a b c =
+          within low ∙ ap (endpoint_fault w (gift_nth w p j n)) (sym declared_is ∙ is.declares)
+          ∙ ap (λ t. after_path t (is_some (function_in w.guests (name_nth w j) n)) (has_closed_region w.handoff p is.d)) a
+          ∙ ap₂ (λ t u. after_path had t u) b c
+
+      had_is : (had : Bool) → has_path p gs ≡ had → sits w.guests p ≡ had
+      had_is had e = sym (in_guests w.handoff p names w.guests gs kept.guests) ∙ e
+
+      pub had_withheld : has_path p gs ≡ true → MakesGift w p j n (Err HasGuest)
+      had_withheld e = record { fault = sym (fault_is true (is_some (function_in w.guests (name_nth w j) n)) (has_closed_region w.handoff p is.d) (had_is true e) refl refl); comes = tt }
+
+      module _ (free : has_path p gs ≡ false) (g : Guest) (there : slice_get gs j ≡ Some g) where
+        at : GuestOf w.handoff w.guests j g
+        at = guest_there w.handoff names w.guests gs j g kept.guests there
+
+        pub full_withheld : is_taken g.slots.items n ≡ true → MakesGift w p j n (Err SlotTaken)
+        full_withheld e =
+            record { fault = sym (fault_is false true (has_closed_region w.handoff p is.d) (had_is false free) (sym (taken_nth w h names gs kept j g at n) ∙ e) refl); comes = tt }
+
+        module _ (empty : is_taken g.slots.items n ≡ false) where
+          empty_is : is_some (function_in w.guests (name_nth w j) n) ≡ false
+          empty_is = sym (taken_nth w h names gs kept j g at n) ∙ empty
+
+          pub closed_withheld : list_any (is_closed_base (command_word (file_at h.state.functions p))) (map (base_address (file_at h.state.functions p)) is.d.regions) ≡ true → MakesGift w p j n (Err ClosedRegion)
+          closed_withheld e = record { fault = sym (fault_is false false true (had_is false free) empty_is (sym (closed_is i is) ∙ e)); comes = tt }
+
+          pub made : list_any (is_closed_base (command_word (file_at h.state.functions p))) (map (base_address (file_at h.state.functions p)) is.d.regions) ≡ false → (held : Held) → ((f : Function) → IsStanding h.state i p f → IsHeld h.state p f held) → MakesGift w p j n (Ok held)
+          made e held holds = record { fault = sym (fault_is false false false (had_is false free) empty_is (sym (closed_is i is) ∙ e)); comes = held_is i is held holds }

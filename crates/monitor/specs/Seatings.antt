@@ -1,0 +1,72 @@
+-- A function of the board that comes to a guest from none, as code holds it.
+--     gift_nth w p i n      the function at the path comes into slot n of guest i, by the guest's name
+--     withheld_number      the number of a refusal
+--     fault_told      what is told of a gift, by its number
+--     IsEndpointAt      an endpoint stands at a path, and at an index
+--     is_in p o, has_path p gs      a slot has the function at the path; a slot of any guest has it
+--     is_closed_base, is_closed_slot      Command doesn't open the space of the region that begins at a register
+--     ComesIn      the function at the path, at reset, as it is kept in a slot
+--     MakesGift      what a gift is told in a world that is kept, and what comes into the slot where it is not refused
+use Rattle.std.specs.Prelude.{ℕ, List, Bool, false, ◌≡◌, not, Option, None, Some, Result, Ok, Err, slice_get, ⊤}
+use Rattle.std.specs.List.{list_any}
+use Rattle.std.specs.Option.{option_map_or}
+use Rattle.bars.specs.declared.region.Region.{Region}
+use Rattle.model_registers.specs.Declarations.{Endpoint}
+use Rattle.model_registers.specs.EndpointTable.{BaseAddress}
+use Rattle.model_registers.specs.Decoding.{opens_space, space_of}
+use Rattle.model_board.specs.Paths.{Path}
+use Rattle.model_board.specs.Board.{endpoint}
+use Rattle.model_board.specs.AtReset.{board_at}
+use Rattle.model_board.specs.Ports.{file_at}
+use Rattle.model_board.specs.State.{State}
+use Rattle.model_guests.specs.Slots.{reset_function}
+use Rattle.model_guests.specs.World.{declared}
+use Rattle.model_handoff.specs.ViewLaws.{is_at}
+use Rattle.model_handoff.specs.WorldOver.{WorldOver}
+use Rattle.model_giving.specs.Giving.{Gift, give_fault}
+use Rattle.monitor.specs.declared.guest.Held.{Held}
+use Rattle.monitor.specs.declared.guest.Guest.{Guest}
+use Rattle.monitor.specs.declared.withheld.Withheld.{Withheld}
+use Rattle.monitor.specs.declared.withheld.Withheld.TheVariants.{PastSlots, NoEndpoint, HasGuest, SlotTaken, ClosedRegion}
+use Rattle.monitor.specs.ByIndex.{name_nth}
+use Rattle.monitor.specs.Keeping.{IsSlot}
+use Rattle.monitor.specs.Views.{path_shown}
+
+abbrev pub gift_nth : WorldOver → Path → ℕ → ℕ → Gift
+gift_nth w p i n = record { path = p; to = name_nth w i; slot = n }
+
+abbrev pub withheld_number : Withheld → ℕ
+withheld_number PastSlots = 303
+withheld_number NoEndpoint = 303
+withheld_number HasGuest = 602
+withheld_number SlotTaken = 602
+withheld_number ClosedRegion = 206
+
+abbrev pub fault_told : {A : Type 0} → Result A Withheld → Option ℕ
+fault_told {A} (Ok a) = None
+fault_told {A} (Err why) = Some (withheld_number why)
+
+pub record IsEndpointAt (s : State) (p : Path) (i : ℕ) : Type 0 where
+  pub d : Endpoint
+  pub declares : declared (board_at s.functions) p ≡ Some d
+  pub there : slice_get s.functions i ≡ Some (record { path = p; decl = endpoint d; file = file_at s.functions p })
+
+abbrev pub is_in : Path → Option Held → Bool
+is_in p o = is_at p (path_shown o)
+
+abbrev pub has_path : Path → List Guest → Bool
+has_path p gs = list_any (λ (g : Guest). list_any (is_in p) g.slots.items) gs
+
+abbrev pub is_closed_base : ℕ → BaseAddress → Bool
+is_closed_base command b = not (opens_space command (space_of b.kind))
+
+abbrev pub is_closed_slot : ℕ → Option Region → Bool
+is_closed_slot command o = option_map_or (λ (r : Region). not (opens_space command (space_of r.decl.kind))) o false
+
+abbrev pub ComesIn : WorldOver → Path → Result Held Withheld → Type 0
+ComesIn w p (Ok held) = IsSlot w.handoff (Some p) (reset_function (declared (board_at w.handoff.functions) p)) (Some held)
+ComesIn w p (Err why) = ⊤
+
+pub record MakesGift (w : WorldOver) (p : Path) (i n : ℕ) (r : Result Held Withheld) : Type 0 where
+  pub fault : fault_told r ≡ give_fault w (gift_nth w p i n)
+  pub comes : ComesIn w p r

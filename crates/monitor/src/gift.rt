@@ -1,0 +1,158 @@
+//! A function of the board that no guest has, as it would stand in a guest's slot.
+ghost use Rattle.std.specs.Prelude.{◌≡◌, ◌<◌, IfNone, IfSome, List, None, Some, length, map, slice_get};
+ghost use Rattle.std.specs.List.{list_any};
+ghost use Rattle.model_registers.specs.Declarations.{HasLawfulRegions};
+ghost use Rattle.model_registers.specs.EndpointTable.{opened};
+ghost use Rattle.model_registers.specs.Decoding.{Function, command_word, opens_space};
+ghost use Rattle.model_board.specs.AtReset.{board_at};
+ghost use Rattle.model_board.specs.State.{BoardFunction};
+ghost use Rattle.model_audit.specs.Orderly.{IsStateOfBoard};
+ghost use Rattle.model_guests.specs.Text.{Text};
+ghost use Rattle.model_guests.specs.World.{declared};
+ghost use Rattle.model_handoff.specs.WorldOver.{WorldOver};
+ghost use Rattle.bars.specs.Kinds.{named_space};
+ghost use Rattle.bars.specs.Resets.{with_no_base};
+ghost use Rattle.bridge_forward.specs.BasesNow.{bases_nth, bases_of};
+ghost use Rattle.monitor.specs.Beginnings.{IsStanding};
+ghost use Rattle.monitor.specs.Keeping.{IsHeld, IsKept};
+ghost use Rattle.monitor.specs.Seatings.{IsEndpointAt, MakesGift, has_path, is_closed_base, is_closed_slot, is_in};
+
+use crate::beginning::decls_of;
+use crate::guest::{Guest, Held};
+use crate::moving::is_taken;
+use crate::withheld::Withheld;
+use bars::{Region, Space};
+use bridge_forward::RangesNow;
+use function_identity::address_of;
+use guest_functions::VirtualFunction;
+use host_bridge::Host;
+use paths::Path;
+
+/// The index of the endpoint at a path.
+fn endpoint_at(host: &Host, path: &Path) -> Option<usize>
+    ensures none { IfNone result (declared (board_at host.now.state.functions) path.now ≡ None) }
+    ensures there { IfSome result (λ i. IsEndpointAt host.now.state path.now i) }
+{
+    let Some(index) = host.index_of(path) else {
+        return None;
+    };
+    match host.ranges_nth(index) {
+        Some(RangesNow::Regions(_)) => Some(index),
+        Some(
+            RangesNow::Windows {
+                io: _,
+                mem: _,
+                pref: _,
+            },
+        ) => None,
+        None => None,
+    }
+}
+
+/// Whether the function at a path is in a slot.
+fn is_in(slot: &Option<Held>, path: &Path) -> bool
+    ensures { result ≡ is_in path.now slot.now }
+{
+    match slot {
+        Some(held) => held.path == *path,
+        None => false,
+    }
+}
+
+/// Whether a guest has the function at a path in a slot.
+fn has(guest: &Guest, path: &Path) -> bool
+    ensures { result ≡ list_any (is_in path.now) guest.now.slots.items }
+{
+    guest.slots.iter().any(|slot| is_in(slot, path))
+}
+
+/// Whether any guest has it.
+fn has_guest(guests: &[Guest], path: &Path) -> bool
+    ensures { result ≡ has_path path.now guests.now }
+{
+    guests.iter().any(|guest| has(guest, path))
+}
+
+/// Whether Command opens a space.
+fn opens(command: u32, space: Space) -> bool
+    ensures { result ≡ opens_space command (named_space space) }
+{
+    command & u32::from(space.command_bit()) != 0
+}
+
+/// Whether it leaves the space of the region at a register closed.
+fn is_closed(command: u32, region: &Option<Region>) -> bool
+    ensures { result ≡ is_closed_slot command region.now }
+{
+    match region {
+        Some(region) => !opens(command, region.decl.kind().space()),
+        None => false,
+    }
+}
+
+/// The same of any of these.
+fn any_closed(command: u32, placed: &[Option<Region>; 6]) -> bool
+    ensures { result ≡ list_any (is_closed_slot command) placed.now }
+{
+    placed.iter().any(|region| is_closed(command, region))
+}
+
+/// Whether Command, as it stands, leaves the space of a region of the function at an index closed.
+fn has_closed(host: &Host, index: usize) -> bool
+    ensures { (f : BoardFunction) → slice_get host.now.state.functions index ≡ Some f
+        → result ≡ list_any (is_closed_base (command_word f.file)) (bases_of f.decl f.file) }
+{
+    let placed = host.placed_nth(index);
+    match host.number_nth(index, 4, 2) {
+        Some(command) => any_closed(command, &placed),
+        None => false,
+    }
+}
+
+/// The endpoint at an index and a path, with all own copies at reset, where the host has it.
+fn held_of(host: &Host, index: usize, path: &Path) -> Held
+    requires board { IsStateOfBoard host.now.state.functions }
+    requires lawful { HasLawfulRegions (map opened (map with_no_base (bases_nth host.now.state.functions index))) }
+    ensures { (f : Function) → IsStanding host.now.state index path.now f → IsHeld host.now.state path.now f result }
+{
+    let placed = host.placed_nth(index);
+    Held {
+        own: VirtualFunction::new(decls_of(&placed)),
+        placed,
+        at: address_of(host, path),
+        index,
+        path: path.copied(),
+    }
+}
+
+/// The function at a path as it would stand in a slot of a guest, or why it isn't given: the first check that
+/// fails.
+pub(crate) fn gift(
+    host: &Host,
+    guests: &[Guest],
+    path: &Path,
+    guest: usize,
+    slot: u64,
+) -> Result<Held, Withheld>
+    requires board { IsStateOfBoard host.now.state.functions }
+    requires inside { guest < length guests.now }
+    ensures { (w : WorldOver) (names : List Text) → IsKept w host.now names guests.now
+        → MakesGift w path.now guest slot result }
+{
+    if slot > 31 {
+        return Err(Withheld::PastSlots);
+    }
+    let Some(index) = endpoint_at(host, path) else {
+        return Err(Withheld::NoEndpoint);
+    };
+    if has_guest(guests, path) {
+        return Err(Withheld::HasGuest);
+    }
+    if is_taken(&guests[guest].slots, slot as usize) {
+        return Err(Withheld::SlotTaken);
+    }
+    if has_closed(host, index) {
+        return Err(Withheld::ClosedRegion);
+    }
+    Ok(held_of(host, index, path))
+}
