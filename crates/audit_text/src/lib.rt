@@ -7,4 +7,5 @@ mod whole;
 
 pub use board_audit::Problem;
 pub use host_bridge::Host;
+pub use lines::push_problem;
 pub use whole::{audit_text, problems_text};

@@ -149,7 +149,7 @@ fn push_told(text: &mut String, problem: &Problem) -> Result<(), AllocError>
 }
 
 /// Appends the line of a problem.
-pub(crate) fn push_problem(text: &mut String, problem: &Problem) -> Result<(), AllocError>
+pub fn push_problem(text: &mut String, problem: &Problem) -> Result<(), AllocError>
     ensures { OnOk result (string_bytes text.new
         ≡ string_bytes text.old ++ ended (audit_line (problem_text (problem_of problem.now)))) }
 {

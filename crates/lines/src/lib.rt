@@ -4,12 +4,14 @@
 mod cursor;
 mod firmware_line;
 mod forms;
+mod host_line;
 mod line;
 mod numbers;
 mod replies;
 mod words;
 
 pub use firmware_line::{FirmwareWhat, firmware_meaning};
+pub use host_line::host_word;
 pub use line::{Line, What, Who, line_meaning, parse_line};
 pub use replies::{LineText, line_text, push_line, push_named};
 pub use words::line_feed_in;
