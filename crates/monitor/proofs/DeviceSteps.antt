@@ -1,5 +1,5 @@
 -- A byte that a device reads or writes of a function in a slot: the checks in their order, and the world afterwards.
-use Rattle.std.proofs.Common.{◌≡◌, ◌≤◌, ℕ, ◌%◌, Bool, true, false, ◌&&◌, not, cond, List, [], ◌∷◌, ◌||◌, Some, None, Option, slice_get, slice_set, refl, sym, ap, ap₂, ◌∙◌, subst, arith}
+use Rattle.std.proofs.Common.{◌≡◌, ◌≤◌, ℕ, ◌%◌, Bool, true, false, not, cond, List, [], ◌∷◌, ◌||◌, Some, None, Option, slice_get, slice_set, refl, sym, ap, ◌∙◌, subst, arith}
 use Rattle.std.specs.Prelude.{is_some, nat_le}
 use Rattle.std.specs.Option.{option_map_or}
 use Rattle.std.proofs.lemmas.Bool.{lt-leb}
