@@ -2,7 +2,7 @@
 use Rattle.std.proofs.Common.{◌≡◌, ◌≤◌, ◌⊎◌, ◌++◌, Result, Ok, Err, take, refl, sym, ap, ap₂, ◌∙◌, subst, arith}
 use Rattle.std.specs.Io.{StartsWith}
 use Rattle.std.specs.Io.KnownBytes.{IsAtEnd}
-use Rattle.std.specs.Prelude.{List, Option, IsErrOf}
+use Rattle.std.specs.Prelude.{◌≢◌, List, Option, IsErrOf}
 use Rattle.std.specs.Result.{IsErrAnd}
 use Rattle.model_board.specs.Board.{Board}
 use Rattle.model_registers.specs.Apertures.{Apertures}
@@ -22,23 +22,37 @@ use Rattle.monitor.specs.Beginnings.{world_of}
 use Rattle.line_runs.specs.declared.running.RunFault.{RunFault}
 use Rattle.line_runs.specs.declared.running.RunFault.TheVariants as run
 use Rattle.simulation.specs.declared.fault.Fault.{Fault}
-use Rattle.simulation.specs.declared.fault.Fault.TheVariants.{Read, Write}
+use Rattle.simulation.specs.declared.fault.Fault.TheVariants.{Read, Write, SetUpMemory}
 use Rattle.line_runs.specs.Faults.{read_failures_of, write_failures_of}
 use Rattle.simulation.specs.Faults.{number_of, of_run, read_faults, write_faults}
 use Rattle.simulation.specs.Running.{IsStoppedIn}
 
 -- a fault of the run is none of the file or of the board
-pub of_run_large : (r : RunFault) (f : Fault) → f ≡ of_run r → 500 ≤ number_of f
-of_run_large run.Read f same = let is : number_of f ≡ 501 = ap number_of same in omega arith
-of_run_large run.Write f same = let is : number_of f ≡ 502 = ap number_of same in omega arith
+pub of_run_large : (r : RunFault) (f : Fault) → r ≢ run.Memory → f ≡ of_run r → 500 ≤ number_of f
+of_run_large run.Read f other same = let is : number_of f ≡ 501 = ap number_of same in omega arith
+of_run_large run.Write f other same = let is : number_of f ≡ 502 = ap number_of same in omega arith
+of_run_large run.Memory f other same = absurd (other refl)
+
+-- a fault of a run in a language whose lines may take memory is none of the file
+pub of_run_small : (r : RunFault) (f : Fault) → f ≡ of_run r → 299 ≤ number_of f
+of_run_small run.Read f same = let is : number_of f ≡ 501 = ap number_of same in omega arith
+of_run_small run.Write f same = let is : number_of f ≡ 502 = ap number_of same in omega arith
+of_run_small run.Memory f same = let is : number_of f ≡ 299 = ap number_of same in omega arith
 
 read_of_run : (r : RunFault) (f : Fault) → f ≡ of_run r → f ≡ Read → r ≡ run.Read
 read_of_run run.Read f same is = refl
 read_of_run run.Write f same is = absurd (let wrong : Write ≡ Read = sym same ∙ is in cc)
+read_of_run run.Memory f same is = absurd (let wrong : SetUpMemory ≡ Read = sym same ∙ is in cc)
 
 write_of_run : (r : RunFault) (f : Fault) → f ≡ of_run r → f ≡ Write → r ≡ run.Write
 write_of_run run.Read f same is = absurd (let wrong : Read ≡ Write = sym same ∙ is in cc)
 write_of_run run.Write f same is = refl
+write_of_run run.Memory f same is = absurd (let wrong : SetUpMemory ≡ Write = sym same ∙ is in cc)
+
+memory_of_run : (r : RunFault) (f : Fault) → f ≡ of_run r → f ≡ SetUpMemory → r ≡ run.Memory
+memory_of_run run.Read f same is = absurd (let wrong : Read ≡ SetUpMemory = sym same ∙ is in cc)
+memory_of_run run.Write f same is = absurd (let wrong : Write ≡ SetUpMemory = sym same ∙ is in cc)
+memory_of_run run.Memory f same is = refl
 
 pub read_failed : {T : Type 0} (r : Result T Fault) (e : RunFault) → IsErrAnd r (λ f. f ≡ of_run e) → IsErrOf r Read → e ≡ run.Read
 read_failed (Ok x) e h is = absurd h
@@ -47,6 +61,10 @@ read_failed (Err f) e h is = read_of_run e f h (let same : f ≡ Read = cc in sa
 pub write_failed : {T : Type 0} (r : Result T Fault) (e : RunFault) → IsErrAnd r (λ f. f ≡ of_run e) → IsErrOf r Write → e ≡ run.Write
 write_failed (Ok x) e h is = absurd h
 write_failed (Err f) e h is = write_of_run e f h (let same : f ≡ Write = cc in same)
+
+pub memory_lacked : {T : Type 0} (r : Result T Fault) (e : RunFault) → IsErrAnd r (λ f. f ≡ of_run e) → IsErrOf r SetUpMemory → e ≡ run.Memory
+memory_lacked (Ok x) e h is = absurd h
+memory_lacked (Err f) e h is = memory_of_run e f h (let same : f ≡ SetUpMemory = cc in same)
 
 -- a monitor of the board that a file declares begins with the world of the file
 pub began : (h : HostState) (r : ReadyBoard) (gs guests : List Guest) (m : WorldOver)
@@ -74,8 +92,10 @@ pub same_reads : {T : Type 0} (r : Result T Fault) (e : RunFault) → IsErrAnd r
 same_reads (Ok x) e h = absurd h
 same_reads {T} (Err f) run.Read h = sym (ap (λ (k : Fault). read_faults {T = T} (Err k)) h)
 same_reads {T} (Err f) run.Write h = sym (ap (λ (k : Fault). read_faults {T = T} (Err k)) h)
+same_reads {T} (Err f) run.Memory h = sym (ap (λ (k : Fault). read_faults {T = T} (Err k)) h)
 
 pub same_writes : {T : Type 0} (r : Result T Fault) (e : RunFault) → IsErrAnd r (λ f. f ≡ of_run e) → write_failures_of {T = T} (Err e) ≡ write_faults r
 same_writes (Ok x) e h = absurd h
 same_writes {T} (Err f) run.Read h = sym (ap (λ (k : Fault). write_faults {T = T} (Err k)) h)
 same_writes {T} (Err f) run.Write h = sym (ap (λ (k : Fault). write_faults {T = T} (Err k)) h)
+same_writes {T} (Err f) run.Memory h = sym (ap (λ (k : Fault). write_faults {T = T} (Err k)) h)

@@ -3,7 +3,9 @@
 --     IsDoneInPart choice old_rest new_rest old new      so was a beginning of it, as a write or flush failed
 --     IsDoneAsRead choice old_rest new_rest old new      so was that of the lines before a read that failed
 --     IsTelling choice f, IsToldOf choice f old new      the choice tells of the fault; what is wrong was written
---     IsUnaudited choice f, IsDriving choice script old new      memory is out for the audit; what the lines write was written
+--     IsLacking choice f, IsLackingDone choice old_rest new_rest old new      memory is out once lines ran; what they
+--         write was written
+--     IsFlushed choice all none      so it was flushed
 --     IsOfChoice choice f      a fault that the choice can end with
 use Rattle.std.specs.Prelude.{◌≡◌, ◌≢◌, ◌<◌, ◌⊎◌, Option, None, Some, string_bytes}
 use Rattle.std.specs.Io.KnownBytes.{Appends}
@@ -19,7 +21,8 @@ use Rattle.simulation.specs.Listing.{Declares, Refuses, IsListed, IsListedInPart
 use Rattle.simulation.specs.Fitting.{IsVerdictTold}
 use Rattle.simulation.specs.Checking.{IsRefusalTold, IsCheckText}
 use Rattle.simulation.specs.Running.{IsRun, IsRunCut, IsRunStopped}
-use Rattle.simulation.specs.Driving.{IsDriven, IsDrivenCut, IsDrivenStopped, IsOfDriving}
+use Rattle.simulation.specs.Driving.{IsDriven, IsDrivenCut}
+use Rattle.simulation.specs.Sessions.{IsSession, IsSessionCut, IsSessionStopped, IsSessionLacking, IsOfSession}
 use Rattle.simulation.specs.Auditing.{IsAudited, IsAuditStopped, IsOfAudit}
 use Rattle.simulation.specs.declared.choice.Choice.{Choice}
 use Rattle.simulation.specs.declared.choice.Choice.TheVariants.{Help, Demo, List, Check, Run, Firmware, Audit}
@@ -65,14 +68,22 @@ abbrev pub IsToldOf : Choice → Fault → Option Text → Option Text → Type 
 IsToldOf (Check path style) f old new = (board : Text) × IsTold style path.now board f old new
 IsToldOf _ f old new = ⊥
 
--- no memory for an audit, once the lines ran
-abbrev pub IsUnaudited : Choice → Fault → Type 0
-IsUnaudited (Audit path) f = f ≡ SetUpMemory
-IsUnaudited _ f = ⊥
+-- no memory for an audit or a handover, once lines ran
+abbrev pub IsLacking : Choice → Fault → Type 0
+IsLacking (Firmware path) f = f ≡ SetUpMemory
+IsLacking (Audit path) f = f ≡ SetUpMemory
+IsLacking _ f = ⊥
 
-abbrev pub IsDriving : Choice → Option Text → Option Text → Option Text → Type 0
-IsDriving (Audit path) script old new = (board : Text) × IsDriven board script old new
-IsDriving _ script old new = ⊥
+abbrev pub IsLackingDone : Choice → Option Text → Option Text → Option Text → Option Text → Type 0
+IsLackingDone (Firmware path) old_rest new_rest old new =
+    (board : Text) × IsSessionLacking board old_rest new_rest old new
+IsLackingDone (Audit path) old_rest new_rest old new = (board : Text) × IsDriven board old_rest old new
+IsLackingDone _ old_rest new_rest old new = ⊥
+
+-- all that was written was flushed; of a session, unless nothing was
+abbrev pub IsFlushed : Choice → Type 0 → Type 0 → Type 0
+IsFlushed (Firmware path) all none = all ⊎ none
+IsFlushed _ all none = all
 
 abbrev pub IsDone : Choice → Option Text → Option Text → Option Text → Type 0
 IsDone (Help text) script old new = Appends old new (string_bytes text)
@@ -80,7 +91,7 @@ IsDone Demo script old new = IsRun demo_board script old new
 IsDone (List path) script old new = (board : Text) × IsReported board old new
 IsDone (Check path style) script old new = (board : Text) × IsFit style path.now board old new
 IsDone (Run path) script old new = (board : Text) × IsRun board script old new
-IsDone (Firmware path) script old new = (board : Text) × IsDriven board script old new
+IsDone (Firmware path) script old new = (board : Text) × IsSession board script old new
 IsDone (Audit path) script old new = (board : Text) × IsAudited board script old new
 
 abbrev pub IsDoneInPart : Choice → Option Text → Option Text → Option Text → Option Text → Type 0
@@ -90,7 +101,7 @@ IsDoneInPart (List path) old_rest new_rest old new = (board : Text) × IsReporte
 IsDoneInPart (Check path style) old_rest new_rest old new = (board : Text) × IsToldInPart style path.now board old new
 IsDoneInPart (Run path) old_rest new_rest old new = (board : Text) × IsRunStopped board old_rest new_rest old new
 IsDoneInPart (Firmware path) old_rest new_rest old new =
-    (board : Text) × IsDrivenStopped board old_rest new_rest old new
+    (board : Text) × IsSessionStopped board old_rest new_rest old new
 IsDoneInPart (Audit path) old_rest new_rest old new = (board : Text) × IsAuditStopped board old_rest new_rest old new
 
 -- help, reports and checks read nothing
@@ -100,7 +111,7 @@ IsDoneAsRead Demo old_rest new_rest old new = IsRunCut demo_board old_rest new_r
 IsDoneAsRead (List path) old_rest new_rest old new = ⊥
 IsDoneAsRead (Check path style) old_rest new_rest old new = ⊥
 IsDoneAsRead (Run path) old_rest new_rest old new = (board : Text) × IsRunCut board old_rest new_rest old new
-IsDoneAsRead (Firmware path) old_rest new_rest old new = (board : Text) × IsDrivenCut board old_rest new_rest old new
+IsDoneAsRead (Firmware path) old_rest new_rest old new = (board : Text) × IsSessionCut board old_rest new_rest old new
 IsDoneAsRead (Audit path) old_rest new_rest old new = (board : Text) × IsDrivenCut board old_rest new_rest old new
 
 abbrev pub IsOfChoice : Choice → Fault → Type 0
@@ -109,5 +120,5 @@ IsOfChoice Demo f = IsOfRun f
 IsOfChoice (List path) f = IsOfList f ⊎ (f ≡ BoardFile)
 IsOfChoice (Check path style) f = IsOfList f ⊎ (f ≡ BoardFile)
 IsOfChoice (Run path) f = IsOfRun f ⊎ (f ≡ BoardFile)
-IsOfChoice (Firmware path) f = IsOfDriving f ⊎ (f ≡ BoardFile)
+IsOfChoice (Firmware path) f = IsOfSession f ⊎ (f ≡ BoardFile)
 IsOfChoice (Audit path) f = IsOfAudit f ⊎ (f ≡ BoardFile)

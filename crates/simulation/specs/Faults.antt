@@ -107,6 +107,7 @@ of_set_up set_up.Memory = SetUpMemory
 abbrev pub of_run : RunFault → Fault
 of_run run.Read = Read
 of_run run.Write = Write
+of_run run.Memory = SetUpMemory
 
 abbrev pub read_faults : {T : Type 0} → Result T Fault → ℕ
 read_faults (Ok x) = 0

@@ -4,6 +4,7 @@ pub mod Listing
 pub mod Fitting
 pub mod Checking
 pub mod Running
+pub mod Sessions
 pub mod Driving
 pub mod Auditing
 pub mod Choices

@@ -3,17 +3,17 @@ ghost use Rattle.std.specs.Prelude.{◌≡◌, ◌≢◌, ◌+◌, ◌-◌, ◌^
 ghost use Rattle.std.specs.Io.KnownBytes.{Appends};
 ghost use Rattle.streams.specs.Ends.{AppendsPart};
 ghost use Rattle.simulation.specs.Choices.{IsDone, IsDoneInPart, IsDoneAsRead, IsOfChoice};
-ghost use Rattle.simulation.specs.Choices.{IsTelling, IsToldOf, IsUnaudited, IsDriving};
+ghost use Rattle.simulation.specs.Choices.{IsTelling, IsToldOf, IsLacking, IsLackingDone, IsFlushed};
 ghost use Rattle.simulation.specs.Faults.{read_faults, write_faults};
 
 use crate::auditing::audit;
 use crate::checking::check;
 use crate::demonstration::demo;
-use crate::driving::drive;
 use crate::fault::Fault;
 use crate::files::board_bytes;
 use crate::listing::list;
 use crate::running::whole;
+use crate::session::drive;
 use board_check::Style;
 use std::alloc::Global;
 use std::rt::Files;
@@ -32,9 +32,9 @@ pub enum Choice<'a> {
     Check(&'a str, Style),
     /// Run a script over the board of the board file at this path.
     Run(&'a str),
-    /// Run firmware's lines over the board of the board file at this path, at reset.
+    /// Run a session over the board of the board file at this path, at reset.
     Firmware(&'a str),
-    /// Do the same, and then write all that is wrong in the registers as they stand.
+    /// Run firmware's lines over it, and then write all that is wrong in the registers as they stand.
     Audit(&'a str),
 }
 
@@ -74,9 +74,9 @@ pub fn perform<R: Reader, W: Writer>(
     ensures stopped { IsErrOf result Fault.Write →
         IsDoneInPart choice.now (R.rest reader.old) (R.rest reader.new) (W.written writer.old) (W.written writer.new) }
     ensures unread { IfErr result (λ f.
-        f ≢ Fault.Read → f ≢ Fault.Write → ¬ IsUnaudited choice.now f → reader.new ≡ reader.old) }
+        f ≢ Fault.Read → f ≢ Fault.Write → ¬ IsLacking choice.now f → reader.new ≡ reader.old) }
     ensures nothing { IfErr result (λ f.
-        f ≢ Fault.Read → f ≢ Fault.Write → ¬ IsTelling choice.now f → ¬ IsUnaudited choice.now f
+        f ≢ Fault.Read → f ≢ Fault.Write → ¬ IsTelling choice.now f → ¬ IsLacking choice.now f
         → writer.new ≡ writer.old) }
 
     // A check tells of a fault of the file or its board, and nothing else tells.
@@ -84,11 +84,12 @@ pub fn perform<R: Reader, W: Writer>(
         IsTelling choice.now f → IsToldOf choice.now f (W.written writer.old) (W.written writer.new)) }
     ensures told_flushed { IfErr result (λ f. IsTelling choice.now f → W.flushed writer.new ≡ W.written writer.new) }
 
-    // Where memory is out for an audit alone, all that the lines write was written.
-    ensures unaudited { IfErr result (λ f. IsUnaudited choice.now f
-        → IsDriving choice.now (R.rest reader.old) (W.written writer.old) (W.written writer.new)) }
-    ensures unaudited_flushed { IfErr result (λ f.
-        IsUnaudited choice.now f → W.flushed writer.new ≡ W.written writer.new) }
+    // Where memory is out once lines ran, for an audit or a handover, all that they write was written.
+    ensures lacking { IfErr result (λ f. IsLacking choice.now f
+        → IsLackingDone choice.now (R.rest reader.old) (R.rest reader.new) (W.written writer.old) (W.written writer.new)) }
+    ensures lacking_flushed { IfErr result (λ f.
+        IsLacking choice.now f →
+        IsFlushed choice.now (W.flushed writer.new ≡ W.written writer.new) (writer.new ≡ writer.old)) }
 
     ensures faults { IfErr result (IsOfChoice choice.now) }
 

@@ -1,7 +1,7 @@
-//! Firmware's lines over the board of a board file, at reset.
+//! Firmware's lines alone over the board of a board file, at reset.
 ghost use Rattle.std.specs.Prelude.{◌≡◌, ◌+◌, ◌-◌, ◌^◌, ◌<◌, OnOk, IfOk, IfErr, IsErrOf};
 ghost use Rattle.std.specs.Io.KnownBytes.{IsAtEnd};
-ghost use Rattle.simulation.specs.Driving.{IsDriven, IsDrivenTo, IsDrivenCut, IsDrivenStopped, IsOfDriving};
+ghost use Rattle.simulation.specs.Driving.{IsDrivenTo, IsDrivenCut, IsDrivenStopped, IsOfDriving};
 ghost use Rattle.simulation.specs.Faults.{number_of, read_faults, write_faults};
 ghost use Rattle.simulation.specs.Listing.{Refuses};
 
@@ -11,7 +11,12 @@ use firmware::{Host, run};
 use std::alloc::Global;
 use streams::{Reader, Writer};
 
-/// Runs firmware's lines as [`drive`] does, and gives the host bridge as they left it.
+/// Runs firmware's lines over the board that a board file declares, as it is at reset, and gives the host bridge as
+/// they left it. The guests of the file are checked, and no function is given to them: of the lines of a session
+/// those for an audit and for guests have no form here.
+///
+/// Refused are the file (101 to 112) and lack of memory (199): then nothing is read or written. Once lines
+/// are asked for, a read fails (501), or a write or flush does (502).
 pub(crate) fn driven<R: Reader, W: Writer>(
     alloc: Global,
     board: &[u8],
@@ -38,42 +43,4 @@ pub(crate) fn driven<R: Reader, W: Writer>(
     let (mut host, _guests) = read_board(alloc, board)?;
     run(&mut host, reader, writer)?;
     Ok(host)
-}
-
-/// Runs firmware's lines over the board that a board file declares, as it is at reset: set-up does not run.
-/// The guests of the file are checked, and no function is given to them.
-///
-/// Refused are the file (101 to 112) and lack of memory (199): then nothing is read or written. Once lines
-/// are asked for, a read fails (501), or a write or flush does (502).
-pub fn drive<R: Reader, W: Writer>(
-    alloc: Global,
-    board: &[u8],
-    reader: &mut R,
-    writer: &mut W,
-) -> Result<(), Fault>
-    requires reader_has_room { R.failures reader.old < 2 ^ 64 - 1 }
-    requires writer_has_room { W.failures writer.old < 2 ^ 64 - 1 }
-
-    // The lines were read to their end, and their output over the board of the file was written and flushed.
-    ensures end { OnOk result (IsAtEnd (R.rest reader.new)) }
-    ensures output { OnOk result
-        (IsDriven board.now (R.rest reader.old) (W.written writer.old) (W.written writer.new)) }
-    ensures flushed { OnOk result (W.flushed writer.new ≡ W.written writer.new) }
-
-    ensures file { IfErr result (λ f. number_of f < 199 → Refuses board.now (number_of f)) }
-    ensures faults { IfErr result IsOfDriving }
-    ensures nothing { IfErr result (λ f. number_of f < 500 → (reader.new ≡ reader.old) × (writer.new ≡ writer.old)) }
-
-    // What a failed read or write leaves of the output.
-    ensures cut { IsErrOf result Fault.Read →
-        IsDrivenCut board.now (R.rest reader.old) (R.rest reader.new) (W.written writer.old) (W.written writer.new) }
-    ensures stopped { IsErrOf result Fault.Write →
-        IsDrivenStopped board.now (R.rest reader.old) (R.rest reader.new) (W.written writer.old) (W.written writer.new) }
-
-    // A fault is the reader's or the writer's exactly where that end failed during the call.
-    ensures reads { R.failures reader.new ≡ R.failures reader.old + read_faults result }
-    ensures writes { W.failures writer.new ≡ W.failures writer.old + write_faults result }
-{
-    driven(alloc, board, reader, writer)?;
-    Ok(())
 }

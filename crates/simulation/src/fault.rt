@@ -64,7 +64,7 @@ pub enum Fault {
     /// The prefetchable regions don't fit their aperture.
     #[error("prefetchable pool")]
     PrefetchablePool,
-    /// Out of memory while the board was made, set up, reported or given to guests.
+    /// Out of memory while the board was made, set up, reported, audited or given to guests.
     #[error("memory")]
     SetUpMemory,
     /// A read of the script failed.
@@ -193,6 +193,7 @@ impl From<RunFault> for Fault {
         match fault {
             RunFault::Read => Fault::Read,
             RunFault::Write => Fault::Write,
+            RunFault::Memory => Fault::SetUpMemory,
         }
     }
 }

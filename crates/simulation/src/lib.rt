@@ -1,6 +1,6 @@
 //! What the program does, over bytes, a reader and a writer: the report of a board file, what is
-//! wrong with one, a script over its board, firmware's lines over it and an audit after them, and a
-//! script over the demo board; and the law of two worlds, over the definitions alone.
+//! wrong with one, a script over its board, a session over it from reset on, firmware's lines over it
+//! and an audit after them, and a script over the demo board; and the law of two worlds, over the definitions alone.
 #![tactic(auto)]
 
 mod auditing;
@@ -17,6 +17,7 @@ mod misfit;
 mod numbered;
 mod reasons;
 mod running;
+mod session;
 mod standard_streams;
 
 pub use auditing::audit;
@@ -24,7 +25,6 @@ pub use board_check::Style;
 pub use checking::check;
 pub use choice::{Choice, perform};
 pub use demonstration::demo;
-pub use driving::drive;
 pub use fault::Fault;
 pub use fault_lines::fault_line;
 pub use files::board_bytes;
@@ -32,4 +32,5 @@ pub use listing::{list, list_text};
 pub use model_guests::two_worlds;
 pub use monitor::Monitor;
 pub use running::{open, whole};
+pub use session::drive;
 pub use standard_streams::{InputStream, OutputStream};

@@ -27,7 +27,7 @@ returns-in_err-host-clause-faults g c =
 pub returns-in_err-run-clause-file : goal.returns-in_err-run-clause-file
 returns-in_err-run-clause-file g c =
     by_error (λ (f : Fault). number_of f < 199 → Refuses c.args.board.now (number_of f)) c.from_residual-in_err-run.result c.from_residual-in_err-run.ensures.1
-    (λ f same small. let large = of_run_large _ f same in absurd (omega arith))
+    (λ f same small. let large = of_run_large _ f (λ is. c.in_err-run.ensures.memory (ap Err is)) same in absurd (omega arith))
 
 pub returns-in_err-run-clause-reads : goal.returns-in_err-run-clause-reads
 returns-in_err-run-clause-reads g c =

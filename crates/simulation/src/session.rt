@@ -1,0 +1,62 @@
+//! A session over the board of a board file.
+ghost use Rattle.std.specs.Prelude.{◌≡◌, ◌+◌, ◌-◌, ◌^◌, ◌<◌, ◌⊎◌, OnOk, IfErr, IsErrOf};
+ghost use Rattle.std.specs.Io.KnownBytes.{IsAtEnd};
+ghost use Rattle.simulation.specs.Faults.{number_of, read_faults, write_faults};
+ghost use Rattle.simulation.specs.Listing.{Refuses};
+ghost use Rattle.simulation.specs.Sessions.{IsSession, IsSessionCut, IsSessionStopped, IsSessionLacking, IsOfSession};
+
+use crate::fault::Fault;
+use board_file::read_board;
+use sessions::{Session, run};
+use std::alloc::Global;
+use streams::{Reader, Writer};
+
+/// Runs a session over the board that a board file declares, as it is at reset: set-up does not run. The lines are
+/// firmware's, and among them `host audit` writes all that is wrong in the registers as they stand there. By
+/// `host guests` the board is given to the guests of the file, unless its audit tells a problem or a region of theirs
+/// is closed; from there on the lines are a script's. What a guest is told then is what its own functions, each a
+/// register file by itself, answer to its own lines and to the moves that touch it, and nothing else.
+///
+/// Refused are the file (101 to 112) and lack of memory while it is read (199): then nothing is read or written. Once
+/// lines are asked for, a read fails (501), or a write or flush does (502). Memory is out for an audit or for the
+/// handover (299): then all that the lines before write was written and flushed, and nothing after it.
+pub fn drive<R: Reader, W: Writer>(
+    alloc: Global,
+    board: &[u8],
+    reader: &mut R,
+    writer: &mut W,
+) -> Result<(), Fault>
+    requires reader_has_room { R.failures reader.old < 2 ^ 64 - 1 }
+    requires writer_has_room { W.failures writer.old < 2 ^ 64 - 1 }
+
+    // The lines were read to their end, and their output over the board of the file was written and flushed.
+    ensures end { OnOk result (IsAtEnd (R.rest reader.new)) }
+    ensures output { OnOk result
+        (IsSession board.now (R.rest reader.old) (W.written writer.old) (W.written writer.new)) }
+    ensures flushed { OnOk result (W.flushed writer.new ≡ W.written writer.new) }
+
+    ensures file { IfErr result (λ f. number_of f < 199 → Refuses board.now (number_of f)) }
+    ensures faults { IfErr result IsOfSession }
+    ensures nothing { IfErr result (λ f. number_of f < 299 → (reader.new ≡ reader.old) × (writer.new ≡ writer.old)) }
+
+    // What a failed read or write leaves of the output.
+    ensures cut { IsErrOf result Fault.Read →
+        IsSessionCut board.now (R.rest reader.old) (R.rest reader.new) (W.written writer.old) (W.written writer.new) }
+    ensures stopped { IsErrOf result Fault.Write →
+        IsSessionStopped board.now (R.rest reader.old) (R.rest reader.new) (W.written writer.old) (W.written writer.new) }
+
+    // No memory for a line: what those before it write was written, and flushed if it is anything.
+    ensures lacking { IsErrOf result Fault.SetUpMemory →
+        IsSessionLacking board.now (R.rest reader.old) (R.rest reader.new) (W.written writer.old) (W.written writer.new) }
+    ensures lacking_flushed { IsErrOf result Fault.SetUpMemory →
+        (W.flushed writer.new ≡ W.written writer.new) ⊎ (writer.new ≡ writer.old) }
+
+    // A fault is the reader's or the writer's exactly where that end failed during the call.
+    ensures reads { R.failures reader.new ≡ R.failures reader.old + read_faults result }
+    ensures writes { W.failures writer.new ≡ W.failures writer.old + write_faults result }
+{
+    let (host, guests) = read_board(alloc, board)?;
+    let mut session = Session::new(alloc, host, guests);
+    run(&mut session, reader, writer)?;
+    Ok(())
+}
