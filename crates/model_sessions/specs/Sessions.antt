@@ -62,7 +62,7 @@ refused_line n words = codes "host: refused " ++ decimal n ++ codes " " ++ words
 abbrev pub handover_lines : Option HandoffFault → List Text
 handover_lines None = line_text host done ∷ []
 handover_lines (Some (in_disorder p)) = audit_line (problem_text p) ∷ refused_line 207 (codes "not in order") ∷ []
-handover_lines (Some (closed_region q)) = closed_text q ∷ refused_line 206 (codes "region closed") ∷ []
+handover_lines (Some (closed_region q)) = closed_text q ∷ refused_line 206 (codes "closed region") ∷ []
 
 abbrev pub handover_output : Option HandoffFault → Text
 handover_output f = text_of_lines (handover_lines f)

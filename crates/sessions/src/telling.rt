@@ -38,7 +38,7 @@ fn region_text(alloc: Global, closed: &ClosedRegion) -> Result<String, AllocErro
 {
     let mut text = String::new(alloc);
     push_closed(&mut text, closed)?;
-    text.push_str("host: refused 206 region closed\n")?;
+    text.push_str("host: refused 206 closed region\n")?;
     Ok(text)
 }
 
