@@ -199,7 +199,8 @@ def count_problems(every):
 
 
 def is_path(text):
-    return all(re.fullmatch(r"(\d|1[0-5])\.[0-7]", part) for part in text.split("/"))
+    parts = text.split("/")
+    return len(parts) <= 16 and all(re.fullmatch(r"(\d|1[0-5])\.[0-7]", part) for part in parts)
 
 
 def standing(every):
@@ -431,7 +432,7 @@ def read(kind, values):
 
 ASKS = {"is the path of an earlier function": "functions", "leads through": "functions", "is in a device": "functions",
         "is no path of an endpoint": "functions", "is the name of": "guests", "is in an earlier slot": "guests",
-        "a register": "parts", "overlaps": "parts"}
+        "not each region": "parts", "overlaps": "parts"}
 
 
 def holders(name):
