@@ -24,11 +24,12 @@ use Rattle.host_bridge.specs.HostState.{HostState}
 use Rattle.board_file.specs.Meaning.{world_in}
 use Rattle.monitor.specs.Beginnings.{world_on, taken_over}
 use Rattle.monitor.proofs.FirstWorlds.{lawful_taken}
+use Rattle.sessions.specs.Takings.{IsFaultOf}
+use Rattle.sessions.specs.declared.taking.TakingFault.{TakingFault}
+use Rattle.sessions.specs.declared.taking.TakingFault.TheVariants.{NotInOrder, Closed, Memory}
 use Rattle.simulation.specs.Listing.{Declares}
 use Rattle.driven_board.specs.Boards.{IsBoardOf}
-use Rattle.driven_board.specs.Giving.{IsGiven, IsFaultOf, IsRefusalOf}
-use Rattle.driven_board.specs.declared.giving.GivingFault.{GivingFault}
-use Rattle.driven_board.specs.declared.giving.GivingFault.TheVariants.{NotInOrder, Closed, FileMemory, Memory}
+use Rattle.driven_board.specs.Giving.{IsGiven, IsRefusalOf, of_taking}
 use Rattle.driven_board.specs.Isolation.{GivenIsolated, GivenAlike, GivenAsSetUp, GivenStays}
 use Rattle.driven_board.proofs.Declared.{same_world}
 
@@ -43,10 +44,9 @@ module _ (file : Text) (h k : HostState) (ds : List Guest) (of : IsBoardOf file 
       ap₂ (λ (b : Board) (a : Apertures). let w : World = record { board = b; apertures = a; guests = ds } in w)
       (of.board ∙ sym (ap (λ (w : World). w.board) read_again)) (of.apertures ∙ sym (ap (λ (w : World). w.apertures) read_again))
 
-  pub refusal_here : (f : GivingFault) → IsFaultOf (world_on h ds) h f → IsRefusalOf file h f
+  pub refusal_here : (t : TakingFault) → IsFaultOf (world_on h ds) h t → IsRefusalOf file h (of_taking t)
   refusal_here (NotInOrder p) is = (world_on h ds, subst (Declares file) (sym world_here) declared, is)
   refusal_here (Closed r) is = (world_on h ds, subst (Declares file) (sym world_here) declared, is)
-  refusal_here FileMemory is = tt
   refusal_here Memory is = tt
 
   module _ (lawful : IsLawfulWorld (world_in k ds)) where

@@ -1,9 +1,8 @@
 -- The board of a board file whose functions are given to the guests of the file, whoever set it up.
 --     IsGiven file h m      the guests of the file before any line, over the board as it was handed over
 --     number_of f      the number of a refusal
---     of_audit, of_region      the refusal for a fault of the audit, and for one of a board that passed it
---     IsFaultOf w h f      the first fault of a world over a board: a problem of its audit, or a closed region
---     IsRefusalOf file h f      the same of the world that a file declares
+--     of_taking      the refusal for a fault of the board
+--     IsRefusalOf file h f      the first fault of the world that a file declares: a problem of its audit, or a closed region
 use Rattle.std.specs.Prelude.{◌≡◌, ℕ, Some, ⊤}
 use Rattle.model_guests.specs.Text.{Text}
 use Rattle.model_guests.specs.World.{World, IsLawfulWorld}
@@ -13,10 +12,8 @@ use Rattle.model_handoff.specs.WorldOver.{WorldOver, world_over}
 use Rattle.board_audit.specs.Told.{problem_of}
 use Rattle.host_bridge.specs.HostState.{HostState}
 use Rattle.monitor.specs.Beginnings.{world_on, taken_over}
-use Rattle.monitor.specs.declared.audited.AuditFault.{AuditFault}
-use Rattle.monitor.specs.declared.audited.AuditFault.TheVariants as audit
-use Rattle.monitor.specs.declared.closed.RegionFault.{RegionFault}
-use Rattle.monitor.specs.declared.closed.RegionFault.TheVariants as region
+use Rattle.sessions.specs.declared.taking.TakingFault.{TakingFault}
+use Rattle.sessions.specs.declared.taking.TakingFault.TheVariants as taking
 use Rattle.simulation.specs.Listing.{Declares}
 use Rattle.driven_board.specs.declared.giving.GivingFault.{GivingFault}
 use Rattle.driven_board.specs.declared.giving.GivingFault.TheVariants.{NotInOrder, Closed, FileMemory, Memory}
@@ -37,19 +34,10 @@ number_of (Closed r) = 206
 number_of FileMemory = 199
 number_of Memory = 299
 
-abbrev pub of_audit : AuditFault → GivingFault
-of_audit (audit.Problem p) = NotInOrder p
-of_audit audit.Memory = Memory
-
-abbrev pub of_region : RegionFault → GivingFault
-of_region (region.Closed r) = Closed r
-of_region region.Memory = Memory
-
-abbrev pub IsFaultOf : World → HostState → GivingFault → Type 0
-IsFaultOf w h (NotInOrder p) = first_fault w h.state ≡ Some (in_disorder (problem_of p))
-IsFaultOf w h (Closed r) = first_fault w h.state ≡ Some (closed_region r)
-IsFaultOf w h FileMemory = ⊤
-IsFaultOf w h Memory = ⊤
+abbrev pub of_taking : TakingFault → GivingFault
+of_taking (taking.NotInOrder p) = NotInOrder p
+of_taking (taking.Closed r) = Closed r
+of_taking taking.Memory = Memory
 
 abbrev pub HasFault : Text → HostState → HandoffFault → Type 0
 HasFault file h f = (w : World) × Declares file w × (first_fault w h.state ≡ Some f)

@@ -1,17 +1,11 @@
 //! A board, as firmware left it, whose functions are given to the guests of its file.
-ghost use Rattle.std.specs.Prelude.{◌≡◌, None, IfOk, IfErr};
-ghost use Rattle.model_guests.specs.World.{HasLawfulGuests};
-ghost use Rattle.model_handoff.specs.Handoffs.{IsHandoff};
-ghost use Rattle.model_handoff.specs.Regions.{first_fault};
-ghost use Rattle.model_handoff.specs.WorldOver.{world_over};
-ghost use Rattle.monitor.specs.Beginnings.{world_on, taken_over};
-ghost use Rattle.driven_board.specs.Giving.{IsGiven, IsFaultOf, IsRefusalOf, number_of, of_audit, of_region};
+ghost use Rattle.std.specs.Prelude.{◌≡◌, IfOk, IfErr};
+ghost use Rattle.driven_board.specs.Giving.{IsGiven, IsRefusalOf, number_of, of_taking};
 
 use crate::board::Board;
-use accesses::GuestDecl;
 use board_file::read_board;
-use firmware::Host;
-use monitor::{AuditFault, Audited, ClosedRegion, Problem, RegionFault, Unfit, Ungiven};
+use monitor::{ClosedRegion, Problem};
+use sessions::{NotTaken, TakingFault, take};
 use simulation::Monitor;
 use std::alloc::Global;
 
@@ -39,24 +33,14 @@ impl GivingFault {
     }
 }
 
-impl From<AuditFault> for GivingFault {
-    ghost from_gives = { λ a f. f ≡ of_audit a };
+impl From<TakingFault> for GivingFault {
+    ghost from_gives = { λ t f. f ≡ of_taking t };
 
-    fn from(fault: AuditFault) -> GivingFault {
+    fn from(fault: TakingFault) -> GivingFault {
         match fault {
-            AuditFault::Problem(problem) => GivingFault::NotInOrder(problem),
-            AuditFault::Memory => GivingFault::Memory,
-        }
-    }
-}
-
-impl From<RegionFault> for GivingFault {
-    ghost from_gives = { λ r f. f ≡ of_region r };
-
-    fn from(fault: RegionFault) -> GivingFault {
-        match fault {
-            RegionFault::Closed(region) => GivingFault::Closed(region),
-            RegionFault::Memory => GivingFault::Memory,
+            TakingFault::NotInOrder(problem) => GivingFault::NotInOrder(problem),
+            TakingFault::Closed(region) => GivingFault::Closed(region),
+            TakingFault::Memory => GivingFault::Memory,
         }
     }
 }
@@ -66,43 +50,6 @@ impl From<RegionFault> for GivingFault {
 pub struct NotGiven {
     pub board: Board,
     pub fault: GivingFault,
-}
-
-/// The same of the host bridge over it.
-#[derive(Drop)]
-struct NotTaken {
-    host: Host,
-    fault: GivingFault,
-}
-
-/// Gives functions of a board to guests, if it passes its audit and no region of theirs is closed.
-fn take(alloc: Global, host: Host, guests: &[GuestDecl]) -> Result<Monitor, NotTaken>
-    requires handoff { IsHandoff host.state }
-    requires lawful { HasLawfulGuests (world_on host guests.now) }
-    ensures made { let w = world_on host guests.now in IfOk result (λ m. m ≡ world_over w (taken_over w host.state)) }
-    ensures given { IfOk result (λ _. first_fault (world_on host guests.now) host.state ≡ None) }
-    ensures kept { IfErr result (λ n. n.host ≡ host) }
-    ensures refused { IfErr result (λ n. IsFaultOf (world_on host guests.now) host n.fault) }
-{
-    match Audited::of(alloc, host) {
-        Ok(audited) => match Monitor::over(alloc, audited, guests) {
-            Ok(monitor) => Ok(monitor),
-            Err(ungiven) => {
-                let Ungiven { board, fault } = ungiven;
-                Err(NotTaken {
-                    host: board.into_host(),
-                    fault: GivingFault::from(fault),
-                })
-            }
-        },
-        Err(unfit) => {
-            let Unfit { host, fault } = unfit;
-            Err(NotTaken {
-                host,
-                fault: GivingFault::from(fault),
-            })
-        }
-    }
 }
 
 impl Board {
@@ -134,7 +81,10 @@ impl Board {
                     host,
                     written,
                 };
-                Err(NotGiven { board, fault })
+                Err(NotGiven {
+                    board,
+                    fault: GivingFault::from(fault),
+                })
             }
         }
     }
