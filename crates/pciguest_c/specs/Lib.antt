@@ -3,6 +3,7 @@ pub mod NumberWords
 pub mod Owning
 pub mod Told
 pub mod DevicesTold
+pub mod SeatingsTold
 pub mod QueriesTold
 pub mod FunctionsTold
 pub mod Giving

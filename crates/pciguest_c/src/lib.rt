@@ -24,6 +24,7 @@ mod numbers;
 mod owner;
 mod querying;
 mod resetting;
+mod seating;
 mod text;
 mod text_calls;
 mod unboxed;
