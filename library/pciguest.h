@@ -6,7 +6,7 @@
  * and for the text of pciguest_check.
  *
  *   101 to 112  the board file is refused           199, 299  out of memory
- *   201 to 205  the board can't be set up           301 302 303 601 602  an access or a move is refused
+ *   201 to 205  the board can't be set up           301 302 303 601 602  an access, a move or a gift is refused
  *   901  the handle holds no machine, or no board   902  an argument   903  the handle holds one already
  *   904  a write was done on the board since reset
  *   206  a region of a given function is closed     207  the board doesn't pass its audit
@@ -136,6 +136,8 @@ uint32_t pciguest_raw_host_read(struct pciguest *machine, uint32_t space, uint8_
                                 uint8_t function, uint64_t place, uint32_t width, uint32_t *value);
 uint32_t pciguest_raw_move(struct pciguest *machine, size_t from, uint64_t slot, size_t to, uint64_t target);
 uint32_t pciguest_raw_reset(struct pciguest *machine, size_t guest, uint64_t slot);
+uint32_t pciguest_raw_give(struct pciguest *machine, const uint8_t *path, size_t length, size_t guest, uint64_t slot);
+uint32_t pciguest_raw_take(struct pciguest *machine, size_t guest, uint64_t slot);
 uint32_t pciguest_raw_device_read(struct pciguest *machine, size_t guest, uint64_t slot, uint32_t part, uint64_t offset,
                                   uint32_t *value);
 uint32_t pciguest_raw_device_write(struct pciguest *machine, size_t guest, uint64_t slot, uint32_t part, uint64_t offset,
@@ -320,6 +322,28 @@ static inline uint32_t pciguest_reset(struct pciguest *machine, size_t guest, ui
     return pciguest_raw_reset(machine, guest, slot);
 }
 
+/* Gives a function of the board that no guest has to a guest, into an empty slot: there and on the board it is then at
+ * reset, on the board but for what guests have copies of. Its path is a text, as board files and pciguest_function have
+ * it. 303: the slot is above 31, or no endpoint stands at the path. 602: a guest has the function, or the slot is taken.
+ * 206: one of its regions is closed. 902: there is no such guest. No line of a script says it. */
+static inline uint32_t pciguest_give(struct pciguest *machine, const char *path, size_t length, size_t guest,
+                                     uint64_t slot)
+{
+    if (!machine || (!path && length))
+        return PCIGUEST_ARGUMENT;
+    return pciguest_raw_give(machine, (const uint8_t *)(path ? path : ""), length, guest, slot);
+}
+
+/* Takes the function in a guest's slot from this guest: the slot is then empty, and no guest has the function, which is
+ * at reset on the board, but for what guests have copies of. Numbers as for pciguest_reset. No line of a
+ * script says it. */
+static inline uint32_t pciguest_take(struct pciguest *machine, size_t guest, uint64_t slot)
+{
+    if (!machine)
+        return PCIGUEST_ARGUMENT;
+    return pciguest_raw_take(machine, guest, slot);
+}
+
 /* Reads one byte of the function in a guest's slot, as its device does: of a region, or of configuration space the two
  * bytes of Status (06h, 07h) and the device's own registers (40h to FFh). A byte that has no register reads 0. It
  * changes nothing. 303: the slot is above 31, or the device has no such byte. 601: the slot is empty. 902: there is no
@@ -344,7 +368,7 @@ static inline uint32_t pciguest_device_write(struct pciguest *machine, size_t gu
 
 /* Where the region that begins at a base address register, 0 to 5, stands now, in the guest's own view. It takes no
  * memory and changes nothing. The answer stays until the guest writes Command or a base address register of this
- * function, the function is moved, or it is reset. 303: the slot is above 31, or no region begins at this register. 601:
+ * function, or it is moved, reset or taken. 303: the slot is above 31, or no region begins at this register. 601:
  * the slot is empty. 902: there is no such guest. */
 static inline uint32_t pciguest_region(struct pciguest *machine, size_t guest, uint64_t slot, uint32_t bar,
                                        struct pciguest_region *region)

@@ -27,6 +27,8 @@ static void without_a_machine(void)
     IS(pciguest_host_read(&none, PCIGUEST_MEMORY, 0, 0, 0, 0, 4, &value), 901);
     IS(pciguest_move(&none, 0, 0, 0, 1), 901);
     IS(pciguest_reset(&none, 0, 0), 901);
+    IS(pciguest_give(&none, "1.0", 3, 0, 0), 901);
+    IS(pciguest_take(&none, 0, 0), 901);
     IS(pciguest_device_read(&none, 0, 0, 1, 0, &value), 901);
     IS(pciguest_device_write(&none, 0, 0, 1, 0, 1), 901);
     IS(pciguest_region(&none, 0, 0, 0, &region), 901);
@@ -66,6 +68,10 @@ static void null_pointers(struct pciguest *machine)
     IS(pciguest_host_read(machine, PCIGUEST_IO, 0, 0, 0, 0, 1, NULL), 902);
     IS(pciguest_move(NULL, 0, 0, 0, 0), 902);
     IS(pciguest_reset(NULL, 0, 0), 902);
+    IS(pciguest_give(NULL, "1.0", 3, 0, 0), 902);
+    IS(pciguest_give(machine, NULL, 1, 0, 0), 902);
+    IS(pciguest_give(machine, NULL, 0, 0, 0), 303);
+    IS(pciguest_take(NULL, 0, 0), 902);
     IS(pciguest_device_read(NULL, 0, 0, 1, 0, &value), 902);
     IS(pciguest_device_read(machine, 0, 0, 1, 0, NULL), 902);
     IS(pciguest_device_write(NULL, 0, 0, 1, 0, 1), 902);
@@ -108,6 +114,12 @@ static void bad_arguments(struct pciguest *machine, const uint8_t *board, size_t
     IS(pciguest_reset(machine, 2, 0), 902);
     IS(pciguest_reset(machine, 0, 31), 601);
     IS(pciguest_reset(machine, 0, 32), 303);
+    IS(pciguest_give(machine, "1.0", 3, 2, 5), 902);
+    IS(pciguest_give(machine, "1.0", 3, 0, 32), 303);
+    IS(pciguest_give(machine, "1.0", 3, 0, 5), 602);
+    IS(pciguest_take(machine, 2, 0), 902);
+    IS(pciguest_take(machine, 0, 31), 601);
+    IS(pciguest_take(machine, 0, 32), 303);
     IS(pciguest_device_read(machine, 2, 0, 1, 0, &value), 902);
     IS(pciguest_device_read(machine, 0, 0, 7, 0, &value), 902);
     IS(pciguest_device_read(machine, 0, 32, 1, 0, &value), 303);
@@ -147,6 +159,42 @@ static void resets(struct pciguest *machine)
     IS(value, 0);
     IS(pciguest_read(machine, 0, PCIGUEST_CONFIG, 1, 4, 2, &value), 0);
     IS(value, 2);
+}
+
+/* A function that is taken from its guest comes to another, at reset in its slot and on the board, and takes no memory. A
+ * text that is no path, a bridge's path and one at which nothing stands have no endpoint. */
+static void gifts(struct pciguest *machine)
+{
+    static const char *const without[] = {"", "2.0", "1.1", "1.0/", "01.0", "1.0/0.0", "1.8"};
+    struct pciguest_function row = {0};
+    uint32_t value = 7;
+    long before = blocks;
+
+    IS(pciguest_write(machine, 0, PCIGUEST_CONFIG, 0, 0x3c, 1, 0x5a), 0);
+    calls_left = 1;
+    IS(pciguest_give(machine, "1.0", 3, 1, 5), 602); /* a guest has it */
+    IS(pciguest_take(machine, 0, 0), 0);
+    IS(pciguest_take(machine, 0, 0), 601);
+    IS(pciguest_read(machine, 0, PCIGUEST_CONFIG, 0, 0, 4, &value), 0);
+    IS(value, UINT32_MAX);
+    IS(pciguest_host_read(machine, PCIGUEST_CONFIG, 0, 1, 0, 0x3c, 1, &value), 0);
+    IS(value, 0); /* on the board it is at reset */
+    IS(pciguest_function(machine, 0, &row), 0);
+    IS(row.is_given, 0);
+    for (size_t i = 0; i < sizeof without / sizeof *without; i++)
+        IS(pciguest_give(machine, without[i], strlen(without[i]), 1, 5), 303);
+    IS(pciguest_give(machine, "1.0", 3, 1, 0), 602); /* the slot is taken */
+    IS(pciguest_give(machine, (const char *)row.path, row.path_length, 1, 5), 0);
+    IS(pciguest_read(machine, 1, PCIGUEST_CONFIG, 5, 0, 4, &value), 0);
+    IS(value, 0x00011234);
+    IS(pciguest_read(machine, 1, PCIGUEST_CONFIG, 5, 0x3c, 1, &value), 0);
+    IS(value, 0);
+    IS(pciguest_function(machine, 0, &row), 0);
+    IS(row.is_given && row.guest == 1 && row.slot == 5, 1);
+    IS(pciguest_take(machine, 1, 5), 0);
+    IS(pciguest_give(machine, "1.0", 3, 0, 0), 0);
+    calls_left = -1;
+    IS((uint64_t)blocks, (uint64_t)before);
 }
 
 /* A device reaches Status, 40h to FFh and its regions, and no other byte: not the guest's copies, nor identity. What it
@@ -358,6 +406,7 @@ int main(int argc, char **argv)
     null_pointers(&machine);
     bad_arguments(&machine, board, length);
     resets(&machine);
+    gifts(&machine);
     devices(&machine);
     line_feeds(&machine);
     pciguest_free(&machine);

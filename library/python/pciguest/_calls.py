@@ -111,6 +111,8 @@ PARAMETERS: Dict[str, Tuple[Any, ...]] = {
     "host_read": (_MACHINE, c_uint32, c_uint8, c_uint8, c_uint8, c_uint64, c_uint32, POINTER(c_uint32)),
     "move": (_MACHINE, c_size_t, c_uint64, c_size_t, c_uint64),
     "reset": (_MACHINE, c_size_t, c_uint64),
+    "give": (_MACHINE, c_char_p, c_size_t, c_size_t, c_uint64),
+    "take": (_MACHINE, c_size_t, c_uint64),
     "device_read": (_MACHINE, c_size_t, c_uint64, c_uint32, c_uint64, POINTER(c_uint32)),
     "device_write": (_MACHINE, c_size_t, c_uint64, c_uint32, c_uint64, c_uint8),
     "region": (_MACHINE, c_size_t, c_uint64, c_uint32, POINTER(RegionTold)),

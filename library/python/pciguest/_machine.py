@@ -55,6 +55,29 @@ class Machine(Held):
         slots = number("slot", slot, 64), number("target_slot", target_slot, 64)
         self._call("move", source.index, slots[0], target.index, slots[1])
 
+    def give(self, path: str, guest: Guest, slot: int) -> None:
+        """Gives the function at a path, which no guest has, to a guest, into an empty slot: there and on the board it is
+        then at reset, on the board but for what guests have copies of. The path is a text, as board files and
+        `Function.path` have it.
+
+        303: the slot is above 31, or no endpoint stands at the path. 602: a guest has the function, or the slot is
+        taken. 206: one of its regions is closed.
+        """
+        if guest.machine is not self:
+            raise ValueError("a guest of another machine")
+        text = as_bytes(path)
+        self._call("give", text, len(text), guest.index, number("slot", slot, 64))
+
+    def take(self, guest: Guest, slot: int) -> None:
+        """Takes the function in a slot of a guest from it: the slot is then empty, and no guest has the function, which is
+        at reset on the board, but for what guests have copies of.
+
+        303: the slot is above 31. 601: the slot is empty.
+        """
+        if guest.machine is not self:
+            raise ValueError("a guest of another machine")
+        self._call("take", guest.index, number("slot", slot, 64))
+
     def count(self) -> int:
         """How many functions the board has, endpoints and bridges."""
         count = c_size_t(0)
@@ -170,7 +193,7 @@ class Guest:
     def region(self, slot: int, register: int) -> Region:
         """Where the region that begins at a base address register, 0 to 5, of the function in a slot stands now, in the
         guest's own view. The answer stays until the guest writes Command or a base address register of this function,
-        the function is moved, or it is reset. It changes nothing.
+        or it is moved, reset or taken. It changes nothing.
 
         303: the slot is above 31, or no region begins at this register. 601: the slot is empty.
         """

@@ -40,7 +40,7 @@ def declared():
 class Header(unittest.TestCase):
     def test_calls(self):
         calls = declared()
-        self.assertEqual(len(calls), 28)
+        self.assertEqual(len(calls), 30)
         self.assertEqual({name: types for name, (_, types) in calls.items()}, _calls.PARAMETERS)
         for name, (answer, types) in calls.items():
             call = _calls.CALLS[name]

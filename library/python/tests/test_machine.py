@@ -89,6 +89,26 @@ class Guests(Case):
         with Machine(MAIN) as other, self.assertRaises(ValueError):
             other.move(self.a, 1, other.guest("b"), 6)
 
+    def test_a_function_is_taken_and_given(self):
+        machine, a, b = self.machine, self.a, self.b
+        self.refused(602, machine.give, "1.0", b, 5)
+        a.config[0][0x3C:1] = 0x5A
+        machine.take(a, 0)
+        self.assertEqual(a.config[0][0:4], 0xFFFFFFFF)
+        self.assertFalse([function for function in machine.functions() if function.path == "1.0"][0].seat)
+        self.refused(601, machine.take, a, 0)
+        self.refused(303, machine.take, a, 32)
+        self.refused(602, machine.give, "1.0", a, 1)
+        machine.give("1.0", b, 5)
+        self.assertEqual((b.config[5][0:4], b.config[5][0x3C:1]), (0x00011234, 0))
+        for path in ("", "2.0", "1.1", "1.0/", "01.0"):
+            self.refused(303, machine.give, path, a, 0)
+        self.refused(303, machine.give, "1.0", a, 32)
+        with Machine(MAIN) as other:
+            for call in (lambda: other.give("1.0", a, 0), lambda: other.take(b, 5)):
+                with self.assertRaises(ValueError):
+                    call()
+
     def test_a_device_reads_and_writes_its_own(self):
         a = self.a
         a.device_write(0, 7, 0xA5)

@@ -213,6 +213,44 @@ impl Machine {
         answered(unsafe { raw::pciguest_raw_reset(&mut self.handle, guest.index(), slot) })
     }
 
+    /// Gives the function at a path, which no guest has, to a guest, into an empty slot: there and on the board it is
+    /// then at reset, on the board but for what guests have copies of. The path is a text, as board files and
+    /// [`Function::path`](crate::Function::path) have it.
+    ///
+    /// # Errors
+    ///
+    /// 303: the slot is above 31, or no endpoint stands at the path. 602: a guest has the function, or the slot is
+    /// taken. 206: one of its regions is closed. 902: there is no such guest.
+    ///
+    /// ```
+    /// # const BOARD: &str = include_str!("board.toml");
+    /// let mut machine = pciguest::Machine::new(BOARD)?;
+    /// let a = machine.guest("a")?;
+    /// assert_eq!(machine.give("1.0", a, 5).unwrap_err().to_string(), "602 slot taken");
+    /// machine.take(a, 0)?;
+    /// machine.give("1.0", a, 5)?;
+    /// # Ok::<(), pciguest::Error>(())
+    /// ```
+    pub fn give(&mut self, path: &str, guest: Guest, slot: u64) -> Result<(), Error> {
+        // SAFETY: `path` has as many bytes as is said, and nothing overlaps.
+        answered(unsafe {
+            raw::pciguest_raw_give(
+                &mut self.handle,
+                path.as_ptr(),
+                path.len(),
+                guest.index(),
+                slot,
+            )
+        })
+    }
+
+    /// Takes the function in a guest's slot from this guest: the slot is then empty, and no guest has the function,
+    /// which is at reset on the board, but for what guests have copies of. Refused as a reset is.
+    pub fn take(&mut self, guest: Guest, slot: u64) -> Result<(), Error> {
+        // SAFETY: no pointer but the handle is passed.
+        answered(unsafe { raw::pciguest_raw_take(&mut self.handle, guest.index(), slot) })
+    }
+
     /// Reads one byte of the function in a guest's slot, as its device does: of a region, or of configuration space
     /// the two bytes of Status (06h, 07h) and the device's own registers (40h to FFh). A byte that has no register
     /// reads 0. It changes nothing.
@@ -267,8 +305,8 @@ impl Machine {
     }
 
     /// Where the region that begins at a base address register, 0 to 5, stands now, in the guest's own view. The answer
-    /// stays until the guest writes Command or a base address register of this function, the function is moved, or it
-    /// is reset. It changes nothing.
+    /// stays until the guest writes Command or a base address register of this function, or it is moved, reset or
+    /// taken. It changes nothing.
     ///
     /// # Errors
     ///

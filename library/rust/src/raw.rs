@@ -170,6 +170,14 @@ extern "C" {
         target: u64,
     ) -> u32;
     pub fn pciguest_raw_reset(machine: *mut Handle, guest: usize, slot: u64) -> u32;
+    pub fn pciguest_raw_give(
+        machine: *mut Handle,
+        path: *const u8,
+        length: usize,
+        guest: usize,
+        slot: u64,
+    ) -> u32;
+    pub fn pciguest_raw_take(machine: *mut Handle, guest: usize, slot: u64) -> u32;
     pub fn pciguest_raw_device_read(
         machine: *mut Handle,
         guest: usize,

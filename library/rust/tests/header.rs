@@ -71,7 +71,7 @@ fn bound() -> Vec<Call> {
 
 #[test]
 fn calls_are_those_of_the_header() {
-    assert_eq!(declared().len(), 28);
+    assert_eq!(declared().len(), 30);
     assert_eq!(declared(), bound());
 }
 

@@ -215,6 +215,30 @@ fn a_function_is_reset() -> Result<(), Error> {
 }
 
 #[test]
+fn a_function_is_taken_and_given() -> Result<(), Error> {
+    let mut machine = Machine::new(BOARD)?;
+    let (a, b) = (machine.guest("a")?, machine.guest("b")?);
+    assert_eq!(number(machine.give("1.0", b, 5)), 602);
+    machine.write(a, config(0, 0x3c), 1, 0x5a)?;
+    machine.take(a, 0)?;
+    assert_eq!(machine.read(a, config(0, 0), 4)?, 0xffff_ffff);
+    assert_eq!(number(machine.take(a, 0)), 601);
+    assert_eq!(number(machine.take(a, 32)), 303);
+    assert_eq!(number(machine.take(Guest::of_index(2), 0)), 902);
+    assert_eq!(number(machine.give("1.0", a, 1)), 602);
+    machine.give("1.0", b, 5)?;
+    assert_eq!(machine.read(b, config(5, 0), 4)?, 0x0001_1234);
+    assert_eq!(machine.read(b, config(5, 0x3c), 1)?, 0);
+    assert_eq!(number(machine.give("1.0", a, 0)), 602);
+    for path in ["", "2.0", "1.1", "1.0/", "01.0"] {
+        assert_eq!(number(machine.give(path, a, 0)), 303);
+    }
+    assert_eq!(number(machine.give("1.0", a, 32)), 303);
+    assert_eq!(number(machine.give("1.0", Guest::of_index(2), 0)), 902);
+    Ok(())
+}
+
+#[test]
 fn lines_have_replies() -> Result<(), Error> {
     let mut machine = Machine::new(BOARD)?;
     let mut reply = |line: &str| machine.run_line(line);
