@@ -1,9 +1,12 @@
-use Rattle.std.proofs.Common.{◌≡◌, ◌<◌, ℕ, List, Some, sym, subst, ◌∙◌, arith}
+use Rattle.std.proofs.Common.{◌≡◌, ◌<◌, ℕ, List, None, Some, refl, sym, subst, ◌∙◌, arith}
+use Rattle.model_guests.specs.World.{World}
 use Rattle.simulation.specs.declared.fault.Fault.{Fault}
 use Rattle.simulation.specs.declared.fault.Fault.TheVariants as fault
 use Rattle.simulation.specs.Faults.{number_of}
 use Rattle.board_check.specs.declared.style.Style.TheVariants.{Plain}
-use Rattle.simulation.specs.Choices.{IsTold}
+use Rattle.simulation.specs.Choices.{IsFit, IsTold}
+use Rattle.simulation.specs.Fitting.{IsVerdictTold}
+use Rattle.simulation.specs.Listing.{Declares}
 use Rattle.pciguest_c.specs.Checks.{board_name}
 use Rattle.pciguest_c.proofs.text.check_of.Goals as goal
 
@@ -32,6 +35,20 @@ nonzero fault.Write h = omega arith
 nonzero fault.Usage h = omega arith
 nonzero fault.BoardFile h = omega arith
 nonzero fault.WordMemory h = omega arith
+
+fit_of : (board old text : List ℕ)
+    → (w : World) × Declares board w × IsVerdictTold Plain board_name board w.board w.apertures None (Some old) (Some text)
+    → IsFit Plain board_name board (Some old) (Some text)
+fit_of board old text (w, declared, told) = record { world = w; declared = declared; told = told }
+
+pub returns-in-Ok-clause-told : goal.returns-in-Ok-clause-told
+returns-in-Ok-clause-told c =
+    let text = c.check.new.writer.bytes.items in
+    let Fit : List ℕ → Type 0 = λ old. IsFit Plain board_name c.args.board.now (Some old) (Some text) in
+    record {
+      fit = λ _. subst Fit c.new.ensures.items (fit_of c.args.board.now c.new.result.items text c.in-Ok.ensures.fits);
+      told = λ no. absurd (no refl);
+    }
 
 pub returns-else-number-eq-FILE_MEMORY-clause-told : goal.returns-else-number-eq-FILE_MEMORY-clause-told
 returns-else-number-eq-FILE_MEMORY-clause-told c =
