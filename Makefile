@@ -98,8 +98,8 @@ hostile: pciguest
 # states, and what an audit says of them. make fuzz SEED=.. begins with another board.
 SEED := 1
 fuzz: pciguest
-	@$(PROVE) lone_answers
-	@python3 tests/fuzz/fuzz.py ./pciguest --lone crates/lone_answers/out/lone_answers --boards 850 --seed $(SEED)
+	@$(PROVE) test_lone_answers
+	@python3 tests/fuzz/fuzz.py ./pciguest --lone crates/test_lone_answers/out/test_lone_answers --boards 850 --seed $(SEED)
 	@python3 tests/fuzz/mistakes.py ./pciguest --files 3000 --seed $(SEED)
 	@python3 tests/fuzz/audit.py ./pciguest --states 2000 --seed $(SEED)
 

@@ -157,7 +157,7 @@ done
 # with '== list BOARD: TITLE' and has rows 'OLD | NEW | FAULT', each of a board that is refused. NEW stands in the place
 # where OLD stood first in the board's file, as it does after a row 'with OLD | NEW' for the whole section. A board lies in
 # tests/rows or among the examples; where the guests of the board are in a file BOARD.guests, lone guests answer its scripts too.
-lone=$top/crates/lone_answers/out/lone_answers
+lone=$top/crates/test_lone_answers/out/test_lone_answers
 
 # put OLD NEW FROM TO: one text in the place of another
 put() {

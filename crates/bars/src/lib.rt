@@ -14,6 +14,3 @@ pub use decl::{BarDecl, BarFault, Kind, Space};
 pub use lanes::enabled_bits;
 pub use region::Region;
 pub use sizing::size_of_mask;
-
-#[cfg(test)]
-mod tests;

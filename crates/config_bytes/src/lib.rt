@@ -6,8 +6,6 @@ ghost use Rattle.config_bytes.specs.OffsetLaws.{FileOfAppend, FileOfOffsets, Fil
 mod cell;
 mod cells;
 mod lanes;
-#[cfg(test)]
-mod tests;
 
 pub use cell::{Cell, CellFault};
 pub use cells::{Cells, has_distinct_offsets};

@@ -6,7 +6,7 @@
 mod landings;
 
 use crate::landings::compare_landings;
-use fake_streams::FakeReader;
+use test_streams::FakeReader;
 use simulation::{Fault, OutputStream, Style, board_bytes, check, drive, list, whole};
 use std::alloc::Global;
 use std::io;

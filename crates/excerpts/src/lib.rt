@@ -5,7 +5,5 @@ mod characters;
 mod cuts;
 mod line_parts;
 mod rows;
-#[cfg(test)]
-mod tests;
 
 pub use rows::{push_excerpt, push_line};

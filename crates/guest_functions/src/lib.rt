@@ -10,9 +10,6 @@ mod word;
 pub use latch::{Select, selection};
 pub use virtual_function::VirtualFunction;
 
-#[cfg(test)]
-mod tests;
-
 /// The board's file with a guest's own copies put in: what it reads is the copies with the bytes that
 /// are handed on, and a write or a raise of it is one of each.
 pub fn copied_files()

@@ -22,8 +22,6 @@ mod by_index;
 mod host;
 mod latch;
 mod route;
-#[cfg(test)]
-mod tests;
 
 pub use bars::Space;
 pub use bridge_forward::{Claim, Located, Path, RangesNow};

@@ -1,4 +1,4 @@
-use fake_streams::FakeWriter;
+use test_streams::FakeWriter;
 use std::test::Fail;
 use streams::{BufferedWriter, Writer, write_all};
 

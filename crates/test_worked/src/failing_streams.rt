@@ -1,4 +1,4 @@
-use fake_streams::{FakeReader, FakeWriter};
+use test_streams::{FakeReader, FakeWriter};
 use simulation::{Fault, demo, list};
 use std::process::Abort;
 use std::test::Fail;

@@ -9,8 +9,6 @@ mod place;
 mod scanning;
 mod shapes;
 mod steps;
-#[cfg(test)]
-mod tests;
 
 pub use confirmation::Places;
 pub use line_numbers::line_of;

@@ -1,5 +1,5 @@
 //! The worked values of a Status register, and cells in any order up to the last offset.
-use super::*;
+use config_bytes::{Cell, Cells, enables_of, from_lanes, into_lanes};
 use std::test::Fail;
 
 #[test]

@@ -1,6 +1,6 @@
 use Rattle.std.proofs.Common.{ap, ◌∙◌}
-use Rattle.test_boards.proofs.FirstBytes.{row_is_placed}
-use Rattle.test_boards.proofs.first_bytes.first_bytes_are_clear.Goals as goal
+use Rattle.test_parts.proofs.FirstBytes.{row_is_placed}
+use Rattle.test_parts.proofs.first_bytes.first_bytes_are_clear.Goals as goal
 
 pub first_byte-requires-clause-placed : goal.first_byte-requires-clause-placed
 first_byte-requires-clause-placed g c =

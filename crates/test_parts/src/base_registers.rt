@@ -1,4 +1,4 @@
-use crate::{BarDecl, Bars, Kind, Space, size_of_mask};
+use bars::{BarDecl, Bars, Kind, Space, size_of_mask};
 
 #[test]
 fn sizes(rt: HostRuntime) {

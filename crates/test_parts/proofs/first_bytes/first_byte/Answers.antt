@@ -7,8 +7,8 @@ use Rattle.model_set_up.specs.PlacedRegions.{pool_space}
 use Rattle.window_packing.specs.Plans.{named_pool}
 use Rattle.window_packing.specs.declared.pool.Pool.{Pool}
 use Rattle.window_packing.specs.declared.pool.Pool.TheVariants as pool
-use Rattle.test_boards.proofs.FirstBytes.{ordinary_port, own_byte}
-use Rattle.test_boards.proofs.first_bytes.first_byte.Goals as goal
+use Rattle.test_parts.proofs.FirstBytes.{ordinary_port, own_byte}
+use Rattle.test_parts.proofs.first_bytes.first_byte.Goals as goal
 
 pub returns-in-Io-clause-own : goal.returns-in-Io-clause-own
 returns-in-Io-clause-own g c =

@@ -1,14 +1,14 @@
 //! Cycles, windows, claims and ports of one board, from reset on.
 ghost use Rattle.std.specs.Prelude.{◌<◌, length};
 
-use super::*;
-use bars::{BarDecl, Kind, Space};
+use bars::{BarDecl, Kind};
 use bridge_forward::{Bus, Decl, Declared, Part, Path, lawful_places};
 use config_bytes::{Cell, Cells};
 use headers::{
     Aperture, Apertures, Bridge, BridgeDecl, EndpointDecl, EndpointValues, IoDecode, PrefDecode,
     Region, io_window, mem_window, pref_window,
 };
+use host_bridge::{Bdf, Claim, Host, Space, TreeWalk};
 use std::alloc::Global;
 use std::process::Abort;
 use std::test::Fail;

@@ -1,4 +1,4 @@
-use crate::{push_excerpt, push_line};
+use excerpts::{push_excerpt, push_line};
 use value_places::{Place, line_of};
 
 /// The excerpt of the part from one offset to another, or the empty text.

@@ -1,4 +1,4 @@
-//! What lone guests answer to a script: `lone_answers GUESTS < SCRIPT`, where GUESTS is a file of
+//! What lone guests answer to a script: `test_lone_answers GUESTS < SCRIPT`, where GUESTS is a file of
 //! guests with their endpoints. It is for random tests alone, and with no word it prints nothing.
 //!
 //! A read by the host has no answer here, and makes no output line.
@@ -8,7 +8,7 @@ mod guests;
 
 use crate::guests::{Declared, read_guests};
 use accesses::Names;
-use lone_guest::LoneGuests;
+use test_lone_guest::LoneGuests;
 use std::alloc::Global;
 use std::io::{BufWriter, Read, Write};
 use std::process::ExitCode;

@@ -1,6 +1,6 @@
 use Rattle.std.proofs.Common.{ap}
 use Rattle.model_board.specs.Routing.{routing}
-use Rattle.test_boards.proofs.claims.finds.Goals as goal
+use Rattle.test_parts.proofs.claims.finds.Goals as goal
 
 -- the host is the one that the table was made for
 pub claimant-requires-in-loop-want : goal.claimant-requires-in-loop-want

@@ -1,6 +1,6 @@
-use crate::{Select, VirtualFunction, selection};
 use address_latch::Latch;
 use bars::{BarDecl, Kind, Space};
+use guest_functions::{Select, VirtualFunction, selection};
 
 /// Command, its read-only bits, the bytes that are handed on, and what is decoded.
 #[test]

@@ -10,7 +10,7 @@
 use accesses::Names;
 use arrayvec::ArrayString;
 use bars::Kind;
-use lone_guest::{LoneBlock, LoneEndpoint, LoneRegion, Register};
+use test_lone_guest::{LoneBlock, LoneEndpoint, LoneRegion, Register};
 use std::alloc::Global;
 
 /// Names of guests, and their endpoints.
