@@ -8,7 +8,7 @@ use Rattle.std.proofs.lemmas.Slice.{take-put_mid}
 use borrow.Rule.Slice.PartMut.{put_mid}
 use Rattle.model_guests.specs.Text.{Text}
 use Rattle.model_guests.specs.Grammar.{is_long}
-use Rattle.line_runs.specs.Pieces.{Held, IsBefore, rest_of}
+use Rattle.line_runs.specs.Pieces.{Pending, IsBefore, rest_of}
 use Rattle.line_runs.proofs.LongLines.{is_long_of, longer, long_before, none_before}
 
 -- the front of a buffer of which the part from a on was written
@@ -49,12 +49,12 @@ passes long before rest is h = longer before rest (long_before long before is h)
 pub passes_rest : (before text : Text) (count : ℕ) → count ≤ length text → 200 < count → IsTrue (is_long (before ++ rest_of count text))
 passes_rest before text count few more = is_long_of (before ++ rest_of count text) (omega (arith, length_rest count text few, length-append before (rest_of count text)))
 
--- how the rest of a piece is held
-abbrev pub Kept : Held → Text → Text → Type 0
+-- how the rest of a piece is pending
+abbrev pub Kept : Pending → Text → Text → Type 0
 Kept h before rest = (passed : Text) × IsBefore h.long passed × (passed ++ h.text ≡ before ++ rest)
 
-pub kept_none : (before rest : Text) (h : Held) → h ≡ record { text = []; long = true } → IsTrue (is_long (before ++ rest)) → Kept h before rest
-kept_none before rest h e long = subst (λ (x : Held). Kept x before rest) (sym e) (before ++ rest, long, append-nil (before ++ rest))
+pub kept_none : (before rest : Text) (h : Pending) → h ≡ record { text = []; long = true } → IsTrue (is_long (before ++ rest)) → Kept h before rest
+kept_none before rest h e long = subst (λ (x : Pending). Kept x before rest) (sym e) (before ++ rest, long, append-nil (before ++ rest))
 
-pub kept_last : (before rest : Text) (long : Bool) (h : Held) → h ≡ record { text = rest; long = false } → long ≡ false → IsBefore long before → Kept h before rest
-kept_last before rest long h e is passed = subst (λ (x : Held). Kept x before rest) (sym e) (before, none_before long before is passed, refl)
+pub kept_last : (before rest : Text) (long : Bool) (h : Pending) → h ≡ record { text = rest; long = false } → long ≡ false → IsBefore long before → Kept h before rest
+kept_last before rest long h e is passed = subst (λ (x : Pending). Kept x before rest) (sym e) (before, none_before long before is passed, refl)

@@ -248,7 +248,7 @@ stops_kept {S} p w text old mid new end s kept = record {
   events = s.events;
 }
 
--- what is left of the text may be held in another way
+-- what is left of the text may be pending in another way
 pub reaches_held : {S : Type 0} (p : Protocol S) (w : S) (text rest kept : Text) (long next : Bool) (old new : Option Text) (end : S)
     → (r : Reaches p w text rest long old new end) → HasNoEnd rest → (before : Text) → IsBefore next before → before ++ kept ≡ r.before ++ rest
     → Reaches p w text kept next old new end

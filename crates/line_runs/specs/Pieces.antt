@@ -1,5 +1,5 @@
 -- What a run in pieces holds of its lines, how far it came, and where it stopped.
---     Held      bytes that were read and are not run yet, and whether a long line's bytes before them were passed over
+--     Pending      bytes that were read and are not run yet, and whether a long line's bytes before them were passed over
 --     IsBefore long before      what was read of the first line before them
 --     rest_of n text      the last n bytes of a text
 --     with_more text more      a text and the longer one behind it, if there is one
@@ -16,7 +16,7 @@ use Rattle.model_guests.specs.Text.{Text, lines, text_of_lines}
 use Rattle.model_guests.specs.Grammar.{is_long}
 use Rattle.model_guests.specs.LineRuns.{Protocol, output, after_lines, HasNoEnd, IsStopped}
 
-pub record Held : Type 0 where
+pub record Pending : Type 0 where
   pub text : Text
   pub long : Bool
 

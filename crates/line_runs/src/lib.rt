@@ -2,7 +2,7 @@
 #![tactic(auto)]
 
 mod answers;
-mod held;
+mod pending;
 mod pieces;
 mod running;
 

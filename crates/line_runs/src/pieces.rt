@@ -10,7 +10,7 @@ ghost use Rattle.line_runs.specs.Faults.{stop_failures_of};
 ghost use Rattle.line_runs.specs.Pieces.{IsBefore, rest_of, with_more, Reaches, StopsWithin, LacksWithin};
 
 use crate::answers::Answers;
-use crate::held::Held;
+use crate::pending::Pending;
 use lines::{LineText, line_feed_in};
 use streams::{Failed, Writer, write_all};
 
@@ -172,24 +172,24 @@ fn run_lines<L, S: Answers<L>, W: Writer>(
     })
 }
 
-/// Runs the lines that line feeds end among what is held, and keeps the rest. What was written is
+/// Runs the lines that line feeds end among what is pending, and keeps the rest. What was written is
 /// flushed, so that it can be read before more of the script is asked for.
 pub(crate) fn run_piece<L, S: Answers<L>, W: Writer>(
     server: &mut S,
-    held: &mut Held,
+    pending: &mut Pending,
     writer: &mut W,
 ) -> Result<(), Stop>
     requires { W.failures writer.old < 2 ^ 64 - 1 }
-    ensures few { OnOk result (length held.new.text ≤ 200) }
-    ensures rest { OnOk result (HasNoEnd held.new.text) }
-    ensures runs { OnOk result ((before : Text) → HasNoEnd before → IsBefore held.old.long before →
-        Reaches S.protocol server.old (before ++ held.old.text) held.new.text held.new.long
+    ensures few { OnOk result (length pending.new.text ≤ 200) }
+    ensures rest { OnOk result (HasNoEnd pending.new.text) }
+    ensures runs { OnOk result ((before : Text) → HasNoEnd before → IsBefore pending.old.long before →
+        Reaches S.protocol server.old (before ++ pending.old.text) pending.new.text pending.new.long
         (W.written writer.old) (W.written writer.new) server.new) }
-    ensures stops { IsErrOf result Stop.Failed → (before : Text) → HasNoEnd before → IsBefore held.old.long before →
-        StopsWithin S.protocol server.old (before ++ held.old.text)
+    ensures stops { IsErrOf result Stop.Failed → (before : Text) → HasNoEnd before → IsBefore pending.old.long before →
+        StopsWithin S.protocol server.old (before ++ pending.old.text)
         (W.written writer.old) (W.written writer.new) server.new }
-    ensures lacks { IsErrOf result Stop.Memory → (before : Text) → HasNoEnd before → IsBefore held.old.long before →
-        LacksWithin S.protocol server.old (before ++ held.old.text)
+    ensures lacks { IsErrOf result Stop.Memory → (before : Text) → HasNoEnd before → IsBefore pending.old.long before →
+        LacksWithin S.protocol server.old (before ++ pending.old.text)
         (W.written writer.old) (W.written writer.new) server.new }
     ensures memory { IsErrOf result Stop.Memory → S.TakesMemory }
     ensures flushed { OnOk result ((W.flushed writer.new ≡ W.written writer.new) ⊎ (writer.new ≡ writer.old)) }
@@ -197,11 +197,11 @@ pub(crate) fn run_piece<L, S: Answers<L>, W: Writer>(
         (W.flushed writer.new ≡ W.written writer.new) ⊎ (writer.new ≡ writer.old) }
     ensures failures { W.failures writer.new ≡ W.failures writer.old + stop_failures_of result }
 {
-    let left = run_lines(server, held.text(), held.is_long(), writer)?;
+    let left = run_lines(server, pending.text(), pending.is_long(), writer)?;
     if flush_if(writer, left.wrote).is_err() {
         return Err(Stop::Failed);
     }
-    held.keep(left.length, left.long);
+    pending.keep(left.length, left.long);
     Ok(())
 }
 
@@ -248,27 +248,27 @@ fn answer_last<L, S: Answers<L>, W: Writer>(
 /// Runs what is left at the end of a script as its last line, and flushes.
 pub(crate) fn run_last<L, S: Answers<L>, W: Writer>(
     server: &mut S,
-    held: &Held,
+    pending: &Pending,
     writer: &mut W,
 ) -> Result<(), Stop>
     requires { W.failures writer.old < 2 ^ 64 - 1 }
-    ensures output { OnOk result ((before : Text) → IsBefore held.now.long before → HasNoEnd (before ++ held.now.text) →
+    ensures output { OnOk result ((before : Text) → IsBefore pending.now.long before → HasNoEnd (before ++ pending.now.text) →
         Appends (W.written writer.old) (W.written writer.new)
-        (output S.protocol server.old (lines (before ++ held.now.text)))) }
-    ensures after { OnOk result ((before : Text) → IsBefore held.now.long before → HasNoEnd (before ++ held.now.text) →
-        server.new ≡ after_lines S.protocol server.old (lines (before ++ held.now.text))) }
+        (output S.protocol server.old (lines (before ++ pending.now.text)))) }
+    ensures after { OnOk result ((before : Text) → IsBefore pending.now.long before → HasNoEnd (before ++ pending.now.text) →
+        server.new ≡ after_lines S.protocol server.old (lines (before ++ pending.now.text))) }
     ensures flushed { OnOk result (W.flushed writer.new ≡ W.written writer.new) }
-    ensures stopped { IsErrOf result Stop.Failed → (before : Text) → IsBefore held.now.long before →
-        HasNoEnd (before ++ held.now.text) →
-        IsStopped S.protocol server.old (lines (before ++ held.now.text))
+    ensures stopped { IsErrOf result Stop.Failed → (before : Text) → IsBefore pending.now.long before →
+        HasNoEnd (before ++ pending.now.text) →
+        IsStopped S.protocol server.old (lines (before ++ pending.now.text))
         (W.written writer.old) (W.written writer.new) server.new }
     ensures lacking { IsErrOf result Stop.Memory → (server.new ≡ server.old) × (writer.new ≡ writer.old) }
-    ensures some { IsErrOf result Stop.Memory → (before : Text) → IsBefore held.now.long before →
-        0 < length (before ++ held.now.text) }
+    ensures some { IsErrOf result Stop.Memory → (before : Text) → IsBefore pending.now.long before →
+        0 < length (before ++ pending.now.text) }
     ensures memory { IsErrOf result Stop.Memory → S.TakesMemory }
     ensures failures { W.failures writer.new ≡ W.failures writer.old + stop_failures_of result }
 {
-    answer_last(server, held.text(), held.is_long(), writer)?;
+    answer_last(server, pending.text(), pending.is_long(), writer)?;
     if writer.flush().is_err() {
         return Err(Stop::Failed);
     }

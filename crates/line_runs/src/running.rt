@@ -8,7 +8,7 @@ ghost use Rattle.line_runs.specs.Faults.{read_failures_of, write_failures_of, nu
 ghost use Rattle.line_runs.specs.Pieces.{Reaches, IsStoppedIn, IsLackingIn};
 
 use crate::answers::Answers;
-use crate::held::Held;
+use crate::pending::Pending;
 use crate::pieces::{Stop, run_last, run_piece};
 use streams::{Reader, Writer};
 use thiserror::Error;
@@ -53,19 +53,19 @@ impl From<Stop> for RunFault {
 /// Runs the lines of a script that line feeds end, as they are read, and holds what is left at its end.
 fn run_pieces<L, S: Answers<L>, R: Reader, W: Writer>(
     server: &mut S,
-    held: &mut Held,
+    pending: &mut Pending,
     reader: &mut R,
     writer: &mut W,
 ) -> Result<(), RunFault>
-    requires empty { held.old ≡ record { text = []; long = false } }
+    requires empty { pending.old ≡ record { text = []; long = false } }
     requires reader_has_room { R.failures reader.old < 2 ^ 64 - 1 }
     requires writer_has_room { W.failures writer.old < 2 ^ 64 - 1 }
     ensures reads { R.failures reader.new ≡ R.failures reader.old + read_failures_of result }
     ensures writes { W.failures writer.new ≡ W.failures writer.old + write_failures_of result }
     ensures end { OnOk result (IsAtEnd (R.rest reader.new)) }
-    ensures rest { OnOk result (HasNoEnd held.new.text) }
+    ensures rest { OnOk result (HasNoEnd pending.new.text) }
     ensures runs { OnOk result ((read : Text) × Consumes (R.rest reader.old) (R.rest reader.new) read
-        × Reaches S.protocol server.old read held.new.text held.new.long
+        × Reaches S.protocol server.old read pending.new.text pending.new.long
         (W.written writer.old) (W.written writer.new) server.new) }
     ensures cut { IsErrOf result RunFault.Read →
         IsCut S.protocol server.old (R.rest reader.old) (R.rest reader.new)
@@ -82,13 +82,13 @@ fn run_pieces<L, S: Answers<L>, R: Reader, W: Writer>(
         (W.flushed writer.new ≡ W.written writer.new) ⊎ (writer.new ≡ writer.old) }
 {
     loop {
-        let Ok(more) = held.fill(reader) else {
+        let Ok(more) = pending.fill(reader) else {
             return Err(RunFault::Read);
         };
         if !more {
             return Ok(());
         }
-        run_piece(server, held, writer)?;
+        run_piece(server, pending, writer)?;
     }
 }
 
@@ -134,8 +134,8 @@ pub fn run<L, S: Answers<L>, R: Reader, W: Writer>(
         (W.flushed writer.new ≡ W.written writer.new) ⊎ (writer.new ≡ writer.old) }
     ensures memory { IsErrOf result RunFault.Memory → S.TakesMemory }
 {
-    let mut held = Held::new();
-    run_pieces(server, &mut held, reader, writer)?;
-    run_last(server, &held, writer)?;
+    let mut pending = Pending::new();
+    run_pieces(server, &mut pending, reader, writer)?;
+    run_last(server, &pending, writer)?;
     Ok(())
 }

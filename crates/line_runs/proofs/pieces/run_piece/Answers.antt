@@ -28,18 +28,18 @@ pub returns-clause-runs : goal.returns-clause-runs
 returns-clause-runs g c = λ before clean passed.
     let w = c.args.server.now in
     let left = c.in_ok-left.left in
-    let held = c.args.held.now.text in
-    let rest = rest_of left.length held in
+    let pending = c.args.pending.now.text in
+    let rest = rest_of left.length pending in
     let end = c.run_lines.new.server in
     let old = g.W.Writer.written c.args.writer.now in
     let mid = g.W.Writer.written c.run_lines.new.writer in
     let new = g.W.Writer.written c.flush_if.new.writer in
     let run = (c.in_ok-left.ensures.runs before clean (subst (λ (b : Bool). IsBefore b before) (sym c.is_long.ensures) passed)).0 in
-    let here : Reaches g.S.Answers.protocol w (before ++ held) rest left.long old mid end =
+    let here : Reaches g.S.Answers.protocol w (before ++ pending) rest left.long old mid end =
     subst (λ (t : Text). Reaches g.S.Answers.protocol w (before ++ t) (rest_of left.length t) left.long old mid end) c.text.ensures run in
-    let flushed : Reaches g.S.Answers.protocol w (before ++ held) rest left.long old new end = reaches_kept g.S.Answers.protocol w (before ++ held) rest left.long old mid new end here c.flush_if.ensures.bytes in
+    let flushed : Reaches g.S.Answers.protocol w (before ++ pending) rest left.long old new end = reaches_kept g.S.Answers.protocol w (before ++ pending) rest left.long old mid new end here c.flush_if.ensures.bytes in
     let kept = c.keep.ensures.text flushed.before flushed.passed in
-    reaches_held g.S.Answers.protocol w (before ++ held) rest c.keep.new.self.text left.long c.keep.new.self.long old new end flushed
+    reaches_held g.S.Answers.protocol w (before ++ pending) rest c.keep.new.self.text left.long c.keep.new.self.long old new end flushed
     (subst (λ (t : Text). HasNoEnd (rest_of left.length t)) c.text.ensures c.in_ok-left.ensures.rest) kept.0 kept.1 kept.2
 
 pub returns-clause-flushed : goal.returns-clause-flushed

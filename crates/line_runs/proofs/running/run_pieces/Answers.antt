@@ -2,7 +2,7 @@ use Rattle.std.proofs.Common.{◌≡◌, ◌≤◌, ◌⊎◌, inl, inr, ◌∙�
 use Rattle.std.proofs.KnownBytes.{Consumes-nil, Consumes-trans, Consumes-kept}
 use Rattle.model_guests.specs.Text.{Text}
 use Rattle.model_guests.specs.LineRuns.{Protocol, HasNoEnd}
-use Rattle.line_runs.specs.Pieces.{Held, Reaches}
+use Rattle.line_runs.specs.Pieces.{Pending, Reaches}
 use Rattle.line_runs.proofs.Reaching.{reaches_none, reaches_more, reaches_on, stops_on, lacks_on}
 use Rattle.line_runs.proofs.Endings.{cut_of, stopped_of, lacking_of}
 use Rattle.line_runs.proofs.Results.{write_failed, lacked}
@@ -21,9 +21,9 @@ loop-more-init g c =
     let old = g.W.Writer.written c.args.writer.now in
     let empty = sym c.requires.empty in
     record {
-      runs = ([], Consumes-nil (g.R.Reader.rest c.args.reader.now), subst (λ (h : Held). Reaches g.S.Answers.protocol w [] h.text h.long old old w) empty (reaches_none g.S.Answers.protocol w old));
-      rest = subst (λ (h : Held). HasNoEnd h.text) empty refl;
-      few = subst (λ (h : Held). length h.text ≤ 200) empty (omega arith);
+      runs = ([], Consumes-nil (g.R.Reader.rest c.args.reader.now), subst (λ (h : Pending). Reaches g.S.Answers.protocol w [] h.text h.long old old w) empty (reaches_none g.S.Answers.protocol w old));
+      rest = subst (λ (h : Pending). HasNoEnd h.text) empty refl;
+      few = subst (λ (h : Pending). length h.text ≤ 200) empty (omega arith);
       flushed = inr refl;
       reads = refl;
       writes = refl;
@@ -35,15 +35,15 @@ returns-in_default-clause-cut g c = λ is.
     let far = g.R.Reader.rest c.loop-more.reader in
     let end = g.R.Reader.rest c.fill.new.reader in
     let runs = c.loop-more.invariant.runs in
-    cut_of g.S.Answers.protocol c.args.server.now start end runs.0 c.loop-more.held.text c.loop-more.held.long (g.W.Writer.written c.args.writer.now) (g.W.Writer.written c.loop-more.writer) c.loop-more.server
+    cut_of g.S.Answers.protocol c.args.server.now start end runs.0 c.loop-more.pending.text c.loop-more.pending.long (g.W.Writer.written c.args.writer.now) (g.W.Writer.written c.loop-more.writer) c.loop-more.server
     (Consumes-kept start far end runs.0 runs.1 c.in_default.ensures.kept) runs.2 c.loop-more.invariant.rest
 
 -- what was read with the bytes that came
-filled : {S : Type 0} (p : Protocol S) (w : S) (read more : Text) (old_held new_held : Held) (old mid : Option Text) (end : S)
+filled : {S : Type 0} (p : Protocol S) (w : S) (read more : Text) (old_held new_held : Pending) (old mid : Option Text) (end : S)
     → Reaches p w read old_held.text old_held.long old mid end → new_held ≡ record old_held { text = old_held.text ++ more }
     → Reaches p w (read ++ more) new_held.text new_held.long old mid end
 filled p w read more old_held new_held old mid end r e =
-    subst (λ (h : Held). Reaches p w (read ++ more) h.text h.long old mid end) (sym e) (reaches_more p w read old_held.text more old_held.long old mid end r)
+    subst (λ (h : Pending). Reaches p w (read ++ more) h.text h.long old mid end) (sym e) (reaches_more p w read old_held.text more old_held.long old mid end r)
 
 pub returns-then-not-more-clause-runs : goal.returns-then-not-more-clause-runs
 returns-then-not-more-clause-runs g c =
@@ -54,7 +54,7 @@ returns-then-not-more-clause-runs g c =
     let came = c.in-Ok.ensures.bytes in (
       runs.0 ++ came.0,
       Consumes-trans start far end runs.0 came.0 runs.1 came.1,
-      filled g.S.Answers.protocol c.args.server.now runs.0 came.0 c.loop-more.held c.fill.new.self (g.W.Writer.written c.args.writer.now) (g.W.Writer.written c.loop-more.writer) c.loop-more.server runs.2 came.2,
+      filled g.S.Answers.protocol c.args.server.now runs.0 came.0 c.loop-more.pending c.fill.new.self (g.W.Writer.written c.args.writer.now) (g.W.Writer.written c.loop-more.writer) c.loop-more.server runs.2 came.2,
     )
 
 pub returns-in_err-run_piece-clause-stopped : goal.returns-in_err-run_piece-clause-stopped
@@ -68,11 +68,11 @@ returns-in_err-run_piece-clause-stopped g c = λ is script known.
     let new = g.W.Writer.written c.run_piece.new.writer in
     let runs = c.loop-more.invariant.runs in
     let came = c.in-Ok.ensures.bytes in
-    let held = c.fill.new.self in
-    let run = filled g.S.Answers.protocol w runs.0 came.0 c.loop-more.held held old mid c.loop-more.server runs.2 came.2 in
+    let pending = c.fill.new.self in
+    let run = filled g.S.Answers.protocol w runs.0 came.0 c.loop-more.pending pending old mid c.loop-more.server runs.2 came.2 in
     let stops = c.in_err-run_piece.ensures.stops (ap Err (write_failed c.from_residual.result _ c.from_residual.ensures.1 is)) in
     stopped_of g.S.Answers.protocol w start end (runs.0 ++ came.0) script old new c.run_piece.new.server (Consumes-trans start far end runs.0 came.0 runs.1 came.1)
-    (stops_on g.S.Answers.protocol w (runs.0 ++ came.0) held.text held.long old mid new c.loop-more.server c.run_piece.new.server run (stops run.before run.clean run.passed)) known
+    (stops_on g.S.Answers.protocol w (runs.0 ++ came.0) pending.text pending.long old mid new c.loop-more.server c.run_piece.new.server run (stops run.before run.clean run.passed)) known
 
 pub returns-in_err-run_piece-clause-lacking : goal.returns-in_err-run_piece-clause-lacking
 returns-in_err-run_piece-clause-lacking g c = λ is script known.
@@ -85,11 +85,11 @@ returns-in_err-run_piece-clause-lacking g c = λ is script known.
     let new = g.W.Writer.written c.run_piece.new.writer in
     let runs = c.loop-more.invariant.runs in
     let came = c.in-Ok.ensures.bytes in
-    let held = c.fill.new.self in
-    let run = filled g.S.Answers.protocol w runs.0 came.0 c.loop-more.held held old mid c.loop-more.server runs.2 came.2 in
+    let pending = c.fill.new.self in
+    let run = filled g.S.Answers.protocol w runs.0 came.0 c.loop-more.pending pending old mid c.loop-more.server runs.2 came.2 in
     let lacks = c.in_err-run_piece.ensures.lacks (ap Err (lacked c.from_residual.result _ c.from_residual.ensures.1 is)) in
     lacking_of g.S.Answers.protocol w start end (runs.0 ++ came.0) script old new c.run_piece.new.server (Consumes-trans start far end runs.0 came.0 runs.1 came.1)
-    (lacks_on g.S.Answers.protocol w (runs.0 ++ came.0) held.text held.long old mid new c.loop-more.server c.run_piece.new.server run (lacks run.before run.clean run.passed)) known
+    (lacks_on g.S.Answers.protocol w (runs.0 ++ came.0) pending.text pending.long old mid new c.loop-more.server c.run_piece.new.server run (lacks run.before run.clean run.passed)) known
 
 pub returns-in_err-run_piece-clause-lacking_flushed : goal.returns-in_err-run_piece-clause-lacking_flushed
 returns-in_err-run_piece-clause-lacking_flushed g c = λ is.
@@ -107,14 +107,14 @@ loop-more-preserved g c =
     let new = g.W.Writer.written c.run_piece.new.writer in
     let runs = c.loop-more.invariant.runs in
     let came = c.in-Ok.ensures.bytes in
-    let held = c.fill.new.self in
-    let run = filled g.S.Answers.protocol w runs.0 came.0 c.loop-more.held held old mid c.loop-more.server runs.2 came.2 in
+    let pending = c.fill.new.self in
+    let run = filled g.S.Answers.protocol w runs.0 came.0 c.loop-more.pending pending old mid c.loop-more.server runs.2 came.2 in
     let more = c.in_ok-run_piece.ensures.runs in
     record {
       runs = (
         runs.0 ++ came.0,
         Consumes-trans start far end runs.0 came.0 runs.1 came.1,
-        reaches_on g.S.Answers.protocol w (runs.0 ++ came.0) held.text c.run_piece.new.held.text held.long c.run_piece.new.held.long old mid new c.loop-more.server c.run_piece.new.server
+        reaches_on g.S.Answers.protocol w (runs.0 ++ came.0) pending.text c.run_piece.new.pending.text pending.long c.run_piece.new.pending.long old mid new c.loop-more.server c.run_piece.new.server
             run (more run.before run.clean run.passed),
       );
       rest = c.in_ok-run_piece.ensures.rest;

@@ -3,8 +3,8 @@ use lib.Seq.{paste}
 use Rattle.std.proofs.lemmas.List.{drop-take}
 use Rattle.std.proofs.lemmas.List.Edits.{take-paste}
 use Rattle.model_guests.specs.Text.{Text}
-use Rattle.line_runs.specs.Pieces.{Held, rest_of}
-use Rattle.line_runs.proofs.held.Held.keep_last.Goals as goal
+use Rattle.line_runs.specs.Pieces.{Pending, rest_of}
+use Rattle.line_runs.proofs.pending.Pending.keep_last.Goals as goal
 
 pub returns : goal.returns
 returns c =
@@ -12,8 +12,8 @@ returns c =
     let len = c.self.inside.length in
     let count = c.args.count in
     let from = len - count in
-    let held : c.args.self.now.text ≡ take len all = ap (λ (h : Held). h.text) (sym c.self.view_is) in
-    let size : length c.args.self.now.text ≡ len = ap length held ∙ length-take-le len all (omega (arith, c.self.invariant, c.self.told)) in
+    let pending : c.args.self.now.text ≡ take len all = ap (λ (h : Pending). h.text) (sym c.self.view_is) in
+    let size : length c.args.self.now.text ≡ len = ap length pending ∙ length-take-le len all (omega (arith, c.self.invariant, c.self.told)) in
     let same : count ≡ 0 + (len - from) = omega (arith, c.requires) in
     let part : count ≡ len - from = omega (arith, c.requires) in
     let whole : from + count ≡ len = omega (arith, c.requires) in
@@ -21,6 +21,6 @@ returns c =
     let moved : take count c.copy_within.new.self ≡ rest_of count c.args.self.now.text =
     ap (take count) c.copy_within.ensures.after ∙ ap (λ k. take k (paste all 0 (drop from all) (len - from))) same
     ∙ take-paste all 0 (drop from all) (len - from) (omega arith) (omega (arith, c.self.invariant, c.self.told, length-drop from all))
-    ∙ ap (λ k. take k (drop from all)) (sym part) ∙ sym (drop-take from count all) ∙ ap (λ k. drop from (take k all)) whole ∙ ap (drop from) (sym held)
+    ∙ ap (λ k. take k (drop from all)) (sym part) ∙ sym (drop-take from count all) ∙ ap (λ k. drop from (take k all)) whole ∙ ap (drop from) (sym pending)
     ∙ ap (λ k. drop k c.args.self.now.text) start in
-    ap (λ (t : Text). let h : Held = record { text = t; long = false } in h) moved
+    ap (λ (t : Text). let h : Pending = record { text = t; long = false } in h) moved

@@ -1,6 +1,6 @@
 use Rattle.std.proofs.Common.{◌-◌, length, arith}
 use Rattle.line_runs.proofs.Buffers.{read_behind}
-use Rattle.line_runs.proofs.held.read_from.Goals as goal
+use Rattle.line_runs.proofs.pending.read_from.Goals as goal
 
 pub returns-clause-bytes : goal.returns-clause-bytes
 returns-clause-bytes g c =

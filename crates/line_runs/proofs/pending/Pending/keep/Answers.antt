@@ -1,6 +1,6 @@
 use Rattle.line_runs.specs.Pieces.{rest_of}
 use Rattle.line_runs.proofs.Buffers.{passes, passes_rest, kept_none, kept_last}
-use Rattle.line_runs.proofs.held.Held.keep.Goals as goal
+use Rattle.line_runs.proofs.pending.Pending.keep.Goals as goal
 
 pub returns-then-long-clause-text : goal.returns-then-long-clause-text
 returns-then-long-clause-text c = λ before passed.

@@ -19,17 +19,17 @@ const SIZE: usize = 65536;
 /// The bytes that were read and are not run yet. Of a long line whose end was not read they are those
 /// after the ones that were passed over.
 #[derive(Drop)]
-pub(crate) struct Held {
+pub(crate) struct Pending {
     bytes: [u8; SIZE],
     length: usize,
     long: bool,
 }
 
-impl Model for Held {
+impl Model for Pending {
     ghost use Rattle.std.specs.Prelude.{◌≤◌, take};
-    ghost use Rattle.line_runs.specs.Pieces.{Held as HeldText};
+    ghost use Rattle.line_runs.specs.Pieces.{Pending as PendingText};
 
-    ghost Value = { HeldText };
+    ghost Value = { PendingText };
 
     ghost view = { λ h. record { text = take h.length h.bytes; long = h.long } };
 
@@ -52,18 +52,18 @@ fn read_from<R: Reader>(reader: &mut R, buffer: &mut [u8], start: usize) -> Resu
     reader.read(&mut buffer[start..])
 }
 
-impl Held {
-    pub(crate) fn new() -> Held
+impl Pending {
+    pub(crate) fn new() -> Pending
         ensures { result ≡ record { text = []; long = false } }
     {
-        Held {
+        Pending {
             bytes: [0; SIZE],
             length: 0,
             long: false,
         }
     }
 
-    /// The bytes that are held.
+    /// The bytes that are pending.
     pub(crate) fn text(&self) -> &[u8]
         ensures { result.now ≡ self.now.text }
     {
@@ -77,7 +77,7 @@ impl Held {
         self.long
     }
 
-    /// Reads on, behind what is held, and says whether some bytes came. None come only at the end.
+    /// Reads on, behind what is pending, and says whether some bytes came. None come only at the end.
     pub(crate) fn fill<R: Reader>(&mut self, reader: &mut R) -> Result<bool, Failed>
         requires few { length self.old.text ≤ 200 }
         requires room { R.failures reader.old < 2 ^ 64 - 1 }
@@ -93,7 +93,7 @@ impl Held {
         Ok(n > 0)
     }
 
-    /// Passes over all that is held.
+    /// Passes over all that is pending.
     fn pass_over(&mut self)
         ensures { self.new ≡ record { text = []; long = true } }
     {
