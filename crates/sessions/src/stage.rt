@@ -6,7 +6,7 @@ ghost use Rattle.line_runs.specs.Pieces.{with_more};
 ghost use Rattle.sessions.specs.Stages.{session_now, IsLawful, IsDriven};
 
 use crate::taking::{NotTaken, take};
-use crate::telling::refusal_text;
+use crate::telling::handover_refusal;
 use accesses::{GuestDecl, Reply};
 use host_bridge::Host;
 use lines::{LineText, push_named};
@@ -53,7 +53,7 @@ pub(crate) fn hand_over(
         Err(not_taken) => {
             let NotTaken { host, fault } = not_taken;
             *stage = Stage::Firmware(host, guests);
-            let told = refusal_text(alloc, &fault)?;
+            let told = handover_refusal(alloc, &fault)?;
             Ok(Some(told))
         }
     }

@@ -43,7 +43,7 @@ fn region_text(alloc: Global, closed: &ClosedRegion) -> Result<String, AllocErro
 }
 
 /// What is written of a fault, unless memory is out.
-pub(crate) fn refusal_text(alloc: Global, fault: &TakingFault) -> Result<String, AllocError>
+pub(crate) fn handover_refusal(alloc: Global, fault: &TakingFault) -> Result<String, AllocError>
     ensures text { IfOk result (λ t. string_bytes t ≡ handover_output (fault_told fault.now)) }
     ensures told { IfOk result (λ _. IsSome (fault_told fault.now)) }
 {
