@@ -9,8 +9,8 @@ use Rattle.model_guests.specs.Grammar.{HostRead, HostTarget, host_configuration,
 use Rattle.accesses.specs.declared.access.Access.{Access}
 use Rattle.accesses.specs.declared.access.At.{At}
 use Rattle.accesses.specs.declared.access.At.TheVariants as at
-use Rattle.accesses.specs.declared.access.Op.{Op}
-use Rattle.accesses.specs.declared.access.Op.TheVariants as op
+use Rattle.config_bytes.specs.declared.op.Op.{Op}
+use Rattle.config_bytes.specs.declared.op.Op.TheVariants as op
 use Rattle.accesses.specs.declared.access.Reply.{Reply}
 use Rattle.accesses.specs.declared.access.Reply.TheVariants as reply
 use Rattle.accesses.specs.Refusals.{number_of}

@@ -1,14 +1,7 @@
 //! What guests and the host ask, and what they are answered.
 use crate::refusal::Refusal;
+use config_bytes::Op;
 use paths::Bdf;
-
-/// What is done at a place.
-#[derive(Clone, Copy, Debug, PartialEq, Eq)]
-pub enum Op {
-    Read,
-    /// A write of the value's low bytes, as many as the access is wide.
-    Write(u32),
-}
 
 /// Where a guest's access goes, by the guest's own view. No number is in range for certain.
 #[derive(Clone, Copy, Debug, PartialEq, Eq)]

@@ -7,9 +7,9 @@ ghost use Rattle.accesses.specs.Accesses.{access_of, op_of, target_of, host_targ
 ghost use Rattle.accesses.specs.Refusals.{number_of};
 ghost use Rattle.accesses.specs.Replies.{IsRefusal, IsShown};
 
-use crate::access::{Access, At, HostAccess, HostAt, Op, Reply};
+use crate::access::{Access, At, HostAccess, HostAt, Reply};
 use crate::refusal::Refusal;
-use config_bytes::all_ones;
+use config_bytes::{Op, all_ones};
 
 /// The first of three checks that fails: the width is 1, 2 or 4; the number is a multiple of the width; it
 /// is in range.

@@ -6,8 +6,9 @@ mod checks;
 mod guest;
 mod refusal;
 
-pub use access::{Access, At, HostAccess, HostAt, Op, Reply};
+pub use access::{Access, At, HostAccess, HostAt, Reply};
 pub use checks::nothing;
+pub use config_bytes::Op;
 pub use guest::{GuestDecl, Names};
 pub use headers::Place;
 pub use paths::Bdf;

@@ -11,9 +11,10 @@ use Rattle.model_board.specs.Cycles.{secondary_register, taker, takes, is_route,
 use Rattle.bridge_forward.specs.declared.bus.Node.{Node}
 use Rattle.bridge_forward.specs.declared.function.Function.{Function}
 use Rattle.bridge_forward.specs.declared.function.Function.TheVariants.{Endpoint, Bridge}
-use Rattle.bridge_forward.specs.declared.cycle.Op.{Op}
-use Rattle.bridge_forward.specs.declared.cycle.Op.TheVariants.{Read, Write}
-use Rattle.bridge_forward.specs.Cycled.{is_write, after_access}
+use Rattle.config_bytes.specs.declared.op.Op.{Op}
+use Rattle.config_bytes.specs.declared.op.Op.TheVariants.{Read, Write}
+use Rattle.config_bytes.specs.Ops.{is_write}
+use Rattle.bridge_forward.specs.Cycled.{after_access}
 use Rattle.bridge_forward.specs.Functions.{decl_of, file_of, with_cells, endpoint_in}
 use Rattle.bridge_forward.specs.ResetAlone.{after_leaf_reset}
 use Rattle.bridge_forward.specs.Layout.{function_of, functions_of, paths_of}

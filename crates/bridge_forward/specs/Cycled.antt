@@ -1,17 +1,16 @@
 -- What a configuration cycle does, put on bus 0.
 --     reached_by fs c      the function that the cycle reaches
---     is_write      whether a cycle writes
 --     reply_to, after_access      what a function answers to the cycle, and its cells afterwards
 --     cycle_reply, after_cycle      the answer of the board, and its functions afterwards
-use Rattle.std.specs.Prelude.{List, ℕ, Bool, true, false, Option, option_map}
+use Rattle.std.specs.Prelude.{List, ℕ, Option, option_map}
 use Rattle.std.specs.Option.{option_map_or}
 use Rattle.model_registers.specs.Registers.{config, File, read, write}
 use Rattle.model_registers.specs.ByteEnables.{lanes}
 use Rattle.model_board.specs.Paths.{Part}
 use Rattle.model_board.specs.State.{BoardFunction, with_file}
 use Rattle.model_board.specs.Cycles.{reached_type0, reached_type1}
-use Rattle.bridge_forward.specs.declared.cycle.Op.{Op}
-use Rattle.bridge_forward.specs.declared.cycle.Op.TheVariants.{Read, Write}
+use Rattle.config_bytes.specs.declared.op.Op.{Op}
+use Rattle.config_bytes.specs.declared.op.Op.TheVariants.{Read, Write}
 use Rattle.bridge_forward.specs.declared.cycle.CycleType.{CycleType}
 use Rattle.bridge_forward.specs.declared.cycle.CycleType.TheVariants.{Type0, Type1}
 use Rattle.bridge_forward.specs.declared.cycle.Cycle.{Cycle}
@@ -23,10 +22,6 @@ reached_part fs (Type1 bus) t = reached_type1 fs bus t
 -- no function stands at device 16 or above
 abbrev pub reached_by : List BoardFunction → Cycle → Option BoardFunction
 reached_by fs c = reached_part fs c.kind (record { device = c.device; function = c.function })
-
-abbrev pub is_write : Op → Bool
-is_write Read = false
-is_write (Write n) = true
 
 -- a read shows the enabled bytes at the offset, and a write answers 0
 abbrev pub reply_to : Op → ℕ → ℕ → File → ℕ

@@ -1,12 +1,7 @@
 //! Configuration cycles (PCI Local Bus 3.0, chapter 3.2.2.3; PCI-to-PCI Bridge Architecture 1.2,
 //! chapter 3.1.2).
 
-/// What a cycle does at the function that it reaches.
-#[derive(Clone, Copy, Debug, PartialEq, Eq)]
-pub enum Op {
-    Read,
-    Write(u32),
-}
+use config_bytes::Op;
 
 /// Whether the cycle is for the bus on which it is put, or for a bus behind one of its bridges.
 #[derive(Clone, Copy, Debug, PartialEq, Eq)]
@@ -26,19 +21,4 @@ pub struct Cycle {
     pub offset: u8,
     pub enables: u8,
     pub op: Op,
-}
-
-impl Op {
-    ghost use Rattle.std.specs.Prelude.{◌≡◌};
-    ghost use Rattle.bridge_forward.specs.Cycled.{is_write};
-
-    /// Whether it is a write.
-    pub(crate) fn is_write(self) -> bool
-        ensures { result ≡ is_write self }
-    {
-        match self {
-            Op::Read => false,
-            Op::Write(_) => true,
-        }
-    }
 }

@@ -16,12 +16,11 @@ ghost use Rattle.model_board.specs.Cycles.{secondary_register, subordinate_regis
 
 use crate::bridge::BridgeFn;
 use crate::by_index::RangesNow;
-use crate::cycle::Op;
 use crate::decl::Declared;
 use crate::endpoint::EndpointFn;
 use crate::routing::{Ranges, RoutingRow};
 use bars::Region;
-use config_bytes::{enables_of, lowered};
+use config_bytes::{Op, enables_of, lowered};
 use paths::Path;
 use std::alloc::{AllocError, Global};
 
@@ -33,7 +32,8 @@ pub(crate) enum Function {
 }
 
 impl Function {
-    ghost use Rattle.bridge_forward.specs.Cycled.{is_write, reply_to, after_access};
+    ghost use Rattle.config_bytes.specs.Ops.{is_write};
+    ghost use Rattle.bridge_forward.specs.Cycled.{reply_to, after_access};
     ghost use Rattle.bridge_forward.specs.Decls.{declared};
     ghost use Rattle.bridge_forward.specs.ResetAlone.{after_leaf_reset};
     ghost use Rattle.bridge_forward.specs.Functions.{decl_of, file_of, with_cells, reset_cells, endpoint_in, LendsLeaf};

@@ -19,7 +19,7 @@ mod walk;
 
 pub use bus::{Bus, Claim, Located};
 pub use by_index::RangesNow;
-pub use cycle::{Cycle, CycleType, Op};
+pub use cycle::{Cycle, CycleType};
 pub use decl::{Decl, Declared, lawful_places};
 pub use endpoint::EndpointFn;
 pub use paths::{Part, Path};

@@ -1,2 +1,3 @@
 pub mod CellFile
 pub mod OffsetLaws
+pub mod Ops

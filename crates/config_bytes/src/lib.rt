@@ -6,10 +6,12 @@ ghost use Rattle.config_bytes.specs.OffsetLaws.{FileOfAppend, FileOfOffsets, Fil
 mod cell;
 mod cells;
 mod lanes;
+mod op;
 
 pub use cell::{Cell, CellFault};
 pub use cells::{Cells, has_distinct_offsets};
 pub use lanes::{all_ones, enables_of, from_lanes, into_lanes, lowered};
+pub use op::Op;
 
 /// Lists of offsets with cells: the files that they are, and when no two cells stand at one offset.
 pub fn lists_of_offsets()

@@ -6,8 +6,8 @@ use Rattle.model_registers.specs.ByteEnables.{lanes}
 use Rattle.model_board.specs.State.{BoardFunction, with_file}
 use Rattle.model_board.specs.Cycles.{BusAddress, reached}
 use Rattle.model_board.specs.Ports.{after_config_write}
-use Rattle.bridge_forward.specs.declared.cycle.Op.{Op}
-use Rattle.bridge_forward.specs.declared.cycle.Op.TheVariants.{Read, Write}
+use Rattle.config_bytes.specs.declared.op.Op.{Op}
+use Rattle.config_bytes.specs.declared.op.Op.TheVariants.{Read, Write}
 use Rattle.bridge_forward.specs.declared.cycle.Cycle.{Cycle}
 use Rattle.bridge_forward.specs.Cycled.{reached_by, after_access, after_cycle}
 

@@ -7,7 +7,8 @@ ghost use Rattle.bridge_forward.specs.Cycled.{reached_by};
 ghost use Rattle.host_bridge.specs.Targets.{named_target};
 
 use address_latch::{Latch, is_address_port};
-use bridge_forward::{Cycle, CycleType, Op};
+use bridge_forward::{Cycle, CycleType};
+use config_bytes::Op;
 use paths::Bdf;
 
 /// Where an access at a port goes: to the latch, by a configuration cycle to what the latch selects,

@@ -2,7 +2,7 @@ use Rattle.std.proofs.Common.{◌∙◌, ap, sym}
 use Rattle.model_guests.specs.Accesses.{configuration}
 use Rattle.model_guests.specs.Lone.{at_target, after_access_at}
 use Rattle.accesses.specs.Accesses.{op_of}
-use Rattle.accesses.specs.declared.access.Op.{Op}
+use Rattle.config_bytes.specs.declared.op.Op.{Op}
 use Rattle.monitor.specs.ByIndex.{lone_nth, with_lone_nth}
 use Rattle.monitor.proofs.LatchGoals.{same_nth}
 use Rattle.monitor.proofs.engine.Engine.config_access.Goals as goal

@@ -4,7 +4,7 @@ use Rattle.model_registers.specs.ConfigAddress.{latched}
 use Rattle.model_guests.specs.Accesses.{answered}
 use Rattle.model_guests.specs.Lone.{own_latch, reply_at, after_access_at}
 use Rattle.accesses.specs.Accesses.{op_of}
-use Rattle.accesses.specs.declared.access.Op.{Op}
+use Rattle.config_bytes.specs.declared.op.Op.{Op}
 use Rattle.monitor.specs.declared.guest.Guest.{Guest}
 use Rattle.monitor.specs.Views.{texts}
 use Rattle.monitor.specs.ByIndex.{lone_nth, with_lone_nth}

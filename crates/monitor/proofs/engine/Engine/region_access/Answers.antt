@@ -2,7 +2,7 @@ use Rattle.std.proofs.Common.{◌<◌, ◌∙◌, length, ap, sym, arith}
 use Rattle.model_guests.specs.Lone.{at_target, reply_at, after_access_at}
 use Rattle.bars.specs.Kinds.{named_space}
 use Rattle.accesses.specs.Accesses.{op_of}
-use Rattle.accesses.specs.declared.access.Op.{Op}
+use Rattle.config_bytes.specs.declared.op.Op.{Op}
 use Rattle.monitor.specs.Views.{texts}
 use Rattle.monitor.specs.ByIndex.{lone_nth, with_lone_nth}
 use Rattle.monitor.specs.Reaches.{target_in}

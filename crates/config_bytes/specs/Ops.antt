@@ -1,0 +1,9 @@
+-- What is done at a place: a read, or a write.
+--     is_write      whether it is a write
+use Rattle.std.specs.Prelude.{Bool, true, false}
+use Rattle.config_bytes.specs.declared.op.Op.{Op}
+use Rattle.config_bytes.specs.declared.op.Op.TheVariants.{Read, Write}
+
+abbrev pub is_write : Op → Bool
+is_write Read = false
+is_write (Write n) = true
