@@ -1,12 +1,12 @@
 -- The first closed region of given functions, row by row.
-use Rattle.std.proofs.Common.{◌≡◌, ℕ, suc, ◌+◌, ◌<◌, add-one, Bool, true, false, ◌||◌, cond, not, List, [], ◌∷◌, ◌++◌, length, drop, get_or, Option, Some, None, Result, Ok, Err, refl, sym, ap, ◌∙◌}
+use Rattle.std.proofs.Common.{◌≡◌, ℕ, suc, ◌+◌, ◌<◌, add-one, Bool, true, false, ◌||◌, cond, not, List, [], ◌∷◌, ◌++◌, length, drop, get_or, Some, None, Result, Ok, Err, refl, sym, ap, ◌∙◌}
 use Rattle.std.proofs.Math.Seq.{drop-cons}
 use Rattle.std.specs.Prelude.{map, flat_map, filter, slice_get, IfOk}
 use Rattle.std.specs.List.{list_any}
 use Rattle.lists.specs.Elements.{Each, first_of_two}
 use Rattle.lists.proofs.EachLemmas.{each_of_map, each_filter}
 use Rattle.model_registers.specs.EndpointTable.{BaseAddress}
-use Rattle.model_registers.specs.Decoding.{opens_space, space_of}
+use Rattle.model_registers.specs.Decoding.{opens_space}
 use Rattle.model_board.specs.Paths.{Path, path_eq}
 use Rattle.model_board.specs.Routing.{Ranges, regions, windows, RoutingRow}
 use Rattle.model_board.specs.State.{State}
@@ -18,9 +18,6 @@ use Rattle.model_audit.proofs.Witnesses.{problems_decide}
 use Rattle.model_guests.specs.World.{Guest, World}
 use Rattle.model_handoff.specs.Regions.{closed_region, first_problem, first_closed, closed_given, first_fault, CanBeGiven}
 use Rattle.model_handoff.proofs.First.{any_append}
-use Rattle.bars.specs.Kinds.{kind_of}
-use Rattle.bridge_forward.specs.declared.region_now.RegionNow.{RegionNow}
-use Rattle.bridge_forward.specs.RoutingRows.{base_of}
 use Rattle.monitor.specs.Passing.{closed_if_given, is_among, first_closed_at}
 
 dropped : {A : Type 0} (xs : List A) (i : ℕ) (x : A) → i < length xs → x ≡ get_or xs i x → drop i xs ≡ x ∷ drop (i + 1) xs
@@ -92,20 +89,6 @@ module _ (ps : List Path) where
   -- the rows from an index on
   pub row_step : (rows : List RoutingRow) (i : ℕ) (r : RoutingRow) → i < length rows → r ≡ get_or rows i r → first_closed_at ps (drop i rows) ≡ first_of_two (closed_if_given ps r) (first_closed_at ps (drop (i + 1) rows))
   row_step rows i r h e = ap (first_closed_at ps) (dropped rows i r h e) ∙ one_row r (drop (i + 1) rows)
-
--- ---- one function, from a register on
-
-module _ (p : Path) (command : ℕ) where
-  abbrev pub shut : List RegionNow → Option PlacedRegion
-  shut rs = slice_get (filter (λ (q : PlacedRegion). not (opens_space command q.space)) (map (region_now p) (map base_of rs))) 0
-
-  one_region : (r : RegionNow) (rs : List RegionNow) (t : Bool) → opens_space command (space_of (kind_of r.kind)) ≡ t → shut (r ∷ rs) ≡ cond t (shut rs) (Some (region_now p (base_of r)))
-  one_region r rs true e = rw e refl
-  one_region r rs false e = rw e refl
-
-  pub region_step : (rs : List RegionNow) (i : ℕ) (r : RegionNow) (t : Bool) → i < length rs → r ≡ get_or rs i r → opens_space command (space_of (kind_of r.kind)) ≡ t
-      → shut (drop i rs) ≡ cond t (shut (drop (i + 1) rs)) (Some (region_now p (base_of r)))
-  region_step rs i r t h e opened = ap shut (dropped rs i r h e) ∙ one_region r (drop (i + 1) rs) t opened
 
 -- ---- the first fault
 

@@ -1,11 +1,10 @@
 -- A byte that a device reads or writes of a function in a slot: the checks in their order, and the world afterwards.
-use Rattle.std.proofs.Common.{◌≡◌, ◌≤◌, ℕ, ◌%◌, Bool, true, false, not, cond, List, [], ◌∷◌, ◌||◌, Some, None, Option, slice_get, slice_set, refl, sym, ap, ◌∙◌, subst, arith}
-use Rattle.std.specs.Prelude.{is_some, nat_le}
+use Rattle.std.proofs.Common.{◌≡◌, ℕ, ◌%◌, Bool, true, false, not, cond, List, [], ◌∷◌, ◌||◌, Some, None, Option, refl, sym, ap, ◌∙◌, subst}
+use Rattle.std.specs.Prelude.{is_some, nat_le, IsSome}
 use Rattle.std.specs.Option.{option_map_or}
-use Rattle.std.proofs.lemmas.Bool.{lt-leb}
 use Rattle.lists.proofs.Indices.{set_same}
 use Rattle.model_registers.specs.Cell.{Cell}
-use Rattle.model_registers.specs.Registers.{Place, place_eq, File, cell_at}
+use Rattle.model_registers.specs.Registers.{Place, place_eq, File}
 use Rattle.model_registers.specs.FileLaws.{has_place}
 use Rattle.model_registers.specs.OwnCopies.{is_own}
 use Rattle.model_registers.specs.DeviceBytes.{is_device_byte, with_value, set_value}
@@ -17,36 +16,40 @@ use Rattle.model_registers.proofs.DeviceBytes.{device_not_own, change_beside}
 use Rattle.model_board.specs.Paths.{Path}
 use Rattle.model_board.specs.State.{BoardFunction, State, with_file}
 use Rattle.model_board.specs.AtReset.{board_at}
-use Rattle.model_guests.specs.Accesses.{answered, done, refused}
+use Rattle.model_guests.specs.Accesses.{answered, done}
 use Rattle.model_guests.specs.Slots.{Slots, slot_at, raise_place}
 use Rattle.model_guests.specs.Lone.{LoneGuest}
-use Rattle.model_guests.specs.Guests.{GuestsNow, path_in, function_in, lone_of}
+use Rattle.model_guests.specs.Guests.{lone_of}
 use Rattle.model_guests.specs.AgreedBoard.{with_change_at}
 use Rattle.model_guests.proofs.AgreedFiles.{stands, agreed_places, agreed_common}
 use Rattle.model_guests.proofs.GuestFiles.{with_file_there}
-use Rattle.model_devices.specs.DeviceEvents.{DeviceByte, DeviceEvent, device_reads, device_writes, if_device_byte, device_place, byte_fault, device_fault, device_performed, device_changed, device_answer, after_device_event, device_after}
+use Rattle.model_guests.specs.Text.{Text}
+use Rattle.model_devices.specs.DeviceEvents.{DeviceByte, device_reads, device_writes, if_device_byte, device_place, byte_fault, device_fault, device_answer, device_after, byte_landing}
 use Rattle.model_devices.specs.DeviceByteLaws.{byte_change}
-use Rattle.model_devices.proofs.OneGuest.{lone_found}
-use Rattle.model_devices.proofs.Bytes.{fault_by, passes, read_there, write_answered, written_there}
+use Rattle.model_devices.proofs.Bytes.{passes, read_there, write_answered, written_there}
 use Rattle.model_devices.proofs.Seats.{seated_after}
 use Rattle.model_handoff.specs.WorldOver.{WorldOver, board_state}
 use Rattle.model_handoff.proofs.DevicesOver.{write_reaches_over}
+use Rattle.model_handoff.specs.DevicesOver.{after_device}
 use Rattle.headers.specs.declared.place.Place as headers
 use Rattle.headers.specs.Places.{place_of}
-use Rattle.bridge_forward.specs.Lending.{as_endpoint, endpoint_at}
+use Rattle.bridge_forward.specs.Lending.{as_endpoint, endpoint_at, with_endpoint}
 use Rattle.host_bridge.specs.DeviceValues.{value_at}
 use Rattle.host_bridge.specs.HostState.{HostState, with_functions}
 use Rattle.host_bridge.proofs.Lent.{changed_endpoint}
 use Rattle.accesses.specs.Accesses.{part_of}
 use Rattle.monitor.specs.declared.guest.Held.{Held}
 use Rattle.monitor.specs.declared.guest.Guest.{Guest}
-use Rattle.monitor.specs.Keeping.{IsHeld, AreSlots, IsKept}
-use Rattle.monitor.specs.ByIndex.{lone_nth, with_lone_nth}
-use Rattle.monitor.specs.DeviceBytes.{device_byte, Refuses}
-use Rattle.monitor.proofs.Steps.{SlotOf, slot_there, slots_set, GuestOf, with_guest_at, named, path_named, kept_changed}
-use Rattle.monitor.proofs.Reached.{distinct, left, found_on_board, places_same}
-use Rattle.monitor.proofs.RegionSteps.{lone_is, with_lone}
+use Rattle.monitor.specs.Keeping.{IsHeld, IsKept}
+use Rattle.monitor.specs.ByIndex.{lone_nth, guest_nth, name_nth}
+use Rattle.monitor.specs.DeviceBytes.{device_byte, Refuses, Reaches}
+use Rattle.monitor.specs.InSlots.{IsInSlot, IsSlotFault}
+use Rattle.monitor.proofs.Steps.{slot_there, GuestAt, SlotAt, function_there, in_place, kept_put, lone_named, path_there, slot_lent, slots_lent}
+use Rattle.monitor.proofs.Reached.{distinct, left, found_on_board, places_same, endpoint_held}
 use Rattle.monitor.proofs.RaiseSteps.{named_place}
+use Rattle.monitor.proofs.Calls.{Leaves, leaves}
+use Rattle.monitor.proofs.ResetSteps.{answer_named, device_named}
+use Rattle.monitor.proofs.Checks.{low_slot, passes_slot, refused_first}
 
 -- ---- the place
 
@@ -65,20 +68,17 @@ device_named_place f place off h = named_byte (raise_place f (part_of place) off
 
 -- ---- the checks
 
-pub past_slots : (slots : List (Option Held)) (n : ℕ) (place : headers.Place) (off : ℕ) → nat_le 32 n ≡ true → Refuses slots n place off 303
-past_slots slots n place off past = λ s qs fs are. ap (λ (t : Bool). fault_by t (slot_at fs n) (device_byte n place off)) past
+-- a slot that is refused
+pub byte_refused : (slots : List (Option Held)) (n : ℕ) {number : ℕ} (place : headers.Place) (off : ℕ) → IsSlotFault slots n number → Refuses slots n place off number
+byte_refused slots n place off fault = λ s qs fs are.
+    refused_first (nat_le 32 n) (is_some (slot_at fs n)) (cond (not (is_some (byte_landing (slot_at fs n) (device_byte n place off)))) (Some 303) None) (fault s qs fs are)
 
-pub no_function : (slots : List (Option Held)) (n : ℕ) (place : headers.Place) (off : ℕ) → n ≤ 31 → ((s : State) (qs : List (Option Path)) (fs : Slots) → AreSlots s qs fs slots → slot_at fs n ≡ None) → Refuses slots n place off 601
-no_function slots n place off low empty = λ s qs fs are.
-    ap (λ (t : Bool). fault_by t (slot_at fs n) (device_byte n place off)) (lt-leb 32 n (omega arith))
-    ∙ ap (λ (o : Option Function). fault_by false o (device_byte n place off)) (empty s qs fs are)
-
-pub out_of_reach : (slots : List (Option Held)) (n : ℕ) (place : headers.Place) (off : ℕ) → n ≤ 31 → (held : Held) → slice_get slots n ≡ Some (Some held)
+pub out_of_reach : {slots : List (Option Held)} {n : ℕ} {held : Held} (place : headers.Place) (off : ℕ) → IsInSlot slots n held
     → ((s : State) (p : Path) (f : Function) → IsHeld s p f held → is_some (device_place f (part_of place) off) ≡ false) → Refuses slots n place off 303
-out_of_reach slots n place off low held there none = λ s qs fs are.
-    let slot = slot_there s qs fs slots n held are there in
-    ap (λ (t : Bool). fault_by t (slot_at fs n) (device_byte n place off)) (lt-leb 32 n (omega arith))
-    ∙ ap (λ (o : Option Function). fault_by false o (device_byte n place off)) slot.function
+out_of_reach {slots} {n} {held} place off is none = λ s qs fs are.
+    let slot = slot_there s qs fs slots n held are is.there in
+    passes_slot (low_slot is.low) (ap is_some slot.function) (cond (not (is_some (byte_landing (slot_at fs n) (device_byte n place off)))) (Some 303) None)
+    ∙ ap (λ (o : Option Function). cond {A = Option ℕ} (not (is_some (byte_landing o (device_byte n place off)))) (Some 303) None) slot.function
     ∙ ap (λ (t : Bool). cond {A = Option ℕ} (not t) (Some 303) None) (none s slot.p slot.f slot.held)
 
 -- ---- places with cells
@@ -99,71 +99,55 @@ same_change left own same v q = cases (has_place own q) refl
 
 -- ---- a function in a slot of a world that is kept
 
-module _ (w : WorldOver) (h : HostState) (names : List (List ℕ)) (gs : List Guest) (kept : IsKept w h names gs) (i : ℕ) (g : Guest) (at : GuestOf w.handoff w.guests i g) where
-  -- an event at a device that is refused
-  pub device_refused : (e : DeviceEvent) (number : ℕ) → device_fault at.x.lone.slots e ≡ Some number
-      → (refused number ≡ device_answer (lone_nth w i) e) × (w ≡ with_lone_nth i (after_device_event (lone_nth w i) e) w)
-  device_refused e number fault = (
-    sym (ap (λ (o : Option ℕ). option_map_or refused o (device_performed at.x.lone e)) fault) ∙ ap (λ (l : LoneGuest). device_answer l e) (sym (lone_is w h names gs kept i g at)),
-    ap (λ (xs : GuestsNow). record w { guests = xs }) (sym (set_same w.guests i at.x at.there))
-        ∙ ap (λ (l : LoneGuest). with_guest_at i (record at.x { lone = l }) w) (sym (ap (λ (o : Option ℕ). cond (is_some o) at.x.lone (device_changed at.x.lone e)) fault))
-        ∙ sym (with_lone w h names gs kept i g at (λ l. after_device_event l e)),
-  )
+module _ {w : WorldOver} {h : HostState} {names : List Text} {gs : List Guest} {i : ℕ} {g : Guest} (at : GuestAt w h names gs i g) {slots : List (Option Held)} (same : slots ≡ g.slots.items) where
+  -- the slots as code holds them, for which the byte is refused
+  pub refused_there : (n : ℕ) (place : headers.Place) (off : ℕ) {number : ℕ} → Refuses slots n place off number → byte_fault (lone_nth w i).slots (device_byte n place off) ≡ Some number
+  refused_there n place off faults = faults w.handoff (guest_nth w i).paths (lone_nth w i).slots (slots_lent at same)
 
-  module _ (n : ℕ) (held : Held) (slot : SlotOf w.handoff at.x.paths at.x.lone.slots n held) (low : n ≤ 31) (place : headers.Place) (off : ℕ)
-      (reaches : device_place slot.f (part_of place) off ≡ Some (place_of place off)) (own : is_device_byte (place_of place off) ≡ true) where
+  module _ {n : ℕ} {place : headers.Place} {off : ℕ} {path : Path} (reach : Reaches slots n place off path) where
+    abbrev slot : SlotAt at n reach.held
+    slot = slot_lent at same reach.there
+
     abbrev q : Place
     q = place_of place off
 
     abbrev d : DeviceByte
     d = device_byte n place off
 
-    low_slot : nat_le 32 n ≡ false
-    low_slot = lt-leb 32 n (omega arith)
+    reaches : device_place slot.f (part_of place) off ≡ Some q
+    reaches = device_named_place slot.f place off (reach.reaches w.handoff slot.p slot.f slot.held)
+
+    low : nat_le 32 n ≡ false
+    low = low_slot reach.low
+
+    pub path_reached : IsSome (endpoint_at h.state.functions path)
+    path_reached = subst (λ (p : Path). IsSome (endpoint_at h.state.functions p)) (sym reach.path_is) (endpoint_held at slot)
 
     abbrev left_file : File
-    left_file = left w h names gs kept i g at n held slot
+    left_file = left at slot
 
     abbrev found : Function
     found = record { decl = slot.f.decl; file = agreed_file left_file slot.f.file }
 
     endpoint_found : endpoint_at (board_state w).functions slot.p ≡ Some found
-    endpoint_found = ap (λ (o : Option BoardFunction). option_map_or as_endpoint o None) (found_on_board w h names gs kept i g at n held slot)
+    endpoint_found = ap (λ (o : Option BoardFunction). option_map_or as_endpoint o None) (found_on_board at slot)
 
     -- what the board has there is what the guest has
-    pub value_shown : value_at q (endpoint_at h.state.functions held.path) ≡ (cell_at slot.f.file q).value
-    value_shown =
-        ap (λ (s : State). value_at q (endpoint_at s.functions held.path)) kept.agrees
-        ∙ ap (λ (p : Path). value_at q (endpoint_at (board_state w).functions p)) slot.held.path
+    pub device_read : {value : ℕ} → value ≡ value_at q (endpoint_at h.state.functions path) → answered value 1 ≡ device_answer (lone_of w.guests (name_nth w i)) (device_reads d)
+    device_read is =
+        ap (λ (m : ℕ). answered m 1)
+        (is ∙ ap (λ (p : Path). value_at q (endpoint_at h.state.functions p)) (reach.path_is ∙ slot.held.path)
+        ∙ ap (λ (s : State). value_at q (endpoint_at s.functions slot.p)) at.kept.agrees
         ∙ ap (value_at q) endpoint_found
-        ∙ ap (λ (c : Cell). c.value) (agreed_common left_file slot.f.file q (places_same w h names gs kept i g at n held slot) (device_not_own q own))
-
-    pub read_reply : answered (cell_at slot.f.file q).value 1 ≡ device_answer (lone_nth w i) (device_reads d)
-    read_reply =
-        sym (read_there at.x.lone d low_slot slot.f slot.function q reaches) ∙ ap (λ (l : LoneGuest). device_answer l (device_reads d)) (sym (lone_is w h names gs kept i g at))
-
-    pub write_reply : (v : ℕ) → done ≡ device_answer (lone_nth w i) (device_writes d v)
-    write_reply v =
-        sym (write_answered at.x.lone d low_slot slot.f slot.function q reaches v) ∙ ap (λ (l : LoneGuest). device_answer l (device_writes d v)) (sym (lone_is w h names gs kept i g at))
+        ∙ ap (λ (c : Cell). c.value) (agreed_common left_file slot.f.file q (places_same at slot) (device_not_own q reach.own)))
+        ∙ sym (read_there (lone_nth w i) d low slot.f slot.function q reaches) ∙ answer_named at (device_reads d)
 
     module _ (v : ℕ) where
-      abbrev pub device_world : WorldOver
-      device_world = with_guest_at i (device_after (device_writes d v) at.x) w
+      pub device_written : done ≡ device_answer (lone_of w.guests (name_nth w i)) (device_writes d v)
+      device_written = sym (write_answered (lone_nth w i) d low slot.f slot.function q reaches v) ∙ answer_named at (device_writes d v)
 
-      pub device_is : with_lone_nth i (after_device_event (lone_nth w i) (device_writes d v)) w ≡ device_world
-      device_is = with_lone w h names gs kept i g at (λ l. after_device_event l (device_writes d v))
-
-      path_there : path_in w.guests at.x.name n ≡ Some slot.p
-      path_there = path_named w h names gs kept i g at n ∙ slot.path
-
-      lone_there : lone_of w.guests at.x.name ≡ at.x.lone
-      lone_there = lone_found w.guests at.x.name at.x (named w h names gs kept i g at)
-
-      function_there : function_in w.guests at.x.name n ≡ Some slot.f
-      function_there = ap (λ (l : LoneGuest). slot_at l.slots n) lone_there ∙ slot.function
-
-      no_fault : device_fault (lone_of w.guests at.x.name).slots (device_writes d v) ≡ None
-      no_fault = ap (λ (l : LoneGuest). byte_fault l.slots d) lone_there ∙ passes at.x.lone.slots d low_slot slot.f slot.function q reaches
+      no_fault : device_fault (lone_of w.guests (name_nth w i)).slots (device_writes d v) ≡ None
+      no_fault = ap (λ (l : LoneGuest). byte_fault l.slots d) (lone_named at) ∙ passes (lone_nth w i).slots d low slot.f slot.function q reaches
 
       abbrev f : Function
       f = record slot.f { file = set_value v q slot.f.file }
@@ -173,9 +157,9 @@ module _ (w : WorldOver) (h : HostState) (names : List (List ℕ)) (gs : List Gu
         where
           cases : (t : Bool) → place_eq q p ≡ t → t ≡ false
           cases false e = refl
-          cases true e = sym mine ∙ sym (ap is_own (place_same q p e)) ∙ device_not_own q own
+          cases true e = sym mine ∙ sym (ap is_own (place_same q p e)) ∙ device_not_own q reach.own
 
-      still_held : IsHeld w.handoff slot.p f held
+      still_held : IsHeld w.handoff slot.p f reach.held
       still_held = record {
         path = slot.held.path;
         row = slot.held.row;
@@ -189,27 +173,21 @@ module _ (w : WorldOver) (h : HostState) (names : List (List ℕ)) (gs : List Gu
       alike =
           let fs : List BoardFunction = (board_state w).functions in
           ap (λ (gs : List BoardFunction). let s : State = record (board_state w) { functions = gs } in s)
-          (sym (changed_endpoint (set_value v q) slot.p found fs (distinct w h names gs kept i g at) endpoint_found)
-          ∙ ap (λ (x : File). Rattle.bridge_forward.specs.Lending.with_endpoint slot.p (record found { file = x }) fs)
-          (same_change left_file slot.f.file (places_same w h names gs kept i g at n held slot) v q)
-          ∙ changed_endpoint (byte_change slot.f.file v q) slot.p found fs (distinct w h names gs kept i g at) endpoint_found)
+          (sym (changed_endpoint (set_value v q) slot.p found fs (distinct at) endpoint_found)
+          ∙ ap (λ (x : File). with_endpoint slot.p (record found { file = x }) fs) (same_change left_file slot.f.file (places_same at slot) v q)
+          ∙ changed_endpoint (byte_change slot.f.file v q) slot.p found fs (distinct at) endpoint_found)
 
-      pub device_kept : slice_get gs i ≡ Some g → slice_get g.slots.items n ≡ Some (Some held)
-          → (new : HostState) → new ≡ with_functions (with_file (set_value v q) held.path h.state.functions) h → IsKept device_world new names gs
-      device_kept there holds new is_new =
-          let after : after_device_event at.x.lone (device_writes d v) ≡ record at.x.lone { slots = slice_set at.x.lone.slots n (Some f) } =
-          written_there at.x.lone d low_slot slot.f slot.function q reaches v
-          ∙ ap (λ (ss : Slots). record at.x.lone { slots = ss }) (with_file_there (set_value v q) n at.x.lone.slots slot.f slot.function) in
-          subst (IsKept device_world new names) (set_same gs i g there)
-          (kept_changed w h names gs kept i g at (device_after (device_writes d v)) (λ t. refl) (λ t. refl)
-          (seated_after (board_at w.handoff.functions) w.guests kept.lawful.seated at.x.name (device_writes d v))
-          new (ap (λ (k : HostState). k.state) is_new ∙ ap (λ (p : Path). with_change_at (set_value v q) p h.state) slot.held.path
-          ∙ ap (with_change_at (set_value v q) slot.p) kept.agrees ∙ alike
-          ∙ sym (write_reaches_over w.handoff w.guests kept.lawful.seated at.x.name d v no_fault slot.p slot.f q path_there function_there reaches))
-          g (λ t e. record {
-            name_is = e;
-            latch = ap (λ (l : LoneGuest). l.latch) after ∙ at.is.latch;
-            slots = subst (λ (fs : Slots). AreSlots w.handoff at.x.paths fs g.slots.items) (ap (λ (l : LoneGuest). l.slots) (sym after))
-                (subst (AreSlots w.handoff at.x.paths (slice_set at.x.lone.slots n (Some f))) (set_same g.slots.items n (Some held) holds)
-                (slots_set w.handoff at.x.paths at.x.lone.slots g.slots.items n slot.p f held at.is.slots slot.path still_held));
-          }))
+      pub write_left : {new : HostState} → new ≡ with_functions (with_file (set_value v q) path h.state.functions) h → Leaves (after_device w (name_nth w i) (device_writes d v)) h new names gs
+      write_left {new} is_new = leaves at.kept
+          (subst (λ (u : WorldOver). IsKept u new names gs) (device_named at (device_writes d v))
+          (in_place at _ new
+          (kept_put at slot (device_after (device_writes d v)) (λ t. refl) (λ t. refl)
+          (seated_after (board_at w.handoff.functions) w.guests at.kept.lawful.seated (name_nth w i) (device_writes d v))
+          f reach.held still_held
+          (written_there (lone_nth w i) d low slot.f slot.function q reaches v
+          ∙ ap (λ (ss : Slots). record (lone_nth w i) { slots = ss }) (with_file_there (set_value v q) n (lone_nth w i).slots slot.f slot.function))
+          g refl (sym (set_same g.slots.items n (Some reach.held) slot.holds))
+          new (ap (λ (k : HostState). k.state) is_new ∙ ap (λ (p : Path). with_change_at (set_value v q) p h.state) (reach.path_is ∙ slot.held.path)
+          ∙ ap (with_change_at (set_value v q) slot.p) at.kept.agrees ∙ alike
+          ∙ sym (write_reaches_over w.handoff w.guests at.kept.lawful.seated (name_nth w i) d v no_fault slot.p slot.f q (path_there at slot) (function_there at slot) reaches)))))
+          refl

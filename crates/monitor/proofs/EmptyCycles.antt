@@ -8,7 +8,6 @@ use Rattle.model_board.specs.Paths.{Path, path_eq}
 use Rattle.model_board.specs.State.{BoardFunction, with_file}
 use Rattle.model_board.specs.Cycles.{BusAddress, reached}
 use Rattle.model_board.specs.Ports.{after_config_write}
-use Rattle.host_bridge.specs.HostState.{HostState, with_functions, with_latch}
 
 unchanged : (v off : ℕ) (p : Path) (fs : List BoardFunction) → with_file (write (lanes 0) v (config off)) p fs ≡ fs
 unchanged v off p [] = refl
@@ -24,7 +23,3 @@ nothing_written fs at off enables v none = ap (λ n. after_config_write fs at of
     of : (o : Option BoardFunction) → option_map_or (λ (f : BoardFunction). with_file (write (lanes 0) v (config off)) f.path fs) o fs ≡ fs
     of None = refl
     of (Some f) = unchanged v off f.path fs
-
--- a latch that is clear is left so
-pub latch_clear : (h new : HostState) (fs : List BoardFunction) → h.state.latch ≡ 0 → new ≡ with_functions fs h → new ≡ with_latch 0 (with_functions fs h)
-latch_clear h new fs clear is = is ∙ ap (λ n. with_latch n (with_functions fs h)) clear

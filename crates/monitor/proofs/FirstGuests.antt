@@ -74,9 +74,6 @@ module _ (h : HostState) where
   abbrev b : Board
   b = board_below h
 
-  pub no_slots : (ps : List Path) → AreSlotsWith h (take 0 ps) 0 []
-  no_slots ps = tt
-
   pub slot_pushed : (ps : List Path) (i : ℕ) (p : Path) (o : Held) (os : List (Option Held)) → slice_get ps i ≡ Some p → AreSlotsWith h (take i ps) 0 os
       → IsSlot h.state (Some p) (reset_function (declared b p)) (Some o) → AreSlotsWith h (take (i + 1) ps) 0 (os ++ Some o ∷ [])
   slot_pushed ps i p o os at are is =

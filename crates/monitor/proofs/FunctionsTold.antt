@@ -1,100 +1,32 @@
 -- What is kept of guests and of the board says what is told of functions.
-use Rattle.std.proofs.Common.{◌≡◌, ◌≤◌, ℕ, zero, suc, ◌+◌, ◌-◌, Bool, true, false, cond, List, [], ◌∷◌, Some, None, Option, Err, slice_get, get_or, take, drop, length, refl, sym, ap, ap₂, ◌∙◌, subst, arith}
-use Rattle.std.specs.Prelude.{find, map, nat_le, option_map, option_and_then, position, unwrap_or}
+use Rattle.std.proofs.Common.{◌≡◌, ◌≤◌, ℕ, zero, suc, ◌+◌, ◌-◌, Bool, true, false, cond, List, [], ◌∷◌, Some, None, Option, Err, get_or, take, drop, length, refl, sym, ap, ap₂, ◌∙◌, arith}
+use Rattle.std.specs.Prelude.{map, nat_le, option_map, option_and_then, position, unwrap_or, Result, is_some}
 use Rattle.std.specs.Option.{ok_or}
 use Rattle.std.specs.List.{position_from}
 use Rattle.std.proofs.lemmas.Iterator.Adapters.{position_from-zero}
-use Rattle.std.proofs.lemmas.Bool.Decides.{nat_tests}
 use Rattle.lists.specs.Elements.{first_of_two}
-use Rattle.model_board.specs.Paths.{Path, path_eq}
-use Rattle.model_board.specs.Board.{IsBoard}
-use Rattle.model_board.specs.Lawful.{HasLawfulDecls}
-use Rattle.model_board.specs.AtReset.{board_at}
+use Rattle.model_registers.specs.Decoding.{Function}
+use Rattle.model_board.specs.Paths.{Path}
 use Rattle.model_board.specs.State.{BoardFunction, State}
-use Rattle.model_board.specs.Cycles.{BusAddress}
-use Rattle.model_board.specs.Routing.{Ranges, ranges_of}
-use Rattle.model_audit.specs.Orderly.{IsStateOfBoard}
-use Rattle.model_audit.specs.Found.{address_now}
 use Rattle.model_guests.specs.Text.{Text}
-use Rattle.model_guests.specs.Slots.{Slots}
-use Rattle.model_guests.specs.Guests.{GuestNow, GuestsNow, file_of, path_in}
+use Rattle.model_guests.specs.Slots.{Slots, slot_at}
+use Rattle.model_guests.specs.Guests.{GuestsNow, path_in}
 use Rattle.model_guests.proofs.GuestsByName.{path_at}
 use Rattle.model_handoff.specs.WorldOver.{WorldOver, board_state}
-use Rattle.model_queries.specs.Functions.{Identity, identity_now, Seat, is_there, seat_from, seat_of, FunctionNow, function_now, function_nth, function_at, slot_answer}
+use Rattle.model_queries.specs.Functions.{Seat, is_there, seat_from, seat_of, FunctionNow, function_now, function_nth, function_at, slot_answer}
 use Rattle.host_bridge.specs.HostState.{HostState}
 use Rattle.monitor.specs.declared.guest.Held.{Held}
 use Rattle.monitor.specs.declared.guest.Guest.{Guest}
-use Rattle.monitor.specs.Views.{path_shown, guests_shown, world_shown}
-use Rattle.monitor.specs.Keeping.{AreSlots, AreGuests, IsSound}
-use Rattle.monitor.specs.ByIndex.{name_nth}
+use Rattle.monitor.specs.Views.{path_shown, guests_shown}
+use Rattle.monitor.specs.Keeping.{AreSlots, AreGuests, IsKept}
+use Rattle.monitor.specs.ByIndex.{name_nth, guest_nth, lone_nth}
 use Rattle.monitor.specs.FunctionsTold.{seat_kept}
-use Rattle.monitor.proofs.TakenOver.{rows_stay}
+use Rattle.monitor.specs.InSlots.{IsInSlot, IsSlotFault}
 use Rattle.monitor.proofs.FirstGuests.{take_past}
-use Rattle.monitor.proofs.Steps.{slot_there, here, path_named}
-use Rattle.monitor.proofs.RegionGoals.{guest_at}
-
--- ---- one function
-
-module _ (s : State) (gs : GuestsNow) (i : ℕ) where
-  abbrev there : Option BoardFunction
-  there = slice_get s.functions i
-
-  pub none_told : {A : Type 0} (g : BoardFunction → A) → None ≡ option_map g there → None ≡ function_nth s gs i
-  none_told {A} g e = by there refl e
-    where
-      by : (o : Option BoardFunction) → there ≡ o → None ≡ option_map g o → None ≡ function_nth s gs i
-      by None at f = sym (ap (option_map (function_now s gs)) at)
-      by (Some f) at k = cc
-
-  pub one_told : (p : Path) (at : BusAddress) (identity : Identity) (ranges : Ranges) (seat : Option Seat)
-      → Some p ≡ option_map (λ (f : BoardFunction). f.path) there → at ≡ address_now s.functions p
-      → Some identity ≡ option_map (λ (f : BoardFunction). identity_now f.decl f.file) there
-      → Some ranges ≡ option_map (λ (f : BoardFunction). ranges_of f.file f.decl) there → seat ≡ seat_of gs p
-      → Some (let f : FunctionNow = record { path = p; at = at; identity = identity; ranges = ranges; seat = seat } in f) ≡ function_nth s gs i
-  one_told p at identity ranges seat e1 e2 e3 e4 e5 = by there refl e1 e3 e4
-    where
-      by : (o : Option BoardFunction) → there ≡ o → Some p ≡ option_map (λ (f : BoardFunction). f.path) o
-          → Some identity ≡ option_map (λ (f : BoardFunction). identity_now f.decl f.file) o
-          → Some ranges ≡ option_map (λ (f : BoardFunction). ranges_of f.file f.decl) o
-          → Some (let f : FunctionNow = record { path = p; at = at; identity = identity; ranges = ranges; seat = seat } in f) ≡ function_nth s gs i
-      by None is k1 k3 k4 = cc
-      by (Some f) is k1 k3 k4 =
-          let path : p ≡ f.path = cc in
-          let who : identity ≡ identity_now f.decl f.file = cc in
-          let where_it_is : ranges ≡ ranges_of f.file f.decl = cc in
-          let number : at ≡ address_now s.functions f.path = e2 ∙ ap (address_now s.functions) path in
-          let held : seat ≡ seat_of gs f.path = e5 ∙ ap (seat_of gs) path in
-          let told : Some (let x : FunctionNow = record { path = p; at = at; identity = identity; ranges = ranges; seat = seat } in x) ≡ Some (function_now s gs f) =
-          (λ k. Some (record { path = path k; at = number k; identity = who k; ranges = where_it_is k; seat = held k })) in
-          told ∙ sym (ap (option_map (function_now s gs)) is)
-
--- ---- the function in a slot
-
-module _ (s : State) (gs : GuestsNow) (name : Text) (n : ℕ) where
-  pub slot_past : nat_le 32 n ≡ true → Err 303 ≡ slot_answer s gs name n
-  slot_past h = sym (ap (λ (t : Bool). cond t (Err 303) (ok_or (option_and_then (function_at s gs) (path_in gs name n)) 601)) h)
-
-  within : n ≤ 31 → slot_answer s gs name n ≡ ok_or (option_and_then (function_at s gs) (path_in gs name n)) 601
-  within low =
-      let few : nat_le 32 n ≡ false = grind (arith, nat_tests) in
-      ap (λ (t : Bool). cond t (Err 303) (ok_or (option_and_then (function_at s gs) (path_in gs name n)) 601)) few
-
-  pub slot_is_empty : n ≤ 31 → path_in gs name n ≡ None → Err 601 ≡ slot_answer s gs name n
-  slot_is_empty low none = sym (within low ∙ ap (λ (o : Option Path). ok_or (option_and_then (function_at s gs) o) 601) none)
-
-  holds : n ≤ 31 → (p : Path) → path_in gs name n ≡ Some p → (o : Option BoardFunction) → o ≡ find (λ (f : BoardFunction). path_eq f.path p) s.functions
-      → slot_answer s gs name n ≡ ok_or (option_map (function_now s gs) o) 601
-  holds low p path o is =
-      within low ∙ ap (λ (q : Option Path). ok_or (option_and_then (function_at s gs) q) 601) path
-      ∙ ap (λ (x : Option BoardFunction). ok_or (option_map (function_now s gs) x) 601) (sym is)
-
-  pub slot_is_lost : n ≤ 31 → (p : Path) → path_in gs name n ≡ Some p → None ≡ find (λ (f : BoardFunction). path_eq f.path p) s.functions
-      → Err 601 ≡ slot_answer s gs name n
-  slot_is_lost low p path is = sym (holds low p path None is)
-
-  pub slot_is : n ≤ 31 → (p : Path) → path_in gs name n ≡ Some p → (i : ℕ) → slice_get s.functions i ≡ find (λ (f : BoardFunction). path_eq f.path p) s.functions
-      → (o : Option FunctionNow) → o ≡ function_nth s gs i → ok_or o 601 ≡ slot_answer s gs name n
-  slot_is low p path i is o told = ap (λ (x : Option FunctionNow). ok_or x 601) told ∙ sym (holds low p path (slice_get s.functions i) is)
+use Rattle.monitor.proofs.Steps.{path_named, GuestAt, fault_lent, path_there, slot_lent, slots_lent}
+use Rattle.monitor.proofs.Reached.{board_row, found_on_board}
+use Rattle.monitor.proofs.Shown.{is_shown}
+use Rattle.monitor.proofs.Checks.{low_slot, slot_checked}
 
 -- ---- seats
 
@@ -129,7 +61,7 @@ seat_next p i (x ∷ gs) g slots r some is same none more =
 
 -- ---- a slot without a function has no path
 
-no_path : (s : State) (qs : List (Option Path)) (fs : Slots) (os : List (Option Held)) (n : ℕ) → AreSlots s qs fs os → unwrap_or (slice_get os n) None ≡ None → path_at qs n ≡ None
+no_path : (s : State) (qs : List (Option Path)) (fs : Slots) (os : List (Option Held)) (n : ℕ) → AreSlots s qs fs os → slot_at fs n ≡ None → path_at qs n ≡ None
 no_path s [] [] [] n are at = refl
 no_path s [] [] (o ∷ os) n are at = absurd are
 no_path s [] (f ∷ fs) os n are at = absurd are
@@ -137,48 +69,35 @@ no_path s (q ∷ qs) [] os n are at = absurd are
 no_path s (q ∷ qs) (f ∷ fs) [] n are at = absurd are
 no_path s (None ∷ qs) (f ∷ fs) (o ∷ os) zero are at = refl
 no_path s (Some p ∷ qs) (None ∷ fs) (o ∷ os) zero are at = absurd are.0
-no_path s (Some p ∷ qs) (Some f ∷ fs) (None ∷ os) zero are at = absurd are.0
-no_path s (Some p ∷ qs) (Some f ∷ fs) (Some h ∷ os) zero are at = cc
+no_path s (Some p ∷ qs) (Some f ∷ fs) (o ∷ os) zero are at = cc
 no_path s (q ∷ qs) (f ∷ fs) (o ∷ os) (suc n) are at = no_path s qs fs os n are.1 at
 
 -- ---- an engine
 
-module _ (h : HostState) (names : List Text) (gs : List Guest) (sound : IsSound h names gs) (now : WorldOver) (view : world_shown h names gs ≡ now) where
-  abbrev w : WorldOver
-  w = world_shown h names gs
-
-  pub state_is : h.state ≡ board_state now
-  state_is = sound.agrees ∙ ap (λ (v : WorldOver). board_state v) view
-
-  pub seats_told : (p : Path) → seat_kept p 0 gs ≡ seat_of now.guests p
-  seats_told p = seats_shown w.handoff h.state.functions p 0 names w.guests gs sound.guests ∙ ap (λ (v : WorldOver). seat_of v.guests p) view
-
-  pub board_kept : IsStateOfBoard h.state.functions
-  board_kept =
-      let board = sound.lawful.handoff.board in
-      let same : board_at h.state.functions ≡ board_at w.handoff.functions =
-      ap (λ (s : State). board_at s.functions) sound.agrees ∙ rows_stay (file_of w.guests) w.handoff.functions in
-      record { places = subst IsBoard (sym same) board.places; declarations = subst HasLawfulDecls (sym same) board.declarations }
+module _ {w : WorldOver} {h : HostState} {names : List Text} {gs : List Guest} (kept : IsKept w h names gs) where
+  pub seats_told : (p : Path) → seat_kept p 0 gs ≡ seat_of w.guests p
+  seats_told p = seats_shown w.handoff h.state.functions p 0 names w.guests gs kept.guests ∙ ap (λ (v : WorldOver). seat_of v.guests p) (is_shown w h names gs kept)
 
   -- what is told over the host's registers is told over the board
-  pub nth_told : (i : ℕ) (o : Option FunctionNow) → o ≡ function_nth h.state now.guests i → o ≡ function_nth (board_state now) now.guests i
-  nth_told i o told = told ∙ ap (λ (s : State). function_nth s now.guests i) state_is
+  pub nth_told : (i : ℕ) {o : Option FunctionNow} → o ≡ function_nth h.state w.guests i → o ≡ function_nth (board_state w) w.guests i
+  nth_told i told = told ∙ ap (λ (s : State). function_nth s w.guests i) kept.agrees
 
-  module _ (i : ℕ) (g : Guest) (there : slice_get gs i ≡ Some g) (slots : List (Option Held)) (same : slots ≡ g.slots.items) (n : ℕ) where
-    path_is : path_in now.guests (name_nth now i) n ≡ path_at (guest_at h names gs sound now view i g there).x.paths n
-    path_is =
-        let at = guest_at h names gs sound now view i g there in
-        ap (λ (v : WorldOver). path_in v.guests (name_nth v i) n) (sym view)
-        ∙ ap (λ (x : GuestNow). path_in w.guests x.name n) (here w h names gs sound i g at)
-        ∙ path_named w h names gs sound i g at n
+module _ {w : WorldOver} {h : HostState} {names : List Text} {gs : List Guest} {i : ℕ} {g : Guest} (at : GuestAt w h names gs i g) {slots : List (Option Held)} (same : slots ≡ g.slots.items) (n : ℕ) where
+  abbrev slot_by : Bool → Option Path → Result FunctionNow ℕ
+  slot_by past q = cond past (Err 303) (ok_or (option_and_then (function_at (board_state w) w.guests) q) 601)
 
-    pub path_there : (held : Held) → slice_get slots n ≡ Some (Some held) → path_in now.guests (name_nth now i) n ≡ Some held.path
-    path_there held its =
-        let at = guest_at h names gs sound now view i g there in
-        let slot = slot_there w.handoff at.x.paths at.x.lone.slots g.slots.items n held at.is.slots (ap (λ (os : List (Option Held)). slice_get os n) (sym same) ∙ its) in
-        path_is ∙ slot.path ∙ ap Some (sym slot.held.path)
+  pub slot_withheld : {number : ℕ} → IsSlotFault slots n number → Err number ≡ slot_answer (board_state w) w.guests (name_nth w i) n
+  slot_withheld {number} fault = of (nat_le 32 n) (slot_at (lone_nth w i).slots n) refl (fault_lent at n same fault)
+    where
+      of : (past : Bool) (o : Option Function) → slot_at (lone_nth w i).slots n ≡ o → slot_checked past (is_some o) None ≡ Some number → Err number ≡ slot_by past (path_in w.guests (name_nth w i) n)
+      of true o none e = cc
+      of false None none e =
+          let path = path_named at n ∙ no_path w.handoff (guest_nth w i).paths (lone_nth w i).slots slots n (slots_lent at same) none in
+          ap (λ (k : Option ℕ). Err (unwrap_or k 0)) (sym e) ∙ ap (slot_by false) (sym path)
+      of false (Some f) none e = cc
 
-    pub path_none : unwrap_or (slice_get slots n) None ≡ None → path_in now.guests (name_nth now i) n ≡ None
-    path_none empty =
-        let at = guest_at h names gs sound now view i g there in
-        path_is ∙ no_path w.handoff at.x.paths at.x.lone.slots g.slots.items n at.is.slots (ap (λ (os : List (Option Held)). unwrap_or (slice_get os n) None) (sym same) ∙ empty)
+  pub slot_told : {held : Held} → IsInSlot slots n held → {o : Option FunctionNow} → o ≡ function_nth h.state w.guests held.index → ok_or o 601 ≡ slot_answer (board_state w) w.guests (name_nth w i) n
+  slot_told {held} inside told =
+      let slot = slot_lent at same inside.there in
+      ap (λ (x : Option FunctionNow). ok_or x 601) (nth_told at.kept held.index told ∙ ap (option_map (function_now (board_state w) w.guests)) (board_row at slot ∙ sym (found_on_board at slot)))
+      ∙ ap (slot_by false) (sym (path_there at slot)) ∙ ap (λ (t : Bool). slot_by t (path_in w.guests (name_nth w i) n)) (sym (low_slot inside.low))

@@ -50,8 +50,8 @@ use Rattle.monitor.specs.Seatings.{IsEndpointAt, MakesGift, gift_nth, has_path, 
 use Rattle.monitor.specs.declared.withheld.Withheld.TheVariants.{PastSlots, NoEndpoint, HasGuest, SlotTaken, ClosedRegion}
 use Rattle.monitor.proofs.Carried.{held_carried}
 use Rattle.monitor.proofs.FirstFunctions.{function_of, lawful_there}
-use Rattle.monitor.proofs.MoveSteps.{taken_nth}
-use Rattle.monitor.proofs.Steps.{GuestOf, guest_there}
+use Rattle.monitor.proofs.MoveSteps.{taken_lent}
+use Rattle.monitor.proofs.Steps.{GuestAt, kept_nth}
 use Rattle.monitor.proofs.TakenOver.{declared_there}
 
 -- ---- the endpoint at a path
@@ -251,16 +251,16 @@ module _ (w : WorldOver) (h : HostState) (names : List Text) (gs : List Guest) (
       had_withheld e = record { fault = sym (fault_is true (is_some (function_in w.guests (name_nth w j) n)) (has_closed_region w.handoff p is.d) (had_is true e) refl refl); comes = tt }
 
       module _ (free : has_path p gs ≡ false) (g : Guest) (there : slice_get gs j ≡ Some g) where
-        at : GuestOf w.handoff w.guests j g
-        at = guest_there w.handoff names w.guests gs j g kept.guests there
+        at : GuestAt w h names gs j g
+        at = kept_nth kept there
 
         pub full_withheld : is_taken g.slots.items n ≡ true → MakesGift w p j n (Err SlotTaken)
         full_withheld e =
-            record { fault = sym (fault_is false true (has_closed_region w.handoff p is.d) (had_is false free) (sym (taken_nth w h names gs kept j g at n) ∙ e) refl); comes = tt }
+            record { fault = sym (fault_is false true (has_closed_region w.handoff p is.d) (had_is false free) (sym (taken_lent at refl n) ∙ e) refl); comes = tt }
 
         module _ (empty : is_taken g.slots.items n ≡ false) where
           empty_is : is_some (function_in w.guests (name_nth w j) n) ≡ false
-          empty_is = sym (taken_nth w h names gs kept j g at n) ∙ empty
+          empty_is = sym (taken_lent at refl n) ∙ empty
 
           pub closed_withheld : list_any (is_closed_base (command_word (file_at h.state.functions p))) (map (base_address (file_at h.state.functions p)) is.d.regions) ≡ true → MakesGift w p j n (Err ClosedRegion)
           closed_withheld e = record { fault = sym (fault_is false false true (had_is false free) empty_is (sym (closed_is i is) ∙ e)); comes = tt }

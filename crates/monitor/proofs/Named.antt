@@ -1,37 +1,29 @@
 -- A guest by its index is the guest of its name.
-use Rattle.std.proofs.Common.{◌≡◌, ℕ, ◌<◌, List, [], length, Some, None, Option, slice_get, refl, sym, ap, ◌∙◌, subst}
-use Rattle.std.specs.Prelude.{unwrap_or, IsFalse}
+use Rattle.std.proofs.Common.{◌≡◌, ℕ, ◌<◌, List, [], length, Some, Option, slice_get, sym, ap, ◌∙◌}
 use Rattle.std.specs.Option.{option_map_or}
-use Rattle.std.specs.Str.{bytes_eq}
-use Rattle.lists.specs.Elements.{EachPair}
-use Rattle.lists.proofs.Indices.{at_below}
-use Rattle.model_guests.specs.Accesses.{Event}
-use Rattle.model_guests.specs.Lone.{after_event, reset_guest}
-use Rattle.model_guests.specs.Guests.{GuestNow, GuestsNow, lone_of, guest_after, after_guest_event}
-use Rattle.model_guests.specs.Lines.{guest_event}
-use Rattle.model_handoff.specs.WorldOver.{WorldOver, after_meaning}
+use Rattle.lists.proofs.Indices.{at_below, set_same}
+use Rattle.model_guests.specs.Lone.{reset_guest, LoneGuest}
+use Rattle.model_guests.specs.Guests.{GuestNow, GuestsNow, lone_of, with_guest}
+use Rattle.model_handoff.specs.WorldOver.{WorldOver}
 use Rattle.model_guests.proofs.Along.{by_index}
+use Rattle.model_guests.specs.Text.{Text}
+use Rattle.host_bridge.specs.HostState.{HostState}
 use Rattle.monitor.specs.ByIndex.{guest_nth, name_nth, lone_nth, with_lone_nth}
+use Rattle.monitor.specs.declared.guest.Guest.{Guest}
+use Rattle.monitor.specs.Keeping.{IsKept}
+use Rattle.monitor.proofs.Steps.{nth_there}
 
-abbrev pub AreApart : WorldOver → Type 0
-AreApart w = EachPair (λ (g h : GuestNow). IsFalse (bytes_eq g.name h.name)) w.guests
+nth_stands : (w : WorldOver) (i : ℕ) → i < length w.guests → slice_get w.guests i ≡ Some (guest_nth w i)
+nth_stands w i inside = let one = at_below w.guests i inside in one.1 ∙ ap Some (nth_there w i one.0 one.1)
 
-module _ (now : WorldOver) (apart : AreApart now) (i : ℕ) (inside : i < length now.guests) where
-  one : (x : GuestNow) × (slice_get now.guests i ≡ Some x)
-  one = at_below now.guests i inside
+-- a guest that is set to what it is
+pub same_nth : (w : WorldOver) (i : ℕ) → i < length w.guests → w ≡ with_lone_nth i (lone_nth w i) w
+same_nth w i inside = ap (λ (xs : GuestsNow). record w { guests = xs }) (sym (set_same w.guests i (guest_nth w i) (nth_stands w i inside)))
 
-  guest_is : guest_nth now i ≡ one.0
-  guest_is = ap (λ (o : Option GuestNow). unwrap_or o (record { name = []; paths = []; lone = reset_guest [] })) one.1
+module _ {w : WorldOver} {h : HostState} {names : List Text} {gs : List Guest} (kept : IsKept w h names gs) (i : ℕ) (inside : i < length w.guests) where
+  pub lone_by_name : lone_nth w i ≡ lone_of w.guests (name_nth w i)
+  lone_by_name = ap (λ (o : Option GuestNow). option_map_or (λ (g : GuestNow). g.lone) o (reset_guest [])) (sym (by_index w.guests kept.lawful.seated.names_apart i (guest_nth w i) (nth_stands w i inside)).0)
 
-  pub lone_named : lone_of now.guests (name_nth now i) ≡ lone_nth now i
-  lone_named =
-      ap (λ (g : GuestNow). lone_of now.guests g.name) guest_is
-      ∙ ap (λ (o : Option GuestNow). option_map_or (λ (g : GuestNow). g.lone) o (reset_guest [])) (by_index now.guests apart i one.0 one.1).0
-      ∙ ap (λ (g : GuestNow). g.lone) (sym guest_is)
-
-  pub after_named : (e : Event) → with_lone_nth i (after_event (lone_nth now i) e) now ≡ after_meaning now (guest_event (name_nth now i) e)
-  after_named e =
-      ap (λ (g : GuestNow). with_lone_nth i (after_event g.lone e) now) guest_is
-      ∙ ap (λ (g : GuestNow). record now { guests = Rattle.std.proofs.Common.slice_set now.guests i (record g { lone = after_event one.0.lone e }) }) guest_is
-      ∙ ap (λ (gs : GuestsNow). record now { guests = gs }) (sym ((by_index now.guests apart i one.0 one.1).1 (guest_after e)))
-      ∙ ap (λ (g : GuestNow). record now { guests = after_guest_event g.name e now.guests }) (sym guest_is)
+  pub changed_by_name : (change : LoneGuest → LoneGuest) → with_lone_nth i (change (lone_nth w i)) w ≡ record w { guests = with_guest (λ (g : GuestNow). record g { lone = change g.lone }) (name_nth w i) w.guests }
+  changed_by_name change =
+      ap (λ (xs : GuestsNow). record w { guests = xs }) (sym ((by_index w.guests kept.lawful.seated.names_apart i (guest_nth w i) (nth_stands w i inside)).1 (λ (g : GuestNow). record g { lone = change g.lone })))

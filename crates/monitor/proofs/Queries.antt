@@ -1,6 +1,6 @@
 -- What is kept of a guest shows what its regions are, and what its accesses hit.
-use Rattle.std.proofs.Common.{◌≡◌, ◌≤◌, ◌<◌, ℕ, zero, suc, ◌+◌, ◌*◌, ◌/◌, Bool, true, false, cond, eqb, List, [], ◌∷◌, length, Some, None, Option, Err, slice_get, refl, sym, ap, ap₂, ◌∙◌, subst, arith}
-use Rattle.std.specs.Prelude.{find, map, nat_le, option_map, unwrap_or}
+use Rattle.std.proofs.Common.{◌≡◌, ◌≤◌, ◌<◌, ℕ, zero, suc, ◌+◌, ◌*◌, ◌/◌, Bool, true, false, cond, eqb, List, [], ◌∷◌, Some, None, Option, Err, slice_get, refl, sym, ap, ap₂, ◌∙◌, subst, arith}
+use Rattle.std.specs.Prelude.{find, map, nat_le, option_map, Result, is_some}
 use Rattle.std.specs.Option.{option_map_or, ok_or}
 use Rattle.std.proofs.lemmas.Bool.Decides.{nat_tests}
 use Rattle.lists.proofs.Indices.{found_at, index_in}
@@ -15,22 +15,21 @@ use Rattle.model_board.specs.Paths.{Path}
 use Rattle.model_board.specs.State.{State}
 use Rattle.model_board.specs.Ports.{file_at}
 use Rattle.model_guests.specs.Slots.{slot_at}
-use Rattle.model_guests.specs.Guests.{GuestNow}
+use Rattle.model_guests.specs.Text.{Text}
 use Rattle.model_handoff.specs.WorldOver.{WorldOver}
 use Rattle.model_queries.specs.Regions.{RegionNow, is_prefetchable, region_now, region_at, region_of, region_answer}
-use Rattle.bars.specs.Slots as bars
 use Rattle.bars.specs.declared.region.Region as program
+use Rattle.bars.specs.Slots as bars
 use Rattle.host_bridge.specs.HostState.{HostState}
 use Rattle.monitor.specs.declared.guest.Held.{Held}
 use Rattle.monitor.specs.declared.guest.Guest.{Guest}
-use Rattle.monitor.specs.Views.{world_shown}
-use Rattle.monitor.specs.Keeping.{IsHeld, AreSlots, IsSound}
+use Rattle.monitor.specs.Keeping.{IsHeld, AreSlots}
 use Rattle.monitor.specs.ByIndex.{guest_nth, lone_nth}
 use Rattle.monitor.specs.Queries.{IsGuestNth}
-use Rattle.monitor.proofs.Steps.{slot_there, slot_empty, here}
-use Rattle.monitor.proofs.RegionGoals.{guest_at}
+use Rattle.monitor.specs.InSlots.{IsInSlot, IsSlotFault}
+use Rattle.monitor.proofs.Steps.{slot_there, GuestAt, lone_named, slot_nth}
 use Rattle.monitor.proofs.ConfigSteps.{seen}
-use Rattle.monitor.proofs.Named.{AreApart, lone_named}
+use Rattle.monitor.proofs.Checks.{low_slot, slot_checked}
 
 -- ---- a base of 64 bits
 
@@ -182,52 +181,36 @@ region_told f n x is k kind v space first size pref opened =
 
 -- ---- a guest by its index
 
-record IsGuestShown (v : WorldOver) (k : ℕ) (g : Guest) : Type 0 where
-  latch : (lone_nth v k).latch ≡ g.latch
-  slots : AreSlots v.handoff (guest_nth v k).paths (lone_nth v k).slots g.slots.items
-
-module _ (h : HostState) (names : List (List ℕ)) (gs : List Guest) (sound : IsSound h names gs) (now : WorldOver) (view : world_shown h names gs ≡ now) (i : ℕ) (g : Guest) (there : slice_get gs i ≡ Some g) (inside : i < length now.guests) where
-  abbrev w : WorldOver
-  w = world_shown h names gs
-
-  pub guest_nth_is : IsGuestNth now i g
-  guest_nth_is =
-      let at = guest_at h names gs sound now view i g there in
-      let same : at.x ≡ guest_nth w i = sym (here w h names gs sound i g at) in
-      let apart : AreApart now = subst AreApart view sound.lawful.seated.names_apart in
-      let shown : IsGuestShown w i g = record {
-        latch = ap (λ (x : GuestNow). x.lone.latch) (sym same) ∙ at.is.latch;
-        slots = subst (λ (x : GuestNow). AreSlots w.handoff x.paths x.lone.slots g.slots.items) same at.is.slots;
-      } in
-      let now_shown : IsGuestShown now i g = subst (λ (v : WorldOver). IsGuestShown v i g) view shown in
-      record {
-        named = lone_named now apart i inside;
-        latch = now_shown.latch;
-        slots = now_shown.slots;
-        lawful = λ n held its. (seen w h names gs sound i g at n held (slot_there w.handoff at.x.paths at.x.lone.slots g.slots.items n held at.is.slots its)).lawful;
-      }
+pub guest_nth_is : {w : WorldOver} {h : HostState} {names : List Text} {gs : List Guest} {i : ℕ} {g : Guest} → GuestAt w h names gs i g → IsGuestNth w i g
+guest_nth_is at = record {
+  named = lone_named at;
+  latch = at.is.latch;
+  slots = at.is.slots;
+  lawful = λ n held its. (seen at (slot_nth at its)).lawful;
+}
 
 -- ---- answers
 
-module _ (w : WorldOver) (i : ℕ) (g : Guest) (is : IsGuestNth w i g) (slots : List (Option Held)) (same : slots ≡ g.slots.items) (n m : ℕ) (few : n ≤ 31) where
-  low : nat_le 32 n ≡ false
-  low = grind (arith, nat_tests)
+module _ {w : WorldOver} {i : ℕ} {g : Guest} (is : IsGuestNth w i g) {slots : List (Option Held)} (same : slots ≡ g.slots.items) (n m : ℕ) where
+  lent : AreSlots w.handoff (guest_nth w i).paths (lone_nth w i).slots slots
+  lent = subst (AreSlots w.handoff (guest_nth w i).paths (lone_nth w i).slots) (sym same) is.slots
 
-  asked : (o : Option Function) → slot_at (lone_nth w i).slots n ≡ o → region_answer (lone_nth w i) n m ≡ option_map_or (λ (f : Function). region_of f m) o (Err 601)
-  asked o at =
-      ap (λ (t : Bool). cond t (Err 303) (option_map_or (λ (x : Function). region_of x m) (slot_at (lone_nth w i).slots n) (Err 601))) low
-      ∙ ap (λ (p : Option Function). option_map_or (λ (x : Function). region_of x m) p (Err 601)) at
+  abbrev answer_by : Bool → Option Function → Result RegionNow ℕ
+  answer_by past o = cond past (Err 303) (option_map_or (λ (f : Function). region_of f m) o (Err 601))
 
-  pub answer_empty : unwrap_or (slice_get slots n) None ≡ None → region_answer (lone_nth w i) n m ≡ Err 601
-  answer_empty empty =
-      asked None (slot_empty w.handoff (guest_nth w i).paths (lone_nth w i).slots g.slots.items n is.slots
-      (ap (λ (os : List (Option Held)). unwrap_or (slice_get os n) None) (sym same) ∙ empty))
+  pub answer_refused : {number : ℕ} → IsSlotFault slots n number → Err number ≡ region_answer (lone_nth w i) n m
+  answer_refused {number} fault = of (nat_le 32 n) (slot_at (lone_nth w i).slots n) (fault w.handoff (guest_nth w i).paths (lone_nth w i).slots lent)
+    where
+      of : (past : Bool) (o : Option Function) → slot_checked past (is_some o) None ≡ Some number → Err number ≡ answer_by past o
+      of true o e = cc
+      of false None e = cc
+      of false (Some f) e = cc
 
-  pub answer_there : (held : Held) → slice_get slots n ≡ Some (Some held) → (o : Option RegionNow)
+  pub answer_there : {held : Held} → IsInSlot slots n held → {o : Option RegionNow}
       → ((s : State) (p : Path) (f : Function) → IsHeld s p f held → IsLawfulOwn held.own → o ≡ option_map (region_now f.file) (region_at f m))
-      → region_answer (lone_nth w i) n m ≡ ok_or o 303
-  answer_there held there o told =
-      let at : slice_get g.slots.items n ≡ Some (Some held) = ap (λ (os : List (Option Held)). slice_get os n) (sym same) ∙ there in
-      let slot = slot_there w.handoff (guest_nth w i).paths (lone_nth w i).slots g.slots.items n held is.slots at in
-      asked (Some slot.f) slot.function
-      ∙ ap (λ (p : Option RegionNow). ok_or p 303) (sym (told w.handoff slot.p slot.f slot.held (is.lawful n held at)))
+      → ok_or o 303 ≡ region_answer (lone_nth w i) n m
+  answer_there {held} inside {o} told =
+      let slot = slot_there w.handoff (guest_nth w i).paths (lone_nth w i).slots slots n held lent inside.there in
+      let lawful : IsLawfulOwn held.own = is.lawful n held (ap (λ (os : List (Option Held)). slice_get os n) (sym same) ∙ inside.there) in
+      ap (λ (p : Option RegionNow). ok_or p 303) (told w.handoff slot.p slot.f slot.held lawful)
+      ∙ ap (answer_by false) (sym slot.function) ∙ ap (λ (t : Bool). answer_by t (slot_at (lone_nth w i).slots n)) (sym (low_slot inside.low))

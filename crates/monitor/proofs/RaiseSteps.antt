@@ -1,16 +1,15 @@
 -- A raise of bits of a function in a slot: the checks in their order, and the world after it.
-use Rattle.std.proofs.Common.{◌≡◌, ◌≤◌, ℕ, Bool, true, false, cond, List, Some, None, Option, slice_get, refl, sym, ap, ◌∙◌, subst, arith}
-use Rattle.std.specs.Prelude.{is_some, not, nat_le, nat_lt, IsSome, if◌then◌else◌}
+use Rattle.std.proofs.Common.{◌≡◌, ◌≤◌, ℕ, Bool, true, false, cond, List, Some, None, Option, refl, sym, ap, ◌∙◌, subst}
+use Rattle.std.specs.Prelude.{is_some, not, nat_le, nat_lt, if◌then◌else◌}
 use Rattle.std.specs.List.{list_any}
 use Rattle.std.specs.Option.{option_map_or}
-use Rattle.std.proofs.lemmas.Bool.{lt-leb}
 use Rattle.lists.proofs.Indices.{set_same}
 use Rattle.model_registers.specs.Cell.{raised}
 use Rattle.model_registers.specs.Registers.{Place, config, block, File, raise}
 use Rattle.model_registers.specs.Decoding.{Function}
 use Rattle.model_board.specs.Paths.{Path}
-use Rattle.model_board.specs.State.{BoardFunction, State, with_file}
-use Rattle.model_guests.specs.Accesses.{Raise, raises, Reply, done, refused}
+use Rattle.model_board.specs.State.{State, with_file}
+use Rattle.model_guests.specs.Accesses.{Raise, raises, done, refused}
 use Rattle.model_guests.specs.Slots.{slot_at, raise_place, raise_landing, raise_fault, affected}
 use Rattle.model_guests.specs.Slots as guests
 use Rattle.model_guests.specs.Lone.{LoneGuest, answer, after_event}
@@ -18,68 +17,30 @@ use Rattle.model_handoff.specs.WorldOver.{WorldOver}
 use Rattle.model_guests.specs.AgreedBoard.{with_change_at}
 use Rattle.model_guests.specs.ChangeLaws.{with_slot_changed}
 use Rattle.model_guests.proofs.AgreedFiles.{raises_alike}
+use Rattle.model_guests.specs.Text.{Text}
 use Rattle.guest_functions.proofs.HeldCopies.{raised_held}
 use Rattle.headers.specs.declared.place.Place as headers
 use Rattle.headers.specs.declared.place.Place.TheVariants.{Cfg, Bar}
 use Rattle.headers.specs.Places.{place_of}
-use Rattle.bridge_forward.specs.Lending.{as_endpoint, endpoint_at}
 use Rattle.host_bridge.specs.HostState.{HostState, with_functions}
 use Rattle.accesses.specs.Accesses.{part_of}
 use Rattle.monitor.specs.declared.guest.Held.{Held}
 use Rattle.monitor.specs.declared.guest.Guest.{Guest}
-use Rattle.monitor.specs.Keeping.{IsKept}
-use Rattle.monitor.specs.ByIndex.{lone_nth, with_lone_nth}
+use Rattle.monitor.specs.Keeping.{IsKept, IsHeld}
+use Rattle.monitor.specs.ByIndex.{lone_nth, with_lone_nth, guest_nth}
 use Rattle.monitor.specs.Raises.{raised_beside_copies}
-use Rattle.monitor.proofs.Steps.{SlotOf, GuestOf, with_guest_at, kept_slot}
-use Rattle.monitor.proofs.Reached.{found_on_board}
-use Rattle.monitor.proofs.RegionSteps.{changed_shape, lone_is, with_lone}
+use Rattle.monitor.specs.InSlots.{IsSlotFault}
+use Rattle.monitor.proofs.Steps.{with_guest_at, kept_slot, GuestAt, SlotAt, fault_lent, in_place, with_same}
+use Rattle.monitor.proofs.RegionSteps.{changed_shape}
+use Rattle.monitor.proofs.Calls.{Leaves, leaves}
+use Rattle.monitor.proofs.Checks.{low_slot, passes_slot, refused_first}
 
 abbrev pub raise_of : ℕ → headers.Place → ℕ → ℕ → Raise
 raise_of slot place off mask = record { slot = slot; part = part_of place; offset = off; mask = mask }
 
--- ---- the checks
-
--- by the tests that they make
-abbrev fault_by : Bool → Option Function → Raise → Option ℕ
-fault_by past o r = if past then Some 303 else (if not (is_some o) then Some 601 else (if not (is_some (raise_landing o r)) then Some 303 else None))
-
--- what a raise answers, and the guest after it
-pub record RaiseIs (g : LoneGuest) (r : Raise) (reply : Reply) (new : LoneGuest) : Type 0 where
-  pub reply_is : answer g (raises r) ≡ reply
-  pub after_is : after_event g (raises r) ≡ new
-
-module _ (g : LoneGuest) (r : Raise) where
-  refused_by : (n : ℕ) → raise_fault g.slots r ≡ Some n → RaiseIs g r (refused n) g
-  refused_by n e = record {
-    reply_is = ap (λ (o : Option ℕ). option_map_or refused o done) e;
-    after_is = ap (λ (o : Option ℕ). if is_some o then g else record g { slots = affected g.slots (raises r) }) e;
-  }
-
-  low_slot : r.slot ≤ 31 → nat_le 32 r.slot ≡ false
-  low_slot h = lt-leb 32 r.slot (omega arith)
-
-  pub slot_past : nat_le 32 r.slot ≡ true → RaiseIs g r (refused 303) g
-  slot_past h = refused_by 303 (ap (λ (t : Bool). fault_by t (slot_at g.slots r.slot) r) h)
-
-  pub slot_is_empty : r.slot ≤ 31 → slot_at g.slots r.slot ≡ None → RaiseIs g r (refused 601) g
-  slot_is_empty low h = refused_by 601 (ap (λ (t : Bool). fault_by t (slot_at g.slots r.slot) r) (low_slot low) ∙ ap (λ (o : Option Function). fault_by false o r) h)
-
-  module _ (low : r.slot ≤ 31) (f : Function) (there : slot_at g.slots r.slot ≡ Some f) where
-    checked : raise_fault g.slots r ≡ fault_by false (Some f) r
-    checked = ap (λ (t : Bool). fault_by t (slot_at g.slots r.slot) r) (low_slot low) ∙ ap (λ (o : Option Function). fault_by false o r) there
-
-    pub no_place : is_some (raise_place f r.part r.offset) ≡ false → RaiseIs g r (refused 303) g
-    no_place h = refused_by 303 (checked ∙ ap (λ (t : Bool). let o : Option ℕ = if not t then Some 303 else None in o) h)
-
-    pub raised_at : (p : Place) → raise_place f r.part r.offset ≡ Some p → RaiseIs g r done (record g { slots = guests.with_file (raise r.mask p) r.slot g.slots })
-    raised_at p at =
-        let passed : raise_fault g.slots r ≡ None = checked ∙ ap (λ (o : Option Place). let n : Option ℕ = if not (is_some o) then Some 303 else None in n) at in
-        let lands : raise_landing (slot_at g.slots r.slot) r ≡ Some p = ap (λ (o : Option Function). raise_landing o r) there ∙ at in
-        record {
-          reply_is = ap (λ (o : Option ℕ). option_map_or refused o done) passed;
-          after_is = ap (λ (o : Option ℕ). if is_some o then g else record g { slots = affected g.slots (raises r) }) passed
-              ∙ ap (λ (o : Option Place). record g { slots = option_map_or (λ (q : Place). guests.with_file (raise r.mask q) r.slot g.slots) o g.slots }) lands;
-        }
+-- what `has_place` says of a function in a slot
+abbrev pub HasPlace : Held → headers.Place → ℕ → Bool → Type 0
+HasPlace held place off has = (s : State) (p : Path) (f : Function) → IsHeld s p f held → has ≡ is_some (raise_place f (part_of place) off)
 
 -- the place of a raise that is not refused
 pub named_place : (f : Function) (place : headers.Place) (off : ℕ) → is_some (raise_place f (part_of place) off) ≡ true → raise_place f (part_of place) off ≡ Some (place_of place off)
@@ -95,47 +56,62 @@ named_place f place off h = of place h
 
 -- ---- a function in a slot of a world that is kept
 
-module _ (w : WorldOver) (h : HostState) (names : List (List ℕ)) (gs : List Guest) (kept : IsKept w h names gs) (i : ℕ) (g : Guest) (at : GuestOf w.handoff w.guests i g) where
+module _ {w : WorldOver} {h : HostState} {names : List Text} {gs : List Guest} {i : ℕ} {g : Guest} (at : GuestAt w h names gs i g) where
   -- a raise that is refused
-  pub raise_refused : (r : Raise) (n : ℕ) → RaiseIs at.x.lone r (refused n) at.x.lone → (refused n ≡ answer (lone_nth w i) (raises r)) × (w ≡ with_lone_nth i (after_event (lone_nth w i) (raises r)) w)
-  raise_refused r n is = (
-    sym is.reply_is ∙ ap (λ (l : LoneGuest). answer l (raises r)) (sym (lone_is w h names gs kept i g at)),
-    ap (λ xs. record w { guests = xs }) (sym (set_same w.guests i at.x at.there)) ∙ ap (λ (l : LoneGuest). with_guest_at i (record at.x { lone = l }) w) (sym is.after_is)
-        ∙ sym (with_lone w h names gs kept i g at (λ l. after_event l (raises r))),
-  )
+  module _ (r : Raise) {number : ℕ} (fault : raise_fault (lone_nth w i).slots r ≡ Some number) where
+    pub raise_refused : refused number ≡ answer (lone_nth w i) (raises r)
+    raise_refused = sym (ap (λ (o : Option ℕ). option_map_or refused o done) fault)
 
-  module _ (n : ℕ) (held : Held) (slot : SlotOf w.handoff at.x.paths at.x.lone.slots n held) where
-    -- the board has the endpoint
-    pub endpoint_there : IsSome (endpoint_at h.state.functions held.path)
-    endpoint_there =
-        let found = ap (λ (s : State). endpoint_at s.functions held.path) kept.agrees
-        ∙ ap (λ (p : Path). endpoint_at (Rattle.model_handoff.specs.WorldOver.board_state w).functions p) slot.held.path
-        ∙ ap (λ (o : Option BoardFunction). option_map_or as_endpoint o None) (found_on_board w h names gs kept i g at n held slot) in
-        subst IsSome (sym found) refl
+    pub nothing_raised : w ≡ with_lone_nth i (after_event (lone_nth w i) (raises r)) w
+    nothing_raised =
+        sym (with_same at) ∙ ap (λ (o : Option ℕ). with_lone_nth i (if is_some o then lone_nth w i else record (lone_nth w i) { slots = affected (lone_nth w i).slots (raises r) }) w) (sym fault)
 
-    module _ (place : headers.Place) (off mask : ℕ) where
+  pub raise_slot_refused : {slots : List (Option Held)} → slots ≡ g.slots.items → (r : Raise) {number : ℕ} → IsSlotFault slots r.slot number → raise_fault (lone_nth w i).slots r ≡ Some number
+  raise_slot_refused same r fault =
+      refused_first (nat_le 32 r.slot) (is_some (slot_at (lone_nth w i).slots r.slot)) (cond (not (is_some (raise_landing (slot_at (lone_nth w i).slots r.slot) r))) (Some 303) None)
+      (fault_lent at r.slot same fault)
+
+  module _ {n : ℕ} {held : Held} (slot : SlotAt at n held) (low : n ≤ 31) (place : headers.Place) (off mask : ℕ) where
+    abbrev r : Raise
+    r = raise_of n place off mask
+
+    checked : raise_fault (lone_nth w i).slots r ≡ cond (not (is_some (raise_place slot.f (part_of place) off))) (Some 303) None
+    checked =
+        passes_slot (low_slot low) (ap is_some slot.function) (cond (not (is_some (raise_landing (slot_at (lone_nth w i).slots n) r))) (Some 303) None)
+        ∙ ap (λ (o : Option Function). cond {A = Option ℕ} (not (is_some (raise_landing o r))) (Some 303) None) slot.function
+
+    pub no_place : HasPlace held place off false → raise_fault (lone_nth w i).slots r ≡ Some 303
+    no_place has = checked ∙ ap (λ (t : Bool). cond {A = Option ℕ} (not t) (Some 303) None) (sym (has w.handoff slot.p slot.f slot.held))
+
+    module _ (has : HasPlace held place off true) where
+      raised_at : raise_place slot.f (part_of place) off ≡ Some (place_of place off)
+      raised_at = named_place slot.f place off (sym (has w.handoff slot.p slot.f slot.held))
+
+      passes : raise_fault (lone_nth w i).slots r ≡ None
+      passes = checked ∙ ap (λ (t : Bool). cond {A = Option ℕ} (not t) (Some 303) None) (sym (has w.handoff slot.p slot.f slot.held))
+
+      pub raise_done : done ≡ answer (lone_nth w i) (raises r)
+      raise_done = sym (ap (λ (o : Option ℕ). option_map_or refused o done) passes)
+
       abbrev own_change : File → File
       own_change = raise mask (place_of place off)
 
-      abbrev pub raised_world : WorldOver
-      raised_world = with_guest_at i (with_slot_changed own_change n at.x) w
+      world : with_lone_nth i (after_event (lone_nth w i) (raises r)) w ≡ with_guest_at i (with_slot_changed own_change n (guest_nth w i)) w
+      world =
+          let lone : LoneGuest = lone_nth w i in
+          ap (λ (o : Option ℕ). with_lone_nth i (if is_some o then lone else record lone { slots = affected lone.slots (raises r) }) w) passes
+          ∙ ap (λ (o : Option Place). with_lone_nth i (record lone { slots = option_map_or (λ (q : Place). guests.with_file (raise mask q) n lone.slots) o lone.slots }) w)
+          (ap (λ (o : Option Function). raise_landing o r) slot.function ∙ raised_at)
 
-      pub raise_done : n ≤ 31 → is_some (raise_place slot.f (part_of place) off) ≡ true
-          → (done ≡ answer (lone_nth w i) (raises (raise_of n place off mask))) × (with_lone_nth i (after_event (lone_nth w i) (raises (raise_of n place off mask))) w ≡ raised_world)
-      raise_done low has =
-          let r : Raise = raise_of n place off mask in
-          let is = raised_at at.x.lone r low slot.f slot.function (place_of place off) (named_place slot.f place off has) in (
-            sym is.reply_is ∙ ap (λ (l : LoneGuest). answer l (raises r)) (sym (lone_is w h names gs kept i g at)),
-            with_lone w h names gs kept i g at (λ l. after_event l (raises r)) ∙ ap (λ (l : LoneGuest). with_guest_at i (record at.x { lone = l }) w) is.after_is,
-          )
-
-      pub raise_kept : slice_get gs i ≡ Some g → slice_get g.slots.items n ≡ Some (Some held)
-          → (new : HostState) → new ≡ with_functions (with_file (raised_beside_copies mask (place_of place off)) held.path h.state.functions) h → IsKept raised_world new names gs
-      raise_kept there holds new is_new =
-          subst (IsKept raised_world new names) (set_same gs i g there)
-          (kept_slot w h names gs kept i g at n held slot own_change (raised_beside_copies mask (place_of place off)) (raises_alike mask (place_of place off))
+      pub raise_written : {new : HostState} → new ≡ with_functions (with_file (raised_beside_copies mask (place_of place off)) held.path h.state.functions) h
+          → Leaves (with_lone_nth i (after_event (lone_nth w i) (raises r)) w) h new names gs
+      raise_written {new} is_new = leaves at.kept
+          (subst (λ (v : WorldOver). IsKept v new names gs) (sym world)
+          (in_place at _ new
+          (kept_slot at slot own_change (raised_beside_copies mask (place_of place off)) (raises_alike mask (place_of place off))
           (changed_shape (raised mask) (λ c. refl) (place_of place off))
           held.own (raised_held held.own slot.f.file slot.held.own mask (place_of place off)) refl
-          g refl (sym (set_same g.slots.items n (Some held) holds))
+          g refl (sym (set_same g.slots.items n (Some held) slot.holds))
           new
-          (ap (λ (k : HostState). k.state) is_new ∙ ap (λ (p : Path). with_change_at (raised_beside_copies mask (place_of place off)) p h.state) slot.held.path))
+          (ap (λ (k : HostState). k.state) is_new ∙ ap (λ (p : Path). with_change_at (raised_beside_copies mask (place_of place off)) p h.state) slot.held.path))))
+          refl

@@ -1,6 +1,6 @@
 -- A guest's address on the board: where it lands, the claim there, and what is read and written.
-use Rattle.std.proofs.Common.{◌≡◌, ℕ, ◌+◌, ◌%◌, Bool, true, false, ◌&&◌, inl, inr, List, [], ◌∷◌, Some, Option, slice_get, refl, sym, ap, ap₂, ◌∙◌, subst, arith}
-use Rattle.std.specs.Prelude.{find, map, IsTrue, not, option_map}
+use Rattle.std.proofs.Common.{◌≡◌, ℕ, ◌+◌, ◌%◌, Bool, true, false, ◌&&◌, inl, inr, List, [], ◌∷◌, Some, Option, slice_get, refl, sym, ap, ap₂, ◌∙◌, subst, arith, None}
+use Rattle.std.specs.Prelude.{find, map, IsTrue, not, option_map, IsSome}
 use Rattle.std.specs.Option.{option_map_or}
 use Rattle.std.proofs.lemmas.Option.{slice_get_within}
 use Rattle.lists.specs.Elements.{Each, EachPair}
@@ -10,20 +10,20 @@ use Rattle.model_registers.specs.OwnCopies.{handed_on}
 use Rattle.model_registers.specs.Decoding.{Space}
 use Rattle.model_board.specs.Paths.{Path, path_eq, path_before}
 use Rattle.model_board.specs.Board.{endpoint, Row, Board, IsBoard}
-use Rattle.model_board.specs.State.{BoardFunction, row_at}
+use Rattle.model_board.specs.State.{BoardFunction, row_at, State}
 use Rattle.model_board.specs.Claims.{claim_at}
 use Rattle.model_board.specs.AtReset.{board_at}
 use Rattle.model_board.specs.Ports.{claim_reply, file_at}
 use Rattle.model_registers.specs.CopiedFiles.{agreed_file, places_of}
 use Rattle.model_guests.specs.Slots.{slot_at}
-use Rattle.model_guests.specs.Lone.{reset_guest}
-use Rattle.model_guests.specs.Guests.{GuestNow}
 use Rattle.model_handoff.specs.WorldOver.{WorldOver, board_state}
 use Rattle.model_guests.specs.Seated.{IsSeat, IsSeatedAt, IsSeatedGuest}
 use Rattle.model_guests.proofs.GuestsByName.{path_at}
 use Rattle.lists.proofs.Indices.{each_at}
+use Rattle.model_registers.specs.DeclarationRules.{IsLawfulEndpoint}
 use Rattle.model_guests.proofs.Seats.{seats_at}
 use Rattle.model_guests.proofs.KeptNumbers.{shows_file}
+use Rattle.model_guests.specs.Text.{Text}
 use Rattle.model_handoff.specs.Regions.{base_in}
 use Rattle.model_handoff.specs.RegionLaws.{HasSlot, ReachesOver}
 use Rattle.model_handoff.proofs.Keeping.{keeps_board}
@@ -31,16 +31,17 @@ use Rattle.model_handoff.proofs.Regions.{hit_reaches_over}
 use Rattle.bars.specs.Hits.{hit_in}
 use Rattle.bridge_forward.specs.declared.bus.Located.{Located}
 use Rattle.bridge_forward.specs.Locating.{located_claim}
+use Rattle.bridge_forward.specs.Lending.{as_endpoint, endpoint_at}
 use Rattle.host_bridge.specs.HostState.{HostState}
 use Rattle.host_bridge.specs.Landings.{IsLanding}
 use Rattle.host_bridge.proofs.Lent.{HasDistinctPaths, distinct_paths}
 use Rattle.host_bridge.proofs.ByIndex.{found_at}
 use Rattle.monitor.specs.declared.guest.Held.{Held}
 use Rattle.monitor.specs.declared.guest.Guest.{Guest}
-use Rattle.monitor.specs.Keeping.{IsKept}
 use Rattle.monitor.specs.Reaches.{LandsIn}
-use Rattle.monitor.proofs.Shown.{board_there, file_named, same_as_left}
-use Rattle.monitor.proofs.Steps.{SlotOf, slot_there, GuestOf, named, path_named}
+use Rattle.monitor.specs.ByIndex.{guest_nth, lone_nth, name_nth}
+use Rattle.monitor.proofs.Shown.{board_there, file_named, same_as_left, lawful_at}
+use Rattle.monitor.proofs.Steps.{named, GuestAt, SlotAt, function_there, path_there, slot_nth}
 
 -- ---- paths of the board
 
@@ -78,29 +79,28 @@ same_lanes a c w (inr (inr e)) h k =
 
 -- ---- a guest's slot of a world that is kept
 
-module _ (w : WorldOver) (h : HostState) (names : List (List ℕ)) (gs : List Guest) (kept : IsKept w h names gs) (i : ℕ) (g : Guest) (at : GuestOf w.handoff w.guests i g) where
+module _ {w : WorldOver} {h : HostState} {names : List Text} {gs : List Guest} {i : ℕ} {g : Guest} (at : GuestAt w h names gs i g) where
   abbrev pub functions : List BoardFunction
   functions = (board_state w).functions
 
   abbrev board : Board
   board = board_at w.handoff.functions
 
-  pub seat : (n : ℕ) (held : Held) (slot : SlotOf w.handoff at.x.paths at.x.lone.slots n held) → IsSeatedAt (board_at w.handoff.functions) slot.p slot.f
-  seat n held slot =
-      let all : IsSeatedGuest board at.x = each_at (IsSeatedGuest board) w.guests i at.x kept.lawful.seated.guests at.there in
-      let one : IsSeat board (path_at at.x.paths n) (slot_at at.x.lone.slots n) = seats_at board at.x.paths at.x.lone.slots n all.seats in
-      subst (λ (q : Option Path). IsSeat board q (Some slot.f)) slot.path (subst (IsSeat board (path_at at.x.paths n)) slot.function one)
+  pub seated : IsSeatedGuest (board_at w.handoff.functions) (guest_nth w i)
+  seated = each_at (IsSeatedGuest board) w.guests i (guest_nth w i) at.kept.lawful.seated.guests at.there
+
+  pub seat : {n : ℕ} {held : Held} → (slot : SlotAt at n held) → IsSeatedAt (board_at w.handoff.functions) slot.p slot.f
+  seat {n} slot =
+      let one : IsSeat board (path_at (guest_nth w i).paths n) (slot_at (lone_nth w i).slots n) = seats_at board (guest_nth w i).paths (lone_nth w i).slots n seated.seats in
+      subst (λ (q : Option Path). IsSeat board q (Some slot.f)) slot.path (subst (IsSeat board (path_at (guest_nth w i).paths n)) slot.function one)
 
   pub distinct : HasDistinctPaths functions
-  distinct = board_distinct board functions kept.lawful.handoff.board.places (keeps_board w.handoff w.guests)
+  distinct = board_distinct board functions at.kept.lawful.handoff.board.places (keeps_board w.handoff w.guests)
 
-  module _ (n : ℕ) (held : Held) (slot : SlotOf w.handoff at.x.paths at.x.lone.slots n held) where
+  module _ {n : ℕ} {held : Held} (slot : SlotAt at n held) where
     -- by the guest's name
-    pub named_slot : HasSlot w.guests at.x.name n slot.p slot.f
-    named_slot = record {
-      path = path_named w h names gs kept i g at n ∙ slot.path;
-      function = ap (λ (o : Option GuestNow). slot_at (option_map_or (λ (t : GuestNow). t.lone) o (reset_guest [])).slots n) (named w h names gs kept i g at) ∙ slot.function;
-    }
+    pub named_slot : HasSlot w.guests (name_nth w i) n slot.p slot.f
+    named_slot = record { path = path_there at slot; function = function_there at slot }
 
     abbrev pub left : File
     left = file_at w.handoff.functions slot.p
@@ -110,14 +110,22 @@ module _ (w : WorldOver) (h : HostState) (names : List (List ℕ)) (gs : List Gu
 
     pub board_row : slice_get functions held.index ≡ Some on_board
     board_row =
-        board_there w.handoff kept.lawful.handoff w.guests slot.p slot.f (seat n held slot) held.index slot.held.row
-        (file_named board w.guests at.x n slot.p slot.f kept.lawful.seated (named w h names gs kept i g at) slot.path slot.function)
+        board_there w.handoff at.kept.lawful.handoff w.guests slot.p slot.f (seat slot) held.index slot.held.row
+        (file_named board w.guests (guest_nth w i) n slot.p slot.f at.kept.lawful.seated (named at) slot.path slot.function)
 
     pub found_on_board : find (λ (f : BoardFunction). path_eq f.path slot.p) functions ≡ Some on_board
     found_on_board = found_at on_board functions held.index distinct board_row
 
+    -- the board has the endpoint
+    pub endpoint_held : IsSome (endpoint_at h.state.functions held.path)
+    endpoint_held =
+        let found = ap (λ (s : State). endpoint_at s.functions held.path) at.kept.agrees
+        ∙ ap (λ (p : Path). endpoint_at functions p) slot.held.path
+        ∙ ap (λ (o : Option BoardFunction). option_map_or as_endpoint o None) found_on_board in
+        subst IsSome (sym found) refl
+
     pub places_same : places_of slot.f.file ≡ places_of left
-    places_same = same_as_left w.handoff kept.lawful.handoff w.guests slot.p slot.f (seat n held slot)
+    places_same = same_as_left w.handoff at.kept.lawful.handoff w.guests slot.p slot.f (seat slot)
 
     -- what the board shows of the bytes of which the guest has no copy
     board_shows : (p : Place) (ons : List Bool) → read on_board.file p (handed_on p ons) ≡ read slot.f.file p (handed_on p ons)
@@ -129,32 +137,32 @@ module _ (w : WorldOver) (h : HostState) (names : List (List ℕ)) (gs : List Gu
         ap (λ (o : Option BoardFunction). number (option_map_or (λ (f : BoardFunction). f.file) o []) (block k a) width) found_on_board
         ∙ ap (read on_board.file (block k a)) (sym (all_handed k a ons)) ∙ board_shows (block k a) ons ∙ ap (read slot.f.file (block k a)) (all_handed k a ons)
 
+    -- the function is lawful in the handoff
+    pub lawful : IsLawfulEndpoint slot.f.decl
+    lawful = lawful_at (board_at w.handoff.functions) slot.p slot.f at.kept.lawful.handoff.board.declarations (seat slot)
+
   -- where an address lands
-  module _ (space : Space) (addr : ℕ) (l : ℕ × ℕ × ℕ) (lands : LandsIn g.slots.items space addr l) where
-    pub slot : SlotOf w.handoff at.x.paths at.x.lone.slots l.0 lands.held
-    slot = slot_there w.handoff at.x.paths at.x.lone.slots g.slots.items l.0 lands.held at.is.slots lands.there
+  module _ {space : Space} {addr : ℕ} {l : ℕ × ℕ × ℕ} (lands : LandsIn g.slots.items space addr l) where
+    pub lands_at : SlotAt at l.0 lands.held
+    lands_at = slot_nth at lands.there
 
-    pub reach : ReachesOver w.handoff w.guests slot.p slot.f space addr (hit_in l.1 l.2)
+    reach : ReachesOver w.handoff w.guests lands_at.p lands_at.f space addr (hit_in l.1 l.2)
     reach =
-        hit_reaches_over w.handoff kept.lawful.handoff.board kept.lawful.order.routes w.guests kept.lawful.seated kept.lawful.served at.x.name l.0 slot.p slot.f
-        (named_slot l.0 lands.held slot) space addr (hit_in l.1 l.2) (sym (lands.decodes slot.f slot.held.own slot.held.regions))
-
-    -- where the byte stands on the board
-    abbrev pub address : ℕ
-    address = base_in w.handoff slot.p reach.region + l.2
+        hit_reaches_over w.handoff at.kept.lawful.handoff.board at.kept.lawful.order.routes w.guests at.kept.lawful.seated at.kept.lawful.served (name_nth w i) l.0 lands_at.p lands_at.f
+        (named_slot lands_at) space addr (hit_in l.1 l.2) (sym (lands.decodes lands_at.f lands_at.held.own lands_at.held.regions))
 
     -- the function by its index
     abbrev pub landed : Located
     landed = record { index = lands.held.index; region = l.1; offset = l.2 }
 
-    pub claim_by_index : located_claim functions (Some landed) ≡ Some (record { path = slot.p; index = l.1; offset = l.2 })
-    claim_by_index = ap (option_map (λ (f : BoardFunction). claim_at f.path (hit_in l.1 l.2))) (board_row l.0 lands.held slot)
+    pub claim_by_index : located_claim functions (Some landed) ≡ Some (record { path = lands_at.p; index = l.1; offset = l.2 })
+    claim_by_index = ap (option_map (λ (f : BoardFunction). claim_at f.path (hit_in l.1 l.2))) (board_row lands_at)
 
     pub is_landing : (width : ℕ) → IsWidth width → addr % width ≡ 0 → IsLanding functions landed width
     is_landing width wide whole = record {
       space = space;
-      address = address;
-      aligned = same_lanes addr address width wide reach.lanes whole;
+      address = base_in w.handoff lands_at.p reach.region + l.2;
+      aligned = same_lanes addr (base_in w.handoff lands_at.p reach.region + l.2) width wide reach.lanes whole;
       claim = claim_by_index ∙ sym reach.claimed.first;
-      within = slice_get_within functions lands.held.index (on_board l.0 lands.held slot) (board_row l.0 lands.held slot);
+      within = slice_get_within functions lands.held.index (on_board lands_at) (board_row lands_at);
     }

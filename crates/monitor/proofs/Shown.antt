@@ -169,13 +169,13 @@ module _ (w : WorldOver) (h : HostState) (names : List Text) (gs : List Guest) (
 
 -- ---- what is asked of it
 
-pub names_shown : (s : State) (fs : List BoardFunction) (ts : List Text) (ws : GuestsNow) (gs : List Guest) → AreGuests s ts ws gs → names_of (guests_shown fs ts gs) ≡ ts
-names_shown s fs [] [] [] are = refl
-names_shown s fs [] [] (g ∷ gs) are = refl
-names_shown s fs [] (w ∷ ws) gs are = refl
-names_shown s fs (t ∷ ts) [] gs are = absurd are
-names_shown s fs (t ∷ ts) (w ∷ ws) [] are = absurd are
-names_shown s fs (t ∷ ts) (w ∷ ws) (g ∷ gs) are = ap (λ (x : List Text). t ∷ x) (names_shown s fs ts ws gs are.1)
+pub names_kept : (s : State) (ts : List Text) (ws : GuestsNow) (gs : List Guest) → AreGuests s ts ws gs → names_of ws ≡ ts
+names_kept s [] [] gs are = refl
+names_kept s [] (w ∷ ws) [] are = absurd are
+names_kept s [] (w ∷ ws) (g ∷ gs) are = absurd are
+names_kept s (t ∷ ts) [] gs are = absurd are
+names_kept s (t ∷ ts) (w ∷ ws) [] are = absurd are
+names_kept s (t ∷ ts) (w ∷ ws) (g ∷ gs) are = ap₂ (λ (x : Text) (xs : List Text). x ∷ xs) are.0.name_is (names_kept s ts ws gs are.1)
 
 pub host_replied : (s : State) (w : WorldOver) (r : HostRead) (o : Option ℕ) (value : ℕ) → s ≡ board_state w → o ≡ host_fault r → o ≡ None → value ≡ shown s r.width r.target
     → answered value r.width ≡ host_reply w r

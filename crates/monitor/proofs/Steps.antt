@@ -1,6 +1,8 @@
 -- One guest of a world that is kept, one of its slots, and the world after a change of that slot.
 use Rattle.std.proofs.Common.{◌≡◌, ℕ, zero, suc, List, [], ◌∷◌, length, Some, None, Option, slice_get, slice_set, refl, sym, ap, ◌∙◌, subst}
 use Rattle.std.specs.Prelude.{map, unwrap_or}
+use Rattle.std.specs.Option.{option_map_or}
+use Rattle.lists.proofs.Indices.{set_same}
 use Rattle.model_registers.specs.Registers.{File}
 use Rattle.model_registers.specs.EndpointTable.{opened}
 use Rattle.model_registers.specs.OwnCopies.{OwnCopies, HoldsOwn}
@@ -11,8 +13,8 @@ use Rattle.model_board.specs.AtReset.{board_at}
 use Rattle.model_board.specs.State.{State}
 use Rattle.model_guests.specs.Text.{Text}
 use Rattle.model_registers.specs.CopiedFiles.{shape_of}
-use Rattle.model_guests.specs.Slots.{Slots, slot_at, with_file}
-use Rattle.model_guests.specs.Guests.{GuestNow, GuestsNow, guest_named, path_in, with_guest}
+use Rattle.model_guests.specs.Slots.{Slots, slot_at}
+use Rattle.model_guests.specs.Guests.{GuestNow, GuestsNow, guest_named, path_in, with_guest, function_in, lone_of}
 use Rattle.model_handoff.specs.WorldOver.{WorldOver}
 use Rattle.model_guests.specs.AgreedBoard.{with_change_at}
 use Rattle.model_guests.specs.Seated.{IsSeatedGuest, AreSeated}
@@ -21,6 +23,8 @@ use Rattle.model_guests.proofs.GuestFiles.{with_file_there}
 use Rattle.model_guests.proofs.GuestsByName.{Keeps, path_at, path_of}
 use Rattle.model_guests.proofs.Seats.{names_stay, guests_stay, paths_stay, with_file_seats}
 use Rattle.model_guests.proofs.Along.{by_index}
+use Rattle.model_guests.specs.Lone.{LoneGuest, reset_guest}
+use Rattle.model_devices.specs.DeviceEvents.{slot_fault}
 use Rattle.model_handoff.specs.Handoffs.{state_over}
 use Rattle.model_handoff.proofs.Changes.{changes_over, latch_over}
 use Rattle.model_handoff.proofs.Served.{served_with}
@@ -28,8 +32,9 @@ use Rattle.model_handoff.proofs.Views.{reset_with}
 use Rattle.host_bridge.specs.HostState.{HostState}
 use Rattle.monitor.specs.declared.guest.Held.{Held}
 use Rattle.monitor.specs.declared.guest.Guest.{Guest}
-use Rattle.monitor.specs.Keeping.{IsHeld, AreSlots, IsGuest, AreGuests, IsKept}
-use Rattle.monitor.specs.ByIndex.{guest_nth}
+use Rattle.monitor.specs.Keeping.{IsHeld, AreSlots, IsGuest, AreGuests, IsKept, IsSlot}
+use Rattle.monitor.specs.ByIndex.{guest_nth, lone_nth, name_nth, with_lone_nth}
+use Rattle.monitor.specs.InSlots.{IsSlotFault}
 
 -- ---- one slot
 
@@ -73,16 +78,29 @@ module _ (s : State) where
   slot_empty (Some p ∷ qs) (Some f ∷ fs) (Some h ∷ os) zero are at = cc
   slot_empty (q ∷ qs) (f ∷ fs) (o ∷ os) (suc n) are at = slot_empty qs fs os n are.1 at
 
-  pub slots_set : (qs : List (Option Path)) (fs : Slots) (os : List (Option Held)) (n : ℕ) (p : Path) (f : Function) (h : Held) → AreSlots s qs fs os → path_at qs n ≡ Some p → IsHeld s p f h
-      → AreSlots s qs (slice_set fs n (Some f)) (slice_set os n (Some h))
-  slots_set [] [] [] n p f h are at is = tt
-  slots_set [] [] (o ∷ os) n p f h are at is = absurd are
-  slots_set [] (g ∷ fs) os n p f h are at is = absurd are
-  slots_set (q ∷ qs) [] os n p f h are at is = absurd are
-  slots_set (q ∷ qs) (g ∷ fs) [] n p f h are at is = absurd are
-  slots_set (None ∷ qs) (g ∷ fs) (o ∷ os) zero p f h are at is = cc
-  slots_set (Some q ∷ qs) (g ∷ fs) (o ∷ os) zero p f h are at is = let same : p ≡ q = cc in (subst (λ (x : Path). IsHeld s x f h) same is, are.1)
-  slots_set (q ∷ qs) (g ∷ fs) (o ∷ os) (suc n) p f h are at is = (are.0, slots_set qs fs os n p f h are.1 at is)
+  pub slots_count : (qs : List (Option Path)) (fs : Slots) (os : List (Option Held)) → AreSlots s qs fs os → length os ≡ length qs
+  slots_count [] [] [] are = refl
+  slots_count [] [] (o ∷ os) are = absurd are
+  slots_count [] (f ∷ fs) os are = absurd are
+  slots_count (q ∷ qs) [] os are = absurd are
+  slots_count (q ∷ qs) (f ∷ fs) [] are = absurd are
+  slots_count (q ∷ qs) (f ∷ fs) (o ∷ os) are = ap suc (slots_count qs fs os are.1)
+
+  pub slots_put : (qs : List (Option Path)) (fs : Slots) (os : List (Option Held)) (n : ℕ) (q : Option Path) (f : Option Function) (o : Option Held) → AreSlots s qs fs os → IsSlot s q f o
+      → AreSlots s (slice_set qs n q) (slice_set fs n f) (slice_set os n o)
+  slots_put [] [] [] n q f o are is = tt
+  slots_put [] [] (x ∷ os) n q f o are is = absurd are
+  slots_put [] (g ∷ fs) os n q f o are is = absurd are
+  slots_put (p ∷ qs) [] os n q f o are is = absurd are
+  slots_put (p ∷ qs) (g ∷ fs) [] n q f o are is = absurd are
+  slots_put (p ∷ qs) (g ∷ fs) (x ∷ os) zero q f o are is = (is, are.1)
+  slots_put (p ∷ qs) (g ∷ fs) (x ∷ os) (suc n) q f o are is = (are.0, slots_put qs fs os n q f o are.1 is)
+
+-- a path that is there stays as it is
+set_path : (qs : List (Option Path)) (n : ℕ) (p : Path) → path_at qs n ≡ Some p → slice_set qs n (Some p) ≡ qs
+set_path [] n p at = refl
+set_path (q ∷ qs) zero p at = ap (λ (x : Option Path). x ∷ qs) (sym at)
+set_path (q ∷ qs) (suc n) p at = ap (λ (xs : List (Option Path)). q ∷ xs) (set_path qs n p at)
 
 -- ---- one guest
 
@@ -123,6 +141,23 @@ module _ (s : State) where
   guests_set (t ∷ ts) (w ∷ ws) (g ∷ gs) zero x y k are at is = let same : w ≡ x = cc in (is t (ap (λ (z : GuestNow). z.name) (sym same) ∙ are.0.name_is), are.1)
   guests_set (t ∷ ts) (w ∷ ws) (g ∷ gs) (suc i) x y k are at is = (are.0, guests_set ts ws gs i x y k are.1 at is)
 
+-- a guest of a world that is kept, by its index
+pub record GuestAt (w : WorldOver) (h : HostState) (names : List Text) (gs : List Guest) (i : ℕ) (g : Guest) : Type 0 where
+  pub kept : IsKept w h names gs
+  pub stands : slice_get gs i ≡ Some g
+  pub there : slice_get w.guests i ≡ Some (guest_nth w i)
+  pub name : Text
+  pub is : IsGuest w.handoff name (guest_nth w i) g
+
+pub nth_there : (w : WorldOver) (i : ℕ) (x : GuestNow) → slice_get w.guests i ≡ Some x → x ≡ guest_nth w i
+nth_there w i x at = sym (ap (λ (o : Option GuestNow). unwrap_or o (record { name = []; paths = []; lone = reset_guest [] })) at)
+
+pub kept_nth : {w : WorldOver} {h : HostState} {names : List Text} {gs : List Guest} {i : ℕ} {g : Guest} → IsKept w h names gs → slice_get gs i ≡ Some g → GuestAt w h names gs i g
+kept_nth {w} {h} {names} {gs} {i} {g} kept stands =
+    let one = guest_there w.handoff names w.guests gs i g kept.guests stands in
+    let same : one.x ≡ guest_nth w i = nth_there w i one.x one.there in
+    record { kept = kept; stands = stands; there = one.there ∙ ap Some same; name = one.name; is = subst (λ (x : GuestNow). IsGuest w.handoff one.name x g) same one.is }
+
 -- ---- the world after a change
 
 -- a change that keeps name and paths, and leaves seats seats
@@ -138,75 +173,125 @@ seated_with b gs change name keeps paths seats seated = record {
 abbrev pub with_guest_at : ℕ → GuestNow → WorldOver → WorldOver
 with_guest_at i x w = record w { guests = slice_set w.guests i x }
 
-module _ (w : WorldOver) (h : HostState) (names : List Text) (gs : List Guest) (kept : IsKept w h names gs) (i : ℕ) (g : Guest) (at : GuestOf w.handoff w.guests i g) where
-  pub here : guest_nth w i ≡ at.x
-  here = ap (λ (o : Option GuestNow). unwrap_or o (record { name = []; paths = []; lone = Rattle.model_guests.specs.Lone.reset_guest [] })) at.there
+module _ {w : WorldOver} {h : HostState} {names : List Text} {gs : List Guest} {i : ℕ} {g : Guest} (at : GuestAt w h names gs i g) where
+  -- a function in one of its slots
+  pub record SlotAt (n : ℕ) (held : Held) : Type 0 where
+    pub holds : slice_get g.slots.items n ≡ Some (Some held)
+    pub of : SlotOf w.handoff (guest_nth w i).paths (lone_nth w i).slots n held
+    pub open of use *
 
-  pub named : guest_named w.guests at.x.name ≡ Some at.x
-  named = (by_index w.guests kept.lawful.seated.names_apart i at.x at.there).0
+  pub slot_nth : {n : ℕ} {held : Held} → slice_get g.slots.items n ≡ Some (Some held) → SlotAt n held
+  slot_nth {n} {held} holds = record { holds = holds; of = slot_there w.handoff (guest_nth w i).paths (lone_nth w i).slots g.slots.items n held at.is.slots holds }
 
-  pub with_named : (change : GuestNow → GuestNow) → with_guest change at.x.name w.guests ≡ slice_set w.guests i (change at.x)
-  with_named change = (by_index w.guests kept.lawful.seated.names_apart i at.x at.there).1 change
+  -- the slots as code lends them
+  pub slots_lent : {slots : List (Option Held)} → slots ≡ g.slots.items → AreSlots w.handoff (guest_nth w i).paths (lone_nth w i).slots slots
+  slots_lent same = subst (AreSlots w.handoff (guest_nth w i).paths (lone_nth w i).slots) (sym same) at.is.slots
 
-  pub path_named : (n : ℕ) → path_in w.guests at.x.name n ≡ path_at at.x.paths n
+  pub slot_lent : {slots : List (Option Held)} {n : ℕ} {held : Held} → slots ≡ g.slots.items → slice_get slots n ≡ Some (Some held) → SlotAt n held
+  slot_lent {slots} {n} {held} same there = slot_nth (ap (λ (os : List (Option Held)). slice_get os n) (sym same) ∙ there)
+
+  pub empty_lent : {slots : List (Option Held)} (n : ℕ) → slots ≡ g.slots.items → unwrap_or (slice_get slots n) None ≡ None → slot_at (lone_nth w i).slots n ≡ None
+  empty_lent {slots} n same none = slot_empty w.handoff (guest_nth w i).paths (lone_nth w i).slots slots n (slots_lent same) none
+
+  pub fault_lent : {slots : List (Option Held)} (n : ℕ) {number : ℕ} → slots ≡ g.slots.items → IsSlotFault slots n number → slot_fault (lone_nth w i).slots n ≡ Some number
+  fault_lent n same fault = fault w.handoff (guest_nth w i).paths (lone_nth w i).slots (slots_lent same)
+
+  pub named : guest_named w.guests (name_nth w i) ≡ Some (guest_nth w i)
+  named = (by_index w.guests at.kept.lawful.seated.names_apart i (guest_nth w i) at.there).0
+
+  pub with_named : (change : GuestNow → GuestNow) → with_guest change (name_nth w i) w.guests ≡ slice_set w.guests i (change (guest_nth w i))
+  with_named change = (by_index w.guests at.kept.lawful.seated.names_apart i (guest_nth w i) at.there).1 change
+
+  pub lone_named : lone_of w.guests (name_nth w i) ≡ lone_nth w i
+  lone_named = ap (λ (o : Option GuestNow). option_map_or (λ (t : GuestNow). t.lone) o (reset_guest [])) named
+
+  pub path_named : (n : ℕ) → path_in w.guests (name_nth w i) n ≡ path_at (guest_nth w i).paths n
   path_named n = ap (λ (o : Option GuestNow). path_of o n) named
+
+  pub function_by_name : (n : ℕ) → function_in w.guests (name_nth w i) n ≡ slot_at (lone_nth w i).slots n
+  function_by_name n = ap (λ (l : LoneGuest). slot_at l.slots n) lone_named
+
+  -- nothing changes
+  pub with_same : with_lone_nth i (lone_nth w i) w ≡ w
+  with_same = ap (λ (xs : GuestsNow). record w { guests = xs }) (set_same w.guests i (guest_nth w i) at.there)
+
+  pub in_place : (v : WorldOver) (after : HostState) → IsKept v after names (slice_set gs i g) → IsKept v after names gs
+  in_place v after = subst (IsKept v after names) (set_same gs i g at.stands)
 
   -- what a change of the guest leaves, where it keeps its name and its paths and all stay seated
   pub kept_changed : (change : GuestNow → GuestNow) → Keeps change → ((t : GuestNow) → (change t).paths ≡ t.paths)
-      → AreSeated (board_at w.handoff.functions) (with_guest change at.x.name w.guests)
-      → (after : HostState) → after.state ≡ state_over w.handoff (with_guest change at.x.name w.guests)
-      → (k : Guest) → ((t : Text) → at.x.name ≡ t → IsGuest w.handoff t (change at.x) k)
-      → IsKept (with_guest_at i (change at.x) w) after names (slice_set gs i k)
+      → AreSeated (board_at w.handoff.functions) (with_guest change (name_nth w i) w.guests)
+      → (after : HostState) → after.state ≡ state_over w.handoff (with_guest change (name_nth w i) w.guests)
+      → (k : Guest) → ((t : Text) → name_nth w i ≡ t → IsGuest w.handoff t (change (guest_nth w i)) k)
+      → IsKept (with_guest_at i (change (guest_nth w i)) w) after names (slice_set gs i k)
   kept_changed change keeps paths seated after state k is =
-      let guests : with_guest change at.x.name w.guests ≡ slice_set w.guests i (change at.x) = with_named change in
+      let guests : with_guest change (name_nth w i) w.guests ≡ slice_set w.guests i (change (guest_nth w i)) = with_named change in
       subst (λ (ws : GuestsNow). IsKept (record w { guests = ws }) after names (slice_set gs i k)) guests (record {
         lawful = record {
-          handoff = kept.lawful.handoff;
-          order = kept.lawful.order;
+          handoff = at.kept.lawful.handoff;
+          order = at.kept.lawful.order;
           seated = seated;
-          served = served_with change keeps paths w.handoff w.guests kept.lawful.served at.x.name;
+          served = served_with change keeps paths w.handoff w.guests at.kept.lawful.served (name_nth w i);
         };
-        clear = kept.clear;
-        at_reset = reset_with change paths w.handoff w.guests at.x.name ∙ kept.at_reset;
+        clear = at.kept.clear;
+        at_reset = reset_with change paths w.handoff w.guests (name_nth w i) ∙ at.kept.at_reset;
         agrees = state;
         guests = subst (λ (ws : GuestsNow). AreGuests w.handoff names ws (slice_set gs i k)) (sym guests)
-            (guests_set w.handoff names w.guests gs i at.x (change at.x) k kept.guests at.there is);
+            (guests_set w.handoff names w.guests gs i (guest_nth w i) (change (guest_nth w i)) k at.kept.guests at.there is);
       })
 
-  pub kept_slot : (n : ℕ) (held : Held) (slot : SlotOf w.handoff at.x.paths at.x.lone.slots n held)
-      → (own_change board_change : File → File) → ChangesAlike own_change board_change → ((file : File) → shape_of (own_change file) ≡ shape_of file)
-      → (own : OwnCopies) → HoldsOwn (own_change slot.f.file) own → map opened own.bases ≡ map opened held.own.bases
-      → (k : Guest) → k.latch ≡ g.latch → k.slots.items ≡ slice_set g.slots.items n (Some (record held { own = own }))
-      → (after : HostState) → after.state ≡ with_change_at board_change slot.p h.state
-      → IsKept (with_guest_at i (with_slot_changed own_change n at.x) w) after names (slice_set gs i k)
-  kept_slot n held slot own_change board_change alike keeps own holds regions k latch slots after state =
-      let f : Function = record slot.f { file = own_change slot.f.file } in
-      let path : path_in w.guests at.x.name n ≡ Some slot.p = path_named n ∙ slot.path in
-      let held_now : IsHeld w.handoff slot.p f (record held { own = own }) = record {
-        path = slot.held.path;
-        row = slot.held.row;
-        at = slot.held.at;
-        placed = slot.held.placed;
-        regions = slot.held.regions ∙ sym regions;
-        own = holds;
-      } in
-      let set : with_file own_change n at.x.lone.slots ≡ slice_set at.x.lone.slots n (Some f) = with_file_there own_change n at.x.lone.slots slot.f slot.function in
-      kept_changed (with_slot_changed own_change n) (λ t. refl) (λ t. refl)
-      (seated_with (board_at w.handoff.functions) w.guests (with_slot_changed own_change n) at.x.name (λ t. refl) (λ t. refl)
-      (λ t s. record { count = s.count; seats = with_file_seats (board_at w.handoff.functions) t.paths own_change keeps n t.lone.slots s.seats }) kept.lawful.seated)
-      after (state ∙ ap (with_change_at board_change slot.p) kept.agrees
-      ∙ sym (changes_over w.handoff w.guests kept.lawful.seated at.x.name n slot.p path own_change board_change alike))
-      k (λ t e. record {
-        name_is = e;
-        latch = at.is.latch ∙ sym latch;
-        slots = subst (λ (fs : Slots). AreSlots w.handoff at.x.paths fs k.slots.items) (sym set)
-            (subst (AreSlots w.handoff at.x.paths (slice_set at.x.lone.slots n (Some f))) (sym slots)
-            (slots_set w.handoff at.x.paths at.x.lone.slots g.slots.items n slot.p f (record held { own = own }) at.is.slots slot.path held_now));
-      })
+  module _ {n : ℕ} {held : Held} (slot : SlotAt n held) where
+    pub path_there : path_in w.guests (name_nth w i) n ≡ Some slot.p
+    path_there = path_named n ∙ slot.path
 
-  pub kept_latch : (latch : ℕ) (k : Guest) → k.latch ≡ latch → k.slots.items ≡ g.slots.items → IsKept (with_guest_at i (with_latch latch at.x) w) h names (slice_set gs i k)
+    pub function_there : function_in w.guests (name_nth w i) n ≡ Some slot.f
+    function_there = function_by_name n ∙ slot.function
+
+    -- the same where one function changes, and is kept so
+    pub kept_put : (change : GuestNow → GuestNow) → Keeps change → ((t : GuestNow) → (change t).paths ≡ t.paths)
+        → AreSeated (board_at w.handoff.functions) (with_guest change (name_nth w i) w.guests)
+        → (f : Function) (now : Held) → IsHeld w.handoff slot.p f now
+        → (change (guest_nth w i)).lone ≡ record (lone_nth w i) { slots = slice_set (lone_nth w i).slots n (Some f) }
+        → (k : Guest) → k.latch ≡ g.latch → k.slots.items ≡ slice_set g.slots.items n (Some now)
+        → (after : HostState) → after.state ≡ state_over w.handoff (with_guest change (name_nth w i) w.guests)
+        → IsKept (with_guest_at i (change (guest_nth w i)) w) after names (slice_set gs i k)
+    kept_put change keeps paths seated f now is lone k latch items after state =
+        kept_changed change keeps paths seated after state k (λ t e. record {
+          name_is = keeps (guest_nth w i) ∙ e;
+          latch = ap (λ (l : LoneGuest). l.latch) lone ∙ at.is.latch ∙ sym latch;
+          slots = subst (λ (qs : List (Option Path)). AreSlots w.handoff qs (change (guest_nth w i)).lone.slots k.slots.items)
+              (set_path (guest_nth w i).paths n slot.p slot.path ∙ sym (paths (guest_nth w i)))
+              (subst (λ (l : LoneGuest). AreSlots w.handoff (slice_set (guest_nth w i).paths n (Some slot.p)) l.slots k.slots.items) (sym lone)
+              (subst (AreSlots w.handoff (slice_set (guest_nth w i).paths n (Some slot.p)) (slice_set (lone_nth w i).slots n (Some f))) (sym items)
+              (slots_put w.handoff (guest_nth w i).paths (lone_nth w i).slots g.slots.items n (Some slot.p) (Some f) (Some now) at.is.slots is)));
+        })
+
+    -- the same of a change of its file
+    pub kept_slot : (own_change board_change : File → File) → ChangesAlike own_change board_change → ((file : File) → shape_of (own_change file) ≡ shape_of file)
+        → (own : OwnCopies) → HoldsOwn (own_change slot.f.file) own → map opened own.bases ≡ map opened held.own.bases
+        → (k : Guest) → k.latch ≡ g.latch → k.slots.items ≡ slice_set g.slots.items n (Some (record held { own = own }))
+        → (after : HostState) → after.state ≡ with_change_at board_change slot.p h.state
+        → IsKept (with_guest_at i (with_slot_changed own_change n (guest_nth w i)) w) after names (slice_set gs i k)
+    kept_slot own_change board_change alike keeps own holds regions k latch items after state =
+        let held_now : IsHeld w.handoff slot.p (record slot.f { file = own_change slot.f.file }) (record held { own = own }) = record {
+          path = slot.held.path;
+          row = slot.held.row;
+          at = slot.held.at;
+          placed = slot.held.placed;
+          regions = slot.held.regions ∙ sym regions;
+          own = holds;
+        } in
+        kept_put (with_slot_changed own_change n) (λ t. refl) (λ t. refl)
+        (seated_with (board_at w.handoff.functions) w.guests (with_slot_changed own_change n) (name_nth w i) (λ t. refl) (λ t. refl)
+        (λ t s. record { count = s.count; seats = with_file_seats (board_at w.handoff.functions) t.paths own_change keeps n t.lone.slots s.seats }) at.kept.lawful.seated)
+        (record slot.f { file = own_change slot.f.file }) (record held { own = own }) held_now
+        (ap (λ (fs : Slots). record (lone_nth w i) { slots = fs }) (with_file_there own_change n (lone_nth w i).slots slot.f slot.function))
+        k latch items after (state ∙ ap (with_change_at board_change slot.p) at.kept.agrees
+        ∙ sym (changes_over w.handoff w.guests at.kept.lawful.seated (name_nth w i) n slot.p path_there own_change board_change alike))
+
+  pub kept_latch : (latch : ℕ) (k : Guest) → k.latch ≡ latch → k.slots.items ≡ g.slots.items → IsKept (with_guest_at i (with_latch latch (guest_nth w i)) w) h names (slice_set gs i k)
   kept_latch latch k is slots =
       kept_changed (with_latch latch) (λ t. refl) (λ t. refl)
-      (seated_with (board_at w.handoff.functions) w.guests (with_latch latch) at.x.name (λ t. refl) (λ t. refl) (λ t s. record { count = s.count; seats = s.seats }) kept.lawful.seated)
-      h (kept.agrees ∙ sym (latch_over w.handoff w.guests at.x.name latch))
-      k (λ t e. record { name_is = e; latch = sym is; slots = subst (AreSlots w.handoff at.x.paths at.x.lone.slots) (sym slots) at.is.slots })
+      (seated_with (board_at w.handoff.functions) w.guests (with_latch latch) (name_nth w i) (λ t. refl) (λ t. refl) (λ t s. record { count = s.count; seats = s.seats }) at.kept.lawful.seated)
+      h (at.kept.agrees ∙ sym (latch_over w.handoff w.guests (name_nth w i) latch))
+      k (λ t e. record { name_is = e; latch = sym is; slots = subst (AreSlots w.handoff (guest_nth w i).paths (lone_nth w i).slots) (sym slots) at.is.slots })

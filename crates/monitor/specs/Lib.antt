@@ -3,10 +3,10 @@ pub mod Keeping
 pub mod ByIndex
 pub mod Landings
 pub mod Reaches
+pub mod InSlots
 pub mod Configs
 pub mod Moves
 pub mod Raises
-pub mod Resets
 pub mod DeviceBytes
 pub mod Beginnings
 pub mod Queries

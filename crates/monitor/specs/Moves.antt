@@ -3,7 +3,8 @@
 --     is_taken, fault_between      a slot with a function; the checks of a move, in their order
 --     reset_held      a function with its own copies at reset
 --     HasSlot      a slot of a guest by its index
---     TakesOut, PutsIn, HandsOver      the guests after a function left its slot, after one came into one, after both
+--     IsExchanged      the guests after a slot has another function, or none
+--     HandsOver      the guests and the host after a function left a slot and came into another, at reset
 use Rattle.std.specs.Prelude.{ℕ, List, Bool, Option, Some, None, ◌≡◌, ◌<◌, ◌||◌, not, if◌then◌else◌, nat_le, is_some}
 use Rattle.std.specs.Prelude.{map, length, slice_get, slice_set, unwrap_or}
 use Rattle.bars.specs.Resets.{with_no_base}
@@ -11,8 +12,9 @@ use Rattle.model_guests.specs.Guests.{Move}
 use Rattle.model_handoff.specs.WorldOver.{WorldOver}
 use Rattle.monitor.specs.declared.guest.Held.{Held}
 use Rattle.monitor.specs.declared.guest.Guest.{Guest}
+use Rattle.bridge_forward.specs.Lending.{with_endpoint_reset}
+use Rattle.host_bridge.specs.HostState.{HostState, with_functions}
 use Rattle.monitor.specs.ByIndex.{name_nth}
-use Rattle.monitor.specs.Configs.{HoldsAt}
 
 abbrev pub move_nth : WorldOver → ℕ → ℕ → ℕ → ℕ → Move
 move_nth w i n j m = record { from = name_nth w i; slot = n; to = name_nth w j; target = m }
@@ -35,23 +37,21 @@ pub record HasSlot (gs : List Guest) (i n : ℕ) : Type 0 where
   pub there : slice_get gs i ≡ Some guest
   pub inside : n < length guest.slots.items
 
--- the function comes out with its own copies at reset
-pub record TakesOut (gs : List Guest) (i n : ℕ) (holds : HoldsAt gs i n) (new : List Guest) (held : Held) : Type 0 where
+-- slot n of guest i had the first, and has the second
+pub record IsExchanged (gs : List Guest) (i n : ℕ) (was o : Option Held) (new : List Guest) : Type 0 where
+  pub before : Guest
+  pub there : slice_get gs i ≡ Some before
+  pub had : slice_get before.slots.items n ≡ Some was
   pub guest : Guest
   pub after : new ≡ slice_set gs i guest
-  pub latch : guest.latch ≡ holds.guest.latch
-  pub items : guest.slots.items ≡ slice_set holds.guest.slots.items n None
-  pub is_reset : held ≡ reset_held holds.slot.held
+  pub latch : guest.latch ≡ before.latch
+  pub items : guest.slots.items ≡ slice_set before.slots.items n o
 
-pub record PutsIn (gs : List Guest) (i n : ℕ) (has : HasSlot gs i n) (held : Held) (new : List Guest) : Type 0 where
-  pub guest : Guest
-  pub after : new ≡ slice_set gs i guest
-  pub latch : guest.latch ≡ has.guest.latch
-  pub items : guest.slots.items ≡ slice_set has.guest.slots.items n (Some held)
-
-pub record HandsOver (gs : List Guest) (i n : ℕ) (holds : HoldsAt gs i n) (j m : ℕ) (new : List Guest) : Type 0 where
-  pub left : List Guest
+-- on the board the function is at reset, but for what guests have copies of
+pub record HandsOver (h : HostState) (gs : List Guest) (i n j m : ℕ) (new : HostState) (after : List Guest) : Type 0 where
   pub held : Held
-  pub takes : TakesOut gs i n holds left held
-  pub has : HasSlot left j m
-  pub puts : PutsIn left j m has held new
+  pub left : List Guest
+  pub empty : Option Held
+  pub leaves : IsExchanged gs i n (Some held) None left
+  pub comes : IsExchanged left j m empty (Some (reset_held held)) after
+  pub board : new ≡ with_functions (with_endpoint_reset held.path h.state.functions) h

@@ -4,7 +4,6 @@ ghost use Rattle.lists.specs.Elements.{Each};
 ghost use Rattle.model_registers.specs.Declarations.{HasLawfulRegions};
 ghost use Rattle.model_registers.specs.EndpointTable.{opened};
 ghost use Rattle.model_registers.specs.Decoding.{Function};
-ghost use Rattle.model_board.specs.Routing.{routing};
 ghost use Rattle.model_audit.specs.Orderly.{IsStateOfBoard};
 ghost use Rattle.model_guests.specs.World.{Guest as GuestValue, names, HasLawfulGuests, declared};
 ghost use Rattle.model_guests.specs.Slots.{reset_function};
@@ -20,8 +19,7 @@ use crate::guest::{Guest, Held};
 use accesses::{GuestDecl, Names};
 use address_latch::Latch;
 use bars::{BarDecl, Region};
-use board_audit::address_now;
-use bridge_forward::RoutingRow;
+use function_identity::address_of;
 use guest_functions::VirtualFunction;
 use host_bridge::Host;
 use paths::Path;
@@ -38,7 +36,7 @@ fn decl_of(region: Option<Region>) -> Option<BarDecl>
 }
 
 /// What each base address register of a function opens.
-pub(crate) fn decls_of(placed: &[Option<Region>; 6]) -> [Option<BarDecl>; 6]
+fn decls_of(placed: &[Option<Region>; 6]) -> [Option<BarDecl>; 6]
     ensures { result ≡ map declared_in placed.now }
 {
     [
@@ -51,9 +49,9 @@ pub(crate) fn decls_of(placed: &[Option<Region>; 6]) -> [Option<BarDecl>; 6]
     ]
 }
 
-/// An endpoint in a guest's slot, with all own copies at reset, where the host has it.
-fn held_of(host: &Host, rows: &[RoutingRow], index: usize, path: &Path) -> Held
-    requires rows { rows.now ≡ routing host.now.state.functions }
+/// The endpoint at an index and a path, with all own copies at reset, where the host has it.
+pub(crate) fn held_of(host: &Host, index: usize, path: &Path) -> Held
+    requires board { IsStateOfBoard host.now.state.functions }
     requires lawful { HasLawfulRegions (map opened (map with_no_base (bases_nth host.now.state.functions index))) }
     ensures { (f : Function) → IsStanding host.now.state index path.now f → IsHeld host.now.state path.now f result }
 {
@@ -61,42 +59,35 @@ fn held_of(host: &Host, rows: &[RoutingRow], index: usize, path: &Path) -> Held
     Held {
         own: VirtualFunction::new(decls_of(&placed)),
         placed,
-        at: address_now(host, rows, path),
+        at: address_of(host, path),
         index,
         path: path.copied(),
     }
 }
 
 /// The endpoint at a path, in a guest's slot.
-fn held_at(host: &Host, rows: &[RoutingRow], path: &Path) -> Held
+fn held_at(host: &Host, path: &Path) -> Held
     requires board { IsStateOfBoard host.now.state.functions }
-    requires rows { rows.now ≡ routing host.now.state.functions }
     requires there { IsSome (declared (board_below host.now) path.now) }
     ensures { let b = board_below host.now in
         IsSlot host.now.state (Some path.now) (reset_function (declared b path.now)) (Some result) }
 {
     match host.index_of(path) {
-        Some(index) => held_of(host, rows, index, path),
+        Some(index) => held_of(host, index, path),
         None => unreachable!(),
     }
 }
 
 /// The 32 slots of a guest with endpoints at these paths, slot 0 first; the slots past them are empty.
-fn slots_of(
-    alloc: Global,
-    host: &Host,
-    rows: &[RoutingRow],
-    paths: &[Path],
-) -> Result<Vec<Option<Held>>, AllocError>
+fn slots_of(alloc: Global, host: &Host, paths: &[Path]) -> Result<Vec<Option<Held>>, AllocError>
     requires board { IsStateOfBoard host.now.state.functions }
-    requires rows { rows.now ≡ routing host.now.state.functions }
     requires few { length paths.now ≤ 32 }
     requires there { Each (λ p. IsSome (declared (board_below host.now) p)) paths.now }
     ensures { IfOk result (λ v. AreSlotsAtFirst host.now paths.now v.items) }
 {
     let mut slots = Vec::with_capacity(alloc, 32)?;
     for path in paths {
-        slots.push(Some(held_at(host, rows, path)))?;
+        slots.push(Some(held_at(host, path)))?;
     }
     for _empty in paths.len()..32 {
         slots.push(None)?;
@@ -108,11 +99,9 @@ fn slots_of(
 pub(crate) fn guests_of(
     alloc: Global,
     host: &Host,
-    rows: &[RoutingRow],
     decls: &[GuestDecl],
 ) -> Result<Vec<Guest>, AllocError>
     requires board { IsStateOfBoard host.now.state.functions }
-    requires rows { rows.now ≡ routing host.now.state.functions }
     requires lawful { HasLawfulGuests (world_on host.now decls.now) }
     ensures { let w = world_on host.now decls.now in
         IfOk result (λ v. AreGuests host.now.state (names w) (guests_at_first w) v.items) }
@@ -121,7 +110,7 @@ pub(crate) fn guests_of(
     for decl in decls {
         guests.push(Guest {
             latch: Latch::clear(),
-            slots: slots_of(alloc, host, rows, decl.slots.as_slice())?,
+            slots: slots_of(alloc, host, decl.slots.as_slice())?,
         })?;
     }
     Ok(guests)

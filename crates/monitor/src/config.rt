@@ -1,11 +1,14 @@
 //! Configuration accesses of guests.
-ghost use Rattle.std.specs.Prelude.{◌≡◌, ◌%◌, IfNone, IfSome, Some, None, slice_get, unwrap_or};
+ghost use Rattle.std.specs.Prelude.{◌≡◌, ◌%◌, IfErr, IfNone, IfOk, IfSome, Some, None, slice_get, unwrap_or};
 ghost use Rattle.model_registers.specs.Registers.{config, number};
 ghost use Rattle.model_registers.specs.ByteEnables.{IsWidth};
+ghost use Rattle.accesses.specs.Refusals.{number_of};
+ghost use Rattle.monitor.specs.InSlots.{IsInSlot, IsSlotFault};
 ghost use Rattle.monitor.specs.Configs.{IsSeen, IsHolding, WritesOwn, HoldsAt, WritesGuest};
 
 use crate::cycles::read_enabled;
 use crate::guest::{Guest, Held};
+use accesses::Refusal;
 use config_bytes::{enables_of, lowered};
 use host_bridge::{Bdf, Host};
 
@@ -35,6 +38,20 @@ pub(crate) fn held_in(slots: &[Option<Held>], slot: usize) -> Option<&Held>
     match slots.get(slot) {
         Some(Some(held)) => Some(held),
         _ => None,
+    }
+}
+
+/// The function in a slot, or why there is none: 303 for a slot above 31, else 601 for an empty slot.
+pub(crate) fn function_in(slots: &[Option<Held>], slot: u64) -> Result<&Held, Refusal>
+    ensures there { IfOk result (λ r. IsInSlot slots.now slot r.now) }
+    ensures refused { IfErr result (λ why. IsSlotFault slots.now slot (number_of why)) }
+{
+    if slot > 31 {
+        return Err(Refusal::Range);
+    }
+    match held_in(slots, slot as usize) {
+        Some(held) => Ok(held),
+        None => Err(Refusal::EmptySlot),
     }
 }
 

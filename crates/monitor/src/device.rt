@@ -15,7 +15,7 @@ ghost use Rattle.monitor.specs.ByIndex.{name_nth};
 ghost use Rattle.monitor.specs.Keeping.{IsHeld};
 ghost use Rattle.monitor.specs.DeviceBytes.{Reaches, Refuses, device_byte};
 
-use crate::config::held_in;
+use crate::config::function_in;
 use crate::engine::Engine;
 use crate::guest::Held;
 use crate::raising::has_place;
@@ -47,11 +47,9 @@ fn reached(slots: &[Option<Held>], slot: u64, place: Place, off: u64) -> Result<
     ensures path { IfOk result (λ p. Reaches slots.now slot place off p.now) }
     ensures refused { IfErr result (λ why. Refuses slots.now slot place off (number_of why)) }
 {
-    if slot > 31 {
-        return Err(Refusal::Range);
-    }
-    let Some(held) = held_in(slots, slot as usize) else {
-        return Err(Refusal::EmptySlot);
+    let held = match function_in(slots, slot) {
+        Ok(held) => held,
+        Err(why) => return Err(why),
     };
     if !reaches(held, place, off) {
         return Err(Refusal::Range);

@@ -20,7 +20,7 @@ ghost use Rattle.monitor.specs.Reaches.{target_in};
 ghost use Rattle.monitor.specs.Moves.{move_nth};
 ghost use Rattle.monitor.specs.Queries.{IsGuestNth};
 
-use crate::config::{held_in, number_read, write_guest};
+use crate::config::{function_in, held_in, number_read, write_guest};
 use crate::cycles::write_enabled;
 use crate::guest::Guest;
 use crate::landing::{landing, located};
@@ -273,11 +273,9 @@ impl<R: Route> Engine<R> {
         ensures shown { IsShown result }
         ensures refused { IsRefusal result → self.new ≡ self.old }
     {
-        if slot > 31 {
-            return Reply::Refused(Refusal::Range);
-        }
-        let Some(held) = held_in(&self.guests[guest].slots, slot as usize) else {
-            return Reply::Refused(Refusal::EmptySlot);
+        let held = match function_in(&self.guests[guest].slots, slot) {
+            Ok(held) => held,
+            Err(why) => return Reply::Refused(why),
         };
         if !has_place(held, place, off) {
             return Reply::Refused(Refusal::Range);

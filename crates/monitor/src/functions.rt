@@ -9,7 +9,7 @@ ghost use Rattle.model_queries.specs.Functions.{seat_of, function_nth, slot_answ
 ghost use Rattle.monitor.specs.ByIndex.{name_nth};
 ghost use Rattle.monitor.specs.FunctionsTold.{function_named, seat_kept};
 
-use crate::config::held_in;
+use crate::config::function_in;
 use crate::engine::Engine;
 use crate::guest::Guest;
 use crate::seat::{Seat, seat_from};
@@ -72,16 +72,11 @@ impl<R: Route> Engine<R> {
             ≡ slot_answer (board_state self.now) self.now.guests (name_nth self.now guest) slot }
     {
         let _ = &self.names;
-        if slot > 31 {
-            return Err(303);
-        }
-        let Some(held) = held_in(&self.guests[guest].slots, slot as usize) else {
-            return Err(601);
+        let held = match function_in(&self.guests[guest].slots, slot) {
+            Ok(held) => held,
+            Err(why) => return Err(why.number()),
         };
-        let Some(index) = self.host.index_of(&held.path) else {
-            return Err(601);
-        };
-        match function_nth(&self.host, &self.guests, index) {
+        match function_nth(&self.host, &self.guests, held.index) {
             Some(function) => Ok(function),
             None => Err(601),
         }

@@ -1,9 +1,7 @@
 //! A function of the board that no guest has, as it would stand in a guest's slot.
-ghost use Rattle.std.specs.Prelude.{◌≡◌, ◌<◌, IfNone, IfSome, List, None, Some, length, map, slice_get};
+ghost use Rattle.std.specs.Prelude.{◌≡◌, ◌<◌, IfNone, IfSome, List, None, Some, length, slice_get};
 ghost use Rattle.std.specs.List.{list_any};
-ghost use Rattle.model_registers.specs.Declarations.{HasLawfulRegions};
-ghost use Rattle.model_registers.specs.EndpointTable.{opened};
-ghost use Rattle.model_registers.specs.Decoding.{Function, command_word, opens_space};
+ghost use Rattle.model_registers.specs.Decoding.{command_word, opens_space};
 ghost use Rattle.model_board.specs.AtReset.{board_at};
 ghost use Rattle.model_board.specs.State.{BoardFunction};
 ghost use Rattle.model_audit.specs.Orderly.{IsStateOfBoard};
@@ -11,20 +9,16 @@ ghost use Rattle.model_guests.specs.Text.{Text};
 ghost use Rattle.model_guests.specs.World.{declared};
 ghost use Rattle.model_handoff.specs.WorldOver.{WorldOver};
 ghost use Rattle.bars.specs.Kinds.{named_space};
-ghost use Rattle.bars.specs.Resets.{with_no_base};
-ghost use Rattle.bridge_forward.specs.BasesNow.{bases_nth, bases_of};
-ghost use Rattle.monitor.specs.Beginnings.{IsStanding};
-ghost use Rattle.monitor.specs.Keeping.{IsHeld, IsKept};
+ghost use Rattle.bridge_forward.specs.BasesNow.{bases_of};
+ghost use Rattle.monitor.specs.Keeping.{IsKept};
 ghost use Rattle.monitor.specs.Seatings.{IsEndpointAt, MakesGift, has_path, is_closed_base, is_closed_slot, is_in};
 
-use crate::beginning::decls_of;
+use crate::beginning::held_of;
 use crate::guest::{Guest, Held};
 use crate::moving::is_taken;
 use crate::withheld::Withheld;
 use bars::{Region, Space};
 use bridge_forward::RangesNow;
-use function_identity::address_of;
-use guest_functions::VirtualFunction;
 use host_bridge::Host;
 use paths::Path;
 
@@ -106,22 +100,6 @@ fn has_closed(host: &Host, index: usize) -> bool
     match host.number_nth(index, 4, 2) {
         Some(command) => any_closed(command, &placed),
         None => false,
-    }
-}
-
-/// The endpoint at an index and a path, with all own copies at reset, where the host has it.
-fn held_of(host: &Host, index: usize, path: &Path) -> Held
-    requires board { IsStateOfBoard host.now.state.functions }
-    requires lawful { HasLawfulRegions (map opened (map with_no_base (bases_nth host.now.state.functions index))) }
-    ensures { (f : Function) → IsStanding host.now.state index path.now f → IsHeld host.now.state path.now f result }
-{
-    let placed = host.placed_nth(index);
-    Held {
-        own: VirtualFunction::new(decls_of(&placed)),
-        placed,
-        at: address_of(host, path),
-        index,
-        path: path.copied(),
     }
 }
 

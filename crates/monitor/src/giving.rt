@@ -33,10 +33,7 @@ impl<R: Route + Drop> Engine<R> {
         ensures made { let w = world_on host guests.now in IfOk result (λ e. e ≡ world_over w (taken_over w host.state)) }
         ensures kept { IfErr result (λ h. h ≡ host) }
     {
-        let Ok(rows) = host.routing(alloc) else {
-            return Err(host);
-        };
-        let Ok(kept) = guests_of(alloc, &host, &rows, guests) else {
+        let Ok(kept) = guests_of(alloc, &host, guests) else {
             return Err(host);
         };
         let mut host = host;

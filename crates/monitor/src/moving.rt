@@ -1,15 +1,14 @@
 //! Functions that are moved to another slot.
-ghost use Rattle.std.specs.Prelude.{◌≡◌, ◌<◌, Some, None, length, option_map, slice_set};
+ghost use Rattle.std.specs.Prelude.{◌≡◌, ◌<◌, Some, length, option_map, slice_get, slice_set};
 ghost use Rattle.accesses.specs.Refusals.{number_of};
-ghost use Rattle.bridge_forward.specs.Lending.{with_endpoint_reset};
-ghost use Rattle.host_bridge.specs.HostState.{with_functions};
-ghost use Rattle.monitor.specs.Configs.{IsHolding, HoldsAt};
-ghost use Rattle.monitor.specs.Moves.{is_taken, fault_between, reset_held, HasSlot, TakesOut, PutsIn, HandsOver};
+ghost use Rattle.monitor.specs.Configs.{HoldsAt};
+ghost use Rattle.monitor.specs.Moves.{is_taken, fault_between, HasSlot, IsExchanged, HandsOver};
 
 use crate::config::held_in;
 use crate::guest::{Guest, Held};
 use accesses::Refusal;
 use host_bridge::Host;
+use std::mem::replace;
 
 /// Whether a function is in a slot.
 pub(crate) fn is_taken(slots: &[Option<Held>], slot: usize) -> bool
@@ -39,43 +38,27 @@ pub(crate) fn move_fault(
     }
 }
 
-/// Takes the function out of a slot, with its own copies at reset.
-fn take_out(slots: &mut [Option<Held>], slot: usize) -> Held
-    requires { IsHolding slots.old slot }
-    ensures slots { slots.new ≡ slice_set slots.old slot None }
-    ensures held { (holds : IsHolding slots.old slot) → result ≡ reset_held holds.held }
-{
-    let Some(mut held) = slots[slot].take() else {
-        unreachable!()
-    };
-    held.own.reset();
-    held
-}
-
-/// The same of a slot of a guest.
-pub(crate) fn take_from(guests: &mut [Guest], guest: usize, slot: usize) -> Held
-    requires { HoldsAt guests.old guest slot }
-    ensures { (holds : HoldsAt guests.old guest slot) → TakesOut guests.old guest slot holds guests.new result }
-{
-    let guest = &mut guests[guest];
-    take_out(&mut guest.slots, slot)
-}
-
-/// Puts a function into a slot.
-fn put_in(slots: &mut [Option<Held>], slot: usize, held: Held)
+/// Puts a function or none into a slot, and gives what was in it.
+fn exchange(slots: &mut [Option<Held>], slot: usize, held: Option<Held>) -> Option<Held>
     requires { slot < length slots.old }
-    ensures { slots.new ≡ slice_set slots.old slot (Some held) }
+    ensures slots { slots.new ≡ slice_set slots.old slot held }
+    ensures was { slice_get slots.old slot ≡ Some result }
 {
-    slots[slot] = Some(held);
+    replace(&mut slots[slot], held)
 }
 
-/// The same of a slot of a guest.
-pub(crate) fn put_to(guests: &mut [Guest], guest: usize, slot: usize, held: Held)
+/// The same in a slot of a guest.
+pub(crate) fn exchange_in(
+    guests: &mut [Guest],
+    guest: usize,
+    slot: usize,
+    held: Option<Held>,
+) -> Option<Held>
     requires { HasSlot guests.old guest slot }
-    ensures { (has : HasSlot guests.old guest slot) → PutsIn guests.old guest slot has held guests.new }
+    ensures { IsExchanged guests.old guest slot result held guests.new }
 {
     let guest = &mut guests[guest];
-    put_in(&mut guest.slots, slot, held);
+    exchange(&mut guest.slots, slot, held)
 }
 
 /// Moves a function to another slot, at reset: its own copies here, and all its other cells on the board.
@@ -89,12 +72,12 @@ pub(crate) fn hand_over(
 )
     requires holds { HoldsAt guests.old from slot }
     requires has { HasSlot guests.old to target }
-    ensures board { (holds : HoldsAt guests.old from slot) →
-        host.new ≡ with_functions (with_endpoint_reset holds.slot.held.path host.old.state.functions) host.old }
-    ensures guests { (holds : HoldsAt guests.old from slot) →
-        HandsOver guests.old from slot holds to target guests.new }
+    ensures { HandsOver host.old guests.old from slot to target host.new guests.new }
 {
-    let held = take_from(guests, from, slot);
+    let Some(mut held) = exchange_in(guests, from, slot, None) else {
+        unreachable!()
+    };
+    held.own.reset();
     host.reset_endpoint(&held.path);
-    put_to(guests, to, target, held);
+    let _empty = exchange_in(guests, to, target, Some(held));
 }

@@ -16,7 +16,7 @@ ghost use Rattle.monitor.specs.Keeping.{IsHeld};
 ghost use Rattle.monitor.specs.ByIndex.{name_nth, lone_nth};
 ghost use Rattle.monitor.specs.Queries.{IsGuestNth, region_named};
 
-use crate::config::held_in;
+use crate::config::function_in;
 use crate::engine::Engine;
 use crate::guest::{Guest, Held};
 use accesses::Refusal;
@@ -97,11 +97,9 @@ fn region_in(guest: &Guest, slot: u64, bar: u64) -> Result<RegionNow, Refusal>
     ensures { (w : WorldOver) (i : ℕ) → IsGuestNth w i guest.now
         → result_map_both region_named number_of result ≡ region_answer (lone_nth w i) slot bar }
 {
-    if slot > 31 {
-        return Err(Refusal::Range);
-    }
-    let Some(held) = held_in(&guest.slots, slot as usize) else {
-        return Err(Refusal::EmptySlot);
+    let held = match function_in(&guest.slots, slot) {
+        Ok(held) => held,
+        Err(why) => return Err(why),
     };
     match region_kept(held, bar as usize) {
         Some(region) => Ok(region),

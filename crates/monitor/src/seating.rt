@@ -6,12 +6,12 @@ ghost use Rattle.accesses.specs.Replies.{IsRefusal, IsShown};
 ghost use Rattle.monitor.specs.ByIndex.{name_nth};
 ghost use Rattle.monitor.specs.Seatings.{fault_told, gift_nth};
 
-use crate::config::held_in;
+use crate::config::function_in;
 use crate::engine::Engine;
 use crate::gift::gift;
-use crate::moving::{put_to, take_from};
+use crate::moving::exchange_in;
 use crate::withheld::Withheld;
-use accesses::{Refusal, Reply};
+use accesses::Reply;
 use host_bridge::Route;
 use paths::Path;
 
@@ -35,7 +35,7 @@ impl<R: Route> Engine<R> {
             Err(why) => return Err(why),
         };
         self.host.reset_endpoint(path);
-        put_to(&mut self.guests, guest, slot as usize, held);
+        let _empty = exchange_in(&mut self.guests, guest, slot as usize, Some(held));
         Ok(())
     }
 
@@ -50,14 +50,12 @@ impl<R: Route> Engine<R> {
         ensures refused { IsRefusal result → self.new ≡ self.old }
     {
         let _ = &self.names;
-        if slot > 31 {
-            return Reply::Refused(Refusal::Range);
-        }
-        let Some(held) = held_in(&self.guests[guest].slots, slot as usize) else {
-            return Reply::Refused(Refusal::EmptySlot);
+        let held = match function_in(&self.guests[guest].slots, slot) {
+            Ok(held) => held,
+            Err(why) => return Reply::Refused(why),
         };
         self.host.reset_endpoint(&held.path);
-        let _taken = take_from(&mut self.guests, guest, slot as usize);
+        let _taken = exchange_in(&mut self.guests, guest, slot as usize, None);
         Reply::Done
     }
 }

@@ -1,6 +1,7 @@
 use Rattle.std.proofs.Common.{sym, subst, List, map}
 use Rattle.model_registers.specs.Declarations.{HasLawfulRegions}
 use Rattle.model_registers.specs.EndpointTable.{BaseAddress, opened}
+use Rattle.model_set_up.specs.PlacedRegions.{placed}
 use Rattle.bridge_forward.specs.BasesNow.{bases_nth}
 use Rattle.monitor.proofs.FirstFunctions.{decls_reset, held_at_first}
 use Rattle.monitor.proofs.beginning.held_of.Goals as goal
@@ -16,4 +17,4 @@ returns c = λ f is.
     let bs = bases_nth c.args.host.now.state.functions c.args.index in
     let rest = decls_reset c.decls_of.result c.placed_nth-placed.result bs c.decls_of.ensures c.placed_nth-placed.ensures in
     held_at_first c.args.host.now.state c.args.index c.args.path.now f is c.decls_of.result rest c.new.result c.new.ensures.copies c.new.ensures.reset
-    c.placed_nth-placed.result c.placed_nth-placed.ensures c.address_now.result c.address_now.ensures c.copied.result c.copied.ensures
+    c.placed_nth-placed.result c.placed_nth-placed.ensures c.address_of.result c.address_of.ensures c.copied.result c.copied.ensures

@@ -1,8 +1,9 @@
-use Rattle.std.proofs.Common.{◌≡◌, ◌∙◌, List, Option, length, drop, refl, ap, sym}
+use Rattle.std.proofs.Common.{◌≡◌, ◌∙◌, List, Option, length, drop, ap, sym}
 use Rattle.std.specs.Prelude.{slice_index_or}
 use Rattle.monitor.specs.declared.guest.Held.{Held}
 use Rattle.monitor.specs.declared.guest.Guest.{Guest}
-use Rattle.monitor.proofs.ConfigGoals.{same_at, given_back, guest_written}
+use Rattle.monitor.proofs.Calls.{given_back}
+use Rattle.monitor.proofs.ConfigSteps.{guest_written, same_at}
 use Rattle.monitor.proofs.config.write_guest.Goals as goal
 
 pub write_own-requires-clause-holds : goal.write_own-requires-clause-holds

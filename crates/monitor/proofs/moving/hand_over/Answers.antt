@@ -1,17 +1,23 @@
-use Rattle.monitor.proofs.MoveGoals.{has_left, path_taken}
+use Rattle.std.proofs.Common.{Some, subst, sym}
+use Rattle.std.specs.Prelude.{Option}
+use Rattle.monitor.specs.declared.guest.Held.{Held}
+use Rattle.monitor.specs.Moves.{IsExchanged, reset_held}
+use Rattle.monitor.proofs.Exchanges.{has_held, has_left}
 use Rattle.monitor.proofs.moving.hand_over.Goals as goal
 
-pub put_to-requires : goal.put_to-requires
-put_to-requires c =
-    has_left c.args.guests.now c.args.from c.args.slot c.args.to c.args.target c.requires.holds c.take_from-held.new.guests c.take_from-held.result (c.take_from-held.ensures c.requires.holds) c.requires.has
+pub exchange_in-requires : goal.exchange_in-requires
+exchange_in-requires c = has_held c.requires.holds
 
-pub returns-clause-board : goal.returns-clause-board
-returns-clause-board c = λ holds.
-    path_taken c.args.guests.now c.args.from c.args.slot holds c.take_from-held.new.guests c.take_from-held.result (c.take_from-held.ensures holds)
-    c.args.host.now c.reset_endpoint.new.self c.reset_endpoint.ensures
+pub exchange_in-empty-requires : goal.exchange_in-empty-requires
+exchange_in-empty-requires c = has_left c.exchange_in.ensures c.requires.has
 
-pub returns-clause-guests : goal.returns-clause-guests
-returns-clause-guests c = λ holds.
-    let takes = c.take_from-held.ensures holds in
-    let has = has_left c.args.guests.now c.args.from c.args.slot c.args.to c.args.target holds c.take_from-held.new.guests c.take_from-held.result takes c.requires.has in
-    record { left = c.take_from-held.new.guests; held = c.take_from-held.result; takes = takes; has = has; puts = c.put_to.ensures has }
+pub returns : goal.returns
+returns c = record {
+  held = c.in-Some.held;
+  left = c.exchange_in.new.guests;
+  empty = c.exchange_in-empty.result;
+  leaves = c.in-Some.ensures;
+  comes = subst (λ (h : Held). IsExchanged c.exchange_in.new.guests c.args.to c.args.target c.exchange_in-empty.result (Some h) c.exchange_in-empty.new.guests)
+      (λ k. record c.in-Some.held { own = c.reset.ensures.copies k }) c.exchange_in-empty.ensures;
+  board = c.reset_endpoint.ensures;
+}

@@ -1,16 +1,16 @@
 use Rattle.std.proofs.Common.{◌∙◌, sym, ap}
 use Rattle.std.specs.Prelude.{option_map}
 use Rattle.model_guests.specs.HostReads.{shown}
-use Rattle.model_handoff.specs.WorldOver.{WorldOver, board_state}
 use Rattle.accesses.specs.Accesses.{host_target_of, host_access_of}
 use Rattle.accesses.specs.Refusals.{number_of}
 use Rattle.accesses.specs.declared.access.HostAt.{HostAt}
 use Rattle.monitor.proofs.Shown.{host_replied}
+use Rattle.monitor.proofs.Calls.{kept_in}
 use Rattle.monitor.proofs.engine.Engine.host_read.Goals as goal
 
 pub returns-in-Config-clause-reply : goal.returns-in-Config-clause-reply
 returns-in-Config-clause-reply g c =
     let s = c.self.inside.host.state in
     host_replied s c.args.self.now (host_access_of c.args.read) (option_map number_of c.fault.result) c.config_number-value.result
-    (c.self.invariant.1.agrees ∙ ap (λ (w : WorldOver). board_state w) c.self.view_is) c.fault.ensures (ap (option_map number_of) c.in_default.is)
+    (kept_in c.self.invariant.1 c.self.view_is).agrees c.fault.ensures (ap (option_map number_of) c.in_default.is)
     (c.config_number-value.ensures.value ∙ ap (λ (at : HostAt). shown s c.args.read.width (host_target_of at)) (sym c.in-Config.is))

@@ -1,11 +1,10 @@
-use Rattle.std.proofs.Common.{◌∙◌, sym, ap}
-use Rattle.model_handoff.specs.WorldOver.{WorldOver, names_now}
-use Rattle.monitor.specs.Views.{texts, world_shown}
-use Rattle.monitor.proofs.Shown.{names_shown}
+use Rattle.std.proofs.Common.{sym}
+use Rattle.monitor.specs.Views.{texts}
+use Rattle.monitor.proofs.Shown.{names_kept}
+use Rattle.monitor.proofs.Calls.{kept_in}
 use Rattle.monitor.proofs.engine.Engine.names.Goals as goal
 
 pub returns : goal.returns
 returns g c =
-    let e = c.self.inside in
-    let w : WorldOver = world_shown e.host (texts e.names) e.guests.items in
-    sym (names_shown w.handoff e.host.state.functions (texts e.names) w.guests e.guests.items c.self.invariant.1.guests) ∙ ap names_now c.self.view_is
+    let kept = kept_in c.self.invariant.1 c.self.view_is in
+    sym (names_kept c.args.self.now.handoff (texts c.self.inside.names) c.args.self.now.guests c.self.inside.guests.items kept.guests)

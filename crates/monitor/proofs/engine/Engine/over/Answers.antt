@@ -1,4 +1,5 @@
 use Rattle.std.proofs.Common.{◌∙◌}
+use Rattle.std.specs.Prelude.{Ok}
 use Rattle.monitor.specs.Views.{texts}
 use Rattle.monitor.proofs.FirstWorlds.{routing_on, sound_at_first, shown_at_first}
 use Rattle.monitor.proofs.engine.Engine.over.Goals as goal
@@ -11,10 +12,10 @@ of_parts-requires-clause-fits g c =
 pub of_parts-requires-clause-sound : goal.of_parts-requires-clause-sound
 of_parts-requires-clause-sound g c =
     sound_at_first c.args.host c.args.guests.now c.requires.handoff c.requires.lawful c.requires.given c.take_over.new.host c.take_over.ensures
-    (texts c.names_of.result) c.names_of.ensures c.in-Ok-guests_of.kept.items c.in-Ok-guests_of.ensures
+    (texts c.names_of.result) c.names_of.ensures c.in-Ok.kept.items c.in-Ok.ensures
 
 pub returns-clause-made : goal.returns-clause-made
 returns-clause-made g c =
     c.of_parts.ensures
     ∙ shown_at_first c.args.host c.args.guests.now c.requires.handoff c.requires.lawful c.requires.given c.take_over.new.host c.take_over.ensures
-    (texts c.names_of.result) c.names_of.ensures c.in-Ok-guests_of.kept.items c.in-Ok-guests_of.ensures
+    (texts c.names_of.result) c.names_of.ensures c.in-Ok.kept.items c.in-Ok.ensures

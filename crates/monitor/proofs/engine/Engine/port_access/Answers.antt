@@ -1,72 +1,62 @@
-use Rattle.std.proofs.Common.{◌≡◌, ◌<◌, ◌∙◌, ℕ, length, ap, sym, arith}
+use Rattle.std.proofs.Common.{◌≡◌, ◌∙◌, ℕ, ap, sym, arith}
+use Rattle.model_registers.specs.ConfigAddress.{is_address_port}
 use Rattle.model_guests.specs.Accesses.{port, configuration}
 use Rattle.model_guests.specs.Lone.{Destination, LoneGuest, at_target, by_select, destination, reply_at, after_access_at}
 use Rattle.accesses.specs.Accesses.{op_of}
 use Rattle.guest_functions.specs.declared.latch.Select.TheVariants as select
-use Rattle.monitor.specs.Views.{texts}
 use Rattle.monitor.specs.ByIndex.{lone_nth, with_lone_nth}
-use Rattle.monitor.proofs.RegionGoals.{inside_guests, guest_read}
-use Rattle.monitor.proofs.LatchGoals.{same_nth, latch_shown}
-use Rattle.monitor.proofs.PortGoals.{named_select, destination_is, nothing_at, nothing_after}
+use Rattle.monitor.proofs.PortSteps.{destination_is, named_select, nothing_after, nothing_at}
+use Rattle.monitor.proofs.Calls.{guest_in, inside_guests}
+use Rattle.monitor.proofs.Steps.{with_same}
 use Rattle.monitor.proofs.engine.Engine.port_access.Goals as goal
 
 pub index-requires : goal.index-requires
-index-requires g c =
-    let e = c.self.inside in
-    let inside : c.args.guest < length e.guests.items = inside_guests e.host (texts e.names) e.guests.items c.self.invariant.1 c.args.self.now c.self.view_is c.args.guest c.requires.there in
-    omega arith
+index-requires g c = omega (arith, inside_guests c.self.invariant.1 c.self.view_is c.args.guest c.requires.there)
 
 pub returns-in-Ordinary-clause-reply : goal.returns-in-Ordinary-clause-reply
 returns-in-Ordinary-clause-reply g c =
-    let e = c.self.inside in
-    let there = guest_read e.host (texts e.names) e.guests.items c.self.invariant.1 c.args.self.now c.self.view_is c.args.guest c.index.result.now c.requires.there c.index.ensures in
+    let at = guest_in c.self.invariant.1 c.self.view_is c.args.guest c.requires.there c.index.ensures in
     let lone = lone_nth c.args.self.now c.args.guest in
     let goes : by_select (port c.args.at) (named_select (select.Ordinary)) ≡ destination lone.latch c.args.width (port c.args.at) =
-    destination_is lone.latch c.index.result.now.latch c.args.at c.args.width (select.Ordinary) (latch_shown e.host (texts e.names) e.guests.items c.self.invariant.1 c.args.self.now c.self.view_is c.args.guest c.index.result.now there) (sym c.is_address_port.ensures ∙ c.if-is_address_port.false) c.in-Ordinary.ensures.select in
-    c.region_access.ensures.reply ∙ ap (λ (d : Destination). reply_at lone (op_of c.args.op) c.args.width d) goes
+    destination_is c.args.at c.args.width (sym at.is.latch) (sym c.is_address_port.ensures ∙ c.if-is_address_port.false) c.in-Ordinary.ensures.select in
+    c.region_access.ensures.reply ∙ ap (reply_at lone (op_of c.args.op) c.args.width) goes
 
 pub returns-in-Ordinary-clause-after : goal.returns-in-Ordinary-clause-after
 returns-in-Ordinary-clause-after g c =
-    let e = c.self.inside in
-    let there = guest_read e.host (texts e.names) e.guests.items c.self.invariant.1 c.args.self.now c.self.view_is c.args.guest c.index.result.now c.requires.there c.index.ensures in
+    let at = guest_in c.self.invariant.1 c.self.view_is c.args.guest c.requires.there c.index.ensures in
     let lone = lone_nth c.args.self.now c.args.guest in
     let goes : by_select (port c.args.at) (named_select (select.Ordinary)) ≡ destination lone.latch c.args.width (port c.args.at) =
-    destination_is lone.latch c.index.result.now.latch c.args.at c.args.width (select.Ordinary) (latch_shown e.host (texts e.names) e.guests.items c.self.invariant.1 c.args.self.now c.self.view_is c.args.guest c.index.result.now there) (sym c.is_address_port.ensures ∙ c.if-is_address_port.false) c.in-Ordinary.ensures.select in
+    destination_is c.args.at c.args.width (sym at.is.latch) (sym c.is_address_port.ensures ∙ c.if-is_address_port.false) c.in-Ordinary.ensures.select in
     c.region_access.ensures.after ∙ ap (λ (d : Destination). with_lone_nth c.args.guest (after_access_at lone (op_of c.args.op) c.args.width d) c.args.self.now) goes
 
 pub returns-in-Nowhere-clause-reply : goal.returns-in-Nowhere-clause-reply
 returns-in-Nowhere-clause-reply g c =
-    let e = c.self.inside in
-    let there = guest_read e.host (texts e.names) e.guests.items c.self.invariant.1 c.args.self.now c.self.view_is c.args.guest c.index.result.now c.requires.there c.index.ensures in
+    let at = guest_in c.self.invariant.1 c.self.view_is c.args.guest c.requires.there c.index.ensures in
     let lone = lone_nth c.args.self.now c.args.guest in
     let goes : by_select (port c.args.at) (named_select (select.Nowhere)) ≡ destination lone.latch c.args.width (port c.args.at) =
-    destination_is lone.latch c.index.result.now.latch c.args.at c.args.width (select.Nowhere) (latch_shown e.host (texts e.names) e.guests.items c.self.invariant.1 c.args.self.now c.self.view_is c.args.guest c.index.result.now there) (sym c.is_address_port.ensures ∙ c.if-is_address_port.false) c.in-Nowhere.ensures.select in
-    c.nothing.ensures.reply ∙ nothing_at lone (op_of c.args.op) c.args.width ∙ ap (λ (d : Destination). reply_at lone (op_of c.args.op) c.args.width d) goes
+    destination_is c.args.at c.args.width (sym at.is.latch) (sym c.is_address_port.ensures ∙ c.if-is_address_port.false) c.in-Nowhere.ensures.select in
+    c.nothing.ensures.reply ∙ nothing_at lone (op_of c.args.op) c.args.width ∙ ap (reply_at lone (op_of c.args.op) c.args.width) goes
 
 pub returns-in-Nowhere-clause-after : goal.returns-in-Nowhere-clause-after
 returns-in-Nowhere-clause-after g c =
-    let e = c.self.inside in
-    let there = guest_read e.host (texts e.names) e.guests.items c.self.invariant.1 c.args.self.now c.self.view_is c.args.guest c.index.result.now c.requires.there c.index.ensures in
+    let at = guest_in c.self.invariant.1 c.self.view_is c.args.guest c.requires.there c.index.ensures in
     let lone = lone_nth c.args.self.now c.args.guest in
     let goes : by_select (port c.args.at) (named_select (select.Nowhere)) ≡ destination lone.latch c.args.width (port c.args.at) =
-    destination_is lone.latch c.index.result.now.latch c.args.at c.args.width (select.Nowhere) (latch_shown e.host (texts e.names) e.guests.items c.self.invariant.1 c.args.self.now c.self.view_is c.args.guest c.index.result.now there) (sym c.is_address_port.ensures ∙ c.if-is_address_port.false) c.in-Nowhere.ensures.select in
-    sym (same_nth c.args.self.now c.args.guest c.requires.there)
-    ∙ ap (λ (l : LoneGuest). with_lone_nth c.args.guest l c.args.self.now) (nothing_after lone (op_of c.args.op) c.args.width) ∙ ap (λ (d : Destination). with_lone_nth c.args.guest (after_access_at lone (op_of c.args.op) c.args.width d) c.args.self.now) goes
+    destination_is c.args.at c.args.width (sym at.is.latch) (sym c.is_address_port.ensures ∙ c.if-is_address_port.false) c.in-Nowhere.ensures.select in
+    sym (with_same at) ∙ ap (λ (l : LoneGuest). with_lone_nth c.args.guest l c.args.self.now) (nothing_after lone (op_of c.args.op) c.args.width) ∙ ap (λ (d : Destination). with_lone_nth c.args.guest (after_access_at lone (op_of c.args.op) c.args.width d) c.args.self.now) goes
 
 pub returns-in-Slot-clause-reply : goal.returns-in-Slot-clause-reply
 returns-in-Slot-clause-reply g c =
-    let e = c.self.inside in
-    let there = guest_read e.host (texts e.names) e.guests.items c.self.invariant.1 c.args.self.now c.self.view_is c.args.guest c.index.result.now c.requires.there c.index.ensures in
+    let at = guest_in c.self.invariant.1 c.self.view_is c.args.guest c.requires.there c.index.ensures in
     let lone = lone_nth c.args.self.now c.args.guest in
     let goes : by_select (port c.args.at) (named_select (select.Slot c.in-Slot.slot c.in-Slot.off)) ≡ destination lone.latch c.args.width (port c.args.at) =
-    destination_is lone.latch c.index.result.now.latch c.args.at c.args.width (select.Slot c.in-Slot.slot c.in-Slot.off) (latch_shown e.host (texts e.names) e.guests.items c.self.invariant.1 c.args.self.now c.self.view_is c.args.guest c.index.result.now there) (sym c.is_address_port.ensures ∙ c.if-is_address_port.false) c.in-Slot.ensures.select in
-    c.config_access.ensures.reply ∙ ap (λ (n : ℕ). reply_at lone (op_of c.args.op) c.args.width (at_target (configuration n c.in-Slot.off))) c.from.ensures ∙ ap (λ (d : Destination). reply_at lone (op_of c.args.op) c.args.width d) goes
+    destination_is c.args.at c.args.width (sym at.is.latch) (sym c.is_address_port.ensures ∙ c.if-is_address_port.false) c.in-Slot.ensures.select in
+    c.config_access.ensures.reply ∙ ap (λ (n : ℕ). reply_at lone (op_of c.args.op) c.args.width (at_target (configuration n c.in-Slot.off))) c.from.ensures ∙ ap (reply_at lone (op_of c.args.op) c.args.width) goes
 
 pub returns-in-Slot-clause-after : goal.returns-in-Slot-clause-after
 returns-in-Slot-clause-after g c =
-    let e = c.self.inside in
-    let there = guest_read e.host (texts e.names) e.guests.items c.self.invariant.1 c.args.self.now c.self.view_is c.args.guest c.index.result.now c.requires.there c.index.ensures in
+    let at = guest_in c.self.invariant.1 c.self.view_is c.args.guest c.requires.there c.index.ensures in
     let lone = lone_nth c.args.self.now c.args.guest in
     let goes : by_select (port c.args.at) (named_select (select.Slot c.in-Slot.slot c.in-Slot.off)) ≡ destination lone.latch c.args.width (port c.args.at) =
-    destination_is lone.latch c.index.result.now.latch c.args.at c.args.width (select.Slot c.in-Slot.slot c.in-Slot.off) (latch_shown e.host (texts e.names) e.guests.items c.self.invariant.1 c.args.self.now c.self.view_is c.args.guest c.index.result.now there) (sym c.is_address_port.ensures ∙ c.if-is_address_port.false) c.in-Slot.ensures.select in
+    destination_is c.args.at c.args.width (sym at.is.latch) (sym c.is_address_port.ensures ∙ c.if-is_address_port.false) c.in-Slot.ensures.select in
     c.config_access.ensures.after ∙ ap (λ (n : ℕ). with_lone_nth c.args.guest (after_access_at lone (op_of c.args.op) c.args.width (at_target (configuration n c.in-Slot.off))) c.args.self.now) c.from.ensures ∙ ap (λ (d : Destination). with_lone_nth c.args.guest (after_access_at lone (op_of c.args.op) c.args.width d) c.args.self.now) goes

@@ -1,0 +1,60 @@
+-- A call of an engine: the world that is kept as it begins, and what the call leaves.
+use Rattle.std.proofs.Common.{List, [], ap, arith, drop, get_or, length, refl, subst, sym, take, ℕ, ◌++◌, ◌<◌, ◌∙◌, ◌∷◌, ◌≡◌}
+use Rattle.std.proofs.lemmas.Option.{slice_get_read}
+use Rattle.model_board.specs.State.{State}
+use Rattle.model_board.specs.Routing.{routing}
+use Rattle.model_guests.specs.Text.{Text}
+use Rattle.model_handoff.specs.WorldOver.{WorldOver}
+use Rattle.model_handoff.proofs.Keeping.{keeps_routing}
+use Rattle.host_bridge.specs.HostState.{HostState}
+use Rattle.monitor.specs.declared.guest.Guest.{Guest}
+use Rattle.monitor.specs.Keeping.{IsKept, IsSound}
+use Rattle.monitor.specs.Views.{world_shown}
+use Rattle.monitor.proofs.Steps.{GuestAt, guests_within, kept_nth}
+use Rattle.monitor.proofs.Shown.{is_shown, is_sound}
+
+-- ---- as it begins
+
+module _ {h : HostState} {names : List Text} {gs : List Guest} (sound : IsSound h names gs) {now : WorldOver} (view : world_shown h names gs ≡ now) where
+  pub kept_in : IsKept now h names gs
+  kept_in = subst (λ (v : WorldOver). IsKept v h names gs) view sound
+
+  pub inside_guests : (i : ℕ) → i < length now.guests → i < length gs
+  inside_guests i inside =
+      let count : length gs ≡ length now.guests = guests_within now.handoff names now.guests gs kept_in.guests in
+      omega arith
+
+  -- the guest that code reads at an index
+  pub guest_in : (i : ℕ) {g : Guest} → i < length now.guests → g ≡ get_or gs i g → GuestAt now h names gs i g
+  guest_in i {g} inside is = kept_nth kept_in (slice_get_read gs (length gs) i g refl (inside_guests i inside) is)
+
+-- ---- as it ends
+
+-- the world v; routes to claims stay
+pub record Leaves (v : WorldOver) (h new : HostState) (names : List Text) (gs : List Guest) : Type 0 where
+  pub sound : IsSound new names gs
+  pub routes : routing h.state.functions ≡ routing new.state.functions
+  pub world : world_shown new names gs ≡ v
+
+routing_kept : {w : WorldOver} {h : HostState} {names : List Text} {gs : List Guest} → IsKept w h names gs → routing h.state.functions ≡ routing w.handoff.functions
+routing_kept {w} kept = ap (λ (s : State). routing s.functions) kept.agrees ∙ keeps_routing w.handoff kept.lawful.handoff.board w.guests kept.lawful.seated
+
+pub leaves : {w v : WorldOver} {h new : HostState} {names : List Text} {gs back : List Guest} → IsKept w h names gs → IsKept v new names back → routing w.handoff.functions ≡ routing v.handoff.functions → Leaves v h new names back
+leaves {w} {v} {h} {new} {names} {gs} {back} before after same = record {
+  sound = is_sound v new names back after;
+  routes = routing_kept before ∙ same ∙ sym (routing_kept after);
+  world = is_shown v new names back after;
+}
+
+taken : {A : Type 0} (xs ys : List A) → take (length xs) (xs ++ ys) ≡ xs
+taken [] ys = refl
+taken (x ∷ xs) ys = ap (λ zs. x ∷ zs) (taken xs ys)
+
+-- a vector whose elements were lent
+pub given_back : {A : Type 0} (xs ys : List A) (n : ℕ) → length xs ≡ n → take n (xs ++ ys) ≡ xs
+given_back xs ys n e = ap (λ m. take m (xs ++ ys)) (sym e) ∙ taken xs ys
+
+-- the guests were lent
+pub back_in : {v : WorldOver} {h new : HostState} {names : List Text} {left : List Guest} (gs : List Guest) (n : ℕ) → length left ≡ n → Leaves v h new names left
+    → Leaves v h new names (take n (left ++ drop (length left) gs))
+back_in {v} {h} {new} {names} {left} gs n count is = subst (Leaves v h new names) (sym (given_back left (drop (length left) gs) n count)) is

@@ -1,0 +1,119 @@
+-- The world after a gift.
+use Rattle.std.proofs.Common.{◌≡◌, ◌<◌, ℕ, List, Some, None, Option, slice_set, refl, sym, ap, ◌∙◌, subst, arith}
+use Rattle.std.specs.Prelude.{IsSome, Result, Ok}
+use Rattle.model_registers.specs.Declarations.{Endpoint}
+use Rattle.model_board.specs.Paths.{Path}
+use Rattle.model_board.specs.Board.{Board}
+use Rattle.model_board.specs.AtReset.{board_at}
+use Rattle.model_board.specs.Routing.{routing}
+use Rattle.model_board.specs.State.{BoardFunction, State}
+use Rattle.model_audit.specs.Orderly.{IsStateOfBoard}
+use Rattle.model_guests.specs.Slots.{reset_function}
+use Rattle.model_guests.specs.Text.{Text}
+use Rattle.model_guests.specs.World.{declared}
+use Rattle.model_guests.specs.Guests.{GuestNow, GuestsNow, guest_named, with_guest, with_slot_filled}
+use Rattle.model_handoff.specs.Kept.{IsLawfulOver}
+use Rattle.model_handoff.specs.ViewLaws.{with_seated_reset}
+use Rattle.model_handoff.specs.WorldOver.{WorldOver, board_state}
+use Rattle.model_handoff.proofs.Keeping.{keeps_board}
+use Rattle.model_handoff.proofs.Regions.{state_stays}
+use Rattle.model_giving.specs.Giving.{Gift, with_reset_at, give_fault, after_give}
+use Rattle.model_giving.proofs.OneReset.{IsAlike}
+use Rattle.model_giving.proofs.Giving.{CanGive, can_give, given_is, is_alike, board_after_gift, lawful_after_gift, shown_after_gift}
+use Rattle.model_giving.proofs.Seats.{below}
+use Rattle.bridge_forward.specs.Lending.{with_endpoint_reset}
+use Rattle.host_bridge.specs.HostState.{HostState, with_functions}
+use Rattle.monitor.specs.declared.guest.Held.{Held}
+use Rattle.monitor.specs.declared.guest.Guest.{Guest}
+use Rattle.monitor.specs.declared.withheld.Withheld.{Withheld}
+use Rattle.monitor.specs.ByIndex.{name_nth, guest_nth, lone_nth}
+use Rattle.monitor.specs.Keeping.{AreGuests, IsKept, IsSlot, AreSlots}
+use Rattle.monitor.specs.Moves.{HasSlot, IsExchanged}
+use Rattle.monitor.specs.Seatings.{MakesGift, gift_nth}
+use Rattle.monitor.proofs.Carried.{guests_carried}
+use Rattle.monitor.proofs.Steps.{guests_set, with_named, GuestAt, named, slots_put}
+use Rattle.monitor.proofs.TakenOver.{one_reset, some_here}
+use Rattle.monitor.proofs.TakingSteps.{reset_by}
+use Rattle.monitor.proofs.Calls.{Leaves, leaves}
+use Rattle.monitor.proofs.Exchanges.{has_nth, items_are, latch_stays}
+
+-- what is made in the world that is kept
+pub makes_gift : {w : WorldOver} {h : HostState} {names : List Text} {gs lent : List Guest} → IsKept w h names gs → {p : Path} {i n : ℕ} {r : Result Held Withheld} → lent ≡ gs
+    → ((v : WorldOver) (ts : List Text) → IsKept v h ts lent → MakesGift v p i n r) → MakesGift w p i n r
+makes_gift {w} {h} {names} kept same makes = makes w names (subst (IsKept w h names) (sym same) kept)
+
+pub board_kept : {w : WorldOver} {h : HostState} {names : List Text} {gs : List Guest} → IsKept w h names gs → IsStateOfBoard h.state.functions
+board_kept {w} kept = subst (λ (s : State). IsStateOfBoard s.functions) (sym kept.agrees) (state_stays w.handoff kept.lawful.handoff.board w.guests)
+
+module _ {w : WorldOver} {h : HostState} {names : List Text} {gs : List Guest} {i : ℕ} {g : Guest} (at : GuestAt w h names gs i g) {p : Path} {n : ℕ} {held : Held} (makes : MakesGift w p i n (Ok held)) where
+  abbrev the_gift : Gift
+  the_gift = gift_nth w p i n
+
+  fault : give_fault w the_gift ≡ None
+  fault = sym makes.fault
+
+  can : (d : Endpoint) × CanGive w the_gift d
+  can = can_give w the_gift fault
+
+  abbrev d : Endpoint
+  d = can.0
+
+  pub has_room : HasSlot gs i n
+  has_room = let low : n < 32 = below n can.1.low in has_nth at (omega arith)
+
+  there : IsSome (guest_named w.guests (name_nth w i))
+  there = subst IsSome (sym (named at)) refl
+
+  abbrev filled : GuestNow
+  filled = with_slot_filled n (Some p) d (guest_nth w i)
+
+  abbrev world : WorldOver
+  world = record { handoff = with_reset_at p w.handoff; guests = with_guest (with_slot_filled n (Some p) d) (name_nth w i) w.guests }
+
+  is : after_give w the_gift ≡ world
+  is = given_is w the_gift d fault can.1.declares
+
+  alike : IsAlike w.handoff (with_reset_at p w.handoff)
+  alike = is_alike w at.kept.lawful the_gift d can.1
+
+  comes : IsSlot w.handoff (Some p) (reset_function (Some d)) (Some held)
+  comes = subst (λ (o : Option Endpoint). IsSlot w.handoff (Some p) (reset_function o) (Some held)) can.1.declares makes.comes
+
+  pub give_left : {empty : Option Held} {back : List Guest} {new : HostState} → IsExchanged gs i n empty (Some held) back → new ≡ with_functions (with_endpoint_reset p h.state.functions) h
+      → Leaves (after_give w the_gift) h new names back
+  give_left {empty} {back} {new} ex is_new = leaves at.kept kept_given (sym alike.routing_is ∙ ap (λ (x : WorldOver). routing x.handoff.functions) (sym is))
+    where
+      put : AreGuests w.handoff names (slice_set w.guests i filled) (slice_set gs i ex.guest)
+      put =
+          guests_set w.handoff names w.guests gs i (guest_nth w i) filled ex.guest at.kept.guests at.there (λ t e. record {
+            name_is = e;
+            latch = at.is.latch ∙ sym (latch_stays at ex);
+            slots = subst (AreSlots w.handoff (slice_set (guest_nth w i).paths n (Some p)) (slice_set (lone_nth w i).slots n (reset_function (Some d)))) (sym (items_are at ex))
+                (slots_put w.handoff (guest_nth w i).paths (lone_nth w i).slots g.slots.items n (Some p) (reset_function (Some d)) (Some held) at.is.slots comes);
+          })
+
+      guests : AreGuests world.handoff names world.guests back
+      guests =
+          subst (AreGuests world.handoff names world.guests) (sym ex.after)
+          (subst (λ (ws : GuestsNow). AreGuests (with_reset_at p w.handoff) names ws (slice_set gs i ex.guest)) (sym (with_named at (with_slot_filled n (Some p) d)))
+          (guests_carried w.handoff (with_reset_at p w.handoff) at.kept.lawful.handoff.board alike.handoff.board alike.board alike.routing_is alike.addresses names (slice_set w.guests i filled) (slice_set gs i ex.guest) put))
+
+      -- the board has the endpoint that the handoff has
+      declares_now : declared (board_at h.state.functions) p ≡ Some d
+      declares_now = ap (λ (s : State). declared (board_at s.functions) p) at.kept.agrees ∙ ap (λ (b : Board). declared b p) (keeps_board w.handoff w.guests) ∙ can.1.declares
+
+      board_reset : new.state ≡ with_reset_at p (board_state w)
+      board_reset =
+          ap (λ (x : HostState). x.state) is_new
+          ∙ ap (λ (fs : List BoardFunction). let t : State = record h.state { functions = fs } in t)
+          (one_reset h.state.functions p ∙ some_here (board_at h.state.functions) p h.state.functions d declares_now)
+          ∙ sym (reset_by h.state p d declares_now) ∙ ap (with_reset_at p) at.kept.agrees
+
+      kept_given : IsKept (after_give w the_gift) new names back
+      kept_given = subst (λ (v : WorldOver). IsKept v new names back) (sym is) (record {
+        lawful = subst IsLawfulOver is (lawful_after_gift w at.kept.lawful the_gift);
+        clear = ap (λ (s : State). s.latch) (reset_by w.handoff p d can.1.declares) ∙ at.kept.clear;
+        at_reset = ap (λ (v : WorldOver). with_seated_reset v.handoff v.guests) (sym is) ∙ shown_after_gift w at.kept.lawful the_gift there fault ∙ ap (with_reset_at p) at.kept.at_reset;
+        agrees = board_reset ∙ sym (board_after_gift w at.kept.lawful the_gift there fault) ∙ ap board_state is;
+        guests = guests;
+      })

@@ -1,0 +1,61 @@
+-- Where an access at a guest's port goes, from the program's word, and a write of its own latch.
+use Rattle.std.proofs.Common.{◌≡◌, ℕ, ◌∙◌, Bool, true, false, ◌&&◌, cond, [], None, refl, sym, ap, List, Some, slice_get, slice_set, subst}
+use Rattle.std.specs.Prelude.{not, ◌==◌}
+use Rattle.model_registers.specs.ConfigAddress.{is_enabled, is_data_port, is_address_port, selected_bus, selected_device, selected_function, selected_offset, latched}
+use Rattle.model_guests.specs.Accesses.{port, Op, reads, writes}
+use Rattle.model_guests.specs.Slots.{perform}
+use Rattle.model_guests.specs.Lone.{own_latch, no_function, reply_at, after_access_at, destination, by_select, ordinary, nowhere, in_slot}
+use Rattle.guest_functions.specs.Latches as program
+use Rattle.model_guests.specs.Lone as lone
+use Rattle.model_guests.specs.Text.{Text}
+use Rattle.model_handoff.specs.WorldOver.{WorldOver}
+use Rattle.guest_functions.specs.declared.latch.Select.{Select}
+use Rattle.guest_functions.specs.declared.latch.Select.TheVariants as select
+use Rattle.host_bridge.specs.HostState.{HostState}
+use Rattle.monitor.specs.declared.guest.Guest.{Guest}
+use Rattle.monitor.specs.Keeping.{IsKept}
+use Rattle.monitor.specs.ByIndex.{lone_nth, with_lone_nth}
+use Rattle.monitor.proofs.Steps.{GuestAt, kept_latch}
+use Rattle.monitor.proofs.Calls.{Leaves, leaves}
+
+abbrev pub named_select : Select → lone.Select
+named_select select.Ordinary = ordinary
+named_select select.Nowhere = nowhere
+named_select (select.Slot n off) = in_slot n off
+
+same_select : (latch a : ℕ) → named_select (program.select_at latch a) ≡ lone.select_at latch a
+same_select latch a = cases (is_enabled latch && is_data_port a) (selected_bus latch == 0 && selected_function latch == 0)
+  where
+    cases : (t u : Bool) → named_select (cond (not t) select.Ordinary (cond u (select.Slot (selected_device latch) (selected_offset latch a)) select.Nowhere))
+        ≡ cond (not t) ordinary (cond u (in_slot (selected_device latch) (selected_offset latch a)) nowhere)
+    cases true true = refl
+    cases true false = refl
+    cases false u = refl
+
+pub destination_is : {latch own : ℕ} (a width : ℕ) {s : Select} → own ≡ latch → is_address_port a width ≡ false → s ≡ program.select_at own a → by_select (port a) (named_select s) ≡ destination latch width (port a)
+destination_is {latch} {own} a width {s} same not_latch is =
+    ap (λ x. by_select (port a) (named_select x)) (is ∙ ap (λ l. program.select_at l a) same) ∙ ap (by_select (port a)) (same_select latch a)
+    ∙ ap (λ t. cond t own_latch (by_select (port a) (lone.select_at latch a))) (sym not_latch)
+
+-- where nothing answers
+pub nothing_at : (l : lone.LoneGuest) (op : Op) (w : ℕ) → perform op w [] None ≡ reply_at l op w no_function
+nothing_at l reads w = refl
+nothing_at l (writes v) w = refl
+
+pub nothing_after : (l : lone.LoneGuest) (op : Op) (w : ℕ) → l ≡ after_access_at l op w no_function
+nothing_after l reads w = refl
+nothing_after l (writes v) w = refl
+
+-- ---- the own latch
+
+pub latch_lent : {gs ms left : List Guest} (i v : ℕ) {g : Guest} → ms ≡ gs → slice_get gs i ≡ Some g
+    → ((k : Guest) → slice_get ms i ≡ Some k → left ≡ slice_set ms i (record k { latch = latched v })) → left ≡ slice_set gs i (record g { latch = latched v })
+latch_lent {gs} {ms} {left} i v {g} same there written =
+    subst (λ (ls : List Guest). (k : Guest) → slice_get ls i ≡ Some k → left ≡ slice_set ls i (record k { latch = latched v })) same written g there
+
+pub latch_written : {w : WorldOver} {h : HostState} {names : List Text} {gs : List Guest} {i : ℕ} {g : Guest} → GuestAt w h names gs i g → (v : ℕ) {left : List Guest} → left ≡ slice_set gs i (record g { latch = latched v })
+    → Leaves (with_lone_nth i (after_access_at (lone_nth w i) (writes v) 4 own_latch) w) h h names left
+latch_written {w} {h} {names} {gs} {i} {g} at v is = leaves at.kept
+    (subst (IsKept (with_lone_nth i (after_access_at (lone_nth w i) (writes v) 4 own_latch) w) h names) (sym is)
+    (kept_latch at (latched v) (record g { latch = latched v }) refl refl))
+    refl

@@ -1,0 +1,33 @@
+use Rattle.std.proofs.Common.{List, Option, ap, drop, length, refl, slice_get, slice_set, subst, sym, ◌<◌, ◌∙◌}
+use Rattle.std.specs.Prelude.{slice_index_or}
+use Rattle.model_guests.specs.Grammar.{guest}
+use Rattle.monitor.specs.declared.guest.Guest.{Guest}
+use Rattle.monitor.specs.declared.guest.Held.{Held}
+use Rattle.monitor.proofs.Calls.{given_back}
+use Rattle.monitor.proofs.ConfigSteps.{same_at}
+use Rattle.monitor.proofs.moving.exchange_in.Goals as goal
+
+pub exchange-requires : goal.exchange-requires
+exchange-requires c =
+    let has = c.requires in
+    let same = same_at c.args.guests.now c.args.guest has.guest c.index-guests-guest.result has.there c.index-guests-guest.is in
+    let items = c.deref_mut.ensures.value ∙ ap (λ (g : Guest). g.slots.items) (sym c.index-guests-guest.is ∙ same) in
+    subst (λ (os : List (Option Held)). c.args.slot < length os) (sym items) has.inside
+
+pub returns : goal.returns
+returns c =
+    let has = c.requires in
+    let same = same_at c.args.guests.now c.args.guest has.guest c.index-guests-guest.result has.there c.index-guests-guest.is in
+    let here = sym c.index-guests-guest.is ∙ same in
+    let v = slice_index_or c.args.guests.now c.args.guest c.index-guests-guest.result in
+    let items = c.deref_mut.ensures.value ∙ ap (λ (g : Guest). g.slots.items) here in
+    let back = given_back c.exchange.new.slots (drop (length c.exchange.new.slots) v.slots.items) v.slots.len (c.exchange.auto.slots ∙ c.deref_mut.ensures.len) in
+    record {
+      before = has.guest;
+      there = has.there;
+      had = ap (λ (os : List (Option Held)). slice_get os c.args.slot) (sym items) ∙ c.exchange.ensures.was;
+      guest = _;
+      after = refl;
+      latch = ap (λ (g : Guest). g.latch) here;
+      items = back ∙ c.exchange.ensures.slots ∙ ap (λ (os : List (Option Held)). slice_set os c.args.slot c.args.held) items;
+    }

@@ -1,0 +1,18 @@
+-- The function in a slot of a guest.
+--     IsInSlot slots n h      slot n has the function h
+--     IsSlotFault slots n number      slot n is refused by this number: there is none, or no function in it
+use Rattle.std.specs.Prelude.{ℕ, List, Option, Some, ◌≡◌, ◌≤◌, slice_get}
+use Rattle.model_board.specs.Paths.{Path}
+use Rattle.model_board.specs.State.{State}
+use Rattle.model_guests.specs.Slots.{Slots}
+use Rattle.model_devices.specs.DeviceEvents.{slot_fault}
+use Rattle.monitor.specs.declared.guest.Held.{Held}
+use Rattle.monitor.specs.Keeping.{AreSlots}
+
+pub record IsInSlot (slots : List (Option Held)) (n : ℕ) (held : Held) : Type 0 where
+  pub low : n ≤ 31
+  pub there : slice_get slots n ≡ Some (Some held)
+
+abbrev pub IsSlotFault : List (Option Held) → ℕ → ℕ → Type 0
+IsSlotFault slots n number =
+    (s : State) (qs : List (Option Path)) (fs : Slots) → AreSlots s qs fs slots → slot_fault fs n ≡ Some number
