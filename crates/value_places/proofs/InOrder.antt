@@ -1,6 +1,7 @@
 -- Places that follow each other, and the text with their marks.
 use Rattle.std.proofs.Common.{◌≡◌, ◌≤◌, ◌<◌, ℕ, suc, ◌+◌, ◌-◌, true, List, [], ◌∷◌, ◌++◌, length, get_or, drop, take, ap, ◌∙◌, append_assoc, arith}
-use Rattle.std.proofs.lemmas.Bool.{and_parts, leb-true}
+use Rattle.std.specs.Prelude.{◌&&◌, nat_le, nat_lt}
+use Rattle.std.proofs.lemmas.Bool.{and_parts, leb-true, le-leb}
 use Rattle.std.proofs.Math.Seq.{drop-cons}
 use Rattle.value_places.specs.declared.scanning.Extent.{Extent}
 use Rattle.value_places.specs.Marks.{mark, quoted, are_in_order, with_marks}
@@ -21,6 +22,17 @@ within from len [] h = leb-true from len h
 within from len (e ∷ es) h =
     let f = front from len e es h in let begins = f.begins in let goes_on = f.goes_on in
     let last = within e.end len es f.rest in omega arith
+
+-- places that follow each other from an offset on do so from each offset before it
+pub from_earlier : (from later len : ℕ) (es : List Extent) → from ≤ later → are_in_order later len es ≡ true → are_in_order from len es ≡ true
+from_earlier from later len [] before h = let last = within later len [] h in le-leb from len (omega arith)
+from_earlier from later len (e ∷ es) before h =
+    let f = front later len e es h in let begins = f.begins in
+    let here : nat_le from e.start ≡ true = le-leb from e.start (omega arith) in
+    let parts : ((nat_le later e.start && nat_lt e.start e.end) ≡ true) × (are_in_order e.end len es ≡ true) =
+    and_parts (nat_le later e.start && nat_lt e.start e.end) (are_in_order e.end len es) h in
+    let goes_on : nat_lt e.start e.end ≡ true = (and_parts (nat_le later e.start) (nat_lt e.start e.end) parts.0).1 in
+    rw (here, goes_on, parts.1)
 
 -- the bytes so far, with the part before a place and its mark, and the rest
 pub one_more : (text bytes part new : List ℕ) (from : ℕ) (e : Extent) (es : List Extent) (whole : List ℕ)

@@ -2,3 +2,4 @@ pub mod Items
 pub mod InOrder
 pub mod Confirmed
 pub mod LongerWays
+pub mod LaterLines
