@@ -8,7 +8,7 @@ use Rattle.model_set_up.specs.Scanning.{board_numbers, numbered_file, numbered_s
 use Rattle.model_set_up.specs.FunctionTable.{TableRow, sized_table, board_in}
 use Rattle.model_board.specs.AtReset.{board_at}
 use Rattle.model_board.proofs.StateRows.{state_rows}
-use Rattle.model_set_up.proofs.FoundPlacement.{found_few, placed_as_found}
+use Rattle.model_set_up.proofs.FoundBoards.{found_few, placed_as_found}
 use Rattle.host_bridge.specs.HostState.{HostState}
 use Rattle.bus_scan.specs.SizedTables.{IsTableOf}
 

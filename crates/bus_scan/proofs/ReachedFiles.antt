@@ -20,8 +20,7 @@ use Rattle.model_board.specs.AtReset.{board_at}
 use Rattle.model_set_up.specs.Scanning.{IsNumbered}
 use Rattle.lists.proofs.Members.{each_in, each_from, in_map, any_in}
 use Rattle.model_board.proofs.PathEnds.{path_self}
-use Rattle.model_set_up.proofs.Routes.{reached_by_numbers}
-use Rattle.model_set_up.proofs.OnlyNamed.{only_named}
+use Rattle.model_set_up.proofs.Routes.{reached_by_numbers, only_named}
 use Rattle.bus_scan.specs.Probes.{with_ones, mask_shown, TakesBack}
 use Rattle.bus_scan.proofs.ProbedFiles.{ones, Probed}
 use Rattle.bus_scan.proofs.NumberedStates.{has_numbers, no_latch, each_reached, in_itself, only_there}

@@ -16,7 +16,7 @@ use Rattle.model_registers.specs.ConfigAddress.{is_enabled, is_data_port, select
 use Rattle.model_board.specs.Ports.{config_address, config_data, ordinary, port_target, selected}
 use Rattle.model_set_up.specs.SetUp.{first_of}
 use Rattle.model_board.proofs.PathOrder.{path_same}
-use Rattle.model_set_up.proofs.PlacedWithinLaw.{placed_within}
+use Rattle.model_set_up.proofs.PlacedRegions.{placed_within}
 use Rattle.model_set_up.proofs.UniqueClaimant.{claim_of_region}
 use Rattle.model_guests.specs.World.{declared, endpoint_of}
 use Rattle.model_guests.specs.AgreedBoard.{agreed_state}

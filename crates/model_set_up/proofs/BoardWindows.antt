@@ -1,23 +1,23 @@
 -- After set-up the windows of a board's bridges are those that placement gave them: a pool's items stand behind bridges that can name its addresses alone.
-use Rattle.std.proofs.Common.{◌≡◌, ℕ, zero, suc, ◌+◌, ◌-◌, ◌%◌, ◌^◌, ◌≤◌, ◌<◌, inl, Bool, true, false, ◌&&◌, ◌||◌, not, cond, List, [], ◌∷◌, ◌++◌, length, Option, Some, None, MatchOption, refl, sym, ap, ◌∙◌, subst, arith}
-use Rattle.std.specs.Prelude.{filter, nat_lt, IsTrue, ⊤}
+use Rattle.std.proofs.Common.{◌≡◌, ℕ, zero, suc, ◌+◌, ◌-◌, ◌%◌, ◌^◌, ◌≤◌, ◌<◌, inl, Bool, true, false, ◌||◌, not, cond, List, [], ◌∷◌, ◌++◌, length, Option, Some, None, MatchOption, refl, sym, ap, ◌∙◌, subst, arith, rules, inr, leb}
+use Rattle.std.specs.Prelude.{filter, IsTrue, ⊤}
 use Rattle.std.specs.List.{list_all}
-use Rattle.std.proofs.lemmas.Bool.{ltb-true, and_parts}
+use Rattle.std.proofs.lemmas.Bool.{ltb-true, and_parts, or_right, or_left, le-leb}
 use Rattle.lists.specs.Elements.{Each, IsIn}
 use Rattle.model_registers.specs.Declarations.{Kind, io_kind, mem32, mem64, Region, Endpoint, IoDecode, no_io, io16, io32, PrefDecode, no_pref, pref32, pref64, Bridge}
 use Rattle.model_registers.specs.BridgeTable.{Window, BridgeValues, bridge_file}
 use Rattle.model_registers.specs.Apertures.{IsLawfulApertures, IsPrefOption, Aperture, Apertures}
-use Rattle.model_board.specs.Board.{Board, Row, Decl, endpoint, bridge, rows_on, is_multifunction, IsBoard}
+use Rattle.model_board.specs.Board.{Board, Row, Decl, endpoint, bridge, rows_on, IsBoard}
 use Rattle.model_board.specs.Paths.{Path, leads_to, last_part, IsPath}
 use Rattle.model_set_up.specs.Pools.{Pool, io_pool, mem_pool, pref_pool, same_pool, unit_of, bridge_of, bridges_above, has_pref, has_pref64, pref_reaches, pref_or_mem, pool_of, is_io, opens_io, has_io, has_io_paths, aperture_of}
-use Rattle.model_set_up.specs.Placement.{Item, need, window_items, items_of, items_within, items_on, fits, bus_first}
-use Rattle.model_set_up.specs.Layout.{IsAligned, IsLawful, pool_rows}
+use Rattle.model_set_up.specs.Placement.{Item, need, window_items, items_of, items_within, items_on, fits, bus_first, a_region, a_window}
+use Rattle.model_set_up.specs.Layout.{IsAligned, IsLawful, pool_rows, LayoutRow, layout}
 use Rattle.model_set_up.specs.Extents.{IsInside}
-use Rattle.model_set_up.specs.PlacementLaws.{window_row}
+use Rattle.model_set_up.specs.PlacementLaws.{window_row, window_rows, IsRowFor, HasRows}
 use Rattle.model_board.specs.Lawful.{HasLawfulDecls}
-use Rattle.model_set_up.specs.SetUp.{window_of, bridge_values}
-use Rattle.model_board.specs.Windows.{io_window, mem_window, pref_window}
-use Rattle.model_set_up.specs.WindowLaws.{io_reach, pref_reach, IsWhole, window_over, HasPlacedWindows, SetUpWindows}
+use Rattle.model_set_up.specs.SetUp.{window_of, set_up_file}
+use Rattle.model_board.specs.Windows.{io_window, mem_window, pref_window, is_in, is_in_window}
+use Rattle.model_set_up.specs.WindowLaws.{io_reach, pref_reach, IsWhole, window_over, HasPlacedWindows, SetUpWindows, ForwardsPlaced}
 use Rattle.lists.proofs.Members.{each_in, each_from, from_flat_map, in_filter, in_flat_map, any_in, all_in}
 use Rattle.model_board.proofs.PathEnds.{leads_self, leads_trans}
 use Rattle.model_set_up.proofs.Packing.{unit_positive}
@@ -26,6 +26,7 @@ use Rattle.model_set_up.proofs.Nesting.{HasItems}
 use Rattle.model_set_up.proofs.LawfulPlacement.{pool_lawful}
 use Rattle.model_set_up.proofs.DeclaredRows.{has_window_row}
 use Rattle.model_set_up.proofs.WindowReads.{closed_windows, windows_named}
+use Rattle.model_set_up.specs.PlacedRegions.{pool_space}
 
 -- ---- items stand for regions behind
 
@@ -128,11 +129,7 @@ reach_high pref32 n h has = cc
 reach_high pref64 n h has = omega arith
 
 pref_reached : (ap : Aperture) (ds : List Bridge) (wide : Bool) (d : Bridge) → IsIn d ds → ap.last < 2 ^ 63 → pref_reaches ap ds wide ≡ true → ap.last < pref_reach d.pref
-pref_reached ap ds wide d m limit h = by_side (nat_lt ap.last (2 ^ 32)) refl h
-  where
-    by_side : (t : Bool) → nat_lt ap.last (2 ^ 32) ≡ t → cond t (list_all (λ d. has_pref d.pref) ds) (wide && list_all (λ d. has_pref64 d.pref) ds) ≡ true → ap.last < pref_reach d.pref
-    by_side true e k = reach_low d.pref ap.last (ltb-true ap.last (2 ^ 32) e) (all_in (λ (x : Bridge). has_pref x.pref) d ds k m)
-    by_side false e k = reach_high d.pref ap.last limit (all_in (λ (x : Bridge). has_pref64 x.pref) d ds (and_parts wide (list_all (λ d. has_pref64 d.pref) ds) k).1 m)
+pref_reached ap ds wide d m limit h = search (rules, reach_low, ltb-true, all_in, reach_high, and_parts)
 
 io_reached : (k : IoDecode) (n : ℕ) → n < 2 ^ 16 → has_io k ≡ true → n < io_reach k
 io_reached no_io n h has = cc
@@ -241,11 +238,46 @@ module _ (b : Board) (a : Apertures) (board : IsBoard b) (lawful : HasLawfulDecl
 
   windows : (r : Row) → IsIn r b → (d : Decl) → r.decl ≡ d → HasPlacedWindows b a r.path d
   windows r m (endpoint d) e = tt
-  windows r m (bridge d) e = record {
-    io = io_named d (is_multifunction b r.path) (bridge_values b a r.path) (bus_first b a io_pool r.path) (items_on b a io_pool r.path) refl (λ i k. io_placed r m d e (i, k));
-    mem = mem_named d (is_multifunction b r.path) (bridge_values b a r.path) (bus_first b a mem_pool r.path) (items_on b a mem_pool r.path) refl (λ i k. mem_placed r m d e (i, k));
-    pref = pref_named d (is_multifunction b r.path) (bridge_values b a r.path) (bus_first b a pref_pool r.path) (items_on b a pref_pool r.path) refl (λ i k. pref_placed r m d e (i, k));
-  }
+  windows r m (bridge d) e = search (rules, io_named, io_placed, mem_named, mem_placed, pref_named, pref_placed)
 
 pub set_up_windows : SetUpWindows
 set_up_windows b a board lawful apertures ways fit = each_from (λ r. HasPlacedWindows b a r.path r.decl) b (λ r m. windows b a board lawful apertures ways fit r m r.decl refl)
+
+-- ---- after set-up a bridge's window of a pool holds the addresses of the window that placement gave it
+
+-- a window row of the layout is that of a bridge with items behind it
+pub record IsBridgeWindow (b : Board) (a : Apertures) (w : LayoutRow) : Type 0 where
+  pub is : w ≡ window_row b a w.pool w.path
+  pub item : Item
+  pub behind : IsIn item (items_on b a w.pool w.path)
+
+of_row : (b : Board) (a : Apertures) (pool : Pool) (w : LayoutRow) (p : Path) (is : List Item) → is ≡ items_on b a pool p → IsIn w (window_rows b a pool p is) → IsBridgeWindow b a w
+of_row b a pool w p [] e m = absurd m
+of_row b a pool w p (i ∷ is) e (inl f) = subst (IsBridgeWindow b a) (sym f) (record { is = refl; item = i; behind = subst (IsIn i) e (inl refl) })
+of_row b a pool w p (i ∷ is) e (inr m) = absurd m
+
+of_function : (b : Board) (a : Apertures) (pool : Pool) (w : LayoutRow) (p : Path) (d : Decl) → w.what ≡ a_window → IsRowFor b a pool w p d → IsBridgeWindow b a w
+of_function b a pool w p (endpoint d) what m = let e : w.what ≡ a_region m.0.index = ap (λ (l : LayoutRow). l.what) m.3 in cc
+of_function b a pool w p (bridge d) what m = of_row b a pool w p (items_on b a pool p) refl m
+
+pub bridge_window : (b : Board) (a : Apertures) → HasRows b a → (w : LayoutRow) → IsIn w (layout b a) → w.what ≡ a_window → IsBridgeWindow b a w
+bridge_window b a has w m what =
+    let f = from_flat_map (pool_rows b a) w (io_pool ∷ mem_pool ∷ pref_pool ∷ []) m in
+    let g = each_in (λ (l : LayoutRow). (r : Row) × IsIn r b × IsRowFor b a f.0 l r.path r.decl) w (pool_rows b a f.0) (has.no_others f.0) f.2 in
+    of_function b a f.0 w g.0.path g.0.decl what g.2
+
+-- ---- a window with items holds the addresses inside it
+
+in_window : (unit first : ℕ) (is : List Item) (i : Item) (n : ℕ) → IsIn i is → first ≤ n → n < first + need unit is → is_in n (window_over unit first is) ≡ true
+in_window unit first [] i n m l u = absurd m
+in_window unit first (j ∷ is) i n m l u = let e : leb first n ≡ true = le-leb first n l in let f : leb n (first + need unit (j ∷ is) - 1) ≡ true = le-leb n (first + need unit (j ∷ is) - 1) (omega arith) in rw (e, f)
+
+module _ (b : Board) (a : Apertures) (p : Path) (d : Bridge) (forwards : ForwardsPlaced b a p d) (i : Item) (n : ℕ) where
+  pub window_holds : (pool : Pool) → IsIn i (items_on b a pool p) → bus_first b a pool p ≤ n → n < bus_first b a pool p + need (unit_of pool) (items_on b a pool p) → is_in_window d (set_up_file b a p (bridge d)) (pool_space pool) n ≡ true
+  window_holds io_pool m l u = ap (is_in n) forwards.io ∙ in_window (unit_of io_pool) (bus_first b a io_pool p) (items_on b a io_pool p) i n m l u
+  window_holds mem_pool m l u =
+      or_left (is_in n (mem_window (set_up_file b a p (bridge d)))) (is_in n (pref_window d.pref (set_up_file b a p (bridge d))))
+      (ap (is_in n) forwards.mem ∙ in_window (unit_of mem_pool) (bus_first b a mem_pool p) (items_on b a mem_pool p) i n m l u)
+  window_holds pref_pool m l u =
+      or_right (is_in n (mem_window (set_up_file b a p (bridge d)))) (is_in n (pref_window d.pref (set_up_file b a p (bridge d))))
+      (ap (is_in n) forwards.pref ∙ in_window (unit_of pref_pool) (bus_first b a pref_pool p) (items_on b a pref_pool p) i n m l u)

@@ -1,19 +1,28 @@
 -- A board as it was found: each row keeps its path, whether it is a bridge, its regions but for their cells, and its decodes.
-use Rattle.std.proofs.Common.{◌≡◌, ℕ, ◌+◌, ◌≤◌, Bool, true, false, ◌&&◌, ◌||◌, cond, List, [], ◌∷◌, ◌++◌, length, Option, Some, None, refl, sym, ap, ap₂, ◌∙◌, subst, ◌⊎◌, arith, lit<}
-use Rattle.std.specs.Prelude.{map, filter, flat_map, IsTrue}
-use Rattle.std.specs.List.{list_all}
+use Rattle.std.proofs.Common.{◌≡◌, ℕ, ◌+◌, ◌≤◌, Bool, true, false, ◌&&◌, ◌||◌, cond, List, [], ◌∷◌, ◌++◌, length, Option, Some, None, refl, sym, ap, ap₂, ◌∙◌, subst, ◌⊎◌, arith, lit<, rules, zero, suc, not}
+use Rattle.std.specs.Prelude.{map, filter, flat_map, IsTrue, count_by}
+use Rattle.std.specs.List.{list_all, list_any}
+use Rattle.std.proofs.lemmas.List.{map-append}
+use Rattle.std.proofs.lemmas.List.Sums.{sum_by-cons}
 use Rattle.lists.specs.Elements.{Each, EachPair}
 use Rattle.model_registers.specs.Declarations.{Kind, io_kind, mem32, mem64, Region, IsLawfulRegion, registers_of, Endpoint, Bridge}
 use Rattle.model_registers.specs.OwnCopies.{bare}
-use Rattle.model_board.specs.Paths.{Path, path_eq, path_before, leads_to, parent, IsPath, function_zero}
-use Rattle.model_board.specs.Board.{Decl, endpoint, bridge, is_bridge, Row, Board, stands_at, is_bridge_at, IsBoard}
-use Rattle.model_board.specs.BusNumbers.{secondary, subordinate, bus_behind, bus_of}
+use Rattle.model_board.specs.Paths.{Path, path_eq, path_before, leads_to, parent, IsPath, function_zero, last_part}
+use Rattle.model_board.specs.Board.{Decl, endpoint, bridge, is_bridge, Row, Board, stands_at, is_bridge_at, IsBoard, rows_on}
+use Rattle.model_board.specs.BusNumbers.{secondary, subordinate, bus_behind, bus_of, Enumerates}
 use Rattle.model_board.specs.Lawful.{IsLawfulDecl, HasLawfulDecls}
 use Rattle.model_registers.specs.Apertures.{Aperture, Apertures}
-use Rattle.model_set_up.specs.Pools.{bridge_of, bridges_above, has_pref, has_pref64, pref_or_mem, pool_of}
-use Rattle.model_set_up.specs.FunctionTable.{met_endpoint, met_bridge, found_decl, range_behind, table_row, sized_table, board_in}
+use Rattle.model_set_up.specs.Pools.{bridge_of, bridges_above, has_pref, has_pref64, pref_or_mem, pool_of, Pool, io_pool, mem_pool, pref_pool, unit_of, same_pool, has_io, is_io, opens_io, has_io_paths}
+use Rattle.model_set_up.specs.FunctionTable.{met_endpoint, met_bridge, found_decl, range_behind, table_row, sized_table, board_in, PlacedAsFound}
 use Rattle.model_board.proofs.BusNumbers.{bridges, bridges-cons}
 use Rattle.model_board.proofs.PathOrder.{one}
+use Rattle.model_registers.specs.Decoding.{io, memory, space_of, same_space}
+use Rattle.model_registers.specs.EndpointTable.{BaseAddress}
+use Rattle.model_set_up.specs.Placement.{Item, a_region, a_window, region_item, window_items, items_of, items_within, items_on, root_first, fits, fits_items, spots, offset_in, offset_on, first_below, bus_first, region_first}
+use Rattle.model_set_up.specs.Layout.{row_of, bus_rows, buses, pool_rows, layout}
+use Rattle.model_set_up.specs.SetUp.{first_of, command_of, window_of, set_up_window}
+use Rattle.model_set_up.specs.SetUpWrites.{to_endpoint, to_bridge, placed_base, windows_of, writes_of, settings, planned, placement_rules}
+use Rattle.model_set_up.specs.Reach.{address_of}
 
 abbrev pub found_endpoint : Endpoint → Endpoint
 found_endpoint d = record (met_endpoint d) { regions = map bare d.regions }
@@ -69,17 +78,7 @@ bare_blocks [] = tt
 bare_blocks (r ∷ rs) = (omega arith, bare_blocks rs)
 
 found_lawful : (d : Decl) → IsLawfulDecl d → IsLawfulDecl (found_decl d)
-found_lawful (endpoint d) h = record {
-  fits = record { device = h.fits.device; revision = lit< tt; subvendor = lit< tt; subsystem = lit< tt; min_gnt = lit< tt; max_lat = lit< tt };
-  vendor = h.vendor;
-  class = lit< tt;
-  pin = h.pin;
-  status = refl;
-  regions = record { each = bare_each d.regions h.regions.each; in_order = bare_order d.regions h.regions.in_order };
-  region_blocks = bare_blocks d.regions;
-  config_blocks = tt;
-  blocks_apart = tt;
-}
+found_lawful (endpoint d) h = search (rules, bare_each, bare_order, bare_blocks)
 found_lawful (bridge d) h = record { vendor = h.vendor; device = h.device; revision = lit< tt }
 
 pub found_decls : (b : Board) → HasLawfulDecls b → HasLawfulDecls (found_board b)
@@ -155,19 +154,9 @@ flat_map_found f g h (r ∷ b) = ap₂ ◌++◌ (h r) (flat_map_found f g h b)
 
 pub filter_found : (p q : Row → Bool) → ((r : Row) → p (found_row r) ≡ q r) → (b : Board) → filter p (found_board b) ≡ found_board (filter q b)
 filter_found p q h [] = refl
-filter_found p q h (r ∷ b) = by_test (p (found_row r)) (q r) (h r) (filter_found p q h b)
-  where
-    by_test : (t u : Bool) → t ≡ u → filter p (found_board b) ≡ found_board (filter q b) → cond t (found_row r ∷ filter p (found_board b)) (filter p (found_board b)) ≡ found_board (cond u (r ∷ filter q b) (filter q b))
-    by_test true true e more = ap (λ (rs : Board). found_row r ∷ rs) more
-    by_test false false e more = more
-    by_test true false e more = cc
-    by_test false true e more = cc
+filter_found p q h (r ∷ b) = search (rules, filter_found p q h b)
 
 -- ---- the bridges above
-
-bridges_append : (f : Bridge → Bridge) (xs ys : List Bridge) → map f (xs ++ ys) ≡ map f xs ++ map f ys
-bridges_append f [] ys = refl
-bridges_append f (x ∷ xs) ys = ap (λ (zs : List Bridge). f x ∷ zs) (bridges_append f xs ys)
 
 found_bridge_of : (p : Path) (d : Decl) → bridge_of (record { path = p; decl = found_decl d }) ≡ map found_bridge (bridge_of (record { path = p; decl = d }))
 found_bridge_of p (endpoint d) = refl
@@ -175,7 +164,7 @@ found_bridge_of p (bridge d) = refl
 
 found_bridges : (b : Board) → flat_map bridge_of (found_board b) ≡ map found_bridge (flat_map bridge_of b)
 found_bridges [] = refl
-found_bridges (r ∷ b) = ap₂ ◌++◌ (found_bridge_of r.path r.decl) (found_bridges b) ∙ sym (bridges_append found_bridge (bridge_of r) (flat_map bridge_of b))
+found_bridges (r ∷ b) = ap₂ ◌++◌ (found_bridge_of r.path r.decl) (found_bridges b) ∙ sym (map-append found_bridge (bridge_of r) (flat_map bridge_of b))
 
 pub found_above : (b : Board) (p : Path) → bridges_above (found_board b) p ≡ map found_bridge (bridges_above b p)
 found_above b p = ap (flat_map bridge_of) (filter_found (λ r. leads_to r.path p) (λ r. leads_to r.path p) (λ r. refl) b) ∙ found_bridges (filter (λ r. leads_to r.path p) b)
@@ -197,3 +186,152 @@ pool_found a ds (mem64 false) = refl
 
 pub found_pool : (b : Board) (a : Apertures) (p : Path) (k : Kind) → pool_of a (bridges_above (found_board b) p) k ≡ pool_of a (bridges_above b p) k
 found_pool b a p k = ap (λ (ds : List Bridge). pool_of a ds k) (found_above b p) ∙ pool_found a (bridges_above b p) k
+
+-- ---- a board as it was found is placed as the board is: placement looks at paths, kinds, sizes and decodes alone
+
+-- ---- what stands on a bus
+
+regions_found : (b : Board) (a : Apertures) (pool : Pool) (p : Path) (rs : List Region)
+    → map (region_item (last_part p)) (filter (λ r. same_pool (pool_of a (bridges_above (found_board b) p) r.kind) pool) (map bare rs))
+    ≡ map (region_item (last_part p)) (filter (λ r. same_pool (pool_of a (bridges_above b p) r.kind) pool) rs)
+regions_found b a pool p [] = refl
+regions_found b a pool p (r ∷ rs) = search (rules, found_pool, regions_found b a pool p rs)
+
+items_of_found : (b : Board) (a : Apertures) (pool : Pool) (f g : Path → List Item) (p : Path) (d : Decl) → f p ≡ g p
+    → items_of (found_board b) a pool f (record { path = p; decl = found_decl d }) ≡ items_of b a pool g (record { path = p; decl = d })
+items_of_found b a pool f g p (endpoint d) e = regions_found b a pool p d.regions
+items_of_found b a pool f g p (bridge d) e = ap (window_items (unit_of pool) (last_part p)) e
+
+items_found : (b : Board) (a : Apertures) (pool : Pool) (n : ℕ) (bus : Path) → items_within (found_board b) a pool n bus ≡ items_within b a pool n bus
+items_found b a pool zero bus = refl
+items_found b a pool (suc n) bus =
+    ap (flat_map (items_of (found_board b) a pool (items_within (found_board b) a pool n))) (filter_found (λ r. path_eq (parent r.path) bus) (λ r. path_eq (parent r.path) bus) (λ r. refl) b)
+    ∙ flat_map_found (items_of (found_board b) a pool (items_within (found_board b) a pool n)) (items_of b a pool (items_within b a pool n))
+    (λ r. items_of_found b a pool (items_within (found_board b) a pool n) (items_within b a pool n) r.path r.decl (items_found b a pool n r.path)) (rows_on b bus)
+
+-- ---- addresses, for two boards that have the same on each bus
+
+module _ (b c : Board) (a : Apertures) (pool : Pool) (same : (bus : Path) → items_on c a pool bus ≡ items_on b a pool bus) where
+  first_below_same : (n : ℕ) (above : Path) (ps : Path) → first_below c a pool n above ps ≡ first_below b a pool n above ps
+  first_below_same n above [] = refl
+  first_below_same n above (p ∷ ps) =
+      first_below_same (n + offset_on c a pool above p a_window) (above ++ p ∷ []) ps
+      ∙ ap (λ (is : List Item). first_below b a pool (n + offset_in (spots is) p a_window) (above ++ p ∷ []) ps) (same above)
+
+  pub bus_first_same : (bus : Path) → bus_first c a pool bus ≡ bus_first b a pool bus
+  bus_first_same bus =
+      first_below_same (root_first a pool (items_on c a pool [])) [] bus
+      ∙ ap (λ (is : List Item). first_below b a pool (root_first a pool is) [] bus) (same [])
+
+  pub region_first_same : (p : Path) (k : ℕ) → region_first c a pool p k ≡ region_first b a pool p k
+  region_first_same p k = ap₂ (λ n (is : List Item). n + offset_in (spots is) (last_part p) (a_region k)) (bus_first_same (parent p)) (same (parent p))
+
+  pub bus_rows_same : (bus : Path) → bus_rows c a pool bus ≡ bus_rows b a pool bus
+  bus_rows_same bus = ap₂ (λ n (is : List Item). map (row_of pool bus n) (spots is)) (bus_first_same bus) (same bus)
+
+  pub set_up_window_same : (closed : ℕ) (p : Path) → set_up_window c a pool closed p ≡ set_up_window b a pool closed p
+  set_up_window_same closed p = ap₂ (λ n (is : List Item). window_of (unit_of pool) closed n is) (bus_first_same p) (same p)
+
+  pub fits_same : fits c a pool ≡ fits b a pool
+  fits_same = ap (fits_items a pool) (same [])
+
+-- ---- the rows of the layout
+
+module _ (b : Board) (a : Apertures) where
+  pub on_bus : (pool : Pool) (bus : Path) → items_on (found_board b) a pool bus ≡ items_on b a pool bus
+  on_bus pool bus = items_found b a pool 16 bus
+
+  buses_found : buses (found_board b) ≡ buses b
+  buses_found =
+      ap (λ (ps : List Path). [] ∷ ps)
+      (ap (map (λ (r : Row). r.path)) (filter_found (λ r. is_bridge r.decl) (λ r. is_bridge r.decl) (λ r. found_is_bridge r.decl) b)
+      ∙ map_found (λ r. r.path) (λ r. r.path) (λ r. refl) (filter (λ r. is_bridge r.decl) b))
+
+  rows_found : (pool : Pool) → pool_rows (found_board b) a pool ≡ pool_rows b a pool
+  rows_found pool = λ i. flat_map (λ bus. bus_rows_same b (found_board b) a pool (on_bus pool) bus i) (buses_found i)
+
+  layout_found : layout (found_board b) a ≡ layout b a
+  layout_found = λ i. flat_map (λ pool. rows_found pool i) (io_pool ∷ mem_pool ∷ pref_pool ∷ [])
+
+  -- ---- what set-up writes
+
+  first_of_found : (p : Path) (r : Region) → first_of (found_board b) a p (bare r) ≡ first_of b a p r
+  first_of_found p r =
+      ap (λ (pool : Pool). region_first (found_board b) a pool p r.index) (found_pool b a p r.kind)
+      ∙ region_first_same b (found_board b) a (pool_of a (bridges_above b p) r.kind) (on_bus (pool_of a (bridges_above b p) r.kind)) p r.index
+
+  bases_found : (p : Path) (rs : List Region) → map (placed_base (found_board b) a p) (map bare rs) ≡ map (placed_base b a p) rs
+  bases_found p [] = refl
+  bases_found p (r ∷ rs) = ap₂ (λ n (bs : List BaseAddress). record { index = r.index; kind = r.kind; size = r.size; base = n } ∷ bs) (first_of_found p r) (bases_found p rs)
+
+  windows_found : (p : Path) → windows_of (found_board b) a p ≡ windows_of b a p
+  windows_found p = λ i. record {
+    io = set_up_window_same b (found_board b) a io_pool (on_bus io_pool) 0xf p i;
+    mem = set_up_window_same b (found_board b) a mem_pool (on_bus mem_pool) 0xfff p i;
+    pref = set_up_window_same b (found_board b) a pref_pool (on_bus pref_pool) 0xfff p i;
+  }
+
+  any_bare : (t : Kind → Bool) (rs : List Region) → list_any (λ r. t r.kind) (map bare rs) ≡ list_any (λ r. t r.kind) rs
+  any_bare t [] = refl
+  any_bare t (r ∷ rs) = ap (λ u. t r.kind || u) (any_bare t rs)
+
+  command_found : (d : Endpoint) → command_of (found_endpoint d) ≡ command_of d
+  command_found d = ap₂ (λ t u. cond t 1 0 + cond u 2 0) (any_bare (λ k. same_space (space_of k) io) d.regions) (any_bare (λ k. same_space (space_of k) memory) d.regions)
+
+  writes_found : (p : Path) (d : Decl) → writes_of (found_board b) a p (found_decl d) ≡ writes_of b a p d
+  writes_found p (endpoint d) = ap₂ to_endpoint (command_found d) (bases_found p d.regions)
+  writes_found p (bridge d) = ap to_bridge (windows_found p)
+
+  address_found : (p : Path) → address_of (found_board b) p ≡ address_of b p
+  address_found p = λ i. record { bus = found_bus b p i; part = last_part p }
+
+  settings_found : settings (found_board b) a ≡ settings b a
+  settings_found =
+      map_found (λ r. record { at = address_of (found_board b) r.path; writes = writes_of (found_board b) a r.path r.decl }) (λ r. record { at = address_of b r.path; writes = writes_of b a r.path r.decl })
+      (λ r. λ i. record { at = address_found r.path i; writes = writes_found r.path r.decl i }) b
+
+  pub planned_found : planned (found_board b) a ≡ planned b a
+  planned_found = λ i. record { rows = layout_found i; settings = settings_found i }
+
+  -- ---- what is refused
+
+  opens_found : (d : Decl) → opens_io (found_decl d) ≡ opens_io d
+  opens_found (endpoint d) = any_bare is_io d.regions
+  opens_found (bridge d) = refl
+
+  io_test : (p : Path) → list_all (λ d. has_io d.io) (bridges_above (found_board b) p) ≡ list_all (λ d. has_io d.io) (bridges_above b p)
+  io_test p = ap (list_all (λ d. has_io d.io)) (found_above b p) ∙ all_found (λ d. has_io d.io) (λ d. refl) (bridges_above b p)
+
+  all_rows : (t u : Row → Bool) → ((r : Row) → t (found_row r) ≡ u r) → (c : Board) → list_all t (found_board c) ≡ list_all u c
+  all_rows t u h [] = refl
+  all_rows t u h (r ∷ c) = ap₂ ◌&&◌ (h r) (all_rows t u h c)
+
+  io_paths_found : has_io_paths (found_board b) ≡ has_io_paths b
+  io_paths_found =
+      all_rows (λ r. not (opens_io r.decl) || list_all (λ d. has_io d.io) (bridges_above (found_board b) r.path)) (λ r. not (opens_io r.decl) || list_all (λ d. has_io d.io) (bridges_above b r.path))
+      (λ r. ap₂ (λ t u. not t || u) (opens_found r.decl) (io_test r.path)) b
+
+  pub rules_found : placement_rules (found_board b) a ≡ placement_rules b a
+  rules_found = λ i. (202, io_paths_found i) ∷ (203, fits_same b (found_board b) a io_pool (on_bus io_pool) i) ∷ (204, fits_same b (found_board b) a mem_pool (on_bus mem_pool) i) ∷ (205, fits_same b (found_board b) a pref_pool (on_bus pref_pool) i) ∷ []
+
+-- ---- the law
+
+-- as many bridges stand in the table
+all_bridges : (b : Board) → count_by (λ (r : Row). is_bridge r.decl) (found_board b) ≡ count_by (λ (r : Row). is_bridge r.decl) b
+all_bridges [] = refl
+all_bridges (r ∷ b) =
+    sum_by-cons (λ (s : Row). one (is_bridge s.decl)) (found_row r) (found_board b) ∙ ap₂ (λ t n. one t + n) (found_is_bridge r.decl) (all_bridges b)
+    ∙ sym (sum_by-cons (λ (s : Row). one (is_bridge s.decl)) r b)
+
+pub found_few : (b : Board) → Enumerates b → Enumerates (board_in (sized_table b))
+found_few b few = subst Enumerates (sym (board_in_table b)) (subst (λ n. n ≤ 255) (sym (all_bridges b)) few)
+
+of_found : (b : Board) → IsBoard b → HasLawfulDecls b → (c : Board) → c ≡ found_board b → IsBoard c × HasLawfulDecls c × (sized_table c ≡ sized_table b) × ((a : Apertures) → planned c a ≡ planned b a) × ((a : Apertures) → placement_rules c a ≡ placement_rules b a)
+of_found b board lawful c e =
+    let P : Board → Type 0 = λ x. IsBoard x × HasLawfulDecls x × (sized_table x ≡ sized_table b) × ((a : Apertures) → planned x a ≡ planned b a) × ((a : Apertures) → placement_rules x a ≡ placement_rules b a) in
+    subst P (sym e) (found_places b board, found_decls b lawful, map_found _ _ (found_table_row b) b, planned_found b, rules_found b)
+
+pub placed_as_found : PlacedAsFound
+placed_as_found b board lawful =
+    let h = of_found b board lawful (board_in (sized_table b)) (board_in_table b) in
+    record { board = h.0; declarations = h.1; few = found_few b; table = h.2; plan = h.3; rules = h.4 }

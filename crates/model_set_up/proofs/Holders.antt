@@ -1,5 +1,5 @@
 -- Regions that share no address: one at most holds an address, so their order doesn't count.
-use Rattle.std.proofs.Common.{◌≡◌, ℕ, ◌+◌, ◌≤◌, ◌<◌, ◌⊎◌, inl, inr, Bool, true, false, ◌&&◌, List, [], ◌∷◌, None, refl, sym, ap, ◌∙◌, arith, leb, ltb}
+use Rattle.std.proofs.Common.{◌≡◌, ℕ, ◌+◌, ◌≤◌, ◌<◌, inl, inr, Bool, true, false, List, [], ◌∷◌, None, refl, sym, ap, ◌∙◌, rules}
 use Rattle.std.specs.Prelude.{flat_map}
 use Rattle.std.specs.List.{list_any}
 use Rattle.std.specs.Option.{option_to_list}
@@ -28,33 +28,14 @@ pub record Holds (space : Space) (n : ℕ) (q : PlacedRegion) : Type 0 where
   pub below : n < q.first + q.size
 
 pub holds_is : (space : Space) (n : ℕ) (q : PlacedRegion) → holds space n q ≡ true → Holds space n q
-holds_is space n q h =
-    let front : (same_space q.space space && leb q.first n) ≡ true = left_true (same_space q.space space && leb q.first n) (ltb n (q.first + q.size)) h in record {
-      space_is = left_true (same_space q.space space) (leb q.first n) front;
-      from = leb-true q.first n (right_true (same_space q.space space) (leb q.first n) front);
-      below = ltb-true n (q.first + q.size) (right_true (same_space q.space space && leb q.first n) (ltb n (q.first + q.size)) h);
-    }
+holds_is space n q h = search (rules, left_true, leb-true, right_true, ltb-true)
 
 pub is_held : (space : Space) (n : ℕ) (q : PlacedRegion) → Holds space n q → holds space n q ≡ true
-is_held space n q h = let e : leb q.first n ≡ true = le_test q.first n h.from in let f : ltb n (q.first + q.size) ≡ true = lt_test n (q.first + q.size) h.below in rw (h.space_is, e, f)
-  where
-    le_test : (x y : ℕ) → x ≤ y → leb x y ≡ true
-    le_test x y k = grind (arith, nat_tests)
-
-    lt_test : (x y : ℕ) → x < y → ltb x y ≡ true
-    lt_test x y k = grind (arith, nat_tests)
+is_held space n q h = search (rules, nat_tests)
 
 -- what shares no address with a holder doesn't hold it
 not_held : (space : Space) (n : ℕ) (q t : PlacedRegion) → Holds space n q → ShareNone q t → holds space n t ≡ false
-not_held space n q t h apart = by_test (holds space n t) refl
-  where
-    by_side : Holds space n t → (q.first + q.size ≤ t.first) ⊎ (t.first + t.size ≤ q.first) → ⊥
-    by_side k (inl e) = omega (arith, h.from, h.below, k.from, k.below)
-    by_side k (inr e) = omega (arith, h.from, h.below, k.from, k.below)
-
-    by_test : (u : Bool) → holds space n t ≡ u → u ≡ false
-    by_test false e = refl
-    by_test true e = let k : Holds space n t = holds_is space n t e in absurd (by_side k (apart (same_spaces q.space t.space space h.space_is k.space_is)))
+not_held space n q t h apart = search (rules, holds_is, same_spaces)
 
 -- all claims of placed regions
 abbrev pub claims_in : Space → ℕ → List PlacedRegion → List Claim
@@ -66,11 +47,7 @@ none_held space n q (t ∷ ts) h apart = let e : holds space n t ≡ false = not
 
 pub one_at_most : (space : Space) (n : ℕ) (qs : List PlacedRegion) → EachPair ShareNone qs → claims_in space n qs ≡ option_to_list (first_some (claim_in space n) qs)
 one_at_most space n [] apart = refl
-one_at_most space n (q ∷ qs) apart = by_test (holds space n q) refl (one_at_most space n qs apart.1)
-  where
-    by_test : (u : Bool) → holds space n q ≡ u → claims_in space n qs ≡ option_to_list (first_some (claim_in space n) qs) → claims_in space n (q ∷ qs) ≡ option_to_list (first_some (claim_in space n) (q ∷ qs))
-    by_test true e more = let none : claims_in space n qs ≡ [] = none_held space n q qs (holds_is space n q e) apart.0 in rw (e, none)
-    by_test false e more = rw e more
+one_at_most space n (q ∷ qs) apart = search (rules, none_held, holds_is, one_at_most space n qs apart.1)
 
 -- the holder is the first
 pub holder_first : (space : Space) (n : ℕ) (q : PlacedRegion) (qs : List PlacedRegion) → EachPair ShareNone qs → IsIn q qs → Holds space n q → first_some (claim_in space n) qs ≡ claim_in space n q
@@ -92,15 +69,7 @@ self_space memory = refl
 
 -- two holders are one
 one_holder : (space : Space) (n : ℕ) (q t : PlacedRegion) (qs : List PlacedRegion) → EachPair ShareNone qs → IsIn q qs → IsIn t qs → Holds space n q → Holds space n t → q ≡ t
-one_holder space n q t qs apart m k h l = by_pair (pair_in ShareNone q t qs apart m k)
-  where
-    clash : (x y : PlacedRegion) → ShareNone x y → Holds space n x → Holds space n y → ⊥
-    clash x y none h l = let bad : true ≡ false = sym (is_held space n y l) ∙ not_held space n x y h none in cc
-
-    by_pair : (q ≡ t) ⊎ (ShareNone q t ⊎ ShareNone t q) → q ≡ t
-    by_pair (inl e) = e
-    by_pair (inr (inl none)) = absurd (clash q t none h l)
-    by_pair (inr (inr none)) = absurd (clash t q none l h)
+one_holder space n q t qs apart m k h l = search (rules, pair_in, is_held, not_held)
 
 -- a list whose holders are all q, and that has q, has q's claim first
 first_is : (space : Space) (n : ℕ) (q : PlacedRegion) (ts : List PlacedRegion) → Holds space n q → ((t : PlacedRegion) → IsIn t ts → Holds space n t → t ≡ q) → IsIn q ts → first_some (claim_in space n) ts ≡ claim_in space n q

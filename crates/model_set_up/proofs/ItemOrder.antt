@@ -1,6 +1,6 @@
 -- Items in order are a sorted permutation, and on a bus the only one.
 use Rattle.std.proofs.Common.{◌≡◌, ℕ, zero, suc, ◌<◌, ◌⊎◌, inl, inr, Bool, true, false, ◌&&◌, cond, List, [], ◌∷◌, length, refl, sym, ap₂, ◌∙◌, subst, arith, eqb, All, IsPermutation, get_or, add-one}
-use Rattle.std.specs.List.{AllByRecursion, IsDistinct}
+use Rattle.std.specs.List.{IsDistinct}
 use Rattle.std.proofs.lemmas.Bool.Decides.{nat_tests}
 use Rattle.std.proofs.lemmas.List.Sorted.{IsPermutation-refl, IsPermutation-cons, IsPermutation-swap, IsPermutation-trans, IsPermutation-sym, All-permutation}
 use Rattle.std.proofs.lemmas.List.Elements.{All-cons, All-head, All-tail}
@@ -120,20 +120,12 @@ Ranked i j = is_same i j ≡ false
 distinct_from : (is : List Item) → EachPair Ranked is → IsDistinct is_same is
 unfolding IsDistinct
 distinct_from [] h = tt
-distinct_from (i ∷ is) h = (by_each is h.0, distinct_from is h.1)
-  where
-    by_each : (js : List Item) → Each (Ranked i) js → AllByRecursion (λ y. is_same i y ≡ false) js
-    by_each [] h = tt
-    by_each (j ∷ js) h = (h.0, by_each js h.1)
+distinct_from (i ∷ is) h = grind (arith, distinct_from is h.1)
 
 pairs_of : (is : List Item) → IsDistinct is_same is → EachPair Ranked is
 unfolding IsDistinct
 pairs_of [] h = tt
-pairs_of (i ∷ is) h = (each_by is h.0, pairs_of is h.1)
-  where
-    each_by : (js : List Item) → AllByRecursion (λ y. is_same i y ≡ false) js → Each (Ranked i) js
-    each_by [] h = tt
-    each_by (j ∷ js) h = (h.0, each_by js h.1)
+pairs_of (i ∷ is) h = grind (arith, pairs_of is h.1)
 
 strict_pairs : (is : List Item) → EachPair NotBefore is → EachPair Ranked is → EachPair Strictly is
 strict_pairs [] h k = tt

@@ -1,15 +1,15 @@
 -- What stands on a bus: each item has a power of two for its alignment and some size, and no two are of the same region or window.
-use Rattle.std.proofs.Common.{◌≡◌, ℕ, zero, suc, ◌+◌, ◌%◌, ◌≤◌, ◌<◌, max, ◌⊎◌, inl, inr, Bool, true, false, ◌&&◌, cond, List, [], ◌∷◌, ◌++◌, refl, sym, ap, ap₂, ◌∙◌, subst, arith, eqb}
-use Rattle.std.specs.Prelude.{filter, IsTrue}
+use Rattle.std.proofs.Common.{◌≡◌, ℕ, zero, suc, ◌+◌, ◌%◌, ◌≤◌, ◌<◌, max, ◌⊎◌, inl, inr, Bool, true, false, ◌&&◌, cond, List, [], ◌∷◌, ◌++◌, refl, sym, ap, ap₂, ◌∙◌, subst, arith, eqb, rules}
+use Rattle.std.specs.Prelude.{filter}
 use Rattle.std.proofs.lemmas.Bool.{cases_lt}
 use Rattle.std.proofs.lemmas.Bool.Decides.{nat_tests}
 use Rattle.lists.specs.Elements.{Each, EachPair, IsIn}
 use Rattle.model_registers.specs.Declarations.{Endpoint, Region, Kind, registers_of, io_kind, mem32, mem64, IsLawfulRegion}
 use Rattle.model_board.specs.Board.{Board, Row, Decl, endpoint, bridge, rows_on, IsBoard}
-use Rattle.model_board.specs.Paths.{Part, Path, part_eq, path_eq, path_before, parent, last_part, IsPath}
+use Rattle.model_board.specs.Paths.{Part, Path, part_eq, path_eq, parent, last_part, IsPath}
 use Rattle.model_registers.specs.Apertures.{Apertures}
 use Rattle.model_set_up.specs.Pools.{Pool, io_pool, mem_pool, pref_pool, unit_of, same_pool, pool_of, bridges_above}
-use Rattle.model_set_up.specs.Placement.{Placed, a_region, a_window, same_placed, Item, is_item, inserted, stands_before, in_order, end_from, round_up, need, alignment, Spot, spot_end, spots_from, spots, offset_in, region_item, region_items, window_items, items_of, items_within, items_on}
+use Rattle.model_set_up.specs.Placement.{Placed, a_region, a_window, same_placed, Item, is_item, inserted, stands_before, in_order, end_from, round_up, need, alignment, Spot, spots_from, spots, offset_in, region_item, region_items, window_items, items_of, items_within, items_on}
 use Rattle.model_set_up.specs.Packing.{IsPowerOfTwo, IsRun}
 use Rattle.model_board.specs.Lawful.{IsLawfulDecl, HasLawfulDecls}
 use Rattle.lists.proofs.Members.{each_in, each_from, from_flat_map, from_map, from_filter, in_filter, in_flat_map, pairs_weaker, pairs_flat_map, pairs_of_map}
@@ -23,26 +23,11 @@ use Rattle.model_set_up.proofs.Levels.{items_by_bus}
 
 in_inserted : (x i : Item) (js : List Item) → (x ≡ i) ⊎ IsIn x js → IsIn x (inserted i js)
 in_inserted x i [] m = m
-in_inserted x i (j ∷ js) m = by_test (stands_before j i) m (in_inserted x i js)
-  where
-    by_test : (t : Bool) → (x ≡ i) ⊎ IsIn x (j ∷ js) → ((x ≡ i) ⊎ IsIn x js → IsIn x (inserted i js)) → IsIn x (cond t (j ∷ inserted i js) (i ∷ j ∷ js))
-    by_test true (inl e) more = inr (more (inl e))
-    by_test true (inr (inl e)) more = inl e
-    by_test true (inr (inr k)) more = inr (more (inr k))
-    by_test false m more = m
+in_inserted x i (j ∷ js) m = grind (arith, in_inserted x i js)
 
 pub from_inserted : (x i : Item) (js : List Item) → IsIn x (inserted i js) → (x ≡ i) ⊎ IsIn x js
 from_inserted x i [] m = m
-from_inserted x i (j ∷ js) m = by_test (stands_before j i) m (from_inserted x i js)
-  where
-    later : (x ≡ i) ⊎ IsIn x js → (x ≡ i) ⊎ IsIn x (j ∷ js)
-    later (inl e) = inl e
-    later (inr k) = inr (inr k)
-
-    by_test : (t : Bool) → IsIn x (cond t (j ∷ inserted i js) (i ∷ j ∷ js)) → (IsIn x (inserted i js) → (x ≡ i) ⊎ IsIn x js) → (x ≡ i) ⊎ IsIn x (j ∷ js)
-    by_test true (inl e) more = inr (inl e)
-    by_test true (inr k) more = later (more k)
-    by_test false m more = m
+from_inserted x i (j ∷ js) m = grind (arith, from_inserted x i js)
 
 in_in_order : (x : Item) (is : List Item) → IsIn x is → IsIn x (in_order is)
 in_in_order x [] m = m
@@ -51,11 +36,7 @@ in_in_order x (i ∷ is) (inr m) = in_inserted x i (in_order is) (inr (in_in_ord
 
 from_in_order : (x : Item) (is : List Item) → IsIn x (in_order is) → IsIn x is
 from_in_order x [] m = m
-from_in_order x (i ∷ is) m = by_part (from_inserted x i (in_order is) m) (from_in_order x is)
-  where
-    by_part : (x ≡ i) ⊎ IsIn x (in_order is) → (IsIn x (in_order is) → IsIn x is) → IsIn x (i ∷ is)
-    by_part (inl e) more = inl e
-    by_part (inr k) more = inr (more k)
+from_in_order x (i ∷ is) m = grind (arith, from_inserted, from_in_order x is)
 
 abbrev SpotOf : Item → List Spot → Type 0
 SpotOf i ss = (s : Spot) × IsIn s ss × (s.item ≡ i)
@@ -63,10 +44,7 @@ SpotOf i ss = (s : Spot) × IsIn s ss × (s.item ≡ i)
 spot_from : (n : ℕ) (i : Item) (is : List Item) → IsIn i is → SpotOf i (spots_from n is)
 spot_from n i [] m = absurd m
 spot_from n i (j ∷ is) (inl e) = (record { item = j; first = round_up j.align n }, inl refl, sym e)
-spot_from n i (j ∷ is) (inr m) = later (spot_from (round_up j.align n + j.size) i is m)
-  where
-    later : SpotOf i (spots_from (round_up j.align n + j.size) is) → SpotOf i (spots_from n (j ∷ is))
-    later (s, k, e) = (s, inr k, e)
+spot_from n i (j ∷ is) (inr m) = grind (arith, spot_from (round_up j.align n + j.size) i is m)
 
 -- each item has its spot
 pub spot_of : (i : Item) (is : List Item) → IsIn i is → SpotOf i (spots is)
@@ -96,14 +74,7 @@ pub differ_sym : (i j : Item) → Differ i j → Differ j i
 differ_sym i j h = ap₂ ◌&&◌ (part_eq-sym j.part i.part) (same_placed-sym j.what i.what) ∙ h
 
 pub item_self : (i : Item) → is_item i.part i.what i ≡ true
-item_self i = by_what i.what
-  where
-    self : (n : ℕ) → eqb n n ≡ true
-    self n = grind (arith, nat_tests)
-
-    by_what : (w : Placed) → (part_eq i.part i.part && same_placed w w) ≡ true
-    by_what (a_region n) = rw (part_self i.part, self n)
-    by_what a_window = rw (part_self i.part)
+item_self i = grind (arith, nat_tests, part_self)
 
 pairs_inserted : (R : Item → Item → Type 0) → ((i j : Item) → R i j → R j i) → (i : Item) (js : List Item) → Each (R i) js → EachPair R js → EachPair R (inserted i js)
 pairs_inserted R turn i [] h k = (tt, tt)
@@ -199,15 +170,7 @@ end_below_need unit is h = round_up_not_before unit (end_from 0 (in_order is)) h
 
 -- a bus with items has an end above 0
 pub some_end : (unit : ℕ) (i : Item) (is : List Item) → Each (IsPlaceable unit) is → IsIn i is → 0 < end_from 0 (in_order is)
-some_end unit i is h m = by_spot (spot_of i is m)
-  where
-    by_spot : SpotOf i (spots is) → 0 < end_from 0 (in_order is)
-    by_spot (s, k, e) =
-        let inside = each_in (λ (t : Spot). (0 ≤ t.first) × (spot_end t ≤ end_from 0 (in_order is))) s (spots is) (run_of unit is h).within k in
-        let size : s.item.size ≡ i.size = ap (λ (j : Item). j.size) e in
-        let some : 0 < i.size = (each_in (IsPlaceable unit) i is h m).some in
-        let last : s.first + s.item.size ≤ end_from 0 (in_order is) = inside.1 in
-        omega arith
+some_end unit i is h m = grind (arith, spot_of, each_in, run_of)
 
 region_placeable : (unit : ℕ) (p : Part) (r : Region) → IsLawfulRegion r → IsPlaceable unit (region_item p r)
 region_placeable unit p r h = record { power = h.size_is_lawful.power; some = power_positive r.size h.size_is_lawful.power; aligns = refl }
@@ -249,14 +212,7 @@ items_for b a pool p d = items_of b a pool (items_on b a pool) (record { path = 
 
 pub region_of_item : (b : Board) (a : Apertures) (pool : Pool) (p : Path) (d : Endpoint) (i : Item) → IsIn i (region_items b a pool p d)
     → (r : Region) × IsIn r d.regions × (same_pool (pool_of a (bridges_above b p) r.kind) pool ≡ true) × (i ≡ region_item (last_part p) r)
-region_of_item b a pool p d i m = by_region (from_map (region_item (last_part p)) i (filter keeps d.regions) m)
-  where
-    keeps : Region → Bool
-    keeps r = same_pool (pool_of a (bridges_above b p) r.kind) pool
-
-    by_region : (r : Region) × IsIn r (filter keeps d.regions) × (i ≡ region_item (last_part p) r)
-        → (r : Region) × IsIn r d.regions × (same_pool (pool_of a (bridges_above b p) r.kind) pool ≡ true) × (i ≡ region_item (last_part p) r)
-    by_region (r, k, e) = (r, (from_filter keeps r d.regions k).0, (from_filter keeps r d.regions k).1, e)
+region_of_item b a pool p d i m = grind (arith, from_map, from_filter)
 
 window_part : (unit : ℕ) (p : Part) (is : List Item) (i : Item) → IsIn i (window_items unit p is) → i.part ≡ p
 window_part unit p [] i m = absurd m
@@ -299,15 +255,7 @@ module _ (b : Board) (a : Apertures) (pool : Pool) (board : IsBoard b) where
   PartsDiffer r s = part_eq (last_part r.path) (last_part s.path) ≡ false
 
   parts_differ : (bus : Path) → EachPair PartsDiffer (rows_on b bus)
-  parts_differ bus =
-      pairs_weaker (λ (r s : Row). IsTrue (path_before r.path s.path)) PartsDiffer (rows_on b bus) (pairs_filter (λ (r s : Row). IsTrue (path_before r.path s.path)) (λ r. path_eq (parent r.path) bus) b board.in_order)
-      (λ r s m k before. by_test r s m k before (part_eq (last_part r.path) (last_part s.path)) refl)
-    where
-      by_test : (r s : Row) → IsIn r (rows_on b bus) → IsIn s (rows_on b bus) → path_before r.path s.path ≡ true → (t : Bool) → part_eq (last_part r.path) (last_part s.path) ≡ t → t ≡ false
-      by_test r s m k before false e = refl
-      by_test r s m k before true e =
-          let same : r.path ≡ s.path = (on_bus b bus r board.paths m).1 ∙ ap (λ (x : Part). bus ++ x ∷ []) (part_same (last_part r.path) (last_part s.path) e) ∙ sym (on_bus b bus s board.paths k).1 in
-          absurd (not_before_itself s.path (subst (λ (x : Path). path_before x s.path ≡ true) same before))
+  parts_differ bus = search (rules, pairs_weaker, pairs_filter, on_bus, part_same, not_before_itself)
 
   -- what holds of items of different parts, and of the regions of one endpoint, holds of any two items of a bus
   module _ (R : Item → Item → Type 0) (parts : (i j : Item) → part_eq i.part j.part ≡ false → R i j) (regions : (p : Part) (r s : Region) → r.index < s.index → R (region_item p r) (region_item p s)) where
@@ -321,11 +269,7 @@ module _ (b : Board) (a : Apertures) (pool : Pool) (board : IsBoard b) where
     of_regions p r s (mem64 q) h = regions p r s (omega arith)
 
     of_one : (p : Path) (d : Decl) → IsLawfulDecl d → EachPair R (items_for b a pool p d)
-    of_one p (endpoint d) h =
-        let keeps : Region → Bool = λ r. same_pool (pool_of a (bridges_above b p) r.kind) pool in
-        pairs_of_map R (region_item (last_part p)) (filter keeps d.regions)
-        (pairs_weaker (λ (r s : Region). r.index + registers_of r.kind ≤ s.index) (λ r s. R (region_item (last_part p) r) (region_item (last_part p) s)) (filter keeps d.regions)
-        (pairs_filter (λ (r s : Region). r.index + registers_of r.kind ≤ s.index) keeps d.regions h.regions.in_order) (λ r s m k l. of_regions (last_part p) r s r.kind l))
+    of_one p (endpoint d) h = grind (arith, pairs_of_map, pairs_weaker, pairs_filter, of_regions)
     of_one p (bridge d) h = one_window (last_part p) (items_on b a pool p)
 
     pub items_pairs : HasLawfulDecls b → (bus : Path) → EachPair R (items_on b a pool bus)

@@ -1,5 +1,5 @@
 -- Where a pool fits, the rows of its compact placement are lawful.
-use Rattle.std.proofs.Common.{◌≡◌, ℕ, ◌+◌, ◌%◌, ◌≤◌, ◌<◌, ◌⊎◌, inl, inr, Bool, true, false, ◌&&◌, List, [], ◌∷◌, ◌++◌, length, Option, Some, None, MatchOption, refl, sym, ap, ap₂, ◌∙◌, subst, arith}
+use Rattle.std.proofs.Common.{◌≡◌, ℕ, ◌+◌, ◌%◌, ◌≤◌, ◌<◌, ◌⊎◌, inl, inr, Bool, true, false, ◌&&◌, List, [], ◌∷◌, ◌++◌, length, Option, Some, None, MatchOption, refl, sym, ap, ap₂, ◌∙◌, subst, arith, rules}
 use Rattle.std.specs.Prelude.{IsTrue, map, filter, nat_le}
 use Rattle.std.specs.List.{list_any}
 use Rattle.std.specs.Option.{option_map_or}
@@ -65,10 +65,7 @@ in_aperture : (o : Option Aperture) (align end : ℕ) → 0 < align → 0 < end
     → (row : LayoutRow) → IsInside (option_map_or (λ (ap : Aperture). round_up align ap.first) o 0) (option_map_or (λ (ap : Aperture). round_up align ap.first) o 0 + end) row.first row.size
     → MatchOption o ⊥ (λ ap. IsInside ap.first (ap.last + 1) row.first row.size)
 in_aperture None align end h k fit row inside = let bad : 0 + end ≤ 0 = leb-true (0 + end) 0 fit in omega arith
-in_aperture (Some ap) align end h k fit row inside =
-    let last : round_up align ap.first + end ≤ ap.last + 1 = leb-true (round_up align ap.first + end) (ap.last + 1) fit in
-    let first : ap.first ≤ round_up align ap.first = round_up_not_before align ap.first h in
-    (omega (arith, inside.0), omega (arith, inside.1))
+in_aperture (Some ap) align end h k fit row inside = search (rules, leb-true, round_up_not_before)
 
 window_over : (r : LayoutRow) (v : Placed) (t : Bool) → (elim v [ a_region n ↦ false | a_window ↦ t ]) ≡ true → (v ≡ a_window) × (t ≡ true)
 window_over r (a_region n) t h = cc

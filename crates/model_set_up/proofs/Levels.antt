@@ -1,5 +1,5 @@
 -- Sixteen levels are enough for every lawful board.
-use Rattle.std.proofs.Common.{◌≡◌, ℕ, zero, suc, ◌+◌, ◌≤◌, ◌<◌, Bool, true, false, cond, List, [], ◌∷◌, ◌++◌, length, refl, sym, ap, ap₂, arith}
+use Rattle.std.proofs.Common.{◌≡◌, ℕ, zero, suc, ◌+◌, ◌≤◌, ◌<◌, true, List, [], ◌∷◌, ◌++◌, length, refl, sym, ap, ap₂, arith, rules}
 use Rattle.std.specs.Prelude.{flat_map}
 use Rattle.lists.specs.Elements.{Each}
 use Rattle.model_board.specs.Board.{Board, Row, Decl, endpoint, bridge, rows_on}
@@ -35,11 +35,7 @@ items_of_same b a pool f g p (bridge d) e = rw e
 
 no_rows : (b : Board) (bus : Path) → Each (λ r. IsPath r.path) b → 16 ≤ length bus → rows_on b bus ≡ []
 no_rows [] bus h deep = refl
-no_rows (r ∷ b) bus h deep = none (path_eq (parent r.path) bus) refl (no_rows b bus h.1 deep)
-  where
-    none : (t : Bool) → path_eq (parent r.path) bus ≡ t → rows_on b bus ≡ [] → cond t (r ∷ rows_on b bus) (rows_on b bus) ≡ []
-    none true e rest = absurd (omega (arith, path_eq-length (parent r.path) bus e, parent-shorter r.path h.0.some, h.0.few))
-    none false e rest = rest
+no_rows (r ∷ b) bus h deep = search (rules, path_eq-length, parent-shorter, no_rows b bus h.1 deep)
 
 -- one more level changes nothing where the levels reach the longest path
 one_more : (b : Board) (a : Apertures) (pool : Pool) → Each (λ r. IsPath r.path) b → (n : ℕ) (bus : Path) → 16 ≤ n + length bus

@@ -10,12 +10,12 @@ use Rattle.std.proofs.lemmas.Bool.{leb-true, leb-false}
 use Rattle.std.proofs.Math.Pow.{pow-lt, pow_pos}
 use Rattle.lists.specs.Elements.{Each, EachPair}
 use Rattle.lists.proofs.EachLemmas.{each_append, each_of_map, pairs_filter, each_filter, each_map, each_both, filter_passes}
-use Rattle.model_registers.specs.Declarations.{Endpoint, Region}
+use Rattle.model_registers.specs.Declarations.{Endpoint}
 use Rattle.model_board.specs.Board.{Board, Row, Decl, endpoint, bridge, is_bridge, rows_on}
-use Rattle.model_board.specs.Paths.{Path, path_eq, parent, last_part}
+use Rattle.model_board.specs.Paths.{Path, path_eq, parent}
 use Rattle.model_registers.specs.Apertures.{Apertures}
-use Rattle.model_set_up.specs.Pools.{Pool, io_pool, mem_pool, pref_pool, unit_of, same_pool, pool_of, bridges_above}
-use Rattle.model_set_up.specs.Placement.{region_item, region_items, items_of, items_within, items_on, Item, stands_before, inserted, in_order, round_up, end_from, need, spot_end, spots_from, spots}
+use Rattle.model_set_up.specs.Pools.{Pool, io_pool, mem_pool, pref_pool, unit_of}
+use Rattle.model_set_up.specs.Placement.{region_items, items_of, items_within, items_on, Item, stands_before, inserted, in_order, round_up, end_from, spot_end, spots_from, spots}
 use Rattle.model_set_up.specs.Extents.{IsInside, AreApart}
 use Rattle.model_set_up.specs.Packing.{IsPowerOfTwo, Interval, FlatNeed, HasPowerSizes, FlatNeedOnBus, IsRun, CompactIsRun}
 
@@ -160,10 +160,7 @@ pub power_positive : (a : ℕ) → IsPowerOfTwo a → 0 < a
 power_positive a p = rw p.1 (pow_pos p.0)
 
 round_up_multiple : (a n : ℕ) → 0 < a → Divides a n → round_up a n ≡ n
-round_up_multiple a n h k =
-    let front : n + (a - 1) ≡ a - 1 + k.0 * a = omega (arith, k.1) in
-    let small : (a - 1) / a ≡ 0 = div-eq_of_lt (omega arith) in
-    ap (λ x. x / a * a) front ∙ ap (λ x. x * a) (add-mul-div_right (a - 1) k.0 h ∙ ap (λ x. x + k.0) small ∙ zero-add k.0) ∙ sym k.1
+round_up_multiple a n h k = grind (arith, div-eq_of_lt, add-mul-div_right, zero-add)
 
 -- ---- no gaps
 
@@ -197,10 +194,7 @@ end_in_order is regions =
     ∙ ap (λ n. 0 + n) (total_in_order is) ∙ zero-add (total is)
 
 round_up_least : (unit n units : ℕ) → 0 < unit → n ≤ units * unit → round_up unit n ≤ units * unit
-round_up_least unit n units h k =
-    let many : n + (unit - 1) < suc units * unit = omega (arith, suc-mul units unit) in
-    let few : (n + (unit - 1)) / unit < suc units = (div-lt_iff_lt-mul h).1 many in
-    mul-le-mul_right unit (omega arith)
+round_up_least unit n units h k = grind (arith, suc-mul, div-lt_iff_lt-mul, mul-le-mul_right)
 
 placed_total : (is : List Item) (spots : List Interval) → map (λ (s : Interval). s.size) spots ≡ map (λ (i : Item). i.size) is → sizes spots ≡ total is
 placed_total is spots e = sym (sum-map (λ (s : Interval). s.size) spots) ∙ ap sum e ∙ sum-map (λ (i : Item). i.size) is
@@ -227,11 +221,7 @@ each_flat_map P f [] h = tt
 each_flat_map P f (x ∷ xs) h = each_append P (f x) (flat_map f xs) h.0 (each_flat_map P f xs h.1)
 
 region_items_are : (b : Board) (a : Apertures) (pool : Pool) (p : Path) (d : Endpoint) → Each (λ r. IsPowerOfTwo r.size) d.regions → Each IsRegion (region_items b a pool p d)
-region_items_are b a pool p d h =
-    let kept = filter (λ (r : Region). same_pool (pool_of a (bridges_above b p) r.kind) pool) d.regions in
-    each_of_map IsRegion (region_item (last_part p)) kept
-    (each_map (λ (r : Region). IsPowerOfTwo r.size) (λ r. IsRegion (region_item (last_part p) r)) kept (λ r power. record { align_is_size = refl; power = power })
-    (each_filter (λ (r : Region). IsPowerOfTwo r.size) (λ r. same_pool (pool_of a (bridges_above b p) r.kind) pool) d.regions h))
+region_items_are b a pool p d h = grind (arith, each_of_map, each_map, each_filter)
 
 row_items_are : (b : Board) (a : Apertures) (pool : Pool) (behind : Path → List Item) (p : Path) (d : Decl) → is_bridge d ≡ false → HasPowerSizes d
     → Each IsRegion (items_of b a pool behind (record { path = p; decl = d }))
@@ -276,11 +266,4 @@ pub run_in_order : (is : List Item) → Each (λ i. 0 < i.align) is → IsRun 0 
 run_in_order is positive = run_from 0 (in_order is) (each_in_order (λ i. 0 < i.align) is positive)
 
 pub compact_is_run : CompactIsRun
-compact_is_run unit is h positive =
-    let run : IsRun 0 (end_from 0 (in_order is)) (spots is) = run_in_order is positive in
-    let up : end_from 0 (in_order is) ≤ need unit is = round_up_not_before unit (end_from 0 (in_order is)) h in
-    record {
-      aligned = run.aligned;
-      within = each_map (λ s. (0 ≤ s.first) × (spot_end s ≤ end_from 0 (in_order is))) (λ s. (0 ≤ s.first) × (spot_end s ≤ need unit is)) (spots is) (λ s p. (p.0, omega arith)) run.within;
-      apart = run.apart;
-    }
+compact_is_run unit is h positive = grind (arith, run_in_order, round_up_not_before, each_map)

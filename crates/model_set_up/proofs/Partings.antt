@@ -1,11 +1,11 @@
 -- Where the paths of two functions of a board part.
-use Rattle.std.proofs.Common.{◌≡◌, ℕ, zero, suc, ◌+◌, ◌≤◌, ◌<◌, ◌⊎◌, inl, inr, Bool, true, false, ◌&&◌, List, [], ◌∷◌, ◌++◌, length, refl, sym, ap, ap₂, ◌∙◌, subst, arith}
+use Rattle.std.proofs.Common.{◌≡◌, ℕ, zero, suc, ◌+◌, ◌≤◌, ◌<◌, ◌⊎◌, inl, inr, Bool, true, false, ◌&&◌, List, [], ◌∷◌, ◌++◌, length, refl, sym, ap, ap₂, ◌∙◌, subst, arith, rules}
 use Rattle.std.specs.Prelude.{IsTrue}
 use Rattle.std.proofs.lemmas.Bool.{and_from}
 use Rattle.lists.specs.Elements.{EachPair, IsIn}
 use Rattle.lists.proofs.Tests.{left_true, right_true}
 use Rattle.model_board.specs.Board.{Board, Row, is_bridge, is_bridge_at, IsBoard}
-use Rattle.model_board.specs.Paths.{Part, Path, part_eq, path_eq, path_before, leads_to, parent, last_part}
+use Rattle.model_board.specs.Paths.{Part, Path, part_eq, path_eq, leads_to, parent, last_part}
 use Rattle.lists.proofs.Members.{each_in, from_any}
 use Rattle.model_board.proofs.PathOrder.{part_same, path_same, part_self}
 use Rattle.model_board.proofs.PathEnds.{snoc, length_snoc, leads_up, not_before_itself, leads_longer}
@@ -48,12 +48,7 @@ pair_in R x y (z ∷ zs) h (inr m) (inr k) = pair_in R x y zs h.1 m k
 module _ (b : Board) (lawful : IsBoard b) where
   -- one function stands at a path
   pub one_row : (r s : Row) → IsIn r b → IsIn s b → r.path ≡ s.path → r ≡ s
-  one_row r s m k e = by_order (pair_in (λ (t u : Row). IsTrue (path_before t.path u.path)) r s b lawful.in_order m k)
-    where
-      by_order : (r ≡ s) ⊎ (IsTrue (path_before r.path s.path) ⊎ IsTrue (path_before s.path r.path)) → r ≡ s
-      by_order (inl same) = same
-      by_order (inr (inl before)) = absurd (not_before_itself s.path (subst (λ (p : Path). path_before p s.path ≡ true) e before))
-      by_order (inr (inr before)) = absurd (not_before_itself s.path (subst (λ (p : Path). path_before s.path p ≡ true) e before))
+  one_row r s m k e = search (rules, pair_in, not_before_itself)
 
   -- the bridge at a path
   abbrev pub BridgeAt : Path → Type 0

@@ -1,5 +1,5 @@
 -- Two regions of a board share no address: where their paths part, two rows of one bus would both hold it.
-use Rattle.std.proofs.Common.{◌≡◌, ℕ, ◌+◌, ◌<◌, ◌⊎◌, inl, inr, Bool, true, false, ◌&&◌, cond, Option, Some, None, List, [], ◌∷◌, ◌++◌, length, refl, sym, ap, ◌∙◌, subst, arith}
+use Rattle.std.proofs.Common.{◌≡◌, ℕ, ◌+◌, ◌⊎◌, inl, inr, Bool, true, false, ◌&&◌, Option, Some, None, List, [], ◌∷◌, ◌++◌, refl, sym, ap, ◌∙◌, subst, arith, rules}
 use Rattle.std.specs.Prelude.{IsTrue, MatchOption}
 use Rattle.std.specs.List.{list_any}
 use Rattle.model_registers.specs.Declarations.{Kind, io_kind, mem32, mem64, Bridge}
@@ -8,8 +8,8 @@ use Rattle.lists.proofs.Tests.{left_true, right_true}
 use Rattle.model_registers.specs.Apertures.{IsLawfulApertures, IsPrefOption, Aperture, Apertures}
 use Rattle.lists.specs.Elements.{IsIn}
 use Rattle.model_board.specs.Board.{Board, Row, is_bridge, IsBoard}
-use Rattle.model_board.specs.Paths.{Part, Path, part_eq, path_eq, leads_to, parent, last_part, IsPath}
-use Rattle.model_set_up.specs.Pools.{Pool, io_pool, mem_pool, pref_pool, same_pool, pref_reaches, pref_or_mem, pool_of, aperture_of}
+use Rattle.model_board.specs.Paths.{Part, Path, part_eq, path_eq, leads_to, parent, last_part}
+use Rattle.model_set_up.specs.Pools.{Pool, io_pool, mem_pool, pref_pool, same_pool, pref_or_mem, pool_of, aperture_of}
 use Rattle.model_set_up.specs.Layout.{LayoutRow, is_window_over, IsUnderWindows, IsLawful}
 use Rattle.model_set_up.specs.Extents.{IsInside, AreApart}
 use Rattle.model_set_up.specs.Placement.{Placed, a_region, a_window}
@@ -39,11 +39,7 @@ same_pools pref_pool q h = subst (λ x. same_pool pref_pool x ≡ true) h refl
 
 pub or_space : (o : Option Aperture) (above : List Bridge) (wide : Bool) → pool_space (pref_or_mem o above wide) ≡ memory
 or_space None above wide = refl
-or_space (Some o) above wide = by_reach (pref_reaches o above wide)
-  where
-    by_reach : (t : Bool) → pool_space (cond t pref_pool mem_pool) ≡ memory
-    by_reach true = refl
-    by_reach false = refl
+or_space (Some o) above wide = search rules
 
 -- a region's pool has addresses of its space
 pub pool_of_space : (a : Apertures) (above : List Bridge) (k : Kind) → pool_space (pool_of a above k) ≡ space_of k
@@ -115,15 +111,7 @@ module _ (b : Board) (a : Apertures) (board : IsBoard b) (rows : List LayoutRow)
 
   -- two rows of one bus and one pool are one, or apart
   one_bus : (r s : LayoutRow) → IsIn r rows → IsIn s rows → r.pool ≡ s.pool → parent r.path ≡ parent s.path → (r ≡ s) ⊎ AreApart r.first r.size s.first s.size
-  one_bus r s m k same bus = by_pair (pair_in (λ (t u : LayoutRow). IsTrue (same_pool t.pool u.pool && path_eq (parent t.path) (parent u.path)) → AreApart t.first t.size u.first u.size) r s rows lawful.apart m k)
-    where
-      both : (t u : LayoutRow) → t.pool ≡ u.pool → parent t.path ≡ parent u.path → (same_pool t.pool u.pool && path_eq (parent t.path) (parent u.path)) ≡ true
-      both t u e f = let p : same_pool t.pool u.pool ≡ true = same_pools t.pool u.pool e in let q : path_eq (parent t.path) (parent u.path) ≡ true = ap (path_eq (parent t.path)) (sym f) ∙ path_self (parent t.path) in rw (p, q)
-
-      by_pair : (r ≡ s) ⊎ ((IsTrue (same_pool r.pool s.pool && path_eq (parent r.path) (parent s.path)) → AreApart r.first r.size s.first s.size) ⊎ (IsTrue (same_pool s.pool r.pool && path_eq (parent s.path) (parent r.path)) → AreApart s.first s.size r.first r.size)) → (r ≡ s) ⊎ AreApart r.first r.size s.first s.size
-      by_pair (inl e) = inl e
-      by_pair (inr (inl f)) = inr (f (both r s same bus))
-      by_pair (inr (inr f)) = inr (apart_sym r s (f (both s r (sym same) (sym bus))))
+  one_bus r s m k same bus = search (rules, pair_in, same_pools, path_self, apart_sym)
 
   -- a row of an endpoint of the board
   pub record OfEndpoint (r : LayoutRow) : Type 0 where
@@ -134,12 +122,7 @@ module _ (b : Board) (a : Apertures) (board : IsBoard b) (rows : List LayoutRow)
     pub path_is : function.path ≡ r.path
 
   not_above : (r s : LayoutRow) → OfEndpoint r → OfEndpoint s → leads_to r.path s.path ≡ true → ⊥
-  not_above r s f g h =
-      let some : 0 < length f.function.path = (each_in (λ (x : Row). IsPath x.path) f.function b board.paths f.on_board).some in
-      let leads : leads_to f.function.path g.function.path ≡ true = subst (λ (q : Path). leads_to q g.function.path ≡ true) (sym f.path_is) (subst (λ (q : Path). leads_to r.path q ≡ true) (sym g.path_is) h) in
-      let d : BridgeAt b board f.function.path = bridge_above b board g.function f.function.path g.on_board leads some in
-      let same : is_bridge d.0.decl ≡ is_bridge f.function.decl = ap (λ (x : Row). is_bridge x.decl) (one_row b board d.0 f.function d.1 f.on_board d.3) in
-      let bad : true ≡ false = sym d.2 ∙ same ∙ f.is_endpoint in cc
+  not_above r s f g h = search (rules, each_in, bridge_above, one_row)
 
   -- two regions of one pool are one row, or apart
   pub regions_apart : (r s : LayoutRow) → OfEndpoint r → OfEndpoint s → r.pool ≡ s.pool → (r ≡ s) ⊎ AreApart r.first r.size s.first s.size
@@ -166,11 +149,7 @@ module _ (b : Board) (a : Apertures) (board : IsBoard b) (rows : List LayoutRow)
   -- two rows of one space are apart where their pools differ: memory and prefetchable apertures are
   pools_apart : (o : Option Aperture) (r s : LayoutRow) → IsPrefOption a.mem o → IsInside a.mem.first (a.mem.last + 1) r.first r.size → MatchOption o ⊥ (λ ap. IsInside ap.first (ap.last + 1) s.first s.size) → AreApart r.first r.size s.first s.size
   pools_apart None r s h k l = absurd l
-  pools_apart (Some o) r s h k l = by_side h.apart
-    where
-      by_side : (a.mem.last < o.first) ⊎ (o.last < a.mem.first) → AreApart r.first r.size s.first s.size
-      by_side (inl e) = inl (omega (arith, k.1, l.0))
-      by_side (inr e) = inr (omega (arith, k.0, l.1))
+  pools_apart (Some o) r s h k l = search rules
 
   in_aperture : (r : LayoutRow) → IsIn r rows → (pool : Pool) → r.pool ≡ pool → MatchOption (aperture_of a pool) ⊥ (λ ap. IsInside ap.first (ap.last + 1) r.first r.size)
   in_aperture r m pool e = subst (λ x. MatchOption (aperture_of a x) ⊥ (λ ap. IsInside ap.first (ap.last + 1) r.first r.size)) e (each_in (λ (t : LayoutRow). MatchOption (aperture_of a t.pool) ⊥ (λ ap. IsInside ap.first (ap.last + 1) t.first t.size)) r rows lawful.in_apertures m)

@@ -1,12 +1,11 @@
 -- After set-up an endpoint decodes the addresses of its placed regions, and every bridge above forwards them.
-use Rattle.std.proofs.Common.{◌≡◌, ℕ, ◌+◌, ◌*◌, ◌%◌, ◌^◌, ◌<◌, Bool, true, false, cond, List, Option, Some, None, refl, ap, ◌∙◌, subst, arith}
-use Rattle.std.specs.Prelude.{MatchOption, nat_lt}
-use Rattle.std.specs.List.{list_all}
+use Rattle.std.proofs.Common.{◌≡◌, ℕ, ◌+◌, ◌*◌, ◌%◌, ◌^◌, ◌<◌, true, false, List, Option, Some, None, refl, ap, ◌∙◌, subst, arith, rules}
+use Rattle.std.specs.Prelude.{MatchOption}
 use Rattle.std.proofs.lemmas.Bool.{ltb-true}
 use Rattle.std.proofs.Math.Nat.{mul-mod_left}
 use Rattle.model_registers.specs.Declarations.{Kind, io_kind, mem32, mem64, Region, registers_of, least_size, IsLawfulRegion, Bridge}
 use Rattle.model_registers.specs.Apertures.{IsLawfulApertures, Aperture, Apertures}
-use Rattle.model_set_up.specs.Pools.{Pool, mem_pool, pref_pool, has_pref, pref_reaches, pool_of, aperture_of}
+use Rattle.model_set_up.specs.Pools.{Pool, pref_reaches, pool_of, aperture_of}
 use Rattle.model_set_up.specs.Layout.{LayoutRow}
 use Rattle.model_set_up.specs.Extents.{IsInside}
 use Rattle.model_set_up.specs.Packing.{IsPowerOfTwo}
@@ -21,11 +20,7 @@ InAperture a pool r = MatchOption (aperture_of a pool) ⊥ (λ ap. IsInside ap.f
 
 -- a 32-bit region goes to a prefetchable aperture below 4 GB alone
 reaches_low : (o : Aperture) (above : List Bridge) → pref_reaches o above false ≡ true → o.last < 2 ^ 32
-reaches_low o above h = by_test (nat_lt o.last (2 ^ 32)) refl h
-  where
-    by_test : (t : Bool) → nat_lt o.last (2 ^ 32) ≡ t → cond t (list_all (λ d. has_pref d.pref) above) false ≡ true → o.last < 2 ^ 32
-    by_test true e k = ltb-true o.last (2 ^ 32) e
-    by_test false e k = cc
+reaches_low o above h = search (rules, ltb-true)
 
 limit_by : (i m : Aperture) (o : Option Aperture) (above : List Bridge) (k : Kind) (r : LayoutRow) → IsLawfulApertures (record { io = i; mem = m; pref = o })
     → InAperture (record { io = i; mem = m; pref = o }) (pool_of (record { io = i; mem = m; pref = o }) above k) r → 0 < r.size → r.first < 256 ^ (4 * registers_of k)
@@ -34,16 +29,8 @@ limit_by i m o above (mem32 false) r lawful h some = omega (arith, h.1, lawful.m
 limit_by i m o above (mem64 false) r lawful h some = omega (arith, h.1, lawful.mem.ends)
 limit_by i m None above (mem32 true) r lawful h some = omega (arith, h.1, lawful.mem.ends)
 limit_by i m None above (mem64 true) r lawful h some = omega (arith, h.1, lawful.mem.ends)
-limit_by i m (Some o) above (mem32 true) r lawful h some = by_reach (pref_reaches o above false) refl h
-  where
-    by_reach : (t : Bool) → pref_reaches o above false ≡ t → InAperture (record { io = i; mem = m; pref = Some o }) (cond t pref_pool mem_pool) r → r.first < 2 ^ 32
-    by_reach true e k = omega (arith, k.1, reaches_low o above e)
-    by_reach false e k = omega (arith, k.1, lawful.mem.ends)
-limit_by i m (Some o) above (mem64 true) r lawful h some = by_reach (pref_reaches o above true) h
-  where
-    by_reach : (t : Bool) → InAperture (record { io = i; mem = m; pref = Some o }) (cond t pref_pool mem_pool) r → r.first < 2 ^ 64
-    by_reach true k = omega (arith, k.1, lawful.pref.ends)
-    by_reach false k = omega (arith, k.1, lawful.mem.ends)
+limit_by i m (Some o) above (mem32 true) r lawful h some = search (rules, reaches_low)
+limit_by i m (Some o) above (mem64 true) r lawful h some = search rules
 
 least_power : (k : Kind) → IsPowerOfTwo (least_size k)
 least_power io_kind = (2, refl)

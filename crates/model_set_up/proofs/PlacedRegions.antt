@@ -1,25 +1,28 @@
 -- The placed regions of a board: each has its row in the layout, and no two of one space share an address.
-use Rattle.std.proofs.Common.{◌≡◌, ℕ, ◌+◌, ◌≤◌, ◌⊎◌, inl, inr, true, ◌&&◌, List, [], ◌∷◌, refl, sym, ap, ◌∙◌, subst, arith}
-use Rattle.std.specs.Prelude.{map, IsTrue}
+use Rattle.std.proofs.Common.{◌≡◌, ℕ, ◌+◌, ◌≤◌, ◌⊎◌, inl, inr, true, ◌&&◌, [], ◌∷◌, refl, sym, ap, subst, arith, rules, ◌%◌, ◌^◌, Option, Some, None}
+use Rattle.std.specs.Prelude.{IsTrue}
 use Rattle.lists.specs.Elements.{EachPair, IsIn}
-use Rattle.model_registers.specs.Declarations.{Kind, io_kind, mem32, mem64, Region, registers_of, HasLawfulRegions, Endpoint}
-use Rattle.model_registers.specs.Decoding.{Space, space_of, same_space}
-use Rattle.model_registers.specs.Apertures.{IsLawfulApertures, Apertures}
+use Rattle.model_registers.specs.Declarations.{Kind, io_kind, mem32, mem64, Region, registers_of, HasLawfulRegions, Endpoint, least_size, IsLawfulRegion}
+use Rattle.model_registers.specs.Decoding.{Space, space_of, same_space, io, memory}
+use Rattle.model_registers.specs.Apertures.{IsLawfulApertures, Apertures, Aperture}
 use Rattle.model_board.specs.Board.{Board, Row, Decl, endpoint, bridge, is_bridge, IsBoard}
 use Rattle.model_registers.specs.DeclarationRules.{IsLawfulEndpoint}
 use Rattle.model_board.specs.Paths.{Path, path_eq, path_before}
 use Rattle.model_set_up.specs.Pools.{Pool, io_pool, mem_pool, pref_pool, bridges_above}
-use Rattle.model_set_up.specs.Placement.{Placed, a_region, a_window, same_placed, Item, items_on}
+use Rattle.model_set_up.specs.Placement.{Placed, a_region, a_window, same_placed}
 use Rattle.model_set_up.specs.SetUp.{first_of}
-use Rattle.model_set_up.specs.Layout.{LayoutRow, IsLawful, pool_rows, layout}
+use Rattle.model_set_up.specs.Layout.{LayoutRow, IsLawful, pool_rows, layout, IsAligned}
 use Rattle.model_set_up.specs.Extents.{AreApart}
 use Rattle.model_board.specs.Lawful.{IsLawfulDecl, HasLawfulDecls}
-use Rattle.model_set_up.specs.PlacementLaws.{pool_at, region_row, window_rows, rows_at, HasOwnRows, IsRowFor, HasRows}
+use Rattle.model_set_up.specs.PlacementLaws.{pool_at, region_row, rows_at, HasOwnRows, IsRowFor, HasRows}
 use Rattle.model_set_up.specs.PlacedRegions.{PlacedRegion, placed, placed_at, placed_regions, pool_space, placed_row, placed_rows}
 use Rattle.lists.proofs.Members.{each_in, in_map, in_flat_map, from_flat_map, from_map, from_filter, pairs_weaker, pairs_flat_map, pairs_of_map}
-use Rattle.model_set_up.specs.UniqueClaimant.{ShareNone}
+use Rattle.model_set_up.specs.UniqueClaimant.{ShareNone, CanBePlaced, IsPlacedWithin, PlacedWithin}
 use Rattle.model_board.proofs.PathEnds.{not_before_itself}
 use Rattle.model_set_up.proofs.PlacedApart.{pool_of_space, OfEndpoint, spaces_apart}
+use Rattle.model_set_up.proofs.LawfulPlacement.{layout_is_lawful}
+use Rattle.model_set_up.proofs.DeclaredRows.{rows_are_declared}
+use Rattle.model_set_up.proofs.PlacedReads.{InAperture, fits_register}
 
 -- where a placed region comes from
 pub record Source (b : Board) (a : Apertures) (q : PlacedRegion) : Type 0 where
@@ -41,7 +44,7 @@ source b a q m =
     let g = of_decl b a f.0.path f.0.decl q f.2 in
     record { row = f.0; there = f.1; decl = g.0; decl_is = g.1; region = g.2; declared = g.3; is = g.4 }
 
-each_pool : (pool : Pool) → IsIn pool (io_pool ∷ mem_pool ∷ pref_pool ∷ [])
+pub each_pool : (pool : Pool) → IsIn pool (io_pool ∷ mem_pool ∷ pref_pool ∷ [])
 each_pool io_pool = inl refl
 each_pool mem_pool = inr (inl refl)
 each_pool pref_pool = inr (inr (inl refl))
@@ -131,19 +134,8 @@ row_is_placed b a p g = ap (λ (x : Space). record { path = p; index = g.index; 
 
 module _ (b : Board) (a : Apertures) (has : HasRows b a) where
   of_rows : (q : PlacedRegion) (l : LayoutRow) (pool : Pool) (p : Path) (d : Decl) → IsIn q (placed_row l) → IsRowFor b a pool l p d → IsIn q (placed_at b a (record { path = p; decl = d }))
-  of_rows q l pool p (endpoint d) m row =
-      let here : IsIn q (placed b a p row.0 ∷ []) = subst (IsIn q) (ap placed_row row.3 ∙ row_is_placed b a p row.0) m in
-      one here (in_map (placed b a p) row.0 d.regions row.1)
-    where
-      one : IsIn q (placed b a p row.0 ∷ []) → IsIn (placed b a p row.0) (map (placed b a p) d.regions) → IsIn q (map (placed b a p) d.regions)
-      one (inl e) k = subst (λ (x : PlacedRegion). IsIn x (map (placed b a p) d.regions)) (sym e) k
-      one (inr h) k = absurd h
-  of_rows q l pool p (bridge d) m row = of_window (items_on b a pool p) row
-    where
-      of_window : (is : List Item) → IsIn l (window_rows b a pool p is) → IsIn q (placed_at b a (record { path = p; decl = bridge d }))
-      of_window [] h = absurd h
-      of_window (i ∷ is) (inl e) = absurd (subst (λ (x : LayoutRow). IsIn q (placed_row x)) e m)
-      of_window (i ∷ is) (inr h) = absurd h
+  of_rows q l pool p (endpoint d) m row = search (rules, row_is_placed, in_map)
+  of_rows q l pool p (bridge d) m row = search rules
 
   pub rows_to_placed : (q : PlacedRegion) → IsIn q (placed_rows (layout b a)) → IsIn q (placed_regions b a)
   rows_to_placed q m =
@@ -158,3 +150,60 @@ module _ (b : Board) (a : Apertures) (has : HasRows b a) where
       let row : LayoutRow = region_row b a s.row.path s.region in
       in_flat_map placed_row row q (layout b a) (region_there b a has s.row s.decl s.region s.there s.decl_is s.declared)
       (subst (IsIn q) (sym (row_is_placed b a s.row.path s.region)) (inl s.is))
+
+-- ---- where the regions of a board are placed: inside the apertures, at multiples of 4
+
+-- ---- what the apertures hold
+
+record Ends (space : Space) (l : LayoutRow) : Type 0 where
+  io_begins : space ≡ io → 0x1000 ≤ l.first
+  io_ends : space ≡ io → l.first + l.size ≤ 2 ^ 16
+  memory_ends : space ≡ memory → l.first + l.size ≤ 2 ^ 63
+
+of_io : (l : LayoutRow) → 0x1000 ≤ l.first → l.first + l.size ≤ 2 ^ 16 → Ends io l
+of_io l low high = record { io_begins = λ e. low; io_ends = λ e. high; memory_ends = λ e. cc }
+
+of_memory : (l : LayoutRow) → l.first + l.size ≤ 2 ^ 63 → Ends memory l
+of_memory l high = record { io_begins = λ e. cc; io_ends = λ e. cc; memory_ends = λ e. high }
+
+ends_by : (i m : Aperture) (o : Option Aperture) → IsLawfulApertures (record { io = i; mem = m; pref = o }) → (pool : Pool) (l : LayoutRow)
+    → InAperture (record { io = i; mem = m; pref = o }) pool l → Ends (pool_space pool) l
+ends_by i m o lawful io_pool l h = of_io l (omega (arith, h.0, lawful.io.begins)) (omega (arith, h.1, lawful.io.ends))
+ends_by i m o lawful mem_pool l h = of_memory l (omega (arith, h.1, lawful.mem.ends))
+ends_by i m None lawful pref_pool l h = absurd h
+ends_by i m (Some p) lawful pref_pool l h = of_memory l (omega (arith, h.1, lawful.pref.ends))
+
+-- ---- multiples of 4
+
+whole_base : (k : Kind) (n : ℕ) → n % least_size k ≡ 0 → n % 4 ≡ 0
+whole_base io_kind n h = h
+whole_base (mem32 pref) n h = omega arith
+whole_base (mem64 pref) n h = omega arith
+
+module _ (b : Board) (a : Apertures) (can : CanBePlaced b a) (p : Path) (d : Endpoint) (on_board : IsIn (record { path = p; decl = endpoint d }) b) (r : Region) (declared : IsIn r d.regions) where
+  abbrev row : LayoutRow
+  row = region_row b a p r
+
+  lawful : IsLawful b a (layout b a)
+  lawful = layout_is_lawful b a can.places can.declarations can.room
+
+  there : IsIn row (layout b a)
+  there = region_there b a (rows_are_declared b a can.places can.declarations) (record { path = p; decl = endpoint d }) d r on_board refl declared
+
+  inside : InAperture a (pool_at b a p r) row
+  inside = each_in (λ (l : LayoutRow). InAperture a l.pool l) row (layout b a) lawful.in_apertures there
+
+  region : IsLawfulRegion r
+  region = each_in IsLawfulRegion r d.regions (lawful_regions b can.declarations (record { path = p; decl = endpoint d }) d on_board refl).each declared
+
+  multiple : row.first % least_size r.kind ≡ 0
+  multiple = (fits_register a (bridges_above b p) r row can.apertures region refl (each_in (λ (l : LayoutRow). IsAligned l l.what) row (layout b a) lawful.aligned there) inside).aligned
+
+  ends : Ends (space_of r.kind) row
+  ends = subst (λ (x : Space). Ends x row) (pool_of_space a (bridges_above b p) r.kind) (ends_by a.io a.mem a.pref can.apertures (pool_at b a p r) row inside)
+
+  within : IsPlacedWithin (placed b a p r)
+  within = record { aligned = whole_base r.kind row.first multiple; io_begins = ends.io_begins; io_ends = ends.io_ends; memory_ends = ends.memory_ends }
+
+pub placed_within : PlacedWithin
+placed_within b a can p d on_board r declared = within b a can p d on_board r declared

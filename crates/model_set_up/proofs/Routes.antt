@@ -1,22 +1,22 @@
 -- Configuration cycles reach the function that the bus numbers name.
 --     Names      a bridge's registers cover a bus number exactly where the board's numbers do
 --     reached_by_names      where all bridges do so for the number of a bus, a cycle reaches the function that stands there, or none
-use Rattle.std.proofs.Common.{◌≡◌, ℕ, ◌≤◌, ◌<◌, ◌⊎◌, inl, inr, Bool, true, false, not, ◌&&◌, ◌||◌, cond, List, [], ◌∷◌, ◌++◌, length, Option, Some, None, refl, sym, ap, ap₂, ◌∙◌, subst, arith, eqb, leb, append_assoc}
+use Rattle.std.proofs.Common.{◌≡◌, ℕ, ◌≤◌, ◌<◌, ◌⊎◌, inl, inr, Bool, true, false, not, ◌&&◌, cond, List, [], ◌∷◌, ◌++◌, length, Option, Some, None, refl, sym, ap, ap₂, ◌∙◌, subst, arith, eqb, leb, append_assoc, rules, find, nat_le}
 use Rattle.std.specs.Prelude.{find, map, IsTrue}
 use Rattle.std.specs.List.{list_any}
 use Rattle.std.proofs.lemmas.Bool.Decides.{nat_tests}
 use Rattle.std.specs.Option.{option_map_or}
-use Rattle.std.proofs.lemmas.Bool.{leb-true, true≢false, and_from, le-leb}
+use Rattle.std.proofs.lemmas.Bool.{leb-true, true≢false, and_from, le-leb, eqb-true}
 use Rattle.lists.specs.Elements.{Each, IsIn}
 use Rattle.lists.proofs.Tests.{left_true, right_true, same_test}
 use Rattle.lists.proofs.EachLemmas.{each_map}
 use Rattle.model_board.specs.Board.{Board, Row, is_bridge, is_bridge_at, IsBoard}
 use Rattle.model_board.specs.Paths.{Part, Path, part_eq, path_eq, path_before, leads_to, parent, last_part, IsPath}
-use Rattle.model_board.specs.BusNumbers.{secondary, subordinate, bus_behind}
+use Rattle.model_board.specs.BusNumbers.{secondary, subordinate, bus_behind, bus_of}
 use Rattle.model_board.specs.State.{BoardFunction, row_at}
-use Rattle.model_board.specs.Cycles.{is_route, takes, taker, covers, ends_in, secondary_register, subordinate_register, reached}
+use Rattle.model_board.specs.Cycles.{is_route, takes, taker, covers, ends_in, secondary_register, subordinate_register, reached, reached_type0, reached_type1}
 use Rattle.model_board.specs.Numbering.{NumbersLead}
-use Rattle.model_set_up.specs.Reach.{HasNumbers, ReachedByNumbers, address_of}
+use Rattle.model_set_up.specs.Reach.{HasNumbers, ReachedByNumbers, address_of, OnlyNamed}
 use Rattle.lists.proofs.Members.{each_in, in_map, from_map, any_in, from_any}
 use Rattle.model_registers.proofs.RegisterFiles.{self}
 use Rattle.model_board.proofs.PathOrder.{part_same, path_same, part_self}
@@ -29,15 +29,7 @@ use Rattle.model_board.proofs.BusNumbers.{numbering}
 
 pub found : {A : Type 0} (t : A → Bool) (xs : List A) → list_any t xs ≡ true → (f : A) × (find t xs ≡ Some f) × IsIn f xs × (t f ≡ true)
 found t [] h = cc
-found {A} t (x ∷ xs) h = by_test (t x) refl h (found t xs)
-  where
-    later : (f : A) × (find t xs ≡ Some f) × IsIn f xs × (t f ≡ true) → (f : A) × (find t xs ≡ Some f) × IsIn f (x ∷ xs) × (t f ≡ true)
-    later (f, e, m, k) = (f, e, inr m, k)
-
-    by_test : (c : Bool) → t x ≡ c → (c || list_any t xs) ≡ true → (list_any t xs ≡ true → (f : A) × (find t xs ≡ Some f) × IsIn f xs × (t f ≡ true))
-        → (f : A) × (cond c (Some x) (find t xs) ≡ Some f) × IsIn f (x ∷ xs) × (t f ≡ true)
-    by_test true e k more = (x, refl, inl refl, e)
-    by_test false e k more = later (more k)
+found {A} t (x ∷ xs) h = search (rules, found t xs)
 
 find_same : {A : Type 0} (s t : A → Bool) → ((x : A) → s x ≡ t x) → (xs : List A) → find s xs ≡ find t xs
 find_same s t h [] = refl
@@ -119,10 +111,7 @@ module _ (b : Board) (lawful : IsBoard b) (fs : List BoardFunction) (rows : map 
   bridge_of f m k = any_in (λ (r : Row). is_bridge r.decl && path_eq r.path f.path) (row_at f) b (row_in f m) (and_from (is_bridge f.decl) (path_eq f.path f.path) k (path_self f.path))
 
   pub function_of : (r : Row) → IsIn r b → (f : BoardFunction) × IsIn f fs × (row_at f ≡ r)
-  function_of r m = turned (from_map row_at r fs (subst (λ (c : Board). IsIn r c) (sym rows) m))
-    where
-      turned : (f : BoardFunction) × IsIn f fs × (r ≡ row_at f) → (f : BoardFunction) × IsIn f fs × (row_at f ≡ r)
-      turned (f, l, e) = (f, l, sym e)
+  function_of r m = search (rules, from_map)
 
   module _ (target : Path) (is_target : is_bridge_at b target ≡ true) (names : Each (λ f. IsTrue (is_bridge f.decl) → Names b (secondary b target) f) fs) where
     abbrev goal : ℕ
@@ -155,10 +144,7 @@ module _ (b : Board) (lawful : IsBoard b) (fs : List BoardFunction) (rows : map 
         bridge_above b lawful t.0 (above ++ p ∷ []) t.1 (subst (λ (x : Path). leads_to (above ++ p ∷ []) x ≡ true) (sym (t.3 ∙ e)) (leads_down above p q rest)) (snoc_some above p)
 
     stands_on_way : (above : Path) (p : Part) (rest : Path) → target ≡ above ++ p ∷ rest → (f : BoardFunction) × IsIn f fs × (is_bridge f.decl ≡ true) × (f.path ≡ above ++ p ∷ [])
-    stands_on_way above p rest e =
-        let t = bridge_on_way above p rest e in
-        let f = function_of t.0 t.1 in
-        (f.0, f.1, ap (λ (r : Row). is_bridge r.decl) f.2 ∙ t.2, ap (λ (r : Row). r.path) f.2 ∙ t.3)
+    stands_on_way above p rest e = search (rules, bridge_on_way, function_of)
 
     covering : (above : Path) (p : Part) (rest : Path) → target ≡ above ++ p ∷ rest → is_bridge_at b (above ++ p ∷ []) ≡ true
         → (secondary b (above ++ p ∷ []) ≤ goal) × (goal ≤ subordinate b (above ++ p ∷ []))
@@ -227,11 +213,7 @@ module _ (b : Board) (lawful : IsBoard b) (fs : List BoardFunction) (rows : map 
 
     route : (rs : Path) (p t : Part) (above : Path) → target ≡ above ++ p ∷ rs → is_route fs goal above (p ∷ rs ++ t ∷ []) ≡ true
     route [] p t above e = takes_last above p e
-    route (s ∷ rs) p t above e = two_parts rs (takes_next above p s rs e) (route rs s t (above ++ p ∷ []) (e ∙ moved above p (s ∷ rs)))
-      where
-        two_parts : (ts : Path) → takes fs above goal p false ≡ true → is_route fs goal (above ++ p ∷ []) (s ∷ ts ++ t ∷ []) ≡ true → is_route fs goal above (p ∷ s ∷ ts ++ t ∷ []) ≡ true
-        two_parts [] h k = and_from (takes fs above goal p false) (is_route fs goal (above ++ p ∷ []) (s ∷ t ∷ [])) h k
-        two_parts (u ∷ ts) h k = and_from (takes fs above goal p false) (is_route fs goal (above ++ p ∷ []) (s ∷ u ∷ ts ++ t ∷ [])) h k
+    route (s ∷ rs) p t above e = search (rules, takes_next, moved, and_from, route rs s t (above ++ p ∷ []) (e ∙ moved above p (s ∷ rs)))
 
     ends_last : (p : Path) (q : Part) → ends_in (p ++ q ∷ []) q ≡ true
     ends_last [] q = part_self q
@@ -274,20 +256,13 @@ covers_between n c d f k low high h g =
     (and_from (is_bridge f.decl) (leb (secondary_register f.file) n) k (rw low (le-leb c n h))) (rw high (le-leb n d g))
 
 pub between_covers : (n : ℕ) (f : BoardFunction) → covers n f ≡ true → (secondary_register f.file ≤ n) × (n ≤ subordinate_register f.file)
-between_covers n f h =
-    let low : (is_bridge f.decl && leb (secondary_register f.file) n) ≡ true = left_true (is_bridge f.decl && leb (secondary_register f.file) n) (leb n (subordinate_register f.file)) h in (
-      leb-true (secondary_register f.file) n (right_true (is_bridge f.decl) (leb (secondary_register f.file) n) low),
-      leb-true n (subordinate_register f.file) (right_true (is_bridge f.decl && leb (secondary_register f.file) n) (leb n (subordinate_register f.file)) h),
-    )
+between_covers n f h = search (rules, left_true, leb-true, right_true)
 
 abbrev pub HoldsNumbers : Board → BoardFunction → Type 0
 HoldsNumbers b f = (secondary_register f.file ≡ secondary b f.path) × (subordinate_register f.file ≡ subordinate b f.path)
 
 pub names_of : (b : Board) (n : ℕ) (f : BoardFunction) → is_bridge f.decl ≡ true → HoldsNumbers b f → Names b n f
-names_of b n f k h = record {
-  covers_when = λ low high. covers_between n (secondary b f.path) (subordinate b f.path) f k h.0 h.1 low high;
-  covered = λ c. let within = between_covers n f c in (subst (λ m. m ≤ n) h.0 within.0, subst (λ m. n ≤ m) h.1 within.1, h.0);
-}
+names_of b n f k h = search (rules, covers_between, between_covers)
 
 board_names : (b : Board) (fs : List BoardFunction) → HasNumbers b fs → (n : ℕ) → Each (λ f. IsTrue (is_bridge f.decl) → Names b n f) fs
 board_names b fs has n = each_map (λ f. IsTrue (is_bridge f.decl) → HoldsNumbers b f) (λ f. IsTrue (is_bridge f.decl) → Names b n f) fs (λ f h k. names_of b n f k (h k)) has.numbers
@@ -308,3 +283,80 @@ reached_by_numbers b lawful fs has p h =
     (any_in (λ (g : BoardFunction). path_eq g.path (parent p ++ last_part p ∷ [])) there.0 fs there.1
     (ap (λ (x : Path). path_eq x (parent p ++ last_part p ∷ [])) path_is ∙ path_self (parent p ++ last_part p ∷ []))) in
     (f.0, reach ∙ f.1, path_same f.0.path (parent p ++ last_part p ∷ []) f.3 ∙ sym split)
+
+-- ---- with the board's numbers a cycle reaches no function but the one that its numbers name
+
+-- ---- what a search finds
+
+found_cases : {A : Type 0} (P : A → Type 0) (t : A → Bool) (x y : A) (xs : List A) (b : Bool) → t x ≡ b → P x → Each P xs
+    → (find t xs ≡ Some y → (t y ≡ true) × P y) → cond b (Some x) (find t xs) ≡ Some y → (t y ≡ true) × P y
+found_cases P t x y xs true e p ps more h = search rules
+found_cases P t x y xs false e p ps more h = more h
+
+finds : {A : Type 0} (P : A → Type 0) (t : A → Bool) (xs : List A) (y : A) → Each P xs → find t xs ≡ Some y → (t y ≡ true) × P y
+finds P t [] y h e = cc
+finds P t (x ∷ xs) y h e = found_cases P t x y xs (t x) refl h.0 h.1 (finds P t xs y h.1) e
+
+pub ends_is_last : (p : Path) (t : Part) → ends_in p t ≡ true → last_part p ≡ t
+ends_is_last [] t h = cc
+ends_is_last (p ∷ []) t h = part_same p t h
+ends_is_last (p ∷ q ∷ ps) t h = ends_is_last (q ∷ ps) t h
+
+pub last_flag : (c : Bool) → cond c true (not true) ≡ true → c ≡ true
+last_flag true h = refl
+last_flag false h = cc
+
+pub covers_bridge : (n : ℕ) (f : BoardFunction) → covers n f ≡ true → is_bridge f.decl ≡ true
+covers_bridge n f is = left_true (is_bridge f.decl) (nat_le (secondary_register f.file) n)
+    (left_true (is_bridge f.decl && nat_le (secondary_register f.file) n) (nat_le n (subordinate_register f.file)) is)
+
+module _ (b : Board) (fs : List BoardFunction) (has : HasNumbers b fs) (n : ℕ) where
+  abbrev Numbered : BoardFunction → Type 0
+  Numbered f = is_bridge f.decl ≡ true → (secondary_register f.file ≡ secondary b f.path) × (subordinate_register f.file ≡ subordinate b f.path)
+
+  -- the bridge that leads to bus n itself stands at this path, and n is its number
+  last_bridge : (above : Path) (p : Part) → takes fs above n p true ≡ true → secondary b (above ++ p ∷ []) ≡ n
+  last_bridge above p h = by_case (taker fs above n) refl h
+    where
+      by_case : (o : Option BoardFunction) → taker fs above n ≡ o
+          → option_map_or (λ (f : BoardFunction). path_eq f.path (above ++ p ∷ []) && cond (eqb (secondary_register f.file) n) true (not true)) o false ≡ true → secondary b (above ++ p ∷ []) ≡ n
+      by_case None e k = cc
+      by_case (Some f) e k =
+          let got = finds Numbered (λ g. path_eq (parent g.path) above && covers n g) fs f has.numbers e in
+          let is : covers n f ≡ true = right_true (path_eq (parent f.path) above) (covers n f) got.0 in
+          let at : f.path ≡ above ++ p ∷ [] = path_same f.path (above ++ p ∷ []) (left_true (path_eq f.path (above ++ p ∷ [])) (cond (eqb (secondary_register f.file) n) true (not true)) k) in
+          let here : secondary_register f.file ≡ n = eqb-true (secondary_register f.file) n (last_flag (eqb (secondary_register f.file) n)
+          (right_true (path_eq f.path (above ++ p ∷ [])) (cond (eqb (secondary_register f.file) n) true (not true)) k)) in
+          let numbers = got.1 (covers_bridge n f is) in
+          ap (secondary b) (sym at) ∙ sym numbers.0 ∙ here
+
+  -- a way that leads to bus n ends behind the bridge whose number is n
+  way_ends : (above p : Path) → is_route fs n above p ≡ true → (secondary b (above ++ parent p) ≡ n) × ((q : Part) × (rest : Path) × (parent p ≡ q ∷ rest))
+  way_ends above [] h = cc
+  way_ends above (p ∷ []) h = cc
+  way_ends above (p ∷ q ∷ []) h = (last_bridge above p h, (p, [], refl))
+  way_ends above (p ∷ q ∷ r ∷ ps) h =
+      let more = way_ends (above ++ p ∷ []) (q ∷ r ∷ ps) (right_true (takes fs above n p false) (is_route fs n (above ++ p ∷ []) (q ∷ r ∷ ps)) h) in
+      (ap (secondary b) (sym (append_assoc above (p ∷ []) (parent (q ∷ r ∷ ps)))) ∙ more.0, (p, parent (q ∷ r ∷ ps), refl))
+
+  behind_bridge : (p : Path) (q : Part) (rest : Path) → p ≡ q ∷ rest → secondary b p ≡ n → bus_behind b p ≡ n
+  behind_bridge p q rest e h = subst (λ (x : Path). secondary b x ≡ n → bus_behind b x ≡ n) (sym e) (λ k. k) h
+
+  on_bus : (p : Path) → is_route fs n [] p ≡ true → bus_of b p ≡ n
+  on_bus p h = let ends = way_ends [] p h in behind_bridge (parent p) ends.1.0 ends.1.1 ends.1.2 ends.0
+
+trivial : (fs : List BoardFunction) → Each (λ f. Unit {0}) fs
+trivial [] = tt
+trivial (f ∷ fs) = (tt, trivial fs)
+
+only_by_type0 : (b : Board) (fs : List BoardFunction) (t : Part) (f : BoardFunction) → reached_type0 fs t ≡ Some f → (bus_of b f.path ≡ 0) × (last_part f.path ≡ t)
+only_by_type0 b fs t f e =
+    let got = finds (λ g. Unit {0}) (λ g. path_eq g.path (t ∷ [])) fs f (trivial fs) e in
+    let at : f.path ≡ t ∷ [] = path_same f.path (t ∷ []) got.0 in
+    (ap (bus_of b) at, ap last_part at)
+
+only_by_type1 : (b : Board) (fs : List BoardFunction) → HasNumbers b fs → (n : ℕ) (t : Part) (f : BoardFunction) → reached_type1 fs n t ≡ Some f → (bus_of b f.path ≡ n) × (last_part f.path ≡ t)
+only_by_type1 b fs has n t f e = search (rules, finds, trivial, on_bus, right_true, ends_is_last, left_true)
+
+pub only_named : OnlyNamed
+only_named b lawful fs has at f e = search (rules, eqb-true, only_by_type0, only_by_type1)

@@ -1,12 +1,12 @@
 -- A scan meets the functions in path order, and gives bus numbers in it.
-use Rattle.std.proofs.Common.{◌≡◌, ℕ, ◌+◌, ◌*◌, ◌/◌, ◌%◌, ◌≤◌, ◌<◌, ◌⊎◌, inl, inr, Bool, true, false, ◌&&◌, ◌||◌, not, cond, List, [], ◌∷◌, ◌++◌, append_assoc, length, zero-add, refl, sym, ap, ap₂, ◌∙◌, subst, arith, eqb}
-use Rattle.std.specs.Prelude.{filter, count_by, nat_le, nat_lt, IsTrue}
+use Rattle.std.proofs.Common.{◌≡◌, ℕ, ◌+◌, ◌≤◌, ◌<◌, inl, inr, Bool, true, false, ◌&&◌, ◌||◌, cond, List, [], ◌∷◌, ◌++◌, append_assoc, length, zero-add, refl, sym, ap, ap₂, ◌∙◌, subst, arith, rules}
+use Rattle.std.specs.Prelude.{filter, count_by, IsTrue}
 use Rattle.std.proofs.lemmas.Bool.Decides.{nat_tests}
 use Rattle.std.proofs.lemmas.List.Sums.{sum_by-cons}
 use Rattle.std.proofs.lemmas.Bool.{false_from_ne_true, or_right}
 use Rattle.lists.specs.Elements.{Each, EachPair, IsIn}
-use Rattle.model_board.specs.Paths.{Part, Path, part_eq, path_eq, path_before, leads_to, IsPath}
-use Rattle.model_board.specs.Board.{Board, Row, is_bridge, is_bridge_at, stands_at, is_multifunction, IsBoard}
+use Rattle.model_board.specs.Paths.{Path, path_eq, path_before, leads_to, IsPath}
+use Rattle.model_board.specs.Board.{Board, Row, is_bridge, is_bridge_at, stands_at, IsBoard}
 use Rattle.model_set_up.specs.Scanning.{no_numbers, board_numbers, open_numbers}
 use Rattle.model_set_up.specs.ScanOrder.{nth_part, on, next_part, met, MeetsInPathOrder, GivesNumbersInPathOrder, ScanMeetsInPathOrder, ScanGivesNumbersInPathOrder}
 use Rattle.lists.proofs.Members.{each_in, any_in, none_pass, filter_same}
@@ -28,11 +28,7 @@ filter_all p (x ∷ xs) h = let here : p x ≡ true = h x (inl refl) in rw here 
 filter_adds : {A : Type 0} (p q : A → Bool) (R : A → A → Type 0) (x : A) (xs : List A) → EachPair R xs → ((y : A) → R y x → (p y ≡ true) × (q y ≡ true)) → ((y : A) → R x y → (p y ≡ false) × (q y ≡ false))
     → p x ≡ false → q x ≡ true → IsIn x xs → filter q xs ≡ filter p xs ++ x ∷ []
 filter_adds p q R x [] h before after fails passes m = absurd m
-filter_adds {A} p q R x (y ∷ ys) h before after fails passes (inl e) =
-    let later : (z : A) → IsIn z ys → R x z = λ z k. subst (λ w. R w z) (sym e) (each_in (R y) z ys h.0 k) in
-    let old : p y ≡ false = sym (ap p e) ∙ fails in
-    let new : q y ≡ true = sym (ap q e) ∙ passes in
-    rw (old, new, none_pass p ys (λ z k. (after z (later z k)).0), none_pass q ys (λ z k. (after z (later z k)).1)) (ap (λ w. w ∷ []) (sym e))
+filter_adds {A} p q R x (y ∷ ys) h before after fails passes (inl e) = search (rules, each_in, none_pass)
 filter_adds p q R x (y ∷ ys) h before after fails passes (inr m) =
     let both = before y (each_in (R y) x ys h.0 m) in
     rw (both.0, both.1) (ap (λ zs. y ∷ zs) (filter_adds p q R x ys h.1 before after fails passes m))
@@ -75,21 +71,14 @@ module _ (b : Board) (lawful : IsBoard b) where
   -- ---- parts of a bus
 
   next_later : (bus : Path) (n : ℕ) → n < next_part b bus n
-  next_later bus n = by_test (eqb (n % 8) 0 && not (stands_at b (on bus n) && is_multifunction b (on bus n)))
-    where
-      by_test : (t : Bool) → n < cond t (n + 8) (n + 1)
-      by_test true = omega arith
-      by_test false = omega arith
+  next_later bus n = search rules
 
   before_next : (bus : Path) (n : ℕ) (y : Row) → IsIn y b → path_before y.path (on bus (next_part b bus n)) ≡ (path_before y.path (on bus n) || is_between bus n (next_part b bus n) y.path)
   before_next bus n y m = before_later y.path bus n (next_part b bus n) (omega (arith, next_later bus n)) (row_path b lawful y m).parts
 
   -- what stands at a part or behind it is within that part and the next
   self_within : (bus : Path) (n m : ℕ) → n < m → (rest : Path) → is_between bus n m (bus ++ nth_part n ∷ rest) ≡ true
-  self_within [] n m h rest = in_range (8 * (n / 8) + n % 8) (omega arith)
-    where
-      in_range : (k : ℕ) → k ≡ n → (nat_le n k && nat_lt k m) ≡ true
-      in_range k e = grind (arith, nat_tests)
+  self_within [] n m h rest = search (rules, nat_tests)
   self_within (a ∷ bus) n m h rest = rw (part_self a) (self_within bus n m h rest)
 
   -- what is at a path or behind it goes on from there
@@ -97,40 +86,15 @@ module _ (b : Board) (lawful : IsBoard b) where
   goes_on [] [] h = ([], refl)
   goes_on [] (u ∷ x) h = (u ∷ x, refl)
   goes_on (a ∷ p) [] h = cc
-  goes_on (a ∷ p) (u ∷ x) h = by_part (part_eq u a) refl h (goes_on p x)
-    where
-      part_eq-sym : (c d : Part) → part_eq c d ≡ part_eq d c
-      part_eq-sym c d = grind (arith, nat_tests)
-
-      longer : u ≡ a → (rest : Path) × (x ≡ p ++ rest) → (rest : Path) × (u ∷ x ≡ a ∷ p ++ rest)
-      longer same (rest, e) = (rest, ap₂ ◌∷◌ same e)
-
-      by_part : (t : Bool) → part_eq u a ≡ t → ((part_eq u a && path_eq x p) || (part_eq a u && leads_to p x)) ≡ true → ((path_eq x p || leads_to p x) ≡ true → (rest : Path) × (x ≡ p ++ rest)) → (rest : Path) × (u ∷ x ≡ a ∷ p ++ rest)
-      by_part true e k more = longer (part_same u a e) (more (rw (e, part_eq-sym a u, e) at k))
-      by_part false e k more = let bad : false ≡ true = rw (e, part_eq-sym a u, e) at k in cc
+  goes_on (a ∷ p) (u ∷ x) h = search (rules, nat_tests, part_same, goes_on p x)
 
   -- the functions that are met from a part to the next are those at it and behind it
   passed : (bus : Path) (n : ℕ) (y : Row) → IsIn y b → is_between bus n (next_part b bus n) y.path ≡ (path_eq y.path (on bus n) || leads_to (on bus n) y.path)
-  passed bus n y m = same_test (is_between bus n (next_part b bus n) y.path) (path_eq y.path (on bus n) || leads_to (on bus n) y.path) (λ h. either (none_passed b lawful bus n y m h)) stays
-    where
-      either : (path_eq y.path (on bus n) ≡ true) ⊎ (leads_to (on bus n) y.path ≡ true) → (path_eq y.path (on bus n) || leads_to (on bus n) y.path) ≡ true
-      either (inl e) = rw e
-      either (inr l) = or_right (path_eq y.path (on bus n)) (leads_to (on bus n) y.path) l
-
-      stays : (path_eq y.path (on bus n) || leads_to (on bus n) y.path) ≡ true → is_between bus n (next_part b bus n) y.path ≡ true
-      stays h =
-          let g = goes_on (on bus n) y.path h in
-          subst (λ (x : Path). is_between bus n (next_part b bus n) x ≡ true) (sym (g.1 ∙ append_assoc bus (nth_part n ∷ []) g.0)) (self_within bus n (next_part b bus n) (next_later bus n) g.0)
+  passed bus n y m = search (rules, same_test, none_passed, or_right, goes_on, append_assoc, self_within, next_later)
 
   -- nothing stands behind what is no bridge
   none_behind : (p : Path) → 0 < length p → is_bridge_at b p ≡ false → (y : Row) → IsIn y b → leads_to p y.path ≡ false
-  none_behind p some h y m = false_from_ne_true (leads_to p y.path) (λ l. absurd_by (bridge_above b lawful y p m l some))
-    where
-      absurd_by : (r : Row) × IsIn r b × (is_bridge r.decl ≡ true) × (r.path ≡ p) → ⊥
-      absurd_by (r, k, is, e) =
-          let there : is_bridge_at b p ≡ true = any_in (λ (s : Row). is_bridge s.decl && path_eq s.path p) r b k (rw (is, ap (λ (x : Path). path_eq x p) e) (path_self p)) in
-          let bad : true ≡ false = sym there ∙ h in
-          cc
+  none_behind p some h y m = search (rules, false_from_ne_true, bridge_above, any_in, path_self)
 
   -- a row at a path where no bridge stands is no bridge
   met_next : (bus : Path) (n : ℕ) → is_bridge_at b (on bus n) ≡ false → (y : Row) → IsIn y b → path_before y.path (on bus (next_part b bus n)) ≡ (path_before y.path (on bus n) || path_eq y.path (on bus n))
@@ -139,19 +103,10 @@ module _ (b : Board) (lawful : IsBoard b) where
       ∙ ap (λ t. path_before y.path (on bus n) || t) (passed bus n y m ∙ ap (λ t. path_eq y.path (on bus n) || t) (none_behind (on bus n) (snoc_some bus (nth_part n)) h y m) ∙ or_false (path_eq y.path (on bus n)) false refl)
 
   pub no_bridge_here : (r : Row) → IsIn r b → is_bridge r.decl ≡ false → is_bridge_at b r.path ≡ false
-  no_bridge_here r m h = false_from_ne_true (is_bridge_at b r.path) (λ t. by_row (bridge_at b lawful r.path t))
-    where
-      by_row : (s : Row) × IsIn s b × (is_bridge s.decl ≡ true) × (s.path ≡ r.path) → ⊥
-      by_row (s, k, is, e) = let bad : true ≡ false = sym is ∙ ap (λ (t : Row). is_bridge t.decl) (one_row b lawful s r k m e) ∙ h in cc
+  no_bridge_here r m h = search (rules, false_from_ne_true, bridge_at, one_row)
 
   pub no_bridge_none : (p : Path) → stands_at b p ≡ false → is_bridge_at b p ≡ false
-  no_bridge_none p h = false_from_ne_true (is_bridge_at b p) (λ t. by_row (bridge_at b lawful p t))
-    where
-      by_row : (s : Row) × IsIn s b × (is_bridge s.decl ≡ true) × (s.path ≡ p) → ⊥
-      by_row (s, k, is, e) =
-          let there : stands_at b p ≡ true = any_in (λ (r : Row). path_eq r.path p) s b k (ap (λ (x : Path). path_eq x p) e ∙ path_self p) in
-          let bad : true ≡ false = sym there ∙ h in
-          cc
+  no_bridge_none p h = search (rules, false_from_ne_true, bridge_at, any_in, path_self)
 
   none_there : (p : Path) → stands_at b p ≡ false → (y : Row) → IsIn y b → path_eq y.path p ≡ false
   none_there p h y m = false_from_ne_true (path_eq y.path p) (λ e. let bad : true ≡ false = sym (any_in (λ (r : Row). path_eq r.path p) y b m e) ∙ h in cc)

@@ -1,10 +1,11 @@
 -- Parts of a bus in path order: which paths come before the first, the last and the next part.
-use Rattle.std.proofs.Common.{◌≡◌, ℕ, ◌+◌, ◌*◌, ◌/◌, ◌%◌, ◌≤◌, ◌<◌, ◌⊎◌, inl, inr, Bool, true, false, not, ◌&&◌, ◌||◌, cond, [], ◌∷◌, ◌++◌, refl, sym, ap, ap₂, ◌∙◌, subst, arith, eqb}
-use Rattle.std.specs.Prelude.{nat_lt, nat_le, IsTrue}
+use Rattle.std.proofs.Common.{◌≡◌, ℕ, ◌+◌, ◌*◌, ◌/◌, ◌%◌, ◌≤◌, ◌<◌, ◌⊎◌, inl, inr, Bool, true, false, not, ◌&&◌, ◌||◌, cond, [], ◌∷◌, ◌++◌, refl, sym, ap, ◌∙◌, subst, arith, eqb, rules}
+use Rattle.std.specs.Prelude.{nat_lt, nat_le}
 use Rattle.std.proofs.lemmas.Bool.Decides.{nat_tests}
+use Rattle.std.proofs.lemmas.Bool.{ltb-true}
 use Rattle.lists.specs.Elements.{Each, IsIn}
 use Rattle.lists.proofs.Tests.{left_true, right_true}
-use Rattle.model_board.specs.Paths.{Part, Path, part_eq, part_before, path_eq, path_before, leads_to, parent, last_part, function_zero, IsPart, IsPath}
+use Rattle.model_board.specs.Paths.{Part, Path, part_eq, part_before, path_eq, path_before, leads_to, last_part, function_zero, IsPart, IsPath}
 use Rattle.model_board.specs.Board.{Board, Row, stands_at, is_multifunction, IsBoard}
 use Rattle.model_set_up.specs.ScanOrder.{nth_part, on, next_part}
 use Rattle.lists.proofs.Members.{each_in, any_in}
@@ -81,37 +82,8 @@ is_between [] m n (u ∷ x) = nat_le m (index u) && nat_lt (index u) n
 is_between (a ∷ p) m n [] = false
 is_between (a ∷ p) m n (u ∷ x) = part_eq u a && is_between p m n x
 
-lt_of : (m n : ℕ) → nat_lt m n ≡ true → m < n
-lt_of m n h = grind (arith, nat_tests)
-
 before_by_index : (u : Part) (n : ℕ) → u.function < 8 → part_before u (nth_part n) ≡ nat_lt (index u) n
-before_by_index u n h = same (part_before u (nth_part n)) (nat_lt (index u) n) refl refl
-  where
-    less : part_before u (nth_part n) ≡ true → index u < n
-    less e = by_device (nat_lt u.device (n / 8)) refl
-      where
-        second : nat_lt u.device (n / 8) ≡ false → (u.device ≡ n / 8) × (u.function < n % 8)
-        second d = grind (arith, nat_tests)
-
-        by_device : (t : Bool) → nat_lt u.device (n / 8) ≡ t → index u < n
-        by_device true d = let l : u.device < n / 8 = lt_of u.device (n / 8) d in omega arith
-        by_device false d = let s = second d in omega (arith, s.0, s.1)
-
-    not_less : part_before u (nth_part n) ≡ false → n ≤ index u
-    not_less e = by_device (nat_lt (n / 8) u.device) refl
-      where
-        equal : nat_lt (n / 8) u.device ≡ false → (u.device ≡ n / 8) × (n % 8 ≤ u.function)
-        equal d = grind (arith, nat_tests)
-
-        by_device : (t : Bool) → nat_lt (n / 8) u.device ≡ t → n ≤ index u
-        by_device true d = let l : n / 8 < u.device = lt_of (n / 8) u.device d in omega arith
-        by_device false d = let s = equal d in omega (arith, s.0, s.1)
-
-    same : (s t : Bool) → part_before u (nth_part n) ≡ s → nat_lt (index u) n ≡ t → s ≡ t
-    same true true e f = refl
-    same true false e f = let l : index u < n = less e in grind (arith, nat_tests)
-    same false true e f = let l : n ≤ index u = not_less e in grind (arith, nat_tests)
-    same false false e f = refl
+before_by_index u n h = search (rules, nat_tests, ltb-true)
 
 between : (i m n : ℕ) → m ≤ n → nat_lt i n ≡ (nat_lt i m || (nat_le m i && nat_lt i n))
 between i m n h = grind (arith, nat_tests)
@@ -135,15 +107,12 @@ before_later (u ∷ x) (a ∷ p) m n h parts = either (part_before u a) (part_eq
 
 split_within : (p : Path) (m n : ℕ) (x : Path) → is_between p m n x ≡ true → (u : Part) × (rest : Path) × (x ≡ p ++ u ∷ rest) × (m ≤ index u) × (index u < n)
 split_within [] m n [] h = cc
-split_within [] m n (u ∷ x) h = (u, x, refl, le_of m (index u) (left_true (nat_le m (index u)) (nat_lt (index u) n) h), lt_of (index u) n (right_true (nat_le m (index u)) (nat_lt (index u) n) h))
+split_within [] m n (u ∷ x) h = (u, x, refl, le_of m (index u) (left_true (nat_le m (index u)) (nat_lt (index u) n) h), ltb-true (index u) n (right_true (nat_le m (index u)) (nat_lt (index u) n) h))
   where
     le_of : (m n : ℕ) → nat_le m n ≡ true → m ≤ n
     le_of m n h = grind (arith, nat_tests)
 split_within (a ∷ p) m n [] h = cc
-split_within (a ∷ p) m n (u ∷ x) h = longer (part_same u a (left_true (part_eq u a) (is_between p m n x) h)) (split_within p m n x (right_true (part_eq u a) (is_between p m n x) h))
-  where
-    longer : u ≡ a → (v : Part) × (rest : Path) × (x ≡ p ++ v ∷ rest) × (m ≤ index v) × (index v < n) → (v : Part) × (rest : Path) × (u ∷ x ≡ a ∷ p ++ v ∷ rest) × (m ≤ index v) × (index v < n)
-    longer same (v, rest, e, low, high) = (v, rest, ap₂ ◌∷◌ same e, low, high)
+split_within (a ∷ p) m n (u ∷ x) h = search (rules, part_same, left_true, right_true, split_within p m n x (right_true (part_eq u a) (is_between p m n x) h))
 
 part_in : (p : Path) (u : Part) (rest : Path) → Each IsPart (p ++ u ∷ rest) → IsPart u
 part_in [] u rest h = h.0
@@ -180,33 +149,7 @@ module _ (b : Board) (lawful : IsBoard b) where
 
   -- a device in which a further function stands has function 0, which says so
   is_multifunction_here : (p : Path) (n : ℕ) → n % 8 ≡ 0 → (u : Part) → u.device ≡ n / 8 → 0 < u.function → (s : Row) → IsIn s b → s.path ≡ p ++ u ∷ [] → (stands_at b (on p n) && is_multifunction b (on p n)) ≡ true
-  is_multifunction_here p n first u dev fn s m e = rw (zero_stands, multifunction)
-    where
-      zero_is : function_zero s.path ≡ on p n
-      zero_is = ap function_zero e ∙ zero_snoc p u ∙ ap (λ (v : Part). p ++ v ∷ []) (same_part (record u { function = 0 }) (nth_part n) dev (sym first))
-
-      zero_stands : stands_at b (on p n) ≡ true
-      zero_stands = subst (λ (x : Path). stands_at b x ≡ true) zero_is (each_in (λ (r : Row). IsTrue (stands_at b (function_zero r.path))) s b lawful.function_zeros m)
-
-      parents : path_eq (parent (p ++ u ∷ [])) (parent (on p n)) ≡ true
-      parents = rw (parent_snoc p u, parent_snoc p (nth_part n)) (path_self p)
-
-      self : (k : ℕ) → eqb k k ≡ true
-      self k = grind (arith, nat_tests)
-
-      devices : eqb (device (p ++ u ∷ [])) (device (on p n)) ≡ true
-      devices = ap₂ eqb (ap (λ (v : Part). v.device) (last_snoc p u) ∙ dev) (ap (λ (v : Part). v.device) (last_snoc p (nth_part n))) ∙ self (n / 8)
-
-      apart : path_eq (p ++ u ∷ []) (on p n) ≡ false
-      apart = path_eq-snoc p u (nth_part n) ∙ other
-        where
-          other : part_eq u (nth_part n) ≡ false
-          other = grind (arith, nat_tests)
-
-      multifunction : is_multifunction b (on p n) ≡ true
-      multifunction =
-          any_in (λ (r : Row). path_eq (parent r.path) (parent (on p n)) && eqb (device r.path) (device (on p n)) && not (path_eq r.path (on p n))) s b m
-          (subst (λ (x : Path). (path_eq (parent x) (parent (on p n)) && eqb (device x) (device (on p n)) && not (path_eq x (on p n))) ≡ true) (sym e) (rw (parents, devices, apart)))
+  is_multifunction_here p n first u dev fn s m e = search (rules, zero_snoc, same_part, each_in, parent_snoc, path_self, nat_tests, last_snoc, path_eq-snoc, any_in)
 
   -- no function is passed over on the way to the next part
   pub none_passed : (p : Path) (n : ℕ) (r : Row) → IsIn r b → is_between p n (next_part b p n) r.path ≡ true → AtOrBehind r (on p n)
@@ -221,7 +164,7 @@ module _ (b : Board) (lawful : IsBoard b) where
       by_function : (u : Part) (rest : Path) → r.path ≡ p ++ u ∷ rest → n % 8 ≡ 0 → u.device ≡ n / 8 → (t : Bool) → nat_lt 0 u.function ≡ t → not (stands_at b (on p n) && is_multifunction b (on p n)) ≡ true → AtOrBehind r (on p n)
       by_function u rest e first dev true f alone =
           let s = stands_there r m p u rest e in
-          let multifunction : (stands_at b (on p n) && is_multifunction b (on p n)) ≡ true = is_multifunction_here p n first u dev (lt_of 0 u.function f) s.0 s.1 s.2 in
+          let multifunction : (stands_at b (on p n) && is_multifunction b (on p n)) ≡ true = is_multifunction_here p n first u dev (ltb-true 0 u.function f) s.0 s.1 s.2 in
           let no : false ≡ true = rw multifunction at alone in
           cc
       by_function u rest e first dev false f alone = at_place u rest e dev (zero_of u.function f ∙ sym first)

@@ -1,5 +1,5 @@
 -- While a scan runs, configuration cycles reach the functions of the buses that it has met.
-use Rattle.std.proofs.Common.{◌≡◌, ℕ, ◌+◌, ◌≤◌, ◌<◌, inl, inr, Bool, true, false, cond, List, [], ◌∷◌, ◌++◌, refl, sym, ap, ◌∙◌, subst, arith, lit<, ◌*◌, ◌%◌, ◌&&◌}
+use Rattle.std.proofs.Common.{◌≡◌, ◌+◌, ◌≤◌, ◌<◌, inl, inr, Bool, true, false, cond, List, [], ◌∷◌, ◌++◌, refl, sym, ap, ◌∙◌, subst, arith, lit<, ◌&&◌, rules}
 use Rattle.std.specs.Prelude.{map, IsTrue}
 use Rattle.lists.specs.Elements.{Each, IsIn}
 use Rattle.model_registers.specs.Declarations.{Bridge}
@@ -31,11 +31,7 @@ goes_before x q r h k =
 
 -- a path that is not before another, is at it or after it
 not_before : (x q r : Path) → path_before x q ≡ true → path_before r q ≡ false → path_before x r ≡ true
-not_before x q r h k = by_equal (path_eq r q) refl
-  where
-    by_equal : (t : Bool) → path_eq r q ≡ t → path_before x r ≡ true
-    by_equal true e = subst (λ (y : Path). path_before x y ≡ true) (sym (path_same r q e)) h
-    by_equal false e = goes_before x q r h (path_total r q k e)
+not_before x q r h k = search (rules, path_same, goes_before, path_total)
 
 -- what leads to a part, and is before something before that part, leads to it
 leads_between : (r q here : Path) → leads_to r here ≡ true → path_before q here ≡ true → path_before r q ≡ true → leads_to r q ≡ true
@@ -72,12 +68,7 @@ module _ (b : Board) (lawful : IsBoard b) (here : Path) (few : secondary b here 
   names_by : (f : BoardFunction) → is_bridge f.decl ≡ true → is_bridge_at b f.path ≡ true → (t u : Bool) → leads_to f.path here ≡ t → path_before f.path here ≡ u
       → numbers_in f.file ≡ cond t (open_numbers b f.path) (cond u (board_numbers b f.path) no_numbers)
       → Names b (secondary b bus) f
-  names_by f k h true u l e n = record {
-    covers_when = λ low high. covers_between (secondary b bus) (secondary b f.path) 0xff f k (ap (λ (m : BusNumbers). m.secondary) n) (ap (λ (m : BusNumbers). m.subordinate) n) low (omega (arith, met_before b bus here there met));
-    covered = λ c.
-        let low : secondary b f.path ≤ secondary b bus = subst (λ m. m ≤ secondary b bus) (ap (λ (m : BusNumbers). m.secondary) n) (between_covers (secondary b bus) f c).0 in
-        (low, open_covers f.path h l low, ap (λ (m : BusNumbers). m.secondary) n);
-  }
+  names_by f k h true u l e n = search (rules, covers_between, met_before, between_covers, open_covers)
   names_by f k h false true l e n = names_of b (secondary b bus) f k (ap (λ (m : BusNumbers). m.secondary) n, ap (λ (m : BusNumbers). m.subordinate) n)
   names_by f k h false false l e n = record {
     covers_when = λ low high. absurd (omega (arith, (numbers f.path h).earlier (not_before bus here f.path met e)));
@@ -102,10 +93,7 @@ FitBytes n = (n.primary < 256) × (n.secondary < 256) × (n.subordinate < 256)
 
 -- the registers of a bridge read the numbers that were put there
 pub numbers_read : (d : Bridge) (multifunction : Bool) (n : BusNumbers) → (n.primary < 256) × (n.secondary < 256) × (n.subordinate < 256) → numbers_in (bridge_file d multifunction (with_numbers n)) ≡ n
-numbers_read d multifunction n h = λ i. record { primary = byte n.primary h.0 i; secondary = byte n.secondary h.1 i; subordinate = byte n.subordinate h.2 i }
-  where
-    byte : (k : ℕ) → k < 256 → k % 256 + 256 * 0 ≡ k
-    byte k l = omega arith
+numbers_read d multifunction n h = search rules
 
 -- the number of a bus is no greater than that of a bridge on it
 pub bus_not_more : (b : Board) (p : Path) → bus_of b p ≤ secondary b p

@@ -1,18 +1,20 @@
 -- The registers that set-up leaves read what it put there.
-use Rattle.std.proofs.Common.{◌≡◌, ℕ, zero, suc, ◌+◌, ◌-◌, ◌*◌, ◌/◌, ◌%◌, ◌^◌, ◌≤◌, ◌<◌, Bool, true, false, List, [], ◌∷◌, ◌++◌, refl, sym, ap, ◌∙◌, cond, arith, eqb, append_assoc}
+use Rattle.std.proofs.Common.{◌≡◌, ℕ, zero, suc, ◌+◌, ◌-◌, ◌*◌, ◌/◌, ◌%◌, ◌^◌, ◌≤◌, ◌<◌, Bool, true, false, List, [], ◌∷◌, ◌++◌, refl, ap, ◌∙◌, cond, arith, eqb, append_assoc, rules, Option, ap₂}
 use Rattle.std.specs.Prelude.{flat_map, not, bit_and}
 use Rattle.std.proofs.lemmas.Bool.Decides.{nat_tests}
 use Rattle.lists.specs.Elements.{Each, EachPair}
 use Rattle.model_registers.proofs.Owned.{cells_above, cells_elsewhere}
 use Rattle.model_registers.specs.Cell.{Cell}
 use Rattle.model_registers.specs.Registers.{config, block, File, cell_at, number, field, cells_from}
-use Rattle.model_registers.specs.Declarations.{Kind, io_kind, mem32, mem64, Region, registers_of, least_size, ConfigBlock, Endpoint, Bridge}
+use Rattle.model_registers.specs.Declarations.{Kind, io_kind, mem32, mem64, Region, registers_of, least_size, ConfigBlock, Endpoint, Bridge, IoDecode, no_io, io16, io32, PrefDecode, no_pref, pref32, pref64}
 use Rattle.model_registers.specs.EndpointTable.{base_register, base_cells, region_cells, block_cells, header_cells, endpoint_file}
-use Rattle.model_registers.specs.BridgeTable.{BridgeValues, bridge_file}
+use Rattle.model_registers.specs.BridgeTable.{BridgeValues, bridge_file, address_bits}
 use Rattle.model_registers.specs.Decoding.{Space, io, memory, base, is_open}
 use Rattle.model_registers.proofs.RegisterFiles.{field_reads}
 use Rattle.model_set_up.specs.SetUp.{opens, command_of}
 use Rattle.model_board.proofs.Routing.{same_number}
+use Rattle.model_board.specs.Windows.{Window, window, io_window, mem_window, pref_window}
+use Rattle.model_set_up.specs.Pools.{has_io, has_pref, has_pref64}
 
 -- ---- a register is read past cells of other places
 
@@ -28,10 +30,7 @@ past_field (suc w) b k v m c rest h = let e : eqb b k ≡ false = other b k (ome
 
 past_blocks : (bs : List ConfigBlock) (k : ℕ) (rest : File) → Each (λ b. 0x40 ≤ b.offset) bs → k < 0x40 → cell_at (flat_map block_cells bs ++ rest) (config k) ≡ cell_at rest (config k)
 past_blocks [] k rest h l = refl
-past_blocks (b ∷ bs) k rest h l =
-    ap (λ (f : File). cell_at f (config k)) (append_assoc (block_cells b) (flat_map block_cells bs) rest)
-    ∙ cells_above b.cells b.offset k (flat_map block_cells bs ++ rest) (omega (arith, h.0))
-    ∙ past_blocks bs k rest h.1 l
+past_blocks (b ∷ bs) k rest h l = grind (arith, append_assoc, cells_above, past_blocks bs k rest h.1 l)
 
 same_cells : (w a : ℕ) (f g : File) → ((k : ℕ) → a ≤ k → k < a + w → cell_at f (config k) ≡ cell_at g (config k)) → number f (config a) w ≡ number g (config a) w
 same_cells w a f g h = same_number w a f g (λ k l u. ap (λ (c : Cell). c.value) (h k l u))
@@ -59,10 +58,7 @@ module _ (bases : Region → ℕ) where
   split r rest = append_assoc (base_cells r.index r.kind r.size (bases r)) (cells_from (block r.index 0) r.cells) rest
 
   past_region : (r : Region) (k : ℕ) (rest : File) → 16 + 4 * (r.index + registers_of r.kind) ≤ k → cell_at (region_cells bases r ++ rest) (config k) ≡ cell_at rest (config k)
-  past_region r k rest h =
-      ap (λ (f : File). cell_at f (config k)) (split r rest)
-      ∙ past_base r.kind r.index r.size (bases r) k (cells_from (block r.index 0) r.cells ++ rest) h
-      ∙ cells_elsewhere r.cells r.index 0 k rest
+  past_region r k rest h = grind (arith, split, past_base, cells_elsewhere)
 
   -- the register of a region reads its base with the type bits
   abbrev Reads : File → Region → Type 0
@@ -70,18 +66,11 @@ module _ (bases : Region → ℕ) where
 
   later : (r : Region) (rest : File) (rs : List Region) → Each (λ s. r.index + registers_of r.kind ≤ s.index) rs → Each (Reads rest) rs → Each (Reads (region_cells bases r ++ rest)) rs
   later r rest [] h k = tt
-  later r rest (s ∷ rs) h k = (
-    same_cells (4 * registers_of s.kind) (16 + 4 * s.index) (region_cells bases r ++ rest) rest (λ m l u. past_region r m rest (omega (arith, h.0))) ∙ k.0,
-    later r rest rs h.1 k.1,
-  )
+  later r rest (s ∷ rs) h k = grind (arith, same_cells, past_region, later r rest rs h.1 k.1)
 
   regions_read : (rs : List Region) → EachPair (λ r s. r.index + registers_of r.kind ≤ s.index) rs → Each (Reads (flat_map (region_cells bases) rs)) rs
   regions_read [] h = tt
-  regions_read (r ∷ rs) h = (
-    ap (λ (f : File). number f (base_register r.index) (4 * registers_of r.kind)) (split r (flat_map (region_cells bases) rs))
-        ∙ base_here r.kind r.index r.size (bases r) (cells_from (block r.index 0) r.cells ++ flat_map (region_cells bases) rs),
-    later r (flat_map (region_cells bases) rs) rs h.0 (regions_read rs h.1),
-  )
+  regions_read (r ∷ rs) h = grind (arith, split, base_here, later, regions_read rs h.1)
 
 -- no register of the header stands among the base address registers, and all blocks stand behind them
 past_header_4 : (d : Endpoint) (multifunction : Bool) (command n : ℕ) (rest : File) → n < 6 → number (header_cells d multifunction command ++ rest) (base_register n) 4 ≡ number rest (base_register n) 4
@@ -132,14 +121,7 @@ module _ (d : Endpoint) (multifunction : Bool) (command : ℕ) (bases : Region �
   bases_from : (rest : File) (rs : List Region) → Each (λ b. 0x40 ≤ b.offset) d.blocks → rest ≡ flat_map (region_cells bases) d.regions → Each (λ r. r.index + registers_of r.kind ≤ 6) rs → Each (λ r. FitsRegister r.kind (bases r)) rs
       → Each (Reads bases rest) rs → Each (λ r. base (endpoint_file d multifunction command bases) r.index r.kind ≡ bases r) rs
   bases_from rest [] far e few fits h = tt
-  bases_from rest (r ∷ rs) far e few fits h = (
-    without_type r.kind (bases r) (endpoint_file d multifunction command bases) r.index fits.0
-        (past_header r.kind d multifunction command r.index (flat_map block_cells d.blocks ++ flat_map (region_cells bases) d.regions) few.0
-        ∙ same_cells (4 * registers_of r.kind) (16 + 4 * r.index) (flat_map block_cells d.blocks ++ flat_map (region_cells bases) d.regions) (flat_map (region_cells bases) d.regions)
-        (λ k l u. past_blocks d.blocks k (flat_map (region_cells bases) d.regions) far (omega (arith, few.0)))
-        ∙ ap (λ (f : File). number f (base_register r.index) (4 * registers_of r.kind)) (sym e) ∙ h.0),
-    bases_from rest rs far e few.1 fits.1 h.1,
-  )
+  bases_from rest (r ∷ rs) far e few fits h = search (rules, without_type, past_header, same_cells, past_blocks, bases_from rest rs far e few.1 fits.1 h.1)
 
   pub bases_read : Each (λ b. 0x40 ≤ b.offset) d.blocks → EachPair (λ r s. r.index + registers_of r.kind ≤ s.index) d.regions → Each (λ r. r.index + registers_of r.kind ≤ 6) d.regions → Each (λ r. FitsRegister r.kind (bases r)) d.regions
       → Each (λ r. base (endpoint_file d multifunction command bases) r.index r.kind ≡ bases r) d.regions
@@ -162,3 +144,77 @@ endpoint_opens d multifunction bases memory = (command_opens (opens d io) (opens
 pub bridge_opens : (d : Bridge) (multifunction : Bool) (r : BridgeValues) (space : Space) → r.command ≡ 3 → is_open (bridge_file d multifunction r) space ≡ true
 bridge_opens d multifunction r io h = ap (λ n. not (eqb (bit_and (n % 256 + 256 * (n / 256 % 256 + 256 * 0)) 1) 0)) h
 bridge_opens d multifunction r memory h = ap (λ n. not (eqb (bit_and (n % 256 + 256 * (n / 256 % 256 + 256 * 0)) 2) 0)) h
+
+-- ---- the window registers that set-up leaves read what it put there
+
+-- numbers of one, two and four bytes, as they are read
+abbrev one_byte : ℕ → ℕ
+one_byte v = v % 256 + 256 * 0
+
+abbrev two_bytes : ℕ → ℕ
+two_bytes v = v % 256 + 256 * one_byte (v / 256)
+
+abbrev four_bytes : ℕ → ℕ
+four_bytes v = v % 256 + 256 * (v / 256 % 256 + 256 * two_bytes (v / 256 / 256))
+
+two_are : (v : ℕ) → v < 2 ^ 16 → two_bytes v ≡ v
+two_are v h = omega arith
+
+four_are : (v : ℕ) → v < 2 ^ 32 → four_bytes v ≡ v
+four_are v h = omega arith
+
+-- the address bits of a register, with its type bits: a whole address, and one cut to its unit
+abbrev pub cut : ℕ → ℕ → ℕ
+cut unit n = n / unit * unit
+
+io_bits : (n t : ℕ) → t < 16 → n < 2 ^ 16 → one_byte (address_bits (2 ^ 12) n t) / 16 * 2 ^ 12 ≡ cut (2 ^ 12) n
+io_bits n t o h = omega arith
+
+io_high : (n t : ℕ) → t < 16 → n < 2 ^ 16 → two_bytes (n / 2 ^ 16) * 2 ^ 16 + one_byte (address_bits (2 ^ 12) n t) / 16 * 2 ^ 12 ≡ cut (2 ^ 12) n
+io_high n t o h = omega arith
+
+mem_bits : (n t : ℕ) → t < 16 → n < 2 ^ 32 → two_bytes (address_bits (2 ^ 20) n t) / 16 * 2 ^ 20 ≡ cut (2 ^ 20) n
+mem_bits n t o h = let small : address_bits (2 ^ 20) n t < 2 ^ 16 = omega arith in ap (λ v. v / 16 * 2 ^ 20) (two_are (address_bits (2 ^ 20) n t) small) ∙ omega arith
+
+pref_high : (n t : ℕ) → t < 16 → n < 2 ^ 64 → four_bytes (n / 2 ^ 32) * 2 ^ 32 + two_bytes (address_bits (2 ^ 20) n t) / 16 * 2 ^ 20 ≡ cut (2 ^ 20) n
+pref_high n t o h = grind (arith, four_are, two_are)
+
+-- a window of whole units, as its registers name it
+abbrev pub whole : ℕ → Window → Option Window
+whole unit s = window (cut unit s.first) (cut unit s.last + (unit - 1))
+
+module _ (vendor device revision : ℕ) (multifunction : Bool) (r : BridgeValues) where
+  abbrev bridge_of : IoDecode → PrefDecode → Bridge
+  bridge_of k m = record { vendor = vendor; device = device; revision = revision; io = k; pref = m }
+
+  io_by : (k : IoDecode) (m : PrefDecode) → has_io k ≡ true → r.io.first < 2 ^ 16 → r.io.last < 2 ^ 16 → io_window k (bridge_file (bridge_of k m) multifunction r) ≡ whole (2 ^ 12) r.io
+  io_by no_io m has f l = cc
+  io_by io16 m has f l = ap₂ (λ x y. window x (y + 0xfff)) (io_bits r.io.first 0 (omega arith) f) (io_bits r.io.last 0 (omega arith) l)
+  io_by io32 m has f l = ap₂ (λ x y. window x (y + 0xfff)) (io_high r.io.first 1 (omega arith) f) (io_high r.io.last 1 (omega arith) l)
+
+  high_by : (k : IoDecode) (m : PrefDecode) → has_pref64 m ≡ true → r.pref.first < 2 ^ 64 → r.pref.last < 2 ^ 64 → pref_window m (bridge_file (bridge_of k m) multifunction r) ≡ whole (2 ^ 20) r.pref
+  high_by k no_pref has f l = cc
+  high_by k pref32 has f l = cc
+  high_by no_io pref64 has f l = ap₂ (λ x y. window x (y + 0xfffff)) (pref_high r.pref.first 1 (omega arith) f) (pref_high r.pref.last 1 (omega arith) l)
+  high_by io16 pref64 has f l = ap₂ (λ x y. window x (y + 0xfffff)) (pref_high r.pref.first 1 (omega arith) f) (pref_high r.pref.last 1 (omega arith) l)
+  high_by io32 pref64 has f l = ap₂ (λ x y. window x (y + 0xfffff)) (pref_high r.pref.first 1 (omega arith) f) (pref_high r.pref.last 1 (omega arith) l)
+
+  low_by : (k : IoDecode) (m : PrefDecode) → has_pref m ≡ true → r.pref.first < 2 ^ 32 → r.pref.last < 2 ^ 32 → pref_window m (bridge_file (bridge_of k m) multifunction r) ≡ whole (2 ^ 20) r.pref
+  low_by k no_pref has f l = cc
+  low_by no_io pref32 has f l = ap₂ (λ x y. window x (y + 0xfffff)) (mem_bits r.pref.first 0 (omega arith) f) (mem_bits r.pref.last 0 (omega arith) l)
+  low_by io16 pref32 has f l = ap₂ (λ x y. window x (y + 0xfffff)) (mem_bits r.pref.first 0 (omega arith) f) (mem_bits r.pref.last 0 (omega arith) l)
+  low_by io32 pref32 has f l = ap₂ (λ x y. window x (y + 0xfffff)) (mem_bits r.pref.first 0 (omega arith) f) (mem_bits r.pref.last 0 (omega arith) l)
+  low_by k pref64 has f l = high_by k pref64 refl (omega arith) (omega arith)
+
+module _ (d : Bridge) (multifunction : Bool) (r : BridgeValues) where
+  pub io_reads : has_io d.io ≡ true → r.io.first < 2 ^ 16 → r.io.last < 2 ^ 16 → io_window d.io (bridge_file d multifunction r) ≡ whole (2 ^ 12) r.io
+  io_reads = io_by d.vendor d.device d.revision multifunction r d.io d.pref
+
+  pub mem_reads : r.mem.first < 2 ^ 32 → r.mem.last < 2 ^ 32 → mem_window (bridge_file d multifunction r) ≡ whole (2 ^ 20) r.mem
+  mem_reads f l = ap₂ (λ x y. window x (y + 0xfffff)) (mem_bits r.mem.first 0 (omega arith) f) (mem_bits r.mem.last 0 (omega arith) l)
+
+  pub pref_reads_low : has_pref d.pref ≡ true → r.pref.first < 2 ^ 32 → r.pref.last < 2 ^ 32 → pref_window d.pref (bridge_file d multifunction r) ≡ whole (2 ^ 20) r.pref
+  pref_reads_low = low_by d.vendor d.device d.revision multifunction r d.io d.pref
+
+  pub pref_reads : has_pref64 d.pref ≡ true → r.pref.first < 2 ^ 64 → r.pref.last < 2 ^ 64 → pref_window d.pref (bridge_file d multifunction r) ≡ whole (2 ^ 20) r.pref
+  pref_reads = high_by d.vendor d.device d.revision multifunction r d.io d.pref

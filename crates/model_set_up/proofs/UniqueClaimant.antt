@@ -1,11 +1,11 @@
 -- After set-up the claims of an address are those of the placed regions that hold it: one at most.
-use Rattle.std.proofs.Common.{◌≡◌, ℕ, ◌+◌, ◌-◌, ◌≤◌, ◌<◌, inl, inr, Bool, true, false, ◌&&◌, ◌||◌, cond, List, [], ◌∷◌, ◌++◌, length, Option, Some, None, refl, sym, ap, ap₂, ◌∙◌, subst, arith, leb, ltb}
+use Rattle.std.proofs.Common.{◌≡◌, ℕ, ◌+◌, ◌-◌, ◌≤◌, ◌<◌, inl, inr, Bool, true, false, ◌&&◌, ◌||◌, cond, List, [], ◌∷◌, ◌++◌, Option, Some, None, refl, sym, ap, ap₂, ◌∙◌, subst, arith, leb, ltb, rules}
 use Rattle.std.specs.Prelude.{not, map, flat_map, slice_get}
-use Rattle.std.specs.List.{list_all}
 use Rattle.std.specs.Option.{option_to_list}
 use Rattle.std.proofs.lemmas.List.{map-append}
 use Rattle.std.proofs.lemmas.Grind.{flat_map-append}
 use Rattle.std.proofs.lemmas.Bool.{and_from}
+use Rattle.std.proofs.lemmas.List.Folds.{list_all-map}
 use Rattle.lists.specs.Elements.{Each, EachPair, IsIn}
 use Rattle.model_registers.specs.Declarations.{Region, registers_of, IsLawfulRegion, HasLawfulRegions, Endpoint, Bridge}
 use Rattle.model_registers.specs.DeclarationRules.{IsConfigBlock}
@@ -13,7 +13,7 @@ use Rattle.model_registers.specs.Registers.{File}
 use Rattle.model_registers.specs.Decoding.{Space, space_of, same_space, base, is_open, Hit, hit_of}
 use Rattle.model_registers.proofs.HitRegions.{space_same}
 use Rattle.model_board.specs.Board.{Board, Row, Decl, endpoint, bridge, is_bridge, is_multifunction}
-use Rattle.model_board.specs.Paths.{Path, leads_to, IsPath}
+use Rattle.model_board.specs.Paths.{Path, leads_to}
 use Rattle.model_board.specs.State.{BoardFunction}
 use Rattle.model_board.specs.Windows.{forwards, is_in_window}
 use Rattle.model_board.specs.Claims.{Claim, claim_at, claims_of, is_forwarded, claims, first_claim}
@@ -34,12 +34,11 @@ use Rattle.model_board.proofs.Routing.{flat_map_map, first_listed, first_of_clai
 use Rattle.model_set_up.proofs.SetUpRegisters.{FitsRegister, bases_read, endpoint_opens, bridge_opens}
 use Rattle.model_set_up.proofs.LawfulPlacement.{layout_is_lawful}
 use Rattle.model_set_up.proofs.DeclaredRows.{rows_are_declared}
-use Rattle.model_set_up.proofs.BoardWindows.{set_up_windows}
-use Rattle.model_set_up.proofs.Partings.{one_row, BridgeAt, bridge_above}
+use Rattle.model_set_up.proofs.BoardWindows.{set_up_windows, IsBridgeWindow, bridge_window, window_holds}
+use Rattle.model_set_up.proofs.Partings.{one_row, bridge_above}
 use Rattle.model_set_up.proofs.PlacedApart.{pool_of_space, WindowOver, window_over}
-use Rattle.model_set_up.proofs.PlacedRegions.{Source, source, lawful_decl, lawful_regions, region_there, placed_apart, rows_to_placed, placed_to_rows}
+use Rattle.model_set_up.proofs.PlacedRegions.{source, lawful_decl, lawful_regions, region_there, placed_apart, rows_to_placed, placed_to_rows}
 use Rattle.model_set_up.proofs.PlacedReads.{InAperture, fits_register}
-use Rattle.model_set_up.proofs.PlacedWindows.{IsBridgeWindow, bridge_window, window_holds}
 
 -- ---- claims function by function
 
@@ -55,10 +54,6 @@ by_region false p hit claim (g ∷ gs) h = ap₂ ◌++◌ h.0 (by_region false p
 abbrev left : Board → Apertures → Row → BoardFunction
 left b a r = record { path = r.path; decl = r.decl; file = set_up_file b a r.path r.decl }
 
-all_map : {A B : Type 0} (t : B → Bool) (f : A → B) (xs : List A) → list_all t (map f xs) ≡ list_all (λ x. t (f x)) xs
-all_map t f [] = refl
-all_map t f (x ∷ xs) = ap (λ u. t (f x) && u) (all_map t f xs)
-
 no_claims : (t : Bool) → cond {A = List Claim} t [] [] ≡ []
 no_claims true = refl
 no_claims false = refl
@@ -70,6 +65,18 @@ flat_map_same f g (x ∷ xs) h = ap₂ ◌++◌ (h x (inl refl)) (flat_map_same 
 flat_map_flat : {A B C : Type 0} (f : B → List C) (g : A → List B) (xs : List A) → flat_map f (flat_map g xs) ≡ flat_map (λ x. flat_map f (g x)) xs
 flat_map_flat f g [] = refl
 flat_map_flat f g (x ∷ xs) = flat_map-append f (g x) (flat_map g xs) ∙ ap (λ ys. flat_map f (g x) ++ ys) (flat_map_flat f g xs)
+
+module _ (b : Board) (a : Apertures) (can : CanBePlaced b a) (lawful : IsLawful b a (layout b a)) (has : HasRows b a) where
+  pub bases : (r : Row) (e : Endpoint) → IsIn r b → r.decl ≡ endpoint e → Each (λ g. base (set_up_file b a r.path (endpoint e)) g.index g.kind ≡ first_of b a r.path g) e.regions
+  bases r e m decl_is =
+      let regions : HasLawfulRegions e.regions = lawful_regions b can.declarations r e m decl_is in
+      bases_read e (is_multifunction b r.path) (command_of e) (first_of b a r.path) (each_from (λ k. 0x40 ≤ k.offset) e.blocks (λ k i. (each_in IsConfigBlock k e.blocks (lawful_decl b can.declarations r e m decl_is).config_blocks i).begins)) regions.in_order
+      (each_from (λ g. g.index + registers_of g.kind ≤ 6) e.regions (λ g k. (each_in IsLawfulRegion g e.regions regions.each k).registers))
+      (each_from (λ g. FitsRegister g.kind (first_of b a r.path g)) e.regions (λ g k.
+      let there : IsIn (region_row b a r.path g) (layout b a) = region_there b a has r e g m decl_is k in
+      fits_register a (bridges_above b r.path) g (region_row b a r.path g) can.apertures (each_in IsLawfulRegion g e.regions regions.each k) refl
+      (each_in (λ (l : LayoutRow). IsAligned l l.what) (region_row b a r.path g) (layout b a) lawful.aligned there)
+      (each_in (λ (l : LayoutRow). InAperture a l.pool l) (region_row b a r.path g) (layout b a) lawful.in_apertures there)))
 
 module _ (b : Board) (a : Apertures) (can : CanBePlaced b a) (lawful : IsLawful b a (layout b a)) (has : HasRows b a) (windows : Each (λ r. HasPlacedWindows b a r.path r.decl) b) where
   -- a bridge above a row of the layout has a window that holds the row's addresses
@@ -108,29 +115,14 @@ module _ (b : Board) (a : Apertures) (can : CanBePlaced b a) (lawful : IsLawful 
 
     by_row : (s : Row) (n : ℕ) → IsIn s b → row.first ≤ n → n < row.first + row.size → (t : Bool) → leads_to s.path r.path ≡ t → (not t || forwards (space_of g.kind) n (left b a s)) ≡ true
     by_row s n m low high false h = refl
-    by_row s n m low high true h =
-        let some : 0 < length s.path = (each_in (λ (x : Row). IsPath x.path) s b can.places.paths m).some in
-        let d : BridgeAt b can.places s.path = bridge_above b can.places r s.path on_board h some in
-        let same : is_bridge d.0.decl ≡ is_bridge s.decl = ap (λ (x : Row). is_bridge x.decl) (one_row b can.places d.0 s d.1 m d.3) in
-        by_decl s.path s.decl n (sym same ∙ d.2) m h low high
+    by_row s n m low high true h = search (rules, each_in, bridge_above, one_row, by_decl)
 
     forwarded : (n : ℕ) → row.first ≤ n → n < row.first + row.size → is_forwarded (set_up_state b a).functions r.path (space_of g.kind) n ≡ true
     forwarded n low high =
-        all_map (λ (f : BoardFunction). not (leads_to f.path r.path) || forwards (space_of g.kind) n f) (left b a) b
+        list_all-map (λ (f : BoardFunction). not (leads_to f.path r.path) || forwards (space_of g.kind) n f) (left b a) b
         ∙ all_from (λ (s : Row). not (leads_to s.path r.path) || forwards (space_of g.kind) n (left b a s)) b (λ s m. by_row s n m low high (leads_to s.path r.path) refl)
 
   -- ---- an endpoint decodes where its regions are placed
-
-  bases : (r : Row) (e : Endpoint) → IsIn r b → r.decl ≡ endpoint e → Each (λ g. base (set_up_file b a r.path (endpoint e)) g.index g.kind ≡ first_of b a r.path g) e.regions
-  bases r e m decl_is =
-      let regions : HasLawfulRegions e.regions = lawful_regions b can.declarations r e m decl_is in
-      bases_read e (is_multifunction b r.path) (command_of e) (first_of b a r.path) (each_from (λ k. 0x40 ≤ k.offset) e.blocks (λ k i. (each_in IsConfigBlock k e.blocks (lawful_decl b can.declarations r e m decl_is).config_blocks i).begins)) regions.in_order
-      (each_from (λ g. g.index + registers_of g.kind ≤ 6) e.regions (λ g k. (each_in IsLawfulRegion g e.regions regions.each k).registers))
-      (each_from (λ g. FitsRegister g.kind (first_of b a r.path g)) e.regions (λ g k.
-      let there : IsIn (region_row b a r.path g) (layout b a) = region_there b a has r e g m decl_is k in
-      fits_register a (bridges_above b r.path) g (region_row b a r.path g) can.apertures (each_in IsLawfulRegion g e.regions regions.each k) refl
-      (each_in (λ (l : LayoutRow). IsAligned l l.what) (region_row b a r.path g) (layout b a) lawful.aligned there)
-      (each_in (λ (l : LayoutRow). InAperture a l.pool l) (region_row b a r.path g) (layout b a) lawful.in_apertures there)))
 
   drop_open : (o t u v : Bool) → (t ≡ true → o ≡ true) → (o && t && u && v) ≡ (t && u && v)
   drop_open true t u v h = refl
@@ -145,7 +137,7 @@ module _ (b : Board) (a : Apertures) (can : CanBePlaced b a) (lawful : IsLawful 
       let opened : same_space (space_of g.kind) space ≡ true → is_open file space ≡ true =
       (λ h. endpoint_opens e (is_multifunction b r.path) (first_of b a r.path) space ∙ any_in (λ (x : Region). same_space (space_of x.kind) space) g e.regions k h) in
       ap (λ (x : ℕ). cond (is_open file space && same_space (space_of g.kind) space && leb x n && ltb n (x + g.size)) (Some (record { index = g.index; offset = n - x })) None)
-      (each_in (λ (x : Region). base file x.index x.kind ≡ first_of b a r.path x) g e.regions (bases r e m decl_is) k)
+      (each_in (λ (x : Region). base file x.index x.kind ≡ first_of b a r.path x) g e.regions (bases b a can lawful has r e m decl_is) k)
       ∙ ap (λ (t : Bool). cond t (Some (record { index = g.index; offset = n - first_of b a r.path g })) None)
       (drop_open (is_open file space) (same_space (space_of g.kind) space) (leb (first_of b a r.path g) n) (ltb n (first_of b a r.path g + g.size)) opened)
 
@@ -205,11 +197,7 @@ module _ (b : Board) (a : Apertures) (can : CanBePlaced b a) (lawful : IsLawful 
         ∙ ap (λ (x : ℕ). Some (record { path = q.path; index = q.index; offset = x })) offset
 
     byte : (q : PlacedRegion) → IsIn q (placed_regions b a) → (k : ℕ) → k < q.size → IsClaimed fs q k
-    byte q m k small = record { forwarded = reached (source b a q m) k small; claimed = claimed q m (self_space q.space) k small }
-      where
-        reached : Source b a q → (k : ℕ) → k < q.size → is_forwarded fs q.path q.space (q.first + k) ≡ true
-        reached s = subst (λ (x : PlacedRegion). (k : ℕ) → k < x.size → is_forwarded fs x.path x.space (x.first + k) ≡ true) (sym s.is)
-            (λ j l. way s.row.path (space_of s.region.kind) (first_of b a s.row.path s.region + j) ∙ forwarded s.row s.decl s.region s.there s.decl_is s.declared (first_of b a s.row.path s.region + j) (omega arith) (omega arith))
+    byte q m k small = grind (arith, forwarded, source, claimed, self_space, way)
 
     unique : HasUniqueClaims b a fs
     unique = record { only = only; first = first; each_byte = each_from (λ q. (k : ℕ) → k < q.size → IsClaimed fs q k) (placed_regions b a) byte; apart = apart }

@@ -7,7 +7,7 @@ use Rattle.model_registers.specs.BridgeTable.{BridgeValues, bridge_file}
 use Rattle.model_board.specs.Windows.{Window, window, io_window, pref_window}
 use Rattle.model_set_up.specs.WindowLaws.{closed_io, closed_memory, Closes, ClosedWindows, io_reach, pref_reach, IsWhole, NamedWindows}
 use Rattle.model_set_up.specs.Pools.{has_io, has_pref}
-use Rattle.model_set_up.proofs.SetUpWindows.{io_reads, mem_reads, pref_reads_low, pref_reads}
+use Rattle.model_set_up.proofs.SetUpRegisters.{io_reads, mem_reads, pref_reads_low, pref_reads}
 
 -- ---- windows
 

@@ -11,8 +11,7 @@ use Rattle.model_set_up.specs.FunctionTable.{TableRow, board_in}
 use Rattle.model_set_up.specs.UniqueClaimant.{CanBePlaced}
 use Rattle.model_set_up.specs.Pools.{Pool}
 use Rattle.model_set_up.specs.Placement.{items_on}
-use Rattle.model_set_up.proofs.FoundBoards.{board_in_table}
-use Rattle.model_set_up.proofs.FoundPlacement.{on_bus, placed_as_found}
+use Rattle.model_set_up.proofs.FoundBoards.{board_in_table, on_bus, placed_as_found}
 use Rattle.bus_scan.specs.declared.fault.Fault.{Fault}
 use Rattle.bus_scan.specs.SizedTables.{IsTableOf}
 use Rattle.window_packing.specs.LayoutRows.{rows_of, AreListable}

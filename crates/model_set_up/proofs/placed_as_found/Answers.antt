@@ -1,4 +1,4 @@
-use Rattle.model_set_up.proofs.FoundPlacement.{placed_as_found}
+use Rattle.model_set_up.proofs.FoundBoards.{placed_as_found}
 use Rattle.model_set_up.proofs.placed_as_found.Goals as goal
 
 pub returns : goal.returns

@@ -1,8 +1,7 @@
-use Rattle.std.proofs.Common.{[]}
-use Rattle.model_set_up.proofs.OnlyNamed.{only_named}
-use Rattle.model_set_up.proofs.Routes.{one_route, reached_by_numbers}
+use Rattle.model_set_up.proofs.Routes.{only_named, one_route, reached_by_numbers}
 use Rattle.model_set_up.proofs.SetUpNumbers.{set_up_has_numbers}
 use Rattle.model_set_up.proofs.reached_by_numbers.Goals as goal
+use Rattle.std.proofs.Common.{[]}
 
 pub returns : goal.returns
 returns c = record {
