@@ -10,9 +10,6 @@ first_after zero fs = fs
 first_after (suc n) [] = []
 first_after (suc n) (f ∷ fs) = record f { now = f.initial } ∷ first_after n fs
 
-pub first_none : (fs : List CellFile) → fs ≡ first_after 0 fs
-first_none fs = refl
-
 -- the next one is as it was
 pub next_is : (n : ℕ) (fs : List CellFile) → slice_get (first_after n fs) n ≡ slice_get fs n
 next_is zero fs = refl

@@ -1,6 +1,6 @@
 -- One node changed: the layout stays, and so do all other functions.
-use Rattle.std.proofs.Common.{◌≡◌, ℕ, ◌<◌, Bool, true, false, cond, Option, Some, None, List, [], ◌∷◌, map, zero, suc, refl, ap, ap₂, sym, ◌∙◌, arith, inl, inr, ◌⊎◌, subst, get_or}
-use Rattle.std.specs.Prelude.{find}
+use Rattle.std.proofs.Common.{◌≡◌, ℕ, ◌<◌, Bool, true, false, cond, Option, Some, None, List, [], ◌∷◌, map, zero, suc, refl, ap, ap₂, sym, ◌∙◌, arith, inl, inr, ◌⊎◌, subst, get_or, rules}
+use Rattle.std.specs.Prelude.{find, IsSome}
 use Rattle.std.specs.List.{slice_get, slice_set}
 use Rattle.std.specs.Option.{option_map_or}
 use Rattle.std.proofs.lemmas.Option.{slice_get_within}
@@ -21,20 +21,15 @@ use Rattle.bridge_forward.specs.declared.function.Function.TheVariants.{Endpoint
 use Rattle.bridge_forward.specs.Functions.{decl_of, file_of, with_cells, endpoint_in}
 use Rattle.model_registers.specs.CopiedFiles.{after_reset}
 use Rattle.bridge_forward.specs.ResetAlone.{after_leaf_reset}
-use Rattle.bridge_forward.specs.Layout.{paths_of, ends_of, function_of, functions_of, AreLaid, IsLaidOut}
-use Rattle.bridge_forward.specs.Lending.{as_endpoint, endpoint_at, with_endpoint, with_endpoint_reset}
+use Rattle.bridge_forward.specs.Layout.{function_of, functions_of, IsLaidOut}
+use Rattle.bridge_forward.specs.Lending.{as_endpoint, endpoint_at, with_endpoint, with_endpoint_reset, endpoint_nth, with_endpoint_nth}
 use Rattle.bridge_forward.specs.Search.{IsAt}
 use Rattle.lists.proofs.Indices.{read_at, same_at, map_at, at_map, map_set, set_same, found_at}
 use Rattle.bridge_forward.proofs.Nodes.{ordered}
 
 -- another function at one place leaves the layout
 pub laid_set : (nodes : List Node) (i : ℕ) (n : Node) (f : Function) → slice_get nodes i ≡ Some n → IsLaidOut nodes → IsLaidOut (slice_set nodes i (record n { function = f }))
-laid_set nodes i n f e laid =
-    subst (λ (ps : List Path). AreLaid ps (ends_of (slice_set nodes i (record n { function = f })))) (sym (same_map Path (λ (m : Node). m.path) refl))
-    (subst (λ (es : List ℕ). AreLaid (paths_of nodes) es) (sym (same_map ℕ (λ (m : Node). m.end) refl)) laid)
-  where
-    same_map : (B : Type 0) (g : Node → B) → g (record n { function = f }) ≡ g n → map g (slice_set nodes i (record n { function = f })) ≡ map g nodes
-    same_map B g q = map_set g nodes i (record n { function = f }) ∙ ap (slice_set (map g nodes) i) q ∙ set_same (map g nodes) i (g n) (map_at g nodes i n e)
+laid_set nodes i n f e laid = search (rules, map_set, set_same, map_at)
 
 -- a map that changes one element alone
 map_one : {A : Type 0} (t : A → Bool) (g : A → A) (xs : List A) (i : ℕ) (x : A) → slice_get xs i ≡ Some x → t x ≡ true → ((j : ℕ) (y : A) → (j ≡ i → ⊥) → slice_get xs j ≡ Some y → t y ≡ false)
@@ -53,11 +48,7 @@ map_one t g (y ∷ ys) (suc i) x e h k =
 -- files that are left as they are
 pub same_files : (p : Path) (fs : List BoardFunction) → with_file (λ file. file) p fs ≡ fs
 same_files p [] = refl
-same_files p (f ∷ fs) = ap₂ (λ (g : BoardFunction) (gs : List BoardFunction). g ∷ gs) (either (path_eq f.path p)) (same_files p fs)
-  where
-    either : (t : Bool) → cond t (record f { file = f.file }) f ≡ f
-    either true = refl
-    either false = refl
+same_files p (f ∷ fs) = search (rules, same_files p fs)
 
 -- no endpoint is reset where no function stands
 pub none_back : (p : Path) (fs : List BoardFunction) → find (λ f. path_eq f.path p) fs ≡ None → fs ≡ with_endpoint_reset p fs
@@ -108,23 +99,11 @@ module _ (nodes : List Node) (laid : IsLaidOut nodes) (i : ℕ) (n : Node) (e : 
         ∙ ap (λ p. with_endpoint p w (functions_of nodes)) path_is
 
     pub endpoint_there : endpoint_in n.function ≡ endpoint_at (functions_of nodes) path
-    endpoint_there = same n.function ∙ sym (ap (λ o. Rattle.std.specs.Option.option_map_or as_endpoint o None) at)
-      where
-        same : (f : Function) → endpoint_in f ≡ as_endpoint (function_of (record n { function = f }))
-        same (Endpoint w) = refl
-        same (Bridge b) = refl
+    endpoint_there = search rules
 
     -- with that endpoint reset
     pub endpoint_back : functions_of (slice_set nodes i (record n { function = with_cells n.function (after_leaf_reset (decl_of n.function) (file_of n.function)) })) ≡ with_endpoint_reset path (functions_of nodes)
-    endpoint_back =
-        cells_set (after_leaf_reset (decl_of n.function))
-        ∙ ap (λ (p : Path). with_file (after_leaf_reset (decl_of n.function)) p (functions_of nodes)) path_is
-        ∙ by_kind n.function
-        ∙ ap (λ o. option_map_or (λ (e : decoding.Function). with_file (after_reset e.decl) path (functions_of nodes)) o (functions_of nodes)) endpoint_there
-      where
-        by_kind : (f : Function) → with_file (after_leaf_reset (decl_of f)) path (functions_of nodes) ≡ option_map_or (λ (e : decoding.Function). with_file (after_reset e.decl) path (functions_of nodes)) (endpoint_in f) (functions_of nodes)
-        by_kind (Endpoint w) = refl
-        by_kind (Bridge b) = same_files path (functions_of nodes)
+    endpoint_back = search (rules, cells_set, path_is, endpoint_there, same_files)
 
   pub kept : functions_of (slice_set nodes i n) ≡ functions_of nodes
   kept = ap functions_of (set_same nodes i n e)
@@ -147,3 +126,22 @@ node_there nodes ms i n a q h e =
 -- two ways to write what a lender ends as
 pub same_read : {D E : Type 0} (n : Opt GName) (f g : E → D) (d e : D) → ((w : E) → f w ≡ g w) → d ≡ e → read_of n f d ≡ read_of n g e
 same_read n f g d e p q = λ i. read_of n (λ w. p w i) (q i)
+
+-- ---- one function of the list, by its index
+
+module _ (nodes : List Node) (i : ℕ) (n : Node) (e : slice_get nodes i ≡ Some n) where
+  pub nth_set : (w : decoding.Function) → functions_of (slice_set nodes i (record n { function = Endpoint w })) ≡ with_endpoint_nth i w (functions_of nodes)
+  nth_set w =
+      map_set function_of nodes i (record n { function = Endpoint w })
+      ∙ sym (ap (λ (o : Option BoardFunction). option_map_or (λ (f : BoardFunction). slice_set (functions_of nodes) i (record { path = f.path; decl = endpoint w.decl; file = w.file })) o (functions_of nodes)) (map_at function_of nodes i n e))
+
+  pub nth_there : endpoint_in n.function ≡ endpoint_nth (functions_of nodes) i
+  nth_there = same n.function ∙ sym (ap (λ o. option_map_or as_endpoint o None) (map_at function_of nodes i n e))
+    where
+      same : (f : Function) → endpoint_in f ≡ as_endpoint (function_of (record n { function = f }))
+      same (Endpoint w) = refl
+      same (Bridge b) = refl
+
+  -- an endpoint that stands there is the one at the index
+  pub nth_is : (w : decoding.Function) → n.function ≡ Endpoint w → IsSome (endpoint_nth (functions_of nodes) i)
+  nth_is w is = subst (λ (o : Option decoding.Function). IsSome o) (nth_there) (subst (λ (f : Function). IsSome (endpoint_in f)) (sym is) refl)

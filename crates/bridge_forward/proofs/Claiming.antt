@@ -1,5 +1,5 @@
 -- The walk that looks for the first claim.
-use Rattle.std.proofs.Common.{◌≡◌, ℕ, ◌+◌, ◌<◌, ◌≤◌, Bool, true, false, not, ◌&&◌, ◌||◌, cond, Option, Some, None, List, [], ◌∷◌, length, zero, suc, refl, ap, sym, ◌∙◌, arith, inl, inr, ◌⊎◌, subst}
+use Rattle.std.proofs.Common.{◌≡◌, ℕ, ◌+◌, ◌<◌, ◌≤◌, Bool, true, false, not, ◌&&◌, ◌||◌, cond, Option, Some, None, List, [], ◌∷◌, length, zero, suc, refl, ap, ◌∙◌, arith, ◌⊎◌, rules}
 use Rattle.std.specs.Option.{option_map_or}
 use Rattle.std.specs.List.{slice_get, list_all}
 use Rattle.std.proofs.lemmas.Option.{slice_get_within}
@@ -52,17 +52,9 @@ module _ (nodes : List Node) (laid : IsLaidOut nodes) (space : Space) (a : ℕ) 
     pub silent : (j : ℕ) (n : Node) → j < i → slice_get nodes j ≡ Some n → claim_of fs space a (function_of n) ≡ None
     pub opened : (k : ℕ) (m : Node) → k < i → slice_get nodes k ≡ Some m → i < m.end → forwards space a (function_of m) ≡ true
 
-  pub passed_none : Passed 0
-  passed_none = record { silent = λ j n l e. absurd (omega arith); opened = λ k m l e g. absurd (omega arith) }
-
   -- the way to index i is open
   open_here : (i : ℕ) (n : Node) → Passed i → slice_get nodes i ≡ Some n → is_forwarded fs n.path space a ≡ true
-  open_here i n p e = all_at (λ (f : BoardFunction). not (leads_to f.path n.path) || forwards space a f) fs (λ j f ef.
-      let m = at_map function_of nodes j f ef in
-      subst (λ (g : BoardFunction). (not (leads_to g.path n.path) || forwards space a g) ≡ true) (sym m.2)
-      (or_right (leads_to m.0.path n.path) (forwards space a (function_of m.0)) (λ above.
-      let w = within_of_leads nodes laid j i m.0 n m.1 e above in
-      p.opened j m.0 w.0 m.1 w.1)))
+  open_here i n p e = search (rules, all_at, at_map, or_right, within_of_leads)
 
   -- what stands behind a function that doesn't forward has no claim
   shut_behind : (i j : ℕ) (m n : Node) → slice_get nodes i ≡ Some m → slice_get nodes j ≡ Some n → i < j → j < m.end → forwards space a (function_of m) ≡ false → claim_of fs space a (function_of n) ≡ None
@@ -72,45 +64,15 @@ module _ (nodes : List Node) (laid : IsLaidOut nodes) (space : Space) (a : ℕ) 
       (asked_false (leads_to m.path n.path) (forwards space a (function_of m)) (leads_within nodes laid i j m n em en l g) f))
 
   no_claim : (n : Node) → endpoint_hit (function_of n) space a ≡ None → claim_of fs space a (function_of n) ≡ None
-  no_claim n d = ap (λ o. cond (is_forwarded fs n.path space a) (option_map_or (λ (h : Hit). Some (claim_at n.path h)) o None) None) d ∙ none_either (is_forwarded fs n.path space a)
-    where
-      none_either : (t : Bool) → cond {A = Option Rattle.model_board.specs.Claims.Claim} t None None ≡ None
-      none_either true = refl
-      none_either false = refl
+  no_claim n d = search rules
 
   -- past a function that forwards, to what stands behind it
   pub passed_into : (i : ℕ) (n : Node) → Passed i → slice_get nodes i ≡ Some n → endpoint_hit (function_of n) space a ≡ None → forwards space a (function_of n) ≡ true → Passed (i + 1)
-  passed_into i n p e d f = record {
-    silent = λ j m l em. by_silent j m em (sides j i) l;
-    opened = λ k m l em g. by_opened k m em g (sides k i) l;
-  }
-    where
-      by_silent : (j : ℕ) (m : Node) → slice_get nodes j ≡ Some m → (j < i) ⊎ ((j ≡ i) ⊎ (i < j)) → j < i + 1 → claim_of fs space a (function_of m) ≡ None
-      by_silent j m em (inl b) l = p.silent j m b em
-      by_silent j m em (inr (inl q)) l = let same : m ≡ n = cc in ap (λ (z : Node). claim_of fs space a (function_of z)) same ∙ no_claim n d
-      by_silent j m em (inr (inr b)) l = absurd (omega arith)
-
-      by_opened : (k : ℕ) (m : Node) → slice_get nodes k ≡ Some m → i + 1 < m.end → (k < i) ⊎ ((k ≡ i) ⊎ (i < k)) → k < i + 1 → forwards space a (function_of m) ≡ true
-      by_opened k m em g (inl b) l = p.opened k m b em (omega arith)
-      by_opened k m em g (inr (inl q)) l = let same : m ≡ n = cc in ap (λ (z : Node). forwards space a (function_of z)) same ∙ f
-      by_opened k m em g (inr (inr b)) l = absurd (omega arith)
+  passed_into i n p e d f = search (rules, sides, no_claim)
 
   -- past a function that doesn't forward, and all that stands behind it
   pub passed_over : (i : ℕ) (n : Node) → Passed i → slice_get nodes i ≡ Some n → endpoint_hit (function_of n) space a ≡ None → forwards space a (function_of n) ≡ false → Passed n.end
-  passed_over i n p e d f = record {
-    silent = λ j m l em. by_silent j m em l (sides j i);
-    opened = λ k m l em g. by_opened k m em l g (sides k i);
-  }
-    where
-      by_silent : (j : ℕ) (m : Node) → slice_get nodes j ≡ Some m → j < n.end → (j < i) ⊎ ((j ≡ i) ⊎ (i < j)) → claim_of fs space a (function_of m) ≡ None
-      by_silent j m em l (inl b) = p.silent j m b em
-      by_silent j m em l (inr (inl q)) = let same : m ≡ n = cc in ap (λ (z : Node). claim_of fs space a (function_of z)) same ∙ no_claim n d
-      by_silent j m em l (inr (inr b)) = shut_behind i j n m e em b l f
-
-      by_opened : (k : ℕ) (m : Node) → slice_get nodes k ≡ Some m → k < n.end → n.end < m.end → (k < i) ⊎ ((k ≡ i) ⊎ (i < k)) → forwards space a (function_of m) ≡ true
-      by_opened k m em l g (inl b) = let w = inside nodes laid i n e in p.opened k m b em (omega (arith, w.0, g))
-      by_opened k m em l g (inr (inl q)) = let same : m ≡ n = cc in let w : m.end ≡ n.end = ap (λ (z : Node). z.end) same in absurd (omega (arith, w))
-      by_opened k m em l g (inr (inr b)) = let w = nested nodes laid i k n m e em b l in absurd (omega (arith, w, g))
+  passed_over i n p e d f = search (rules, sides, no_claim, shut_behind, inside, nested)
 
   -- the first claim stands at index i
   pub claim_here : (i : ℕ) (n : Node) (h : Hit) → Passed i → slice_get nodes i ≡ Some n → endpoint_hit (function_of n) space a ≡ Some h → first_claim fs space a ≡ Some (claim_at n.path h)
@@ -121,10 +83,7 @@ module _ (nodes : List Node) (laid : IsLaidOut nodes) (space : Space) (a : ℕ) 
       (λ j f l ef. let m = at_map function_of nodes j f ef in ap (claim_of fs space a) m.2 ∙ p.silent j m.0 l m.1)
 
   pub claim_nowhere : (i : ℕ) → Passed i → length nodes ≤ i → first_claim fs space a ≡ None
-  claim_nowhere i p l = first_none (claim_of fs space a) fs (λ j f ef.
-      let m = at_map function_of nodes j f ef in
-      let w = slice_get_within nodes j m.0 m.1 in
-      ap (claim_of fs space a) m.2 ∙ p.silent j m.0 (omega (arith, w, l)) m.1)
+  claim_nowhere i p l = search (rules, first_none, at_map, slice_get_within)
 
   -- ---- one function
 

@@ -1,28 +1,30 @@
 -- Accesses of an endpoint's file, by the part that they reach.
-use Rattle.std.proofs.Common.{◌≡◌, ◌≢◌, ℕ, zero, suc, ◌+◌, ◌*◌, ◌-◌, ◌/◌, ◌%◌, ◌^◌, ◌<◌, ◌≤◌, ◌⊎◌, inl, inr, Bool, true, false, cond, Some, get_or, List, [], ◌∷◌, ◌++◌, map, length, refl, ap, ap₂, sym, ◌∙◌, subst, arith}
+use Rattle.std.proofs.Common.{◌≡◌, ◌≢◌, ℕ, zero, suc, ◌+◌, ◌/◌, ◌%◌, ◌<◌, ◌≤◌, ◌⊎◌, inl, inr, Bool, true, false, cond, Some, get_or, List, [], ◌∷◌, ◌++◌, map, length, refl, ap, ap₂, sym, ◌∙◌, subst, arith, rules}
 use Rattle.std.specs.Int.Bits.{or_zero_r, and_zero_r}
 use Rattle.std.specs.Prelude.{bit_and, bit_or, ◌==◌}
-use Rattle.lists.specs.Elements.{Each, EachPair}
-use Rattle.model_registers.specs.Cell.{raised}
-use Rattle.model_registers.specs.Registers.{config, block, Entry, File, cell_at, read, write, raise, field, in_region}
-use Rattle.model_registers.specs.FileLaws.{has_place, HasNone, IsConfigFile}
-use Rattle.model_registers.specs.Declarations.{Region, Endpoint, registers_of, HasLawfulRegions, IsLawfulRegion}
-use Rattle.model_registers.specs.EndpointTable.{type_bits, base_width, BaseAddress, register_cells, base_file, opened}
-use Rattle.model_registers.proofs.Files.{joined_write, joined_change, read_none, write_none, change_none, region_has_no_config, region_has_no_other, config_has_no_block, region_write, region_change, config_without_block}
-use Rattle.model_registers.proofs.Parts.{write_apart}
 use Rattle.std.specs.Option.{option_map_or}
 use Rattle.std.specs.List.{slice_get, slice_set}
 use Rattle.std.proofs.lemmas.Option.{slice_get_past}
-use Rattle.config_bytes.specs.CellFile.{CellFile}
+use Rattle.std.proofs.lemmas.Bool.{cases_eq}
+use Rattle.std.proofs.lemmas.Bool.Decides.{nat_tests}
+use Rattle.lists.specs.Elements.{Each, EachPair}
+use Rattle.model_registers.specs.Cell.{Cell, written, raised}
+use Rattle.model_registers.specs.Registers.{Place, config, block, after, Entry, File, cell_at, read, changed, write, raise, field, in_region}
+use Rattle.model_registers.specs.FileLaws.{has_place, HasNone, IsConfigFile}
+use Rattle.model_registers.specs.Declarations.{Region, Endpoint, HasLawfulRegions, IsLawfulRegion}
+use Rattle.model_registers.specs.EndpointTable.{BaseAddress, register_cells, base_file, opened}
+use Rattle.model_registers.proofs.Files.{joined_write, joined_change, read_none, write_none, change_none, region_has_no_config, region_has_no_other, config_has_no_block, region_write, region_change, config_without_block, config_stays, places_stay, change_keeps_places, changed_config, cell_none}
+use Rattle.model_registers.proofs.Parts.{write_apart, change_outside}
+use Rattle.config_bytes.specs.CellFile.{CellFile, places_of}
 use Rattle.lists.proofs.Indices.{read_at}
 use Rattle.model_registers.proofs.BareRegions.{bare_lawful, Follows}
-use Rattle.model_registers.proofs.Owned.{no_base}
+use Rattle.model_registers.proofs.Owned.{no_base, base_outside}
 use Rattle.model_registers.proofs.Bases.{registers_positive}
-use Rattle.bridge_forward.specs.EndpointParts.{block_at, region_parts, IsShort, AreParts}
+use Rattle.bridge_forward.specs.EndpointParts.{block_at, region_parts, IsShort, AreParts, IsHeaderKept}
 use Rattle.bridge_forward.proofs.RegionParts.{read_same, cell_second, cell_first, config_register, no_config_in, no_other_in, config_cell, Distinct, block_cell, IsChange, parts_changed, write_is_change, changed_is_change}
-
-same_or_other : (x y : ℕ) → (x ≡ y) ⊎ (x ≢ y)
-same_or_other x y = grind arith
+use Rattle.model_registers.specs.DeviceBytes.{is_device_byte, with_value, set_value}
+use Rattle.model_registers.proofs.RegisterFiles.{place_same}
+use Rattle.model_registers.proofs.DeviceBytes.{device_away}
 
 pub config_joined : (xs ys : File) → IsConfigFile xs → IsConfigFile ys → IsConfigFile (xs ++ ys)
 config_joined [] ys h k = k
@@ -72,12 +74,27 @@ distinct_opened : (bs : List BaseAddress) → EachPair Follows (map opened bs) �
 distinct_opened [] h = tt
 distinct_opened (b ∷ bs) h = (later b bs h.0, distinct_opened bs h.1)
 
+-- ---- places stay
+
+pub places_changed : (f : Cell → Cell) (p : Place) (xs : File) → places_of (changed f p xs) ≡ places_of xs
+places_changed f p [] = refl
+places_changed f p (x ∷ xs) = search (rules, places_changed f p xs)
+
+pub places_written : (ons : List Bool) (v : ℕ) (p : Place) (xs : File) → places_of (write ons v p xs) ≡ places_of xs
+places_written [] v p xs = refl
+places_written (true ∷ ons) v p xs = places_written ons (v / 256) (after p) (changed (written (v % 256)) p xs) ∙ places_changed (written (v % 256)) p xs
+places_written (false ∷ ons) v p xs = places_written ons (v / 256) (after p) xs
+
 -- what a change of one block's cells does to each part
 pub record IsBlockChange (n : ℕ) (change inner : File → File) : Type 0 where
   pub change_is : IsChange change
   pub config_stays : (xs : File) → IsConfigFile xs → change xs ≡ xs
   pub here : (xs : File) → IsConfigFile xs → change (in_region n xs) ≡ in_region n (inner xs)
   pub other : (m : ℕ) (xs : File) → m ≢ n → change (in_region m xs) ≡ in_region m xs
+  pub places_kept : (xs : File) → IsConfigFile xs → IsConfigFile (inner xs)
+  pub place_stays : (xs : File) (q : ℕ) → has_place (inner xs) (config q) ≡ has_place xs (config q)
+  pub all_places : (xs : File) → places_of (inner xs) ≡ places_of xs
+  pub none : inner [] ≡ []
 
 pub write_in_block : (n off v : ℕ) (ons : List Bool) → IsBlockChange n (write ons v (block n off)) (write ons v (config off))
 write_in_block n off v ons = record {
@@ -85,14 +102,22 @@ write_in_block n off v ons = record {
   config_stays = λ xs h. write_none ons v (block n off) xs (config_has_no_block ons n off xs h);
   here = λ xs h. region_write ons v n off xs h;
   other = λ m xs e. write_none ons v (block n off) (in_region m xs) (region_has_no_other ons m n off xs e);
+  places_kept = λ xs h. config_stays ons v (config off) xs h;
+  place_stays = λ xs q. places_stay ons v (config off) (config q) xs;
+  all_places = λ xs. places_written ons v (config off) xs;
+  none = Rattle.model_registers.proofs.Parts.write_none ons v (config off);
 }
 
-pub raise_in_block : (n off mask : ℕ) → IsBlockChange n (raise mask (block n off)) (raise mask (config off))
-raise_in_block n off mask = record {
-  change_is = changed_is_change (raised mask) (block n off);
-  config_stays = λ xs h. change_none (raised mask) xs (block n off) (config_without_block xs n off h);
-  here = λ xs h. region_change (raised mask) n off xs h;
-  other = λ m xs e. change_none (raised mask) (in_region m xs) (block n off) (no_other_in m n off xs e);
+pub change_in_block : (f : Cell → Cell) (n off : ℕ) → IsBlockChange n (changed f (block n off)) (changed f (config off))
+change_in_block f n off = record {
+  change_is = changed_is_change f (block n off);
+  config_stays = λ xs h. change_none f xs (block n off) (config_without_block xs n off h);
+  here = λ xs h. region_change f n off xs h;
+  other = λ m xs e. change_none f (in_region m xs) (block n off) (no_other_in m n off xs e);
+  places_kept = λ xs h. changed_config f (config off) xs h;
+  place_stays = λ xs q. change_keeps_places f (config off) (config q) xs;
+  all_places = λ xs. places_changed f (config off) xs;
+  none = refl;
 }
 
 -- no cell stands at the enabled places
@@ -107,8 +132,8 @@ read_past xs short off ons l = read_none ons (config off) xs (none_from xs ons o
 pub write_past : (xs : File) → IsShort xs → (off v : ℕ) (ons : List Bool) → 0x10000 ≤ off → write ons v (config off) xs ≡ xs
 write_past xs short off v ons l = write_none ons v (config off) xs (none_from xs ons off (λ q k h. short q (omega arith)))
 
-pub raise_past : (xs : File) → IsShort xs → (off mask : ℕ) → 0x10000 ≤ off → raise mask (config off) xs ≡ xs
-raise_past xs short off mask l = change_none (raised mask) xs (config off) (short off l)
+pub change_past : (f : Cell → Cell) (xs : File) → IsShort xs → (off : ℕ) → 0x10000 ≤ off → changed f (config off) xs ≡ xs
+change_past f xs short off l = change_none f xs (config off) (short off l)
 
 -- a raise finds no clearable bit in a base register
 unraised : (t : Bool) (mask : ℕ) (e : Entry) → e.cell.clearable ≡ 0 → cond t (record e { cell = raised mask e.cell }) e ≡ e
@@ -163,7 +188,7 @@ module _ (d : Endpoint) (cells : File) (bars : List BaseAddress) (g : ℕ → Fi
   block_changed n change inner c h here other =
       c.change_is.joined cells (region_parts bars g)
       ∙ ap₂ (λ (xs ys : File). xs ++ ys) (c.config_stays cells parts.config_places)
-      (parts_changed change c.change_is bars bars g h refl (sym (c.config_stays (base_file bars) (config_bases bars))) (λ m. by_index m (same_or_other m n)))
+      (parts_changed change c.change_is bars bars g h refl (sym (c.config_stays (base_file bars) (config_bases bars))) (λ m. by_index m (cases_eq m n)))
     where
       by_index : (m : ℕ) → (m ≡ n) ⊎ (m ≢ n) → change (in_region m (g m)) ≡ in_region m (h m)
       by_index m (inl e) =
@@ -171,27 +196,7 @@ module _ (d : Endpoint) (cells : File) (bars : List BaseAddress) (g : ℕ → Fi
       by_index m (inr e) = c.other m (g m) e ∙ sym (ap (in_region m) (other m e))
 
   pub block_kept : (n : ℕ) (h : ℕ → File) → IsConfigFile (h n) → ((q : ℕ) → has_place (h n) (config q) ≡ has_place (g n) (config q)) → (g n ≡ [] → h n ≡ []) → ((m : ℕ) → m ≢ n → h m ≡ g m) → AreParts d cells bars h
-  block_kept n h places same none other = record {
-    lawful = parts.lawful;
-    registers = parts.registers;
-    config_places = parts.config_places;
-    config_within = parts.config_within;
-    block_places = λ m. by_places m (same_or_other m n);
-    block_within = λ m q l. by_within m q l (same_or_other m n);
-    unused = λ m u. by_unused m u (same_or_other m n);
-  }
-    where
-      by_places : (m : ℕ) → (m ≡ n) ⊎ (m ≢ n) → IsConfigFile (h m)
-      by_places m (inl e) = subst (λ k. IsConfigFile (h k)) (sym e) places
-      by_places m (inr e) = subst IsConfigFile (sym (other m e)) (parts.block_places m)
-
-      by_within : (m q : ℕ) → 0x1000 ≤ q → (m ≡ n) ⊎ (m ≢ n) → has_place (h m) (config q) ≡ false
-      by_within m q l (inl e) = ap (λ k. has_place (h k) (config q)) e ∙ same q ∙ parts.block_within n q l
-      by_within m q l (inr e) = ap (λ (xs : File). has_place xs (config q)) (other m e) ∙ parts.block_within m q l
-
-      by_unused : (m : ℕ) → Each (λ (b : BaseAddress). b.index ≢ m) bars → (m ≡ n) ⊎ (m ≢ n) → h m ≡ []
-      by_unused m u (inl e) = ap h e ∙ none (ap g (sym e) ∙ parts.unused m u)
-      by_unused m u (inr e) = other m e ∙ parts.unused m u
+  block_kept n h places same none other = search (rules, cases_eq)
 
   -- ---- changes of configuration cells
 
@@ -222,13 +227,7 @@ module _ (d : Endpoint) (cells : File) (bars : List BaseAddress) (g : ℕ → Fi
   -- base registers stay where a write meets none
   bases_stay : (bs : List BaseAddress) → Each IsLawfulRegion (map opened bs) → (ons : List Bool) (v off : ℕ) → (off + length ons ≤ 0x10) ⊎ (0x28 ≤ off) → write ons v (config off) (base_file bs) ≡ base_file bs
   bases_stay [] l ons v off w = Rattle.model_registers.proofs.Parts.write_none ons v (config off)
-  bases_stay (b ∷ bs) l ons v off w =
-      let within = l.0.registers in
-      joined_write ons v (config off) (register_cells b) (base_file bs)
-      ∙ ap₂ (λ (xs ys : File). xs ++ ys)
-      (write_apart ons v off (4 * registers_of b.kind) (0x10 + 4 * b.index) (b.base + type_bits b.kind) (2 ^ base_width b.kind - b.size) 0
-      (elim w [ inl low ↦ inl (omega arith) | inr high ↦ inr (omega (arith, within)) ]))
-      (bases_stay bs l.1 ons v off w)
+  bases_stay (b ∷ bs) l ons v off w = search (rules, joined_write, write_apart, bases_stay bs l.1 ons v off w)
 
   pub write_config : (off v : ℕ) (ons : List Bool) → (off + length ons ≤ 0x10) ⊎ (0x28 ≤ off) → write ons v (config off) file ≡ write ons v (config off) cells ++ region_parts bars g
   write_config off v ons w =
@@ -239,11 +238,7 @@ module _ (d : Endpoint) (cells : File) (bars : List BaseAddress) (g : ℕ → Fi
 
   bases_unraised : (bs : List BaseAddress) (mask off : ℕ) → raise mask (config off) (base_file bs) ≡ base_file bs
   bases_unraised [] mask off = refl
-  bases_unraised (b ∷ bs) mask off =
-      joined_change (raised mask) (config off) (register_cells b) (base_file bs)
-      ∙ ap₂ (λ (xs ys : File). xs ++ ys)
-      (raise_field mask off (4 * registers_of b.kind) (0x10 + 4 * b.index) (b.base + type_bits b.kind) (2 ^ base_width b.kind - b.size))
-      (bases_unraised bs mask off)
+  bases_unraised (b ∷ bs) mask off = search (rules, joined_change, raise_field, bases_unraised bs mask off)
 
   pub raise_config : (off mask : ℕ) → raise mask (config off) file ≡ raise mask (config off) cells ++ region_parts bars g
   raise_config off mask =
@@ -256,9 +251,6 @@ module _ (d : Endpoint) (cells : File) (bars : List BaseAddress) (g : ℕ → Fi
   write_base off v ons cs low high same bases =
       config_changed (write ons v (config off)) (write_is_change ons v (config off)) (λ m xs. write_none ons v (config off) (in_region m xs) (region_has_no_config ons m off xs)) cs (sym same) bases
       ∙ ap (λ (xs : File). xs ++ region_parts cs g) (write_none ons v (config off) cells (none_from cells ons off (λ q l h. parts.config_within q (inl (omega arith, omega arith)))))
-
-  pub config_short : IsShort cells
-  config_short off l = parts.config_within off (inr (omega arith))
 
   pub block_short : (n : ℕ) → IsShort (g n)
   block_short n off l = parts.block_within n off (omega arith)
@@ -279,11 +271,34 @@ module _ (d : Endpoint) (cells : File) (bars : List BaseAddress) (g : ℕ → Fi
       pub table_changed : change file ≡ cells ++ region_parts bars (block_at (slice_set blocks n k))
       table_changed = block_changed n change inner c (block_at (slice_set blocks n k)) set_is (others k)
 
-      pub table_kept : ((xs : File) → IsConfigFile xs → IsConfigFile (inner xs)) → ((xs : File) (q : ℕ) → has_place (inner xs) (config q) ≡ has_place xs (config q)) → inner [] ≡ [] → AreParts d cells bars (block_at (slice_set blocks n k))
-      table_kept places same none =
-          block_kept n (block_at (slice_set blocks n k)) (subst IsConfigFile (sym set_is) (places (g n) (parts.block_places n)))
-          (λ q. ap (λ (xs : File). has_place xs (config q)) set_is ∙ same (g n) q) (λ e. set_is ∙ ap inner e ∙ none) (others k)
+      pub table_kept : AreParts d cells bars (block_at (slice_set blocks n k))
+      table_kept =
+          block_kept n (block_at (slice_set blocks n k)) (subst IsConfigFile (sym set_is) (c.places_kept (g n) (parts.block_places n)))
+          (λ q. ap (λ (xs : File). has_place xs (config q)) set_is ∙ c.place_stays (g n) q) (λ e. set_is ∙ ap inner e ∙ c.none) (others k)
 
   -- a register at which no block stands
-  pub nothing_there : (n : ℕ) (change inner : File → File) → IsBlockChange n change inner → g n ≡ [] → inner [] ≡ [] → change file ≡ file
-  nothing_there n change inner c e none = block_changed n change inner c g (e ∙ sym none ∙ sym (ap inner e)) (λ m d. refl)
+  pub nothing_there : (n : ℕ) (change inner : File → File) → IsBlockChange n change inner → g n ≡ [] → change file ≡ file
+  nothing_there n change inner c e = block_changed n change inner c g (e ∙ sym c.none ∙ sym (ap inner e)) (λ m d. refl)
+
+-- ---- what a device's own bytes hold, and what a value put into one changes, by the part of an endpoint that it reaches
+
+-- past all cells nothing stands
+pub value_past : (xs : File) → IsShort xs → (off : ℕ) → 0x10000 ≤ off → (cell_at xs (config off)).value ≡ 0
+value_past xs short off l = ap (λ (c : Cell). c.value) (cell_none xs (config off) (short off l))
+
+-- base registers have no such byte
+bases_unset : (f : Cell → Cell) (bs : List BaseAddress) → Each IsLawfulRegion (map opened bs) → (off : ℕ) → (off < 0x10) ⊎ (0x28 ≤ off) → changed f (config off) (base_file bs) ≡ base_file bs
+bases_unset f [] lawful off away = refl
+bases_unset f (b ∷ bs) lawful off away = search (rules, joined_change, change_outside, base_outside, bases_unset f bs lawful.1 off away)
+
+pub set_config : (d : Endpoint) (cells : File) (bars : List BaseAddress) (g : ℕ → File) → AreParts d cells bars g → (off v : ℕ) → is_device_byte (config off) ≡ true
+    → set_value v (config off) (cells ++ region_parts bars g) ≡ set_value v (config off) cells ++ region_parts bars g
+set_config d cells bars g parts off v reaches =
+    config_changed d cells bars g parts (set_value v (config off)) (changed_is_change (with_value (v % 256)) (config off))
+    (λ m xs. change_none (with_value (v % 256)) (in_region m xs) (config off) (no_config_in m off xs))
+    bars refl (sym (bases_unset (with_value (v % 256)) bars (lawful_bars d cells bars g parts).each off (device_away off reaches)))
+
+-- the header type is no such byte
+pub header_set : (f : Cell → Cell) (initial : File) (off : ℕ) → is_device_byte (config off) ≡ true → (xs : File) → Each (IsHeaderKept initial) xs → Each (IsHeaderKept initial) (changed f (config off) xs)
+header_set f initial off reaches [] h = tt
+header_set f initial off reaches (x ∷ xs) h = search (rules, nat_tests, place_same, header_set f initial off reaches xs h.1)

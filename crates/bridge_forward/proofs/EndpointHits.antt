@@ -1,11 +1,11 @@
 -- What an endpoint decodes is told by its Command and its base address registers.
-use Rattle.std.proofs.Common.{◌≡◌, ℕ, zero, suc, ◌+◌, ◌*◌, ◌/◌, ◌^◌, ◌<◌, ◌≤◌, inl, inr, List, [], ◌∷◌, ◌++◌, map, refl, ap, ap₂, sym, ◌∙◌, arith}
+use Rattle.std.proofs.Common.{◌≡◌, ℕ, zero, suc, ◌+◌, ◌*◌, ◌/◌, ◌^◌, ◌<◌, ◌≤◌, inl, inr, List, [], ◌∷◌, ◌++◌, map, refl, ap, ap₂, sym, ◌∙◌, arith, rules}
 use Rattle.std.proofs.Math.Nat.{mod-eq_of_lt}
-use Rattle.lists.specs.Elements.{Each, first_some}
+use Rattle.lists.specs.Elements.{Each}
 use Rattle.model_registers.specs.Registers.{config, File, number, all_bytes}
 use Rattle.model_registers.specs.Declarations.{Region, Kind, io_kind, mem32, mem64, registers_of, IsLawfulRegion, Endpoint}
 use Rattle.model_registers.specs.EndpointTable.{BaseAddress, base_file, command_cells, opened, HasLawfulBases}
-use Rattle.model_registers.specs.Decoding.{Space, base, base_address, hit_at, first_hit}
+use Rattle.model_registers.specs.Decoding.{Space, base, base_address, first_hit}
 use Rattle.model_registers.specs.OwnCopies.{bare}
 use Rattle.model_registers.proofs.Hits.{hits_by_bases, bases_of_registers}
 use Rattle.model_registers.proofs.RegisterFiles.{field_reads}
@@ -60,7 +60,4 @@ module _ (d : Endpoint) (cells : File) (bars : List BaseAddress) (g : ℕ → Fi
     command_now = is ∙ sym (read_config d cells bars g parts 4 (all_bytes 2) (inl (omega arith)))
 
     pub hits_same : (space : Space) (a : ℕ) → first_hit own (map opened bars) space a ≡ first_hit whole d.regions space a
-    hits_same space a =
-        hits_by_bases own (map opened bars) space a
-        ∙ ap₂ (λ c (bs : List BaseAddress). first_some (hit_at c space a) bs) word_same stand_same
-        ∙ sym (hits_by_bases whole d.regions space a)
+    hits_same space a = search (rules, hits_by_bases, word_same, stand_same)

@@ -1,5 +1,5 @@
--- The parts of an endpoint at reset.
-use Rattle.std.proofs.Common.{◌≡◌, ◌≢◌, ℕ, zero, suc, ◌+◌, ◌/◌, ◌<◌, ◌≤◌, ◌⊎◌, inl, inr, Bool, true, false, ◌||◌, cond, Option, Some, None, List, [], ◌∷◌, ◌++◌, map, length, refl, ap, ap₂, sym, ◌∙◌, subst, arith}
+-- Cells listed by their offsets.
+use Rattle.std.proofs.Common.{◌≡◌, ◌≢◌, ℕ, zero, suc, ◌+◌, ◌/◌, ◌<◌, ◌≤◌, ◌⊎◌, inl, inr, Bool, true, false, ◌||◌, cond, Option, Some, None, List, [], ◌∷◌, ◌++◌, map, length, refl, ap, ap₂, sym, ◌∙◌, subst, arith, rules, take, add-one}
 use Rattle.std.specs.Prelude.{◌==◌, flat_map, option_map}
 use Rattle.std.proofs.lemmas.Bool.{ne_eqb, eq-eqb}
 use Rattle.std.specs.List.{slice_get}
@@ -10,19 +10,33 @@ use Rattle.model_registers.specs.Registers.{Place, config, place_eq, File, field
 use Rattle.model_registers.specs.FileLaws.{has_place, IsConfigFile}
 use Rattle.model_registers.specs.Declarations.{Bar, Region, registers_of, IsLawfulRegion, HasLawfulRegions, ConfigBlock, Endpoint}
 use Rattle.model_registers.specs.DeclarationRules.{IsConfigBlock, IsLawfulEndpoint}
-use Rattle.model_registers.specs.EndpointTable.{BaseAddress, register_cells, opened, closed, region_cells, block_cells, header_cells, header_type, config_reset, endpoint_reset}
+use Rattle.model_registers.specs.EndpointTable.{BaseAddress, register_cells, opened, closed, region_cells, block_cells, header_cells, config_reset, endpoint_reset}
 use Rattle.model_registers.specs.OwnCopies.{bare}
 use Rattle.model_registers.proofs.Files.{region_cells as cells_in_region}
 use Rattle.model_registers.proofs.Parts.{IsOutside}
-use Rattle.config_bytes.specs.CellFile.{CellFile}
+use Rattle.config_bytes.specs.CellFile.{CellFile, offsets_from}
 use Rattle.bars.specs.Resets.{reset_from, at_reset}
 use Rattle.bridge_forward.specs.EndpointParts.{block_at, region_parts, IsElsewhere, AreParts, region_at, declared_bar, declared_block, as_made}
-use Rattle.lists.proofs.Indices.{each_at, pair_at, find_at, each_by_index}
+use Rattle.lists.proofs.Indices.{each_at, pair_at, find_at, each_by_index, found_at}
 use Rattle.model_registers.proofs.BareRegions.{bare_lawful}
 use Rattle.model_registers.proofs.Bases.{registers_positive}
-use Rattle.bridge_forward.proofs.BlockLists.{found_each}
 use Rattle.bridge_forward.proofs.RegionParts.{config_field}
 use Rattle.bridge_forward.proofs.EndpointAccess.{config_joined, no_block}
+
+next : (xs : List Cell) (a i : ℕ) (x : Cell) → slice_get xs i ≡ Some x → offsets_from a (take (suc i) xs) ≡ offsets_from a (take i xs) ++ (a + i, x) ∷ []
+next [] a i x e = absurd (cc)
+next (y ∷ ys) a zero x e = let same : y ≡ x = cc in let here : a ≡ a + 0 = omega arith in ap₂ (λ n z. (n, z) ∷ []) here same
+next (y ∷ ys) a (suc i) x e = ap (λ (cs : List (ℕ × Cell)). (a, y) ∷ cs) (next ys (a + 1) i x e ∙ (let here : a + 1 + i ≡ a + suc i = omega arith in ap (λ n. offsets_from (a + 1) (take i ys) ++ (n, x) ∷ []) here))
+
+pub offsets_next : (xs : List Cell) (i : ℕ) (x : Cell) → slice_get xs i ≡ Some x → offsets_from 0 (take (i + 1) xs) ≡ offsets_from 0 (take i xs) ++ (i, x) ∷ []
+offsets_next xs i x e =
+    ap (λ n. offsets_from 0 (take n xs)) (add-one i) ∙ next xs 0 i x e ∙ (let here : 0 + i ≡ i = omega arith in ap (λ n. offsets_from 0 (take i xs) ++ (n, x) ∷ []) here)
+
+-- what holds of each region holds of the one at a register
+pub found_each : (P : Region → Type 0) (rs : List Region) (n : ℕ) (r : Region) → Each P rs → region_at rs n ≡ Some r → P r
+found_each P rs n r h e = let at = found_at (λ (s : Region). s.index == n) rs r e in each_at P rs at.1.0 r h at.1.1
+
+-- ---- the parts of an endpoint at reset
 
 -- ---- where the header and the device's own registers stand
 
@@ -55,7 +69,7 @@ none_cells q a (c ∷ cs) h = ap₂ (λ s t. s || t) (not_here q a (first h)) (n
     rest (inl h) = inl (omega arith)
     rest (inr h) = inr (omega arith)
 
-none_joined : (p : Place) (xs ys : File) → has_place xs p ≡ false → has_place ys p ≡ false → has_place (xs ++ ys) p ≡ false
+pub none_joined : (p : Place) (xs ys : File) → has_place xs p ≡ false → has_place ys p ≡ false → has_place (xs ++ ys) p ≡ false
 none_joined p [] ys h k = k
 none_joined p (x ∷ xs) ys h k = by_first (place_eq x.place p) h (λ e. none_joined p xs ys e k)
   where
@@ -82,39 +96,23 @@ none_blocks q (b ∷ bs) l h =
     (none_cells q b.offset b.cells (block_outside q b.offset (length b.cells) h l.0.begins l.0.ends)) (none_blocks q bs l.1 h)
 
 -- configuration cells, none at a base address register or beyond configuration space
-record IsAway (xs : File) : Type 0 where
-  places : IsConfigFile xs
-  none : (q : ℕ) → IsElsewhere q → has_place xs (config q) ≡ false
+pub record IsAway (xs : File) : Type 0 where
+  pub places : IsConfigFile xs
+  pub none : (q : ℕ) → IsElsewhere q → has_place xs (config q) ≡ false
 
 join : {xs ys : File} → IsAway xs → IsAway ys → IsAway (xs ++ ys)
 join {xs} {ys} a b = record { places = config_joined xs ys a.places b.places; none = λ q h. none_joined (config q) xs ys (a.none q h) (b.none q h) }
 
 low : (a w v m c : ℕ) → a + w ≤ 0x10 → IsAway (field (config a) w v m c)
-low a w v m c l = record { places = config_field a w v m c; none = λ q h. none_field q w a v m c (inr (beyond q h)) }
-  where
-    beyond : (q : ℕ) → IsElsewhere q → a + w ≤ q
-    beyond q (inl e) = omega (arith, e.0)
-    beyond q (inr e) = omega arith
+low a w v m c l = search (rules, config_field, none_field)
 
 high : (a w v m c : ℕ) → 0x28 ≤ a → a + w ≤ 0x100 → IsAway (field (config a) w v m c)
-high a w v m c l k = record { places = config_field a w v m c; none = λ q h. none_field q w a v m c (aside q h) }
-  where
-    aside : (q : ℕ) → IsElsewhere q → IsOutside q a w
-    aside q (inl e) = inl (omega (arith, e.1))
-    aside q (inr e) = inr (omega arith)
+high a w v m c l k = search (rules, config_field, none_field)
 
 header_away : (d : Endpoint) (multifunction : Bool) → IsAway (header_cells d multifunction 0)
-header_away d multifunction =
-    join (join (join (join (join (join (join (join (join (join (join (join (join
-    (low 0x00 2 d.vendor 0 0 (omega arith)) (low 0x02 2 d.device 0 0 (omega arith)))
-    (low 0x04 2 0 0x0547 0 (omega arith))) (low 0x06 2 d.status 0 0xf900 (omega arith)))
-    (low 0x08 1 d.revision 0 0 (omega arith))) (low 0x09 3 d.class 0 0 (omega arith)))
-    (low 0x0c 2 0 0xffff 0 (omega arith))) (low 0x0e 1 (header_type 0 multifunction) 0 0 (omega arith)))
-    (high 0x2c 2 d.subvendor 0 0 (omega arith) (omega arith))) (high 0x2e 2 d.subsystem 0 0 (omega arith) (omega arith)))
-    (high 0x3c 1 0 0xff 0 (omega arith) (omega arith))) (high 0x3d 1 d.pin 0 0 (omega arith) (omega arith)))
-    (high 0x3e 1 d.min_gnt 0 0 (omega arith) (omega arith))) (high 0x3f 1 d.max_lat 0 0 (omega arith) (omega arith))
+header_away d multifunction = search (rules, join, low, high)
 
-reset_away : (d : Endpoint) (multifunction : Bool) → Each IsConfigBlock d.blocks → IsAway (config_reset d multifunction)
+pub reset_away : (d : Endpoint) (multifunction : Bool) → Each IsConfigBlock d.blocks → IsAway (config_reset d multifunction)
 reset_away d multifunction h = join (header_away d multifunction) (record { places = config_blocks d.blocks; none = λ q e. none_blocks q d.blocks h e })
 
 -- ---- regions by register
@@ -218,18 +216,7 @@ module _ (d : Endpoint) (lawful : IsLawfulEndpoint d) (blocks : List CellFile) (
 
   -- each block is none, or the cells that a region declares
   block_is : (P : File → Type 0) → P [] → ((r : Region) → length r.cells ≤ 4096 → P (cells_from (config 0) r.cells)) → (n : ℕ) → P (block_at blocks n)
-  block_is P none some n = by_size (sides n 6)
-    where
-      sides : (x y : ℕ) → (x < y) ⊎ (y ≤ x)
-      sides x y = grind arith
-
-      by_region : (o : Option Region) → region_at d.regions n ≡ o → P (cells_of o)
-      by_region None e = none
-      by_region (Some r) e = some r (found_each (λ (s : Region). length s.cells ≤ 4096) d.regions n r lawful.region_blocks e)
-
-      by_size : (n < 6) ⊎ (6 ≤ n) → P (block_at blocks n)
-      by_size (inl l) = subst P (sym (filled n l)) (by_region (region_at d.regions n) refl)
-      by_size (inr l) = subst P (sym (no_block blocks n (omega (arith, six, l)))) none
+  block_is P none some n = search (rules, found_each, no_block)
 
   -- no block stands where no region begins
   unused : (n : ℕ) → Each (λ (b : BaseAddress). b.index ≢ n) (map closed d.regions) → block_at blocks n ≡ []
@@ -260,12 +247,7 @@ module _ (d : Endpoint) (lawful : IsLawfulEndpoint d) (blocks : List CellFile) (
       }
 
   file_at_reset : (multifunction : Bool) → config_reset d multifunction ++ region_parts (map closed d.regions) (block_at blocks) ≡ endpoint_reset d multifunction
-  file_at_reset multifunction = ap (λ (xs : File). config_reset d multifunction ++ xs) (parts_of d.regions (block_at blocks)
-      (each_by_index (λ r. block_at blocks r.index ≡ cells_from (config 0) r.cells) d.regions (λ i r e.
-      let region : IsLawfulRegion r = each_at IsLawfulRegion d.regions i r lawful.regions.each e in
-      let some = registers_positive r.kind in
-      let within = region.registers in
-      filled r.index (omega (arith, some, within)) ∙ ap cells_of (own_region d.regions (rising d.regions lawful.regions.in_order) i r e))))
+  file_at_reset multifunction = search (rules, parts_of, each_by_index, each_at, registers_positive, own_region, rising)
 
   -- the same for any parts that are those
   module _ (multifunction : Bool) (cells : File) (bars : List BaseAddress) (cells_are : cells ≡ config_reset d multifunction) (bars_are : bars ≡ map closed d.regions) where

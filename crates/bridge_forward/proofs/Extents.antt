@@ -1,5 +1,5 @@
 -- Where that ends which stands behind a path, in a list in path order.
-use Rattle.std.proofs.Common.{◌≡◌, ℕ, ◌+◌, ◌<◌, ◌≤◌, Bool, true, false, ◌&&◌, Some, List, [], ◌∷◌, length, zero, suc, refl, ap, sym, ◌∙◌, arith, inl, inr, ◌⊎◌, subst}
+use Rattle.std.proofs.Common.{◌≡◌, ℕ, ◌+◌, ◌<◌, ◌≤◌, Bool, true, false, ◌&&◌, Some, List, [], ◌∷◌, length, zero, suc, refl, ap, sym, ◌∙◌, arith, inl, inr, ◌⊎◌, subst, rules}
 use Rattle.std.specs.Prelude.{nat_lt}
 use Rattle.std.specs.List.{slice_get, slice_set}
 use Rattle.std.proofs.lemmas.Bool.{lt-ltb, and_from, false_from_ne_true}
@@ -9,7 +9,7 @@ use Rattle.model_board.specs.Paths.{Path, path_eq, path_before, leads_to}
 use Rattle.model_board.proofs.PathOrder.{one, path_same, before_trans, behind_bound, leads_before}
 use Rattle.model_board.proofs.PathEnds.{not_before_itself, leads_longer}
 use Rattle.bridge_forward.specs.declared.bus.Node.{Node}
-use Rattle.bridge_forward.specs.Layout.{function_of, functions_of, paths_of, ends_of, AreInOrder, EndsAt, AreLaid, IsLaidOut}
+use Rattle.bridge_forward.specs.Layout.{functions_of, paths_of, AreInOrder, EndsAt, IsLaidOut}
 use Rattle.lists.proofs.Indices.{same_at, at_below, pair_at, map_at, at_map, map_set, set_same}
 
 -- ---- path order
@@ -110,21 +110,7 @@ module _ (ps : List Path) (order : AreInOrder ps) where
       by_side j p q ep eq (inr (inr h)) = false_from_ne_true (leads_to p q) (no_more j p q ep eq h) ∙ sym (outside i j end (inr h))
 
   pub behind_more : (i end : ℕ) (p q : Path) → Behind ps i end → slice_get ps i ≡ Some p → slice_get ps end ≡ Some q → leads_to p q ≡ true → Behind ps i (end + 1)
-  behind_more i end p q h ep eq t = record {
-    after = let w = h.after in omega (arith, w);
-    within = let w = slice_get_within ps end q eq in omega (arith, w);
-    all = λ j x y l g ex ey. by_place j x y l ex ey (below_or_at j end g);
-  }
-    where
-      below_or_at : (j k : ℕ) → j < k + 1 → (j < k) ⊎ (j ≡ k)
-      below_or_at j k l = grind arith
-
-      by_place : (j : ℕ) (x y : Path) → i < j → slice_get ps i ≡ Some x → slice_get ps j ≡ Some y → (j < end) ⊎ (j ≡ end) → leads_to x y ≡ true
-      by_place j x y l ex ey (inl u) = h.all j x y l u ex ey
-      by_place j x y l ex ey (inr s) =
-          let sx : x ≡ p = same_at ps i x p ex ep in
-          let sy : y ≡ q = cc in
-          ap (λ z. leads_to z y) sx ∙ ap (leads_to p) sy ∙ t
+  behind_more i end p q h ep eq t = search (rules, slice_get_within, same_at)
 
   pub stops : (i end : ℕ) (p q : Path) → Behind ps i end → slice_get ps i ≡ Some p → slice_get ps end ≡ Some q → leads_to p q ≡ false → EndsAt ps i end
   stops i end p q h ep eq f = ends_here i end h (λ x y ex ey. ap (λ z. leads_to z y) (same_at ps i x p ex ep) ∙ ap (leads_to p) (same_at ps end y q ey eq) ∙ f)
@@ -152,27 +138,7 @@ set_before (x ∷ xs) (suc i) zero m n l e = e
 set_before (x ∷ xs) (suc i) (suc k) m n l e = set_before xs i k m n (omega arith) e
 
 pub done_more : (nodes initial : List Node) (i end : ℕ) (n : Node) → Done nodes initial i → slice_get nodes i ≡ Some n → EndsAt (paths_of nodes) i end → Done (slice_set nodes i (record n { end = end })) initial (i + 1)
-done_more nodes initial i end n d e x = record {
-  paths = map_set (λ (m : Node). m.path) nodes i (record n { end = end }) ∙ set_same (paths_of nodes) i n.path (map_at (λ (m : Node). m.path) nodes i n e) ∙ d.paths;
-  functions = map_set function_of nodes i (record n { end = end }) ∙ set_same (functions_of nodes) i (function_of n) (map_at function_of nodes i n e) ∙ d.functions;
-  ends = λ k m l em. by_place k m em (below_or_at k i l);
-}
-  where
-    below_or_at : (j k : ℕ) → j < k + 1 → (j < k) ⊎ (j ≡ k)
-    below_or_at j k l = grind arith
-
-    by_place : (k : ℕ) (m : Node) → slice_get (slice_set nodes i (record n { end = end })) k ≡ Some m → (k < i) ⊎ (k ≡ i) → EndsAt (paths_of initial) k m.end
-    by_place k m em (inl b) = d.ends k m b (set_before nodes i k (record n { end = end }) m b em)
-    by_place k m em (inr q) =
-        let here : slice_get (slice_set nodes i (record n { end = end })) i ≡ Some m = ap (slice_get (slice_set nodes i (record n { end = end }))) (sym q) ∙ em in
-        let last : m.end ≡ end = ap (λ (z : Node). z.end) (set_at nodes i (record n { end = end }) m here) in
-        subst (λ ps. EndsAt ps k m.end) d.paths (subst (λ z. EndsAt (paths_of nodes) z m.end) (sym q) (subst (EndsAt (paths_of nodes) i) (sym last) x))
+done_more nodes initial i end n d e x = search (rules, map_set, set_same, map_at, set_before, set_at)
 
 pub all_done : (nodes initial : List Node) (i : ℕ) → AreInOrder (paths_of initial) → Done nodes initial i → length nodes ≤ i → IsLaidOut nodes
-all_done nodes initial i order d l = subst (λ ps. AreLaid ps (ends_of nodes)) (sym d.paths) (record {
-  order = order;
-  ends_at = λ k end e.
-      let n = at_map (λ (m : Node). m.end) nodes k end e in
-      let w = slice_get_within nodes k n.0 n.1 in
-      subst (EndsAt (paths_of initial) k) (sym n.2) (d.ends k n.0 (omega (arith, w, l)) n.1);
-})
+all_done nodes initial i order d l = search (rules, at_map, slice_get_within)

@@ -1,7 +1,8 @@
 -- The search for a path among nodes in path order.
-use Rattle.std.proofs.Common.{◌≡◌, ℕ, ◌+◌, ◌<◌, ◌≤◌, Bool, true, false, Some, None, List, [], ◌∷◌, ◌++◌, refl, ap, sym, ◌∙◌, arith, inl, inr, ◌⊎◌, subst}
+use Rattle.std.proofs.Common.{◌≡◌, ℕ, ◌+◌, ◌<◌, ◌≤◌, Bool, true, false, Some, None, List, [], ◌∷◌, ◌++◌, refl, ap, sym, ◌∙◌, arith, inl, inr, ◌⊎◌, subst, rules, ◌↔◌, suc, ◌||◌, map, drop, length, get_or, add-one, IsFalse}
 use Rattle.std.specs.Prelude.{find}
 use Rattle.std.specs.List.{slice_get}
+use Rattle.std.proofs.Math.Seq.{drop-cons}
 use Rattle.model_board.specs.Paths.{Part, Path, path_eq, path_before, leads_to}
 use Rattle.model_board.proofs.PathOrder.{path_same}
 use Rattle.model_board.proofs.PathEnds.{not_before_itself, leads_self, no_turn}
@@ -10,6 +11,8 @@ use Rattle.bridge_forward.specs.Layout.{function_of, functions_of, IsLaidOut}
 use Rattle.bridge_forward.specs.Search.{IsSide, IsAt}
 use Rattle.bridge_forward.proofs.Nodes.{ordered, in_side}
 use Rattle.lists.proofs.Indices.{map_at, at_map, find_at, find_none}
+use Rattle.lists.specs.Elements.{Each, EachPair}
+use Rattle.model_board.specs.Places.{Standing, has_path}
 
 -- the path stands neither below low nor from high on
 pub record Halved (nodes : List Node) (path : Path) (low high : ℕ) : Type 0 where
@@ -17,11 +20,7 @@ pub record Halved (nodes : List Node) (path : Path) (low high : ℕ) : Type 0 wh
   pub above : (j : ℕ) (n : Node) → high ≤ j → slice_get nodes j ≡ Some n → path_eq n.path path ≡ false
 
 differs : (p q : Path) → (path_eq p q ≡ true → ⊥) → path_eq p q ≡ false
-differs p q h = by_case (path_eq p q) refl
-  where
-    by_case : (t : Bool) → path_eq p q ≡ t → path_eq p q ≡ false
-    by_case true e = absurd (h e)
-    by_case false e = e
+differs p q h = search rules
 
 -- a function on a bus stands nowhere but among what is behind the bus
 pub halved_side : (nodes : List Node) (laid : IsLaidOut nodes) (bus : Path) (from to : ℕ) (side : IsSide nodes bus from to) (t : Part) → Halved nodes (bus ++ t ∷ []) from to
@@ -82,12 +81,34 @@ module _ (nodes : List Node) (laid : IsLaidOut nodes) (path : Path) where
     }
 
   pub nowhere : (low high : ℕ) → Halved nodes path low high → high ≤ low → find (λ f. path_eq f.path path) (functions_of nodes) ≡ None
-  nowhere low high h l = find_none (λ f. path_eq f.path path) (functions_of nodes)
-      (λ j f e. let n = at_map function_of nodes j f e in ap (λ z. path_eq z.path path) n.2 ∙ by_side j n.0 n.1 (sides j))
-    where
-      sides : (j : ℕ) → (j < low) ⊎ (high ≤ j)
-      sides j = grind arith
+  nowhere low high h l = search (rules, find_none, at_map, sides)
 
-      by_side : (j : ℕ) (n : Node) → slice_get nodes j ≡ Some n → (j < low) ⊎ (high ≤ j) → path_eq n.path path ≡ false
-      by_side j n e (inl b) = h.below j n b e
-      by_side j n e (inr b) = h.above j n b e
+-- ---- what a search for a path says of each place
+
+abbrev Apart : Standing → Standing → Type 0
+Apart s t = IsFalse (path_eq t.path s.path)
+
+none_at : (ss : List Standing) (p : Path) → has_path ss p ≡ false → Each (λ t. IsFalse (path_eq t.path p)) ss
+none_at [] p h = tt
+none_at (s ∷ ss) p h = by_case (path_eq s.path p) refl h (none_at ss p)
+  where
+    by_case : (b : Bool) → path_eq s.path p ≡ b → (b || has_path ss p) ≡ false → (has_path ss p ≡ false → Each (λ t. IsFalse (path_eq t.path p)) ss)
+        → (path_eq s.path p ≡ false) × Each (λ t. IsFalse (path_eq t.path p)) ss
+    by_case true e k more = cc
+    by_case false e k more = (e, more k)
+
+some_at : (ss : List Standing) (p : Path) → has_path ss p ≡ true → Each (λ t. IsFalse (path_eq t.path p)) ss → ⊥
+some_at [] p h k = cc
+some_at (s ∷ ss) p h k = some_at ss p (rw k.0 at h) k.1
+
+module _ {A : Type 0} (standing : A → Standing) where
+  next : (xs : List A) (i : ℕ) (x : A) → i < length xs → x ≡ get_or xs i x → map standing (drop i xs) ≡ standing x ∷ map standing (drop (i + 1) xs)
+  next xs i x h e = rw (add-one, drop-cons xs i x h) (ap (λ y. standing y ∷ map standing (drop (suc i) xs)) (sym e))
+
+  pub apart_from_here : (xs : List A) (i : ℕ) (x : A) → i < length xs → x ≡ get_or xs i x → has_path (map standing (drop (i + 1) xs)) (standing x).path ≡ false
+      → EachPair Apart (map standing (drop i xs)) ↔ EachPair Apart (map standing (drop (i + 1) xs))
+  apart_from_here xs i x h e none = (λ k. (subst (EachPair Apart) (next xs i x h e) k).1, λ k. subst (EachPair Apart) (sym (next xs i x h e)) (none_at (map standing (drop (i + 1) xs)) (standing x).path none, k))
+
+  pub not_apart_here : (xs : List A) (i : ℕ) (x : A) → i < length xs → x ≡ get_or xs i x → has_path (map standing (drop (i + 1) xs)) (standing x).path ≡ true
+      → EachPair Apart (map standing (drop i xs)) → ⊥
+  not_apart_here xs i x h e some k = some_at (map standing (drop (i + 1) xs)) (standing x).path some (subst (EachPair Apart) (next xs i x h e) k).0

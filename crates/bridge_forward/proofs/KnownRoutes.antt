@@ -1,10 +1,10 @@
 -- The bridges that are known to lead to buses, where one function or one entry changes.
-use Rattle.std.proofs.Common.{◌≡◌, ◌≢◌, ℕ, zero, suc, ◌⊎◌, inl, inr, Bool, true, false, ◌&&◌, cond, Option, Some, None, List, [], ◌∷◌, ◌++◌, replicate, refl, ap, ap₂, sym, ◌∙◌, subst, get_or, eqb}
+use Rattle.std.proofs.Common.{◌≡◌, ℕ, zero, suc, Bool, true, false, ◌&&◌, cond, Option, Some, None, List, [], ◌∷◌, ◌++◌, replicate, refl, ap, ap₂, sym, ◌∙◌, subst, get_or, eqb, rules}
 use Rattle.std.specs.Prelude.{IfSome, find, not}
 use Rattle.std.specs.Option.{option_map_or}
 use Rattle.std.specs.List.{slice_get, slice_set}
 use Rattle.std.proofs.lemmas.Option.{slice_get_within}
-use Rattle.model_board.specs.Paths.{Part, Path, path_eq, parent}
+use Rattle.model_board.specs.Paths.{Part, Path, path_eq}
 use Rattle.model_board.specs.Board.{is_bridge}
 use Rattle.model_board.specs.State.{BoardFunction}
 use Rattle.model_board.specs.Cycles.{secondary_register, taker, takes, is_route, ends_in}
@@ -20,7 +20,7 @@ use Rattle.bridge_forward.specs.ResetAlone.{after_leaf_reset}
 use Rattle.bridge_forward.specs.Layout.{function_of, functions_of, paths_of}
 use Rattle.bridge_forward.specs.Leading.{LeadsTo, AreUnknown, AreRoutes, IsBus}
 use Rattle.lists.proofs.Indices.{at_map, read_at, same_at, map_at, map_set, set_same}
-use Rattle.bridge_forward.proofs.Searching.{taking}
+use Rattle.bridge_forward.proofs.Reached.{taking}
 use Rattle.bridge_forward.proofs.Skipping.{covers_none, same_kind, set_cases, tree_set}
 use Rattle.bridge_forward.proofs.Changes.{laid_set}
 
@@ -46,11 +46,7 @@ module _ (nodes : List Node) (i : ℕ) (n : Node) (f : Function) (e : slice_get 
   changed = slice_set nodes i (record n { function = f })
 
   not_taking : (bus : Path) (b : ℕ) (m : Node) → is_bridge (decl_of m.function) ≡ false → taking bus b (function_of m) ≡ false
-  not_taking bus b m h = rw (covers_none b m h) (none (path_eq (parent m.path) bus))
-    where
-      none : (a : Bool) → (a && false) ≡ false
-      none true = refl
-      none false = refl
+  not_taking bus b m h = search (rules, covers_none)
 
   taker_set : (bus : Path) (b : ℕ) → taker (functions_of changed) bus b ≡ taker (functions_of nodes) bus b
   taker_set bus b =
@@ -79,10 +75,7 @@ module _ (nodes : List Node) (i : ℕ) (n : Node) (f : Function) (e : slice_get 
   routes_set known are b k g = leads_set b k (are b k g)
 
   pub bus_set : (known : List (Option ℕ)) → IsBus nodes known → IsBus changed known
-  bus_set known is = record {
-    tree = tree_set nodes i n f e (λ h. new) is.tree (laid_set nodes i n f e is.tree.laid);
-    routes = routes_set known is.routes;
-  }
+  bus_set known is = search (rules, tree_set, laid_set, routes_set)
 
 pub bus_same : (nodes : List Node) (i : ℕ) (n : Node) (known : List (Option ℕ)) → slice_get nodes i ≡ Some n → IsBus nodes known → IsBus (slice_set nodes i n) known
 bus_same nodes i n known e is = subst (λ (ms : List Node). IsBus ms known) (sym (set_same nodes i n e)) is
@@ -109,22 +102,13 @@ routes_unknown nodes known none n i e =
 
 -- one more bridge, or one less
 pub routes_more : (nodes : List Node) (known : List (Option ℕ)) (n : ℕ) (o : Option ℕ) → AreRoutes nodes known → ((i : ℕ) → o ≡ Some i → LeadsTo nodes n i) → AreRoutes nodes (slice_set known n o)
-routes_more nodes known n o are led m i e = by_place (set_cases known n m o (Some i) e)
-  where
-    by_place : ((m ≡ n) × (Some i ≡ o)) ⊎ ((m ≢ n) × (slice_get known m ≡ Some (Some i))) → LeadsTo nodes m i
-    by_place (inl p) = subst (λ k. LeadsTo nodes k i) (sym p.0) (led i (sym p.1))
-    by_place (inr q) = are m i q.1
+routes_more nodes known n o are led m i e = search (rules, set_cases)
 
 -- after a cycle that read, or that wrote a function which is no bridge
 pub routes_after : (nodes : List Node) (i : ℕ) (n : Node) (op : Op) (off enables : ℕ) (g : Function) (known : List (Option ℕ)) → slice_get nodes i ≡ Some n
     → g ≡ with_cells n.function (after_access op off enables (file_of n.function)) → (is_write op && is_bridge (decl_of g)) ≡ false
     → AreRoutes nodes known → AreRoutes (slice_set nodes i (record n { function = g })) known
-routes_after nodes i n Read off enables g known e is test are =
-    subst (λ (ms : List Node). AreRoutes ms known) (sym (ap (λ (f : Function). slice_set nodes i (record n { function = f })) (is ∙ stays n.function) ∙ set_same nodes i n e)) are
-  where
-    stays : (f : Function) → with_cells f (file_of f) ≡ f
-    stays (Endpoint w) = refl
-    stays (Bridge b) = refl
+routes_after nodes i n Read off enables g known e is test are = search (rules, set_same)
 routes_after nodes i n (Write w) off enables g known e is test are =
     routes_set nodes i n g e (sym (same_kind n.function (after_access (Write w) off enables (file_of n.function))) ∙ ap (λ (f : Function). is_bridge (decl_of f)) (sym is) ∙ test) test known are
 

@@ -1,7 +1,7 @@
 -- A tree as one list: what its extents say of paths.
-use Rattle.std.proofs.Common.{◌≡◌, ℕ, ◌+◌, ◌<◌, ◌≤◌, Bool, true, false, ◌&&◌, Some, List, [], ◌∷◌, length, refl, ap, sym, ◌∙◌, arith, inl, inr, ◌⊎◌, subst}
+use Rattle.std.proofs.Common.{◌≡◌, ℕ, ◌+◌, ◌<◌, ◌≤◌, Bool, true, false, ◌&&◌, Some, List, [], ◌∷◌, length, refl, ap, sym, ◌∙◌, arith, inl, inr, ◌⊎◌, subst, rules}
 use Rattle.std.specs.Prelude.{nat_lt, nat_le}
-use Rattle.std.specs.List.{slice_get, list_any}
+use Rattle.std.specs.List.{slice_get}
 use Rattle.std.proofs.lemmas.Bool.{ltb-true, lt-ltb, leb-true, le-leb, and_from}
 use Rattle.std.proofs.lemmas.Option.{slice_get_within}
 use Rattle.std.proofs.lemmas.List.{length-map}
@@ -71,15 +71,7 @@ module _ (nodes : List Node) (laid : IsLaidOut nodes) where
 
   -- the bridge above a path stands in the list
   pub bridge_above : (i : ℕ) (n : Node) → slice_get nodes i ≡ Some n → 0 < length (parent n.path) → (k : ℕ) × ((m : Node) × (slice_get nodes k ≡ Some m) × (m.path ≡ parent n.path))
-  bridge_above i n e some =
-      by_founding (each_at (λ p. (parent p ≡ []) ⊎ (list_any (λ q. path_eq q (parent p)) (paths_of nodes) ≡ true)) (paths_of nodes) i n.path laid.order.founded (path_at i n e))
-    where
-      by_founding : (parent n.path ≡ []) ⊎ (list_any (λ q. path_eq q (parent n.path)) (paths_of nodes) ≡ true) → (k : ℕ) × ((m : Node) × (slice_get nodes k ≡ Some m) × (m.path ≡ parent n.path))
-      by_founding (inl z) = absurd (let w : length (parent n.path) ≡ 0 = ap length z in omega (arith, w))
-      by_founding (inr b) =
-          let a = any_at (λ q. path_eq q (parent n.path)) (paths_of nodes) b in
-          let m = at_map (λ (x : Node). x.path) nodes a.0 a.1.0 a.1.1 in
-          (a.0, (m.0, m.1, sym m.2 ∙ path_same a.1.0 (parent n.path) a.1.2))
+  bridge_above i n e some = search (rules, each_at, path_at, any_at, at_map, path_same)
 
   -- ---- sides
 
@@ -137,15 +129,7 @@ module _ (nodes : List Node) (laid : IsLaidOut nodes) where
 
     -- the step past a node and all that stands behind it
     pub ended_next : (i : ℕ) (n : Node) → Ended i → slice_get nodes i ≡ Some n → Ended n.end
-    ended_next i n ended e j m l h em = by_side (sides j i)
-      where
-        sides : (x y : ℕ) → (x < y) ⊎ ((x ≡ y) ⊎ (y < x))
-        sides x y = grind arith
-
-        by_side : (j < i) ⊎ ((j ≡ i) ⊎ (i < j)) → m.end ≤ n.end
-        by_side (inl b) = let d = ended j m l b em in let w = inside i n e in omega (arith, d, w.0)
-        by_side (inr (inl q)) = let same : m ≡ n = cc in let w : m.end ≡ n.end = ap (λ (z : Node). z.end) same in omega (arith, w)
-        by_side (inr (inr b)) = nested i j n m e em b h
+    ended_next i n ended e j m l h em = search (rules, inside, nested)
 
     -- what is passed by that step stands on no bus of its own parent
     pub passed_by : (i j : ℕ) (n m : Node) → Ended i → slice_get nodes i ≡ Some n → slice_get nodes j ≡ Some m → from ≤ i → i < to → i < j → j < n.end → path_eq (parent m.path) bus ≡ false

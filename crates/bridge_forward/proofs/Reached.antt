@@ -1,18 +1,22 @@
 -- What a search along the buses says of the function that a cycle reaches.
-use Rattle.std.proofs.Common.{[], ◌∷◌, ◌++◌, ◌≡◌, ℕ, true, false, ◌&&◌, Option, Some, None, List, ap, sym, ◌∙◌, eqb}
-use Rattle.std.specs.Prelude.{IfSome, IfNone, find, nat_le}
+use Rattle.std.proofs.Common.{◌≡◌, ℕ, true, false, ◌&&◌, Option, Some, None, List, ap, sym, ◌∙◌, eqb, rules, ◌<◌, ◌≤◌, Bool, refl, arith, inl, inr, ◌⊎◌, subst}
+use Rattle.std.specs.Prelude.{IfSome, IfNone, find}
 use Rattle.std.specs.List.{slice_get}
+use Rattle.std.proofs.lemmas.Bool.{and_right}
 use Rattle.lists.proofs.Tests.{left_true, right_true}
 use Rattle.model_board.specs.Paths.{Path, Part, path_eq, parent}
 use Rattle.model_board.specs.Board.{is_bridge}
 use Rattle.model_board.specs.State.{BoardFunction}
-use Rattle.model_board.specs.Cycles.{secondary_register, subordinate_register, covers, taker, ends_in, is_route, reached_type1}
+use Rattle.model_board.specs.Cycles.{secondary_register, covers, taker, reached_type1}
 use Rattle.bridge_forward.specs.declared.bus.Node.{Node}
 use Rattle.bridge_forward.specs.Layout.{function_of, functions_of, IsLaidOut}
-use Rattle.bridge_forward.specs.Search.{is_named, IsAt}
-use Rattle.lists.proofs.Indices.{same_at, found_at}
+use Rattle.bridge_forward.specs.Search.{is_named, IsAt, IsSide}
+use Rattle.lists.proofs.Indices.{same_at, found_at, at_map, find_at, find_none}
 use Rattle.bridge_forward.specs.Leading.{LeadsTo, LeadsNowhere}
 use Rattle.bridge_forward.proofs.Reaching.{Passing, find_same, passing_next, routed, stuck}
+use Rattle.model_board.proofs.PathOrder.{path_same}
+use Rattle.model_board.proofs.PathEnds.{path_self}
+use Rattle.bridge_forward.proofs.Nodes.{path_of, parent_leads, in_side, Ended, met_on_bus, ended_next, passed_by}
 
 pub if_some : {A : Type 0} (P Q : A → Type 0) (r : Option A) → ((x : A) → P x → Q x) → IfSome r P → IfSome r Q
 if_some P Q None f h = tt
@@ -42,11 +46,7 @@ module _ (nodes : List Node) (laid : IsLaidOut nodes) (n : ℕ) (above : Path) (
     taken = at.found ∙ ap (λ (z : Node). Some (function_of z)) same_node
 
     is_taker : is_bridge (function_of m).decl ≡ true
-    is_taker =
-        let f = function_of m in
-        let t = found_at (λ (g : BoardFunction). path_eq (parent g.path) above && covers n g) (functions_of nodes) f taken in
-        let c : covers n f ≡ true = right_true (path_eq (parent f.path) above) (covers n f) t.0 in
-        left_true (is_bridge f.decl) (nat_le (secondary_register f.file) n) (left_true (is_bridge f.decl && nat_le (secondary_register f.file) n) (nat_le n (subordinate_register f.file)) c)
+    is_taker = search (rules, found_at, taken, right_true, left_true)
 
     -- whether it leads to the bus is told by its Secondary
     pub leads_elsewhere : (is_bridge (function_of m).decl && eqb (secondary_register (function_of m).file) n) ≡ false → eqb (secondary_register (function_of m).file) n ≡ false
@@ -65,13 +65,65 @@ module _ (nodes : List Node) (laid : IsLaidOut nodes) (n : ℕ) (above : Path) (
 -- what a cycle reaches by the bridge that leads to its bus is the function with the numbers behind it
 module _ (nodes : List Node) (device function n i : ℕ) (m : Node) (led : LeadsTo nodes n i) (e : slice_get nodes i ≡ Some m) where
   behind : reached_type1 (functions_of nodes) n (part_of device function) ≡ find (is_named m.path device function) (functions_of nodes)
-  behind =
-      let t : Part = part_of device function in
-      find_same (λ (g : BoardFunction). ends_in g.path t && is_route (functions_of nodes) n [] g.path) (is_named m.path device function) (functions_of nodes)
-      (λ j g eg. led.routes g.path t ∙ ap (λ (z : Node). path_eq g.path (z.path ++ t ∷ [])) (same_at nodes i led.bridge m led.there e))
+  behind = search (rules, find_same, same_at)
 
   pub type1_found : (r : Option ℕ) → IfSome r (λ j. IsAt nodes j (find (is_named m.path device function) (functions_of nodes))) → IfSome r (λ j. IsAt nodes j (reached_type1 (functions_of nodes) n (part_of device function)))
   type1_found r h = if_some _ _ r (λ j f. at_same nodes _ _ (sym behind) j f) h
 
   pub type1_missed : (r : Option ℕ) → IfNone r (find (is_named m.path device function) (functions_of nodes) ≡ None) → IfNone r (reached_type1 (functions_of nodes) n (part_of device function) ≡ None)
   type1_missed r h = if_none _ _ r (λ f. behind ∙ f) h
+
+-- ---- the search for a bridge along one bus
+
+-- a bridge of the bus that takes cycles for bus n
+abbrev pub taking : Path → ℕ → BoardFunction → Bool
+taking bus n f = path_eq (parent f.path) bus && covers n f
+
+-- before index i nothing on the bus takes the cycle, and all that was met ends
+pub record Passed (nodes : List Node) (laid : IsLaidOut nodes) (bus : Path) (number : ℕ) (from to : ℕ) (side : IsSide nodes bus from to) (i : ℕ) : Type 0 where
+  pub ended : Ended nodes laid bus from to side i
+  pub none : (j : ℕ) (m : Node) → j < i → slice_get nodes j ≡ Some m → taking bus number (function_of m) ≡ false
+
+module _ (nodes : List Node) (laid : IsLaidOut nodes) (bus : Path) (number : ℕ) (from to : ℕ) (side : IsSide nodes bus from to) where
+  -- what is outside the side stands on another bus
+  outside : (j : ℕ) (m : Node) → slice_get nodes j ≡ Some m → (j < from) ⊎ (to ≤ j) → taking bus number (function_of m) ≡ false
+  outside j m e o = by_bus (path_eq (parent m.path) bus) refl
+    where
+      by_bus : (t : Bool) → path_eq (parent m.path) bus ≡ t → (t && covers number (function_of m)) ≡ false
+      by_bus false p = refl
+      by_bus true p =
+          let same = path_same (parent m.path) bus p in
+          let w = in_side nodes laid bus from to side j m e (subst (λ q. Rattle.model_board.specs.Paths.leads_to q m.path ≡ true) same (parent_leads m.path (path_of nodes laid j m e).some)) in
+          absurd (elim o [ inl l ↦ omega (arith, w.0, l) | inr g ↦ omega (arith, w.1, g) ])
+
+  pub passed_none : Passed nodes laid bus number from to side from
+  passed_none = search (rules, outside)
+
+  pub passed_next : (i : ℕ) (n : Node) → Passed nodes laid bus number from to side i → slice_get nodes i ≡ Some n → from ≤ i → i < to → covers number (function_of n) ≡ false
+      → Passed nodes laid bus number from to side n.end
+  passed_next i n p e l h not = record {
+    ended = ended_next nodes laid bus from to side i n p.ended e;
+    none = λ j m g em. by_side j m g em (sides j i);
+  }
+    where
+      sides : (x y : ℕ) → (x < y) ⊎ ((x ≡ y) ⊎ (y < x))
+      sides x y = grind arith
+
+      by_side : (j : ℕ) (m : Node) → j < n.end → slice_get nodes j ≡ Some m → (j < i) ⊎ ((j ≡ i) ⊎ (i < j)) → taking bus number (function_of m) ≡ false
+      by_side j m g em (inl b) = p.none j m b em
+      by_side j m g em (inr (inl q)) = let same : m ≡ n = cc in and_right _ _ (ap (λ (z : Node). covers number (function_of z)) same ∙ not)
+      by_side j m g em (inr (inr b)) = ap (λ t. t && covers number (function_of m)) (passed_by nodes laid bus from to side i j n m p.ended e em l h b g)
+
+  pub first_here : (i : ℕ) (n : Node) → Passed nodes laid bus number from to side i → slice_get nodes i ≡ Some n → from ≤ i → i < to → covers number (function_of n) ≡ true
+      → IsAt nodes i (taker (functions_of nodes) bus number)
+  first_here i n p e l h is =
+      let on : path_eq (parent n.path) bus ≡ true = subst (λ q. path_eq (parent n.path) q ≡ true) (met_on_bus nodes laid bus from to side i n p.ended e l h) (path_self (parent n.path)) in
+      record {
+        node = n;
+        there = e;
+        found = find_at (taking bus number) (functions_of nodes) i (function_of n) (Rattle.lists.proofs.Indices.map_at function_of nodes i n e) (rw (on, is) refl)
+            (λ j f g ef. let m = at_map function_of nodes j f ef in subst (λ z. taking bus number z ≡ false) (sym m.2) (p.none j m.0 g m.1));
+      }
+
+  pub none_on_bus : (i : ℕ) → Passed nodes laid bus number from to side i → to ≤ i → taker (functions_of nodes) bus number ≡ None
+  none_on_bus i p l = search (rules, find_none, at_map, outside)

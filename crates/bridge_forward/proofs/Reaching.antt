@@ -1,5 +1,5 @@
 -- The way of a configuration cycle.
-use Rattle.std.proofs.Common.{◌≡◌, ℕ, ◌<◌, Bool, true, false, not, ◌&&◌, cond, Some, None, List, [], ◌∷◌, ◌++◌, length, refl, ap, ap₂, suc, sym, ◌∙◌, subst, eqb, append_assoc}
+use Rattle.std.proofs.Common.{◌≡◌, ℕ, ◌<◌, Bool, true, false, not, ◌&&◌, cond, Some, None, List, [], ◌∷◌, ◌++◌, length, refl, ap, ap₂, suc, sym, ◌∙◌, subst, eqb, append_assoc, rules}
 use Rattle.std.specs.Prelude.{find}
 use Rattle.std.specs.Option.{option_map_or}
 use Rattle.std.specs.List.{slice_get}
@@ -42,11 +42,7 @@ module _ (nodes : List Node) (laid : IsLaidOut nodes) where
     no_route bus (x ∷ y ∷ z ∷ qs) e h = let w = rw e at (left_true (takes fs bus n x false) (is_route fs n (bus ++ x ∷ []) (y ∷ z ∷ qs)) h) in cc
 
     pub stuck : (bus : Path) (t : Part) → Passing bus → taker fs bus n ≡ None → reached_type1 fs n t ≡ None
-    stuck bus t p e = find_none (λ f. ends_in f.path t && is_route fs n [] f.path) fs (λ j f ef. no_test f (is_route fs n [] f.path) refl)
-      where
-        no_test : (f : BoardFunction) (b : Bool) → is_route fs n [] f.path ≡ b → (ends_in f.path t && b) ≡ false
-        no_test f false r = and_false (ends_in f.path t)
-        no_test f true r = let q = p.into f.path r in absurd (no_route bus q.0 e q.1.1)
+    stuck bus t p e = search (rules, find_none, and_false, no_route)
 
     -- the bridge that takes the cycle stands on the bus
     module _ (bus : Path) (f : BoardFunction) (e : taker fs bus n ≡ Some f) where
@@ -58,12 +54,7 @@ module _ (nodes : List Node) (laid : IsLaidOut nodes) where
 
       -- a step of a route is that bridge, and ends there exactly where the bridge leads to the bus
       step_is : (x : Part) (ends : Bool) → takes fs bus n x ends ≡ true → (f.path ≡ bus ++ x ∷ []) × (cond (eqb (secondary_register f.file) n) ends (not ends) ≡ true)
-      step_is x ends h =
-          let t : (path_eq f.path (bus ++ x ∷ []) && cond (eqb (secondary_register f.file) n) ends (not ends)) ≡ true =
-          subst (λ o. option_map_or (λ (g : BoardFunction). path_eq g.path (bus ++ x ∷ []) && cond (eqb (secondary_register g.file) n) ends (not ends)) o false ≡ true) e h in (
-            path_same f.path (bus ++ x ∷ []) (left_true (path_eq f.path (bus ++ x ∷ [])) (cond (eqb (secondary_register f.file) n) ends (not ends)) t),
-            right_true (path_eq f.path (bus ++ x ∷ [])) (cond (eqb (secondary_register f.file) n) ends (not ends)) t,
-          )
+      step_is x ends h = search (rules, path_same, left_true, right_true)
 
       is_step : (x : Part) (ends : Bool) → f.path ≡ bus ++ x ∷ [] → cond (eqb (secondary_register f.file) n) ends (not ends) ≡ true → takes fs bus n x ends ≡ true
       is_step x ends p c =

@@ -1,5 +1,7 @@
 -- An endpoint's cells, part by part: what a read finds, and what a change leaves.
 use Rattle.std.proofs.Common.{◌≡◌, ◌≢◌, ℕ, zero, suc, ◌+◌, ◌*◌, ◌/◌, ◌%◌, ◌-◌, ◌^◌, ◌<◌, ◌≤◌, ◌⊎◌, inl, inr, Bool, true, false, cond, List, [], ◌∷◌, ◌++◌, map, length, refl, ap, ap₂, sym, ◌∙◌, arith, append_assoc}
+use Rattle.std.proofs.lemmas.Bool.{cases_eq}
+use Rattle.std.proofs.lemmas.List.{nil_from_length}
 use Rattle.lists.specs.Elements.{Each, EachPair}
 use Rattle.model_registers.specs.Cell.{Cell, no_cell}
 use Rattle.model_registers.specs.Registers.{Place, config, block, after, File, cell_at, changed, read, write, field, in_region}
@@ -77,11 +79,8 @@ block_cell [] g n q d c u = sym (ap (λ (file : File). cell_at file (config q)) 
 block_cell (b ∷ bs) g n q d c u =
     ap (λ (file : File). cell_at file (block n q)) (append_assoc (register_cells b) (in_region b.index (g b.index)) (region_parts bs g))
     ∙ cell_second (register_cells b) (in_region b.index (g b.index) ++ region_parts bs g) (block n q) (config_without_block (register_cells b) n q (config_register b))
-    ∙ by_index (same_or_other b.index n) (λ e. block_cell bs g n q d.1 c (λ h. u (e, h)))
+    ∙ by_index (cases_eq b.index n) (λ e. block_cell bs g n q d.1 c (λ h. u (e, h)))
   where
-    same_or_other : (x y : ℕ) → (x ≡ y) ⊎ (x ≢ y)
-    same_or_other x y = grind arith
-
     others : (cs : List BaseAddress) → b.index ≡ n → Each (λ (x : BaseAddress). b.index ≢ x.index) cs → Each (λ (x : BaseAddress). x.index ≢ n) cs
     others [] e h = tt
     others (x ∷ cs) e h = (λ z. h.0 (e ∙ sym z), others cs e h.1)
@@ -101,10 +100,6 @@ block_cell (b ∷ bs) g n q d c u =
 pub record IsChange (change : File → File) : Type 0 where
   pub joined : (xs ys : File) → change (xs ++ ys) ≡ change xs ++ change ys
   pub size : (xs : File) → length (change xs) ≡ length xs
-
-no_cells : (xs : File) → length xs ≡ 0 → xs ≡ []
-no_cells [] h = refl
-no_cells (x ∷ xs) h = absurd (omega (arith, h))
 
 -- lists of one length in front are the same where the whole is
 fronts : {A : Type 0} (xs ys zs ws : List A) → length xs ≡ length zs → xs ++ ys ≡ zs ++ ws → (xs ≡ zs) × (ys ≡ ws)
@@ -130,7 +125,7 @@ same_length b c e =
 -- base registers and blocks changed, each as if it stood alone
 pub parts_changed : (change : File → File) → IsChange change → (bs cs : List BaseAddress) (g h : ℕ → File) → map opened bs ≡ map opened cs → base_file cs ≡ change (base_file bs)
     → ((n : ℕ) → change (in_region n (g n)) ≡ in_region n (h n)) → change (region_parts bs g) ≡ region_parts cs h
-parts_changed change s [] [] g h e b r = no_cells (change []) (s.size [])
+parts_changed change s [] [] g h e b r = nil_from_length (change []) (s.size [])
 parts_changed change s [] (c ∷ cs) g h e b r = absurd (cc)
 parts_changed change s (b ∷ bs) [] g h e f r = absurd (cc)
 parts_changed change s (b ∷ bs) (c ∷ cs) g h e f r =

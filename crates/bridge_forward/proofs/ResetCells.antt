@@ -1,11 +1,11 @@
 -- One endpoint that is reset alone: its cells, part by part.
-use Rattle.std.proofs.Common.{◌≡◌, ◌≢◌, ℕ, zero, suc, ◌+◌, ◌*◌, ◌-◌, ◌/◌, ◌%◌, ◌^◌, ◌<◌, ◌≤◌, ◌⊎◌, inl, inr, Bool, true, false, ◌&&◌, ◌||◌, cond, Some, None, List, [], ◌∷◌, ◌++◌, map, length, refl, ap, ap₂, sym, ◌∙◌, subst, arith}
+use Rattle.std.proofs.Common.{◌≡◌, ◌≢◌, ℕ, zero, suc, ◌+◌, ◌*◌, ◌-◌, ◌/◌, ◌^◌, ◌<◌, ◌≤◌, ◌⊎◌, inl, inr, Bool, true, false, ◌&&◌, ◌||◌, cond, Some, None, List, [], ◌∷◌, ◌++◌, map, length, refl, ap, ap₂, sym, ◌∙◌, subst, arith, rules}
 use Rattle.std.specs.Prelude.{nat_le, nat_lt, ◌==◌, Option}
 use Rattle.std.proofs.lemmas.Bool.Decides.{nat_tests}
 use Rattle.std.proofs.lemmas.List.{length-map}
 use Rattle.std.specs.List.{slice_get}
 use Rattle.std.specs.Option.{option_map_or}
-use Rattle.std.proofs.lemmas.Bool.{ne_eqb, eq-eqb, eqb-true, false_from_ne_true}
+use Rattle.std.proofs.lemmas.Bool.{ne_eqb, eq-eqb, eqb-true, false_from_ne_true, cases_lt, cases_eq}
 use Rattle.lists.specs.Elements.{Each}
 use Rattle.model_registers.proofs.Owned.{base_is_own}
 use Rattle.model_registers.specs.Cell.{Cell}
@@ -15,7 +15,7 @@ use Rattle.model_registers.specs.Declarations.{Region, registers_of, IsLawfulReg
 use Rattle.model_registers.specs.EndpointTable.{type_bits, base_width, BaseAddress, register_cells, opened, closed, config_reset, endpoint_reset}
 use Rattle.model_registers.specs.OwnCopies.{is_own}
 use Rattle.config_bytes.specs.CellFile.{CellFile, is_between, reset_entry, reset_outside, places_of}
-use Rattle.bridge_forward.specs.EndpointParts.{block_at, block_at_reset, region_parts, AreParts, region_at, declared_block, IsConstant, IsHeaderKept, KnowReset, blocks_after}
+use Rattle.bridge_forward.specs.EndpointParts.{block_at, block_at_reset, region_parts, AreParts, region_at, declared_block, IsHeaderKept, KnowReset, blocks_after}
 use Rattle.model_registers.specs.CopiedFiles.{after_reset}
 use Rattle.bridge_forward.proofs.EndpointAccess.{cell_of_block, cell_of_config, lawful_bars, no_block}
 use Rattle.bridge_forward.proofs.EndpointReset.{parts_new, file_new}
@@ -32,24 +32,14 @@ after_joined d (x ∷ xs) ys = ap (λ (es : File). entry_after d x ∷ es) (afte
 
 base_stays : (d : Endpoint) (w a v m c : ℕ) → 0x10 ≤ a → a + w ≤ 0x28 → after_reset d (field (config a) w v m c) ≡ field (config a) w v m c
 base_stays d zero a v m c low high = refl
-base_stays d (suc w) a v m c low high =
-    let e : Entry = record { place = config a; cell = record { value = v % 256; writable = m % 256; clearable = c % 256 } } in
-    ap₂ (λ (t : Bool) (es : File). cond t e (record e { cell = cell_at (endpoint_reset d false) e.place }) ∷ es)
-    (base_is_own a low (omega arith)) (base_stays d w (a + 1) (v / 256) (m / 256) (c / 256) (omega arith) (omega arith))
+base_stays d (suc w) a v m c low high = search (rules, base_is_own, base_stays d w (a + 1) (v / 256) (m / 256) (c / 256) (omega arith) (omega arith))
 
 -- ---- blocks
 
 cell_from : (a k : ℕ) (cs : List Cell) (c : Cell) → slice_get cs k ≡ Some c → cell_at (cells_from (config a) cs) (config (a + k)) ≡ c
 cell_from a k [] c e = absurd (cc)
-cell_from a zero (x ∷ xs) c e =
-    let first : x ≡ c = cc in
-    let at : a ≡ a + 0 = omega arith in
-    ap (λ (t : Bool). cond t x (cell_at (cells_from (config (a + 1)) xs) (config (a + 0)))) (eq-eqb a (a + 0) at) ∙ first
-cell_from a (suc k) (x ∷ xs) c e =
-    let at : a + suc k ≡ a + 1 + k = omega arith in
-    ap (λ (t : Bool). cond t x (cell_at (cells_from (config (a + 1)) xs) (config (a + suc k)))) (ne_eqb a (a + suc k) (λ z. omega (arith, z)))
-    ∙ ap (λ q. cell_at (cells_from (config (a + 1)) xs) (config q)) at
-    ∙ cell_from (a + 1) k xs c e
+cell_from a zero (x ∷ xs) c e = search (rules, eq-eqb)
+cell_from a (suc k) (x ∷ xs) c e = search (rules, ne_eqb, cell_from (a + 1) k xs c e)
 
 -- the cells of a block go back to those at reset, which stand one after the other
 refilled : (d : Endpoint) (a : ℕ) (cs : List Cell) (n : ℕ) (xs : File) → places_of xs ≡ places_of (cells_from (config a) cs)
@@ -88,9 +78,6 @@ not_command q h k = false_from_ne_true _ (λ t. grind (arith, nat_tests))
 
 not_own : (q : ℕ) → q ≢ 4 → q ≢ 5 → q ≢ 0x0e → (q < 0x10) ⊎ (0x28 ≤ q) → is_own (config q) ≡ false
 not_own q a b c h = rw (ne_eqb q 4 a, ne_eqb q 5 b, ne_eqb q 0x0e c) (none_between q h)
-
-same_or_other : (x y : ℕ) → (x ≡ y) ⊎ (x ≢ y)
-same_or_other x y = grind arith
 
 base_or_other : (q : ℕ) → ((0x10 ≤ q) × (q < 0x28)) ⊎ ((q < 0x10) ⊎ (0x28 ≤ q))
 base_or_other q = grind arith
@@ -131,11 +118,8 @@ module _ (d : Endpoint) (cells : CellFile) (bars : List BaseAddress) (blocks : L
   in_order (Some r) = refl
 
   block_back : (n : ℕ) → after_reset d (in_region n (block_at blocks n)) ≡ in_region n (block_at later n)
-  block_back n = by_size (sides n 6)
+  block_back n = by_size (cases_lt n 6)
     where
-      sides : (x y : ℕ) → (x < y) ⊎ (y ≤ x)
-      sides x y = grind arith
-
       declared : n < 6 → block_at later n ≡ cells_from (config 0) (cells_declared (region_at d.regions n))
       declared l = filled n l ∙ in_order (region_at d.regions n)
 
@@ -196,15 +180,15 @@ module _ (d : Endpoint) (cells : CellFile) (bars : List BaseAddress) (blocks : L
 
       by_upper : q ≢ 4 → (q < 0x10) ⊎ (0x28 ≤ q) → (q ≡ 5) ⊎ (q ≢ 5) → reset_entry 4 5 cells.initial (entry q c) ≡ entry_after d (entry q c)
       by_upper a away (inl at) = kept (ap (λ k. nat_le 4 k && nat_le k 5) at) (ap (λ k. is_own (config k)) at)
-      by_upper a away (inr b) = by_header a b away (same_or_other q 0x0e)
+      by_upper a away (inr b) = by_header a b away (cases_eq q 0x0e)
 
       by_lower : (q < 0x10) ⊎ (0x28 ≤ q) → (q ≡ 4) ⊎ (q ≢ 4) → reset_entry 4 5 cells.initial (entry q c) ≡ entry_after d (entry q c)
       by_lower away (inl at) = kept (ap (λ k. nat_le 4 k && nat_le k 5) at) (ap (λ k. is_own (config k)) at)
-      by_lower away (inr a) = by_upper a away (same_or_other q 5)
+      by_lower away (inr a) = by_upper a away (cases_eq q 5)
 
       by_base : ((0x10 ≤ q) × (q < 0x28)) ⊎ ((q < 0x10) ⊎ (0x28 ≤ q)) → reset_entry 4 5 cells.initial (entry q c) ≡ entry_after d (entry q c)
       by_base (inl base) = let other : (q == q) ≡ false = none q base in let same = eq-eqb q q refl in absurd (cc)
-      by_base (inr away) = by_lower away (same_or_other q 4)
+      by_base (inr away) = by_lower away (cases_eq q 4)
 
   config_back : (xs : File) → IsConfigFile xs → ((q : ℕ) → (0x10 ≤ q) × (q < 0x28) → has_place xs (config q) ≡ false) → Each (IsHeaderKept cells.initial) xs
       → reset_outside 4 5 cells.initial xs ≡ after_reset d xs
@@ -235,11 +219,7 @@ module _ (d : Endpoint) (cells : CellFile) (bars : List BaseAddress) (blocks : L
   -- ---- what its parts keep
 
   place_stays : (e : Entry) → (reset_entry 4 5 cells.initial e).place ≡ e.place
-  place_stays e = by_place (is_between 4 5 e.place)
-    where
-      by_place : (t : Bool) → (cond t e (record e { cell = cell_at cells.initial e.place })).place ≡ e.place
-      by_place true = refl
-      by_place false = refl
+  place_stays e = search rules
 
   same_places : (xs : File) (p : Place) → has_place (reset_outside 4 5 cells.initial xs) p ≡ has_place xs p
   same_places [] p = refl
@@ -258,25 +238,11 @@ module _ (d : Endpoint) (cells : CellFile) (bars : List BaseAddress) (blocks : L
 
   header_stays : (p : Place) (c : Cell) → IsHeaderKept cells.initial (record { place = p; cell = c }) → IsHeaderKept cells.initial (reset_entry 4 5 cells.initial (record { place = p; cell = c }))
   header_stays (block n q) c h = λ e. absurd (cc)
-  header_stays (config q) c h = by_place (nat_le 4 q && nat_le q 5)
-    where
-      by_place : (t : Bool) → IsHeaderKept cells.initial (cond t (record { place = config q; cell = c }) (record { place = config q; cell = cell_at cells.initial (config q) }))
-      by_place true = h
-      by_place false = λ e.
-          let at : cell_at cells.initial (config q) ≡ cell_at cells.initial (config 0x0e) = ap (λ k. cell_at cells.initial (config k)) (eqb-true q 0x0e e) in
-          let k = h e in
-          (at, subst IsConstant (k.0 ∙ sym at) k.1)
+  header_stays (config q) c h = search (rules, eqb-true)
 
   headers_stay : (xs : File) → Each (IsHeaderKept cells.initial) xs → Each (IsHeaderKept cells.initial) (reset_outside 4 5 cells.initial xs)
   headers_stay [] h = tt
   headers_stay (x ∷ xs) h = (header_stays x.place x.cell h.0, headers_stay xs h.1)
 
   pub know_back : (f : CellFile) → f ≡ record cells { now = reset_outside 4 5 cells.initial cells.now } → (bs : List CellFile) → bs ≡ blocks_after blocks → KnowReset d f bs
-  know_back f is bs are = subst (λ (g : CellFile). KnowReset d g bs) (sym is) (subst (λ (fs : List CellFile). KnowReset d (record cells { now = reset_outside 4 5 cells.initial cells.now }) fs) (sym are) (record {
-    lawful = know.lawful;
-    header = headers_stay cells.now know.header;
-    declared = know.declared;
-    six = six;
-    block_cells = λ n l. again_at blocks n ∙ know.block_cells n l;
-    block_places = λ n. ap places_of (after_at blocks n ∙ sym (again_at blocks n));
-  }))
+  know_back f is bs are = search (rules, headers_stay, six, again_at, after_at)

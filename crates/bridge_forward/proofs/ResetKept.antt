@@ -1,26 +1,28 @@
 -- What an endpoint knows of its cells at reset: at the beginning, and after each change.
-use Rattle.std.proofs.Common.{◌≡◌, ◌≢◌, ℕ, ◌+◌, ◌-◌, ◌/◌, ◌%◌, ◌<◌, ◌≤◌, ◌⊎◌, inl, inr, Bool, true, false, ◌||◌, cond, Some, None, List, [], ◌∷◌, ◌++◌, length, refl, ap, ap₂, sym, ◌∙◌, subst, arith, get_or}
+use Rattle.std.proofs.Common.{◌≡◌, ◌≢◌, ℕ, ◌+◌, ◌-◌, ◌/◌, ◌%◌, ◌<◌, ◌≤◌, ◌⊎◌, inl, inr, Bool, true, false, Some, None, List, [], ◌∷◌, ◌++◌, length, refl, ap, ap₂, sym, ◌∙◌, subst, arith, get_or, rules, ltb}
 use Rattle.std.specs.Prelude.{flat_map, bit_and, bit_or}
 use Rattle.std.specs.Int.Bits.{and_zero_l, and_zero_r, or_zero_r}
 use Rattle.std.specs.List.{slice_get, slice_set}
 use Rattle.std.specs.Option.{option_map_or}
-use Rattle.std.proofs.lemmas.Bool.{ne_eqb}
+use Rattle.std.proofs.lemmas.Bool.{ne_eqb, ltb-true, ltb-false}
 use Rattle.std.proofs.lemmas.List.{length-set}
+use Rattle.std.proofs.lemmas.Option.{slice_get_past}
 use Rattle.lists.specs.Elements.{Each}
 use Rattle.model_registers.specs.Cell.{Cell, written, raised}
-use Rattle.model_registers.specs.Registers.{Place, config, block, after, place_eq, File, cell_at, changed, write, field}
-use Rattle.model_registers.specs.FileLaws.{has_place}
+use Rattle.model_registers.specs.Registers.{Place, config, block, after, File, cell_at, changed, write, field, number}
+use Rattle.model_registers.specs.FileLaws.{has_place, IsConfigFile}
 use Rattle.model_registers.specs.Declarations.{ConfigBlock, Endpoint}
 use Rattle.model_registers.specs.DeclarationRules.{IsConfigBlock, IsLawfulEndpoint}
-use Rattle.model_registers.specs.EndpointTable.{block_cells, header_type, header_cells, config_reset}
+use Rattle.model_registers.specs.EndpointTable.{block_cells, header_type, header_cells, config_reset, BaseAddress}
 use Rattle.model_registers.specs.OwnCopies.{is_own}
 use Rattle.config_bytes.specs.CellFile.{CellFile, places_of}
-use Rattle.bridge_forward.specs.EndpointParts.{block_at, block_at_reset, declared_block, IsConstant, IsHeaderKept, KnowReset, as_made}
+use Rattle.bridge_forward.specs.EndpointParts.{block_at, block_at_reset, declared_block, IsConstant, IsHeaderKept, KnowReset, as_made, region_parts, IsShort, IsEndpointFn}
 use Rattle.lists.proofs.Indices.{read_at}
 use Rattle.lists.proofs.EachLemmas.{each_append}
-use Rattle.bridge_forward.proofs.EndpointAccess.{get_set, get_other, block_there, block_set, other_blocks}
-use Rattle.bridge_forward.proofs.Nth.{past_end}
+use Rattle.bridge_forward.proofs.EndpointAccess.{get_set, get_other, block_there, block_set, other_blocks, IsBlockChange, no_block, block_short, config_kept, table_changed, table_kept, nothing_there}
 use Rattle.bridge_forward.proofs.EndpointReset.{none_field, none_cells}
+use Rattle.model_registers.specs.Decoding.{Function}
+use Rattle.model_registers.proofs.Files.{changed_config, change_keeps_places}
 
 -- ---- the header type stays
 
@@ -38,11 +40,7 @@ constant_raised m c h = ap (λ n. record c { value = n }) (ap (λ k. bit_or c.va
 
 pub header_changed : (f : Cell → Cell) → ((c : Cell) → IsConstant c → f c ≡ c) → (initial : File) (p : Place) (xs : File) → Each (IsHeaderKept initial) xs → Each (IsHeaderKept initial) (changed f p xs)
 header_changed f stays initial p [] h = tt
-header_changed f stays initial p (x ∷ xs) h = (by_place (place_eq x.place p), header_changed f stays initial p xs h.1)
-  where
-    by_place : (t : Bool) → IsHeaderKept initial (cond t (record x { cell = f x.cell }) x)
-    by_place true = λ e. let k = h.0 e in let same = stays x.cell k.1 in (same ∙ k.0, subst IsConstant (sym same) k.1)
-    by_place false = h.0
+header_changed f stays initial p (x ∷ xs) h = search (rules, header_changed f stays initial p xs h.1)
 
 pub header_written : (initial : File) (ons : List Bool) (v : ℕ) (p : Place) (xs : File) → Each (IsHeaderKept initial) xs → Each (IsHeaderKept initial) (write ons v p xs)
 header_written initial [] v p xs h = h
@@ -50,33 +48,11 @@ header_written initial (true ∷ ons) v p xs h =
     header_written initial ons (v / 256) (after p) (changed (written (v % 256)) p xs) (header_changed (written (v % 256)) (constant_written (v % 256)) initial p xs h)
 header_written initial (false ∷ ons) v p xs h = header_written initial ons (v / 256) (after p) xs h
 
--- ---- places stay
-
-pub places_changed : (f : Cell → Cell) (p : Place) (xs : File) → places_of (changed f p xs) ≡ places_of xs
-places_changed f p [] = refl
-places_changed f p (x ∷ xs) = ap₂ (λ (q : Place) (qs : List Place). q ∷ qs) (by_place (place_eq x.place p)) (places_changed f p xs)
-  where
-    by_place : (t : Bool) → (cond t (record x { cell = f x.cell }) x).place ≡ x.place
-    by_place true = refl
-    by_place false = refl
-
-pub places_written : (ons : List Bool) (v : ℕ) (p : Place) (xs : File) → places_of (write ons v p xs) ≡ places_of xs
-places_written [] v p xs = refl
-places_written (true ∷ ons) v p xs = places_written ons (v / 256) (after p) (changed (written (v % 256)) p xs) ∙ places_changed (written (v % 256)) p xs
-places_written (false ∷ ons) v p xs = places_written ons (v / 256) (after p) xs
-
 -- ---- changes
 
 -- other configuration cells, of the same cells at reset
 pub know_config : (d : Endpoint) (cells later : CellFile) (blocks : List CellFile) → KnowReset d cells blocks → later.initial ≡ cells.initial → Each (IsHeaderKept cells.initial) later.now → KnowReset d later blocks
-know_config d cells later blocks know same header = record {
-  lawful = know.lawful;
-  header = subst (λ (xs : File). Each (IsHeaderKept xs) later.now) (sym same) header;
-  declared = λ p h. ap (λ (xs : File). cell_at xs p) same ∙ know.declared p h;
-  six = know.six;
-  block_cells = know.block_cells;
-  block_places = know.block_places;
-}
+know_config d cells later blocks know same header = search rules
 
 reset_there : (blocks : List CellFile) (n : ℕ) (f : CellFile) → n < length blocks → f ≡ get_or blocks n f → block_at_reset blocks n ≡ f.initial
 reset_there blocks n f l e = ap (λ o. option_map_or (λ (x : CellFile). x.initial) o []) (read_at blocks n f l e)
@@ -84,39 +60,13 @@ reset_there blocks n f l e = ap (λ o. option_map_or (λ (x : CellFile). x.initi
 -- another block, of the same cells at reset and at the same places
 pub know_block : (d : Endpoint) (cells : CellFile) (blocks : List CellFile) → KnowReset d cells blocks → (n : ℕ) (f : CellFile) → n < length blocks → f ≡ get_or blocks n f
     → (k : CellFile) → k.initial ≡ f.initial → places_of k.now ≡ places_of f.now → KnowReset d cells (slice_set blocks n k)
-know_block d cells blocks know n f l there k same places = record {
-  lawful = know.lawful;
-  header = know.header;
-  declared = know.declared;
-  six = length-set blocks n k ∙ know.six;
-  block_cells = λ m h. at_reset m (same_or_other m n) ∙ know.block_cells m h;
-  block_places = λ m. at_places m (same_or_other m n) ∙ know.block_places m ∙ ap places_of (sym (at_reset m (same_or_other m n)));
-}
-  where
-    same_or_other : (x y : ℕ) → (x ≡ y) ⊎ (x ≢ y)
-    same_or_other x y = grind arith
-
-    at_reset : (m : ℕ) → (m ≡ n) ⊎ (m ≢ n) → block_at_reset (slice_set blocks n k) m ≡ block_at_reset blocks m
-    at_reset m (inl e) =
-        ap (block_at_reset (slice_set blocks n k)) e
-        ∙ ap (λ o. option_map_or (λ (x : CellFile). x.initial) o []) (get_set blocks n k l) ∙ same ∙ sym (reset_there blocks n f l there) ∙ ap (block_at_reset blocks) (sym e)
-    at_reset m (inr e) = ap (λ o. option_map_or (λ (x : CellFile). x.initial) o []) (get_other blocks n m k e)
-
-    at_places : (m : ℕ) → (m ≡ n) ⊎ (m ≢ n) → places_of (block_at (slice_set blocks n k) m) ≡ places_of (block_at blocks m)
-    at_places m (inl e) =
-        ap (λ j. places_of (block_at (slice_set blocks n k) j)) e
-        ∙ ap places_of (block_set blocks n k l) ∙ places ∙ ap places_of (sym (block_there blocks n f l there)) ∙ ap (λ j. places_of (block_at blocks j)) (sym e)
-    at_places m (inr e) = ap places_of (other_blocks blocks n m k e)
+know_block d cells blocks know n f l there k same places = search (rules, length-set, get_set, reset_there, get_other, block_set, block_there, other_blocks)
 
 -- ---- at the beginning
 
 no_header : (initial xs : File) → has_place xs (config 0x0e) ≡ false → Each (IsHeaderKept initial) xs
 no_header initial [] h = tt
-no_header initial (x ∷ xs) h = by_first (place_eq x.place (config 0x0e)) refl h (no_header initial xs)
-  where
-    by_first : (t : Bool) → place_eq x.place (config 0x0e) ≡ t → (t || has_place xs (config 0x0e)) ≡ false → (has_place xs (config 0x0e) ≡ false → Each (IsHeaderKept initial) xs) → Each (IsHeaderKept initial) (x ∷ xs)
-    by_first true e k rest = absurd (cc)
-    by_first false e k rest = (λ z. absurd (cc), rest k)
+no_header initial (x ∷ xs) h = search (rules, no_header initial xs)
 
 record IsKept (initial xs : File) : Type 0 where
   each : Each (IsHeaderKept initial) xs
@@ -132,18 +82,10 @@ above initial a w v m c l = record { each = no_header initial (field (config a) 
 
 kept_blocks : (initial : File) (bs : List ConfigBlock) → Each IsConfigBlock bs → Each (IsHeaderKept initial) (flat_map block_cells bs)
 kept_blocks initial [] h = tt
-kept_blocks initial (b ∷ bs) h =
-    let begins = h.0.begins in
-    each_append (IsHeaderKept initial) (block_cells b) (flat_map block_cells bs)
-    (no_header initial (block_cells b) (none_cells 0x0e b.offset b.cells (inl (omega (arith, begins)))))
-    (kept_blocks initial bs h.1)
+kept_blocks initial (b ∷ bs) h = search (rules, each_append, no_header, none_cells, kept_blocks initial bs h.1)
 
 own_header : (d : Endpoint) (multifunction : Bool) → IsKept (config_reset d multifunction) (field (config 0x0e) 1 (header_type 0 multifunction) 0 0)
-own_header d multifunction = record { each = (λ _. (refl, (fits multifunction, refl, refl)), tt) }
-  where
-    fits : (b : Bool) → bit_and (header_type 0 b % 256) 255 ≡ header_type 0 b % 256
-    fits true = refl
-    fits false = refl
+own_header d multifunction = search rules
 
 header_new : (d : Endpoint) (multifunction : Bool) → Each IsConfigBlock d.blocks → Each (IsHeaderKept (config_reset d multifunction)) (config_reset d multifunction)
 header_new d multifunction lawful = (join fields (record { each = kept_blocks (config_reset d multifunction) d.blocks lawful })).each
@@ -184,10 +126,63 @@ know_new d lawful multifunction cells made blocks six filled = subst (λ (f : Ce
     sides n = grind arith
 
     past : (n : ℕ) → 6 ≤ n → slice_get blocks n ≡ None
-    past n l = past_end blocks n (omega (arith, six, l))
+    past n l = slice_get_past blocks n (omega (arith, six, l))
 
     places : (n : ℕ) → (n < 6) ⊎ (6 ≤ n) → places_of (block_at blocks n) ≡ places_of (block_at_reset blocks n)
     places n (inl l) =
         ap (λ o. places_of (option_map_or (λ (x : CellFile). x.now) o [])) (filled n l) ∙ sym (ap (λ o. places_of (option_map_or (λ (x : CellFile). x.initial) o [])) (filled n l))
     places n (inr l) =
         ap (λ o. places_of (option_map_or (λ (x : CellFile). x.now) o [])) (past n l) ∙ sym (ap (λ o. places_of (option_map_or (λ (x : CellFile). x.initial) o [])) (past n l))
+
+-- ---- an endpoint after a change of cells: of its own configuration cells, or of one block's
+
+abbrev file_of : CellFile → List BaseAddress → List CellFile → File
+file_of cells bars blocks = cells.now ++ region_parts bars (block_at blocks)
+
+abbrev with_file : Endpoint → File → Function
+with_file d file = record { decl = d; file = file }
+
+module _ {d : Endpoint} {cells : CellFile} {command : ℕ} {bars : List BaseAddress} {blocks : List CellFile} (h : IsEndpointFn d cells command bars blocks) where
+  -- its configuration cells, of the same header type and at the same places
+  pub config_invariant : (later : CellFile) (now : ℕ) → later.initial ≡ cells.initial → now ≡ number later.now (config 0x04) 2 → IsConfigFile later.now → ((q : ℕ) → has_place later.now (config q) ≡ has_place cells.now (config q))
+      → Each (IsHeaderKept cells.initial) later.now → IsEndpointFn d later now bars blocks
+  config_invariant later now same command_is places stay header = record {
+    parts = config_kept d cells.now bars (block_at blocks) h.parts later.now bars refl places stay;
+    command_is = command_is;
+    reset = know_config d cells later blocks h.reset same header;
+  }
+
+  -- one cell of these
+  pub cell_invariant : (f : Cell → Cell) (off : ℕ) (later : CellFile) (now : ℕ) → later ≡ record cells { now = changed f (config off) cells.now } → now ≡ number later.now (config 0x04) 2
+      → Each (IsHeaderKept cells.initial) (changed f (config off) cells.now) → IsEndpointFn d later now bars blocks
+  cell_invariant f off later now is command_is header =
+      let cells_are = ap (λ (x : CellFile). x.now) is in
+      config_invariant later now (ap (λ (x : CellFile). x.initial) is) command_is
+      (subst IsConfigFile (sym cells_are) (changed_config f (config off) cells.now h.parts.config_places))
+      (λ q. ap (λ (xs : File). has_place xs (config q)) cells_are ∙ change_keeps_places f (config off) (config q) cells.now)
+      (subst (λ (xs : File). Each (IsHeaderKept cells.initial) xs) (sym cells_are) header)
+
+  module _ {n : ℕ} {change inner : File → File} (c : IsBlockChange n change inner) where
+    -- no block stands at the register
+    pub nothing_shown : false ≡ ltb n (length blocks) → with_file d (file_of cells bars blocks) ≡ with_file d (change (file_of cells bars blocks))
+    nothing_shown past = ap (with_file d) (sym (nothing_there d cells.now bars (block_at blocks) h.parts n change inner c (no_block blocks n (ltb-false n (length blocks) (sym past)))))
+
+    module _ (f k : CellFile) (l : true ≡ ltb n (length blocks)) (there : f ≡ get_or blocks n f) (is : k ≡ record f { now = inner f.now }) where
+      low : n < length blocks
+      low = ltb-true n (length blocks) (sym l)
+
+      now : k.now ≡ inner f.now
+      now = ap (λ (x : CellFile). x.now) is
+
+      pub block_invariant : IsEndpointFn d cells command bars (slice_set blocks n k)
+      block_invariant = record {
+        parts = table_kept d cells.now bars (block_at blocks) h.parts blocks refl n f low there change inner c k now;
+        command_is = h.command_is;
+        reset = know_block d cells blocks h.reset n f low there k (ap (λ (x : CellFile). x.initial) is) (ap places_of now ∙ c.all_places f.now);
+      }
+
+      pub block_shown : with_file d (file_of cells bars (slice_set blocks n k)) ≡ with_file d (change (file_of cells bars blocks))
+      block_shown = ap (with_file d) (sym (table_changed d cells.now bars (block_at blocks) h.parts blocks refl n f low there change inner c k now))
+
+  pub short_there : (n : ℕ) (f : CellFile) → true ≡ ltb n (length blocks) → f ≡ get_or blocks n f → IsShort f.now
+  short_there n f l there = subst IsShort (block_there blocks n f (ltb-true n (length blocks) (sym l)) there) (block_short d cells.now bars (block_at blocks) h.parts n)

@@ -2,8 +2,8 @@
 use Rattle.std.proofs.Common.{◌≡◌, ℕ, zero, suc, ◌+◌, ◌^◌, ◌<◌, ◌≤◌, List, [], ◌∷◌, ◌++◌, length, take, get_or, Option, Some, None, refl, sym, ap, ap₂, ◌∙◌, subst, arith}
 use Rattle.std.specs.Prelude.{map, slice_get, option_map}
 use Rattle.std.specs.Option.{option_to_list}
-use Rattle.std.proofs.lemmas.List.{map-append, length-take}
-use Rattle.std.proofs.lemmas.Option.{slice_get_within}
+use Rattle.std.proofs.lemmas.List.{map-append, length-take, take_more}
+use Rattle.std.proofs.lemmas.Option.{slice_get_within, get_or_from_slice_get, slice_get-get_or}
 use Rattle.lists.specs.Elements.{Each}
 use Rattle.model_registers.specs.EndpointTable.{BaseAddress, IsLawfulBase, base_width}
 use Rattle.model_registers.specs.Windows as model
@@ -12,33 +12,24 @@ use Rattle.headers.specs.WindowPairs.{pair_of}
 use Rattle.bars.specs.declared.region.Region.{Region}
 use Rattle.bars.specs.Slots.{placed, bases_from}
 use Rattle.bars.proofs.Regions.{width_limit, size_positive}
-use Rattle.bridge_forward.specs.RoutingRows.{window_of, base_of}
+use Rattle.bridge_forward.specs.RoutingRows.{base_of}
 use Rattle.bridge_forward.specs.declared.region_now.RegionNow.{RegionNow}
 
 -- ---- one more register
 
-bases_push : (n : ℕ) (slots : List (Option Region)) (o : Option Region) → bases_from n (slots ++ o ∷ []) ≡ bases_from n slots ++ bases_from (n + length slots) (o ∷ [])
+pub bases_push : (n : ℕ) (slots : List (Option Region)) (o : Option Region) → bases_from n (slots ++ o ∷ []) ≡ bases_from n slots ++ bases_from (n + length slots) (o ∷ [])
 bases_push n [] o = let z : n ≡ n + 0 = omega arith in ap (λ m. bases_from m (o ∷ [])) z
 bases_push n (None ∷ slots) o = let z : n + 1 + length slots ≡ n + suc (length slots) = omega arith in bases_push (n + 1) slots o ∙ ap (λ m. bases_from (n + 1) slots ++ bases_from m (o ∷ [])) z
 bases_push n (Some x ∷ slots) o =
     let z : n + 1 + length slots ≡ n + suc (length slots) = omega arith in
     ap (λ rs. placed n x ∷ rs) (bases_push (n + 1) slots o ∙ ap (λ m. bases_from (n + 1) slots ++ bases_from m (o ∷ [])) z)
 
-take_at : {A : Type 0} (xs : List A) (i : ℕ) (x : A) → slice_get xs i ≡ Some x → take (i + 1) xs ≡ take i xs ++ x ∷ []
-take_at xs i x e = let one : suc i ≡ i + 1 = omega arith in subst (λ n. take n xs ≡ take i xs ++ x ∷ []) one (by_suc xs i x e)
-  where
-    by_suc : {A : Type 0} (xs : List A) (i : ℕ) (x : A) → slice_get xs i ≡ Some x → take (suc i) xs ≡ take i xs ++ x ∷ []
-    by_suc [] i x e = absurd (cc)
-    by_suc (y ∷ xs) zero x e = let same : y ≡ x = cc in ap (λ z. z ∷ []) same
-    by_suc (y ∷ xs) (suc i) x e = ap (λ zs. y ∷ zs) (by_suc xs i x e)
+-- the front as far as an element
+pub take_at : {A : Type 0} (xs : List A) (i : ℕ) (x : A) → slice_get xs i ≡ Some x → take (i + 1) xs ≡ take i xs ++ x ∷ []
+take_at xs i x e = take_more xs i x (slice_get_within xs i x e) ∙ ap (λ y. take i xs ++ y ∷ []) (get_or_from_slice_get xs i x x e)
 
 pub slot_there : (slots : List (Option Region)) (i j : ℕ) (o d : Option Region) → o ≡ get_or slots j d → j ≡ i → i < length slots → slice_get slots i ≡ Some o
-slot_there slots i j o d e same within = there slots i o d (e ∙ ap (λ k. get_or slots k d) same) within
-  where
-    there : (xs : List (Option Region)) (k : ℕ) (x y : Option Region) → x ≡ get_or xs k y → k < length xs → slice_get xs k ≡ Some x
-    there [] k x y e l = absurd (omega arith)
-    there (z ∷ xs) zero x y e l = ap Some (sym e)
-    there (z ∷ xs) (suc k) x y e l = there xs k x y e (omega arith)
+slot_there slots i j o d e same within = slice_get-get_or slots i d within ∙ ap Some (sym (e ∙ ap (λ k. get_or slots k d) same))
 
 pub register_push : (slots : List (Option Region)) (i : ℕ) (o : Option Region) (rs : List RegionNow) (found : Option RegionNow) → slice_get slots i ≡ Some o
     → map base_of rs ≡ bases_from 0 (take i slots) → map base_of (option_to_list found) ≡ bases_from i (o ∷ []) → map base_of (rs ++ option_to_list found) ≡ bases_from 0 (take (i + 1) slots)

@@ -1,5 +1,5 @@
 -- What a search for a bridge may pass: functions that are no bridges, with nothing behind them.
-use Rattle.std.proofs.Common.{◌≡◌, ◌≢◌, ℕ, zero, suc, ◌+◌, ◌-◌, ◌<◌, ◌≤◌, ◌⊎◌, inl, inr, Bool, true, false, ◌&&◌, not, cond, Some, List, [], ◌∷◌, length, refl, ap, sym, ◌∙◌, subst, arith}
+use Rattle.std.proofs.Common.{◌≡◌, ◌≢◌, ℕ, zero, suc, ◌+◌, ◌<◌, ◌≤◌, ◌⊎◌, inl, inr, Bool, true, false, ◌&&◌, not, cond, Some, List, [], ◌∷◌, length, refl, ap, sym, ◌∙◌, subst, arith, rules}
 use Rattle.std.specs.Prelude.{◌==◌, nat_le}
 use Rattle.std.specs.List.{slice_get, slice_set}
 use Rattle.std.proofs.lemmas.Bool.{eqb-true}
@@ -17,7 +17,7 @@ use Rattle.bridge_forward.specs.Layout.{function_of, functions_of, paths_of, end
 use Rattle.bridge_forward.specs.Skips.{AreSkipped, IsTree, is_passed, first_bridge}
 use Rattle.bridge_forward.specs.Search.{IsSide}
 use Rattle.lists.proofs.Indices.{at_below, map_at, map_set, set_same, same_at}
-use Rattle.bridge_forward.proofs.Searching.{Passed, passed_next}
+use Rattle.bridge_forward.proofs.Reached.{Passed, passed_next}
 
 -- an element of a list in which one was set
 pub set_cases : {A : Type 0} (xs : List A) (i j : ℕ) (x y : A) → slice_get (slice_set xs i x) j ≡ Some y → ((j ≡ i) × (y ≡ x)) ⊎ ((j ≢ i) × (slice_get xs j ≡ Some y))
@@ -84,18 +84,11 @@ module _ (nodes : List Node) (laid : IsLaidOut nodes) (bus : Path) (n from to : 
 -- what is passed by takes no cycle
 pub passed_at : (nodes : List Node) (laid : IsLaidOut nodes) (bus : Path) (n from to : ℕ) (side : IsSide nodes bus from to) (i b : ℕ) → Passed nodes laid bus n from to side i → AreSkipped nodes i b → from ≤ i
     → b < to → Passed nodes laid bus n from to side b
-passed_at nodes laid bus n from to side i b p s l h =
-    let ahead = s.ahead in
-    let sum : i + (b - i) ≡ b = omega (arith, ahead) in
-    subst (Passed nodes laid bus n from to side) sum
-    (passed_run nodes laid bus n from to side (b - i) i p (λ j m a c g. s.leaves j m a (omega (arith, c, sum)) g) l (omega (arith, sum, h)))
+passed_at nodes laid bus n from to side i b p s l h = search (rules, passed_run)
 
 pub passed_whole : (nodes : List Node) (laid : IsLaidOut nodes) (bus : Path) (n from to : ℕ) (side : IsSide nodes bus from to) (i b : ℕ) → Passed nodes laid bus n from to side i → AreSkipped nodes i b → from ≤ i
     → i < to → to ≤ b → Passed nodes laid bus n from to side to
-passed_whole nodes laid bus n from to side i b p s l h g =
-    let sum : i + (to - i) ≡ to = omega (arith, h) in
-    subst (Passed nodes laid bus n from to side) sum
-    (passed_run nodes laid bus n from to side (to - i) i p (λ j m a c e. s.leaves j m a (omega (arith, c, sum, g)) e) l (omega (arith, sum)))
+passed_whole nodes laid bus n from to side i b p s l h g = search (rules, passed_run)
 
 -- ---- where the next bridges stand
 
@@ -108,13 +101,7 @@ pub record Linked (nodes initial : List Node) (i next : ℕ) : Type 0 where
   pub skips : (k : ℕ) (m : Node) → i ≤ k → slice_get nodes k ≡ Some m → AreSkipped nodes k m.bridge
 
 pub linked_none : (nodes : List Node) → Linked nodes nodes (length nodes) (length nodes)
-linked_none nodes = record {
-  paths = refl;
-  ends = refl;
-  functions = refl;
-  run = record { ahead = omega arith; leaves = λ j n l h e. absurd (omega (arith, l, h)) };
-  skips = λ k m l e. let w = slice_get_within nodes k m e in absurd (omega (arith, l, w));
-}
+linked_none nodes = search (rules, slice_get_within)
 
 run_here : (nodes : List Node) (i next : ℕ) (n : Node) → slice_get nodes i ≡ Some n → AreSkipped nodes (i + 1) next → AreSkipped nodes i (first_bridge n i next)
 run_here nodes i next n e s = by_test (is_passed n i) refl

@@ -1,6 +1,6 @@
 use Rattle.std.proofs.Common.{◌≤◌, length, sym, ap, ◌∙◌, subst}
 use Rattle.model_registers.specs.Declarations.{Region}
-use Rattle.bridge_forward.proofs.BlockLists.{found_each}
+use Rattle.bridge_forward.proofs.EndpointReset.{found_each}
 use Rattle.bridge_forward.proofs.blocks.block_at.Goals as goal
 
 pub block_file-requires : goal.block_file-requires

@@ -1,5 +1,5 @@
 use Rattle.std.proofs.Common.{sym, arith}
-use Rattle.bridge_forward.proofs.DeviceBytes.{value_past}
+use Rattle.bridge_forward.proofs.EndpointAccess.{value_past}
 use Rattle.bridge_forward.proofs.offsets.value.Goals as goal
 
 pub returns-in_default : goal.returns-in_default

@@ -1,7 +1,7 @@
 use Rattle.std.proofs.Common.{◌≡◌, ◌+◌, true, false, map, drop, sym, ◌∙◌}
 use Rattle.std.proofs.lemmas.List.{take_rest}
 use Rattle.model_board.specs.Places.{has_path}
-use Rattle.bridge_forward.proofs.Standings.{apart_from_here, not_apart_here}
+use Rattle.bridge_forward.proofs.Halving.{apart_from_here, not_apart_here}
 use Rattle.bridge_forward.proofs.places.are_apart.Goals as goal
 
 pub returns-then-has_path : goal.returns-then-has_path

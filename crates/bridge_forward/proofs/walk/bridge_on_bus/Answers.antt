@@ -1,7 +1,7 @@
 use Rattle.std.proofs.Common.{arith, sym, ◌∙◌}
 use Rattle.lists.proofs.Indices.{read_at}
 use Rattle.bridge_forward.proofs.Nodes.{inside}
-use Rattle.bridge_forward.proofs.Searching.{passed_none, passed_next, first_here, none_on_bus}
+use Rattle.bridge_forward.proofs.Reached.{passed_none, passed_next, first_here, none_on_bus}
 use Rattle.bridge_forward.proofs.Skipping.{passed_at, passed_whole}
 use Rattle.bridge_forward.proofs.walk.bridge_on_bus.Goals as goal
 

@@ -7,7 +7,7 @@ use Rattle.bars.specs.Kinds.{named_space}
 use Rattle.bridge_forward.specs.Layout.{function_of}
 use Rattle.lists.proofs.Indices.{read_at, map_at}
 use Rattle.bridge_forward.proofs.Nodes.{inside}
-use Rattle.bridge_forward.proofs.Nth.{nth_is}
+use Rattle.bridge_forward.proofs.Changes.{nth_is}
 use Rattle.bridge_forward.proofs.Claiming.{passed_into, passed_over, claim_here, claim_nowhere, hit_of_endpoint, endpoint_forwards_nothing, bridge_claims_nothing, bridge_forwards}
 use Rattle.bridge_forward.proofs.walk.locate.Goals as goal
 

@@ -6,7 +6,7 @@ use Rattle.model_board.proofs.StateRows.{at_reset}
 use Rattle.bridge_forward.specs.Layout.{functions_of}
 use Rattle.bridge_forward.specs.Skips.{IsTree}
 use Rattle.bridge_forward.proofs.KnownRoutes.{routes_unknown}
-use Rattle.bridge_forward.proofs.BoardPaths.{nodes_in_order}
+use Rattle.bridge_forward.proofs.BoardOrder.{nodes_in_order}
 use Rattle.bridge_forward.proofs.bus.Bus.build.Goals as goal
 
 pub lay_out-requires : goal.lay_out-requires

@@ -2,13 +2,13 @@ use Rattle.std.proofs.Common.{refl, ◌≡◌, false, None, Option, ap, arith, i
 use Rattle.std.specs.List.{slice_get}
 use Rattle.std.specs.Option.{option_map_or}
 use Rattle.std.proofs.lemmas.List.{length-map}
+use Rattle.std.proofs.lemmas.Option.{slice_get_past}
 use Rattle.model_board.specs.State.{BoardFunction}
 use Rattle.bridge_forward.specs.Layout.{function_of, functions_of}
 use Rattle.bridge_forward.specs.Lending.{as_endpoint, endpoint_nth, with_endpoint_nth}
 use Rattle.lists.proofs.Indices.{read_at}
 use Rattle.bridge_forward.proofs.Nodes.{functions_in_order}
-use Rattle.bridge_forward.proofs.Changes.{kept, same_read, same_order}
-use Rattle.bridge_forward.proofs.Nth.{past_end, nth_set, nth_there}
+use Rattle.bridge_forward.proofs.Changes.{kept, same_read, same_order, nth_set, nth_there}
 use Rattle.model_board.specs.Board.{is_bridge}
 use Rattle.bridge_forward.specs.declared.bus.Node.{Node}
 use Rattle.bridge_forward.specs.Functions.{decl_of}
@@ -20,7 +20,7 @@ pub returns-then-index-len : goal.returns-then-index-len
 returns-then-index-len c =
     let nodes = c.self.inside.nodes.items in
     let none : slice_get (functions_of nodes) c.args.index ≡ None =
-    past_end (functions_of nodes) c.args.index (rw (length-map nodes function_of) (omega (arith, c.if-index-len.true, c.len.ensures))) in (
+    slice_get_past (functions_of nodes) c.args.index (rw (length-map nodes function_of) (omega (arith, c.if-index-len.true, c.len.ensures))) in (
       ap (λ fs. inr fs) c.self.view_is,
       record {
         lends = tt;

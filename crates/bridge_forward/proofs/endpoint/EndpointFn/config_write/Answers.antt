@@ -9,7 +9,7 @@ use Rattle.model_registers.proofs.Files.{places_stay}
 use Rattle.config_bytes.specs.CellFile.{CellFile}
 use Rattle.bridge_forward.specs.EndpointParts.{region_parts, block_at, IsHeaderKept}
 use Rattle.bridge_forward.proofs.EndpointAccess.{write_base, write_config, config_kept, word_away}
-use Rattle.bridge_forward.proofs.ResetKept.{know_config, header_written}
+use Rattle.bridge_forward.proofs.ResetKept.{header_written, config_invariant}
 use Rattle.bridge_forward.proofs.endpoint.EndpointFn.config_write.Goals as goal
 
 pub invariant_of-self : goal.invariant_of-self
@@ -27,15 +27,9 @@ invariant_of-self-in-None c =
     let ons = lanes c.args.enables in
     let later = c.write-in-None.new.self in
     let now = ap (λ (f : CellFile). f.now) c.write-in-None.ensures.cells in
-    let same = ap (λ (f : CellFile). f.initial) c.write-in-None.ensures.cells in
-    let reset = c.self.invariant.reset in
-    record {
-      parts = config_kept e.decl e.config.now e.bars (block_at e.blocks.items) c.self.invariant.parts later.now e.bars refl c.write-in-None.ensures.places
-          (λ q. ap (λ (xs : File). has_place xs (config q)) now ∙ places_stay ons c.args.data (config c.from.result) (config q) e.config.now);
-      command_is = c.command.ensures;
-      reset = know_config e.decl e.config later e.blocks.items reset same
-          (subst (λ (xs : File). Each (IsHeaderKept e.config.initial) xs) (sym now) (header_written e.config.initial ons c.args.data (config c.from.result) e.config.now reset.header));
-    }
+    config_invariant c.self.invariant later _ (ap (λ (f : CellFile). f.initial) c.write-in-None.ensures.cells) c.command.ensures c.write-in-None.ensures.places
+    (λ q. ap (λ (xs : File). has_place xs (config q)) now ∙ places_stay ons c.args.data (config c.from.result) (config q) e.config.now)
+    (subst (λ (xs : File). Each (IsHeaderKept e.config.initial) xs) (sym now) (header_written e.config.initial ons c.args.data (config c.from.result) e.config.now c.self.invariant.reset.header))
 
 pub returns-in-Some : goal.returns-in-Some
 returns-in-Some c =

@@ -1,34 +1,18 @@
-use Rattle.std.proofs.Common.{◌++◌, ap, refl, sym, ◌∙◌, subst}
-use Rattle.std.proofs.lemmas.Bool.{ltb-true, ltb-false}
-use Rattle.lists.specs.Elements.{Each}
+use Rattle.std.proofs.Common.{◌++◌, ap, sym, ◌∙◌}
 use Rattle.model_registers.specs.Cell.{raised}
-use Rattle.model_registers.specs.Registers.{File, config, block, raise}
-use Rattle.model_registers.specs.FileLaws.{IsConfigFile, has_place}
+use Rattle.model_registers.specs.Registers.{Place, File, config, block, raise}
 use Rattle.model_registers.specs.Decoding.{Function}
-use Rattle.model_registers.proofs.Files.{change_keeps_places, changed_config}
-use Rattle.config_bytes.specs.CellFile.{CellFile, places_of}
+use Rattle.config_bytes.specs.CellFile.{CellFile}
 use Rattle.headers.specs.Places.{place_of}
-use Rattle.bridge_forward.specs.EndpointParts.{region_parts, block_at, IsShort, IsHeaderKept}
-use Rattle.bridge_forward.proofs.EndpointAccess.{block_there, no_block, block_short, config_kept, raise_config, raise_in_block, table_changed, table_kept, nothing_there}
-use Rattle.bridge_forward.proofs.ResetKept.{know_block, know_config, header_changed, constant_raised, places_changed}
+use Rattle.bridge_forward.specs.EndpointParts.{region_parts, block_at}
+use Rattle.bridge_forward.proofs.EndpointAccess.{change_in_block, raise_config}
+use Rattle.bridge_forward.proofs.ResetKept.{header_changed, constant_raised, cell_invariant, short_there, block_invariant, block_shown, nothing_shown}
 use Rattle.bridge_forward.proofs.endpoint.EndpointFn.raise.Goals as goal
 
 pub invariant_of-self : goal.invariant_of-self
 invariant_of-self c =
-    let e = c.self.inside in
-    let later = c.raise.new.cells in
-    let now = ap (λ (f : CellFile). f.now) c.raise.ensures in
-    let same = ap (λ (f : CellFile). f.initial) c.raise.ensures in
-    let reset = c.self.invariant.reset in
-    record {
-      parts = config_kept e.decl e.config.now e.bars (block_at e.blocks.items) c.self.invariant.parts later.now e.bars refl
-          (subst IsConfigFile (sym now) (changed_config (raised c.args.mask) (config c.args.off) e.config.now c.self.invariant.parts.config_places))
-          (λ q. ap (λ (xs : File). has_place xs (config q)) now ∙ change_keeps_places (raised c.args.mask) (config c.args.off) (config q) e.config.now);
-      command_is = c.command.ensures;
-      reset = know_config e.decl e.config later e.blocks.items reset same
-          (subst (λ (xs : File). Each (IsHeaderKept e.config.initial) xs) (sym now)
-          (header_changed (raised c.args.mask) (constant_raised c.args.mask) e.config.initial (config c.args.off) e.config.now reset.header));
-    }
+    cell_invariant c.self.invariant (raised c.args.mask) c.args.off c.raise.new.cells _ c.raise.ensures c.command.ensures
+    (header_changed (raised c.args.mask) (constant_raised c.args.mask) c.self.inside.config.initial (config c.args.off) c.self.inside.config.now c.self.invariant.reset.header)
 
 pub returns-in-Cfg : goal.returns-in-Cfg
 returns-in-Cfg c =
@@ -39,47 +23,20 @@ returns-in-Cfg c =
     ∙ ap (λ p. record c.args.self.now { file = raise c.args.mask (place_of p c.args.off) c.args.self.now.file }) (sym c.in-Cfg.is)
 
 pub raise-requires-in-Some : goal.raise-requires-in-Some
-raise-requires-in-Some c =
-    let e = c.self.inside in
-    let n = c.from.result in
-    subst IsShort (block_there e.blocks.items n c.in-Some.block.now (ltb-true _ _ (sym c.in-Some.ensures.item.0)) c.in-Some.ensures.item.1)
-    (block_short e.decl e.config.now e.bars (block_at e.blocks.items) c.self.invariant.parts n)
+raise-requires-in-Some c = short_there c.self.invariant c.from.result c.in-Some.block.now c.in-Some.ensures.item.0 c.in-Some.ensures.item.1
 
 pub invariant_of-self-in-Some : goal.invariant_of-self-in-Some
 invariant_of-self-in-Some c =
-    let e = c.self.inside in
-    let n = c.from.result in
-    let l = ltb-true _ _ (sym c.in-Some.ensures.item.0) in
-    let there = c.in-Some.ensures.item.1 in
-    let now = ap (λ (f : CellFile). f.now) c.raise-in-Some.ensures in
-    record {
-      parts = table_kept e.decl e.config.now e.bars (block_at e.blocks.items) c.self.invariant.parts e.blocks.items refl n c.in-Some.block.now l there
-          (raise c.args.mask (block n c.args.off)) (raise c.args.mask (config c.args.off)) (raise_in_block n c.args.off c.args.mask) c.raise-in-Some.new.cells now
-          (λ xs h. changed_config (raised c.args.mask) (config c.args.off) xs h) (λ xs q. change_keeps_places (raised c.args.mask) (config c.args.off) (config q) xs) refl;
-      command_is = c.self.invariant.command_is;
-      reset = know_block e.decl e.config e.blocks.items c.self.invariant.reset n c.in-Some.block.now l there c.raise-in-Some.new.cells
-          (ap (λ (f : CellFile). f.initial) c.raise-in-Some.ensures) (ap places_of now ∙ places_changed (raised c.args.mask) (config c.args.off) c.in-Some.block.now.now);
-    }
+    block_invariant c.self.invariant (change_in_block (raised c.args.mask) c.from.result c.args.off) c.in-Some.block.now c.raise-in-Some.new.cells c.in-Some.ensures.item.0 c.in-Some.ensures.item.1 c.raise-in-Some.ensures
 
 pub returns-in-Some : goal.returns-in-Some
 returns-in-Some c =
-    let e = c.self.inside in
-    let n = c.from.result in
-    sym (ap (λ (xs : File). record { decl = e.decl; file = xs })
-    (ap (λ m. raise c.args.mask (block m c.args.off) (e.config.now ++ region_parts e.bars (block_at e.blocks.items))) (sym c.from.ensures)
-    ∙ table_changed e.decl e.config.now e.bars (block_at e.blocks.items) c.self.invariant.parts e.blocks.items refl n c.in-Some.block.now (ltb-true _ _ (sym c.in-Some.ensures.item.0)) c.in-Some.ensures.item.1
-    (raise c.args.mask (block n c.args.off)) (raise c.args.mask (config c.args.off)) (raise_in_block n c.args.off c.args.mask) c.raise-in-Some.new.cells (ap (λ (f : CellFile). f.now) c.raise-in-Some.ensures)))
-    ∙ ap (λ (f : Function). record f { file = raise c.args.mask (block c.in-Bar.reg c.args.off) f.file }) c.self.view_is
-    ∙ ap (λ p. record c.args.self.now { file = raise c.args.mask (place_of p c.args.off) c.args.self.now.file }) (sym c.in-Bar.is)
+    block_shown c.self.invariant (change_in_block (raised c.args.mask) c.from.result c.args.off) c.in-Some.block.now c.raise-in-Some.new.cells c.in-Some.ensures.item.0 c.in-Some.ensures.item.1 c.raise-in-Some.ensures
+    ∙ ap (λ (f : Function). record f { file = raise c.args.mask (block c.from.result c.args.off) f.file }) c.self.view_is
+    ∙ ap (λ (p : Place). record c.args.self.now { file = raise c.args.mask p c.args.self.now.file }) (ap (λ m. block m c.args.off) c.from.ensures ∙ ap (λ p. place_of p c.args.off) (sym c.in-Bar.is))
 
 pub returns-in_default : goal.returns-in_default
 returns-in_default c =
-    let e = c.self.inside in
-    let n = c.from.result in
-    let none = no_block e.blocks.items n (ltb-false _ _ (sym c.in_default.ensures.item.0)) in
-    sym (ap (λ (xs : File). record { decl = e.decl; file = xs })
-    (ap (λ m. raise c.args.mask (block m c.args.off) (e.config.now ++ region_parts e.bars (block_at e.blocks.items))) (sym c.from.ensures)
-    ∙ nothing_there e.decl e.config.now e.bars (block_at e.blocks.items) c.self.invariant.parts n (raise c.args.mask (block n c.args.off)) (raise c.args.mask (config c.args.off))
-    (raise_in_block n c.args.off c.args.mask) none refl))
-    ∙ ap (λ (f : Function). record f { file = raise c.args.mask (block c.in-Bar.reg c.args.off) f.file }) c.self.view_is
-    ∙ ap (λ p. record c.args.self.now { file = raise c.args.mask (place_of p c.args.off) c.args.self.now.file }) (sym c.in-Bar.is)
+    nothing_shown c.self.invariant (change_in_block (raised c.args.mask) c.from.result c.args.off) c.in_default.ensures.item.0
+    ∙ ap (λ (f : Function). record f { file = raise c.args.mask (block c.from.result c.args.off) f.file }) c.self.view_is
+    ∙ ap (λ (p : Place). record c.args.self.now { file = raise c.args.mask p c.args.self.now.file }) (ap (λ m. block m c.args.off) c.from.ensures ∙ ap (λ p. place_of p c.args.off) (sym c.in-Bar.is))
