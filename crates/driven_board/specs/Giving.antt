@@ -6,12 +6,12 @@
 use Rattle.std.specs.Prelude.{◌≡◌, ℕ, Some, ⊤}
 use Rattle.model_guests.specs.Text.{Text}
 use Rattle.model_guests.specs.World.{World, IsLawfulWorld}
-use Rattle.model_handoff.specs.Handoffs.{IsHandoff}
+use Rattle.model_handoff.specs.Handoffs.{IsHandoff, taken_over}
 use Rattle.model_handoff.specs.Regions.{CanBeGiven, HandoffFault, in_disorder, closed_region, first_fault}
-use Rattle.model_handoff.specs.WorldOver.{WorldOver, world_over}
+use Rattle.model_guests.specs.WorldNow.{WorldNow, world_over}
 use Rattle.board_audit.specs.Told.{problem_of}
 use Rattle.host_bridge.specs.HostState.{HostState}
-use Rattle.monitor.specs.Beginnings.{world_on, taken_over}
+use Rattle.monitor.specs.Beginnings.{world_on}
 use Rattle.sessions.specs.declared.taking.TakingFault.{TakingFault}
 use Rattle.sessions.specs.declared.taking.TakingFault.TheVariants as taking
 use Rattle.simulation.specs.Listing.{Declares}
@@ -19,7 +19,7 @@ use Rattle.driven_board.specs.declared.giving.GivingFault.{GivingFault}
 use Rattle.driven_board.specs.declared.giving.GivingFault.TheVariants.{NotInOrder, Closed, FileMemory, Memory}
 
 -- each given function is at reset, but for what guests have copies of, and the address latch is clear
-pub record IsGiven (file : Text) (h : HostState) (m : WorldOver) : Type 0 where
+pub record IsGiven (file : Text) (h : HostState) (m : WorldNow) : Type 0 where
   pub world : World
   pub declared : Declares file world
   pub lawful : IsLawfulWorld world

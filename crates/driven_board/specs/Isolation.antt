@@ -6,33 +6,26 @@
 use Rattle.std.specs.Prelude.{◌≡◌, List, IsTrue}
 use Rattle.model_guests.specs.Text.{Text, lines}
 use Rattle.model_guests.specs.Grammar.{has_name}
-use Rattle.model_guests.specs.World.{World, names, declarations}
+use Rattle.model_guests.specs.World.{World, names}
 use Rattle.model_guests.specs.Replies.{reply_lines}
-use Rattle.model_guests.specs.Lone.{reset_guest}
-use Rattle.model_guests.specs.Guests.{lone_of}
-use Rattle.model_guests.specs.WorldNow.{world_at_first}
-use Rattle.model_guests.specs.Inputs.{Input, inputs, lone_output, after_inputs}
-use Rattle.model_guests.specs.Isolation.{AgreeOn}
+use Rattle.model_guests.specs.Guests.{guests_at_first, lone_of}
+use Rattle.model_guests.specs.WorldNow.{WorldNow, output, after_lines}
+use Rattle.model_guests.specs.Inputs.{inputs}
+use Rattle.model_guests.specs.Isolation.{IsDecidedBy, AgreeOn}
 use Rattle.model_handoff.specs.Kept.{IsLawfulOver}
-use Rattle.model_handoff.specs.WorldOver.{WorldOver, output, after_lines}
 use Rattle.host_bridge.specs.HostState.{HostState}
 use Rattle.simulation.specs.Running.{IsOpened}
 use Rattle.driven_board.specs.Giving.{IsGiven}
 
 -- of a board that was given
-abbrev pub OfGiven : ((m : WorldOver) → World → Type 0) → Type 0
-OfGiven P = (file : Text) (h : HostState) (m : WorldOver) → (given : IsGiven file h m) → P m given.world
-
--- these inputs decide what the guest is told and holds; the board isn't among them
-pub record IsDecidedBy (is : List Input) (w : World) (m : WorldOver) (name script : Text) : Type 0 where
-  pub replies : reply_lines name (output m (lines script)) ≡ lone_output name (reset_guest (declarations w name)) is
-  pub holds : lone_of (after_lines m (lines script)).guests name ≡ after_inputs (reset_guest (declarations w name)) is
+abbrev pub OfGiven : ((m : WorldNow) → World → Type 0) → Type 0
+OfGiven P = (file : Text) (h : HostState) (m : WorldNow) → (given : IsGiven file h m) → P m given.world
 
 abbrev pub GivenIsolated : Type 0
 GivenIsolated = OfGiven (λ m w. (name script : Text) → IsTrue (has_name (names w) name)
-    → IsDecidedBy (inputs (world_at_first w) name (lines script)) w m name script)
+    → IsDecidedBy (inputs (guests_at_first w) name (lines script)) w m name script)
 
-pub record AreAlike (name : Text) (m n : WorldOver) (one other : Text) : Type 0 where
+pub record AreAlike (name : Text) (m n : WorldNow) (one other : Text) : Type 0 where
   pub replies : reply_lines name (output m (lines one)) ≡ reply_lines name (output n (lines other))
   pub holds : lone_of (after_lines m (lines one)).guests name ≡ lone_of (after_lines n (lines other)).guests name
 
@@ -41,7 +34,7 @@ GivenAlike = OfGiven (λ m v. OfGiven (λ n w. (name one other : Text) → Agree
     → AreAlike name m n one other))
 
 abbrev pub GivenAsSetUp : Type 0
-GivenAsSetUp = (file : Text) (h : HostState) (m n : WorldOver) → (given : IsGiven file h m) → IsOpened file n
+GivenAsSetUp = (file : Text) (h : HostState) (m n : WorldNow) → (given : IsGiven file h m) → IsOpened file n
     → (name script : Text) → IsTrue (has_name (names given.world) name) → AreAlike name m n script script
 
 abbrev pub GivenStays : Type 0

@@ -15,14 +15,14 @@ use Rattle.model_registers.proofs.Files.{change_none}
 use Rattle.model_registers.proofs.DeviceBytes.{device_not_own, change_beside, change_there}
 use Rattle.model_board.specs.Paths.{Path}
 use Rattle.model_board.specs.Board.{Board}
+use Rattle.model_board.specs.AtReset.{board_at}
+use Rattle.model_board.specs.State.{State}
 use Rattle.model_guests.specs.Accesses.{answered, done, refused}
 use Rattle.model_guests.specs.Slots.{Slots, slot_at, file_at, with_file, raise_place}
 use Rattle.model_guests.specs.Text.{Text}
 use Rattle.model_guests.specs.Lone.{LoneGuest}
 use Rattle.model_guests.specs.Guests.{GuestNow, GuestsNow, guest_named, path_in, function_in, file_of, lone_of, with_guest}
-use Rattle.model_guests.specs.AgreedBoard.{with_files, with_change_at}
-use Rattle.model_board.specs.State.{State}
-use Rattle.model_set_up.specs.SetUp.{set_up_state}
+use Rattle.model_guests.specs.AgreedBoard.{state_over, with_change_at}
 use Rattle.model_guests.specs.ChangeLaws.{with_slot_changed}
 use Rattle.model_guests.specs.Seated.{AreSeated}
 use Rattle.model_guests.proofs.GuestFiles.{slot_set, with_file_there}
@@ -164,12 +164,12 @@ module _ (b : Board) (gs : GuestsNow) (seated : AreSeated b gs) (name : Text) (d
       (written_there x.lone d (low_slot (lone_of gs name).slots d fault) f (ap (λ (l : LoneGuest). slot_at l.slots d.slot) (sym (lone_found gs name x guest_there.1)) ∙ is) q at v))
 
   -- over any state
-  pub write_reaches : (s : State) → with_files (file_of (after_guest_device name (device_writes d v) gs)) s ≡ with_change_at (byte_change f.file v q) p (with_files (file_of gs) s)
+  write_reaches : (s : State) → state_over s (after_guest_device name (device_writes d v) gs) ≡ with_change_at (byte_change f.file v q) p (state_over s gs)
   write_reaches s =
-      ap (λ (new : GuestsNow). with_files (file_of new) s) as_written
+      ap (state_over s) as_written
       ∙ one_file_of (set_value v q) (byte_change f.file v q) f.file (bytes_alike v q (reached (raise_place f d.part d.offset) q at).1 f.file)
       (file_of gs) (file_of (with_guest (with_slot_changed (set_value v q) d.slot) name gs)) p
       (file_before b gs seated name d.slot p path (set_value v q) f is) (file_after b gs seated name d.slot p path (set_value v q) f is) (file_others b gs seated name d.slot p path (set_value v q) f is) s
 
 pub write_reaches_board : WriteReachesBoard
-write_reaches_board b a gs seated name d v fault p f q path is at = write_reaches b gs seated name d v fault p f q path is at (set_up_state b a)
+write_reaches_board s gs seated name d v fault p f q path is at = write_reaches (board_at s.functions) gs seated name d v fault p f q path is at s

@@ -63,7 +63,7 @@ still_moved name m p (Some f) gs there =
 
 -- ---- one call
 
-holds_after : (w : WorldNow) (name : Text) → IsSome (guest_named w.guests name) → (c : Call)
+pub holds_after : (w : WorldNow) (name : Text) → IsSome (guest_named w.guests name) → (c : Call)
     → lone_of (after_call w c).guests name ≡ after_own_calls (lone_of w.guests name) (inputs_of_call name w.guests c)
 holds_after w name there (asks nothing) = refl
 holds_after w name there (asks (guest_event n e)) = lone_by (guest_after e) (λ t. refl) (λ (g : LoneGuest). after_event g e) (λ t. refl) n name w.guests there ∙ cases (bytes_eq n name)
@@ -91,7 +91,7 @@ holds_after w name there (at_device n e) = lone_by (device_after e) (λ t. refl)
     cases true = refl
     cases false = refl
 
-there_after : (w : WorldNow) (name : Text) → IsSome (guest_named w.guests name) → (c : Call) → IsSome (guest_named (after_call w c).guests name)
+pub there_after : (w : WorldNow) (name : Text) → IsSome (guest_named w.guests name) → (c : Call) → IsSome (guest_named (after_call w c).guests name)
 there_after w name there (asks nothing) = there
 there_after w name there (asks (guest_event n e)) = still (guest_after e) (λ t. refl) n name w.guests there
 there_after w name there (asks (host_read r)) = there
@@ -104,7 +104,7 @@ there_after w name there (asks (bad who k)) = there
 there_after w name there (at_device n e) = still (device_after e) (λ t. refl) n name w.guests there
 
 -- what the guest is told, before what comes of later inputs
-abbrev Tells : WorldNow → Text → Call → Type 0
+abbrev pub Tells : WorldNow → Text → Call → Type 0
 Tells w name c = (more : List CallInput) → all_alone_told (lone_of w.guests name) (inputs_of_call name w.guests c ++ more)
     ≡ told name w c ++ all_alone_told (after_own_calls (lone_of w.guests name) (inputs_of_call name w.guests c)) more
 
@@ -123,7 +123,7 @@ own_reply gs n name answer_of i tells more = cases (bytes_eq n name) refl
         ap (λ (rs : List Reply). rs ++ all_alone_told (after_own_call (lone_of gs name) i) more) (tells (lone_of gs name) ∙ ap (λ (x : Text). answer_of (lone_of gs x) ∷ []) (sym (equal_texts n name e)))
     cases false e = refl
 
-tells : (w : WorldNow) (name : Text) (c : Call) → Tells w name c
+pub tells : (w : WorldNow) (name : Text) (c : Call) → Tells w name c
 tells w name (asks nothing) more = refl
 tells w name (asks (guest_event n e)) more = own_reply w.guests n name (λ g. answer g e) (own_event e) (λ g. refl) more
 tells w name (asks (host_read r)) more = refl
@@ -140,7 +140,7 @@ tells w name (at_device n e) more = own_reply w.guests n name (λ g. device_answ
 
 -- ---- calls
 
-joined : (is more : List CallInput) (g : LoneGuest) → after_own_calls g (is ++ more) ≡ after_own_calls (after_own_calls g is) more
+pub joined : (is more : List CallInput) (g : LoneGuest) → after_own_calls g (is ++ more) ≡ after_own_calls (after_own_calls g is) more
 joined [] more g = refl
 joined (i ∷ is) more g = joined is more (after_own_call g i)
 

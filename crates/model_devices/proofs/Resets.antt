@@ -8,12 +8,13 @@ use Rattle.model_registers.specs.EndpointTable.{endpoint_reset}
 use Rattle.model_registers.specs.CopiedFiles.{after_reset}
 use Rattle.model_board.specs.Paths.{Path}
 use Rattle.model_board.specs.Board.{Board}
+use Rattle.model_board.specs.AtReset.{board_at}
 use Rattle.model_guests.specs.Accesses.{done, refused}
 use Rattle.model_guests.specs.Slots.{Slots, slot_at, reset_function}
 use Rattle.model_guests.specs.Text.{Text}
 use Rattle.model_guests.specs.Lone.{LoneGuest, filled}
 use Rattle.model_guests.specs.Guests.{GuestNow, GuestsNow, guest_named, lone_of, path_in, function_in, with_guest, Move, move_fault, after_move, handed_over, with_slot_emptied, with_slot_filled}
-use Rattle.model_guests.specs.AgreedBoard.{agreed_state}
+use Rattle.model_guests.specs.AgreedBoard.{state_over}
 use Rattle.model_guests.specs.ChangeLaws.{with_slot_changed}
 use Rattle.model_guests.specs.Seated.{AreSeated, IsSeat}
 use Rattle.model_guests.specs.MoveLaws.{IsMoved}
@@ -179,9 +180,9 @@ module _ (b : Board) (gs : GuestsNow) (seated : AreSeated b gs) (name : Text) (n
       ∙ ap (λ (ss : Slots). let y : GuestNow = record x { lone = record x.lone { slots = ss } } in y) (sym (with_file_there (λ (own : File). endpoint_reset f.decl false) n x.lone.slots f function_here)))
 
 pub reset_reaches_board : ResetReachesBoard
-reset_reaches_board b a gs seated name n fault p f path is =
-    ap (agreed_state b a) (as_changed b gs seated name n f is p path (slot_taken (lone_of gs name).slots n fault))
-    ∙ changes_one_function b a gs seated name n p path (λ (own : File). endpoint_reset f.decl false) (after_reset f.decl) (resets_alike f.decl)
+reset_reaches_board s gs seated name n fault p f path is =
+    ap (state_over s) (as_changed (board_at s.functions) gs seated name n f is p path (slot_taken (lone_of gs name).slots n fault))
+    ∙ changes_one_function s gs seated name n p path (λ (own : File). endpoint_reset f.decl false) (after_reset f.decl) (resets_alike f.decl)
 
 -- ---- there and back
 

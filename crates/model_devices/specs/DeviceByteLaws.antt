@@ -8,16 +8,14 @@ use Rattle.model_registers.specs.Registers.{Place, File}
 use Rattle.model_registers.specs.FileLaws.{has_place}
 use Rattle.model_registers.specs.DeviceBytes.{set_value}
 use Rattle.model_registers.specs.Decoding.{Function}
-use Rattle.model_registers.specs.Apertures.{Apertures}
 use Rattle.model_board.specs.Paths.{Path}
-use Rattle.model_board.specs.Board.{Board}
 use Rattle.model_guests.specs.Accesses.{answered}
 use Rattle.model_guests.specs.Slots.{slot_at}
 use Rattle.model_guests.specs.Text.{Text}
 use Rattle.model_guests.specs.Lone.{LoneGuest}
 use Rattle.model_guests.specs.Guests.{GuestsNow, lone_of, path_in, function_in}
-use Rattle.model_guests.specs.AgreedBoard.{agreed_state, with_change_at}
-use Rattle.model_guests.specs.Seated.{AreSeated}
+use Rattle.model_guests.specs.AgreedBoard.{state_over, with_change_at}
+use Rattle.model_guests.specs.ChangeLaws.{OverSeated}
 use Rattle.model_devices.specs.DeviceEvents.{DeviceByte, device_reads, device_writes, device_place, device_fault}
 use Rattle.model_devices.specs.DeviceEvents.{device_answer, after_device_event, after_guest_device}
 
@@ -34,9 +32,9 @@ abbrev pub byte_change : File → ℕ → Place → File → File
 byte_change own v p file = if has_place own p then set_value v p file else file
 
 abbrev pub WriteReachesBoard : Type 0
-WriteReachesBoard = (b : Board) (a : Apertures) (gs : GuestsNow) → AreSeated b gs → (name : Text) (d : DeviceByte) (v : ℕ)
+WriteReachesBoard = OverSeated (λ s gs. (name : Text) (d : DeviceByte) (v : ℕ)
     → device_fault (lone_of gs name).slots (device_writes d v) ≡ None
     → (p : Path) (f : Function) (q : Place) → path_in gs name d.slot ≡ Some p → function_in gs name d.slot ≡ Some f
     → device_place f d.part d.offset ≡ Some q
-    → agreed_state b a (after_guest_device name (device_writes d v) gs)
-    ≡ with_change_at (byte_change f.file v q) p (agreed_state b a gs)
+    → state_over s (after_guest_device name (device_writes d v) gs)
+    ≡ with_change_at (byte_change f.file v q) p (state_over s gs))

@@ -7,14 +7,14 @@ use Rattle.std.specs.Prelude.{◌≡◌, ℕ, Some, None, IsFalse, IsSome}
 use Rattle.std.specs.Str.{bytes_eq}
 use Rattle.model_registers.specs.Decoding.{Function}
 use Rattle.model_registers.specs.CopiedFiles.{after_reset}
-use Rattle.model_registers.specs.Apertures.{Apertures}
 use Rattle.model_board.specs.Paths.{Path}
 use Rattle.model_board.specs.Board.{Board}
 use Rattle.model_guests.specs.Accesses.{done}
 use Rattle.model_guests.specs.Text.{Text}
 use Rattle.model_guests.specs.Guests.{GuestsNow, guest_named, lone_of, path_in, function_in, Move, move_fault, after_move}
 use Rattle.model_guests.specs.WorldNow.{names_of}
-use Rattle.model_guests.specs.AgreedBoard.{agreed_state, with_change_at}
+use Rattle.model_guests.specs.AgreedBoard.{state_over, with_change_at}
+use Rattle.model_guests.specs.ChangeLaws.{OverSeated}
 use Rattle.model_guests.specs.Seated.{AreSeated}
 use Rattle.model_devices.specs.DeviceEvents.{DeviceEvent, resets, device_fault, device_answer, after_device_event}
 use Rattle.model_devices.specs.DeviceEvents.{after_guest_device}
@@ -34,10 +34,10 @@ ResetByMoves = (b : Board) (gs : GuestsNow) → AreSeated b gs → (name to : Te
     → move_fault gs (between name n to m) ≡ None → IsMoveAndBack gs name n to m
 
 abbrev pub ResetReachesBoard : Type 0
-ResetReachesBoard = (b : Board) (a : Apertures) (gs : GuestsNow) → AreSeated b gs → (name : Text) (n : ℕ)
+ResetReachesBoard = OverSeated (λ s gs. (name : Text) (n : ℕ)
     → device_fault (lone_of gs name).slots (resets n) ≡ None
     → (p : Path) (f : Function) → path_in gs name n ≡ Some p → function_in gs name n ≡ Some f
-    → agreed_state b a (after_guest_device name (resets n) gs) ≡ with_change_at (after_reset f.decl) p (agreed_state b a gs)
+    → state_over s (after_guest_device name (resets n) gs) ≡ with_change_at (after_reset f.decl) p (state_over s gs))
 
 abbrev pub SeatedAfterDevices : Type 0
 SeatedAfterDevices = (b : Board) (gs : GuestsNow) → AreSeated b gs → (name : Text) (e : DeviceEvent)

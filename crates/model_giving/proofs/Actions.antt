@@ -3,47 +3,24 @@ use Rattle.std.proofs.Common.{◌≡◌, Bool, true, false, cond, List, [], ◌�
 use Rattle.std.specs.Prelude.{is_some, IsSome}
 use Rattle.std.specs.Str.{bytes_eq}
 use Rattle.model_registers.specs.Declarations.{Endpoint}
-use Rattle.model_board.specs.Paths.{Path}
 use Rattle.model_board.specs.AtReset.{board_at}
 use Rattle.model_guests.specs.Accesses.{Reply}
 use Rattle.model_guests.specs.Text.{Text}
 use Rattle.model_guests.specs.World.{declared}
+use Rattle.model_guests.specs.WorldNow.{WorldNow}
 use Rattle.model_guests.specs.Lone.{LoneGuest, emptied, filled}
 use Rattle.model_guests.specs.Inputs.{loses, gets}
-use Rattle.model_guests.specs.Guests.{GuestsNow, guest_named, lone_of, with_guest, guest_after, Move, move_fault, handed_over, function_in, path_in, with_slot_emptied, with_slot_filled}
-use Rattle.model_registers.specs.Decoding.{Function}
-use Rattle.model_guests.specs.Lines.{nothing, guest_event, host_read, host_move, bad}
-use Rattle.model_devices.specs.Calls.{Call, asks, at_device, told, CallInput, moved, inputs_of_call, all_alone_told, after_own_calls}
-use Rattle.model_devices.specs.Calls as set_up
-use Rattle.model_devices.specs.DeviceEvents.{device_after}
-use Rattle.model_devices.proofs.Calls.{lone_by, still, isolated_by_calls}
-use Rattle.model_handoff.specs.DevicesOver.{after_call}
-use Rattle.model_handoff.specs.WorldOver.{WorldOver}
-use Rattle.model_handoff.proofs.DevicesOver.{calls_alike}
+use Rattle.model_guests.specs.Guests.{guest_named, lone_of, with_slot_emptied, with_slot_filled}
+use Rattle.model_devices.specs.Calls.{told, CallInput, moved, inputs_of_call, alone_told, after_own_call, all_alone_told, after_own_calls}
+use Rattle.model_devices.proofs.Calls.{lone_by, still}
+use Rattle.model_devices.proofs.Calls as device_calls
 use Rattle.model_giving.specs.Giving.{give_fault, take_fault, given, taken}
-use Rattle.model_giving.specs.Actions.{Action, calls, gives, takes, after_action, after_actions, with_same_guests, told_by, all_told_by, inputs_of_gift, inputs_of_action, action_inputs, IsolatedByActions}
+use Rattle.model_giving.specs.Actions.{Action, calls, gives, takes, after_action, after_actions, told_by, all_told_by, inputs_of_gift, inputs_of_action, action_inputs, IsolatedByActions}
 
 -- ---- a guest that is there stays there
 
-moved_still : (name : Text) (m : Move) (p : Option Path) (o : Option Function) (gs : GuestsNow) → IsSome (guest_named gs name) → IsSome (guest_named (handed_over m p o gs) name)
-moved_still name m p None gs there = there
-moved_still name m p (Some f) gs there =
-    still (with_slot_filled m.target p f.decl) (λ t. refl) m.to name (with_guest (with_slot_emptied m.slot) m.from gs) (still (with_slot_emptied m.slot) (λ t. refl) m.from name gs there)
-
-call_still : (w : WorldOver) (name : Text) → IsSome (guest_named w.guests name) → (c : Call) → IsSome (guest_named (after_call w c).guests name)
-call_still w name there (asks nothing) = there
-call_still w name there (asks (guest_event n e)) = still (guest_after e) (λ t. refl) n name w.guests there
-call_still w name there (asks (host_read r)) = there
-call_still w name there (asks (host_move m)) = cases (is_some (move_fault w.guests m))
-  where
-    cases : (t : Bool) → IsSome (guest_named (cond t w.guests (handed_over m (path_in w.guests m.from m.slot) (function_in w.guests m.from m.slot) w.guests)) name)
-    cases true = there
-    cases false = moved_still name m (path_in w.guests m.from m.slot) (function_in w.guests m.from m.slot) w.guests there
-call_still w name there (asks (bad who k)) = there
-call_still w name there (at_device n e) = still (device_after e) (λ t. refl) n name w.guests there
-
-there_after : (w : WorldOver) (name : Text) → IsSome (guest_named w.guests name) → (a : Action) → IsSome (guest_named (after_action w a).guests name)
-there_after w name there (calls c) = call_still w name there c
+there_after : (w : WorldNow) (name : Text) → IsSome (guest_named w.guests name) → (a : Action) → IsSome (guest_named (after_action w a).guests name)
+there_after w name there (calls c) = device_calls.there_after w name there c
 there_after w name there (gives g) = cases (is_some (give_fault w g)) (declared (board_at w.handoff.functions) g.path)
   where
     cases : (t : Bool) (o : Option Endpoint) → IsSome (guest_named (cond t w (given g o w)).guests name)
@@ -58,12 +35,9 @@ there_after w name there (takes n k) = cases (is_some (take_fault w n k))
 
 -- ---- one action
 
-holds_after : (w : WorldOver) (name : Text) → IsSome (guest_named w.guests name) → (a : Action)
+holds_after : (w : WorldNow) (name : Text) → IsSome (guest_named w.guests name) → (a : Action)
     → lone_of (after_action w a).guests name ≡ after_own_calls (lone_of w.guests name) (inputs_of_action name w a)
-holds_after w name there (calls c) =
-    let alone = isolated_by_calls (with_same_guests w) name there (c ∷ []) in
-    ap (λ (gs : GuestsNow). lone_of gs name) (calls_alike w (with_same_guests w) refl (c ∷ [])) ∙ alone.holds
-    ∙ ap (after_own_calls (lone_of w.guests name)) (append-nil (inputs_of_call name w.guests c))
+holds_after w name there (calls c) = device_calls.holds_after w name there c
 holds_after w name there (gives g) = cases (is_some (give_fault w g)) (declared (board_at w.handoff.functions) g.path)
   where
     by : (d : Endpoint) (t : Bool) → cond t (filled g.slot d (lone_of w.guests name)) (lone_of w.guests name) ≡ after_own_calls (lone_of w.guests name) (cond t (moved (gets g.slot d) ∷ []) [])
@@ -84,10 +58,9 @@ holds_after w name there (takes n k) = cases (is_some (take_fault w n k))
     cases true = refl
     cases false = lone_by (with_slot_emptied k) (λ t. refl) (emptied k) (λ t. refl) n name w.guests there ∙ by (bytes_eq n name)
 
-told_alone : (w : WorldOver) (name : Text) → IsSome (guest_named w.guests name) → (a : Action) → told_by name w a ≡ all_alone_told (lone_of w.guests name) (inputs_of_action name w a)
+told_alone : (w : WorldNow) (name : Text) → IsSome (guest_named w.guests name) → (a : Action) → told_by name w a ≡ all_alone_told (lone_of w.guests name) (inputs_of_action name w a)
 told_alone w name there (calls c) =
-    sym (append-nil (told name (with_same_guests w) c)) ∙ (isolated_by_calls (with_same_guests w) name there (c ∷ [])).replies
-    ∙ ap (all_alone_told (lone_of w.guests name)) (append-nil (inputs_of_call name w.guests c))
+    sym (append-nil (told name w c)) ∙ sym (device_calls.tells w name c []) ∙ ap (all_alone_told (lone_of w.guests name)) (append-nil (inputs_of_call name w.guests c))
 told_alone w name there (gives g) = cases (is_some (give_fault w g)) (declared (board_at w.handoff.functions) g.path)
   where
     by : (d : Endpoint) (u : Bool) → [] ≡ all_alone_told (lone_of w.guests name) (cond u (moved (gets g.slot d) ∷ []) [])
@@ -107,24 +80,20 @@ told_alone w name there (takes n k) = cases (is_some (take_fault w n k)) (bytes_
 
 -- ---- actions
 
-joined : (is more : List CallInput) (g : LoneGuest) → after_own_calls g (is ++ more) ≡ after_own_calls (after_own_calls g is) more
-joined [] more g = refl
-joined (i ∷ is) more g = joined is more (set_up.after_own_call g i)
-
 told_joined : (is more : List CallInput) (g : LoneGuest) → all_alone_told g (is ++ more) ≡ all_alone_told g is ++ all_alone_told (after_own_calls g is) more
 told_joined [] more g = refl
 told_joined (i ∷ is) more g =
-    ap (λ (rs : List Reply). set_up.alone_told g i ++ rs) (told_joined is more (set_up.after_own_call g i))
-    ∙ sym (append_assoc (set_up.alone_told g i) (all_alone_told (set_up.after_own_call g i) is) (all_alone_told (after_own_calls (set_up.after_own_call g i) is) more))
+    ap (λ (rs : List Reply). alone_told g i ++ rs) (told_joined is more (after_own_call g i))
+    ∙ sym (append_assoc (alone_told g i) (all_alone_told (after_own_call g i) is) (all_alone_told (after_own_calls (after_own_call g i) is) more))
 
-all_hold : (rest : List Action) (w : WorldOver) (name : Text) → IsSome (guest_named w.guests name) → lone_of (after_actions w rest).guests name ≡ after_own_calls (lone_of w.guests name) (action_inputs name w rest)
+all_hold : (rest : List Action) (w : WorldNow) (name : Text) → IsSome (guest_named w.guests name) → lone_of (after_actions w rest).guests name ≡ after_own_calls (lone_of w.guests name) (action_inputs name w rest)
 all_hold [] w name there = refl
 all_hold (a ∷ rest) w name there =
     all_hold rest (after_action w a) name (there_after w name there a)
     ∙ ap (λ (g : LoneGuest). after_own_calls g (action_inputs name (after_action w a) rest)) (holds_after w name there a)
-    ∙ sym (joined (inputs_of_action name w a) (action_inputs name (after_action w a) rest) (lone_of w.guests name))
+    ∙ sym (device_calls.joined (inputs_of_action name w a) (action_inputs name (after_action w a) rest) (lone_of w.guests name))
 
-all_tell : (rest : List Action) (w : WorldOver) (name : Text) → IsSome (guest_named w.guests name) → all_told_by name w rest ≡ all_alone_told (lone_of w.guests name) (action_inputs name w rest)
+all_tell : (rest : List Action) (w : WorldNow) (name : Text) → IsSome (guest_named w.guests name) → all_told_by name w rest ≡ all_alone_told (lone_of w.guests name) (action_inputs name w rest)
 all_tell [] w name there = refl
 all_tell (a ∷ rest) w name there =
     ap₂ (λ (rs ss : List Reply). rs ++ ss) (told_alone w name there a)

@@ -19,24 +19,25 @@ use Rattle.model_guests.specs.Slots.{Slots, reset_function, slot_at}
 use Rattle.model_guests.specs.Text.{Text}
 use Rattle.model_guests.specs.World.{declared}
 use Rattle.model_guests.specs.Guests.{GuestNow, GuestsNow, file_of, function_in, guest_named, lone_of, path_in, with_guest, with_slot_emptied, with_slot_filled}
-use Rattle.model_guests.specs.AgreedBoard.{agreed_function, with_files, with_change_at}
+use Rattle.model_guests.specs.AgreedBoard.{agreed_function, with_files, state_over, with_change_at}
 use Rattle.model_guests.specs.Seated.{AreSeated, IsSeat}
 use Rattle.model_guests.proofs.AgreedChanges.{agreed_by, changed_function}
 use Rattle.model_guests.proofs.Changes.{one_file, resets_alike}
 use Rattle.model_guests.proofs.GuestsByName.{function_named, function_of, path_at, path_of}
 use Rattle.model_guests.proofs.SeatedMoves.{Placed, placed, put_there, was_there, seat_in}
 use Rattle.model_devices.proofs.OneGuest.{lone_other, with_none, with_twice}
-use Rattle.model_handoff.specs.Handoffs.{IsHandoff, file_at_reset, state_over}
+use Rattle.model_handoff.specs.Handoffs.{IsHandoff, file_at_reset}
 use Rattle.model_handoff.specs.Kept.{IsLawfulOver}
 use Rattle.model_handoff.specs.Regions.{AreServed, HasOpenRegions, opens_region}
 use Rattle.model_handoff.specs.ViewLaws.{seated_files, sits, with_seated_reset}
-use Rattle.model_handoff.specs.WorldOver.{WorldOver, board_state}
+use Rattle.model_guests.specs.WorldNow.{WorldNow, board_state}
 use Rattle.model_handoff.proofs.Functions.{path_stays}
-use Rattle.model_handoff.proofs.Keeping.{keeps_board}
+use Rattle.model_handoff.proofs.Keeping.{keeps_board, rows_stay}
 use Rattle.model_handoff.proofs.Views.{sits_is}
 use Rattle.model_giving.specs.Giving.{Gift, with_reset_at, has_closed_region, endpoint_fault, give_fault, take_fault, given, taken, after_give, after_take}
 use Rattle.model_giving.specs.GivingLaws.{BoardAfterGift, BoardAfterTaking, LawfulAfterGift, LawfulAfterTaking, ShownAfterGift, ShownAfterTaking, GivenFunction, GivenBack, OthersAfterGift, OthersAfterTaking}
-use Rattle.model_giving.proofs.OneReset.{IsAlike, alike, reset_is}
+use Rattle.model_giving.proofs.OneReset.{alike, reset_is}
+use Rattle.model_handoff.proofs.Alike.{IsAlike}
 use Rattle.model_giving.proofs.Seats.{fresh, no_path, some_path, declared_there, sits_nowhere, came_seated, came_path, came_function, came_file, came_others, left, left_was, left_seated, left_file, left_others}
 
 -- ---- files of which one is reset beneath
@@ -125,10 +126,6 @@ module _ (s : State) (handoff : IsHandoff s) (p : Path) (d : Endpoint) (declares
 
   rows_seated : board_at (with_seated_reset s gs).functions ≡ b
   rows_seated = rows_stay (seated_files s gs) s.functions
-    where
-      rows_stay : (files : Path → Option File) (fs : List BoardFunction) → board_at (map (agreed_function files) fs) ≡ board_at fs
-      rows_stay files [] = refl
-      rows_stay files (f ∷ fs) = ap₂ (λ x (xs : Board). x ∷ xs) (Rattle.model_handoff.proofs.Functions.row_stays (files f.path) f) (rows_stay files fs)
 
   pub shown_over : with_seated_reset t now ≡ with_reset_at p (with_seated_reset s gs)
   shown_over =
@@ -146,14 +143,14 @@ shown_reset s gs p d declares there =
 
 -- ---- a gift that is not refused
 
-pub record CanGive (w : WorldOver) (g : Gift) (d : Endpoint) : Type 0 where
+pub record CanGive (w : WorldNow) (g : Gift) (d : Endpoint) : Type 0 where
   pub low : nat_le 32 g.slot ≡ false
   pub declares : declared (board_at w.handoff.functions) g.path ≡ Some d
   pub free : sits w.guests g.path ≡ false
   pub empty : function_in w.guests g.to g.slot ≡ None
   pub none_closed : has_closed_region w.handoff g.path d ≡ false
 
-pub can_give : (w : WorldOver) (g : Gift) → give_fault w g ≡ None → (d : Endpoint) × CanGive w g d
+pub can_give : (w : WorldNow) (g : Gift) → give_fault w g ≡ None → (d : Endpoint) × CanGive w g d
 can_give w g h = by (nat_le 32 g.slot) refl (declared (board_at w.handoff.functions) g.path) refl h
   where
     then_by : (d : Endpoint) → nat_le 32 g.slot ≡ false → declared (board_at w.handoff.functions) g.path ≡ Some d
@@ -170,17 +167,17 @@ can_give w g h = by (nat_le 32 g.slot) refl (declared (board_at w.handoff.functi
     by false e None i k = cc
     by false e (Some d) i k = then_by d e i (sits w.guests g.path) refl (function_in w.guests g.to g.slot) refl (has_closed_region w.handoff g.path d) refl k
 
-pub given_is : (w : WorldOver) (g : Gift) (d : Endpoint) → give_fault w g ≡ None → declared (board_at w.handoff.functions) g.path ≡ Some d
+pub given_is : (w : WorldNow) (g : Gift) (d : Endpoint) → give_fault w g ≡ None → declared (board_at w.handoff.functions) g.path ≡ Some d
     → after_give w g ≡ record { handoff = with_reset_at g.path w.handoff; guests = with_guest (with_slot_filled g.slot (Some g.path) d) g.to w.guests }
 given_is w g d fault declares =
     ap (λ (o : Option ℕ). cond (is_some o) w (given g (declared (board_at w.handoff.functions) g.path) w)) fault
     ∙ ap (λ (o : Option Endpoint). given g o w) declares
 
-pub taken_is : (w : WorldOver) (name : Text) (n : ℕ) → take_fault w name n ≡ None → (p : Path) → path_in w.guests name n ≡ Some p
+pub taken_is : (w : WorldNow) (name : Text) (n : ℕ) → take_fault w name n ≡ None → (p : Path) → path_in w.guests name n ≡ Some p
     → after_take w name n ≡ record { handoff = with_reset_at p w.handoff; guests = with_guest (with_slot_emptied n) name w.guests }
 taken_is w name n fault p at =
     ap (λ (o : Option ℕ). cond (is_some o) w (taken name n w)) fault
-    ∙ ap (λ (o : Option Path). let v : WorldOver = record { handoff = option_map_or (λ (q : Path). with_reset_at q w.handoff) o w.handoff; guests = with_guest (with_slot_emptied n) name w.guests } in v) at
+    ∙ ap (λ (o : Option Path). let v : WorldNow = record { handoff = option_map_or (λ (q : Path). with_reset_at q w.handoff) o w.handoff; guests = with_guest (with_slot_emptied n) name w.guests } in v) at
 
 -- ---- regions that are open
 
@@ -204,7 +201,7 @@ open_alike s t is p h d e = each_alike s t is.opens p d.regions (h d (ap (λ (c 
 
 -- ---- laws of gifts
 
-module _ (w : WorldOver) (h : IsLawfulOver w) (g : Gift) (d : Endpoint) (can : CanGive w g d) where
+module _ (w : WorldNow) (h : IsLawfulOver w) (g : Gift) (d : Endpoint) (can : CanGive w g d) where
   abbrev c : Board
   c = board_at w.handoff.functions
 
@@ -265,7 +262,7 @@ board_after_gift w h g there fault =
 pub shown_after_gift : ShownAfterGift
 shown_after_gift w h g there fault =
     let can = can_give w g fault in
-    ap (λ (v : WorldOver). with_seated_reset v.handoff v.guests) (given_is w g can.0 fault can.1.declares) ∙ shown_now w h g can.0 can.1 there
+    ap (λ (v : WorldNow). with_seated_reset v.handoff v.guests) (given_is w g can.0 fault can.1.declares) ∙ shown_now w h g can.0 can.1 there
 
 pub lawful_after_gift : LawfulAfterGift
 lawful_after_gift w h g = by (give_fault w g) refl
@@ -279,18 +276,18 @@ given_function w h g there fault =
     let can = can_give w g fault in
     let is = given_is w g can.0 fault can.1.declares in
     record {
-      path = ap (λ (v : WorldOver). path_in v.guests g.to g.slot) is ∙ path_now w h g can.0 can.1 there;
-      function = ap (λ (v : WorldOver). function_in v.guests g.to g.slot) is ∙ function_now w h g can.0 can.1 there ∙ ap reset_function (sym can.1.declares);
+      path = ap (λ (v : WorldNow). path_in v.guests g.to g.slot) is ∙ path_now w h g can.0 can.1 there;
+      function = ap (λ (v : WorldNow). function_in v.guests g.to g.slot) is ∙ function_now w h g can.0 can.1 there ∙ ap reset_function (sym can.1.declares);
     }
 
 -- ---- laws of takings
 
-pub record CanTake (w : WorldOver) (name : Text) (n : ℕ) : Type 0 where
+pub record CanTake (w : WorldNow) (name : Text) (n : ℕ) : Type 0 where
   pub low : nat_le 32 n ≡ false
   pub f : Function
   pub there : function_in w.guests name n ≡ Some f
 
-pub can_take : (w : WorldOver) (name : Text) (n : ℕ) → take_fault w name n ≡ None → CanTake w name n
+pub can_take : (w : WorldNow) (name : Text) (n : ℕ) → take_fault w name n ≡ None → CanTake w name n
 can_take w name n h = by (nat_le 32 n) refl (function_in w.guests name n) refl h
   where
     by : (u : Bool) → nat_le 32 n ≡ u → (o : Option Function) → function_in w.guests name n ≡ o → cond {A = Option ℕ} u (Some 303) (cond (not (is_some o)) (Some 601) None) ≡ None → CanTake w name n
@@ -298,7 +295,7 @@ can_take w name n h = by (nat_le 32 n) refl (function_in w.guests name n) refl h
     by false e None i k = cc
     by false e (Some f) i k = record { low = e; f = f; there = i }
 
-module _ (w : WorldOver) (h : IsLawfulOver w) (name : Text) (n : ℕ) (can : CanTake w name n) (p : Path) (at : path_in w.guests name n ≡ Some p) where
+module _ (w : WorldNow) (h : IsLawfulOver w) (name : Text) (n : ℕ) (can : CanTake w name n) (p : Path) (at : path_in w.guests name n ≡ Some p) where
   abbrev lower : GuestsNow
   lower = with_guest (with_slot_emptied n) name w.guests
 
@@ -350,7 +347,7 @@ board_after_taking w h name n fault p at = ap board_state (taken_is w name n fau
 
 pub shown_after_taking : ShownAfterTaking
 shown_after_taking w h name n fault p at =
-    ap (λ (v : WorldOver). with_seated_reset v.handoff v.guests) (taken_is w name n fault p at) ∙ shown_lower w h name n (can_take w name n fault) p at
+    ap (λ (v : WorldNow). with_seated_reset v.handoff v.guests) (taken_is w name n fault p at) ∙ shown_lower w h name n (can_take w name n fault) p at
 
 pub lawful_after_taking : LawfulAfterTaking
 lawful_after_taking w h name n = by (take_fault w name n) refl
@@ -399,7 +396,7 @@ pub given_back : GivenBack
 given_back w h g there fault =
     let can = can_give w g fault in
     let d = can.0 in
-    let v : WorldOver = record { handoff = with_reset_at g.path w.handoff; guests = with_guest (with_slot_filled g.slot (Some g.path) d) g.to w.guests } in
+    let v : WorldNow = record { handoff = with_reset_at g.path w.handoff; guests = with_guest (with_slot_filled g.slot (Some g.path) d) g.to w.guests } in
     let is : after_give w g ≡ v = given_is w g d fault can.1.declares in
     let path : path_in v.guests g.to g.slot ≡ Some g.path = path_now w h g d can.1 there in
     let passes : take_fault v g.to g.slot ≡ None =
@@ -407,8 +404,8 @@ given_back w h g there fault =
     let x = guest_there (guest_named w.guests g.to) there in
     let was : path_in w.guests g.to g.slot ≡ None = no_path (board_at w.handoff.functions) (path_in w.guests g.to g.slot) (function_in w.guests g.to g.slot) (seat_in (board_at w.handoff.functions) w.guests h.seated.guests g.to g.slot) can.1.empty in
     record {
-      is_done = ap (λ (y : WorldOver). take_fault y g.to g.slot) is ∙ passes;
-      guests = ap (λ (y : WorldOver). (after_take y g.to g.slot).guests) is ∙ ap (λ (y : WorldOver). y.guests) (taken_is v g.to g.slot passes g.path path)
+      is_done = ap (λ (y : WorldNow). take_fault y g.to g.slot) is ∙ passes;
+      guests = ap (λ (y : WorldNow). (after_take y g.to g.slot).guests) is ∙ ap (λ (y : WorldNow). y.guests) (taken_is v g.to g.slot passes g.path path)
           ∙ with_twice (with_slot_emptied g.slot) (with_slot_filled g.slot (Some g.path) d) (λ t. refl) g.to w.guests
           ∙ with_none w.guests h.seated.names_apart g.to x.0 x.1 (λ t. with_slot_emptied g.slot (with_slot_filled g.slot (Some g.path) d t))
           (out_again x.0 g.slot (Some g.path) d (sym (ap (λ (o : Option GuestNow). path_of o g.slot) x.1) ∙ was)

@@ -8,7 +8,6 @@
 use Rattle.std.specs.Prelude.{ℕ, ◌≡◌, List, [], ◌∷◌, ◌++◌, if◌then◌else◌, is_some, Option, Some, None, IsSome}
 use Rattle.std.specs.Str.{bytes_eq}
 use Rattle.model_registers.specs.Declarations.{Endpoint}
-use Rattle.model_registers.specs.Apertures.{Aperture}
 use Rattle.model_board.specs.AtReset.{board_at}
 use Rattle.model_guests.specs.Accesses.{Reply}
 use Rattle.model_guests.specs.Text.{Text}
@@ -16,9 +15,7 @@ use Rattle.model_guests.specs.World.{declared}
 use Rattle.model_guests.specs.Guests.{guest_named, lone_of}
 use Rattle.model_guests.specs.WorldNow.{WorldNow}
 use Rattle.model_guests.specs.Inputs.{loses, gets}
-use Rattle.model_devices.specs.Calls.{Call, told, CallInput, moved, inputs_of_call, all_alone_told, after_own_calls}
-use Rattle.model_handoff.specs.DevicesOver.{after_call}
-use Rattle.model_handoff.specs.WorldOver.{WorldOver}
+use Rattle.model_devices.specs.Calls.{Call, after_call, told, CallInput, moved, inputs_of_call, all_alone_told, after_own_calls}
 use Rattle.model_giving.specs.Giving.{Gift, give_fault, take_fault, after_give, after_take}
 
 pub data Action : Type 0 where
@@ -26,33 +23,22 @@ pub data Action : Type 0 where
   gives : Gift → Action
   takes : Text → ℕ → Action
 
-abbrev pub after_action : WorldOver → Action → WorldOver
+abbrev pub after_action : WorldNow → Action → WorldNow
 after_action w (calls c) = after_call w c
 after_action w (gives g) = after_give w g
 after_action w (takes n k) = after_take w n k
 
-abbrev pub after_actions : WorldOver → List Action → WorldOver
+abbrev pub after_actions : WorldNow → List Action → WorldNow
 after_actions w [] = w
 after_actions w (a ∷ more) = after_actions (after_action w a) more
 
--- what a guest is told of a call depends on the guests alone, so nothing is said of the apertures
-abbrev pub no_addresses : Aperture
-no_addresses = record { first = 0; last = 0 }
-
-abbrev pub with_same_guests : WorldOver → WorldNow
-with_same_guests w = record {
-  board = board_at w.handoff.functions;
-  apertures = record { io = no_addresses; mem = no_addresses; pref = None };
-  guests = w.guests;
-}
-
 -- of a gift and of a taking the host is told, as of a move
-abbrev pub told_by : Text → WorldOver → Action → List Reply
-told_by name w (calls c) = told name (with_same_guests w) c
+abbrev pub told_by : Text → WorldNow → Action → List Reply
+told_by name w (calls c) = told name w c
 told_by name w (gives g) = []
 told_by name w (takes n k) = []
 
-abbrev pub all_told_by : Text → WorldOver → List Action → List Reply
+abbrev pub all_told_by : Text → WorldNow → List Action → List Reply
 all_told_by name w [] = []
 all_told_by name w (a ∷ more) = told_by name w a ++ all_told_by name (after_action w a) more
 
@@ -63,22 +49,22 @@ inputs_of_gift name g None = []
 inputs_of_gift name g (Some d) = if bytes_eq g.to name then moved (gets g.slot d) ∷ [] else []
 
 -- what is refused touches no one
-abbrev pub inputs_of_action : Text → WorldOver → Action → List CallInput
+abbrev pub inputs_of_action : Text → WorldNow → Action → List CallInput
 inputs_of_action name w (calls c) = inputs_of_call name w.guests c
 inputs_of_action name w (gives g) =
     if is_some (give_fault w g) then [] else inputs_of_gift name g (declared (board_at w.handoff.functions) g.path)
 inputs_of_action name w (takes n k) =
     if is_some (take_fault w n k) then [] else (if bytes_eq n name then moved (loses k) ∷ [] else [])
 
-abbrev pub action_inputs : Text → WorldOver → List Action → List CallInput
+abbrev pub action_inputs : Text → WorldNow → List Action → List CallInput
 action_inputs name w [] = []
 action_inputs name w (a ∷ more) = inputs_of_action name w a ++ action_inputs name (after_action w a) more
 
-pub record AreDecidedBy (is : List CallInput) (w : WorldOver) (name : Text) (actions : List Action) : Type 0 where
+pub record AreDecidedBy (is : List CallInput) (w : WorldNow) (name : Text) (actions : List Action) : Type 0 where
   pub replies : all_told_by name w actions ≡ all_alone_told (lone_of w.guests name) is
   pub holds : lone_of (after_actions w actions).guests name ≡ after_own_calls (lone_of w.guests name) is
 
 -- in any world as it is now
 abbrev pub IsolatedByActions : Type 0
-IsolatedByActions = (w : WorldOver) (name : Text) → IsSome (guest_named w.guests name) → (actions : List Action)
+IsolatedByActions = (w : WorldNow) (name : Text) → IsSome (guest_named w.guests name) → (actions : List Action)
     → AreDecidedBy (action_inputs name w actions) w name actions

@@ -19,10 +19,10 @@ use Rattle.model_guests.specs.Text.{Text}
 use Rattle.model_guests.specs.World.{declared}
 use Rattle.model_guests.specs.Guests.{lone_of, path_in, function_in, with_guest, with_slot_filled, with_slot_emptied}
 use Rattle.model_guests.specs.AgreedBoard.{with_change_at}
+use Rattle.model_guests.specs.WorldNow.{WorldNow}
 use Rattle.model_devices.specs.DeviceEvents.{slot_fault}
 use Rattle.model_handoff.specs.Regions.{opens_region}
 use Rattle.model_handoff.specs.ViewLaws.{sits}
-use Rattle.model_handoff.specs.WorldOver.{WorldOver}
 
 pub record Gift : Type 0 where
   pub path : Path
@@ -40,7 +40,7 @@ has_closed_region s p d = list_any (λ (r : Region). not (opens_region s p r)) d
 -- ---- the checks
 
 -- an endpoint at the path, no guest that has it, an empty slot, no closed region
-abbrev pub endpoint_fault : WorldOver → Gift → Option Endpoint → Option ℕ
+abbrev pub endpoint_fault : WorldNow → Gift → Option Endpoint → Option ℕ
 endpoint_fault w g None = Some 303
 endpoint_fault w g (Some d) =
     if sits w.guests g.path then Some 602
@@ -48,25 +48,25 @@ endpoint_fault w g (Some d) =
     else (if has_closed_region w.handoff g.path d then Some 206 else None))
 
 -- the slot's number, then what stands at the path
-abbrev pub give_fault : WorldOver → Gift → Option ℕ
+abbrev pub give_fault : WorldNow → Gift → Option ℕ
 give_fault w g =
     if nat_le 32 g.slot then Some 303
     else endpoint_fault w g (declared (board_at w.handoff.functions) g.path)
 
 -- the slot's number, the slot's function
-abbrev pub take_fault : WorldOver → Text → ℕ → Option ℕ
+abbrev pub take_fault : WorldNow → Text → ℕ → Option ℕ
 take_fault w name n = slot_fault (lone_of w.guests name).slots n
 
-abbrev pub give_reply : WorldOver → Gift → Reply
+abbrev pub give_reply : WorldNow → Gift → Reply
 give_reply w g = option_map_or refused (give_fault w g) done
 
-abbrev pub take_reply : WorldOver → Text → ℕ → Reply
+abbrev pub take_reply : WorldNow → Text → ℕ → Reply
 take_reply w name n = option_map_or refused (take_fault w name n) done
 
 -- ---- the world after it
 
 -- on the board and in its slot the function is at reset
-abbrev pub given : Gift → Option Endpoint → WorldOver → WorldOver
+abbrev pub given : Gift → Option Endpoint → WorldNow → WorldNow
 given g None w = w
 given g (Some d) w = record {
   handoff = with_reset_at g.path w.handoff;
@@ -74,16 +74,16 @@ given g (Some d) w = record {
 }
 
 -- a refused gift changes nothing
-abbrev pub after_give : WorldOver → Gift → WorldOver
+abbrev pub after_give : WorldNow → Gift → WorldNow
 after_give w g =
     if is_some (give_fault w g) then w else given g (declared (board_at w.handoff.functions) g.path) w
 
 -- the slot is empty, and on the board the function is at reset
-abbrev pub taken : Text → ℕ → WorldOver → WorldOver
+abbrev pub taken : Text → ℕ → WorldNow → WorldNow
 taken name n w = record {
   handoff = option_map_or (λ (p : Path). with_reset_at p w.handoff) (path_in w.guests name n) w.handoff;
   guests = with_guest (with_slot_emptied n) name w.guests;
 }
 
-abbrev pub after_take : WorldOver → Text → ℕ → WorldOver
+abbrev pub after_take : WorldNow → Text → ℕ → WorldNow
 after_take w name n = if is_some (take_fault w name n) then w else taken name n w

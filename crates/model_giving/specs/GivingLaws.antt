@@ -14,17 +14,17 @@ use Rattle.model_guests.specs.Slots.{reset_function}
 use Rattle.model_guests.specs.Text.{Text}
 use Rattle.model_guests.specs.World.{declared}
 use Rattle.model_guests.specs.Guests.{guest_named, lone_of, path_in, function_in}
+use Rattle.model_guests.specs.WorldNow.{WorldNow, board_state}
 use Rattle.model_handoff.specs.Kept.{IsLawfulOver}
 use Rattle.model_handoff.specs.ViewLaws.{with_seated_reset}
-use Rattle.model_handoff.specs.WorldOver.{WorldOver, board_state}
 use Rattle.model_giving.specs.Giving.{Gift, with_reset_at, give_fault, take_fault, after_give, after_take}
 
-abbrev pub OnGift : (WorldOver → Gift → Type 0) → Type 0
-OnGift P = (w : WorldOver) → IsLawfulOver w → (g : Gift) → IsSome (guest_named w.guests g.to) → give_fault w g ≡ None
+abbrev pub OnGift : (WorldNow → Gift → Type 0) → Type 0
+OnGift P = (w : WorldNow) → IsLawfulOver w → (g : Gift) → IsSome (guest_named w.guests g.to) → give_fault w g ≡ None
     → P w g
 
-abbrev pub OnTaking : (WorldOver → Text → ℕ → Path → Type 0) → Type 0
-OnTaking P = (w : WorldOver) → IsLawfulOver w → (name : Text) (n : ℕ) → take_fault w name n ≡ None
+abbrev pub OnTaking : (WorldNow → Text → ℕ → Path → Type 0) → Type 0
+OnTaking P = (w : WorldNow) → IsLawfulOver w → (name : Text) (n : ℕ) → take_fault w name n ≡ None
     → (p : Path) → path_in w.guests name n ≡ Some p → P w name n p
 
 abbrev pub BoardAfterGift : Type 0
@@ -34,10 +34,10 @@ abbrev pub BoardAfterTaking : Type 0
 BoardAfterTaking = OnTaking (λ w name n p. board_state (after_take w name n) ≡ with_reset_at p (board_state w))
 
 abbrev pub LawfulAfterGift : Type 0
-LawfulAfterGift = (w : WorldOver) → IsLawfulOver w → (g : Gift) → IsLawfulOver (after_give w g)
+LawfulAfterGift = (w : WorldNow) → IsLawfulOver w → (g : Gift) → IsLawfulOver (after_give w g)
 
 abbrev pub LawfulAfterTaking : Type 0
-LawfulAfterTaking = (w : WorldOver) → IsLawfulOver w → (name : Text) (n : ℕ) → IsLawfulOver (after_take w name n)
+LawfulAfterTaking = (w : WorldNow) → IsLawfulOver w → (name : Text) (n : ℕ) → IsLawfulOver (after_take w name n)
 
 abbrev pub ShownAfterGift : Type 0
 ShownAfterGift = OnGift (λ w g. with_seated_reset (after_give w g).handoff (after_give w g).guests
@@ -47,14 +47,14 @@ abbrev pub ShownAfterTaking : Type 0
 ShownAfterTaking = OnTaking (λ w name n p. with_seated_reset (after_take w name n).handoff (after_take w name n).guests
     ≡ with_seated_reset w.handoff w.guests)
 
-pub record IsGiven (w now : WorldOver) (g : Gift) : Type 0 where
+pub record IsGiven (w now : WorldNow) (g : Gift) : Type 0 where
   pub path : path_in now.guests g.to g.slot ≡ Some g.path
   pub function : function_in now.guests g.to g.slot ≡ reset_function (declared (board_at w.handoff.functions) g.path)
 
 abbrev pub GivenFunction : Type 0
 GivenFunction = OnGift (λ w g. IsGiven w (after_give w g) g)
 
-pub record IsGivenBack (w : WorldOver) (g : Gift) : Type 0 where
+pub record IsGivenBack (w : WorldNow) (g : Gift) : Type 0 where
   pub is_done : take_fault (after_give w g) g.to g.slot ≡ None
   pub guests : (after_take (after_give w g) g.to g.slot).guests ≡ w.guests
 
@@ -62,9 +62,9 @@ abbrev pub GivenBack : Type 0
 GivenBack = OnGift IsGivenBack
 
 abbrev pub OthersAfterGift : Type 0
-OthersAfterGift = (w : WorldOver) (g : Gift) (other : Text) → IsFalse (bytes_eq g.to other)
+OthersAfterGift = (w : WorldNow) (g : Gift) (other : Text) → IsFalse (bytes_eq g.to other)
     → lone_of (after_give w g).guests other ≡ lone_of w.guests other
 
 abbrev pub OthersAfterTaking : Type 0
-OthersAfterTaking = (w : WorldOver) (name : Text) (n : ℕ) (other : Text) → IsFalse (bytes_eq name other)
+OthersAfterTaking = (w : WorldNow) (name : Text) (n : ℕ) (other : Text) → IsFalse (bytes_eq name other)
     → lone_of (after_take w name n).guests other ≡ lone_of w.guests other

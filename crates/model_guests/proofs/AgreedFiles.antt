@@ -1,5 +1,5 @@
 -- The file that agrees with a guest's file: what it holds, that it is the only one, and how it changes.
-use Rattle.std.proofs.Common.{◌≡◌, ◌/◌, ◌%◌, Bool, true, false, not, ◌&&◌, ◌||◌, cond, List, [], ◌∷◌, refl, sym, ap, ap₂, ◌∙◌, subst, arith}
+use Rattle.std.proofs.Common.{◌≡◌, ℕ, ◌+◌, ◌*◌, ◌/◌, ◌%◌, Bool, true, false, not, ◌&&◌, ◌||◌, cond, List, [], ◌∷◌, refl, sym, ap, ap₂, ◌∙◌, subst, arith}
 use Rattle.std.specs.Prelude.{IsFalse}
 use Rattle.std.specs.List.{list_any}
 use Rattle.std.proofs.lemmas.Bool.Decides.{nat_tests}
@@ -11,7 +11,7 @@ use Rattle.model_registers.proofs.Owned.{raised_none, no_cell_stays}
 use Rattle.model_registers.specs.OwnCopies.{is_own, handed_on}
 use Rattle.model_registers.specs.CopiedFiles.{agreed_file, places_of}
 use Rattle.model_guests.proofs.DistinctPlaces.{HasDistinctPlaces}
-use Rattle.model_guests.specs.AgreedLaws.{HoldsFile}
+use Rattle.model_guests.specs.AgreedLaws.{HoldsFile, ShowsFile}
 use Rattle.model_guests.specs.ChangeLaws.{WritesAlike, RaisesAlike}
 
 -- ---- places
@@ -88,6 +88,16 @@ agreed_holds left own same = record {
   kept = λ p h. agreed_kept left own p h;
   common = λ p h. agreed_common left own p same h;
 }
+
+-- a guest reads there what it holds
+pub shows_file : ShowsFile
+shows_file left own same p [] = refl
+shows_file left own same p (on ∷ ons) = ap₂ (λ (x y : ℕ). x + 256 * y) (cases on (is_own p) refl) (shows_file left own same (after p) ons)
+  where
+    cases : (on t : Bool) → is_own p ≡ t → cond (on && not t) (cell_at (agreed_file left own) p).value 0 ≡ cond (on && not t) (cell_at own p).value 0
+    cases false t h = refl
+    cases true true h = refl
+    cases true false h = ap (λ c. c.value) (agreed_common left own p same h)
 
 -- ---- no other file holds that
 

@@ -1,5 +1,5 @@
--- Along a script guests stay seated, and keep their names.
-use Rattle.std.proofs.Common.{◌≡◌, ℕ, zero, suc, Bool, true, false, cond, List, [], ◌∷◌, Some, None, Option, refl, sym, ap, ap₂, ◌∙◌, subst}
+-- Along a script guests stay seated and keep their names, and the handoff stays.
+use Rattle.std.proofs.Common.{◌≡◌, ℕ, zero, suc, Bool, true, false, cond, List, [], ◌∷◌, Some, None, Option, refl, ap, ap₂, ◌∙◌, subst}
 use Rattle.std.specs.Prelude.{map, slice_set, is_some, IsFalse}
 use Rattle.std.specs.Str.{bytes_eq}
 use Rattle.model_registers.specs.Decoding.{Function}
@@ -7,10 +7,11 @@ use Rattle.model_board.specs.Paths.{Path}
 use Rattle.model_board.specs.Board.{Board}
 use Rattle.model_guests.specs.Text.{Text}
 use Rattle.model_guests.specs.World.{Guest, World, names}
-use Rattle.model_guests.specs.Guests.{GuestNow, GuestsNow, Move, function_in, guest_after, guest_at_first, guest_named, handed_over, move_fault, path_in, with_guest, with_slot_emptied, with_slot_filled}
+use Rattle.model_guests.specs.Guests.{GuestNow, GuestsNow, Move, function_in, guest_after, guest_at_first, guests_at_first, guest_named, handed_over, move_fault, path_in, with_guest, with_slot_emptied, with_slot_filled}
 use Rattle.model_guests.specs.Lines.{Meaning, nothing, guest_event, host_read, host_move, bad, meaning}
-use Rattle.model_guests.specs.WorldNow.{WorldNow, world_at_first, names_of, names_now, after_meaning, after_line, after_lines}
-use Rattle.model_guests.specs.Seated.{AreSeated, ByIndex, NamesAlong, NamesStay, SeatedAlong}
+use Rattle.model_guests.specs.WorldNow.{WorldNow, world_over, names_of, names_now, guests_after, after_line, after_lines}
+use Rattle.model_guests.specs.Seated.{AreSeated, ByIndex, SeatedAlong}
+use Rattle.model_guests.specs.WorldLaws.{NamesStay, NamesAlong, HandoffStays}
 use Rattle.lists.proofs.Indices.{each_at}
 use Rattle.model_guests.proofs.Names.{same_text}
 use Rattle.model_guests.proofs.GuestFiles.{other_name}
@@ -19,30 +20,20 @@ use Rattle.model_guests.proofs.Seats.{seated_after_events}
 use Rattle.model_guests.proofs.SeatedMoves.{seated_after_moves}
 use Rattle.model_guests.proofs.FoundFiles.{others_stay}
 
-seated_meaning : (w : WorldNow) (m : Meaning) → AreSeated w.board w.guests → AreSeated w.board (after_meaning w m).guests
-seated_meaning w nothing h = h
-seated_meaning w (guest_event name e) h = seated_after_events w.board w.guests h name e
-seated_meaning w (host_read r) h = h
-seated_meaning w (host_move m) h = seated_after_moves w.board w.guests h m
-seated_meaning w (bad who n) h = h
-
--- no line changes the board
-board_stays : (w : WorldNow) (m : Meaning) → (after_meaning w m).board ≡ w.board
-board_stays w nothing = refl
-board_stays w (guest_event name e) = refl
-board_stays w (host_read r) = refl
-board_stays w (host_move m) = refl
-board_stays w (bad who n) = refl
-
-seated_on : (w : WorldNow) (ls : List Text) (b : Board) → w.board ≡ b → AreSeated b w.guests → AreSeated b (after_lines w ls).guests
-seated_on w [] b same h = h
-seated_on w (l ∷ ls) b same h =
-    let m : Meaning = meaning (names_now w) l in
-    seated_on (after_line w l) ls b (board_stays w m ∙ same)
-    (subst (λ (x : Board). AreSeated x (after_meaning w m).guests) same (seated_meaning w m (subst (λ (x : Board). AreSeated x w.guests) (sym same) h)))
+seated_meaning : (b : Board) (gs : GuestsNow) (m : Meaning) → AreSeated b gs → AreSeated b (guests_after gs m)
+seated_meaning b gs nothing h = h
+seated_meaning b gs (guest_event name e) h = seated_after_events b gs h name e
+seated_meaning b gs (host_read r) h = h
+seated_meaning b gs (host_move m) h = seated_after_moves b gs h m
+seated_meaning b gs (bad who n) h = h
 
 pub seated_along : SeatedAlong
-seated_along w h ls = seated_on w ls w.board refl h
+seated_along b w h [] = h
+seated_along b w h (l ∷ ls) = seated_along b (after_line w l) (seated_meaning b w.guests (meaning (names_now w) l) h) ls
+
+pub handoff_stays : HandoffStays
+handoff_stays w [] = refl
+handoff_stays w (l ∷ ls) = handoff_stays (after_line w l) ls
 
 -- ---- names
 
@@ -56,19 +47,19 @@ names_handed m p (Some f) gs =
     names_with (with_slot_filled m.target p f.decl) (λ g. refl) m.to (with_guest (with_slot_emptied m.slot) m.from gs)
     ∙ names_with (with_slot_emptied m.slot) (λ g. refl) m.from gs
 
-pub names_meaning : (w : WorldNow) (m : Meaning) → names_now (after_meaning w m) ≡ names_now w
-names_meaning w nothing = refl
-names_meaning w (guest_event name e) = names_with (guest_after e) (λ g. refl) name w.guests
-names_meaning w (host_read r) = refl
-names_meaning w (host_move m) = cases (is_some (move_fault w.guests m))
+pub names_meaning : (gs : GuestsNow) (m : Meaning) → names_of (guests_after gs m) ≡ names_of gs
+names_meaning gs nothing = refl
+names_meaning gs (guest_event name e) = names_with (guest_after e) (λ g. refl) name gs
+names_meaning gs (host_read r) = refl
+names_meaning gs (host_move m) = cases (is_some (move_fault gs m))
   where
-    cases : (t : Bool) → names_of (cond t w.guests (handed_over m (path_in w.guests m.from m.slot) (function_in w.guests m.from m.slot) w.guests)) ≡ names_now w
+    cases : (t : Bool) → names_of (cond t gs (handed_over m (path_in gs m.from m.slot) (function_in gs m.from m.slot) gs)) ≡ names_of gs
     cases true = refl
-    cases false = names_handed m (path_in w.guests m.from m.slot) (function_in w.guests m.from m.slot) w.guests
-names_meaning w (bad who n) = refl
+    cases false = names_handed m (path_in gs m.from m.slot) (function_in gs m.from m.slot) gs
+names_meaning gs (bad who n) = refl
 
 pub names_stay : NamesStay
-names_stay w l = names_meaning w (meaning (names_now w) l)
+names_stay w l = names_meaning w.guests (meaning (names_now w) l)
 
 names_lines : (ls : List Text) (w : WorldNow) → names_now (after_lines w ls) ≡ names_now w
 names_lines [] w = refl
@@ -78,11 +69,11 @@ names_first : (w : World) (gs : List Guest) → names_of (map (guest_at_first w)
 names_first w [] = refl
 names_first w (g ∷ gs) = ap (λ (xs : List Text). g.name ∷ xs) (names_first w gs)
 
-pub names_at_first : (w : World) → names_now (world_at_first w) ≡ names w
+pub names_at_first : (w : World) → names_of (guests_at_first w) ≡ names w
 names_at_first w = names_first w w.guests
 
 pub names_along : NamesAlong
-names_along w ls = names_lines ls (world_at_first w) ∙ names_at_first w
+names_along w s ls = names_lines ls (world_over w s) ∙ names_at_first w
 
 -- ---- by index
 

@@ -1,7 +1,8 @@
 -- A change of one guest's function changes the board there, and nowhere else.
 use Rattle.std.proofs.Common.{◌≡◌, ℕ, Bool, true, false, cond, List, [], ◌∷◌, Some, None, Option, refl, sym, ap, ap₂, ◌∙◌}
-use Rattle.std.specs.Prelude.{map, option_map, IsFalse, IsSome}
+use Rattle.std.specs.Prelude.{map, option_map, IsFalse}
 use Rattle.std.specs.Str.{bytes_eq}
+use Rattle.lists.specs.Elements.{first_of_two}
 use Rattle.model_board.proofs.PlacesLaw.{apart_turn}
 use Rattle.model_registers.specs.Registers.{Entry, File, cell_at}
 use Rattle.model_registers.specs.OwnCopies.{is_own}
@@ -9,16 +10,16 @@ use Rattle.model_registers.specs.Decoding.{Function}
 use Rattle.model_registers.specs.EndpointTable.{endpoint_reset}
 use Rattle.model_board.specs.Paths.{Path, path_eq}
 use Rattle.model_board.specs.Board.{Board}
+use Rattle.model_board.specs.AtReset.{board_at}
 use Rattle.model_board.specs.State.{BoardFunction, State}
-use Rattle.model_set_up.specs.SetUp.{set_up_state}
 use Rattle.model_board.proofs.PathOrder.{path_same}
 use Rattle.model_guests.specs.Slots.{Slots, slot_at, with_file}
 use Rattle.model_guests.specs.Text.{Text}
 use Rattle.model_guests.specs.Guests.{GuestNow, GuestsNow, file_in, file_of, function_in, guest_named, path_in, with_guest}
 use Rattle.model_registers.specs.CopiedFiles.{agreed_file}
-use Rattle.model_guests.specs.AgreedBoard.{agreed_function, agreed_state, with_change_at, with_files}
+use Rattle.model_guests.specs.AgreedBoard.{agreed_function, state_over, with_change_at, with_files}
 use Rattle.model_guests.specs.Seated.{AreSeated, IsSeat, IsSeatedGuest}
-use Rattle.model_guests.specs.ChangeLaws.{ChangesOneFunction, LatchKeepsBoard, OneFile, ResetsAlike, with_slot_changed}
+use Rattle.model_guests.specs.ChangeLaws.{ChangesAlike, ChangesOneFunction, LatchKeepsBoard, OneFile, ResetsAlike, with_slot_changed, with_latch}
 use Rattle.model_guests.proofs.AgreedChanges.{changed_function, agreed_by, changed_here, unchanged}
 use Rattle.model_guests.proofs.GuestFiles.{slot_set, with_file_there}
 use Rattle.model_guests.proofs.Names.{same_text}
@@ -59,15 +60,6 @@ files_same old new same [] = refl
 files_same old new same (f ∷ fs) = ap₂ (λ (x : BoardFunction) (xs : List BoardFunction). x ∷ xs) (ap (λ (o : Option File). agreed_by o f) (same f.path)) (files_same old new same fs)
 
 -- ---- a change of a slot's file
-
--- a path's seat has a function
-there_in : (b : Board) (s : GuestsNow) → AreSeated b s → (a : Text) (n : ℕ) (p : Path) → path_in s a n ≡ Some p → IsSome (function_in s a n)
-there_in b s seated a n p at = cases (path_in s a n) at (function_in s a n) (seat_in b s seated.guests a n)
-  where
-    cases : (q : Option Path) → q ≡ Some p → (o : Option Function) → IsSeat b q o → IsSome o
-    cases None e o h = cc
-    cases (Some r) e None h = absurd h
-    cases (Some r) e (Some f) h = refl
 
 module _ (b : Board) (s : GuestsNow) (seated : AreSeated b s) (name : Text) (n : ℕ) (p : Path) (at : path_in s name n ≡ Some p) (change : File → File) (f : Function) (there : function_in s name n ≡ Some f) where
   abbrev new_guests : GuestsNow
@@ -113,27 +105,41 @@ module _ (b : Board) (s : GuestsNow) (seated : AreSeated b s) (name : Text) (n :
           ap (λ (x : Slots). file_in t.paths x q) (with_file_there change n t.lone.slots f h)
           ∙ file_beside t.paths t.lone.slots n (Some changed_file) q (λ r i. let same : r ≡ p = cc in ap (λ (x : Path). path_eq x q) same ∙ other)
 
-pub changes_one_function : ChangesOneFunction
-changes_one_function b a s seated name n p at own_change board_change alike = cases (function_in s name n) refl (there_in b s seated name n p at)
-  where
-    cases : (o : Option Function) → function_in s name n ≡ o → IsSome o → agreed_state b a (with_guest (with_slot_changed own_change n) name s) ≡ with_change_at board_change p (agreed_state b a s)
-    cases None e some = cc
-    cases (Some f) e some =
-        one_file own_change board_change alike (file_of s) (file_of (with_guest (with_slot_changed own_change n) name s)) p f.file
-        (file_before b s seated name n p at own_change f e) (file_after b s seated name n p at own_change f e) (file_others b s seated name n p at own_change f e) (set_up_state b a)
+-- whatever board the guests are seated on
+pub changes_slot : (b : Board) (s : State) (gs : GuestsNow) → AreSeated b gs → (name : Text) (n : ℕ) (p : Path) (f : Function) → path_in gs name n ≡ Some p → function_in gs name n ≡ Some f
+    → (own_change board_change : File → File) → ChangesAlike own_change board_change
+    → state_over s (with_guest (with_slot_changed own_change n) name gs) ≡ with_change_at board_change p (state_over s gs)
+changes_slot b s gs seated name n p f at is own_change board_change alike =
+    one_file own_change board_change alike (file_of gs) (file_of (with_guest (with_slot_changed own_change n) name gs)) p f.file
+    (file_before b gs seated name n p at own_change f is) (file_after b gs seated name n p at own_change f is) (file_others b gs seated name n p at own_change f is) s
 
-latch_files : (name : Text) (latch : ℕ) (q : Path) (s : GuestsNow) → file_of (with_guest (λ (t : GuestNow). record t { lone = record t.lone { latch = latch } }) name s) q ≡ file_of s q
-latch_files name latch q [] = refl
-latch_files name latch q (t ∷ ts) = ap₂ Rattle.lists.specs.Elements.first_of_two (cases (bytes_eq name t.name)) (latch_files name latch q ts)
+-- a path's seat has a function
+there_in : (b : Board) (gs : GuestsNow) → AreSeated b gs → (name : Text) (n : ℕ) (p : Path) → path_in gs name n ≡ Some p → (f : Function) × (function_in gs name n ≡ Some f)
+there_in b gs seated name n p at = cases (path_in gs name n) at (function_in gs name n) refl (seat_in b gs seated.guests name n)
   where
-    cases : (v : Bool) → file_in (cond v (record t { lone = record t.lone { latch = latch } }) t).paths (cond v (record t { lone = record t.lone { latch = latch } }) t).lone.slots q ≡ file_in t.paths t.lone.slots q
+    cases : (q : Option Path) → q ≡ Some p → (o : Option Function) → function_in gs name n ≡ o → IsSeat b q o → (f : Function) × (function_in gs name n ≡ Some f)
+    cases None e o i h = cc
+    cases (Some r) e None i h = absurd h
+    cases (Some r) e (Some f) i h = (f, i)
+
+pub changes_one_function : ChangesOneFunction
+changes_one_function s gs seated name n p at own_change board_change alike =
+    let there = there_in (board_at s.functions) gs seated name n p at in
+    changes_slot (board_at s.functions) s gs seated name n p there.0 at there.1 own_change board_change alike
+
+pub same_files_over : (s : State) (old new : GuestsNow) → ((q : Path) → file_of new q ≡ file_of old q) → state_over s new ≡ state_over s old
+same_files_over s old new same = ap (λ (fs : List BoardFunction). record s { functions = fs }) (files_same (file_of old) (file_of new) same s.functions)
+
+latch_files : (name : Text) (latch : ℕ) (q : Path) (gs : GuestsNow) → file_of (with_guest (with_latch latch) name gs) q ≡ file_of gs q
+latch_files name latch q [] = refl
+latch_files name latch q (t ∷ ts) = ap₂ first_of_two (cases (bytes_eq name t.name)) (latch_files name latch q ts)
+  where
+    cases : (v : Bool) → file_in (cond v (with_latch latch t) t).paths (cond v (with_latch latch t) t).lone.slots q ≡ file_in t.paths t.lone.slots q
     cases true = refl
     cases false = refl
 
 pub latch_keeps_board : LatchKeepsBoard
-latch_keeps_board b a s name latch =
-    ap (λ (fs : List BoardFunction). record { functions = fs; latch = 0 })
-    (files_same (file_of s) (file_of (with_guest (λ (t : GuestNow). record t { lone = record t.lone { latch = latch } }) name s)) (λ q. latch_files name latch q s) (set_up_state b a).functions)
+latch_keeps_board s gs name latch = same_files_over s gs (with_guest (with_latch latch) name gs) (λ q. latch_files name latch q gs)
 
 -- ---- a file put in twice
 
@@ -144,7 +150,7 @@ entry_twice : (own file : File) (e : Entry) (t : Bool) → is_own e.place ≡ t 
 entry_twice own file e true h = rw (h, h)
 entry_twice own file e false h = rw (h, h)
 
-agreed_twice : (left own file : File) → agreed_file left file ≡ agreed_file (agreed_file left own) file
+pub agreed_twice : (left own file : File) → agreed_file left file ≡ agreed_file (agreed_file left own) file
 agreed_twice [] own file = refl
 agreed_twice (e ∷ es) own file = ap₂ (λ (x : Entry) (xs : File). x ∷ xs) (entry_twice own file e (is_own e.place) refl) (agreed_twice es own file)
 

@@ -6,15 +6,16 @@ use Rattle.model_registers.specs.Registers.{config, place_eq, Entry, File, cell_
 use Rattle.model_registers.specs.Declarations.{Endpoint}
 use Rattle.model_registers.specs.EndpointTable.{endpoint_reset}
 use Rattle.model_board.specs.Paths.{Path}
-use Rattle.model_board.specs.Board.{endpoint, Board}
-use Rattle.model_registers.specs.Apertures.{Apertures}
+use Rattle.model_board.specs.Board.{endpoint}
 use Rattle.model_registers.specs.Decoding.{Function}
+use Rattle.model_board.specs.AtReset.{board_at}
 use Rattle.model_board.specs.State.{State}
+use Rattle.model_set_up.specs.SetUp.{set_up_state}
 use Rattle.model_set_up.specs.Examples.{part, function_at, plain, main_apertures}
 use Rattle.model_guests.specs.World.{World}
 use Rattle.model_guests.specs.Guests.{GuestsNow, Move, after_move, function_in, guests_at_first, move_fault, path_in}
 use Rattle.model_registers.specs.CopiedFiles.{after_reset, places_of}
-use Rattle.model_guests.specs.AgreedBoard.{agreed_state, with_change_at}
+use Rattle.model_guests.specs.AgreedBoard.{state_over, with_change_at}
 use Rattle.model_guests.specs.Seated.{AreSeated}
 use Rattle.model_guests.proofs.SeatedFirst.{seated_at_first}
 
@@ -55,8 +56,8 @@ lost = record { from = codes "a"; slot = 0; to = codes "b"; target = 0 }
 
 -- MoveResetsOneFunction, without a guest of the move's second name
 abbrev AnyMoveResets : Type 0
-AnyMoveResets = (b : Board) (a : Apertures) (s : GuestsNow) → AreSeated b s → (m : Move) → move_fault s m ≡ None
-    → (p : Path) (f : Function) → path_in s m.from m.slot ≡ Some p → function_in s m.from m.slot ≡ Some f → agreed_state b a (after_move s m) ≡ with_change_at (after_reset f.decl) p (agreed_state b a s)
+AnyMoveResets = (s : State) (gs : GuestsNow) → AreSeated (board_at s.functions) gs → (m : Move) → move_fault gs m ≡ None
+    → (p : Path) (f : Function) → path_in gs m.from m.slot ≡ Some p → function_in gs m.from m.slot ≡ Some f → state_over s (after_move gs m) ≡ with_change_at (after_reset f.decl) p (state_over s gs)
 
 total : State → ℕ
 total s = sum (map (λ f. sum (map (λ (e : Entry). e.cell.value) f.file)) s.functions)
@@ -64,5 +65,6 @@ total s = sum (map (λ f. sum (map (λ (e : Entry). e.cell.value) f.file)) s.fun
 not_any : AnyMoveResets → ⊥
 unfolding world lost twice place total
 not_any h =
-    differ (total (agreed_state world.board world.apertures (after_move (guests_at_first world) lost))) (total (with_change_at (after_reset twice) place (agreed_state world.board world.apertures (guests_at_first world)))) refl
-    (ap total (h world.board world.apertures (guests_at_first world) seated lost refl place (record { decl = twice; file = endpoint_reset twice false }) refl refl))
+    let left : State = set_up_state world.board world.apertures in
+    differ (total (state_over left (after_move (guests_at_first world) lost))) (total (with_change_at (after_reset twice) place (state_over left (guests_at_first world)))) refl
+    (ap total (h left (guests_at_first world) seated lost refl place (record { decl = twice; file = endpoint_reset twice false }) refl refl))

@@ -10,6 +10,7 @@ use Rattle.model_guests.specs.Text.{Text, lines, text_of_lines}
 use Rattle.model_guests.specs.Grammar.{is_own_line}
 use Rattle.model_guests.specs.World.{Guest, World, declarations}
 use Rattle.model_guests.specs.Lone.{reset_guest}
+use Rattle.model_guests.specs.Guests.{guests_at_first}
 use Rattle.model_guests.specs.WorldNow.{world_at_first, output}
 use Rattle.model_guests.specs.Inputs.{inputs, lone_output}
 
@@ -38,7 +39,7 @@ own_exchanges name es = filter (λ e. is_own_line name e.line) es
 
 abbrev pub ShowsAlone : World → List Exchange → Guest → Type 0
 ShowsAlone w es g =
-    lone_output g.name (reset_guest (declarations w g.name)) (inputs (world_at_first w) g.name (lines_of es)) ≡ replies_of (own_exchanges g.name es)
+    lone_output g.name (reset_guest (declarations w g.name)) (inputs (guests_at_first w) g.name (lines_of es)) ≡ replies_of (own_exchanges g.name es)
 
 abbrev pub Dialogue : World → List Exchange → Type 0
 Dialogue w es = Shows w es × Each (ShowsAlone w es) w.guests

@@ -1,27 +1,26 @@
 -- What an event of a guest does to the board.
-use Rattle.std.proofs.Common.{◌≡◌, ℕ, Bool, true, false, cond, List, [], Some, None, Option, refl, sym, ap, ◌∙◌, subst}
+use Rattle.std.proofs.Common.{◌≡◌, ℕ, Bool, true, false, cond, [], Some, None, Option, refl, sym, ap, ◌∙◌, subst}
 use Rattle.std.specs.Prelude.{is_some, option_map, slice_set}
 use Rattle.std.specs.Option.{option_map_or}
 use Rattle.model_registers.specs.Registers.{Place, File, raise, all_bytes}
 use Rattle.model_registers.specs.Decoding.{Function}
+use Rattle.model_registers.specs.CopiedFiles.{agreed_file}
 use Rattle.model_board.specs.Paths.{Path}
 use Rattle.model_board.specs.Board.{Board}
-use Rattle.model_registers.specs.Apertures.{Apertures}
-use Rattle.model_board.specs.State.{BoardFunction}
-use Rattle.model_set_up.specs.SetUp.{set_up_state}
+use Rattle.model_board.specs.AtReset.{board_at}
+use Rattle.model_board.specs.State.{State}
 use Rattle.model_guests.specs.Accesses.{Event, Op, access, raises, reads, writes}
 use Rattle.model_guests.specs.Slots.{Landing, Slots, effect, event_fault, landing, raise_landing, slot_at, with_file}
 use Rattle.model_guests.specs.Lone.{Destination, LoneGuest, after_access_at, after_event, at_target, changed_by, destination, no_function, own_latch, reset_guest}
 use Rattle.model_guests.specs.Text.{Text}
-use Rattle.model_guests.specs.Guests.{GuestNow, GuestsNow, file_in, file_of, function_in, guest_named, lone_of, path_in, with_guest}
-use Rattle.model_registers.specs.CopiedFiles.{agreed_file}
-use Rattle.model_guests.specs.AgreedBoard.{agreed_state, with_change_at}
+use Rattle.model_guests.specs.Guests.{GuestNow, GuestsNow, file_in, function_in, guest_after, guest_named, lone_of, path_in, with_guest}
+use Rattle.model_guests.specs.AgreedBoard.{state_over, with_change_at}
 use Rattle.model_guests.specs.Seated.{AreSeated, IsSeat}
 use Rattle.model_guests.specs.ChangeLaws.{ChangesAlike, EventReachesBoard, board_after, board_effect, board_write, landing_at, landing_of, lands, own_effect, own_write, with_slot_changed}
 use Rattle.model_guests.proofs.AgreedFiles.{writes_alike, raises_alike}
 use Rattle.model_guests.proofs.SeatedMoves.{seat_in}
 use Rattle.model_guests.proofs.FoundFiles.{file_stays, file_alike}
-use Rattle.model_guests.proofs.Changes.{files_same, changes_one_function}
+use Rattle.model_guests.proofs.Changes.{changes_one_function, same_files_over}
 
 part_alike : (e : Event) (p : Place) → ChangesAlike (own_effect e p) (board_effect e p)
 part_alike (access a) p left own = of_op a.op
@@ -36,19 +35,18 @@ part_alike (raises r) p left own = raises_alike r.mask p left own
 abbrev after_landing : Event → Slots → Option Landing → Slots
 after_landing e slots o = option_map_or (λ (l : Landing). with_file (own_effect e l.place) l.slot slots) o slots
 
-destination_slots : (g : LoneGuest) (e : Event) (op : Op) (w : ℕ) → ((p : Place) (file : File) → own_effect e p file ≡ own_write op w p file) → (c : Destination)
-    → (after_access_at g op w c).slots ≡ option_map_or (λ (l : Landing). with_file (own_write op w l.place) l.slot g.slots) (landing_at g op c) g.slots
-destination_slots g e reads w h c = refl
-destination_slots g e (writes v) w h own_latch = refl
-destination_slots g e (writes v) w h no_function = refl
-destination_slots g e (writes v) w h (at_target t) = cases (landing g.slots t)
+target_slots : (g : LoneGuest) (op : Op) (w : ℕ) (d : Destination) → (after_access_at g op w d).slots ≡ option_map_or (λ (l : Landing). with_file (own_write op w l.place) l.slot g.slots) (landing_at g op d) g.slots
+target_slots g reads w d = refl
+target_slots g (writes v) w own_latch = refl
+target_slots g (writes v) w no_function = refl
+target_slots g (writes v) w (at_target t) = cases (landing g.slots t)
   where
     cases : (o : Option Landing) → effect (writes v) w g.slots o ≡ option_map_or (λ (l : Landing). with_file (own_write (writes v) w l.place) l.slot g.slots) o g.slots
     cases None = refl
     cases (Some l) = refl
 
 changed_slots : (g : LoneGuest) (e : Event) → (changed_by g e).slots ≡ after_landing e g.slots (landing_of g e)
-changed_slots g (access a) = destination_slots g (access a) a.op a.width (λ p file. refl) (destination g.latch a.width a.target)
+changed_slots g (access a) = target_slots g a.op a.width (destination g.latch a.width a.target)
 changed_slots g (raises r) = cases (raise_landing (slot_at g.slots r.slot) r)
   where
     cases : (o : Option Place) → option_map_or (λ (p : Place). with_file (raise r.mask p) r.slot g.slots) o g.slots
@@ -72,40 +70,36 @@ none_there : (b : Board) (o : Option Function) → IsSeat b None o → o ≡ Non
 none_there b None h = refl
 none_there b (Some f) h = absurd h
 
-module _ (b : Board) (a : Apertures) (s : GuestsNow) (seated : AreSeated b s) (name : Text) (e : Event) where
+module _ (s : State) (gs : GuestsNow) (seated : AreSeated (board_at s.functions) gs) (name : Text) (e : Event) where
   abbrev after_it : GuestNow → GuestNow
-  after_it t = record t { lone = after_event t.lone e }
+  after_it = guest_after e
 
-  alone_is : (t : GuestNow) → guest_named s name ≡ Some t → lone_of s name ≡ t.lone
+  alone_is : (t : GuestNow) → guest_named gs name ≡ Some t → lone_of gs name ≡ t.lone
   alone_is t i = ap (λ (o : Option GuestNow). option_map_or (λ (u : GuestNow). u.lone) o (reset_guest [])) i
 
-  slots_are : (t : GuestNow) → guest_named s name ≡ Some t → (o : Option Landing) → lands (lone_of s name) e ≡ o → (after_event t.lone e).slots ≡ after_landing e t.lone.slots o
+  slots_are : (t : GuestNow) → guest_named gs name ≡ Some t → (o : Option Landing) → lands (lone_of gs name) e ≡ o → (after_event t.lone e).slots ≡ after_landing e t.lone.slots o
   slots_are t i o h = event_slots t.lone e ∙ ap (after_landing e t.lone.slots) (ap (λ (g : LoneGuest). lands g e) (sym (alone_is t i)) ∙ h)
 
-  same_board : (new : GuestsNow) → ((q : Path) → file_of new q ≡ file_of s q) → agreed_state b a new ≡ agreed_state b a s
-  same_board new same = ap (λ (fs : List BoardFunction). record { functions = fs; latch = 0 }) (files_same (file_of s) (file_of new) same (set_up_state b a).functions)
-
-  by_path : (l : Landing) → lands (lone_of s name) e ≡ Some l → (q : Option Path) → path_in s name l.slot ≡ q
-      → agreed_state b a (with_guest after_it name s) ≡ option_map_or (λ (p : Path). with_change_at (board_effect e l.place) p (agreed_state b a s)) q (agreed_state b a s)
+  by_path : (l : Landing) → lands (lone_of gs name) e ≡ Some l → (q : Option Path) → path_in gs name l.slot ≡ q
+      → state_over s (with_guest after_it name gs) ≡ option_map_or (λ (p : Path). with_change_at (board_effect e l.place) p (state_over s gs)) q (state_over s gs)
   by_path l h None i =
-      same_board (with_guest after_it name s)
-      (λ q. file_stays after_it name q s seated.names_apart (λ t at. ap (λ (x : Slots). file_in t.paths x q) (slots_are t at (Some l) h ∙ with_none (own_effect e l.place) l.slot t.lone.slots (empty t at))))
+      same_files_over s gs (with_guest after_it name gs)
+      (λ q. file_stays after_it name q gs seated.names_apart (λ t at. ap (λ (x : Slots). file_in t.paths x q) (slots_are t at (Some l) h ∙ with_none (own_effect e l.place) l.slot t.lone.slots (empty t at))))
     where
-      empty : (t : GuestNow) → guest_named s name ≡ Some t → slot_at t.lone.slots l.slot ≡ None
+      empty : (t : GuestNow) → guest_named gs name ≡ Some t → slot_at t.lone.slots l.slot ≡ None
       empty t at =
           ap (λ (g : LoneGuest). slot_at g.slots l.slot) (sym (alone_is t at))
-          ∙ none_there b (function_in s name l.slot) (subst (λ (x : Option Path). IsSeat b x (function_in s name l.slot)) i (seat_in b s seated.guests name l.slot))
+          ∙ none_there (board_at s.functions) (function_in gs name l.slot) (subst (λ (x : Option Path). IsSeat (board_at s.functions) x (function_in gs name l.slot)) i (seat_in (board_at s.functions) gs seated.guests name l.slot))
   by_path l h (Some p) i =
       let changed : GuestNow → GuestNow = with_slot_changed (own_effect e l.place) l.slot in
-      ap (λ (fs : List BoardFunction). record { functions = fs; latch = 0 })
-      (files_same (file_of (with_guest changed name s)) (file_of (with_guest after_it name s))
-      (λ q. file_alike after_it changed name q s seated.names_apart (λ t at. ap (λ (x : Slots). file_in t.paths x q) (slots_are t at (Some l) h))) (set_up_state b a).functions)
-      ∙ changes_one_function b a s seated name l.slot p i (own_effect e l.place) (board_effect e l.place) (part_alike e l.place)
+      same_files_over s (with_guest changed name gs) (with_guest after_it name gs)
+      (λ q. file_alike after_it changed name q gs seated.names_apart (λ t at. ap (λ (x : Slots). file_in t.paths x q) (slots_are t at (Some l) h)))
+      ∙ changes_one_function s gs seated name l.slot p i (own_effect e l.place) (board_effect e l.place) (part_alike e l.place)
 
-  pub by_landing : (o : Option Landing) → lands (lone_of s name) e ≡ o → agreed_state b a (with_guest after_it name s) ≡ board_after s name e o (agreed_state b a s)
+  pub by_landing : (o : Option Landing) → lands (lone_of gs name) e ≡ o → state_over s (with_guest after_it name gs) ≡ board_after gs name e o (state_over s gs)
   by_landing None h =
-      same_board (with_guest after_it name s) (λ q. file_stays after_it name q s seated.names_apart (λ t at. ap (λ (x : Slots). file_in t.paths x q) (slots_are t at None h)))
-  by_landing (Some l) h = by_path l h (path_in s name l.slot) refl
+      same_files_over s gs (with_guest after_it name gs) (λ q. file_stays after_it name q gs seated.names_apart (λ t at. ap (λ (x : Slots). file_in t.paths x q) (slots_are t at None h)))
+  by_landing (Some l) h = by_path l h (path_in gs name l.slot) refl
 
 pub event_reaches_board : EventReachesBoard
-event_reaches_board b a s seated name e = by_landing b a s seated name e (lands (lone_of s name) e) refl
+event_reaches_board s gs seated name e = by_landing s gs seated name e (lands (lone_of gs name) e) refl

@@ -12,17 +12,18 @@ use Rattle.model_registers.specs.Declarations.{Endpoint}
 use Rattle.model_registers.specs.Decoding.{Function}
 use Rattle.lists.proofs.Tests.{left_true, right_true}
 use Rattle.model_board.specs.Paths.{Path}
+use Rattle.model_set_up.specs.SetUp.{set_up_state}
 use Rattle.model_guests.specs.Accesses.{Event, refused}
 use Rattle.model_guests.specs.Lone.{LoneGuest, after_event, answer, emptied, filled, reset_guest}
 use Rattle.model_guests.specs.Text.{Text, lines, words}
 use Rattle.model_guests.specs.Grammar.{HostRead, event_of, guest, has_first_word, has_name, host, host_read_of, is_comment, is_long, is_own_line, nobody}
 use Rattle.model_guests.specs.World.{Guest, World, declarations, declared, is_name, names}
-use Rattle.model_guests.specs.Guests.{GuestNow, GuestsNow, Move, after_move, function_in, guest_after, guest_at_first, handed_over, lone_of, move_fault, path_in, with_guest, with_slot_emptied, with_slot_filled}
+use Rattle.model_guests.specs.Guests.{GuestNow, GuestsNow, Move, after_move, function_in, guest_after, guest_at_first, guests_at_first, handed_over, lone_of, move_fault, path_in, with_guest, with_slot_emptied, with_slot_filled}
 use Rattle.model_guests.specs.Lines.{Meaning, bad, event_or_bad, guest_event, host_move, host_read, meaning, meaning_of_words, move_of, nothing, read_or_move}
 use Rattle.model_guests.specs.Replies.{line_text, reply_text}
-use Rattle.model_guests.specs.WorldNow.{WorldNow, world_at_first, names_now, host_reply, move_reply, written_by, after_meaning, after_line, after_lines}
+use Rattle.model_guests.specs.WorldNow.{WorldNow, world_over, names_now, host_reply, move_reply, written_by, after_meaning, after_line, after_lines}
 use Rattle.model_guests.specs.Inputs.{Input, after_input, after_inputs, after_own, gets, inputs, inputs_of_line, inputs_of_meaning, inputs_of_move, lone_event, lone_output, lone_reply, loses, own_line}
-use Rattle.model_guests.specs.Isolation.{Isolated, TwoWorlds}
+use Rattle.model_guests.specs.Isolation.{Isolated, IsolatedOver, TwoWorlds, TwoHandoffs}
 use Rattle.model_guests.proofs.Names.{lacks, NameFacts, named_facts, begins, equal_texts, same_text}
 use Rattle.model_guests.proofs.Along.{names_stay, names_at_first}
 use Rattle.model_guests.proofs.WrittenLines.{written_along, lines_written}
@@ -285,38 +286,38 @@ module _ (ns : List Text) (name : Text) (lawful : Each (λ n. IsTrue (is_name n)
   after_inputs_of w h l true e = ap (λ (m : Meaning). lone_of (after_meaning w m).guests name) (own_means w h l e) ∙ own_after w name (lone_event l) h.1
   after_inputs_of w h l false e = other_after w name (meaning (names_now w) l) h.1 (other_means w h l e)
 
-  replies_from : (ls : List Text) (w : WorldNow) → Stands w → replies_in name (written_along w ls) ≡ lone_output name (lone_of w.guests name) (inputs w name ls)
+  replies_from : (ls : List Text) (w : WorldNow) → Stands w → replies_in name (written_along w ls) ≡ lone_output name (lone_of w.guests name) (inputs w.guests name ls)
   replies_from [] w h = refl
   replies_from (l ∷ ls) w h =
       filter-append (λ t. starts_with eqb t (name ++ codes ": ")) (written_by w (meaning (names_now w) l)) (written_along (after_line w l) ls)
       ∙ step (is_own_line name l) refl (replies_from ls (after_line w l) (stands_after w l h))
     where
       step : (own : Bool) → is_own_line name l ≡ own
-          → replies_in name (written_along (after_line w l) ls) ≡ lone_output name (lone_of (after_line w l).guests name) (inputs (after_line w l) name ls)
+          → replies_in name (written_along (after_line w l) ls) ≡ lone_output name (lone_of (after_line w l).guests name) (inputs (after_line w l).guests name ls)
           → replies_in name (written_by w (meaning (names_now w) l)) ++ replies_in name (written_along (after_line w l) ls)
-          ≡ lone_output name (lone_of w.guests name) (cond own (own_line l ∷ []) (inputs_of_meaning name w.guests (meaning (names_now w) l)) ++ inputs (after_line w l) name ls)
+          ≡ lone_output name (lone_of w.guests name) (cond own (own_line l ∷ []) (inputs_of_meaning name w.guests (meaning (names_now w) l)) ++ inputs (after_line w l).guests name ls)
       step true e rest =
           let line = ap (λ (x : Meaning). replies_in name (written_by w x)) (own_means w h l e) ∙ own_written w name (lone_event l) facts in
           ap (λ (x : List Text). x ++ replies_in name (written_along (after_line w l) ls)) line
           ∙ ap (λ (x : List Text). line_text (guest name) (lone_reply (lone_of w.guests name) (lone_event l)) ∷ x)
-          (rest ∙ ap (λ (g : LoneGuest). lone_output name g (inputs (after_line w l) name ls)) (after_inputs_of w h l true e))
+          (rest ∙ ap (λ (g : LoneGuest). lone_output name g (inputs (after_line w l).guests name ls)) (after_inputs_of w h l true e))
       step false e rest =
           ap (λ (x : List Text). x ++ replies_in name (written_along (after_line w l) ls)) (nothing_written w name (meaning (names_now w) l) facts (other_means w h l e))
-          ∙ rest ∙ ap (λ (g : LoneGuest). lone_output name g (inputs (after_line w l) name ls)) (after_inputs_of w h l false e)
-          ∙ sym (other_is_silent w.guests name (meaning (names_now w) l) (lone_of w.guests name) (inputs (after_line w l) name ls))
+          ∙ rest ∙ ap (λ (g : LoneGuest). lone_output name g (inputs (after_line w l).guests name ls)) (after_inputs_of w h l false e)
+          ∙ sym (other_is_silent w.guests name (meaning (names_now w) l) (lone_of w.guests name) (inputs (after_line w l).guests name ls))
 
-  holds_from : (ls : List Text) (w : WorldNow) → Stands w → lone_of (after_lines w ls).guests name ≡ after_inputs (lone_of w.guests name) (inputs w name ls)
+  holds_from : (ls : List Text) (w : WorldNow) → Stands w → lone_of (after_lines w ls).guests name ≡ after_inputs (lone_of w.guests name) (inputs w.guests name ls)
   holds_from [] w h = refl
   holds_from (l ∷ ls) w h =
       holds_from ls (after_line w l) (stands_after w l h)
-      ∙ ap (λ (g : LoneGuest). after_inputs g (inputs (after_line w l) name ls)) (after_inputs_of w h l (is_own_line name l) refl)
-      ∙ sym (after_inputs-append (inputs_of_line w name l) (inputs (after_line w l) name ls) (lone_of w.guests name))
+      ∙ ap (λ (g : LoneGuest). after_inputs g (inputs (after_line w l).guests name ls)) (after_inputs_of w h l (is_own_line name l) refl)
+      ∙ sym (after_inputs-append (inputs_of_line w.guests name l) (inputs (after_line w l).guests name ls) (lone_of w.guests name))
 
 -- ---- the whole script
 
-pub isolated : Isolated
-isolated w lawful name script h =
-    let now : WorldNow = world_at_first w in
+pub isolated_over : IsolatedOver
+isolated_over w lawful s name script h =
+    let now : WorldNow = world_over w s in
     let facts : NameFacts name = named_facts (names w) name lawful h in
     let there : has now.guests name ≡ true = has_first w.guests w name ∙ h in
     let same : names_now now ≡ names w = names_at_first w in
@@ -324,14 +325,23 @@ isolated w lawful name script h =
     record {
       replies = ap (replies_in name) (lines_written now (names w) lawful same (lines script))
           ∙ replies_from (names w) name lawful facts h (lines script) now (same, there)
-          ∙ ap (λ (g : LoneGuest). lone_output name g (inputs now name (lines script))) first;
+          ∙ ap (λ (g : LoneGuest). lone_output name g (inputs now.guests name (lines script))) first;
       holds = holds_from (names w) name lawful facts h (lines script) now (same, there)
-          ∙ ap (λ (g : LoneGuest). after_inputs g (inputs now name (lines script))) first;
+          ∙ ap (λ (g : LoneGuest). after_inputs g (inputs now.guests name (lines script))) first;
     }
+
+pub two_handoffs : TwoHandoffs
+two_handoffs name v w one other lawful_v lawful_w agree s t =
+    (isolated_over v lawful_v s name one agree.in_first).replies
+    ∙ ap (λ (ds : List (Option Endpoint)). lone_output name (reset_guest ds) (inputs (guests_at_first v) name (lines one))) agree.declarations
+    ∙ ap (λ (is : List Input). lone_output name (reset_guest (declarations w name)) is) agree.inputs
+    ∙ sym (isolated_over w lawful_w t name other agree.in_second).replies
+
+-- ---- after set-up
+
+pub isolated : Isolated
+isolated w lawful name script h = isolated_over w lawful (set_up_state w.board w.apertures) name script h
 
 pub two_worlds_lem : TwoWorlds
 two_worlds_lem name v w s t lawful_v lawful_w agree =
-    (isolated v lawful_v name s agree.in_first).replies
-    ∙ ap (λ (ds : List (Option Endpoint)). lone_output name (reset_guest ds) (inputs (world_at_first v) name (lines s))) agree.declarations
-    ∙ ap (λ (is : List Input). lone_output name (reset_guest (declarations w name)) is) agree.inputs
-    ∙ sym (isolated w lawful_w name t agree.in_second).replies
+    two_handoffs name v w s t lawful_v lawful_w agree (set_up_state v.board v.apertures) (set_up_state w.board w.apertures)

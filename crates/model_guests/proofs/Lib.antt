@@ -7,7 +7,7 @@ pub mod DistinctPlaces
 pub mod TablePlaces
 pub mod CopiesNeverRise
 pub mod AgreedChanges
-pub mod AgreedStates
+pub mod DeclaredRows
 pub mod LawfulWorlds
 pub mod GuestsByName
 pub mod Seats
@@ -15,9 +15,7 @@ pub mod SeatedMoves
 pub mod SeatedFirst
 pub mod FoundFiles
 pub mod Changes
-pub mod AgreedBoards
 pub mod MovedFunctions
-pub mod KeptNumbers
 pub mod Along
 pub mod KeptCopies
 pub mod Events
@@ -27,7 +25,6 @@ pub mod WrittenLines
 pub mod Isolation
 pub mod OwnLines
 pub mod RunLines
-pub mod RegionReach
 pub mod MoveIndices
 pub mod Dialogues
 pub mod RowsOfBaseRegisters

@@ -7,11 +7,11 @@ use Rattle.model_registers.specs.Decoding.{Function}
 use Rattle.model_registers.specs.EndpointTable.{endpoint_reset}
 use Rattle.model_board.specs.Paths.{Path, path_eq}
 use Rattle.model_board.specs.Board.{Board}
-use Rattle.model_set_up.specs.SetUp.{set_up_state}
+use Rattle.model_board.specs.AtReset.{board_at}
 use Rattle.model_guests.specs.Slots.{Slots, slot_at}
 use Rattle.model_guests.specs.Guests.{GuestNow, GuestsNow, Move, file_of, function_in, guest_named, handed_over, move_fault, path_in, with_guest, with_slot_emptied, with_slot_filled}
 use Rattle.model_registers.specs.CopiedFiles.{after_reset}
-use Rattle.model_guests.specs.AgreedBoard.{agreed_state}
+use Rattle.model_guests.specs.AgreedBoard.{state_over}
 use Rattle.model_guests.specs.Seated.{AreSeated, AreSeats, IsSeat, IsSeatedGuest}
 use Rattle.model_guests.specs.ChangeLaws.{MoveResetsOneFunction}
 use Rattle.model_guests.proofs.Names.{same_text}
@@ -126,9 +126,10 @@ module _ (b : Board) (s : GuestsNow) (seated : AreSeated b s) (m : Move) (f : Fu
       none o e r i = cc
 
 pub move_resets_one_function : MoveResetsOneFunction
-move_resets_one_function b a s seated m to_there fault p f at is =
-    let can : NoFault s m = no_fault s m fault in
-    ap (λ (x : Option ℕ). agreed_state b a (cond (is_some x) s (handed_over m (path_in s m.from m.slot) (function_in s m.from m.slot) s))) fault
-    ∙ ap (λ (o : Option Function). agreed_state b a (handed_over m (path_in s m.from m.slot) o s)) is
-    ∙ one_file (λ own. endpoint_reset f.decl false) (after_reset f.decl) (resets_alike f.decl) (file_of s) (file_of (moved b s seated m f is p at to_there can)) p f.file
-    (moved_before b s seated m f is p at to_there can) (moved_after b s seated m f is p at to_there can) (moved_others b s seated m f is p at to_there can) (set_up_state b a)
+move_resets_one_function s gs seated m to_there fault p f at is =
+    let b : Board = board_at s.functions in
+    let can : NoFault gs m = no_fault gs m fault in
+    ap (λ (x : Option ℕ). state_over s (cond (is_some x) gs (handed_over m (path_in gs m.from m.slot) (function_in gs m.from m.slot) gs))) fault
+    ∙ ap (λ (o : Option Function). state_over s (handed_over m (path_in gs m.from m.slot) o gs)) is
+    ∙ one_file (λ own. endpoint_reset f.decl false) (after_reset f.decl) (resets_alike f.decl) (file_of gs) (file_of (moved b gs seated m f is p at to_there can)) p f.file
+    (moved_before b gs seated m f is p at to_there can) (moved_after b gs seated m f is p at to_there can) (moved_others b gs seated m f is p at to_there can) s

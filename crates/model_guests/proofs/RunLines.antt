@@ -6,9 +6,9 @@ use Rattle.std.proofs.lemmas.Bool.{and_from}
 use Rattle.model_guests.specs.Text.{Text, ends_line, lines, text_of_lines}
 use Rattle.model_guests.specs.Grammar.{nobody}
 use Rattle.model_guests.specs.Lines.{meaning, bad}
-use Rattle.model_guests.specs.WorldNow.{names_now, line_output, after_line, written_by, after_meaning}
+use Rattle.model_guests.specs.WorldNow.{names_now, written_by, after_meaning}
 use Rattle.model_guests.specs.LineRuns.{Protocol, output, after_lines, first_output, StoppedIsBeginning, CutIsBeginning, OutputAlong, AfterAlong, LinesOfPieces}
-use Rattle.model_guests.specs.Runs.{OutputByProtocol, AfterByProtocol, LongLinesAlike}
+use Rattle.model_guests.specs.WorldLaws.{LongLinesAlike}
 use Rattle.model_guests.proofs.Names.{lacks}
 use Rattle.model_guests.proofs.OutputLines.{first_line, one_more}
 
@@ -21,16 +21,6 @@ output_along p s [] ms = refl
 output_along p s (l ∷ ls) ms =
     ap (λ (t : Text). p.writes s l ++ t) (output_along p (p.next s l) ls ms)
     ∙ sym (append_assoc (p.writes s l) (output p (p.next s l) ls) (output p (after_lines p (p.next s l) ls) ms))
-
--- ---- worlds
-
-pub output_by_protocol : OutputByProtocol
-output_by_protocol w [] = refl
-output_by_protocol w (l ∷ ls) = ap (λ (t : Text). line_output w l ++ t) (output_by_protocol (after_line w l) ls)
-
-pub after_by_protocol : AfterByProtocol
-after_by_protocol w [] = refl
-after_by_protocol w (l ∷ ls) = after_by_protocol (after_line w l) ls
 
 -- ---- lines
 

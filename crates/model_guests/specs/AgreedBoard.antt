@@ -1,16 +1,13 @@
 -- The one register state of the board that agrees with the guests as they are now.
 --     with_files files s      the state with these files in it, wherever a guest has a function
---     agreed_state      the state of the whole board: all else is as set-up left it
+--     state_over s gs      the state of the whole board: all else is as it was handed over
 --     with_change_at change p s      the state with the file of the function at p changed
 use Rattle.std.specs.Prelude.{map, Option}
 use Rattle.std.specs.Option.{option_map_or}
 use Rattle.model_registers.specs.Registers.{File}
-use Rattle.model_board.specs.Paths.{Path}
-use Rattle.model_board.specs.Board.{Board}
-use Rattle.model_registers.specs.Apertures.{Apertures}
-use Rattle.model_board.specs.State.{BoardFunction, State, with_file}
-use Rattle.model_set_up.specs.SetUp.{set_up_state}
 use Rattle.model_registers.specs.CopiedFiles.{agreed_file}
+use Rattle.model_board.specs.Paths.{Path}
+use Rattle.model_board.specs.State.{BoardFunction, State, with_file}
 use Rattle.model_guests.specs.Guests.{GuestsNow, file_of}
 
 -- `files` says what the guests have of each function
@@ -20,9 +17,9 @@ agreed_function files f = option_map_or (λ (own : File). record f { file = agre
 abbrev pub with_files : (Path → Option File) → State → State
 with_files files s = record s { functions = map (agreed_function files) s.functions }
 
--- bridges, functions in no slot and the address latch are as set-up left them
-abbrev pub agreed_state : Board → Apertures → GuestsNow → State
-agreed_state b a gs = with_files (file_of gs) (set_up_state b a)
+-- bridges, functions in no slot and the address latch are as they were handed over
+abbrev pub state_over : State → GuestsNow → State
+state_over s gs = with_files (file_of gs) s
 
 abbrev pub with_change_at : (File → File) → Path → State → State
 with_change_at change p s = record s { functions = with_file change p s.functions }

@@ -1,6 +1,7 @@
 -- How a change of what guests hold changes the board.
 --     ChangesAlike      when a guest's file changes by the first, the board's changes by the second
 --     WritesAlike, RaisesAlike, ResetsAlike      a write, a raise and a reset reach it by the bytes without a copy
+--     OverSeated      over any state, whatever guests are seated on its board
 --     OneFile, ChangesOneFunction, LatchKeepsBoard      a guest's change of a function changes the board there alone
 --     MoveResetsOneFunction      a move resets the function, but for what its guests have copies of
 --     lands, EventReachesBoard      where an event changes a function, and what it does there to the board
@@ -13,8 +14,7 @@ use Rattle.model_registers.specs.Decoding.{Function}
 use Rattle.model_registers.specs.EndpointTable.{endpoint_reset}
 use Rattle.model_registers.specs.OwnCopies.{is_own, handed_on}
 use Rattle.model_board.specs.Paths.{Path, path_eq}
-use Rattle.model_board.specs.Board.{Board}
-use Rattle.model_registers.specs.Apertures.{Apertures}
+use Rattle.model_board.specs.AtReset.{board_at}
 use Rattle.model_board.specs.State.{State}
 use Rattle.model_guests.specs.Accesses.{Event, access, raises, Op, reads, writes}
 use Rattle.model_registers.specs.CopiedFiles.{agreed_file, after_reset}
@@ -23,7 +23,7 @@ use Rattle.model_guests.specs.Text.{Text}
 use Rattle.model_guests.specs.Lone.{LoneGuest, Destination, own_latch, no_function, at_target, destination}
 use Rattle.model_guests.specs.Guests.{GuestNow, GuestsNow, guest_named, lone_of, with_guest, after_guest_event}
 use Rattle.model_guests.specs.Guests.{function_in, path_in, Move, move_fault, after_move}
-use Rattle.model_guests.specs.AgreedBoard.{with_files, agreed_state, with_change_at}
+use Rattle.model_guests.specs.AgreedBoard.{with_files, state_over, with_change_at}
 use Rattle.model_guests.specs.Seated.{AreSeated}
 
 abbrev pub ChangesAlike : (File → File) → (File → File) → Type 0
@@ -56,22 +56,23 @@ with_slot_changed change n g = record g { lone = record g.lone { slots = with_fi
 abbrev pub with_latch : ℕ → GuestNow → GuestNow
 with_latch latch g = record g { lone = record g.lone { latch = latch } }
 
+abbrev pub OverSeated : (State → GuestsNow → Type 0) → Type 0
+OverSeated P = (s : State) (gs : GuestsNow) → AreSeated (board_at s.functions) gs → P s gs
+
 abbrev pub ChangesOneFunction : Type 0
-ChangesOneFunction = (b : Board) (a : Apertures) (gs : GuestsNow) → AreSeated b gs
-    → (name : Text) (n : ℕ) (p : Path) → path_in gs name n ≡ Some p
+ChangesOneFunction = OverSeated (λ s gs. (name : Text) (n : ℕ) (p : Path) → path_in gs name n ≡ Some p
     → (own_change board_change : File → File) → ChangesAlike own_change board_change
-    → agreed_state b a (with_guest (with_slot_changed own_change n) name gs)
-    ≡ with_change_at board_change p (agreed_state b a gs)
+    → state_over s (with_guest (with_slot_changed own_change n) name gs)
+    ≡ with_change_at board_change p (state_over s gs))
 
 abbrev pub LatchKeepsBoard : Type 0
-LatchKeepsBoard = (b : Board) (a : Apertures) (gs : GuestsNow) (name : Text) (latch : ℕ)
-    → agreed_state b a (with_guest (with_latch latch) name gs) ≡ agreed_state b a gs
+LatchKeepsBoard = (s : State) (gs : GuestsNow) (name : Text) (latch : ℕ)
+    → state_over s (with_guest (with_latch latch) name gs) ≡ state_over s gs
 
 abbrev pub MoveResetsOneFunction : Type 0
-MoveResetsOneFunction = (b : Board) (a : Apertures) (gs : GuestsNow) → AreSeated b gs
-    → (m : Move) → IsSome (guest_named gs m.to) → move_fault gs m ≡ None
+MoveResetsOneFunction = OverSeated (λ s gs. (m : Move) → IsSome (guest_named gs m.to) → move_fault gs m ≡ None
     → (p : Path) (f : Function) → path_in gs m.from m.slot ≡ Some p → function_in gs m.from m.slot ≡ Some f
-    → agreed_state b a (after_move gs m) ≡ with_change_at (after_reset f.decl) p (agreed_state b a gs)
+    → state_over s (after_move gs m) ≡ with_change_at (after_reset f.decl) p (state_over s gs))
 
 -- ---- any event
 
@@ -116,6 +117,6 @@ board_after gs name e (Some l) now =
 
 -- the board changes in the function of that slot, and nowhere else
 abbrev pub EventReachesBoard : Type 0
-EventReachesBoard = (b : Board) (a : Apertures) (gs : GuestsNow) → AreSeated b gs → (name : Text) (e : Event)
-    → agreed_state b a (after_guest_event name e gs)
-    ≡ board_after gs name e (lands (lone_of gs name) e) (agreed_state b a gs)
+EventReachesBoard = OverSeated (λ s gs. (name : Text) (e : Event)
+    → state_over s (after_guest_event name e gs)
+    ≡ board_after gs name e (lands (lone_of gs name) e) (state_over s gs))

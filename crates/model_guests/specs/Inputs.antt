@@ -1,5 +1,5 @@
 -- What decides a guest's replies: its own lines, and the moves that touch it.
---     Input, inputs w name lines      an own line, or a done move out of or into a slot; those of lines, in their order
+--     Input, inputs gs name lines      an own line, or a done move out of or into a slot; those of lines, in their order
 --     lone_event, lone_reply      the event of an own line, and the reply to it
 --     after_input, lone_output, after_inputs      what inputs write and leave over the guest alone
 use Rattle.std.specs.Prelude.{List, [], ◌∷◌, ℕ, if◌then◌else◌, ◌++◌, Option, Some, None, is_some, drop}
@@ -13,7 +13,7 @@ use Rattle.model_guests.specs.Replies.{line_text}
 use Rattle.model_guests.specs.Lone.{LoneGuest, answer, after_event, filled, emptied}
 use Rattle.model_guests.specs.Guests.{GuestsNow, Move, move_fault, function_in}
 use Rattle.model_guests.specs.Lines.{Meaning, nothing, guest_event, host_read, host_move, bad, meaning}
-use Rattle.model_guests.specs.WorldNow.{WorldNow, names_now, after_line}
+use Rattle.model_guests.specs.WorldNow.{names_of, guests_after}
 
 -- a slot that loses its function, and a slot that gets one
 pub data Input : Type 0 where
@@ -36,13 +36,15 @@ inputs_of_meaning name gs (host_move m) =
     if is_some (move_fault gs m) then [] else inputs_of_move name m (function_in gs m.from m.slot)
 inputs_of_meaning name gs (bad who n) = []
 
-abbrev pub inputs_of_line : WorldNow → Text → Text → List Input
-inputs_of_line w name line =
-    if is_own_line name line then own_line line ∷ [] else inputs_of_meaning name w.guests (meaning (names_now w) line)
+abbrev pub inputs_of_line : GuestsNow → Text → Text → List Input
+inputs_of_line gs name line =
+    if is_own_line name line then own_line line ∷ [] else inputs_of_meaning name gs (meaning (names_of gs) line)
 
-abbrev pub inputs : WorldNow → Text → List Text → List Input
-inputs w name [] = []
-inputs w name (line ∷ more) = inputs_of_line w name line ++ inputs (after_line w line) name more
+-- neither the handoff nor what the host reads is among them
+abbrev pub inputs : GuestsNow → Text → List Text → List Input
+inputs gs name [] = []
+inputs gs name (line ∷ more) =
+    inputs_of_line gs name line ++ inputs (guests_after gs (meaning (names_of gs) line)) name more
 
 -- ---- over the guest alone
 

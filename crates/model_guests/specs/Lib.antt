@@ -18,8 +18,7 @@ pub mod AgreedLaws
 pub mod ChangeLaws
 pub mod ViewLaws
 pub mod MoveLaws
-pub mod RegionLaws
 pub mod LineRuns
-pub mod Runs
+pub mod WorldLaws
 pub mod Report
 pub mod Examples

@@ -2,7 +2,6 @@
 --     IsSeatedAt, IsSeat, AreSeats      a slot has a function just where it has a path, and it is the endpoint there
 --     IsSeatedGuest, AreSeated      32 such slots each, and no name and no path twice
 --     SeatedAtFirst, SeatedAfterEvents, SeatedAfterMoves, SeatedAlong      so it is at first, and so it stays
---     NamesStay, NamesAlong      no guest's name changes
 --     ByIndex      a guest by its index
 use Rattle.std.specs.Prelude.{List, [], ◌∷◌, ◌≡◌, ℕ, false, Option, Some, None, ⊤, IsFalse, length, slice_get}
 use Rattle.std.specs.Prelude.{slice_set}
@@ -16,10 +15,10 @@ use Rattle.model_guests.specs.Accesses.{Event}
 use Rattle.model_registers.specs.CopiedFiles.{shape_of}
 use Rattle.model_guests.specs.Slots.{Slots}
 use Rattle.model_guests.specs.Text.{Text}
-use Rattle.model_guests.specs.World.{World, names, declared, HasLawfulGuests}
+use Rattle.model_guests.specs.World.{World, declared, HasLawfulGuests}
 use Rattle.model_guests.specs.Guests.{GuestNow, GuestsNow, guests_at_first, guest_named, path_in, with_guest}
 use Rattle.model_guests.specs.Guests.{after_guest_event, Move, after_move}
-use Rattle.model_guests.specs.WorldNow.{WorldNow, world_at_first, names_now, after_line, after_lines}
+use Rattle.model_guests.specs.WorldNow.{WorldNow, after_lines}
 
 -- with its cells, whatever they hold
 pub record IsSeatedAt (b : Board) (p : Path) (f : Function) : Type 0 where
@@ -60,14 +59,8 @@ SeatedAfterMoves = (b : Board) (gs : GuestsNow) → AreSeated b gs → (m : Move
 
 -- along any lines
 abbrev pub SeatedAlong : Type 0
-SeatedAlong = (w : WorldNow) → AreSeated w.board w.guests → (ls : List Text)
-    → AreSeated w.board (after_lines w ls).guests
-
-abbrev pub NamesStay : Type 0
-NamesStay = (w : WorldNow) (line : Text) → names_now (after_line w line) ≡ names_now w
-
-abbrev pub NamesAlong : Type 0
-NamesAlong = (w : World) (ls : List Text) → names_now (after_lines (world_at_first w) ls) ≡ names w
+SeatedAlong = (b : Board) (w : WorldNow) → AreSeated b w.guests → (ls : List Text)
+    → AreSeated b (after_lines w ls).guests
 
 -- where no name stands twice, the guest at an index is the guest of its name
 abbrev pub ByIndex : Type 0

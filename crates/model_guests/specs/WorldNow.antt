@@ -1,14 +1,15 @@
 -- A world as it is now, and what a script does to it line by line.
---     WorldNow, world_at_first      a board that is set up, and its guests as they are now; a world before any line
+--     WorldNow      the state in which the board was handed over, and the guests as they are now
+--     world_over w s, world_at_first w      a world before any line, over a handoff, and over what set-up leaves
 --     names_now, board_state      the guests' names; the state of the board
 --     host_reply, move_reply      what the host is told
 --     line_output, after_line      what a line writes, and the world after it
+--     world_protocol      the two as a protocol
 --     output, after_lines      the same along lines
-use Rattle.std.specs.Prelude.{List, [], ◌∷◌, ◌++◌, map}
+use Rattle.std.specs.Prelude.{List, [], ◌∷◌, map}
 use Rattle.std.specs.Option.{option_map_or}
-use Rattle.model_board.specs.Board.{Board}
-use Rattle.model_registers.specs.Apertures.{Apertures}
 use Rattle.model_board.specs.State.{State}
+use Rattle.model_set_up.specs.SetUp.{set_up_state}
 use Rattle.model_guests.specs.Accesses.{Reply, done, refused}
 use Rattle.model_guests.specs.Text.{Text, text_of_lines}
 use Rattle.model_guests.specs.Grammar.{HostRead, guest, host}
@@ -18,17 +19,21 @@ use Rattle.model_guests.specs.Replies.{line_text}
 use Rattle.model_guests.specs.Lone.{answer}
 use Rattle.model_guests.specs.Guests.{GuestNow, GuestsNow, guests_at_first, lone_of, after_guest_event, Move}
 use Rattle.model_guests.specs.Guests.{move_fault, after_move}
-use Rattle.model_guests.specs.AgreedBoard.{agreed_state}
+use Rattle.model_guests.specs.AgreedBoard.{state_over}
 use Rattle.model_guests.specs.Lines.{Meaning, nothing, guest_event, host_read, host_move, bad, meaning}
+use Rattle.model_guests.specs.LineRuns.{Protocol}
+use Rattle.model_guests.specs.LineRuns as runs
 
--- the board's registers stand nowhere here: guests and set-up tell them
+-- the board's registers stand nowhere here: the guests and the handoff tell them
 pub record WorldNow : Type 0 where
-  pub board : Board
-  pub apertures : Apertures
+  pub handoff : State
   pub guests : GuestsNow
 
+abbrev pub world_over : World → State → WorldNow
+world_over w s = record { handoff = s; guests = guests_at_first w }
+
 abbrev pub world_at_first : World → WorldNow
-world_at_first w = record { board = w.board; apertures = w.apertures; guests = guests_at_first w }
+world_at_first w = world_over w (set_up_state w.board w.apertures)
 
 abbrev pub names_of : GuestsNow → List Text
 names_of gs = map (λ (g : GuestNow). g.name) gs
@@ -37,7 +42,7 @@ abbrev pub names_now : WorldNow → List Text
 names_now w = names_of w.guests
 
 abbrev pub board_state : WorldNow → State
-board_state w = agreed_state w.board w.apertures w.guests
+board_state w = state_over w.handoff w.guests
 
 abbrev pub host_reply : WorldNow → HostRead → Reply
 host_reply w r = host_answer (board_state w) r
@@ -53,12 +58,16 @@ written_by w (host_read r) = line_text host (host_reply w r) ∷ []
 written_by w (host_move m) = line_text host (move_reply w.guests m) ∷ []
 written_by w (bad who n) = line_text who (refused n) ∷ []
 
+abbrev pub guests_after : GuestsNow → Meaning → GuestsNow
+guests_after gs nothing = gs
+guests_after gs (guest_event name e) = after_guest_event name e gs
+guests_after gs (host_read r) = gs
+guests_after gs (host_move m) = after_move gs m
+guests_after gs (bad who n) = gs
+
+-- no line changes the handoff
 abbrev pub after_meaning : WorldNow → Meaning → WorldNow
-after_meaning w nothing = w
-after_meaning w (guest_event name e) = record w { guests = after_guest_event name e w.guests }
-after_meaning w (host_read r) = w
-after_meaning w (host_move m) = record w { guests = after_move w.guests m }
-after_meaning w (bad who n) = w
+after_meaning w m = record w { guests = guests_after w.guests m }
 
 abbrev pub line_output : WorldNow → Text → Text
 line_output w line = text_of_lines (written_by w (meaning (names_now w) line))
@@ -66,10 +75,11 @@ line_output w line = text_of_lines (written_by w (meaning (names_now w) line))
 abbrev pub after_line : WorldNow → Text → WorldNow
 after_line w line = after_meaning w (meaning (names_now w) line)
 
+abbrev pub world_protocol : Protocol WorldNow
+world_protocol = record { writes = line_output; next = after_line }
+
 abbrev pub output : WorldNow → List Text → Text
-output w [] = []
-output w (line ∷ more) = line_output w line ++ output (after_line w line) more
+output w ls = runs.output world_protocol w ls
 
 abbrev pub after_lines : WorldNow → List Text → WorldNow
-after_lines w [] = w
-after_lines w (line ∷ more) = after_lines (after_line w line) more
+after_lines w ls = runs.after_lines world_protocol w ls

@@ -20,16 +20,16 @@ use Rattle.model_audit.specs.Found.{address_now, IsNumbered, path_reached}
 use Rattle.model_audit.specs.Orderly.{IsStateOfBoard}
 use Rattle.model_audit.proofs.Found.{found_in}
 use Rattle.model_guests.specs.Guests.{GuestsNow, file_of}
-use Rattle.model_guests.specs.AgreedBoard.{agreed_function}
+use Rattle.model_guests.specs.AgreedBoard.{agreed_function, state_over}
 use Rattle.model_guests.specs.ChangeLaws.{ChangesAlike}
 use Rattle.model_guests.specs.Seated.{AreSeated, IsSeatedAt}
 use Rattle.model_guests.specs.Text.{Text}
 use Rattle.model_guests.proofs.AgreedChanges.{agreed_by}
-use Rattle.model_guests.proofs.AgreedFiles.{writes_alike}
+use Rattle.model_guests.proofs.AgreedFiles.{writes_alike, shows_file}
 use Rattle.model_guests.proofs.KeptCopies.{file_of_seat}
-use Rattle.model_guests.proofs.KeptNumbers.{shows_file}
-use Rattle.model_guests.proofs.RegionReach.{declared_row}
-use Rattle.model_handoff.specs.Handoffs.{state_over, HasDeclaredPlaces}
+use Rattle.model_guests.proofs.Changes.{changes_slot}
+use Rattle.model_guests.proofs.DeclaredRows.{declared_row}
+use Rattle.model_handoff.specs.Handoffs.{HasDeclaredPlaces}
 use Rattle.model_handoff.specs.Regions.{base_in}
 use Rattle.model_handoff.specs.RegionLaws.{HitActs, ActsOver, ReachesOver, RegionReads, RegionWrites, MemoryBySpace, PortsBySpace, CycleReads, CycleWrites, HasSlot}
 use Rattle.model_handoff.proofs.Functions.{Facts, facts, path_stays, decl_stays}
@@ -37,7 +37,6 @@ use Rattle.model_handoff.proofs.Agreement.{places_in}
 use Rattle.model_handoff.proofs.Keeping.{find_path, keeps_reach}
 use Rattle.model_handoff.proofs.Standing.{at_path, endpoint_at, StandsAt, found, stands}
 use Rattle.model_handoff.proofs.Regions.{hit_reaches_over, region_is_claimed, seat_of}
-use Rattle.model_handoff.proofs.Changes.{changes_slot}
 
 -- in a region there are no copies
 all_handed : (n a : ℕ) (ons : List Bool) → handed_on (block n a) ons ≡ ons

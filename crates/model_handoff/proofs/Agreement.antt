@@ -12,14 +12,14 @@ use Rattle.model_board.specs.Lawful.{IsLawfulDecl}
 use Rattle.model_board.specs.State.{BoardFunction}
 use Rattle.model_guests.specs.World.{declared, endpoint_of}
 use Rattle.model_guests.specs.Guests.{GuestsNow, file_of}
-use Rattle.model_guests.specs.AgreedBoard.{agreed_function}
+use Rattle.model_guests.specs.AgreedBoard.{agreed_function, state_over}
 use Rattle.model_guests.specs.AgreedLaws.{AgreesAt, AgreesAtEach}
 use Rattle.model_guests.specs.Seated.{IsSeatedGuest}
 use Rattle.model_guests.proofs.AgreedChanges.{agreed_by}
 use Rattle.model_guests.proofs.AgreedFiles.{agreed_holds, only_file}
 use Rattle.model_guests.proofs.DistinctPlaces.{Apart, HasDistinctPlaces, distinct_places}
 use Rattle.model_guests.proofs.SlotPlaces.{IsFileOf}
-use Rattle.model_handoff.specs.Handoffs.{state_over, HasPlacesOf, HasDeclaredPlaces}
+use Rattle.model_handoff.specs.Handoffs.{HasPlacesOf, HasDeclaredPlaces}
 use Rattle.model_handoff.specs.AgreementLaws.{StateAgrees, StateIsOnly}
 use Rattle.model_handoff.proofs.Functions.{Facts, facts, file_is}
 

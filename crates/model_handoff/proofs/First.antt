@@ -2,16 +2,18 @@
 use Rattle.std.proofs.Common.{◌≡◌, ℕ, zero, suc, Bool, true, false, ◌||◌, cond, ◌-◌, List, [], ◌∷◌, ◌++◌, length, Some, None, Option, refl, sym, ap, ap₂, ◌∙◌}
 use Rattle.std.specs.Prelude.{map, flat_map, replicate, option_map, IsTrue}
 use Rattle.std.specs.List.{list_any}
+use Rattle.std.specs.Option.{option_map_or}
 use Rattle.lists.specs.Elements.{Each, first_of_two}
 use Rattle.model_registers.specs.Registers.{File}
 use Rattle.model_registers.specs.Declarations.{Endpoint}
 use Rattle.model_registers.specs.Decoding.{Function}
-use Rattle.model_registers.specs.CopiedFiles.{agreed_file}
+use Rattle.model_registers.specs.CopiedFiles.{agreed_file, after_reset}
 use Rattle.model_board.specs.Paths.{Path, path_eq}
 use Rattle.model_board.specs.Board.{Decl, endpoint, bridge, Board}
 use Rattle.model_board.specs.AtReset.{board_at}
 use Rattle.model_board.specs.Lawful.{IsLawfulDecl}
-use Rattle.model_board.specs.State.{BoardFunction}
+use Rattle.model_board.specs.State.{BoardFunction, with_file}
+use Rattle.model_board.proofs.PathEnds.{path_eq-sym}
 use Rattle.model_board.proofs.PathOrder.{path_same}
 use Rattle.model_guests.specs.Slots.{reset_function}
 use Rattle.model_guests.specs.World.{Guest, World, declared, endpoint_of}
@@ -20,7 +22,7 @@ use Rattle.model_guests.specs.AgreedBoard.{agreed_function}
 use Rattle.model_guests.proofs.AgreedChanges.{agreed_by}
 use Rattle.model_guests.proofs.AgreedFiles.{only_file}
 use Rattle.model_guests.proofs.Changes.{files_same}
-use Rattle.model_handoff.specs.Handoffs.{HasPlacesOf, HasDeclaredPlaces, is_given, file_at_reset, reset_files, HoldsReset}
+use Rattle.model_handoff.specs.Handoffs.{HasPlacesOf, HasDeclaredPlaces, is_given, file_at_reset, files_given, reset_files, HoldsReset}
 use Rattle.model_handoff.specs.AgreementLaws.{FirstIsReset, FirstIsHandoff}
 use Rattle.model_handoff.proofs.Functions.{Facts, facts}
 use Rattle.model_handoff.proofs.Agreement.{distinct_left}
@@ -114,3 +116,38 @@ pub first_is_handoff : FirstIsHandoff
 first_is_handoff w s handoff same reset =
     first_is_reset w s
     ∙ ap (λ (fs : List BoardFunction). record s { functions = fs }) (all_stay w (board_at s.functions) same s.functions (facts s.functions handoff.board) handoff.places reset)
+
+-- ---- where one is given
+
+module _ (b : Board) (p : Path) where
+  abbrev file_here : Option Endpoint → Bool → Option File
+  file_here o t = cond (t || false) (option_map file_at_reset o) None
+
+  given_here : (f : BoardFunction) → files_given b (p ∷ []) f.path ≡ file_here (declared b p) (path_eq f.path p)
+  given_here f = by (path_eq p f.path) refl
+    where
+      by : (t : Bool) → path_eq p f.path ≡ t → file_here (declared b f.path) (path_eq p f.path) ≡ file_here (declared b p) (path_eq f.path p)
+      by true e = ap₂ file_here (ap (declared b) (sym (path_same p f.path e))) (path_eq-sym p f.path)
+      by false e = ap (file_here (declared b f.path)) e ∙ ap (file_here (declared b p)) (sym e ∙ path_eq-sym p f.path)
+
+  one_by : (o : Option Endpoint) (f : BoardFunction) (t : Bool) → agreed_by (file_here o t) f ≡ cond t (option_map_or (λ (d : Endpoint). record f { file = after_reset d f.file }) o f) f
+  one_by None f true = refl
+  one_by (Some d) f true = refl
+  one_by o f false = refl
+
+  pub one_given : (o : Option Endpoint) → declared b p ≡ o → (fs : List BoardFunction)
+      → map (agreed_function (files_given b (p ∷ []))) fs ≡ option_map_or (λ (d : Endpoint). with_file (after_reset d) p fs) o fs
+  one_given None e [] = refl
+  one_given (Some d) e [] = refl
+  one_given None e (f ∷ fs) =
+      ap₂ (λ (x : BoardFunction) (xs : List BoardFunction). x ∷ xs)
+      (ap (λ (o : Option File). agreed_by o f) (given_here f ∙ ap (λ (o : Option Endpoint). file_here o (path_eq f.path p)) e) ∙ one_by None f (path_eq f.path p) ∙ same (path_eq f.path p))
+      (one_given None e fs)
+    where
+      same : (t : Bool) → cond t f f ≡ f
+      same true = refl
+      same false = refl
+  one_given (Some d) e (f ∷ fs) =
+      ap₂ (λ (x : BoardFunction) (xs : List BoardFunction). x ∷ xs)
+      (ap (λ (o : Option File). agreed_by o f) (given_here f ∙ ap (λ (o : Option Endpoint). file_here o (path_eq f.path p)) e) ∙ one_by (Some d) f (path_eq f.path p))
+      (one_given (Some d) e fs)

@@ -15,7 +15,7 @@ use Rattle.model_guests.specs.Guests.{GuestsNow, file_of}
 use Rattle.model_guests.specs.AgreedBoard.{agreed_function}
 use Rattle.model_guests.specs.Seated.{IsSeatedGuest}
 use Rattle.model_guests.proofs.AgreedChanges.{agreed_by}
-use Rattle.model_guests.proofs.AgreedStates.{rows_found}
+use Rattle.model_guests.proofs.DeclaredRows.{rows_found}
 use Rattle.model_guests.proofs.FoundFiles.{seated_file}
 use Rattle.model_guests.proofs.SlotPlaces.{IsFileOf}
 

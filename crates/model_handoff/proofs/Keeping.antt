@@ -4,7 +4,7 @@ use Rattle.std.proofs.Common.{◌≡◌, ℕ, Bool, true, false, ◌&&◌, cond,
 use Rattle.std.specs.Prelude.{map, find, flat_map, not}
 use Rattle.std.specs.Option.{option_map, option_map_or}
 use Rattle.lists.specs.Elements.{Each}
-use Rattle.lists.proofs.EachLemmas.{each_map}
+use Rattle.lists.proofs.EachLemmas.{each_both, each_map, each_of_map}
 use Rattle.lists.proofs.Tests.{and_false}
 use Rattle.model_registers.specs.Registers.{config, File, cell_at}
 use Rattle.model_registers.specs.OwnCopies.{is_own}
@@ -15,6 +15,7 @@ use Rattle.std.proofs.Common.{arith}
 use Rattle.model_board.specs.Paths.{Part, Path, path_eq, parent, last_part}
 use Rattle.model_board.specs.Board.{Decl, endpoint, bridge, Row, Board, is_bridge}
 use Rattle.model_board.specs.AtReset.{board_at}
+use Rattle.model_board.specs.BusNumbers.{secondary, subordinate}
 use Rattle.model_board.specs.Cycles.{secondary_register, subordinate_register, covers, taker, takes, is_route, ends_in, reached_type0, reached_type1, BusAddress, reached}
 use Rattle.model_board.specs.Lawful.{IsLawfulDecl}
 use Rattle.model_board.specs.Routing.{routing}
@@ -25,17 +26,16 @@ use Rattle.model_audit.specs.Found.{is_bridge_at, bus_now, address_now, path_rea
 use Rattle.model_audit.specs.Problems.{Problem, not_found, routing_problems, numbering_problem, numbering_problems}
 use Rattle.model_audit.proofs.Witnesses.{problems_decide}
 use Rattle.model_guests.specs.Guests.{GuestsNow, file_of}
-use Rattle.model_guests.specs.AgreedBoard.{agreed_function}
+use Rattle.model_guests.specs.AgreedBoard.{agreed_function, state_over}
 use Rattle.model_guests.specs.Seated.{IsSeatedGuest}
 use Rattle.model_guests.proofs.AgreedChanges.{agreed_by}
 use Rattle.model_guests.proofs.AgreedFiles.{agreed_kept}
-use Rattle.model_handoff.specs.Handoffs.{state_over}
-use Rattle.model_handoff.specs.AgreementLaws.{KeepsBoard, KeepsBridges, KeepsRouting, KeepsReach, KeepsAddresses, KeepsProblems, StaysInOrder}
+use Rattle.model_handoff.specs.AgreementLaws.{KeepsBoard, KeepsBridges, KeepsNumbers, KeepsRouting, KeepsReach, KeepsAddresses, KeepsProblems, StaysInOrder}
 use Rattle.model_handoff.proofs.Functions.{Facts, facts, bridge_stays, path_stays, decl_stays, row_stays}
 
 -- ---- the same rows
 
-rows_stay : (files : Path → Option File) (fs : List BoardFunction) → map row_at (map (agreed_function files) fs) ≡ map row_at fs
+pub rows_stay : (files : Path → Option File) (fs : List BoardFunction) → map row_at (map (agreed_function files) fs) ≡ map row_at fs
 rows_stay files [] = refl
 rows_stay files (f ∷ fs) = ap₂ (λ (x : Row) (xs : Board). x ∷ xs) (row_stays (files f.path) f) (rows_stay files fs)
 
@@ -180,6 +180,29 @@ module _ (s : State) (gs : GuestsNow) where
 pub keeps_bridges : KeepsBridges
 keeps_bridges s board gs seated =
     each_map (Facts (board_at s.functions)) (λ f. is_bridge f.decl ≡ true → agreed_function (file_of gs) f ≡ f) s.functions (bridge_stays (board_at s.functions) gs seated.guests) (facts s.functions board)
+
+module _ (b : Board) (s : State) (gs : GuestsNow) (all : Each (IsSeatedGuest b) gs) where
+  abbrev Holds : BoardFunction → Type 0
+  Holds f = (secondary_register f.file ≡ secondary b f.path) × (subordinate_register f.file ≡ subordinate b f.path)
+
+  abbrev Numbered : BoardFunction → Type 0
+  Numbered f = is_bridge f.decl ≡ true → Holds f
+
+  numbered : (f : BoardFunction) → Facts b f × Numbered f → Numbered (agreed_function (file_of gs) f)
+  numbered f h k =
+      let e : is_bridge f.decl ≡ true = ap is_bridge (sym (now_decl s gs f)) ∙ k in
+      subst Holds (sym (bridge_stays b gs all f h.0 e)) (h.1 e)
+
+  numbers_stay : (fs : List BoardFunction) → Each (Facts b) fs → Each Numbered fs → Each Numbered (map (agreed_function (file_of gs)) fs)
+  numbers_stay fs facts numbers =
+      each_of_map Numbered (agreed_function (file_of gs)) fs
+      (each_map (λ f. Facts b f × Numbered f) (λ f. Numbered (agreed_function (file_of gs) f)) fs numbered (each_both (Facts b) Numbered fs facts numbers))
+
+pub keeps_numbers : KeepsNumbers
+keeps_numbers s board gs seated has = record {
+  rows = keeps_board s gs ∙ has.rows;
+  numbers = numbers_stay (board_at s.functions) s gs seated.guests s.functions (facts s.functions board) has.numbers;
+}
 
 pub keeps_reach : KeepsReach
 keeps_reach s board gs seated =

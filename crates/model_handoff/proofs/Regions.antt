@@ -23,9 +23,9 @@ use Rattle.model_audit.proofs.Claims.{orderly_claims}
 use Rattle.model_guests.specs.Guests.{GuestsNow, path_in}
 use Rattle.model_guests.specs.Seated.{AreSeated, IsSeat, IsSeatedAt}
 use Rattle.model_guests.specs.Text.{Text}
-use Rattle.model_guests.proofs.RegionReach.{declared_row}
+use Rattle.model_guests.proofs.DeclaredRows.{declared_row}
 use Rattle.model_guests.proofs.SeatedMoves.{seat_in}
-use Rattle.model_handoff.specs.Handoffs.{state_over}
+use Rattle.model_guests.specs.AgreedBoard.{state_over}
 use Rattle.model_handoff.specs.Regions.{base_in, opens_region}
 use Rattle.model_handoff.specs.RegionLaws.{IsClaimedAlone, claim_in_region, RegionIsClaimed, HasSlot, HitReachesOver}
 use Rattle.model_handoff.proofs.Keeping.{keeps_board, keeps_routing}
@@ -71,7 +71,7 @@ base_whole file n io_kind = omega arith
 base_whole file n (mem32 pref) = omega arith
 base_whole file n (mem64 pref) = omega arith
 
-lanes_of : (first off n : ℕ) → first % 4 ≡ 0 → off % 4 ≡ n % 4 → (first + off) % 4 ≡ n % 4
+pub lanes_of : (first off n : ℕ) → first % 4 ≡ 0 → off % 4 ≡ n % 4 → (first + off) % 4 ≡ n % 4
 lanes_of first off n h k = omega arith
 
 pub seat_of : (b : Board) (gs : GuestsNow) → AreSeated b gs → (name : Text) (n : ℕ) (p : Path) (f : Function) → HasSlot gs name n p f → IsSeatedAt b p f

@@ -21,7 +21,7 @@ use Rattle.model_guests.specs.Text.{Text}
 use Rattle.model_guests.specs.World.{Guest, World, given_paths}
 use Rattle.model_guests.specs.Guests.{GuestNow, GuestsNow, guest_at_first, guest_after, guest_named, handed_over, move_fault, path_in, function_in, with_guest, with_slot_emptied, with_slot_filled}
 use Rattle.model_guests.proofs.GuestsByName.{Keeps, path_at, path_of}
-use Rattle.model_guests.proofs.RegionReach.{declared_row}
+use Rattle.model_guests.proofs.DeclaredRows.{declared_row}
 use Rattle.model_guests.proofs.SeatedMoves.{Placed, placed, put_there, was_there}
 use Rattle.model_guests.proofs.Seats.{paths_stay}
 use Rattle.model_handoff.specs.Handoffs.{is_given}

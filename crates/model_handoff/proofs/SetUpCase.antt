@@ -1,5 +1,5 @@
 -- What set-up leaves is one handoff.
-use Rattle.std.proofs.Common.{◌≡◌, true, false, not, List, [], ◌∷◌, ◌++◌, inl, inr, Option, refl, sym, ap, ap₂, ◌∙◌, subst}
+use Rattle.std.proofs.Common.{◌≡◌, true, false, not, List, [], ◌∷◌, inl, inr, Option, refl, sym, ap, ◌∙◌, subst}
 use Rattle.std.specs.Prelude.{map}
 use Rattle.std.specs.Option.{option_map_or}
 use Rattle.lists.specs.Elements.{IsIn}
@@ -18,7 +18,7 @@ use Rattle.model_board.specs.Routing.{RoutingRow, row_of, routing}
 use Rattle.model_board.specs.State.{BoardFunction}
 use Rattle.model_board.proofs.StateRows.{state_rows}
 use Rattle.model_set_up.specs.PlacedRegions.{PlacedRegion, placed}
-use Rattle.model_set_up.specs.SetUp.{first_of, set_up_file, set_up_state}
+use Rattle.model_set_up.specs.SetUp.{command_of, first_of, set_up_file, set_up_state}
 use Rattle.model_set_up.proofs.DeclaredRows.{rows_are_declared}
 use Rattle.model_set_up.proofs.Holders.{self_space}
 use Rattle.model_set_up.proofs.LawfulPlacement.{layout_is_lawful}
@@ -30,16 +30,10 @@ use Rattle.model_audit.proofs.Found.{numbers_of_board}
 use Rattle.model_audit.proofs.Witnesses.{problems_decide}
 use Rattle.model_set_up_audit.proofs.Placing.{left, regions_placed}
 use Rattle.model_set_up_audit.proofs.SetUpPasses.{set_up_passes}
-use Rattle.model_guests.specs.Text.{Text, text_of_lines}
-use Rattle.model_guests.specs.Lines.{Meaning, nothing, guest_event, host_read, host_move, bad, meaning}
-use Rattle.model_guests.specs.WorldNow.{WorldNow, world_at_first}
-use Rattle.model_guests.specs.WorldNow as set_up
-use Rattle.model_guests.proofs.AgreedStates.{alike}
-use Rattle.model_guests.proofs.TablePlaces.{alike_places}
+use Rattle.model_guests.proofs.TablePlaces.{Alike, alike_places, alike_tables}
 use Rattle.model_handoff.specs.Handoffs.{HasPlacesOf, HasDeclaredPlaces, is_given}
 use Rattle.model_handoff.specs.Regions.{closed_given}
-use Rattle.model_handoff.specs.WorldOver.{WorldOver, written_by, after_meaning, names_now, output, after_lines}
-use Rattle.model_handoff.specs.SetUpCase.{SetUpIsHandoff, SetUpIsInOrder, SetUpCanBeGiven, SetUpPlaces, SetUpAddresses, SameState, SameLine, SameOutput, over_set_up}
+use Rattle.model_handoff.specs.SetUpCase.{SetUpIsHandoff, SetUpIsInOrder, SetUpCanBeGiven, SetUpPlaces, SetUpAddresses}
 use Rattle.model_handoff.proofs.Standing.{found}
 
 state_is : (b : Board) (a : Apertures) → IsBoard b → HasLawfulDecls b → IsStateOfBoard (set_up_state b a).functions
@@ -47,6 +41,10 @@ state_is b a board decls = record {
   places = subst IsBoard (sym (state_rows b (set_up_file b a))) board;
   declarations = subst HasLawfulDecls (sym (state_rows b (set_up_file b a))) decls;
 }
+
+-- with the cells that it has at reset, but for its routing registers
+pub alike : (b : Board) (a : Apertures) (p : Path) (d : Endpoint) → IsLawfulDecl (endpoint d) → Alike (endpoint_reset d false) (set_up_file b a p (endpoint d))
+alike b a p d lawful = alike_tables d (is_multifunction b p) (command_of d) (first_of b a p) lawful.regions.each
 
 places_are : (b : Board) (a : Apertures) (p : Path) (d : Decl) → IsLawfulDecl d → HasPlacesOf d (set_up_file b a p d)
 places_are b a p (endpoint d) lawful = sym (alike_places (endpoint_reset d false) (set_up_file b a p (endpoint d)) (alike b a p d lawful))
@@ -134,41 +132,3 @@ set_up_can_be_given w few can = record {
   none_closed = none_in (closed_given w (set_up_state w.board w.apertures))
       (λ q m. nothing_closed w.board w.apertures q (from_filter (λ (x : PlacedRegion). is_given w x.path) q (closed_regions (routing (set_up_state w.board w.apertures).functions)) m).0);
 }
-
--- ---- worlds
-
-pub same_state : SameState
-same_state b a gs = refl
-
-same_written : (v : WorldNow) (m : Meaning) → written_by (over_set_up v) m ≡ set_up.written_by v m
-same_written v nothing = refl
-same_written v (guest_event name e) = refl
-same_written v (host_read r) = refl
-same_written v (host_move m) = refl
-same_written v (bad who n) = refl
-
-same_after : (v : WorldNow) (m : Meaning) → after_meaning (over_set_up v) m ≡ over_set_up (set_up.after_meaning v m)
-same_after v nothing = refl
-same_after v (guest_event name e) = refl
-same_after v (host_read r) = refl
-same_after v (host_move m) = refl
-same_after v (bad who n) = refl
-
-pub same_line : SameLine
-same_line v line = record {
-  writes = ap text_of_lines (same_written v (meaning (names_now (over_set_up v)) line));
-  leaves = same_after v (meaning (names_now (over_set_up v)) line);
-}
-
-run_writes : (ls : List Text) (v : WorldNow) → output (over_set_up v) ls ≡ set_up.output v ls
-run_writes [] v = refl
-run_writes (l ∷ ls) v =
-    ap₂ (λ (x y : Text). x ++ y) (same_line v l).writes
-    (ap (λ (w : WorldOver). output w ls) (same_line v l).leaves ∙ run_writes ls (set_up.after_line v l))
-
-run_leaves : (ls : List Text) (v : WorldNow) → after_lines (over_set_up v) ls ≡ over_set_up (set_up.after_lines v ls)
-run_leaves [] v = refl
-run_leaves (l ∷ ls) v = ap (λ (w : WorldOver). after_lines w ls) (same_line v l).leaves ∙ run_leaves ls (set_up.after_line v l)
-
-pub same_output : SameOutput
-same_output w ls = record { writes = run_writes ls (world_at_first w); leaves = run_leaves ls (world_at_first w) }

@@ -4,10 +4,8 @@ use Rattle.std.specs.Prelude.{map, flat_map, replicate, is_some, option_map, IsS
 use Rattle.std.specs.List.{list_any}
 use Rattle.std.specs.Str.{bytes_eq}
 use Rattle.lists.specs.Elements.{Each, first_of_two}
-use Rattle.model_registers.specs.Registers.{Entry, File, cell_at}
+use Rattle.model_registers.specs.Registers.{File}
 use Rattle.model_registers.specs.Decoding.{Function}
-use Rattle.model_registers.specs.OwnCopies.{is_own}
-use Rattle.model_registers.specs.CopiedFiles.{agreed_file}
 use Rattle.model_registers.specs.Declarations.{Endpoint}
 use Rattle.model_board.specs.Paths.{Path, path_eq}
 use Rattle.model_board.specs.Board.{Board}
@@ -16,13 +14,13 @@ use Rattle.model_board.specs.State.{BoardFunction, State}
 use Rattle.model_guests.specs.Slots.{Slots}
 use Rattle.model_guests.specs.World.{Guest, World, declared}
 use Rattle.model_guests.specs.Guests.{GuestNow, GuestsNow, Move, file_in, file_of, function_in, guest_after, guest_at_first, guest_named, guests_at_first, handed_over, move_fault, path_in, with_guest, after_move}
-use Rattle.model_guests.specs.AgreedBoard.{agreed_function, with_files}
+use Rattle.model_guests.specs.AgreedBoard.{agreed_function, with_files, state_over}
 use Rattle.model_guests.specs.Seated.{AreSeated, AreSeats, IsSeatedGuest, IsSeat}
 use Rattle.model_guests.proofs.AgreedChanges.{agreed_by}
-use Rattle.model_guests.proofs.Changes.{files_same}
+use Rattle.model_guests.proofs.Changes.{files_same, agreed_twice}
 use Rattle.model_guests.proofs.MovedFunctions.{NoFault, no_fault, moved, moved_seated, moved_before, moved_after, moved_others}
 use Rattle.model_board.proofs.PathOrder.{path_same}
-use Rattle.model_handoff.specs.Handoffs.{file_at_reset, reset_files, state_over}
+use Rattle.model_handoff.specs.Handoffs.{file_at_reset, reset_files}
 use Rattle.model_handoff.specs.ViewLaws.{is_at, sits, seated_files, with_seated_reset, OverReset, ResetShown, ResetAtFirst, ResetAfterEvents, ResetAfterMoves}
 use Rattle.model_handoff.proofs.First.{any_append}
 use Rattle.model_handoff.proofs.Functions.{path_stays}
@@ -32,22 +30,11 @@ use Rattle.model_guests.proofs.FoundFiles.{seated_file}
 
 -- ---- a file put in twice
 
-abbrev put_in : File → Entry → Entry
-put_in file e = cond (is_own e.place) e (record e { cell = cell_at file e.place })
-
-entry_twice : (one other : File) (e : Entry) (t : Bool) → is_own e.place ≡ t → put_in other (put_in one e) ≡ put_in other e
-entry_twice one other e true h = rw (h, h)
-entry_twice one other e false h = rw (h, h)
-
-put_twice : (left one other : File) → agreed_file (agreed_file left one) other ≡ agreed_file left other
-put_twice [] one other = refl
-put_twice (e ∷ es) one other = ap₂ (λ (x : Entry) (xs : File). x ∷ xs) (entry_twice one other e (is_own e.place) refl) (put_twice es one other)
-
 -- what the first tells, the second tells too
 twice : (one other : Option File) (f : BoardFunction) → (is_some one ≡ true → is_some other ≡ true) → agreed_by other (agreed_by one f) ≡ agreed_by other f
 twice None other f h = refl
 twice (Some x) None f h = let bad : false ≡ true = h refl in cc
-twice (Some x) (Some y) f h = ap (λ (file : File). record f { file = file }) (put_twice f.file x y)
+twice (Some x) (Some y) f h = ap (λ (file : File). record f { file = file }) (sym (agreed_twice f.file x y))
 
 functions_twice : (one other : Path → Option File) → ((p : Path) → is_some (one p) ≡ true → is_some (other p) ≡ true) → (fs : List BoardFunction)
     → map (agreed_function other) (map (agreed_function one) fs) ≡ map (agreed_function other) fs

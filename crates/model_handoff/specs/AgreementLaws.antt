@@ -1,9 +1,10 @@
 -- What it is that a state of the board agrees with guests over a handoff, and what no guest can change of it.
---     AgreesOver s gs now      said cell by cell, without building the state
+--     OverBoards, OverHandoffs      over any state of a lawful board, over any handoff, whatever guests are seated there
 --     StateAgrees, StateIsOnly      there is a state that agrees, and no other
 --     FirstIsReset, FirstIsHandoff      before any event the given functions are at reset; if they were, it is the handoff
 --     KeepsBoard, KeepsRouting      the same functions, with the routing registers that were handed over
 --     KeepsBridges      no guest has a bridge: bus numbers and windows are as they were handed over
+--     KeepsNumbers      so where the bridges have the numbers of the board, they keep them
 --     KeepsReach, KeepsAddresses      configuration cycles reach what they reached, by the same addresses
 --     KeepsProblems, StaysInOrder      an audit tells what it told of the handoff; so an orderly board stays so
 use Rattle.std.specs.Prelude.{◌≡◌, option_map, IsTrue}
@@ -14,22 +15,18 @@ use Rattle.model_board.specs.AtReset.{board_at}
 use Rattle.model_board.specs.State.{State}
 use Rattle.model_board.specs.Cycles.{BusAddress, reached}
 use Rattle.model_board.specs.Routing.{routing}
+use Rattle.model_set_up.specs.Reach.{HasNumbers}
 use Rattle.model_audit.specs.Found.{address_now}
 use Rattle.model_audit.specs.Orderly.{IsStateOfBoard}
 use Rattle.model_audit.specs.Problems.{problems}
 use Rattle.model_audit.specs.Witnesses.{IsInOrder}
 use Rattle.model_guests.specs.World.{World}
 use Rattle.model_guests.specs.Guests.{GuestsNow, guests_at_first, file_of}
-use Rattle.model_guests.specs.AgreedBoard.{agreed_function}
-use Rattle.model_guests.specs.AgreedLaws.{AgreesAtEach}
+use Rattle.model_guests.specs.AgreedBoard.{agreed_function, state_over}
+use Rattle.model_guests.specs.AgreedLaws.{Agrees}
 use Rattle.model_guests.specs.Seated.{AreSeated}
-use Rattle.model_handoff.specs.Handoffs.{state_over, IsHandoff, with_given_reset, HasGivenAtReset}
+use Rattle.model_handoff.specs.Handoffs.{IsHandoff, with_given_reset, HasGivenAtReset}
 
-pub record AgreesOver (s : State) (gs : GuestsNow) (now : State) : Type 0 where
-  pub functions : AgreesAtEach (file_of gs) s.functions now.functions
-  pub latch : now.latch ≡ s.latch
-
--- what holds over any state of a lawful board, and over any handoff, whatever seated guests there are
 abbrev pub OverBoards : (State → GuestsNow → Type 0) → Type 0
 OverBoards P = (s : State) → IsStateOfBoard s.functions → (gs : GuestsNow) → AreSeated (board_at s.functions) gs
     → P s gs
@@ -38,10 +35,10 @@ abbrev pub OverHandoffs : (State → GuestsNow → Type 0) → Type 0
 OverHandoffs P = (s : State) → IsHandoff s → (gs : GuestsNow) → AreSeated (board_at s.functions) gs → P s gs
 
 abbrev pub StateAgrees : Type 0
-StateAgrees = OverHandoffs (λ s gs. AgreesOver s gs (state_over s gs))
+StateAgrees = OverHandoffs (λ s gs. Agrees s gs (state_over s gs))
 
 abbrev pub StateIsOnly : Type 0
-StateIsOnly = OverHandoffs (λ s gs. (now : State) → AgreesOver s gs now → now ≡ state_over s gs)
+StateIsOnly = OverHandoffs (λ s gs. (now : State) → Agrees s gs now → now ≡ state_over s gs)
 
 abbrev pub FirstIsReset : Type 0
 FirstIsReset = (w : World) (s : State) → state_over s (guests_at_first w) ≡ with_given_reset w s
@@ -59,6 +56,10 @@ KeepsRouting = OverBoards (λ s gs. routing (state_over s gs).functions ≡ rout
 abbrev pub KeepsBridges : Type 0
 KeepsBridges =
     OverBoards (λ s gs. Each (λ f. IsTrue (is_bridge f.decl) → agreed_function (file_of gs) f ≡ f) s.functions)
+
+abbrev pub KeepsNumbers : Type 0
+KeepsNumbers = OverBoards (λ s gs. HasNumbers (board_at s.functions) s.functions
+    → HasNumbers (board_at s.functions) (state_over s gs).functions)
 
 -- the function as it is now
 abbrev pub KeepsReach : Type 0

@@ -19,10 +19,9 @@ use Rattle.model_audit.specs.Problems.{not_found, problems}
 use Rattle.model_guests.specs.Text.{text_of_lines}
 use Rattle.model_guests.specs.Examples.{main_world, on_bus_0, behind}
 use Rattle.model_guests.specs.Guests.{guests_at_first}
-use Rattle.model_guests.specs.AgreedBoard.{with_change_at}
-use Rattle.model_handoff.specs.Handoffs.{state_over}
+use Rattle.model_guests.specs.AgreedBoard.{state_over, with_change_at}
+use Rattle.model_guests.specs.WorldNow.{world_over, output}
 use Rattle.model_handoff.specs.Regions.{in_disorder, closed_region, closed_given, first_fault}
-use Rattle.model_handoff.specs.WorldOver.{world_over, output}
 
 abbrev pub written_to : Path → ℕ → ℕ → ℕ → State → State
 written_to p w off v s = with_change_at (write (all_bytes w) v (config off)) p s

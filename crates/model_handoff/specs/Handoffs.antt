@@ -1,12 +1,13 @@
--- A board as firmware hands it over, and its one register state that agrees with the guests as they are now. PCI
--- Firmware Specification 3.0, chapter 3.5 (device state at firmware/operating system handoff).
---     state_over s gs      the handoff s, with the guests' files in it wherever a guest has a function
+-- A board as firmware hands it over to guests. PCI Firmware Specification 3.0, chapter 3.5 (device state at
+-- firmware/operating system handoff).
 --     HasDeclaredPlaces f      an endpoint's cells stand where its declaration puts them, whatever they hold
 --     IsHandoff s      a state of a lawful board with such cells
 --     is_given w p      a guest of the world is given the function at a path
+--     files_given b ps      the files at reset of the endpoints at these paths
 --     with_given_reset w s      the handoff with each given function at reset, but for what guests have copies of
+--     taken_over w s      the same, with the address latch clear: what guests get
 --     HasGivenAtReset w s      each given function is so already
-use Rattle.std.specs.Prelude.{◌≡◌, Bool, false, if◌then◌else◌, Option, None, option_map, ⊤, IsTrue, IsFalse}
+use Rattle.std.specs.Prelude.{List, ◌≡◌, Bool, false, if◌then◌else◌, Option, None, option_map, ⊤, IsTrue, IsFalse}
 use Rattle.std.specs.List.{list_any}
 use Rattle.lists.specs.Elements.{Each}
 use Rattle.model_registers.specs.Registers.{Place, File, cell_at}
@@ -15,18 +16,11 @@ use Rattle.model_registers.specs.EndpointTable.{endpoint_reset}
 use Rattle.model_registers.specs.OwnCopies.{is_own}
 use Rattle.model_registers.specs.CopiedFiles.{places_of}
 use Rattle.model_board.specs.Paths.{Path, path_eq}
-use Rattle.model_board.specs.Board.{Decl, endpoint, bridge}
+use Rattle.model_board.specs.Board.{Decl, endpoint, bridge, Board}
 use Rattle.model_board.specs.State.{BoardFunction, State}
 use Rattle.model_audit.specs.Orderly.{IsStateOfBoard}
 use Rattle.model_guests.specs.World.{World, declared, given_paths}
-use Rattle.model_guests.specs.Guests.{GuestsNow, file_of}
 use Rattle.model_guests.specs.AgreedBoard.{with_files}
-
--- bridges, functions in no slot and the address latch are as they were handed over
-abbrev pub state_over : State → GuestsNow → State
-state_over s gs = with_files (file_of gs) s
-
--- ---- handoffs
 
 abbrev pub HasPlacesOf : Decl → File → Type 0
 HasPlacesOf (endpoint d) file = places_of file ≡ places_of (endpoint_reset d false)
@@ -47,11 +41,17 @@ is_given w p = list_any (λ q. path_eq q p) (given_paths w)
 abbrev pub file_at_reset : Endpoint → File
 file_at_reset d = endpoint_reset d false
 
+abbrev pub files_given : Board → List Path → Path → Option File
+files_given b ps p = if list_any (λ q. path_eq q p) ps then option_map file_at_reset (declared b p) else None
+
 abbrev pub reset_files : World → Path → Option File
-reset_files w p = if is_given w p then option_map file_at_reset (declared w.board p) else None
+reset_files w p = files_given w.board (given_paths w) p
 
 abbrev pub with_given_reset : World → State → State
 with_given_reset w s = with_files (reset_files w) s
+
+abbrev pub taken_over : World → State → State
+taken_over w s = record (with_given_reset w s) { latch = 0 }
 
 abbrev pub HoldsReset : Decl → File → Type 0
 HoldsReset (endpoint d) file = (p : Place) → IsFalse (is_own p) → cell_at file p ≡ cell_at (file_at_reset d) p

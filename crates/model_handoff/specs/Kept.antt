@@ -9,12 +9,12 @@ use Rattle.model_board.specs.State.{State}
 use Rattle.model_audit.specs.Witnesses.{IsInOrder}
 use Rattle.model_guests.specs.Text.{Text}
 use Rattle.model_guests.specs.World.{World, HasLawfulGuests}
+use Rattle.model_guests.specs.WorldNow.{WorldNow, world_over, after_line, after_lines}
 use Rattle.model_guests.specs.Seated.{AreSeated}
 use Rattle.model_handoff.specs.Handoffs.{IsHandoff}
 use Rattle.model_handoff.specs.Regions.{CanBeGiven, AreServed}
-use Rattle.model_handoff.specs.WorldOver.{WorldOver, world_over, after_line, after_lines}
 
-pub record IsLawfulOver (w : WorldOver) : Type 0 where
+pub record IsLawfulOver (w : WorldNow) : Type 0 where
   pub handoff : IsHandoff w.handoff
   pub order : IsInOrder w.handoff.functions
   pub seated : AreSeated (board_at w.handoff.functions) w.guests
@@ -25,7 +25,7 @@ LawfulAtFirst = (w : World) (s : State) → IsHandoff s → board_at s.functions
     → CanBeGiven w s → IsLawfulOver (world_over w s)
 
 abbrev pub LawfulAfter : Type 0
-LawfulAfter = (w : WorldOver) (line : Text) → IsLawfulOver w → IsLawfulOver (after_line w line)
+LawfulAfter = (w : WorldNow) (line : Text) → IsLawfulOver w → IsLawfulOver (after_line w line)
 
 abbrev pub LawfulAlong : Type 0
-LawfulAlong = (w : WorldOver) (ls : List Text) → IsLawfulOver w → IsLawfulOver (after_lines w ls)
+LawfulAlong = (w : WorldNow) (ls : List Text) → IsLawfulOver w → IsLawfulOver (after_lines w ls)

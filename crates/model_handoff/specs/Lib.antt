@@ -2,13 +2,10 @@ pub mod Handoffs
 pub mod AgreementLaws
 pub mod Regions
 pub mod RegionLaws
-pub mod WorldOver
-pub mod IsolationLaws
-pub mod ChangeLaws
 pub mod SetUpCase
+pub mod SetUpLaws
 pub mod Examples
 pub mod Kept
 pub mod ViewLaws
 pub mod Sessions
 pub mod DevicesOver
-pub mod RunsOver

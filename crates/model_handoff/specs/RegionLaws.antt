@@ -33,8 +33,9 @@ use Rattle.model_guests.specs.World.{World}
 use Rattle.model_guests.specs.Guests.{GuestsNow, guests_at_first, path_in, function_in, with_guest, after_guest_event}
 use Rattle.model_guests.specs.Guests.{Move, after_move}
 use Rattle.model_guests.specs.Seated.{AreSeated}
+use Rattle.model_guests.specs.AgreedBoard.{state_over}
 use Rattle.model_guests.specs.ChangeLaws.{with_slot_changed}
-use Rattle.model_handoff.specs.Handoffs.{state_over, IsHandoff}
+use Rattle.model_handoff.specs.Handoffs.{IsHandoff}
 use Rattle.model_handoff.specs.Regions.{base_in, opens_region, closed_given, first_fault, CanBeGiven, AreServed}
 
 abbrev pub space_reply : State → Space → ℕ → ℕ → ℕ

@@ -17,9 +17,9 @@ use Rattle.model_guests.specs.Text.{Text}
 use Rattle.model_guests.specs.World.{World, declared}
 use Rattle.model_guests.specs.Guests.{GuestNow, GuestsNow, guests_at_first, guest_named, after_guest_event}
 use Rattle.model_guests.specs.Guests.{Move, after_move}
-use Rattle.model_guests.specs.AgreedBoard.{with_files}
-use Rattle.model_handoff.specs.Handoffs.{state_over, file_at_reset, with_given_reset}
-use Rattle.model_handoff.specs.ChangeLaws.{OverSeated}
+use Rattle.model_guests.specs.AgreedBoard.{with_files, state_over}
+use Rattle.model_guests.specs.ChangeLaws.{OverSeated}
+use Rattle.model_handoff.specs.Handoffs.{file_at_reset, with_given_reset}
 
 abbrev pub is_at : Path → Option Path → Bool
 is_at p q = option_map_or (λ (x : Path). path_eq x p) q false

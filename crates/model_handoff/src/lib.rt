@@ -2,19 +2,16 @@
 #![tactic(auto)]
 
 ghost use Rattle.model_handoff.specs.AgreementLaws.{FirstIsHandoff, FirstIsReset, KeepsAddresses, KeepsBoard};
-ghost use Rattle.model_handoff.specs.AgreementLaws.{KeepsBridges, KeepsProblems, KeepsReach, KeepsRouting};
+ghost use Rattle.model_handoff.specs.AgreementLaws.{KeepsBridges, KeepsNumbers, KeepsProblems, KeepsReach, KeepsRouting};
 ghost use Rattle.model_handoff.specs.AgreementLaws.{StateAgrees, StateIsOnly, StaysInOrder};
-ghost use Rattle.model_handoff.specs.IsolationLaws.{GuestsAlike, IsolatedOver, RepliesAlike, TwoHandoffs};
 ghost use Rattle.model_handoff.specs.RegionLaws.{CycleReads, CycleWrites, FaultDecides, HitActs, HitReachesOver};
 ghost use Rattle.model_handoff.specs.RegionLaws.{MemoryBySpace, PortsBySpace, RegionIsClaimed, RegionReads};
 ghost use Rattle.model_handoff.specs.RegionLaws.{RegionWrites, ServedAfterEvents, ServedAfterMoves, ServedAtFirst};
-ghost use Rattle.model_handoff.specs.ChangeLaws.{ChangesOver, EventReachesOver, LatchOver, MoveResetsOver};
-ghost use Rattle.model_handoff.specs.SetUpCase.{SameLine, SameOutput, SameState, SetUpAddresses, SetUpCanBeGiven};
-ghost use Rattle.model_handoff.specs.SetUpCase.{SetUpIsHandoff, SetUpIsInOrder, SetUpPlaces};
+ghost use Rattle.model_handoff.specs.SetUpCase.{SetUpAddresses, SetUpCanBeGiven, SetUpIsHandoff, SetUpIsInOrder, SetUpPlaces};
+ghost use Rattle.model_handoff.specs.SetUpLaws.{HitReachesRegion, SetUpAgrees, SetUpAtFirst, SetUpIsOnly, SetUpKeepsNumbers, SetUpKeepsRouting};
 ghost use Rattle.model_handoff.specs.ViewLaws.{OverReset, ResetAfterEvents, ResetAfterMoves, ResetAtFirst, ResetShown};
-ghost use Rattle.model_handoff.specs.RunsOver.{AfterByProtocol, LongLinesAlike, NamesStay, OutputByProtocol, SameCut, SameStop};
 ghost use Rattle.model_handoff.specs.Sessions.{AccessLeaves, LinesLeave, ResetIsHandoff};
-ghost use Rattle.model_handoff.specs.DevicesOver.{CallsAlike, LawfulAfterDevices, ResetAfterDevices, ResetReachesOver, WriteReachesOver};
+ghost use Rattle.model_handoff.specs.DevicesOver.{LawfulAfterDevices, ResetAfterDevices};
 ghost use Rattle.model_handoff.specs.Kept.{LawfulAfter, LawfulAlong, LawfulAtFirst};
 ghost use Rattle.model_handoff.specs.Examples.{WorkedExamples};
 
@@ -32,19 +29,12 @@ pub fn agreement_is_one()
 pub fn handoff_stays()
     ensures board { KeepsBoard }
     ensures bridges { KeepsBridges }
+    ensures numbers { KeepsNumbers }
     ensures routing { KeepsRouting }
     ensures reach { KeepsReach }
     ensures addresses { KeepsAddresses }
     ensures problems { KeepsProblems }
     ensures order { StaysInOrder }
-{}
-
-/// No guest can tell a handoff from another, or from what set-up leaves.
-pub fn isolated_over_handoffs()
-    ensures guests { GuestsAlike }
-    ensures replies { RepliesAlike }
-    ensures isolated { IsolatedOver }
-    ensures two { TwoHandoffs }
 {}
 
 /// A byte of an open region is claimed where an orderly handoff has it, by that region alone; a guest's hit stands for
@@ -77,15 +67,6 @@ pub fn given_are_served()
     ensures lawful_along { LawfulAlong }
 {}
 
-/// When a guest changes a function, the board over a handoff changes there alone, by the bytes of which the guest has
-/// no copy.
-pub fn changes_reach_board()
-    ensures function { ChangesOver }
-    ensures latch { LatchOver }
-    ensures moves { MoveResetsOver }
-    ensures events { EventReachesOver }
-{}
-
 /// Whatever firmware does to a board at reset, it hands over a handoff of that board.
 pub fn firmware_hands_over()
     ensures reset { ResetIsHandoff }
@@ -102,39 +83,31 @@ pub fn handoff_is_shown()
     ensures moves { ResetAfterMoves }
 {}
 
-/// What happens at devices over a handoff: a reset resets the function on the board, a device's write changes its
-/// byte there alone, the world stays lawful, and the same handoff is shown. Along any calls guests hold what they hold
-/// on a board that is set up.
+/// Whatever happens at devices, the world stays lawful, and the same handoff is shown.
 pub fn devices_over_handoffs()
-    ensures board { ResetReachesOver }
-    ensures written { WriteReachesOver }
     ensures lawful { LawfulAfterDevices }
     ensures shown { ResetAfterDevices }
-    ensures calls { CallsAlike }
 {}
 
-/// What set-up leaves is a handoff in order, without a closed region; guests over it are the guests of a board that is
-/// set up.
+/// What set-up leaves is a handoff in order, without a closed region.
 pub fn set_up_is_a_case()
     ensures handoff { SetUpIsHandoff }
     ensures order { SetUpIsInOrder }
     ensures given { SetUpCanBeGiven }
     ensures places { SetUpPlaces }
     ensures addresses { SetUpAddresses }
-    ensures state { SameState }
-    ensures line { SameLine }
-    ensures output { SameOutput }
 {}
 
-/// A run of a script over a handoff writes and leaves line by line what its definition says; over what set-up leaves
-/// it is the run over the board that is set up, also where a failure ends it.
-pub fn runs_over_handoffs()
-    ensures output { OutputByProtocol }
-    ensures after { AfterByProtocol }
-    ensures long { LongLinesAlike }
-    ensures names { NamesStay }
-    ensures cut { SameCut }
-    ensures stopped { SameStop }
+/// Just one state of a board that is set up agrees with the guests; before any event it is the one that set-up leaves.
+/// Whatever guests do, the board routes as set-up left it and keeps its bus numbers. What a guest's function decodes is
+/// a byte of a declared region, which set-up placed, and which the board claims there.
+pub fn agreement_after_set_up()
+    ensures agrees { SetUpAgrees }
+    ensures is_only { SetUpIsOnly }
+    ensures first { SetUpAtFirst }
+    ensures routing { SetUpKeepsRouting }
+    ensures numbers { SetUpKeepsNumbers }
+    ensures hits { HitReachesRegion }
 {}
 
 /// What guests see over some handoffs.

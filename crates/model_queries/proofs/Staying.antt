@@ -297,24 +297,24 @@ moved name m p (Some f) gs there slot n apart =
     (λ here. emptied_beside (lone_of gs name) m.slot slot n (asked (bytes_eq m.from name) (eqb m.slot slot) parts.0 here))
 
 pub regions_stay : RegionsStay
-regions_stay w decls seated name there slot n (asks nothing) none = refl
-regions_stay w decls seated name there slot n (asks (guest_event who e)) none =
+regions_stay b decls w seated name there slot n (asks nothing) none = refl
+regions_stay b decls w seated name there slot n (asks (guest_event who e)) none =
     beside (guest_after e) (λ t. refl) (λ (g : LoneGuest). after_event g e) (λ t. refl) who name w.guests there slot n
-    (λ here. by_event w.board decls w.guests seated name slot n e (asked (bytes_eq who name) (rewrites slot (lone_of w.guests name) e) none here))
-regions_stay w decls seated name there slot n (asks (host_read r)) none = refl
-regions_stay w decls seated name there slot n (asks (host_move m)) none = cases (is_some (move_fault w.guests m)) none
+    (λ here. by_event b decls w.guests seated name slot n e (asked (bytes_eq who name) (rewrites slot (lone_of w.guests name) e) none here))
+regions_stay b decls w seated name there slot n (asks (host_read r)) none = refl
+regions_stay b decls w seated name there slot n (asks (host_move m)) none = cases (is_some (move_fault w.guests m)) none
   where
     cases : (t : Bool) → (not t && ((bytes_eq m.from name && eqb m.slot slot) || (bytes_eq m.to name && eqb m.target slot))) ≡ false
         → region_answer (lone_of (cond t w.guests (handed_over m (path_in w.guests m.from m.slot) (function_in w.guests m.from m.slot) w.guests)) name) slot n ≡ region_answer (lone_of w.guests name) slot n
     cases true apart = refl
     cases false apart = moved name m (path_in w.guests m.from m.slot) (function_in w.guests m.from m.slot) w.guests there slot n apart
-regions_stay w decls seated name there slot n (asks (bad who k)) none = refl
-regions_stay w decls seated name there slot n (at_device who (resets k)) none =
+regions_stay b decls w seated name there slot n (asks (bad who k)) none = refl
+regions_stay b decls w seated name there slot n (at_device who (resets k)) none =
     beside (device_after (resets k)) (λ t. refl) (λ (g : LoneGuest). after_device_event g (resets k)) (λ t. refl) who name w.guests there slot n
     (λ here. reset_beside (lone_of w.guests name) k slot n (asked (bytes_eq who name) (eqb k slot) none here))
-regions_stay w decls seated name there slot n (at_device who (device_reads d)) none =
+regions_stay b decls w seated name there slot n (at_device who (device_reads d)) none =
     beside (device_after (device_reads d)) (λ t. refl) (λ (g : LoneGuest). after_device_event g (device_reads d)) (λ t. refl) who name w.guests there slot n
-    (λ here. by_device_read w.board decls w.guests seated name slot n d)
-regions_stay w decls seated name there slot n (at_device who (device_writes d v)) none =
+    (λ here. by_device_read b decls w.guests seated name slot n d)
+regions_stay b decls w seated name there slot n (at_device who (device_writes d v)) none =
     beside (device_after (device_writes d v)) (λ t. refl) (λ (g : LoneGuest). after_device_event g (device_writes d v)) (λ t. refl) who name w.guests there slot n
-    (λ here. by_device_write w.board decls w.guests seated name slot n d v)
+    (λ here. by_device_write b decls w.guests seated name slot n d v)

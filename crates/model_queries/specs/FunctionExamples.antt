@@ -10,7 +10,8 @@ use Rattle.model_board.specs.Cycles.{BusAddress}
 use Rattle.model_board.specs.Routing.{regions, windows}
 use Rattle.model_board.specs.State.{State}
 use Rattle.model_set_up.specs.Examples.{part, main_board, main_apertures}
-use Rattle.model_guests.specs.AgreedBoard.{agreed_state}
+use Rattle.model_set_up.specs.SetUp.{set_up_state}
+use Rattle.model_guests.specs.AgreedBoard.{state_over}
 use Rattle.model_guests.specs.Examples.{main_world, on_bus_0, behind}
 use Rattle.model_guests.specs.Guests.{GuestsNow, guests_at_first, Move, after_move}
 use Rattle.model_queries.specs.Functions.{Identity, FunctionNow, function_nth, slot_answer}
@@ -22,7 +23,7 @@ abbrev pub guests_moved : GuestsNow
 guests_moved = after_move (guests_at_first main_world) moved
 
 abbrev pub main_now : State
-main_now = agreed_state main_board main_apertures guests_moved
+main_now = state_over (set_up_state main_board main_apertures) guests_moved
 
 -- all of vendor 1234h, with no subsystem
 abbrev pub identity_told : ℕ → ℕ → Identity

@@ -9,6 +9,7 @@ use Rattle.std.specs.Prelude.{IsSome}
 use Rattle.std.specs.Option.{option_map_or}
 use Rattle.std.specs.Str.{bytes_eq}
 use Rattle.model_registers.specs.Registers.{Place, config, block, after}
+use Rattle.model_board.specs.Board.{Board}
 use Rattle.model_board.specs.Lawful.{HasLawfulDecls}
 use Rattle.model_guests.specs.Accesses.{Event, access, raises, Op, reads, writes}
 use Rattle.model_guests.specs.Slots.{Landing}
@@ -60,7 +61,7 @@ moves_regions name slot gs (at_device n (device_writes d v)) = false
 
 -- whatever other guests, their devices and the host do
 abbrev pub RegionsStay : Type 0
-RegionsStay = (w : WorldNow) → HasLawfulDecls w.board → AreSeated w.board w.guests
+RegionsStay = (b : Board) → HasLawfulDecls b → (w : WorldNow) → AreSeated b w.guests
     → (name : Text) → IsSome (guest_named w.guests name) → (slot register : ℕ) (c : Call)
     → moves_regions name slot w.guests c ≡ false
     → region_answer (lone_of (after_call w c).guests name) slot register

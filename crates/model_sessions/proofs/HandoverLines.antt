@@ -3,30 +3,30 @@ use Rattle.std.proofs.Common.{◌≡◌, Bool, true, false, List, [], ◌∷◌,
 use Rattle.std.specs.Prelude.{IsTrue}
 use Rattle.model_board.specs.State.{State}
 use Rattle.model_guests.specs.Text.{Text, lines}
-use Rattle.model_guests.specs.Guests.{lone_of}
+use Rattle.model_guests.specs.Guests.{guests_at_first, lone_of}
 use Rattle.model_guests.specs.Inputs.{inputs}
 use Rattle.model_guests.specs.LineRuns.{output, after_lines}
 use Rattle.model_guests.specs.Replies.{reply_lines}
 use Rattle.model_guests.specs.World.{World}
-use Rattle.model_guests.specs.WorldNow.{world_at_first}
+use Rattle.model_guests.specs.WorldNow.{WorldNow, world_over}
+use Rattle.model_guests.specs.WorldNow as now
+use Rattle.model_guests.specs.Isolation.{IsDecidedBy}
+use Rattle.model_guests.proofs.Isolation.{isolated_over}
 use Rattle.model_firmware.specs.FirmwareLines.{after_line}
-use Rattle.model_handoff.specs.IsolationLaws.{IsIsolatedOver}
+use Rattle.model_handoff.specs.Handoffs.{taken_over}
 use Rattle.model_handoff.specs.Regions.{HandoffFault, first_fault}
-use Rattle.model_handoff.specs.WorldOver.{WorldOver, world_over}
-use Rattle.model_handoff.specs.WorldOver as over
-use Rattle.model_handoff.proofs.Worlds.{isolated_over}
-use Rattle.model_sessions.specs.Sessions.{is_audit, is_handover, SessionNow, driven, given, handed_over, after_handover}
+use Rattle.model_sessions.specs.Sessions.{is_audit, is_handover, SessionNow, driven, given, after_handover}
 use Rattle.model_sessions.specs.Sessions.{after_session_line, session_protocol}
 use Rattle.model_sessions.specs.SessionLaws.{IsHandedOver, IsGivenBy, GivenBy, IsolatedSessions}
 use Rattle.model_sessions.proofs.SessionLines.{audits_change_nothing, handover_leaves, plain_after, given_is_script}
 
-same_given : (m n : WorldOver) → given m ≡ given n → m ≡ n
+same_given : (m n : WorldNow) → given m ≡ given n → m ≡ n
 same_given m n is = cc
 
 -- what one line leaves of a board that firmware drives
 pub data Left (w : World) (s : State) (line : Text) : Type 0 where
   goes_on : (t : State) → after_session_line (driven w s) line ≡ driven w t → Left w s line
-  hands_over : IsHandedOver w s line → after_session_line (driven w s) line ≡ given (world_over w (handed_over w s)) → Left w s line
+  hands_over : IsHandedOver w s line → after_session_line (driven w s) line ≡ given (world_over w (taken_over w s)) → Left w s line
 
 left_by_fault : (w : World) (s : State) (line : Text) → IsTrue (is_handover line) → (f : Option HandoffFault) → first_fault w s ≡ f → Left w s line
 left_by_fault w s line asks None can =
@@ -42,7 +42,7 @@ left_by w s line false false is_one is_other =
 left : (w : World) (s : State) (line : Text) → Left w s line
 left w s line = left_by w s line (is_audit line) (is_handover line) refl refl
 
-given_by_left : (w : World) (s : State) (l : Text) (ls : List Text) (m : WorldOver) → Left w s l
+given_by_left : (w : World) (s : State) (l : Text) (ls : List Text) (m : WorldNow) → Left w s l
     → ((t : State) → after_lines session_protocol (driven w t) ls ≡ given m → IsGivenBy w t ls m)
     → after_lines session_protocol (driven w s) (l ∷ ls) ≡ given m → IsGivenBy w s (l ∷ ls) m
 given_by_left w s l ls m (goes_on t same) more is =
@@ -58,7 +58,7 @@ given_by_left w s l ls m (goes_on t same) more is =
       now = rest.now;
     }
 given_by_left w s l ls m (hands_over handed same) more is =
-    let n = world_over w (handed_over w s) in
+    let n = world_over w (taken_over w s) in
     record {
       before = [];
       line = l;
@@ -67,7 +67,7 @@ given_by_left w s l ls m (hands_over handed same) more is =
       in_order = refl;
       left = refl;
       handed = handed;
-      now = same_given m (over.after_lines n ls)
+      now = same_given m (now.after_lines n ls)
           (sym is ∙ ap (λ (x : SessionNow). after_lines session_protocol x ls) same ∙ (given_is_script n ls).1);
     }
 
@@ -77,15 +77,15 @@ given_by w s (l ∷ ls) m is = given_by_left w s l ls m (left w s l) (λ t. give
 
 pub isolated_sessions : IsolatedSessions
 isolated_sessions w lawful t line name script handed there =
-    let n : WorldOver = world_over w (handed_over w t) in
+    let n : WorldNow = world_over w (taken_over w t) in
     let x : SessionNow = after_session_line (driven w t) line in
     let same : x ≡ given n = handover_leaves w t line handed.asks ∙ ap (after_handover w t) handed.can in
-    let alone : IsIsolatedOver w (handed_over w t) name script (inputs (world_at_first w) name (lines script)) =
-    isolated_over w lawful (handed_over w t) name script there in
+    let alone : IsDecidedBy (inputs (guests_at_first w) name (lines script)) w n name script =
+    isolated_over w lawful (taken_over w t) name script there in
     let told = given_is_script n (lines script) in
     record {
       replies = ap (reply_lines name) (ap (λ (y : SessionNow). output session_protocol y (lines script)) same ∙ told.0) ∙ alone.replies;
       holds = λ m is.
-          ap (λ (o : WorldOver). lone_of o.guests name) (same_given m (over.after_lines n (lines script))
+          ap (λ (o : WorldNow). lone_of o.guests name) (same_given m (now.after_lines n (lines script))
           (sym is ∙ ap (λ (y : SessionNow). after_lines session_protocol y (lines script)) same ∙ told.1)) ∙ alone.holds;
     }

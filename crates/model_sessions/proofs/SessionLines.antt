@@ -10,12 +10,12 @@ use Rattle.model_guests.specs.Grammar.{host, nobody, is_long}
 use Rattle.model_guests.specs.Lines as script
 use Rattle.model_guests.specs.LineRuns.{output, after_lines}
 use Rattle.model_guests.specs.World.{World}
+use Rattle.model_guests.specs.WorldNow.{WorldNow}
+use Rattle.model_guests.specs.WorldNow as now
 use Rattle.model_firmware.specs.FirmwareLines as firmware
-use Rattle.model_firmware.specs.FirmwareLines.{board_protocol, line_output, after_line}
+use Rattle.model_firmware.specs.FirmwareLines.{line_output, after_line}
 use Rattle.model_audit.specs.AuditText.{audit}
 use Rattle.model_handoff.specs.Regions.{first_fault}
-use Rattle.model_handoff.specs.WorldOver.{WorldOver}
-use Rattle.model_handoff.specs.WorldOver as over
 use Rattle.model_sessions.specs.Sessions.{host_word, host_word_in, is_audit, is_handover, SessionNow, driven, given, handover_output, after_handover}
 use Rattle.model_sessions.specs.Sessions.{session_output, after_session_line, session_protocol}
 use Rattle.model_sessions.specs.SessionLaws.{IsNoForm, HostWordsAreNoForm, AuditsChangeNothing, RefusedStays, IsPlain, PlainSessions, GivenIsScript}
@@ -58,8 +58,8 @@ word_there (Some w) word is = (w, refl)
 
 -- ---- what changes nothing
 
-bad_stays : (m : WorldOver) (line : Text) → IsNoForm line → over.after_line m line ≡ m
-bad_stays m line none = ap (over.after_meaning m) (none.script (over.names_now m))
+bad_stays : (m : WorldNow) (line : Text) → IsNoForm line → now.after_line m line ≡ m
+bad_stays m line none = ap (now.after_meaning m) (none.script (now.names_now m))
 
 pub audits_change_nothing : AuditsChangeNothing
 audits_change_nothing (driven w s) line is =
@@ -105,5 +105,5 @@ plain_sessions w s (l ∷ ls) none =
 pub given_is_script : GivenIsScript
 given_is_script m [] = (refl, refl)
 given_is_script m (l ∷ ls) =
-    let rest = given_is_script (over.after_line m l) ls in
-    (ap (λ (t : Text). over.line_output m l ++ t) rest.0, rest.1)
+    let rest = given_is_script (now.after_line m l) ls in
+    (ap (λ (t : Text). now.line_output m l ++ t) rest.0, rest.1)

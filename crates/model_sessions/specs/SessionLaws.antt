@@ -11,20 +11,20 @@ use Rattle.lists.specs.Elements.{Each}
 use Rattle.model_board.specs.State.{State}
 use Rattle.model_guests.specs.Text.{Text, lines}
 use Rattle.model_guests.specs.Grammar.{host, has_name}
-use Rattle.model_guests.specs.Guests.{lone_of}
+use Rattle.model_guests.specs.Guests.{guests_at_first, lone_of}
 use Rattle.model_guests.specs.Inputs.{inputs, lone_output, after_inputs}
 use Rattle.model_guests.specs.Lines as script
 use Rattle.model_guests.specs.LineRuns.{output, after_lines}
 use Rattle.model_guests.specs.Lone.{reset_guest}
 use Rattle.model_guests.specs.Replies.{reply_lines}
 use Rattle.model_guests.specs.World.{World, names, declarations, HasLawfulNames}
-use Rattle.model_guests.specs.WorldNow.{world_at_first}
+use Rattle.model_guests.specs.WorldNow.{WorldNow, world_over}
+use Rattle.model_guests.specs.WorldNow as now
 use Rattle.model_firmware.specs.FirmwareLines as firmware
 use Rattle.model_firmware.specs.FirmwareLines.{board_protocol}
+use Rattle.model_handoff.specs.Handoffs.{taken_over}
 use Rattle.model_handoff.specs.Regions.{HandoffFault, first_fault}
-use Rattle.model_handoff.specs.WorldOver.{WorldOver, world_over}
-use Rattle.model_handoff.specs.WorldOver as over
-use Rattle.model_sessions.specs.Sessions.{host_word, is_audit, is_handover, SessionNow, driven, given, handed_over}
+use Rattle.model_sessions.specs.Sessions.{host_word, is_audit, is_handover, SessionNow, driven, given}
 use Rattle.model_sessions.specs.Sessions.{after_session_line, session_protocol}
 
 pub record IsNoForm (line : Text) : Type 0 where
@@ -51,9 +51,9 @@ PlainSessions = (w : World) (s : State) (ls : List Text) → Each IsPlain ls
     × (after_lines session_protocol (driven w s) ls ≡ driven w (after_lines board_protocol s ls))
 
 abbrev pub GivenIsScript : Type 0
-GivenIsScript = (m : WorldOver) (ls : List Text)
-    → (output session_protocol (given m) ls ≡ over.output m ls)
-    × (after_lines session_protocol (given m) ls ≡ given (over.after_lines m ls))
+GivenIsScript = (m : WorldNow) (ls : List Text)
+    → (output session_protocol (given m) ls ≡ now.output m ls)
+    × (after_lines session_protocol (given m) ls ≡ given (now.after_lines m ls))
 
 -- ---- isolation
 
@@ -62,7 +62,7 @@ pub record IsHandedOver (w : World) (t : State) (line : Text) : Type 0 where
   pub asks : IsTrue (is_handover line)
   pub can : first_fault w t ≡ None
 
-pub record IsGivenBy (w : World) (s : State) (ls : List Text) (m : WorldOver) : Type 0 where
+pub record IsGivenBy (w : World) (s : State) (ls : List Text) (m : WorldNow) : Type 0 where
   pub before : List Text
   pub line : Text
   pub later : List Text
@@ -70,19 +70,19 @@ pub record IsGivenBy (w : World) (s : State) (ls : List Text) (m : WorldOver) : 
   pub in_order : ls ≡ before ++ line ∷ later
   pub left : after_lines session_protocol (driven w s) before ≡ driven w state
   pub handed : IsHandedOver w state line
-  pub now : m ≡ over.after_lines (world_over w (handed_over w state)) later
+  pub now : m ≡ now.after_lines (world_over w (taken_over w state)) later
 
 abbrev pub GivenBy : Type 0
-GivenBy = (w : World) (s : State) (ls : List Text) (m : WorldOver)
+GivenBy = (w : World) (s : State) (ls : List Text) (m : WorldNow)
     → after_lines session_protocol (driven w s) ls ≡ given m → IsGivenBy w s ls m
 
 -- its own lines and the moves that touch it decide; neither the board nor what firmware did is among them
 pub record IsToldAlone (w : World) (x : SessionNow) (name script : Text) : Type 0 where
   pub replies : reply_lines name (output session_protocol x (lines script))
-      ≡ lone_output name (reset_guest (declarations w name)) (inputs (world_at_first w) name (lines script))
-  pub holds : (m : WorldOver) → after_lines session_protocol x (lines script) ≡ given m
+      ≡ lone_output name (reset_guest (declarations w name)) (inputs (guests_at_first w) name (lines script))
+  pub holds : (m : WorldNow) → after_lines session_protocol x (lines script) ≡ given m
       → lone_of m.guests name
-      ≡ after_inputs (reset_guest (declarations w name)) (inputs (world_at_first w) name (lines script))
+      ≡ after_inputs (reset_guest (declarations w name)) (inputs (guests_at_first w) name (lines script))
 
 abbrev pub IsolatedFrom : World → Type 0
 IsolatedFrom w = (t : State) (line name script : Text) → IsHandedOver w t line → IsTrue (has_name (names w) name)

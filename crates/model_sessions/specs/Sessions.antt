@@ -3,7 +3,6 @@
 --     host_word line      the second of a line's two words, where the first is `host`
 --     is_audit, is_handover      whether a line asks for an audit, or for guests
 --     SessionNow      the board of a world as firmware drives it, or the guests over it
---     handed_over w s      the board as guests get it: given functions at reset, and the address latch clear
 --     handover_lines f      what is written, by the first fault
 --     session_output, after_session_line      what a line writes, and the session after it
 --     session_protocol      the two as a protocol, so that they go along lines
@@ -18,13 +17,13 @@ use Rattle.model_guests.specs.Accesses.{done}
 use Rattle.model_guests.specs.Replies.{line_text}
 use Rattle.model_guests.specs.Report.{path_text}
 use Rattle.model_guests.specs.World.{World}
+use Rattle.model_guests.specs.WorldNow.{WorldNow, world_over}
+use Rattle.model_guests.specs.WorldNow as script
 use Rattle.model_guests.specs.LineRuns.{Protocol}
 use Rattle.model_firmware.specs.FirmwareLines.{line_output, after_line}
 use Rattle.model_audit.specs.AuditText.{audit, audit_line, problem_text, register_text}
-use Rattle.model_handoff.specs.Handoffs.{with_given_reset}
+use Rattle.model_handoff.specs.Handoffs.{taken_over}
 use Rattle.model_handoff.specs.Regions.{HandoffFault, in_disorder, closed_region, first_fault}
-use Rattle.model_handoff.specs.WorldOver.{WorldOver, world_over}
-use Rattle.model_handoff.specs.WorldOver as over
 
 abbrev pub host_word_in : List Text → Option Text
 host_word_in (first ∷ second ∷ []) = on_word first (codes "host") (Some second)
@@ -47,10 +46,7 @@ is_handover line = is_host_line (codes "guests") line
 
 pub data SessionNow : Type 0 where
   driven : World → State → SessionNow
-  given : WorldOver → SessionNow
-
-abbrev pub handed_over : World → State → State
-handed_over w s = record (with_given_reset w s) { latch = 0 }
+  given : WorldNow → SessionNow
 
 abbrev pub closed_text : PlacedRegion → Text
 closed_text q = codes "closed: " ++ path_text q.path ++ register_text q.index
@@ -68,7 +64,7 @@ abbrev pub handover_output : Option HandoffFault → Text
 handover_output f = text_of_lines (handover_lines f)
 
 abbrev pub after_handover : World → State → Option HandoffFault → SessionNow
-after_handover w s None = given (world_over w (handed_over w s))
+after_handover w s None = given (world_over w (taken_over w s))
 after_handover w s (Some f) = driven w s
 
 -- ---- a line
@@ -85,11 +81,11 @@ after_driven w s line =
 
 abbrev pub session_output : SessionNow → Text → Text
 session_output (driven w s) line = driven_output w s line
-session_output (given m) line = over.line_output m line
+session_output (given m) line = script.line_output m line
 
 abbrev pub after_session_line : SessionNow → Text → SessionNow
 after_session_line (driven w s) line = after_driven w s line
-after_session_line (given m) line = given (over.after_line m line)
+after_session_line (given m) line = given (script.after_line m line)
 
 abbrev pub session_protocol : Protocol SessionNow
 session_protocol = record { writes = session_output; next = after_session_line }

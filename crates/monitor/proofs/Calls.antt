@@ -4,7 +4,7 @@ use Rattle.std.proofs.lemmas.Option.{slice_get_read}
 use Rattle.model_board.specs.State.{State}
 use Rattle.model_board.specs.Routing.{routing}
 use Rattle.model_guests.specs.Text.{Text}
-use Rattle.model_handoff.specs.WorldOver.{WorldOver}
+use Rattle.model_guests.specs.WorldNow.{WorldNow}
 use Rattle.model_handoff.proofs.Keeping.{keeps_routing}
 use Rattle.host_bridge.specs.HostState.{HostState}
 use Rattle.monitor.specs.declared.guest.Guest.{Guest}
@@ -15,9 +15,9 @@ use Rattle.monitor.proofs.Shown.{is_shown, is_sound}
 
 -- ---- as it begins
 
-module _ {h : HostState} {names : List Text} {gs : List Guest} (sound : IsSound h names gs) {now : WorldOver} (view : world_shown h names gs ≡ now) where
+module _ {h : HostState} {names : List Text} {gs : List Guest} (sound : IsSound h names gs) {now : WorldNow} (view : world_shown h names gs ≡ now) where
   pub kept_in : IsKept now h names gs
-  kept_in = subst (λ (v : WorldOver). IsKept v h names gs) view sound
+  kept_in = subst (λ (v : WorldNow). IsKept v h names gs) view sound
 
   pub inside_guests : (i : ℕ) → i < length now.guests → i < length gs
   inside_guests i inside =
@@ -31,15 +31,15 @@ module _ {h : HostState} {names : List Text} {gs : List Guest} (sound : IsSound 
 -- ---- as it ends
 
 -- the world v; routes to claims stay
-pub record Leaves (v : WorldOver) (h new : HostState) (names : List Text) (gs : List Guest) : Type 0 where
+pub record Leaves (v : WorldNow) (h new : HostState) (names : List Text) (gs : List Guest) : Type 0 where
   pub sound : IsSound new names gs
   pub routes : routing h.state.functions ≡ routing new.state.functions
   pub world : world_shown new names gs ≡ v
 
-routing_kept : {w : WorldOver} {h : HostState} {names : List Text} {gs : List Guest} → IsKept w h names gs → routing h.state.functions ≡ routing w.handoff.functions
+routing_kept : {w : WorldNow} {h : HostState} {names : List Text} {gs : List Guest} → IsKept w h names gs → routing h.state.functions ≡ routing w.handoff.functions
 routing_kept {w} kept = ap (λ (s : State). routing s.functions) kept.agrees ∙ keeps_routing w.handoff kept.lawful.handoff.board w.guests kept.lawful.seated
 
-pub leaves : {w v : WorldOver} {h new : HostState} {names : List Text} {gs back : List Guest} → IsKept w h names gs → IsKept v new names back → routing w.handoff.functions ≡ routing v.handoff.functions → Leaves v h new names back
+pub leaves : {w v : WorldNow} {h new : HostState} {names : List Text} {gs back : List Guest} → IsKept w h names gs → IsKept v new names back → routing w.handoff.functions ≡ routing v.handoff.functions → Leaves v h new names back
 leaves {w} {v} {h} {new} {names} {gs} {back} before after same = record {
   sound = is_sound v new names back after;
   routes = routing_kept before ∙ same ∙ sym (routing_kept after);
@@ -55,6 +55,6 @@ pub given_back : {A : Type 0} (xs ys : List A) (n : ℕ) → length xs ≡ n →
 given_back xs ys n e = ap (λ m. take m (xs ++ ys)) (sym e) ∙ taken xs ys
 
 -- the guests were lent
-pub back_in : {v : WorldOver} {h new : HostState} {names : List Text} {left : List Guest} (gs : List Guest) (n : ℕ) → length left ≡ n → Leaves v h new names left
+pub back_in : {v : WorldNow} {h new : HostState} {names : List Text} {left : List Guest} (gs : List Guest) (n : ℕ) → length left ≡ n → Leaves v h new names left
     → Leaves v h new names (take n (left ++ drop (length left) gs))
 back_in {v} {h} {new} {names} {left} gs n count is = subst (Leaves v h new names) (sym (given_back left (drop (length left) gs) n count)) is

@@ -14,13 +14,13 @@ use Rattle.model_board.specs.Ports.{config_reply, after_config_write}
 use Rattle.model_guests.specs.Accesses.{answered, reads, writes, configuration}
 use Rattle.model_guests.specs.Slots.{Landing, landing, perform, effect, slot_at}
 use Rattle.model_guests.specs.Lone.{at_target, reply_at, after_access_at}
-use Rattle.model_handoff.specs.WorldOver.{WorldOver}
+use Rattle.model_guests.specs.WorldNow.{WorldNow}
 use Rattle.model_guests.specs.ChangeLaws.{with_slot_changed}
 use Rattle.model_guests.proofs.AgreedFiles.{writes_alike}
 use Rattle.model_guests.specs.AgreedBoard.{with_change_at}
 use Rattle.model_guests.specs.Text.{Text}
 use Rattle.model_handoff.proofs.Accesses.{cycle_reads, cycle_writes}
-use Rattle.model_handoff.proofs.Changes.{changes_over}
+use Rattle.model_guests.proofs.Changes.{changes_one_function}
 use Rattle.guest_functions.proofs.HeldCopies.{lawful_copies, written_held}
 use Rattle.paths.specs.BusAddresses.{bus_address_of}
 use Rattle.host_bridge.specs.HostState.{HostState, with_functions}
@@ -60,7 +60,7 @@ written_lent {gs} {ms} {new} {i} {n} {word} {enables} {value} {r} same holds wri
 
 -- ---- a function in a slot of a world that is kept
 
-module _ {w : WorldOver} {h : HostState} {names : List Text} {gs : List Guest} {i : ℕ} {g : Guest} (at : GuestAt w h names gs i g) where
+module _ {w : WorldNow} {h : HostState} {names : List Text} {gs : List Guest} {i : ℕ} {g : Guest} (at : GuestAt w h names gs i g) where
   module _ {n : ℕ} {held : Held} (slot : SlotAt at n held) where
     abbrev fs : List BoardFunction
     fs = functions at
@@ -118,7 +118,7 @@ module _ {w : WorldOver} {h : HostState} {names : List Text} {gs : List Guest} {
           ∙ ap (λ (a : BusAddress). left_with (after_config_write fs a word (handed_on (config word) (lanes enables)) moved)) slot.held.at
           ∙ ap left_with
           (cycle_writes w.handoff at.kept.lawful.handoff.board at.kept.lawful.order.numbers w.guests at.kept.lawful.seated (name_nth w i) n slot.p slot.f (named_slot at slot) word (lanes enables) moved
-          ∙ ap (λ (s : State). s.functions) (changes_over w.handoff w.guests at.kept.lawful.seated (name_nth w i) n slot.p (path_there at slot) word_change board_change (writes_alike (lanes enables) moved (config word))))
+          ∙ ap (λ (s : State). s.functions) (changes_one_function w.handoff w.guests at.kept.lawful.seated (name_nth w i) n slot.p (path_there at slot) word_change board_change (writes_alike (lanes enables) moved (config word))))
           ∙ ap (λ (s : State). left_with (with_file board_change slot.p s.functions)) (sym at.kept.agrees)
 
       world : with_guest_at i (with_slot_changed word_change n (guest_nth w i)) w ≡ with_lone_nth i (after_access_at (lone_nth w i) (writes v) width (at_target (configuration n off))) w
@@ -128,7 +128,7 @@ module _ {w : WorldOver} {h : HostState} {names : List Text} {gs : List Guest} {
 
       pub config_written : Leaves (with_lone_nth i (after_access_at (lone_nth w i) (writes v) width (at_target (configuration n off))) w) h new names left
       config_written = leaves at.kept
-          (subst (λ (u : WorldOver). IsKept u new names left) world
+          (subst (λ (u : WorldNow). IsKept u new names left) world
           (subst (IsKept (with_guest_at i (with_slot_changed word_change n (guest_nth w i)) w) new names) (sym written.after)
           (kept_slot at slot word_change board_change (writes_alike (lanes enables) moved (config word)) (written_shape (lanes enables) moved (config word))
           written.slots.own (written_held held.own written.slots.own slot.f.file slot.held.own (lanes enables) moved (config word) written.slots.written) written.slots.regions

@@ -28,8 +28,8 @@ use Rattle.model_devices.specs.DeviceEvents.{DeviceByte, device_reads, device_wr
 use Rattle.model_devices.specs.DeviceByteLaws.{byte_change}
 use Rattle.model_devices.proofs.Bytes.{passes, read_there, write_answered, written_there}
 use Rattle.model_devices.proofs.Seats.{seated_after}
-use Rattle.model_handoff.specs.WorldOver.{WorldOver, board_state}
-use Rattle.model_handoff.proofs.DevicesOver.{write_reaches_over}
+use Rattle.model_guests.specs.WorldNow.{WorldNow, board_state}
+use Rattle.model_devices.proofs.Bytes.{write_reaches_board}
 use Rattle.model_handoff.specs.DevicesOver.{after_device}
 use Rattle.headers.specs.declared.place.Place as headers
 use Rattle.headers.specs.Places.{place_of}
@@ -99,7 +99,7 @@ same_change left own same v q = cases (has_place own q) refl
 
 -- ---- a function in a slot of a world that is kept
 
-module _ {w : WorldOver} {h : HostState} {names : List Text} {gs : List Guest} {i : ℕ} {g : Guest} (at : GuestAt w h names gs i g) {slots : List (Option Held)} (same : slots ≡ g.slots.items) where
+module _ {w : WorldNow} {h : HostState} {names : List Text} {gs : List Guest} {i : ℕ} {g : Guest} (at : GuestAt w h names gs i g) {slots : List (Option Held)} (same : slots ≡ g.slots.items) where
   -- the slots as code holds them, for which the byte is refused
   pub refused_there : (n : ℕ) (place : headers.Place) (off : ℕ) {number : ℕ} → Refuses slots n place off number → byte_fault (lone_nth w i).slots (device_byte n place off) ≡ Some number
   refused_there n place off faults = faults w.handoff (guest_nth w i).paths (lone_nth w i).slots (slots_lent at same)
@@ -179,7 +179,7 @@ module _ {w : WorldOver} {h : HostState} {names : List Text} {gs : List Guest} {
 
       pub write_left : {new : HostState} → new ≡ with_functions (with_file (set_value v q) path h.state.functions) h → Leaves (after_device w (name_nth w i) (device_writes d v)) h new names gs
       write_left {new} is_new = leaves at.kept
-          (subst (λ (u : WorldOver). IsKept u new names gs) (device_named at (device_writes d v))
+          (subst (λ (u : WorldNow). IsKept u new names gs) (device_named at (device_writes d v))
           (in_place at _ new
           (kept_put at slot (device_after (device_writes d v)) (λ t. refl) (λ t. refl)
           (seated_after (board_at w.handoff.functions) w.guests at.kept.lawful.seated (name_nth w i) (device_writes d v))
@@ -189,5 +189,5 @@ module _ {w : WorldOver} {h : HostState} {names : List Text} {gs : List Guest} {
           g refl (sym (set_same g.slots.items n (Some reach.held) slot.holds))
           new (ap (λ (k : HostState). k.state) is_new ∙ ap (λ (p : Path). with_change_at (set_value v q) p h.state) (reach.path_is ∙ slot.held.path)
           ∙ ap (with_change_at (set_value v q) slot.p) at.kept.agrees ∙ alike
-          ∙ sym (write_reaches_over w.handoff w.guests at.kept.lawful.seated (name_nth w i) d v no_fault slot.p slot.f q (path_there at slot) (function_there at slot) reaches)))))
+          ∙ sym (write_reaches_board w.handoff w.guests at.kept.lawful.seated (name_nth w i) d v no_fault slot.p slot.f q (path_there at slot) (function_there at slot) reaches)))))
           refl

@@ -22,7 +22,7 @@ use Rattle.model_audit.specs.Orderly.{IsStateOfBoard}
 use Rattle.model_guests.specs.Slots.{reset_function}
 use Rattle.model_guests.specs.World.{declared}
 use Rattle.model_guests.proofs.CopiesNeverRise.{declared_lawful}
-use Rattle.model_guests.proofs.RegionReach.{declared_row}
+use Rattle.model_guests.proofs.DeclaredRows.{declared_row}
 use Rattle.model_handoff.proofs.Standing.{at_path, stands}
 use Rattle.bars.specs.Resets.{reset_from, at_reset, with_no_base}
 use Rattle.bars.specs.Slots.{bases_from}

@@ -12,7 +12,7 @@ use Rattle.model_guests.specs.Text.{Text}
 use Rattle.model_guests.specs.Slots.{Slots, slot_at}
 use Rattle.model_guests.specs.Guests.{GuestsNow, path_in}
 use Rattle.model_guests.proofs.GuestsByName.{path_at}
-use Rattle.model_handoff.specs.WorldOver.{WorldOver, board_state}
+use Rattle.model_guests.specs.WorldNow.{WorldNow, board_state}
 use Rattle.model_queries.specs.Functions.{Seat, is_there, seat_from, seat_of, FunctionNow, function_now, function_nth, function_at, slot_answer}
 use Rattle.host_bridge.specs.HostState.{HostState}
 use Rattle.monitor.specs.declared.guest.Held.{Held}
@@ -74,15 +74,15 @@ no_path s (q ∷ qs) (f ∷ fs) (o ∷ os) (suc n) are at = no_path s qs fs os n
 
 -- ---- an engine
 
-module _ {w : WorldOver} {h : HostState} {names : List Text} {gs : List Guest} (kept : IsKept w h names gs) where
+module _ {w : WorldNow} {h : HostState} {names : List Text} {gs : List Guest} (kept : IsKept w h names gs) where
   pub seats_told : (p : Path) → seat_kept p 0 gs ≡ seat_of w.guests p
-  seats_told p = seats_shown w.handoff h.state.functions p 0 names w.guests gs kept.guests ∙ ap (λ (v : WorldOver). seat_of v.guests p) (is_shown w h names gs kept)
+  seats_told p = seats_shown w.handoff h.state.functions p 0 names w.guests gs kept.guests ∙ ap (λ (v : WorldNow). seat_of v.guests p) (is_shown w h names gs kept)
 
   -- what is told over the host's registers is told over the board
   pub nth_told : (i : ℕ) {o : Option FunctionNow} → o ≡ function_nth h.state w.guests i → o ≡ function_nth (board_state w) w.guests i
   nth_told i told = told ∙ ap (λ (s : State). function_nth s w.guests i) kept.agrees
 
-module _ {w : WorldOver} {h : HostState} {names : List Text} {gs : List Guest} {i : ℕ} {g : Guest} (at : GuestAt w h names gs i g) {slots : List (Option Held)} (same : slots ≡ g.slots.items) (n : ℕ) where
+module _ {w : WorldNow} {h : HostState} {names : List Text} {gs : List Guest} {i : ℕ} {g : Guest} (at : GuestAt w h names gs i g) {slots : List (Option Held)} (same : slots ≡ g.slots.items) (n : ℕ) where
   abbrev slot_by : Bool → Option Path → Result FunctionNow ℕ
   slot_by past q = cond past (Err 303) (ok_or (option_and_then (function_at (board_state w) w.guests) q) 601)
 

@@ -24,12 +24,12 @@ use Rattle.model_guests.specs.World.{declared}
 use Rattle.model_guests.specs.Guests.{GuestsNow, file_of, function_in}
 use Rattle.model_guests.proofs.CopiesNeverRise.{declared_lawful}
 use Rattle.model_handoff.specs.ViewLaws.{is_at, sits}
-use Rattle.model_handoff.specs.WorldOver.{WorldOver, board_state}
+use Rattle.model_guests.specs.WorldNow.{WorldNow, board_state}
 use Rattle.model_handoff.proofs.Keeping.{keeps_board, keeps_routing, keeps_addresses}
 use Rattle.model_handoff.proofs.Regions.{state_stays}
 use Rattle.model_handoff.proofs.Standing.{at_path}
 use Rattle.model_giving.specs.Giving.{has_closed_region, give_fault, endpoint_fault}
-use Rattle.model_giving.proofs.OneReset.{command_at}
+use Rattle.model_handoff.proofs.Alike.{command_at}
 use Rattle.bars.specs.declared.region.Region.{Region}
 use Rattle.bars.specs.Resets.{with_no_base}
 use Rattle.bars.specs.Slots.{bases_from}
@@ -187,7 +187,7 @@ closed_told fs i f at command told placed bases =
 
 -- ---- a world that is kept
 
-module _ (w : WorldOver) (h : HostState) (names : List Text) (gs : List Guest) (kept : IsKept w h names gs) (p : Path) where
+module _ (w : WorldNow) (h : HostState) (names : List Text) (gs : List Guest) (kept : IsKept w h names gs) (p : Path) where
   board_is : board_at h.state.functions ≡ board_at w.handoff.functions
   board_is = ap (λ (s : State). board_at s.functions) kept.agrees ∙ keeps_board w.handoff w.guests
 

@@ -14,11 +14,11 @@ use Rattle.model_guests.specs.World.{declared}
 use Rattle.model_guests.specs.Guests.{GuestNow, GuestsNow, guest_named, with_guest, with_slot_filled}
 use Rattle.model_handoff.specs.Kept.{IsLawfulOver}
 use Rattle.model_handoff.specs.ViewLaws.{with_seated_reset}
-use Rattle.model_handoff.specs.WorldOver.{WorldOver, board_state}
+use Rattle.model_guests.specs.WorldNow.{WorldNow, board_state}
 use Rattle.model_handoff.proofs.Keeping.{keeps_board}
 use Rattle.model_handoff.proofs.Regions.{state_stays}
 use Rattle.model_giving.specs.Giving.{Gift, with_reset_at, give_fault, after_give}
-use Rattle.model_giving.proofs.OneReset.{IsAlike}
+use Rattle.model_handoff.proofs.Alike.{IsAlike}
 use Rattle.model_giving.proofs.Giving.{CanGive, can_give, given_is, is_alike, board_after_gift, lawful_after_gift, shown_after_gift}
 use Rattle.model_giving.proofs.Seats.{below}
 use Rattle.bridge_forward.specs.Lending.{with_endpoint_reset}
@@ -32,20 +32,21 @@ use Rattle.monitor.specs.Moves.{HasSlot, IsExchanged}
 use Rattle.monitor.specs.Seatings.{MakesGift, gift_nth}
 use Rattle.monitor.proofs.Carried.{guests_carried}
 use Rattle.monitor.proofs.Steps.{guests_set, with_named, GuestAt, named, slots_put}
-use Rattle.monitor.proofs.TakenOver.{one_reset, some_here}
+use Rattle.monitor.proofs.TakenOver.{one_reset}
+use Rattle.model_handoff.proofs.First.{one_given}
 use Rattle.monitor.proofs.TakingSteps.{reset_by}
 use Rattle.monitor.proofs.Calls.{Leaves, leaves}
 use Rattle.monitor.proofs.Exchanges.{has_nth, items_are, latch_stays}
 
 -- what is made in the world that is kept
-pub makes_gift : {w : WorldOver} {h : HostState} {names : List Text} {gs lent : List Guest} → IsKept w h names gs → {p : Path} {i n : ℕ} {r : Result Held Withheld} → lent ≡ gs
-    → ((v : WorldOver) (ts : List Text) → IsKept v h ts lent → MakesGift v p i n r) → MakesGift w p i n r
+pub makes_gift : {w : WorldNow} {h : HostState} {names : List Text} {gs lent : List Guest} → IsKept w h names gs → {p : Path} {i n : ℕ} {r : Result Held Withheld} → lent ≡ gs
+    → ((v : WorldNow) (ts : List Text) → IsKept v h ts lent → MakesGift v p i n r) → MakesGift w p i n r
 makes_gift {w} {h} {names} kept same makes = makes w names (subst (IsKept w h names) (sym same) kept)
 
-pub board_kept : {w : WorldOver} {h : HostState} {names : List Text} {gs : List Guest} → IsKept w h names gs → IsStateOfBoard h.state.functions
+pub board_kept : {w : WorldNow} {h : HostState} {names : List Text} {gs : List Guest} → IsKept w h names gs → IsStateOfBoard h.state.functions
 board_kept {w} kept = subst (λ (s : State). IsStateOfBoard s.functions) (sym kept.agrees) (state_stays w.handoff kept.lawful.handoff.board w.guests)
 
-module _ {w : WorldOver} {h : HostState} {names : List Text} {gs : List Guest} {i : ℕ} {g : Guest} (at : GuestAt w h names gs i g) {p : Path} {n : ℕ} {held : Held} (makes : MakesGift w p i n (Ok held)) where
+module _ {w : WorldNow} {h : HostState} {names : List Text} {gs : List Guest} {i : ℕ} {g : Guest} (at : GuestAt w h names gs i g) {p : Path} {n : ℕ} {held : Held} (makes : MakesGift w p i n (Ok held)) where
   abbrev the_gift : Gift
   the_gift = gift_nth w p i n
 
@@ -67,7 +68,7 @@ module _ {w : WorldOver} {h : HostState} {names : List Text} {gs : List Guest} {
   abbrev filled : GuestNow
   filled = with_slot_filled n (Some p) d (guest_nth w i)
 
-  abbrev world : WorldOver
+  abbrev world : WorldNow
   world = record { handoff = with_reset_at p w.handoff; guests = with_guest (with_slot_filled n (Some p) d) (name_nth w i) w.guests }
 
   is : after_give w the_gift ≡ world
@@ -81,7 +82,7 @@ module _ {w : WorldOver} {h : HostState} {names : List Text} {gs : List Guest} {
 
   pub give_left : {empty : Option Held} {back : List Guest} {new : HostState} → IsExchanged gs i n empty (Some held) back → new ≡ with_functions (with_endpoint_reset p h.state.functions) h
       → Leaves (after_give w the_gift) h new names back
-  give_left {empty} {back} {new} ex is_new = leaves at.kept kept_given (sym alike.routing_is ∙ ap (λ (x : WorldOver). routing x.handoff.functions) (sym is))
+  give_left {empty} {back} {new} ex is_new = leaves at.kept kept_given (sym alike.routing_is ∙ ap (λ (x : WorldNow). routing x.handoff.functions) (sym is))
     where
       put : AreGuests w.handoff names (slice_set w.guests i filled) (slice_set gs i ex.guest)
       put =
@@ -106,14 +107,14 @@ module _ {w : WorldOver} {h : HostState} {names : List Text} {gs : List Guest} {
       board_reset =
           ap (λ (x : HostState). x.state) is_new
           ∙ ap (λ (fs : List BoardFunction). let t : State = record h.state { functions = fs } in t)
-          (one_reset h.state.functions p ∙ some_here (board_at h.state.functions) p h.state.functions d declares_now)
+          (one_reset h.state.functions p ∙ one_given (board_at h.state.functions) p (Some d) declares_now h.state.functions)
           ∙ sym (reset_by h.state p d declares_now) ∙ ap (with_reset_at p) at.kept.agrees
 
       kept_given : IsKept (after_give w the_gift) new names back
-      kept_given = subst (λ (v : WorldOver). IsKept v new names back) (sym is) (record {
+      kept_given = subst (λ (v : WorldNow). IsKept v new names back) (sym is) (record {
         lawful = subst IsLawfulOver is (lawful_after_gift w at.kept.lawful the_gift);
         clear = ap (λ (s : State). s.latch) (reset_by w.handoff p d can.1.declares) ∙ at.kept.clear;
-        at_reset = ap (λ (v : WorldOver). with_seated_reset v.handoff v.guests) (sym is) ∙ shown_after_gift w at.kept.lawful the_gift there fault ∙ ap (with_reset_at p) at.kept.at_reset;
+        at_reset = ap (λ (v : WorldNow). with_seated_reset v.handoff v.guests) (sym is) ∙ shown_after_gift w at.kept.lawful the_gift there fault ∙ ap (with_reset_at p) at.kept.at_reset;
         agrees = board_reset ∙ sym (board_after_gift w at.kept.lawful the_gift there fault) ∙ ap board_state is;
         guests = guests;
       })

@@ -9,10 +9,10 @@ use Rattle.model_guests.specs.Text.{Text}
 use Rattle.model_guests.specs.Slots.{Slots, slot_at}
 use Rattle.model_guests.specs.Lone.{reset_guest}
 use Rattle.model_guests.specs.Guests.{GuestNow, GuestsNow, Move, after_move, function_in, guest_named, move_fault, path_in, with_slot_emptied, with_slot_filled, handed_over}
-use Rattle.model_handoff.specs.WorldOver.{WorldOver}
+use Rattle.model_guests.specs.WorldNow.{WorldNow}
 use Rattle.model_guests.proofs.MoveIndices.{moves}
 use Rattle.model_board.specs.AtReset.{board_at}
-use Rattle.model_handoff.proofs.Changes.{move_resets_over}
+use Rattle.model_guests.proofs.MovedFunctions.{move_resets_one_function}
 use Rattle.model_handoff.proofs.Served.{served_after_moves}
 use Rattle.model_handoff.proofs.Views.{reset_after_moves}
 use Rattle.model_guests.proofs.SeatedMoves.{seated_after_moves}
@@ -90,7 +90,7 @@ name_stays (g ∷ ws) zero (suc j) x y z d at same is = ap (λ (o : Option Guest
 name_stays (g ∷ ws) (suc i) zero x y z d at same is = let one : g ≡ z = cc in ap (λ (t : GuestNow). t.name) one
 name_stays (g ∷ ws) (suc i) (suc j) x y z d at same is = name_stays ws i j x y z d at same is
 
-module _ {w : WorldOver} {h : HostState} {names : List Text} {gs : List Guest} {i : ℕ} {g : Guest} (at : GuestAt w h names gs i g) where
+module _ {w : WorldNow} {h : HostState} {names : List Text} {gs : List Guest} {i : ℕ} {g : Guest} (at : GuestAt w h names gs i g) where
   pub taken_lent : {slots : List (Option Held)} → slots ≡ g.slots.items → (n : ℕ) → is_taken slots n ≡ is_some (function_in w.guests (name_nth w i) n)
   taken_lent {slots} same n = taken_is w.handoff (guest_nth w i).paths (lone_nth w i).slots slots n (slots_lent at same) ∙ ap is_some (sym (function_by_name at n))
 
@@ -105,7 +105,7 @@ module _ {w : WorldOver} {h : HostState} {names : List Text} {gs : List Guest} {
       })
 
 -- a move between two guests, or from one to itself
-module _ {w : WorldOver} {h : HostState} {names : List Text} {gs : List Guest} {i j : ℕ} {g k : Guest} (from : GuestAt w h names gs i g) (to : GuestAt w h names gs j k) (n m : ℕ)
+module _ {w : WorldNow} {h : HostState} {names : List Text} {gs : List Guest} {i j : ℕ} {g k : Guest} (from : GuestAt w h names gs i g) (to : GuestAt w h names gs j k) (n m : ℕ)
     {os ps : List (Option Held)} (os_are : os ≡ g.slots.items) (ps_are : ps ≡ k.slots.items) where
   abbrev the_move : Move
   the_move = move_nth w i n j m
@@ -120,9 +120,9 @@ module _ {w : WorldOver} {h : HostState} {names : List Text} {gs : List Guest} {
   pub move_refused : {number : ℕ} → Some number ≡ fault_between os n ps m → refused number ≡ move_reply w.guests the_move
   move_refused is = ap (λ (o : Option ℕ). option_map_or refused o done) (is ∙ fault_is)
 
-  pub nothing_moved : {number : ℕ} → Some number ≡ fault_between os n ps m → w ≡ (let v : WorldOver = record w { guests = after_move w.guests the_move } in v)
+  pub nothing_moved : {number : ℕ} → Some number ≡ fault_between os n ps m → w ≡ (let v : WorldNow = record w { guests = after_move w.guests the_move } in v)
   nothing_moved is =
-      ap (λ (o : Option ℕ). let v : WorldOver = record w { guests = cond (is_some o) w.guests (handed_over the_move (path_in w.guests (name_nth w i) n) (function_in w.guests (name_nth w i) n) w.guests) } in v)
+      ap (λ (o : Option ℕ). let v : WorldNow = record w { guests = cond (is_some o) w.guests (handed_over the_move (path_in w.guests (name_nth w i) n) (function_in w.guests (name_nth w i) n) w.guests) } in v)
       (is ∙ fault_is)
 
   module _ (passed : None ≡ fault_between os n ps m) where
@@ -197,6 +197,6 @@ module _ {w : WorldOver} {h : HostState} {names : List Text} {gs : List Guest} {
         clear = from.kept.clear;
         at_reset = reset_after_moves w.handoff w.guests from.kept.lawful.seated the_move there ∙ from.kept.at_reset;
         agrees = board_reset from slot (over.board ∙ ap (λ (x : Held). with_functions (with_endpoint_reset x.path h.state.functions) h) same)
-            ∙ sym (move_resets_over w.handoff w.guests from.kept.lawful.seated the_move there (sym (passed ∙ fault_is)) slot.p slot.f (path_there from slot) (function_there from slot));
+            ∙ sym (move_resets_one_function w.handoff w.guests from.kept.lawful.seated the_move there (sym (passed ∙ fault_is)) slot.p slot.f (path_there from slot) (function_there from slot));
         guests = guests;
       }) refl

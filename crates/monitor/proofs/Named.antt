@@ -4,7 +4,7 @@ use Rattle.std.specs.Option.{option_map_or}
 use Rattle.lists.proofs.Indices.{at_below, set_same}
 use Rattle.model_guests.specs.Lone.{reset_guest, LoneGuest}
 use Rattle.model_guests.specs.Guests.{GuestNow, GuestsNow, lone_of, with_guest}
-use Rattle.model_handoff.specs.WorldOver.{WorldOver}
+use Rattle.model_guests.specs.WorldNow.{WorldNow}
 use Rattle.model_guests.proofs.Along.{by_index}
 use Rattle.model_guests.specs.Text.{Text}
 use Rattle.host_bridge.specs.HostState.{HostState}
@@ -13,14 +13,14 @@ use Rattle.monitor.specs.declared.guest.Guest.{Guest}
 use Rattle.monitor.specs.Keeping.{IsKept}
 use Rattle.monitor.proofs.Steps.{nth_there}
 
-nth_stands : (w : WorldOver) (i : ℕ) → i < length w.guests → slice_get w.guests i ≡ Some (guest_nth w i)
+nth_stands : (w : WorldNow) (i : ℕ) → i < length w.guests → slice_get w.guests i ≡ Some (guest_nth w i)
 nth_stands w i inside = let one = at_below w.guests i inside in one.1 ∙ ap Some (nth_there w i one.0 one.1)
 
 -- a guest that is set to what it is
-pub same_nth : (w : WorldOver) (i : ℕ) → i < length w.guests → w ≡ with_lone_nth i (lone_nth w i) w
+pub same_nth : (w : WorldNow) (i : ℕ) → i < length w.guests → w ≡ with_lone_nth i (lone_nth w i) w
 same_nth w i inside = ap (λ (xs : GuestsNow). record w { guests = xs }) (sym (set_same w.guests i (guest_nth w i) (nth_stands w i inside)))
 
-module _ {w : WorldOver} {h : HostState} {names : List Text} {gs : List Guest} (kept : IsKept w h names gs) (i : ℕ) (inside : i < length w.guests) where
+module _ {w : WorldNow} {h : HostState} {names : List Text} {gs : List Guest} (kept : IsKept w h names gs) (i : ℕ) (inside : i < length w.guests) where
   pub lone_by_name : lone_nth w i ≡ lone_of w.guests (name_nth w i)
   lone_by_name = ap (λ (o : Option GuestNow). option_map_or (λ (g : GuestNow). g.lone) o (reset_guest [])) (sym (by_index w.guests kept.lawful.seated.names_apart i (guest_nth w i) (nth_stands w i inside)).0)
 

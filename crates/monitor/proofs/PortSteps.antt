@@ -8,7 +8,7 @@ use Rattle.model_guests.specs.Lone.{own_latch, no_function, reply_at, after_acce
 use Rattle.guest_functions.specs.Latches as program
 use Rattle.model_guests.specs.Lone as lone
 use Rattle.model_guests.specs.Text.{Text}
-use Rattle.model_handoff.specs.WorldOver.{WorldOver}
+use Rattle.model_guests.specs.WorldNow.{WorldNow}
 use Rattle.guest_functions.specs.declared.latch.Select.{Select}
 use Rattle.guest_functions.specs.declared.latch.Select.TheVariants as select
 use Rattle.host_bridge.specs.HostState.{HostState}
@@ -53,7 +53,7 @@ pub latch_lent : {gs ms left : List Guest} (i v : ℕ) {g : Guest} → ms ≡ gs
 latch_lent {gs} {ms} {left} i v {g} same there written =
     subst (λ (ls : List Guest). (k : Guest) → slice_get ls i ≡ Some k → left ≡ slice_set ls i (record k { latch = latched v })) same written g there
 
-pub latch_written : {w : WorldOver} {h : HostState} {names : List Text} {gs : List Guest} {i : ℕ} {g : Guest} → GuestAt w h names gs i g → (v : ℕ) {left : List Guest} → left ≡ slice_set gs i (record g { latch = latched v })
+pub latch_written : {w : WorldNow} {h : HostState} {names : List Text} {gs : List Guest} {i : ℕ} {g : Guest} → GuestAt w h names gs i g → (v : ℕ) {left : List Guest} → left ≡ slice_set gs i (record g { latch = latched v })
     → Leaves (with_lone_nth i (after_access_at (lone_nth w i) (writes v) 4 own_latch) w) h h names left
 latch_written {w} {h} {names} {gs} {i} {g} at v is = leaves at.kept
     (subst (IsKept (with_lone_nth i (after_access_at (lone_nth w i) (writes v) 4 own_latch) w) h names) (sym is)

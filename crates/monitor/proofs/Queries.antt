@@ -16,7 +16,7 @@ use Rattle.model_board.specs.State.{State}
 use Rattle.model_board.specs.Ports.{file_at}
 use Rattle.model_guests.specs.Slots.{slot_at}
 use Rattle.model_guests.specs.Text.{Text}
-use Rattle.model_handoff.specs.WorldOver.{WorldOver}
+use Rattle.model_guests.specs.WorldNow.{WorldNow}
 use Rattle.model_queries.specs.Regions.{RegionNow, is_prefetchable, region_now, region_at, region_of, region_answer}
 use Rattle.bars.specs.declared.region.Region as program
 use Rattle.bars.specs.Slots as bars
@@ -181,7 +181,7 @@ region_told f n x is k kind v space first size pref opened =
 
 -- ---- a guest by its index
 
-pub guest_nth_is : {w : WorldOver} {h : HostState} {names : List Text} {gs : List Guest} {i : ℕ} {g : Guest} → GuestAt w h names gs i g → IsGuestNth w i g
+pub guest_nth_is : {w : WorldNow} {h : HostState} {names : List Text} {gs : List Guest} {i : ℕ} {g : Guest} → GuestAt w h names gs i g → IsGuestNth w i g
 guest_nth_is at = record {
   named = lone_named at;
   latch = at.is.latch;
@@ -191,7 +191,7 @@ guest_nth_is at = record {
 
 -- ---- answers
 
-module _ {w : WorldOver} {i : ℕ} {g : Guest} (is : IsGuestNth w i g) {slots : List (Option Held)} (same : slots ≡ g.slots.items) (n m : ℕ) where
+module _ {w : WorldNow} {i : ℕ} {g : Guest} (is : IsGuestNth w i g) {slots : List (Option Held)} (same : slots ≡ g.slots.items) (n m : ℕ) where
   lent : AreSlots w.handoff (guest_nth w i).paths (lone_nth w i).slots slots
   lent = subst (AreSlots w.handoff (guest_nth w i).paths (lone_nth w i).slots) (sym same) is.slots
 

@@ -13,7 +13,7 @@ use Rattle.model_guests.specs.Accesses.{Raise, raises, done, refused}
 use Rattle.model_guests.specs.Slots.{slot_at, raise_place, raise_landing, raise_fault, affected}
 use Rattle.model_guests.specs.Slots as guests
 use Rattle.model_guests.specs.Lone.{LoneGuest, answer, after_event}
-use Rattle.model_handoff.specs.WorldOver.{WorldOver}
+use Rattle.model_guests.specs.WorldNow.{WorldNow}
 use Rattle.model_guests.specs.AgreedBoard.{with_change_at}
 use Rattle.model_guests.specs.ChangeLaws.{with_slot_changed}
 use Rattle.model_guests.proofs.AgreedFiles.{raises_alike}
@@ -56,7 +56,7 @@ named_place f place off h = of place h
 
 -- ---- a function in a slot of a world that is kept
 
-module _ {w : WorldOver} {h : HostState} {names : List Text} {gs : List Guest} {i : ℕ} {g : Guest} (at : GuestAt w h names gs i g) where
+module _ {w : WorldNow} {h : HostState} {names : List Text} {gs : List Guest} {i : ℕ} {g : Guest} (at : GuestAt w h names gs i g) where
   -- a raise that is refused
   module _ (r : Raise) {number : ℕ} (fault : raise_fault (lone_nth w i).slots r ≡ Some number) where
     pub raise_refused : refused number ≡ answer (lone_nth w i) (raises r)
@@ -106,7 +106,7 @@ module _ {w : WorldOver} {h : HostState} {names : List Text} {gs : List Guest} {
       pub raise_written : {new : HostState} → new ≡ with_functions (with_file (raised_beside_copies mask (place_of place off)) held.path h.state.functions) h
           → Leaves (with_lone_nth i (after_event (lone_nth w i) (raises r)) w) h new names gs
       raise_written {new} is_new = leaves at.kept
-          (subst (λ (v : WorldOver). IsKept v new names gs) (sym world)
+          (subst (λ (v : WorldNow). IsKept v new names gs) (sym world)
           (in_place at _ new
           (kept_slot at slot own_change (raised_beside_copies mask (place_of place off)) (raises_alike mask (place_of place off))
           (changed_shape (raised mask) (λ c. refl) (place_of place off))

@@ -16,13 +16,13 @@ use Rattle.model_board.specs.AtReset.{board_at}
 use Rattle.model_board.specs.Ports.{claim_reply, file_at}
 use Rattle.model_registers.specs.CopiedFiles.{agreed_file, places_of}
 use Rattle.model_guests.specs.Slots.{slot_at}
-use Rattle.model_handoff.specs.WorldOver.{WorldOver, board_state}
+use Rattle.model_guests.specs.WorldNow.{WorldNow, board_state}
 use Rattle.model_guests.specs.Seated.{IsSeat, IsSeatedAt, IsSeatedGuest}
 use Rattle.model_guests.proofs.GuestsByName.{path_at}
 use Rattle.lists.proofs.Indices.{each_at}
 use Rattle.model_registers.specs.DeclarationRules.{IsLawfulEndpoint}
 use Rattle.model_guests.proofs.Seats.{seats_at}
-use Rattle.model_guests.proofs.KeptNumbers.{shows_file}
+use Rattle.model_guests.proofs.AgreedFiles.{shows_file}
 use Rattle.model_guests.specs.Text.{Text}
 use Rattle.model_handoff.specs.Regions.{base_in}
 use Rattle.model_handoff.specs.RegionLaws.{HasSlot, ReachesOver}
@@ -79,7 +79,7 @@ same_lanes a c w (inr (inr e)) h k =
 
 -- ---- a guest's slot of a world that is kept
 
-module _ {w : WorldOver} {h : HostState} {names : List Text} {gs : List Guest} {i : ℕ} {g : Guest} (at : GuestAt w h names gs i g) where
+module _ {w : WorldNow} {h : HostState} {names : List Text} {gs : List Guest} {i : ℕ} {g : Guest} (at : GuestAt w h names gs i g) where
   abbrev pub functions : List BoardFunction
   functions = (board_state w).functions
 

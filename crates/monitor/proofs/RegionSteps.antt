@@ -15,7 +15,7 @@ use Rattle.model_registers.specs.CopiedFiles.{shape_of}
 use Rattle.model_board.specs.Paths.{Path}
 use Rattle.model_guests.specs.Slots.{Slots, Landing, landing, landing_from, perform, effect}
 use Rattle.model_guests.specs.Lone.{at_target, reply_at, after_access_at, Destination}
-use Rattle.model_handoff.specs.WorldOver.{WorldOver}
+use Rattle.model_guests.specs.WorldNow.{WorldNow}
 use Rattle.model_guests.specs.ChangeLaws.{ChangesAlike, with_slot_changed}
 use Rattle.model_guests.proofs.AgreedFiles.{writes_alike}
 use Rattle.model_guests.specs.Text.{Text}
@@ -66,7 +66,7 @@ Lands slots space addr o = (s : State) (qs : List (Option Path)) (fs : Slots) �
 
 -- ---- an access at a target, by what stands there
 
-module _ {w : WorldOver} {h : HostState} {names : List Text} {gs : List Guest} {i : ℕ} {g : Guest} (at : GuestAt w h names gs i g) (space : Space) (addr : ℕ) {slots : List (Option Held)} (same : slots ≡ g.slots.items) where
+module _ {w : WorldNow} {h : HostState} {names : List Text} {gs : List Guest} {i : ℕ} {g : Guest} (at : GuestAt w h names gs i g) (space : Space) (addr : ℕ) {slots : List (Option Held)} (same : slots ≡ g.slots.items) where
   abbrev target : Destination
   target = at_target (target_in space addr)
 
@@ -138,7 +138,7 @@ module _ {w : WorldOver} {h : HostState} {names : List Text} {gs : List Guest} {
 
         pub region_written : Leaves (with_lone_nth i (after_access_at (lone_nth w i) (writes v) width target) w) h new names gs
         region_written = leaves at.kept
-            (subst (λ (u : WorldOver). IsKept u new names gs) (sym world)
+            (subst (λ (u : WorldNow). IsKept u new names gs) (sym world)
             (in_place at _ new
             (kept_slot at of_slot own_change own_change alike (written_shape (all_bytes width) v place)
             lands.held.own (block_written_held lands.held.own of_slot.f.file of_slot.held.own (all_bytes width) v l.1 l.2) refl

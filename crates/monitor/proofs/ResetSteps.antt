@@ -13,7 +13,7 @@ use Rattle.model_registers.proofs.Owned.{reset_holds_own}
 use Rattle.model_guests.specs.Accesses.{done, refused}
 use Rattle.model_guests.specs.Lone.{LoneGuest}
 use Rattle.model_guests.specs.Guests.{GuestsNow, lone_of}
-use Rattle.model_handoff.specs.WorldOver.{WorldOver, board_state}
+use Rattle.model_guests.specs.WorldNow.{WorldNow, board_state}
 use Rattle.model_guests.specs.AgreedBoard.{with_change_at}
 use Rattle.model_board.specs.AtReset.{board_at}
 use Rattle.model_board.specs.State.{BoardFunction, State, with_file}
@@ -22,7 +22,7 @@ use Rattle.model_guests.specs.Text.{Text}
 use Rattle.model_devices.specs.DeviceEvents.{resets, slot_fault, device_answer, after_device_event, device_after, DeviceEvent, device_changed, device_fault, device_performed}
 use Rattle.model_devices.proofs.Resets.{taken_passes, reset_there, answer_there}
 use Rattle.model_devices.proofs.Seats.{seated_after}
-use Rattle.model_handoff.proofs.DevicesOver.{reset_reaches_over}
+use Rattle.model_devices.proofs.Resets.{reset_reaches_board}
 use Rattle.model_handoff.specs.DevicesOver.{after_device}
 use Rattle.bars.proofs.Regions.{no_base_opened}
 use Rattle.guest_functions.proofs.ResetCopies.{closed_as_opened}
@@ -55,7 +55,7 @@ held_reset s p f h is_lawful held = record {
 
 -- ---- what happens at a device of a world that is kept
 
-module _ {w : WorldOver} {h : HostState} {names : List Text} {gs : List Guest} {i : ℕ} {g : Guest} (at : GuestAt w h names gs i g) where
+module _ {w : WorldNow} {h : HostState} {names : List Text} {gs : List Guest} {i : ℕ} {g : Guest} (at : GuestAt w h names gs i g) where
   pub device_named : (e : DeviceEvent) → with_lone_nth i (after_device_event (lone_nth w i) e) w ≡ after_device w (name_nth w i) e
   device_named e = ap (λ (xs : GuestsNow). record w { guests = xs }) (sym (with_named at (device_after e)))
 
@@ -97,12 +97,12 @@ module _ {w : WorldOver} {h : HostState} {names : List Text} {gs : List Guest} {
           let is : IsExchanged gs i n (Some over.held) (Some (reset_held over.held)) back = exchanged_twice over.leaves over.comes in
           let board : new ≡ with_functions (with_endpoint_reset held.path h.state.functions) h = over.board ∙ ap (λ (x : Held). with_functions (with_endpoint_reset x.path h.state.functions) h) same in
           leaves at.kept
-          (subst (λ (v : WorldOver). IsKept v new names back) (device_named (resets n))
+          (subst (λ (v : WorldNow). IsKept v new names back) (device_named (resets n))
           (subst (IsKept (with_lone_nth i (after_device_event (lone_nth w i) (resets n)) w) new names) (sym is.after)
           (kept_put at slot (device_after (resets n)) (λ t. refl) (λ t. refl)
           (seated_after (board_at w.handoff.functions) w.guests at.kept.lawful.seated (name_nth w i) (resets n))
           (at_reset slot.f) (reset_held held) (held_reset w.handoff slot.p slot.f held (lawful at slot) slot.held)
           (reset_there (lone_nth w i) n slot.f (low_slot low) slot.function)
           is.guest (latch_stays at is) (items_are at is ∙ ap (λ (x : Held). slice_set g.slots.items n (Some (reset_held x))) same)
-          new (board_reset board ∙ sym (reset_reaches_over w.handoff w.guests at.kept.lawful.seated (name_nth w i) n passes slot.p slot.f (path_there at slot) (function_there at slot))))))
+          new (board_reset board ∙ sym (reset_reaches_board w.handoff w.guests at.kept.lawful.seated (name_nth w i) n passes slot.p slot.f (path_there at slot) (function_there at slot))))))
           refl

@@ -24,8 +24,8 @@ use Rattle.model_guests.specs.HostReads.{host_fault, shown}
 use Rattle.model_guests.specs.Text.{Text}
 use Rattle.model_guests.specs.Slots.{Slots, slot_at}
 use Rattle.model_guests.specs.Guests.{GuestNow, GuestsNow, guest_named, file_of}
-use Rattle.model_guests.specs.WorldNow.{names_of}
-use Rattle.model_guests.specs.AgreedBoard.{agreed_function}
+use Rattle.model_guests.specs.WorldNow.{names_of, WorldNow, board_state, host_reply}
+use Rattle.model_guests.specs.AgreedBoard.{agreed_function, state_over}
 use Rattle.model_guests.specs.Seated.{IsSeatedAt, AreSeats, AreSeated, IsSeatedGuest}
 use Rattle.model_guests.proofs.DistinctPlaces.{Apart, distinct_places}
 use Rattle.model_guests.proofs.FoundFiles.{same_places}
@@ -33,11 +33,10 @@ use Rattle.model_guests.proofs.CopiesNeverRise.{declared_lawful}
 use Rattle.model_guests.proofs.ViewedFiles.{view_is_file}
 use Rattle.model_guests.proofs.GuestsByName.{path_at, path_of, function_of, function_named}
 use Rattle.model_guests.proofs.KeptCopies.{file_of_seat}
-use Rattle.model_guests.proofs.RegionReach.{declared_row}
+use Rattle.model_guests.proofs.DeclaredRows.{declared_row}
 use Rattle.model_guests.proofs.Along.{by_index}
-use Rattle.model_handoff.specs.Handoffs.{IsHandoff, HasDeclaredPlaces, state_over}
+use Rattle.model_handoff.specs.Handoffs.{IsHandoff, HasDeclaredPlaces}
 use Rattle.model_handoff.specs.ViewLaws.{with_seated_reset}
-use Rattle.model_handoff.specs.WorldOver.{WorldOver, board_state, host_reply}
 use Rattle.model_handoff.proofs.Standing.{endpoint_at, found, StandsAt, stands}
 use Rattle.model_handoff.proofs.Views.{reset_shown}
 use Rattle.bridge_forward.specs.Lending.{as_endpoint}
@@ -153,7 +152,7 @@ shown_as_handed : (s : State) (gs : GuestsNow) → handoff_shown (state_over s g
 unfolding handoff_shown
 shown_as_handed s gs = refl
 
-module _ (w : WorldOver) (h : HostState) (names : List Text) (gs : List Guest) (kept : IsKept w h names gs) where
+module _ (w : WorldNow) (h : HostState) (names : List Text) (gs : List Guest) (kept : IsKept w h names gs) where
   pub is_shown : world_shown h names gs ≡ w
   is_shown =
       let seated : AreSeated (board_at w.handoff.functions) w.guests = kept.lawful.seated in
@@ -165,7 +164,7 @@ module _ (w : WorldOver) (h : HostState) (names : List Text) (gs : List Guest) (
       λ i. record { handoff = handoff i; guests = guests i }
 
   pub is_sound : IsSound h names gs
-  is_sound = subst (λ (v : WorldOver). IsKept v h names gs) (sym is_shown) kept
+  is_sound = subst (λ (v : WorldNow). IsKept v h names gs) (sym is_shown) kept
 
 -- ---- what is asked of it
 
@@ -177,7 +176,7 @@ names_kept s (t ∷ ts) [] gs are = absurd are
 names_kept s (t ∷ ts) (w ∷ ws) [] are = absurd are
 names_kept s (t ∷ ts) (w ∷ ws) (g ∷ gs) are = ap₂ (λ (x : Text) (xs : List Text). x ∷ xs) are.0.name_is (names_kept s ts ws gs are.1)
 
-pub host_replied : (s : State) (w : WorldOver) (r : HostRead) (o : Option ℕ) (value : ℕ) → s ≡ board_state w → o ≡ host_fault r → o ≡ None → value ≡ shown s r.width r.target
+pub host_replied : (s : State) (w : WorldNow) (r : HostRead) (o : Option ℕ) (value : ℕ) → s ≡ board_state w → o ≡ host_fault r → o ≡ None → value ≡ shown s r.width r.target
     → answered value r.width ≡ host_reply w r
 host_replied s w r o value same fault passed is =
     ap (λ n. answered n r.width) (is ∙ ap (λ (t : State). shown t r.width r.target) same)

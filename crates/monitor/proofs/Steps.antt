@@ -15,7 +15,7 @@ use Rattle.model_guests.specs.Text.{Text}
 use Rattle.model_registers.specs.CopiedFiles.{shape_of}
 use Rattle.model_guests.specs.Slots.{Slots, slot_at}
 use Rattle.model_guests.specs.Guests.{GuestNow, GuestsNow, guest_named, path_in, with_guest, function_in, lone_of}
-use Rattle.model_handoff.specs.WorldOver.{WorldOver}
+use Rattle.model_guests.specs.WorldNow.{WorldNow}
 use Rattle.model_guests.specs.AgreedBoard.{with_change_at}
 use Rattle.model_guests.specs.Seated.{IsSeatedGuest, AreSeated}
 use Rattle.model_guests.specs.ChangeLaws.{ChangesAlike, with_slot_changed, with_latch}
@@ -25,8 +25,8 @@ use Rattle.model_guests.proofs.Seats.{names_stay, guests_stay, paths_stay, with_
 use Rattle.model_guests.proofs.Along.{by_index}
 use Rattle.model_guests.specs.Lone.{LoneGuest, reset_guest}
 use Rattle.model_devices.specs.DeviceEvents.{slot_fault}
-use Rattle.model_handoff.specs.Handoffs.{state_over}
-use Rattle.model_handoff.proofs.Changes.{changes_over, latch_over}
+use Rattle.model_guests.specs.AgreedBoard.{state_over}
+use Rattle.model_guests.proofs.Changes.{changes_one_function, latch_keeps_board}
 use Rattle.model_handoff.proofs.Served.{served_with}
 use Rattle.model_handoff.proofs.Views.{reset_with}
 use Rattle.host_bridge.specs.HostState.{HostState}
@@ -142,17 +142,17 @@ module _ (s : State) where
   guests_set (t ∷ ts) (w ∷ ws) (g ∷ gs) (suc i) x y k are at is = (are.0, guests_set ts ws gs i x y k are.1 at is)
 
 -- a guest of a world that is kept, by its index
-pub record GuestAt (w : WorldOver) (h : HostState) (names : List Text) (gs : List Guest) (i : ℕ) (g : Guest) : Type 0 where
+pub record GuestAt (w : WorldNow) (h : HostState) (names : List Text) (gs : List Guest) (i : ℕ) (g : Guest) : Type 0 where
   pub kept : IsKept w h names gs
   pub stands : slice_get gs i ≡ Some g
   pub there : slice_get w.guests i ≡ Some (guest_nth w i)
   pub name : Text
   pub is : IsGuest w.handoff name (guest_nth w i) g
 
-pub nth_there : (w : WorldOver) (i : ℕ) (x : GuestNow) → slice_get w.guests i ≡ Some x → x ≡ guest_nth w i
+pub nth_there : (w : WorldNow) (i : ℕ) (x : GuestNow) → slice_get w.guests i ≡ Some x → x ≡ guest_nth w i
 nth_there w i x at = sym (ap (λ (o : Option GuestNow). unwrap_or o (record { name = []; paths = []; lone = reset_guest [] })) at)
 
-pub kept_nth : {w : WorldOver} {h : HostState} {names : List Text} {gs : List Guest} {i : ℕ} {g : Guest} → IsKept w h names gs → slice_get gs i ≡ Some g → GuestAt w h names gs i g
+pub kept_nth : {w : WorldNow} {h : HostState} {names : List Text} {gs : List Guest} {i : ℕ} {g : Guest} → IsKept w h names gs → slice_get gs i ≡ Some g → GuestAt w h names gs i g
 kept_nth {w} {h} {names} {gs} {i} {g} kept stands =
     let one = guest_there w.handoff names w.guests gs i g kept.guests stands in
     let same : one.x ≡ guest_nth w i = nth_there w i one.x one.there in
@@ -170,10 +170,10 @@ seated_with b gs change name keeps paths seats seated = record {
 }
 
 -- the world with this guest there
-abbrev pub with_guest_at : ℕ → GuestNow → WorldOver → WorldOver
+abbrev pub with_guest_at : ℕ → GuestNow → WorldNow → WorldNow
 with_guest_at i x w = record w { guests = slice_set w.guests i x }
 
-module _ {w : WorldOver} {h : HostState} {names : List Text} {gs : List Guest} {i : ℕ} {g : Guest} (at : GuestAt w h names gs i g) where
+module _ {w : WorldNow} {h : HostState} {names : List Text} {gs : List Guest} {i : ℕ} {g : Guest} (at : GuestAt w h names gs i g) where
   -- a function in one of its slots
   pub record SlotAt (n : ℕ) (held : Held) : Type 0 where
     pub holds : slice_get g.slots.items n ≡ Some (Some held)
@@ -215,7 +215,7 @@ module _ {w : WorldOver} {h : HostState} {names : List Text} {gs : List Guest} {
   pub with_same : with_lone_nth i (lone_nth w i) w ≡ w
   with_same = ap (λ (xs : GuestsNow). record w { guests = xs }) (set_same w.guests i (guest_nth w i) at.there)
 
-  pub in_place : (v : WorldOver) (after : HostState) → IsKept v after names (slice_set gs i g) → IsKept v after names gs
+  pub in_place : (v : WorldNow) (after : HostState) → IsKept v after names (slice_set gs i g) → IsKept v after names gs
   in_place v after = subst (IsKept v after names) (set_same gs i g at.stands)
 
   -- what a change of the guest leaves, where it keeps its name and its paths and all stay seated
@@ -287,11 +287,11 @@ module _ {w : WorldOver} {h : HostState} {names : List Text} {gs : List Guest} {
         (record slot.f { file = own_change slot.f.file }) (record held { own = own }) held_now
         (ap (λ (fs : Slots). record (lone_nth w i) { slots = fs }) (with_file_there own_change n (lone_nth w i).slots slot.f slot.function))
         k latch items after (state ∙ ap (with_change_at board_change slot.p) at.kept.agrees
-        ∙ sym (changes_over w.handoff w.guests at.kept.lawful.seated (name_nth w i) n slot.p path_there own_change board_change alike))
+        ∙ sym (changes_one_function w.handoff w.guests at.kept.lawful.seated (name_nth w i) n slot.p path_there own_change board_change alike))
 
   pub kept_latch : (latch : ℕ) (k : Guest) → k.latch ≡ latch → k.slots.items ≡ g.slots.items → IsKept (with_guest_at i (with_latch latch (guest_nth w i)) w) h names (slice_set gs i k)
   kept_latch latch k is slots =
       kept_changed (with_latch latch) (λ t. refl) (λ t. refl)
       (seated_with (board_at w.handoff.functions) w.guests (with_latch latch) (name_nth w i) (λ t. refl) (λ t. refl) (λ t s. record { count = s.count; seats = s.seats }) at.kept.lawful.seated)
-      h (at.kept.agrees ∙ sym (latch_over w.handoff w.guests (name_nth w i) latch))
+      h (at.kept.agrees ∙ sym (latch_keeps_board w.handoff w.guests (name_nth w i) latch))
       k (λ t e. record { name_is = e; latch = sym is; slots = subst (AreSlots w.handoff (guest_nth w i).paths (lone_nth w i).slots) (sym slots) at.is.slots })

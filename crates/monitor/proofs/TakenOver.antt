@@ -4,51 +4,34 @@ use Rattle.std.specs.Prelude.{map, flat_map, find, option_map, slice_get}
 use Rattle.std.specs.List.{list_any}
 use Rattle.std.specs.Option.{option_map_or}
 use Rattle.std.proofs.lemmas.List.{append-nil}
-use Rattle.lists.proofs.Tests.{same_test}
-use Rattle.model_registers.specs.Registers.{Entry, File, cell_at}
-use Rattle.model_registers.specs.Declarations.{Endpoint}
-use Rattle.model_registers.specs.OwnCopies.{is_own}
+use Rattle.model_registers.specs.Registers.{File}
 use Rattle.model_registers.specs.Decoding.{Function}
-use Rattle.model_registers.specs.CopiedFiles.{agreed_file, after_reset}
+use Rattle.model_registers.specs.CopiedFiles.{after_reset}
 use Rattle.model_board.specs.Paths.{Path, path_eq}
 use Rattle.model_board.specs.Board.{Decl, endpoint, bridge, Row, Board}
 use Rattle.model_board.specs.AtReset.{board_at}
 use Rattle.model_board.specs.State.{BoardFunction, row_at, with_file}
-use Rattle.model_board.proofs.PathOrder.{path_same}
-use Rattle.model_board.proofs.PathEnds.{path_self}
 use Rattle.model_guests.specs.World.{Guest, declared, endpoint_of}
 use Rattle.model_guests.specs.AgreedBoard.{agreed_function}
 use Rattle.model_guests.proofs.AgreedChanges.{agreed_by}
-use Rattle.model_handoff.specs.Handoffs.{file_at_reset}
-use Rattle.model_handoff.proofs.First.{any_append}
-use Rattle.model_handoff.proofs.Functions.{path_stays, row_stays}
+use Rattle.model_guests.proofs.Changes.{agreed_twice}
+use Rattle.model_handoff.specs.Handoffs.{file_at_reset, files_given}
+use Rattle.model_handoff.proofs.First.{any_append, one_given}
+use Rattle.model_handoff.proofs.Functions.{path_stays}
+use Rattle.model_handoff.proofs.Keeping.{rows_stay}
 use Rattle.bridge_forward.specs.Lending.{as_endpoint, endpoint_at, with_endpoint_reset}
 use Rattle.host_bridge.specs.HostState.{HostState, with_functions}
 use Rattle.window_packing.specs.Readies.{board_below}
 use Rattle.window_packing.proofs.BarLists.{take_at}
-use Rattle.monitor.specs.Beginnings.{files_given}
 
--- ---- a file put in twice
-
-abbrev put_in : File → Entry → Entry
-put_in file e = cond (is_own e.place) e (record e { cell = cell_at file e.place })
-
-entry_twice : (own : File) (e : Entry) (t : Bool) → is_own e.place ≡ t → put_in own (put_in own e) ≡ put_in own e
-entry_twice own e true h = rw (h, h)
-entry_twice own e false h = rw (h, h)
-
-put_twice : (left own : File) → agreed_file (agreed_file left own) own ≡ agreed_file left own
-put_twice [] own = refl
-put_twice (e ∷ es) own = ap₂ (λ (x : Entry) (xs : File). x ∷ xs) (entry_twice own e (is_own e.place) refl) (put_twice es own)
+-- ---- some paths, and then others
 
 either : (o : Option File) (u v : Bool) (f : BoardFunction) → agreed_by (cond v o None) (agreed_by (cond u o None) f) ≡ agreed_by (cond (u || v) o None) f
 either o true false f = refl
 either o false false f = refl
 either o false true f = refl
 either None true true f = refl
-either (Some own) true true f = ap (λ (file : File). record f { file = file }) (put_twice f.file own)
-
--- ---- some paths, and then others
+either (Some own) true true f = ap (λ (file : File). record f { file = file }) (sym (agreed_twice f.file own own))
 
 abbrev among : List Path → Path → Bool
 among ps p = list_any (λ q. path_eq q p) ps
@@ -66,10 +49,6 @@ pub no_files : (b : Board) (fs : List BoardFunction) → map (agreed_function (f
 no_files b [] = refl
 no_files b (f ∷ fs) = ap (λ (xs : List BoardFunction). f ∷ xs) (no_files b fs)
 
-pub rows_stay : (files : Path → Option File) (fs : List BoardFunction) → board_at (map (agreed_function files) fs) ≡ board_at fs
-rows_stay files [] = refl
-rows_stay files (f ∷ fs) = ap₂ (λ (x : Row) (xs : Board). x ∷ xs) (row_stays (files f.path) f) (rows_stay files fs)
-
 -- ---- one path
 
 of_decl : (p : Path) (d : Decl) (file : File) → endpoint_of (record { path = p; decl = d }) ≡ option_map (λ (e : Function). e.decl) (as_endpoint (record { path = p; decl = d; file = file }))
@@ -86,53 +65,13 @@ declared_there (f ∷ fs) p = by (path_eq f.path p) (declared_there fs p)
     by true more = of_decl f.path f.decl f.file
     by false more = more
 
-turned : (p q : Path) → path_eq p q ≡ path_eq q p
-turned p q =
-    same_test (path_eq p q) (path_eq q p)
-    (λ h. ap (λ (x : Path). path_eq q x) (path_same p q h) ∙ path_self q)
-    (λ h. ap (λ (x : Path). path_eq p x) (path_same q p h) ∙ path_self p)
-
-module _ (b : Board) (p : Path) where
-  -- a function at the path gets the file at reset of what is declared there
-  abbrev file_here : Option Endpoint → Bool → Option File
-  file_here o t = cond (t || false) (option_map file_at_reset o) None
-
-  given_here : (f : BoardFunction) → files_given b (p ∷ []) f.path ≡ file_here (declared b p) (path_eq f.path p)
-  given_here f = by (path_eq p f.path) refl
-    where
-      by : (t : Bool) → path_eq p f.path ≡ t → file_here (declared b f.path) (path_eq p f.path) ≡ file_here (declared b p) (path_eq f.path p)
-      by true e = let back : path_eq f.path p ≡ true = turned f.path p ∙ e in let same : p ≡ f.path = path_same p f.path e in
-          ap (λ t. file_here (declared b f.path) t) (e ∙ sym back) ∙ ap (λ (q : Path). file_here (declared b q) (path_eq f.path p)) (sym same)
-      by false e = let back : path_eq f.path p ≡ false = turned f.path p ∙ e in
-          ap (file_here (declared b f.path)) e ∙ ap (file_here (declared b p)) (sym back)
-
-  none_here : (fs : List BoardFunction) → declared b p ≡ None → map (agreed_function (files_given b (p ∷ []))) fs ≡ fs
-  none_here [] e = refl
-  none_here (f ∷ fs) e =
-      ap₂ (λ (x : BoardFunction) (xs : List BoardFunction). x ∷ xs)
-      (ap (λ (o : Option File). agreed_by o f) (given_here f ∙ ap (λ (o : Option Endpoint). file_here o (path_eq f.path p)) e ∙ nothing (path_eq f.path p))) (none_here fs e)
-    where
-      nothing : (t : Bool) → file_here None t ≡ None
-      nothing true = refl
-      nothing false = refl
-
-  pub some_here : (fs : List BoardFunction) (d : Endpoint) → declared b p ≡ Some d → map (agreed_function (files_given b (p ∷ []))) fs ≡ with_file (after_reset d) p fs
-  some_here [] d e = refl
-  some_here (f ∷ fs) d e =
-      ap₂ (λ (x : BoardFunction) (xs : List BoardFunction). x ∷ xs)
-      (ap (λ (o : Option File). agreed_by o f) (given_here f ∙ ap (λ (o : Option Endpoint). file_here o (path_eq f.path p)) e) ∙ by (path_eq f.path p)) (some_here fs d e)
-    where
-      by : (t : Bool) → agreed_by (file_here (Some d) t) f ≡ cond t (record f { file = after_reset d f.file }) f
-      by true = refl
-      by false = refl
-
 pub one_reset : (fs : List BoardFunction) (p : Path) → with_endpoint_reset p fs ≡ map (agreed_function (files_given (board_at fs) (p ∷ []))) fs
 one_reset fs p = by (endpoint_at fs p) (declared_there fs p)
   where
     by : (o : Option Function) → declared (board_at fs) p ≡ option_map (λ (e : Function). e.decl) o
         → option_map_or (λ (e : Function). with_file (after_reset e.decl) p fs) o fs ≡ map (agreed_function (files_given (board_at fs) (p ∷ []))) fs
-    by None e = sym (none_here (board_at fs) p fs e)
-    by (Some f) e = sym (some_here (board_at fs) p fs f.decl e)
+    by None e = sym (one_given (board_at fs) p None e fs)
+    by (Some f) e = sym (one_given (board_at fs) p (Some f.decl) e fs)
 
 -- ---- one more
 

@@ -20,7 +20,7 @@ use Rattle.model_devices.specs.DeviceEvents.{slot_fault}
 use Rattle.model_devices.proofs.Resets.{taken_passes}
 use Rattle.model_handoff.specs.Kept.{IsLawfulOver}
 use Rattle.model_handoff.specs.ViewLaws.{with_seated_reset}
-use Rattle.model_handoff.specs.WorldOver.{WorldOver, board_state}
+use Rattle.model_guests.specs.WorldNow.{WorldNow, board_state}
 use Rattle.model_handoff.proofs.Keeping.{keeps_board}
 use Rattle.model_giving.specs.Giving.{with_reset_at, take_fault, take_reply, taken, after_take}
 use Rattle.model_giving.proofs.Giving.{can_take, taken_is, seated_is, board_after_taking, lawful_after_taking, shown_after_taking}
@@ -43,7 +43,7 @@ reset_by s p d declares = ap (λ (o : Option Endpoint). option_map_or (λ (e : E
 
 -- ---- a guest of a world that is kept
 
-module _ {w : WorldOver} {h : HostState} {names : List Text} {gs : List Guest} {i : ℕ} {g : Guest} (at : GuestAt w h names gs i g) (n : ℕ) where
+module _ {w : WorldNow} {h : HostState} {names : List Text} {gs : List Guest} {i : ℕ} {g : Guest} (at : GuestAt w h names gs i g) (n : ℕ) where
   -- a taking that is refused
   module _ {number : ℕ} (fault : slot_fault (lone_nth w i).slots n ≡ Some number) where
     fault_named : take_fault w (name_nth w i) n ≡ Some number
@@ -71,7 +71,7 @@ module _ {w : WorldOver} {h : HostState} {names : List Text} {gs : List Guest} {
     handoff_stays : with_reset_at slot.p w.handoff ≡ w.handoff
     handoff_stays = subst (λ (s : State). with_reset_at slot.p s ≡ s) at.kept.at_reset (seated_is w at.kept.lawful (name_nth w i) n (can_take w (name_nth w i) n may_take) slot.p (path_there at slot))
 
-    abbrev world : WorldOver
+    abbrev world : WorldNow
     world = record { handoff = with_reset_at slot.p w.handoff; guests = with_guest (with_slot_emptied n) (name_nth w i) w.guests }
 
     is : after_take w (name_nth w i) n ≡ world
@@ -79,7 +79,7 @@ module _ {w : WorldOver} {h : HostState} {names : List Text} {gs : List Guest} {
 
     pub take_left : {was : Option Held} {back : List Guest} {new : HostState} → IsExchanged gs i n was None back → new ≡ with_functions (with_endpoint_reset held.path h.state.functions) h
         → Leaves (after_take w (name_nth w i) n) h new names back
-    take_left {was} {back} {new} ex is_new = leaves at.kept kept_taken (ap (λ (s : State). routing s.functions) (sym (ap (λ (v : WorldOver). v.handoff) is ∙ handoff_stays)))
+    take_left {was} {back} {new} ex is_new = leaves at.kept kept_taken (ap (λ (s : State). routing s.functions) (sym (ap (λ (v : WorldNow). v.handoff) is ∙ handoff_stays)))
       where
         guests : AreGuests world.handoff names world.guests back
         guests =
@@ -94,10 +94,10 @@ module _ {w : WorldOver} {h : HostState} {names : List Text} {gs : List Guest} {
             ∙ sym (board_after_taking w at.kept.lawful (name_nth w i) n may_take slot.p (path_there at slot)) ∙ ap board_state is
 
         kept_taken : IsKept (after_take w (name_nth w i) n) new names back
-        kept_taken = subst (λ (v : WorldOver). IsKept v new names back) (sym is) (record {
+        kept_taken = subst (λ (v : WorldNow). IsKept v new names back) (sym is) (record {
           lawful = subst IsLawfulOver is (lawful_after_taking w at.kept.lawful (name_nth w i) n);
           clear = ap (λ (s : State). s.latch) handoff_stays ∙ at.kept.clear;
-          at_reset = ap (λ (v : WorldOver). with_seated_reset v.handoff v.guests) (sym is) ∙ shown_after_taking w at.kept.lawful (name_nth w i) n may_take slot.p (path_there at slot) ∙ at.kept.at_reset ∙ sym handoff_stays;
+          at_reset = ap (λ (v : WorldNow). with_seated_reset v.handoff v.guests) (sym is) ∙ shown_after_taking w at.kept.lawful (name_nth w i) n may_take slot.p (path_there at slot) ∙ at.kept.at_reset ∙ sym handoff_stays;
           agrees = agrees;
           guests = guests;
         })

@@ -1,25 +1,20 @@
 -- Guests before they did anything, on the board of a host.
 --     world_on, world_of      the board of a host, or of a host that is set up, with guests
---     taken_over w s      a handoff as a monitor takes it over: given functions at reset, and the address latch clear
---     files_given b ps      the files at reset of the endpoints at these paths
 --     declared_in      what a base address register opens
 --     IsStanding s i p f      the endpoint f at reset stands in row i of the board, at the path p
 --     AreSlotsAtFirst      a guest's slots, the first of them with the endpoints at these paths
-use Rattle.std.specs.Prelude.{ℕ, ◌-◌, ◌≡◌, false, List, ◌++◌, Option, Some, None, map, option_map, if◌then◌else◌, length, replicate, slice_get}
-use Rattle.std.specs.List.{list_any}
+use Rattle.std.specs.Prelude.{ℕ, ◌-◌, ◌≡◌, false, List, ◌++◌, Option, Some, None, map, option_map, length, replicate, slice_get}
 use Rattle.bars.specs.declared.region.Region.{Region}
 use Rattle.model_registers.specs.Declarations.{Bar}
 use Rattle.model_registers.specs.DeclarationRules.{IsLawfulEndpoint}
 use Rattle.model_registers.specs.EndpointTable.{endpoint_reset}
-use Rattle.model_registers.specs.Registers.{File}
 use Rattle.model_registers.specs.Decoding.{Function}
-use Rattle.model_board.specs.Paths.{Path, path_eq}
-use Rattle.model_board.specs.Board.{endpoint, Board}
+use Rattle.model_board.specs.Paths.{Path}
+use Rattle.model_board.specs.Board.{endpoint}
 use Rattle.model_board.specs.State.{State}
 use Rattle.model_board.specs.Ports.{file_at}
 use Rattle.model_guests.specs.World.{Guest, World, declared}
 use Rattle.model_guests.specs.Slots.{reset_slots}
-use Rattle.model_handoff.specs.Handoffs.{file_at_reset, with_given_reset}
 use Rattle.host_bridge.specs.HostState.{HostState}
 use Rattle.window_packing.specs.Readies.{ReadyBoard, board_below}
 use Rattle.monitor.specs.declared.guest.Held.{Held}
@@ -30,12 +25,6 @@ world_on h guests = record { board = board_below h; apertures = h.apertures; gue
 
 abbrev pub world_of : ReadyBoard → List Guest → World
 world_of r guests = world_on r.host guests
-
-abbrev pub taken_over : World → State → State
-taken_over w s = record (with_given_reset w s) { latch = 0 }
-
-abbrev pub files_given : Board → List Path → Path → Option File
-files_given b ps p = if list_any (λ q. path_eq q p) ps then option_map file_at_reset (declared b p) else None
 
 abbrev pub declared_in : Option Region → Option Bar
 declared_in o = option_map (λ (r : Region). r.decl) o

@@ -5,17 +5,17 @@ use Rattle.std.specs.Prelude.{ℕ, [], unwrap_or, slice_get, slice_set}
 use Rattle.model_guests.specs.Text.{Text}
 use Rattle.model_guests.specs.Lone.{LoneGuest, reset_guest}
 use Rattle.model_guests.specs.Guests.{GuestNow}
-use Rattle.model_handoff.specs.WorldOver.{WorldOver}
+use Rattle.model_guests.specs.WorldNow.{WorldNow}
 
 -- past the last one there is no name, and no function
-abbrev pub guest_nth : WorldOver → ℕ → GuestNow
+abbrev pub guest_nth : WorldNow → ℕ → GuestNow
 guest_nth w i = unwrap_or (slice_get w.guests i) (record { name = []; paths = []; lone = reset_guest [] })
 
-abbrev pub name_nth : WorldOver → ℕ → Text
+abbrev pub name_nth : WorldNow → ℕ → Text
 name_nth w i = (guest_nth w i).name
 
-abbrev pub lone_nth : WorldOver → ℕ → LoneGuest
+abbrev pub lone_nth : WorldNow → ℕ → LoneGuest
 lone_nth w i = (guest_nth w i).lone
 
-abbrev pub with_lone_nth : ℕ → LoneGuest → WorldOver → WorldOver
+abbrev pub with_lone_nth : ℕ → LoneGuest → WorldNow → WorldNow
 with_lone_nth i g w = record w { guests = slice_set w.guests i (record (guest_nth w i) { lone = g }) }

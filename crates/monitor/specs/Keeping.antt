@@ -18,7 +18,7 @@ use Rattle.model_guests.specs.Slots.{Slots}
 use Rattle.model_guests.specs.Guests.{GuestNow, GuestsNow}
 use Rattle.model_handoff.specs.Kept.{IsLawfulOver}
 use Rattle.model_handoff.specs.ViewLaws.{with_seated_reset}
-use Rattle.model_handoff.specs.WorldOver.{WorldOver, board_state}
+use Rattle.model_guests.specs.WorldNow.{WorldNow, board_state}
 use Rattle.bars.specs.Slots.{bases_from}
 use Rattle.paths.specs.BusAddresses.{bus_address_of}
 use Rattle.host_bridge.specs.HostState.{HostState}
@@ -66,7 +66,7 @@ AreGuests s (t ∷ ts) (w ∷ ws) (g ∷ gs) = IsGuest s t w g × AreGuests s ts
 
 -- bridges, functions in no slot, bus numbers and routing registers are as they were handed over: `board_state` says so.
 -- Functions in slots are at reset in the handoff, which the board shows only so.
-pub record IsKept (w : WorldOver) (h : HostState) (names : List Text) (gs : List Guest) : Type 0 where
+pub record IsKept (w : WorldNow) (h : HostState) (names : List Text) (gs : List Guest) : Type 0 where
   pub lawful : IsLawfulOver w
   pub clear : w.handoff.latch ≡ 0
   pub at_reset : with_seated_reset w.handoff w.guests ≡ w.handoff

@@ -9,14 +9,14 @@ use Rattle.std.specs.Prelude.{ℕ, List, Bool, Option, Some, None, ◌≡◌, �
 use Rattle.std.specs.Prelude.{map, length, slice_get, slice_set, unwrap_or}
 use Rattle.bars.specs.Resets.{with_no_base}
 use Rattle.model_guests.specs.Guests.{Move}
-use Rattle.model_handoff.specs.WorldOver.{WorldOver}
+use Rattle.model_guests.specs.WorldNow.{WorldNow}
 use Rattle.monitor.specs.declared.guest.Held.{Held}
 use Rattle.monitor.specs.declared.guest.Guest.{Guest}
 use Rattle.bridge_forward.specs.Lending.{with_endpoint_reset}
 use Rattle.host_bridge.specs.HostState.{HostState, with_functions}
 use Rattle.monitor.specs.ByIndex.{name_nth}
 
-abbrev pub move_nth : WorldOver → ℕ → ℕ → ℕ → ℕ → Move
+abbrev pub move_nth : WorldNow → ℕ → ℕ → ℕ → ℕ → Move
 move_nth w i n j m = record { from = name_nth w i; slot = n; to = name_nth w j; target = m }
 
 abbrev pub is_taken : List (Option Held) → ℕ → Bool

@@ -7,7 +7,7 @@ use Rattle.headers.specs.Places.{place_of}
 use Rattle.model_registers.specs.OwnCopies.{IsLawfulOwn}
 use Rattle.model_guests.specs.Slots.{Landing}
 use Rattle.model_guests.specs.Guests.{lone_of}
-use Rattle.model_handoff.specs.WorldOver.{WorldOver}
+use Rattle.model_guests.specs.WorldNow.{WorldNow}
 use Rattle.model_queries.specs.Regions as model
 use Rattle.monitor.specs.declared.guest.Held.{Held}
 use Rattle.monitor.specs.declared.guest.Guest.{Guest}
@@ -16,7 +16,7 @@ use Rattle.monitor.specs.declared.locating.Hit.{Hit}
 use Rattle.monitor.specs.Keeping.{AreSlots}
 use Rattle.monitor.specs.ByIndex.{guest_nth, name_nth, lone_nth}
 
-pub record IsGuestNth (w : WorldOver) (i : ℕ) (g : Guest) : Type 0 where
+pub record IsGuestNth (w : WorldNow) (i : ℕ) (g : Guest) : Type 0 where
   pub named : lone_of w.guests (name_nth w i) ≡ lone_nth w i
   pub latch : (lone_nth w i).latch ≡ g.latch
   pub slots : AreSlots w.handoff (guest_nth w i).paths (lone_nth w i).slots g.slots.items

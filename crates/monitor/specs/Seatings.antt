@@ -22,7 +22,7 @@ use Rattle.model_board.specs.State.{State}
 use Rattle.model_guests.specs.Slots.{reset_function}
 use Rattle.model_guests.specs.World.{declared}
 use Rattle.model_handoff.specs.ViewLaws.{is_at}
-use Rattle.model_handoff.specs.WorldOver.{WorldOver}
+use Rattle.model_guests.specs.WorldNow.{WorldNow}
 use Rattle.model_giving.specs.Giving.{Gift, give_fault}
 use Rattle.monitor.specs.declared.guest.Held.{Held}
 use Rattle.monitor.specs.declared.guest.Guest.{Guest}
@@ -32,7 +32,7 @@ use Rattle.monitor.specs.ByIndex.{name_nth}
 use Rattle.monitor.specs.Keeping.{IsSlot}
 use Rattle.monitor.specs.Views.{path_shown}
 
-abbrev pub gift_nth : WorldOver → Path → ℕ → ℕ → Gift
+abbrev pub gift_nth : WorldNow → Path → ℕ → ℕ → Gift
 gift_nth w p i n = record { path = p; to = name_nth w i; slot = n }
 
 abbrev pub withheld_number : Withheld → ℕ
@@ -63,10 +63,10 @@ is_closed_base command b = not (opens_space command (space_of b.kind))
 abbrev pub is_closed_slot : ℕ → Option Region → Bool
 is_closed_slot command o = option_map_or (λ (r : Region). not (opens_space command (space_of r.decl.kind))) o false
 
-abbrev pub ComesIn : WorldOver → Path → Result Held Withheld → Type 0
+abbrev pub ComesIn : WorldNow → Path → Result Held Withheld → Type 0
 ComesIn w p (Ok held) = IsSlot w.handoff (Some p) (reset_function (declared (board_at w.handoff.functions) p)) (Some held)
 ComesIn w p (Err why) = ⊤
 
-pub record MakesGift (w : WorldOver) (p : Path) (i n : ℕ) (r : Result Held Withheld) : Type 0 where
+pub record MakesGift (w : WorldNow) (p : Path) (i n : ℕ) (r : Result Held Withheld) : Type 0 where
   pub fault : fault_told r ≡ give_fault w (gift_nth w p i n)
   pub comes : ComesIn w p r

@@ -16,7 +16,7 @@ use Rattle.model_guests.specs.Text.{Text}
 use Rattle.model_registers.specs.CopiedFiles.{with_copies}
 use Rattle.model_guests.specs.Guests.{GuestNow, GuestsNow}
 use Rattle.model_handoff.specs.ViewLaws.{with_seated_reset}
-use Rattle.model_handoff.specs.WorldOver.{WorldOver}
+use Rattle.model_guests.specs.WorldNow.{WorldNow}
 use Rattle.bridge_forward.specs.Lending.{endpoint_nth}
 use Rattle.host_bridge.specs.HostState.{HostState}
 use Rattle.monitor.specs.declared.guest.Held.{Held}
@@ -51,7 +51,7 @@ guests_shown fs (t ∷ ts) (g ∷ gs) = guest_shown fs t g ∷ guests_shown fs t
 unfoldable pub handoff_shown : State → GuestsNow → State
 handoff_shown s gs = with_seated_reset s gs
 
-abbrev pub world_shown : HostState → List Text → List Guest → WorldOver
+abbrev pub world_shown : HostState → List Text → List Guest → WorldNow
 world_shown h names gs = record {
   handoff = handoff_shown h.state (guests_shown h.state.functions names gs);
   guests = guests_shown h.state.functions names gs;

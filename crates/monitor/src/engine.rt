@@ -8,8 +8,7 @@ ghost use Rattle.model_guests.specs.Accesses as guests;
 ghost use Rattle.model_guests.specs.Lone.{answer, after_event, own_latch, at_target, destination, reply_at, after_access_at};
 ghost use Rattle.model_guests.specs.Guests.{lone_of};
 ghost use Rattle.model_guests.specs.Lines.{guest_event, host_move};
-ghost use Rattle.model_guests.specs.WorldNow.{move_reply};
-ghost use Rattle.model_handoff.specs.WorldOver.{names_now, host_reply, after_meaning};
+ghost use Rattle.model_guests.specs.WorldNow.{move_reply, names_now, host_reply, after_meaning};
 ghost use Rattle.bars.specs.Kinds.{named_space};
 ghost use Rattle.paths.specs.BusAddresses.{bus_address_of};
 ghost use Rattle.accesses.specs.Accesses.{access_of, host_access_of, op_of, part_of, reply_of};
@@ -48,9 +47,9 @@ impl<R: Route> Model for Engine<R> {
     ghost use Rattle.model_guests.specs.Accesses.{configuration, port, reads, writes};
     ghost use Rattle.model_guests.specs.Accesses as guests;
     ghost use Rattle.model_guests.specs.Lone.{answer, after_event, own_latch, at_target, destination, reply_at, after_access_at};
-    ghost use Rattle.model_handoff.specs.WorldOver.{WorldOver};
+    ghost use Rattle.model_guests.specs.WorldNow.{WorldNow};
 
-    ghost Value = { WorldOver };
+    ghost Value = { WorldNow };
 
     ghost use Rattle.monitor.specs.Views.{texts, world_shown};
     ghost use Rattle.monitor.specs.Keeping.{IsSound};

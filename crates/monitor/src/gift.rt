@@ -7,7 +7,7 @@ ghost use Rattle.model_board.specs.State.{BoardFunction};
 ghost use Rattle.model_audit.specs.Orderly.{IsStateOfBoard};
 ghost use Rattle.model_guests.specs.Text.{Text};
 ghost use Rattle.model_guests.specs.World.{declared};
-ghost use Rattle.model_handoff.specs.WorldOver.{WorldOver};
+ghost use Rattle.model_guests.specs.WorldNow.{WorldNow};
 ghost use Rattle.bars.specs.Kinds.{named_space};
 ghost use Rattle.bridge_forward.specs.BasesNow.{bases_of};
 ghost use Rattle.monitor.specs.Keeping.{IsKept};
@@ -114,7 +114,7 @@ pub(crate) fn gift(
 ) -> Result<Held, Withheld>
     requires board { IsStateOfBoard host.now.state.functions }
     requires inside { guest < length guests.now }
-    ensures { (w : WorldOver) (names : List Text) → IsKept w host.now names guests.now
+    ensures { (w : WorldNow) (names : List Text) → IsKept w host.now names guests.now
         → MakesGift w path.now guest slot result }
 {
     if slot > 31 {

@@ -1,12 +1,10 @@
 //! Functions of a board that are given to guests.
 ghost use Rattle.std.specs.Prelude.{◌≡◌, IfOk, IfErr};
 ghost use Rattle.model_guests.specs.World.{HasLawfulGuests};
-ghost use Rattle.model_guests.specs.WorldNow.{world_at_first};
-ghost use Rattle.model_handoff.specs.Handoffs.{IsHandoff};
+ghost use Rattle.model_guests.specs.WorldNow.{world_at_first, world_over};
+ghost use Rattle.model_handoff.specs.Handoffs.{IsHandoff, taken_over};
 ghost use Rattle.model_handoff.specs.Regions.{CanBeGiven};
-ghost use Rattle.model_handoff.specs.SetUpCase.{over_set_up};
-ghost use Rattle.model_handoff.specs.WorldOver.{world_over};
-ghost use Rattle.monitor.specs.Beginnings.{world_on, world_of, taken_over};
+ghost use Rattle.monitor.specs.Beginnings.{world_on, world_of};
 
 use crate::beginning::{guests_of, names_of};
 use crate::engine::Engine;
@@ -51,7 +49,7 @@ impl<R: Route + Drop> Engine<R> {
     ) -> Result<Engine<R>, AllocError>
         requires fits { R.fits route ready.host }
         requires lawful { HasLawfulGuests (world_of ready guests.now) }
-        ensures { IfOk result (λ e. e ≡ over_set_up (world_at_first (world_of ready guests.now))) }
+        ensures { IfOk result (λ e. e ≡ world_at_first (world_of ready guests.now)) }
     {
         let (host, _table, _plan) = ready.into_parts();
         match Engine::over(alloc, host, route, guests) {

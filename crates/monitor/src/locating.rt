@@ -6,7 +6,7 @@ ghost use Rattle.model_board.specs.State.{State};
 ghost use Rattle.model_guests.specs.Accesses.{configuration};
 ghost use Rattle.model_guests.specs.Slots.{Slots, landing, landing_from};
 ghost use Rattle.model_guests.specs.Guests.{lone_of};
-ghost use Rattle.model_handoff.specs.WorldOver.{WorldOver};
+ghost use Rattle.model_guests.specs.WorldNow.{WorldNow};
 ghost use Rattle.model_queries.specs.Located.{located, location};
 ghost use Rattle.bars.specs.Kinds.{named_space};
 ghost use Rattle.accesses.specs.Accesses.{target_of};
@@ -63,7 +63,7 @@ fn config_hit(slots: &[Option<Held>], slot: usize, offset: u64) -> Option<Hit>
 
 /// What an access of a byte hits.
 fn hit_in(guest: &Guest, at: At) -> Option<Hit>
-    ensures { (w : WorldOver) (i : ℕ) → IsGuestNth w i guest.now
+    ensures { (w : WorldNow) (i : ℕ) → IsGuestNth w i guest.now
         → option_map hit_named result ≡ located (lone_nth w i) (target_of at) }
 {
     match at {
@@ -81,7 +81,7 @@ fn hit_in(guest: &Guest, at: At) -> Option<Hit>
 
 /// The same, or why it is refused.
 fn locate_in(guest: &Guest, at: At) -> Result<Option<Hit>, Refusal>
-    ensures { (w : WorldOver) (i : ℕ) → IsGuestNth w i guest.now
+    ensures { (w : WorldNow) (i : ℕ) → IsGuestNth w i guest.now
         → result_map_both (option_map hit_named) number_of result ≡ location (lone_nth w i) (target_of at) }
 {
     let read = Access {

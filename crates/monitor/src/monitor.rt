@@ -6,13 +6,11 @@ ghost use Rattle.model_guests.specs.World.{HasLawfulGuests};
 ghost use Rattle.model_guests.specs.Lone.{answer};
 ghost use Rattle.model_guests.specs.Guests.{lone_of};
 ghost use Rattle.model_guests.specs.Lines.{guest_event, host_move};
-ghost use Rattle.model_guests.specs.WorldNow.{world_at_first, move_reply};
+ghost use Rattle.model_guests.specs.WorldNow.{world_at_first, move_reply, names_now, board_state, host_reply, after_meaning, world_over};
 ghost use Rattle.model_giving.specs.Giving.{give_fault, after_give, take_reply, after_take};
-ghost use Rattle.model_handoff.specs.DevicesOver.{after_device};
-ghost use Rattle.model_handoff.specs.SetUpCase.{over_set_up};
+ghost use Rattle.model_handoff.specs.Handoffs.{taken_over};
 ghost use Rattle.model_handoff.specs.Regions.{CanBeGiven, first_fault};
-ghost use Rattle.model_handoff.specs.WorldOver.{names_now, board_state, host_reply, after_meaning, world_over};
-ghost use Rattle.model_devices.specs.DeviceEvents.{device_answer, device_reads, device_writes, resets};
+ghost use Rattle.model_devices.specs.DeviceEvents.{device_answer, device_reads, device_writes, resets, after_device};
 ghost use Rattle.bus_scan.specs.declared.fault.Fault.TheVariants.{Memory};
 ghost use Rattle.model_queries.specs.Regions.{region_answer};
 ghost use Rattle.model_queries.specs.Located.{location};
@@ -27,7 +25,7 @@ ghost use Rattle.monitor.specs.DeviceBytes.{device_byte};
 ghost use Rattle.monitor.specs.Audits.{IsRefusalOf};
 ghost use Rattle.monitor.specs.Passing.{HasPassed};
 ghost use Rattle.monitor.specs.declared.closed.RegionFault.TheVariants.{Memory as OutOfMemory};
-ghost use Rattle.monitor.specs.Beginnings.{world_on, world_of, taken_over};
+ghost use Rattle.monitor.specs.Beginnings.{world_on, world_of};
 ghost use Rattle.monitor.specs.Queries.{region_named, hit_named};
 ghost use Rattle.monitor.specs.FunctionsTold.{function_named};
 ghost use Rattle.monitor.specs.Seatings.{fault_told, gift_nth};
@@ -56,9 +54,9 @@ pub struct Monitor {
 }
 
 impl Model for Monitor {
-    ghost use Rattle.model_handoff.specs.WorldOver.{WorldOver};
+    ghost use Rattle.model_guests.specs.WorldNow.{WorldNow};
 
-    ghost Value = { WorldOver };
+    ghost Value = { WorldNow };
 
     ghost view = { λ m. m.engine };
 }
@@ -68,7 +66,7 @@ impl Monitor {
     /// the board is dropped.
     pub fn new(alloc: Global, ready: Ready, guests: &[GuestDecl]) -> Result<Monitor, Fault>
         requires { HasLawfulGuests (world_of ready guests.now) }
-        ensures made { IfOk result (λ m. m ≡ over_set_up (world_at_first (world_of ready guests.now))) }
+        ensures made { IfOk result (λ m. m ≡ world_at_first (world_of ready guests.now)) }
         ensures refused { IfErr result (λ f. f ≡ Memory) }
     {
         let table = Table::build(alloc, &ready)?;

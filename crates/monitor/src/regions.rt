@@ -8,7 +8,7 @@ ghost use Rattle.model_registers.specs.Decoding.{Function, base, is_open};
 ghost use Rattle.model_board.specs.Paths.{Path};
 ghost use Rattle.model_board.specs.State.{State};
 ghost use Rattle.model_guests.specs.Guests.{lone_of};
-ghost use Rattle.model_handoff.specs.WorldOver.{WorldOver};
+ghost use Rattle.model_guests.specs.WorldNow.{WorldNow};
 ghost use Rattle.model_queries.specs.Regions.{is_prefetchable, region_now, region_at, region_answer};
 ghost use Rattle.accesses.specs.Refusals.{number_of};
 ghost use Rattle.bars.specs.Kinds.{kind_of, named_space};
@@ -94,7 +94,7 @@ fn region_kept(held: &Held, bar: usize) -> Option<RegionNow>
 
 /// The same of a slot of a guest, or why it is refused.
 fn region_in(guest: &Guest, slot: u64, bar: u64) -> Result<RegionNow, Refusal>
-    ensures { (w : WorldOver) (i : ℕ) → IsGuestNth w i guest.now
+    ensures { (w : WorldNow) (i : ℕ) → IsGuestNth w i guest.now
         → result_map_both region_named number_of result ≡ region_answer (lone_nth w i) slot bar }
 {
     let held = match function_in(&guest.slots, slot) {

@@ -1,8 +1,7 @@
 //! Functions that are reset where they are.
 ghost use Rattle.std.specs.Prelude.{◌≡◌, ◌<◌, length};
 ghost use Rattle.model_guests.specs.Guests.{lone_of};
-ghost use Rattle.model_devices.specs.DeviceEvents.{resets, device_answer};
-ghost use Rattle.model_handoff.specs.DevicesOver.{after_device};
+ghost use Rattle.model_devices.specs.DeviceEvents.{resets, device_answer, after_device};
 ghost use Rattle.accesses.specs.Accesses.{reply_of};
 ghost use Rattle.accesses.specs.Replies.{IsRefusal, IsShown};
 ghost use Rattle.monitor.specs.ByIndex.{name_nth};

@@ -3,7 +3,8 @@ ghost use Rattle.std.specs.Prelude.{◌≡◌, map};
 ghost use Rattle.model_guests.specs.AgreedBoard.{agreed_function};
 ghost use Rattle.host_bridge.specs.HostState.{with_functions};
 ghost use Rattle.window_packing.specs.Readies.{board_below};
-ghost use Rattle.monitor.specs.Beginnings.{world_on, taken_over, files_given};
+ghost use Rattle.monitor.specs.Beginnings.{world_on};
+ghost use Rattle.model_handoff.specs.Handoffs.{taken_over, files_given};
 
 use accesses::GuestDecl;
 use host_bridge::Host;

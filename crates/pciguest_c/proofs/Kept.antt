@@ -11,7 +11,7 @@ use Rattle.model_guests.specs.Slots.{fault_of}
 use Rattle.model_guests.specs.Lone.{LoneGuest}
 use Rattle.model_guests.specs.Guests.{GuestNow, GuestsNow, guest_after, with_guest}
 use Rattle.model_guests.specs.Lines.{guest_event}
-use Rattle.model_handoff.specs.WorldOver.{WorldOver, names_now, after_meaning}
+use Rattle.model_guests.specs.WorldNow.{WorldNow, names_now, after_meaning}
 use Rattle.arrayvec.specs.ArrayVec.{ArrayVec}
 use Rattle.arrayvec.specs.ArrayString.{ArrayString}
 use Rattle.monitor.specs.Views.{texts}
@@ -27,7 +27,7 @@ with_same f name (g ∷ gs) same =
     (ap (λ (x : GuestNow). if bytes_eq name g.name then x else g) (same g) ∙ same_if (bytes_eq name g.name) g)
     (with_same f name gs same)
 
-pub reads_keep : (m : WorldOver) (name : Text) (t : Target) (width : ℕ)
+pub reads_keep : (m : WorldNow) (name : Text) (t : Target) (width : ℕ)
     → after_meaning m (guest_event name (access (record { target = t; width = width; op = reads }))) ≡ m
 reads_keep m name t width =
     let a : Access = record { target = t; width = width; op = reads } in
@@ -47,7 +47,7 @@ position_mapped p f xs =
     ap₂ (λ (k n : ℕ). cond (nat_lt k n) (Some k) None) (prefix_mapped (λ y. not (p y)) f xs) (length_mapped f xs)
 
 -- a guest's place among the names that the program holds
-pub place_told : (name : Text) (names : ArrayVec ArrayString) (m : WorldOver) → texts names ≡ names_now m
+pub place_told : (name : Text) (names : ArrayVec ArrayString) (m : WorldNow) → texts names ≡ names_now m
     → position (λ n. bytes_eq n.bytes name) names.items ≡ position (λ n. bytes_eq n name) (names_now m)
 place_told name names m same =
     sym (position_mapped (λ (n : Text). bytes_eq n name) (λ (n : ArrayString). n.bytes) names.items)

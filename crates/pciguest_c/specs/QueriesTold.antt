@@ -10,7 +10,7 @@ use Rattle.model_registers.specs.Decoding.{Space, io, memory}
 use Rattle.model_guests.specs.Accesses.{Target}
 use Rattle.model_guests.specs.Slots.{Landing}
 use Rattle.model_guests.specs.Guests.{lone_of}
-use Rattle.model_handoff.specs.WorldOver.{WorldOver}
+use Rattle.model_guests.specs.WorldNow.{WorldNow}
 use Rattle.model_queries.specs.Regions.{region_answer}
 use Rattle.model_queries.specs.Regions as model
 use Rattle.model_queries.specs.Located.{location}
@@ -22,10 +22,10 @@ abbrev pub number_answered : {A : Type 0} → Result A ℕ → ℕ
 number_answered (Ok x) = 0
 number_answered (Err n) = n
 
-abbrev pub region_asked : WorldOver → ℕ → ℕ → ℕ → Result model.RegionNow ℕ
+abbrev pub region_asked : WorldNow → ℕ → ℕ → ℕ → Result model.RegionNow ℕ
 region_asked m guest slot register = region_answer (lone_of m.guests (name_nth m guest)) slot register
 
-abbrev pub hit_asked : WorldOver → ℕ → Target → Result (Option Landing) ℕ
+abbrev pub hit_asked : WorldNow → ℕ → Target → Result (Option Landing) ℕ
 hit_asked m guest t = location (lone_of m.guests (name_nth m guest)) t
 
 abbrev pub one_if : Bool → ℕ

@@ -5,22 +5,22 @@ use Rattle.std.specs.Prelude.{ℕ}
 use Rattle.std.specs.Option.{option_map_or}
 use Rattle.model_guests.specs.Text.{Text}
 use Rattle.model_guests.specs.Accesses.{Reply, refused}
-use Rattle.model_handoff.specs.WorldOver.{WorldOver}
+use Rattle.model_guests.specs.WorldNow.{WorldNow}
 use Rattle.model_giving.specs.Giving.{give_reply, after_give, take_reply, after_take}
 use Rattle.board_file.specs.PathTexts.{path_of}
 use Rattle.monitor.specs.ByIndex.{name_nth}
 use Rattle.monitor.specs.Seatings.{gift_nth}
 
 -- no endpoint stands at a text that is no path
-abbrev pub gift_reply : WorldOver → Text → ℕ → ℕ → Reply
+abbrev pub gift_reply : WorldNow → Text → ℕ → ℕ → Reply
 gift_reply m path guest slot =
     option_map_or (λ p. give_reply m (gift_nth m p guest slot)) (path_of path) (refused 303)
 
-abbrev pub after_gift : WorldOver → Text → ℕ → ℕ → WorldOver
+abbrev pub after_gift : WorldNow → Text → ℕ → ℕ → WorldNow
 after_gift m path guest slot = option_map_or (λ p. after_give m (gift_nth m p guest slot)) (path_of path) m
 
-abbrev pub taking_reply : WorldOver → ℕ → ℕ → Reply
+abbrev pub taking_reply : WorldNow → ℕ → ℕ → Reply
 taking_reply m guest slot = take_reply m (name_nth m guest) slot
 
-abbrev pub after_taking : WorldOver → ℕ → ℕ → WorldOver
+abbrev pub after_taking : WorldNow → ℕ → ℕ → WorldNow
 after_taking m guest slot = after_take m (name_nth m guest) slot

@@ -15,7 +15,7 @@ use Rattle.model_guests.specs.Grammar.{HostTarget, host_configuration, host_port
 use Rattle.model_guests.specs.Lone.{answer}
 use Rattle.model_guests.specs.Guests.{lone_of}
 use Rattle.model_guests.specs.Lines.{guest_event}
-use Rattle.model_handoff.specs.WorldOver.{WorldOver, after_meaning}
+use Rattle.model_guests.specs.WorldNow.{WorldNow, after_meaning}
 use Rattle.monitor.specs.ByIndex.{name_nth}
 
 abbrev pub number_told : Reply → ℕ
@@ -52,8 +52,8 @@ abbrev pub part_told : ℕ → Option RaisePlace
 part_told n = if nat_lt n 6 then Some (in_region n) else (if n == 6 then Some in_config else None)
 
 -- the guest's name stands for it, as no two guests have one name
-abbrev pub reply_asked : WorldOver → ℕ → Event → Reply
+abbrev pub reply_asked : WorldNow → ℕ → Event → Reply
 reply_asked m guest e = answer (lone_of m.guests (name_nth m guest)) e
 
-abbrev pub after_asked : WorldOver → ℕ → Event → WorldOver
+abbrev pub after_asked : WorldNow → ℕ → Event → WorldNow
 after_asked m guest e = after_meaning m (guest_event (name_nth m guest) e)

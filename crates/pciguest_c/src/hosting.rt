@@ -2,8 +2,7 @@
 ghost use Rattle.std.specs.Prelude.{◌≡◌, ◌≢◌, ◌<◌, ◌≤◌, None, Some, length, option_map};
 ghost use Rattle.model_guests.specs.Grammar.{HostTarget};
 ghost use Rattle.model_guests.specs.Lines.{host_move};
-ghost use Rattle.model_guests.specs.WorldNow.{move_reply};
-ghost use Rattle.model_handoff.specs.WorldOver.{host_reply, after_meaning};
+ghost use Rattle.model_guests.specs.WorldNow.{move_reply, host_reply, after_meaning};
 ghost use Rattle.accesses.specs.Accesses.{host_target_of};
 ghost use Rattle.monitor.specs.Moves.{move_nth};
 ghost use Rattle.pciguest_c.specs.Told.{at_bus, number_told, value_told, host_target_told};

@@ -1,7 +1,7 @@
 //! The pointer that C holds.
 ghost use Rattle.std.specs.Prelude.{◌≡◌, Option, Some, None, IsSome};
 ghost use Rattle.std.specs.Coded.{coded_option};
-ghost use Rattle.model_handoff.specs.WorldOver.{WorldOver};
+ghost use Rattle.model_guests.specs.WorldNow.{WorldNow};
 ghost use Rattle.pciguest_c.specs.Owning.{monitor_coded, owner_owns};
 
 use crate::unboxed::Unboxed;
@@ -17,7 +17,7 @@ use std::ptr::null_mut;
 pub struct Owner {
     at: *mut (),
     alloc: Global,
-    pub ghost value: { Option WorldOver } by { coded_option monitor_coded },
+    pub ghost value: { Option WorldNow } by { coded_option monitor_coded },
 }
 
 impl Model for Owner {

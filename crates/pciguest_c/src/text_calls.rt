@@ -6,7 +6,7 @@ ghost use Rattle.model_set_up.specs.SetUpWrites.{set_up_rules};
 ghost use Rattle.model_guests.specs.Text.{Text};
 ghost use Rattle.model_guests.specs.World.{World};
 ghost use Rattle.model_guests.specs.Report.{report};
-ghost use Rattle.model_handoff.specs.WorldOver.{line_output, after_line};
+ghost use Rattle.model_guests.specs.WorldNow.{line_output, after_line};
 ghost use Rattle.simulation.specs.Listing.{Declares, Refuses};
 ghost use Rattle.pciguest_c.specs.Checks.{IsCheckOf};
 ghost use Rattle.pciguest_c.specs.NumberWords.{words_of_number};

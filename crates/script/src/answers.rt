@@ -1,11 +1,10 @@
 //! What a line does and writes.
 ghost use Rattle.std.specs.Prelude.{◌≡◌, ◌<◌, ◌++◌, ◌∷◌, [], length, MatchOption, IfSome};
 ghost use Rattle.model_guests.specs.Replies.{line_text};
-ghost use Rattle.model_handoff.specs.WorldOver.{names_now, line_output, after_line};
+ghost use Rattle.model_guests.specs.WorldNow.{names_now, line_output, after_line, world_protocol};
 ghost use Rattle.accesses.specs.Accesses.{reply_of};
 ghost use Rattle.accesses.specs.Replies.{IsShown};
 ghost use Rattle.lines.specs.Lines.{who_of, GuestIs};
-ghost use Rattle.model_handoff.specs.RunsOver.{over_protocol};
 
 use line_runs::Answers;
 use lines::{LineText, What, Who, line_meaning, push_line};
@@ -73,7 +72,7 @@ pub fn run_line(monitor: &mut Monitor, line: &[u8]) -> LineText
 pub struct Script;
 
 impl Answers<Script> for Monitor {
-    ghost protocol = { over_protocol };
+    ghost protocol = { world_protocol };
 
     ghost TakesMemory = { ⊥ };
 

@@ -1,10 +1,10 @@
 //! A board, as firmware left it, whose functions are given to guests.
 ghost use Rattle.std.specs.Prelude.{◌≡◌, None, IfOk, IfErr};
 ghost use Rattle.model_guests.specs.World.{HasLawfulGuests};
-ghost use Rattle.model_handoff.specs.Handoffs.{IsHandoff};
+ghost use Rattle.model_handoff.specs.Handoffs.{IsHandoff, taken_over};
 ghost use Rattle.model_handoff.specs.Regions.{first_fault};
-ghost use Rattle.model_handoff.specs.WorldOver.{world_over};
-ghost use Rattle.monitor.specs.Beginnings.{world_on, taken_over};
+ghost use Rattle.model_guests.specs.WorldNow.{world_over};
+ghost use Rattle.monitor.specs.Beginnings.{world_on};
 ghost use Rattle.sessions.specs.Takings.{IsFaultOf, of_audit, of_region};
 
 use accesses::GuestDecl;

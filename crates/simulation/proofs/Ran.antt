@@ -1,20 +1,12 @@
 -- What the parts of a run over a board file say, put together.
-use Rattle.std.proofs.Common.{◌≡◌, ◌≤◌, ◌⊎◌, ◌++◌, Result, Ok, Err, take, refl, sym, ap, ap₂, ◌∙◌, subst, arith}
-use Rattle.std.specs.Io.{StartsWith}
-use Rattle.std.specs.Io.KnownBytes.{IsAtEnd}
-use Rattle.std.specs.Prelude.{◌≢◌, List, Option, IsErrOf}
+use Rattle.std.proofs.Common.{◌≡◌, ◌≤◌, Result, Ok, Err, refl, sym, ap, ap₂, ◌∙◌, arith}
+use Rattle.std.specs.Prelude.{◌≢◌, List, IsErrOf}
 use Rattle.std.specs.Result.{IsErrAnd}
 use Rattle.model_board.specs.Board.{Board}
 use Rattle.model_registers.specs.Apertures.{Apertures}
 use Rattle.model_set_up.specs.SetUp.{set_up_state}
 use Rattle.model_guests.specs.World.{Guest, World}
-use Rattle.model_guests.specs.Text.{Text, lines, text_of_lines}
 use Rattle.model_guests.specs.WorldNow.{WorldNow, world_at_first}
-use Rattle.model_handoff.specs.RunsOver.{with_guests_of}
-use Rattle.model_handoff.specs.SetUpCase.{over_set_up}
-use Rattle.model_handoff.specs.WorldOver.{WorldOver}
-use Rattle.model_handoff.proofs.RunsOver.{same_stop}
-use Rattle.script.specs.Stops as script
 use Rattle.host_bridge.specs.HostState.{HostState}
 use Rattle.window_packing.specs.Readies.{ReadyBoard, board_below}
 use Rattle.board_file.specs.Meaning.{world_in}
@@ -25,7 +17,6 @@ use Rattle.simulation.specs.declared.fault.Fault.{Fault}
 use Rattle.simulation.specs.declared.fault.Fault.TheVariants.{Read, Write, SetUpMemory}
 use Rattle.line_runs.specs.Faults.{read_failures_of, write_failures_of}
 use Rattle.simulation.specs.Faults.{number_of, of_run, read_faults, write_faults}
-use Rattle.simulation.specs.Running.{IsStoppedIn}
 
 -- a fault of the run is none of the file or of the board
 pub of_run_large : (r : RunFault) (f : Fault) → r ≢ run.Memory → f ≡ of_run r → 500 ≤ number_of f
@@ -67,25 +58,13 @@ memory_lacked (Ok x) e h is = absurd h
 memory_lacked (Err f) e h is = memory_of_run e f h (let same : f ≡ SetUpMemory = cc in same)
 
 -- a monitor of the board that a file declares begins with the world of the file
-pub began : (h : HostState) (r : ReadyBoard) (gs guests : List Guest) (m : WorldOver)
+pub began : (h : HostState) (r : ReadyBoard) (gs guests : List Guest) (m : WorldNow)
     → board_below r.host ≡ board_below h → r.host ≡ record h { state = set_up_state (board_below h) h.apertures }
-    → guests ≡ gs → m ≡ over_set_up (world_at_first (world_of r guests)) → m ≡ over_set_up (world_at_first (world_in h gs))
+    → guests ≡ gs → m ≡ world_at_first (world_of r guests) → m ≡ world_at_first (world_in h gs)
 began h r gs guests m below host given made =
     let board : world_of r guests ≡ record (world_in h guests) { guests = guests } =
     ap₂ (λ (b : Board) (a : Apertures). record { board = b; apertures = a; guests = guests }) below (ap (λ (k : HostState). k.apertures) host) in
-    made ∙ ap (λ (w : World). over_set_up (world_at_first w)) (board ∙ ap (λ (xs : List Guest). record (world_in h gs) { guests = xs }) given)
-
--- over what set-up left a failed write stopped the run over the board that is set up
-pub stopped_in : (v : WorldNow) (text : Text) (old_rest new_rest old new : Option Text) (end : WorldOver) → script.IsStoppedIn (over_set_up v) text old_rest new_rest old new end
-    → IsStoppedIn v text old_rest new_rest old new (with_guests_of end v)
-stopped_in v text old_rest new_rest old new end over =
-    let same = same_stop v (lines text) old new end over.stop in
-    record {
-      read = over.read;
-      consumed = over.consumed;
-      stop = same.stop;
-      in_time = subst (λ (ls : List Text). StartsWith over.read (text_of_lines ls) ⊎ IsAtEnd new_rest) (ap₂ (λ (xs ys : List Text). xs ++ take 1 ys) (sym same.whole) (sym same.rest)) over.in_time;
-    }
+    made ∙ ap (λ (w : World). world_at_first w) (board ∙ ap (λ (xs : List Guest). record (world_in h gs) { guests = xs }) given)
 
 -- such a fault is the reader's, or the writer's, as that of the run is
 pub same_reads : {T : Type 0} (r : Result T Fault) (e : RunFault) → IsErrAnd r (λ f. f ≡ of_run e) → read_failures_of {T = T} (Err e) ≡ read_faults r

@@ -12,12 +12,10 @@ use Rattle.model_set_up.specs.SetUpWrites.{set_up_rules}
 use Rattle.model_guests.specs.Text.{Text, lines}
 use Rattle.model_guests.specs.Grammar.{has_name}
 use Rattle.model_guests.specs.World.{World, names, IsLawfulWorld}
-use Rattle.model_guests.specs.WorldNow.{WorldNow, world_at_first, output}
+use Rattle.model_guests.specs.WorldNow.{WorldNow, world_at_first, output, world_protocol}
 use Rattle.model_guests.specs.Isolation.{IsIsolated}
-use Rattle.model_guests.specs.Runs.{IsCut, world_protocol}
-use Rattle.model_handoff.specs.SetUpCase.{over_set_up}
-use Rattle.model_handoff.specs.WorldOver.{WorldOver}
-use Rattle.line_runs.specs.Pieces as pieces
+use Rattle.model_guests.specs.LineRuns.{IsCut}
+use Rattle.line_runs.specs.Pieces.{IsStoppedIn}
 use Rattle.simulation.specs.Listing.{Declares}
 
 pub record IsSetUp (board : Text) (w : World) : Type 0 where
@@ -25,11 +23,11 @@ pub record IsSetUp (board : Text) (w : World) : Type 0 where
   pub fits : first_broken (set_up_rules w.board w.apertures) ≡ None
 
 -- the world of the file, which is lawful, before any line
-pub record IsOpened (board : Text) (m : WorldOver) : Type 0 where
+pub record IsOpened (board : Text) (m : WorldNow) : Type 0 where
   pub world : World
   pub set_up : IsSetUp board world
   pub lawful : IsLawfulWorld world
-  pub begins : m ≡ over_set_up (world_at_first world)
+  pub begins : m ≡ world_at_first world
 
 -- the replies to each guest are those of its own functions, as lone register files, to its own lines and the moves that
 -- touch it
@@ -39,19 +37,16 @@ pub record IsRun (board : Text) (script old new : Option Text) : Type 0 where
   pub written : ForSome script (λ s. Appends old new (output (world_at_first world) (lines s)))
   pub isolated : (name script : Text) → IsTrue (has_name (names world) name) → IsIsolated world name script
 
--- within what some line of the script writes
-abbrev pub IsStoppedIn : WorldNow → Text → Option Text → Option Text → Option Text → Option Text → WorldNow → Type 0
-IsStoppedIn w script old_rest new_rest old new end =
-    pieces.IsStoppedIn world_protocol w script old_rest new_rest old new end
-
 pub record IsRunCut (board : Text) (old_rest new_rest old new : Option Text) : Type 0 where
   pub world : World
   pub set_up : IsSetUp board world
   pub end : WorldNow
-  pub cut : IsCut (world_at_first world) old_rest new_rest old new end
+  pub cut : IsCut world_protocol (world_at_first world) old_rest new_rest old new end
 
+-- within what some line of the script writes
 pub record IsRunStopped (board : Text) (old_rest new_rest old new : Option Text) : Type 0 where
   pub world : World
   pub set_up : IsSetUp board world
   pub end : WorldNow
-  pub stopped : ForSome old_rest (λ s. IsStoppedIn (world_at_first world) s old_rest new_rest old new end)
+  pub stopped : ForSome old_rest (λ s.
+      IsStoppedIn world_protocol (world_at_first world) s old_rest new_rest old new end)

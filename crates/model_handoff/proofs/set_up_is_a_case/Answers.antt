@@ -1,4 +1,4 @@
-use Rattle.model_handoff.proofs.SetUpCase.{set_up_is_handoff, set_up_is_in_order, set_up_can_be_given, set_up_places, set_up_addresses, same_state, same_line, same_output}
+use Rattle.model_handoff.proofs.SetUpCase.{set_up_is_handoff, set_up_is_in_order, set_up_can_be_given, set_up_places, set_up_addresses}
 use Rattle.model_handoff.proofs.set_up_is_a_case.Goals as goal
 
 pub returns : goal.returns
@@ -8,7 +8,4 @@ returns c = record {
   given = set_up_can_be_given;
   places = set_up_places;
   addresses = set_up_addresses;
-  state = same_state;
-  line = same_line;
-  output = same_output;
 }

@@ -1,7 +1,7 @@
 use Rattle.std.proofs.Common.{◌++◌, ◌∷◌, [], List, ap, sym, ◌∙◌}
 use Rattle.model_guests.specs.Text.{Text}
 use Rattle.model_guests.specs.Replies.{line_text}
-use Rattle.model_handoff.specs.WorldOver.{names_now}
+use Rattle.model_guests.specs.WorldNow.{names_now}
 use Rattle.accesses.specs.Accesses.{reply_of}
 use Rattle.lines.specs.Lines.{who_of}
 use Rattle.script.proofs.LineAnswers.{who_among}

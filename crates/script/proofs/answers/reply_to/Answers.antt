@@ -3,7 +3,7 @@ use Rattle.model_guests.specs.Accesses.{access, raises}
 use Rattle.model_guests.specs.Grammar.{guest, host}
 use Rattle.model_guests.specs.Lines.{guest_event, meaning}
 use Rattle.model_guests.specs.Replies.{line_text}
-use Rattle.model_handoff.specs.WorldOver.{names_now}
+use Rattle.model_guests.specs.WorldNow.{names_now}
 use Rattle.accesses.specs.Accesses.{access_of, part_of, reply_of}
 use Rattle.lines.specs.Lines.{texts, name_of, meaning_of, GuestsAre}
 use Rattle.lines.specs.declared.line.What.{What}

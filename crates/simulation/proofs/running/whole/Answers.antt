@@ -4,18 +4,15 @@ use Rattle.model_registers.specs.DeclarationRules.{first_broken}
 use Rattle.model_set_up.specs.SetUpWrites.{set_up_rules}
 use Rattle.model_guests.specs.World.{World}
 use Rattle.model_guests.specs.Text.{lines}
-use Rattle.model_guests.specs.WorldNow.{world_at_first}
-use Rattle.model_handoff.specs.RunsOver.{IsCut, with_guests_of}
-use Rattle.model_handoff.specs.WorldOver.{WorldOver, output}
-use Rattle.model_handoff.proofs.RunsOver.{same_cut}
-use Rattle.model_handoff.proofs.SetUpCase.{same_output}
+use Rattle.model_guests.specs.WorldNow.{WorldNow, world_protocol, output}
+use Rattle.model_guests.specs.LineRuns.{IsCut}
 use Rattle.model_guests.proofs.Isolation.{isolated}
-use Rattle.script.specs.Stops.{IsStoppedIn}
+use Rattle.line_runs.specs.Pieces.{IsStoppedIn}
 use Rattle.simulation.specs.Faults.{number_of}
 use Rattle.simulation.specs.Listing.{Declares, Refuses}
 use Rattle.simulation.specs.declared.fault.Fault.{Fault}
 use Rattle.simulation.proofs.Listed.{by_error}
-use Rattle.simulation.proofs.Ran.{stopped_in, of_run_large, read_failed, write_failed, same_reads, same_writes}
+use Rattle.simulation.proofs.Ran.{of_run_large, read_failed, write_failed, same_reads, same_writes}
 use Rattle.simulation.proofs.running.whole.Goals as goal
 
 pub returns-in_err-monitor-clause-placement : goal.returns-in_err-monitor-clause-placement
@@ -51,10 +48,9 @@ returns-in_err-run-clause-cut g c is =
     record {
       world = opened.world;
       set_up = opened.set_up;
-      end = with_guests_of c.run.new.monitor (world_at_first opened.world);
-      cut = same_cut (world_at_first opened.world) (g.R.Reader.rest c.args.reader.now) (g.R.Reader.rest c.run.new.reader) (g.W.Writer.written c.args.writer.now) (g.W.Writer.written c.run.new.writer) c.run.new.monitor
-          (subst (λ (m : WorldOver). IsCut m (g.R.Reader.rest c.args.reader.now) (g.R.Reader.rest c.run.new.reader) (g.W.Writer.written c.args.writer.now) (g.W.Writer.written c.run.new.writer) c.run.new.monitor) opened.begins
-          (c.in_err-run.ensures.cut (ap Err fault)));
+      end = c.run.new.monitor;
+      cut = subst (λ (m : WorldNow). IsCut world_protocol m (g.R.Reader.rest c.args.reader.now) (g.R.Reader.rest c.run.new.reader) (g.W.Writer.written c.args.writer.now) (g.W.Writer.written c.run.new.writer) c.run.new.monitor) opened.begins
+          (c.in_err-run.ensures.cut (ap Err fault));
     }
 
 pub returns-in_err-run-clause-stopped : goal.returns-in_err-run-clause-stopped
@@ -64,10 +60,9 @@ returns-in_err-run-clause-stopped g c is =
     record {
       world = opened.world;
       set_up = opened.set_up;
-      end = with_guests_of c.run.new.monitor (world_at_first opened.world);
-      stopped = λ s known. stopped_in (world_at_first opened.world) s (g.R.Reader.rest c.args.reader.now) (g.R.Reader.rest c.run.new.reader) (g.W.Writer.written c.args.writer.now) (g.W.Writer.written c.run.new.writer) c.run.new.monitor
-          (subst (λ (m : WorldOver). IsStoppedIn m s (g.R.Reader.rest c.args.reader.now) (g.R.Reader.rest c.run.new.reader) (g.W.Writer.written c.args.writer.now) (g.W.Writer.written c.run.new.writer) c.run.new.monitor) opened.begins
-          (c.in_err-run.ensures.stopped (ap Err fault) s known));
+      end = c.run.new.monitor;
+      stopped = λ s known. subst (λ (m : WorldNow). IsStoppedIn world_protocol m s (g.R.Reader.rest c.args.reader.now) (g.R.Reader.rest c.run.new.reader) (g.W.Writer.written c.args.writer.now) (g.W.Writer.written c.run.new.writer) c.run.new.monitor) opened.begins
+          (c.in_err-run.ensures.stopped (ap Err fault) s known);
     }
 
 pub returns-clause-output : goal.returns-clause-output
@@ -76,7 +71,7 @@ returns-clause-output g c =
     record {
       world = opened.world;
       set_up = opened.set_up;
-      written = λ s known. subst (Appends (g.W.Writer.written c.args.writer.now) (g.W.Writer.written c.run.new.writer)) (same_output opened.world (lines s)).writes
-          (subst (λ (m : WorldOver). Appends (g.W.Writer.written c.args.writer.now) (g.W.Writer.written c.run.new.writer) (output m (lines s))) opened.begins (c.in_ok-run.ensures.output s known));
+      written = λ s known.
+          subst (λ (m : WorldNow). Appends (g.W.Writer.written c.args.writer.now) (g.W.Writer.written c.run.new.writer) (output m (lines s))) opened.begins (c.in_ok-run.ensures.output s known);
       isolated = isolated opened.world opened.lawful.guests.lawful_names;
     }

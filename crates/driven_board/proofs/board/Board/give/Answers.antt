@@ -2,13 +2,14 @@ use Rattle.std.proofs.Common.{◌≡◌, List, None, subst}
 use Rattle.model_guests.specs.Text.{Text}
 use Rattle.model_guests.specs.World.{Guest}
 use Rattle.model_handoff.specs.Regions.{first_fault}
-use Rattle.model_handoff.specs.WorldOver.{world_over}
+use Rattle.model_guests.specs.WorldNow.{world_over}
 use Rattle.board_file.specs.Meaning.{world_in}
-use Rattle.monitor.specs.Beginnings.{world_on, taken_over}
+use Rattle.monitor.specs.Beginnings.{world_on}
 use Rattle.simulation.specs.Listing.{Declares}
 use Rattle.driven_board.specs.Boards.{BoardNow}
 use Rattle.driven_board.specs.Giving.{IsGiven}
 use Rattle.driven_board.proofs.Given.{is_given}
+use Rattle.model_handoff.specs.Handoffs.{taken_over}
 use Rattle.driven_board.proofs.board.Board.give.Goals as goal
 
 pub returns-in-Ok-take-clause-given : goal.returns-in-Ok-take-clause-given

@@ -5,7 +5,7 @@ use Rattle.monitor.specs.Views.{texts, world_shown}
 use Rattle.monitor.specs.DeviceBytes.{device_byte}
 use Rattle.model_devices.specs.DeviceEvents.{device_reads}
 use Rattle.model_devices.proofs.Bytes.{reads_leave_guests}
-use Rattle.model_handoff.specs.WorldOver.{WorldOver}
+use Rattle.model_guests.specs.WorldNow.{WorldNow}
 use Rattle.host_bridge.specs.HostState.{HostState}
 use Rattle.monitor.specs.ByIndex.{name_nth}
 use Rattle.monitor.proofs.DeviceSteps.{device_read, path_reached, refused_there}
@@ -31,7 +31,7 @@ returns-in-Ok-clause-after g c =
     let e = c.self.inside in
     let now = c.args.self.now in
     ap (λ (k : HostState). world_shown k (texts e.names) e.guests.items) c.device_value.ensures.after ∙ c.self.view_is
-    ∙ ap (λ (xs : GuestsNow). let v : WorldOver = record now { guests = xs } in v) (sym (reads_leave_guests (name_nth now c.args.guest) (device_byte c.args.slot c.args.place c.args.off) now.guests))
+    ∙ ap (λ (xs : GuestsNow). let v : WorldNow = record now { guests = xs } in v) (sym (reads_leave_guests (name_nth now c.args.guest) (device_byte c.args.slot c.args.place c.args.off) now.guests))
 
 pub returns-in-Err-clause-reply : goal.returns-in-Err-clause-reply
 returns-in-Err-clause-reply g c =

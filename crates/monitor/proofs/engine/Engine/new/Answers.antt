@@ -2,11 +2,11 @@ use Rattle.std.proofs.Common.{◌≡◌, List, ap, sym, ◌∙◌, subst}
 use Rattle.model_set_up.specs.FunctionTable.{TableRow}
 use Rattle.model_set_up.specs.SetUpWrites.{Plan}
 use Rattle.model_guests.specs.World.{World, HasLawfulGuests}
-use Rattle.model_handoff.specs.Handoffs.{IsHandoff}
+use Rattle.model_handoff.specs.Handoffs.{IsHandoff, taken_over}
 use Rattle.model_handoff.specs.Regions.{CanBeGiven}
-use Rattle.model_handoff.specs.WorldOver.{WorldOver, world_over}
+use Rattle.model_guests.specs.WorldNow.{WorldNow, world_over}
 use Rattle.host_bridge.specs.HostState.{HostState}
-use Rattle.monitor.specs.Beginnings.{world_on, taken_over}
+use Rattle.monitor.specs.Beginnings.{world_on}
 use Rattle.monitor.proofs.FirstWorlds.{ready_handoff, ready_given, ready_world}
 use Rattle.monitor.proofs.engine.Engine.new.Goals as goal
 
@@ -33,5 +33,5 @@ over-requires-clause-given g c =
 pub returns-in-Ok : goal.returns-in-Ok
 returns-in-Ok g c =
     let host : c.into_parts-host.result.0 ≡ c.args.ready.host = ap (λ (x : HostState × List TableRow × Plan). x.0) c.into_parts-host.ensures.parts in
-    let left : HostState → WorldOver = λ (h : HostState). let w : World = world_on h c.args.guests.now in world_over w (taken_over w h.state) in
+    let left : HostState → WorldNow = λ (h : HostState). let w : World = world_on h c.args.guests.now in world_over w (taken_over w h.state) in
     c.in-Ok.ensures.made ∙ ap left host ∙ ready_world c.args.ready c.into_parts-host.ensures.ready c.args.guests.now c.requires.lawful

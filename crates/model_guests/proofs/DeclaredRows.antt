@@ -1,0 +1,43 @@
+-- The rows of a board by their paths.
+use Rattle.std.proofs.Common.{◌≡◌, Bool, true, false, cond, [], ◌∷◌, Some, None, inl, inr, refl, sym, ap, ◌∙◌}
+use Rattle.std.specs.Prelude.{find, IsTrue}
+use Rattle.std.specs.Option.{option_map_or}
+use Rattle.lists.specs.Elements.{Each, EachPair, IsIn}
+use Rattle.model_registers.specs.Declarations.{Endpoint}
+use Rattle.model_board.specs.Paths.{Path, path_eq, path_before}
+use Rattle.model_board.specs.Board.{Decl, endpoint, bridge, Row, Board}
+use Rattle.model_board.proofs.PathEnds.{path_self}
+use Rattle.model_board.proofs.PathOrder.{path_same}
+use Rattle.model_board.proofs.PlacesLaw.{before_apart}
+use Rattle.model_guests.specs.World.{declared, endpoint_of}
+
+-- in path order each row is found by its path
+pub rows_found : (b : Board) → EachPair (λ r s. IsTrue (path_before r.path s.path)) b → Each (λ r. declared b r.path ≡ endpoint_of r) b
+rows_found [] ordered = tt
+rows_found (r ∷ rs) ordered = (here, later rs ordered.0 (rows_found rs ordered.1))
+  where
+    here : declared (r ∷ rs) r.path ≡ endpoint_of r
+    here = let self : path_eq r.path r.path ≡ true = path_self r.path in rw self
+
+    later : (ss : Board) → Each (λ s. IsTrue (path_before r.path s.path)) ss → Each (λ s. declared rs s.path ≡ endpoint_of s) ss → Each (λ s. declared (r ∷ rs) s.path ≡ endpoint_of s) ss
+    later [] before found = tt
+    later (s ∷ ss) before found = let other : path_eq r.path s.path ≡ false = before_apart r.path s.path before.0 in (rw other found.0, later ss before.1 found.1)
+
+abbrev endpoint_row : Path → Endpoint → Row
+endpoint_row p d = record { path = p; decl = endpoint d }
+
+-- what is declared at a path stands there
+pub declared_row : (b : Board) (p : Path) (d : Endpoint) → declared b p ≡ Some d → IsIn (endpoint_row p d) b
+declared_row [] p d h = cc
+declared_row (r ∷ rs) p d h = cases (path_eq r.path p) refl h (declared_row rs p d)
+  where
+    here : (decl : Decl) → r.decl ≡ decl → endpoint_of r ≡ Some d → r.path ≡ p → endpoint_row p d ≡ r
+    here (endpoint c) e h same =
+        let is : c ≡ d = cc (sym (ap (λ (x : Decl). endpoint_of (record r { decl = x })) e) ∙ h) in
+        λ i. record { path = sym same i; decl = sym (e ∙ ap endpoint is) i }
+    here (bridge c) e h same = cc (sym (ap (λ (x : Decl). endpoint_of (record r { decl = x })) e) ∙ h)
+
+    cases : (t : Bool) → path_eq r.path p ≡ t → option_map_or endpoint_of (cond t (Some r) (find (λ (x : Row). path_eq x.path p) rs)) None ≡ Some d
+        → (declared rs p ≡ Some d → IsIn (endpoint_row p d) rs) → IsIn (endpoint_row p d) (r ∷ rs)
+    cases true e h more = inl (here r.decl refl h (path_same r.path p e))
+    cases false e h more = inr (more h)

@@ -1,0 +1,138 @@
+-- A handoff with the files of seated guests in it is a handoff of the same board, and so is what guests get of one.
+use Rattle.std.proofs.Common.{◌≡◌, ℕ, ◌+◌, ◌*◌, List, [], ◌∷◌, Some, None, Option, refl, sym, ap, ap₂, ◌∙◌, subst}
+use Rattle.std.specs.Prelude.{map, filter, find, option_map}
+use Rattle.std.specs.Option.{option_map_or}
+use Rattle.lists.specs.Elements.{Each}
+use Rattle.model_registers.specs.Registers.{File, config}
+use Rattle.model_registers.specs.Cell.{Cell}
+use Rattle.model_registers.specs.Declarations.{Region}
+use Rattle.model_registers.specs.CopiedFiles.{agreed_file}
+use Rattle.model_registers.specs.Decoding.{command_word, opens_space, space_of}
+use Rattle.model_board.specs.Paths.{Path, path_eq}
+use Rattle.model_board.specs.Board.{Board, Decl, endpoint, bridge}
+use Rattle.model_board.specs.AtReset.{board_at}
+use Rattle.model_board.specs.Ports.{file_at}
+use Rattle.model_board.specs.Routing.{RoutingRow, routing}
+use Rattle.model_board.specs.State.{BoardFunction, State}
+use Rattle.model_set_up.specs.PlacedRegions.{PlacedRegion}
+use Rattle.model_audit.specs.Found.{address_now}
+use Rattle.model_audit.specs.OpenRegions.{closed_regions}
+use Rattle.model_audit.specs.Witnesses.{IsInOrder}
+use Rattle.model_guests.specs.World.{World, HasLawfulGuests}
+use Rattle.model_guests.specs.Guests.{GuestsNow, guests_at_first, file_of}
+use Rattle.model_guests.specs.AgreedBoard.{agreed_function, state_over}
+use Rattle.model_guests.specs.Seated.{AreSeated}
+use Rattle.model_guests.specs.WorldNow.{world_over}
+use Rattle.model_guests.proofs.AgreedChanges.{agreed_by}
+use Rattle.model_guests.proofs.AgreedFiles.{agreed_places, agreed_kept}
+use Rattle.model_guests.proofs.SeatedFirst.{seated_at_first}
+use Rattle.model_handoff.specs.Handoffs.{IsHandoff, HasDeclaredPlaces, HasPlacesOf, is_given, taken_over}
+use Rattle.model_handoff.specs.Kept.{IsLawfulOver}
+use Rattle.model_handoff.specs.Regions.{opens_region, CanBeGiven}
+use Rattle.model_handoff.specs.ViewLaws.{with_seated_reset}
+use Rattle.model_handoff.proofs.First.{first_is_reset}
+use Rattle.model_handoff.proofs.Functions.{path_stays, decl_stays}
+use Rattle.model_handoff.proofs.Keeping.{find_path, keeps_board, keeps_routing, keeps_addresses, stays_in_order}
+use Rattle.model_handoff.proofs.Kept.{lawful_at_first}
+use Rattle.model_handoff.proofs.Regions.{state_stays}
+use Rattle.model_handoff.proofs.Views.{over_reset, reset_at_first}
+
+-- ---- cells stand where they stood
+
+of_decl : (d : Decl) (file own : File) → HasPlacesOf d file → HasPlacesOf d (agreed_file file own)
+of_decl (endpoint d) file own h = agreed_places file own ∙ h
+of_decl (bridge d) file own h = tt
+
+places_of_one : (o : Option File) (f : BoardFunction) → HasDeclaredPlaces f → HasDeclaredPlaces (agreed_by o f)
+places_of_one None f h = h
+places_of_one (Some own) f h = of_decl f.decl f.file own h
+
+places_stay : (files : Path → Option File) (fs : List BoardFunction) → Each HasDeclaredPlaces fs → Each HasDeclaredPlaces (map (agreed_function files) fs)
+places_stay files [] h = tt
+places_stay files (f ∷ fs) h = (places_of_one (files f.path) f h.0, places_stay files fs h.1)
+
+-- ---- Command stays, as guests have copies of it
+
+command_stays : (left own : File) → command_word (agreed_file left own) ≡ command_word left
+command_stays left own = ap₂ (λ (x y : Cell). x.value + 256 * (y.value + 256 * 0)) (agreed_kept left own (config 4) refl) (agreed_kept left own (config 5) refl)
+
+module _ (files : Path → Option File) where
+  command_by : (o : Option File) (f : BoardFunction) → command_word (agreed_by o f).file ≡ command_word f.file
+  command_by None f = refl
+  command_by (Some own) f = command_stays f.file own
+
+  command_found : (o : Option BoardFunction)
+      → command_word (option_map_or (λ (f : BoardFunction). f.file) (option_map (agreed_function files) o) []) ≡ command_word (option_map_or (λ (f : BoardFunction). f.file) o [])
+  command_found None = refl
+  command_found (Some f) = command_by (files f.path) f
+
+  pub command_at : (fs : List BoardFunction) (p : Path) → command_word (file_at (map (agreed_function files) fs) p) ≡ command_word (file_at fs p)
+  command_at fs p =
+      ap (λ (o : Option BoardFunction). command_word (option_map_or (λ (f : BoardFunction). f.file) o []))
+      (find_path (agreed_function files) (λ f. path_stays (files f.path) f) (λ f. decl_stays (files f.path) f) (λ f. path_eq f.path p) (λ f. path_eq f.path p)
+      (λ f. ap (λ (q : Path). path_eq q p) (path_stays (files f.path) f)) fs)
+      ∙ command_found (find (λ f. path_eq f.path p) fs)
+
+-- ---- the states
+
+pub record IsAlike (s t : State) : Type 0 where
+  pub handoff : IsHandoff t
+  pub board : board_at t.functions ≡ board_at s.functions
+  pub routing_is : routing t.functions ≡ routing s.functions
+  pub addresses : (q : Path) → address_now t.functions q ≡ address_now s.functions q
+  pub order : IsInOrder s.functions → IsInOrder t.functions
+  pub opens : (q : Path) (r : Region) → opens_region t q r ≡ opens_region s q r
+
+pub alike_over : (s : State) → IsHandoff s → (gs : GuestsNow) → AreSeated (board_at s.functions) gs → IsAlike s (state_over s gs)
+alike_over s handoff gs seated = record {
+  handoff = record { board = state_stays s handoff.board gs; places = places_stay (file_of gs) s.functions handoff.places };
+  board = keeps_board s gs;
+  routing_is = keeps_routing s handoff.board gs seated;
+  addresses = keeps_addresses s handoff.board gs seated;
+  order = stays_in_order s handoff.board gs seated;
+  opens = λ q r. ap (λ (c : ℕ). opens_space c (space_of r.kind)) (command_at (file_of gs) s.functions q);
+}
+
+-- whatever the address latch holds
+with_latch_clear : (s t : State) → IsAlike s t → IsAlike s (record t { latch = 0 })
+with_latch_clear s t h = record {
+  handoff = record { board = h.handoff.board; places = h.handoff.places };
+  board = h.board;
+  routing_is = h.routing_is;
+  addresses = h.addresses;
+  order = h.order;
+  opens = h.opens;
+}
+
+-- ---- what guests get
+
+module _ (w : World) (s : State) (handoff : IsHandoff s) (same : board_at s.functions ≡ w.board) (guests : HasLawfulGuests w) where
+  abbrev gs : GuestsNow
+  gs = guests_at_first w
+
+  seated : AreSeated (board_at s.functions) gs
+  seated = subst (λ (b : Board). AreSeated b gs) (sym same) (seated_at_first w guests)
+
+  pub taken_alike : IsAlike s (taken_over w s)
+  taken_alike =
+      subst (λ (x : State). IsAlike s (record x { latch = 0 })) (first_is_reset w s) (with_latch_clear s (state_over s gs) (alike_over s handoff gs seated))
+
+  taken_board : board_at (taken_over w s).functions ≡ w.board
+  taken_board = taken_alike.board ∙ same
+
+  pub taken_lawful : CanBeGiven w s → IsLawfulOver (world_over w (taken_over w s))
+  taken_lawful can =
+      lawful_at_first w (taken_over w s) taken_alike.handoff taken_board guests
+      (record {
+        order = taken_alike.order can.order;
+        none_closed = ap (λ (rows : List RoutingRow). filter (λ (q : PlacedRegion). is_given w q.path) (closed_regions rows)) taken_alike.routing_is ∙ can.none_closed;
+      })
+
+  -- the guests' files stand there already
+  pub taken_agrees : state_over (taken_over w s) gs ≡ taken_over w s
+  taken_agrees =
+      ap (λ (x : State). let c : State = record x { latch = 0 } in c)
+      (ap (λ (x : State). state_over x gs) (sym (reset_at_first w s same)) ∙ over_reset s gs seated ∙ first_is_reset w s)
+
+  pub taken_shown : with_seated_reset (taken_over w s) gs ≡ taken_over w s
+  taken_shown = reset_at_first w (taken_over w s) taken_board ∙ sym (first_is_reset w (taken_over w s)) ∙ taken_agrees

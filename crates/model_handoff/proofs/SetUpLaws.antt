@@ -1,0 +1,116 @@
+-- What holds over any handoff holds over what set-up leaves.
+use Rattle.std.proofs.Common.{◌≡◌, ℕ, ◌+◌, ◌≤◌, true, false, ◌&&◌, cond, List, Some, sym, ap, ◌∙◌, subst, arith, eqb}
+use Rattle.std.specs.Prelude.{nat_le}
+use Rattle.std.proofs.lemmas.Bool.Decides.{nat_tests}
+use Rattle.lists.specs.Elements.{IsIn}
+use Rattle.lists.proofs.EachLemmas.{each_of_map, each_map}
+use Rattle.lists.proofs.Tests.{and_false}
+use Rattle.model_registers.specs.Registers.{File, cell_at}
+use Rattle.model_registers.specs.Apertures.{Apertures}
+use Rattle.model_registers.specs.ConfigAddress.{is_enabled, is_data_port, selected_offset}
+use Rattle.model_registers.specs.Decoding.{Space}
+use Rattle.model_registers.specs.EndpointTable.{endpoint_reset}
+use Rattle.model_registers.proofs.HitRegions.{hit_is_of_region}
+use Rattle.model_board.specs.Paths.{Path}
+use Rattle.model_board.specs.Board.{Decl, endpoint, bridge, Row, Board}
+use Rattle.model_board.specs.Claims.{first_claim}
+use Rattle.model_board.specs.Lawful.{IsLawfulDecl}
+use Rattle.model_board.specs.Ports.{config_address, config_data, ordinary, port_target, selected}
+use Rattle.model_board.specs.Routing.{routing}
+use Rattle.model_board.specs.State.{BoardFunction, State}
+use Rattle.model_set_up.specs.Reach.{HasNumbers}
+use Rattle.model_set_up.specs.SetUp.{first_of, set_up_file, set_up_state}
+use Rattle.model_set_up.proofs.PlacedRegions.{placed_within}
+use Rattle.model_set_up.proofs.SetUpNumbers.{set_up_has_numbers}
+use Rattle.model_set_up.proofs.UniqueClaimant.{claim_of_region}
+use Rattle.model_set_up_audit.proofs.Placing.{left}
+use Rattle.model_guests.specs.Guests.{GuestsNow}
+use Rattle.model_guests.specs.AgreedBoard.{state_over}
+use Rattle.model_guests.specs.AgreedLaws.{Agrees}
+use Rattle.model_guests.specs.Seated.{AreSeated}
+use Rattle.model_guests.proofs.AgreedFiles.{agreed_common}
+use Rattle.model_guests.proofs.DeclaredRows.{declared_row}
+use Rattle.model_guests.proofs.DistinctPlaces.{distinct_places}
+use Rattle.model_guests.proofs.TablePlaces.{alike_places, agreed_at_reset}
+use Rattle.model_handoff.specs.Handoffs.{is_given, HoldsReset}
+use Rattle.model_handoff.specs.AgreementLaws.{OverHandoffs}
+use Rattle.model_handoff.specs.SetUpLaws.{OverSetUp, SetUpAgrees, SetUpIsOnly, SetUpAtFirst, SetUpKeepsRouting, SetUpKeepsNumbers, HitReachesRegion}
+use Rattle.model_handoff.proofs.Agreement.{state_agrees, state_is_only}
+use Rattle.model_handoff.proofs.First.{first_is_handoff}
+use Rattle.model_handoff.proofs.Keeping.{keeps_numbers, keeps_routing}
+use Rattle.model_handoff.proofs.Regions.{lanes_of}
+use Rattle.model_handoff.proofs.SetUpCase.{alike, set_up_is_handoff}
+
+of_handoffs : (P : State → GuestsNow → Type 0) → OverHandoffs P → OverSetUp P
+of_handoffs P holds b a board decls gs seated =
+    let handoff = set_up_is_handoff b a board decls in
+    holds (set_up_state b a) handoff.0 gs (subst (λ (x : Board). AreSeated x gs) (sym handoff.1) seated)
+
+pub set_up_agrees : SetUpAgrees
+set_up_agrees = of_handoffs (λ s gs. Agrees s gs (state_over s gs)) state_agrees
+
+pub set_up_is_only : SetUpIsOnly
+set_up_is_only = of_handoffs (λ s gs. (now : State) → Agrees s gs now → now ≡ state_over s gs) state_is_only
+
+pub set_up_keeps_routing : SetUpKeepsRouting
+set_up_keeps_routing =
+    of_handoffs (λ s gs. routing (state_over s gs).functions ≡ routing s.functions) (λ s handoff gs seated. keeps_routing s handoff.board gs seated)
+
+pub set_up_keeps_numbers : SetUpKeepsNumbers
+set_up_keeps_numbers b a board decls gs seated few =
+    let s : State = set_up_state b a in
+    let handoff = set_up_is_handoff b a board decls in
+    subst (λ (x : Board). HasNumbers x (state_over s gs).functions) handoff.1
+    (keeps_numbers s handoff.0.board gs (subst (λ (x : Board). AreSeated x gs) (sym handoff.1) seated)
+    (subst (λ (x : Board). HasNumbers x s.functions) (sym handoff.1) (set_up_has_numbers b a few)))
+
+-- ---- at first
+
+-- set-up writes no other register of an endpoint than those of which guests have copies
+holds_reset : (b : Board) (a : Apertures) (p : Path) (d : Decl) → IsLawfulDecl d → HoldsReset d (set_up_file b a p d)
+holds_reset b a p (endpoint d) lawful = λ q other.
+    let reset : File = endpoint_reset d false in
+    let file : File = set_up_file b a p (endpoint d) in
+    ap (λ (f : File). cell_at f q) (sym (agreed_at_reset reset file (distinct_places d lawful false 0 (λ r. 0)) (alike b a p d lawful)))
+    ∙ agreed_common file reset q (alike_places reset file (alike b a p d lawful)) other
+holds_reset b a p (bridge d) lawful = tt
+
+pub set_up_at_first : SetUpAtFirst
+set_up_at_first w lawful =
+    let handoff = set_up_is_handoff w.board w.apertures lawful.board lawful.functions in
+    first_is_handoff w (set_up_state w.board w.apertures) handoff.0 handoff.1
+    (each_of_map (λ (f : BoardFunction). is_given w f.path ≡ true → HoldsReset f.decl f.file) (left w.board w.apertures) w.board
+    (each_map (λ (r : Row). IsLawfulDecl r.decl) (λ (r : Row). is_given w r.path ≡ true → HoldsReset r.decl (set_up_file w.board w.apertures r.path r.decl)) w.board
+    (λ r h given. holds_reset w.board w.apertures r.path r.decl h) lawful.functions))
+
+-- ---- regions
+
+no_less : (first off : ℕ) → 0x1000 ≤ first → 0x1000 ≤ first + off
+no_less first off h = omega arith
+
+beyond_the_latch : (n latch w : ℕ) → 0x1000 ≤ n → port_target latch n w ≡ ordinary
+beyond_the_latch n latch w h =
+    let no_address : eqb n 0xcf8 ≡ false = grind (arith, nat_tests, h) in
+    let no_data : nat_le n 0xcff ≡ false = grind (arith, nat_tests, h) in
+    let elsewhere : is_data_port n ≡ false = ap (λ t. nat_le 0xcfc n && t) no_data ∙ and_false (nat_le 0xcfc n) in
+    ap (λ t. cond (t && eqb w 4) config_address (cond (is_enabled latch && is_data_port n) (config_data (selected latch) (selected_offset latch n)) ordinary)) no_address
+    ∙ ap (λ t. cond (is_enabled latch && t) (config_data (selected latch) (selected_offset latch n)) ordinary) elsewhere
+    ∙ ap (λ t. cond t (config_data (selected latch) (selected_offset latch n)) ordinary) (and_false (is_enabled latch))
+
+pub hit_reaches_region : HitReachesRegion
+hit_reaches_region b a can gs seated p f seat space n h e =
+    let at = hit_is_of_region f.file f.decl.regions space n h e in
+    let row : IsIn (record { path = p; decl = endpoint f.decl }) b = declared_row b p f.decl seat.decl in
+    let fs : List BoardFunction = (state_over (set_up_state b a) gs).functions in
+    let within = placed_within b a can p f.decl row at.0 at.1 in
+    let claim = claim_of_region b a can fs (set_up_keeps_routing b a can.places can.declarations gs seated) p f.decl row at.0 at.1 h.offset at.2.inside in
+    record {
+      region = at.0;
+      declared = at.1;
+      hit = at.2;
+      within = within;
+      claimed = ap (λ (s : Space). first_claim fs s (first_of b a p at.0 + h.offset)) (sym at.2.space_is) ∙ claim
+          ∙ ap (λ (k : ℕ). Some (record { path = p; index = k; offset = h.offset })) (sym at.2.index);
+      lanes = lanes_of (first_of b a p at.0) h.offset n within.aligned at.2.lanes;
+      ordinary_port = λ i latch w. beyond_the_latch (first_of b a p at.0 + h.offset) latch w (no_less (first_of b a p at.0) h.offset (within.io_begins (at.2.space_is ∙ i)));
+    }
