@@ -37,11 +37,7 @@ pub record FitBytes (n : BusNumbers) : Type 0 where
 
 header_written : (d : Bridge) (multifunction : Bool) (n : BusNumbers) (v : ℕ) (m : BusNumbers) → v % 256 ≡ m.primary % 256 → v / 256 % 256 ≡ m.secondary % 256 → v / 256 / 256 % 256 ≡ m.subordinate % 256
     → write (lanes 7) v (config 0x18) (bridge_header d multifunction (with_numbers n)) ≡ bridge_header d multifunction (with_numbers m)
-header_written d multifunction n v m e f g =
-    let one : written (v % 256) (settable n.primary) ≡ settable m.primary = byte_set n.primary v ∙ ap byte e in
-    let two : written (v / 256 % 256) (settable n.secondary) ≡ settable m.secondary = byte_set n.secondary (v / 256) ∙ ap byte f in
-    let three : written (v / 256 / 256 % 256) (settable n.subordinate) ≡ settable m.subordinate = byte_set n.subordinate (v / 256 / 256) ∙ ap byte g in
-    cc (one, two, three)
+header_written d multifunction n v m e f g = grind (arith, byte_set)
 
 io_stays : (io : IoDecode) (v : ℕ) → write (lanes 7) v (config 0x18) (io_cells io no_window) ≡ io_cells io no_window
 io_stays no_io v = refl

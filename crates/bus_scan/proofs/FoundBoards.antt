@@ -1,5 +1,5 @@
 -- What a scan leaves is a numbered board, and what sizing finds is itself a board with the same table.
-use Rattle.std.proofs.Common.{◌≡◌, List, sym, ap, ◌∙◌, subst}
+use Rattle.std.proofs.Common.{◌≡◌, List, sym, ap, ◌∙◌, subst, arith}
 use Rattle.model_board.specs.Board.{Board, IsBoard}
 use Rattle.model_board.specs.BusNumbers.{Enumerates}
 use Rattle.model_board.specs.Lawful.{HasLawfulDecls}
@@ -36,7 +36,4 @@ table_left h k same numbered t e = subst (λ (x : HostState). IsTableOf (board_a
 
 -- a table is that of the board that was found
 pub table_of_found : (b : Board) (t : List TableRow) → IsTableOf b t → IsTableOf (board_in t) t
-table_of_found b t h =
-    subst (λ (x : List TableRow). IsTableOf (board_in x) x) (sym h.sized)
-    (let found = placed_as_found b h.board h.declarations in
-    record { board = found.board; declarations = found.declarations; few = found_few b h.few; sized = sym found.table })
+table_of_found b t h = grind (arith, placed_as_found, found_few)

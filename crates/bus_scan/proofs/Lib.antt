@@ -7,11 +7,8 @@ pub mod ScanSights
 pub mod WriteBack
 pub mod ProbedFiles
 pub mod ProbedEndpoints
-pub mod ProbedBridges
 pub mod NumberedStates
 pub mod ReachedFiles
 pub mod SizedBars
 pub mod SizedFunctions
-pub mod BarSlots
-pub mod SizedTableRows
 pub mod TableSteps

@@ -1,16 +1,15 @@
 -- A numbered board: each function holds what its declaration says, and the bridges hold the board's numbers.
-use Rattle.std.proofs.Common.{◌≡◌, ◌+◌, ◌<◌, ◌≤◌, inl, inr, Bool, true, false, ◌&&◌, cond, List, [], ◌∷◌, map, Some, refl, sym, ap, ◌∙◌, subst, arith, eqb}
+use Rattle.std.proofs.Common.{◌≡◌, ◌+◌, ◌<◌, ◌≤◌, inl, inr, Bool, true, false, ◌&&◌, List, [], ◌∷◌, map, Some, refl, sym, ap, ◌∙◌, subst, arith}
 use Rattle.std.specs.Prelude.{count_by, IsTrue}
 use Rattle.std.proofs.lemmas.List.Sums.{sum_by-cons}
 use Rattle.lists.specs.Elements.{Each, EachPair, IsIn}
-use Rattle.model_registers.specs.BridgeTable.{bridge_file}
 use Rattle.model_board.specs.Paths.{Path, path_eq, path_before, leads_to}
-use Rattle.model_board.specs.Board.{Board, Row, Decl, endpoint, bridge, is_bridge, is_bridge_at, is_multifunction, IsBoard}
+use Rattle.model_board.specs.Board.{Board, Row, Decl, endpoint, bridge, is_bridge, is_bridge_at, IsBoard}
 use Rattle.model_board.specs.BusNumbers.{secondary, subordinate, bus_of}
 use Rattle.model_board.specs.State.{BoardFunction, State, row_at}
 use Rattle.model_board.specs.Cycles.{BusAddress, reached, secondary_register, subordinate_register}
 use Rattle.model_set_up.specs.Reach.{HasNumbers}
-use Rattle.model_set_up.specs.Scanning.{BusNumbers, board_numbers, numbers_in, with_numbers, numbered_file, IsNumbered}
+use Rattle.model_set_up.specs.Scanning.{BusNumbers, board_numbers, numbers_in, numbered_file, IsNumbered}
 use Rattle.model_board.specs.AtReset.{board_at}
 use Rattle.lists.proofs.Members.{each_in, each_from}
 use Rattle.lists.proofs.FirstFound.{each_found}
@@ -55,11 +54,7 @@ module _ (s : State) (h : IsNumbered s) where
 
   number_of : (f : BoardFunction) → IsIn f s.functions → (d : Decl) → f.decl ≡ d → is_bridge d ≡ true → numbers_in f.file ≡ board_numbers board f.path
   number_of f m (endpoint d) e k = cc
-  number_of f m (bridge d) e k =
-      let here : is_bridge_at board f.path ≡ true = bridge_of board h.board s.functions refl f m (ap is_bridge e) in
-      let file : f.file ≡ bridge_file d (is_multifunction board f.path) (with_numbers (board_numbers board f.path)) =
-      each_in HoldsNumbered f s.functions holds m ∙ ap (numbered_file board (board_numbers board) f.path) e in
-      ap numbers_in file ∙ numbers_read d (is_multifunction board f.path) (board_numbers board f.path) (numbers_fit board f.path h.few here)
+  number_of f m (bridge d) e k = grind (arith, bridge_of, each_in, holds, numbers_read, numbers_fit)
 
   pub has_numbers : HasNumbers (board_at s.functions) s.functions
   has_numbers = record {
@@ -75,11 +70,7 @@ module _ (s : State) (h : IsNumbered s) where
 
 -- what holds of each function holds of the one that is reached
 pub each_reached : (P : BoardFunction → Type 0) (fs : List BoardFunction) (at : BusAddress) (f : BoardFunction) → Each P fs → reached fs at ≡ Some f → P f
-each_reached P fs at f all e = by_bus (eqb at.bus 0) e
-  where
-    by_bus : (t : Bool) → cond t (Rattle.model_board.specs.Cycles.reached_type0 fs at.part) (Rattle.model_board.specs.Cycles.reached_type1 fs at.bus at.part) ≡ Some f → P f
-    by_bus true e = each_found P _ fs f all e
-    by_bus false e = each_found P _ fs f all e
+each_reached P fs at f all e = grind (arith, each_found)
 
 pub in_itself : (fs : List BoardFunction) → Each (λ f. IsIn f fs) fs
 in_itself fs = each_from (λ f. IsIn f fs) fs (λ f m. m)

@@ -1,83 +1,27 @@
 -- What the base address registers of an endpoint at reset read after all ones.
 --     mask_at      what the register at an index reads
-use Rattle.std.proofs.Common.{◌≡◌, ℕ, zero, suc, ◌+◌, ◌-◌, ◌*◌, ◌/◌, ◌%◌, ◌^◌, ◌<◌, ◌≤◌, ◌⊎◌, inl, inr, Bool, true, false, ◌&&◌, ◌||◌, cond, List, [], ◌∷◌, ◌++◌, length, refl, sym, ap₂, ◌∙◌, subst, arith, eqb, leb, ltb}
+use Rattle.std.proofs.Common.{◌≡◌, ℕ, ◌+◌, ◌-◌, ◌*◌, ◌/◌, ◌%◌, ◌^◌, ◌<◌, ◌≤◌, ◌⊎◌, inl, inr, Bool, false, ◌&&◌, cond, List, [], ◌∷◌, refl, sym, ◌∙◌, subst, arith, eqb}
 use Rattle.std.specs.Prelude.{flat_map}
-use Rattle.std.proofs.lemmas.Bool.{cases_eq, cases_lt, or_cases, and_parts, ne_eqb, ltb-true, leb-true, cond-true, cond-false, eq-eqb, and_from, and_left, and_right}
+use Rattle.std.proofs.lemmas.Bool.{cases_eq, cases_lt, ne_eqb, cond-true, cond-false, eq-eqb, and_from, and_left, and_right}
 use Rattle.lists.specs.Elements.{Each, EachPair}
 use Rattle.model_registers.specs.Cell.{Cell}
-use Rattle.model_registers.specs.Registers.{Place, config, block, place_eq, File, field, cells_from}
-use Rattle.model_registers.specs.FileLaws.{has_place, HasNone}
-use Rattle.model_registers.specs.Declarations.{registers_of, Bar, Region, IsLawfulRegion, Endpoint, ConfigBlock}
-use Rattle.model_registers.specs.DeclarationRules.{IsConfigBlock, IsLawfulEndpoint}
-use Rattle.model_registers.specs.EndpointTable.{base_register, base_cells, base_width, type_bits, region_cells, block_cells, header_cells, config_cells, endpoint_reset}
+use Rattle.model_registers.specs.Registers.{config, block, cells_from}
+use Rattle.model_registers.specs.FileLaws.{has_place}
+use Rattle.model_registers.specs.Declarations.{registers_of, Bar, Region, IsLawfulRegion, Endpoint}
+use Rattle.model_registers.specs.DeclarationRules.{IsLawfulEndpoint}
+use Rattle.model_registers.specs.EndpointTable.{base_register, base_cells, base_width, type_bits, region_cells, config_cells, endpoint_reset}
 use Rattle.model_registers.specs.Sizing.{mask_of}
-use Rattle.model_registers.proofs.RegisterFiles.{above, below}
 use Rattle.lists.proofs.EachLemmas.{each_map}
 use Rattle.model_registers.proofs.Bases.{registers_positive, one_or_two}
+use Rattle.bridge_forward.proofs.EndpointAccess.{none_from}
+use Rattle.bridge_forward.proofs.EndpointReset.{none_field, none_joined, reset_away}
 use Rattle.bus_scan.proofs.ProbedFiles.{all_four, Probed, probed_none, probed_first, probed_second, probed_low, probed_high}
 
 -- ---- places without cells
 
-none_from : (ons : List Bool) (a : ℕ) (file : File) → ((q : ℕ) → a ≤ q → q < a + length ons → has_place file (config q) ≡ false) → HasNone file (config a) ons
-none_from [] a file h = tt
-none_from (on ∷ ons) a file h = (λ _. h a (omega arith) (omega arith), none_from ons (a + 1) file (λ q low high. h q (omega arith) (omega arith)))
-
-has_append : (xs ys : File) (p : Place) → has_place xs p ≡ false → has_place ys p ≡ false → has_place (xs ++ ys) p ≡ false
-has_append [] ys p h k = k
-has_append (e ∷ es) ys p h k = by_first (place_eq e.place p) h (λ more. has_append es ys p more k)
-  where
-    by_first : (t : Bool) → (t || has_place es p) ≡ false → (has_place es p ≡ false → has_place (es ++ ys) p ≡ false) → (t || has_place (es ++ ys) p) ≡ false
-    by_first true h more = h
-    by_first false h more = more h
-
-field_lacks : (n a q v w c : ℕ) → (q < a) ⊎ (a + n ≤ q) → has_place (field (config a) n v w c) (config q) ≡ false
-field_lacks zero a q v w c h = refl
-field_lacks (suc n) a q v w c (inl low) = ap₂ (λ (s t : Bool). s || t) (above a q low) (field_lacks n (a + 1) q (v / 256) (w / 256) (c / 256) (inl (omega arith)))
-field_lacks (suc n) a q v w c (inr high) = ap₂ (λ (s t : Bool). s || t) (below q a (omega arith)) (field_lacks n (a + 1) q (v / 256) (w / 256) (c / 256) (inr (omega arith)))
-
-region_block_lacks : (cs : List Cell) (n a q : ℕ) → has_place (cells_from (block n a) cs) (config q) ≡ false
+pub region_block_lacks : (cs : List Cell) (n a q : ℕ) → has_place (cells_from (block n a) cs) (config q) ≡ false
 region_block_lacks [] n a q = refl
 region_block_lacks (c ∷ cs) n a q = region_block_lacks cs n (a + 1) q
-
-block_lacks : (cs : List Cell) (a q : ℕ) → q < a → has_place (cells_from (config a) cs) (config q) ≡ false
-block_lacks [] a q h = refl
-block_lacks (c ∷ cs) a q h = ap₂ (λ (s t : Bool). s || t) (above a q h) (block_lacks cs (a + 1) q (omega arith))
-
-blocks_lack : (bs : List ConfigBlock) (q : ℕ) → q < 0x40 → Each IsConfigBlock bs → has_place (flat_map block_cells bs) (config q) ≡ false
-blocks_lack [] q h all = refl
-blocks_lack (b ∷ bs) q h all = has_append (block_cells b) (flat_map block_cells bs) (config q) (block_lacks b.cells b.offset q (omega (arith, all.0.begins))) (blocks_lack bs q h all.1)
-
--- the place of no base address register
-is_outside : Place → Bool
-is_outside (config q) = ltb q 0x10 || leb 0x28 q
-is_outside (block n q) = true
-
-lies_outside : File → Bool
-lies_outside [] = true
-lies_outside (e ∷ es) = is_outside e.place && lies_outside es
-
-outside_apart : (p : Place) (q : ℕ) → is_outside p ≡ true → 0x10 ≤ q → q < 0x28 → place_eq p (config q) ≡ false
-unfolding is_outside
-outside_apart (block n a) q h low high = refl
-outside_apart (config a) q h low high = elim (or_cases (ltb a 0x10) (leb 0x28 a) h) [
-  | inl below ↦ ne_eqb a q (λ e. omega (arith, ltb-true a 0x10 below))
-  | inr above ↦ ne_eqb a q (λ e. omega (arith, leb-true 0x28 a above))
-]
-
-outside_lacks : (file : File) (q : ℕ) → lies_outside file ≡ true → 0x10 ≤ q → q < 0x28 → has_place file (config q) ≡ false
-unfolding lies_outside
-outside_lacks [] q h low high = refl
-outside_lacks (e ∷ es) q h low high =
-    let parts : (is_outside e.place ≡ true) × (lies_outside es ≡ true) = and_parts (is_outside e.place) (lies_outside es) h in
-    ap₂ (λ (s t : Bool). s || t) (outside_apart e.place q parts.0 low high) (outside_lacks es q parts.1 low high)
-
-header_outside : (d : Endpoint) (multifunction : Bool) → lies_outside (header_cells d multifunction 0) ≡ true
-unfolding lies_outside is_outside
-header_outside d multifunction = refl
-
-config_lacks : (d : Endpoint) (multifunction : Bool) → Each IsConfigBlock d.blocks → (q : ℕ) → 0x10 ≤ q → q < 0x28 → has_place (config_cells d multifunction 0) (config q) ≡ false
-config_lacks d multifunction blocks q low high =
-    has_append (header_cells d multifunction 0) (flat_map block_cells d.blocks) (config q) (outside_lacks (header_cells d multifunction 0) q (header_outside d multifunction) low high) (blocks_lack d.blocks q (omega arith) blocks)
 
 -- ---- regions
 
@@ -125,12 +69,12 @@ no_bases r = 0
 
 region_lacks : (r : Region) (q : ℕ) → (q < 0x10 + 4 * r.index) ⊎ (0x10 + 4 * r.index + 4 * registers_of r.kind ≤ q) → has_place (region_cells no_bases r) (config q) ≡ false
 region_lacks r q h =
-    has_append (base_cells r.index r.kind r.size 0) (cells_from (block r.index 0) r.cells) (config q)
-    (field_lacks (4 * registers_of r.kind) (0x10 + 4 * r.index) q (0 + type_bits r.kind) (2 ^ base_width r.kind - r.size) 0 h) (region_block_lacks r.cells r.index 0 q)
+    none_joined (config q) (base_cells r.index r.kind r.size 0) (cells_from (block r.index 0) r.cells)
+    (none_field q (4 * registers_of r.kind) (0x10 + 4 * r.index) (0 + type_bits r.kind) (2 ^ base_width r.kind - r.size) 0 h) (region_block_lacks r.cells r.index 0 q)
 
 later_lack : (n : ℕ) (rs : List Region) → Each (λ r. n < r.index) rs → (q : ℕ) → q < 0x10 + 4 * n + 4 → has_place (flat_map (region_cells no_bases) rs) (config q) ≡ false
 later_lack n [] h q k = refl
-later_lack n (r ∷ rs) h q k = has_append (region_cells no_bases r) (flat_map (region_cells no_bases) rs) (config q) (region_lacks r q (inl (omega (arith, h.0)))) (later_lack n rs h.1 q k)
+later_lack n (r ∷ rs) h q k = none_joined (config q) (region_cells no_bases r) (flat_map (region_cells no_bases) rs) (region_lacks r q (inl (omega (arith, h.0)))) (later_lack n rs h.1 q k)
 
 apart_lacks : (n : ℕ) (r : Region) → (n ≡ r.index → ⊥) → (registers_of r.kind ≡ 2 → n ≡ r.index + 1 → ⊥) → (q : ℕ) → 0x10 + 4 * n ≤ q → q < 0x10 + 4 * n + 4 → has_place (region_cells no_bases r) (config q) ≡ false
 apart_lacks n r other m q from to = region_lacks r q (elim (one_or_two r.kind) [
@@ -143,13 +87,13 @@ own_register : (n : ℕ) (r : Region) (rs : List Region) (mask : ℕ) → Each (
     → Probed all_four (base_register n) (flat_map (region_cells no_bases) (r ∷ rs)) mask
 own_register n r rs mask later h =
     probed_first all_four (base_register n) (region_cells no_bases r) (flat_map (region_cells no_bases) rs) mask
-    (none_from all_four (0x10 + 4 * n) (flat_map (region_cells no_bases) rs) (λ q from to. later_lack n rs later q to))
+    (none_from (flat_map (region_cells no_bases) rs) all_four (0x10 + 4 * n) (λ q from to. later_lack n rs later q to))
     (probed_first all_four (base_register n) (base_cells r.index r.kind r.size 0) (cells_from (block r.index 0) r.cells) mask
-    (none_from all_four (0x10 + 4 * n) (cells_from (block r.index 0) r.cells) (λ q from to. region_block_lacks r.cells r.index 0 q)) h)
+    (none_from (cells_from (block r.index 0) r.cells) all_four (0x10 + 4 * n) (λ q from to. region_block_lacks r.cells r.index 0 q)) h)
 
 probed_regions : (n : ℕ) (rs : List Region) → Each IsLawfulRegion rs → EachPair (λ r s. r.index + registers_of r.kind ≤ s.index) rs
     → Probed all_four (base_register n) (flat_map (region_cells no_bases) rs) (mask_at n rs)
-probed_regions n [] lawful order = probed_none all_four (base_register n) [] (none_from all_four (0x10 + 4 * n) [] (λ q from to. refl))
+probed_regions n [] lawful order = probed_none all_four (base_register n) [] (none_from [] all_four (0x10 + 4 * n) (λ q from to. refl))
 probed_regions n (r ∷ rs) lawful order = elim (side n r) [
   | at_low e ↦
       subst (λ (m : ℕ). Probed all_four (base_register n) (flat_map (region_cells no_bases) (r ∷ rs)) m) (sym (mask_low n r rs e))
@@ -164,11 +108,11 @@ probed_regions n (r ∷ rs) lawful order = elim (side n r) [
   | elsewhere other m ↦
       subst (λ (k : ℕ). Probed all_four (base_register n) (flat_map (region_cells no_bases) (r ∷ rs)) k) (sym (mask_apart n r rs other m))
       (probed_second all_four (base_register n) (region_cells no_bases r) (flat_map (region_cells no_bases) rs) (mask_at n rs)
-      (none_from all_four (0x10 + 4 * n) (region_cells no_bases r) (apart_lacks n r other m)) (probed_regions n rs lawful.1 order.1))
+      (none_from (region_cells no_bases r) all_four (0x10 + 4 * n) (apart_lacks n r other m)) (probed_regions n rs lawful.1 order.1))
 ]
 
 pub probed_endpoint : (n : ℕ) (d : Endpoint) (multifunction : Bool) → n < 6 → IsLawfulEndpoint d → Probed all_four (base_register n) (endpoint_reset d multifunction) (mask_at n d.regions)
 probed_endpoint n d multifunction h lawful =
     probed_second all_four (base_register n) (config_cells d multifunction 0) (flat_map (region_cells no_bases) d.regions) (mask_at n d.regions)
-    (none_from all_four (0x10 + 4 * n) (config_cells d multifunction 0) (λ q from to. config_lacks d multifunction lawful.config_blocks q (omega arith) (omega arith)))
+    (none_from (config_cells d multifunction 0) all_four (0x10 + 4 * n) (λ q from to. (reset_away d multifunction lawful.config_blocks).none q (inl (omega arith, omega arith))))
     (probed_regions n d.regions lawful.regions.each lawful.regions.in_order)

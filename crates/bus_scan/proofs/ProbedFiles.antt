@@ -8,13 +8,16 @@ use Rattle.std.proofs.lemmas.Bool.{cases_lt}
 use Rattle.std.proofs.Math.Nat.{mod-eq_of_lt}
 use Rattle.model_registers.specs.Registers.{Place, config, File, read, write, field}
 use Rattle.model_registers.specs.FileLaws.{HasNone}
-use Rattle.model_registers.specs.Declarations.{Kind, io_kind, mem32, mem64, registers_of, least_size, IsLawfulSize, Bar}
+use Rattle.model_registers.specs.Declarations.{Kind, io_kind, mem32, mem64, registers_of, least_size, IsLawfulSize, Bar, IoDecode, no_io, io16, io32, PrefDecode, no_pref, pref32, pref64, Bridge}
 use Rattle.model_registers.specs.EndpointTable.{base_register, type_bits, base_width, BaseAddress, register_cells, IsLawfulBase}
 use Rattle.model_registers.specs.BaseLaws.{shown, rebased}
 use Rattle.model_registers.specs.Sizing.{mask_of}
 use Rattle.model_registers.proofs.Files.{read_none, write_none, read_second, read_first, joined_write}
 use Rattle.model_registers.proofs.Bases.{four, size_limits, write_one, rewritten_low, rewritten_high, read_low, read_high, and_upper, one_or_two}
 use Rattle.bus_scan.proofs.WriteBack.{field_back}
+use Rattle.model_registers.specs.ByteEnables.{lanes}
+use Rattle.model_registers.specs.BridgeTable.{bridge_file}
+use Rattle.model_set_up.specs.Scanning.{BusNumbers, with_numbers}
 
 abbrev pub ones : ℕ
 ones = 0xffffffff
@@ -26,32 +29,13 @@ pub record Probed (ons : List Bool) (p : Place) (file : File) (mask : ℕ) : Typ
 -- ---- joined files
 
 pub probed_none : (ons : List Bool) (p : Place) (file : File) → HasNone file p ons → Probed ons p file 0
-probed_none ons p file none =
-    let stays : (x : ℕ) → write ons x p file ≡ file = λ x. write_none ons x p file none in
-    record {
-      shown = ap (λ (f : File). read f p ons) (stays ones) ∙ read_none ons p file none;
-      back = ap (write ons (read file p ons) p) (stays ones) ∙ stays (read file p ons);
-    }
+probed_none ons p file none = grind (arith, write_none, read_none)
 
 pub probed_second : (ons : List Bool) (p : Place) (xs ys : File) (mask : ℕ) → HasNone xs p ons → Probed ons p ys mask → Probed ons p (xs ++ ys) mask
-probed_second ons p xs ys mask none h =
-    let past : (x : ℕ) (zs : File) → write ons x p (xs ++ zs) ≡ xs ++ write ons x p zs = λ x zs. joined_write ons x p xs zs ∙ ap (λ (f : File). f ++ write ons x p zs) (write_none ons x p xs none) in
-    record {
-      shown = ap (λ (f : File). read f p ons) (past ones ys) ∙ read_second ons p xs (write ons ones p ys) none ∙ h.shown;
-      back =
-          ap₂ (λ n (f : File). write ons n p f) (read_second ons p xs ys none) (past ones ys)
-          ∙ past (read ys p ons) (write ons ones p ys) ∙ ap (λ (f : File). xs ++ f) h.back;
-    }
+probed_second ons p xs ys mask none h = grind (arith, joined_write, write_none, read_second)
 
 pub probed_first : (ons : List Bool) (p : Place) (xs ys : File) (mask : ℕ) → HasNone ys p ons → Probed ons p xs mask → Probed ons p (xs ++ ys) mask
-probed_first ons p xs ys mask none h =
-    let past : (x : ℕ) (zs : File) → write ons x p (zs ++ ys) ≡ write ons x p zs ++ ys = λ x zs. joined_write ons x p zs ys ∙ ap (λ (f : File). write ons x p zs ++ f) (write_none ons x p ys none) in
-    record {
-      shown = ap (λ (f : File). read f p ons) (past ones xs) ∙ read_first ons p (write ons ones p xs) ys none ∙ h.shown;
-      back =
-          ap₂ (λ n (f : File). write ons n p f) (read_first ons p xs ys none) (past ones xs)
-          ∙ past (read xs p ons) (write ons ones p xs) ∙ ap (λ (f : File). f ++ ys) h.back;
-    }
+probed_first ons p xs ys mask none h = grind (arith, joined_write, write_none, read_first)
 
 -- ---- one base address register
 
@@ -188,3 +172,36 @@ probed_low n b lawful = record { shown = low_shown n b lawful; back = back_low (
 
 pub probed_high : (n : ℕ) (b : Bar) → IsLawfulSize b.kind b.size → registers_of b.kind ≡ 2 → Probed all_four (base_register (n + 1)) (register_cells (at_index n b 0)) (mask_of b / 2 ^ 32)
 probed_high n b lawful two = record { shown = high_shown n b lawful two; back = back_high (at_index n b 0) two }
+
+-- ---- what the window registers of a bridge read after all ones, whatever bus numbers it holds
+
+abbrev pub io_mask : IoDecode → ℕ
+io_mask no_io = 0
+io_mask io16 = 0xf0f0
+io_mask io32 = 0xf1f1
+
+abbrev pub pref_mask : PrefDecode → ℕ
+pref_mask no_pref = 0
+pref_mask pref32 = 0xfff0fff0
+pref_mask pref64 = 0xfff1fff1
+
+abbrev bridge_with : ℕ → ℕ → ℕ → IoDecode → PrefDecode → Bridge
+bridge_with vendor device revision io pref = record { vendor = vendor; device = device; revision = revision; io = io; pref = pref }
+
+probed_by : (v e r : ℕ) (io : IoDecode) (pref : PrefDecode) (multifunction : Bool) (n : BusNumbers) → Probed (lanes 0b0011) (config 0x1c) (bridge_file (bridge_with v e r io pref) multifunction (with_numbers n)) (io_mask io)
+    × Probed (lanes 0b1111) (config 0x24) (bridge_file (bridge_with v e r io pref) multifunction (with_numbers n)) (pref_mask pref)
+probed_by v e r no_io no_pref multifunction n = (record { shown = refl; back = refl }, record { shown = refl; back = refl })
+probed_by v e r no_io pref32 multifunction n = (record { shown = refl; back = refl }, record { shown = refl; back = refl })
+probed_by v e r no_io pref64 multifunction n = (record { shown = refl; back = refl }, record { shown = refl; back = refl })
+probed_by v e r io16 no_pref multifunction n = (record { shown = refl; back = refl }, record { shown = refl; back = refl })
+probed_by v e r io16 pref32 multifunction n = (record { shown = refl; back = refl }, record { shown = refl; back = refl })
+probed_by v e r io16 pref64 multifunction n = (record { shown = refl; back = refl }, record { shown = refl; back = refl })
+probed_by v e r io32 no_pref multifunction n = (record { shown = refl; back = refl }, record { shown = refl; back = refl })
+probed_by v e r io32 pref32 multifunction n = (record { shown = refl; back = refl }, record { shown = refl; back = refl })
+probed_by v e r io32 pref64 multifunction n = (record { shown = refl; back = refl }, record { shown = refl; back = refl })
+
+pub probed_io : (d : Bridge) (multifunction : Bool) (n : BusNumbers) → Probed (lanes 0b0011) (config 0x1c) (bridge_file d multifunction (with_numbers n)) (io_mask d.io)
+probed_io d multifunction n = (probed_by d.vendor d.device d.revision d.io d.pref multifunction n).0
+
+pub probed_pref : (d : Bridge) (multifunction : Bool) (n : BusNumbers) → Probed (lanes 0b1111) (config 0x24) (bridge_file d multifunction (with_numbers n)) (pref_mask d.pref)
+probed_pref d multifunction n = (probed_by d.vendor d.device d.revision d.io d.pref multifunction n).1

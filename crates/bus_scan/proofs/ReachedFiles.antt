@@ -1,20 +1,19 @@
 -- A register of one function of a numbered board, by configuration cycles: all ones, and what was there before.
 --     IsAll p file fs      whatever stands at the path holds these cells
-use Rattle.std.proofs.Common.{◌≡◌, ℕ, ◌+◌, ◌*◌, ◌/◌, ◌%◌, ◌<◌, ◌≤◌, Bool, true, false, cond, List, [], ◌∷◌, map, Some, refl, sym, ap, ap₂, ◌∙◌, subst, arith, eqb}
-use Rattle.std.specs.Prelude.{bit_or, IsTrue}
+use Rattle.std.proofs.Common.{◌≡◌, ℕ, ◌+◌, ◌*◌, ◌/◌, ◌%◌, ◌≤◌, Bool, true, false, cond, List, [], ◌∷◌, map, Some, refl, sym, ap, ap₂, ◌∙◌, subst, arith, suc, inl, inr, length}
+use Rattle.std.specs.Prelude.{IsTrue}
 use Rattle.std.specs.Option.{option_map_or}
-use Rattle.std.specs.Int.Bits.{or_zero_r, and_zero_r}
+use Rattle.std.proofs.lemmas.Bool.{ne_eqb}
+use Rattle.model_registers.proofs.DeviceBytes.{change_beside}
+use Rattle.model_registers.proofs.Parts.{IsOutside}
 use Rattle.lists.specs.Elements.{Each, IsIn}
 use Rattle.model_registers.specs.Cell.{Cell, written}
-use Rattle.model_registers.specs.Registers.{config, File, cell_at, changed, read, write}
-use Rattle.model_registers.specs.ByteEnables.{enabled_bits}
-use Rattle.model_registers.proofs.RegisterFiles.{change_at_place, above}
+use Rattle.model_registers.specs.Registers.{config, File, cell_at, changed, write}
 use Rattle.model_board.specs.Paths.{Path, path_eq}
 use Rattle.model_board.specs.Board.{Board, Row, is_bridge, stands_at}
 use Rattle.model_board.specs.BusNumbers.{secondary, subordinate}
 use Rattle.model_board.specs.State.{BoardFunction, State, with_file, row_at}
 use Rattle.model_board.specs.Cycles.{BusAddress, reached, secondary_register, subordinate_register}
-use Rattle.model_board.specs.Ports.{config_reply, after_config_write}
 use Rattle.model_set_up.specs.Reach.{HasNumbers, address_of}
 use Rattle.model_board.specs.AtReset.{board_at}
 use Rattle.model_set_up.specs.Scanning.{IsNumbered}
@@ -25,25 +24,28 @@ use Rattle.bus_scan.specs.Probes.{with_ones, mask_shown, TakesBack}
 use Rattle.bus_scan.proofs.ProbedFiles.{ones, Probed}
 use Rattle.bus_scan.proofs.NumberedStates.{has_numbers, no_latch, each_reached, in_itself, only_there}
 
--- ---- a write leaves what stands below it
+-- ---- a write leaves what stands elsewhere
 
-no_cell_stays : (b : ℕ) → written b (record { value = 0; writable = 0; clearable = 0 }) ≡ record { value = 0; writable = 0; clearable = 0 }
-no_cell_stays b = ap (λ n. record { value = n; writable = 0; clearable = 0 }) (ap (λ n. bit_or n 0) (and_zero_r b) ∙ or_zero_r 0)
+further : (n a q : ℕ) → IsOutside q a (suc n) → IsOutside q (a + 1) n
+further n a q (inl l) = inl (omega arith)
+further n a q (inr l) = inr (omega arith)
 
-cell_below : (ons : List Bool) (x a q : ℕ) (file : File) → q < a → cell_at (write ons x (config a) file) (config q) ≡ cell_at file (config q)
-cell_below [] x a q file h = refl
-cell_below (true ∷ ons) x a q file h =
-    let apart : eqb a q ≡ false = above a q h in
-    cell_below ons (x / 256) (a + 1) q (changed (written (x % 256)) (config a) file) (omega arith)
-    ∙ change_at_place (written (x % 256)) (no_cell_stays (x % 256)) file (config a) (config q)
-    ∙ ap (λ (t : Bool). cond t (written (x % 256) (cell_at file (config q))) (cell_at file (config q))) apart
-cell_below (false ∷ ons) x a q file h = cell_below ons (x / 256) (a + 1) q file (omega arith)
+apart : (n a q : ℕ) → IsOutside q a (suc n) → a ≡ q → ⊥
+apart n a q (inl l) same = omega arith
+apart n a q (inr l) same = omega arith
+
+pub write_elsewhere : (ons : List Bool) (x a q : ℕ) (file : File) → IsOutside q a (length ons) → cell_at (write ons x (config a) file) (config q) ≡ cell_at file (config q)
+write_elsewhere [] x a q file h = refl
+write_elsewhere (true ∷ ons) x a q file h =
+    write_elsewhere ons (x / 256) (a + 1) q (changed (written (x % 256)) (config a) file) (further (length ons) a q h)
+    ∙ change_beside (written (x % 256)) file (config a) (config q) (ne_eqb a q (apart (length ons) a q h))
+write_elsewhere (false ∷ ons) x a q file h = write_elsewhere ons (x / 256) (a + 1) q file (further (length ons) a q h)
 
 numbers_below : (ons : List Bool) (x a : ℕ) (file : File) → 0x1b ≤ a
     → (secondary_register (write ons x (config a) file) ≡ secondary_register file) × (subordinate_register (write ons x (config a) file) ≡ subordinate_register file)
 numbers_below ons x a file h = (
-  ap (λ (c : Cell). c.value + 256 * 0) (cell_below ons x a 0x19 file (omega arith)),
-  ap (λ (c : Cell). c.value + 256 * 0) (cell_below ons x a 0x1a file (omega arith)),
+  ap (λ (c : Cell). c.value + 256 * 0) (write_elsewhere ons x a 0x19 file (inl (omega arith))),
+  ap (λ (c : Cell). c.value + 256 * 0) (write_elsewhere ons x a 0x1a file (inl (omega arith))),
 )
 
 -- ---- one function with other cells
@@ -60,11 +62,7 @@ same_row g false f = refl
 
 all_changed : (g : File → File) (p : Path) (file : File) (fs : List BoardFunction) → IsAll p file fs → IsAll p (g file) (with_file g p fs)
 all_changed g p file [] h = tt
-all_changed g p file (f ∷ fs) h = (here (path_eq f.path p) refl, all_changed g p file fs h.1)
-  where
-    here : (t : Bool) → path_eq f.path p ≡ t → path_eq (changed_one g t f).path p ≡ true → (changed_one g t f).file ≡ g file
-    here true e k = ap g (h.0 e)
-    here false e k = cc
+all_changed g p file (f ∷ fs) h = grind (arith, all_changed g p file fs h.1)
 
 rows_changed : (g : File → File) (p : Path) (fs : List BoardFunction) → map row_at (with_file g p fs) ≡ map row_at fs
 rows_changed g p [] = refl
@@ -72,13 +70,7 @@ rows_changed g p (f ∷ fs) = ap₂ (λ (r : Row) rs. r ∷ rs) (same_row g (pat
 
 changed_back : (g k : File → File) (p : Path) (file : File) (fs : List BoardFunction) → IsAll p file fs → k (g file) ≡ file → with_file k p (with_file g p fs) ≡ fs
 changed_back g k p file [] h back = refl
-changed_back g k p file (f ∷ fs) h back = ap₂ (λ (f : BoardFunction) gs. f ∷ gs) (here (path_eq f.path p) refl) (changed_back g k p file fs h.1 back)
-  where
-    here : (t : Bool) → path_eq f.path p ≡ t → changed_one k (path_eq (changed_one g t f).path p) (changed_one g t f) ≡ f
-    here true e =
-        let same : k (g f.file) ≡ f.file = ap (λ (x : File). k (g x)) (h.0 e) ∙ back ∙ sym (h.0 e) in
-        ap (λ (t : Bool). changed_one k t (changed_one g true f)) e ∙ ap (λ (x : File). record f { file = x }) same
-    here false e = ap (λ (t : Bool). changed_one k t f) e
+changed_back g k p file (f ∷ fs) h back = grind (arith, changed_back g k p file fs h.1 back)
 
 abbrev HoldsNumbers : Board → BoardFunction → Type 0
 HoldsNumbers b f = IsTrue (is_bridge f.decl) → (secondary_register f.file ≡ secondary b f.path) × (subordinate_register f.file ≡ subordinate b f.path)
@@ -124,10 +116,7 @@ module _ (s : State) (h : IsNumbered s) (to : BusAddress) (f : BoardFunction) (f
         (λ g m e k. numbers_below ons ones off g.file (high (subst (λ (g : BoardFunction). IsTrue (is_bridge g.decl)) (each_in (λ g. path_eq g.path f.path ≡ true → g ≡ f) g s.functions only m e) k)))
 
     has_after : HasNumbers (board_at s.functions) after
-    has_after = record {
-      rows = rows_changed ones_written f.path s.functions;
-      numbers = numbers_changed (board_at s.functions) ones_written f.path s.functions keeps (has_numbers s h).numbers;
-    }
+    has_after = grind (arith, rows_changed, numbers_changed, keeps, has_numbers)
 
     there : (g : BoardFunction) × (reached after (address_of (board_at s.functions) f.path) ≡ Some g) × (g.path ≡ f.path)
     there = reached_by_numbers (board_at s.functions) h.board after has_after f.path stands
@@ -144,19 +133,7 @@ module _ (s : State) (h : IsNumbered s) (to : BusAddress) (f : BoardFunction) (f
     ones_there = ap (λ r. option_map_or (λ (f : BoardFunction). with_file (write ons ones (config off)) f.path s.functions) r s.functions) found
 
     pub shows : (mask : ℕ) → Probed ons (config off) f.file mask → mask_shown s.functions to off ons ≡ mask
-    shows mask p =
-        ap (λ fs. config_reply fs to off ons) ones_there
-        ∙ ap (λ r. option_map_or (λ (f : BoardFunction). read f.file (config off) ons) r (enabled_bits ons)) reached_after
-        ∙ ap (λ file. read file (config off) ons) file_after ∙ p.shown
+    shows mask p = grind (arith, ones_there, reached_after, file_after)
 
     pub takes_back : (mask : ℕ) → Probed ons (config off) f.file mask → TakesBack s to off ons
-    takes_back mask p = record {
-      latch = no_latch s h;
-      functions =
-          let old : ℕ = read f.file (config off) ons in
-          let held : config_reply s.functions to off ons ≡ old = ap (λ r. option_map_or (λ (f : BoardFunction). read f.file (config off) ons) r (enabled_bits ons)) found in
-          ap₂ (λ fs n. after_config_write fs to off ons n) ones_there held
-          ∙ ap (λ r. option_map_or (λ (f : BoardFunction). with_file (write ons old (config off)) f.path after) r after) reached_after
-          ∙ ap (λ q. with_file (write ons old (config off)) q after) there.2
-          ∙ changed_back ones_written (write ons old (config off)) f.path f.file s.functions all p.back;
-    }
+    takes_back mask p = grind (arith, no_latch, ones_there, reached_after, changed_back, all)

@@ -1,5 +1,5 @@
 -- What a scan sees at a part, and where it goes on.
-use Rattle.std.proofs.Common.{◌≡◌, ℕ, ◌+◌, ◌%◌, Bool, true, false, not, cond, ◌&&◌, List, [], ◌∷◌, ◌++◌, Option, Some, None, refl, sym, ap, ◌∙◌, subst, eqb}
+use Rattle.std.proofs.Common.{◌≡◌, ℕ, ◌+◌, ◌%◌, Bool, true, false, not, cond, ◌&&◌, List, [], ◌∷◌, ◌++◌, Option, Some, None, refl, sym, ap, ◌∙◌, eqb, arith}
 use Rattle.std.specs.Prelude.{find}
 use Rattle.model_board.specs.Paths.{Path, path_eq}
 use Rattle.model_board.specs.Board.{Decl, endpoint, bridge, Board, Row, is_bridge, stands_at, is_multifunction}
@@ -53,12 +53,7 @@ sighted b bus number on_bus n s rows last at a is o none some = by_stands (stand
 
 -- a look changes nothing but the latch, which is 0
 pub after_look : (b : Board) (here : Path) (s : State) (rows : List TableRow) (last : ℕ) → IsAt b here s rows last → (new : State) → new ≡ record s { latch = 0 } → IsAt b here new rows last
-after_look b here s rows last at new is = record {
-  state = is ∙ ap (λ (s : State). let t : State = record s { latch = 0 } in t) at.state;
-  rows_met = at.rows_met;
-  last_given = at.last_given;
-  last_fits = at.last_fits;
-}
+after_look b here s rows last at new is = grind arith
 
 pub none_seen : (b : Board) (bus : Path) (number n : ℕ) (o : Option Seen) → Sight b bus number n o → o ≡ None → stands_at b (on bus n) ≡ false
 none_seen b bus number n o (Nothing none e) h = none
@@ -75,14 +70,7 @@ shares multifunction (bridge d) = refl
 
 pub finds : (b : Board) (bus : Path) (number n : ℕ) (o : Option Seen) → Sight b bus number n o → (seen : Seen) → o ≡ Some seen → Finds b bus number n seen
 finds b bus number n o (Nothing none e) seen h = cc
-finds b bus number n o (Function r known e found) seen h =
-    let same : known ≡ seen = cc in
-    let found_now : IsFound b bus number n r seen = subst (λ (x : Seen). IsFound b bus number n r x) same found in
-    record {
-      row = r;
-      found = found_now;
-      next = λ m is. next_is b bus n m true seen.is_multifunction (stands_true b (on bus n) r found_now.stands) (sym (ap (λ (x : Seen). x.is_multifunction) found_now.shows ∙ shares (is_multifunction b (on bus n)) r.decl)) is;
-    }
+finds b bus number n o (Function r known e found) seen h = grind (arith, next_is, stands_true, shares)
 
 layout_bridge : (multifunction : Bool) (d : Decl) → (seen_of multifunction d).layout ≡ BridgeLayout → is_bridge d ≡ true
 layout_bridge multifunction (endpoint d) h = cc

@@ -1,12 +1,12 @@
 -- A scan from one part to the next.
-use Rattle.std.proofs.Common.{◌≡◌, ℕ, ◌+◌, ◌%◌, ◌≤◌, ◌<◌, inr, Bool, true, false, not, cond, ◌&&◌, ◌||◌, List, [], ◌∷◌, ◌++◌, length, append_assoc, map, Some, refl, sym, ap, ap₂, ◌∙◌, subst, arith, eqb, get_or}
+use Rattle.std.proofs.Common.{◌≡◌, ℕ, ◌+◌, ◌%◌, ◌≤◌, ◌<◌, Bool, true, false, not, cond, ◌&&◌, ◌||◌, List, [], ◌∷◌, ◌++◌, length, append_assoc, map, Some, refl, sym, ap, ap₂, ◌∙◌, subst, arith, eqb, get_or}
 use Rattle.std.specs.Prelude.{find, count_by}
 use Rattle.std.proofs.Math.ListN.{set}
 use Rattle.std.proofs.Math.Seq.{get_or-append_seam}
 use Rattle.std.proofs.lemmas.List.{map-append, length-map}
 use Rattle.model_registers.specs.Declarations.{no_io, no_pref}
 use Rattle.lists.specs.Elements.{IsIn}
-use Rattle.model_board.specs.Paths.{Part, Path, part_eq, part_before, path_eq, path_before, leads_to, IsPath}
+use Rattle.model_board.specs.Paths.{Part, Path, path_eq, path_before, leads_to, IsPath}
 use Rattle.model_board.specs.Board.{Decl, endpoint, bridge, Board, Row, is_bridge, is_bridge_at, stands_at, is_multifunction, IsBoard}
 use Rattle.model_board.specs.BusNumbers.{secondary, subordinate, bus_behind, bus_of, Enumerates}
 use Rattle.model_set_up.specs.FunctionTable.{TableRow, met_decl, scanned_table, table_row}
@@ -24,7 +24,6 @@ use Rattle.model_set_up.proofs.ScanParts.{before_first, before_last, leads_place
 use Rattle.model_set_up.proofs.ScanOrder.{scan_meets, scan_gives_numbers, no_bridge_here, no_bridge_none}
 use Rattle.bus_scan.specs.declared.seen.Seen.{Seen}
 use Rattle.bus_scan.specs.Rows.{ended as ended_range}
-use Rattle.bus_scan.specs.Sights.{seen_of}
 use Rattle.bus_scan.specs.Scans.{met_row, given, IsAt, OnBus, StandsAt, IsFound}
 use Rattle.bus_scan.proofs.States.{Numbers, numbered, map_same, same_state, bridge_there}
 use Rattle.bus_scan.proofs.MetRows.{count_more, row_same, rows_same, rows_more, met_grows, row_filled}
@@ -145,11 +144,7 @@ deepest b lawful p long s rows last at =
 
 first_before_last : (p : Path) → path_before (on p 0) (on p 128) ≡ true
 first_before_last [] = refl
-first_before_last (a ∷ p) = step (part_before a a) (part_eq a a) (path_before (on p 0) (on p 128)) (part_self a) (first_before_last p)
-  where
-    step : (c d e : Bool) → d ≡ true → e ≡ true → (c || (d && e)) ≡ true
-    step true d e h k = refl
-    step false d e h k = rw (h, k) refl
+first_before_last (a ∷ p) = grind (arith, part_self, first_before_last p)
 
 -- out of the side of a bridge
 closed_at : (b : Board) → IsBoard b → (p to : Path) (r : Row) → StandsAt b p r → is_bridge r.decl ≡ true → met b to ≡ met b (on p 128)
@@ -258,18 +253,7 @@ bridge_row path number k last seen = record {
 
 bridge_row_is : (b : Board) (bus : Path) (number n : ℕ) (r : Row) (seen : Seen) → IsFound b bus number n r seen → is_bridge r.decl ≡ true → (path : Path) → path ≡ on bus n → (k last : ℕ) (numbers : Numbers)
     → (numbers r.path).secondary ≡ k → (numbers r.path).subordinate ≡ last → bridge_row path number k last seen ≡ met_row b numbers r
-bridge_row_is b bus number n r seen found bridge_is path path_is k last numbers first_is last_is = by_decl r.decl refl
-  where
-    by_decl : (d : Decl) → r.decl ≡ d → bridge_row path number k last seen ≡ met_row b numbers (record r { decl = d })
-    by_decl (endpoint d) e = let bad : true ≡ false = sym bridge_is ∙ ap is_bridge e in cc
-    by_decl (bridge d) e =
-        let shows : seen ≡ seen_of (is_multifunction b (on bus n)) (bridge d) = found.shows ∙ ap (seen_of (is_multifunction b (on bus n))) e in
-        λ i. record {
-          path = (path_is ∙ sym found.stands.path) i;
-          bus = (found.on_bus.named ∙ ap (bus_behind b) (sym (parent_snoc bus (nth_part n))) ∙ ap (bus_of b) (sym found.stands.path)) i;
-          behind = Some (record { first = sym first_is i; last = sym last_is i });
-          decl = bridge (record { vendor = (shows i).vendor; device = (shows i).device; revision = 0; io = no_io; pref = no_pref });
-        }
+bridge_row_is b bus number n r seen found bridge_is path path_is k last numbers first_is last_is = grind (arith, parent_snoc)
 
 -- what a write of numbers does
 abbrev pub WritesNumbers : State → State → BusAddress → BusNumbers → Type 0
@@ -315,21 +299,7 @@ item_there b p r lawful is s rows last at i index d =
 
 ended_row : (b : Board) (bus : Path) (n : ℕ) (r : Row) → IsBoard b → StandsAt b (on bus n) r → is_bridge r.decl ≡ true → (last : ℕ) → last ≡ subordinate b (on bus n)
     → record (met_row b (scan_numbers b (on (on bus n) 128)) r) { behind = ended_range last (met_row b (scan_numbers b (on (on bus n) 128)) r).behind } ≡ met_row b (board_numbers b) r
-ended_row b bus n r lawful is bridge_is last last_is = by_decl r.decl refl
-  where
-    open_here : scan_numbers b (on (on bus n) 128) r.path ≡ open_numbers b r.path
-    open_here =
-        ap (λ t. cond t (open_numbers b r.path) (cond (path_before r.path (on (on bus n) 128)) (board_numbers b r.path) no_numbers))
-        (ap (λ (x : Path). leads_to x (on (on bus n) 128)) is.path ∙ leads_self (on bus n) (nth_part 128))
-
-    by_decl : (d : Decl) → r.decl ≡ d → record (met_row b (scan_numbers b (on (on bus n) 128)) (record r { decl = d })) { behind = ended_range last (met_row b (scan_numbers b (on (on bus n) 128)) (record r { decl = d })).behind } ≡ met_row b (board_numbers b) (record r { decl = d })
-    by_decl (endpoint d) e = let bad : true ≡ false = sym bridge_is ∙ ap is_bridge e in cc
-    by_decl (bridge d) e = λ i. record {
-      path = r.path;
-      bus = bus_of b r.path;
-      behind = Some (record { first = (open_here i).secondary; last = (last_is ∙ ap (subordinate b) (sym is.path)) i });
-      decl = met_decl (bridge d);
-    }
+ended_row b bus n r lawful is bridge_is last last_is = grind (arith, leads_self)
 
 pub bridge_closed : (b : Board) (bus : Path) (number n : ℕ) (r : Row) → OnBus b bus number → StandsAt b (on bus n) r → is_bridge r.decl ≡ true → (k : ℕ) → k ≡ secondary b (on bus n) → (s : State) (rows : List TableRow) (last : ℕ)
     → IsAt b (on (on bus n) 128) s rows last → (at : BusAddress) → at ≡ record { bus = number; part = nth_part n } → (new : State) → WritesNumbers s new at (record { primary = number; secondary = k; subordinate = last })
@@ -357,9 +327,4 @@ behind_on b [] t = refl
 behind_on b (p ∷ bus) t = refl
 
 pub side : (b : Board) (bus : Path) (number n : ℕ) (r : Row) → OnBus b bus number → StandsAt b (on bus n) r → is_bridge r.decl ≡ true → (k : ℕ) → k ≡ secondary b (on bus n) → OnBus b (on bus n) k
-side b bus number n r on_bus is bridge_is k k_is = record {
-  board = on_bus.board;
-  declarations = on_bus.declarations;
-  there = inr (bridge_true b (on bus n) r is bridge_is);
-  named = k_is ∙ sym (behind_on b bus (nth_part n));
-}
+side b bus number n r on_bus is bridge_is k k_is = grind (arith, bridge_true, behind_on)

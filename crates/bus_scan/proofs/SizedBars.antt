@@ -1,18 +1,29 @@
 -- What begins at a register of an endpoint, by what the register and the next one read after all ones.
 --     Begins      what the register and the next one read, by what begins there
-use Rattle.std.proofs.Common.{◌≡◌, ℕ, ◌+◌, ◌/◌, ◌%◌, ◌^◌, ◌<◌, ◌≤◌, ◌⊎◌, inl, inr, true, false, ◌&&◌, List, [], ◌∷◌, Option, Some, None, refl, sym, ap, ◌∙◌, arith, eqb}
-use Rattle.std.specs.Prelude.{bit_and, IfSome}
+--     BarsBelow      the host is as it was, and the slots below a register are told
+use Rattle.std.proofs.Common.{◌≡◌, ℕ, ◌+◌, ◌/◌, ◌%◌, ◌^◌, ◌<◌, ◌≤◌, ◌⊎◌, inl, inr, true, false, ◌&&◌, List, [], ◌∷◌, Option, Some, None, refl, sym, ap, ◌∙◌, arith, eqb, ◌≢◌, zero, suc, Bool, ◌||◌, map, length, get_or, ap₂, subst, below_more}
+use Rattle.std.specs.Prelude.{bit_and, IfSome, slice_set}
 use Rattle.std.proofs.lemmas.Nat.{and_mask}
-use Rattle.std.proofs.lemmas.Bool.{cases_lt, ne_eqb, cond-true, cond-false, eq-eqb, and_from, or_parts}
+use Rattle.std.proofs.lemmas.Bool.{cases_lt, ne_eqb, cond-true, cond-false, eq-eqb, and_from, or_parts, cases_eq, and_right}
+use Rattle.std.specs.Option.{option_map_or}
+use Rattle.std.proofs.lemmas.List.{get_or-set_same, get_or-set_other, length-set}
+use Rattle.std.proofs.lemmas.Option.{unwrap_or-slice_get}
 use Rattle.lists.specs.Elements.{Each, EachPair}
-use Rattle.model_registers.specs.Declarations.{Kind, io_kind, mem32, mem64, registers_of, Bar, Region, IsLawfulSize, IsLawfulRegion}
+use Rattle.model_registers.specs.Declarations.{Kind, io_kind, mem32, mem64, registers_of, Bar, Region, IsLawfulSize, IsLawfulRegion, HasLawfulRegions}
 use Rattle.model_registers.specs.Sizing.{mask_of, ShowsSize, SizeReads}
 use Rattle.lists.proofs.EachLemmas.{each_map}
 use Rattle.model_registers.proofs.Bases.{registers_positive}
 use Rattle.model_registers.proofs.Sizes.{sizes_read}
-use Rattle.bus_scan.specs.SizedRows.{bar_at, is_upper_half}
+use Rattle.bus_scan.specs.SizedRows.{bar_at, is_upper_half, bars_of, is_after_wide}
 use Rattle.bus_scan.proofs.ProbedFiles.{sixteens}
-use Rattle.bus_scan.proofs.ProbedEndpoints.{bar_of, mask_at, at_low, at_high, elsewhere, side, mask_low, mask_high, mask_apart}
+use Rattle.bus_scan.proofs.ProbedEndpoints.{bar_of, mask_at, at_low, at_high, elsewhere, side, mask_low, mask_high, mask_apart, not_wide}
+use Rattle.model_registers.specs.EndpointTable.{opened}
+use Rattle.model_registers.specs.OwnCopies.{bare}
+use Rattle.model_board.specs.Cycles.{BusAddress}
+use Rattle.host_bridge.specs.HostState.{HostState}
+use Rattle.bars.specs.Resets.{reset_from}
+use Rattle.bus_scan.specs.Rows.{regions_of}
+use Rattle.bus_scan.specs.Probes.{regions_reached}
 
 pub data Begins (n : ℕ) (rs : List Region) : Type 0 where
   nothing : bar_at n rs ≡ None → mask_at n rs ≡ 0 → Begins n rs
@@ -24,14 +35,11 @@ bar_other n r rs other = cond-false (eqb n r.index) _ _ (ne_eqb n r.index other)
 
 pub none_later : (n : ℕ) (rs : List Region) → Each (λ s. n < s.index) rs → (bar_at n rs ≡ None) × (mask_at n rs ≡ 0)
 none_later n [] h = (refl, refl)
-none_later n (r ∷ rs) h =
-    let more = none_later n rs h.1 in
-    let other : n ≡ r.index → ⊥ = λ e. omega (arith, h.0) in
-    (bar_other n r rs other ∙ more.0, mask_apart n r rs other (λ two e. omega (arith, h.0)) ∙ more.1)
+none_later n (r ∷ rs) h = grind (arith, bar_other, mask_apart, none_later n rs h.1)
 
 -- regions that lie apart from a register and the next one are passed by
 passed : (n : ℕ) (r : Region) (rs : List Region) → (n ≡ r.index → ⊥) → (registers_of r.kind ≡ 2 → n ≡ r.index + 1 → ⊥) → r.index ≤ n → Begins n rs → Begins n (r ∷ rs)
-passed n r rs other m above (nothing none zero) = nothing (bar_other n r rs other ∙ none) (mask_apart n r rs other m ∙ zero)
+passed n r rs other m above (nothing none reads_zero) = nothing (bar_other n r rs other ∙ none) (mask_apart n r rs other m ∙ reads_zero)
 passed n r rs other m above (region b is lawful shows upper) =
     region b (bar_other n r rs other ∙ is) lawful (mask_apart n r rs other m ∙ shows)
     (λ two. let u = upper two in (u.0, mask_apart (n + 1) r rs (λ e. omega arith) (λ t e. other (omega arith)) ∙ u.1))
@@ -79,11 +87,11 @@ pub region_told : (n : ℕ) (rs : List Region) → Begins n rs → (low high : �
     → (high ≡ mask_at (n + 1) rs) ⊎ ((5 ≤ n) ⊎ (bit_and low 7 ≡ 4 → ⊥))
     → IfSome told (λ b. IsLawfulSize b.kind b.size × ShowsSize b low high) → ((b : Bar) → IsLawfulSize b.kind b.size → ShowsSize b low high → told ≡ Some b)
     → told ≡ bar_at n rs
-region_told n rs (nothing none zero) low high told shown upper is found = by_told told is ∙ sym none
+region_told n rs (nothing none reads_zero) low high told shown upper is found = by_told told is ∙ sym none
   where
     by_told : (o : Option Bar) → IfSome o (λ b. IsLawfulSize b.kind b.size × ShowsSize b low high) → o ≡ None
     by_told None k = refl
-    by_told (Some b) k = absurd (mask_not_zero b.kind b.size k.0 (sym ((sizes_read 0 b k.0).lower) ∙ k.1.lower ∙ shown ∙ zero))
+    by_told (Some b) k = absurd (mask_not_zero b.kind b.size k.0 (sym ((sizes_read 0 b k.0).lower) ∙ k.1.lower ∙ shown ∙ reads_zero))
 region_told n rs (region b is lawful mask wide) low high told shown upper is_told found =
     found b lawful (shows_size b lawful low high (shown ∙ mask) (by_upper upper)) ∙ sym is
   where
@@ -91,3 +99,140 @@ region_told n rs (region b is lawful mask wide) low high told shown upper is_tol
     by_upper (inl e) two = e ∙ (wide two).1
     by_upper (inr (inl last)) two = absurd (omega (arith, (wide two).0))
     by_upper (inr (inr other)) two = absurd (other (and_mask low 3 ∙ ap (λ m. m % 8) (shown ∙ mask) ∙ wide_low_bits b.kind b.size lawful two))
+
+-- ---- the regions of an endpoint by the index of their first register
+
+pub record BarsBelow (first now : HostState) (at : BusAddress) (bars : List (Option Bar)) (n : ℕ) : Type 0 where
+  pub host : now ≡ first
+  pub six : length bars ≡ 6
+  pub told : (k : ℕ) → k < n → get_or bars k None ≡ bar_at k (regions_reached first.state.functions at)
+
+-- ---- the loop's step and its end
+
+set_told : (rs : List Region) (bars : List (Option Bar)) (n : ℕ) (bar : Option Bar) → n < length bars → ((k : ℕ) → k < n → get_or bars k None ≡ bar_at k rs) → bar ≡ bar_at n rs
+    → (k : ℕ) → k < n + 1 → get_or (slice_set bars n bar) k None ≡ bar_at k rs
+set_told rs bars n bar within told e =
+    below_more (λ k. get_or (slice_set bars n bar) k None ≡ bar_at k rs) n
+    (λ k h. let other : k ≢ n = omega arith in get_or-set_other bars n k bar None other ∙ told k h)
+    (get_or-set_same bars n bar None within ∙ e)
+
+pub next_slot : (first now after : HostState) (at : BusAddress) (bars : List (Option Bar)) (n i : ℕ) (bar : Option Bar) → BarsBelow first now at bars n → i ≡ n → n < 6
+    → after ≡ first → bar ≡ bar_at n (regions_reached first.state.functions at) → BarsBelow first after at (slice_set bars i bar) (n + 1)
+next_slot first now after at bars n i bar below is within host e =
+    subst (λ i. BarsBelow first after at (slice_set bars i bar) (n + 1)) (sym is)
+    (record { host = host; six = length-set bars n bar ∙ below.six; told = set_told (regions_reached first.state.functions at) bars n bar (omega (arith, below.six)) below.told e })
+
+-- six slots by their elements
+six_slots : (bars : List (Option Bar)) → length bars ≡ 6 → bars ≡ get_or bars 0 None ∷ get_or bars 1 None ∷ get_or bars 2 None ∷ get_or bars 3 None ∷ get_or bars 4 None ∷ get_or bars 5 None ∷ []
+six_slots [] h = absurd (omega arith)
+six_slots (a ∷ []) h = absurd (omega arith)
+six_slots (a ∷ b ∷ []) h = absurd (omega arith)
+six_slots (a ∷ b ∷ c ∷ []) h = absurd (omega arith)
+six_slots (a ∷ b ∷ c ∷ d ∷ []) h = absurd (omega arith)
+six_slots (a ∷ b ∷ c ∷ d ∷ e ∷ []) h = absurd (omega arith)
+six_slots (a ∷ b ∷ c ∷ d ∷ e ∷ f ∷ []) h = refl
+six_slots (a ∷ b ∷ c ∷ d ∷ e ∷ f ∷ g ∷ rest) h = absurd (omega arith)
+
+pub all_told : (first now : HostState) (at : BusAddress) (bars : List (Option Bar)) (n : ℕ) → BarsBelow first now at bars n → 6 ≤ n → bars ≡ bars_of (regions_reached first.state.functions at)
+all_told first now at bars n below h =
+    six_slots bars below.six
+    ∙ (λ i. below.told 0 (omega arith) i ∷ below.told 1 (omega arith) i ∷ below.told 2 (omega arith) i ∷ below.told 3 (omega arith) i ∷ below.told 4 (omega arith) i ∷ below.told 5 (omega arith) i ∷ [])
+
+-- ---- upper halves
+
+abbrev InOrder : Region → Region → Type 0
+InOrder r s = r.index + registers_of r.kind ≤ s.index
+
+later : (n : ℕ) (r : Region) (rs : List Region) → n < r.index + registers_of r.kind → Each (InOrder r) rs → Each (λ s. n < s.index) rs
+later n r rs h order = each_map (InOrder r) (λ s. n < s.index) rs (λ s k. omega arith) order
+
+later_not_upper : (n : ℕ) (rs : List Region) → Each (λ s. n ≤ s.index) rs → is_upper_half n rs ≡ false
+later_not_upper n [] h = refl
+later_not_upper n (r ∷ rs) h = ap₂ (λ (s t : Bool). s || t) (and_right (eqb (registers_of r.kind) 2) (eqb n (r.index + 1)) (ne_eqb n (r.index + 1) (λ e. omega (arith, h.0)))) (later_not_upper n rs h.1)
+
+-- nothing begins at an upper half
+pub none_at_upper : (n : ℕ) (rs : List Region) → EachPair InOrder rs → is_upper_half n rs ≡ true → bar_at n rs ≡ None
+none_at_upper n [] order h = refl
+none_at_upper n (r ∷ rs) order h = elim (side n r) [
+  | at_low e ↦
+      let none : is_upper_half n (r ∷ rs) ≡ false =
+      ap₂ (λ (s t : Bool). s || t) (and_right (eqb (registers_of r.kind) 2) (eqb n (r.index + 1)) (ne_eqb n (r.index + 1) (λ k. omega arith)))
+      (later_not_upper n rs (each_map (λ s. n < s.index) (λ s. n ≤ s.index) rs (λ s k. omega arith) (later n r rs (omega (arith, registers_positive r.kind)) order.0))) in
+      cc
+  | at_high e two ↦ bar_other n r rs (λ k. omega arith) ∙ (none_later n rs (later n r rs (omega arith) order.0)).0
+  | elsewhere other m ↦
+      let rest : is_upper_half n rs ≡ true = ap (λ (t : Bool). t || is_upper_half n rs) (sym (not_wide n r m)) ∙ h in
+      bar_other n r rs other ∙ none_at_upper n rs order.1 rest
+]
+
+is_wide : Option Bar → Bool
+is_wide o = option_map_or (λ (b : Bar). eqb (registers_of b.kind) 2) o false
+
+or_none : (t : Bool) → (t || false) ≡ t
+or_none true = refl
+or_none false = refl
+
+upper_after : (n : ℕ) (rs : List Region) → EachPair InOrder rs → is_upper_half (n + 1) rs ≡ is_wide (bar_at n rs)
+unfolding is_wide
+upper_after n [] order = refl
+upper_after n (r ∷ rs) order = elim (cases_eq n r.index) [
+  | inl e ↦
+      let here : eqb (n + 1) (r.index + 1) ≡ true = eq-eqb (n + 1) (r.index + 1) (omega arith) in
+      let rest : is_upper_half (n + 1) rs ≡ false = later_not_upper (n + 1) rs (each_map (λ s. n < s.index) (λ s. n + 1 ≤ s.index) rs (λ s k. omega arith) (later n r rs (omega (arith, registers_positive r.kind)) order.0)) in
+      ap₂ (λ (s t : Bool). eqb (registers_of r.kind) 2 && s || t) here rest ∙ or_none (eqb (registers_of r.kind) 2 && true) ∙ and_true (eqb (registers_of r.kind) 2)
+      ∙ sym (ap is_wide (cond-true (eqb n r.index) (Some (bar_of r)) (bar_at n rs) (eq-eqb n r.index e)))
+  | inr other ↦
+      let past : (eqb (registers_of r.kind) 2 && eqb (n + 1) (r.index + 1)) ≡ false = and_right (eqb (registers_of r.kind) 2) (eqb (n + 1) (r.index + 1)) (ne_eqb (n + 1) (r.index + 1) (λ e. other (omega arith))) in
+      ap (λ (t : Bool). t || is_upper_half (n + 1) rs) past ∙ upper_after n rs order.1 ∙ ap is_wide (sym (bar_other n r rs other))
+]
+  where
+    and_true : (t : Bool) → (t && true) ≡ t
+    and_true true = refl
+    and_true false = refl
+
+pub upper_by_slots : (n : ℕ) (rs : List Region) (bars : List (Option Bar)) → EachPair InOrder rs → ((k : ℕ) → k < n → get_or bars k None ≡ bar_at k rs) → is_upper_half n rs ≡ is_after_wide bars n
+unfolding is_wide
+upper_by_slots zero rs bars order told = later_not_upper 0 rs (all_from rs)
+  where
+    all_from : (rs : List Region) → Each (λ s. 0 ≤ s.index) rs
+    all_from [] = tt
+    all_from (r ∷ rs) = (omega arith, all_from rs)
+upper_by_slots (suc n) rs bars order told =
+    ap (λ m. is_upper_half m rs) (let e : suc n ≡ n + 1 = omega arith in e)
+    ∙ upper_after n rs order ∙ ap is_wide (sym (told n (omega arith)) ∙ sym (unwrap_or-slice_get bars n None))
+
+-- ---- the slots hold all regions
+
+slots_from : ℕ → ℕ → List Region → List (Option Bar)
+slots_from n zero rs = []
+slots_from n (suc k) rs = bar_at n rs ∷ slots_from (n + 1) k rs
+
+slots_other : (n k : ℕ) (r : Region) (rs : List Region) → r.index < n → slots_from n k (r ∷ rs) ≡ slots_from n k rs
+unfolding slots_from
+slots_other n zero r rs h = refl
+slots_other n (suc k) r rs h = ap₂ (λ (o : Option Bar) os. o ∷ os) (bar_other n r rs (λ e. omega arith)) (slots_other (n + 1) k r rs (omega arith))
+
+reset_slots : (k n : ℕ) (rs : List Region) → Each IsLawfulRegion rs → EachPair InOrder rs → Each (λ s. n ≤ s.index) rs → n + k ≡ 6 → map opened (reset_from n (slots_from n k rs)) ≡ map bare rs
+unfolding slots_from
+reset_slots zero n [] lawful order above e = refl
+reset_slots zero n (r ∷ rs) lawful order above e = absurd (omega (arith, lawful.0.registers, above.0, registers_positive r.kind))
+reset_slots (suc k) n [] lawful order above e = reset_slots k (n + 1) [] tt tt tt (omega arith)
+reset_slots (suc k) n (r ∷ rs) lawful order above e = elim (cases_eq n r.index) [
+  | inl here ↦
+      let rest : Each (λ s. n + 1 ≤ s.index) rs = each_map (λ s. n < s.index) (λ s. n + 1 ≤ s.index) rs (λ s h. omega arith) (later n r rs (omega (arith, registers_positive r.kind)) order.0) in
+      ap₂ (λ (o : Option Bar) os. map opened (reset_from n (o ∷ os))) (cond-true (eqb n r.index) (Some (bar_of r)) (bar_at n rs) (eq-eqb n r.index here)) (slots_other (n + 1) k r rs (omega arith))
+      ∙ ap₂ (λ (m : ℕ) (more : List Region). record { index = m; kind = r.kind; size = r.size; cells = [] } ∷ more) here (reset_slots k (n + 1) rs lawful.1 order.1 rest (omega arith))
+  | inr other ↦
+      let rest : Each (λ s. n + 1 ≤ s.index) rs = each_map (λ s. n < s.index) (λ s. n + 1 ≤ s.index) rs (λ s h. omega arith) (later n r rs (omega (arith, above.0, registers_positive r.kind)) order.0) in
+      let none : bar_at n (r ∷ rs) ≡ None = bar_other n r rs other ∙ (none_later n rs (later n r rs (omega (arith, above.0, registers_positive r.kind)) order.0)).0 in
+      ap (λ (o : Option Bar). map opened (reset_from n (o ∷ slots_from (n + 1) k (r ∷ rs)))) none
+      ∙ reset_slots k (n + 1) (r ∷ rs) lawful order (omega (arith, above.0, other), rest) (omega arith)
+]
+
+pub regions_of_bars : (rs : List Region) → HasLawfulRegions rs → regions_of (bars_of rs) ≡ map bare rs
+unfolding slots_from
+regions_of_bars rs lawful = reset_slots 6 0 rs lawful.each lawful.in_order (all_from rs) refl
+  where
+    all_from : (rs : List Region) → Each (λ s. 0 ≤ s.index) rs
+    all_from [] = tt
+    all_from (r ∷ rs) = (omega arith, all_from rs)

@@ -1,32 +1,43 @@
 -- What sizing finds of the function that a number of a numbered board reaches.
-use Rattle.std.proofs.Common.{◌≡◌, ℕ, ◌+◌, ◌*◌, ◌<◌, List, [], Option, Some, None, refl, sym, ap, ◌∙◌, subst, arith}
+use Rattle.std.proofs.Common.{◌≡◌, ℕ, ◌+◌, ◌*◌, ◌<◌, List, [], Option, Some, None, refl, sym, ap, ◌∙◌, subst, arith, true, map}
 use Rattle.std.specs.Prelude.{bit_and, IsTrue, option_map}
 use Rattle.std.specs.Option.{option_map_or}
 use Rattle.model_registers.specs.Registers.{config}
 use Rattle.model_registers.specs.ByteEnables.{lanes}
-use Rattle.model_registers.specs.Declarations.{Bridge, HasLawfulRegions, IoDecode, no_io, io16, io32, PrefDecode, no_pref, pref32, pref64}
+use Rattle.model_registers.specs.Declarations.{Bridge, HasLawfulRegions, IoDecode, no_io, io16, io32, PrefDecode, no_pref, pref32, pref64, Bar, Endpoint}
 use Rattle.model_registers.specs.DeclarationRules.{IsLawfulEndpoint}
 use Rattle.model_registers.specs.EndpointTable.{endpoint_reset}
 use Rattle.model_registers.specs.BridgeTable.{bridge_file}
-use Rattle.model_board.specs.Board.{Decl, endpoint, bridge, is_bridge, is_multifunction}
-use Rattle.model_board.specs.State.{BoardFunction, State}
+use Rattle.model_board.specs.Board.{Decl, endpoint, bridge, is_bridge, is_multifunction, Board, Row, stands_at}
+use Rattle.model_board.specs.State.{BoardFunction, State, row_at}
 use Rattle.model_board.specs.Cycles.{BusAddress, reached}
 use Rattle.model_board.specs.Lawful.{IsLawfulDecl}
 use Rattle.model_set_up.specs.Scanning.{board_numbers, with_numbers, numbered_file, IsNumbered}
 use Rattle.model_board.specs.AtReset.{board_at}
 use Rattle.bus_scan.specs.Probes.{mask_shown, TakesBack, decl_reached, IsEndpointReached, IsBridgeReached, regions_in, io_in, pref_in, regions_reached, io_reached, pref_reached}
-use Rattle.bus_scan.proofs.ProbedFiles.{Probed}
+use Rattle.bus_scan.proofs.ProbedFiles.{Probed, io_mask, pref_mask, probed_io, probed_pref}
 use Rattle.bus_scan.proofs.ProbedEndpoints.{mask_at, probed_endpoint}
-use Rattle.bus_scan.proofs.ProbedBridges.{io_mask, pref_mask, probed_io, probed_pref}
-use Rattle.bus_scan.proofs.NumberedStates.{holds, each_reached, each_unmapped}
+use Rattle.bus_scan.proofs.NumberedStates.{holds, each_reached, each_unmapped, has_numbers, in_itself, only_there}
 use Rattle.bus_scan.proofs.ReachedFiles.{shows, takes_back}
+use Rattle.model_registers.specs.OwnCopies.{bare}
+use Rattle.lists.specs.Elements.{IsIn}
+use Rattle.model_board.specs.Paths.{Path, path_eq, last_part}
+use Rattle.model_set_up.specs.Reach.{address_of}
+use Rattle.model_set_up.specs.FunctionTable.{TableRow, table_row, met_decl, found_decl}
+use Rattle.lists.proofs.Members.{each_in, from_map, any_in}
+use Rattle.model_board.proofs.PathEnds.{path_self}
+use Rattle.model_set_up.proofs.Routes.{reached_by_numbers}
+use Rattle.headers.specs.Decodes.{io_decode_of, pref_decode_of}
+use Rattle.headers.specs.declared.decodes.IoDecode.{IoDecode as ShownIo}
+use Rattle.headers.specs.declared.decodes.PrefDecode.{PrefDecode as ShownPref}
+use Rattle.bus_scan.specs.declared.table.Found.{Found}
+use Rattle.bus_scan.specs.declared.table.Found.TheVariants.{Endpoint as FoundEndpoint, Bridge as FoundBridge}
+use Rattle.bus_scan.specs.Rows.{regions_of, decl_of, range_of}
+use Rattle.bus_scan.specs.SizedRows.{IsScannedRow, bars_of}
+use Rattle.bus_scan.proofs.SizedBars.{regions_of_bars}
 
 pub reached_decl : (fs : List BoardFunction) (at : BusAddress) (d : Decl) → decl_reached fs at ≡ Some d → (f : BoardFunction) × (reached fs at ≡ Some f) × (f.decl ≡ d)
-reached_decl fs at d h = by_case (reached fs at) refl h
-  where
-    by_case : (o : Option BoardFunction) → reached fs at ≡ o → option_map (λ (f : BoardFunction). f.decl) o ≡ Some d → (f : BoardFunction) × (reached fs at ≡ Some f) × (f.decl ≡ d)
-    by_case None e k = cc
-    by_case (Some f) e k = (f, e, let same : f.decl ≡ d = cc in same)
+reached_decl fs at d h = grind arith
 
 module _ (s : State) (h : IsNumbered s) (at : BusAddress) where
   -- ---- bridges
@@ -96,35 +107,132 @@ module _ (s : State) (h : IsNumbered s) (at : BusAddress) where
 
 -- ---- the decode that a mask tells
 
-pub io_none : (io : IoDecode) (mask : ℕ) → mask ≡ io_mask io → mask ≡ 0 → no_io ≡ io
-io_none no_io mask e k = refl
-io_none io16 mask e k = absurd (omega arith)
-io_none io32 mask e k = absurd (omega arith)
+pub io_told : (io : IoDecode) (mask : ℕ) → mask ≡ io_mask io
+    → (mask ≡ 0 → no_io ≡ io) × ((mask ≡ 0 → ⊥) → bit_and mask 15 ≡ 0 → io16 ≡ io) × ((mask ≡ 0 → ⊥) → (bit_and mask 15 ≡ 0 → ⊥) → io32 ≡ io)
+io_told no_io mask e = (λ _. refl, λ some _. absurd (some e), λ some _. absurd (some e))
+io_told io16 mask e = (λ k. absurd (omega (arith, k)), λ _ _. refl, λ some k. absurd (k (ap (λ n. bit_and n 15) e)))
+io_told io32 mask e = (λ k. absurd (omega (arith, k)), λ some k. absurd (omega (arith, k, ap (λ n. bit_and n 15) e)), λ _ _. refl)
 
-low_bits : (mask m : ℕ) → mask ≡ m → bit_and mask 15 ≡ bit_and m 15
-low_bits mask m e = ap (λ n. bit_and n 15) e
+pub pref_told : (pref : PrefDecode) (mask : ℕ) → mask ≡ pref_mask pref
+    → (mask ≡ 0 → no_pref ≡ pref) × ((mask ≡ 0 → ⊥) → bit_and mask 15 ≡ 0 → pref32 ≡ pref) × ((mask ≡ 0 → ⊥) → (bit_and mask 15 ≡ 0 → ⊥) → pref64 ≡ pref)
+pref_told no_pref mask e = (λ _. refl, λ some _. absurd (some e), λ some _. absurd (some e))
+pref_told pref32 mask e = (λ k. absurd (omega (arith, k)), λ _ _. refl, λ some k. absurd (k (ap (λ n. bit_and n 15) e)))
+pref_told pref64 mask e = (λ k. absurd (omega (arith, k)), λ some k. absurd (omega (arith, k, ap (λ n. bit_and n 15) e)), λ _ _. refl)
 
-pub io_narrow : (io : IoDecode) (mask : ℕ) → mask ≡ io_mask io → (mask ≡ 0 → ⊥) → bit_and mask 15 ≡ 0 → io16 ≡ io
-io_narrow no_io mask e some k = absurd (some e)
-io_narrow io16 mask e some k = refl
-io_narrow io32 mask e some k = absurd (omega (arith, low_bits mask 0xf1f1 e))
+-- ---- rows of the table: the function that a row's number reaches, and a row before and after sizing
 
-pub io_wide : (io : IoDecode) (mask : ℕ) → mask ≡ io_mask io → (mask ≡ 0 → ⊥) → (bit_and mask 15 ≡ 0 → ⊥) → io32 ≡ io
-io_wide no_io mask e some k = absurd (some e)
-io_wide io16 mask e some k = absurd (k (low_bits mask 0xf0f0 e))
-io_wide io32 mask e some k = refl
+-- ---- the function of a row
 
-pub pref_none : (pref : PrefDecode) (mask : ℕ) → mask ≡ pref_mask pref → mask ≡ 0 → no_pref ≡ pref
-pref_none no_pref mask e k = refl
-pref_none pref32 mask e k = absurd (omega arith)
-pref_none pref64 mask e k = absurd (omega arith)
+module _ (s : State) (h : IsNumbered s) where
+  row_reached : (r : Row) → IsIn r (board_at s.functions) → decl_reached s.functions (address_of (board_at s.functions) r.path) ≡ Some r.decl
+  row_reached r m =
+      let f = from_map row_at r s.functions m in
+      let stands : stands_at (board_at s.functions) r.path ≡ true = any_in (λ (q : Row). path_eq q.path r.path) r (board_at s.functions) m (path_self r.path) in
+      let g = reached_by_numbers (board_at s.functions) h.board s.functions (has_numbers s h) r.path stands in
+      let inside : IsIn g.0 s.functions = each_reached (λ x. IsIn x s.functions) s.functions (address_of (board_at s.functions) r.path) g.0 (in_itself s.functions) g.1 in
+      let path : g.0.path ≡ f.0.path = g.2 ∙ ap (λ (r : Row). r.path) f.2 in
+      let same : g.0 ≡ f.0 =
+      each_in (λ x. path_eq x.path f.0.path ≡ true → x ≡ f.0) g.0 s.functions (only_there s.functions h.board f.0 f.1) inside (subst (λ (p : Path). path_eq p f.0.path ≡ true) (sym path) (path_self f.0.path)) in
+      ap (λ o. option_map (λ (f : BoardFunction). f.decl) o) g.1 ∙ ap (λ (x : BoardFunction). Some x.decl) same ∙ ap (λ (r : Row). Some r.decl) (sym f.2)
 
-pub pref_narrow : (pref : PrefDecode) (mask : ℕ) → mask ≡ pref_mask pref → (mask ≡ 0 → ⊥) → bit_and mask 15 ≡ 0 → pref32 ≡ pref
-pref_narrow no_pref mask e some k = absurd (some e)
-pref_narrow pref32 mask e some k = refl
-pref_narrow pref64 mask e some k = absurd (omega (arith, low_bits mask 0xfff1fff1 e))
+  pub found_reached : (at : BusAddress) (row : TableRow) → at ≡ record { bus = row.bus; part = last_part row.path } → (r : Row) → IsIn r (board_at s.functions) → row ≡ table_row (board_at s.functions) met_decl r
+      → decl_reached s.functions at ≡ Some r.decl
+  found_reached at row number r m e = ap (decl_reached s.functions) (number ∙ ap (λ (t : TableRow). record { bus = t.bus; part = last_part t.path }) e) ∙ row_reached r m
 
-pub pref_wide : (pref : PrefDecode) (mask : ℕ) → mask ≡ pref_mask pref → (mask ≡ 0 → ⊥) → (bit_and mask 15 ≡ 0 → ⊥) → pref64 ≡ pref
-pref_wide no_pref mask e some k = absurd (some e)
-pref_wide pref32 mask e some k = absurd (k (low_bits mask 0xfff0fff0 e))
-pref_wide pref64 mask e some k = refl
+  met_as_endpoint : (d : Decl) (e : Endpoint) → endpoint e ≡ met_decl d → (x : Endpoint) × (d ≡ endpoint x)
+  met_as_endpoint (endpoint d) e h = (d, refl)
+  met_as_endpoint (bridge d) e h = cc
+
+  met_as_bridge : (d : Decl) (e : Bridge) → bridge e ≡ met_decl d → (x : Bridge) × (d ≡ bridge x)
+  met_as_bridge (endpoint d) e h = cc
+  met_as_bridge (bridge d) e h = (d, refl)
+
+  pub endpoint_reached : (at : BusAddress) (row : TableRow) → at ≡ record { bus = row.bus; part = last_part row.path } → IsScannedRow (board_at s.functions) row → (e : Endpoint) → row.decl ≡ endpoint e → IsEndpointReached s.functions at
+  endpoint_reached at row number is e decl =
+      let x = met_as_endpoint is.0.decl e (sym decl ∙ ap (λ (t : TableRow). t.decl) is.2) in
+      (x.0, found_reached at row number is.0 is.1 is.2 ∙ ap Some x.1)
+
+  pub bridge_reached : (at : BusAddress) (row : TableRow) → at ≡ record { bus = row.bus; part = last_part row.path } → IsScannedRow (board_at s.functions) row → (e : Bridge) → row.decl ≡ bridge e → IsBridgeReached s.functions at
+  bridge_reached at row number is e decl =
+      let x = met_as_bridge is.0.decl e (sym decl ∙ ap (λ (t : TableRow). t.decl) is.2) in
+      (x.0, found_reached at row number is.0 is.1 is.2 ∙ ap Some x.1)
+
+-- ---- a row before and after
+
+abbrev pub row_of : Path → ℕ → ℕ → ℕ → Found → TableRow
+row_of path bus vendor device found = record { path = path; bus = bus; behind = range_of found; decl = decl_of vendor device found }
+
+endpoint_in : Decl → Endpoint → Endpoint
+endpoint_in (endpoint d) e = d
+endpoint_in (bridge d) e = e
+
+bridge_in : Decl → Bridge → Bridge
+bridge_in (endpoint d) e = e
+bridge_in (bridge d) e = d
+
+row_at_path : Path → Decl → Row
+row_at_path p d = record { path = p; decl = d }
+
+sized_endpoint_at : (b : Board) (path : Path) (bus vendor device pin : ℕ) (old bars : List (Option Bar)) (p : Path) (d : Decl)
+    → row_of path bus vendor device (FoundEndpoint pin old) ≡ table_row b met_decl (row_at_path p d) → regions_of bars ≡ map bare (regions_in d)
+    → row_of path bus vendor device (FoundEndpoint pin bars) ≡ table_row b found_decl (row_at_path p d)
+unfolding endpoint_in row_at_path
+sized_endpoint_at b path bus vendor device pin old bars p (bridge d) e regions = let no : decl_of vendor device (FoundEndpoint pin old) ≡ met_decl (bridge d) = ap (λ (t : TableRow). t.decl) e in cc
+sized_endpoint_at b path bus vendor device pin old bars p (endpoint d) e regions =
+    λ i. record {
+      path = ap (λ (t : TableRow). t.path) e i;
+      bus = ap (λ (t : TableRow). t.bus) e i;
+      behind = None;
+      decl = endpoint (record {
+        vendor = ap (λ (t : TableRow). (endpoint_in t.decl d).vendor) e i;
+        device = ap (λ (t : TableRow). (endpoint_in t.decl d).device) e i;
+        revision = 0;
+        class = 0;
+        subvendor = 0;
+        subsystem = 0;
+        pin = ap (λ (t : TableRow). (endpoint_in t.decl d).pin) e i;
+        min_gnt = 0;
+        max_lat = 0;
+        status = 0;
+        regions = regions i;
+        blocks = [];
+      });
+    }
+
+sized_bridge_at : (b : Board) (path : Path) (bus vendor device secondary subordinate : ℕ) (io jo : ShownIo) (pref qref : ShownPref) (p : Path) (d : Decl)
+    → row_of path bus vendor device (FoundBridge secondary subordinate io pref) ≡ table_row b met_decl (row_at_path p d) → io_decode_of jo ≡ io_in d → pref_decode_of qref ≡ pref_in d
+    → row_of path bus vendor device (FoundBridge secondary subordinate jo qref) ≡ table_row b found_decl (row_at_path p d)
+unfolding bridge_in row_at_path
+sized_bridge_at b path bus vendor device secondary subordinate io jo pref qref p (endpoint d) e ios prefs =
+    let no : decl_of vendor device (FoundBridge secondary subordinate io pref) ≡ met_decl (endpoint d) = ap (λ (t : TableRow). t.decl) e in cc
+sized_bridge_at b path bus vendor device secondary subordinate io jo pref qref p (bridge d) e ios prefs =
+    λ i. record {
+      path = ap (λ (t : TableRow). t.path) e i;
+      bus = ap (λ (t : TableRow). t.bus) e i;
+      behind = ap (λ (t : TableRow). t.behind) e i;
+      decl = bridge (record {
+        vendor = ap (λ (t : TableRow). (bridge_in t.decl d).vendor) e i;
+        device = ap (λ (t : TableRow). (bridge_in t.decl d).device) e i;
+        revision = 0;
+        io = ios i;
+        pref = prefs i;
+      });
+    }
+
+module _ (s : State) (h : IsNumbered s) (at : BusAddress) (row : TableRow) (number : at ≡ record { bus = row.bus; part = last_part row.path }) (r : Row) (m : IsIn r (board_at s.functions)) (met : row ≡ table_row (board_at s.functions) met_decl r) where
+  pub sized_endpoint : IsEndpointReached s.functions at → (path : Path) (bus vendor device pin : ℕ) (old bars : List (Option Bar)) → row_of path bus vendor device (FoundEndpoint pin old) ≡ row
+      → bars ≡ bars_of (regions_reached s.functions at) → row_of path bus vendor device (FoundEndpoint pin bars) ≡ table_row (board_at s.functions) found_decl r
+  unfolding row_at_path
+  sized_endpoint is path bus vendor device pin old bars view told =
+      sized_endpoint_at (board_at s.functions) path bus vendor device pin old bars r.path r.decl (view ∙ met)
+      (ap regions_of told ∙ regions_of_bars (regions_reached s.functions at) (lawful_regions s h at is)
+      ∙ ap (λ o. map bare (option_map_or regions_in o [])) (found_reached s h at row number r m met))
+
+  pub sized_bridge : (path : Path) (bus vendor device secondary subordinate : ℕ) (io jo : ShownIo) (pref qref : ShownPref) → row_of path bus vendor device (FoundBridge secondary subordinate io pref) ≡ row
+      → io_decode_of jo ≡ io_reached s.functions at → pref_decode_of qref ≡ pref_reached s.functions at
+      → row_of path bus vendor device (FoundBridge secondary subordinate jo qref) ≡ table_row (board_at s.functions) found_decl r
+  unfolding row_at_path
+  sized_bridge path bus vendor device secondary subordinate io jo pref qref view ios prefs =
+      sized_bridge_at (board_at s.functions) path bus vendor device secondary subordinate io jo pref qref r.path r.decl (view ∙ met)
+      (ios ∙ ap (λ o. option_map_or io_in o no_io) (found_reached s h at row number r m met))
+      (prefs ∙ ap (λ o. option_map_or pref_in o no_pref) (found_reached s h at row number r m met))

@@ -1,18 +1,17 @@
 -- Boards whose bridges hold some bus numbers, all else at reset.
-use Rattle.std.proofs.Common.{◌≡◌, inl, inr, Bool, true, false, cond, ◌&&◌, ◌||◌, List, [], ◌∷◌, map, Option, Some, None, refl, sym, ap, ap₂, ◌∙◌}
+use Rattle.std.proofs.Common.{◌≡◌, inl, inr, Bool, true, false, cond, ◌&&◌, List, [], ◌∷◌, map, Option, Some, None, refl, sym, ap, ap₂, ◌∙◌, arith}
 use Rattle.std.specs.Prelude.{find}
 use Rattle.std.specs.List.{list_any}
 use Rattle.std.specs.Option.{option_map_or}
 use Rattle.model_registers.specs.Registers.{config, File, write}
 use Rattle.model_registers.specs.ByteEnables.{lanes}
-use Rattle.model_registers.specs.BridgeTable.{bridge_file}
 use Rattle.lists.specs.Elements.{IsIn}
 use Rattle.model_board.specs.Paths.{Path, path_eq}
 use Rattle.model_board.specs.Board.{Decl, endpoint, bridge, Board, Row, is_bridge, is_bridge_at, stands_at, is_multifunction, IsBoard}
 use Rattle.model_board.specs.State.{BoardFunction, State, with_file, state_of}
 use Rattle.model_board.specs.Cycles.{BusAddress, reached}
 use Rattle.model_board.specs.Ports.{after_config_write}
-use Rattle.model_set_up.specs.Scanning.{BusNumbers, with_numbers, numbered_file}
+use Rattle.model_set_up.specs.Scanning.{BusNumbers, numbered_file}
 use Rattle.lists.proofs.Members.{any_in, from_any}
 use Rattle.model_board.proofs.PathOrder.{path_same}
 use Rattle.model_board.proofs.PathEnds.{path_self}
@@ -34,13 +33,7 @@ pub bridge_there : (b : Board) (r : Row) → IsIn r b → is_bridge r.decl ≡ t
 bridge_there b r m is = any_in (λ (s : Row). is_bridge s.decl && path_eq s.path r.path) r b m (rw is (path_self r.path))
 
 same_function : (b : Board) (n m : Numbers) → ((q : Path) → is_bridge_at b q ≡ true → n q ≡ m q) → (r : Row) → IsIn r b → numbered b n r ≡ numbered b m r
-same_function b n m h r k = by_decl r.decl refl
-  where
-    by_decl : (d : Decl) → r.decl ≡ d → numbered b n r ≡ numbered b m r
-    by_decl (endpoint d) e = ap₂ (λ (c : Decl) (file : File). let f : BoardFunction = record { path = r.path; decl = r.decl; file = file } in f) e (ap (numbered_file b n r.path) e ∙ sym (ap (numbered_file b m r.path) e))
-    by_decl (bridge d) e =
-        ap (λ (file : File). let f : BoardFunction = record { path = r.path; decl = r.decl; file = file } in f)
-        (ap (numbered_file b n r.path) e ∙ ap (λ (x : BusNumbers). bridge_file d (is_multifunction b r.path) (with_numbers x)) (h r.path (bridge_there b r k (ap is_bridge e))) ∙ sym (ap (numbered_file b m r.path) e))
+same_function b n m h r k = grind (arith, bridge_there)
 
 pub map_same : {A B : Type 0} (f g : A → B) (xs : List A) → ((x : A) → IsIn x xs → f x ≡ g x) → map f xs ≡ map g xs
 map_same f g [] h = refl
@@ -53,19 +46,11 @@ same_state b n m h = ap (λ (fs : List BoardFunction). let s : State = record { 
 
 find_map : {A B : Type 0} (t : B → Bool) (f : A → B) (xs : List A) → (y : A) → find (λ x. t (f x)) xs ≡ Some y → find t (map f xs) ≡ Some (f y)
 find_map t f [] y h = cc
-find_map {A} {B} t f (x ∷ xs) y h = by_test (t (f x)) h (find_map t f xs y)
-  where
-    by_test : (c : Bool) → cond c (Some x) (find (λ x. t (f x)) xs) ≡ Some y → (find (λ x. t (f x)) xs ≡ Some y → find t (map f xs) ≡ Some (f y)) → cond c (Some (f x)) (find t (map f xs)) ≡ Some (f y)
-    by_test true e more = let same : x ≡ y = cc in ap (λ z. Some (f z)) same
-    by_test false e more = more e
+find_map {A} {B} t f (x ∷ xs) y h = grind (arith, find_map t f xs y)
 
 find_none : {A B : Type 0} (t : B → Bool) (f : A → B) (xs : List A) → list_any (λ x. t (f x)) xs ≡ false → find t (map f xs) ≡ None
 find_none t f [] h = refl
-find_none {A} {B} t f (x ∷ xs) h = by_test (t (f x)) h (find_none t f xs)
-  where
-    by_test : (c : Bool) → (c || list_any (λ x. t (f x)) xs) ≡ false → (list_any (λ x. t (f x)) xs ≡ false → find t (map f xs) ≡ None) → cond c (Some (f x)) (find t (map f xs)) ≡ None
-    by_test true e more = cc
-    by_test false e more = more e
+find_none {A} {B} t f (x ∷ xs) h = grind (arith, find_none t f xs)
 
 pub none_stands : (b : Board) (numbers : Numbers) (p : Path) → stands_at b p ≡ false → find (λ f. path_eq f.path p) (state_of b (numbered_file b numbers)).functions ≡ None
 none_stands b numbers p h = find_none (λ f. path_eq f.path p) (numbered b numbers) b h
@@ -88,14 +73,7 @@ module _ (b : Board) (lawful : IsBoard b) (numbers : Numbers) (p : Path) (there 
   put f = record f { file = write (lanes 7) (numbers_word n) (config 0x18) f.file }
 
   other_stays : (r : Row) (t : Bool) → path_eq r.path p ≡ t → t ≡ false → numbered b numbers r ≡ numbered b (given p n numbers) r
-  other_stays r t e h = by_decl r.decl
-    where
-      off : path_eq r.path p ≡ false
-      off = e ∙ h
-
-      by_decl : (d : Decl) → numbered b numbers (record r { decl = d }) ≡ numbered b (given p n numbers) (record r { decl = d })
-      by_decl (endpoint d) = refl
-      by_decl (bridge d) = rw off refl
+  other_stays r t e h = grind arith
 
   here_changes : (r : Row) → IsIn r b → path_eq r.path p ≡ true → put (numbered b numbers r) ≡ numbered b (given p n numbers) r
   here_changes r m e = by_decl r.decl refl

@@ -64,10 +64,7 @@ field_lacks_below (suc n) a q v w c h = ap₂ (λ (s t : Bool). s || t) (above a
 -- a write of the lowest byte changes the first cell alone
 first_written : (on : Bool) (ons : List Bool) (x a : ℕ) (c : Cell) (es : File) → has_place es (config a) ≡ false
     → write (on ∷ ons) x (config a) (record { place = config a; cell = c } ∷ es) ≡ record { place = config a; cell = cond on (written (x % 256) c) c } ∷ write ons (x / 256) (config (a + 1)) es
-first_written true ons x a c es none =
-    ap₂ (λ (t : Bool) (file : File). write ons (x / 256) (config (a + 1)) (cond t (record { place = config a; cell = written (x % 256) c }) (record { place = config a; cell = c }) ∷ file))
-    (self a) (change_none (written (x % 256)) es (config a) none)
-    ∙ write_past ons (x / 256) (a + 1) a (written (x % 256) c) es (omega arith)
+first_written true ons x a c es none = grind (arith, self, change_none, write_past)
 first_written false ons x a c es none = write_past ons (x / 256) (a + 1) a c es (omega arith)
 
 low_of : (on : Bool) (v r : ℕ) → v < 256 → (cond on v 0 + 256 * r) / 256 ≡ r
@@ -83,18 +80,4 @@ byte_back true v w x r h k =
 pub field_back : (ons : List Bool) (x a v w : ℕ)
     → write ons (read (field (config a) (length ons) v w 0) (config a) ons) (config a) (write ons x (config a) (field (config a) (length ons) v w 0)) ≡ field (config a) (length ons) v w 0
 field_back [] x a v w = refl
-field_back (on ∷ ons) x a v w =
-    let c : Cell = record { value = v % 256; writable = w % 256; clearable = 0 } in
-    let es : File = field (config (a + 1)) (length ons) (v / 256) (w / 256) 0 in
-    let none : has_place es (config a) ≡ false = field_lacks_below (length ons) (a + 1) a (v / 256) (w / 256) 0 (omega arith) in
-    let more : ℕ = read es (config (a + 1)) ons in
-    let after_x : File = write ons (x / 256) (config (a + 1)) es in
-    let none_after : has_place after_x (config a) ≡ false = places_stay ons (x / 256) (config (a + 1)) (config a) es ∙ none in
-    let before : read (record { place = config a; cell = c } ∷ es) (config a) (on ∷ ons) ≡ cond on (v % 256) 0 + 256 * more =
-    ap₂ (λ (k : Cell) n. cond on k.value 0 + 256 * n) (read_here a c es) (read_past ons (a + 1) a c es (omega arith)) in
-    let old : ℕ = cond on (v % 256) 0 + 256 * more in
-    ap₂ (λ n (file : File). write (on ∷ ons) n (config a) file) before (first_written on ons x a c es none)
-    ∙ first_written on ons old a (cond on (written (x % 256) c) c) after_x none_after
-    ∙ ap₂ (λ (k : Cell) (file : File). record { place = config a; cell = k } ∷ file)
-    (byte_back on (v % 256) (w % 256) (x % 256) more (omega arith) (omega arith))
-    (ap (λ n. write ons n (config (a + 1)) after_x) (low_of on (v % 256) more (omega arith)) ∙ field_back ons (x / 256) (a + 1) (v / 256) (w / 256))
+field_back (on ∷ ons) x a v w = grind (arith, field_lacks_below, places_stay, read_here, read_past, first_written, byte_back, low_of, field_back ons (x / 256) (a + 1) (v / 256) (w / 256))

@@ -1,5 +1,5 @@
 use Rattle.paths.specs.BusAddresses.{bus_address_of}
-use Rattle.bus_scan.proofs.BarSlots.{BarsBelow}
+use Rattle.bus_scan.proofs.SizedBars.{BarsBelow}
 use Rattle.bus_scan.proofs.sizing.size_bars.Given as goal
 
 abbrev pub invariant-loop-reg : goal.invariant-loop-reg

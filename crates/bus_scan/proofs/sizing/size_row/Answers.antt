@@ -6,7 +6,7 @@ use Rattle.bus_scan.specs.declared.table.Found.TheVariants as variants
 use Rattle.bus_scan.specs.declared.table.FunctionRow.TheInside.{Inside}
 use Rattle.bus_scan.specs.Rows.{decl_of}
 use Rattle.bus_scan.specs.Probes.{IsBridgeReached, pref_reached}
-use Rattle.bus_scan.proofs.SizedTableRows.{row_of, endpoint_reached, bridge_reached, sized_endpoint, sized_bridge}
+use Rattle.bus_scan.proofs.SizedFunctions.{row_of, endpoint_reached, bridge_reached, sized_endpoint, sized_bridge}
 use Rattle.bus_scan.proofs.sizing.size_row.Goals as goal
 use Rattle.bus_scan.proofs.sizing.size_row.Goals.{in-Endpoint, in-Bridge}
 
