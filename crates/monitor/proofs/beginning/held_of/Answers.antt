@@ -1,7 +1,6 @@
 use Rattle.std.proofs.Common.{sym, subst, List, map}
 use Rattle.model_registers.specs.Declarations.{HasLawfulRegions}
 use Rattle.model_registers.specs.EndpointTable.{BaseAddress, opened}
-use Rattle.model_set_up.specs.PlacedRegions.{placed}
 use Rattle.bridge_forward.specs.BasesNow.{bases_nth}
 use Rattle.monitor.proofs.FirstFunctions.{decls_reset, held_at_first}
 use Rattle.monitor.proofs.beginning.held_of.Goals as goal

@@ -1,5 +1,4 @@
-use Rattle.std.proofs.Common.{◌∙◌, refl, sym, Err}
-use Rattle.std.specs.Prelude.{Ok}
+use Rattle.std.proofs.Common.{◌∙◌, refl, sym}
 use Rattle.monitor.proofs.DeviceSteps.{out_of_reach, byte_refused}
 use Rattle.monitor.proofs.device.reached.Goals as goal
 

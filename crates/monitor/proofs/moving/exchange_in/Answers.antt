@@ -1,6 +1,5 @@
 use Rattle.std.proofs.Common.{List, Option, ap, drop, length, refl, slice_get, slice_set, subst, sym, ◌<◌, ◌∙◌}
 use Rattle.std.specs.Prelude.{slice_index_or}
-use Rattle.model_guests.specs.Grammar.{guest}
 use Rattle.monitor.specs.declared.guest.Guest.{Guest}
 use Rattle.monitor.specs.declared.guest.Held.{Held}
 use Rattle.monitor.proofs.Calls.{given_back}

@@ -1,7 +1,6 @@
-use Rattle.std.proofs.Common.{Some, subst, sym}
-use Rattle.std.specs.Prelude.{Option}
+use Rattle.std.proofs.Common.{Some, subst}
 use Rattle.monitor.specs.declared.guest.Held.{Held}
-use Rattle.monitor.specs.Moves.{IsExchanged, reset_held}
+use Rattle.monitor.specs.Moves.{IsExchanged}
 use Rattle.monitor.proofs.Exchanges.{has_held, has_left}
 use Rattle.monitor.proofs.moving.hand_over.Goals as goal
 

@@ -1,5 +1,3 @@
-use Rattle.std.proofs.Common.{Err, None, Some}
-use Rattle.std.specs.Prelude.{Ok}
 use Rattle.monitor.proofs.Queries.{answer_there, answer_refused}
 use Rattle.monitor.proofs.regions.region_in.Goals as goal
 

@@ -1,4 +1,4 @@
-use Rattle.std.proofs.Common.{◌∙◌, ℕ, Option, cond, ap, Some}
+use Rattle.std.proofs.Common.{◌∙◌, ℕ, Option, cond, ap}
 use Rattle.std.specs.Prelude.{is_some}
 use Rattle.model_guests.specs.Accesses as guests
 use Rattle.model_guests.specs.Lone.{LoneGuest, changed_by}

@@ -1,7 +1,6 @@
 use Rattle.std.proofs.Common.{◌∙◌, ap, sym}
 use Rattle.model_guests.specs.Accesses.{configuration}
 use Rattle.model_guests.specs.Lone.{at_target, after_access_at}
-use Rattle.bridge_forward.specs.declared.cycle.Op.TheVariants.{Read}
 use Rattle.accesses.specs.Accesses.{op_of}
 use Rattle.config_bytes.specs.declared.op.Op.{Op}
 use Rattle.monitor.specs.ByIndex.{lone_nth, with_lone_nth}

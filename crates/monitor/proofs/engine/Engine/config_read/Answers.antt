@@ -1,4 +1,4 @@
-use Rattle.std.proofs.Common.{◌∙◌, Some, arith}
+use Rattle.std.proofs.Common.{◌∙◌, arith}
 use Rattle.monitor.proofs.Steps.{empty_lent, slot_lent}
 use Rattle.monitor.proofs.ConfigSteps.{seen, config_reads, config_reads_ones}
 use Rattle.monitor.proofs.Calls.{guest_in, inside_guests}

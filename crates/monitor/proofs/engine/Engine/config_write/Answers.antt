@@ -1,6 +1,5 @@
-use Rattle.std.proofs.Common.{◌∙◌, List, ap, sym, subst, arith, Some}
+use Rattle.std.proofs.Common.{◌∙◌, List, ap, sym, subst, arith}
 use Rattle.model_registers.specs.ByteEnables.{enables_of, into_lanes}
-use Rattle.model_guests.proofs.MovedFunctions.{moved}
 use Rattle.monitor.specs.declared.guest.Guest.{Guest}
 use Rattle.monitor.specs.Configs.{HoldsAt}
 use Rattle.monitor.proofs.ConfigSteps.{config_drops, config_written, written_lent}

@@ -1,5 +1,4 @@
-use Rattle.std.proofs.Common.{◌∙◌, ap, arith, Err, sym}
-use Rattle.std.specs.Prelude.{Ok}
+use Rattle.std.proofs.Common.{◌∙◌, ap, arith, sym}
 use Rattle.model_guests.specs.Guests.{GuestsNow}
 use Rattle.monitor.specs.Views.{texts, world_shown}
 use Rattle.monitor.specs.DeviceBytes.{device_byte}

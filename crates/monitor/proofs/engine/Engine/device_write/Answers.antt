@@ -1,5 +1,4 @@
-use Rattle.std.proofs.Common.{arith, Err}
-use Rattle.std.specs.Prelude.{Ok}
+use Rattle.std.proofs.Common.{arith}
 use Rattle.monitor.specs.DeviceBytes.{device_byte}
 use Rattle.model_devices.specs.DeviceEvents.{device_writes}
 use Rattle.monitor.proofs.ResetSteps.{device_refused, nothing_changed}

@@ -1,5 +1,4 @@
 use Rattle.std.proofs.Common.{◌<◌, ◌∙◌, List, length, sym, subst}
-use Rattle.std.specs.Prelude.{Ok}
 use Rattle.lists.proofs.Indices.{at_below}
 use Rattle.monitor.specs.declared.guest.Guest.{Guest}
 use Rattle.monitor.specs.Moves.{HasSlot}

@@ -2,7 +2,6 @@ use Rattle.std.proofs.Common.{◌<◌, ◌∙◌, List, length, ap, sym, subst, 
 use Rattle.lists.proofs.Indices.{at_below}
 use Rattle.model_guests.specs.Accesses.{answered}
 use Rattle.model_guests.specs.Lone.{own_latch, reply_at, after_access_at}
-use Rattle.bridge_forward.specs.declared.cycle.Op.TheVariants.{Read, Write}
 use Rattle.accesses.specs.Accesses.{op_of}
 use Rattle.config_bytes.specs.declared.op.Op.{Op}
 use Rattle.monitor.specs.declared.guest.Guest.{Guest}

@@ -1,4 +1,4 @@
-use Rattle.std.proofs.Common.{◌∙◌, List, subst, arith, Some, sym}
+use Rattle.std.proofs.Common.{◌∙◌, List, subst, arith, sym}
 use Rattle.monitor.specs.declared.guest.Guest.{Guest}
 use Rattle.monitor.specs.Configs.{HoldsAt}
 use Rattle.monitor.specs.Moves.{HasSlot}

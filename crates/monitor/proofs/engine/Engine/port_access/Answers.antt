@@ -1,5 +1,4 @@
 use Rattle.std.proofs.Common.{◌≡◌, ◌∙◌, ℕ, ap, sym, arith}
-use Rattle.model_registers.specs.ConfigAddress.{is_address_port}
 use Rattle.model_guests.specs.Accesses.{port, configuration}
 use Rattle.model_guests.specs.Lone.{Destination, LoneGuest, at_target, by_select, destination, reply_at, after_access_at}
 use Rattle.accesses.specs.Accesses.{op_of}

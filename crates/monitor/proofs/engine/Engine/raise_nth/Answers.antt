@@ -1,5 +1,4 @@
-use Rattle.std.proofs.Common.{◌∙◌, sym, arith, Err}
-use Rattle.std.specs.Prelude.{Ok}
+use Rattle.std.proofs.Common.{◌∙◌, sym, arith}
 use Rattle.monitor.proofs.RaiseSteps.{raise_of, no_place, nothing_raised, raise_done, raise_refused, raise_slot_refused, raise_written}
 use Rattle.monitor.proofs.Reached.{endpoint_held}
 use Rattle.monitor.proofs.Calls.{guest_in, inside_guests}

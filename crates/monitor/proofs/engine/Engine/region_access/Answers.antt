@@ -1,4 +1,4 @@
-use Rattle.std.proofs.Common.{◌∙◌, ap, sym, arith, Some}
+use Rattle.std.proofs.Common.{◌∙◌, ap, sym, arith}
 use Rattle.model_guests.specs.Lone.{at_target, reply_at, after_access_at}
 use Rattle.bars.specs.Kinds.{named_space}
 use Rattle.host_bridge.specs.HostState.{HostState}

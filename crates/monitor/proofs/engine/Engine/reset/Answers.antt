@@ -1,5 +1,4 @@
-use Rattle.std.proofs.Common.{◌∙◌, List, sym, subst, arith, Err}
-use Rattle.std.specs.Prelude.{Ok}
+use Rattle.std.proofs.Common.{◌∙◌, List, sym, subst, arith}
 use Rattle.model_devices.specs.DeviceEvents.{resets}
 use Rattle.monitor.specs.declared.guest.Guest.{Guest}
 use Rattle.monitor.specs.Configs.{HoldsAt}

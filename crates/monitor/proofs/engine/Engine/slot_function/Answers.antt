@@ -1,5 +1,4 @@
-use Rattle.std.proofs.Common.{Some, None, ap, ◌∙◌, arith, Err, ℕ}
-use Rattle.std.specs.Prelude.{Ok}
+use Rattle.std.proofs.Common.{ap, ◌∙◌, arith, Err, ℕ}
 use Rattle.monitor.specs.FunctionsTold.{seat_kept}
 use Rattle.monitor.proofs.FunctionsTold.{seats_told, slot_told, slot_withheld}
 use Rattle.monitor.proofs.Given.{board_kept}

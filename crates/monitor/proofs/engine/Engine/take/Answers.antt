@@ -1,6 +1,4 @@
-use Rattle.std.proofs.Common.{◌∙◌, List, sym, subst, arith, Err}
-use Rattle.std.specs.Prelude.{Ok}
-use Rattle.model_giving.specs.Giving.{taken}
+use Rattle.std.proofs.Common.{◌∙◌, List, sym, subst, arith}
 use Rattle.monitor.specs.declared.guest.Guest.{Guest}
 use Rattle.monitor.specs.Moves.{HasSlot}
 use Rattle.monitor.proofs.TakingSteps.{nothing_taken, take_done, take_left, take_refused}
