@@ -4,226 +4,85 @@ ghost use Rattle.board_file.specs.Schema.{fields, field_of};
 
 use crate::schema::{Field, Form, Level, Words};
 
+// A key that its table needs.
+macro_rules! needed {
+    ($key:literal, $form:expr) => {
+        Field {
+            key: $key,
+            needed: true,
+            form: $form,
+        }
+    };
+}
+
+// A key that may be left out.
+macro_rules! optional {
+    ($key:literal, $form:expr) => {
+        Field {
+            key: $key,
+            needed: false,
+            form: $form,
+        }
+    };
+}
+
 const TOP: [Field; 4] = [
-    Field {
-        key: "host",
-        needed: true,
-        form: Form::Table(Level::Host),
-    },
-    Field {
-        key: "endpoint",
-        needed: false,
-        form: Form::Tables(Level::Endpoint),
-    },
-    Field {
-        key: "bridge",
-        needed: false,
-        form: Form::Tables(Level::Bridge),
-    },
-    Field {
-        key: "guest",
-        needed: false,
-        form: Form::Tables(Level::Guest),
-    },
+    needed!("host", Form::Table(Level::Host)),
+    optional!("endpoint", Form::Tables(Level::Endpoint)),
+    optional!("bridge", Form::Tables(Level::Bridge)),
+    optional!("guest", Form::Tables(Level::Guest)),
 ];
 
 const HOST: [Field; 3] = [
-    Field {
-        key: "io",
-        needed: true,
-        form: Form::Pair,
-    },
-    Field {
-        key: "mem",
-        needed: true,
-        form: Form::Pair,
-    },
-    Field {
-        key: "pref",
-        needed: false,
-        form: Form::Pair,
-    },
+    needed!("io", Form::Pair),
+    needed!("mem", Form::Pair),
+    optional!("pref", Form::Pair),
 ];
 
 const ENDPOINT: [Field; 13] = [
-    Field {
-        key: "at",
-        needed: true,
-        form: Form::Text,
-    },
-    Field {
-        key: "vendor",
-        needed: true,
-        form: Form::Integer,
-    },
-    Field {
-        key: "device",
-        needed: true,
-        form: Form::Integer,
-    },
-    Field {
-        key: "revision",
-        needed: false,
-        form: Form::Integer,
-    },
-    Field {
-        key: "class",
-        needed: true,
-        form: Form::Integer,
-    },
-    Field {
-        key: "subvendor",
-        needed: false,
-        form: Form::Integer,
-    },
-    Field {
-        key: "subsystem",
-        needed: false,
-        form: Form::Integer,
-    },
-    Field {
-        key: "pin",
-        needed: false,
-        form: Form::Integer,
-    },
-    Field {
-        key: "min_gnt",
-        needed: false,
-        form: Form::Integer,
-    },
-    Field {
-        key: "max_lat",
-        needed: false,
-        form: Form::Integer,
-    },
-    Field {
-        key: "status",
-        needed: false,
-        form: Form::Integer,
-    },
-    Field {
-        key: "bar",
-        needed: false,
-        form: Form::Tables(Level::Bar),
-    },
-    Field {
-        key: "config",
-        needed: false,
-        form: Form::Tables(Level::Config),
-    },
+    needed!("at", Form::Text),
+    needed!("vendor", Form::Integer),
+    needed!("device", Form::Integer),
+    optional!("revision", Form::Integer),
+    needed!("class", Form::Integer),
+    optional!("subvendor", Form::Integer),
+    optional!("subsystem", Form::Integer),
+    optional!("pin", Form::Integer),
+    optional!("min_gnt", Form::Integer),
+    optional!("max_lat", Form::Integer),
+    optional!("status", Form::Integer),
+    optional!("bar", Form::Tables(Level::Bar)),
+    optional!("config", Form::Tables(Level::Config)),
 ];
 
 const BAR: [Field; 7] = [
-    Field {
-        key: "index",
-        needed: true,
-        form: Form::Integer,
-    },
-    Field {
-        key: "kind",
-        needed: true,
-        form: Form::Word(Words::RegionKind),
-    },
-    Field {
-        key: "size",
-        needed: true,
-        form: Form::Integer,
-    },
-    Field {
-        key: "block",
-        needed: false,
-        form: Form::Integer,
-    },
-    Field {
-        key: "reset",
-        needed: false,
-        form: Form::Text,
-    },
-    Field {
-        key: "rw",
-        needed: false,
-        form: Form::Text,
-    },
-    Field {
-        key: "w1c",
-        needed: false,
-        form: Form::Text,
-    },
+    needed!("index", Form::Integer),
+    needed!("kind", Form::Word(Words::RegionKind)),
+    needed!("size", Form::Integer),
+    optional!("block", Form::Integer),
+    optional!("reset", Form::Text),
+    optional!("rw", Form::Text),
+    optional!("w1c", Form::Text),
 ];
 
 const CONFIG: [Field; 5] = [
-    Field {
-        key: "off",
-        needed: true,
-        form: Form::Integer,
-    },
-    Field {
-        key: "block",
-        needed: true,
-        form: Form::Integer,
-    },
-    Field {
-        key: "reset",
-        needed: false,
-        form: Form::Text,
-    },
-    Field {
-        key: "rw",
-        needed: false,
-        form: Form::Text,
-    },
-    Field {
-        key: "w1c",
-        needed: false,
-        form: Form::Text,
-    },
+    needed!("off", Form::Integer),
+    needed!("block", Form::Integer),
+    optional!("reset", Form::Text),
+    optional!("rw", Form::Text),
+    optional!("w1c", Form::Text),
 ];
 
 const BRIDGE: [Field; 6] = [
-    Field {
-        key: "at",
-        needed: true,
-        form: Form::Text,
-    },
-    Field {
-        key: "vendor",
-        needed: true,
-        form: Form::Integer,
-    },
-    Field {
-        key: "device",
-        needed: true,
-        form: Form::Integer,
-    },
-    Field {
-        key: "revision",
-        needed: false,
-        form: Form::Integer,
-    },
-    Field {
-        key: "io",
-        needed: true,
-        form: Form::Word(Words::IoDecode),
-    },
-    Field {
-        key: "pref",
-        needed: true,
-        form: Form::Word(Words::PrefDecode),
-    },
+    needed!("at", Form::Text),
+    needed!("vendor", Form::Integer),
+    needed!("device", Form::Integer),
+    optional!("revision", Form::Integer),
+    needed!("io", Form::Word(Words::IoDecode)),
+    needed!("pref", Form::Word(Words::PrefDecode)),
 ];
 
-const GUEST: [Field; 2] = [
-    Field {
-        key: "name",
-        needed: true,
-        form: Form::Text,
-    },
-    Field {
-        key: "slots",
-        needed: true,
-        form: Form::Texts,
-    },
-];
+const GUEST: [Field; 2] = [needed!("name", Form::Text), needed!("slots", Form::Texts)];
 
 /// The keys of a table of the level.
 pub fn fields(level: Level) -> &'static [Field]
