@@ -10,3 +10,5 @@ pub mod KeyBreaks
 pub mod Asked
 pub mod Pushed
 pub mod Clear
+pub mod Takers
+pub mod ToldCauses

@@ -17,3 +17,4 @@ pub mod AllProblems
 pub mod Lines
 pub mod Texts
 pub mod Telling
+pub mod CauseLaws

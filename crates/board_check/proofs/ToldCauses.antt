@@ -1,0 +1,322 @@
+-- Of each problem of registers and of cell masks something is said beyond the words of its rule.
+use Rattle.std.proofs.Common.{◌≡◌, ◌≢◌, ◌⊎◌, inl, inr, ℕ, zero, suc, ◌+◌, Bool, true, false, ◌&&◌, ◌||◌, ◌==◌, not, cond, List, [], ◌∷◌, ◌++◌, length, take, map, Option, Some, None, option_map, refl, sym, ap, subst, ◌∙◌, arith}
+use Rattle.std.specs.Prelude.{codes, filter, slice_get, nat_abs, option_and_then, if◌then◌else◌}
+use Rattle.std.specs.List.{flat_map, list_all, position, enumerate_from}
+use Rattle.std.specs.Option.{option_map_or}
+use Rattle.std.proofs.lemmas.Bool.{and_parts, both_ways, eqb-true}
+use Rattle.lists.specs.Elements.{IsIn}
+use Rattle.lists.proofs.Members.{front_or_back, from_flat_map, from_filter, all_in}
+use Rattle.lists.proofs.Tests.{asked_parts}
+use Rattle.toml.specs.Data.{Members}
+use Rattle.model_registers.specs.DeclarationRules.{has_own_registers}
+use Rattle.board_file.specs.Entries.{Patterns, Bar, Config, Endpoint, Bridge, Guest, File, file}
+use Rattle.board_file.specs.Functions.{region}
+use Rattle.board_file.specs.Faults.{number_of}
+use Rattle.board_file.specs.RuleFaults.{fault_of, key_of}
+use Rattle.board_file.specs.EntryRules.{file_rules, host_rules, endpoint_rules, has_indices, bar_rules, config_rules, are_apart, bridge_rules, guest_rules, slot_rules}
+use Rattle.board_file.specs.Problems.{Found, unless_kept, broken, of_bar, of_config, of_endpoint, of_bridge, of_slot, of_guest, problems_in}
+use Rattle.board_file.specs.declared.fault.BoardFault.{BoardFault}
+use Rattle.board_file.specs.declared.fault.BoardFault.TheVariants as fault
+use Rattle.board_file.specs.declared.rule.Rule.{Rule}
+use Rattle.board_file.specs.declared.rule.Rule.TheVariants as rule
+use Rattle.board_file.specs.declared.entry.Entry.{Entry}
+use Rattle.board_file.specs.declared.entry.Entry.TheVariants as entry
+use Rattle.board_check.specs.declared.lines.Other.{Other}
+use Rattle.board_check.specs.declared.lines.Told.{Told}
+use Rattle.board_check.specs.Keys.{key_keeps}
+use Rattle.board_check.specs.Problems.{is_wrong, problems_of, key_problems, asked, entries_of}
+use Rattle.board_check.specs.Spoiling.{is_clear}
+use Rattle.board_check.specs.AllProblems.{with_check, all_from, later_checks}
+use Rattle.board_check.specs.PatternCauses.{pattern_words, keyed_text, masks_text, bar_masks_text, config_masks_text}
+use Rattle.board_check.specs.RegisterCauses.{first_taker, taker_of}
+use Rattle.board_check.specs.Others.{block_before, other_of}
+use Rattle.board_check.specs.Said.{bar_of, config_of}
+use Rattle.board_check.specs.Causes.{own_text, named_text, met_text, beside_text, cause_text}
+use Rattle.board_check.specs.Telling.{entry_of, found_in, IsTold}
+use Rattle.board_check.specs.CauseLaws.{needs_cause, CausesAreTold}
+use Rattle.board_check.proofs.Takers.{no_position, no_takers}
+
+-- ---- texts
+
+not_empty : (x : ℕ) (xs : List ℕ) → x ∷ xs ≢ []
+not_empty x xs e = cc
+
+both_empty : (xs ys : List ℕ) → xs ++ ys ≡ [] → (xs ≡ []) × (ys ≡ [])
+both_empty [] ys e = (refl, e)
+both_empty (x ∷ xs) ys e = absurd (not_empty x (xs ++ ys) e)
+
+-- where nothing is said of another entry there is none
+none_beside : (t o : Option Other) → beside_text t o ≡ [] → (t ≡ None) × (o ≡ None)
+none_beside None None e = (refl, refl)
+none_beside None (Some o) e = absurd (not_empty 58 (32 ∷ named_text o) e)
+none_beside (Some t) o e = absurd (not_empty 58 (32 ∷ (named_text t ++ met_text o)) e)
+
+one_of_four : (a b c : Bool) (x y z w : List ℕ) → x ≢ [] → y ≢ [] → z ≢ [] → w ≢ [] → (if a then x else (if b then y else (if c then z else w))) ≢ []
+one_of_four true b c x y z w h k l m = h
+one_of_four false true c x y z w h k l m = k
+one_of_four false false true x y z w h k l m = l
+one_of_four false false false x y z w h k l m = m
+
+keyed : (key words : List ℕ) → keyed_text key words ≢ []
+keyed key words e = not_empty 58 (32 ∷ (key ++ words)) e
+
+masks_said : (n : ℕ) (p : Patterns) → masks_text n p ≢ []
+masks_said n p =
+    one_of_four (not (length (pattern_words n p.reset) == 0)) (not (length (pattern_words n p.writable) == 0)) (not (length (pattern_words n p.clearable) == 0))
+    (keyed_text (codes "reset") (pattern_words n p.reset)) (keyed_text (codes "rw") (pattern_words n p.writable)) (keyed_text (codes "w1c") (pattern_words n p.clearable))
+    (codes ": a bit is in both rw and w1c")
+    (keyed (codes "reset") (pattern_words n p.reset)) (keyed (codes "rw") (pattern_words n p.writable)) (keyed (codes "w1c") (pattern_words n p.clearable))
+    (λ e. not_empty 58 (codes " a bit is in both rw and w1c") e)
+
+-- ---- why something is said
+
+-- of the entry itself, of a region that has no registers, or of an earlier entry
+data Reason (f : File) (e : Entry) (r : Rule) : Type 0 where
+  by_itself : ((k : List ℕ) → own_text f e r k ≢ []) → Reason f e r
+  by_region : taker_of f e r ≢ None → Reason f e r
+  by_earlier : other_of f e r ≢ None → Reason f e r
+
+is_said : (text : List ℕ) (ms : Members) (t : Told) → Reason (file ms) t.problem.entry t.problem.rule → IsTold text ms (file ms) t → cause_text (file ms) t ≢ []
+is_said text ms t (by_itself h) told e =
+    h t.problem.key.now (both_empty (own_text (file ms) t.problem.entry t.problem.rule t.problem.key.now) (beside_text t.taker t.other) e).0
+is_said text ms t (by_region h) told e =
+    let beside = (both_empty (own_text (file ms) t.problem.entry t.problem.rule t.problem.key.now) (beside_text t.taker t.other) e).1 in
+    h (sym told.taker ∙ ap (option_map entry_of) (none_beside t.taker t.other beside).0)
+is_said text ms t (by_earlier h) told e =
+    let beside = (both_empty (own_text (file ms) t.problem.entry t.problem.rule t.problem.key.now) (beside_text t.taker t.other) e).1 in
+    h (sym told.other ∙ ap (option_map entry_of) (none_beside t.taker t.other beside).1)
+
+abbrev Caused : File → Found → Type 0
+Caused f x = needs_cause x.rule ≡ true → Reason f x.entry x.rule
+
+-- ---- lists of rules
+
+abbrev at_rule : Entry → Rule → Found
+at_rule e r = record { entry = e; rule = r; key = key_of r }
+
+from_broken : (x : Found) (e : Entry) (rules : List (Rule × Bool)) → IsIn x (broken e rules) → (r : Rule) × IsIn {A = Rule × Bool} (r, false) rules × (x ≡ at_rule e r)
+from_broken x e rules m = let found = from_flat_map (unless_kept e) x rules m in by_kept found.0.0 found.0.1 found.1 found.2
+  where
+    by_kept : (r : Rule) (kept : Bool) → IsIn {A = Rule × Bool} (r, kept) rules → IsIn x (unless_kept e (r, kept)) → (s : Rule) × IsIn {A = Rule × Bool} (s, false) rules × (x ≡ at_rule e s)
+    by_kept r true there h = absurd h
+    by_kept r false there (inl same) = (r, there, same)
+    by_kept r false there (inr wrong) = absurd wrong
+
+at_found : (f : File) (x : Found) (e : Entry) (r : Rule) → x ≡ at_rule e r → Reason f e r → Caused f x
+at_found f x e r is reason need = subst (λ (y : Found). Reason f y.entry y.rule) (sym is) reason
+
+-- rules whose words say all
+abbrev says_all : Rule × Bool → Bool
+says_all rule = not (needs_cause rule.0)
+
+no_cause : (f : File) (x : Found) (e : Entry) (rules : List (Rule × Bool)) → list_all says_all rules ≡ true → IsIn x (broken e rules) → Caused f x
+no_cause f x e rules h m need = by_rule (from_broken x e rules m)
+  where
+    by_rule : (r : Rule) × IsIn {A = Rule × Bool} (r, false) rules × (x ≡ at_rule e r) → Reason f x.entry x.rule
+    by_rule (r, there, is) =
+        let asked : needs_cause r ≡ true = ap (λ (y : Found). needs_cause y.rule) (sym is) ∙ need in
+        let said : not (needs_cause r) ≡ true = all_in says_all (r, false) rules h there in
+        let wrong : false ≡ true = sym (ap not asked) ∙ said in absurd (cc)
+
+-- the rule of a list of one, where it is broken
+alone : (r s : Rule) (kept : Bool) → IsIn {A = Rule × Bool} (r, false) ((s, kept) ∷ []) → (r ≡ s) × (kept ≡ false)
+alone r s kept (inl e) = (ap (λ (p : Rule × Bool). p.0) e, sym (ap (λ (p : Rule × Bool). p.1) e))
+alone r s kept (inr wrong) = absurd wrong
+
+-- an entry of a list by its number
+numbered : {A : Type 0} (i : ℕ) (x : A) (from : ℕ) (xs : List A) → IsIn (i, x) (enumerate_from from xs) → (k : ℕ) × (i ≡ from + k) × (slice_get xs k ≡ Some x)
+numbered i x from [] m = absurd m
+numbered {A} i x from (y ∷ ys) (inl e) =
+    let at : i ≡ from = ap (λ (p : ℕ × A). p.0) e in let is : x ≡ y = ap (λ (p : ℕ × A). p.1) e in (0, omega arith, ap Some (sym is))
+numbered {A} i x from (y ∷ ys) (inr m) = later (numbered i x (from + 1) ys m)
+  where
+    later : (k : ℕ) × (i ≡ (from + 1) + k) × (slice_get ys k ≡ Some x) → (k : ℕ) × (i ≡ from + k) × (slice_get (y ∷ ys) k ≡ Some x)
+    later (k, at, is) = (suc k, omega arith, is)
+
+at_number : {A : Type 0} (i : ℕ) (x : A) (xs : List A) → IsIn (i, x) (enumerate_from 0 xs) → slice_get xs i ≡ Some x
+at_number {A} i x xs m = by_index (numbered i x 0 xs m)
+  where
+    by_index : (k : ℕ) × (i ≡ 0 + k) × (slice_get xs k ≡ Some x) → slice_get xs i ≡ Some x
+    by_index (k, at, is) = let same : i ≡ k = omega arith in subst (λ (n : ℕ). slice_get xs n ≡ Some x) (sym same) is
+
+none_mapped : {A B : Type 0} (g : A → B) (o : Option A) → option_map g o ≡ None → o ≡ None
+none_mapped g None h = refl
+none_mapped g (Some x) h = absurd (cc)
+
+-- ---- entry by entry
+
+module _ (f : File) (i : ℕ) (e : Endpoint) (at : slice_get f.endpoints i ≡ Some e) where
+  -- some region has no registers of its own
+  a_taker : (not (has_indices e) || has_own_registers (map region e.bars)) ≡ false → taker_of f (entry.Endpoint i) rule.OwnRegisters ≢ None
+  a_taker broken none =
+      let here : option_map (entry.Bar i) (first_taker e.bars) ≡ None =
+      sym (ap (option_and_then (λ (d : Endpoint). option_map (entry.Bar i) (first_taker d.bars))) at) ∙ none in
+      both_ways (has_own_registers (map region e.bars)) (asked_parts (has_indices e) (has_own_registers (map region e.bars)) broken).1
+      (no_takers e.bars (none_mapped (entry.Bar i) (first_taker e.bars) here))
+
+  registers_caused : (x : Found) → IsIn x (broken (entry.Endpoint i) (endpoint_rules fault.Register f i e)) → Caused f x
+  registers_caused x m = by_rule (from_broken x (entry.Endpoint i) (endpoint_rules fault.Register f i e) m)
+    where
+      by_rule : (r : Rule) × IsIn {A = Rule × Bool} (r, false) (endpoint_rules fault.Register f i e) × (x ≡ at_rule (entry.Endpoint i) r) → Caused f x
+      by_rule (r, there, is) =
+          let it = alone r rule.OwnRegisters (not (has_indices e) || has_own_registers (map region e.bars)) there in
+          at_found f x (entry.Endpoint i) rule.OwnRegisters (is ∙ ap (at_rule (entry.Endpoint i)) it.0) (by_region (a_taker it.1))
+
+  endpoint_caused : (fault : BoardFault) (x : Found) → IsIn x (broken (entry.Endpoint i) (endpoint_rules fault f i e)) → Caused f x
+  endpoint_caused fault.Register x m = registers_caused x m
+  endpoint_caused fault.Number x m = no_cause f x (entry.Endpoint i) (endpoint_rules fault.Number f i e) refl m
+  endpoint_caused fault.TooMany x m = no_cause f x (entry.Endpoint i) (endpoint_rules fault.TooMany f i e) refl m
+  endpoint_caused fault.Place x m = no_cause f x (entry.Endpoint i) (endpoint_rules fault.Place f i e) refl m
+  endpoint_caused _ x m = absurd m
+
+  bar_masks_caused : (j : ℕ) (b : Bar) → slice_get e.bars j ≡ Some b → (x : Found) → IsIn x (broken (entry.Bar i j) (bar_rules fault.CellMasks b)) → Caused f x
+  bar_masks_caused j b there x m = by_rule (from_broken x (entry.Bar i j) (bar_rules fault.CellMasks b) m)
+    where
+      patterns : (k : List ℕ) → own_text f (entry.Bar i j) rule.BarMasks k ≢ []
+      patterns k h =
+          let bar : bar_of f (entry.Bar i j) ≡ Some b = ap (option_and_then (λ (d : Endpoint). slice_get d.bars j)) at ∙ there in
+          masks_said (nat_abs b.block) b.patterns
+          (sym (ap (λ (o : Option Bar). option_map_or bar_masks_text o (option_map_or config_masks_text (config_of f (entry.Bar i j)) [])) bar) ∙ h)
+
+      by_rule : (r : Rule) × IsIn {A = Rule × Bool} (r, false) (bar_rules fault.CellMasks b) × (x ≡ at_rule (entry.Bar i j) r) → Caused f x
+      by_rule (r, (inl same), is) =
+          at_found f x (entry.Bar i j) rule.BarMasks (is ∙ ap (λ (p : Rule × Bool). at_rule (entry.Bar i j) p.0) same) (by_itself patterns)
+      by_rule (r, (inr wrong), is) = absurd wrong
+
+  bar_caused : (fault : BoardFault) (j : ℕ) (b : Bar) → slice_get e.bars j ≡ Some b → (x : Found) → IsIn x (broken (entry.Bar i j) (bar_rules fault b)) → Caused f x
+  bar_caused fault.CellMasks j b there x m = bar_masks_caused j b there x m
+  bar_caused fault.Number j b there x m = no_cause f x (entry.Bar i j) (bar_rules fault.Number b) refl m
+  bar_caused fault.Register j b there x m = no_cause f x (entry.Bar i j) (bar_rules fault.Register b) refl m
+  bar_caused fault.Size j b there x m = no_cause f x (entry.Bar i j) (bar_rules fault.Size b) refl m
+  bar_caused _ j b there x m = absurd m
+
+  config_masks_caused : (j : ℕ) (c : Config) → slice_get e.configs j ≡ Some c → (x : Found) → IsIn x (broken (entry.Config i j) (config_rules fault.CellMasks e.configs j c)) → Caused f x
+  config_masks_caused j c there x m = by_rule (from_broken x (entry.Config i j) (config_rules fault.CellMasks e.configs j c) m)
+    where
+      patterns : (k : List ℕ) → own_text f (entry.Config i j) rule.ConfigMasks k ≢ []
+      patterns k h =
+          let block : config_of f (entry.Config i j) ≡ Some c = ap (option_and_then (λ (d : Endpoint). slice_get d.configs j)) at ∙ there in
+          masks_said (nat_abs c.block) c.patterns (sym (ap (λ (o : Option Config). option_map_or config_masks_text o []) block) ∙ h)
+
+      an_earlier : list_all (λ d. are_apart d c) (take j e.configs) ≡ false → other_of f (entry.Config i j) rule.OwnOffsets ≢ None
+      an_earlier meets none =
+          let found : option_and_then (block_before i e.configs j) (slice_get e.configs j) ≡ None =
+          sym (ap (option_and_then (λ (d : Endpoint). option_and_then (block_before i d.configs j) (slice_get d.configs j))) at) ∙ none in
+          let here : option_map (entry.Config i) (position (λ d. not (are_apart d c)) (take j e.configs)) ≡ None = sym (ap (option_and_then (block_before i e.configs j)) there) ∙ found in
+          both_ways (list_all (λ d. are_apart d c) (take j e.configs)) meets
+          (no_position (λ (d : Config). are_apart d c) (take j e.configs) (none_mapped (entry.Config i) (position (λ d. not (are_apart d c)) (take j e.configs)) here))
+
+      by_rule : (r : Rule) × IsIn {A = Rule × Bool} (r, false) (config_rules fault.CellMasks e.configs j c) × (x ≡ at_rule (entry.Config i j) r) → Caused f x
+      by_rule (r, (inl same), is) =
+          at_found f x (entry.Config i j) rule.ConfigMasks (is ∙ ap (λ (p : Rule × Bool). at_rule (entry.Config i j) p.0) same) (by_itself patterns)
+      by_rule (r, (inr last), is) =
+          let it = alone r rule.OwnOffsets (list_all (λ d. are_apart d c) (take j e.configs)) last in
+          at_found f x (entry.Config i j) rule.OwnOffsets (is ∙ ap (at_rule (entry.Config i j)) it.0) (by_earlier (an_earlier it.1))
+
+  config_caused : (fault : BoardFault) (j : ℕ) (c : Config) → slice_get e.configs j ≡ Some c → (x : Found) → IsIn x (broken (entry.Config i j) (config_rules fault e.configs j c)) → Caused f x
+  config_caused fault.CellMasks j c there x m = config_masks_caused j c there x m
+  config_caused fault.Number j c there x m = no_cause f x (entry.Config i j) (config_rules fault.Number e.configs j c) refl m
+  config_caused _ j c there x m = absurd m
+
+-- ---- all entries
+
+module _ (f : File) where
+  either : (x : Found) (xs ys : List Found) (P : Type 0) → (IsIn x xs → P) → (IsIn x ys → P) → IsIn x (xs ++ ys) → P
+  either x xs ys P first second m = by_part (front_or_back x xs ys m)
+    where
+      by_part : IsIn x xs ⊎ IsIn x ys → P
+      by_part (inl h) = first h
+      by_part (inr h) = second h
+
+  file_says : (fault : BoardFault) → list_all says_all (file_rules fault f) ≡ true
+  file_says fault.TooMany = refl
+  file_says _ = refl
+
+  host_says : (fault : BoardFault) → list_all says_all (host_rules fault f) ≡ true
+  host_says fault.Aperture = refl
+  host_says _ = refl
+
+  bridge_says : (fault : BoardFault) (i : ℕ) (b : Bridge) → list_all says_all (bridge_rules fault f i b) ≡ true
+  bridge_says fault.Number i b = refl
+  bridge_says fault.TooMany i b = refl
+  bridge_says fault.Place i b = refl
+  bridge_says _ i b = refl
+
+  guest_says : (fault : BoardFault) (i : ℕ) (g : Guest) → list_all says_all (guest_rules fault f i g) ≡ true
+  guest_says fault.TooMany i g = refl
+  guest_says fault.GuestName i g = refl
+  guest_says _ i g = refl
+
+  slot_says : (fault : BoardFault) (i : ℕ) (own : List (List ℕ)) (j : ℕ) (t : List ℕ) → list_all says_all (slot_rules fault f i own j t) ≡ true
+  slot_says fault.Slot i own j t = refl
+  slot_says _ i own j t = refl
+
+  of_endpoint_caused : (fault : BoardFault) (x : Found) (i : ℕ) (e : Endpoint) → IsIn (i, e) (enumerate_from 0 f.endpoints) → IsIn x (of_endpoint fault f (i, e)) → Caused f x
+  of_endpoint_caused fault x i e there m =
+      let at = at_number i e f.endpoints there in
+      let own = broken (entry.Endpoint i) (endpoint_rules fault f i e) in
+      let bars = flat_map (of_bar fault i) (enumerate_from 0 e.bars) in
+      let configs = flat_map (of_config fault i e.configs) (enumerate_from 0 e.configs) in
+      either x (own ++ bars) configs (Caused f x)
+      (λ h. either x own bars (Caused f x) (endpoint_caused f i e at fault x) (λ k. let b = from_flat_map (of_bar fault i) x (enumerate_from 0 e.bars) k in bar_caused f i e at fault b.0.0 b.0.1 (at_number b.0.0 b.0.1 e.bars b.1) x b.2) h)
+      (λ h. let c = from_flat_map (of_config fault i e.configs) x (enumerate_from 0 e.configs) h in config_caused f i e at fault c.0.0 c.0.1 (at_number c.0.0 c.0.1 e.configs c.1) x c.2)
+      m
+
+  of_guest_caused : (fault : BoardFault) (x : Found) (i : ℕ) (g : Guest) → IsIn x (of_guest fault f (i, g)) → Caused f x
+  of_guest_caused fault x i g m =
+      let own = broken (entry.Guest i) (guest_rules fault f i g) in
+      let slots = flat_map (of_slot fault f i g.slots) (enumerate_from 0 g.slots) in
+      either x own slots (Caused f x) (no_cause f x (entry.Guest i) (guest_rules fault f i g) (guest_says fault i g))
+      (λ h. let s = from_flat_map (of_slot fault f i g.slots) x (enumerate_from 0 g.slots) h in
+      no_cause f x (entry.Slot i s.0.0) (slot_rules fault f i g.slots s.0.0 s.0.1) (slot_says fault i g.slots s.0.0 s.0.1) s.2)
+      m
+
+  in_file_caused : (fault : BoardFault) (x : Found) → IsIn x (problems_in f fault) → Caused f x
+  in_file_caused fault x m =
+      let whole = broken entry.File (file_rules fault f) in let host = broken entry.Host (host_rules fault f) in
+      let endpoints = flat_map (of_endpoint fault f) (enumerate_from 0 f.endpoints) in
+      let bridges = flat_map (of_bridge fault f) (enumerate_from 0 f.bridges) in
+      let guests = flat_map (of_guest fault f) (enumerate_from 0 f.guests) in
+      either x (whole ++ host ++ endpoints ++ bridges) guests (Caused f x)
+      (either x (whole ++ host ++ endpoints) bridges (Caused f x)
+      (either x (whole ++ host) endpoints (Caused f x)
+      (either x whole host (Caused f x) (no_cause f x entry.File (file_rules fault f) (file_says fault)) (no_cause f x entry.Host (host_rules fault f) (host_says fault)))
+      (λ h. let e = from_flat_map (of_endpoint fault f) x (enumerate_from 0 f.endpoints) h in of_endpoint_caused fault x e.0.0 e.0.1 e.1 e.2))
+      (λ h. let b = from_flat_map (of_bridge fault f) x (enumerate_from 0 f.bridges) h in
+      no_cause f x (entry.Bridge b.0.0) (bridge_rules fault f b.0.0 b.0.1) (bridge_says fault b.0.0 b.0.1) b.2))
+      (λ h. let g = from_flat_map (of_guest fault f) x (enumerate_from 0 f.guests) h in of_guest_caused fault x g.0.0 g.0.1 g.2)
+      m
+
+-- ---- all problems
+
+-- rules of keys are none of these
+not_of_keys : (r : Rule) (n : ℕ) → (n ≡ 102) ⊎ (n ≡ 103) → number_of (fault_of r) ≡ n → needs_cause r ≡ false
+not_of_keys rule.OwnRegisters n h e = let is : 106 ≡ n = e in absurd (elim h [ inl k ↦ omega arith | inr k ↦ omega arith ])
+not_of_keys rule.BarMasks n h e = let is : 112 ≡ n = e in absurd (elim h [ inl k ↦ omega arith | inr k ↦ omega arith ])
+not_of_keys rule.ConfigMasks n h e = let is : 112 ≡ n = e in absurd (elim h [ inl k ↦ omega arith | inr k ↦ omega arith ])
+not_of_keys rule.OwnOffsets n h e = let is : 112 ≡ n = e in absurd (elim h [ inl k ↦ omega arith | inr k ↦ omega arith ])
+not_of_keys _ n h e = refl
+
+keys_caused : (ms : Members) (fault : BoardFault) (x : Found) → (number_of fault ≡ 102) ⊎ (number_of fault ≡ 103) → IsIn x (key_problems ms fault) → Caused (file ms) x
+unfolding is_wrong
+keys_caused ms fault x keys m need =
+    let wrong = (from_filter (is_wrong ms fault) x (flat_map (asked ms) (entries_of (file ms))) m).1 in
+    let same = eqb-true (number_of (fault_of x.rule)) (number_of fault) (and_parts (number_of (fault_of x.rule) == number_of fault) (not (key_keeps ms x.entry x.rule x.key)) wrong).0 in
+    absurd (both_ways (needs_cause x.rule) (not_of_keys x.rule (number_of fault) keys same) need)
+
+problem_caused : (ms : Members) (fault : BoardFault) (x : Found) → IsIn x (problems_of ms fault) → Caused (file ms) x
+problem_caused ms fault.Key x m = keys_caused ms fault.Key x (inl refl) m
+problem_caused ms fault.UnknownKey x m = keys_caused ms fault.UnknownKey x (inr refl) m
+problem_caused ms fault x m = in_file_caused (file ms) fault x m
+
+later_caused : (ms : Members) (x : Found) (earlier : List Found) (faults : List BoardFault) → (IsIn x earlier → Caused (file ms) x) → IsIn x (all_from ms earlier faults) → Caused (file ms) x
+later_caused ms x earlier [] before m = before m
+later_caused ms x earlier (fault ∷ faults) before m =
+    later_caused ms x (with_check ms earlier fault) faults
+    (either (file ms) x earlier (filter (is_clear earlier) (problems_of ms fault)) (Caused (file ms) x) before
+    (λ h. problem_caused ms fault x (from_filter (is_clear earlier) x (problems_of ms fault) h).0))
+    m
+
+pub causes_are_told : CausesAreTold
+causes_are_told text ms fault t m need told =
+    is_said text ms t (later_caused ms (found_in t) (problems_of ms fault) (later_checks fault) (problem_caused ms fault (found_in t)) m need) told
