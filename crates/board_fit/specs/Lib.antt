@@ -2,3 +2,6 @@ pub mod Warnings
 pub mod Misfits
 pub mod Texts
 pub mod Telling
+pub mod Shortages
+pub mod Fitting
+pub mod Verdicts

@@ -2,16 +2,16 @@
 --     first_closed bs p      of these bridges the first above the function at a path that has no I/O window
 --     closed_regions      all regions of I/O behind such a bridge, in order
 --     bridge_too_many      the bridge after the 255 that have bus numbers
---     reasons      the one or the other
+--     reasons f fault      the one or the other, where the fault is that
 use Rattle.std.specs.Prelude.{ℕ, nat_lt, Bool, true, false, ◌&&◌, List, [], ◌∷◌, length, flat_map, Option, if◌then◌else◌}
 use Rattle.std.specs.List.{position, enumerate_from}
 use Rattle.std.specs.Option.{option_map_or}
 use Rattle.model_registers.specs.Declarations.{Kind, io_kind, mem32, mem64, IoDecode, no_io, io16, io32}
 use Rattle.model_board.specs.Paths.{Path, leads_to}
+use Rattle.bus_scan.specs.declared.fault.Fault.{Fault}
+use Rattle.bus_scan.specs.declared.fault.Fault.TheVariants.{Buses, NoIoWindow}
 use Rattle.board_file.specs.Entries.{Bar, Endpoint, Bridge, File}
 use Rattle.board_file.specs.PathTexts.{path_at}
-use Rattle.board_fit.specs.declared.misfit.Misfit.{Misfit}
-use Rattle.board_fit.specs.declared.misfit.Misfit.TheVariants.{Buses, IoWindows}
 use Rattle.board_fit.specs.declared.remark.Remark.{Remark}
 use Rattle.board_fit.specs.declared.remark.Remark.TheVariants as remark
 
@@ -51,6 +51,7 @@ closed_regions f = flat_map (closed_in f.bridges) (enumerate_from 0 f.endpoints)
 abbrev pub bridge_too_many : File → List Remark
 bridge_too_many f = if nat_lt 255 (length f.bridges) then remark.BridgeTooMany 255 ∷ [] else []
 
-abbrev pub reasons : File → Misfit → List Remark
+abbrev pub reasons : File → Fault → List Remark
 reasons f Buses = bridge_too_many f
-reasons f IoWindows = closed_regions f
+reasons f NoIoWindow = closed_regions f
+reasons f _ = []

@@ -5,13 +5,14 @@
 --                              that of the other entry
 --     AreWarnings style name bytes b a text      a line for each thing that may be a mistake in the file with these
 --                                                bytes and in its board, in order
---     AreReasons style name bytes m text      the same for all in the file that is why its board can't be set up
+--     AreReasons style name bytes f text      the same for all in the file that is why its board can't be set up
 use Rattle.std.specs.Prelude.{◌≡◌, ℕ, List, ◌++◌, codes, map, flat_map, Some, option_map, IfSome}
 use Rattle.toml.specs.Data.{Members}
 use Rattle.toml.specs.Parse.{parse_document}
 use Rattle.lists.specs.Elements.{Each}
 use Rattle.model_registers.specs.Apertures.{Apertures}
 use Rattle.model_board.specs.Board.{Board}
+use Rattle.bus_scan.specs.declared.fault.Fault.{Fault}
 use Rattle.board_file.specs.Entries.{file}
 use Rattle.board_check.specs.Lines.{IsPlaceOf, line_at}
 use Rattle.board_check.specs.Texts.{line_text, below_text}
@@ -21,7 +22,6 @@ use Rattle.board_fit.specs.declared.remark.Remark.{Remark}
 use Rattle.board_fit.specs.declared.located.Located.{Located}
 use Rattle.board_fit.specs.Warnings.{warnings}
 use Rattle.board_fit.specs.Texts.{entry_of, key_of, label_of, other_of, other_key, said_text}
-use Rattle.board_fit.specs.declared.misfit.Misfit.{Misfit}
 use Rattle.board_fit.specs.Misfits.{reasons}
 use Rattle.board_check.specs.declared.lines.Other.{Other}
 use Rattle.board_file.specs.declared.entry.Entry.{Entry}
@@ -59,7 +59,7 @@ pub record AreWarnings (style : Style) (name bytes : List ℕ) (b : Board) (a : 
   pub parsed : parse_document bytes ≡ Some document
   pub told : AreTold style name bytes document (warnings (file document) b a) text
 
-pub record AreReasons (style : Style) (name bytes : List ℕ) (m : Misfit) (text : List ℕ) : Type 0 where
+pub record AreReasons (style : Style) (name bytes : List ℕ) (f : Fault) (text : List ℕ) : Type 0 where
   pub document : Members
   pub parsed : parse_document bytes ≡ Some document
-  pub told : AreTold style name bytes document (reasons (file document) m) text
+  pub told : AreTold style name bytes document (reasons (file document) f) text

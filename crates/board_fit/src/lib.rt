@@ -1,15 +1,18 @@
-//! What is remarked of a board file that is accepted, with its lines: what may be a mistake, and why its board
-//! can't be set up.
+//! What is said of a board file that is accepted: whether its board can be set up, how much of each aperture it
+//! takes and what may be a mistake in the file, or why it can't be set up; with the lines of the file.
 #![tactic(auto)]
 
 mod apertures;
+mod fitting;
+mod judging;
 mod located;
 mod misfit;
 mod remark;
+mod shortage;
 mod telling;
 mod texts;
 mod warnings;
+mod words;
 
-pub use misfit::Misfit;
-pub use remark::Remark;
-pub use telling::{reasons_text, warnings_text};
+pub use judging::{Verdict, judge};
+pub use words::set_up_words;

@@ -7,18 +7,10 @@ ghost use Rattle.board_fit.specs.Misfits.{is_io, is_closed, closes, first_closed
 use crate::remark::Remark;
 use bars::Kind;
 use board_file::entries::{BarEntry, BridgeEntry, EndpointEntry, FileEntries};
+use bus_scan::Fault;
 use headers::IoDecode;
 use paths::Path;
 use std::alloc::{AllocError, Global};
-
-/// Of which kind the entries are that are told.
-#[derive(Clone, Copy, Debug)]
-pub enum Misfit {
-    /// More bridges than bus numbers.
-    Buses,
-    /// Regions of I/O behind bridges without an I/O window.
-    IoWindows,
-}
 
 /// Whether the kind is that of I/O.
 fn is_io(kind: Kind) -> bool
@@ -134,18 +126,19 @@ fn push_too_many(remarks: &mut Vec<Remark>, file: &FileEntries<'_>) -> Result<()
     Ok(())
 }
 
-/// All entries of a file that are why its board can't be set up.
+/// All entries of a file that are why its board can't be set up, where the fault names some.
 pub(crate) fn reasons(
     alloc: Global,
     file: &FileEntries<'_>,
-    misfit: Misfit,
+    fault: Fault,
 ) -> Result<Vec<Remark>, AllocError>
-    ensures { IfOk result (λ v. v.items ≡ reasons file.now misfit) }
+    ensures { IfOk result (λ v. v.items ≡ reasons file.now fault) }
 {
     let mut remarks = Vec::new(alloc);
-    match misfit {
-        Misfit::Buses => push_too_many(&mut remarks, file)?,
-        Misfit::IoWindows => push_closed_regions(&mut remarks, file)?,
+    match fault {
+        Fault::Buses => push_too_many(&mut remarks, file)?,
+        Fault::NoIoWindow => push_closed_regions(&mut remarks, file)?,
+        _ => {}
     }
     Ok(remarks)
 }

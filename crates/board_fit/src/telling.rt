@@ -11,13 +11,13 @@ ghost use Rattle.board_fit.specs.Misfits.{reasons};
 ghost use Rattle.board_fit.specs.Telling.{AreTold, AreWarnings, AreReasons};
 
 use crate::located::with_places;
-use crate::misfit::{Misfit, reasons};
+use crate::misfit::reasons;
 use crate::remark::Remark;
 use crate::texts::push_remarks;
 use crate::warnings::warnings;
 use board_check::Style;
 use board_file::reading::read_entries;
-use bus_scan::FunctionTable;
+use bus_scan::{Fault, FunctionTable};
 use headers::Apertures;
 use std::alloc::{AllocError, Global};
 use toml::Table;
@@ -69,26 +69,22 @@ fn document_warnings(
 /// What may be a mistake in a board file that was accepted, and is no fault: a line for each bridge with
 /// nothing behind it, each endpoint in no slot where the file has guests, each guest without slots, and each
 /// aperture of more than ten times what its pool uses, where it uses something; in this order, and of each
-/// kind in the order of the file. `name` is what the file is called, and the table is that of its board.
-/// With excerpts the line of the file stands below each. It fails where memory is out, and where the bytes
-/// are no document.
-pub fn warnings_text(
+/// kind in the order of the file. The table is that of its board. It fails where memory is out, and where the
+/// bytes are no document.
+pub(crate) fn warnings_text(
     alloc: Global,
-    style: Style,
-    name: &str,
-    bytes: &[u8],
+    telling: &Telling<'_>,
     table: &FunctionTable,
     apertures: &Apertures,
 ) -> Result<String, AllocError>
     requires { IsTableOf (board_in table.now) table.now }
 
     // Of whatever board this is the table.
-    ensures { IfOk result (λ t. (b : Board) → IsTableOf b table.now
-        → AreWarnings style name.now bytes.now b apertures.now (string_bytes t)) }
+    ensures { let t = telling.now in IfOk result (λ text. (b : Board) → IsTableOf b table.now
+        → AreWarnings t.style t.name.now t.bytes.now b apertures.now (string_bytes text)) }
 {
-    let telling = Telling { style, name, bytes };
-    match toml::table_from_slice(alloc, bytes) {
-        Ok(document) => document_warnings(alloc, &telling, &document, table, apertures),
+    match toml::table_from_slice(alloc, telling.bytes) {
+        Ok(document) => document_warnings(alloc, telling, &document, table, apertures),
         Err(_) => Err(AllocError),
     }
 }
@@ -98,33 +94,30 @@ fn document_reasons(
     alloc: Global,
     telling: &Telling<'_>,
     document: &Table,
-    misfit: Misfit,
+    fault: Fault,
 ) -> Result<String, AllocError>
     ensures { let t = telling.now in IfOk result (λ text.
         AreTold t.style t.name.now t.bytes.now (table_view document.now)
-        (reasons (file (table_view document.now)) misfit) (string_bytes text)) }
+        (reasons (file (table_view document.now)) fault) (string_bytes text)) }
 {
     let file = read_entries(alloc, document)?;
-    let reasons = reasons(alloc, &file, misfit)?;
+    let reasons = reasons(alloc, &file, fault)?;
     told_text(alloc, telling, document, &reasons)
 }
 
 /// Why the board of a file that was accepted can't be set up: a line for the first bridge for which no bus
 /// number is left, or for each region of I/O behind a bridge without an I/O window, with that bridge; in the
-/// order of the file. `name` is what the file is called. With excerpts the line of the file stands below
-/// each. It fails where memory is out, and where the bytes are no document.
-pub fn reasons_text(
+/// order of the file. It fails where memory is out, and where the bytes are no document.
+pub(crate) fn reasons_text(
     alloc: Global,
-    style: Style,
-    name: &str,
-    bytes: &[u8],
-    misfit: Misfit,
+    telling: &Telling<'_>,
+    fault: Fault,
 ) -> Result<String, AllocError>
-    ensures { IfOk result (λ t. AreReasons style name.now bytes.now misfit (string_bytes t)) }
+    ensures { let t = telling.now in IfOk result (λ text.
+        AreReasons t.style t.name.now t.bytes.now fault (string_bytes text)) }
 {
-    let telling = Telling { style, name, bytes };
-    match toml::table_from_slice(alloc, bytes) {
-        Ok(document) => document_reasons(alloc, &telling, &document, misfit),
+    match toml::table_from_slice(alloc, telling.bytes) {
+        Ok(document) => document_reasons(alloc, telling, &document, fault),
         Err(_) => Err(AllocError),
     }
 }

@@ -13,5 +13,5 @@ returns c =
     if_ok-map c.told_text.result _ _
     (λ text told.
     subst (λ (rs : List Remark). AreTold t.style t.name.now t.bytes.now (table_view c.args.document.now) rs (string_bytes text))
-    (c.deref.ensures.value ∙ c.in_ok-reasons.ensures ∙ ap (λ (f : File). reasons f c.args.misfit) c.in_ok-file.ensures) told)
+    (c.deref.ensures.value ∙ c.in_ok-reasons.ensures ∙ ap (λ (f : File). reasons f c.args.fault) c.in_ok-file.ensures) told)
     c.told_text.ensures

@@ -1,0 +1,65 @@
+-- The line of a board that can't be set up.
+--     set_up_words      the words of a fault of set-up
+--     pool_words, number_text      a pool, and a number after some words
+--     pool_of f      the pool that doesn't fit, where the fault is that
+--     shortage_of b a f      the same with how much it would take
+--     need_text, reason_text      what is said of it
+--     refusal_line name s f      the line: FILE: why (NUMBER WORDS)
+use Rattle.std.specs.Prelude.{ℕ, ◌++◌, codes, decimal, Option, Some, None, option_map}
+use Rattle.model_registers.specs.Apertures.{Apertures}
+use Rattle.model_board.specs.Board.{Board}
+use Rattle.model_guests.specs.Text.{Text}
+use Rattle.model_guests.specs.Report.{hexadecimal}
+use Rattle.bus_scan.specs.Faults.{number_of}
+use Rattle.bus_scan.specs.declared.fault.Fault.{Fault}
+use Rattle.bus_scan.specs.declared.fault.Fault.TheVariants.{Buses, NoIoWindow, IoPool, MemoryPool, PrefetchablePool, Memory}
+use Rattle.window_packing.specs.declared.pool.Pool.{Pool}
+use Rattle.window_packing.specs.declared.pool.Pool.TheVariants.{Io, Mem, Pref}
+use Rattle.window_packing.specs.declared.uses.PoolUse.{PoolUse}
+use Rattle.window_packing.specs.Plans.{named_pool}
+use Rattle.window_packing.specs.Uses.{told_use}
+use Rattle.board_fit.specs.declared.shortage.Shortage.{Shortage}
+
+abbrev pub set_up_words : Fault → Text
+set_up_words Buses = codes "buses"
+set_up_words NoIoWindow = codes "no I/O window"
+set_up_words IoPool = codes "I/O pool"
+set_up_words MemoryPool = codes "memory pool"
+set_up_words PrefetchablePool = codes "prefetchable pool"
+set_up_words Memory = codes "memory"
+
+abbrev pub pool_words : Pool → Text
+pool_words Io = codes "I/O pool"
+pool_words Mem = codes "memory pool"
+pool_words Pref = codes "prefetchable pool"
+
+abbrev pub number_text : Text → ℕ → Text
+number_text words n = words ++ hexadecimal n
+
+abbrev pub pool_of : Fault → Option Pool
+pool_of IoPool = Some Io
+pool_of MemoryPool = Some Mem
+pool_of PrefetchablePool = Some Pref
+pool_of _ = None
+
+abbrev pub shortage_of : Board → Apertures → Fault → Option Shortage
+shortage_of b a f = option_map (λ pool. record { pool = pool; needed = told_use b a (named_pool pool) }) (pool_of f)
+
+abbrev pub known_need_text : PoolUse → Text
+known_need_text u =
+    number_text (codes " needs ") u.extent ++ (number_text (codes " bytes from ") u.first
+    ++ number_text (codes " on, and its aperture has ") u.room)
+
+abbrev pub need_text : Option PoolUse → Text
+need_text None = codes " needs more than 0x8000000000000000 bytes"
+need_text (Some u) = known_need_text u
+
+abbrev pub reason_text : Option Shortage → Text
+reason_text None = codes ": cannot be set up"
+reason_text (Some s) = codes ": the " ++ pool_words s.pool ++ need_text s.needed
+
+abbrev pub fault_text : Fault → Text
+fault_text f = codes " (" ++ decimal (number_of f) ++ codes " " ++ set_up_words f ++ codes ")\n"
+
+abbrev pub refusal_line : Text → Option Shortage → Fault → Text
+refusal_line name s f = name ++ reason_text s ++ fault_text f

@@ -1,0 +1,143 @@
+//! Whether a board fits its apertures, and what is said of it.
+ghost use Rattle.std.specs.Prelude.{◌≡◌, ◌≢◌, ◌⊎◌, None, Some, IfOk, IfErr, string_bytes};
+ghost use Rattle.model_registers.specs.DeclarationRules.{first_broken};
+ghost use Rattle.model_board.specs.Board.{Board};
+ghost use Rattle.model_board.specs.AtReset.{IsAtReset};
+ghost use Rattle.model_set_up.specs.FunctionTable.{board_in};
+ghost use Rattle.model_set_up.specs.SetUpWrites.{set_up_rules};
+ghost use Rattle.bus_scan.specs.Faults.{number_of};
+ghost use Rattle.bus_scan.specs.SizedTables.{IsTableOf};
+ghost use Rattle.bus_scan.specs.declared.fault.Fault.TheVariants.{Memory};
+ghost use Rattle.window_packing.specs.Readies.{board_below};
+ghost use Rattle.board_fit.specs.Verdicts.{IsFitText, IsMisfit, IsMisfitText, IsVerdict};
+
+use crate::fitting::fit_text;
+use crate::shortage::{Shortage, find_shortage, refusal_line};
+use crate::telling::{Telling, reasons_text, warnings_text};
+use board_check::Style;
+use bus_scan::{Fault, FunctionTable};
+use headers::Apertures;
+use host_bridge::Host;
+use std::alloc::{AllocError, Global};
+use window_packing::{enumerate, plan};
+
+/// What is said of a board, and the fault for which it can't be set up, if there is one.
+#[derive(Drop)]
+pub struct Verdict {
+    pub text: String,
+    pub fault: Option<Fault>,
+}
+
+/// Of a board that can be set up: how it fits, and what may be a mistake in its file.
+fn accept(
+    alloc: Global,
+    telling: &Telling<'_>,
+    table: &FunctionTable,
+    apertures: &Apertures,
+) -> Result<Verdict, AllocError>
+    requires { IsTableOf (board_in table.now) table.now }
+    ensures fault { IfOk result (λ v. v.fault ≡ None) }
+    ensures text { let t = telling.now in IfOk result (λ v. (b : Board) → IsTableOf b table.now
+        → IsFitText t.style t.name.now t.bytes.now b apertures.now (string_bytes v.text)) }
+{
+    let mut text = fit_text(alloc, table, apertures)?;
+    let warnings = warnings_text(alloc, telling, table, apertures)?;
+    text.push_str(warnings.as_str())?;
+    Ok(Verdict { text, fault: None })
+}
+
+/// Of a board that can't: its line, and the entries of its file that are why. It fails where memory is out.
+fn decline(
+    alloc: Global,
+    telling: &Telling<'_>,
+    shortage: Option<Shortage>,
+    fault: Fault,
+) -> Result<Verdict, AllocError>
+    ensures known { IfOk result (λ v. fault ≢ Memory) }
+    ensures fault { IfOk result (λ v. v.fault ≡ Some fault) }
+    ensures text { let t = telling.now in IfOk result (λ v.
+        IsMisfit t.style t.name.now t.bytes.now shortage fault (string_bytes v.text)) }
+{
+    if fault == Fault::Memory {
+        return Err(AllocError);
+    }
+    let mut text = refusal_line(alloc, telling.name, shortage, fault)?;
+    let reasons = reasons_text(alloc, telling, fault)?;
+    text.push_str(reasons.as_str())?;
+    Ok(Verdict {
+        text,
+        fault: Some(fault),
+    })
+}
+
+/// The same, by the table of its functions.
+fn reject(
+    alloc: Global,
+    telling: &Telling<'_>,
+    table: &FunctionTable,
+    apertures: &Apertures,
+    fault: Fault,
+) -> Result<Verdict, AllocError>
+    requires { IsTableOf (board_in table.now) table.now }
+    ensures known { IfOk result (λ v. fault ≢ Memory) }
+    ensures fault { IfOk result (λ v. v.fault ≡ Some fault) }
+    ensures text { let t = telling.now in IfOk result (λ v. (b : Board) → IsTableOf b table.now
+        → IsMisfitText t.style t.name.now t.bytes.now b apertures.now fault (string_bytes v.text)) }
+{
+    let shortage = find_shortage(alloc, table, apertures, fault)?;
+    decline(alloc, telling, shortage, fault)
+}
+
+/// Whether a board with this table can be set up.
+fn can_be_placed(alloc: Global, table: &FunctionTable, apertures: &Apertures) -> Result<(), Fault>
+    requires { IsTableOf (board_in table.now) table.now }
+    ensures kept { IfOk result (λ _.
+        (b : Board) → IsTableOf b table.now → first_broken (set_up_rules b apertures.now) ≡ None) }
+    ensures refused { IfErr result (λ f. (b : Board) → IsTableOf b table.now →
+        (f ≡ Memory) ⊎ (first_broken (set_up_rules b apertures.now) ≡ Some (number_of f))) }
+{
+    plan(alloc, table, apertures)?;
+    Ok(())
+}
+
+/// What is said of a board with this table.
+fn fit(
+    alloc: Global,
+    telling: &Telling<'_>,
+    table: &FunctionTable,
+    apertures: &Apertures,
+) -> Result<Verdict, AllocError>
+    requires { IsTableOf (board_in table.now) table.now }
+    ensures known { IfOk result (λ v. v.fault ≢ Some Memory) }
+    ensures verdict { let t = telling.now in IfOk result (λ v. (b : Board) → IsTableOf b table.now
+        → IsVerdict t.style t.name.now t.bytes.now b apertures.now v.fault (string_bytes v.text)) }
+{
+    match can_be_placed(alloc, table, apertures) {
+        Ok(()) => accept(alloc, telling, table, apertures),
+        Err(fault) => reject(alloc, telling, table, apertures, fault),
+    }
+}
+
+/// What is said of the board of a host at reset, which a file with these bytes declares: how much of each
+/// aperture its pools take, and what may be a mistake in the file; or why it can't be set up, with the
+/// entries of the file that are why. `name` is what the file is called. With excerpts the line of the file
+/// stands below what is said of an entry. It fails where memory is out, and where the bytes are no document.
+pub fn judge(
+    alloc: Global,
+    style: Style,
+    name: &str,
+    bytes: &[u8],
+    host: Host,
+) -> Result<Verdict, AllocError>
+    requires { IsAtReset host.state }
+    ensures known { IfOk result (λ v. v.fault ≢ Some Memory) }
+    ensures verdict { IfOk result (λ v.
+        IsVerdict style name.now bytes.now (board_below host) host.apertures v.fault (string_bytes v.text)) }
+{
+    let telling = Telling { style, name, bytes };
+    let mut host = host;
+    match enumerate(alloc, &mut host) {
+        Ok(table) => fit(alloc, &telling, &table, &host.apertures()),
+        Err(fault) => decline(alloc, &telling, None, fault),
+    }
+}
