@@ -15,7 +15,7 @@ import tomllib
 from pathlib import Path
 
 from board import board_file, random_board
-from judged import judged, reasons
+from judged import costs, judged, reasons
 from rules import all_faults, place_of
 
 NUMBERS = [-1, 0, 1, 4, 5, 6, 17, 63, 64, 192, 255, 256, 3000, 4096, 4097, 0xF900, 0xFFFE, 0xFFFF, 0x10000,
@@ -179,7 +179,11 @@ def remarks_differ(lines, told, remarks):
 def misfit_differs(lines, text, number, out):
     """What is wrong with what a check said of a board that can't be set up, if anything is."""
     first, *said = out.split("\n")[:-1]
-    if number < 203 and not first.startswith(f"board.toml: cannot be set up ({number} "):
+    if number > 202:
+        head, largest, ends = costs(tomllib.loads(text), number)
+        told, wanted = [first, *said[len(largest):]], [f"board.toml: {line}" for line in [head, *ends]]
+        return f"{told}, not {wanted}" if told != wanted else remarks_differ(lines, with_numbers(said[:len(largest)]), largest)
+    if not first.startswith(f"board.toml: cannot be set up ({number} "):
         return first
     return remarks_differ(lines, with_numbers(said), reasons(tomllib.loads(text), number))
 

@@ -15,9 +15,10 @@ def up(at, unit):
 
 
 class Layout:
-    """Where everything of a board stands: `bases` by path and register, `windows` by path and pool."""
+    """Where everything of a board stands, if it is to be placed: `bases` by path and register, `windows` by path and
+    pool."""
 
-    def __init__(self, board):
+    def __init__(self, board, is_placed=True):
         self.board = board
         self.bridges = [function for function in board.functions if isinstance(function, Bridge)]
         self.numbers = {(): 0}
@@ -26,6 +27,8 @@ class Layout:
         if len(self.bridges) > 255:
             raise Refused(201)
         self.bases, self.windows = {}, {}
+        if not is_placed:
+            return
         self.check_ports()
         for pool in ["io", "mem", "pref"]:
             self.place(pool)

@@ -1,2 +1,7 @@
 pub mod Told
 mod Fitted
+pub mod BySize
+pub mod PoolsOfRegions
+pub mod LeastApertures
+pub mod NamedReasons
+pub mod Needs

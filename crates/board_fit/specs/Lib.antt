@@ -2,6 +2,11 @@ pub mod Warnings
 pub mod Misfits
 pub mod Texts
 pub mod Telling
+pub mod PoolRegions
+pub mod Reaches
+pub mod LeastApertures
+pub mod Costs
 pub mod Shortages
 pub mod Fitting
 pub mod Verdicts
+pub mod ReasonLaws

@@ -3,9 +3,10 @@
 --     pool_words, number_text      a pool, and a number after some words
 --     pool_of f      the pool that doesn't fit, where the fault is that
 --     shortage_of b a f      the same with how much it would take
+--     IsNeedOf b a s      so much it would take of its aperture
 --     need_text, reason_text      what is said of it
 --     refusal_line name s f      the line: FILE: why (NUMBER WORDS)
-use Rattle.std.specs.Prelude.{ℕ, ◌++◌, codes, decimal, Option, Some, None, option_map}
+use Rattle.std.specs.Prelude.{◌≡◌, ℕ, ◌++◌, codes, decimal, Option, Some, None, option_map}
 use Rattle.model_registers.specs.Apertures.{Apertures}
 use Rattle.model_board.specs.Board.{Board}
 use Rattle.model_guests.specs.Text.{Text}
@@ -44,6 +45,10 @@ pool_of _ = None
 
 abbrev pub shortage_of : Board → Apertures → Fault → Option Shortage
 shortage_of b a f = option_map (λ pool. record { pool = pool; needed = told_use b a (named_pool pool) }) (pool_of f)
+
+abbrev pub IsNeedOf : Board → Apertures → Option Shortage → Type 0
+IsNeedOf b a None = Unit {0}
+IsNeedOf b a (Some s) = s.needed ≡ told_use b a (named_pool s.pool)
 
 abbrev pub known_need_text : PoolUse → Text
 known_need_text u =

@@ -1,5 +1,6 @@
 //! Apertures of more than their pools use.
 ghost use Rattle.std.specs.Prelude.{◌≡◌, ◌++◌, OnOk};
+ghost use Rattle.model_registers.specs.Apertures.{IsLawfulApertures};
 ghost use Rattle.model_board.specs.Board.{Board};
 ghost use Rattle.model_set_up.specs.FunctionTable.{board_in};
 ghost use Rattle.model_set_up.specs.Pools.{aperture_of};
@@ -15,11 +16,13 @@ use std::alloc::{AllocError, Global};
 use window_packing::{Pool, PoolUse, pool_use};
 
 /// The aperture of a pool, where the board has one.
-fn aperture_of(apertures: &Apertures, pool: Pool) -> Option<Aperture>
-    ensures { result ≡ aperture_of apertures.now (named_pool pool) }
+pub(crate) fn aperture_of(apertures: &Apertures, pool: Pool) -> Option<Aperture>
+    ensures value { result ≡ aperture_of apertures.now (named_pool pool) }
+    ensures lawful { IsLawfulApertures apertures.now }
 {
+    let io = apertures.io();
     match pool {
-        Pool::Io => Some(apertures.io()),
+        Pool::Io => Some(io),
         Pool::Mem => Some(apertures.mem()),
         Pool::Pref => apertures.pref(),
     }

@@ -9,8 +9,10 @@ ghost use Rattle.bus_scan.specs.Faults.{number_of};
 ghost use Rattle.bus_scan.specs.SizedTables.{IsTableOf};
 ghost use Rattle.bus_scan.specs.declared.fault.Fault.TheVariants.{Memory};
 ghost use Rattle.window_packing.specs.Readies.{board_below};
+ghost use Rattle.board_fit.specs.Shortages.{IsNeedOf};
 ghost use Rattle.board_fit.specs.Verdicts.{IsFitText, IsMisfit, IsMisfitText, IsVerdict};
 
+use crate::costs::costs_text;
 use crate::fitting::fit_text;
 use crate::shortage::{Shortage, find_shortage, refusal_line};
 use crate::telling::{Telling, reasons_text, warnings_text};
@@ -46,17 +48,19 @@ fn accept(
     Ok(Verdict { text, fault: None })
 }
 
-/// Of a board that can't: its line, and the entries of its file that are why. It fails where memory is out.
+/// Of a board that can't: its line, the entries of its file that are why, and what is told of the pool that
+/// doesn't fit. It fails where memory is out.
 fn decline(
     alloc: Global,
     telling: &Telling<'_>,
+    apertures: &Apertures,
     shortage: Option<Shortage>,
     fault: Fault,
 ) -> Result<Verdict, AllocError>
     ensures known { IfOk result (λ v. fault ≢ Memory) }
     ensures fault { IfOk result (λ v. v.fault ≡ Some fault) }
-    ensures text { let t = telling.now in IfOk result (λ v.
-        IsMisfit t.style t.name.now t.bytes.now shortage fault (string_bytes v.text)) }
+    ensures text { let t = telling.now in IfOk result (λ v. (b : Board) → IsNeedOf b apertures.now shortage
+        → IsMisfit t.style t.name.now t.bytes.now b apertures.now shortage fault (string_bytes v.text)) }
 {
     if fault == Fault::Memory {
         return Err(AllocError);
@@ -64,6 +68,8 @@ fn decline(
     let mut text = refusal_line(alloc, telling.name, shortage, fault)?;
     let reasons = reasons_text(alloc, telling, fault)?;
     text.push_str(reasons.as_str())?;
+    let costs = costs_text(alloc, telling, shortage, apertures)?;
+    text.push_str(costs.as_str())?;
     Ok(Verdict {
         text,
         fault: Some(fault),
@@ -85,7 +91,7 @@ fn reject(
         → IsMisfitText t.style t.name.now t.bytes.now b apertures.now fault (string_bytes v.text)) }
 {
     let shortage = find_shortage(alloc, table, apertures, fault)?;
-    decline(alloc, telling, shortage, fault)
+    decline(alloc, telling, apertures, shortage, fault)
 }
 
 /// Whether a board with this table can be set up.
@@ -120,7 +126,8 @@ fn fit(
 
 /// What is said of the board of a host at reset, which a file with these bytes declares: how much of each
 /// aperture its pools take, and what may be a mistake in the file; or why it can't be set up, with the
-/// entries of the file that are why. `name` is what the file is called. With excerpts the line of the file
+/// entries of the file that are why, and of a pool that doesn't fit its five largest regions, what gaps cost
+/// and the least aperture that fits. `name` is what the file is called. With excerpts the line of the file
 /// stands below what is said of an entry. It fails where memory is out, and where the bytes are no document.
 pub fn judge(
     alloc: Global,
@@ -135,9 +142,10 @@ pub fn judge(
         IsVerdict style name.now bytes.now (board_below host) host.apertures v.fault (string_bytes v.text)) }
 {
     let telling = Telling { style, name, bytes };
+    let apertures = host.apertures();
     let mut host = host;
     match enumerate(alloc, &mut host) {
-        Ok(table) => fit(alloc, &telling, &table, &host.apertures()),
-        Err(fault) => decline(alloc, &telling, None, fault),
+        Ok(table) => fit(alloc, &telling, &table, &apertures),
+        Err(fault) => decline(alloc, &telling, &apertures, None, fault),
     }
 }

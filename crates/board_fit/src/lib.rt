@@ -3,10 +3,16 @@
 #![tactic(auto)]
 
 mod apertures;
+mod costs;
 mod fitting;
 mod judging;
+mod largest;
+pub mod laws;
+mod least;
 mod located;
 mod misfit;
+mod pool_region;
+mod pool_regions;
 mod remark;
 mod shortage;
 mod telling;
@@ -15,4 +21,6 @@ mod warnings;
 mod words;
 
 pub use judging::{Verdict, judge};
+pub use least::least_aperture;
+pub use pool_region::PoolRegion;
 pub use words::set_up_words;

@@ -1,7 +1,8 @@
 //! What is remarked of a board file that is accepted.
 ghost use Rattle.std.specs.Prelude.{◌≡◌};
-ghost use Rattle.board_fit.specs.Texts.{aperture_key, entry_of, key_of, label_of, words_of, other_of};
+ghost use Rattle.board_fit.specs.Texts.{aperture_key, entry_of, key_of, label_of, large_words, words_of, other_of, size_told};
 
+use crate::pool_region::PoolRegion;
 use board_file::Entry;
 use window_packing::Pool;
 
@@ -20,6 +21,8 @@ pub enum Remark {
     BridgeTooMany(usize),
     /// A region of I/O, by its endpoint and its place in the list, is behind a bridge without an I/O window.
     ClosedRegion(usize, usize, usize),
+    /// A region is one of the largest of a pool that doesn't fit its aperture.
+    LargeRegion(Pool, PoolRegion),
 }
 
 /// The key of the aperture of a pool.
@@ -30,6 +33,17 @@ fn aperture_key(pool: Pool) -> &'static str
         Pool::Io => "io",
         Pool::Mem => "mem",
         Pool::Pref => "pref",
+    }
+}
+
+/// What is said of a large region of a pool.
+fn large_words(pool: Pool) -> &'static str
+    ensures { result.now ≡ large_words pool }
+{
+    match pool {
+        Pool::Io => "is one of the largest of the I/O pool",
+        Pool::Mem => "is one of the largest of the memory pool",
+        Pool::Pref => "is one of the largest of the prefetchable pool",
     }
 }
 
@@ -45,6 +59,7 @@ impl Remark {
             Remark::WideAperture(_) => Entry::Host,
             Remark::BridgeTooMany(index) => Entry::Bridge(index),
             Remark::ClosedRegion(endpoint, bar, _) => Entry::Bar(endpoint, bar),
+            Remark::LargeRegion(_, region) => Entry::Bar(region.endpoint, region.bar),
         }
     }
 
@@ -57,6 +72,7 @@ impl Remark {
             Remark::GuestWithoutSlots(_) => "name",
             Remark::WideAperture(pool) => aperture_key(pool),
             Remark::ClosedRegion(_, _, _) => "kind",
+            Remark::LargeRegion(_, _) => "size",
         }
     }
 
@@ -65,7 +81,8 @@ impl Remark {
         ensures { result.now ≡ label_of self }
     {
         match self {
-            Remark::BridgeTooMany(_) | Remark::ClosedRegion(_, _, _) => "",
+            Remark::BridgeTooMany(_) | Remark::ClosedRegion(_, _, _) | Remark::LargeRegion(_, _) =>
+                "",
             _ => "warning: ",
         }
     }
@@ -76,6 +93,16 @@ impl Remark {
     {
         match self {
             Remark::ClosedRegion(_, _, bridge) => Some(Entry::Bridge(bridge)),
+            _ => None,
+        }
+    }
+
+    /// The size in bytes that is told of it.
+    pub(crate) fn size(self) -> Option<u64>
+        ensures { result ≡ size_told self }
+    {
+        match self {
+            Remark::LargeRegion(_, region) => Some(region.size),
             _ => None,
         }
     }
@@ -91,6 +118,7 @@ impl Remark {
             Remark::WideAperture(_) => "is more than ten times what its pool uses",
             Remark::BridgeTooMany(_) => "is the first bridge for which no bus number is left",
             Remark::ClosedRegion(_, _, _) => "is behind a bridge without an I/O window",
+            Remark::LargeRegion(pool, _) => large_words(pool),
         }
     }
 }

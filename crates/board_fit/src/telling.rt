@@ -32,7 +32,7 @@ pub(crate) struct Telling<'a> {
 }
 
 /// What is told of remarks on a document.
-fn told_text(
+pub(crate) fn told_text(
     alloc: Global,
     telling: &Telling<'_>,
     document: &Table,

@@ -2,7 +2,7 @@
 ghost use Rattle.std.specs.Prelude.{◌≡◌, ◌++◌, OnOk, string_bytes};
 ghost use Rattle.std.specs.List.{flat_map};
 ghost use Rattle.toml.specs.View.{table_view};
-ghost use Rattle.board_fit.specs.Texts.{ending_text, said_text};
+ghost use Rattle.board_fit.specs.Texts.{size_text, ending_text, said_text};
 ghost use Rattle.board_fit.specs.Telling.{remark_text, told_text};
 
 use crate::located::Located;
@@ -12,12 +12,23 @@ use board_check::{Other, Style, line_at, push_below, push_line, push_other, push
 use std::alloc::{AllocError, Global};
 use toml::Table;
 
+/// Appends the size of a region, where it is told.
+fn push_size(text: &mut String, size: Option<u64>) -> Result<(), AllocError>
+    ensures { OnOk result (string_bytes text.new ≡ string_bytes text.old ++ size_text size) }
+{
+    match size {
+        Some(size) => write!(text, ", 0x{size:x} bytes"),
+        None => Ok(()),
+    }
+}
+
 /// Appends what is said of an entry, and ends the line.
 fn push_words(text: &mut String, remark: Remark, other: Option<Other>) -> Result<(), AllocError>
     ensures { OnOk result (string_bytes text.new ≡ string_bytes text.old ++ ending_text remark other) }
 {
     text.push_str(": ")?;
     text.push_str(remark.words())?;
+    push_size(text, remark.size())?;
     push_other(text, other)?;
     text.push_str("\n")
 }

@@ -1,7 +1,6 @@
-use Rattle.std.proofs.Common.{subst, ap, ◌∙◌, string_bytes}
+use Rattle.std.proofs.Common.{subst, string_bytes}
 use Rattle.model_registers.specs.Apertures.{Apertures}
 use Rattle.model_board.specs.Board.{Board}
-use Rattle.host_bridge.specs.HostState.{HostState}
 use Rattle.bus_scan.specs.SizedTables.{IsTableOf}
 use Rattle.window_packing.specs.Readies.{board_below}
 use Rattle.board_fit.specs.Verdicts.{IsVerdict}
@@ -12,7 +11,7 @@ pub returns-in-Ok-clause-verdict : goal.returns-in-Ok-clause-verdict
 returns-in-Ok-clause-verdict c =
     let b = board_below c.args.host in
     let table = subst (λ (x : Board). IsTableOf x c.in-Ok.table) c.in-Ok.ensures.found.board c.in-Ok.ensures.found.table in
-    let same = c.apertures.ensures ∙ ap (λ (x : HostState). x.apertures) c.in-Ok.ensures.found.host in
+    let same = c.apertures-apertures.ensures in
     if_ok-map c.fit.result _ _
     (λ v said. subst (λ (a : Apertures). IsVerdict c.args.style c.args.name.now c.args.bytes.now b a v.fault (string_bytes v.text)) same (said b table))
     c.fit.ensures.verdict

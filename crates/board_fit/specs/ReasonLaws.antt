@@ -1,0 +1,22 @@
+-- That an entry of the file is named where it is why a board can't be set up.
+--     names_entries      the faults for which that is so: bus numbers (201), and I/O windows (202)
+--     ReasonsAreTold      where set-up refuses the board of a file by such a fault, an entry is named
+use Rattle.std.specs.Prelude.{◌≡◌, ◌≢◌, Bool, true, false, [], Some}
+use Rattle.model_registers.specs.DeclarationRules.{first_broken}
+use Rattle.model_board.specs.Places.{board_of}
+use Rattle.model_set_up.specs.SetUpWrites.{set_up_rules}
+use Rattle.board_file.specs.Entries.{File}
+use Rattle.board_file.specs.Functions.{rows, apertures}
+use Rattle.bus_scan.specs.Faults.{number_of}
+use Rattle.bus_scan.specs.declared.fault.Fault.{Fault}
+use Rattle.bus_scan.specs.declared.fault.Fault.TheVariants.{Buses, NoIoWindow}
+use Rattle.board_fit.specs.Misfits.{reasons}
+
+abbrev pub names_entries : Fault → Bool
+names_entries Buses = true
+names_entries NoIoWindow = true
+names_entries _ = false
+
+abbrev pub ReasonsAreTold : Type 0
+ReasonsAreTold = (f : File) (fault : Fault) → names_entries fault ≡ true
+    → first_broken (set_up_rules (board_of (rows f)) (apertures f)) ≡ Some (number_of fault) → reasons f fault ≢ []

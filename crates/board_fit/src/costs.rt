@@ -1,0 +1,227 @@
+//! What is told of a pool that doesn't fit its aperture.
+ghost use Rattle.std.specs.Prelude.{◌≡◌, ◌++◌, IfOk, OnOk, map, string_bytes};
+ghost use Rattle.toml.specs.View.{table_view};
+ghost use Rattle.model_board.specs.Board.{Board};
+ghost use Rattle.board_file.specs.Entries.{file};
+ghost use Rattle.window_packing.specs.Plans.{named_pool};
+ghost use Rattle.window_packing.specs.Uses.{told_use};
+ghost use Rattle.board_fit.specs.PoolRegions.{pool_regions};
+ghost use Rattle.board_fit.specs.Costs.{large_region, large_regions, gaps, number_line, gaps_text, least_text, aperture_text, AreCostsBy, AreCosts};
+ghost use Rattle.board_fit.specs.Telling.{AreTold};
+ghost use Rattle.board_fit.specs.Shortages.{IsNeedOf};
+ghost use Rattle.board_fit.specs.Verdicts.{AreCostsOf};
+
+use crate::apertures::aperture_of;
+use crate::largest::{bytes_of, largest};
+use crate::least::least_aperture;
+use crate::pool_region::PoolRegion;
+use crate::pool_regions::pool_regions;
+use crate::remark::Remark;
+use crate::shortage::{Shortage, push_number};
+use crate::telling::{Telling, told_text};
+use board_file::reading::read_entries;
+use headers::{Aperture, Apertures};
+use std::alloc::{AllocError, Global};
+use toml::Table;
+use window_packing::{Pool, PoolUse};
+
+/// Regions of a pool, as remarks.
+fn as_remarks(alloc: Global, pool: Pool, regions: &[PoolRegion]) -> Result<Vec<Remark>, AllocError>
+    ensures { IfOk result (λ v. v.items ≡ map (large_region pool) regions.now) }
+{
+    let mut remarks = Vec::new(alloc);
+    'regions: for region in regions {
+        remarks.push(Remark::LargeRegion(pool, *region))?;
+    }
+    Ok(remarks)
+}
+
+/// The largest regions of a pool, as remarks.
+fn large_regions(
+    alloc: Global,
+    pool: Pool,
+    regions: &[PoolRegion],
+) -> Result<Vec<Remark>, AllocError>
+    ensures { IfOk result (λ v. v.items ≡ large_regions regions.now pool) }
+{
+    let top = largest(alloc, regions)?;
+    as_remarks(alloc, pool, &top)
+}
+
+/// The bytes that a pool takes beyond those of its regions.
+fn gaps(used: PoolUse, regions: &[PoolRegion]) -> u64
+    ensures { result ≡ gaps used regions.now }
+{
+    u128::from(used.extent).saturating_sub(bytes_of(regions)) as u64
+}
+
+/// Appends a number between words, after a name.
+fn push_number_line(
+    text: &mut String,
+    name: &str,
+    words: &str,
+    number: u64,
+    after: &str,
+) -> Result<(), AllocError>
+    ensures { OnOk result (string_bytes text.new
+        ≡ string_bytes text.old ++ number_line name.now words.now number after.now) }
+{
+    text.push_str(name)?;
+    push_number(text, words, number)?;
+    text.push_str(after)
+}
+
+/// Appends the line of these.
+fn push_gaps(
+    text: &mut String,
+    name: &str,
+    needed: Option<PoolUse>,
+    regions: &[PoolRegion],
+) -> Result<(), AllocError>
+    ensures { OnOk result (string_bytes text.new ≡ string_bytes text.old ++ gaps_text name.now needed regions.now) }
+{
+    match needed {
+        Some(used) => push_number_line(
+            text,
+            name,
+            ": gaps take ",
+            gaps(used, regions),
+            " of them\n",
+        ),
+        None => Ok(()),
+    }
+}
+
+/// Appends the line of the least aperture from the first address of the present one on.
+fn push_least(
+    text: &mut String,
+    name: &str,
+    present: Aperture,
+    least: Option<Aperture>,
+) -> Result<(), AllocError>
+    ensures { OnOk result (string_bytes text.new ≡ string_bytes text.old ++ least_text name.now present least) }
+{
+    match least {
+        Some(least) => {
+            let first = least.first;
+            let last = least.last;
+            writeln!(
+                text,
+                "{name}: the least aperture that fits is 0x{first:x} to 0x{last:x}"
+            )
+        }
+        None => push_number_line(
+            text,
+            name,
+            ": no aperture from ",
+            present.first,
+            " on fits\n",
+        ),
+    }
+}
+
+/// Appends the same, where there is a present one.
+fn push_aperture(
+    text: &mut String,
+    name: &str,
+    present: Option<Aperture>,
+    least: Option<Aperture>,
+) -> Result<(), AllocError>
+    ensures { OnOk result (string_bytes text.new ≡ string_bytes text.old ++ aperture_text name.now present least) }
+{
+    match present {
+        Some(present) => push_least(text, name, present, least),
+        None => Ok(()),
+    }
+}
+
+/// What is told of the largest regions of a pool.
+fn regions_text(
+    alloc: Global,
+    telling: &Telling<'_>,
+    document: &Table,
+    pool: Pool,
+    regions: &[PoolRegion],
+) -> Result<String, AllocError>
+    ensures { let t = telling.now in IfOk result (λ text.
+        AreTold t.style t.name.now t.bytes.now (table_view document.now) (large_regions regions.now pool)
+        (string_bytes text)) }
+{
+    let remarks = large_regions(alloc, pool, regions)?;
+    told_text(alloc, telling, document, &remarks)
+}
+
+/// What is told of a pool that doesn't fit, by its regions.
+fn costs_by(
+    alloc: Global,
+    telling: &Telling<'_>,
+    document: &Table,
+    regions: &[PoolRegion],
+    pool: Pool,
+    needed: Option<PoolUse>,
+    apertures: &Apertures,
+) -> Result<String, AllocError>
+    ensures { let t = telling.now in IfOk result (λ text. (b : Board) → needed ≡ told_use b apertures.now (named_pool pool)
+        → AreCostsBy t.style t.name.now t.bytes.now (table_view document.now) regions.now b apertures.now pool needed
+        (string_bytes text)) }
+{
+    let mut text = regions_text(alloc, telling, document, pool, regions)?;
+    push_gaps(&mut text, telling.name, needed, regions)?;
+    let present = aperture_of(apertures, pool);
+    let least = least_aperture(pool, needed, apertures);
+    push_aperture(&mut text, telling.name, present, least)?;
+    Ok(text)
+}
+
+/// The same, of a document.
+fn document_costs(
+    alloc: Global,
+    telling: &Telling<'_>,
+    document: &Table,
+    pool: Pool,
+    needed: Option<PoolUse>,
+    apertures: &Apertures,
+) -> Result<String, AllocError>
+    ensures { let t = telling.now in IfOk result (λ text. (b : Board) → needed ≡ told_use b apertures.now (named_pool pool)
+        → AreCostsBy t.style t.name.now t.bytes.now (table_view document.now)
+        (pool_regions (file (table_view document.now)) apertures.now pool) b apertures.now pool needed (string_bytes text)) }
+{
+    let file = read_entries(alloc, document)?;
+    let regions = pool_regions(alloc, pool, &file, apertures)?;
+    costs_by(alloc, telling, document, &regions, pool, needed, apertures)
+}
+
+/// The same, of the document that the bytes are.
+fn pool_costs(
+    alloc: Global,
+    telling: &Telling<'_>,
+    pool: Pool,
+    needed: Option<PoolUse>,
+    apertures: &Apertures,
+) -> Result<String, AllocError>
+    ensures { let t = telling.now in IfOk result (λ text. (b : Board) → needed ≡ told_use b apertures.now (named_pool pool)
+        → AreCosts t.style t.name.now t.bytes.now b apertures.now pool needed (string_bytes text)) }
+{
+    match toml::table_from_slice(alloc, telling.bytes) {
+        Ok(document) => document_costs(alloc, telling, &document, pool, needed, apertures),
+        Err(_) => Err(AllocError),
+    }
+}
+
+/// What is told of the pool that doesn't fit its aperture, where the fault is that: its five largest regions in
+/// the file, the largest first; what gaps cost; and the least aperture in which it fits, from the first address
+/// of its own on. It fails where memory is out, and where the bytes are no document.
+pub(crate) fn costs_text(
+    alloc: Global,
+    telling: &Telling<'_>,
+    shortage: Option<Shortage>,
+    apertures: &Apertures,
+) -> Result<String, AllocError>
+    ensures { let t = telling.now in IfOk result (λ text. (b : Board) → IsNeedOf b apertures.now shortage
+        → AreCostsOf t.style t.name.now t.bytes.now b apertures.now shortage (string_bytes text)) }
+{
+    match shortage {
+        Some(shortage) => pool_costs(alloc, telling, shortage.pool, shortage.needed, apertures),
+        None => Ok(String::new(alloc)),
+    }
+}
