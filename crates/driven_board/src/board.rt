@@ -1,10 +1,7 @@
 //! A board that firmware drives.
-ghost use Rattle.std.specs.Prelude.{◌≡◌, ◌≢◌, ◌<◌, ◌≤◌, ◌||◌, Some, false, not, IfOk, IfErr, length, string_bytes};
+ghost use Rattle.std.specs.Prelude.{◌≡◌, ◌≢◌, false, not, IfOk, IfErr, length, string_bytes};
 ghost use Rattle.std.specs.Bool.{OnTrue};
-ghost use Rattle.model_registers.specs.DeclarationRules.{first_broken};
-ghost use Rattle.model_set_up.specs.SetUpWrites.{set_up_rules};
 ghost use Rattle.model_guests.specs.Accesses.{reads, writes};
-ghost use Rattle.model_guests.specs.World.{World};
 ghost use Rattle.model_audit.specs.AuditText.{audit};
 ghost use Rattle.model_audit.specs.Problems.{problems};
 ghost use Rattle.model_firmware.specs.HostAccesses.{answer};
@@ -14,8 +11,8 @@ ghost use Rattle.accesses.specs.Replies.{IsRefusal};
 ghost use Rattle.lines.specs.FirmwareLines.{host_asked};
 ghost use Rattle.board_file.specs.declared.fault.BoardFault.TheVariants.{Memory};
 ghost use Rattle.board_file.specs.Faults.{number_of as file_number};
-ghost use Rattle.simulation.specs.Faults.{number_of};
-ghost use Rattle.simulation.specs.Listing.{Declares, Refuses};
+ghost use Rattle.simulation.specs.Faults.{OnFile, OnSetUp, IsOfBoard};
+ghost use Rattle.simulation.specs.Listing.{Refuses, Breaks};
 ghost use Rattle.simulation.specs.Running.{IsOpened};
 ghost use Rattle.driven_board.specs.Boards.{IsResetBoard, after_read, after_write, after_line};
 
@@ -127,11 +124,9 @@ impl Board {
     pub fn set_up(&self, alloc: Global) -> Result<Monitor, Fault>
         requires { self.now.written ≡ false }
         ensures opened { IfOk result (IsOpened self.now.file) }
-        ensures placement { IfErr result (λ f. 199 < number_of f → number_of f < 299 →
-            (w : World) × Declares self.now.file w
-            × (first_broken (set_up_rules w.board w.apertures) ≡ Some (number_of f))) }
-        ensures accepted { IfErr result (λ f. ¬ (number_of f < 199)) }
-        ensures faults { IfErr result (λ f. number_of f ≤ 299) }
+        ensures placement { IfErr result (OnSetUp (Breaks self.now.file)) }
+        ensures accepted { IfErr result (OnFile (λ _. ⊥)) }
+        ensures faults { IfErr result IsOfBoard }
     {
         simulation::open(alloc, &self.file)
     }

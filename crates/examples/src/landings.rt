@@ -259,7 +259,7 @@ pub(crate) fn compare_landings(alloc: Global, board: &[u8]) -> Result<Tally, Fau
     let (host, guests) = read_board(alloc, board)?;
     let ready = set_up(alloc, host)?;
     let Ok(rows) = ready.plan().rows(alloc) else {
-        return Err(Fault::SetUpMemory);
+        return Err(Fault::SetUp(bus_scan::Fault::Memory));
     };
     let (host, _table, _plan) = ready.into_parts();
     let tally = Tally {

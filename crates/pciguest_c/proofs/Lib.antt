@@ -1,4 +1,5 @@
 mod FunctionRows
+mod FaultNumbers
 mod Blocks
 mod Kept
 mod Moved

@@ -1,9 +1,6 @@
 //! Our own set-up of a board at reset, for C.
 ghost use Rattle.std.specs.Prelude.{◌≡◌, ◌≢◌, ◌<◌, ◌≤◌, ◌⊎◌, true, false, Some, IfNone, IfSome, IsSome};
-ghost use Rattle.model_registers.specs.DeclarationRules.{first_broken};
-ghost use Rattle.model_set_up.specs.SetUpWrites.{set_up_rules};
-ghost use Rattle.model_guests.specs.World.{World};
-ghost use Rattle.simulation.specs.Listing.{Declares};
+ghost use Rattle.simulation.specs.Listing.{Breaks};
 ghost use Rattle.simulation.specs.Running.{IsOpened};
 
 use crate::board_handle::BoardHandle;
@@ -19,8 +16,7 @@ fn set_up_into(alloc: Global, board: &Board, machine: &mut Handle) -> u32
     ensures numbers { IfNone machine.old.owner.value (board.now.written ≡ false →
         (result ≡ 0) ⊎ ((199 ≤ result) × (result ≤ 299))) }
     ensures made { result ≡ 0 → IfSome machine.new.owner.value (IsOpened board.now.file) × IsSome machine.new.owner.value }
-    ensures placement { 199 < result → result < 299 → (w : World) × Declares board.now.file w
-        × (first_broken (set_up_rules w.board w.apertures) ≡ Some result) }
+    ensures placement { 199 < result → result < 299 → Breaks board.now.file result }
     ensures refused { result ≢ 0 → machine.new.owner.value ≡ machine.old.owner.value }
 {
     if machine.is_live() {
@@ -58,8 +54,7 @@ pub extern "C" fn pciguest_raw_set_up(
         (result ≡ 0) ⊎ ((199 ≤ result) × (result ≤ 299)))) }
     ensures made { result ≡ 0 → IfSome handle.old.owner.value (λ b.
         IfSome machine.new.owner.value (IsOpened b.file) × IsSome machine.new.owner.value) }
-    ensures placement { IfSome handle.old.owner.value (λ b. 199 < result → result < 299 →
-        (w : World) × Declares b.file w × (first_broken (set_up_rules w.board w.apertures) ≡ Some result)) }
+    ensures placement { IfSome handle.old.owner.value (λ b. 199 < result → result < 299 → Breaks b.file result) }
     ensures kept { handle.new.owner.value ≡ handle.old.owner.value }
     ensures refused { result ≢ 0 → machine.new.owner.value ≡ machine.old.owner.value }
 {

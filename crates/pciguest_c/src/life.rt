@@ -1,9 +1,6 @@
 //! How C makes a monitor, and frees it.
-ghost use Rattle.std.specs.Prelude.{◌≡◌, ◌≢◌, ◌≤◌, ◌<◌, ◌⊎◌, None, Some, IfSome, IfNone, IsSome};
-ghost use Rattle.model_registers.specs.DeclarationRules.{first_broken};
-ghost use Rattle.model_set_up.specs.SetUpWrites.{set_up_rules};
-ghost use Rattle.model_guests.specs.World.{World};
-ghost use Rattle.simulation.specs.Listing.{Declares, Refuses};
+ghost use Rattle.std.specs.Prelude.{◌≡◌, ◌≢◌, ◌≤◌, ◌<◌, ◌⊎◌, None, IfSome, IfNone, IsSome};
+ghost use Rattle.simulation.specs.Listing.{Refuses, Breaks};
 ghost use Rattle.simulation.specs.Running.{IsOpened};
 
 use crate::handle::Handle;
@@ -21,8 +18,7 @@ pub extern "C" fn pciguest_raw_new(alloc: Global, handle: &mut Handle, board: &[
     ensures in_use { IfSome handle.old.owner.value (λ _. result ≡ 903) }
     ensures numbers { IfNone handle.old.owner.value (result ≤ 299) }
     ensures file { result ≢ 0 → result < 199 → Refuses board.now result }
-    ensures placement { 199 < result → result < 299 →
-        (w : World) × Declares board.now w × (first_broken (set_up_rules w.board w.apertures) ≡ Some result) }
+    ensures placement { 199 < result → result < 299 → Breaks board.now result }
 {
     if handle.is_live() {
         return IN_USE;

@@ -7,7 +7,7 @@ ghost use Rattle.model_guests.specs.Text.{Text};
 ghost use Rattle.model_guests.specs.World.{World};
 ghost use Rattle.model_guests.specs.Report.{report};
 ghost use Rattle.model_guests.specs.WorldNow.{line_output, after_line};
-ghost use Rattle.simulation.specs.Listing.{Declares, Refuses};
+ghost use Rattle.simulation.specs.Listing.{Declares, Refuses, Breaks};
 ghost use Rattle.pciguest_c.specs.Checks.{IsCheckOf};
 ghost use Rattle.pciguest_c.specs.NumberWords.{words_of_number};
 
@@ -98,8 +98,7 @@ pub extern "C" fn pciguest_raw_report(
     ensures room { result ≡ 902 → (w : World) × Declares board.now w
         × (length out.old < length (report w)) × (needed.new ≡ length (report w)) }
     ensures file { result ≢ 0 → result < 199 → Refuses board.now result }
-    ensures placement { 199 < result → result < 299 →
-        (w : World) × Declares board.now w × (first_broken (set_up_rules w.board w.apertures) ≡ Some result) }
+    ensures placement { 199 < result → result < 299 → Breaks board.now result }
     ensures numbers { (result ≤ 299) ⊎ (result ≡ 902) }
     ensures refused { result ≢ 0 → out.new ≡ out.old }
     ensures untold { result ≢ 0 → result ≤ 299 → needed.new ≡ needed.old }
@@ -135,7 +134,7 @@ pub extern "C" fn pciguest_raw_check(
 {
     match check_of(alloc, board) {
         Ok((text, number)) => {
-            if tell(&text, out, needed) {
+            if tell(text.as_bytes(), out, needed) {
                 number
             } else {
                 ARGUMENT

@@ -1,6 +1,5 @@
 mod FaultNumbers
+mod Begun
 mod Audited
-mod Checked
-mod Fitted
 mod Listed
 pub mod Ran

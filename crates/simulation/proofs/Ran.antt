@@ -1,6 +1,6 @@
 -- What the parts of a run over a board file say, put together.
-use Rattle.std.proofs.Common.{◌≡◌, ◌≤◌, Result, Ok, Err, refl, sym, ap, ap₂, ◌∙◌, arith}
-use Rattle.std.specs.Prelude.{◌≢◌, List, IsErrOf}
+use Rattle.std.proofs.Common.{◌≡◌, Result, Ok, Err, refl, sym, ap, ap₂, ◌∙◌, subst}
+use Rattle.std.specs.Prelude.{List, IfErr, IsErrOf}
 use Rattle.std.specs.Result.{IsErrAnd}
 use Rattle.model_board.specs.Board.{Board}
 use Rattle.model_registers.specs.Apertures.{Apertures}
@@ -11,38 +11,38 @@ use Rattle.host_bridge.specs.HostState.{HostState}
 use Rattle.window_packing.specs.Readies.{ReadyBoard, board_below}
 use Rattle.board_file.specs.Meaning.{world_in}
 use Rattle.monitor.specs.Beginnings.{world_of}
+use Rattle.bus_scan.specs.declared.fault.Fault.TheVariants as set_up
 use Rattle.line_runs.specs.declared.running.RunFault.{RunFault}
 use Rattle.line_runs.specs.declared.running.RunFault.TheVariants as run
 use Rattle.simulation.specs.declared.fault.Fault.{Fault}
-use Rattle.simulation.specs.declared.fault.Fault.TheVariants.{Read, Write, SetUpMemory}
+use Rattle.simulation.specs.declared.fault.Fault.TheVariants.{SetUp, Read, Write}
 use Rattle.line_runs.specs.Faults.{read_failures_of, write_failures_of}
-use Rattle.simulation.specs.Faults.{number_of, of_run, read_faults, write_faults}
+use Rattle.simulation.specs.Faults.{of_run, read_faults, write_faults}
+use Rattle.simulation.proofs.Listed.{by_error}
 
--- a fault of the run is none of the file or of the board
-pub of_run_large : (r : RunFault) (f : Fault) → r ≢ run.Memory → f ≡ of_run r → 500 ≤ number_of f
-of_run_large run.Read f other same = let is : number_of f ≡ 501 = ap number_of same in omega arith
-of_run_large run.Write f other same = let is : number_of f ≡ 502 = ap number_of same in omega arith
-of_run_large run.Memory f other same = absurd (other refl)
+-- a fact of the fault of a run
+by_cases : (P : Fault → Type 0) (e : RunFault) → P Read → P Write → (e ≡ run.Memory → P (SetUp set_up.Memory)) → P (of_run e)
+by_cases P run.Read read write memory = read
+by_cases P run.Write read write memory = write
+by_cases P run.Memory read write memory = memory refl
 
--- a fault of a run in a language whose lines may take memory is none of the file
-pub of_run_small : (r : RunFault) (f : Fault) → f ≡ of_run r → 299 ≤ number_of f
-of_run_small run.Read f same = let is : number_of f ≡ 501 = ap number_of same in omega arith
-of_run_small run.Write f same = let is : number_of f ≡ 502 = ap number_of same in omega arith
-of_run_small run.Memory f same = let is : number_of f ≡ 299 = ap number_of same in omega arith
+pub by_run : {T : Type 0} (P : Fault → Type 0) (r : Result T Fault) (e : RunFault) → IsErrAnd r (λ f. f ≡ of_run e)
+    → P Read → P Write → (e ≡ run.Memory → P (SetUp set_up.Memory)) → IfErr r P
+by_run P r e given read write memory = by_error P r given (λ f same. subst P (sym same) (by_cases P e read write memory))
 
 read_of_run : (r : RunFault) (f : Fault) → f ≡ of_run r → f ≡ Read → r ≡ run.Read
 read_of_run run.Read f same is = refl
 read_of_run run.Write f same is = absurd (let wrong : Write ≡ Read = sym same ∙ is in cc)
-read_of_run run.Memory f same is = absurd (let wrong : SetUpMemory ≡ Read = sym same ∙ is in cc)
+read_of_run run.Memory f same is = absurd (let wrong : SetUp set_up.Memory ≡ Read = sym same ∙ is in cc)
 
 write_of_run : (r : RunFault) (f : Fault) → f ≡ of_run r → f ≡ Write → r ≡ run.Write
 write_of_run run.Read f same is = absurd (let wrong : Read ≡ Write = sym same ∙ is in cc)
 write_of_run run.Write f same is = refl
-write_of_run run.Memory f same is = absurd (let wrong : SetUpMemory ≡ Write = sym same ∙ is in cc)
+write_of_run run.Memory f same is = absurd (let wrong : SetUp set_up.Memory ≡ Write = sym same ∙ is in cc)
 
-memory_of_run : (r : RunFault) (f : Fault) → f ≡ of_run r → f ≡ SetUpMemory → r ≡ run.Memory
-memory_of_run run.Read f same is = absurd (let wrong : Read ≡ SetUpMemory = sym same ∙ is in cc)
-memory_of_run run.Write f same is = absurd (let wrong : Write ≡ SetUpMemory = sym same ∙ is in cc)
+memory_of_run : (r : RunFault) (f : Fault) → f ≡ of_run r → f ≡ SetUp set_up.Memory → r ≡ run.Memory
+memory_of_run run.Read f same is = absurd (let wrong : Read ≡ SetUp set_up.Memory = sym same ∙ is in cc)
+memory_of_run run.Write f same is = absurd (let wrong : Write ≡ SetUp set_up.Memory = sym same ∙ is in cc)
 memory_of_run run.Memory f same is = refl
 
 pub read_failed : {T : Type 0} (r : Result T Fault) (e : RunFault) → IsErrAnd r (λ f. f ≡ of_run e) → IsErrOf r Read → e ≡ run.Read
@@ -53,9 +53,9 @@ pub write_failed : {T : Type 0} (r : Result T Fault) (e : RunFault) → IsErrAnd
 write_failed (Ok x) e h is = absurd h
 write_failed (Err f) e h is = write_of_run e f h (let same : f ≡ Write = cc in same)
 
-pub memory_lacked : {T : Type 0} (r : Result T Fault) (e : RunFault) → IsErrAnd r (λ f. f ≡ of_run e) → IsErrOf r SetUpMemory → e ≡ run.Memory
+pub memory_lacked : {T : Type 0} (r : Result T Fault) (e : RunFault) → IsErrAnd r (λ f. f ≡ of_run e) → IsErrOf r (SetUp set_up.Memory) → e ≡ run.Memory
 memory_lacked (Ok x) e h is = absurd h
-memory_lacked (Err f) e h is = memory_of_run e f h (let same : f ≡ SetUpMemory = cc in same)
+memory_lacked (Err f) e h is = memory_of_run e f h (let same : f ≡ SetUp set_up.Memory = cc in same)
 
 -- a monitor of the board that a file declares begins with the world of the file
 pub began : (h : HostState) (r : ReadyBoard) (gs guests : List Guest) (m : WorldNow)

@@ -4,23 +4,18 @@
 --     IsAudited board script old new      they were written
 --     IsAuditedInPart board script old new      all of what the lines write was, and a beginning of the audit's text
 --     IsAuditStopped      a write or flush failed, among the lines or in the audit's text
---     IsOfAudit f      a fault that an audit can end with: 299 where memory is out once the lines ran
-use Rattle.std.specs.Prelude.{◌≡◌, ◌⊎◌, ◌++◌, List, Option}
+use Rattle.std.specs.Prelude.{◌++◌, List, Option}
 use Rattle.std.specs.Option.{ForSome}
 use Rattle.std.specs.Io.{StartsWith}
 use Rattle.std.specs.Io.KnownBytes.{Appends, IsAtEnd}
 use Rattle.model_guests.specs.Text.{Text, lines}
 use Rattle.model_guests.specs.World.{World}
-use Rattle.model_guests.specs.LineRuns.{output, after_lines}
+use Rattle.model_guests.specs.LineRuns.{after_lines}
 use Rattle.model_audit.specs.AuditText.{audit}
 use Rattle.firmware.specs.Hosts.{host_protocol}
-use Rattle.simulation.specs.Driving.{host_at_reset, IsDrivenStopped, IsOfDriving}
+use Rattle.simulation.specs.Driving.{host_at_reset, driven_text, IsDrivenStopped}
+use Rattle.simulation.specs.Lines.{IsWritten}
 use Rattle.simulation.specs.Listing.{Declares}
-use Rattle.simulation.specs.declared.fault.Fault.{Fault}
-use Rattle.simulation.specs.declared.fault.Fault.TheVariants.{SetUpMemory}
-
-abbrev pub driven_text : World → List Text → Text
-driven_text w ls = output host_protocol (host_at_reset w) ls
 
 abbrev pub audit_after : World → List Text → Text
 audit_after w ls = audit (after_lines host_protocol (host_at_reset w) ls).state.functions
@@ -28,10 +23,8 @@ audit_after w ls = audit (after_lines host_protocol (host_at_reset w) ls).state.
 abbrev pub audited : World → List Text → Text
 audited w ls = driven_text w ls ++ audit_after w ls
 
-pub record IsAudited (board : Text) (script old new : Option Text) : Type 0 where
-  pub world : World
-  pub declared : Declares board world
-  pub written : ForSome script (λ s. Appends old new (audited world (lines s)))
+abbrev pub IsAudited : Text → (script old new : Option Text) → Type 0
+IsAudited = IsWritten audited
 
 pub record IsAuditedInPart (board : Text) (script old new : Option Text) : Type 0 where
   pub world : World
@@ -44,6 +37,3 @@ pub data IsAuditStopped (board : Text) (old_rest new_rest old new : Option Text)
   among_lines : IsDrivenStopped board old_rest new_rest old new → IsAuditStopped board old_rest new_rest old new
   in_audit : IsAtEnd new_rest → IsAuditedInPart board old_rest old new
       → IsAuditStopped board old_rest new_rest old new
-
-abbrev pub IsOfAudit : Fault → Type 0
-IsOfAudit f = IsOfDriving f ⊎ (f ≡ SetUpMemory)

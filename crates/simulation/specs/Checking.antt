@@ -1,31 +1,51 @@
 -- What a check says of a board file.
---     IsRefusalOf style name board f text      what is said of a file that is refused with this fault
---     IsRefusalTold style name board f old new      this was written, after what was written before
---     IsCheckText style name board text      what is said of a file: of its board, or of the check that it fails
-use Rattle.std.specs.Prelude.{◌≡◌, Option}
+--     IsCheckText style name board fault text      of a file that declares a board, what is said of its board; of one
+--         that doesn't, what is said of the check that it fails. The fault is that of the file or its board, if there is one
+--     IsChecked style name board fault old new      this was written, after what was written before
+--     IsCheckedInPart style name board old new      so was a beginning of it, whatever the fault
+use Rattle.std.specs.Prelude.{◌≢◌, Option, None, Some}
 use Rattle.std.specs.Io.KnownBytes.{Appends}
 use Rattle.model_guests.specs.Text.{Text}
 use Rattle.model_guests.specs.World.{World}
+use Rattle.streams.specs.Ends.{AppendsPart}
 use Rattle.board_file.specs.declared.fault.BoardFault.{BoardFault}
+use Rattle.board_file.specs.declared.fault.BoardFault.TheVariants as file
+use Rattle.board_file.specs.Faults as board_file
+use Rattle.bus_scan.specs.declared.fault.Fault.{Fault as SetUpFault}
+use Rattle.bus_scan.specs.declared.fault.Fault.TheVariants as set_up
 use Rattle.board_check.specs.declared.style.Style.{Style}
 use Rattle.board_check.specs.Telling.{IsRefusalText}
+use Rattle.board_fit.specs.Verdicts.{IsVerdict}
 use Rattle.simulation.specs.declared.fault.Fault.{Fault}
-use Rattle.simulation.specs.Faults.{number_of, of_file}
-use Rattle.simulation.specs.Fitting.{IsVerdict}
+use Rattle.simulation.specs.declared.fault.Fault.TheVariants.{File, SetUp}
 use Rattle.simulation.specs.Listing.{Declares, Refuses}
 
-pub record IsRefusalOf (style : Style) (name board : Text) (f : Fault) (text : Text) : Type 0 where
-  pub fault : BoardFault
-  pub same : f ≡ of_file fault
-  pub told : IsRefusalText style name board fault text
+-- of a file that is refused
+pub record IsRefused (style : Style) (name board : Text) (b : BoardFault) (text : Text) : Type 0 where
+  pub known : b ≢ file.Memory
+  pub refuses : Refuses board (board_file.number_of b)
+  pub told : IsRefusalText style name board b text
 
-pub record IsRefusalTold (style : Style) (name board : Text) (f : Fault) (old new : Option Text) : Type 0 where
+-- of a file that is accepted
+pub record IsJudged (style : Style) (name board : Text) (fault : Option SetUpFault) (text : Text) : Type 0 where
+  pub known : fault ≢ Some set_up.Memory
+  pub world : World
+  pub declared : Declares board world
+  pub verdict : IsVerdict style name board world.board world.apertures fault text
+
+abbrev pub IsCheckText : Style → (name board : Text) → Option Fault → Text → Type 0
+IsCheckText style name board None text = IsJudged style name board None text
+IsCheckText style name board (Some (File b)) text = IsRefused style name board b text
+IsCheckText style name board (Some (SetUp s)) text = IsJudged style name board (Some s) text
+IsCheckText style name board (Some _) text = ⊥
+
+pub record IsChecked (style : Style) (name board : Text) (fault : Option Fault) (old new : Option Text) : Type 0 where
   pub text : Text
-  pub is_told : IsRefusalOf style name board f text
+  pub is_text : IsCheckText style name board fault text
   pub written : Appends old new text
 
-pub data IsCheckText (style : Style) (name board text : Text) : Type 0 where
-  of_board : (w : World) → Declares board w → (fault : Option Fault)
-      → IsVerdict style name board w.board w.apertures fault text → IsCheckText style name board text
-  of_refusal : (f : Fault) → Refuses board (number_of f) → IsRefusalOf style name board f text
-      → IsCheckText style name board text
+pub record IsCheckedInPart (style : Style) (name board : Text) (old new : Option Text) : Type 0 where
+  pub fault : Option Fault
+  pub text : Text
+  pub is_text : IsCheckText style name board fault text
+  pub part : AppendsPart old new text

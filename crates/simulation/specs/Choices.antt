@@ -7,27 +7,26 @@
 --         write was written
 --     IsFlushed choice all none      so it was flushed
 --     IsOfChoice choice f      a fault that the choice can end with
-use Rattle.std.specs.Prelude.{◌≡◌, ◌≢◌, ◌<◌, ◌⊎◌, Option, None, Some, string_bytes}
+use Rattle.std.specs.Prelude.{◌≡◌, ◌⊎◌, Option, None, Some, string_bytes}
 use Rattle.std.specs.Io.KnownBytes.{Appends}
 use Rattle.model_registers.specs.DeclarationRules.{first_broken}
 use Rattle.model_set_up.specs.SetUpWrites.{set_up_rules}
 use Rattle.model_guests.specs.Text.{Text}
 use Rattle.model_guests.specs.World.{World}
 use Rattle.streams.specs.Ends.{AppendsPart}
-use Rattle.board_check.specs.declared.style.Style.{Style}
+use Rattle.bus_scan.specs.declared.fault.Fault.TheVariants as set_up
 use Rattle.simulation.specs.Demo.{demo_board}
-use Rattle.simulation.specs.Faults.{number_of, IsOfList, IsOfRun}
-use Rattle.simulation.specs.Listing.{Declares, Refuses, IsListed, IsListedInPart}
-use Rattle.simulation.specs.Fitting.{IsVerdictTold}
-use Rattle.simulation.specs.Checking.{IsRefusalTold, IsCheckText}
+use Rattle.simulation.specs.Faults.{IsRefusal, IsOfList, IsOfRun, IsOfSession}
+use Rattle.simulation.specs.Listing.{Declares, IsListed, IsListedInPart}
+use Rattle.simulation.specs.Checking.{IsChecked, IsCheckedInPart}
 use Rattle.simulation.specs.Running.{IsRun, IsRunCut, IsRunStopped}
 use Rattle.simulation.specs.Driving.{IsDriven, IsDrivenCut}
-use Rattle.simulation.specs.Sessions.{IsSession, IsSessionCut, IsSessionStopped, IsSessionLacking, IsOfSession}
-use Rattle.simulation.specs.Auditing.{IsAudited, IsAuditStopped, IsOfAudit}
+use Rattle.simulation.specs.Sessions.{IsSession, IsSessionCut, IsSessionStopped, IsSessionLacking}
+use Rattle.simulation.specs.Auditing.{IsAudited, IsAuditStopped}
 use Rattle.simulation.specs.declared.choice.Choice.{Choice}
 use Rattle.simulation.specs.declared.choice.Choice.TheVariants.{Help, Demo, List, Check, Run, Firmware, Audit}
 use Rattle.simulation.specs.declared.fault.Fault.{Fault}
-use Rattle.simulation.specs.declared.fault.Fault.TheVariants.{SetUpMemory, Write, BoardFile}
+use Rattle.simulation.specs.declared.fault.Fault.TheVariants.{SetUp, Write, BoardFile}
 
 -- the report of the board that some bytes declare, once it is set up
 pub record IsReported (board : Text) (old new : Option Text) : Type 0 where
@@ -41,37 +40,19 @@ pub record IsReportedInPart (board : Text) (old new : Option Text) : Type 0 wher
   pub declared : Declares board world
   pub listed : IsListedInPart world old new
 
--- the board that some bytes declare fits, and this was said
-pub record IsFit (style : Style) (name board : Text) (old new : Option Text) : Type 0 where
-  pub world : World
-  pub declared : Declares board world
-  pub told : IsVerdictTold style name board world.board world.apertures None old new
-
--- what is wrong with a file or its board was told
-pub record IsTold (style : Style) (name board : Text) (f : Fault) (old new : Option Text) : Type 0 where
-  pub refused : number_of f < 199 → Refuses board (number_of f) × IsRefusalTold style name board f old new
-  pub misfit : 199 < number_of f → (w : World) × Declares board w
-      × IsVerdictTold style name board w.board w.apertures (Some f) old new
-
--- so was a beginning of it, or of what is said where nothing is wrong
-pub record IsToldInPart (style : Style) (name board : Text) (old new : Option Text) : Type 0 where
-  pub text : Text
-  pub is_text : IsCheckText style name board text
-  pub part : AppendsPart old new text
-
 -- a fault of the file or its board, which a check tells of
 abbrev pub IsTelling : Choice → Fault → Type 0
-IsTelling (Check path style) f = (number_of f < 299) × (number_of f ≢ 199)
+IsTelling (Check path style) f = IsRefusal f
 IsTelling _ f = ⊥
 
 abbrev pub IsToldOf : Choice → Fault → Option Text → Option Text → Type 0
-IsToldOf (Check path style) f old new = (board : Text) × IsTold style path.now board f old new
+IsToldOf (Check path style) f old new = (board : Text) × IsChecked style path.now board (Some f) old new
 IsToldOf _ f old new = ⊥
 
 -- no memory for an audit or a handover, once lines ran
 abbrev pub IsLacking : Choice → Fault → Type 0
-IsLacking (Firmware path) f = f ≡ SetUpMemory
-IsLacking (Audit path) f = f ≡ SetUpMemory
+IsLacking (Firmware path) f = f ≡ SetUp set_up.Memory
+IsLacking (Audit path) f = f ≡ SetUp set_up.Memory
 IsLacking _ f = ⊥
 
 abbrev pub IsLackingDone : Choice → Option Text → Option Text → Option Text → Option Text → Type 0
@@ -89,7 +70,7 @@ abbrev pub IsDone : Choice → Option Text → Option Text → Option Text → T
 IsDone (Help text) script old new = Appends old new (string_bytes text)
 IsDone Demo script old new = IsRun demo_board script old new
 IsDone (List path) script old new = (board : Text) × IsReported board old new
-IsDone (Check path style) script old new = (board : Text) × IsFit style path.now board old new
+IsDone (Check path style) script old new = (board : Text) × IsChecked style path.now board None old new
 IsDone (Run path) script old new = (board : Text) × IsRun board script old new
 IsDone (Firmware path) script old new = (board : Text) × IsSession board script old new
 IsDone (Audit path) script old new = (board : Text) × IsAudited board script old new
@@ -98,7 +79,7 @@ abbrev pub IsDoneInPart : Choice → Option Text → Option Text → Option Text
 IsDoneInPart (Help text) old_rest new_rest old new = AppendsPart old new (string_bytes text)
 IsDoneInPart Demo old_rest new_rest old new = IsRunStopped demo_board old_rest new_rest old new
 IsDoneInPart (List path) old_rest new_rest old new = (board : Text) × IsReportedInPart board old new
-IsDoneInPart (Check path style) old_rest new_rest old new = (board : Text) × IsToldInPart style path.now board old new
+IsDoneInPart (Check path style) old_rest new_rest old new = (board : Text) × IsCheckedInPart style path.now board old new
 IsDoneInPart (Run path) old_rest new_rest old new = (board : Text) × IsRunStopped board old_rest new_rest old new
 IsDoneInPart (Firmware path) old_rest new_rest old new =
     (board : Text) × IsSessionStopped board old_rest new_rest old new
@@ -121,4 +102,4 @@ IsOfChoice (List path) f = IsOfList f ⊎ (f ≡ BoardFile)
 IsOfChoice (Check path style) f = IsOfList f ⊎ (f ≡ BoardFile)
 IsOfChoice (Run path) f = IsOfRun f ⊎ (f ≡ BoardFile)
 IsOfChoice (Firmware path) f = IsOfSession f ⊎ (f ≡ BoardFile)
-IsOfChoice (Audit path) f = IsOfAudit f ⊎ (f ≡ BoardFile)
+IsOfChoice (Audit path) f = IsOfSession f ⊎ (f ≡ BoardFile)

@@ -1,7 +1,7 @@
 pub mod Faults
 pub mod Demo
 pub mod Listing
-pub mod Fitting
+pub mod Lines
 pub mod Checking
 pub mod Running
 pub mod Sessions

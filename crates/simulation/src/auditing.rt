@@ -1,9 +1,10 @@
 //! An audit of the board of a board file, after firmware's lines.
 ghost use Rattle.std.specs.Prelude.{◌≡◌, ◌+◌, ◌-◌, ◌^◌, ◌<◌, OnOk, IfErr, IsErrOf};
 ghost use Rattle.std.specs.Io.KnownBytes.{IsAtEnd};
-ghost use Rattle.simulation.specs.Auditing.{IsAudited, IsAuditStopped, IsOfAudit};
+ghost use Rattle.bus_scan.specs.declared.fault.Fault.TheVariants.{Memory};
+ghost use Rattle.simulation.specs.Auditing.{IsAudited, IsAuditStopped};
 ghost use Rattle.simulation.specs.Driving.{IsDriven, IsDrivenCut};
-ghost use Rattle.simulation.specs.Faults.{number_of, read_faults, write_faults};
+ghost use Rattle.simulation.specs.Faults.{read_faults, write_faults, OnFile, IsOfFile, IsOfSession};
 ghost use Rattle.simulation.specs.Listing.{Refuses};
 
 use crate::choice::print;
@@ -36,9 +37,9 @@ pub fn audit<R: Reader, W: Writer>(
         (IsAudited board.now (R.rest reader.old) (W.written writer.old) (W.written writer.new)) }
     ensures flushed { OnOk result (W.flushed writer.new ≡ W.written writer.new) }
 
-    ensures file { IfErr result (λ f. number_of f < 199 → Refuses board.now (number_of f)) }
-    ensures faults { IfErr result IsOfAudit }
-    ensures nothing { IfErr result (λ f. number_of f < 299 → (reader.new ≡ reader.old) × (writer.new ≡ writer.old)) }
+    ensures file { IfErr result (OnFile (Refuses board.now)) }
+    ensures faults { IfErr result IsOfSession }
+    ensures nothing { IfErr result (λ f. IsOfFile f → (reader.new ≡ reader.old) × (writer.new ≡ writer.old)) }
 
     // What a failed read or write leaves of the output.
     ensures cut { IsErrOf result Fault.Read →
@@ -47,10 +48,10 @@ pub fn audit<R: Reader, W: Writer>(
         IsAuditStopped board.now (R.rest reader.old) (R.rest reader.new) (W.written writer.old) (W.written writer.new) }
 
     // No memory for the audit: the lines ran as over `drive`.
-    ensures unaudited { IsErrOf result Fault.SetUpMemory →
+    ensures unaudited { IsErrOf result (Fault.SetUp Memory) →
         IsDriven board.now (R.rest reader.old) (W.written writer.old) (W.written writer.new) }
-    ensures unaudited_end { IsErrOf result Fault.SetUpMemory → IsAtEnd (R.rest reader.new) }
-    ensures unaudited_flushed { IsErrOf result Fault.SetUpMemory → W.flushed writer.new ≡ W.written writer.new }
+    ensures unaudited_end { IsErrOf result (Fault.SetUp Memory) → IsAtEnd (R.rest reader.new) }
+    ensures unaudited_flushed { IsErrOf result (Fault.SetUp Memory) → W.flushed writer.new ≡ W.written writer.new }
 
     // A fault is the reader's or the writer's exactly where that end failed during the call.
     ensures reads { R.failures reader.new ≡ R.failures reader.old + read_faults result }
@@ -58,7 +59,7 @@ pub fn audit<R: Reader, W: Writer>(
 {
     let mut host = driven(alloc, board, reader, writer)?;
     let Ok(text) = audit_text(alloc, &mut host) else {
-        return Err(Fault::SetUpMemory);
+        return Err(Fault::SetUp(bus_scan::Fault::Memory));
     };
     print(text.as_str(), writer)?;
     Ok(())

@@ -1,63 +1,75 @@
 //! What is wrong with a board file, or that nothing is.
-ghost use Rattle.std.specs.Prelude.{◌≡◌, ◌≢◌, ◌⊎◌, ◌++◌, ◌+◌, ◌-◌, ◌^◌, ◌<◌, ◌≤◌, Some, None, Err, OnOk, IfOk, IfErr, IsErrOf, IsUtf8, string_bytes};
+ghost use Rattle.std.specs.Prelude.{◌≡◌, ◌≢◌, ◌+◌, ◌-◌, ◌^◌, ◌<◌, Some, None, Err, OnOk, IfOk, IfErr, IsErrOf, IsUtf8, string_bytes};
 ghost use Rattle.toml.specs.Parse.{parse_document};
-ghost use Rattle.model_guests.specs.Text.{Text};
-ghost use Rattle.model_guests.specs.World.{World};
-ghost use Rattle.streams.specs.Ends.{AppendsPart};
 ghost use Rattle.board_file.specs.Meaning.{document_meaning};
 ghost use Rattle.board_file.specs.Faults as of_file;
 ghost use Rattle.board_file.specs.declared.fault.BoardFault.TheVariants.{NotToml, Memory};
-ghost use Rattle.simulation.specs.Faults.{number_of, write_faults, IsOfList};
-ghost use Rattle.simulation.specs.Listing.{Declares, Refuses};
-ghost use Rattle.simulation.specs.Fitting.{IsVerdictTold};
-ghost use Rattle.simulation.specs.Checking.{IsRefusalOf, IsRefusalTold, IsCheckText};
+ghost use Rattle.simulation.specs.Faults.{write_faults, IsOfList, IsOutOfMemory, IsRefusal};
+ghost use Rattle.simulation.specs.Checking.{IsCheckText, IsChecked, IsCheckedInPart};
 
 use crate::choice::print;
 use crate::fault::Fault;
-use crate::fitting::judge;
 use board_check::{Style, refusal_text};
 use board_file::{BoardFault, read_board};
+use board_fit::judge;
 use std::alloc::Global;
 use streams::Writer;
 
-/// Writes what is wrong with a file that is refused, and answers the fault.
-fn refuse<W: Writer>(
+/// What is said of a board file, and the fault of the file or its board, if there is one.
+#[derive(Drop)]
+pub struct Checked {
+    pub text: String,
+    pub fault: Option<Fault>,
+}
+
+/// Of a file that is refused: what is wrong with it.
+fn refuse(
     alloc: Global,
     style: Style,
     name: &str,
     board: &[u8],
     fault: BoardFault,
-    writer: &mut W,
-) -> Result<(), Fault>
-    requires room { W.failures writer.old < 2 ^ 64 - 1 }
+) -> Result<Checked, Fault>
     requires refused { fault ≢ Memory → IsUtf8 board.now
         → document_meaning (parse_document board.now) ≡ Err (of_file.number_of fault) }
     requires not_text { fault ≢ Memory → ¬ IsUtf8 board.now → fault ≡ NotToml }
-    ensures never { OnOk result ⊥ }
-    ensures file { IfErr result (λ f. number_of f < 199 → Refuses board.now (number_of f)) }
-    ensures told { IfErr result (λ f.
-        number_of f < 199 → IsRefusalTold style name.now board.now f (W.written writer.old) (W.written writer.new)) }
-    ensures flushed { IfErr result (λ f. number_of f < 199 → W.flushed writer.new ≡ W.written writer.new) }
-    ensures faults { IfErr result (λ f. (number_of f ≤ 199) ⊎ (f ≡ Fault.Write)) }
-    ensures memory { IfErr result (λ f. number_of f ≡ 199 → writer.new ≡ writer.old) }
-    ensures stopped { IsErrOf result Fault.Write → (text : Text) × IsCheckText style name.now board.now text
-        × AppendsPart (W.written writer.old) (W.written writer.new) text }
-    ensures failures { W.failures writer.new ≡ W.failures writer.old + write_faults result }
+    ensures told { IfOk result (λ c. IsCheckText style name.now board.now c.fault (string_bytes c.text)) }
+    ensures memory { IfErr result IsOutOfMemory }
 {
     if fault == BoardFault::Memory {
-        return Err(Fault::FileMemory);
+        return Err(Fault::File(fault));
     }
-    let Ok(text) = refusal_text(alloc, style, name, board, fault) else {
-        return Err(Fault::FileMemory);
-    };
-    print(text.as_str(), writer)?;
-    Err(Fault::from(fault))
+    match refusal_text(alloc, style, name, board, fault) {
+        Ok(text) => Ok(Checked {
+            text,
+            fault: Some(Fault::File(fault)),
+        }),
+        Err(_) => Err(Fault::File(BoardFault::Memory)),
+    }
 }
 
-/// Writes what is wrong with a board file, a line for each entry that breaks the first check that the
-/// file fails, and flushes once; or `ok`, where its board can be set up, with how much of each aperture
-/// it takes, and a line for each thing that may be a mistake and is no fault. `name` is what the file is
-/// called. With excerpts the line of the file stands below what is said of an entry.
+/// What is wrong with a board file, a line for each entry that breaks the first check that the file fails;
+/// or `ok`, where its board can be set up, with how much of each aperture it takes, and a line for each thing
+/// that may be a mistake and is no fault. `name` is what the file is called. With excerpts the line of the
+/// file stands below what is said of an entry. It fails where memory is out (199 or 299), and nowhere else.
+pub fn check_text(alloc: Global, style: Style, name: &str, board: &[u8]) -> Result<Checked, Fault>
+    ensures told { IfOk result (λ c. IsCheckText style name.now board.now c.fault (string_bytes c.text)) }
+    ensures memory { IfErr result IsOutOfMemory }
+{
+    let host = match read_board(alloc, board) {
+        Ok((host, _)) => host,
+        Err(fault) => return refuse(alloc, style, name, board, fault),
+    };
+    match judge(alloc, style, name, board, host) {
+        Ok(verdict) => Ok(Checked {
+            text: verdict.text,
+            fault: verdict.fault.map(Fault::SetUp),
+        }),
+        Err(_) => Err(Fault::SetUp(bus_scan::Fault::Memory)),
+    }
+}
+
+/// Writes what [`check_text`] says of a board file, and flushes once.
 ///
 /// The answer is that of `list`, but for faults of the report itself.
 pub fn check<W: Writer>(
@@ -69,33 +81,26 @@ pub fn check<W: Writer>(
 ) -> Result<(), Fault>
     requires { W.failures writer.old < 2 ^ 64 - 1 }
 
-    // The file declares a board that can be set up, and this was said.
-    ensures fits { OnOk result ((w : World) × Declares board.now w
-        × IsVerdictTold style name.now board.now w.board w.apertures None (W.written writer.old) (W.written writer.new)) }
+    // The file declares a board that can be set up, and this was said; or what is wrong with the file, or why its
+    // board can't be set up.
+    ensures fits { OnOk result (IsChecked style name.now board.now None (W.written writer.old) (W.written writer.new)) }
     ensures flushed { OnOk result (W.flushed writer.new ≡ W.written writer.new) }
+    ensures told { IfErr result (λ f. IsRefusal f →
+        IsChecked style name.now board.now (Some f) (W.written writer.old) (W.written writer.new)) }
+    ensures told_flushed { IfErr result (λ f. IsRefusal f → W.flushed writer.new ≡ W.written writer.new) }
 
-    // The file is refused: what breaks this check was told.
-    ensures file { IfErr result (λ f. number_of f < 199 → Refuses board.now (number_of f)) }
-    ensures told { IfErr result (λ f.
-        number_of f < 199 → IsRefusalTold style name.now board.now f (W.written writer.old) (W.written writer.new)) }
-
-    // The board can't be set up, and this was told.
-    ensures misfit { IfErr result (λ f. 199 < number_of f → number_of f < 299 →
-        (w : World) × Declares board.now w
-        × IsVerdictTold style name.now board.now w.board w.apertures (Some f) (W.written writer.old) (W.written writer.new)) }
-
-    ensures told_flushed { IfErr result (λ f.
-        number_of f < 299 → number_of f ≢ 199 → W.flushed writer.new ≡ W.written writer.new) }
-    ensures stopped { IsErrOf result Fault.Write → (text : Text) × IsCheckText style name.now board.now text
-        × AppendsPart (W.written writer.old) (W.written writer.new) text }
+    ensures stopped { IsErrOf result Fault.Write →
+        IsCheckedInPart style name.now board.now (W.written writer.old) (W.written writer.new) }
     ensures faults { IfErr result IsOfList }
-    ensures memory { IfErr result (λ f. (number_of f ≡ 199) ⊎ (number_of f ≡ 299) → writer.new ≡ writer.old) }
+    ensures nothing { IfErr result (λ f. f ≢ Fault.Write → ¬ IsRefusal f → writer.new ≡ writer.old) }
 
     // A fault is the writer's exactly where the writer failed during the call.
     ensures failures { W.failures writer.new ≡ W.failures writer.old + write_faults result }
 {
-    match read_board(alloc, board) {
-        Ok((host, _)) => judge(alloc, style, name, board, host, writer),
-        Err(fault) => refuse(alloc, style, name, board, fault, writer),
+    let checked = check_text(alloc, style, name, board)?;
+    print(checked.text.as_str(), writer)?;
+    match checked.fault {
+        None => Ok(()),
+        Some(fault) => Err(fault),
     }
 }

@@ -1,12 +1,9 @@
 //! A script over the demo board.
-ghost use Rattle.std.specs.Prelude.{◌≡◌, ◌≢◌, ℕ, ◌+◌, ◌-◌, ◌^◌, ◌<◌, None, Some, OnOk, IfErr, IsErrOf};
+ghost use Rattle.std.specs.Prelude.{◌≡◌, ◌+◌, ◌-◌, ◌^◌, ◌<◌, OnOk, IfErr, IsErrOf};
 ghost use Rattle.std.specs.Io.KnownBytes.{IsAtEnd};
-ghost use Rattle.model_registers.specs.DeclarationRules.{first_broken};
-ghost use Rattle.model_set_up.specs.SetUpWrites.{set_up_rules};
-ghost use Rattle.model_guests.specs.World.{World};
 ghost use Rattle.simulation.specs.Demo.{demo_board};
-ghost use Rattle.simulation.specs.Faults.{number_of, read_faults, write_faults, IsOfRun};
-ghost use Rattle.simulation.specs.Listing.{Declares, Refuses};
+ghost use Rattle.simulation.specs.Faults.{read_faults, write_faults, OnFile, OnSetUp, IsOfBoard, IsOfRun};
+ghost use Rattle.simulation.specs.Listing.{Refuses, Breaks};
 ghost use Rattle.simulation.specs.Running.{IsRun, IsRunCut, IsRunStopped};
 
 use crate::fault::Fault;
@@ -49,11 +46,10 @@ pub fn demo<R: Reader, W: Writer>(
     ensures flushed { OnOk result (W.flushed writer.new ≡ W.written writer.new) }
 
     // What the definitions of board files and of set-up say of the demo's text.
-    ensures file { IfErr result (λ f. number_of f < 199 → Refuses demo_board (number_of f)) }
-    ensures placement { IfErr result (λ f. 199 < number_of f → number_of f < 299 →
-        (w : World) × Declares demo_board w × (first_broken (set_up_rules w.board w.apertures) ≡ Some (number_of f))) }
+    ensures file { IfErr result (OnFile (Refuses demo_board)) }
+    ensures placement { IfErr result (OnSetUp (Breaks demo_board)) }
     ensures faults { IfErr result IsOfRun }
-    ensures nothing { IfErr result (λ f. number_of f < 500 → (reader.new ≡ reader.old) × (writer.new ≡ writer.old)) }
+    ensures nothing { IfErr result (λ f. IsOfBoard f → (reader.new ≡ reader.old) × (writer.new ≡ writer.old)) }
 
     // What a failed read or write leaves of the output.
     ensures cut { IsErrOf result Fault.Read →

@@ -1,8 +1,8 @@
 //! Firmware's lines alone over the board of a board file, at reset.
 ghost use Rattle.std.specs.Prelude.{◌≡◌, ◌+◌, ◌-◌, ◌^◌, ◌<◌, OnOk, IfOk, IfErr, IsErrOf};
 ghost use Rattle.std.specs.Io.KnownBytes.{IsAtEnd};
-ghost use Rattle.simulation.specs.Driving.{IsDrivenTo, IsDrivenCut, IsDrivenStopped, IsOfDriving};
-ghost use Rattle.simulation.specs.Faults.{number_of, read_faults, write_faults};
+ghost use Rattle.simulation.specs.Driving.{IsDrivenTo, IsDrivenCut, IsDrivenStopped};
+ghost use Rattle.simulation.specs.Faults.{read_faults, write_faults, OnFile, IsOfFile, IsOfDriving};
 ghost use Rattle.simulation.specs.Listing.{Refuses};
 
 use crate::fault::Fault;
@@ -30,9 +30,9 @@ pub(crate) fn driven<R: Reader, W: Writer>(
     ensures output { IfOk result
         (IsDrivenTo board.now (R.rest reader.old) (W.written writer.old) (W.written writer.new)) }
     ensures flushed { OnOk result (W.flushed writer.new ≡ W.written writer.new) }
-    ensures file { IfErr result (λ f. number_of f < 199 → Refuses board.now (number_of f)) }
+    ensures file { IfErr result (OnFile (Refuses board.now)) }
     ensures faults { IfErr result IsOfDriving }
-    ensures nothing { IfErr result (λ f. number_of f < 500 → (reader.new ≡ reader.old) × (writer.new ≡ writer.old)) }
+    ensures nothing { IfErr result (λ f. IsOfFile f → (reader.new ≡ reader.old) × (writer.new ≡ writer.old)) }
     ensures cut { IsErrOf result Fault.Read →
         IsDrivenCut board.now (R.rest reader.old) (R.rest reader.new) (W.written writer.old) (W.written writer.new) }
     ensures stopped { IsErrOf result Fault.Write →

@@ -1,11 +1,11 @@
 //! The report of a board file.
-ghost use Rattle.std.specs.Prelude.{◌≡◌, ◌≢◌, ◌+◌, ◌-◌, ◌^◌, ◌<◌, ◌≤◌, Some, None, OnOk, IfOk, IfErr, IsErrOf, string_bytes};
+ghost use Rattle.std.specs.Prelude.{◌≡◌, ◌≢◌, ◌+◌, ◌-◌, ◌^◌, ◌<◌, None, OnOk, IfOk, IfErr, IsErrOf, string_bytes};
 ghost use Rattle.model_registers.specs.DeclarationRules.{first_broken};
 ghost use Rattle.model_set_up.specs.SetUpWrites.{set_up_rules};
 ghost use Rattle.model_guests.specs.World.{World};
 ghost use Rattle.model_guests.specs.Report.{report};
-ghost use Rattle.simulation.specs.Faults.{number_of, write_faults, IsOfList};
-ghost use Rattle.simulation.specs.Listing.{Declares, Refuses, IsListed, IsListedInPart};
+ghost use Rattle.simulation.specs.Faults.{write_faults, OnFile, OnSetUp, IsOfBoard, IsOfList};
+ghost use Rattle.simulation.specs.Listing.{Declares, Refuses, Breaks, IsListed, IsListedInPart};
 
 use crate::choice::print;
 use crate::fault::Fault;
@@ -21,15 +21,14 @@ use window_packing::set_up;
 pub fn list_text(alloc: Global, board: &[u8]) -> Result<String, Fault>
     ensures report { IfOk result (λ t. (w : World) × Declares board.now w
         × (first_broken (set_up_rules w.board w.apertures) ≡ None) × (string_bytes t ≡ report w)) }
-    ensures file { IfErr result (λ f. number_of f < 199 → Refuses board.now (number_of f)) }
-    ensures placement { IfErr result (λ f. 199 < number_of f → number_of f < 299 →
-        (w : World) × Declares board.now w × (first_broken (set_up_rules w.board w.apertures) ≡ Some (number_of f))) }
-    ensures faults { IfErr result (λ f. number_of f ≤ 299) }
+    ensures file { IfErr result (OnFile (Refuses board.now)) }
+    ensures placement { IfErr result (OnSetUp (Breaks board.now)) }
+    ensures faults { IfErr result IsOfBoard }
 {
     let (host, guests) = read_board(alloc, board)?;
     let ready = set_up(alloc, host)?;
     let Ok(text) = report_text(alloc, ready.table(), ready.plan(), &guests) else {
-        return Err(Fault::SetUpMemory);
+        return Err(Fault::SetUp(bus_scan::Fault::Memory));
     };
     Ok(text)
 }
@@ -47,9 +46,8 @@ pub fn list<W: Writer>(alloc: Global, board: &[u8], writer: &mut W) -> Result<()
         × IsListed w (W.written writer.old) (W.written writer.new)) }
     ensures flushed { OnOk result (W.flushed writer.new ≡ W.written writer.new) }
 
-    ensures file { IfErr result (λ f. number_of f < 199 → Refuses board.now (number_of f)) }
-    ensures placement { IfErr result (λ f. 199 < number_of f → number_of f < 299 →
-        (w : World) × Declares board.now w × (first_broken (set_up_rules w.board w.apertures) ≡ Some (number_of f))) }
+    ensures file { IfErr result (OnFile (Refuses board.now)) }
+    ensures placement { IfErr result (OnSetUp (Breaks board.now)) }
     ensures stopped { IsErrOf result Fault.Write →
         (w : World) × Declares board.now w × IsListedInPart w (W.written writer.old) (W.written writer.new) }
     ensures faults { IfErr result IsOfList }

@@ -1,11 +1,8 @@
 //! A script over the board of a board file.
-ghost use Rattle.std.specs.Prelude.{◌≡◌, ◌≢◌, ℕ, ◌+◌, ◌-◌, ◌^◌, ◌<◌, ◌≤◌, None, Some, OnOk, IfOk, IfErr, IsErrOf};
+ghost use Rattle.std.specs.Prelude.{◌≡◌, ◌+◌, ◌-◌, ◌^◌, ◌<◌, OnOk, IfOk, IfErr, IsErrOf};
 ghost use Rattle.std.specs.Io.KnownBytes.{IsAtEnd};
-ghost use Rattle.model_registers.specs.DeclarationRules.{first_broken};
-ghost use Rattle.model_set_up.specs.SetUpWrites.{set_up_rules};
-ghost use Rattle.model_guests.specs.World.{World};
-ghost use Rattle.simulation.specs.Faults.{number_of, read_faults, write_faults, IsOfRun};
-ghost use Rattle.simulation.specs.Listing.{Declares, Refuses};
+ghost use Rattle.simulation.specs.Faults.{read_faults, write_faults, OnFile, OnSetUp, IsOfBoard, IsOfRun};
+ghost use Rattle.simulation.specs.Listing.{Refuses, Breaks};
 ghost use Rattle.simulation.specs.Running.{IsOpened, IsRun, IsRunCut, IsRunStopped};
 
 use crate::fault::Fault;
@@ -21,10 +18,9 @@ use window_packing::set_up;
 /// Refused are the file (101 to 112), its board (201 to 205), and lack of memory (199 or 299).
 pub fn open(alloc: Global, board: &[u8]) -> Result<Monitor, Fault>
     ensures opened { IfOk result (IsOpened board.now) }
-    ensures file { IfErr result (λ f. number_of f < 199 → Refuses board.now (number_of f)) }
-    ensures placement { IfErr result (λ f. 199 < number_of f → number_of f < 299 →
-        (w : World) × Declares board.now w × (first_broken (set_up_rules w.board w.apertures) ≡ Some (number_of f))) }
-    ensures faults { IfErr result (λ f. number_of f ≤ 299) }
+    ensures file { IfErr result (OnFile (Refuses board.now)) }
+    ensures placement { IfErr result (OnSetUp (Breaks board.now)) }
+    ensures faults { IfErr result IsOfBoard }
 {
     let (host, guests) = read_board(alloc, board)?;
     let ready = set_up(alloc, host)?;
@@ -55,11 +51,10 @@ pub fn whole<R: Reader, W: Writer>(
     ensures output { OnOk result (IsRun board.now (R.rest reader.old) (W.written writer.old) (W.written writer.new)) }
     ensures flushed { OnOk result (W.flushed writer.new ≡ W.written writer.new) }
 
-    ensures file { IfErr result (λ f. number_of f < 199 → Refuses board.now (number_of f)) }
-    ensures placement { IfErr result (λ f. 199 < number_of f → number_of f < 299 →
-        (w : World) × Declares board.now w × (first_broken (set_up_rules w.board w.apertures) ≡ Some (number_of f))) }
+    ensures file { IfErr result (OnFile (Refuses board.now)) }
+    ensures placement { IfErr result (OnSetUp (Breaks board.now)) }
     ensures faults { IfErr result IsOfRun }
-    ensures nothing { IfErr result (λ f. number_of f < 500 → (reader.new ≡ reader.old) × (writer.new ≡ writer.old)) }
+    ensures nothing { IfErr result (λ f. IsOfBoard f → (reader.new ≡ reader.old) × (writer.new ≡ writer.old)) }
 
     // What a failed read or write leaves of the output.
     ensures cut { IsErrOf result Fault.Read →

@@ -1,9 +1,10 @@
 //! A session over the board of a board file.
 ghost use Rattle.std.specs.Prelude.{◌≡◌, ◌+◌, ◌-◌, ◌^◌, ◌<◌, ◌⊎◌, OnOk, IfErr, IsErrOf};
 ghost use Rattle.std.specs.Io.KnownBytes.{IsAtEnd};
-ghost use Rattle.simulation.specs.Faults.{number_of, read_faults, write_faults};
+ghost use Rattle.bus_scan.specs.declared.fault.Fault.TheVariants.{Memory};
+ghost use Rattle.simulation.specs.Faults.{read_faults, write_faults, OnFile, IsOfFile, IsOfSession};
 ghost use Rattle.simulation.specs.Listing.{Refuses};
-ghost use Rattle.simulation.specs.Sessions.{IsSession, IsSessionCut, IsSessionStopped, IsSessionLacking, IsOfSession};
+ghost use Rattle.simulation.specs.Sessions.{IsSession, IsSessionCut, IsSessionStopped, IsSessionLacking};
 
 use crate::fault::Fault;
 use board_file::read_board;
@@ -35,9 +36,9 @@ pub fn drive<R: Reader, W: Writer>(
         (IsSession board.now (R.rest reader.old) (W.written writer.old) (W.written writer.new)) }
     ensures flushed { OnOk result (W.flushed writer.new ≡ W.written writer.new) }
 
-    ensures file { IfErr result (λ f. number_of f < 199 → Refuses board.now (number_of f)) }
+    ensures file { IfErr result (OnFile (Refuses board.now)) }
     ensures faults { IfErr result IsOfSession }
-    ensures nothing { IfErr result (λ f. number_of f < 299 → (reader.new ≡ reader.old) × (writer.new ≡ writer.old)) }
+    ensures nothing { IfErr result (λ f. IsOfFile f → (reader.new ≡ reader.old) × (writer.new ≡ writer.old)) }
 
     // What a failed read or write leaves of the output.
     ensures cut { IsErrOf result Fault.Read →
@@ -46,9 +47,9 @@ pub fn drive<R: Reader, W: Writer>(
         IsSessionStopped board.now (R.rest reader.old) (R.rest reader.new) (W.written writer.old) (W.written writer.new) }
 
     // No memory for a line: what those before it write was written, and flushed if it is anything.
-    ensures lacking { IsErrOf result Fault.SetUpMemory →
+    ensures lacking { IsErrOf result (Fault.SetUp Memory) →
         IsSessionLacking board.now (R.rest reader.old) (R.rest reader.new) (W.written writer.old) (W.written writer.new) }
-    ensures lacking_flushed { IsErrOf result Fault.SetUpMemory →
+    ensures lacking_flushed { IsErrOf result (Fault.SetUp Memory) →
         (W.flushed writer.new ≡ W.written writer.new) ⊎ (writer.new ≡ writer.old) }
 
     // A fault is the reader's or the writer's exactly where that end failed during the call.

@@ -1,5 +1,6 @@
 //! Standard input and output, with a count of their failures.
 ghost use Rattle.std.specs.Prelude.{◌≡◌, ◌↔◌, ◌-◌, ◌^◌, ◌<◌, false, IsOk, IfOk, IfErr};
+ghost use Rattle.bus_scan.specs.declared.fault.Fault.TheVariants.{Memory};
 ghost use Rattle.streams.specs.Kept.{is_stopped};
 
 use crate::fault::Fault;
@@ -84,12 +85,12 @@ impl<W: Write + Drop> OutputStream<W> {
         ensures flushed { IfOk result (λ s. ⟦<BufferedWriter<Self> as Writer>⟧.flushed s ≡ W.contents inner) }
         ensures failures { IfOk result (λ s. ⟦<BufferedWriter<Self> as Writer>⟧.failures s ≡ 0) }
         ensures goes_on { IfOk result (λ s. is_stopped s ≡ false) }
-        ensures memory { IfErr result (λ f. f ≡ Fault.SetUpMemory) }
+        ensures memory { IfErr result (λ f. f ≡ Fault.SetUp Memory) }
     {
         let stream = OutputStream { inner, failures: 0 };
         match BufferedWriter::with_capacity(alloc, CAPACITY, stream) {
             Ok(buffered) => Ok(buffered),
-            Err(_) => Err(Fault::SetUpMemory),
+            Err(_) => Err(Fault::SetUp(bus_scan::Fault::Memory)),
         }
     }
 }

@@ -1,12 +1,9 @@
-use Rattle.std.proofs.Common.{rules, ◌≡◌, ◌<◌, Some, subst}
+use Rattle.std.proofs.Common.{rules, ◌≡◌, subst}
 use Rattle.std.specs.Prelude.{OnOk, IfErr}
-use Rattle.model_registers.specs.DeclarationRules.{first_broken}
-use Rattle.model_set_up.specs.SetUpWrites.{set_up_rules}
 use Rattle.model_guests.specs.Text.{Text}
-use Rattle.model_guests.specs.World.{World}
 use Rattle.simulation.specs.Demo.{demo_board}
-use Rattle.simulation.specs.Faults.{number_of}
-use Rattle.simulation.specs.Listing.{Declares, Refuses}
+use Rattle.simulation.specs.Faults.{OnFile, OnSetUp}
+use Rattle.simulation.specs.Listing.{Refuses, Breaks}
 use Rattle.simulation.specs.Running.{IsRun, IsRunCut, IsRunStopped}
 use Rattle.simulation.proofs.demonstration.demo.Goals as goal
 
@@ -18,13 +15,12 @@ returns-clause-output g c =
 pub returns-clause-file : goal.returns-clause-file
 returns-clause-file g c =
     let text : c.as_bytes.result.now ≡ demo_board = search rules in
-    subst (λ (b : Text). IfErr c.whole.result (λ f. number_of f < 199 → Refuses b (number_of f))) text c.whole.ensures.file
+    subst (λ (b : Text). IfErr c.whole.result (OnFile (Refuses b))) text c.whole.ensures.file
 
 pub returns-clause-placement : goal.returns-clause-placement
 returns-clause-placement g c =
     let text : c.as_bytes.result.now ≡ demo_board = search rules in
-    subst (λ (b : Text). IfErr c.whole.result (λ f. 199 < number_of f → number_of f < 299 →
-    (w : World) × Declares b w × (first_broken (set_up_rules w.board w.apertures) ≡ Some (number_of f)))) text c.whole.ensures.placement
+    subst (λ (b : Text). IfErr c.whole.result (OnSetUp (Breaks b))) text c.whole.ensures.placement
 
 pub returns-clause-cut : goal.returns-clause-cut
 returns-clause-cut g c is =

@@ -1,35 +1,12 @@
-use Rattle.std.proofs.Common.{◌≡◌, ◌<◌, ◌+◌, ℕ, Some, Err, ap, sym, ◌∙◌, subst, arith}
+use Rattle.std.proofs.Common.{◌+◌, ℕ, Err, ap, ◌∙◌, subst}
 use Rattle.std.specs.Io.KnownBytes.{Appends}
-use Rattle.model_registers.specs.DeclarationRules.{first_broken}
-use Rattle.model_set_up.specs.SetUpWrites.{set_up_rules}
-use Rattle.model_guests.specs.World.{World}
 use Rattle.model_guests.specs.Text.{lines}
 use Rattle.model_guests.specs.WorldNow.{WorldNow, world_protocol, output}
 use Rattle.model_guests.specs.LineRuns.{IsCut}
 use Rattle.model_guests.proofs.Isolation.{isolated}
 use Rattle.line_runs.specs.Pieces.{IsStoppedIn}
-use Rattle.simulation.specs.Faults.{number_of}
-use Rattle.simulation.specs.Listing.{Declares, Refuses}
-use Rattle.simulation.specs.declared.fault.Fault.{Fault}
-use Rattle.simulation.proofs.Listed.{by_error}
-use Rattle.simulation.proofs.Ran.{of_run_large, read_failed, write_failed, same_reads, same_writes}
+use Rattle.simulation.proofs.Ran.{read_failed, write_failed, same_reads, same_writes}
 use Rattle.simulation.proofs.running.whole.Goals as goal
-
-pub returns-in_err-monitor-clause-placement : goal.returns-in_err-monitor-clause-placement
-returns-in_err-monitor-clause-placement g c =
-    by_error _ c.from_residual.result c.from_residual.ensures.1
-    (λ f same. subst (λ (k : Fault). 199 < number_of k → number_of k < 299 →
-    (w : World) × Declares c.args.board.now w × (first_broken (set_up_rules w.board w.apertures) ≡ Some (number_of k))) (sym same) c.in_err-monitor.ensures.placement)
-
-pub returns-in_err-run-clause-file : goal.returns-in_err-run-clause-file
-returns-in_err-run-clause-file g c =
-    by_error (λ (f : Fault). number_of f < 199 → Refuses c.args.board.now (number_of f)) c.from_residual-in_err-run.result c.from_residual-in_err-run.ensures.1
-    (λ f same small. let large = of_run_large _ f (λ is. c.in_err-run.ensures.memory (ap Err is)) same in absurd (omega arith))
-
-pub returns-in_err-run-clause-placement : goal.returns-in_err-run-clause-placement
-returns-in_err-run-clause-placement g c =
-    by_error _ c.from_residual-in_err-run.result c.from_residual-in_err-run.ensures.1
-    (λ f same large small. let more = of_run_large _ f (λ is. c.in_err-run.ensures.memory (ap Err is)) same in absurd (omega arith))
 
 pub returns-in_err-run-clause-reads : goal.returns-in_err-run-clause-reads
 returns-in_err-run-clause-reads g c =

@@ -1,0 +1,73 @@
+-- The numbers of the program's faults, of which C is told.
+--     is_small      those of a file and its board are at most 299
+--     refused, broken      what is said of a refusal, by its number
+--     accepted      where the file isn't refused, the number isn't one of its checks
+--     known      the fault of which a check tells is none of memory
+--     out_of_memory      one of memory is 199 or 299
+use Rattle.std.proofs.Common.{◌≡◌, ◌≤◌, ◌<◌, ◌⊎◌, ℕ, Option, Some, None, refl, ap, inl, inr, lit≤, lit<, arith}
+use Rattle.std.specs.Prelude.{◌≢◌}
+use Rattle.std.specs.Option.{option_map_or}
+use Rattle.model_guests.specs.Text.{Text}
+use Rattle.board_file.specs.declared.fault.BoardFault.{BoardFault}
+use Rattle.board_file.specs.declared.fault.BoardFault.TheVariants as file
+use Rattle.board_file.specs.Faults as board_file
+use Rattle.bus_scan.specs.declared.fault.Fault.{Fault as SetUpFault}
+use Rattle.bus_scan.specs.declared.fault.Fault.TheVariants as set_up
+use Rattle.bus_scan.specs.Faults as bus_scan
+use Rattle.board_check.specs.declared.style.Style.{Style}
+use Rattle.simulation.specs.declared.fault.Fault.{Fault}
+use Rattle.simulation.specs.declared.fault.Fault.TheVariants.{File, SetUp}
+use Rattle.simulation.specs.Faults.{number_of, IsOfBoard, IsOutOfMemory, OnFile, OnSetUp}
+use Rattle.simulation.specs.Checking.{IsCheckText}
+
+file_is_small : (b : BoardFault) → (101 ≤ board_file.number_of b) × (board_file.number_of b ≤ 199)
+file_is_small file.NotToml = (lit≤ tt, lit≤ tt)
+file_is_small _ = (lit≤ tt, lit≤ tt)
+
+set_up_is_large : (s : SetUpFault) → (201 ≤ bus_scan.number_of s) × (bus_scan.number_of s ≤ 299)
+set_up_is_large set_up.Buses = (lit≤ tt, lit≤ tt)
+set_up_is_large _ = (lit≤ tt, lit≤ tt)
+
+pub is_small : (f : Fault) → IsOfBoard f → (101 ≤ number_of f) × (number_of f ≤ 299)
+is_small (File b) is = let small = file_is_small b in (small.0, omega arith)
+is_small (SetUp s) is = let large = set_up_is_large s in (omega arith, large.1)
+is_small _ is = absurd is
+
+pub refused : (P : ℕ → Type 0) (f : Fault) → IsOfBoard f → OnFile P f → number_of f < 199 → P (number_of f)
+refused P (File b) is said small = said (λ memory. let full : board_file.number_of b ≡ 199 = ap board_file.number_of memory in omega arith)
+refused P (SetUp s) is said small = absurd (let large = set_up_is_large s in omega arith)
+refused P _ is said small = absurd is
+
+pub broken : (P : ℕ → Type 0) (f : Fault) → IsOfBoard f → OnSetUp P f → 199 < number_of f → number_of f < 299 → P (number_of f)
+broken P (File b) is said large small = absurd (let less = file_is_small b in omega arith)
+broken P (SetUp s) is said large small = said (λ memory. let full : bus_scan.number_of s ≡ 299 = ap bus_scan.number_of memory in omega arith)
+broken P _ is said large small = absurd is
+
+accepted_file : (b : BoardFault) → ¬ (b ≢ file.Memory) → 199 ≤ board_file.number_of b
+accepted_file file.Memory known = lit≤ tt
+accepted_file _ known = absurd (known (λ memory. cc))
+
+pub accepted : (f : Fault) → IsOfBoard f → OnFile (λ _. ⊥) f → 199 ≤ number_of f
+accepted (File b) is said = accepted_file b said
+accepted (SetUp s) is said = let large = set_up_is_large s in omega arith
+accepted _ is said = absurd is
+
+known_file : (b : BoardFault) → b ≢ file.Memory → (board_file.number_of b < 299) × (board_file.number_of b ≢ 199)
+known_file file.Memory other = absurd (other refl)
+known_file _ other = (lit< tt, λ wrong. omega arith)
+
+known_set_up : (s : SetUpFault) → s ≢ set_up.Memory → (bus_scan.number_of s < 299) × (bus_scan.number_of s ≢ 199)
+known_set_up set_up.Memory other = absurd (other refl)
+known_set_up _ other = (lit< tt, λ wrong. omega arith)
+
+pub known : (style : Style) (name board text : Text) (o : Option Fault) → IsCheckText style name board o text
+    → (option_map_or number_of o 0 < 299) × (option_map_or number_of o 0 ≢ 199)
+known style name board text None said = (lit< tt, λ wrong. omega arith)
+known style name board text (Some (File b)) said = known_file b said.known
+known style name board text (Some (SetUp s)) said = known_set_up s (λ memory. said.known (ap Some memory))
+known style name board text (Some _) said = absurd said
+
+pub out_of_memory : (f : Fault) → IsOutOfMemory f → (number_of f ≡ 199) ⊎ (number_of f ≡ 299)
+out_of_memory (File b) is = inl (ap board_file.number_of is)
+out_of_memory (SetUp s) is = inr (ap bus_scan.number_of is)
+out_of_memory _ is = absurd is

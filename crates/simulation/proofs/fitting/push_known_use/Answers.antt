@@ -1,7 +1,0 @@
-use Rattle.simulation.proofs.Fitted.{on_ok, on_pushed, four}
-use Rattle.simulation.proofs.fitting.push_known_use.Goals as goal
-
-pub returns : goal.returns
-returns c =
-    on_ok c.push_str.result _ _ (λ last. four _ _ _ _ _ _ _ _ _ c.in_ok-push_number.ensures c.in_ok-push_number-2.ensures c.in_ok-push_number-3.ensures last)
-    (on_pushed c.push_str.result _ _ _ c.push_str.ensures.bytes)
