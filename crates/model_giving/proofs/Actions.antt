@@ -19,7 +19,7 @@ use Rattle.model_giving.specs.Actions.{Action, calls, gives, takes, after_action
 
 -- ---- a guest that is there stays there
 
-there_after : (w : WorldNow) (name : Text) → IsSome (guest_named w.guests name) → (a : Action) → IsSome (guest_named (after_action w a).guests name)
+pub there_after : (w : WorldNow) (name : Text) → IsSome (guest_named w.guests name) → (a : Action) → IsSome (guest_named (after_action w a).guests name)
 there_after w name there (calls c) = device_calls.there_after w name there c
 there_after w name there (gives g) = cases (is_some (give_fault w g)) (declared (board_at w.handoff.functions) g.path)
   where

@@ -2,3 +2,4 @@ pub mod OneReset
 pub mod Seats
 pub mod Giving
 pub mod Actions
+pub mod Counting

@@ -1,3 +1,5 @@
 pub mod Giving
 pub mod GivingLaws
 pub mod Actions
+pub mod Changes
+pub mod CountLaws

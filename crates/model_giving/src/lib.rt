@@ -2,6 +2,7 @@
 #![tactic(auto)]
 
 ghost use Rattle.model_giving.specs.Actions.{IsolatedByActions};
+ghost use Rattle.model_giving.specs.CountLaws.{AnswersStay, ChangesTouchSlots, CountsGrow, RegionsStayAlong};
 ghost use Rattle.model_giving.specs.GivingLaws.{BoardAfterGift, BoardAfterTaking, GivenBack, GivenFunction};
 ghost use Rattle.model_giving.specs.GivingLaws.{LawfulAfterGift, LawfulAfterTaking, OthersAfterGift, OthersAfterTaking};
 ghost use Rattle.model_giving.specs.GivingLaws.{ShownAfterGift, ShownAfterTaking};
@@ -35,4 +36,13 @@ pub fn gifts_touch_one_guest()
 /// devices, and the moves, gifts and takings that touch it, over what it held before.
 pub fn actions_are_isolated()
     ensures { IsolatedByActions }
+{}
+
+/// A guest's count grows by one with each action that touches a slot of it in the sense in which an answer may change.
+/// While it stays, each answer stays where the regions of the guest's functions stand.
+pub fn counts_tell_changes()
+    ensures along { RegionsStayAlong }
+    ensures touched { ChangesTouchSlots }
+    ensures counts { CountsGrow }
+    ensures stay { AnswersStay }
 {}

@@ -20,7 +20,7 @@ use Rattle.model_guests.proofs.Seats.{seated_after_events}
 use Rattle.model_guests.proofs.SeatedMoves.{seated_after_moves}
 use Rattle.model_guests.proofs.FoundFiles.{others_stay}
 
-seated_meaning : (b : Board) (gs : GuestsNow) (m : Meaning) → AreSeated b gs → AreSeated b (guests_after gs m)
+pub seated_meaning : (b : Board) (gs : GuestsNow) (m : Meaning) → AreSeated b gs → AreSeated b (guests_after gs m)
 seated_meaning b gs nothing h = h
 seated_meaning b gs (guest_event name e) h = seated_after_events b gs h name e
 seated_meaning b gs (host_read r) h = h
@@ -37,7 +37,7 @@ handoff_stays w (l ∷ ls) = handoff_stays (after_line w l) ls
 
 -- ---- names
 
-names_with : (f : GuestNow → GuestNow) → Keeps f → (n : Text) (gs : GuestsNow) → names_of (with_guest f n gs) ≡ names_of gs
+pub names_with : (f : GuestNow → GuestNow) → Keeps f → (n : Text) (gs : GuestsNow) → names_of (with_guest f n gs) ≡ names_of gs
 names_with f keeps n [] = refl
 names_with f keeps n (g ∷ gs) = ap₂ (λ (x : Text) (xs : List Text). x ∷ xs) (one_name f keeps n g) (names_with f keeps n gs)
 

@@ -6,10 +6,10 @@ use Rattle.model_guests.specs.Guests.{guests_at_first}
 use Rattle.model_guests.specs.Lines.{Meaning, nothing, guest_event, host_read, host_move, bad, meaning}
 use Rattle.model_guests.specs.Seated.{AreSeated}
 use Rattle.model_guests.proofs.SeatedFirst.{seated_at_first}
-use Rattle.model_guests.specs.WorldNow.{names_now, guests_after, after_line}
-use Rattle.model_guests.proofs.Along.{seated_along}
+use Rattle.model_guests.specs.WorldNow.{WorldNow, names_now, guests_after, after_meaning, after_line}
+use Rattle.model_guests.proofs.Along.{seated_meaning}
 use Rattle.model_handoff.specs.Regions.{AreServed}
-use Rattle.model_handoff.specs.Kept.{LawfulAtFirst, LawfulAfter, LawfulAlong}
+use Rattle.model_handoff.specs.Kept.{IsLawfulOver, LawfulAtFirst, LawfulAfter, LawfulAlong}
 use Rattle.model_handoff.proofs.Served.{served_at_first, served_after_events, served_after_moves}
 
 pub lawful_at_first : LawfulAtFirst
@@ -20,12 +20,12 @@ lawful_at_first w s handoff same guests can = record {
   served = served_at_first w s handoff.board can.none_closed;
 }
 
-pub lawful_after : LawfulAfter
-lawful_after w line h = record {
+pub lawful_after_meaning : (w : WorldNow) (m : Meaning) → IsLawfulOver w → IsLawfulOver (after_meaning w m)
+lawful_after_meaning w m h = record {
   handoff = h.handoff;
   order = h.order;
-  seated = seated_along (board_at w.handoff.functions) w h.seated (line ∷ []);
-  served = served (meaning (names_now w) line);
+  seated = seated_meaning (board_at w.handoff.functions) w.guests m h.seated;
+  served = served m;
 }
   where
     served : (m : Meaning) → AreServed w.handoff (guests_after w.guests m)
@@ -34,6 +34,9 @@ lawful_after w line h = record {
     served (host_read r) = h.served
     served (host_move m) = served_after_moves w.handoff w.guests h.served m
     served (bad who n) = h.served
+
+pub lawful_after : LawfulAfter
+lawful_after w line h = lawful_after_meaning w (meaning (names_now w) line) h
 
 pub lawful_along : LawfulAlong
 lawful_along w [] h = h

@@ -1,5 +1,5 @@
 pub mod Landings
 pub mod Inside
-mod Staying
+pub mod Staying
 mod Seats
 mod FunctionExamples
