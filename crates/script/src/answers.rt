@@ -1,27 +1,27 @@
 //! What a line does and writes.
-ghost use Rattle.std.specs.Prelude.{◌≡◌, ◌<◌, ◌++◌, ◌∷◌, [], length, MatchOption, IfSome};
+ghost use Rattle.std.specs.Prelude.{◌≡◌, ◌<◌, ◌∷◌, [], length, MatchOption, IfSome};
 ghost use Rattle.model_guests.specs.Replies.{line_text};
-ghost use Rattle.model_guests.specs.WorldNow.{names_now, line_output, after_line, world_protocol};
+ghost use Rattle.model_guests.specs.WorldNow.{names_now, written_by, after_meaning, line_output, after_line, world_protocol};
 ghost use Rattle.accesses.specs.Accesses.{reply_of};
 ghost use Rattle.accesses.specs.Replies.{IsShown};
-ghost use Rattle.lines.specs.Lines.{who_of, GuestIs};
+ghost use Rattle.lines.specs.Lines.{who_of, meaning_of, GuestIs, GuestsAre};
 
 use line_runs::Answers;
 use lines::{LineText, What, Who, line_meaning, push_line};
 use monitor::{Monitor, Refusal, Reply};
 use std::alloc::AllocError;
 
-/// Runs the event of a line, and gives under whose name it is answered and with what, if the line makes
-/// output.
+/// Runs the event that a line means, and gives under whose name it is answered and with what, if it makes output.
 #[inline(always)]
-fn reply_to(monitor: &mut Monitor, line: &[u8]) -> Option<(Who, Reply)>
-    ensures text { MatchOption result (line_output monitor.old line.now ≡ []) (λ a.
-        line_output monitor.old line.now ≡ line_text (who_of (names_now monitor.new) a.0) (reply_of a.1) ++ 10 ∷ []) }
-    ensures after { monitor.new ≡ after_line monitor.old line.now }
+pub fn answer(monitor: &mut Monitor, what: What) -> Option<(Who, Reply)>
+    requires { GuestsAre (λ g. g < length (names_now monitor.old)) what }
+    ensures written { let written = written_by monitor.old (meaning_of (names_now monitor.old) what) in
+        MatchOption result (written ≡ []) (λ a. written ≡ line_text (who_of (names_now monitor.new) a.0) (reply_of a.1) ∷ []) }
+    ensures after { monitor.new ≡ after_meaning monitor.old (meaning_of (names_now monitor.old) what) }
     ensures who { IfSome result (λ a. GuestIs (λ g. g < length (names_now monitor.new)) a.0) }
     ensures shown { IfSome result (λ a. IsShown a.1) }
 {
-    match line_meaning(line, monitor.names()) {
+    match what {
         What::Nothing => None,
         What::Guest(guest, access) => {
             let reply = monitor.step(guest, access);
@@ -51,7 +51,8 @@ fn push_answer(monitor: &mut Monitor, line: &[u8], text: &mut LineText)
     ensures text { text.new.items ≡ line_output monitor.old line.now }
     ensures after { monitor.new ≡ after_line monitor.old line.now }
 {
-    let Some((who, reply)) = reply_to(monitor, line) else {
+    let what = line_meaning(line, monitor.names());
+    let Some((who, reply)) = answer(monitor, what) else {
         return;
     };
     push_line(text, who, monitor.names(), reply);
