@@ -16,13 +16,13 @@ use Rattle.monitor.specs.Moves.{move_nth}
 
 -- ---- guests by their places
 
-name_there : (w : WorldNow) (g : ℕ) → name_nth w g ≡ name_of (names_now w) g
+pub name_there : (w : WorldNow) (g : ℕ) → name_nth w g ≡ name_of (names_now w) g
 name_there w g = sym (name_of-now w.guests g)
 
 abbrev pub move_of : WorldNow → ℕ → ℕ → ℕ → ℕ → Move
 move_of w from slot to target = record { from = name_of (names_now w) from; slot = slot; to = name_of (names_now w) to; target = target }
 
-move_there : (w : WorldNow) (from slot to target : ℕ) → move_nth w from slot to target ≡ move_of w from slot to target
+pub move_there : (w : WorldNow) (from slot to target : ℕ) → move_nth w from slot to target ≡ move_of w from slot to target
 move_there w from slot to target =
     ap₂ (λ (a b : Text). let m : Move = record { from = a; slot = slot; to = b; target = target } in m) (name_there w from) (name_there w to)
 

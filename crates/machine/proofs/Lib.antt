@@ -1,0 +1,4 @@
+pub mod Lands
+pub mod Counting
+pub mod Steps
+pub mod Uncounted
