@@ -3,6 +3,7 @@ use Rattle.std.proofs.Common.{◌≡◌, ◌≢◌, ℕ, Bool, true, false, ◌&
 use Rattle.std.specs.Prelude.{filter, slice_get}
 use Rattle.std.specs.List.{flat_map}
 use Rattle.std.specs.Option.{option_map_or}
+use Rattle.std.proofs.Math.Bool.{and-true}
 use Rattle.std.proofs.lemmas.Bool.{and_parts, and_left, and_right, not-true, eqb-true, eq-eqb}
 use Rattle.lists.proofs.Indices.{index_in}
 use Rattle.toml.specs.Data.{Members}
@@ -22,7 +23,7 @@ use Rattle.board_file.specs.Faults.{number_of}
 use Rattle.board_file.specs.RuleFaults.{fault_of}
 use Rattle.board_file.specs.Problems.{Found, problems_in, holds}
 use Rattle.board_file.specs.Meaning.{rules, checks, unless, world_of}
-use Rattle.board_file.proofs.Tests.{and-true, none}
+use Rattle.board_file.proofs.Tests.{none}
 use Rattle.board_file.proofs.NoProblems.{no_problems}
 use Rattle.board_check.specs.Keys.{level_of, table_at, key_keeps}
 use Rattle.board_check.specs.Problems.{entries_of, asked, is_wrong, key_problems, problems_of}
@@ -81,16 +82,8 @@ refusals_have_problems ms sorted told h = by_fault told h (broken_at (number_of 
     by_fault fault.UnknownKey h broken =
         some_problem ms fault.UnknownKey (broken_tables ms Keys sorted (first_holds (table_passes Types level.Top ms) (table_passes Keys level.Top ms) (rules (file ms)) h)
         (alone (table_passes Keys level.Top ms) broken))
-    by_fault fault.Number h broken = some_problem_in (file ms) fault.Number (alone (holds fault.Number (file ms)) broken)
-    by_fault fault.TooMany h broken = some_problem_in (file ms) fault.TooMany (alone (holds fault.TooMany (file ms)) broken)
-    by_fault fault.Place h broken = some_problem_in (file ms) fault.Place (alone (holds fault.Place (file ms)) broken)
-    by_fault fault.Register h broken = some_problem_in (file ms) fault.Register (alone (holds fault.Register (file ms)) broken)
-    by_fault fault.Size h broken = some_problem_in (file ms) fault.Size (alone (holds fault.Size (file ms)) broken)
-    by_fault fault.GuestName h broken = some_problem_in (file ms) fault.GuestName (alone (holds fault.GuestName (file ms)) broken)
-    by_fault fault.Slot h broken = some_problem_in (file ms) fault.Slot (alone (holds fault.Slot (file ms)) broken)
-    by_fault fault.Aperture h broken = some_problem_in (file ms) fault.Aperture (alone (holds fault.Aperture (file ms)) broken)
-    by_fault fault.CellMasks h broken = some_problem_in (file ms) fault.CellMasks (alone (holds fault.CellMasks (file ms)) broken)
     by_fault fault.Memory h broken = λ none. absurd (let wrong : true ≡ false = broken in cc)
+    by_fault f h broken = some_problem_in (file ms) f (alone (holds f (file ms)) broken)
 
 broken_of : {A : Type 0} (o : Option ℕ) (x : A) (n : ℕ) → unless o x ≡ Err n → o ≡ Some n
 broken_of None x n h = cc

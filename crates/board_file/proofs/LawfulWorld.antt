@@ -4,11 +4,12 @@ use Rattle.std.specs.Prelude.{find, flat_map}
 use Rattle.std.specs.List.{list_all, list_any}
 use Rattle.std.specs.Option.{option_map_or}
 use Rattle.std.specs.Str.{bytes_eq}
-use Rattle.std.proofs.lemmas.Bool.{and_parts}
-use Rattle.std.proofs.lemmas.List.{length-map}
-use Rattle.std.proofs.lemmas.List.Folds.{list_all-append}
+use Rattle.std.proofs.lemmas.Bool.{and_parts, not-true}
+use Rattle.std.proofs.lemmas.List.{length-map, map-append}
+use Rattle.std.proofs.lemmas.Simd.{map-map}
 use Rattle.lists.specs.Elements.{Each, EachPair, all_pairs}
 use Rattle.lists.proofs.EachLemmas.{each_test}
+use Rattle.lists.proofs.Tests.{left_true, right_true}
 use Rattle.model_board.specs.Paths.{Path, path_eq}
 use Rattle.model_board.specs.Board.{Decl, endpoint, bridge, Row, Board, IsBoard, is_bridge, stands_at, is_bridge_at}
 use Rattle.model_board.specs.Places.{standing, has_path, has_bridge, board_of, AreLawfulPlaces}
@@ -27,28 +28,16 @@ use Rattle.board_file.specs.Judged.{IsJudged, IsShortGuest}
 use Rattle.board_file.specs.Meaning.{world_of}
 use Rattle.board_file.proofs.ListTests.{pairs_of_test, lawful_places}
 use Rattle.board_file.proofs.PathParts.{places_are_paths}
+use Rattle.board_file.proofs.Tests.{all-flat}
 
 -- ---- the board
 
-map_append : {A B : Type 0} (f : A → B) (xs ys : List A) → map f (xs ++ ys) ≡ map f xs ++ map f ys
-map_append f [] ys = refl
-map_append f (x ∷ xs) ys = ap (λ zs. f x ∷ zs) (map_append f xs ys)
-
-endpoint_places : (es : List Endpoint) → map standing (map endpoint_row es) ≡ map (λ e. record { path = path_at e.at; is_bridge = false }) es
-endpoint_places [] = refl
-endpoint_places (e ∷ es) = ap (λ ss. record { path = path_at e.at; is_bridge = false } ∷ ss) (endpoint_places es)
-
-bridge_places : (bs : List Bridge) → map standing (map bridge_row bs) ≡ map (λ b. record { path = path_at b.at; is_bridge = true }) bs
-bridge_places [] = refl
-bridge_places (b ∷ bs) = ap (λ ss. record { path = path_at b.at; is_bridge = true } ∷ ss) (bridge_places bs)
-
 places_of_rows : (f : File) → map standing (rows f) ≡ standings f
-places_of_rows f = map_append standing (map endpoint_row f.endpoints) (map bridge_row f.bridges) ∙ rw (endpoint_places f.endpoints, bridge_places f.bridges) refl
+places_of_rows f = simp (map-append, map-map)
 
 pub is_board : (f : File) → IsJudged f → IsBoard (board_of (rows f))
 is_board f j =
-    let (_, stand) = and_parts (have_paths f) (are_places (standings f)) j.places in
-    let lawful = lawful_places (standings f) (places_are_paths f) stand in
+    let lawful = lawful_places (standings f) (places_are_paths f) (right_true (have_paths f) (are_places (standings f)) j.places) in
     (lawful_places_are_boards (rows f)).0 (subst AreLawfulPlaces (sym (places_of_rows f)) lawful)
 
 -- ---- slots
@@ -78,21 +67,12 @@ finds (r ∷ b) p h k = by_case r.decl (path_eq r.path p) h k (finds b p)
 
 names_slot : (f : File) (t : List ℕ) → names_endpoint (standings f) t ≡ true → IsSome (declared (board_of (rows f)) (path_at t))
 names_slot f t h =
-    let (_, stand) = and_parts (is_path_text t) (is_endpoint (standings f) (path_at t)) h in
+    let stand = right_true (is_path_text t) (is_endpoint (standings f) (path_at t)) h in
     let (there, no_bridge) = and_parts (has_path (standings f) (path_at t)) (not (has_bridge (standings f) (path_at t))) stand in
     let same = places_of_rows f in
     let there' : has_path (map standing (rows f)) (path_at t) ≡ true = rw same there in
-    let bridge' : has_bridge (map standing (rows f)) (path_at t) ≡ false = rw same (no_of_not (has_bridge (standings f) (path_at t)) no_bridge) in
+    let bridge' : has_bridge (map standing (rows f)) (path_at t) ≡ false = rw same (not-true (has_bridge (standings f) (path_at t)) no_bridge) in
     finds (board_of (rows f)) (path_at t) (sym (stands (rows f) (path_at t)) ∙ there') (sym (bridges (rows f) (path_at t)) ∙ bridge')
-  where
-    no_of_not : (b : Bool) → not b ≡ true → b ≡ false
-    no_of_not true h = cc
-    no_of_not false h = refl
-
-all_slots : (p : List ℕ → Bool) (gs : List Guest) → list_all p (flat_map (λ g. g.slots) gs) ≡ list_all (λ g. list_all p g.slots) gs
-all_slots p [] = refl
-all_slots p (g ∷ gs) =
-    list_all-append p g.slots (flat_map (λ (g : Guest). g.slots) gs) ∙ ap (λ b. list_all p g.slots && b) (all_slots p gs)
 
 slots_named : (f : File) (ts : List (List ℕ)) → list_all (names_endpoint (standings f)) ts ≡ true → Each (λ p. IsSome (declared (board_of (rows f)) p)) (map path_at ts)
 slots_named f [] h = tt
@@ -103,12 +83,11 @@ slots_named f (t ∷ ts) h =
 -- ---- guests
 
 same_names : (gs : List Guest) → map (λ g. g.name) (map guest gs) ≡ map (λ g. g.name) gs
-same_names [] = refl
-same_names (g ∷ gs) = ap (λ ns. g.name ∷ ns) (same_names gs)
+same_names gs = simp map-map
 
 same_slots : (gs : List Guest) → flat_map (λ (g : world.Guest). g.slots) (map guest gs) ≡ map path_at (flat_map (λ (g : Guest). g.slots) gs)
 same_slots [] = refl
-same_slots (g ∷ gs) = ap (λ ps. map path_at g.slots ++ ps) (same_slots gs) ∙ sym (map_append path_at g.slots (flat_map (λ (g : Guest). g.slots) gs))
+same_slots (g ∷ gs) = ap (λ ps. map path_at g.slots ++ ps) (same_slots gs) ∙ sym (map-append path_at g.slots (flat_map (λ (g : Guest). g.slots) gs))
 
 few : (gs : List Guest) → list_all (λ g. nat_le (length g.slots) 32) gs ≡ true → Each (λ g. length g.slots ≤ 32) (map guest gs)
 few [] h = tt
@@ -117,21 +96,17 @@ few (g ∷ gs) h =
     (rw (length-map g.slots path_at) (leb-true (length g.slots) 32 here), few gs more)
 
 few_slots : (f : File) → IsJudged f → list_all (λ g. nat_le (length g.slots) 32) f.guests ≡ true
-few_slots f j = (and_parts _ (list_all (λ (g : Guest). nat_le (length g.slots) 32) f.guests) j.counts).1
+few_slots f j = right_true _ (list_all (λ (g : Guest). nat_le (length g.slots) 32) f.guests) j.counts
 
 few_guests : (f : File) → IsJudged f → length (map guest f.guests) ≤ 32
 few_guests f j =
     let functions = have_few_slashes f && nat_le (length f.endpoints + length f.bridges) 1024 in
-    let front = (and_parts (functions && nat_le (length f.guests) 32) (list_all (λ (g : Guest). nat_le (length g.slots) 32) f.guests) j.counts).0 in
-    rw (length-map f.guests guest) (leb-true (length f.guests) 32 (and_parts functions (nat_le (length f.guests) 32) front).1)
+    let front = left_true (functions && nat_le (length f.guests) 32) (list_all (λ (g : Guest). nat_le (length g.slots) 32) f.guests) j.counts in
+    rw (length-map f.guests guest) (leb-true (length f.guests) 32 (right_true functions (nat_le (length f.guests) 32) front))
 
 short_name : (n : List ℕ) → is_name n ≡ true → length n ≤ 16
 short_name [] h = omega arith
-short_name (c ∷ cs) h =
-    let (front, _) = and_parts (world.is_letter c && list_all world.is_name_byte cs && nat_le (length cs) 15) _ h in
-    let (_, le) = and_parts (world.is_letter c && list_all world.is_name_byte cs) (nat_le (length cs) 15) front in
-    let short = leb-true (length cs) 15 le in
-    omega arith
+short_name (c ∷ cs) h = let short : length cs ≤ 15 = search (left_true, right_true, leb-true) in omega arith
 
 short : (gs : List Guest) → list_all is_name (map (λ g. g.name) gs) ≡ true → list_all (λ g. nat_le (length g.slots) 32) gs ≡ true → Each IsShortGuest gs
 short [] h k = tt
@@ -141,7 +116,7 @@ short (g ∷ gs) h k =
     (record { name = short_name g.name name; slots = leb-true (length g.slots) 32 slot }, short gs names slots)
 
 pub short_guests : (f : File) → IsJudged f → Each IsShortGuest f.guests
-short_guests f j = short f.guests (and_parts (list_all is_name (names f)) (all_pairs (λ m n. not (bytes_eq m n)) (names f)) j.names).0 (few_slots f j)
+short_guests f j = short f.guests (left_true (list_all is_name (names f)) (all_pairs (λ m n. not (bytes_eq m n)) (names f)) j.names) (few_slots f j)
 
 lawful_guests : (f : File) → IsJudged f → HasLawfulGuests (world_of f)
 lawful_guests f j =
@@ -152,7 +127,7 @@ lawful_guests f j =
       names_apart = subst (EachPair (λ m n. IsFalse (bytes_eq m n))) (sym (same_names f.guests)) (pairs_of_test bytes_eq (names f) apart);
       few_guests = few_guests f j;
       few_slots = few f.guests (few_slots f j);
-      endpoints = subst (Each (λ p. IsSome (declared (board_of (rows f)) p))) (sym (same_slots f.guests)) (slots_named f (slots f) (all_slots (names_endpoint (standings f)) f.guests ∙ named));
+      endpoints = subst (Each (λ p. IsSome (declared (board_of (rows f)) p))) (sym (same_slots f.guests)) (slots_named f (slots f) (all-flat (names_endpoint (standings f)) (λ (g : Guest). g.slots) f.guests ∙ named));
       paths_apart = subst (EachPair (λ p q. IsFalse (path_eq p q))) (sym (same_slots f.guests)) (pairs_of_test path_eq (map path_at (slots f)) others);
     }
 

@@ -3,7 +3,7 @@ use Rattle.std.proofs.Common.{◌≡◌, ℕ, ℤ, pos, negsuc, nat_abs, Bool, t
 use Rattle.std.specs.Prelude.{int_le}
 use Rattle.std.specs.List.{list_all}
 use Rattle.std.specs.Int.{is_power_of_two}
-use Rattle.std.proofs.lemmas.Bool.{and_parts, not-true}
+use Rattle.std.proofs.lemmas.Bool.{and_parts, not-true, or_cases}
 use Rattle.lists.specs.Elements.{Each, EachPair, all_pairs}
 use Rattle.lists.proofs.Tests.{same_test}
 use Rattle.model_registers.specs.Declarations.{Kind, least_size, greatest_size, IsLawfulSize}
@@ -50,17 +50,13 @@ root_of_test : (p : Path) → is_root p ≡ true → p ≡ []
 root_of_test [] h = refl
 root_of_test (x ∷ p) h = cc
 
-either : (a b : Bool) → (a || b) ≡ true → (a ≡ true) ⊎ (b ≡ true)
-either true b h = inl refl
-either false b h = inr h
-
 module _ (ss : List Standing) where
   founded : (s : Standing) → IsPath s.path → is_founded ss s ≡ true → IsFounded ss s
   founded s path h =
       let (behind, at_zero) = and_parts (is_root (parent s.path) || has_bridge ss (parent s.path)) (has_path ss (function_zero s.path)) h in
       record {
         path = path;
-        behind_bridge = elim (either (is_root (parent s.path)) (has_bridge ss (parent s.path)) behind) [ inl root ↦ inl (root_of_test (parent s.path) root) | inr bridge ↦ inr bridge ];
+        behind_bridge = elim (or_cases (is_root (parent s.path)) (has_bridge ss (parent s.path)) behind) [ inl root ↦ inl (root_of_test (parent s.path) root) | inr bridge ↦ inr bridge ];
         function_zero = at_zero;
       }
 

@@ -1,14 +1,17 @@
 -- What a text is read as is a path.
 use Rattle.std.proofs.Common.{◌≡◌, ℕ, zero, suc, ◌+◌, ◌-◌, ◌≤◌, ◌==◌, nat_le, Bool, true, false, ◌&&◌, cond, List, [], ◌∷◌, map, length, Option, Some, None, option_map, unwrap_or, refl, arith, leb-true}
-use Rattle.std.proofs.lemmas.Bool.{and_parts}
 use Rattle.std.specs.Prelude.{option_and_then}
 use Rattle.lists.specs.Elements.{Each, first_of_two}
-use Rattle.lists.proofs.EachLemmas.{each_append}
+use Rattle.lists.proofs.EachLemmas.{each_append, each_of_map}
+use Rattle.lists.proofs.Members.{each_from}
+use Rattle.lists.proofs.Tests.{left_true, right_true}
 use Rattle.model_board.specs.Paths.{Part, Path, IsPart, IsPath}
 use Rattle.model_board.specs.Places.{Standing}
-use Rattle.board_file.specs.Entries.{Endpoint, Bridge, File}
-use Rattle.board_file.specs.Functions.{standings}
+use Rattle.board_file.specs.Entries.{File}
+use Rattle.board_file.specs.Functions.{endpoint_standing, bridge_standing, standings}
 use Rattle.board_file.specs.PathTexts.{is_byte_between, short_part, long_part, part_at_front, parts_after, path_at}
+
+ruleset byte_tests = (left_true, right_true, leb-true)
 
 abbrev Front : Option (Part × List ℕ) → Type 0
 Front None = Unit {0}
@@ -18,42 +21,26 @@ abbrev Within : ℕ → Option Path → Type 0
 Within n None = Unit {0}
 Within n (Some ps) = (length ps ≤ n) × Each IsPart ps
 
+-- a part is given where a test of its bytes holds
+front_of : (t : Bool) (p : Part) (rest : List ℕ) → (t ≡ true → IsPart p) → Front (cond t (Some (p, rest)) None)
+front_of true p rest h = h refl
+front_of false p rest h = tt
+
+short_fits : (d dot f : ℕ) → (is_byte_between 48 57 d && (dot == 46) && is_byte_between 48 55 f) ≡ true → IsPart (record { device = d - 48; function = f - 48 })
+short_fits d dot f h = record { device_fits = search (byte_tests, arith); function_fits = search (byte_tests, arith) }
+
 short_front : (text : List ℕ) → Front (short_part text)
-short_front [] = tt
-short_front (d ∷ []) = tt
-short_front (d ∷ dot ∷ []) = tt
-short_front (d ∷ dot ∷ f ∷ rest) = by_case (is_byte_between 48 57 d && (dot == 46) && is_byte_between 48 55 f) refl
-  where
-    by_case : (b : Bool) → (is_byte_between 48 57 d && (dot == 46) && is_byte_between 48 55 f) ≡ b → Front (cond b (Some (record { device = d - 48; function = f - 48 }, rest)) None)
-    by_case false e = tt
-    by_case true e =
-        let (front, last) = and_parts (is_byte_between 48 57 d && (dot == 46)) (is_byte_between 48 55 f) e in
-        let (first, _) = and_parts (is_byte_between 48 57 d) (dot == 46) front in
-        let (_, d_max) = and_parts (nat_le 48 d) (nat_le d 57) first in
-        let (_, f_max) = and_parts (nat_le 48 f) (nat_le f 55) last in
-        let d_le : d ≤ 57 = leb-true d 57 d_max in
-        let f_le : f ≤ 55 = leb-true f 55 f_max in
-        record { device_fits = omega arith; function_fits = omega arith }
+short_front (d ∷ dot ∷ f ∷ rest) = front_of (is_byte_between 48 57 d && (dot == 46) && is_byte_between 48 55 f) _ rest (short_fits d dot f)
+short_front _ = tt
+
+long_fits : (one d dot f : ℕ) → ((one == 49) && is_byte_between 48 53 d && (dot == 46) && is_byte_between 48 55 f) ≡ true
+    → IsPart (record { device = 10 + (d - 48); function = f - 48 })
+long_fits one d dot f h = record { device_fits = search (byte_tests, arith) depth 6; function_fits = search (byte_tests, arith) depth 6 }
 
 long_front : (text : List ℕ) → Front (long_part text)
-long_front [] = tt
-long_front (one ∷ []) = tt
-long_front (one ∷ d ∷ []) = tt
-long_front (one ∷ d ∷ dot ∷ []) = tt
-long_front (one ∷ d ∷ dot ∷ f ∷ rest) = by_case ((one == 49) && is_byte_between 48 53 d && (dot == 46) && is_byte_between 48 55 f) refl
-  where
-    by_case : (b : Bool) → ((one == 49) && is_byte_between 48 53 d && (dot == 46) && is_byte_between 48 55 f) ≡ b
-        → Front (cond b (Some (record { device = 10 + (d - 48); function = f - 48 }, rest)) None)
-    by_case false e = tt
-    by_case true e =
-        let (front, last) = and_parts ((one == 49) && is_byte_between 48 53 d && (dot == 46)) (is_byte_between 48 55 f) e in
-        let (middle, _) = and_parts ((one == 49) && is_byte_between 48 53 d) (dot == 46) front in
-        let (_, first) = and_parts (one == 49) (is_byte_between 48 53 d) middle in
-        let (_, d_max) = and_parts (nat_le 48 d) (nat_le d 53) first in
-        let (_, f_max) = and_parts (nat_le 48 f) (nat_le f 55) last in
-        let d_le : d ≤ 53 = leb-true d 53 d_max in
-        let f_le : f ≤ 55 = leb-true f 55 f_max in
-        record { device_fits = omega arith; function_fits = omega arith }
+long_front (one ∷ d ∷ dot ∷ f ∷ rest) =
+    front_of ((one == 49) && is_byte_between 48 53 d && (dot == 46) && is_byte_between 48 55 f) _ rest (long_fits one d dot f)
+long_front _ = tt
 
 front : (text : List ℕ) → Front (part_at_front text)
 front text = both (short_part text) (long_part text) (short_front text) (long_front text)
@@ -99,12 +86,7 @@ pub path_at_is_path : (text : List ℕ) → IsPath (path_at text)
 path_at_is_path text = some_parts (part_at_front text) (front text)
 
 pub places_are_paths : (f : File) → Each (λ s. IsPath s.path) (standings f)
-places_are_paths f = each_append (λ (s : Standing). IsPath s.path) _ _ (endpoints f.endpoints) (bridges f.bridges)
-  where
-    endpoints : (es : List Endpoint) → Each (λ (s : Standing). IsPath s.path) (map (λ e. record { path = path_at e.at; is_bridge = false }) es)
-    endpoints [] = tt
-    endpoints (e ∷ es) = (path_at_is_path e.at, endpoints es)
-
-    bridges : (bs : List Bridge) → Each (λ (s : Standing). IsPath s.path) (map (λ b. record { path = path_at b.at; is_bridge = true }) bs)
-    bridges [] = tt
-    bridges (b ∷ bs) = (path_at_is_path b.at, bridges bs)
+places_are_paths f =
+    each_append (λ (s : Standing). IsPath s.path) (map endpoint_standing f.endpoints) (map bridge_standing f.bridges)
+    (each_of_map (λ (s : Standing). IsPath s.path) endpoint_standing f.endpoints (each_from (λ e. IsPath (path_at e.at)) f.endpoints (λ e _. path_at_is_path e.at)))
+    (each_of_map (λ (s : Standing). IsPath s.path) bridge_standing f.bridges (each_from (λ b. IsPath (path_at b.at)) f.bridges (λ b _. path_at_is_path b.at)))
