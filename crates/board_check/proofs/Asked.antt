@@ -3,7 +3,7 @@
 --     filter-flat_map, filter-map      what passes a test, for each item apart
 --     at_end      what a loop over all items leaves
 --     of_other_fault, is_kept, is_broken      what is asked and is kept, or isn't
---     adds_none, adds_one, adds_both      what is added to problems
+--     adds_both      what is added to problems, one list after the other
 --     after_fields, after_members      what is wrong of each part of what is asked
 use Rattle.std.proofs.Common.{◌≡◌, ℕ, ◌+◌, ◌≤◌, Bool, true, false, cond, not, ◌&&◌, List, [], ◌∷◌, ◌++◌, length, map, drop, String, Global, string_bytes, Some, refl, sym, ap, ◌∙◌, zero-add, append_assoc, append-nil}
 use Rattle.std.specs.List.{range_with_len, filter, flat_map}
@@ -71,17 +71,6 @@ is_broken ms fault f same broken =
     and_from _ _ (eq-eqb (number_of (fault_of f.rule)) (number_of fault) same) (ap not broken)
 
 -- ---- what is added to problems
-
-pub adds_none : (ms : Members) (fault : BoardFault) (f : Found) (old : List Problem)
-    → is_wrong ms fault f ≡ false → AddsWrong ms fault (f ∷ []) old old
-adds_none ms fault f old right =
-    sym (append-nil (map found_of old)) ∙ ap (λ b. map found_of old ++ cond b (f ∷ []) []) (sym right)
-
-pub adds_one : (ms : Members) (fault : BoardFault) (p : Problem) (old new : List Problem)
-    → is_wrong ms fault (found_of p) ≡ true → new ≡ old ++ p ∷ [] → AddsWrong ms fault (found_of p ∷ []) old new
-adds_one ms fault p old new wrong pushed =
-    ap (map found_of) pushed ∙ map-append found_of old (p ∷ [])
-    ∙ ap (λ b. map found_of old ++ cond b (found_of p ∷ []) []) (sym wrong)
 
 pub adds_both : (ms : Members) (fault : BoardFault) (xs ys : List Found) (old mid new : List Problem)
     → AddsWrong ms fault xs old mid → AddsWrong ms fault ys mid new → AddsWrong ms fault (xs ++ ys) old new

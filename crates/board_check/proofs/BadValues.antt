@@ -3,11 +3,11 @@ use Rattle.std.proofs.Common.{◌≡◌, ℕ, zero, suc, Bool, true, false, ◌&
 use Rattle.std.specs.Prelude.{slice_get}
 use Rattle.std.specs.List.{list_all, filter_map}
 use Rattle.std.proofs.lemmas.Bool.{and_cases, and_parts}
-use Rattle.toml.specs.Data.{Data, string, integer, float, boolean, datetime, array, table, Items, no_items, item, Members, no_members, member, get_item, as_table, items_are_sorted, members_are_sorted}
+use Rattle.toml.specs.Data.{Data, array, table, Items, no_items, item, Members, no_members, member, get_item, as_table, items_are_sorted, members_are_sorted}
 use Rattle.board_file.specs.Schema.{fields, form_at, list_of, has_form, value_test, value_passes, items_pass, members_pass, table_passes}
 use Rattle.board_file.specs.declared.schema.Level.{Level}
 use Rattle.board_file.specs.declared.schema.Form.{Form}
-use Rattle.board_file.specs.declared.schema.Form.TheVariants.{Integer, Text, Word, Pair, Texts, Table, Tables}
+use Rattle.board_file.specs.declared.schema.Form.TheVariants.{Pair, Texts, Table, Tables}
 use Rattle.board_file.specs.declared.schema.Check.{Check}
 use Rattle.board_file.specs.declared.schema.Check.TheVariants.{Types, Keys}
 use Rattle.board_check.proofs.SortedKeys.{IsMember}
@@ -56,55 +56,33 @@ pub data BadValue (c : Check) (form : Option Form) (d : Data) : Type 0 where
 
 bad_table : (c : Check) (form : Option Form) (ms : Members) → Before c (value_passes Types form (table ms)) → value_passes c form (table ms) ≡ false → BadValue c form (table ms)
 bad_table Types None ms b h = cc
-bad_table Types (Some Integer) ms b h = at_value refl
-bad_table Types (Some Text) ms b h = at_value refl
-bad_table Types (Some (Word w)) ms b h = at_value refl
-bad_table Types (Some Pair) ms b h = at_value refl
-bad_table Types (Some Texts) ms b h = at_value refl
 bad_table Types (Some (Table l)) ms b h = in_table l ms refl refl tt h
-bad_table Types (Some (Tables l)) ms b h = at_value refl
+bad_table Types _ ms b h = at_value refl
 bad_table Keys None ms b h = at_value refl
-bad_table Keys (Some Integer) ms b h = cc
-bad_table Keys (Some Text) ms b h = cc
-bad_table Keys (Some (Word w)) ms b h = cc
-bad_table Keys (Some Pair) ms b h = cc
-bad_table Keys (Some Texts) ms b h = cc
 bad_table Keys (Some (Table l)) ms b h = in_table l ms refl refl b h
-bad_table Keys (Some (Tables l)) ms b h = cc
+bad_table Keys _ ms b h = cc
 
 abbrev all_tables : Items → Bool
 all_tables ds = list_all (λ e. is_some (as_table e)) (list_of ds)
 
 bad_array : (c : Check) (form : Option Form) (ds : Items) → Before c (value_passes Types form (array ds)) → value_passes c form (array ds) ≡ false → BadValue c form (array ds)
 bad_array Types None ds b h = cc
-bad_array Types (Some Integer) ds b h = at_value refl
-bad_array Types (Some Text) ds b h = at_value refl
-bad_array Types (Some (Word w)) ds b h = at_value refl
 bad_array Types (Some Pair) ds b h = either_of (has_form Pair (array ds)) true h (λ k. at_value k) (λ k. cc)
 bad_array Types (Some Texts) ds b h = either_of (has_form Texts (array ds)) true h (λ k. at_value k) (λ k. cc)
-bad_array Types (Some (Table l)) ds b h = at_value refl
 bad_array Types (Some (Tables l)) ds b h = by_case (all_tables ds) refl
   where
     by_case : (t : Bool) → all_tables ds ≡ t → BadValue Types (Some (Tables l)) (array ds)
     by_case false k = at_value k
     by_case true k = in_tables l ds refl refl k tt (sym (ap (λ t. t && items_pass Types l ds) k) ∙ h)
+bad_array Types _ ds b h = at_value refl
 bad_array Keys None ds b h = at_value refl
-bad_array Keys (Some Integer) ds b h = cc
-bad_array Keys (Some Text) ds b h = cc
-bad_array Keys (Some (Word w)) ds b h = cc
-bad_array Keys (Some Pair) ds b h = cc
-bad_array Keys (Some Texts) ds b h = cc
-bad_array Keys (Some (Table l)) ds b h = cc
 bad_array Keys (Some (Tables l)) ds b h = let (all, items) = and_parts (all_tables ds) (items_pass Types l ds) b in in_tables l ds refl refl all items h
+bad_array Keys _ ds b h = cc
 
 pub bad_value : (c : Check) (form : Option Form) (d : Data) → Before c (value_passes Types form d) → value_passes c form d ≡ false → BadValue c form d
-bad_value c form (string s) b h = at_value h
-bad_value c form (integer n) b h = at_value h
-bad_value c form (float x) b h = at_value h
-bad_value c form (boolean x) b h = at_value h
-bad_value c form (datetime x) b h = at_value h
 bad_value c form (array ds) b h = bad_array c form ds b h
 bad_value c form (table ms) b h = bad_table c form ms b h
+bad_value c form _ b h = at_value h
 
 -- ---- items
 
@@ -132,12 +110,6 @@ before_rest Keys l ms ds b = (and_parts (table_passes Types l ms) (items_pass Ty
 
 pub bad_item : (c : Check) (l : Level) (ds : Items) → list_all (λ e. is_some (as_table e)) (list_of ds) ≡ true → items_are_sorted ds ≡ true → Before c (items_pass Types l ds) → items_pass c l ds ≡ false → BadItem c l ds
 bad_item c l no_items all sorted b h = cc
-bad_item c l (item (string s) ds) all sorted b h = cc
-bad_item c l (item (integer n) ds) all sorted b h = cc
-bad_item c l (item (float x) ds) all sorted b h = cc
-bad_item c l (item (boolean x) ds) all sorted b h = cc
-bad_item c l (item (datetime x) ds) all sorted b h = cc
-bad_item c l (item (array es) ds) all sorted b h = cc
 bad_item c l (item (table ms) ds) all sorted b h =
     let (here, more) = and_parts (members_are_sorted ms) (items_are_sorted ds) sorted in
     by_case here (λ k. bad_item c l ds all more (before_rest c l ms ds b) k) (and_cases (value_passes c (Some (Table l)) (table ms)) (items_pass c l ds) h)
@@ -155,3 +127,4 @@ bad_item c l (item (table ms) ds) all sorted b h =
     by_case here rest (inr k) =
         let x = rest k in
         record { index = suc x.index; inner = x.inner; at = x.at; among_tables = x.among_tables; sorted = x.sorted; before = x.before; fails = x.fails }
+bad_item c l (item d ds) all sorted b h = cc

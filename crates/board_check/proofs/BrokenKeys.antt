@@ -1,7 +1,8 @@
 -- A check of keys or forms that fails in a document, level by level.
-use Rattle.std.proofs.Common.{◌≡◌, ℕ, true, false, List, codes, Option, Some, refl, sym, ap, ◌∙◌, subst, inl, inr}
+use Rattle.std.proofs.Common.{◌≡◌, ℕ, true, false, List, [], codes, Option, Some, refl, sym, ap, ◌∙◌, subst, inl, inr}
 use Rattle.std.specs.Prelude.{slice_get, option_and_then, unwrap_or, filter}
 use Rattle.std.specs.List.{filter_map}
+use Rattle.lists.specs.Elements.{IsIn}
 use Rattle.lists.proofs.Indices.{map_at}
 use Rattle.toml.specs.Data.{Data, array, table, Items, no_items, Members, get_member, at, as_table, as_array, members_are_sorted}
 use Rattle.board_file.specs.Entries.{tables, endpoint, bar, config, bridge, guest, file}
@@ -12,8 +13,10 @@ use Rattle.board_file.specs.declared.schema.Form.{Form}
 use Rattle.board_file.specs.declared.schema.Form.TheVariants.{Table, Tables}
 use Rattle.board_file.specs.declared.schema.Check.{Check}
 use Rattle.board_file.specs.declared.schema.Check.TheVariants.{Types}
+use Rattle.board_file.specs.declared.entry.Entry.{Entry}
 use Rattle.board_file.specs.declared.entry.Entry.TheVariants as entry
-use Rattle.board_check.specs.Keys.{table_in}
+use Rattle.board_check.specs.Keys.{table_in, table_at, level_of}
+use Rattle.board_check.specs.Problems.{entries_of}
 use Rattle.board_check.proofs.Members.{file_in, host_in, endpoint_in, bar_in, config_in, bridge_in, guest_in}
 use Rattle.board_check.proofs.Blames.{Blame}
 use Rattle.board_check.proofs.BadValues.{Before, BadItem}
@@ -48,28 +51,34 @@ other_form : (l m : Level) → Table l ≡ Tables m → ⊥
 other_form l m h = cc
 
 module _ (ms : Members) (c : Check) where
+  -- a list of tables in which there are no tables: that of these entries, at this key of a table
+  by_leaves : (e : ℕ → Entry) (key : List ℕ) (l : Level) (t : Members) → ((i : ℕ) → level_of (e i) ≡ Some l) → filter is_deep (fields l) ≡ []
+      → ((i : ℕ) → table_at ms (e i) ≡ table_in key i t)
+      → ((i : ℕ) (u : Members) → slice_get (tables key t) i ≡ Some u → IsIn (e i) (entries_of (file ms)))
+      → (k : List ℕ) (m : Level) (ds : Items) → k ≡ key → m ≡ l → get_member k t ≡ Some (array ds) → BadItem c m ds → Blame ms (number_of_check c)
+  by_leaves e key l t is_level leaf is_table there k m ds same is at_key x =
+      by_leaf ms (e x.index) m x.inner (record {
+        is_level = is_level x.index ∙ ap Some (sym is);
+        is_table = is_table x.index ∙ (sym (ap (λ (j : List ℕ). table_in j x.index t) same) ∙ table_there k t ds at_key c m x);
+        there = there x.index x.inner (sym (ap (λ (j : List ℕ). slice_get (tables j t) x.index) same) ∙ among k t ds at_key c m x);
+        sorted = x.sorted;
+      })
+      (ap (λ (n : Level). filter is_deep (fields n)) is ∙ leaf) c x.before x.fails
+
   -- ---- endpoints
 
   module _ (i : ℕ) (t : Members) (of : TableOf ms (entry.Endpoint i) level.Endpoint t) (said : slice_get (file ms).endpoints i ≡ Some (endpoint t)) where
     by_bar : (k : List ℕ) (m : Level) (ds : Items) → k ≡ codes "bar" → m ≡ level.Bar → get_member k t ≡ Some (array ds) → BadItem c m ds → Blame ms (number_of_check c)
-    by_bar k m ds key is at_key x =
-        by_leaf ms (entry.Bar i x.index) m x.inner (record {
-          is_level = ap Some (sym is);
-          is_table = ap (λ (o : Option Members). option_and_then (table_in (codes "bar") x.index) o) of.is_table ∙ (sym (ap (λ (j : List ℕ). table_in j x.index t) key) ∙ table_there k t ds at_key c m x);
-          there = bar_in (file ms) i (endpoint t) said x.index (bar x.inner) (map_at bar (tables (codes "bar") t) x.index x.inner (sym (ap (λ (j : List ℕ). slice_get (tables j t) x.index) key) ∙ among k t ds at_key c m x));
-          sorted = x.sorted;
-        })
-        (ap (λ (n : Level). filter is_deep (fields n)) is) c x.before x.fails
+    by_bar =
+        by_leaves (entry.Bar i) (codes "bar") level.Bar t (λ j. refl) refl
+        (λ j. ap (λ (o : Option Members). option_and_then (table_in (codes "bar") j) o) of.is_table)
+        (λ j u h. bar_in (file ms) i (endpoint t) said j (bar u) (map_at bar (tables (codes "bar") t) j u h))
 
     by_config : (k : List ℕ) (m : Level) (ds : Items) → k ≡ codes "config" → m ≡ level.Config → get_member k t ≡ Some (array ds) → BadItem c m ds → Blame ms (number_of_check c)
-    by_config k m ds key is at_key x =
-        by_leaf ms (entry.Config i x.index) m x.inner (record {
-          is_level = ap Some (sym is);
-          is_table = ap (λ (o : Option Members). option_and_then (table_in (codes "config") x.index) o) of.is_table ∙ (sym (ap (λ (j : List ℕ). table_in j x.index t) key) ∙ table_there k t ds at_key c m x);
-          there = config_in (file ms) i (endpoint t) said x.index (config x.inner) (map_at config (tables (codes "config") t) x.index x.inner (sym (ap (λ (j : List ℕ). slice_get (tables j t) x.index) key) ∙ among k t ds at_key c m x));
-          sorted = x.sorted;
-        })
-        (ap (λ (n : Level). filter is_deep (fields n)) is) c x.before x.fails
+    by_config =
+        by_leaves (entry.Config i) (codes "config") level.Config t (λ j. refl) refl
+        (λ j. ap (λ (o : Option Members). option_and_then (table_in (codes "config") j) o) of.is_table)
+        (λ j u h. config_in (file ms) i (endpoint t) said j (config u) (map_at config (tables (codes "config") t) j u h))
 
     by_endpoint : Before c (table_passes Types level.Endpoint t) → table_passes c level.Endpoint t ≡ false → Blame ms (number_of_check c)
     by_endpoint before h = by_parts ms (entry.Endpoint i) level.Endpoint t of c before on_table on_tables h
@@ -109,24 +118,14 @@ module _ (ms : Members) (c : Check) where
         (ap (λ (n : Level). filter is_deep (fields n)) is) c before h
 
     by_bridge : (k : List ℕ) (m : Level) (ds : Items) → k ≡ codes "bridge" → m ≡ level.Bridge → get_member k ms ≡ Some (array ds) → BadItem c m ds → Blame ms (number_of_check c)
-    by_bridge k m ds key is at_key x =
-        by_leaf ms (entry.Bridge x.index) m x.inner (record {
-          is_level = ap Some (sym is);
-          is_table = sym (ap (λ (j : List ℕ). table_in j x.index ms) key) ∙ table_there k ms ds at_key c m x;
-          there = bridge_in (file ms) x.index (bridge x.inner) (map_at bridge (tables (codes "bridge") ms) x.index x.inner (sym (ap (λ (j : List ℕ). slice_get (tables j ms) x.index) key) ∙ among k ms ds at_key c m x));
-          sorted = x.sorted;
-        })
-        (ap (λ (n : Level). filter is_deep (fields n)) is) c x.before x.fails
+    by_bridge =
+        by_leaves entry.Bridge (codes "bridge") level.Bridge ms (λ i. refl) refl (λ i. refl)
+        (λ i u h. bridge_in (file ms) i (bridge u) (map_at bridge (tables (codes "bridge") ms) i u h))
 
     by_guest : (k : List ℕ) (m : Level) (ds : Items) → k ≡ codes "guest" → m ≡ level.Guest → get_member k ms ≡ Some (array ds) → BadItem c m ds → Blame ms (number_of_check c)
-    by_guest k m ds key is at_key x =
-        by_leaf ms (entry.Guest x.index) m x.inner (record {
-          is_level = ap Some (sym is);
-          is_table = sym (ap (λ (j : List ℕ). table_in j x.index ms) key) ∙ table_there k ms ds at_key c m x;
-          there = guest_in (file ms) x.index (guest x.inner) (map_at guest (tables (codes "guest") ms) x.index x.inner (sym (ap (λ (j : List ℕ). slice_get (tables j ms) x.index) key) ∙ among k ms ds at_key c m x));
-          sorted = x.sorted;
-        })
-        (ap (λ (n : Level). filter is_deep (fields n)) is) c x.before x.fails
+    by_guest =
+        by_leaves entry.Guest (codes "guest") level.Guest ms (λ i. refl) refl (λ i. refl)
+        (λ i u h. guest_in (file ms) i (guest u) (map_at guest (tables (codes "guest") ms) i u h))
 
     by_some_endpoint : (k : List ℕ) (m : Level) (ds : Items) → k ≡ codes "endpoint" → m ≡ level.Endpoint → get_member k ms ≡ Some (array ds) → BadItem c m ds → Blame ms (number_of_check c)
     by_some_endpoint k m ds key is at_key x =

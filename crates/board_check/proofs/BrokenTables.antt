@@ -2,9 +2,10 @@
 use Rattle.std.proofs.Common.{◌≡◌, ℕ, Bool, true, false, ◌&&◌, ◌||◌, not, cond, map, flat_map, List, [], ◌∷◌, Option, Some, None, is_some, refl, sym, ap, ap₂, ◌∙◌, subst, inl, inr, ◌⊎◌}
 use Rattle.std.specs.Prelude.{filter}
 use Rattle.std.specs.Option.{option_map_or}
-use Rattle.std.proofs.lemmas.Bool.{and_cases}
+use Rattle.std.proofs.lemmas.Bool.{and_cases, or_left, or_right}
 use Rattle.std.proofs.lemmas.Slice.Eq.{bytes_eq-Decides}
-use Rattle.lists.proofs.Members.{in_front, in_back, in_flat_map}
+use Rattle.lists.proofs.Members.{in_front, in_back, in_flat_map, in_filter}
+use Rattle.lists.proofs.Tests.{asked_parts}
 use Rattle.toml.specs.Data.{Data, array, table, Items, Members, no_members, member, get_member, at, is_sorted, members_are_sorted}
 use Rattle.lists.specs.Elements.{IsIn}
 use Rattle.board_file.specs.Texts.{same_text}
@@ -52,20 +53,6 @@ field_at (f ∷ fs) k form h = by_case (field_at fs k form) (same_text f.key k) 
     by_case rest true same h = record { field = f; there = inl refl; key = equal_text f.key k same; is_form = cc }
     by_case rest false same h = let x = rest h in record { field = x.field; there = inr x.there; key = x.key; is_form = x.is_form }
 
--- what passes a test is among those that pass
-in_filter : {A : Type 0} (p : A → Bool) (x : A) (xs : List A) → IsIn x xs → p x ≡ true → IsIn x (filter p xs)
-in_filter p x [] h k = absurd h
-in_filter p x (y ∷ ys) (inl h) k = by_case (p y) (sym (ap p h) ∙ k)
-  where
-    by_case : (b : Bool) → b ≡ true → IsIn x (cond b (y ∷ filter p ys) (filter p ys))
-    by_case true e = inl h
-    by_case false e = cc
-in_filter p x (y ∷ ys) (inr h) k = by_case (p y) (in_filter p x ys h k)
-  where
-    by_case : (b : Bool) → IsIn x (filter p ys) → IsIn x (cond b (y ∷ filter p ys) (filter p ys))
-    by_case true m = inr m
-    by_case false m = m
-
 -- a key whose form leads to tables is one of those
 pub deep_at : (fs : List Field) (k : List ℕ) (form : Form) → is_some (level_at (Some form)) ≡ true → form_at k fs ≡ Some form → FieldAt (filter is_deep fs) k form
 deep_at fs k form deep h =
@@ -91,27 +78,15 @@ record MissingField (fs : List Field) (t : Members) : Type 0 where
   needed : field.is_needed ≡ true
   missing : is_some (get_member field.key t) ≡ false
 
-or_cases-false : (a b : Bool) → (not a || b) ≡ false → (a ≡ true) × (b ≡ false)
-or_cases-false true b h = (refl, h)
-or_cases-false false b h = cc
-
 missing_field : (fs : List Field) (t : Members) → has_needed fs t ≡ false → MissingField fs t
 missing_field [] t h = cc
 missing_field (f ∷ fs) t h = by_case (missing_field fs t) (and_cases (not f.is_needed || is_some (get_member f.key t)) (has_needed fs t) h)
   where
     by_case : (has_needed fs t ≡ false → MissingField fs t) → ((not f.is_needed || is_some (get_member f.key t)) ≡ false) ⊎ (has_needed fs t ≡ false) → MissingField (f ∷ fs) t
     by_case rest (inl k) =
-        let (needed, missing) = or_cases-false f.is_needed (is_some (get_member f.key t)) k in
+        let (needed, missing) = asked_parts f.is_needed (is_some (get_member f.key t)) k in
         record { field = f; there = inl refl; needed = needed; missing = missing }
     by_case rest (inr k) = let x = rest k in record { field = x.field; there = inr x.there; needed = x.needed; missing = x.missing }
-
-or_left : (a b : Bool) → a ≡ true → (a || b) ≡ true
-or_left true b h = refl
-or_left false b h = cc
-
-or_right : (a b : Bool) → b ≡ true → (a || b) ≡ true
-or_right true b h = refl
-or_right false b h = h
 
 needs_field : (f : Field) (fs : List Field) → IsIn f fs → f.is_needed ≡ true → needs f.key fs ≡ true
 needs_field f [] h k = absurd h

@@ -1,4 +1,4 @@
--- Problems that wait for no earlier one.
+-- Problems that are appended where a test of them holds.
 --     adds_clear, adds_nothing      what is appended of one problem
 --     all_found      a test of all problems, as it is of what was found
 use Rattle.std.proofs.Common.{◌≡◌, Bool, true, false, cond, List, [], ◌∷◌, ◌++◌, map, ap, sym, refl, ◌∙◌, append-nil, ◌&&◌}

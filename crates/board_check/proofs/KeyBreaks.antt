@@ -8,7 +8,7 @@ use Rattle.std.proofs.lemmas.Bool.{and_parts, and_left, and_right, or_cases}
 use Rattle.std.proofs.lemmas.Map.Text.{is_eq-slice_cmp}
 use Rattle.std.proofs.lemmas.Slice.Eq.{bytes_eq-Decides}
 use Rattle.lists.proofs.Tests.{asked_parts}
-use Rattle.toml.specs.Data.{Data, string, integer, float, boolean, datetime, array, table, Items, no_items, item, Members, no_members, member, get_member, get_item, at, as_table}
+use Rattle.toml.specs.Data.{Data, array, table, Items, no_items, item, Members, no_members, member, get_member, get_item, at, as_table}
 use Rattle.board_file.specs.Texts.{same_text}
 use Rattle.board_file.specs.Schema.{Field, fields, form_at, has_needed, value_test, table_test, value_passes, items_pass, members_pass, table_passes}
 use Rattle.board_file.specs.declared.schema.Level.{Level}
@@ -25,14 +25,14 @@ use Rattle.board_check.specs.Keys.{table_in, needs, is_needed, form_holds, table
 
 -- ---- values that are there
 
-pub record Held {A : Type 0} (p : A → Bool) (o : Option A) : Type 0 where
-  pub value : A
-  pub is : o ≡ Some value
-  pub fails : p value ≡ false
+record Failing {A : Type 0} (p : A → Bool) (o : Option A) : Type 0 where
+  value : A
+  is : o ≡ Some value
+  fails : p value ≡ false
 
-pub held : {A : Type 0} (p : A → Bool) (o : Option A) → option_map_or p o true ≡ false → Held p o
-held p None h = cc
-held p (Some x) h = record { value = x; is = refl; fails = h }
+failing : {A : Type 0} (p : A → Bool) (o : Option A) → option_map_or p o true ≡ false → Failing p o
+failing p None h = cc
+failing p (Some x) h = record { value = x; is = refl; fails = h }
 
 record Through {A B : Type 0} (f : A → Option B) (o : Option A) (y : B) : Type 0 where
   value : A
@@ -44,24 +44,15 @@ through f None y h = cc
 through f (Some x) y h = record { value = x; is = refl; gives = h }
 
 table_of : (d : Data) (u : Members) → as_table d ≡ Some u → d ≡ table u
-table_of (string s) u h = cc
-table_of (integer n) u h = cc
-table_of (float x) u h = cc
-table_of (boolean b) u h = cc
-table_of (datetime d) u h = cc
-table_of (array ds) u h = cc
 table_of (table t) u h = let same : t ≡ u = cc in ap table same
+table_of d u h = cc
 
 -- ---- checks
 
 test_fails : (c : Check) (form : Option Form) (d : Data) → value_test c form d ≡ false → value_passes c form d ≡ false
-test_fails c form (string s) h = h
-test_fails c form (integer n) h = h
-test_fails c form (float x) h = h
-test_fails c form (boolean b) h = h
-test_fails c form (datetime d) h = h
 test_fails c form (array ds) h = and_left (value_test c form (array ds)) _ h
 test_fails c form (table ms) h = and_left (value_test c form (table ms)) _ h
+test_fails c form _ h = h
 
 member_fails : (c : Check) (l : Level) (t : Members) (k : List ℕ) (d : Data) → get_member k t ≡ Some d → value_passes c (form_at k (fields l)) d ≡ false → members_pass c l t ≡ false
 member_fails c l no_members k d at h = cc
@@ -98,13 +89,8 @@ items_fail c m (item d ds) zero u at h =
 items_fail c m (item d ds) (suc i) u at h = and_right (value_passes c (Some (Table m)) d) (items_pass c m ds) (items_fail c m ds i u at h)
 
 array_fails : (c : Check) (m : Level) (d : Data) (i : ℕ) (u : Members) → option_and_then as_table (at i d) ≡ Some u → table_passes c m u ≡ false → value_passes c (Some (Tables m)) d ≡ false
-array_fails c m (string s) i u at h = cc
-array_fails c m (integer n) i u at h = cc
-array_fails c m (float x) i u at h = cc
-array_fails c m (boolean b) i u at h = cc
-array_fails c m (datetime d) i u at h = cc
 array_fails c m (array ds) i u at h = and_right (value_test c (Some (Tables m)) (array ds)) (items_pass c m ds) (items_fail c m ds i u at h)
-array_fails c m (table ms) i u at h = cc
+array_fails c m d i u at h = cc
 
 listed_fails : (c : Check) (l m : Level) (k : List ℕ) (i : ℕ) (t u : Members) → form_at k (fields l) ≡ Some (Tables m) → table_in k i t ≡ Some u → table_passes c m u ≡ false → table_passes c l t ≡ false
 listed_fails c l m k i t u form there h = by_case (get_member k t) refl there
@@ -147,7 +133,7 @@ fails_here rule.Needed l k t h =
     let (needed, none) = asked_parts (is_needed l k) (is_some (get_member k t)) h in
     and_left (has_needed (fields l) t) (members_pass Types l t) (needed_fails (fields l) k t needed none)
 fails_here rule.Form l k t h =
-    let x = held (form_holds (form_at k (fields l))) (get_member k t) h in
+    let x = failing (form_holds (form_at k (fields l))) (get_member k t) h in
     value_fails Types l t k x.value x.is (test_fails Types (form_at k (fields l)) x.value (same_test (form_at k (fields l)) x.value x.fails))
 fails_here rule.Known l k t h =
     let (some, unknown) = asked_parts (is_some (get_member k t)) (is_some (form_at k (fields l))) h in
@@ -160,12 +146,12 @@ fails_here _ l k t h = cc
 module _ (ms : Members) (r : Rule) (k : List ℕ) where
   in_list : (m : Level) (key : List ℕ) (i : ℕ) → form_at key (fields level.Top) ≡ Some (Tables m) → option_map_or (table_keeps r m k) (table_in key i ms) true ≡ false → table_passes (check_of r) level.Top ms ≡ false
   in_list m key i form h =
-      let x = held (table_keeps r m k) (table_in key i ms) h in
+      let x = failing (table_keeps r m k) (table_in key i ms) h in
       listed_fails (check_of r) level.Top m key i ms x.value form x.is (fails_here r m k x.value x.fails)
 
   in_endpoint : (m : Level) (key : List ℕ) (i j : ℕ) → form_at key (fields level.Endpoint) ≡ Some (Tables m) → option_map_or (table_keeps r m k) (option_and_then (table_in key j) (table_in (codes "endpoint") i ms)) true ≡ false → table_passes (check_of r) level.Top ms ≡ false
   in_endpoint m key i j form h =
-      let x = held (table_keeps r m k) (option_and_then (table_in key j) (table_in (codes "endpoint") i ms)) h in
+      let x = failing (table_keeps r m k) (option_and_then (table_in key j) (table_in (codes "endpoint") i ms)) h in
       let e = through (table_in key j) (table_in (codes "endpoint") i ms) x.value x.is in
       listed_fails (check_of r) level.Top level.Endpoint (codes "endpoint") i ms e.value refl e.is
       (listed_fails (check_of r) level.Endpoint m key j e.value x.value form e.gives (fails_here r m k x.value x.fails))
@@ -173,7 +159,7 @@ module _ (ms : Members) (r : Rule) (k : List ℕ) where
   pub key_breaks : (e : Entry) → key_keeps ms e r k ≡ false → table_passes (check_of r) level.Top ms ≡ false
   key_breaks entry.File h = fails_here r level.Top k ms h
   key_breaks entry.Host h =
-      let x = held (table_keeps r level.Host k) (option_and_then as_table (get_member (codes "host") ms)) h in
+      let x = failing (table_keeps r level.Host k) (option_and_then as_table (get_member (codes "host") ms)) h in
       inner_fails (check_of r) level.Top level.Host (codes "host") ms x.value refl x.is (fails_here r level.Host k x.value x.fails)
   key_breaks (entry.Endpoint i) h = in_list level.Endpoint (codes "endpoint") i refl h
   key_breaks (entry.Bar i j) h = in_endpoint level.Bar (codes "bar") i j refl h

@@ -3,7 +3,7 @@ use Rattle.std.proofs.Common.{◌≡◌, ℕ, zero, suc, ◌+◌, Bool, true, fa
 use Rattle.std.specs.Prelude.{slice_get, filter}
 use Rattle.std.specs.List.{flat_map, enumerate_from, range_with_len}
 use Rattle.lists.specs.Elements.{IsIn}
-use Rattle.lists.proofs.Members.{in_front, in_back, in_map, in_flat_map}
+use Rattle.lists.proofs.Members.{in_front, in_back, in_map, in_flat_map, in_filter}
 use Rattle.board_file.specs.Entries.{Bar, Config, Endpoint, Bridge, Guest, File}
 use Rattle.board_file.specs.declared.entry.Entry.{Entry}
 use Rattle.board_file.specs.declared.entry.Entry.TheVariants as entry
@@ -34,19 +34,9 @@ in_numbered (y ∷ ys) from (suc n) x h =
 in_enumerated : {A : Type 0} (xs : List A) (n : ℕ) (x : A) → slice_get xs n ≡ Some x → IsIn (n, x) (enumerate_from 0 xs)
 in_enumerated xs n x h = let same : 0 + n ≡ n = omega arith in subst (λ i. IsIn (i, x) (enumerate_from 0 xs)) same (in_numbered xs 0 n x h)
 
-some_cond : {A : Type 0} (b : Bool) (x : A) (xs ys : List A) → b ≡ true → cond b (x ∷ xs) ys ≡ [] → ⊥
-some_cond true x xs ys h k = cc
-some_cond false x xs ys h k = cc
-
 -- what passes the test stays in the list
 pub filter_some : {A : Type 0} (p : A → Bool) (x : A) (xs : List A) → IsIn x xs → p x ≡ true → filter p xs ≡ [] → ⊥
-filter_some p x [] h k e = absurd h
-filter_some p x (y ∷ ys) (inl h) k e = some_cond (p y) y (filter p ys) (filter p ys) (ap p (sym h) ∙ k) e
-filter_some p x (y ∷ ys) (inr h) k e = by_case (filter_some p x ys h k) (p y) e
-  where
-    by_case : (filter p ys ≡ [] → ⊥) → (b : Bool) → cond b (y ∷ filter p ys) (filter p ys) ≡ [] → ⊥
-    by_case rest true e = cc
-    by_case rest false e = rest e
+filter_some p x xs h k e = subst (IsIn x) e (in_filter p x xs h k)
 
 -- ---- entries
 

@@ -14,13 +14,11 @@ IsMember k d (member l e ms) = ((k ≡ l) × (d ≡ e)) ⊎ IsMember k d ms
 
 less_of : (o : Ordering) → is_lt o ≡ true → o ≡ Less
 less_of Less h = refl
-less_of Equal h = cc
-less_of Greater h = cc
+less_of _ h = cc
 
 equal_of : (o : Ordering) → is_eq o ≡ true → o ≡ Equal
-equal_of Less h = cc
 equal_of Equal h = refl
-equal_of Greater h = cc
+equal_of _ h = cc
 
 -- a key before the first of ascending keys is before them all
 before_all : (l : List ℕ) (ms : Members) → is_before l ms ≡ true → members_are_sorted ms ≡ true → (k : List ℕ) (d : Data) → IsMember k d ms → slice_cmp nat_cmp l k ≡ Less

@@ -53,7 +53,7 @@ is_none (Some x) h = absurd (cc)
 no_taker : (all : List Bar) (j : ℕ) (b : Bar) → taker_at all (j, b) ≡ None → (is_past b ≡ false) × (met_before all j b ≡ None)
 no_taker all j b h =
     let parts : (is_past b ≡ false) × (is_some (met_before all j b) ≡ false) =
-        or_parts (is_past b) (is_some (met_before all j b)) (none_if (is_past b || is_some (met_before all j b)) j h) in
+    or_parts (is_past b) (is_some (met_before all j b)) (none_if (is_past b || is_some (met_before all j b)) j h) in
     (parts.0, is_none (met_before all j b) parts.1)
 
 -- ---- each region ends with the registers
@@ -117,8 +117,8 @@ pub no_takers : (bs : List Bar) → first_taker bs ≡ None → has_own_register
 no_takers bs h =
     let ends = not_past bs bs 0 h in
     let apart : list_all (λ n. nat_le (count_by (uses n) (map region bs)) 1) (0 ∷ 1 ∷ 2 ∷ 3 ∷ 4 ∷ 5 ∷ []) ≡ true =
-        all_from (λ (n : ℕ). nat_le (count_by (uses n) (map region bs)) 1) (0 ∷ 1 ∷ 2 ∷ 3 ∷ 4 ∷ 5 ∷ [])
-        (λ n m. le-leb (count_by (uses n) (map region bs)) 1 (few n)) in
+    all_from (λ (n : ℕ). nat_le (count_by (uses n) (map region bs)) 1) (0 ∷ 1 ∷ 2 ∷ 3 ∷ 4 ∷ 5 ∷ [])
+    (λ n m. le-leb (count_by (uses n) (map region bs)) 1 (few n)) in
     rw (ends, apart)
   where
     few : (n : ℕ) → count_by (uses n) (map region bs) ≤ 1

@@ -12,7 +12,7 @@ use Rattle.model_set_up.specs.Pools.{same_pool, has_pref, has_pref64, bridge_of,
 use Rattle.board_file.specs.Entries.{Bar, Bridge, Endpoint, File}
 use Rattle.board_file.specs.Functions.{endpoint_row, bridge_row, rows}
 use Rattle.board_file.specs.PathTexts.{path_at}
-use Rattle.board_file.proofs.Tests.{and-assoc, and-comm}
+use Rattle.std.proofs.Math.Bool.{and_assoc, and_comm}
 use Rattle.window_packing.specs.declared.pool.Pool.{Pool}
 use Rattle.window_packing.specs.Plans.{named_pool}
 use Rattle.board_fit.specs.declared.pool_region.PoolRegion.{PoolRegion}
@@ -52,8 +52,8 @@ module _ (q : declared.Bridge → Bool) (p : Path) where
       swapped : passes (s ∷ r ∷ b) ≡ passes (r ∷ s ∷ b)
       swapped =
           let x = row_passes s.path s.decl in let y = row_passes r.path r.decl in
-          more s.path s.decl (r ∷ b) ∙ ap (λ (t : Bool). x && t) (more r.path r.decl b) ∙ sym (and-assoc x y (passes b))
-          ∙ ap (λ (t : Bool). t && passes b) (and-comm x y) ∙ and-assoc y x (passes b)
+          more s.path s.decl (r ∷ b) ∙ ap (λ (t : Bool). x && t) (more r.path r.decl b) ∙ sym (and_assoc x y (passes b))
+          ∙ ap (λ (t : Bool). t && passes b) (and_comm x y) ∙ and_assoc y x (passes b)
           ∙ ap (λ (t : Bool). y && t) (sym (more s.path s.decl b)) ∙ sym (more r.path r.decl (s ∷ b))
 
       in_place : (t : Bool) → passes (row_inserted r b) ≡ passes (r ∷ b) → passes (cond t (s ∷ row_inserted r b) (r ∷ s ∷ b)) ≡ passes (r ∷ s ∷ b)

@@ -6,12 +6,12 @@
 mod landings;
 
 use crate::landings::compare_landings;
-use test_streams::FakeReader;
 use simulation::{Fault, OutputStream, Style, board_bytes, check, drive, list, whole};
 use std::alloc::Global;
 use std::io;
 use std::process::ExitCode;
 use std::rt::Files;
+use test_streams::FakeReader;
 
 /// Boards that can be set up, then one for each reason why a file or its board is refused, and a name
 /// of no file.

@@ -10,8 +10,8 @@
 use accesses::Names;
 use arrayvec::ArrayString;
 use bars::Kind;
-use test_lone_guest::{LoneBlock, LoneEndpoint, LoneRegion, Register};
 use std::alloc::Global;
+use test_lone_guest::{LoneBlock, LoneEndpoint, LoneRegion, Register};
 
 /// Names of guests, and their endpoints.
 #[derive(Drop)]

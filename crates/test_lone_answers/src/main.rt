@@ -8,12 +8,12 @@ mod guests;
 
 use crate::guests::{Declared, read_guests};
 use accesses::Names;
-use test_lone_guest::LoneGuests;
 use std::alloc::Global;
 use std::io::{BufWriter, Read, Write};
 use std::process::ExitCode;
 use std::rt::{Env, Files};
 use std::{env, fs, io};
+use test_lone_guest::LoneGuests;
 
 /// The bytes of the file at a path.
 fn bytes_of(rt: &impl Files, alloc: Global, path: &str) -> Option<Vec<u8>> {

@@ -1,7 +1,7 @@
-use test_streams::{FakeReader, FakeWriter};
 use simulation::{Fault, demo, list};
 use std::process::Abort;
 use std::test::Fail;
+use test_streams::{FakeReader, FakeWriter};
 
 /// The demo board.
 const BOARD: &str =
