@@ -39,6 +39,7 @@ int main(int argc, char **argv)
     FILE *file = argc == 2 ? fopen(argv[1], "rb") : NULL;
     uint32_t value = 0, faults = 0;
     size_t length, written = 0, count = 0;
+    uint64_t changes = 0;
     char reply[PCIGUEST_REPLY] = {0}, text[1024] = {0};
     struct pciguest_region region = {0};
     struct pciguest_hit hit = {0};
@@ -66,6 +67,7 @@ int main(int argc, char **argv)
     pciguest_write(&machine, 0, PCIGUEST_CONFIG, 0, 0x14, 4, 0xc0100000);
     pciguest_write(&machine, 0, PCIGUEST_CONFIG, 0, 4, 2, 2);
     COST("tell where a region stands", 1000000, pciguest_region(&machine, 0, 0, 1, &region));
+    COST("tell how often regions may have moved", 1000000, pciguest_changed(&machine, 0, &changes));
     COST("tell what an address hits", 1000000, pciguest_locate(&machine, 0, PCIGUEST_MEMORY, 0, 0xc0100010, &hit));
     COST("tell of a function by its index", 1000000, pciguest_function(&machine, 0, &function));
     COST("tell of a function by its slot", 1000000, pciguest_slot(&machine, 0, 0, &function));

@@ -144,6 +144,7 @@ uint32_t pciguest_raw_device_write(struct pciguest *machine, size_t guest, uint6
                                    uint8_t value);
 uint32_t pciguest_raw_region(struct pciguest *machine, size_t guest, uint64_t slot, uint32_t bar,
                              struct pciguest_region *region);
+uint32_t pciguest_raw_changed(struct pciguest *machine, size_t guest, uint64_t *count);
 uint32_t pciguest_raw_locate(struct pciguest *machine, size_t guest, uint32_t space, uint64_t slot, uint64_t place,
                              struct pciguest_hit *hit);
 uint32_t pciguest_raw_count(struct pciguest *machine, size_t *count);
@@ -368,7 +369,7 @@ static inline uint32_t pciguest_device_write(struct pciguest *machine, size_t gu
 
 /* Where the region that begins at a base address register, 0 to 5, stands now, in the guest's own view. It takes no
  * memory and changes nothing. The answer stays until the guest writes Command or a base address register of this
- * function, or it is moved, reset or taken. 303: the slot is above 31, or no region begins at this register. 601:
+ * function, or it is moved, reset or taken: while pciguest_changed tells the same, no answer for this guest changes. 303: the slot is above 31, or no region begins at this register. 601:
  * the slot is empty. 902: there is no such guest. */
 static inline uint32_t pciguest_region(struct pciguest *machine, size_t guest, uint64_t slot, uint32_t bar,
                                        struct pciguest_region *region)
@@ -376,6 +377,17 @@ static inline uint32_t pciguest_region(struct pciguest *machine, size_t guest, u
     if (!machine || !region)
         return PCIGUEST_ARGUMENT;
     return pciguest_raw_region(machine, guest, slot, bar, region);
+}
+
+/* A count of the guest, which grows by one with each access of the guest, move, reset, gift or taking that touches one
+ * of its slots so that an answer of pciguest_region for it may be another one: while the count stays, each of these
+ * answers stays, for all slots and registers. Nothing else makes it grow. It is 0 in a machine that was made just now,
+ * and goes on from 0 after 2^64 - 1. It takes no memory and changes nothing. 902: there is no such guest. */
+static inline uint32_t pciguest_changed(struct pciguest *machine, size_t guest, uint64_t *count)
+{
+    if (!machine || !count)
+        return PCIGUEST_ARGUMENT;
+    return pciguest_raw_changed(machine, guest, count);
 }
 
 /* What an access of the guest at a place hits, as pciguest_read and pciguest_write take the place: a byte of a function

@@ -3,7 +3,7 @@
 
 #include <inttypes.h>
 
-enum { SLOTS = 32, EMPTY_SLOT = 601, COMMAND = 0x04, FIRST_BASE = 0x10, LAST_BASE = 0x24, CONFIG_ADDRESS = 0xcf8 };
+enum { SLOTS = 32, EMPTY_SLOT = 601, CONFIG_ADDRESS = 0xcf8 };
 
 struct access {
     bool is_write;
@@ -95,7 +95,15 @@ static bool is_same(const struct pciguest_region *one, const struct pciguest_reg
 
 void log_regions(struct board *board, struct seat *seat)
 {
-    for (unsigned bar = 0; board->log && bar < REGISTERS; bar++) {
+    uint64_t changes = 0;
+
+    if (!board->log || pciguest_changed(&board->machine, seat->index, &changes) != 0)
+        return;
+    if (seat->is_told && changes == seat->changes)
+        return; /* no region of this guest stands elsewhere */
+    seat->is_told = true;
+    seat->changes = changes;
+    for (unsigned bar = 0; bar < REGISTERS; bar++) {
         struct pciguest_region now = {0}, *told = &seat->regions[bar];
 
         (void)pciguest_region(&board->machine, seat->index, seat->slot, bar, &now); /* none: its size stays 0 */
@@ -160,10 +168,10 @@ static void reset_event(struct board *board, struct seat *seat)
 static uint32_t config_event(struct board *board, struct seat *seat, const struct config_access *config, bool is_write)
 {
     struct access access = {is_write, PCIGUEST_CONFIG, config->offset, (uint32_t)config->width, config->value};
-    uint32_t read = perform(board, seat, access), word = config->offset & ~3u;
+    uint32_t read = perform(board, seat, access);
 
-    if (is_write && (word == COMMAND || (word >= FIRST_BASE && word <= LAST_BASE)))
-        log_regions(board, seat); /* by no other write does the guest move or open them */
+    if (is_write)
+        log_regions(board, seat);
     return read;
 }
 

@@ -17,6 +17,8 @@ struct seat {
     size_t index;
     uint64_t slot;
     struct pciguest_region regions[REGISTERS]; /* as the log has them; size 0: none begins at this register */
+    bool is_told;                              /* whether the log has them, as they stood at this count */
+    uint64_t changes;
 };
 
 struct board {

@@ -1,6 +1,6 @@
 /* Random events of two guests. After each, where every region stands is compared with the base address registers and
- * the Command that its guest reads there, what addresses hit with the first such region that is open, and where
- * nothing happened that may move a region, each answer with the one before.
+ * the Command that its guest reads there, what addresses hit with the first such region that is open, each guest's
+ * count of changes with what the event touched, and where that count stays, each answer with the one before.
  *
  *     queries BOARD COUNT SEED
  *
@@ -21,6 +21,7 @@ struct answer {
 };
 
 static struct answer answers[GUESTS][SLOTS][REGISTERS];
+static uint64_t counts[GUESTS];
 static uint64_t state;
 static int wrong;
 
@@ -64,23 +65,35 @@ static void compare(struct pciguest *machine, size_t guest, uint64_t slot, uint3
     IS(region->first % region->size, 0);
 }
 
-/* Asks for all regions; `same` says that each answer is to be the one before. */
-static void ask(struct pciguest *machine, bool same)
+/* Asks for all regions of a guest; `same` says that each answer is to be the one before. */
+static void ask(struct pciguest *machine, size_t guest, bool same)
 {
-    for (size_t guest = 0; guest < GUESTS; guest++)
-        for (uint64_t slot = 0; slot < SLOTS; slot++)
-            for (uint32_t bar = 0; bar < REGISTERS; bar++) {
-                struct answer *kept = &answers[guest][slot][bar], now = {0};
+    for (uint64_t slot = 0; slot < SLOTS; slot++)
+        for (uint32_t bar = 0; bar < REGISTERS; bar++) {
+            struct answer *kept = &answers[guest][slot][bar], now = {0};
 
-                now.number = pciguest_region(machine, guest, slot, bar, &now.region);
-                if (now.number == 0)
-                    compare(machine, guest, slot, bar, &now.region);
-                else
-                    IS(now.number, config(machine, guest, slot, 0, 4) == UINT32_MAX ? 601 : 303);
-                if (same)
-                    IS(memcmp(&now, kept, sizeof now), 0);
-                *kept = now;
-            }
+            now.number = pciguest_region(machine, guest, slot, bar, &now.region);
+            if (now.number == 0)
+                compare(machine, guest, slot, bar, &now.region);
+            else
+                IS(now.number, config(machine, guest, slot, 0, 4) == UINT32_MAX ? 601 : 303);
+            if (same)
+                IS(memcmp(&now, kept, sizeof now), 0);
+            *kept = now;
+        }
+}
+
+/* The counts, and then all regions; `touched` says which guests' counts are to have grown by one. */
+static void ask_all(struct pciguest *machine, const bool *touched)
+{
+    for (size_t guest = 0; guest < GUESTS; guest++) {
+        uint64_t now = 0;
+
+        IS(pciguest_changed(machine, guest, &now), 0);
+        IS(now, counts[guest] + touched[guest]);
+        counts[guest] = now;
+        ask(machine, guest, !touched[guest]);
+    }
 }
 
 /* What an address hits, by the regions that were told. */
@@ -103,34 +116,62 @@ static void locate(struct pciguest *machine, size_t guest, uint32_t space, uint6
     IS(hit.offset, wanted.offset);
 }
 
-/* An event at random; whether it may move a region. */
-static bool event(struct pciguest *machine)
+/* Moves at random; a move that is done touches both guests. */
+static void move(struct pciguest *machine, size_t from, uint64_t slot, bool *touched)
+{
+    size_t to = below(GUESTS);
+
+    if (pciguest_move(machine, from, slot, to, below(3)) == 0)
+        touched[from] = touched[to] = true;
+}
+
+/* Writes to a register at random; one of Command or of a base address register touches the guest, where its slot has a
+ * function. */
+static void write_register(struct pciguest *machine, size_t guest, uint64_t slot, bool *touched)
 {
     static const uint8_t offsets[] = {0x04, 0x10, 0x14, 0x18, 0x00, 0x0c, 0x28, 0x3c};
-    size_t guest = below(GUESTS);
-    uint64_t slot = below(3), offset = offsets[below(sizeof offsets)];
+    uint64_t offset = offsets[below(sizeof offsets)];
+    uint32_t value = offset == 4 ? 3 : (uint32_t)below(4) << 20;
 
-    switch (below(7)) {
+    if (config(machine, guest, slot, 0, 4) != UINT32_MAX)
+        touched[guest] = offset == 4 || (offset >= 0x10 && offset < 0x28);
+    if (below(2)) {
+        IS(pciguest_write(machine, guest, PCIGUEST_CONFIG, slot, offset, 4, value), 0);
+        return;
+    }
+    IS(pciguest_write(machine, guest, PCIGUEST_IO, 0, 0xcf8, 4, (uint32_t)(0x80000000 | slot << 11 | offset)), 0);
+    IS(pciguest_write(machine, guest, PCIGUEST_IO, 0, 0xcfc, 4, value), 0);
+}
+
+/* An event at random, and which guests it touches so that a region may stand elsewhere. */
+static void event(struct pciguest *machine, bool *touched)
+{
+    size_t guest = below(GUESTS);
+    uint64_t slot = below(3);
+    uint32_t value;
+
+    switch (below(8)) {
     case 0:
-        (void)pciguest_move(machine, guest, slot, below(GUESTS), below(3));
-        return true;
+        move(machine, guest, slot, touched);
+        return;
     case 1:
-        (void)pciguest_reset(machine, guest, slot);
-        return true;
+        touched[guest] = pciguest_reset(machine, guest, slot) == 0;
+        return;
     case 2:
         (void)pciguest_raise(machine, guest, slot, below(2) ? PCIGUEST_RAISE_CONFIG : 1, below(0x40), 0xff);
-        return false;
+        return;
     case 3:
         (void)pciguest_device_write(machine, guest, slot, below(2) ? PCIGUEST_RAISE_CONFIG : 1, below(0x100),
                                     (uint8_t)below(256));
-        return false;
+        return;
     case 4:
         (void)pciguest_write(machine, guest, PCIGUEST_MEMORY, 0, below(4) << 20, 4, (uint32_t)below(1 << 20));
-        return false;
+        return;
+    case 5:
+        (void)pciguest_read(machine, guest, PCIGUEST_CONFIG, slot, below(0x40), 1 << below(3), &value);
+        return;
     default:
-        (void)pciguest_write(machine, guest, PCIGUEST_CONFIG, slot, offset, 4,
-                             offset == 4 ? 3 : (uint32_t)below(4) << 20);
-        return offset == 4 || (offset >= 0x10 && offset < 0x28);
+        write_register(machine, guest, slot, touched);
     }
 }
 
@@ -147,9 +188,13 @@ int main(int argc, char **argv)
     fclose(file);
     state = strtoull(argv[3], NULL, 10) * 0x9e3779b97f4a7c15u + 1;
     IS(pciguest_new(&machine, board, length), 0);
-    ask(&machine, false);
+    for (size_t guest = 0; guest < GUESTS; guest++)
+        ask(&machine, guest, false);
     for (uint64_t left = strtoull(argv[2], NULL, 10); left > 0; left--) {
-        ask(&machine, !event(&machine));
+        bool touched[GUESTS] = {false};
+
+        event(&machine, touched);
+        ask_all(&machine, touched);
         locate(&machine, below(GUESTS), PCIGUEST_MEMORY, (below(4) << 20) + below(0x100));
         locate(&machine, below(GUESTS), PCIGUEST_IO, below(0x40));
     }

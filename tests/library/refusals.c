@@ -16,6 +16,7 @@ static void without_a_machine(void)
     uint32_t value = 7;
     size_t count = 8;
     char reply[PCIGUEST_REPLY] = "unchanged";
+    uint64_t changes = 6;
     struct pciguest_region region = {.size = 9};
     struct pciguest_hit hit = {.found = 9};
     struct pciguest_function function = {.class_code = 9};
@@ -32,6 +33,7 @@ static void without_a_machine(void)
     IS(pciguest_device_read(&none, 0, 0, 1, 0, &value), 901);
     IS(pciguest_device_write(&none, 0, 0, 1, 0, 1), 901);
     IS(pciguest_region(&none, 0, 0, 0, &region), 901);
+    IS(pciguest_changed(&none, 0, &changes), 901);
     IS(pciguest_locate(&none, 0, PCIGUEST_IO, 0, 0, &hit), 901);
     IS(pciguest_count(&none, &count), 901);
     IS(pciguest_function(&none, 0, &function), 901);
@@ -45,6 +47,7 @@ static void without_a_machine(void)
     IS(count, 8);
     IS(strcmp(reply, "unchanged"), 0);
     IS(region.size, 9);
+    IS(changes, 6);
     IS(hit.found, 9);
     IS(function.class_code, 9);
 }
@@ -53,6 +56,7 @@ static void null_pointers(struct pciguest *machine)
 {
     uint32_t value = 0;
     size_t count = 0;
+    uint64_t changes = 0;
     char reply[PCIGUEST_REPLY] = {0};
     struct pciguest_region region = {0};
     struct pciguest_hit hit = {0};
@@ -77,6 +81,8 @@ static void null_pointers(struct pciguest *machine)
     IS(pciguest_device_write(NULL, 0, 0, 1, 0, 1), 902);
     IS(pciguest_region(NULL, 0, 0, 0, &region), 902);
     IS(pciguest_region(machine, 0, 0, 0, NULL), 902);
+    IS(pciguest_changed(NULL, 0, &changes), 902);
+    IS(pciguest_changed(machine, 0, NULL), 902);
     IS(pciguest_locate(NULL, 0, PCIGUEST_IO, 0, 0, &hit), 902);
     IS(pciguest_locate(machine, 0, PCIGUEST_IO, 0, 0, NULL), 902);
     IS(pciguest_count(NULL, &count), 902);
@@ -95,6 +101,7 @@ static void bad_arguments(struct pciguest *machine, const uint8_t *board, size_t
 {
     uint32_t value = 7;
     size_t count = 8;
+    uint64_t changes = 6;
     char reply[PCIGUEST_REPLY] = {0};
 
     IS(pciguest_new(machine, board, length), 903);
@@ -130,10 +137,12 @@ static void bad_arguments(struct pciguest *machine, const uint8_t *board, size_t
     IS(pciguest_device_write(machine, 0, 32, 1, 0, 1), 303);
     IS(pciguest_device_write(machine, 0, 31, 1, 0, 1), 601);
     IS(pciguest_device_write(machine, 0, 0, 1, 4096, 1), 303);
+    IS(pciguest_changed(machine, 2, &changes), 902);
     IS(pciguest_guest(machine, "nobody", 6, &count), 902);
     IS(pciguest_run_line(machine, "a cr 0 0 4", 10, reply, sizeof reply - 1, &count), 902);
     IS(value, 7);
     IS(count, 8);
+    IS(changes, 6);
     IS(pciguest_run_line(machine, "# a comment", 11, reply, sizeof reply, &count), 0);
     IS(count, 0);
 }

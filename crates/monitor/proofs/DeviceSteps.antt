@@ -30,7 +30,7 @@ use Rattle.model_devices.proofs.Bytes.{passes, read_there, write_answered, writt
 use Rattle.model_devices.proofs.Seats.{seated_after}
 use Rattle.model_guests.specs.WorldNow.{WorldNow, board_state}
 use Rattle.model_devices.proofs.Bytes.{write_reaches_board}
-use Rattle.model_handoff.specs.DevicesOver.{after_device}
+use Rattle.model_devices.specs.DeviceEvents.{after_device}
 use Rattle.headers.specs.declared.place.Place as headers
 use Rattle.headers.specs.Places.{place_of}
 use Rattle.bridge_forward.specs.Lending.{as_endpoint, endpoint_at, with_endpoint}

@@ -23,7 +23,7 @@ use Rattle.model_devices.specs.DeviceEvents.{resets, slot_fault, device_answer, 
 use Rattle.model_devices.proofs.Resets.{taken_passes, reset_there, answer_there}
 use Rattle.model_devices.proofs.Seats.{seated_after}
 use Rattle.model_devices.proofs.Resets.{reset_reaches_board}
-use Rattle.model_handoff.specs.DevicesOver.{after_device}
+use Rattle.model_devices.specs.DeviceEvents.{after_device}
 use Rattle.bars.proofs.Regions.{no_base_opened}
 use Rattle.guest_functions.proofs.ResetCopies.{closed_as_opened}
 use Rattle.bridge_forward.specs.Lending.{with_endpoint_reset, as_endpoint}

@@ -1,8 +1,8 @@
 -- Reads change nothing.
---     reads_keep      guests after a read
+--     reads_count_none      a machine after a read
 --     place_told      a guest by its name, among the names that the program holds
 use Rattle.std.proofs.Common.{◌≡◌, ℕ, List, [], ◌∷◌, Bool, true, false, Some, None, length, map, refl, sym, ap, ap₂, ◌∙◌}
-use Rattle.std.specs.Prelude.{if◌then◌else◌, is_some, position, cond, nat_lt, not, ◌+◌, suc}
+use Rattle.std.specs.Prelude.{if◌then◌else◌, is_some, position, cond, nat_lt, not, ◌+◌, ◌&&◌, suc}
 use Rattle.std.specs.List.{prefix_len}
 use Rattle.std.specs.Str.{bytes_eq}
 use Rattle.model_guests.specs.Text.{Text}
@@ -12,6 +12,11 @@ use Rattle.model_guests.specs.Lone.{LoneGuest}
 use Rattle.model_guests.specs.Guests.{GuestNow, GuestsNow, guest_after, with_guest}
 use Rattle.model_guests.specs.Lines.{guest_event}
 use Rattle.model_guests.specs.WorldNow.{WorldNow, names_now, after_meaning}
+use Rattle.model_devices.specs.Calls.{asks}
+use Rattle.model_giving.specs.Actions.{calls}
+use Rattle.model_giving.specs.Changes.{MachineNow, after_on_machine}
+use Rattle.lists.proofs.Tests.{and_false}
+use Rattle.machine.proofs.Counting.{counts_none}
 use Rattle.arrayvec.specs.ArrayVec.{ArrayVec}
 use Rattle.arrayvec.specs.ArrayString.{ArrayString}
 use Rattle.monitor.specs.Views.{texts}
@@ -27,12 +32,19 @@ with_same f name (g ∷ gs) same =
     (ap (λ (x : GuestNow). if bytes_eq name g.name then x else g) (same g) ∙ same_if (bytes_eq name g.name) g)
     (with_same f name gs same)
 
-pub reads_keep : (m : WorldNow) (name : Text) (t : Target) (width : ℕ)
+reads_keep : (m : WorldNow) (name : Text) (t : Target) (width : ℕ)
     → after_meaning m (guest_event name (access (record { target = t; width = width; op = reads }))) ≡ m
 reads_keep m name t width =
     let a : Access = record { target = t; width = width; op = reads } in
     ap (λ (gs : GuestsNow). record m { guests = gs })
     (with_same (guest_after (access a)) name m.guests (λ g. ap (λ (l : LoneGuest). record g { lone = l }) (same_if (is_some (fault_of a)) g.lone)))
+
+-- and no count grows
+pub reads_count_none : (m : MachineNow) (name : Text) (t : Target) (width : ℕ)
+    → after_on_machine m (calls (asks (guest_event name (access (record { target = t; width = width; op = reads }))))) ≡ m
+reads_count_none m name t width =
+    ap₂ (λ (w : WorldNow) (ns : List ℕ). let n : MachineNow = record { world = w; counts = ns } in n) (reads_keep m.world name t width)
+    (counts_none (λ (n : Text). bytes_eq name n && false) (λ n. and_false (bytes_eq name n)) (names_now m.world) m.counts)
 
 prefix_mapped : {A B : Type 0} (p : B → Bool) (f : A → B) (xs : List A) → prefix_len p (map f xs) ≡ prefix_len (λ x. p (f x)) xs
 prefix_mapped p f [] = refl

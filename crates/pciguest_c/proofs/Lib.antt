@@ -1,6 +1,7 @@
 mod FunctionRows
 mod FaultNumbers
 mod Blocks
+mod Begun
 mod Kept
 mod Moved
 mod Options

@@ -1,5 +1,5 @@
--- Monitors and boards that move between a box and the pointer that C holds: what the walks of these moves share.
---     Ours, ours_val      an unboxed monitor as a row, and its machine value
+-- Machines and boards that move between a box and the pointer that C holds: what the walks of these moves share.
+--     Ours, ours_val      an unboxed machine as a row, and its machine value
 --     OurBoard, our_board_val      the same of a board
 --     some_of      what is there, where something is
 --     keyless      what such a pointer owns may go to another thread
@@ -18,8 +18,8 @@ use Rattle.std_alloc.proofs.SendSync.{lies}
 use Rattle.std_heap.specs.contracts.Global as Heap
 use Rattle.std_heap.specs.contracts.GlobalAllocator.TheImpl.{ghosts}
 use Rattle.std_heap.proofs.Global.TheLaws as heap
-use Rattle.monitor.specs.contracts.monitor.Monitor as Monitor
-use Rattle.monitor.proofs.monitor.Monitor.TheLaws as monitor
+use Rattle.machine.specs.contracts.machine.Machine as Machine
+use Rattle.machine.proofs.machine.Machine.TheLaws as machine
 use Rattle.driven_board.specs.contracts.board.Board as Board
 use Rattle.driven_board.proofs.board.Board.TheLaws as board
 use Rattle.pciguest_c.specs.Owning.{owns_if}
@@ -27,10 +27,10 @@ use Rattle.pciguest_c.specs.contracts.unboxed.Unboxed as Unboxed
 use Rattle.pciguest_c.proofs.unboxed.Unboxed.TheLaws as unboxed
 
 abbrev pub Ours : RattleType
-Ours = Unboxed.the_row Monitor.the_row Heap.the_row ghosts
+Ours = Unboxed.the_row Machine.the_row Heap.the_row ghosts
 
 abbrev pub ours_val : Ours.Denot → Val
-ours_val = unboxed.lowered Monitor.the_row Heap.the_row ghosts monitor.the_row_laws heap.the_row_laws heap.the_told
+ours_val = unboxed.lowered Machine.the_row Heap.the_row ghosts machine.the_row_laws heap.the_row_laws heap.the_told
 
 abbrev pub OurBoard : RattleType
 OurBoard = Unboxed.the_row Board.the_row Heap.the_row ghosts

@@ -1,6 +1,7 @@
 pub mod Checks
 pub mod NumberWords
 pub mod Owning
+pub mod Machines
 pub mod Told
 pub mod DevicesTold
 pub mod SeatingsTold

@@ -23,10 +23,10 @@ number_answered (Ok x) = 0
 number_answered (Err n) = n
 
 abbrev pub region_asked : WorldNow → ℕ → ℕ → ℕ → Result model.RegionNow ℕ
-region_asked m guest slot register = region_answer (lone_of m.guests (name_nth m guest)) slot register
+region_asked w guest slot register = region_answer (lone_of w.guests (name_nth w guest)) slot register
 
 abbrev pub hit_asked : WorldNow → ℕ → Target → Result (Option Landing) ℕ
-hit_asked m guest t = location (lone_of m.guests (name_nth m guest)) t
+hit_asked w guest t = location (lone_of w.guests (name_nth w guest)) t
 
 abbrev pub one_if : Bool → ℕ
 one_if t = if t then 1 else 0

@@ -6,7 +6,7 @@
 --     at_bus      the function of a physical number
 --     host_target_told space at n      the same of a read by the host
 --     part_told n      where a raise goes: a region by its register, or configuration space
---     reply_asked, after_asked      a guest's event by its index: the reply, and the world after it
+--     reply_asked, after_asked      a guest's event by its index: the reply, and the machine after it
 use Rattle.std.specs.Prelude.{ℕ, ◌==◌, if◌then◌else◌, nat_lt, Option, Some, None}
 use Rattle.model_board.specs.Cycles.{BusAddress}
 use Rattle.model_guests.specs.Accesses.{Target, configuration, port, address, RaisePlace, in_config, in_region}
@@ -15,7 +15,10 @@ use Rattle.model_guests.specs.Grammar.{HostTarget, host_configuration, host_port
 use Rattle.model_guests.specs.Lone.{answer}
 use Rattle.model_guests.specs.Guests.{lone_of}
 use Rattle.model_guests.specs.Lines.{guest_event}
-use Rattle.model_guests.specs.WorldNow.{WorldNow, after_meaning}
+use Rattle.model_devices.specs.Calls.{asks}
+use Rattle.model_guests.specs.WorldNow.{WorldNow}
+use Rattle.model_giving.specs.Actions.{calls}
+use Rattle.model_giving.specs.Changes.{MachineNow, after_on_machine}
 use Rattle.monitor.specs.ByIndex.{name_nth}
 
 abbrev pub number_told : Reply → ℕ
@@ -53,7 +56,7 @@ part_told n = if nat_lt n 6 then Some (in_region n) else (if n == 6 then Some in
 
 -- the guest's name stands for it, as no two guests have one name
 abbrev pub reply_asked : WorldNow → ℕ → Event → Reply
-reply_asked m guest e = answer (lone_of m.guests (name_nth m guest)) e
+reply_asked w guest e = answer (lone_of w.guests (name_nth w guest)) e
 
-abbrev pub after_asked : WorldNow → ℕ → Event → WorldNow
-after_asked m guest e = after_meaning m (guest_event (name_nth m guest) e)
+abbrev pub after_asked : MachineNow → ℕ → Event → MachineNow
+after_asked m guest e = after_on_machine m (calls (asks (guest_event (name_nth m.world guest) e)))

@@ -2,13 +2,14 @@
 ghost use Rattle.std.specs.Prelude.{◌≡◌, ◌≢◌, None, IfNone, IfSome, IsSome, IfOk, IfErr};
 ghost use Rattle.driven_board.specs.Giving.{IsGiven, IsRefusalOf};
 ghost use Rattle.pciguest_c.specs.Giving.{IsNumberOfRefusal};
+ghost use Rattle.pciguest_c.specs.Machines.{BeginsIn};
 
 use crate::board_handle::BoardHandle;
 use crate::handle::Handle;
 use crate::numbers::{IN_USE, NO_MACHINE};
 use crate::unboxed::Unboxed;
 use driven_board::{Board, GivingFault, NotGiven};
-use monitor::Monitor;
+use machine::Machine;
 use std::alloc::Global;
 use std_alloc::room::Vacant;
 
@@ -19,10 +20,10 @@ struct NotHanded {
     fault: GivingFault,
 }
 
-/// Gives a board to the guests of its file. The block of the monitor is taken first, and that of the board is
+/// Gives a board to the guests of its file. The block of the machine is taken first, and that of the board is
 /// kept until it is given, so that a board that is refused has its place again.
-fn hand_over(alloc: Global, board: Box<Board>) -> Result<Box<Monitor>, NotHanded>
-    ensures given { IfOk result (λ m. IsGiven board.value.file board.value.host m.value) }
+fn hand_over(alloc: Global, board: Box<Board>) -> Result<Box<Machine>, NotHanded>
+    ensures given { IfOk result (λ m. BeginsIn (IsGiven board.value.file board.value.host) m.value) }
     ensures kept { IfErr result (λ n. n.board.value ≡ board.value) }
     ensures refused { IfErr result (λ n. IsRefusalOf board.value.file board.value.host n.fault) }
 {
@@ -34,7 +35,8 @@ fn hand_over(alloc: Global, board: Box<Board>) -> Result<Box<Monitor>, NotHanded
     match whole.give(alloc) {
         Ok(monitor) => {
             place.free();
-            Ok(Unboxed::fill(room, monitor).into_box())
+            let machine = Machine::new(monitor);
+            Ok(Unboxed::fill(room, machine).into_box())
         }
         Err(not_given) => {
             room.free();
@@ -58,7 +60,7 @@ pub extern "C" fn pciguest_raw_board_guests(
     ensures none { IfNone handle.old.owner.value (result ≡ 901) }
     ensures in_use { IfSome handle.old.owner.value (λ _. IfSome machine.old.owner.value (λ _. result ≡ 903)) }
     ensures given { result ≡ 0 → IfSome handle.old.owner.value (λ b.
-        IfSome machine.new.owner.value (IsGiven b.file b.host) × IsSome machine.new.owner.value) }
+        IfSome machine.new.owner.value (BeginsIn (IsGiven b.file b.host)) × IsSome machine.new.owner.value) }
     ensures taken { result ≡ 0 → handle.new.owner.value ≡ None }
     ensures faults { IfSome handle.old.owner.value (λ b. IfNone machine.old.owner.value (result ≢ 0 →
         IsNumberOfRefusal b.file b.host result)) }
@@ -73,8 +75,8 @@ pub extern "C" fn pciguest_raw_board_guests(
         return IN_USE;
     }
     match hand_over(alloc, board) {
-        Ok(monitor) => {
-            *machine = Handle::of(monitor);
+        Ok(made) => {
+            *machine = Handle::of(made);
             0
         }
         Err(not_handed) => {

@@ -2,11 +2,13 @@
 ghost use Rattle.std.specs.Prelude.{◌≡◌, ◌≢◌, ◌<◌, ◌≤◌, ◌⊎◌, true, false, Some, IfNone, IfSome, IsSome};
 ghost use Rattle.simulation.specs.Listing.{Breaks};
 ghost use Rattle.simulation.specs.Running.{IsOpened};
+ghost use Rattle.pciguest_c.specs.Machines.{BeginsIn};
 
 use crate::board_handle::BoardHandle;
 use crate::handle::Handle;
 use crate::numbers::{IN_USE, MEMORY, NO_MACHINE, NOT_AT_RESET};
 use driven_board::Board;
+use machine::Machine;
 use std::alloc::Global;
 
 /// Leaves in a handle what our own set-up makes of a board.
@@ -15,7 +17,7 @@ fn set_up_into(alloc: Global, board: &Board, machine: &mut Handle) -> u32
     ensures written { IfNone machine.old.owner.value (board.now.written ≡ true → result ≡ 904) }
     ensures numbers { IfNone machine.old.owner.value (board.now.written ≡ false →
         (result ≡ 0) ⊎ ((199 ≤ result) × (result ≤ 299))) }
-    ensures made { result ≡ 0 → IfSome machine.new.owner.value (IsOpened board.now.file) × IsSome machine.new.owner.value }
+    ensures made { result ≡ 0 → IfSome machine.new.owner.value (BeginsIn (IsOpened board.now.file)) × IsSome machine.new.owner.value }
     ensures placement { 199 < result → result < 299 → Breaks board.now.file result }
     ensures refused { result ≢ 0 → machine.new.owner.value ≡ machine.old.owner.value }
 {
@@ -26,13 +28,16 @@ fn set_up_into(alloc: Global, board: &Board, machine: &mut Handle) -> u32
         return NOT_AT_RESET;
     }
     match board.set_up(alloc) {
-        Ok(monitor) => match Box::new(alloc, monitor) {
-            Ok(monitor) => {
-                *machine = Handle::of(monitor);
-                0
+        Ok(monitor) => {
+            let made = Machine::new(monitor);
+            match Box::new(alloc, made) {
+                Ok(made) => {
+                    *machine = Handle::of(made);
+                    0
+                }
+                Err(_) => MEMORY,
             }
-            Err(_) => MEMORY,
-        },
+        }
         Err(fault) => u32::from(fault.number()),
     }
 }
@@ -53,7 +58,7 @@ pub extern "C" fn pciguest_raw_set_up(
     ensures numbers { IfSome handle.old.owner.value (λ b. IfNone machine.old.owner.value (b.written ≡ false →
         (result ≡ 0) ⊎ ((199 ≤ result) × (result ≤ 299)))) }
     ensures made { result ≡ 0 → IfSome handle.old.owner.value (λ b.
-        IfSome machine.new.owner.value (IsOpened b.file) × IsSome machine.new.owner.value) }
+        IfSome machine.new.owner.value (BeginsIn (IsOpened b.file)) × IsSome machine.new.owner.value) }
     ensures placement { IfSome handle.old.owner.value (λ b. 199 < result → result < 299 → Breaks b.file result) }
     ensures kept { handle.new.owner.value ≡ handle.old.owner.value }
     ensures refused { result ≢ 0 → machine.new.owner.value ≡ machine.old.owner.value }

@@ -10,15 +10,15 @@ use crate::asking::has_guest;
 use crate::function_row::{FunctionRow, function_row};
 use crate::handle::Handle;
 use crate::numbers::{ARGUMENT, NO_MACHINE};
-use monitor::Monitor;
+use machine::Machine;
 use std::alloc::Global;
 
 /// Tells of the function at an index.
-fn function(monitor: &Monitor, index: usize, told: &mut FunctionRow) -> u32
-    ensures { let f = function_nth (board_state monitor.now) monitor.now.guests index in
+fn function(machine: &Machine, index: usize, told: &mut FunctionRow) -> u32
+    ensures { let f = function_nth (board_state machine.now.world) machine.now.world.guests index in
         (result ≡ function_number f) × (told.new ≡ found_left told.old f) }
 {
-    match monitor.function(index) {
+    match machine.function(index) {
         Some(function) => {
             *told = function_row(&function);
             0
@@ -28,16 +28,16 @@ fn function(monitor: &Monitor, index: usize, told: &mut FunctionRow) -> u32
 }
 
 /// Tells of the function in a slot of a guest.
-fn slot_function(monitor: &Monitor, guest: usize, slot: u64, told: &mut FunctionRow) -> u32
-    ensures guest { length monitor.now.guests ≤ guest → (result ≡ 902) × (told.new ≡ told.old) }
-    ensures told { guest < length monitor.now.guests →
-        let r = slot_answer (board_state monitor.now) monitor.now.guests (name_nth monitor.now guest) slot in
+fn slot_function(machine: &Machine, guest: usize, slot: u64, told: &mut FunctionRow) -> u32
+    ensures guest { length machine.now.world.guests ≤ guest → (result ≡ 902) × (told.new ≡ told.old) }
+    ensures told { guest < length machine.now.world.guests →
+        let r = slot_answer (board_state machine.now.world) machine.now.world.guests (name_nth machine.now.world guest) slot in
         (result ≡ number_answered r) × (told.new ≡ row_left told.old r) }
 {
-    if !has_guest(monitor, guest) {
+    if !has_guest(machine, guest) {
         return ARGUMENT;
     }
-    match monitor.slot_function(guest, slot) {
+    match machine.slot_function(guest, slot) {
         Ok(function) => {
             *told = function_row(&function);
             0
@@ -51,13 +51,13 @@ fn slot_function(monitor: &Monitor, guest: usize, slot: u64, told: &mut Function
 pub extern "C" fn pciguest_raw_count(alloc: Global, handle: &mut Handle, count: &mut usize) -> u32
     ensures none { IfNone handle.old.owner.value ((result ≡ 901) × (count.new ≡ count.old)) }
     ensures counted { IfSome handle.old.owner.value (λ m.
-        (result ≡ 0) × (count.new ≡ length (board_state m).functions)) }
+        (result ≡ 0) × (count.new ≡ length (board_state m.world).functions)) }
     ensures kept { handle.new.owner.value ≡ handle.old.owner.value }
 {
     match handle.take(alloc) {
-        Some(monitor) => {
-            *count = monitor.count();
-            *handle = Handle::of(monitor);
+        Some(machine) => {
+            *count = machine.count();
+            *handle = Handle::of(machine);
             0
         }
         None => NO_MACHINE,
@@ -73,14 +73,14 @@ pub extern "C" fn pciguest_raw_function(
     told: &mut FunctionRow,
 ) -> u32
     ensures none { IfNone handle.old.owner.value ((result ≡ 901) × (told.new ≡ told.old)) }
-    ensures told { IfSome handle.old.owner.value (λ m. let f = function_nth (board_state m) m.guests index in
+    ensures told { IfSome handle.old.owner.value (λ m. let f = function_nth (board_state m.world) m.world.guests index in
         (result ≡ function_number f) × (told.new ≡ found_left told.old f)) }
     ensures kept { handle.new.owner.value ≡ handle.old.owner.value }
 {
     match handle.take(alloc) {
-        Some(monitor) => {
-            let number = function(&monitor, index, told);
-            *handle = Handle::of(monitor);
+        Some(machine) => {
+            let number = function(&machine, index, told);
+            *handle = Handle::of(machine);
             number
         }
         None => NO_MACHINE,
@@ -97,17 +97,17 @@ pub extern "C" fn pciguest_raw_slot(
     told: &mut FunctionRow,
 ) -> u32
     ensures none { IfNone handle.old.owner.value ((result ≡ 901) × (told.new ≡ told.old)) }
-    ensures guest { IfSome handle.old.owner.value (λ m. length m.guests ≤ guest →
+    ensures guest { IfSome handle.old.owner.value (λ m. length m.world.guests ≤ guest →
         (result ≡ 902) × (told.new ≡ told.old)) }
-    ensures told { IfSome handle.old.owner.value (λ m. guest < length m.guests →
-        let r = slot_answer (board_state m) m.guests (name_nth m guest) slot in
+    ensures told { IfSome handle.old.owner.value (λ m. guest < length m.world.guests →
+        let r = slot_answer (board_state m.world) m.world.guests (name_nth m.world guest) slot in
         (result ≡ number_answered r) × (told.new ≡ row_left told.old r)) }
     ensures kept { handle.new.owner.value ≡ handle.old.owner.value }
 {
     match handle.take(alloc) {
-        Some(monitor) => {
-            let number = slot_function(&monitor, guest, slot, told);
-            *handle = Handle::of(monitor);
+        Some(machine) => {
+            let number = slot_function(&machine, guest, slot, told);
+            *handle = Handle::of(machine);
             number
         }
         None => NO_MACHINE,

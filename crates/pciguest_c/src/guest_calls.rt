@@ -25,18 +25,18 @@ pub extern "C" fn pciguest_raw_read(
     ensures none { IfNone handle.old.owner.value ((result ≡ 901) × (value.new ≡ value.old)) }
     ensures space { IfSome handle.old.owner.value (λ _. target_told space slot place ≡ None →
         (result ≡ 902) × (value.new ≡ value.old)) }
-    ensures guest { IfSome handle.old.owner.value (λ m. length m.guests ≤ guest →
+    ensures guest { IfSome handle.old.owner.value (λ m. length m.world.guests ≤ guest →
         (result ≡ 902) × (value.new ≡ value.old)) }
-    ensures read { IfSome handle.old.owner.value (λ m. guest < length m.guests →
+    ensures read { IfSome handle.old.owner.value (λ m. guest < length m.world.guests →
         (t : Target) → target_told space slot place ≡ Some t →
-        let r = reply_asked m guest (access (record { target = t; width = width; op = reads })) in
+        let r = reply_asked m.world guest (access (record { target = t; width = width; op = reads })) in
         (result ≡ number_told r) × (value.new ≡ value_told value.old r)) }
     ensures kept { handle.new.owner.value ≡ handle.old.owner.value }
 {
     match handle.take(alloc) {
-        Some(mut monitor) => {
+        Some(mut machine) => {
             let number = read(
-                &mut monitor,
+                &mut machine,
                 guest,
                 space,
                 slot,
@@ -44,7 +44,7 @@ pub extern "C" fn pciguest_raw_read(
                 u64::from(width),
                 value,
             );
-            *handle = Handle::of(monitor);
+            *handle = Handle::of(machine);
             number
         }
         None => NO_MACHINE,
@@ -65,17 +65,17 @@ pub extern "C" fn pciguest_raw_write(
 ) -> u32
     ensures none { IfNone handle.old.owner.value (result ≡ 901) }
     ensures space { IfSome handle.old.owner.value (λ _. target_told space slot place ≡ None → result ≡ 902) }
-    ensures guest { IfSome handle.old.owner.value (λ m. length m.guests ≤ guest → result ≡ 902) }
-    ensures written { IfSome handle.old.owner.value (λ m. guest < length m.guests →
+    ensures guest { IfSome handle.old.owner.value (λ m. length m.world.guests ≤ guest → result ≡ 902) }
+    ensures written { IfSome handle.old.owner.value (λ m. guest < length m.world.guests →
         (t : Target) → target_told space slot place ≡ Some t →
         let e = access (record { target = t; width = width; op = writes value }) in
-        (result ≡ number_told (reply_asked m guest e)) × (handle.new.owner.value ≡ Some (after_asked m guest e))) }
+        (result ≡ number_told (reply_asked m.world guest e)) × (handle.new.owner.value ≡ Some (after_asked m guest e))) }
     ensures refused { result ≢ 0 → handle.new.owner.value ≡ handle.old.owner.value }
 {
     match handle.take(alloc) {
-        Some(mut monitor) => {
+        Some(mut machine) => {
             let number = write(
-                &mut monitor,
+                &mut machine,
                 guest,
                 space,
                 slot,
@@ -83,7 +83,7 @@ pub extern "C" fn pciguest_raw_write(
                 u64::from(width),
                 value,
             );
-            *handle = Handle::of(monitor);
+            *handle = Handle::of(machine);
             number
         }
         None => NO_MACHINE,
@@ -105,18 +105,18 @@ pub extern "C" fn pciguest_raw_raise(
     ensures none { IfNone handle.old.owner.value ((result ≡ 901) × (handle.new.owner.value ≡ None)) }
     ensures part { IfSome handle.old.owner.value (λ m. part_told part ≡ None →
         (result ≡ 902) × (handle.new.owner.value ≡ Some m)) }
-    ensures guest { IfSome handle.old.owner.value (λ m. length m.guests ≤ guest →
+    ensures guest { IfSome handle.old.owner.value (λ m. length m.world.guests ≤ guest →
         (result ≡ 902) × (handle.new.owner.value ≡ Some m)) }
-    ensures raised { IfSome handle.old.owner.value (λ m. guest < length m.guests →
+    ensures raised { IfSome handle.old.owner.value (λ m. guest < length m.world.guests →
         (p : RaisePlace) → part_told part ≡ Some p →
         let e = raises (record { slot = slot; part = p; offset = offset; mask = mask }) in
-        (result ≡ number_told (reply_asked m guest e)) × (handle.new.owner.value ≡ Some (after_asked m guest e))) }
+        (result ≡ number_told (reply_asked m.world guest e)) × (handle.new.owner.value ≡ Some (after_asked m guest e))) }
     ensures refused { result ≢ 0 → handle.new.owner.value ≡ handle.old.owner.value }
 {
     match handle.take(alloc) {
-        Some(mut monitor) => {
-            let number = raise(&mut monitor, guest, slot, part, offset, mask);
-            *handle = Handle::of(monitor);
+        Some(mut machine) => {
+            let number = raise(&mut machine, guest, slot, part, offset, mask);
+            *handle = Handle::of(machine);
             number
         }
         None => NO_MACHINE,
@@ -132,14 +132,14 @@ pub extern "C" fn pciguest_raw_guest(
     guest: &mut usize,
 ) -> u32
     ensures none { IfNone handle.old.owner.value ((result ≡ 901) × (guest.new ≡ guest.old)) }
-    ensures named { IfSome handle.old.owner.value (λ m. let i = position (λ n. bytes_eq n name.now) (names_now m) in
+    ensures named { IfSome handle.old.owner.value (λ m. let i = position (λ n. bytes_eq n name.now) (names_now m.world) in
         (result ≡ index_told i) × (guest.new ≡ unwrap_or i guest.old)) }
     ensures kept { handle.new.owner.value ≡ handle.old.owner.value }
 {
     match handle.take(alloc) {
-        Some(monitor) => {
-            let number = guest_named(&monitor, name, guest);
-            *handle = Handle::of(monitor);
+        Some(machine) => {
+            let number = guest_named(&machine, name, guest);
+            *handle = Handle::of(machine);
             number
         }
         None => NO_MACHINE,

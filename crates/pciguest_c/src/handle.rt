@@ -3,11 +3,11 @@ ghost use Rattle.std.specs.Prelude.{◌≡◌, Some, None, IfSome, IfNone, is_so
 
 use crate::owner::Owner;
 use crate::unboxed::Unboxed;
-use monitor::Monitor;
+use machine::Machine;
 use std::alloc::Global;
 use std::mem::replace;
 
-/// A monitor, or none. All bytes 0 are none.
+/// A machine, or none. All bytes 0 are none.
 #[repr(C)]
 #[derive(Drop)]
 pub struct Handle {
@@ -17,7 +17,7 @@ pub struct Handle {
 }
 
 impl Handle {
-    /// No monitor.
+    /// No machine.
     fn none(alloc: Global) -> Handle
         ensures { result.owner.value ≡ None }
     {
@@ -27,27 +27,27 @@ impl Handle {
         }
     }
 
-    /// A monitor.
-    pub fn of(monitor: Box<Monitor>) -> Handle
-        ensures { result.owner.value ≡ Some monitor.value }
+    /// A machine.
+    pub fn of(machine: Box<Machine>) -> Handle
+        ensures { result.owner.value ≡ Some machine.value }
     {
         Handle {
             live: true,
-            owner: Owner::of(Unboxed::of(monitor)),
+            owner: Owner::of(Unboxed::of(machine)),
         }
     }
 
-    /// Whether there is a monitor.
+    /// Whether there is a machine.
     pub fn is_live(&self) -> bool
         ensures { result ≡ is_some self.now.owner.value }
     {
         self.live
     }
 
-    /// Takes the monitor out, and leaves none.
-    pub fn take(&mut self, alloc: Global) -> Option<Box<Monitor>>
+    /// Takes the machine out, and leaves none.
+    pub fn take(&mut self, alloc: Global) -> Option<Box<Machine>>
         ensures left { self.new.owner.value ≡ None }
-        ensures monitor { IfSome result (λ b. self.old.owner.value ≡ Some b.value) }
+        ensures machine { IfSome result (λ b. self.old.owner.value ≡ Some b.value) }
         ensures nothing { IfNone result (self.old.owner.value ≡ None) }
     {
         let old = replace(self, Handle::none(alloc));

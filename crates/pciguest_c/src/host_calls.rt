@@ -2,7 +2,10 @@
 ghost use Rattle.std.specs.Prelude.{◌≡◌, ◌≢◌, ◌<◌, ◌≤◌, None, Some, IfNone, IfSome, length};
 ghost use Rattle.model_guests.specs.Grammar.{HostTarget};
 ghost use Rattle.model_guests.specs.Lines.{host_move};
-ghost use Rattle.model_guests.specs.WorldNow.{move_reply, host_reply, after_meaning};
+ghost use Rattle.model_guests.specs.WorldNow.{move_reply, host_reply};
+ghost use Rattle.model_devices.specs.Calls.{asks};
+ghost use Rattle.model_giving.specs.Actions.{calls};
+ghost use Rattle.model_giving.specs.Changes.{after_on_machine};
 ghost use Rattle.monitor.specs.Moves.{move_nth};
 ghost use Rattle.pciguest_c.specs.Told.{at_bus, number_told, value_told, host_target_told};
 
@@ -30,15 +33,15 @@ pub extern "C" fn pciguest_raw_host_read(
         (result ≡ 902) × (value.new ≡ value.old)) }
     ensures read { IfSome handle.old.owner.value (λ m.
         (t : HostTarget) → host_target_told space (at_bus bus device function) place ≡ Some t →
-        let r = host_reply m (record { target = t; width = width }) in
+        let r = host_reply m.world (record { target = t; width = width }) in
         (result ≡ number_told r) × (value.new ≡ value_told value.old r)) }
     ensures kept { handle.new.owner.value ≡ handle.old.owner.value }
 {
     match handle.take(alloc) {
-        Some(mut monitor) => {
+        Some(mut machine) => {
             let width = u64::from(width);
             let number = host_read(
-                &mut monitor,
+                &mut machine,
                 space,
                 bus,
                 device,
@@ -47,7 +50,7 @@ pub extern "C" fn pciguest_raw_host_read(
                 width,
                 value,
             );
-            *handle = Handle::of(monitor);
+            *handle = Handle::of(machine);
             number
         }
         None => NO_MACHINE,
@@ -65,18 +68,18 @@ pub extern "C" fn pciguest_raw_move(
     target: u64,
 ) -> u32
     ensures none { IfNone handle.old.owner.value (result ≡ 901) }
-    ensures from { IfSome handle.old.owner.value (λ m. length m.guests ≤ from → result ≡ 902) }
-    ensures to { IfSome handle.old.owner.value (λ m. length m.guests ≤ to → result ≡ 902) }
-    ensures moved { IfSome handle.old.owner.value (λ m. from < length m.guests → to < length m.guests →
-        let v = move_nth m from slot to target in
-        (result ≡ number_told (move_reply m.guests v))
-        × (handle.new.owner.value ≡ Some (after_meaning m (host_move v)))) }
+    ensures from { IfSome handle.old.owner.value (λ m. length m.world.guests ≤ from → result ≡ 902) }
+    ensures to { IfSome handle.old.owner.value (λ m. length m.world.guests ≤ to → result ≡ 902) }
+    ensures moved { IfSome handle.old.owner.value (λ m. from < length m.world.guests → to < length m.world.guests →
+        let v = move_nth m.world from slot to target in
+        (result ≡ number_told (move_reply m.world.guests v))
+        × (handle.new.owner.value ≡ Some (after_on_machine m (calls (asks (host_move v)))))) }
     ensures refused { result ≢ 0 → handle.new.owner.value ≡ handle.old.owner.value }
 {
     match handle.take(alloc) {
-        Some(mut monitor) => {
-            let number = move_function(&mut monitor, from, slot, to, target);
-            *handle = Handle::of(monitor);
+        Some(mut machine) => {
+            let number = move_function(&mut machine, from, slot, to, target);
+            *handle = Handle::of(machine);
             number
         }
         None => NO_MACHINE,

@@ -1,8 +1,11 @@
-//! What the host asks of a monitor.
+//! What the host asks of a machine.
 ghost use Rattle.std.specs.Prelude.{◌≡◌, ◌≢◌, ◌<◌, ◌≤◌, None, Some, length, option_map};
 ghost use Rattle.model_guests.specs.Grammar.{HostTarget};
 ghost use Rattle.model_guests.specs.Lines.{host_move};
-ghost use Rattle.model_guests.specs.WorldNow.{move_reply, host_reply, after_meaning};
+ghost use Rattle.model_guests.specs.WorldNow.{move_reply, host_reply};
+ghost use Rattle.model_devices.specs.Calls.{asks};
+ghost use Rattle.model_giving.specs.Actions.{calls};
+ghost use Rattle.model_giving.specs.Changes.{after_on_machine};
 ghost use Rattle.accesses.specs.Accesses.{host_target_of};
 ghost use Rattle.monitor.specs.Moves.{move_nth};
 ghost use Rattle.pciguest_c.specs.Told.{at_bus, number_told, value_told, host_target_told};
@@ -10,7 +13,7 @@ ghost use Rattle.pciguest_c.specs.Told.{at_bus, number_told, value_told, host_ta
 use crate::asking::has_guest;
 use crate::numbers::{ARGUMENT, number_of};
 use accesses::{Bdf, HostAccess, HostAt, Reply};
-use monitor::Monitor;
+use machine::Machine;
 
 /// Where an access of the host goes, if there is such a space and such a physical number.
 pub fn host_at(space: u32, bus: u8, device: u8, function: u8, place: u64) -> Option<HostAt>
@@ -36,7 +39,7 @@ pub fn host_at(space: u32, bus: u8, device: u8, function: u8, place: u64) -> Opt
 
 /// Reads as the host.
 pub fn host_read(
-    monitor: &mut Monitor,
+    machine: &mut Machine,
     space: u32,
     bus: u8,
     device: u8,
@@ -48,14 +51,14 @@ pub fn host_read(
     ensures place { host_target_told space (at_bus bus device function) place ≡ None →
         (result ≡ 902) × (value.new ≡ value.old) }
     ensures read { (t : HostTarget) → host_target_told space (at_bus bus device function) place ≡ Some t →
-        let r = host_reply monitor.old (record { target = t; width = width }) in
+        let r = host_reply machine.old.world (record { target = t; width = width }) in
         (result ≡ number_told r) × (value.new ≡ value_told value.old r) }
-    ensures kept { monitor.new ≡ monitor.old }
+    ensures kept { machine.new ≡ machine.old }
 {
     let Some(at) = host_at(space, bus, device, function, place) else {
         return ARGUMENT;
     };
-    let reply = monitor.host_read(HostAccess { at, width });
+    let reply = machine.host_read(HostAccess { at, width });
     if let Reply::Value(read, _) = reply {
         *value = read;
     }
@@ -63,20 +66,20 @@ pub fn host_read(
 }
 
 /// Moves the function in a slot of a guest to a slot of another, or of the same.
-pub fn move_function(monitor: &mut Monitor, from: usize, slot: u64, to: usize, target: u64) -> u32
-    ensures from { length monitor.old.guests ≤ from → result ≡ 902 }
-    ensures to { length monitor.old.guests ≤ to → result ≡ 902 }
-    ensures moved { from < length monitor.old.guests → to < length monitor.old.guests →
-        let m = move_nth monitor.old from slot to target in
-        (result ≡ number_told (move_reply monitor.old.guests m))
-        × (monitor.new ≡ after_meaning monitor.old (host_move m)) }
-    ensures refused { result ≢ 0 → monitor.new ≡ monitor.old }
+pub fn move_function(machine: &mut Machine, from: usize, slot: u64, to: usize, target: u64) -> u32
+    ensures from { length machine.old.world.guests ≤ from → result ≡ 902 }
+    ensures to { length machine.old.world.guests ≤ to → result ≡ 902 }
+    ensures moved { from < length machine.old.world.guests → to < length machine.old.world.guests →
+        let m = move_nth machine.old.world from slot to target in
+        (result ≡ number_told (move_reply machine.old.world.guests m))
+        × (machine.new ≡ after_on_machine machine.old (calls (asks (host_move m)))) }
+    ensures refused { result ≢ 0 → machine.new ≡ machine.old }
 {
-    if !has_guest(monitor, from) {
+    if !has_guest(machine, from) {
         return ARGUMENT;
     }
-    if !has_guest(monitor, to) {
+    if !has_guest(machine, to) {
         return ARGUMENT;
     }
-    number_of(monitor.move_function(from, slot, to, target))
+    number_of(machine.move_function(from, slot, to, target))
 }

@@ -1,4 +1,4 @@
-//! The library for C: a monitor of a board file, or its board at reset, behind a handle, and what each is
+//! The library for C: a machine of a board file, or its board at reset, behind a handle, and what each is
 //! asked.
 #![tactic(auto)]
 

@@ -6,13 +6,13 @@ ghost use Rattle.pciguest_c.specs.Told.{number_told};
 
 use accesses::Reply;
 
-/// The handle holds no monitor, or no board.
+/// The handle holds no machine, or no board.
 pub const NO_MACHINE: u32 = 901;
 
 /// An argument that the call does not take.
 pub const ARGUMENT: u32 = 902;
 
-/// The handle holds a monitor, or a board, already.
+/// The handle holds a machine, or a board, already.
 pub const IN_USE: u32 = 903;
 
 /// A write was done on the board since reset.

@@ -1,5 +1,6 @@
-//! Where the regions of guests' functions stand, and what guests' accesses hit.
-ghost use Rattle.std.specs.Prelude.{◌≡◌, ◌<◌, ◌≤◌, None, Some, IfNone, IfSome, length, option_map};
+//! Where the regions of guests' functions stand, how often they may have come to stand elsewhere, and what guests'
+//! accesses hit.
+ghost use Rattle.std.specs.Prelude.{◌≡◌, ◌<◌, ◌≤◌, None, Some, IfNone, IfSome, length, option_map, slice_get};
 ghost use Rattle.model_guests.specs.Accesses.{Target};
 ghost use Rattle.monitor.specs.Queries.{region_named, hit_named};
 ghost use Rattle.pciguest_c.specs.Told.{target_told};
@@ -9,7 +10,8 @@ use crate::asking::{at_of, has_guest};
 use crate::handle::Handle;
 use crate::numbers::{ARGUMENT, NO_MACHINE};
 use accesses::Place;
-use monitor::{Hit, Monitor, RegionNow, Space};
+use machine::Machine;
+use monitor::{Hit, RegionNow, Space};
 use std::alloc::Global;
 
 /// A region of a guest's function, as C is told of it: `space` is 1 for ports and 2 for memory.
@@ -74,15 +76,15 @@ fn hit_for(hit: Option<Hit>) -> HitTold
 }
 
 /// Where a region of a guest's function stands.
-fn region(monitor: &Monitor, guest: usize, slot: u64, bar: u64, told: &mut RegionTold) -> u32
-    ensures guest { length monitor.now.guests ≤ guest → (result ≡ 902) × (told.new ≡ told.old) }
-    ensures told { guest < length monitor.now.guests → let r = region_asked monitor.now guest slot bar in
+fn region(machine: &Machine, guest: usize, slot: u64, bar: u64, told: &mut RegionTold) -> u32
+    ensures guest { length machine.now.world.guests ≤ guest → (result ≡ 902) × (told.new ≡ told.old) }
+    ensures told { guest < length machine.now.world.guests → let r = region_asked machine.now.world guest slot bar in
         (result ≡ number_answered r) × (told.new ≡ region_left told.old r) }
 {
-    if !has_guest(monitor, guest) {
+    if !has_guest(machine, guest) {
         return ARGUMENT;
     }
-    match monitor.region(guest, slot, bar) {
+    match machine.region(guest, slot, bar) {
         Ok(region) => {
             *told = region_for(region);
             0
@@ -91,9 +93,22 @@ fn region(monitor: &Monitor, guest: usize, slot: u64, bar: u64, told: &mut Regio
     }
 }
 
+/// The count of a guest.
+fn changed(machine: &Machine, guest: usize, count: &mut u64) -> u32
+    ensures guest { length machine.now.world.guests ≤ guest → (result ≡ 902) × (count.new ≡ count.old) }
+    ensures told { guest < length machine.now.world.guests →
+        (result ≡ 0) × (slice_get machine.now.counts guest ≡ Some count.new) }
+{
+    if !has_guest(machine, guest) {
+        return ARGUMENT;
+    }
+    *count = machine.changed(guest);
+    0
+}
+
 /// What an access of a guest hits.
 fn locate(
-    monitor: &Monitor,
+    machine: &Machine,
     guest: usize,
     space: u32,
     slot: u64,
@@ -101,18 +116,18 @@ fn locate(
     told: &mut HitTold,
 ) -> u32
     ensures space { target_told space slot place ≡ None → (result ≡ 902) × (told.new ≡ told.old) }
-    ensures guest { length monitor.now.guests ≤ guest → (result ≡ 902) × (told.new ≡ told.old) }
-    ensures told { guest < length monitor.now.guests → (t : Target) → target_told space slot place ≡ Some t →
-        let r = hit_asked monitor.now guest t in
+    ensures guest { length machine.now.world.guests ≤ guest → (result ≡ 902) × (told.new ≡ told.old) }
+    ensures told { guest < length machine.now.world.guests → (t : Target) → target_told space slot place ≡ Some t →
+        let r = hit_asked machine.now.world guest t in
         (result ≡ number_answered r) × (told.new ≡ hit_left told.old r) }
 {
     let Some(at) = at_of(space, slot, place) else {
         return ARGUMENT;
     };
-    if !has_guest(monitor, guest) {
+    if !has_guest(machine, guest) {
         return ARGUMENT;
     }
-    match monitor.locate(guest, at) {
+    match machine.locate(guest, at) {
         Ok(hit) => {
             *told = hit_for(hit);
             0
@@ -132,16 +147,41 @@ pub extern "C" fn pciguest_raw_region(
     told: &mut RegionTold,
 ) -> u32
     ensures none { IfNone handle.old.owner.value ((result ≡ 901) × (told.new ≡ told.old)) }
-    ensures guest { IfSome handle.old.owner.value (λ m. length m.guests ≤ guest →
+    ensures guest { IfSome handle.old.owner.value (λ m. length m.world.guests ≤ guest →
         (result ≡ 902) × (told.new ≡ told.old)) }
-    ensures told { IfSome handle.old.owner.value (λ m. guest < length m.guests → let r = region_asked m guest slot bar in
+    ensures told { IfSome handle.old.owner.value (λ m. guest < length m.world.guests → let r = region_asked m.world guest slot bar in
         (result ≡ number_answered r) × (told.new ≡ region_left told.old r)) }
     ensures kept { handle.new.owner.value ≡ handle.old.owner.value }
 {
     match handle.take(alloc) {
-        Some(monitor) => {
-            let number = region(&monitor, guest, slot, u64::from(bar), told);
-            *handle = Handle::of(monitor);
+        Some(machine) => {
+            let number = region(&machine, guest, slot, u64::from(bar), told);
+            *handle = Handle::of(machine);
+            number
+        }
+        None => NO_MACHINE,
+    }
+}
+
+/// The count of a guest, which grows where an answer of `pciguest_raw_region` for this guest may have changed.
+#[unsafe(no_mangle)]
+pub extern "C" fn pciguest_raw_changed(
+    alloc: Global,
+    handle: &mut Handle,
+    guest: usize,
+    count: &mut u64,
+) -> u32
+    ensures none { IfNone handle.old.owner.value ((result ≡ 901) × (count.new ≡ count.old)) }
+    ensures guest { IfSome handle.old.owner.value (λ m. length m.world.guests ≤ guest →
+        (result ≡ 902) × (count.new ≡ count.old)) }
+    ensures told { IfSome handle.old.owner.value (λ m. guest < length m.world.guests →
+        (result ≡ 0) × (slice_get m.counts guest ≡ Some count.new)) }
+    ensures kept { handle.new.owner.value ≡ handle.old.owner.value }
+{
+    match handle.take(alloc) {
+        Some(machine) => {
+            let number = changed(&machine, guest, count);
+            *handle = Handle::of(machine);
             number
         }
         None => NO_MACHINE,
@@ -162,17 +202,17 @@ pub extern "C" fn pciguest_raw_locate(
     ensures none { IfNone handle.old.owner.value ((result ≡ 901) × (told.new ≡ told.old)) }
     ensures space { IfSome handle.old.owner.value (λ _. target_told space slot place ≡ None →
         (result ≡ 902) × (told.new ≡ told.old)) }
-    ensures guest { IfSome handle.old.owner.value (λ m. length m.guests ≤ guest →
+    ensures guest { IfSome handle.old.owner.value (λ m. length m.world.guests ≤ guest →
         (result ≡ 902) × (told.new ≡ told.old)) }
-    ensures told { IfSome handle.old.owner.value (λ m. guest < length m.guests →
-        (t : Target) → target_told space slot place ≡ Some t → let r = hit_asked m guest t in
+    ensures told { IfSome handle.old.owner.value (λ m. guest < length m.world.guests →
+        (t : Target) → target_told space slot place ≡ Some t → let r = hit_asked m.world guest t in
         (result ≡ number_answered r) × (told.new ≡ hit_left told.old r)) }
     ensures kept { handle.new.owner.value ≡ handle.old.owner.value }
 {
     match handle.take(alloc) {
-        Some(monitor) => {
-            let number = locate(&monitor, guest, space, slot, place, told);
-            *handle = Handle::of(monitor);
+        Some(machine) => {
+            let number = locate(&machine, guest, space, slot, place, told);
+            *handle = Handle::of(machine);
             number
         }
         None => NO_MACHINE,

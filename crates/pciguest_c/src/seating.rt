@@ -7,42 +7,43 @@ use crate::asking::has_guest;
 use crate::handle::Handle;
 use crate::numbers::{ARGUMENT, NO_MACHINE, number_of};
 use board_file::path_text::path_of;
-use monitor::{Monitor, Withheld};
+use machine::Machine;
+use monitor::Withheld;
 use std::alloc::Global;
 
 /// Gives the function at a path, told as a text, to a guest.
-fn give(monitor: &mut Monitor, path: &[u8], guest: usize, slot: u64) -> u32
-    ensures guest { length monitor.old.guests ≤ guest → (result ≡ 902) × (monitor.new ≡ monitor.old) }
-    ensures given { guest < length monitor.old.guests →
-        (result ≡ number_told (gift_reply monitor.old path.now guest slot))
-        × (monitor.new ≡ after_gift monitor.old path.now guest slot) }
-    ensures refused { result ≢ 0 → monitor.new ≡ monitor.old }
+fn give(machine: &mut Machine, path: &[u8], guest: usize, slot: u64) -> u32
+    ensures guest { length machine.old.world.guests ≤ guest → (result ≡ 902) × (machine.new ≡ machine.old) }
+    ensures given { guest < length machine.old.world.guests →
+        (result ≡ number_told (gift_reply machine.old.world path.now guest slot))
+        × (machine.new ≡ after_gift machine.old path.now guest slot) }
+    ensures refused { result ≢ 0 → machine.new ≡ machine.old }
 {
-    if !has_guest(monitor, guest) {
+    if !has_guest(machine, guest) {
         return ARGUMENT;
     }
     // No endpoint stands at a text that is no path.
     let Some(path) = path_of(path) else {
         return u32::from(Withheld::NoEndpoint.number());
     };
-    match monitor.give(&path, guest, slot) {
+    match machine.give(&path, guest, slot) {
         Ok(()) => 0,
         Err(why) => u32::from(why.number()),
     }
 }
 
 /// Takes the function in a slot from its guest.
-fn take(monitor: &mut Monitor, guest: usize, slot: u64) -> u32
-    ensures guest { length monitor.old.guests ≤ guest → (result ≡ 902) × (monitor.new ≡ monitor.old) }
-    ensures taken { guest < length monitor.old.guests →
-        (result ≡ number_told (taking_reply monitor.old guest slot))
-        × (monitor.new ≡ after_taking monitor.old guest slot) }
-    ensures refused { result ≢ 0 → monitor.new ≡ monitor.old }
+fn take(machine: &mut Machine, guest: usize, slot: u64) -> u32
+    ensures guest { length machine.old.world.guests ≤ guest → (result ≡ 902) × (machine.new ≡ machine.old) }
+    ensures taken { guest < length machine.old.world.guests →
+        (result ≡ number_told (taking_reply machine.old.world guest slot))
+        × (machine.new ≡ after_taking machine.old guest slot) }
+    ensures refused { result ≢ 0 → machine.new ≡ machine.old }
 {
-    if !has_guest(monitor, guest) {
+    if !has_guest(machine, guest) {
         return ARGUMENT;
     }
-    number_of(monitor.take(guest, slot))
+    number_of(machine.take(guest, slot))
 }
 
 /// Gives the function at a path, which no guest has, to a guest, into an empty slot: there and on the board it is
@@ -56,17 +57,17 @@ pub extern "C" fn pciguest_raw_give(
     slot: u64,
 ) -> u32
     ensures none { IfNone handle.old.owner.value ((result ≡ 901) × (handle.new.owner.value ≡ None)) }
-    ensures guest { IfSome handle.old.owner.value (λ m. length m.guests ≤ guest →
+    ensures guest { IfSome handle.old.owner.value (λ m. length m.world.guests ≤ guest →
         (result ≡ 902) × (handle.new.owner.value ≡ Some m)) }
-    ensures given { IfSome handle.old.owner.value (λ m. guest < length m.guests →
-        (result ≡ number_told (gift_reply m path.now guest slot))
+    ensures given { IfSome handle.old.owner.value (λ m. guest < length m.world.guests →
+        (result ≡ number_told (gift_reply m.world path.now guest slot))
         × (handle.new.owner.value ≡ Some (after_gift m path.now guest slot))) }
     ensures refused { result ≢ 0 → handle.new.owner.value ≡ handle.old.owner.value }
 {
     match handle.take(alloc) {
-        Some(mut monitor) => {
-            let number = give(&mut monitor, path, guest, slot);
-            *handle = Handle::of(monitor);
+        Some(mut machine) => {
+            let number = give(&mut machine, path, guest, slot);
+            *handle = Handle::of(machine);
             number
         }
         None => NO_MACHINE,
@@ -82,17 +83,17 @@ pub extern "C" fn pciguest_raw_take(
     slot: u64,
 ) -> u32
     ensures none { IfNone handle.old.owner.value ((result ≡ 901) × (handle.new.owner.value ≡ None)) }
-    ensures guest { IfSome handle.old.owner.value (λ m. length m.guests ≤ guest →
+    ensures guest { IfSome handle.old.owner.value (λ m. length m.world.guests ≤ guest →
         (result ≡ 902) × (handle.new.owner.value ≡ Some m)) }
-    ensures taken { IfSome handle.old.owner.value (λ m. guest < length m.guests →
-        (result ≡ number_told (taking_reply m guest slot))
+    ensures taken { IfSome handle.old.owner.value (λ m. guest < length m.world.guests →
+        (result ≡ number_told (taking_reply m.world guest slot))
         × (handle.new.owner.value ≡ Some (after_taking m guest slot))) }
     ensures refused { result ≢ 0 → handle.new.owner.value ≡ handle.old.owner.value }
 {
     match handle.take(alloc) {
-        Some(mut monitor) => {
-            let number = take(&mut monitor, guest, slot);
-            *handle = Handle::of(monitor);
+        Some(mut machine) => {
+            let number = take(&mut machine, guest, slot);
+            *handle = Handle::of(machine);
             number
         }
         None => NO_MACHINE,

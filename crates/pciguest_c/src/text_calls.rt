@@ -6,7 +6,8 @@ ghost use Rattle.model_set_up.specs.SetUpWrites.{set_up_rules};
 ghost use Rattle.model_guests.specs.Text.{Text};
 ghost use Rattle.model_guests.specs.World.{World};
 ghost use Rattle.model_guests.specs.Report.{report};
-ghost use Rattle.model_guests.specs.WorldNow.{line_output, after_line};
+ghost use Rattle.model_guests.specs.WorldNow.{line_output};
+ghost use Rattle.model_giving.specs.Changes.{after_line_on_machine};
 ghost use Rattle.simulation.specs.Listing.{Declares, Refuses, Breaks};
 ghost use Rattle.pciguest_c.specs.Checks.{IsCheckOf};
 ghost use Rattle.pciguest_c.specs.NumberWords.{words_of_number};
@@ -15,7 +16,6 @@ use crate::handle::Handle;
 use crate::number_words::words_of;
 use crate::numbers::{ARGUMENT, NO_MACHINE};
 use crate::text::{check_of, report_of};
-use script::run_line;
 use std::alloc::Global;
 
 /// The bytes of the longest line that answers a line.
@@ -57,9 +57,9 @@ pub extern "C" fn pciguest_raw_run_line(
     ensures none { IfNone handle.old.owner.value (result ≡ 901) }
     ensures room { IfSome handle.old.owner.value (λ _. length out.old < 48 → result ≡ 902) }
     ensures ran { IfSome handle.old.owner.value (λ m. 48 ≤ length out.old →
-        (result ≡ 0) × (handle.new.owner.value ≡ Some (after_line m line.now))) }
+        (result ≡ 0) × (handle.new.owner.value ≡ Some (after_line_on_machine m line.now))) }
     ensures text { IfSome handle.old.owner.value (λ m. 48 ≤ length out.old →
-        let text = line_output m line.now in
+        let text = line_output m.world line.now in
         (out.new ≡ text ++ drop (length text) out.old) × (written.new ≡ length text)) }
     ensures refused { result ≢ 0 → handle.new.owner.value ≡ handle.old.owner.value }
     ensures unwritten { result ≢ 0 → (out.new ≡ out.old) × (written.new ≡ written.old) }
@@ -72,9 +72,9 @@ pub extern "C" fn pciguest_raw_run_line(
         };
     }
     match handle.take(alloc) {
-        Some(mut monitor) => {
-            let reply = run_line(&mut monitor, line);
-            *handle = Handle::of(monitor);
+        Some(mut machine) => {
+            let reply = machine.run_line(line);
+            *handle = Handle::of(machine);
             put(out, reply.as_slice());
             *written = reply.len();
             0

@@ -1,6 +1,6 @@
 -- What the parts of a run over a board file say, put together.
-use Rattle.std.proofs.Common.{◌≡◌, Result, Ok, Err, refl, sym, ap, ap₂, ◌∙◌, subst}
-use Rattle.std.specs.Prelude.{List, IfErr, IsErrOf}
+use Rattle.std.proofs.Common.{◌≡◌, Result, Ok, Err, refl, sym, ap, ap₂, ◌∙◌}
+use Rattle.std.specs.Prelude.{List, IsErrOf}
 use Rattle.std.specs.Result.{IsErrAnd}
 use Rattle.model_board.specs.Board.{Board}
 use Rattle.model_registers.specs.Apertures.{Apertures}
@@ -18,17 +18,6 @@ use Rattle.simulation.specs.declared.fault.Fault.{Fault}
 use Rattle.simulation.specs.declared.fault.Fault.TheVariants.{SetUp, Read, Write}
 use Rattle.line_runs.specs.Faults.{read_failures_of, write_failures_of}
 use Rattle.simulation.specs.Faults.{of_run, read_faults, write_faults}
-use Rattle.simulation.proofs.Listed.{by_error}
-
--- a fact of the fault of a run
-by_cases : (P : Fault → Type 0) (e : RunFault) → P Read → P Write → (e ≡ run.Memory → P (SetUp set_up.Memory)) → P (of_run e)
-by_cases P run.Read read write memory = read
-by_cases P run.Write read write memory = write
-by_cases P run.Memory read write memory = memory refl
-
-pub by_run : {T : Type 0} (P : Fault → Type 0) (r : Result T Fault) (e : RunFault) → IsErrAnd r (λ f. f ≡ of_run e)
-    → P Read → P Write → (e ≡ run.Memory → P (SetUp set_up.Memory)) → IfErr r P
-by_run P r e given read write memory = by_error P r given (λ f same. subst P (sym same) (by_cases P e read write memory))
 
 read_of_run : (r : RunFault) (f : Fault) → f ≡ of_run r → f ≡ Read → r ≡ run.Read
 read_of_run run.Read f same is = refl

@@ -116,6 +116,7 @@ PARAMETERS: Dict[str, Tuple[Any, ...]] = {
     "device_read": (_MACHINE, c_size_t, c_uint64, c_uint32, c_uint64, POINTER(c_uint32)),
     "device_write": (_MACHINE, c_size_t, c_uint64, c_uint32, c_uint64, c_uint8),
     "region": (_MACHINE, c_size_t, c_uint64, c_uint32, POINTER(RegionTold)),
+    "changed": (_MACHINE, c_size_t, POINTER(c_uint64)),
     "locate": (_MACHINE, c_size_t, c_uint32, c_uint64, c_uint64, POINTER(HitTold)),
     "count": (_MACHINE, POINTER(c_size_t)),
     "function": (_MACHINE, c_size_t, POINTER(FunctionTold)),

@@ -2,7 +2,7 @@
 
 from __future__ import annotations
 
-from ctypes import byref, c_size_t, c_uint32
+from ctypes import byref, c_size_t, c_uint32, c_uint64
 from typing import Any, Callable, Iterator, Optional, Tuple, Union
 
 from ._calls import CALLS, CONFIG, IO, MEMORY, RAISE_CONFIG, FunctionTold, Handle, HitTold, RegionTold, number
@@ -202,6 +202,16 @@ class Guest:
         self.machine._call("region", self.index, *place, byref(told))
         space = "io" if told.space == IO else "memory"
         return Region(space, told.first, told.size, bool(told.prefetchable), bool(told.is_open))
+
+    def changed(self) -> int:
+        """A count that grows by one with each access of this guest, move, reset, gift or taking that touches one of its
+        slots so that an answer of `region` may be another one. While it stays, each of these answers stays; nothing
+        else makes it grow. It is 0 in a machine that was made just now, and goes on from 0 after 2**64 - 1. It changes
+        nothing.
+        """
+        told = c_uint64()
+        self.machine._call("changed", self.index, byref(told))
+        return told.value
 
     def function(self, slot: int) -> Function:
         """The function in a slot, as the board's own registers have it. It changes nothing.

@@ -64,9 +64,11 @@ class Guests(Case):
         self.assertEqual(a.region(1, 0), ("memory", 0x2000000000, 0x1000000, True, True))
         self.assertEqual(a.locate("memory", 0x2000000010), (1, 0, 0x10))
         self.assertIsNone(self.b.locate("memory", 0x2000000010))
+        self.assertEqual((a.changed(), self.b.changed()), (2, 0))
         a.io[0xCF8:4] = 0x80000840
         self.assertEqual(a.locate("io", 0xCFE), (1, None, 0x42))
         a.reset(1)
+        self.assertEqual((a.changed(), self.b.changed()), (3, 0))
         self.assertFalse(a.region(1, 0).is_open)
         self.assertIsNone(a.locate("memory", 0x2000000010))
         for slot, register, answer in ((0, 2, 303), (0, 0xFFFFFFFF, 303), (31, 0, 601), (32, 0, 303)):
@@ -80,6 +82,7 @@ class Guests(Case):
     def test_a_function_moves(self):
         self.a.config[0][4:2] = 2
         self.machine.move(self.a, 0, self.b, 5)
+        self.assertEqual((self.a.changed(), self.b.changed()), (2, 1))
         self.assertEqual(self.a.config[0][0:4], 0xFFFFFFFF)
         self.assertEqual(self.b.config[5][0:4], 0x00011234)
         self.assertEqual(self.b.config[5][4:2], 0)

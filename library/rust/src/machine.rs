@@ -335,6 +335,32 @@ impl Machine {
         Ok(Region::of(&told))
     }
 
+    /// A count of the guest, which grows by one with each access of the guest, move, reset, gift or taking that touches
+    /// one of its slots so that an answer of [`Machine::region`] for it may be another one. While the count stays, each of
+    /// these answers stays; nothing else makes it grow. It is 0 in a machine that was made just now, and goes on from 0
+    /// after 2^64 - 1. It changes nothing.
+    ///
+    /// ```
+    /// # const BOARD: &str = include_str!("board.toml");
+    /// use pciguest::{At, Machine};
+    ///
+    /// let mut machine = Machine::new(BOARD)?;
+    /// let a = machine.guest("a")?;
+    /// machine.read(a, At::Config { slot: 0, offset: 0x10 }, 4)?;
+    /// assert_eq!(machine.changed(a)?, 0);
+    /// machine.write(a, At::Config { slot: 0, offset: 0x10 }, 4, 0x8000_0000)?;
+    /// assert_eq!(machine.changed(a)?, 1);
+    /// # Ok::<(), pciguest::Error>(())
+    /// ```
+    pub fn changed(&mut self, guest: Guest) -> Result<u64, Error> {
+        let mut count = 0;
+        // SAFETY: `count` is a place of its own.
+        answered(unsafe {
+            raw::pciguest_raw_changed(&mut self.handle, guest.index(), &mut count)
+        })?;
+        Ok(count)
+    }
+
     /// What an access of the guest at a place hits: a byte of a function in one of its slots, or nothing. Every access
     /// there begins at this byte, but for four bytes at port CF8h, which are the guest's own CONFIG_ADDRESS. It changes
     /// nothing. Refused as a read of one byte is.

@@ -201,6 +201,7 @@ extern "C" {
         bar: u32,
         region: *mut Region,
     ) -> u32;
+    pub fn pciguest_raw_changed(machine: *mut Handle, guest: usize, count: *mut u64) -> u32;
     pub fn pciguest_raw_locate(
         machine: *mut Handle,
         guest: usize,

@@ -141,6 +141,7 @@ fn regions_stand_where_their_guest_put_them() -> Result<(), Error> {
     };
     assert_eq!(machine.locate(a, bell)?, Some(hit));
     assert_eq!(machine.locate(b, bell)?, None);
+    assert_eq!((machine.changed(a)?, machine.changed(b)?), (3, 0));
     machine.write(a, At::Io { port: 0xcf8 }, 4, 0x8000_0840)?;
     let selected = Hit {
         slot: 1,
@@ -149,11 +150,13 @@ fn regions_stand_where_their_guest_put_them() -> Result<(), Error> {
     };
     assert_eq!(machine.locate(a, At::Io { port: 0xcfe })?, Some(selected));
     machine.reset(a, 1)?;
+    assert_eq!((machine.changed(a)?, machine.changed(b)?), (4, 0));
     assert!(!machine.region(a, 1, 0)?.is_open);
     for (slot, register, answer) in [(0, 2, 303), (0, u32::MAX, 303), (31, 0, 601), (32, 0, 303)] {
         assert_eq!(number(machine.region(a, slot, register)), answer);
     }
     assert_eq!(number(machine.region(Guest::of_index(2), 0, 0)), 902);
+    assert_eq!(number(machine.changed(Guest::of_index(2))), 902);
     assert_eq!(number(machine.locate(a, config(0, 256))), 303);
     Ok(())
 }
@@ -164,6 +167,7 @@ fn a_function_moves() -> Result<(), Error> {
     let (a, b) = (machine.guest("a")?, machine.guest("b")?);
     machine.write(a, config(0, 4), 2, 2)?;
     machine.move_function(a, 0, b, 5)?;
+    assert_eq!((machine.changed(a)?, machine.changed(b)?), (2, 1));
     assert_eq!(machine.read(a, config(0, 0), 4)?, u32::MAX);
     assert_eq!(machine.read(b, config(5, 0), 4)?, 0x0001_1234);
     assert_eq!(machine.read(b, config(5, 4), 2)?, 0);

@@ -1,10 +1,10 @@
 use Rattle.std.proofs.Common.{◌∙◌}
 use Rattle.accesses.specs.Accesses.{target_of}
 use Rattle.monitor.specs.ByIndex.{name_nth}
-use Rattle.pciguest_c.proofs.Kept.{reads_keep}
+use Rattle.pciguest_c.proofs.Kept.{reads_count_none}
 use Rattle.pciguest_c.proofs.asking.read.Goals as goal
 
 pub returns-clause-kept : goal.returns-clause-kept
 returns-clause-kept c =
-    let m = c.args.monitor.now in
-    c.step-reply.ensures.after ∙ reads_keep m (name_nth m c.args.guest) (target_of c.in-Some.at) c.args.width
+    let m = c.args.machine.now in
+    c.step-reply.ensures.after ∙ reads_count_none m (name_nth m.world c.args.guest) (target_of c.in-Some.at) c.args.width

@@ -2,6 +2,7 @@ use Rattle.std.proofs.Common.{◌<◌, ℕ, inr, sym, subst, ◌∙◌, arith}
 use Rattle.simulation.specs.Listing.{Breaks}
 use Rattle.pciguest_c.proofs.FaultNumbers.{is_small, accepted, broken}
 use Rattle.pciguest_c.proofs.Options.{where_none}
+use Rattle.pciguest_c.proofs.Begun.{opened_apart}
 use Rattle.pciguest_c.proofs.board_set_up.set_up_into.Goals as goal
 
 pub returns-clause-placement : goal.returns-clause-placement
@@ -21,3 +22,6 @@ returns-clause-made c = λ zero.
     let least = is_small c.in-Err.fault c.in-Err.ensures.faults in
     let same = c.from.ensures ∙ c.number.ensures in
     absurd (omega arith)
+
+pub new-made-requires : goal.new-made-requires
+new-made-requires c = opened_apart c.args.board.now.file c.in-Ok.monitor c.in-Ok.ensures.opened

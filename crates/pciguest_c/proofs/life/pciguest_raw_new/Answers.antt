@@ -1,6 +1,7 @@
 use Rattle.std.proofs.Common.{◌<◌, ℕ, sym, subst, ◌∙◌, arith}
 use Rattle.simulation.specs.Listing.{Refuses, Breaks}
 use Rattle.pciguest_c.proofs.FaultNumbers.{is_small, refused, broken}
+use Rattle.pciguest_c.proofs.Begun.{opened_apart}
 use Rattle.pciguest_c.proofs.Options.{none_there, where_none}
 use Rattle.pciguest_c.proofs.life.pciguest_raw_new.Goals as goal
 
@@ -37,3 +38,6 @@ returns-clause-made c = λ zero.
     let least = is_small c.in-Err.fault c.in-Err.ensures.faults in
     let same = c.from.ensures ∙ c.number.ensures in
     absurd (omega arith)
+
+pub new-machine-requires : goal.new-machine-requires
+new-machine-requires c = opened_apart c.args.board.now c.in-Ok.monitor c.in-Ok.ensures.opened

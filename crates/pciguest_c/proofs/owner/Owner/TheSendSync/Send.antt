@@ -1,16 +1,16 @@
--- What an owner owns may go to another thread: nothing, or a monitor with the right to free its block.
+-- What an owner owns may go to another thread: nothing, or a machine with the right to free its block.
 use denote.Struct.Struct.{exits_of}
 use denote.Struct.Owning.{shape, fields, to}
 use denote.Param.Send.{IsSend, AllSend, owning_send, struct_send, sendable}
 use Rattle.std_alloc.proofs.SendSync.{quiet}
 use Rattle.std_heap.proofs.Global.TheSendSync as handle
-use Rattle.monitor.specs.contracts.monitor.Monitor as Monitor
-use Rattle.monitor.proofs.monitor.Monitor.TheSendSync.{the_send as monitor_send}
+use Rattle.machine.specs.contracts.machine.Machine as Machine
+use Rattle.machine.proofs.machine.Machine.TheSendSync.{the_send as machine_send}
 use Rattle.pciguest_c.proofs.Moved.{keyless}
 use Rattle.pciguest_c.specs.contracts.owner.Owner.{the_row, the_type}
 
 pub send : IsSend the_row
 send =
     let all : AllSend (fields the_type) = (search sendable, (handle.the_field_send, tt)) in
-    owning_send the_type all (λ d. keyless Monitor.the_row monitor_send d.alloc d.at d.value)
+    owning_send the_type all (λ d. keyless Machine.the_row machine_send d.alloc d.at d.value)
     (λ k. quiet (to the_type) (exits_of k (fields the_type)) ((struct_send (shape the_type) all).leaving k))
