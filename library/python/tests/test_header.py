@@ -15,6 +15,7 @@ TYPES = {
     "const uint8_t *": c_char_p,
     "uint8_t *": POINTER(c_char),
     "uint32_t *": POINTER(c_uint32),
+    "uint64_t *": POINTER(c_uint64),
     "size_t *": POINTER(c_size_t),
     "struct pciguest_region *": POINTER(_calls.RegionTold),
     "struct pciguest_hit *": POINTER(_calls.HitTold),
@@ -40,7 +41,7 @@ def declared():
 class Header(unittest.TestCase):
     def test_calls(self):
         calls = declared()
-        self.assertEqual(len(calls), 30)
+        self.assertEqual(len(calls), 31)
         self.assertEqual({name: types for name, (_, types) in calls.items()}, _calls.PARAMETERS)
         for name, (answer, types) in calls.items():
             call = _calls.CALLS[name]

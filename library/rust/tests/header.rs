@@ -15,6 +15,7 @@ fn in_rust(parameter: &str) -> String {
         "const uint8_t *" => "*const u8",
         "uint8_t *" => "*mut u8",
         "uint32_t *" => "*mut u32",
+        "uint64_t *" => "*mut u64",
         "size_t *" => "*mut usize",
         "struct pciguest_region *" => "*mut Region",
         "struct pciguest_hit *" => "*mut Hit",
@@ -71,7 +72,7 @@ fn bound() -> Vec<Call> {
 
 #[test]
 fn calls_are_those_of_the_header() {
-    assert_eq!(declared().len(), 30);
+    assert_eq!(declared().len(), 31);
     assert_eq!(declared(), bound());
 }
 
