@@ -200,7 +200,7 @@ impl EndpointFn {
     }
 
     /// The enabled bytes of the configuration word at `off`, a multiple of 4.
-    pub(crate) fn config_read(&self, off: u8, enables: u8) -> u32
+    pub fn config_read(&self, off: u8, enables: u8) -> u32
         requires { off % 4 ≡ 0 }
         ensures { result ≡ read self.now.file (config off) (lanes enables) }
     {
@@ -211,7 +211,7 @@ impl EndpointFn {
     }
 
     /// Writes the enabled bytes of the configuration word at `off`, a multiple of 4.
-    pub(crate) fn config_write(&mut self, off: u8, enables: u8, data: u32)
+    pub fn config_write(&mut self, off: u8, enables: u8, data: u32)
         requires { off % 4 ≡ 0 }
         ensures { self.new ≡ record self.old { file = write (lanes enables) «data» (config off) self.old.file } }
     {

@@ -1,14 +1,17 @@
 -- One function of a board, lent by its index: it is the one at its path.
+--     IsLentAt fs i e      the function at an index is the endpoint that is lent
 --     IsLocated fs space a l      the first claim of an address is in the function at an index
 use Rattle.std.proofs.Common.{◌≡◌, ℕ, ◌<◌, zero, suc, Bool, true, false, cond, List, [], ◌∷◌, length, Option, Some, None, refl, sym, ap, ap₂, subst, ◌∙◌}
 use Rattle.std.specs.Prelude.{find, map, IsFalse, IsSome}
 use Rattle.std.specs.List.{slice_get, slice_set}
 use Rattle.std.specs.Option.{option_map, option_map_or}
 use Rattle.lists.specs.Elements.{Each, first_of_two, first_some}
+use Rattle.model_registers.specs.Registers.{File}
 use Rattle.model_registers.specs.Decoding.{Space, Function}
+use Rattle.model_registers.specs.CopiedFiles.{after_reset}
 use Rattle.model_board.specs.Paths.{Path, path_eq}
 use Rattle.model_board.specs.Board.{endpoint}
-use Rattle.model_board.specs.State.{BoardFunction}
+use Rattle.model_board.specs.State.{BoardFunction, with_file}
 use Rattle.model_board.specs.Claims.{Claim, claim_at, claim_of, first_claim}
 use Rattle.model_board.proofs.PathEnds.{path_self, path_eq-sym}
 use Rattle.model_board.proofs.PathOrder.{path_same}
@@ -17,11 +20,10 @@ use Rattle.lists.proofs.Indices.{at_below}
 use Rattle.bridge_forward.specs.declared.bus.Located.{Located}
 use Rattle.bridge_forward.specs.Lending.{as_endpoint, endpoint_at, with_endpoint, endpoint_nth, with_endpoint_nth}
 use Rattle.bridge_forward.specs.Locating.{located_claim}
+use Rattle.host_bridge.specs.ByIndex.{file_nth, with_file_nth, with_reset_nth}
 use Rattle.host_bridge.specs.HostState.{HostState}
-use Rattle.host_bridge.proofs.Lent.{HasDistinctPaths, claimed_by, claimed_endpoint}
+use Rattle.host_bridge.proofs.Lent.{HasDistinctPaths, shown, changed_endpoint, kept_endpoint, claimed_by, claimed_endpoint}
 use Rattle.host_bridge.proofs.ClaimedAccesses.{IsClaimed}
-
--- ---- an index within a list
 
 -- ---- the function at an index is the one at its path
 
@@ -67,6 +69,47 @@ module _ (f : BoardFunction) where
   with_nth w fs i distinct e =
       ap (λ o. option_map_or (λ (f : BoardFunction). slice_set fs i (record { path = f.path; decl = endpoint w.decl; file = w.file })) o fs) e
       ∙ set_at (record { path = f.path; decl = endpoint w.decl; file = w.file }) fs i distinct e
+
+-- ---- the endpoint that is lent
+
+pub record IsLentAt (fs : List BoardFunction) (i : ℕ) (e : Function) : Type 0 where
+  pub function : BoardFunction
+  pub there : slice_get fs i ≡ Some function
+  pub lent : endpoint_at fs function.path ≡ Some e
+
+module _ (fs : List BoardFunction) (i : ℕ) (e : Function) (is : endpoint_nth fs i ≡ Some e) where
+  pub file_lent : e.file ≡ file_nth fs i
+  file_lent = by (slice_get fs i) is
+    where
+      by : (o : Option BoardFunction) → option_map_or as_endpoint o None ≡ Some e → e.file ≡ option_map_or (λ (f : BoardFunction). f.file) o []
+      by None h = cc
+      by (Some f) h = sym (shown f.path f.decl f.file e h).file
+
+  module _ (distinct : HasDistinctPaths fs) where
+    lent_at : IsLentAt fs i e
+    lent_at = by (slice_get fs i) refl is
+      where
+        by : (o : Option BoardFunction) → slice_get fs i ≡ o → option_map_or as_endpoint o None ≡ Some e → IsLentAt fs i e
+        by None at h = cc
+        by (Some f) at h = record { function = f; there = at; lent = sym (nth_at f fs i distinct at) ∙ is }
+
+    pub kept_nth : with_endpoint_nth i e fs ≡ fs
+    kept_nth = with_nth lent_at.function e fs i distinct lent_at.there ∙ kept_endpoint lent_at.function.path e fs distinct lent_at.lent
+
+    pub changed_nth : (g : File → File) → with_endpoint_nth i (record e { file = g e.file }) fs ≡ with_file_nth g i fs
+    changed_nth g =
+        with_nth lent_at.function (record e { file = g e.file }) fs i distinct lent_at.there
+        ∙ changed_endpoint g lent_at.function.path e fs distinct lent_at.lent
+        ∙ sym (ap (λ (o : Option BoardFunction). option_map_or (λ (f : BoardFunction). with_file g f.path fs) o fs) lent_at.there)
+
+    pub reset_nth : with_endpoint_nth i (record e { file = after_reset e.decl e.file }) fs ≡ with_reset_nth i fs
+    reset_nth =
+        changed_nth (after_reset e.decl)
+        ∙ sym (ap (λ (o : Option Function). option_map_or (λ (x : Function). with_file_nth (after_reset x.decl) i fs) o fs) is)
+
+-- no endpoint is reset where none stands
+pub none_reset : (fs : List BoardFunction) (i : ℕ) → endpoint_nth fs i ≡ None → fs ≡ with_reset_nth i fs
+none_reset fs i none = sym (ap (λ (o : Option Function). option_map_or (λ (e : Function). with_file_nth (after_reset e.decl) i fs) o fs) none)
 
 -- ---- a claim, told by an index
 

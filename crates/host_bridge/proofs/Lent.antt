@@ -39,7 +39,7 @@ pub record IsFunctionOf (f : BoardFunction) (e : Function) : Type 0 where
   pub decl : f.decl ≡ endpoint e.decl
   pub file : f.file ≡ e.file
 
-shown : (p : Path) (d : Decl) (file : File) (e : Function) → as_endpoint (record { path = p; decl = d; file = file }) ≡ Some e → IsFunctionOf (record { path = p; decl = d; file = file }) e
+pub shown : (p : Path) (d : Decl) (file : File) (e : Function) → as_endpoint (record { path = p; decl = d; file = file }) ≡ Some e → IsFunctionOf (record { path = p; decl = d; file = file }) e
 shown p (bridge d) file e h = cc
 shown p (endpoint d) file e h =
     let is : record { decl = d; file = file } ≡ e = cc in

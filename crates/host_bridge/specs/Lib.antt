@@ -1,4 +1,4 @@
 pub mod HostState
 pub mod Landings
 pub mod Targets
-pub mod DeviceValues
+pub mod ByIndex

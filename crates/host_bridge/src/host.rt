@@ -1,25 +1,19 @@
 //! The host bridge.
-ghost use Rattle.std.specs.Prelude.{◌≡◌, ◌%◌, ◌<◌, IfOk, IfSome, IsSome, IsTrue, find, length, slice_get};
+ghost use Rattle.std.specs.Prelude.{◌≡◌, ◌%◌, ◌<◌, IfOk, IfSome, IsTrue, find, length, slice_get};
 ghost use Rattle.std.specs.Option.{option_and_then};
 ghost use Rattle.lists.specs.Elements.{EachPair};
-ghost use Rattle.model_registers.specs.Registers.{raise};
-ghost use Rattle.model_registers.specs.DeviceBytes.{is_device_byte, set_value};
 ghost use Rattle.model_registers.specs.ByteEnables.{lanes, IsWidth};
 ghost use Rattle.bars.specs.Kinds.{named_space};
 ghost use Rattle.model_board.specs.Paths.{path_before, path_eq};
-ghost use Rattle.model_board.specs.State.{with_file};
 ghost use Rattle.model_board.specs.Cycles.{reached};
 ghost use Rattle.model_board.specs.Routing.{routing};
 ghost use Rattle.model_board.specs.Claims.{first_claim};
 ghost use Rattle.model_board.specs.Ports.{selected, selected_register, config_reply, after_config_write, claim_reply, after_claim_write, port_reply, after_port_write, memory_reply, after_memory_write};
-ghost use Rattle.headers.specs.Places.{place_of};
-ghost use Rattle.bridge_forward.specs.Lending.{endpoint_at, with_endpoint_reset};
 ghost use Rattle.bridge_forward.specs.Locating.{located_claim};
 ghost use Rattle.bars.specs.Slots.{bases_from};
 ghost use Rattle.bridge_forward.specs.BasesNow.{bases_nth};
 ghost use Rattle.bridge_forward.specs.RoutingRows.{secondary_nth};
 ghost use Rattle.paths.specs.BusAddresses.{bus_address_of};
-ghost use Rattle.host_bridge.specs.DeviceValues.{value_at};
 ghost use Rattle.host_bridge.specs.HostState.{with_functions, with_latch};
 ghost use Rattle.host_bridge.specs.Landings.{IsLanding};
 
@@ -29,7 +23,7 @@ use address_latch::Latch;
 use bars::{Region, Space, enabled_bits};
 use bridge_forward::{Bus, Claim, Located, Path, RoutingRow};
 use config_bytes::{Op, all_ones, enables_of, into_lanes, lowered};
-use headers::{Apertures, Place};
+use headers::Apertures;
 use paths::Bdf;
 use std::alloc::{AllocError, Global};
 use std::marker::Model;
@@ -194,58 +188,6 @@ impl Host {
     {
         let cycle = cycle_of(Latch::selecting(at, 0), 0, Op::Read);
         self.root.reached(&cycle)
-    }
-
-    /// Raises the bits of `mask` that writing a one clears, in one cell of the endpoint at a path. All
-    /// other cells stay.
-    pub fn raise(&mut self, path: &Path, place: Place, off: u64, mask: u8)
-        requires { IsSome (endpoint_at self.old.state.functions path.now) }
-        ensures { let fs = self.old.state.functions in
-            let raised = with_file (raise mask (place_of place off)) path.now fs in
-            self.new ≡ with_functions raised self.old }
-    {
-        match self.root.endpoint_mut(path) {
-            Some(endpoint) => endpoint.raise(place, off, mask),
-            None => unreachable!(),
-        }
-    }
-
-    /// What a byte of the device's own holds in the endpoint at a path, 0 where no cell stands.
-    pub fn device_value(&mut self, path: &Path, place: Place, off: u64) -> u8
-        requires there { IsSome (endpoint_at self.old.state.functions path.now) }
-        requires own { IsTrue (is_device_byte (place_of place off)) }
-        ensures value { result ≡ value_at (place_of place off) (endpoint_at self.old.state.functions path.now) }
-        ensures after { self.new ≡ self.old }
-    {
-        match self.root.endpoint_mut(path) {
-            Some(endpoint) => endpoint.value(place, off),
-            None => unreachable!(),
-        }
-    }
-
-    /// Puts a value into a byte of the device's own in the endpoint at a path, whatever the cell's masks,
-    /// which stay. All other cells stay, and where none stands nothing changes.
-    pub fn set_device_value(&mut self, path: &Path, place: Place, off: u64, value: u8)
-        requires there { IsSome (endpoint_at self.old.state.functions path.now) }
-        requires own { IsTrue (is_device_byte (place_of place off)) }
-        ensures { let fs = self.old.state.functions in
-            let set = with_file (set_value value (place_of place off)) path.now fs in
-            self.new ≡ with_functions set self.old }
-    {
-        match self.root.endpoint_mut(path) {
-            Some(endpoint) => endpoint.set(place, off, value),
-            None => unreachable!(),
-        }
-    }
-
-    /// Resets every cell of the endpoint at a path but Command and the base address registers. All other
-    /// functions stay, and so do the address latch and the apertures. Where no endpoint stands there,
-    /// nothing changes.
-    pub fn reset_endpoint(&mut self, path: &Path)
-        ensures { let fs = self.old.state.functions in
-            self.new ≡ with_functions (with_endpoint_reset path.now fs) self.old }
-    {
-        self.root.reset_endpoint(path);
     }
 
     /// What 1, 2 or 4 bytes read where an address lands. Who knows the claim needs no route.

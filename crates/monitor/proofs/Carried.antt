@@ -1,4 +1,4 @@
--- What is kept of guests over a handoff is kept over another with the same board, routing registers and bus numbers.
+-- What is kept of guests over a handoff is kept over another with the same board and routing registers.
 use Rattle.std.proofs.Common.{◌≡◌, ℕ, List, [], ◌∷◌, Some, None, Option, sym, ap, ◌∙◌, subst}
 use Rattle.std.specs.Prelude.{find, map, slice_get}
 use Rattle.std.specs.Option.{option_map_or}
@@ -13,7 +13,6 @@ use Rattle.model_board.specs.AtReset.{board_at}
 use Rattle.model_board.specs.Ports.{file_at}
 use Rattle.model_board.specs.Routing.{Ranges, regions, windows, RoutingRow, ranges_of, row_of, routing}
 use Rattle.model_board.specs.State.{BoardFunction, State, row_at}
-use Rattle.model_audit.specs.Found.{address_now}
 use Rattle.model_audit.specs.Orderly.{IsStateOfBoard}
 use Rattle.model_guests.specs.Text.{Text}
 use Rattle.model_guests.specs.Slots.{Slots}
@@ -47,14 +46,12 @@ bases_held fs state i p d at = of (at_map row_at fs i (record { path = p; decl =
 
 -- ---- slot by slot
 
-module _ (s t : State) (on_s : IsStateOfBoard s.functions) (on_t : IsStateOfBoard t.functions) (same_board : board_at t.functions ≡ board_at s.functions) (same_routing : routing t.functions ≡ routing s.functions) (same_addresses : (p : Path) → address_now t.functions p ≡ address_now s.functions p) where
+module _ (s t : State) (on_s : IsStateOfBoard s.functions) (on_t : IsStateOfBoard t.functions) (same_board : board_at t.functions ≡ board_at s.functions) (same_routing : routing t.functions ≡ routing s.functions) where
   pub held_carried : (p : Path) (f : Function) (h : Held) → IsHeld s p f h → IsHeld t p f h
   held_carried p f h is =
       let row_now : slice_get (board_at t.functions) h.index ≡ Some (record { path = p; decl = endpoint f.decl }) = ap (λ (b : Board). slice_get b h.index) same_board ∙ is.row in
       record {
-        path = is.path;
         row = row_now;
-        at = is.at ∙ sym (same_addresses p);
         placed = is.placed ∙ sym (bases_held s.functions on_s h.index p f.decl is.row) ∙ ap (λ (rows : List RoutingRow). bases_routed rows h.index) (sym same_routing) ∙ bases_held t.functions on_t h.index p f.decl row_now;
         regions = is.regions;
         own = is.own;

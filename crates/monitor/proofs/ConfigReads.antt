@@ -4,8 +4,7 @@ use Rattle.model_registers.specs.Registers.{config, File, read, number}
 use Rattle.model_registers.specs.ByteEnables.{lanes, is_enabled, enables_of, IsWidth}
 use Rattle.model_registers.specs.OwnCopies.{own_file, HoldsOwn, handed_on}
 use Rattle.model_registers.proofs.ByteAccesses.{aligned_lies_in_word, number_by_lanes}
-use Rattle.model_board.specs.Ports.{config_reply}
-use Rattle.paths.specs.BusAddresses.{bus_address_of}
+use Rattle.host_bridge.specs.ByIndex.{file_nth}
 use Rattle.host_bridge.specs.HostState.{HostState}
 use Rattle.monitor.specs.declared.guest.Held.{Held}
 use Rattle.monitor.specs.Configs.{IsSeen}
@@ -17,9 +16,9 @@ pub record IsOwnPart (held : Held) (word enables n others : ℕ) : Type 0 where
   pub others_are : lanes others ≡ handed_on (config word) (lanes enables)
   pub together : (file : File) → HoldsOwn file held.own → read file (config word) (lanes enables) ≡ n + read file (config word) (lanes others)
 
-module _ (h : HostState) (held : Held) (seen : IsSeen h held) (word enables n others rest : ℕ) (part : IsOwnPart held word enables n others) (reads : rest ≡ config_reply h.state.functions (bus_address_of held.at) word (lanes others)) where
+module _ (h : HostState) (held : Held) (seen : IsSeen h held) (word enables n others rest : ℕ) (part : IsOwnPart held word enables n others) (reads : rest ≡ read (file_nth h.state.functions held.index) (config word) (lanes others)) where
   rest_is : rest ≡ read seen.file (config word) (handed_on (config word) (lanes enables))
-  rest_is = reads ∙ ap (config_reply h.state.functions (bus_address_of held.at) word) part.others_are ∙ seen.shows word (lanes enables)
+  rest_is = reads ∙ ap (read (file_nth h.state.functions held.index) (config word)) part.others_are ∙ seen.shows word (lanes enables)
 
   pub sum_in_word : word % 4 ≡ 0 → rest < 2 ^ 32 → n + rest < 2 ^ 32
   sum_in_word whole theirs =

@@ -3,14 +3,11 @@ use Rattle.std.proofs.Common.{◌≡◌, ℕ, ◌*◌, ◌/◌, ◌%◌, Bool, c
 use Rattle.std.specs.Prelude.{is_some}
 use Rattle.std.specs.Option.{option_map_or}
 use Rattle.std.proofs.lemmas.Option.{slice_get_read, slice_get_within}
-use Rattle.model_registers.specs.Registers.{config, File, write, all_bytes, number}
+use Rattle.model_registers.specs.Registers.{config, File, read, write, all_bytes, number}
 use Rattle.model_registers.specs.ByteEnables.{lanes, enables_of, into_lanes, IsWidth}
 use Rattle.model_registers.specs.OwnCopies.{handed_on}
 use Rattle.model_registers.specs.Decoding.{Function}
 use Rattle.model_registers.proofs.ByteAccesses.{aligned_lies_in_word, write_by_lanes}
-use Rattle.model_board.specs.State.{BoardFunction, State, with_file}
-use Rattle.model_board.specs.Cycles.{BusAddress}
-use Rattle.model_board.specs.Ports.{config_reply, after_config_write}
 use Rattle.model_guests.specs.Accesses.{answered, reads, writes, configuration}
 use Rattle.model_guests.specs.Slots.{Landing, landing, perform, effect, slot_at}
 use Rattle.model_guests.specs.Lone.{at_target, reply_at, after_access_at}
@@ -19,19 +16,16 @@ use Rattle.model_guests.specs.ChangeLaws.{with_slot_changed}
 use Rattle.model_guests.proofs.AgreedFiles.{writes_alike}
 use Rattle.model_guests.specs.AgreedBoard.{with_change_at}
 use Rattle.model_guests.specs.Text.{Text}
-use Rattle.model_handoff.proofs.Accesses.{cycle_reads, cycle_writes}
-use Rattle.model_guests.proofs.Changes.{changes_one_function}
 use Rattle.guest_functions.proofs.HeldCopies.{lawful_copies, written_held}
-use Rattle.paths.specs.BusAddresses.{bus_address_of}
+use Rattle.host_bridge.specs.ByIndex.{with_file_nth}
 use Rattle.host_bridge.specs.HostState.{HostState, with_functions}
-use Rattle.paths.specs.declared.bdf.Bdf.{Bdf}
 use Rattle.monitor.specs.declared.guest.Held.{Held}
 use Rattle.monitor.specs.declared.guest.Guest.{Guest}
 use Rattle.monitor.specs.Keeping.{IsKept}
-use Rattle.monitor.specs.ByIndex.{lone_nth, with_lone_nth, guest_nth, name_nth}
+use Rattle.monitor.specs.ByIndex.{lone_nth, with_lone_nth, guest_nth}
 use Rattle.monitor.specs.Configs.{IsSeen, HoldsAt, IsHolding, WritesGuest, WritesOwn}
-use Rattle.monitor.proofs.Steps.{with_guest_at, kept_slot, GuestAt, SlotAt, path_there, with_same}
-use Rattle.monitor.proofs.Reached.{functions, named_slot, lawful}
+use Rattle.monitor.proofs.Steps.{with_guest_at, kept_slot, GuestAt, SlotAt, with_same}
+use Rattle.monitor.proofs.Reached.{board_shows, changed_held, endpoint_held, file_held, lawful}
 use Rattle.monitor.proofs.RegionSteps.{written_shape}
 use Rattle.monitor.proofs.Calls.{Leaves, leaves}
 use Rattle.monitor.proofs.Exchanges.{holds_nth}
@@ -42,7 +36,7 @@ use Rattle.monitor.proofs.Exchanges.{holds_nth}
 pub same_at : {A : Type 0} (xs : List A) (i : ℕ) (x y : A) → slice_get xs i ≡ Some x → y ≡ get_or xs i y → y ≡ x
 same_at xs i x y at is = let read = slice_get_read xs (length xs) i y refl (slice_get_within xs i x at) is in cc
 
-pub guest_written : (gs : List Guest) (i n word enables value : ℕ) (holds : HoldsAt gs i n) (slots new : List (Option Held)) (r : Bdf × ℕ) (guest : Guest)
+pub guest_written : (gs : List Guest) (i n word enables value : ℕ) (holds : HoldsAt gs i n) (slots new : List (Option Held)) (r : ℕ × ℕ) (guest : Guest)
     → slots ≡ holds.guest.slots.items → ((h : IsHolding slots n) → WritesOwn slots n h word enables value new r) → guest.latch ≡ holds.guest.latch → guest.slots.items ≡ new
     → WritesGuest gs i n holds word enables value (slice_set gs i guest) r
 guest_written gs i n word enables value holds slots new r guest same written latch items = record {
@@ -53,7 +47,7 @@ guest_written gs i n word enables value holds slots new r guest same written lat
       (subst (λ (os : List (Option Held)). (h : IsHolding os n) → WritesOwn os n h word enables value new r) same written holds.slot);
 }
 
-pub written_lent : {gs ms new : List Guest} {i n word enables value : ℕ} {r : Bdf × ℕ} → ms ≡ gs → (holds : HoldsAt gs i n)
+pub written_lent : {gs ms new : List Guest} {i n word enables value : ℕ} {r : ℕ × ℕ} → ms ≡ gs → (holds : HoldsAt gs i n)
     → ((h : HoldsAt ms i n) → WritesGuest ms i n h word enables value new r) → WritesGuest gs i n holds word enables value new r
 written_lent {gs} {ms} {new} {i} {n} {word} {enables} {value} {r} same holds written =
     subst (λ (ls : List Guest). (h : HoldsAt ls i n) → WritesGuest ls i n h word enables value new r) same written holds
@@ -62,19 +56,13 @@ written_lent {gs} {ms} {new} {i} {n} {word} {enables} {value} {r} same holds wri
 
 module _ {w : WorldNow} {h : HostState} {names : List Text} {gs : List Guest} {i : ℕ} {g : Guest} (at : GuestAt w h names gs i g) where
   module _ {n : ℕ} {held : Held} (slot : SlotAt at n held) where
-    abbrev fs : List BoardFunction
-    fs = functions at
-
     pub seen : IsSeen h held
     seen = record {
       file = slot.f.file;
       lawful = lawful_copies held.own slot.f.decl.regions (lawful at slot).regions slot.held.regions;
       holds = slot.held.own;
-      shows = λ off ons.
-          ap (λ (s : State). config_reply s.functions (bus_address_of held.at) off (handed_on (config off) ons)) at.kept.agrees
-          ∙ ap (λ (a : BusAddress). config_reply fs a off (handed_on (config off) ons)) slot.held.at
-          ∙ cycle_reads w.handoff at.kept.lawful.handoff at.kept.lawful.order.numbers w.guests at.kept.lawful.seated (name_nth w i) n slot.p slot.f (named_slot at slot) off ons;
-      latch = ap (λ (s : State). s.latch) at.kept.agrees ∙ at.kept.clear;
+      there = endpoint_held at slot;
+      shows = λ off ons. ap (λ (file : File). read file (config off) (handed_on (config off) ons)) (file_held at slot) ∙ board_shows at slot (config off) ons;
     }
 
     -- an access to the slot lands there
@@ -89,8 +77,8 @@ module _ {w : WorldNow} {h : HostState} {names : List Text} {gs : List Guest} {i
 
     -- a write of the bytes of a word
     module _ (off width v : ℕ) (wide : IsWidth width) (aligned : off % width ≡ 0) {enables moved : ℕ} (enables_are : enables ≡ enables_of off width) (moved_is : moved ≡ into_lanes off v)
-        {left : List Guest} {r : Bdf × ℕ} (written : WritesGuest gs i n (holds_nth at slot) (off / 4 * 4) enables moved left r)
-        {new : HostState} (is_new : new ≡ with_functions (after_config_write h.state.functions (bus_address_of r.0) (off / 4 * 4) (lanes r.1) moved) h) where
+        {left : List Guest} {r : ℕ × ℕ} (written : WritesGuest gs i n (holds_nth at slot) (off / 4 * 4) enables moved left r)
+        {new : HostState} (is_new : new ≡ with_functions (with_file_nth (write (lanes r.1) moved (config (off / 4 * 4))) r.0 h.state.functions) h) where
       abbrev word : ℕ
       word = off / 4 * 4
 
@@ -107,19 +95,10 @@ module _ {w : WorldNow} {h : HostState} {names : List Text} {gs : List Guest} {i
       same_change = λ k file. (sym (write_by_lanes file (config off) width v (aligned_lies_in_word off width wide aligned)
           ∙ (λ m. write (lanes (sym enables_are m)) (sym moved_is m) (config word) file))) k
 
-      abbrev left_with : List BoardFunction → State
-      left_with xs = record { functions = xs; latch = h.state.latch }
-
       state : new.state ≡ with_change_at board_change slot.p h.state
       state =
-          ap (λ (x : HostState). x.state) is_new
-          ∙ ap (λ (s : State). left_with (after_config_write s.functions (bus_address_of r.0) word (lanes r.1) moved)) at.kept.agrees
-          ∙ ap₂ (λ (b : Bdf) (ons : List Bool). left_with (after_config_write fs (bus_address_of b) word ons moved)) written.slots.number written.slots.others
-          ∙ ap (λ (a : BusAddress). left_with (after_config_write fs a word (handed_on (config word) (lanes enables)) moved)) slot.held.at
-          ∙ ap left_with
-          (cycle_writes w.handoff at.kept.lawful.handoff.board at.kept.lawful.order.numbers w.guests at.kept.lawful.seated (name_nth w i) n slot.p slot.f (named_slot at slot) word (lanes enables) moved
-          ∙ ap (λ (s : State). s.functions) (changes_one_function w.handoff w.guests at.kept.lawful.seated (name_nth w i) n slot.p (path_there at slot) word_change board_change (writes_alike (lanes enables) moved (config word))))
-          ∙ ap (λ (s : State). left_with (with_file board_change slot.p s.functions)) (sym at.kept.agrees)
+          changed_held at slot board_change
+          (is_new ∙ ap₂ (λ (k : ℕ) (ons : List Bool). with_functions (with_file_nth (write ons moved (config word)) k h.state.functions) h) written.slots.index written.slots.others)
 
       world : with_guest_at i (with_slot_changed word_change n (guest_nth w i)) w ≡ with_lone_nth i (after_access_at (lone_nth w i) (writes v) width (at_target (configuration n off))) w
       world =

@@ -4,7 +4,7 @@ use Rattle.std.specs.Prelude.{is_some, nat_le, IsSome}
 use Rattle.std.specs.Option.{option_map_or}
 use Rattle.lists.proofs.Indices.{set_same}
 use Rattle.model_registers.specs.Cell.{Cell}
-use Rattle.model_registers.specs.Registers.{Place, place_eq, File}
+use Rattle.model_registers.specs.Registers.{Place, place_eq, cell_at, File}
 use Rattle.model_registers.specs.FileLaws.{has_place}
 use Rattle.model_registers.specs.OwnCopies.{is_own}
 use Rattle.model_registers.specs.DeviceBytes.{is_device_byte, with_value, set_value}
@@ -14,7 +14,7 @@ use Rattle.model_registers.proofs.RegisterFiles.{place_same}
 use Rattle.model_registers.proofs.Files.{change_none}
 use Rattle.model_registers.proofs.DeviceBytes.{device_not_own, change_beside}
 use Rattle.model_board.specs.Paths.{Path}
-use Rattle.model_board.specs.State.{BoardFunction, State, with_file}
+use Rattle.model_board.specs.State.{BoardFunction, State}
 use Rattle.model_board.specs.AtReset.{board_at}
 use Rattle.model_guests.specs.Accesses.{answered, done}
 use Rattle.model_guests.specs.Slots.{Slots, slot_at, raise_place}
@@ -33,8 +33,8 @@ use Rattle.model_devices.proofs.Bytes.{write_reaches_board}
 use Rattle.model_devices.specs.DeviceEvents.{after_device}
 use Rattle.headers.specs.declared.place.Place as headers
 use Rattle.headers.specs.Places.{place_of}
-use Rattle.bridge_forward.specs.Lending.{as_endpoint, endpoint_at, with_endpoint}
-use Rattle.host_bridge.specs.DeviceValues.{value_at}
+use Rattle.bridge_forward.specs.Lending.{as_endpoint, endpoint_at, endpoint_nth, with_endpoint}
+use Rattle.host_bridge.specs.ByIndex.{file_nth, with_file_nth}
 use Rattle.host_bridge.specs.HostState.{HostState, with_functions}
 use Rattle.host_bridge.proofs.Lent.{changed_endpoint}
 use Rattle.accesses.specs.Accesses.{part_of}
@@ -45,7 +45,7 @@ use Rattle.monitor.specs.ByIndex.{lone_nth, guest_nth, name_nth}
 use Rattle.monitor.specs.DeviceBytes.{device_byte, Refuses, Reaches}
 use Rattle.monitor.specs.InSlots.{IsInSlot, IsSlotFault}
 use Rattle.monitor.proofs.Steps.{slot_there, GuestAt, SlotAt, function_there, in_place, kept_put, lone_named, path_there, slot_lent, slots_lent}
-use Rattle.monitor.proofs.Reached.{distinct, left, found_on_board, places_same, endpoint_held}
+use Rattle.monitor.proofs.Reached.{changed_held, distinct, endpoint_held, file_held, left, found_on_board, places_same}
 use Rattle.monitor.proofs.RaiseSteps.{named_place}
 use Rattle.monitor.proofs.Calls.{Leaves, leaves}
 use Rattle.monitor.proofs.ResetSteps.{answer_named, device_named}
@@ -104,7 +104,7 @@ module _ {w : WorldNow} {h : HostState} {names : List Text} {gs : List Guest} {i
   pub refused_there : (n : ℕ) (place : headers.Place) (off : ℕ) {number : ℕ} → Refuses slots n place off number → byte_fault (lone_nth w i).slots (device_byte n place off) ≡ Some number
   refused_there n place off faults = faults w.handoff (guest_nth w i).paths (lone_nth w i).slots (slots_lent at same)
 
-  module _ {n : ℕ} {place : headers.Place} {off : ℕ} {path : Path} (reach : Reaches slots n place off path) where
+  module _ {n : ℕ} {place : headers.Place} {off : ℕ} {index : ℕ} (reach : Reaches slots n place off index) where
     abbrev slot : SlotAt at n reach.held
     slot = slot_lent at same reach.there
 
@@ -120,8 +120,8 @@ module _ {w : WorldNow} {h : HostState} {names : List Text} {gs : List Guest} {i
     low : nat_le 32 n ≡ false
     low = low_slot reach.low
 
-    pub path_reached : IsSome (endpoint_at h.state.functions path)
-    path_reached = subst (λ (p : Path). IsSome (endpoint_at h.state.functions p)) (sym reach.path_is) (endpoint_held at slot)
+    pub endpoint_reached : IsSome (endpoint_nth h.state.functions index)
+    endpoint_reached = subst (λ (k : ℕ). IsSome (endpoint_nth h.state.functions k)) (sym reach.index_is) (endpoint_held at slot)
 
     abbrev left_file : File
     left_file = left at slot
@@ -133,12 +133,10 @@ module _ {w : WorldNow} {h : HostState} {names : List Text} {gs : List Guest} {i
     endpoint_found = ap (λ (o : Option BoardFunction). option_map_or as_endpoint o None) (found_on_board at slot)
 
     -- what the board has there is what the guest has
-    pub device_read : {value : ℕ} → value ≡ value_at q (endpoint_at h.state.functions path) → answered value 1 ≡ device_answer (lone_of w.guests (name_nth w i)) (device_reads d)
+    pub device_read : {value : ℕ} → value ≡ (cell_at (file_nth h.state.functions index) q).value → answered value 1 ≡ device_answer (lone_of w.guests (name_nth w i)) (device_reads d)
     device_read is =
         ap (λ (m : ℕ). answered m 1)
-        (is ∙ ap (λ (p : Path). value_at q (endpoint_at h.state.functions p)) (reach.path_is ∙ slot.held.path)
-        ∙ ap (λ (s : State). value_at q (endpoint_at s.functions slot.p)) at.kept.agrees
-        ∙ ap (value_at q) endpoint_found
+        (is ∙ ap (λ (file : File). (cell_at file q).value) (ap (file_nth h.state.functions) reach.index_is ∙ file_held at slot)
         ∙ ap (λ (c : Cell). c.value) (agreed_common left_file slot.f.file q (places_same at slot) (device_not_own q reach.own)))
         ∙ sym (read_there (lone_nth w i) d low slot.f slot.function q reaches) ∙ answer_named at (device_reads d)
 
@@ -161,9 +159,7 @@ module _ {w : WorldNow} {h : HostState} {names : List Text} {gs : List Guest} {i
 
       still_held : IsHeld w.handoff slot.p f reach.held
       still_held = record {
-        path = slot.held.path;
         row = slot.held.row;
-        at = slot.held.at;
         placed = slot.held.placed;
         regions = slot.held.regions;
         own = λ p mine. change_beside (with_value (v % 256)) slot.f.file q p (apart p mine) ∙ slot.held.own p mine;
@@ -177,7 +173,7 @@ module _ {w : WorldNow} {h : HostState} {names : List Text} {gs : List Guest} {i
           ∙ ap (λ (x : File). with_endpoint slot.p (record found { file = x }) fs) (same_change left_file slot.f.file (places_same at slot) v q)
           ∙ changed_endpoint (byte_change slot.f.file v q) slot.p found fs (distinct at) endpoint_found)
 
-      pub write_left : {new : HostState} → new ≡ with_functions (with_file (set_value v q) path h.state.functions) h → Leaves (after_device w (name_nth w i) (device_writes d v)) h new names gs
+      pub write_left : {new : HostState} → new ≡ with_functions (with_file_nth (set_value v q) index h.state.functions) h → Leaves (after_device w (name_nth w i) (device_writes d v)) h new names gs
       write_left {new} is_new = leaves at.kept
           (subst (λ (u : WorldNow). IsKept u new names gs) (device_named at (device_writes d v))
           (in_place at _ new
@@ -187,7 +183,7 @@ module _ {w : WorldNow} {h : HostState} {names : List Text} {gs : List Guest} {i
           (written_there (lone_nth w i) d low slot.f slot.function q reaches v
           ∙ ap (λ (ss : Slots). record (lone_nth w i) { slots = ss }) (with_file_there (set_value v q) n (lone_nth w i).slots slot.f slot.function))
           g refl (sym (set_same g.slots.items n (Some reach.held) slot.holds))
-          new (ap (λ (k : HostState). k.state) is_new ∙ ap (λ (p : Path). with_change_at (set_value v q) p h.state) (reach.path_is ∙ slot.held.path)
+          new (changed_held at slot (set_value v q) (is_new ∙ ap (λ (k : ℕ). with_functions (with_file_nth (set_value v q) k h.state.functions) h) reach.index_is)
           ∙ ap (with_change_at (set_value v q) slot.p) at.kept.agrees ∙ alike
           ∙ sym (write_reaches_board w.handoff w.guests at.kept.lawful.seated (name_nth w i) d v no_fault slot.p slot.f q (path_there at slot) (function_there at slot) reaches)))))
           refl

@@ -17,7 +17,6 @@ use Rattle.model_board.specs.Board.{endpoint}
 use Rattle.model_board.specs.AtReset.{board_at}
 use Rattle.model_board.specs.Ports.{file_at}
 use Rattle.model_board.specs.State.{BoardFunction, State, row_at}
-use Rattle.model_audit.specs.Found.{address_now}
 use Rattle.model_audit.specs.Orderly.{IsStateOfBoard}
 use Rattle.model_guests.specs.Slots.{reset_function}
 use Rattle.model_guests.specs.World.{declared}
@@ -28,8 +27,6 @@ use Rattle.bars.specs.Resets.{reset_from, at_reset, with_no_base}
 use Rattle.bars.specs.Slots.{bases_from}
 use Rattle.bars.specs.declared.region.Region.{Region as Placed}
 use Rattle.bridge_forward.specs.BasesNow.{bases_of, bases_nth}
-use Rattle.paths.specs.declared.bdf.Bdf.{Bdf}
-use Rattle.paths.specs.BusAddresses.{bus_address_of}
 use Rattle.monitor.specs.declared.guest.Held.{Held}
 use Rattle.monitor.specs.Keeping.{IsHeld, IsSlot}
 use Rattle.monitor.specs.Beginnings.{declared_in, IsStanding}
@@ -70,12 +67,9 @@ module _ (s : State) (i : ℕ) (p : Path) (f : Function) (is : IsStanding s i p 
     pub held_at_first : (own : OwnCopies) → own ≡ record { command = 0; bases = at_reset bars }
         → ((e : Endpoint) → Each (λ b. 0x40 ≤ b.offset) e.blocks → map closed e.regions ≡ at_reset bars → HoldsOwn (endpoint_reset e false) own)
         → (placed : List (Option Placed)) → bases_from 0 placed ≡ bases_nth s.functions i
-        → (at : Bdf) → bus_address_of at ≡ address_now s.functions p → (q : Path) → q ≡ p
-        → IsHeld s p f (record { own = own; placed = placed; at = at; index = i; path = q })
-    held_at_first own own_is reset placed bases at at_is q path = record {
-      path = path;
+        → IsHeld s p f (record { own = own; placed = placed; index = i })
+    held_at_first own own_is reset placed bases = record {
       row = map_at row_at s.functions i (record { path = p; decl = endpoint f.decl; file = file_at s.functions p }) is.there;
-      at = at_is;
       placed = bases ∙ bases_there;
       regions = sym (opened_closed f.decl.regions) ∙ ap (map opened) (sym (rest ∙ closed_there)) ∙ ap (λ (o : OwnCopies). map opened o.bases) (sym own_is);
       own = subst (λ (file : File). HoldsOwn file own) (sym is.at_reset)

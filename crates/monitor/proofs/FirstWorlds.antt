@@ -53,7 +53,7 @@ module _ (h : HostState) (ds : List Declared) (handoff : IsHandoff h.state) (law
         clear = refl;
         at_reset = taken_shown w s handoff refl lawful;
         agrees = ap (λ (x : HostState). x.state) taken ∙ sym (taken_agrees w s handoff refl lawful);
-        guests = guests_carried s t handoff.board alike.handoff.board alike.board alike.routing_is alike.addresses (map (λ (g : Declared). g.name) ds) gs kept_guests are;
+        guests = guests_carried s t handoff.board alike.handoff.board alike.board alike.routing_is (map (λ (g : Declared). g.name) ds) gs kept_guests are;
       })
 
       pub sound_at_first : IsSound k names kept_guests

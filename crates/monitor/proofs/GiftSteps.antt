@@ -4,28 +4,29 @@ use Rattle.std.specs.Prelude.{find, map, is_some, nat_le, option_map, slice_get,
 use Rattle.std.specs.List.{list_any}
 use Rattle.std.specs.Option.{option_map_or}
 use Rattle.std.proofs.lemmas.Bool.{lt-leb}
+use Rattle.lists.proofs.Indices.{map_at}
 use Rattle.model_registers.specs.Registers.{File, config, number}
 use Rattle.model_registers.specs.Declarations.{Region as Declared, Endpoint, HasLawfulRegions}
 use Rattle.model_registers.specs.DeclarationRules.{IsLawfulEndpoint}
 use Rattle.model_registers.specs.EndpointTable.{BaseAddress, opened}
 use Rattle.model_registers.specs.Decoding.{Function, base_address, command_word, opens_space, space_of}
 use Rattle.model_board.specs.Paths.{Path, path_eq}
-use Rattle.model_board.specs.Board.{Board, Decl, endpoint, bridge}
+use Rattle.model_board.specs.Board.{Row, Board, IsBoard, Decl, endpoint, bridge}
 use Rattle.model_board.specs.AtReset.{board_at}
 use Rattle.model_board.specs.Ports.{file_at}
 use Rattle.model_board.specs.Routing.{regions, windows, ranges_of}
 use Rattle.model_board.specs.Windows.{Window}
-use Rattle.model_board.specs.State.{BoardFunction, State}
+use Rattle.model_board.specs.State.{BoardFunction, State, row_at}
 use Rattle.model_board.proofs.PathOrder.{path_same}
 use Rattle.model_audit.specs.Orderly.{IsStateOfBoard}
-use Rattle.model_guests.specs.Slots.{Slots, reset_function}
+use Rattle.model_guests.specs.Slots.{reset_function}
 use Rattle.model_guests.specs.Text.{Text}
 use Rattle.model_guests.specs.World.{declared}
 use Rattle.model_guests.specs.Guests.{GuestsNow, file_of, function_in}
 use Rattle.model_guests.proofs.CopiesNeverRise.{declared_lawful}
-use Rattle.model_handoff.specs.ViewLaws.{is_at, sits}
+use Rattle.model_handoff.specs.ViewLaws.{sits}
 use Rattle.model_guests.specs.WorldNow.{WorldNow, board_state}
-use Rattle.model_handoff.proofs.Keeping.{keeps_board, keeps_routing, keeps_addresses}
+use Rattle.model_handoff.proofs.Keeping.{keeps_board, keeps_routing}
 use Rattle.model_handoff.proofs.Regions.{state_stays}
 use Rattle.model_handoff.proofs.Standing.{at_path}
 use Rattle.model_giving.specs.Giving.{has_closed_region, give_fault, endpoint_fault}
@@ -44,11 +45,12 @@ use Rattle.monitor.specs.declared.guest.Held.{Held}
 use Rattle.monitor.specs.declared.guest.Guest.{Guest}
 use Rattle.monitor.specs.Beginnings.{IsStanding}
 use Rattle.monitor.specs.ByIndex.{name_nth}
-use Rattle.monitor.specs.Keeping.{AreGuests, AreSlots, IsHeld, IsKept, IsSlot}
+use Rattle.monitor.specs.Keeping.{AreGuests, IsHeld, IsKept, IsSlot}
 use Rattle.monitor.specs.Moves.{is_taken}
-use Rattle.monitor.specs.Seatings.{IsEndpointAt, MakesGift, gift_nth, has_path, is_closed_base, is_closed_slot, is_in}
+use Rattle.monitor.specs.Seatings.{IsEndpointAt, MakesGift, gift_nth, has_index, is_closed_base, is_closed_slot}
 use Rattle.monitor.specs.declared.withheld.Withheld.TheVariants.{PastSlots, NoEndpoint, HasGuest, SlotTaken, ClosedRegion}
 use Rattle.monitor.proofs.Carried.{held_carried}
+use Rattle.monitor.proofs.Indexed.{in_slots}
 use Rattle.monitor.proofs.FirstFunctions.{function_of, lawful_there}
 use Rattle.monitor.proofs.MoveSteps.{taken_lent}
 use Rattle.monitor.proofs.Steps.{GuestAt, kept_nth}
@@ -146,26 +148,15 @@ none_at s p i at told = by (slice_get s.functions i) refl told
 
 -- ---- who has it
 
-in_slots : (s : State) (p : Path) (qs : List (Option Path)) (fs : Slots) (os : List (Option Held)) → AreSlots s qs fs os → list_any (is_in p) os ≡ list_any (is_at p) qs
-in_slots s p [] [] [] are = refl
-in_slots s p [] [] (o ∷ os) are = absurd are
-in_slots s p [] (f ∷ fs) os are = absurd are
-in_slots s p (q ∷ qs) [] os are = absurd are
-in_slots s p (q ∷ qs) (f ∷ fs) [] are = absurd are
-in_slots s p (None ∷ qs) (None ∷ fs) (None ∷ os) are = in_slots s p qs fs os are.1
-in_slots s p (None ∷ qs) (None ∷ fs) (Some h ∷ os) are = absurd are.0
-in_slots s p (None ∷ qs) (Some f ∷ fs) (o ∷ os) are = absurd are.0
-in_slots s p (Some q ∷ qs) (None ∷ fs) (o ∷ os) are = absurd are.0
-in_slots s p (Some q ∷ qs) (Some f ∷ fs) (None ∷ os) are = absurd are.0
-in_slots s p (Some q ∷ qs) (Some f ∷ fs) (Some h ∷ os) are = ap₂ ◌||◌ (ap (λ (x : Path). path_eq x p) are.0.path) (in_slots s p qs fs os are.1)
-
-pub in_guests : (s : State) (p : Path) (ts : List Text) (ws : GuestsNow) (gs : List Guest) → AreGuests s ts ws gs → has_path p gs ≡ sits ws p
-in_guests s p [] [] [] are = refl
-in_guests s p [] [] (g ∷ gs) are = absurd are
-in_guests s p [] (w ∷ ws) gs are = absurd are
-in_guests s p (t ∷ ts) [] gs are = absurd are
-in_guests s p (t ∷ ts) (w ∷ ws) [] are = absurd are
-in_guests s p (t ∷ ts) (w ∷ ws) (g ∷ gs) are = ap₂ ◌||◌ (in_slots s p w.paths w.lone.slots g.slots.items are.0.slots) (in_guests s p ts ws gs are.1)
+pub in_guests : (s : State) → IsBoard (board_at s.functions) → (i : ℕ) (r : Row) → slice_get (board_at s.functions) i ≡ Some r
+    → (ts : List Text) (ws : GuestsNow) (gs : List Guest) → AreGuests s ts ws gs → has_index i gs ≡ sits ws r.path
+in_guests s board i r at [] [] [] are = refl
+in_guests s board i r at [] [] (g ∷ gs) are = absurd are
+in_guests s board i r at [] (w ∷ ws) gs are = absurd are
+in_guests s board i r at (t ∷ ts) [] gs are = absurd are
+in_guests s board i r at (t ∷ ts) (w ∷ ws) [] are = absurd are
+in_guests s board i r at (t ∷ ts) (w ∷ ws) (g ∷ gs) are =
+    ap₂ ◌||◌ (in_slots s board i r at w.paths w.lone.slots g.slots.items are.0.slots) (in_guests s board i r at ts ws gs are.1)
 
 -- ---- closed regions
 
@@ -188,7 +179,7 @@ closed_told fs i f at command told placed bases =
 -- ---- a world that is kept
 
 module _ (w : WorldNow) (h : HostState) (names : List Text) (gs : List Guest) (kept : IsKept w h names gs) (p : Path) where
-  board_is : board_at h.state.functions ≡ board_at w.handoff.functions
+  pub board_is : board_at h.state.functions ≡ board_at w.handoff.functions
   board_is = ap (λ (s : State). board_at s.functions) kept.agrees ∙ keeps_board w.handoff w.guests
 
   pub declared_is : declared (board_at h.state.functions) p ≡ declared (board_at w.handoff.functions) p
@@ -217,7 +208,6 @@ module _ (w : WorldNow) (h : HostState) (names : List Text) (gs : List Guest) (k
         subst (λ (o : Option Endpoint). IsSlot w.handoff (Some p) (reset_function o) (Some held)) (sym (sym declared_is ∙ is.declares))
         (held_carried (board_state w) w.handoff (state_stays w.handoff kept.lawful.handoff.board w.guests) kept.lawful.handoff.board
         (sym (keeps_board w.handoff w.guests)) (sym (keeps_routing w.handoff kept.lawful.handoff.board w.guests kept.lawful.seated))
-        (λ q. sym (keeps_addresses w.handoff kept.lawful.handoff.board w.guests kept.lawful.seated q))
         p (function_of is.d) held (subst (λ (s : State). IsHeld s p (function_of is.d) held) kept.agrees (holds (function_of is.d) standing_is)))
 
   module _ (j n : ℕ) where
@@ -244,13 +234,18 @@ module _ (w : WorldNow) (h : HostState) (names : List Text) (gs : List Guest) (k
           ∙ ap (λ t. after_path t (is_some (function_in w.guests (name_nth w j) n)) (has_closed_region w.handoff p is.d)) a
           ∙ ap₂ (λ t u. after_path had t u) b c
 
-      had_is : (had : Bool) → has_path p gs ≡ had → sits w.guests p ≡ had
-      had_is had e = sym (in_guests w.handoff p names w.guests gs kept.guests) ∙ e
+      row_is : slice_get (board_at w.handoff.functions) i ≡ Some (record { path = p; decl = endpoint is.d })
+      row_is =
+          ap (λ (b : Board). slice_get b i) (sym board_is)
+          ∙ map_at row_at h.state.functions i (record { path = p; decl = endpoint is.d; file = file_at h.state.functions p }) is.there
 
-      pub had_withheld : has_path p gs ≡ true → MakesGift w p j n (Err HasGuest)
+      had_is : (had : Bool) → has_index i gs ≡ had → sits w.guests p ≡ had
+      had_is had e = sym (in_guests w.handoff kept.lawful.handoff.board.places i (record { path = p; decl = endpoint is.d }) row_is names w.guests gs kept.guests) ∙ e
+
+      pub had_withheld : has_index i gs ≡ true → MakesGift w p j n (Err HasGuest)
       had_withheld e = record { fault = sym (fault_is true (is_some (function_in w.guests (name_nth w j) n)) (has_closed_region w.handoff p is.d) (had_is true e) refl refl); comes = tt }
 
-      module _ (free : has_path p gs ≡ false) (g : Guest) (there : slice_get gs j ≡ Some g) where
+      module _ (free : has_index i gs ≡ false) (g : Guest) (there : slice_get gs j ≡ Some g) where
         at : GuestAt w h names gs j g
         at = kept_nth kept there
 

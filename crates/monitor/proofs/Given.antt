@@ -1,9 +1,9 @@
 -- The world after a gift.
-use Rattle.std.proofs.Common.{◌≡◌, ◌<◌, ℕ, List, Some, None, Option, slice_set, refl, sym, ap, ◌∙◌, subst, arith}
+use Rattle.std.proofs.Common.{◌≡◌, ◌<◌, ℕ, List, Some, None, Option, slice_get, slice_set, refl, sym, ap, ◌∙◌, subst, arith}
 use Rattle.std.specs.Prelude.{IsSome, Result, Ok}
 use Rattle.model_registers.specs.Declarations.{Endpoint}
 use Rattle.model_board.specs.Paths.{Path}
-use Rattle.model_board.specs.Board.{Board}
+use Rattle.model_board.specs.Board.{endpoint, Board}
 use Rattle.model_board.specs.AtReset.{board_at}
 use Rattle.model_board.specs.Routing.{routing}
 use Rattle.model_board.specs.State.{BoardFunction, State}
@@ -21,7 +21,7 @@ use Rattle.model_giving.specs.Giving.{Gift, with_reset_at, give_fault, after_giv
 use Rattle.model_handoff.proofs.Alike.{IsAlike}
 use Rattle.model_giving.proofs.Giving.{CanGive, can_give, given_is, is_alike, board_after_gift, lawful_after_gift, shown_after_gift}
 use Rattle.model_giving.proofs.Seats.{below}
-use Rattle.bridge_forward.specs.Lending.{with_endpoint_reset}
+use Rattle.host_bridge.specs.ByIndex.{with_reset_nth}
 use Rattle.host_bridge.specs.HostState.{HostState, with_functions}
 use Rattle.monitor.specs.declared.guest.Held.{Held}
 use Rattle.monitor.specs.declared.guest.Guest.{Guest}
@@ -32,8 +32,7 @@ use Rattle.monitor.specs.Moves.{HasSlot, IsExchanged}
 use Rattle.monitor.specs.Seatings.{MakesGift, gift_nth}
 use Rattle.monitor.proofs.Carried.{guests_carried}
 use Rattle.monitor.proofs.Steps.{guests_set, with_named, GuestAt, named, slots_put}
-use Rattle.monitor.proofs.TakenOver.{one_reset}
-use Rattle.model_handoff.proofs.First.{one_given}
+use Rattle.monitor.proofs.TakenOver.{reset_row}
 use Rattle.monitor.proofs.TakingSteps.{reset_by}
 use Rattle.monitor.proofs.Calls.{Leaves, leaves}
 use Rattle.monitor.proofs.Exchanges.{has_nth, items_are, latch_stays}
@@ -80,7 +79,7 @@ module _ {w : WorldNow} {h : HostState} {names : List Text} {gs : List Guest} {i
   comes : IsSlot w.handoff (Some p) (reset_function (Some d)) (Some held)
   comes = subst (λ (o : Option Endpoint). IsSlot w.handoff (Some p) (reset_function o) (Some held)) can.1.declares makes.comes
 
-  pub give_left : {empty : Option Held} {back : List Guest} {new : HostState} → IsExchanged gs i n empty (Some held) back → new ≡ with_functions (with_endpoint_reset p h.state.functions) h
+  pub give_left : {empty : Option Held} {back : List Guest} {new : HostState} → IsExchanged gs i n empty (Some held) back → new ≡ with_functions (with_reset_nth held.index h.state.functions) h
       → Leaves (after_give w the_gift) h new names back
   give_left {empty} {back} {new} ex is_new = leaves at.kept kept_given (sym alike.routing_is ∙ ap (λ (x : WorldNow). routing x.handoff.functions) (sym is))
     where
@@ -97,17 +96,19 @@ module _ {w : WorldNow} {h : HostState} {names : List Text} {gs : List Guest} {i
       guests =
           subst (AreGuests world.handoff names world.guests) (sym ex.after)
           (subst (λ (ws : GuestsNow). AreGuests (with_reset_at p w.handoff) names ws (slice_set gs i ex.guest)) (sym (with_named at (with_slot_filled n (Some p) d)))
-          (guests_carried w.handoff (with_reset_at p w.handoff) at.kept.lawful.handoff.board alike.handoff.board alike.board alike.routing_is alike.addresses names (slice_set w.guests i filled) (slice_set gs i ex.guest) put))
+          (guests_carried w.handoff (with_reset_at p w.handoff) at.kept.lawful.handoff.board alike.handoff.board alike.board alike.routing_is names (slice_set w.guests i filled) (slice_set gs i ex.guest) put))
 
       -- the board has the endpoint that the handoff has
       declares_now : declared (board_at h.state.functions) p ≡ Some d
       declares_now = ap (λ (s : State). declared (board_at s.functions) p) at.kept.agrees ∙ ap (λ (b : Board). declared b p) (keeps_board w.handoff w.guests) ∙ can.1.declares
 
+      row_now : slice_get (board_at h.state.functions) held.index ≡ Some (record { path = p; decl = endpoint d })
+      row_now = ap (λ (s : State). slice_get (board_at s.functions) held.index) at.kept.agrees ∙ ap (λ (b : Board). slice_get b held.index) (keeps_board w.handoff w.guests) ∙ comes.row
+
       board_reset : new.state ≡ with_reset_at p (board_state w)
       board_reset =
           ap (λ (x : HostState). x.state) is_new
-          ∙ ap (λ (fs : List BoardFunction). let t : State = record h.state { functions = fs } in t)
-          (one_reset h.state.functions p ∙ one_given (board_at h.state.functions) p (Some d) declares_now h.state.functions)
+          ∙ ap (λ (fs : List BoardFunction). let t : State = record h.state { functions = fs } in t) (reset_row h.state.functions held.index p d row_now)
           ∙ sym (reset_by h.state p d declares_now) ∙ ap (with_reset_at p) at.kept.agrees
 
       kept_given : IsKept (after_give w the_gift) new names back

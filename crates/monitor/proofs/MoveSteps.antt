@@ -18,7 +18,7 @@ use Rattle.model_handoff.proofs.Views.{reset_after_moves}
 use Rattle.model_guests.proofs.SeatedMoves.{seated_after_moves}
 use Rattle.model_guests.specs.Accesses.{done, refused}
 use Rattle.model_guests.specs.WorldNow.{move_reply}
-use Rattle.bridge_forward.specs.Lending.{with_endpoint_reset}
+use Rattle.host_bridge.specs.ByIndex.{with_reset_nth}
 use Rattle.host_bridge.specs.HostState.{HostState, with_functions}
 use Rattle.monitor.specs.declared.guest.Held.{Held}
 use Rattle.monitor.specs.declared.guest.Guest.{Guest}
@@ -196,7 +196,7 @@ module _ {w : WorldNow} {h : HostState} {names : List Text} {gs : List Guest} {i
         };
         clear = from.kept.clear;
         at_reset = reset_after_moves w.handoff w.guests from.kept.lawful.seated the_move there ∙ from.kept.at_reset;
-        agrees = board_reset from slot (over.board ∙ ap (λ (x : Held). with_functions (with_endpoint_reset x.path h.state.functions) h) same)
+        agrees = board_reset from slot (over.board ∙ ap (λ (x : Held). with_functions (with_reset_nth x.index h.state.functions) h) same)
             ∙ sym (move_resets_one_function w.handoff w.guests from.kept.lawful.seated the_move there (sym (passed ∙ fault_is)) slot.p slot.f (path_there from slot) (function_there from slot));
         guests = guests;
       }) refl

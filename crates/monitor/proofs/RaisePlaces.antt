@@ -1,21 +1,23 @@
 -- The place that a raise names, by the regions that are kept at the indices of their registers.
 use Rattle.std.proofs.Common.{◌≡◌, ℕ, zero, suc, ◌+◌, ◌<◌, ◌&&◌, ◌||◌, Bool, true, false, cond, eqb, List, [], ◌∷◌, Some, None, Option, refl, sym, ap, ap₂, ◌∙◌, arith}
-use Rattle.std.specs.Prelude.{map, is_some, nat_lt}
+use Rattle.std.specs.Prelude.{map, is_some, nat_lt, slice_get}
 use Rattle.std.specs.List.{list_any}
 use Rattle.std.specs.Option.{option_map_or}
 use Rattle.std.proofs.lemmas.Bool.Decides.{nat_tests}
-use Rattle.model_registers.specs.Registers.{Place, block, raise}
+use Rattle.model_registers.specs.Registers.{Place, block, File, raise}
 use Rattle.model_registers.specs.Declarations.{Region}
 use Rattle.model_registers.specs.EndpointTable.{BaseAddress}
 use Rattle.model_registers.specs.OwnCopies.{is_own}
 use Rattle.model_registers.specs.Decoding.{Function, base_address}
-use Rattle.model_board.specs.Paths.{Path, path_eq}
+use Rattle.model_board.specs.Paths.{Path}
 use Rattle.model_board.specs.State.{BoardFunction, with_file, State}
 use Rattle.model_board.specs.Ports.{file_at}
 use Rattle.model_guests.specs.Accesses.{in_region}
 use Rattle.model_guests.specs.Slots.{raise_place}
 use Rattle.bars.specs.Slots.{bases_from, slot_at}
 use Rattle.bars.specs.declared.region.Region as program
+use Rattle.bridge_forward.proofs.Changes.{same_files}
+use Rattle.host_bridge.specs.ByIndex.{with_file_nth}
 use Rattle.monitor.specs.declared.guest.Held.{Held}
 use Rattle.monitor.specs.Keeping.{IsHeld}
 use Rattle.monitor.specs.Raises.{raised_beside_copies}
@@ -76,10 +78,9 @@ region_reaches s p f h n off o held at =
 -- ---- bytes of which guests have a copy
 
 -- such a raise leaves the functions of the board
-pub copies_left : (mask : ℕ) (q : Place) (p : Path) (fs : List BoardFunction) → is_own q ≡ true → with_file (raised_beside_copies mask q) p fs ≡ fs
-copies_left mask q p [] own = refl
-copies_left mask q p (f ∷ fs) own = ap₂ (λ (x : BoardFunction) (xs : List BoardFunction). x ∷ xs) (one (path_eq f.path p)) (copies_left mask q p fs own)
+pub copies_left : (mask : ℕ) (q : Place) (i : ℕ) (fs : List BoardFunction) → is_own q ≡ true → with_file_nth (raised_beside_copies mask q) i fs ≡ fs
+copies_left mask q i fs own = ap (λ (t : Bool). with_file_nth (λ (file : File). cond t file (raise mask q file)) i fs) own ∙ by (slice_get fs i)
   where
-    one : (t : Bool) → cond t (record f { file = raised_beside_copies mask q f.file }) f ≡ f
-    one true = ap (λ (t : Bool). record f { file = cond t f.file (raise mask q f.file) }) own
-    one false = refl
+    by : (o : Option BoardFunction) → option_map_or (λ (f : BoardFunction). with_file (λ (file : File). file) f.path fs) o fs ≡ fs
+    by None = refl
+    by (Some f) = same_files f.path fs

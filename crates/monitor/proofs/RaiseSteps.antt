@@ -8,13 +8,12 @@ use Rattle.model_registers.specs.Cell.{raised}
 use Rattle.model_registers.specs.Registers.{Place, config, block, File, raise}
 use Rattle.model_registers.specs.Decoding.{Function}
 use Rattle.model_board.specs.Paths.{Path}
-use Rattle.model_board.specs.State.{State, with_file}
+use Rattle.model_board.specs.State.{State}
 use Rattle.model_guests.specs.Accesses.{Raise, raises, done, refused}
 use Rattle.model_guests.specs.Slots.{slot_at, raise_place, raise_landing, raise_fault, affected}
 use Rattle.model_guests.specs.Slots as guests
 use Rattle.model_guests.specs.Lone.{LoneGuest, answer, after_event}
 use Rattle.model_guests.specs.WorldNow.{WorldNow}
-use Rattle.model_guests.specs.AgreedBoard.{with_change_at}
 use Rattle.model_guests.specs.ChangeLaws.{with_slot_changed}
 use Rattle.model_guests.proofs.AgreedFiles.{raises_alike}
 use Rattle.model_guests.specs.Text.{Text}
@@ -22,6 +21,7 @@ use Rattle.guest_functions.proofs.HeldCopies.{raised_held}
 use Rattle.headers.specs.declared.place.Place as headers
 use Rattle.headers.specs.declared.place.Place.TheVariants.{Cfg, Bar}
 use Rattle.headers.specs.Places.{place_of}
+use Rattle.host_bridge.specs.ByIndex.{with_file_nth}
 use Rattle.host_bridge.specs.HostState.{HostState, with_functions}
 use Rattle.accesses.specs.Accesses.{part_of}
 use Rattle.monitor.specs.declared.guest.Held.{Held}
@@ -31,6 +31,7 @@ use Rattle.monitor.specs.ByIndex.{lone_nth, with_lone_nth, guest_nth}
 use Rattle.monitor.specs.Raises.{raised_beside_copies}
 use Rattle.monitor.specs.InSlots.{IsSlotFault}
 use Rattle.monitor.proofs.Steps.{with_guest_at, kept_slot, GuestAt, SlotAt, fault_lent, in_place, with_same}
+use Rattle.monitor.proofs.Reached.{changed_held}
 use Rattle.monitor.proofs.RegionSteps.{changed_shape}
 use Rattle.monitor.proofs.Calls.{Leaves, leaves}
 use Rattle.monitor.proofs.Checks.{low_slot, passes_slot, refused_first}
@@ -103,7 +104,7 @@ module _ {w : WorldNow} {h : HostState} {names : List Text} {gs : List Guest} {i
           ∙ ap (λ (o : Option Place). with_lone_nth i (record lone { slots = option_map_or (λ (q : Place). guests.with_file (raise mask q) n lone.slots) o lone.slots }) w)
           (ap (λ (o : Option Function). raise_landing o r) slot.function ∙ raised_at)
 
-      pub raise_written : {new : HostState} → new ≡ with_functions (with_file (raised_beside_copies mask (place_of place off)) held.path h.state.functions) h
+      pub raise_written : {new : HostState} → new ≡ with_functions (with_file_nth (raised_beside_copies mask (place_of place off)) held.index h.state.functions) h
           → Leaves (with_lone_nth i (after_event (lone_nth w i) (raises r)) w) h new names gs
       raise_written {new} is_new = leaves at.kept
           (subst (λ (v : WorldNow). IsKept v new names gs) (sym world)
@@ -113,5 +114,5 @@ module _ {w : WorldNow} {h : HostState} {names : List Text} {gs : List Guest} {i
           held.own (raised_held held.own slot.f.file slot.held.own mask (place_of place off)) refl
           g refl (sym (set_same g.slots.items n (Some held) slot.holds))
           new
-          (ap (λ (k : HostState). k.state) is_new ∙ ap (λ (p : Path). with_change_at (raised_beside_copies mask (place_of place off)) p h.state) slot.held.path))))
+          (changed_held at slot (raised_beside_copies mask (place_of place off)) is_new))))
           refl

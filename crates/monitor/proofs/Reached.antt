@@ -7,16 +7,17 @@ use Rattle.lists.specs.Elements.{Each, EachPair}
 use Rattle.model_registers.specs.Registers.{Place, block, File, read, all_bytes, number}
 use Rattle.model_registers.specs.ByteEnables.{IsWidth}
 use Rattle.model_registers.specs.OwnCopies.{handed_on}
-use Rattle.model_registers.specs.Decoding.{Space}
+use Rattle.model_registers.specs.Decoding.{Space, Function}
 use Rattle.model_board.specs.Paths.{Path, path_eq, path_before}
 use Rattle.model_board.specs.Board.{endpoint, Row, Board, IsBoard}
-use Rattle.model_board.specs.State.{BoardFunction, row_at, State}
+use Rattle.model_board.specs.State.{BoardFunction, row_at, State, with_file}
 use Rattle.model_board.specs.Claims.{claim_at}
 use Rattle.model_board.specs.AtReset.{board_at}
 use Rattle.model_board.specs.Ports.{claim_reply, file_at}
-use Rattle.model_registers.specs.CopiedFiles.{agreed_file, places_of}
+use Rattle.model_registers.specs.CopiedFiles.{after_reset, agreed_file, places_of}
 use Rattle.model_guests.specs.Slots.{slot_at}
 use Rattle.model_guests.specs.WorldNow.{WorldNow, board_state}
+use Rattle.model_guests.specs.AgreedBoard.{with_change_at}
 use Rattle.model_guests.specs.Seated.{IsSeat, IsSeatedAt, IsSeatedGuest}
 use Rattle.model_guests.proofs.GuestsByName.{path_at}
 use Rattle.lists.proofs.Indices.{each_at}
@@ -31,8 +32,9 @@ use Rattle.model_handoff.proofs.Regions.{hit_reaches_over}
 use Rattle.bars.specs.Hits.{hit_in}
 use Rattle.bridge_forward.specs.declared.bus.Located.{Located}
 use Rattle.bridge_forward.specs.Locating.{located_claim}
-use Rattle.bridge_forward.specs.Lending.{as_endpoint, endpoint_at}
-use Rattle.host_bridge.specs.HostState.{HostState}
+use Rattle.bridge_forward.specs.Lending.{as_endpoint, endpoint_nth}
+use Rattle.host_bridge.specs.ByIndex.{file_nth, with_file_nth, with_reset_nth}
+use Rattle.host_bridge.specs.HostState.{HostState, with_functions}
 use Rattle.host_bridge.specs.Landings.{IsLanding}
 use Rattle.host_bridge.proofs.Lent.{HasDistinctPaths, distinct_paths}
 use Rattle.host_bridge.proofs.ByIndex.{found_at}
@@ -116,19 +118,34 @@ module _ {w : WorldNow} {h : HostState} {names : List Text} {gs : List Guest} {i
     pub found_on_board : find (λ (f : BoardFunction). path_eq f.path slot.p) functions ≡ Some on_board
     found_on_board = found_at on_board functions held.index distinct board_row
 
-    -- the board has the endpoint
-    pub endpoint_held : IsSome (endpoint_at h.state.functions held.path)
-    endpoint_held =
-        let found = ap (λ (s : State). endpoint_at s.functions held.path) at.kept.agrees
-        ∙ ap (λ (p : Path). endpoint_at functions p) slot.held.path
-        ∙ ap (λ (o : Option BoardFunction). option_map_or as_endpoint o None) found_on_board in
-        subst IsSome (sym found) refl
+    -- the host has the endpoint, and its cells
+    held_row : slice_get h.state.functions held.index ≡ Some on_board
+    held_row = ap (λ (s : State). slice_get s.functions held.index) at.kept.agrees ∙ board_row
+
+    pub endpoint_held : IsSome (endpoint_nth h.state.functions held.index)
+    endpoint_held = subst (λ (o : Option BoardFunction). IsSome (option_map_or as_endpoint o None)) (sym held_row) refl
+
+    pub file_held : file_nth h.state.functions held.index ≡ on_board.file
+    file_held = ap (λ (o : Option BoardFunction). option_map_or (λ (f : BoardFunction). f.file) o []) held_row
+
+    -- a change of the cells there, and a reset
+    pub changed_held : (g : File → File) {new : HostState} → new ≡ with_functions (with_file_nth g held.index h.state.functions) h → new.state ≡ with_change_at g slot.p h.state
+    changed_held g is_new =
+        let fs = h.state.functions in
+        ap (λ (k : HostState). k.state) is_new
+        ∙ ap (λ (o : Option BoardFunction). let t : State = record h.state { functions = option_map_or (λ (f : BoardFunction). with_file g f.path fs) o fs } in t) held_row
+
+    pub reset_of_held : {new : HostState} → new ≡ with_functions (with_reset_nth held.index h.state.functions) h → new.state ≡ with_change_at (after_reset slot.f.decl) slot.p h.state
+    reset_of_held is_new =
+        let fs = h.state.functions in
+        ap (λ (k : HostState). k.state) is_new
+        ∙ ap (λ (o : Option BoardFunction). let t : State = record h.state { functions = option_map_or (λ (e : Function). option_map_or (λ (f : BoardFunction). with_file (after_reset e.decl) f.path fs) o fs) (option_map_or as_endpoint o None) fs } in t) held_row
 
     pub places_same : places_of slot.f.file ≡ places_of left
     places_same = same_as_left w.handoff at.kept.lawful.handoff w.guests slot.p slot.f (seat slot)
 
     -- what the board shows of the bytes of which the guest has no copy
-    board_shows : (p : Place) (ons : List Bool) → read on_board.file p (handed_on p ons) ≡ read slot.f.file p (handed_on p ons)
+    pub board_shows : (p : Place) (ons : List Bool) → read on_board.file p (handed_on p ons) ≡ read slot.f.file p (handed_on p ons)
     board_shows p ons = shows_file left slot.f.file places_same p ons
 
     pub block_shown : (k a width : ℕ) → claim_reply functions width (Some (record { path = slot.p; index = k; offset = a })) ≡ number slot.f.file (block k a) width

@@ -16,7 +16,7 @@ use Rattle.model_guests.specs.Guests.{GuestsNow, lone_of}
 use Rattle.model_guests.specs.WorldNow.{WorldNow, board_state}
 use Rattle.model_guests.specs.AgreedBoard.{with_change_at}
 use Rattle.model_board.specs.AtReset.{board_at}
-use Rattle.model_board.specs.State.{BoardFunction, State, with_file}
+use Rattle.model_board.specs.State.{State}
 use Rattle.model_board.specs.Paths.{Path}
 use Rattle.model_guests.specs.Text.{Text}
 use Rattle.model_devices.specs.DeviceEvents.{resets, slot_fault, device_answer, after_device_event, device_after, DeviceEvent, device_changed, device_fault, device_performed}
@@ -26,7 +26,7 @@ use Rattle.model_devices.proofs.Resets.{reset_reaches_board}
 use Rattle.model_devices.specs.DeviceEvents.{after_device}
 use Rattle.bars.proofs.Regions.{no_base_opened}
 use Rattle.guest_functions.proofs.ResetCopies.{closed_as_opened}
-use Rattle.bridge_forward.specs.Lending.{with_endpoint_reset, as_endpoint}
+use Rattle.host_bridge.specs.ByIndex.{with_reset_nth}
 use Rattle.host_bridge.specs.HostState.{HostState, with_functions}
 use Rattle.monitor.specs.declared.guest.Held.{Held}
 use Rattle.monitor.specs.declared.guest.Guest.{Guest}
@@ -36,7 +36,7 @@ use Rattle.monitor.specs.Moves.{reset_held, HandsOver, IsExchanged}
 use Rattle.monitor.proofs.Steps.{GuestAt, SlotAt, function_there, kept_put, lone_named, path_there, with_named, with_same}
 use Rattle.monitor.proofs.Calls.{Leaves, leaves}
 use Rattle.monitor.proofs.Exchanges.{exchanged_twice, held_same, items_are, latch_stays}
-use Rattle.monitor.proofs.Reached.{found_on_board, functions, lawful}
+use Rattle.monitor.proofs.Reached.{lawful, reset_of_held}
 use Rattle.monitor.proofs.Checks.{low_slot}
 
 abbrev pub at_reset : Function → Function
@@ -44,9 +44,7 @@ at_reset f = record { decl = f.decl; file = endpoint_reset f.decl false }
 
 pub held_reset : (s : State) (p : Path) (f : Function) (h : Held) → IsLawfulEndpoint f.decl → IsHeld s p f h → IsHeld s p (at_reset f) (reset_held h)
 held_reset s p f h is_lawful held = record {
-  path = held.path;
   row = held.row;
-  at = held.at;
   placed = held.placed;
   regions = held.regions ∙ sym (no_base_opened h.own.bases);
   own = subst (λ (bs : List BaseAddress). HoldsOwn (endpoint_reset f.decl false) (record { command = 0; bases = bs })) (closed_as_opened f.decl.regions h.own.bases held.regions)
@@ -73,16 +71,8 @@ module _ {w : WorldNow} {h : HostState} {names : List Text} {gs : List Guest} {i
 
   module _ {n : ℕ} {held : Held} (slot : SlotAt at n held) where
     -- the board resets the function, and nothing else
-    pub board_reset : {new : HostState} → new ≡ with_functions (with_endpoint_reset held.path h.state.functions) h → new.state ≡ with_change_at (after_reset slot.f.decl) slot.p (board_state w)
-    board_reset is_new =
-        ap (λ (k : HostState). k.state) is_new
-        ∙ ap (λ (s : State). let t : State = record s { functions = with_endpoint_reset held.path s.functions } in t) at.kept.agrees
-        ∙ ap (λ (p : Path). let t : State = record (board_state w) { functions = with_endpoint_reset p fs } in t) slot.held.path
-        ∙ ap (λ (o : Option BoardFunction). let t : State = record (board_state w) { functions = option_map_or (λ (e : Function). with_file (after_reset e.decl) slot.p fs) (option_map_or as_endpoint o None) fs } in t)
-        (found_on_board at slot)
-      where
-        fs : List BoardFunction
-        fs = functions at
+    pub board_reset : {new : HostState} → new ≡ with_functions (with_reset_nth held.index h.state.functions) h → new.state ≡ with_change_at (after_reset slot.f.decl) slot.p (board_state w)
+    board_reset is_new = reset_of_held at slot is_new ∙ ap (with_change_at (after_reset slot.f.decl) slot.p) at.kept.agrees
 
     module _ (low : n ≤ 31) where
       pub reset_done : done ≡ device_answer (lone_of w.guests (name_nth w i)) (resets n)
@@ -95,7 +85,7 @@ module _ {w : WorldNow} {h : HostState} {names : List Text} {gs : List Guest} {i
       reset_left {new} {back} over =
           let same : over.held ≡ held = held_same at slot over.leaves in
           let is : IsExchanged gs i n (Some over.held) (Some (reset_held over.held)) back = exchanged_twice over.leaves over.comes in
-          let board : new ≡ with_functions (with_endpoint_reset held.path h.state.functions) h = over.board ∙ ap (λ (x : Held). with_functions (with_endpoint_reset x.path h.state.functions) h) same in
+          let board : new ≡ with_functions (with_reset_nth held.index h.state.functions) h = over.board ∙ ap (λ (x : Held). with_functions (with_reset_nth x.index h.state.functions) h) same in
           leaves at.kept
           (subst (λ (v : WorldNow). IsKept v new names back) (device_named (resets n))
           (subst (IsKept (with_lone_nth i (after_device_event (lone_nth w i) (resets n)) w) new names) (sym is.after)

@@ -110,7 +110,7 @@ module _ (s : State) (handoff : IsHandoff s) (gs : GuestsNow) where
 
   slots_shown : (qs : List (Option Path)) (fs : Slots) (os : List (Option Held)) → AreSeats b qs fs → AreSlots s qs fs os
       → ((n : ℕ) (p : Path) (f : Function) → path_at qs n ≡ Some p → slot_at fs n ≡ Some f → file_of gs p ≡ Some f.file)
-      → (map path_shown os ≡ qs) × (map (slot_shown (state_over s gs).functions) os ≡ fs)
+      → (map (path_shown (state_over s gs).functions) os ≡ qs) × (map (slot_shown (state_over s gs).functions) os ≡ fs)
   slots_shown [] [] [] seats are files = (refl, refl)
   slots_shown [] [] (o ∷ os) seats are files = absurd are
   slots_shown [] (f ∷ fs) os seats are files = absurd are
@@ -124,8 +124,9 @@ module _ (s : State) (handoff : IsHandoff s) (gs : GuestsNow) where
   slots_shown (Some p ∷ qs) (None ∷ fs) (o ∷ os) seats are files = absurd are.0
   slots_shown (Some p ∷ qs) (Some f ∷ fs) (None ∷ os) seats are files = absurd are.0
   slots_shown (Some p ∷ qs) (Some f ∷ fs) (Some h ∷ os) seats are files =
-      let more = slots_shown qs fs os seats.1 are.1 (λ n. files (suc n)) in (
-        ap₂ (λ (x : Path) (xs : List (Option Path)). Some x ∷ xs) are.0.path more.0,
+      let more = slots_shown qs fs os seats.1 are.1 (λ n. files (suc n)) in
+      let there = board_there s handoff gs p f seats.0 h.index are.0.row (files zero p f refl refl) in (
+        ap₂ (λ (x : Option BoardFunction) (xs : List (Option Path)). option_map (λ (g : BoardFunction). g.path) x ∷ xs) there more.0,
         ap₂ (λ (x : Option Function) (xs : Slots). x ∷ xs) (shown_there s handoff gs p f seats.0 h are.0 (files zero p f refl refl)) more.1,
       )
 
@@ -142,7 +143,7 @@ module _ (s : State) (handoff : IsHandoff s) (gs : GuestsNow) where
       files : (n : ℕ) (p : Path) (f : Function) → path_at w.paths n ≡ Some p → slot_at w.lone.slots n ≡ Some f → file_of gs p ≡ Some f.file
       files n p f at is = file_named b gs w n p f seated (named zero w refl).0 at is
 
-      slots : (map path_shown g.slots.items ≡ w.paths) × (map (slot_shown (state_over s gs).functions) g.slots.items ≡ w.lone.slots)
+      slots : (map (path_shown (state_over s gs).functions) g.slots.items ≡ w.paths) × (map (slot_shown (state_over s gs).functions) g.slots.items ≡ w.lone.slots)
       slots = slots_shown w.paths w.lone.slots g.slots.items (named zero w refl).1 are.0.slots files
 
       here : guest_shown (state_over s gs).functions t g ≡ w

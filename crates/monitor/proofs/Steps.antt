@@ -274,9 +274,7 @@ module _ {w : WorldNow} {h : HostState} {names : List Text} {gs : List Guest} {i
         → IsKept (with_guest_at i (with_slot_changed own_change n (guest_nth w i)) w) after names (slice_set gs i k)
     kept_slot own_change board_change alike keeps own holds regions k latch items after state =
         let held_now : IsHeld w.handoff slot.p (record slot.f { file = own_change slot.f.file }) (record held { own = own }) = record {
-          path = slot.held.path;
           row = slot.held.row;
-          at = slot.held.at;
           placed = slot.held.placed;
           regions = slot.held.regions ∙ sym regions;
           own = holds;

@@ -4,13 +4,17 @@ use Rattle.std.specs.Prelude.{map, flat_map, find, option_map, slice_get}
 use Rattle.std.specs.List.{list_any}
 use Rattle.std.specs.Option.{option_map_or}
 use Rattle.std.proofs.lemmas.List.{append-nil}
+use Rattle.lists.proofs.FirstFound.{found_passes}
+use Rattle.lists.proofs.Indices.{at_map}
 use Rattle.model_registers.specs.Registers.{File}
+use Rattle.model_registers.specs.Declarations.{Endpoint}
 use Rattle.model_registers.specs.Decoding.{Function}
 use Rattle.model_registers.specs.CopiedFiles.{after_reset}
 use Rattle.model_board.specs.Paths.{Path, path_eq}
 use Rattle.model_board.specs.Board.{Decl, endpoint, bridge, Row, Board}
 use Rattle.model_board.specs.AtReset.{board_at}
 use Rattle.model_board.specs.State.{BoardFunction, row_at, with_file}
+use Rattle.model_board.proofs.PathOrder.{path_same}
 use Rattle.model_guests.specs.World.{Guest, declared, endpoint_of}
 use Rattle.model_guests.specs.AgreedBoard.{agreed_function}
 use Rattle.model_guests.proofs.AgreedChanges.{agreed_by}
@@ -20,6 +24,7 @@ use Rattle.model_handoff.proofs.First.{any_append, one_given}
 use Rattle.model_handoff.proofs.Functions.{path_stays}
 use Rattle.model_handoff.proofs.Keeping.{rows_stay}
 use Rattle.bridge_forward.specs.Lending.{as_endpoint, endpoint_at, with_endpoint_reset}
+use Rattle.host_bridge.specs.ByIndex.{with_reset_nth}
 use Rattle.host_bridge.specs.HostState.{HostState, with_functions}
 use Rattle.window_packing.specs.Readies.{board_below}
 use Rattle.window_packing.proofs.BarLists.{take_at}
@@ -72,6 +77,28 @@ one_reset fs p = by (endpoint_at fs p) (declared_there fs p)
         → option_map_or (λ (e : Function). with_file (after_reset e.decl) p fs) o fs ≡ map (agreed_function (files_given (board_at fs) (p ∷ []))) fs
     by None e = sym (one_given (board_at fs) p None e fs)
     by (Some f) e = sym (one_given (board_at fs) p (Some f.decl) e fs)
+
+-- the function that stands at the path
+pub reset_found : (fs : List BoardFunction) (p : Path) (i : ℕ) → slice_get fs i ≡ find (λ (f : BoardFunction). path_eq f.path p) fs → with_reset_nth i fs ≡ with_endpoint_reset p fs
+reset_found fs p i told = ap by_index told ∙ by (find (λ (f : BoardFunction). path_eq f.path p) fs) refl
+  where
+    by_index : Option BoardFunction → List BoardFunction
+    by_index o = option_map_or (λ (e : Function). option_map_or (λ (f : BoardFunction). with_file (after_reset e.decl) f.path fs) o fs) (option_map_or as_endpoint o None) fs
+
+    by : (o : Option BoardFunction) → find (λ (f : BoardFunction). path_eq f.path p) fs ≡ o → by_index o ≡ option_map_or (λ (e : Function). with_file (after_reset e.decl) p fs) (option_map_or as_endpoint o None) fs
+    by None k = refl
+    by (Some f) k =
+        let path : f.path ≡ p = path_same f.path p (found_passes (λ (g : BoardFunction). path_eq g.path p) fs f k) in
+        ap (λ (q : Path). option_map_or (λ (e : Function). with_file (after_reset e.decl) q fs) (as_endpoint f) fs) path
+
+-- an endpoint by the row of the board
+pub reset_row : (fs : List BoardFunction) (i : ℕ) (p : Path) (d : Endpoint) → slice_get (board_at fs) i ≡ Some (record { path = p; decl = endpoint d }) → with_reset_nth i fs ≡ with_file (after_reset d) p fs
+reset_row fs i p d row = of (at_map row_at fs i (record { path = p; decl = endpoint d }) row)
+  where
+    of : (g : BoardFunction) × (slice_get fs i ≡ Some g) × (record { path = p; decl = endpoint d } ≡ row_at g) → with_reset_nth i fs ≡ with_file (after_reset d) p fs
+    of (g, there, e) =
+        ap (λ (o : Option BoardFunction). option_map_or (λ (x : Function). option_map_or (λ (f : BoardFunction). with_file (after_reset x.decl) f.path fs) o fs) (option_map_or as_endpoint o None) fs) there
+        ∙ ap (λ (r : Row). option_map_or (λ (x : Function). with_file (after_reset x.decl) r.path fs) (as_endpoint (record { path = r.path; decl = r.decl; file = g.file })) fs) (sym e)
 
 -- ---- one more
 

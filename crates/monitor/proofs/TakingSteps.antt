@@ -25,7 +25,7 @@ use Rattle.model_handoff.proofs.Keeping.{keeps_board}
 use Rattle.model_giving.specs.Giving.{with_reset_at, take_fault, take_reply, taken, after_take}
 use Rattle.model_giving.proofs.Giving.{can_take, taken_is, seated_is, board_after_taking, lawful_after_taking, shown_after_taking}
 use Rattle.model_giving.proofs.Seats.{declared_there}
-use Rattle.bridge_forward.specs.Lending.{with_endpoint_reset}
+use Rattle.host_bridge.specs.ByIndex.{with_reset_nth}
 use Rattle.host_bridge.specs.HostState.{HostState, with_functions}
 use Rattle.monitor.specs.declared.guest.Held.{Held}
 use Rattle.monitor.specs.declared.guest.Guest.{Guest}
@@ -77,7 +77,7 @@ module _ {w : WorldNow} {h : HostState} {names : List Text} {gs : List Guest} {i
     is : after_take w (name_nth w i) n ≡ world
     is = taken_is w (name_nth w i) n may_take slot.p (path_there at slot)
 
-    pub take_left : {was : Option Held} {back : List Guest} {new : HostState} → IsExchanged gs i n was None back → new ≡ with_functions (with_endpoint_reset held.path h.state.functions) h
+    pub take_left : {was : Option Held} {back : List Guest} {new : HostState} → IsExchanged gs i n was None back → new ≡ with_functions (with_reset_nth held.index h.state.functions) h
         → Leaves (after_take w (name_nth w i) n) h new names back
     take_left {was} {back} {new} ex is_new = leaves at.kept kept_taken (ap (λ (s : State). routing s.functions) (sym (ap (λ (v : WorldNow). v.handoff) is ∙ handoff_stays)))
       where

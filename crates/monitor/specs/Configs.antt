@@ -3,40 +3,38 @@
 --     IsHolding      a slot with a function
 --     WritesOwn      the slots after a write of that function's own copies
 --     HoldsAt, WritesGuest      the same of a guest by its index
-use Rattle.std.specs.Prelude.{ℕ, List, Bool, Option, Some, ◌≡◌, map, slice_get, slice_set}
+use Rattle.std.specs.Prelude.{ℕ, List, Bool, Option, Some, ◌≡◌, IsSome, map, slice_get, slice_set}
 use Rattle.model_registers.specs.Registers.{config, File, read, write}
 use Rattle.model_registers.specs.ByteEnables.{lanes}
 use Rattle.model_registers.specs.EndpointTable.{opened}
 use Rattle.model_registers.specs.OwnCopies.{OwnCopies, own_file, HoldsOwn, IsLawfulOwn, handed_on}
-use Rattle.model_board.specs.Ports.{config_reply}
-use Rattle.paths.specs.BusAddresses.{bus_address_of}
+use Rattle.bridge_forward.specs.Lending.{endpoint_nth}
+use Rattle.host_bridge.specs.ByIndex.{file_nth}
 use Rattle.host_bridge.specs.HostState.{HostState}
-use Rattle.paths.specs.declared.bdf.Bdf.{Bdf}
 use Rattle.monitor.specs.declared.guest.Held.{Held}
 use Rattle.monitor.specs.declared.guest.Guest.{Guest}
 
--- the address latch is clear
 pub record IsSeen (h : HostState) (held : Held) : Type 0 where
   pub file : File
   pub lawful : IsLawfulOwn held.own
   pub holds : HoldsOwn file held.own
+  pub there : IsSome (endpoint_nth h.state.functions held.index)
   pub shows : (off : ℕ) (ons : List Bool)
-      → config_reply h.state.functions (bus_address_of held.at) off (handed_on (config off) ons)
+      → read (file_nth h.state.functions held.index) (config off) (handed_on (config off) ons)
       ≡ read file (config off) (handed_on (config off) ons)
-  pub latch : h.state.latch ≡ 0
 
 pub record IsHolding (slots : List (Option Held)) (n : ℕ) : Type 0 where
   pub held : Held
   pub there : slice_get slots n ≡ Some (Some held)
 
--- the enabled bytes of a word; the result is the function's number, and the enables of the bytes without a copy
+-- the enabled bytes of a word; the result is the function's index, and the enables of the bytes without a copy
 pub record WritesOwn (slots : List (Option Held)) (n : ℕ) (holds : IsHolding slots n) (word enables value : ℕ)
-    (new : List (Option Held)) (r : Bdf × ℕ) : Type 0 where
+    (new : List (Option Held)) (r : ℕ × ℕ) : Type 0 where
   pub own : OwnCopies
   pub after : new ≡ slice_set slots n (Some (record holds.held { own = own }))
   pub written : own_file own ≡ write (lanes enables) value (config word) (own_file holds.held.own)
   pub regions : map opened own.bases ≡ map opened holds.held.own.bases
-  pub number : r.0 ≡ holds.held.at
+  pub index : r.0 ≡ holds.held.index
   pub others : lanes r.1 ≡ handed_on (config word) (lanes enables)
 
 -- a guest holds a function in a slot
@@ -47,7 +45,7 @@ pub record HoldsAt (gs : List Guest) (i n : ℕ) : Type 0 where
 
 -- the guests after a write of that function's own copies
 pub record WritesGuest (gs : List Guest) (i n : ℕ) (holds : HoldsAt gs i n) (word enables value : ℕ)
-    (new : List Guest) (r : Bdf × ℕ) : Type 0 where
+    (new : List Guest) (r : ℕ × ℕ) : Type 0 where
   pub guest : Guest
   pub after : new ≡ slice_set gs i guest
   pub latch : guest.latch ≡ holds.guest.latch

@@ -18,10 +18,10 @@ use Rattle.monitor.specs.Keeping.{IsHeld, AreSlots}
 abbrev pub device_byte : ℕ → Place → ℕ → DeviceByte
 device_byte n place off = record { slot = n; part = part_of place; offset = off }
 
-pub record Reaches (slots : List (Option Held)) (n : ℕ) (place : Place) (off : ℕ) (path : Path) : Type 0 where
+pub record Reaches (slots : List (Option Held)) (n : ℕ) (place : Place) (off index : ℕ) : Type 0 where
   pub held : Held
   pub there : slice_get slots n ≡ Some (Some held)
-  pub path_is : path ≡ held.path
+  pub index_is : index ≡ held.index
   pub low : n ≤ 31
   pub reaches : (s : State) (p : Path) (f : Function) → IsHeld s p f held
       → is_some (device_place f (part_of place) off) ≡ true

@@ -1,27 +1,25 @@
 -- What code answers of a function of the board.
 --     seat_named, function_named      a seat and a function, from the program's words
---     seat_kept p i gs      the seat of the function at a path among kept guests; i is the index of the first of them
+--     seat_kept i k gs      the seat of the function at an index among kept guests; k is the index of the first of them
 use Rattle.std.specs.Prelude.{ℕ, ◌+◌, List, [], ◌∷◌, Option, None, option_map, position}
 use Rattle.lists.specs.Elements.{first_of_two}
-use Rattle.model_board.specs.Paths.{Path}
 use Rattle.model_queries.specs.Functions as model
-use Rattle.model_queries.specs.Functions.{is_there}
 use Rattle.paths.specs.BusAddresses.{bus_address_of}
 use Rattle.bridge_forward.specs.ByIndex.{ranges_told}
 use Rattle.function_identity.specs.Identities.{identity_told}
 use Rattle.monitor.specs.declared.guest.Guest.{Guest}
 use Rattle.monitor.specs.declared.seat.Seat.{Seat}
 use Rattle.monitor.specs.declared.functions.FunctionNow.{FunctionNow}
-use Rattle.monitor.specs.Views.{path_shown}
+use Rattle.monitor.specs.InSlots.{is_at}
 
 abbrev pub seat_named : Seat → model.Seat
 seat_named s = record { guest = s.guest; slot = s.slot }
 
-abbrev pub seat_kept : Path → ℕ → List Guest → Option model.Seat
-seat_kept p i [] = None
-seat_kept p i (g ∷ gs) = first_of_two
-    (option_map (λ (n : ℕ). record { guest = i; slot = n }) (position (λ o. is_there p (path_shown o)) g.slots.items))
-    (seat_kept p (i + 1) gs)
+abbrev pub seat_kept : ℕ → ℕ → List Guest → Option model.Seat
+seat_kept i k [] = None
+seat_kept i k (g ∷ gs) =
+    first_of_two (option_map (λ (n : ℕ). record { guest = k; slot = n }) (position (is_at i) g.slots.items))
+    (seat_kept i (k + 1) gs)
 
 abbrev pub function_named : FunctionNow → model.FunctionNow
 function_named f = record {

@@ -1,13 +1,18 @@
 -- The function in a slot of a guest.
+--     is_at i o      a slot has the function at an index
 --     IsInSlot slots n h      slot n has the function h
 --     IsSlotFault slots n number      slot n is refused by this number: there is none, or no function in it
-use Rattle.std.specs.Prelude.{ℕ, List, Option, Some, ◌≡◌, ◌≤◌, slice_get}
+use Rattle.std.specs.Prelude.{ℕ, List, Bool, false, Option, Some, ◌≡◌, ◌≤◌, ◌==◌, slice_get}
+use Rattle.std.specs.Option.{option_map_or}
 use Rattle.model_board.specs.Paths.{Path}
 use Rattle.model_board.specs.State.{State}
 use Rattle.model_guests.specs.Slots.{Slots}
 use Rattle.model_devices.specs.DeviceEvents.{slot_fault}
 use Rattle.monitor.specs.declared.guest.Held.{Held}
 use Rattle.monitor.specs.Keeping.{AreSlots}
+
+abbrev pub is_at : ℕ → Option Held → Bool
+is_at i o = option_map_or (λ (h : Held). h.index == i) o false
 
 pub record IsInSlot (slots : List (Option Held)) (n : ℕ) (held : Held) : Type 0 where
   pub low : n ≤ 31

@@ -12,7 +12,6 @@ use Rattle.model_board.specs.Board.{endpoint}
 use Rattle.model_board.specs.AtReset.{board_at}
 use Rattle.model_board.specs.Ports.{file_at}
 use Rattle.model_board.specs.State.{State}
-use Rattle.model_audit.specs.Found.{address_now}
 use Rattle.model_guests.specs.Text.{Text}
 use Rattle.model_guests.specs.Slots.{Slots}
 use Rattle.model_guests.specs.Guests.{GuestNow, GuestsNow}
@@ -20,7 +19,6 @@ use Rattle.model_handoff.specs.Kept.{IsLawfulOver}
 use Rattle.model_handoff.specs.ViewLaws.{with_seated_reset}
 use Rattle.model_guests.specs.WorldNow.{WorldNow, board_state}
 use Rattle.bars.specs.Slots.{bases_from}
-use Rattle.paths.specs.BusAddresses.{bus_address_of}
 use Rattle.host_bridge.specs.HostState.{HostState}
 use Rattle.monitor.specs.declared.guest.Held.{Held}
 use Rattle.monitor.specs.declared.guest.Guest.{Guest}
@@ -28,9 +26,7 @@ use Rattle.monitor.specs.Views.{world_shown}
 
 -- for the function f of the path p
 pub record IsHeld (s : State) (p : Path) (f : Function) (h : Held) : Type 0 where
-  pub path : h.path ≡ p
   pub row : slice_get (board_at s.functions) h.index ≡ Some (record { path = p; decl = endpoint f.decl })
-  pub at : bus_address_of h.at ≡ address_now s.functions p
   pub placed : bases_from 0 h.placed ≡ map (base_address (file_at s.functions p)) f.decl.regions
   pub regions : map bare f.decl.regions ≡ map opened h.own.bases
   pub own : HoldsOwn f.file h.own

@@ -12,7 +12,7 @@ use Rattle.model_guests.specs.Guests.{Move}
 use Rattle.model_guests.specs.WorldNow.{WorldNow}
 use Rattle.monitor.specs.declared.guest.Held.{Held}
 use Rattle.monitor.specs.declared.guest.Guest.{Guest}
-use Rattle.bridge_forward.specs.Lending.{with_endpoint_reset}
+use Rattle.host_bridge.specs.ByIndex.{with_reset_nth}
 use Rattle.host_bridge.specs.HostState.{HostState, with_functions}
 use Rattle.monitor.specs.ByIndex.{name_nth}
 
@@ -54,4 +54,4 @@ pub record HandsOver (h : HostState) (gs : List Guest) (i n j m : ℕ) (new : Ho
   pub empty : Option Held
   pub leaves : IsExchanged gs i n (Some held) None left
   pub comes : IsExchanged left j m empty (Some (reset_held held)) after
-  pub board : new ≡ with_functions (with_endpoint_reset held.path h.state.functions) h
+  pub board : new ≡ with_functions (with_reset_nth held.index h.state.functions) h

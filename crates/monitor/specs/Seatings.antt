@@ -3,7 +3,7 @@
 --     withheld_number      the number of a refusal
 --     fault_told      what is told of a gift, by its number
 --     IsEndpointAt      an endpoint stands at a path, and at an index
---     is_in p o, has_path p gs      a slot has the function at the path; a slot of any guest has it
+--     has_index i gs      a slot of any guest has the function at an index
 --     is_closed_base, is_closed_slot      Command doesn't open the space of the region that begins at a register
 --     ComesIn      the function at the path, at reset, as it is kept in a slot
 --     MakesGift      what a gift is told in a world that is kept, and what comes into the slot where it is not refused
@@ -21,7 +21,6 @@ use Rattle.model_board.specs.Ports.{file_at}
 use Rattle.model_board.specs.State.{State}
 use Rattle.model_guests.specs.Slots.{reset_function}
 use Rattle.model_guests.specs.World.{declared}
-use Rattle.model_handoff.specs.ViewLaws.{is_at}
 use Rattle.model_guests.specs.WorldNow.{WorldNow}
 use Rattle.model_giving.specs.Giving.{Gift, give_fault}
 use Rattle.monitor.specs.declared.guest.Held.{Held}
@@ -29,8 +28,8 @@ use Rattle.monitor.specs.declared.guest.Guest.{Guest}
 use Rattle.monitor.specs.declared.withheld.Withheld.{Withheld}
 use Rattle.monitor.specs.declared.withheld.Withheld.TheVariants.{PastSlots, NoEndpoint, HasGuest, SlotTaken, ClosedRegion}
 use Rattle.monitor.specs.ByIndex.{name_nth}
+use Rattle.monitor.specs.InSlots.{is_at}
 use Rattle.monitor.specs.Keeping.{IsSlot}
-use Rattle.monitor.specs.Views.{path_shown}
 
 abbrev pub gift_nth : WorldNow → Path → ℕ → ℕ → Gift
 gift_nth w p i n = record { path = p; to = name_nth w i; slot = n }
@@ -51,11 +50,8 @@ pub record IsEndpointAt (s : State) (p : Path) (i : ℕ) : Type 0 where
   pub declares : declared (board_at s.functions) p ≡ Some d
   pub there : slice_get s.functions i ≡ Some (record { path = p; decl = endpoint d; file = file_at s.functions p })
 
-abbrev pub is_in : Path → Option Held → Bool
-is_in p o = is_at p (path_shown o)
-
-abbrev pub has_path : Path → List Guest → Bool
-has_path p gs = list_any (λ (g : Guest). list_any (is_in p) g.slots.items) gs
+abbrev pub has_index : ℕ → List Guest → Bool
+has_index i gs = list_any (λ (g : Guest). list_any (is_at i) g.slots.items) gs
 
 abbrev pub is_closed_base : ℕ → BaseAddress → Bool
 is_closed_base command b = not (opens_space command (space_of b.kind))

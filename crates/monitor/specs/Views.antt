@@ -1,10 +1,11 @@
 -- What the guests of a host see.
 --     texts      guests' names as texts
 --     function_shown, slot_shown      a function in a slot: the board's registers, with the guest's own copies put in
+--     path_shown      the path of a function in a slot, as the board has it
 --     guest_shown, guests_shown      guests as they are now
 --     handoff_shown      the handoff, as the board shows it: with all functions in slots at reset
 --     world_shown      the handoff with the guests as they are now
-use Rattle.std.specs.Prelude.{List, [], ◌∷◌, Option, None, map, option_map}
+use Rattle.std.specs.Prelude.{List, [], ◌∷◌, Option, None, map, option_map, slice_get}
 use Rattle.std.specs.Option.{option_map_or}
 use Rattle.arrayvec.specs.ArrayVec.{ArrayVec}
 use Rattle.arrayvec.specs.ArrayString.{ArrayString}
@@ -32,13 +33,13 @@ function_shown fs h =
 abbrev pub slot_shown : List BoardFunction → Option Held → Option Function
 slot_shown fs o = option_map_or (function_shown fs) o None
 
-abbrev pub path_shown : Option Held → Option Path
-path_shown o = option_map (λ (h : Held). h.path) o
+abbrev pub path_shown : List BoardFunction → Option Held → Option Path
+path_shown fs o = option_map_or (λ (h : Held). option_map (λ (f : BoardFunction). f.path) (slice_get fs h.index)) o None
 
 abbrev pub guest_shown : List BoardFunction → Text → Guest → GuestNow
 guest_shown fs name g = record {
   name = name;
-  paths = map path_shown g.slots.items;
+  paths = map (path_shown fs) g.slots.items;
   lone = record { slots = map (slot_shown fs) g.slots.items; latch = g.latch };
 }
 

@@ -4,6 +4,7 @@ ghost use Rattle.lists.specs.Elements.{Each};
 ghost use Rattle.model_registers.specs.Declarations.{HasLawfulRegions};
 ghost use Rattle.model_registers.specs.EndpointTable.{opened};
 ghost use Rattle.model_registers.specs.Decoding.{Function};
+ghost use Rattle.model_board.specs.Paths.{Path as PathValue};
 ghost use Rattle.model_audit.specs.Orderly.{IsStateOfBoard};
 ghost use Rattle.model_guests.specs.World.{Guest as GuestValue, names, HasLawfulGuests, declared};
 ghost use Rattle.model_guests.specs.Slots.{reset_function};
@@ -19,7 +20,6 @@ use crate::guest::{Guest, Held};
 use accesses::{GuestDecl, Names};
 use address_latch::Latch;
 use bars::{BarDecl, Region};
-use function_identity::address_of;
 use guest_functions::VirtualFunction;
 use host_bridge::Host;
 use paths::Path;
@@ -49,19 +49,16 @@ fn decls_of(placed: &[Option<Region>; 6]) -> [Option<BarDecl>; 6]
     ]
 }
 
-/// The endpoint at an index and a path, with all own copies at reset, where the host has it.
-pub(crate) fn held_of(host: &Host, index: usize, path: &Path) -> Held
-    requires board { IsStateOfBoard host.now.state.functions }
-    requires lawful { HasLawfulRegions (map opened (map with_no_base (bases_nth host.now.state.functions index))) }
-    ensures { (f : Function) → IsStanding host.now.state index path.now f → IsHeld host.now.state path.now f result }
+/// The endpoint at an index, with all own copies at reset, where the host has it.
+pub(crate) fn held_of(host: &Host, index: usize) -> Held
+    requires { HasLawfulRegions (map opened (map with_no_base (bases_nth host.now.state.functions index))) }
+    ensures { (p : PathValue) (f : Function) → IsStanding host.now.state index p f → IsHeld host.now.state p f result }
 {
     let placed = host.placed_nth(index);
     Held {
         own: VirtualFunction::new(decls_of(&placed)),
         placed,
-        at: address_of(host, path),
         index,
-        path: path.copied(),
     }
 }
 
@@ -73,7 +70,7 @@ fn held_at(host: &Host, path: &Path) -> Held
         IsSlot host.now.state (Some path.now) (reset_function (declared b path.now)) (Some result) }
 {
     match host.index_of(path) {
-        Some(index) => held_of(host, index, path),
+        Some(index) => held_of(host, index),
         None => unreachable!(),
     }
 }

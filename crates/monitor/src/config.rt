@@ -6,11 +6,10 @@ ghost use Rattle.accesses.specs.Refusals.{number_of};
 ghost use Rattle.monitor.specs.InSlots.{IsInSlot, IsSlotFault};
 ghost use Rattle.monitor.specs.Configs.{IsSeen, IsHolding, WritesOwn, HoldsAt, WritesGuest};
 
-use crate::cycles::read_enabled;
 use crate::guest::{Guest, Held};
 use accesses::Refusal;
 use config_bytes::{enables_of, lowered};
-use host_bridge::{Bdf, Host};
+use host_bridge::Host;
 
 /// The number of 1, 2 or 4 bytes at an offset of a function, as its guest has it: the guest's own copies,
 /// and the board's registers for all other bytes.
@@ -26,7 +25,7 @@ pub(crate) fn number_read(host: &mut Host, held: &Held, off: u8, width: u64) -> 
     let (own, others) = held
         .own
         .config_read(u16::from(word), enables_of(from, width));
-    let rest = read_enabled(host, held.at, word, others);
+    let rest = host.config_read_nth(held.index, word, others);
     lowered(from, own + rest)
 }
 
@@ -55,7 +54,7 @@ pub(crate) fn function_in(slots: &[Option<Held>], slot: u64) -> Result<&Held, Re
     }
 }
 
-/// Writes the own copies among the enabled bytes of a word, and gives the function's number with the
+/// Writes the own copies among the enabled bytes of a word, and gives the function's index with the
 /// enables of the other bytes.
 pub(crate) fn write_own(
     slots: &mut [Option<Held>],
@@ -63,7 +62,7 @@ pub(crate) fn write_own(
     word: u8,
     enables: u8,
     value: u32,
-) -> (Bdf, u8)
+) -> (usize, u8)
     requires holds { IsHolding slots.old slot }
     requires aligned { word % 4 ≡ 0 }
     ensures { (holds : IsHolding slots.old slot) → WritesOwn slots.old slot holds word enables value slots.new result }
@@ -71,7 +70,7 @@ pub(crate) fn write_own(
     match &mut slots[slot] {
         Some(held) => {
             let others = held.own.config_write(u16::from(word), enables, value);
-            (held.at, others)
+            (held.index, others)
         }
         None => unreachable!(),
     }
@@ -85,7 +84,7 @@ pub(crate) fn write_guest(
     word: u8,
     enables: u8,
     value: u32,
-) -> (Bdf, u8)
+) -> (usize, u8)
     requires holds { HoldsAt guests.old guest slot }
     requires aligned { word % 4 ≡ 0 }
     ensures { (holds : HoldsAt guests.old guest slot)

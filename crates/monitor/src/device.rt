@@ -20,7 +20,6 @@ use crate::guest::Held;
 use crate::raising::has_place;
 use accesses::{Place, Refusal, Reply};
 use host_bridge::Route;
-use paths::Path;
 
 /// Whether the byte is a device's own: Status, a register from 40h on, or a byte of a region.
 fn is_device_byte(place: Place, off: u64) -> bool
@@ -41,9 +40,9 @@ fn reaches(held: &Held, place: Place, off: u64) -> bool
     has_place(held, place, off) && is_device_byte(place, off)
 }
 
-/// The path of the function in a slot, if its device reaches the byte, or why it doesn't.
-fn reached(slots: &[Option<Held>], slot: u64, place: Place, off: u64) -> Result<&Path, Refusal>
-    ensures path { IfOk result (λ p. Reaches slots.now slot place off p.now) }
+/// The index of the function in a slot, if its device reaches the byte, or why it doesn't.
+fn reached(slots: &[Option<Held>], slot: u64, place: Place, off: u64) -> Result<usize, Refusal>
+    ensures index { IfOk result (λ i. Reaches slots.now slot place off i) }
     ensures refused { IfErr result (λ why. Refuses slots.now slot place off (number_of why)) }
 {
     let held = match function_in(slots, slot) {
@@ -53,7 +52,7 @@ fn reached(slots: &[Option<Held>], slot: u64, place: Place, off: u64) -> Result<
     if !reaches(held, place, off) {
         return Err(Refusal::Range);
     }
-    Ok(&held.path)
+    Ok(held.index)
 }
 
 impl<R: Route> Engine<R> {
@@ -75,7 +74,10 @@ impl<R: Route> Engine<R> {
     {
         let _ = &self.names;
         match reached(&self.guests[guest].slots, slot, place, off) {
-            Ok(path) => Reply::Value(u32::from(self.host.device_value(path, place, off)), 1),
+            Ok(index) => {
+                let value = self.host.device_value_nth(index, place, off);
+                Reply::Value(u32::from(value), 1)
+            }
             Err(why) => Reply::Refused(why),
         }
     }
@@ -101,8 +103,8 @@ impl<R: Route> Engine<R> {
     {
         let _ = &self.names;
         match reached(&self.guests[guest].slots, slot, place, off) {
-            Ok(path) => {
-                self.host.set_device_value(path, place, off, value);
+            Ok(index) => {
+                self.host.set_device_value_nth(index, place, off, value);
                 Reply::Done
             }
             Err(why) => Reply::Refused(why),

@@ -20,7 +20,6 @@ ghost use Rattle.monitor.specs.Moves.{move_nth};
 ghost use Rattle.monitor.specs.Queries.{IsGuestNth};
 
 use crate::config::{function_in, held_in, number_read, write_guest};
-use crate::cycles::write_enabled;
 use crate::guest::Guest;
 use crate::landing::{landing, located};
 use crate::latch::write_latch;
@@ -157,8 +156,8 @@ impl<R: Route> Engine<R> {
         let word = off / 4 * 4;
         let moved = into_lanes(from, value);
         let enables = enables_of(from, width);
-        let (at, others) = write_guest(&mut self.guests, guest, slot, word, enables, moved);
-        write_enabled(&mut self.host, at, word, others, moved);
+        let (index, others) = write_guest(&mut self.guests, guest, slot, word, enables, moved);
+        self.host.config_write_nth(index, word, others, moved);
     }
 
     /// Reads or writes the configuration space of the function in a slot. Where there is none, a read gives
@@ -279,7 +278,7 @@ impl<R: Route> Engine<R> {
         if !has_place(held, place, off) {
             return Reply::Refused(Refusal::Range);
         }
-        raise_on_board(&mut self.host, &held.path, place, off, mask);
+        raise_on_board(&mut self.host, held.index, place, off, mask);
         Reply::Done
     }
 

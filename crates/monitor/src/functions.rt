@@ -1,7 +1,8 @@
 //! What is told of each function of the board, as it is now.
-ghost use Rattle.std.specs.Prelude.{◌≡◌, ◌<◌, ◌^◌, length, option_map};
+ghost use Rattle.std.specs.Prelude.{◌≡◌, ◌<◌, ◌^◌, Some, length, option_map, slice_get};
 ghost use Rattle.std.specs.Result.{result_map_both};
 ghost use Rattle.model_board.specs.Paths as board;
+ghost use Rattle.model_board.specs.State.{BoardFunction};
 ghost use Rattle.model_audit.specs.Orderly.{IsStateOfBoard};
 ghost use Rattle.model_guests.specs.Guests.{GuestsNow};
 ghost use Rattle.model_guests.specs.WorldNow.{board_state};
@@ -32,7 +33,9 @@ pub struct FunctionNow {
 fn function_nth(host: &Host, guests: &[Guest], index: usize) -> Option<FunctionNow>
     requires board { IsStateOfBoard host.now.state.functions }
     requires few { length guests.now < 2 ^ 63 }
-    ensures { (gs : GuestsNow) → ((p : board.Path) → seat_kept p 0 guests.now ≡ seat_of gs p)
+    ensures { (gs : GuestsNow)
+        → ((p : board.Path) → option_map (λ (f : BoardFunction). f.path) (slice_get host.now.state.functions index) ≡ Some p
+        → seat_kept index 0 guests.now ≡ seat_of gs p)
         → option_map function_named result ≡ function_nth host.now.state gs index }
 {
     let path = host.path_nth(index)?;
@@ -42,7 +45,7 @@ fn function_nth(host: &Host, guests: &[Guest], index: usize) -> Option<FunctionN
         at: address_of(host, &path),
         identity,
         ranges,
-        seat: seat_from(guests, &path, 0),
+        seat: seat_from(guests, index, 0),
         path,
     })
 }

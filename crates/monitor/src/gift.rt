@@ -11,11 +11,13 @@ ghost use Rattle.model_guests.specs.WorldNow.{WorldNow};
 ghost use Rattle.bars.specs.Kinds.{named_space};
 ghost use Rattle.bridge_forward.specs.BasesNow.{bases_of};
 ghost use Rattle.monitor.specs.Keeping.{IsKept};
-ghost use Rattle.monitor.specs.Seatings.{IsEndpointAt, MakesGift, has_path, is_closed_base, is_closed_slot, is_in};
+ghost use Rattle.monitor.specs.InSlots.{is_at};
+ghost use Rattle.monitor.specs.Seatings.{IsEndpointAt, MakesGift, has_index, is_closed_base, is_closed_slot};
 
 use crate::beginning::held_of;
 use crate::guest::{Guest, Held};
 use crate::moving::is_taken;
+use crate::seat::is_at;
 use crate::withheld::Withheld;
 use bars::{Region, Space};
 use bridge_forward::RangesNow;
@@ -43,28 +45,18 @@ fn endpoint_at(host: &Host, path: &Path) -> Option<usize>
     }
 }
 
-/// Whether the function at a path is in a slot.
-fn is_in(slot: &Option<Held>, path: &Path) -> bool
-    ensures { result ≡ is_in path.now slot.now }
+/// Whether a guest has the function at an index in a slot.
+fn has(guest: &Guest, index: usize) -> bool
+    ensures { result ≡ list_any (is_at index) guest.now.slots.items }
 {
-    match slot {
-        Some(held) => held.path == *path,
-        None => false,
-    }
-}
-
-/// Whether a guest has the function at a path in a slot.
-fn has(guest: &Guest, path: &Path) -> bool
-    ensures { result ≡ list_any (is_in path.now) guest.now.slots.items }
-{
-    guest.slots.iter().any(|slot| is_in(slot, path))
+    guest.slots.iter().any(|slot| is_at(slot, index))
 }
 
 /// Whether any guest has it.
-fn has_guest(guests: &[Guest], path: &Path) -> bool
-    ensures { result ≡ has_path path.now guests.now }
+fn has_guest(guests: &[Guest], index: usize) -> bool
+    ensures { result ≡ has_index index guests.now }
 {
-    guests.iter().any(|guest| has(guest, path))
+    guests.iter().any(|guest| has(guest, index))
 }
 
 /// Whether Command opens a space.
@@ -123,7 +115,7 @@ pub(crate) fn gift(
     let Some(index) = endpoint_at(host, path) else {
         return Err(Withheld::NoEndpoint);
     };
-    if has_guest(guests, path) {
+    if has_guest(guests, index) {
         return Err(Withheld::HasGuest);
     }
     if is_taken(&guests[guest].slots, slot as usize) {
@@ -132,5 +124,5 @@ pub(crate) fn gift(
     if has_closed(host, index) {
         return Err(Withheld::ClosedRegion);
     }
-    Ok(held_of(host, index, path))
+    Ok(held_of(host, index))
 }

@@ -2,8 +2,6 @@
 use address_latch::Latch;
 use bars::Region;
 use guest_functions::VirtualFunction;
-use host_bridge::Bdf;
-use paths::Path;
 
 /// A function in a guest's slot: the guest's own copies, and where the function and its regions stand
 /// on the board.
@@ -13,11 +11,8 @@ pub(crate) struct Held {
     pub(crate) own: VirtualFunction,
     /// At the index of its first register, each region where the handoff has it.
     pub(crate) placed: [Option<Region>; 6],
-    /// The number that reaches the function.
-    pub(crate) at: Bdf,
     /// The index among the functions of the host.
     pub(crate) index: usize,
-    pub(crate) path: Path,
 }
 
 /// A guest: its address latch, and its 32 slots.

@@ -18,7 +18,6 @@ mod audited;
 mod beginning;
 mod closed;
 mod config;
-mod cycles;
 mod device;
 mod engine;
 mod functions;

@@ -78,6 +78,6 @@ pub(crate) fn hand_over(
         unreachable!()
     };
     held.own.reset();
-    host.reset_endpoint(&held.path);
+    host.reset_nth(held.index);
     let _empty = exchange_in(guests, to, target, Some(held));
 }

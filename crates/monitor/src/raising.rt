@@ -3,10 +3,11 @@ ghost use Rattle.std.specs.Prelude.{◌≡◌, IsSome, is_some};
 ghost use Rattle.model_registers.specs.Decoding.{Function};
 ghost use Rattle.model_registers.specs.OwnCopies.{is_own};
 ghost use Rattle.model_board.specs.Paths.{Path};
-ghost use Rattle.model_board.specs.State.{with_file, State};
+ghost use Rattle.model_board.specs.State.{State};
 ghost use Rattle.model_guests.specs.Slots.{raise_place};
 ghost use Rattle.headers.specs.Places.{place_of};
-ghost use Rattle.bridge_forward.specs.Lending.{endpoint_at};
+ghost use Rattle.bridge_forward.specs.Lending.{endpoint_nth};
+ghost use Rattle.host_bridge.specs.ByIndex.{with_file_nth};
 ghost use Rattle.host_bridge.specs.HostState.{with_functions};
 ghost use Rattle.accesses.specs.Accesses.{part_of};
 ghost use Rattle.monitor.specs.Keeping.{IsHeld};
@@ -15,7 +16,6 @@ ghost use Rattle.monitor.specs.Raises.{raised_beside_copies};
 use crate::guest::Held;
 use accesses::Place;
 use host_bridge::Host;
-use paths::Path;
 
 /// Whether a function in a slot has the byte: an offset of its configuration space, or one below the
 /// size of the region that begins at a base address register.
@@ -44,13 +44,13 @@ fn is_own(place: Place, off: u64) -> bool
 }
 
 /// Raises bits of one cell of a function on the board. Where guests have a copy, nothing changes.
-pub(crate) fn raise_on_board(host: &mut Host, path: &Path, place: Place, off: u64, mask: u8)
-    requires { IsSome (endpoint_at host.old.state.functions path.now) }
+pub(crate) fn raise_on_board(host: &mut Host, index: usize, place: Place, off: u64, mask: u8)
+    requires { IsSome (endpoint_nth host.old.state.functions index) }
     ensures { let fs = host.old.state.functions in
-        host.new ≡ with_functions (with_file (raised_beside_copies mask (place_of place off)) path.now fs) host.old }
+        host.new ≡ with_functions (with_file_nth (raised_beside_copies mask (place_of place off)) index fs) host.old }
 {
     if is_own(place, off) {
         return;
     }
-    host.raise(path, place, off, mask);
+    host.raise_nth(index, place, off, mask);
 }

@@ -1,11 +1,9 @@
 //! The guest and the slot that hold a function.
 ghost use Rattle.std.specs.Prelude.{◌≡◌, ◌+◌, ◌<◌, ◌^◌, length, option_map, position};
-ghost use Rattle.model_queries.specs.Functions.{is_there};
-ghost use Rattle.monitor.specs.Views.{path_shown};
 ghost use Rattle.monitor.specs.FunctionsTold.{seat_named, seat_kept};
+ghost use Rattle.monitor.specs.InSlots.{is_at};
 
 use crate::guest::{Guest, Held};
-use paths::Path;
 
 /// A slot of a guest, by the guest's index.
 #[derive(Clone, Copy, Debug, PartialEq, Eq)]
@@ -14,33 +12,33 @@ pub struct Seat {
     pub slot: usize,
 }
 
-/// Whether the function at a path is in a slot.
-fn is_there(slot: &Option<Held>, path: &Path) -> bool
-    ensures { result ≡ is_there path.now (path_shown slot.now) }
+/// Whether the function at an index is in a slot.
+pub(crate) fn is_at(slot: &Option<Held>, index: usize) -> bool
+    ensures { result ≡ is_at index slot.now }
 {
     match slot {
-        Some(held) => held.path == *path,
+        Some(held) => held.index == index,
         None => false,
     }
 }
 
-/// The first slot that holds the function at a path.
-fn slot_of(slots: &[Option<Held>], path: &Path) -> Option<usize>
-    ensures { result ≡ position (λ o. is_there path.now (path_shown o)) slots.now }
+/// The first slot that holds the function at an index.
+fn slot_of(slots: &[Option<Held>], index: usize) -> Option<usize>
+    ensures { result ≡ position (is_at index) slots.now }
 {
-    slots.iter().position(|slot| is_there(slot, path))
+    slots.iter().position(|slot| is_at(slot, index))
 }
 
-/// The seat of the function at a path among these guests, the first of them with this index.
-pub(crate) fn seat_from(guests: &[Guest], path: &Path, index: usize) -> Option<Seat>
-    requires { index + length guests.now < 2 ^ 63 }
-    ensures { option_map seat_named result ≡ seat_kept path.now index guests.now }
+/// The seat of the function at an index among these guests, of whom the first has the index `first`.
+pub(crate) fn seat_from(guests: &[Guest], index: usize, first: usize) -> Option<Seat>
+    requires { first + length guests.now < 2 ^ 63 }
+    ensures { option_map seat_named result ≡ seat_kept index first guests.now }
 {
     match guests {
         [] => None,
-        [guest, rest @ ..] => match slot_of(&guest.slots, path) {
-            Some(slot) => Some(Seat { guest: index, slot }),
-            None => seat_from(rest, path, index + 1),
+        [guest, rest @ ..] => match slot_of(&guest.slots, index) {
+            Some(slot) => Some(Seat { guest: first, slot }),
+            None => seat_from(rest, index, first + 1),
         },
     }
 }

@@ -34,7 +34,7 @@ impl<R: Route> Engine<R> {
             Ok(held) => held,
             Err(why) => return Err(why),
         };
-        self.host.reset_endpoint(path);
+        self.host.reset_nth(held.index);
         let _empty = exchange_in(&mut self.guests, guest, slot as usize, Some(held));
         Ok(())
     }
@@ -50,11 +50,11 @@ impl<R: Route> Engine<R> {
         ensures refused { IsRefusal result → self.new ≡ self.old }
     {
         let _ = &self.names;
-        let held = match function_in(&self.guests[guest].slots, slot) {
-            Ok(held) => held,
+        let index = match function_in(&self.guests[guest].slots, slot) {
+            Ok(held) => held.index,
             Err(why) => return Reply::Refused(why),
         };
-        self.host.reset_endpoint(&held.path);
+        self.host.reset_nth(index);
         let _taken = exchange_in(&mut self.guests, guest, slot as usize, None);
         Reply::Done
     }

@@ -1,6 +1,7 @@
 //! A board that a monitor takes over.
 ghost use Rattle.std.specs.Prelude.{◌≡◌, map};
 ghost use Rattle.model_guests.specs.AgreedBoard.{agreed_function};
+ghost use Rattle.bridge_forward.specs.Lending.{with_endpoint_reset};
 ghost use Rattle.host_bridge.specs.HostState.{with_functions};
 ghost use Rattle.window_packing.specs.Readies.{board_below};
 ghost use Rattle.monitor.specs.Beginnings.{world_on};
@@ -10,13 +11,23 @@ use accesses::GuestDecl;
 use host_bridge::Host;
 use paths::Path;
 
-/// Resets the endpoints at these paths, but for what their guests have copies of.
+/// Resets the endpoint at a path, if one stands there, but for what its guest has copies of.
+fn reset_at(host: &mut Host, path: &Path)
+    ensures { host.new ≡ with_functions (with_endpoint_reset path.now host.old.state.functions) host.old }
+{
+    let Some(index) = host.index_of(path) else {
+        return;
+    };
+    host.reset_nth(index);
+}
+
+/// The same of each of these paths.
 fn reset_all(host: &mut Host, paths: &[Path])
     ensures { let files = files_given (board_below host.old) paths.now in
         host.new ≡ with_functions (map (agreed_function files) host.old.state.functions) host.old }
 {
     for path in paths {
-        host.reset_endpoint(path);
+        reset_at(host, path);
     }
 }
 

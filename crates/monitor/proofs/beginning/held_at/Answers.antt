@@ -1,15 +1,15 @@
 use Rattle.monitor.proofs.FirstFunctions.{never_none, stands_there, lawful_there, slot_at_first}
 use Rattle.monitor.proofs.beginning.held_at.Goals as goal
 
-pub held_of-requires-clause-lawful : goal.held_of-requires-clause-lawful
-held_of-requires-clause-lawful c =
+pub held_of-requires : goal.held_of-requires
+held_of-requires c =
     let s = c.args.host.now.state in
     let p = c.args.path.now in
     lawful_there s c.in-Some.index p _ (stands_there s c.requires.board p c.requires.there c.in-Some.index c.in-Some.ensures.function)
 
 pub returns : goal.returns
 returns c =
-    slot_at_first c.args.host.now.state c.requires.board c.args.path.now c.requires.there c.in-Some.index c.in-Some.ensures.function c.held_of.result c.held_of.ensures
+    slot_at_first c.args.host.now.state c.requires.board c.args.path.now c.requires.there c.in-Some.index c.in-Some.ensures.function c.held_of.result (c.held_of.ensures c.args.path.now)
 
 pub unreachable-requires : goal.unreachable-requires
 unreachable-requires c =

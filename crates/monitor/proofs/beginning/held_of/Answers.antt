@@ -9,11 +9,11 @@ pub new-requires : goal.new-requires
 new-requires c =
     let bs = bases_nth c.args.host.now.state.functions c.args.index in
     let rest = decls_reset c.decls_of.result c.placed_nth-placed.result bs c.decls_of.ensures c.placed_nth-placed.ensures in
-    subst (λ (xs : List BaseAddress). HasLawfulRegions (map opened xs)) (sym rest) c.requires.lawful
+    subst (λ (xs : List BaseAddress). HasLawfulRegions (map opened xs)) (sym rest) c.requires
 
 pub returns : goal.returns
-returns c = λ f is.
+returns c = λ p f is.
     let bs = bases_nth c.args.host.now.state.functions c.args.index in
     let rest = decls_reset c.decls_of.result c.placed_nth-placed.result bs c.decls_of.ensures c.placed_nth-placed.ensures in
-    held_at_first c.args.host.now.state c.args.index c.args.path.now f is c.decls_of.result rest c.new.result c.new.ensures.copies c.new.ensures.reset
-    c.placed_nth-placed.result c.placed_nth-placed.ensures c.address_of.result c.address_of.ensures c.copied.result c.copied.ensures
+    held_at_first c.args.host.now.state c.args.index p f is c.decls_of.result rest c.new.result c.new.ensures.copies c.new.ensures.reset
+    c.placed_nth-placed.result c.placed_nth-placed.ensures

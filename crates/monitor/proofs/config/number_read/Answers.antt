@@ -11,8 +11,8 @@ overflow_add-own c =
     let part : IsOwnPart c.args.held.now word c.enables_of.result c.config_read-own.result.0 c.config_read-own.result.1 =
     subst P at (record { own = c.config_read-own.ensures.own; others_are = c.config_read-own.ensures.others; together = c.config_read-own.ensures.together }) in
     record {
-      fits = sum_in_word c.args.host.now c.args.held.now c.requires.seen word c.enables_of.result c.config_read-own.result.0 c.config_read-own.result.1 c.read_enabled-rest.result part
-          c.read_enabled-rest.ensures.value whole c.read_enabled-rest.type_inv;
+      fits = sum_in_word c.args.host.now c.args.held.now c.requires.seen word c.enables_of.result c.config_read-own.result.0 c.config_read-own.result.1 c.config_read_nth-rest.result part
+          c.config_read_nth-rest.ensures.value whole c.config_read_nth-rest.type_inv;
     }
 
 pub returns-clause-value : goal.returns-clause-value
@@ -22,5 +22,5 @@ returns-clause-value c = λ seen.
     let P = λ (w : ℕ). IsOwnPart c.args.held.now w c.enables_of.result c.config_read-own.result.0 c.config_read-own.result.1 in
     let part : IsOwnPart c.args.held.now word c.enables_of.result c.config_read-own.result.0 c.config_read-own.result.1 =
     subst P at (record { own = c.config_read-own.ensures.own; others_are = c.config_read-own.ensures.others; together = c.config_read-own.ensures.together }) in
-    number_is c.args.host.now c.args.held.now seen word c.enables_of.result c.config_read-own.result.0 c.config_read-own.result.1 c.read_enabled-rest.result part
-    c.read_enabled-rest.ensures.value c.args.off c.args.width c.from-from.result c.lowered.result refl c.from-from.ensures c.enables_of.ensures c.requires.width c.requires.aligned c.lowered.ensures
+    number_is c.args.host.now c.args.held.now seen word c.enables_of.result c.config_read-own.result.0 c.config_read-own.result.1 c.config_read_nth-rest.result part
+    c.config_read_nth-rest.ensures.value c.args.off c.args.width c.from-from.result c.lowered.result refl c.from-from.ensures c.enables_of.ensures c.requires.width c.requires.aligned c.lowered.ensures

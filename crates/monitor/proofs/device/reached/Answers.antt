@@ -9,11 +9,11 @@ pub returns-then-not-reaches-clause-refused : goal.returns-then-not-reaches-clau
 returns-then-not-reaches-clause-refused c =
     out_of_reach c.args.place c.args.off c.in-Ok.ensures.there (λ s p f held. sym (c.reaches.ensures.place s p f held) ∙ c.if-not-reaches.true)
 
-pub returns-clause-path : goal.returns-clause-path
-returns-clause-path c = record {
+pub returns-clause-index : goal.returns-clause-index
+returns-clause-index c = record {
   held = c.in-Ok.held.now;
   there = c.in-Ok.ensures.there.there;
-  path_is = refl;
+  index_is = refl;
   low = c.in-Ok.ensures.there.low;
   reaches = λ s p f held. sym (c.reaches.ensures.place s p f held) ∙ c.if-not-reaches.false;
   own = c.reaches.ensures.own c.if-not-reaches.false;

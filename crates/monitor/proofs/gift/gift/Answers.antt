@@ -34,8 +34,8 @@ returns-then-has_closed c = λ w names kept.
     g there (ap (λ os. is_taken os c.args.slot) (sym items) ∙ sym c.is_taken.ensures ∙ c.if-is_taken.false)
     (sym (c.has_closed.ensures _ c.in-Some.ensures.there.there) ∙ c.if-has_closed.true)
 
-pub held_of-requires-clause-lawful : goal.held_of-requires-clause-lawful
-held_of-requires-clause-lawful c = lawful_bases c.args.host.now.state c.requires.board c.args.path.now c.in-Some.index c.in-Some.ensures.there
+pub held_of-requires : goal.held_of-requires
+held_of-requires c = lawful_bases c.args.host.now.state c.requires.board c.args.path.now c.in-Some.index c.in-Some.ensures.there
 
 pub returns : goal.returns
 returns c = λ w names kept.
@@ -44,4 +44,4 @@ returns c = λ w names kept.
     let items : c.deref.result.now ≡ g.slots.items = c.deref.ensures.value ∙ ap (λ (x : Guest). x.slots.items) (sym c.index-guests-guest.is) in
     made w c.args.host.now names c.args.guests.now kept c.args.path.now c.args.guest c.args.slot c.if-slot-gt31.false c.in-Some.index c.in-Some.ensures.there (sym c.has_guest.ensures ∙ c.if-has_guest.false)
     g there (ap (λ os. is_taken os c.args.slot) (sym items) ∙ sym c.is_taken.ensures ∙ c.if-is_taken.false)
-    (sym (c.has_closed.ensures _ c.in-Some.ensures.there.there) ∙ c.if-has_closed.false) c.held_of.result c.held_of.ensures
+    (sym (c.has_closed.ensures _ c.in-Some.ensures.there.there) ∙ c.if-has_closed.false) c.held_of.result (c.held_of.ensures c.args.path.now)

@@ -18,5 +18,5 @@ returns c = record {
   leaves = c.in-Some.ensures;
   comes = subst (λ (h : Held). IsExchanged c.exchange_in.new.guests c.args.to c.args.target c.exchange_in-empty.result (Some h) c.exchange_in-empty.new.guests)
       (λ k. record c.in-Some.held { own = c.reset.ensures.copies k }) c.exchange_in-empty.ensures;
-  board = c.reset_endpoint.ensures;
+  board = c.reset_nth.ensures;
 }

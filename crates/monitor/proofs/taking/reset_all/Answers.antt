@@ -11,7 +11,7 @@ pub loop-path-preserved : goal.loop-path-preserved
 loop-path-preserved c =
     let ps = c.args.paths.now in
     let i = c.loop-path.path-index in
-    path_reset c.args.host.now c.loop-path.host c.reset_endpoint.new.self ps i c.path-item.result (read_at ps i c.path-item.result c.loop-path-test.true c.path-item.is) c.loop-path.invariant c.reset_endpoint.ensures
+    path_reset c.args.host.now c.loop-path.host c.reset_at.new.host ps i c.path-item.result (read_at ps i c.path-item.result c.loop-path-test.true c.path-item.is) c.loop-path.invariant c.reset_at.ensures
 
 pub returns : goal.returns
 returns c =

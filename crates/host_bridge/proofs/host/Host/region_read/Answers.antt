@@ -2,9 +2,9 @@ use Rattle.std.proofs.Common.{◌∙◌, refl, ap, sym}
 use Rattle.model_board.specs.Claims.{first_claim}
 use Rattle.model_board.specs.Ports.{claim_reply}
 use Rattle.host_bridge.specs.HostState.{HostState}
-use Rattle.host_bridge.proofs.Lent.{distinct_paths, kept_endpoint}
+use Rattle.host_bridge.proofs.Lent.{distinct_paths}
 use Rattle.host_bridge.proofs.ClaimedAccesses.{lies_in_word, number_read}
-use Rattle.host_bridge.proofs.ByIndex.{located, some_nth, endpoint_there_nth, with_nth}
+use Rattle.host_bridge.proofs.ByIndex.{located, some_nth, endpoint_there_nth, kept_nth}
 use Rattle.host_bridge.proofs.host.Host.region_read.Goals as goal
 
 pub enables_of-enables-requires : goal.enables_of-enables-requires
@@ -31,8 +31,5 @@ returns-clause-value c =
 
 pub returns-clause-after : goal.returns-clause-after
 returns-clause-after c =
-    let lands = c.requires.landing in
-    let is = located _ _ lands.space lands.address c.args.from c.self.view_is lands.claim lands.within in
-    let distinct = distinct_paths _ c.endpoint_nth.ensures.in_order in
-    let there = endpoint_there_nth _ _ _ _ _ is distinct (sym c.in-Some.ensures.value) in
-    rw (with_nth is.function c.in-Some.endpoint.now c.self.inside.root c.args.from.index distinct is.there, kept_endpoint _ _ _ distinct there) c.self.view_is
+    let root = c.self.inside.root in
+    rw (kept_nth root c.args.from.index c.in-Some.endpoint.now (sym c.in-Some.ensures.value) (distinct_paths root c.endpoint_nth.ensures.in_order)) c.self.view_is

@@ -1,11 +1,14 @@
-use Rattle.std.proofs.Common.{◌∙◌, List, ap, sym, subst, arith}
+use Rattle.std.proofs.Common.{◌∙◌, ℕ, List, ap, sym, subst, arith}
+use Rattle.std.specs.Prelude.{IsSome}
 use Rattle.model_registers.specs.ByteEnables.{enables_of, into_lanes}
+use Rattle.bridge_forward.specs.Lending.{endpoint_nth}
 use Rattle.monitor.specs.declared.guest.Guest.{Guest}
 use Rattle.monitor.specs.Configs.{HoldsAt}
 use Rattle.monitor.proofs.ConfigSteps.{config_drops, config_written, written_lent}
 use Rattle.monitor.proofs.Calls.{back_in, guest_in, inside_guests}
 use Rattle.monitor.proofs.Steps.{empty_lent, slot_lent}
 use Rattle.monitor.proofs.Exchanges.{holds_nth}
+use Rattle.monitor.proofs.Reached.{endpoint_held}
 use Rattle.monitor.proofs.engine.Engine.config_write.Goals as goal
 
 pub index-requires : goal.index-requires
@@ -16,30 +19,37 @@ returns-in_default g c =
     let at = guest_in c.self.invariant.1 c.self.view_is c.args.guest c.requires.there c.index.ensures in
     config_drops at c.args.slot (empty_lent at c.args.slot c.deref.ensures.value c.in_default.ensures.empty) c.args.off c.args.width c.args.value
 
-pub write_guest-others-requires-clause-holds : goal.write_guest-others-requires-clause-holds
-write_guest-others-requires-clause-holds g c =
+pub write_guest-index-requires-clause-holds : goal.write_guest-index-requires-clause-holds
+write_guest-index-requires-clause-holds g c =
     let at = guest_in c.self.invariant.1 c.self.view_is c.args.guest c.requires.there c.index.ensures in
     subst (λ (gs : List Guest). HoldsAt gs c.args.guest c.args.slot) (sym c.deref_mut.ensures.value) (holds_nth at (slot_lent at c.deref.ensures.value c.in-Some.ensures.there))
+
+pub config_write_nth-requires-clause-there : goal.config_write_nth-requires-clause-there
+config_write_nth-requires-clause-there g c =
+    let at = guest_in c.self.invariant.1 c.self.view_is c.args.guest c.requires.there c.index.ensures in
+    let slot = slot_lent at c.deref.ensures.value c.in-Some.ensures.there in
+    let written = written_lent c.deref_mut.ensures.value (holds_nth at slot) c.write_guest-index.ensures in
+    subst (λ (k : ℕ). IsSome (endpoint_nth c.self.inside.host.state.functions k)) (sym written.slots.index) (endpoint_held at slot)
 
 pub invariant_of-self : goal.invariant_of-self
 invariant_of-self g c =
     let e = c.self.inside in
     let at = guest_in c.self.invariant.1 c.self.view_is c.args.guest c.requires.there c.index.ensures in
     let slot = slot_lent at c.deref.ensures.value c.in-Some.ensures.there in
-    let written = written_lent c.deref_mut.ensures.value (holds_nth at slot) c.write_guest-others.ensures in
-    let left = back_in e.guests.items e.guests.len (c.write_guest-others.auto.guests ∙ c.deref_mut.ensures.len)
+    let written = written_lent c.deref_mut.ensures.value (holds_nth at slot) c.write_guest-index.ensures in
+    let left = back_in e.guests.items e.guests.len (c.write_guest-index.auto.guests ∙ c.deref_mut.ensures.len)
     (config_written at slot c.args.off c.args.width c.args.value c.requires.width c.requires.aligned
     (c.enables_of-enables.ensures ∙ ap (λ x. enables_of x c.args.width) c.from-from.ensures) (c.into_lanes-moved.ensures ∙ ap (λ x. into_lanes x c.args.value) c.from-from.ensures)
-    written c.write_enabled.ensures) in
-    (g.met.R.Route.by_routing e.route e.host c.write_enabled.new.host left.routes c.self.invariant.0, left.sound)
+    written c.config_write_nth.ensures) in
+    (g.met.R.Route.by_routing e.route e.host c.config_write_nth.new.self left.routes c.self.invariant.0, left.sound)
 
 pub returns : goal.returns
 returns g c =
     let e = c.self.inside in
     let at = guest_in c.self.invariant.1 c.self.view_is c.args.guest c.requires.there c.index.ensures in
     let slot = slot_lent at c.deref.ensures.value c.in-Some.ensures.there in
-    let written = written_lent c.deref_mut.ensures.value (holds_nth at slot) c.write_guest-others.ensures in
-    (back_in e.guests.items e.guests.len (c.write_guest-others.auto.guests ∙ c.deref_mut.ensures.len)
+    let written = written_lent c.deref_mut.ensures.value (holds_nth at slot) c.write_guest-index.ensures in
+    (back_in e.guests.items e.guests.len (c.write_guest-index.auto.guests ∙ c.deref_mut.ensures.len)
     (config_written at slot c.args.off c.args.width c.args.value c.requires.width c.requires.aligned
     (c.enables_of-enables.ensures ∙ ap (λ x. enables_of x c.args.width) c.from-from.ensures) (c.into_lanes-moved.ensures ∙ ap (λ x. into_lanes x c.args.value) c.from-from.ensures)
-    written c.write_enabled.ensures)).world
+    written c.config_write_nth.ensures)).world

@@ -7,7 +7,7 @@ use Rattle.model_devices.proofs.Bytes.{reads_leave_guests}
 use Rattle.model_guests.specs.WorldNow.{WorldNow}
 use Rattle.host_bridge.specs.HostState.{HostState}
 use Rattle.monitor.specs.ByIndex.{name_nth}
-use Rattle.monitor.proofs.DeviceSteps.{device_read, path_reached, refused_there}
+use Rattle.monitor.proofs.DeviceSteps.{device_read, endpoint_reached, refused_there}
 use Rattle.monitor.proofs.ResetSteps.{device_refused, nothing_changed}
 use Rattle.monitor.proofs.Calls.{guest_in, inside_guests}
 use Rattle.monitor.proofs.engine.Engine.device_read.Goals as goal
@@ -15,21 +15,21 @@ use Rattle.monitor.proofs.engine.Engine.device_read.Goals as goal
 pub index-requires : goal.index-requires
 index-requires g c = omega (arith, inside_guests c.self.invariant.1 c.self.view_is c.args.guest c.requires)
 
-pub device_value-requires-clause-there : goal.device_value-requires-clause-there
-device_value-requires-clause-there g c =
+pub device_value_nth-value-requires-clause-there : goal.device_value_nth-value-requires-clause-there
+device_value_nth-value-requires-clause-there g c =
     let at = guest_in c.self.invariant.1 c.self.view_is c.args.guest c.requires c.index.ensures in
-    path_reached at c.deref.ensures.value c.in-Ok.ensures.path
+    endpoint_reached at c.deref.ensures.value c.in-Ok.ensures.index
 
 pub returns-in-Ok-clause-reply : goal.returns-in-Ok-clause-reply
 returns-in-Ok-clause-reply g c =
     let at = guest_in c.self.invariant.1 c.self.view_is c.args.guest c.requires c.index.ensures in
-    device_read at c.deref.ensures.value c.in-Ok.ensures.path (c.from.ensures ∙ c.device_value.ensures.value)
+    device_read at c.deref.ensures.value c.in-Ok.ensures.index (c.from.ensures ∙ c.device_value_nth-value.ensures.value)
 
 pub returns-in-Ok-clause-after : goal.returns-in-Ok-clause-after
 returns-in-Ok-clause-after g c =
     let e = c.self.inside in
     let now = c.args.self.now in
-    ap (λ (k : HostState). world_shown k (texts e.names) e.guests.items) c.device_value.ensures.after ∙ c.self.view_is
+    ap (λ (k : HostState). world_shown k (texts e.names) e.guests.items) c.device_value_nth-value.ensures.after ∙ c.self.view_is
     ∙ ap (λ (xs : GuestsNow). let v : WorldNow = record now { guests = xs } in v) (sym (reads_leave_guests (name_nth now c.args.guest) (device_byte c.args.slot c.args.place c.args.off) now.guests))
 
 pub returns-in-Err-clause-reply : goal.returns-in-Err-clause-reply

@@ -2,33 +2,33 @@ use Rattle.std.proofs.Common.{arith}
 use Rattle.monitor.specs.DeviceBytes.{device_byte}
 use Rattle.model_devices.specs.DeviceEvents.{device_writes}
 use Rattle.monitor.proofs.ResetSteps.{device_refused, nothing_changed}
-use Rattle.monitor.proofs.DeviceSteps.{device_written, path_reached, refused_there, write_left}
+use Rattle.monitor.proofs.DeviceSteps.{device_written, endpoint_reached, refused_there, write_left}
 use Rattle.monitor.proofs.Calls.{guest_in, inside_guests}
 use Rattle.monitor.proofs.engine.Engine.device_write.Goals as goal
 
 pub index-requires : goal.index-requires
 index-requires g c = omega (arith, inside_guests c.self.invariant.1 c.self.view_is c.args.guest c.requires)
 
-pub set_device_value-requires-clause-there : goal.set_device_value-requires-clause-there
-set_device_value-requires-clause-there g c =
+pub set_device_value_nth-requires-clause-there : goal.set_device_value_nth-requires-clause-there
+set_device_value_nth-requires-clause-there g c =
     let at = guest_in c.self.invariant.1 c.self.view_is c.args.guest c.requires c.index.ensures in
-    path_reached at c.deref.ensures.value c.in-Ok.ensures.path
+    endpoint_reached at c.deref.ensures.value c.in-Ok.ensures.index
 
 pub invariant_of-self : goal.invariant_of-self
 invariant_of-self g c =
     let at = guest_in c.self.invariant.1 c.self.view_is c.args.guest c.requires c.index.ensures in
-    let left = write_left at c.deref.ensures.value c.in-Ok.ensures.path c.args.value c.set_device_value.ensures in
-    (g.met.R.Route.by_routing c.self.inside.route c.self.inside.host c.set_device_value.new.self left.routes c.self.invariant.0, left.sound)
+    let left = write_left at c.deref.ensures.value c.in-Ok.ensures.index c.args.value c.set_device_value_nth.ensures in
+    (g.met.R.Route.by_routing c.self.inside.route c.self.inside.host c.set_device_value_nth.new.self left.routes c.self.invariant.0, left.sound)
 
 pub returns-in-Ok-clause-reply : goal.returns-in-Ok-clause-reply
 returns-in-Ok-clause-reply g c =
     let at = guest_in c.self.invariant.1 c.self.view_is c.args.guest c.requires c.index.ensures in
-    device_written at c.deref.ensures.value c.in-Ok.ensures.path c.args.value
+    device_written at c.deref.ensures.value c.in-Ok.ensures.index c.args.value
 
 pub returns-in-Ok-clause-after : goal.returns-in-Ok-clause-after
 returns-in-Ok-clause-after g c =
     let at = guest_in c.self.invariant.1 c.self.view_is c.args.guest c.requires c.index.ensures in
-    (write_left at c.deref.ensures.value c.in-Ok.ensures.path c.args.value c.set_device_value.ensures).world
+    (write_left at c.deref.ensures.value c.in-Ok.ensures.index c.args.value c.set_device_value_nth.ensures).world
 
 pub returns-in-Err-clause-reply : goal.returns-in-Err-clause-reply
 returns-in-Err-clause-reply g c =

@@ -11,4 +11,4 @@ function_nth-requires-clause-board g c = board_kept (kept_in c.self.invariant.1 
 pub returns : goal.returns
 returns g c =
     let kept = kept_in c.self.invariant.1 c.self.view_is in
-    nth_told kept c.args.index (c.function_nth.ensures c.args.self.now.guests (λ p. ap (seat_kept p 0) c.deref.ensures.value ∙ seats_told kept p))
+    nth_told kept c.args.index (c.function_nth.ensures c.args.self.now.guests (λ p is. ap (seat_kept c.args.index 0) c.deref.ensures.value ∙ seats_told kept c.args.index p is))

@@ -27,8 +27,8 @@ invariant_of-self g c =
     let one = at_below c.self.inside.guests.items c.args.guest (inside_guests c.self.invariant.1 c.self.view_is c.args.guest c.requires) in
     let e = c.self.inside in
     let left = back_in e.guests.items e.guests.len (c.exchange_in-empty.auto.guests ∙ c.deref_mut.ensures.len)
-    (give_left (kept_nth kept one.1) (makes_gift kept c.deref.ensures.value c.in-Ok.ensures) (exchange_lent c.deref_mut.ensures.value c.exchange_in-empty.ensures) c.reset_endpoint.ensures) in
-    (g.met.R.Route.by_routing e.route e.host c.reset_endpoint.new.self left.routes c.self.invariant.0, left.sound)
+    (give_left (kept_nth kept one.1) (makes_gift kept c.deref.ensures.value c.in-Ok.ensures) (exchange_lent c.deref_mut.ensures.value c.exchange_in-empty.ensures) c.reset_nth.ensures) in
+    (g.met.R.Route.by_routing e.route e.host c.reset_nth.new.self left.routes c.self.invariant.0, left.sound)
 
 pub returns-clause-after : goal.returns-clause-after
 returns-clause-after g c =
@@ -36,5 +36,5 @@ returns-clause-after g c =
     let one = at_below c.self.inside.guests.items c.args.guest (inside_guests c.self.invariant.1 c.self.view_is c.args.guest c.requires) in
     let e = c.self.inside in
     let left = back_in e.guests.items e.guests.len (c.exchange_in-empty.auto.guests ∙ c.deref_mut.ensures.len)
-    (give_left (kept_nth kept one.1) (makes_gift kept c.deref.ensures.value c.in-Ok.ensures) (exchange_lent c.deref_mut.ensures.value c.exchange_in-empty.ensures) c.reset_endpoint.ensures) in
+    (give_left (kept_nth kept one.1) (makes_gift kept c.deref.ensures.value c.in-Ok.ensures) (exchange_lent c.deref_mut.ensures.value c.exchange_in-empty.ensures) c.reset_nth.ensures) in
     left.world

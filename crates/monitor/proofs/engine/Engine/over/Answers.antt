@@ -1,5 +1,4 @@
 use Rattle.std.proofs.Common.{◌∙◌}
-use Rattle.std.specs.Prelude.{Ok}
 use Rattle.monitor.specs.Views.{texts}
 use Rattle.monitor.proofs.FirstWorlds.{routing_on, sound_at_first, shown_at_first}
 use Rattle.monitor.proofs.engine.Engine.over.Goals as goal

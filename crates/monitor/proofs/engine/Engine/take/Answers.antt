@@ -36,8 +36,8 @@ invariant_of-self g c =
     let at = guest_in c.self.invariant.1 c.self.view_is c.args.guest c.requires c.index.ensures in
     let slot = slot_lent at c.deref.ensures.value c.in-Ok.ensures.there.there in
     let left = back_in e.guests.items e.guests.len (c.exchange_in-taken.auto.guests ∙ c.deref_mut.ensures.len)
-    (take_left at c.args.slot slot c.in-Ok.ensures.there.low (exchange_lent c.deref_mut.ensures.value c.exchange_in-taken.ensures) c.reset_endpoint.ensures) in
-    (g.met.R.Route.by_routing e.route e.host c.reset_endpoint.new.self left.routes c.self.invariant.0, left.sound)
+    (take_left at c.args.slot slot c.in-Ok.ensures.there.low (exchange_lent c.deref_mut.ensures.value c.exchange_in-taken.ensures) c.reset_nth.ensures) in
+    (g.met.R.Route.by_routing e.route e.host c.reset_nth.new.self left.routes c.self.invariant.0, left.sound)
 
 pub returns-clause-after : goal.returns-clause-after
 returns-clause-after g c =
@@ -45,5 +45,5 @@ returns-clause-after g c =
     let at = guest_in c.self.invariant.1 c.self.view_is c.args.guest c.requires c.index.ensures in
     let slot = slot_lent at c.deref.ensures.value c.in-Ok.ensures.there.there in
     let left = back_in e.guests.items e.guests.len (c.exchange_in-taken.auto.guests ∙ c.deref_mut.ensures.len)
-    (take_left at c.args.slot slot c.in-Ok.ensures.there.low (exchange_lent c.deref_mut.ensures.value c.exchange_in-taken.ensures) c.reset_endpoint.ensures) in
+    (take_left at c.args.slot slot c.in-Ok.ensures.there.low (exchange_lent c.deref_mut.ensures.value c.exchange_in-taken.ensures) c.reset_nth.ensures) in
     left.world

@@ -1,0 +1,72 @@
+-- A function by its index is the one at its path: each slot has the one just where it has the other.
+use Rattle.std.proofs.Common.{◌≡◌, ◌<◌, ◌⊎◌, ℕ, Bool, true, false, inl, inr, eqb, cond, ◌||◌, ◌+◌, List, [], ◌∷◌, Some, None, Option, slice_get, refl, sym, ap, ap₂, ◌∙◌, arith}
+use Rattle.std.specs.Prelude.{IsTrue, position}
+use Rattle.std.specs.List.{list_any, position_from}
+use Rattle.std.proofs.lemmas.Bool.Decides.{nat_tests}
+use Rattle.std.proofs.lemmas.Iterator.Adapters.{position_from-zero}
+use Rattle.lists.proofs.Indices.{pair_at, same_at}
+use Rattle.model_registers.specs.Decoding.{Function}
+use Rattle.model_board.specs.Paths.{Path, path_eq, path_before}
+use Rattle.model_board.specs.Board.{Row, Board, IsBoard}
+use Rattle.model_board.specs.AtReset.{board_at}
+use Rattle.model_board.specs.State.{State}
+use Rattle.model_board.proofs.PathEnds.{path_self, path_eq-sym}
+use Rattle.model_board.proofs.PlacesLaw.{before_apart}
+use Rattle.model_guests.specs.Slots.{Slots}
+use Rattle.model_handoff.specs.ViewLaws as path
+use Rattle.monitor.specs.declared.guest.Held.{Held}
+use Rattle.monitor.specs.InSlots.{is_at}
+use Rattle.monitor.specs.Keeping.{IsSlot, AreSlots}
+
+-- ---- two rows of a board
+
+sides : (i j : ℕ) → eqb j i ≡ false → (i < j) ⊎ (j < i)
+sides i j e = grind (arith, nat_tests)
+
+module _ (b : Board) (board : IsBoard b) where
+  apart : (i j : ℕ) (r t : Row) → i < j → slice_get b i ≡ Some r → slice_get b j ≡ Some t → path_eq r.path t.path ≡ false
+  apart i j r t h at by = before_apart r.path t.path (pair_at (λ (r s : Row). IsTrue (path_before r.path s.path)) b i j r t board.in_order h at by)
+
+  same_index : (i j : ℕ) (r t : Row) → slice_get b i ≡ Some r → slice_get b j ≡ Some t → eqb j i ≡ path_eq t.path r.path
+  same_index i j r t at by = cases (eqb j i) refl
+    where
+      cases : (c : Bool) → eqb j i ≡ c → c ≡ path_eq t.path r.path
+      cases true e =
+          let here : j ≡ i = grind (arith, nat_tests) in
+          let one : t ≡ r = same_at b i t r (ap (slice_get b) (sym here) ∙ by) at in
+          sym (ap (λ (x : Row). path_eq x.path r.path) one ∙ path_self r.path)
+      cases false e = of (sides i j e)
+        where
+          of : (i < j) ⊎ (j < i) → false ≡ path_eq t.path r.path
+          of (inl h) = sym (path_eq-sym t.path r.path ∙ apart i j r t h at by)
+          of (inr h) = sym (apart j i t r h by at)
+
+-- ---- slot by slot
+
+module _ (s : State) (board : IsBoard (board_at s.functions)) (i : ℕ) (r : Row) (at : slice_get (board_at s.functions) i ≡ Some r) where
+  at_slot : (q : Option Path) (f : Option Function) (o : Option Held) → IsSlot s q f o → is_at i o ≡ path.is_at r.path q
+  at_slot None None None is = refl
+  at_slot None None (Some h) is = absurd is
+  at_slot None (Some f) o is = absurd is
+  at_slot (Some p) None o is = absurd is
+  at_slot (Some p) (Some f) None is = absurd is
+  at_slot (Some p) (Some f) (Some h) is = same_index (board_at s.functions) board i h.index r _ at is.row
+
+  pub in_slots : (qs : List (Option Path)) (fs : Slots) (os : List (Option Held)) → AreSlots s qs fs os → list_any (is_at i) os ≡ list_any (path.is_at r.path) qs
+  in_slots [] [] [] are = refl
+  in_slots [] [] (o ∷ os) are = absurd are
+  in_slots [] (f ∷ fs) os are = absurd are
+  in_slots (q ∷ qs) [] os are = absurd are
+  in_slots (q ∷ qs) (f ∷ fs) [] are = absurd are
+  in_slots (q ∷ qs) (f ∷ fs) (o ∷ os) are = ap₂ ◌||◌ (at_slot q f o are.0) (in_slots qs fs os are.1)
+
+  found_from : (n : ℕ) (qs : List (Option Path)) (fs : Slots) (os : List (Option Held)) → AreSlots s qs fs os → position_from (is_at i) n os ≡ position_from (path.is_at r.path) n qs
+  found_from n [] [] [] are = refl
+  found_from n [] [] (o ∷ os) are = absurd are
+  found_from n [] (f ∷ fs) os are = absurd are
+  found_from n (q ∷ qs) [] os are = absurd are
+  found_from n (q ∷ qs) (f ∷ fs) [] are = absurd are
+  found_from n (q ∷ qs) (f ∷ fs) (o ∷ os) are = ap₂ (λ (t : Bool) (x : Option ℕ). cond t (Some n) x) (at_slot q f o are.0) (found_from (n + 1) qs fs os are.1)
+
+  pub found_in_slots : (qs : List (Option Path)) (fs : Slots) (os : List (Option Held)) → AreSlots s qs fs os → position (is_at i) os ≡ position (path.is_at r.path) qs
+  found_in_slots qs fs os are = position_from-zero (is_at i) os ∙ found_from 0 qs fs os are ∙ sym (position_from-zero (path.is_at r.path) qs)
