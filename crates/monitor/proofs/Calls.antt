@@ -1,5 +1,6 @@
 -- A call of an engine: the world that is kept as it begins, and what the call leaves.
 use Rattle.std.proofs.Common.{List, [], ap, arith, drop, get_or, length, refl, subst, sym, take, ℕ, ◌++◌, ◌<◌, ◌∙◌, ◌∷◌, ◌≡◌}
+use Rattle.std.proofs.lemmas.List.{take_at}
 use Rattle.std.proofs.lemmas.Option.{slice_get_read}
 use Rattle.model_board.specs.State.{State}
 use Rattle.model_board.specs.Routing.{routing}
@@ -46,15 +47,7 @@ leaves {w} {v} {h} {new} {names} {gs} {back} before after same = record {
   world = is_shown v new names back after;
 }
 
-taken : {A : Type 0} (xs ys : List A) → take (length xs) (xs ++ ys) ≡ xs
-taken [] ys = refl
-taken (x ∷ xs) ys = ap (λ zs. x ∷ zs) (taken xs ys)
-
--- a vector whose elements were lent
-pub given_back : {A : Type 0} (xs ys : List A) (n : ℕ) → length xs ≡ n → take n (xs ++ ys) ≡ xs
-given_back xs ys n e = ap (λ m. take m (xs ++ ys)) (sym e) ∙ taken xs ys
-
 -- the guests were lent
 pub back_in : {v : WorldNow} {h new : HostState} {names : List Text} {left : List Guest} (gs : List Guest) (n : ℕ) → length left ≡ n → Leaves v h new names left
     → Leaves v h new names (take n (left ++ drop (length left) gs))
-back_in {v} {h} {new} {names} {left} gs n count is = subst (Leaves v h new names) (sym (given_back left (drop (length left) gs) n count)) is
+back_in {v} {h} {new} {names} {left} gs n count is = subst (Leaves v h new names) (sym (take_at left (drop (length left) gs) n count)) is

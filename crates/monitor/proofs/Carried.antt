@@ -59,27 +59,18 @@ module _ (s t : State) (on_s : IsStateOfBoard s.functions) (on_t : IsStateOfBoar
 
   slot_carried : (q : Option Path) (f : Option Function) (o : Option Held) → IsSlot s q f o → IsSlot t q f o
   slot_carried None None None is = tt
-  slot_carried None None (Some h) is = absurd is
-  slot_carried None (Some f) o is = absurd is
-  slot_carried (Some p) None o is = absurd is
-  slot_carried (Some p) (Some f) None is = absurd is
   slot_carried (Some p) (Some f) (Some h) is = held_carried p f h is
+  slot_carried p f h is = absurd is
 
   slots_carried : (qs : List (Option Path)) (fs : Slots) (os : List (Option Held)) → AreSlots s qs fs os → AreSlots t qs fs os
   slots_carried [] [] [] are = tt
-  slots_carried [] [] (o ∷ os) are = absurd are
-  slots_carried [] (f ∷ fs) os are = absurd are
-  slots_carried (q ∷ qs) [] os are = absurd are
-  slots_carried (q ∷ qs) (f ∷ fs) [] are = absurd are
   slots_carried (q ∷ qs) (f ∷ fs) (o ∷ os) are = (slot_carried q f o are.0, slots_carried qs fs os are.1)
+  slots_carried qs fs os are = absurd are
 
   guest_carried : (name : Text) (w : GuestNow) (g : Guest) → IsGuest s name w g → IsGuest t name w g
   guest_carried name w g is = record { name_is = is.name_is; latch = is.latch; slots = slots_carried w.paths w.lone.slots g.slots.items is.slots }
 
   pub guests_carried : (ts : List Text) (ws : GuestsNow) (gs : List Guest) → AreGuests s ts ws gs → AreGuests t ts ws gs
   guests_carried [] [] [] are = tt
-  guests_carried [] [] (g ∷ gs) are = absurd are
-  guests_carried [] (w ∷ ws) gs are = absurd are
-  guests_carried (name ∷ ts) [] gs are = absurd are
-  guests_carried (name ∷ ts) (w ∷ ws) [] are = absurd are
   guests_carried (name ∷ ts) (w ∷ ws) (g ∷ gs) are = (guest_carried name w g are.0, guests_carried ts ws gs are.1)
+  guests_carried ts ws gs are = absurd are

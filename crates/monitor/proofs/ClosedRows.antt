@@ -1,6 +1,7 @@
 -- The first closed region of given functions, row by row.
 use Rattle.std.proofs.Common.{◌≡◌, ℕ, suc, ◌+◌, ◌<◌, add-one, Bool, true, false, ◌||◌, cond, not, List, [], ◌∷◌, ◌++◌, length, drop, get_or, Some, None, Result, Ok, Err, refl, sym, ap, ◌∙◌}
 use Rattle.std.proofs.Math.Seq.{drop-cons}
+use Rattle.std.proofs.lemmas.List.Elements.{filter-append}
 use Rattle.std.specs.Prelude.{map, flat_map, filter, slice_get, IfOk}
 use Rattle.std.specs.List.{list_any}
 use Rattle.lists.specs.Elements.{Each, first_of_two}
@@ -62,22 +63,13 @@ module _ (ps : List Path) where
       let here : is_among ps q ≡ false = ap given at.0 ∙ e in
       ap (λ t. cond t (q ∷ filter (is_among ps) qs) (filter (is_among ps) qs)) here ∙ kept p false e qs at.1
 
-  filter-append : (xs ys : List PlacedRegion) → filter (is_among ps) (xs ++ ys) ≡ filter (is_among ps) xs ++ filter (is_among ps) ys
-  filter-append [] ys = refl
-  filter-append (x ∷ xs) ys = by (is_among ps x) (filter-append xs ys)
-    where
-      by : (t : Bool) → filter (is_among ps) (xs ++ ys) ≡ filter (is_among ps) xs ++ filter (is_among ps) ys
-          → cond t (x ∷ filter (is_among ps) (xs ++ ys)) (filter (is_among ps) (xs ++ ys)) ≡ cond t (x ∷ filter (is_among ps) xs) (filter (is_among ps) xs) ++ filter (is_among ps) ys
-      by true more = ap (λ (zs : List PlacedRegion). x ∷ zs) more
-      by false more = more
-
   front : (xs ys : List PlacedRegion) → slice_get (xs ++ ys) 0 ≡ first_of_two (slice_get xs 0) (slice_get ys 0)
   front [] ys = refl
   front (x ∷ xs) ys = refl
 
   one_row : (r : RoutingRow) (rows : List RoutingRow) → first_closed_at ps (r ∷ rows) ≡ first_of_two (closed_if_given ps r) (first_closed_at ps rows)
   one_row r rows =
-      ap (λ (xs : List PlacedRegion). slice_get xs 0) (filter-append (closed_of r) (closed_regions rows))
+      ap (λ (xs : List PlacedRegion). slice_get xs 0) (filter-append (is_among ps) (closed_of r) (closed_regions rows))
       ∙ front (filter (is_among ps) (closed_of r)) (filter (is_among ps) (closed_regions rows))
       ∙ ap (λ (xs : List PlacedRegion). first_of_two (slice_get xs 0) (first_closed_at ps rows)) (kept r.path (given r.path) refl (closed_of r) (of_row r))
       ∙ by (given r.path)

@@ -1,6 +1,6 @@
 -- Guests after a slot of one of them has another function, or none.
 use Rattle.std.proofs.Common.{◌≡◌, ℕ, zero, suc, ◌<◌, List, [], ◌∷◌, length, Some, Option, slice_get, slice_set, refl, sym, ap, ◌∙◌, subst, arith, ◌≤◌}
-use Rattle.std.proofs.lemmas.List.{length-set}
+use Rattle.std.proofs.lemmas.List.{length-set, set-set}
 use Rattle.std.proofs.lemmas.Option.{slice_get_within}
 use Rattle.model_guests.specs.Text.{Text}
 use Rattle.model_guests.specs.WorldNow.{WorldNow}
@@ -18,11 +18,6 @@ get_set [] i x y at = cc
 get_set (z ∷ zs) zero x y at = refl
 get_set (z ∷ zs) (suc i) x y at = get_set zs i x y at
 
-set_set : {A : Type 0} (xs : List A) (i : ℕ) (x y : A) → slice_set (slice_set xs i x) i y ≡ slice_set xs i y
-set_set [] i x y = refl
-set_set (z ∷ zs) zero x y = refl
-set_set (z ∷ zs) (suc i) x y = ap (λ ws. z ∷ ws) (set_set zs i x y)
-
 -- one slot twice
 pub exchanged_twice : {gs left new : List Guest} {i n : ℕ} {was o empty p : Option Held} → IsExchanged gs i n was o left → IsExchanged left i n empty p new → IsExchanged gs i n was p new
 exchanged_twice {gs} {left} {new} {i} {n} {was} {o} {empty} {p} one two =
@@ -33,9 +28,9 @@ exchanged_twice {gs} {left} {new} {i} {n} {was} {o} {empty} {p} one two =
       there = one.there;
       had = one.had;
       guest = two.guest;
-      after = two.after ∙ ap (λ (xs : List Guest). slice_set xs i two.guest) one.after ∙ set_set gs i one.guest two.guest;
+      after = two.after ∙ ap (λ (xs : List Guest). slice_set xs i two.guest) one.after ∙ set-set gs i one.guest two.guest;
       latch = two.latch ∙ ap (λ (k : Guest). k.latch) same ∙ one.latch;
-      items = two.items ∙ ap (λ (k : Guest). slice_set k.slots.items n p) same ∙ ap (λ (os : List (Option Held)). slice_set os n p) one.items ∙ set_set one.before.slots.items n o p;
+      items = two.items ∙ ap (λ (k : Guest). slice_set k.slots.items n p) same ∙ ap (λ (os : List (Option Held)). slice_set os n p) one.items ∙ set-set one.before.slots.items n o p;
     }
 
 -- every guest has as many slots as before

@@ -1,7 +1,7 @@
 -- Slots and guests, one after the other, as they are before any of them did anything.
 use Rattle.std.proofs.Common.{◌≡◌, ◌≤◌, ◌+◌, ◌-◌, ℕ, zero, suc, List, [], ◌∷◌, ◌++◌, length, take, Option, Some, None, refl, sym, ap, ◌∙◌, subst, arith}
 use Rattle.std.specs.Prelude.{map, flat_map, replicate, slice_get, IsSome}
-use Rattle.std.proofs.lemmas.List.{map-append, length-map}
+use Rattle.std.proofs.lemmas.List.{append-nil, append_assoc, map-append, length-map, take_all}
 use Rattle.lists.specs.Elements.{Each}
 use Rattle.model_registers.specs.Decoding.{Function}
 use Rattle.model_registers.specs.Declarations.{Endpoint}
@@ -28,43 +28,23 @@ module _ (now : State) where
   slots_push : (qs : List (Option Path)) (fs : Slots) (os : List (Option Held)) (q : Option Path) (f : Option Function) (o : Option Held) → AreSlots now qs fs os → IsSlot now q f o
       → AreSlots now (qs ++ q ∷ []) (fs ++ f ∷ []) (os ++ o ∷ [])
   slots_push [] [] [] q f o are is = (is, tt)
-  slots_push [] [] (p ∷ os) q f o are is = absurd are
-  slots_push [] (g ∷ fs) os q f o are is = absurd are
-  slots_push (p ∷ qs) [] os q f o are is = absurd are
-  slots_push (p ∷ qs) (g ∷ fs) [] q f o are is = absurd are
   slots_push (p ∷ qs) (g ∷ fs) (k ∷ os) q f o are is = (are.0, slots_push qs fs os q f o are.1 is)
+  slots_push qs fs os q f o are is = absurd are
 
   guests_push : (ts : List Text) (ws : GuestsNow) (gs : List Guest) (t : Text) (w : GuestNow) (g : Guest) → AreGuests now ts ws gs → IsGuest now t w g
       → AreGuests now (ts ++ t ∷ []) (ws ++ w ∷ []) (gs ++ g ∷ [])
   guests_push [] [] [] t w g are is = (is, tt)
-  guests_push [] [] (k ∷ gs) t w g are is = absurd are
-  guests_push [] (v ∷ ws) gs t w g are is = absurd are
-  guests_push (s ∷ ts) [] gs t w g are is = absurd are
-  guests_push (s ∷ ts) (v ∷ ws) [] t w g are is = absurd are
   guests_push (s ∷ ts) (v ∷ ws) (k ∷ gs) t w g are is = (are.0, guests_push ts ws gs t w g are.1 is)
+  guests_push ts ws gs t w g are is = absurd are
 
 pub map_push : {A B : Type 0} (f : A → B) (xs : List A) (i : ℕ) (x : A) → slice_get xs i ≡ Some x → map f (take (i + 1) xs) ≡ map f (take i xs) ++ f x ∷ []
 map_push f xs i x at = ap (map f) (take_at xs i x at) ∙ map-append f (take i xs) (x ∷ [])
-
-pub take_past : {A : Type 0} (xs : List A) (i : ℕ) → length xs ≤ i → take i xs ≡ xs
-take_past [] zero h = refl
-take_past [] (suc i) h = refl
-take_past (x ∷ xs) zero h = absurd (omega arith)
-take_past (x ∷ xs) (suc i) h = ap (λ ys. x ∷ ys) (take_past xs i (omega arith))
 
 -- ---- slots
 
 -- with k empty ones
 abbrev pub AreSlotsWith : HostState → List Path → ℕ → List (Option Held) → Type 0
 AreSlotsWith h ps k os = AreSlots h.state (map Some ps ++ replicate k None) (map reset_function (map (declared (board_below h)) ps ++ replicate k None)) os
-
-nothing_more : {A : Type 0} (xs : List A) → xs ++ [] ≡ xs
-nothing_more [] = refl
-nothing_more (x ∷ xs) = ap (λ ys. x ∷ ys) (nothing_more xs)
-
-grouped : {A : Type 0} (xs ys zs : List A) → (xs ++ ys) ++ zs ≡ xs ++ (ys ++ zs)
-grouped [] ys zs = refl
-grouped (x ∷ xs) ys zs = ap (λ ws. x ∷ ws) (grouped xs ys zs)
 
 one_more : {A : Type 0} (k : ℕ) (x : A) → replicate k x ++ x ∷ [] ≡ replicate (suc k) x
 one_more zero x = refl
@@ -79,8 +59,8 @@ module _ (h : HostState) where
   slot_pushed ps i p o os at are is =
       let qs : List (Option Path) = map Some (take i ps) in
       let ds : List (Option Endpoint) = map (declared b) (take i ps) in
-      let paths : (qs ++ []) ++ Some p ∷ [] ≡ map Some (take (i + 1) ps) ++ [] = ap (λ xs. xs ++ Some p ∷ []) (nothing_more qs) ∙ sym (map_push Some ps i p at) ∙ sym (nothing_more (map Some (take (i + 1) ps))) in
-      let decls : (ds ++ []) ++ declared b p ∷ [] ≡ map (declared b) (take (i + 1) ps) ++ [] = ap (λ xs. xs ++ declared b p ∷ []) (nothing_more ds) ∙ sym (map_push (declared b) ps i p at) ∙ sym (nothing_more (map (declared b) (take (i + 1) ps))) in
+      let paths : (qs ++ []) ++ Some p ∷ [] ≡ map Some (take (i + 1) ps) ++ [] = ap (λ xs. xs ++ Some p ∷ []) (append-nil qs) ∙ sym (map_push Some ps i p at) ∙ sym (append-nil (map Some (take (i + 1) ps))) in
+      let decls : (ds ++ []) ++ declared b p ∷ [] ≡ map (declared b) (take (i + 1) ps) ++ [] = ap (λ xs. xs ++ declared b p ∷ []) (append-nil ds) ∙ sym (map_push (declared b) ps i p at) ∙ sym (append-nil (map (declared b) (take (i + 1) ps))) in
       let functions : map reset_function (ds ++ []) ++ reset_function (declared b p) ∷ [] ≡ map reset_function (map (declared b) (take (i + 1) ps) ++ []) = sym (map-append reset_function (ds ++ []) (declared b p ∷ [])) ∙ ap (map reset_function) decls in
       subst (λ (xs : List (Option Path)). AreSlots h.state xs (map reset_function (map (declared b) (take (i + 1) ps) ++ [])) (os ++ Some o ∷ [])) paths
       (subst (λ (fs : Slots). AreSlots h.state ((qs ++ []) ++ Some p ∷ []) fs (os ++ Some o ∷ [])) functions
@@ -88,14 +68,14 @@ module _ (h : HostState) where
 
   pub all_filled : (ps : List Path) (i : ℕ) (os : List (Option Held)) → length ps ≤ i → AreSlotsWith h (take i ps) 0 os → (k : ℕ) → k ≡ 0 → AreSlotsWith h ps k os
   all_filled ps i os past are k none =
-      subst (λ n. AreSlotsWith h ps n os) (sym none) (subst (λ (qs : List Path). AreSlotsWith h qs 0 os) (take_past ps i past) are)
+      subst (λ n. AreSlotsWith h ps n os) (sym none) (subst (λ (qs : List Path). AreSlotsWith h qs 0 os) (take_all i ps past) are)
 
   pub empty_pushed : (ps : List Path) (k : ℕ) (os : List (Option Held)) → AreSlotsWith h ps k os → AreSlotsWith h ps (suc k) (os ++ None ∷ [])
   empty_pushed ps k os are =
       let qs : List (Option Path) = map Some ps in
       let ds : List (Option Endpoint) = map (declared b) ps in
-      let paths : (qs ++ replicate k None) ++ None ∷ [] ≡ qs ++ replicate (suc k) None = grouped qs (replicate k None) (None ∷ []) ∙ ap (λ xs. qs ++ xs) (one_more k None) in
-      let decls : (ds ++ replicate k None) ++ None ∷ [] ≡ ds ++ replicate (suc k) None = grouped ds (replicate k None) (None ∷ []) ∙ ap (λ xs. ds ++ xs) (one_more k None) in
+      let paths : (qs ++ replicate k None) ++ None ∷ [] ≡ qs ++ replicate (suc k) None = append_assoc qs (replicate k None) (None ∷ []) ∙ ap (λ xs. qs ++ xs) (one_more k None) in
+      let decls : (ds ++ replicate k None) ++ None ∷ [] ≡ ds ++ replicate (suc k) None = append_assoc ds (replicate k None) (None ∷ []) ∙ ap (λ xs. ds ++ xs) (one_more k None) in
       let functions : map reset_function (ds ++ replicate k None) ++ None ∷ [] ≡ map reset_function (ds ++ replicate (suc k) None) = sym (map-append reset_function (ds ++ replicate k None) (None ∷ [])) ∙ ap (map reset_function) decls in
       subst (λ (xs : List (Option Path)). AreSlots h.state xs (map reset_function (ds ++ replicate (suc k) None)) (os ++ None ∷ [])) paths
       (subst (λ (fs : Slots). AreSlots h.state ((qs ++ replicate k None) ++ None ∷ []) fs (os ++ None ∷ [])) functions

@@ -3,6 +3,7 @@ use Rattle.std.proofs.Common.{◌≡◌, ◌≤◌, ℕ, zero, suc, ◌+◌, ◌
 use Rattle.std.specs.Prelude.{nat_le, option_map, option_and_then, position, unwrap_or, Result, is_some}
 use Rattle.std.specs.Option.{ok_or}
 use Rattle.std.specs.List.{slice_get}
+use Rattle.std.proofs.lemmas.List.{take_all}
 use Rattle.lists.specs.Elements.{first_of_two}
 use Rattle.lists.proofs.Indices.{map_at}
 use Rattle.model_registers.specs.Decoding.{Function}
@@ -23,7 +24,6 @@ use Rattle.monitor.specs.Keeping.{AreSlots, AreGuests, IsKept}
 use Rattle.monitor.specs.ByIndex.{name_nth, guest_nth, lone_nth}
 use Rattle.monitor.specs.FunctionsTold.{seat_kept}
 use Rattle.monitor.specs.InSlots.{is_at, IsInSlot, IsSlotFault}
-use Rattle.monitor.proofs.FirstGuests.{take_past}
 use Rattle.monitor.proofs.Steps.{path_named, GuestAt, fault_lent, path_there, slot_lent, slots_lent}
 use Rattle.monitor.proofs.Reached.{board_row, found_on_board}
 use Rattle.monitor.proofs.Indexed.{found_in_slots}
@@ -35,14 +35,11 @@ use Rattle.monitor.proofs.Checks.{low_slot, slot_checked}
 seats_shown : (s : State) → IsBoard (board_at s.functions) → (i : ℕ) (r : Row) → slice_get (board_at s.functions) i ≡ Some r
     → (k : ℕ) (ts : List Text) (ws : GuestsNow) (gs : List Guest) → AreGuests s ts ws gs → seat_kept i k gs ≡ seat_from r.path k ws
 seats_shown s board i r at k [] [] [] are = refl
-seats_shown s board i r at k [] [] (g ∷ gs) are = absurd are
-seats_shown s board i r at k [] (w ∷ ws) gs are = absurd are
-seats_shown s board i r at k (t ∷ ts) [] gs are = absurd are
-seats_shown s board i r at k (t ∷ ts) (w ∷ ws) [] are = absurd are
 seats_shown s board i r at k (t ∷ ts) (w ∷ ws) (g ∷ gs) are =
     ap₂ first_of_two
     (ap (option_map (λ (n : ℕ). let x : Seat = record { guest = k; slot = n } in x)) (found_in_slots s board i r at w.paths w.lone.slots g.slots.items are.0.slots))
     (seats_shown s board i r at (k + 1) ts ws gs are.1)
+seats_shown s board i r at k ts ws gs are = absurd are
 
 -- the seat is none of the first guest's
 pub seat_next : (i k : ℕ) (gs : List Guest) (g : Guest) (slots : List (Option Held)) (r : Option Seat) → 1 ≤ length gs → g ≡ get_or gs 0 g → slots ≡ g.slots.items
@@ -51,21 +48,18 @@ seat_next i k [] g slots r some is same none more = absurd (omega arith)
 seat_next i k (x ∷ gs) g slots r some is same none more =
     let missed : position (is_at i) x.slots.items ≡ None =
     ap (λ (y : Guest). position (is_at i) y.slots.items) (sym is) ∙ ap (position (is_at i)) (sym same) ∙ none in
-    let rest : take (length (x ∷ gs) - 1) gs ≡ gs = take_past gs (length (x ∷ gs) - 1) (omega arith) in
+    let rest : take (length (x ∷ gs) - 1) gs ≡ gs = take_all (length (x ∷ gs) - 1) gs (omega arith) in
     more ∙ ap (seat_kept i (k + 1)) rest ∙ sym (ap (λ (o : Option ℕ). first_of_two (option_map (λ (n : ℕ). let y : Seat = record { guest = k; slot = n } in y) o) (seat_kept i (k + 1) gs)) missed)
 
 -- ---- a slot without a function has no path
 
 no_path : (s : State) (qs : List (Option Path)) (fs : Slots) (os : List (Option Held)) (n : ℕ) → AreSlots s qs fs os → slot_at fs n ≡ None → path_at qs n ≡ None
 no_path s [] [] [] n are at = refl
-no_path s [] [] (o ∷ os) n are at = absurd are
-no_path s [] (f ∷ fs) os n are at = absurd are
-no_path s (q ∷ qs) [] os n are at = absurd are
-no_path s (q ∷ qs) (f ∷ fs) [] n are at = absurd are
 no_path s (None ∷ qs) (f ∷ fs) (o ∷ os) zero are at = refl
 no_path s (Some p ∷ qs) (None ∷ fs) (o ∷ os) zero are at = absurd are.0
 no_path s (Some p ∷ qs) (Some f ∷ fs) (o ∷ os) zero are at = cc
 no_path s (q ∷ qs) (f ∷ fs) (o ∷ os) (suc n) are at = no_path s qs fs os n are.1 at
+no_path s qs fs os n are at = absurd are
 
 -- ---- an engine
 

@@ -4,6 +4,7 @@ use Rattle.std.specs.Prelude.{find, map, is_some, nat_le, option_map, slice_get,
 use Rattle.std.specs.List.{list_any}
 use Rattle.std.specs.Option.{option_map_or}
 use Rattle.std.proofs.lemmas.Bool.{lt-leb}
+use Rattle.lists.proofs.FirstFound.{found_passes}
 use Rattle.lists.proofs.Indices.{map_at}
 use Rattle.model_registers.specs.Registers.{File, config, number}
 use Rattle.model_registers.specs.Declarations.{Region as Declared, Endpoint, HasLawfulRegions}
@@ -78,15 +79,6 @@ bridge_there s p f e wio wmem wpref is = declared_by s p (Some f) e ∙ by f.dec
         clash {bs} h = cc
     by (bridge d) k = ap (λ (x : Decl). option_map (λ (y : Function). y.decl) (as_endpoint (record { path = f.path; decl = x; file = f.file }))) k
 
--- a search finds what it looks for
-found_path : (p : Path) (fs : List BoardFunction) (f : BoardFunction) → find (at_path p) fs ≡ Some f → f.path ≡ p
-found_path p [] f e = cc
-found_path p (g ∷ gs) f e = by (path_eq g.path p) refl e (found_path p gs f)
-  where
-    by : (t : Bool) → path_eq g.path p ≡ t → cond t (Some g) (find (at_path p) gs) ≡ Some f → (find (at_path p) gs ≡ Some f → f.path ≡ p) → f.path ≡ p
-    by true k e more = let same : g ≡ f = cc in ap (λ (x : BoardFunction). x.path) (sym same) ∙ path_same g.path p k
-    by false k e more = more e
-
 pub endpoint_there : (s : State) (p : Path) (i : ℕ) → slice_get s.functions i ≡ there_at s p → (bs : List BaseAddress) → Some (regions bs) ≡ option_map (λ (f : BoardFunction). ranges_of f.file f.decl) (slice_get s.functions i) → IsEndpointAt s p i
 endpoint_there s p i at bs ranges = by (slice_get s.functions i) refl ranges
   where
@@ -100,7 +92,7 @@ endpoint_there s p i at bs ranges = by (slice_get s.functions i) refl ranges
     of f e k (bridge d) j = absurd (clash _ _ _ (k ∙ ap (ranges_of f.file) j))
     of f e k (endpoint d) j =
         let there : there_at s p ≡ Some f = sym at ∙ e in
-        let path : f.path ≡ p = found_path p s.functions f there in
+        let path : f.path ≡ p = path_same f.path p (found_passes (at_path p) s.functions f there) in
         let file : file_at s.functions p ≡ f.file = file_is f there in
         let same : f ≡ record { path = p; decl = endpoint d; file = file_at s.functions p } = λ n. record { path = path n; decl = j n; file = sym file n } in
         record {
@@ -151,12 +143,9 @@ none_at s p i at told = by (slice_get s.functions i) refl told
 pub in_guests : (s : State) → IsBoard (board_at s.functions) → (i : ℕ) (r : Row) → slice_get (board_at s.functions) i ≡ Some r
     → (ts : List Text) (ws : GuestsNow) (gs : List Guest) → AreGuests s ts ws gs → has_index i gs ≡ sits ws r.path
 in_guests s board i r at [] [] [] are = refl
-in_guests s board i r at [] [] (g ∷ gs) are = absurd are
-in_guests s board i r at [] (w ∷ ws) gs are = absurd are
-in_guests s board i r at (t ∷ ts) [] gs are = absurd are
-in_guests s board i r at (t ∷ ts) (w ∷ ws) [] are = absurd are
 in_guests s board i r at (t ∷ ts) (w ∷ ws) (g ∷ gs) are =
     ap₂ ◌||◌ (in_slots s board i r at w.paths w.lone.slots g.slots.items are.0.slots) (in_guests s board i r at ts ws gs are.1)
+in_guests s board i r at ts ws gs are = absurd are
 
 -- ---- closed regions
 

@@ -46,27 +46,18 @@ module _ (b : Board) (board : IsBoard b) where
 module _ (s : State) (board : IsBoard (board_at s.functions)) (i : ℕ) (r : Row) (at : slice_get (board_at s.functions) i ≡ Some r) where
   at_slot : (q : Option Path) (f : Option Function) (o : Option Held) → IsSlot s q f o → is_at i o ≡ path.is_at r.path q
   at_slot None None None is = refl
-  at_slot None None (Some h) is = absurd is
-  at_slot None (Some f) o is = absurd is
-  at_slot (Some p) None o is = absurd is
-  at_slot (Some p) (Some f) None is = absurd is
   at_slot (Some p) (Some f) (Some h) is = same_index (board_at s.functions) board i h.index r _ at is.row
+  at_slot p f h is = absurd is
 
   pub in_slots : (qs : List (Option Path)) (fs : Slots) (os : List (Option Held)) → AreSlots s qs fs os → list_any (is_at i) os ≡ list_any (path.is_at r.path) qs
   in_slots [] [] [] are = refl
-  in_slots [] [] (o ∷ os) are = absurd are
-  in_slots [] (f ∷ fs) os are = absurd are
-  in_slots (q ∷ qs) [] os are = absurd are
-  in_slots (q ∷ qs) (f ∷ fs) [] are = absurd are
   in_slots (q ∷ qs) (f ∷ fs) (o ∷ os) are = ap₂ ◌||◌ (at_slot q f o are.0) (in_slots qs fs os are.1)
+  in_slots qs fs os are = absurd are
 
   found_from : (n : ℕ) (qs : List (Option Path)) (fs : Slots) (os : List (Option Held)) → AreSlots s qs fs os → position_from (is_at i) n os ≡ position_from (path.is_at r.path) n qs
   found_from n [] [] [] are = refl
-  found_from n [] [] (o ∷ os) are = absurd are
-  found_from n [] (f ∷ fs) os are = absurd are
-  found_from n (q ∷ qs) [] os are = absurd are
-  found_from n (q ∷ qs) (f ∷ fs) [] are = absurd are
   found_from n (q ∷ qs) (f ∷ fs) (o ∷ os) are = ap₂ (λ (t : Bool) (x : Option ℕ). cond t (Some n) x) (at_slot q f o are.0) (found_from (n + 1) qs fs os are.1)
+  found_from n qs fs os are = absurd are
 
   pub found_in_slots : (qs : List (Option Path)) (fs : Slots) (os : List (Option Held)) → AreSlots s qs fs os → position (is_at i) os ≡ position (path.is_at r.path) qs
   found_in_slots qs fs os are = position_from-zero (is_at i) os ∙ found_from 0 qs fs os are ∙ sym (position_from-zero (path.is_at r.path) qs)

@@ -1,6 +1,7 @@
 -- Where an address of a guest lands: slot after slot, by the guest's own copies.
 use Rattle.std.proofs.Common.{◌≡◌, ℕ, zero, suc, ◌+◌, ◌<◌, ◌≤◌, List, [], ◌∷◌, length, Some, None, Option, drop, slice_get, refl, sym, ap, ◌∙◌, arith}
 use Rattle.std.specs.Prelude.{option_map, unwrap_or}
+use Rattle.std.proofs.lemmas.List.{drop_all}
 use Rattle.lists.specs.Elements.{first_of_two}
 use Rattle.model_registers.specs.Registers.{block}
 use Rattle.model_registers.specs.Decoding.{Space, Function, Hit}
@@ -14,17 +15,8 @@ use Rattle.monitor.proofs.Steps.{slot_there, slot_empty}
 
 same_count : (s : State) (qs : List (Option Path)) (fs : Slots) (os : List (Option Held)) → AreSlots s qs fs os → length fs ≡ length os
 same_count s [] [] [] are = refl
-same_count s [] [] (o ∷ os) are = absurd are
-same_count s [] (f ∷ fs) os are = absurd are
-same_count s (q ∷ qs) [] os are = absurd are
-same_count s (q ∷ qs) (f ∷ fs) [] are = absurd are
 same_count s (q ∷ qs) (f ∷ fs) (o ∷ os) are = ap suc (same_count s qs fs os are.1)
-
-dropped_all : (fs : Slots) (n : ℕ) → length fs ≤ n → drop n fs ≡ []
-dropped_all [] zero h = refl
-dropped_all [] (suc n) h = refl
-dropped_all (f ∷ fs) zero h = absurd (omega arith)
-dropped_all (f ∷ fs) (suc n) h = dropped_all fs n (omega arith)
+same_count s qs fs os are = absurd are
 
 module _ (space : Space) (addr : ℕ) where
   next : (fs : Slots) (n k : ℕ) → n < length fs
@@ -64,4 +56,4 @@ module _ (space : Space) (addr : ℕ) where
     landed h hit at decodes = decoded h at (Some hit) decodes
 
   pub nowhere : (s : State) (qs : List (Option Path)) (fs : Slots) (os : List (Option Held)) → AreSlots s qs fs os → (n : ℕ) → length os ≤ n → landing_from n space addr (drop n fs) ≡ None
-  nowhere s qs fs os are n h = ap (landing_from n space addr) (dropped_all fs n (omega (arith, same_count s qs fs os are)))
+  nowhere s qs fs os are n h = ap (landing_from n space addr) (drop_all n fs (omega (arith, same_count s qs fs os are)))

@@ -38,17 +38,11 @@ module _ (s : State) where
   -- a slot is taken just where it has a function
   taken_is : (qs : List (Option Path)) (fs : Slots) (os : List (Option Held)) (n : ℕ) → AreSlots s qs fs os → is_taken os n ≡ is_some (slot_at fs n)
   taken_is [] [] [] n are = refl
-  taken_is [] [] (o ∷ os) n are = absurd are
-  taken_is [] (f ∷ fs) os n are = absurd are
-  taken_is (q ∷ qs) [] os n are = absurd are
-  taken_is (q ∷ qs) (f ∷ fs) [] n are = absurd are
   taken_is (None ∷ qs) (None ∷ fs) (None ∷ os) zero are = refl
-  taken_is (None ∷ qs) (None ∷ fs) (Some h ∷ os) zero are = absurd are.0
-  taken_is (None ∷ qs) (Some f ∷ fs) (o ∷ os) zero are = absurd are.0
-  taken_is (Some p ∷ qs) (None ∷ fs) (o ∷ os) zero are = absurd are.0
-  taken_is (Some p ∷ qs) (Some f ∷ fs) (None ∷ os) zero are = absurd are.0
   taken_is (Some p ∷ qs) (Some f ∷ fs) (Some h ∷ os) zero are = refl
   taken_is (q ∷ qs) (f ∷ fs) (o ∷ os) (suc n) are = taken_is qs fs os n are.1
+  taken_is (q ∷ qs) (f ∷ fs) (o ∷ os) zero are = absurd are.0
+  taken_is qs fs os n are = absurd are
 
 -- ---- the checks
 

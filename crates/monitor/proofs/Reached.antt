@@ -3,7 +3,9 @@ use Rattle.std.proofs.Common.{◌≡◌, ℕ, ◌+◌, ◌%◌, Bool, true, fals
 use Rattle.std.specs.Prelude.{find, map, IsTrue, not, option_map, IsSome}
 use Rattle.std.specs.Option.{option_map_or}
 use Rattle.std.proofs.lemmas.Option.{slice_get_within}
-use Rattle.lists.specs.Elements.{Each, EachPair}
+use Rattle.lists.specs.Elements.{EachPair}
+use Rattle.lists.proofs.Tests.{and_true}
+use Rattle.model_audit.proofs.Pairs.{pairs_from_map}
 use Rattle.model_registers.specs.Registers.{Place, block, File, read, all_bytes, number}
 use Rattle.model_registers.specs.ByteEnables.{IsWidth}
 use Rattle.model_registers.specs.OwnCopies.{handed_on}
@@ -47,26 +49,14 @@ use Rattle.monitor.proofs.Steps.{named, GuestAt, SlotAt, function_there, path_th
 
 -- ---- paths of the board
 
-path_each : (f : BoardFunction) (fs : List BoardFunction) → Each (λ (r : Row). IsTrue (path_before f.path r.path)) (map row_at fs) → Each (λ (g : BoardFunction). IsTrue (path_before f.path g.path)) fs
-path_each f [] h = tt
-path_each f (g ∷ fs) h = (h.0, path_each f fs h.1)
-
-path_pairs : (fs : List BoardFunction) → EachPair (λ (r s : Row). IsTrue (path_before r.path s.path)) (map row_at fs) → EachPair (λ (f g : BoardFunction). IsTrue (path_before f.path g.path)) fs
-path_pairs [] h = tt
-path_pairs (f ∷ fs) h = (path_each f fs h.0, path_pairs fs h.1)
-
 pub board_distinct : (b : Board) (fs : List BoardFunction) → IsBoard b → map row_at fs ≡ b → HasDistinctPaths fs
-board_distinct b fs board rows = distinct_paths fs (path_pairs fs (subst (EachPair (λ (r s : Row). IsTrue (path_before r.path s.path))) (sym rows) board.in_order))
+board_distinct b fs board rows = distinct_paths fs (pairs_from_map (λ (r s : Row). IsTrue (path_before r.path s.path)) row_at fs (subst (EachPair (λ (r s : Row). IsTrue (path_before r.path s.path))) (sym rows) board.in_order))
 
 -- ---- in a region there are no copies
 
 pub all_handed : (n a : ℕ) (ons : List Bool) → handed_on (block n a) ons ≡ ons
 all_handed n a [] = refl
 all_handed n a (on ∷ ons) = ap₂ (λ (x : Bool) (xs : List Bool). x ∷ xs) (and_true on) (all_handed n (a + 1) ons)
-  where
-    and_true : (t : Bool) → (t && not false) ≡ t
-    and_true true = refl
-    and_true false = refl
 
 -- ---- alignment
 

@@ -112,32 +112,22 @@ module _ (s : State) (handoff : IsHandoff s) (gs : GuestsNow) where
       → ((n : ℕ) (p : Path) (f : Function) → path_at qs n ≡ Some p → slot_at fs n ≡ Some f → file_of gs p ≡ Some f.file)
       → (map (path_shown (state_over s gs).functions) os ≡ qs) × (map (slot_shown (state_over s gs).functions) os ≡ fs)
   slots_shown [] [] [] seats are files = (refl, refl)
-  slots_shown [] [] (o ∷ os) seats are files = absurd are
-  slots_shown [] (f ∷ fs) os seats are files = absurd are
-  slots_shown (q ∷ qs) [] os seats are files = absurd are
-  slots_shown (q ∷ qs) (f ∷ fs) [] seats are files = absurd are
   slots_shown (None ∷ qs) (None ∷ fs) (None ∷ os) seats are files =
       let more = slots_shown qs fs os seats.1 are.1 (λ n. files (suc n)) in
       (ap (λ (x : List (Option Path)). None ∷ x) more.0, ap (λ (x : Slots). None ∷ x) more.1)
-  slots_shown (None ∷ qs) (None ∷ fs) (Some h ∷ os) seats are files = absurd are.0
-  slots_shown (None ∷ qs) (Some f ∷ fs) (o ∷ os) seats are files = absurd are.0
-  slots_shown (Some p ∷ qs) (None ∷ fs) (o ∷ os) seats are files = absurd are.0
-  slots_shown (Some p ∷ qs) (Some f ∷ fs) (None ∷ os) seats are files = absurd are.0
   slots_shown (Some p ∷ qs) (Some f ∷ fs) (Some h ∷ os) seats are files =
       let more = slots_shown qs fs os seats.1 are.1 (λ n. files (suc n)) in
       let there = board_there s handoff gs p f seats.0 h.index are.0.row (files zero p f refl refl) in (
         ap₂ (λ (x : Option BoardFunction) (xs : List (Option Path)). option_map (λ (g : BoardFunction). g.path) x ∷ xs) there more.0,
         ap₂ (λ (x : Option Function) (xs : Slots). x ∷ xs) (shown_there s handoff gs p f seats.0 h are.0 (files zero p f refl refl)) more.1,
       )
+  slots_shown (q ∷ qs) (f ∷ fs) (o ∷ os) seats are files = absurd are.0
+  slots_shown qs fs os seats are files = absurd are
 
   all_shown : AreSeated b gs → (ts : List Text) (ws : GuestsNow) (hs : List Guest) → AreGuests s ts ws hs
       → ((i : ℕ) (w : GuestNow) → slice_get ws i ≡ Some w → (guest_named gs w.name ≡ Some w) × AreSeats b w.paths w.lone.slots)
       → guests_shown (state_over s gs).functions ts hs ≡ ws
   all_shown seated [] [] [] are named = refl
-  all_shown seated [] [] (g ∷ hs) are named = absurd are
-  all_shown seated [] (w ∷ ws) hs are named = absurd are
-  all_shown seated (t ∷ ts) [] hs are named = absurd are
-  all_shown seated (t ∷ ts) (w ∷ ws) [] are named = absurd are
   all_shown seated (t ∷ ts) (w ∷ ws) (g ∷ hs) are named = ap₂ (λ (x : GuestNow) (xs : GuestsNow). x ∷ xs) here (all_shown seated ts ws hs are.1 (λ i. named (suc i)))
     where
       files : (n : ℕ) (p : Path) (f : Function) → path_at w.paths n ≡ Some p → slot_at w.lone.slots n ≡ Some f → file_of gs p ≡ Some f.file
@@ -148,6 +138,7 @@ module _ (s : State) (handoff : IsHandoff s) (gs : GuestsNow) where
 
       here : guest_shown (state_over s gs).functions t g ≡ w
       here = λ i. record { name = sym are.0.name_is i; paths = slots.0 i; lone = record { slots = slots.1 i; latch = sym are.0.latch i } }
+  all_shown seated ts ws hs are named = absurd are
 
 shown_as_handed : (s : State) (gs : GuestsNow) → handoff_shown (state_over s gs) gs ≡ with_seated_reset (state_over s gs) gs
 unfolding handoff_shown
@@ -171,11 +162,8 @@ module _ (w : WorldNow) (h : HostState) (names : List Text) (gs : List Guest) (k
 
 pub names_kept : (s : State) (ts : List Text) (ws : GuestsNow) (gs : List Guest) → AreGuests s ts ws gs → names_of ws ≡ ts
 names_kept s [] [] gs are = refl
-names_kept s [] (w ∷ ws) [] are = absurd are
-names_kept s [] (w ∷ ws) (g ∷ gs) are = absurd are
-names_kept s (t ∷ ts) [] gs are = absurd are
-names_kept s (t ∷ ts) (w ∷ ws) [] are = absurd are
 names_kept s (t ∷ ts) (w ∷ ws) (g ∷ gs) are = ap₂ (λ (x : Text) (xs : List Text). x ∷ xs) are.0.name_is (names_kept s ts ws gs are.1)
+names_kept s ts ws gs are = absurd are
 
 pub host_replied : (s : State) (w : WorldNow) (r : HostRead) (o : Option ℕ) (value : ℕ) → s ≡ board_state w → o ≡ host_fault r → o ≡ None → value ≡ shown s r.width r.target
     → answered value r.width ≡ host_reply w r

@@ -48,53 +48,37 @@ pub record SlotOf (s : State) (qs : List (Option Path)) (fs : Slots) (n : ℕ) (
 module _ (s : State) where
   pub slot_there : (qs : List (Option Path)) (fs : Slots) (os : List (Option Held)) (n : ℕ) (h : Held) → AreSlots s qs fs os → slice_get os n ≡ Some (Some h) → SlotOf s qs fs n h
   slot_there [] [] [] n h are at = cc
-  slot_there [] [] (o ∷ os) n h are at = absurd are
-  slot_there [] (f ∷ fs) os n h are at = absurd are
-  slot_there (q ∷ qs) [] os n h are at = absurd are
-  slot_there (q ∷ qs) (f ∷ fs) [] n h are at = absurd are
   slot_there (None ∷ qs) (None ∷ fs) (None ∷ os) zero h are at = cc
-  slot_there (None ∷ qs) (None ∷ fs) (Some k ∷ os) zero h are at = absurd are.0
-  slot_there (None ∷ qs) (Some f ∷ fs) (o ∷ os) zero h are at = absurd are.0
-  slot_there (Some p ∷ qs) (None ∷ fs) (o ∷ os) zero h are at = absurd are.0
-  slot_there (Some p ∷ qs) (Some f ∷ fs) (None ∷ os) zero h are at = absurd are.0
   slot_there (Some p ∷ qs) (Some f ∷ fs) (Some k ∷ os) zero h are at =
       let same : k ≡ h = cc in
       record { p = p; f = f; path = refl; function = refl; held = subst (IsHeld s p f) same are.0 }
   slot_there (q ∷ qs) (f ∷ fs) (o ∷ os) (suc n) h are at =
       let more = slot_there qs fs os n h are.1 at in
       record { p = more.p; f = more.f; path = more.path; function = more.function; held = more.held }
+  slot_there (q ∷ qs) (f ∷ fs) (o ∷ os) zero h are at = absurd are.0
+  slot_there qs fs os n h are at = absurd are
 
   -- no function is in a slot without one, nor past the last
   pub slot_empty : (qs : List (Option Path)) (fs : Slots) (os : List (Option Held)) (n : ℕ) → AreSlots s qs fs os → unwrap_or (slice_get os n) None ≡ None → slot_at fs n ≡ None
   slot_empty [] [] [] n are at = refl
-  slot_empty [] [] (o ∷ os) n are at = absurd are
-  slot_empty [] (f ∷ fs) os n are at = absurd are
-  slot_empty (q ∷ qs) [] os n are at = absurd are
-  slot_empty (q ∷ qs) (f ∷ fs) [] n are at = absurd are
   slot_empty (None ∷ qs) (None ∷ fs) (o ∷ os) zero are at = refl
-  slot_empty (None ∷ qs) (Some f ∷ fs) (o ∷ os) zero are at = absurd are.0
   slot_empty (Some p ∷ qs) (None ∷ fs) (o ∷ os) zero are at = refl
-  slot_empty (Some p ∷ qs) (Some f ∷ fs) (None ∷ os) zero are at = absurd are.0
   slot_empty (Some p ∷ qs) (Some f ∷ fs) (Some h ∷ os) zero are at = cc
   slot_empty (q ∷ qs) (f ∷ fs) (o ∷ os) (suc n) are at = slot_empty qs fs os n are.1 at
+  slot_empty (q ∷ qs) (f ∷ fs) (o ∷ os) zero are at = absurd are.0
+  slot_empty qs fs os n are at = absurd are
 
   pub slots_count : (qs : List (Option Path)) (fs : Slots) (os : List (Option Held)) → AreSlots s qs fs os → length os ≡ length qs
   slots_count [] [] [] are = refl
-  slots_count [] [] (o ∷ os) are = absurd are
-  slots_count [] (f ∷ fs) os are = absurd are
-  slots_count (q ∷ qs) [] os are = absurd are
-  slots_count (q ∷ qs) (f ∷ fs) [] are = absurd are
   slots_count (q ∷ qs) (f ∷ fs) (o ∷ os) are = ap suc (slots_count qs fs os are.1)
+  slots_count qs fs os are = absurd are
 
   pub slots_put : (qs : List (Option Path)) (fs : Slots) (os : List (Option Held)) (n : ℕ) (q : Option Path) (f : Option Function) (o : Option Held) → AreSlots s qs fs os → IsSlot s q f o
       → AreSlots s (slice_set qs n q) (slice_set fs n f) (slice_set os n o)
   slots_put [] [] [] n q f o are is = tt
-  slots_put [] [] (x ∷ os) n q f o are is = absurd are
-  slots_put [] (g ∷ fs) os n q f o are is = absurd are
-  slots_put (p ∷ qs) [] os n q f o are is = absurd are
-  slots_put (p ∷ qs) (g ∷ fs) [] n q f o are is = absurd are
   slots_put (p ∷ qs) (g ∷ fs) (x ∷ os) zero q f o are is = (is, are.1)
   slots_put (p ∷ qs) (g ∷ fs) (x ∷ os) (suc n) q f o are is = (are.0, slots_put qs fs os n q f o are.1 is)
+  slots_put qs fs os n q f o are is = absurd are
 
 -- a path that is there stays as it is
 set_path : (qs : List (Option Path)) (n : ℕ) (p : Path) → path_at qs n ≡ Some p → slice_set qs n (Some p) ≡ qs
@@ -113,33 +97,24 @@ pub record GuestOf (s : State) (ws : GuestsNow) (i : ℕ) (g : Guest) : Type 0 w
 module _ (s : State) where
   pub guest_there : (ts : List Text) (ws : GuestsNow) (gs : List Guest) (i : ℕ) (g : Guest) → AreGuests s ts ws gs → slice_get gs i ≡ Some g → GuestOf s ws i g
   guest_there [] [] [] i g are at = cc
-  guest_there [] [] (k ∷ gs) i g are at = absurd are
-  guest_there [] (w ∷ ws) gs i g are at = absurd are
-  guest_there (t ∷ ts) [] gs i g are at = absurd are
-  guest_there (t ∷ ts) (w ∷ ws) [] i g are at = absurd are
   guest_there (t ∷ ts) (w ∷ ws) (k ∷ gs) zero g are at = let same : k ≡ g = cc in record { x = w; name = t; there = refl; is = subst (IsGuest s t w) same are.0 }
   guest_there (t ∷ ts) (w ∷ ws) (k ∷ gs) (suc i) g are at =
       let more = guest_there ts ws gs i g are.1 at in
       record { x = more.x; name = more.name; there = more.there; is = more.is }
+  guest_there ts ws gs i g are at = absurd are
 
   -- as many guests as the world has
   pub guests_within : (ts : List Text) (ws : GuestsNow) (gs : List Guest) → AreGuests s ts ws gs → length gs ≡ length ws
   guests_within [] [] [] are = refl
-  guests_within [] [] (k ∷ gs) are = absurd are
-  guests_within [] (w ∷ ws) gs are = absurd are
-  guests_within (t ∷ ts) [] gs are = absurd are
-  guests_within (t ∷ ts) (w ∷ ws) [] are = absurd are
   guests_within (t ∷ ts) (w ∷ ws) (k ∷ gs) are = ap suc (guests_within ts ws gs are.1)
+  guests_within ts ws gs are = absurd are
 
   pub guests_set : (ts : List Text) (ws : GuestsNow) (gs : List Guest) (i : ℕ) (x y : GuestNow) (k : Guest) → AreGuests s ts ws gs → slice_get ws i ≡ Some x
       → ((t : Text) → x.name ≡ t → IsGuest s t y k) → AreGuests s ts (slice_set ws i y) (slice_set gs i k)
   guests_set [] [] [] i x y k are at is = tt
-  guests_set [] [] (g ∷ gs) i x y k are at is = absurd are
-  guests_set [] (w ∷ ws) gs i x y k are at is = absurd are
-  guests_set (t ∷ ts) [] gs i x y k are at is = absurd are
-  guests_set (t ∷ ts) (w ∷ ws) [] i x y k are at is = absurd are
   guests_set (t ∷ ts) (w ∷ ws) (g ∷ gs) zero x y k are at is = let same : w ≡ x = cc in (is t (ap (λ (z : GuestNow). z.name) (sym same) ∙ are.0.name_is), are.1)
   guests_set (t ∷ ts) (w ∷ ws) (g ∷ gs) (suc i) x y k are at is = (are.0, guests_set ts ws gs i x y k are.1 at is)
+  guests_set ts ws gs i x y k are at is = absurd are
 
 -- a guest of a world that is kept, by its index
 pub record GuestAt (w : WorldNow) (h : HostState) (names : List Text) (gs : List Guest) (i : ℕ) (g : Guest) : Type 0 where

@@ -1,9 +1,10 @@
 -- A board that a monitor takes over: given functions at reset, one after the other.
-use Rattle.std.proofs.Common.{◌≡◌, ℕ, ◌+◌, Bool, true, false, ◌||◌, cond, List, [], ◌∷◌, ◌++◌, take, Option, Some, None, refl, sym, ap, ap₂, ◌∙◌, append_assoc}
+use Rattle.std.proofs.Common.{◌≡◌, ℕ, ◌+◌, Bool, true, false, ◌||◌, cond, List, [], ◌∷◌, ◌++◌, take, Option, Some, None, refl, sym, ap, ap₂, ◌∙◌, append_assoc, rules}
 use Rattle.std.specs.Prelude.{map, flat_map, find, option_map, slice_get}
 use Rattle.std.specs.List.{list_any}
 use Rattle.std.specs.Option.{option_map_or}
 use Rattle.std.proofs.lemmas.List.{append-nil}
+use Rattle.std.proofs.lemmas.List.Concat.{flat_map-append}
 use Rattle.lists.proofs.FirstFound.{found_passes}
 use Rattle.lists.proofs.Indices.{at_map}
 use Rattle.model_registers.specs.Registers.{File}
@@ -123,8 +124,7 @@ path_reset h k n ps i p at so_far more =
     ∙ ap (λ (x : HostState). reset_on x (p ∷ [])) so_far ∙ resets_joined h (take i ps) (p ∷ []) ∙ ap (reset_on h) (sym (take_at ps i p at))
 
 slots_push : (gs : List Guest) (g : Guest) → flat_map (λ (x : Guest). x.slots) (gs ++ g ∷ []) ≡ flat_map (λ (x : Guest). x.slots) gs ++ g.slots
-slots_push [] g = append-nil g.slots
-slots_push (x ∷ gs) g = ap (λ ps. x.slots ++ ps) (slots_push gs g) ∙ sym (append_assoc x.slots (flat_map (λ (y : Guest). y.slots) gs) g.slots)
+slots_push gs g = search (rules, flat_map-append, append-nil)
 
 pub guest_reset : (h k n : HostState) (gs : List Guest) (i : ℕ) (g : Guest) → slice_get gs i ≡ Some g → k ≡ reset_on h (flat_map (λ (x : Guest). x.slots) (take i gs)) → n ≡ reset_on k g.slots
     → n ≡ reset_on h (flat_map (λ (x : Guest). x.slots) (take (i + 1) gs))

@@ -2,6 +2,7 @@
 use Rattle.std.proofs.Common.{◌≡◌, ℕ, ◌+◌, ◌*◌, ◌/◌, ◌%◌, ◌<◌, ◌≤◌, ◌^◌, ◌⊎◌, Bool, true, false, ◌&&◌, cond, inl, inr, List, [], ◌∷◌, refl, sym, ap, ap₂, ◌∙◌, subst, arith, lit≤}
 use Rattle.std.specs.Prelude.{not}
 use Rattle.std.proofs.lemmas.Bool.Decides.{nat_tests}
+use Rattle.lists.proofs.Tests.{and_false}
 use Rattle.model_registers.specs.Registers.{config, File, cell_at, read}
 use Rattle.model_registers.specs.OwnCopies.{OwnCopies, own_file, IsLawfulOwn, is_own, handed_on}
 use Rattle.model_registers.specs.ByteEnables.{enabled_bytes}
@@ -10,10 +11,6 @@ use Rattle.guest_functions.proofs.HeldCopies.{sum_of_bytes, enabled_bytes-fits}
 
 abbrev four : Bool → Bool → Bool → Bool → List Bool
 four p q r s = p ∷ q ∷ r ∷ s ∷ []
-
-and_false : (t : Bool) → (t && false) ≡ false
-and_false true = refl
-and_false false = refl
 
 base_is_own : (off : ℕ) → 0x10 ≤ off → off < 0x28 → is_own (config off) ≡ true
 base_is_own off h k = grind (arith, nat_tests)

@@ -2,7 +2,7 @@ use Rattle.std.proofs.Common.{◌≡◌, ◌∙◌, List, Option, length, drop, 
 use Rattle.std.specs.Prelude.{slice_index_or}
 use Rattle.monitor.specs.declared.guest.Held.{Held}
 use Rattle.monitor.specs.declared.guest.Guest.{Guest}
-use Rattle.monitor.proofs.Calls.{given_back}
+use Rattle.std.proofs.lemmas.List.{take_at}
 use Rattle.monitor.proofs.ConfigSteps.{guest_written, same_at}
 use Rattle.monitor.proofs.config.write_guest.Goals as goal
 
@@ -20,4 +20,4 @@ returns c = λ holds.
     let v = slice_index_or c.args.guests.now c.args.guest c.index-guests-guest.result in
     guest_written c.args.guests.now c.args.guest c.args.slot c.args.word c.args.enables c.args.value holds c.deref_mut.result.now c.write_own.new.slots c.write_own.result _
     (c.deref_mut.ensures.value ∙ ap (λ (g : Guest). g.slots.items) here) c.write_own.ensures (ap (λ (g : Guest). g.latch) here)
-    (given_back c.write_own.new.slots (drop (length c.write_own.new.slots) v.slots.items) v.slots.len (c.write_own.auto.slots ∙ c.deref_mut.ensures.len))
+    (take_at c.write_own.new.slots (drop (length c.write_own.new.slots) v.slots.items) v.slots.len (c.write_own.auto.slots ∙ c.deref_mut.ensures.len))

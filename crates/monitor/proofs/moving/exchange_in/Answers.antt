@@ -2,7 +2,7 @@ use Rattle.std.proofs.Common.{List, Option, ap, drop, length, refl, slice_get, s
 use Rattle.std.specs.Prelude.{slice_index_or}
 use Rattle.monitor.specs.declared.guest.Guest.{Guest}
 use Rattle.monitor.specs.declared.guest.Held.{Held}
-use Rattle.monitor.proofs.Calls.{given_back}
+use Rattle.std.proofs.lemmas.List.{take_at}
 use Rattle.monitor.proofs.ConfigSteps.{same_at}
 use Rattle.monitor.proofs.moving.exchange_in.Goals as goal
 
@@ -20,7 +20,7 @@ returns c =
     let here = sym c.index-guests-guest.is ∙ same in
     let v = slice_index_or c.args.guests.now c.args.guest c.index-guests-guest.result in
     let items = c.deref_mut.ensures.value ∙ ap (λ (g : Guest). g.slots.items) here in
-    let back = given_back c.exchange.new.slots (drop (length c.exchange.new.slots) v.slots.items) v.slots.len (c.exchange.auto.slots ∙ c.deref_mut.ensures.len) in
+    let back = take_at c.exchange.new.slots (drop (length c.exchange.new.slots) v.slots.items) v.slots.len (c.exchange.auto.slots ∙ c.deref_mut.ensures.len) in
     record {
       before = has.guest;
       there = has.there;

@@ -1,6 +1,6 @@
 use Rattle.std.proofs.Common.{ap, ◌∙◌}
 use Rattle.lists.proofs.Indices.{read_at}
-use Rattle.monitor.proofs.FirstGuests.{take_past}
+use Rattle.std.proofs.lemmas.List.{take_all}
 use Rattle.monitor.proofs.TakenOver.{reset_on, none_reset, path_reset}
 use Rattle.monitor.proofs.taking.reset_all.Goals as goal
 
@@ -16,4 +16,4 @@ loop-path-preserved c =
 pub returns : goal.returns
 returns c =
     let ps = c.args.paths.now in
-    c.loop-path.invariant ∙ ap (reset_on c.args.host.now) (take_past ps c.loop-path.path-index c.loop-path-test.false)
+    c.loop-path.invariant ∙ ap (reset_on c.args.host.now) (take_all c.loop-path.path-index ps c.loop-path-test.false)

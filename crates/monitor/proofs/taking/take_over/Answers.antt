@@ -3,7 +3,7 @@ use Rattle.std.specs.Prelude.{flat_map}
 use Rattle.lists.proofs.Indices.{read_at}
 use Rattle.model_guests.specs.World.{Guest}
 use Rattle.host_bridge.specs.HostState.{with_latch}
-use Rattle.monitor.proofs.FirstGuests.{take_past}
+use Rattle.std.proofs.lemmas.List.{take_all}
 use Rattle.monitor.proofs.TakenOver.{reset_on, none_reset, guest_reset}
 use Rattle.monitor.proofs.taking.take_over.Goals as goal
 
@@ -23,4 +23,4 @@ pub returns : goal.returns
 returns c =
     let ds = c.args.decls.now in
     c.clear_latch.ensures
-    ∙ ap (with_latch 0) (c.loop-decl.invariant ∙ ap (λ (gs : List Guest). reset_on c.args.host.now (flat_map (λ (g : Guest). g.slots) gs)) (take_past ds c.loop-decl.decl-index c.loop-decl-test.false))
+    ∙ ap (with_latch 0) (c.loop-decl.invariant ∙ ap (λ (gs : List Guest). reset_on c.args.host.now (flat_map (λ (g : Guest). g.slots) gs)) (take_all c.loop-decl.decl-index ds c.loop-decl-test.false))
