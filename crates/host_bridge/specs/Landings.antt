@@ -1,8 +1,10 @@
--- Where an access lands, told by the index of its endpoint.
+-- What the board itself would answer by, told by the index of an endpoint.
 --     IsLanding fs l width      the first claim of an address that is a multiple of the width
-use Rattle.std.specs.Prelude.{ℕ, List, Some, ◌≡◌, ◌<◌, ◌%◌, length}
+--     IsReached fs i      configuration cycles for some bus, device and function number reach the function there
+use Rattle.std.specs.Prelude.{ℕ, List, Some, ◌≡◌, ◌<◌, ◌%◌, length, slice_get}
 use Rattle.model_registers.specs.Decoding.{Space}
 use Rattle.model_board.specs.State.{BoardFunction}
+use Rattle.model_board.specs.Cycles.{BusAddress, reached}
 use Rattle.model_board.specs.Claims.{first_claim}
 use Rattle.bridge_forward.specs.declared.bus.Located.{Located}
 use Rattle.bridge_forward.specs.Locating.{located_claim}
@@ -13,3 +15,7 @@ pub record IsLanding (fs : List BoardFunction) (l : Located) (width : ℕ) : Typ
   pub aligned : address % width ≡ 0
   pub claim : located_claim fs (Some l) ≡ first_claim fs space address
   pub within : l.index < length fs
+
+pub record IsReached (fs : List BoardFunction) (i : ℕ) : Type 0 where
+  pub at : BusAddress
+  pub reaches : reached fs at ≡ slice_get fs i

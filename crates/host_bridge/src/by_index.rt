@@ -10,6 +10,7 @@ ghost use Rattle.bridge_forward.specs.ByIndex.{ranges_told, ranges_nth};
 ghost use Rattle.bridge_forward.specs.Lending.{endpoint_nth};
 ghost use Rattle.host_bridge.specs.ByIndex.{file_nth, with_file_nth, with_reset_nth};
 ghost use Rattle.host_bridge.specs.HostState.{with_functions};
+ghost use Rattle.host_bridge.specs.Landings.{IsReached};
 
 use crate::host::Host;
 use bridge_forward::{Path, RangesNow};
@@ -47,9 +48,11 @@ impl Host {
     }
 
     /// Reads the enabled bytes of the configuration word at `off`, a multiple of 4, of the endpoint at an
-    /// index. All other bytes read 0.
+    /// index. All other bytes read 0. Cycles for some bus number reach the endpoint, so no search by that
+    /// number is needed.
     pub fn config_read_nth(&mut self, index: usize, off: u8, enables: u8) -> u32
         requires there { IsSome (endpoint_nth self.old.state.functions index) }
+        requires reached { IsReached self.old.state.functions index }
         requires word { off % 4 ≡ 0 }
         ensures value { result ≡ read (file_nth self.old.state.functions index) (config off) (lanes enables) }
         ensures after { self.new ≡ self.old }
@@ -63,6 +66,7 @@ impl Host {
     /// Writes the enabled bytes of this word.
     pub fn config_write_nth(&mut self, index: usize, off: u8, enables: u8, data: u32)
         requires there { IsSome (endpoint_nth self.old.state.functions index) }
+        requires reached { IsReached self.old.state.functions index }
         requires word { off % 4 ≡ 0 }
         ensures { let written = with_file_nth (write (lanes enables) «data» (config off)) index self.old.state.functions in
             self.new ≡ with_functions written self.old }

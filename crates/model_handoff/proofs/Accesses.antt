@@ -93,7 +93,7 @@ module _ (s : State) (state : IsStateOfBoard s.functions) (gs : GuestsNow) (seat
       ∙ ap (read f.file (block k a)) (all_handed k a ons)
 
   -- the cycle for its address
-  reached_is : IsNumbered s.functions → reached (state_over s gs).functions (address_now s.functions p) ≡ Some (endpoint_at p f.decl (agreed_file left f.file))
+  pub reached_is : IsNumbered s.functions → reached (state_over s gs).functions (address_now s.functions p) ≡ Some (endpoint_at p f.decl (agreed_file left f.file))
   reached_is numbered =
       keeps_reach s state gs seated (address_now s.functions p) ∙ ap (option_map (agreed_function (file_of gs))) handed ∙ ap Some now_is
     where

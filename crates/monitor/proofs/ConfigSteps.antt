@@ -25,7 +25,7 @@ use Rattle.monitor.specs.Keeping.{IsKept}
 use Rattle.monitor.specs.ByIndex.{lone_nth, with_lone_nth, guest_nth}
 use Rattle.monitor.specs.Configs.{IsSeen, HoldsAt, IsHolding, WritesGuest, WritesOwn}
 use Rattle.monitor.proofs.Steps.{with_guest_at, kept_slot, GuestAt, SlotAt, with_same}
-use Rattle.monitor.proofs.Reached.{board_shows, changed_held, endpoint_held, file_held, lawful}
+use Rattle.monitor.proofs.Reached.{board_shows, changed_held, endpoint_held, reached_held, file_held, lawful}
 use Rattle.monitor.proofs.RegionSteps.{written_shape}
 use Rattle.monitor.proofs.Calls.{Leaves, leaves}
 use Rattle.monitor.proofs.Exchanges.{holds_nth}
@@ -62,6 +62,7 @@ module _ {w : WorldNow} {h : HostState} {names : List Text} {gs : List Guest} {i
       lawful = lawful_copies held.own slot.f.decl.regions (lawful at slot).regions slot.held.regions;
       holds = slot.held.own;
       there = endpoint_held at slot;
+      reached = reached_held at slot;
       shows = λ off ons. ap (λ (file : File). read file (config off) (handed_on (config off) ons)) (file_held at slot) ∙ board_shows at slot (config off) ons;
     }
 

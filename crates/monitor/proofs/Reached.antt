@@ -5,6 +5,7 @@ use Rattle.std.specs.Option.{option_map_or}
 use Rattle.std.proofs.lemmas.Option.{slice_get_within}
 use Rattle.lists.specs.Elements.{EachPair}
 use Rattle.lists.proofs.Tests.{and_true}
+use Rattle.model_audit.specs.Found.{address_now}
 use Rattle.model_audit.proofs.Pairs.{pairs_from_map}
 use Rattle.model_registers.specs.Registers.{Place, block, File, read, all_bytes, number}
 use Rattle.model_registers.specs.ByteEnables.{IsWidth}
@@ -14,6 +15,7 @@ use Rattle.model_board.specs.Paths.{Path, path_eq, path_before}
 use Rattle.model_board.specs.Board.{endpoint, Row, Board, IsBoard}
 use Rattle.model_board.specs.State.{BoardFunction, row_at, State, with_file}
 use Rattle.model_board.specs.Claims.{claim_at}
+use Rattle.model_board.specs.Cycles.{reached}
 use Rattle.model_board.specs.AtReset.{board_at}
 use Rattle.model_board.specs.Ports.{claim_reply, file_at}
 use Rattle.model_registers.specs.CopiedFiles.{after_reset, agreed_file, places_of}
@@ -29,6 +31,7 @@ use Rattle.model_guests.proofs.AgreedFiles.{shows_file}
 use Rattle.model_guests.specs.Text.{Text}
 use Rattle.model_handoff.specs.Regions.{base_in}
 use Rattle.model_handoff.specs.RegionLaws.{HasSlot, ReachesOver}
+use Rattle.model_handoff.proofs.Accesses.{reached_is}
 use Rattle.model_handoff.proofs.Keeping.{keeps_board}
 use Rattle.model_handoff.proofs.Regions.{hit_reaches_over}
 use Rattle.bars.specs.Hits.{hit_in}
@@ -37,7 +40,7 @@ use Rattle.bridge_forward.specs.Locating.{located_claim}
 use Rattle.bridge_forward.specs.Lending.{as_endpoint, endpoint_nth}
 use Rattle.host_bridge.specs.ByIndex.{file_nth, with_file_nth, with_reset_nth}
 use Rattle.host_bridge.specs.HostState.{HostState, with_functions}
-use Rattle.host_bridge.specs.Landings.{IsLanding}
+use Rattle.host_bridge.specs.Landings.{IsLanding, IsReached}
 use Rattle.host_bridge.proofs.Lent.{HasDistinctPaths, distinct_paths}
 use Rattle.host_bridge.proofs.ByIndex.{found_at}
 use Rattle.monitor.specs.declared.guest.Held.{Held}
@@ -114,6 +117,16 @@ module _ {w : WorldNow} {h : HostState} {names : List Text} {gs : List Guest} {i
 
     pub endpoint_held : IsSome (endpoint_nth h.state.functions held.index)
     endpoint_held = subst (λ (o : Option BoardFunction). IsSome (option_map_or as_endpoint o None)) (sym held_row) refl
+
+    -- cycles for its number reach it
+    pub reached_held : IsReached h.state.functions held.index
+    reached_held = record {
+      at = address_now w.handoff.functions slot.p;
+      reaches =
+          ap (λ (s : State). reached s.functions (address_now w.handoff.functions slot.p)) at.kept.agrees
+          ∙ reached_is w.handoff at.kept.lawful.handoff.board w.guests at.kept.lawful.seated (name_nth w i) n slot.p slot.f named_slot at.kept.lawful.order.numbers
+          ∙ sym held_row;
+    }
 
     pub file_held : file_nth h.state.functions held.index ≡ on_board.file
     file_held = ap (λ (o : Option BoardFunction). option_map_or (λ (f : BoardFunction). f.file) o []) held_row

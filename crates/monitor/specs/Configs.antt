@@ -11,6 +11,7 @@ use Rattle.model_registers.specs.OwnCopies.{OwnCopies, own_file, HoldsOwn, IsLaw
 use Rattle.bridge_forward.specs.Lending.{endpoint_nth}
 use Rattle.host_bridge.specs.ByIndex.{file_nth}
 use Rattle.host_bridge.specs.HostState.{HostState}
+use Rattle.host_bridge.specs.Landings.{IsReached}
 use Rattle.monitor.specs.declared.guest.Held.{Held}
 use Rattle.monitor.specs.declared.guest.Guest.{Guest}
 
@@ -19,6 +20,7 @@ pub record IsSeen (h : HostState) (held : Held) : Type 0 where
   pub lawful : IsLawfulOwn held.own
   pub holds : HoldsOwn file held.own
   pub there : IsSome (endpoint_nth h.state.functions held.index)
+  pub reached : IsReached h.state.functions held.index
   pub shows : (off : ℕ) (ons : List Bool)
       → read (file_nth h.state.functions held.index) (config off) (handed_on (config off) ons)
       ≡ read file (config off) (handed_on (config off) ons)

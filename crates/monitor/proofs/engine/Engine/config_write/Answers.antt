@@ -2,13 +2,14 @@ use Rattle.std.proofs.Common.{◌∙◌, ℕ, List, ap, sym, subst, arith}
 use Rattle.std.specs.Prelude.{IsSome}
 use Rattle.model_registers.specs.ByteEnables.{enables_of, into_lanes}
 use Rattle.bridge_forward.specs.Lending.{endpoint_nth}
+use Rattle.host_bridge.specs.Landings.{IsReached}
 use Rattle.monitor.specs.declared.guest.Guest.{Guest}
 use Rattle.monitor.specs.Configs.{HoldsAt}
 use Rattle.monitor.proofs.ConfigSteps.{config_drops, config_written, written_lent}
 use Rattle.monitor.proofs.Calls.{back_in, guest_in, inside_guests}
 use Rattle.monitor.proofs.Steps.{empty_lent, slot_lent}
 use Rattle.monitor.proofs.Exchanges.{holds_nth}
-use Rattle.monitor.proofs.Reached.{endpoint_held}
+use Rattle.monitor.proofs.Reached.{endpoint_held, reached_held}
 use Rattle.monitor.proofs.engine.Engine.config_write.Goals as goal
 
 pub index-requires : goal.index-requires
@@ -30,6 +31,13 @@ config_write_nth-requires-clause-there g c =
     let slot = slot_lent at c.deref.ensures.value c.in-Some.ensures.there in
     let written = written_lent c.deref_mut.ensures.value (holds_nth at slot) c.write_guest-index.ensures in
     subst (λ (k : ℕ). IsSome (endpoint_nth c.self.inside.host.state.functions k)) (sym written.slots.index) (endpoint_held at slot)
+
+pub config_write_nth-requires-clause-reached : goal.config_write_nth-requires-clause-reached
+config_write_nth-requires-clause-reached g c =
+    let at = guest_in c.self.invariant.1 c.self.view_is c.args.guest c.requires.there c.index.ensures in
+    let slot = slot_lent at c.deref.ensures.value c.in-Some.ensures.there in
+    let written = written_lent c.deref_mut.ensures.value (holds_nth at slot) c.write_guest-index.ensures in
+    subst (λ (k : ℕ). IsReached c.self.inside.host.state.functions k) (sym written.slots.index) (reached_held at slot)
 
 pub invariant_of-self : goal.invariant_of-self
 invariant_of-self g c =
