@@ -1,16 +1,17 @@
 -- A judged endpoint breaks no rule of declarations but that of blocks that overlap.
-use Rattle.std.proofs.Common.{◌≡◌, ℕ, ◌+◌, ◌<◌, ◌≤◌, ◌^◌, ◌==◌, ℤ, pos, negsuc, nat_abs, Bool, true, false, ◌&&◌, cond, List, [], ◌∷◌, map, length, nat_le, bit_and, Option, Some, None, refl, ◌∙◌, arith, leb-true, le-leb, lt-ltb}
+use Rattle.std.proofs.Common.{◌≡◌, ℕ, ◌+◌, ◌<◌, ◌≤◌, ◌^◌, ◌==◌, ℤ, pos, negsuc, nat_abs, Bool, true, false, ◌&&◌, cond, List, map, length, nat_le, bit_and, Option, Some, None, refl, ◌∙◌, arith, leb-true, le-leb, lt-ltb}
 use Rattle.std.specs.Prelude.{int_le, ◌+ℤ◌}
 use Rattle.std.specs.List.{list_all}
 use Rattle.std.proofs.lemmas.Bool.{and_parts, and_from}
 use Rattle.std.proofs.lemmas.List.FromFn.{length-map-range_with_len}
 use Rattle.std.proofs.lemmas.List.Folds.{list_all-map}
 use Rattle.lists.specs.Elements.{all_pairs}
+use Rattle.lists.proofs.Members.{all_in, all_from}
 use Rattle.lists.proofs.Tests.{left_true, right_true}
 use Rattle.model_registers.specs.DeclarationRules as rules
 use Rattle.model_registers.specs.DeclarationRules.{first_broken, endpoint_rules, blocks_apart}
 use Rattle.board_file.specs.Entries.{Bar, Config, Endpoint, Patterns, File}
-use Rattle.board_file.specs.Blocks.{block_cells, pattern_bytes, cell}
+use Rattle.board_file.specs.Blocks.{block_cells}
 use Rattle.board_file.specs.Functions.{region, config_block, endpoint_values}
 use Rattle.board_file.specs.Rules.{is_between, has_only_bits, is_identity, is_described, has_lawful_needs, has_lawful_values, has_lawful_blocks, has_lawful_numbers, is_config_block, is_size, registers_hold, sizes_hold, is_lawful_bridge}
 use Rattle.board_file.specs.EntryRules.{has_indices}
@@ -85,8 +86,7 @@ all_three : {A : Type 0} (p q r : A → Bool) (xs : List A) → list_all p xs �
 all_three p q r xs h k l = simp (all-both, h, k, l)
 
 imply_all : {A : Type 0} (p q : A → Bool) → ((x : A) → p x ≡ true → q x ≡ true) → (xs : List A) → list_all p xs ≡ true → list_all q xs ≡ true
-imply_all p q f [] h = refl
-imply_all p q f (x ∷ xs) h = let (here, more) = and_parts (p x) (list_all p xs) h in rw (f x here) (imply_all p q f xs more)
+imply_all p q f xs h = all_from q xs (λ x m. f x (all_in p x xs h m))
 
 abbrev sized : Bar → Bool
 sized b = is_size b.kind b.size && int_le b.block b.size

@@ -8,7 +8,7 @@ use Rattle.std.proofs.lemmas.Bool.{and_parts, not-true}
 use Rattle.std.proofs.lemmas.List.{length-map, map-append}
 use Rattle.std.proofs.lemmas.Simd.{map-map}
 use Rattle.lists.specs.Elements.{Each, EachPair, all_pairs}
-use Rattle.lists.proofs.EachLemmas.{each_test}
+use Rattle.lists.proofs.EachLemmas.{each_map, each_of_map, each_test}
 use Rattle.lists.proofs.Tests.{left_true, right_true}
 use Rattle.model_board.specs.Paths.{Path, path_eq}
 use Rattle.model_board.specs.Board.{Decl, endpoint, bridge, Row, Board, IsBoard, is_bridge, stands_at, is_bridge_at}
@@ -20,8 +20,8 @@ use Rattle.model_board.specs.State.{row_at, State}
 use Rattle.model_board.specs.AtReset.{reset_state, reset_file, board_at, IsAtReset}
 use Rattle.model_guests.specs.World as world
 use Rattle.model_guests.specs.World.{is_name, declared, HasLawfulGuests, IsLawfulWorld}
-use Rattle.board_file.specs.Entries.{Endpoint, Bridge, Guest, File}
-use Rattle.board_file.specs.Functions.{endpoint_row, bridge_row, rows, standings, guest}
+use Rattle.board_file.specs.Entries.{Guest, File}
+use Rattle.board_file.specs.Functions.{rows, standings, guest}
 use Rattle.board_file.specs.PathTexts.{is_path_text, path_at}
 use Rattle.board_file.specs.Rules.{have_few_slashes, have_paths, are_places, names, slots, is_endpoint, names_endpoint}
 use Rattle.board_file.specs.Judged.{IsJudged, IsShortGuest}
@@ -75,10 +75,9 @@ names_slot f t h =
     finds (board_of (rows f)) (path_at t) (sym (stands (rows f) (path_at t)) ∙ there') (sym (bridges (rows f) (path_at t)) ∙ bridge')
 
 slots_named : (f : File) (ts : List (List ℕ)) → list_all (names_endpoint (standings f)) ts ≡ true → Each (λ p. IsSome (declared (board_of (rows f)) p)) (map path_at ts)
-slots_named f [] h = tt
-slots_named f (t ∷ ts) h =
-    let (here, more) = and_parts (names_endpoint (standings f) t) (list_all (names_endpoint (standings f)) ts) h in
-    (names_slot f t here, slots_named f ts more)
+slots_named f ts h =
+    each_of_map (λ p. IsSome (declared (board_of (rows f)) p)) path_at ts
+    (each_map (λ t. IsTrue (names_endpoint (standings f) t)) (λ t. IsSome (declared (board_of (rows f)) (path_at t))) ts (names_slot f) (each_test (names_endpoint (standings f)) ts h))
 
 -- ---- guests
 
@@ -90,10 +89,10 @@ same_slots [] = refl
 same_slots (g ∷ gs) = ap (λ ps. map path_at g.slots ++ ps) (same_slots gs) ∙ sym (map-append path_at g.slots (flat_map (λ (g : Guest). g.slots) gs))
 
 few : (gs : List Guest) → list_all (λ g. nat_le (length g.slots) 32) gs ≡ true → Each (λ g. length g.slots ≤ 32) (map guest gs)
-few [] h = tt
-few (g ∷ gs) h =
-    let (here, more) = and_parts (nat_le (length g.slots) 32) (list_all (λ (g : Guest). nat_le (length g.slots) 32) gs) h in
-    (rw (length-map g.slots path_at) (leb-true (length g.slots) 32 here), few gs more)
+few gs h =
+    each_of_map (λ (g : world.Guest). length g.slots ≤ 32) guest gs
+    (each_map (λ (g : Guest). IsTrue (nat_le (length g.slots) 32)) (λ g. length (map path_at g.slots) ≤ 32) gs
+    (λ g is. rw (length-map g.slots path_at) (leb-true (length g.slots) 32 is)) (each_test (λ (g : Guest). nat_le (length g.slots) 32) gs h))
 
 few_slots : (f : File) → IsJudged f → list_all (λ g. nat_le (length g.slots) 32) f.guests ≡ true
 few_slots f j = right_true _ (list_all (λ (g : Guest). nat_le (length g.slots) 32) f.guests) j.counts

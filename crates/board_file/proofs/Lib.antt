@@ -1,4 +1,5 @@
 pub mod Walk
+pub mod Walks
 pub mod ListTests
 pub mod PathSteps
 pub mod PathParts
@@ -7,5 +8,4 @@ pub mod Declaring
 pub mod LawfulWorld
 pub mod NextEntry
 pub mod Tests
-pub mod Added
 pub mod NoProblems

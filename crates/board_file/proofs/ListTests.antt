@@ -1,10 +1,11 @@
 -- Tests of lists, of sizes and of where functions stand, as facts.
-use Rattle.std.proofs.Common.{◌≡◌, ℕ, ℤ, pos, negsuc, nat_abs, Bool, true, false, ◌&&◌, ◌||◌, not, List, [], ◌∷◌, nat_le, le-leb, leb-true, refl, inl, inr, ◌⊎◌, IsTrue, IsFalse}
+use Rattle.std.proofs.Common.{◌≡◌, ℕ, ℤ, pos, negsuc, nat_abs, Bool, true, ◌&&◌, ◌||◌, not, List, [], ◌∷◌, nat_le, le-leb, leb-true, refl, inl, inr, IsTrue, IsFalse}
 use Rattle.std.specs.Prelude.{int_le}
 use Rattle.std.specs.List.{list_all}
 use Rattle.std.specs.Int.{is_power_of_two}
 use Rattle.std.proofs.lemmas.Bool.{and_parts, not-true, or_cases}
 use Rattle.lists.specs.Elements.{Each, EachPair, all_pairs}
+use Rattle.lists.proofs.EachLemmas.{each_both, each_map, each_test, pairs_map, pairs_test}
 use Rattle.lists.proofs.Tests.{same_test}
 use Rattle.model_registers.specs.Declarations.{Kind, least_size, greatest_size, IsLawfulSize}
 use Rattle.model_board.specs.Paths.{Path, path_eq, parent, function_zero, IsPath}
@@ -14,15 +15,9 @@ use Rattle.board_file.specs.Rules.{is_size, is_root, is_founded, are_places}
 
 -- ---- lists
 
-none_of_test : {A : Type 0} (p : A → Bool) (xs : List A) → list_all (λ x. not (p x)) xs ≡ true → Each (λ x. IsFalse (p x)) xs
-none_of_test p [] h = tt
-none_of_test p (x ∷ xs) h = let (here, more) = and_parts (not (p x)) (list_all (λ x. not (p x)) xs) h in (not-true (p x) here, none_of_test p xs more)
-
 pub pairs_of_test : {A : Type 0} (r : A → A → Bool) (xs : List A) → all_pairs (λ x y. not (r x y)) xs ≡ true → EachPair (λ x y. IsFalse (r x y)) xs
-pairs_of_test r [] h = tt
-pairs_of_test r (x ∷ xs) h =
-    let (here, more) = and_parts (list_all (λ y. not (r x y)) xs) (all_pairs (λ x y. not (r x y)) xs) h in
-    (none_of_test (r x) xs here, pairs_of_test r xs more)
+pairs_of_test r xs h =
+    pairs_map (λ x y. IsTrue (not (r x y))) (λ x y. IsFalse (r x y)) xs (λ x y. not-true (r x y)) (pairs_test (λ x y. not (r x y)) xs h)
 
 -- ---- sizes
 
@@ -61,10 +56,9 @@ module _ (ss : List Standing) where
       }
 
   all_founded : (ts : List Standing) → Each (λ t. IsPath t.path) ts → list_all (is_founded ss) ts ≡ true → Each (IsFounded ss) ts
-  all_founded [] paths h = tt
-  all_founded (t ∷ ts) paths h =
-      let (here, more) = and_parts (is_founded ss t) (list_all (is_founded ss) ts) h in
-      (founded t paths.0 here, all_founded ts paths.1 more)
+  all_founded ts paths h =
+      let both = each_both (λ t. IsPath t.path) (λ t. IsTrue (is_founded ss t)) ts paths (each_test (is_founded ss) ts h) in
+      each_map (λ t. IsPath t.path × IsTrue (is_founded ss t)) (IsFounded ss) ts (λ t is. founded t is.0 is.1) both
 
 pub lawful_places : (ss : List Standing) → Each (λ s. IsPath s.path) ss → are_places ss ≡ true → AreLawfulPlaces ss
 lawful_places ss paths h =

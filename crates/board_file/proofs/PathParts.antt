@@ -1,5 +1,5 @@
 -- What a text is read as is a path.
-use Rattle.std.proofs.Common.{◌≡◌, ℕ, zero, suc, ◌+◌, ◌-◌, ◌≤◌, ◌==◌, nat_le, Bool, true, false, ◌&&◌, cond, List, [], ◌∷◌, map, length, Option, Some, None, option_map, unwrap_or, refl, arith, leb-true}
+use Rattle.std.proofs.Common.{◌≡◌, ℕ, zero, suc, ◌+◌, ◌-◌, ◌≤◌, ◌==◌, Bool, true, false, ◌&&◌, cond, List, [], ◌∷◌, map, length, Option, Some, None, option_map, unwrap_or, refl, arith, leb-true}
 use Rattle.std.specs.Prelude.{option_and_then}
 use Rattle.lists.specs.Elements.{Each, first_of_two}
 use Rattle.lists.proofs.EachLemmas.{each_append, each_of_map}

@@ -69,21 +69,18 @@ identity_rules vendor device revision =
     ∷ (rule.Device, is_between 0 0xffff device)
     ∷ (rule.Revision, is_between 0 0xff revision) ∷ []
 
-abbrev pub class_rules : Endpoint → List (Rule × Bool)
-class_rules e =
+abbrev pub value_rules : Endpoint → List (Rule × Bool)
+value_rules e =
     (rule.Class, is_between 0 0xffffff e.class)
     ∷ (rule.Subvendor, is_between 0 0xffff e.subvendor)
-    ∷ (rule.Subsystem, is_between 0 0xffff e.subsystem) ∷ []
-
-abbrev pub need_rules : Endpoint → List (Rule × Bool)
-need_rules e =
-    (rule.Pin, is_between 0 4 e.pin)
+    ∷ (rule.Subsystem, is_between 0 0xffff e.subsystem)
+    ∷ (rule.Pin, is_between 0 4 e.pin)
     ∷ (rule.MinGnt, is_between 0 0xff e.min_gnt)
     ∷ (rule.MaxLat, is_between 0 0xff e.max_lat)
     ∷ (rule.Status, has_only_bits 0xf900 e.status) ∷ []
 
 abbrev pub endpoint_numbers : Endpoint → List (Rule × Bool)
-endpoint_numbers e = identity_rules e.vendor e.device e.revision ++ class_rules e ++ need_rules e
+endpoint_numbers e = identity_rules e.vendor e.device e.revision ++ value_rules e
 
 abbrev pub endpoint_rules : BoardFault → File → ℕ → Endpoint → List (Rule × Bool)
 endpoint_rules fault.Number f n e = endpoint_numbers e

@@ -1,7 +1,7 @@
 //! The endpoints and bridges of a file that break a rule.
 ghost use Rattle.std.specs.Prelude.{◌≡◌, OnOk, flat_map};
 ghost use Rattle.std.specs.List.{enumerate_from};
-ghost use Rattle.board_file.specs.EntryRules.{identity_rules, class_rules, need_rules, endpoint_numbers, place_rules, endpoint_rules};
+ghost use Rattle.board_file.specs.EntryRules.{endpoint_numbers, place_rules, endpoint_rules};
 ghost use Rattle.board_file.specs.Functions.{standings};
 ghost use Rattle.board_file.specs.Problems.{Adds, broken, of_bar, of_config, of_endpoint, of_bridge};
 
@@ -90,65 +90,6 @@ fn push_config(
     }
 }
 
-/// Appends what is wrong with the identity of an endpoint.
-fn push_identity(
-    problems: &mut Vec<Problem<'_>>,
-    entry: Entry,
-    endpoint: &EndpointEntry<'_>,
-) -> Result<(), AllocError>
-    ensures { let e = endpoint.now in OnOk result
-        (Adds (broken entry (identity_rules e.vendor e.device e.revision)) problems.old.items problems.new.items) }
-{
-    push_broken(
-        problems,
-        entry,
-        &[
-            (Rule::Vendor, is_between(0, 0xfffe, endpoint.vendor)),
-            (Rule::Device, is_between(0, 0xffff, endpoint.device)),
-            (Rule::Revision, is_between(0, 0xff, endpoint.revision)),
-        ],
-    )
-}
-
-/// Appends what is wrong with an endpoint's class and subsystem.
-fn push_class(
-    problems: &mut Vec<Problem<'_>>,
-    entry: Entry,
-    endpoint: &EndpointEntry<'_>,
-) -> Result<(), AllocError>
-    ensures { OnOk result (Adds (broken entry (class_rules endpoint.now)) problems.old.items problems.new.items) }
-{
-    push_broken(
-        problems,
-        entry,
-        &[
-            (Rule::Class, is_between(0, 0xff_ffff, endpoint.class)),
-            (Rule::Subvendor, is_between(0, 0xffff, endpoint.subvendor)),
-            (Rule::Subsystem, is_between(0, 0xffff, endpoint.subsystem)),
-        ],
-    )
-}
-
-/// Appends what is wrong with an endpoint's pin, what it needs of the bus, and its Status.
-fn push_needs(
-    problems: &mut Vec<Problem<'_>>,
-    entry: Entry,
-    endpoint: &EndpointEntry<'_>,
-) -> Result<(), AllocError>
-    ensures { OnOk result (Adds (broken entry (need_rules endpoint.now)) problems.old.items problems.new.items) }
-{
-    push_broken(
-        problems,
-        entry,
-        &[
-            (Rule::Pin, is_between(0, 4, endpoint.pin)),
-            (Rule::MinGnt, is_between(0, 0xff, endpoint.min_gnt)),
-            (Rule::MaxLat, is_between(0, 0xff, endpoint.max_lat)),
-            (Rule::Status, has_only_bits(0xf900, endpoint.status)),
-        ],
-    )
-}
-
 /// Appends what is wrong with the numbers of an endpoint.
 fn push_numbers(
     problems: &mut Vec<Problem<'_>>,
@@ -157,9 +98,22 @@ fn push_numbers(
 ) -> Result<(), AllocError>
     ensures { OnOk result (Adds (broken entry (endpoint_numbers endpoint.now)) problems.old.items problems.new.items) }
 {
-    push_identity(problems, entry, endpoint)?;
-    push_class(problems, entry, endpoint)?;
-    push_needs(problems, entry, endpoint)
+    push_broken(
+        problems,
+        entry,
+        &[
+            (Rule::Vendor, is_between(0, 0xfffe, endpoint.vendor)),
+            (Rule::Device, is_between(0, 0xffff, endpoint.device)),
+            (Rule::Revision, is_between(0, 0xff, endpoint.revision)),
+            (Rule::Class, is_between(0, 0xff_ffff, endpoint.class)),
+            (Rule::Subvendor, is_between(0, 0xffff, endpoint.subvendor)),
+            (Rule::Subsystem, is_between(0, 0xffff, endpoint.subsystem)),
+            (Rule::Pin, is_between(0, 4, endpoint.pin)),
+            (Rule::MinGnt, is_between(0, 0xff, endpoint.min_gnt)),
+            (Rule::MaxLat, is_between(0, 0xff, endpoint.max_lat)),
+            (Rule::Status, has_only_bits(0xf900, endpoint.status)),
+        ],
+    )
 }
 
 /// Appends what is wrong with where a function stands, whose `at` comes after those of so many endpoints and

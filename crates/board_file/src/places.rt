@@ -1,9 +1,9 @@
 //! The paths of functions.
-ghost use Rattle.std.specs.Prelude.{◌≡◌, ◌<◌, ◌++◌, ◌||◌, [], IfOk, OnOk, length, map, not, take, MatchOption};
+ghost use Rattle.std.specs.Prelude.{◌≡◌, ◌<◌, ◌||◌, [], IfOk, length, map, not, take, MatchOption};
 ghost use Rattle.std.specs.List.{list_all};
 ghost use Rattle.model_board.specs.Places.{has_path, has_bridge};
 ghost use Rattle.board_file.specs.EntryRules.{are_same_place, is_own_place};
-ghost use Rattle.board_file.specs.Functions.{endpoint_standing, bridge_standing, standings};
+ghost use Rattle.board_file.specs.Functions.{standings};
 ghost use Rattle.board_file.specs.Rules.{is_root, is_endpoint, names_endpoint};
 
 use crate::entries::{BridgeEntry, EndpointEntry, FileEntries};
@@ -27,38 +27,6 @@ impl Model for FunctionPath {
     ghost view = { λ p. record { path = p.path; is_bridge = p.is_bridge } };
 }
 
-/// Appends the paths of endpoints.
-fn push_endpoints(
-    paths: &mut Vec<FunctionPath>,
-    endpoints: &[EndpointEntry<'_>],
-) -> Result<(), AllocError>
-    ensures { OnOk result (paths.new.items ≡ paths.old.items ++ map endpoint_standing endpoints.now) }
-{
-    'endpoints: for endpoint in endpoints {
-        paths.push(FunctionPath {
-            path: endpoint.at.path(),
-            is_bridge: false,
-        })?;
-    }
-    Ok(())
-}
-
-/// Appends the paths of bridges.
-fn push_bridges(
-    paths: &mut Vec<FunctionPath>,
-    bridges: &[BridgeEntry<'_>],
-) -> Result<(), AllocError>
-    ensures { OnOk result (paths.new.items ≡ paths.old.items ++ map bridge_standing bridges.now) }
-{
-    'bridges: for bridge in bridges {
-        paths.push(FunctionPath {
-            path: bridge.at.path(),
-            is_bridge: true,
-        })?;
-    }
-    Ok(())
-}
-
 /// The paths of all functions, endpoints first. A text that is no path counts as 0.0. It fails only
 /// where memory is out.
 pub fn function_paths(
@@ -67,10 +35,15 @@ pub fn function_paths(
 ) -> Result<Vec<FunctionPath>, AllocError>
     ensures { IfOk result (λ v. v.items ≡ standings file.now) }
 {
-    let mut paths = Vec::new(alloc);
-    push_endpoints(&mut paths, &file.endpoints)?;
-    push_bridges(&mut paths, &file.bridges)?;
-    Ok(paths)
+    let endpoints = file.endpoints.iter().map(|endpoint| FunctionPath {
+        path: endpoint.at.path(),
+        is_bridge: false,
+    });
+    let bridges = file.bridges.iter().map(|bridge| FunctionPath {
+        path: bridge.at.path(),
+        is_bridge: true,
+    });
+    endpoints.chain(bridges).collect(alloc)
 }
 
 /// Whether none of the first endpoints stands there.

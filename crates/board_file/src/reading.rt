@@ -1,7 +1,7 @@
 //! What the table of a document says, key by key.
 ghost use Rattle.std.specs.Prelude.{◌≡◌, map, unwrap_or, option_and_then, option_map, IfOk, codes};
 ghost use Rattle.std.specs.List.{filter_map};
-ghost use Rattle.toml.specs.Data.{get_member, as_str, as_table, as_array};
+ghost use Rattle.toml.specs.Data.{Members, get_member, as_str, as_table, as_array};
 ghost use Rattle.toml.specs.View.{view, array_view, table_view};
 ghost use Rattle.board_file.specs.Schema.{list_of};
 ghost use Rattle.board_file.specs.Entries.{number, text_at, text, values, tables, table_at, patterns, bar, config, endpoint, bridge, guest, integer_of, range_of, range, file};
@@ -62,26 +62,38 @@ fn array_at<'a>(table: &'a Table, key: &str) -> Option<&'a Array>
     }
 }
 
-/// The tables of an array.
-fn tables_of(alloc: Global, items: &Array) -> Result<Vec<&Table>, AllocError>
-    ensures { IfOk result (λ v.
-        map (λ t. table_view t.now) v.items ≡ filter_map as_table (list_of (array_view items.now))) }
-{
-    let mut tables = Vec::new(alloc);
-    'items: for item in items {
-        if let Some(table) = item.as_table() {
-            tables.push(table)?;
-        }
-    }
-    Ok(tables)
+/// What a table of an array says.
+trait FromTable<'a>: Sized + Drop {
+    ghost said: { Members → Self };
+
+    /// Reads the table.
+    fn from_table(alloc: Global, table: &'a Table) -> Result<Self, AllocError>
+        ensures { IfOk result (λ e. e ≡ said (table_view table.now)) };
 }
 
-/// The tables of the array at a key.
-fn tables<'a>(alloc: Global, table: &'a Table, key: &str) -> Result<Vec<&'a Table>, AllocError>
-    ensures { IfOk result (λ v. map (λ t. table_view t.now) v.items ≡ tables key.now (table_view table.now)) }
+/// What the tables of an array say.
+fn entries_of<'a, E: FromTable<'a>>(alloc: Global, items: &'a Array) -> Result<Vec<E>, AllocError>
+    ensures { IfOk result (λ v. v.items ≡ map E.said (filter_map as_table (list_of (array_view items.now)))) }
+{
+    let mut entries = Vec::new(alloc);
+    'items: for item in items {
+        if let Some(table) = item.as_table() {
+            entries.push(E::from_table(alloc, table)?)?;
+        }
+    }
+    Ok(entries)
+}
+
+/// What the tables of the array at a key say.
+fn entries<'a, E: FromTable<'a>>(
+    alloc: Global,
+    table: &'a Table,
+    key: &str,
+) -> Result<Vec<E>, AllocError>
+    ensures { IfOk result (λ v. v.items ≡ map E.said (tables key.now (table_view table.now))) }
 {
     match array_at(table, key) {
-        Some(items) => tables_of(alloc, items),
+        Some(items) => entries_of(alloc, items),
         None => Ok(Vec::new(alloc)),
     }
 }
@@ -109,101 +121,67 @@ fn patterns(table: &Table) -> PatternTexts<'_>
     }
 }
 
-fn bar(table: &Table) -> BarEntry<'_>
-    ensures { result ≡ bar (table_view table.now) }
-{
-    BarEntry {
-        index: number(table, "index"),
-        kind: region_kind(text(table, "kind")).unwrap_or(Kind::Io),
-        size: number(table, "size"),
-        block: number(table, "block"),
-        patterns: patterns(table),
+impl<'a> FromTable<'a> for BarEntry<'a> {
+    ghost said = { bar };
+
+    fn from_table(_alloc: Global, table: &'a Table) -> Result<Self, AllocError> {
+        Ok(BarEntry {
+            index: number(table, "index"),
+            kind: region_kind(text(table, "kind")).unwrap_or(Kind::Io),
+            size: number(table, "size"),
+            block: number(table, "block"),
+            patterns: patterns(table),
+        })
     }
 }
 
-fn bars<'a>(alloc: Global, tables: &[&'a Table]) -> Result<Vec<BarEntry<'a>>, AllocError>
-    ensures { IfOk result (λ v. v.items ≡ map bar (map (λ t. table_view t.now) tables.now)) }
-{
-    let mut entries = Vec::new(alloc);
-    'tables: for table in tables {
-        entries.push(bar(*table))?;
-    }
-    Ok(entries)
-}
+impl<'a> FromTable<'a> for ConfigEntry<'a> {
+    ghost said = { config };
 
-fn config(table: &Table) -> ConfigEntry<'_>
-    ensures { result ≡ config (table_view table.now) }
-{
-    ConfigEntry {
-        off: number(table, "off"),
-        block: number(table, "block"),
-        patterns: patterns(table),
+    fn from_table(_alloc: Global, table: &'a Table) -> Result<Self, AllocError> {
+        Ok(ConfigEntry {
+            off: number(table, "off"),
+            block: number(table, "block"),
+            patterns: patterns(table),
+        })
     }
 }
 
-fn configs<'a>(alloc: Global, tables: &[&'a Table]) -> Result<Vec<ConfigEntry<'a>>, AllocError>
-    ensures { IfOk result (λ v. v.items ≡ map config (map (λ t. table_view t.now) tables.now)) }
-{
-    let mut entries = Vec::new(alloc);
-    'tables: for table in tables {
-        entries.push(config(*table))?;
-    }
-    Ok(entries)
-}
+impl<'a> FromTable<'a> for EndpointEntry<'a> {
+    ghost said = { endpoint };
 
-fn endpoint(alloc: Global, table: &Table) -> Result<EndpointEntry<'_>, AllocError>
-    ensures { IfOk result (λ e. e ≡ endpoint (table_view table.now)) }
-{
-    let bar_tables = tables(alloc, table, "bar")?;
-    let config_tables = tables(alloc, table, "config")?;
-    Ok(EndpointEntry {
-        at: PathText::new(text(table, "at")),
-        vendor: number(table, "vendor"),
-        device: number(table, "device"),
-        revision: number(table, "revision"),
-        class: number(table, "class"),
-        subvendor: number(table, "subvendor"),
-        subsystem: number(table, "subsystem"),
-        pin: number(table, "pin"),
-        min_gnt: number(table, "min_gnt"),
-        max_lat: number(table, "max_lat"),
-        status: number(table, "status"),
-        bars: bars(alloc, &bar_tables)?,
-        configs: configs(alloc, &config_tables)?,
-    })
-}
-
-fn endpoints<'a>(alloc: Global, tables: &[&'a Table]) -> Result<Vec<EndpointEntry<'a>>, AllocError>
-    ensures { IfOk result (λ v. v.items ≡ map endpoint (map (λ t. table_view t.now) tables.now)) }
-{
-    let mut entries = Vec::new(alloc);
-    'tables: for table in tables {
-        entries.push(endpoint(alloc, *table)?)?;
-    }
-    Ok(entries)
-}
-
-fn bridge(table: &Table) -> BridgeEntry<'_>
-    ensures { result ≡ bridge (table_view table.now) }
-{
-    BridgeEntry {
-        at: PathText::new(text(table, "at")),
-        vendor: number(table, "vendor"),
-        device: number(table, "device"),
-        revision: number(table, "revision"),
-        io: io_decode(text(table, "io")).unwrap_or(IoDecode::Unimplemented),
-        pref: pref_decode(text(table, "pref")).unwrap_or(PrefDecode::Unimplemented),
+    fn from_table(alloc: Global, table: &'a Table) -> Result<Self, AllocError> {
+        Ok(EndpointEntry {
+            at: PathText::new(text(table, "at")),
+            vendor: number(table, "vendor"),
+            device: number(table, "device"),
+            revision: number(table, "revision"),
+            class: number(table, "class"),
+            subvendor: number(table, "subvendor"),
+            subsystem: number(table, "subsystem"),
+            pin: number(table, "pin"),
+            min_gnt: number(table, "min_gnt"),
+            max_lat: number(table, "max_lat"),
+            status: number(table, "status"),
+            bars: entries(alloc, table, "bar")?,
+            configs: entries(alloc, table, "config")?,
+        })
     }
 }
 
-fn bridges<'a>(alloc: Global, tables: &[&'a Table]) -> Result<Vec<BridgeEntry<'a>>, AllocError>
-    ensures { IfOk result (λ v. v.items ≡ map bridge (map (λ t. table_view t.now) tables.now)) }
-{
-    let mut entries = Vec::new(alloc);
-    'tables: for table in tables {
-        entries.push(bridge(*table))?;
+impl<'a> FromTable<'a> for BridgeEntry<'a> {
+    ghost said = { bridge };
+
+    fn from_table(_alloc: Global, table: &'a Table) -> Result<Self, AllocError> {
+        Ok(BridgeEntry {
+            at: PathText::new(text(table, "at")),
+            vendor: number(table, "vendor"),
+            device: number(table, "device"),
+            revision: number(table, "revision"),
+            io: io_decode(text(table, "io")).unwrap_or(IoDecode::Unimplemented),
+            pref: pref_decode(text(table, "pref")).unwrap_or(PrefDecode::Unimplemented),
+        })
     }
-    Ok(entries)
 }
 
 fn slots(alloc: Global, table: &Table) -> Result<Vec<PathText<'_>>, AllocError>
@@ -215,23 +193,15 @@ fn slots(alloc: Global, table: &Table) -> Result<Vec<PathText<'_>>, AllocError>
     }
 }
 
-fn guest(alloc: Global, table: &Table) -> Result<GuestEntry<'_>, AllocError>
-    ensures { IfOk result (λ g. g ≡ guest (table_view table.now)) }
-{
-    Ok(GuestEntry {
-        name: text(table, "name"),
-        slots: slots(alloc, table)?,
-    })
-}
+impl<'a> FromTable<'a> for GuestEntry<'a> {
+    ghost said = { guest };
 
-fn guests<'a>(alloc: Global, tables: &[&'a Table]) -> Result<Vec<GuestEntry<'a>>, AllocError>
-    ensures { IfOk result (λ v. v.items ≡ map guest (map (λ t. table_view t.now) tables.now)) }
-{
-    let mut entries = Vec::new(alloc);
-    'tables: for table in tables {
-        entries.push(guest(alloc, *table)?)?;
+    fn from_table(alloc: Global, table: &'a Table) -> Result<Self, AllocError> {
+        Ok(GuestEntry {
+            name: text(table, "name"),
+            slots: slots(alloc, table)?,
+        })
     }
-    Ok(entries)
 }
 
 fn integer_of(value: &Value) -> i64
@@ -299,15 +269,12 @@ fn pref_range(table: &Table) -> Option<Bounds>
 pub fn read_entries(alloc: Global, table: &Table) -> Result<FileEntries<'_>, AllocError>
     ensures { IfOk result (λ f. f ≡ file (table_view table.now)) }
 {
-    let endpoint_tables = tables(alloc, table, "endpoint")?;
-    let bridge_tables = tables(alloc, table, "bridge")?;
-    let guest_tables = tables(alloc, table, "guest")?;
     Ok(FileEntries {
         io: host_range(table, "io"),
         mem: host_range(table, "mem"),
         pref: pref_range(table),
-        endpoints: endpoints(alloc, &endpoint_tables)?,
-        bridges: bridges(alloc, &bridge_tables)?,
-        guests: guests(alloc, &guest_tables)?,
+        endpoints: entries(alloc, table, "endpoint")?,
+        bridges: entries(alloc, table, "bridge")?,
+        guests: entries(alloc, table, "guest")?,
     })
 }

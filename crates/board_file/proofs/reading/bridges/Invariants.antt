@@ -1,9 +1,0 @@
-use Rattle.std.proofs.Common.{◌≡◌, ◌++◌, map, drop}
-use Rattle.toml.specs.View.{table_view}
-use Rattle.board_file.specs.Entries.{bridge}
-use Rattle.board_file.proofs.reading.bridges.Given as goal
-
-abbrev pub invariant-tables : goal.invariant-tables
-invariant-tables l =
-    l.entries.items ++ map bridge (map (λ t. table_view t.now) (drop l.table-index l.tables))
-    ≡ map bridge (map (λ t. table_view t.now) l.tables)
