@@ -1,8 +1,8 @@
 -- Where a check of keys or forms fails in a document, the entry that breaks a rule of keys.
-use Rattle.std.proofs.Common.{◌≡◌, ℕ, Bool, true, false, ◌&&◌, ◌||◌, not, cond, map, flat_map, List, [], ◌∷◌, Option, Some, None, is_some, refl, sym, ap, ap₂, ◌∙◌, subst, inl, inr, ◌⊎◌}
+use Rattle.std.proofs.Common.{◌≡◌, ℕ, Bool, true, false, ◌&&◌, ◌||◌, not, map, flat_map, List, [], ◌∷◌, Option, Some, None, is_some, refl, sym, ap, ap₂, ◌∙◌, subst, inl, inr, ◌⊎◌}
 use Rattle.std.specs.Prelude.{filter}
 use Rattle.std.specs.Option.{option_map_or}
-use Rattle.std.proofs.lemmas.Bool.{and_cases, or_left, or_right}
+use Rattle.std.proofs.lemmas.Bool.{cond_both, and_cases, or_left, or_right}
 use Rattle.std.proofs.lemmas.Slice.Eq.{bytes_eq-Decides}
 use Rattle.lists.proofs.Members.{in_front, in_back, in_flat_map, in_filter}
 use Rattle.lists.proofs.Tests.{asked_parts}
@@ -47,11 +47,10 @@ text_itself a = (bytes_eq-Decides a a).1 refl
 
 pub field_at : (fs : List Field) (k : List ℕ) (form : Form) → form_at k fs ≡ Some form → FieldAt fs k form
 field_at [] k form h = cc
-field_at (f ∷ fs) k form h = by_case (field_at fs k form) (same_text f.key k) refl h
-  where
-    by_case : (form_at k fs ≡ Some form → FieldAt fs k form) → (b : Bool) → same_text f.key k ≡ b → cond b (Some f.form) (form_at k fs) ≡ Some form → FieldAt (f ∷ fs) k form
-    by_case rest true same h = record { field = f; there = inl refl; key = equal_text f.key k same; is_form = cc }
-    by_case rest false same h = let x = rest h in record { field = x.field; there = inr x.there; key = x.key; is_form = x.is_form }
+field_at (f ∷ fs) k form h =
+    cond_both (same_text f.key k) (Some f.form) (form_at k fs) (λ o. o ≡ Some form → FieldAt (f ∷ fs) k form)
+    (λ same is. record { field = f; there = inl refl; key = equal_text f.key k same; is_form = cc })
+    (λ other is. let x = field_at fs k form is in record { field = x.field; there = inr x.there; key = x.key; is_form = x.is_form }) h
 
 -- a key whose form leads to tables is one of those
 pub deep_at : (fs : List Field) (k : List ℕ) (form : Form) → is_some (level_at (Some form)) ≡ true → form_at k fs ≡ Some form → FieldAt (filter is_deep fs) k form

@@ -1,8 +1,7 @@
 -- Problems that are appended where a test of them holds.
 --     adds_clear, adds_nothing      what is appended of one problem
---     all_found      a test of all problems, as it is of what was found
-use Rattle.std.proofs.Common.{◌≡◌, Bool, true, false, cond, List, [], ◌∷◌, ◌++◌, map, ap, sym, refl, ◌∙◌, append-nil, ◌&&◌}
-use Rattle.std.specs.List.{filter, list_all}
+use Rattle.std.proofs.Common.{◌≡◌, Bool, true, false, cond, List, [], ◌∷◌, ◌++◌, map, ap, sym, ◌∙◌, append-nil}
+use Rattle.std.specs.List.{filter}
 use Rattle.std.proofs.lemmas.List.{map-append}
 use Rattle.board_file.specs.declared.finding.Problem.{Problem}
 use Rattle.board_file.specs.Problems.{Found, found_of}
@@ -16,7 +15,3 @@ adds_clear p x old new is pushed =
 pub adds_nothing : (p : Found → Bool) (x : Problem) (old : List Problem) → p (found_of x) ≡ false
     → map found_of old ≡ map found_of old ++ filter p (found_of x ∷ [])
 adds_nothing p x old isnt = sym (append-nil (map found_of old)) ∙ ap (λ b. map found_of old ++ cond b (found_of x ∷ []) []) (sym isnt)
-
-pub all_found : (p : Found → Bool) (xs : List Problem) → list_all (λ x. p (found_of x)) xs ≡ list_all p (map found_of xs)
-all_found p [] = refl
-all_found p (x ∷ xs) = ap (λ b. p (found_of x) && b) (all_found p xs)

@@ -1,8 +1,11 @@
 -- What is in the lists of a file's entries and of what is asked of an entry.
-use Rattle.std.proofs.Common.{◌≡◌, ℕ, zero, suc, ◌+◌, Bool, true, false, cond, List, [], ◌∷◌, ◌++◌, map, length, Some, refl, sym, ap, ◌∙◌, subst, arith, inl, inr}
+use Rattle.std.proofs.Common.{◌≡◌, ℕ, Bool, true, List, [], ◌++◌, map, length, get_or, Some, refl, sym, ap₂, ◌∙◌, subst, inl, inr, zero-add}
 use Rattle.std.specs.Prelude.{slice_get, filter}
-use Rattle.std.specs.List.{flat_map, enumerate_from, range_with_len}
+use Rattle.std.specs.List.{flat_map, enumerate_from}
+use Rattle.std.proofs.lemmas.List.FromFn.{length-range_with_len, get_or-range_with_len, length-enumerate_from, get_or-enumerate_from}
+use Rattle.std.proofs.lemmas.Option.{slice_get_within, slice_get_read, get_or_from_slice_get}
 use Rattle.lists.specs.Elements.{IsIn}
+use Rattle.lists.proofs.Indices.{index_in}
 use Rattle.lists.proofs.Members.{in_front, in_back, in_map, in_flat_map, in_filter}
 use Rattle.board_file.specs.Entries.{Bar, Config, Endpoint, Bridge, Guest, File}
 use Rattle.board_file.specs.declared.entry.Entry.{Entry}
@@ -11,28 +14,18 @@ use Rattle.board_check.specs.Problems.{indices, with_endpoint, with_guest, entri
 
 -- ---- lists
 
-in_range : {A : Type 0} (xs : List A) (from n : ℕ) (x : A) → slice_get xs n ≡ Some x → IsIn (from + n) (range_with_len from (length xs))
-in_range [] from n x h = cc
-in_range (y ∷ ys) from zero x h = inl (omega arith)
-in_range (y ∷ ys) from (suc n) x h =
-    let same : (from + 1) + n ≡ from + suc n = omega arith in
-    inr (subst (λ i. IsIn i (range_with_len (from + 1) (length ys))) same (in_range ys (from + 1) n x h))
-
 pub in_indices : {A : Type 0} (xs : List A) (n : ℕ) (x : A) → slice_get xs n ≡ Some x → IsIn n (indices xs)
-in_indices xs n x h = let same : 0 + n ≡ n = omega arith in subst (λ i. IsIn i (indices xs)) same (in_range xs 0 n x h)
-
-in_numbered : {A : Type 0} (xs : List A) (from n : ℕ) (x : A) → slice_get xs n ≡ Some x → IsIn (from + n, x) (enumerate_from from xs)
-in_numbered [] from n x h = cc
-in_numbered (y ∷ ys) from zero x h =
-    let same : from + 0 ≡ from = omega arith in
-    let is : x ≡ y = cc in
-    inl (ap (λ i. (i, x)) same ∙ ap (λ z. (from, z)) is)
-in_numbered (y ∷ ys) from (suc n) x h =
-    let same : (from + 1) + n ≡ from + suc n = omega arith in
-    inr (subst (λ i. IsIn (i, x) (enumerate_from (from + 1) ys)) same (in_numbered ys (from + 1) n x h))
+in_indices xs n x h =
+    let below = slice_get_within xs n x h in
+    let same : n ≡ get_or (indices xs) n n = sym (get_or-range_with_len 0 (length xs) n n below ∙ zero-add n) in
+    index_in (indices xs) n n (slice_get_read (indices xs) (length xs) n n (sym (length-range_with_len 0 (length xs))) below same)
 
 in_enumerated : {A : Type 0} (xs : List A) (n : ℕ) (x : A) → slice_get xs n ≡ Some x → IsIn (n, x) (enumerate_from 0 xs)
-in_enumerated xs n x h = let same : 0 + n ≡ n = omega arith in subst (λ i. IsIn (i, x) (enumerate_from 0 xs)) same (in_numbered xs 0 n x h)
+in_enumerated {A} xs n x h =
+    let below = slice_get_within xs n x h in
+    let same : (n, x) ≡ get_or (enumerate_from 0 xs) n (n, x) =
+    sym (get_or-enumerate_from 0 xs n (n, x) below ∙ ap₂ (λ (i : ℕ) (y : A). (i, y)) (zero-add n) (get_or_from_slice_get xs n x x h)) in
+    index_in (enumerate_from 0 xs) n (n, x) (slice_get_read (enumerate_from 0 xs) (length xs) n (n, x) (sym (length-enumerate_from 0 xs)) below same)
 
 -- what passes the test stays in the list
 pub filter_some : {A : Type 0} (p : A → Bool) (x : A) (xs : List A) → IsIn x xs → p x ≡ true → filter p xs ≡ [] → ⊥

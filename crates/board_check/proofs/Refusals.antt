@@ -1,10 +1,10 @@
 -- A file that is refused has a problem of the fault for which it is, and one with a problem of a fault fails its check.
-use Rattle.std.proofs.Common.{◌≡◌, ◌≢◌, ℕ, Bool, true, false, ◌&&◌, ◌||◌, ◌==◌, not, cond, List, [], ◌∷◌, Option, Some, None, Err, refl, sym, ap, subst, ◌∙◌, arith}
+use Rattle.std.proofs.Common.{◌≡◌, ◌≢◌, ℕ, Bool, true, false, ◌&&◌, ◌||◌, ◌==◌, not, List, [], ◌∷◌, Option, Some, None, Err, refl, sym, ap, subst, ◌∙◌, arith}
 use Rattle.std.specs.Prelude.{filter, slice_get}
 use Rattle.std.specs.List.{flat_map}
 use Rattle.std.specs.Option.{option_map_or}
 use Rattle.std.proofs.Math.Bool.{and-true}
-use Rattle.std.proofs.lemmas.Bool.{and_parts, and_left, and_right, not-true, eqb-true, eq-eqb}
+use Rattle.std.proofs.lemmas.Bool.{cond_both, and_parts, and_left, and_right, not-true, eqb-true, eq-eqb}
 use Rattle.lists.proofs.Indices.{index_in}
 use Rattle.toml.specs.Data.{Members}
 use Rattle.lists.specs.Elements.{IsIn}
@@ -36,18 +36,18 @@ use Rattle.board_check.proofs.SortedDocuments.{document_sorted}
 -- ---- checks of a number
 
 -- all checks of this number hold
-abbrev at_number : ℕ → List (ℕ × Bool) → Bool
+abbrev pub at_number : ℕ → List (ℕ × Bool) → Bool
 at_number n [] = true
 at_number n ((m, b) ∷ more) = (not (m == n) || b) && at_number n more
 
-broken_at : (n : ℕ) (cs : List (ℕ × Bool)) → first_broken cs ≡ Some n → at_number n cs ≡ false
+pub broken_at : (n : ℕ) (cs : List (ℕ × Bool)) → first_broken cs ≡ Some n → at_number n cs ≡ false
 broken_at n [] h = cc
 broken_at n ((m, true) ∷ more) h = and_right (not (m == n) || true) (at_number n more) (broken_at n more h)
 broken_at n ((m, false) ∷ more) h =
     let same : m ≡ n = cc in
     and_left (not (m == n) || false) (at_number n more) (ap (λ (b : Bool). not b || false) (eq-eqb m n same))
 
-alone : (b : Bool) → (b && true) ≡ false → b ≡ false
+pub alone : (b : Bool) → (b && true) ≡ false → b ≡ false
 alone b h = sym (and-true b) ∙ h
 
 -- ---- what a file says
@@ -102,11 +102,8 @@ record Passing {A : Type 0} (p : A → Bool) : Type 0 where
 
 passing : {A : Type 0} (p : A → Bool) (xs : List A) → filter p xs ≢ [] → Passing p
 passing p [] h = absurd (h refl)
-passing p (x ∷ xs) h = by_case (passing p xs) (p x) refl h
-  where
-    by_case : (filter p xs ≢ [] → Passing p) → (b : Bool) → p x ≡ b → cond b (x ∷ filter p xs) (filter p xs) ≢ [] → Passing p
-    by_case rest true is k = record { value = x; passes = is }
-    by_case rest false is k = rest k
+passing p (x ∷ xs) h =
+    cond_both (p x) (x ∷ filter p xs) (filter p xs) (λ ys. ys ≢ [] → Passing p) (λ is k. record { value = x; passes = is }) (λ other k. passing p xs k) h
 
 -- tables are asked no other rules
 not_asked : (o : Option Level) (t : Option Members) → option_map_or (λ (l : Level). option_map_or (λ (u : Members). true) t true) o true ≡ true

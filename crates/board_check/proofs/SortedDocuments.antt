@@ -1,17 +1,18 @@
 -- The keys of each table of a document that was read ascend.
 use Rattle.std.proofs.Common.{◌≡◌, ℕ, zero, suc, Ordering, Less, Equal, Greater, nat_cmp, is_lt, Bool, true, false, ◌&&◌, ◌==◌, cond, List, [], ◌∷◌, ◌++◌, length, drop, Option, Some, None, option_map, option_and_then, refl, ap, ◌∙◌, subst}
 use Rattle.std.specs.Prelude.{slice_index}
-use Rattle.std.proofs.lemmas.Bool.{and_parts, and_from}
+use Rattle.std.proofs.lemmas.Bool.{cond_both, and_parts, and_from}
 use Rattle.std.proofs.lemmas.Cmp.{nat_list_cmp_total}
 use Rattle.std.specs.Cmp.Lexicographic.{slice_cmp}
 use Rattle.std.specs.Ordering.{match_ordering, ordering_reverse}
+use Rattle.lists.proofs.Tests.{left_true, right_true}
 use Rattle.toml_parser.specs.Lexical.{Read, left_bracket, right_bracket, left_brace, right_brace, first, skip_ws, skip_blank}
 use Rattle.toml_parser.specs.Strings.{Key, quoted, starts_string, recursion_limit}
 use Rattle.toml_parser.specs.Numbers.{unquoted}
 use Rattle.toml_parser.specs.declared.scalar.Scalar.{Scalar}
-use Rattle.toml_parser.specs.declared.scalar.Scalar.TheVariants.{Boolean, Integer, Float, Datetime}
+use Rattle.toml_parser.specs.declared.scalar.Scalar.TheVariants.{Boolean}
 use Rattle.toml.specs.Data.{Data, string, array, table, Items, no_items, item, push_item, Members, member, same_key, is_before, is_sorted, items_are_sorted, members_are_sorted}
-use Rattle.toml.specs.Tables.{implicit, dotted, header, Node, Nodes, no_nodes, node, value, open_table, open_array, get_node, insert, replace, close, close_node, Edit, header_node, dot_node, by_header, by_dot, along_header, along_dots, Definition, key_value, std_table, array_table, Expression, new_node, redefine, at_found, at_key, put, Document, define_as, define}
+use Rattle.toml.specs.Tables.{implicit, dotted, Node, Nodes, no_nodes, node, value, open_table, open_array, get_node, insert, replace, close, close_node, Edit, header_node, dot_node, by_header, by_dot, along_header, along_dots, Definition, key_value, std_table, array_table, Expression, new_node, redefine, at_found, at_key, put, Document, define_as, define}
 use Rattle.toml.specs.Parse.{read_map, after_byte, ends_line, after_element, key_equals, keyval, items, members, scalar_data, atom, val, header_key, expression, line, lines, skip_bom, parse_document}
 
 -- ---- what may be there
@@ -59,10 +60,7 @@ record Parts (k : List ℕ) (d : Data) (ms : Members) : Type 0 where
   more : members_are_sorted ms ≡ true
 
 parts : (k : List ℕ) (d : Data) (ms : Members) → members_are_sorted (member k d ms) ≡ true → Parts k d ms
-parts k d ms h =
-    let (front, more) = and_parts (is_before k ms && is_sorted d) (members_are_sorted ms) h in
-    let (first, here) = and_parts (is_before k ms) (is_sorted d) front in
-    record { first = first; here = here; more = more }
+parts k d ms h = record { first = search left_true; here = search (left_true, right_true); more = search right_true }
 
 joined : (k : List ℕ) (d : Data) (ms : Members) → is_before k ms ≡ true → is_sorted d ≡ true → members_are_sorted ms ≡ true → members_are_sorted (member k d ms) ≡ true
 joined k d ms first here more = and_from (is_before k ms && is_sorted d) (members_are_sorted ms) (and_from (is_before k ms) (is_sorted d) first here) more
@@ -90,20 +88,15 @@ node_found k (node l x ns) h =
 
 before_replaced : (j k : List ℕ) (x : Node) (ns : Nodes) → is_before j (close ns) ≡ true → is_before j (close (replace k x ns)) ≡ true
 before_replaced j k x no_nodes h = h
-before_replaced j k x (node l y ns) h = by_case (same_key k l)
-  where
-    by_case : (b : Bool) → is_before j (close (cond b (node l x ns) (node l y (replace k x ns)))) ≡ true
-    by_case true = h
-    by_case false = h
+before_replaced j k x (node l y ns) h =
+    cond_both (same_key k l) (node l x ns) (node l y (replace k x ns)) (λ new. is_before j (close new) ≡ true) (λ _. h) (λ _. h)
 
 replaced : (k : List ℕ) (x : Node) (ns : Nodes) → SortedNode x → Sorted ns → Sorted (replace k x ns)
 replaced k x no_nodes s h = h
 replaced k x (node l y ns) s h =
-    let p = parts l (close_node y) (close ns) h in by_case p (replaced k x ns s p.more) (same_key k l)
-  where
-    by_case : Parts l (close_node y) (close ns) → Sorted (replace k x ns) → (b : Bool) → Sorted (cond b (node l x ns) (node l y (replace k x ns)))
-    by_case p rest true = joined l (close_node x) (close ns) p.first s p.more
-    by_case p rest false = joined l (close_node y) (close (replace k x ns)) (before_replaced l k x ns p.first) p.here rest
+    let p = parts l (close_node y) (close ns) h in
+    cond_both (same_key k l) (node l x ns) (node l y (replace k x ns)) Sorted (λ _. joined l (close_node x) (close ns) p.first s p.more)
+    (λ _. joined l (close_node y) (close (replace k x ns)) (before_replaced l k x ns p.first) p.here (replaced k x ns s p.more))
 
 before_inserted : (j k : List ℕ) (x : Node) (ns : Nodes) → slice_cmp nat_cmp j k ≡ Less → is_before j (close ns) ≡ true → is_before j (close (insert k x ns)) ≡ true
 before_inserted j k x no_nodes less h = ap is_lt less
@@ -138,11 +131,9 @@ header_kept edit kept (open_array done last) h =
     (λ new s. push_sorted done (table (close new)) (pushed_sorted done (table (close last)) h) s)
 
 dot_kept : (edit : Edit) → KeepsSorted edit → (x : Node) → SortedNode x → Gives SortedNode (dot_node edit x)
-dot_kept edit kept (value d) h = tt
-dot_kept edit kept (open_table header inner) h = tt
 dot_kept edit kept (open_table implicit inner) h = mapped Sorted SortedNode (open_table dotted) (edit inner) (kept inner h) (λ new s. s)
 dot_kept edit kept (open_table dotted inner) h = mapped Sorted SortedNode (open_table dotted) (edit inner) (kept inner h) (λ new s. s)
-dot_kept edit kept (open_array done last) h = tt
+dot_kept edit kept _ h = tt
 
 by_header_kept : (k : List ℕ) (edit : Edit) → KeepsSorted edit → (ns : Nodes) → Sorted ns → (o : Option Node) → Gives SortedNode o → Gives Sorted (by_header k edit ns o)
 by_header_kept k edit kept ns h None g = mapped Sorted Sorted (λ new. insert k (open_table implicit new) ns) (edit no_nodes) (kept no_nodes refl) (λ new s. inserted k (open_table implicit new) ns s h)
@@ -175,15 +166,9 @@ new_sorted std_table h = refl
 new_sorted array_table h = refl
 
 redefined : (what : Definition) (x : Node) → SortedNode x → Gives SortedNode (redefine what x)
-redefined (key_value d) x h = tt
-redefined std_table (value d) h = tt
 redefined std_table (open_table implicit inner) h = h
-redefined std_table (open_table dotted inner) h = tt
-redefined std_table (open_table header inner) h = tt
-redefined std_table (open_array done last) h = tt
-redefined array_table (value d) h = tt
-redefined array_table (open_table origin inner) h = tt
 redefined array_table (open_array done last) h = push_sorted (push_item done (table (close last))) (table (close no_nodes)) h refl
+redefined _ _ h = tt
 
 found_kept : (k : List ℕ) (what : Definition) → SortedDefinition what → (ns : Nodes) → Sorted ns → (o : Option Node) → Gives SortedNode o → Gives Sorted (at_found k what ns o)
 found_kept k what d ns h None g = inserted k (new_node what) ns (new_sorted what d) h
@@ -226,9 +211,7 @@ SortedExpression r = SortedDefinition r.0.1
 
 scalar_sorted : (s : Scalar) → is_sorted (scalar_data s) ≡ true
 scalar_sorted (Boolean b) = refl
-scalar_sorted (Integer z) = refl
-scalar_sorted (Float x) = refl
-scalar_sorted (Datetime d) = refl
+scalar_sorted _ = refl
 
 atom_sorted : (text : List ℕ) → Gives SortedRead (atom text)
 unfolding atom

@@ -1,5 +1,5 @@
 -- Regions of which none is told to have no registers of its own have them all.
-use Rattle.std.proofs.Common.{◌≡◌, ◌⊎◌, inl, inr, ℕ, zero, suc, ◌+◌, ◌<◌, ◌≤◌, Bool, true, false, ◌&&◌, ◌||◌, not, cond, List, [], ◌∷◌, ◌++◌, length, take, map, get_or, Option, Some, None, refl, sym, ap, ap₂, subst, ◌∙◌, arith, append-nil, append_assoc, length-append}
+use Rattle.std.proofs.Common.{◌≡◌, inl, inr, ℕ, suc, ◌+◌, ◌<◌, ◌≤◌, Bool, true, false, ◌||◌, not, cond, List, [], ◌∷◌, ◌++◌, length, take, map, get_or, Option, Some, None, refl, sym, ap, ap₂, subst, ◌∙◌, arith, append-nil, append_assoc, length-append}
 use Rattle.std.specs.Prelude.{nat_abs, nat_le, nat_lt, is_some, count_by}
 use Rattle.std.specs.List.{list_all, position, position_or_len, enumerate_from}
 use Rattle.std.proofs.lemmas.Bool.{and_parts, or_parts, both_ways, not-false, ltb-true, ltb-false, leb-true, le-leb, lt-ltb}

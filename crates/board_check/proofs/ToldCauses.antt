@@ -1,9 +1,9 @@
 -- Of each problem of registers and of cell masks something is said beyond the words of its rule.
-use Rattle.std.proofs.Common.{◌≡◌, ◌≢◌, ◌⊎◌, inl, inr, ℕ, zero, suc, ◌+◌, Bool, true, false, ◌&&◌, ◌||◌, ◌==◌, not, cond, List, [], ◌∷◌, ◌++◌, length, take, map, Option, Some, None, option_map, refl, sym, ap, subst, ◌∙◌, arith}
-use Rattle.std.specs.Prelude.{codes, filter, slice_get, nat_abs, option_and_then, if◌then◌else◌}
+use Rattle.std.proofs.Common.{◌≡◌, ◌≢◌, ◌⊎◌, inl, inr, ℕ, suc, ◌+◌, Bool, true, false, ◌||◌, ◌==◌, not, List, [], ◌∷◌, ◌++◌, length, take, map, Option, Some, None, option_map, refl, sym, ap, subst, ◌∙◌, arith}
+use Rattle.std.specs.Prelude.{codes, filter, slice_get, nat_abs, option_and_then}
 use Rattle.std.specs.List.{flat_map, list_all, position, enumerate_from}
 use Rattle.std.specs.Option.{option_map_or}
-use Rattle.std.proofs.lemmas.Bool.{and_parts, both_ways, eqb-true}
+use Rattle.std.proofs.lemmas.Bool.{cond_both, and_parts, both_ways, eqb-true}
 use Rattle.lists.specs.Elements.{IsIn}
 use Rattle.lists.proofs.Members.{front_or_back, from_flat_map, from_filter, all_in}
 use Rattle.lists.proofs.Tests.{asked_parts}
@@ -38,10 +38,10 @@ use Rattle.board_check.proofs.Takers.{no_position, no_takers}
 
 -- ---- texts
 
-not_empty : (x : ℕ) (xs : List ℕ) → x ∷ xs ≢ []
+pub not_empty : {A : Type 0} (x : A) (xs : List A) → x ∷ xs ≢ []
 not_empty x xs e = cc
 
-both_empty : (xs ys : List ℕ) → xs ++ ys ≡ [] → (xs ≡ []) × (ys ≡ [])
+pub both_empty : {A : Type 0} (xs ys : List A) → xs ++ ys ≡ [] → (xs ≡ []) × (ys ≡ [])
 both_empty [] ys e = (refl, e)
 both_empty (x ∷ xs) ys e = absurd (not_empty x (xs ++ ys) e)
 
@@ -51,22 +51,16 @@ none_beside None None e = (refl, refl)
 none_beside None (Some o) e = absurd (not_empty 58 (32 ∷ named_text o) e)
 none_beside (Some t) o e = absurd (not_empty 58 (32 ∷ (named_text t ++ met_text o)) e)
 
-one_of_four : (a b c : Bool) (x y z w : List ℕ) → x ≢ [] → y ≢ [] → z ≢ [] → w ≢ [] → (if a then x else (if b then y else (if c then z else w))) ≢ []
-one_of_four true b c x y z w h k l m = h
-one_of_four false true c x y z w h k l m = k
-one_of_four false false true x y z w h k l m = l
-one_of_four false false false x y z w h k l m = m
-
 keyed : (key words : List ℕ) → keyed_text key words ≢ []
 keyed key words e = not_empty 58 (32 ∷ (key ++ words)) e
 
 masks_said : (n : ℕ) (p : Patterns) → masks_text n p ≢ []
 masks_said n p =
-    one_of_four (not (length (pattern_words n p.reset) == 0)) (not (length (pattern_words n p.writable) == 0)) (not (length (pattern_words n p.clearable) == 0))
-    (keyed_text (codes "reset") (pattern_words n p.reset)) (keyed_text (codes "rw") (pattern_words n p.writable)) (keyed_text (codes "w1c") (pattern_words n p.clearable))
-    (codes ": a bit is in both rw and w1c")
-    (keyed (codes "reset") (pattern_words n p.reset)) (keyed (codes "rw") (pattern_words n p.writable)) (keyed (codes "w1c") (pattern_words n p.clearable))
-    (λ e. not_empty 58 (codes " a bit is in both rw and w1c") e)
+    let some = λ (text : List ℕ). text ≢ [] in
+    let says = λ (o : Option (List ℕ)). not (length (pattern_words n o) == 0) in
+    cond_both (says p.reset) _ _ some (λ _. keyed (codes "reset") (pattern_words n p.reset))
+    (λ _. cond_both (says p.writable) _ _ some (λ _. keyed (codes "rw") (pattern_words n p.writable))
+    (λ _. cond_both (says p.clearable) _ _ some (λ _. keyed (codes "w1c") (pattern_words n p.clearable)) (λ _. not_empty 58 (codes " a bit is in both rw and w1c"))))
 
 -- ---- why something is said
 

@@ -27,6 +27,6 @@ mod words;
 pub use board_file::{Entry, Problem, Rule};
 pub use causes::push_other;
 pub use lines::{Other, line_at, place_of, with_place};
-pub use style::Style;
+pub use style::{Style, Telling};
 pub use telling::refusal_text;
 pub use texts::{fault_words, push_below, push_line, push_place};

@@ -1,5 +1,5 @@
 //! The earlier entry that has what another entry asks for itself.
-ghost use Rattle.std.specs.Prelude.{◌≡◌, not, take, option_map};
+ghost use Rattle.std.specs.Prelude.{◌≡◌, not, take};
 ghost use Rattle.std.specs.List.{position, enumerate_from};
 ghost use Rattle.std.specs.Str.{bytes_eq};
 ghost use Rattle.lists.specs.Elements.{first_some};

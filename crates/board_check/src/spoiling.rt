@@ -75,10 +75,7 @@ fn holds_entry(problem: &Problem<'_>, entry: Entry) -> bool
 fn is_of_form(rule: Rule) -> bool
     ensures { result ≡ is_of_form rule }
 {
-    match rule {
-        Rule::Needed | Rule::Form => true,
-        _ => false,
-    }
+    matches!(rule, Rule::Needed | Rule::Form)
 }
 
 /// Whether the entry stands in a list or a table that is missing, or has another form.
@@ -109,10 +106,10 @@ fn hides_lists(problem: &Problem<'_>) -> bool
 fn asks_functions(rule: Rule) -> bool
     ensures { result ≡ asks_functions rule }
 {
-    match rule {
-        Rule::OwnPlace | Rule::BehindBridge | Rule::FunctionZero | Rule::NamesEndpoint => true,
-        _ => false,
-    }
+    matches!(
+        rule,
+        Rule::OwnPlace | Rule::BehindBridge | Rule::FunctionZero | Rule::NamesEndpoint
+    )
 }
 
 /// Whether the problem leaves open where functions stand.
@@ -126,10 +123,7 @@ fn hides_functions(problem: &Problem<'_>) -> bool
 fn asks_guests(rule: Rule) -> bool
     ensures { result ≡ asks_guests rule }
 {
-    match rule {
-        Rule::OwnName | Rule::OwnSlot => true,
-        _ => false,
-    }
+    matches!(rule, Rule::OwnName | Rule::OwnSlot)
 }
 
 /// Whether the problem leaves open what a guest has.
@@ -143,10 +137,7 @@ fn hides_guests(problem: &Problem<'_>) -> bool
 fn asks_parts(rule: Rule) -> bool
     ensures { result ≡ asks_parts rule }
 {
-    match rule {
-        Rule::OwnRegisters | Rule::OwnOffsets => true,
-        _ => false,
-    }
+    matches!(rule, Rule::OwnRegisters | Rule::OwnOffsets)
 }
 
 /// Whether the problem is of the same endpoint.
@@ -192,10 +183,7 @@ fn spoils_none(earlier: &[Problem<'_>], later: &Problem<'_>) -> bool
 fn is_known_rule(rule: Rule) -> bool
     ensures { result ≡ is_known_rule rule }
 {
-    match rule {
-        Rule::Known => true,
-        _ => false,
-    }
+    matches!(rule, Rule::Known)
 }
 
 /// Whether no earlier problem keeps the rule from being asked. Whether a key is known is always asked.

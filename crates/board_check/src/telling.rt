@@ -1,7 +1,6 @@
 //! What is told of a board file that is refused.
-ghost use Rattle.std.specs.Prelude.{◌≡◌, ◌++◌, IfOk, IfSome, IsUtf8, OnOk, Some, None, string_bytes};
+ghost use Rattle.std.specs.Prelude.{◌≡◌, IfOk, IfSome, IsUtf8, OnOk, Some, None, string_bytes};
 ghost use Rattle.toml.specs.View.{table_view};
-ghost use Rattle.board_check.specs.Texts.{unread_text, lines_text};
 ghost use Rattle.board_check.specs.Telling.{IsRefusalText, IsRefusal, IsUnread, IsPlaceIn, IsByLine, IsByCheck, line_or_zero, rank_of};
 ghost use Rattle.toml.specs.Errors.{IsWithin};
 ghost use Rattle.toml.specs.Parse.{parse_document};
