@@ -3,10 +3,7 @@ use Rattle.std.proofs.Common.{◌≡◌, ◌++◌, true, false, Option, Some, No
 use Rattle.std.specs.Prelude.{OnOk, is_ok, if◌then◌else◌}
 use Rattle.std.specs.Option.{option_map_or}
 use Rattle.model_guests.specs.Text.{Text}
-
-pub on_ok : {T E : Type 0} (r : Result T E) (P Q : Type 0) → (P → Q) → OnOk r P → OnOk r Q
-on_ok (Ok x) P Q f h = f h
-on_ok (Err e) P Q f h = tt
+use Rattle.board_check.proofs.Pushed.{pushed_three}
 
 -- what `push_str` says, where there was memory
 pub on_pushed : {T E : Type 0} (r : Result T E) (new pushed old : Text) → new ≡ (if is_ok r then pushed else old) → OnOk r (new ≡ pushed)
@@ -14,12 +11,9 @@ on_pushed (Ok x) new pushed old h = h
 on_pushed (Err e) new pushed old h = tt
 
 -- texts that were appended one after the other
-pub three : (old s t new a b c : Text) → s ≡ old ++ a → t ≡ s ++ b → new ≡ t ++ c → new ≡ old ++ (a ++ (b ++ c))
-three old s t new a b c first second third = third ∙ ap (λ u. u ++ c) (second ∙ ap (λ u. u ++ b) first) ∙ append_assoc (old ++ a) b c ∙ append_assoc old a (b ++ c)
-
 pub four : (old s t u new a b c d : Text) → s ≡ old ++ a → t ≡ s ++ b → u ≡ t ++ c → new ≡ u ++ d → new ≡ old ++ (a ++ (b ++ (c ++ d)))
 four old s t u new a b c d first second third last =
-    last ∙ ap (λ v. v ++ d) third ∙ append_assoc t c d ∙ three old s t (t ++ (c ++ d)) a b (c ++ d) first second refl
+    last ∙ ap (λ v. v ++ d) third ∙ append_assoc t c d ∙ pushed_three old a b (c ++ d) s t (t ++ (c ++ d)) first second refl
 
 pub none_if : {A : Type 0} (o : Option A) → option_map_or (λ _. true) o false ≡ false → o ≡ None
 none_if None e = refl

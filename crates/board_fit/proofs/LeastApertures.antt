@@ -1,20 +1,22 @@
 -- The least aperture in which a pool fits: what a pool takes of an aperture goes by the first address of the aperture alone.
-use Rattle.std.proofs.Common.{◌≡◌, ◌⊎◌, inl, inr, ℕ, zero, suc, ◌+◌, ◌-◌, ◌*◌, ◌/◌, ◌%◌, ◌^◌, ◌<◌, ◌≤◌, Bool, true, false, ◌&&◌, cond, List, [], ◌∷◌, ◌++◌, map, Option, Some, None, option_map, refl, sym, ap, ap₂, subst, ◌∙◌, arith}
-use Rattle.std.specs.Prelude.{filter, flat_map, nat_lt, nat_le, MatchOption, if◌then◌else◌}
+use Rattle.std.proofs.Common.{◌≡◌, ◌⊎◌, inl, inr, ℕ, zero, suc, ◌+◌, ◌-◌, ◌*◌, ◌/◌, ◌%◌, ◌^◌, ◌<◌, ◌≤◌, Bool, true, false, ◌&&◌, List, [], ◌∷◌, map, Option, Some, None, option_map, refl, sym, ap, subst, ◌∙◌, arith}
+use Rattle.std.specs.Prelude.{nat_lt, nat_le, MatchOption, if◌then◌else◌}
 use Rattle.std.specs.List.{list_all}
 use Rattle.std.specs.Option.{option_map_or}
 use Rattle.std.proofs.lemmas.Bool.{lt-ltb, le-ltb, leb-true, leb-false, le-leb}
 use Rattle.std.proofs.Math.Nat.{div-lt_iff_lt-mul, mul-le-mul_right, suc-mul}
+use Rattle.std.proofs.lemmas.List.Elements.{filter_agree}
 use Rattle.std.proofs.lemmas.Nat.{div-add-mod'}
-use Rattle.model_registers.specs.Declarations.{Kind, io_kind, mem32, mem64, Bridge, Region}
-use Rattle.model_registers.specs.Apertures.{Aperture, Apertures, IsOfUnits, IsIoAperture, IsMemAperture, IsPrefAperture, IsPrefOption, IsLawfulApertures}
+use Rattle.model_registers.specs.Declarations.{Kind, mem32, mem64, Bridge, Region}
+use Rattle.model_registers.specs.Apertures.{Aperture, Apertures, IsOfUnits, IsPrefOption, IsLawfulApertures}
 use Rattle.model_board.specs.Paths.{Path, last_part}
-use Rattle.model_board.specs.Board.{Decl, endpoint, bridge, Row, Board, rows_on}
+use Rattle.model_board.specs.Board.{Decl, endpoint, bridge, Board, rows_on}
 use Rattle.model_set_up.specs.Pools.{Pool, io_pool, mem_pool, pref_pool, same_pool, unit_of, has_pref, has_pref64, pref_or_mem, pool_of, bridges_above, aperture_of}
 use Rattle.model_set_up.specs.Placement.{Item, in_order, end_from, round_up, alignment, region_item, window_items, items_of, items_within, items_on, root_first, fits_items, fits}
 use Rattle.model_set_up.proofs.Packing.{unit_positive, round_up_not_before, round_up_is_multiple}
 use Rattle.window_packing.specs.declared.uses.PoolUse.{PoolUse}
 use Rattle.window_packing.specs.Uses.{use_by, told_use}
+use Rattle.board_fit.proofs.PoolsOfRegions.{flat_map_alike}
 use Rattle.board_fit.specs.LeastApertures.{with_aperture, first_of, Holds, IsLeast, HoldsNone, IsLeastAperture}
 
 -- ---- apertures in their places
@@ -85,38 +87,20 @@ sides a x y first h k =
 
 pool_alike : (a : Apertures) (pool : Pool) (x y : Aperture) → x.first ≡ y.first → IsLawfulApertures (with_aperture a pool x) → IsLawfulApertures (with_aperture a pool y)
     → (above : List Bridge) (k : Kind) → pool_of (with_aperture a pool x) above k ≡ pool_of (with_aperture a pool y) above k
-pool_alike a io_pool x y first h k above io_kind = refl
-pool_alike a io_pool x y first h k above (mem32 true) = refl
-pool_alike a io_pool x y first h k above (mem64 true) = refl
-pool_alike a io_pool x y first h k above (mem32 false) = refl
-pool_alike a io_pool x y first h k above (mem64 false) = refl
-pool_alike a mem_pool x y first h k above io_kind = refl
-pool_alike a mem_pool x y first h k above (mem32 true) = refl
-pool_alike a mem_pool x y first h k above (mem64 true) = refl
-pool_alike a mem_pool x y first h k above (mem32 false) = refl
-pool_alike a mem_pool x y first h k above (mem64 false) = refl
-pool_alike a pref_pool x y first h k above io_kind = refl
 pool_alike a pref_pool x y first h k above (mem32 true) = pref_alike x y above false (sides a x y first h k)
 pool_alike a pref_pool x y first h k above (mem64 true) = pref_alike x y above true (sides a x y first h k)
-pool_alike a pref_pool x y first h k above (mem32 false) = refl
-pool_alike a pref_pool x y first h k above (mem64 false) = refl
+pool_alike a _ x y first h k above (mem32 true) = refl
+pool_alike a _ x y first h k above (mem64 true) = refl
+pool_alike a _ x y first h k above _ = refl
 
 -- ---- items
-
-flat_map_alike : {A B : Type 0} (f g : A → List B) (xs : List A) → ((x : A) → f x ≡ g x) → flat_map f xs ≡ flat_map g xs
-flat_map_alike f g [] h = refl
-flat_map_alike f g (x ∷ xs) h = ap₂ ◌++◌ (h x) (flat_map_alike f g xs h)
-
-filter_alike : {A : Type 0} (p q : A → Bool) (xs : List A) → ((x : A) → p x ≡ q x) → filter p xs ≡ filter q xs
-filter_alike p q [] h = refl
-filter_alike p q (x ∷ xs) h = ap₂ (λ t ys. cond t (x ∷ ys) ys) (h x) (filter_alike p q xs h)
 
 module _ (b : Board) (a c : Apertures) (pool : Pool) (alike : (above : List Bridge) (k : Kind) → pool_of a above k ≡ pool_of c above k) where
   row_alike : (f g : Path → List Item) → ((p : Path) → f p ≡ g p) → (p : Path) (d : Decl) → items_of b a pool f (record { path = p; decl = d }) ≡ items_of b c pool g (record { path = p; decl = d })
   row_alike f g h p (endpoint d) =
       ap (map (region_item (last_part p)))
-      (filter_alike (λ (r : Region). same_pool (pool_of a (bridges_above b p) r.kind) pool) (λ r. same_pool (pool_of c (bridges_above b p) r.kind) pool) d.regions
-      (λ r. ap (λ q. same_pool q pool) (alike (bridges_above b p) r.kind)))
+      (filter_agree (λ (r : Region). same_pool (pool_of a (bridges_above b p) r.kind) pool) (λ r. same_pool (pool_of c (bridges_above b p) r.kind) pool)
+      (λ r. ap (λ q. same_pool q pool) (alike (bridges_above b p) r.kind)) d.regions)
   row_alike f g h p (bridge d) = ap (window_items (unit_of pool) (last_part p)) (h p)
 
   items_alike : (n : ℕ) (bus : Path) → items_within b a pool n bus ≡ items_within b c pool n bus

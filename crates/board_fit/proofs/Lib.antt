@@ -1,4 +1,3 @@
-pub mod Told
 mod Fitted
 pub mod BySize
 pub mod PoolsOfRegions

@@ -1,12 +1,12 @@
 -- Where bridges are too many, or regions of I/O stand behind bridges without an I/O window, an entry of the file is named.
-use Rattle.std.proofs.Common.{◌≡◌, ◌≢◌, ◌⊎◌, inl, inr, ℕ, ◌+◌, ◌≤◌, ◌<◌, Bool, true, false, ◌&&◌, ◌||◌, ◌==◌, not, cond, List, [], ◌∷◌, ◌++◌, length, map, Option, Some, None, refl, sym, ap, subst, ◌∙◌, arith}
-use Rattle.std.specs.Prelude.{flat_map, filter, nat_le, nat_lt, count_by}
-use Rattle.std.specs.List.{list_all, list_any, position, enumerate_from}
+use Rattle.std.proofs.Common.{◌≡◌, ◌≢◌, ◌⊎◌, inl, inr, ℕ, ◌+◌, Bool, true, false, ◌&&◌, ◌||◌, ◌==◌, not, cond, List, [], ◌∷◌, ◌++◌, length, map, Option, Some, None, refl, sym, ap, ◌∙◌, arith}
+use Rattle.std.specs.Prelude.{flat_map, filter, nat_lt}
+use Rattle.std.specs.List.{list_all, list_any, enumerate_from}
 use Rattle.std.proofs.lemmas.Bool.{both_ways, leb-false, lt-ltb, false_from_ne_true, or_from}
 use Rattle.std.proofs.lemmas.List.Sums.{sum_by-cons}
 use Rattle.lists.specs.Elements.{IsIn, Each}
 use Rattle.lists.proofs.EachLemmas.{each_append}
-use Rattle.lists.proofs.Members.{each_from, each_in, any_in, from_any, all_from, from_flat_map, from_filter, from_map}
+use Rattle.lists.proofs.Members.{each_in, any_in, from_any, all_from, from_flat_map, from_filter, from_map}
 use Rattle.model_registers.specs.Declarations.{Kind, io_kind, mem32, mem64, IoDecode, no_io, io16, io32, Region}
 use Rattle.model_registers.specs.Declarations as declared
 use Rattle.model_registers.specs.DeclarationRules.{in_register_order}
@@ -17,28 +17,20 @@ use Rattle.model_board.specs.Places.{row_inserted, board_of}
 use Rattle.model_board.proofs.PlacesLaw.{each_to_board}
 use Rattle.model_set_up.specs.Pools.{opens_io, has_io, bridges_above, has_io_paths}
 use Rattle.model_set_up.specs.Pools as pools
+use Rattle.model_set_up.specs.SetUpWrites.{set_up_rules}
 use Rattle.board_file.specs.Entries.{Bar, Bridge, Endpoint, File}
 use Rattle.board_file.specs.Functions.{region, endpoint_row, bridge_row, rows}
 use Rattle.board_file.specs.PathTexts.{path_at}
 use Rattle.board_file.specs.Functions.{apertures}
 use Rattle.bus_scan.specs.declared.fault.Fault.TheVariants.{Buses, NoIoWindow}
-use Rattle.model_registers.specs.DeclarationRules.{first_broken}
-use Rattle.model_set_up.specs.Pools.{io_pool, mem_pool, pref_pool}
-use Rattle.model_set_up.specs.Placement.{fits}
 use Rattle.board_fit.specs.ReasonLaws.{ReasonsAreTold}
+use Rattle.board_check.proofs.Refusals.{alone, broken_at}
 use Rattle.board_check.proofs.Takers.{position_none}
-use Rattle.board_fit.specs.declared.remark.Remark.{Remark}
+use Rattle.board_check.proofs.ToldCauses.{not_empty, both_empty}
 use Rattle.board_fit.specs.declared.remark.Remark.TheVariants as remark
 use Rattle.board_fit.specs.Reaches.{all_above}
 use Rattle.board_fit.specs.Misfits.{is_io, is_closed, closes, first_closed, closed_region, closed_bars, closed_in, closed_regions, bridge_too_many}
 use Rattle.board_fit.proofs.PoolsOfRegions.{by_file}
-
-not_empty : {A : Type 0} (x : A) (xs : List A) → x ∷ xs ≢ []
-not_empty x xs e = cc
-
-both_empty : {A : Type 0} (xs ys : List A) → xs ++ ys ≡ [] → (xs ≡ []) × (ys ≡ [])
-both_empty [] ys e = (refl, e)
-both_empty (x ∷ xs) ys e = absurd (not_empty x (xs ++ ys) e)
 
 -- ---- bridges
 
@@ -162,30 +154,9 @@ module _ (f : File) where
 
 -- ---- the rules of set-up
 
-wrong : (n m : ℕ) → Some n ≡ Some m → n ≡ m
-wrong n m h = cc
-
-first_201 : (n io p q r : Bool) → first_broken ((201, n) ∷ (202, io) ∷ (203, p) ∷ (204, q) ∷ (205, r) ∷ []) ≡ Some 201 → n ≡ false
-first_201 false io p q r h = refl
-first_201 true false p q r h = absurd (let e = wrong 202 201 h in omega arith)
-first_201 true true false q r h = absurd (let e = wrong 203 201 h in omega arith)
-first_201 true true true false r h = absurd (let e = wrong 204 201 h in omega arith)
-first_201 true true true true false h = absurd (let e = wrong 205 201 h in omega arith)
-first_201 true true true true true h = absurd (cc)
-
-first_202 : (n io p q r : Bool) → first_broken ((201, n) ∷ (202, io) ∷ (203, p) ∷ (204, q) ∷ (205, r) ∷ []) ≡ Some 202 → io ≡ false
-first_202 false io p q r h = absurd (let e = wrong 201 202 h in omega arith)
-first_202 true false p q r h = refl
-first_202 true true false q r h = absurd (let e = wrong 203 202 h in omega arith)
-first_202 true true true false r h = absurd (let e = wrong 204 202 h in omega arith)
-first_202 true true true true false h = absurd (let e = wrong 205 202 h in omega arith)
-first_202 true true true true true h = absurd (cc)
-
 pub reasons_are_told : ReasonsAreTold
 reasons_are_told f Buses named h =
-    let b = board_of (rows f) in let a = apertures f in
-    bridge_named f (first_201 (numbers_suffice b) (has_io_paths b) (fits b a io_pool) (fits b a mem_pool) (fits b a pref_pool) h)
+    bridge_named f (alone (numbers_suffice (board_of (rows f))) (broken_at 201 (set_up_rules (board_of (rows f)) (apertures f)) h))
 reasons_are_told f NoIoWindow named h =
-    let b = board_of (rows f) in let a = apertures f in
-    region_named f (first_202 (numbers_suffice b) (has_io_paths b) (fits b a io_pool) (fits b a mem_pool) (fits b a pref_pool) h)
+    region_named f (alone (has_io_paths (board_of (rows f))) (broken_at 202 (set_up_rules (board_of (rows f)) (apertures f)) h))
 reasons_are_told f _ named h = absurd (let no_name : false ≡ true = named in cc)

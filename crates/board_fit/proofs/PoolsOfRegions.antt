@@ -9,15 +9,14 @@ use Rattle.model_board.specs.Paths.{Path, path_before, leads_to}
 use Rattle.model_board.specs.Board.{Decl, endpoint, bridge, Row, Board}
 use Rattle.model_board.specs.Places.{row_inserted, board_of}
 use Rattle.model_set_up.specs.Pools.{same_pool, has_pref, has_pref64, bridge_of, bridges_above, pref_or_mem, pool_of}
-use Rattle.board_file.specs.Entries.{Bar, Bridge, Endpoint, File}
+use Rattle.board_file.specs.Entries.{Bridge, Endpoint, File}
 use Rattle.board_file.specs.Functions.{endpoint_row, bridge_row, rows}
 use Rattle.board_file.specs.PathTexts.{path_at}
 use Rattle.std.proofs.Math.Bool.{and_assoc, and_comm}
 use Rattle.window_packing.specs.declared.pool.Pool.{Pool}
 use Rattle.window_packing.specs.Plans.{named_pool}
-use Rattle.board_fit.specs.declared.pool_region.PoolRegion.{PoolRegion}
 use Rattle.board_fit.specs.PoolRegions.{region_at, region_in, regions_in, pool_regions}
-use Rattle.board_fit.specs.Reaches.{has_pref_entry, has_pref64_entry, all_above, reaches_by, reaches_of, pref_by, pool_by, region_by, endpoint_by}
+use Rattle.board_fit.specs.Reaches.{has_pref_entry, has_pref64_entry, all_above, reaches_of, pref_by, pool_by, region_by, endpoint_by}
 
 -- ---- a test of all bridges above a path
 
@@ -101,7 +100,7 @@ module _ (f : File) (p : Path) where
   pool_of_file a (mem32 false) = refl
   pool_of_file a (mem64 false) = refl
 
-flat_map_alike : {A B : Type 0} (f g : A → List B) (xs : List A) → ((x : A) → f x ≡ g x) → flat_map f xs ≡ flat_map g xs
+pub flat_map_alike : {A B : Type 0} (f g : A → List B) (xs : List A) → ((x : A) → f x ≡ g x) → flat_map f xs ≡ flat_map g xs
 flat_map_alike f g [] h = refl
 flat_map_alike f g (x ∷ xs) h = ap₂ ◌++◌ (h x) (flat_map_alike f g xs h)
 

@@ -3,7 +3,7 @@
 --     Holds b a pool x      it begins where the aperture of the pool does, a board file may have it in its place, and the pool fits it
 --     IsLeast b a pool x, HoldsNone b a pool      it holds the pool, and none that ends before it does; none does
 --     IsLeastAperture b a pool o      the one of both that is true
-use Rattle.std.specs.Prelude.{◌≡◌, ℕ, ◌≤◌, true, Option, Some, None, option_map, MatchOption}
+use Rattle.std.specs.Prelude.{◌≡◌, ℕ, ◌≤◌, true, Option, Some, option_map, MatchOption}
 use Rattle.model_registers.specs.Apertures.{Aperture, Apertures, IsLawfulApertures}
 use Rattle.model_board.specs.Board.{Board}
 use Rattle.model_set_up.specs.Pools.{Pool, io_pool, mem_pool, pref_pool, aperture_of}

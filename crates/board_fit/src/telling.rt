@@ -1,6 +1,5 @@
 //! What is told of a board file whose board is judged.
-ghost use Rattle.std.specs.Prelude.{◌≡◌, IfOk, Some, string_bytes};
-ghost use Rattle.toml.specs.Parse.{parse_document};
+ghost use Rattle.std.specs.Prelude.{IfOk, string_bytes};
 ghost use Rattle.toml.specs.View.{table_view};
 ghost use Rattle.model_board.specs.Board.{Board};
 ghost use Rattle.model_set_up.specs.FunctionTable.{board_in};
@@ -15,21 +14,13 @@ use crate::misfit::reasons;
 use crate::remark::Remark;
 use crate::texts::push_remarks;
 use crate::warnings::warnings;
-use board_check::Style;
+use board_check::Telling;
 use board_file::reading::read_entries;
 use bus_scan::{Fault, FunctionTable};
 use headers::Apertures;
 use std::alloc::{AllocError, Global};
 use toml::Table;
 use value_places::Places;
-
-/// How a file is told of: the style, what the file is called, and its bytes.
-#[derive(Clone, Copy)]
-pub(crate) struct Telling<'a> {
-    pub(crate) style: Style,
-    pub(crate) name: &'a str,
-    pub(crate) bytes: &'a [u8],
-}
 
 /// What is told of remarks on a document.
 pub(crate) fn told_text(

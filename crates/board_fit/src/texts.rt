@@ -7,8 +7,7 @@ ghost use Rattle.board_fit.specs.Telling.{remark_text, told_text};
 
 use crate::located::Located;
 use crate::remark::Remark;
-use crate::telling::Telling;
-use board_check::{Other, Style, line_at, push_below, push_line, push_other, push_place};
+use board_check::{Other, Style, Telling, line_at, push_below, push_line, push_other, push_place};
 use std::alloc::{AllocError, Global};
 use toml::Table;
 

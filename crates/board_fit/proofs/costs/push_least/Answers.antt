@@ -1,4 +1,4 @@
-use Rattle.std.proofs.Common.{◌≡◌, ◌++◌, OnOk, Option, None, subst, sym, string_bytes}
+use Rattle.std.proofs.Common.{◌≡◌, ◌++◌, OnOk, Option, subst, sym, string_bytes}
 use Rattle.model_registers.specs.Apertures.{Aperture}
 use Rattle.board_fit.specs.Costs.{least_text}
 use Rattle.board_fit.proofs.costs.push_least.Goals as goal

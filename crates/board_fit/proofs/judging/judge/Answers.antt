@@ -4,7 +4,7 @@ use Rattle.model_board.specs.Board.{Board}
 use Rattle.bus_scan.specs.SizedTables.{IsTableOf}
 use Rattle.window_packing.specs.Readies.{board_below}
 use Rattle.board_fit.specs.Verdicts.{IsVerdict}
-use Rattle.board_fit.proofs.Told.{if_ok-map}
+use Rattle.std.proofs.lemmas.Result.{IfOk-weaker}
 use Rattle.board_fit.proofs.judging.judge.Goals as goal
 
 pub returns-in-Ok-clause-verdict : goal.returns-in-Ok-clause-verdict
@@ -12,6 +12,6 @@ returns-in-Ok-clause-verdict c =
     let b = board_below c.args.host in
     let table = subst (λ (x : Board). IsTableOf x c.in-Ok.table) c.in-Ok.ensures.found.board c.in-Ok.ensures.found.table in
     let same = c.apertures-apertures.ensures in
-    if_ok-map c.fit.result _ _
+    IfOk-weaker c.fit.result _ _
     (λ v said. subst (λ (a : Apertures). IsVerdict c.args.style c.args.name.now c.args.bytes.now b a v.fault (string_bytes v.text)) same (said b table))
     c.fit.ensures.verdict
