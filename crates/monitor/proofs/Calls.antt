@@ -1,5 +1,5 @@
 -- A call of an engine: the world that is kept as it begins, and what the call leaves.
-use Rattle.std.proofs.Common.{List, [], ap, arith, drop, get_or, length, refl, subst, sym, take, ℕ, ◌++◌, ◌<◌, ◌∙◌, ◌∷◌, ◌≡◌}
+use Rattle.std.proofs.Common.{List, ap, drop, get_or, length, refl, subst, sym, take, ℕ, ◌++◌, ◌<◌, ◌∙◌, ◌≡◌, rules}
 use Rattle.std.proofs.lemmas.List.{take_at}
 use Rattle.std.proofs.lemmas.Option.{slice_get_read}
 use Rattle.model_board.specs.State.{State}
@@ -21,9 +21,7 @@ module _ {h : HostState} {names : List Text} {gs : List Guest} (sound : IsSound 
   kept_in = subst (λ (v : WorldNow). IsKept v h names gs) view sound
 
   pub inside_guests : (i : ℕ) → i < length now.guests → i < length gs
-  inside_guests i inside =
-      let count : length gs ≡ length now.guests = guests_within now.handoff names now.guests gs kept_in.guests in
-      omega arith
+  inside_guests i inside = search (rules, guests_within, kept_in)
 
   -- the guest that code reads at an index
   pub guest_in : (i : ℕ) {g : Guest} → i < length now.guests → g ≡ get_or gs i g → GuestAt now h names gs i g
@@ -41,11 +39,7 @@ routing_kept : {w : WorldNow} {h : HostState} {names : List Text} {gs : List Gue
 routing_kept {w} kept = ap (λ (s : State). routing s.functions) kept.agrees ∙ keeps_routing w.handoff kept.lawful.handoff.board w.guests kept.lawful.seated
 
 pub leaves : {w v : WorldNow} {h new : HostState} {names : List Text} {gs back : List Guest} → IsKept w h names gs → IsKept v new names back → routing w.handoff.functions ≡ routing v.handoff.functions → Leaves v h new names back
-leaves {w} {v} {h} {new} {names} {gs} {back} before after same = record {
-  sound = is_sound v new names back after;
-  routes = routing_kept before ∙ same ∙ sym (routing_kept after);
-  world = is_shown v new names back after;
-}
+leaves {w} {v} {h} {new} {names} {gs} {back} before after same = search (rules, is_shown, is_sound, routing_kept)
 
 -- the guests were lent
 pub back_in : {v : WorldNow} {h new : HostState} {names : List Text} {left : List Guest} (gs : List Guest) (n : ℕ) → length left ≡ n → Leaves v h new names left

@@ -1,5 +1,5 @@
 -- What is kept of guests over a handoff is kept over another with the same board and routing registers.
-use Rattle.std.proofs.Common.{◌≡◌, ℕ, List, [], ◌∷◌, Some, None, Option, sym, ap, ◌∙◌, subst}
+use Rattle.std.proofs.Common.{◌≡◌, ℕ, List, [], ◌∷◌, Some, None, Option, sym, ap, ◌∙◌, subst, rules}
 use Rattle.std.specs.Prelude.{find, map, slice_get}
 use Rattle.std.specs.Option.{option_map_or}
 use Rattle.lists.proofs.Indices.{at_map, index_in, map_at}
@@ -8,7 +8,7 @@ use Rattle.model_registers.specs.Declarations.{Endpoint}
 use Rattle.model_registers.specs.EndpointTable.{BaseAddress}
 use Rattle.model_registers.specs.Decoding.{Function, base_address}
 use Rattle.model_board.specs.Paths.{Path}
-use Rattle.model_board.specs.Board.{Decl, endpoint, Row, Board}
+use Rattle.model_board.specs.Board.{Decl, endpoint, Row}
 use Rattle.model_board.specs.AtReset.{board_at}
 use Rattle.model_board.specs.Ports.{file_at}
 use Rattle.model_board.specs.Routing.{Ranges, regions, windows, RoutingRow, ranges_of, row_of, routing}
@@ -48,14 +48,7 @@ bases_held fs state i p d at = of (at_map row_at fs i (record { path = p; decl =
 
 module _ (s t : State) (on_s : IsStateOfBoard s.functions) (on_t : IsStateOfBoard t.functions) (same_board : board_at t.functions ≡ board_at s.functions) (same_routing : routing t.functions ≡ routing s.functions) where
   pub held_carried : (p : Path) (f : Function) (h : Held) → IsHeld s p f h → IsHeld t p f h
-  held_carried p f h is =
-      let row_now : slice_get (board_at t.functions) h.index ≡ Some (record { path = p; decl = endpoint f.decl }) = ap (λ (b : Board). slice_get b h.index) same_board ∙ is.row in
-      record {
-        row = row_now;
-        placed = is.placed ∙ sym (bases_held s.functions on_s h.index p f.decl is.row) ∙ ap (λ (rows : List RoutingRow). bases_routed rows h.index) (sym same_routing) ∙ bases_held t.functions on_t h.index p f.decl row_now;
-        regions = is.regions;
-        own = is.own;
-      }
+  held_carried p f h is = search (rules, bases_held)
 
   slot_carried : (q : Option Path) (f : Option Function) (o : Option Held) → IsSlot s q f o → IsSlot t q f o
   slot_carried None None None is = tt

@@ -1,7 +1,7 @@
 -- A number in configuration space, read in two parts: the guest's own copies, and what the host shows.
-use Rattle.std.proofs.Common.{◌≡◌, ℕ, ◌+◌, ◌*◌, ◌/◌, ◌%◌, ◌<◌, ◌^◌, sym, ap, ap₂, ◌∙◌, subst}
+use Rattle.std.proofs.Common.{◌≡◌, ℕ, ◌+◌, ◌*◌, ◌/◌, ◌%◌, ◌<◌, ◌^◌, sym, ap, ◌∙◌, rules}
 use Rattle.model_registers.specs.Registers.{config, File, read, number}
-use Rattle.model_registers.specs.ByteEnables.{lanes, is_enabled, enables_of, IsWidth}
+use Rattle.model_registers.specs.ByteEnables.{lanes, enables_of, IsWidth}
 use Rattle.model_registers.specs.OwnCopies.{own_file, HoldsOwn, handed_on}
 use Rattle.model_registers.proofs.ByteAccesses.{aligned_lies_in_word, number_by_lanes}
 use Rattle.host_bridge.specs.ByIndex.{file_nth}
@@ -21,20 +21,11 @@ module _ (h : HostState) (held : Held) (seen : IsSeen h held) (word enables n ot
   rest_is = reads ∙ ap (read (file_nth h.state.functions held.index) (config word)) part.others_are ∙ seen.shows word (lanes enables)
 
   pub sum_in_word : word % 4 ≡ 0 → rest < 2 ^ 32 → n + rest < 2 ^ 32
-  sum_in_word whole theirs =
-      let P : ℕ → Type 0 = λ x. x < 2 ^ 32 in
-      let Q : ℕ → Type 0 = λ x. x + rest < 2 ^ 32 in
-      let R : ℕ → Type 0 = λ x. read (own_file held.own) (config word) (lanes enables) + x < 2 ^ 32 in
-      subst Q (sym part.own)
-      (subst R (sym rest_is)
-      (sum_fits held.own seen.lawful seen.file word (is_enabled enables 0) (is_enabled enables 1) (is_enabled enables 2) (is_enabled enables 3) whole
-      (subst P rest_is theirs)))
+  sum_in_word whole theirs = search (rules, rest_is, sum_fits)
 
   pub word_is : n + rest ≡ read seen.file (config word) (lanes enables)
   word_is = ap (λ x. n + x) (rest_is ∙ ap (read seen.file (config word)) (sym part.others_are)) ∙ sym (part.together seen.file seen.holds)
 
   pub number_is : (off width from out : ℕ) → word ≡ off / 4 * 4 → from ≡ off → enables ≡ enables_of from width → IsWidth width → off % width ≡ 0 → out ≡ (n + rest) / 256 ^ (from % 4)
       → out ≡ number seen.file (config off) width
-  number_is off width from out at is on wide aligned lowered =
-      lowered ∙ ap₂ (λ x y. x / 256 ^ (y % 4)) (word_is ∙ ap₂ (λ x y. read seen.file (config x) (lanes y)) at (on ∙ ap (λ x. enables_of x width) is)) is
-      ∙ sym (number_by_lanes seen.file (config off) width (aligned_lies_in_word off width wide aligned))
+  number_is off width from out at is on wide aligned lowered = search (rules, aligned_lies_in_word, number_by_lanes, word_is)

@@ -1,5 +1,5 @@
 -- A read and a write of the configuration space of the function in a slot.
-use Rattle.std.proofs.Common.{◌≡◌, ℕ, ◌*◌, ◌/◌, ◌%◌, Bool, cond, List, [], Some, None, Option, slice_get, slice_set, sym, ap, ap₂, ◌∙◌, subst, get_or, length, refl}
+use Rattle.std.proofs.Common.{◌≡◌, ℕ, ◌*◌, ◌/◌, ◌%◌, Bool, cond, List, [], Some, None, Option, slice_get, slice_set, sym, ap, ap₂, ◌∙◌, subst, get_or, length, refl, rules}
 use Rattle.std.specs.Prelude.{is_some}
 use Rattle.std.specs.Option.{option_map_or}
 use Rattle.std.proofs.lemmas.Option.{slice_get_read, slice_get_within}
@@ -102,9 +102,7 @@ module _ {w : WorldNow} {h : HostState} {names : List Text} {gs : List Guest} {i
           (is_new ∙ ap₂ (λ (k : ℕ) (ons : List Bool). with_functions (with_file_nth (write ons moved (config word)) k h.state.functions) h) written.slots.index written.slots.others)
 
       world : with_guest_at i (with_slot_changed word_change n (guest_nth w i)) w ≡ with_lone_nth i (after_access_at (lone_nth w i) (writes v) width (at_target (configuration n off))) w
-      world =
-          ap (λ (change : File → File). with_guest_at i (with_slot_changed change n (guest_nth w i)) w) same_change
-          ∙ ap (λ (o : Option Landing). with_lone_nth i (record (lone_nth w i) { slots = effect (writes v) width (lone_nth w i).slots o }) w) (sym (lands off))
+      world = search (rules, lands, same_change, with_guest_at)
 
       pub config_written : Leaves (with_lone_nth i (after_access_at (lone_nth w i) (writes v) width (at_target (configuration n off))) w) h new names left
       config_written = leaves at.kept

@@ -1,5 +1,5 @@
 -- A byte that a device reads or writes of a function in a slot: the checks in their order, and the world afterwards.
-use Rattle.std.proofs.Common.{◌≡◌, ℕ, ◌%◌, Bool, true, false, not, cond, List, [], ◌∷◌, ◌||◌, Some, None, Option, refl, sym, ap, ◌∙◌, subst}
+use Rattle.std.proofs.Common.{◌≡◌, ℕ, ◌%◌, Bool, true, false, not, cond, List, [], ◌∷◌, ◌||◌, Some, None, Option, refl, sym, ap, ◌∙◌, subst, rules}
 use Rattle.std.specs.Prelude.{is_some, nat_le, IsSome}
 use Rattle.std.specs.Option.{option_map_or}
 use Rattle.lists.proofs.Indices.{set_same}
@@ -158,12 +158,7 @@ module _ {w : WorldNow} {h : HostState} {names : List Text} {gs : List Guest} {i
           cases true e = sym mine ∙ sym (ap is_own (place_same q p e)) ∙ device_not_own q reach.own
 
       still_held : IsHeld w.handoff slot.p f reach.held
-      still_held = record {
-        row = slot.held.row;
-        placed = slot.held.placed;
-        regions = slot.held.regions;
-        own = λ p mine. change_beside (with_value (v % 256)) slot.f.file q p (apart p mine) ∙ slot.held.own p mine;
-      }
+      still_held = search (rules, apart, change_beside)
 
       alike : with_change_at (set_value v q) slot.p (board_state w) ≡ with_change_at (byte_change slot.f.file v q) slot.p (board_state w)
       alike =

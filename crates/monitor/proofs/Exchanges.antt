@@ -1,5 +1,5 @@
 -- Guests after a slot of one of them has another function, or none.
-use Rattle.std.proofs.Common.{◌≡◌, ℕ, zero, suc, ◌<◌, List, [], ◌∷◌, length, Some, Option, slice_get, slice_set, refl, sym, ap, ◌∙◌, subst, arith, ◌≤◌}
+use Rattle.std.proofs.Common.{◌≡◌, ℕ, zero, suc, ◌<◌, List, [], ◌∷◌, length, Some, Option, slice_get, slice_set, refl, sym, ap, ◌∙◌, subst, arith, ◌≤◌, rules}
 use Rattle.std.proofs.lemmas.List.{length-set, set-set}
 use Rattle.std.proofs.lemmas.Option.{slice_get_within}
 use Rattle.model_guests.specs.Text.{Text}
@@ -69,10 +69,7 @@ module _ {w : WorldNow} {h : HostState} {names : List Text} {gs : List Guest} {i
   before_is is = let a = is.there in let b = at.stands in cc
 
   pub held_same : {n : ℕ} {held found : Held} {o : Option Held} {new : List Guest} → SlotAt at n held → IsExchanged gs i n (Some found) o new → found ≡ held
-  held_same {n} {held} {found} slot is =
-      let a : slice_get g.slots.items n ≡ Some (Some found) = ap (λ (k : Guest). slice_get k.slots.items n) (sym (before_is is)) ∙ is.had in
-      let b = slot.holds in
-      cc
+  held_same {n} {held} {found} slot is = search (rules, before_is)
 
   -- as code lends the guests
   abbrev pub holds_nth : {n : ℕ} {held : Held} → SlotAt at n held → HoldsAt gs i n

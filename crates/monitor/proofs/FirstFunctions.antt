@@ -1,12 +1,12 @@
 -- An endpoint as it stands in a guest's slot at first: at reset, where the host has it.
-use Rattle.std.proofs.Common.{◌≡◌, ◌≤◌, ◌+◌, ℕ, false, List, [], ◌∷◌, Option, Some, None, refl, sym, ap, ◌∙◌, subst}
+use Rattle.std.proofs.Common.{◌≡◌, ◌≤◌, ◌+◌, ℕ, false, List, [], ◌∷◌, Option, Some, None, refl, sym, ap, ◌∙◌, subst, rules}
 use Rattle.std.specs.Prelude.{map, find, slice_get, ⊤, IsSome, MatchOption, option_and_then}
 use Rattle.std.specs.Option.{option_map_or}
 use Rattle.lists.specs.Elements.{Each}
 use Rattle.lists.proofs.EachLemmas.{each_map}
 use Rattle.lists.proofs.Indices.{map_at}
 use Rattle.model_registers.specs.Declarations.{Bar, Region, Endpoint, HasLawfulRegions}
-use Rattle.model_registers.specs.DeclarationRules.{IsLawfulEndpoint, IsConfigBlock}
+use Rattle.model_registers.specs.DeclarationRules.{IsLawfulEndpoint}
 use Rattle.model_registers.specs.EndpointTable.{BaseAddress, opened, closed, endpoint_reset}
 use Rattle.model_registers.specs.OwnCopies.{OwnCopies, HoldsOwn, bare}
 use Rattle.model_registers.specs.Registers.{File}
@@ -16,7 +16,7 @@ use Rattle.model_board.specs.Paths.{Path}
 use Rattle.model_board.specs.Board.{endpoint}
 use Rattle.model_board.specs.AtReset.{board_at}
 use Rattle.model_board.specs.Ports.{file_at}
-use Rattle.model_board.specs.State.{BoardFunction, State, row_at}
+use Rattle.model_board.specs.State.{BoardFunction, State}
 use Rattle.model_audit.specs.Orderly.{IsStateOfBoard}
 use Rattle.model_guests.specs.Slots.{reset_function}
 use Rattle.model_guests.specs.World.{declared}
@@ -68,13 +68,7 @@ module _ (s : State) (i : ℕ) (p : Path) (f : Function) (is : IsStanding s i p 
         → ((e : Endpoint) → Each (λ b. 0x40 ≤ b.offset) e.blocks → map closed e.regions ≡ at_reset bars → HoldsOwn (endpoint_reset e false) own)
         → (placed : List (Option Placed)) → bases_from 0 placed ≡ bases_nth s.functions i
         → IsHeld s p f (record { own = own; placed = placed; index = i })
-    held_at_first own own_is reset placed bases = record {
-      row = map_at row_at s.functions i (record { path = p; decl = endpoint f.decl; file = file_at s.functions p }) is.there;
-      placed = bases ∙ bases_there;
-      regions = sym (opened_closed f.decl.regions) ∙ ap (map opened) (sym (rest ∙ closed_there)) ∙ ap (λ (o : OwnCopies). map opened o.bases) (sym own_is);
-      own = subst (λ (file : File). HoldsOwn file own) (sym is.at_reset)
-          (reset f.decl (each_map IsConfigBlock (λ c. 0x40 ≤ c.offset) f.decl.blocks (λ c k. k.begins) is.lawful.config_blocks) (sym (rest ∙ closed_there)));
-    }
+    held_at_first own own_is reset placed bases = search (rules, bases_there, closed_there, each_map, map_at, opened_closed)
 
 -- ---- the endpoint at a path
 

@@ -1,5 +1,5 @@
 -- Slots and guests, one after the other, as they are before any of them did anything.
-use Rattle.std.proofs.Common.{◌≡◌, ◌≤◌, ◌+◌, ◌-◌, ℕ, zero, suc, List, [], ◌∷◌, ◌++◌, length, take, Option, Some, None, refl, sym, ap, ◌∙◌, subst, arith}
+use Rattle.std.proofs.Common.{◌≡◌, ◌≤◌, ◌+◌, ◌-◌, ℕ, zero, suc, List, [], ◌∷◌, ◌++◌, length, take, Option, Some, None, refl, sym, ap, ◌∙◌, subst, rules}
 use Rattle.std.specs.Prelude.{map, flat_map, replicate, slice_get, IsSome}
 use Rattle.std.proofs.lemmas.List.{append-nil, append_assoc, map-append, length-map, take_all}
 use Rattle.lists.specs.Elements.{Each}
@@ -82,10 +82,7 @@ module _ (h : HostState) where
       (slots_push h.state (qs ++ replicate k None) (map reset_function (ds ++ replicate k None)) os None None None are tt))
 
   pub all_slots : (ps : List Path) (k : ℕ) (os : List (Option Held)) → k ≡ 32 - length ps → AreSlotsWith h ps k os → AreSlotsAtFirst h ps os
-  all_slots ps k os all are =
-      let short : 32 - length (map (declared b) ps) ≡ 32 - length ps = ap (λ n. 32 - n) (length-map ps (declared b)) in
-      subst (λ n. AreSlots h.state (map Some ps ++ replicate (32 - length ps) None) (map reset_function (map (declared b) ps ++ replicate n None)) os) (sym short)
-      (subst (λ n. AreSlotsWith h ps n os) all are)
+  all_slots ps k os all are = search (rules, length-map)
 
 -- ---- guests
 

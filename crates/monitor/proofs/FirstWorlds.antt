@@ -1,5 +1,5 @@
 -- The world over a handoff that a monitor takes over, with its guests, is kept at first; what set-up leaves is a case.
-use Rattle.std.proofs.Common.{◌≡◌, List, refl, sym, ap, ◌∙◌, subst}
+use Rattle.std.proofs.Common.{◌≡◌, List, refl, sym, ap, ◌∙◌, subst, rules}
 use Rattle.std.specs.Prelude.{map}
 use Rattle.model_board.specs.Routing.{routing}
 use Rattle.model_board.specs.State.{State}
@@ -48,13 +48,7 @@ module _ (h : HostState) (ds : List Declared) (handoff : IsHandoff h.state) (law
 
     module _ (names : List Text) (names_are : names ≡ map (λ (g : Declared). g.name) ds) (kept_guests : List Guest) (are : AreGuests s (map (λ (g : Declared). g.name) ds) gs kept_guests) where
       pub kept_at_first : IsKept (world_over w t) k names kept_guests
-      kept_at_first = subst (λ (ts : List Text). IsKept (world_over w t) k ts kept_guests) (sym names_are) (record {
-        lawful = taken_lawful w s handoff refl lawful can;
-        clear = refl;
-        at_reset = taken_shown w s handoff refl lawful;
-        agrees = ap (λ (x : HostState). x.state) taken ∙ sym (taken_agrees w s handoff refl lawful);
-        guests = guests_carried s t handoff.board alike.handoff.board alike.board alike.routing_is (map (λ (g : Declared). g.name) ds) gs kept_guests are;
-      })
+      kept_at_first = search (rules, alike, guests_carried, taken_agrees, taken_lawful, taken_shown)
 
       pub sound_at_first : IsSound k names kept_guests
       sound_at_first = is_sound (world_over w t) k names kept_guests kept_at_first
@@ -84,6 +78,4 @@ module _ (r : ReadyBoard) (ready : IsReady r) (ds : List Declared) (lawful : Has
 
   -- given functions are at reset already, and the latch is clear
   pub ready_world : world_over v (taken_over v r.host.state) ≡ world_at_first v
-  ready_world =
-      ap (λ (x : State). world_over v (taken_over v x)) ready.registers
-      ∙ ap (λ (x : State). let c : State = record x { latch = 0 } in world_over v c) stays
+  ready_world = search (rules, stays)

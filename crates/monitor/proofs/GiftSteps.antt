@@ -1,5 +1,5 @@
 -- A function of the board that no guest of a world that is kept has: the checks in their order, and how it is kept in a slot.
-use Rattle.std.proofs.Common.{◌≡◌, ◌≤◌, ◌+◌, ℕ, Bool, true, false, not, ◌||◌, cond, List, [], ◌∷◌, Some, None, Option, refl, sym, ap, ap₂, ◌∙◌, subst, arith}
+use Rattle.std.proofs.Common.{◌≡◌, ◌≤◌, ◌+◌, ℕ, Bool, true, false, not, ◌||◌, cond, List, [], ◌∷◌, Some, None, Option, refl, sym, ap, ap₂, ◌∙◌, subst, arith, rules}
 use Rattle.std.specs.Prelude.{find, map, is_some, nat_le, option_map, slice_get, Ok, Err, MatchOption, ⊤}
 use Rattle.std.specs.List.{list_any}
 use Rattle.std.specs.Option.{option_map_or}
@@ -11,7 +11,7 @@ use Rattle.model_registers.specs.Declarations.{Region as Declared, Endpoint, Has
 use Rattle.model_registers.specs.DeclarationRules.{IsLawfulEndpoint}
 use Rattle.model_registers.specs.EndpointTable.{BaseAddress, opened}
 use Rattle.model_registers.specs.Decoding.{Function, base_address, command_word, opens_space, space_of}
-use Rattle.model_board.specs.Paths.{Path, path_eq}
+use Rattle.model_board.specs.Paths.{Path}
 use Rattle.model_board.specs.Board.{Row, Board, IsBoard, Decl, endpoint, bridge}
 use Rattle.model_board.specs.AtReset.{board_at}
 use Rattle.model_board.specs.Ports.{file_at}
@@ -160,10 +160,7 @@ closed_bases command file (r ∷ rs) = ap (λ t. not (opens_space command (space
 
 pub closed_told : (fs : List BoardFunction) (i : ℕ) (f : BoardFunction) → slice_get fs i ≡ Some f → (command : ℕ) → Some command ≡ option_map (λ (g : BoardFunction). number g.file (config 4) 2) (slice_get fs i) → (placed : List (Option Region)) → bases_from 0 placed ≡ bases_nth fs i
     → list_any (is_closed_slot command) placed ≡ list_any (is_closed_base (command_word f.file)) (bases_of f.decl f.file)
-closed_told fs i f at command told placed bases =
-    let is : command ≡ command_word f.file = cc (told ∙ ap (option_map (λ (g : BoardFunction). number g.file (config 4) 2)) at) in
-    closed_slots command 0 placed ∙ ap (list_any (is_closed_base command)) (bases ∙ ap (λ (o : Option BoardFunction). option_map_or (λ (g : BoardFunction). bases_of g.decl g.file) o []) at)
-    ∙ ap (λ (n : ℕ). list_any (is_closed_base n) (bases_of f.decl f.file)) is
+closed_told fs i f at command told placed bases = search (rules, closed_slots)
 
 -- ---- a world that is kept
 
@@ -179,9 +176,7 @@ module _ (w : WorldNow) (h : HostState) (names : List Text) (gs : List Guest) (k
 
   module _ (i : ℕ) (is : IsEndpointAt h.state p i) where
     pub closed_is : list_any (is_closed_base (command_word (file_at h.state.functions p))) (map (base_address (file_at h.state.functions p)) is.d.regions) ≡ has_closed_region w.handoff p is.d
-    closed_is =
-        closed_bases (command_word (file_at h.state.functions p)) (file_at h.state.functions p) is.d.regions
-        ∙ ap (λ (c : ℕ). list_any (λ (r : Declared). not (opens_space c (space_of r.kind))) is.d.regions) command_is
+    closed_is = search (rules, closed_bases, command_is)
 
     lawful : IsLawfulEndpoint is.d
     lawful =
@@ -218,10 +213,7 @@ module _ (w : WorldNow) (h : HostState) (names : List Text) (gs : List Guest) (k
 
       fault_is : (had full closed : Bool) → sits w.guests p ≡ had → is_some (function_in w.guests (name_nth w j) n) ≡ full → has_closed_region w.handoff p is.d ≡ closed
           → give_fault w (gift_nth w p j n) ≡ after_path had full closed
-      fault_is had full closed a b c =
-          within low ∙ ap (endpoint_fault w (gift_nth w p j n)) (sym declared_is ∙ is.declares)
-          ∙ ap (λ t. after_path t (is_some (function_in w.guests (name_nth w j) n)) (has_closed_region w.handoff p is.d)) a
-          ∙ ap₂ (λ t u. after_path had t u) b c
+      fault_is had full closed a b c = search (rules, declared_is, within)
 
       row_is : slice_get (board_at w.handoff.functions) i ≡ Some (record { path = p; decl = endpoint is.d })
       row_is =

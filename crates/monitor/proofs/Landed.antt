@@ -1,5 +1,5 @@
 -- Where an address of a guest lands: slot after slot, by the guest's own copies.
-use Rattle.std.proofs.Common.{◌≡◌, ℕ, zero, suc, ◌+◌, ◌<◌, ◌≤◌, List, [], ◌∷◌, length, Some, None, Option, drop, slice_get, refl, sym, ap, ◌∙◌, arith}
+use Rattle.std.proofs.Common.{◌≡◌, ℕ, zero, suc, ◌+◌, ◌<◌, ◌≤◌, List, [], ◌∷◌, length, Some, None, Option, drop, slice_get, refl, sym, ap, ◌∙◌, arith, rules}
 use Rattle.std.specs.Prelude.{option_map, unwrap_or}
 use Rattle.std.proofs.lemmas.List.{drop_all}
 use Rattle.lists.specs.Elements.{first_of_two}
@@ -33,10 +33,7 @@ module _ (space : Space) (addr : ℕ) where
 
     -- an empty slot
     pub passed_empty : unwrap_or (slice_get os n) None ≡ None → landing_from n space addr (drop n fs) ≡ landing_from (n + 1) space addr (drop (n + 1) fs)
-    passed_empty none =
-        next fs n n inside
-        ∙ ap (λ (o : Option Function). first_of_two (landing_in n space addr o) (landing_from (n + 1) space addr (drop (n + 1) fs)))
-        (slot_empty s qs fs os n are none)
+    passed_empty none = search (rules, inside, next, slot_empty)
 
     decoded : (h : Held) → slice_get os n ≡ Some (Some h) → (o : Option Hit) → Decodes h.own space addr o
         → landing_from n space addr (drop n fs)

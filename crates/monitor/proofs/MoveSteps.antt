@@ -1,5 +1,5 @@
 -- A move of a function in a world that is kept: the slot that it leaves, and the slot that it comes to.
-use Rattle.std.proofs.Common.{◌≡◌, ℕ, zero, suc, false, ◌||◌, not, cond, List, [], ◌∷◌, Some, None, Option, slice_get, slice_set, refl, sym, ap, ap₂, ◌∙◌, subst, Bool, arith, true, ◌<◌}
+use Rattle.std.proofs.Common.{◌≡◌, ℕ, zero, suc, false, ◌||◌, not, cond, List, [], ◌∷◌, Some, None, Option, slice_get, slice_set, refl, sym, ap, ap₂, ◌∙◌, subst, Bool, arith, true, ◌<◌, rules}
 use Rattle.std.specs.Prelude.{is_some, nat_le, unwrap_or, IsSome}
 use Rattle.std.specs.Option.{option_map_or}
 use Rattle.std.proofs.lemmas.Bool.Decides.{nat_tests}
@@ -90,13 +90,7 @@ module _ {w : WorldNow} {h : HostState} {names : List Text} {gs : List Guest} {i
 
   pub left_guests : {n : ℕ} {was : Option Held} {left : List Guest} → (is : IsExchanged gs i n was None left)
       → AreGuests w.handoff names (slice_set w.guests i (with_slot_emptied n (guest_nth w i))) (slice_set gs i is.guest)
-  left_guests {n} is =
-      guests_set w.handoff names w.guests gs i (guest_nth w i) (with_slot_emptied n (guest_nth w i)) is.guest at.kept.guests at.there (λ t e. record {
-        name_is = e;
-        latch = at.is.latch ∙ sym (latch_stays at is);
-        slots = subst (AreSlots w.handoff (slice_set (guest_nth w i).paths n None) (slice_set (lone_nth w i).slots n None)) (sym (items_are at is))
-            (slots_put w.handoff (guest_nth w i).paths (lone_nth w i).slots g.slots.items n None None None at.is.slots tt);
-      })
+  left_guests {n} is = search (rules, guests_set, items_are, latch_stays, slots_put)
 
 -- a move between two guests, or from one to itself
 module _ {w : WorldNow} {h : HostState} {names : List Text} {gs : List Guest} {i j : ℕ} {g k : Guest} (from : GuestAt w h names gs i g) (to : GuestAt w h names gs j k) (n m : ℕ)

@@ -1,5 +1,5 @@
 -- Where an access at a guest's port goes, from the program's word, and a write of its own latch.
-use Rattle.std.proofs.Common.{◌≡◌, ℕ, ◌∙◌, Bool, true, false, ◌&&◌, cond, [], None, refl, sym, ap, List, Some, slice_get, slice_set, subst}
+use Rattle.std.proofs.Common.{◌≡◌, ℕ, Bool, true, false, ◌&&◌, cond, [], None, refl, sym, List, Some, slice_get, slice_set, subst, rules}
 use Rattle.std.specs.Prelude.{not, ◌==◌}
 use Rattle.model_registers.specs.ConfigAddress.{is_enabled, is_data_port, is_address_port, selected_bus, selected_device, selected_function, selected_offset, latched}
 use Rattle.model_guests.specs.Accesses.{port, Op, reads, writes}
@@ -33,9 +33,7 @@ same_select latch a = cases (is_enabled latch && is_data_port a) (selected_bus l
     cases false u = refl
 
 pub destination_is : {latch own : ℕ} (a width : ℕ) {s : Select} → own ≡ latch → is_address_port a width ≡ false → s ≡ program.select_at own a → by_select (port a) (named_select s) ≡ destination latch width (port a)
-destination_is {latch} {own} a width {s} same not_latch is =
-    ap (λ x. by_select (port a) (named_select x)) (is ∙ ap (λ l. program.select_at l a) same) ∙ ap (by_select (port a)) (same_select latch a)
-    ∙ ap (λ t. cond t own_latch (by_select (port a) (lone.select_at latch a))) (sym not_latch)
+destination_is {latch} {own} a width {s} same not_latch is = search (rules, same_select)
 
 -- where nothing answers
 pub nothing_at : (l : lone.LoneGuest) (op : Op) (w : ℕ) → perform op w [] None ≡ reply_at l op w no_function

@@ -1,5 +1,5 @@
 -- What is kept of a guest shows what its regions are, and what its accesses hit.
-use Rattle.std.proofs.Common.{◌≡◌, ◌≤◌, ◌<◌, ℕ, zero, suc, ◌+◌, ◌*◌, ◌/◌, Bool, true, false, cond, eqb, List, [], ◌∷◌, Some, None, Option, Err, slice_get, refl, sym, ap, ap₂, ◌∙◌, subst, arith}
+use Rattle.std.proofs.Common.{◌≡◌, ◌≤◌, ◌<◌, ℕ, zero, suc, ◌+◌, ◌*◌, ◌/◌, Bool, true, false, cond, eqb, List, [], ◌∷◌, Some, None, Option, Err, slice_get, refl, sym, ap, ap₂, ◌∙◌, subst, arith, rules}
 use Rattle.std.specs.Prelude.{find, map, nat_le, option_map, Result, is_some}
 use Rattle.std.specs.Option.{option_map_or, ok_or}
 use Rattle.std.proofs.lemmas.Bool.Decides.{nat_tests}
@@ -62,11 +62,7 @@ pub record IsWordRead (own : OwnCopies) (off v others : ℕ) : Type 0 where
   pub together : (file : File) → HoldsOwn file own → read file (config off) (all_bytes 4) ≡ v + read file (config off) (lanes others)
 
 register_read : (own : OwnCopies) (file : File) → HoldsOwn file own → (n off v others : ℕ) → n < 6 → off ≡ 0x10 + 4 * n → IsWordRead own off v others → number file (config off) 4 ≡ v
-register_read own file holds n off v others low at is =
-    let alone : lanes others ≡ false ∷ false ∷ false ∷ false ∷ [] = is.others_are ∙ ap (λ (o : ℕ). handed_on (config o) (all_bytes 4)) at ∙ own_register n low in
-    let rest : v + read file (config off) (lanes others) ≡ v + 0 = ap (λ (ons : List Bool). v + read file (config off) ons) alone in
-    let none : v + 0 ≡ v = omega arith in
-    is.together file holds ∙ rest ∙ none
+register_read own file holds n off v others low at is = search (rules, own_register)
 
 pub wide_base : (own : OwnCopies) (file : File) → HoldsOwn file own → (n low high others more : ℕ) → IsWordRead own (0x10 + 4 * n) low others → IsWordRead own (0x10 + 4 * n + 4) high more
     → (k : Kind) (pref : Bool) → k ≡ mem64 pref → n + registers_of k ≤ 6 → (low + 0x100000000 * high) / 16 * 16 ≡ base file n k
@@ -163,21 +159,11 @@ a_region s p f h n x held lawful some = by_region (region_at f n) refl (ap (opti
         }
 
 same_region : (x y : RegionNow) → x.space ≡ y.space → x.first ≡ y.first → x.size ≡ y.size → x.prefetchable ≡ y.prefetchable → x.is_open ≡ y.is_open → x ≡ y
-same_region x y e1 e2 e3 e4 e5 =
-    ap (λ s. record x { space = s }) e1 ∙ ap (λ n. record x { space = y.space; first = n }) e2
-    ∙ ap (λ n. record x { space = y.space; first = y.first; size = n }) e3
-    ∙ ap (λ t. record y { prefetchable = t; is_open = x.is_open }) e4 ∙ ap (λ t. record y { is_open = t }) e5
+same_region x y e1 e2 e3 e4 e5 = search rules
 
 pub region_told : (f : Function) (n : ℕ) (x : program.Region) → IsRegionAt f n x → (k : Kind) → k ≡ x.decl.kind → (v : RegionNow) → v.space ≡ space_of k → (n + registers_of k ≤ 6 → v.first ≡ base f.file n k)
     → v.size ≡ x.decl.size → v.prefetchable ≡ is_prefetchable k → v.is_open ≡ is_open f.file (space_of k) → Some v ≡ option_map (region_now f.file) (region_at f n)
-region_told f n x is k kind v space first size pref opened =
-    let same : k ≡ is.region.kind = kind ∙ sym is.kind in
-    let room : n + registers_of k ≤ 6 = subst (λ (y : Kind). n + registers_of y ≤ 6) (sym same) is.room in
-    ap (λ (r : RegionNow). Some r)
-    (same_region v (region_now f.file is.region) (space ∙ ap space_of same)
-    (first room ∙ ap (base f.file n) same ∙ ap (λ (m : ℕ). base f.file m is.region.kind) (sym is.index))
-    (size ∙ sym is.size) (pref ∙ ap is_prefetchable same) (opened ∙ ap (λ (y : Kind). is_open f.file (space_of y)) same))
-    ∙ ap (option_map (region_now f.file)) (sym is.there)
+region_told f n x is k kind v space first size pref opened = search (rules, same_region)
 
 -- ---- a guest by its index
 

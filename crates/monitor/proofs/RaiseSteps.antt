@@ -1,6 +1,6 @@
 -- A raise of bits of a function in a slot: the checks in their order, and the world after it.
-use Rattle.std.proofs.Common.{◌≡◌, ◌≤◌, ℕ, Bool, true, false, cond, List, Some, None, Option, refl, sym, ap, ◌∙◌, subst}
-use Rattle.std.specs.Prelude.{is_some, not, nat_le, nat_lt, if◌then◌else◌}
+use Rattle.std.proofs.Common.{◌≡◌, ◌≤◌, ℕ, Bool, true, false, cond, List, Some, None, Option, refl, sym, ap, ◌∙◌, subst, rules}
+use Rattle.std.specs.Prelude.{is_some, not, nat_lt, if◌then◌else◌}
 use Rattle.std.specs.List.{list_any}
 use Rattle.std.specs.Option.{option_map_or}
 use Rattle.lists.proofs.Indices.{set_same}
@@ -10,9 +10,8 @@ use Rattle.model_registers.specs.Decoding.{Function}
 use Rattle.model_board.specs.Paths.{Path}
 use Rattle.model_board.specs.State.{State}
 use Rattle.model_guests.specs.Accesses.{Raise, raises, done, refused}
-use Rattle.model_guests.specs.Slots.{slot_at, raise_place, raise_landing, raise_fault, affected}
-use Rattle.model_guests.specs.Slots as guests
-use Rattle.model_guests.specs.Lone.{LoneGuest, answer, after_event}
+use Rattle.model_guests.specs.Slots.{raise_place, raise_fault, affected}
+use Rattle.model_guests.specs.Lone.{answer, after_event}
 use Rattle.model_guests.specs.WorldNow.{WorldNow}
 use Rattle.model_guests.specs.ChangeLaws.{with_slot_changed}
 use Rattle.model_guests.proofs.AgreedFiles.{raises_alike}
@@ -68,18 +67,14 @@ module _ {w : WorldNow} {h : HostState} {names : List Text} {gs : List Guest} {i
         sym (with_same at) ∙ ap (λ (o : Option ℕ). with_lone_nth i (if is_some o then lone_nth w i else record (lone_nth w i) { slots = affected (lone_nth w i).slots (raises r) }) w) (sym fault)
 
   pub raise_slot_refused : {slots : List (Option Held)} → slots ≡ g.slots.items → (r : Raise) {number : ℕ} → IsSlotFault slots r.slot number → raise_fault (lone_nth w i).slots r ≡ Some number
-  raise_slot_refused same r fault =
-      refused_first (nat_le 32 r.slot) (is_some (slot_at (lone_nth w i).slots r.slot)) (cond (not (is_some (raise_landing (slot_at (lone_nth w i).slots r.slot) r))) (Some 303) None)
-      (fault_lent at r.slot same fault)
+  raise_slot_refused same r fault = search (rules, fault_lent, refused_first)
 
   module _ {n : ℕ} {held : Held} (slot : SlotAt at n held) (low : n ≤ 31) (place : headers.Place) (off mask : ℕ) where
     abbrev r : Raise
     r = raise_of n place off mask
 
     checked : raise_fault (lone_nth w i).slots r ≡ cond (not (is_some (raise_place slot.f (part_of place) off))) (Some 303) None
-    checked =
-        passes_slot (low_slot low) (ap is_some slot.function) (cond (not (is_some (raise_landing (slot_at (lone_nth w i).slots n) r))) (Some 303) None)
-        ∙ ap (λ (o : Option Function). cond {A = Option ℕ} (not (is_some (raise_landing o r))) (Some 303) None) slot.function
+    checked = search (rules, low_slot, passes_slot)
 
     pub no_place : HasPlace held place off false → raise_fault (lone_nth w i).slots r ≡ Some 303
     no_place has = checked ∙ ap (λ (t : Bool). cond {A = Option ℕ} (not t) (Some 303) None) (sym (has w.handoff slot.p slot.f slot.held))
@@ -98,11 +93,7 @@ module _ {w : WorldNow} {h : HostState} {names : List Text} {gs : List Guest} {i
       own_change = raise mask (place_of place off)
 
       world : with_lone_nth i (after_event (lone_nth w i) (raises r)) w ≡ with_guest_at i (with_slot_changed own_change n (guest_nth w i)) w
-      world =
-          let lone : LoneGuest = lone_nth w i in
-          ap (λ (o : Option ℕ). with_lone_nth i (if is_some o then lone else record lone { slots = affected lone.slots (raises r) }) w) passes
-          ∙ ap (λ (o : Option Place). with_lone_nth i (record lone { slots = option_map_or (λ (q : Place). guests.with_file (raise mask q) n lone.slots) o lone.slots }) w)
-          (ap (λ (o : Option Function). raise_landing o r) slot.function ∙ raised_at)
+      world = search (rules, passes, raised_at)
 
       pub raise_written : {new : HostState} → new ≡ with_functions (with_file_nth (raised_beside_copies mask (place_of place off)) held.index h.state.functions) h
           → Leaves (with_lone_nth i (after_event (lone_nth w i) (raises r)) w) h new names gs

@@ -1,6 +1,6 @@
 -- A guest's address on the board: where it lands, the claim there, and what is read and written.
-use Rattle.std.proofs.Common.{◌≡◌, ℕ, ◌+◌, ◌%◌, Bool, true, false, ◌&&◌, inl, inr, List, [], ◌∷◌, Some, Option, slice_get, refl, sym, ap, ap₂, ◌∙◌, subst, arith, None}
-use Rattle.std.specs.Prelude.{find, map, IsTrue, not, option_map, IsSome}
+use Rattle.std.proofs.Common.{◌≡◌, ℕ, ◌+◌, ◌%◌, Bool, inl, inr, List, [], ◌∷◌, Some, Option, slice_get, refl, sym, ap, ap₂, ◌∙◌, subst, arith, None, rules}
+use Rattle.std.specs.Prelude.{find, map, IsTrue, option_map, IsSome}
 use Rattle.std.specs.Option.{option_map_or}
 use Rattle.std.proofs.lemmas.Option.{slice_get_within}
 use Rattle.lists.specs.Elements.{EachPair}
@@ -10,10 +10,10 @@ use Rattle.model_audit.proofs.Pairs.{pairs_from_map}
 use Rattle.model_registers.specs.Registers.{Place, block, File, read, all_bytes, number}
 use Rattle.model_registers.specs.ByteEnables.{IsWidth}
 use Rattle.model_registers.specs.OwnCopies.{handed_on}
-use Rattle.model_registers.specs.Decoding.{Space, Function}
+use Rattle.model_registers.specs.Decoding.{Space}
 use Rattle.model_board.specs.Paths.{Path, path_eq, path_before}
 use Rattle.model_board.specs.Board.{endpoint, Row, Board, IsBoard}
-use Rattle.model_board.specs.State.{BoardFunction, row_at, State, with_file}
+use Rattle.model_board.specs.State.{BoardFunction, row_at, State}
 use Rattle.model_board.specs.Claims.{claim_at}
 use Rattle.model_board.specs.Cycles.{reached}
 use Rattle.model_board.specs.AtReset.{board_at}
@@ -104,9 +104,7 @@ module _ {w : WorldNow} {h : HostState} {names : List Text} {gs : List Guest} {i
     on_board = record { path = slot.p; decl = endpoint slot.f.decl; file = agreed_file left slot.f.file }
 
     pub board_row : slice_get functions held.index ≡ Some on_board
-    board_row =
-        board_there w.handoff at.kept.lawful.handoff w.guests slot.p slot.f (seat slot) held.index slot.held.row
-        (file_named board w.guests (guest_nth w i) n slot.p slot.f at.kept.lawful.seated (named at) slot.path slot.function)
+    board_row = search (rules, board_there, file_named, named, seat)
 
     pub found_on_board : find (λ (f : BoardFunction). path_eq f.path slot.p) functions ≡ Some on_board
     found_on_board = found_at on_board functions held.index distinct board_row
@@ -133,16 +131,10 @@ module _ {w : WorldNow} {h : HostState} {names : List Text} {gs : List Guest} {i
 
     -- a change of the cells there, and a reset
     pub changed_held : (g : File → File) {new : HostState} → new ≡ with_functions (with_file_nth g held.index h.state.functions) h → new.state ≡ with_change_at g slot.p h.state
-    changed_held g is_new =
-        let fs = h.state.functions in
-        ap (λ (k : HostState). k.state) is_new
-        ∙ ap (λ (o : Option BoardFunction). let t : State = record h.state { functions = option_map_or (λ (f : BoardFunction). with_file g f.path fs) o fs } in t) held_row
+    changed_held g is_new = search (rules, held_row)
 
     pub reset_of_held : {new : HostState} → new ≡ with_functions (with_reset_nth held.index h.state.functions) h → new.state ≡ with_change_at (after_reset slot.f.decl) slot.p h.state
-    reset_of_held is_new =
-        let fs = h.state.functions in
-        ap (λ (k : HostState). k.state) is_new
-        ∙ ap (λ (o : Option BoardFunction). let t : State = record h.state { functions = option_map_or (λ (e : Function). option_map_or (λ (f : BoardFunction). with_file (after_reset e.decl) f.path fs) o fs) (option_map_or as_endpoint o None) fs } in t) held_row
+    reset_of_held is_new = search (rules, held_row)
 
     pub places_same : places_of slot.f.file ≡ places_of left
     places_same = same_as_left w.handoff at.kept.lawful.handoff w.guests slot.p slot.f (seat slot)

@@ -1,24 +1,22 @@
 -- Of a world that is kept, what the host and the guests show is that world.
-use Rattle.std.proofs.Common.{◌≡◌, ℕ, zero, suc, false, List, [], ◌∷◌, Some, None, Option, slice_get, refl, sym, ap, ap₂, ◌∙◌, subst}
+use Rattle.std.proofs.Common.{◌≡◌, ℕ, zero, suc, false, List, [], ◌∷◌, Some, None, Option, slice_get, refl, sym, ap, ap₂, ◌∙◌, subst, rules}
 use Rattle.std.specs.Prelude.{find, map, option_map, MatchOption, ⊤}
 use Rattle.std.specs.Option.{option_map_or}
-use Rattle.lists.specs.Elements.{EachPair}
 use Rattle.lists.proofs.Indices.{at_map, each_at, index_in, map_at}
 use Rattle.lists.proofs.Members.{each_in}
 use Rattle.model_registers.specs.Registers.{File}
 use Rattle.model_registers.specs.Declarations.{Endpoint}
 use Rattle.model_registers.specs.DeclarationRules.{IsLawfulEndpoint}
 use Rattle.model_registers.specs.EndpointTable.{endpoint_reset}
-use Rattle.model_registers.specs.OwnCopies.{own_file}
 use Rattle.model_registers.specs.Decoding.{Function}
-use Rattle.model_registers.specs.CopiedFiles.{agreed_file, with_copies, places_of}
+use Rattle.model_registers.specs.CopiedFiles.{agreed_file, places_of}
 use Rattle.model_board.specs.Paths.{Path, path_eq}
 use Rattle.model_board.specs.Board.{endpoint, Board}
 use Rattle.model_board.specs.AtReset.{board_at}
 use Rattle.model_board.specs.Lawful.{HasLawfulDecls}
 use Rattle.model_board.specs.Ports.{file_at}
 use Rattle.model_board.specs.State.{BoardFunction, State, row_at}
-use Rattle.model_guests.specs.Accesses.{answered, refused}
+use Rattle.model_guests.specs.Accesses.{answered}
 use Rattle.model_guests.specs.Grammar.{HostRead}
 use Rattle.model_guests.specs.HostReads.{host_fault, shown}
 use Rattle.model_guests.specs.Text.{Text}
@@ -26,8 +24,8 @@ use Rattle.model_guests.specs.Slots.{Slots, slot_at}
 use Rattle.model_guests.specs.Guests.{GuestNow, GuestsNow, guest_named, file_of}
 use Rattle.model_guests.specs.WorldNow.{names_of, WorldNow, board_state, host_reply}
 use Rattle.model_guests.specs.AgreedBoard.{agreed_function, state_over}
-use Rattle.model_guests.specs.Seated.{IsSeatedAt, AreSeats, AreSeated, IsSeatedGuest}
-use Rattle.model_guests.proofs.DistinctPlaces.{Apart, distinct_places}
+use Rattle.model_guests.specs.Seated.{IsSeatedAt, AreSeats, AreSeated}
+use Rattle.model_guests.proofs.DistinctPlaces.{distinct_places}
 use Rattle.model_guests.proofs.FoundFiles.{same_places}
 use Rattle.model_guests.proofs.CopiesNeverRise.{declared_lawful}
 use Rattle.model_guests.proofs.ViewedFiles.{view_is_file}
@@ -39,7 +37,6 @@ use Rattle.model_handoff.specs.Handoffs.{IsHandoff, HasDeclaredPlaces}
 use Rattle.model_handoff.specs.ViewLaws.{with_seated_reset}
 use Rattle.model_handoff.proofs.Standing.{endpoint_at, found, StandsAt, stands}
 use Rattle.model_handoff.proofs.Views.{reset_shown}
-use Rattle.bridge_forward.specs.Lending.{as_endpoint}
 use Rattle.host_bridge.specs.HostState.{HostState}
 use Rattle.monitor.specs.declared.guest.Held.{Held}
 use Rattle.monitor.specs.declared.guest.Guest.{Guest}
@@ -90,11 +87,7 @@ module _ (s : State) (handoff : IsHandoff s) (gs : GuestsNow) (p : Path) (f : Fu
   same_as_left = places ∙ sym (each_in HasDeclaredPlaces left s.functions handoff.places there.among)
 
   pub shown_there : (h : Held) → IsHeld s p f h → file_of gs p ≡ Some f.file → function_shown (state_over s gs).functions h ≡ Some f
-  shown_there h held file =
-      ap (λ (o : Option BoardFunction). option_map (λ (g : Function). record g { file = with_copies (own_file h.own) g.file }) (option_map_or as_endpoint o None)) (board_there h.index held.row file)
-      ∙ ap (λ (x : File). Some (record f { file = x }))
-      (view_is_file left_file f.file (own_file h.own) (subst (EachPair Apart) (sym places) (distinct_places f.decl lawful false 0 (λ r. 0)))
-      same_as_left held.own)
+  shown_there h held file = search (rules, board_there, distinct_places, lawful, places, same_as_left, view_is_file)
 
 -- the guest's file at the path of a slot
 pub file_named : (b : Board) (gs : GuestsNow) (w : GuestNow) (n : ℕ) (p : Path) (f : Function) → AreSeated b gs → guest_named gs w.name ≡ Some w → path_at w.paths n ≡ Some p → slot_at w.lone.slots n ≡ Some f → file_of gs p ≡ Some f.file
@@ -146,14 +139,7 @@ shown_as_handed s gs = refl
 
 module _ (w : WorldNow) (h : HostState) (names : List Text) (gs : List Guest) (kept : IsKept w h names gs) where
   pub is_shown : world_shown h names gs ≡ w
-  is_shown =
-      let seated : AreSeated (board_at w.handoff.functions) w.guests = kept.lawful.seated in
-      let guests : guests_shown h.state.functions names gs ≡ w.guests = ap (λ (s : State). guests_shown s.functions names gs) kept.agrees
-      ∙ all_shown w.handoff kept.lawful.handoff w.guests seated names w.guests gs kept.guests
-      (λ i g at. ((by_index w.guests seated.names_apart i g at).0, (each_at (IsSeatedGuest (board_at w.handoff.functions)) w.guests i g seated.guests at).seats)) in
-      let handoff : handoff_shown h.state (guests_shown h.state.functions names gs) ≡ w.handoff =
-      ap₂ handoff_shown kept.agrees guests ∙ shown_as_handed w.handoff w.guests ∙ reset_shown w.handoff w.guests seated ∙ kept.at_reset in
-      λ i. record { handoff = handoff i; guests = guests i }
+  is_shown = search (rules, all_shown, by_index, each_at, reset_shown, shown_as_handed)
 
   pub is_sound : IsSound h names gs
   is_sound = subst (λ (v : WorldNow). IsKept v h names gs) (sym is_shown) kept
@@ -167,6 +153,4 @@ names_kept s ts ws gs are = absurd are
 
 pub host_replied : (s : State) (w : WorldNow) (r : HostRead) (o : Option ℕ) (value : ℕ) → s ≡ board_state w → o ≡ host_fault r → o ≡ None → value ≡ shown s r.width r.target
     → answered value r.width ≡ host_reply w r
-host_replied s w r o value same fault passed is =
-    ap (λ n. answered n r.width) (is ∙ ap (λ (t : State). shown t r.width r.target) same)
-    ∙ ap (λ (f : Option ℕ). option_map_or refused f (answered (shown (board_state w) r.width r.target) r.width)) (sym passed ∙ fault)
+host_replied s w r o value same fault passed is = search rules

@@ -1,5 +1,5 @@
 -- One guest of a world that is kept, one of its slots, and the world after a change of that slot.
-use Rattle.std.proofs.Common.{◌≡◌, ℕ, zero, suc, List, [], ◌∷◌, length, Some, None, Option, slice_get, slice_set, refl, sym, ap, ◌∙◌, subst}
+use Rattle.std.proofs.Common.{◌≡◌, ℕ, zero, suc, List, [], ◌∷◌, length, Some, None, Option, slice_get, slice_set, refl, sym, ap, ◌∙◌, subst, rules}
 use Rattle.std.specs.Prelude.{map, unwrap_or}
 use Rattle.std.specs.Option.{option_map_or}
 use Rattle.lists.proofs.Indices.{set_same}
@@ -138,11 +138,7 @@ kept_nth {w} {h} {names} {gs} {i} {g} kept stands =
 -- a change that keeps name and paths, and leaves seats seats
 pub seated_with : (b : Board) (gs : GuestsNow) (change : GuestNow → GuestNow) (name : Text) → Keeps change → ((t : GuestNow) → (change t).paths ≡ t.paths)
     → ((t : GuestNow) → IsSeatedGuest b t → IsSeatedGuest b (change t)) → AreSeated b gs → AreSeated b (with_guest change name gs)
-seated_with b gs change name keeps paths seats seated = record {
-  names_apart = names_stay change keeps name gs seated.names_apart;
-  guests = guests_stay (IsSeatedGuest b) change seats name gs seated.guests;
-  paths_apart = λ a c n m p h k. seated.paths_apart a c n m p (sym (paths_stay change keeps paths name a n gs) ∙ h) (sym (paths_stay change keeps paths name c m gs) ∙ k);
-}
+seated_with b gs change name keeps paths seats seated = search (rules, guests_stay, names_stay, paths_stay)
 
 -- the world with this guest there
 abbrev pub with_guest_at : ℕ → GuestNow → WorldNow → WorldNow

@@ -1,5 +1,5 @@
 -- A board that a monitor takes over: given functions at reset, one after the other.
-use Rattle.std.proofs.Common.{◌≡◌, ℕ, ◌+◌, Bool, true, false, ◌||◌, cond, List, [], ◌∷◌, ◌++◌, take, Option, Some, None, refl, sym, ap, ap₂, ◌∙◌, append_assoc, rules}
+use Rattle.std.proofs.Common.{◌≡◌, ℕ, ◌+◌, Bool, true, false, ◌||◌, cond, List, [], ◌∷◌, ◌++◌, take, Option, Some, None, refl, sym, ap, ap₂, ◌∙◌, rules}
 use Rattle.std.specs.Prelude.{map, flat_map, find, option_map, slice_get}
 use Rattle.std.specs.List.{list_any}
 use Rattle.std.specs.Option.{option_map_or}
@@ -110,12 +110,7 @@ pub none_reset : (h : HostState) → h ≡ reset_on h []
 none_reset h = ap (λ (fs : List BoardFunction). with_functions fs h) (sym (no_files (board_below h) h.state.functions))
 
 pub resets_joined : (h : HostState) (ps qs : List Path) → reset_on (reset_on h ps) qs ≡ reset_on h (ps ++ qs)
-resets_joined h ps qs =
-    let fs = h.state.functions in
-    let b = board_below h in
-    let now : List BoardFunction = map (agreed_function (files_given b ps)) fs in
-    ap (λ (c : Board). with_functions (map (agreed_function (files_given c qs)) now) h) (rows_stay (files_given b ps) fs)
-    ∙ ap (λ (gs : List BoardFunction). with_functions gs h) (files_joined b ps qs fs)
+resets_joined h ps qs = search (rules, files_joined, rows_stay)
 
 pub path_reset : (h k n : HostState) (ps : List Path) (i : ℕ) (p : Path) → slice_get ps i ≡ Some p → k ≡ reset_on h (take i ps) → n ≡ with_functions (with_endpoint_reset p k.state.functions) k
     → n ≡ reset_on h (take (i + 1) ps)

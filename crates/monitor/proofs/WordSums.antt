@@ -1,5 +1,5 @@
 -- The own copies of a word and its other bytes add up within 32 bits.
-use Rattle.std.proofs.Common.{◌≡◌, ℕ, ◌+◌, ◌*◌, ◌/◌, ◌%◌, ◌<◌, ◌≤◌, ◌^◌, ◌⊎◌, Bool, true, false, ◌&&◌, cond, inl, inr, List, [], ◌∷◌, refl, sym, ap, ap₂, ◌∙◌, subst, arith, lit≤}
+use Rattle.std.proofs.Common.{◌≡◌, ℕ, ◌+◌, ◌*◌, ◌/◌, ◌%◌, ◌<◌, ◌≤◌, ◌^◌, ◌⊎◌, Bool, true, false, cond, inl, inr, List, [], ◌∷◌, refl, sym, ap₂, ◌∙◌, subst, arith, lit≤, rules}
 use Rattle.std.specs.Prelude.{not}
 use Rattle.std.proofs.lemmas.Bool.Decides.{nat_tests}
 use Rattle.lists.proofs.Tests.{and_false}
@@ -17,14 +17,7 @@ base_is_own off h k = grind (arith, nat_tests)
 
 -- none of the bytes is handed on
 none : (F : File) (off : ℕ) (p q r s : Bool) → 0x10 ≤ off → off + 4 ≤ 0x28 → read F (config off) (handed_on (config off) (four p q r s)) ≡ 0
-none F off p q r s h k =
-    let a : is_own (config off) ≡ true = base_is_own off h (omega arith) in
-    let b : is_own (config (off + 1)) ≡ true = base_is_own (off + 1) (omega arith) (omega arith) in
-    let c : is_own (config (off + 1 + 1)) ≡ true = base_is_own (off + 1 + 1) (omega arith) (omega arith) in
-    let d : is_own (config (off + 1 + 1 + 1)) ≡ true = base_is_own (off + 1 + 1 + 1) (omega arith) (omega arith) in
-    let ons : handed_on (config off) (four p q r s) ≡ four false false false false =
-    λ i. (ap (λ (t : Bool). p && not t) a ∙ and_false p) i ∷ (ap (λ (t : Bool). q && not t) b ∙ and_false q) i ∷ (ap (λ (t : Bool). r && not t) c ∙ and_false r) i ∷ (ap (λ (t : Bool). s && not t) d ∙ and_false s) i ∷ [] in
-    ap (read F (config off)) ons
+none F off p q r s h k = search (rules, and_false, base_is_own)
 
 byte : (t : Bool) (n : ℕ) → cond t (n % 256) 0 < 256
 byte true n = omega arith

@@ -1,15 +1,10 @@
-use Rattle.std.proofs.Common.{sym, subst, List, map}
-use Rattle.model_registers.specs.Declarations.{HasLawfulRegions}
-use Rattle.model_registers.specs.EndpointTable.{BaseAddress, opened}
+use Rattle.std.proofs.Common.{rules}
 use Rattle.bridge_forward.specs.BasesNow.{bases_nth}
 use Rattle.monitor.proofs.FirstFunctions.{decls_reset, held_at_first}
 use Rattle.monitor.proofs.beginning.held_of.Goals as goal
 
 pub new-requires : goal.new-requires
-new-requires c =
-    let bs = bases_nth c.args.host.now.state.functions c.args.index in
-    let rest = decls_reset c.decls_of.result c.placed_nth-placed.result bs c.decls_of.ensures c.placed_nth-placed.ensures in
-    subst (λ (xs : List BaseAddress). HasLawfulRegions (map opened xs)) (sym rest) c.requires
+new-requires c = search (rules, decls_reset)
 
 pub returns : goal.returns
 returns c = λ p f is.

@@ -1,17 +1,12 @@
-use Rattle.std.proofs.Common.{◌≡◌, ◌∙◌, List, Option, length, drop, ap, sym}
+use Rattle.std.proofs.Common.{◌≡◌, ◌∙◌, length, drop, ap, sym, rules}
 use Rattle.std.specs.Prelude.{slice_index_or}
-use Rattle.monitor.specs.declared.guest.Held.{Held}
 use Rattle.monitor.specs.declared.guest.Guest.{Guest}
 use Rattle.std.proofs.lemmas.List.{take_at}
 use Rattle.monitor.proofs.ConfigSteps.{guest_written, same_at}
 use Rattle.monitor.proofs.config.write_guest.Goals as goal
 
 pub write_own-requires-clause-holds : goal.write_own-requires-clause-holds
-write_own-requires-clause-holds c =
-    let holds = c.requires.holds in
-    let same : c.index-guests-guest.result ≡ holds.guest = same_at c.args.guests.now c.args.guest holds.guest c.index-guests-guest.result holds.there c.index-guests-guest.is in
-    let items = c.deref_mut.ensures.value ∙ ap (λ (g : Guest). g.slots.items) (sym c.index-guests-guest.is ∙ same) in
-    record { held = holds.slot.held; there = ap (λ (os : List (Option Held)). Rattle.std.proofs.Common.slice_get os c.args.slot) items ∙ holds.slot.there }
+write_own-requires-clause-holds c = search (rules, same_at)
 
 pub returns : goal.returns
 returns c = λ holds.

@@ -1,4 +1,4 @@
-use Rattle.std.proofs.Common.{◌∙◌, refl, sym}
+use Rattle.std.proofs.Common.{◌∙◌, sym, rules}
 use Rattle.monitor.proofs.DeviceSteps.{out_of_reach, byte_refused}
 use Rattle.monitor.proofs.device.reached.Goals as goal
 
@@ -10,11 +10,4 @@ returns-then-not-reaches-clause-refused c =
     out_of_reach c.args.place c.args.off c.in-Ok.ensures.there (λ s p f held. sym (c.reaches.ensures.place s p f held) ∙ c.if-not-reaches.true)
 
 pub returns-clause-index : goal.returns-clause-index
-returns-clause-index c = record {
-  held = c.in-Ok.held.now;
-  there = c.in-Ok.ensures.there.there;
-  index_is = refl;
-  low = c.in-Ok.ensures.there.low;
-  reaches = λ s p f held. sym (c.reaches.ensures.place s p f held) ∙ c.if-not-reaches.false;
-  own = c.reaches.ensures.own c.if-not-reaches.false;
-}
+returns-clause-index c = search rules

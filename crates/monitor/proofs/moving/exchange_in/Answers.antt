@@ -1,4 +1,4 @@
-use Rattle.std.proofs.Common.{List, Option, ap, drop, length, refl, slice_get, slice_set, subst, sym, ◌<◌, ◌∙◌}
+use Rattle.std.proofs.Common.{List, Option, ap, drop, length, refl, slice_get, slice_set, sym, ◌∙◌, rules}
 use Rattle.std.specs.Prelude.{slice_index_or}
 use Rattle.monitor.specs.declared.guest.Guest.{Guest}
 use Rattle.monitor.specs.declared.guest.Held.{Held}
@@ -7,11 +7,7 @@ use Rattle.monitor.proofs.ConfigSteps.{same_at}
 use Rattle.monitor.proofs.moving.exchange_in.Goals as goal
 
 pub exchange-requires : goal.exchange-requires
-exchange-requires c =
-    let has = c.requires in
-    let same = same_at c.args.guests.now c.args.guest has.guest c.index-guests-guest.result has.there c.index-guests-guest.is in
-    let items = c.deref_mut.ensures.value ∙ ap (λ (g : Guest). g.slots.items) (sym c.index-guests-guest.is ∙ same) in
-    subst (λ (os : List (Option Held)). c.args.slot < length os) (sym items) has.inside
+exchange-requires c = search (rules, same_at)
 
 pub returns : goal.returns
 returns c =

@@ -1,12 +1,7 @@
-use Rattle.std.proofs.Common.{◌∙◌, ap, arith, sym}
-use Rattle.model_guests.specs.Guests.{GuestsNow}
-use Rattle.monitor.specs.Views.{texts, world_shown}
+use Rattle.std.proofs.Common.{◌∙◌, arith, rules}
 use Rattle.monitor.specs.DeviceBytes.{device_byte}
 use Rattle.model_devices.specs.DeviceEvents.{device_reads}
 use Rattle.model_devices.proofs.Bytes.{reads_leave_guests}
-use Rattle.model_guests.specs.WorldNow.{WorldNow}
-use Rattle.host_bridge.specs.HostState.{HostState}
-use Rattle.monitor.specs.ByIndex.{name_nth}
 use Rattle.monitor.proofs.DeviceSteps.{device_read, endpoint_reached, refused_there}
 use Rattle.monitor.proofs.ResetSteps.{device_refused, nothing_changed}
 use Rattle.monitor.proofs.Calls.{guest_in, inside_guests}
@@ -26,11 +21,7 @@ returns-in-Ok-clause-reply g c =
     device_read at c.deref.ensures.value c.in-Ok.ensures.index (c.from.ensures ∙ c.device_value_nth-value.ensures.value)
 
 pub returns-in-Ok-clause-after : goal.returns-in-Ok-clause-after
-returns-in-Ok-clause-after g c =
-    let e = c.self.inside in
-    let now = c.args.self.now in
-    ap (λ (k : HostState). world_shown k (texts e.names) e.guests.items) c.device_value_nth-value.ensures.after ∙ c.self.view_is
-    ∙ ap (λ (xs : GuestsNow). let v : WorldNow = record now { guests = xs } in v) (sym (reads_leave_guests (name_nth now c.args.guest) (device_byte c.args.slot c.args.place c.args.off) now.guests))
+returns-in-Ok-clause-after g c = search (rules, reads_leave_guests)
 
 pub returns-in-Err-clause-reply : goal.returns-in-Err-clause-reply
 returns-in-Err-clause-reply g c =

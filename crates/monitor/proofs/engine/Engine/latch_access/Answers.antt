@@ -1,4 +1,4 @@
-use Rattle.std.proofs.Common.{◌<◌, ◌∙◌, List, length, ap, sym, subst, arith}
+use Rattle.std.proofs.Common.{◌<◌, ◌∙◌, List, length, ap, sym, subst, arith, rules}
 use Rattle.lists.proofs.Indices.{at_below}
 use Rattle.model_guests.specs.Accesses.{answered}
 use Rattle.model_guests.specs.Lone.{own_latch, reply_at, after_access_at}
@@ -25,9 +25,7 @@ returns-in-Read-clause-reply g c =
     ap (λ n. answered n 4) (c.value.ensures ∙ sym at.is.latch) ∙ ap (λ (op : Op). reply_at (lone_nth c.args.self.now c.args.guest) (op_of op) 4 own_latch) (sym c.in-Read.is)
 
 pub returns-in-Read-clause-after : goal.returns-in-Read-clause-after
-returns-in-Read-clause-after g c =
-    same_nth c.args.self.now c.args.guest c.requires
-    ∙ ap (λ (op : Op). with_lone_nth c.args.guest (after_access_at (lone_nth c.args.self.now c.args.guest) (op_of op) 4 own_latch) c.args.self.now) (sym c.in-Read.is)
+returns-in-Read-clause-after g c = search (rules, same_nth)
 
 pub invariant_of-self : goal.invariant_of-self
 invariant_of-self g c =

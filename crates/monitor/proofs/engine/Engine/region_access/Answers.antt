@@ -1,4 +1,4 @@
-use Rattle.std.proofs.Common.{◌∙◌, ap, sym, arith}
+use Rattle.std.proofs.Common.{◌∙◌, ap, sym, arith, rules}
 use Rattle.model_guests.specs.Lone.{at_target, reply_at, after_access_at}
 use Rattle.bars.specs.Kinds.{named_space}
 use Rattle.host_bridge.specs.HostState.{HostState}
@@ -26,9 +26,7 @@ returns-in_default-clause-after g c =
     after_nowhere at (named_space c.args.space) c.args.addr c.deref.ensures.value c.in_default.ensures.landing (op_of c.args.op) c.args.width
 
 pub located-at-requires : goal.located-at-requires
-located-at-requires g c =
-    let at = guest_in c.self.invariant.1 c.self.view_is c.args.guest c.requires.there c.index.ensures in
-    holds_landed at (named_space c.args.space) c.args.addr c.deref.ensures.value c.in-Some.ensures.there c.deref-2.ensures.value
+located-at-requires g c = search (rules, guest_in, holds_landed)
 
 pub region_read-value-requires-clause-landing : goal.region_read-value-requires-clause-landing
 region_read-value-requires-clause-landing g c =
