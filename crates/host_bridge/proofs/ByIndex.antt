@@ -1,7 +1,7 @@
 -- One function of a board, lent by its index: it is the one at its path.
 --     IsLentAt fs i e      the function at an index is the endpoint that is lent
 --     IsLocated fs space a l      the first claim of an address is in the function at an index
-use Rattle.std.proofs.Common.{◌≡◌, ℕ, ◌<◌, zero, suc, Bool, true, false, cond, List, [], ◌∷◌, length, Option, Some, None, refl, sym, ap, ap₂, subst, ◌∙◌}
+use Rattle.std.proofs.Common.{◌≡◌, ℕ, ◌<◌, zero, suc, Bool, true, false, cond, List, [], ◌∷◌, length, Option, Some, None, refl, sym, ap, ap₂, subst, ◌∙◌, rules}
 use Rattle.std.specs.Prelude.{find, map, IsFalse, IsSome}
 use Rattle.std.specs.List.{slice_get, slice_set}
 use Rattle.std.specs.Option.{option_map, option_map_or}
@@ -10,7 +10,6 @@ use Rattle.model_registers.specs.Registers.{File}
 use Rattle.model_registers.specs.Decoding.{Space, Function}
 use Rattle.model_registers.specs.CopiedFiles.{after_reset}
 use Rattle.model_board.specs.Paths.{Path, path_eq}
-use Rattle.model_board.specs.Board.{endpoint}
 use Rattle.model_board.specs.State.{BoardFunction, with_file}
 use Rattle.model_board.specs.Claims.{Claim, claim_at, claim_of, first_claim}
 use Rattle.model_board.proofs.PathEnds.{path_self, path_eq-sym}
@@ -66,9 +65,7 @@ module _ (f : BoardFunction) where
   nth_at fs i distinct e = ap (λ o. option_map_or as_endpoint o None) (e ∙ sym (found_at fs i distinct e))
 
   pub with_nth : (w : Function) (fs : List BoardFunction) (i : ℕ) → HasDistinctPaths fs → slice_get fs i ≡ Some f → with_endpoint_nth i w fs ≡ with_endpoint f.path w fs
-  with_nth w fs i distinct e =
-      ap (λ o. option_map_or (λ (f : BoardFunction). slice_set fs i (record { path = f.path; decl = endpoint w.decl; file = w.file })) o fs) e
-      ∙ set_at (record { path = f.path; decl = endpoint w.decl; file = w.file }) fs i distinct e
+  with_nth w fs i distinct e = search (rules, set_at)
 
 -- ---- the endpoint that is lent
 

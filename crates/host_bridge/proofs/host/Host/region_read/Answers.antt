@@ -1,4 +1,4 @@
-use Rattle.std.proofs.Common.{◌∙◌, refl, ap, sym}
+use Rattle.std.proofs.Common.{◌∙◌, refl, ap, sym, rules}
 use Rattle.model_board.specs.Claims.{first_claim}
 use Rattle.model_board.specs.Ports.{claim_reply}
 use Rattle.host_bridge.specs.HostState.{HostState}
@@ -30,6 +30,4 @@ returns-clause-value c =
     ∙ ap (claim_reply c.args.self.now.state.functions c.args.width) (sym lands.claim)
 
 pub returns-clause-after : goal.returns-clause-after
-returns-clause-after c =
-    let root = c.self.inside.root in
-    rw (kept_nth root c.args.from.index c.in-Some.endpoint.now (sym c.in-Some.ensures.value) (distinct_paths root c.endpoint_nth.ensures.in_order)) c.self.view_is
+returns-clause-after c = search (rules, distinct_paths, kept_nth)
