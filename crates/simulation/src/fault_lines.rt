@@ -1,6 +1,6 @@
 //! The line of a fault.
-ghost use Rattle.std.specs.Prelude.{◌≡◌, ◌≤◌, ◌+◌, ◌/◌, ◌%◌, ◌∷◌, ◌++◌, [], length};
-ghost use Rattle.simulation.specs.Faults.{number_of, words_of, line_of};
+ghost use Rattle.std.specs.Prelude.{◌≡◌, ◌+◌, ◌/◌, ◌%◌};
+ghost use Rattle.simulation.specs.Faults.{line_of};
 
 use crate::fault::Fault;
 use arrayvec::ArrayString;

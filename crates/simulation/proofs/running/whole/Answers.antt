@@ -1,27 +1,24 @@
-use Rattle.std.proofs.Common.{◌+◌, ℕ, Err, ap, ◌∙◌, subst}
+use Rattle.std.proofs.Common.{Err, ap, subst}
 use Rattle.std.specs.Io.KnownBytes.{Appends}
 use Rattle.model_guests.specs.Text.{lines}
 use Rattle.model_guests.specs.WorldNow.{WorldNow, world_protocol, output}
 use Rattle.model_guests.specs.LineRuns.{IsCut}
 use Rattle.model_guests.proofs.Isolation.{isolated}
 use Rattle.line_runs.specs.Pieces.{IsStoppedIn}
-use Rattle.simulation.proofs.Ran.{read_failed, write_failed, same_reads, same_writes}
+use Rattle.line_runs.specs.declared.running.RunFault.TheVariants as run
+use Rattle.simulation.proofs.Ran.{failed_by, read_again, written_again}
 use Rattle.simulation.proofs.running.whole.Goals as goal
 
 pub returns-in_err-run-clause-reads : goal.returns-in_err-run-clause-reads
-returns-in_err-run-clause-reads g c =
-    c.in_err-run.ensures.reads
-    ∙ ap (λ (n : ℕ). g.R.Reader.failures c.args.reader.now + n) (same_reads c.from_residual-in_err-run.result _ c.from_residual-in_err-run.ensures.1)
+returns-in_err-run-clause-reads g c = read_again c.from_residual-in_err-run.result _ _ _ c.from_residual-in_err-run.ensures.1 c.in_err-run.ensures.reads
 
 pub returns-in_err-run-clause-writes : goal.returns-in_err-run-clause-writes
-returns-in_err-run-clause-writes g c =
-    c.in_err-run.ensures.writes
-    ∙ ap (λ (n : ℕ). g.W.Writer.failures c.args.writer.now + n) (same_writes c.from_residual-in_err-run.result _ c.from_residual-in_err-run.ensures.1)
+returns-in_err-run-clause-writes g c = written_again c.from_residual-in_err-run.result _ _ _ c.from_residual-in_err-run.ensures.1 c.in_err-run.ensures.writes
 
 pub returns-in_err-run-clause-cut : goal.returns-in_err-run-clause-cut
 returns-in_err-run-clause-cut g c is =
     let opened = c.in_ok-monitor.ensures.opened in
-    let fault = read_failed c.from_residual-in_err-run.result _ c.from_residual-in_err-run.ensures.1 is in
+    let fault = failed_by run.Read c.from_residual-in_err-run.result _ c.from_residual-in_err-run.ensures.1 is in
     record {
       world = opened.world;
       set_up = opened.set_up;
@@ -33,7 +30,7 @@ returns-in_err-run-clause-cut g c is =
 pub returns-in_err-run-clause-stopped : goal.returns-in_err-run-clause-stopped
 returns-in_err-run-clause-stopped g c is =
     let opened = c.in_ok-monitor.ensures.opened in
-    let fault = write_failed c.from_residual-in_err-run.result _ c.from_residual-in_err-run.ensures.1 is in
+    let fault = failed_by run.Write c.from_residual-in_err-run.result _ c.from_residual-in_err-run.ensures.1 is in
     record {
       world = opened.world;
       set_up = opened.set_up;

@@ -1,20 +1,21 @@
-use Rattle.std.proofs.Common.{◌≡◌, ◌+◌, ℕ, Err, ap, ◌∙◌, subst}
-use Rattle.model_board.specs.AtReset.{reset_state}
-use Rattle.model_board.specs.State.{State}
-use Rattle.model_guests.specs.World.{World}
+use Rattle.std.proofs.Common.{◌≡◌, List, Err, ap, ◌∙◌, subst}
+use Rattle.model_board.specs.AtReset.{IsAtReset}
+use Rattle.model_guests.specs.World.{Guest}
 use Rattle.model_handoff.proofs.Sessions.{reset_is_handoff}
 use Rattle.model_sessions.specs.Sessions.{SessionNow, driven, session_protocol}
 use Rattle.model_sessions.proofs.HandoverLines.{isolated_sessions}
+use Rattle.host_bridge.specs.HostState.{HostState}
 use Rattle.line_runs.specs.Pieces.{IsLackingIn}
 use Rattle.board_file.specs.Meaning.{world_in}
 use Rattle.simulation.specs.Sessions.{at_first}
 use Rattle.simulation.proofs.Begun.{declares, written_over, cut_over, stopped_over}
 use Rattle.simulation.proofs.Listed.{refused_file}
-use Rattle.simulation.proofs.Ran.{read_failed, write_failed, memory_lacked, same_reads, same_writes}
+use Rattle.line_runs.specs.declared.running.RunFault.TheVariants as run
+use Rattle.simulation.proofs.Ran.{failed_by, read_again, written_again}
 use Rattle.simulation.proofs.session.drive.Goals as goal
 
-began : (x : SessionNow) (w : World) (s : State) → x ≡ driven w s → s ≡ reset_state w.board → x ≡ at_first w
-began x w s made reset = made ∙ ap (driven w) reset
+began : (h : HostState) (gs : List Guest) (x : SessionNow) → x ≡ driven (world_in h gs) h.state → IsAtReset h.state → x ≡ at_first (world_in h gs)
+began h gs x made reset = made ∙ ap (driven (world_in h gs)) reset.registers
 
 pub new-session-requires-clause-handoff : goal.new-session-requires-clause-handoff
 new-session-requires-clause-handoff g c = reset_is_handoff c.in_ok-host.host.state c.in_ok-host.ensures.reset
@@ -24,34 +25,28 @@ returns-in_err-host-clause-file g c =
     refused_file c.from_residual.result c.args.board.now _ c.in_err-host.ensures.refused c.in_err-host.ensures.not_text c.from_residual.ensures.1
 
 pub returns-in_err-run-clause-reads : goal.returns-in_err-run-clause-reads
-returns-in_err-run-clause-reads g c =
-    c.in_err-run.ensures.reads
-    ∙ ap (λ (n : ℕ). g.R.Reader.failures c.args.reader.now + n) (same_reads c.from_residual-in_err-run.result _ c.from_residual-in_err-run.ensures.1)
+returns-in_err-run-clause-reads g c = read_again c.from_residual-in_err-run.result _ _ _ c.from_residual-in_err-run.ensures.1 c.in_err-run.ensures.reads
 
 pub returns-in_err-run-clause-writes : goal.returns-in_err-run-clause-writes
-returns-in_err-run-clause-writes g c =
-    c.in_err-run.ensures.writes
-    ∙ ap (λ (n : ℕ). g.W.Writer.failures c.args.writer.now + n) (same_writes c.from_residual-in_err-run.result _ c.from_residual-in_err-run.ensures.1)
+returns-in_err-run-clause-writes g c = written_again c.from_residual-in_err-run.result _ _ _ c.from_residual-in_err-run.ensures.1 c.in_err-run.ensures.writes
 
 pub returns-in_err-run-clause-cut : goal.returns-in_err-run-clause-cut
 returns-in_err-run-clause-cut g c is =
-    let w = world_in c.in_ok-host.host c.in_ok-host.guests.items in
-    let begins = began c.new-session.result w c.in_ok-host.host.state c.new-session.ensures c.in_ok-host.ensures.reset.registers in
-    cut_over session_protocol at_first {w = w} (declares c.in_ok-host.ensures.world) begins
-    (c.in_err-run.ensures.cut (ap Err (read_failed c.from_residual-in_err-run.result _ c.from_residual-in_err-run.ensures.1 is)))
+    let begins = began c.in_ok-host.host c.in_ok-host.guests.items c.new-session.result c.new-session.ensures c.in_ok-host.ensures.reset in
+    cut_over session_protocol at_first (declares c.in_ok-host.ensures.world) begins
+    (c.in_err-run.ensures.cut (ap Err (failed_by run.Read c.from_residual-in_err-run.result _ c.from_residual-in_err-run.ensures.1 is)))
 
 pub returns-in_err-run-clause-stopped : goal.returns-in_err-run-clause-stopped
 returns-in_err-run-clause-stopped g c is =
-    let w = world_in c.in_ok-host.host c.in_ok-host.guests.items in
-    let begins = began c.new-session.result w c.in_ok-host.host.state c.new-session.ensures c.in_ok-host.ensures.reset.registers in
-    stopped_over session_protocol at_first {w = w} (declares c.in_ok-host.ensures.world) begins
-    (c.in_err-run.ensures.stopped (ap Err (write_failed c.from_residual-in_err-run.result _ c.from_residual-in_err-run.ensures.1 is)))
+    let begins = began c.in_ok-host.host c.in_ok-host.guests.items c.new-session.result c.new-session.ensures c.in_ok-host.ensures.reset in
+    stopped_over session_protocol at_first (declares c.in_ok-host.ensures.world) begins
+    (c.in_err-run.ensures.stopped (ap Err (failed_by run.Write c.from_residual-in_err-run.result _ c.from_residual-in_err-run.ensures.1 is)))
 
 pub returns-in_err-run-clause-lacking : goal.returns-in_err-run-clause-lacking
 returns-in_err-run-clause-lacking g c is =
     let w = world_in c.in_ok-host.host c.in_ok-host.guests.items in
-    let fault = memory_lacked c.from_residual-in_err-run.result _ c.from_residual-in_err-run.ensures.1 is in
-    let begins = began c.new-session.result w c.in_ok-host.host.state c.new-session.ensures c.in_ok-host.ensures.reset.registers in
+    let fault = failed_by run.Memory c.from_residual-in_err-run.result _ c.from_residual-in_err-run.ensures.1 is in
+    let begins = began c.in_ok-host.host c.in_ok-host.guests.items c.new-session.result c.new-session.ensures c.in_ok-host.ensures.reset in
     record {
       world = w;
       declared = declares c.in_ok-host.ensures.world;
@@ -62,13 +57,13 @@ returns-in_err-run-clause-lacking g c is =
 
 pub returns-in_err-run-clause-lacking_flushed : goal.returns-in_err-run-clause-lacking_flushed
 returns-in_err-run-clause-lacking_flushed g c is =
-    c.in_err-run.ensures.lacking_flushed (ap Err (memory_lacked c.from_residual-in_err-run.result _ c.from_residual-in_err-run.ensures.1 is))
+    c.in_err-run.ensures.lacking_flushed (ap Err (failed_by run.Memory c.from_residual-in_err-run.result _ c.from_residual-in_err-run.ensures.1 is))
 
 pub returns-clause-output : goal.returns-clause-output
 returns-clause-output g c =
     let w = world_in c.in_ok-host.host c.in_ok-host.guests.items in
-    let begins = began c.new-session.result w c.in_ok-host.host.state c.new-session.ensures c.in_ok-host.ensures.reset.registers in
+    let begins = began c.in_ok-host.host c.in_ok-host.guests.items c.new-session.result c.new-session.ensures c.in_ok-host.ensures.reset in
     record {
-      output = written_over session_protocol at_first {w = w} (declares c.in_ok-host.ensures.world) begins c.in_ok-run.ensures.output;
+      output = written_over session_protocol at_first (declares c.in_ok-host.ensures.world) begins c.in_ok-run.ensures.output;
       isolated = isolated_sessions w c.in_ok-host.ensures.lawful.guests.lawful_names;
     }
