@@ -1,10 +1,10 @@
 -- The table of a board that is set up: its regions stand apart, and its claims are those of the board.
-use Rattle.std.proofs.Common.{◌≡◌, ℕ, zero, suc, ◌+◌, ◌-◌, ◌≤◌, ◌<◌, Bool, true, false, cond, List, [], ◌∷◌, ◌++◌, length, get_or, Option, Some, None, refl, sym, ap, ap₂, ◌∙◌, subst, arith, leb, ltb}
+use Rattle.std.proofs.Common.{◌≡◌, ℕ, ◌+◌, ◌-◌, ◌≤◌, ◌<◌, Bool, true, false, cond, List, [], ◌∷◌, ◌++◌, length, get_or, Option, Some, None, refl, sym, ap, ap₂, ◌∙◌, subst, arith, leb, ltb}
 use Rattle.std.specs.Prelude.{map, filter, find, slice_get}
 use Rattle.std.specs.Option.{option_map}
 use Rattle.std.proofs.lemmas.List.{map-append, length-map}
 use Rattle.lists.specs.Elements.{Each, first_of_two, first_some, IsIn}
-use Rattle.lists.proofs.EachLemmas.{each_append}
+use Rattle.lists.proofs.EachLemmas.{each_append, each_parts}
 use Rattle.model_registers.specs.Declarations.{Kind, io_kind, mem32, mem64, least_size, IsLawfulRegion}
 use Rattle.model_registers.specs.Decoding.{Space, io, memory}
 use Rattle.model_board.specs.Paths.{Path}
@@ -14,7 +14,7 @@ use Rattle.model_board.specs.Claims.{Claim, claim_at, first_claim}
 use Rattle.bridge_forward.specs.Locating.{located_claim}
 use Rattle.std.proofs.lemmas.Bool.{leb-true}
 use Rattle.lists.proofs.Tests.{left_true}
-use Rattle.std.proofs.lemmas.Option.{slice_get_within}
+use Rattle.std.proofs.lemmas.Option.{slice_get_within, slice_get-get_or, unwrap_or-slice_get}
 use Rattle.model_registers.specs.Apertures.{Apertures}
 use Rattle.model_set_up.specs.FunctionTable.{TableRow}
 use Rattle.model_board.specs.Routing.{routing}
@@ -28,7 +28,7 @@ use Rattle.model_set_up.proofs.PlacedRegions.{Source, source, lawful_regions}
 use Rattle.model_set_up.proofs.UniqueClaimant.{unique_claimant}
 use Rattle.host_bridge.specs.HostState.{HostState}
 use Rattle.window_packing.specs.Readies.{ReadyBoard, board_below, IsReady}
-use Rattle.claim_table.specs.declared.entry.Entry.{Entry}
+use Rattle.claim_table.specs.declared.region_entry.RegionEntry.{RegionEntry}
 use Rattle.claim_table.specs.Tables.{TableEntry, table_claim, IsOfFunction, FitsTable}
 use Rattle.claim_table.specs.Entries.{entries_from, lies_in, by_space, AreEntries, path_nth, table_entry, table_of}
 use Rattle.claim_table.specs.Fitting.{map_map, paths, nth_path, fits_by_routing}
@@ -44,11 +44,11 @@ module _ (b : Board) (a : Apertures) (can : CanBePlaced b a) where
   abbrev ps : List Path
   ps = map (λ (r : Row). r.path) b
 
-  abbrev all_of : Space → List Entry
+  abbrev all_of : Space → List RegionEntry
   all_of space = entries_from space 0 (settings b a)
 
   regions_are : (space : Space) → map (region_of ps space) (all_of space) ≡ filter (is_of space) (placed_regions b a)
-  regions_are space = of_board b a ps space 0 b (λ j r e. let z : 0 + j ≡ j = omega arith in ap (path_nth ps) z ∙ paths_read b j r e)
+  regions_are space = of_board b a ps space 0 b (λ j r e. let z : 0 + j ≡ j = omega arith in ap (path_nth ps) z ∙ paths_read (λ (r : Row). r.path) b j r e)
 
   unique : HasUniqueClaims b a (set_up_state b a).functions
   unique = unique_claimant b a can (set_up_state b a).functions refl
@@ -70,21 +70,19 @@ module _ (b : Board) (a : Apertures) (can : CanBePlaced b a) where
     known = λ space. known space 0 (settings b a) (length ps) (let n : length (settings b a) ≡ length b = length-map b _ in let m : length ps ≡ length b = length-map b (λ (r : Row). r.path) in omega (arith, n, m));
   }
 
-  pub entries : (space : Space) (fs : List Entry) → IsSortedOf (all_of space) fs → AreEntries ps fs
+  pub entries : (space : Space) (fs : List RegionEntry) → IsSortedOf (all_of space) fs → AreEntries ps fs
   entries space fs h = entries_are ps (placed_regions b a) all_of gathered space fs h
 
-  module _ (ports mems : List Entry) (hp : IsSortedOf (all_of io) ports) (hm : IsSortedOf (all_of memory) mems) where
+  module _ (ports mems : List RegionEntry) (hp : IsSortedOf (all_of io) ports) (hm : IsSortedOf (all_of memory) mems) where
     pub claims_placed : (space : Space) (n : ℕ) → table_claim (table_of ps ports mems) space n ≡ placed_claim b a space n
     claims_placed space n = claims_listed ps (placed_regions b a) all_of gathered ports mems hp hm space n
 
 -- ---- the functions
 
 path_there : (qs : List Path) (i : ℕ) → i < length qs → slice_get qs i ≡ Some (path_nth qs i)
-path_there [] i h = absurd (omega arith)
-path_there (q ∷ qs) zero h = refl
-path_there (q ∷ qs) (suc i) h = path_there qs i (omega arith)
+path_there qs i h = slice_get-get_or qs i [] h ∙ ap Some (sym (unwrap_or-slice_get qs i []))
 
-pub of_functions : (fs : List BoardFunction) (qs : List Path) (space : Space) (es : List Entry) → paths fs ≡ qs → Each (λ (e : Entry). e.function < length qs) es → Each (IsOfFunction fs) (map (table_entry qs space) es)
+pub of_functions : (fs : List BoardFunction) (qs : List Path) (space : Space) (es : List RegionEntry) → paths fs ≡ qs → Each (λ (e : RegionEntry). e.function < length qs) es → Each (IsOfFunction fs) (map (table_entry qs space) es)
 of_functions fs qs space [] is h = tt
 of_functions fs qs space (e ∷ es) is h =
     (nth_path fs e.function ∙ ap (λ (xs : List Path). slice_get xs e.function) is ∙ path_there qs e.function h.0, of_functions fs qs space es is h.1)
@@ -98,13 +96,13 @@ module _ (r : ReadyBoard) (ready : IsReady r) (qs : List Path) (paths_are : qs �
   board_paths : qs ≡ map (λ (x : Row). x.path) board
   board_paths = paths_are ∙ ap (map (λ (t : TableRow). t.path)) ready.table ∙ map_map (λ (t : TableRow). t.path) _ board
 
-  sorted_of : (space : Space) (fs : List Entry) → IsSortedOf (entries_from space 0 r.plan.settings) fs → IsSortedOf (entries_from space 0 (settings board r.host.apertures)) fs
+  sorted_of : (space : Space) (fs : List RegionEntry) → IsSortedOf (entries_from space 0 r.plan.settings) fs → IsSortedOf (entries_from space 0 (settings board r.host.apertures)) fs
   sorted_of space fs h = subst (λ (ss : List Setting). IsSortedOf (entries_from space 0 ss) fs) (ap (λ (p : Rattle.model_set_up.specs.SetUpWrites.Plan). p.settings) ready.plan) h
 
-  pub ready_entries : (space : Space) (fs : List Entry) → IsSortedOf (entries_from space 0 r.plan.settings) fs → AreEntries qs fs
+  pub ready_entries : (space : Space) (fs : List RegionEntry) → IsSortedOf (entries_from space 0 r.plan.settings) fs → AreEntries qs fs
   ready_entries space fs h = subst (λ (xs : List Path). AreEntries xs fs) (sym board_paths) (entries board r.host.apertures ready.placeable space fs (sorted_of space fs h))
 
-  module _ (ports mems : List Entry) (hp : IsSortedOf (entries_from io 0 r.plan.settings) ports) (hm : IsSortedOf (entries_from memory 0 r.plan.settings) mems) where
+  module _ (ports mems : List RegionEntry) (hp : IsSortedOf (entries_from io 0 r.plan.settings) ports) (hm : IsSortedOf (entries_from memory 0 r.plan.settings) mems) where
     abbrev fs : List BoardFunction
     fs = r.host.state.functions
 
@@ -130,30 +128,25 @@ module _ (r : ReadyBoard) (ready : IsReady r) (qs : List Path) (paths_are : qs �
 
 -- ---- the entry that is found gives the claim
 
-abbrev pub claim_for : List Path → ℕ → Entry → Claim
+abbrev pub claim_for : List Path → ℕ → RegionEntry → Claim
 claim_for qs n e = record { path = path_nth qs e.function; index = e.region; offset = n - e.first }
 
--- the claim of one list of its own space
-own_claim : (qs : List Path) (space : Space) (n : ℕ) (es : List Entry) → first_some (claim_in space n) (map (region_of qs space) es) ≡ option_map (claim_for qs n) (find (lies_in n) es)
-own_claim qs space n [] = refl
-own_claim qs io n (e ∷ es) = by_test (lies_in n e) (own_claim qs io n es)
-  where
-    by_test : (t : Bool) → first_some (claim_in io n) (map (region_of qs io) es) ≡ option_map (claim_for qs n) (find (lies_in n) es)
-        → first_of_two (cond t (Some (claim_for qs n e)) None) (first_some (claim_in io n) (map (region_of qs io) es)) ≡ option_map (claim_for qs n) (cond t (Some e) (find (lies_in n) es))
-    by_test true more = refl
-    by_test false more = more
-own_claim qs memory n (e ∷ es) = by_test (lies_in n e) (own_claim qs memory n es)
-  where
-    by_test : (t : Bool) → first_some (claim_in memory n) (map (region_of qs memory) es) ≡ option_map (claim_for qs n) (find (lies_in n) es)
-        → first_of_two (cond t (Some (claim_for qs n e)) None) (first_some (claim_in memory n) (map (region_of qs memory) es)) ≡ option_map (claim_for qs n) (cond t (Some e) (find (lies_in n) es))
-    by_test true more = refl
-    by_test false more = more
+one_claim : (qs : List Path) (n : ℕ) (e : RegionEntry) (t : Bool) (c : Option Claim) (found : Option RegionEntry)
+    → c ≡ option_map (claim_for qs n) found → first_of_two (cond t (Some (claim_for qs n e)) None) c ≡ option_map (claim_for qs n) (cond t (Some e) found)
+one_claim qs n e true c found more = refl
+one_claim qs n e false c found more = more
 
-other_claim_io : (qs : List Path) (n : ℕ) (es : List Entry) → first_some (claim_in io n) (map (region_of qs memory) es) ≡ None
+-- the claim of one list of its own space
+own_claim : (qs : List Path) (space : Space) (n : ℕ) (es : List RegionEntry) → first_some (claim_in space n) (map (region_of qs space) es) ≡ option_map (claim_for qs n) (find (lies_in n) es)
+own_claim qs space n [] = refl
+own_claim qs io n (e ∷ es) = one_claim qs n e (lies_in n e) _ _ (own_claim qs io n es)
+own_claim qs memory n (e ∷ es) = one_claim qs n e (lies_in n e) _ _ (own_claim qs memory n es)
+
+other_claim_io : (qs : List Path) (n : ℕ) (es : List RegionEntry) → first_some (claim_in io n) (map (region_of qs memory) es) ≡ None
 other_claim_io qs n [] = refl
 other_claim_io qs n (e ∷ es) = other_claim_io qs n es
 
-other_claim_memory : (qs : List Path) (n : ℕ) (es : List Entry) → first_some (claim_in memory n) (map (region_of qs io) es) ≡ None
+other_claim_memory : (qs : List Path) (n : ℕ) (es : List RegionEntry) → first_some (claim_in memory n) (map (region_of qs io) es) ≡ None
 other_claim_memory qs n [] = refl
 other_claim_memory qs n (e ∷ es) = other_claim_memory qs n es
 
@@ -169,7 +162,7 @@ or_none : {B : Type 0} (o : Option B) → first_of_two o None ≡ o
 or_none None = refl
 or_none (Some y) = refl
 
-module _ (qs : List Path) (ports mems : List Entry) (n : ℕ) where
+module _ (qs : List Path) (ports mems : List RegionEntry) (n : ℕ) where
   split : (space : Space) → table_claim (table_of qs ports mems) space n ≡ first_of_two (first_some (claim_in space n) (map (region_of qs io) ports)) (first_some (claim_in space n) (map (region_of qs memory) mems))
   split space =
       ap (first_some (claim_in space n)) (map-append (λ (e : TableEntry). e.region) (map (table_entry qs io) ports) (map (table_entry qs memory) mems)
@@ -182,19 +175,11 @@ module _ (qs : List Path) (ports mems : List Entry) (n : ℕ) where
 
 -- ---- what the table answers
 
-pub known_in : (qs : List Path) (ports mems : List Entry) → AreEntries qs ports × AreEntries qs mems → (space : Space) → Each (λ (e : Entry). e.function < length qs) (by_space space ports mems)
+pub known_in : (qs : List Path) (ports mems : List RegionEntry) → AreEntries qs ports × AreEntries qs mems → (space : Space) → Each (λ (e : RegionEntry). e.function < length qs) (by_space space ports mems)
 known_in qs ports mems h io = h.0.known
 known_in qs ports mems h memory = h.1.known
 
-each_front : {A : Type 0} (P : A → Type 0) (xs ys : List A) → Each P (xs ++ ys) → Each P xs
-each_front P [] ys h = tt
-each_front P (x ∷ xs) ys h = (h.0, each_front P xs ys h.1)
-
-each_back : {A : Type 0} (P : A → Type 0) (xs ys : List A) → Each P (xs ++ ys) → Each P ys
-each_back P [] ys h = h
-each_back P (x ∷ xs) ys h = each_back P xs ys h.1
-
-module _ (qs : List Path) (ports mems : List Entry) (t : List TableEntry) (h : HostState) (is : table_of qs ports mems ≡ t) (fits : FitsTable t h) where
+module _ (qs : List Path) (ports mems : List RegionEntry) (t : List TableEntry) (h : HostState) (is : table_of qs ports mems ≡ t) (fits : FitsTable t h) where
   abbrev hosted : List BoardFunction
   hosted = h.state.functions
 
@@ -204,11 +189,14 @@ module _ (qs : List Path) (ports mems : List Entry) (t : List TableEntry) (h : H
   of_all : Each (IsOfFunction hosted) (table_of qs ports mems)
   of_all = subst (Each (IsOfFunction hosted)) (sym is) fits.functions
 
-  of_space : (space : Space) → Each (λ (e : Entry). IsOfFunction hosted (table_entry qs space e)) (by_space space ports mems)
-  of_space io = each_unmap (IsOfFunction hosted) (table_entry qs io) ports (each_front (IsOfFunction hosted) (map (table_entry qs io) ports) (map (table_entry qs memory) mems) of_all)
-  of_space memory = each_unmap (IsOfFunction hosted) (table_entry qs memory) mems (each_back (IsOfFunction hosted) (map (table_entry qs io) ports) (map (table_entry qs memory) mems) of_all)
+  parts : Each (IsOfFunction hosted) (map (table_entry qs io) ports) × Each (IsOfFunction hosted) (map (table_entry qs memory) mems)
+  parts = each_parts (IsOfFunction hosted) (map (table_entry qs io) ports) (map (table_entry qs memory) mems) of_all
 
-  module _ (space : Space) (n : ℕ) (e : Entry) (found : find (lies_in n) (by_space space ports mems) ≡ Some e) where
+  of_space : (space : Space) → Each (λ (e : RegionEntry). IsOfFunction hosted (table_entry qs space e)) (by_space space ports mems)
+  of_space io = each_unmap (IsOfFunction hosted) (table_entry qs io) ports parts.0
+  of_space memory = each_unmap (IsOfFunction hosted) (table_entry qs memory) mems parts.1
+
+  module _ (space : Space) (n : ℕ) (e : RegionEntry) (found : find (lies_in n) (by_space space ports mems) ≡ Some e) where
     pub from : e.first ≤ n
     from = leb-true e.first n (left_true (leb e.first n) (ltb n (e.first + e.size)) (found_passes (lies_in n) (by_space space ports mems) e found))
 
@@ -216,7 +204,7 @@ module _ (qs : List Path) (ports mems : List Entry) (t : List TableEntry) (h : H
     claimed = sym (ap (option_map (claim_for qs n)) found) ∙ answer space n
 
     of_entry : option_map (λ (f : BoardFunction). f.path) (slice_get hosted e.function) ≡ Some (path_nth qs e.function)
-    of_entry = each_found (λ (d : Entry). IsOfFunction hosted (table_entry qs space d)) (lies_in n) (by_space space ports mems) e (of_space space) found
+    of_entry = each_found (λ (d : RegionEntry). IsOfFunction hosted (table_entry qs space d)) (lies_in n) (by_space space ports mems) e (of_space space) found
 
     pub located : (located_claim hosted (Some (record { index = e.function; region = e.region; offset = n - e.first })) ≡ first_claim hosted space n) × (e.function < length hosted)
     located = by_case (slice_get hosted e.function) refl of_entry
@@ -231,11 +219,9 @@ module _ (qs : List Path) (ports mems : List Entry) (t : List TableEntry) (h : H
               slice_get_within hosted e.function f at,
             )
 
-pub none_claimed : (qs : List Path) (ports mems : List Entry) (t : List TableEntry) (h : HostState) → table_of qs ports mems ≡ t → FitsTable t h → (space : Space) (n : ℕ) → find (lies_in n) (by_space space ports mems) ≡ None → None ≡ first_claim h.state.functions space n
+pub none_claimed : (qs : List Path) (ports mems : List RegionEntry) (t : List TableEntry) (h : HostState) → table_of qs ports mems ≡ t → FitsTable t h → (space : Space) (n : ℕ) → find (lies_in n) (by_space space ports mems) ≡ None → None ≡ first_claim h.state.functions space n
 none_claimed qs ports mems t h is fits space n none = sym (ap (option_map (claim_for qs n)) none) ∙ answer qs ports mems t h is fits space n
 
 -- the path that is read by an index
 pub path_at : (qs : List Path) (i : ℕ) (p d : Path) → i < length qs → p ≡ get_or qs i d → p ≡ path_nth qs i
-path_at [] i p d h e = absurd (omega arith)
-path_at (q ∷ qs) zero p d h e = e
-path_at (q ∷ qs) (suc i) p d h e = path_at qs i p d (omega arith) e
+path_at qs i p d h e = let same : Some (get_or qs i d) ≡ Some (path_nth qs i) = sym (slice_get-get_or qs i d h) ∙ path_there qs i h in e ∙ cc

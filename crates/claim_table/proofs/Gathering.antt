@@ -1,13 +1,16 @@
 -- The regions of one space, gathered function by function.
-use Rattle.std.proofs.Common.{◌≡◌, ℕ, zero, suc, ◌+◌, ◌≤◌, ◌<◌, Bool, true, false, cond, List, [], ◌∷◌, ◌++◌, length, take, get_or, Option, Some, refl, sym, ap, ap₂, ◌∙◌, arith, append_assoc}
-use Rattle.std.specs.Prelude.{map, filter, flat_map, slice_get}
+use Rattle.std.proofs.Common.{◌≡◌, ℕ, suc, ◌+◌, ◌≤◌, ◌<◌, Bool, true, false, cond, List, [], ◌∷◌, ◌++◌, length, take, get_or, Option, Some, refl, sym, ap, ap₂, ◌∙◌, arith, append_assoc}
+use Rattle.std.specs.Prelude.{map, filter, flat_map, slice_get, option_map, unwrap_or}
 use Rattle.std.proofs.lemmas.List.{map-append, append-nil, length-take}
 use Rattle.std.specs.Option.{option_to_list}
-use Rattle.std.proofs.lemmas.Option.{slice_get_within}
+use Rattle.std.proofs.lemmas.List.Elements.{filter-append}
+use Rattle.std.proofs.lemmas.Option.{slice_get-map, slice_get_within, slice_get-get_or}
 use Rattle.bars.specs.declared.region.Region.{Region as Placed}
 use Rattle.bars.specs.Slots.{bases_from}
 use Rattle.window_packing.proofs.BarLists.{bases_push, take_at}
 use Rattle.lists.specs.Elements.{Each}
+use Rattle.lists.proofs.EachLemmas.{each_append, each_of_map}
+use Rattle.lists.proofs.Members.{each_from}
 use Rattle.model_registers.proofs.HitRegions.{space_same}
 use Rattle.model_registers.specs.Declarations.{Region}
 use Rattle.model_registers.specs.EndpointTable.{BaseAddress}
@@ -18,7 +21,7 @@ use Rattle.model_registers.specs.Apertures.{Apertures}
 use Rattle.model_set_up.specs.PlacedRegions.{PlacedRegion, placed, placed_at}
 use Rattle.model_set_up.specs.Reach.{address_of}
 use Rattle.model_set_up.specs.SetUpWrites.{placed_base, Setting, writes_of}
-use Rattle.claim_table.specs.declared.entry.Entry.{Entry}
+use Rattle.claim_table.specs.declared.region_entry.RegionEntry.{RegionEntry}
 use Rattle.claim_table.specs.Entries.{entry_for, bases_in, of_space, entries_at, entries_from, path_nth, table_entry}
 
 -- ---- one more function
@@ -32,19 +35,11 @@ entries_push space i (t ∷ ss) s =
 
 -- ---- the regions of a board
 
-abbrev pub region_of : List Path → Space → Entry → PlacedRegion
+abbrev pub region_of : List Path → Space → RegionEntry → PlacedRegion
 region_of ps space e = (table_entry ps space e).region
 
 abbrev pub is_of : Space → PlacedRegion → Bool
 is_of space q = same_space q.space space
-
-pub filter-append : {A : Type 0} (p : A → Bool) (xs ys : List A) → filter p (xs ++ ys) ≡ filter p xs ++ filter p ys
-filter-append p [] ys = refl
-filter-append {A} p (x ∷ xs) ys = by_test (p x) (filter-append p xs ys)
-  where
-    by_test : (t : Bool) → filter p (xs ++ ys) ≡ filter p xs ++ filter p ys → cond t (x ∷ filter p (xs ++ ys)) (filter p (xs ++ ys)) ≡ cond t (x ∷ filter p xs) (filter p xs) ++ filter p ys
-    by_test true more = ap (λ zs. x ∷ zs) more
-    by_test false more = more
 
 module _ (b : Board) (a : Apertures) (ps : List Path) (space : Space) where
   of_regions : (i : ℕ) (p : Path) (gs : List Region) → path_nth ps i ≡ p → map (region_of ps space) (map (entry_for i) (of_space space (map (placed_base b a p) gs))) ≡ filter (is_of space) (map (placed b a p) gs)
@@ -75,36 +70,28 @@ module _ (b : Board) (a : Apertures) (ps : List Path) (space : Space) where
       ∙ ap₂ ◌++◌ (of_function i r.path r.decl here) (of_board (i + 1) rows (λ j s e. let y : i + 1 + j ≡ i + suc j = omega arith in ap (path_nth ps) y ∙ at (suc j) s e))
       ∙ sym (filter-append (is_of space) (placed_at b a r) (flat_map (placed_at b a) rows))
 
-pub paths_read : (rows : Board) (j : ℕ) (r : Row) → slice_get rows j ≡ Some r → path_nth (map (λ (r : Row). r.path) rows) j ≡ r.path
-paths_read [] j r e = cc
-paths_read (s ∷ rows) zero r e = let same : s ≡ r = cc in ap (λ (x : Row). x.path) same
-paths_read (s ∷ rows) (suc j) r e = paths_read rows j r e
+pub paths_read : {A : Type 0} (path : A → Path) (rows : List A) (j : ℕ) (r : A) → slice_get rows j ≡ Some r → path_nth (map path rows) j ≡ path r
+paths_read path rows j r e = ap (λ (o : Option Path). unwrap_or o []) (slice_get-map path rows j ∙ ap (option_map path) e)
 
 -- ---- each entry is of a function of the board
 
-pub known : (space : Space) (i : ℕ) (ss : List Setting) (n : ℕ) → i + length ss ≤ n → Each (λ (e : Entry). e.function < n) (entries_from space i ss)
+pub known : (space : Space) (i : ℕ) (ss : List Setting) (n : ℕ) → i + length ss ≤ n → Each (λ (e : RegionEntry). e.function < n) (entries_from space i ss)
 known space i [] n h = tt
-known space i (s ∷ ss) n h = both (of_space space (bases_in s.writes)) (known space (i + 1) ss n (omega arith))
-  where
-    both : (bases : List BaseAddress) → Each (λ (e : Entry). e.function < n) (entries_from space (i + 1) ss) → Each (λ (e : Entry). e.function < n) (map (entry_for i) bases ++ entries_from space (i + 1) ss)
-    both [] more = more
-    both (x ∷ bases) more = (omega (arith, h), both bases more)
+known space i (s ∷ ss) n h =
+    each_append (λ (e : RegionEntry). e.function < n) (entries_at space i s) (entries_from space (i + 1) ss)
+    (each_of_map (λ (e : RegionEntry). e.function < n) (entry_for i) (of_space space (bases_in s.writes)) (each_from (λ b. i < n) _ (λ b _. omega (arith, h))))
+    (known space (i + 1) ss n (omega arith))
 
 -- ---- one more register, and one more function
 
 pub slot_there : (slots : List (Option Placed)) (i j : ℕ) (o d : Option Placed) → o ≡ get_or slots j d → j ≡ i → i < length slots → slice_get slots i ≡ Some o
-slot_there slots i j o d e same within = there slots i o d (e ∙ ap (λ k. get_or slots k d) same) within
-  where
-    there : (xs : List (Option Placed)) (k : ℕ) (x y : Option Placed) → x ≡ get_or xs k y → k < length xs → slice_get xs k ≡ Some x
-    there [] k x y e l = absurd (omega arith)
-    there (z ∷ xs) zero x y e l = ap Some (sym e)
-    there (z ∷ xs) (suc k) x y e l = there xs k x y e (omega arith)
+slot_there slots i j o d e same within = slice_get-get_or slots i d within ∙ ap Some (sym (e ∙ ap (λ k. get_or slots k d) same))
 
-pub register_push : (space : Space) (f : ℕ) (slots : List (Option Placed)) (i : ℕ) (o : Option Placed) (old es : List Entry) (found : Option Entry) → slice_get slots i ≡ Some o
+pub register_push : (space : Space) (f : ℕ) (slots : List (Option Placed)) (i : ℕ) (o : Option Placed) (old es : List RegionEntry) (found : Option RegionEntry) → slice_get slots i ≡ Some o
     → option_to_list found ≡ map (entry_for f) (of_space space (bases_from i (o ∷ []))) → es ≡ old ++ map (entry_for f) (of_space space (bases_from 0 (take i slots)))
     → es ++ option_to_list found ≡ old ++ map (entry_for f) (of_space space (bases_from 0 (take (i + 1) slots)))
 register_push space f slots i o old es found at is so_far =
-    let g : List BaseAddress → List Entry = λ (bases : List BaseAddress). map (entry_for f) (of_space space bases) in
+    let g : List BaseAddress → List RegionEntry = λ (bases : List BaseAddress). map (entry_for f) (of_space space bases) in
     let size : 0 + length (take i slots) ≡ i = taken slots i o at in
     let more : bases_from 0 (take (i + 1) slots) ≡ bases_from 0 (take i slots) ++ bases_from i (o ∷ []) =
     ap (bases_from 0) (take_at slots i o at) ∙ bases_push 0 (take i slots) o ∙ ap (λ k. bases_from 0 (take i slots) ++ bases_from k (o ∷ [])) size in
@@ -116,15 +103,10 @@ register_push space f slots i o old es found at is so_far =
     taken : (xs : List (Option Placed)) (k : ℕ) (x : Option Placed) → slice_get xs k ≡ Some x → 0 + length (take k xs) ≡ k
     taken xs k x e = let l : k < length xs = slice_get_within xs k x e in simp length-take (omega (arith, l))
 
-pub function_push : (space : Space) (ss : List Setting) (i : ℕ) (s d : Setting) (es new : List Entry) → s ≡ get_or ss i d → i < length ss → es ≡ entries_from space 0 (take i ss) → new ≡ es ++ entries_at space i s
+pub function_push : (space : Space) (ss : List Setting) (i : ℕ) (s d : Setting) (es new : List RegionEntry) → s ≡ get_or ss i d → i < length ss → es ≡ entries_from space 0 (take i ss) → new ≡ es ++ entries_at space i s
     → new ≡ entries_from space 0 (take (i + 1) ss)
 function_push space ss i s d es new is within so_far more =
-    let at : slice_get ss i ≡ Some s = there ss i s d within is in
+    let at : slice_get ss i ≡ Some s = slice_get-get_or ss i d within ∙ ap Some (sym is) in
     let size : 0 + length (take i ss) ≡ i = simp length-take (omega (arith, within)) in
     more ∙ ap (λ xs. xs ++ entries_at space i s) so_far
     ∙ sym (ap (entries_from space 0) (take_at ss i s at) ∙ entries_push space 0 (take i ss) s ∙ ap (λ k. entries_from space 0 (take i ss) ++ entries_at space k s) size)
-  where
-    there : (xs : List Setting) (k : ℕ) (x y : Setting) → k < length xs → x ≡ get_or xs k y → slice_get xs k ≡ Some x
-    there [] k x y l e = absurd (omega arith)
-    there (z ∷ xs) zero x y l e = ap Some (sym e)
-    there (z ∷ xs) (suc k) x y l e = there xs k x y (omega arith) e

@@ -12,16 +12,16 @@ use Rattle.model_board.specs.Paths.{Path}
 use Rattle.model_set_up.specs.PlacedRegions.{PlacedRegion, claim_in}
 use Rattle.model_set_up.specs.UniqueClaimant.{ShareNone}
 use Rattle.model_set_up.proofs.Holders.{self_space, same_members}
-use Rattle.claim_table.specs.declared.entry.Entry.{Entry}
+use Rattle.claim_table.specs.declared.region_entry.RegionEntry.{RegionEntry}
 use Rattle.claim_table.specs.Tables.{TableEntry, table_claim}
 use Rattle.claim_table.specs.Entries.{AreEntries, table_entry, table_of}
 use Rattle.claim_table.specs.Fitting.{map_map}
 use Rattle.claim_table.proofs.Gathering.{region_of, is_of}
 use Rattle.claim_table.proofs.Sorting.{moved, moved_back, Disjoint, sorted_apart}
 
-pub record IsSortedOf (es fs : List Entry) : Type 0 where
+pub record IsSortedOf (es fs : List RegionEntry) : Type 0 where
   pub all : IsPermutation es fs
-  pub rising : IsNonDecreasingBy (λ (e : Entry). e.first) fs
+  pub rising : IsNonDecreasingBy (λ (e : RegionEntry). e.first) fs
 
 -- ---- what holds of the values of a map holds of its elements
 
@@ -35,42 +35,42 @@ pairs_unmap R f (x ∷ xs) h = (each_unmap (R (f x)) f xs h.0, pairs_unmap R f x
 
 -- ---- the regions rs, gathered by space
 
-pub record AreGathered (ps : List Path) (rs : List PlacedRegion) (all_of : Space → List Entry) : Type 0 where
+pub record AreGathered (ps : List Path) (rs : List PlacedRegion) (all_of : Space → List RegionEntry) : Type 0 where
   pub regions : (space : Space) → map (region_of ps space) (all_of space) ≡ filter (is_of space) rs
   pub apart : EachPair ShareNone rs
   pub sized : Each (λ (q : PlacedRegion). 0 < q.size) rs
-  pub known : (space : Space) → Each (λ (e : Entry). e.function < length ps) (all_of space)
+  pub known : (space : Space) → Each (λ (e : RegionEntry). e.function < length ps) (all_of space)
 
-module _ (ps : List Path) (rs : List PlacedRegion) (all_of : Space → List Entry) (of : AreGathered ps rs all_of) where
-  sizes : (space : Space) → Each (λ (e : Entry). 0 < e.size) (all_of space)
+module _ (ps : List Path) (rs : List PlacedRegion) (all_of : Space → List RegionEntry) (of : AreGathered ps rs all_of) where
+  sizes : (space : Space) → Each (λ (e : RegionEntry). 0 < e.size) (all_of space)
   sizes space = each_unmap (λ (q : PlacedRegion). 0 < q.size) (region_of ps space) (all_of space)
       (subst (Each (λ (q : PlacedRegion). 0 < q.size)) (sym (of.regions space)) (each_filter (λ (q : PlacedRegion). 0 < q.size) (is_of space) rs of.sized))
 
   disjoint : (space : Space) → EachPair Disjoint (all_of space)
   disjoint space =
-      pairs_map (λ (d e : Entry). ShareNone (region_of ps space d) (region_of ps space e)) Disjoint (all_of space) (λ d e none. none (self_space space))
+      pairs_map (λ (d e : RegionEntry). ShareNone (region_of ps space d) (region_of ps space e)) Disjoint (all_of space) (λ d e none. none (self_space space))
       (pairs_unmap ShareNone (region_of ps space) (all_of space) (subst (EachPair ShareNone) (sym (of.regions space)) (pairs_filter ShareNone (is_of space) rs of.apart)))
 
-  pub entries_are : (space : Space) (fs : List Entry) → IsSortedOf (all_of space) fs → AreEntries ps fs
+  pub entries_are : (space : Space) (fs : List RegionEntry) → IsSortedOf (all_of space) fs → AreEntries ps fs
   entries_are space fs h = record {
     apart = sorted_apart (all_of space) fs (disjoint space) (sizes space) h.all h.rising;
-    known = each_permutation (λ (e : Entry). e.function < length ps) (all_of space) fs h.all (of.known space);
+    known = each_permutation (λ (e : RegionEntry). e.function < length ps) (all_of space) fs h.all (of.known space);
   }
 
   -- ---- the claims
 
-  module _ (ports mems : List Entry) (hp : IsSortedOf (all_of io) ports) (hm : IsSortedOf (all_of memory) mems) where
+  module _ (ports mems : List RegionEntry) (hp : IsSortedOf (all_of io) ports) (hm : IsSortedOf (all_of memory) mems) where
     abbrev listed : List PlacedRegion
     listed = map (region_of ps io) ports ++ map (region_of ps memory) mems
 
-    placed_of : (space : Space) (fs : List Entry) → IsPermutation (all_of space) fs → (q : PlacedRegion) → IsIn q (map (region_of ps space) fs) → IsIn q rs
+    placed_of : (space : Space) (fs : List RegionEntry) → IsPermutation (all_of space) fs → (q : PlacedRegion) → IsIn q (map (region_of ps space) fs) → IsIn q rs
     placed_of space fs perm q m =
         let f = from_map (region_of ps space) q fs m in
         let k : IsIn (region_of ps space f.0) (map (region_of ps space) (all_of space)) = in_map (region_of ps space) f.0 (all_of space) (moved (all_of space) fs perm f.0 f.1) in
         let l : IsIn (region_of ps space f.0) (filter (is_of space) rs) = subst (IsIn (region_of ps space f.0)) (of.regions space) k in
         subst (λ (x : PlacedRegion). IsIn x rs) (sym f.2) (from_filter (is_of space) (region_of ps space f.0) rs l).0
 
-    listed_in : (space : Space) (fs : List Entry) → IsPermutation (all_of space) fs → (q : PlacedRegion) → IsIn q rs → same_space q.space space ≡ true → IsIn q (map (region_of ps space) fs)
+    listed_in : (space : Space) (fs : List RegionEntry) → IsPermutation (all_of space) fs → (q : PlacedRegion) → IsIn q rs → same_space q.space space ≡ true → IsIn q (map (region_of ps space) fs)
     listed_in space fs perm q m here =
         let l : IsIn q (map (region_of ps space) (all_of space)) = subst (IsIn q) (sym (of.regions space)) (in_filter (is_of space) q rs m here) in
         let f = from_map (region_of ps space) q (all_of space) l in

@@ -1,9 +1,11 @@
 -- The table of a board in order: its regions are the open ones, and its claims are those of the board.
-use Rattle.std.proofs.Common.{◌≡◌, ℕ, zero, suc, ◌+◌, ◌≤◌, ◌<◌, Bool, true, false, cond, List, [], ◌∷◌, ◌++◌, length, Some, refl, sym, ap, ap₂, ◌∙◌, subst, arith}
+use Rattle.std.proofs.Common.{◌≡◌, ℕ, suc, ◌+◌, ◌≤◌, ◌<◌, Bool, true, false, cond, List, [], ◌∷◌, ◌++◌, length, Some, refl, sym, ap, ap₂, ◌∙◌, subst, arith}
 use Rattle.std.specs.Prelude.{map, filter, slice_get}
 use Rattle.std.proofs.lemmas.List.{map-append, length-map}
+use Rattle.std.proofs.lemmas.List.Elements.{filter-append}
 use Rattle.lists.specs.Elements.{Each}
 use Rattle.lists.proofs.EachLemmas.{each_append, each_map, each_of_map, each_filter}
+use Rattle.lists.proofs.Members.{each_from}
 use Rattle.model_registers.specs.Registers.{File}
 use Rattle.model_registers.specs.Declarations.{Region, IsLawfulRegion}
 use Rattle.model_registers.specs.EndpointTable.{BaseAddress}
@@ -19,12 +21,12 @@ use Rattle.model_audit.specs.OpenRegions.{region_now, open_of, open_regions}
 use Rattle.model_audit.specs.Orderly.{IsStateOfBoard, IsOrderly, HasClaimsOfRegions}
 use Rattle.model_audit.proofs.Claims.{orderly_claims}
 use Rattle.host_bridge.specs.HostState.{HostState}
-use Rattle.claim_table.specs.declared.entry.Entry.{Entry}
+use Rattle.claim_table.specs.declared.region_entry.RegionEntry.{RegionEntry}
 use Rattle.claim_table.specs.Tables.{table_claim, FitsTable, IsOfFunction}
 use Rattle.claim_table.specs.Entries.{entry_for, of_space, AreEntries, path_nth, table_entry, table_of}
 use Rattle.claim_table.specs.OpenEntries.{open_at, open_entries}
 use Rattle.claim_table.specs.Fitting.{map_map, paths, fits_by_routing}
-use Rattle.claim_table.proofs.Gathering.{region_of, is_of, filter-append}
+use Rattle.claim_table.proofs.Gathering.{region_of, is_of, paths_read}
 use Rattle.claim_table.proofs.Listing.{IsSortedOf, AreGathered, entries_are, claims_listed}
 use Rattle.claim_table.proofs.Building.{some_bytes, of_functions}
 
@@ -82,20 +84,11 @@ module _ (ps : List Path) (space : Space) where
       ∙ ap₂ ◌++◌ (of_row ps space i r.path here r.command r.ranges) (of_rows (i + 1) rows (λ j s e. let y : i + 1 + j ≡ i + suc j = omega arith in ap (path_nth ps) y ∙ at (suc j) s e))
       ∙ sym (filter-append (is_of space) (open_of r) (open_regions rows))
 
-paths_read : (rows : List RoutingRow) (j : ℕ) (r : RoutingRow) → slice_get rows j ≡ Some r → path_nth (map (λ (x : RoutingRow). x.path) rows) j ≡ r.path
-paths_read [] j r e = cc
-paths_read (s ∷ rows) zero r e = let same : s ≡ r = cc in ap (λ (x : RoutingRow). x.path) same
-paths_read (s ∷ rows) (suc j) r e = paths_read rows j r e
-
-known : (space : Space) (i : ℕ) (rows : List RoutingRow) (n : ℕ) → i + length rows ≤ n → Each (λ (e : Entry). e.function < n) (open_entries space i rows)
+known : (space : Space) (i : ℕ) (rows : List RoutingRow) (n : ℕ) → i + length rows ≤ n → Each (λ (e : RegionEntry). e.function < n) (open_entries space i rows)
 known space i [] n h = tt
 known space i (r ∷ rows) n h =
-    each_append (λ (e : Entry). e.function < n) (open_at space i r) (open_entries space (i + 1) rows)
-    (each_of_map (λ (e : Entry). e.function < n) (entry_for i) _ (every _)) (known space (i + 1) rows n (omega arith))
-  where
-    every : (bs : List BaseAddress) → Each (λ (b : BaseAddress). i < n) bs
-    every [] = tt
-    every (b ∷ bs) = (omega (arith, h), every bs)
+    each_append (λ (e : RegionEntry). e.function < n) (open_at space i r) (open_entries space (i + 1) rows)
+    (each_of_map (λ (e : RegionEntry). e.function < n) (entry_for i) _ (each_from (λ b. i < n) _ (λ b _. omega (arith, h)))) (known space (i + 1) rows n (omega arith))
 
 -- ---- each open region has a byte
 
@@ -123,12 +116,12 @@ module _ (h : HostState) (board : IsStateOfBoard h.state.functions) (order : IsO
   claims : HasClaimsOfRegions fs
   claims = orderly_claims fs board order
 
-  abbrev all_of : Space → List Entry
+  abbrev all_of : Space → List RegionEntry
   all_of space = open_entries space 0 (routing fs)
 
   gathered : AreGathered ps (open_regions (routing fs)) all_of
   gathered = record {
-    regions = λ space. of_rows ps space 0 (routing fs) (λ j r e. let z : 0 + j ≡ j = omega arith in ap (path_nth ps) z ∙ paths_read (routing fs) j r e);
+    regions = λ space. of_rows ps space 0 (routing fs) (λ j r e. let z : 0 + j ≡ j = omega arith in ap (path_nth ps) z ∙ paths_read (λ (x : RoutingRow). x.path) (routing fs) j r e);
     apart = claims.apart;
     sized = sized fs board.declarations;
     known = λ space. known space 0 (routing fs) (length ps) (let n : length ps ≡ length (routing fs) = length-map (routing fs) (λ (r : RoutingRow). r.path) in omega (arith, n));
@@ -138,13 +131,13 @@ module _ (h : HostState) (board : IsStateOfBoard h.state.functions) (order : IsO
     own_paths : qs ≡ ps
     own_paths = paths_are ∙ ap (map (λ (r : RoutingRow). r.path)) rows_are
 
-    sorted_of : (space : Space) (es : List Entry) → IsSortedOf (open_entries space 0 rows) es → IsSortedOf (all_of space) es
+    sorted_of : (space : Space) (es : List RegionEntry) → IsSortedOf (open_entries space 0 rows) es → IsSortedOf (all_of space) es
     sorted_of space es s = subst (λ (rs : List RoutingRow). IsSortedOf (open_entries space 0 rs) es) rows_are s
 
-    pub open_are : (space : Space) (es : List Entry) → IsSortedOf (open_entries space 0 rows) es → AreEntries qs es
+    pub open_are : (space : Space) (es : List RegionEntry) → IsSortedOf (open_entries space 0 rows) es → AreEntries qs es
     open_are space es s = subst (λ (xs : List Path). AreEntries xs es) (sym own_paths) (entries_are ps (open_regions (routing fs)) all_of gathered space es (sorted_of space es s))
 
-    module _ (ports mems : List Entry) (hp : IsSortedOf (open_entries io 0 rows) ports) (hm : IsSortedOf (open_entries memory 0 rows) mems) where
+    module _ (ports mems : List RegionEntry) (hp : IsSortedOf (open_entries io 0 rows) ports) (hm : IsSortedOf (open_entries memory 0 rows) mems) where
       host_paths : paths fs ≡ qs
       host_paths = sym (own_paths ∙ map_map (λ (r : RoutingRow). r.path) row_of fs)
 

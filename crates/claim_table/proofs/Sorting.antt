@@ -3,13 +3,13 @@ use Rattle.std.proofs.Common.{◌≡◌, suc, ◌+◌, ◌≤◌, ◌<◌, ◌�
 use Rattle.std.specs.Prelude.{not}
 use Rattle.std.specs.List.{IsDistinct, AllByRecursion}
 use Rattle.std.specs.List.Sorted.{IsPermutation, IsNonDecreasingBy}
-use Rattle.std.proofs.lemmas.Bool.{leb-true, le-leb}
+use Rattle.std.proofs.lemmas.Bool.{leb-true, le-leb, not-false, or_cases}
 use Rattle.std.proofs.lemmas.List.Sorted.{IsPermutation-sym}
 use Rattle.std.proofs.lemmas.Map.Keys.{IsDistinct-IsPermutation}
 use Rattle.lists.specs.Elements.{Each, EachPair, IsIn}
 use Rattle.lists.proofs.EachLemmas.{each-all, each_permutation}
 use Rattle.lists.proofs.Members.{each_in, each_from}
-use Rattle.claim_table.specs.declared.entry.Entry.{Entry}
+use Rattle.claim_table.specs.declared.region_entry.RegionEntry.{RegionEntry}
 use Rattle.claim_table.specs.Entries.{AreApart}
 
 pub moved : {A : Type 0} (xs ys : List A) → IsPermutation xs ys → (x : A) → IsIn x ys → IsIn x xs
@@ -19,7 +19,7 @@ pub moved_back : {A : Type 0} (xs ys : List A) → IsPermutation xs ys → (x : 
 moved_back xs ys perm x m = moved ys xs (IsPermutation-sym xs ys perm) x m
 
 -- two regions share an address, as a test that does not tell them apart
-abbrev pub meet : Entry → Entry → Bool
+abbrev pub meet : RegionEntry → RegionEntry → Bool
 meet d e = not (leb (d.first + d.size) e.first || leb (e.first + e.size) d.first)
 
 or_turned : (s t : Bool) → not (s || t) ≡ not (t || s)
@@ -28,50 +28,44 @@ or_turned true false = refl
 or_turned false true = refl
 or_turned false false = refl
 
-turned : (d e : Entry) → meet d e ≡ meet e d
+turned : (d e : RegionEntry) → meet d e ≡ meet e d
 turned d e = or_turned (leb (d.first + d.size) e.first) (leb (e.first + e.size) d.first)
 
-abbrev pub Disjoint : Entry → Entry → Type 0
+abbrev pub Disjoint : RegionEntry → RegionEntry → Type 0
 Disjoint d e = (d.first + d.size ≤ e.first) ⊎ (e.first + e.size ≤ d.first)
 
-meet_none : (d e : Entry) → Disjoint d e → meet d e ≡ false
+meet_none : (d e : RegionEntry) → Disjoint d e → meet d e ≡ false
 meet_none d e (inl h) = let t : leb (d.first + d.size) e.first ≡ true = le-leb (d.first + d.size) e.first h in rw t refl
 meet_none d e (inr h) = let t : leb (e.first + e.size) d.first ≡ true = le-leb (e.first + e.size) d.first h in turned d e ∙ rw t refl
 
--- one of the two tests holds
-either : (s t : Bool) → not (s || t) ≡ false → (s ≡ true) ⊎ (t ≡ true)
-either true t h = inl refl
-either false true h = inr refl
-either false false h = cc
-
-distinct_from : (es : List Entry) → EachPair Disjoint es → IsDistinct meet es
+distinct_from : (es : List RegionEntry) → EachPair Disjoint es → IsDistinct meet es
 unfolding IsDistinct
 distinct_from [] h = tt
 distinct_from (e ∷ es) h = (by_each es h.0, distinct_from es h.1)
   where
-    by_each : (ds : List Entry) → Each (Disjoint e) ds → AllByRecursion (λ d. meet e d ≡ false) ds
+    by_each : (ds : List RegionEntry) → Each (Disjoint e) ds → AllByRecursion (λ d. meet e d ≡ false) ds
     by_each [] k = tt
     by_each (d ∷ ds) k = (meet_none e d k.0, by_each ds k.1)
 
-ordered : (d e : Entry) → d.first ≤ e.first → 0 < e.size → meet d e ≡ false → d.first + d.size ≤ e.first
-ordered d e up some h = by_side (either (leb (d.first + d.size) e.first) (leb (e.first + e.size) d.first) h)
+ordered : (d e : RegionEntry) → d.first ≤ e.first → 0 < e.size → meet d e ≡ false → d.first + d.size ≤ e.first
+ordered d e up some h = by_side (or_cases (leb (d.first + d.size) e.first) (leb (e.first + e.size) d.first) (not-false (leb (d.first + d.size) e.first || leb (e.first + e.size) d.first) h))
   where
     by_side : (leb (d.first + d.size) e.first ≡ true) ⊎ (leb (e.first + e.size) d.first ≡ true) → d.first + d.size ≤ e.first
     by_side (inl t) = leb-true _ _ t
     by_side (inr t) = let l : e.first + e.size ≤ d.first = leb-true _ _ t in absurd (omega arith)
 
-rising : (es : List Entry) → IsNonDecreasingBy (λ (e : Entry). e.first) es → Each (λ (e : Entry). 0 < e.size) es → IsDistinct meet es → AreApart es
+rising : (es : List RegionEntry) → IsNonDecreasingBy (λ (e : RegionEntry). e.first) es → Each (λ (e : RegionEntry). 0 < e.size) es → IsDistinct meet es → AreApart es
 unfolding IsDistinct
 rising [] up some h = tt
 rising (e ∷ es) up some h = (
-  by_each es (each-all (λ (d : Entry). e.first ≤ d.first) es (λ k d l. up 0 (suc k) d (omega arith) (omega arith))) some.1 h.0,
+  by_each es (each-all (λ (d : RegionEntry). e.first ≤ d.first) es (λ k d l. up 0 (suc k) d (omega arith) (omega arith))) some.1 h.0,
   rising es (λ i j d l m. up (suc i) (suc j) d (omega arith) (omega arith)) some.1 h.1,
 )
   where
-    by_each : (ds : List Entry) → Each (λ (d : Entry). e.first ≤ d.first) ds → Each (λ (d : Entry). 0 < d.size) ds → AllByRecursion (λ d. meet e d ≡ false) ds → Each (λ (d : Entry). e.first + e.size ≤ d.first) ds
+    by_each : (ds : List RegionEntry) → Each (λ (d : RegionEntry). e.first ≤ d.first) ds → Each (λ (d : RegionEntry). 0 < d.size) ds → AllByRecursion (λ d. meet e d ≡ false) ds → Each (λ (d : RegionEntry). e.first + e.size ≤ d.first) ds
     by_each [] u s k = tt
     by_each (d ∷ ds) u s k = (ordered e d u.0 s.0 k.0, by_each ds u.1 s.1 k.1)
 
-pub sorted_apart : (es fs : List Entry) → EachPair Disjoint es → Each (λ (e : Entry). 0 < e.size) es → IsPermutation es fs → IsNonDecreasingBy (λ (e : Entry). e.first) fs → AreApart fs
+pub sorted_apart : (es fs : List RegionEntry) → EachPair Disjoint es → Each (λ (e : RegionEntry). 0 < e.size) es → IsPermutation es fs → IsNonDecreasingBy (λ (e : RegionEntry). e.first) fs → AreApart fs
 sorted_apart es fs apart some perm up =
-    rising fs up (each_permutation (λ (e : Entry). 0 < e.size) es fs perm some) (IsDistinct-IsPermutation meet turned es fs perm (distinct_from es apart))
+    rising fs up (each_permutation (λ (e : RegionEntry). 0 < e.size) es fs perm some) (IsDistinct-IsPermutation meet turned es fs perm (distinct_from es apart))

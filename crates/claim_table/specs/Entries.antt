@@ -10,10 +10,10 @@ use Rattle.model_registers.specs.Decoding.{Space, io, memory, space_of, same_spa
 use Rattle.model_registers.specs.EndpointTable.{BaseAddress}
 use Rattle.model_board.specs.Paths.{Path}
 use Rattle.model_set_up.specs.SetUpWrites.{Writes, to_endpoint, to_bridge, Setting}
-use Rattle.claim_table.specs.declared.entry.Entry.{Entry}
+use Rattle.claim_table.specs.declared.region_entry.RegionEntry.{RegionEntry}
 use Rattle.claim_table.specs.Tables.{TableEntry}
 
-abbrev pub entry_for : ℕ → BaseAddress → Entry
+abbrev pub entry_for : ℕ → BaseAddress → RegionEntry
 entry_for i x = record { first = x.base; size = x.size; function = i; region = x.index }
 
 abbrev pub bases_in : Writes → List BaseAddress
@@ -23,37 +23,37 @@ bases_in (to_bridge windows) = []
 abbrev pub of_space : Space → List BaseAddress → List BaseAddress
 of_space space bases = filter (λ (x : BaseAddress). same_space (space_of x.kind) space) bases
 
-abbrev pub entries_at : Space → ℕ → Setting → List Entry
+abbrev pub entries_at : Space → ℕ → Setting → List RegionEntry
 entries_at space i s = map (entry_for i) (of_space space (bases_in s.writes))
 
-abbrev pub entries_from : Space → ℕ → List Setting → List Entry
+abbrev pub entries_from : Space → ℕ → List Setting → List RegionEntry
 entries_from space i [] = []
 entries_from space i (s ∷ settings) = entries_at space i s ++ entries_from space (i + 1) settings
 
-abbrev pub lies_in : ℕ → Entry → Bool
+abbrev pub lies_in : ℕ → RegionEntry → Bool
 lies_in n e = nat_le e.first n && nat_lt n (e.first + e.size)
 
-abbrev pub AreApart : List Entry → Type 0
-AreApart es = EachPair (λ (d e : Entry). d.first + d.size ≤ e.first) es
+abbrev pub AreApart : List RegionEntry → Type 0
+AreApart es = EachPair (λ (d e : RegionEntry). d.first + d.size ≤ e.first) es
 
-abbrev pub by_space : Space → List Entry → List Entry → List Entry
+abbrev pub by_space : Space → List RegionEntry → List RegionEntry → List RegionEntry
 by_space io ports memories = ports
 by_space memory ports memories = memories
 
 -- apart, and each of a function that has a path
-pub record AreEntries (ps : List Path) (es : List Entry) : Type 0 where
+pub record AreEntries (ps : List Path) (es : List RegionEntry) : Type 0 where
   pub apart : AreApart es
-  pub known : Each (λ (e : Entry). e.function < length ps) es
+  pub known : Each (λ (e : RegionEntry). e.function < length ps) es
 
 abbrev pub path_nth : List Path → ℕ → Path
 path_nth ps i = unwrap_or (slice_get ps i) []
 
-abbrev pub table_entry : List Path → Space → Entry → TableEntry
+abbrev pub table_entry : List Path → Space → RegionEntry → TableEntry
 table_entry ps space e = record {
   function = e.function;
   region = record { path = path_nth ps e.function; index = e.region; space = space; first = e.first; size = e.size };
 }
 
 -- I/O first, then memory
-abbrev pub table_of : List Path → List Entry → List Entry → List TableEntry
+abbrev pub table_of : List Path → List RegionEntry → List RegionEntry → List TableEntry
 table_of ps ports memories = map (table_entry ps io) ports ++ map (table_entry ps memory) memories

@@ -5,7 +5,7 @@ use Rattle.std.specs.Prelude.{List, [], ◌∷◌, ◌++◌, ℕ, ◌+◌, if◌
 use Rattle.model_registers.specs.Decoding.{Space, opens_space}
 use Rattle.model_registers.specs.EndpointTable.{BaseAddress}
 use Rattle.model_board.specs.Routing.{RoutingRow, regions, windows}
-use Rattle.claim_table.specs.declared.entry.Entry.{Entry}
+use Rattle.claim_table.specs.declared.region_entry.RegionEntry.{RegionEntry}
 use Rattle.claim_table.specs.Entries.{entry_for, of_space}
 
 abbrev pub open_bases : Space → RoutingRow → List BaseAddress
@@ -14,9 +14,9 @@ open_bases space r = elim r.ranges [
   | windows wio wmem wpref ↦ []
 ]
 
-abbrev pub open_at : Space → ℕ → RoutingRow → List Entry
+abbrev pub open_at : Space → ℕ → RoutingRow → List RegionEntry
 open_at space i r = map (entry_for i) (open_bases space r)
 
-abbrev pub open_entries : Space → ℕ → List RoutingRow → List Entry
+abbrev pub open_entries : Space → ℕ → List RoutingRow → List RegionEntry
 open_entries space i [] = []
 open_entries space i (r ∷ rows) = open_at space i r ++ open_entries space (i + 1) rows

@@ -4,16 +4,21 @@ ghost use Rattle.std.specs.Option.{option_to_list};
 ghost use Rattle.std.specs.List.Sorted.{IsPermutation, IsNonDecreasingBy};
 ghost use Rattle.bars.specs.Kinds.{named_space};
 ghost use Rattle.bars.specs.Slots.{bases_from};
-ghost use Rattle.claim_table.specs.declared.entry.Entry.{Entry as EntryValue};
+ghost use Rattle.claim_table.specs.declared.region_entry.RegionEntry.{RegionEntry as EntryValue};
 ghost use Rattle.claim_table.specs.Entries.{entry_for, of_space, entries_from};
 
-use crate::entry::Entry;
+use crate::region_entry::RegionEntry;
 use bars::{Region, Space};
 use std::alloc::{AllocError, Global};
 use window_packing::{Setting, Writes};
 
 /// The region of a register, if it lies in a space.
-fn entry_of(placed: Option<Region>, space: Space, function: usize, region: u8) -> Option<Entry>
+fn entry_of(
+    placed: Option<Region>,
+    space: Space,
+    function: usize,
+    region: u8,
+) -> Option<RegionEntry>
     ensures { option_to_list result
         ≡ map (entry_for function) (of_space (named_space space) (bases_from region (placed ∷ []))) }
 {
@@ -21,7 +26,7 @@ fn entry_of(placed: Option<Region>, space: Space, function: usize, region: u8) -
     if placed.decl.kind().space() != space {
         return None;
     }
-    Some(Entry {
+    Some(RegionEntry {
         first: placed.base,
         size: placed.decl.size(),
         function,
@@ -31,7 +36,7 @@ fn entry_of(placed: Option<Region>, space: Space, function: usize, region: u8) -
 
 /// Adds the regions of one space of a function.
 fn add_regions(
-    entries: &mut Vec<Entry>,
+    entries: &mut Vec<RegionEntry>,
     space: Space,
     function: usize,
     bases: &[Option<Region>; 6],
@@ -49,7 +54,11 @@ fn add_regions(
 }
 
 /// The regions of one space of all functions, in path order.
-fn all_regions(alloc: Global, space: Space, settings: &[Setting]) -> Result<Vec<Entry>, AllocError>
+fn all_regions(
+    alloc: Global,
+    space: Space,
+    settings: &[Setting],
+) -> Result<Vec<RegionEntry>, AllocError>
     ensures { IfOk result (λ v. v.items ≡ entries_from (named_space space) 0 settings.now) }
 {
     let mut entries = Vec::new(alloc);
@@ -73,7 +82,7 @@ pub(crate) fn by_address(
     alloc: Global,
     space: Space,
     settings: &[Setting],
-) -> Result<Vec<Entry>, AllocError>
+) -> Result<Vec<RegionEntry>, AllocError>
     ensures all { IfOk result (λ v. IsPermutation (entries_from (named_space space) 0 settings.now) v.items) }
     ensures rising { IfOk result (λ v. IsNonDecreasingBy (λ (e : EntryValue). e.first) v.items) }
 {

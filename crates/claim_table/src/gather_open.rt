@@ -4,11 +4,11 @@ ghost use Rattle.std.specs.List.Sorted.{IsPermutation, IsNonDecreasingBy};
 ghost use Rattle.bars.specs.Kinds.{named_space};
 ghost use Rattle.model_registers.specs.Decoding.{opens_space};
 ghost use Rattle.bridge_forward.specs.RoutingRows.{base_of};
-ghost use Rattle.claim_table.specs.declared.entry.Entry.{Entry as EntryValue};
+ghost use Rattle.claim_table.specs.declared.region_entry.RegionEntry.{RegionEntry as EntryValue};
 ghost use Rattle.claim_table.specs.Entries.{entry_for, of_space};
 ghost use Rattle.claim_table.specs.OpenEntries.{open_at, open_entries};
 
-use crate::entry::Entry;
+use crate::region_entry::RegionEntry;
 use bars::Space;
 use bridge_forward::{Ranges, RegionNow, RoutingRow};
 use std::alloc::{AllocError, Global};
@@ -22,7 +22,7 @@ fn opens(command: u16, space: Space) -> bool
 
 /// Adds those regions of a function that lie in a space.
 fn add_regions(
-    entries: &mut Vec<Entry>,
+    entries: &mut Vec<RegionEntry>,
     space: Space,
     function: usize,
     regions: &[RegionNow],
@@ -32,7 +32,7 @@ fn add_regions(
 {
     for region in regions {
         if region.kind.space() == space {
-            entries.push(Entry {
+            entries.push(RegionEntry {
                 first: region.base,
                 size: region.size,
                 function,
@@ -45,7 +45,7 @@ fn add_regions(
 
 /// Adds the open regions of one space of a function.
 fn add_open(
-    entries: &mut Vec<Entry>,
+    entries: &mut Vec<RegionEntry>,
     space: Space,
     function: usize,
     row: &RoutingRow,
@@ -69,7 +69,11 @@ fn add_open(
 }
 
 /// The open regions of one space of all functions, in path order.
-fn all_open(alloc: Global, space: Space, rows: &[RoutingRow]) -> Result<Vec<Entry>, AllocError>
+fn all_open(
+    alloc: Global,
+    space: Space,
+    rows: &[RoutingRow],
+) -> Result<Vec<RegionEntry>, AllocError>
     ensures { IfOk result (λ v. v.items ≡ open_entries (named_space space) 0 rows.now) }
 {
     let mut entries = Vec::new(alloc);
@@ -84,7 +88,7 @@ pub(crate) fn open_by_address(
     alloc: Global,
     space: Space,
     rows: &[RoutingRow],
-) -> Result<Vec<Entry>, AllocError>
+) -> Result<Vec<RegionEntry>, AllocError>
     ensures all { IfOk result (λ v. IsPermutation (open_entries (named_space space) 0 rows.now) v.items) }
     ensures rising { IfOk result (λ v. IsNonDecreasingBy (λ (e : EntryValue). e.first) v.items) }
 {

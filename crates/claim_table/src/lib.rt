@@ -2,9 +2,9 @@
 //! Bridge Architecture 1.2, chapter 4).
 #![tactic(auto)]
 
-mod entry;
 mod gather;
 mod gather_open;
+mod region_entry;
 mod search;
 mod table;
 

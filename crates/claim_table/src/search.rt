@@ -3,11 +3,15 @@ ghost use Rattle.std.specs.Prelude.{◌≡◌, find};
 ghost use Rattle.bars.specs.Kinds.{named_space};
 ghost use Rattle.claim_table.specs.Entries.{lies_in, by_space, AreApart};
 
-use crate::entry::Entry;
+use crate::region_entry::RegionEntry;
 use bars::Space;
 
 /// The list of a space.
-pub(crate) fn of_space<'a>(space: Space, ports: &'a [Entry], memory: &'a [Entry]) -> &'a [Entry]
+pub(crate) fn of_space<'a>(
+    space: Space,
+    ports: &'a [RegionEntry],
+    memory: &'a [RegionEntry],
+) -> &'a [RegionEntry]
     ensures { result.now ≡ by_space (named_space space) ports.now memory.now }
 {
     match space {
@@ -18,7 +22,7 @@ pub(crate) fn of_space<'a>(space: Space, ports: &'a [Entry], memory: &'a [Entry]
 
 /// The region that an address lies in, found by halving: it can only be the last of those that begin at
 /// or before the address.
-pub(crate) fn entry_at(entries: &[Entry], addr: u64) -> Option<Entry>
+pub(crate) fn entry_at(entries: &[RegionEntry], addr: u64) -> Option<RegionEntry>
     requires { AreApart entries.now }
     ensures { result ≡ find (lies_in addr) entries.now }
 {

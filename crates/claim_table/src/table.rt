@@ -3,9 +3,9 @@ ghost use Rattle.std.specs.Prelude.{◌≡◌, IfOk, map};
 ghost use Rattle.model_set_up.specs.FunctionTable.{TableRow};
 ghost use Rattle.model_board.specs.Routing.{RoutingRow as RowValue};
 
-use crate::entry::Entry;
 use crate::gather::by_address;
 use crate::gather_open::open_by_address;
+use crate::region_entry::RegionEntry;
 use crate::search::{entry_at, of_space};
 use bridge_forward::RoutingRow;
 use bus_scan::FunctionRow;
@@ -19,8 +19,8 @@ use window_packing::Ready;
 #[derive(Drop)]
 pub struct Table {
     paths: Vec<Path>,
-    ports: Vec<Entry>,
-    memory: Vec<Entry>,
+    ports: Vec<RegionEntry>,
+    memory: Vec<RegionEntry>,
 }
 
 impl Model for Table {

@@ -2,14 +2,14 @@ use Rattle.std.proofs.Common.{◌≡◌, List, map, ap, subst, ◌∙◌}
 use Rattle.model_registers.specs.Decoding.{Space, io, memory}
 use Rattle.model_set_up.specs.FunctionTable.{TableRow}
 use Rattle.model_set_up.specs.SetUpWrites.{Plan, Setting}
-use Rattle.claim_table.specs.declared.entry.Entry.{Entry}
+use Rattle.claim_table.specs.declared.region_entry.RegionEntry.{RegionEntry}
 use Rattle.claim_table.specs.Entries.{entries_from}
 use Rattle.claim_table.proofs.Building.{ready_entries, fits_ready}
 use Rattle.claim_table.proofs.Listing.{IsSortedOf}
 use Rattle.claim_table.proofs.table.Table.build.Goals as goal
 
 -- by the settings of the plan
-of_plan : (space : Space) (ss ts : List Setting) (es : List Entry) → ss ≡ ts → IsSortedOf (entries_from space 0 ss) es → IsSortedOf (entries_from space 0 ts) es
+of_plan : (space : Space) (ss ts : List Setting) (es : List RegionEntry) → ss ≡ ts → IsSortedOf (entries_from space 0 ss) es → IsSortedOf (entries_from space 0 ts) es
 of_plan space ss ts es same h = subst (λ (xs : List Setting). IsSortedOf (entries_from space 0 xs) es) same h
 
 pub invariant_of-result : goal.invariant_of-result

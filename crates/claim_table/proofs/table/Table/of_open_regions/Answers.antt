@@ -1,13 +1,13 @@
 use Rattle.std.proofs.Common.{◌≡◌, List, map, ap, subst, ◌∙◌}
 use Rattle.model_registers.specs.Decoding.{Space, io, memory}
 use Rattle.model_board.specs.Routing.{RoutingRow}
-use Rattle.claim_table.specs.declared.entry.Entry.{Entry}
+use Rattle.claim_table.specs.declared.region_entry.RegionEntry.{RegionEntry}
 use Rattle.claim_table.specs.OpenEntries.{open_entries}
 use Rattle.claim_table.proofs.Listing.{IsSortedOf}
 use Rattle.claim_table.proofs.OpenListing.{open_are, fits_open}
 use Rattle.claim_table.proofs.table.Table.of_open_regions.Goals as goal
 
-of_rows : (space : Space) (read rows : List RoutingRow) (es : List Entry) → read ≡ rows → IsSortedOf (open_entries space 0 read) es → IsSortedOf (open_entries space 0 rows) es
+of_rows : (space : Space) (read rows : List RoutingRow) (es : List RegionEntry) → read ≡ rows → IsSortedOf (open_entries space 0 read) es → IsSortedOf (open_entries space 0 rows) es
 of_rows space read rows es same h = subst (λ (xs : List RoutingRow). IsSortedOf (open_entries space 0 xs) es) same h
 
 pub invariant_of-result : goal.invariant_of-result
