@@ -53,7 +53,7 @@ module _ (s t : State) (on_s : IsStateOfBoard s.functions) (on_t : IsStateOfBoar
   slot_carried : (q : Option Path) (f : Option Function) (o : Option Held) → IsSlot s q f o → IsSlot t q f o
   slot_carried None None None is = tt
   slot_carried (Some p) (Some f) (Some h) is = held_carried p f h is
-  slot_carried p f h is = absurd is
+  slot_carried q f o is = absurd is
 
   slots_carried : (qs : List (Option Path)) (fs : Slots) (os : List (Option Held)) → AreSlots s qs fs os → AreSlots t qs fs os
   slots_carried [] [] [] are = tt

@@ -47,7 +47,7 @@ module _ (s : State) (board : IsBoard (board_at s.functions)) (i : ℕ) (r : Row
   at_slot : (q : Option Path) (f : Option Function) (o : Option Held) → IsSlot s q f o → is_at i o ≡ path.is_at r.path q
   at_slot None None None is = refl
   at_slot (Some p) (Some f) (Some h) is = same_index (board_at s.functions) board i h.index r _ at is.row
-  at_slot p f h is = absurd is
+  at_slot q f o is = absurd is
 
   pub in_slots : (qs : List (Option Path)) (fs : Slots) (os : List (Option Held)) → AreSlots s qs fs os → list_any (is_at i) os ≡ list_any (path.is_at r.path) qs
   in_slots [] [] [] are = refl

@@ -33,19 +33,13 @@ pub record IsHeld (s : State) (p : Path) (f : Function) (h : Held) : Type 0 wher
 
 abbrev pub IsSlot : State → Option Path → Option Function → Option Held → Type 0
 IsSlot s None None None = ⊤
-IsSlot s None None (Some h) = ⊥
-IsSlot s None (Some f) o = ⊥
-IsSlot s (Some p) None o = ⊥
-IsSlot s (Some p) (Some f) None = ⊥
 IsSlot s (Some p) (Some f) (Some h) = IsHeld s p f h
+IsSlot s q f o = ⊥
 
 abbrev pub AreSlots : State → List (Option Path) → Slots → List (Option Held) → Type 0
 AreSlots s [] [] [] = ⊤
-AreSlots s [] [] (o ∷ os) = ⊥
-AreSlots s [] (f ∷ fs) os = ⊥
-AreSlots s (q ∷ qs) [] os = ⊥
-AreSlots s (q ∷ qs) (f ∷ fs) [] = ⊥
 AreSlots s (q ∷ qs) (f ∷ fs) (o ∷ os) = IsSlot s q f o × AreSlots s qs fs os
+AreSlots s qs fs os = ⊥
 
 pub record IsGuest (s : State) (name : Text) (w : GuestNow) (g : Guest) : Type 0 where
   pub name_is : w.name ≡ name
@@ -54,11 +48,8 @@ pub record IsGuest (s : State) (name : Text) (w : GuestNow) (g : Guest) : Type 0
 
 abbrev pub AreGuests : State → List Text → GuestsNow → List Guest → Type 0
 AreGuests s [] [] [] = ⊤
-AreGuests s [] [] (g ∷ gs) = ⊥
-AreGuests s [] (w ∷ ws) gs = ⊥
-AreGuests s (t ∷ ts) [] gs = ⊥
-AreGuests s (t ∷ ts) (w ∷ ws) [] = ⊥
 AreGuests s (t ∷ ts) (w ∷ ws) (g ∷ gs) = IsGuest s t w g × AreGuests s ts ws gs
+AreGuests s ts ws gs = ⊥
 
 -- bridges, functions in no slot, bus numbers and routing registers are as they were handed over: `board_state` says so.
 -- Functions in slots are at reset in the handoff, which the board shows only so.
