@@ -11,6 +11,7 @@ use Rattle.toml.specs.Data.{Members}
 use Rattle.model_registers.specs.DeclarationRules.{has_own_registers}
 use Rattle.board_file.specs.Entries.{Patterns, Bar, Config, Endpoint, Bridge, Guest, File, file}
 use Rattle.board_file.specs.Functions.{region}
+use Rattle.board_file.specs.Blocks.{is_block}
 use Rattle.board_file.specs.Faults.{number_of}
 use Rattle.board_file.specs.RuleFaults.{fault_of, key_of}
 use Rattle.board_file.specs.EntryRules.{file_rules, host_rules, endpoint_rules, has_indices, bar_rules, config_rules, are_apart, bridge_rules, guest_rules, slot_rules}
@@ -83,6 +84,15 @@ is_said text ms t (by_earlier h) told e =
 abbrev Caused : File → Found → Type 0
 Caused f x = needs_cause x.rule ≡ true → Reason f x.entry x.rule
 
+abbrev AllCaused : File → List Found → Type 0
+AllCaused f xs = (x : Found) → IsIn x xs → Caused f x
+
+both : (f : File) (xs ys : List Found) → AllCaused f xs → AllCaused f ys → AllCaused f (xs ++ ys)
+both f xs ys first second x m = elim (front_or_back x xs ys m) [ inl h ↦ first x h | inr h ↦ second x h ]
+
+of_all : {A : Type 0} (f : File) (g : A → List Found) (items : List A) → ((a : A) → IsIn a items → AllCaused f (g a)) → AllCaused f (flat_map g items)
+of_all f g items each x m = let found = from_flat_map g x items m in each found.0 found.1 x found.2
+
 -- ---- lists of rules
 
 abbrev at_rule : Entry → Rule → Found
@@ -96,21 +106,21 @@ from_broken x e rules m = let found = from_flat_map (unless_kept e) x rules m in
     by_kept r false there (inl same) = (r, there, same)
     by_kept r false there (inr wrong) = absurd wrong
 
-at_found : (f : File) (x : Found) (e : Entry) (r : Rule) → x ≡ at_rule e r → Reason f e r → Caused f x
-at_found f x e r is reason need = subst (λ (y : Found). Reason f y.entry y.rule) (sym is) reason
+-- each rule that is broken has a reason
+each_rule : (f : File) (e : Entry) (rules : List (Rule × Bool)) → ((r : Rule) → IsIn {A = Rule × Bool} (r, false) rules → Reason f e r) → AllCaused f (broken e rules)
+each_rule f e rules reasons x m need =
+    let (r, there, is) = from_broken x e rules m in subst (λ (y : Found). Reason f y.entry y.rule) (sym is) (reasons r there)
 
 -- rules whose words say all
 abbrev says_all : Rule × Bool → Bool
 says_all rule = not (needs_cause rule.0)
 
-no_cause : (f : File) (x : Found) (e : Entry) (rules : List (Rule × Bool)) → list_all says_all rules ≡ true → IsIn x (broken e rules) → Caused f x
-no_cause f x e rules h m need = by_rule (from_broken x e rules m)
-  where
-    by_rule : (r : Rule) × IsIn {A = Rule × Bool} (r, false) rules × (x ≡ at_rule e r) → Reason f x.entry x.rule
-    by_rule (r, there, is) =
-        let asked : needs_cause r ≡ true = ap (λ (y : Found). needs_cause y.rule) (sym is) ∙ need in
-        let said : not (needs_cause r) ≡ true = all_in says_all (r, false) rules h there in
-        let wrong : false ≡ true = sym (ap not asked) ∙ said in absurd (cc)
+no_cause : (f : File) (e : Entry) (rules : List (Rule × Bool)) → list_all says_all rules ≡ true → AllCaused f (broken e rules)
+no_cause f e rules h x m need =
+    let (r, there, is) = from_broken x e rules m in
+    let asked : needs_cause r ≡ true = ap (λ (y : Found). needs_cause y.rule) (sym is) ∙ need in
+    let said : not (needs_cause r) ≡ true = all_in says_all (r, false) rules h there in
+    let wrong : false ≡ true = sym (ap not asked) ∙ said in absurd (cc)
 
 -- the rule of a list of one, where it is broken
 alone : (r s : Rule) (kept : Bool) → IsIn {A = Rule × Bool} (r, false) ((s, kept) ∷ []) → (r ≡ s) × (kept ≡ false)
@@ -148,23 +158,20 @@ module _ (f : File) (i : ℕ) (e : Endpoint) (at : slice_get f.endpoints i ≡ S
       both_ways (has_own_registers (map region e.bars)) (asked_parts (has_indices e) (has_own_registers (map region e.bars)) broken).1
       (no_takers e.bars (none_mapped (entry.Bar i) (first_taker e.bars) here))
 
-  registers_caused : (x : Found) → IsIn x (broken (entry.Endpoint i) (endpoint_rules fault.Register f i e)) → Caused f x
-  registers_caused x m = by_rule (from_broken x (entry.Endpoint i) (endpoint_rules fault.Register f i e) m)
-    where
-      by_rule : (r : Rule) × IsIn {A = Rule × Bool} (r, false) (endpoint_rules fault.Register f i e) × (x ≡ at_rule (entry.Endpoint i) r) → Caused f x
-      by_rule (r, there, is) =
-          let it = alone r rule.OwnRegisters (not (has_indices e) || has_own_registers (map region e.bars)) there in
-          at_found f x (entry.Endpoint i) rule.OwnRegisters (is ∙ ap (at_rule (entry.Endpoint i)) it.0) (by_region (a_taker it.1))
+  endpoint_caused : (fault : BoardFault) → AllCaused f (broken (entry.Endpoint i) (endpoint_rules fault f i e))
+  endpoint_caused fault.Register =
+      each_rule f (entry.Endpoint i) (endpoint_rules fault.Register f i e)
+      (λ r there. let it = alone r rule.OwnRegisters (not (has_indices e) || has_own_registers (map region e.bars)) there in
+      subst (Reason f (entry.Endpoint i)) (sym it.0) (by_region (a_taker it.1)))
+  endpoint_caused fault.Number = no_cause f (entry.Endpoint i) (endpoint_rules fault.Number f i e) refl
+  endpoint_caused fault.TooMany = no_cause f (entry.Endpoint i) (endpoint_rules fault.TooMany f i e) refl
+  endpoint_caused fault.Place = no_cause f (entry.Endpoint i) (endpoint_rules fault.Place f i e) refl
+  endpoint_caused _ = λ x m. absurd m
 
-  endpoint_caused : (fault : BoardFault) (x : Found) → IsIn x (broken (entry.Endpoint i) (endpoint_rules fault f i e)) → Caused f x
-  endpoint_caused fault.Register x m = registers_caused x m
-  endpoint_caused fault.Number x m = no_cause f x (entry.Endpoint i) (endpoint_rules fault.Number f i e) refl m
-  endpoint_caused fault.TooMany x m = no_cause f x (entry.Endpoint i) (endpoint_rules fault.TooMany f i e) refl m
-  endpoint_caused fault.Place x m = no_cause f x (entry.Endpoint i) (endpoint_rules fault.Place f i e) refl m
-  endpoint_caused _ x m = absurd m
-
-  bar_masks_caused : (j : ℕ) (b : Bar) → slice_get e.bars j ≡ Some b → (x : Found) → IsIn x (broken (entry.Bar i j) (bar_rules fault.CellMasks b)) → Caused f x
-  bar_masks_caused j b there x m = by_rule (from_broken x (entry.Bar i j) (bar_rules fault.CellMasks b) m)
+  bar_masks_caused : (j : ℕ) (b : Bar) → slice_get e.bars j ≡ Some b → AllCaused f (broken (entry.Bar i j) (bar_rules fault.CellMasks b))
+  bar_masks_caused j b there =
+      each_rule f (entry.Bar i j) (bar_rules fault.CellMasks b)
+      (λ r m. subst (Reason f (entry.Bar i j)) (sym (alone r rule.BarMasks (is_block (nat_abs b.block) b.patterns) m).0) (by_itself patterns))
     where
       patterns : (k : List ℕ) → own_text f (entry.Bar i j) rule.BarMasks k ≢ []
       patterns k h =
@@ -172,20 +179,15 @@ module _ (f : File) (i : ℕ) (e : Endpoint) (at : slice_get f.endpoints i ≡ S
           masks_said (nat_abs b.block) b.patterns
           (sym (ap (λ (o : Option Bar). option_map_or bar_masks_text o (option_map_or config_masks_text (config_of f (entry.Bar i j)) [])) bar) ∙ h)
 
-      by_rule : (r : Rule) × IsIn {A = Rule × Bool} (r, false) (bar_rules fault.CellMasks b) × (x ≡ at_rule (entry.Bar i j) r) → Caused f x
-      by_rule (r, (inl same), is) =
-          at_found f x (entry.Bar i j) rule.BarMasks (is ∙ ap (λ (p : Rule × Bool). at_rule (entry.Bar i j) p.0) same) (by_itself patterns)
-      by_rule (r, (inr wrong), is) = absurd wrong
+  bar_caused : (fault : BoardFault) (j : ℕ) (b : Bar) → slice_get e.bars j ≡ Some b → AllCaused f (broken (entry.Bar i j) (bar_rules fault b))
+  bar_caused fault.CellMasks j b there = bar_masks_caused j b there
+  bar_caused fault.Number j b there = no_cause f (entry.Bar i j) (bar_rules fault.Number b) refl
+  bar_caused fault.Register j b there = no_cause f (entry.Bar i j) (bar_rules fault.Register b) refl
+  bar_caused fault.Size j b there = no_cause f (entry.Bar i j) (bar_rules fault.Size b) refl
+  bar_caused _ j b there = λ x m. absurd m
 
-  bar_caused : (fault : BoardFault) (j : ℕ) (b : Bar) → slice_get e.bars j ≡ Some b → (x : Found) → IsIn x (broken (entry.Bar i j) (bar_rules fault b)) → Caused f x
-  bar_caused fault.CellMasks j b there x m = bar_masks_caused j b there x m
-  bar_caused fault.Number j b there x m = no_cause f x (entry.Bar i j) (bar_rules fault.Number b) refl m
-  bar_caused fault.Register j b there x m = no_cause f x (entry.Bar i j) (bar_rules fault.Register b) refl m
-  bar_caused fault.Size j b there x m = no_cause f x (entry.Bar i j) (bar_rules fault.Size b) refl m
-  bar_caused _ j b there x m = absurd m
-
-  config_masks_caused : (j : ℕ) (c : Config) → slice_get e.configs j ≡ Some c → (x : Found) → IsIn x (broken (entry.Config i j) (config_rules fault.CellMasks e.configs j c)) → Caused f x
-  config_masks_caused j c there x m = by_rule (from_broken x (entry.Config i j) (config_rules fault.CellMasks e.configs j c) m)
+  config_masks_caused : (j : ℕ) (c : Config) → slice_get e.configs j ≡ Some c → AllCaused f (broken (entry.Config i j) (config_rules fault.CellMasks e.configs j c))
+  config_masks_caused j c there = each_rule f (entry.Config i j) (config_rules fault.CellMasks e.configs j c) reasons
     where
       patterns : (k : List ℕ) → own_text f (entry.Config i j) rule.ConfigMasks k ≢ []
       patterns k h =
@@ -200,28 +202,20 @@ module _ (f : File) (i : ℕ) (e : Endpoint) (at : slice_get f.endpoints i ≡ S
           both_ways (list_all (λ d. are_apart d c) (take j e.configs)) meets
           (no_position (λ (d : Config). are_apart d c) (take j e.configs) (none_mapped (entry.Config i) (position (λ d. not (are_apart d c)) (take j e.configs)) here))
 
-      by_rule : (r : Rule) × IsIn {A = Rule × Bool} (r, false) (config_rules fault.CellMasks e.configs j c) × (x ≡ at_rule (entry.Config i j) r) → Caused f x
-      by_rule (r, (inl same), is) =
-          at_found f x (entry.Config i j) rule.ConfigMasks (is ∙ ap (λ (p : Rule × Bool). at_rule (entry.Config i j) p.0) same) (by_itself patterns)
-      by_rule (r, (inr last), is) =
+      reasons : (r : Rule) → IsIn {A = Rule × Bool} (r, false) (config_rules fault.CellMasks e.configs j c) → Reason f (entry.Config i j) r
+      reasons r (inl same) = subst (Reason f (entry.Config i j)) (sym (ap (λ (p : Rule × Bool). p.0) same)) (by_itself patterns)
+      reasons r (inr last) =
           let it = alone r rule.OwnOffsets (list_all (λ d. are_apart d c) (take j e.configs)) last in
-          at_found f x (entry.Config i j) rule.OwnOffsets (is ∙ ap (at_rule (entry.Config i j)) it.0) (by_earlier (an_earlier it.1))
+          subst (Reason f (entry.Config i j)) (sym it.0) (by_earlier (an_earlier it.1))
 
-  config_caused : (fault : BoardFault) (j : ℕ) (c : Config) → slice_get e.configs j ≡ Some c → (x : Found) → IsIn x (broken (entry.Config i j) (config_rules fault e.configs j c)) → Caused f x
-  config_caused fault.CellMasks j c there x m = config_masks_caused j c there x m
-  config_caused fault.Number j c there x m = no_cause f x (entry.Config i j) (config_rules fault.Number e.configs j c) refl m
-  config_caused _ j c there x m = absurd m
+  config_caused : (fault : BoardFault) (j : ℕ) (c : Config) → slice_get e.configs j ≡ Some c → AllCaused f (broken (entry.Config i j) (config_rules fault e.configs j c))
+  config_caused fault.CellMasks j c there = config_masks_caused j c there
+  config_caused fault.Number j c there = no_cause f (entry.Config i j) (config_rules fault.Number e.configs j c) refl
+  config_caused _ j c there = λ x m. absurd m
 
 -- ---- all entries
 
 module _ (f : File) where
-  either : (x : Found) (xs ys : List Found) (P : Type 0) → (IsIn x xs → P) → (IsIn x ys → P) → IsIn x (xs ++ ys) → P
-  either x xs ys P first second m = by_part (front_or_back x xs ys m)
-    where
-      by_part : IsIn x xs ⊎ IsIn x ys → P
-      by_part (inl h) = first h
-      by_part (inr h) = second h
-
   file_says : (fault : BoardFault) → list_all says_all (file_rules fault f) ≡ true
   file_says fault.TooMany = refl
   file_says _ = refl
@@ -245,41 +239,35 @@ module _ (f : File) where
   slot_says fault.Slot i own j t = refl
   slot_says _ i own j t = refl
 
-  of_endpoint_caused : (fault : BoardFault) (x : Found) (i : ℕ) (e : Endpoint) → IsIn (i, e) (enumerate_from 0 f.endpoints) → IsIn x (of_endpoint fault f (i, e)) → Caused f x
-  of_endpoint_caused fault x i e there m =
+  of_endpoint_caused : (fault : BoardFault) (i : ℕ) (e : Endpoint) → IsIn (i, e) (enumerate_from 0 f.endpoints) → AllCaused f (of_endpoint fault f (i, e))
+  of_endpoint_caused fault i e there =
       let at = at_number i e f.endpoints there in
       let own = broken (entry.Endpoint i) (endpoint_rules fault f i e) in
       let bars = flat_map (of_bar fault i) (enumerate_from 0 e.bars) in
-      let configs = flat_map (of_config fault i e.configs) (enumerate_from 0 e.configs) in
-      either x (own ++ bars) configs (Caused f x)
-      (λ h. either x own bars (Caused f x) (endpoint_caused f i e at fault x) (λ k. let b = from_flat_map (of_bar fault i) x (enumerate_from 0 e.bars) k in bar_caused f i e at fault b.0.0 b.0.1 (at_number b.0.0 b.0.1 e.bars b.1) x b.2) h)
-      (λ h. let c = from_flat_map (of_config fault i e.configs) x (enumerate_from 0 e.configs) h in config_caused f i e at fault c.0.0 c.0.1 (at_number c.0.0 c.0.1 e.configs c.1) x c.2)
-      m
+      both f (own ++ bars) (flat_map (of_config fault i e.configs) (enumerate_from 0 e.configs))
+      (both f own bars (endpoint_caused f i e at fault)
+      (of_all f (of_bar fault i) (enumerate_from 0 e.bars) (λ b m. bar_caused f i e at fault b.0 b.1 (at_number b.0 b.1 e.bars m))))
+      (of_all f (of_config fault i e.configs) (enumerate_from 0 e.configs) (λ c m. config_caused f i e at fault c.0 c.1 (at_number c.0 c.1 e.configs m)))
 
-  of_guest_caused : (fault : BoardFault) (x : Found) (i : ℕ) (g : Guest) → IsIn x (of_guest fault f (i, g)) → Caused f x
-  of_guest_caused fault x i g m =
-      let own = broken (entry.Guest i) (guest_rules fault f i g) in
-      let slots = flat_map (of_slot fault f i g.slots) (enumerate_from 0 g.slots) in
-      either x own slots (Caused f x) (no_cause f x (entry.Guest i) (guest_rules fault f i g) (guest_says fault i g))
-      (λ h. let s = from_flat_map (of_slot fault f i g.slots) x (enumerate_from 0 g.slots) h in
-      no_cause f x (entry.Slot i s.0.0) (slot_rules fault f i g.slots s.0.0 s.0.1) (slot_says fault i g.slots s.0.0 s.0.1) s.2)
-      m
+  of_guest_caused : (fault : BoardFault) (i : ℕ) (g : Guest) → AllCaused f (of_guest fault f (i, g))
+  of_guest_caused fault i g =
+      both f (broken (entry.Guest i) (guest_rules fault f i g)) (flat_map (of_slot fault f i g.slots) (enumerate_from 0 g.slots))
+      (no_cause f (entry.Guest i) (guest_rules fault f i g) (guest_says fault i g))
+      (of_all f (of_slot fault f i g.slots) (enumerate_from 0 g.slots)
+      (λ s m. no_cause f (entry.Slot i s.0) (slot_rules fault f i g.slots s.0 s.1) (slot_says fault i g.slots s.0 s.1)))
 
-  in_file_caused : (fault : BoardFault) (x : Found) → IsIn x (problems_in f fault) → Caused f x
-  in_file_caused fault x m =
+  in_file_caused : (fault : BoardFault) → AllCaused f (problems_in f fault)
+  in_file_caused fault =
       let whole = broken entry.File (file_rules fault f) in let host = broken entry.Host (host_rules fault f) in
       let endpoints = flat_map (of_endpoint fault f) (enumerate_from 0 f.endpoints) in
       let bridges = flat_map (of_bridge fault f) (enumerate_from 0 f.bridges) in
-      let guests = flat_map (of_guest fault f) (enumerate_from 0 f.guests) in
-      either x (whole ++ host ++ endpoints ++ bridges) guests (Caused f x)
-      (either x (whole ++ host ++ endpoints) bridges (Caused f x)
-      (either x (whole ++ host) endpoints (Caused f x)
-      (either x whole host (Caused f x) (no_cause f x entry.File (file_rules fault f) (file_says fault)) (no_cause f x entry.Host (host_rules fault f) (host_says fault)))
-      (λ h. let e = from_flat_map (of_endpoint fault f) x (enumerate_from 0 f.endpoints) h in of_endpoint_caused fault x e.0.0 e.0.1 e.1 e.2))
-      (λ h. let b = from_flat_map (of_bridge fault f) x (enumerate_from 0 f.bridges) h in
-      no_cause f x (entry.Bridge b.0.0) (bridge_rules fault f b.0.0 b.0.1) (bridge_says fault b.0.0 b.0.1) b.2))
-      (λ h. let g = from_flat_map (of_guest fault f) x (enumerate_from 0 f.guests) h in of_guest_caused fault x g.0.0 g.0.1 g.2)
-      m
+      both f (whole ++ host ++ endpoints ++ bridges) (flat_map (of_guest fault f) (enumerate_from 0 f.guests))
+      (both f (whole ++ host ++ endpoints) bridges
+      (both f (whole ++ host) endpoints
+      (both f whole host (no_cause f entry.File (file_rules fault f) (file_says fault)) (no_cause f entry.Host (host_rules fault f) (host_says fault)))
+      (of_all f (of_endpoint fault f) (enumerate_from 0 f.endpoints) (λ e m. of_endpoint_caused fault e.0 e.1 m)))
+      (of_all f (of_bridge fault f) (enumerate_from 0 f.bridges) (λ b m. no_cause f (entry.Bridge b.0) (bridge_rules fault f b.0 b.1) (bridge_says fault b.0 b.1))))
+      (of_all f (of_guest fault f) (enumerate_from 0 f.guests) (λ g m. of_guest_caused fault g.0 g.1))
 
 -- ---- all problems
 
@@ -303,14 +291,13 @@ problem_caused ms fault.Key x m = keys_caused ms fault.Key x (inl refl) m
 problem_caused ms fault.UnknownKey x m = keys_caused ms fault.UnknownKey x (inr refl) m
 problem_caused ms fault x m = in_file_caused (file ms) fault x m
 
-later_caused : (ms : Members) (x : Found) (earlier : List Found) (faults : List BoardFault) → (IsIn x earlier → Caused (file ms) x) → IsIn x (all_from ms earlier faults) → Caused (file ms) x
-later_caused ms x earlier [] before m = before m
-later_caused ms x earlier (fault ∷ faults) before m =
-    later_caused ms x (with_check ms earlier fault) faults
-    (either (file ms) x earlier (filter (is_clear earlier) (problems_of ms fault)) (Caused (file ms) x) before
-    (λ h. problem_caused ms fault x (from_filter (is_clear earlier) x (problems_of ms fault) h).0))
-    m
+later_caused : (ms : Members) (earlier : List Found) (faults : List BoardFault) → AllCaused (file ms) earlier → AllCaused (file ms) (all_from ms earlier faults)
+later_caused ms earlier [] before = before
+later_caused ms earlier (fault ∷ faults) before =
+    later_caused ms (with_check ms earlier fault) faults
+    (both (file ms) earlier (filter (is_clear earlier) (problems_of ms fault)) before
+    (λ x m. problem_caused ms fault x (from_filter (is_clear earlier) x (problems_of ms fault) m).0))
 
 pub causes_are_told : CausesAreTold
 causes_are_told text ms fault t m need told =
-    is_said text ms t (later_caused ms (found_in t) (problems_of ms fault) (later_checks fault) (problem_caused ms fault (found_in t)) m need) told
+    is_said text ms t (later_caused ms (problems_of ms fault) (later_checks fault) (problem_caused ms fault) (found_in t) m need) told
