@@ -3,6 +3,7 @@ use Rattle.std.proofs.Common.{◌≡◌, ℕ, ◌+◌, ◌-◌, ◌≤◌, ◌<�
 use Rattle.std.specs.Prelude.{map, filter, find, slice_get}
 use Rattle.std.specs.Option.{option_map}
 use Rattle.std.proofs.lemmas.List.{map-append, length-map}
+use Rattle.std.proofs.lemmas.Simd.{map-map}
 use Rattle.lists.specs.Elements.{Each, first_of_two, first_some, IsIn}
 use Rattle.lists.proofs.EachLemmas.{each_append, each_parts}
 use Rattle.model_registers.specs.Declarations.{Kind, io_kind, mem32, mem64, least_size, IsLawfulRegion}
@@ -31,7 +32,7 @@ use Rattle.window_packing.specs.Readies.{ReadyBoard, board_below, IsReady}
 use Rattle.claim_table.specs.declared.region_entry.RegionEntry.{RegionEntry}
 use Rattle.claim_table.specs.Tables.{TableEntry, table_claim, IsOfFunction, FitsTable}
 use Rattle.claim_table.specs.Entries.{entries_from, lies_in, by_space, AreEntries, path_nth, table_entry, table_of}
-use Rattle.claim_table.specs.Fitting.{map_map, paths, nth_path, fits_by_routing}
+use Rattle.claim_table.specs.Fitting.{paths, nth_path, fits_by_routing}
 use Rattle.claim_table.proofs.Gathering.{region_of, is_of, of_board, paths_read, known}
 use Rattle.claim_table.proofs.Listing.{IsSortedOf, each_unmap, AreGathered, entries_are, claims_listed}
 
@@ -94,7 +95,7 @@ module _ (r : ReadyBoard) (ready : IsReady r) (qs : List Path) (paths_are : qs �
   board = board_below r.host
 
   board_paths : qs ≡ map (λ (x : Row). x.path) board
-  board_paths = paths_are ∙ ap (map (λ (t : TableRow). t.path)) ready.table ∙ map_map (λ (t : TableRow). t.path) _ board
+  board_paths = paths_are ∙ ap (map (λ (t : TableRow). t.path)) ready.table ∙ map-map (λ (t : TableRow). t.path) _ board
 
   sorted_of : (space : Space) (fs : List RegionEntry) → IsSortedOf (entries_from space 0 r.plan.settings) fs → IsSortedOf (entries_from space 0 (settings board r.host.apertures)) fs
   sorted_of space fs h = subst (λ (ss : List Setting). IsSortedOf (entries_from space 0 ss) fs) (ap (λ (p : Rattle.model_set_up.specs.SetUpWrites.Plan). p.settings) ready.plan) h
@@ -110,7 +111,7 @@ module _ (r : ReadyBoard) (ready : IsReady r) (qs : List Path) (paths_are : qs �
     set_up_routing = ap (λ (s : Rattle.model_board.specs.State.State). routing s.functions) ready.registers
 
     host_paths : paths fs ≡ qs
-    host_paths = sym (board_paths ∙ map_map (λ (x : Row). x.path) _ fs)
+    host_paths = sym (board_paths ∙ map-map (λ (x : Row). x.path) _ fs)
 
     fits_own : FitsTable (table_of qs ports mems) r.host
     fits_own = record {
@@ -166,7 +167,7 @@ module _ (qs : List Path) (ports mems : List RegionEntry) (n : ℕ) where
   split : (space : Space) → table_claim (table_of qs ports mems) space n ≡ first_of_two (first_some (claim_in space n) (map (region_of qs io) ports)) (first_some (claim_in space n) (map (region_of qs memory) mems))
   split space =
       ap (first_some (claim_in space n)) (map-append (λ (e : TableEntry). e.region) (map (table_entry qs io) ports) (map (table_entry qs memory) mems)
-      ∙ ap₂ ◌++◌ (map_map (λ (e : TableEntry). e.region) (table_entry qs io) ports) (map_map (λ (e : TableEntry). e.region) (table_entry qs memory) mems))
+      ∙ ap₂ ◌++◌ (map-map (λ (e : TableEntry). e.region) (table_entry qs io) ports) (map-map (λ (e : TableEntry). e.region) (table_entry qs memory) mems))
       ∙ first_some-append (claim_in space n) (map (region_of qs io) ports) (map (region_of qs memory) mems)
 
   pub claim_found : (space : Space) → table_claim (table_of qs ports mems) space n ≡ option_map (claim_for qs n) (find (lies_in n) (by_space space ports mems))

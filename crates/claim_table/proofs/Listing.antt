@@ -4,6 +4,7 @@ use Rattle.std.proofs.Common.{◌≡◌, ℕ, ◌<◌, ◌⊎◌, inl, inr, true
 use Rattle.std.specs.Prelude.{map, filter, ◌↔◌}
 use Rattle.std.specs.List.Sorted.{IsPermutation, IsNonDecreasingBy}
 use Rattle.std.proofs.lemmas.List.{map-append}
+use Rattle.std.proofs.lemmas.Simd.{map-map}
 use Rattle.lists.specs.Elements.{Each, EachPair, first_some, IsIn}
 use Rattle.lists.proofs.EachLemmas.{each_permutation, pairs_map, pairs_filter, each_filter}
 use Rattle.lists.proofs.Members.{in_front, in_back, front_or_back, in_map, from_map, in_filter, from_filter}
@@ -15,7 +16,6 @@ use Rattle.model_set_up.proofs.Holders.{self_space, same_members}
 use Rattle.claim_table.specs.declared.region_entry.RegionEntry.{RegionEntry}
 use Rattle.claim_table.specs.Tables.{TableEntry, table_claim}
 use Rattle.claim_table.specs.Entries.{AreEntries, table_entry, table_of}
-use Rattle.claim_table.specs.Fitting.{map_map}
 use Rattle.claim_table.proofs.Gathering.{region_of, is_of}
 use Rattle.claim_table.proofs.Sorting.{moved, moved_back, Disjoint, sorted_apart}
 
@@ -94,7 +94,7 @@ module _ (ps : List Path) (rs : List PlacedRegion) (all_of : Space → List Regi
     regions_listed : map (λ (e : TableEntry). e.region) (table_of ps ports mems) ≡ listed
     regions_listed =
         map-append (λ (e : TableEntry). e.region) (map (table_entry ps io) ports) (map (table_entry ps memory) mems)
-        ∙ ap₂ ◌++◌ (map_map (λ (e : TableEntry). e.region) (table_entry ps io) ports) (map_map (λ (e : TableEntry). e.region) (table_entry ps memory) mems)
+        ∙ ap₂ ◌++◌ (map-map (λ (e : TableEntry). e.region) (table_entry ps io) ports) (map-map (λ (e : TableEntry). e.region) (table_entry ps memory) mems)
 
     pub claims_listed : (space : Space) (n : ℕ) → table_claim (table_of ps ports mems) space n ≡ first_some (claim_in space n) rs
     claims_listed space n =

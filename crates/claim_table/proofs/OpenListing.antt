@@ -2,6 +2,7 @@
 use Rattle.std.proofs.Common.{◌≡◌, ℕ, suc, ◌+◌, ◌≤◌, ◌<◌, Bool, true, false, cond, List, [], ◌∷◌, ◌++◌, length, Some, refl, sym, ap, ap₂, ◌∙◌, subst, arith}
 use Rattle.std.specs.Prelude.{map, filter, slice_get}
 use Rattle.std.proofs.lemmas.List.{map-append, length-map}
+use Rattle.std.proofs.lemmas.Simd.{map-map}
 use Rattle.std.proofs.lemmas.List.Elements.{filter-append}
 use Rattle.lists.specs.Elements.{Each}
 use Rattle.lists.proofs.EachLemmas.{each_append, each_map, each_of_map, each_filter}
@@ -25,7 +26,7 @@ use Rattle.claim_table.specs.declared.region_entry.RegionEntry.{RegionEntry}
 use Rattle.claim_table.specs.Tables.{table_claim, FitsTable, IsOfFunction}
 use Rattle.claim_table.specs.Entries.{entry_for, of_space, AreEntries, path_nth, table_entry, table_of}
 use Rattle.claim_table.specs.OpenEntries.{open_at, open_entries}
-use Rattle.claim_table.specs.Fitting.{map_map, paths, fits_by_routing}
+use Rattle.claim_table.specs.Fitting.{paths, fits_by_routing}
 use Rattle.claim_table.proofs.Gathering.{region_of, is_of, paths_read}
 use Rattle.claim_table.proofs.Listing.{IsSortedOf, AreGathered, entries_are, claims_listed}
 use Rattle.claim_table.proofs.Building.{some_bytes, of_functions}
@@ -139,7 +140,7 @@ module _ (h : HostState) (board : IsStateOfBoard h.state.functions) (order : IsO
 
     module _ (ports mems : List RegionEntry) (hp : IsSortedOf (open_entries io 0 rows) ports) (hm : IsSortedOf (open_entries memory 0 rows) mems) where
       host_paths : paths fs ≡ qs
-      host_paths = sym (own_paths ∙ map_map (λ (r : RoutingRow). r.path) row_of fs)
+      host_paths = sym (own_paths ∙ map-map (λ (r : RoutingRow). r.path) row_of fs)
 
       fits_own : FitsTable (table_of qs ports mems) h
       fits_own = record {

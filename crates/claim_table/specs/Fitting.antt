@@ -1,7 +1,9 @@
 -- A table fits by the routing registers alone.
-use Rattle.std.proofs.Common.{◌≡◌, ℕ, zero, suc, List, [], ◌∷◌, refl, sym, ap, ◌∙◌}
+use Rattle.std.proofs.Common.{◌≡◌, ℕ, List, sym, ap, ◌∙◌}
 use Rattle.std.specs.Prelude.{map, slice_get}
 use Rattle.std.specs.Option.{option_map}
+use Rattle.std.proofs.lemmas.Option.{slice_get-map}
+use Rattle.std.proofs.lemmas.Simd.{map-map}
 use Rattle.lists.proofs.EachLemmas.{each_map}
 use Rattle.model_board.specs.Paths.{Path}
 use Rattle.model_board.specs.State.{BoardFunction}
@@ -10,23 +12,17 @@ use Rattle.model_board.proofs.Routing.{same_claims}
 use Rattle.host_bridge.specs.HostState.{HostState}
 use Rattle.claim_table.specs.Tables.{TableEntry, IsOfFunction, FitsTable}
 
-pub map_map : {A B C : Type 0} (f : B → C) (g : A → B) (xs : List A) → map f (map g xs) ≡ map (λ x. f (g x)) xs
-map_map f g [] = refl
-map_map f g (x ∷ xs) = ap (λ ys. f (g x) ∷ ys) (map_map f g xs)
-
 abbrev pub paths : List BoardFunction → List Path
 paths fs = map (λ (f : BoardFunction). f.path) fs
 
 pub same_paths : (fs gs : List BoardFunction) → routing fs ≡ routing gs → paths fs ≡ paths gs
 same_paths fs gs h =
-    sym (map_map (λ (r : RoutingRow). r.path) _ fs)
-    ∙ ap (map (λ (r : RoutingRow). r.path)) h ∙ map_map (λ (r : RoutingRow). r.path) _ gs
+    sym (map-map (λ (r : RoutingRow). r.path) _ fs)
+    ∙ ap (map (λ (r : RoutingRow). r.path)) h ∙ map-map (λ (r : RoutingRow). r.path) _ gs
 
 pub nth_path : (fs : List BoardFunction) (i : ℕ)
     → option_map (λ (f : BoardFunction). f.path) (slice_get fs i) ≡ slice_get (paths fs) i
-nth_path [] i = refl
-nth_path (f ∷ fs) zero = refl
-nth_path (f ∷ fs) (suc i) = nth_path fs i
+nth_path fs i = sym (slice_get-map (λ (f : BoardFunction). f.path) fs i)
 
 pub fits_by_routing : (t : List TableEntry) (h k : HostState)
     → routing h.state.functions ≡ routing k.state.functions → FitsTable t h → FitsTable t k
