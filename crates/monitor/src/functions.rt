@@ -59,7 +59,9 @@ impl<R: Route> Engine<R> {
         self.host.count()
     }
 
-    /// What is told of the function at an index, in path order, and none past the last. No memory is taken.
+    /// What is told of the function at an index, in path order, and none past the last: where it stands, its
+    /// number, its identity, its regions or windows where the board's registers have them, and the guest and
+    /// slot that hold it now. No memory is taken.
     pub fn function(&self, index: usize) -> Option<FunctionNow>
         ensures { option_map function_named result ≡ function_nth (board_state self.now) self.now.guests index }
     {

@@ -18,7 +18,7 @@ impl<R: Route + Drop> Engine<R> {
     /// Gives functions of a board that is in order to guests, over a route that fits the board. No region of
     /// theirs is closed. Each of them is reset first, but for what guests have copies of, and the address
     /// latch is cleared. Only where memory is out it refuses, and then it gives the board back as it was.
-    pub fn over(
+    pub fn over_by_route(
         alloc: Global,
         host: Host,
         route: R,
@@ -41,7 +41,7 @@ impl<R: Route + Drop> Engine<R> {
 
     /// Gives functions of a board that is set up to guests, over a route that fits the board. Only where
     /// memory is out it refuses, and then the board is dropped.
-    pub fn new(
+    pub fn by_route(
         alloc: Global,
         ready: Ready,
         route: R,
@@ -52,7 +52,7 @@ impl<R: Route + Drop> Engine<R> {
         ensures { IfOk result (λ e. e ≡ world_at_first (world_of ready guests.now)) }
     {
         let (host, _table, _plan) = ready.into_parts();
-        match Engine::over(alloc, host, route, guests) {
+        match Engine::over_by_route(alloc, host, route, guests) {
             Ok(engine) => Ok(engine),
             Err(_host) => Err(AllocError),
         }

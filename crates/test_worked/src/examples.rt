@@ -161,7 +161,7 @@ fn a_guest_and_the_host_by_a_walk(rt: HostRuntime) -> Result<(), Fail> {
     let alloc = rt.alloc();
     let (host, guests) = read_board(alloc, MAIN.as_bytes())?;
     let ready = set_up(alloc, host)?;
-    let mut engine = Engine::new(alloc, ready, TreeWalk, &guests)?;
+    let mut engine = Engine::by_route(alloc, ready, TreeWalk, &guests)?;
     assert!(rt; 0 < guests_by_walk(&engine));
     let identity = Access {
         at: At::Config { slot: 0, off: 0 },

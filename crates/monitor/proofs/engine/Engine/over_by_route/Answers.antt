@@ -1,7 +1,7 @@
 use Rattle.std.proofs.Common.{rules}
 use Rattle.monitor.specs.Views.{texts}
 use Rattle.monitor.proofs.FirstWorlds.{routing_on, sound_at_first, shown_at_first}
-use Rattle.monitor.proofs.engine.Engine.over.Goals as goal
+use Rattle.monitor.proofs.engine.Engine.over_by_route.Goals as goal
 
 pub of_parts-requires-clause-fits : goal.of_parts-requires-clause-fits
 of_parts-requires-clause-fits g c = search (rules, routing_on)

@@ -5,19 +5,19 @@ use Rattle.model_handoff.specs.Regions.{CanBeGiven}
 use Rattle.host_bridge.specs.HostState.{HostState}
 use Rattle.monitor.specs.Beginnings.{world_on}
 use Rattle.monitor.proofs.FirstWorlds.{ready_handoff, ready_given, ready_world}
-use Rattle.monitor.proofs.engine.Engine.new.Goals as goal
+use Rattle.monitor.proofs.engine.Engine.by_route.Goals as goal
 
-pub over-requires-clause-fits : goal.over-requires-clause-fits
-over-requires-clause-fits g c = search rules
+pub over_by_route-requires-clause-fits : goal.over_by_route-requires-clause-fits
+over_by_route-requires-clause-fits g c = search rules
 
-pub over-requires-clause-handoff : goal.over-requires-clause-handoff
-over-requires-clause-handoff g c = search (rules, ready_handoff)
+pub over_by_route-requires-clause-handoff : goal.over_by_route-requires-clause-handoff
+over_by_route-requires-clause-handoff g c = search (rules, ready_handoff)
 
-pub over-requires-clause-lawful : goal.over-requires-clause-lawful
-over-requires-clause-lawful g c = search rules
+pub over_by_route-requires-clause-lawful : goal.over_by_route-requires-clause-lawful
+over_by_route-requires-clause-lawful g c = search rules
 
-pub over-requires-clause-given : goal.over-requires-clause-given
-over-requires-clause-given g c =
+pub over_by_route-requires-clause-given : goal.over_by_route-requires-clause-given
+over_by_route-requires-clause-given g c =
     let host : c.into_parts-host.result.0 ≡ c.args.ready.host = ap (λ (x : HostState × List TableRow × Plan). x.0) c.into_parts-host.ensures.parts in
     subst (λ (h : HostState). CanBeGiven (world_on h c.args.guests.now) h.state) (sym host) (ready_given c.args.ready c.into_parts-host.ensures.ready c.args.guests.now c.requires.lawful)
 
