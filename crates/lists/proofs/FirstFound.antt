@@ -1,5 +1,5 @@
 -- The first of a list that passes a test, or gives something.
-use Rattle.std.proofs.Common.{◌≡◌, inl, inr, Bool, true, false, cond, List, [], ◌∷◌, Option, Some, None, refl, subst}
+use Rattle.std.proofs.Common.{◌≡◌, inl, Bool, true, false, cond, List, [], ◌∷◌, Option, Some, None, refl, subst, arith}
 use Rattle.std.specs.Prelude.{find}
 use Rattle.lists.specs.Elements.{IsIn, Each, first_of_two, first_some}
 
@@ -8,12 +8,9 @@ pub first_some_of : {A B : Type 0} (f : A → Option B) (xs : List A) (y : B) �
 first_some_of f [] y h = cc
 first_some_of {A} {B} f (x ∷ xs) y h = by_case (f x) refl h (first_some_of f xs y)
   where
-    later : (z : A) × IsIn z xs × (f z ≡ Some y) → (z : A) × IsIn z (x ∷ xs) × (f z ≡ Some y)
-    later (z, m, e) = (z, inr m, e)
-
     by_case : (o : Option B) → f x ≡ o → first_of_two o (first_some f xs) ≡ Some y → (first_some f xs ≡ Some y → (z : A) × IsIn z xs × (f z ≡ Some y))
         → (z : A) × IsIn z (x ∷ xs) × (f z ≡ Some y)
-    by_case None e g more = later (more g)
+    by_case None e g more = grind arith
     by_case (Some w) e g more = let here : f x ≡ Some y = cc in (x, inl refl, here)
 
 -- what holds of all that the elements give holds of the first

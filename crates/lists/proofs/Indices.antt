@@ -97,12 +97,3 @@ found_at {A} t (y ∷ ys) x e = by_first (t y) refl e (found_at t ys x)
         → (t x ≡ true) × ((i : ℕ) × (slice_get (y ∷ ys) i ≡ Some x))
     by_first true p k more = let same : y ≡ x = cc in (ap t (sym same) ∙ p, (0, ap (λ z. Some z) same))
     by_first false p k more = let m = more k in (m.0, (suc m.1.0, m.1.1))
-
-pub none_found : {A : Type 0} (t : A → Bool) (xs : List A) (i : ℕ) (x : A) → find t xs ≡ None → slice_get xs i ≡ Some x → t x ≡ false
-none_found t [] i x e f = absurd (cc)
-none_found {A} t (y ∷ ys) i x e f = by_first (t y) refl e i f (λ j g. none_found t ys j x g)
-  where
-    by_first : (b : Bool) → t y ≡ b → cond b (Some y) (find t ys) ≡ None → (i : ℕ) → slice_get (y ∷ ys) i ≡ Some x → ((j : ℕ) → find t ys ≡ None → slice_get ys j ≡ Some x → t x ≡ false) → t x ≡ false
-    by_first true p k i g more = absurd (cc)
-    by_first false p k zero g more = let same : y ≡ x = cc in ap t (sym same) ∙ p
-    by_first false p k (suc i) g more = more i k g

@@ -1,5 +1,5 @@
 -- Membership, and facts on pairs of elements, through filters, maps and lists end to end.
-use Rattle.std.proofs.Common.{◌≡◌, ◌⊎◌, inl, inr, Bool, true, false, ◌||◌, cond, List, [], ◌∷◌, ◌++◌, refl, sym, ap, ap₂, subst, ◌∙◌}
+use Rattle.std.proofs.Common.{◌≡◌, ◌⊎◌, inl, inr, Bool, true, false, ◌||◌, cond, List, [], ◌∷◌, ◌++◌, refl, sym, ap, ap₂, subst, ◌∙◌, arith}
 use Rattle.std.specs.Prelude.{map, filter, flat_map}
 use Rattle.std.specs.List.{list_any, list_all}
 use Rattle.std.proofs.lemmas.Bool.{or_right}
@@ -74,10 +74,7 @@ in_filter p x [] m h = m
 in_filter p x (y ∷ xs) m h = by_test (p y) refl m (λ k. in_filter p x xs k h)
   where
     by_test : (t : Bool) → p y ≡ t → IsIn x (y ∷ xs) → (IsIn x xs → IsIn x (filter p xs)) → IsIn x (cond t (y ∷ filter p xs) (filter p xs))
-    by_test true e (inl k) more = inl k
-    by_test true e (inr k) more = inr (more k)
-    by_test false e (inl k) more = let no : true ≡ false = sym h ∙ ap p k ∙ e in cc
-    by_test false e (inr k) more = more k
+    by_test t e k more = grind arith
 
 pub from_filter : {A : Type 0} (p : A → Bool) (x : A) (xs : List A) → IsIn x (filter p xs) → IsIn x xs × (p x ≡ true)
 from_filter p x [] m = absurd m
@@ -87,9 +84,7 @@ from_filter p x (y ∷ xs) m = by_test (p y) refl m (from_filter p x xs)
     later (k, h) = (inr k, h)
 
     by_test : (t : Bool) → p y ≡ t → IsIn x (cond t (y ∷ filter p xs) (filter p xs)) → (IsIn x (filter p xs) → IsIn x xs × (p x ≡ true)) → IsIn x (y ∷ xs) × (p x ≡ true)
-    by_test true e (inl k) more = (inl k, ap p k ∙ e)
-    by_test true e (inr k) more = later (more k)
-    by_test false e k more = later (more k)
+    by_test t e k more = grind (arith, later)
 
 -- what one element passes, some element passes, and the other way round
 pub any_in : {A : Type 0} (p : A → Bool) (x : A) (xs : List A) → IsIn x xs → p x ≡ true → list_any p xs ≡ true
@@ -167,10 +162,7 @@ none_pass p (x ∷ xs) h = let no : p x ≡ false = h x (inl refl) in rw no (non
 pub one_passes : {A : Type 0} (p : A → Bool) (R : A → A → Type 0) (x : A) (xs : List A) → EachPair R xs → ((y : A) → R x y → p y ≡ false) → ((y : A) → R y x → p y ≡ false)
     → p x ≡ true → IsIn x xs → filter p xs ≡ x ∷ []
 one_passes p R x [] h after before here m = absurd m
-one_passes p R x (y ∷ xs) h after before here (inl e) =
-    let passes : p y ≡ true = sym (ap p e) ∙ here in
-    let none : filter p xs ≡ [] = none_pass p xs (λ z k. after z (subst (λ w. R w z) (sym e) (each_in (R y) z xs h.0 k))) in
-    rw (passes, none) (ap (λ w. w ∷ []) (sym e))
+one_passes p R x (y ∷ xs) h after before here (inl e) = grind (arith, none_pass, each_in)
 one_passes p R x (y ∷ xs) h after before here (inr m) =
     let fails : p y ≡ false = before y (each_in (R y) x xs h.0 m) in
     rw fails (one_passes p R x xs h.1 after before here m)
