@@ -35,11 +35,6 @@ length-parent (p ∷ ps) = from p ps ∙ (let e : length ps ≡ suc (length ps) 
     from p [] = refl
     from p (q ∷ ps) = ap suc (from q ps)
 
-pub length-function_zero : (ps : Path) → length (function_zero ps) ≡ length ps
-length-function_zero [] = refl
-length-function_zero (p ∷ []) = refl
-length-function_zero (p ∷ q ∷ ps) = ap suc (length-function_zero (q ∷ ps))
-
 take_past : (k : ℕ) (xs : Path) → length xs ≤ k → take k xs ≡ xs
 take_past k xs h = grind (arith, common_steps)
 
