@@ -1,5 +1,5 @@
 -- Base address registers: what a write leaves, and what a read shows.
-use Rattle.std.proofs.Common.{◌≡◌, ℕ, ◌+◌, ◌-◌, ◌*◌, ◌/◌, ◌%◌, ◌^◌, ◌<◌, ◌≤◌, ◌⊎◌, inl, inr, Bool, true, false, ◌&&◌, List, [], ◌∷◌, ◌++◌, length, map, refl, sym, ap, ap₂, ◌∙◌, subst, arith, eqb}
+use Rattle.std.proofs.Common.{◌≡◌, ℕ, ◌+◌, ◌-◌, ◌*◌, ◌/◌, ◌%◌, ◌^◌, ◌<◌, ◌≤◌, ◌⊎◌, inl, inr, Bool, false, ◌&&◌, List, [], ◌∷◌, ◌++◌, length, map, sym, ap, ap₂, ◌∙◌, subst, arith, eqb}
 use Rattle.std.specs.Prelude.{bit_and, bit_or}
 use Rattle.std.specs.Int.Bits.{or_zero_r, and_zero_r}
 use Rattle.std.proofs.lemmas.Nat.{and_mask, and_block, or_block, or_lt, and_le_l, and_le_r, and_comm, mod_low, pow-add, pow_pos, shr_split, mod_below, pow_below, shr_below, shl_below}
@@ -9,8 +9,7 @@ use Rattle.std.proofs.lemmas.Nat.Bits.{and_high}
 use Rattle.model_registers.specs.Registers.{config, File, read, write, field}
 use Rattle.lists.specs.Elements.{Each}
 use Rattle.model_registers.specs.ByteEnables.{is_enabled, enabled_bits}
-use Rattle.model_registers.specs.RegisterLaws.{merged}
-use Rattle.model_registers.specs.Declarations.{Kind, io_kind, mem32, mem64, registers_of, IsLawfulSize}
+use Rattle.model_registers.specs.Declarations.{Kind, registers_of, IsLawfulSize}
 use Rattle.model_registers.specs.EndpointTable.{base_register, type_bits, base_width, BaseAddress, register_cells, base_file, IsLawfulBase}
 use Rattle.model_registers.specs.BaseLaws.{shown, word_at, overwritten, rebased, rewritten, ReadsOfBases, WritesOfBases}
 use Rattle.model_registers.proofs.EnabledBytes.{read_field, write_field}
@@ -46,11 +45,7 @@ mask_block j k e = and_comm (2 ^ (j + k) - 2 ^ k) e ∙ and_high e j k
 -- ---- a lawful base
 
 pub size_limits : (kind : Kind) (size : ℕ) → IsLawfulSize kind size → (size < 2 ^ base_width kind) × (type_bits kind < size)
-size_limits io_kind size h = (omega arith, omega arith)
-size_limits (mem32 true) size h = (omega arith, omega arith)
-size_limits (mem32 false) size h = (omega arith, omega arith)
-size_limits (mem64 true) size h = (omega arith, omega arith)
-size_limits (mem64 false) size h = (omega arith, omega arith)
+size_limits kind size h = grind arith
 
 pub exponent_below : (k w : ℕ) → 2 ^ k < 2 ^ w → k ≤ w
 exponent_below k w h = elim (cases_lt w k) [ inl above ↦ absurd (omega (arith, pow_below w k above)) | inr within ↦ within ]
@@ -114,11 +109,7 @@ merged_types j k base x e t aligned ht =
 rebased_types : (b : BaseAddress) → IsLawfulBase b → (x e : ℕ) → overwritten (base_width b.kind) (b.base + type_bits b.kind) x (bit_and (2 ^ base_width b.kind - b.size) e) ≡ rebased b x e + type_bits b.kind
 rebased_types b lawful x e =
     let p : Parts b = parts b lawful in
-    let aligned : b.base % 2 ^ p.k ≡ 0 = subst (λ n. b.base % n ≡ 0) p.size lawful.aligned in
-    let at : (t : ℕ) → t < 2 ^ p.k → overwritten (base_width b.kind) (b.base + t) x (bit_and (2 ^ base_width b.kind - b.size) e) ≡ high_part p.j p.k b.base x e * 2 ^ p.k + t =
-    λ t h. ap₂ (λ w size. overwritten w (b.base + t) x (bit_and (2 ^ w - size) e)) p.width p.size ∙ merged_types p.j p.k b.base x e t aligned h in
-    let bare : rebased b x e ≡ high_part p.j p.k b.base x e * 2 ^ p.k + 0 = ap (λ n. overwritten (base_width b.kind) n x (bit_and (2 ^ base_width b.kind - b.size) e)) (sym (add-zero b.base)) ∙ at 0 (pow_pos p.k) in
-    at (type_bits b.kind) p.types ∙ omega (arith, bare)
+    grind (arith, merged_types, add-zero, pow_pos)
 
 -- and a base that its registers can hold
 pub rebased_lawful : (b : BaseAddress) → IsLawfulBase b → (x e : ℕ) → IsLawfulBase (record b { base = rebased b x e })
@@ -130,41 +121,17 @@ rebased_lawful b lawful x e =
     let bare : rebased b x e ≡ high_part p.j p.k b.base x e * 2 ^ p.k + 0 =
     ap₂ (λ w size. overwritten w b.base x (bit_and (2 ^ w - size) e)) p.width p.size ∙ ap (λ n. overwritten (p.j + p.k) n x (bit_and (2 ^ (p.j + p.k) - 2 ^ p.k) e)) (sym (add-zero b.base))
     ∙ merged_types p.j p.k b.base x e 0 aligned (pow_pos p.k) in
-    let kept : bit_and (b.base / 2 ^ p.k) (2 ^ p.j - 1 - e / 2 ^ p.k % 2 ^ p.j) < 2 ^ p.j = omega (arith, shr_below b.base p.j p.k fits, and_le_l (b.base / 2 ^ p.k) (2 ^ p.j - 1 - e / 2 ^ p.k % 2 ^ p.j)) in
-    let taken : bit_and (x / 2 ^ p.k) (e / 2 ^ p.k % 2 ^ p.j) < 2 ^ p.j = omega (arith, mod_below (e / 2 ^ p.k) (2 ^ p.j) (pow_pos p.j), and_le_r (x / 2 ^ p.k) (e / 2 ^ p.k % 2 ^ p.j)) in
-    let high : high_part p.j p.k b.base x e < 2 ^ p.j = or_lt p.j (bit_and (b.base / 2 ^ p.k) (2 ^ p.j - 1 - e / 2 ^ p.k % 2 ^ p.j)) (bit_and (x / 2 ^ p.k) (e / 2 ^ p.k % 2 ^ p.j)) kept taken in
-    record {
-      size_is_lawful = lawful.size_is_lawful;
-      aligned = ap₂ (λ n m. n % m) bare p.size ∙ mod_low (high_part p.j p.k b.base x e) p.k 0 (pow_pos p.k);
-      fits = subst (λ w. rebased b x e < 2 ^ w) (sym p.width) (omega (arith, bare, shl_below (high_part p.j p.k b.base x e) p.j p.k high));
-    }
+    grind (arith, shr_below, and_le_l, mod_below, pow_pos, and_le_r, or_lt, mod_low, shl_below)
 
 -- ---- the registers
 
-whole_bits : (kind : Kind) (v x m : ℕ) → merged (4 * registers_of kind) v x m ≡ overwritten (base_width kind) v x m
-whole_bits io_kind v x m = refl
-whole_bits (mem32 pref) v x m = refl
-whole_bits (mem64 pref) v x m = refl
-
 pub whole_bound : (kind : Kind) → 256 ^ (4 * registers_of kind) ≡ 2 ^ base_width kind
-whole_bound io_kind = refl
-whole_bound (mem32 pref) = refl
-whole_bound (mem64 pref) = refl
+whole_bound kind = grind arith
 
 -- a write of all bytes of a base
 pub write_whole : (b : BaseAddress) → IsLawfulBase b → (ons : List Bool) → length ons ≡ 4 * registers_of b.kind → (x : ℕ)
     → write ons x (base_register b.index) (register_cells b) ≡ register_cells (record b { base = rebased b x (enabled_bits ons) })
-write_whole b lawful ons len x =
-    let limits : (b.size < 2 ^ base_width b.kind) × (type_bits b.kind < b.size) = size_limits b.kind b.size lawful.size_is_lawful in
-    let rw' : ℕ = 2 ^ base_width b.kind - b.size in
-    let v : ℕ = b.base + type_bits b.kind in
-    let fits : rw' < 256 ^ (4 * registers_of b.kind) = omega (arith, whole_bound b.kind) in
-    let stored : rw' < 256 ^ (4 * registers_of b.kind) → write ons x (base_register b.index) (field (base_register b.index) (4 * registers_of b.kind) v rw' 0)
-    ≡ field (base_register b.index) (4 * registers_of b.kind) (merged (4 * registers_of b.kind) v x (bit_and rw' (enabled_bits ons))) rw' 0 =
-    subst (λ w. rw' < 256 ^ w → write ons x (base_register b.index) (field (base_register b.index) w v rw' 0) ≡ field (base_register b.index) w (merged w v x (bit_and rw' (enabled_bits ons))) rw' 0)
-    len (write_field ons (0x10 + 4 * b.index) v rw' x) in
-    stored fits
-    ∙ ap (λ n. field (base_register b.index) (4 * registers_of b.kind) n rw' 0) (whole_bits b.kind v x (bit_and rw' (enabled_bits ons)) ∙ rebased_types b lawful x (enabled_bits ons))
+write_whole b lawful ons len x = grind (arith, size_limits, whole_bound, write_field, rebased_types)
 
 -- four byte enables, and the same of the lower or of the upper half of eight bytes
 abbrev pub four : Bool → Bool → Bool → Bool → List Bool
@@ -183,9 +150,7 @@ write_upper : (a b c d : Bool) (x n : ℕ) (file : File) → write (upper a b c 
 write_upper a b c d x n file = ap₂ (λ y q. write (four a b c d) y (config q) file) (omega arith) (omega arith)
 
 read_upper : (a b c d : Bool) (n : ℕ) (file : File) → read file (base_register n) (upper a b c d) ≡ read file (base_register (n + 1)) (four a b c d) * 2 ^ 32
-read_upper a b c d n file =
-    let next : read file (config (0x10 + 4 * n + 1 + 1 + 1 + 1)) (four a b c d) ≡ read file (base_register (n + 1)) (four a b c d) = ap (λ q. read file (config q) (four a b c d)) (omega arith) in
-    omega (arith, next)
+read_upper a b c d n file = grind arith
 
 -- where a register of four bytes lies in a region's registers
 data Side (reg : ℕ) (b : BaseAddress) : Type 0 where
@@ -194,49 +159,29 @@ data Side (reg : ℕ) (b : BaseAddress) : Type 0 where
   apart : (reg ≡ b.index → ⊥) → ((registers_of b.kind ≡ 2) → reg ≡ b.index + 1 → ⊥) → Side reg b
 
 pub registers_positive : (kind : Kind) → 0 < registers_of kind
-registers_positive io_kind = omega arith
-registers_positive (mem32 pref) = omega arith
-registers_positive (mem64 pref) = omega arith
+registers_positive kind = grind arith
 
 pub one_or_two : (kind : Kind) → (registers_of kind ≡ 1) ⊎ (registers_of kind ≡ 2)
-one_or_two io_kind = inl refl
-one_or_two (mem32 pref) = inl refl
-one_or_two (mem64 pref) = inr refl
+one_or_two kind = grind arith
 
 side : (reg : ℕ) (b : BaseAddress) → Side reg b
-side reg b = elim (cases_eq reg b.index) [
-  | inl e ↦ low e
-  | inr n ↦ elim (one_or_two b.kind) [
-    | inl one ↦ apart n (λ two. absurd (omega arith))
-    | inr two ↦ elim (cases_eq reg (b.index + 1)) [ inl e ↦ high e two | inr m ↦ apart n (λ t. m) ]
-  ]
-]
+side reg b = grind (arith, cases_eq, one_or_two)
 
 apart_from : (reg : ℕ) (b : BaseAddress) → (reg ≡ b.index → ⊥) → ((registers_of b.kind ≡ 2) → reg ≡ b.index + 1 → ⊥) → IsApart 4 (0x10 + 4 * reg) (0x10 + 4 * b.index) (4 * registers_of b.kind)
-apart_from reg b n m = elim (one_or_two b.kind) [
-  | inl one ↦ elim (cases_lt reg b.index) [ inl below ↦ inl (omega arith) | inr above ↦ inr (omega (arith, n)) ]
-  | inr two ↦ elim (cases_lt reg b.index) [ inl below ↦ inl (omega arith) | inr above ↦ inr (omega (arith, n, m two)) ]
-]
+apart_from reg b n m = grind (arith, one_or_two, cases_lt)
 
 -- the base after a write, by the register's side
 pub rewritten_low : (reg : ℕ) (ons : List Bool) (x : ℕ) (b : BaseAddress) → reg ≡ b.index → rewritten reg ons x b ≡ record b { base = rebased b x (enabled_bits ons) }
 rewritten_low reg ons x b e = ap (λ n. record b { base = n }) (cond-true (eqb reg b.index) _ _ (eq-eqb reg b.index e))
 
 pub rewritten_high : (reg : ℕ) (ons : List Bool) (x : ℕ) (b : BaseAddress) → reg ≡ b.index + 1 → registers_of b.kind ≡ 2 → rewritten reg ons x b ≡ record b { base = rebased b (x * 2 ^ 32) (enabled_bits ons * 2 ^ 32) }
-rewritten_high reg ons x b e two =
-    ap (λ n. record b { base = n })
-    (cond-false (eqb reg b.index) _ _ (ne_eqb reg b.index (λ same. omega arith))
-    ∙ cond-true (eqb (registers_of b.kind) 2 && eqb reg (b.index + 1)) _ _ (and_from _ _ (eq-eqb (registers_of b.kind) 2 two) (eq-eqb reg (b.index + 1) e)))
+rewritten_high reg ons x b e two = grind (arith, cond-false, ne_eqb, cond-true, and_from, eq-eqb)
 
 not_wide : (reg : ℕ) (b : BaseAddress) → (registers_of b.kind ≡ 2 → reg ≡ b.index + 1 → ⊥) → (eqb (registers_of b.kind) 2 && eqb reg (b.index + 1)) ≡ false
-not_wide reg b m = elim (one_or_two b.kind) [
-  | inl one ↦ and_left _ _ (ne_eqb (registers_of b.kind) 2 (λ two. omega arith))
-  | inr two ↦ and_right _ _ (ne_eqb reg (b.index + 1) (m two))
-]
+not_wide reg b m = grind (arith, one_or_two, and_left, ne_eqb, and_right)
 
 pub rewritten_apart : (reg : ℕ) (ons : List Bool) (x : ℕ) (b : BaseAddress) → (reg ≡ b.index → ⊥) → (registers_of b.kind ≡ 2 → reg ≡ b.index + 1 → ⊥) → rewritten reg ons x b ≡ b
-rewritten_apart reg ons x b n m =
-    ap (λ n. record b { base = n }) (cond-false (eqb reg b.index) _ _ (ne_eqb reg b.index n) ∙ cond-false (eqb (registers_of b.kind) 2 && eqb reg (b.index + 1)) _ _ (not_wide reg b m))
+rewritten_apart reg ons x b n m = grind (arith, cond-false, ne_eqb, not_wide)
 
 write_low : (b : BaseAddress) → IsLawfulBase b → (p q r s : Bool) (x : ℕ)
     → write (four p q r s) x (base_register b.index) (register_cells b) ≡ register_cells (record b { base = rebased b x (enabled_bits (four p q r s)) })

@@ -1,5 +1,5 @@
 -- A number of 1, 2 or 4 bytes is the enabled bytes of the word in which it lies.
-use Rattle.std.proofs.Common.{◌≡◌, inl, inr, ℕ, zero, suc, ◌+◌, ◌-◌, ◌*◌, ◌/◌, ◌%◌, ◌^◌, ◌<◌, ◌≤◌, Bool, true, false, cond, List, [], ◌∷◌, ◌++◌, replicate, refl, sym, ap, ap₂, ◌∙◌, subst, arith}
+use Rattle.std.proofs.Common.{◌≡◌, ℕ, zero, suc, ◌+◌, ◌-◌, ◌*◌, ◌/◌, ◌%◌, ◌^◌, ◌<◌, ◌≤◌, Bool, true, false, cond, List, [], ◌∷◌, ◌++◌, replicate, refl, sym, ap, ap₂, ◌∙◌, arith}
 use Rattle.std.proofs.Math.Nat.{pow-suc, one-le-pow, div-div-eq-div-mul, mul-div_cancel, mod-one, mul_comm}
 use Rattle.model_registers.proofs.RegisterFiles.{low_byte}
 use Rattle.std.specs.Prelude.{⊤}
@@ -9,13 +9,7 @@ use Rattle.model_registers.specs.ByteEnables.{lanes, enabled_bytes, into_lanes, 
 use Rattle.model_registers.specs.AccessLaws.{AlignedLiesInWord, NumberByLanes, LanesFit, NumberFromWord, AllOnesByLanes, WriteByLanes, DisabledRead, DisabledStay, HoldsBytes, NumberFits, ReadsEnabled}
 
 pub aligned_lies_in_word : AlignedLiesInWord
-aligned_lies_in_word a w (inl e) h = let P : ℕ → Type 0 = λ n. a % 4 + n ≤ 4 in subst P (sym e) (omega arith)
-aligned_lies_in_word a w (inr (inl e)) h =
-    let P : ℕ → Type 0 = λ n. a % n ≡ 0 → a % 4 + n ≤ 4 in
-    let two : a % 2 ≡ 0 → a % 4 + 2 ≤ 4 = λ even. omega arith in subst P (sym e) two h
-aligned_lies_in_word a w (inr (inr e)) h =
-    let P : ℕ → Type 0 = λ n. a % n ≡ 0 → a % 4 + n ≤ 4 in
-    let four : a % 4 ≡ 0 → a % 4 + 4 ≤ 4 = λ whole. omega arith in subst P (sym e) four h
+aligned_lies_in_word = grind arith
 
 -- ---- lanes that are not enabled
 
@@ -92,8 +86,7 @@ further-block zero n a = ap (block n) (omega arith)
 further-block (suc l) n a = further-block l n (a + 1) ∙ ap (block n) (omega arith)
 
 in_word : (p : Place) → further (offset_of p % 4) (word_of p) ≡ p
-in_word (config a) = further-config (a % 4) (a / 4 * 4) ∙ ap config (omega arith)
-in_word (block n a) = further-block (a % 4) n (a / 4 * 4) ∙ ap (block n) (omega arith)
+in_word p = grind (arith, further-config, further-block)
 
 unshifted : (n l : ℕ) → n * 256 ^ l / 256 ^ l ≡ n
 unshifted n l = mul-div_cancel n (one-le-pow l 256 (omega arith))
@@ -210,9 +203,8 @@ value_fits (e ∷ es) h p = fits_at (place_eq e.place p) (value_fits es h.1 p) w
 pub number_fits : NumberFits
 number_fits file h p zero = omega arith
 number_fits file h p (suc w) =
-    let first : (cell_at file p).value < 256 = value_fits file h p in
     let rest : number file (after p) w < 256 ^ w = number_fits file h (after p) w in
-    omega (arith, pow-suc 256 w)
+    grind (arith, pow-suc 256 w, value_fits)
 
 enabled_more : (ons : List Bool) (x rest : ℕ) → x < 256 → rest ≡ enabled_bytes ons rest → enabled_bytes ons ((x + 256 * rest) / 256) ≡ rest
 enabled_more ons x rest h is = ap (enabled_bytes ons) (let high : (x + 256 * rest) / 256 ≡ rest = omega arith in high) ∙ sym is

@@ -1,16 +1,15 @@
 -- A device's own bytes: none of them is a guest's copy, and a change of one cell leaves all others.
-use Rattle.std.proofs.Common.{◌≡◌, ℕ, ◌<◌, ◌≤◌, ◌⊎◌, Bool, true, false, ◌||◌, cond, [], ◌∷◌, refl, sym, ap, subst, arith}
+use Rattle.std.proofs.Common.{◌≡◌, ℕ, ◌<◌, ◌≤◌, ◌⊎◌, Bool, true, false, ◌||◌, cond, [], ◌∷◌, refl, arith}
 use Rattle.std.proofs.lemmas.Bool.Decides.{nat_tests}
 use Rattle.model_registers.specs.Cell.{Cell}
-use Rattle.model_registers.specs.Registers.{Place, config, block, place_eq, File, cell_at, changed}
+use Rattle.model_registers.specs.Registers.{Place, config, place_eq, File, cell_at, changed}
 use Rattle.model_registers.specs.FileLaws.{has_place}
 use Rattle.model_registers.specs.OwnCopies.{is_own}
 use Rattle.model_registers.specs.DeviceBytes.{is_device_byte}
 use Rattle.model_registers.proofs.RegisterFiles.{place_same}
 
 pub device_not_own : (p : Place) → is_device_byte p ≡ true → is_own p ≡ false
-device_not_own (config off) h = grind (arith, nat_tests)
-device_not_own (block n off) h = refl
+device_not_own p h = grind (arith, nat_tests)
 
 -- away from the base address registers
 pub device_away : (off : ℕ) → is_device_byte (config off) ≡ true → (off < 0x10) ⊎ (0x28 ≤ off)
@@ -23,9 +22,7 @@ change_beside f (e ∷ es) p q apart = here (place_eq e.place p) refl (change_be
   where
     here : (t : Bool) → place_eq e.place p ≡ t → cell_at (changed f p es) q ≡ cell_at es q
         → cell_at (cond t (record e { cell = f e.cell }) e ∷ changed f p es) q ≡ cell_at (e ∷ es) q
-    here true same more =
-        let other : place_eq e.place q ≡ false = subst (λ (x : Place). place_eq x q ≡ false) (sym (place_same e.place p same)) apart in rw other more
-    here false other more = ap (cond (place_eq e.place q) e.cell) more
+    here t same more = grind (arith, place_same)
 
 -- where a cell stands it becomes another one
 pub change_there : (f : Cell → Cell) (file : File) (p : Place) → has_place file p ≡ true → cell_at (changed f p file) p ≡ f (cell_at file p)

@@ -1,5 +1,5 @@
 -- A register of several bytes, read and written where the byte enables say so.
-use Rattle.std.proofs.Common.{◌≡◌, ℕ, suc, ◌+◌, ◌-◌, ◌*◌, ◌/◌, ◌%◌, ◌^◌, ◌<◌, inl, Bool, true, false, cond, List, [], ◌∷◌, ◌++◌, length, refl, sym, ap, ap₂, ◌∙◌, arith, eqb}
+use Rattle.std.proofs.Common.{◌≡◌, ℕ, suc, ◌+◌, ◌-◌, ◌*◌, ◌/◌, ◌%◌, ◌^◌, ◌<◌, Bool, true, false, cond, List, [], ◌∷◌, ◌++◌, length, refl, sym, ap, ap₂, ◌∙◌, arith, eqb}
 use Rattle.std.specs.Prelude.{bit_and, bit_or}
 use Rattle.std.specs.Int.Bits.{or_zero_r, and_zero_r}
 use Rattle.std.proofs.lemmas.Nat.{and_mod, and_mask, and_shr, and_block, and_le_l}
@@ -32,8 +32,7 @@ abbrev byte_bits : Bool → ℕ
 byte_bits on = cond on 255 0
 
 byte_bits_fit : (on : Bool) → byte_bits on < 256
-byte_bits_fit true = omega arith
-byte_bits_fit false = omega arith
+byte_bits_fit on = grind arith
 
 enabled_low : (on : Bool) (ons : List Bool) → enabled_bits (on ∷ ons) % 256 ≡ byte_bits on
 enabled_low on ons = omega (arith, byte_bits_fit on)
@@ -105,15 +104,7 @@ rest_write on ons v m x h =
 first_write : (on : Bool) (ons : List Bool) (a v m x : ℕ) → write (on ∷ ons) x (config a) (field (config a) (suc (length ons)) v m 0)
     ≡ record { place = config a; cell = record { value = cond on (low_value v x (m % 256)) (v % 256); writable = m % 256; clearable = 0 } }
     ∷ write ons (x / 256) (config (a + 1)) (field (config (a + 1)) (length ons) (v / 256) (m / 256) 0)
-first_write true ons a v m x =
-    let e : eqb a a ≡ true = self a in
-    let cell : Cell = record { value = v % 256; writable = m % 256; clearable = 0 } in
-    let more : File = field (config (a + 1)) (length ons) (v / 256) (m / 256) 0 in
-    ap₂ (λ (t : Bool) (es : File). write ons (x / 256) (config (a + 1)) (cond t (record { place = config a; cell = written (x % 256) cell }) (record { place = config a; cell = cell }) ∷ es)) e
-    (change_outside (written (x % 256)) (length ons) (a + 1) a (v / 256) (m / 256) 0 (inl (omega arith)))
-    ∙ write_past ons (x / 256) (a + 1) a (written (x % 256) cell) more (omega arith)
-first_write false ons a v m x =
-    write_past ons (x / 256) (a + 1) a (record { value = v % 256; writable = m % 256; clearable = 0 }) (field (config (a + 1)) (length ons) (v / 256) (m / 256) 0) (omega arith)
+first_write on ons a v m x = grind (arith, self, change_outside, write_past)
 
 pub write_field : (ons : List Bool) (a v rw x : ℕ) → rw < 256 ^ length ons
     → write ons x (config a) (field (config a) (length ons) v rw 0) ≡ field (config a) (length ons) (merged (length ons) v x (bit_and rw (enabled_bits ons))) rw 0

@@ -1,5 +1,5 @@
 -- Joined files, and the cells of a block as those of a region.
-use Rattle.std.proofs.Common.{◌≡◌, ◌≢◌, ℕ, ◌+◌, ◌*◌, ◌/◌, ◌%◌, Bool, true, false, ◌||◌, ◌&&◌, cond, eqb, [], ◌∷◌, ◌++◌, refl, sym, ap, ap₂, ◌∙◌, subst}
+use Rattle.std.proofs.Common.{◌≡◌, ◌≢◌, ℕ, ◌+◌, ◌*◌, ◌/◌, ◌%◌, Bool, true, false, ◌||◌, ◌&&◌, cond, eqb, [], ◌∷◌, ◌++◌, refl, sym, ap, ap₂, ◌∙◌, subst, arith}
 use Rattle.std.proofs.lemmas.Bool.{ne_eqb, eq-eqb, or_parts}
 use Rattle.model_registers.specs.Cell.{Cell, no_cell, written}
 use Rattle.model_registers.specs.Registers.{Place, config, block, place_eq, after, offset_of, Entry, File, cell_at, changed, write, in_region}
@@ -59,10 +59,7 @@ read_second (true ∷ ons) p xs ys h =
 read_second (false ∷ ons) p xs ys h = ap (λ n. 0 + 256 * n) (read_second ons (after p) xs ys h.1)
 
 first_cell : (xs ys : File) (p : Place) → has_place ys p ≡ false → cell_at (xs ++ ys) p ≡ cell_at xs p
-first_cell xs ys p none = joined_cell xs ys p ∙ here (has_place xs p) refl where
-  here : (t : Bool) → has_place xs p ≡ t → cond t (cell_at xs p) (cell_at ys p) ≡ cell_at xs p
-  here true h = refl
-  here false h = cell_none ys p none ∙ sym (cell_none xs p h)
+first_cell xs ys p none = grind (arith, joined_cell, cell_none)
 
 pub read_first : ReadFirst
 read_first [] p xs ys h = refl
@@ -70,8 +67,7 @@ read_first (true ∷ ons) p xs ys h = ap₂ (λ (c : Cell) n. c.value + 256 * n)
 read_first (false ∷ ons) p xs ys h = ap (λ n. 0 + 256 * n) (read_first ons (after p) xs ys h.1)
 
 pub same_place : (t : Bool) (e : Entry) (c : Cell) → (cond t (record e { cell = c }) e).place ≡ e.place
-same_place true e c = refl
-same_place false e c = refl
+same_place t e c = grind arith
 
 pub change_keeps_places : (f : Cell → Cell) (p q : Place) (file : File) → has_place (changed f p file) q ≡ has_place file q
 change_keeps_places f p q [] = refl
@@ -95,8 +91,7 @@ config_stays (true ∷ ons) v p file h = config_stays ons (v / 256) (after p) (c
 config_stays (false ∷ ons) v p file h = config_stays ons (v / 256) (after p) file h
 
 config_is_no_block : (q : Place) (n a : ℕ) → IsConfig q → place_eq q (block n a) ≡ false
-config_is_no_block (config b) n a h = refl
-config_is_no_block (block m b) n a h = absurd h
+config_is_no_block q n a h = grind arith
 
 pub config_without_block : (file : File) (n a : ℕ) → IsConfigFile file → has_place file (block n a) ≡ false
 config_without_block [] n a h = refl
@@ -127,8 +122,7 @@ region_has_no_other (on ∷ ons) n m a file h = (λ _. region_without_other file
 
 -- in a region an offset is that of configuration space
 at_offset : (q : Place) (n a : ℕ) → IsConfig q → place_eq (block n (offset_of q)) (block n a) ≡ place_eq q (config a)
-at_offset (config b) n a h = ap (λ (t : Bool). t && eqb b a) (eq-eqb n n refl)
-at_offset (block m b) n a h = absurd h
+at_offset q n a h = grind (arith, eq-eqb)
 
 pub region_cells : RegionCells
 region_cells n a [] = refl
@@ -147,8 +141,7 @@ changed_entry : (n : ℕ) (t : Bool) (e : Entry) (c : Cell)
     → let moved : Entry = record e { place = block n (offset_of e.place) } in
     let one : Entry = cond t (record e { cell = c }) e in
     cond t (record moved { cell = c }) moved ≡ record one { place = block n (offset_of one.place) }
-changed_entry n true e c = refl
-changed_entry n false e c = refl
+changed_entry n t e c = grind arith
 
 pub region_change : RegionChange
 region_change f n a [] h = refl

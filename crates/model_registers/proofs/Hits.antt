@@ -19,9 +19,7 @@ hits_by_bases file (r ∷ rs) space a = ap (first_of_two (hit_of file space a r)
 -- ---- a base reads back
 
 down : (n t i : ℕ) → n % 2 ^ i ≡ 0 → t < 2 ^ i → (n + t) / 2 ^ i * 2 ^ i ≡ n
-down n t i aligned h =
-    let whole : n ≡ n / 2 ^ i * 2 ^ i = omega (arith, shr_split n i) in
-    ap (λ m. (m + t) / 2 ^ i * 2 ^ i) whole ∙ ap (λ m. m * 2 ^ i) (shr_high (n / 2 ^ i) i t h) ∙ sym whole
+down n t i aligned h = grind (arith, shr_split, shr_high)
 
 -- the base is what the register shows without its type bits
 kind_shown : (kind : Kind) (n v : ℕ) (file : File) → ((i : ℕ) → 2 ^ i ≤ least_size kind → v % 2 ^ i ≡ 0) → number file (base_register n) (4 * registers_of kind) ≡ v + type_bits kind → base file n kind ≡ v
@@ -70,8 +68,4 @@ bases_of_registers bs lawful command =
 
 pub hits_of_registers : (bs : List BaseAddress) → HasLawfulBases bs → (command : ℕ) → command < 2 ^ 16 → (space : Space) (a : ℕ)
     → first_hit (command_cells command ++ base_file bs) (map opened bs) space a ≡ first_some (hit_at command space a) bs
-hits_of_registers bs lawful command small space a =
-    let file : File = command_cells command ++ base_file bs in
-    let word : number file (config 4) 2 ≡ command = field_reads 2 4 command 0x0547 0 (base_file bs) ∙ mod-eq_of_lt small in
-    let stand : map (base_address file) (map opened bs) ≡ bs = bases_of_registers bs lawful command in
-    hits_by_bases file (map opened bs) space a ∙ ap₂ (λ c (xs : List BaseAddress). first_some (hit_at c space a) xs) word stand
+hits_of_registers bs lawful command small space a = grind (arith, field_reads, mod-eq_of_lt, bases_of_registers, hits_by_bases)

@@ -1,5 +1,5 @@
 -- A declaration that breaks no rule is lawful, and a lawful one breaks none.
-use Rattle.std.proofs.Common.{◌≡◌, ◌+◌, ◌<◌, ◌≤◌, ◌^◌, Bool, true, false, ◌&&◌, List, [], ◌∷◌, length, eqb, leb, ltb, None, refl}
+use Rattle.std.proofs.Common.{◌≡◌, ◌+◌, ◌<◌, ◌≤◌, ◌^◌, Bool, true, ◌&&◌, List, [], ◌∷◌, length, eqb, leb, ltb, None, arith}
 use Rattle.std.specs.Prelude.{IsTrue, bit_and}
 use Rattle.std.specs.List.{list_all}
 use Rattle.std.specs.List.Sorted.{IsPermutation, IsNonDecreasingBy}
@@ -19,11 +19,7 @@ record Passes (d : Endpoint) : Type 0 where
   blocks : all_pairs blocks_apart d.blocks ≡ true
 
 four_hold : (a b c e : Bool) → first_broken ((104, a) ∷ (106, b) ∷ (107, c) ∷ (112, e) ∷ []) ≡ None → (a ≡ true) × ((b ≡ true) × ((c ≡ true) × (e ≡ true)))
-four_hold true true true true h = (refl, (refl, (refl, refl)))
-four_hold true true true false h = cc
-four_hold true true false e h = cc
-four_hold true false c e h = cc
-four_hold false b c e h = cc
+four_hold a b c e h = grind arith
 
 passes : (d : Endpoint) → first_broken (endpoint_rules d) ≡ None → Passes d
 passes d h =
@@ -42,13 +38,7 @@ record Numbers (d : Endpoint) : Type 0 where
   blocks : Each IsConfigBlock d.blocks
 
 config_block : (b : ConfigBlock) → is_config_block b ≡ true → IsConfigBlock b
-config_block b h =
-    let x = left_true (leb 0x40 b.offset && ltb 0 (length b.cells)) (leb (b.offset + length b.cells) 0x100) h in
-    record {
-      begins = leb-true _ _ (left_true (leb 0x40 b.offset) (ltb 0 (length b.cells)) x);
-      not_empty = ltb-true _ _ (right_true (leb 0x40 b.offset) (ltb 0 (length b.cells)) x);
-      ends = leb-true _ _ (right_true (leb 0x40 b.offset && ltb 0 (length b.cells)) (leb (b.offset + length b.cells) 0x100) h);
-    }
+config_block b h = grind (arith, left_true, leb-true, ltb-true, right_true)
 
 numbers : (d : Endpoint) → has_lawful_numbers d ≡ true → Numbers d
 numbers d h =
@@ -109,25 +99,8 @@ sorted_is_lawful d ys fits sizes none perm sorted =
 
 -- ---- a lawful declaration breaks no rule
 
-config_block_test : (b : ConfigBlock) → IsConfigBlock b → is_config_block b ≡ true
-config_block_test b h =
-    and_from (leb 0x40 b.offset && ltb 0 (length b.cells)) (leb (b.offset + length b.cells) 0x100)
-    (and_from (leb 0x40 b.offset) (ltb 0 (length b.cells)) (le-leb _ _ h.begins) (lt-ltb _ _ h.not_empty)) (le-leb _ _ h.ends)
-
 numbers_test : (d : Endpoint) → IsLawfulEndpoint d → has_lawful_numbers d ≡ true
-numbers_test d h =
-    let a = ltb d.vendor 0xffff in
-    let b = ltb d.class (2 ^ 24) in
-    let c = leb d.pin 4 in
-    let e = eqb (bit_and d.status 0xf900) d.status in
-    let f = list_all (λ r. leb (length r.cells) 4096) d.regions in
-    let g = list_all is_config_block d.blocks in
-    and_from (a && b && c && e && f) g
-    (and_from (a && b && c && e) f
-    (and_from (a && b && c) e (and_from (a && b) c (and_from a b (lt-ltb _ _ h.vendor) (lt-ltb _ _ h.class)) (le-leb _ _ h.pin)) (eq-eqb _ _ h.status))
-    (test_each (λ r. leb (length r.cells) 4096) d.regions
-    (each_map (λ (r : Region). length r.cells ≤ 4096) (λ r. IsTrue (leb (length r.cells) 4096)) d.regions (λ r p. le-leb _ _ p) h.region_blocks)))
-    (test_each is_config_block d.blocks (each_map IsConfigBlock (λ b. IsTrue (is_config_block b)) d.blocks config_block_test h.config_blocks))
+numbers_test d h = grind (arith, and_from, lt-ltb, le-leb, eq-eqb, test_each, each_map)
 
 sizes_test : (rs : List Region) → Each IsLawfulRegion rs → list_all (λ r. leb (length r.cells) r.size) rs ≡ true
 sizes_test rs h =

@@ -1,5 +1,5 @@
 -- A function's file, parted into a guest's own copies and all other cells.
-use Rattle.std.proofs.Common.{◌≡◌, ℕ, zero, suc, ◌+◌, ◌*◌, ◌/◌, ◌%◌, ◌<◌, ◌≤◌, ◌⊎◌, inl, inr, Bool, true, false, not, ◌&&◌, ◌||◌, cond, List, [], ◌∷◌, ◌++◌, length, map, refl, sym, ap, ap₂, ◌∙◌, subst, arith, eqb, leb, ltb, append_assoc, ◌-◌, ◌^◌, lit<}
+use Rattle.std.proofs.Common.{◌≡◌, ℕ, zero, suc, ◌+◌, ◌*◌, ◌/◌, ◌%◌, ◌<◌, ◌≤◌, ◌⊎◌, inl, inr, Bool, true, false, not, ◌&&◌, ◌||◌, cond, List, [], ◌∷◌, ◌++◌, length, map, refl, sym, ap, ap₂, ◌∙◌, subst, arith, eqb, leb, ltb, append_assoc, ◌-◌, ◌^◌}
 use Rattle.std.specs.Prelude.{bit_and, bit_or, flat_map}
 use Rattle.std.specs.Int.Bits.{or_zero_r, and_zero_r}
 use Rattle.std.proofs.lemmas.Bool.{cases_lt, cases_Bool, or_parts, and_cases, eqb-false, leb-false, ltb-false, or_right, and_from, le-leb, lt-ltb, or_cases, and_parts, eqb-true, leb-true, ltb-true, ne_eqb, and_right}
@@ -33,13 +33,7 @@ cell_after (false ∷ ons) x p q file = cell_after ons (x / 256) (after p) q fil
 
 -- a cell that is no own copy takes what is handed on, and no more
 not_owned : (p q : Place) → is_own q ≡ false → (on : Bool) → (on && place_eq p q) ≡ (on && not (is_own p) && place_eq p q)
-not_owned p q other false = refl
-not_owned p q other true = elim (cases_Bool (place_eq p q)) [
-  | inl same ↦
-      let own : is_own p ≡ false = ap is_own (place_same p q same) ∙ other in
-      ap (λ (t : Bool). not t && place_eq p q) (sym own)
-  | inr apart ↦ ap (λ (t : Bool). true && t) apart ∙ sym (and_right (not (is_own p)) (place_eq p q) apart)
-]
+not_owned p q other on = grind (arith, cases_Bool, place_same, and_right)
 
 other_after : (ons : List Bool) (x : ℕ) (p q : Place) (c : Cell) → is_own q ≡ false → after_write ons x p q c ≡ after_write (handed_on p ons) x p q c
 unfolding after_write
@@ -49,8 +43,7 @@ other_after (on ∷ ons) x p q c other =
     ∙ ap (λ (t : Bool). after_write (handed_on (after p) ons) (x / 256) (after p) q (cond t (written (x % 256) c) c)) (not_owned p q other on)
 
 own_or_other : (own : Bool) (a b c : Cell) → (own ≡ true → a ≡ b) → (own ≡ false → a ≡ c) → a ≡ cond own b c
-own_or_other true a b c mine other = mine refl
-own_or_other false a b c mine other = other refl
+own_or_other own a b c mine other = grind arith
 
 pub own_writes : OwnWrites
 own_writes own file holds p q ons x =
@@ -64,24 +57,8 @@ block_outside : (w a v m c n q : ℕ) (rest : File) → cell_at (field (config a
 block_outside zero a v m c n q rest = refl
 block_outside (suc w) a v m c n q rest = block_outside w (a + 1) (v / 256) (m / 256) (c / 256) n q rest
 
--- an offset outside Command and the base address registers
-record IsElse (q : ℕ) : Type 0 where
-  command : IsOutside q 4 2
-  bases : (q < 0x10) ⊎ (0x28 ≤ q)
-
-is_else : (q : ℕ) → is_own (config q) ≡ false → IsElse q
-is_else q other =
-    let parts : ((eqb q 4 || eqb q 5 || eqb q 0x0e) ≡ false) × ((leb 0x10 q && ltb q 0x28) ≡ false) = or_parts (eqb q 4 || eqb q 5 || eqb q 0x0e) (leb 0x10 q && ltb q 0x28) other in
-    let header : ((eqb q 4 || eqb q 5) ≡ false) × (eqb q 0x0e ≡ false) = or_parts (eqb q 4 || eqb q 5) (eqb q 0x0e) parts.0 in
-    let command : (eqb q 4 ≡ false) × (eqb q 5 ≡ false) = or_parts (eqb q 4) (eqb q 5) header.0 in
-    record {
-      command = elim (cases_lt q 4) [ inl below ↦ inl below | inr above ↦ inr (omega (arith, eqb-false q 4 command.0, eqb-false q 5 command.1)) ];
-      bases = elim (and_cases (leb 0x10 q) (ltb q 0x28) parts.1) [ inl low ↦ inl (leb-false 0x10 q low) | inr high ↦ inr (ltb-false q 0x28 high) ];
-    }
-
 pub base_outside : (b : BaseAddress) (q : ℕ) → b.index + registers_of b.kind ≤ 6 → (q < 0x10) ⊎ (0x28 ≤ q) → IsOutside q (0x10 + 4 * b.index) (4 * registers_of b.kind)
-base_outside b q within (inl low) = inl (omega arith)
-base_outside b q within (inr high) = inr (omega arith)
+base_outside b q within low = grind arith
 
 pub no_base : (bs : List BaseAddress) → Each IsLawfulRegion (map opened bs) → (q : ℕ) → (q < 0x10) ⊎ (0x28 ≤ q) → cell_at (base_file bs) (config q) ≡ no_cell
 no_base [] lawful q h = refl
@@ -96,21 +73,14 @@ no_block (b ∷ bs) n q = block_outside (4 * registers_of b.kind) (0x10 + 4 * b.
 -- own copies have no other cell
 pub none_else : (own : OwnCopies) → IsLawfulOwn own → (p : Place) → is_own p ≡ false → cell_at (own_file own) p ≡ no_cell
 none_else own lawful (block n q) other = block_outside 2 4 own.command 0x0547 0 n q (base_file own.bases) ∙ no_block own.bases n q
-none_else own lawful (config q) other =
-    let h : IsElse q = is_else q other in
-    cell_outside 2 4 q own.command 0x0547 0 (base_file own.bases) h.command ∙ no_base own.bases lawful.each q h.bases
+none_else own lawful (config q) other = grind (arith, cell_outside, no_base, or_parts, cases_lt, above, eqb-false, and_cases, leb-false, ltb-false)
 
 lane_split : (on own : Bool) (v o : ℕ) → (own ≡ true → v ≡ o) → (own ≡ false → o ≡ 0) → cond on v 0 ≡ cond on o 0 + cond (on && not own) v 0
-lane_split false own v o mine other = refl
-lane_split true true v o mine other = omega (arith, mine refl)
-lane_split true false v o mine other = omega (arith, other refl)
+lane_split on own v o mine other = grind arith
 
 pub own_reads : OwnReads
 own_reads own lawful file holds p [] = refl
-own_reads own lawful file holds p (on ∷ ons) =
-    let here : cond on (cell_at file p).value 0 ≡ cond on (cell_at (own_file own) p).value 0 + cond (on && not (is_own p)) (cell_at file p).value 0 =
-    lane_split on (is_own p) (cell_at file p).value (cell_at (own_file own) p).value (λ mine. ap (λ (c : Cell). c.value) (holds p mine)) (λ other. ap (λ (c : Cell). c.value) (none_else own lawful p other)) in
-    omega (arith, own_reads own lawful file holds (after p) ons)
+own_reads own lawful file holds p (on ∷ ons) = grind (arith, own_reads own lawful file holds (after p) ons, lane_split, none_else)
 
 -- ---- raises
 
@@ -123,8 +93,7 @@ unfolding IsStill
 still_unraised m c h = ap (λ n. record c { value = n }) (ap (λ t. bit_or c.value (bit_and m t)) h ∙ ap (bit_or c.value) (and_zero_r m) ∙ or_zero_r c.value)
 
 still_either : (t : Bool) (c d : Cell) → IsStill c → IsStill d → IsStill (cond t c d)
-still_either true c d hc hd = hc
-still_either false c d hc hd = hd
+still_either t c d hc hd = grind arith
 
 still_field : (w a v m : ℕ) (rest : File) (p : Place) → IsStill (cell_at rest p) → IsStill (cell_at (field (config a) w v m 0 ++ rest) p)
 unfolding IsStill
@@ -145,8 +114,7 @@ pub raised_none : (m : ℕ) → raised m no_cell ≡ no_cell
 raised_none m = ap (λ n. record { value = n; writable = 0; clearable = 0 }) (ap (bit_or 0) (and_zero_r m) ∙ or_zero_r 0)
 
 same_cell : (t : Bool) (c d : Cell) → (t ≡ true → c ≡ d) → cond t c d ≡ d
-same_cell true c d h = h refl
-same_cell false c d h = refl
+same_cell t c d h = grind arith
 
 pub own_stay : OwnStay
 own_stay own file holds p q m mine =
@@ -230,11 +198,7 @@ lies_outside (e ∷ es) = is_outside e.place && lies_outside es
 
 outside_apart : (p : Place) (q : ℕ) → is_outside p ≡ true → 0x10 ≤ q → q < 0x28 → place_eq p (config q) ≡ false
 unfolding is_outside
-outside_apart (block n a) q h low high = refl
-outside_apart (config a) q h low high = elim (or_cases (ltb a 0x10) (leb 0x28 a) h) [
-  | inl below ↦ ne_eqb a q (λ e. omega (arith, ltb-true a 0x10 below))
-  | inr above ↦ ne_eqb a q (λ e. omega (arith, leb-true 0x28 a above))
-]
+outside_apart p q h low high = grind (arith, or_cases, ne_eqb, ltb-true, above, leb-true)
 
 passed_by : (file : File) (q : ℕ) (rest : File) → lies_outside file ≡ true → 0x10 ≤ q → q < 0x28 → cell_at (file ++ rest) (config q) ≡ cell_at rest (config q)
 unfolding lies_outside
@@ -262,21 +226,11 @@ data OwnOffset (q : ℕ) : Type 0 where
   of_header_type : q ≡ 0x0e → OwnOffset q
   of_bases : 0x10 ≤ q → q < 0x28 → OwnOffset q
 
-own_offset : (q : ℕ) → is_own (config q) ≡ true → OwnOffset q
-own_offset q mine = elim (or_cases (eqb q 4 || eqb q 5 || eqb q 0x0e) (leb 0x10 q && ltb q 0x28) mine) [
-  | inr range ↦ of_bases (leb-true 0x10 q (and_parts (leb 0x10 q) (ltb q 0x28) range).0) (ltb-true q 0x28 (and_parts (leb 0x10 q) (ltb q 0x28) range).1)
-  | inl header ↦ elim (or_cases (eqb q 4 || eqb q 5) (eqb q 0x0e) header) [
-    | inr type ↦ of_header_type (eqb-true q 0x0e type)
-    | inl command ↦ of_command (elim (or_cases (eqb q 4) (eqb q 5) command) [ inl low ↦ inl (eqb-true q 4 low) | inr high ↦ inr (eqb-true q 5 high) ])
-  ]
-]
-
 reset_at : (d : Endpoint) → Each (λ (b : ConfigBlock). 0x40 ≤ b.offset) d.blocks → (q : ℕ) → OwnOffset q
     → cell_at (endpoint_reset d false) (config q) ≡ cell_at (own_file (record { command = 0; bases = map closed d.regions })) (config q)
 reset_at d blocks q (of_command (inl e)) = subst (λ n. cell_at (endpoint_reset d false) (config n) ≡ cell_at (own_file (record { command = 0; bases = map closed d.regions })) (config n)) (sym e) refl
 reset_at d blocks q (of_command (inr e)) = subst (λ n. cell_at (endpoint_reset d false) (config n) ≡ cell_at (own_file (record { command = 0; bases = map closed d.regions })) (config n)) (sym e) refl
-reset_at d blocks q (of_header_type e) =
-    subst (λ n. cell_at (endpoint_reset d false) (config n) ≡ cell_at (own_file (record { command = 0; bases = map closed d.regions })) (config n)) (sym e) (sym (low_base (map closed d.regions) 0x0e (lit< tt)))
+reset_at d blocks q (of_header_type e) = grind (arith, low_base)
 reset_at d blocks q (of_bases low high) =
     let rest : File = flat_map (region_cells (λ r. 0)) d.regions in
     ap (λ (f : File). cell_at f (config q)) (append_assoc (header_cells d false 0) (flat_map block_cells d.blocks) rest)
@@ -286,4 +240,4 @@ reset_at d blocks q (of_bases low high) =
 
 pub reset_holds_own : ResetHoldsOwn
 reset_holds_own d blocks (block n q) mine = cc
-reset_holds_own d blocks (config q) mine = reset_at d blocks q (own_offset q mine)
+reset_holds_own d blocks (config q) mine = grind (arith, reset_at, or_cases, leb-true, and_parts, ltb-true, eqb-true)

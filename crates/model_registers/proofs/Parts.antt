@@ -1,5 +1,5 @@
 -- Files that are put together of parts: what a change of one part leaves of the others.
-use Rattle.std.proofs.Common.{◌≡◌, ℕ, zero, suc, ◌+◌, ◌*◌, ◌/◌, ◌%◌, ◌<◌, ◌≤◌, ◌⊎◌, inl, inr, Bool, true, false, cond, List, [], ◌∷◌, ◌++◌, length, refl, ap, ap₂, ◌∙◌, arith, eqb, append_assoc}
+use Rattle.std.proofs.Common.{◌≡◌, ℕ, zero, suc, ◌+◌, ◌*◌, ◌/◌, ◌%◌, ◌<◌, ◌≤◌, ◌⊎◌, inr, Bool, true, false, cond, List, [], ◌∷◌, ◌++◌, length, refl, ap, ap₂, ◌∙◌, arith, eqb, append_assoc}
 use Rattle.model_registers.specs.Cell.{Cell, written}
 use Rattle.model_registers.specs.Registers.{Place, config, place_eq, after, File, cell_at, changed, read, write, field}
 use Rattle.model_registers.proofs.RegisterFiles.{above, below}
@@ -21,12 +21,10 @@ abbrev pub IsOutside : ℕ → ℕ → ℕ → Type 0
 IsOutside q a w = (q < a) ⊎ (a + w ≤ q)
 
 outside_first : (q a w : ℕ) → IsOutside q a (suc w) → eqb a q ≡ false
-outside_first q a w (inl h) = above a q h
-outside_first q a w (inr h) = below q a (omega arith)
+outside_first q a w h = grind (arith, above, below)
 
 outside_rest : (q a w : ℕ) → IsOutside q a (suc w) → IsOutside q (a + 1) w
-outside_rest q a w (inl h) = inl (omega arith)
-outside_rest q a w (inr h) = inr (omega arith)
+outside_rest q a w h = grind arith
 
 pub change_outside : (f : Cell → Cell) (w a q v m c : ℕ) → IsOutside q a w → changed f (config q) (field (config a) w v m c) ≡ field (config a) w v m c
 change_outside f zero a q v m c h = refl
@@ -47,12 +45,10 @@ abbrev pub IsApart : ℕ → ℕ → ℕ → ℕ → Type 0
 IsApart n q a w = (q + n ≤ a) ⊎ (a + w ≤ q)
 
 apart_first : (n q a w : ℕ) → IsApart (suc n) q a w → IsOutside q a w
-apart_first n q a w (inl h) = inl (omega arith)
-apart_first n q a w (inr h) = inr h
+apart_first n q a w h = grind arith
 
 apart_rest : (n q a w : ℕ) → IsApart (suc n) q a w → IsApart n (q + 1) a w
-apart_rest n q a w (inl h) = inl (omega arith)
-apart_rest n q a w (inr h) = inr (omega arith)
+apart_rest n q a w h = grind arith
 
 pub write_apart : (ons : List Bool) (x q w a v m c : ℕ) → IsApart (length ons) q a w → write ons x (config q) (field (config a) w v m c) ≡ field (config a) w v m c
 write_apart [] x q w a v m c h = refl

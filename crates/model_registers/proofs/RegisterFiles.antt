@@ -1,5 +1,5 @@
 -- Laws of register files.
-use Rattle.std.proofs.Common.{◌≡◌, ℕ, zero, suc, ◌+◌, ◌-◌, ◌*◌, ◌/◌, ◌%◌, ◌^◌, ◌<◌, Bool, true, false, cond, [], ◌∷◌, ◌++◌, refl, sym, ap, ap₂, ◌∙◌, subst, arith, eqb}
+use Rattle.std.proofs.Common.{◌≡◌, ℕ, zero, suc, ◌+◌, ◌-◌, ◌*◌, ◌/◌, ◌%◌, ◌^◌, ◌<◌, Bool, true, false, cond, [], ◌∷◌, ◌++◌, refl, sym, ap, ap₂, ◌∙◌, arith, eqb}
 use Rattle.std.specs.Prelude.{bit_and, bit_or}
 use Rattle.std.specs.Int.Bits.{or_zero_r, and_zero_r, and_le_l}
 use Rattle.std.proofs.lemmas.Bool.Decides.{nat_tests}
@@ -7,40 +7,24 @@ use Rattle.std.proofs.lemmas.Bool.{eqb-true}
 use Rattle.std.proofs.lemmas.Nat.{or_mod, and_mod, and_mask, or_shr, and_shr}
 use Rattle.std.proofs.Math.Arith.{mod-mul}
 use Rattle.std.proofs.Math.Nat.{pow-suc, one-le-pow, mod-one, mod-eq_of_lt}
-use Rattle.model_registers.specs.Cell.{Cell, no_cell, written}
-use Rattle.model_registers.specs.Registers.{Place, config, block, place_eq, Entry, File, cell_at, changed, field, number, write, all_bytes}
+use Rattle.model_registers.specs.Cell.{Cell, written}
+use Rattle.model_registers.specs.Registers.{Place, config, place_eq, Entry, File, cell_at, changed, field, number, write, all_bytes}
 use Rattle.model_registers.specs.RegisterLaws.{ChangeAtPlace, FieldReads, FieldWrites, merged}
 use Rattle.lists.proofs.Tests.{left_true, right_true}
 
 pub place_same : (p q : Place) → place_eq p q ≡ true → p ≡ q
-place_same (config a) (config b) h = ap config (eqb-true a b h)
-place_same (block n a) (block m b) h = ap₂ block (eqb-true n m (left_true (eqb n m) (eqb a b) h)) (eqb-true a b (right_true (eqb n m) (eqb a b) h))
-place_same (config a) (block m b) h = cc
-place_same (block n a) (config b) h = cc
+place_same p q h = grind (arith, eqb-true, left_true, right_true)
 
 pub place_turned : (p q : Place) → place_eq p q ≡ place_eq q p
-place_turned (config a) (config b) = grind (arith, nat_tests)
-place_turned (block n a) (block m b) = grind (arith, nat_tests)
-place_turned (config a) (block m b) = refl
-place_turned (block n a) (config b) = refl
+place_turned p q = grind (arith, nat_tests)
 
 change_cases : (f : Cell → Cell) (e : Entry) (es : File) (p q : Place) (t u : Bool) → place_eq e.place p ≡ t → place_eq p q ≡ u
     → cell_at (changed f p es) q ≡ cond u (f (cell_at es q)) (cell_at es q)
     → cell_at (cond t (record e { cell = f e.cell }) e ∷ changed f p es) q ≡ cond u (f (cell_at (e ∷ es) q)) (cell_at (e ∷ es) q)
-change_cases f e es p q true true ep pq more =
-    let eq : place_eq e.place q ≡ true = subst (λ (x : Place). place_eq x q ≡ true) (sym (place_same e.place p ep)) pq in rw eq
-change_cases f e es p q true false ep pq more =
-    let eq : place_eq e.place q ≡ false = subst (λ (x : Place). place_eq x q ≡ false) (sym (place_same e.place p ep)) pq in rw eq more
-change_cases f e es p q false true ep pq more =
-    let eq : place_eq e.place q ≡ false = subst (λ (x : Place). place_eq e.place x ≡ false) (place_same p q pq) ep in rw eq more
-change_cases f e es p q false false ep pq more = ap (cond (place_eq e.place q) e.cell) more
-
-empty_cases : (f : Cell → Cell) (u : Bool) → f no_cell ≡ no_cell → no_cell ≡ cond u (f no_cell) no_cell
-empty_cases f true h = sym h
-empty_cases f false h = refl
+change_cases f e es p q t u ep pq more = grind (arith, place_same)
 
 pub change_at_place : ChangeAtPlace
-change_at_place f h [] p q = empty_cases f (place_eq p q) h
+change_at_place f h [] p q = grind arith
 change_at_place f h (e ∷ es) p q = change_cases f e es p q (place_eq e.place p) (place_eq p q) refl refl (change_at_place f h es p q)
 
 -- ---- registers of several bytes
@@ -65,11 +49,7 @@ pub read_here : (a : ℕ) (c : Cell) (file : File) → cell_at (record { place =
 read_here a c file = let e : eqb a a ≡ true = self a in rw e
 
 pub low_byte : (w v : ℕ) → v % 256 + 256 * (v / 256 % 256 ^ w) ≡ v % 256 ^ suc w
-low_byte w v =
-    let some : 0 < 256 ^ w = one-le-pow w 256 (omega arith) in
-    let split : v % (256 ^ w * 256) ≡ (v / 256 % 256 ^ w) * 256 + v % 256 = mod-mul v some (omega arith) in
-    let turned : v % 256 + 256 * (v / 256 % 256 ^ w) ≡ (v / 256 % 256 ^ w) * 256 + v % 256 = omega arith in
-    turned ∙ sym split ∙ ap (λ n. v % n) (sym (pow-suc 256 w))
+low_byte w v = grind (arith, one-le-pow, mod-mul, pow-suc)
 
 pub field_reads : FieldReads
 field_reads zero a v m w1c rest = sym (mod-one v)

@@ -31,36 +31,24 @@ none_there : (a : ℕ) (rs : List Region) → Each (λ (r : Region). a < r.index
 none_there a [] h = refl
 none_there a (r ∷ rs) h = let e : eqb r.index a ≡ false = differs a r.index h.0 in rw e (none_there a rs h.1)
 
-nothing_from : (k a : ℕ) → [] ≡ from_register a k []
-nothing_from zero a = refl
-nothing_from (suc k) a = nothing_from k (a + 1)
-
 past_first : (k a : ℕ) (r : Region) (rs : List Region) → r.index < a → from_register a k (r ∷ rs) ≡ from_register a k rs
 past_first zero a r rs h = refl
 past_first (suc k) a r rs h =
     let e : eqb r.index a ≡ false = grind (arith, nat_tests) in
     ap₂ (λ (x y : List Region). x ++ y) (rw e) (past_first k (a + 1) r rs (omega arith))
 
-above_all : (a : ℕ) (r : Region) (rs : List Region) → a < r.index → Each (λ (s : Region). r.index ≤ s.index) rs → Each (λ (s : Region). a < s.index) (r ∷ rs)
-above_all a r rs h up = (h, each_map (λ (s : Region). r.index ≤ s.index) (λ s. a < s.index) rs (λ s p. omega arith) up)
-
 split_cases : (k a : ℕ)
     → ((rs : List Region) → IsAscending rs → Each (λ (r : Region). a < r.index) rs → Each (λ (r : Region). r.index < a + suc k) rs → rs ≡ from_register (a + 1) k rs)
     → (r : Region) (rs : List Region) → IsAscending (r ∷ rs) → a ≤ r.index → Each (λ (r : Region). r.index < a + suc k) (r ∷ rs)
     → (t : Bool) → eqb r.index a ≡ t → rs ≡ filter (stands_at a) rs ++ from_register (a + 1) k rs
     → r ∷ rs ≡ filter (stands_at a) (r ∷ rs) ++ from_register (a + 1) k (r ∷ rs)
-split_cases k a others r rs up low high true e tail =
-    let here : r.index < a + 1 = grind (arith, nat_tests) in
-    rw e (ap (λ (x : List Region). r ∷ x) (tail ∙ ap (λ (x : List Region). filter (stands_at a) rs ++ x) (sym (past_first k (a + 1) r rs here))))
-split_cases k a others r rs up low high false e tail =
-    let past : a < r.index = grind (arith, nat_tests) in
-    let all : Each (λ (s : Region). a < s.index) (r ∷ rs) = above_all a r rs past up.0 in
-    others (r ∷ rs) up all high ∙ ap (λ (x : List Region). x ++ from_register (a + 1) k (r ∷ rs)) (sym (none_there a (r ∷ rs) all))
+split_cases k a others r rs up low high true e tail = grind (arith, nat_tests, past_first)
+split_cases k a others r rs up low high false e tail = grind (arith, nat_tests, none_there, each_map)
 
 splits : (k a : ℕ)
     → ((rs : List Region) → IsAscending rs → Each (λ (r : Region). a < r.index) rs → Each (λ (r : Region). r.index < a + suc k) rs → rs ≡ from_register (a + 1) k rs)
     → (rs : List Region) → IsAscending rs → Each (λ (r : Region). a ≤ r.index) rs → Each (λ (r : Region). r.index < a + suc k) rs → rs ≡ filter (stands_at a) rs ++ from_register (a + 1) k rs
-splits k a others [] up low high = nothing_from k (a + 1)
+splits k a others [] up low high = grind arith
 splits k a others (r ∷ rs) up low high =
     split_cases k a others r rs up low.0 high (eqb r.index a) refl (splits k a others rs up.1 low.1 high.1)
 
@@ -108,10 +96,7 @@ only p r (x ∷ xs) h = only_cases p r x xs (p x) refl h (only p r xs)
 
 found_cases : (p : Region → Bool) (r y : Region) (ys : List Region) (t : Bool) → p y ≡ t → (p y ≡ true → y ≡ r) → count_by p (y ∷ ys) ≡ 1
     → (count_by p ys ≡ 1 → filter p ys ≡ r ∷ []) → cond t (y ∷ filter p ys) (filter p ys) ≡ r ∷ []
-found_cases p r y ys true e same h more =
-    let none : filter p ys ≡ [] = empty_filter p ys (none_found p ys (others_none p y ys e (omega arith))) in
-    ap₂ (λ (z : Region) (zs : List Region). z ∷ zs) (same e) none
-found_cases p r y ys false e same h more = more (omega (arith, sum_by-cons (λ x. counted (p x)) y ys, ap counted e))
+found_cases p r y ys t e same h more = grind (arith, empty_filter, none_found, others_none, sum_by-cons)
 
 found : (p : Region → Bool) (r : Region) (ys : List Region) → Each (λ (y : Region). p y ≡ true → y ≡ r) ys → count_by p ys ≡ 1 → filter p ys ≡ r ∷ []
 found p r [] all h = cc
@@ -137,11 +122,8 @@ at_least_one r = elim r.kind as (λ k. 1 ≤ registers_of k) [ io_kind ↦ omega
 at_most_two : (r : Region) → registers_of r.kind ≤ 2
 at_most_two r = elim r.kind as (λ k. registers_of k ≤ 2) [ io_kind ↦ omega arith | mem32 pref ↦ omega arith | mem64 pref ↦ omega arith ]
 
-stands_uses : (n : ℕ) (r : Region) → counted (stands_at n r) ≤ counted (uses n r)
-stands_uses n r = let some : 1 ≤ registers_of r.kind = at_least_one r in grind (arith, nat_tests)
-
 stands_once : (n : ℕ) (rs : List Region) → count_by (uses n) rs ≤ 1 → count_by (stands_at n) rs ≤ 1
-stands_once n rs h = omega (arith, sum_by-le-sum_by (λ r. counted (stands_at n r)) (λ r. counted (uses n r)) rs (stands_uses n))
+stands_once n rs h = grind (arith, sum_by-le-sum_by, at_least_one, nat_tests)
 
 abbrev UsesOnce : List Region → Type 0
 UsesOnce rs = (n : ℕ) → n < 6 → count_by (uses n) rs ≤ 1

@@ -1,11 +1,11 @@
 -- What a region's registers show after all ones are written to them.
-use Rattle.std.proofs.Common.{◌≡◌, ℕ, ◌+◌, ◌-◌, ◌*◌, ◌/◌, ◌%◌, ◌^◌, ◌<◌, ◌≤◌, true, [], length, append-nil, refl, sym, ap, ap₂, ◌∙◌, arith}
+use Rattle.std.proofs.Common.{◌≡◌, ℕ, ◌+◌, ◌-◌, ◌*◌, ◌/◌, ◌%◌, ◌^◌, ◌<◌, ◌≤◌, true, [], length, append-nil, sym, ap, ap₂, ◌∙◌, arith}
 use Rattle.std.specs.Prelude.{bit_and, bit_or}
 use Rattle.std.proofs.lemmas.Nat.{and_mask, and_comm, pow_pos}
 use Rattle.std.proofs.Math.Nat.{mod-eq_of_lt}
 use Rattle.model_registers.specs.Registers.{File, all_bytes, all_ones, number}
 use Rattle.model_registers.specs.ByteEnables.{enabled_bits}
-use Rattle.model_registers.specs.Declarations.{Kind, io_kind, mem32, mem64, Bar, registers_of, IsLawfulSize}
+use Rattle.model_registers.specs.Declarations.{Kind, Bar, registers_of, IsLawfulSize}
 use Rattle.model_registers.specs.EndpointTable.{base_register, type_bits, base_width, BaseAddress, register_cells, IsLawfulBase}
 use Rattle.model_registers.specs.BaseLaws.{shown, rebased}
 use Rattle.model_registers.specs.Sizing.{sized, mask_of, SizesRead}
@@ -16,31 +16,21 @@ at_index : ℕ → Bar → ℕ → BaseAddress
 at_index n b base = record { index = n; kind = b.kind; size = b.size; base = base }
 
 whole_length : (kind : Kind) → length (all_bytes (4 * registers_of kind)) ≡ 4 * registers_of kind
-whole_length io_kind = refl
-whole_length (mem32 pref) = refl
-whole_length (mem64 pref) = refl
+whole_length kind = grind arith
 
 whole_bytes : (kind : Kind) → enabled_bits (all_bytes (4 * registers_of kind)) ≡ 2 ^ base_width kind - 1
-whole_bytes io_kind = refl
-whole_bytes (mem32 pref) = refl
-whole_bytes (mem64 pref) = refl
+whole_bytes kind = grind arith
 
 whole_ones : (kind : Kind) → all_ones (4 * registers_of kind) ≡ 2 ^ base_width kind - 1
-whole_ones io_kind = refl
-whole_ones (mem32 pref) = refl
-whole_ones (mem64 pref) = refl
+whole_ones kind = grind arith
 
 -- all writable bits of a base that is 0
 ones_rebased : (w size : ℕ) → size ≤ 2 ^ w → 0 < size → bit_or (bit_and 0 (2 ^ w - 1 - bit_and (2 ^ w - size) (2 ^ w - 1))) (bit_and (2 ^ w - 1) (bit_and (2 ^ w - size) (2 ^ w - 1))) ≡ 2 ^ w - size
-ones_rebased w size h some =
-    let small : 2 ^ w - size < 2 ^ w = omega (arith, pow_pos w) in
-    let kept : bit_and (2 ^ w - size) (2 ^ w - 1) ≡ 2 ^ w - size = and_mask (2 ^ w - size) w ∙ mod-eq_of_lt small in
-    ap (bit_and (2 ^ w - 1)) kept ∙ and_comm (2 ^ w - 1) (2 ^ w - size) ∙ kept
+ones_rebased w size h some = grind (arith, pow_pos, and_mask, mod-eq_of_lt, and_comm)
 
 lawful_at_zero : (n : ℕ) (b : Bar) → IsLawfulSize b.kind b.size → IsLawfulBase (at_index n b 0)
 unfolding at_index
-lawful_at_zero n b lawful =
-    record { size_is_lawful = lawful; aligned = mod-eq_of_lt (omega (arith, (size_limits b.kind b.size lawful).1)); fits = pow_pos (base_width b.kind) }
+lawful_at_zero n b lawful = grind (arith, mod-eq_of_lt, size_limits, pow_pos)
 
 sized_cells : (n : ℕ) (b : Bar) → IsLawfulSize b.kind b.size → sized n b ≡ register_cells (at_index n b (2 ^ base_width b.kind - b.size))
 unfolding at_index
@@ -59,10 +49,7 @@ sized_low n b lawful =
     ∙ read_low after [] true true true true ∙ and_mask (shown after) 32
 
 upper_fits : (b : Bar) → IsLawfulSize b.kind b.size → registers_of b.kind ≡ 2 → mask_of b / 2 ^ 32 < 2 ^ 32
-upper_fits b lawful two =
-    let limits : (b.size < 2 ^ base_width b.kind) × (type_bits b.kind < b.size) = size_limits b.kind b.size lawful in
-    let width : 2 ^ base_width b.kind ≡ 2 ^ 64 = ap (λ n. 2 ^ (32 * n)) two in
-    omega arith
+upper_fits b lawful two = grind (arith, size_limits)
 
 pub sized_high : (n : ℕ) (b : Bar) → IsLawfulSize b.kind b.size → registers_of b.kind ≡ 2 → number (sized n b) (base_register (n + 1)) 4 ≡ mask_of b / 2 ^ 32
 unfolding at_index
