@@ -1,15 +1,15 @@
 -- After set-up the windows of a board's bridges are those that placement gave them: a pool's items stand behind bridges that can name its addresses alone.
-use Rattle.std.proofs.Common.{◌≡◌, ℕ, zero, suc, ◌+◌, ◌-◌, ◌%◌, ◌^◌, ◌≤◌, ◌<◌, inl, Bool, true, false, ◌||◌, not, cond, List, [], ◌∷◌, ◌++◌, length, Option, Some, None, MatchOption, refl, sym, ap, ◌∙◌, subst, arith, rules, inr, leb}
+use Rattle.std.proofs.Common.{◌≡◌, ℕ, zero, suc, ◌+◌, ◌-◌, ◌%◌, ◌^◌, ◌≤◌, ◌<◌, inl, Bool, true, ◌||◌, not, List, [], ◌∷◌, ◌++◌, length, Option, Some, None, MatchOption, refl, sym, ap, ◌∙◌, subst, arith, rules, inr}
 use Rattle.std.specs.Prelude.{filter, IsTrue, ⊤}
 use Rattle.std.specs.List.{list_all}
 use Rattle.std.proofs.lemmas.Bool.{ltb-true, and_parts, or_right, or_left, le-leb}
 use Rattle.lists.specs.Elements.{Each, IsIn}
-use Rattle.model_registers.specs.Declarations.{Kind, io_kind, mem32, mem64, Region, Endpoint, IoDecode, no_io, io16, io32, PrefDecode, no_pref, pref32, pref64, Bridge}
+use Rattle.model_registers.specs.Declarations.{Kind, Region, Endpoint, IoDecode, PrefDecode, Bridge}
 use Rattle.model_registers.specs.BridgeTable.{Window, BridgeValues, bridge_file}
 use Rattle.model_registers.specs.Apertures.{IsLawfulApertures, IsPrefOption, Aperture, Apertures}
 use Rattle.model_board.specs.Board.{Board, Row, Decl, endpoint, bridge, rows_on, IsBoard}
 use Rattle.model_board.specs.Paths.{Path, leads_to, last_part, IsPath}
-use Rattle.model_set_up.specs.Pools.{Pool, io_pool, mem_pool, pref_pool, same_pool, unit_of, bridge_of, bridges_above, has_pref, has_pref64, pref_reaches, pref_or_mem, pool_of, is_io, opens_io, has_io, has_io_paths, aperture_of}
+use Rattle.model_set_up.specs.Pools.{Pool, io_pool, mem_pool, pref_pool, same_pool, unit_of, bridge_of, bridges_above, has_pref, pref_reaches, pref_or_mem, pool_of, is_io, opens_io, has_io, has_io_paths, aperture_of}
 use Rattle.model_set_up.specs.Placement.{Item, need, window_items, items_of, items_within, items_on, fits, bus_first, a_region, a_window}
 use Rattle.model_set_up.specs.Layout.{IsAligned, IsLawful, pool_rows, LayoutRow, layout}
 use Rattle.model_set_up.specs.Extents.{IsInside}
@@ -60,16 +60,7 @@ module _ (b : Board) (a : Apertures) (pool : Pool) (paths : Each (λ r. IsPath r
           leads = subst (λ (x : Path). leads_to p x ≡ true) (sym on.1) (leads_self p (last_part r.path))
 
           deeper : Behind b a pool r.path → Behind b a pool p
-          deeper h = record {
-            row = h.row;
-            there = h.there;
-            leads = leads_trans p r.path h.row.path leads h.leads;
-            decl = h.decl;
-            decl_is = h.decl_is;
-            region = h.region;
-            declared = h.declared;
-            in_pool = h.in_pool;
-          }
+          deeper h = grind (arith, leads, leads_trans)
 
           by_decl : (d : Decl) → r.decl ≡ d → IsIn i (items_of b a pool (items_within b a pool n) (record { path = r.path; decl = d })) → Behind b a pool p
           by_decl (endpoint d) e k =
@@ -83,62 +74,36 @@ above b r d p m e leads = in_flat_map bridge_of r d (filter (λ r. leads_to r.pa
 
 -- ---- what the pool of a region says of the bridges above it
 
-no_io_pool : (t : Bool) → same_pool (cond t pref_pool mem_pool) io_pool ≡ true → ⊥
-no_io_pool true h = cc
-no_io_pool false h = cc
-
 io_of_pref : (o : Option Aperture) (ds : List Bridge) (wide : Bool) → same_pool (pref_or_mem o ds wide) io_pool ≡ true → ⊥
 io_of_pref None ds wide h = cc
-io_of_pref (Some ap) ds wide h = no_io_pool (pref_reaches ap ds wide) h
+io_of_pref (Some ap) ds wide h = grind arith
 
 is_io_of : (a : Apertures) (ds : List Bridge) (k : Kind) → same_pool (pool_of a ds k) io_pool ≡ true → is_io k ≡ true
-is_io_of a ds io_kind h = refl
-is_io_of a ds (mem32 true) h = absurd (io_of_pref a.pref ds false h)
-is_io_of a ds (mem32 false) h = cc
-is_io_of a ds (mem64 true) h = absurd (io_of_pref a.pref ds true h)
-is_io_of a ds (mem64 false) h = cc
+is_io_of a ds k h = grind (arith, io_of_pref)
 
 abbrev Reached : Option Aperture → List Bridge → Type 0
 Reached o ds = (ap : Aperture) × (wide : Bool) × (o ≡ Some ap) × (pref_reaches ap ds wide ≡ true)
 
-reached_if : (ap : Aperture) (ds : List Bridge) (wide t : Bool) → pref_reaches ap ds wide ≡ t → same_pool (cond t pref_pool mem_pool) pref_pool ≡ true → Reached (Some ap) ds
-reached_if ap ds wide true e h = (ap, wide, refl, e)
-reached_if ap ds wide false e h = cc
-
 reached_of : (o : Option Aperture) (ds : List Bridge) (wide : Bool) → same_pool (pref_or_mem o ds wide) pref_pool ≡ true → Reached o ds
 reached_of None ds wide h = cc
-reached_of (Some ap) ds wide h = reached_if ap ds wide (pref_reaches ap ds wide) refl h
+reached_of (Some ap) ds wide h = grind arith
 
 pref_of : (a : Apertures) (ds : List Bridge) (k : Kind) → same_pool (pool_of a ds k) pref_pool ≡ true → Reached a.pref ds
-pref_of a ds io_kind h = cc
-pref_of a ds (mem32 true) h = reached_of a.pref ds false h
-pref_of a ds (mem32 false) h = cc
-pref_of a ds (mem64 true) h = reached_of a.pref ds true h
-pref_of a ds (mem64 false) h = cc
+pref_of a ds k h = grind (arith, reached_of)
 
 -- ---- each bridge above can name the pool's addresses
 
 reach_low : (k : PrefDecode) (n : ℕ) → n < 2 ^ 32 → has_pref k ≡ true → n < pref_reach k
-reach_low no_pref n h has = cc
-reach_low pref32 n h has = h
-reach_low pref64 n h has = omega arith
-
-reach_high : (k : PrefDecode) (n : ℕ) → n < 2 ^ 63 → has_pref64 k ≡ true → n < pref_reach k
-reach_high no_pref n h has = cc
-reach_high pref32 n h has = cc
-reach_high pref64 n h has = omega arith
+reach_low k n h has = grind arith
 
 pref_reached : (ap : Aperture) (ds : List Bridge) (wide : Bool) (d : Bridge) → IsIn d ds → ap.last < 2 ^ 63 → pref_reaches ap ds wide ≡ true → ap.last < pref_reach d.pref
-pref_reached ap ds wide d m limit h = search (rules, reach_low, ltb-true, all_in, reach_high, and_parts)
+pref_reached ap ds wide d m limit h = grind (arith, reach_low, ltb-true, all_in, and_parts)
 
 io_reached : (k : IoDecode) (n : ℕ) → n < 2 ^ 16 → has_io k ≡ true → n < io_reach k
-io_reached no_io n h has = cc
-io_reached io16 n h has = h
-io_reached io32 n h has = omega arith
+io_reached k n h has = grind arith
 
 or_second : (s t : Bool) → (not s || t) ≡ true → s ≡ true → t ≡ true
-or_second true t h k = h
-or_second false t h k = cc
+or_second s t h k = grind arith
 
 module _ (b : Board) (a : Apertures) (board : IsBoard b) (apertures : IsLawfulApertures a) (r : Row) (there : IsIn r b) (d : Bridge) (decl : r.decl ≡ bridge d) where
   io_above : has_io_paths b ≡ true → HasItems b a io_pool r.path → a.io.last < io_reach d.io
@@ -156,10 +121,7 @@ module _ (b : Board) (a : Apertures) (board : IsBoard b) (apertures : IsLawfulAp
       by_aperture (bridges_above b h.row.path) a.pref apertures.pref (pref_of a (bridges_above b h.row.path) h.region.kind h.in_pool) (above b r d h.row.path there decl h.leads)
     where
       by_aperture : (ds : List Bridge) (o : Option Aperture) → IsPrefOption a.mem o → Reached o ds → IsIn d ds → MatchOption o ⊤ (λ ap. ap.last < pref_reach d.pref)
-      by_aperture ds None lawful reached m = tt
-      by_aperture ds (Some x) lawful (y, wide, e, h) m =
-          let same : x ≡ y = cc in
-          pref_reached x ds wide d m lawful.ends (subst (λ (z : Aperture). pref_reaches z ds wide ≡ true) (sym same) h)
+      by_aperture ds o lawful reached m = grind (arith, pref_reached)
 
 -- ---- the window of a bus
 
@@ -171,8 +133,7 @@ record IsPlacedWindow (a : Apertures) (pool : Pool) (first size : ℕ) : Type 0 
   inside : MatchOption (aperture_of a pool) ⊥ (λ ap. first + size ≤ ap.last + 1)
 
 inside_of : (a : Apertures) (pool : Pool) (first size : ℕ) (o : Option Aperture) → MatchOption o ⊥ (λ ap. (ap.first ≤ first) × (first + size ≤ ap.last + 1)) → MatchOption o ⊥ (λ ap. first + size ≤ ap.last + 1)
-inside_of a pool first size None h = h
-inside_of a pool first size (Some x) h = h.1
+inside_of a pool first size o h = grind arith
 
 placed_here : (b : Board) (a : Apertures) (pool : Pool) → IsBoard b → HasLawfulDecls b → fits b a pool ≡ true → (p : Path) → 0 < length p → HasItems b a pool p
     → IsPlacedWindow a pool (bus_first b a pool p) (need (unit_of pool) (items_on b a pool p))
@@ -269,8 +230,7 @@ bridge_window b a has w m what =
 -- ---- a window with items holds the addresses inside it
 
 in_window : (unit first : ℕ) (is : List Item) (i : Item) (n : ℕ) → IsIn i is → first ≤ n → n < first + need unit is → is_in n (window_over unit first is) ≡ true
-in_window unit first [] i n m l u = absurd m
-in_window unit first (j ∷ is) i n m l u = let e : leb first n ≡ true = le-leb first n l in let f : leb n (first + need unit (j ∷ is) - 1) ≡ true = le-leb n (first + need unit (j ∷ is) - 1) (omega arith) in rw (e, f)
+in_window unit first is i n m l u = grind (arith, le-leb)
 
 module _ (b : Board) (a : Apertures) (p : Path) (d : Bridge) (forwards : ForwardsPlaced b a p d) (i : Item) (n : ℕ) where
   pub window_holds : (pool : Pool) → IsIn i (items_on b a pool p) → bus_first b a pool p ≤ n → n < bus_first b a pool p + need (unit_of pool) (items_on b a pool p) → is_in_window d (set_up_file b a p (bridge d)) (pool_space pool) n ≡ true

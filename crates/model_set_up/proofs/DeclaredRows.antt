@@ -1,5 +1,5 @@
 -- The rows of compact placement are those of the regions and windows that the board declares, one each.
-use Rattle.std.proofs.Common.{◌≡◌, ℕ, ◌+◌, ◌<◌, inl, inr, Bool, true, false, ◌&&◌, List, [], ◌∷◌, ◌++◌, length, refl, sym, ap, ap₂, ◌∙◌, subst, arith}
+use Rattle.std.proofs.Common.{◌≡◌, ℕ, ◌+◌, ◌<◌, inl, Bool, true, false, ◌&&◌, List, [], ◌∷◌, ◌++◌, length, refl, sym, ap, ap₂, ◌∙◌, subst, arith}
 use Rattle.std.specs.Prelude.{filter}
 use Rattle.std.proofs.lemmas.Bool.{and_parts}
 use Rattle.std.proofs.lemmas.Bool.Decides.{nat_tests}
@@ -9,7 +9,7 @@ use Rattle.model_board.specs.Board.{Board, Row, Decl, endpoint, bridge, IsBoard}
 use Rattle.model_board.specs.Paths.{Part, Path, path_eq, parent, last_part, IsPath}
 use Rattle.model_registers.specs.Apertures.{Apertures}
 use Rattle.model_set_up.specs.Pools.{Pool, same_pool, unit_of, bridges_above, pool_of}
-use Rattle.model_set_up.specs.Placement.{Placed, a_region, a_window, same_placed, Item, Spot, spots, need, region_item, window_items, items_on, offset_on, bus_first, region_first}
+use Rattle.model_set_up.specs.Placement.{Placed, a_region, a_window, same_placed, Item, Spot, spots, need, region_item, items_on, offset_on, bus_first, region_first}
 use Rattle.model_set_up.specs.Layout.{LayoutRow, row_of, bus_rows, buses, pool_rows}
 use Rattle.model_board.specs.Lawful.{HasLawfulDecls}
 use Rattle.model_set_up.specs.PlacementLaws.{pool_at, region_row, window_row, window_rows, rows_at, HasOwnRows, IsRowFor, RowsAreDeclared}
@@ -40,8 +40,7 @@ differ_sym : (r s : LayoutRow) → RowsDiffer r s → RowsDiffer s r
 differ_sym r s h = ap₂ ◌&&◌ (path_eq-sym s.path r.path) (same_placed-sym s.what r.what) ∙ h
 
 placed_self : (w : Placed) → same_placed w w ≡ true
-placed_self (a_region n) = grind (arith, nat_tests)
-placed_self a_window = refl
+placed_self w = grind (arith, nat_tests)
 
 module _ (b : Board) (a : Apertures) (pool : Pool) (board : IsBoard b) (lawful : HasLawfulDecls b) where
   abbrev the_row : Path → Spot → LayoutRow
@@ -137,15 +136,8 @@ module _ (b : Board) (a : Apertures) (pool : Pool) (board : IsBoard b) (lawful :
       test : LayoutRow → Bool
       test r = path_eq r.path p && same_placed r.what a_window
 
-      fails : (x : LayoutRow) → (test x ≡ true → ⊥) → (v : Bool) → test x ≡ v → v ≡ false
-      fails x never true e = absurd (never e)
-      fails x never false e = refl
-
       by_items : (is : List Item) → items_on b a pool p ≡ is → filter test (pool_rows b a pool) ≡ window_rows b a pool p is
-      by_items [] none = none_pass test (pool_rows b a pool) (λ x m. fails x (λ h. no_item (window_has p x m h)) (test x) refl)
-        where
-          no_item : HasItems b a pool p → ⊥
-          no_item (i, m) = subst (IsIn i) none m
+      by_items [] none = grind (arith, none_pass, window_has)
       by_items (i ∷ is) e = only_row (window_row b a pool p) (has_window_row p some (i, subst (IsIn i) (sym e) (inl refl)))
 
   -- ---- and no other row stands
@@ -156,12 +148,7 @@ module _ (b : Board) (a : Apertures) (pool : Pool) (board : IsBoard b) (lawful :
       let own : pool_at b a p k.0 ≡ pool = pool_is (pool_at b a p k.0) pool k.2 in
       let here : x ≡ row_in_pool b a pool p k.0 = row ∙ region_row_at p k.0 bus s m path k.3 in
       (k.0, k.1, own, subst (λ (q : Pool). x ≡ row_in_pool b a q p k.0) (sym own) here)
-  row_for p (bridge d) x bus s m row path item = by_items (items_on b a pool p) item
-    where
-      by_items : (is : List Item) → IsIn s.item (window_items (unit_of pool) (last_part p) is) → IsIn x (window_rows b a pool p is)
-      by_items [] k = absurd k
-      by_items (j ∷ is) (inl e) = inl (row ∙ window_row_at p bus s m path (ap (λ (i : Item). i.what) e))
-      by_items (j ∷ is) (inr k) = absurd k
+  row_for p (bridge d) x bus s m row path item = grind (arith, window_row_at)
 
   no_others : Each (λ x. (r : Row) × IsIn r b × IsRowFor b a pool x r.path r.decl) (pool_rows b a pool)
   no_others = each_from (λ x. (r : Row) × IsIn r b × IsRowFor b a pool x r.path r.decl) (pool_rows b a pool) (λ x m. of_spot x (on_bus_row b a pool x m))

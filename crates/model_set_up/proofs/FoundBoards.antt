@@ -1,18 +1,18 @@
 -- A board as it was found: each row keeps its path, whether it is a bridge, its regions but for their cells, and its decodes.
-use Rattle.std.proofs.Common.{◌≡◌, ℕ, ◌+◌, ◌≤◌, Bool, true, false, ◌&&◌, ◌||◌, cond, List, [], ◌∷◌, ◌++◌, length, Option, Some, None, refl, sym, ap, ap₂, ◌∙◌, subst, ◌⊎◌, arith, lit<, rules, zero, suc, not}
+use Rattle.std.proofs.Common.{◌≡◌, ℕ, ◌+◌, ◌≤◌, Bool, ◌&&◌, ◌||◌, cond, List, [], ◌∷◌, ◌++◌, length, Option, Some, refl, sym, ap, ap₂, ◌∙◌, subst, ◌⊎◌, arith, rules, zero, suc, not}
 use Rattle.std.specs.Prelude.{map, filter, flat_map, IsTrue, count_by}
 use Rattle.std.specs.List.{list_all, list_any}
 use Rattle.std.proofs.lemmas.List.{map-append}
 use Rattle.std.proofs.lemmas.List.Sums.{sum_by-cons}
 use Rattle.lists.specs.Elements.{Each, EachPair}
-use Rattle.model_registers.specs.Declarations.{Kind, io_kind, mem32, mem64, Region, IsLawfulRegion, registers_of, Endpoint, Bridge}
+use Rattle.model_registers.specs.Declarations.{Kind, Region, IsLawfulRegion, registers_of, Endpoint, Bridge}
 use Rattle.model_registers.specs.OwnCopies.{bare}
 use Rattle.model_board.specs.Paths.{Path, path_eq, path_before, leads_to, parent, IsPath, function_zero, last_part}
 use Rattle.model_board.specs.Board.{Decl, endpoint, bridge, is_bridge, Row, Board, stands_at, is_bridge_at, IsBoard, rows_on}
 use Rattle.model_board.specs.BusNumbers.{secondary, subordinate, bus_behind, bus_of, Enumerates}
 use Rattle.model_board.specs.Lawful.{IsLawfulDecl, HasLawfulDecls}
 use Rattle.model_registers.specs.Apertures.{Aperture, Apertures}
-use Rattle.model_set_up.specs.Pools.{bridge_of, bridges_above, has_pref, has_pref64, pref_or_mem, pool_of, Pool, io_pool, mem_pool, pref_pool, unit_of, same_pool, has_io, is_io, opens_io, has_io_paths}
+use Rattle.model_set_up.specs.Pools.{bridge_of, bridges_above, pref_or_mem, pool_of, Pool, io_pool, mem_pool, pref_pool, unit_of, same_pool, has_io, is_io, opens_io, has_io_paths}
 use Rattle.model_set_up.specs.FunctionTable.{met_endpoint, met_bridge, found_decl, range_behind, table_row, sized_table, board_in, PlacedAsFound}
 use Rattle.model_board.proofs.BusNumbers.{bridges, bridges-cons}
 use Rattle.model_board.proofs.PathOrder.{one}
@@ -21,7 +21,7 @@ use Rattle.model_registers.specs.EndpointTable.{BaseAddress}
 use Rattle.model_set_up.specs.Placement.{Item, a_region, a_window, region_item, window_items, items_of, items_within, items_on, root_first, fits, fits_items, spots, offset_in, offset_on, first_below, bus_first, region_first}
 use Rattle.model_set_up.specs.Layout.{row_of, bus_rows, buses, pool_rows, layout}
 use Rattle.model_set_up.specs.SetUp.{first_of, command_of, window_of, set_up_window}
-use Rattle.model_set_up.specs.SetUpWrites.{to_endpoint, to_bridge, placed_base, windows_of, writes_of, settings, planned, placement_rules}
+use Rattle.model_set_up.specs.SetUpWrites.{placed_base, windows_of, writes_of, planned, placement_rules}
 use Rattle.model_set_up.specs.Reach.{address_of}
 
 abbrev pub found_endpoint : Endpoint → Endpoint
@@ -47,16 +47,14 @@ board_in_table b = board_in_rows b b
 -- ---- declarations
 
 pub found_is_bridge : (d : Decl) → is_bridge (found_decl d) ≡ is_bridge d
-found_is_bridge (endpoint d) = refl
-found_is_bridge (bridge d) = refl
+found_is_bridge d = grind arith
 
 pub bare_twice : (rs : List Region) → map bare (map bare rs) ≡ map bare rs
 bare_twice [] = refl
 bare_twice (r ∷ rs) = ap (λ (ss : List Region). bare r ∷ ss) (bare_twice rs)
 
 pub found_twice : (d : Decl) → found_decl (found_decl d) ≡ found_decl d
-found_twice (endpoint d) = ap (λ rs. endpoint (record (met_endpoint d) { regions = rs })) (bare_twice d.regions)
-found_twice (bridge d) = refl
+found_twice d = grind (arith, bare_twice)
 
 bare_region : (r : Region) → IsLawfulRegion r → IsLawfulRegion (bare r)
 bare_region r h = record { registers = h.registers; size_is_lawful = h.size_is_lawful; block_fits = omega arith }
@@ -78,8 +76,7 @@ bare_blocks [] = tt
 bare_blocks (r ∷ rs) = (omega arith, bare_blocks rs)
 
 found_lawful : (d : Decl) → IsLawfulDecl d → IsLawfulDecl (found_decl d)
-found_lawful (endpoint d) h = search (rules, bare_each, bare_order, bare_blocks)
-found_lawful (bridge d) h = record { vendor = h.vendor; device = h.device; revision = lit< tt }
+found_lawful d h = grind (arith, bare_each, bare_order, bare_blocks)
 
 pub found_decls : (b : Board) → HasLawfulDecls b → HasLawfulDecls (found_board b)
 found_decls [] h = tt
@@ -159,8 +156,7 @@ filter_found p q h (r ∷ b) = search (rules, filter_found p q h b)
 -- ---- the bridges above
 
 found_bridge_of : (p : Path) (d : Decl) → bridge_of (record { path = p; decl = found_decl d }) ≡ map found_bridge (bridge_of (record { path = p; decl = d }))
-found_bridge_of p (endpoint d) = refl
-found_bridge_of p (bridge d) = refl
+found_bridge_of p d = grind arith
 
 found_bridges : (b : Board) → flat_map bridge_of (found_board b) ≡ map found_bridge (flat_map bridge_of b)
 found_bridges [] = refl
@@ -174,18 +170,10 @@ all_found t h [] = refl
 all_found t h (d ∷ ds) = ap₂ ◌&&◌ (h d) (all_found t h ds)
 
 pref_found : (m : Option Aperture) (ds : List Bridge) (wide : Bool) → pref_or_mem m (map found_bridge ds) wide ≡ pref_or_mem m ds wide
-pref_found None ds wide = refl
-pref_found (Some a) ds wide = rw (all_found (λ d. has_pref d.pref) (λ d. refl) ds) (rw (all_found (λ d. has_pref64 d.pref) (λ d. refl) ds) refl)
-
-pool_found : (a : Apertures) (ds : List Bridge) (k : Kind) → pool_of a (map found_bridge ds) k ≡ pool_of a ds k
-pool_found a ds io_kind = refl
-pool_found a ds (mem32 true) = pref_found a.pref ds false
-pool_found a ds (mem64 true) = pref_found a.pref ds true
-pool_found a ds (mem32 false) = refl
-pool_found a ds (mem64 false) = refl
+pref_found m ds wide = grind (arith, all_found)
 
 pub found_pool : (b : Board) (a : Apertures) (p : Path) (k : Kind) → pool_of a (bridges_above (found_board b) p) k ≡ pool_of a (bridges_above b p) k
-found_pool b a p k = ap (λ (ds : List Bridge). pool_of a ds k) (found_above b p) ∙ pool_found a (bridges_above b p) k
+found_pool b a p k = grind (arith, found_above, pref_found)
 
 -- ---- a board as it was found is placed as the board is: placement looks at paths, kinds, sizes and decodes alone
 
@@ -279,19 +267,13 @@ module _ (b : Board) (a : Apertures) where
   command_found d = ap₂ (λ t u. cond t 1 0 + cond u 2 0) (any_bare (λ k. same_space (space_of k) io) d.regions) (any_bare (λ k. same_space (space_of k) memory) d.regions)
 
   writes_found : (p : Path) (d : Decl) → writes_of (found_board b) a p (found_decl d) ≡ writes_of b a p d
-  writes_found p (endpoint d) = ap₂ to_endpoint (command_found d) (bases_found p d.regions)
-  writes_found p (bridge d) = ap to_bridge (windows_found p)
+  writes_found p d = grind (arith, command_found, bases_found, windows_found)
 
   address_found : (p : Path) → address_of (found_board b) p ≡ address_of b p
   address_found p = λ i. record { bus = found_bus b p i; part = last_part p }
 
-  settings_found : settings (found_board b) a ≡ settings b a
-  settings_found =
-      map_found (λ r. record { at = address_of (found_board b) r.path; writes = writes_of (found_board b) a r.path r.decl }) (λ r. record { at = address_of b r.path; writes = writes_of b a r.path r.decl })
-      (λ r. λ i. record { at = address_found r.path i; writes = writes_found r.path r.decl i }) b
-
   pub planned_found : planned (found_board b) a ≡ planned b a
-  planned_found = λ i. record { rows = layout_found i; settings = settings_found i }
+  planned_found = grind (arith, layout_found, map_found, address_found, writes_found)
 
   -- ---- what is refused
 

@@ -1,26 +1,18 @@
 -- Regions that share no address: one at most holds an address, so their order doesn't count.
-use Rattle.std.proofs.Common.{◌≡◌, ℕ, ◌+◌, ◌≤◌, ◌<◌, inl, inr, Bool, true, false, List, [], ◌∷◌, None, refl, sym, ap, ◌∙◌, rules}
+use Rattle.std.proofs.Common.{◌≡◌, ℕ, ◌+◌, ◌≤◌, ◌<◌, inl, inr, Bool, true, false, List, [], ◌∷◌, None, refl, sym, ap, ◌∙◌, rules, arith}
 use Rattle.std.specs.Prelude.{flat_map}
 use Rattle.std.specs.List.{list_any}
 use Rattle.std.specs.Option.{option_to_list}
 use Rattle.std.proofs.lemmas.Bool.Decides.{nat_tests}
 use Rattle.std.proofs.lemmas.Bool.{leb-true, ltb-true}
 use Rattle.lists.specs.Elements.{Each, EachPair, first_some, IsIn}
-use Rattle.model_registers.specs.Decoding.{Space, io, memory, same_space}
+use Rattle.model_registers.specs.Decoding.{Space, same_space}
 use Rattle.lists.proofs.Tests.{left_true, right_true}
 use Rattle.model_board.specs.Claims.{Claim}
 use Rattle.model_set_up.specs.PlacedRegions.{PlacedRegion, holds, claim_in}
 use Rattle.model_set_up.specs.UniqueClaimant.{ShareNone}
 use Rattle.lists.proofs.Members.{each_in, any_in, from_any}
 use Rattle.model_set_up.proofs.Partings.{pair_in}
-
-same_spaces : (x y z : Space) → same_space x z ≡ true → same_space y z ≡ true → same_space x y ≡ true
-same_spaces io io z h k = refl
-same_spaces memory memory z h k = refl
-same_spaces io memory io h k = cc
-same_spaces io memory memory h k = cc
-same_spaces memory io io h k = cc
-same_spaces memory io memory h k = cc
 
 pub record Holds (space : Space) (n : ℕ) (q : PlacedRegion) : Type 0 where
   pub space_is : same_space q.space space ≡ true
@@ -35,7 +27,7 @@ is_held space n q h = search (rules, nat_tests)
 
 -- what shares no address with a holder doesn't hold it
 not_held : (space : Space) (n : ℕ) (q t : PlacedRegion) → Holds space n q → ShareNone q t → holds space n t ≡ false
-not_held space n q t h apart = search (rules, holds_is, same_spaces)
+not_held space n q t h apart = grind (arith, holds_is)
 
 -- all claims of placed regions
 abbrev pub claims_in : Space → ℕ → List PlacedRegion → List Claim
@@ -62,8 +54,7 @@ holder_first space n q (t ∷ qs) apart (inr m) h = by_test (holds space n t) re
     by_test false e more = rw e more
 
 pub self_space : (space : Space) → same_space space space ≡ true
-self_space io = refl
-self_space memory = refl
+self_space space = grind arith
 
 -- ---- in any order
 
@@ -77,9 +68,7 @@ first_is space n q [] h one m = absurd m
 first_is space n q (t ∷ ts) h one m = by_test (holds space n t) refl m (λ k. first_is space n q ts h (λ u l. one u (inr l)) k)
   where
     by_test : (u : Bool) → holds space n t ≡ u → IsIn q (t ∷ ts) → (IsIn q ts → first_some (claim_in space n) ts ≡ claim_in space n q) → first_some (claim_in space n) (t ∷ ts) ≡ claim_in space n q
-    by_test true e k more = let same : t ≡ q = one t (inl refl) (holds_is space n t e) in rw e (sym (ap (claim_in space n) (sym same) ∙ rw e))
-    by_test false e (inl k) more = let bad : true ≡ false = sym (is_held space n q h) ∙ ap (holds space n) k ∙ e in cc
-    by_test false e (inr k) more = rw e (more k)
+    by_test u e k more = grind (arith, holds_is, is_held)
 
 none_first : (space : Space) (n : ℕ) (ts : List PlacedRegion) → ((t : PlacedRegion) → IsIn t ts → holds space n t ≡ false) → first_some (claim_in space n) ts ≡ None
 none_first space n [] h = refl
@@ -92,10 +81,6 @@ same_members space n qs ts apart into from = by_test (list_any (holds space n) q
     by_holder : (q : PlacedRegion) → IsIn q qs → Holds space n q → first_some (claim_in space n) ts ≡ first_some (claim_in space n) qs
     by_holder q m h = first_is space n q ts h (λ t k l. one_holder space n t q qs apart (from t k) m l h) (into q m) ∙ sym (holder_first space n q qs apart m h)
 
-    none_of : list_any (holds space n) qs ≡ false → (t : PlacedRegion) → IsIn t qs → (u : Bool) → holds space n t ≡ u → u ≡ false
-    none_of e t m true h = let bad : true ≡ false = sym (any_in (holds space n) t qs m h) ∙ e in cc
-    none_of e t m false h = refl
-
     by_test : (u : Bool) → list_any (holds space n) qs ≡ u → first_some (claim_in space n) ts ≡ first_some (claim_in space n) qs
     by_test true e = let f = from_any (holds space n) qs e in by_holder f.0 f.1 (holds_is space n f.0 f.2)
-    by_test false e = none_first space n ts (λ t m. none_of e t (from t m) (holds space n t) refl) ∙ sym (none_first space n qs (λ t m. none_of e t m (holds space n t) refl))
+    by_test false e = grind (arith, none_first, any_in)

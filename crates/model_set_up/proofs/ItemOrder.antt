@@ -144,9 +144,7 @@ same_list (x ∷ xs) (y ∷ ys) h k to from =
     ap₂ ◌∷◌ e (same_list xs ys h.1 k.1 (λ z m. later_to e z m (to z (inr m))) (λ z m. later_from e z m (from z (inr m))))
   where
     heads : (x ≡ y) ⊎ IsIn x ys → (y ≡ x) ⊎ IsIn y xs → x ≡ y
-    heads (inl e) n = e
-    heads (inr m) (inl e) = sym e
-    heads (inr m) (inr n) = absurd (never x y (each_in (Strictly x) y xs h.0 n) (each_in (Strictly y) x ys k.0 m))
+    heads e n = grind (arith, never, each_in)
 
     later_to : x ≡ y → (z : Item) → IsIn z xs → (z ≡ y) ⊎ IsIn z ys → IsIn z ys
     later_to e z m (inr n) = n

@@ -4,7 +4,7 @@ use Rattle.std.specs.Prelude.{filter}
 use Rattle.std.proofs.lemmas.Bool.{cases_lt}
 use Rattle.std.proofs.lemmas.Bool.Decides.{nat_tests}
 use Rattle.lists.specs.Elements.{Each, EachPair, IsIn}
-use Rattle.model_registers.specs.Declarations.{Endpoint, Region, Kind, registers_of, io_kind, mem32, mem64, IsLawfulRegion}
+use Rattle.model_registers.specs.Declarations.{Endpoint, Region, IsLawfulRegion}
 use Rattle.model_board.specs.Board.{Board, Row, Decl, endpoint, bridge, rows_on, IsBoard}
 use Rattle.model_board.specs.Paths.{Part, Path, part_eq, path_eq, parent, last_part, IsPath}
 use Rattle.model_registers.specs.Apertures.{Apertures}
@@ -65,10 +65,7 @@ abbrev pub Differ : Item → Item → Type 0
 Differ i j = is_item j.part j.what i ≡ false
 
 pub same_placed-sym : (v w : Placed) → same_placed v w ≡ same_placed w v
-same_placed-sym (a_region n) (a_region m) = grind (arith, nat_tests)
-same_placed-sym (a_region n) a_window = refl
-same_placed-sym a_window (a_region m) = refl
-same_placed-sym a_window a_window = refl
+same_placed-sym v w = grind (arith, nat_tests)
 
 pub differ_sym : (i j : Item) → Differ i j → Differ j i
 differ_sym i j h = ap₂ ◌&&◌ (part_eq-sym j.part i.part) (same_placed-sym j.what i.what) ∙ h
@@ -109,9 +106,7 @@ spots_differ is h = differ_from 0 (in_order is) (pairs_in_order Differ differ_sy
 -- where no two are of the same region or window, the look-up of a spot's item finds the spot
 pub offset_of_spot : (s : Spot) (ss : List Spot) → EachPair SpotsDiffer ss → IsIn s ss → offset_in ss s.item.part s.item.what ≡ s.first
 offset_of_spot s [] h m = absurd m
-offset_of_spot s (t ∷ ss) h (inl e) =
-    let here : is_item s.item.part s.item.what t.item ≡ true = subst (λ (u : Spot). is_item s.item.part s.item.what u.item ≡ true) e (item_self s.item) in
-    rw here (ap (λ (u : Spot). u.first) (sym e))
+offset_of_spot s (t ∷ ss) h (inl e) = grind (arith, item_self)
 offset_of_spot s (t ∷ ss) h (inr m) =
     let other : is_item s.item.part s.item.what t.item ≡ false = each_in (SpotsDiffer t) s ss h.0 m in
     rw other (offset_of_spot s ss h.1 m)
@@ -155,15 +150,12 @@ pub record IsPlaceable (unit : ℕ) (i : Item) : Type 0 where
   pub some : 0 < i.size
   pub aligns : AlignsAs unit i i.what
 
-positive : (unit : ℕ) (is : List Item) → Each (IsPlaceable unit) is → Each (λ i. 0 < i.align) is
-positive unit is h = each_from (λ i. 0 < i.align) is (λ i m. power_positive i.align (each_in (IsPlaceable unit) i is h m).power)
-
 powers : (unit : ℕ) (is : List Item) → Each (IsPlaceable unit) is → Each (λ i. IsPowerOfTwo i.align) is
 powers unit is h = each_from (λ i. IsPowerOfTwo i.align) is (λ i m. (each_in (IsPlaceable unit) i is h m).power)
 
 -- the spots of items that can be placed, before the bus's last end
 pub run_of : (unit : ℕ) (is : List Item) → Each (IsPlaceable unit) is → IsRun 0 (end_from 0 (in_order is)) (spots is)
-run_of unit is h = run_in_order is (positive unit is h)
+run_of unit is h = grind (arith, run_in_order, each_from, power_positive, each_in)
 
 pub end_below_need : (unit : ℕ) (is : List Item) → 0 < unit → end_from 0 (in_order is) ≤ need unit is
 end_below_need unit is h = round_up_not_before unit (end_from 0 (in_order is)) h
@@ -214,14 +206,9 @@ pub region_of_item : (b : Board) (a : Apertures) (pool : Pool) (p : Path) (d : E
     → (r : Region) × IsIn r d.regions × (same_pool (pool_of a (bridges_above b p) r.kind) pool ≡ true) × (i ≡ region_item (last_part p) r)
 region_of_item b a pool p d i m = grind (arith, from_map, from_filter)
 
-window_part : (unit : ℕ) (p : Part) (is : List Item) (i : Item) → IsIn i (window_items unit p is) → i.part ≡ p
-window_part unit p [] i m = absurd m
-window_part unit p (j ∷ is) i (inl e) = ap (λ (k : Item). k.part) e
-window_part unit p (j ∷ is) i (inr m) = absurd m
-
 pub part_of_item : (b : Board) (a : Apertures) (pool : Pool) (p : Path) (d : Decl) (i : Item) → IsIn i (items_for b a pool p d) → i.part ≡ last_part p
 part_of_item b a pool p (endpoint d) i m = ap (λ (k : Item). k.part) (region_of_item b a pool p d i m).3
-part_of_item b a pool p (bridge d) i m = window_part (unit_of pool) (last_part p) (items_on b a pool p) i m
+part_of_item b a pool p (bridge d) i m = grind arith
 
 -- the function of the board whose item it is
 pub record Origin (b : Board) (a : Apertures) (pool : Pool) (bus : Path) (i : Item) : Type 0 where
@@ -259,18 +246,9 @@ module _ (b : Board) (a : Apertures) (pool : Pool) (board : IsBoard b) where
 
   -- what holds of items of different parts, and of the regions of one endpoint, holds of any two items of a bus
   module _ (R : Item → Item → Type 0) (parts : (i j : Item) → part_eq i.part j.part ≡ false → R i j) (regions : (p : Part) (r s : Region) → r.index < s.index → R (region_item p r) (region_item p s)) where
-    one_window : (p : Part) (is : List Item) → EachPair R (window_items (unit_of pool) p is)
-    one_window p [] = tt
-    one_window p (i ∷ is) = (tt, tt)
-
-    of_regions : (p : Part) (r s : Region) (k : Kind) → r.index + registers_of k ≤ s.index → R (region_item p r) (region_item p s)
-    of_regions p r s io_kind h = regions p r s (omega arith)
-    of_regions p r s (mem32 q) h = regions p r s (omega arith)
-    of_regions p r s (mem64 q) h = regions p r s (omega arith)
-
     of_one : (p : Path) (d : Decl) → IsLawfulDecl d → EachPair R (items_for b a pool p d)
-    of_one p (endpoint d) h = grind (arith, pairs_of_map, pairs_weaker, pairs_filter, of_regions)
-    of_one p (bridge d) h = one_window (last_part p) (items_on b a pool p)
+    of_one p (endpoint d) h = grind (arith, pairs_of_map, pairs_weaker, pairs_filter, regions)
+    of_one p (bridge d) h = grind arith
 
     pub items_pairs : HasLawfulDecls b → (bus : Path) → EachPair R (items_on b a pool bus)
     items_pairs lawful bus =

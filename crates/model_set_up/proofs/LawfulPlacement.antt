@@ -1,5 +1,5 @@
 -- Where a pool fits, the rows of its compact placement are lawful.
-use Rattle.std.proofs.Common.{◌≡◌, ℕ, ◌+◌, ◌%◌, ◌≤◌, ◌<◌, ◌⊎◌, inl, inr, Bool, true, false, ◌&&◌, List, [], ◌∷◌, ◌++◌, length, Option, Some, None, MatchOption, refl, sym, ap, ap₂, ◌∙◌, subst, arith, rules}
+use Rattle.std.proofs.Common.{◌≡◌, ℕ, ◌+◌, ◌%◌, ◌≤◌, ◌<◌, ◌⊎◌, inl, inr, Bool, true, false, ◌&&◌, List, [], ◌∷◌, ◌++◌, length, Option, MatchOption, refl, sym, ap, ap₂, ◌∙◌, subst, arith}
 use Rattle.std.specs.Prelude.{IsTrue, map, filter, nat_le}
 use Rattle.std.specs.List.{list_any}
 use Rattle.std.specs.Option.{option_map_or}
@@ -10,7 +10,7 @@ use Rattle.model_board.specs.Board.{Board, Row, is_bridge, IsBoard}
 use Rattle.model_board.specs.Paths.{Part, Path, path_eq, path_before, leads_to, parent, last_part, IsPath}
 use Rattle.model_registers.specs.Apertures.{Apertures, Aperture}
 use Rattle.model_set_up.specs.Pools.{Pool, io_pool, mem_pool, pref_pool, same_pool, unit_of, aperture_of}
-use Rattle.model_set_up.specs.Placement.{Placed, a_region, a_window, Item, Spot, spot_end, spots, in_order, end_from, round_up, need, alignment, items_on, root_first, fits_items, fits, bus_first}
+use Rattle.model_set_up.specs.Placement.{Placed, a_region, a_window, Item, Spot, spot_end, spots, in_order, end_from, round_up, items_on, root_first, fits_items, fits, bus_first}
 use Rattle.model_set_up.specs.Layout.{LayoutRow, IsAligned, is_window_over, IsUnderWindows, IsLawful, row_of, bus_rows, buses, pool_rows, layout}
 use Rattle.model_set_up.specs.Extents.{IsInside, AreApart}
 use Rattle.model_set_up.specs.Packing.{IsPowerOfTwo}
@@ -47,9 +47,7 @@ buses_differ b board = (
     by_test p q before true e = absurd (not_before_itself q (subst (λ (x : Path). path_before x q ≡ true) (path_same p q e) before))
 
 pub pool_self : (pool : Pool) → same_pool pool pool ≡ true
-pool_self io_pool = refl
-pool_self mem_pool = refl
-pool_self pref_pool = refl
+pool_self pool = grind arith
 
 -- ---- one row
 
@@ -64,12 +62,10 @@ in_aperture : (o : Option Aperture) (align end : ℕ) → 0 < align → 0 < end
     → nat_le (option_map_or (λ (ap : Aperture). round_up align ap.first) o 0 + end) (option_map_or (λ (ap : Aperture). ap.last + 1) o 0) ≡ true
     → (row : LayoutRow) → IsInside (option_map_or (λ (ap : Aperture). round_up align ap.first) o 0) (option_map_or (λ (ap : Aperture). round_up align ap.first) o 0 + end) row.first row.size
     → MatchOption o ⊥ (λ ap. IsInside ap.first (ap.last + 1) row.first row.size)
-in_aperture None align end h k fit row inside = let bad : 0 + end ≤ 0 = leb-true (0 + end) 0 fit in omega arith
-in_aperture (Some ap) align end h k fit row inside = search (rules, leb-true, round_up_not_before)
+in_aperture o align end h k fit row inside = grind (arith, leb-true, round_up_not_before)
 
 window_over : (r : LayoutRow) (v : Placed) (t : Bool) → (elim v [ a_region n ↦ false | a_window ↦ t ]) ≡ true → (v ≡ a_window) × (t ≡ true)
-window_over r (a_region n) t h = cc
-window_over r a_window t h = (refl, h)
+window_over r v t h = grind arith
 
 -- a row stands for a spot of a bus
 pub record OnBus (b : Board) (a : Apertures) (pool : Pool) (row : LayoutRow) : Type 0 where
@@ -123,17 +119,14 @@ module _ (b : Board) (a : Apertures) (pool : Pool) (board : IsBoard b) (lawful :
       (omega (arith, up.begins), omega (arith, up.ends, last))
 
   from_root : (bus : Path) → ([] ≡ bus) ⊎ (leads_to [] bus ≡ true)
-  from_root [] = inl refl
-  from_root (x ∷ bus) = inr refl
+  from_root bus = grind arith
 
   row_in_aperture : fits b a pool ≡ true → (bus : Path) (s : Spot) → IsIn s (spots (items_on b a pool bus)) → MatchOption (aperture_of a pool) ⊥ (λ ap. IsInside ap.first (ap.last + 1) (the_row bus s).first (the_row bus s).size)
   row_in_aperture fit bus s m = by_items (items_on b a pool []) (items_placeable b a pool lawful []) (root_has b a pool board lawful bus (spot_has bus s m)) fit (row_inside bus s m [] (from_root bus))
     where
       by_items : (is : List Item) → Each (IsPlaceable (unit_of pool)) is → (i : Item) × IsIn i is → fits_items a pool is ≡ true → IsInside (root_first a pool is) (root_first a pool is + end_from 0 (in_order is)) (the_row bus s).first (the_row bus s).size
           → MatchOption (aperture_of a pool) ⊥ (λ ap. IsInside ap.first (ap.last + 1) (the_row bus s).first (the_row bus s).size)
-      by_items [] h (i, k) fit inside = absurd k
-      by_items (j ∷ is) h (i, k) fit inside =
-          in_aperture (aperture_of a pool) (alignment (unit_of pool) (j ∷ is)) (end_from 0 (in_order (j ∷ is))) (omega (arith, unit_below (unit_of pool) (j ∷ is), unit_positive pool)) (some_end (unit_of pool) i (j ∷ is) h k) fit (the_row bus s) inside
+      by_items is h i fit inside = grind (arith, in_aperture, unit_below, unit_positive, some_end)
 
   row_under : (bus : Path) (s : Spot) → IsIn s (spots (items_on b a pool bus)) → IsUnderWindows b (pool_rows b a pool) (the_row bus s)
   row_under bus s m = record {
@@ -151,10 +144,7 @@ module _ (b : Board) (a : Apertures) (pool : Pool) (board : IsBoard b) (lawful :
               let leads : leads_to (x ++ t.item.part ∷ []) (bus ++ s.item.part ∷ []) ≡ true = (and_parts (same_pool pool pool) (leads_to (x ++ t.item.part ∷ []) (bus ++ s.item.part ∷ [])) k'.1).1 in
               let w = window_of b a pool board lawful x t k k'.0 in
               let inside = row_inside bus s m (x ++ t.item.part ∷ []) (leads_up (x ++ t.item.part ∷ []) bus s.item.part leads) in
-              let first : bus_first b a pool (x ++ t.item.part ∷ []) ≡ bus_first b a pool x + t.first = w.0.first_is ∙ ap (λ (u : Spot). bus_first b a pool x + u.first) w.1 in
-              let size : t.item.size ≡ need (unit_of pool) (items_on b a pool (x ++ t.item.part ∷ [])) = ap (λ (u : Spot). u.item.size) (sym w.1) ∙ w.0.size_is in
-              let room : bus_end b a pool (x ++ t.item.part ∷ []) ≤ need (unit_of pool) (items_on b a pool (x ++ t.item.part ∷ [])) = end_below_need (unit_of pool) (items_on b a pool (x ++ t.item.part ∷ [])) (unit_positive pool) in
-              (omega (arith, inside.0, first), omega (arith, inside.1, first, size, room))
+              grind (arith, end_below_need, unit_positive)
 
       of_bridge : (q : Path) → 0 < length q → leads_to q (bus ++ s.item.part ∷ []) ≡ true → list_any (λ w. is_window_over (the_row bus s) w && path_eq w.path q) (pool_rows b a pool) ≡ true
       of_bridge q some leads =
@@ -183,11 +173,7 @@ module _ (b : Board) (a : Apertures) (pool : Pool) (board : IsBoard b) (lawful :
     where
       of_two : (x y : Path) → path_eq x y ≡ false → (r s : LayoutRow) → (t : Spot) × IsIn t (spots (items_on b a pool x)) × (r ≡ the_row x t) → (u : Spot) × IsIn u (spots (items_on b a pool y)) × (s ≡ the_row y u)
           → (same_pool r.pool s.pool && path_eq (parent r.path) (parent s.path)) ≡ true → AreApart r.first r.size s.first s.size
-      of_two x y other r s (t, m, e) (u, k, f) same =
-          let up : parent r.path ≡ x = ap (λ (w : LayoutRow). parent w.path) e ∙ parent_snoc x t.item.part in
-          let down : parent s.path ≡ y = ap (λ (w : LayoutRow). parent w.path) f ∙ parent_snoc y u.item.part in
-          let equal : path_eq (parent r.path) (parent s.path) ≡ true = (and_parts (same_pool r.pool s.pool) (path_eq (parent r.path) (parent s.path)) same).1 in
-          let no : true ≡ false = sym equal ∙ ap₂ path_eq up down ∙ other in cc
+      of_two x y other r s (t, m, e) (u, k, f) same = grind (arith, parent_snoc, and_parts)
 
   pub pool_lawful : fits b a pool ≡ true → IsLawful b a (pool_rows b a pool)
   pool_lawful fit = record {
@@ -208,9 +194,7 @@ module _ (b : Board) (a : Apertures) (each_lawful : (pool : Pool) → IsLawful b
   pools = io_pool ∷ mem_pool ∷ pref_pool ∷ []
 
   in_pools : (pool : Pool) → IsIn pool pools
-  in_pools io_pool = inl refl
-  in_pools mem_pool = inr (inl refl)
-  in_pools pref_pool = inr (inr (inl refl))
+  in_pools pool = grind arith
 
   in_layout : (pool : Pool) (r : LayoutRow) → IsIn r (pool_rows b a pool) → IsIn r (layout b a)
   in_layout pool r m = in_flat_map (pool_rows b a) pool r pools (in_pools pool) m

@@ -2,7 +2,7 @@
 use Rattle.std.proofs.Common.{◌≡◌, ℕ, zero, suc, ◌+◌, ◌≤◌, ◌<◌, true, List, [], ◌∷◌, ◌++◌, length, refl, sym, ap, ap₂, arith, rules}
 use Rattle.std.specs.Prelude.{flat_map}
 use Rattle.lists.specs.Elements.{Each}
-use Rattle.model_board.specs.Board.{Board, Row, Decl, endpoint, bridge, rows_on}
+use Rattle.model_board.specs.Board.{Board, Row, Decl, rows_on}
 use Rattle.model_board.specs.Paths.{Path, path_eq, part_eq, parent, IsPath}
 use Rattle.model_registers.specs.Apertures.{Apertures}
 use Rattle.model_set_up.specs.Pools.{Pool}
@@ -30,8 +30,7 @@ flat_map_same f g (x ∷ xs) h = ap₂ ◌++◌ h.0 (flat_map_same f g xs h.1)
 
 items_of_same : (b : Board) (a : Apertures) (pool : Pool) (f g : Path → List Item) (p : Path) (d : Decl) → f p ≡ g p
     → items_of b a pool f (record { path = p; decl = d }) ≡ items_of b a pool g (record { path = p; decl = d })
-items_of_same b a pool f g p (endpoint d) e = refl
-items_of_same b a pool f g p (bridge d) e = rw e
+items_of_same b a pool f g p d e = grind arith
 
 no_rows : (b : Board) (bus : Path) → Each (λ r. IsPath r.path) b → 16 ≤ length bus → rows_on b bus ≡ []
 no_rows [] bus h deep = refl

@@ -1,14 +1,14 @@
 -- The buses of a board nest: each that has items begins and ends inside its window on the bus above.
-use Rattle.std.proofs.Common.{◌≡◌, ℕ, zero, suc, ◌+◌, ◌-◌, ◌/◌, ◌%◌, ◌≤◌, ◌<◌, ◌⊎◌, inl, inr, true, ◌&&◌, List, [], ◌∷◌, ◌++◌, length, Option, Some, None, refl, sym, ap, ◌∙◌, subst, arith, append_assoc, append-nil, div-add-mod'}
+use Rattle.std.proofs.Common.{◌≡◌, ℕ, zero, suc, ◌+◌, ◌-◌, ◌/◌, ◌%◌, ◌≤◌, ◌<◌, ◌⊎◌, inl, inr, true, List, [], ◌∷◌, ◌++◌, length, Option, Some, None, refl, sym, ap, ◌∙◌, subst, arith, append_assoc, append-nil, div-add-mod'}
 use Rattle.std.specs.Prelude.{IsTrue}
 use Rattle.std.specs.Option.{option_map_or}
 use Rattle.lists.specs.Elements.{Each, IsIn}
 use Rattle.lists.proofs.Tests.{left_true, right_true}
 use Rattle.model_board.specs.Board.{Board, Row, Decl, endpoint, bridge, is_bridge, is_bridge_at, IsBoard}
-use Rattle.model_board.specs.Paths.{Part, Path, path_eq, leads_to, parent, last_part}
+use Rattle.model_board.specs.Paths.{Part, Path, leads_to, parent, last_part}
 use Rattle.model_registers.specs.Apertures.{Apertures, Aperture}
 use Rattle.model_set_up.specs.Pools.{Pool, unit_of, aperture_of}
-use Rattle.model_set_up.specs.Placement.{Placed, a_region, a_window, Item, Spot, spot_end, spots, in_order, end_from, round_up, need, alignment, window_items, items_on, root_first, offset_on, first_below, bus_first}
+use Rattle.model_set_up.specs.Placement.{Placed, a_window, Item, Spot, spots, in_order, end_from, round_up, need, alignment, window_items, items_on, root_first, offset_on, first_below, bus_first}
 use Rattle.model_set_up.specs.Packing.{IsPowerOfTwo, IsRun}
 use Rattle.model_board.specs.Lawful.{HasLawfulDecls}
 use Rattle.lists.proofs.Members.{each_in, from_any}
@@ -75,8 +75,7 @@ has_window unit p (k ∷ is) j m = (record { part = p; what = a_window; align = 
 
 module _ (b : Board) (a : Apertures) (pool : Pool) (board : IsBoard b) (lawful : HasLawfulDecls b) where
   of_bridge : (p : Path) (d : Decl) (i : Item) → i.what ≡ a_window → IsIn i (items_for b a pool p d) → (is_bridge d ≡ true) × IsWindow (unit_of pool) (items_on b a pool p) i
-  of_bridge p (endpoint d) i w m = let e : i.what ≡ a_region (region_of_item b a pool p d i m).0.index = ap (λ (k : Item). k.what) (region_of_item b a pool p d i m).3 in cc
-  of_bridge p (bridge d) i w m = (refl, is_window (unit_of pool) (last_part p) (items_on b a pool p) i m)
+  of_bridge p d i w m = grind (arith, region_of_item, is_window)
 
   pub offset_of : (bus : Path) (s : Spot) → IsIn s (spots (items_on b a pool bus)) → offset_on b a pool bus s.item.part s.item.what ≡ s.first
   offset_of bus s m = offset_of_spot s (spots (items_on b a pool bus)) (spots_differ (items_on b a pool bus) (items_differ b a pool board lawful bus)) m
@@ -112,10 +111,7 @@ module _ (b : Board) (a : Apertures) (pool : Pool) (board : IsBoard b) (lawful :
       by_parent (parent o.row.path) up (each_in (λ (s : Row). (parent s.path ≡ []) ⊎ IsTrue (is_bridge_at b (parent s.path))) o.row b board.behind_bridges o.there)
     where
       by_parent : (q : Path) → q ≡ bus → (q ≡ []) ⊎ IsTrue (is_bridge_at b q) → (r : Row) × IsIn r b × (r.path ≡ bus) × (is_bridge r.decl ≡ true)
-      by_parent q e (inl none) = absurd (omega (arith, some, ap length (sym e ∙ none)))
-      by_parent q e (inr h) =
-          let f = from_any (λ (r : Row). is_bridge r.decl && path_eq r.path q) b h in
-          (f.0, f.1, path_same f.0.path q (right_true (is_bridge f.0.decl) (path_eq f.0.path q) f.2) ∙ e, left_true (is_bridge f.0.decl) (path_eq f.0.path q) f.2)
+      by_parent q e none = grind (arith, from_any, path_same, right_true, left_true)
 
   own_window : (p : Path) (d : Decl) → is_bridge d ≡ true → HasItems b a pool p → (i : Item) × IsIn i (items_for b a pool p d) × (i.part ≡ last_part p) × (i.what ≡ a_window)
   own_window p (endpoint d) h has = cc
@@ -211,13 +207,7 @@ module _ (b : Board) (a : Apertures) (pool : Pool) (board : IsBoard b) (lawful :
       root (x ∷ q) (inr h) = cc
 
       step : (x : Path) (p : Part) → WindowOn b a pool x p → ((q : Path) → (q ≡ x) ⊎ (leads_to q x ≡ true) → IsWithin q x) → (q : Path) → (q ≡ x ++ p ∷ []) ⊎ (leads_to q (x ++ p ∷ []) ≡ true) → IsWithin q (x ++ p ∷ [])
-      step x p w more q (inl e) = itself q (x ++ p ∷ []) e
-      step x p w more q (inr h) =
-          let up : IsWithin q x = more q (leads_up q x p h) in
-          let inside = each_in (λ (t : Spot). (0 ≤ t.first) × (spot_end t ≤ bus_end b a pool x)) w.spot (spots (items_on b a pool x)) (bus_run x).within w.on in
-          let last : w.spot.first + w.spot.item.size ≤ bus_end b a pool x = inside.1 in
-          let room : bus_end b a pool (x ++ p ∷ []) ≤ need (unit_of pool) (items_on b a pool (x ++ p ∷ [])) = end_below_need (unit_of pool) (items_on b a pool (x ++ p ∷ [])) (unit_positive pool) in
-          record { begins = omega (arith, w.first_is, up.begins); ends = omega (arith, w.first_is, w.size_is, up.ends, last, room) }
+      step x p w more q e = grind (arith, itself, leads_up, each_in, bus_run, end_below_need, unit_positive)
 
   pub items_above : (bus : Path) → HasItems b a pool bus → (q : Path) → (q ≡ bus) ⊎ (leads_to q bus ≡ true) → HasItems b a pool q
   items_above bus has = down_buses (λ x. (q : Path) → (q ≡ x) ⊎ (leads_to q x ≡ true) → HasItems b a pool q) root step bus has

@@ -10,20 +10,18 @@ use Rattle.std.proofs.lemmas.Bool.{leb-true, leb-false}
 use Rattle.std.proofs.Math.Pow.{pow-lt, pow_pos}
 use Rattle.lists.specs.Elements.{Each, EachPair}
 use Rattle.lists.proofs.EachLemmas.{each_append, each_of_map, pairs_filter, each_filter, each_map, each_both, filter_passes}
-use Rattle.model_registers.specs.Declarations.{Endpoint}
 use Rattle.model_board.specs.Board.{Board, Row, Decl, endpoint, bridge, is_bridge, rows_on}
 use Rattle.model_board.specs.Paths.{Path, path_eq, parent}
 use Rattle.model_registers.specs.Apertures.{Apertures}
-use Rattle.model_set_up.specs.Pools.{Pool, io_pool, mem_pool, pref_pool, unit_of}
-use Rattle.model_set_up.specs.Placement.{region_items, items_of, items_within, items_on, Item, stands_before, inserted, in_order, round_up, end_from, spot_end, spots_from, spots}
+use Rattle.model_set_up.specs.Pools.{Pool, unit_of}
+use Rattle.model_set_up.specs.Placement.{items_of, items_within, items_on, Item, stands_before, inserted, in_order, round_up, end_from, spots_from, spots}
 use Rattle.model_set_up.specs.Extents.{IsInside, AreApart}
 use Rattle.model_set_up.specs.Packing.{IsPowerOfTwo, Interval, FlatNeed, HasPowerSizes, FlatNeedOnBus, IsRun, CompactIsRun}
 
 -- ---- lists
 
 length_cases : {A : Type 0} (x : A) (ys : List A) (n : ℕ) (b : Bool) → length ys ≤ n → length (cond b (x ∷ ys) ys) ≤ suc n
-length_cases x ys n true h = omega arith
-length_cases x ys n false h = omega arith
+length_cases x ys n b h = grind arith
 
 length_filter : {A : Type 0} (p : A → Bool) (xs : List A) → length (filter p xs) ≤ length xs
 length_filter p [] = omega arith
@@ -71,8 +69,7 @@ spots_take (suc n) (x ∷ ss) start stop few h within apart =
     let low : sizes left + start ≤ x.first = spots_take n left start x.first few_left within.0.0 left_in (pairs_filter SpotsApart (ends_before x) ss apart.1) in
     let high : sizes right + (x.first + x.size) ≤ stop = spots_take n right (x.first + x.size) stop few_right within.0.1 right_in (pairs_filter SpotsApart (not_before x) ss apart.1) in
     let step : sizes (x ∷ ss) ≡ x.size + sizes ss = sum_by-cons (λ s. s.size) x ss in
-    let total : sizes left + sizes right ≡ sizes ss = sum_by-filter_both (ends_before x) (not_before x) (λ s. refl) (λ s. s.size) ss in
-    omega arith
+    grind (arith, sum_by-filter_both)
 
 -- ---- the compact placement of regions
 
@@ -99,8 +96,7 @@ abbrev Descends : List Item → Type 0
 Descends is = EachPair (λ i j. j.align ≤ i.align) is
 
 each_inserted_cases : (P : Item → Type 0) (i j : Item) (js : List Item) (b : Bool) → P i → P j → Each P js → Each P (inserted i js) → Each P (cond b (j ∷ inserted i js) (i ∷ j ∷ js))
-each_inserted_cases P i j js true hi hj h k = (hj, k)
-each_inserted_cases P i j js false hi hj h k = (hi, (hj, h))
+each_inserted_cases P i j js b hi hj h k = grind arith
 
 each_inserted : (P : Item → Type 0) (i : Item) (js : List Item) → P i → Each P js → Each P (inserted i js)
 each_inserted P i [] hi h = (hi, tt)
@@ -110,17 +106,9 @@ each_in_order : (P : Item → Type 0) (is : List Item) → Each P is → Each P 
 each_in_order P [] h = tt
 each_in_order P (i ∷ is) h = each_inserted P i (in_order is) h.0 (each_in_order P is h.1)
 
-before_aligns : (i j : Item) → stands_before j i ≡ true → i.align ≤ j.align
-before_aligns i j h = grind (arith, nat_tests)
-
-not_before_aligns : (i j : Item) → stands_before j i ≡ false → j.align ≤ i.align
-not_before_aligns i j h = grind (arith, nat_tests)
-
 descends_cases : (i j : Item) (js : List Item) (b : Bool) → stands_before j i ≡ b → Descends (j ∷ js) → Descends (inserted i js) → Descends (cond b (j ∷ inserted i js) (i ∷ j ∷ js))
-descends_cases i j js true e h k = (each_inserted (λ l. l.align ≤ j.align) i js (before_aligns i j e) h.0, k)
-descends_cases i j js false e h k =
-    let first : j.align ≤ i.align = not_before_aligns i j e in
-    ((first, each_map (λ l. l.align ≤ j.align) (λ l. l.align ≤ i.align) js (λ l p. omega arith) h.0), h)
+descends_cases i j js true e h k = grind (arith, each_inserted, nat_tests)
+descends_cases i j js false e h k = grind (arith, each_map, nat_tests)
 
 descends_inserted : (i : Item) (js : List Item) → Descends js → Descends (inserted i js)
 descends_inserted i [] h = (tt, tt)
@@ -146,9 +134,7 @@ smaller_cases j k true e h =
     let le : j ≤ k = leb-true j k e in
     let split : k ≡ k - j + j = omega arith in
     (2 ^ (k - j), ap (λ x. 2 ^ x) split ∙ pow-add 2 (k - j) j)
-smaller_cases j k false e h =
-    let gt : k < j = leb-false j k e in
-    absurd (omega (arith, pow-lt gt))
+smaller_cases j k false e h = grind (arith, leb-false, pow-lt)
 
 pub smaller_divides : (j k : ℕ) → 2 ^ j ≤ 2 ^ k → Divides (2 ^ j) (2 ^ k)
 smaller_divides j k h = smaller_cases j k (nat_le j k) refl h
@@ -170,9 +156,7 @@ record IsRegion (i : Item) : Type 0 where
   power : IsPowerOfTwo i.size
 
 next_divides : (n : ℕ) (j : Item) → IsRegion j → (i : Item) → (i.align ≤ j.align) × (IsRegion i × Divides i.size n) → Divides i.size (n + j.size)
-next_divides n j rj i h =
-    let le : i.size ≤ j.size = omega (arith, h.0, h.1.0.align_is_size, rj.align_is_size) in
-    divides_add i.size n j.size h.1.1 (powers_divide i.size j.size h.1.0.power rj.power le)
+next_divides n j rj i h = grind (arith, divides_add, powers_divide)
 
 end_flat : (js : List Item) (n : ℕ) → Each IsRegion js → Descends js → Each (λ i. Divides i.size n) js → end_from n js ≡ n + total js
 end_flat [] n regions down divides = omega arith
@@ -212,20 +196,15 @@ flat_need_lem unit is h regions = record {
 -- ---- on a bus
 
 pub unit_positive : (pool : Pool) → 0 < unit_of pool
-unit_positive io_pool = omega arith
-unit_positive mem_pool = omega arith
-unit_positive pref_pool = omega arith
+unit_positive pool = grind arith
 
 each_flat_map : {A B : Type 0} (P : B → Type 0) (f : A → List B) (xs : List A) → Each (λ x. Each P (f x)) xs → Each P (flat_map f xs)
 each_flat_map P f [] h = tt
 each_flat_map P f (x ∷ xs) h = each_append P (f x) (flat_map f xs) h.0 (each_flat_map P f xs h.1)
 
-region_items_are : (b : Board) (a : Apertures) (pool : Pool) (p : Path) (d : Endpoint) → Each (λ r. IsPowerOfTwo r.size) d.regions → Each IsRegion (region_items b a pool p d)
-region_items_are b a pool p d h = grind (arith, each_of_map, each_map, each_filter)
-
 row_items_are : (b : Board) (a : Apertures) (pool : Pool) (behind : Path → List Item) (p : Path) (d : Decl) → is_bridge d ≡ false → HasPowerSizes d
     → Each IsRegion (items_of b a pool behind (record { path = p; decl = d }))
-row_items_are b a pool behind p (endpoint d) e h = region_items_are b a pool p d h
+row_items_are b a pool behind p (endpoint d) e h = grind (arith, each_of_map, each_map, each_filter)
 row_items_are b a pool behind p (bridge d) e h = cc
 
 pub flat_need_on_bus : FlatNeedOnBus
@@ -255,12 +234,7 @@ run_from n (i ∷ is) h =
     let first : ℕ = round_up i.align n in
     let rest : IsRun (first + i.size) (end_from (first + i.size) is) (spots_from (first + i.size) is) = run_from (first + i.size) is h.1 in
     let here : n ≤ first = round_up_not_before i.align n h.0 in
-    let more : first + i.size ≤ end_from (first + i.size) is = end_not_before (first + i.size) is h.1 in
-    record {
-      aligned = (round_up_is_multiple i.align n, rest.aligned);
-      within = ((here, more), each_map (λ s. (first + i.size ≤ s.first) × (spot_end s ≤ end_from (first + i.size) is)) (λ s. (n ≤ s.first) × (spot_end s ≤ end_from (first + i.size) is)) (spots_from (first + i.size) is) (λ s p. (omega arith, p.1)) rest.within);
-      apart = (each_map (λ s. (first + i.size ≤ s.first) × (spot_end s ≤ end_from (first + i.size) is)) (λ s. first + i.size ≤ s.first) (spots_from (first + i.size) is) (λ s p. p.0) rest.within, rest.apart);
-    }
+    grind (arith, end_not_before, round_up_is_multiple, each_map)
 
 pub run_in_order : (is : List Item) → Each (λ i. 0 < i.align) is → IsRun 0 (end_from 0 (in_order is)) (spots is)
 run_in_order is positive = run_from 0 (in_order is) (each_in_order (λ i. 0 < i.align) is positive)

@@ -1,11 +1,11 @@
 -- Where the paths of two functions of a board part.
-use Rattle.std.proofs.Common.{◌≡◌, ℕ, zero, suc, ◌+◌, ◌≤◌, ◌<◌, ◌⊎◌, inl, inr, Bool, true, false, ◌&&◌, List, [], ◌∷◌, ◌++◌, length, refl, sym, ap, ap₂, ◌∙◌, subst, arith, rules}
+use Rattle.std.proofs.Common.{◌≡◌, ℕ, zero, suc, ◌+◌, ◌≤◌, ◌<◌, ◌⊎◌, inl, inr, Bool, true, false, List, [], ◌∷◌, ◌++◌, length, refl, sym, ap, ap₂, ◌∙◌, subst, arith, rules}
 use Rattle.std.specs.Prelude.{IsTrue}
 use Rattle.std.proofs.lemmas.Bool.{and_from}
 use Rattle.lists.specs.Elements.{EachPair, IsIn}
 use Rattle.lists.proofs.Tests.{left_true, right_true}
 use Rattle.model_board.specs.Board.{Board, Row, is_bridge, is_bridge_at, IsBoard}
-use Rattle.model_board.specs.Paths.{Part, Path, part_eq, path_eq, leads_to, parent, last_part}
+use Rattle.model_board.specs.Paths.{Part, Path, part_eq, leads_to, parent, last_part}
 use Rattle.lists.proofs.Members.{each_in, from_any}
 use Rattle.model_board.proofs.PathOrder.{part_same, path_same, part_self}
 use Rattle.model_board.proofs.PathEnds.{snoc, length_snoc, leads_up, not_before_itself, leads_longer}
@@ -55,9 +55,7 @@ module _ (b : Board) (lawful : IsBoard b) where
   BridgeAt p = (r : Row) × IsIn r b × (is_bridge r.decl ≡ true) × (r.path ≡ p)
 
   pub bridge_at : (p : Path) → is_bridge_at b p ≡ true → BridgeAt p
-  bridge_at p h =
-      let f = from_any (λ (r : Row). is_bridge r.decl && path_eq r.path p) b h in
-      (f.0, f.1, left_true (is_bridge f.0.decl) (path_eq f.0.path p) f.2, path_same f.0.path p (right_true (is_bridge f.0.decl) (path_eq f.0.path p) f.2))
+  bridge_at p h = grind (arith, from_any, left_true, path_same, right_true)
 
   -- what leads to a function of the board is a bridge of the board; n bounds the length of its path
   above_within : (n : ℕ) (r : Row) (q : Path) → length r.path ≤ n → IsIn r b → leads_to q r.path ≡ true → 0 < length q → BridgeAt q
@@ -75,19 +73,9 @@ module _ (b : Board) (lawful : IsBoard b) where
       up : (q ≡ parent r.path) ⊎ (leads_to q (parent r.path) ≡ true)
       up = leads_up q (parent r.path) (last_part r.path) (subst (λ (p : Path). leads_to q p ≡ true) split h)
 
-      next : BridgeAt (parent r.path) → ((d : Row) → (length d.path ≤ n) × IsIn d b → leads_to q d.path ≡ true → BridgeAt q) → (q ≡ parent r.path) ⊎ (leads_to q (parent r.path) ≡ true) → BridgeAt q
-      next d more (inl e) = (d.0, d.1, d.2, d.3 ∙ sym e)
-      next d more (inr l) =
-          let few_more : length d.0.path ≤ n = omega (arith, ap length d.3, shorter) in
-          more d.0 (few_more, d.1) (subst (λ (p : Path). leads_to q p ≡ true) (sym d.3) l)
-
       by_parent : (parent r.path ≡ []) ⊎ IsTrue (is_bridge_at b (parent r.path)) → ((d : Row) → (length d.path ≤ n) × IsIn d b → leads_to q d.path ≡ true → BridgeAt q) → BridgeAt q
-      by_parent (inl none) more = root up
-        where
-          root : (q ≡ parent r.path) ⊎ (leads_to q (parent r.path) ≡ true) → BridgeAt q
-          root (inl e) = absurd (omega (arith, ap length (e ∙ none)))
-          root (inr l) = absurd (omega (arith, leads_longer q (parent r.path) l, ap length none))
-      by_parent (inr there) more = next (bridge_at (parent r.path) there) more up
+      by_parent (inl none) more = grind (arith, up, leads_longer)
+      by_parent (inr there) more = grind (arith, bridge_at, up, shorter)
 
   pub bridge_above : (r : Row) (q : Path) → IsIn r b → leads_to q r.path ≡ true → 0 < length q → BridgeAt q
   bridge_above r q m h some = above_within (length r.path) r q (omega arith) m h some

@@ -1,8 +1,8 @@
 -- Two regions of a board share no address: where their paths part, two rows of one bus would both hold it.
-use Rattle.std.proofs.Common.{◌≡◌, ℕ, ◌+◌, ◌⊎◌, inl, inr, Bool, true, false, ◌&&◌, Option, Some, None, List, [], ◌∷◌, ◌++◌, refl, sym, ap, ◌∙◌, subst, arith, rules}
+use Rattle.std.proofs.Common.{◌≡◌, ℕ, ◌+◌, ◌⊎◌, inl, inr, Bool, true, false, ◌&&◌, Option, List, [], ◌∷◌, ◌++◌, refl, sym, ap, ◌∙◌, subst, arith, rules}
 use Rattle.std.specs.Prelude.{IsTrue, MatchOption}
 use Rattle.std.specs.List.{list_any}
-use Rattle.model_registers.specs.Declarations.{Kind, io_kind, mem32, mem64, Bridge}
+use Rattle.model_registers.specs.Declarations.{Kind, Bridge}
 use Rattle.model_registers.specs.Decoding.{memory, space_of, same_space}
 use Rattle.lists.proofs.Tests.{left_true, right_true}
 use Rattle.model_registers.specs.Apertures.{IsLawfulApertures, IsPrefOption, Aperture, Apertures}
@@ -12,7 +12,7 @@ use Rattle.model_board.specs.Paths.{Part, Path, part_eq, path_eq, leads_to, pare
 use Rattle.model_set_up.specs.Pools.{Pool, io_pool, mem_pool, pref_pool, same_pool, pref_or_mem, pool_of, aperture_of}
 use Rattle.model_set_up.specs.Layout.{LayoutRow, is_window_over, IsUnderWindows, IsLawful}
 use Rattle.model_set_up.specs.Extents.{IsInside, AreApart}
-use Rattle.model_set_up.specs.Placement.{Placed, a_region, a_window}
+use Rattle.model_set_up.specs.Placement.{Placed, a_window}
 use Rattle.model_set_up.specs.PlacedRegions.{pool_space}
 use Rattle.lists.proofs.Members.{each_in, from_any}
 use Rattle.model_board.proofs.PathOrder.{path_same, part_self}
@@ -22,40 +22,24 @@ use Rattle.model_set_up.proofs.Partings.{Meeting, Same, Above, Below, Parting, m
 -- ---- pools
 
 pub pool_is : (p q : Pool) → same_pool p q ≡ true → p ≡ q
-pool_is io_pool io_pool h = refl
-pool_is io_pool mem_pool h = cc
-pool_is io_pool pref_pool h = cc
-pool_is mem_pool io_pool h = cc
-pool_is mem_pool mem_pool h = refl
-pool_is mem_pool pref_pool h = cc
-pool_is pref_pool io_pool h = cc
-pool_is pref_pool mem_pool h = cc
-pool_is pref_pool pref_pool h = refl
+pool_is p q h = grind arith
 
 same_pools : (p q : Pool) → p ≡ q → same_pool p q ≡ true
-same_pools io_pool q h = subst (λ x. same_pool io_pool x ≡ true) h refl
-same_pools mem_pool q h = subst (λ x. same_pool mem_pool x ≡ true) h refl
-same_pools pref_pool q h = subst (λ x. same_pool pref_pool x ≡ true) h refl
+same_pools p q h = grind arith
 
 pub or_space : (o : Option Aperture) (above : List Bridge) (wide : Bool) → pool_space (pref_or_mem o above wide) ≡ memory
-or_space None above wide = refl
-or_space (Some o) above wide = search rules
+or_space o above wide = grind arith
 
 -- a region's pool has addresses of its space
 pub pool_of_space : (a : Apertures) (above : List Bridge) (k : Kind) → pool_space (pool_of a above k) ≡ space_of k
-pool_of_space a above io_kind = refl
-pool_of_space a above (mem32 true) = or_space a.pref above false
-pool_of_space a above (mem32 false) = refl
-pool_of_space a above (mem64 true) = or_space a.pref above true
-pool_of_space a above (mem64 false) = refl
+pool_of_space a above k = grind (arith, or_space)
 
 -- ---- rows of a layout
 
 -- a window over a row is in the row's pool, above the row
 over_parts : (r : LayoutRow) (p : Path) (what : Placed) (pool : Pool) (first size : ℕ) → is_window_over r (record { path = p; what = what; pool = pool; first = first; size = size }) ≡ true
     → (what ≡ a_window) × (same_pool pool r.pool ≡ true) × (leads_to p r.path ≡ true)
-over_parts r p (a_region n) pool first size h = cc
-over_parts r p a_window pool first size h = (refl, left_true (same_pool pool r.pool) (leads_to p r.path) h, right_true (same_pool pool r.pool) (leads_to p r.path) h)
+over_parts r p what pool first size h = grind (arith, left_true, right_true)
 
 pub record WindowOver (rows : List LayoutRow) (r : LayoutRow) (q : Path) : Type 0 where
   pub row : LayoutRow
@@ -67,12 +51,10 @@ pub record WindowOver (rows : List LayoutRow) (r : LayoutRow) (q : Path) : Type 
 
 -- a row inside another is apart from what the other is apart from
 apart_inside : (w v r s : LayoutRow) → IsInside w.first (w.first + w.size) r.first r.size → IsInside v.first (v.first + v.size) s.first s.size → AreApart w.first w.size v.first v.size → AreApart r.first r.size s.first s.size
-apart_inside w v r s h k (inl e) = inl (omega (arith, h.1, k.0))
-apart_inside w v r s h k (inr e) = inr (omega (arith, h.0, k.1))
+apart_inside w v r s h k e = grind (arith, w, v)
 
 apart_sym : (r s : LayoutRow) → AreApart s.first s.size r.first r.size → AreApart r.first r.size s.first s.size
-apart_sym r s (inl e) = inr e
-apart_sym r s (inr e) = inl e
+apart_sym r s e = grind arith
 
 module _ (b : Board) (a : Apertures) (board : IsBoard b) (rows : List LayoutRow) (lawful : IsLawful b a rows) where
   -- each bridge above a row has a window over it
@@ -148,8 +130,7 @@ module _ (b : Board) (a : Apertures) (board : IsBoard b) (rows : List LayoutRow)
 
   -- two rows of one space are apart where their pools differ: memory and prefetchable apertures are
   pools_apart : (o : Option Aperture) (r s : LayoutRow) → IsPrefOption a.mem o → IsInside a.mem.first (a.mem.last + 1) r.first r.size → MatchOption o ⊥ (λ ap. IsInside ap.first (ap.last + 1) s.first s.size) → AreApart r.first r.size s.first s.size
-  pools_apart None r s h k l = absurd l
-  pools_apart (Some o) r s h k l = search rules
+  pools_apart o r s h k l = grind arith
 
   in_aperture : (r : LayoutRow) → IsIn r rows → (pool : Pool) → r.pool ≡ pool → MatchOption (aperture_of a pool) ⊥ (λ ap. IsInside ap.first (ap.last + 1) r.first r.size)
   in_aperture r m pool e = subst (λ x. MatchOption (aperture_of a x) ⊥ (λ ap. IsInside ap.first (ap.last + 1) r.first r.size)) e (each_in (λ (t : LayoutRow). MatchOption (aperture_of a t.pool) ⊥ (λ ap. IsInside ap.first (ap.last + 1) t.first t.size)) r rows lawful.in_apertures m)

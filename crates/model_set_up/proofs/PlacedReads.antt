@@ -1,5 +1,5 @@
 -- After set-up an endpoint decodes the addresses of its placed regions, and every bridge above forwards them.
-use Rattle.std.proofs.Common.{◌≡◌, ℕ, ◌+◌, ◌*◌, ◌%◌, ◌^◌, ◌<◌, true, false, List, Option, Some, None, refl, ap, ◌∙◌, subst, arith, rules}
+use Rattle.std.proofs.Common.{◌≡◌, ℕ, ◌+◌, ◌*◌, ◌%◌, ◌^◌, ◌<◌, true, false, List, Option, refl, ap, ◌∙◌, subst, arith, rules}
 use Rattle.std.specs.Prelude.{MatchOption}
 use Rattle.std.proofs.lemmas.Bool.{ltb-true}
 use Rattle.std.proofs.Math.Nat.{mul-mod_left}
@@ -24,13 +24,7 @@ reaches_low o above h = search (rules, ltb-true)
 
 limit_by : (i m : Aperture) (o : Option Aperture) (above : List Bridge) (k : Kind) (r : LayoutRow) → IsLawfulApertures (record { io = i; mem = m; pref = o })
     → InAperture (record { io = i; mem = m; pref = o }) (pool_of (record { io = i; mem = m; pref = o }) above k) r → 0 < r.size → r.first < 256 ^ (4 * registers_of k)
-limit_by i m o above io_kind r lawful h some = omega (arith, h.1, lawful.io.ends)
-limit_by i m o above (mem32 false) r lawful h some = omega (arith, h.1, lawful.mem.ends)
-limit_by i m o above (mem64 false) r lawful h some = omega (arith, h.1, lawful.mem.ends)
-limit_by i m None above (mem32 true) r lawful h some = omega (arith, h.1, lawful.mem.ends)
-limit_by i m None above (mem64 true) r lawful h some = omega (arith, h.1, lawful.mem.ends)
-limit_by i m (Some o) above (mem32 true) r lawful h some = search (rules, reaches_low)
-limit_by i m (Some o) above (mem64 true) r lawful h some = search rules
+limit_by i m o above k r lawful h some = grind (arith, reaches_low)
 
 least_power : (k : Kind) → IsPowerOfTwo (least_size k)
 least_power io_kind = (2, refl)

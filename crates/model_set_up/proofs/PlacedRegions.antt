@@ -1,8 +1,8 @@
 -- The placed regions of a board: each has its row in the layout, and no two of one space share an address.
-use Rattle.std.proofs.Common.{◌≡◌, ℕ, ◌+◌, ◌≤◌, ◌⊎◌, inl, inr, true, ◌&&◌, [], ◌∷◌, refl, sym, ap, subst, arith, rules, ◌%◌, ◌^◌, Option, Some, None}
+use Rattle.std.proofs.Common.{◌≡◌, ℕ, ◌+◌, ◌≤◌, ◌⊎◌, inl, inr, true, ◌&&◌, [], ◌∷◌, refl, sym, ap, subst, arith, ◌%◌, ◌^◌, Option, Some, None}
 use Rattle.std.specs.Prelude.{IsTrue}
 use Rattle.lists.specs.Elements.{EachPair, IsIn}
-use Rattle.model_registers.specs.Declarations.{Kind, io_kind, mem32, mem64, Region, registers_of, HasLawfulRegions, Endpoint, least_size, IsLawfulRegion}
+use Rattle.model_registers.specs.Declarations.{Kind, Region, registers_of, HasLawfulRegions, Endpoint, least_size, IsLawfulRegion}
 use Rattle.model_registers.specs.Decoding.{Space, space_of, same_space, io, memory}
 use Rattle.model_registers.specs.Apertures.{IsLawfulApertures, Apertures, Aperture}
 use Rattle.model_board.specs.Board.{Board, Row, Decl, endpoint, bridge, is_bridge, IsBoard}
@@ -35,8 +35,7 @@ pub record Source (b : Board) (a : Apertures) (q : PlacedRegion) : Type 0 where
   pub is : q ≡ placed b a row.path region
 
 of_decl : (b : Board) (a : Apertures) (p : Path) (d : Decl) (q : PlacedRegion) → IsIn q (placed_at b a (record { path = p; decl = d })) → (e : Endpoint) × (d ≡ endpoint e) × (g : Region) × IsIn g e.regions × (q ≡ placed b a p g)
-of_decl b a p (endpoint d) q m = let f = from_map (placed b a p) q d.regions m in (d, refl, f.0, f.1, f.2)
-of_decl b a p (bridge d) q m = absurd m
+of_decl b a p d q m = grind (arith, from_map)
 
 pub source : (b : Board) (a : Apertures) (q : PlacedRegion) → IsIn q (placed_regions b a) → Source b a q
 source b a q m =
@@ -45,9 +44,7 @@ source b a q m =
     record { row = f.0; there = f.1; decl = g.0; decl_is = g.1; region = g.2; declared = g.3; is = g.4 }
 
 pub each_pool : (pool : Pool) → IsIn pool (io_pool ∷ mem_pool ∷ pref_pool ∷ [])
-each_pool io_pool = inl refl
-each_pool mem_pool = inr (inl refl)
-each_pool pref_pool = inr (inr (inl refl))
+each_pool pool = grind arith
 
 pub lawful_decl : (b : Board) → HasLawfulDecls b → (r : Row) (d : Endpoint) → IsIn r b → r.decl ≡ endpoint d → IsLawfulEndpoint d
 lawful_decl b lawful r d m e = subst IsLawfulDecl e (each_in (λ (s : Row). IsLawfulDecl s.decl) r b lawful m)
@@ -106,9 +103,7 @@ module _ (b : Board) (a : Apertures) (board : IsBoard b) (decls : HasLawfulDecls
       from g k = record { row = record { path = p; decl = endpoint d }; there = m; decl = d; decl_is = refl; region = g; declared = k; is = refl }
 
       some_registers : (k : Kind) (i j : ℕ) → i + registers_of k ≤ j → i ≡ j → ⊥
-      some_registers io_kind i j h e = omega arith
-      some_registers (mem32 pref) i j h e = omega arith
-      some_registers (mem64 pref) i j h e = omega arith
+      some_registers k i j h e = grind arith
 
   -- no two placed regions of one space share an address
   pub placed_apart : EachPair ShareNone (placed_regions b a)
@@ -134,8 +129,7 @@ row_is_placed b a p g = ap (λ (x : Space). record { path = p; index = g.index; 
 
 module _ (b : Board) (a : Apertures) (has : HasRows b a) where
   of_rows : (q : PlacedRegion) (l : LayoutRow) (pool : Pool) (p : Path) (d : Decl) → IsIn q (placed_row l) → IsRowFor b a pool l p d → IsIn q (placed_at b a (record { path = p; decl = d }))
-  of_rows q l pool p (endpoint d) m row = search (rules, row_is_placed, in_map)
-  of_rows q l pool p (bridge d) m row = search rules
+  of_rows q l pool p d m h = grind (arith, row_is_placed, in_map)
 
   pub rows_to_placed : (q : PlacedRegion) → IsIn q (placed_rows (layout b a)) → IsIn q (placed_regions b a)
   rows_to_placed q m =
@@ -160,15 +154,12 @@ record Ends (space : Space) (l : LayoutRow) : Type 0 where
   io_ends : space ≡ io → l.first + l.size ≤ 2 ^ 16
   memory_ends : space ≡ memory → l.first + l.size ≤ 2 ^ 63
 
-of_io : (l : LayoutRow) → 0x1000 ≤ l.first → l.first + l.size ≤ 2 ^ 16 → Ends io l
-of_io l low high = record { io_begins = λ e. low; io_ends = λ e. high; memory_ends = λ e. cc }
-
 of_memory : (l : LayoutRow) → l.first + l.size ≤ 2 ^ 63 → Ends memory l
 of_memory l high = record { io_begins = λ e. cc; io_ends = λ e. cc; memory_ends = λ e. high }
 
 ends_by : (i m : Aperture) (o : Option Aperture) → IsLawfulApertures (record { io = i; mem = m; pref = o }) → (pool : Pool) (l : LayoutRow)
     → InAperture (record { io = i; mem = m; pref = o }) pool l → Ends (pool_space pool) l
-ends_by i m o lawful io_pool l h = of_io l (omega (arith, h.0, lawful.io.begins)) (omega (arith, h.1, lawful.io.ends))
+ends_by i m o lawful io_pool l h = grind arith
 ends_by i m o lawful mem_pool l h = of_memory l (omega (arith, h.1, lawful.mem.ends))
 ends_by i m None lawful pref_pool l h = absurd h
 ends_by i m (Some p) lawful pref_pool l h = of_memory l (omega (arith, h.1, lawful.pref.ends))
@@ -176,9 +167,7 @@ ends_by i m (Some p) lawful pref_pool l h = of_memory l (omega (arith, h.1, lawf
 -- ---- multiples of 4
 
 whole_base : (k : Kind) (n : ℕ) → n % least_size k ≡ 0 → n % 4 ≡ 0
-whole_base io_kind n h = h
-whole_base (mem32 pref) n h = omega arith
-whole_base (mem64 pref) n h = omega arith
+whole_base k n h = grind arith
 
 module _ (b : Board) (a : Apertures) (can : CanBePlaced b a) (p : Path) (d : Endpoint) (on_board : IsIn (record { path = p; decl = endpoint d }) b) (r : Region) (declared : IsIn r d.regions) where
   abbrev row : LayoutRow

@@ -1,12 +1,12 @@
 -- Configuration cycles reach the function that the bus numbers name.
 --     Names      a bridge's registers cover a bus number exactly where the board's numbers do
 --     reached_by_names      where all bridges do so for the number of a bus, a cycle reaches the function that stands there, or none
-use Rattle.std.proofs.Common.{◌≡◌, ℕ, ◌≤◌, ◌<◌, ◌⊎◌, inl, inr, Bool, true, false, not, ◌&&◌, cond, List, [], ◌∷◌, ◌++◌, length, Option, Some, None, refl, sym, ap, ap₂, ◌∙◌, subst, arith, eqb, leb, append_assoc, rules, find, nat_le}
+use Rattle.std.proofs.Common.{◌≡◌, ℕ, ◌≤◌, ◌<◌, ◌⊎◌, inl, inr, Bool, true, false, not, ◌&&◌, cond, List, [], ◌∷◌, ◌++◌, length, Option, Some, None, refl, sym, ap, ap₂, ◌∙◌, subst, arith, eqb, leb, append_assoc, rules, find}
 use Rattle.std.specs.Prelude.{find, map, IsTrue}
 use Rattle.std.specs.List.{list_any}
 use Rattle.std.proofs.lemmas.Bool.Decides.{nat_tests}
 use Rattle.std.specs.Option.{option_map_or}
-use Rattle.std.proofs.lemmas.Bool.{leb-true, true≢false, and_from, le-leb, eqb-true}
+use Rattle.std.proofs.lemmas.Bool.{leb-true, and_from, le-leb, eqb-true}
 use Rattle.lists.specs.Elements.{Each, IsIn}
 use Rattle.lists.proofs.Tests.{left_true, right_true, same_test}
 use Rattle.lists.proofs.EachLemmas.{each_map}
@@ -14,7 +14,7 @@ use Rattle.model_board.specs.Board.{Board, Row, is_bridge, is_bridge_at, IsBoard
 use Rattle.model_board.specs.Paths.{Part, Path, part_eq, path_eq, path_before, leads_to, parent, last_part, IsPath}
 use Rattle.model_board.specs.BusNumbers.{secondary, subordinate, bus_behind, bus_of}
 use Rattle.model_board.specs.State.{BoardFunction, row_at}
-use Rattle.model_board.specs.Cycles.{is_route, takes, taker, covers, ends_in, secondary_register, subordinate_register, reached, reached_type0, reached_type1}
+use Rattle.model_board.specs.Cycles.{is_route, takes, taker, covers, ends_in, secondary_register, subordinate_register, reached, reached_type0}
 use Rattle.model_board.specs.Numbering.{NumbersLead}
 use Rattle.model_set_up.specs.Reach.{HasNumbers, ReachedByNumbers, address_of, OnlyNamed}
 use Rattle.lists.proofs.Members.{each_in, in_map, from_map, any_in, from_any}
@@ -55,10 +55,7 @@ differs m n h = grind (arith, nat_tests)
 -- ---- at most one route, in any register state
 
 flags : (c e d : Bool) → cond c e (not e) ≡ true → cond c d (not d) ≡ true → e ≡ d
-flags true e d h k = h ∙ sym k
-flags false true d h k = cc
-flags false false true h k = cc
-flags false false false h k = refl
+flags c e d h k = grind arith
 
 one_taker : (o : Option BoardFunction) (above : Path) (n : ℕ) (p q : Part) (e d : Bool)
     → option_map_or (λ (f : BoardFunction). path_eq f.path (above ++ p ∷ []) && cond (eqb (secondary_register f.file) n) e (not e)) o false ≡ true
@@ -82,14 +79,10 @@ module _ (fs : List BoardFunction) (n : ℕ) (t : Part) where
   one_route (a ∷ c ∷ []) (x ∷ y ∷ []) above h k e d =
       let s = one_taker (taker fs above n) above n a x true true h k in
       ap₂ (λ (u v : Part). u ∷ v ∷ []) s.0 (part_same c t e ∙ sym (part_same y t d))
-  one_route (a ∷ c ∷ []) (x ∷ y ∷ z ∷ q) above h k e d =
-      let s = one_taker (taker fs above n) above n a x true false h (left_true (takes fs above n x false) (is_route fs n (above ++ x ∷ []) (y ∷ z ∷ q)) k) in
-      absurd (true≢false s.1)
+  one_route (a ∷ c ∷ []) (x ∷ y ∷ z ∷ q) above h k e d = grind (arith, one_taker, left_true)
   one_route (a ∷ c ∷ b ∷ p) [] above h k e d = cc
   one_route (a ∷ c ∷ b ∷ p) (x ∷ []) above h k e d = cc
-  one_route (a ∷ c ∷ b ∷ p) (x ∷ y ∷ []) above h k e d =
-      let s = one_taker (taker fs above n) above n a x false true (left_true (takes fs above n a false) (is_route fs n (above ++ a ∷ []) (c ∷ b ∷ p)) h) k in
-      absurd (true≢false (sym s.1))
+  one_route (a ∷ c ∷ b ∷ p) (x ∷ y ∷ []) above h k e d = grind (arith, one_taker, left_true)
   one_route (a ∷ c ∷ b ∷ p) (x ∷ y ∷ z ∷ q) above h k e d =
       let s = one_taker (taker fs above n) above n a x false false (left_true (takes fs above n a false) (is_route fs n (above ++ a ∷ []) (c ∷ b ∷ p)) h) (left_true (takes fs above n x false) (is_route fs n (above ++ x ∷ []) (y ∷ z ∷ q)) k) in
       let below : is_route fs n (above ++ a ∷ []) (y ∷ z ∷ q) ≡ true =
@@ -170,8 +163,7 @@ module _ (b : Board) (lawful : IsBoard b) (fs : List BoardFunction) (rows : map 
         any_in (test_on above) g.0 fs g.1 (and_from (path_eq (parent g.0.path) above) (covers goal g.0) parent_is ((named g.0 g.1 g.2).covers_when cover.0 cover.1))
 
     next_part : (above : Path) (x p : Part) (rest : Path) → (path_eq (above ++ x ∷ []) (above ++ p ∷ rest) ≡ true) ⊎ (leads_to (above ++ x ∷ []) (above ++ p ∷ rest) ≡ true) → x ≡ p
-    next_part above x p rest (inl e) = part_same x p (next_equal above x p rest e)
-    next_part above x p rest (inr e) = part_same x p (next_leads above x p rest e)
+    next_part above x p rest e = grind (arith, part_same, next_equal, next_leads)
 
     taken : (above : Path) (p : Part) (rest : Path) → target ≡ above ++ p ∷ rest → Taken above p
     taken above p rest e =
@@ -191,17 +183,10 @@ module _ (b : Board) (lawful : IsBoard b) (fs : List BoardFunction) (rows : map 
     -- ---- the route
 
     takes_by : (above : Path) (p : Part) (ends : Bool) → (t : Taken above p) → cond (eqb (secondary b (above ++ p ∷ [])) goal) ends (not ends) ≡ true → takes fs above goal p ends ≡ true
-    takes_by above p ends (f, e, path_is, number_is) k =
-        let here : path_eq f.path (above ++ p ∷ []) ≡ true = ap (λ (x : Path). path_eq x (above ++ p ∷ [])) path_is ∙ path_self (above ++ p ∷ []) in
-        rw (e, here, number_is, k)
+    takes_by above p ends (f, e, path_is, number_is) k = grind (arith, path_self)
 
     moved : (above : Path) (p : Part) (rest : Path) → above ++ p ∷ rest ≡ (above ++ p ∷ []) ++ rest
     moved above p rest = sym (append_assoc above (p ∷ []) rest)
-
-    takes_last : (above : Path) (p : Part) → target ≡ above ++ p ∷ [] → takes fs above goal p true ≡ true
-    takes_last above p e =
-        let here : eqb (secondary b (above ++ p ∷ [])) goal ≡ true = ap (λ (x : Path). eqb (secondary b x) goal) (sym e) ∙ self goal in
-        takes_by above p true (taken above p [] e) (rw here)
 
     takes_next : (above : Path) (p q : Part) (rest : Path) → target ≡ above ++ p ∷ q ∷ rest → takes fs above goal p false ≡ true
     takes_next above p q rest e =
@@ -212,7 +197,7 @@ module _ (b : Board) (lawful : IsBoard b) (fs : List BoardFunction) (rows : map 
         takes_by above p false (taken above p (q ∷ rest) e) (rw other)
 
     route : (rs : Path) (p t : Part) (above : Path) → target ≡ above ++ p ∷ rs → is_route fs goal above (p ∷ rs ++ t ∷ []) ≡ true
-    route [] p t above e = takes_last above p e
+    route [] p t above e = grind (arith, self, takes_by, taken)
     route (s ∷ rs) p t above e = search (rules, takes_next, moved, and_from, route rs s t (above ++ p ∷ []) (e ∙ moved above p (s ∷ rs)))
 
     ends_last : (p : Path) (q : Part) → ends_in (p ++ q ∷ []) q ≡ true
@@ -228,9 +213,7 @@ module _ (b : Board) (lawful : IsBoard b) (fs : List BoardFunction) (rows : map 
         way = subst (λ (y : Path). is_route fs goal [] (y ++ t ∷ []) ≡ true) (sym e) (route rs a t [] e)
 
         arrives : (ends_in x t && is_route fs goal [] x) ≡ true → path_eq x (target ++ t ∷ []) ≡ true
-        arrives h =
-            let there : x ≡ target ++ t ∷ [] = one_route fs goal t x (target ++ t ∷ []) [] (right_true (ends_in x t) (is_route fs goal [] x) h) way (left_true (ends_in x t) (is_route fs goal [] x) h) (ends_last target t) in
-            ap (λ (y : Path). path_eq y (target ++ t ∷ [])) there ∙ path_self (target ++ t ∷ [])
+        arrives h = grind (arith, one_route, right_true, way, left_true, ends_last, path_self)
 
         goes : path_eq x (target ++ t ∷ []) ≡ true → (ends_in x t && is_route fs goal [] x) ≡ true
         goes h =
@@ -290,8 +273,7 @@ reached_by_numbers b lawful fs has p h =
 
 found_cases : {A : Type 0} (P : A → Type 0) (t : A → Bool) (x y : A) (xs : List A) (b : Bool) → t x ≡ b → P x → Each P xs
     → (find t xs ≡ Some y → (t y ≡ true) × P y) → cond b (Some x) (find t xs) ≡ Some y → (t y ≡ true) × P y
-found_cases P t x y xs true e p ps more h = search rules
-found_cases P t x y xs false e p ps more h = more h
+found_cases P t x y xs b e p ps more h = grind arith
 
 finds : {A : Type 0} (P : A → Type 0) (t : A → Bool) (xs : List A) (y : A) → Each P xs → find t xs ≡ Some y → (t y ≡ true) × P y
 finds P t [] y h e = cc
@@ -303,12 +285,10 @@ ends_is_last (p ∷ []) t h = part_same p t h
 ends_is_last (p ∷ q ∷ ps) t h = ends_is_last (q ∷ ps) t h
 
 pub last_flag : (c : Bool) → cond c true (not true) ≡ true → c ≡ true
-last_flag true h = refl
-last_flag false h = cc
+last_flag c h = grind arith
 
 pub covers_bridge : (n : ℕ) (f : BoardFunction) → covers n f ≡ true → is_bridge f.decl ≡ true
-covers_bridge n f is = left_true (is_bridge f.decl) (nat_le (secondary_register f.file) n)
-    (left_true (is_bridge f.decl && nat_le (secondary_register f.file) n) (nat_le n (subordinate_register f.file)) is)
+covers_bridge n f is = grind (arith, left_true)
 
 module _ (b : Board) (fs : List BoardFunction) (has : HasNumbers b fs) (n : ℕ) where
   abbrev Numbered : BoardFunction → Type 0
@@ -355,8 +335,5 @@ only_by_type0 b fs t f e =
     let at : f.path ≡ t ∷ [] = path_same f.path (t ∷ []) got.0 in
     (ap (bus_of b) at, ap last_part at)
 
-only_by_type1 : (b : Board) (fs : List BoardFunction) → HasNumbers b fs → (n : ℕ) (t : Part) (f : BoardFunction) → reached_type1 fs n t ≡ Some f → (bus_of b f.path ≡ n) × (last_part f.path ≡ t)
-only_by_type1 b fs has n t f e = search (rules, finds, trivial, on_bus, right_true, ends_is_last, left_true)
-
 pub only_named : OnlyNamed
-only_named b lawful fs has at f e = search (rules, eqb-true, only_by_type0, only_by_type1)
+only_named b lawful fs has at f e = grind (arith, eqb-true, only_by_type0, finds, trivial, on_bus, right_true, ends_is_last, left_true)

@@ -34,8 +34,7 @@ filter_adds p q R x (y ∷ ys) h before after fails passes (inr m) =
     rw (both.0, both.1) (ap (λ zs. y ∷ zs) (filter_adds p q R x ys h.1 before after fails passes m))
 
 or_false : (s t : Bool) → t ≡ false → (s || t) ≡ s
-or_false true t h = refl
-or_false false t h = h
+or_false s t h = grind arith
 
 module _ (b : Board) (lawful : IsBoard b) where
   -- ---- functions
@@ -65,8 +64,7 @@ module _ (b : Board) (lawful : IsBoard b) where
       by_path (u ∷ x) h = refl
 
   some_before_end : (x : Path) → (path_before x [] || path_eq x [] || leads_to [] x) ≡ true
-  some_before_end [] = refl
-  some_before_end (u ∷ x) = refl
+  some_before_end x = grind arith
 
   -- ---- parts of a bus
 
@@ -136,12 +134,9 @@ module _ (b : Board) (lawful : IsBoard b) where
 
   -- ---- bus numbers in order
 
-  bridge_row : (p : Path) → is_bridge_at b p ≡ true → (r : Row) × IsIn r b × (is_bridge r.decl ≡ true) × (r.path ≡ p)
-  bridge_row p h = bridge_at b lawful p h
-
   -- what is said of the paths of the rows is said of the bridges' paths
   at_bridge : (P : Path → Type 0) → ((y : Row) → IsIn y b → P y.path) → (q : Path) → is_bridge_at b q ≡ true → P q
-  at_bridge P h q there = let r = bridge_row q there in subst P r.3 (h r.0 r.1)
+  at_bridge P h q there = grind (arith, bridge_at)
 
   counted_met : (here : Path) (bs : Board) → count_by (λ r. is_bridge r.decl && path_before r.path here) bs ≡ count_by (λ r. is_bridge r.decl) (met bs here)
   counted_met here [] = refl
@@ -151,14 +146,10 @@ module _ (b : Board) (lawful : IsBoard b) where
       and_true true = refl
       and_true false = refl
 
-      and_false : (t : Bool) → (t && false) ≡ false
-      and_false true = refl
-      and_false false = refl
-
       by_test : (t : Bool) → bridges (λ x. path_before x here) bs ≡ count_by (λ s. is_bridge s.decl) (met bs here)
           → one (is_bridge r.decl && t) + bridges (λ x. path_before x here) bs ≡ count_by (λ s. is_bridge s.decl) (cond t (r ∷ met bs here) (met bs here))
       by_test true e = ap₂ (λ t n. one t + n) (and_true (is_bridge r.decl)) e ∙ sym (sum_by-cons (λ (s : Row). one (is_bridge s.decl)) r (met bs here))
-      by_test false e = ap₂ (λ t n. one t + n) (and_false (is_bridge r.decl)) e ∙ zero-add (count_by (λ (s : Row). is_bridge s.decl) (met bs here))
+      by_test false e = grind (arith, zero-add)
 
   -- the bridges before the end of a bus are those before its bridge, that bridge, and those behind it
   counted_last : (p : Path) (bs : Board) → Each (λ r. IsPath r.path) bs → bridges (λ x. path_before x (on p 128)) bs ≡ bridges (λ x. path_before x p) bs + bridges (at p) bs + bridges (λ x. leads_to p x) bs
@@ -169,14 +160,7 @@ module _ (b : Board) (lawful : IsBoard b) where
       omega (arith, bridges-cons (λ x. path_before x (on p 128)) r bs, bridges-cons (λ x. path_before x p) r bs, bridges-cons (at p) r bs, bridges-cons (λ x. leads_to p x) r bs, here, same, counted_last p bs h.1)
     where
       sum_of : (k u v w : Bool) → one u + one v + one w ≤ 1 → one (k && (u || v || w)) ≡ one (k && u) + one (k && v) + one (k && w)
-      sum_of false u v w h = refl
-      sum_of true true true w h = absurd (omega arith)
-      sum_of true true false true h = absurd (omega arith)
-      sum_of true true false false h = refl
-      sum_of true false true true h = absurd (omega arith)
-      sum_of true false true false h = refl
-      sum_of true false false true h = refl
-      sum_of true false false false h = refl
+      sum_of k u v w h = grind arith
 
   some_path : (q : Path) → is_bridge_at b q ≡ true → (path_before q [] || path_eq q []) ≡ false
   some_path q h = at_bridge (λ x. (path_before x [] || path_eq x []) ≡ false) not_none q h
@@ -193,25 +177,13 @@ module _ (b : Board) (lawful : IsBoard b) where
   not_above bus n q h = false_from_ne_true (leads_to q bus || path_eq q bus) (λ t. too_long (subst (λ (x : Path). (leads_to x bus || path_eq x bus) ≡ true) (path_same q (on bus n) h) t))
     where
       too_long : (leads_to (on bus n) bus || path_eq (on bus n) bus) ≡ true → ⊥
-      too_long t = by_test (leads_to (on bus n) bus) refl t
-        where
-          by_test : (s : Bool) → leads_to (on bus n) bus ≡ s → (s || path_eq (on bus n) bus) ≡ true → ⊥
-          by_test true l k = omega (arith, leads_longer (on bus n) bus l, length_snoc bus (nth_part n))
-          by_test false l k = omega (arith, ap length (path_same (on bus n) bus k), length_snoc bus (nth_part n))
+      too_long t = grind (arith, leads_longer, length_snoc, path_same)
 
   behind_cases : {A : Type 0} (o m z : A) (l e t : Bool) → cond (l || e) o (cond (t || e) m z) ≡ cond e o (cond l o (cond t m z))
-  behind_cases o m z true true t = refl
-  behind_cases o m z true false t = refl
-  behind_cases o m z false true t = refl
-  behind_cases o m z false false true = refl
-  behind_cases o m z false false false = refl
+  behind_cases o m z l e t = grind arith
 
   back_cases : {A : Type 0} (o m z : A) (l e d t : Bool) → (e ≡ true → l ≡ false) → cond l o (cond (t || (e || d)) m z) ≡ cond e m (cond (l || e) o (cond (t || e || d) m z))
-  back_cases o m z l true d true h = let k : l ≡ false = h refl in rw k
-  back_cases o m z l true d false h = let k : l ≡ false = h refl in rw k
-  back_cases o m z true false d t h = refl
-  back_cases o m z false false d true h = refl
-  back_cases o m z false false d false h = refl
+  back_cases o m z l e d t h = grind arith
 
   gives_numbers : GivesNumbersInPathOrder b
   gives_numbers = record {

@@ -20,9 +20,7 @@ no_part_before u = grind (arith, nat_tests)
 
 -- a, then b or c
 either : (u v a b c : Bool) → a ≡ (b || c) → (u || (v && a)) ≡ ((u || (v && b)) || (v && c))
-either true v a b c e = refl
-either false true a b c e = e
-either false false a b c e = refl
+either u v a b c e = grind arith
 
 pub before_first : (x p : Path) → path_before x (on p 0) ≡ (path_before x p || path_eq x p)
 before_first [] [] = refl
@@ -54,18 +52,13 @@ leads_place (u ∷ x) (a ∷ p) q = either false (part_eq u a) (leads_to x (p ++
 
 -- ---- past the last part of a bus
 
-part_of_bus : (u : Part) → u.device < 16 → part_before u (nth_part 128) ≡ true
-part_of_bus u h = grind (arith, nat_tests)
-
 three : (u v a b c d : Bool) → a ≡ (b || c || d) → (u || (v && a)) ≡ ((u || (v && b)) || (v && c) || (v && d))
-three true v a b c d e = refl
-three false true a b c d e = e
-three false false a b c d e = refl
+three u v a b c d e = grind arith
 
 pub before_last : (x p : Path) → Each IsPart x → path_before x (on p 128) ≡ (path_before x p || path_eq x p || leads_to p x)
 before_last [] [] h = refl
 before_last [] (a ∷ p) h = refl
-before_last (u ∷ x) [] h = let e : part_before u (nth_part 128) ≡ true = part_of_bus u h.0.device_fits in rw e
+before_last (u ∷ x) [] h = grind (arith, nat_tests)
 before_last (u ∷ x) (a ∷ p) h =
     subst (λ t. path_before (u ∷ x) (on (a ∷ p) 128) ≡ (path_before (u ∷ x) (a ∷ p) || path_eq (u ∷ x) (a ∷ p) || (t && leads_to p x))) (part_eq-sym u a)
     (three (part_before u a) (part_eq u a) (path_before x (on p 128)) (path_before x p) (path_eq x p) (leads_to p x) (before_last x p h.1))
@@ -162,15 +155,7 @@ module _ (b : Board) (lawful : IsBoard b) where
       part_of u rest e = part_in p u rest (subst (λ (x : Path). Each IsPart x) e (row_path r m).parts)
 
       by_function : (u : Part) (rest : Path) → r.path ≡ p ++ u ∷ rest → n % 8 ≡ 0 → u.device ≡ n / 8 → (t : Bool) → nat_lt 0 u.function ≡ t → not (stands_at b (on p n) && is_multifunction b (on p n)) ≡ true → AtOrBehind r (on p n)
-      by_function u rest e first dev true f alone =
-          let s = stands_there r m p u rest e in
-          let multifunction : (stands_at b (on p n) && is_multifunction b (on p n)) ≡ true = is_multifunction_here p n first u dev (ltb-true 0 u.function f) s.0 s.1 s.2 in
-          let no : false ≡ true = rw multifunction at alone in
-          cc
-      by_function u rest e first dev false f alone = at_place u rest e dev (zero_of u.function f ∙ sym first)
-        where
-          zero_of : (k : ℕ) → nat_lt 0 k ≡ false → k ≡ 0
-          zero_of k h = grind (arith, nat_tests)
+      by_function u rest e first dev t f alone = grind (arith, stands_there, is_multifunction_here, ltb-true, at_place, nat_tests)
 
       eq_of : (k l : ℕ) → eqb k l ≡ true → k ≡ l
       eq_of k l h = grind (arith, nat_tests)
@@ -181,8 +166,4 @@ module _ (b : Board) (lawful : IsBoard b) where
           let first : n % 8 ≡ 0 = eq_of (n % 8) 0 (left_true (eqb (n % 8) 0) (not (stands_at b (on p n) && is_multifunction b (on p n))) e) in
           let dev : s.0.device ≡ n / 8 = omega (arith, s.3, s.4, (part_of s.0 s.1 s.2).function_fits) in
           by_function s.0 s.1 s.2 first dev (nat_lt 0 s.0.function) refl (right_true (eqb (n % 8) 0) (not (stands_at b (on p n) && is_multifunction b (on p n))) e)
-      by_test false e k =
-          let s = split_within p n (n + 1) r.path k in
-          let dev : s.0.device ≡ n / 8 = omega (arith, s.3, s.4, (part_of s.0 s.1 s.2).function_fits) in
-          let fn : s.0.function ≡ n % 8 = omega (arith, s.3, s.4, (part_of s.0 s.1 s.2).function_fits) in
-          at_place s.0 s.1 s.2 dev fn
+      by_test false e k = grind (arith, split_within, part_of, at_place)

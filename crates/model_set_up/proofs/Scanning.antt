@@ -20,8 +20,7 @@ use Rattle.model_set_up.proofs.Routes.{Names, names_of, covers_between, between_
 -- ---- path order
 
 one_true : (t : Bool) → 1 ≤ one t → t ≡ true
-one_true true h = refl
-one_true false h = absurd (omega arith)
+one_true t h = grind arith
 
 -- what is before a path is before all that comes after it
 pub goes_before : (x q r : Path) → path_before x q ≡ true → path_before q r ≡ true → path_before x r ≡ true
@@ -108,9 +107,7 @@ bus_not_more b (a ∷ p) = by_parent (parent (a ∷ p)) refl
 
 module _ (b : Board) (here : Path) (few : secondary b here ≤ 256) where
   numbers_fit : (p : Path) → is_bridge_at b p ≡ true → (t u : Bool) → leads_to p here ≡ t → path_before p here ≡ u → FitBytes (cond t (open_numbers b p) (cond u (board_numbers b p) no_numbers))
-  numbers_fit p h true u l e =
-      let less : secondary b p < secondary b here = met_before b p here h (leads_before p here l) in
-      (omega (arith, bus_not_more b p), omega arith, lit< tt)
+  numbers_fit p h true u l e = grind (arith, met_before, leads_before, bus_not_more)
   numbers_fit p h false true l e =
       let less : secondary b p < secondary b here = met_before b p here h e in
       let done : bridges (λ x. path_before x p) b + bridges (at p) b + bridges (λ x. leads_to p x) b ≤ bridges (λ x. path_before x here) b = count_three (λ x. path_before x p) (at p) (λ x. leads_to p x) (λ x. path_before x here) (λ x. behind_trans x p here e l) b in

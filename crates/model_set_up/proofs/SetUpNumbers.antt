@@ -4,7 +4,7 @@ use Rattle.std.specs.Prelude.{map, count_by, IsTrue}
 use Rattle.lists.specs.Elements.{Each, IsIn}
 use Rattle.model_registers.specs.Registers.{File}
 use Rattle.model_board.specs.Paths.{Path, path_eq, path_before, leads_to}
-use Rattle.model_board.specs.Board.{Decl, endpoint, bridge, Row, Board, is_bridge, is_bridge_at}
+use Rattle.model_board.specs.Board.{Decl, Row, Board, is_bridge, is_bridge_at}
 use Rattle.model_board.specs.BusNumbers.{secondary, subordinate, Enumerates}
 use Rattle.model_board.specs.Cycles.{secondary_register, subordinate_register}
 use Rattle.model_registers.specs.Apertures.{Apertures}
@@ -42,8 +42,7 @@ module _ (b : Board) (a : Apertures) (few : Enumerates b) where
   left r = record { path = r.path; decl = r.decl; file = set_up_file b a r.path r.decl }
 
   pub left_numbers : (p : Path) (d : Decl) → is_bridge_at b p ≡ true → is_bridge d ≡ true → HoldsNumbers b p (set_up_file b a p d)
-  left_numbers p (endpoint d) h k = cc
-  left_numbers p (bridge d) h k = let small : IsSmall b p = numbers_small b few p h in (byte (secondary b p) small.first, byte (subordinate b p) small.last)
+  left_numbers p d h k = grind (arith, numbers_small, byte)
 
   rows_stay : (rs : Board) → map row_at (map left rs) ≡ rs
   rows_stay [] = refl

@@ -1,6 +1,6 @@
 -- The registers that set-up leaves read what it put there.
 use Rattle.std.proofs.Common.{◌≡◌, ℕ, zero, suc, ◌+◌, ◌-◌, ◌*◌, ◌/◌, ◌%◌, ◌^◌, ◌≤◌, ◌<◌, Bool, true, false, List, [], ◌∷◌, ◌++◌, refl, ap, ◌∙◌, cond, arith, eqb, append_assoc, rules, Option, ap₂}
-use Rattle.std.specs.Prelude.{flat_map, not, bit_and}
+use Rattle.std.specs.Prelude.{flat_map}
 use Rattle.std.proofs.lemmas.Bool.Decides.{nat_tests}
 use Rattle.lists.specs.Elements.{Each, EachPair}
 use Rattle.model_registers.proofs.Owned.{cells_above, cells_elsewhere}
@@ -20,9 +20,6 @@ use Rattle.model_set_up.specs.Pools.{has_io, has_pref, has_pref64}
 
 other : (a b : ℕ) → a < b → eqb a b ≡ false
 other a b h = grind (arith, nat_tests)
-
-below : (a b : ℕ) → a < b → eqb b a ≡ false
-below a b h = grind (arith, nat_tests)
 
 past_field : (w b k v m c : ℕ) (rest : File) → b + w ≤ k → cell_at (field (config b) w v m c ++ rest) (config k) ≡ cell_at rest (config k)
 past_field zero b k v m c rest h = refl
@@ -44,14 +41,10 @@ with_type (mem32 pref) b = b + cond pref 8 0
 with_type (mem64 pref) b = b + cond pref 12 4
 
 base_here : (kind : Kind) (n size b : ℕ) (rest : File) → number (base_cells n kind size b ++ rest) (base_register n) (4 * registers_of kind) ≡ with_type kind b % 256 ^ (4 * registers_of kind)
-base_here io_kind n size b rest = field_reads 4 (16 + 4 * n) (b + 1) (2 ^ 32 - size) 0 rest
-base_here (mem32 pref) n size b rest = field_reads 4 (16 + 4 * n) (b + cond pref 8 0) (2 ^ 32 - size) 0 rest
-base_here (mem64 pref) n size b rest = field_reads 8 (16 + 4 * n) (b + cond pref 12 4) (2 ^ 64 - size) 0 rest
+base_here kind n size b rest = grind (arith, field_reads)
 
 past_base : (kind : Kind) (n size b k : ℕ) (rest : File) → 16 + 4 * (n + registers_of kind) ≤ k → cell_at (base_cells n kind size b ++ rest) (config k) ≡ cell_at rest (config k)
-past_base io_kind n size b k rest h = past_field 4 (16 + 4 * n) k (b + 1) (2 ^ 32 - size) 0 rest (omega arith)
-past_base (mem32 pref) n size b k rest h = past_field 4 (16 + 4 * n) k (b + cond pref 8 0) (2 ^ 32 - size) 0 rest (omega arith)
-past_base (mem64 pref) n size b k rest h = past_field 8 (16 + 4 * n) k (b + cond pref 12 4) (2 ^ 64 - size) 0 rest (omega arith)
+past_base kind n size b k rest h = grind (arith, past_field)
 
 module _ (bases : Region → ℕ) where
   split : (r : Region) (rest : File) → region_cells bases r ++ rest ≡ base_cells r.index r.kind r.size (bases r) ++ (cells_from (block r.index 0) r.cells ++ rest)
@@ -100,21 +93,10 @@ pub record FitsRegister (kind : Kind) (b : ℕ) : Type 0 where
   pub aligned : b % least_size kind ≡ 0
   pub small : b < 256 ^ (4 * registers_of kind)
 
-low_io : (b : ℕ) → b % 4 ≡ 0 → b < 2 ^ 32 → (b + 1) % 2 ^ 32 / 4 * 4 ≡ b
-low_io b h l = omega arith
-
-low_32 : (b : ℕ) (pref : Bool) → b % 16 ≡ 0 → b < 2 ^ 32 → (b + cond pref 8 0) % 2 ^ 32 / 16 * 16 ≡ b
-low_32 b true h l = omega arith
-low_32 b false h l = omega arith
-
-low_64 : (b : ℕ) (pref : Bool) → b % 16 ≡ 0 → b < 2 ^ 64 → (b + cond pref 12 4) % 2 ^ 64 / 16 * 16 ≡ b
-low_64 b true h l = omega arith
-low_64 b false h l = omega arith
-
 without_type : (kind : Kind) (b : ℕ) (file : File) (n : ℕ) → FitsRegister kind b → number file (base_register n) (4 * registers_of kind) ≡ with_type kind b % 256 ^ (4 * registers_of kind) → base file n kind ≡ b
-without_type io_kind b file n fits e = ap (λ x. x / 4 * 4) e ∙ low_io b fits.aligned fits.small
-without_type (mem32 pref) b file n fits e = ap (λ x. x / 16 * 16) e ∙ low_32 b pref fits.aligned fits.small
-without_type (mem64 pref) b file n fits e = ap (λ x. x / 16 * 16) e ∙ low_64 b pref fits.aligned fits.small
+without_type io_kind b file n fits e = grind arith
+without_type (mem32 pref) b file n fits e = grind arith
+without_type (mem64 pref) b file n fits e = grind arith
 
 -- each base address register of an endpoint's file holds its base
 module _ (d : Endpoint) (multifunction : Bool) (command : ℕ) (bases : Region → ℕ) where
@@ -130,20 +112,15 @@ module _ (d : Endpoint) (multifunction : Bool) (command : ℕ) (bases : Region �
 -- ---- Command
 
 command_opens : (u v : Bool) (d : Endpoint) (multifunction : Bool) (bases : Region → ℕ) → (is_open (endpoint_file d multifunction (cond u 1 0 + cond v 2 0) bases) io ≡ u) × (is_open (endpoint_file d multifunction (cond u 1 0 + cond v 2 0) bases) memory ≡ v)
-command_opens true true d multifunction bases = (refl, refl)
-command_opens true false d multifunction bases = (refl, refl)
-command_opens false true d multifunction bases = (refl, refl)
-command_opens false false d multifunction bases = (refl, refl)
+command_opens u v d multifunction bases = grind arith
 
 -- an endpoint decodes in the spaces of its regions
 pub endpoint_opens : (d : Endpoint) (multifunction : Bool) (bases : Region → ℕ) (space : Space) → is_open (endpoint_file d multifunction (command_of d) bases) space ≡ opens d space
-endpoint_opens d multifunction bases io = (command_opens (opens d io) (opens d memory) d multifunction bases).0
-endpoint_opens d multifunction bases memory = (command_opens (opens d io) (opens d memory) d multifunction bases).1
+endpoint_opens d multifunction bases space = grind (arith, command_opens)
 
 -- a bridge forwards in both spaces
 pub bridge_opens : (d : Bridge) (multifunction : Bool) (r : BridgeValues) (space : Space) → r.command ≡ 3 → is_open (bridge_file d multifunction r) space ≡ true
-bridge_opens d multifunction r io h = ap (λ n. not (eqb (bit_and (n % 256 + 256 * (n / 256 % 256 + 256 * 0)) 1) 0)) h
-bridge_opens d multifunction r memory h = ap (λ n. not (eqb (bit_and (n % 256 + 256 * (n / 256 % 256 + 256 * 0)) 2) 0)) h
+bridge_opens d multifunction r space h = grind arith
 
 -- ---- the window registers that set-up leaves read what it put there
 
@@ -160,9 +137,6 @@ four_bytes v = v % 256 + 256 * (v / 256 % 256 + 256 * two_bytes (v / 256 / 256))
 two_are : (v : ℕ) → v < 2 ^ 16 → two_bytes v ≡ v
 two_are v h = omega arith
 
-four_are : (v : ℕ) → v < 2 ^ 32 → four_bytes v ≡ v
-four_are v h = omega arith
-
 -- the address bits of a register, with its type bits: a whole address, and one cut to its unit
 abbrev pub cut : ℕ → ℕ → ℕ
 cut unit n = n / unit * unit
@@ -177,7 +151,7 @@ mem_bits : (n t : ℕ) → t < 16 → n < 2 ^ 32 → two_bytes (address_bits (2 
 mem_bits n t o h = let small : address_bits (2 ^ 20) n t < 2 ^ 16 = omega arith in ap (λ v. v / 16 * 2 ^ 20) (two_are (address_bits (2 ^ 20) n t) small) ∙ omega arith
 
 pref_high : (n t : ℕ) → t < 16 → n < 2 ^ 64 → four_bytes (n / 2 ^ 32) * 2 ^ 32 + two_bytes (address_bits (2 ^ 20) n t) / 16 * 2 ^ 20 ≡ cut (2 ^ 20) n
-pref_high n t o h = grind (arith, four_are, two_are)
+pref_high n t o h = grind (arith, two_are)
 
 -- a window of whole units, as its registers name it
 abbrev pub whole : ℕ → Window → Option Window
@@ -188,16 +162,10 @@ module _ (vendor device revision : ℕ) (multifunction : Bool) (r : BridgeValues
   bridge_of k m = record { vendor = vendor; device = device; revision = revision; io = k; pref = m }
 
   io_by : (k : IoDecode) (m : PrefDecode) → has_io k ≡ true → r.io.first < 2 ^ 16 → r.io.last < 2 ^ 16 → io_window k (bridge_file (bridge_of k m) multifunction r) ≡ whole (2 ^ 12) r.io
-  io_by no_io m has f l = cc
-  io_by io16 m has f l = ap₂ (λ x y. window x (y + 0xfff)) (io_bits r.io.first 0 (omega arith) f) (io_bits r.io.last 0 (omega arith) l)
-  io_by io32 m has f l = ap₂ (λ x y. window x (y + 0xfff)) (io_high r.io.first 1 (omega arith) f) (io_high r.io.last 1 (omega arith) l)
+  io_by k m has f l = grind (arith, io_bits, io_high)
 
   high_by : (k : IoDecode) (m : PrefDecode) → has_pref64 m ≡ true → r.pref.first < 2 ^ 64 → r.pref.last < 2 ^ 64 → pref_window m (bridge_file (bridge_of k m) multifunction r) ≡ whole (2 ^ 20) r.pref
-  high_by k no_pref has f l = cc
-  high_by k pref32 has f l = cc
-  high_by no_io pref64 has f l = ap₂ (λ x y. window x (y + 0xfffff)) (pref_high r.pref.first 1 (omega arith) f) (pref_high r.pref.last 1 (omega arith) l)
-  high_by io16 pref64 has f l = ap₂ (λ x y. window x (y + 0xfffff)) (pref_high r.pref.first 1 (omega arith) f) (pref_high r.pref.last 1 (omega arith) l)
-  high_by io32 pref64 has f l = ap₂ (λ x y. window x (y + 0xfffff)) (pref_high r.pref.first 1 (omega arith) f) (pref_high r.pref.last 1 (omega arith) l)
+  high_by k m has f l = grind (arith, pref_high)
 
   low_by : (k : IoDecode) (m : PrefDecode) → has_pref m ≡ true → r.pref.first < 2 ^ 32 → r.pref.last < 2 ^ 32 → pref_window m (bridge_file (bridge_of k m) multifunction r) ≡ whole (2 ^ 20) r.pref
   low_by k no_pref has f l = cc

@@ -1,5 +1,5 @@
 -- After set-up the claims of an address are those of the placed regions that hold it: one at most.
-use Rattle.std.proofs.Common.{◌≡◌, ℕ, ◌+◌, ◌-◌, ◌≤◌, ◌<◌, inl, inr, Bool, true, false, ◌&&◌, ◌||◌, cond, List, [], ◌∷◌, ◌++◌, Option, Some, None, refl, sym, ap, ap₂, ◌∙◌, subst, arith, leb, ltb, rules}
+use Rattle.std.proofs.Common.{◌≡◌, ℕ, ◌+◌, ◌-◌, ◌≤◌, ◌<◌, inl, inr, Bool, true, false, ◌&&◌, ◌||◌, cond, List, [], ◌∷◌, ◌++◌, Option, Some, None, refl, sym, ap, ap₂, ◌∙◌, subst, arith, leb, ltb}
 use Rattle.std.specs.Prelude.{not, map, flat_map, slice_get}
 use Rattle.std.specs.Option.{option_to_list}
 use Rattle.std.proofs.lemmas.List.{map-append}
@@ -55,8 +55,7 @@ abbrev left : Board → Apertures → Row → BoardFunction
 left b a r = record { path = r.path; decl = r.decl; file = set_up_file b a r.path r.decl }
 
 no_claims : (t : Bool) → cond {A = List Claim} t [] [] ≡ []
-no_claims true = refl
-no_claims false = refl
+no_claims t = grind arith
 
 flat_map_same : {A B : Type 0} (f g : A → List B) (xs : List A) → ((x : A) → IsIn x xs → f x ≡ g x) → flat_map f xs ≡ flat_map g xs
 flat_map_same f g [] h = refl
@@ -114,8 +113,7 @@ module _ (b : Board) (a : Apertures) (can : CanBePlaced b a) (lawful : IsLawful 
     by_decl p (bridge d) n is m h low high = by_bridge p d n m h low high
 
     by_row : (s : Row) (n : ℕ) → IsIn s b → row.first ≤ n → n < row.first + row.size → (t : Bool) → leads_to s.path r.path ≡ t → (not t || forwards (space_of g.kind) n (left b a s)) ≡ true
-    by_row s n m low high false h = refl
-    by_row s n m low high true h = search (rules, each_in, bridge_above, one_row, by_decl)
+    by_row s n m low high t h = grind (arith, each_in, bridge_above, one_row, by_decl)
 
     forwarded : (n : ℕ) → row.first ≤ n → n < row.first + row.size → is_forwarded (set_up_state b a).functions r.path (space_of g.kind) n ≡ true
     forwarded n low high =
@@ -125,9 +123,7 @@ module _ (b : Board) (a : Apertures) (can : CanBePlaced b a) (lawful : IsLawful 
   -- ---- an endpoint decodes where its regions are placed
 
   drop_open : (o t u v : Bool) → (t ≡ true → o ≡ true) → (o && t && u && v) ≡ (t && u && v)
-  drop_open true t u v h = refl
-  drop_open false true u v h = let bad : false ≡ true = h refl in cc
-  drop_open false false u v h = refl
+  drop_open o t u v h = grind arith
 
   -- a region's hit is that of its place
   hit_is : (r : Row) (e : Endpoint) (g : Region) (space : Space) (n : ℕ) → IsIn r b → r.decl ≡ endpoint e → IsIn g e.regions

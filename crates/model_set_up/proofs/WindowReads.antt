@@ -1,8 +1,8 @@
 -- After set-up the window registers of each bridge name what placement put behind it.
-use Rattle.std.proofs.Common.{◌≡◌, ℕ, ◌+◌, ◌-◌, ◌*◌, ◌/◌, ◌%◌, ◌^◌, ◌≤◌, ◌<◌, Bool, true, Option, Some, None, refl, sym, ap, ap₂, ◌∙◌, subst, arith, div-add-mod', lit<}
+use Rattle.std.proofs.Common.{◌≡◌, ℕ, ◌+◌, ◌-◌, ◌*◌, ◌/◌, ◌%◌, ◌^◌, ◌≤◌, ◌<◌, Bool, true, Option, Some, None, refl, sym, ap₂, ◌∙◌, subst, arith, div-add-mod', lit<}
 use Rattle.std.specs.Prelude.{nat_le}
 use Rattle.std.proofs.lemmas.Bool.{le-leb}
-use Rattle.model_registers.specs.Declarations.{IoDecode, no_io, io16, io32, PrefDecode, no_pref, pref32, pref64, Bridge}
+use Rattle.model_registers.specs.Declarations.{IoDecode, io32, PrefDecode, no_pref, pref32, pref64, Bridge}
 use Rattle.model_registers.specs.BridgeTable.{BridgeValues, bridge_file}
 use Rattle.model_board.specs.Windows.{Window, window, io_window, pref_window}
 use Rattle.model_set_up.specs.WindowLaws.{closed_io, closed_memory, Closes, ClosedWindows, io_reach, pref_reach, IsWhole, NamedWindows}
@@ -15,12 +15,6 @@ use Rattle.model_set_up.proofs.SetUpRegisters.{io_reads, mem_reads, pref_reads_l
 whole_first : (unit n : ℕ) → n % unit ≡ 0 → n / unit * unit ≡ n
 whole_first unit n h = omega (arith, div-add-mod' n unit)
 
-io_last : (n : ℕ) → (n + 1) % 2 ^ 12 ≡ 0 → n / 2 ^ 12 * 2 ^ 12 + (2 ^ 12 - 1) ≡ n
-io_last n h = omega arith
-
-memory_last : (n : ℕ) → (n + 1) % 2 ^ 20 ≡ 0 → n / 2 ^ 20 * 2 ^ 20 + (2 ^ 20 - 1) ≡ n
-memory_last n h = omega arith
-
 in_order : (m n : ℕ) → m ≤ n → window m n ≡ Some (record { first = m; last = n })
 in_order m n h = let le : nat_le m n ≡ true = le-leb m n h in rw le
 
@@ -28,18 +22,15 @@ abbrev named_by : ℕ → Window → Option Window
 named_by unit s = window (s.first / unit * unit) (s.last / unit * unit + (unit - 1))
 
 io_named : (s : Window) (reach : ℕ) → IsWhole (2 ^ 12) reach s → named_by (2 ^ 12) s ≡ Some s
-io_named s reach h = ap₂ window (whole_first (2 ^ 12) s.first h.first) (io_last s.last h.end) ∙ in_order s.first s.last h.in_order
+io_named s reach h = grind (arith, whole_first, in_order)
 
 memory_named : (s : Window) (reach : ℕ) → IsWhole (2 ^ 20) reach s → named_by (2 ^ 20) s ≡ Some s
-memory_named s reach h = ap₂ window (whole_first (2 ^ 20) s.first h.first) (memory_last s.last h.end) ∙ in_order s.first s.last h.in_order
+memory_named s reach h = grind (arith, whole_first, in_order)
 
 -- ---- the registers of I/O with 32 address bits, above 64 KB too
 
-word_is : (q : ℕ) → q < 2 ^ 16 → q % 256 + 256 * (q / 256 % 256 + 256 * 0) ≡ q
-word_is q h = omega arith
-
 io_wide : (n : ℕ) → n < 2 ^ 32 → (n / 2 ^ 16 % 256 + 256 * (n / 2 ^ 16 / 256 % 256 + 256 * 0)) * 2 ^ 16 + ((n / 2 ^ 12 % 2 ^ 12 * 16 + 1) % 256 + 256 * 0) / 16 * 2 ^ 12 ≡ n / 2 ^ 12 * 2 ^ 12
-io_wide n h = ap (λ q. q * 2 ^ 16 + ((n / 2 ^ 12 % 2 ^ 12 * 16 + 1) % 256 + 256 * 0) / 16 * 2 ^ 12) (word_is (n / 2 ^ 16) (omega arith)) ∙ omega arith
+io_wide n h = grind arith
 
 io_reads_wide : (vendor device revision : ℕ) (pref : PrefDecode) (multifunction : Bool) (r : BridgeValues) → r.io.first < 2 ^ 32 → r.io.last < 2 ^ 32
     → io_window io32 (bridge_file (record { vendor = vendor; device = device; revision = revision; io = io32; pref = pref }) multifunction r) ≡ named_by (2 ^ 12) r.io
@@ -59,14 +50,10 @@ memory_shut s e = subst (IsShut (2 ^ 20) (2 ^ 32)) (sym e) (record { first = lit
 
 module _ (d : Bridge) (multifunction : Bool) (r : BridgeValues) where
   io_closes : (k : IoDecode) → (has_io k ≡ true → io_window k (bridge_file d multifunction r) ≡ None) → io_window k (bridge_file d multifunction r) ≡ None
-  io_closes no_io h = refl
-  io_closes io16 h = h refl
-  io_closes io32 h = h refl
+  io_closes k h = grind arith
 
   pref_closes : (k : PrefDecode) → (has_pref k ≡ true → pref_window k (bridge_file d multifunction r) ≡ None) → pref_window k (bridge_file d multifunction r) ≡ None
-  pref_closes no_pref h = refl
-  pref_closes pref32 h = h refl
-  pref_closes pref64 h = h refl
+  pref_closes k h = grind arith
 
   closes : Closes d multifunction r
   closes = record {
@@ -81,9 +68,7 @@ module _ (vendor device revision : ℕ) (multifunction : Bool) (r : BridgeValues
   bridge_with k m = record { vendor = vendor; device = device; revision = revision; io = k; pref = m }
 
   io_by : (k : IoDecode) (m : PrefDecode) → IsWhole (2 ^ 12) (io_reach k) r.io → io_window k (bridge_file (bridge_with k m) multifunction r) ≡ named_by (2 ^ 12) r.io
-  io_by no_io m h = absurd (omega (arith, h.reached))
-  io_by io16 m h = io_reads (bridge_with io16 m) multifunction r refl (omega (arith, h.in_order, h.reached)) h.reached
-  io_by io32 m h = io_reads_wide vendor device revision m multifunction r (omega (arith, h.in_order, h.reached)) h.reached
+  io_by k m h = grind (arith, io_reads, io_reads_wide)
 
   pref_by : (k : IoDecode) (m : PrefDecode) → IsWhole (2 ^ 20) (pref_reach m) r.pref → pref_window m (bridge_file (bridge_with k m) multifunction r) ≡ named_by (2 ^ 20) r.pref
   pref_by k no_pref h = absurd (omega (arith, h.reached))
