@@ -1,20 +1,19 @@
 -- In an orderly state no two open regions of one space share an address: where they stand on one bus, they are agents of
 -- it; elsewhere the bridges that lead to them are.
-use Rattle.std.proofs.Common.{◌≡◌, ℕ, ◌+◌, ◌≤◌, ◌<◌, ◌⊎◌, inl, inr, Bool, true, false, ◌||◌, not, List, [], ◌∷◌, ◌++◌, length, refl, sym, ap, ◌∙◌, subst, arith, leb}
+use Rattle.std.proofs.Common.{◌≡◌, ℕ, ◌+◌, ◌≤◌, ◌<◌, ◌⊎◌, inl, inr, Bool, true, false, ◌||◌, not, List, [], ◌∷◌, ◌++◌, length, refl, sym, ap, ◌∙◌, subst, arith}
 use Rattle.std.proofs.lemmas.Bool.Decides.{nat_tests}
 use Rattle.std.proofs.lemmas.Bool.{leb-true}
 use Rattle.std.specs.Prelude.{map, IsTrue}
 use Rattle.lists.proofs.Members.{pairs_of_map, each_in, in_map, from_map, from_filter, in_flat_map, pairs_weaker, pairs_flat_map}
 use Rattle.lists.specs.Elements.{EachPair, IsIn}
 use Rattle.model_board.proofs.PathOrder.{part_self}
-use Rattle.model_registers.specs.Declarations.{Kind, io_kind, mem32, mem64, Region, least_size, IsLawfulRegion, Endpoint}
-use Rattle.model_registers.specs.Decoding.{Space, io, memory, same_space, opens_space, base_address, command_word}
+use Rattle.model_registers.specs.Declarations.{Kind, Region, least_size, Endpoint}
+use Rattle.model_registers.specs.Decoding.{Space, same_space, base_address}
 use Rattle.model_registers.specs.Registers.{File}
 use Rattle.model_registers.proofs.HitRegions.{space_same}
 use Rattle.model_set_up.specs.Extents.{AreApart}
 use Rattle.model_board.specs.Paths.{Part, Path, part_eq, path_eq, path_before, leads_to, parent, last_part, IsPath}
-use Rattle.model_board.specs.Board.{Board, Row, Decl, endpoint, bridge, is_bridge}
-use Rattle.model_board.specs.Lawful.{IsLawfulDecl}
+use Rattle.model_board.specs.Board.{Board, Row, Decl, endpoint, is_bridge}
 use Rattle.model_board.specs.State.{row_at, BoardFunction}
 use Rattle.model_board.specs.Routing.{RoutingRow, row_of, routing, row_forwards, is_routed}
 use Rattle.model_set_up.specs.PlacedRegions.{PlacedRegion, holds}
@@ -38,35 +37,15 @@ pub record OpenOf (f : BoardFunction) (q : PlacedRegion) : Type 0 where
   pub is : q ≡ region_now f.path (base_address f.file region)
 
 pub open_source : (p : Path) (d : Decl) (file : File) (q : PlacedRegion) → IsIn q (open_of (row_of (record { path = p; decl = d; file = file }))) → OpenOf (record { path = p; decl = d; file = file }) q
-open_source p (bridge d) file q m = absurd m
-open_source p (endpoint d) file q m =
-    let k = (from_filter (λ q. opens_space (command_word file) q.space) q (map (region_now p) (map (base_address file) d.regions)) m).0 in
-    let f = from_map (region_now p) q (map (base_address file) d.regions) k in
-    let g = from_map (base_address file) f.0 d.regions f.1 in
-    record { decl = d; decl_is = refl; region = g.0; declared = g.1; is = f.2 ∙ ap (region_now p) g.2 }
+open_source p d file q m = grind (arith, d, from_filter, from_map)
 
 -- ---- regions with bytes share an address, or are apart
 
 least_is_some : (k : Kind) → 0 < least_size k
-least_is_some io_kind = omega arith
-least_is_some (mem32 pref) = omega arith
-least_is_some (mem64 pref) = omega arith
+least_is_some k = grind arith
 
 apart_or_shared : (a b c d : ℕ) → 0 < b → 0 < d → ((n : ℕ) → a ≤ n → n < a + b → c ≤ n → n < c + d → ⊥) → AreApart a b c d
-apart_or_shared a b c d h k none = by_sides (le_or a c) (le_or (a + b) c) (le_or (c + d) a)
-  where
-    le_or : (x y : ℕ) → (x ≤ y) ⊎ (y < x)
-    le_or x y = by (leb x y) refl
-      where
-        by : (t : Bool) → leb x y ≡ t → (x ≤ y) ⊎ (y < x)
-        by true e = inl (leb-true x y e)
-        by false e = inr (grind (arith, nat_tests))
-
-    by_sides : (a ≤ c) ⊎ (c < a) → (a + b ≤ c) ⊎ (c < a + b) → (c + d ≤ a) ⊎ (a < c + d) → AreApart a b c d
-    by_sides x (inl e) z = inl e
-    by_sides x (inr y) (inl e) = inr e
-    by_sides (inl x) (inr y) (inr z) = absurd (none c (omega arith) (omega arith) (omega arith) (omega arith))
-    by_sides (inr x) (inr y) (inr z) = absurd (none a (omega arith) (omega arith) (omega arith) (omega arith))
+apart_or_shared a b c d h k none = grind (arith, leb-true, nat_tests)
 
 module _ (fs : List BoardFunction) (state : IsStateOfBoard fs) (orderly : IsOrderly (routing fs)) where
   abbrev rows : List RoutingRow
@@ -76,11 +55,7 @@ module _ (fs : List BoardFunction) (state : IsStateOfBoard fs) (orderly : IsOrde
   b = map row_at fs
 
   sized : (f : BoardFunction) (q : PlacedRegion) → IsIn f fs → OpenOf f q → 0 < q.size
-  sized f q m s =
-      let decl : IsLawfulDecl (endpoint s.decl) = subst IsLawfulDecl s.decl_is (each_in (λ (g : BoardFunction). IsLawfulDecl g.decl) f fs (each_of_map (λ (r : Row). IsLawfulDecl r.decl) row_at fs state.declarations) m) in
-      let region : IsLawfulRegion s.region = each_in IsLawfulRegion s.region s.decl.regions decl.regions.each s.declared in
-      let some : 0 < least_size s.region.kind = least_is_some s.region.kind in
-      subst (λ (x : PlacedRegion). 0 < x.size) (sym s.is) (omega (arith, region.size_is_lawful.not_less))
+  sized f q m s = grind (arith, each_in, each_of_map, least_is_some)
 
   -- what the bridges above forward, and what holds an address, are agents of their buses
   record AgentOn (bus : Path) (x : Part) (space : Space) (n : ℕ) : Type 0 where
@@ -90,13 +65,10 @@ module _ (fs : List BoardFunction) (state : IsStateOfBoard fs) (orderly : IsOrde
     answers_it : answers space n agent ≡ true
 
   region_in : (p : Path) (d : Decl) (file : File) (q : PlacedRegion) → IsIn q (open_of (row_of (record { path = p; decl = d; file = file }))) → IsIn (region_agent q) (agents_of (row_of (record { path = p; decl = d; file = file })))
-  region_in p (endpoint d) file q m = in_map region_agent q (open_of (row_of (record { path = p; decl = endpoint d; file = file }))) m
-  region_in p (bridge d) file q m = absurd m
+  region_in p d file q m = grind (arith, d, in_map)
 
   bridge_in : (p : Path) (d : Decl) (file : File) (space : Space) → is_bridge d ≡ true → IsIn (bridge_agent (row_of (record { path = p; decl = d; file = file })) space) (agents_of (row_of (record { path = p; decl = d; file = file })))
-  bridge_in p (endpoint d) file space h = cc
-  bridge_in p (bridge d) file io h = inl refl
-  bridge_in p (bridge d) file memory h = inr (inl refl)
+  bridge_in p d file space h = grind (arith, d)
 
   agent_on : (f : BoardFunction) (q : PlacedRegion) (n : ℕ) → IsIn f fs → IsIn q (open_of (row_of f)) → holds q.space n q ≡ true → (bus : Path) (x : Part) (ps : Path) → f.path ≡ bus ++ x ∷ ps → AgentOn bus x q.space n
   agent_on f q n m k h bus x [] e =
@@ -202,9 +174,7 @@ module _ (fs : List BoardFunction) (state : IsStateOfBoard fs) (orderly : IsOrde
           (region_answers q.space n t ∙ is_held q.space n t (record { space_is = subst (λ (z : Space). same_space t.space z ≡ true) (sym (space_same q.space t.space same)) (self_space t.space); from = d; below = e })))
 
   one_function : (f : BoardFunction) → IsIn f fs → (p : Path) (d : Decl) (file : File) → f ≡ record { path = p; decl = d; file = file } → EachPair ShareNone (open_of (row_of (record { path = p; decl = d; file = file })))
-  one_function f m p (bridge d) file e = tt
-  one_function f m p (endpoint d) file e =
-      one_endpoint (record { path = p; decl = endpoint d; file = file }) (subst (λ (x : BoardFunction). IsIn x fs) e m) (open_source p (endpoint d) file) refl
+  one_function f m p d file e = grind (arith, d, one_endpoint, open_source)
 
   pub open_apart : EachPair ShareNone (open_regions rows)
   open_apart =

@@ -1,5 +1,5 @@
 -- In an orderly state the claims of an address are those of the open regions that hold it: one at most.
-use Rattle.std.proofs.Common.{◌≡◌, ℕ, ◌+◌, ◌-◌, ◌<◌, inl, inr, Bool, true, false, ◌&&◌, cond, List, [], ◌∷◌, ◌++◌, refl, sym, ap, ap₂, ◌∙◌, subst, arith, leb, ltb}
+use Rattle.std.proofs.Common.{◌≡◌, ℕ, ◌+◌, ◌-◌, ◌<◌, inl, inr, Bool, true, ◌&&◌, cond, List, [], ◌∷◌, ◌++◌, refl, sym, ap, ap₂, ◌∙◌, subst, arith, leb, ltb}
 use Rattle.std.specs.Prelude.{map, filter, flat_map, slice_get}
 use Rattle.std.specs.Option.{option_to_list}
 use Rattle.std.proofs.lemmas.Grind.{flat_map-append}
@@ -22,16 +22,10 @@ use Rattle.model_audit.proofs.Apart.{open_apart}
 -- ---- one function
 
 no_claims : (t : Bool) → cond {A = List Claim} t [] [] ≡ []
-no_claims true = refl
-no_claims false = refl
+no_claims t = grind arith
 
 tests : (o p s u v : Bool) → (s ≡ true → o ≡ p) → (((o && s) && u) && v) ≡ (p && ((s && u) && v))
-tests true true s u v h = refl
-tests false false s u v h = refl
-tests true false false u v h = refl
-tests false true false u v h = refl
-tests true false true u v h = let bad : true ≡ false = h refl in cc
-tests false true true u v h = let bad : false ≡ true = h refl in cc
+tests o p s u v h = grind arith
 
 -- a register decodes an address where its region is open and holds it
 decodes_is : (command : ℕ) (space : Space) (n : ℕ) (p : Path) (b : BaseAddress) → decodes command space n b ≡ (opens_space command (space_of b.kind) && holds space n (region_now p b))
@@ -55,13 +49,7 @@ of_regions t p command space n (b ∷ bs) h = by_tests t (opens_space command (s
     by_tests : (t o u : Bool) → opens_space command (space_of b.kind) ≡ o → holds space n (region_now p b) ≡ u → (o ≡ true → u ≡ true → t ≡ true)
         → cond t (map (claim_at p) rest) [] ≡ claims_in space n kept
         → cond t (map (claim_at p) (option_to_list (hit_at command space n b) ++ rest)) [] ≡ claims_in space n (cond (opens_space command (space_of b.kind)) (region_now p b ∷ kept) kept)
-    by_tests t false u e f way more =
-        let d : decodes command space n b ≡ false = decodes_is command space n p b ∙ ap (λ x. x && holds space n (region_now p b)) e in rw (d, e) more
-    by_tests t true false e f way more =
-        let d : decodes command space n b ≡ false = decodes_is command space n p b ∙ ap₂ ◌&&◌ e f in rw (d, e, f) more
-    by_tests false true true e f way more = let bad : false ≡ true = way refl refl in cc
-    by_tests true true true e f way more =
-        let d : decodes command space n b ≡ true = decodes_is command space n p b ∙ ap₂ ◌&&◌ e f in rw (d, e, f) (ap (λ cs. claim_at p (record { index = b.index; offset = n - b.base }) ∷ cs) more)
+    by_tests t o u e f way more = grind (arith, decodes_is)
 
 module _ (rows : List RoutingRow) (orderly : Each (IsForwarded rows) (open_regions rows)) where
   -- an open region's bytes are routed to it

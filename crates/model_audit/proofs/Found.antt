@@ -1,25 +1,25 @@
 -- Where no function is told as not found, a state is numbered: each function is reached by its address alone. A board
 -- that holds its own numbers is numbered.
-use Rattle.std.proofs.Common.{◌≡◌, ℕ, ◌<◌, ◌⊎◌, inl, inr, Bool, true, false, ◌&&◌, cond, not, nat_le, List, [], ◌∷◌, ◌++◌, length, Option, Some, None, refl, sym, ap, ◌∙◌, subst, arith, append_assoc, eqb}
+use Rattle.std.proofs.Common.{◌≡◌, ℕ, ◌<◌, ◌⊎◌, inl, inr, Bool, true, false, ◌&&◌, cond, not, List, [], ◌∷◌, ◌++◌, length, Option, Some, None, refl, sym, ap, ◌∙◌, subst, arith, append_assoc}
 use Rattle.std.specs.Prelude.{find, IsTrue}
 use Rattle.std.specs.Option.{option_map, option_map_or}
 use Rattle.std.proofs.lemmas.Bool.{eqb-true}
 use Rattle.lists.proofs.Tests.{left_true, right_true}
 use Rattle.lists.specs.Elements.{IsIn}
-use Rattle.model_board.specs.Paths.{Part, Path, path_eq, path_before, parent, last_part}
+use Rattle.model_board.specs.Paths.{Part, Path, path_eq, parent, last_part}
 use Rattle.model_board.specs.Board.{Board, Row, is_bridge, stands_at, IsBoard}
 use Rattle.model_board.specs.Board as board
 use Rattle.model_board.specs.BusNumbers.{secondary, subordinate, bus_behind}
 use Rattle.model_board.specs.State.{BoardFunction, row_at}
-use Rattle.model_board.specs.Cycles.{secondary_register, subordinate_register, covers, taker, takes, is_route, ends_in, reached_type0, reached_type1, BusAddress, reached}
+use Rattle.model_board.specs.Cycles.{secondary_register, subordinate_register, takes, is_route, ends_in, reached_type0, reached_type1, BusAddress, reached}
 use Rattle.model_set_up.specs.Reach.{HasNumbers, address_of}
 use Rattle.lists.proofs.Members.{each_in, each_from, in_map, from_map, any_in}
 use Rattle.model_board.proofs.PathEnds.{path_self, not_before_itself}
 use Rattle.model_board.proofs.PathOrder.{part_same, path_same}
-use Rattle.model_set_up.proofs.Partings.{BridgeAt, bridge_at, one_row, pair_in}
+use Rattle.model_set_up.proofs.Partings.{BridgeAt, bridge_at, pair_in}
 use Rattle.model_set_up.proofs.Routes.{found, reached_by_numbers}
 use Rattle.model_audit.specs.Orderly.{IsStateOfBoard}
-use Rattle.model_audit.specs.Found.{is_bridge_at, bus_now, address_now, path_reached, IsFoundOnce, FoundOnce, NumbersOfBoard}
+use Rattle.model_audit.specs.Found.{is_bridge_at, bus_now, address_now, path_reached, FoundOnce, NumbersOfBoard}
 use Rattle.model_audit.specs.Problems.{Problem, not_found, numbering_problem}
 use Rattle.model_audit.specs.Witnesses.{IsNotFound, NumberingDecides}
 use Rattle.model_audit.proofs.Pairs.{both, pairs_from_map}
@@ -38,38 +38,20 @@ module _ (fs : List BoardFunction) (f : BoardFunction) where
   is_found : (o : Option Path) → o ≡ Some f.path → is_there o ≡ true
   is_found o e = ap is_there e ∙ path_self f.path
 
-  abbrev told : List Problem
-  told = not_found f.path (address_now fs f.path) (path_reached fs f.path) ∷ []
-
   reached_if_none : numbering_problem fs f ≡ [] → path_reached fs f.path ≡ Some f.path
-  reached_if_none h = by (is_there (path_reached fs f.path)) refl h
-    where
-      by : (t : Bool) → is_there (path_reached fs f.path) ≡ t → cond {A = List Problem} t [] told ≡ [] → path_reached fs f.path ≡ Some f.path
-      by true e g = there_is (path_reached fs f.path) e
-      by false e g = cc
+  reached_if_none h = grind (arith, there_is)
 
   none_if_reached : path_reached fs f.path ≡ Some f.path → numbering_problem fs f ≡ []
   none_if_reached h = let e : is_there (path_reached fs f.path) ≡ true = is_found (path_reached fs f.path) h in rw e
 
   -- what a problem of the third kind says
   pub lost_function : IsIn f fs → (p : Problem) → IsIn p (numbering_problem fs f) → (p ≡ not_found f.path (address_now fs f.path) (path_reached fs f.path)) × IsNotFound fs f.path (address_now fs f.path) (path_reached fs f.path)
-  lost_function there p m = by (is_there (path_reached fs f.path)) refl m
-    where
-      by : (t : Bool) → is_there (path_reached fs f.path) ≡ t → IsIn p (cond {A = List Problem} t [] told) → (p ≡ not_found f.path (address_now fs f.path) (path_reached fs f.path)) × IsNotFound fs f.path (address_now fs f.path) (path_reached fs f.path)
-      by true e k = absurd k
-      by false e (inr k) = absurd k
-      by false e (inl k) = (k, record { function = (f, there, refl); address = refl; reached = refl; other = differ })
-        where
-          differ : path_reached fs f.path ≡ Some f.path → ⊥
-          differ g = let bad : true ≡ false = sym (is_found (path_reached fs f.path) g) ∙ e in cc
+  lost_function there p m = grind (arith, is_found)
 
 -- ---- all functions
 
 pub numbering_decides : NumberingDecides
-numbering_decides fs = (
-  λ h. record { each = each_weaker (λ f. numbering_problem fs f ≡ []) (λ f. path_reached fs f.path ≡ Some f.path) fs (reached_if_none fs) (none_each (numbering_problem fs) fs h) },
-  λ h. each_none (numbering_problem fs) fs (each_weaker (λ f. path_reached fs f.path ≡ Some f.path) (λ f. numbering_problem fs f ≡ []) fs (none_if_reached fs) h.each),
-)
+numbering_decides fs = grind (arith, each_weaker, reached_if_none, none_each, each_none, none_if_reached)
 
 -- ---- the one address of a function
 
@@ -89,12 +71,7 @@ ends_is_last (p ∷ q ∷ ps) t h = ends_is_last (q ∷ ps) t h
 module _ (fs : List BoardFunction) (state : IsStateOfBoard fs) where
   -- one function stands at a path
   one_function : (f g : BoardFunction) → IsIn f fs → IsIn g fs → f.path ≡ g.path → f ≡ g
-  one_function f g m k e = by (pair_in (λ (x y : BoardFunction). IsTrue (path_before x.path y.path)) f g fs (pairs_from_map (λ (r s : Row). IsTrue (path_before r.path s.path)) row_at fs state.places.in_order) m k)
-    where
-      by : (f ≡ g) ⊎ (IsTrue (path_before f.path g.path) ⊎ IsTrue (path_before g.path f.path)) → f ≡ g
-      by (inl same) = same
-      by (inr (inl before)) = absurd (not_before_itself g.path (subst (λ (p : Path). path_before p g.path ≡ true) e before))
-      by (inr (inr before)) = absurd (not_before_itself g.path (subst (λ (p : Path). path_before g.path p ≡ true) e before))
+  one_function f g m k e = grind (arith, pair_in, pairs_from_map, not_before_itself)
 
   -- so a search for the bridge at its path finds it
   pub is_found_at : (f : BoardFunction) → IsIn f fs → is_bridge f.decl ≡ true → find (is_bridge_at f.path) fs ≡ Some f
@@ -116,25 +93,11 @@ module _ (fs : List BoardFunction) (state : IsStateOfBoard fs) where
 
   module _ (n : ℕ) where
     last_flag : (c : Bool) → cond c true (not true) ≡ true → c ≡ true
-    last_flag true h = refl
-    last_flag false h = cc
-
-    covers_bridge : (f : BoardFunction) → covers n f ≡ true → is_bridge f.decl ≡ true
-    covers_bridge f is = left_true (is_bridge f.decl) (nat_le (secondary_register f.file) n)
-        (left_true (is_bridge f.decl && nat_le (secondary_register f.file) n) (nat_le n (subordinate_register f.file)) is)
+    last_flag c h = grind arith
 
     -- the bridge that leads to bus n itself stands at this path, and n is its number
     last_bridge : (above : Path) (p : Part) → takes fs above n p true ≡ true → bus_now fs (above ++ p ∷ []) ≡ n
-    last_bridge above p h = by (taker fs above n) refl h
-      where
-        by : (o : Option BoardFunction) → taker fs above n ≡ o
-            → option_map_or (λ (f : BoardFunction). path_eq f.path (above ++ p ∷ []) && cond (eqb (secondary_register f.file) n) true (not true)) o false ≡ true → bus_now fs (above ++ p ∷ []) ≡ n
-        by None e k = cc
-        by (Some f) e k =
-            let got = found_in (λ g. path_eq (parent g.path) above && covers n g) fs f e in
-            let at : f.path ≡ above ++ p ∷ [] = path_same f.path (above ++ p ∷ []) (left_true (path_eq f.path (above ++ p ∷ [])) (cond (eqb (secondary_register f.file) n) true (not true)) k) in
-            let is : is_bridge f.decl ≡ true = covers_bridge f (right_true (path_eq (parent f.path) above) (covers n f) got.1) in
-            number_of f got.0 is above p at ∙ eqb-true (secondary_register f.file) n (last_flag (eqb (secondary_register f.file) n) (right_true (path_eq f.path (above ++ p ∷ [])) (cond (eqb (secondary_register f.file) n) true (not true)) k))
+    last_bridge above p h = grind (arith, found_in, path_same, left_true, right_true, number_of, eqb-true, last_flag)
 
     -- a way that leads to bus n ends behind the bridge whose number is n
     way_ends : (above p : Path) → is_route fs n above p ≡ true → bus_now fs (above ++ parent p) ≡ n
@@ -157,22 +120,11 @@ module _ (fs : List BoardFunction) (state : IsStateOfBoard fs) where
       )
 
   pub reached_in : (at : BusAddress) (f : BoardFunction) → reached fs at ≡ Some f → IsIn f fs
-  reached_in at f e = by (eqb at.bus 0) e
-    where
-      by : (c : Bool) → cond c (reached_type0 fs at.part) (reached_type1 fs at.bus at.part) ≡ Some f → IsIn f fs
-      by true k = (found_in (λ g. path_eq g.path (at.part ∷ [])) fs f k).0
-      by false k = (found_in (λ g. ends_in g.path at.part && is_route fs at.bus [] g.path) fs f k).0
+  reached_in at f e = grind (arith, found_in)
 
   -- whatever the bridges hold, no other address reaches a function
   pub only_address : (at : BusAddress) (f : BoardFunction) → reached fs at ≡ Some f → at ≡ address_now fs f.path
-  only_address at f e = by (eqb at.bus 0) refl e
-    where
-      whole : (bus_now fs (parent f.path) ≡ at.bus) × (last_part f.path ≡ at.part) → at ≡ address_now fs f.path
-      whole h = λ i. record { bus = sym h.0 i; part = sym h.1 i }
-
-      by : (c : Bool) → eqb at.bus 0 ≡ c → cond c (reached_type0 fs at.part) (reached_type1 fs at.bus at.part) ≡ Some f → at ≡ address_now fs f.path
-      by true z k = let none = eqb-true at.bus 0 z in let got = by_type0 at.part f k in whole (got.0 ∙ sym none, got.1)
-      by false z k = whole (by_type1 at.bus at.part f k)
+  only_address at f e = grind (arith, eqb-true, by_type0, by_type1)
 
   pub itself : (f : BoardFunction) → IsIn f fs → path_reached fs f.path ≡ Some f.path → reached fs (address_now fs f.path) ≡ Some f
   itself f m e = by (reached fs (address_now fs f.path)) refl e
@@ -187,10 +139,7 @@ module _ (fs : List BoardFunction) (state : IsStateOfBoard fs) where
           some_same j = cc
 
 pub found_once : FoundOnce
-found_once fs state numbered = each_from (IsFoundOnce fs) fs (λ f m. record {
-  by_address = itself fs state f m (each_in (λ g. path_reached fs g.path ≡ Some g.path) f fs numbered.each m);
-  by_no_other = λ at e. only_address fs state at f e;
-})
+found_once fs state numbered = grind (arith, each_from, itself, each_in, only_address)
 
 -- ---- a board with its own numbers
 
@@ -227,8 +176,7 @@ module _ (b : Board) (lawful : IsBoard b) (fs : List BoardFunction) (has : HasNu
               (both (is_bridge g.decl) (path_eq g.path (p ∷ ps)) (ap (λ (x : Row). is_bridge x.decl) (sym e) ∙ is) (ap (λ x. path_eq x (p ∷ ps)) g_path ∙ path_self (p ∷ ps)))))
 
   named : (f : BoardFunction) → IsIn f fs → address_now fs f.path ≡ address_of b f.path
-  named f m =
-      ap (λ n. record { bus = n; part = last_part f.path }) (behind (parent f.path) (each_in (λ (r : Row). (parent r.path ≡ []) ⊎ IsTrue (board.is_bridge_at b (parent r.path))) (row_at f) b lawful.behind_bridges (there f m)))
+  named f m = grind (arith, behind, each_in, there)
 
   is_reached : (f : BoardFunction) → IsIn f fs → path_reached fs f.path ≡ Some f.path
   is_reached f m =
@@ -237,7 +185,4 @@ module _ (b : Board) (lawful : IsBoard b) (fs : List BoardFunction) (has : HasNu
       ap (λ at. option_map (λ (x : BoardFunction). x.path) (reached fs at)) (named f m) ∙ ap (option_map (λ (x : BoardFunction). x.path)) g.1 ∙ ap Some g.2
 
 pub numbers_of_board : NumbersOfBoard
-numbers_of_board b lawful fs has = (
-  record { each = each_from (λ f. path_reached fs f.path ≡ Some f.path) fs (is_reached b lawful fs has) },
-  each_from (λ f. address_now fs f.path ≡ address_of b f.path) fs (named b lawful fs has),
-)
+numbers_of_board b lawful fs has = grind (arith, each_from, is_reached, named)

@@ -129,12 +129,10 @@ abbrev lost : RoutingRow → PlacedRegion → ℕ → Bool
 lost r q n = holds q.space n q && not (row_forwards q.space n r)
 
 not_true : (t : Bool) → not t ≡ true → t ≡ false
-not_true true h = cc
-not_true false h = refl
+not_true t h = grind arith
 
 is_not : (t : Bool) → t ≡ false → not t ≡ true
-is_not true h = cc
-is_not false h = refl
+is_not t h = grind arith
 
 -- a lost start that is no later than n
 abbrev LostStart : RoutingRow → PlacedRegion → ℕ → Type 0
@@ -325,9 +323,7 @@ answer_both a b n = answers a.space n a && answers a.space n b
 
 -- an agent answers where one of its extents holds the address
 pub by_extent : (space : Space) (n : ℕ) (a : Agent) → answers space n a ≡ true → (same_space a.space space ≡ true) × (e : Extent) × IsIn e a.extents × Within n e
-by_extent space n a h =
-    let f = from_any (extent_holds n) a.extents (right_true (same_space a.space space) (list_any (extent_holds n) a.extents) h) in
-    (left_true (same_space a.space space) (list_any (extent_holds n) a.extents) h, f.0, f.1, within_is n f.0 f.2)
+by_extent space n a h = grind (arith, from_any, right_true, left_true, within_is)
 
 answered : (space : Space) (n : ℕ) (a : Agent) (e : Extent) → same_space a.space space ≡ true → IsIn e a.extents → Within n e → answers space n a ≡ true
 answered space n a e h m w = both (same_space a.space space) (list_any (extent_holds n) a.extents) h (any_in (extent_holds n) e a.extents m (is_within n e w))
@@ -394,10 +390,7 @@ shared_is a b n e =
     }
 
 contention_real : (rows : List RoutingRow) (a b : Agent) (p : Problem) → IsBefore a b (agents rows) → IsIn p (contention a b) → IsRouted rows p
-contention_real rows a b p two m =
-    let c = contention_is a b p m in
-    let s : AtShared a b c.1 = shared_is a b c.1 c.2 in
-    subst (IsRouted rows) (sym c.3) (record { two = two; bus = c.0; one_answers = s.one; other_answers = s.other; least = s.least })
+contention_real rows a b p two m = grind (arith, contention_is, shared_is)
 
 contentions_real : (rows : List RoutingRow) (xs : List Agent) → ((a b : Agent) → IsBefore a b xs → IsBefore a b (agents rows)) → (p : Problem) → IsIn p (contentions xs) → IsRouted rows p
 contentions_real rows [] two p m = absurd m

@@ -4,7 +4,7 @@ use Rattle.std.specs.Prelude.{map, find}
 use Rattle.std.specs.List.{range_with_len}
 use Rattle.std.specs.Option.{option_to_list, option_map_or}
 use Rattle.lists.specs.Elements.{Each, IsIn}
-use Rattle.model_board.specs.Paths.{Path, path_eq, parent, last_part, IsPart, IsPath}
+use Rattle.model_board.specs.Paths.{Path, parent, last_part, IsPart, IsPath}
 use Rattle.model_board.specs.Board.{Row}
 use Rattle.model_board.specs.State.{BoardFunction, row_at}
 use Rattle.model_board.specs.Cycles.{secondary_register, BusAddress, reached}

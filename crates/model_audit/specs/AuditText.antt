@@ -5,7 +5,7 @@
 --     problem_text      a problem with its witness
 --     total_text n      how many problems there are
 --     audit_text ps, audit fs      the whole text of some problems, and of a register state
-use Rattle.std.specs.Prelude.{List, [], ◌∷◌, ◌++◌, ℕ, ◌==◌, if◌then◌else◌, Option, map, length, codes, decimal}
+use Rattle.std.specs.Prelude.{List, [], ◌∷◌, ◌++◌, ℕ, ◌==◌, if◌then◌else◌, map, length, codes, decimal}
 use Rattle.std.specs.Option.{option_map_or}
 use Rattle.model_registers.specs.Decoding.{Space, io, memory}
 use Rattle.model_board.specs.State.{BoardFunction}

@@ -1,12 +1,8 @@
+use Rattle.std.proofs.Common.{arith}
 use Rattle.model_audit.proofs.Found.{numbering_decides}
 use Rattle.model_audit.proofs.Problems.{routing_decides}
 use Rattle.model_audit.proofs.Witnesses.{problems_are_real, problems_decide}
 use Rattle.model_audit.proofs.problems_decide.Goals as goal
 
 pub returns : goal.returns
-returns c = record {
-  real = problems_are_real;
-  decide = problems_decide;
-  routing = routing_decides;
-  numbering = numbering_decides;
-}
+returns c = grind (arith, problems_are_real, problems_decide, routing_decides, numbering_decides)
