@@ -1,7 +1,6 @@
 -- What answers an address after set-up has a row of the layout that holds it, and two rows of one bus hold no address of
 -- one space both.
-use Rattle.std.proofs.Common.{◌≡◌, ℕ, ◌+◌, ◌-◌, ◌≤◌, ◌<◌, ◌⊎◌, inl, inr, Bool, true, false, ◌&&◌, ◌||◌, List, [], ◌∷◌, Option, Some, None, MatchOption, refl, sym, ap, ◌∙◌, subst, arith, leb}
-use Rattle.std.specs.Prelude.{IsTrue}
+use Rattle.std.proofs.Common.{◌≡◌, ℕ, ◌+◌, ◌-◌, ◌≤◌, ◌<◌, ◌⊎◌, inl, inr, Bool, true, ◌||◌, List, [], ◌∷◌, Option, MatchOption, refl, sym, ap, ◌∙◌, subst, arith, leb}
 use Rattle.std.proofs.lemmas.Bool.{leb-true}
 use Rattle.std.specs.List.{list_any}
 use Rattle.lists.specs.Elements.{Each, IsIn}
@@ -12,8 +11,8 @@ use Rattle.model_registers.specs.Decoding.{Space, io, memory, space_of, same_spa
 use Rattle.model_registers.proofs.HitRegions.{space_same}
 use Rattle.lists.proofs.Tests.{left_true, right_true}
 use Rattle.model_board.specs.Board.{Board, Row, Decl, endpoint, bridge}
-use Rattle.model_board.specs.Paths.{Path, path_eq, path_before, parent, IsPath}
-use Rattle.model_set_up.specs.Pools.{Pool, io_pool, mem_pool, pref_pool, same_pool, unit_of, bridges_above, aperture_of}
+use Rattle.model_board.specs.Paths.{Path, path_before, parent, IsPath}
+use Rattle.model_set_up.specs.Pools.{Pool, io_pool, mem_pool, pref_pool, same_pool, unit_of, bridges_above}
 use Rattle.model_set_up.specs.Extents.{IsInside, AreApart}
 use Rattle.model_set_up.specs.Placement.{Item, need, items_on, bus_first}
 use Rattle.model_set_up.specs.Layout.{LayoutRow, IsLawful, pool_rows, layout}
@@ -42,20 +41,10 @@ use Rattle.model_set_up_audit.proofs.Placing.{left, regions_placed}
 -- ---- rows of one bus
 
 pools_same : (p q : Pool) → pool_space p ≡ pool_space q → (p ≡ q) ⊎ (((p ≡ mem_pool) × (q ≡ pref_pool)) ⊎ ((p ≡ pref_pool) × (q ≡ mem_pool)))
-pools_same io_pool io_pool e = inl refl
-pools_same io_pool mem_pool e = cc
-pools_same io_pool pref_pool e = cc
-pools_same mem_pool io_pool e = cc
-pools_same mem_pool mem_pool e = inl refl
-pools_same mem_pool pref_pool e = inr (inl (refl, refl))
-pools_same pref_pool io_pool e = cc
-pools_same pref_pool mem_pool e = inr (inr (refl, refl))
-pools_same pref_pool pref_pool e = inl refl
+pools_same p q e = grind arith
 
 pool_self : (p : Pool) → same_pool p p ≡ true
-pool_self io_pool = refl
-pool_self mem_pool = refl
-pool_self pref_pool = refl
+pool_self p = grind arith
 
 -- a row of the layout that holds an address of a space, at a path
 pub record HeldAt (b : Board) (a : Apertures) (p : Path) (space : Space) (n : ℕ) : Type 0 where
@@ -68,53 +57,21 @@ pub record HeldAt (b : Board) (a : Apertures) (p : Path) (space : Space) (n : �
 
 module _ (b : Board) (a : Apertures) (apertures : IsLawfulApertures a) (lawful : IsLawful b a (layout b a)) where
   not_apart : (r s : LayoutRow) (n : ℕ) → AreApart r.first r.size s.first s.size → r.first ≤ n → n < r.first + r.size → s.first ≤ n → n < s.first + s.size → ⊥
-  not_apart r s n (inl e) h k l m = omega arith
-  not_apart r s n (inr e) h k l m = omega arith
-
-  in_aperture : (r : LayoutRow) → IsIn r (layout b a) → (pool : Pool) → r.pool ≡ pool → MatchOption (aperture_of a pool) ⊥ (λ ap. IsInside ap.first (ap.last + 1) r.first r.size)
-  in_aperture r m pool e = subst (λ x. MatchOption (aperture_of a x) ⊥ (λ ap. IsInside ap.first (ap.last + 1) r.first r.size)) e (each_in (λ (t : LayoutRow). MatchOption (aperture_of a t.pool) ⊥ (λ ap. IsInside ap.first (ap.last + 1) t.first t.size)) r (layout b a) lawful.in_apertures m)
+  not_apart r s n e h k l m = grind arith
 
   -- memory and prefetchable apertures share no address
   mem_or_pref : (o : Option Aperture) (n : ℕ) (r s : LayoutRow) → IsPrefOption a.mem o → IsInside a.mem.first (a.mem.last + 1) r.first r.size → MatchOption o ⊥ (λ ap. IsInside ap.first (ap.last + 1) s.first s.size)
       → r.first ≤ n → n < r.first + r.size → s.first ≤ n → n < s.first + s.size → ⊥
-  mem_or_pref None n r s h k l e f g i = l
-  mem_or_pref (Some o) n r s h k l e f g i = by h.apart
-    where
-      by : (a.mem.last < o.first) ⊎ (o.last < a.mem.first) → ⊥
-      by (inl x) = omega (arith, k.1, l.0)
-      by (inr x) = omega (arith, k.0, l.1)
+  mem_or_pref o n r s h k l e f g i = grind arith
 
   -- two functions of one bus don't both hold an address
   pub one_holds : (p q : Path) (space : Space) (n : ℕ) → path_before p q ≡ true → parent p ≡ parent q → HeldAt b a p space n → HeldAt b a q space n → ⊥
-  one_holds p q space n before bus v w = by (pools_same v.row.pool w.row.pool (v.space_is ∙ sym w.space_is))
-    where
-      differ : v.row ≡ w.row → ⊥
-      differ e =
-          let same : p ≡ q = sym v.path_is ∙ ap (λ (l : LayoutRow). l.path) e ∙ w.path_is in
-          not_before_itself q (subst (λ (x : Path). path_before x q ≡ true) same before)
-
-      of_bus : (r s : LayoutRow) → r.pool ≡ s.pool → parent r.path ≡ parent s.path → IsTrue (same_pool r.pool s.pool && path_eq (parent r.path) (parent s.path))
-      of_bus r s e f = let x : same_pool r.pool s.pool ≡ true = ap (same_pool r.pool) (sym e) ∙ pool_self r.pool in let y : path_eq (parent r.path) (parent s.path) ≡ true = ap (path_eq (parent r.path)) (sym f) ∙ path_self (parent r.path) in rw (x, y)
-
-      bus_is : parent v.row.path ≡ parent w.row.path
-      bus_is = ap parent v.path_is ∙ bus ∙ sym (ap parent w.path_is)
-
-      by_pair : v.row.pool ≡ w.row.pool → (v.row ≡ w.row) ⊎ ((IsTrue (same_pool v.row.pool w.row.pool && path_eq (parent v.row.path) (parent w.row.path)) → AreApart v.row.first v.row.size w.row.first w.row.size) ⊎ (IsTrue (same_pool w.row.pool v.row.pool && path_eq (parent w.row.path) (parent v.row.path)) → AreApart w.row.first w.row.size v.row.first v.row.size)) → ⊥
-      by_pair e (inl f) = differ f
-      by_pair e (inr (inl f)) = not_apart v.row w.row n (f (of_bus v.row w.row e bus_is)) v.from v.below w.from w.below
-      by_pair e (inr (inr f)) = not_apart w.row v.row n (f (of_bus w.row v.row (sym e) (sym bus_is))) w.from w.below v.from v.below
-
-      by : (v.row.pool ≡ w.row.pool) ⊎ (((v.row.pool ≡ mem_pool) × (w.row.pool ≡ pref_pool)) ⊎ ((v.row.pool ≡ pref_pool) × (w.row.pool ≡ mem_pool))) → ⊥
-      by (inl e) = by_pair e (pair_in (λ (t u : LayoutRow). IsTrue (same_pool t.pool u.pool && path_eq (parent t.path) (parent u.path)) → AreApart t.first t.size u.first u.size) v.row w.row (layout b a) lawful.apart v.there w.there)
-      by (inr (inl e)) = mem_or_pref a.pref n v.row w.row apertures.pref (in_aperture v.row v.there mem_pool e.0) (in_aperture w.row w.there pref_pool e.1) v.from v.below w.from w.below
-      by (inr (inr e)) = mem_or_pref a.pref n w.row v.row apertures.pref (in_aperture w.row w.there mem_pool e.1) (in_aperture v.row v.there pref_pool e.0) w.from w.below v.from v.below
+  one_holds p q space n before bus v w = grind (arith, pools_same, not_before_itself, pool_self, path_self, not_apart, pair_in, mem_or_pref, each_in)
 
 -- ---- agents
 
 each_pool : (pool : Pool) → IsIn pool (io_pool ∷ mem_pool ∷ pref_pool ∷ [])
-each_pool io_pool = inl refl
-each_pool mem_pool = inr (inl refl)
-each_pool pref_pool = inr (inr (inl refl))
+each_pool pool = grind arith
 
 module _ (b : Board) (a : Apertures) (can : CanBePlaced b a) (lawful : IsLawful b a (layout b a)) (has : HasRows b a) (windows : Each (λ r. HasPlacedWindows b a r.path r.decl) b) where
   -- a placed region
@@ -152,8 +109,7 @@ module _ (b : Board) (a : Apertures) (can : CanBePlaced b a) (lawful : IsLawful 
           some_need (j, m) = omega (arith, some_end (unit_of pool) j (items_on b a pool p) (items_placeable b a pool can.declarations p) m, end_below_need (unit_of pool) (items_on b a pool p) (unit_positive pool))
 
   or_cases : (t u : Bool) → (t || u) ≡ true → (t ≡ true) ⊎ (u ≡ true)
-  or_cases true u h = inl refl
-  or_cases false u h = inr h
+  or_cases t u h = grind arith
 
   -- what a bridge forwards
   bridge_held : (p : Path) (d : Bridge) (space : Space) (n : ℕ) → IsIn (record { path = p; decl = bridge d }) b → row_forwards space n (row_of (left b a (record { path = p; decl = bridge d }))) ≡ true → HeldAt b a p space n
@@ -191,10 +147,7 @@ module _ (b : Board) (a : Apertures) (can : CanBePlaced b a) (lawful : IsLawful 
       here = row_of (left b a (record { path = p; decl = endpoint e }))
 
       of_region : (q : PlacedRegion) → x ≡ region_agent q → (g : Region) × IsIn g e.regions × (q ≡ placed b a p g) → (x.path ≡ p) × HeldAt b a p space n
-      of_region q is (g, there, same) =
-          let agent : x ≡ region_agent (placed b a p g) = is ∙ ap region_agent same in
-          let held : holds space n (placed b a p g) ≡ true = sym (region_answers space n (placed b a p g)) ∙ sym (ap (answers space n) agent) ∙ h in
-          (ap (λ (y : Agent). y.path) agent, region_held p e g space n m there held)
+      of_region q is (g, there, same) = grind (arith, region_answers, region_held)
 
       of_agent : (q : PlacedRegion) × IsIn q (open_of (row_of (left b a (record { path = p; decl = endpoint e })))) × (x ≡ region_agent q) → (x.path ≡ p) × HeldAt b a p space n
       of_agent (q, l, is) =

@@ -1,12 +1,11 @@
 -- What set-up leaves has no problem.
-use Rattle.std.proofs.Common.{◌≡◌, ℕ, ◌+◌, ◌-◌, ◌<◌, inl, inr, Bool, true, false, List, [], ◌∷◌, ◌++◌, refl, sym, ap, ◌∙◌, subst, arith}
+use Rattle.std.proofs.Common.{◌≡◌, ℕ, ◌+◌, ◌-◌, ◌<◌, Bool, true, false, List, [], ◌∷◌, ◌++◌, refl, sym, ap, ◌∙◌, subst, arith}
 use Rattle.std.specs.Prelude.{map, flat_map, IsTrue}
 use Rattle.lists.proofs.Members.{pairs_of_map, each_in, each_from, in_flat_map, from_flat_map, from_map, from_filter, pairs_weaker, pairs_flat_map}
 use Rattle.lists.specs.Elements.{Each, EachPair, IsIn}
-use Rattle.model_registers.specs.Decoding.{Space, io, memory, same_space, opens_space}
+use Rattle.model_registers.specs.Decoding.{io, memory, opens_space}
 use Rattle.model_registers.proofs.HitRegions.{space_same}
-use Rattle.model_set_up.specs.Extents.{AreApart}
-use Rattle.model_board.specs.Board.{Board, Row, Decl, endpoint, bridge}
+use Rattle.model_board.specs.Board.{Board, Row, Decl}
 use Rattle.model_board.specs.Paths.{Path, path_before, parent}
 use Rattle.model_board.specs.State.{BoardFunction}
 use Rattle.model_registers.specs.Apertures.{Apertures}
@@ -72,35 +71,13 @@ module _ (b : Board) (a : Apertures) (can : CanBePlaced b a) (lawful : IsLawful 
   -- ---- agents
 
   share_none : (q t : PlacedRegion) → ShareNone q t → AreAlone (region_agent q) (region_agent t)
-  share_none q t none bus space n h = by (answers space n (region_agent t)) refl
-    where
-      one : Holds space n q
-      one = holds_is space n q (sym (region_answers space n q) ∙ h)
-
-      both : (same_space q.space t.space ≡ true) → Holds space n t → ⊥
-      both s k = of (none s)
-        where
-          of : AreApart q.first q.size t.first t.size → ⊥
-          of (inl e) = omega (arith, one.below, k.from)
-          of (inr e) = omega (arith, one.from, k.below)
-
-      by : (u : Bool) → answers space n (region_agent t) ≡ u → u ≡ false
-      by false e = refl
-      by true e =
-          let k : Holds space n t = holds_is space n t (sym (region_answers space n t) ∙ e) in
-          absurd (both (subst (λ (z : Space). same_space q.space z ≡ true) (space_same q.space space one.space_is ∙ sym (space_same t.space space k.space_is)) (self_space q.space)) k)
+  share_none q t none bus space n h = grind (arith, holds_is, region_answers, space_same, self_space)
 
   io_or_memory : (r : RoutingRow) → AreAlone (bridge_agent r io) (bridge_agent r memory)
-  io_or_memory r bus io n h = refl
-  io_or_memory r bus memory n h = cc
+  io_or_memory r = grind arith
 
   one_function : (p : Path) (d : Decl) → IsIn (record { path = p; decl = d }) b → EachPair AreAlone (agents_of (row_of (left b a (record { path = p; decl = d }))))
-  one_function p (bridge d) m = ((io_or_memory (row_of (left b a (record { path = p; decl = bridge d }))), tt), (tt, tt))
-  one_function p (endpoint d) m =
-      let apart : EachPair ShareNone (placed_at b a (record { path = p; decl = endpoint d })) = pairs_of_part ShareNone (placed_at b a) (record { path = p; decl = endpoint d }) b unique.apart m in
-      let left_open : EachPair ShareNone (open_of (row_of (left b a (record { path = p; decl = endpoint d })))) = pairs_filter ShareNone (λ q. opens_space (row_of (left b a (record { path = p; decl = endpoint d }))).command q.space) (regions_of (row_of (left b a (record { path = p; decl = endpoint d })))) (subst (EachPair ShareNone) (sym (regions_placed b a can lawful has p (endpoint d) m)) apart) in
-      pairs_of_map AreAlone region_agent (open_of (row_of (left b a (record { path = p; decl = endpoint d }))))
-      (pairs_weaker ShareNone (λ q t. AreAlone (region_agent q) (region_agent t)) (open_of (row_of (left b a (record { path = p; decl = endpoint d })))) left_open (λ q t k l none. share_none q t none))
+  one_function p d m = grind (arith, io_or_memory, pairs_of_part, pairs_filter, regions_placed, pairs_of_map, pairs_weaker, share_none)
 
   two_functions : (r s : Row) → IsIn r b → IsIn s b → IsTrue (path_before r.path s.path) → (x y : Agent) → IsIn x (agents_of (row_of (left b a r))) → IsIn y (agents_of (row_of (left b a s))) → AreAlone x y
   two_functions r s m k before x y i j bus space n h = by (answers space n y) refl
