@@ -1,5 +1,5 @@
 -- One function of the board as it agrees with a guest's file, and after a change at a path.
-use Rattle.std.proofs.Common.{◌≡◌, true, false, cond, Some, None, Option}
+use Rattle.std.proofs.Common.{◌≡◌, true, false, cond, Option, arith}
 use Rattle.std.specs.Option.{option_map_or}
 use Rattle.model_registers.specs.Registers.{File}
 use Rattle.model_board.specs.Paths.{Path, path_eq}
@@ -16,5 +16,4 @@ pub changed_here : (change : File → File) (p : Path) (f : BoardFunction) → p
 changed_here change p f e = rw e
 
 pub unchanged : (change : File → File) (p : Path) (own : Option File) (f : BoardFunction) → path_eq f.path p ≡ false → changed_function change p (agreed_by own f) ≡ agreed_by own f
-unchanged change p None f e = rw e
-unchanged change p (Some own) f e = rw e
+unchanged change p own f e = grind arith

@@ -4,8 +4,8 @@ use Rattle.std.specs.Prelude.{IsFalse}
 use Rattle.std.specs.List.{list_any}
 use Rattle.std.proofs.lemmas.Bool.Decides.{nat_tests}
 use Rattle.lists.specs.Elements.{Each, EachPair}
-use Rattle.model_registers.specs.Cell.{Cell, no_cell, written, raised}
-use Rattle.model_registers.specs.Registers.{Place, config, block, place_eq, after, Entry, File, cell_at, changed, write, raise}
+use Rattle.model_registers.specs.Cell.{Cell, no_cell, written}
+use Rattle.model_registers.specs.Registers.{Place, place_eq, after, Entry, File, cell_at, changed, write}
 use Rattle.model_registers.proofs.RegisterFiles.{change_at_place, place_same, place_turned}
 use Rattle.model_registers.proofs.Owned.{raised_none, no_cell_stays}
 use Rattle.model_registers.specs.OwnCopies.{is_own, handed_on}
@@ -17,15 +17,7 @@ use Rattle.model_guests.specs.ChangeLaws.{WritesAlike, RaisesAlike}
 -- ---- places
 
 pub place_self : (p : Place) → place_eq p p ≡ true
-place_self (config a) = grind (arith, nat_tests)
-place_self (block n a) = grind (arith, nat_tests)
-
-other_place : (p q : Place) → is_own p ≡ true → is_own q ≡ false → place_eq p q ≡ false
-other_place p q h k = cases (place_eq p q) refl
-  where
-    cases : (t : Bool) → place_eq p q ≡ t → t ≡ false
-    cases false e = refl
-    cases true e = let same = ap is_own (place_same p q e) in cc
+place_self p = grind (arith, nat_tests)
 
 -- ---- what the agreed file holds
 
@@ -33,8 +25,7 @@ abbrev agreed_entry : File → Entry → Entry
 agreed_entry own e = cond (is_own e.place) e (record e { cell = cell_at own e.place })
 
 entry_place : (own : File) (e : Entry) (t : Bool) → is_own e.place ≡ t → (agreed_entry own e).place ≡ e.place
-entry_place own e true h = rw h
-entry_place own e false h = rw h
+entry_place own e t h = grind arith
 
 pub agreed_places : (left own : File) → places_of (agreed_file left own) ≡ places_of left
 agreed_places [] own = refl
@@ -47,9 +38,7 @@ agreed_kept (e ∷ es) own p h = cases (is_own e.place) refl (place_eq e.place p
   where
     cases : (t : Bool) → is_own e.place ≡ t → (u : Bool) → place_eq e.place p ≡ u → cell_at (agreed_file es own) p ≡ cell_at es p
         → cell_at (agreed_file (e ∷ es) own) p ≡ cell_at (e ∷ es) p
-    cases true i u k more = rw i (ap (λ (c : Cell). cond (place_eq e.place p) e.cell c) more)
-    cases false i true k more = let same = ap is_own (place_same e.place p k) in cc
-    cases false i false k more = rw (i, k) more
+    cases t i u k more = grind (arith, place_same)
 
 abbrev pub stands : Place → List Place → Bool
 stands p ps = list_any (λ q. place_eq q p) ps
@@ -76,18 +65,10 @@ agreed_where (e ∷ es) own p h = cases (is_own e.place) refl (place_eq e.place 
     cases false i false k more = rw (i, k) more
 
 pub agreed_common : (left own : File) (p : Place) → places_of own ≡ places_of left → is_own p ≡ false → cell_at (agreed_file left own) p ≡ cell_at own p
-agreed_common left own p same h = agreed_where left own p h ∙ cases (stands p (places_of left)) refl
-  where
-    cases : (t : Bool) → stands p (places_of left) ≡ t → cond t (cell_at own p) no_cell ≡ cell_at own p
-    cases true k = refl
-    cases false k = sym (absent own p (ap (stands p) same ∙ k))
+agreed_common left own p same h = grind (arith, agreed_where, absent)
 
 pub agreed_holds : (left own : File) → places_of own ≡ places_of left → HoldsFile left own (agreed_file left own)
-agreed_holds left own same = record {
-  places = agreed_places left own;
-  kept = λ p h. agreed_kept left own p h;
-  common = λ p h. agreed_common left own p same h;
-}
+agreed_holds left own same = grind (arith, agreed_places, agreed_kept, agreed_common)
 
 -- a guest reads there what it holds
 pub shows_file : ShowsFile
@@ -95,9 +76,7 @@ shows_file left own same p [] = refl
 shows_file left own same p (on ∷ ons) = ap₂ (λ (x y : ℕ). x + 256 * y) (cases on (is_own p) refl) (shows_file left own same (after p) ons)
   where
     cases : (on t : Bool) → is_own p ≡ t → cond (on && not t) (cell_at (agreed_file left own) p).value 0 ≡ cond (on && not t) (cell_at own p).value 0
-    cases false t h = refl
-    cases true true h = refl
-    cases true false h = ap (λ c. c.value) (agreed_common left own p same h)
+    cases on t h = grind (arith, agreed_common)
 
 -- ---- no other file holds that
 
@@ -134,9 +113,7 @@ only_file left own now distinct holds =
     (each_of (λ p. cell_at now p ≡ cell_at (agreed_file left own) p) (λ p. cases p (is_own p) refl (stands p (places_of left)) refl) (places_of now))
   where
     cases : (p : Place) (t : Bool) → is_own p ≡ t → (u : Bool) → stands p (places_of left) ≡ u → cell_at now p ≡ cell_at (agreed_file left own) p
-    cases p true h u k = holds.kept p h ∙ sym (agreed_kept left own p h)
-    cases p false h true k = holds.common p h ∙ sym (agreed_where left own p h ∙ ap (λ t. cond t (cell_at own p) no_cell) k)
-    cases p false h false k = absent now p (ap (stands p) holds.places ∙ k) ∙ sym (agreed_where left own p h ∙ ap (λ t. cond t (cell_at own p) no_cell) k)
+    cases p t h u k = grind (arith, agreed_kept, agreed_where, absent)
 
 -- ---- changes
 
@@ -144,10 +121,7 @@ only_file left own now distinct holds =
 own_entry : (f : Cell → Cell) → f no_cell ≡ no_cell → (p : Place) → is_own p ≡ true → (own : File) (e : Entry) (t : Bool) → is_own e.place ≡ t
     → agreed_entry (changed f p own) e ≡ agreed_entry own e
 own_entry f none p h own e true i = rw i
-own_entry f none p h own e false i =
-    let apart : place_eq p e.place ≡ false = other_place p e.place h i in
-    let cell : cell_at (changed f p own) e.place ≡ cell_at own e.place = change_at_place f none own p e.place ∙ ap (λ t. cond t (f (cell_at own e.place)) (cell_at own e.place)) apart in
-    rw (i, cell)
+own_entry f none p h own e false i = grind (arith, change_at_place, place_same)
 
 pub own_change : (f : Cell → Cell) → f no_cell ≡ no_cell → (p : Place) → is_own p ≡ true → (left own : File) → agreed_file left (changed f p own) ≡ agreed_file left own
 own_change f none p h [] own = refl
@@ -158,16 +132,7 @@ changed_entry f p e = cond (place_eq e.place p) (record e { cell = f e.cell }) e
 
 board_entry : (f : Cell → Cell) → f no_cell ≡ no_cell → (p : Place) → is_own p ≡ false → (own : File) (e : Entry) (t : Bool) → is_own e.place ≡ t → (u : Bool) → place_eq e.place p ≡ u
     → agreed_entry (changed f p own) e ≡ changed_entry f p (agreed_entry own e)
-board_entry f none p h own e true i true k = let same = ap is_own (place_same e.place p k) in cc
-board_entry f none p h own e true i false k = rw (i, k)
-board_entry f none p h own e false i u k =
-    let turned : place_eq p e.place ≡ u = place_turned p e.place ∙ k in
-    let cell : cell_at (changed f p own) e.place ≡ cond u (f (cell_at own e.place)) (cell_at own e.place) = change_at_place f none own p e.place ∙ ap (λ t. cond t (f (cell_at own e.place)) (cell_at own e.place)) turned in
-    rw (i, cell, k) (by_test u)
-  where
-    by_test : (t : Bool) → record e { cell = cond t (f (cell_at own e.place)) (cell_at own e.place) } ≡ cond t (record e { cell = f (cell_at own e.place) }) (record e { cell = cell_at own e.place })
-    by_test true = refl
-    by_test false = refl
+board_entry f none p h own e t i u k = grind (arith, place_same, place_turned, change_at_place)
 
 pub board_change : (f : Cell → Cell) → f no_cell ≡ no_cell → (p : Place) → is_own p ≡ false → (left own : File) → agreed_file left (changed f p own) ≡ changed f p (agreed_file left own)
 board_change f none p h [] own = refl
@@ -182,13 +147,7 @@ writes_alike (on ∷ ons) v p left own =
   where
     first : (on t : Bool) → is_own p ≡ t
         → agreed_file left (cond on (changed (written (v % 256)) p own) own) ≡ cond (on && not t) (changed (written (v % 256)) p (agreed_file left own)) (agreed_file left own)
-    first false t h = refl
-    first true true h = own_change (written (v % 256)) (no_cell_stays (v % 256)) p h left own
-    first true false h = board_change (written (v % 256)) (no_cell_stays (v % 256)) p h left own
+    first on t h = grind (arith, own_change, no_cell_stays, board_change)
 
 pub raises_alike : RaisesAlike
-raises_alike m p left own = cases (is_own p) refl
-  where
-    cases : (t : Bool) → is_own p ≡ t → agreed_file left (raise m p own) ≡ cond t (agreed_file left own) (raise m p (agreed_file left own))
-    cases true h = own_change (raised m) (raised_none m) p h left own
-    cases false h = board_change (raised m) (raised_none m) p h left own
+raises_alike m p left own = grind (arith, own_change, raised_none, board_change)

@@ -1,13 +1,11 @@
 -- Along a script guests stay seated and keep their names, and the handoff stays.
-use Rattle.std.proofs.Common.{◌≡◌, ℕ, zero, suc, Bool, true, false, cond, List, [], ◌∷◌, Some, None, Option, refl, ap, ap₂, ◌∙◌, subst}
-use Rattle.std.specs.Prelude.{map, slice_set, is_some, IsFalse}
+use Rattle.std.proofs.Common.{◌≡◌, ℕ, zero, suc, false, cond, List, [], ◌∷◌, Some, refl, ap, ap₂, ◌∙◌, subst, arith}
+use Rattle.std.specs.Prelude.{map, slice_set, IsFalse}
 use Rattle.std.specs.Str.{bytes_eq}
-use Rattle.model_registers.specs.Decoding.{Function}
-use Rattle.model_board.specs.Paths.{Path}
 use Rattle.model_board.specs.Board.{Board}
 use Rattle.model_guests.specs.Text.{Text}
 use Rattle.model_guests.specs.World.{Guest, World, names}
-use Rattle.model_guests.specs.Guests.{GuestNow, GuestsNow, Move, function_in, guest_after, guest_at_first, guests_at_first, guest_named, handed_over, move_fault, path_in, with_guest, with_slot_emptied, with_slot_filled}
+use Rattle.model_guests.specs.Guests.{GuestNow, GuestsNow, guest_after, guest_at_first, guests_at_first, guest_named, with_guest}
 use Rattle.model_guests.specs.Lines.{Meaning, nothing, guest_event, host_read, host_move, bad, meaning}
 use Rattle.model_guests.specs.WorldNow.{WorldNow, world_over, names_of, names_now, guests_after, after_line, after_lines}
 use Rattle.model_guests.specs.Seated.{AreSeated, ByIndex, SeatedAlong}
@@ -21,11 +19,7 @@ use Rattle.model_guests.proofs.SeatedMoves.{seated_after_moves}
 use Rattle.model_guests.proofs.FoundFiles.{others_stay}
 
 pub seated_meaning : (b : Board) (gs : GuestsNow) (m : Meaning) → AreSeated b gs → AreSeated b (guests_after gs m)
-seated_meaning b gs nothing h = h
-seated_meaning b gs (guest_event name e) h = seated_after_events b gs h name e
-seated_meaning b gs (host_read r) h = h
-seated_meaning b gs (host_move m) h = seated_after_moves b gs h m
-seated_meaning b gs (bad who n) h = h
+seated_meaning b gs m h = grind (arith, seated_after_events, seated_after_moves)
 
 pub seated_along : SeatedAlong
 seated_along b w h [] = h
@@ -41,21 +35,11 @@ pub names_with : (f : GuestNow → GuestNow) → Keeps f → (n : Text) (gs : Gu
 names_with f keeps n [] = refl
 names_with f keeps n (g ∷ gs) = ap₂ (λ (x : Text) (xs : List Text). x ∷ xs) (one_name f keeps n g) (names_with f keeps n gs)
 
-names_handed : (m : Move) (p : Option Path) (o : Option Function) (gs : GuestsNow) → names_of (handed_over m p o gs) ≡ names_of gs
-names_handed m p None gs = refl
-names_handed m p (Some f) gs =
-    names_with (with_slot_filled m.target p f.decl) (λ g. refl) m.to (with_guest (with_slot_emptied m.slot) m.from gs)
-    ∙ names_with (with_slot_emptied m.slot) (λ g. refl) m.from gs
-
 pub names_meaning : (gs : GuestsNow) (m : Meaning) → names_of (guests_after gs m) ≡ names_of gs
 names_meaning gs nothing = refl
 names_meaning gs (guest_event name e) = names_with (guest_after e) (λ g. refl) name gs
 names_meaning gs (host_read r) = refl
-names_meaning gs (host_move m) = cases (is_some (move_fault gs m))
-  where
-    cases : (t : Bool) → names_of (cond t gs (handed_over m (path_in gs m.from m.slot) (function_in gs m.from m.slot) gs)) ≡ names_of gs
-    cases true = refl
-    cases false = names_handed m (path_in gs m.from m.slot) (function_in gs m.from m.slot) gs
+names_meaning gs (host_move m) = grind (arith, names_with)
 names_meaning gs (bad who n) = refl
 
 pub names_stay : NamesStay

@@ -1,6 +1,6 @@
 -- A change of one guest's function changes the board there, and nowhere else.
-use Rattle.std.proofs.Common.{◌≡◌, ℕ, Bool, true, false, cond, List, [], ◌∷◌, Some, None, Option, refl, sym, ap, ap₂, ◌∙◌}
-use Rattle.std.specs.Prelude.{map, option_map, IsFalse}
+use Rattle.std.proofs.Common.{◌≡◌, ℕ, Bool, true, false, cond, List, [], ◌∷◌, Some, Option, refl, sym, ap, ap₂, ◌∙◌, arith}
+use Rattle.std.specs.Prelude.{map, IsFalse}
 use Rattle.std.specs.Str.{bytes_eq}
 use Rattle.lists.specs.Elements.{first_of_two}
 use Rattle.model_board.proofs.PlacesLaw.{apart_turn}
@@ -13,17 +13,16 @@ use Rattle.model_board.specs.Board.{Board}
 use Rattle.model_board.specs.AtReset.{board_at}
 use Rattle.model_board.specs.State.{BoardFunction, State}
 use Rattle.model_board.proofs.PathOrder.{path_same}
-use Rattle.model_guests.specs.Slots.{Slots, slot_at, with_file}
 use Rattle.model_guests.specs.Text.{Text}
-use Rattle.model_guests.specs.Guests.{GuestNow, GuestsNow, file_in, file_of, function_in, guest_named, path_in, with_guest}
+use Rattle.model_guests.specs.Guests.{GuestsNow, file_in, file_of, function_in, guest_named, path_in, with_guest}
 use Rattle.model_registers.specs.CopiedFiles.{agreed_file}
 use Rattle.model_guests.specs.AgreedBoard.{agreed_function, state_over, with_change_at, with_files}
-use Rattle.model_guests.specs.Seated.{AreSeated, IsSeat, IsSeatedGuest}
+use Rattle.model_guests.specs.Seated.{AreSeated, IsSeat}
 use Rattle.model_guests.specs.ChangeLaws.{ChangesAlike, ChangesOneFunction, LatchKeepsBoard, OneFile, ResetsAlike, with_slot_changed, with_latch}
 use Rattle.model_guests.proofs.AgreedChanges.{changed_function, agreed_by, changed_here, unchanged}
 use Rattle.model_guests.proofs.GuestFiles.{slot_set, with_file_there}
 use Rattle.model_guests.proofs.Names.{same_text}
-use Rattle.model_guests.proofs.GuestsByName.{path_at, one, named_with, found, path_of, function_of, function_named}
+use Rattle.model_guests.proofs.GuestsByName.{named_with, found, function_of, function_named}
 use Rattle.model_guests.proofs.Seats.{paths_stay}
 use Rattle.model_guests.proofs.SeatedMoves.{seat_in}
 use Rattle.model_guests.proofs.FoundFiles.{file_beside, file_found, file_stays, NamesApart, PathsApart}
@@ -33,14 +32,7 @@ use Rattle.model_guests.proofs.FoundFiles.{file_beside, file_found, file_stays, 
 module _ (own_change board_change : File → File) (own : File) (alike : (left : File) → agreed_file left (own_change own) ≡ board_change (agreed_file left own)) (old new : Path → Option File) (p : Path)
     (before : old p ≡ Some own) (after : new p ≡ Some (own_change own)) (others : (q : Path) → IsFalse (path_eq p q) → new q ≡ old q) where
   function_changes : (f : BoardFunction) → agreed_function new f ≡ changed_function board_change p (agreed_function old f)
-  function_changes f = cases (path_eq f.path p) refl
-    where
-      cases : (t : Bool) → path_eq f.path p ≡ t → agreed_function new f ≡ changed_function board_change p (agreed_function old f)
-      cases true e =
-          let same : f.path ≡ p = path_same f.path p e in
-          ap (λ (o : Option File). agreed_by o f) (ap new same ∙ after) ∙ ap (λ (file : File). record f { file = file }) (alike f.file)
-          ∙ sym (ap (λ (o : Option File). changed_function board_change p (agreed_by o f)) (ap old same ∙ before) ∙ changed_here board_change p (agreed_by (Some own) f) e)
-      cases false e = ap (λ (o : Option File). agreed_by o f) (others f.path (apart_turn f.path p e)) ∙ sym (unchanged board_change p (old f.path) f e)
+  function_changes f = grind (arith, path_same, changed_here, apart_turn, unchanged)
 
   functions_change : (fs : List BoardFunction) → map (agreed_function new) fs ≡ map (changed_function board_change p) (map (agreed_function old) fs)
   functions_change [] = refl
@@ -75,15 +67,7 @@ module _ (b : Board) (s : GuestsNow) (seated : AreSeated b s) (name : Text) (n :
   changed_file = record f { file = change f.file }
 
   found_changed : function_of (guest_named new_guests name) n ≡ Some changed_file
-  found_changed = ap (λ (o : Option GuestNow). function_of o n) (named_with (with_slot_changed change n) (λ t. refl) name name s) ∙ cases (guest_named s name) refl found_there
-    where
-      cases : (o : Option GuestNow) → guest_named s name ≡ o → function_of o n ≡ Some f → function_of (option_map (one (with_slot_changed change n) name) o) n ≡ Some changed_file
-      cases None e h = cc
-      cases (Some t) e h =
-          let is : t.name ≡ name = (found (IsSeatedGuest b) s name t seated.guests e).name_is in
-          let here : bytes_eq name t.name ≡ true = ap (bytes_eq name) is ∙ same_text name in
-          ap (λ v. slot_at (cond v (with_slot_changed change n t) t).lone.slots n) here
-          ∙ ap (λ (x : Slots). slot_at x n) (with_file_there change n t.lone.slots f h) ∙ slot_set t.lone.slots n f changed_file h
+  found_changed = grind (arith, named_with, found_there, found, same_text, with_file_there, slot_set)
 
   pub file_after : file_of new_guests p ≡ Some (change f.file)
   file_after = file_found new_guests names apart name n p changed_file (paths_stay (with_slot_changed change n) (λ t. refl) (λ t. refl) name name n s ∙ at) found_changed
@@ -96,14 +80,7 @@ module _ (b : Board) (s : GuestsNow) (seated : AreSeated b s) (name : Text) (n :
           seated.paths_apart a c k m q (sym (paths_stay (with_slot_changed change n) (λ t. refl) (λ t. refl) name a k s) ∙ h) (sym (paths_stay (with_slot_changed change n) (λ t. refl) (λ t. refl) name c m s) ∙ i)
 
   pub file_others : (q : Path) → IsFalse (path_eq p q) → file_of new_guests q ≡ file_of s q
-  file_others q other = file_stays (with_slot_changed change n) name q s seated.names_apart (λ t e. cases t e)
-    where
-      cases : (t : GuestNow) → guest_named s name ≡ Some t → file_in t.paths (with_file change n t.lone.slots) q ≡ file_in t.paths t.lone.slots q
-      cases t e =
-          let h : slot_at t.lone.slots n ≡ Some f = sym (ap (λ (o : Option GuestNow). function_of o n) e) ∙ found_there in
-          let here : path_at t.paths n ≡ Some p = sym (ap (λ (o : Option GuestNow). path_of o n) e) ∙ at in
-          ap (λ (x : Slots). file_in t.paths x q) (with_file_there change n t.lone.slots f h)
-          ∙ file_beside t.paths t.lone.slots n (Some changed_file) q (λ r i. let same : r ≡ p = cc in ap (λ (x : Path). path_eq x q) same ∙ other)
+  file_others q other = grind (arith, file_stays, found_there, with_file_there, file_beside)
 
 -- whatever board the guests are seated on
 pub changes_slot : (b : Board) (s : State) (gs : GuestsNow) → AreSeated b gs → (name : Text) (n : ℕ) (p : Path) (f : Function) → path_in gs name n ≡ Some p → function_in gs name n ≡ Some f
@@ -118,9 +95,7 @@ there_in : (b : Board) (gs : GuestsNow) → AreSeated b gs → (name : Text) (n 
 there_in b gs seated name n p at = cases (path_in gs name n) at (function_in gs name n) refl (seat_in b gs seated.guests name n)
   where
     cases : (q : Option Path) → q ≡ Some p → (o : Option Function) → function_in gs name n ≡ o → IsSeat b q o → (f : Function) × (function_in gs name n ≡ Some f)
-    cases None e o i h = cc
-    cases (Some r) e None i h = absurd h
-    cases (Some r) e (Some f) i h = (f, i)
+    cases q e o i h = grind arith
 
 pub changes_one_function : ChangesOneFunction
 changes_one_function s gs seated name n p at own_change board_change alike =
@@ -147,8 +122,7 @@ abbrev agreed_entry : File → Entry → Entry
 agreed_entry file e = cond (is_own e.place) e (record e { cell = cell_at file e.place })
 
 entry_twice : (own file : File) (e : Entry) (t : Bool) → is_own e.place ≡ t → agreed_entry file e ≡ agreed_entry file (agreed_entry own e)
-entry_twice own file e true h = rw (h, h)
-entry_twice own file e false h = rw (h, h)
+entry_twice own file e t h = grind arith
 
 pub agreed_twice : (left own file : File) → agreed_file left file ≡ agreed_file (agreed_file left own) file
 agreed_twice [] own file = refl

@@ -1,7 +1,6 @@
 -- A guest's copies have no bits that a device raises, at reset.
-use Rattle.std.proofs.Common.{◌≡◌, ℕ, zero, suc, ◌+◌, ◌*◌, ◌/◌, ◌≤◌, Bool, true, false, not, ◌||◌, cond, List, [], ◌∷◌, Some, None, refl, ap, ap₂, ◌∙◌, arith, eqb}
+use Rattle.std.proofs.Common.{◌≡◌, ℕ, zero, suc, ◌+◌, ◌/◌, ◌≤◌, Bool, true, false, not, ◌||◌, cond, List, [], ◌∷◌, Some, None, refl, ap, ap₂, ◌∙◌, arith, eqb}
 use Rattle.std.specs.Prelude.{flat_map, find, ⊤, MatchOption, bit_and, bit_or}
-use Rattle.std.specs.List.{list_all}
 use Rattle.std.specs.Option.{option_map_or}
 use Rattle.std.specs.Int.Bits.{or_zero_r, and_zero_r}
 use Rattle.std.proofs.lemmas.Bool.{eqb-true}
@@ -9,12 +8,12 @@ use Rattle.std.proofs.lemmas.Bool.Decides.{nat_tests}
 use Rattle.model_registers.specs.Cell.{Cell, raised}
 use Rattle.lists.specs.Elements.{Each}
 use Rattle.model_registers.specs.Registers.{Place, config, block, place_eq, Entry, File, raise, field, cells_from}
-use Rattle.model_registers.specs.Declarations.{Kind, io_kind, mem32, mem64, Region, ConfigBlock, Endpoint}
+use Rattle.model_registers.specs.Declarations.{Kind, Region, ConfigBlock, Endpoint}
 use Rattle.model_registers.specs.DeclarationRules.{IsLawfulEndpoint}
 use Rattle.model_registers.specs.EndpointTable.{base_cells, region_cells, block_cells, header_cells, config_cells, endpoint_reset}
 use Rattle.lists.proofs.Tests.{left_true, right_true}
 use Rattle.model_board.specs.Paths.{Path, path_eq}
-use Rattle.model_board.specs.Board.{Decl, endpoint, bridge, Board}
+use Rattle.model_board.specs.Board.{Board}
 use Rattle.model_board.specs.Lawful.{IsLawfulDecl}
 use Rattle.model_registers.specs.OwnCopies.{is_own}
 use Rattle.model_guests.specs.World.{endpoint_of, declared}
@@ -47,12 +46,8 @@ not_raised m p own (e ∷ es) low = ap₂ (λ (x : Entry) (xs : File). x ∷ xs)
 
 -- ---- files at reset
 
-from_test : (file : File) → list_all stays_low file ≡ true → StaysLow file
-from_test [] h = tt
-from_test (e ∷ es) h = (left_true (stays_low e) (list_all stays_low es) h, from_test es (right_true (stays_low e) (list_all stays_low es) h))
-
 header_low : (d : Endpoint) → StaysLow (header_cells d false 0)
-header_low d = from_test (header_cells d false 0) refl
+header_low d = grind (arith, left_true, right_true)
 
 not_own : (a : ℕ) → 0x40 ≤ a → is_own (config a) ≡ false
 not_own a h = grind (arith, nat_tests)
@@ -66,17 +61,14 @@ blocks_low [] h = tt
 blocks_low (b ∷ bs) h = each_append (λ e. stays_low e ≡ true) (block_cells b) (flat_map block_cells bs) (cells_low b.offset b.cells h.0) (blocks_low bs h.1)
 
 either : (t : Bool) → (t || true) ≡ true
-either true = refl
-either false = refl
+either t = grind arith
 
 registers_low : (w a v m : ℕ) → StaysLow (field (config a) w v m 0)
 registers_low zero a v m = tt
 registers_low (suc w) a v m = (either (not (is_own (config a))), registers_low w (a + 1) (v / 256) (m / 256))
 
 bases_low : (n : ℕ) (kind : Kind) (size : ℕ) → StaysLow (base_cells n kind size 0)
-bases_low n io_kind size = registers_low 4 (0x10 + 4 * n) 0 0
-bases_low n (mem32 pref) size = registers_low 4 (0x10 + 4 * n) 0 0
-bases_low n (mem64 pref) size = registers_low 8 (0x10 + 4 * n) 0 0
+bases_low n kind size = grind (arith, registers_low)
 
 region_block_low : (n a : ℕ) (cs : List Cell) → StaysLow (cells_from (block n a) cs)
 region_block_low n a [] = tt
@@ -99,10 +91,6 @@ pub declared_lawful : (b : Board) → Each (λ r. IsLawfulDecl r.decl) b → (p 
 declared_lawful [] lawful p = tt
 declared_lawful (r ∷ rs) lawful p = cases (path_eq r.path p) (declared_lawful rs lawful.1 p)
   where
-    of_decl : (decl : Decl) → IsLawfulDecl decl → MatchOption (endpoint_of (record { path = r.path; decl = decl })) ⊤ IsLawfulEndpoint
-    of_decl (endpoint d) h = h
-    of_decl (bridge d) h = tt
-
     cases : (t : Bool) → MatchOption (declared rs p) ⊤ IsLawfulEndpoint → MatchOption (option_map_or endpoint_of (cond t (Some r) (find (λ s. path_eq s.path p) rs)) None) ⊤ IsLawfulEndpoint
-    cases true more = of_decl r.decl lawful.0
+    cases true more = grind arith
     cases false more = more

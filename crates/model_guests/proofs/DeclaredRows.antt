@@ -1,11 +1,11 @@
 -- The rows of a board by their paths.
-use Rattle.std.proofs.Common.{◌≡◌, Bool, true, false, cond, [], ◌∷◌, Some, None, inl, inr, refl, sym, ap, ◌∙◌}
+use Rattle.std.proofs.Common.{◌≡◌, Bool, true, false, cond, [], ◌∷◌, Some, None, inl, inr, refl, arith}
 use Rattle.std.specs.Prelude.{find, IsTrue}
 use Rattle.std.specs.Option.{option_map_or}
 use Rattle.lists.specs.Elements.{Each, EachPair, IsIn}
 use Rattle.model_registers.specs.Declarations.{Endpoint}
 use Rattle.model_board.specs.Paths.{Path, path_eq, path_before}
-use Rattle.model_board.specs.Board.{Decl, endpoint, bridge, Row, Board}
+use Rattle.model_board.specs.Board.{Decl, endpoint, Row, Board}
 use Rattle.model_board.proofs.PathEnds.{path_self}
 use Rattle.model_board.proofs.PathOrder.{path_same}
 use Rattle.model_board.proofs.PlacesLaw.{before_apart}
@@ -32,10 +32,7 @@ declared_row [] p d h = cc
 declared_row (r ∷ rs) p d h = cases (path_eq r.path p) refl h (declared_row rs p d)
   where
     here : (decl : Decl) → r.decl ≡ decl → endpoint_of r ≡ Some d → r.path ≡ p → endpoint_row p d ≡ r
-    here (endpoint c) e h same =
-        let is : c ≡ d = cc (sym (ap (λ (x : Decl). endpoint_of (record r { decl = x })) e) ∙ h) in
-        λ i. record { path = sym same i; decl = sym (e ∙ ap endpoint is) i }
-    here (bridge c) e h same = cc (sym (ap (λ (x : Decl). endpoint_of (record r { decl = x })) e) ∙ h)
+    here decl e h same = grind arith
 
     cases : (t : Bool) → path_eq r.path p ≡ t → option_map_or endpoint_of (cond t (Some r) (find (λ (x : Row). path_eq x.path p) rs)) None ≡ Some d
         → (declared rs p ≡ Some d → IsIn (endpoint_row p d) rs) → IsIn (endpoint_row p d) (r ∷ rs)

@@ -1,13 +1,13 @@
 -- No place of an endpoint's file stands twice: registers and blocks are runs of places, and no two runs meet.
-use Rattle.std.proofs.Common.{◌≡◌, ℕ, zero, suc, ◌+◌, ◌*◌, ◌≤◌, ◌<◌, ◌⊎◌, inl, inr, Bool, true, false, ◌||◌, List, [], ◌∷◌, ◌++◌, length, refl, sym, ap, ap₂, ◌∙◌, subst, arith, eqb, leb}
-use Rattle.std.specs.Prelude.{flat_map, IsTrue, IsFalse}
+use Rattle.std.proofs.Common.{◌≡◌, ℕ, zero, suc, ◌+◌, ◌*◌, ◌≤◌, ◌<◌, ◌⊎◌, inl, inr, Bool, false, List, [], ◌∷◌, ◌++◌, length, refl, sym, ap, ap₂, ◌∙◌, subst, arith, eqb}
+use Rattle.std.specs.Prelude.{flat_map, IsFalse}
 use Rattle.std.proofs.lemmas.Bool.{leb-true}
 use Rattle.std.proofs.lemmas.Bool.Decides.{nat_tests}
 use Rattle.model_registers.specs.Cell.{Cell}
 use Rattle.lists.specs.Elements.{Each, EachPair}
 use Rattle.model_registers.specs.Registers.{Place, config, block, place_eq, after, File, cells_from}
-use Rattle.model_registers.specs.Declarations.{Kind, io_kind, mem32, mem64, registers_of, Region, ConfigBlock, Endpoint, IsLawfulRegion, HasLawfulRegions}
-use Rattle.model_registers.specs.DeclarationRules.{blocks_apart, IsConfigBlock, IsLawfulEndpoint}
+use Rattle.model_registers.specs.Declarations.{Kind, registers_of, Region, ConfigBlock, Endpoint, IsLawfulRegion, HasLawfulRegions}
+use Rattle.model_registers.specs.DeclarationRules.{IsConfigBlock, IsLawfulEndpoint}
 use Rattle.model_registers.specs.EndpointTable.{base_register, base_cells, region_cells, block_cells, header_cells, config_cells, endpoint_file}
 use Rattle.lists.proofs.EachLemmas.{each_map, pairs_map, each_append}
 use Rattle.model_registers.proofs.Bases.{registers_positive}
@@ -23,23 +23,11 @@ record HasLawfulPlaces (d : Endpoint) : Type 0 where
   blocks : Each (λ b. 0x40 ≤ b.offset) d.blocks
   blocks_apart : EachPair BlocksApart d.blocks
 
-by_test : (b c : ConfigBlock) → IsTrue (blocks_apart b c) → BlocksApart b c
-by_test b c h = cases (leb (b.offset + length b.cells) c.offset) (leb (c.offset + length c.cells) b.offset) refl refl h
-  where
-    cases : (s t : Bool) → leb (b.offset + length b.cells) c.offset ≡ s → leb (c.offset + length c.cells) b.offset ≡ t → (s || t) ≡ true → BlocksApart b c
-    cases true t e f h = inl (leb-true (b.offset + length b.cells) c.offset e)
-    cases false true e f h = inr (leb-true (c.offset + length c.cells) b.offset f)
-    cases false false e f h = cc
-
 pub own_blocks : (d : Endpoint) → IsLawfulEndpoint d → Each (λ b. 0x40 ≤ b.offset) d.blocks
 own_blocks d lawful = each_map IsConfigBlock (λ b. 0x40 ≤ b.offset) d.blocks (λ b h. h.begins) lawful.config_blocks
 
 lawful_places : (d : Endpoint) → IsLawfulEndpoint d → HasLawfulPlaces d
-lawful_places d lawful = record {
-  regions = lawful.regions;
-  blocks = own_blocks d lawful;
-  blocks_apart = pairs_map (λ b c. IsTrue (blocks_apart b c)) BlocksApart d.blocks by_test lawful.blocks_apart;
-}
+lawful_places d lawful = grind (arith, own_blocks, pairs_map, leb-true)
 
 -- ---- runs of places
 
@@ -170,9 +158,7 @@ header_places : (d : Endpoint) (multifunction : Bool) (command : ℕ) → places
 header_places d multifunction command = refl
 
 base_places : (n : ℕ) (kind : Kind) (size base : ℕ) → places_of (base_cells n kind size base) ≡ run (base_register n) (4 * registers_of kind)
-base_places n io_kind size base = refl
-base_places n (mem32 pref) size base = refl
-base_places n (mem64 pref) size base = refl
+base_places n kind size base = grind arith
 
 blocks_places : (bs : List ConfigBlock) → places_of (flat_map block_cells bs) ≡ flat_map block_run_of bs
 blocks_places [] = refl

@@ -1,33 +1,28 @@
 -- What an event of a guest does to the board.
-use Rattle.std.proofs.Common.{◌≡◌, ℕ, Bool, true, false, cond, [], Some, None, Option, refl, sym, ap, ◌∙◌, subst}
-use Rattle.std.specs.Prelude.{is_some, option_map, slice_set}
+use Rattle.std.proofs.Common.{◌≡◌, ℕ, [], Some, None, Option, refl, sym, ap, ◌∙◌, subst, arith}
+use Rattle.std.specs.Prelude.{slice_set}
 use Rattle.std.specs.Option.{option_map_or}
-use Rattle.model_registers.specs.Registers.{Place, File, raise, all_bytes}
+use Rattle.model_registers.specs.Registers.{Place, File}
 use Rattle.model_registers.specs.Decoding.{Function}
-use Rattle.model_registers.specs.CopiedFiles.{agreed_file}
 use Rattle.model_board.specs.Paths.{Path}
 use Rattle.model_board.specs.Board.{Board}
 use Rattle.model_board.specs.AtReset.{board_at}
 use Rattle.model_board.specs.State.{State}
-use Rattle.model_guests.specs.Accesses.{Event, Op, access, raises, reads, writes}
-use Rattle.model_guests.specs.Slots.{Landing, Slots, effect, event_fault, landing, raise_landing, slot_at, with_file}
-use Rattle.model_guests.specs.Lone.{Destination, LoneGuest, after_access_at, after_event, at_target, changed_by, destination, no_function, own_latch, reset_guest}
+use Rattle.model_guests.specs.Accesses.{Event, Op, access, raises}
+use Rattle.model_guests.specs.Slots.{Landing, Slots, slot_at, with_file}
+use Rattle.model_guests.specs.Lone.{Destination, LoneGuest, after_access_at, after_event, reset_guest}
 use Rattle.model_guests.specs.Text.{Text}
 use Rattle.model_guests.specs.Guests.{GuestNow, GuestsNow, file_in, function_in, guest_after, guest_named, lone_of, path_in, with_guest}
 use Rattle.model_guests.specs.AgreedBoard.{state_over, with_change_at}
 use Rattle.model_guests.specs.Seated.{AreSeated, IsSeat}
-use Rattle.model_guests.specs.ChangeLaws.{ChangesAlike, EventReachesBoard, board_after, board_effect, board_write, landing_at, landing_of, lands, own_effect, own_write, with_slot_changed}
+use Rattle.model_guests.specs.ChangeLaws.{ChangesAlike, EventReachesBoard, board_after, board_effect, landing_at, lands, own_effect, own_write, with_slot_changed}
 use Rattle.model_guests.proofs.AgreedFiles.{writes_alike, raises_alike}
 use Rattle.model_guests.proofs.SeatedMoves.{seat_in}
 use Rattle.model_guests.proofs.FoundFiles.{file_stays, file_alike}
 use Rattle.model_guests.proofs.Changes.{changes_one_function, same_files_over}
 
 part_alike : (e : Event) (p : Place) → ChangesAlike (own_effect e p) (board_effect e p)
-part_alike (access a) p left own = of_op a.op
-  where
-    of_op : (op : Op) → agreed_file left (own_write op a.width p own) ≡ board_write op a.width p (agreed_file left own)
-    of_op reads = refl
-    of_op (writes v) = writes_alike (all_bytes a.width) v p left own
+part_alike (access a) p left own = grind (arith, writes_alike)
 part_alike (raises r) p left own = raises_alike r.mask p left own
 
 -- ---- the slots after an event
@@ -36,30 +31,10 @@ abbrev after_landing : Event → Slots → Option Landing → Slots
 after_landing e slots o = option_map_or (λ (l : Landing). with_file (own_effect e l.place) l.slot slots) o slots
 
 target_slots : (g : LoneGuest) (op : Op) (w : ℕ) (d : Destination) → (after_access_at g op w d).slots ≡ option_map_or (λ (l : Landing). with_file (own_write op w l.place) l.slot g.slots) (landing_at g op d) g.slots
-target_slots g reads w d = refl
-target_slots g (writes v) w own_latch = refl
-target_slots g (writes v) w no_function = refl
-target_slots g (writes v) w (at_target t) = cases (landing g.slots t)
-  where
-    cases : (o : Option Landing) → effect (writes v) w g.slots o ≡ option_map_or (λ (l : Landing). with_file (own_write (writes v) w l.place) l.slot g.slots) o g.slots
-    cases None = refl
-    cases (Some l) = refl
-
-changed_slots : (g : LoneGuest) (e : Event) → (changed_by g e).slots ≡ after_landing e g.slots (landing_of g e)
-changed_slots g (access a) = target_slots g a.op a.width (destination g.latch a.width a.target)
-changed_slots g (raises r) = cases (raise_landing (slot_at g.slots r.slot) r)
-  where
-    cases : (o : Option Place) → option_map_or (λ (p : Place). with_file (raise r.mask p) r.slot g.slots) o g.slots
-        ≡ after_landing (raises r) g.slots (option_map (λ (p : Place). record { slot = r.slot; place = p }) o)
-    cases None = refl
-    cases (Some p) = refl
+target_slots g op w d = grind arith
 
 event_slots : (g : LoneGuest) (e : Event) → (after_event g e).slots ≡ after_landing e g.slots (lands g e)
-event_slots g e = cases (is_some (event_fault g.slots e))
-  where
-    cases : (t : Bool) → (cond t g (changed_by g e)).slots ≡ after_landing e g.slots (cond t None (landing_of g e))
-    cases true = refl
-    cases false = changed_slots g e
+event_slots g e = grind (arith, target_slots)
 
 -- ---- the board after it
 
@@ -67,8 +42,7 @@ with_none : (change : File → File) (n : ℕ) (slots : Slots) → slot_at slots
 with_none change n slots h = ap (λ (o : Option Function). option_map_or (λ (f : Function). slice_set slots n (Some (record f { file = change f.file }))) o slots) h
 
 none_there : (b : Board) (o : Option Function) → IsSeat b None o → o ≡ None
-none_there b None h = refl
-none_there b (Some f) h = absurd h
+none_there b o h = grind arith
 
 module _ (s : State) (gs : GuestsNow) (seated : AreSeated (board_at s.functions) gs) (name : Text) (e : Event) where
   abbrev after_it : GuestNow → GuestNow

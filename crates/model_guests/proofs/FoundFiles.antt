@@ -32,17 +32,13 @@ same_places f g same = sym (shape_places f) ∙ ap places_of same ∙ shape_plac
 -- ---- one guest
 
 skip : (o : Option Path) (f : Option Function) (qs : List (Option Path)) (fs : Slots) (q : Path) → ((r : Path) → o ≡ Some r → path_eq r q ≡ false) → file_in (o ∷ qs) (f ∷ fs) q ≡ file_in qs fs q
-skip None f qs fs q h = refl
-skip (Some r) f qs fs q h = let other : path_eq r q ≡ false = h r refl in rw other
+skip o f qs fs q h = grind arith
 
 -- another slot, set anew
 pub file_past : (qs : List (Option Path)) (fs : Slots) (n : ℕ) (x : Option Path) (f : Option Function) (q : Path)
     → ((r : Path) → path_at qs n ≡ Some r → path_eq r q ≡ false) → ((r : Path) → x ≡ Some r → path_eq r q ≡ false) → file_in (slice_set qs n x) (slice_set fs n f) q ≡ file_in qs fs q
 file_past [] fs n x f q h k = refl
-file_past (o ∷ os) [] zero x f q h k = none x
-  where
-    none : (y : Option Path) → file_in (y ∷ os) [] q ≡ file_in (o ∷ os) [] q
-    none y = refl
+file_past (o ∷ os) [] zero x f q h k = grind arith
 file_past (o ∷ os) [] (suc n) x f q h k = refl
 file_past (o ∷ os) (g ∷ gs) zero x f q h k = skip x f os gs q k ∙ sym (skip o g os gs q h)
 file_past (None ∷ os) (g ∷ gs) (suc n) x f q h k = file_past os gs n x f q h k
@@ -108,13 +104,7 @@ seated_file b (t ∷ ts) p file all e = cases (file_in t.paths t.lone.slots p) r
     cases (Some own) i e more = let same : own ≡ file = cc in subst (IsFileOf places_of b p) same (seat_file b t.paths t.lone.slots p own all.0.seats i)
 
 in_rest : (t : GuestNow) (ts : GuestsNow) (a : Text) (n : ℕ) (p : Path) → Each (λ (v : GuestNow). IsFalse (bytes_eq t.name v.name)) ts → path_in ts a n ≡ Some p → path_in (t ∷ ts) a n ≡ Some p
-in_rest t ts a n p apart h = cases (guest_named ts a) refl h
-  where
-    cases : (o : Option GuestNow) → guest_named ts a ≡ o → path_of o n ≡ Some p → path_in (t ∷ ts) a n ≡ Some p
-    cases None e h = cc
-    cases (Some u) e h =
-        let other : bytes_eq t.name a ≡ false = past_first t ts a u apart e in
-        ap (λ v. path_of (cond v (Some t) (guest_named ts a)) n) other ∙ ap (λ (o : Option GuestNow). path_of o n) e ∙ h
+in_rest t ts a n p apart h = grind (arith, past_first)
 
 rest_apart : (t : GuestNow) (ts : GuestsNow) → NamesApart (t ∷ ts) → PathsApart (t ∷ ts) → PathsApart ts
 rest_apart t ts names apart a c n m p h k = apart a c n m p (in_rest t ts a n p names.0 h) (in_rest t ts c m p names.0 k)
@@ -162,10 +152,7 @@ file_stays g name q (t ∷ ts) names same = cases (bytes_eq name t.name) refl (f
         let rest : with_guest g name ts ≡ ts = others_stay g name ts (subst (λ (x : Text). Each (λ (v : GuestNow). IsFalse (bytes_eq x v.name)) ts) (sym is) names.0) in
         ap (λ v. first_of_two (file_in (cond v (g t) t).paths (cond v (g t) t).lone.slots q) (file_of (with_guest g name ts) q)) e
         ∙ ap₂ first_of_two (same t (ap (λ v. cond v (Some t) (guest_named ts name)) there)) (ap (λ (us : GuestsNow). file_of us q) rest)
-    cases false e more =
-        let other : bytes_eq t.name name ≡ false = other_name name t.name e in
-        ap (λ v. first_of_two (file_in (cond v (g t) t).paths (cond v (g t) t).lone.slots q) (file_of (with_guest g name ts) q)) e
-        ∙ ap (first_of_two (file_in t.paths t.lone.slots q)) (more (λ u h. same u (ap (λ v. cond v (Some t) (guest_named ts name)) other ∙ h)))
+    cases false e more = grind (arith, other_name)
 
 -- two changes of a guest that leave the same file there
 pub file_alike : (g h : GuestNow → GuestNow) (name : Text) (q : Path) (s : GuestsNow) → NamesApart s
@@ -182,6 +169,4 @@ file_alike g h name q (t ∷ ts) names same = cases (bytes_eq name t.name) refl 
         let there : bytes_eq t.name name ≡ true = ap (bytes_eq t.name) is ∙ same_text t.name in
         let apart = subst (λ (x : Text). Each (λ (v : GuestNow). IsFalse (bytes_eq x v.name)) ts) (sym is) names.0 in
         ap₂ first_of_two (same t (ap (λ v. cond v (Some t) (guest_named ts name)) there)) (ap (λ (us : GuestsNow). file_of us q) (others_stay g name ts apart ∙ sym (others_stay h name ts apart)))
-    cases false e more =
-        let other : bytes_eq t.name name ≡ false = other_name name t.name e in
-        ap (first_of_two (file_in t.paths t.lone.slots q)) (more (λ u i. same u (ap (λ v. cond v (Some t) (guest_named ts name)) other ∙ i)))
+    cases false e more = grind (arith, other_name)

@@ -1,5 +1,5 @@
 -- A guest by its name, after a change of one guest.
-use Rattle.std.proofs.Common.{◌≡◌, ℕ, zero, suc, Bool, true, false, cond, List, [], ◌∷◌, ◌++◌, Some, None, Option, refl, sym, ap, ◌∙◌, subst}
+use Rattle.std.proofs.Common.{◌≡◌, ℕ, zero, suc, Bool, true, false, cond, List, [], ◌∷◌, ◌++◌, Some, None, Option, refl, ap, ◌∙◌, subst, arith}
 use Rattle.std.specs.Prelude.{map, replicate, slice_get, unwrap_or, option_map, option_and_then, IsFalse}
 use Rattle.std.specs.Option.{option_map_or}
 use Rattle.std.specs.Str.{bytes_eq}
@@ -21,11 +21,7 @@ abbrev pub one : (GuestNow → GuestNow) → Text → GuestNow → GuestNow
 one g n t = cond (bytes_eq n t.name) (g t) t
 
 pub one_name : (g : GuestNow → GuestNow) → Keeps g → (n : Text) (t : GuestNow) → (one g n t).name ≡ t.name
-one_name g keeps n t = cases (bytes_eq n t.name)
-  where
-    cases : (u : Bool) → (cond u (g t) t).name ≡ t.name
-    cases true = keeps t
-    cases false = refl
+one_name g keeps n t = grind arith
 
 pub named_with : (g : GuestNow → GuestNow) → Keeps g → (n name : Text) (s : GuestsNow) → guest_named (with_guest g n s) name ≡ option_map (one g n) (guest_named s name)
 named_with g keeps n name [] = refl
@@ -72,6 +68,4 @@ function_named s name n = cases (guest_named s name)
 
 -- a guest of the rest is found past the first
 pub past_first : (t : GuestNow) (ts : GuestsNow) (name : Text) (u : GuestNow) → Each (λ (v : GuestNow). IsFalse (bytes_eq t.name v.name)) ts → guest_named ts name ≡ Some u → bytes_eq t.name name ≡ false
-past_first t ts name u apart at =
-    let is = found (λ (v : GuestNow). IsFalse (bytes_eq t.name v.name)) ts name u apart at in
-    ap (bytes_eq t.name) (sym is.name_is) ∙ is.has
+past_first t ts name u apart at = grind (arith, found)

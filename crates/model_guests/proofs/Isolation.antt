@@ -1,6 +1,6 @@
 -- Each guest's reply lines, and what it holds, are those of its inputs.
-use Rattle.std.proofs.Common.{◌≡◌, Bool, true, false, not, ◌&&◌, ◌||◌, cond, List, [], ◌∷◌, ◌++◌, Some, None, Option, refl, sym, ap, ◌∙◌, subst, eqb}
-use Rattle.std.specs.Prelude.{codes, IsTrue, drop, filter, map, find, is_some}
+use Rattle.std.proofs.Common.{◌≡◌, Bool, true, false, ◌||◌, cond, List, [], ◌∷◌, ◌++◌, Some, None, Option, refl, sym, ap, ◌∙◌, subst, eqb, arith}
+use Rattle.std.specs.Prelude.{codes, IsTrue, drop, filter, map, find}
 use Rattle.std.specs.List.{starts_with, list_any}
 use Rattle.std.specs.Option.{option_map_or}
 use Rattle.std.specs.Str.{bytes_eq}
@@ -15,10 +15,10 @@ use Rattle.model_board.specs.Paths.{Path}
 use Rattle.model_set_up.specs.SetUp.{set_up_state}
 use Rattle.model_guests.specs.Accesses.{Event, refused}
 use Rattle.model_guests.specs.Lone.{LoneGuest, after_event, answer, emptied, filled, reset_guest}
-use Rattle.model_guests.specs.Text.{Text, lines, words}
-use Rattle.model_guests.specs.Grammar.{HostRead, event_of, guest, has_first_word, has_name, host, host_read_of, is_comment, is_long, is_own_line, nobody}
+use Rattle.model_guests.specs.Text.{Text, lines}
+use Rattle.model_guests.specs.Grammar.{HostRead, event_of, guest, has_first_word, has_name, host, host_read_of, is_comment, is_own_line, nobody}
 use Rattle.model_guests.specs.World.{Guest, World, declarations, declared, is_name, names}
-use Rattle.model_guests.specs.Guests.{GuestNow, GuestsNow, Move, after_move, function_in, guest_after, guest_at_first, guests_at_first, handed_over, lone_of, move_fault, path_in, with_guest, with_slot_emptied, with_slot_filled}
+use Rattle.model_guests.specs.Guests.{GuestNow, GuestsNow, Move, guest_after, guest_at_first, guests_at_first, handed_over, lone_of, with_guest, with_slot_emptied, with_slot_filled}
 use Rattle.model_guests.specs.Lines.{Meaning, bad, event_or_bad, guest_event, host_move, host_read, meaning, meaning_of_words, move_of, nothing, read_or_move}
 use Rattle.model_guests.specs.Replies.{line_text, reply_text}
 use Rattle.model_guests.specs.WorldNow.{WorldNow, world_over, names_now, host_reply, move_reply, written_by, after_meaning, after_line, after_lines}
@@ -43,8 +43,7 @@ abbrev one : (GuestNow → GuestNow) → Text → GuestNow → GuestNow
 one g n t = cond (bytes_eq n t.name) (g t) t
 
 one_name : (g : GuestNow → GuestNow) → Keeps g → (n : Text) (t : GuestNow) (u : Bool) → bytes_eq n t.name ≡ u → (one g n t).name ≡ t.name
-one_name g keeps n t true e = rw e (keeps t)
-one_name g keeps n t false e = rw e refl
+one_name g keeps n t u e = grind arith
 
 lone_with : (g : GuestNow → GuestNow) (k : LoneGuest → LoneGuest) → Keeps g → Does g k → (n name : Text) (s : GuestsNow) → has s name ≡ true
     → lone_of (with_guest g n s) name ≡ cond (bytes_eq n name) (k (lone_of s name)) (lone_of s name)
@@ -54,22 +53,7 @@ lone_with g k keeps does n name (t ∷ ts) h = cases (bytes_eq t.name name) refl
     cases : (v : Bool) → bytes_eq t.name name ≡ v → (u : Bool) → bytes_eq n t.name ≡ u → (bytes_eq t.name name || has ts name) ≡ true
         → (has ts name ≡ true → lone_of (with_guest g n ts) name ≡ cond (bytes_eq n name) (k (lone_of ts name)) (lone_of ts name))
         → lone_of (with_guest g n (t ∷ ts)) name ≡ cond (bytes_eq n name) (k (lone_of (t ∷ ts) name)) (lone_of (t ∷ ts) name)
-    cases true v true u h rest =
-        let same : t.name ≡ name = equal_texts t.name name v in
-        let here : bytes_eq (g t).name name ≡ true = ap (λ (x : Text). bytes_eq x name) (keeps t) ∙ v in
-        let own : bytes_eq n name ≡ true = ap (bytes_eq n) (sym same) ∙ u in
-        rw (u, v, here, own) (does t)
-    cases true v false u h rest =
-        let same : t.name ≡ name = equal_texts t.name name v in
-        let own : bytes_eq n name ≡ false = ap (bytes_eq n) (sym same) ∙ u in
-        rw (u, v, own) refl
-    cases false v true u h rest =
-        let here : bytes_eq (g t).name name ≡ false = ap (λ (x : Text). bytes_eq x name) (keeps t) ∙ v in
-        let more : has ts name ≡ true = ap (λ b. b || has ts name) (sym v) ∙ h in
-        rw (u, v, here) (rest more)
-    cases false v false u h rest =
-        let more : has ts name ≡ true = ap (λ b. b || has ts name) (sym v) ∙ h in
-        rw (u, v) (rest more)
+    cases v w u x h rest = grind (arith, equal_texts)
 
 has_with : (g : GuestNow → GuestNow) → Keeps g → (n name : Text) (s : GuestsNow) → has (with_guest g n s) name ≡ has s name
 has_with g keeps n name [] = refl
@@ -106,26 +90,7 @@ touched name m p (Some f) s h =
   where
     cases : (u v : Bool) → cond v (filled m.target f.decl (cond u (emptied m.slot (lone_of s name)) (lone_of s name))) (cond u (emptied m.slot (lone_of s name)) (lone_of s name))
         ≡ after_inputs (lone_of s name) (cond u (loses m.slot ∷ []) [] ++ cond v (gets m.target f.decl ∷ []) [])
-    cases true true = refl
-    cases true false = refl
-    cases false true = refl
-    cases false false = refl
-
-moves_are_silent : (name : Text) (m : Move) (o : Option Function) (g : LoneGuest) (more : List Input) → lone_output name g (inputs_of_move name m o ++ more) ≡ lone_output name (after_inputs g (inputs_of_move name m o)) more
-moves_are_silent name m None g more = refl
-moves_are_silent name m (Some f) g more = cases (bytes_eq m.from name) (bytes_eq m.to name)
-  where
-    cases : (u v : Bool) → lone_output name g ((cond u (loses m.slot ∷ []) [] ++ cond v (gets m.target f.decl ∷ []) []) ++ more)
-        ≡ lone_output name (after_inputs g (cond u (loses m.slot ∷ []) [] ++ cond v (gets m.target f.decl ∷ []) [])) more
-    cases true true = refl
-    cases true false = refl
-    cases false true = refl
-    cases false false = refl
-
-keeps_move : (m : Move) (p : Option Path) (o : Option Function) (s : GuestsNow) (name : Text) → has (handed_over m p o s) name ≡ has s name
-keeps_move m p None s name = refl
-keeps_move m p (Some f) s name =
-    has_with (with_slot_filled m.target p f.decl) (λ t. refl) m.to name (with_guest (with_slot_emptied m.slot) m.from s) ∙ has_with (with_slot_emptied m.slot) (λ t. refl) m.from name s
+    cases u v = grind arith
 
 -- ---- an own line
 
@@ -143,17 +108,14 @@ own_words ns name (w ∷ ws) facts h first =
 
 own_meaning : (ns : List Text) (name l : Text) → NameFacts name → has_name ns name ≡ true → is_own_line name l ≡ true
     → meaning ns l ≡ event_or_bad name (lone_event l)
-own_meaning ns name l facts h own =
-    let short : is_long l ≡ false = not-true (is_long l) (left_true (not (is_long l)) (has_first_word name (words l)) own) in
-    rw short (own_words ns name (words l) facts h (right_true (not (is_long l)) (has_first_word name (words l)) own))
+own_meaning ns name l facts h own = grind (arith, not-true, left_true, own_words, right_true)
 
 begins_own : (name r : Text) → lacks 58 name ≡ true → starts_with eqb ((name ++ codes ": ") ++ r) (name ++ codes ": ") ≡ true
 begins_own name r h = begins name name r h h ∙ same_text name
 
 own_written : (w : WorldNow) (name : Text) (o : Option Event) → NameFacts name
     → replies_in name (written_by w (event_or_bad name o)) ≡ line_text (guest name) (lone_reply (lone_of w.guests name) o) ∷ []
-own_written w name None facts = let e = begins_own name (reply_text (refused 401)) facts.no_colon in rw e
-own_written w name (Some event) facts = let e = begins_own name (reply_text (answer (lone_of w.guests name) event)) facts.no_colon in rw e
+own_written w name o facts = grind (arith, begins_own)
 
 own_after : (w : WorldNow) (name : Text) (o : Option Event) → has w.guests name ≡ true → lone_of (after_meaning w (event_or_bad name o)).guests name ≡ after_own (lone_of w.guests name) o
 own_after w name None h = refl
@@ -172,30 +134,15 @@ Foreign name (bad (guest n) k) = (bytes_eq name n ≡ false) × (lacks 58 n ≡ 
 Foreign name (bad host k) = Unit {0}
 Foreign name (bad nobody k) = Unit {0}
 
-foreign_event : (name n : Text) (o : Option Event) → bytes_eq name n ≡ false → lacks 58 n ≡ true → Foreign name (event_or_bad n o)
-foreign_event name n None h k = (h, k)
-foreign_event name n (Some e) h k = (h, k)
-
-foreign_host : (name : Text) (o : Option HostRead) (m : Option Move) → Foreign name (read_or_move o m)
-foreign_host name None None = tt
-foreign_host name None (Some m) = tt
-foreign_host name (Some r) m = tt
-
 foreign_cases : (name n : Text) (e : Option Event) (r : Option HostRead) (m : Option Move) (c h g : Bool) → bytes_eq name n ≡ false → (g ≡ true → lacks 58 n ≡ true)
     → Foreign name (cond c nothing (cond h (read_or_move r m) (cond g (event_or_bad n e) (bad nobody 402))))
 foreign_cases name n e r m true h g d k = tt
-foreign_cases name n e r m false true g d k = foreign_host name r m
-foreign_cases name n e r m false false true d k = foreign_event name n e d (k refl)
+foreign_cases name n e r m false true g d k = grind arith
+foreign_cases name n e r m false false true d k = grind arith
 foreign_cases name n e r m false false false d k = tt
 
 other_way : (a b : Text) → bytes_eq a b ≡ false → bytes_eq b a ≡ false
-other_way a b h = other_cases (bytes_eq b a) refl
-  where
-    other_cases : (t : Bool) → bytes_eq b a ≡ t → t ≡ false
-    other_cases false e = refl
-    other_cases true e =
-        let same : b ≡ a = equal_texts b a e in
-        let yes : bytes_eq a b ≡ true = (bytes_eq-Decides a b).1 (sym same) in cc
+other_way a b h = grind (arith, equal_texts, bytes_eq-Decides)
 
 foreign_words : (ns : List Text) (name : Text) (ws : List Text) → Each (λ m. IsTrue (is_name m)) ns → has_first_word name ws ≡ false
     → Foreign name (meaning_of_words ns ws)
@@ -203,13 +150,8 @@ foreign_words ns name [] all first = tt
 foreign_words ns name (w ∷ ws) all first =
     foreign_cases name w (event_of ws) (host_read_of ws) (move_of ns ws) (is_comment w) (bytes_eq w (codes "host")) (has_name ns w) (other_way w name first) (λ h. (named_facts ns w all h).no_colon)
 
-foreign_long : (ns : List Text) (name : Text) (ws : List Text) (long : Bool) → Each (λ m. IsTrue (is_name m)) ns → (not long && has_first_word name ws) ≡ false
-    → Foreign name (cond long (bad nobody 403) (meaning_of_words ns ws))
-foreign_long ns name ws true all own = tt
-foreign_long ns name ws false all own = foreign_words ns name ws all own
-
 foreign_line : (ns : List Text) (name l : Text) → Each (λ m. IsTrue (is_name m)) ns → is_own_line name l ≡ false → Foreign name (meaning ns l)
-foreign_line ns name l all own = foreign_long ns name (words l) (is_long l) all own
+foreign_line ns name l all own = grind (arith, foreign_words)
 
 other_line : (name n r : Text) → lacks 58 name ≡ true → lacks 58 n ≡ true → bytes_eq name n ≡ false → replies_in name (((n ++ codes ": ") ++ r) ∷ []) ≡ []
 other_line name n r h k d = let e : starts_with eqb ((n ++ codes ": ") ++ r) (name ++ codes ": ") ≡ false = begins n name r k h ∙ d in rw e
@@ -230,11 +172,7 @@ other_after w name (guest_event n e) h f =
     let other : bytes_eq n name ≡ false = other_way name n f.0 in
     lone_with (guest_after e) (λ g. after_event g e) (λ t. refl) (λ t. refl) n name w.guests h ∙ rw other refl
 other_after w name (host_read r) h f = refl
-other_after w name (host_move m) h f = cases (is_some (move_fault w.guests m)) refl
-  where
-    cases : (t : Bool) → is_some (move_fault w.guests m) ≡ t → lone_of (after_move w.guests m) name ≡ after_inputs (lone_of w.guests name) (inputs_of_meaning name w.guests (host_move m))
-    cases true e = rw e refl
-    cases false e = rw e (touched name m (path_in w.guests m.from m.slot) (function_in w.guests m.from m.slot) w.guests h)
+other_after w name (host_move m) h f = grind (arith, touched)
 other_after w name (bad who n) h f = refl
 
 other_is_silent : (gs : GuestsNow) (name : Text) (m : Meaning) (g : LoneGuest) (more : List Input)
@@ -242,23 +180,14 @@ other_is_silent : (gs : GuestsNow) (name : Text) (m : Meaning) (g : LoneGuest) (
 other_is_silent gs name nothing g more = refl
 other_is_silent gs name (guest_event n e) g more = refl
 other_is_silent gs name (host_read r) g more = refl
-other_is_silent gs name (host_move m) g more = cases (is_some (move_fault gs m)) refl
-  where
-    cases : (t : Bool) → is_some (move_fault gs m) ≡ t
-        → lone_output name g (inputs_of_meaning name gs (host_move m) ++ more) ≡ lone_output name (after_inputs g (inputs_of_meaning name gs (host_move m))) more
-    cases true e = rw e refl
-    cases false e = rw e (moves_are_silent name m (function_in gs m.from m.slot) g more)
+other_is_silent gs name (host_move m) g more = grind arith
 other_is_silent gs name (bad who n) g more = refl
 
 keeps_meaning : (w : WorldNow) (m : Meaning) (name : Text) → has (after_meaning w m).guests name ≡ has w.guests name
 keeps_meaning w nothing name = refl
 keeps_meaning w (guest_event n e) name = has_with (guest_after e) (λ t. refl) n name w.guests
 keeps_meaning w (host_read r) name = refl
-keeps_meaning w (host_move m) name = cases (is_some (move_fault w.guests m)) refl
-  where
-    cases : (t : Bool) → is_some (move_fault w.guests m) ≡ t → has (after_move w.guests m) name ≡ has w.guests name
-    cases true e = rw e refl
-    cases false e = rw e (keeps_move m (path_in w.guests m.from m.slot) (function_in w.guests m.from m.slot) w.guests name)
+keeps_meaning w (host_move m) name = grind (arith, has_with)
 keeps_meaning w (bad who n) name = refl
 
 -- ---- all lines
@@ -283,8 +212,7 @@ module _ (ns : List Text) (name : Text) (lawful : Each (λ n. IsTrue (is_name n)
 
   after_inputs_of : (w : WorldNow) → Stands w → (l : Text) (own : Bool) → is_own_line name l ≡ own
       → lone_of (after_line w l).guests name ≡ after_inputs (lone_of w.guests name) (cond own (own_line l ∷ []) (inputs_of_meaning name w.guests (meaning (names_now w) l)))
-  after_inputs_of w h l true e = ap (λ (m : Meaning). lone_of (after_meaning w m).guests name) (own_means w h l e) ∙ own_after w name (lone_event l) h.1
-  after_inputs_of w h l false e = other_after w name (meaning (names_now w) l) h.1 (other_means w h l e)
+  after_inputs_of w h l own e = grind (arith, own_means, own_after, other_after, other_means)
 
   replies_from : (ls : List Text) (w : WorldNow) → Stands w → replies_in name (written_along w ls) ≡ lone_output name (lone_of w.guests name) (inputs w.guests name ls)
   replies_from [] w h = refl

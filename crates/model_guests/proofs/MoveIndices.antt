@@ -1,5 +1,5 @@
 -- What a move does to the guests, by their indices, and to the slots.
-use Rattle.std.proofs.Common.{◌≡◌, ℕ, zero, suc, Bool, true, false, cond, List, [], ◌∷◌, ◌++◌, Some, None, Option, refl, sym, ap, ap₂, ◌∙◌, subst}
+use Rattle.std.proofs.Common.{◌≡◌, ℕ, zero, suc, Bool, true, false, cond, List, [], ◌∷◌, Some, None, Option, refl, sym, ap, ap₂, ◌∙◌, subst, arith}
 use Rattle.std.specs.Prelude.{slice_get, slice_set, is_some, IsFalse, IsSome}
 use Rattle.std.specs.Str.{bytes_eq}
 use Rattle.lists.specs.Elements.{EachPair}
@@ -8,7 +8,6 @@ use Rattle.model_board.specs.Paths.{Path}
 use Rattle.model_board.specs.Board.{Board}
 use Rattle.model_guests.specs.Text.{Text}
 use Rattle.model_guests.specs.Guests.{GuestNow, GuestsNow, guest_named, path_in, function_in, with_guest, Move, move_fault, with_slot_emptied, with_slot_filled, handed_over, after_move}
-use Rattle.model_guests.specs.Inputs.{loses, gets}
 use Rattle.model_guests.specs.Seated.{AreSeated, IsSeat}
 use Rattle.model_guests.specs.MoveLaws.{IsDone, MoveWithin, MoveBetween, InputsWithin, IsMoved, MovedFunction}
 use Rattle.model_guests.proofs.Along.{by_index}
@@ -66,18 +65,10 @@ move_within gs m p f i g is to =
     ∙ set_set gs i (with_slot_emptied m.slot g) (with_slot_filled m.target (Some p) f.decl (with_slot_emptied m.slot g))
 
 pub move_between : MoveBetween
-move_between gs m p f i g is j h at to apart = moves gs m p f i g is j h (get_other gs i j (with_slot_emptied m.slot g) other ∙ at) to
-  where
-    other : i ≡ j → ⊥
-    other e =
-        let same : g ≡ h = cc (sym is.at ∙ ap (slice_get gs) e ∙ at) in
-        let yes : bytes_eq g.name h.name ≡ true = ap (λ (x : GuestNow). bytes_eq g.name x.name) (sym same) ∙ same_text g.name in cc
+move_between gs m p f i g is j h at to apart = grind (arith, moves, get_other, same_text)
 
 pub inputs_within : InputsWithin
-inputs_within m f same =
-    let from : bytes_eq m.from m.from ≡ true = same_text m.from in
-    let to : bytes_eq m.to m.from ≡ true = ap (bytes_eq m.to) same ∙ same_text m.to in
-    ap₂ (λ (x y : Bool). cond x (loses m.slot ∷ []) [] ++ cond y (gets m.target f.decl ∷ []) []) from to
+inputs_within m f same = grind (arith, same_text)
 
 -- ---- the slots afterwards
 
@@ -121,9 +112,7 @@ module _ (b : Board) (gs : GuestsNow) (seated : AreSeated b gs) (m : Move) (f : 
       none (Some q) h = absurd (h q refl)
 
       no_seat : (o : Option Path) (g : Option Function) → IsSeat b o g → ((q : Path) → o ≡ Some q → ⊥) → g ≡ None
-      no_seat None None s h = refl
-      no_seat None (Some g) s h = absurd s
-      no_seat (Some q) g s h = absurd (h q refl)
+      no_seat o g s h = grind arith
 
 pub moved_function : MovedFunction
 moved_function b gs seated m to_there fault p f at is =

@@ -1,7 +1,6 @@
 -- A move resets one function of the board, but for what guests have copies of.
-use Rattle.std.proofs.Common.{◌≡◌, ℕ, zero, suc, ◌<◌, Bool, true, false, not, ◌||◌, cond, List, [], ◌∷◌, length, Some, None, Option, refl, sym, ap, ◌∙◌, subst, arith}
-use Rattle.std.specs.Prelude.{slice_set, is_some, nat_le, option_map, IsFalse, IsSome}
-use Rattle.std.specs.Str.{bytes_eq}
+use Rattle.std.proofs.Common.{◌≡◌, ℕ, zero, suc, ◌<◌, true, false, cond, List, [], ◌∷◌, length, Some, None, Option, refl, sym, ap, ◌∙◌, subst, arith}
+use Rattle.std.specs.Prelude.{slice_set, is_some, option_map, IsFalse, IsSome}
 use Rattle.std.proofs.lemmas.Bool.Decides.{nat_tests}
 use Rattle.model_registers.specs.Decoding.{Function}
 use Rattle.model_registers.specs.EndpointTable.{endpoint_reset}
@@ -12,7 +11,7 @@ use Rattle.model_guests.specs.Slots.{Slots, slot_at}
 use Rattle.model_guests.specs.Guests.{GuestNow, GuestsNow, Move, file_of, function_in, guest_named, handed_over, move_fault, path_in, with_guest, with_slot_emptied, with_slot_filled}
 use Rattle.model_registers.specs.CopiedFiles.{after_reset}
 use Rattle.model_guests.specs.AgreedBoard.{state_over}
-use Rattle.model_guests.specs.Seated.{AreSeated, AreSeats, IsSeat, IsSeatedGuest}
+use Rattle.model_guests.specs.Seated.{AreSeated, AreSeats, IsSeat}
 use Rattle.model_guests.specs.ChangeLaws.{MoveResetsOneFunction}
 use Rattle.model_guests.proofs.Names.{same_text}
 use Rattle.model_guests.proofs.GuestsByName.{path_at, one, named_with, found, path_of, function_of, function_named}
@@ -25,18 +24,7 @@ pub record NoFault (s : GuestsNow) (m : Move) : Type 0 where
   pub is_empty : is_some (function_in s m.to m.target) ≡ false
 
 pub no_fault : (s : GuestsNow) (m : Move) → move_fault s m ≡ None → NoFault s m
-no_fault s m h =
-    let parts = cases (nat_le 32 m.slot || nat_le 32 m.target) (is_some (function_in s m.from m.slot)) (is_some (function_in s m.to m.target)) h in
-    record { in_range = below m.slot m.target parts.0; is_empty = parts.1 }
-  where
-    cases : (a b c : Bool) → cond {A = Option ℕ} a (Some 303) (cond (not b) (Some 601) (cond c (Some 602) None)) ≡ None → (a ≡ false) × (c ≡ false)
-    cases true b c h = cc
-    cases false false c h = cc
-    cases false true true h = cc
-    cases false true false h = (refl, refl)
-
-    below : (x y : ℕ) → (nat_le 32 x || nat_le 32 y) ≡ false → y < 32
-    below x y h = grind (arith, nat_tests)
+no_fault s m h = grind (arith, nat_tests)
 
 path_put : (qs : List (Option Path)) (n : ℕ) (x : Option Path) → n < length qs → path_at (slice_set qs n x) n ≡ x
 path_put [] n x h = absurd (omega arith)
@@ -51,9 +39,7 @@ slot_put b (q ∷ qs) (g ∷ gs) (suc n) f h k = slot_put b qs gs n f h.1 (omega
 
 -- an empty slot has no path
 no_seat : (b : Board) (q : Option Path) (o : Option Function) (r : Path) → IsSeat b q o → is_some o ≡ false → q ≡ Some r → ⊥
-no_seat b None o r h e i = cc
-no_seat b (Some p) None r h e i = h
-no_seat b (Some p) (Some f) r h e i = cc
+no_seat b q o r h e i = grind arith
 
 module _ (b : Board) (s : GuestsNow) (seated : AreSeated b s) (m : Move) (f : Function) (is : function_in s m.from m.slot ≡ Some f) (p : Path) (at : path_in s m.from m.slot ≡ Some p)
     (to_there : IsSome (guest_named s m.to)) (can : NoFault s m) where
@@ -88,14 +74,7 @@ module _ (b : Board) (s : GuestsNow) (seated : AreSeated b s) (m : Move) (f : Fu
 
       cases : (o : Option GuestNow) → guest_named left m.to ≡ o → is_some o ≡ true → Takes (option_map (one filled m.to) o)
       cases None e h = cc
-      cases (Some t) e h =
-          let there = found (IsSeatedGuest b) left m.to t (left_guests b s seated m f is) e in
-          let here : bytes_eq m.to t.name ≡ true = ap (bytes_eq m.to) there.name_is ∙ same_text m.to in
-          let room : m.target < length t.paths = subst (λ k. m.target < k) (sym there.has.count) can.in_range in
-          record {
-            path_is = ap (λ v. path_at (cond v (filled t) t).paths m.target) here ∙ path_put t.paths m.target the_path room;
-            function_is = ap (λ v. slot_at (cond v (filled t) t).lone.slots m.target) here ∙ slot_put b t.paths t.lone.slots m.target (Some fresh) there.has.seats room;
-          }
+      cases (Some t) e h = grind (arith, found, left_guests, same_text, path_put, slot_put)
 
   pub moved_seated : AreSeated b moved
   moved_seated = seated_handed b s seated m f is

@@ -1,6 +1,6 @@
 -- What a lawful name is not: no name of another, no comment, and without colon or line feed.
 use Rattle.std.proofs.Common.{◌≡◌, ℕ, Bool, true, false, not, ◌&&◌, ◌||◌, List, [], ◌∷◌, ◌++◌, refl, ap, subst, arith, eqb}
-use Rattle.std.specs.Prelude.{codes, IsTrue, nat_le, length}
+use Rattle.std.specs.Prelude.{codes, IsTrue}
 use Rattle.std.specs.List.{list_all, starts_with}
 use Rattle.std.specs.Str.{bytes_eq}
 use Rattle.std.proofs.lemmas.Bool.{eqb-true, and_from, not-true}
@@ -10,7 +10,7 @@ use Rattle.lists.specs.Elements.{Each}
 use Rattle.lists.proofs.Tests.{left_true, right_true}
 use Rattle.model_guests.specs.Text.{Text}
 use Rattle.model_guests.specs.Grammar.{is_comment, has_name}
-use Rattle.model_guests.specs.World.{is_name, is_name_byte, is_letter}
+use Rattle.model_guests.specs.World.{is_name, is_name_byte}
 
 -- the text is without this byte
 abbrev pub lacks : ℕ → Text → Bool
@@ -19,19 +19,12 @@ lacks b text = list_all (λ c. not (eqb c b)) text
 -- ---- names are made of letters and digits
 
 differs : (b c : ℕ) → is_name_byte b ≡ false → is_name_byte c ≡ true → eqb c b ≡ false
-differs b c h k = cases (eqb c b) refl
-  where
-    cases : (t : Bool) → eqb c b ≡ t → t ≡ false
-    cases false e = refl
-    cases true e = let same = ap is_name_byte (eqb-true c b e) in cc
+differs b c h k = grind (arith, eqb-true)
 
 bytes_lack : (b : ℕ) (cs : Text) → is_name_byte b ≡ false → list_all is_name_byte cs ≡ true → lacks b cs ≡ true
 bytes_lack b [] h k = refl
 bytes_lack b (c ∷ cs) h k =
     and_from (not (eqb c b)) (lacks b cs) (ap not (differs b c h (left_true (is_name_byte c) (list_all is_name_byte cs) k))) (bytes_lack b cs h (right_true (is_name_byte c) (list_all is_name_byte cs) k))
-
-letter_is_name_byte : (c : ℕ) → is_letter c ≡ true → is_name_byte c ≡ true
-letter_is_name_byte c h = ap (λ t. t || (nat_le 48 c && nat_le c 57)) h
 
 pub record NameFacts (n : Text) : Type 0 where
   pub no_colon : lacks 58 n ≡ true
@@ -42,22 +35,7 @@ pub record NameFacts (n : Text) : Type 0 where
 
 pub name_facts : (n : Text) → is_name n ≡ true → NameFacts n
 name_facts [] h = cc
-name_facts (c ∷ cs) h =
-    let short : Bool = nat_le (length cs) 15 in
-    let other : Bool = not (bytes_eq (c ∷ cs) (codes "host")) in
-    let bytes : Bool = list_all is_name_byte cs in
-    let three : (is_letter c && bytes && short) ≡ true = left_true (is_letter c && bytes && short) other h in
-    let two : (is_letter c && bytes) ≡ true = left_true (is_letter c && bytes) short three in
-    let first : is_name_byte c ≡ true = letter_is_name_byte c (left_true (is_letter c) bytes two) in
-    let all : list_all is_name_byte (c ∷ cs) ≡ true = and_from (is_name_byte c) bytes first (right_true (is_letter c) bytes two) in
-    let mark : eqb c 63 ≡ false = differs 63 c refl first in
-    record {
-      no_colon = bytes_lack 58 (c ∷ cs) refl all;
-      one_line = bytes_lack 10 (c ∷ cs) refl all;
-      not_host = not-true (bytes_eq (c ∷ cs) (codes "host")) (right_true (is_letter c && bytes && short) other h);
-      not_nobody = rw mark;
-      not_comment = differs 35 c refl first;
-    }
+name_facts (c ∷ cs) h = grind (arith, left_true, and_from, right_true, differs, bytes_lack, not-true)
 
 pub equal_texts : (a b : Text) → bytes_eq a b ≡ true → a ≡ b
 equal_texts a b h = (bytes_eq-Decides a b).0 h
@@ -76,15 +54,10 @@ named_facts (m ∷ ns) n all h = cases (bytes_eq m n) refl h (named_facts ns n a
 
 -- ---- lines that begin with a name
 
-eqb_turned : (a b : ℕ) → eqb a b ≡ false → eqb b a ≡ false
-eqb_turned a b h = grind (arith, nat_tests)
-
 -- a line begins with a name, a colon and a space where its own name is that name
 pub begins : (x y r : Text) → lacks 58 x ≡ true → lacks 58 y ≡ true → starts_with eqb ((x ++ codes ": ") ++ r) (y ++ codes ": ") ≡ bytes_eq y x
 begins [] [] r h k = refl
-begins [] (c ∷ cs) r h k =
-    let e : eqb c 58 ≡ false = not-true (eqb c 58) (left_true (not (eqb c 58)) (lacks 58 cs) k) in rw e
-begins (d ∷ ds) [] r h k =
-    let e : eqb 58 d ≡ false = eqb_turned d 58 (not-true (eqb d 58) (left_true (not (eqb d 58)) (lacks 58 ds) h)) in rw e
+begins [] (c ∷ cs) r h k = grind (arith, not-true, left_true)
+begins (d ∷ ds) [] r h k = grind (arith, not-true, left_true, nat_tests)
 begins (d ∷ ds) (c ∷ cs) r h k =
     ap (λ b. eqb c d && b) (begins ds cs r (right_true (not (eqb d 58)) (lacks 58 ds) h) (right_true (not (eqb c 58)) (lacks 58 cs) k))

@@ -1,5 +1,5 @@
 -- In a script without moves a guest's inputs are its own lines.
-use Rattle.std.proofs.Common.{◌≡◌, Bool, true, false, List, [], ◌∷◌, ◌++◌, Option, refl, sym, ap, ◌∙◌, subst}
+use Rattle.std.proofs.Common.{◌≡◌, Bool, false, List, [], ◌∷◌, Option, refl, sym, ap, ◌∙◌, subst, arith}
 use Rattle.std.specs.Prelude.{map, IsFalse}
 use Rattle.lists.specs.Elements.{Each}
 use Rattle.model_registers.specs.Declarations.{Endpoint}
@@ -8,7 +8,7 @@ use Rattle.model_guests.specs.Grammar.{is_own_line, own_lines}
 use Rattle.model_guests.specs.World.{names, declarations}
 use Rattle.model_guests.specs.Lone.{reset_guest}
 use Rattle.model_guests.specs.Guests.{GuestsNow, guests_at_first}
-use Rattle.model_guests.specs.Lines.{Meaning, nothing, guest_event, host_read, host_move, bad, meaning}
+use Rattle.model_guests.specs.Lines.{Meaning, meaning}
 use Rattle.model_guests.specs.WorldNow.{world_at_first, names_of, guests_after}
 use Rattle.model_guests.specs.Inputs.{Input, own_line, inputs_of_meaning, inputs, lone_output}
 use Rattle.model_guests.specs.Isolation.{is_move, OwnLinesAlone, IsDecidedBy, IsolatedByOwnLines, TwoWorldsByOwnLines}
@@ -16,11 +16,7 @@ use Rattle.model_guests.proofs.Along.{names_meaning, names_at_first}
 use Rattle.model_guests.proofs.Isolation.{isolated}
 
 touches_no_one : (name : Text) (gs : GuestsNow) (m : Meaning) → is_move m ≡ false → inputs_of_meaning name gs m ≡ []
-touches_no_one name gs nothing h = refl
-touches_no_one name gs (guest_event n e) h = refl
-touches_no_one name gs (host_read r) h = refl
-touches_no_one name gs (host_move m) h = cc
-touches_no_one name gs (bad who n) h = refl
+touches_no_one name gs m h = grind arith
 
 own_along : (ns : List Text) (name : Text) (ls : List Text) (gs : GuestsNow) → names_of gs ≡ ns → Each (λ l. IsFalse (is_move (meaning ns l))) ls
     → inputs gs name ls ≡ map own_line (own_lines name ls)
@@ -32,9 +28,7 @@ own_along ns name (l ∷ ls) gs same none = cases (is_own_line name l) refl (own
 
     cases : (own : Bool) → is_own_line name l ≡ own → inputs (guests_after gs (meaning (names_of gs) l)) name ls ≡ map own_line (own_lines name ls)
         → inputs gs name (l ∷ ls) ≡ map own_line (own_lines name (l ∷ ls))
-    cases true e rest = rw e (ap (λ (is : List Input). own_line l ∷ is) rest)
-    cases false e rest =
-        rw e (ap (λ (is : List Input). is ++ inputs (guests_after gs (meaning (names_of gs) l)) name ls) (touches_no_one name gs (meaning (names_of gs) l) no_move) ∙ rest)
+    cases own e rest = grind (arith, touches_no_one, no_move)
 
 pub own_lines_alone : OwnLinesAlone
 own_lines_alone w name script none = own_along (names w) name (lines script) (guests_at_first w) (names_at_first w) none

@@ -1,13 +1,10 @@
 -- What a run writes along lines and pieces, and where it ends early.
-use Rattle.std.proofs.Common.{◌≡◌, ℕ, Bool, true, false, not, ◌||◌, List, [], ◌∷◌, ◌++◌, length, take, refl, sym, ap, ap₂, ◌∙◌, subst, append_assoc, eqb}
+use Rattle.std.proofs.Common.{◌≡◌, ℕ, Bool, true, false, not, ◌||◌, List, [], ◌∷◌, ◌++◌, length, take, refl, sym, ap, ap₂, ◌∙◌, append_assoc, eqb, arith}
 use Rattle.std.specs.List.{list_any}
 use Rattle.std.specs.Io.{StartsWith}
 use Rattle.std.proofs.lemmas.Bool.{and_from}
 use Rattle.model_guests.specs.Text.{Text, ends_line, lines, text_of_lines}
-use Rattle.model_guests.specs.Grammar.{nobody}
-use Rattle.model_guests.specs.Lines.{meaning, bad}
-use Rattle.model_guests.specs.WorldNow.{names_now, written_by, after_meaning}
-use Rattle.model_guests.specs.LineRuns.{Protocol, output, after_lines, first_output, StoppedIsBeginning, CutIsBeginning, OutputAlong, AfterAlong, LinesOfPieces}
+use Rattle.model_guests.specs.LineRuns.{Protocol, output, after_lines, StoppedIsBeginning, CutIsBeginning, OutputAlong, AfterAlong, LinesOfPieces}
 use Rattle.model_guests.specs.WorldLaws.{LongLinesAlike}
 use Rattle.model_guests.proofs.Names.{lacks}
 use Rattle.model_guests.proofs.OutputLines.{first_line, one_more}
@@ -39,12 +36,7 @@ lines_of_pieces (l ∷ ls) none rest =
     ∙ first_line l (text_of_lines ls ++ rest) (lacks_end l none.0) ∙ ap (λ (more : List Text). l ∷ more) (lines_of_pieces ls none.1 rest)
 
 pub long_lines_alike : LongLinesAlike
-long_lines_alike w l m long_l long_m =
-    let first : meaning (names_now w) l ≡ bad nobody 403 = rw long_l refl in
-    let second : meaning (names_now w) m ≡ bad nobody 403 = rw long_m refl in (
-      ap (λ x. text_of_lines (written_by w x)) (first ∙ sym second),
-      ap (λ x. after_meaning w x) first,
-    )
+long_lines_alike w l m long_l long_m = grind arith
 
 -- ---- beginnings
 
@@ -64,28 +56,8 @@ starts_more (x ∷ xs) ys (z ∷ zs) h =
     let rest : take (length zs) xs ≡ zs = cc in
     ap₂ (λ (c : ℕ) (cs : Text). c ∷ cs) head (starts_more xs ys zs rest)
 
-first_begins : {S : Type 0} (p : Protocol S) (s : S) (ls : List Text) (part : Text) → StartsWith (first_output p s ls) part → StartsWith (output p s ls) part
-first_begins p s [] part h = h
-first_begins p s (l ∷ ls) part h = starts_more (p.writes s l) (output p (p.next s l) ls) part h
-
 pub stopped_is_beginning : {S : Type 0} (p : Protocol S) → StoppedIsBeginning p
-stopped_is_beginning p s ls old new end h = record {
-  text = output p s h.whole ++ h.part;
-  written = h.written;
-  begins = subst (λ (t : Text). StartsWith t (output p s h.whole ++ h.part)) (sym (ap (output p s) h.in_order ∙ output_along p s h.whole h.rest))
-      (starts_after (output p s h.whole) (output p (after_lines p s h.whole) h.rest) h.part (first_begins p (after_lines p s h.whole) h.rest h.part h.begins));
-}
+stopped_is_beginning p s ls old new end h = grind (arith, output_along, starts_after, starts_more)
 
 pub cut_is_beginning : {S : Type 0} (p : Protocol S) → CutIsBeginning p
-cut_is_beginning p s old_rest new_rest old new end h =
-    let read : Text = text_of_lines h.whole ++ h.part in
-    let all : output p s (lines read) ≡ output p s h.whole ++ output p (after_lines p s h.whole) (lines h.part) =
-    ap (output p s) (lines_of_pieces h.whole h.each_line h.part) ∙ output_along p s h.whole (lines h.part) in (
-      read,
-      h.read,
-      record {
-        text = output p s h.whole;
-        written = h.written;
-        begins = subst (λ (t : Text). StartsWith t (output p s h.whole)) (sym all) (starts (output p s h.whole) (output p (after_lines p s h.whole) (lines h.part)));
-      },
-    )
+cut_is_beginning p s old_rest new_rest old new end h = grind (arith, lines_of_pieces, output_along, starts)

@@ -1,11 +1,10 @@
 -- Guests are seated at first.
-use Rattle.std.proofs.Common.{◌≡◌, ℕ, zero, suc, ◌+◌, ◌-◌, ◌≤◌, Bool, true, false, cond, List, [], ◌∷◌, ◌++◌, length, Some, None, Option, refl, sym, ap, ap₂, ◌∙◌, subst, arith}
+use Rattle.std.proofs.Common.{◌≡◌, ℕ, zero, suc, ◌-◌, ◌≤◌, Bool, true, false, cond, List, [], ◌∷◌, ◌++◌, length, Some, None, refl, sym, ap, ◌∙◌, subst, arith}
 use Rattle.std.specs.Prelude.{map, find, flat_map, replicate, slice_get, IsFalse, IsSome}
 use Rattle.std.specs.Option.{option_map_or}
 use Rattle.std.specs.Str.{bytes_eq}
 use Rattle.std.proofs.lemmas.List.{length-append, length-map, length-replicate}
 use Rattle.lists.specs.Elements.{Each, EachPair}
-use Rattle.model_registers.specs.Declarations.{Endpoint}
 use Rattle.model_board.specs.Paths.{Path, path_eq}
 use Rattle.model_board.specs.Board.{Board}
 use Rattle.model_guests.specs.Slots.{reset_function}
@@ -27,22 +26,14 @@ empty_seats b zero = tt
 empty_seats b (suc k) = (tt, empty_seats b k)
 
 one_seat : (b : Board) (p : Path) → IsSome (declared b p) → IsSeat b (Some p) (reset_function (declared b p))
-one_seat b p some = cases (declared b p) refl some
-  where
-    cases : (o : Option Endpoint) → declared b p ≡ o → IsSome o → IsSeat b (Some p) (reset_function o)
-    cases None e some = cc
-    cases (Some d) e some = record { decl = e; shape = refl }
+one_seat b p some = grind arith
 
 first_seats : (b : Board) (ps : List Path) (k : ℕ) → Each (λ p. IsSome (declared b p)) ps → AreSeats b (map Some ps ++ replicate k None) (map reset_function (map (declared b) ps ++ replicate k None))
 first_seats b [] k all = empty_seats b k
 first_seats b (p ∷ ps) k all = (one_seat b p all.0, first_seats b ps k all.1)
 
 first_guest : (w : World) (g : Guest) → length g.slots ≤ 32 → Each (λ p. IsSome (declared w.board p)) g.slots → IsSeatedGuest w.board (guest_at_first w g)
-first_guest w g few all = record {
-  count = length-append (map Some g.slots) (replicate (32 - length g.slots) None) ∙ ap₂ ◌+◌ (length-map g.slots Some) (length-replicate (32 - length g.slots) None) ∙ (omega arith);
-  seats = subst (λ (k : ℕ). AreSeats w.board (map Some g.slots ++ replicate (32 - length g.slots) None) (map reset_function (map (declared w.board) g.slots ++ replicate (32 - k) None)))
-      (sym (length-map g.slots (declared w.board))) (first_seats w.board g.slots (32 - length g.slots) all);
-}
+first_guest w g few all = grind (arith, length-append, length-map, length-replicate, first_seats)
 
 first_guests : (w : World) (gs : List Guest) → Each (λ g. length g.slots ≤ 32) gs → Each (λ p. IsSome (declared w.board p)) (flat_map (λ (g : Guest). g.slots) gs)
     → Each (IsSeatedGuest w.board) (map (guest_at_first w) gs)
@@ -113,8 +104,4 @@ apart_among (g ∷ gs) apart a c n m p i j = cases (bytes_eq g.name a) refl (byt
     cases false e false f i j more = more i j
 
 pub seated_at_first : SeatedAtFirst
-seated_at_first w lawful = record {
-  names_apart = first_names w w.guests lawful.names_apart;
-  guests = first_guests w w.guests lawful.few_slots lawful.endpoints;
-  paths_apart = λ a c n m p h k. apart_among w.guests lawful.paths_apart a c n m p (sym (path_among w w.guests a n) ∙ h) (sym (path_among w w.guests c m) ∙ k);
-}
+seated_at_first w lawful = grind (arith, first_names, first_guests, apart_among, path_among)

@@ -12,15 +12,11 @@ use Rattle.model_guests.specs.Text.{Text}
 use Rattle.model_guests.specs.Guests.{GuestNow, GuestsNow, Move, function_in, guest_named, handed_over, move_fault, path_in, with_guest, with_slot_emptied, with_slot_filled}
 use Rattle.model_guests.specs.Seated.{AreSeated, IsSeat, IsSeatedGuest, SeatedAfterMoves}
 use Rattle.model_guests.proofs.Names.{equal_texts, same_text}
-use Rattle.model_guests.proofs.GuestsByName.{path_at, Keeps, one, named_with, found, path_of, function_of, function_named}
+use Rattle.model_guests.proofs.GuestsByName.{path_at, Keeps, one, named_with, found, path_of, function_named}
 use Rattle.model_guests.proofs.Seats.{seats_at, seats_set, names_stay, guests_stay}
 
 pub seat_in : (b : Board) (s : GuestsNow) → Each (IsSeatedGuest b) s → (a : Text) (n : ℕ) → IsSeat b (path_in s a n) (function_in s a n)
-seat_in b s all a n = subst (IsSeat b (path_in s a n)) (sym (function_named s a n)) (cases (guest_named s a) refl)
-  where
-    cases : (o : Option GuestNow) → guest_named s a ≡ o → IsSeat b (path_of o n) (function_of o n)
-    cases None e = tt
-    cases (Some t) e = seats_at b t.paths t.lone.slots n (found (IsSeatedGuest b) s a t all e).has.seats
+seat_in b s all a n = grind (arith, function_named, seats_at, found)
 
 -- ---- a path in a list with one set
 
@@ -66,9 +62,7 @@ placed g n x keeps sets s name a k q h = cases (guest_named s a) refl (sym (ap (
             of_where : Where t.paths n k x q → Placed s name a n k x q
             of_where (put c d) = put_there (sym (there t e) ∙ sym (equal_texts name t.name i)) c d
             of_where (stays c d) = was_there (ap (λ (o : Option GuestNow). path_of o k) e ∙ c) (λ z. d)
-        by_name false i h =
-            was_there (ap (λ (o : Option GuestNow). path_of o k) e ∙ h)
-            (λ z w. let same : t.name ≡ name = there t e ∙ z in let yes : bytes_eq name t.name ≡ true = ap (bytes_eq name) same ∙ same_text name in cc)
+        by_name false i h = grind (arith, there, same_text)
 
 -- ---- a move
 
@@ -76,8 +70,7 @@ same_count : (qs : List (Option Path)) (n : ℕ) (x : Option Path) → length qs
 same_count qs n x h = simp length-set h
 
 at_reset_there : (b : Board) (p : Option Path) (f : Function) → IsSeat b p (Some f) → IsSeat b p (reset_function (Some f.decl))
-at_reset_there b None f h = h
-at_reset_there b (Some p) f h = record { decl = h.decl; shape = refl }
+at_reset_there b p f h = grind arith
 
 module _ (b : Board) (s : GuestsNow) (seated : AreSeated b s) (m : Move) (f : Function) (is : function_in s m.from m.slot ≡ Some f) where
   abbrev left : GuestsNow
@@ -108,12 +101,6 @@ module _ (b : Board) (s : GuestsNow) (seated : AreSeated b s) (m : Move) (f : Fu
   old_apart a c k l q (was_there x y) (put_there u v w) = cc
   old_apart a c k l q (was_there x y) (was_there u v) = seated.paths_apart a c k l q x u
 
-  all_apart : (a c : Text) (k l : ℕ) (q : Path) → Placed left m.to a m.target k the_path q → Placed left m.to c m.target l the_path q → (a ≡ c) × (k ≡ l)
-  all_apart a c k l q (put_there x y z) (put_there u v w) = (x ∙ sym u, y ∙ sym v)
-  all_apart a c k l q (put_there x y z) (was_there u v) = absurd (gone c l q (place_left c l q u) z)
-  all_apart a c k l q (was_there x y) (put_there u v w) = absurd (gone a k q (place_left a k q x) w)
-  all_apart a c k l q (was_there x y) (was_there u v) = old_apart a c k l q (place_left a k q x) (place_left c l q u)
-
   pub left_names : EachPair (λ (t u : GuestNow). IsFalse (bytes_eq t.name u.name)) left
   left_names = names_stay (with_slot_emptied m.slot) (λ t. refl) m.from s seated.names_apart
 
@@ -123,18 +110,10 @@ module _ (b : Board) (s : GuestsNow) (seated : AreSeated b s) (m : Move) (f : Fu
       (λ t h. record { count = same_count t.paths m.slot None h.count; seats = seats_set b t.paths t.lone.slots m.slot None None h.seats tt }) m.from s seated.guests
 
   pub seated_handed : AreSeated b (with_guest filled m.to left)
-  seated_handed = record {
-    names_apart = names_stay filled (λ t. refl) m.to left left_names;
-    guests = guests_stay (IsSeatedGuest b) filled
-        (λ t h. record { count = same_count t.paths m.target the_path h.count; seats = seats_set b t.paths t.lone.slots m.target the_path (reset_function (Some f.decl)) h.seats (at_reset_there b the_path f seat) })
-        m.to left left_guests;
-    paths_apart = λ a c k l q h i. all_apart a c k l q (place a k q h) (place c l q i);
-  }
+  seated_handed = grind (arith, names_stay, left_names, guests_stay, same_count, seats_set, at_reset_there, seat, left_guests, place, gone, place_left, old_apart)
 
 pub seated_after_moves : SeatedAfterMoves
 seated_after_moves b s seated m = cases (is_some (move_fault s m)) (function_in s m.from m.slot) refl
   where
     cases : (t : Bool) (o : Option Function) → function_in s m.from m.slot ≡ o → AreSeated b (cond t s (handed_over m (path_in s m.from m.slot) o s))
-    cases true o e = seated
-    cases false None e = seated
-    cases false (Some f) e = seated_handed b s seated m f e
+    cases t o e = grind (arith, seated_handed)

@@ -1,11 +1,11 @@
 -- The table of an endpoint after set-up and at reset: the same places, and the same cells but for those of which a guest has copies.
-use Rattle.std.proofs.Common.{◌≡◌, ℕ, zero, suc, ◌+◌, ◌*◌, ◌/◌, ◌≤◌, Bool, true, false, cond, List, [], ◌∷◌, ◌++◌, refl, sym, ap, ap₂, ◌∙◌, arith}
+use Rattle.std.proofs.Common.{◌≡◌, ℕ, zero, suc, ◌+◌, ◌/◌, ◌≤◌, Bool, true, false, cond, List, [], ◌∷◌, ◌++◌, refl, ap₂, arith}
 use Rattle.std.specs.Prelude.{flat_map, ⊤, IsFalse}
 use Rattle.lists.specs.Elements.{Each}
 use Rattle.model_registers.proofs.Owned.{base_is_own}
 use Rattle.model_registers.specs.Cell.{Cell}
 use Rattle.model_registers.specs.Registers.{Place, config, place_eq, Entry, File, cell_at, field}
-use Rattle.model_registers.specs.Declarations.{Kind, io_kind, mem32, mem64, registers_of, Region, Endpoint, IsLawfulRegion}
+use Rattle.model_registers.specs.Declarations.{Kind, registers_of, Region, Endpoint, IsLawfulRegion}
 use Rattle.model_registers.specs.EndpointTable.{base_cells, region_cells, block_cells, header_cells, config_cells, endpoint_file, endpoint_reset}
 use Rattle.model_registers.specs.OwnCopies.{is_own}
 use Rattle.model_registers.specs.CopiedFiles.{agreed_file, places_of}
@@ -50,9 +50,7 @@ alike_registers (suc w) a v u m c h k =
     absurd_own h k = cc
 
 alike_bases : (n : ℕ) (kind : Kind) (size b c : ℕ) → n + registers_of kind ≤ 6 → Alike (base_cells n kind size b) (base_cells n kind size c)
-alike_bases n io_kind size b c h = alike_registers 4 (0x10 + 4 * n) _ _ _ 0 (omega arith) (omega arith)
-alike_bases n (mem32 pref) size b c h = alike_registers 4 (0x10 + 4 * n) _ _ _ 0 (omega arith) (omega arith)
-alike_bases n (mem64 pref) size b c h = alike_registers 8 (0x10 + 4 * n) _ _ _ 0 (omega arith) (omega arith)
+alike_bases n kind size b c h = grind (arith, alike_registers)
 
 alike_regions : (bases : Region → ℕ) (rs : List Region) → Each IsLawfulRegion rs → Alike (flat_map (region_cells (λ r. 0)) rs) (flat_map (region_cells bases) rs)
 alike_regions bases [] all = tt
@@ -61,60 +59,12 @@ alike_regions bases (r ∷ rs) all =
     (alike_append (base_cells r.index r.kind r.size 0) (base_cells r.index r.kind r.size (bases r)) _ _ (alike_bases r.index r.kind r.size 0 (bases r) all.0.registers) (alike_self _))
     (alike_regions bases rs all.1)
 
-same_entry : {e : Entry} → AlikeEntries e e
-same_entry = record { place = refl; cell = λ h. refl }
-
 own_entry : {a : ℕ} {c d : Cell} → is_own (config a) ≡ true → AlikeEntries (record { place = config a; cell = c }) (record { place = config a; cell = d })
 own_entry own = record { place = refl; cell = λ h. cc }
 
 -- Command at 04h and 05h, and the header type at 0Eh
 alike_headers : (d : Endpoint) (multifunction : Bool) (command : ℕ) → Alike (header_cells d false 0) (header_cells d multifunction command)
-alike_headers d multifunction command = (
-  same_entry,
-  (
-    same_entry,
-    (
-      same_entry,
-      (
-        same_entry,
-        (
-          own_entry refl,
-          (
-            own_entry refl,
-            (
-              same_entry,
-              (
-                same_entry,
-                (
-                  same_entry,
-                  (
-                    same_entry,
-                    (
-                      same_entry,
-                      (
-                        same_entry,
-                        (
-                          same_entry,
-                          (
-                            same_entry,
-                            (
-                              own_entry refl,
-                              (same_entry, (same_entry, (same_entry, (same_entry, (same_entry, (same_entry, (same_entry, (same_entry, tt)))))))),
-                            ),
-                          ),
-                        ),
-                      ),
-                    ),
-                  ),
-                ),
-              ),
-            ),
-          ),
-        ),
-      ),
-    ),
-  ),
-)
+alike_headers d multifunction command = grind (arith, own_entry)
 
 pub alike_tables : (d : Endpoint) (multifunction : Bool) (command : ℕ) (bases : Region → ℕ) → Each IsLawfulRegion d.regions
     → Alike (endpoint_reset d false) (endpoint_file d multifunction command bases)
@@ -141,10 +91,7 @@ agreed_entries full (o ∷ os) [] alike found = absurd alike
 agreed_entries full (o ∷ os) (l ∷ ls) alike found = ap₂ (λ (e : Entry) (es : File). e ∷ es) (here (is_own l.place) refl) (agreed_entries full os ls alike.1 found.1)
   where
     here : (t : Bool) → is_own l.place ≡ t → cond t l (record l { cell = cell_at full l.place }) ≡ l
-    here true h = refl
-    here false h =
-        let cell : cell_at full l.place ≡ l.cell = ap (cell_at full) (sym alike.0.place) ∙ found.0 ∙ alike.0.cell h in
-        ap (λ (c : Cell). record l { cell = c }) cell
+    here t h = grind arith
 
 pub agreed_at_reset : (own left : File) → HasDistinctPlaces own → Alike own left → agreed_file left own ≡ left
 agreed_at_reset own left distinct alike = agreed_entries own own left alike (found_entries own distinct)

@@ -1,5 +1,5 @@
 -- A guest's file is the board's with the guest's copies put in.
-use Rattle.std.proofs.Common.{◌≡◌, Bool, true, false, cond, [], ◌∷◌, refl, sym, ap, ap₂, ◌∙◌}
+use Rattle.std.proofs.Common.{◌≡◌, Bool, true, false, cond, [], ◌∷◌, refl, ap, ap₂, ◌∙◌, arith}
 use Rattle.std.specs.Prelude.{IsTrue}
 use Rattle.lists.specs.Elements.{Each}
 use Rattle.model_registers.proofs.RegisterFiles.{place_same}
@@ -16,12 +16,7 @@ agreed_entry own e = cond (is_own e.place) e (record e { cell = cell_at own e.pl
 
 module _ (full copies : File) (held : (p : Place) → IsTrue (is_own p) → cell_at full p ≡ cell_at copies p) where
   entry_is : (l o : Entry) → o.place ≡ l.place → cell_at full o.place ≡ o.cell → (t : Bool) → is_own l.place ≡ t → copied copies (agreed_entry full l) ≡ o
-  entry_is l o same found true h =
-      let cell : cell_at copies l.place ≡ o.cell = sym (held l.place h) ∙ ap (cell_at full) (sym same) ∙ found in
-      rw (h, h) (λ i. record { place = sym same i; cell = cell i })
-  entry_is l o same found false h =
-      let cell : cell_at full l.place ≡ o.cell = ap (cell_at full) (sym same) ∙ found in
-      rw (h, h) (λ i. record { place = sym same i; cell = cell i })
+  entry_is l o same found t h = grind arith
 
   entries_are : (ls os : File) → places_of os ≡ places_of ls → Each (λ e. cell_at full e.place ≡ e.cell) os → with_copies copies (agreed_file ls full) ≡ os
   entries_are [] [] same found = refl
@@ -42,9 +37,7 @@ other_cell copies [] p h = refl
 other_cell copies (e ∷ es) p h = cases (is_own e.place) refl (place_eq e.place p) refl (other_cell copies es p h)
   where
     cases : (t : Bool) → is_own e.place ≡ t → (u : Bool) → place_eq e.place p ≡ u → cell_at (with_copies copies es) p ≡ cell_at es p → cell_at (with_copies copies (e ∷ es)) p ≡ cell_at (e ∷ es) p
-    cases true i true k more = let same = ap is_own (place_same e.place p k) in cc
-    cases true i false k more = rw (i, k) more
-    cases false i u k more = rw i (ap (λ (c : Cell). cond (place_eq e.place p) e.cell c) more)
+    cases t i u k more = grind (arith, place_same)
 
 alike_files : (f g : File) → ((p : Place) → is_own p ≡ false → cell_at f p ≡ cell_at g p) → (left : File) → agreed_file left f ≡ agreed_file left g
 alike_files f g same [] = refl

@@ -1,16 +1,15 @@
 -- Every line that is written is one line: cut into lines, the output is these lines again.
 --     written_along      the lines that lines of a script write
-use Rattle.std.proofs.Common.{◌≡◌, Bool, true, false, cond, List, [], ◌∷◌, ◌++◌, Some, None, Option, refl, sym, ap, ◌∙◌, subst, append_assoc}
-use Rattle.std.specs.Prelude.{codes, IsTrue}
-use Rattle.std.specs.Str.{bytes_eq}
+use Rattle.std.proofs.Common.{◌≡◌, Bool, true, false, cond, List, [], ◌∷◌, ◌++◌, Option, refl, sym, ap, ◌∙◌, subst, append_assoc, arith}
+use Rattle.std.specs.Prelude.{IsTrue}
 use Rattle.lists.specs.Elements.{Each}
 use Rattle.model_guests.specs.Accesses.{Event, refused}
 use Rattle.model_guests.specs.Lone.{answer}
 use Rattle.model_guests.specs.Text.{Text, lines, words, text_of_lines}
-use Rattle.model_guests.specs.Grammar.{HostRead, event_of, guest, has_name, host, host_read_of, is_comment, is_long, nobody}
+use Rattle.model_guests.specs.Grammar.{HostRead, guest, host, is_long, nobody}
 use Rattle.model_guests.specs.World.{is_name}
 use Rattle.model_guests.specs.Guests.{Move, lone_of}
-use Rattle.model_guests.specs.Lines.{Meaning, bad, event_or_bad, guest_event, host_move, host_read, meaning, meaning_of_words, move_of, nothing, read_or_move}
+use Rattle.model_guests.specs.Lines.{Meaning, bad, event_or_bad, guest_event, host_move, host_read, meaning, meaning_of_words, nothing, read_or_move}
 use Rattle.model_guests.specs.Replies.{who_text}
 use Rattle.model_guests.specs.WorldNow.{WorldNow, names_now, host_reply, move_reply, written_by, after_line, output}
 use Rattle.model_guests.proofs.Along.{names_stay}
@@ -39,30 +38,16 @@ TellsOneLine (host_read r) = Unit {0}
 TellsOneLine (host_move m) = Unit {0}
 TellsOneLine (bad who n) = lacks 10 (who_text who) ≡ true
 
-tells_event : (name : Text) (o : Option Event) → lacks 10 name ≡ true → TellsOneLine (event_or_bad name o)
-tells_event name None h = h
-tells_event name (Some e) h = h
-
-tells_host : (o : Option HostRead) (m : Option Move) → TellsOneLine (read_or_move o m)
-tells_host None None = refl
-tells_host None (Some m) = tt
-tells_host (Some r) m = tt
-
 tells_cases : (name : Text) (e : Option Event) (r : Option HostRead) (m : Option Move) (c h g : Bool) → (g ≡ true → lacks 10 name ≡ true)
     → TellsOneLine (cond c nothing (cond h (read_or_move r m) (cond g (event_or_bad name e) (bad nobody 402))))
 tells_cases name e r m true h g k = tt
-tells_cases name e r m false true g k = tells_host r m
-tells_cases name e r m false false true k = tells_event name e (k refl)
+tells_cases name e r m false true g k = grind arith
+tells_cases name e r m false false true k = grind arith
 tells_cases name e r m false false false k = refl
-
-tells_words : (ns : List Text) → Each (λ n. IsTrue (is_name n)) ns → (ws : List Text) → TellsOneLine (meaning_of_words ns ws)
-tells_words ns lawful [] = tt
-tells_words ns lawful (t ∷ ts) =
-    tells_cases t (event_of ts) (host_read_of ts) (move_of ns ts) (is_comment t) (bytes_eq t (codes "host")) (has_name ns t) (λ h. (named_facts ns t lawful h).one_line)
 
 tells_line : (ns : List Text) → Each (λ n. IsTrue (is_name n)) ns → (ws : List Text) (long : Bool) → TellsOneLine (cond long (bad nobody 403) (meaning_of_words ns ws))
 tells_line ns lawful ws true = refl
-tells_line ns lawful ws false = tells_words ns lawful ws
+tells_line ns lawful ws false = grind (arith, tells_cases, named_facts)
 
 written_one_line : (w : WorldNow) (m : Meaning) → TellsOneLine m → Each (λ l. lacks 10 l ≡ true) (written_by w m)
 written_one_line w nothing h = tt
