@@ -1,5 +1,5 @@
 -- What a device reads and writes of its function's registers: the checks, the guest afterwards, and the board.
-use Rattle.std.proofs.Common.{◌≡◌, ℕ, ◌%◌, Bool, true, false, not, cond, [], ◌∷◌, Some, None, Option, refl, sym, ap, ap₂, ◌∙◌, subst}
+use Rattle.std.proofs.Common.{◌≡◌, ℕ, Bool, true, false, not, cond, [], ◌∷◌, Some, None, Option, refl, sym, ap, ap₂, ◌∙◌, arith}
 use Rattle.std.specs.Prelude.{is_some, nat_le}
 use Rattle.std.specs.Option.{option_map_or}
 use Rattle.std.specs.Str.{bytes_eq}
@@ -7,7 +7,7 @@ use Rattle.model_registers.specs.Cell.{Cell}
 use Rattle.model_registers.specs.Registers.{Place, place_eq, Entry, File, cell_at, changed}
 use Rattle.model_registers.specs.FileLaws.{has_place}
 use Rattle.model_registers.specs.OwnCopies.{is_own}
-use Rattle.model_registers.specs.DeviceBytes.{is_device_byte, with_value, set_value}
+use Rattle.model_registers.specs.DeviceBytes.{is_device_byte, set_value}
 use Rattle.model_registers.specs.Decoding.{Function}
 use Rattle.model_registers.specs.CopiedFiles.{agreed_file}
 use Rattle.model_registers.proofs.RegisterFiles.{place_same, place_turned}
@@ -36,12 +36,7 @@ use Rattle.model_devices.proofs.OneGuest.{lone_found, with_alike}
 
 -- a place that a device reaches is one of its own bytes
 pub reached : (o : Option Place) (p : Place) → if_device_byte o ≡ Some p → (o ≡ Some p) × (is_device_byte p ≡ true)
-reached None p h = cc
-reached (Some q) p h = cases (is_device_byte q) refl h
-  where
-    cases : (t : Bool) → is_device_byte q ≡ t → cond t (Some q) None ≡ Some p → (Some q ≡ Some p) × (is_device_byte p ≡ true)
-    cases true e h = let same : q ≡ p = cc in (h, subst (λ (x : Place). is_device_byte x ≡ true) same e)
-    cases false e h = cc
+reached o p h = grind arith
 
 -- ---- the checks
 
@@ -50,11 +45,7 @@ abbrev pub fault_by : Bool → Option Function → DeviceByte → Option ℕ
 fault_by past o d = cond past (Some 303) (cond (not (is_some o)) (Some 601) (cond (not (is_some (byte_landing o d))) (Some 303) None))
 
 pub low_slot : (slots : Slots) (d : DeviceByte) → byte_fault slots d ≡ None → nat_le 32 d.slot ≡ false
-low_slot slots d h = cases (nat_le 32 d.slot) h
-  where
-    cases : (t : Bool) → fault_by t (slot_at slots d.slot) d ≡ None → t ≡ false
-    cases true e = cc
-    cases false e = refl
+low_slot slots d h = grind arith
 
 module _ (slots : Slots) (d : DeviceByte) (low : nat_le 32 d.slot ≡ false) (f : Function) (there : slot_at slots d.slot ≡ Some f) where
   pub checked : byte_fault slots d ≡ fault_by false (Some f) d
@@ -87,16 +78,10 @@ module _ (g : LoneGuest) (d : DeviceByte) (low : nat_le 32 d.slot ≡ false) (f 
   write_answered v = ap (λ (o : Option ℕ). option_map_or refused o done) (passes g.slots d low f there p at)
 
   pub written_there : (v : ℕ) → after_device_event g (device_writes d v) ≡ record g { slots = with_file (set_value v p) d.slot g.slots }
-  written_there v =
-      ap (λ (o : Option ℕ). cond (is_some o) g (record g { slots = with_byte d v g.slots })) (passes g.slots d low f there p at)
-      ∙ ap (λ (ss : Slots). record g { slots = ss }) (with_byte_there g.slots d low f there p at v)
+  written_there v = grind (arith, passes, with_byte_there)
 
 pub read_leaves : (g : LoneGuest) (d : DeviceByte) → after_device_event g (device_reads d) ≡ g
-read_leaves g d = cases (is_some (byte_fault g.slots d))
-  where
-    cases : (t : Bool) → cond t g g ≡ g
-    cases true = refl
-    cases false = refl
+read_leaves g d = grind arith
 
 pub reads_leave_guests : ReadsLeaveGuests
 reads_leave_guests name d [] = refl
@@ -107,14 +92,7 @@ reads_leave_guests name d (t ∷ ts) = ap₂ (λ (x : GuestNow) (xs : GuestsNow)
     cases false = refl
 
 pub reads_written : ReadsWritten
-reads_written g d v fault f p there at stands =
-    let low : nat_le 32 d.slot ≡ false = low_slot g.slots d fault in
-    let new : Function = record f { file = set_value v p f.file } in
-    let slots : Slots = with_file (set_value v p) d.slot g.slots in
-    let now : slot_at slots d.slot ≡ Some new = ap (λ (ss : Slots). slot_at ss d.slot) (with_file_there (set_value v p) d.slot g.slots f there) ∙ slot_set g.slots d.slot f new there in
-    ap (λ (l : LoneGuest). device_answer l (device_reads d)) (written_there g d low f there p at v)
-    ∙ read_there (record g { slots = slots }) d low new now p at
-    ∙ ap (λ (c : Cell). answered c.value 1) (change_there (with_value (v % 256)) f.file p stands)
+reads_written g d v fault f p there at stands = grind (arith, low_slot, with_file_there, slot_set, written_there, read_there, change_there)
 
 -- ---- the board
 
@@ -128,26 +106,13 @@ board_byte f p other (e ∷ es) own stands = ap₂ (λ (x : Entry) (xs : File). 
 
     entry : (t : Bool) → is_own e.place ≡ t → (u : Bool) → place_eq e.place p ≡ u
         → agreed_entry (changed f p own) ≡ cond (place_eq (agreed_entry own).place p) (record (agreed_entry own) { cell = f (agreed_entry own).cell }) (agreed_entry own)
-    entry true i true k = let same = ap is_own (place_same e.place p k) in cc
-    entry true i false k = rw (i, k)
-    entry false i true k =
-        let cell : cell_at (changed f p own) e.place ≡ f (cell_at own e.place) =
-        subst (λ (x : Place). cell_at (changed f p own) x ≡ f (cell_at own x)) (sym (place_same e.place p k)) (change_there f own p stands) in
-        rw (i, cell, k)
-    entry false i false k =
-        let cell : cell_at (changed f p own) e.place ≡ cell_at own e.place = change_beside f own p e.place (place_turned p e.place ∙ k) in
-        rw (i, cell, k)
+    entry t i u k = grind (arith, place_same, change_there, change_beside, place_turned)
 
 pub bytes_alike : (v : ℕ) (p : Place) → is_device_byte p ≡ true → (own left : File) → agreed_file left (set_value v p own) ≡ byte_change own v p (agreed_file left own)
-bytes_alike v p reaches own left = cases (has_place own p) refl
-  where
-    cases : (t : Bool) → has_place own p ≡ t → agreed_file left (set_value v p own) ≡ cond t (set_value v p (agreed_file left own)) (agreed_file left own)
-    cases true stands = board_byte (with_value (v % 256)) p (device_not_own p reaches) left own stands
-    cases false none = ap (agreed_file left) (change_none (with_value (v % 256)) own p none)
+bytes_alike v p reaches own left = grind (arith, board_byte, device_not_own, change_none)
 
 guest_of_function : (o : Option GuestNow) (n : ℕ) (f : Function) → function_of o n ≡ Some f → (x : GuestNow) × (o ≡ Some x)
-guest_of_function None n f h = cc
-guest_of_function (Some x) n f h = (x, refl)
+guest_of_function o n f h = grind arith
 
 module _ (b : Board) (gs : GuestsNow) (seated : AreSeated b gs) (name : Text) (d : DeviceByte) (v : ℕ) (fault : device_fault (lone_of gs name).slots (device_writes d v) ≡ None)
     (p : Path) (f : Function) (q : Place) (path : path_in gs name d.slot ≡ Some p) (is : function_in gs name d.slot ≡ Some f) (at : device_place f d.part d.offset ≡ Some q) where

@@ -1,6 +1,6 @@
 -- What a guest is told by calls, and holds after them, is that of its own.
-use Rattle.std.proofs.Common.{◌≡◌, Bool, true, false, cond, List, [], ◌∷◌, ◌++◌, Some, None, Option, refl, sym, ap, ◌∙◌, subst}
-use Rattle.std.specs.Prelude.{map, is_some, option_map, IsSome}
+use Rattle.std.proofs.Common.{◌≡◌, Bool, true, false, cond, List, [], ◌∷◌, ◌++◌, Some, None, Option, refl, sym, ap, ◌∙◌, arith}
+use Rattle.std.specs.Prelude.{map, IsSome}
 use Rattle.std.specs.Str.{bytes_eq}
 use Rattle.model_registers.specs.Decoding.{Function}
 use Rattle.model_board.specs.Paths.{Path}
@@ -8,12 +8,12 @@ use Rattle.model_guests.specs.Accesses.{Reply, refused}
 use Rattle.model_guests.specs.Text.{Text}
 use Rattle.model_guests.specs.Grammar.{guest, host, nobody}
 use Rattle.model_guests.specs.Lone.{LoneGuest, answer, after_event, filled, emptied}
-use Rattle.model_guests.specs.Guests.{GuestNow, GuestsNow, guest_named, lone_of, with_guest, guest_after, Move, move_fault, handed_over, function_in, path_in, with_slot_emptied, with_slot_filled}
+use Rattle.model_guests.specs.Guests.{GuestNow, GuestsNow, guest_named, lone_of, with_guest, guest_after, Move, handed_over, with_slot_emptied, with_slot_filled}
 use Rattle.model_guests.specs.Lines.{nothing, guest_event, host_read, host_move, bad}
 use Rattle.model_guests.specs.WorldNow.{WorldNow}
 use Rattle.model_guests.specs.Inputs.{Input, loses, gets, inputs_of_move}
 use Rattle.model_guests.proofs.Names.{equal_texts}
-use Rattle.model_guests.proofs.GuestsByName.{Keeps, one, named_with}
+use Rattle.model_guests.proofs.GuestsByName.{Keeps, named_with}
 use Rattle.model_devices.specs.DeviceEvents.{device_answer, after_device_event, device_after}
 use Rattle.model_devices.specs.Calls.{Call, asks, at_device, after_call, after_calls, told, all_told, CallInput, own_event, own_bad, own_device, moved, inputs_of_call, call_inputs, alone_told, after_own_call, all_alone_told, after_own_calls, IsolatedByCalls}
 use Rattle.model_devices.proofs.OneGuest.{lone_own, lone_other}
@@ -29,11 +29,7 @@ lone_by f keeps k does n name gs there = cases (bytes_eq n name) refl
     cases false e = lone_other f keeps n name gs e
 
 pub still : (f : GuestNow → GuestNow) → Keeps f → (n name : Text) (gs : GuestsNow) → IsSome (guest_named gs name) → IsSome (guest_named (with_guest f n gs) name)
-still f keeps n name gs there = subst IsSome (sym (named_with f keeps n name gs)) (some (guest_named gs name) there)
-  where
-    some : (o : Option GuestNow) → IsSome o → IsSome (option_map (one f n) o)
-    some None h = cc
-    some (Some t) h = refl
+still f keeps n name gs there = grind (arith, named_with)
 
 -- ---- moves
 
@@ -51,15 +47,10 @@ touched name m p (Some f) gs there =
   where
     cases : (u v : Bool) → cond v (filled m.target f.decl (cond u (emptied m.slot (lone_of gs name)) (lone_of gs name))) (cond u (emptied m.slot (lone_of gs name)) (lone_of gs name))
         ≡ after_own_calls (lone_of gs name) (all_moved (cond u (loses m.slot ∷ []) [] ++ cond v (gets m.target f.decl ∷ []) []))
-    cases true true = refl
-    cases true false = refl
-    cases false true = refl
-    cases false false = refl
+    cases u v = grind arith
 
 still_moved : (name : Text) (m : Move) (p : Option Path) (o : Option Function) (gs : GuestsNow) → IsSome (guest_named gs name) → IsSome (guest_named (handed_over m p o gs) name)
-still_moved name m p None gs there = there
-still_moved name m p (Some f) gs there =
-    still (with_slot_filled m.target p f.decl) (λ t. refl) m.to name (with_guest (with_slot_emptied m.slot) m.from gs) (still (with_slot_emptied m.slot) (λ t. refl) m.from name gs there)
+still_moved name m p o gs there = grind (arith, still)
 
 -- ---- one call
 
@@ -72,17 +63,8 @@ holds_after w name there (asks (guest_event n e)) = lone_by (guest_after e) (λ 
     cases true = refl
     cases false = refl
 holds_after w name there (asks (host_read r)) = refl
-holds_after w name there (asks (host_move m)) = cases (is_some (move_fault w.guests m))
-  where
-    cases : (t : Bool) → lone_of (cond t w.guests (handed_over m (path_in w.guests m.from m.slot) (function_in w.guests m.from m.slot) w.guests)) name
-        ≡ after_own_calls (lone_of w.guests name) (all_moved (cond t [] (inputs_of_move name m (function_in w.guests m.from m.slot))))
-    cases true = refl
-    cases false = touched name m (path_in w.guests m.from m.slot) (function_in w.guests m.from m.slot) w.guests there
-holds_after w name there (asks (bad (guest n) k)) = cases (bytes_eq n name)
-  where
-    cases : (t : Bool) → lone_of w.guests name ≡ after_own_calls (lone_of w.guests name) (cond t (own_bad k ∷ []) [])
-    cases true = refl
-    cases false = refl
+holds_after w name there (asks (host_move m)) = grind (arith, touched)
+holds_after w name there (asks (bad (guest n) k)) = grind arith
 holds_after w name there (asks (bad host k)) = refl
 holds_after w name there (asks (bad nobody k)) = refl
 holds_after w name there (at_device n e) = lone_by (device_after e) (λ t. refl) (λ (g : LoneGuest). after_device_event g e) (λ t. refl) n name w.guests there ∙ cases (bytes_eq n name)
@@ -92,25 +74,12 @@ holds_after w name there (at_device n e) = lone_by (device_after e) (λ t. refl)
     cases false = refl
 
 pub there_after : (w : WorldNow) (name : Text) → IsSome (guest_named w.guests name) → (c : Call) → IsSome (guest_named (after_call w c).guests name)
-there_after w name there (asks nothing) = there
-there_after w name there (asks (guest_event n e)) = still (guest_after e) (λ t. refl) n name w.guests there
-there_after w name there (asks (host_read r)) = there
-there_after w name there (asks (host_move m)) = cases (is_some (move_fault w.guests m))
-  where
-    cases : (t : Bool) → IsSome (guest_named (cond t w.guests (handed_over m (path_in w.guests m.from m.slot) (function_in w.guests m.from m.slot) w.guests)) name)
-    cases true = there
-    cases false = still_moved name m (path_in w.guests m.from m.slot) (function_in w.guests m.from m.slot) w.guests there
-there_after w name there (asks (bad who k)) = there
-there_after w name there (at_device n e) = still (device_after e) (λ t. refl) n name w.guests there
+there_after w name there c = grind (arith, still, still_moved)
 
 -- what the guest is told, before what comes of later inputs
 abbrev pub Tells : WorldNow → Text → Call → Type 0
 Tells w name c = (more : List CallInput) → all_alone_told (lone_of w.guests name) (inputs_of_call name w.guests c ++ more)
     ≡ told name w c ++ all_alone_told (after_own_calls (lone_of w.guests name) (inputs_of_call name w.guests c)) more
-
-silent : (g : LoneGuest) (is : List Input) (more : List CallInput) → all_alone_told g (all_moved is ++ more) ≡ all_alone_told (after_own_calls g (all_moved is)) more
-silent g [] more = refl
-silent g (i ∷ is) more = silent (after_own_call g (moved i)) is more
 
 own_reply : (gs : GuestsNow) (n name : Text) (answer_of : LoneGuest → Reply) (i : CallInput) → ((g : LoneGuest) → alone_told g i ≡ answer_of g ∷ []) → (more : List CallInput)
     → all_alone_told (lone_of gs name) (cond (bytes_eq n name) (i ∷ []) [] ++ more)
@@ -127,12 +96,7 @@ pub tells : (w : WorldNow) (name : Text) (c : Call) → Tells w name c
 tells w name (asks nothing) more = refl
 tells w name (asks (guest_event n e)) more = own_reply w.guests n name (λ g. answer g e) (own_event e) (λ g. refl) more
 tells w name (asks (host_read r)) more = refl
-tells w name (asks (host_move m)) more = cases (is_some (move_fault w.guests m))
-  where
-    cases : (t : Bool) → all_alone_told (lone_of w.guests name) (all_moved (cond t [] (inputs_of_move name m (function_in w.guests m.from m.slot))) ++ more)
-        ≡ all_alone_told (after_own_calls (lone_of w.guests name) (all_moved (cond t [] (inputs_of_move name m (function_in w.guests m.from m.slot))))) more
-    cases true = refl
-    cases false = silent (lone_of w.guests name) (inputs_of_move name m (function_in w.guests m.from m.slot)) more
+tells w name (asks (host_move m)) more = grind arith
 tells w name (asks (bad (guest n) k)) more = own_reply w.guests n name (λ g. refused k) (own_bad k) (λ g. refl) more
 tells w name (asks (bad host k)) more = refl
 tells w name (asks (bad nobody k)) more = refl

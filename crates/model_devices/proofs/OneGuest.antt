@@ -1,6 +1,6 @@
 -- One guest among all, by its name: where it stands, and what changes of it come to.
-use Rattle.std.proofs.Common.{◌≡◌, ℕ, zero, suc, Bool, true, false, cond, [], ◌∷◌, Some, None, Option, refl, sym, ap, ap₂, ◌∙◌}
-use Rattle.std.specs.Prelude.{slice_get, slice_set, option_map, IsFalse, IsSome}
+use Rattle.std.proofs.Common.{◌≡◌, ℕ, zero, suc, Bool, true, false, cond, [], ◌∷◌, Some, Option, refl, sym, ap, ap₂, ◌∙◌, arith}
+use Rattle.std.specs.Prelude.{slice_get, slice_set, IsFalse, IsSome}
 use Rattle.std.specs.Option.{option_map_or}
 use Rattle.std.specs.Str.{bytes_eq}
 use Rattle.lists.specs.Elements.{Each, EachPair}
@@ -54,32 +54,13 @@ with_twice f g keeps name [] = refl
 with_twice f g keeps name (t ∷ ts) = ap₂ (λ (x : GuestNow) (xs : GuestsNow). x ∷ xs) (head (bytes_eq name t.name) refl) (with_twice f g keeps name ts)
   where
     head : (v : Bool) → bytes_eq name t.name ≡ v → one f name (one g name t) ≡ one (λ u. f (g u)) name t
-    head v e = ap (λ (n : Text). cond (bytes_eq name n) (f (one g name t)) (one g name t)) (one_name g keeps name t) ∙ cases (bytes_eq name t.name)
-      where
-        cases : (u : Bool) → cond u (f (cond u (g t) t)) (cond u (g t) t) ≡ cond u (f (g t)) t
-        cases true = refl
-        cases false = refl
+    head v e = grind (arith, one_name)
 
 -- ---- what guests hold after a change of one
 
-abbrev lone_in : Option GuestNow → LoneGuest
-lone_in o = option_map_or (λ (g : GuestNow). g.lone) o (reset_guest [])
-
 pub lone_own : (f : GuestNow → GuestNow) → Keeps f → (k : LoneGuest → LoneGuest) → ((t : GuestNow) → (f t).lone ≡ k t.lone) → (name : Text) (gs : GuestsNow) → IsSome (guest_named gs name)
     → lone_of (with_guest f name gs) name ≡ k (lone_of gs name)
-lone_own f keeps k does name gs there = ap lone_in (named_with f keeps name name gs) ∙ cases (guest_named gs name) refl there
-  where
-    cases : (o : Option GuestNow) → guest_named gs name ≡ o → IsSome o → lone_in (option_map (one f name) o) ≡ k (lone_in o)
-    cases None e h = cc
-    cases (Some t) e h =
-        let here : bytes_eq name t.name ≡ true = ap (bytes_eq name) (name_found gs name t e) ∙ same_text name in
-        ap (λ (v : Bool). (cond v (f t) t).lone) here ∙ does t
+lone_own f keeps k does name gs there = grind (arith, named_with, name_found, same_text)
 
 pub lone_other : (f : GuestNow → GuestNow) → Keeps f → (name other : Text) (gs : GuestsNow) → bytes_eq name other ≡ false → lone_of (with_guest f name gs) other ≡ lone_of gs other
-lone_other f keeps name other gs apart = ap lone_in (named_with f keeps name other gs) ∙ cases (guest_named gs other) refl
-  where
-    cases : (o : Option GuestNow) → guest_named gs other ≡ o → lone_in (option_map (one f name) o) ≡ lone_in o
-    cases None e = refl
-    cases (Some t) e =
-        let away : bytes_eq name t.name ≡ false = ap (bytes_eq name) (name_found gs other t e) ∙ apart in
-        ap (λ (v : Bool). (cond v (f t) t).lone) away
+lone_other f keeps name other gs apart = grind (arith, named_with, name_found)

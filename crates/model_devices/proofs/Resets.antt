@@ -1,5 +1,5 @@
 -- A reset of a function is a move to an empty slot and back, and resets the function on the board.
-use Rattle.std.proofs.Common.{◌≡◌, ℕ, zero, suc, Bool, true, false, not, ◌||◌, cond, List, [], ◌∷◌, Some, None, Option, refl, sym, ap, ap₂, ◌∙◌, subst}
+use Rattle.std.proofs.Common.{◌≡◌, ℕ, zero, suc, true, false, cond, List, [], ◌∷◌, Some, None, Option, refl, sym, ap, ap₂, ◌∙◌, subst, arith}
 use Rattle.std.specs.Prelude.{slice_get, slice_set, unwrap_or, is_some, nat_le, option_map, IsSome}
 use Rattle.std.specs.Option.{option_map_or}
 use Rattle.model_registers.specs.Registers.{File}
@@ -10,7 +10,7 @@ use Rattle.model_board.specs.Paths.{Path}
 use Rattle.model_board.specs.Board.{Board}
 use Rattle.model_board.specs.AtReset.{board_at}
 use Rattle.model_guests.specs.Accesses.{done, refused}
-use Rattle.model_guests.specs.Slots.{Slots, slot_at, reset_function}
+use Rattle.model_guests.specs.Slots.{Slots, slot_at}
 use Rattle.model_guests.specs.Text.{Text}
 use Rattle.model_guests.specs.Lone.{LoneGuest, filled}
 use Rattle.model_guests.specs.Guests.{GuestNow, GuestsNow, guest_named, lone_of, path_in, function_in, with_guest, Move, move_fault, after_move, handed_over, with_slot_emptied, with_slot_filled}
@@ -44,16 +44,10 @@ set_back (z ∷ zs) (suc n) x h = ap (λ ws. z ∷ ws) (set_back zs n x h)
 -- ---- the checks
 
 pub slot_taken : (slots : Slots) (n : ℕ) → slot_fault slots n ≡ None → nat_le 32 n ≡ false
-slot_taken slots n h = cases (nat_le 32 n) h
-  where
-    cases : (t : Bool) → cond t (Some 303) (cond {A = Option ℕ} (not (is_some (slot_at slots n))) (Some 601) None) ≡ None → t ≡ false
-    cases true e = cc
-    cases false e = refl
+slot_taken slots n h = grind arith
 
 pub taken_passes : (slots : Slots) (n : ℕ) (f : Function) → nat_le 32 n ≡ false → slot_at slots n ≡ Some f → slot_fault slots n ≡ None
-taken_passes slots n f low at =
-    ap (λ (t : Bool). cond t (Some 303) (cond {A = Option ℕ} (not (is_some (slot_at slots n))) (Some 601) None)) low
-    ∙ ap (λ (o : Option Function). cond {A = Option ℕ} (not (is_some o)) (Some 601) None) at
+taken_passes slots n f low at = grind arith
 
 -- ---- one guest
 
@@ -71,17 +65,12 @@ in_again : (x : GuestNow) (n : ℕ) (p : Path) (f : Function) → nat_le 32 n �
 in_again x n p f low path at =
     let paths : slice_set (slice_set x.paths n None) n (Some p) ≡ x.paths =
     set_twice x.paths n None (Some p) ∙ ap (slice_set x.paths n) (sym path) ∙ set_own x.paths n in
-    let slots : slice_set (slice_set x.lone.slots n None) n (reset_function (Some f.decl)) ≡ slice_set x.lone.slots n (reset_function (Some f.decl)) =
-    set_twice x.lone.slots n None (reset_function (Some f.decl)) in
-    ap₂ (λ (ps : List (Option Path)) (ss : Slots). let y : GuestNow = record { name = x.name; paths = ps; lone = record { slots = ss; latch = x.lone.latch } } in y) paths slots
-    ∙ ap (λ (l : LoneGuest). let y : GuestNow = record x { lone = l } in y) (sym (reset_there x.lone n f low at))
+    grind (arith, set_twice, reset_there)
 
 -- into an empty slot and out again
 out_again : (y : GuestNow) (m : ℕ) (p : Option Path) (f : Function) → path_at y.paths m ≡ None → slot_at y.lone.slots m ≡ None
     → with_slot_emptied m (with_slot_filled m p f.decl y) ≡ y
-out_again y m p f path at =
-    ap₂ (λ (ps : List (Option Path)) (ss : Slots). let z : GuestNow = record { name = y.name; paths = ps; lone = record { slots = ss; latch = y.lone.latch } } in z)
-    (set_back y.paths m p path) (set_back y.lone.slots m (reset_function (Some f.decl)) at)
+out_again y m p f path at = grind (arith, set_back)
 
 -- ---- moves
 
@@ -92,20 +81,10 @@ record Passed (gs : GuestsNow) (m : Move) : Type 0 where
   free : function_in gs m.to m.target ≡ None
 
 passed : (gs : GuestsNow) (m : Move) → move_fault gs m ≡ None → Passed gs m
-passed gs m h = cases (nat_le 32 m.slot) refl (nat_le 32 m.target) refl (function_in gs m.from m.slot) refl (function_in gs m.to m.target) refl h
-  where
-    cases : (a : Bool) → nat_le 32 m.slot ≡ a → (b : Bool) → nat_le 32 m.target ≡ b → (o : Option Function) → function_in gs m.from m.slot ≡ o → (q : Option Function) → function_in gs m.to m.target ≡ q
-        → cond {A = Option ℕ} (a || b) (Some 303) (cond (not (is_some o)) (Some 601) (cond (is_some q) (Some 602) None)) ≡ None → Passed gs m
-    cases true d b e o i q j h = cc
-    cases false d true e o i q j h = cc
-    cases false d false e None i q j h = cc
-    cases false d false e (Some f) i (Some k) j h = cc
-    cases false d false e (Some f) i None j h = record { low_slot = d; low_target = e; function = ap is_some i; free = j }
+passed gs m h = grind arith
 
 no_fault : (gs : GuestsNow) (m : Move) → nat_le 32 m.slot ≡ false → nat_le 32 m.target ≡ false → (f : Function) → function_in gs m.from m.slot ≡ Some f → function_in gs m.to m.target ≡ None → move_fault gs m ≡ None
-no_fault gs m low_slot low_target f function free =
-    ap₂ (λ (a b : Bool). cond {A = Option ℕ} (a || b) (Some 303) (cond (not (is_some (function_in gs m.from m.slot))) (Some 601) (cond (is_some (function_in gs m.to m.target)) (Some 602) None))) low_slot low_target
-    ∙ ap₂ (λ (o q : Option Function). cond {A = Option ℕ} (not (is_some o)) (Some 601) (cond (is_some q) (Some 602) None)) function free
+no_fault gs m low_slot low_target f function free = grind arith
 
 -- a move that is done, as two changes
 moved_as : (gs : GuestsNow) (m : Move) → move_fault gs m ≡ None → (p : Option Path) (f : Function) → path_in gs m.from m.slot ≡ p → function_in gs m.from m.slot ≡ Some f
@@ -115,41 +94,31 @@ moved_as gs m fault p f path function =
     ∙ ap₂ (λ (q : Option Path) (o : Option Function). handed_over m q o gs) path function
 
 no_function : (b : Board) (q : Option Path) (o : Option Function) → IsSeat b q o → q ≡ None → o ≡ None
-no_function b None None h e = refl
-no_function b None (Some f) h e = absurd h
-no_function b (Some p) o h e = cc
+no_function b q o h e = grind arith
 
 no_path : (b : Board) (q : Option Path) (o : Option Function) → IsSeat b q o → o ≡ None → q ≡ None
-no_path b None o h e = refl
-no_path b (Some p) None h e = absurd h
-no_path b (Some p) (Some f) h e = cc
+no_path b q o h e = grind arith
 
 path_seated : (b : Board) (q : Option Path) (f : Function) → IsSeat b q (Some f) → (p : Path) × (q ≡ Some p)
-path_seated b None f h = absurd h
-path_seated b (Some p) f h = (p, refl)
+path_seated b q f h = grind arith
 
 none_is_some : {A : Type 0} (x : A) → None ≡ Some x → ⊥
 none_is_some x h = cc
 
 none_of : {A : Type 0} (o : Option A) → ((x : A) → o ≡ Some x → ⊥) → o ≡ None
-none_of None h = refl
-none_of (Some x) h = absurd (h x refl)
+none_of o h = grind arith
 
 function_found : (o : Option Function) → is_some o ≡ true → (f : Function) × (o ≡ Some f)
-function_found None h = cc
-function_found (Some f) h = (f, refl)
+function_found o h = grind arith
 
 guest_found : (o : Option GuestNow) → IsSome o → (x : GuestNow) × (o ≡ Some x)
-guest_found None h = cc
-guest_found (Some x) h = (x, refl)
+guest_found o h = grind arith
 
 one_there_still : (g : GuestNow → GuestNow) (name : Text) (o : Option GuestNow) → IsSome o → IsSome (option_map (one g name) o)
-one_there_still g name None h = cc
-one_there_still g name (Some t) h = refl
+one_there_still g name o h = grind arith
 
 guest_of_function : (o : Option GuestNow) (n : ℕ) (f : Function) → function_of o n ≡ Some f → (x : GuestNow) × (o ≡ Some x)
-guest_of_function None n f h = cc
-guest_of_function (Some x) n f h = (x, refl)
+guest_of_function o n f h = grind arith
 
 module _ (b : Board) (gs : GuestsNow) (seated : AreSeated b gs) (name : Text) (n : ℕ) (f : Function) (is : function_in gs name n ≡ Some f) (p : Path) (path : path_in gs name n ≡ Some p) where
   one_there : (x : GuestNow) × (guest_named gs name ≡ Some x)
@@ -214,9 +183,6 @@ module _ (b : Board) (gs : GuestsNow) (seated : AreSeated b gs) (name to : Text)
   moved : IsMoved (after_move gs away) away p f
   moved = moved_function b gs seated away there fault p f the_path.1 the_function.1
 
-  first : after_move gs away ≡ with_guest (with_slot_filled m (Some p) f.decl) to left
-  first = moved_as gs away fault (Some p) f the_path.1 the_function.1
-
   back_fault : move_fault (after_move gs away) back ≡ None
   back_fault = no_fault (after_move gs away) back ok.low_target ok.low_slot (record { decl = f.decl; file = endpoint_reset f.decl false }) moved.function moved.no_function
 
@@ -249,14 +215,7 @@ module _ (b : Board) (gs : GuestsNow) (seated : AreSeated b gs) (name to : Text)
       (sym (ap (λ (o : Option GuestNow). function_of o m) taker.1) ∙ sym (function_named left to m) ∙ free_function))
 
   pub there_and_back : IsMoveAndBack gs name n to m
-  there_and_back = record {
-    reply = answered_here b gs seated name n f the_function.1 p the_path.1 ok.low_slot;
-    back_is_done = back_fault;
-    after = sym (second
-        ∙ ap (λ (s : GuestsNow). with_guest (with_slot_filled n (Some p) f.decl) name (with_guest (with_slot_emptied m) to s)) first
-        ∙ ap (with_guest (with_slot_filled n (Some p) f.decl) name) third
-        ∙ again b gs seated name n f the_function.1 p the_path.1 ok.low_slot);
-  }
+  there_and_back = grind (arith, answered_here, back_fault, second, third, again, moved_as)
 
 pub reset_by_moves : ResetByMoves
 reset_by_moves b gs seated name to n m there fault = there_and_back b gs seated name to n m there fault

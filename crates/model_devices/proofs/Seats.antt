@@ -1,21 +1,19 @@
 -- After an event at a device guests stay seated, and hold what the law says.
-use Rattle.std.proofs.Common.{◌≡◌, ℕ, zero, suc, ◌%◌, Bool, true, false, cond, List, [], ◌∷◌, Some, None, Option, refl, sym, ap, ap₂, ◌∙◌, subst}
-use Rattle.std.specs.Prelude.{slice_set, is_some}
+use Rattle.std.proofs.Common.{◌≡◌, ℕ, zero, suc, List, [], ◌∷◌, Some, None, Option, refl, ap, ap₂, subst, arith}
+use Rattle.std.specs.Prelude.{slice_set}
 use Rattle.std.specs.Option.{option_map_or}
 use Rattle.model_registers.specs.Decoding.{Function}
 use Rattle.model_board.specs.Paths.{Path}
 use Rattle.model_board.specs.Board.{Board}
-use Rattle.model_registers.specs.Registers.{Place}
-use Rattle.model_registers.specs.DeviceBytes.{with_value, set_value}
-use Rattle.model_guests.specs.Slots.{Slots, slot_at, with_file, reset_function}
+use Rattle.model_guests.specs.Slots.{slot_at, reset_function}
 use Rattle.model_guests.specs.Text.{Text}
 use Rattle.model_guests.specs.Lone.{LoneGuest, filled}
 use Rattle.model_guests.specs.Guests.{GuestNow, GuestsNow, with_guest}
 use Rattle.model_guests.specs.WorldNow.{names_of}
-use Rattle.model_guests.specs.Seated.{AreSeats, IsSeat, IsSeatedGuest}
+use Rattle.model_guests.specs.Seated.{AreSeats, IsSeat}
 use Rattle.model_guests.proofs.GuestsByName.{path_at, Keeps, one_name}
 use Rattle.model_guests.proofs.Seats.{seats_at, seats_set, changed_shape, with_file_seats, names_stay, guests_stay, paths_stay}
-use Rattle.model_devices.specs.DeviceEvents.{DeviceEvent, resets, device_reads, device_writes, DeviceByte, byte_landing, with_byte, device_fault, device_changed, reset_in, after_device_event, device_after}
+use Rattle.model_devices.specs.DeviceEvents.{DeviceEvent, resets, device_reads, device_writes, device_changed, reset_in, after_device_event, device_after}
 use Rattle.model_devices.specs.DeviceLaws.{NamesAfterDevices, OthersAfterDevice, OwnAfterDevice, SeatedAfterDevices}
 use Rattle.model_devices.proofs.OneGuest.{lone_own, lone_other}
 
@@ -27,8 +25,7 @@ set_own (q ∷ qs) zero = refl
 set_own (q ∷ qs) (suc n) = ap (λ (x : List (Option Path)). q ∷ x) (set_own qs n)
 
 at_reset : (b : Board) (p : Option Path) (f : Function) → IsSeat b p (Some f) → IsSeat b p (reset_function (Some f.decl))
-at_reset b None f h = h
-at_reset b (Some p) f h = record { decl = h.decl; shape = refl }
+at_reset b p f h = grind arith
 
 reset_seats : (b : Board) (qs : List (Option Path)) (n : ℕ) (g : LoneGuest) → AreSeats b qs g.slots → AreSeats b qs (reset_in n g).slots
 reset_seats b qs n g h = cases (slot_at g.slots n) refl
@@ -40,34 +37,15 @@ reset_seats b qs n g h = cases (slot_at g.slots n) refl
         subst (λ (x : List (Option Path)). AreSeats b x (slice_set g.slots n (reset_function (Some f.decl)))) (set_own qs n)
         (seats_set b qs g.slots n (path_at qs n) (reset_function (Some f.decl)) h (at_reset b (path_at qs n) f seat))
 
-byte_seats : (b : Board) (qs : List (Option Path)) (d : DeviceByte) (v : ℕ) (slots : Slots) → AreSeats b qs slots → AreSeats b qs (with_byte d v slots)
-byte_seats b qs d v slots h = cases (byte_landing (slot_at slots d.slot) d)
-  where
-    cases : (o : Option Place) → AreSeats b qs (option_map_or (λ (p : Place). with_file (set_value v p) d.slot slots) o slots)
-    cases None = h
-    cases (Some p) = with_file_seats b qs (set_value v p) (λ file. changed_shape (with_value (v % 256)) (λ c. refl) p file) d.slot slots h
-
 changed_seats : (b : Board) (qs : List (Option Path)) (g : LoneGuest) (e : DeviceEvent) → AreSeats b qs g.slots → AreSeats b qs (device_changed g e).slots
 changed_seats b qs g (resets n) h = reset_seats b qs n g h
 changed_seats b qs g (device_reads d) h = h
-changed_seats b qs g (device_writes d v) h = byte_seats b qs d v g.slots h
-
-device_seats : (b : Board) (qs : List (Option Path)) (g : LoneGuest) (e : DeviceEvent) → AreSeats b qs g.slots → AreSeats b qs (after_device_event g e).slots
-device_seats b qs g e h = cases (is_some (device_fault g.slots e))
-  where
-    cases : (t : Bool) → AreSeats b qs (cond t g (device_changed g e)).slots
-    cases true = h
-    cases false = changed_seats b qs g e h
+changed_seats b qs g (device_writes d v) h = grind (arith, with_file_seats, changed_shape)
 
 -- ---- all guests
 
 pub seated_after : SeatedAfterDevices
-seated_after b gs seated name e = record {
-  names_apart = names_stay (device_after e) (λ t. refl) name gs seated.names_apart;
-  guests = guests_stay (IsSeatedGuest b) (device_after e) (λ t h. record { count = h.count; seats = device_seats b t.paths t.lone e h.seats }) name gs seated.guests;
-  paths_apart = λ a c n m p h k. seated.paths_apart a c n m p (sym (paths_stay (device_after e) (λ t. refl) (λ t. refl) name a n gs) ∙ h)
-      (sym (paths_stay (device_after e) (λ t. refl) (λ t. refl) name c m gs) ∙ k);
-}
+seated_after b gs seated name e = grind (arith, names_stay, guests_stay, paths_stay, changed_seats)
 
 names_with : (f : GuestNow → GuestNow) → Keeps f → (n : Text) (gs : GuestsNow) → names_of (with_guest f n gs) ≡ names_of gs
 names_with f keeps n [] = refl
