@@ -1,7 +1,6 @@
 -- A hit lies in a region that is told there, and each address of an open region hits something.
-use Rattle.std.proofs.Common.{◌≡◌, ◌≤◌, ◌<◌, inl, inr, ℕ, zero, suc, ◌+◌, ◌-◌, Bool, true, false, ◌&&◌, cond, eqb, List, [], ◌∷◌, Some, None, Option, Ok, Err, refl, sym, ap, ap₂, ◌∙◌, subst, arith}
-use Rattle.std.specs.Prelude.{nat_le, nat_lt, find, option_map, is_some}
-use Rattle.std.specs.Option.{option_map_or, ok_or}
+use Rattle.std.proofs.Common.{◌≡◌, ◌≤◌, ◌<◌, inl, inr, ℕ, zero, suc, ◌+◌, ◌-◌, Bool, true, false, cond, eqb, List, [], ◌∷◌, Some, None, Option, Ok, refl, sym, ap, ◌∙◌, subst, arith}
+use Rattle.std.specs.Prelude.{find, option_map, is_some}
 use Rattle.std.proofs.lemmas.Bool.Decides.{nat_tests}
 use Rattle.lists.specs.Elements.{IsIn, EachPair, first_of_two}
 use Rattle.lists.proofs.Tests.{left_true, right_true}
@@ -9,12 +8,12 @@ use Rattle.lists.proofs.Members.{each_in}
 use Rattle.lists.proofs.Indices.{found_at, index_in}
 use Rattle.lists.proofs.FirstFound.{first_some_of}
 use Rattle.model_registers.specs.Registers.{block, File}
-use Rattle.model_registers.specs.Declarations.{Kind, io_kind, mem32, mem64, Region, registers_of}
-use Rattle.model_registers.specs.Decoding.{Space, io, memory, space_of, same_space, base, command_word, is_open, base_address, decodes, Hit, hit_of, Function, lone_claim, first_hit}
+use Rattle.model_registers.specs.Declarations.{Kind, Region, registers_of}
+use Rattle.model_registers.specs.Decoding.{Space, space_of, base, is_open, Hit, hit_of, Function, lone_claim, first_hit}
 use Rattle.model_registers.proofs.HitRegions.{space_same}
 use Rattle.model_guests.specs.Slots.{Slots, slot_at, Landing, landing_in, landing_from}
 use Rattle.model_guests.specs.Lone.{LoneGuest}
-use Rattle.model_queries.specs.Regions.{RegionNow, region_now, region_at, region_of, region_answer}
+use Rattle.model_queries.specs.Regions.{RegionNow, region_now, region_at, region_answer}
 use Rattle.model_queries.specs.QueryLaws.{HitIsInside, InsideIsHit}
 
 -- ---- a hit in a function
@@ -27,37 +26,16 @@ record Decodes (file : File) (space : Space) (a : ℕ) (r : Region) (h : Hit) : 
   hit : h ≡ record { index = r.index; offset = a - base file r.index r.kind }
 
 decodes_there : (file : File) (space : Space) (a : ℕ) (r : Region) (h : Hit) → hit_of file space a r ≡ Some h → Decodes file space a r h
-decodes_there file space a r h = by_test (decodes (command_word file) space a (base_address file r)) refl
-  where
-    by_test : (t : Bool) → decodes (command_word file) space a (base_address file r) ≡ t → cond t (Some (record { index = r.index; offset = a - base file r.index r.kind })) None ≡ Some h → Decodes file space a r h
-    by_test false d e = cc
-    by_test true d e =
-        let t1 : Bool = is_open file space in
-        let t2 : Bool = same_space (space_of r.kind) space in
-        let t3 : Bool = nat_le (base file r.index r.kind) a in
-        let t4 : Bool = nat_lt a (base file r.index r.kind + r.size) in
-        let from : (t1 && t2 && t3) ≡ true = left_true (t1 && t2 && t3) t4 d in
-        let both : (t1 && t2) ≡ true = left_true (t1 && t2) t3 from in
-        record {
-          opened = left_true t1 t2 both;
-          space_is = space_same (space_of r.kind) space (right_true t1 t2 both);
-          low = grind (arith, nat_tests, right_true (t1 && t2) t3 from);
-          high = grind (arith, nat_tests, right_true (t1 && t2 && t3) t4 d);
-          hit = cc;
-        }
+decodes_there file space a r h = grind (arith, left_true, space_same, right_true, nat_tests)
 
 some_registers : (k : Kind) → 1 ≤ registers_of k
-some_registers io_kind = omega arith
-some_registers (mem32 pref) = omega arith
-some_registers (mem64 pref) = omega arith
+some_registers k = grind arith
 
 -- where no two regions begin at one register, each is found by its own
 found_by_register : (rs : List Region) → EachPair (λ (r s : Region). r.index + registers_of r.kind ≤ s.index) rs → (r : Region) → IsIn r rs
     → find (λ (s : Region). eqb s.index r.index) rs ≡ Some r
 found_by_register [] order r there = absurd there
-found_by_register (s ∷ rs) order r (inl here) =
-    let same : eqb s.index r.index ≡ true = subst (λ (x : Region). eqb s.index x.index ≡ true) (sym here) (grind (arith, nat_tests)) in
-    ap (λ (t : Bool). cond t (Some s) (find (λ (s : Region). eqb s.index r.index) rs)) same ∙ ap (λ (x : Region). Some x) (sym here)
+found_by_register (s ∷ rs) order r (inl here) = grind (arith, nat_tests)
 found_by_register (s ∷ rs) order r (inr later) =
     let after : s.index + registers_of s.kind ≤ r.index = each_in _ r rs order.0 later in
     let some : 1 ≤ registers_of s.kind = some_registers s.kind in
@@ -95,11 +73,7 @@ lands_at space a n (Some f ∷ fs) l e = by_claim (lone_claim f space a) refl e 
 
 answer_there : (g : LoneGuest) (n m : ℕ) (f : Function) (r : Region) → n < 32 → slot_at g.slots n ≡ Some f → region_at f m ≡ Some r
     → region_answer g n m ≡ Ok (region_now f.file r)
-answer_there g n m f r low there at =
-    let few : nat_le 32 n ≡ false = grind (arith, nat_tests) in
-    ap (λ (t : Bool). cond t (Err 303) (option_map_or (λ (x : Function). region_of x m) (slot_at g.slots n) (Err 601))) few
-    ∙ ap (λ (o : Option Function). option_map_or (λ (x : Function). region_of x m) o (Err 601)) there
-    ∙ ap (λ (o : Option Region). ok_or (option_map (region_now f.file) o) 303) at
+answer_there g n m f r low there at = grind (arith, nat_tests)
 
 pub hit_is_inside : HitIsInside
 hit_is_inside g lawful space a l e =
@@ -131,43 +105,17 @@ pub record IsTold (g : LoneGuest) (n m : ℕ) (r : RegionNow) : Type 0 where
   pub is : region_now f.file region ≡ r
 
 told_there : (g : LoneGuest) (n m : ℕ) (r : RegionNow) → region_answer g n m ≡ Ok r → IsTold g n m r
-told_there g n m r = by_number (nat_le 32 n)
-  where
-    by_region : (f : Function) → slot_at g.slots n ≡ Some f → (o : Option Region) → region_at f m ≡ o → ok_or {E = ℕ} (option_map (region_now f.file) o) 303 ≡ Ok r → IsTold g n m r
-    by_region f there None at e = cc
-    by_region f there (Some x) at e =
-        let found = found_at (λ (y : Region). eqb y.index m) f.decl.regions x at in
-        record { f = f; region = x; there = there; at = index_in f.decl.regions found.1.0 x found.1.1; is = cc }
-
-    by_function : (o : Option Function) → slot_at g.slots n ≡ o → option_map_or (λ (x : Function). region_of x m) o (Err 601) ≡ Ok r → IsTold g n m r
-    by_function None there e = cc
-    by_function (Some f) there e = by_region f there (region_at f m) refl e
-
-    by_number : (t : Bool) → cond t (Err 303) (option_map_or (λ (x : Function). region_of x m) (slot_at g.slots n) (Err 601)) ≡ Ok r → IsTold g n m r
-    by_number true e = cc
-    by_number false e = by_function (slot_at g.slots n) refl e
+told_there g n m r = grind (arith, found_at, index_in)
 
 some_first : {A : Type 0} (o p : Option A) → is_some o ≡ true → is_some (first_of_two o p) ≡ true
-some_first None p h = cc
-some_first (Some x) p h = refl
+some_first o p h = grind arith
 
 some_second : {A : Type 0} (o p : Option A) → is_some p ≡ true → is_some (first_of_two o p) ≡ true
-some_second None p h = h
-some_second (Some x) p h = refl
-
-same_self : (s : Space) → same_space s s ≡ true
-same_self io = refl
-same_self memory = refl
+some_second o p h = grind arith
 
 some_hit : (file : File) (a : ℕ) (r : Region) → is_open file (space_of r.kind) ≡ true → base file r.index r.kind ≤ a → a < base file r.index r.kind + r.size
     → is_some (hit_of file (space_of r.kind) a r) ≡ true
-some_hit file a r opened low high =
-    let t3 : nat_le (base file r.index r.kind) a ≡ true = grind (arith, nat_tests) in
-    let t4 : nat_lt a (base file r.index r.kind + r.size) ≡ true = grind (arith, nat_tests) in
-    let all : decodes (command_word file) (space_of r.kind) a (base_address file r) ≡ true =
-    ap₂ (λ (t u : Bool). t && same_space (space_of r.kind) (space_of r.kind) && u && nat_lt a (base file r.index r.kind + r.size)) opened t3
-    ∙ ap₂ (λ (t u : Bool). true && t && true && u) (same_self (space_of r.kind)) t4 in
-    ap (λ (t : Bool). is_some (cond t (Some (let h : Hit = record { index = r.index; offset = a - base file r.index r.kind } in h)) None)) all
+some_hit file a r opened low high = grind (arith, nat_tests)
 
 some_first_hit : (file : File) (space : Space) (a : ℕ) (r : Region) (rs : List Region) → IsIn r rs → is_some (hit_of file space a r) ≡ true → is_some (first_hit file rs space a) ≡ true
 some_first_hit file space a r [] there h = absurd there
@@ -175,16 +123,10 @@ some_first_hit file space a r (x ∷ rs) (inl here) h =
     some_first (hit_of file space a x) (first_hit file rs space a) (subst (λ (y : Region). is_some (hit_of file space a y) ≡ true) here h)
 some_first_hit file space a r (x ∷ rs) (inr later) h = some_second (hit_of file space a x) (first_hit file rs space a) (some_first_hit file space a r rs later h)
 
-some_named : (n : ℕ) (o : Option Hit) → is_some o ≡ true → is_some (option_map (λ (h : Hit). let l : Landing = record { slot = n; place = block h.index h.offset } in l) o) ≡ true
-some_named n None h = cc
-some_named n (Some x) h = refl
-
 some_landing : (space : Space) (a k : ℕ) (fs : Slots) (n : ℕ) (f : Function) → slot_at fs n ≡ Some f → is_some (lone_claim f space a) ≡ true → is_some (landing_from k space a fs) ≡ true
 some_landing space a k [] n f there h = cc
 some_landing space a k (None ∷ fs) zero f there h = cc
-some_landing space a k (Some x ∷ fs) zero f there h =
-    let same : f ≡ x = cc in
-    some_first (landing_in k space a (Some x)) (landing_from (k + 1) space a fs) (some_named k (lone_claim x space a) (subst (λ (y : Function). is_some (lone_claim y space a) ≡ true) same h))
+some_landing space a k (Some x ∷ fs) zero f there h = grind (arith, some_first)
 some_landing space a k (x ∷ fs) (suc n) f there h = some_second (landing_in k space a x) (landing_from (k + 1) space a fs) (some_landing space a (k + 1) fs n f there h)
 
 pub inside_is_hit : InsideIsHit

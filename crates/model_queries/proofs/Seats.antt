@@ -1,10 +1,10 @@
 -- A seat that is told holds the function, and where none is told no slot does.
-use Rattle.std.proofs.Common.{◌≡◌, ℕ, zero, suc, ◌+◌, Bool, true, false, cond, List, [], ◌∷◌, Option, Some, None, refl, sym, ap, ◌∙◌, subst, arith}
+use Rattle.std.proofs.Common.{◌≡◌, ℕ, suc, ◌+◌, Bool, true, false, cond, List, [], ◌∷◌, Option, Some, None, refl, sym, ap, ◌∙◌, arith}
 use Rattle.std.specs.Prelude.{option_map, position, unwrap_or, slice_get}
 use Rattle.std.specs.List.{position_from}
 use Rattle.std.proofs.lemmas.Iterator.Adapters.{position_from-zero}
 use Rattle.lists.specs.Elements.{first_of_two}
-use Rattle.model_board.specs.Paths.{Path, path_eq}
+use Rattle.model_board.specs.Paths.{Path}
 use Rattle.model_board.proofs.PathOrder.{path_same}
 use Rattle.model_board.proofs.PathEnds.{path_self}
 use Rattle.model_guests.specs.Guests.{GuestNow, GuestsNow}
@@ -38,9 +38,7 @@ none_at {A} t n (y ∷ ys) e k x there = by (t y) refl e (λ f j h. none_at t (n
     by : (b : Bool) → t y ≡ b → cond b (Some n) (position_from t (n + 1) ys) ≡ None
         → (position_from t (n + 1) ys ≡ None → (j : ℕ) → slice_get ys j ≡ Some x → t x ≡ false)
         → (k : ℕ) → slice_get (y ∷ ys) k ≡ Some x → t x ≡ false
-    by true h f more k there = cc
-    by false h f more zero there = let same : y ≡ x = cc in ap t (sym same) ∙ h
-    by false h f more (suc k) there = more f k there
+    by b h f more k there = grind arith
 
 -- ---- one guest
 
@@ -54,23 +52,10 @@ path_in g n = unwrap_or (slice_get g.paths n) None
 held_in : (p : Path) (g : GuestNow) (n : ℕ) → position (is_there p) g.paths ≡ Some n → path_in g n ≡ Some p
 held_in p g n e =
     let first = first_at (is_there p) 0 g.paths n (sym (position_from-zero (is_there p) g.paths) ∙ e) in
-    let same : n ≡ first.place = omega (arith, first.from) in
-    ap (λ k. unwrap_or (slice_get g.paths k) None) same
-    ∙ ap (λ o. unwrap_or o None) first.there
-    ∙ is_it p first.element first.passes
+    grind (arith, is_it)
 
 not_in : (p : Path) (g : GuestNow) → position (is_there p) g.paths ≡ None → (n : ℕ) → path_in g n ≡ Some p → ⊥
-not_in p g e n = by (slice_get g.paths n) refl
-  where
-    none : (q : Option Path) → slice_get g.paths n ≡ Some q → is_there p q ≡ false
-    none q there = none_at (is_there p) 0 g.paths (sym (position_from-zero (is_there p) g.paths) ∙ e) n q there
-
-    by : (o : Option (Option Path)) → slice_get g.paths n ≡ o → unwrap_or o None ≡ Some p → ⊥
-    by None there h = cc
-    by (Some q) there h =
-        let missed : is_there p (Some p) ≡ false = ap (is_there p) (sym h) ∙ none q there in
-        let itself : path_eq p p ≡ true = path_self p in
-        cc
+not_in p g e n = grind (arith, none_at, position_from-zero, path_self)
 
 -- ---- all guests
 
@@ -91,11 +76,7 @@ holds_from p i (g ∷ gs) s e = by (position (is_there p) g.paths) refl e (holds
     by : (o : Option ℕ) → position (is_there p) g.paths ≡ o
         → first_of_two (option_map (λ (n : ℕ). record { guest = i; slot = n }) o) (seat_from p (i + 1) gs) ≡ Some s
         → (seat_from p (i + 1) gs ≡ Some s → HoldsFrom p (i + 1) gs s) → HoldsFrom p i (g ∷ gs) s
-    by None here f more = later (more f)
-    by (Some n) here f more =
-        let told : record { guest = i; slot = n } ≡ s = cc in
-        subst (HoldsFrom p i (g ∷ gs)) told
-        (record { place = 0; from = omega arith; holds = held_in p g n here })
+    by o here f more = grind (arith, later, held_in)
 
 pub seats_hold : SeatsHold
 seats_hold gs p s e =
@@ -111,9 +92,7 @@ none_from p i (g ∷ gs) e k n h = by (position (is_there p) g.paths) refl e (λ
         → first_of_two (option_map (λ (n : ℕ). record { guest = i; slot = n }) o) (seat_from p (i + 1) gs) ≡ None
         → (seat_from p (i + 1) gs ≡ None → (j : ℕ) → path_in_seat gs (record { guest = j; slot = n }) ≡ Some p → ⊥)
         → (k : ℕ) → path_in_seat (g ∷ gs) (record { guest = k; slot = n }) ≡ Some p → ⊥
-    by (Some x) here f more k h = cc
-    by None here f more zero h = not_in p g here n h
-    by None here f more (suc k) h = more f k h
+    by o here f more k h = grind (arith, not_in)
 
 pub no_seat_holds : NoSeatHolds
 no_seat_holds gs p e s h = none_from p 0 gs e s.guest s.slot h

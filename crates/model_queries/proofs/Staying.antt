@@ -1,28 +1,28 @@
 -- Where a region stands changes by nothing else than writes of its registers, moves and resets of its function.
-use Rattle.std.proofs.Common.{◌≡◌, ◌≤◌, ◌<◌, ℕ, zero, suc, ◌+◌, ◌*◌, ◌/◌, ◌%◌, Bool, true, false, ◌&&◌, ◌||◌, not, cond, eqb, leb, ltb, List, [], ◌∷◌, length, Some, None, Option, Ok, Err, Result, refl, sym, ap, ap₂, ◌∙◌, subst, arith}
-use Rattle.std.specs.Prelude.{nat_le, slice_set, option_map, is_some, IsSome, ⊤, MatchOption}
-use Rattle.std.specs.Option.{option_map_or, ok_or}
+use Rattle.std.proofs.Common.{◌≡◌, ◌≤◌, ◌<◌, ℕ, zero, suc, ◌+◌, ◌*◌, ◌/◌, ◌%◌, Bool, true, false, ◌&&◌, ◌||◌, cond, eqb, List, [], ◌∷◌, length, Some, None, Option, Err, Result, refl, sym, ap, ap₂, ◌∙◌, subst, arith}
+use Rattle.std.specs.Prelude.{nat_le, slice_set, IsSome, ⊤, MatchOption}
+use Rattle.std.specs.Option.{option_map_or}
 use Rattle.std.specs.Str.{bytes_eq}
 use Rattle.std.proofs.lemmas.Bool.{or_parts, eqb-true}
 use Rattle.std.proofs.lemmas.Bool.Decides.{nat_tests}
 use Rattle.lists.specs.Elements.{Each}
 use Rattle.lists.proofs.Indices.{found_at, each_at}
-use Rattle.model_registers.specs.Cell.{Cell, written, raised}
+use Rattle.model_registers.specs.Cell.{Cell, written}
 use Rattle.model_registers.specs.Registers.{Place, config, block, place_eq, after, File, cell_at, changed, read, write, raise, all_bytes}
-use Rattle.model_registers.specs.Declarations.{Kind, io_kind, mem32, mem64, Region, Endpoint, registers_of, IsLawfulRegion}
+use Rattle.model_registers.specs.Declarations.{Kind, io_kind, mem32, mem64, Endpoint, registers_of, IsLawfulRegion}
 use Rattle.model_registers.specs.DeclarationRules.{IsLawfulEndpoint}
-use Rattle.model_registers.specs.Decoding.{Function, space_of, base, command_word, opens_space}
+use Rattle.model_registers.specs.Decoding.{Function, base, command_word}
 use Rattle.model_registers.specs.OwnCopies.{is_own}
 use Rattle.model_registers.proofs.RegisterFiles.{place_same, change_at_place}
 use Rattle.model_registers.proofs.Owned.{no_cell_stays, raised_none}
 use Rattle.model_board.specs.Paths.{Path}
 use Rattle.model_board.specs.Board.{Board}
 use Rattle.model_board.specs.Lawful.{HasLawfulDecls}
-use Rattle.model_guests.specs.Accesses.{Event, access, raises, Access, Raise, Target, configuration, port, address, Op, reads, writes}
-use Rattle.model_guests.specs.Slots.{Slots, slot_at, with_file, Landing, effect, event_fault, raise_place, raise_landing, affected}
+use Rattle.model_guests.specs.Accesses.{Event, access, raises, Access, Raise, Target, Op, writes}
+use Rattle.model_guests.specs.Slots.{Slots, slot_at, with_file, Landing, effect, raise_place, raise_landing, affected}
 use Rattle.model_guests.specs.Text.{Text}
-use Rattle.model_guests.specs.Lone.{LoneGuest, Destination, own_latch, by_select, select_at, destination, after_access_at, after_event, changed_by, filled, emptied}
-use Rattle.model_guests.specs.Guests.{GuestNow, GuestsNow, guest_named, lone_of, with_guest, guest_after, function_in, path_in, Move, move_fault, handed_over, with_slot_emptied, with_slot_filled}
+use Rattle.model_guests.specs.Lone.{LoneGuest, own_latch, destination, after_access_at, after_event, filled, emptied}
+use Rattle.model_guests.specs.Guests.{GuestNow, GuestsNow, guest_named, lone_of, with_guest, guest_after, path_in, Move, handed_over, with_slot_emptied, with_slot_filled}
 use Rattle.model_guests.specs.Lines.{nothing, guest_event, host_read, host_move, bad}
 use Rattle.model_guests.specs.Seated.{AreSeated, IsSeat}
 use Rattle.model_guests.proofs.GuestFiles.{slot_set}
@@ -30,14 +30,14 @@ use Rattle.model_guests.proofs.GuestsByName.{Keeps}
 use Rattle.model_guests.proofs.SeatedMoves.{seat_in}
 use Rattle.model_guests.proofs.CopiesNeverRise.{declared_lawful}
 use Rattle.model_guests.proofs.KeptCopies.{copies_never_rise}
-use Rattle.model_devices.specs.DeviceEvents.{resets, device_reads, device_writes, DeviceByte, byte_landing, with_byte, device_changed, device_fault, reset_in, after_device_event, device_after}
+use Rattle.model_devices.specs.DeviceEvents.{resets, device_reads, device_writes, DeviceByte, byte_landing, with_byte, after_device_event, device_after}
 use Rattle.model_devices.specs.Calls.{asks, at_device}
 use Rattle.model_registers.specs.DeviceBytes.{is_device_byte, with_value, set_value}
 use Rattle.model_registers.proofs.DeviceBytes.{device_not_own, change_beside}
 use Rattle.model_devices.proofs.Bytes.{reached, read_leaves}
 use Rattle.model_devices.proofs.Calls.{lone_by, still}
-use Rattle.model_queries.specs.Regions.{RegionNow, region_now, region_at, region_of, region_answer}
-use Rattle.model_queries.specs.Located.{located, is_latch_access}
+use Rattle.model_queries.specs.Regions.{RegionNow, region_of, region_answer}
+use Rattle.model_queries.specs.Located.{located}
 use Rattle.model_queries.specs.StayLaws.{tells_regions, any_tells, is_write, rewrites, RegionsStay}
 use Rattle.model_queries.proofs.Landings.{same_destination, byte_goes, changed_there}
 
@@ -62,21 +62,10 @@ same_base f g alike (mem64 pref) n h = ap (λ m. m / 16 * 16) (same_number f g a
 same_command : (f g : File) → Alike f g → command_word f ≡ command_word g
 same_command f g alike = ap₂ (λ (a b : Cell). a.value + 256 * (b.value + 256 * 0)) (alike (config 4) refl) (alike (config 5) refl)
 
-same_region : (f g : File) → Alike f g → (r : Region) → r.index + registers_of r.kind ≤ 6 → region_now f r ≡ region_now g r
-same_region f g alike r h =
-    ap₂ (λ (n : ℕ) (c : ℕ). record (region_now g r) { first = n; is_open = opens_space c (space_of r.kind) }) (same_base f g alike r.kind r.index h) (same_command f g alike)
-
 -- ---- a function whose file is changed
 
 same_of : (f : Function) → Each IsLawfulRegion f.decl.regions → (file : File) → Alike file f.file → (n : ℕ) → region_of (record f { file = file }) n ≡ region_of f n
-same_of f lawful file alike n = cases (region_at f n) refl
-  where
-    cases : (o : Option Region) → region_at f n ≡ o → ok_or {E = ℕ} (option_map (region_now file) o) 303 ≡ ok_or (option_map (region_now f.file) o) 303
-    cases None e = refl
-    cases (Some r) e =
-        let at = (found_at (λ (s : Region). eqb s.index n) f.decl.regions r e).1 in
-        let is : IsLawfulRegion r = each_at IsLawfulRegion f.decl.regions at.0 r lawful at.1 in
-        ap (λ (x : RegionNow). Ok x) (same_region file f.file alike r is.registers)
+same_of f lawful file alike n = grind (arith, found_at, each_at, same_base, same_command)
 
 -- ---- slots
 
@@ -103,19 +92,12 @@ changed_answer change k slot n slots same = cases (slot_at slots k) refl (eqb k 
     cases (Some f) e true h =
         let is : k ≡ slot = eqb-true k slot h in
         let there : slot_at slots slot ≡ Some f = ap (slot_at slots) (sym is) ∙ e in
-        ap (λ (m : ℕ). answer_of slot n (slot_at (slice_set slots m (Some (record f { file = change f.file }))) slot)) is
-        ∙ ap (answer_of slot n) (slot_set slots slot f (record f { file = change f.file }) there)
-        ∙ ap (λ (r : Result RegionNow ℕ). cond (nat_le 32 slot) (Err 303) r) (same h f there)
-        ∙ ap (answer_of slot n) (sym there)
+        grind (arith, slot_set, there)
 
 -- ---- cells after a write and after a raise
 
 not_there : (p q : Place) → tells_regions p ≡ false → tells_regions q ≡ true → place_eq p q ≡ false
-not_there p q other tells = cases (place_eq p q) refl
-  where
-    cases : (t : Bool) → place_eq p q ≡ t → t ≡ false
-    cases false e = refl
-    cases true e = sym (ap tells_regions (place_same p q e) ∙ tells) ∙ other
+not_there p q other tells = grind (arith, place_same)
 
 kept_by_write : (w x : ℕ) (p q : Place) (file : File) → any_tells w p ≡ false → tells_regions q ≡ true → cell_at (write (all_bytes w) x p file) q ≡ cell_at file q
 kept_by_write zero x p q file none tells = refl
@@ -125,14 +107,8 @@ kept_by_write (suc w) x p q file none tells =
     ∙ change_at_place (written (x % 256)) (no_cell_stays (x % 256)) file p q
     ∙ ap (λ (t : Bool). cond t (written (x % 256) (cell_at file q)) (cell_at file q)) (not_there p q parts.0 tells)
 
-more_than : (a b h c : Bool) → (a || b || c) ≡ true → (a || b || h || c) ≡ true
-more_than true b h c e = refl
-more_than false true h c e = refl
-more_than false false true c e = refl
-more_than false false false c e = e
-
 pub tells_own : (q : Place) → tells_regions q ≡ true → is_own q ≡ true
-tells_own (config off) h = more_than (eqb off 4) (eqb off 5) (eqb off 0x0e) (leb 0x10 off && ltb off 0x28) h
+tells_own (config off) h = grind arith
 tells_own (block n off) h = cc
 
 -- ---- one guest
@@ -164,42 +140,19 @@ module _ (b : Board) (decls : HasLawfulDecls b) (gs : GuestsNow) (seated : AreSe
 
   by_op : (op : Op) (w : ℕ) (t : Target) → (is_write op && option_map_or (λ (l : Landing). eqb l.slot slot && any_tells w l.place) (located g t) false) ≡ false
       → answer_of slot n (slot_at (effect op w g.slots (located g t)) slot) ≡ answer_of slot n (slot_at g.slots slot)
-  by_op reads w t none = refl
-  by_op (writes v) w t none = by_write w v (located g t) none
+  by_op op w t none = grind (arith, by_write)
 
   at_latch : (op : Op) (w : ℕ) → Stays (after_access_at g op w own_latch)
-  at_latch reads w = refl
-  at_latch (writes v) w = refl
-
-  latch_is : (w : ℕ) (t : Target) → is_latch_access t w ≡ true → destination g.latch w t ≡ own_latch
-  latch_is w (configuration k off) h = cc
-  latch_is w (port a) h = ap (λ (u : Bool). cond u own_latch (by_select (port a) (select_at g.latch a))) h
-  latch_is w (address a) h = cc
+  at_latch op w = grind arith
 
   by_access : (a : Access) → rewrites slot g (access a) ≡ false → Stays (after_access_at g a.op a.width (destination g.latch a.width a.target))
-  by_access a none = cases (is_latch_access a.target a.width) refl
-    where
-      cases : (u : Bool) → is_latch_access a.target a.width ≡ u → Stays (after_access_at g a.op a.width (destination g.latch a.width a.target))
-      cases true e = ap (λ (d : Destination). region_answer (after_access_at g a.op a.width d) slot n) (latch_is a.width a.target e) ∙ at_latch a.op a.width
-      cases false e =
-          ap (λ (h : LoneGuest). region_answer h slot n)
-          (ap (after_access_at g a.op a.width) (same_destination g.latch a.width a.target e) ∙ changed_there g a.op a.width (destination g.latch 1 a.target) (byte_goes g.latch a.target))
-          ∙ by_op a.op a.width a.target none
+  by_access a none = grind (arith, at_latch, same_destination, changed_there, byte_goes, by_op)
 
   own_elsewhere : (p q : Place) → is_own p ≡ false → tells_regions q ≡ true → place_eq p q ≡ false
-  own_elsewhere p q other tells = cases (place_eq p q) refl
-    where
-      cases : (t : Bool) → place_eq p q ≡ t → t ≡ false
-      cases false e = refl
-      cases true e = sym (ap is_own (place_same p q e) ∙ tells_own q tells) ∙ other
+  own_elsewhere p q other tells = grind (arith, place_same, tells_own)
 
   raised_alike : (m : ℕ) (p : Place) (f : Function) → slot_at g.slots slot ≡ Some f → Alike (raise m p f.file) f.file
-  raised_alike m p f there q tells = cases (is_own p) refl
-    where
-      cases : (t : Bool) → is_own p ≡ t → cell_at (raise m p f.file) q ≡ cell_at f.file q
-      cases true own = ap (λ (x : File). cell_at x q) (copies_never_rise b decls gs seated name slot f there m p own)
-      cases false other =
-          change_at_place (raised m) (raised_none m) f.file p q ∙ ap (λ (t : Bool). cond t (raised m (cell_at f.file q)) (cell_at f.file q)) (own_elsewhere p q other tells)
+  raised_alike m p f there q tells = grind (arith, copies_never_rise, change_at_place, raised_none, own_elsewhere)
 
   by_raise : (r : Raise) → answer_of slot n (slot_at (affected g.slots (raises r)) slot) ≡ answer_of slot n (slot_at g.slots slot)
   by_raise r = cases (raise_landing (slot_at g.slots r.slot) r)
@@ -231,22 +184,10 @@ module _ (b : Board) (decls : HasLawfulDecls b) (gs : GuestsNow) (seated : AreSe
   by_device_read d = ap (λ (h : LoneGuest). region_answer h slot n) (read_leaves g d)
 
   pub by_device_write : (d : DeviceByte) (v : ℕ) → Stays (after_device_event g (device_writes d v))
-  by_device_write d v = cases (is_some (device_fault g.slots (device_writes d v)))
-    where
-      cases : (t : Bool) → Stays (cond t g (device_changed g (device_writes d v)))
-      cases true = refl
-      cases false = by_byte d v
+  by_device_write d v = grind (arith, by_byte)
 
   pub by_event : (e : Event) → rewrites slot g e ≡ false → Stays (after_event g e)
-  by_event e none = cases (is_some (event_fault g.slots e))
-    where
-      change : (x : Event) → rewrites slot g x ≡ false → Stays (changed_by g x)
-      change (access a) h = by_access a h
-      change (raises r) h = by_raise r
-
-      cases : (t : Bool) → Stays (cond t g (changed_by g e))
-      cases true = refl
-      cases false = change e none
+  by_event e none = grind (arith, by_access, by_raise)
 
 -- ---- another slot
 
@@ -257,15 +198,7 @@ pub filled_beside : (g : LoneGuest) (d : Endpoint) (k slot n : ℕ) → eqb k sl
 filled_beside g d k slot n apart = ap (answer_of slot n) (slot_beside g.slots k slot (Some (record { decl = d; file = _ })) apart)
 
 pub reset_beside : (g : LoneGuest) (k slot n : ℕ) → eqb k slot ≡ false → region_answer (after_device_event g (resets k)) slot n ≡ region_answer g slot n
-reset_beside g k slot n apart = refused (is_some (device_fault g.slots (resets k)))
-  where
-    there : (o : Option Function) → region_answer (option_map_or (λ (f : Function). filled k f.decl g) o g) slot n ≡ region_answer g slot n
-    there None = refl
-    there (Some f) = filled_beside g f.decl k slot n apart
-
-    refused : (t : Bool) → region_answer (cond t g (reset_in k g)) slot n ≡ region_answer g slot n
-    refused true = refl
-    refused false = there (slot_at g.slots k)
+reset_beside g k slot n apart = grind (arith, filled_beside)
 
 -- ---- all guests
 
@@ -281,8 +214,7 @@ beside f keeps k does who name gs there slot n same =
     cases false e = refl
 
 asked : (a b : Bool) → (a && b) ≡ false → a ≡ true → b ≡ false
-asked true b h e = h
-asked false b h e = cc
+asked a b h e = grind arith
 
 moved : (name : Text) (m : Move) (p : Option Path) (o : Option Function) (gs : GuestsNow) → IsSome (guest_named gs name) → (slot n : ℕ)
     → ((bytes_eq m.from name && eqb m.slot slot) || (bytes_eq m.to name && eqb m.target slot)) ≡ false
@@ -302,12 +234,7 @@ regions_stay b decls w seated name there slot n (asks (guest_event who e)) none 
     beside (guest_after e) (λ t. refl) (λ (g : LoneGuest). after_event g e) (λ t. refl) who name w.guests there slot n
     (λ here. by_event b decls w.guests seated name slot n e (asked (bytes_eq who name) (rewrites slot (lone_of w.guests name) e) none here))
 regions_stay b decls w seated name there slot n (asks (host_read r)) none = refl
-regions_stay b decls w seated name there slot n (asks (host_move m)) none = cases (is_some (move_fault w.guests m)) none
-  where
-    cases : (t : Bool) → (not t && ((bytes_eq m.from name && eqb m.slot slot) || (bytes_eq m.to name && eqb m.target slot))) ≡ false
-        → region_answer (lone_of (cond t w.guests (handed_over m (path_in w.guests m.from m.slot) (function_in w.guests m.from m.slot) w.guests)) name) slot n ≡ region_answer (lone_of w.guests name) slot n
-    cases true apart = refl
-    cases false apart = moved name m (path_in w.guests m.from m.slot) (function_in w.guests m.from m.slot) w.guests there slot n apart
+regions_stay b decls w seated name there slot n (asks (host_move m)) none = grind (arith, moved)
 regions_stay b decls w seated name there slot n (asks (bad who k)) none = refl
 regions_stay b decls w seated name there slot n (at_device who (resets k)) none =
     beside (device_after (resets k)) (λ t. refl) (λ (g : LoneGuest). after_device_event g (resets k)) (λ t. refl) who name w.guests there slot n
