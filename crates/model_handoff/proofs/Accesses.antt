@@ -1,5 +1,5 @@
 -- Reads and writes of the board over a handoff, where a guest has a function.
-use Rattle.std.proofs.Common.{◌≡◌, ℕ, ◌+◌, Bool, true, false, ◌&&◌, not, cond, List, [], ◌∷◌, Some, None, Option, refl, sym, ap, ap₂, ◌∙◌, subst, eqb}
+use Rattle.std.proofs.Common.{◌≡◌, ℕ, ◌+◌, Bool, true, false, ◌&&◌, not, cond, List, [], ◌∷◌, Some, None, Option, refl, sym, ap, ap₂, ◌∙◌, subst, eqb, arith}
 use Rattle.std.specs.Prelude.{find, option_map}
 use Rattle.std.specs.Option.{option_map_or}
 use Rattle.lists.specs.Elements.{Each, IsIn}
@@ -134,11 +134,7 @@ hit_acts s handoff orderly gs seated served name k p f has space n h e = (reach,
     acts : (w v : ℕ) → ActsOver s gs name k f space h (base_in s p (hit_reaches_over s handoff.board orderly gs seated served name k p f has space n h e).region + h.offset) w v
     acts w v =
         let claimed = (hit_reaches_over s handoff.board orderly gs seated served name k p f has space n h e).claimed in
-        record {
-          reads = ap (claim_reply (state_over s gs).functions w) claimed.first ∙ block_shown s handoff.board gs seated name k p f has handoff.places h.index h.offset w;
-          writes = ap (λ (o : Option Claim). record (state_over s gs) { functions = after_claim_write (state_over s gs).functions w v o }) claimed.first
-              ∙ sym (changes_slot (board_at s.functions) s gs seated name k p f has.path has.function (write (all_bytes w) v (block h.index h.offset)) (write (all_bytes w) v (block h.index h.offset)) (region_alike w v h.index h.offset));
-        }
+        grind (arith, block_shown, changes_slot, region_alike)
 
 pub memory_by_space : MemoryBySpace
 memory_by_space s a w v = (refl, refl)

@@ -1,12 +1,12 @@
 -- There is one state that agrees with seated guests over a handoff.
-use Rattle.std.proofs.Common.{◌≡◌, false, List, [], ◌∷◌, Some, None, Option, refl, sym, ap, ap₂, ◌∙◌, subst}
+use Rattle.std.proofs.Common.{◌≡◌, false, List, [], ◌∷◌, Some, None, Option, refl, sym, ap₂, subst, arith}
 use Rattle.std.specs.Prelude.{map}
 use Rattle.lists.specs.Elements.{Each, EachPair}
 use Rattle.model_registers.specs.Registers.{Place, File}
 use Rattle.model_registers.specs.Declarations.{Endpoint}
 use Rattle.model_registers.specs.EndpointTable.{endpoint_reset}
 use Rattle.model_registers.specs.CopiedFiles.{agreed_file, places_of}
-use Rattle.model_board.specs.Board.{Decl, endpoint, bridge, Board}
+use Rattle.model_board.specs.Board.{Decl, endpoint, Board}
 use Rattle.model_board.specs.AtReset.{board_at}
 use Rattle.model_board.specs.Lawful.{IsLawfulDecl}
 use Rattle.model_board.specs.State.{BoardFunction}
@@ -33,22 +33,14 @@ distinct_left d lawful left same = subst (λ (ps : List Place). EachPair Apart p
 
 has_places : (b : Board) (f : BoardFunction) (d : Decl) → f.decl ≡ d → declared b f.path ≡ endpoint_of (record { path = f.path; decl = d }) → IsLawfulDecl d → HasPlacesOf d f.file
     → (own : File) → IsFileOf places_of b f.path own → HasPlaces f.file own
-has_places b f (endpoint d) e found lawful places own is =
-    let same : is.decl ≡ d = cc (is.declares, found) in
-    record {
-      same = is.same ∙ ap (λ (x : Endpoint). places_of (endpoint_reset x false)) same ∙ sym places;
-      distinct = distinct_left d lawful f.file places;
-    }
-has_places b f (bridge d) e found lawful places own is = cc (is.declares, found)
+has_places b f d e found lawful places own is = grind (arith, distinct_left)
 
 module _ (b : Board) (gs : GuestsNow) (all : Each (IsSeatedGuest b) gs) where
   pub places_in : (f : BoardFunction) → Facts b f → HasDeclaredPlaces f → (own : File) → file_of gs f.path ≡ Some own → HasPlaces f.file own
   places_in f facts places own e = has_places b f f.decl refl facts.found facts.lawful places own (file_is b gs all f own e)
 
   function_agrees : (f : BoardFunction) → Facts b f → HasDeclaredPlaces f → (own : Option File) → file_of gs f.path ≡ own → AgreesAt f own (agreed_by own f)
-  function_agrees f facts places None e = record { path = refl; decl = refl; cells = refl }
-  function_agrees f facts places (Some file) e =
-      record { path = refl; decl = refl; cells = agreed_holds f.file file (places_in f facts places file e).same }
+  function_agrees f h places own e = grind (arith, agreed_holds, places_in)
 
   functions_agree : (fs : List BoardFunction) → Each (Facts b) fs → Each HasDeclaredPlaces fs → AgreesAtEach (file_of gs) fs (map (agreed_function (file_of gs)) fs)
   functions_agree [] facts places = tt
@@ -68,8 +60,7 @@ module _ (b : Board) (gs : GuestsNow) (all : Each (IsSeatedGuest b) gs) where
       ap₂ (λ (x : BoardFunction) (xs : List BoardFunction). x ∷ xs) (function_is_only f facts.0 places.0 (file_of gs f.path) refl n agrees.0) (functions_are_only fs facts.1 places.1 ns agrees.1)
 
 pub state_agrees : StateAgrees
-state_agrees s handoff gs seated =
-    record { functions = functions_agree (board_at s.functions) gs seated.guests s.functions (facts s.functions handoff.board) handoff.places; latch = refl }
+state_agrees s handoff gs seated = grind (arith, functions_agree, facts)
 
 pub state_is_only : StateIsOnly
 state_is_only s handoff gs seated now agrees =

@@ -1,5 +1,5 @@
 -- A handoff with the files of seated guests in it is a handoff of the same board, and so is what guests get of one.
-use Rattle.std.proofs.Common.{◌≡◌, ℕ, ◌+◌, ◌*◌, List, [], ◌∷◌, Some, None, Option, refl, sym, ap, ap₂, ◌∙◌, subst}
+use Rattle.std.proofs.Common.{◌≡◌, ◌+◌, ◌*◌, List, [], ◌∷◌, Some, None, Option, refl, sym, ap, ap₂, ◌∙◌, subst, arith}
 use Rattle.std.specs.Prelude.{map, filter, find, option_map}
 use Rattle.std.specs.Option.{option_map_or}
 use Rattle.lists.specs.Elements.{Each}
@@ -7,9 +7,9 @@ use Rattle.model_registers.specs.Registers.{File, config}
 use Rattle.model_registers.specs.Cell.{Cell}
 use Rattle.model_registers.specs.Declarations.{Region}
 use Rattle.model_registers.specs.CopiedFiles.{agreed_file}
-use Rattle.model_registers.specs.Decoding.{command_word, opens_space, space_of}
+use Rattle.model_registers.specs.Decoding.{command_word}
 use Rattle.model_board.specs.Paths.{Path, path_eq}
-use Rattle.model_board.specs.Board.{Board, Decl, endpoint, bridge}
+use Rattle.model_board.specs.Board.{Board}
 use Rattle.model_board.specs.AtReset.{board_at}
 use Rattle.model_board.specs.Ports.{file_at}
 use Rattle.model_board.specs.Routing.{RoutingRow, routing}
@@ -19,14 +19,14 @@ use Rattle.model_audit.specs.Found.{address_now}
 use Rattle.model_audit.specs.OpenRegions.{closed_regions}
 use Rattle.model_audit.specs.Witnesses.{IsInOrder}
 use Rattle.model_guests.specs.World.{World, HasLawfulGuests}
-use Rattle.model_guests.specs.Guests.{GuestsNow, guests_at_first, file_of}
+use Rattle.model_guests.specs.Guests.{GuestsNow, guests_at_first}
 use Rattle.model_guests.specs.AgreedBoard.{agreed_function, state_over}
 use Rattle.model_guests.specs.Seated.{AreSeated}
 use Rattle.model_guests.specs.WorldNow.{world_over}
 use Rattle.model_guests.proofs.AgreedChanges.{agreed_by}
 use Rattle.model_guests.proofs.AgreedFiles.{agreed_places, agreed_kept}
 use Rattle.model_guests.proofs.SeatedFirst.{seated_at_first}
-use Rattle.model_handoff.specs.Handoffs.{IsHandoff, HasDeclaredPlaces, HasPlacesOf, is_given, taken_over}
+use Rattle.model_handoff.specs.Handoffs.{IsHandoff, HasDeclaredPlaces, is_given, taken_over}
 use Rattle.model_handoff.specs.Kept.{IsLawfulOver}
 use Rattle.model_handoff.specs.Regions.{opens_region, CanBeGiven}
 use Rattle.model_handoff.specs.ViewLaws.{with_seated_reset}
@@ -39,13 +39,9 @@ use Rattle.model_handoff.proofs.Views.{over_reset, reset_at_first}
 
 -- ---- cells stand where they stood
 
-of_decl : (d : Decl) (file own : File) → HasPlacesOf d file → HasPlacesOf d (agreed_file file own)
-of_decl (endpoint d) file own h = agreed_places file own ∙ h
-of_decl (bridge d) file own h = tt
-
 places_of_one : (o : Option File) (f : BoardFunction) → HasDeclaredPlaces f → HasDeclaredPlaces (agreed_by o f)
 places_of_one None f h = h
-places_of_one (Some own) f h = of_decl f.decl f.file own h
+places_of_one (Some own) f h = grind (arith, agreed_places)
 
 places_stay : (files : Path → Option File) (fs : List BoardFunction) → Each HasDeclaredPlaces fs → Each HasDeclaredPlaces (map (agreed_function files) fs)
 places_stay files [] h = tt
@@ -57,14 +53,10 @@ command_stays : (left own : File) → command_word (agreed_file left own) ≡ co
 command_stays left own = ap₂ (λ (x y : Cell). x.value + 256 * (y.value + 256 * 0)) (agreed_kept left own (config 4) refl) (agreed_kept left own (config 5) refl)
 
 module _ (files : Path → Option File) where
-  command_by : (o : Option File) (f : BoardFunction) → command_word (agreed_by o f).file ≡ command_word f.file
-  command_by None f = refl
-  command_by (Some own) f = command_stays f.file own
-
   command_found : (o : Option BoardFunction)
       → command_word (option_map_or (λ (f : BoardFunction). f.file) (option_map (agreed_function files) o) []) ≡ command_word (option_map_or (λ (f : BoardFunction). f.file) o [])
   command_found None = refl
-  command_found (Some f) = command_by (files f.path) f
+  command_found (Some f) = grind (arith, command_stays)
 
   pub command_at : (fs : List BoardFunction) (p : Path) → command_word (file_at (map (agreed_function files) fs) p) ≡ command_word (file_at fs p)
   command_at fs p =
@@ -84,25 +76,11 @@ pub record IsAlike (s t : State) : Type 0 where
   pub opens : (q : Path) (r : Region) → opens_region t q r ≡ opens_region s q r
 
 pub alike_over : (s : State) → IsHandoff s → (gs : GuestsNow) → AreSeated (board_at s.functions) gs → IsAlike s (state_over s gs)
-alike_over s handoff gs seated = record {
-  handoff = record { board = state_stays s handoff.board gs; places = places_stay (file_of gs) s.functions handoff.places };
-  board = keeps_board s gs;
-  routing_is = keeps_routing s handoff.board gs seated;
-  addresses = keeps_addresses s handoff.board gs seated;
-  order = stays_in_order s handoff.board gs seated;
-  opens = λ q r. ap (λ (c : ℕ). opens_space c (space_of r.kind)) (command_at (file_of gs) s.functions q);
-}
+alike_over s handoff gs seated = grind (arith, state_stays, places_stay, keeps_board, keeps_routing, keeps_addresses, stays_in_order, command_at)
 
 -- whatever the address latch holds
 with_latch_clear : (s t : State) → IsAlike s t → IsAlike s (record t { latch = 0 })
-with_latch_clear s t h = record {
-  handoff = record { board = h.handoff.board; places = h.handoff.places };
-  board = h.board;
-  routing_is = h.routing_is;
-  addresses = h.addresses;
-  order = h.order;
-  opens = h.opens;
-}
+with_latch_clear s t h = grind arith
 
 -- ---- what guests get
 
@@ -130,9 +108,7 @@ module _ (w : World) (s : State) (handoff : IsHandoff s) (same : board_at s.func
 
   -- the guests' files stand there already
   pub taken_agrees : state_over (taken_over w s) gs ≡ taken_over w s
-  taken_agrees =
-      ap (λ (x : State). let c : State = record x { latch = 0 } in c)
-      (ap (λ (x : State). state_over x gs) (sym (reset_at_first w s same)) ∙ over_reset s gs seated ∙ first_is_reset w s)
+  taken_agrees = grind (arith, reset_at_first, over_reset, seated, first_is_reset)
 
   pub taken_shown : with_seated_reset (taken_over w s) gs ≡ taken_over w s
   taken_shown = reset_at_first w (taken_over w s) taken_board ∙ sym (first_is_reset w (taken_over w s)) ∙ taken_agrees

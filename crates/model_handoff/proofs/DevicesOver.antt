@@ -1,6 +1,5 @@
 -- What happens at devices leaves the world lawful.
-use Rattle.std.proofs.Common.{refl}
-use Rattle.model_board.specs.AtReset.{board_at}
+use Rattle.std.proofs.Common.{refl, arith}
 use Rattle.model_devices.specs.DeviceEvents.{device_after}
 use Rattle.model_devices.proofs.Seats.{seated_after}
 use Rattle.model_handoff.specs.DevicesOver.{LawfulAfterDevices, ResetAfterDevices}
@@ -8,12 +7,7 @@ use Rattle.model_handoff.proofs.Served.{served_with}
 use Rattle.model_handoff.proofs.Views.{reset_with}
 
 pub lawful_after_devices : LawfulAfterDevices
-lawful_after_devices w name e h = record {
-  handoff = h.handoff;
-  order = h.order;
-  seated = seated_after (board_at w.handoff.functions) w.guests h.seated name e;
-  served = served_with (device_after e) (λ t. refl) (λ t. refl) w.handoff w.guests h.served name;
-}
+lawful_after_devices w name e h = grind (arith, seated_after, served_with)
 
 pub reset_after_devices : ResetAfterDevices
 reset_after_devices s gs name e = reset_with (device_after e) (λ t. refl) s gs name

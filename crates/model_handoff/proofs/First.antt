@@ -1,5 +1,5 @@
 -- Before any event each given function is at reset.
-use Rattle.std.proofs.Common.{◌≡◌, ℕ, zero, suc, Bool, true, false, ◌||◌, cond, ◌-◌, List, [], ◌∷◌, ◌++◌, length, Some, None, Option, refl, sym, ap, ap₂, ◌∙◌}
+use Rattle.std.proofs.Common.{◌≡◌, ℕ, zero, suc, Bool, true, false, ◌||◌, cond, ◌-◌, List, [], ◌∷◌, ◌++◌, length, Some, None, Option, refl, sym, ap, ap₂, ◌∙◌, arith}
 use Rattle.std.specs.Prelude.{map, flat_map, replicate, option_map, IsTrue}
 use Rattle.std.specs.List.{list_any}
 use Rattle.std.specs.Option.{option_map_or}
@@ -7,9 +7,9 @@ use Rattle.lists.specs.Elements.{Each, first_of_two}
 use Rattle.model_registers.specs.Registers.{File}
 use Rattle.model_registers.specs.Declarations.{Endpoint}
 use Rattle.model_registers.specs.Decoding.{Function}
-use Rattle.model_registers.specs.CopiedFiles.{agreed_file, after_reset}
+use Rattle.model_registers.specs.CopiedFiles.{after_reset}
 use Rattle.model_board.specs.Paths.{Path, path_eq}
-use Rattle.model_board.specs.Board.{Decl, endpoint, bridge, Board}
+use Rattle.model_board.specs.Board.{Decl, Board}
 use Rattle.model_board.specs.AtReset.{board_at}
 use Rattle.model_board.specs.Lawful.{IsLawfulDecl}
 use Rattle.model_board.specs.State.{BoardFunction, with_file}
@@ -48,11 +48,7 @@ module _ (w : World) (p : Path) where
   none (suc k) (suc j) = none k j
 
   one_file : (q : Path) → q ≡ p → option_map (λ (f : Function). f.file) (reset_function (declared w.board q)) ≡ reset_here
-  one_file q e = ap (λ (x : Path). option_map (λ (f : Function). f.file) (reset_function (declared w.board x))) e ∙ by (declared w.board p)
-    where
-      by : (o : Option Endpoint) → option_map (λ (f : Function). f.file) (reset_function o) ≡ option_map file_at_reset o
-      by None = refl
-      by (Some d) = refl
+  one_file q e = grind arith
 
   in_slots : (qs : List Path) (k j : ℕ) → file_in (map Some qs ++ replicate k None) (map reset_function (map (declared w.board) qs ++ replicate j None)) p ≡ cond (among qs) reset_here None
   in_slots [] k j = none k j
@@ -65,14 +61,7 @@ module _ (w : World) (p : Path) where
       by false e more = more
 
   joined : (u v : Bool) (o : Option File) → first_of_two (cond u o None) (cond v o None) ≡ cond (u || v) o None
-  joined true true None = refl
-  joined true true (Some f) = refl
-  joined true false None = refl
-  joined true false (Some f) = refl
-  joined false true None = refl
-  joined false true (Some f) = refl
-  joined false false None = refl
-  joined false false (Some f) = refl
+  joined u v o = grind arith
 
   in_guests : (gs : List Guest) → file_of (map (guest_at_first w) gs) p ≡ cond (among (flat_map (λ (g : Guest). g.slots) gs)) reset_here None
   in_guests [] = refl
@@ -90,22 +79,7 @@ first_is_reset w s =
 module _ (w : World) (b : Board) (same : b ≡ w.board) where
   one_stays : (f : BoardFunction) (d : Decl) → f.decl ≡ d → declared b f.path ≡ endpoint_of (record { path = f.path; decl = d }) → IsLawfulDecl d → HasPlacesOf d f.file
       → (IsTrue (is_given w f.path) → HoldsReset d f.file) → agreed_function (reset_files w) f ≡ f
-  one_stays f d e found lawful places reset = by (is_given w f.path) refl
-    where
-      of_decl : (d : Decl) → declared b f.path ≡ endpoint_of (record { path = f.path; decl = d }) → IsLawfulDecl d → HasPlacesOf d f.file → HoldsReset d f.file
-          → agreed_by (option_map file_at_reset (declared w.board f.path)) f ≡ f
-      of_decl (bridge d) found lawful places holds =
-          let none : declared w.board f.path ≡ None = ap (λ (x : Board). declared x f.path) (sym same) ∙ found in
-          ap (λ (o : Option Endpoint). agreed_by (option_map file_at_reset o) f) none
-      of_decl (endpoint d) found lawful places holds =
-          let here : declared w.board f.path ≡ Some d = ap (λ (x : Board). declared x f.path) (sym same) ∙ found in
-          let file : f.file ≡ agreed_file f.file (file_at_reset d) =
-          only_file f.file (file_at_reset d) f.file (distinct_left d lawful f.file places) (record { places = refl; kept = λ p h. refl; common = holds }) in
-          ap (λ (o : Option Endpoint). agreed_by (option_map file_at_reset o) f) here ∙ ap (λ (x : File). record f { file = x }) (sym file)
-
-      by : (t : Bool) → is_given w f.path ≡ t → agreed_by (cond t (option_map file_at_reset (declared w.board f.path)) None) f ≡ f
-      by false g = refl
-      by true g = of_decl d found lawful places (reset g)
+  one_stays f d e found lawful places reset = grind (arith, none, same, only_file, distinct_left)
 
   all_stay : (fs : List BoardFunction) → Each (Facts b) fs → Each HasDeclaredPlaces fs → Each (λ f. IsTrue (is_given w f.path) → HoldsReset f.decl f.file) fs → map (agreed_function (reset_files w)) fs ≡ fs
   all_stay [] facts places reset = refl
@@ -124,16 +98,10 @@ module _ (b : Board) (p : Path) where
   file_here o t = cond (t || false) (option_map file_at_reset o) None
 
   given_here : (f : BoardFunction) → files_given b (p ∷ []) f.path ≡ file_here (declared b p) (path_eq f.path p)
-  given_here f = by (path_eq p f.path) refl
-    where
-      by : (t : Bool) → path_eq p f.path ≡ t → file_here (declared b f.path) (path_eq p f.path) ≡ file_here (declared b p) (path_eq f.path p)
-      by true e = ap₂ file_here (ap (declared b) (sym (path_same p f.path e))) (path_eq-sym p f.path)
-      by false e = ap (file_here (declared b f.path)) e ∙ ap (file_here (declared b p)) (sym e ∙ path_eq-sym p f.path)
+  given_here f = grind (arith, path_same, path_eq-sym)
 
   one_by : (o : Option Endpoint) (f : BoardFunction) (t : Bool) → agreed_by (file_here o t) f ≡ cond t (option_map_or (λ (d : Endpoint). record f { file = after_reset d f.file }) o f) f
-  one_by None f true = refl
-  one_by (Some d) f true = refl
-  one_by o f false = refl
+  one_by o f t = grind arith
 
   pub one_given : (o : Option Endpoint) → declared b p ≡ o → (fs : List BoardFunction)
       → map (agreed_function (files_given b (p ∷ []))) fs ≡ option_map_or (λ (d : Endpoint). with_file (after_reset d) p fs) o fs

@@ -1,5 +1,5 @@
 -- The functions of a state of a lawful board, with the guests that are seated there.
-use Rattle.std.proofs.Common.{◌≡◌, true, List, Some, None, Option, refl, ap, ◌∙◌}
+use Rattle.std.proofs.Common.{◌≡◌, true, List, Some, None, Option, refl, ap, ◌∙◌, arith}
 use Rattle.lists.specs.Elements.{Each}
 use Rattle.lists.proofs.EachLemmas.{each_both, each_map}
 use Rattle.model_registers.specs.Registers.{File}
@@ -51,13 +51,10 @@ module _ (b : Board) (gs : GuestsNow) (all : Each (IsSeatedGuest b) gs) where
 
 -- whoever tells the files
 pub path_stays : (own : Option File) (f : BoardFunction) → (agreed_by own f).path ≡ f.path
-path_stays None f = refl
-path_stays (Some file) f = refl
+path_stays own f = grind arith
 
 pub row_stays : (own : Option File) (f : BoardFunction) → row_at (agreed_by own f) ≡ row_at f
-row_stays None f = refl
-row_stays (Some file) f = refl
+row_stays own f = grind arith
 
 pub decl_stays : (own : Option File) (f : BoardFunction) → (agreed_by own f).decl ≡ f.decl
-decl_stays None f = refl
-decl_stays (Some file) f = refl
+decl_stays own f = grind arith

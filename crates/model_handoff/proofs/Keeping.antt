@@ -1,28 +1,27 @@
 -- What guests can't change of a handoff: its board, its routing registers, what configuration cycles reach, and what an
 -- audit tells.
-use Rattle.std.proofs.Common.{◌≡◌, ℕ, Bool, true, false, ◌&&◌, cond, List, [], ◌∷◌, ◌++◌, Some, None, Option, refl, sym, ap, ap₂, ◌∙◌, subst, eqb, nat_le}
-use Rattle.std.specs.Prelude.{map, find, flat_map, not}
+use Rattle.std.proofs.Common.{◌≡◌, ℕ, Bool, true, false, ◌&&◌, cond, List, [], ◌∷◌, ◌++◌, Some, None, Option, refl, sym, ap, ap₂, ◌∙◌, subst, eqb, arith}
+use Rattle.std.specs.Prelude.{map, find, not}
 use Rattle.std.specs.Option.{option_map, option_map_or}
 use Rattle.lists.specs.Elements.{Each}
 use Rattle.lists.proofs.EachLemmas.{each_both, each_map, each_of_map}
 use Rattle.lists.proofs.Tests.{and_false}
 use Rattle.model_registers.specs.Registers.{config, File, cell_at}
-use Rattle.model_registers.specs.OwnCopies.{is_own}
 use Rattle.model_registers.specs.Declarations.{Endpoint}
 use Rattle.model_registers.specs.CopiedFiles.{agreed_file}
 use Rattle.std.proofs.lemmas.Bool.Decides.{nat_tests}
 use Rattle.std.proofs.Common.{arith}
-use Rattle.model_board.specs.Paths.{Part, Path, path_eq, parent, last_part}
+use Rattle.model_board.specs.Paths.{Part, Path, path_eq}
 use Rattle.model_board.specs.Board.{Decl, endpoint, bridge, Row, Board, is_bridge}
 use Rattle.model_board.specs.AtReset.{board_at}
 use Rattle.model_board.specs.BusNumbers.{secondary, subordinate}
-use Rattle.model_board.specs.Cycles.{secondary_register, subordinate_register, covers, taker, takes, is_route, ends_in, reached_type0, reached_type1, BusAddress, reached}
+use Rattle.model_board.specs.Cycles.{secondary_register, subordinate_register, taker, takes, is_route, ends_in, reached_type0, reached_type1, BusAddress, reached}
 use Rattle.model_board.specs.Lawful.{IsLawfulDecl}
 use Rattle.model_board.specs.Routing.{routing}
 use Rattle.model_board.specs.RoutingLaws.{is_routing_register, HasSameRouting}
 use Rattle.model_board.specs.State.{BoardFunction, State, row_at}
 use Rattle.model_board.proofs.Routing.{flat_map_map, routing_of_change}
-use Rattle.model_audit.specs.Found.{is_bridge_at, bus_now, address_now, path_reached}
+use Rattle.model_audit.specs.Found.{address_now, path_reached}
 use Rattle.model_audit.specs.Problems.{Problem, not_found, routing_problems, numbering_problem, numbering_problems}
 use Rattle.model_audit.proofs.Witnesses.{problems_decide}
 use Rattle.model_guests.specs.Guests.{GuestsNow, file_of}
@@ -46,10 +45,7 @@ keeps_board s gs = rows_stay (file_of gs) s.functions
 
 -- an endpoint's are among those of which a guest has copies
 endpoint_routes : (d : Endpoint) (left own : File) (n : ℕ) → is_routing_register (endpoint d) n ≡ true → (cell_at left (config n)).value ≡ (cell_at (agreed_file left own) (config n)).value
-endpoint_routes d left own n routes = ap (λ c. c.value) (sym (agreed_kept left own (config n) (mine routes)))
-  where
-    mine : is_routing_register (endpoint d) n ≡ true → is_own (config n) ≡ true
-    mine h = grind (arith, nat_tests, h)
+endpoint_routes d left own n routes = grind (arith, agreed_kept, nat_tests)
 
 module _ (b : Board) (gs : GuestsNow) (all : Each (IsSeatedGuest b) gs) where
   abbrev pub now_of : BoardFunction → BoardFunction
@@ -89,11 +85,7 @@ module _ (g : BoardFunction → BoardFunction) (paths : (f : BoardFunction) → 
   find_bridge t only (f ∷ fs) stays = by (is_bridge f.decl) refl (find_bridge t only fs stays.1)
     where
       by : (v : Bool) → is_bridge f.decl ≡ v → find t (map g fs) ≡ find t fs → find t (g f ∷ map g fs) ≡ find t (f ∷ fs)
-      by true e more = ap₂ (λ (x : BoardFunction) (o : Option BoardFunction). cond (t x) (Some x) o) (stays.0 e) more
-      by false e more =
-          let here : t f ≡ false = only f e in
-          let there : t (g f) ≡ false = only (g f) (ap is_bridge (decls f) ∙ e) in
-          ap (λ v. cond v (Some (g f)) (find t (map g fs))) there ∙ more ∙ ap (λ v. cond v (Some f) (find t fs)) (sym here)
+      by v e more = grind arith
 
   -- a search that looks at paths
   pub find_path : (t u : BoardFunction → Bool) → ((f : BoardFunction) → t (g f) ≡ u f) → (fs : List BoardFunction) → find t (map g fs) ≡ option_map g (find u fs)
@@ -109,11 +101,7 @@ module _ (g : BoardFunction → BoardFunction) (paths : (f : BoardFunction) → 
     now = map g fs
 
     taker_stays : (bus : Path) (n : ℕ) → taker now bus n ≡ taker fs bus n
-    taker_stays bus n = find_bridge (λ f. path_eq (parent f.path) bus && covers n f) no_endpoint fs stays
-      where
-        no_endpoint : (f : BoardFunction) → is_bridge f.decl ≡ false → (path_eq (parent f.path) bus && covers n f) ≡ false
-        no_endpoint f h =
-            ap (λ v. path_eq (parent f.path) bus && (v && nat_le (secondary_register f.file) n && nat_le n (subordinate_register f.file))) h ∙ and_false (path_eq (parent f.path) bus)
+    taker_stays bus n = grind (arith, find_bridge, and_false)
 
     takes_stays : (bus : Path) (n : ℕ) (p : Part) (ends : Bool) → takes now bus n p ends ≡ takes fs bus n p ends
     takes_stays bus n p ends =
@@ -137,14 +125,8 @@ module _ (g : BoardFunction → BoardFunction) (paths : (f : BoardFunction) → 
         by true = refl
         by false = refl
 
-    bus_stays : (p : Path) → bus_now now p ≡ bus_now fs p
-    bus_stays [] = refl
-    bus_stays (p ∷ ps) =
-        ap (λ (o : Option BoardFunction). option_map_or (λ (f : BoardFunction). secondary_register f.file) o 0)
-        (find_bridge (is_bridge_at (p ∷ ps)) (λ f h. ap (λ v. v && path_eq f.path (p ∷ ps)) h) fs stays)
-
     pub address_stays : (p : Path) → address_now now p ≡ address_now fs p
-    address_stays p = ap (λ (n : ℕ). record { bus = n; part = last_part p }) (bus_stays (parent p))
+    address_stays p = grind (arith, find_bridge)
 
     found_path_stays : (p : Path) → path_reached now p ≡ path_reached fs p
     found_path_stays p =
@@ -163,12 +145,8 @@ module _ (g : BoardFunction → BoardFunction) (paths : (f : BoardFunction) → 
         ap (λ (p : Path). told p (address_now now p) (path_reached now p)) (paths f)
         ∙ ap₂ (λ (at : BusAddress) (o : Option Path). told f.path at o) (address_stays f.path) (found_path_stays f.path)
 
-    all_told : (hs : List BoardFunction) → flat_map (λ f. numbering_problem now (g f)) hs ≡ flat_map (numbering_problem fs) hs
-    all_told [] = refl
-    all_told (h ∷ hs) = ap₂ (λ (x y : List Problem). x ++ y) (one_told h) (all_told hs)
-
     pub numbering_stays : numbering_problems now ≡ numbering_problems fs
-    numbering_stays = flat_map_map (numbering_problem now) g fs ∙ all_told fs
+    numbering_stays = grind (arith, flat_map_map, one_told)
 
 module _ (s : State) (gs : GuestsNow) where
   now_path : (f : BoardFunction) → (agreed_function (file_of gs) f).path ≡ f.path
@@ -199,10 +177,7 @@ module _ (b : Board) (s : State) (gs : GuestsNow) (all : Each (IsSeatedGuest b) 
       (each_map (λ f. Facts b f × Numbered f) (λ f. Numbered (agreed_function (file_of gs) f)) fs numbered (each_both (Facts b) Numbered fs facts numbers))
 
 pub keeps_numbers : KeepsNumbers
-keeps_numbers s board gs seated has = record {
-  rows = keeps_board s gs ∙ has.rows;
-  numbers = numbers_stay (board_at s.functions) s gs seated.guests s.functions (facts s.functions board) has.numbers;
-}
+keeps_numbers s board gs seated has = grind (arith, keeps_board, numbers_stay, facts)
 
 pub keeps_reach : KeepsReach
 keeps_reach s board gs seated =

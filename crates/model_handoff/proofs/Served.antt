@@ -1,8 +1,8 @@
 -- Given functions are served, whatever guests do.
-use Rattle.std.proofs.Common.{◌≡◌, ℕ, zero, suc, Bool, true, false, not, cond, ◌-◌, List, [], ◌∷◌, ◌++◌, length, inl, inr, Some, None, Option, refl, sym, ap, ◌∙◌}
+use Rattle.std.proofs.Common.{◌≡◌, ℕ, zero, suc, Bool, true, false, not, cond, ◌-◌, List, [], ◌∷◌, ◌++◌, length, inl, inr, Some, None, Option, refl, sym, ap, ◌∙◌, arith}
 use Rattle.std.specs.Prelude.{map, flat_map, replicate, is_some, IsTrue}
 use Rattle.std.specs.Str.{bytes_eq}
-use Rattle.lists.specs.Elements.{IsIn, first_of_two}
+use Rattle.lists.specs.Elements.{IsIn}
 use Rattle.lists.proofs.Members.{each_from, any_in, in_front, in_back, in_map, in_filter, in_flat_map}
 use Rattle.model_registers.specs.Registers.{File}
 use Rattle.model_registers.specs.Declarations.{Region}
@@ -15,7 +15,6 @@ use Rattle.model_board.specs.Routing.{row_of, routing}
 use Rattle.model_board.proofs.PathEnds.{path_self}
 use Rattle.model_set_up.specs.PlacedRegions.{PlacedRegion}
 use Rattle.model_audit.specs.OpenRegions.{region_now, closed_of, closed_regions}
-use Rattle.model_audit.specs.Problems.{Problem, problems}
 use Rattle.model_audit.proofs.Witnesses.{problems_decide}
 use Rattle.model_guests.specs.Text.{Text}
 use Rattle.model_guests.specs.World.{Guest, World, given_paths}
@@ -25,7 +24,7 @@ use Rattle.model_guests.proofs.DeclaredRows.{declared_row}
 use Rattle.model_guests.proofs.SeatedMoves.{Placed, placed, put_there, was_there}
 use Rattle.model_guests.proofs.Seats.{paths_stay}
 use Rattle.model_handoff.specs.Handoffs.{is_given}
-use Rattle.model_handoff.specs.Regions.{opens_region, closed_given, first_problem, first_closed, AreServed, HasOpenRegions}
+use Rattle.model_handoff.specs.Regions.{opens_region, closed_given, AreServed, HasOpenRegions}
 use Rattle.model_handoff.specs.RegionLaws.{ServedAtFirst, ServedAfterEvents, ServedAfterMoves, FaultDecides}
 use Rattle.model_handoff.proofs.Standing.{endpoint_at, StandsAt, stands}
 
@@ -48,8 +47,7 @@ among w (g ∷ gs) name n p h = by (bytes_eq g.name name) h (among w gs name n p
     by false i more = in_back p g.slots (flat_map (λ (x : Guest). x.slots) gs) (more i)
 
 no_member : {A : Type 0} (x : A) (xs : List A) → xs ≡ [] → IsIn x xs → ⊥
-no_member x [] e m = m
-no_member x (y ∷ ys) e m = cc
+no_member x xs e m = grind arith
 
 pub served_at_first : ServedAtFirst
 served_at_first w s state none name n p at d declares = each_from (λ r. IsTrue (opens_region s p r)) d.regions one
@@ -113,17 +111,4 @@ served_after_moves s gs served m = by (is_some (move_fault gs m)) (function_in g
 -- ---- faults
 
 pub fault_decides : FaultDecides
-fault_decides w s = (
-  λ h. let parts = of_none (problems s.functions) (closed_given w s) h in record { order = (problems_decide s.functions).0 parts.0; none_closed = parts.1 },
-  λ can. of_parts (problems s.functions) (closed_given w s) ((problems_decide s.functions).1 can.order) can.none_closed,
-)
-  where
-    of_none : (ps : List Problem) (qs : List PlacedRegion) → first_of_two (first_problem ps) (first_closed qs) ≡ None → (ps ≡ []) × (qs ≡ [])
-    of_none [] [] h = (refl, refl)
-    of_none [] (q ∷ qs) h = cc
-    of_none (p ∷ ps) qs h = cc
-
-    of_parts : (ps : List Problem) (qs : List PlacedRegion) → ps ≡ [] → qs ≡ [] → first_of_two (first_problem ps) (first_closed qs) ≡ None
-    of_parts [] [] e f = refl
-    of_parts [] (q ∷ qs) e f = cc
-    of_parts (p ∷ ps) qs e f = cc
+fault_decides w s = grind (arith, problems_decide)

@@ -1,5 +1,5 @@
 -- Whatever firmware does to a board at reset, it hands over a handoff.
-use Rattle.std.proofs.Common.{◌≡◌, ℕ, ◌/◌, ◌%◌, Bool, true, false, cond, List, [], ◌∷◌, Some, None, Option, refl, sym, ap₂, ◌∙◌, subst}
+use Rattle.std.proofs.Common.{◌≡◌, ℕ, ◌/◌, ◌%◌, Bool, true, false, cond, List, [], ◌∷◌, Some, None, Option, refl, ap₂, ◌∙◌, arith}
 use Rattle.std.specs.Prelude.{map, is_some}
 use Rattle.std.specs.Option.{option_map_or}
 use Rattle.lists.specs.Elements.{Each}
@@ -7,13 +7,10 @@ use Rattle.lists.proofs.EachLemmas.{each_of_map, each_map}
 use Rattle.model_registers.specs.Cell.{Cell, written}
 use Rattle.model_registers.specs.Registers.{Place, config, block, place_eq, after, File, changed, write, all_bytes}
 use Rattle.model_registers.specs.CopiedFiles.{places_of}
-use Rattle.model_registers.specs.EndpointTable.{endpoint_reset}
 use Rattle.model_board.specs.Paths.{Path, path_eq}
-use Rattle.model_board.specs.Board.{Decl, endpoint, bridge, Row, Board, IsBoard, is_multifunction}
-use Rattle.model_board.specs.AtReset.{reset_file, board_at}
+use Rattle.model_board.specs.Board.{Row, Board}
 use Rattle.model_board.specs.Claims.{Claim, first_claim}
 use Rattle.model_board.specs.Cycles.{reached}
-use Rattle.model_board.specs.Lawful.{IsLawfulDecl, HasLawfulDecls}
 use Rattle.model_board.specs.Ports.{PortTarget, config_address, config_data, ordinary, port_target, after_claim_write, after_target_write}
 use Rattle.model_board.specs.State.{BoardFunction, State, with_file, row_at}
 use Rattle.model_registers.specs.Decoding.{io, memory}
@@ -23,23 +20,13 @@ use Rattle.model_guests.specs.LineRuns.{after_lines}
 use Rattle.model_guests.proofs.TablePlaces.{alike_places, alike_tables}
 use Rattle.model_firmware.specs.FirmwareLines.{Meaning, nothing, asked, bad, meaning, after_meaning, after_line, board_protocol}
 use Rattle.model_firmware.specs.HostAccesses.{HostAccess, effect, fault_of, after_access}
-use Rattle.model_handoff.specs.Handoffs.{HasPlacesOf, HasDeclaredPlaces, IsHandoff}
+use Rattle.model_handoff.specs.Handoffs.{HasDeclaredPlaces, IsHandoff}
 use Rattle.model_handoff.specs.Sessions.{ResetIsHandoff, IsHandoffAlike, AccessLeaves, LinesLeave}
 
 -- ---- at reset
 
-reset_places : (b : Board) (p : Path) (d : Decl) → IsLawfulDecl d → HasPlacesOf d (reset_file b p d)
-reset_places b p (endpoint d) lawful =
-    sym (alike_places (endpoint_reset d false) (endpoint_reset d (is_multifunction b p)) (alike_tables d (is_multifunction b p) 0 (λ r. 0) lawful.regions.each))
-reset_places b p (bridge d) lawful = tt
-
 pub reset_is_handoff : ResetIsHandoff
-reset_is_handoff s h = record {
-  board = record { places = h.board; declarations = h.declarations };
-  places = subst (λ (x : State). Each HasDeclaredPlaces x.functions) (sym h.registers)
-      (each_of_map HasDeclaredPlaces (λ (r : Row). record { path = r.path; decl = r.decl; file = reset_file (board_at s.functions) r.path r.decl }) (board_at s.functions)
-      (each_map (λ (r : Row). IsLawfulDecl r.decl) (λ (r : Row). HasPlacesOf r.decl (reset_file (board_at s.functions) r.path r.decl)) (board_at s.functions) (λ r l. reset_places (board_at s.functions) r.path r.decl l) h.declarations));
-}
+reset_is_handoff s h = grind (arith, each_of_map, each_map, alike_places, alike_tables)
 
 -- ---- a write moves no cell
 
@@ -72,22 +59,10 @@ module _ (g : File → File) (stays : (file : File) → places_of (g file) ≡ p
   one f = cond (path_eq f.path p) (record f { file = g f.file }) f
 
   one_row : (f : BoardFunction) → row_at (one f) ≡ row_at f
-  one_row f = by (path_eq f.path p)
-    where
-      by : (t : Bool) → row_at (cond t (record f { file = g f.file }) f) ≡ row_at f
-      by true = refl
-      by false = refl
-
-  places_stay : (d : Decl) (file : File) → HasPlacesOf d file → HasPlacesOf d (g file)
-  places_stay (endpoint d) file h = stays file ∙ h
-  places_stay (bridge d) file h = tt
+  one_row f = grind arith
 
   one_places : (f : BoardFunction) → HasDeclaredPlaces f → HasDeclaredPlaces (one f)
-  one_places f h = by (path_eq f.path p)
-    where
-      by : (t : Bool) → HasDeclaredPlaces (cond t (record f { file = g f.file }) f)
-      by true = places_stay f.decl f.file h
-      by false = h
+  one_places f h = grind arith
 
   all_rows : (fs : List BoardFunction) → map row_at (with_file g p fs) ≡ map row_at fs
   all_rows [] = refl
@@ -129,16 +104,7 @@ access_alike s a = by (is_some (fault_of a))
     by false = effect_alike s a.width a.target a.op
 
 handoff_alike : (s now : State) → IsHandoff s → Alike s.functions now.functions → IsHandoffAlike s now
-handoff_alike s now h alike = record {
-  handoff = record {
-    board = record {
-      places = subst IsBoard (sym alike.rows) h.board.places;
-      declarations = subst HasLawfulDecls (sym alike.rows) h.board.declarations;
-    };
-    places = alike.places h.places;
-  };
-  board = alike.rows;
-}
+handoff_alike s now h alike = grind arith
 
 pub access_leaves : AccessLeaves
 access_leaves s h a = handoff_alike s (after_access s a) h (access_alike s a)

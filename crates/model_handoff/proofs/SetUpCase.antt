@@ -1,5 +1,5 @@
 -- What set-up leaves is one handoff.
-use Rattle.std.proofs.Common.{◌≡◌, true, false, not, List, [], ◌∷◌, inl, inr, Option, refl, sym, ap, ◌∙◌, subst}
+use Rattle.std.proofs.Common.{◌≡◌, true, false, not, List, [], ◌∷◌, inl, inr, Option, refl, sym, ap, ◌∙◌, arith}
 use Rattle.std.specs.Prelude.{map}
 use Rattle.std.specs.Option.{option_map_or}
 use Rattle.lists.specs.Elements.{IsIn}
@@ -11,10 +11,10 @@ use Rattle.model_registers.specs.Declarations.{Region, Endpoint}
 use Rattle.model_registers.specs.Decoding.{space_of, same_space, base, base_address, opens_space, command_word, is_open}
 use Rattle.model_registers.specs.Apertures.{Apertures}
 use Rattle.model_board.specs.Paths.{Path}
-use Rattle.model_board.specs.Board.{Decl, endpoint, bridge, Row, Board, IsBoard, is_multifunction}
+use Rattle.model_board.specs.Board.{Decl, endpoint, bridge, Board, IsBoard, is_multifunction}
 use Rattle.model_board.specs.Lawful.{IsLawfulDecl, HasLawfulDecls}
 use Rattle.model_board.specs.Ports.{file_at}
-use Rattle.model_board.specs.Routing.{RoutingRow, row_of, routing}
+use Rattle.model_board.specs.Routing.{row_of, routing}
 use Rattle.model_board.specs.State.{BoardFunction}
 use Rattle.model_board.proofs.StateRows.{state_rows}
 use Rattle.model_set_up.specs.PlacedRegions.{PlacedRegion, placed}
@@ -31,16 +31,13 @@ use Rattle.model_audit.proofs.Witnesses.{problems_decide}
 use Rattle.model_set_up_audit.proofs.Placing.{left, regions_placed}
 use Rattle.model_set_up_audit.proofs.SetUpPasses.{set_up_passes}
 use Rattle.model_guests.proofs.TablePlaces.{Alike, alike_places, alike_tables}
-use Rattle.model_handoff.specs.Handoffs.{HasPlacesOf, HasDeclaredPlaces, is_given}
+use Rattle.model_handoff.specs.Handoffs.{HasPlacesOf, is_given}
 use Rattle.model_handoff.specs.Regions.{closed_given}
 use Rattle.model_handoff.specs.SetUpCase.{SetUpIsHandoff, SetUpIsInOrder, SetUpCanBeGiven, SetUpPlaces, SetUpAddresses}
 use Rattle.model_handoff.proofs.Standing.{found}
 
 state_is : (b : Board) (a : Apertures) → IsBoard b → HasLawfulDecls b → IsStateOfBoard (set_up_state b a).functions
-state_is b a board decls = record {
-  places = subst IsBoard (sym (state_rows b (set_up_file b a))) board;
-  declarations = subst HasLawfulDecls (sym (state_rows b (set_up_file b a))) decls;
-}
+state_is b a board decls = grind (arith, state_rows)
 
 -- with the cells that it has at reset, but for its routing registers
 pub alike : (b : Board) (a : Apertures) (p : Path) (d : Endpoint) → IsLawfulDecl (endpoint d) → Alike (endpoint_reset d false) (set_up_file b a p (endpoint d))
@@ -51,13 +48,7 @@ places_are b a p (endpoint d) lawful = sym (alike_places (endpoint_reset d false
 places_are b a p (bridge d) lawful = tt
 
 pub set_up_is_handoff : SetUpIsHandoff
-set_up_is_handoff b a board decls = (
-  record {
-    board = state_is b a board decls;
-    places = each_of_map HasDeclaredPlaces (left b a) b (each_map (λ (r : Row). IsLawfulDecl r.decl) (λ (r : Row). HasDeclaredPlaces (left b a r)) b (λ r h. places_are b a r.path r.decl h) decls);
-  },
-  state_rows b (set_up_file b a),
-)
+set_up_is_handoff b a board decls = grind (arith, state_is, each_of_map, each_map, places_are, state_rows)
 
 pub set_up_is_in_order : SetUpIsInOrder
 set_up_is_in_order b a few can = (problems_decide (set_up_state b a).functions).0 (set_up_passes b a few can)
@@ -115,16 +106,7 @@ module _ (b : Board) (a : Apertures) where
       of_base (c, k, e) = of_region c e (from_map (base_address (set_up_file b a p (endpoint d))) c d.regions k)
 
   nothing_closed : (q : PlacedRegion) → IsIn q (closed_regions (routing (set_up_state b a).functions)) → ⊥
-  nothing_closed q m = of_row (from_flat_map closed_of q (routing (set_up_state b a).functions) m)
-    where
-      of_board : (f : BoardFunction) → IsIn q (closed_of (row_of f)) → (s : Row) × IsIn s b × (f ≡ left b a s) → ⊥
-      of_board f l (s, k, e) = none_closed s.path s.decl q (subst (λ (g : BoardFunction). IsIn q (closed_of (row_of g))) e l)
-
-      of_function : (r : RoutingRow) → IsIn q (closed_of r) → (f : BoardFunction) × IsIn f (set_up_state b a).functions × (r ≡ row_of f) → ⊥
-      of_function r l (f, k, e) = of_board f (subst (λ (x : RoutingRow). IsIn q (closed_of x)) e l) (from_map (left b a) f b k)
-
-      of_row : (r : RoutingRow) × IsIn r (routing (set_up_state b a).functions) × IsIn q (closed_of r) → ⊥
-      of_row (r, k, l) = of_function r l (from_map row_of r (set_up_state b a).functions k)
+  nothing_closed q m = grind (arith, from_flat_map, none_closed, from_map)
 
 pub set_up_can_be_given : SetUpCanBeGiven
 set_up_can_be_given w few can = record {

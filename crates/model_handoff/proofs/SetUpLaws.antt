@@ -1,25 +1,21 @@
 -- What holds over any handoff holds over what set-up leaves.
-use Rattle.std.proofs.Common.{◌≡◌, ℕ, ◌+◌, ◌≤◌, true, false, ◌&&◌, cond, List, Some, sym, ap, ◌∙◌, subst, arith, eqb}
-use Rattle.std.specs.Prelude.{nat_le}
+use Rattle.std.proofs.Common.{◌≡◌, ℕ, ◌+◌, ◌≤◌, true, false, List, sym, ap, ◌∙◌, subst, arith}
 use Rattle.std.proofs.lemmas.Bool.Decides.{nat_tests}
 use Rattle.lists.specs.Elements.{IsIn}
 use Rattle.lists.proofs.EachLemmas.{each_of_map, each_map}
 use Rattle.lists.proofs.Tests.{and_false}
 use Rattle.model_registers.specs.Registers.{File, cell_at}
 use Rattle.model_registers.specs.Apertures.{Apertures}
-use Rattle.model_registers.specs.ConfigAddress.{is_enabled, is_data_port, selected_offset}
-use Rattle.model_registers.specs.Decoding.{Space}
 use Rattle.model_registers.specs.EndpointTable.{endpoint_reset}
 use Rattle.model_registers.proofs.HitRegions.{hit_is_of_region}
 use Rattle.model_board.specs.Paths.{Path}
 use Rattle.model_board.specs.Board.{Decl, endpoint, bridge, Row, Board}
-use Rattle.model_board.specs.Claims.{first_claim}
 use Rattle.model_board.specs.Lawful.{IsLawfulDecl}
-use Rattle.model_board.specs.Ports.{config_address, config_data, ordinary, port_target, selected}
+use Rattle.model_board.specs.Ports.{ordinary, port_target}
 use Rattle.model_board.specs.Routing.{routing}
 use Rattle.model_board.specs.State.{BoardFunction, State}
 use Rattle.model_set_up.specs.Reach.{HasNumbers}
-use Rattle.model_set_up.specs.SetUp.{first_of, set_up_file, set_up_state}
+use Rattle.model_set_up.specs.SetUp.{set_up_file, set_up_state}
 use Rattle.model_set_up.proofs.PlacedRegions.{placed_within}
 use Rattle.model_set_up.proofs.SetUpNumbers.{set_up_has_numbers}
 use Rattle.model_set_up.proofs.UniqueClaimant.{claim_of_region}
@@ -42,9 +38,7 @@ use Rattle.model_handoff.proofs.Regions.{lanes_of}
 use Rattle.model_handoff.proofs.SetUpCase.{alike, set_up_is_handoff}
 
 of_handoffs : (P : State → GuestsNow → Type 0) → OverHandoffs P → OverSetUp P
-of_handoffs P holds b a board decls gs seated =
-    let handoff = set_up_is_handoff b a board decls in
-    holds (set_up_state b a) handoff.0 gs (subst (λ (x : Board). AreSeated x gs) (sym handoff.1) seated)
+of_handoffs P holds b a board decls gs seated = grind (arith, set_up_is_handoff)
 
 pub set_up_agrees : SetUpAgrees
 set_up_agrees = of_handoffs (λ s gs. Agrees s gs (state_over s gs)) state_agrees
@@ -89,13 +83,7 @@ no_less : (first off : ℕ) → 0x1000 ≤ first → 0x1000 ≤ first + off
 no_less first off h = omega arith
 
 beyond_the_latch : (n latch w : ℕ) → 0x1000 ≤ n → port_target latch n w ≡ ordinary
-beyond_the_latch n latch w h =
-    let no_address : eqb n 0xcf8 ≡ false = grind (arith, nat_tests, h) in
-    let no_data : nat_le n 0xcff ≡ false = grind (arith, nat_tests, h) in
-    let elsewhere : is_data_port n ≡ false = ap (λ t. nat_le 0xcfc n && t) no_data ∙ and_false (nat_le 0xcfc n) in
-    ap (λ t. cond (t && eqb w 4) config_address (cond (is_enabled latch && is_data_port n) (config_data (selected latch) (selected_offset latch n)) ordinary)) no_address
-    ∙ ap (λ t. cond (is_enabled latch && t) (config_data (selected latch) (selected_offset latch n)) ordinary) elsewhere
-    ∙ ap (λ t. cond t (config_data (selected latch) (selected_offset latch n)) ordinary) (and_false (is_enabled latch))
+beyond_the_latch n latch w h = grind (arith, nat_tests, and_false)
 
 pub hit_reaches_region : HitReachesRegion
 hit_reaches_region b a can gs seated p f seat space n h e =
@@ -104,13 +92,4 @@ hit_reaches_region b a can gs seated p f seat space n h e =
     let fs : List BoardFunction = (state_over (set_up_state b a) gs).functions in
     let within = placed_within b a can p f.decl row at.0 at.1 in
     let claim = claim_of_region b a can fs (set_up_keeps_routing b a can.places can.declarations gs seated) p f.decl row at.0 at.1 h.offset at.2.inside in
-    record {
-      region = at.0;
-      declared = at.1;
-      hit = at.2;
-      within = within;
-      claimed = ap (λ (s : Space). first_claim fs s (first_of b a p at.0 + h.offset)) (sym at.2.space_is) ∙ claim
-          ∙ ap (λ (k : ℕ). Some (record { path = p; index = k; offset = h.offset })) (sym at.2.index);
-      lanes = lanes_of (first_of b a p at.0) h.offset n within.aligned at.2.lanes;
-      ordinary_port = λ i latch w. beyond_the_latch (first_of b a p at.0 + h.offset) latch w (no_less (first_of b a p at.0) h.offset (within.io_begins (at.2.space_is ∙ i)));
-    }
+    grind (arith, lanes_of, beyond_the_latch, no_less)

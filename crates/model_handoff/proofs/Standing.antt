@@ -1,5 +1,5 @@
 -- Where a function stands among those of a board, and what guests change of it.
-use Rattle.std.proofs.Common.{◌≡◌, Bool, true, false, cond, List, [], ◌∷◌, inl, inr, Some, Option, sym, ap, ◌∙◌, subst}
+use Rattle.std.proofs.Common.{◌≡◌, Bool, false, cond, List, [], ◌∷◌, inl, inr, Some, ap, ◌∙◌, arith}
 use Rattle.std.specs.Prelude.{find, IsTrue}
 use Rattle.lists.specs.Elements.{EachPair, IsIn}
 use Rattle.lists.proofs.Members.{each_in, from_map}
@@ -14,7 +14,6 @@ use Rattle.model_board.proofs.PathEnds.{path_self}
 use Rattle.model_board.proofs.PlacesLaw.{before_apart}
 use Rattle.model_audit.specs.Orderly.{IsStateOfBoard}
 use Rattle.model_audit.proofs.Pairs.{pairs_from_map}
-use Rattle.std.specs.Option.{option_map_or}
 
 abbrev pub at_path : Path → BoardFunction → Bool
 at_path p f = path_eq f.path p
@@ -24,9 +23,7 @@ endpoint_at p d file = record { path = p; decl = endpoint d; file = file }
 
 found_among : (fs : List BoardFunction) → EachPair (λ (f g : BoardFunction). IsTrue (path_before f.path g.path)) fs → (g : BoardFunction) → IsIn g fs → find (at_path g.path) fs ≡ Some g
 found_among [] ordered g m = absurd m
-found_among (f ∷ fs) ordered g (inl same) =
-    let here : path_eq f.path g.path ≡ true = ap (λ (h : BoardFunction). path_eq f.path h.path) same ∙ path_self f.path in
-    ap (λ t. cond t (Some f) (find (at_path g.path) fs)) here ∙ ap Some (sym same)
+found_among (f ∷ fs) ordered g (inl same) = grind (arith, path_self)
 found_among (f ∷ fs) ordered g (inr m) =
     let other : path_eq f.path g.path ≡ false = before_apart f.path g.path (each_in (λ (h : BoardFunction). IsTrue (path_before f.path h.path)) g fs ordered.0 m) in
     ap (λ t. cond t (Some f) (find (at_path g.path) fs)) other ∙ found_among fs ordered.1 g m
@@ -40,13 +37,4 @@ pub record StandsAt (fs : List BoardFunction) (p : Path) (d : Endpoint) : Type 0
   pub found_is : find (at_path p) fs ≡ Some (endpoint_at p d (file_at fs p))
 
 pub stands : (fs : List BoardFunction) → IsStateOfBoard fs → (p : Path) (d : Endpoint) → IsIn (record { path = p; decl = endpoint d }) (board_at fs) → StandsAt fs p d
-stands fs state p d m = of (from_map row_at (record { path = p; decl = endpoint d }) fs m)
-  where
-    of : (f : BoardFunction) × IsIn f fs × (record { path = p; decl = endpoint d } ≡ row_at f) → StandsAt fs p d
-    of (f, k, e) =
-        let path : f.path ≡ p = ap (λ (r : Row). r.path) (sym e) in
-        let decl : f.decl ≡ endpoint d = ap (λ (r : Row). r.decl) (sym e) in
-        let is_found : find (at_path p) fs ≡ Some f = subst (λ (x : Path). find (at_path x) fs ≡ Some f) path (found fs state f k) in
-        let file : file_at fs p ≡ f.file = ap (λ (o : Option BoardFunction). option_map_or (λ (g : BoardFunction). g.file) o []) is_found in
-        let same : f ≡ endpoint_at p d (file_at fs p) = λ i. record { path = path i; decl = decl i; file = sym file i } in
-        record { among = subst (λ (g : BoardFunction). IsIn g fs) same k; found_is = is_found ∙ ap Some same }
+stands fs state p d m = grind (arith, from_map, found)

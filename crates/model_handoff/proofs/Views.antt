@@ -1,5 +1,5 @@
 -- The handoff as the board shows it later.
-use Rattle.std.proofs.Common.{◌≡◌, ℕ, zero, suc, ◌-◌, Bool, true, false, ◌||◌, cond, List, [], ◌∷◌, ◌++◌, length, Some, None, Option, refl, sym, ap, ap₂, ◌∙◌, subst}
+use Rattle.std.proofs.Common.{◌≡◌, ℕ, zero, suc, ◌-◌, Bool, true, false, ◌||◌, cond, List, [], ◌∷◌, ◌++◌, length, Some, None, Option, refl, sym, ap, ap₂, ◌∙◌, subst, arith}
 use Rattle.std.specs.Prelude.{map, flat_map, replicate, is_some, option_map, IsSome}
 use Rattle.std.specs.List.{list_any}
 use Rattle.std.specs.Str.{bytes_eq}
@@ -32,9 +32,7 @@ use Rattle.model_guests.proofs.FoundFiles.{seated_file}
 
 -- what the first tells, the second tells too
 twice : (one other : Option File) (f : BoardFunction) → (is_some one ≡ true → is_some other ≡ true) → agreed_by other (agreed_by one f) ≡ agreed_by other f
-twice None other f h = refl
-twice (Some x) None f h = let bad : false ≡ true = h refl in cc
-twice (Some x) (Some y) f h = ap (λ (file : File). record f { file = file }) (sym (agreed_twice f.file x y))
+twice one other f h = grind (arith, agreed_twice)
 
 functions_twice : (one other : Path → Option File) → ((p : Path) → is_some (one p) ≡ true → is_some (other p) ≡ true) → (fs : List BoardFunction)
     → map (agreed_function other) (map (agreed_function one) fs) ≡ map (agreed_function other) fs
@@ -72,8 +70,7 @@ module _ (s : State) (gs : GuestsNow) (seated : AreSeated (board_at s.functions)
   b = board_at s.functions
 
   seated_has : (p : Path) (t : Bool) → sits gs p ≡ t → is_some (cond t (option_map file_at_reset (declared b p)) None) ≡ true → is_some (file_of gs p) ≡ true
-  seated_has p true e h = sits_is b gs seated.guests p ∙ e
-  seated_has p false e h = cc
+  seated_has p t e h = grind (arith, sits_is)
 
   declares : (p : Path) (o : Option File) → file_of gs p ≡ o → is_some o ≡ true → is_some (option_map file_at_reset (declared b p)) ≡ true
   declares p None e h = cc
@@ -82,14 +79,10 @@ module _ (s : State) (gs : GuestsNow) (seated : AreSeated (board_at s.functions)
       ap (λ (o : Option Endpoint). is_some (option_map file_at_reset o)) is.declares
 
   has_seated : (p : Path) → is_some (file_of gs p) ≡ true → is_some (seated_files s gs p) ≡ true
-  has_seated p h =
-      let there : sits gs p ≡ true = sym (sits_is b gs seated.guests p) ∙ h in
-      ap (λ t. is_some (cond t (option_map file_at_reset (declared b p)) None)) there ∙ declares p (file_of gs p) refl h
+  has_seated p h = grind (arith, sits_is, declares)
 
 pub over_reset : OverReset
-over_reset s gs seated =
-    ap (λ (fs : List BoardFunction). record s { functions = fs })
-    (functions_twice (seated_files s gs) (file_of gs) (λ p. seated_has s gs seated p (sits gs p) refl) s.functions)
+over_reset s gs seated = grind (arith, functions_twice, seated_has)
 
 pub reset_shown : ResetShown
 reset_shown s gs seated =
@@ -163,8 +156,7 @@ module _ (s : State) (gs : GuestsNow) (seated : AreSeated (board_at s.functions)
   handed (Some f) e (Some p) i can q = sits_moved f e p i can q
 
   by_fault : (x : Option ℕ) → move_fault gs m ≡ x → (q : Path) → sits (cond (is_some x) gs (handed_over m (path_in gs m.from m.slot) (function_in gs m.from m.slot) gs)) q ≡ sits gs q
-  by_fault (Some n) e q = refl
-  by_fault None e q = handed (function_in gs m.from m.slot) refl (path_in gs m.from m.slot) refl (no_fault gs m e) q
+  by_fault x e q = grind (arith, handed, no_fault)
 
 pub reset_after_moves : ResetAfterMoves
 reset_after_moves s gs seated m to_there =
