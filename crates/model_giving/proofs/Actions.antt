@@ -1,5 +1,5 @@
 -- What a guest is told by actions, and holds after them, is that of its own.
-use Rattle.std.proofs.Common.{◌≡◌, Bool, true, false, cond, List, [], ◌∷◌, ◌++◌, Some, None, Option, refl, sym, ap, ap₂, ◌∙◌, append_assoc, append-nil}
+use Rattle.std.proofs.Common.{◌≡◌, Bool, true, false, cond, List, [], ◌∷◌, ◌++◌, Some, None, Option, refl, sym, ap, ap₂, ◌∙◌, append_assoc, append-nil, arith}
 use Rattle.std.specs.Prelude.{is_some, IsSome}
 use Rattle.std.specs.Str.{bytes_eq}
 use Rattle.model_registers.specs.Declarations.{Endpoint}
@@ -21,17 +21,8 @@ use Rattle.model_giving.specs.Actions.{Action, calls, gives, takes, after_action
 
 pub there_after : (w : WorldNow) (name : Text) → IsSome (guest_named w.guests name) → (a : Action) → IsSome (guest_named (after_action w a).guests name)
 there_after w name there (calls c) = device_calls.there_after w name there c
-there_after w name there (gives g) = cases (is_some (give_fault w g)) (declared (board_at w.handoff.functions) g.path)
-  where
-    cases : (t : Bool) (o : Option Endpoint) → IsSome (guest_named (cond t w (given g o w)).guests name)
-    cases true o = there
-    cases false None = there
-    cases false (Some d) = still (with_slot_filled g.slot (Some g.path) d) (λ t. refl) g.to name w.guests there
-there_after w name there (takes n k) = cases (is_some (take_fault w n k))
-  where
-    cases : (t : Bool) → IsSome (guest_named (cond t w (taken n k w)).guests name)
-    cases true = there
-    cases false = still (with_slot_emptied k) (λ t. refl) n name w.guests there
+there_after w name there (gives g) = grind (arith, still)
+there_after w name there (takes n k) = grind (arith, still)
 
 -- ---- one action
 
@@ -61,22 +52,8 @@ holds_after w name there (takes n k) = cases (is_some (take_fault w n k))
 told_alone : (w : WorldNow) (name : Text) → IsSome (guest_named w.guests name) → (a : Action) → told_by name w a ≡ all_alone_told (lone_of w.guests name) (inputs_of_action name w a)
 told_alone w name there (calls c) =
     sym (append-nil (told name w c)) ∙ sym (device_calls.tells w name c []) ∙ ap (all_alone_told (lone_of w.guests name)) (append-nil (inputs_of_call name w.guests c))
-told_alone w name there (gives g) = cases (is_some (give_fault w g)) (declared (board_at w.handoff.functions) g.path)
-  where
-    by : (d : Endpoint) (u : Bool) → [] ≡ all_alone_told (lone_of w.guests name) (cond u (moved (gets g.slot d) ∷ []) [])
-    by d true = refl
-    by d false = refl
-
-    cases : (t : Bool) (o : Option Endpoint) → [] ≡ all_alone_told (lone_of w.guests name) (cond t [] (inputs_of_gift name g o))
-    cases true o = refl
-    cases false None = refl
-    cases false (Some d) = by d (bytes_eq g.to name)
-told_alone w name there (takes n k) = cases (is_some (take_fault w n k)) (bytes_eq n name)
-  where
-    cases : (t u : Bool) → [] ≡ all_alone_told (lone_of w.guests name) (cond t [] (cond u (moved (loses k) ∷ []) []))
-    cases true u = refl
-    cases false true = refl
-    cases false false = refl
+told_alone w name there (gives g) = grind arith
+told_alone w name there (takes n k) = grind arith
 
 -- ---- actions
 

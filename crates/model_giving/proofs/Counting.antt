@@ -4,14 +4,12 @@ use Rattle.std.specs.Prelude.{is_some, IsSome, slice_get}
 use Rattle.std.specs.Option.{option_map_or}
 use Rattle.std.specs.Str.{bytes_eq}
 use Rattle.std.proofs.lemmas.Bool.Decides.{nat_tests}
-use Rattle.model_registers.specs.Declarations.{Endpoint}
 use Rattle.model_board.specs.AtReset.{board_at}
 use Rattle.model_guests.specs.Accesses.{Event, access, raises, Access}
 use Rattle.model_guests.specs.Slots.{Landing, fault_of}
 use Rattle.model_guests.specs.Text.{Text}
-use Rattle.model_guests.specs.World.{declared}
 use Rattle.model_guests.specs.Lone.{LoneGuest, after_event, changed_by}
-use Rattle.model_guests.specs.Guests.{GuestsNow, guest_named, lone_of, guest_after, move_fault, with_slot_emptied, with_slot_filled}
+use Rattle.model_guests.specs.Guests.{GuestsNow, guest_named, lone_of, guest_after, move_fault}
 use Rattle.model_guests.specs.Lines.{nothing, guest_event, host_read, host_move, bad}
 use Rattle.model_guests.specs.WorldNow.{names_of}
 use Rattle.model_guests.proofs.Along.{names_with}
@@ -28,7 +26,6 @@ use Rattle.model_guests.specs.WorldNow.{WorldNow, names_now}
 use Rattle.model_handoff.proofs.DevicesOver.{lawful_after_devices}
 use Rattle.model_handoff.proofs.Kept.{lawful_after_meaning}
 use Rattle.model_guests.proofs.Along.{names_meaning}
-use Rattle.model_giving.specs.Giving.{give_fault, take_fault, given, taken}
 use Rattle.model_giving.specs.Actions.{Action, calls, gives, takes, after_action, after_actions}
 use Rattle.model_giving.specs.Changes.{moves_own, moves_by_call, changes, changes_along, after_change, counts_where, MachineNow, after_on_machine, after_all_on_machine}
 use Rattle.model_giving.specs.CountLaws.{HaveSameAnswers, RegionsStayAlong, ChangesTouchSlots, IsCounted, CountsGrow, AnswersStay}
@@ -39,21 +36,7 @@ use Rattle.model_giving.proofs.Giving.{lawful_after_gift, lawful_after_taking, o
 
 -- a write of the guest's own that changes nothing is refused, or lands elsewhere
 quiet_write : (g : LoneGuest) (slot : ℕ) (a : Access) → is_some (fault_of a) ≡ false → moves_own g (access a) ≡ false → rewrites slot g (access a) ≡ false
-quiet_write g slot a done none =
-    by (is_write a.op) (located g a.target) (ap (λ (t : Bool). is_write a.op && not t && option_map_or (λ (l : Landing). any_tells a.width l.place) (located g a.target) false) (sym done) ∙ none)
-  where
-    lands : (l : Landing) (t : Bool) → any_tells a.width l.place ≡ false → t ≡ (eqb l.slot slot && any_tells a.width l.place) → t ≡ false
-    lands l t e is = is ∙ ap (λ (u : Bool). eqb l.slot slot && u) e ∙ never (eqb l.slot slot)
-      where
-        never : (u : Bool) → (u && false) ≡ false
-        never true = refl
-        never false = refl
-
-    by : (t : Bool) (o : Option Landing) → (t && not false && option_map_or (λ (l : Landing). any_tells a.width l.place) o false) ≡ false
-        → (t && option_map_or (λ (l : Landing). eqb l.slot slot && any_tells a.width l.place) o false) ≡ false
-    by false o e = refl
-    by true None e = refl
-    by true (Some l) e = lands l (eqb l.slot slot && any_tells a.width l.place) e refl
+quiet_write g slot a done none = grind arith
 
 module _ (w : WorldNow) (h : IsLawfulOver w) (name : Text) (there : IsSome (guest_named w.guests name)) where
   abbrev Stays : WorldNow → Type 0
@@ -68,8 +51,7 @@ module _ (w : WorldNow) (h : IsLawfulOver w) (name : Text) (there : IsSome (gues
   same_guest v same slot n = ap (λ (g : LoneGuest). region_answer g slot n) same
 
   kept_if : (t : Bool) (g : LoneGuest) → g ≡ lone_of w.guests name → cond t g (lone_of w.guests name) ≡ lone_of w.guests name
-  kept_if true g e = e
-  kept_if false g e = refl
+  kept_if t g e = grind arith
 
   by_own : (who : Text) (e : Event) → who ≡ name → moves_own (lone_of w.guests who) e ≡ false → Stays (after_call w (asks (guest_event who e)))
   by_own who (raises r) is none = untouched (asks (guest_event who (raises r))) (λ slot. never (bytes_eq who name))
@@ -132,21 +114,7 @@ module _ (w : WorldNow) (h : IsLawfulOver w) (name : Text) (there : IsSome (gues
   -- ---- one action
 
   stay_by_action : (a : Action) → changes name w a ≡ false → Stays (after_action w a)
-  stay_by_action (calls c) none = stay_by_call c none
-  stay_by_action (gives g) none = same_guest (after_action w (gives g)) (cases (bytes_eq g.to name) refl (is_some (give_fault w g)) refl none)
-    where
-      cases : (t : Bool) → bytes_eq g.to name ≡ t → (u : Bool) → is_some (give_fault w g) ≡ u → (t && not u) ≡ false
-          → lone_of (after_action w (gives g)).guests name ≡ lone_of w.guests name
-      cases t e true f still = ap (λ (u : Bool). lone_of (cond u w (given g (declared (board_at w.handoff.functions) g.path) w)).guests name) f
-      cases true e false f still = cc
-      cases false e false f still = others_after_gift w g name e
-  stay_by_action (takes n k) none = same_guest (after_action w (takes n k)) (cases (bytes_eq n name) refl (is_some (take_fault w n k)) refl none)
-    where
-      cases : (t : Bool) → bytes_eq n name ≡ t → (u : Bool) → is_some (take_fault w n k) ≡ u → (t && not u) ≡ false
-          → lone_of (after_action w (takes n k)).guests name ≡ lone_of w.guests name
-      cases t e true f still = ap (λ (u : Bool). lone_of (cond u w (taken n k w)).guests name) f
-      cases true e false f still = cc
-      cases false e false f still = others_after_taking w n k name e
+  stay_by_action a none = grind (arith, stay_by_call, same_guest, others_after_gift, others_after_taking)
 
 -- ---- along actions
 
@@ -157,8 +125,7 @@ lawful_after_action w h (gives g) = lawful_after_gift w h g
 lawful_after_action w h (takes n k) = lawful_after_taking w h n k
 
 none_first : (t : Bool) (n : ℕ) → cond t 1 0 + n ≡ 0 → (t ≡ false) × (n ≡ 0)
-none_first true n e = absurd (omega arith)
-none_first false n e = (refl, omega arith)
+none_first t n e = grind arith
 
 pub regions_stay_along : RegionsStayAlong
 regions_stay_along w h name there [] none slot n = refl
@@ -173,8 +140,7 @@ eqb_same : (n : ℕ) → eqb n n ≡ true
 eqb_same n = grind (arith, nat_tests)
 
 both : (a b : Bool) → (a && b) ≡ true → (a ≡ true) × (b ≡ true)
-both true b e = (refl, e)
-both false b e = cc
+both a b e = grind arith
 
 touched_write : (name who : Text) (w : WorldNow) (a : Access) → bytes_eq who name ≡ true → moves_own (lone_of w.guests name) (access a) ≡ true
     → (slot : ℕ) × (moves_regions name slot w.guests (asks (guest_event who (access a))) ≡ true)
@@ -226,37 +192,21 @@ changes_touch_slots name w (at_device who (device_writes d v)) moves = cc
 -- ---- counts
 
 names_after_call : (w : WorldNow) (c : Call) → names_now (after_call w c) ≡ names_now w
-names_after_call w (asks m) = names_meaning w.guests m
-names_after_call w (at_device n e) = names_with (device_after e) (λ g. refl) n w.guests
+names_after_call w c = grind (arith, names_meaning, names_with)
 
 -- no action changes a name
 pub names_after : (w : WorldNow) (a : Action) → names_now (after_action w a) ≡ names_now w
-names_after w (calls c) = names_after_call w c
-names_after w (gives g) = cases (is_some (give_fault w g)) (declared (board_at w.handoff.functions) g.path)
-  where
-    cases : (t : Bool) (o : Option Endpoint) → names_now (cond t w (given g o w)) ≡ names_now w
-    cases true o = refl
-    cases false None = refl
-    cases false (Some d) = names_with (with_slot_filled g.slot (Some g.path) d) (λ t. refl) g.to w.guests
-names_after w (takes n k) = cases (is_some (take_fault w n k))
-  where
-    cases : (t : Bool) → names_now (cond t w (taken n k w)) ≡ names_now w
-    cases true = refl
-    cases false = names_with (with_slot_emptied k) (λ t. refl) n w.guests
+names_after w a = grind (arith, names_after_call, names_with)
 
 count_where : (test : Text → Bool) (ts : List Text) (ns : List ℕ) (i : ℕ) (name : Text) (n : ℕ) → slice_get ts i ≡ Some name → slice_get ns i ≡ Some n
     → slice_get (counts_where test ts ns) i ≡ Some (after_change (test name) n)
 count_where test [] ns i name n named counted = cc
 count_where test (t ∷ ts) [] i name n named counted = cc
-count_where test (t ∷ ts) (k ∷ ns) zero name n named counted =
-    let same : t ≡ name = cc in
-    let is : k ≡ n = cc in
-    ap₂ (λ (x : Text) (y : ℕ). Some (after_change (test x) y)) same is
+count_where test (t ∷ ts) (k ∷ ns) zero name n named counted = grind arith
 count_where test (t ∷ ts) (k ∷ ns) (suc i) name n named counted = count_where test ts ns i name n named counted
 
 wrapped_fits : (t : Bool) (n : ℕ) → n < 2 ^ 64 → after_change t n < 2 ^ 64
-wrapped_fits true n fits = omega arith
-wrapped_fits false n fits = fits
+wrapped_fits t n fits = grind arith
 
 counted_after : (m : MachineNow) (i : ℕ) (name : Text) (n : ℕ) → IsCounted m i name n → (a : Action)
     → IsCounted (after_on_machine m a) i name (after_change (changes name m.world a) n)
@@ -267,8 +217,7 @@ counted_after m i name n is a = record {
 }
 
 grown : (t : Bool) (n k : ℕ) → n < 2 ^ 64 → (after_change t n + k) % 2 ^ 64 ≡ (n + (cond t 1 0 + k)) % 2 ^ 64
-grown true n k fits = omega arith
-grown false n k fits = ap (λ (x : ℕ). (n + x) % 2 ^ 64) (sym (zero-add k))
+grown t n k fits = grind (arith, zero-add)
 
 pub counts_grow : CountsGrow
 counts_grow m i name n is [] = subst (IsCounted m i name) (let whole : n ≡ (n + 0) % 2 ^ 64 = let fits = is.fits in omega arith in whole) is

@@ -1,5 +1,5 @@
 -- What is given and taken: the world after it.
-use Rattle.std.proofs.Common.{◌≡◌, ℕ, zero, suc, Bool, true, false, not, ◌||◌, cond, List, [], ◌∷◌, inl, inr, ◌⊎◌, Some, None, Option, refl, sym, ap, ap₂, ◌∙◌, subst}
+use Rattle.std.proofs.Common.{◌≡◌, ℕ, zero, suc, Bool, true, false, not, ◌||◌, cond, List, [], ◌∷◌, inl, inr, ◌⊎◌, Some, None, Option, refl, sym, ap, ap₂, ◌∙◌, subst, arith}
 use Rattle.std.specs.Prelude.{map, option_map, slice_get, slice_set, unwrap_or, is_some, nat_le, IsTrue, IsSome}
 use Rattle.std.specs.List.{list_any}
 use Rattle.std.specs.Option.{option_map_or}
@@ -15,15 +15,15 @@ use Rattle.model_board.specs.AtReset.{board_at}
 use Rattle.model_board.specs.State.{BoardFunction, State, with_file}
 use Rattle.model_board.proofs.PathEnds.{path_eq-sym}
 use Rattle.model_board.proofs.PathOrder.{path_same}
-use Rattle.model_guests.specs.Slots.{Slots, reset_function, slot_at}
+use Rattle.model_guests.specs.Slots.{slot_at}
 use Rattle.model_guests.specs.Text.{Text}
 use Rattle.model_guests.specs.World.{declared}
-use Rattle.model_guests.specs.Guests.{GuestNow, GuestsNow, file_of, function_in, guest_named, lone_of, path_in, with_guest, with_slot_emptied, with_slot_filled}
+use Rattle.model_guests.specs.Guests.{GuestNow, GuestsNow, file_of, function_in, guest_named, path_in, with_guest, with_slot_emptied, with_slot_filled}
 use Rattle.model_guests.specs.AgreedBoard.{agreed_function, with_files, state_over, with_change_at}
 use Rattle.model_guests.specs.Seated.{AreSeated, IsSeat}
 use Rattle.model_guests.proofs.AgreedChanges.{agreed_by, changed_function}
 use Rattle.model_guests.proofs.Changes.{one_file, resets_alike}
-use Rattle.model_guests.proofs.GuestsByName.{function_named, function_of, path_at, path_of}
+use Rattle.model_guests.proofs.GuestsByName.{function_named, path_at}
 use Rattle.model_guests.proofs.SeatedMoves.{Placed, placed, put_there, was_there, seat_in}
 use Rattle.model_devices.proofs.OneGuest.{lone_other, with_none, with_twice}
 use Rattle.model_handoff.specs.Handoffs.{IsHandoff, file_at_reset}
@@ -34,7 +34,7 @@ use Rattle.model_guests.specs.WorldNow.{WorldNow, board_state}
 use Rattle.model_handoff.proofs.Functions.{path_stays}
 use Rattle.model_handoff.proofs.Keeping.{keeps_board, rows_stay}
 use Rattle.model_handoff.proofs.Views.{sits_is}
-use Rattle.model_giving.specs.Giving.{Gift, with_reset_at, has_closed_region, endpoint_fault, give_fault, take_fault, given, taken, after_give, after_take}
+use Rattle.model_giving.specs.Giving.{Gift, with_reset_at, has_closed_region, give_fault, take_fault, given, taken, after_give, after_take}
 use Rattle.model_giving.specs.GivingLaws.{BoardAfterGift, BoardAfterTaking, LawfulAfterGift, LawfulAfterTaking, ShownAfterGift, ShownAfterTaking, GivenFunction, GivenBack, OthersAfterGift, OthersAfterTaking}
 use Rattle.model_giving.proofs.OneReset.{alike, reset_is}
 use Rattle.model_handoff.proofs.Alike.{IsAlike}
@@ -63,8 +63,7 @@ module _ (d : Endpoint) where
 
   module _ (p : Path) (old new : Path → Option File) (here : IsFresh d (new p)) (others : (q : Path) → path_eq p q ≡ false → new q ≡ old q) where
     put_by : (o : Option File) (f : BoardFunction) → agreed_by o f ≡ record f { file = put_in o f.file }
-    put_by None f = refl
-    put_by (Some own) f = refl
+    put_by o f = grind arith
 
     one_over : (f : BoardFunction) → agreed_function new (changed_function (after_reset d) p f) ≡ changed_function (after_reset d) p (agreed_function old f)
     one_over f = by (path_eq f.path p) refl
@@ -78,12 +77,7 @@ module _ (d : Endpoint) where
             ap (agreed_function new) change ∙ put_by (new f.path) g
             ∙ ap (λ (x : File). record f { file = x }) (over_reset f.file (old f.path) (new f.path) (subst (λ (x : Path). IsFresh d (new x)) (sym at) here))
             ∙ sym (ap (changed_function (after_reset d) p) now ∙ ap (λ t. cond t (record f { file = after_reset d (put_in (old f.path) f.file) }) (record f { file = put_in (old f.path) f.file })) e)
-        by false e =
-            let apart : path_eq p f.path ≡ false = path_eq-sym p f.path ∙ e in
-            let change : changed_function (after_reset d) p f ≡ f = ap (λ t. cond t (record f { file = after_reset d f.file }) f) e in
-            let still : path_eq (agreed_function old f).path p ≡ false = ap (λ (x : Path). path_eq x p) (path_stays (old f.path) f) ∙ e in
-            ap (agreed_function new) change ∙ ap (λ (o : Option File). agreed_by o f) (others f.path apart)
-            ∙ sym (ap (λ t. cond t (record (agreed_function old f) { file = after_reset d (agreed_function old f).file }) (agreed_function old f)) still)
+        by false e = grind (arith, path_eq-sym, path_stays)
 
     all_over : (fs : List BoardFunction) → map (agreed_function new) (with_file (after_reset d) p fs) ≡ with_file (after_reset d) p (map (agreed_function old) fs)
     all_over [] = refl
@@ -121,8 +115,7 @@ module _ (s : State) (handoff : IsHandoff s) (p : Path) (d : Endpoint) (declares
   file_by c q v = cond v (option_map file_at_reset (declared c q)) None
 
   fresh_here : (v : Bool) → IsFresh d (file_by (board_at t.functions) p v)
-  fresh_here true = inr (ap (λ (c : Board). option_map file_at_reset (declared c p)) same_board ∙ ap (option_map file_at_reset) declares)
-  fresh_here false = inl refl
+  fresh_here v = grind (arith, same_board)
 
   rows_seated : board_at (with_seated_reset s gs).functions ≡ b
   rows_seated = rows_stay (seated_files s gs) s.functions
@@ -151,21 +144,7 @@ pub record CanGive (w : WorldNow) (g : Gift) (d : Endpoint) : Type 0 where
   pub none_closed : has_closed_region w.handoff g.path d ≡ false
 
 pub can_give : (w : WorldNow) (g : Gift) → give_fault w g ≡ None → (d : Endpoint) × CanGive w g d
-can_give w g h = by (nat_le 32 g.slot) refl (declared (board_at w.handoff.functions) g.path) refl h
-  where
-    then_by : (d : Endpoint) → nat_le 32 g.slot ≡ false → declared (board_at w.handoff.functions) g.path ≡ Some d
-        → (u : Bool) → sits w.guests g.path ≡ u → (o : Option Function) → function_in w.guests g.to g.slot ≡ o → (v : Bool) → has_closed_region w.handoff g.path d ≡ v
-        → cond {A = Option ℕ} u (Some 602) (cond (is_some o) (Some 602) (cond v (Some 206) None)) ≡ None → (e : Endpoint) × CanGive w g e
-    then_by d low declares true a o x v y k = cc
-    then_by d low declares false a (Some f) x v y k = cc
-    then_by d low declares false a None x true y k = cc
-    then_by d low declares false a None x false y k = (d, record { low = low; declares = declares; free = a; empty = x; none_closed = y })
-
-    by : (u : Bool) → nat_le 32 g.slot ≡ u → (o : Option Endpoint) → declared (board_at w.handoff.functions) g.path ≡ o
-        → cond {A = Option ℕ} u (Some 303) (endpoint_fault w g o) ≡ None → (e : Endpoint) × CanGive w g e
-    by true e o i k = cc
-    by false e None i k = cc
-    by false e (Some d) i k = then_by d e i (sits w.guests g.path) refl (function_in w.guests g.to g.slot) refl (has_closed_region w.handoff g.path d) refl k
+can_give w g h = grind arith
 
 pub given_is : (w : WorldNow) (g : Gift) (d : Endpoint) → give_fault w g ≡ None → declared (board_at w.handoff.functions) g.path ≡ Some d
     → after_give w g ≡ record { handoff = with_reset_at g.path w.handoff; guests = with_guest (with_slot_filled g.slot (Some g.path) d) g.to w.guests }
@@ -175,9 +154,7 @@ given_is w g d fault declares =
 
 pub taken_is : (w : WorldNow) (name : Text) (n : ℕ) → take_fault w name n ≡ None → (p : Path) → path_in w.guests name n ≡ Some p
     → after_take w name n ≡ record { handoff = with_reset_at p w.handoff; guests = with_guest (with_slot_emptied n) name w.guests }
-taken_is w name n fault p at =
-    ap (λ (o : Option ℕ). cond (is_some o) w (taken name n w)) fault
-    ∙ ap (λ (o : Option Path). let v : WorldNow = record { handoff = option_map_or (λ (q : Path). with_reset_at q w.handoff) o w.handoff; guests = with_guest (with_slot_emptied n) name w.guests } in v) at
+taken_is w name n fault p at = grind arith
 
 -- ---- regions that are open
 
@@ -231,12 +208,7 @@ module _ (w : WorldNow) (h : IsLawfulOver w) (g : Gift) (d : Endpoint) (can : Ca
       of (was_there x y) = h.served a k q x
 
   lawful_now : IsLawfulOver (record { handoff = with_reset_at g.path w.handoff; guests = now })
-  lawful_now = record {
-    handoff = is_alike.handoff;
-    order = is_alike.order h.order;
-    seated = subst (λ (x : Board). AreSeated x now) (sym is_alike.board) now_seated;
-    served = λ a k q at. open_alike w.handoff (with_reset_at g.path w.handoff) is_alike q (now_served a k q at);
-  }
+  lawful_now = grind (arith, now_seated, open_alike, is_alike, now_served)
 
   module _ (there : IsSome (guest_named w.guests g.to)) where
     now_here : IsFresh d (file_of now g.path)
@@ -255,14 +227,10 @@ module _ (w : WorldNow) (h : IsLawfulOver w) (g : Gift) (d : Endpoint) (can : Ca
     function_now = came_function c w.guests h.seated g.to g.slot g.path d can.declares nobody_has there can.low
 
 pub board_after_gift : BoardAfterGift
-board_after_gift w h g there fault =
-    let can = can_give w g fault in
-    ap board_state (given_is w g can.0 fault can.1.declares) ∙ board_now w h g can.0 can.1 there
+board_after_gift w h g there fault = grind (arith, can_give, given_is, board_now)
 
 pub shown_after_gift : ShownAfterGift
-shown_after_gift w h g there fault =
-    let can = can_give w g fault in
-    ap (λ (v : WorldNow). with_seated_reset v.handoff v.guests) (given_is w g can.0 fault can.1.declares) ∙ shown_now w h g can.0 can.1 there
+shown_after_gift w h g there fault = grind (arith, can_give, given_is, shown_now)
 
 pub lawful_after_gift : LawfulAfterGift
 lawful_after_gift w h g = by (give_fault w g) refl
@@ -272,13 +240,7 @@ lawful_after_gift w h g = by (give_fault w g) refl
     by None e = let can = can_give w g e in subst IsLawfulOver (sym (given_is w g can.0 e can.1.declares)) (lawful_now w h g can.0 can.1)
 
 pub given_function : GivenFunction
-given_function w h g there fault =
-    let can = can_give w g fault in
-    let is = given_is w g can.0 fault can.1.declares in
-    record {
-      path = ap (λ (v : WorldNow). path_in v.guests g.to g.slot) is ∙ path_now w h g can.0 can.1 there;
-      function = ap (λ (v : WorldNow). function_in v.guests g.to g.slot) is ∙ function_now w h g can.0 can.1 there ∙ ap reset_function (sym can.1.declares);
-    }
+given_function w h g there fault = grind (arith, can_give, given_is, path_now, function_now)
 
 -- ---- laws of takings
 
@@ -288,12 +250,7 @@ pub record CanTake (w : WorldNow) (name : Text) (n : ℕ) : Type 0 where
   pub there : function_in w.guests name n ≡ Some f
 
 pub can_take : (w : WorldNow) (name : Text) (n : ℕ) → take_fault w name n ≡ None → CanTake w name n
-can_take w name n h = by (nat_le 32 n) refl (function_in w.guests name n) refl h
-  where
-    by : (u : Bool) → nat_le 32 n ≡ u → (o : Option Function) → function_in w.guests name n ≡ o → cond {A = Option ℕ} u (Some 303) (cond (not (is_some o)) (Some 601) None) ≡ None → CanTake w name n
-    by true e o i k = cc
-    by false e None i k = cc
-    by false e (Some f) i k = record { low = e; f = f; there = i }
+can_take w name n h = grind arith
 
 module _ (w : WorldNow) (h : IsLawfulOver w) (name : Text) (n : ℕ) (can : CanTake w name n) (p : Path) (at : path_in w.guests name n ≡ Some p) where
   abbrev lower : GuestsNow
@@ -304,9 +261,6 @@ module _ (w : WorldNow) (h : IsLawfulOver w) (name : Text) (n : ℕ) (can : CanT
 
   p_declares : declared (board_at w.handoff.functions) p ≡ Some e
   p_declares = declared_there (board_at w.handoff.functions) (path_in w.guests name n) (function_in w.guests name n) p can.f (seat_in (board_at w.handoff.functions) w.guests h.seated.guests name n) at can.there
-
-  lower_alike : IsAlike w.handoff (with_reset_at p w.handoff)
-  lower_alike = alike w.handoff h.handoff p e p_declares
 
   lower_seated : AreSeated (board_at w.handoff.functions) lower
   lower_seated = left_seated (board_at w.handoff.functions) w.guests h.seated name n
@@ -335,12 +289,7 @@ module _ (w : WorldNow) (h : IsLawfulOver w) (name : Text) (n : ℕ) (can : CanT
   shown_lower = shown_over w.handoff h.handoff p e p_declares w.guests lower h.seated lower_seated lower_here lower_others ∙ seated_is
 
   lawful_lower : IsLawfulOver (record { handoff = with_reset_at p w.handoff; guests = lower })
-  lawful_lower = record {
-    handoff = lower_alike.handoff;
-    order = lower_alike.order h.order;
-    seated = subst (λ (x : Board). AreSeated x lower) (sym lower_alike.board) lower_seated;
-    served = λ a k q i. open_alike w.handoff (with_reset_at p w.handoff) lower_alike q (h.served a k q (left_was (board_at w.handoff.functions) w.guests h.seated name n a k q i));
-  }
+  lawful_lower = grind (arith, lower_seated, open_alike, left_was, alike, p_declares)
 
 pub board_after_taking : BoardAfterTaking
 board_after_taking w h name n fault p at = ap board_state (taken_is w name n fault p at) ∙ board_lower w h name n (can_take w name n fault) p at
@@ -362,19 +311,10 @@ lawful_after_taking w h name n = by (take_fault w name n) refl
 -- ---- other guests
 
 pub others_after_gift : OthersAfterGift
-others_after_gift w g other apart = by (is_some (give_fault w g)) (declared (board_at w.handoff.functions) g.path)
-  where
-    by : (v : Bool) (o : Option Endpoint) → lone_of (cond v w (given g o w)).guests other ≡ lone_of w.guests other
-    by true o = refl
-    by false None = refl
-    by false (Some d) = lone_other (with_slot_filled g.slot (Some g.path) d) (λ t. refl) g.to other w.guests apart
+others_after_gift w g other apart = grind (arith, lone_other)
 
 pub others_after_taking : OthersAfterTaking
-others_after_taking w name n other apart = by (is_some (take_fault w name n))
-  where
-    by : (v : Bool) → lone_of (cond v w (taken name n w)).guests other ≡ lone_of w.guests other
-    by true = refl
-    by false = lone_other (with_slot_emptied n) (λ t. refl) name other w.guests apart
+others_after_taking w name n other apart = grind (arith, lone_other)
 
 -- ---- given and taken again
 
@@ -384,13 +324,10 @@ set_back (z ∷ zs) zero x h = ap (λ w. w ∷ zs) (sym h)
 set_back (z ∷ zs) (suc n) x h = ap (λ ws. z ∷ ws) (set_back zs n x h)
 
 out_again : (y : GuestNow) (m : ℕ) (p : Option Path) (d : Endpoint) → path_at y.paths m ≡ None → slot_at y.lone.slots m ≡ None → with_slot_emptied m (with_slot_filled m p d y) ≡ y
-out_again y m p d path at =
-    ap₂ (λ (ps : List (Option Path)) (ss : Slots). let z : GuestNow = record { name = y.name; paths = ps; lone = record { slots = ss; latch = y.lone.latch } } in z)
-    (set_back y.paths m p path) (set_back y.lone.slots m (reset_function (Some d)) at)
+out_again y m p d path at = grind (arith, set_back)
 
 guest_there : (o : Option GuestNow) → IsSome o → (x : GuestNow) × (o ≡ Some x)
-guest_there None h = cc
-guest_there (Some x) h = (x, refl)
+guest_there o h = grind arith
 
 pub given_back : GivenBack
 given_back w h g there fault =
@@ -403,11 +340,4 @@ given_back w h g there fault =
     ap₂ (λ (u : Bool) (o : Option Function). cond {A = Option ℕ} u (Some 303) (cond (not (is_some o)) (Some 601) None)) can.1.low (function_now w h g d can.1 there) in
     let x = guest_there (guest_named w.guests g.to) there in
     let was : path_in w.guests g.to g.slot ≡ None = no_path (board_at w.handoff.functions) (path_in w.guests g.to g.slot) (function_in w.guests g.to g.slot) (seat_in (board_at w.handoff.functions) w.guests h.seated.guests g.to g.slot) can.1.empty in
-    record {
-      is_done = ap (λ (y : WorldNow). take_fault y g.to g.slot) is ∙ passes;
-      guests = ap (λ (y : WorldNow). (after_take y g.to g.slot).guests) is ∙ ap (λ (y : WorldNow). y.guests) (taken_is v g.to g.slot passes g.path path)
-          ∙ with_twice (with_slot_emptied g.slot) (with_slot_filled g.slot (Some g.path) d) (λ t. refl) g.to w.guests
-          ∙ with_none w.guests h.seated.names_apart g.to x.0 x.1 (λ t. with_slot_emptied g.slot (with_slot_filled g.slot (Some g.path) d t))
-          (out_again x.0 g.slot (Some g.path) d (sym (ap (λ (o : Option GuestNow). path_of o g.slot) x.1) ∙ was)
-          (sym (ap (λ (o : Option GuestNow). function_of o g.slot) x.1) ∙ sym (function_named w.guests g.to g.slot) ∙ can.1.empty));
-    }
+    grind (arith, taken_is, with_twice, with_none, out_again, function_named)

@@ -1,6 +1,6 @@
 -- A handoff in which one endpoint is reset, but for what guests have copies of, is a handoff of the same board.
-use Rattle.std.proofs.Common.{◌≡◌, lit≤, List, [], ◌∷◌, Some, None, Option, refl, sym, ap, ◌∙◌, subst}
-use Rattle.std.specs.Prelude.{is_some, codes}
+use Rattle.std.proofs.Common.{◌≡◌, List, [], ◌∷◌, Some, None, Option, sym, ap, ◌∙◌, subst, arith}
+use Rattle.std.specs.Prelude.{codes}
 use Rattle.std.specs.Option.{option_map_or}
 use Rattle.model_registers.specs.Apertures.{Aperture}
 use Rattle.model_registers.specs.Declarations.{Endpoint}
@@ -34,14 +34,7 @@ module _ (s : State) (handoff : IsHandoff s) (p : Path) (d : Endpoint) (declares
   w = record { board = b; apertures = record { io = no_addresses; mem = no_addresses; pref = None }; guests = only ∷ [] }
 
   lawful : HasLawfulGuests w
-  lawful = record {
-    few_guests = lit≤ tt;
-    lawful_names = (refl, tt);
-    names_apart = (tt, tt);
-    few_slots = (lit≤ tt, tt);
-    endpoints = (ap is_some declares, tt);
-    paths_apart = (tt, tt);
-  }
+  lawful = grind arith
 
   abbrev gs : GuestsNow
   gs = guests_at_first w

@@ -1,7 +1,7 @@
 -- Guests of whom one gets a function that nobody has, or loses one: all stay seated, and every other path finds the file
 -- that it found.
 use Rattle.std.proofs.Common.{◌≡◌, ℕ, zero, suc, ◌<◌, Bool, true, false, ◌||◌, cond, List, [], ◌∷◌, length, Some, None, Option, refl, sym, ap, ap₂, ◌∙◌, subst, arith}
-use Rattle.std.specs.Prelude.{slice_get, slice_set, unwrap_or, is_some, option_map, nat_le, IsFalse, IsSome}
+use Rattle.std.specs.Prelude.{slice_get, slice_set, unwrap_or, is_some, nat_le, IsFalse, IsSome}
 use Rattle.std.specs.List.{list_any}
 use Rattle.std.specs.Str.{bytes_eq}
 use Rattle.std.proofs.lemmas.Bool.Decides.{nat_tests}
@@ -14,13 +14,13 @@ use Rattle.model_registers.specs.Decoding.{Function}
 use Rattle.model_board.specs.Paths.{Path, path_eq}
 use Rattle.model_board.specs.Board.{Board}
 use Rattle.model_board.proofs.PathOrder.{path_same}
-use Rattle.model_guests.specs.Slots.{Slots, slot_at}
+use Rattle.model_guests.specs.Slots.{Slots}
 use Rattle.model_guests.specs.Text.{Text}
 use Rattle.model_guests.specs.World.{declared}
 use Rattle.model_guests.specs.Guests.{GuestNow, GuestsNow, file_of, function_in, guest_named, path_in, with_guest, with_slot_emptied, with_slot_filled}
 use Rattle.model_guests.specs.Seated.{AreSeated, AreSeats, IsSeat, IsSeatedGuest}
 use Rattle.model_guests.proofs.FoundFiles.{file_found, file_past, file_stays}
-use Rattle.model_guests.proofs.GuestsByName.{found, function_named, function_of, named_with, one, past_first, path_at, path_of}
+use Rattle.model_guests.proofs.GuestsByName.{found, function_named, function_of, named_with, past_first, path_at, path_of}
 use Rattle.model_guests.proofs.Names.{same_text}
 use Rattle.model_guests.proofs.SeatedMoves.{Placed, placed, put_there, was_there, seat_in}
 use Rattle.model_guests.proofs.Seats.{guests_stay, names_stay, seats_set}
@@ -52,18 +52,13 @@ below n h = grind (arith, nat_tests)
 -- ---- seats
 
 pub no_path : (b : Board) (q : Option Path) (o : Option Function) → IsSeat b q o → o ≡ None → q ≡ None
-no_path b None o h e = refl
-no_path b (Some p) None h e = absurd h
-no_path b (Some p) (Some f) h e = cc
+no_path b q o h e = grind arith
 
 pub some_function : (b : Board) (q : Option Path) (o : Option Function) (p : Path) → IsSeat b q o → q ≡ Some p → (f : Function) × (o ≡ Some f)
-some_function b None o p h e = cc
-some_function b (Some r) None p h e = absurd h
-some_function b (Some r) (Some f) p h e = (f, refl)
+some_function b q o p h e = grind arith
 
 pub some_path : (b : Board) (q : Option Path) (f : Function) → IsSeat b q (Some f) → (p : Path) × (q ≡ Some p)
-some_path b None f h = absurd h
-some_path b (Some p) f h = (p, refl)
+some_path b q f h = grind arith
 
 pub declared_there : (b : Board) (q : Option Path) (o : Option Function) (p : Path) (f : Function) → IsSeat b q o → q ≡ Some p → o ≡ Some f → declared b p ≡ Some f.decl
 declared_there b q o p f h e i = (subst (λ (x : Option Path). IsSeat b x (Some f)) e (subst (IsSeat b q) i h)).decl
@@ -80,13 +75,7 @@ none_in (Some q ∷ qs) p h = by (path_eq q p) refl (none_in qs p (λ m. h (suc 
     by false e more = more
 
 in_rest : (t : GuestNow) (ts : GuestsNow) (a : Text) (n : ℕ) (p : Path) → Each (λ (v : GuestNow). IsFalse (bytes_eq t.name v.name)) ts → path_in ts a n ≡ Some p → path_in (t ∷ ts) a n ≡ Some p
-in_rest t ts a n p apart h = cases (guest_named ts a) refl h
-  where
-    cases : (o : Option GuestNow) → guest_named ts a ≡ o → path_of o n ≡ Some p → path_in (t ∷ ts) a n ≡ Some p
-    cases None e h = cc
-    cases (Some u) e h =
-        let other : bytes_eq t.name a ≡ false = past_first t ts a u apart e in
-        ap (λ v. path_of (cond v (Some t) (guest_named ts a)) n) other ∙ ap (λ (o : Option GuestNow). path_of o n) e ∙ h
+in_rest t ts a n p apart h = grind (arith, past_first)
 
 nobody : (gs : GuestsNow) (p : Path) → EachPair (λ (t u : GuestNow). IsFalse (bytes_eq t.name u.name)) gs → ((a : Text) (m : ℕ) → path_in gs a m ≡ Some p → ⊥) → sits gs p ≡ false
 nobody [] p names free = refl
@@ -95,8 +84,7 @@ nobody (t ∷ ts) p names free =
     (nobody ts p names.1 (λ a m h. free a m (in_rest t ts a m p names.0 h)))
 
 none_found : (o : Option File) → is_some o ≡ false → o ≡ None
-none_found None h = refl
-none_found (Some f) h = cc
+none_found o h = grind arith
 
 none_is_some : {A : Type 0} (x : A) → None ≡ Some x → ⊥
 none_is_some x h = cc
@@ -130,22 +118,8 @@ module _ (b : Board) (gs : GuestsNow) (seated : AreSeated b gs) (name : Text) (n
     was_free : (a : Text) (k : ℕ) (q : Path) → path_in gs a k ≡ Some q → Some p ≡ Some q → ⊥
     was_free a k q h e = free a k (h ∙ sym e)
 
-    apart_in : (a c : Text) (k l : ℕ) (q : Path) → Placed gs name a n k (Some p) q → Placed gs name c n l (Some p) q → (a ≡ c) × (k ≡ l)
-    apart_in a c k l q (put_there x y z) (put_there u v w) = (x ∙ sym u, y ∙ sym v)
-    apart_in a c k l q (put_there x y z) (was_there u v) = absurd (was_free c l q u z)
-    apart_in a c k l q (was_there x y) (put_there u v w) = absurd (was_free a k q x w)
-    apart_in a c k l q (was_there x y) (was_there u v) = seated.paths_apart a c k l q x u
-
     pub came_seated : AreSeated b came
-    came_seated = record {
-      names_apart = names_stay (with_slot_filled n (Some p) d) (λ t. refl) name gs seated.names_apart;
-      guests = guests_stay (IsSeatedGuest b) (with_slot_filled n (Some p) d)
-          (λ t h. record {
-            count = set_count t.paths n (Some p) h.count;
-            seats = seats_set b t.paths t.lone.slots n (Some p) (Some (fresh d)) h.seats (record { decl = declares; shape = refl });
-          }) name gs seated.guests;
-      paths_apart = λ a c k l q h i. apart_in a c k l q (at_place a k q h) (at_place c l q i);
-    }
+    came_seated = grind (arith, names_stay, guests_stay, set_count, seats_set, at_place, put_there, was_there, was_free)
 
     module _ (there : IsSome (guest_named gs name)) (low : nat_le 32 n ≡ false) where
       pub record Takes (o : Option GuestNow) : Type 0 where
@@ -153,19 +127,7 @@ module _ (b : Board) (gs : GuestsNow) (seated : AreSeated b gs) (name : Text) (n
         pub function_is : function_of o n ≡ Some (fresh d)
 
       takes : Takes (guest_named came name)
-      takes = subst Takes (sym (named_with (with_slot_filled n (Some p) d) (λ t. refl) name name gs)) (cases (guest_named gs name) refl there)
-        where
-          cases : (o : Option GuestNow) → guest_named gs name ≡ o → IsSome o → Takes (option_map (one (with_slot_filled n (Some p) d) name) o)
-          cases None e h = cc
-          cases (Some t) e h =
-              let is = found (IsSeatedGuest b) gs name t seated.guests e in
-              let here : bytes_eq name t.name ≡ true = ap (bytes_eq name) is.name_is ∙ same_text name in
-              let room : n < length t.paths = subst (λ k. n < k) (sym is.has.count) (below n low) in
-              let room_too : n < length t.lone.slots = subst (λ k. n < k) (sym (as_many b t.paths t.lone.slots is.has.seats)) room in
-              record {
-                path_is = ap (λ v. path_at (cond v (with_slot_filled n (Some p) d t) t).paths n) here ∙ put_at t.paths n (Some p) room;
-                function_is = ap (λ v. slot_at (cond v (with_slot_filled n (Some p) d t) t).lone.slots n) here ∙ put_at t.lone.slots n (Some (fresh d)) room_too;
-              }
+      takes = grind (arith, named_with, found, same_text, below, as_many, put_at)
 
       pub came_path : path_in came name n ≡ Some p
       came_path = takes.path_is
@@ -192,33 +154,15 @@ module _ (b : Board) (gs : GuestsNow) (seated : AreSeated b gs) (name : Text) (n
   left_place : (a : Text) (k : ℕ) (q : Path) → path_in left a k ≡ Some q → Placed gs name a n k None q
   left_place a k q h = placed (with_slot_emptied n) n None (λ t. refl) (λ t. refl) gs name a k q h
 
-  left_apart : (a c : Text) (k l : ℕ) (q : Path) → Placed gs name a n k None q → Placed gs name c n l None q → (a ≡ c) × (k ≡ l)
-  left_apart a c k l q (put_there x y z) v = cc
-  left_apart a c k l q (was_there x y) (put_there u v w) = cc
-  left_apart a c k l q (was_there x y) (was_there u v) = seated.paths_apart a c k l q x u
-
   pub left_was : (a : Text) (k : ℕ) (q : Path) → path_in left a k ≡ Some q → path_in gs a k ≡ Some q
-  left_was a k q h = of (left_place a k q h)
-    where
-      of : Placed gs name a n k None q → path_in gs a k ≡ Some q
-      of (put_there x y z) = cc
-      of (was_there x y) = x
+  left_was a k q h = grind (arith, left_place, put_there, was_there)
 
   pub left_seated : AreSeated b left
-  left_seated = record {
-    names_apart = names_stay (with_slot_emptied n) (λ t. refl) name gs seated.names_apart;
-    guests = guests_stay (IsSeatedGuest b) (with_slot_emptied n)
-        (λ t h. record { count = set_count t.paths n None h.count; seats = seats_set b t.paths t.lone.slots n None None h.seats tt }) name gs seated.guests;
-    paths_apart = λ a c k l q h i. left_apart a c k l q (left_place a k q h) (left_place c l q i);
-  }
+  left_seated = grind (arith, names_stay, guests_stay, set_count, seats_set, left_place, put_there, was_there)
 
   module _ (p : Path) (at : path_in gs name n ≡ Some p) where
     gone : (a : Text) (m : ℕ) → path_in left a m ≡ Some p → ⊥
-    gone a m h = of (left_place a m p h)
-      where
-        of : Placed gs name a n m None p → ⊥
-        of (put_there x y z) = none_is_some p z
-        of (was_there x y) = let same = seated.paths_apart a name m n p x at in y same.0 same.1
+    gone a m h = grind (arith, left_place, put_there, none_is_some, was_there)
 
     pub left_file : file_of left p ≡ None
     left_file = no_file b left left_seated.guests p (nobody left p left_seated.names_apart gone)
