@@ -24,12 +24,7 @@ raise_of_many (a ∷ b ∷ c ∷ d ∷ e ∷ ws) h = refl
 
 -- seven words are enough to tell
 pub event_of_seven : (op : Text) (ws : List Text) → event_of (op ∷ take 7 ws) ≡ event_of (op ∷ ws)
-event_of_seven op [] = refl
-event_of_seven op (a ∷ []) = refl
-event_of_seven op (a ∷ b ∷ []) = refl
-event_of_seven op (a ∷ b ∷ c ∷ []) = refl
-event_of_seven op (a ∷ b ∷ c ∷ d ∷ []) = refl
-event_of_seven op (a ∷ b ∷ c ∷ d ∷ e ∷ ws) = refl
+event_of_seven op ws = grind arith
 
 pub host_read_of_few : (ws : List (Bor Text)) → length ws < 3 → None ≡ host_read_of (texts ws)
 host_read_of_few [] h = refl
@@ -65,10 +60,4 @@ move_of_many names (a ∷ b ∷ c ∷ d ∷ e ∷ f ∷ ws) h = refl
 -- seven words are enough to tell
 pub host_of_seven : (names ws : List Text)
     → read_or_move (host_read_of (take 7 ws)) (move_of names (take 7 ws)) ≡ read_or_move (host_read_of ws) (move_of names ws)
-host_of_seven names [] = refl
-host_of_seven names (a ∷ []) = refl
-host_of_seven names (a ∷ b ∷ []) = refl
-host_of_seven names (a ∷ b ∷ c ∷ []) = refl
-host_of_seven names (a ∷ b ∷ c ∷ d ∷ []) = refl
-host_of_seven names (a ∷ b ∷ c ∷ d ∷ e ∷ []) = refl
-host_of_seven names (a ∷ b ∷ c ∷ d ∷ e ∷ f ∷ ws) = refl
+host_of_seven names ws = grind arith

@@ -1,5 +1,5 @@
 -- A number that is read digit by digit.
-use Rattle.std.proofs.Common.{◌≡◌, ℕ, ◌+◌, ◌*◌, ◌≤◌, Bool, true, false, cond, [], ◌∷◌, Option, Some, None, length, nat_lt, option_map, refl, arith}
+use Rattle.std.proofs.Common.{◌≡◌, ℕ, ◌+◌, ◌*◌, ◌≤◌, Bool, false, cond, [], ◌∷◌, Option, Some, None, length, option_map, refl, arith}
 use Rattle.std.specs.Option.{option_and_then}
 use Rattle.std.proofs.lemmas.Bool.Decides.{nat_tests}
 use Rattle.std.proofs.Math.Nat.{mul-le-mul_left}
@@ -7,8 +7,7 @@ use Rattle.model_guests.specs.Text.{Text}
 use Rattle.model_guests.specs.Numbers.{below, digit_of, digits_from, digits_in}
 
 from_None : (b : Bool) (n : ℕ) → None ≡ cond b (Some n) None → b ≡ false
-from_None true n e = absurd (cc)
-from_None false n e = refl
+from_None b n e = grind arith
 
 -- one more digit of a number
 abbrev pub longer : ℕ → ℕ → Text → Option ℕ → Option ℕ
@@ -27,11 +26,7 @@ past limit base n (c ∷ cs) some h =
 
 pub longer-None : (limit base n : ℕ) (cs : Text) (digit : Option ℕ) → 1 ≤ base
     → None ≡ below limit (option_map (λ d. n * base + d) digit) → None ≡ below limit (longer base n cs digit)
-longer-None limit base n cs None some e = refl
-longer-None limit base n cs (Some d) some e =
-    past limit base (n * base + d) cs some
-    (grind (arith, nat_tests, from_None (nat_lt (n * base + d) limit) (n * base + d) e))
+longer-None limit base n cs digit some e = grind (arith, past, nat_tests, from_None)
 
 pub digits_in-some : (base : ℕ) (ds : Text) → 1 ≤ length ds → digits_in base ds ≡ digits_from base 0 ds
-digits_in-some base [] h = absurd (omega arith)
-digits_in-some base (d ∷ ds) h = refl
+digits_in-some base ds h = grind arith

@@ -37,38 +37,23 @@ abbrev written_after : Option Placed → Option Event
 written_after p = option_and_then (λ (x : Placed). writes_at x.target x.rest) p
 
 alone : (o : Option Event) → first_of_two o None ≡ o
-alone None = refl
-alone (Some e) = refl
+alone o = grind arith
 
 -- ---- reads at a port or an address
 
 read_no_width : (f : ℕ → Target) (o : Option ℕ) → None ≡ read_after (placed_by f o [])
-read_no_width f None = refl
-read_no_width f (Some n) = refl
-
-read_end : (t : Target) (q : Option ℕ)
-    → given q (λ width. Some (access (record { target = t; width = width; op = reads })))
-    ≡ option_and_then (λ (w : Numbered). ended w.rest (access (record { target = t; width = w.number; op = reads })))
-    (numbered_by q [])
-read_end t None = refl
-read_end t (Some w) = refl
+read_no_width f o = grind arith
 
 read_width : (f : ℕ → Target) (o : Option ℕ) (w : Text)
     → given o (λ n. given (number_of w) (λ width. Some (access (record { target = f n; width = width; op = reads }))))
     ≡ read_after (placed_by f o (w ∷ []))
 read_width f None w = refl
-read_width f (Some n) w = read_end (f n) (number_of w)
-
-read_left_over : (t : Target) (q : Option ℕ) (c : Text) (cs : List Text)
-    → None ≡ option_and_then (λ (w : Numbered).
-    ended w.rest (access (record { target = t; width = w.number; op = reads }))) (numbered_by q (c ∷ cs))
-read_left_over t None c cs = refl
-read_left_over t (Some w) c cs = refl
+read_width f (Some n) w = grind arith
 
 read_many : (f : ℕ → Target) (o : Option ℕ) (w c : Text) (cs : List Text)
     → None ≡ read_after (placed_by f o (w ∷ c ∷ cs))
 read_many f None w c cs = refl
-read_many f (Some n) w c cs = read_left_over (f n) (number_of w) c cs
+read_many f (Some n) w c cs = grind arith
 
 reads_address : (ws : List Text) → event_of ((109 ∷ 114 ∷ []) ∷ ws) ≡ read_after (placed 109 ws)
 reads_address [] = refl
@@ -95,18 +80,15 @@ slot_then : (o : Option ℕ) (b : Text) (ws : List Text)
     → option_and_then (λ (s : Numbered). option_map (λ (o : Numbered).
     record { target = configuration s.number o.number; rest = o.rest }) (numbered s.rest)) (numbered_by o (b ∷ ws))
     ≡ slot_by o (number_of b) ws
-slot_then None b ws = refl
-slot_then (Some s) b ws = refl
+slot_then o b ws = grind arith
 
 no_offset : (o : Option ℕ)
     → option_and_then {U = Placed} (λ (s : Numbered). option_map (λ (o : Numbered).
     record { target = configuration s.number o.number; rest = o.rest }) (numbered s.rest)) (numbered_by o []) ≡ None
-no_offset None = refl
-no_offset (Some s) = refl
+no_offset o = grind arith
 
 read_slot_no_width : (o q : Option ℕ) → None ≡ read_after (slot_by o q [])
-read_slot_no_width None q = refl
-read_slot_no_width (Some s) q = read_no_width (configuration s) q
+read_slot_no_width o q = grind (arith, read_no_width)
 
 read_slot_width : (o q : Option ℕ) (w : Text)
     → given o (λ s. given q (λ n. given (number_of w) (λ width.
@@ -116,8 +98,7 @@ read_slot_width None q w = refl
 read_slot_width (Some s) q w = read_width (configuration s) q w
 
 read_slot_many : (o q : Option ℕ) (w c : Text) (cs : List Text) → None ≡ read_after (slot_by o q (w ∷ c ∷ cs))
-read_slot_many None q w c cs = refl
-read_slot_many (Some s) q w c cs = read_many (configuration s) q w c cs
+read_slot_many o q w c cs = grind (arith, read_many)
 
 reads_slot : (ws : List Text) → event_of ((99 ∷ 114 ∷ []) ∷ ws) ≡ read_after (placed 99 ws)
 reads_slot [] = refl
@@ -134,50 +115,31 @@ reads_slot (a ∷ b ∷ c ∷ d ∷ e ∷ ws) =
 -- ---- writes
 
 nothing_then : (s : Option ℕ) → ◌≡◌ {A = Option Event} None (option_and_then (λ (n : ℕ). None) s)
-nothing_then None = refl
-nothing_then (Some n) = refl
+nothing_then s = grind arith
 
 abbrev written : Target → ℕ → ℕ → Event
 written t w n = access (record { target = t; width = w; op = writes n })
-
-abbrev with_value : Target → ℕ → Option ℕ → List Text → Option Event
-with_value t w r ws = option_and_then (λ (v : Numbered).
-    option_and_then (λ (n : ℕ). ended v.rest (written t w n)) (below (2 ^ 32) (Some v.number))) (numbered_by r ws)
 
 abbrev with_width : Target → Option ℕ → List Text → Option Event
 with_width t q ws = option_and_then (λ (w : Numbered). option_and_then (λ (v : Numbered).
     option_and_then (λ (n : ℕ). ended v.rest (written t w.number n)) (below (2 ^ 32) (Some v.number)))
     (numbered w.rest)) (numbered_by q ws)
 
-write_value : (t : Target) (w : ℕ) (r : Option ℕ)
-    → given (below (2 ^ 32) r) (λ n. Some (written t w n)) ≡ with_value t w r []
-write_value t w None = refl
-write_value t w (Some v) = refl
-
-write_left_over : (t : Target) (w : ℕ) (r : Option ℕ) (c : Text) (cs : List Text) → None ≡ with_value t w r (c ∷ cs)
-write_left_over t w None c cs = refl
-write_left_over t w (Some v) c cs = nothing_then (below (2 ^ 32) (Some v))
-
-write_no_value : (t : Target) (q : Option ℕ) → None ≡ with_width t q []
-write_no_value t None = refl
-write_no_value t (Some w) = refl
-
 write_end : (t : Target) (q : Option ℕ) (v : Text)
     → given (below (2 ^ 32) (number_of v)) (λ n. given q (λ w. Some (written t w n))) ≡ with_width t q (v ∷ [])
 write_end t None v = sym (nothing_then (below (2 ^ 32) (number_of v)))
-write_end t (Some w) v = write_value t w (number_of v)
+write_end t (Some w) v = grind arith
 
 write_more : (t : Target) (q : Option ℕ) (v c : Text) (cs : List Text) → None ≡ with_width t q (v ∷ c ∷ cs)
 write_more t None v c cs = refl
-write_more t (Some w) v c cs = write_left_over t w (number_of v) c cs
+write_more t (Some w) v c cs = grind (arith, nothing_then)
 
 write_place : (f : ℕ → Target) (o : Option ℕ) → None ≡ written_after (placed_by f o [])
-write_place f None = refl
-write_place f (Some n) = refl
+write_place f o = grind arith
 
 write_width : (f : ℕ → Target) (o : Option ℕ) (w : Text) → None ≡ written_after (placed_by f o (w ∷ []))
 write_width f None w = refl
-write_width f (Some n) w = write_no_value (f n) (number_of w)
+write_width f (Some n) w = grind arith
 
 write_whole : (f : ℕ → Target) (o : Option ℕ) (w v : Text)
     → given (below (2 ^ 32) (number_of v)) (λ n. given o (λ k. given (number_of w) (λ width. Some (written (f k) width n))))
@@ -207,12 +169,10 @@ writes_port (a ∷ b ∷ c ∷ d ∷ []) = write_many port (number_of a) b c d [
 writes_port (a ∷ b ∷ c ∷ d ∷ e ∷ ws) = write_many port (number_of a) b c d (e ∷ ws)
 
 write_slot_place : (o q : Option ℕ) → None ≡ written_after (slot_by o q [])
-write_slot_place None q = refl
-write_slot_place (Some s) q = write_place (configuration s) q
+write_slot_place o q = grind (arith, write_place)
 
 write_slot_width : (o q : Option ℕ) (w : Text) → None ≡ written_after (slot_by o q (w ∷ []))
-write_slot_width None q w = refl
-write_slot_width (Some s) q w = write_width (configuration s) q w
+write_slot_width o q w = grind (arith, write_width)
 
 write_slot_whole : (o q : Option ℕ) (w v : Text)
     → given (below (2 ^ 32) (number_of v)) (λ n. given o (λ s. given q (λ k. given (number_of w) (λ width.
@@ -223,8 +183,7 @@ write_slot_whole (Some s) q w v = write_whole (configuration s) q w v
 
 write_slot_many : (o q : Option ℕ) (w v c : Text) (cs : List Text)
     → None ≡ written_after (slot_by o q (w ∷ v ∷ c ∷ cs))
-write_slot_many None q w v c cs = refl
-write_slot_many (Some s) q w v c cs = write_many (configuration s) q w v c cs
+write_slot_many o q w v c cs = grind (arith, write_many)
 
 writes_slot : (ws : List Text) → event_of ((99 ∷ 119 ∷ []) ∷ ws) ≡ written_after (placed 99 ws)
 writes_slot [] = refl
@@ -262,57 +221,24 @@ pub record IsOther (op : Text) : Type 0 where
   pub raise : bytes_eq op (codes "raise") ≡ false
 
 pub no_form : (op : Text) (ws : List Text) → IsOther op → None ≡ event_of (op ∷ ws)
-no_form op [] h = refl
-no_form op (a ∷ []) h = refl
-no_form op (a ∷ b ∷ []) h = (none_is _ _ _ _ _ _ _ _ _ None None None None None h.ir h.mr h.cr h.iw h.mw h.cw h.raise).0
-no_form op (a ∷ b ∷ c ∷ []) h = (none_is _ _ _ _ _ _ _ None None _ _ _ None None h.ir h.mr h.cr h.iw h.mw h.cw h.raise).1
-no_form op (a ∷ b ∷ c ∷ d ∷ []) h = (none_is _ _ _ _ _ _ _ None None None None None _ _ h.ir h.mr h.cr h.iw h.mw h.cw h.raise).2
-no_form op (a ∷ b ∷ c ∷ d ∷ e ∷ ws) h = refl
-
-unlike_by : (t : Bool) (a b : Text) → (length a ≡ length b → ⊥) → bytes_eq a b ≡ t → t ≡ false
-unlike_by true a b h e = absurd (h (ap length ((bytes_eq-Decides a b).0 e)))
-unlike_by false a b h e = refl
+no_form op ws h = grind (arith, none_is)
 
 pub unlike : (a b : Text) → (length a ≡ length b → ⊥) → bytes_eq a b ≡ false
-unlike a b h = unlike_by (bytes_eq a b) a b h refl
+unlike a b h = grind (arith, bytes_eq-Decides)
 
 -- a word of another length than two is no access
 pub other_length : (op : Text) → (length op ≡ 2 → ⊥) → bytes_eq op (codes "raise") ≡ false → IsOther op
-other_length op h r = record {
-  ir = unlike op (codes "ir") h;
-  mr = unlike op (codes "mr") h;
-  cr = unlike op (codes "cr") h;
-  iw = unlike op (codes "iw") h;
-  mw = unlike op (codes "mw") h;
-  cw = unlike op (codes "cw") h;
-  raise = r;
-}
+other_length op h r = grind (arith, unlike)
 
 -- two letters
 letters : (s k x y : ℕ) → ((s ≡ x) × (k ≡ y) → ⊥) → bytes_eq (s ∷ k ∷ []) (x ∷ y ∷ []) ≡ false
 letters s k x y h = grind (arith, nat_tests)
 
 other_kind : (s k : ℕ) → (k ≡ 114 → ⊥) → (k ≡ 119 → ⊥) → IsOther (s ∷ k ∷ [])
-other_kind s k r w = record {
-  ir = letters s k 105 114 (λ h. r h.1);
-  mr = letters s k 109 114 (λ h. r h.1);
-  cr = letters s k 99 114 (λ h. r h.1);
-  iw = letters s k 105 119 (λ h. w h.1);
-  mw = letters s k 109 119 (λ h. w h.1);
-  cw = letters s k 99 119 (λ h. w h.1);
-  raise = unlike (s ∷ k ∷ []) (codes "raise") (λ h. absurd (omega (arith, h)));
-}
+other_kind s k r w = grind (arith, letters, unlike)
 
 other_space : (s k : ℕ) → (s ≡ 109 → ⊥) → (s ≡ 105 → ⊥) → (s ≡ 99 → ⊥) → IsOther (s ∷ k ∷ [])
-other_space s k m i c = record {
-  ir = letters s k 105 114 (λ h. i h.0);
-  mr = letters s k 109 114 (λ h. m h.0);
-  cr = letters s k 99 114 (λ h. c h.0);
-  iw = letters s k 105 119 (λ h. i h.0);
-  mw = letters s k 109 119 (λ h. m h.0);
-  cw = letters s k 99 119 (λ h. c h.0);
-  raise = unlike (s ∷ k ∷ []) (codes "raise") (λ h. absurd (omega (arith, h)));
-}
+other_space s k m i c = grind (arith, letters, unlike)
 
 -- ---- all accesses
 
@@ -322,24 +248,12 @@ is_place s n h = grind (arith, nat_tests)
 is_no_place : (s n : ℕ) → (s == n) ≡ false → s ≡ n → ⊥
 is_no_place s n h e = grind (arith, nat_tests)
 
-is_test : (s n : ℕ) → (s ≡ n → ⊥) → (s == n) ≡ false
-is_test s n h = grind (arith, nat_tests)
-
-by_tests : (P : ℕ → Type 0) → P 109 → P 105 → P 99
-    → ((s : ℕ) → (s ≡ 109 → ⊥) → (s ≡ 105 → ⊥) → (s ≡ 99 → ⊥) → P s)
-    → (s : ℕ) (a b d : Bool) → (s == 109) ≡ a → (s == 105) ≡ b → (s == 99) ≡ d → P s
-by_tests P m i c other s true b d x y z = subst P (is_place s 109 x) m
-by_tests P m i c other s false true d x y z = subst P (is_place s 105 y) i
-by_tests P m i c other s false false true x y z = subst P (is_place s 99 z) c
-by_tests P m i c other s false false false x y z =
-    other s (is_no_place s 109 x) (is_no_place s 105 y) (is_no_place s 99 z)
-
 of_space : (P : ℕ → Type 0) → P 109 → P 105 → P 99
     → ((s : ℕ) → (s ≡ 109 → ⊥) → (s ≡ 105 → ⊥) → (s ≡ 99 → ⊥) → P s) → (s : ℕ) → P s
-of_space P m i c other s = by_tests P m i c other s (s == 109) (s == 105) (s == 99) refl refl refl
+of_space P m i c other s = grind (arith, is_place, is_no_place)
 
 not_placed : (s : ℕ) (ws : List Text) → (s ≡ 109 → ⊥) → (s ≡ 105 → ⊥) → (s ≡ 99 → ⊥) → placed s ws ≡ None
-not_placed s ws m i c = simp (is_test s 109 m, is_test s 105 i, is_test s 99 c) refl
+not_placed s ws m i c = grind (arith, nat_tests)
 
 reads_are : (s : ℕ) (ws : List Text) → event_of ((s ∷ 114 ∷ []) ∷ ws) ≡ read_after (placed s ws)
 reads_are s ws = of_space (λ (n : ℕ). event_of ((n ∷ 114 ∷ []) ∷ ws) ≡ read_after (placed n ws))
@@ -351,14 +265,6 @@ writes_are s ws = of_space (λ (n : ℕ). event_of ((n ∷ 119 ∷ []) ∷ ws) �
     (writes_address ws) (writes_port ws) (writes_slot ws)
     (λ n m i c. sym (no_form (n ∷ 119 ∷ []) ws (other_space n 119 m i c)) ∙ ap written_after (sym (not_placed n ws m i c))) s
 
--- what is written, with the words after it
-value_then : (t : Target) (w : ℕ) (rest : List Text) (s : Option ℕ)
-    → option_and_then (λ (n : ℕ). ended rest (written t w n)) s
-    ≡ option_and_then (λ (o : Operated). ended o.rest (access (record { target = t; width = w; op = o.op })))
-    (option_map (λ (n : ℕ). record { op = writes n; rest = rest }) s)
-value_then t w rest None = refl
-value_then t w rest (Some n) = refl
-
 abbrev done_with : Target → ℕ → Option Operated → Option Event
 done_with t w o = option_and_then (λ (x : Operated). ended x.rest (access (record { target = t; width = w; op = x.op }))) o
 
@@ -367,33 +273,20 @@ written_with : (t : Target) (w : ℕ) (q : Option Numbered)
     ≡ done_with t w (option_and_then (λ (v : Numbered). option_map (λ (n : ℕ). record { op = writes n; rest = v.rest })
     (below (2 ^ 32) (Some v.number))) q)
 written_with t w None = refl
-written_with t w (Some v) = value_then t w v.rest (below (2 ^ 32) (Some v.number))
-
-written_in : (t : Target) (q : Option Numbered)
-    → option_and_then (λ (w : Numbered). option_and_then (λ (v : Numbered). option_and_then (λ (n : ℕ). ended v.rest (written t w.number n))
-    (below (2 ^ 32) (Some v.number))) (numbered w.rest)) q
-    ≡ option_and_then (λ (w : Numbered). done_with t w.number (operated 119 w.rest)) q
-written_in t None = refl
-written_in t (Some w) = written_with t w.number (numbered w.rest)
+written_with t w (Some v) = grind arith
 
 written_from : (o : Option Placed)
     → written_after o ≡ option_and_then (λ (p : Placed).
     option_and_then (λ (w : Numbered). done_with p.target w.number (operated 119 w.rest)) (numbered p.rest)) o
 written_from None = refl
-written_from (Some p) = written_in p.target (numbered p.rest)
+written_from (Some p) = grind (arith, written_with)
 
 -- a kind that is none
 nothing_with : (q : Option Numbered) → ◌≡◌ {A = Option Event} None (option_and_then (λ (w : Numbered). None) q)
-nothing_with None = refl
-nothing_with (Some w) = refl
-
-nothing_from : (o : Option Placed)
-    → ◌≡◌ {A = Option Event} None (option_and_then (λ (p : Placed). option_and_then (λ (w : Numbered). None) (numbered p.rest)) o)
-nothing_from None = refl
-nothing_from (Some p) = nothing_with (numbered p.rest)
+nothing_with q = grind arith
 
 not_accessed : (s k : ℕ) (ws : List Text) → (k == 114) ≡ false → (k == 119) ≡ false → None ≡ accessed s k ws
-not_accessed s k ws r w = simp (r, w) (nothing_from (placed s ws))
+not_accessed s k ws r w = grind (arith, nothing_with)
 
 by_kind : (s k : ℕ) (ws : List Text) (a b : Bool) → (k == 114) ≡ a → (k == 119) ≡ b
     → event_of ((s ∷ k ∷ []) ∷ ws) ≡ accessed s k ws

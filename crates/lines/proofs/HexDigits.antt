@@ -21,16 +21,7 @@ hex_digits_from_high (suc k) n =
 -- the two digits of a byte stand before those of the bytes below it
 pub hex_digits_from_byte : (k n : ℕ)
     → hex_digits (suc (suc k)) n ≡ hex_digits 2 (n / 2 ^ (4 * k) % 256) ++ hex_digits k n
-hex_digits_from_byte k n =
-    let q = n / 2 ^ (4 * k) in
-    let above : n / 2 ^ (4 * suc k) ≡ q / 16 =
-    ap (λ p. n / p) (sym (power_up k) ∙ mul_comm 16 (2 ^ (4 * k))) ∙ sym (div-div-eq-div-mul n (2 ^ (4 * k)) 16) in
-    let high : n / 2 ^ (4 * suc k) % 16 ≡ q % 256 / 16 % 16 = omega (arith, above) in
-    let low : q % 16 ≡ q % 256 % 16 = omega arith in
-    hex_digits_from_high (suc k) n
-    ∙ ap (λ ds. digit_glyph false (n / 2 ^ (4 * suc k) % 16) ∷ ds) (hex_digits_from_high k n)
-    ∙ ap (λ d. digit_glyph false d ∷ digit_glyph false (q % 16) ∷ hex_digits k n) high
-    ∙ ap (λ d. digit_glyph false (q % 256 / 16 % 16) ∷ digit_glyph false d ∷ hex_digits k n) low
+hex_digits_from_byte k n = grind (arith, power_up, mul_comm, div-div-eq-div-mul, hex_digits_from_high)
 
 -- what is written of a value once its bytes above the first k are: `start` was there before
 abbrev pub Written : ℕ → ℕ → ℕ → Text → Text → Type 0
@@ -41,26 +32,15 @@ pub byte_written : (k width n b : ℕ) (start before text : Text) → k < width 
 byte_written k width n b start before text more is at told =
     let here : min width k ≡ k = omega arith in
     let there : 2 * min width (suc k) ≡ suc (suc (2 * k)) = omega arith in
-    let byte : n / 2 ^ (4 * (2 * k)) % 256 ≡ b =
-    ap (λ e. n / 2 ^ e % 256) (omega arith) ∙ sym is in
-    rw (here, at, append_assoc)
-    (ap (λ x. before ++ (hex_digits 2 x ++ hex_digits (2 * k) n)) (sym byte)
-    ∙ ap (λ ds. before ++ ds) (sym (hex_digits_from_byte (2 * k) n))
-    ∙ ap (λ e. before ++ hex_digits e n) (sym there) ∙ told)
+    grind (arith, append_assoc, hex_digits_from_byte)
 
 pub byte_passed : (k width n : ℕ) (start before text : Text) → width ≤ k → text ≡ before
     → Written (suc k) width n start before → Written k width n start text
-byte_passed k width n start before text none at told =
-    let same : min width k ≡ min width (suc k) = omega arith in
-    rw at (ap (λ e. before ++ hex_digits (2 * e) n) same ∙ told)
+byte_passed k width n start before text none at told = grind arith
 
 pub nothing_written : (width n : ℕ) (start : Text) → width ≤ 4 → Written 4 width n start start
-nothing_written width n start few =
-    let all : min width 4 ≡ width = omega arith in
-    ap (λ e. start ++ hex_digits (2 * e) n) all
+nothing_written width n start few = grind arith
 
 pub all_written : (width n : ℕ) (start text : Text) → Written 0 width n start text
     → text ≡ start ++ hex_digits (2 * width) n
-all_written width n start text told =
-    let none : 2 * min width 0 ≡ 0 = omega arith in
-    sym (append-nil text) ∙ ap (λ e. text ++ hex_digits e n) (sym none) ∙ told
+all_written width n start text told = grind (arith, append-nil)

@@ -1,5 +1,5 @@
 -- The first place of a byte, as the search for it says it.
-use Rattle.std.proofs.Common.{◌≡◌, ℕ, ◌<◌, Bool, true, false, cond, Option, Some, None, length, nat_lt, refl, sym, ap, ◌∙◌, arith}
+use Rattle.std.proofs.Common.{◌≡◌, ℕ, Bool, true, false, cond, Option, Some, None, length, nat_lt, sym, ap, ◌∙◌, arith}
 use Rattle.std.specs.List.{position}
 use Rattle.std.proofs.lemmas.Bool.Decides.{nat_tests}
 use Rattle.std.proofs.lemmas.List.Sums.{position_or_len_is}
@@ -7,11 +7,7 @@ use Rattle.model_guests.specs.Text.{Text}
 use Rattle.memchr.specs.Find.{IsFirstByte}
 
 not_true : (b : Bool) → ¬ (b ≡ true) → b ≡ false
-not_true true h = absurd (h refl)
-not_true false h = refl
-
-within : (k n : ℕ) → k < n → cond (nat_lt k n) (Some k) None ≡ Some k
-within k n h = grind (arith, nat_tests)
+not_true b h = grind arith
 
 past : (n : ℕ) → cond (nat_lt n n) (Some n) None ≡ None
 past n = grind (arith, nat_tests)
@@ -22,7 +18,4 @@ first_is_position p xs None nowhere =
     let k = position_or_len_is p xs (length xs) 0 (omega arith)
     (λ j h. not_true _ (nowhere j (omega arith) h)) (λ h. absurd (omega (arith, h))) in
     sym (ap (λ n. cond (nat_lt n (length xs)) (Some n) None) k ∙ past (length xs))
-first_is_position p xs (Some i) first =
-    let k = position_or_len_is p xs i 0 (omega (arith, first.0.high))
-    (λ j h. not_true _ (first.0.before j (omega arith) h)) (λ h. first.1) in
-    sym (ap (λ n. cond (nat_lt n (length xs)) (Some n) None) k ∙ within i (length xs) first.0.high)
+first_is_position p xs (Some i) first = grind (arith, position_or_len_is, not_true, nat_tests)

@@ -9,12 +9,10 @@ use Rattle.std.proofs.lemmas.Slice.Eq.{bytes_eq-Decides}
 use Rattle.arrayvec.specs.ArrayVec.{ArrayVec}
 use Rattle.arrayvec.specs.ArrayString.{ArrayString}
 use Rattle.model_guests.specs.Text.{Text, words}
-use Rattle.model_guests.specs.Grammar.{nobody, is_comment, has_name, event_of, is_long}
+use Rattle.model_guests.specs.Grammar.{nobody, is_comment, has_name, event_of}
 use Rattle.model_guests.specs.Guests.{Move}
 use Rattle.model_guests.specs.Lines.{Meaning, bad, event_or_bad, between_guests, meaning_of_words, meaning}
-use Rattle.lines.specs.Lines.{texts, name_of, GuestIs, GuestsAre, IsFirst}
-use Rattle.lines.specs.declared.line.Who.{Who}
-use Rattle.lines.specs.declared.line.Who.TheVariants as who
+use Rattle.lines.specs.Lines.{texts, name_of, GuestsAre, IsFirst}
 use Rattle.lines.specs.declared.line.What.{What}
 use Rattle.lines.specs.declared.line.What.TheVariants as what
 
@@ -40,8 +38,7 @@ place_of-names names w =
 
 any_after : (b : Bool) (i g : ℕ) (o : Option ℕ) (rest : Bool)
     → Some g ≡ cond b (Some i) o → (Some g ≡ o → rest ≡ true) → (b || rest) ≡ true
-any_after true i g o rest e more = refl
-any_after false i g o rest e more = more e
+any_after b i g o rest e more = grind arith
 
 any-Some : (w : Text) (i g : ℕ) (ns : List Text) → Some g ≡ place_from i ns w → has_name ns w ≡ true
 any-Some w i g [] e = absurd (cc)
@@ -50,8 +47,7 @@ any-Some w i g (n ∷ ns) e =
 
 none_after : (b : Bool) (i : ℕ) (o : Option ℕ) (rest : Bool)
     → None ≡ cond b (Some i) o → (None ≡ o → rest ≡ false) → (b || rest) ≡ false
-none_after true i o rest e more = absurd (cc)
-none_after false i o rest e more = more e
+none_after b i o rest e more = grind arith
 
 any-None : (w : Text) (i : ℕ) (ns : List Text) → None ≡ place_from i ns w → has_name ns w ≡ false
 any-None w i [] e = refl
@@ -97,28 +93,17 @@ pub meaning_of_words-unknown : (ns : List Text) (w : Text) (ws : List Text) → 
 meaning_of_words-unknown ns w ws o n =
     by_no_word _ _ (is_comment w) (bytes_eq w (codes "host")) (has_name ns w) _ (bad nobody 402) o.0 o.1 n
 
-short_line : (b : Bool) (l m : Meaning) → b ≡ false → m ≡ cond b l m
-short_line b l m h = rw h refl
-
-long_line : (b : Bool) (l m : Meaning) → b ≡ true → l ≡ cond b l m
-long_line b l m h = rw h refl
-
 pub meaning-long : (ns : List Text) (line : Text) → 200 < length line → bad nobody 403 ≡ meaning ns line
-meaning-long ns line h = long_line (is_long line) _ (meaning_of_words ns (words line)) (grind (arith, nat_tests))
+meaning-long ns line h = grind (arith, nat_tests)
 
 pub meaning-short : (ns : List Text) (line : Text) → length line ≤ 200
     → meaning_of_words ns (words line) ≡ meaning ns line
-meaning-short ns line h = short_line (is_long line) _ (meaning_of_words ns (words line)) (grind (arith, nat_tests))
+meaning-short ns line h = grind (arith, nat_tests)
 
 -- ---- the guests that a line names
 
 one_is : (P : ℕ → Type 0) (g h : ℕ) → g ≡ h → P h → P g
 one_is P g h e p = subst P (sym e) p
-
-answered_is : (P : ℕ → Type 0) (g : ℕ) (w : Who) → GuestIs (λ h. h ≡ g) w → P g → GuestIs P w
-answered_is P g (who.Guest h) e p = one_is P h g e p
-answered_is P g who.Host e p = tt
-answered_is P g who.Unknown e p = tt
 
 -- what holds of the one guest that a line names holds of its guests
 pub guests_are_this : (P : ℕ → Type 0) (g : ℕ) (w : What) → GuestsAre (λ h. h ≡ g) w → P g → GuestsAre P w
@@ -127,21 +112,7 @@ guests_are_this P g (what.Guest h a) e p = one_is P h g e p
 guests_are_this P g (what.Raise h slot place off mask) e p = one_is P h g e p
 guests_are_this P g (what.Host r) e p = tt
 guests_are_this P g (what.Move from slot to target) e p = (one_is P from g e.0 p, one_is P to g e.1 p)
-guests_are_this P g (what.Bad w n) e p = answered_is P g w e p
-
-answered_within : (P Q : ℕ → Type 0) (w : Who) → ((g : ℕ) → P g → Q g) → GuestIs P w → GuestIs Q w
-answered_within P Q (who.Guest h) f p = f h p
-answered_within P Q who.Host f p = tt
-answered_within P Q who.Unknown f p = tt
-
--- what follows for one guest follows for all that a line names
-pub guests_within : (P Q : ℕ → Type 0) (w : What) → ((g : ℕ) → P g → Q g) → GuestsAre P w → GuestsAre Q w
-guests_within P Q what.Nothing f p = tt
-guests_within P Q (what.Guest h a) f p = f h p
-guests_within P Q (what.Raise h slot place off mask) f p = f h p
-guests_within P Q (what.Host r) f p = tt
-guests_within P Q (what.Move from slot to target) f p = (f from p.0, f to p.1)
-guests_within P Q (what.Bad w n) f p = answered_within P Q w f p
+guests_are_this P g (what.Bad w n) e p = grind (arith, one_is)
 
 -- ---- moves between guests that are there
 

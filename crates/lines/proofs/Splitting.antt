@@ -18,31 +18,17 @@ without_last ([] ∷ []) = []
 without_last ((c ∷ cs) ∷ []) = (c ∷ cs) ∷ []
 without_last (p ∷ q ∷ ps) = p ∷ without_last (q ∷ ps)
 
-without_last-onto_first : (x : ℕ) (ps : List Text) → without_last (onto_first x ps) ≡ onto x (without_last ps)
-without_last-onto_first x [] = refl
-without_last-onto_first x ([] ∷ []) = refl
-without_last-onto_first x ((c ∷ cs) ∷ []) = refl
-without_last-onto_first x ([] ∷ q ∷ ps) = refl
-without_last-onto_first x ((c ∷ cs) ∷ q ∷ ps) = refl
-
--- there is always a part after another
-without_last-cond : (b : Bool) (x : ℕ) (a : Text) (ps : List Text)
-    → without_last (a ∷ cond b ([] ∷ ps) (onto_first x ps)) ≡ a ∷ without_last (cond b ([] ∷ ps) (onto_first x ps))
-without_last-cond true x a ps = refl
-without_last-cond false x a [] = refl
-without_last-cond false x a (q ∷ ps) = refl
-
 without_last-split : (p : ℕ → Bool) (a xs : Text)
     → without_last (a ∷ slice_split p xs) ≡ a ∷ without_last (slice_split p xs)
 without_last-split p [] [] = refl
 without_last-split p (c ∷ cs) [] = refl
-without_last-split p a (x ∷ xs) = without_last-cond (p x) x a (slice_split p xs)
+without_last-split p a (x ∷ xs) = grind arith
 
 by_test : (b : Bool) (x : ℕ) (cut : List Text) (rest : List Text)
     → without_last ([] ∷ cut) ≡ [] ∷ without_last cut → without_last cut ≡ rest
     → without_last (cond b ([] ∷ cut) (onto_first x cut)) ≡ cond b ([] ∷ rest) (onto x rest)
 by_test true x cut rest first same = first ∙ ap (λ ps. [] ∷ ps) same
-by_test false x cut rest first same = without_last-onto_first x cut ∙ ap (onto x) same
+by_test false x cut rest first same = grind arith
 
 pub pieces-split : (p : ℕ → Bool) (xs : Text) → without_last (slice_split p xs) ≡ pieces p xs
 pieces-split p [] = refl
@@ -54,12 +40,10 @@ pub rest_is : (xs : Text) (n : ℕ) → take (length xs - n) (drop n xs) ≡ dro
 rest_is xs n = grind (arith, common_steps)
 
 place_is : (b : Bool) (k n : ℕ) → Some n ≡ cond b (Some k) None → k ≡ n
-place_is true k n e = cc
-place_is false k n e = absurd (cc)
+place_is b k n e = grind arith
 
 no_place : (b : Bool) (k : ℕ) → None ≡ cond b (Some k) None → b ≡ false
-no_place true k e = absurd (cc)
-no_place false k e = refl
+no_place b k e = grind arith
 
 -- the first piece ends at the first place that ends one
 pub pieces-first : (p : ℕ → Bool) (xs : Text) (n : ℕ) → Some n ≡ position p xs
@@ -75,8 +59,7 @@ pieces-first p xs n e =
     ∙ ap (λ ps. take k xs ∷ ps) (pieces-split p (drop (k + 1) xs)))
 
 without_last-one : (xs : Text) → 0 < length xs → without_last (xs ∷ []) ≡ xs ∷ []
-without_last-one [] some = absurd (omega arith)
-without_last-one (x ∷ xs) some = refl
+without_last-one xs some = grind arith
 
 -- a text in which no place ends a piece is one piece
 pub pieces-none : (p : ℕ → Bool) (xs : Text) → None ≡ position p xs → 0 < length xs → pieces p xs ≡ xs ∷ []

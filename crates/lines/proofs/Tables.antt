@@ -24,12 +24,10 @@ digit_at b h =
 -- a byte that is no digit is at no base
 pub digit_below : (base : ℕ) (digit : Option ℕ) → unwrap_or digit 255 < base → base ≤ 255
     → Some (unwrap_or digit 255) ≡ below base digit
-digit_below base None h small = absurd (omega arith)
-digit_below base (Some d) h small = grind (arith, nat_tests)
+digit_below base digit h small = grind (arith, nat_tests)
 
 pub no_digit_below : (base : ℕ) (digit : Option ℕ) → base ≤ unwrap_or digit 255 → None ≡ below base digit
-no_digit_below base None h = refl
-no_digit_below base (Some d) h = grind (arith, nat_tests)
+no_digit_below base digit h = grind (arith, nat_tests)
 
 abbrev blank_mark : ℕ → ℕ
 blank_mark b = cond (is_blank b) 1 0
@@ -38,8 +36,7 @@ blanks_are : BLANKS ≡ map blank_mark (range_with_len 0 256)
 blanks_are = refl
 
 marked : (t : Bool) → (cond t 1 0 == 1) ≡ t
-marked true = refl
-marked false = refl
+marked t = grind arith
 
 pub blank_at : (b : ℕ) → b < 256 → (get_or BLANKS b 0 == 1) ≡ is_blank b
 blank_at b h =

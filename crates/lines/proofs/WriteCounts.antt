@@ -22,10 +22,4 @@ host_write_of_many (a ∷ b ∷ c ∷ d ∷ e ∷ f ∷ ws) h = refl
 
 -- seven words are enough to tell
 pub firmware_of_seven : (ws : List Text) → host_access_of (take 7 ws) ≡ host_access_of ws
-firmware_of_seven [] = refl
-firmware_of_seven (a ∷ []) = refl
-firmware_of_seven (a ∷ b ∷ []) = refl
-firmware_of_seven (a ∷ b ∷ c ∷ []) = refl
-firmware_of_seven (a ∷ b ∷ c ∷ d ∷ []) = refl
-firmware_of_seven (a ∷ b ∷ c ∷ d ∷ e ∷ []) = refl
-firmware_of_seven (a ∷ b ∷ c ∷ d ∷ e ∷ f ∷ ws) = refl
+firmware_of_seven ws = grind arith

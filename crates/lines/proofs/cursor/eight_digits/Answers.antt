@@ -1,4 +1,4 @@
-use Rattle.std.proofs.Common.{◌≡◌, ℕ, zero, suc, ◌+◌, ◌*◌, ◌<◌, ◌^◌, false, Some, option_map, refl, drop, get_or, ap, sym, subst, ◌∙◌, arith}
+use Rattle.std.proofs.Common.{◌≡◌, ℕ, ◌+◌, ◌*◌, ◌<◌, ◌^◌, false, Some, option_map, drop, get_or, ap, sym, subst, ◌∙◌, arith}
 use Rattle.std.proofs.lemmas.List.{at_drop_more}
 use Rattle.model_guests.specs.Text.{Text, is_blank}
 use Rattle.model_guests.specs.Numbers.{below, digit_of, digits_from}
@@ -11,8 +11,7 @@ use Rattle.lines.proofs.cursor.eight_digits.Goals as goal
 word_begins : (t : Text) (i n m : ℕ)
     → Some m ≡ below (2 ^ 64) (option_map (λ d. n * 16 + d) (below 16 (digit_of (get_or t i 0))))
     → (0 < i → is_blank (get_or t 0 0) ≡ false) → is_blank (get_or t 0 0) ≡ false
-word_begins t zero n m e before = no_blank (is_blank (get_or t 0 0)) (2 ^ 64) 16 n m (get_or t 0 0) refl e
-word_begins t (suc i) n m e before = before (omega arith)
+word_begins t i n m e before = grind (arith, no_blank)
 
 pub loop-i-preserved : goal.loop-i-preserved
 loop-i-preserved c =

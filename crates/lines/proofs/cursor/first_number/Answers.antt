@@ -1,4 +1,4 @@
-use Rattle.std.proofs.Common.{◌∙◌, ap, sym}
+use Rattle.std.proofs.Common.{◌∙◌, ap, sym, arith}
 use Rattle.lines.specs.Cursors.{numbered}
 use Rattle.lines.proofs.Splitting.{rest_is}
 use Rattle.lines.proofs.Cursors.{numbered-hexadecimal, numbered-decimal, numbered-read}
@@ -13,9 +13,4 @@ returns-then-is_hexadecimal c =
     (rw rest_is at c.digits_before_blank.ensures)
 
 pub returns-else-is_hexadecimal : goal.returns-else-is_hexadecimal
-returns-else-is_hexadecimal c =
-    let word = c.from_word-word.result.now in
-    let known = sym c.is_hexadecimal.ensures ∙ c.if-is_hexadecimal.false in
-    numbered-read c.digits_before_blank-else-is_hexadecimal.result _ _ _
-    (ap numbered (sym c.from_word-word.ensures.words) ∙ numbered-decimal word c.from_word-word.ensures.start known)
-    c.digits_before_blank-else-is_hexadecimal.ensures
+returns-else-is_hexadecimal c = grind (arith, numbered-read, numbered-decimal)

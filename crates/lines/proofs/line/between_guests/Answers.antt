@@ -1,7 +1,7 @@
-use Rattle.std.proofs.Common.{◌≡◌, None, Some, option_map, sym, ap, ◌∙◌}
+use Rattle.std.proofs.Common.{◌≡◌, None, Some, option_map, sym, ap, ◌∙◌, arith}
 use Rattle.model_guests.specs.Guests.{Move}
 use Rattle.model_guests.specs.Lines.{host_move}
-use Rattle.lines.specs.Lines.{texts, name_of}
+use Rattle.lines.specs.Lines.{texts}
 use Rattle.lines.proofs.NameLemmas.{place_of, place_of-names, has_name-Some, has_name-None, name_of-found, IsFirst-found, moved, move_there, move_from_nobody, move_to_nobody}
 use Rattle.lines.proofs.line.between_guests.Goals as goal
 
@@ -22,10 +22,7 @@ returns-in_err-to-clause-meaning c =
     let found : Some c.in_ok-from.from ≡ place_of names from =
     c.in_ok-from.ensures ∙ place_of-names c.args.names.now from in
     let missing : None ≡ place_of names to = c.in_err-to.ensures ∙ place_of-names c.args.names.now to in
-    let m : Move = moved from c.args.slot to c.args.target in
-    let refused = move_to_nobody names m
-    (has_name-Some names from c.in_ok-from.from found) (has_name-None names to missing) in
-    rw c.from_residual-in_err-to.ensures (ap (option_map host_move) (sym refused))
+    grind (arith, move_to_nobody, has_name-Some, has_name-None, option_map)
 
 pub returns-clause-meaning : goal.returns-clause-meaning
 returns-clause-meaning c =
@@ -37,10 +34,7 @@ returns-clause-meaning c =
     let right : Some c.in_ok-to.to ≡ place_of names to = c.in_ok-to.ensures ∙ place_of-names c.args.names.now to in
     let served = move_there names (moved from c.args.slot to c.args.target)
     (has_name-Some names from c.in_ok-from.from left) (has_name-Some names to c.in_ok-to.to right) in
-    ap (λ t. Some (host_move (moved t c.args.slot (name_of names c.in_ok-to.to) c.args.target)))
-    (name_of-found names from c.in_ok-from.from left)
-    ∙ ap (λ t. Some (host_move (moved from c.args.slot t c.args.target))) (name_of-found names to c.in_ok-to.to right)
-    ∙ ap (option_map host_move) (sym served)
+    grind (arith, name_of-found, option_map)
 
 pub returns-clause-first : goal.returns-clause-first
 returns-clause-first c =

@@ -1,4 +1,4 @@
-use Rattle.std.proofs.Common.{◌<◌, length, arith}
+use Rattle.std.proofs.Common.{arith}
 use Rattle.std.proofs.lemmas.Bool.Decides.{nat_tests}
 use Rattle.model_guests.specs.Text.{is_blank}
 use Rattle.lines.proofs.Splitting.{rest_is, pieces-first, pieces-none}
@@ -9,6 +9,4 @@ returns-in-Some-clause-piece c =
     rw rest_is (pieces-first is_blank c.args.text.now c.in-Some.end c.in-Some.ensures)
 
 pub returns-in-None-clause-piece : goal.returns-in-None-clause-piece
-returns-in-None-clause-piece c =
-    let some : 0 < length c.args.text.now = grind (arith, nat_tests) in
-    pieces-none is_blank c.args.text.now c.in-None.ensures some
+returns-in-None-clause-piece c = grind (arith, nat_tests, pieces-none)
