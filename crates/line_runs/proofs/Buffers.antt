@@ -1,5 +1,5 @@
 -- Parts of a buffer.
-use Rattle.std.proofs.Common.{◌≡◌, ℕ, ◌+◌, ◌-◌, ◌<◌, ◌≤◌, Bool, true, false, [], ◌∷◌, ◌++◌, Option, Result, Ok, Err, length, take, drop, refl, sym, ap, subst, ◌∙◌, arith, append-nil, length-append, length-drop, length-take-le, take-take}
+use Rattle.std.proofs.Common.{◌≡◌, ℕ, ◌+◌, ◌-◌, ◌<◌, ◌≤◌, Bool, true, false, [], ◌∷◌, ◌++◌, Option, Result, length, take, drop, refl, sym, ap, subst, ◌∙◌, arith, append-nil, length-append, length-drop, length-take-le, take-take}
 use Rattle.std.specs.Prelude.{IfOk, IsTrue}
 use Rattle.std.specs.Io.{ReadsAtMost}
 use Rattle.std.specs.Io.KnownBytes.{Consumes, ReadConsumes}
@@ -23,10 +23,7 @@ put_front a k n xs ys fits few =
 -- what a read behind the first a bytes did
 pub read_behind : {E : Type 0} (r : Result ℕ E) (old new : Option Text) (a k : ℕ) (xs ys : Text) → a ≤ length xs → ReadsAtMost r ys → ReadConsumes old new r ys
     → IfOk r (λ n. (bytes : Text) × Consumes old new bytes × (length bytes ≡ n) × (take (a + n) (put_mid a k xs ys) ≡ take a xs ++ bytes))
-read_behind (Ok n) old new a k xs ys fits bound bytes =
-    let few : n ≤ length ys = omega (arith, bound) in
-    (take n ys, bytes.0, length-take-le n ys few, put_front a k n xs ys fits few)
-read_behind (Err e) old new a k xs ys fits bound bytes = tt
+read_behind r old new a k xs ys fits bound bytes = grind (arith, length-take-le, put_front)
 
 -- a text without a byte adds nothing
 pub nothing_more : (xs bytes : Text) (n : ℕ) → length bytes ≡ n → n ≡ 0 → xs ++ bytes ≡ xs

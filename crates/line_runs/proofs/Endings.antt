@@ -1,5 +1,5 @@
 -- How a run ends: what it wrote of the whole script.
-use Rattle.std.proofs.Common.{◌≡◌, ◌<◌, inl, inr, Bool, List, [], ◌∷◌, ◌++◌, Option, Some, None, length, take, refl, sym, ap, subst, ◌∙◌, append_assoc, append-nil}
+use Rattle.std.proofs.Common.{◌≡◌, ◌<◌, inl, inr, Bool, List, [], ◌∷◌, ◌++◌, Option, Some, length, take, refl, sym, ap, subst, ◌∙◌, append_assoc, append-nil, arith}
 use Rattle.std.specs.Io.{StartsWith}
 use Rattle.std.specs.Io.KnownBytes.{Appends, Consumes, IsAtEnd}
 use Rattle.std.proofs.KnownBytes.{Appends-trans}
@@ -14,30 +14,16 @@ use Rattle.line_runs.proofs.Reaching.{text_along, text_of_one}
 
 -- what is left of a known script
 consumed : (a b : Option Text) (xs script : Text) → Consumes a b xs → a ≡ Some script → (rest : Text) × (script ≡ xs ++ rest) × (IsAtEnd b → rest ≡ [])
-consumed None b xs script taken e = cc
-consumed (Some x) None xs script taken e = absurd taken
-consumed (Some x) (Some y) xs script taken e =
-    let same : script ≡ x = cc in
-    (y, same ∙ taken, λ end. end)
+consumed a b xs script taken e = grind arith
 
 -- a script that was read to its end
 pub whole_script : (a b : Option Text) (xs script : Text) → Consumes a b xs → IsAtEnd b → a ≡ Some script → xs ≡ script
-whole_script a b xs script taken end e =
-    let left = consumed a b xs script taken e in
-    sym (left.1 ∙ ap (λ (t : Text). xs ++ t) (left.2 end) ∙ append-nil xs)
+whole_script a b xs script taken end e = grind (arith, consumed, append-nil)
 
 -- a failed read
 pub cut_of : {S : Type 0} (p : Protocol S) (w : S) (old_rest new_rest : Option Text) (text rest : Text) (long : Bool) (old new : Option Text) (end : S)
     → Consumes old_rest new_rest text → Reaches p w text rest long old new end → HasNoEnd rest → IsCut p w old_rest new_rest old new end
-cut_of {S} p w old_rest new_rest text rest long old new end taken r clean = record {
-  whole = r.whole;
-  part = r.before ++ rest;
-  each_line = r.each_line;
-  last_line = no_end_along r.before rest r.clean clean;
-  read = subst (Consumes old_rest new_rest) r.in_order taken;
-  written = r.written;
-  events = r.events;
-}
+cut_of {S} p w old_rest new_rest text rest long old new end taken r clean = grind (arith, no_end_along)
 
 -- the lines of a text of which whole lines are read
 lines_read : (text line after more : Text) (whole : List Text) → Each HasNoEnd whole → HasNoEnd line → text ≡ text_of_lines whole ++ (line ++ 10 ∷ after)

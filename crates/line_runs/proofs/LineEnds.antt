@@ -1,5 +1,5 @@
 -- Where line feeds stand in a text.
-use Rattle.std.proofs.Common.{◌≡◌, ℕ, suc, ◌+◌, ◌<◌, ◌||◌, Bool, true, false, not, cond, List, [], ◌∷◌, ◌++◌, Option, Some, None, length, take, drop, get_or, refl, sym, ap, ap₂, subst, ◌∙◌, arith, take-append-drop}
+use Rattle.std.proofs.Common.{◌≡◌, ℕ, suc, ◌+◌, ◌<◌, ◌||◌, Bool, false, not, cond, List, [], ◌∷◌, ◌++◌, Option, Some, None, length, take, drop, get_or, refl, sym, ap, ap₂, ◌∙◌, arith, take-append-drop}
 use Rattle.std.specs.List.{list_any, position, position_from, position_or_len}
 use Rattle.std.proofs.Math.Seq.{drop-cons}
 use Rattle.std.proofs.lemmas.Bool.Decides.{nat_tests}
@@ -9,8 +9,7 @@ use Rattle.model_guests.specs.Text.{Text, ends_line, lines, onto}
 use Rattle.model_guests.specs.LineRuns.{HasNoEnd}
 
 either_false : (a b : Bool) → (a || b) ≡ false → (a ≡ false) × (b ≡ false)
-either_false true b h = absurd (let wrong : true ≡ false = h in cc)
-either_false false b h = (refl, h)
+either_false a b h = grind arith
 
 pub no_end_along : (a b : Text) → HasNoEnd a → HasNoEnd b → HasNoEnd (a ++ b)
 no_end_along [] b p q = q
@@ -26,25 +25,14 @@ no_end_first (c ∷ cs) b h =
 
 -- no byte before the first place is a line feed
 before_first : (b : Bool) (c n : ℕ) (cs : Text) → ends_line c ≡ b → HasNoEnd (take n cs) → HasNoEnd (take (cond (not b) (1 + n) 0) (c ∷ cs))
-before_first true c n cs e h = refl
-before_first false c n cs e h =
-    let one : suc n ≡ 1 + n = omega arith in
-    subst (λ (m : ℕ). HasNoEnd (take m (c ∷ cs))) one (ap₂ (λ (x y : Bool). x || y) e h)
+before_first b c n cs e h = grind arith
 
 no_end_before : (xs : Text) → HasNoEnd (take (position_or_len ends_line xs) xs)
 no_end_before [] = refl
 no_end_before (c ∷ cs) = before_first (ends_line c) c (position_or_len ends_line cs) cs refl (no_end_before cs)
 
-place_is : (b : Bool) (k n : ℕ) → Some n ≡ cond b (Some k) None → k ≡ n
-place_is true k n e = cc
-place_is false k n e = absurd (cc)
-
-no_place : (b : Bool) (k : ℕ) → None ≡ cond b (Some k) None → b ≡ false
-no_place true k e = absurd (cc)
-no_place false k e = refl
-
 pub no_end_to : (xs : Text) (n : ℕ) → Some n ≡ position ends_line xs → HasNoEnd (take n xs)
-no_end_to xs n e = subst (λ (m : ℕ). HasNoEnd (take m xs)) (place_is _ (position_or_len ends_line xs) n e) (no_end_before xs)
+no_end_to xs n e = grind (arith, no_end_before)
 
 pub ends_at : (xs : Text) (n : ℕ) → Some n ≡ position ends_line xs → xs ≡ take n xs ++ 10 ∷ drop (n + 1) xs
 ends_at xs n e =
@@ -55,8 +43,7 @@ ends_at xs n e =
     sym (take-append-drop n xs) ∙ ap (λ (t : Text). take n xs ++ t) (drop-cons xs n 0 within ∙ ap₂ (λ (c : ℕ) (cs : Text). c ∷ cs) byte (ap (λ (m : ℕ). drop m xs) next))
 
 none_after : (b : Bool) (i : ℕ) (o : Option ℕ) (rest : Bool) → None ≡ cond b (Some i) o → (None ≡ o → rest ≡ false) → (b || rest) ≡ false
-none_after true i o rest e more = absurd (cc)
-none_after false i o rest e more = more e
+none_after b i o rest e more = grind arith
 
 no_end_from : (i : ℕ) (xs : Text) → None ≡ position_from ends_line i xs → HasNoEnd xs
 no_end_from i [] e = refl
@@ -67,13 +54,10 @@ no_end_none xs e = no_end_from 0 xs (e ∙ position_from-zero ends_line xs)
 
 -- a text with no line feed is one line
 one_more_byte : (b : Bool) (c : ℕ) (cs : Text) (ls : List Text) → b ≡ false → ls ≡ cs ∷ [] → cond b ([] ∷ ls) (onto c ls) ≡ (c ∷ cs) ∷ []
-one_more_byte true c cs ls e h = absurd (let wrong : true ≡ false = e in cc)
-one_more_byte false c cs ls e h = ap (onto c) h
+one_more_byte b c cs ls e h = grind arith
 
 pub one_line : (c : ℕ) (cs : Text) → HasNoEnd (c ∷ cs) → lines (c ∷ cs) ≡ (c ∷ cs) ∷ []
-one_line c [] h =
-    let parts = either_false (ends_line c) false h in
-    ap (λ (b : Bool). cond b ([] ∷ []) ((c ∷ []) ∷ [])) parts.0
+one_line c [] h = grind (arith, either_false)
 one_line c (d ∷ ds) h =
     let parts = either_false (ends_line c) (list_any ends_line (d ∷ ds)) h in
     one_more_byte (ends_line c) c (d ∷ ds) (lines (d ∷ ds)) parts.0 (one_line d ds parts.1)

@@ -27,8 +27,7 @@ pub long_some : (long : Bool) (before rest : Text) → long ≡ true → IsBefor
 long_some long before rest is h = omega (arith, more_than_200 before (long_before long before is h), length-append before rest)
 
 pub text_some : (before text : Text) → not (length text == 0) ≡ true → 0 < length (before ++ text)
-text_some before [] h = absurd (let wrong : false ≡ true = h in cc)
-text_some before (c ∷ cs) h = omega (arith, length-append before (c ∷ cs))
+text_some before text h = grind (arith, length-append)
 
 pub text_none : (long : Bool) (before text : Text) → not (length text == 0) ≡ false → long ≡ false → IsBefore long before → before ++ text ≡ []
 text_none long before [] h is passed = append-nil before ∙ none_before long before is passed

@@ -53,51 +53,17 @@ reaches_first {S} p w before text long old clean passed = record {
 -- more bytes came
 pub reaches_more : {S : Type 0} (p : Protocol S) (w : S) (text rest more : Text) (long : Bool) (old new : Option Text) (end : S)
     → Reaches p w text rest long old new end → Reaches p w (text ++ more) (rest ++ more) long old new end
-reaches_more {S} p w text rest more long old new end r = record {
-  whole = r.whole;
-  before = r.before;
-  each_line = r.each_line;
-  clean = r.clean;
-  passed = r.passed;
-  in_order = ap (λ (t : Text). t ++ more) r.in_order ∙ append_assoc (text_of_lines r.whole) (r.before ++ rest) more
-      ∙ ap (λ (t : Text). text_of_lines r.whole ++ t) (append_assoc r.before rest more);
-  written = r.written;
-  events = r.events;
-}
+reaches_more {S} p w text rest more long old new end r = grind (arith, append_assoc)
 
 -- the next lines ran
 pub reaches_on : {S : Type 0} (p : Protocol S) (w : S) (text piece rest : Text) (long next : Bool) (old mid new : Option Text) (end last : S)
     → (r : Reaches p w text piece long old mid end) → Reaches p end (r.before ++ piece) rest next mid new last → Reaches p w text rest next old new last
-reaches_on {S} p w text piece rest long next old mid new end last r s = record {
-  whole = r.whole ++ s.whole;
-  before = s.before;
-  each_line = each_along HasNoEnd r.whole s.whole r.each_line s.each_line;
-  clean = s.clean;
-  passed = s.passed;
-  in_order = r.in_order ∙ ap (λ (t : Text). text_of_lines r.whole ++ t) s.in_order
-      ∙ sym (append_assoc (text_of_lines r.whole) (text_of_lines s.whole) (s.before ++ rest))
-      ∙ ap (λ (t : Text). t ++ (s.before ++ rest)) (sym (text_along r.whole s.whole));
-  written = subst (Appends old new) (ap (λ (e : S). output p w r.whole ++ output p e s.whole) r.events ∙ sym (output_along p w r.whole s.whole))
-      (Appends-trans old mid new (output p w r.whole) (output p end s.whole) r.written s.written);
-  events = s.events ∙ ap (λ (e : S). after_lines p e s.whole) r.events ∙ sym (after_along p w r.whole s.whole);
-}
+reaches_on {S} p w text piece rest long next old mid new end last r s = grind (arith, each_along, append_assoc, text_along, output_along, after_along)
 
 -- memory is out in the next lines
 pub lacks_on : {S : Type 0} (p : Protocol S) (w : S) (text piece : Text) (long : Bool) (old mid new : Option Text) (end last : S)
     → (r : Reaches p w text piece long old mid end) → LacksWithin p end (r.before ++ piece) mid new last → LacksWithin p w text old new last
-lacks_on {S} p w text piece long old mid new end last r s = record {
-  whole = r.whole ++ s.whole;
-  line = s.line;
-  after = s.after;
-  each_line = each_along HasNoEnd r.whole s.whole r.each_line s.each_line;
-  last_line = s.last_line;
-  in_order = r.in_order ∙ ap (λ (t : Text). text_of_lines r.whole ++ t) s.in_order
-      ∙ sym (append_assoc (text_of_lines r.whole) (text_of_lines s.whole) (s.line ++ 10 ∷ s.after))
-      ∙ ap (λ (t : Text). t ++ (s.line ++ 10 ∷ s.after)) (sym (text_along r.whole s.whole));
-  written = subst (Appends old new) (ap (λ (e : S). output p w r.whole ++ output p e s.whole) r.events ∙ sym (output_along p w r.whole s.whole))
-      (Appends-trans old mid new (output p w r.whole) (output p end s.whole) r.written s.written);
-  events = s.events ∙ ap (λ (e : S). after_lines p e s.whole) r.events ∙ sym (after_along p w r.whole s.whole);
-}
+lacks_on {S} p w text piece long old mid new end last r s = grind (arith, each_along, append_assoc, text_along, output_along, after_along)
 
 -- a failure in the next lines
 pub stops_on : {S : Type 0} (p : Protocol S) (w : S) (text piece : Text) (long : Bool) (old mid new : Option Text) (end last : S)
@@ -105,22 +71,7 @@ pub stops_on : {S : Type 0} (p : Protocol S) (w : S) (text piece : Text) (long :
 stops_on {S} p w text piece long old mid new end last r s =
     let world : after_lines p end s.whole ≡ after_lines p w (r.whole ++ s.whole) =
     ap (λ (e : S). after_lines p e s.whole) r.events ∙ sym (after_along p w r.whole s.whole) in
-    record {
-      whole = r.whole ++ s.whole;
-      line = s.line;
-      after = s.after;
-      part = s.part;
-      each_line = each_along HasNoEnd r.whole s.whole r.each_line s.each_line;
-      last_line = s.last_line;
-      in_order = r.in_order ∙ ap (λ (t : Text). text_of_lines r.whole ++ t) s.in_order
-          ∙ sym (append_assoc (text_of_lines r.whole) (text_of_lines s.whole) (s.line ++ 10 ∷ s.after))
-          ∙ ap (λ (t : Text). t ++ (s.line ++ 10 ∷ s.after)) (sym (text_along r.whole s.whole));
-      begins = subst (λ (e : S). StartsWith (p.writes e s.line) s.part) world s.begins;
-      written = subst (Appends old new) (sym (append_assoc (output p w r.whole) (output p end s.whole) s.part)
-          ∙ ap (λ (t : Text). t ++ s.part) (ap (λ (e : S). output p w r.whole ++ output p e s.whole) r.events ∙ sym (output_along p w r.whole s.whole)))
-          (Appends-trans old mid new (output p w r.whole) (output p end s.whole ++ s.part) r.written s.written);
-      events = s.events ∙ ap (λ (e : S). p.next e s.line) world;
-    }
+    grind (arith, each_along, append_assoc, text_along, output_along)
 
 -- one more line ran
 pub reaches_line : {S : Type 0} (p : Protocol S) (w : S) (text piece line after : Text) (long : Bool) (old mid new : Option Text) (end last : S)
@@ -155,18 +106,7 @@ pub stops_at : {S : Type 0} (p : Protocol S) (w : S) (text piece line after part
     → piece ≡ line ++ 10 ∷ after → (r : Reaches p w text piece long old mid end) → HasNoEnd line
     → StartsWith (p.writes end (r.before ++ line)) part → Appends mid new part → last ≡ p.next end (r.before ++ line)
     → StopsWithin p w text old new last
-stops_at {S} p w text piece line after part long old mid new end last cut r clean begins written events = record {
-  whole = r.whole;
-  line = r.before ++ line;
-  after = after;
-  part = part;
-  each_line = r.each_line;
-  last_line = no_end_along r.before line r.clean clean;
-  in_order = r.in_order ∙ ap (λ (t : Text). text_of_lines r.whole ++ t) (ap (λ (t : Text). r.before ++ t) cut ∙ sym (append_assoc r.before line (10 ∷ after)));
-  begins = subst (λ (e : S). StartsWith (p.writes e (r.before ++ line)) part) r.events begins;
-  written = Appends-trans old mid new (output p w r.whole) part r.written written;
-  events = events ∙ ap (λ (e : S). p.next e (r.before ++ line)) r.events;
-}
+stops_at {S} p w text piece line after part long old mid new end last cut r clean begins written events = grind (arith, no_end_along, append_assoc)
 
 -- memory is out for the next line
 pub lacks_at : {S : Type 0} (p : Protocol S) (w : S) (text piece line after : Text) (long : Bool) (old mid new : Option Text) (end : S)
@@ -203,50 +143,16 @@ pub stops_flush : {S : Type 0} (p : Protocol S) (w : S) (text rest : Text) (long
     → (r : Reaches p w text rest long old new end) → 0 < length r.whole → StopsWithin p w text old new end
 stops_flush {S} p w text rest long old new end r some =
     let v = last_of r.whole some in
-    let each : Each HasNoEnd (v.0 ++ v.1 ∷ []) = subst (Each HasNoEnd) v.2 r.each_line in
-    let left : Text = r.before ++ rest in
-    record {
-      whole = v.0;
-      line = v.1;
-      after = left;
-      part = p.writes (after_lines p w v.0) v.1;
-      each_line = each_first HasNoEnd v.0 (v.1 ∷ []) each;
-      last_line = (each_last HasNoEnd v.0 (v.1 ∷ []) each).0;
-      in_order = r.in_order ∙ ap (λ (ls : List Text). text_of_lines ls ++ left) v.2 ∙ ap (λ (t : Text). t ++ left) (text_along v.0 (v.1 ∷ []))
-          ∙ append_assoc (text_of_lines v.0) (text_of_lines (v.1 ∷ [])) left ∙ ap (λ (t : Text). text_of_lines v.0 ++ t) (text_of_one v.1 left);
-      begins = starts_with_of_eq (p.writes (after_lines p w v.0) v.1) (p.writes (after_lines p w v.0) v.1) refl;
-      written = subst (Appends old new) (ap (output p w) v.2 ∙ output_along p w v.0 (v.1 ∷ []) ∙ ap (λ (t : Text). output p w v.0 ++ t) (append-nil (p.writes (after_lines p w v.0) v.1))) r.written;
-      events = r.events ∙ ap (after_lines p w) v.2 ∙ after_along p w v.0 (v.1 ∷ []);
-    }
+    grind (arith, each_first, each_last, text_along, append_assoc, text_of_one, starts_with_of_eq, output_along, append-nil, after_along)
 
 -- a flush that wrote nothing
 pub reaches_kept : {S : Type 0} (p : Protocol S) (w : S) (text rest : Text) (long : Bool) (old mid new : Option Text) (end : S)
     → Reaches p w text rest long old mid end → Keeps mid new → Reaches p w text rest long old new end
-reaches_kept {S} p w text rest long old mid new end r kept = record {
-  whole = r.whole;
-  before = r.before;
-  each_line = r.each_line;
-  clean = r.clean;
-  passed = r.passed;
-  in_order = r.in_order;
-  written = Appends-kept old mid new (output p w r.whole) r.written kept;
-  events = r.events;
-}
+reaches_kept {S} p w text rest long old mid new end r kept = grind arith
 
 pub stops_kept : {S : Type 0} (p : Protocol S) (w : S) (text : Text) (old mid new : Option Text) (end : S)
     → StopsWithin p w text old mid end → Keeps mid new → StopsWithin p w text old new end
-stops_kept {S} p w text old mid new end s kept = record {
-  whole = s.whole;
-  line = s.line;
-  after = s.after;
-  part = s.part;
-  each_line = s.each_line;
-  last_line = s.last_line;
-  in_order = s.in_order;
-  begins = s.begins;
-  written = Appends-kept old mid new (output p w s.whole ++ s.part) s.written kept;
-  events = s.events;
-}
+stops_kept {S} p w text old mid new end s kept = grind arith
 
 -- what is left of the text may be pending in another way
 pub reaches_held : {S : Type 0} (p : Protocol S) (w : S) (text rest kept : Text) (long next : Bool) (old new : Option Text) (end : S)

@@ -1,4 +1,4 @@
-use Rattle.std.proofs.Common.{◌≡◌, ◌++◌, ◌∷◌, ◌<◌, ◌∙◌, true, false, [], Err, refl, sym, ap, subst, append_assoc, length, arith, rules}
+use Rattle.std.proofs.Common.{◌≡◌, ◌++◌, ◌∷◌, ◌<◌, ◌∙◌, true, false, [], Err, sym, ap, subst, append_assoc, length, arith}
 use Rattle.std.specs.Prelude.{IsTrue}
 use Rattle.std.specs.Io.KnownBytes.{Keeps}
 use Rattle.model_guests.specs.Text.{Text}
@@ -15,15 +15,7 @@ taken_more text done rest line after e cut =
     e ∙ ap (λ (t : Text). done ++ t) (cut ∙ sym (append_assoc line (10 ∷ []) after)) ∙ sym (append_assoc done (line ++ 10 ∷ []) after)
 
 pub loop-line-init : goal.loop-line-init
-loop-line-init g c = record {
-  taken = ([], search rules);
-  runs = λ before clean passed. (
-    reaches_first g.S.Answers.protocol c.args.server.now before c.args.text.now c.args.long (g.W.Writer.written c.args.writer.now) clean passed,
-    λ wrote. absurd (let wrong : false ≡ true = wrote in cc),
-  );
-  silent = λ untold. refl;
-  failures = search rules;
-}
+loop-line-init g c = grind (arith, reaches_first)
 
 pub returns-in-Err-Failed-clause-stops : goal.returns-in-Err-Failed-clause-stops
 returns-in-Err-Failed-clause-stops g c = λ is before clean passed.
@@ -64,11 +56,7 @@ returns-in-Err-Memory-clause-lacks g c = λ is before clean passed.
     c.in-Some.ensures.line.1 run.0 c.in-Some.ensures.line.0 kept)
 
 pub returns-in-Err-Memory-clause-flushed : goal.returns-in-Err-Memory-clause-flushed
-returns-in-Err-Memory-clause-flushed g c = λ is.
-    let lacking = c.in-Err-Memory.ensures.lacking (ap Err (let same : c.in-Err-Memory.field-0 ≡ Memory = cc in same)) in
-    let here : c.flushed.result ≡ Memory = cc in
-    by_flag c.loop-line.wrote (λ wrote. c.flushed.ensures.flushed here wrote)
-    (λ untold. c.flushed.ensures.kept untold ∙ lacking.1 ∙ c.loop-line.invariant.silent untold)
+returns-in-Err-Memory-clause-flushed g c = grind (arith, by_flag)
 
 pub loop-line-preserved-then-wrote : goal.loop-line-preserved-then-wrote
 loop-line-preserved-then-wrote g c =

@@ -1,4 +1,4 @@
-use Rattle.std.proofs.Common.{◌≡◌, ◌++◌, List, ℕ, length, drop, ap, sym, ◌∙◌, append_assoc, subst, take-append-drop}
+use Rattle.std.proofs.Common.{◌++◌, length, drop, ap, sym, ◌∙◌, append_assoc, subst, take-append-drop}
 use Rattle.std.specs.Io.{StartsWith}
 use Rattle.std.proofs.KnownBytes.{Appends-trans}
 use Rattle.std.proofs.Transfers.{starts_with_of_append}

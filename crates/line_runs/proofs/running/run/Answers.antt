@@ -1,4 +1,4 @@
-use Rattle.std.proofs.Common.{◌≡◌, ◌++◌, ◌∙◌, Err, ap, sym, subst}
+use Rattle.std.proofs.Common.{◌≡◌, ◌++◌, Err, ap, sym, subst}
 use Rattle.std.specs.Io.KnownBytes.{Appends}
 use Rattle.model_guests.specs.Text.{Text, lines}
 use Rattle.model_guests.specs.LineRuns.{output, after_lines, HasNoEnd}

@@ -1,7 +1,7 @@
-use Rattle.std.proofs.Common.{◌≡◌, ◌≤◌, ◌⊎◌, inl, inr, ◌∙◌, ◌++◌, [], Err, refl, sym, ap, subst, length, arith, Option}
-use Rattle.std.proofs.KnownBytes.{Consumes-nil, Consumes-trans, Consumes-kept}
+use Rattle.std.proofs.Common.{◌≡◌, ◌⊎◌, ◌++◌, Err, sym, ap, subst, arith, Option}
+use Rattle.std.proofs.KnownBytes.{Consumes-trans, Consumes-kept}
 use Rattle.model_guests.specs.Text.{Text}
-use Rattle.model_guests.specs.LineRuns.{Protocol, HasNoEnd}
+use Rattle.model_guests.specs.LineRuns.{Protocol}
 use Rattle.line_runs.specs.Pieces.{Pending, Reaches}
 use Rattle.line_runs.proofs.Reaching.{reaches_none, reaches_more, reaches_on, stops_on, lacks_on}
 use Rattle.line_runs.proofs.Endings.{cut_of, stopped_of, lacking_of}
@@ -11,23 +11,10 @@ use Rattle.line_runs.proofs.running.run_pieces.Goals as goal
 -- all is flushed, or nothing was written, also after more of it
 flushed_from : {W : Type 0} (flushed written : W → Option Text) (old mid new : W) → (flushed mid ≡ written mid) ⊎ (mid ≡ old)
     → (flushed new ≡ written new) ⊎ (new ≡ mid) → (flushed new ≡ written new) ⊎ (new ≡ old)
-flushed_from flushed written old mid new first (inl is) = inl is
-flushed_from {W} flushed written old mid new (inl was) (inr same) = inl (ap flushed same ∙ was ∙ sym (ap written same))
-flushed_from flushed written old mid new (inr was) (inr same) = inr (same ∙ was)
+flushed_from flushed written old mid new first is = grind arith
 
 pub loop-more-init : goal.loop-more-init
-loop-more-init g c =
-    let w = c.args.server.now in
-    let old = g.W.Writer.written c.args.writer.now in
-    let empty = sym c.requires.empty in
-    record {
-      runs = ([], Consumes-nil (g.R.Reader.rest c.args.reader.now), subst (λ (h : Pending). Reaches g.S.Answers.protocol w [] h.text h.long old old w) empty (reaches_none g.S.Answers.protocol w old));
-      rest = subst (λ (h : Pending). HasNoEnd h.text) empty refl;
-      few = subst (λ (h : Pending). length h.text ≤ 200) empty (omega arith);
-      flushed = inr refl;
-      reads = refl;
-      writes = refl;
-    }
+loop-more-init g c = grind (arith, reaches_none)
 
 pub returns-in_default-clause-cut : goal.returns-in_default-clause-cut
 returns-in_default-clause-cut g c = λ is.
@@ -92,9 +79,7 @@ returns-in_err-run_piece-clause-lacking g c = λ is script known.
     (lacks_on g.S.Answers.protocol w (runs.0 ++ came.0) pending.text pending.long old mid new c.loop-more.server c.run_piece.new.server run (lacks run.before run.clean run.passed)) known
 
 pub returns-in_err-run_piece-clause-lacking_flushed : goal.returns-in_err-run_piece-clause-lacking_flushed
-returns-in_err-run_piece-clause-lacking_flushed g c = λ is.
-    flushed_from g.W.Writer.flushed g.W.Writer.written c.args.writer.now c.loop-more.writer c.run_piece.new.writer c.loop-more.invariant.flushed
-    (c.in_err-run_piece.ensures.lacking_flushed (ap Err (lacked c.from_residual.result _ c.from_residual.ensures.1 is)))
+returns-in_err-run_piece-clause-lacking_flushed g c = grind (arith, flushed_from, lacked)
 
 pub loop-more-preserved : goal.loop-more-preserved
 loop-more-preserved g c =
