@@ -96,19 +96,8 @@ module _ (b : Board) (board : IsBoard b) where
           first : path_before q.path r.path ≡ true
           first = leads_before q.path r.path leads
 
-          by_order : (k < i) ⊎ (i ≤ k) → k < i
-          by_order (inl h) = h
-          by_order (inr h) = by_same (cases_lt i k)
-            where
-              by_same : (i < k) ⊎ (k ≤ i) → k < i
-              by_same (inl l) = absurd (no_turn r.path q.path (ordered i k r q l e g) first)
-              by_same (inr l) =
-                  let eq : i ≡ k = omega arith in
-                  let one_row : r ≡ q = same_at b k r q (subst (λ n. slice_get b n ≡ Some r) eq e) g in
-                  absurd (not_before_itself r.path (subst (λ (x : Row). path_before x.path r.path ≡ true) (sym one_row) first))
-
           below : k < i
-          below = by_order (cases_lt k i)
+          below = grind (arith, cases_lt, no_turn, ordered, first, same_at, not_before_itself)
 
           depth : length r.path - 1 ≡ length q.path
           depth = omega (arith, shorter, ap length same)

@@ -1,5 +1,5 @@
 -- The regions of base address registers, register by register.
-use Rattle.std.proofs.Common.{◌≡◌, ℕ, zero, suc, ◌+◌, ◌||◌, List, [], ◌∷◌, ◌++◌, length, map, take, Option, Some, None, refl, sym, ap, ◌∙◌, subst, arith, inl, inr, ◌≤◌, ◌<◌, ap₂}
+use Rattle.std.proofs.Common.{◌≡◌, ℕ, zero, suc, ◌+◌, ◌||◌, List, [], ◌∷◌, ◌++◌, length, map, take, Option, Some, None, refl, sym, ap, ◌∙◌, subst, arith, inr, ◌≤◌, ◌<◌, ap₂}
 use Rattle.std.specs.List.{list_any, slice_get, slice_set}
 use Rattle.std.proofs.lemmas.List.{take_more_set, map-append}
 use Rattle.model_registers.specs.Declarations.{Bar, Region}
@@ -39,15 +39,7 @@ bases_push n (Some x ∷ slots) o = ap (λ rs. record { index = n; kind = x.decl
 -- the region of one register is among all
 pub region_among : (n : ℕ) (bars : List (Option Bar)) (k : ℕ) (o : Option Bar) → slice_get bars k ≡ Some o → (r : Region) → IsIn r (regions_from (n + k) (o ∷ [])) → IsIn r (regions_from n bars)
 region_among n [] k o e r m = absurd (cc)
-region_among n (p ∷ bars) zero o e r m = first p (let same : p ≡ o = cc in same)
-  where
-    here : (q : Option Bar) → IsIn r (regions_from n (q ∷ [])) → IsIn r (regions_from n (q ∷ bars))
-    here None h = absurd h
-    here (Some b) (inl h) = inl h
-    here (Some b) (inr h) = absurd h
-
-    first : (q : Option Bar) → q ≡ o → IsIn r (regions_from n (q ∷ bars))
-    first q same = here q (let z : n + 0 ≡ n = omega arith in subst (λ (x : Option Bar). IsIn r (regions_from n (x ∷ []))) (sym same) (subst (λ j. IsIn r (regions_from j (o ∷ []))) z m))
+region_among n (p ∷ bars) zero o e r m = grind arith
 region_among n (None ∷ bars) (suc k) o e r m = region_among (n + 1) bars k o e r (subst (λ j. IsIn r (regions_from j (o ∷ []))) (sym (step n k)) m)
 region_among n (Some b ∷ bars) (suc k) o e r m = inr (region_among (n + 1) bars k o e r (subst (λ j. IsIn r (regions_from j (o ∷ []))) (sym (step n k)) m))
 

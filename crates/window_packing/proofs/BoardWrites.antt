@@ -1,7 +1,6 @@
 -- Settings in path order set the functions of a board up, one after the other.
-use Rattle.std.proofs.Common.{◌≡◌, Bool, true, false, cond, List, [], ◌∷◌, ◌++◌, Option, refl, sym, ap, ap₂, ◌∙◌}
+use Rattle.std.proofs.Common.{◌≡◌, false, List, [], ◌∷◌, ◌++◌, refl, sym, ap, ◌∙◌, arith}
 use Rattle.std.specs.Prelude.{map, IsTrue}
-use Rattle.std.specs.Option.{option_map_or}
 use Rattle.std.proofs.lemmas.List.{map-append}
 use Rattle.lists.specs.Elements.{Each}
 use Rattle.lists.proofs.EachLemmas.{each_append}
@@ -22,10 +21,7 @@ use Rattle.window_packing.proofs.FileWrites.{written_file, file_after}
 
 word_at : (b : Board) → IsBoard b → (fs : List BoardFunction) → HasNumbers b fs → (p : Path) → IsTrue (stands_at b p) → (w : WordWrite) → after_word (address_of b p) w fs ≡ with_file (written_file w) p fs
 unfolding after_word
-word_at b board fs has p there w =
-    let r = reached_by_numbers b board fs has p there in
-    ap (λ (o : Option BoardFunction). option_map_or (λ (f : BoardFunction). with_file (written_file w) f.path fs) o fs) r.1
-    ∙ ap (λ q. with_file (written_file w) q fs) r.2
+word_at b board fs has p there w = grind (arith, reached_by_numbers)
 
 -- no function stands at the path
 abbrev pub NoneAt : Path → List BoardFunction → Type 0
@@ -53,11 +49,7 @@ module _ (b : Board) (board : IsBoard b) (front back : List BoardFunction) (p : 
   }
 
   changed_own : (g : File → File) (file : File) → with_file g p (with_own file) ≡ with_own (g file)
-  changed_own g file =
-      let here : path_eq p p ≡ true = path_self p in
-      map-append _ front (record { path = p; decl = d; file = file } ∷ back)
-      ∙ ap₂ (λ (xs ys : List BoardFunction). xs ++ ys) (with_file-none g p front apart_front)
-      (ap₂ (λ (t : Bool) (ys : List BoardFunction). cond t (record { path = p; decl = d; file = g file }) (record { path = p; decl = d; file = file }) ∷ ys) here (with_file-none g p back apart_back))
+  changed_own g file = grind (arith, path_self, map-append, with_file-none)
 
   pub words_at : (ws : List WordWrite) → Each (KeepsNumbers d) ws → (file : File) → HoldsNumbers b (record { path = p; decl = d; file = file }) → after_words (address_of b p) ws (with_own file) ≡ with_own (file_after ws file)
   words_at [] keep file h = refl

@@ -1,13 +1,13 @@
 -- What stands above each function of a board, row by row.
-use Rattle.std.proofs.Common.{◌≡◌, ℕ, suc, ◌≤◌, ◌<◌, ◌⊎◌, inl, inr, Bool, true, false, ◌&&◌, [], ◌∷◌, ◌++◌, length, Some, refl, sym, ap, ◌∙◌, subst, arith}
-use Rattle.std.specs.Prelude.{filter, IsTrue}
+use Rattle.std.proofs.Common.{◌≡◌, ℕ, suc, ◌≤◌, ◌<◌, ◌⊎◌, inl, inr, Bool, true, ◌&&◌, [], ◌∷◌, ◌++◌, length, Some, refl, sym, ap, ◌∙◌, subst, arith}
+use Rattle.std.specs.Prelude.{filter}
 use Rattle.std.specs.List.{list_all, slice_get}
 use Rattle.std.proofs.lemmas.Option.{slice_get_within}
 use Rattle.std.proofs.lemmas.Bool.{and_parts}
 use Rattle.model_registers.specs.Declarations.{Bridge}
 use Rattle.lists.specs.Elements.{IsIn}
-use Rattle.model_board.specs.Paths.{Path, path_before, leads_to, parent, last_part, IsPath}
-use Rattle.model_board.specs.Board.{Decl, endpoint, bridge, Row, Board, IsBoard}
+use Rattle.model_board.specs.Paths.{Path, leads_to, parent, last_part, IsPath}
+use Rattle.model_board.specs.Board.{Decl, Row, Board, IsBoard}
 use Rattle.model_set_up.specs.Pools.{bridge_of, bridges_above, has_io, has_pref, has_pref64}
 use Rattle.model_board.proofs.PathEnds.{snoc, leads_up, leads_self, leads_trans, not_before_itself}
 use Rattle.lists.proofs.Members.{each_in, from_flat_map, in_flat_map, from_filter, in_filter, all_in, all_from}
@@ -47,12 +47,7 @@ over_in b p d r m h k = in_flat_map bridge_of r d (filter (λ (r : Row). leads_t
 
 -- two rows with one path are one
 pub same_row : (b : Board) → IsBoard b → (r s : Row) → IsIn r b → IsIn s b → r.path ≡ s.path → r ≡ s
-same_row b board r s m k e = by_order (pair_in (λ (x y : Row). IsTrue (path_before x.path y.path)) r s b board.in_order m k)
-  where
-    by_order : (r ≡ s) ⊎ (IsTrue (path_before r.path s.path) ⊎ IsTrue (path_before s.path r.path)) → r ≡ s
-    by_order (inl h) = h
-    by_order (inr (inl h)) = absurd (not_before_itself s.path (subst (λ (x : Path). path_before x s.path ≡ true) e h))
-    by_order (inr (inr h)) = absurd (not_before_itself s.path (subst (λ (x : Path). path_before s.path x ≡ true) e h))
+same_row b board r s m k e = grind (arith, pair_in, not_before_itself)
 
 module _ (b : Board) (board : IsBoard b) (t : Bridge → Bool) where
   some_path : (r : Row) → IsIn r b → 0 < length r.path
@@ -104,17 +99,10 @@ module _ (b : Board) (board : IsBoard b) (t : Bridge → Bool) where
 -- ---- the next row
 
 pub tells_root : (b : Board) → IsBoard b → (p : Path) → 0 < length p → parent p ≡ [] → Tells b p nothing_above
-tells_root b board p some up = record {
-  bus = sym up;
-  within = omega arith;
-  io = sym (none_over_root b board (λ d. has_io d.io) p some up);
-  pref = sym (none_over_root b board (λ d. has_pref d.pref) p some up);
-  pref64 = sym (none_over_root b board (λ d. has_pref64 d.pref) p some up);
-}
+tells_root b board p some up = grind (arith, none_over_root)
 
 and_true : (v : Bool) → v ≡ (v && true)
-and_true true = refl
-and_true false = refl
+and_true v = grind arith
 
 pub tells_behind : (b : Board) → IsBoard b → (n : ℕ) (r : Row) → slice_get b n ≡ Some r → (p : Path) → 0 < length p → parent p ≡ r.path → (up : Above) → Tells b r.path up → Tells b p (behind (suc n) r.decl up)
 tells_behind b board n r e p some at up tells = by_decl r.decl refl
@@ -132,23 +120,4 @@ tells_behind b board n r e p some at up tells = by_decl r.decl refl
     step t = all_behind b board t r there p some at
 
     by_decl : (d : Decl) → r.decl ≡ d → Tells b p (behind (suc n) d up)
-    by_decl (endpoint d) f = record {
-      bus = on;
-      within = below;
-      io = tells.io ∙ same (λ d. has_io d.io);
-      pref = tells.pref ∙ same (λ d. has_pref d.pref);
-      pref64 = tells.pref64 ∙ same (λ d. has_pref64 d.pref);
-    }
-      where
-        same : (t : Bridge → Bool) → list_all t (bridges_above b r.path) ≡ list_all t (bridges_above b p)
-        same t = let own : list_all t (bridge_of r) ≡ true = rw f in let s = rw own at (step t) in and_true (list_all t (bridges_above b r.path)) ∙ sym s
-    by_decl (bridge d) f = record {
-      bus = on;
-      within = below;
-      io = ap (λ v. v && has_io d.io) tells.io ∙ same (λ d. has_io d.io);
-      pref = ap (λ v. v && has_pref d.pref) tells.pref ∙ same (λ d. has_pref d.pref);
-      pref64 = ap (λ v. v && has_pref64 d.pref) tells.pref64 ∙ same (λ d. has_pref64 d.pref);
-    }
-      where
-        same : (t : Bridge → Bool) → (list_all t (bridges_above b r.path) && t d) ≡ list_all t (bridges_above b p)
-        same t = let own : list_all t (bridge_of r) ≡ t d = rw f (sym (and_true (t d))) in ap (λ v. list_all t (bridges_above b r.path) && v) (sym own) ∙ sym (step t)
+    by_decl d f = grind (arith, on, below, step, and_true)

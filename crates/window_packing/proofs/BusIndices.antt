@@ -29,11 +29,6 @@ module _ (b : Board) (board : IsBoard b) where
       before : path_before r.path s.path ≡ true
       before = leads_before r.path s.path (subst (λ (q : Path). leads_to q s.path ≡ true) up (parent_leads s.path (some_path j s there)))
 
-      equal : (i ≡ j) → ⊥
-      equal e =
-          let same : r ≡ s = same_at b j r s (subst (λ n. slice_get b n ≡ Some r) e here) there in
-          not_before_itself s.path (subst (λ (x : Row). path_before x.path s.path ≡ true) same before)
-
       less : j < i → ⊥
       less l =
           let turned : path_before s.path r.path ≡ true = pair_at (λ (x y : Row). IsTrue (path_before x.path y.path)) b j i s r board.in_order l there here in
@@ -41,11 +36,7 @@ module _ (b : Board) (board : IsBoard b) where
 
       by_order : (i < j) ⊎ (j ≤ i) → i < j
       by_order (inl l) = l
-      by_order (inr l) = by_last (cases_lt j i)
-        where
-          by_last : (j < i) ⊎ (i ≤ j) → i < j
-          by_last (inl k) = absurd (less k)
-          by_last (inr k) = absurd (equal (omega arith))
+      by_order (inr l) = grind (arith, cases_lt, less, same_at, not_before_itself, before)
 
   -- so all that stands behind a row is among the rows after it
   pub rows_behind : (i : ℕ) (r : Row) → slice_get b i ≡ Some r → rows_on (drop (i + 1) b) r.path ≡ rows_on b r.path
@@ -66,8 +57,7 @@ module _ (b : Board) (board : IsBoard b) where
   bus_before i r zero at e l = omega arith
   bus_before i r (suc n) at e l =
       let s = bus_row n (omega arith) in
-      let after : n < i = stands_after n i s.0 r s.1 at (sym e ∙ s.2) in
-      omega arith
+      grind (arith, stands_after)
 
   -- buses of different indices differ
   pub bus_index : (k m : ℕ) → k ≤ length b → m ≤ length b → bus_path b k ≡ bus_path b m → k ≡ m
@@ -88,9 +78,4 @@ module _ (b : Board) (board : IsBoard b) where
           not_before_itself t.0.path (subst (λ (q : Path). path_before q t.0.path ≡ true) (sym s.2 ∙ e ∙ t.2) before)
 
       by_order : (k < m) ⊎ (m ≤ k) → suc k ≡ suc m
-      by_order (inl lt) = absurd (two k m (omega arith) (omega arith) lt e)
-      by_order (inr le) = by_last (cases_lt m k)
-        where
-          by_last : (m < k) ⊎ (k ≤ m) → suc k ≡ suc m
-          by_last (inl lt) = absurd (two m k (omega arith) (omega arith) lt (sym e))
-          by_last (inr ge) = omega arith
+      by_order lt = grind (arith, two, cases_lt)

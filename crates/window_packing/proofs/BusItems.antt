@@ -1,15 +1,15 @@
 -- What stands on a bus of a board can be packed, in any order, and what a function adds is what it has there.
-use Rattle.std.proofs.Common.{◌≡◌, ℕ, zero, suc, ◌<◌, ◌≤◌, ◌^◌, Bool, true, false, cond, List, [], ◌∷◌, refl, sym, ap, ◌∙◌, arith}
+use Rattle.std.proofs.Common.{◌≡◌, ℕ, zero, suc, ◌<◌, ◌≤◌, ◌^◌, List, [], ◌∷◌, refl, sym, ap, ◌∙◌, arith}
 use Rattle.std.specs.List.Sorted.{IsPermutation}
 use Rattle.std.proofs.lemmas.List.Sorted.{IsPermutation-trans}
 use Rattle.lists.specs.Elements.{Each, IsIn}
-use Rattle.model_registers.specs.Declarations.{Kind, io_kind, mem32, mem64, greatest_size, IsLawfulRegion}
+use Rattle.model_registers.specs.Declarations.{Kind, greatest_size}
 use Rattle.lists.proofs.EachLemmas.{each_permutation}
-use Rattle.model_board.specs.Paths.{Part, Path, path_eq, parent, last_part}
-use Rattle.model_board.specs.Board.{Row, Decl, endpoint, bridge, Board, rows_on, IsBoard}
-use Rattle.model_set_up.specs.Pools.{Pool, io_pool, mem_pool, pref_pool, unit_of, bridges_above}
+use Rattle.model_board.specs.Paths.{Part, Path, path_eq, parent}
+use Rattle.model_board.specs.Board.{Row, Decl, Board, rows_on, IsBoard}
+use Rattle.model_set_up.specs.Pools.{Pool, unit_of, bridges_above}
 use Rattle.model_registers.specs.Apertures.{Apertures}
-use Rattle.model_set_up.specs.Placement.{Item, stands_before, inserted, in_order, end_from, spots, spots_from, alignment, region_items, window_items, items_of, items_within, items_on}
+use Rattle.model_set_up.specs.Placement.{Item, inserted, in_order, end_from, spots_from, alignment, window_items, items_of, items_within, items_on}
 use Rattle.model_board.specs.Lawful.{IsLawfulDecl, HasLawfulDecls}
 use Rattle.model_set_up.specs.OrderLaws.{IsOrderOf}
 use Rattle.lists.proofs.Members.{each_in, each_from, from_flat_map, from_filter}
@@ -22,39 +22,21 @@ use Rattle.window_packing.proofs.ItemRanks.{alignment-in_order}
 -- ---- alignments
 
 greatest : (k : Kind) → greatest_size k ≤ 2 ^ 40
-greatest io_kind = omega arith
-greatest (mem32 pref) = omega arith
-greatest (mem64 pref) = omega arith
-
-unit_bounds : (pool : Pool) → (0 < unit_of pool) × (unit_of pool ≤ 2 ^ 40)
-unit_bounds io_pool = (omega arith, omega arith)
-unit_bounds mem_pool = (omega arith, omega arith)
-unit_bounds pref_pool = (omega arith, omega arith)
+greatest k = grind arith
 
 alignment_high : (unit : ℕ) (is : List Item) → unit ≤ 2 ^ 40 → Each HasLawfulAlign is → alignment unit is ≤ 2 ^ 40
 alignment_high unit [] u h = u
 alignment_high unit (i ∷ is) u h = let high : i.align ≤ 2 ^ 40 = h.0.1 in omega (arith, high, alignment_high unit is u h.1)
 
 pub alignment_bounds : (pool : Pool) (is : List Item) → Each HasLawfulAlign is → (0 < alignment (unit_of pool) is) × (alignment (unit_of pool) is ≤ 2 ^ 40)
-alignment_bounds pool is h = (omega (arith, unit_below (unit_of pool) is, (unit_bounds pool).0), alignment_high (unit_of pool) is (unit_bounds pool).1 h)
+alignment_bounds pool is h = grind (arith, unit_below, alignment_high)
 
 window_aligns : (pool : Pool) (p : Part) (is : List Item) → Each HasLawfulAlign is → Each HasLawfulAlign (window_items (unit_of pool) p is)
-window_aligns pool p [] h = tt
-window_aligns pool p (i ∷ is) h = (alignment_bounds pool (i ∷ is) h, tt)
+window_aligns pool p is h = grind (arith, alignment_bounds)
 
 module _ (b : Board) (a : Apertures) (pool : Pool) (lawful : HasLawfulDecls b) where
   row_aligns : (behind : Path → List Item) (p : Path) (d : Decl) → IsLawfulDecl d → Each HasLawfulAlign (behind p) → Each HasLawfulAlign (items_of b a pool behind (record { path = p; decl = d }))
-  row_aligns behind p (endpoint d) h k = each_from HasLawfulAlign (region_items b a pool p d) of_item
-    where
-      of_item : (i : Item) → IsIn i (region_items b a pool p d) → HasLawfulAlign i
-      of_item i m =
-          let r = region_of_item b a pool p d i m in
-          let region : IsLawfulRegion r.0 = each_in IsLawfulRegion r.0 d.regions h.regions.each r.1 in
-          let align : i.align ≡ r.0.size = ap (λ (j : Item). j.align) r.3 in
-          let high : r.0.size ≤ greatest_size r.0.kind = region.size_is_lawful.not_more in
-          let low : 0 < r.0.size = power_positive r.0.size region.size_is_lawful.power in
-          (omega arith, omega (arith, greatest r.0.kind))
-  row_aligns behind p (bridge d) h k = window_aligns pool (last_part p) (behind p) k
+  row_aligns behind p d h k = grind (arith, each_from, region_of_item, each_in, power_positive, greatest, window_aligns)
 
   within_aligns : (n : ℕ) (bus : Path) → Each HasLawfulAlign (items_within b a pool n bus)
   within_aligns zero bus = tt
@@ -80,11 +62,8 @@ module _ (b : Board) (a : Apertures) (pool : Pool) (lawful : HasLawfulDecls b) w
     pub packable : IsPackable is
     packable = record { order = λ js h. sorts js h ∙ sym same_order; aligns = each_permutation HasLawfulAlign (items_on b a pool bus) is same (items_align bus) }
 
-    same_alignment : alignment (unit_of pool) is ≡ alignment (unit_of pool) (items_on b a pool bus)
-    same_alignment = sym (alignment-in_order (unit_of pool) is) ∙ ap (alignment (unit_of pool)) same_order ∙ alignment-in_order (unit_of pool) (items_on b a pool bus)
-
     pub pack_is : pack_items (unit_of pool) is ≡ pack_of b a pool bus
-    pack_is = rw (same_order, same_alignment) refl
+    pack_is = grind (arith, same_order, alignment-in_order)
 
     pub end_is : end_from 0 (in_order is) ≡ end_from 0 (in_order (items_on b a pool bus))
     end_is = ap (end_from 0) same_order
@@ -94,16 +73,7 @@ module _ (b : Board) (a : Apertures) (pool : Pool) (lawful : HasLawfulDecls b) w
 window_inserted : (unit : ℕ) (p : Part) (pack : BusPack) (s : Item) (i : Item) (js : List Item)
     → window_of unit p pack (spots_from 0 (inserted i js)) ≡ window_of unit p pack (record { item = s; first = 0 } ∷ [])
 window_inserted unit p pack s i [] = refl
-window_inserted unit p pack s i (j ∷ js) = by_test (stands_before j i)
-  where
-    by_test : (t : Bool) → window_of unit p pack (spots_from 0 (cond t (j ∷ inserted i js) (i ∷ j ∷ js))) ≡ window_of unit p pack (record { item = s; first = 0 } ∷ [])
-    by_test true = refl
-    by_test false = refl
-
-window_is : (pool : Pool) (p : Part) (is : List Item) → window_of (unit_of pool) p (pack_items (unit_of pool) is) (spots is) ≡ window_items (unit_of pool) p is
-window_is pool p [] = refl
-window_is pool p (i ∷ is) = window_inserted (unit_of pool) p (pack_items (unit_of pool) (i ∷ is)) i i (in_order is)
+window_inserted unit p pack s i (j ∷ js) = grind arith
 
 pub own_is : (b : Board) (a : Apertures) (pool : Pool) (p : Path) (d : Decl) → own_items a (bridges_above b p) pool p d (pack_of b a pool p) ≡ items_of b a pool (items_on b a pool) (record { path = p; decl = d })
-own_is b a pool p (endpoint d) = refl
-own_is b a pool p (bridge d) = window_is pool (last_part p) (items_on b a pool p)
+own_is b a pool p d = grind (arith, window_inserted)

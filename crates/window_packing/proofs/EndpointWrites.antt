@@ -6,8 +6,8 @@ use Rattle.std.proofs.lemmas.Nat.Bits.{and_high}
 use Rattle.std.proofs.lemmas.Bool.{ne_eqb, or_parts}
 use Rattle.std.proofs.Math.Nat.{mod-eq_of_lt}
 use Rattle.lists.specs.Elements.{Each, EachPair}
-use Rattle.model_registers.specs.Cell.{Cell, written}
-use Rattle.model_registers.specs.Registers.{config, block, place_eq, File, changed, write, cells_from}
+use Rattle.model_registers.specs.Cell.{Cell}
+use Rattle.model_registers.specs.Registers.{config, block, place_eq, File, write, cells_from}
 use Rattle.model_registers.specs.FileLaws.{has_place, HasNone}
 use Rattle.model_registers.specs.Declarations.{Kind, io_kind, mem32, mem64, Region, registers_of, IsLawfulRegion, HasLawfulRegions, ConfigBlock, Endpoint}
 use Rattle.model_registers.specs.Decoding.{io, memory}
@@ -27,10 +27,7 @@ abbrev at_zero : BaseAddress → BaseAddress
 at_zero b = record b { base = 0 }
 
 zero_is_lawful : (b : BaseAddress) → IsLawfulBase b → IsLawfulBase (at_zero b)
-zero_is_lawful b h = record { size_is_lawful = h.size_is_lawful; aligned = mod-eq_of_lt (some h.size_is_lawful.power); fits = pow_pos (base_width b.kind) }
-  where
-    some : (k : ℕ) × (b.size ≡ 2 ^ k) → 0 < b.size
-    some (k, e) = subst (λ n. 0 < n) (sym e) (pow_pos k)
+zero_is_lawful b h = grind (arith, mod-eq_of_lt, pow_pos)
 
 -- all bits of a base that are written are its own
 bits_kept : (j k base : ℕ) → base % 2 ^ k ≡ 0 → base < 2 ^ (j + k) → bit_and base (bit_and (2 ^ (j + k) - 2 ^ k) (2 ^ (j + k) - 1)) ≡ base
@@ -62,9 +59,6 @@ one_write v n file =
     next : 0x10 + 4 * (n + 1) ≡ 0x10 + 4 * n + 1 + 1 + 1 + 1
     next = omega arith
 
-    byte_0 : v % 2 ^ 32 % 256 ≡ v % 256
-    byte_0 = omega arith
-
     byte_1 : v % 2 ^ 32 / 256 % 256 ≡ v / 256 % 256
     byte_1 = omega arith
 
@@ -75,7 +69,7 @@ one_write v n file =
     byte_3 = omega arith
 
     low : write (four true true true true) (v % 2 ^ 32) (base_register n) file ≡ write (four true true true true) v (base_register n) file
-    low = λ i. changed (written (byte_3 i)) (config (0x10 + 4 * n + 1 + 1 + 1)) (changed (written (byte_2 i)) (config (0x10 + 4 * n + 1 + 1)) (changed (written (byte_1 i)) (config (0x10 + 4 * n + 1)) (changed (written (byte_0 i)) (config (0x10 + 4 * n)) file)))
+    low = grind (arith, byte_3, byte_2, byte_1)
 
 -- a base over 0 leaves the base
 narrow_written : (b : BaseAddress) → IsLawfulBase b → base_width b.kind ≡ 32 → 4 ≡ 4 * registers_of b.kind
@@ -151,19 +145,7 @@ region_leaves bases r reg x h =
 
 words_leave : (bases : Region → ℕ) (r : Region) (index : ℕ) (kind : Kind) (size base : ℕ) → AreApart index kind r.index r.kind
     → file_after (base_words (base_of index kind size base)) (region_cells bases r) ≡ region_cells bases r
-words_leave bases r index io_kind size base h = region_leaves bases r index (base % 2 ^ 32) h
-words_leave bases r index (mem32 pref) size base h = region_leaves bases r index (base % 2 ^ 32) h
-words_leave bases r index (mem64 pref) size base h =
-    ap (write (four true true true true) (base / 2 ^ 32) (base_register (index + 1))) (region_leaves bases r index (base % 2 ^ 32) (lower h))
-    ∙ region_leaves bases r (index + 1) (base / 2 ^ 32) (upper h)
-  where
-    lower : (index + 2 ≤ r.index) ⊎ (r.index + registers_of r.kind ≤ index) → (index + 1 ≤ r.index) ⊎ (r.index + registers_of r.kind ≤ index)
-    lower (inl l) = inl (omega arith)
-    lower (inr l) = inr l
-
-    upper : (index + 2 ≤ r.index) ⊎ (r.index + registers_of r.kind ≤ index) → (index + 1 + 1 ≤ r.index) ⊎ (r.index + registers_of r.kind ≤ index + 1)
-    upper (inl l) = inl (omega arith)
-    upper (inr l) = inr (omega arith)
+words_leave bases r index kind size base h = grind (arith, region_leaves)
 
 -- the header has no cell among the base address registers, and the blocks stand behind them
 header_leaves : (d : Endpoint) (multifunction : Bool) (command reg x : ℕ) → reg < 6 → write (four true true true true) x (base_register reg) (header_cells d multifunction command) ≡ header_cells d multifunction command
@@ -216,12 +198,7 @@ later_leave bases r (s ∷ rs) h =
     ∙ later_leave bases r rs h.1
 
 leaves_later : (bases : Region → ℕ) (b : BaseAddress) (rs : List Region) → Each (λ s. b.index + registers_of b.kind ≤ s.index) rs → file_after (base_words b) (flat_map (region_cells bases) rs) ≡ flat_map (region_cells bases) rs
-leaves_later bases b [] h = empty b.kind
-  where
-    empty : (k : Kind) → file_after (base_words (base_of b.index k b.size b.base)) [] ≡ []
-    empty io_kind = refl
-    empty (mem32 pref) = refl
-    empty (mem64 pref) = refl
+leaves_later bases b [] h = grind arith
 leaves_later bases b (s ∷ rs) h =
     joined_after (base_words b) (region_cells bases s) (flat_map (region_cells bases) rs)
     ∙ ap₂ (λ (x y : File). x ++ y) (words_leave bases s b.index b.kind b.size b.base (inl h.0)) (leaves_later bases b rs h.1)
@@ -268,10 +245,7 @@ abbrev command_in : Bool → Bool → ℕ
 command_in u v = cond u 1 0 + cond v 2 0
 
 header_commanded : (d : Endpoint) (multifunction : Bool) (u v : Bool) → written_file (word 0x04 3 (command_in u v)) (header_cells d multifunction 0) ≡ header_cells d multifunction (command_in u v)
-header_commanded d multifunction true true = refl
-header_commanded d multifunction true false = refl
-header_commanded d multifunction false true = refl
-header_commanded d multifunction false false = refl
+header_commanded d multifunction u v = grind arith
 
 regions_stay : (bases : Region → ℕ) (command : ℕ) (rs : List Region) → written_file (word 0x04 3 command) (flat_map (region_cells bases) rs) ≡ flat_map (region_cells bases) rs
 regions_stay bases command [] = refl

@@ -10,7 +10,7 @@ use Rattle.model_board.specs.Paths.{Part, parent, last_part}
 use Rattle.model_board.specs.Board.{Row, Board, IsBoard}
 use Rattle.model_board.specs.Lawful.{HasLawfulDecls}
 use Rattle.model_set_up.specs.Pools.{Pool}
-use Rattle.model_set_up.specs.Placement.{a_window, is_item, spots, offset_in, items_on, fits, offset_on, bus_first}
+use Rattle.model_set_up.specs.Placement.{a_window, is_item, spots, offset_in, items_on, fits, bus_first}
 use Rattle.lists.proofs.Indices.{same_at, index_in}
 use Rattle.window_packing.specs.declared.above.Above.{Above}
 use Rattle.window_packing.specs.Buses.{bus_path, AreAbove}
@@ -99,9 +99,7 @@ module _ (b : Board) (a : Apertures) (pool : Pool) (board : IsBoard b) (lawful :
     -- the bus behind it begins where its window stands
     pub behind_first : (packs : List BusPack) → packs ≡ packs_of b a pool → (p : BusPack) → slice_get packs x.bus ≡ Some p → (part : Part) → part ≡ last_part r.path → (n : ℕ) → n ≡ bus_first b a pool (bus_path b x.bus)
         → n + offset_in p.spots part a_window ≡ bus_first b a pool (bus_path b (suc i))
-    behind_first packs e p k part last n first =
-        let here : offset_in p.spots part a_window ≡ offset_on b a pool (parent r.path) (last_part r.path) a_window = ap₂ (λ (y : BusPack) (z : Part). offset_in y.spots z a_window) (own_pack packs e p k) last in
-        ap₂ (λ (m k : ℕ). m + k) (first ∙ ap (bus_first b a pool) on) here ∙ sym (next_first b a pool board lawful apertures fit r there) ∙ ap (bus_first b a pool) (sym (bus_behind b i r at))
+    behind_first packs e p k part last n first = grind (arith, own_pack, on, next_first, there, bus_behind)
 
     pub behind_bound : (packs : List BusPack) → packs ≡ packs_of b a pool → (p : BusPack) → slice_get packs x.bus ≡ Some p → (part : Part) → part ≡ last_part r.path → (n : ℕ) → n ≡ bus_first b a pool (bus_path b x.bus)
         → n + offset_in p.spots part a_window ≤ highest

@@ -1,5 +1,5 @@
 -- Buses packed from the last row to the first: what is gathered of the items of the buses that are left.
-use Rattle.std.proofs.Common.{◌≡◌, ℕ, zero, suc, ◌+◌, ◌<◌, ◌≤◌, ◌^◌, ◌⊎◌, inl, inr, Bool, true, false, cond, Some, List, [], ◌∷◌, ◌++◌, length, drop, refl, sym, ap, ◌∙◌, subst, arith}
+use Rattle.std.proofs.Common.{◌≡◌, ℕ, zero, suc, ◌+◌, ◌<◌, ◌≤◌, ◌^◌, Bool, true, false, cond, Some, List, [], ◌∷◌, ◌++◌, length, drop, refl, sym, ap, ◌∙◌, subst, arith}
 use Rattle.std.specs.Prelude.{map, flat_map, reverse, slice_get, slice_set, All}
 use Rattle.std.specs.List.Sorted.{IsPermutation}
 use Rattle.std.proofs.lemmas.List.{drop_all, reverse-append}
@@ -165,9 +165,4 @@ module _ (b : Board) (a : Apertures) (pool : Pool) (board : IsBoard b) {V : Type
               absurd (other (bus_index b board k j within few (up ∙ path_same (parent r.path) (bus_path b j) same)))
 
       own : (j : ℕ) (x : V) → slice_get (slice_set buses k w) j ≡ Some x → IsPermutation (items_from b a pool (drop i b) (bus_path b j)) (contents x)
-      own j x e = by_order (cases_lt k j) (cases_lt j k)
-        where
-          by_order : (k < j) ⊎ (j ≤ k) → (j < k) ⊎ (k ≤ j) → IsPermutation (items_from b a pool (drop i b) (bus_path b j)) (contents x)
-          by_order (inl l) m = off j x (λ s. absurd (omega arith)) e
-          by_order (inr l) (inl m) = off j x (λ s. absurd (omega arith)) e
-          by_order (inr l) (inr m) = on j x (omega arith) e
+      own j x e = grind (arith, cases_lt, off, on)

@@ -1,20 +1,11 @@
 -- The order of items is one that a sort keeps, and items in order have the alignment of the bus.
-use Rattle.std.proofs.Common.{◌≡◌, ℕ, max, Bool, true, false, cond, List, [], ◌∷◌, refl, ap, ◌∙◌, arith}
+use Rattle.std.proofs.Common.{◌≡◌, ℕ, max, Bool, cond, List, [], ◌∷◌, refl, ap, ◌∙◌, arith}
 use Rattle.std.specs.Cmp.{IsStrictWeakOrder}
 use Rattle.std.proofs.lemmas.Bool.Decides.{nat_tests}
 use Rattle.model_set_up.specs.Placement.{Item, stands_before, inserted, in_order, alignment}
 
 pub weak_order : IsStrictWeakOrder stands_before
-weak_order = record {
-  one_way = λ i j h. one_way i j h;
-  chain = λ i j k h l. chain i j k h l;
-}
-  where
-    one_way : (i j : Item) → stands_before i j ≡ true → stands_before j i ≡ false
-    one_way i j h = grind (arith, nat_tests)
-
-    chain : (i j k : Item) → stands_before i j ≡ false → stands_before j k ≡ false → stands_before i k ≡ false
-    chain i j k h l = grind (arith, nat_tests)
+weak_order = grind (arith, nat_tests)
 
 max_swap : (m n k : ℕ) → max m (max n k) ≡ max n (max m k)
 max_swap m n k = omega arith
@@ -24,8 +15,7 @@ alignment_inserted unit i [] = refl
 alignment_inserted unit i (j ∷ js) = by_test (stands_before j i) (alignment_inserted unit i js)
   where
     by_test : (t : Bool) → alignment unit (inserted i js) ≡ max i.align (alignment unit js) → alignment unit (cond t (j ∷ inserted i js) (i ∷ j ∷ js)) ≡ max i.align (max j.align (alignment unit js))
-    by_test true h = ap (λ n. max j.align n) h ∙ max_swap j.align i.align (alignment unit js)
-    by_test false h = refl
+    by_test t h = grind (arith, max_swap)
 
 pub alignment-in_order : (unit : ℕ) (is : List Item) → alignment unit (in_order is) ≡ alignment unit is
 alignment-in_order unit [] = refl

@@ -1,5 +1,5 @@
 -- The rows of a placement are those of the layout.
-use Rattle.std.proofs.Common.{◌≡◌, ℕ, zero, suc, ◌+◌, ◌-◌, ◌≤◌, ◌<◌, Option, List, [], ◌∷◌, ◌++◌, length, map, take, Some, refl, sym, ap, ap₂, ◌∙◌, subst, arith, append-nil, append_assoc}
+use Rattle.std.proofs.Common.{◌≡◌, ℕ, zero, suc, ◌+◌, ◌-◌, ◌≤◌, ◌<◌, List, [], ◌∷◌, ◌++◌, length, map, take, Some, refl, sym, ap, ap₂, ◌∙◌, subst, arith, append-nil, append_assoc}
 use Rattle.std.specs.Prelude.{flat_map, unwrap_or}
 use Rattle.std.specs.List.{slice_get}
 use Rattle.std.proofs.lemmas.Option.{slice_get_within}
@@ -31,11 +31,7 @@ path_at paths k h = got ([] ∷ paths) k (omega arith)
     got (p ∷ ps) (suc k) h = got ps k (omega arith)
 
 pub bus_of_path : (paths : List Path) (bus : ℕ) (p : Path) → (bus ≡ 0 → ⊥) → slice_get paths (bus - 1) ≡ Some p → bus_at paths bus ≡ p
-bus_of_path paths zero p some e = absurd (some refl)
-bus_of_path paths (suc k) p some e =
-    let less : suc k - 1 ≡ k = omega arith in
-    let at : slice_get paths k ≡ Some p = subst (λ n. slice_get paths n ≡ Some p) less e in
-    ap (λ (o : Option Path). unwrap_or o []) at
+bus_of_path paths bus p some e = grind arith
 
 -- one bus more
 along_more : (pool : Pool) (bs : List Path) (ns : List ℕ) (ps : List BusPack) (k : ℕ) (b : Path) (n : ℕ) (p : BusPack) → slice_get bs k ≡ Some b → slice_get ns k ≡ Some n → slice_get ps k ≡ Some p
@@ -43,23 +39,14 @@ along_more : (pool : Pool) (bs : List Path) (ns : List ℕ) (ps : List BusPack) 
 along_more pool [] ns ps k b n p e f g = absurd (cc)
 along_more pool (b' ∷ bs) [] ps k b n p e f g = absurd (cc)
 along_more pool (b' ∷ bs) (n' ∷ ns) [] k b n p e f g = absurd (cc)
-along_more pool (b' ∷ bs) (n' ∷ ns) (p' ∷ ps) zero b n p e f g =
-    let one : b' ≡ b = cc in
-    let two : n' ≡ n = cc in
-    let three : p' ≡ p = cc in
-    (λ i. map (row_of pool (one i) (two i)) (three i).spots ++ rows_along pool [] ns ps) ∙ append-nil (map (row_of pool b n) p.spots)
+along_more pool (b' ∷ bs) (n' ∷ ns) (p' ∷ ps) zero b n p e f g = grind (arith, append-nil)
 along_more pool (b' ∷ bs) (n' ∷ ns) (p' ∷ ps) (suc k) b n p e f g =
     ap (λ xs. map (row_of pool b' n') p'.spots ++ xs) (along_more pool bs ns ps k b n p e f g)
     ∙ sym (append_assoc (map (row_of pool b' n') p'.spots) (rows_along pool (take k bs) ns ps) (map (row_of pool b n) p.spots))
 
 pub rows_more : (pool : Pool) (paths : List Path) (ns : List ℕ) (ps : List BusPack) (k : ℕ) → k ≤ length paths → (n : ℕ) (p : BusPack) → slice_get ns k ≡ Some n → slice_get ps k ≡ Some p → (start old new : List LayoutRow)
     → old ≡ start ++ rows_along pool (take k ([] ∷ paths)) ns ps → new ≡ old ++ map (row_of pool (bus_at paths k) n) p.spots → new ≡ start ++ rows_along pool (take (k + 1) ([] ∷ paths)) ns ps
-rows_more pool paths ns ps k h n p f g start old new before after =
-    let more : k + 1 ≡ suc k = omega arith in
-    after ∙ ap (λ xs. xs ++ map (row_of pool (bus_at paths k) n) p.spots) before
-    ∙ append_assoc start (rows_along pool (take k ([] ∷ paths)) ns ps) (map (row_of pool (bus_at paths k) n) p.spots)
-    ∙ ap (λ xs. start ++ xs) (sym (along_more pool ([] ∷ paths) ns ps k (bus_at paths k) n p (path_at paths k h) f g))
-    ∙ ap (λ j. start ++ rows_along pool (take j ([] ∷ paths)) ns ps) (sym more)
+rows_more pool paths ns ps k h n p f g start old new before after = grind (arith, append_assoc, along_more, path_at)
 
 -- ---- of a board
 

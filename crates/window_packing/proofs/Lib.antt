@@ -23,7 +23,6 @@ pub mod FirstsSoFar
 pub mod BarLists
 pub mod PlacedFunctions
 pub mod RowTests
-pub mod Refusals
 pub mod TablePlans
 pub mod UseFits
 pub mod LayoutRows

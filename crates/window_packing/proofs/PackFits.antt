@@ -1,7 +1,5 @@
 -- Whether a pool fits, by the pack of bus 0.
-use Rattle.std.proofs.Common.{◌≡◌, ℕ, ◌+◌, ◌-◌, inl, true, ◌&&◌, List, [], ◌∷◌, length, refl, ap, subst, arith}
-use Rattle.std.specs.Prelude.{nat_le}
-use Rattle.std.proofs.lemmas.Bool.Decides.{nat_tests}
+use Rattle.std.proofs.Common.{◌≡◌, inl, true, List, [], ◌∷◌, length, refl, ap, subst, arith}
 use Rattle.lists.specs.Elements.{IsIn}
 use Rattle.model_set_up.specs.Pools.{Pool}
 use Rattle.model_registers.specs.Apertures.{Apertures}
@@ -15,9 +13,6 @@ no_items (i ∷ is) e = let s = spot_of i (i ∷ is) (inl refl) in absurd (subst
 
 pub fits_empty : (a : Apertures) (pool : Pool) (is : List Item) → spots is ≡ [] → fits_items a pool is ≡ true
 fits_empty a pool is e = ap (fits_items a pool) (no_items is e)
-
-room : (first end limit : ℕ) → (nat_le end limit && nat_le first (limit - end)) ≡ nat_le (first + end) limit
-room first end limit = grind (arith, nat_tests)
 
 pub empty_if : {A : Type 0} (xs : List A) → length xs ≡ 0 → xs ≡ []
 empty_if [] e = refl

@@ -1,18 +1,17 @@
 -- Where the buses, the regions and the windows of a placed pool stand: all within 2^63, and each found by its alignment.
-use Rattle.std.proofs.Common.{◌≡◌, ℕ, zero, suc, ◌+◌, ◌-◌, ◌^◌, ◌≤◌, ◌<◌, ◌⊎◌, inl, inr, Bool, true, false, cond, List, [], ◌∷◌, ◌++◌, map, length, Option, Some, None, MatchOption, refl, sym, ap, ◌∙◌, subst, arith}
+use Rattle.std.proofs.Common.{◌≡◌, ℕ, zero, suc, ◌+◌, ◌-◌, ◌^◌, ◌≤◌, ◌<◌, ◌⊎◌, inl, inr, Bool, true, false, cond, List, [], ◌∷◌, ◌++◌, map, length, Option, MatchOption, refl, sym, ap, ◌∙◌, subst, arith}
 use Rattle.std.specs.Prelude.{filter, flat_map, IsTrue}
-use Rattle.std.specs.Option.{option_map_or}
 use Rattle.std.proofs.lemmas.Bool.{and_parts}
 use Rattle.std.proofs.lemmas.Bool.Decides.{nat_tests}
 use Rattle.std.proofs.Math.Nat.{div-mul-le_self}
 use Rattle.lists.specs.Elements.{Each, EachPair, IsIn}
-use Rattle.model_registers.specs.Apertures.{Aperture, IsLawfulApertures, IsPrefOption, Apertures}
-use Rattle.model_registers.specs.Declarations.{Endpoint, Region, Kind, registers_of, io_kind, mem32, mem64}
+use Rattle.model_registers.specs.Apertures.{Aperture, IsLawfulApertures, Apertures}
+use Rattle.model_registers.specs.Declarations.{Endpoint, Region}
 use Rattle.model_board.specs.Paths.{Part, Path, part_eq, parent, last_part, IsPath}
-use Rattle.model_board.specs.Board.{Decl, endpoint, is_bridge, Row, Board, IsBoard}
-use Rattle.model_set_up.specs.Pools.{Pool, io_pool, mem_pool, pref_pool, unit_of, aperture_of}
+use Rattle.model_board.specs.Board.{endpoint, is_bridge, Row, Board, IsBoard}
+use Rattle.model_set_up.specs.Pools.{Pool, unit_of, aperture_of}
 use Rattle.model_set_up.specs.Placement.{Placed, a_region, a_window, same_placed, Item, Spot, is_item, stands_before, in_order, round_up, need, alignment, spots_from, spots, offset_in, items_on, fits, offset_on, bus_first}
-use Rattle.model_set_up.specs.Layout.{LayoutRow, IsLawful, bus_rows, pool_rows}
+use Rattle.model_set_up.specs.Layout.{LayoutRow, bus_rows, pool_rows}
 use Rattle.model_set_up.specs.Extents.{IsInside}
 use Rattle.model_set_up.specs.PlacementLaws.{window_row}
 use Rattle.model_board.specs.Lawful.{IsLawfulDecl, HasLawfulDecls}
@@ -21,7 +20,7 @@ use Rattle.model_board.proofs.PathOrder.{part_same}
 use Rattle.model_board.proofs.PathEnds.{snoc, length_snoc}
 use Rattle.model_set_up.proofs.Partings.{pair_in}
 use Rattle.model_set_up.proofs.Packing.{unit_positive}
-use Rattle.model_set_up.proofs.Items.{item_of, some_end, end_below_need, items_placeable, items_for, region_of_item, Origin, origin}
+use Rattle.model_set_up.proofs.Items.{item_of, some_end, end_below_need, items_placeable, region_of_item, Origin, origin}
 use Rattle.model_set_up.proofs.ItemOrder.{Strictly, items_strict}
 use Rattle.model_set_up.proofs.Nesting.{HasItems, bus_first-snoc, window_of, bridge_of_bus}
 use Rattle.model_set_up.proofs.LawfulPlacement.{row_in, pool_lawful}
@@ -49,41 +48,23 @@ offset_cases [] p w = inl refl
 offset_cases (s ∷ ss) p w = by_test (is_item p w s.item) (offset_cases ss p w)
   where
     by_test : (v : Bool) → Cases (offset_in ss p w) ss → Cases (cond v s.first (offset_in ss p w)) (s ∷ ss)
-    by_test true more = inr (s, inl refl, refl)
-    by_test false (inl e) = inl e
-    by_test false (inr (t, m, e)) = inr (t, inr m, e)
+    by_test v more = grind arith
 
 -- no address of a pool is above this
 abbrev pub highest : ℕ
 highest = 2 ^ 63 + 2 ^ 40
 
 same_what : (v w : Placed) → same_placed v w ≡ true → v ≡ w
-same_what (a_region n) (a_region m) h = let e : n ≡ m = grind (arith, nat_tests) in ap (λ k. a_region k) e
-same_what (a_region n) a_window h = cc
-same_what a_window (a_region m) h = cc
-same_what a_window a_window h = refl
+same_what v w h = grind (arith, nat_tests)
 
 limit : (a : Apertures) (pool : Pool) → IsLawfulApertures a → MatchOption (aperture_of a pool) (Unit {0}) (λ ap. ap.last + 1 ≤ 2 ^ 63)
-limit a io_pool h = omega (arith, h.io.ends)
-limit a mem_pool h = omega (arith, h.mem.ends)
-limit a pref_pool h = by_option a.pref h.pref
-  where
-    by_option : (o : Option Aperture) → IsPrefOption a.mem o → MatchOption o (Unit {0}) (λ ap. ap.last + 1 ≤ 2 ^ 63)
-    by_option None k = tt
-    by_option (Some x) k = omega (arith, k.ends)
+limit a pool h = grind arith
 
 begins : (a : Apertures) (pool : Pool) → IsLawfulApertures a → MatchOption (aperture_of a pool) (Unit {0}) (λ ap. ap.first < 2 ^ 63)
-begins a io_pool h = omega (arith, h.io.ends, h.io.units.not_empty)
-begins a mem_pool h = omega (arith, h.mem.ends, h.mem.units.not_empty)
-begins a pref_pool h = by_option a.pref h.pref
-  where
-    by_option : (o : Option Aperture) → IsPrefOption a.mem o → MatchOption o (Unit {0}) (λ ap. ap.first < 2 ^ 63)
-    by_option None k = tt
-    by_option (Some x) k = omega (arith, k.ends, k.units.not_empty)
+begins a pool h = grind arith
 
 inside_limit : (o : Option Aperture) (row : LayoutRow) → MatchOption o (Unit {0}) (λ ap. ap.last + 1 ≤ 2 ^ 63) → MatchOption o ⊥ (λ ap. IsInside ap.first (ap.last + 1) row.first row.size) → row.first + row.size ≤ 2 ^ 63
-inside_limit None row l h = absurd h
-inside_limit (Some x) row l h = omega (arith, l, h.1)
+inside_limit o row l h = grind arith
 
 round_up_below : (n m : ℕ) → 0 < n → round_up n m ≤ m + n
 round_up_below n m some = let q = div-mul-le_self (m + (n - 1)) n in omega (arith, q)
@@ -110,45 +91,22 @@ module _ (b : Board) (a : Apertures) (pool : Pool) (board : IsBoard b) (lawful :
           let path : parent r.path ++ s.item.part ∷ [] ≡ r.path = ap (λ (p : Part). parent r.path ++ p ∷ []) (part_same s.item.part (last_part r.path) h.0) ∙ sym (split r m) in
           ap (λ (t : Spot). t.item.align) (sym w.1) ∙ w.0.align_is ∙ ap (λ (p : Path). alignment (unit_of pool) (items_on b a pool p)) path
 
-  apart : (k : Kind) (m n : ℕ) → m + registers_of k ≤ n → m < n
-  apart io_kind m n h = omega arith
-  apart (mem32 p) m n h = omega arith
-  apart (mem64 p) m n h = omega arith
-
   one_region : (d : Endpoint) → IsLawfulDecl (endpoint d) → (x y : Region) → IsIn x d.regions → IsIn y d.regions → x.index ≡ y.index → x ≡ y
-  one_region d h x y m k e = by_order (pair_in (λ (u v : Region). u.index + registers_of u.kind ≤ v.index) x y d.regions h.regions.in_order m k)
-    where
-      by_order : (x ≡ y) ⊎ ((x.index + registers_of x.kind ≤ y.index) ⊎ (y.index + registers_of y.kind ≤ x.index)) → x ≡ y
-      by_order (inl s) = s
-      by_order (inr (inl l)) = absurd (omega (arith, e, apart x.kind x.index y.index l))
-      by_order (inr (inr l)) = absurd (omega (arith, e, apart y.kind y.index x.index l))
+  one_region d h x y m k e = grind (arith, pair_in)
 
   pub region_align : (r : Row) → IsIn r b → (d : Endpoint) → r.decl ≡ endpoint d → (k : Region) → IsIn k d.regions
       → Each (λ s. IsTrue (is_item (last_part r.path) (a_region k.index) s.item) → s.item.align ≡ k.size) (spots (items_on b a pool (parent r.path)))
   region_align r m d decl k on = each_from (λ s. IsTrue (is_item (last_part r.path) (a_region k.index) s.item) → s.item.align ≡ k.size) (spots (items_on b a pool (parent r.path)))
       (λ s l h. of_spot s (and_parts (part_eq s.item.part (last_part r.path)) (same_placed s.item.what (a_region k.index)) h) (origin b a pool board (parent r.path) s.item (item_of s (items_on b a pool (parent r.path)) l)))
     where
-      the_decl : IsLawfulDecl (endpoint d)
-      the_decl = subst IsLawfulDecl decl (each_in (λ (x : Row). IsLawfulDecl x.decl) r b lawful m)
-
       of_spot : (s : Spot) → (part_eq s.item.part (last_part r.path) ≡ true) × (same_placed s.item.what (a_region k.index) ≡ true) → Origin b a pool (parent r.path) s.item → s.item.align ≡ k.size
-      of_spot s h o =
-          let path : o.row.path ≡ r.path = o.path_is ∙ ap (λ (p : Part). parent r.path ++ p ∷ []) (part_same s.item.part (last_part r.path) h.0) ∙ sym (split r m) in
-          let row : o.row ≡ r = same_row b board o.row r o.there m path in
-          let item : IsIn s.item (items_for b a pool r.path (endpoint d)) = subst (λ (x : Decl). IsIn s.item (items_for b a pool r.path x)) decl (subst (λ (x : Row). IsIn s.item (items_for b a pool x.path x.decl)) row o.item) in
-          let g = region_of_item b a pool r.path d s.item item in
-          let whats : a_region g.0.index ≡ a_region k.index = ap (λ (i : Item). i.what) (sym g.3) ∙ same_what s.item.what (a_region k.index) h.1 in
-          let index : g.0.index ≡ k.index = cc in
-          ap (λ (i : Item). i.align) g.3 ∙ ap (λ (x : Region). x.size) (one_region d the_decl g.0 k g.1 on index)
+      of_spot s h o = grind (arith, part_same, split, same_row, region_of_item, same_what, one_region, each_in)
 
   -- ---- addresses
 
   module _ (apertures : IsLawfulApertures a) (fit : IsTrue (fits b a pool)) where
     row_bound : (row : LayoutRow) → IsIn row (pool_rows b a pool) → row.pool ≡ pool → row.first + row.size ≤ 2 ^ 63
-    row_bound row m e =
-        let whole : IsLawful b a (pool_rows b a pool) = pool_lawful b a pool board lawful fit in
-        let inside = each_in (λ r. MatchOption (aperture_of a r.pool) ⊥ (λ ap. IsInside ap.first (ap.last + 1) r.first r.size)) row (pool_rows b a pool) whole.in_apertures m in
-        inside_limit (aperture_of a row.pool) row (limit a row.pool apertures) inside
+    row_bound row m e = grind (arith, pool_lawful, each_in, inside_limit, limit)
 
     -- a spot ends at 2^63 or below
     pub spot_bound : (bus : Path) (s : Spot) → IsIn s (spots (items_on b a pool bus)) → bus_first b a pool bus + s.first + s.item.size ≤ 2 ^ 63
@@ -168,21 +126,11 @@ module _ (b : Board) (a : Apertures) (pool : Pool) (board : IsBoard b) (lawful :
         by_cases (inl e) = omega (arith, h, e)
         by_cases (inr (s, m, e)) = omega (arith, e, spot_bound bus s m)
 
-    root_bound : bus_first b a pool [] ≤ highest
-    root_bound = by_option (aperture_of a pool) (begins a pool apertures)
-      where
-        bounds : (0 < alignment (unit_of pool) (items_on b a pool [])) × (alignment (unit_of pool) (items_on b a pool []) ≤ 2 ^ 40)
-        bounds = alignment_bounds pool (items_on b a pool []) (items_align b a pool lawful [])
-
-        by_option : (o : Option Aperture) → MatchOption o (Unit {0}) (λ ap. ap.first < 2 ^ 63) → option_map_or (λ (ap : Aperture). round_up (alignment (unit_of pool) (items_on b a pool [])) ap.first) o 0 ≤ highest
-        by_option None h = omega arith
-        by_option (Some x) h = omega (arith, h, bounds.1, round_up_below (alignment (unit_of pool) (items_on b a pool [])) x.first bounds.0)
-
     pub next_first : (r : Row) → IsIn r b → bus_first b a pool r.path ≡ bus_first b a pool (parent r.path) + offset_on b a pool (parent r.path) (last_part r.path) a_window
     next_first r m = ap (bus_first b a pool) (split r m) ∙ bus_first-snoc b a pool (parent r.path) (last_part r.path)
 
     below : (n : ℕ) (p : Path) → length p ≤ n → bus_first b a pool p ≤ highest
-    below n [] h = root_bound
+    below n [] h = grind (arith, begins, alignment_bounds, items_align, round_up_below)
     below zero (x ∷ p) h = absurd (omega arith)
     below (suc n) (x ∷ p) h =
         let some : 0 < length (x ∷ p) = omega arith in
@@ -218,10 +166,7 @@ module _ (b : Board) (a : Apertures) (pool : Pool) (board : IsBoard b) (lawful :
     where
       by_kind : (v : Bool) → is_bridge r.decl ≡ v → flat_map (bus_rows b a pool) (map (λ (r : Row). r.path) rs) ≡ flat_map (bus_rows b a pool) (map (λ (r : Row). r.path) (filter (λ r. is_bridge r.decl) rs))
           → bus_rows b a pool r.path ++ flat_map (bus_rows b a pool) (map (λ (r : Row). r.path) rs) ≡ flat_map (bus_rows b a pool) (map (λ (r : Row). r.path) (cond v (r ∷ filter (λ r. is_bridge r.decl) rs) (filter (λ r. is_bridge r.decl) rs)))
-      by_kind true e more = ap (λ xs. bus_rows b a pool r.path ++ xs) more
-      by_kind false e more =
-          let none : bus_rows b a pool r.path ≡ [] = ap (λ (is : List Item). map (λ (s : Spot). record { path = r.path ++ s.item.part ∷ []; what = s.item.what; pool = pool; first = bus_first b a pool r.path + s.first; size = s.item.size }) (spots is)) (none_behind r (h r (inl refl)) e) in
-          ap (λ xs. xs ++ flat_map (bus_rows b a pool) (map (λ (r : Row). r.path) rs)) none ∙ more
+      by_kind v e more = grind (arith, none_behind)
 
   -- the rows of all functions' buses are those of the bridges' buses
   pub rows_by_bus : flat_map (bus_rows b a pool) ([] ∷ map (λ (r : Row). r.path) b) ≡ pool_rows b a pool

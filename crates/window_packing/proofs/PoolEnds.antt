@@ -1,36 +1,25 @@
 -- Where a pool fits, none of its buses ends above 2 ^ 63; where one does, bus 0 does.
-use Rattle.std.proofs.Common.{◌≡◌, ◌+◌, ◌<◌, ◌≤◌, ◌^◌, ◌⊎◌, inl, inr, Bool, true, false, List, [], ◌∷◌, Option, Some, None, refl, arith}
+use Rattle.std.proofs.Common.{◌≡◌, ◌<◌, ◌≤◌, ◌^◌, ◌⊎◌, inl, true, List, [], ◌∷◌, refl, arith}
 use Rattle.std.specs.Prelude.{IsFalse}
 use Rattle.std.proofs.lemmas.Bool.{leb-true}
-use Rattle.model_registers.specs.Apertures.{Aperture, IsLawfulApertures, IsPrefOption, Apertures}
+use Rattle.model_registers.specs.Apertures.{IsLawfulApertures, Apertures}
 use Rattle.lists.specs.Elements.{IsIn}
 use Rattle.model_board.specs.Paths.{Path, leads_to}
 use Rattle.model_board.specs.Board.{Board, IsBoard}
-use Rattle.model_set_up.specs.Pools.{Pool, io_pool, mem_pool, pref_pool}
-use Rattle.model_set_up.specs.Placement.{Item, in_order, end_from, root_first, aperture_end, fits_items, fits, items_on}
+use Rattle.model_set_up.specs.Pools.{Pool}
+use Rattle.model_set_up.specs.Placement.{Item, in_order, end_from, aperture_end, fits_items, fits, items_on}
 use Rattle.model_board.specs.Lawful.{HasLawfulDecls}
 use Rattle.model_set_up.proofs.Nesting.{HasItems, nested, IsWithin, root_has}
-use Rattle.std.specs.Option.{option_map_or}
 
 ends_below : (a : Apertures) → IsLawfulApertures a → (pool : Pool) → aperture_end a pool ≤ 2 ^ 63
-ends_below a h io_pool = let e = h.io.ends in omega arith
-ends_below a h mem_pool = let e = h.mem.ends in omega arith
-ends_below a h pref_pool = by_option a.mem a.pref h.pref
-  where
-    by_option : (mem : Aperture) (o : Option Aperture) → IsPrefOption mem o → option_map_or (λ (ap : Aperture). ap.last + 1) o 0 ≤ 2 ^ 63
-    by_option mem None k = omega arith
-    by_option mem (Some p) k = let e = k.ends in omega arith
+ends_below a h pool = grind arith
 
 module _ (b : Board) (a : Apertures) (pool : Pool) (board : IsBoard b) (lawful : HasLawfulDecls b) (apertures : IsLawfulApertures a) where
   root_ends : (is : List Item) → ((i : Item) × IsIn i is) → fits_items a pool is ≡ true → end_from 0 (in_order is) ≤ 2 ^ 63
-  root_ends [] (i, m) h = absurd m
-  root_ends (i ∷ is) m h =
-      let last : root_first a pool (i ∷ is) + end_from 0 (in_order (i ∷ is)) ≤ aperture_end a pool = leb-true (root_first a pool (i ∷ is) + end_from 0 (in_order (i ∷ is))) (aperture_end a pool) h in
-      omega (arith, last, ends_below a apertures pool)
+  root_ends is m h = grind (arith, leb-true, ends_below)
 
   from_root : (bus : Path) → ([] ≡ bus) ⊎ (leads_to [] bus ≡ true)
-  from_root [] = inl refl
-  from_root (x ∷ bus) = inr refl
+  from_root bus = grind arith
 
   bus_ends : fits b a pool ≡ true → (bus : Path) → HasItems b a pool bus → end_from 0 (in_order (items_on b a pool bus)) ≤ 2 ^ 63
   bus_ends h bus has =
@@ -47,11 +36,7 @@ module _ (b : Board) (a : Apertures) (pool : Pool) (board : IsBoard b) (lawful :
 
   -- so a pool with a bus that does doesn't fit
   pub no_fit : (bus : Path) → 2 ^ 63 < end_from 0 (in_order (items_on b a pool bus)) → IsFalse (fits b a pool)
-  no_fit bus h = by_test (fits b a pool) refl
-    where
-      by_test : (t : Bool) → fits b a pool ≡ t → IsFalse t
-      by_test true e = absurd (omega (arith, h, all_end e bus))
-      by_test false e = refl
+  no_fit bus h = grind (arith, all_end)
 
   -- bus 0 ends where the buses behind its bridges do, or above
   pub root_past : (bus : Path) → 2 ^ 63 < end_from 0 (in_order (items_on b a pool bus)) → 2 ^ 63 < end_from 0 (in_order (items_on b a pool []))

@@ -1,7 +1,6 @@
 -- The steps by which the buses of a pool are packed.
 use Rattle.std.proofs.Common.{◌≡◌, ℕ, zero, suc, ◌+◌, ◌-◌, ◌<◌, ◌≤◌, ◌^◌, Option, Some, List, [], ◌∷◌, ◌++◌, length, length-append, get_or, refl, sym, ap, ◌∙◌, subst, arith}
 use Rattle.std.specs.Prelude.{map, reverse, slice_get, slice_set, option_to_list}
-use Rattle.std.specs.List.{list_all}
 use Rattle.std.specs.List.Sorted.{IsPermutation}
 use Rattle.std.proofs.lemmas.List.{reverse-append}
 use Rattle.lists.specs.Elements.{Each}
@@ -9,7 +8,7 @@ use Rattle.lists.proofs.EachLemmas.{each_map, each_both}
 use Rattle.model_board.specs.Paths.{Path, parent}
 use Rattle.model_board.specs.Board.{Row, Board, IsBoard}
 use Rattle.model_board.specs.Lawful.{HasLawfulDecls}
-use Rattle.model_set_up.specs.Pools.{Pool, bridges_above, has_pref, has_pref64}
+use Rattle.model_set_up.specs.Pools.{Pool, bridges_above}
 use Rattle.model_registers.specs.Apertures.{Apertures}
 use Rattle.model_set_up.specs.Placement.{Item, items_of, items_on}
 use Rattle.lists.proofs.Indices.{map_at, each_at}
@@ -45,14 +44,7 @@ pub record IsAboveRow (b : Board) (r : Row) (x : Above) : Type 0 where
   pub over : IsOver (bridges_above b r.path) x
 
 pub above_row : (b : Board) (xs : List Above) (i : ℕ) (r : Row) (x : Above) → AreAbove b xs → slice_get b i ≡ Some r → slice_get xs i ≡ Some x → IsAboveRow b r x
-above_row b xs i r x h at there = record {
-  bus = maps_at (λ (y : Above). bus_path b y.bus) (λ (s : Row). parent s.path) xs b i x r h.buses there at;
-  within = each_at (λ (y : Above). y.bus ≤ length b) xs i x h.within there;
-  over = record {
-    pref = maps_at (λ (y : Above). y.pref) (λ (s : Row). list_all (λ d. has_pref d.pref) (bridges_above b s.path)) xs b i x r h.pref there at;
-    pref64 = maps_at (λ (y : Above). y.pref64) (λ (s : Row). list_all (λ d. has_pref64 d.pref) (bridges_above b s.path)) xs b i x r h.pref64 there at;
-  };
-}
+above_row b xs i r x h at there = grind (arith, maps_at, each_at)
 
 -- ---- one bus taken from those that are left
 
@@ -110,9 +102,7 @@ module _ (b : Board) (a : Apertures) (pool : Pool) (board : IsBoard b) {C : Type
 
   pub all_packed : (i : ℕ) (old : List C) (packs : List BusPack) (pack : BusPack) → i ≤ 0 → IsGathered b a pool contents i old packs → pack ≡ pack_of b a pool []
       → reverse (packs ++ pack ∷ []) ≡ map (pack_of b a pool) ([] ∷ map (λ (r : Row). r.path) b)
-  all_packed zero old packs pack none h is =
-      reverse-append packs (pack ∷ []) ∙ ap (λ (x : List BusPack). pack ∷ x) (h.packed ∙ map_twice b) ∙ ap (λ (x : BusPack). x ∷ map (pack_of b a pool) (map (λ (r : Row). r.path) b)) is
-  all_packed (suc i) old packs pack none h is = absurd (omega arith)
+  all_packed i old packs pack none h is = grind (arith, reverse-append, map_twice)
 
   pub all_bounded : HasLawfulDecls b → (i : ℕ) (old : List C) (packs : List BusPack) (pack : BusPack) → i ≤ 0 → IsGathered b a pool contents i old packs → pack ≡ pack_of b a pool [] → pack.end ≤ 2 ^ 63
       → Each IsBounded (reverse (packs ++ pack ∷ []))

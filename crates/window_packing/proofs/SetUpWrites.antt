@@ -1,26 +1,24 @@
 -- All settings of a numbered board, written in path order, leave the state of set-up.
-use Rattle.std.proofs.Common.{◌≡◌, ℕ, ◌+◌, ◌*◌, ◌/◌, ◌%◌, ◌<◌, ◌≤◌, ◌⊎◌, inl, inr, Bool, true, false, ◌&&◌, cond, List, [], ◌∷◌, ◌++◌, length, refl, sym, ap, ap₂, ◌∙◌, subst, arith, append_assoc, append-nil}
+use Rattle.std.proofs.Common.{◌≡◌, ℕ, ◌+◌, ◌<◌, ◌≤◌, ◌⊎◌, inl, inr, Bool, true, false, ◌&&◌, cond, List, [], ◌∷◌, ◌++◌, refl, sym, ap, ap₂, ◌∙◌, subst, arith, append_assoc, append-nil}
 use Rattle.std.specs.Prelude.{map, count_by}
 use Rattle.std.proofs.lemmas.List.{map-append}
 use Rattle.std.proofs.lemmas.Bool.{ne_eqb}
 use Rattle.lists.specs.Elements.{Each, EachPair, IsIn}
 use Rattle.model_registers.specs.Cell.{Cell, written}
-use Rattle.model_registers.specs.Registers.{Place, config, place_eq, File, cell_at, changed, write}
-use Rattle.model_registers.specs.ByteEnables.{lanes}
+use Rattle.model_registers.specs.Registers.{Place, place_eq, File, cell_at, changed}
 use Rattle.model_registers.specs.Declarations.{Bridge, Endpoint}
 use Rattle.model_registers.specs.DeclarationRules.{IsConfigBlock}
 use Rattle.model_registers.specs.BridgeTable.{BridgeValues, bridge_file}
 use Rattle.model_registers.proofs.RegisterFiles.{place_same}
-use Rattle.model_registers.proofs.Parts.{IsOutside}
 use Rattle.model_board.specs.Paths.{Path, path_eq, path_before, leads_to}
 use Rattle.model_board.specs.Board.{Board, Row, Decl, endpoint, bridge, is_bridge, is_bridge_at, is_multifunction}
 use Rattle.model_board.specs.BusNumbers.{secondary, subordinate, Enumerates}
 use Rattle.model_board.specs.State.{BoardFunction, State, row_at}
 use Rattle.model_set_up.specs.Reach.{address_of}
 use Rattle.model_registers.specs.Apertures.{Apertures}
-use Rattle.model_set_up.specs.SetUp.{first_of, bridge_values, set_up_file, set_up_state}
+use Rattle.model_set_up.specs.SetUp.{first_of, set_up_file, set_up_state}
 use Rattle.model_set_up.specs.SetUpWrites.{Setting, windows_of, writes_of, Plan, planned}
-use Rattle.model_set_up.specs.Scanning.{board_numbers, with_numbers, numbered_file, numbered_state, IsNumbered}
+use Rattle.model_set_up.specs.Scanning.{board_numbers, numbered_file, numbered_state, IsNumbered}
 use Rattle.model_set_up.specs.UniqueClaimant.{CanBePlaced}
 use Rattle.lists.proofs.Members.{each_in, each_from, any_in, in_front, in_back}
 use Rattle.lists.proofs.EachLemmas.{each_of_map, pairs_after}
@@ -48,48 +46,12 @@ change_elsewhere f p q (e ∷ es) h = by_place (place_eq e.place p) refl (change
   where
     by_place : (t : Bool) → place_eq e.place p ≡ t → cell_at (changed f p es) q ≡ cell_at es q
         → cell_at (cond t (record e { cell = f e.cell }) e ∷ changed f p es) q ≡ cell_at (e ∷ es) q
-    by_place false k rest = ap (cond (place_eq e.place q) e.cell) rest
-    by_place true k rest =
-        let other : place_eq e.place q ≡ false = subst (λ (x : Place). place_eq x q ≡ false) (sym (place_same e.place p k)) h in
-        rw other rest
-
-write_elsewhere : (ons : List Bool) (x a q : ℕ) (file : File) → IsOutside q a (length ons) → cell_at (write ons x (config a) file) (config q) ≡ cell_at file (config q)
-write_elsewhere [] x a q file h = refl
-write_elsewhere (true ∷ ons) x a q file h =
-    write_elsewhere ons (x / 256) (a + 1) q (changed (written (x % 256)) (config a) file) (later h)
-    ∙ change_elsewhere (written (x % 256)) (config a) (config q) file (ne_eqb a q (λ same. differs h same))
-  where
-    later : IsOutside q a (length (true ∷ ons)) → IsOutside q (a + 1) (length ons)
-    later (inl l) = inl (omega arith)
-    later (inr l) = inr (omega arith)
-
-    differs : IsOutside q a (length (true ∷ ons)) → a ≡ q → ⊥
-    differs (inl l) same = absurd (omega arith)
-    differs (inr l) same = absurd (omega arith)
-write_elsewhere (false ∷ ons) x a q file h = write_elsewhere ons (x / 256) (a + 1) q file (later h)
-  where
-    later : IsOutside q a (length (false ∷ ons)) → IsOutside q (a + 1) (length ons)
-    later (inl l) = inl (omega arith)
-    later (inr l) = inr (omega arith)
+    by_place t k rest = grind (arith, place_same)
 
 -- ---- bus numbers stay
 
 word_keeps : (d : Decl) (off enables value : ℕ) → (0x1a < off) ⊎ (off + 4 ≤ 0x19) → KeepsNumbers d (word off enables value)
-word_keeps d off enables value h k file = (
-  ap (λ (c : Cell). c.value + 256 * 0) (write_elsewhere (lanes enables) value off 0x19 file (outside 0x19 (lower h))),
-  ap (λ (c : Cell). c.value + 256 * 0) (write_elsewhere (lanes enables) value off 0x1a file (outside 0x1a (upper h))),
-)
-  where
-    outside : (q : ℕ) → (q < off) ⊎ (off + 4 ≤ q) → IsOutside q off 4
-    outside q h = h
-
-    lower : (0x1a < off) ⊎ (off + 4 ≤ 0x19) → (0x19 < off) ⊎ (off + 4 ≤ 0x19)
-    lower (inl l) = inl (omega arith)
-    lower (inr l) = inr l
-
-    upper : (0x1a < off) ⊎ (off + 4 ≤ 0x19) → (0x1a < off) ⊎ (off + 4 ≤ 0x1a)
-    upper (inl l) = inl l
-    upper (inr l) = inr (omega arith)
+word_keeps d off enables value h k file = grind (arith, change_elsewhere, ne_eqb)
 
 all_keep : (e : Endpoint) (ws : List WordWrite) → Each (KeepsNumbers (endpoint e)) ws
 all_keep e [] = tt
@@ -153,20 +115,14 @@ module _ (b : Board) (a : Apertures) (can : CanBePlaced b a) (few : Enumerates b
   bridge_there : (r : Row) → IsIn r b → is_bridge r.decl ≡ true → is_bridge_at b r.path ≡ true
   bridge_there r m h = any_in (λ (s : Row). is_bridge s.decl && path_eq s.path r.path) r b m (rw h (path_self r.path))
 
-  -- the registers of a bridge hold its numbers before and after
-  one_byte : (n : ℕ) → n < 256 → n % 256 + 256 * 0 ≡ n
-  one_byte n h = omega arith
-
   holds_routed : (d : Bridge) (p : Path) (r : BridgeValues) → r.secondary ≡ secondary b p → r.subordinate ≡ subordinate b p → Small b p → HoldsNumbers b (record { path = p; decl = bridge d; file = bridge_file d (is_multifunction b p) r })
-  holds_routed d p r e f small k = (ap (λ n. n % 256 + 256 * 0) e ∙ one_byte (secondary b p) small.first, ap (λ n. n % 256 + 256 * 0) f ∙ one_byte (subordinate b p) small.last)
+  holds_routed d p r e f small k = grind arith
 
   set_up_holds : (p : Path) (d : Decl) → (is_bridge d ≡ true → Small b p) → HoldsNumbers b (record { path = p; decl = d; file = set_up_file b a p d })
-  set_up_holds p (endpoint d) small k = cc
-  set_up_holds p (bridge d) small k = holds_routed d p (bridge_values b a p) refl refl (small refl) k
+  set_up_holds p d h = grind (arith, holds_routed)
 
   numbered_holds : (p : Path) (d : Decl) → (is_bridge d ≡ true → Small b p) → HoldsNumbers b (record { path = p; decl = d; file = numbered_file b (board_numbers b) p d })
-  numbered_holds p (endpoint d) small k = cc
-  numbered_holds p (bridge d) small k = holds_routed d p (with_numbers (board_numbers b p)) refl refl (small refl) k
+  numbered_holds p d h = grind (arith, holds_routed)
 
   small_at : (r : Row) → IsIn r b → is_bridge r.decl ≡ true → Small b r.path
   small_at r m h = numbers_small b few r.path (bridge_there r m h)

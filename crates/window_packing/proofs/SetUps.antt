@@ -1,6 +1,6 @@
 -- Set-up end to end, over the definitions: what scan, sizing, placement and programming leave is a board that is ready, and a refusal
 -- is the first broken rule.
-use Rattle.std.proofs.Common.{◌≡◌, ◌⊎◌, inl, inr, ℕ, Bool, true, false, List, [], ◌∷◌, Some, None, refl, sym, ap, ◌∙◌, subst}
+use Rattle.std.proofs.Common.{◌≡◌, ◌⊎◌, inl, inr, ℕ, Bool, true, List, [], ◌∷◌, Some, None, refl, sym, ap, ◌∙◌, subst, arith, rules}
 use Rattle.std.specs.Prelude.{nat_le, count_by, IsTrue}
 use Rattle.std.proofs.lemmas.Bool.{le-leb}
 use Rattle.model_registers.specs.DeclarationRules.{first_broken}
@@ -28,13 +28,11 @@ use Rattle.bus_scan.specs.Faults.{number_of}
 use Rattle.bus_scan.specs.SizedTables.{IsTableOf}
 use Rattle.window_packing.specs.Plans.{IsRefusal}
 use Rattle.window_packing.specs.Readies.{ReadyBoard, board_below, IsEnumerated, IsReady, OwnClaims}
-use Rattle.window_packing.proofs.Refusals.{all_kept}
 
 -- ---- rules
 
 kept_first : (n : ℕ) (t : Bool) (rules : List (ℕ × Bool)) → first_broken ((n, t) ∷ rules) ≡ None → (t ≡ true) × (first_broken rules ≡ None)
-kept_first n true rules h = (refl, h)
-kept_first n false rules h = cc
+kept_first n t rules h = grind arith
 
 -- a lawful board that keeps the rules of placement can be placed
 pub placeable : (b : Board) (a : Apertures) → IsBoard b → HasLawfulDecls b → IsLawfulApertures a → first_broken (placement_rules b a) ≡ None → CanBePlaced b a
@@ -49,6 +47,9 @@ placeable b a board lawful apertures h =
     room x y z io_pool = x
     room x y z mem_pool = y
     room x y z pref_pool = z
+
+all_kept : (b : Board) (a : Apertures) → has_io_paths b ≡ true → fits b a io_pool ≡ true → fits b a mem_pool ≡ true → fits b a pref_pool ≡ true → first_broken (placement_rules b a) ≡ None
+all_kept b a ways io mem pref = rw (ways, io, mem, pref) refl
 
 pub kept_placeable : (b : Board) (a : Apertures) → CanBePlaced b a → first_broken (placement_rules b a) ≡ None
 kept_placeable b a h = all_kept b a h.io_paths (h.room io_pool) (h.room mem_pool) (h.room pref_pool)
@@ -77,14 +78,7 @@ is_ready b a r can few host table plan =
     let P : Board → Type 0 = λ x. AreReady x a r.host.state r.table r.plan in
     let Q : Apertures → Type 0 = λ x. AreReady (board_below r.host) x r.host.state r.table r.plan in
     let facts = subst Q (sym same) (subst P (sym rows) whole) in
-    record {
-      placeable = facts.0;
-      few = facts.1;
-      registers = facts.2;
-      table = facts.3;
-      plan = facts.4;
-      lawful = subst (λ (p : Plan). IsLawful (board_below r.host) r.host.apertures p.rows) (sym facts.4) (rows_lawful (board_below r.host) r.host.apertures facts.0);
-    }
+    grind (arith, placeable, rows_lawful)
 
 pub own_claims : (r : ReadyBoard) → IsReady r → OwnClaims r.host
 own_claims r ready fs same =
@@ -127,9 +121,7 @@ module _ (h k : HostState) (t : List TableRow) (found : IsEnumerated h k t) (a :
     -- m is the host when it is programmed
     module _ (m : HostState) (left : m ≡ record k { state = set_up_state (board_below k) k.apertures }) where
       pub host_left : m ≡ record h { state = set_up_state (board_below h) h.apertures }
-      host_left =
-          left ∙ ap (λ (x : Board). record k { state = set_up_state x k.apertures }) found.board
-          ∙ ap (λ (x : HostState). record x { state = set_up_state (board_below h) x.apertures }) found.host
+      host_left = grind arith
 
       pub board_left : board_below m ≡ board_below h
       board_left = ap board_below host_left ∙ set_up_rows (board_below h) h.apertures

@@ -8,7 +8,7 @@ use Rattle.std.proofs.lemmas.Bool.Decides.{nat_tests}
 use Rattle.std.proofs.lemmas.Option.{slice_get_within}
 use Rattle.lists.specs.Elements.{Each, EachPair}
 use Rattle.model_board.specs.Paths.{Part, part_eq}
-use Rattle.model_set_up.specs.Placement.{Placed, a_region, a_window, same_placed, register_of, Item, Spot, stands_before, is_item, offset_in}
+use Rattle.model_set_up.specs.Placement.{Placed, same_placed, register_of, Item, Spot, stands_before, is_item, offset_in}
 use Rattle.model_board.proofs.PathOrder.{part_same}
 use Rattle.lists.proofs.Indices.{at_below, each_at, pair_at}
 use Rattle.model_set_up.proofs.ItemOrder.{one_way}
@@ -70,10 +70,7 @@ module _ (ss : List Spot) (key : Item) (strict : AreStrict ss) where
 
   module _ (align : Each (λ s. IsTrue (is_item key.part key.what s.item) → s.item.align ≡ key.align) ss) (n : ℕ) (first : IsFirstFrom ss key n) where
     same_register : (v w : Placed) → same_placed v w ≡ true → register_of v ≡ register_of w
-    same_register (a_region x) (a_region y) h = grind (arith, nat_tests)
-    same_register (a_region x) a_window h = cc
-    same_register a_window (a_region y) h = cc
-    same_register a_window a_window h = refl
+    same_register v w h = grind (arith, nat_tests)
 
     -- an item of the same region or window has the key's place in the order
     like : (i : Item) (k : ℕ) (t : Spot) → slice_get ss k ≡ Some t → is_item key.part key.what t.item ≡ true → stands_before i t.item ≡ stands_before i key
@@ -82,10 +79,7 @@ module _ (ss : List Spot) (key : Item) (strict : AreStrict ss) where
         before_like i t.item key (each_at (λ s. IsTrue (is_item key.part key.what s.item) → s.item.align ≡ key.align) ss k t align e h) (part_same t.item.part key.part parts.0) (same_register t.item.what key.what parts.1)
 
     irreflexive : (i : Item) → stands_before i i ≡ true → ⊥
-    irreflexive i h = absurd (no i h)
-      where
-        no : (i : Item) → stands_before i i ≡ true → ⊥
-        no i h = grind (arith, nat_tests)
+    irreflexive i h = grind (arith, nat_tests)
 
     -- so it stands where the search ends
     only_there : (k : ℕ) (t : Spot) → slice_get ss k ≡ Some t → is_item key.part key.what t.item ≡ true → k ≡ n

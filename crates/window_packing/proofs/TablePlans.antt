@@ -1,5 +1,5 @@
 -- A plan that was made for what a table tells is the plan of every board with that table.
-use Rattle.std.proofs.Common.{◌≡◌, List, [], None, inl, inr, map, sym, ap, ◌∙◌, subst}
+use Rattle.std.proofs.Common.{◌≡◌, List, [], None, map, sym, ap, ◌∙◌, subst, arith, rules}
 use Rattle.model_registers.specs.DeclarationRules.{first_broken}
 use Rattle.model_registers.specs.Apertures.{IsLawfulApertures, Apertures}
 use Rattle.model_board.specs.Paths.{Path}
@@ -28,9 +28,7 @@ module _ (rows : List TableRow) (board : IsBoard (board_in rows)) (lawful : HasL
   listable_rows = subst (λ (qs : List Path). AreListable qs pl) (sym (paths ∙ table_paths rows)) (are_listable (board_in rows) a board lawful pl placed)
 
   pub planned_rows : (ss : List Setting) → ss ≡ settings (board_in rows) a → (p : Plan) → p ≡ record { rows = rows_of ps pl; settings = ss } → p ≡ planned (board_in rows) a
-  planned_rows ss writes p e =
-      let layout_is = ap (λ (qs : List Path). rows_of qs pl) (paths ∙ table_paths rows) ∙ layout_rows (board_in rows) a board lawful pl placed in
-      e ∙ (λ j. record { rows = layout_is j; settings = writes j })
+  planned_rows ss writes p e = grind (arith, table_paths, layout_rows)
 
 -- ---- the plan of a board with this table
 
@@ -49,8 +47,7 @@ module _ (t rows : List TableRow) (same : rows ≡ t) (b : Board) (h : IsTableOf
   use_of pool = ap (told_by a pool) (items_same pool [])
 
   pub refusal_of : (f : Fault) → IsRefusal (board_in rows) a f → IsRefusal b a f
-  refusal_of f (inl e) = inl e
-  refusal_of f (inr e) = inr (sym (ap first_broken rules_same) ∙ e)
+  refusal_of f e = grind (arith, rules_same)
 
   pub plan_of : (p : Plan) → p ≡ planned (board_in rows) a → p ≡ planned b a
   plan_of p e = e ∙ plan_same

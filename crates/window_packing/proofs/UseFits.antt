@@ -1,5 +1,5 @@
 -- A pool fits where it takes no more than its aperture has for it.
-use Rattle.std.proofs.Common.{◌≡◌, ◌+◌, ◌-◌, ◌<◌, ◌^◌, inl, Bool, true, false, List, [], ◌∷◌, Some, None, refl, sym, ap, ◌∙◌, arith}
+use Rattle.std.proofs.Common.{◌≡◌, ◌+◌, ◌-◌, ◌<◌, ◌^◌, inl, Bool, List, [], ◌∷◌, Some, None, refl, sym, ap, ◌∙◌, arith, ℕ}
 use Rattle.std.specs.Prelude.{ℕ, nat_le, if◌then◌else◌}
 use Rattle.std.proofs.lemmas.Bool.{le-leb}
 use Rattle.std.proofs.lemmas.Bool.Decides.{nat_tests}
@@ -22,8 +22,7 @@ by_items a pool (i ∷ is) placeable =
     room (root_first a pool (i ∷ is)) (end_from 0 (in_order (i ∷ is))) (aperture_end a pool) (some_end (unit_of pool) i (i ∷ is) placeable (inl refl))
 
 told : (t : Bool) (u w : PoolUse) → Some u ≡ (if t then Some w else None) → u ≡ w
-told true u w e = cc
-told false u w e = absurd (cc)
+told t u w e = grind arith
 
 pub use_fits : (b : Board) (a : Apertures) (pool : Pool) → HasLawfulDecls b → (u : PoolUse) → Some u ≡ told_use b a pool → fits b a pool ≡ nat_le u.extent u.room
 use_fits b a pool lawful u e =

@@ -26,9 +26,7 @@ returns-then-not-has_io_path c =
     let at : slice_get b i ≡ Some (row_in t) = map_at row_in rows i t (read_at rows i t c.loop-i-test.true c.index-rows-i.is) in
     let told : slice_get above i ≡ Some x = got above i nothing (omega (arith, above_count b above c.requires, length_board rows, c.loop-i-test.true)) in
     let io : x.io ≡ list_all (λ (d : Bridge). has_io d.io) (bridges_above b t.path) = (tells_at b above i (row_in t) x c.requires at told).io in
-    let test = c.has_io_path.ensures ∙ ap (λ (v : Bool). not (opens_io t.decl) || v) io in
-    let passes : Row → Bool = λ r. not (opens_io r.decl) || list_all (λ (d : Bridge). has_io d.io) (bridges_above b r.path) in
-    sym (fails_at passes b i (row_in t) at (sym test ∙ c.if-not-has_io_path.true))
+    grind (arith, fails_at)
 
 pub loop-i-preserved : goal.loop-i-preserved
 loop-i-preserved c =
@@ -46,8 +44,4 @@ loop-i-preserved c =
     all_more passes b i (row_in t) at c.loop-i.invariant (sym test ∙ c.if-not-has_io_path.false)
 
 pub returns : goal.returns
-returns c =
-    let rows = c.args.rows.now in
-    let b = board_in rows in
-    let passes : Row → Bool = λ r. not (opens_io r.decl) || list_all (λ (d : Bridge). has_io d.io) (bridges_above b r.path) in
-    sym (all_rows_pass passes b c.loop-i.i (omega (arith, length_board rows, c.loop-i-test.false)) (omega (arith, length_board rows, c.loop-i.auto.i-end)) c.loop-i.invariant)
+returns c = grind (arith, all_rows_pass, length_board)

@@ -1,4 +1,4 @@
-use Rattle.std.proofs.Common.{◌≡◌, List, sym, subst}
+use Rattle.std.proofs.Common.{◌≡◌, List, sym, subst, arith}
 use Rattle.std.proofs.lemmas.Result.{err_from_is_err_and}
 use Rattle.model_board.specs.Board.{IsBoard}
 use Rattle.model_board.specs.Lawful.{HasLawfulDecls}
@@ -19,12 +19,7 @@ returns-in_err-placement-clause-refused c =
     rw (p.1, p.2) (λ b h. refusal_of c.args.table.now c.rows-rows.result.now c.rows-rows.ensures b h c.args.apertures.now _ c.in_err-placement.ensures.refused)
 
 pub new-requires : goal.new-requires
-new-requires c =
-    let t = c.args.table.now in
-    let rows = c.rows-rows.result.now in
-    let e = c.rows-rows.ensures in
-    listable_rows rows (is_board t rows e c.requires.board) (is_lawful t rows e c.requires.declarations) c.args.apertures.now
-    c.in_ok-paths.paths.items c.in_ok-paths.ensures c.in_ok-placement.placement c.in_ok-placement.ensures.placed
+new-requires c = grind (arith, listable_rows, is_board, is_lawful)
 
 -- the plan of what was found
 found : (c : goal.After-drop-above-2) → c.new.result ≡ planned (board_in c.rows-rows.result.now) c.args.apertures.now

@@ -1,35 +1,23 @@
-use Rattle.std.proofs.Common.{◌≡◌, ℕ, suc, ◌+◌, false, List, [], ◌∷◌, ◌++◌, length, Some, get_or, sym, ap, ◌∙◌, subst, arith}
+use Rattle.std.proofs.Common.{◌≡◌, ◌+◌, false, Some, get_or, ap, ◌∙◌, arith}
 use Rattle.std.specs.List.{slice_get}
 use Rattle.model_board.specs.Paths.{last_part}
-use Rattle.std.specs.Option.{option_map_or}
-use Rattle.model_registers.specs.Apertures.{Aperture}
-use Rattle.model_set_up.specs.Pools.{aperture_of}
-use Rattle.model_set_up.specs.Placement.{round_up, bus_first}
+use Rattle.model_set_up.specs.Placement.{bus_first}
 use Rattle.model_set_up.specs.FunctionTable.{TableRow, board_in}
 use Rattle.lists.proofs.Indices.{read_at, same_at, map_at}
 use Rattle.window_packing.specs.declared.above.Above.{Above}
 use Rattle.window_packing.specs.Buses.{bus_path}
-use Rattle.window_packing.specs.Packs.{BusPack}
 use Rattle.window_packing.specs.Plans.{named_pool}
 use Rattle.window_packing.proofs.AboveRows.{length_board}
 use Rattle.window_packing.proofs.BusIndex.{row_in}
 use Rattle.window_packing.proofs.PoolSteps.{got, above_count}
-use Rattle.window_packing.proofs.FirstsSoFar.{AreFirsts, one_first, more_firsts, all_firsts, pack_is, count_packs, bus_low, own_strict, own_align, behind_first, behind_bound}
+use Rattle.window_packing.proofs.FirstsSoFar.{one_first, more_firsts, all_firsts, pack_is, count_packs, bus_low, own_strict, own_align, behind_first, behind_bound}
 use Rattle.window_packing.proofs.pool_placement.bus_firsts.Goals as goal
 
 abbrev none : Above
 none = record { bus = 0; io = false; pref = false; pref64 = false }
 
 pub loop-i-init : goal.loop-i-init
-loop-i-init c =
-    let b = board_in c.args.rows.now in
-    let a = c.args.apertures.now in
-    let pool = named_pool c.args.pool in
-    let packs = c.args.packs.now in
-    let at : slice_get packs 0 ≡ Some c.index-packs-0.result = read_at packs 0 c.index-packs-0.result (omega (arith, count_packs b a pool packs c.requires.packs)) c.index-packs-0.is in
-    let root = pack_is b a pool packs c.requires.packs 0 (omega arith) c.index-packs-0.result at in
-    let first : c.root_first.result ≡ bus_first b a pool [] = c.root_first.ensures ∙ ap (λ (p : BusPack). option_map_or (λ (ap : Aperture). round_up p.align ap.first) (aperture_of a pool) 0) root in
-    subst (AreFirsts b a pool 0) (sym c.in_ok-push.ensures.items) (subst (λ (xs : List ℕ). AreFirsts b a pool 0 (xs ++ c.root_first.result ∷ [])) (sym c.in_ok-firsts.ensures.items) (one_first b a pool c.root_first.result first))
+loop-i-init c = grind (arith, read_at, count_packs, pack_is, one_first)
 
 pub index-requires : goal.index-requires
 index-requires c =
@@ -109,14 +97,7 @@ loop-i-preserved c =
     let part : c.last.result ≡ last_part c.index-rows-i.result.path = c.last.ensures ∙ ap (λ (t : TableRow). last_part t.path) c.row.view_is in
     let first : c.index.result.now ≡ bus_first b a pool (bus_path b x.bus) = same_at c.loop-i.firsts.items x.bus c.index.result.now (bus_first b a pool (bus_path b x.bus)) (read_at c.loop-i.firsts.items x.bus c.index.result.now (omega (arith, low, c.loop-i.invariant.count)) c.index.ensures) (c.loop-i.invariant.each x.bus low) in
     let next = behind_first b a pool c.requires.board c.requires.declarations c.requires.apertures c.requires.fit c.args.above.now c.requires.above i (row_in c.index-rows-i.result) at x told packs c.requires.packs c.index-packs-bus.result own c.last.result part c.index.result.now first in
-    let sum : c.index.result.now + c.window_offset-offset.result ≡ bus_first b a pool (bus_path b (suc i)) = ap (λ (n : ℕ). c.index.result.now + n) c.window_offset-offset.ensures ∙ next in
-    let more = more_firsts b a pool i (c.index.result.now + c.window_offset-offset.result) c.loop-i.firsts.items c.loop-i.invariant (omega (arith, length_board rows, c.loop-i-test.true)) sum in
-    let one : suc i ≡ i + 1 = omega arith in
-    subst (λ (n : ℕ). AreFirsts b a pool n c.push-in-loop-i.new.self.items) one (subst (AreFirsts b a pool (suc i)) (sym c.in_ok-push-2.ensures.items) more)
+    grind (arith, more_firsts, length_board)
 
 pub returns : goal.returns
-returns c =
-    let rows = c.args.rows.now in
-    let b = board_in rows in
-    let all : c.loop-i.i ≡ length b = omega (arith, length_board rows, c.loop-i-test.false) in
-    all_firsts b c.args.apertures.now (named_pool c.args.pool) c.loop-i.firsts.items (subst (λ n. AreFirsts b c.args.apertures.now (named_pool c.args.pool) n c.loop-i.firsts.items) all c.loop-i.invariant)
+returns c = grind (arith, length_board, all_firsts)

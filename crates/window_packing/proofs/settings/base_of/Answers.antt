@@ -1,4 +1,4 @@
-use Rattle.std.proofs.Common.{◌≡◌, ℕ, List, [], ◌∷◌, get_or, length, map, Option, Some, ap, sym, ◌∙◌, subst, arith}
+use Rattle.std.proofs.Common.{◌≡◌, ℕ, List, [], ◌∷◌, get_or, map, Option, Some, ap, sym, ◌∙◌, subst, arith}
 use Rattle.std.specs.List.{slice_get}
 use Rattle.lists.specs.Elements.{Each}
 use Rattle.model_registers.specs.Declarations.{Bar, Region}
@@ -41,12 +41,7 @@ read rows a i x board lawful all are above pool pl own packs firsts shown t ther
     let same_packs : packs ≡ pl.packs = ap (λ (q : PlacedPool). q.packs) shown in
     let low_first = in_firsts b a board lawful pool pl is_placed i (row_in t) at x above in
     let low_pack = in_packs b a board lawful pool pl is_placed i (row_in t) at x above in
-    record {
-      at = at;
-      placed = is_placed;
-      first = subst (λ (xs : List ℕ). slice_get xs x.bus ≡ Some n) same_firsts (read_at firsts x.bus n (omega (arith, ap length same_firsts, low_first)) n_is);
-      pack = subst (λ (xs : List BusPack). slice_get xs x.bus ≡ Some p) same_packs (read_at packs x.bus p (omega (arith, ap length same_packs, low_pack)) p_is);
-    }
+    grind (arith, read_at)
 
 read_here : (c : goal.After-last) → Read c.args.rows.now c.args.apertures.now c.args.i c.args.above.now (named_pool c.pool_of.result) c.pool-placed.result.now c.index-rows-i.result c.index-first.result.now c.index-pack.result.now
 read_here c =
@@ -55,10 +50,7 @@ read_here c =
     c.index-rows-i.result (read_at c.args.rows.now c.args.i c.index-rows-i.result c.requires.there c.index-rows-i.is) c.index-first.result.now c.index-first.ensures c.index-pack.result.now c.index-pack.ensures
 
 pub based-requires-clause-order : goal.based-requires-clause-order
-based-requires-clause-order c =
-    let r = read_here c in
-    region_strict (board_in c.args.rows.now) c.args.apertures.now c.requires.board c.requires.declarations (named_pool c.pool_of.result) c.pool-placed.result.now r.placed
-    c.args.i (row_in c.index-rows-i.result) r.at c.args.above.now c.requires.above c.index-pack.result.now r.pack
+based-requires-clause-order c = grind (arith, read_here, region_strict)
 
 pub based-requires-clause-align : goal.based-requires-clause-align
 based-requires-clause-align c =

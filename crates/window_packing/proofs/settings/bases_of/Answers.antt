@@ -1,11 +1,9 @@
-use Rattle.std.proofs.Common.{◌≡◌, ℕ, ◌+◌, [], ◌∷◌, length, map, take, get_or, Some, sym, ◌∙◌, subst, arith}
-use Rattle.std.specs.List.{slice_get, slice_set}
+use Rattle.std.proofs.Common.{◌≡◌, ℕ, ◌+◌, [], ◌∷◌, get_or, Some, subst, arith}
+use Rattle.std.specs.List.{slice_get}
 use Rattle.std.proofs.lemmas.List.{length-set}
 use Rattle.lists.specs.Elements.{IsIn}
-use Rattle.model_set_up.specs.SetUpWrites.{placed_base}
 use Rattle.model_set_up.specs.FunctionTable.{board_in}
 use Rattle.lists.proofs.Members.{each_in, each_from}
-use Rattle.bars.specs.Slots.{bases_from}
 use Rattle.bus_scan.specs.Rows.{regions_of}
 use Rattle.window_packing.specs.Packs.{regions_from}
 use Rattle.window_packing.specs.Placed.{IsRegionAt}
@@ -24,18 +22,4 @@ base_of-requires-clause-found c =
     each_from (IsRegionAt b c.args.i) (regions_from i (o ∷ [])) (λ k m. each_in (IsRegionAt b c.args.i) k (regions_of bars) c.requires.found (region_among 0 bars i o e k (subst (λ (j : ℕ). IsIn k (regions_from j (o ∷ []))) z m)))
 
 pub loop-index-preserved : goal.loop-index-preserved
-loop-index-preserved c =
-    let b = board_in c.args.rows.now in
-    let bars = c.args.bars.now in
-    let bases = c.loop-index.bases in
-    let i = c.loop-index.index in
-    let o = get_or bars c.from-at.result c.index-bars-at.result in
-    let e : slice_get bars i ≡ Some o = subst (λ (j : ℕ). slice_get bars j ≡ Some o) c.from-at.ensures (got bars c.from-at.result c.index-bars-at.result (omega arith)) in
-    let same : length bases ≡ length bars = omega (arith, c.loop-index.invariant.count) in
-    record {
-      count = length-set bases c.from-at.result c.base_of.result ∙ c.loop-index.invariant.count;
-      told = λ r at.
-          let f = placed_base b c.args.apertures.now r.path in
-          subst (λ (j : ℕ). bases_from 0 (take (i + 1) (slice_set bases j c.base_of.result)) ≡ map f (regions_from 0 (take (i + 1) bars))) (sym c.from-at.ensures)
-          (push_told f bars bases i c.base_of.result o same e (c.loop-index.invariant.told r at) (c.base_of.ensures r at));
-    }
+loop-index-preserved c = grind (arith, got, length-set, push_told)

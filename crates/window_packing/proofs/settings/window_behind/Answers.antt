@@ -1,4 +1,4 @@
-use Rattle.std.proofs.Common.{◌≡◌, ◌+◌, ◌<◌, List, ℕ, get_or, length, Some, ap, ◌∙◌, subst, arith}
+use Rattle.std.proofs.Common.{◌≡◌, ◌+◌, ◌<◌, List, ℕ, get_or, length, Some, ap, ◌∙◌, arith}
 use Rattle.std.specs.List.{slice_get}
 use Rattle.model_registers.specs.Apertures.{Apertures}
 use Rattle.model_board.specs.Board.{IsBoard}
@@ -23,16 +23,7 @@ record Read (i : ℕ) (pl : PlacedPool) (n : ℕ) (p : BusPack) : Type 0 where
 read : (rows : List TableRow) (a : Apertures) → IsBoard (board_in rows) → HasLawfulDecls (board_in rows) → (pool : Pool) (pl : PlacedPool) → IsPlaced (board_in rows) a pool pl → (i : ℕ) → i < length rows
     → (packs : List BusPack) (firsts : List ℕ) → (let shown : PlacedPool = record { packs = packs; firsts = firsts } in shown ≡ pl)
     → (n : ℕ) → n ≡ get_or firsts (i + 1) n → (p : BusPack) → p ≡ get_or packs (i + 1) p → Read i pl n p
-read rows a board lawful pool pl placed i there packs firsts shown n n_is p p_is =
-    let b = board_in rows in
-    let same_firsts : firsts ≡ pl.firsts = ap (λ (q : PlacedPool). q.firsts) shown in
-    let same_packs : packs ≡ pl.packs = ap (λ (q : PlacedPool). q.packs) shown in
-    let all_firsts = count_firsts b a board lawful pool pl placed in
-    let all_packs = count_pl b a board lawful pool pl placed in
-    record {
-      first = subst (λ (xs : List ℕ). slice_get xs (i + 1) ≡ Some n) same_firsts (read_at firsts (i + 1) n (omega (arith, ap length same_firsts, all_firsts, length_board rows, there)) n_is);
-      pack = subst (λ (xs : List BusPack). slice_get xs (i + 1) ≡ Some p) same_packs (read_at packs (i + 1) p (omega (arith, ap length same_packs, all_packs, length_board rows, there)) p_is);
-    }
+read rows a board lawful pool pl placed i there packs firsts shown n n_is p p_is = grind (arith, count_firsts, count_pl, read_at, length_board)
 
 pub window_of-requires-clause-some : goal.window_of-requires-clause-some
 window_of-requires-clause-some c =

@@ -1,7 +1,6 @@
-use Rattle.std.proofs.Common.{◌≡◌, ℕ, ◌+◌, ◌*◌, ◌^◌, ◌≤◌, ◌<◌, [], length, sym, ap, ap₂, ◌∙◌, arith}
+use Rattle.std.proofs.Common.{◌≡◌, ℕ, ◌+◌, ◌^◌, ◌≤◌, ◌<◌, [], length, ap, ap₂, ◌∙◌, arith}
 use Rattle.std.proofs.lemmas.Bool.Decides.{nat_tests}
 use Rattle.lists.specs.Elements.{Each}
-use Rattle.model_registers.specs.BridgeTable.{Window}
 use Rattle.model_set_up.specs.Pools.{unit_of}
 use Rattle.model_set_up.specs.Placement.{round_up}
 use Rattle.model_set_up.proofs.Packing.{round_up_not_before}
@@ -13,12 +12,7 @@ use Rattle.window_packing.proofs.PlacedFunctions.{holds_of_some, span_none}
 use Rattle.window_packing.proofs.settings.window_of.Goals as goal
 
 pub returns-then-is_empty : goal.returns-then-is_empty
-returns-then-is_empty c = λ is e.
-    let unit = unit_of (named_pool c.args.pool) in
-    let n : length c.pack.inside.spots.items ≡ 0 = grind (arith, nat_tests, c.pack.inside.spots.ok) in
-    let none : c.args.pack.now.spots ≡ [] = ap (λ (p : BusPack). p.spots) (sym c.pack.view_is) ∙ empty_if c.pack.inside.spots.items n in
-    let closed = ap (λ (k : ℕ). let s : Window = record { first = c.args.closed * k; last = 0 } in s) c.unit-unit.ensures in
-    closed ∙ sym (span_none unit c.args.closed c.args.first is (ap (λ (p : BusPack). p.spots) (sym e) ∙ none))
+returns-then-is_empty c = grind (arith, nat_tests, empty_if, span_none)
 
 -- the window of a bus with items has a size, and room
 record HasRoom (first unit end : ℕ) : Type 0 where
@@ -37,9 +31,7 @@ pub round_up-requires-clause-room : goal.round_up-requires-clause-room
 round_up-requires-clause-room c =
     let unit = unit_of (named_pool c.args.pool) in
     let fits = has_room c.args.first unit c.args.pack.now _ c.pack.view_is (λ n. grind (arith, nat_tests, c.pack.inside.spots.ok, n)) c.requires.some c.requires.room in
-    let bounds = alignment_bounds (named_pool c.args.pool) [] tt in
-    let end : c.args.pack.now.end ≤ round_up unit c.args.pack.now.end = round_up_not_before unit c.args.pack.now.end bounds.0 in
-    omega (arith, bounds.1, end, fits.room, ap (λ (p : BusPack). p.end) c.pack.view_is, c.unit-unit.ensures)
+    grind (arith, alignment_bounds, round_up_not_before)
 
 pub overflow_add-result : goal.overflow_add-result
 overflow_add-result c =

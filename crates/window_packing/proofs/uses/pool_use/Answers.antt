@@ -1,4 +1,4 @@
-use Rattle.std.proofs.Common.{◌≡◌, ◌∙◌, Option, Some, None, Result, Ok, Err, List}
+use Rattle.std.proofs.Common.{◌≡◌, Option, Result, List, arith}
 use Rattle.std.specs.Prelude.{IfOk, IfSome, nat_le}
 use Rattle.model_registers.specs.Apertures.{Apertures}
 use Rattle.model_board.specs.Board.{Board}
@@ -15,14 +15,11 @@ use Rattle.window_packing.proofs.uses.pool_use.Goals as goal
 
 module _ {E : Type 0} (t rows : List TableRow) (same : rows ≡ t) (a : Apertures) (pool : Pool) where
   of_all : (r : Result (Option PoolUse) E) → IfOk r (λ u. u ≡ told_use (board_in rows) a pool) → IfOk r (λ u. (b : Board) → IsTableOf b t → u ≡ told_use b a pool)
-  of_all (Ok u) is = λ b h. is ∙ use_of t rows same b h a pool
-  of_all (Err e) is = tt
+  of_all r is = grind (arith, use_of)
 
   fit_all : (r : Result (Option PoolUse) E) → IfOk r (λ u. u ≡ told_use (board_in rows) a pool)
       → IfOk r (λ o. IfSome o (λ u. (b : Board) → IsTableOf b t → fits b a pool ≡ nat_le u.extent u.room))
-  fit_all (Ok (Some u)) is = λ b h. use_fits b a pool h.declarations u (is ∙ use_of t rows same b h a pool)
-  fit_all (Ok None) is = tt
-  fit_all (Err e) is = tt
+  fit_all r is = grind (arith, use_fits, use_of)
 
 pub returns-clause-value : goal.returns-clause-value
 returns-clause-value c = of_all c.args.table.now c.rows-rows.result.now c.rows-rows.ensures c.args.apertures.now (named_pool c.args.pool) c.rows_use.result c.rows_use.ensures

@@ -1,11 +1,9 @@
-use Rattle.std.proofs.Common.{◌≡◌, ◌^◌, true, List, [], get_or, Some, ap, ◌∙◌, subst}
-use Rattle.std.specs.Prelude.{nat_le}
+use Rattle.std.proofs.Common.{◌≡◌, List, [], get_or, Some, arith}
 use Rattle.std.proofs.lemmas.Bool.{le-leb}
 use Rattle.lists.specs.Elements.{Each}
 use Rattle.model_board.specs.Board.{Board}
 use Rattle.model_registers.specs.Apertures.{Apertures}
 use Rattle.model_set_up.specs.Pools.{Pool}
-use Rattle.model_set_up.specs.Placement.{in_order, end_from, items_on}
 use Rattle.model_set_up.specs.FunctionTable.{board_in}
 use Rattle.window_packing.specs.declared.uses.PoolUse.{PoolUse}
 use Rattle.window_packing.specs.Packs.{BusPack, IsBounded, pack_of, packs_of}
@@ -16,11 +14,7 @@ use Rattle.window_packing.proofs.uses.rows_use.Goals as goal
 -- the first of the packs is that of bus 0
 told_first : (b : Board) (a : Apertures) (pool : Pool) (packs : List BusPack) (root : BusPack) (u : PoolUse) → packs ≡ packs_of b a pool → Each IsBounded packs
     → root ≡ get_or packs 0 root → (root ≡ pack_of b a pool [] → u ≡ pool_use b a pool) → Some u ≡ told_use b a pool
-told_first b a pool packs root u are bounded at told =
-    let first : root ≡ pack_of b a pool [] = at ∙ ap (λ (ps : List BusPack). get_or ps 0 root) are in
-    let each : Each IsBounded (packs_of b a pool) = subst (Each IsBounded) are bounded in
-    let test : nat_le (end_from 0 (in_order (items_on b a pool []))) (2 ^ 63) ≡ true = le-leb (end_from 0 (in_order (items_on b a pool []))) (2 ^ 63) each.0.ends in
-    rw test (ap Some (told first))
+told_first b a pool packs root u are bounded at told = grind (arith, le-leb)
 
 pub returns-in-Some : goal.returns-in-Some
 returns-in-Some c =
