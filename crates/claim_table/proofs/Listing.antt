@@ -1,6 +1,6 @@
 -- Some regions that share no address, as a table lists them: its entries stand apart, and its claims are theirs.
 --     IsSortedOf es fs      fs has the entries es, by first address
-use Rattle.std.proofs.Common.{◌≡◌, ℕ, ◌<◌, ◌⊎◌, inl, inr, true, List, [], ◌∷◌, ◌++◌, length, refl, sym, ap, ap₂, ◌∙◌, subst}
+use Rattle.std.proofs.Common.{◌≡◌, ℕ, ◌<◌, ◌⊎◌, inl, inr, true, List, [], ◌∷◌, ◌++◌, length, sym, ap, ap₂, ◌∙◌, subst, arith}
 use Rattle.std.specs.Prelude.{map, filter, ◌↔◌}
 use Rattle.std.specs.List.Sorted.{IsPermutation, IsNonDecreasingBy}
 use Rattle.std.proofs.lemmas.List.{map-append}
@@ -67,8 +67,7 @@ module _ (ps : List Path) (rs : List PlacedRegion) (all_of : Space → List Regi
     placed_of space fs perm q m =
         let f = from_map (region_of ps space) q fs m in
         let k : IsIn (region_of ps space f.0) (map (region_of ps space) (all_of space)) = in_map (region_of ps space) f.0 (all_of space) (moved (all_of space) fs perm f.0 f.1) in
-        let l : IsIn (region_of ps space f.0) (filter (is_of space) rs) = subst (IsIn (region_of ps space f.0)) (of.regions space) k in
-        subst (λ (x : PlacedRegion). IsIn x rs) (sym f.2) (from_filter (is_of space) (region_of ps space f.0) rs l).0
+        grind (arith, from_filter)
 
     listed_in : (space : Space) (fs : List RegionEntry) → IsPermutation (all_of space) fs → (q : PlacedRegion) → IsIn q rs → same_space q.space space ≡ true → IsIn q (map (region_of ps space) fs)
     listed_in space fs perm q m here =
@@ -77,8 +76,7 @@ module _ (ps : List Path) (rs : List PlacedRegion) (all_of : Space → List Regi
         subst (λ (x : PlacedRegion). IsIn x (map (region_of ps space) fs)) (sym f.2) (in_map (region_of ps space) f.0 fs (moved_back (all_of space) fs perm f.0 f.1))
 
     of_either : (s : Space) → (same_space s io ≡ true) ⊎ (same_space s memory ≡ true)
-    of_either io = inl refl
-    of_either memory = inr refl
+    of_either s = grind arith
 
     same_regions : (q : PlacedRegion) → IsIn q listed ↔ IsIn q rs
     same_regions q = (λ m. by_part (front_or_back q (map (region_of ps io) ports) (map (region_of ps memory) mems) m), λ m. by_space m (of_either q.space))
@@ -88,8 +86,7 @@ module _ (ps : List Path) (rs : List PlacedRegion) (all_of : Space → List Regi
         by_part (inr m) = placed_of memory mems hm.all q m
 
         by_space : IsIn q rs → (same_space q.space io ≡ true) ⊎ (same_space q.space memory ≡ true) → IsIn q listed
-        by_space m (inl here) = in_front q (map (region_of ps io) ports) (map (region_of ps memory) mems) (listed_in io ports hp.all q m here)
-        by_space m (inr here) = in_back q (map (region_of ps io) ports) (map (region_of ps memory) mems) (listed_in memory mems hm.all q m here)
+        by_space m here = grind (arith, in_front, listed_in, in_back)
 
     regions_listed : map (λ (e : TableEntry). e.region) (table_of ps ports mems) ≡ listed
     regions_listed =

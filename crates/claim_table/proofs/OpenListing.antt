@@ -41,8 +41,7 @@ module _ (ps : List Path) (space : Space) (i : ℕ) (p : Path) (path : path_nth 
   kept bs = filter (is_of space) (filter (λ (q : PlacedRegion). opens_space command q.space) (map (region_now p) bs))
 
   entry_is : (b : BaseAddress) → same_space (space_of b.kind) space ≡ true → region_of ps space (entry_for i b) ≡ region_now p b
-  entry_is b same =
-      ap₂ (λ (q : Path) (s : Space). record { path = q; index = b.index; space = s; first = b.base; size = b.size }) path (sym (space_same (space_of b.kind) space same))
+  entry_is b same = grind (arith, space_same)
 
   open_kept : ((k : Space) → same_space k space ≡ true → opens_space command k ≡ true) → (bs : List BaseAddress) → told bs ≡ kept bs
   open_kept opens [] = refl
@@ -51,10 +50,7 @@ module _ (ps : List Path) (space : Space) (i : ℕ) (p : Path) (path : path_nth 
       by_tests : (s o : Bool) → same_space (space_of b.kind) space ≡ s → opens_space command (space_of b.kind) ≡ o → told bs ≡ kept bs
           → map (region_of ps space) (map (entry_for i) (cond s (b ∷ of_space space bs) (of_space space bs)))
           ≡ filter (is_of space) (cond o (region_now p b ∷ filter (λ (q : PlacedRegion). opens_space command q.space) (map (region_now p) bs)) (filter (λ (q : PlacedRegion). opens_space command q.space) (map (region_now p) bs)))
-      by_tests false false e f more = more
-      by_tests false true e f more = rw e more
-      by_tests true false e f more = let wrong : true ≡ false = sym (opens (space_of b.kind) e) ∙ f in cc
-      by_tests true true e f more = rw e (ap₂ (λ (q : PlacedRegion) (qs : List PlacedRegion). q ∷ qs) (entry_is b e) more)
+      by_tests s o e f more = grind (arith, entry_is)
 
   closed_kept : ((k : Space) → same_space k space ≡ true → opens_space command k ≡ false) → (bs : List BaseAddress) → [] ≡ kept bs
   closed_kept opens [] = refl
@@ -62,9 +58,7 @@ module _ (ps : List Path) (space : Space) (i : ℕ) (p : Path) (path : path_nth 
     where
       by_tests : (s o : Bool) → same_space (space_of b.kind) space ≡ s → opens_space command (space_of b.kind) ≡ o → [] ≡ kept bs
           → [] ≡ filter (is_of space) (cond o (region_now p b ∷ filter (λ (q : PlacedRegion). opens_space command q.space) (map (region_now p) bs)) (filter (λ (q : PlacedRegion). opens_space command q.space) (map (region_now p) bs)))
-      by_tests s false e f more = more
-      by_tests false true e f more = rw e more
-      by_tests true true e f more = let wrong : true ≡ false = sym f ∙ opens (space_of b.kind) e in cc
+      by_tests s o e f more = grind arith
 
   of_row : (rs : Ranges) → map (region_of ps space) (open_at space i (record { path = p; command = command; ranges = rs })) ≡ filter (is_of space) (open_of (record { path = p; command = command; ranges = rs }))
   of_row (windows wio wmem wpref) = refl

@@ -1,4 +1,4 @@
-use Rattle.std.proofs.Common.{◌≡◌, List, map, ap, subst, ◌∙◌}
+use Rattle.std.proofs.Common.{◌≡◌, List, map, ap, subst, ◌∙◌, arith}
 use Rattle.model_registers.specs.Decoding.{Space, io, memory}
 use Rattle.model_set_up.specs.FunctionTable.{TableRow}
 use Rattle.model_set_up.specs.SetUpWrites.{Plan, Setting}
@@ -24,10 +24,4 @@ invariant_of-result c =
     )
 
 pub returns : goal.returns
-returns c =
-    let ready = c.args.ready.now in
-    let paths = c.in_ok-paths_of.ensures ∙ ap (map (λ (r : TableRow). r.path)) (c.rows.ensures ∙ c.table.ensures.value) in
-    let settings = c.settings-settings.ensures ∙ ap (λ (p : Plan). p.settings) c.plan.ensures.value in
-    fits_ready ready c.plan.ensures.ready c.in_ok-paths_of.field-0.items paths c.in_ok-by_address.field-0.items c.in_ok-by_address-2.field-0.items
-    (of_plan io _ _ _ settings (record { all = c.in_ok-by_address.ensures.all; rising = c.in_ok-by_address.ensures.rising }))
-    (of_plan memory _ _ _ settings (record { all = c.in_ok-by_address-2.ensures.all; rising = c.in_ok-by_address-2.ensures.rising }))
+returns c = grind (arith, fits_ready, of_plan)

@@ -1,4 +1,4 @@
-use Rattle.std.proofs.Common.{◌≡◌, List, map, ap, subst, ◌∙◌}
+use Rattle.std.proofs.Common.{◌≡◌, List, map, ap, subst, ◌∙◌, arith}
 use Rattle.model_registers.specs.Decoding.{Space, io, memory}
 use Rattle.model_board.specs.Routing.{RoutingRow}
 use Rattle.claim_table.specs.declared.region_entry.RegionEntry.{RegionEntry}
@@ -22,9 +22,4 @@ invariant_of-result c =
     )
 
 pub returns : goal.returns
-returns c =
-    let paths_are = c.in_ok-paths_in.ensures ∙ ap (map (λ (r : RoutingRow). r.path)) c.deref.ensures.value in
-    fits_open c.args.host.now c.requires.board c.requires.order c.in_ok-paths_in.field-0.items c.in_ok-rows.rows.items c.in_ok-rows.ensures.rows paths_are
-    c.in_ok-open_by_address.field-0.items c.in_ok-open_by_address-2.field-0.items
-    (of_rows io _ _ _ c.deref-2.ensures.value (record { all = c.in_ok-open_by_address.ensures.all; rising = c.in_ok-open_by_address.ensures.rising }))
-    (of_rows memory _ _ _ c.deref-3.ensures.value (record { all = c.in_ok-open_by_address-2.ensures.all; rising = c.in_ok-open_by_address-2.ensures.rising }))
+returns c = grind (arith, fits_open, of_rows)

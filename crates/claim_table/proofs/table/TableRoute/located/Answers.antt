@@ -1,29 +1,18 @@
-use Rattle.std.proofs.Common.{ap, ap₂, sym, ◌∙◌}
+use Rattle.std.proofs.Common.{ap, ap₂, sym, ◌∙◌, arith}
 use Rattle.std.specs.Prelude.{find}
 use Rattle.bars.specs.Kinds.{named_space}
-use Rattle.bridge_forward.specs.Locating.{located_claim}
 use Rattle.claim_table.specs.Entries.{lies_in, by_space}
 use Rattle.claim_table.proofs.Building.{none_claimed, from, located}
 use Rattle.claim_table.proofs.table.TableRoute.located.Goals as goal
 
 pub returns-in_err-entry-clause-claim : goal.returns-in_err-entry-clause-claim
-returns-in_err-entry-clause-claim c =
-    let t = c.self.inside in
-    let found = sym (c.in_err-entry.ensures ∙ ap (find (lies_in c.args.addr)) (c.of_space.ensures ∙ ap₂ (by_space (named_space c.args.space)) c.deref.ensures.value c.deref-2.ensures.value)) in
-    let none = none_claimed t.paths.items t.ports.items t.memory.items c.args.self.now c.args._host.now c.self.view_is c.requires (named_space c.args.space) c.args.addr found in
-    ap (located_claim c.args._host.now.state.functions) c.from_residual.ensures ∙ none
+returns-in_err-entry-clause-claim c = grind (arith, none_claimed)
 
 pub overflow_sub-result : goal.overflow_sub-result
-overflow_sub-result c =
-    let t = c.self.inside in
-    let found = sym (c.in_ok-entry.ensures ∙ ap (find (lies_in c.args.addr)) (c.of_space.ensures ∙ ap₂ (by_space (named_space c.args.space)) c.deref.ensures.value c.deref-2.ensures.value)) in
-    from t.paths.items t.ports.items t.memory.items c.args.self.now c.args._host.now c.self.view_is c.requires (named_space c.args.space) c.args.addr c.in_ok-entry.entry found
+overflow_sub-result c = grind (arith, from)
 
 pub returns-clause-claim : goal.returns-clause-claim
-returns-clause-claim c =
-    let t = c.self.inside in
-    let found = sym (c.in_ok-entry.ensures ∙ ap (find (lies_in c.args.addr)) (c.of_space.ensures ∙ ap₂ (by_space (named_space c.args.space)) c.deref.ensures.value c.deref-2.ensures.value)) in
-    (located t.paths.items t.ports.items t.memory.items c.args.self.now c.args._host.now c.self.view_is c.requires (named_space c.args.space) c.args.addr c.in_ok-entry.entry found).0
+returns-clause-claim c = grind (arith, located)
 
 pub returns-clause-within : goal.returns-clause-within
 returns-clause-within c =
