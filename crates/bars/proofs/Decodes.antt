@@ -9,7 +9,7 @@ use Rattle.model_registers.specs.EndpointTable.{BaseAddress, command_cells, base
 use Rattle.model_registers.specs.Decoding.{Space, command_bit, same_space, space_of, base_address, hit_at, first_hit}
 use Rattle.model_registers.proofs.Hits.{hits_by_bases, hits_of_registers}
 use Rattle.model_registers.proofs.RegisterFiles.{field_reads}
-use Rattle.bars.specs.declared.region.Region.{Region}
+use Rattle.bars.specs.declared.region.BasedRegion.{BasedRegion}
 use Rattle.bars.specs.Slots.{placed, bases_from}
 use Rattle.bars.specs.Hits.{offset_in, hit_in, hit_from}
 
@@ -31,26 +31,26 @@ by_test : (t : Bool) (n off : ℕ) → cond t (Some (hit_in n off)) None ≡ opt
 by_test true n off = refl
 by_test false n off = refl
 
-hit_step : (command : ℕ) (space : Space) (a n : ℕ) (r : Region) → not (eqb (bit_and command (command_bit space)) 0) ≡ true
+hit_step : (command : ℕ) (space : Space) (a n : ℕ) (r : BasedRegion) → not (eqb (bit_and command (command_bit space)) 0) ≡ true
     → hit_at command space a (placed n r) ≡ option_map (hit_in n) (offset_in space a r)
 hit_step command space a n r free =
     rw free (by_test (same_space (space_of r.decl.kind) space && nat_le r.base a && nat_lt a (r.base + r.decl.size)) n (a - r.base))
 
-open_from : (command : ℕ) (space : Space) (a n : ℕ) (slots : List (Option Region)) → not (eqb (bit_and command (command_bit space)) 0) ≡ true
+open_from : (command : ℕ) (space : Space) (a n : ℕ) (slots : List (Option BasedRegion)) → not (eqb (bit_and command (command_bit space)) 0) ≡ true
     → first_some (hit_at command space a) (bases_from n slots) ≡ hit_from space a n slots
 open_from command space a n [] free = refl
 open_from command space a n (None ∷ slots) free = open_from command space a (n + 1) slots free
 open_from command space a n (Some r ∷ slots) free = ap₂ first_of_two (hit_step command space a n r free) (open_from command space a (n + 1) slots free)
 
 -- the hit of an open space, of which `bit` is the bit in Command
-pub opened_hit : (command : ℕ) → command < 2 ^ 16 → (space : Space) (a bit : ℕ) (slots : List (Option Region)) (bs : List BaseAddress) → HasLawfulBases (bases_from 0 slots) → bases_from 0 slots ≡ bs
+pub opened_hit : (command : ℕ) → command < 2 ^ 16 → (space : Space) (a bit : ℕ) (slots : List (Option BasedRegion)) (bs : List BaseAddress) → HasLawfulBases (bases_from 0 slots) → bases_from 0 slots ≡ bs
     → bit ≡ command_bit space → (bit_and command bit ≡ 0 → ⊥) → first_hit (command_cells command ++ base_file bs) (map opened bs) space a ≡ hit_from space a 0 slots
 opened_hit command small space a bit slots bs lawful view e some =
     let free : not (eqb (bit_and command (command_bit space)) 0) ≡ true = ap not (ne_eqb (bit_and command (command_bit space)) 0 (λ none. some (ap (bit_and command) e ∙ none))) in
     hits_of_registers bs (subst HasLawfulBases view lawful) command small space a ∙ ap (first_some (hit_at command space a)) (sym view) ∙ open_from command space a 0 slots free
 
 -- no address is decoded that lies in no region, whatever Command opens
-pub outside_hit : (command : ℕ) → command < 2 ^ 16 → (space : Space) (a : ℕ) (slots : List (Option Region)) (bs : List BaseAddress) → HasLawfulBases (bases_from 0 slots) → bases_from 0 slots ≡ bs
+pub outside_hit : (command : ℕ) → command < 2 ^ 16 → (space : Space) (a : ℕ) (slots : List (Option BasedRegion)) (bs : List BaseAddress) → HasLawfulBases (bases_from 0 slots) → bases_from 0 slots ≡ bs
     → hit_from space a 0 slots ≡ None → first_hit (command_cells command ++ base_file bs) (map opened bs) space a ≡ None
 outside_hit command small space a slots bs lawful view none =
     hits_of_registers bs (subst HasLawfulBases view lawful) command small space a ∙ ap (first_some (hit_at command space a)) (sym view)

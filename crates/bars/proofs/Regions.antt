@@ -7,7 +7,7 @@ use Rattle.lists.specs.Elements.{Each}
 use Rattle.model_registers.specs.Declarations.{Kind, io_kind, mem32, mem64, Bar, Region, IsLawfulSize, IsLawfulRegion, HasLawfulRegions}
 use Rattle.model_registers.specs.EndpointTable.{base_width, BaseAddress, opened, IsLawfulBase, HasLawfulBases}
 use Rattle.model_registers.specs.BaseLaws.{overwritten}
-use Rattle.bars.specs.declared.region.Region as regions
+use Rattle.bars.specs.declared.region.BasedRegion.{BasedRegion}
 use Rattle.bars.specs.Slots.{placed, bases_from, with_no_base_in}
 use Rattle.bars.specs.Resets.{reset_from, at_reset, with_no_base}
 
@@ -56,7 +56,7 @@ no_base_each (b ∷ bs) h =
 pub no_base_lawful : (bs : List BaseAddress) → HasLawfulBases bs → HasLawfulBases (map with_no_base bs)
 no_base_lawful bs h = record { regions = subst HasLawfulRegions (sym (no_base_opened bs)) h.regions; each = no_base_each bs h.each }
 
-pub no_base_from : (slots : List (Option regions.Region)) (n : ℕ) → bases_from n (map with_no_base_in slots) ≡ map with_no_base (bases_from n slots)
+pub no_base_from : (slots : List (Option BasedRegion)) (n : ℕ) → bases_from n (map with_no_base_in slots) ≡ map with_no_base (bases_from n slots)
 no_base_from [] n = refl
 no_base_from (None ∷ slots) n = no_base_from slots (n + 1)
 no_base_from (Some r ∷ slots) n = ap (λ (bs : List BaseAddress). with_no_base (placed n r) ∷ bs) (no_base_from slots (n + 1))

@@ -5,18 +5,18 @@
 --     bases_from      the base address registers of slots, from the index of the first one on
 use Rattle.std.specs.Prelude.{ℕ, ◌+◌, List, [], ◌∷◌, Option, Some, None, unwrap_or, option_map, slice_get}
 use Rattle.model_registers.specs.EndpointTable.{BaseAddress}
-use Rattle.bars.specs.declared.region.Region.{Region}
+use Rattle.bars.specs.declared.region.BasedRegion.{BasedRegion}
 
-abbrev pub placed : ℕ → Region → BaseAddress
+abbrev pub placed : ℕ → BasedRegion → BaseAddress
 placed n r = record { index = n; kind = r.decl.kind; size = r.decl.size; base = r.base }
 
-abbrev pub bases_from : ℕ → List (Option Region) → List BaseAddress
+abbrev pub bases_from : ℕ → List (Option BasedRegion) → List BaseAddress
 bases_from n [] = []
 bases_from n (None ∷ slots) = bases_from (n + 1) slots
 bases_from n (Some r ∷ slots) = placed n r ∷ bases_from (n + 1) slots
 
-abbrev pub slot_at : List (Option Region) → ℕ → Option Region
+abbrev pub slot_at : List (Option BasedRegion) → ℕ → Option BasedRegion
 slot_at slots i = unwrap_or (slice_get slots i) None
 
-abbrev pub with_no_base_in : Option Region → Option Region
-with_no_base_in slot = option_map (λ (r : Region). record r { base = 0 }) slot
+abbrev pub with_no_base_in : Option BasedRegion → Option BasedRegion
+with_no_base_in slot = option_map (λ (r : BasedRegion). record r { base = 0 }) slot

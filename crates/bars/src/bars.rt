@@ -12,7 +12,7 @@ ghost use Rattle.bars.specs.Slots.{bases_from};
 
 use crate::decl::{BarDecl, Space};
 use crate::lanes::enabled_bits;
-use crate::region::Region;
+use crate::region::BasedRegion;
 use crate::slots::Slots;
 use std::marker::Model;
 
@@ -51,7 +51,7 @@ impl Bars {
     }
 
     /// The regions with the bases that they have now, each at the index of its first register.
-    pub fn regions(&self) -> &[Option<Region>; 6]
+    pub fn regions(&self) -> &[Option<BasedRegion>; 6]
         ensures bases { bases_from 0 result.now ≡ self.now }
         ensures lawful { HasLawfulBases self.now }
     {

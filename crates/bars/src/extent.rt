@@ -5,7 +5,7 @@ ghost use Rattle.bars.specs.Hits.{offset_in};
 ghost use Rattle.bars.specs.Extents.{IsOutside};
 
 use crate::decl::Space;
-use crate::region::Region;
+use crate::region::BasedRegion;
 
 /// The least and the greatest address of regions. Of none, the least is above the greatest.
 #[derive(Clone, Copy, Debug)]
@@ -31,7 +31,7 @@ impl Extent {
     }
 
     /// The extent with one more region in it, if that lies in the space.
-    pub fn with(self, space: Space, region: Region) -> Extent
+    pub fn with(self, space: Space, region: BasedRegion) -> Extent
         ensures wider { (a : ℕ) → IsOutside result a → IsOutside self a }
         ensures holds { (a : ℕ) → a < 2 ^ 64 → IsOutside result a → offset_in (named_space space) a region ≡ None }
     {

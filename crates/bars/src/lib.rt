@@ -12,5 +12,5 @@ mod slots;
 pub use bars::Bars;
 pub use decl::{BarDecl, BarFault, Kind, Space};
 pub use lanes::enabled_bits;
-pub use region::Region;
+pub use region::BasedRegion;
 pub use sizing::size_of_mask;

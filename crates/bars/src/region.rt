@@ -10,12 +10,12 @@ use crate::decl::{BarDecl, Space};
 
 /// A region, and the base that its registers name now.
 #[derive(Clone, Copy, Debug)]
-pub struct Region {
+pub struct BasedRegion {
     pub decl: BarDecl,
     pub base: u64,
 }
 
-impl Region {
+impl BasedRegion {
     /// What the registers show, all bytes as one number: the base and the bits that tell the kind.
     pub fn shown(&self) -> u64
         requires { IsLawfulBase (placed 0 self.now) }
@@ -26,13 +26,13 @@ impl Region {
 
     /// The region after a write of `value` to the enabled bits of its registers. The bits below the
     /// size stay.
-    pub fn written(self, value: u64, enabled: u64) -> Region
+    pub fn written(self, value: u64, enabled: u64) -> BasedRegion
         requires { IsLawfulBase (placed 0 self) }
         ensures { result ≡ record self { base = rebased (placed 0 self) value enabled } }
     {
         let writable = self.decl.kind().base_bits() - (self.decl.size() - 1);
         let mask = writable & enabled;
-        Region {
+        BasedRegion {
             base: (self.base & !mask) | (value & mask),
             decl: self.decl,
         }

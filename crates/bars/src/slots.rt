@@ -9,7 +9,7 @@ ghost use Rattle.bars.specs.Parts.{IsPartAt, IsUnused};
 
 use crate::decl::{BarDecl, Space};
 use crate::extent::Extent;
-use crate::region::Region;
+use crate::region::BasedRegion;
 use std::marker::Model;
 
 /// At the index of its first register, each region.
@@ -21,16 +21,16 @@ use std::marker::Model;
 pub struct Slots {
     io: Extent,
     mem: Extent,
-    regions: [Option<Region>; 6],
+    regions: [Option<BasedRegion>; 6],
 }
 
 impl Model for Slots {
     ghost use Rattle.std.specs.Prelude.{List, Option};
     ghost use Rattle.model_registers.specs.Decoding.{io as io_space, memory};
-    ghost use Rattle.bars.specs.declared.region.Region.{Region};
+    ghost use Rattle.bars.specs.declared.region.BasedRegion.{BasedRegion};
     ghost use Rattle.bars.specs.Extents.{IsExtent};
 
-    ghost Value = { List (Option Region) };
+    ghost Value = { List (Option BasedRegion) };
 
     ghost view = { λ s. s.regions };
 
@@ -38,22 +38,22 @@ impl Model for Slots {
 }
 
 /// The regions of these declarations by index, with bases 0.
-fn regions_at_reset(decls: [Option<BarDecl>; 6]) -> [Option<Region>; 6]
+fn regions_at_reset(decls: [Option<BarDecl>; 6]) -> [Option<BasedRegion>; 6]
     ensures { bases_from 0 result ≡ at_reset decls }
 {
     decls.map(|decl| match decl {
-        Some(decl) => Some(Region { decl, base: 0 }),
+        Some(decl) => Some(BasedRegion { decl, base: 0 }),
         None => None,
     })
 }
 
 /// Sets the bases of all regions to 0.
-fn clear_bases(regions: &mut [Option<Region>; 6])
+fn clear_bases(regions: &mut [Option<BasedRegion>; 6])
     ensures { regions.new ≡ map with_no_base_in regions.old }
 {
     for reg in 0..6 {
         regions[reg] = match regions[reg] {
-            Some(region) => Some(Region { base: 0, ..region }),
+            Some(region) => Some(BasedRegion { base: 0, ..region }),
             None => None,
         };
     }
@@ -63,12 +63,12 @@ fn clear_bases(regions: &mut [Option<Region>; 6])
 #[derive(Clone, Copy, Debug)]
 pub struct Part {
     pub slot: usize,
-    pub region: Region,
+    pub region: BasedRegion,
     pub shift: u32,
 }
 
 /// The first region that holds an address, by the index of its first register, and the offset in it.
-fn first_hit(regions: &[Option<Region>; 6], space: Space, addr: u64) -> Option<(u8, u64)>
+fn first_hit(regions: &[Option<BasedRegion>; 6], space: Space, addr: u64) -> Option<(u8, u64)>
     ensures { named_hit result ≡ hit_from (named_space space) addr 0 regions.now }
 {
     for reg in 0..6u8 {
@@ -82,7 +82,7 @@ fn first_hit(regions: &[Option<Region>; 6], space: Space, addr: u64) -> Option<(
 }
 
 /// The extent of the regions in a space.
-fn extent_in(regions: &[Option<Region>; 6], space: Space) -> Extent
+fn extent_in(regions: &[Option<BasedRegion>; 6], space: Space) -> Extent
     ensures { IsExtent (named_space space) regions.now result }
 {
     let mut extent = Extent::empty();
@@ -108,7 +108,7 @@ impl Slots {
     }
 
     /// All regions, each at the index of its first register.
-    pub fn regions(&self) -> &[Option<Region>; 6]
+    pub fn regions(&self) -> &[Option<BasedRegion>; 6]
         ensures { result.now ≡ self.now }
     {
         &self.regions
@@ -143,7 +143,7 @@ impl Slots {
     }
 
     /// Puts a region at the index of its first register.
-    pub fn put(&mut self, slot: usize, region: Region)
+    pub fn put(&mut self, slot: usize, region: BasedRegion)
         requires { slot < 6 }
         ensures { self.new ≡ slice_set self.old slot (Some region) }
     {

@@ -1,7 +1,7 @@
 //! What the timed accesses ask for.
 ghost use Rattle.std.specs.Prelude.{◌≡◌, ◌%◌, ◌^◌, ◌<◌};
 
-use bars::{Region, Space};
+use bars::{BasedRegion, Space};
 use host_bridge::Bdf;
 use window_packing::{Ready, Setting, Writes};
 
@@ -15,7 +15,7 @@ pub(crate) struct Target {
 }
 
 /// The target in a region, if it lies in memory.
-fn target_at(at: Bdf, placed: Option<Region>) -> Option<Target> {
+fn target_at(at: Bdf, placed: Option<BasedRegion>) -> Option<Target> {
     let region = placed?;
     let addr = region.base;
     if region.decl.kind().space() == Space::Mem && addr % 4 == 0 && addr < 1 << 63 {

@@ -9,7 +9,7 @@ use crate::agent::Agent;
 use crate::region::OpenRegion;
 use crate::row::opens;
 use bars::Space;
-use bridge_forward::{Path, Ranges, RegionNow, RoutingRow};
+use bridge_forward::{Path, Ranges, RoutingRegion, RoutingRow};
 use std::alloc::{AllocError, Global};
 
 /// Adds those regions whose space Command opens.
@@ -17,7 +17,7 @@ fn add_regions(
     told: &mut Vec<OpenRegion>,
     path: &Path,
     command: u16,
-    regions: &[RegionNow],
+    regions: &[RoutingRegion],
 ) -> Result<(), AllocError>
     ensures { OnOk result (told.new.items ≡ told.old.items
         ++ filter (λ q. opens_space command q.space) (map (region_now path.now) (map base_of regions.now))) }

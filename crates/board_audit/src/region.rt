@@ -5,14 +5,14 @@ ghost use Rattle.model_set_up.specs.PlacedRegions.{holds};
 ghost use Rattle.board_audit.specs.Extents.{extent_of};
 
 use crate::row::holds;
-use bridge_forward::{Path, RegionNow, Window};
+use bridge_forward::{Path, RoutingRegion, Window};
 use std::marker::Model;
 
 /// A region whose space Command opens, and the path of its endpoint.
 #[derive(Debug, Drop)]
 pub struct OpenRegion {
     pub path: Path,
-    pub region: RegionNow,
+    pub region: RoutingRegion,
 }
 
 impl Model for OpenRegion {
@@ -26,7 +26,7 @@ impl Model for OpenRegion {
 }
 
 /// The addresses of a region.
-pub(crate) fn extent(region: RegionNow) -> Window
+pub(crate) fn extent(region: RoutingRegion) -> Window
     ensures { extent_of result ≡ record { first = region.base; end = region.base + region.size } }
 {
     Window {

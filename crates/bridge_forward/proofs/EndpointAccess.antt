@@ -9,7 +9,7 @@ use Rattle.std.proofs.lemmas.Bool.{cases_eq}
 use Rattle.std.proofs.lemmas.Bool.Decides.{nat_tests}
 use Rattle.lists.specs.Elements.{Each, EachPair}
 use Rattle.model_registers.specs.Cell.{Cell, written, raised}
-use Rattle.model_registers.specs.Registers.{Place, config, block, after, Entry, File, cell_at, read, changed, write, raise, field, in_region}
+use Rattle.model_registers.specs.Registers.{Place, config, block, after, PlacedCell, File, cell_at, read, changed, write, raise, field, in_region}
 use Rattle.model_registers.specs.FileLaws.{has_place, HasNone, IsConfigFile}
 use Rattle.model_registers.specs.Declarations.{Region, Endpoint, HasLawfulRegions, IsLawfulRegion}
 use Rattle.model_registers.specs.EndpointTable.{BaseAddress, register_cells, base_file, opened}
@@ -136,14 +136,14 @@ pub change_past : (f : Cell → Cell) (xs : File) → IsShort xs → (off : ℕ)
 change_past f xs short off l = change_none f xs (config off) (short off l)
 
 -- a raise finds no clearable bit in a base register
-unraised : (t : Bool) (mask : ℕ) (e : Entry) → e.cell.clearable ≡ 0 → cond t (record e { cell = raised mask e.cell }) e ≡ e
+unraised : (t : Bool) (mask : ℕ) (e : PlacedCell) → e.cell.clearable ≡ 0 → cond t (record e { cell = raised mask e.cell }) e ≡ e
 unraised true mask e h = ap (λ n. record e { cell = record e.cell { value = n } }) (ap (λ n. bit_or e.cell.value (bit_and mask n)) h ∙ ap (bit_or e.cell.value) (and_zero_r mask) ∙ or_zero_r e.cell.value)
 unraised false mask e h = refl
 
 raise_field : (mask q w a v m : ℕ) → raise mask (config q) (field (config a) w v m 0) ≡ field (config a) w v m 0
 raise_field mask q zero a v m = refl
 raise_field mask q (suc w) a v m =
-    ap₂ (λ (e : Entry) (es : File). e ∷ es) (unraised (a == q) mask (record { place = config a; cell = record { value = v % 256; writable = m % 256; clearable = 0 } }) refl)
+    ap₂ (λ (e : PlacedCell) (es : File). e ∷ es) (unraised (a == q) mask (record { place = config a; cell = record { value = v % 256; writable = m % 256; clearable = 0 } }) refl)
     (raise_field mask q w (a + 1) (v / 256) (m / 256))
 
 module _ (d : Endpoint) (cells : File) (bars : List BaseAddress) (g : ℕ → File) (parts : AreParts d cells bars g) where

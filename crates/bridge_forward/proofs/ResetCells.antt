@@ -9,7 +9,7 @@ use Rattle.std.proofs.lemmas.Bool.{ne_eqb, eq-eqb, eqb-true, false_from_ne_true,
 use Rattle.lists.specs.Elements.{Each}
 use Rattle.model_registers.proofs.Owned.{base_is_own}
 use Rattle.model_registers.specs.Cell.{Cell}
-use Rattle.model_registers.specs.Registers.{Place, config, block, offset_of, place_eq, Entry, File, cell_at, field, cells_from, in_region}
+use Rattle.model_registers.specs.Registers.{Place, config, block, offset_of, place_eq, PlacedCell, File, cell_at, field, cells_from, in_region}
 use Rattle.model_registers.specs.FileLaws.{has_place, IsConfig, IsConfigFile}
 use Rattle.model_registers.specs.Declarations.{Region, registers_of, IsLawfulRegion, Endpoint}
 use Rattle.model_registers.specs.EndpointTable.{type_bits, base_width, BaseAddress, register_cells, opened, closed, config_reset, endpoint_reset}
@@ -21,7 +21,7 @@ use Rattle.bridge_forward.proofs.EndpointAccess.{cell_of_block, cell_of_config, 
 use Rattle.bridge_forward.proofs.EndpointReset.{parts_new, file_new}
 
 -- an entry of an endpoint after the reset
-abbrev entry_after : Endpoint → Entry → Entry
+abbrev entry_after : Endpoint → PlacedCell → PlacedCell
 entry_after d e = cond (is_own e.place) e (record e { cell = cell_at (endpoint_reset d false) e.place })
 
 after_joined : (d : Endpoint) (xs ys : File) → after_reset d (xs ++ ys) ≡ after_reset d xs ++ after_reset d ys
@@ -54,7 +54,7 @@ refilled d a (c ∷ cs) n (x ∷ xs) e h =
     let at : a + 0 ≡ a = omega arith in
     let first : cell_at (endpoint_reset d false) (block n a) ≡ c = ap (λ k. cell_at (endpoint_reset d false) (block n k)) (sym at) ∙ h 0 c refl in
     let there : (k : ℕ) → a + 1 + k ≡ a + suc k = λ k. omega arith in
-    ap₂ (λ (y : Entry) (ys : File). y ∷ ys)
+    ap₂ (λ (y : PlacedCell) (ys : File). y ∷ ys)
     (ap (λ p. record { place = block n (offset_of p); cell = cell_at (endpoint_reset d false) (block n (offset_of p)) }) here ∙ ap (λ y. record { place = block n a; cell = y }) first)
     (refilled d (a + 1) cs n xs rest (λ k y g. ap (λ j. cell_at (endpoint_reset d false) (block n j)) (there k) ∙ h (suc k) y g))
 
@@ -147,7 +147,7 @@ module _ (d : Endpoint) (cells : CellFile) (bars : List BaseAddress) (blocks : L
 
   -- ---- configuration cells
 
-  abbrev entry : ℕ → Cell → Entry
+  abbrev entry : ℕ → Cell → PlacedCell
   entry q c = record { place = config q; cell = c }
 
   entry_back : (p : Place) (c : Cell) → IsConfig p → ((q : ℕ) → (0x10 ≤ q) × (q < 0x28) → place_eq p (config q) ≡ false) → IsHeaderKept cells.initial (record { place = p; cell = c })
@@ -194,7 +194,7 @@ module _ (d : Endpoint) (cells : CellFile) (bars : List BaseAddress) (blocks : L
       → reset_outside 4 5 cells.initial xs ≡ after_reset d xs
   config_back [] h none header = refl
   config_back (x ∷ xs) h none header =
-      ap₂ (λ (y : Entry) (ys : File). y ∷ ys)
+      ap₂ (λ (y : PlacedCell) (ys : File). y ∷ ys)
       (entry_back x.place x.cell h.0 (λ q l. first (place_eq x.place (config q)) (has_place xs (config q)) (none q l)) header.0)
       (config_back xs h.1 (λ q l. second (place_eq x.place (config q)) (has_place xs (config q)) (none q l)) header.1)
     where
@@ -218,7 +218,7 @@ module _ (d : Endpoint) (cells : CellFile) (bars : List BaseAddress) (blocks : L
 
   -- ---- what its parts keep
 
-  place_stays : (e : Entry) → (reset_entry 4 5 cells.initial e).place ≡ e.place
+  place_stays : (e : PlacedCell) → (reset_entry 4 5 cells.initial e).place ≡ e.place
   place_stays e = search rules
 
   same_places : (xs : File) (p : Place) → has_place (reset_outside 4 5 cells.initial xs) p ≡ has_place xs p

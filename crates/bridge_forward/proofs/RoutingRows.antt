@@ -9,15 +9,15 @@ use Rattle.model_registers.specs.EndpointTable.{BaseAddress, IsLawfulBase, base_
 use Rattle.model_registers.specs.Windows as model
 use Rattle.model_registers.proofs.Bases.{base_room}
 use Rattle.headers.specs.WindowPairs.{pair_of}
-use Rattle.bars.specs.declared.region.Region.{Region}
+use Rattle.bars.specs.declared.region.BasedRegion.{BasedRegion}
 use Rattle.bars.specs.Slots.{placed, bases_from}
 use Rattle.bars.proofs.Regions.{width_limit, size_positive}
 use Rattle.bridge_forward.specs.RoutingRows.{base_of}
-use Rattle.bridge_forward.specs.declared.region_now.RegionNow.{RegionNow}
+use Rattle.bridge_forward.specs.declared.routing_region.RoutingRegion.{RoutingRegion}
 
 -- ---- one more register
 
-pub bases_push : (n : ℕ) (slots : List (Option Region)) (o : Option Region) → bases_from n (slots ++ o ∷ []) ≡ bases_from n slots ++ bases_from (n + length slots) (o ∷ [])
+pub bases_push : (n : ℕ) (slots : List (Option BasedRegion)) (o : Option BasedRegion) → bases_from n (slots ++ o ∷ []) ≡ bases_from n slots ++ bases_from (n + length slots) (o ∷ [])
 bases_push n [] o = let z : n ≡ n + 0 = omega arith in ap (λ m. bases_from m (o ∷ [])) z
 bases_push n (None ∷ slots) o = let z : n + 1 + length slots ≡ n + suc (length slots) = omega arith in bases_push (n + 1) slots o ∙ ap (λ m. bases_from (n + 1) slots ++ bases_from m (o ∷ [])) z
 bases_push n (Some x ∷ slots) o =
@@ -28,22 +28,22 @@ bases_push n (Some x ∷ slots) o =
 pub take_at : {A : Type 0} (xs : List A) (i : ℕ) (x : A) → slice_get xs i ≡ Some x → take (i + 1) xs ≡ take i xs ++ x ∷ []
 take_at xs i x e = take_more xs i x (slice_get_within xs i x e) ∙ ap (λ y. take i xs ++ y ∷ []) (get_or_from_slice_get xs i x x e)
 
-pub slot_there : (slots : List (Option Region)) (i j : ℕ) (o d : Option Region) → o ≡ get_or slots j d → j ≡ i → i < length slots → slice_get slots i ≡ Some o
+pub slot_there : (slots : List (Option BasedRegion)) (i j : ℕ) (o d : Option BasedRegion) → o ≡ get_or slots j d → j ≡ i → i < length slots → slice_get slots i ≡ Some o
 slot_there slots i j o d e same within = slice_get-get_or slots i d within ∙ ap Some (sym (e ∙ ap (λ k. get_or slots k d) same))
 
-pub register_push : (slots : List (Option Region)) (i : ℕ) (o : Option Region) (rs : List RegionNow) (found : Option RegionNow) → slice_get slots i ≡ Some o
+pub register_push : (slots : List (Option BasedRegion)) (i : ℕ) (o : Option BasedRegion) (rs : List RoutingRegion) (found : Option RoutingRegion) → slice_get slots i ≡ Some o
     → map base_of rs ≡ bases_from 0 (take i slots) → map base_of (option_to_list found) ≡ bases_from i (o ∷ []) → map base_of (rs ++ option_to_list found) ≡ bases_from 0 (take (i + 1) slots)
 register_push slots i o rs found at so_far is =
     let size : 0 + length (take i slots) ≡ i = taken slots i o at in
     map-append base_of rs (option_to_list found) ∙ ap₂ ◌++◌ so_far is
     ∙ sym (ap (bases_from 0) (take_at slots i o at) ∙ bases_push 0 (take i slots) o ∙ ap (λ k. bases_from 0 (take i slots) ++ bases_from k (o ∷ [])) size)
   where
-    taken : (xs : List (Option Region)) (k : ℕ) (x : Option Region) → slice_get xs k ≡ Some x → 0 + length (take k xs) ≡ k
+    taken : (xs : List (Option BasedRegion)) (k : ℕ) (x : Option BasedRegion) → slice_get xs k ≡ Some x → 0 + length (take k xs) ≡ k
     taken xs k x e = let l : k < length xs = slice_get_within xs k x e in simp length-take (omega (arith, l))
 
 -- ---- one region
 
-slot_in : (P : BaseAddress → Type 0) (n : ℕ) (slots : List (Option Region)) (i : ℕ) (r : Region) → Each P (bases_from n slots) → slice_get slots i ≡ Some (Some r) → P (placed (n + i) r)
+slot_in : (P : BaseAddress → Type 0) (n : ℕ) (slots : List (Option BasedRegion)) (i : ℕ) (r : BasedRegion) → Each P (bases_from n slots) → slice_get slots i ≡ Some (Some r) → P (placed (n + i) r)
 slot_in P n [] i r h e = absurd (cc)
 slot_in P n (None ∷ slots) zero r h e = absurd (cc)
 slot_in P n (Some x ∷ slots) zero r h e = let same : x ≡ r = cc in let z : n ≡ n + 0 = omega arith in subst (λ m. P (placed m r)) z (subst (λ y. P (placed n y)) same h.0)
@@ -54,7 +54,7 @@ pub record HasRoom (size base : ℕ) : Type 0 where
   pub some : 0 < size
   pub fits : base + size ≤ 2 ^ 64
 
-pub has_room : (slots : List (Option Region)) (i : ℕ) (r : Region) → Each IsLawfulBase (bases_from 0 slots) → slice_get slots i ≡ Some (Some r) → HasRoom r.decl.size r.base
+pub has_room : (slots : List (Option BasedRegion)) (i : ℕ) (r : BasedRegion) → Each IsLawfulBase (bases_from 0 slots) → slice_get slots i ≡ Some (Some r) → HasRoom r.decl.size r.base
 has_room slots i r h e =
     let b : IsLawfulBase (placed (0 + i) r) = slot_in IsLawfulBase 0 slots i r h e in
     let room : r.base + r.decl.size ≤ 2 ^ base_width r.decl.kind = base_room (placed (0 + i) r) b in

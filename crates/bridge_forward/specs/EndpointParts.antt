@@ -13,7 +13,7 @@ use Rattle.std.specs.Prelude.{List, [], ◌≡◌, ◌≢◌, ◌⊎◌, ℕ, �
 use Rattle.std.specs.Option.{option_map_or}
 use Rattle.lists.specs.Elements.{Each}
 use Rattle.model_registers.specs.Cell.{Cell}
-use Rattle.model_registers.specs.Registers.{Place, config, place_eq, Entry, File, cell_at, number, cells_from, in_region}
+use Rattle.model_registers.specs.Registers.{Place, config, place_eq, PlacedCell, File, cell_at, number, cells_from, in_region}
 use Rattle.model_registers.specs.FileLaws.{has_place, IsConfigFile}
 use Rattle.model_registers.specs.Declarations.{Bar, Region, HasLawfulRegions, Endpoint}
 use Rattle.model_registers.specs.DeclarationRules.{IsLawfulEndpoint}
@@ -69,7 +69,7 @@ abbrev pub IsConstant : Cell → Type 0
 IsConstant c = (bit_and c.value 255 ≡ c.value) × (c.writable ≡ 0) × (c.clearable ≡ 0)
 
 -- the header type stays as it is at reset
-abbrev pub IsHeaderKept : File → Entry → Type 0
+abbrev pub IsHeaderKept : File → PlacedCell → Type 0
 IsHeaderKept initial e =
     place_eq e.place (config 0x0e) ≡ true → (e.cell ≡ cell_at initial (config 0x0e)) × IsConstant e.cell
 

@@ -14,14 +14,14 @@ use Rattle.model_board.specs.Cycles.{secondary_register}
 use Rattle.model_board.specs.Routing as routing
 use Rattle.bars.specs.Kinds.{kind_of}
 use Rattle.bridge_forward.specs.declared.routing.Window.{Window}
-use Rattle.bridge_forward.specs.declared.region_now.RegionNow.{RegionNow}
+use Rattle.bridge_forward.specs.declared.routing_region.RoutingRegion.{RoutingRegion}
 use Rattle.bridge_forward.specs.declared.routing.Ranges.{Ranges}
 use Rattle.bridge_forward.specs.declared.routing.Ranges.TheVariants.{Regions, Windows}
 
 abbrev pub window_of : Window → model.Window
 window_of w = record { first = w.first; last = w.last }
 
-abbrev pub base_of : RegionNow → BaseAddress
+abbrev pub base_of : RoutingRegion → BaseAddress
 base_of r = record { index = r.index; kind = kind_of r.kind; size = r.size; base = r.base }
 
 abbrev pub named_ranges : Ranges → routing.Ranges

@@ -23,7 +23,7 @@ use crate::function::Function;
 use crate::routes::Routes;
 use crate::routing::RoutingRow;
 use crate::walk::{locate, position, reach};
-use bars::{Region, Space};
+use bars::{BasedRegion, Space};
 use paths::Path;
 use std::alloc::{AllocError, Global};
 use std::marker::Model;
@@ -199,7 +199,7 @@ impl Bus {
 
     /// At the index of its first register, each region of the endpoint at an index, where its registers say
     /// now; none where no endpoint stands.
-    pub fn placed_nth(&self, index: usize) -> [Option<Region>; 6]
+    pub fn placed_nth(&self, index: usize) -> [Option<BasedRegion>; 6]
         ensures { bases_from 0 result ≡ bases_nth self.now index }
     {
         if index >= self.nodes.len() {

@@ -7,14 +7,14 @@ ghost use Rattle.bridge_forward.specs.ByIndex.{ranges_told, ranges_nth};
 
 use crate::bus::Bus;
 use crate::routing::Window;
-use bars::Region;
+use bars::BasedRegion;
 use paths::Path;
 
 /// The regions of an endpoint, each at the index of its first register, or the windows of a bridge, where
 /// the registers say now.
 #[derive(Clone, Copy, Debug)]
 pub enum RangesNow {
-    Regions([Option<Region>; 6]),
+    Regions([Option<BasedRegion>; 6]),
     Windows {
         io: Option<Window>,
         mem: Option<Window>,

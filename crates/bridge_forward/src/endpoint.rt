@@ -15,16 +15,16 @@ ghost use Rattle.bridge_forward.specs.RoutingRows.{base_of};
 
 use crate::blocks::{bar_decls, block_files, reset_all};
 use crate::offsets;
-use crate::region_now::RegionNow;
 use crate::routing::regions_of;
-use bars::{Bars, Region, Space};
+use crate::routing_region::RoutingRegion;
+use bars::{Bars, BasedRegion, Space};
 use config_bytes::Cells;
 use headers::{Endpoint, EndpointDecl, Place, command};
 use std::alloc::{AllocError, Global};
 use std::marker::Model;
 
 /// A copy of what stands at six registers.
-fn six(regions: &[Option<Region>; 6]) -> [Option<Region>; 6]
+fn six(regions: &[Option<BasedRegion>; 6]) -> [Option<BasedRegion>; 6]
     ensures { result ≡ regions.now }
 {
     [
@@ -101,7 +101,7 @@ impl EndpointFn {
     }
 
     /// The regions where their registers say now.
-    pub(crate) fn regions(&self, alloc: Global) -> Result<Vec<RegionNow>, AllocError>
+    pub(crate) fn regions(&self, alloc: Global) -> Result<Vec<RoutingRegion>, AllocError>
         ensures { IfOk result (λ v.
             map base_of v.items ≡ map (base_address self.now.file) self.now.decl.regions) }
     {
@@ -109,7 +109,7 @@ impl EndpointFn {
     }
 
     /// The same by the index of its first register, without memory.
-    pub(crate) fn placed(&self) -> [Option<Region>; 6]
+    pub(crate) fn placed(&self) -> [Option<BasedRegion>; 6]
         ensures { bases_from 0 result ≡ map (base_address self.now.file) self.now.decl.regions }
     {
         six(self.bars.regions())

@@ -19,7 +19,7 @@ use crate::by_index::RangesNow;
 use crate::decl::Declared;
 use crate::endpoint::EndpointFn;
 use crate::routing::{Ranges, RoutingRow};
-use bars::Region;
+use bars::BasedRegion;
 use config_bytes::{Op, enables_of, lowered};
 use paths::Path;
 use std::alloc::{AllocError, Global};
@@ -128,7 +128,7 @@ impl Function {
     }
 
     /// At the index of its first register, each region where its registers say now; none of a bridge.
-    pub(crate) fn placed(&self) -> [Option<Region>; 6]
+    pub(crate) fn placed(&self) -> [Option<BasedRegion>; 6]
         ensures { bases_from 0 result ≡ bases_of (decl_of self.now) (file_of self.now) }
     {
         match self {

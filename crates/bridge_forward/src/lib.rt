@@ -12,9 +12,9 @@ mod endpoint;
 mod function;
 mod offsets;
 mod places;
-mod region_now;
 mod routes;
 mod routing;
+mod routing_region;
 mod walk;
 
 pub use bus::{Bus, Claim, Located};
@@ -24,5 +24,5 @@ pub use decl::{Decl, Declared, lawful_places};
 pub use endpoint::EndpointFn;
 pub use paths::{Part, Path};
 pub use places::{Stands, are_lawful};
-pub use region_now::RegionNow;
 pub use routing::{Ranges, RoutingRow, Window};
+pub use routing_region::RoutingRegion;

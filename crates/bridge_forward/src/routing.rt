@@ -7,7 +7,7 @@ ghost use Rattle.headers.specs.WindowPairs.{pair_of};
 ghost use Rattle.bars.specs.Slots.{bases_from};
 ghost use Rattle.bridge_forward.specs.RoutingRows.{window_of, base_of};
 
-use crate::region_now::RegionNow;
+use crate::routing_region::RoutingRegion;
 use paths::Path;
 use std::alloc::{AllocError, Global};
 use std::marker::Model;
@@ -22,7 +22,7 @@ pub struct Window {
 /// The regions of an endpoint by register, or the windows of a bridge.
 #[derive(Debug, Drop)]
 pub enum Ranges {
-    Regions(Vec<RegionNow>),
+    Regions(Vec<RoutingRegion>),
     Windows {
         io: Option<Window>,
         mem: Option<Window>,
@@ -60,8 +60,8 @@ pub(crate) fn window_of(pair: Option<(u64, u64)>) -> Option<Window>
 /// The regions of six registers, one after the other.
 pub(crate) fn regions_of(
     alloc: Global,
-    slots: &[Option<bars::Region>; 6],
-) -> Result<Vec<RegionNow>, AllocError>
+    slots: &[Option<bars::BasedRegion>; 6],
+) -> Result<Vec<RoutingRegion>, AllocError>
     requires { HasLawfulBases (bases_from 0 slots.now) }
     ensures { IfOk result (λ v. map base_of v.items ≡ bases_from 0 slots.now) }
 {
@@ -69,7 +69,7 @@ pub(crate) fn regions_of(
     for index in 0..6u8 {
         let slot = slots[usize::from(index)];
         if let Some(region) = slot {
-            regions.push(RegionNow {
+            regions.push(RoutingRegion {
                 index,
                 kind: region.decl.kind(),
                 size: region.decl.size(),

@@ -5,7 +5,7 @@ use Rattle.std.proofs.lemmas.List.{map-append, append-nil, length-take}
 use Rattle.std.specs.Option.{option_to_list}
 use Rattle.std.proofs.lemmas.List.Elements.{filter-append}
 use Rattle.std.proofs.lemmas.Option.{slice_get-map, slice_get_within, slice_get-get_or}
-use Rattle.bars.specs.declared.region.Region.{Region as Placed}
+use Rattle.bars.specs.declared.region.BasedRegion.{BasedRegion}
 use Rattle.bars.specs.Slots.{bases_from}
 use Rattle.window_packing.proofs.BarLists.{bases_push, take_at}
 use Rattle.lists.specs.Elements.{Each}
@@ -84,10 +84,10 @@ known space i (s ∷ ss) n h =
 
 -- ---- one more register, and one more function
 
-pub slot_there : (slots : List (Option Placed)) (i j : ℕ) (o d : Option Placed) → o ≡ get_or slots j d → j ≡ i → i < length slots → slice_get slots i ≡ Some o
+pub slot_there : (slots : List (Option BasedRegion)) (i j : ℕ) (o d : Option BasedRegion) → o ≡ get_or slots j d → j ≡ i → i < length slots → slice_get slots i ≡ Some o
 slot_there slots i j o d e same within = slice_get-get_or slots i d within ∙ ap Some (sym (e ∙ ap (λ k. get_or slots k d) same))
 
-pub register_push : (space : Space) (f : ℕ) (slots : List (Option Placed)) (i : ℕ) (o : Option Placed) (old es : List RegionEntry) (found : Option RegionEntry) → slice_get slots i ≡ Some o
+pub register_push : (space : Space) (f : ℕ) (slots : List (Option BasedRegion)) (i : ℕ) (o : Option BasedRegion) (old es : List RegionEntry) (found : Option RegionEntry) → slice_get slots i ≡ Some o
     → option_to_list found ≡ map (entry_for f) (of_space space (bases_from i (o ∷ []))) → es ≡ old ++ map (entry_for f) (of_space space (bases_from 0 (take i slots)))
     → es ++ option_to_list found ≡ old ++ map (entry_for f) (of_space space (bases_from 0 (take (i + 1) slots)))
 register_push space f slots i o old es found at is so_far =
@@ -100,7 +100,7 @@ register_push space f slots i o old es found at is so_far =
     ∙ map-append (entry_for f) (of_space space (bases_from 0 (take i slots))) (of_space space (bases_from i (o ∷ []))) in
     ap₂ ◌++◌ so_far is ∙ append_assoc old (g (bases_from 0 (take i slots))) (g (bases_from i (o ∷ []))) ∙ ap (λ es. old ++ es) (sym split)
   where
-    taken : (xs : List (Option Placed)) (k : ℕ) (x : Option Placed) → slice_get xs k ≡ Some x → 0 + length (take k xs) ≡ k
+    taken : (xs : List (Option BasedRegion)) (k : ℕ) (x : Option BasedRegion) → slice_get xs k ≡ Some x → 0 + length (take k xs) ≡ k
     taken xs k x e = let l : k < length xs = slice_get_within xs k x e in simp length-take (omega (arith, l))
 
 pub function_push : (space : Space) (ss : List Setting) (i : ℕ) (s d : Setting) (es new : List RegionEntry) → s ≡ get_or ss i d → i < length ss → es ≡ entries_from space 0 (take i ss) → new ≡ es ++ entries_at space i s

@@ -8,13 +8,13 @@ ghost use Rattle.claim_table.specs.declared.region_entry.RegionEntry.{RegionEntr
 ghost use Rattle.claim_table.specs.Entries.{entry_for, of_space, entries_from};
 
 use crate::region_entry::RegionEntry;
-use bars::{Region, Space};
+use bars::{BasedRegion, Space};
 use std::alloc::{AllocError, Global};
 use window_packing::{Setting, Writes};
 
 /// The region of a register, if it lies in a space.
 fn entry_of(
-    placed: Option<Region>,
+    placed: Option<BasedRegion>,
     space: Space,
     function: usize,
     region: u8,
@@ -39,7 +39,7 @@ fn add_regions(
     entries: &mut Vec<RegionEntry>,
     space: Space,
     function: usize,
-    bases: &[Option<Region>; 6],
+    bases: &[Option<BasedRegion>; 6],
 ) -> Result<(), AllocError>
     ensures { OnOk result (entries.new.items
         ≡ entries.old.items ++ map (entry_for function) (of_space (named_space space) (bases_from 0 bases.now))) }

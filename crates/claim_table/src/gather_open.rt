@@ -10,7 +10,7 @@ ghost use Rattle.claim_table.specs.OpenEntries.{open_at, open_entries};
 
 use crate::region_entry::RegionEntry;
 use bars::Space;
-use bridge_forward::{Ranges, RegionNow, RoutingRow};
+use bridge_forward::{Ranges, RoutingRegion, RoutingRow};
 use std::alloc::{AllocError, Global};
 
 /// Whether the word of the Command register opens a space.
@@ -25,7 +25,7 @@ fn add_regions(
     entries: &mut Vec<RegionEntry>,
     space: Space,
     function: usize,
-    regions: &[RegionNow],
+    regions: &[RoutingRegion],
 ) -> Result<(), AllocError>
     ensures { OnOk result (entries.new.items
         ≡ entries.old.items ++ map (entry_for function) (of_space (named_space space) (map base_of regions.now))) }

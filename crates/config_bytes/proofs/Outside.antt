@@ -5,7 +5,7 @@ use Rattle.std.proofs.lemmas.Bool.{eqb-true, eqb-false}
 use Rattle.std.proofs.lemmas.List.{length-set, get_or-set_same, get_or-set_other, take_at}
 use Rattle.lists.specs.Elements.{Each}
 use Rattle.model_registers.specs.Cell.{Cell, no_cell}
-use Rattle.model_registers.specs.Registers.{config, Entry, File, cell_at}
+use Rattle.model_registers.specs.Registers.{config, PlacedCell, File, cell_at}
 use Rattle.config_bytes.specs.CellFile.{is_between, reset_outside, file_of, file_from, table_at, placed, placed_outside, IsTable}
 use Rattle.config_bytes.proofs.Tables.{HasGaps-table, IsTable-placed, file_from-placed}
 
@@ -105,7 +105,7 @@ module _ (first last : ℕ) where
     initial_at q = all.shows q ∙ ap (λ (file : File). cell_at file (config q)) (file_from-placed cs table is.distinct is.room)
 
     entry_of : (p : ℕ) (t : Bool) (x y : Cell)
-        → let old : Entry = record { place = config p; cell = x } in let left : Entry = record { place = config p; cell = cond t x y } in left ≡ cond t old (record old { cell = y })
+        → let old : PlacedCell = record { place = config p; cell = x } in let left : PlacedCell = record { place = config p; cell = cond t x y } in left ≡ cond t old (record old { cell = y })
     entry_of p true x y = refl
     entry_of p false x y = refl
 
@@ -113,8 +113,8 @@ module _ (first last : ℕ) where
     file_from-outside [] = refl
     file_from-outside (d ∷ ds) =
         let here : table_at new d.0 ≡ cond (stays d.0) (table_at table d.0) (cell_at (file_of cs) (config d.0)) = joined d.0 ∙ ap (cond (stays d.0) (table_at table d.0)) (initial_at d.0) in
-        ap₂ (λ (e : Entry) (es : File). e ∷ es)
-        (ap (λ (x : Cell). let e : Entry = record { place = config d.0; cell = x } in e) here ∙ entry_of d.0 (stays d.0) (table_at table d.0) (cell_at (file_of cs) (config d.0)))
+        ap₂ (λ (e : PlacedCell) (es : File). e ∷ es)
+        (ap (λ (x : Cell). let e : PlacedCell = record { place = config d.0; cell = x } in e) here ∙ entry_of d.0 (stays d.0) (table_at table d.0) (cell_at (file_of cs) (config d.0)))
         (file_from-outside ds)
 
 -- what a vector holds after its slice was so filled

@@ -5,7 +5,7 @@ use Rattle.std.proofs.lemmas.Bool.{eqb-true, eqb-false, eq-eqb, ne_eqb}
 use Rattle.std.proofs.lemmas.List.{length-set, get_or-set_same, get_or-set_other, get_or_past, get_or_default, take_at}
 use Rattle.lists.specs.Elements.{Each}
 use Rattle.model_registers.specs.Cell.{Cell, no_cell}
-use Rattle.model_registers.specs.Registers.{Place, config, Entry, File, cell_at, changed}
+use Rattle.model_registers.specs.Registers.{Place, config, PlacedCell, File, cell_at, changed}
 use Rattle.model_registers.specs.FileLaws.{IsConfigFile}
 use Rattle.config_bytes.specs.OffsetLaws.{FileOfConfig}
 use Rattle.model_registers.proofs.RegisterFiles.{change_at_place}
@@ -37,7 +37,7 @@ nothing_changes f off table none past q = past_at (eqb off q) refl where
   past_at false h = refl
 
 entry_changes : (f : Cell → Cell) (p : ℕ) (t : Bool) (c : Cell)
-    → let old : Entry = record { place = config p; cell = c } in let new : Entry = record { place = config p; cell = cond t (f c) c } in new ≡ cond t (record old { cell = f c }) old
+    → let old : PlacedCell = record { place = config p; cell = c } in let new : PlacedCell = record { place = config p; cell = cond t (f c) c } in new ≡ cond t (record old { cell = f c }) old
 entry_changes f p true c = refl
 entry_changes f p false c = refl
 
@@ -45,7 +45,7 @@ pub file_from-changed : (f : Cell → Cell) (off : ℕ) (table new : List Cell) 
 file_from-changed f off table new h [] = refl
 file_from-changed f off table new h (c ∷ cs) =
     let here : table_at new c.0 ≡ cond (eqb c.0 off) (f (table_at table c.0)) (table_at table c.0) = rw (turned c.0 off) (h c.0) in
-    ap₂ (λ (e : Entry) (es : File). e ∷ es) (ap (λ (x : Cell). let e : Entry = record { place = config c.0; cell = x } in e) here ∙ entry_changes f c.0 (eqb c.0 off) (table_at table c.0))
+    ap₂ (λ (e : PlacedCell) (es : File). e ∷ es) (ap (λ (x : Cell). let e : PlacedCell = record { place = config c.0; cell = x } in e) here ∙ entry_changes f c.0 (eqb c.0 off) (table_at table c.0))
     (file_from-changed f off table new h cs)
 
 pub IsTable-changed : (f : Cell → Cell) (off : ℕ) (table new : List Cell) (cs : List (ℕ × Cell)) → f no_cell ≡ no_cell → length new ≡ length table → ChangesAt f off table new → IsTable table cs → IsTable new cs

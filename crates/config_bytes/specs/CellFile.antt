@@ -29,7 +29,7 @@ use Rattle.std.specs.Prelude.{
 }
 use Rattle.lists.specs.Elements.{Each, EachPair}
 use Rattle.model_registers.specs.Cell.{Cell, no_cell}
-use Rattle.model_registers.specs.Registers.{Place, config, block, Entry, File, cell_at}
+use Rattle.model_registers.specs.Registers.{Place, config, block, PlacedCell, File, cell_at}
 pub use Rattle.model_registers.specs.CopiedFiles.{places_of}
 
 pub record CellFile : Type 0 where
@@ -44,7 +44,7 @@ abbrev pub is_between : ℕ → ℕ → Place → Bool
 is_between first last (config a) = nat_le first a && nat_le a last
 is_between first last (block n a) = false
 
-abbrev pub reset_entry : ℕ → ℕ → File → Entry → Entry
+abbrev pub reset_entry : ℕ → ℕ → File → PlacedCell → PlacedCell
 reset_entry first last initial e =
     if is_between first last e.place then e else record e { cell = cell_at initial e.place }
 

@@ -4,7 +4,7 @@ use Rattle.std.specs.Prelude.{bit_or}
 use Rattle.std.specs.Int.Bits.{or_zero_r, and_zero_r}
 use Rattle.model_registers.proofs.Files.{same_place}
 use Rattle.model_registers.specs.Cell.{Cell, no_cell, written}
-use Rattle.model_registers.specs.Registers.{Place, block, place_eq, after, Entry, File, cell_at, changed, write}
+use Rattle.model_registers.specs.Registers.{Place, block, place_eq, after, PlacedCell, File, cell_at, changed, write}
 use Rattle.model_registers.specs.OwnCopies.{is_own, handed_on}
 use Rattle.model_registers.proofs.RegisterFiles.{place_same, change_at_place, place_turned}
 use Rattle.model_registers.specs.CopiedFiles.{copied, with_copies}
@@ -18,22 +18,22 @@ apart p q own other = cases (place_eq p q) refl where
 
 -- ---- one entry
 
-entry_place : (own : File) (e : Entry) → (copied own e).place ≡ e.place
+entry_place : (own : File) (e : PlacedCell) → (copied own e).place ≡ e.place
 entry_place own e = same_place (is_own e.place) e (cell_at own e.place)
 
-abbrev changed_entry : (Cell → Cell) → Place → Entry → Entry
+abbrev changed_entry : (Cell → Cell) → Place → PlacedCell → PlacedCell
 changed_entry f p e = cond (place_eq e.place p) (record e { cell = f e.cell }) e
 
 abbrev KeepsNoCell : (Cell → Cell) → Type 0
 KeepsNoCell f = f no_cell ≡ no_cell
 
 -- a cell of the copies after a change of them
-after_change : (f : Cell → Cell) → KeepsNoCell f → (p : Place) (own : File) (e : Entry) (t : Bool) → place_eq e.place p ≡ t
+after_change : (f : Cell → Cell) → KeepsNoCell f → (p : Place) (own : File) (e : PlacedCell) (t : Bool) → place_eq e.place p ≡ t
     → cell_at (changed f p own) e.place ≡ cond t (f (cell_at own e.place)) (cell_at own e.place)
 after_change f still p own e t is = change_at_place f still own p e.place ∙ ap (λ (u : Bool). cond u (f (cell_at own e.place)) (cell_at own e.place)) (place_turned p e.place ∙ is)
 
 -- at a place of the copies the copy is changed
-own_entry : (f : Cell → Cell) → KeepsNoCell f → (p : Place) (own : File) → is_own p ≡ true → (e : Entry) → changed_entry f p (copied own e) ≡ copied (changed f p own) e
+own_entry : (f : Cell → Cell) → KeepsNoCell f → (p : Place) (own : File) → is_own p ≡ true → (e : PlacedCell) → changed_entry f p (copied own e) ≡ copied (changed f p own) e
 own_entry f still p own mine e = cases (is_own e.place) refl (place_eq e.place p) refl where
   cases : (o : Bool) → is_own e.place ≡ o → (t : Bool) → place_eq e.place p ≡ t → changed_entry f p (copied own e) ≡ copied (changed f p own) e
   cases true i true k = rw (i, k, after_change f still p own e true k) refl
@@ -43,10 +43,10 @@ own_entry f still p own mine e = cases (is_own e.place) refl (place_eq e.place p
 
 pub own_change : (f : Cell → Cell) → KeepsNoCell f → (p : Place) (own file : File) → is_own p ≡ true → changed f p (with_copies own file) ≡ with_copies (changed f p own) file
 own_change f still p own [] mine = refl
-own_change f still p own (e ∷ es) mine = ap₂ (λ (x : Entry) (xs : File). x ∷ xs) (own_entry f still p own mine e) (own_change f still p own es mine)
+own_change f still p own (e ∷ es) mine = ap₂ (λ (x : PlacedCell) (xs : File). x ∷ xs) (own_entry f still p own mine e) (own_change f still p own es mine)
 
 -- at any other place the file's own cell is
-other_entry : (f : Cell → Cell) (p : Place) (own : File) → is_own p ≡ false → (e : Entry) → changed_entry f p (copied own e) ≡ copied own (changed_entry f p e)
+other_entry : (f : Cell → Cell) (p : Place) (own : File) → is_own p ≡ false → (e : PlacedCell) → changed_entry f p (copied own e) ≡ copied own (changed_entry f p e)
 other_entry f p own other e = cases (is_own e.place) refl (place_eq e.place p) refl where
   cases : (o : Bool) → is_own e.place ≡ o → (t : Bool) → place_eq e.place p ≡ t → changed_entry f p (copied own e) ≡ copied own (changed_entry f p e)
   cases true i true k = let same = ap is_own (place_same e.place p k) in cc
@@ -56,11 +56,11 @@ other_entry f p own other e = cases (is_own e.place) refl (place_eq e.place p) r
 
 pub other_change : (f : Cell → Cell) (p : Place) (own file : File) → is_own p ≡ false → changed f p (with_copies own file) ≡ with_copies own (changed f p file)
 other_change f p own [] other = refl
-other_change f p own (e ∷ es) other = ap₂ (λ (x : Entry) (xs : File). x ∷ xs) (other_entry f p own other e) (other_change f p own es other)
+other_change f p own (e ∷ es) other = ap₂ (λ (x : PlacedCell) (xs : File). x ∷ xs) (other_entry f p own other e) (other_change f p own es other)
 
 pub same_copies : SameCopies
 same_copies own given same [] = refl
-same_copies own given same (e ∷ es) = ap₂ (λ (x : Entry) (xs : File). x ∷ xs) (here (is_own e.place) refl) (same_copies own given same es) where
+same_copies own given same (e ∷ es) = ap₂ (λ (x : PlacedCell) (xs : File). x ∷ xs) (here (is_own e.place) refl) (same_copies own given same es) where
   here : (o : Bool) → is_own e.place ≡ o → copied given e ≡ copied own e
   here true i = rw (i, same e.place i) refl
   here false i = rw i refl
@@ -73,7 +73,7 @@ unseen_change f still p own file other = same_copies own (changed f p own) same 
 
 pub hidden_change : (f : Cell → Cell) (p : Place) (own file : File) → is_own p ≡ true → with_copies own (changed f p file) ≡ with_copies own file
 hidden_change f p own [] mine = refl
-hidden_change f p own (e ∷ es) mine = ap₂ (λ (x : Entry) (xs : File). x ∷ xs) (here (is_own e.place) refl (place_eq e.place p) refl) (hidden_change f p own es mine) where
+hidden_change f p own (e ∷ es) mine = ap₂ (λ (x : PlacedCell) (xs : File). x ∷ xs) (here (is_own e.place) refl (place_eq e.place p) refl) (hidden_change f p own es mine) where
   here : (o : Bool) → is_own e.place ≡ o → (t : Bool) → place_eq e.place p ≡ t → copied own (changed_entry f p e) ≡ copied own e
   here true i true k = rw (k, i) refl
   here o i false k = rw k refl
@@ -141,7 +141,7 @@ block_read (on ∷ ons) n a own file = ap₂ (λ (c : Cell) m. cond on c.value 0
 -- where no place stands twice, copies that the file holds change nothing
 pub copies_held : CopiesHeld
 copies_held own [] held = refl
-copies_held own (e ∷ es) held = ap₂ (λ (x : Entry) (xs : File). x ∷ xs) (here (is_own e.place) refl) (copies_held own es held.1) where
+copies_held own (e ∷ es) held = ap₂ (λ (x : PlacedCell) (xs : File). x ∷ xs) (here (is_own e.place) refl) (copies_held own es held.1) where
   here : (o : Bool) → is_own e.place ≡ o → copied own e ≡ e
   here true i = rw i (ap (λ (c : Cell). record e { cell = c }) (held.0 i))
   here false i = rw i refl

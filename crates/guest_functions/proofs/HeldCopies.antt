@@ -7,7 +7,7 @@ use Rattle.lists.specs.Elements.{Each}
 use Rattle.lists.proofs.EachLemmas.{each_append}
 use Rattle.model_registers.proofs.BareRegions.{bare_lawful}
 use Rattle.model_registers.specs.Cell.{Cell, raised}
-use Rattle.model_registers.specs.Registers.{Place, config, block, place_eq, after, Entry, File, cell_at, read, write, raise, field}
+use Rattle.model_registers.specs.Registers.{Place, config, block, place_eq, after, PlacedCell, File, cell_at, read, write, raise, field}
 use Rattle.model_registers.specs.ByteEnables.{enabled_bytes}
 use Rattle.model_registers.specs.FileLaws.{IsConfig, IsConfigFile}
 use Rattle.model_registers.specs.Declarations.{registers_of, HasLawfulRegions}
@@ -23,7 +23,7 @@ use Rattle.guest_functions.proofs.CopiedFiles.{own_change, other_change, hidden_
 -- ---- what the copies are
 
 -- a byte, of which no bit rises
-record IsLowByte (e : Entry) : Type 0 where
+record IsLowByte (e : PlacedCell) : Type 0 where
   byte : e.cell.value < 256
   low : e.cell.clearable ≡ 0
 
@@ -55,13 +55,13 @@ not_raised : (m : ℕ) (c : Cell) → c.clearable ≡ 0 → raised m c ≡ c
 not_raised m c low =
     ap (λ n. record c { value = n }) (ap (λ n. bit_or c.value (bit_and m n)) low ∙ ap (bit_or c.value) (and_zero_r m) ∙ or_zero_r c.value)
 
-same_entry : (t : Bool) (m : ℕ) (e : Entry) → IsLowByte e → cond t (record e { cell = raised m e.cell }) e ≡ e
+same_entry : (t : Bool) (m : ℕ) (e : PlacedCell) → IsLowByte e → cond t (record e { cell = raised m e.cell }) e ≡ e
 same_entry true m e low = ap (λ (c : Cell). record e { cell = c }) (not_raised m e.cell low.low)
 same_entry false m e low = refl
 
 low_stays : (m : ℕ) (p : Place) (file : File) → Each IsLowByte file → raise m p file ≡ file
 low_stays m p [] all = refl
-low_stays m p (e ∷ es) all = ap₂ (λ (x : Entry) (xs : File). x ∷ xs) (same_entry (place_eq e.place p) m e all.0) (low_stays m p es all.1)
+low_stays m p (e ∷ es) all = ap₂ (λ (x : PlacedCell) (xs : File). x ∷ xs) (same_entry (place_eq e.place p) m e all.0) (low_stays m p es all.1)
 
 pub copies_stay : CopiesStay
 copies_stay own m p = low_stays m p (own_file own) (low_own own)
@@ -141,10 +141,10 @@ fields_config (suc w) a v m = (tt, fields_config w (a + 1) (v / 256) (m / 256))
 bases_config : (bs : List BaseAddress) → IsConfigFile (base_file bs)
 bases_config [] = tt
 bases_config (b ∷ bs) =
-    each_append (λ (e : Entry). IsConfig e.place) _ (base_file bs) (fields_config (4 * registers_of b.kind) (0x10 + 4 * b.index) (b.base + type_bits b.kind) (2 ^ base_width b.kind - b.size)) (bases_config bs)
+    each_append (λ (e : PlacedCell). IsConfig e.place) _ (base_file bs) (fields_config (4 * registers_of b.kind) (0x10 + 4 * b.index) (b.base + type_bits b.kind) (2 ^ base_width b.kind - b.size)) (bases_config bs)
 
 own_config : (own : OwnCopies) → IsConfigFile (own_file own)
-own_config own = each_append (λ (e : Entry). IsConfig e.place) (command_cells own.command) (base_file own.bases) (fields_config 2 4 own.command 0x0547) (bases_config own.bases)
+own_config own = each_append (λ (e : PlacedCell). IsConfig e.place) (command_cells own.command) (base_file own.bases) (fields_config 2 4 own.command 0x0547) (bases_config own.bases)
 
 -- a write in a region leaves them
 pub block_written_held : BlockWrittenHeld

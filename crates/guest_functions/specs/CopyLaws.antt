@@ -2,7 +2,7 @@
 -- that it goes on holding the copies.
 use Rattle.std.specs.Prelude.{◌≡◌, ◌<◌, ◌^◌, ◌+◌, ℕ, Bool, true, false, List, length, map}
 use Rattle.lists.specs.Elements.{Each}
-use Rattle.model_registers.specs.Registers.{Place, block, Entry, File, cell_at, read, write, raise}
+use Rattle.model_registers.specs.Registers.{Place, block, PlacedCell, File, cell_at, read, write, raise}
 use Rattle.model_registers.specs.ByteEnables.{enabled_bytes}
 use Rattle.model_registers.specs.Declarations.{Region, HasLawfulRegions}
 use Rattle.model_registers.specs.EndpointTable.{opened}
@@ -57,7 +57,7 @@ SameCopies = (own other : File) → ((p : Place) → is_own p ≡ true → cell_
 
 -- copies that the file holds already change nothing
 abbrev pub CopiesHeld : Type 0
-CopiesHeld = (own file : File) → Each (λ (e : Entry). is_own e.place ≡ true → cell_at own e.place ≡ e.cell) file
+CopiesHeld = (own file : File) → Each (λ (e : PlacedCell). is_own e.place ≡ true → cell_at own e.place ≡ e.cell) file
     → with_copies own file ≡ file
 
 -- ---- a file goes on holding the copies

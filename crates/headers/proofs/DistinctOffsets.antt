@@ -5,7 +5,7 @@ use Rattle.std.proofs.lemmas.Bool.{ltb-true}
 use Rattle.std.proofs.lemmas.Bool.Decides.{nat_tests}
 use Rattle.lists.specs.Elements.{Each, EachPair, all_pairs}
 use Rattle.model_registers.specs.Cell.{Cell}
-use Rattle.model_registers.specs.Registers.{config, offset_of, Entry, File, cells_from}
+use Rattle.model_registers.specs.Registers.{config, offset_of, PlacedCell, File, cells_from}
 use Rattle.model_registers.specs.Declarations.{ConfigBlock, Endpoint, IoDecode, no_io, io16, io32, PrefDecode, no_pref, pref32, pref64, Bridge}
 use Rattle.model_registers.specs.BridgeTable.{bridge_reset}
 use Rattle.model_registers.specs.DeclarationRules.{blocks_apart, IsConfigBlock, IsLawfulEndpoint}
@@ -13,19 +13,19 @@ use Rattle.model_registers.specs.EndpointTable.{block_cells, header_cells, confi
 use Rattle.lists.proofs.EachLemmas.{each_map, each_test, pairs_test, each_append, pairs_map}
 use Rattle.config_bytes.specs.CellFile.{HasDistinctOffsets, file_of}
 
-abbrev at : Entry → ℕ
+abbrev at : PlacedCell → ℕ
 at e = offset_of e.place
 
-abbrev Differ : Entry → Entry → Type 0
+abbrev Differ : PlacedCell → PlacedCell → Type 0
 Differ e f = at e ≢ at f
 
-pairs_append : (xs ys : File) → EachPair Differ xs → EachPair Differ ys → Each (λ (e : Entry). Each (Differ e) ys) xs → EachPair Differ (xs ++ ys)
+pairs_append : (xs ys : File) → EachPair Differ xs → EachPair Differ ys → Each (λ (e : PlacedCell). Each (Differ e) ys) xs → EachPair Differ (xs ++ ys)
 pairs_append [] ys h k cross = k
 pairs_append (x ∷ xs) ys h k cross = (each_append (Differ x) xs ys h.0 cross.0, pairs_append xs ys h.1 k cross.1)
 
 -- ---- one block
 
-abbrev Within : ℕ → ℕ → Entry → Type 0
+abbrev Within : ℕ → ℕ → PlacedCell → Type 0
 Within low high e = (low ≤ at e) × (at e < high)
 
 block_within : (a : ℕ) (cs : List Cell) → Each (Within a (a + length cs)) (cells_from (config a) cs)
@@ -38,13 +38,13 @@ block_within a (c ∷ cs) = (
 block_distinct : (a : ℕ) (cs : List Cell) → EachPair Differ (cells_from (config a) cs)
 block_distinct a [] = tt
 block_distinct a (c ∷ cs) = (
-  each_map (Within (a + 1) (a + 1 + length cs)) (λ (e : Entry). a ≢ at e) (cells_from (config (a + 1)) cs) (λ e h. omega arith) (block_within (a + 1) cs),
+  each_map (Within (a + 1) (a + 1 + length cs)) (λ (e : PlacedCell). a ≢ at e) (cells_from (config (a + 1)) cs) (λ e h. omega arith) (block_within (a + 1) cs),
   block_distinct (a + 1) cs,
 )
 
 -- ---- blocks that lie apart
 
-abbrev Outside : ConfigBlock → Entry → Type 0
+abbrev Outside : ConfigBlock → PlacedCell → Type 0
 Outside b e = (at e < b.offset) ⊎ (b.offset + length b.cells ≤ at e)
 
 entry_outside : (b c : ConfigBlock) (n : ℕ) → IsTrue (blocks_apart b c) → c.offset ≤ n → n < c.offset + length c.cells → (n < b.offset) ⊎ (b.offset + length b.cells ≤ n)
@@ -66,16 +66,16 @@ blocks_distinct (b ∷ bs) h =
     (each_map (Within b.offset (b.offset + length b.cells)) (λ e. Each (Differ e) (flat_map block_cells bs)) (block_cells b)
     (λ e w. each_map (Outside b) (Differ e) (flat_map block_cells bs) (λ f o. inside_differs b (at e) (at f) w.0 w.1 o) (all_outside b bs h.0)) (block_within b.offset b.cells))
 
-blocks_above : (bs : List ConfigBlock) → Each IsConfigBlock bs → Each (λ (e : Entry). 0x40 ≤ at e) (flat_map block_cells bs)
+blocks_above : (bs : List ConfigBlock) → Each IsConfigBlock bs → Each (λ (e : PlacedCell). 0x40 ≤ at e) (flat_map block_cells bs)
 blocks_above [] h = tt
 blocks_above (b ∷ bs) h =
     let begins : 0x40 ≤ b.offset = h.0.begins in
-    each_append (λ (e : Entry). 0x40 ≤ at e) (block_cells b) (flat_map block_cells bs)
+    each_append (λ (e : PlacedCell). 0x40 ≤ at e) (block_cells b) (flat_map block_cells bs)
     (each_map (Within b.offset (b.offset + length b.cells)) (λ e. 0x40 ≤ at e) (block_cells b) (λ e w. omega arith) (block_within b.offset b.cells)) (blocks_above bs h.1)
 
 -- ---- the header
 
-abbrev differ : Entry → Entry → Bool
+abbrev differ : PlacedCell → PlacedCell → Bool
 differ e f = not (eqb (at e) (at f))
 
 differ_lem : (m n : ℕ) → not (eqb m n) ≡ true → m ≢ n
@@ -83,24 +83,24 @@ differ_lem m n h = grind (arith, nat_tests)
 
 -- a table in which offsets are written out
 distinct_by_test : (file : File) → all_pairs differ file ≡ true → EachPair Differ file
-distinct_by_test file h = pairs_map (λ (e f : Entry). IsTrue (differ e f)) Differ file (λ e f t. differ_lem (at e) (at f) t) (pairs_test differ file h)
+distinct_by_test file h = pairs_map (λ (e f : PlacedCell). IsTrue (differ e f)) Differ file (λ e f t. differ_lem (at e) (at f) t) (pairs_test differ file h)
 
 header_distinct : (d : Endpoint) (multifunction : Bool) → EachPair Differ (header_cells d multifunction 0)
 header_distinct d multifunction = distinct_by_test (header_cells d multifunction 0) refl
 
-header_below : (d : Endpoint) (multifunction : Bool) → Each (λ (e : Entry). at e < 0x40) (header_cells d multifunction 0)
+header_below : (d : Endpoint) (multifunction : Bool) → Each (λ (e : PlacedCell). at e < 0x40) (header_cells d multifunction 0)
 header_below d multifunction =
-    each_map (λ (e : Entry). IsTrue (ltb (at e) 0x40)) (λ e. at e < 0x40) (header_cells d multifunction 0) (λ e t. ltb-true _ _ t) (each_test (λ e. ltb (at e) 0x40) (header_cells d multifunction 0) refl)
+    each_map (λ (e : PlacedCell). IsTrue (ltb (at e) 0x40)) (λ e. at e < 0x40) (header_cells d multifunction 0) (λ e t. ltb-true _ _ t) (each_test (λ e. ltb (at e) 0x40) (header_cells d multifunction 0) refl)
 
 reset_distinct : (d : Endpoint) (multifunction : Bool) → Each IsConfigBlock d.blocks → EachPair (λ (b c : ConfigBlock). IsTrue (blocks_apart b c)) d.blocks → EachPair Differ (config_reset d multifunction)
 reset_distinct d multifunction lawful apart =
     pairs_append (header_cells d multifunction 0) (flat_map block_cells d.blocks) (header_distinct d multifunction) (blocks_distinct d.blocks apart)
-    (each_map (λ (e : Entry). at e < 0x40) (λ e. Each (Differ e) (flat_map block_cells d.blocks)) (header_cells d multifunction 0)
-    (λ e low. each_map (λ (f : Entry). 0x40 ≤ at f) (Differ e) (flat_map block_cells d.blocks) (λ f high. omega arith) (blocks_above d.blocks lawful)) (header_below d multifunction))
+    (each_map (λ (e : PlacedCell). at e < 0x40) (λ e. Each (Differ e) (flat_map block_cells d.blocks)) (header_cells d multifunction 0)
+    (λ e low. each_map (λ (f : PlacedCell). 0x40 ≤ at f) (Differ e) (flat_map block_cells d.blocks) (λ f high. omega arith) (blocks_above d.blocks lawful)) (header_below d multifunction))
 
 -- ---- as lists
 
-each_listed : (P : ℕ → Type 0) (cs : List (ℕ × Cell)) → Each (λ (e : Entry). P (at e)) (file_of cs) → Each (λ (c : ℕ × Cell). P c.0) cs
+each_listed : (P : ℕ → Type 0) (cs : List (ℕ × Cell)) → Each (λ (e : PlacedCell). P (at e)) (file_of cs) → Each (λ (c : ℕ × Cell). P c.0) cs
 each_listed P [] h = tt
 each_listed P (c ∷ cs) h = (h.0, each_listed P cs h.1)
 

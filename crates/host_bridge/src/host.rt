@@ -20,7 +20,7 @@ ghost use Rattle.host_bridge.specs.Landings.{IsLanding};
 use crate::latch::{Target, cycle_of, target_of};
 use crate::route::Route;
 use address_latch::Latch;
-use bars::{Region, Space, enabled_bits};
+use bars::{BasedRegion, Space, enabled_bits};
 use bridge_forward::{Bus, Claim, Located, Path, RoutingRow};
 use config_bytes::{Op, all_ones, enables_of, into_lanes, lowered};
 use headers::Apertures;
@@ -172,7 +172,7 @@ impl Host {
 
     /// At the index of its first register, each region of the endpoint at an index, where its registers say
     /// now; none where no endpoint stands.
-    pub fn placed_nth(&self, index: usize) -> [Option<Region>; 6]
+    pub fn placed_nth(&self, index: usize) -> [Option<BasedRegion>; 6]
         ensures { bases_from 0 result ≡ bases_nth self.now.state.functions index }
     {
         self.root.placed_nth(index)

@@ -4,7 +4,7 @@ use Rattle.std.specs.Prelude.{is_some, nat_le}
 use Rattle.std.specs.Option.{option_map_or}
 use Rattle.std.specs.Str.{bytes_eq}
 use Rattle.model_registers.specs.Cell.{Cell}
-use Rattle.model_registers.specs.Registers.{Place, place_eq, Entry, File, cell_at, changed}
+use Rattle.model_registers.specs.Registers.{Place, place_eq, PlacedCell, File, cell_at, changed}
 use Rattle.model_registers.specs.FileLaws.{has_place}
 use Rattle.model_registers.specs.OwnCopies.{is_own}
 use Rattle.model_registers.specs.DeviceBytes.{is_device_byte, set_value}
@@ -99,9 +99,9 @@ reads_written g d v fault f p there at stands = grind (arith, low_slot, with_fil
 -- one byte of the agreed file, where the guest's has a cell there
 board_byte : (f : Cell → Cell) (p : Place) → is_own p ≡ false → (left own : File) → has_place own p ≡ true → agreed_file left (changed f p own) ≡ changed f p (agreed_file left own)
 board_byte f p other [] own stands = refl
-board_byte f p other (e ∷ es) own stands = ap₂ (λ (x : Entry) (xs : File). x ∷ xs) (entry (is_own e.place) refl (place_eq e.place p) refl) (board_byte f p other es own stands)
+board_byte f p other (e ∷ es) own stands = ap₂ (λ (x : PlacedCell) (xs : File). x ∷ xs) (entry (is_own e.place) refl (place_eq e.place p) refl) (board_byte f p other es own stands)
   where
-    agreed_entry : File → Entry
+    agreed_entry : File → PlacedCell
     agreed_entry file = cond (is_own e.place) e (record e { cell = cell_at file e.place })
 
     entry : (t : Bool) → is_own e.place ≡ t → (u : Bool) → place_eq e.place p ≡ u

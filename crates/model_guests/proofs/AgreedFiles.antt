@@ -5,7 +5,7 @@ use Rattle.std.specs.List.{list_any}
 use Rattle.std.proofs.lemmas.Bool.Decides.{nat_tests}
 use Rattle.lists.specs.Elements.{Each, EachPair}
 use Rattle.model_registers.specs.Cell.{Cell, no_cell, written}
-use Rattle.model_registers.specs.Registers.{Place, place_eq, after, Entry, File, cell_at, changed, write}
+use Rattle.model_registers.specs.Registers.{Place, place_eq, after, PlacedCell, File, cell_at, changed, write}
 use Rattle.model_registers.proofs.RegisterFiles.{change_at_place, place_same, place_turned}
 use Rattle.model_registers.proofs.Owned.{raised_none, no_cell_stays}
 use Rattle.model_registers.specs.OwnCopies.{is_own, handed_on}
@@ -21,10 +21,10 @@ place_self p = grind (arith, nat_tests)
 
 -- ---- what the agreed file holds
 
-abbrev agreed_entry : File → Entry → Entry
+abbrev agreed_entry : File → PlacedCell → PlacedCell
 agreed_entry own e = cond (is_own e.place) e (record e { cell = cell_at own e.place })
 
-entry_place : (own : File) (e : Entry) (t : Bool) → is_own e.place ≡ t → (agreed_entry own e).place ≡ e.place
+entry_place : (own : File) (e : PlacedCell) (t : Bool) → is_own e.place ≡ t → (agreed_entry own e).place ≡ e.place
 entry_place own e t h = grind arith
 
 pub agreed_places : (left own : File) → places_of (agreed_file left own) ≡ places_of left
@@ -80,7 +80,7 @@ shows_file left own same p (on ∷ ons) = ap₂ (λ (x y : ℕ). x + 256 * y) (c
 
 -- ---- no other file holds that
 
-tail_cells : (e d : Entry) (es ds : File) → e.place ≡ d.place → (ps : List Place) → Each (λ p. IsFalse (place_eq e.place p)) ps
+tail_cells : (e d : PlacedCell) (es ds : File) → e.place ≡ d.place → (ps : List Place) → Each (λ p. IsFalse (place_eq e.place p)) ps
     → Each (λ p. cell_at (e ∷ es) p ≡ cell_at (d ∷ ds) p) ps → Each (λ p. cell_at es p ≡ cell_at ds p) ps
 tail_cells e d es ds same [] apart cells = tt
 tail_cells e d es ds same (p ∷ ps) apart cells =
@@ -99,7 +99,7 @@ same_files (e ∷ es) (d ∷ ds) same distinct cells =
     let here : place_eq e.place e.place ≡ true = place_self e.place in
     let there : place_eq d.place e.place ≡ true = ap (λ (q : Place). place_eq q e.place) (sym place) ∙ here in
     let cell : e.cell ≡ d.cell = rw there at (rw here at cells.0) in
-    ap₂ (λ (x : Entry) (xs : File). x ∷ xs) (λ i. record { place = place i; cell = cell i })
+    ap₂ (λ (x : PlacedCell) (xs : File). x ∷ xs) (λ i. record { place = place i; cell = cell i })
     (same_files es ds places distinct.1 (tail_cells e d es ds place (places_of es) distinct.0 cells.1))
 
 pub each_of : (P : Place → Type 0) → ((p : Place) → P p) → (ps : List Place) → Each P ps
@@ -118,26 +118,26 @@ only_file left own now distinct holds =
 -- ---- changes
 
 -- a guest's copy is nothing of the board's
-own_entry : (f : Cell → Cell) → f no_cell ≡ no_cell → (p : Place) → is_own p ≡ true → (own : File) (e : Entry) (t : Bool) → is_own e.place ≡ t
+own_entry : (f : Cell → Cell) → f no_cell ≡ no_cell → (p : Place) → is_own p ≡ true → (own : File) (e : PlacedCell) (t : Bool) → is_own e.place ≡ t
     → agreed_entry (changed f p own) e ≡ agreed_entry own e
 own_entry f none p h own e true i = rw i
 own_entry f none p h own e false i = grind (arith, change_at_place, place_same)
 
 pub own_change : (f : Cell → Cell) → f no_cell ≡ no_cell → (p : Place) → is_own p ≡ true → (left own : File) → agreed_file left (changed f p own) ≡ agreed_file left own
 own_change f none p h [] own = refl
-own_change f none p h (e ∷ es) own = ap₂ (λ (x : Entry) (xs : File). x ∷ xs) (own_entry f none p h own e (is_own e.place) refl) (own_change f none p h es own)
+own_change f none p h (e ∷ es) own = ap₂ (λ (x : PlacedCell) (xs : File). x ∷ xs) (own_entry f none p h own e (is_own e.place) refl) (own_change f none p h es own)
 
-abbrev changed_entry : (Cell → Cell) → Place → Entry → Entry
+abbrev changed_entry : (Cell → Cell) → Place → PlacedCell → PlacedCell
 changed_entry f p e = cond (place_eq e.place p) (record e { cell = f e.cell }) e
 
-board_entry : (f : Cell → Cell) → f no_cell ≡ no_cell → (p : Place) → is_own p ≡ false → (own : File) (e : Entry) (t : Bool) → is_own e.place ≡ t → (u : Bool) → place_eq e.place p ≡ u
+board_entry : (f : Cell → Cell) → f no_cell ≡ no_cell → (p : Place) → is_own p ≡ false → (own : File) (e : PlacedCell) (t : Bool) → is_own e.place ≡ t → (u : Bool) → place_eq e.place p ≡ u
     → agreed_entry (changed f p own) e ≡ changed_entry f p (agreed_entry own e)
 board_entry f none p h own e t i u k = grind (arith, place_same, place_turned, change_at_place)
 
 pub board_change : (f : Cell → Cell) → f no_cell ≡ no_cell → (p : Place) → is_own p ≡ false → (left own : File) → agreed_file left (changed f p own) ≡ changed f p (agreed_file left own)
 board_change f none p h [] own = refl
 board_change f none p h (e ∷ es) own =
-    ap₂ (λ (x : Entry) (xs : File). x ∷ xs) (board_entry f none p h own e (is_own e.place) refl (place_eq e.place p) refl) (board_change f none p h es own)
+    ap₂ (λ (x : PlacedCell) (xs : File). x ∷ xs) (board_entry f none p h own e (is_own e.place) refl (place_eq e.place p) refl) (board_change f none p h es own)
 
 pub writes_alike : WritesAlike
 writes_alike [] v p left own = refl

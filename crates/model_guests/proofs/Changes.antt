@@ -4,7 +4,7 @@ use Rattle.std.specs.Prelude.{map, IsFalse}
 use Rattle.std.specs.Str.{bytes_eq}
 use Rattle.lists.specs.Elements.{first_of_two}
 use Rattle.model_board.proofs.PlacesLaw.{apart_turn}
-use Rattle.model_registers.specs.Registers.{Entry, File, cell_at}
+use Rattle.model_registers.specs.Registers.{PlacedCell, File, cell_at}
 use Rattle.model_registers.specs.OwnCopies.{is_own}
 use Rattle.model_registers.specs.Decoding.{Function}
 use Rattle.model_registers.specs.EndpointTable.{endpoint_reset}
@@ -118,15 +118,15 @@ latch_keeps_board s gs name latch = same_files_over s gs (with_guest (with_latch
 
 -- ---- a file put in twice
 
-abbrev agreed_entry : File → Entry → Entry
+abbrev agreed_entry : File → PlacedCell → PlacedCell
 agreed_entry file e = cond (is_own e.place) e (record e { cell = cell_at file e.place })
 
-entry_twice : (own file : File) (e : Entry) (t : Bool) → is_own e.place ≡ t → agreed_entry file e ≡ agreed_entry file (agreed_entry own e)
+entry_twice : (own file : File) (e : PlacedCell) (t : Bool) → is_own e.place ≡ t → agreed_entry file e ≡ agreed_entry file (agreed_entry own e)
 entry_twice own file e t h = grind arith
 
 pub agreed_twice : (left own file : File) → agreed_file left file ≡ agreed_file (agreed_file left own) file
 agreed_twice [] own file = refl
-agreed_twice (e ∷ es) own file = ap₂ (λ (x : Entry) (xs : File). x ∷ xs) (entry_twice own file e (is_own e.place) refl) (agreed_twice es own file)
+agreed_twice (e ∷ es) own file = ap₂ (λ (x : PlacedCell) (xs : File). x ∷ xs) (entry_twice own file e (is_own e.place) refl) (agreed_twice es own file)
 
 pub resets_alike : ResetsAlike
 resets_alike d left own = agreed_twice left own (endpoint_reset d false)

@@ -7,7 +7,7 @@ use Rattle.std.proofs.lemmas.Bool.{eqb-true}
 use Rattle.std.proofs.lemmas.Bool.Decides.{nat_tests}
 use Rattle.model_registers.specs.Cell.{Cell, raised}
 use Rattle.lists.specs.Elements.{Each}
-use Rattle.model_registers.specs.Registers.{Place, config, block, place_eq, Entry, File, raise, field, cells_from}
+use Rattle.model_registers.specs.Registers.{Place, config, block, place_eq, PlacedCell, File, raise, field, cells_from}
 use Rattle.model_registers.specs.Declarations.{Kind, Region, ConfigBlock, Endpoint}
 use Rattle.model_registers.specs.DeclarationRules.{IsLawfulEndpoint}
 use Rattle.model_registers.specs.EndpointTable.{base_cells, region_cells, block_cells, header_cells, config_cells, endpoint_reset}
@@ -22,14 +22,14 @@ use Rattle.lists.proofs.EachLemmas.{each_append}
 use Rattle.model_registers.proofs.RegisterFiles.{place_same}
 
 -- no bit of the cell rises where the guest has a copy
-abbrev pub stays_low : Entry → Bool
+abbrev pub stays_low : PlacedCell → Bool
 stays_low e = not (is_own e.place) || eqb e.cell.clearable 0
 
 abbrev pub StaysLow : File → Type 0
 StaysLow file = Each (λ e. stays_low e ≡ true) file
 
 -- where no bit rises, a raise changes nothing
-low_cell : (m : ℕ) (e : Entry) → is_own e.place ≡ true → stays_low e ≡ true → record e { cell = raised m e.cell } ≡ e
+low_cell : (m : ℕ) (e : PlacedCell) → is_own e.place ≡ true → stays_low e ≡ true → record e { cell = raised m e.cell } ≡ e
 low_cell m e own low =
     let test : eqb e.cell.clearable 0 ≡ true = rw own at low in
     let none : e.cell.clearable ≡ 0 = eqb-true e.cell.clearable 0 test in
@@ -38,7 +38,7 @@ low_cell m e own low =
 
 pub not_raised : (m : ℕ) (p : Place) → is_own p ≡ true → (file : File) → StaysLow file → raise m p file ≡ file
 not_raised m p own [] low = refl
-not_raised m p own (e ∷ es) low = ap₂ (λ (x : Entry) (xs : File). x ∷ xs) (here (place_eq e.place p) refl) (not_raised m p own es low.1)
+not_raised m p own (e ∷ es) low = ap₂ (λ (x : PlacedCell) (xs : File). x ∷ xs) (here (place_eq e.place p) refl) (not_raised m p own es low.1)
   where
     here : (t : Bool) → place_eq e.place p ≡ t → cond t (record e { cell = raised m e.cell }) e ≡ e
     here true same = low_cell m e (ap is_own (place_same e.place p same) ∙ own) low.0

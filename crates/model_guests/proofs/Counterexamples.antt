@@ -2,7 +2,7 @@
 use Rattle.std.proofs.Common.{◌≡◌, ℕ, true, false, cond, [], ◌∷◌, Some, None, refl, ap, ◌∙◌, arith, eqb, lit≤}
 use Rattle.std.specs.Prelude.{map, codes, sum}
 use Rattle.std.proofs.lemmas.Bool.Decides.{nat_tests}
-use Rattle.model_registers.specs.Registers.{config, place_eq, Entry, File, cell_at, raise}
+use Rattle.model_registers.specs.Registers.{config, place_eq, PlacedCell, File, cell_at, raise}
 use Rattle.model_registers.specs.Declarations.{Endpoint}
 use Rattle.model_registers.specs.EndpointTable.{endpoint_reset}
 use Rattle.model_board.specs.Paths.{Path}
@@ -27,7 +27,7 @@ differ a b h e = let no : eqb a a ≡ false = ap (eqb a) e ∙ h in let yes : eq
 
 -- places alone don't keep the copies from rising
 raisable : File
-raisable = map (λ (e : Entry). cond (place_eq e.place (config 4)) (record e { cell = record e.cell { clearable = 0xff } }) e) (endpoint_reset (plain 1 0 0 []) false)
+raisable = map (λ (e : PlacedCell). cond (place_eq e.place (config 4)) (record e { cell = record e.cell { clearable = 0xff } }) e) (endpoint_reset (plain 1 0 0 []) false)
 
 same_places : places_of raisable ≡ places_of (endpoint_reset (plain 1 0 0 []) false)
 unfolding raisable
@@ -60,7 +60,7 @@ AnyMoveResets = (s : State) (gs : GuestsNow) → AreSeated (board_at s.functions
     → (p : Path) (f : Function) → path_in gs m.from m.slot ≡ Some p → function_in gs m.from m.slot ≡ Some f → state_over s (after_move gs m) ≡ with_change_at (after_reset f.decl) p (state_over s gs)
 
 total : State → ℕ
-total s = sum (map (λ f. sum (map (λ (e : Entry). e.cell.value) f.file)) s.functions)
+total s = sum (map (λ f. sum (map (λ (e : PlacedCell). e.cell.value) f.file)) s.functions)
 
 not_any : AnyMoveResets → ⊥
 unfolding world lost twice place total

@@ -4,7 +4,7 @@ use Rattle.std.specs.Prelude.{slice_set, IsFalse}
 use Rattle.std.specs.Str.{bytes_eq}
 use Rattle.lists.specs.Elements.{Each, EachPair}
 use Rattle.model_registers.specs.Cell.{Cell, written}
-use Rattle.model_registers.specs.Registers.{Place, place_eq, after, Entry, File, changed, write}
+use Rattle.model_registers.specs.Registers.{Place, place_eq, after, PlacedCell, File, changed, write}
 use Rattle.model_registers.specs.Decoding.{Function}
 use Rattle.model_board.specs.Paths.{Path}
 use Rattle.model_board.specs.Board.{Board}
@@ -24,7 +24,7 @@ bare c = record c { value = 0 }
 
 pub changed_shape : (f : Cell → Cell) → ((c : Cell) → bare (f c) ≡ bare c) → (p : Place) (file : File) → shape_of (changed f p file) ≡ shape_of file
 changed_shape f keeps p [] = refl
-changed_shape f keeps p (e ∷ es) = ap₂ (λ (x : Entry) (xs : File). x ∷ xs) (here (place_eq e.place p)) (changed_shape f keeps p es)
+changed_shape f keeps p (e ∷ es) = ap₂ (λ (x : PlacedCell) (xs : File). x ∷ xs) (here (place_eq e.place p)) (changed_shape f keeps p es)
   where
     here : (t : Bool) → record (cond t (record e { cell = f e.cell }) e) { cell = bare (cond t (record e { cell = f e.cell }) e).cell } ≡ record e { cell = bare e.cell }
     here true = ap (λ (c : Cell). record e { cell = c }) (keeps e.cell)

@@ -4,7 +4,7 @@ use Rattle.std.specs.Prelude.{flat_map, ⊤, IsFalse}
 use Rattle.lists.specs.Elements.{Each}
 use Rattle.model_registers.proofs.Owned.{base_is_own}
 use Rattle.model_registers.specs.Cell.{Cell}
-use Rattle.model_registers.specs.Registers.{Place, config, place_eq, Entry, File, cell_at, field}
+use Rattle.model_registers.specs.Registers.{Place, config, place_eq, PlacedCell, File, cell_at, field}
 use Rattle.model_registers.specs.Declarations.{Kind, registers_of, Region, Endpoint, IsLawfulRegion}
 use Rattle.model_registers.specs.EndpointTable.{base_cells, region_cells, block_cells, header_cells, config_cells, endpoint_file, endpoint_reset}
 use Rattle.model_registers.specs.OwnCopies.{is_own}
@@ -13,7 +13,7 @@ use Rattle.model_guests.proofs.DistinctPlaces.{HasDistinctPlaces}
 use Rattle.model_guests.proofs.AgreedFiles.{place_self}
 
 -- entry by entry: the same place, and the same cell unless the guest has a copy of it
-pub record AlikeEntries (own left : Entry) : Type 0 where
+pub record AlikeEntries (own left : PlacedCell) : Type 0 where
   pub place : own.place ≡ left.place
   pub cell : is_own left.place ≡ false → own.cell ≡ left.cell
 
@@ -88,7 +88,7 @@ agreed_entries : (full own left : File) → Alike own left → Each (λ e. cell_
 agreed_entries full [] [] alike found = refl
 agreed_entries full [] (l ∷ ls) alike found = absurd alike
 agreed_entries full (o ∷ os) [] alike found = absurd alike
-agreed_entries full (o ∷ os) (l ∷ ls) alike found = ap₂ (λ (e : Entry) (es : File). e ∷ es) (here (is_own l.place) refl) (agreed_entries full os ls alike.1 found.1)
+agreed_entries full (o ∷ os) (l ∷ ls) alike found = ap₂ (λ (e : PlacedCell) (es : File). e ∷ es) (here (is_own l.place) refl) (agreed_entries full os ls alike.1 found.1)
   where
     here : (t : Bool) → is_own l.place ≡ t → cond t l (record l { cell = cell_at full l.place }) ≡ l
     here t h = grind arith

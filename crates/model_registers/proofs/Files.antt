@@ -2,7 +2,7 @@
 use Rattle.std.proofs.Common.{◌≡◌, ◌≢◌, ℕ, ◌+◌, ◌*◌, ◌/◌, ◌%◌, Bool, true, false, ◌||◌, ◌&&◌, cond, eqb, [], ◌∷◌, ◌++◌, refl, sym, ap, ap₂, ◌∙◌, subst, arith}
 use Rattle.std.proofs.lemmas.Bool.{ne_eqb, eq-eqb, or_parts}
 use Rattle.model_registers.specs.Cell.{Cell, no_cell, written}
-use Rattle.model_registers.specs.Registers.{Place, config, block, place_eq, after, offset_of, Entry, File, cell_at, changed, write, in_region}
+use Rattle.model_registers.specs.Registers.{Place, config, block, place_eq, after, offset_of, PlacedCell, File, cell_at, changed, write, in_region}
 use Rattle.model_registers.specs.FileLaws.{has_place, IsConfig, IsConfigFile, JoinedCell, JoinedChange, JoinedWrite, ReadNone, WriteNone, ReadSecond, ReadFirst, PlacesStay, RegionCells, RegionCell, RegionRead, RegionChange, RegionWrite, RegionHasNoConfig, RegionHasNoOther, ConfigHasNoBlock, ConfigStays}
 
 -- ---- joined files
@@ -66,7 +66,7 @@ read_first [] p xs ys h = refl
 read_first (true ∷ ons) p xs ys h = ap₂ (λ (c : Cell) n. c.value + 256 * n) (first_cell xs ys p (h.0 refl)) (read_first ons (after p) xs ys h.1)
 read_first (false ∷ ons) p xs ys h = ap (λ n. 0 + 256 * n) (read_first ons (after p) xs ys h.1)
 
-pub same_place : (t : Bool) (e : Entry) (c : Cell) → (cond t (record e { cell = c }) e).place ≡ e.place
+pub same_place : (t : Bool) (e : PlacedCell) (c : Cell) → (cond t (record e { cell = c }) e).place ≡ e.place
 same_place t e c = grind arith
 
 pub change_keeps_places : (f : Cell → Cell) (p q : Place) (file : File) → has_place (changed f p file) q ≡ has_place file q
@@ -137,17 +137,17 @@ region_read [] n a file h = refl
 region_read (true ∷ ons) n a file h = ap₂ (λ (c : Cell) k. c.value + 256 * k) (region_cell n a file h) (region_read ons n (a + 1) file h)
 region_read (false ∷ ons) n a file h = ap (λ k. 0 + 256 * k) (region_read ons n (a + 1) file h)
 
-changed_entry : (n : ℕ) (t : Bool) (e : Entry) (c : Cell)
-    → let moved : Entry = record e { place = block n (offset_of e.place) } in
-    let one : Entry = cond t (record e { cell = c }) e in
+changed_entry : (n : ℕ) (t : Bool) (e : PlacedCell) (c : Cell)
+    → let moved : PlacedCell = record e { place = block n (offset_of e.place) } in
+    let one : PlacedCell = cond t (record e { cell = c }) e in
     cond t (record moved { cell = c }) moved ≡ record one { place = block n (offset_of one.place) }
 changed_entry n t e c = grind arith
 
 pub region_change : RegionChange
 region_change f n a [] h = refl
 region_change f n a (e ∷ es) h =
-    let moved : Entry = record e { place = block n (offset_of e.place) } in
-    ap₂ (λ (d : Entry) (file : File). d ∷ file)
+    let moved : PlacedCell = record e { place = block n (offset_of e.place) } in
+    ap₂ (λ (d : PlacedCell) (file : File). d ∷ file)
     (ap (λ (t : Bool). cond t (record moved { cell = f e.cell }) moved) (at_offset e.place n a h.0) ∙ changed_entry n (place_eq e.place (config a)) e (f e.cell))
     (region_change f n a es h.1)
 

@@ -8,7 +8,7 @@ use Rattle.std.proofs.lemmas.Nat.{or_mod, and_mod, and_mask, or_shr, and_shr}
 use Rattle.std.proofs.Math.Arith.{mod-mul}
 use Rattle.std.proofs.Math.Nat.{pow-suc, one-le-pow, mod-one, mod-eq_of_lt}
 use Rattle.model_registers.specs.Cell.{Cell, written}
-use Rattle.model_registers.specs.Registers.{Place, config, place_eq, Entry, File, cell_at, changed, field, number, write, all_bytes}
+use Rattle.model_registers.specs.Registers.{Place, config, place_eq, PlacedCell, File, cell_at, changed, field, number, write, all_bytes}
 use Rattle.model_registers.specs.RegisterLaws.{ChangeAtPlace, FieldReads, FieldWrites, merged}
 use Rattle.lists.proofs.Tests.{left_true, right_true}
 
@@ -18,7 +18,7 @@ place_same p q h = grind (arith, eqb-true, left_true, right_true)
 pub place_turned : (p q : Place) → place_eq p q ≡ place_eq q p
 place_turned p q = grind (arith, nat_tests)
 
-change_cases : (f : Cell → Cell) (e : Entry) (es : File) (p q : Place) (t u : Bool) → place_eq e.place p ≡ t → place_eq p q ≡ u
+change_cases : (f : Cell → Cell) (e : PlacedCell) (es : File) (p q : Place) (t u : Bool) → place_eq e.place p ≡ t → place_eq p q ≡ u
     → cell_at (changed f p es) q ≡ cond u (f (cell_at es q)) (cell_at es q)
     → cell_at (cond t (record e { cell = f e.cell }) e ∷ changed f p es) q ≡ cond u (f (cell_at (e ∷ es) q)) (cell_at (e ∷ es) q)
 change_cases f e es p q t u ep pq more = grind (arith, place_same)

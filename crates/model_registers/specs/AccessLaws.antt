@@ -7,7 +7,7 @@
 --     HoldsBytes, NumberFits, ReadsEnabled      where each cell holds a byte, what is read has its bytes alone
 use Rattle.std.specs.Prelude.{◌≡◌, ◌<◌, ℕ, ◌-◌, ◌/◌, ◌%◌, ◌^◌, Bool, false, List, replicate}
 use Rattle.lists.specs.Elements.{Each}
-use Rattle.model_registers.specs.Registers.{Place, offset_of, Entry, File, read, write, number, all_bytes, all_ones}
+use Rattle.model_registers.specs.Registers.{Place, offset_of, PlacedCell, File, read, write, number, all_bytes, all_ones}
 use Rattle.model_registers.specs.ByteEnables.{lanes, enabled_bytes, IsWidth, LiesInWord, enables_of, into_lanes}
 use Rattle.model_registers.specs.ByteEnables.{from_lanes, word_of}
 
@@ -51,7 +51,7 @@ DisabledStay = (k v : ℕ) (file : File) (p : Place) → write (replicate k fals
 
 -- each cell's value is a byte
 abbrev pub HoldsBytes : File → Type 0
-HoldsBytes file = Each (λ (e : Entry). e.cell.value < 256) file
+HoldsBytes file = Each (λ (e : PlacedCell). e.cell.value < 256) file
 
 abbrev pub NumberFits : Type 0
 NumberFits = (file : File) → HoldsBytes file → (p : Place) (w : ℕ) → number file p w < 256 ^ w

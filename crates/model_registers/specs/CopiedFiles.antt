@@ -4,7 +4,7 @@
 --     with_copies copies file      a file with the cells of the copies at their places
 --     after_reset d file      the board's file of a function that is at reset but for what its guests have copies of
 use Rattle.std.specs.Prelude.{List, if◌then◌else◌, map, false}
-use Rattle.model_registers.specs.Registers.{Place, Entry, File, cell_at}
+use Rattle.model_registers.specs.Registers.{Place, PlacedCell, File, cell_at}
 use Rattle.model_registers.specs.Declarations.{Endpoint}
 use Rattle.model_registers.specs.EndpointTable.{endpoint_reset}
 use Rattle.model_registers.specs.OwnCopies.{is_own}
@@ -14,12 +14,12 @@ places_of file = map (λ e. e.place) file
 
 -- which bits of each cell can be written and cleared stays
 abbrev pub shape_of : File → File
-shape_of file = map (λ (e : Entry). record e { cell = record e.cell { value = 0 } }) file
+shape_of file = map (λ (e : PlacedCell). record e { cell = record e.cell { value = 0 } }) file
 
 abbrev pub agreed_file : File → File → File
-agreed_file left own = map (λ (e : Entry). if is_own e.place then e else record e { cell = cell_at own e.place }) left
+agreed_file left own = map (λ (e : PlacedCell). if is_own e.place then e else record e { cell = cell_at own e.place }) left
 
-abbrev pub copied : File → Entry → Entry
+abbrev pub copied : File → PlacedCell → PlacedCell
 copied copies e = if is_own e.place then record e { cell = cell_at copies e.place } else e
 
 abbrev pub with_copies : File → File → File

@@ -5,7 +5,7 @@
 use Rattle.std.specs.Prelude.{◌≡◌, ◌≢◌, ◌++◌, ⊤, ℕ, Bool, false, true, ◌||◌, if◌then◌else◌, List, [], ◌∷◌}
 use Rattle.lists.specs.Elements.{Each}
 use Rattle.model_registers.specs.Cell.{Cell}
-use Rattle.model_registers.specs.Registers.{Place, config, block, place_eq, after, Entry, File, cell_at, changed, read}
+use Rattle.model_registers.specs.Registers.{Place, config, block, place_eq, after, PlacedCell, File, cell_at, changed, read}
 use Rattle.model_registers.specs.Registers.{write, cells_from, in_region}
 
 abbrev pub has_place : File → Place → Bool
@@ -21,7 +21,7 @@ IsConfig (config a) = ⊤
 IsConfig (block n a) = ⊥
 
 abbrev pub IsConfigFile : File → Type 0
-IsConfigFile file = Each (λ (e : Entry). IsConfig e.place) file
+IsConfigFile file = Each (λ (e : PlacedCell). IsConfig e.place) file
 
 -- ---- joined files
 

@@ -22,12 +22,12 @@ abbrev pub after : Place → Place
 after (config a) = config (a + 1)
 after (block n a) = block n (a + 1)
 
-pub record Entry : Type 0 where
+pub record PlacedCell : Type 0 where
   pub place : Place
   pub cell : Cell
 
 abbrev pub File : Type 0
-File = List Entry
+File = List PlacedCell
 
 abbrev pub cell_at : File → Place → Cell
 cell_at [] p = no_cell

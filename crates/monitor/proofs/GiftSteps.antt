@@ -32,7 +32,7 @@ use Rattle.model_handoff.proofs.Regions.{state_stays}
 use Rattle.model_handoff.proofs.Standing.{at_path}
 use Rattle.model_giving.specs.Giving.{has_closed_region, give_fault, endpoint_fault}
 use Rattle.model_handoff.proofs.Alike.{command_at}
-use Rattle.bars.specs.declared.region.Region.{Region}
+use Rattle.bars.specs.declared.region.BasedRegion.{BasedRegion}
 use Rattle.bars.specs.Resets.{with_no_base}
 use Rattle.bars.specs.Slots.{bases_from}
 use Rattle.bridge_forward.specs.BasesNow.{bases_of, bases_nth}
@@ -149,7 +149,7 @@ in_guests s board i r at ts ws gs are = absurd are
 
 -- ---- closed regions
 
-pub closed_slots : (command n : ℕ) (slots : List (Option Region)) → list_any (is_closed_slot command) slots ≡ list_any (is_closed_base command) (bases_from n slots)
+pub closed_slots : (command n : ℕ) (slots : List (Option BasedRegion)) → list_any (is_closed_slot command) slots ≡ list_any (is_closed_base command) (bases_from n slots)
 closed_slots command n [] = refl
 closed_slots command n (None ∷ slots) = closed_slots command (n + 1) slots
 closed_slots command n (Some r ∷ slots) = ap (λ t. not (opens_space command (space_of r.decl.kind)) || t) (closed_slots command (n + 1) slots)
@@ -158,7 +158,7 @@ closed_bases : (command : ℕ) (file : File) (rs : List Declared) → list_any (
 closed_bases command file [] = refl
 closed_bases command file (r ∷ rs) = ap (λ t. not (opens_space command (space_of r.kind)) || t) (closed_bases command file rs)
 
-pub closed_told : (fs : List BoardFunction) (i : ℕ) (f : BoardFunction) → slice_get fs i ≡ Some f → (command : ℕ) → Some command ≡ option_map (λ (g : BoardFunction). number g.file (config 4) 2) (slice_get fs i) → (placed : List (Option Region)) → bases_from 0 placed ≡ bases_nth fs i
+pub closed_told : (fs : List BoardFunction) (i : ℕ) (f : BoardFunction) → slice_get fs i ≡ Some f → (command : ℕ) → Some command ≡ option_map (λ (g : BoardFunction). number g.file (config 4) 2) (slice_get fs i) → (placed : List (Option BasedRegion)) → bases_from 0 placed ≡ bases_nth fs i
     → list_any (is_closed_slot command) placed ≡ list_any (is_closed_base (command_word f.file)) (bases_of f.decl f.file)
 closed_told fs i f at command told placed bases = search (rules, closed_slots)
 

@@ -18,7 +18,7 @@ use Rattle.model_guests.specs.Slots.{slot_at}
 use Rattle.model_guests.specs.Text.{Text}
 use Rattle.model_guests.specs.WorldNow.{WorldNow}
 use Rattle.model_queries.specs.Regions.{RegionNow, is_prefetchable, region_now, region_at, region_of, region_answer}
-use Rattle.bars.specs.declared.region.Region as program
+use Rattle.bars.specs.declared.region.BasedRegion.{BasedRegion}
 use Rattle.bars.specs.Slots as bars
 use Rattle.host_bridge.specs.HostState.{HostState}
 use Rattle.monitor.specs.declared.guest.Held.{Held}
@@ -79,7 +79,7 @@ wide_base own file holds n low high others more first second k pref is room =
 
 -- ---- the region that begins at a register
 
-none_from : (n k : ℕ) (slots : List (Option program.Region)) → n < k → find (λ (x : BaseAddress). eqb x.index n) (bars.bases_from k slots) ≡ None
+none_from : (n k : ℕ) (slots : List (Option BasedRegion)) → n < k → find (λ (x : BaseAddress). eqb x.index n) (bars.bases_from k slots) ≡ None
 none_from n k [] h = refl
 none_from n k (None ∷ slots) h = none_from n (k + 1) slots (omega arith)
 none_from n k (Some r ∷ slots) h =
@@ -87,7 +87,7 @@ none_from n k (Some r ∷ slots) h =
     ap (λ (t : Bool). cond t (Some (bars.placed k r)) (find (λ (x : BaseAddress). eqb x.index n) (bars.bases_from (k + 1) slots))) other
     ∙ none_from n (k + 1) slots (omega arith)
 
-pub kept_at : (n k : ℕ) (slots : List (Option program.Region)) → find (λ (x : BaseAddress). eqb x.index (k + n)) (bars.bases_from k slots) ≡ option_map (bars.placed (k + n)) (bars.slot_at slots n)
+pub kept_at : (n k : ℕ) (slots : List (Option BasedRegion)) → find (λ (x : BaseAddress). eqb x.index (k + n)) (bars.bases_from k slots) ≡ option_map (bars.placed (k + n)) (bars.slot_at slots n)
 kept_at n k [] = refl
 kept_at zero k (None ∷ slots) = none_from (k + 0) (k + 1) slots (omega arith)
 kept_at zero k (Some r ∷ slots) =
@@ -123,7 +123,7 @@ same_place s p f h n held =
     ∙ ap (find (λ (x : BaseAddress). eqb x.index n)) held.placed ∙ placed_at s p n f.decl.regions
 
 -- none, or one of this kind and size
-pub record IsRegionAt (f : Function) (n : ℕ) (x : program.Region) : Type 0 where
+pub record IsRegionAt (f : Function) (n : ℕ) (x : BasedRegion) : Type 0 where
   pub region : Region
   pub there : region_at f n ≡ Some region
   pub index : region.index ≡ n
@@ -138,7 +138,7 @@ no_region s p f h n held none = by_region (region_at f n) (ap (option_map (bars.
     by_region None e = refl
     by_region (Some r) e = cc
 
-pub a_region : (s : State) (p : Path) (f : Function) (h : Held) (n : ℕ) (x : program.Region) → IsHeld s p f h → IsLawfulOwn h.own → bars.slot_at h.placed n ≡ Some x → IsRegionAt f n x
+pub a_region : (s : State) (p : Path) (f : Function) (h : Held) (n : ℕ) (x : BasedRegion) → IsHeld s p f h → IsLawfulOwn h.own → bars.slot_at h.placed n ≡ Some x → IsRegionAt f n x
 a_region s p f h n x held lawful some = by_region (region_at f n) refl (ap (option_map (bars.placed n)) (sym some) ∙ same_place s p f h n held)
   where
     by_region : (o : Option Region) → region_at f n ≡ o → Some (bars.placed n x) ≡ option_map (base_address (file_at s.functions p)) o → IsRegionAt f n x
@@ -161,7 +161,7 @@ a_region s p f h n x held lawful some = by_region (region_at f n) refl (ap (opti
 same_region : (x y : RegionNow) → x.space ≡ y.space → x.first ≡ y.first → x.size ≡ y.size → x.prefetchable ≡ y.prefetchable → x.is_open ≡ y.is_open → x ≡ y
 same_region x y e1 e2 e3 e4 e5 = search rules
 
-pub region_told : (f : Function) (n : ℕ) (x : program.Region) → IsRegionAt f n x → (k : Kind) → k ≡ x.decl.kind → (v : RegionNow) → v.space ≡ space_of k → (n + registers_of k ≤ 6 → v.first ≡ base f.file n k)
+pub region_told : (f : Function) (n : ℕ) (x : BasedRegion) → IsRegionAt f n x → (k : Kind) → k ≡ x.decl.kind → (v : RegionNow) → v.space ≡ space_of k → (n + registers_of k ≤ 6 → v.first ≡ base f.file n k)
     → v.size ≡ x.decl.size → v.prefetchable ≡ is_prefetchable k → v.is_open ≡ is_open f.file (space_of k) → Some v ≡ option_map (region_now f.file) (region_at f n)
 region_told f n x is k kind v space first size pref opened = search (rules, same_region)
 

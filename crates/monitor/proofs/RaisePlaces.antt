@@ -15,7 +15,7 @@ use Rattle.model_board.specs.Ports.{file_at}
 use Rattle.model_guests.specs.Accesses.{in_region}
 use Rattle.model_guests.specs.Slots.{raise_place}
 use Rattle.bars.specs.Slots.{bases_from, slot_at}
-use Rattle.bars.specs.declared.region.Region as program
+use Rattle.bars.specs.declared.region.BasedRegion.{BasedRegion}
 use Rattle.bridge_forward.proofs.Changes.{same_files}
 use Rattle.host_bridge.specs.ByIndex.{with_file_nth}
 use Rattle.monitor.specs.declared.guest.Held.{Held}
@@ -28,17 +28,17 @@ use Rattle.monitor.specs.Raises.{raised_beside_copies}
 abbrev reaches : ℕ → ℕ → BaseAddress → Bool
 reaches n off x = eqb x.index n && nat_lt off x.size
 
-abbrev kept_size : ℕ → Option program.Region → Bool
-kept_size off o = option_map_or (λ (r : program.Region). nat_lt off r.decl.size) o false
+abbrev kept_size : ℕ → Option BasedRegion → Bool
+kept_size off o = option_map_or (λ (r : BasedRegion). nat_lt off r.decl.size) o false
 
-none_below : (n k off : ℕ) (slots : List (Option program.Region)) → n < k → list_any (reaches n off) (bases_from k slots) ≡ false
+none_below : (n k off : ℕ) (slots : List (Option BasedRegion)) → n < k → list_any (reaches n off) (bases_from k slots) ≡ false
 none_below n k off [] h = refl
 none_below n k off (None ∷ slots) h = none_below n (k + 1) off slots (omega arith)
 none_below n k off (Some r ∷ slots) h =
     let other : eqb k n ≡ false = grind (arith, nat_tests) in
     ap₂ (λ (t u : Bool). (t && nat_lt off r.decl.size) || u) other (none_below n (k + 1) off slots (omega arith))
 
-any_kept : (n k off : ℕ) (slots : List (Option program.Region)) → list_any (reaches (k + n) off) (bases_from k slots) ≡ kept_size off (slot_at slots n)
+any_kept : (n k off : ℕ) (slots : List (Option BasedRegion)) → list_any (reaches (k + n) off) (bases_from k slots) ≡ kept_size off (slot_at slots n)
 any_kept n k off [] = refl
 any_kept zero k off (None ∷ slots) = none_below (k + 0) (k + 1) off slots (omega arith)
 any_kept zero k off (Some r ∷ slots) =
@@ -63,7 +63,7 @@ any_placed : (s : State) (p : Path) (n off : ℕ) (rs : List Region) → list_an
 any_placed s p n off [] = refl
 any_placed s p n off (r ∷ rs) = ap (λ (t : Bool). (eqb r.index n && nat_lt off r.size) || t) (any_placed s p n off rs)
 
-pub region_reaches : (s : State) (p : Path) (f : Function) (h : Held) (n off : ℕ) (o : Option program.Region) → IsHeld s p f h → slot_at h.placed n ≡ o
+pub region_reaches : (s : State) (p : Path) (f : Function) (h : Held) (n off : ℕ) (o : Option BasedRegion) → IsHeld s p f h → slot_at h.placed n ≡ o
     → kept_size off o ≡ is_some (raise_place f (in_region n) off)
 region_reaches s p f h n off o held at =
     let zero_on : 0 + n ≡ n = omega arith in

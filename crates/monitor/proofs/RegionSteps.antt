@@ -5,7 +5,7 @@ use Rattle.std.specs.Prelude.{option_map}
 use Rattle.lists.proofs.Indices.{set_same}
 use Rattle.model_registers.specs.ByteEnables.{IsWidth}
 use Rattle.model_registers.specs.Cell.{Cell, written}
-use Rattle.model_registers.specs.Registers.{Place, place_eq, block, after, Entry, File, changed, write, all_bytes, number}
+use Rattle.model_registers.specs.Registers.{Place, place_eq, block, after, PlacedCell, File, changed, write, all_bytes, number}
 use Rattle.model_registers.specs.Decoding.{Space, io, memory, Function}
 use Rattle.model_board.specs.State.{State}
 use Rattle.model_board.specs.Claims.{Claim}
@@ -42,7 +42,7 @@ bare_cell c = record c { value = 0 }
 
 pub changed_shape : (f : Cell → Cell) → ((c : Cell) → bare_cell (f c) ≡ bare_cell c) → (p : Place) (file : File) → shape_of (changed f p file) ≡ shape_of file
 changed_shape f keeps p [] = refl
-changed_shape f keeps p (e ∷ es) = ap₂ (λ (x : Entry) (xs : File). x ∷ xs) (one (place_eq e.place p)) (changed_shape f keeps p es)
+changed_shape f keeps p (e ∷ es) = ap₂ (λ (x : PlacedCell) (xs : File). x ∷ xs) (one (place_eq e.place p)) (changed_shape f keeps p es)
   where
     one : (t : Bool) → record (cond t (record e { cell = f e.cell }) e) { cell = bare_cell (cond t (record e { cell = f e.cell }) e).cell } ≡ record e { cell = bare_cell e.cell }
     one true = ap (λ (c : Cell). record e { cell = c }) (keeps e.cell)

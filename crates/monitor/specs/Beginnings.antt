@@ -4,7 +4,7 @@
 --     IsStanding s i p f      the endpoint f at reset stands in row i of the board, at the path p
 --     AreSlotsAtFirst      a guest's slots, the first of them with the endpoints at these paths
 use Rattle.std.specs.Prelude.{ℕ, ◌-◌, ◌≡◌, false, List, ◌++◌, Option, Some, None, map, option_map, length, replicate, slice_get}
-use Rattle.bars.specs.declared.region.Region.{Region}
+use Rattle.bars.specs.declared.region.BasedRegion.{BasedRegion}
 use Rattle.model_registers.specs.Declarations.{Bar}
 use Rattle.model_registers.specs.DeclarationRules.{IsLawfulEndpoint}
 use Rattle.model_registers.specs.EndpointTable.{endpoint_reset}
@@ -26,8 +26,8 @@ world_on h guests = record { board = board_below h; apertures = h.apertures; gue
 abbrev pub world_of : ReadyBoard → List Guest → World
 world_of r guests = world_on r.host guests
 
-abbrev pub declared_in : Option Region → Option Bar
-declared_in o = option_map (λ (r : Region). r.decl) o
+abbrev pub declared_in : Option BasedRegion → Option Bar
+declared_in o = option_map (λ (r : BasedRegion). r.decl) o
 
 pub record IsStanding (s : State) (i : ℕ) (p : Path) (f : Function) : Type 0 where
   pub lawful : IsLawfulEndpoint f.decl

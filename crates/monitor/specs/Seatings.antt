@@ -10,7 +10,7 @@
 use Rattle.std.specs.Prelude.{ℕ, List, Bool, false, ◌≡◌, not, Option, None, Some, Result, Ok, Err, slice_get, ⊤}
 use Rattle.std.specs.List.{list_any}
 use Rattle.std.specs.Option.{option_map_or}
-use Rattle.bars.specs.declared.region.Region.{Region}
+use Rattle.bars.specs.declared.region.BasedRegion.{BasedRegion}
 use Rattle.model_registers.specs.Declarations.{Endpoint}
 use Rattle.model_registers.specs.EndpointTable.{BaseAddress}
 use Rattle.model_registers.specs.Decoding.{opens_space, space_of}
@@ -56,8 +56,8 @@ has_index i gs = list_any (λ (g : Guest). list_any (is_at i) g.slots.items) gs
 abbrev pub is_closed_base : ℕ → BaseAddress → Bool
 is_closed_base command b = not (opens_space command (space_of b.kind))
 
-abbrev pub is_closed_slot : ℕ → Option Region → Bool
-is_closed_slot command o = option_map_or (λ (r : Region). not (opens_space command (space_of r.decl.kind))) o false
+abbrev pub is_closed_slot : ℕ → Option BasedRegion → Bool
+is_closed_slot command o = option_map_or (λ (r : BasedRegion). not (opens_space command (space_of r.decl.kind))) o false
 
 abbrev pub ComesIn : WorldNow → Path → Result Held Withheld → Type 0
 ComesIn w p (Ok held) = IsSlot w.handoff (Some p) (reset_function (declared (board_at w.handoff.functions) p)) (Some held)

@@ -19,14 +19,14 @@ ghost use Rattle.monitor.specs.Beginnings.{world_on, declared_in, IsStanding, Ar
 use crate::guest::{Guest, Held};
 use accesses::{GuestDecl, Names};
 use address_latch::Latch;
-use bars::{BarDecl, Region};
+use bars::{BarDecl, BasedRegion};
 use guest_functions::VirtualFunction;
 use host_bridge::Host;
 use paths::Path;
 use std::alloc::{AllocError, Global};
 
 /// What a base address register opens, whatever it holds.
-fn decl_of(region: Option<Region>) -> Option<BarDecl>
+fn decl_of(region: Option<BasedRegion>) -> Option<BarDecl>
     ensures { result ≡ declared_in region }
 {
     match region {
@@ -36,7 +36,7 @@ fn decl_of(region: Option<Region>) -> Option<BarDecl>
 }
 
 /// What each base address register of a function opens.
-fn decls_of(placed: &[Option<Region>; 6]) -> [Option<BarDecl>; 6]
+fn decls_of(placed: &[Option<BasedRegion>; 6]) -> [Option<BarDecl>; 6]
     ensures { result ≡ map declared_in placed.now }
 {
     [

@@ -13,7 +13,7 @@ ghost use Rattle.monitor.specs.Passing.{HasPassed, closed_if_given, first_closed
 use crate::audited::Audited;
 use accesses::GuestDecl;
 use bars::Space;
-use bridge_forward::{Ranges, RegionNow, RoutingRow};
+use bridge_forward::{Ranges, RoutingRegion, RoutingRow};
 use host_bridge::Host;
 use paths::Path;
 use std::alloc::{AllocError, Global};
@@ -23,7 +23,7 @@ use std::marker::Model;
 #[derive(Debug, Drop)]
 pub struct ClosedRegion {
     pub path: Path,
-    pub region: RegionNow,
+    pub region: RoutingRegion,
 }
 
 impl Model for ClosedRegion {
@@ -75,7 +75,7 @@ fn opens(command: u16, space: Space) -> bool
 }
 
 /// The first region of a function that Command doesn't open.
-fn closed_in(path: &Path, command: u16, regions: &[RegionNow]) -> Option<ClosedRegion>
+fn closed_in(path: &Path, command: u16, regions: &[RoutingRegion]) -> Option<ClosedRegion>
     ensures { result ≡ slice_get
         (filter (λ q. not (opens_space command q.space)) (map (region_now path.now) (map base_of regions.now))) 0 }
 {

@@ -19,7 +19,7 @@ use crate::guest::{Guest, Held};
 use crate::moving::is_taken;
 use crate::seat::is_at;
 use crate::withheld::Withheld;
-use bars::{Region, Space};
+use bars::{BasedRegion, Space};
 use bridge_forward::RangesNow;
 use host_bridge::Host;
 use paths::Path;
@@ -67,7 +67,7 @@ fn opens(command: u32, space: Space) -> bool
 }
 
 /// Whether it leaves the space of the region at a register closed.
-fn is_closed(command: u32, region: &Option<Region>) -> bool
+fn is_closed(command: u32, region: &Option<BasedRegion>) -> bool
     ensures { result ≡ is_closed_slot command region.now }
 {
     match region {
@@ -77,7 +77,7 @@ fn is_closed(command: u32, region: &Option<Region>) -> bool
 }
 
 /// The same of any of these.
-fn any_closed(command: u32, placed: &[Option<Region>; 6]) -> bool
+fn any_closed(command: u32, placed: &[Option<BasedRegion>; 6]) -> bool
     ensures { result ≡ list_any (is_closed_slot command) placed.now }
 {
     placed.iter().any(|region| is_closed(command, region))

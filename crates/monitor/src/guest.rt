@@ -1,6 +1,6 @@
 //! What the monitor keeps of each guest.
 use address_latch::Latch;
-use bars::Region;
+use bars::BasedRegion;
 use guest_functions::VirtualFunction;
 
 /// A function in a guest's slot: the guest's own copies, and where the function and its regions stand
@@ -10,7 +10,7 @@ pub(crate) struct Held {
     /// Command and base address registers as the guest has them.
     pub(crate) own: VirtualFunction,
     /// At the index of its first register, each region where the handoff has it.
-    pub(crate) placed: [Option<Region>; 6],
+    pub(crate) placed: [Option<BasedRegion>; 6],
     /// The index among the functions of the host.
     pub(crate) index: usize,
 }

@@ -7,13 +7,13 @@ use Rattle.std.proofs.lemmas.Bool.Decides.{nat_tests}
 use Rattle.std.specs.Prelude.{find, ◌==◌}
 use Rattle.std.specs.Option.{option_map_or}
 use Rattle.model_registers.specs.EndpointTable.{BaseAddress}
-use Rattle.bars.specs.declared.region.Region.{Region}
+use Rattle.bars.specs.declared.region.BasedRegion.{BasedRegion}
 use Rattle.bars.specs.Slots.{placed, bases_from}
 use Rattle.pciguest_c.specs.declared.function_row.RegionRow.{RegionRow}
 use Rattle.pciguest_c.specs.FunctionsTold.{region_row, no_region, region_row_at}
 
-abbrev pub slot_row : Option Region → RegionRow
-slot_row slot = option_map_or (λ (r : Region). region_row (placed 0 r)) slot no_region
+abbrev pub slot_row : Option BasedRegion → RegionRow
+slot_row slot = option_map_or (λ (r : BasedRegion). region_row (placed 0 r)) slot no_region
 
 same : (k j : ℕ) → j ≡ k → (k == j) ≡ true
 same k j is = grind (arith, nat_tests)
@@ -22,7 +22,7 @@ differs : (k j : ℕ) → j ≢ k → (k == j) ≡ false
 differs k j not = grind (arith, nat_tests)
 
 -- no register before the first of a list
-none_from : (slots : List (Option Region)) (k j : ℕ) → j < k
+none_from : (slots : List (Option BasedRegion)) (k j : ℕ) → j < k
     → find (λ (b : BaseAddress). b.index == j) (bases_from k slots) ≡ None
 none_from [] k j before = refl
 none_from (None ∷ slots) k j before = none_from slots (k + 1) j (omega arith)
@@ -30,7 +30,7 @@ none_from (Some r ∷ slots) k j before =
     rw (differs k j (λ e. omega arith)) (none_from slots (k + 1) j (omega arith))
 
 -- k is the index of the first register of the list
-row_from : (slots : List (Option Region)) (k j n : ℕ) (d : Option Region) → j ≡ k + n → n < length slots
+row_from : (slots : List (Option BasedRegion)) (k j n : ℕ) (d : Option BasedRegion) → j ≡ k + n → n < length slots
     → region_row_at (bases_from k slots) j ≡ slot_row (get_or slots n d)
 row_from [] k j n d is within = absurd (omega arith)
 row_from (None ∷ slots) k j zero d is within = rw (none_from slots (k + 1) j (omega arith)) refl
@@ -39,7 +39,7 @@ row_from (Some r ∷ slots) k j zero d is within = rw (same k j (omega arith)) r
 row_from (Some r ∷ slots) k j (suc n) d is within =
     rw (differs k j (λ e. omega arith)) (row_from slots (k + 1) j n d (omega arith) (omega arith))
 
-pub row_told : (slots : List (Option Region)) → length slots ≡ 6 → (j : ℕ) → j < 6 → (d : Option Region) (row : RegionRow)
+pub row_told : (slots : List (Option BasedRegion)) → length slots ≡ 6 → (j : ℕ) → j < 6 → (d : Option BasedRegion) (row : RegionRow)
     → row ≡ slot_row (get_or slots j d) → row ≡ region_row_at (bases_from 0 slots) j
 row_told slots six j within d row is = is ∙ sym (row_from slots 0 j j d (omega arith) (omega arith))
 

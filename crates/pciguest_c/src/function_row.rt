@@ -13,7 +13,7 @@ ghost use Rattle.pciguest_c.specs.QueriesTold.{one_if};
 ghost use Rattle.pciguest_c.specs.FunctionsTold.{no_region, region_row, region_rows, window_row, window_rows, bridge_number, text_row, function_row};
 
 use crate::text_calls::put;
-use bars::{Kind, Region, Space};
+use bars::{BasedRegion, Kind, Space};
 use bridge_forward::Window;
 use function_identity::path_text;
 use host_bridge::RangesNow;
@@ -83,8 +83,8 @@ fn prefetchable_of(kind: Kind) -> u32
 }
 
 /// The region that begins at a register.
-fn region_row(slot: Option<Region>) -> RegionRow
-    ensures { result ≡ option_map_or (λ (r : Region). region_row (placed 0 r)) slot no_region }
+fn region_row(slot: Option<BasedRegion>) -> RegionRow
+    ensures { result ≡ option_map_or (λ (r : BasedRegion). region_row (placed 0 r)) slot no_region }
 {
     let Some(region) = slot else {
         return NO_REGION;
@@ -103,7 +103,7 @@ fn region_row(slot: Option<Region>) -> RegionRow
 }
 
 /// The regions of six registers.
-fn regions_of(slots: &[Option<Region>; 6]) -> [RegionRow; 6]
+fn regions_of(slots: &[Option<BasedRegion>; 6]) -> [RegionRow; 6]
     ensures { result ≡ region_rows (regions (bases_from 0 slots.now)) }
 {
     [

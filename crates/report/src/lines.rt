@@ -8,7 +8,7 @@ ghost use Rattle.report.specs.Found.{ended, base_line, known_pin_lines, named_wi
 
 use crate::texts::{kind_text, push_identity, push_numbers_and_path, push_path};
 use accesses::GuestDecl;
-use bars::Region;
+use bars::BasedRegion;
 use bus_scan::{Found, FunctionRow};
 use intx_swizzle::at_root;
 use paths::Path;
@@ -16,7 +16,7 @@ use std::alloc::AllocError;
 use window_packing::{Window, Writes};
 
 /// Appends the line of a region, whose first register has this index.
-fn push_region(text: &mut String, index: usize, region: &Region) -> Result<(), AllocError>
+fn push_region(text: &mut String, index: usize, region: &BasedRegion) -> Result<(), AllocError>
     ensures { OnOk result (string_bytes text.new
         ≡ string_bytes text.old ++ ended (base_line (placed index region.now))) }
 {
@@ -27,7 +27,7 @@ fn push_region(text: &mut String, index: usize, region: &Region) -> Result<(), A
 }
 
 /// Appends the lines of regions, each at the index of its first register.
-fn push_regions(text: &mut String, bases: &[Option<Region>]) -> Result<(), AllocError>
+fn push_regions(text: &mut String, bases: &[Option<BasedRegion>]) -> Result<(), AllocError>
     ensures { OnOk result (string_bytes text.new
         ≡ string_bytes text.old ++ text_of_lines (map base_line (bases_from 0 bases.now))) }
 {

@@ -5,7 +5,7 @@ use Rattle.std.specs.Int.Bits.{or_zero_l, or_zero_r, and_zero_l, and_zero_r}
 use Rattle.std.proofs.lemmas.Nat.{and_mask, and_block, or_block}
 use Rattle.std.proofs.Math.Nat.{mod-eq_of_lt, add-zero}
 use Rattle.model_registers.specs.Cell.{Cell, written}
-use Rattle.model_registers.specs.Registers.{config, Entry, File}
+use Rattle.model_registers.specs.Registers.{config, PlacedCell, File}
 use Rattle.model_registers.specs.Declarations.{IoDecode, no_io, io16, io32, PrefDecode, no_pref, pref32, pref64, Bridge}
 use Rattle.model_registers.specs.BridgeTable.{no_window, BridgeValues, address_bits, io_cells, mem_cells, pref_cells, bridge_header, bridge_file}
 use Rattle.model_set_up.specs.Scanning.{BusNumbers, with_numbers}
@@ -41,7 +41,7 @@ nibble x d k n e h l is = ap (λ v. settable v 240) value
     value : bit_or (bit_or (bit_and (bit_and d 15) 255) (bit_and x 240)) (bit_and (bit_and d 0) (255 - x)) ≡ n
     value = ap₂ bit_or (ap₂ bit_or low high ∙ joined) (ap (λ m. bit_and m (255 - x)) (and_zero_r d) ∙ and_zero_l (255 - x)) ∙ or_zero_r n
 
-abbrev at : ℕ → Cell → Entry
+abbrev at : ℕ → Cell → PlacedCell
 at a c = record { place = config a; cell = c }
 
 -- ---- the parts of the file

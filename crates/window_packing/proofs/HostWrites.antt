@@ -2,7 +2,7 @@
 use Rattle.std.proofs.Common.{◌≡◌, ℕ, ◌≤◌, List, [], ◌∷◌, ◌++◌, length, drop, Option, refl, sym, ap, ◌∙◌}
 use Rattle.std.specs.Prelude.{flat_map}
 use Rattle.std.proofs.lemmas.List.{drop_all}
-use Rattle.bars.specs.declared.region.Region.{Region}
+use Rattle.bars.specs.declared.region.BasedRegion.{BasedRegion}
 use Rattle.bars.specs.Slots.{bases_from}
 use Rattle.model_board.specs.State.{BoardFunction}
 use Rattle.model_board.specs.Cycles.{BusAddress}
@@ -23,5 +23,5 @@ last_word at w vs h before after e f =
     ∙ ap (λ fs. host_after fs h) (sym (words_joined at vs (w ∷ []) h.state.functions))
 
 -- no slot is left at the end
-pub none_left : (n : ℕ) (slots : List (Option Region)) → length slots ≤ n → flat_map base_words (bases_from n (drop n slots)) ≡ []
+pub none_left : (n : ℕ) (slots : List (Option BasedRegion)) → length slots ≤ n → flat_map base_words (bases_from n (drop n slots)) ≡ []
 none_left n slots h = ap (λ xs. flat_map base_words (bases_from n xs)) (drop_all n slots h)

@@ -11,7 +11,7 @@ ghost use Rattle.window_packing.specs.WordWrites.{word, after_word, after_words,
 
 use crate::board_plan::Plan;
 use crate::setting::{Setting, Window, Writes};
-use bars::Region;
+use bars::BasedRegion;
 use host_bridge::{Bdf, Host};
 
 /// Offsets of words (PCI Local Bus 3.0, chapter 6.1; PCI-to-PCI Bridge Architecture 1.2, chapter 3.2).
@@ -64,7 +64,7 @@ fn write_setting(host: &mut Host, setting: &Setting)
 }
 
 /// Writes the base of each region, and then Command.
-fn write_endpoint(host: &mut Host, at: Bdf, command: u16, bases: &[Option<Region>; 6])
+fn write_endpoint(host: &mut Host, at: Bdf, command: u16, bases: &[Option<BasedRegion>; 6])
     ensures { let words = endpoint_words command (bases_from 0 bases.now) in
         host.new ≡ host_after (after_words (bus_address_of at) words host.old.state.functions) host.old }
 {
@@ -77,7 +77,7 @@ fn write_endpoint(host: &mut Host, at: Bdf, command: u16, bases: &[Option<Region
 }
 
 /// Writes the base of a region to the register at an index and, of 64 bits, its upper half to the next.
-fn write_base(host: &mut Host, at: Bdf, index: u8, region: Region)
+fn write_base(host: &mut Host, at: Bdf, index: u8, region: BasedRegion)
     requires { index < 6 }
     ensures { let words = base_words (placed index region) in
         host.new ≡ host_after (after_words (bus_address_of at) words host.old.state.functions) host.old }

@@ -1,5 +1,5 @@
 //! What is written into one function.
-use bars::Region;
+use bars::BasedRegion;
 use host_bridge::Bdf;
 use std::marker::Model;
 
@@ -27,7 +27,7 @@ impl Model for Window {
 pub enum Writes {
     Endpoint {
         command: u16,
-        bases: [Option<Region>; 6],
+        bases: [Option<BasedRegion>; 6],
     },
     Bridge {
         io: Window,

@@ -26,7 +26,7 @@ use crate::pool::{Pool, pool_of};
 use crate::pool_placement::{PlacedPool, Placement};
 use crate::search::offset_of;
 use crate::setting::{Setting, Window, Writes};
-use bars::{BarDecl, Region, Space};
+use bars::{BarDecl, BasedRegion, Space};
 use bridge_forward::Part;
 use bus_scan::{Found, FunctionRow};
 use headers::Apertures;
@@ -59,7 +59,7 @@ fn command_of(bars: &[Option<BarDecl>; 6]) -> u16
 }
 
 /// A region at its place on a bus that begins at `first`.
-fn based(part: Part, index: u8, bar: BarDecl, first: u64, pack: &BusPack) -> Region
+fn based(part: Part, index: u8, bar: BarDecl, first: u64, pack: &BusPack) -> BasedRegion
     requires order { EachPair (λ s t. IsTrue (stands_before s.item t.item)) pack.now.spots }
     requires align { Each (λ s. IsTrue (is_item part (a_region index) s.item)
         → s.item.align ≡ bar.size) pack.now.spots }
@@ -73,7 +73,7 @@ fn based(part: Part, index: u8, bar: BarDecl, first: u64, pack: &BusPack) -> Reg
         align: size,
         size,
     };
-    Region {
+    BasedRegion {
         decl: bar,
         base: first + offset_of(pack, &key),
     }
@@ -88,7 +88,7 @@ fn base_of(
     above: &Above,
     apertures: &Apertures,
     placement: &Placement,
-) -> Option<Region>
+) -> Option<BasedRegion>
     requires board { IsBoard (board_in rows.now) }
     requires declarations { HasLawfulDecls (board_in rows.now) }
     requires placed { IsPlacement (board_in rows.now) apertures.now placement.now }
@@ -115,7 +115,7 @@ fn bases_of(
     above: &Above,
     apertures: &Apertures,
     placement: &Placement,
-) -> [Option<Region>; 6]
+) -> [Option<BasedRegion>; 6]
     requires board { IsBoard (board_in rows.now) }
     requires declarations { HasLawfulDecls (board_in rows.now) }
     requires placed { IsPlacement (board_in rows.now) apertures.now placement.now }

@@ -4,7 +4,7 @@ use Rattle.std.proofs.lemmas.Bool.{ltb-true, ltb-false}
 use Rattle.std.proofs.lemmas.Option.{slice_get_read, slice_get_past}
 use Rattle.model_guests.specs.Slots.{raise_place}
 use Rattle.bars.specs.Slots.{slot_at}
-use Rattle.bars.specs.declared.region.Region.{Region}
+use Rattle.bars.specs.declared.region.BasedRegion.{BasedRegion}
 use Rattle.headers.specs.declared.place.Place.{Place}
 use Rattle.accesses.specs.Accesses.{part_of}
 use Rattle.monitor.proofs.RaisePlaces.{region_reaches}
@@ -18,7 +18,7 @@ returns-in-Some-Some c = λ s p f held.
     let here : c.in-Some-Some.field-0.now ≡ Some region = let i = c.in-Some-Some.is in let j = c.in-Some-Some.field-0-is in cc in
     let there : slice_get slots n ≡ Some (Some region) =
     slice_get_read slots (length slots) n c.in-Some-Some.field-0.now refl (ltb-true _ _ (sym c.in-Some-Some.ensures.lookup.0)) c.in-Some-Some.ensures.lookup.1 ∙ ap Some here in
-    let at : slot_at slots c.in-Bar.reg ≡ Some region = ap (slot_at slots) (sym c.from.ensures) ∙ ap (λ (o : Option (Option Region)). unwrap_or o None) there in
+    let at : slot_at slots c.in-Bar.reg ≡ Some region = ap (slot_at slots) (sym c.from.ensures) ∙ ap (λ (o : Option (Option BasedRegion)). unwrap_or o None) there in
     ap (nat_lt c.args.off) c.size.ensures.value ∙ region_reaches s p f c.args.held.now c.in-Bar.reg c.args.off (Some region) held at
     ∙ ap (λ (q : Place). is_some (raise_place f (part_of q) c.args.off)) (sym c.in-Bar.is)
 
@@ -29,7 +29,7 @@ returns-in-Some-None c = λ s p f held.
     let here : c.in-Some-None.field-0.now ≡ None = let i = c.in-Some-None.is in let j = c.in-Some-None.field-0-is in cc in
     let there : slice_get slots n ≡ Some None =
     slice_get_read slots (length slots) n c.in-Some-None.field-0.now refl (ltb-true _ _ (sym c.in-Some-None.ensures.lookup.0)) c.in-Some-None.ensures.lookup.1 ∙ ap Some here in
-    let at : slot_at slots c.in-Bar.reg ≡ None = ap (slot_at slots) (sym c.from.ensures) ∙ ap (λ (o : Option (Option Region)). unwrap_or o None) there in
+    let at : slot_at slots c.in-Bar.reg ≡ None = ap (slot_at slots) (sym c.from.ensures) ∙ ap (λ (o : Option (Option BasedRegion)). unwrap_or o None) there in
     region_reaches s p f c.args.held.now c.in-Bar.reg c.args.off None held at
     ∙ ap (λ (q : Place). is_some (raise_place f (part_of q) c.args.off)) (sym c.in-Bar.is)
 
@@ -38,6 +38,6 @@ returns-in-None c = λ s p f held.
     let slots = c.args.held.now.placed in
     let n = c.from.result in
     let past : slice_get slots n ≡ None = slice_get_past slots n (ltb-false _ _ (sym c.in-None.ensures.lookup.0)) in
-    let at : slot_at slots c.in-Bar.reg ≡ None = ap (slot_at slots) (sym c.from.ensures) ∙ ap (λ (o : Option (Option Region)). unwrap_or o None) past in
+    let at : slot_at slots c.in-Bar.reg ≡ None = ap (slot_at slots) (sym c.from.ensures) ∙ ap (λ (o : Option (Option BasedRegion)). unwrap_or o None) past in
     region_reaches s p f c.args.held.now c.in-Bar.reg c.args.off None held at
     ∙ ap (λ (q : Place). is_some (raise_place f (part_of q) c.args.off)) (sym c.in-Bar.is)

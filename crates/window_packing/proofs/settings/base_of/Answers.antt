@@ -11,7 +11,7 @@ use Rattle.model_set_up.specs.Pools.{Pool, bridges_above, pool_of}
 use Rattle.model_set_up.specs.Placement.{a_region}
 use Rattle.model_set_up.specs.SetUpWrites.{placed_base}
 use Rattle.model_set_up.specs.FunctionTable.{TableRow, board_in}
-use Rattle.bars.specs.declared.region.Region.{Region as Based}
+use Rattle.bars.specs.declared.region.BasedRegion.{BasedRegion}
 use Rattle.bars.specs.Slots.{placed}
 use Rattle.lists.proofs.Indices.{read_at, same_at, map_at}
 use Rattle.window_packing.specs.declared.above.Above.{Above}
@@ -85,5 +85,5 @@ returns c = λ r there.
     let of_pool = ap (pool_of a (bridges_above b t.path)) (sym c.kind.ensures) ∙ sym (c.pool_of.ensures (bridges_above b t.path) over) in
     let base = base_is (board_in c.args.rows.now) c.args.apertures.now c.requires.board c.requires.declarations (named_pool c.pool_of.result) c.pool-placed.result.now f.placed i (row_in t) f.at x c.requires.above c.index-pack.result.now f.pack c.index-first.result.now f.first c.last.result (c.last.ensures ∙ ap (λ (u : TableRow). last_part u.path) c.row.view_is) k of_pool in
     let one : ℕ → List BaseAddress = λ m. record { index = c.args.index; kind = c.in_ok-bar.bar.kind; size = c.in_ok-bar.bar.size; base = m } ∷ [] in
-    ap (λ (g : Based). placed c.args.index g ∷ []) c.based.ensures ∙ ap one base ∙ ap (λ (s : Row). placed_base b a s.path k ∷ []) same
+    ap (λ (g : BasedRegion). placed c.args.index g ∷ []) c.based.ensures ∙ ap one base ∙ ap (λ (s : Row). placed_base b a s.path k ∷ []) same
     ∙ ap (λ (o : Option Bar). map (placed_base b a r.path) (regions_from c.args.index (o ∷ []))) (sym c.in_ok-bar.was)

@@ -4,7 +4,7 @@ use Rattle.model_registers.specs.ByteEnables.{lanes, enabled_bits}
 use Rattle.model_registers.specs.EndpointTable.{base_register, BaseAddress, opened, base_file, HasLawfulBases}
 use Rattle.model_registers.specs.BaseLaws.{rebased, rewritten}
 use Rattle.model_registers.proofs.Bases.{writes_of_bases}
-use Rattle.bars.specs.declared.region.Region.{Region}
+use Rattle.bars.specs.declared.region.BasedRegion.{BasedRegion}
 use Rattle.bars.specs.Slots.{placed, bases_from}
 use Rattle.bars.proofs.Splits.{lawful_part, stored_part, write_unused, still_lawful, still_opened}
 use Rattle.bars.proofs.bars.Bars.write.Goals as goal
@@ -16,7 +16,7 @@ written-requires c = lawful_part c.self.inside.slots c.self.invariant c.args.reg
 stored : (c : goal.After-put)
     → bases_from 0 c.put.new.self ≡ map (rewritten c.args.reg (lanes c.args.enables) c.args.value) (bases_from 0 c.self.inside.slots)
 stored c =
-    let region : Region = c.in-Some.part.region in
+    let region : BasedRegion = c.in-Some.part.region in
     let enabled : c.from-in-Some.result ≡ enabled_bits (lanes c.args.enables) = c.from-in-Some.ensures ∙ c.enabled_bits.ensures in
     let narrow : enabled_bits (lanes c.args.enables) < 2 ^ 32 = subst (λ n. n < 2 ^ 32) c.enabled_bits.ensures c.enabled_bits.type_inv in
     ap (bases_from 0) c.put.ensures

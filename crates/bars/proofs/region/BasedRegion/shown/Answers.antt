@@ -3,7 +3,7 @@ use Rattle.model_registers.specs.EndpointTable.{type_bits}
 use Rattle.model_registers.proofs.Bases.{base_room, size_limits}
 use Rattle.bars.specs.Slots.{placed}
 use Rattle.bars.proofs.Regions.{width_limit}
-use Rattle.bars.proofs.region.Region.shown.Goals as goal
+use Rattle.bars.proofs.region.BasedRegion.shown.Goals as goal
 
 pub overflow_add-result : goal.overflow_add-result
 overflow_add-result c =

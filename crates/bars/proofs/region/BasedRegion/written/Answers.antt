@@ -3,13 +3,13 @@ use Rattle.std.specs.Prelude.{bit_and, bit_or}
 use Rattle.std.proofs.lemmas.Nat.{and_le_l}
 use Rattle.model_registers.specs.EndpointTable.{base_width}
 use Rattle.model_registers.proofs.Bases.{size_limits}
-use Rattle.bars.specs.declared.region.Region.{Region}
+use Rattle.bars.specs.declared.region.BasedRegion.{BasedRegion}
 use Rattle.bars.proofs.Regions.{written_in_64, size_positive}
-use Rattle.bars.proofs.region.Region.written.Goals as goal
+use Rattle.bars.proofs.region.BasedRegion.written.Goals as goal
 
 pub returns : goal.returns
 returns c =
-    let r : Region = c.args.self in
+    let r : BasedRegion = c.args.self in
     let top : ℕ = 2 ^ base_width r.decl.kind in
     let limits = size_limits r.decl.kind r.decl.size c.requires.size_is_lawful in
     let some : 0 < r.decl.size = size_positive r.decl.kind r.decl.size c.requires.size_is_lawful in

@@ -5,7 +5,7 @@ use bars::Kind;
 
 /// A region: its first register, 0 to 5, its kind and size, and the base that the register holds.
 #[derive(Clone, Copy, Debug)]
-pub struct RegionNow {
+pub struct RoutingRegion {
     pub index: u8,
     pub kind: Kind,
     pub size: u64,
