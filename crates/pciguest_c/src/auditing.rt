@@ -4,38 +4,10 @@ ghost use Rattle.model_audit.specs.AuditText.{audit};
 ghost use Rattle.model_audit.specs.Problems.{problems};
 
 use crate::board_handle::BoardHandle;
-use crate::numbers::{ARGUMENT, MEMORY, NO_MACHINE};
+use crate::numbers::{ARGUMENT, MEMORY};
 use crate::text_calls::tell;
-use driven_board::{Audit, Board};
+use driven_board::Audit;
 use std::alloc::Global;
-
-/// Tells what is wrong in the registers of a board.
-fn audit_into(
-    alloc: Global,
-    board: &mut Board,
-    out: &mut [u8],
-    needed: &mut usize,
-    count: &mut usize,
-) -> u32
-    ensures text { result ≡ 0 → let text = audit board.old.host.state.functions in
-        (out.new ≡ text ++ drop (length text) out.old) × (needed.new ≡ length text) }
-    ensures count { result ≡ 0 → count.new ≡ length (problems board.old.host.state.functions) }
-    ensures room { result ≡ 902 → let text = audit board.old.host.state.functions in
-        (length out.old < length text) × (needed.new ≡ length text) }
-    ensures numbers { (result ≡ 0) ⊎ (result ≡ 299) ⊎ (result ≡ 902) }
-    ensures kept { board.new ≡ board.old }
-    ensures refused { result ≢ 0 → (out.new ≡ out.old) × (count.new ≡ count.old) }
-    ensures untold { result ≡ 299 → needed.new ≡ needed.old }
-{
-    let Ok(Audit { text, problems }) = board.audit(alloc) else {
-        return MEMORY;
-    };
-    if !tell(text.as_bytes(), out, needed) {
-        return ARGUMENT;
-    }
-    *count = problems;
-    0
-}
 
 /// Writes what is wrong in the registers of a board as they stand to the front of `out`, and tells how many
 /// problems there are; and how long the text is, also where `out` has less room than that. The board stays
@@ -60,12 +32,18 @@ pub extern "C" fn pciguest_raw_board_audit(
     ensures refused { result ≢ 0 → (out.new ≡ out.old) × (count.new ≡ count.old) }
     ensures untold { result ≢ 0 → result ≢ 902 → needed.new ≡ needed.old }
 {
-    match handle.take(alloc) {
-        Some(mut board) => {
-            let number = audit_into(alloc, &mut board, out, needed, count);
-            *handle = BoardHandle::of(board);
-            number
+    let answer = handle.ask(alloc, |board| match board.audit(alloc) {
+        Ok(audit) => Ok(audit),
+        Err(_) => Err(MEMORY),
+    });
+    match answer {
+        Ok(Audit { text, problems }) => {
+            if !tell(text.as_bytes(), out, needed) {
+                return ARGUMENT;
+            }
+            *count = problems;
+            0
         }
-        None => NO_MACHINE,
+        Err(number) => number,
     }
 }

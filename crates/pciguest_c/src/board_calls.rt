@@ -2,15 +2,16 @@
 ghost use Rattle.std.specs.Prelude.{◌≡◌, ◌≢◌, ◌<◌, ◌≤◌, ◌++◌, None, Some, IfNone, IfSome, drop, length};
 ghost use Rattle.model_guests.specs.Accesses.{reads, writes};
 ghost use Rattle.model_guests.specs.Grammar.{HostTarget};
-ghost use Rattle.model_firmware.specs.HostAccesses.{HostAccess, answer};
+ghost use Rattle.model_firmware.specs.HostAccesses.{HostAccess as Asked, answer};
 ghost use Rattle.model_firmware.specs.FirmwareLines.{line_output};
 ghost use Rattle.driven_board.specs.Boards.{after_read, after_write, after_line};
 ghost use Rattle.pciguest_c.specs.Told.{at_bus, number_told, value_told, host_target_told};
 
 use crate::board_handle::BoardHandle;
-use crate::driving::{board_read, board_write};
-use crate::numbers::{ARGUMENT, NO_MACHINE};
-use crate::text_calls::{LONGEST_REPLY, put};
+use crate::host_calls::host_at;
+use crate::numbers::{ARGUMENT, leave_read, number_of};
+use crate::text_calls::{LONGEST_REPLY, leave_line};
+use driven_board::HostAccess;
 use std::alloc::Global;
 
 /// Reads 1, 2 or 4 bytes as firmware does, in any state of the registers. Bus, device and function are
@@ -32,23 +33,20 @@ pub extern "C" fn pciguest_raw_board_read(
         (result ≡ 902) × (value.new ≡ value.old)) }
     ensures read { IfSome handle.old.owner.value (λ b.
         (t : HostTarget) → host_target_told space (at_bus bus device function) place ≡ Some t →
-        let a : HostAccess = record { target = t; width = width; op = reads } in
+        let a : Asked = record { target = t; width = width; op = reads } in
         let r = answer b.host.state a in
         (result ≡ number_told r) × (value.new ≡ value_told value.old r)
         × (handle.new.owner.value ≡ Some (after_read b a))) }
     ensures refused { result ≢ 0 → handle.new.owner.value ≡ handle.old.owner.value }
 {
-    match handle.take(alloc) {
-        Some(mut board) => {
-            let width = u64::from(width);
-            let number = board_read(
-                &mut board, space, bus, device, function, place, width, value,
-            );
-            *handle = BoardHandle::of(board);
-            number
-        }
-        None => NO_MACHINE,
-    }
+    let Some(at) = host_at(space, bus, device, function, place) else {
+        return handle.refusal();
+    };
+    let answer = handle.ask(alloc, |board| {
+        let width = u64::from(width);
+        Ok(board.read(HostAccess { at, width }))
+    });
+    leave_read(answer, value)
 }
 
 /// Writes the low 1, 2 or 4 bytes of a value as firmware does.
@@ -69,21 +67,17 @@ pub extern "C" fn pciguest_raw_board_write(
         result ≡ 902) }
     ensures written { IfSome handle.old.owner.value (λ b.
         (t : HostTarget) → host_target_told space (at_bus bus device function) place ≡ Some t →
-        let a : HostAccess = record { target = t; width = width; op = writes value } in
+        let a : Asked = record { target = t; width = width; op = writes value } in
         (result ≡ number_told (answer b.host.state a)) × (handle.new.owner.value ≡ Some (after_write b a))) }
     ensures refused { result ≢ 0 → handle.new.owner.value ≡ handle.old.owner.value }
 {
-    match handle.take(alloc) {
-        Some(mut board) => {
-            let width = u64::from(width);
-            let number = board_write(
-                &mut board, space, bus, device, function, place, width, value,
-            );
-            *handle = BoardHandle::of(board);
-            number
-        }
-        None => NO_MACHINE,
-    }
+    let Some(at) = host_at(space, bus, device, function, place) else {
+        return handle.refusal();
+    };
+    number_of(handle.ask(alloc, |board| {
+        let width = u64::from(width);
+        Ok(board.write(HostAccess { at, width }, value))
+    }))
 }
 
 /// Runs one line of firmware, which is given without its line feed. What it writes, nothing or one line with
@@ -106,21 +100,13 @@ pub extern "C" fn pciguest_raw_board_run_line(
     ensures refused { result ≢ 0 → handle.new.owner.value ≡ handle.old.owner.value }
     ensures unwritten { result ≢ 0 → (out.new ≡ out.old) × (written.new ≡ written.old) }
 {
-    if out.len() < LONGEST_REPLY {
-        return if handle.is_live() {
-            ARGUMENT
+    let has_room = LONGEST_REPLY <= out.len();
+    let answer = handle.ask(alloc, |board| {
+        if has_room {
+            Ok(board.run_line(line))
         } else {
-            NO_MACHINE
-        };
-    }
-    match handle.take(alloc) {
-        Some(mut board) => {
-            let reply = board.run_line(line);
-            *handle = BoardHandle::of(board);
-            put(out, reply.as_slice());
-            *written = reply.len();
-            0
+            Err(ARGUMENT)
         }
-        None => NO_MACHINE,
-    }
+    });
+    leave_line(answer, out, written)
 }

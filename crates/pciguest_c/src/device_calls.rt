@@ -5,68 +5,10 @@ ghost use Rattle.model_devices.specs.DeviceEvents.{device_reads, device_writes};
 ghost use Rattle.pciguest_c.specs.Told.{number_told, part_told, value_told};
 ghost use Rattle.pciguest_c.specs.DevicesTold.{reply_at_device, after_at_device};
 
-use crate::asking::{has_guest, place_of};
+use crate::asking::{check_guest, place_of};
 use crate::handle::Handle;
-use crate::numbers::{ARGUMENT, NO_MACHINE, number_of};
-use accesses::Reply;
-use machine::Machine;
+use crate::numbers::{leave_read, number_of};
 use std::alloc::Global;
-
-/// Reads a byte as the device of a guest's function.
-fn device_read(
-    machine: &mut Machine,
-    guest: usize,
-    slot: u64,
-    part: u32,
-    offset: u64,
-    value: &mut u32,
-) -> u32
-    ensures part { part_told part ≡ None → (result ≡ 902) × (value.new ≡ value.old) }
-    ensures guest { length machine.old.world.guests ≤ guest → (result ≡ 902) × (value.new ≡ value.old) }
-    ensures read { guest < length machine.old.world.guests → (p : RaisePlace) → part_told part ≡ Some p →
-        let e = device_reads (record { slot = slot; part = p; offset = offset }) in
-        let r = reply_at_device machine.old.world guest e in
-        (result ≡ number_told r) × (value.new ≡ value_told value.old r) }
-    ensures kept { machine.new ≡ machine.old }
-{
-    let Some(place) = place_of(part) else {
-        return ARGUMENT;
-    };
-    if !has_guest(machine, guest) {
-        return ARGUMENT;
-    }
-    let reply = machine.device_read(guest, slot, place, offset);
-    if let Reply::Value(read, _) = reply {
-        *value = read;
-    }
-    number_of(reply)
-}
-
-/// Writes a byte as the device of a guest's function.
-fn device_write(
-    machine: &mut Machine,
-    guest: usize,
-    slot: u64,
-    part: u32,
-    offset: u64,
-    value: u8,
-) -> u32
-    ensures part { part_told part ≡ None → (result ≡ 902) × (machine.new ≡ machine.old) }
-    ensures guest { length machine.old.world.guests ≤ guest → (result ≡ 902) × (machine.new ≡ machine.old) }
-    ensures written { guest < length machine.old.world.guests → (p : RaisePlace) → part_told part ≡ Some p →
-        let e = device_writes (record { slot = slot; part = p; offset = offset }) value in
-        (result ≡ number_told (reply_at_device machine.old.world guest e))
-        × (machine.new ≡ after_at_device machine.old guest e) }
-    ensures refused { result ≢ 0 → machine.new ≡ machine.old }
-{
-    let Some(place) = place_of(part) else {
-        return ARGUMENT;
-    };
-    if !has_guest(machine, guest) {
-        return ARGUMENT;
-    }
-    number_of(machine.device_write(guest, slot, place, offset, value))
-}
 
 /// Reads a byte of a guest's function as its device: of a region by the index of its base address
 /// register, 0 to 5, or of configuration space by 6. Nothing changes.
@@ -92,14 +34,14 @@ pub extern "C" fn pciguest_raw_device_read(
         (result ≡ number_told r) × (value.new ≡ value_told value.old r)) }
     ensures kept { handle.new.owner.value ≡ handle.old.owner.value }
 {
-    match handle.take(alloc) {
-        Some(mut machine) => {
-            let number = device_read(&mut machine, guest, slot, part, offset, value);
-            *handle = Handle::of(machine);
-            number
-        }
-        None => NO_MACHINE,
-    }
+    let Some(place) = place_of(part) else {
+        return handle.refusal();
+    };
+    let answer = handle.ask(alloc, |machine| {
+        check_guest(machine, guest)?;
+        Ok(machine.device_read(guest, slot, place, offset))
+    });
+    leave_read(answer, value)
 }
 
 /// Writes a byte of a guest's function as its device, whatever a guest may change of it.
@@ -125,12 +67,11 @@ pub extern "C" fn pciguest_raw_device_write(
         × (handle.new.owner.value ≡ Some (after_at_device m guest e))) }
     ensures refused { result ≢ 0 → handle.new.owner.value ≡ handle.old.owner.value }
 {
-    match handle.take(alloc) {
-        Some(mut machine) => {
-            let number = device_write(&mut machine, guest, slot, part, offset, value);
-            *handle = Handle::of(machine);
-            number
-        }
-        None => NO_MACHINE,
-    }
+    let Some(place) = place_of(part) else {
+        return handle.refusal();
+    };
+    number_of(handle.ask(alloc, |machine| {
+        check_guest(machine, guest)?;
+        Ok(machine.device_write(guest, slot, place, offset, value))
+    }))
 }

@@ -6,26 +6,12 @@ ghost use Rattle.monitor.specs.ByIndex.{name_nth};
 ghost use Rattle.pciguest_c.specs.QueriesTold.{number_answered};
 ghost use Rattle.pciguest_c.specs.FunctionsTold.{function_number, found_left, row_left};
 
-use crate::asking::has_guest;
+use crate::asking::check_guest;
 use crate::function_row::{FunctionRow, function_row};
 use crate::handle::Handle;
-use crate::numbers::{ARGUMENT, NO_MACHINE};
+use crate::numbers::{ARGUMENT, NO_MACHINE, leave};
 use machine::Machine;
 use std::alloc::Global;
-
-/// Tells of the function at an index.
-fn function(machine: &Machine, index: usize, told: &mut FunctionRow) -> u32
-    ensures { let f = function_nth (board_state machine.now.world) machine.now.world.guests index in
-        (result ≡ function_number f) × (told.new ≡ found_left told.old f) }
-{
-    match machine.function(index) {
-        Some(function) => {
-            *told = function_row(&function);
-            0
-        }
-        None => ARGUMENT,
-    }
-}
 
 /// Tells of the function in a slot of a guest.
 fn slot_function(machine: &Machine, guest: usize, slot: u64, told: &mut FunctionRow) -> u32
@@ -34,8 +20,8 @@ fn slot_function(machine: &Machine, guest: usize, slot: u64, told: &mut Function
         let r = slot_answer (board_state machine.now.world) machine.now.world.guests (name_nth machine.now.world guest) slot in
         (result ≡ number_answered r) × (told.new ≡ row_left told.old r) }
 {
-    if !has_guest(machine, guest) {
-        return ARGUMENT;
+    if let Err(number) = check_guest(machine, guest) {
+        return number;
     }
     match machine.slot_function(guest, slot) {
         Ok(function) => {
@@ -54,14 +40,7 @@ pub extern "C" fn pciguest_raw_count(alloc: Global, handle: &mut Handle, count: 
         (result ≡ 0) × (count.new ≡ length (board_state m.world).functions)) }
     ensures kept { handle.new.owner.value ≡ handle.old.owner.value }
 {
-    match handle.take(alloc) {
-        Some(machine) => {
-            *count = machine.count();
-            *handle = Handle::of(machine);
-            0
-        }
-        None => NO_MACHINE,
-    }
+    leave(handle.ask(alloc, |machine| Ok(machine.count())), count)
 }
 
 /// What is told of the function at an index, in path order.
@@ -77,14 +56,11 @@ pub extern "C" fn pciguest_raw_function(
         (result ≡ function_number f) × (told.new ≡ found_left told.old f)) }
     ensures kept { handle.new.owner.value ≡ handle.old.owner.value }
 {
-    match handle.take(alloc) {
-        Some(machine) => {
-            let number = function(&machine, index, told);
-            *handle = Handle::of(machine);
-            number
-        }
-        None => NO_MACHINE,
-    }
+    let answer = handle.ask(alloc, |machine| match machine.function(index) {
+        Some(function) => Ok(function_row(&function)),
+        None => Err(ARGUMENT),
+    });
+    leave(answer, told)
 }
 
 /// The same of the function in a slot of a guest.

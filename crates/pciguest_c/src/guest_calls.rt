@@ -3,12 +3,26 @@ ghost use Rattle.std.specs.Prelude.{◌≡◌, ◌≢◌, ◌<◌, ◌≤◌, No
 ghost use Rattle.std.specs.Str.{bytes_eq};
 ghost use Rattle.model_guests.specs.Accesses.{Target, RaisePlace, access, raises, reads, writes};
 ghost use Rattle.model_guests.specs.WorldNow.{names_now};
+ghost use Rattle.accesses.specs.Accesses.{reply_of, target_of};
 ghost use Rattle.pciguest_c.specs.Told.{index_told, number_told, value_told, target_told, part_told, reply_asked, after_asked};
 
-use crate::asking::{guest_named, raise, read, write};
+use crate::asking::{at_of, check_guest, index_named, place_of};
 use crate::handle::Handle;
-use crate::numbers::NO_MACHINE;
+use crate::numbers::{ARGUMENT, leave_read, number_of};
+use accesses::{Access, At, Op, Reply};
+use machine::Machine;
 use std::alloc::Global;
+
+/// Reads as a guest: nothing changes.
+fn read(machine: &mut Machine, guest: usize, at: At, width: u64) -> Reply
+    requires { guest < length machine.old.world.guests }
+    ensures reply { let e = access (record { target = target_of at; width = width; op = reads }) in
+        reply_of result ≡ reply_asked machine.old.world guest e }
+    ensures kept { machine.new ≡ machine.old }
+{
+    let op = Op::Read;
+    machine.step(guest, Access { at, width, op })
+}
 
 /// Reads 1, 2 or 4 bytes as a guest. What is read is what the guest's own functions answer.
 #[unsafe(no_mangle)]
@@ -33,22 +47,14 @@ pub extern "C" fn pciguest_raw_read(
         (result ≡ number_told r) × (value.new ≡ value_told value.old r)) }
     ensures kept { handle.new.owner.value ≡ handle.old.owner.value }
 {
-    match handle.take(alloc) {
-        Some(mut machine) => {
-            let number = read(
-                &mut machine,
-                guest,
-                space,
-                slot,
-                place,
-                u64::from(width),
-                value,
-            );
-            *handle = Handle::of(machine);
-            number
-        }
-        None => NO_MACHINE,
-    }
+    let Some(at) = at_of(space, slot, place) else {
+        return handle.refusal();
+    };
+    let answer = handle.ask(alloc, |machine| {
+        check_guest(machine, guest)?;
+        Ok(read(machine, guest, at, u64::from(width)))
+    });
+    leave_read(answer, value)
 }
 
 /// Writes the low 1, 2 or 4 bytes of a value as a guest.
@@ -72,22 +78,15 @@ pub extern "C" fn pciguest_raw_write(
         (result ≡ number_told (reply_asked m.world guest e)) × (handle.new.owner.value ≡ Some (after_asked m guest e))) }
     ensures refused { result ≢ 0 → handle.new.owner.value ≡ handle.old.owner.value }
 {
-    match handle.take(alloc) {
-        Some(mut machine) => {
-            let number = write(
-                &mut machine,
-                guest,
-                space,
-                slot,
-                place,
-                u64::from(width),
-                value,
-            );
-            *handle = Handle::of(machine);
-            number
-        }
-        None => NO_MACHINE,
-    }
+    let Some(at) = at_of(space, slot, place) else {
+        return handle.refusal();
+    };
+    number_of(handle.ask(alloc, |machine| {
+        check_guest(machine, guest)?;
+        let width = u64::from(width);
+        let op = Op::Write(value);
+        Ok(machine.step(guest, Access { at, width, op }))
+    }))
 }
 
 /// Sets bits of one byte of a guest's function, as its device does: of a region by the index of its
@@ -113,14 +112,13 @@ pub extern "C" fn pciguest_raw_raise(
         (result ≡ number_told (reply_asked m.world guest e)) × (handle.new.owner.value ≡ Some (after_asked m guest e))) }
     ensures refused { result ≢ 0 → handle.new.owner.value ≡ handle.old.owner.value }
 {
-    match handle.take(alloc) {
-        Some(mut machine) => {
-            let number = raise(&mut machine, guest, slot, part, offset, mask);
-            *handle = Handle::of(machine);
-            number
-        }
-        None => NO_MACHINE,
-    }
+    let Some(place) = place_of(part) else {
+        return handle.refusal();
+    };
+    number_of(handle.ask(alloc, |machine| {
+        check_guest(machine, guest)?;
+        Ok(machine.raise(guest, slot, place, offset, mask))
+    }))
 }
 
 /// The index of the guest of a name.
@@ -136,12 +134,12 @@ pub extern "C" fn pciguest_raw_guest(
         (result ≡ index_told i) × (guest.new ≡ unwrap_or i guest.old)) }
     ensures kept { handle.new.owner.value ≡ handle.old.owner.value }
 {
-    match handle.take(alloc) {
-        Some(machine) => {
-            let number = guest_named(&machine, name, guest);
-            *handle = Handle::of(machine);
-            number
+    match handle.ask(alloc, |machine| Ok(index_named(machine, name))) {
+        Ok(Some(index)) => {
+            *guest = index;
+            0
         }
-        None => NO_MACHINE,
+        Ok(None) => ARGUMENT,
+        Err(number) => number,
     }
 }

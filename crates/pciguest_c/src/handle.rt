@@ -1,6 +1,10 @@
 //! What C holds.
-ghost use Rattle.std.specs.Prelude.{◌≡◌, Some, None, IfSome, IfNone, is_some};
+ghost use Rattle.std.specs.Prelude.{◌≡◌, Some, None, IfSome, IfNone, Err, is_some};
+ghost use Rattle.std.specs.Bool.{OnFalse};
+ghost use Rattle.std.specs.Fn.{FnOnceReturnsAtMut};
+ghost use Rattle.model_giving.specs.Changes.{MachineNow};
 
+use crate::numbers::{ARGUMENT, NO_MACHINE};
 use crate::owner::Owner;
 use crate::unboxed::Unboxed;
 use machine::Machine;
@@ -39,9 +43,18 @@ impl Handle {
 
     /// Whether there is a machine.
     pub fn is_live(&self) -> bool
-        ensures { result ≡ is_some self.now.owner.value }
+        ensures told { result ≡ is_some self.now.owner.value }
+        ensures none { OnFalse result (self.now.owner.value ≡ None) }
     {
         self.live
+    }
+
+    /// 902, or 901 where there is no machine.
+    pub fn refusal(&self) -> u32
+        ensures there { IfSome self.now.owner.value (λ _. result ≡ 902) }
+        ensures none { IfNone self.now.owner.value (result ≡ 901) }
+    {
+        if self.live { ARGUMENT } else { NO_MACHINE }
     }
 
     /// Takes the machine out, and leaves none.
@@ -55,5 +68,26 @@ impl Handle {
             return None;
         }
         Some(old.owner.into_unboxed().into_box())
+    }
+
+    /// What the machine answers, or 901 where there is none.
+    pub fn ask<T, F: FnOnce(&mut Machine) -> Result<T, u32>>(
+        &mut self,
+        alloc: Global,
+        question: F,
+    ) -> Result<T, u32>
+        requires { F.IsAlwaysCallable question }
+        ensures none { IfNone self.old.owner.value ((result ≡ Err 901) × (self.new.owner.value ≡ None)) }
+        ensures asked { IfSome self.old.owner.value (λ m. (after : MachineNow)
+            × FnOnceReturnsAtMut F.FnOnce question m result after × (self.new.owner.value ≡ Some after)) }
+    {
+        match self.take(alloc) {
+            Some(mut machine) => {
+                let answer = question(&mut machine);
+                *self = Handle::of(machine);
+                answer
+            }
+            None => Err(NO_MACHINE),
+        }
     }
 }

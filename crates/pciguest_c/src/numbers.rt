@@ -1,8 +1,8 @@
 //! The numbers that calls answer.
-ghost use Rattle.std.specs.Prelude.{◌≡◌, ◌≢◌};
+ghost use Rattle.std.specs.Prelude.{◌≡◌, ◌≢◌, IfOk, IfErr};
 ghost use Rattle.accesses.specs.Accesses.{reply_of};
 ghost use Rattle.accesses.specs.Replies.{IsRefusal};
-ghost use Rattle.pciguest_c.specs.Told.{number_told};
+ghost use Rattle.pciguest_c.specs.Told.{number_told, value_told};
 
 use accesses::Reply;
 
@@ -25,12 +25,41 @@ pub const FILE_MEMORY: u32 = 199;
 pub const MEMORY: u32 = 299;
 
 /// 0, or the number of a refusal.
-pub fn number_of(reply: Reply) -> u32
-    ensures told { result ≡ number_told (reply_of reply) }
-    ensures refused { result ≢ 0 → IsRefusal reply }
+pub fn number_of(answer: Result<Reply, u32>) -> u32
+    ensures told { IfOk answer (λ r. result ≡ number_told (reply_of r)) }
+    ensures refused { IfOk answer (λ r. result ≢ 0 → IsRefusal r) }
+    ensures unasked { IfErr answer (λ n. result ≡ n) }
 {
-    match reply {
-        Reply::Value(..) | Reply::Done => 0,
-        Reply::Refused(why) => u32::from(why.number()),
+    match answer {
+        Ok(Reply::Value(..) | Reply::Done) => 0,
+        Ok(Reply::Refused(why)) => u32::from(why.number()),
+        Err(number) => number,
+    }
+}
+
+/// The same, and leaves what was read where a value goes.
+pub fn leave_read(answer: Result<Reply, u32>, value: &mut u32) -> u32
+    ensures told { IfOk answer (λ r.
+        (result ≡ number_told (reply_of r)) × (value.new ≡ value_told value.old (reply_of r))) }
+    ensures refused { IfOk answer (λ r. result ≢ 0 → IsRefusal r) }
+    ensures unasked { IfErr answer (λ n. (result ≡ n) × (value.new ≡ value.old)) }
+{
+    if let Ok(Reply::Value(read, _)) = answer {
+        *value = read;
+    }
+    number_of(answer)
+}
+
+/// Leaves what is told where it goes: 0, or the number of a refusal.
+pub fn leave<T: Drop>(answer: Result<T, u32>, told: &mut T) -> u32
+    ensures told { IfOk answer (λ v. (result ≡ 0) × (told.new ≡ v)) }
+    ensures refused { IfErr answer (λ n. (result ≡ n) × (told.new ≡ told.old)) }
+{
+    match answer {
+        Ok(value) => {
+            *told = value;
+            0
+        }
+        Err(number) => number,
     }
 }

@@ -6,11 +6,10 @@ ghost use Rattle.monitor.specs.Queries.{region_named, hit_named};
 ghost use Rattle.pciguest_c.specs.Told.{target_told};
 ghost use Rattle.pciguest_c.specs.QueriesTold.{number_answered, region_asked, hit_asked, region_told, region_left, hit_told, hit_left};
 
-use crate::asking::{at_of, has_guest};
+use crate::asking::{at_of, check_guest};
 use crate::handle::Handle;
-use crate::numbers::{ARGUMENT, NO_MACHINE};
+use crate::numbers::leave;
 use accesses::Place;
-use machine::Machine;
 use monitor::{Hit, RegionNow, Space};
 use std::alloc::Global;
 
@@ -75,67 +74,6 @@ fn hit_for(hit: Option<Hit>) -> HitTold
     }
 }
 
-/// Where a region of a guest's function stands.
-fn region(machine: &Machine, guest: usize, slot: u64, bar: u64, told: &mut RegionTold) -> u32
-    ensures guest { length machine.now.world.guests ≤ guest → (result ≡ 902) × (told.new ≡ told.old) }
-    ensures told { guest < length machine.now.world.guests → let r = region_asked machine.now.world guest slot bar in
-        (result ≡ number_answered r) × (told.new ≡ region_left told.old r) }
-{
-    if !has_guest(machine, guest) {
-        return ARGUMENT;
-    }
-    match machine.region(guest, slot, bar) {
-        Ok(region) => {
-            *told = region_for(region);
-            0
-        }
-        Err(why) => u32::from(why.number()),
-    }
-}
-
-/// The count of a guest.
-fn changed(machine: &Machine, guest: usize, count: &mut u64) -> u32
-    ensures guest { length machine.now.world.guests ≤ guest → (result ≡ 902) × (count.new ≡ count.old) }
-    ensures told { guest < length machine.now.world.guests →
-        (result ≡ 0) × (slice_get machine.now.counts guest ≡ Some count.new) }
-{
-    if !has_guest(machine, guest) {
-        return ARGUMENT;
-    }
-    *count = machine.changed(guest);
-    0
-}
-
-/// What an access of a guest hits.
-fn locate(
-    machine: &Machine,
-    guest: usize,
-    space: u32,
-    slot: u64,
-    place: u64,
-    told: &mut HitTold,
-) -> u32
-    ensures space { target_told space slot place ≡ None → (result ≡ 902) × (told.new ≡ told.old) }
-    ensures guest { length machine.now.world.guests ≤ guest → (result ≡ 902) × (told.new ≡ told.old) }
-    ensures told { guest < length machine.now.world.guests → (t : Target) → target_told space slot place ≡ Some t →
-        let r = hit_asked machine.now.world guest t in
-        (result ≡ number_answered r) × (told.new ≡ hit_left told.old r) }
-{
-    let Some(at) = at_of(space, slot, place) else {
-        return ARGUMENT;
-    };
-    if !has_guest(machine, guest) {
-        return ARGUMENT;
-    }
-    match machine.locate(guest, at) {
-        Ok(hit) => {
-            *told = hit_for(hit);
-            0
-        }
-        Err(why) => u32::from(why.number()),
-    }
-}
-
 /// Where the region that begins at a base address register stands now, by the guest's own registers.
 #[unsafe(no_mangle)]
 pub extern "C" fn pciguest_raw_region(
@@ -153,14 +91,14 @@ pub extern "C" fn pciguest_raw_region(
         (result ≡ number_answered r) × (told.new ≡ region_left told.old r)) }
     ensures kept { handle.new.owner.value ≡ handle.old.owner.value }
 {
-    match handle.take(alloc) {
-        Some(machine) => {
-            let number = region(&machine, guest, slot, u64::from(bar), told);
-            *handle = Handle::of(machine);
-            number
+    let answer = handle.ask(alloc, |machine| {
+        check_guest(machine, guest)?;
+        match machine.region(guest, slot, u64::from(bar)) {
+            Ok(region) => Ok(region_for(region)),
+            Err(why) => Err(u32::from(why.number())),
         }
-        None => NO_MACHINE,
-    }
+    });
+    leave(answer, told)
 }
 
 /// The count of a guest, which grows where an answer of `pciguest_raw_region` for this guest may have changed.
@@ -178,14 +116,11 @@ pub extern "C" fn pciguest_raw_changed(
         (result ≡ 0) × (slice_get m.counts guest ≡ Some count.new)) }
     ensures kept { handle.new.owner.value ≡ handle.old.owner.value }
 {
-    match handle.take(alloc) {
-        Some(machine) => {
-            let number = changed(&machine, guest, count);
-            *handle = Handle::of(machine);
-            number
-        }
-        None => NO_MACHINE,
-    }
+    let answer = handle.ask(alloc, |machine| {
+        check_guest(machine, guest)?;
+        Ok(machine.changed(guest))
+    });
+    leave(answer, count)
 }
 
 /// What an access of a guest at a place hits: a byte of a function in one of its slots, or nothing.
@@ -209,12 +144,15 @@ pub extern "C" fn pciguest_raw_locate(
         (result ≡ number_answered r) × (told.new ≡ hit_left told.old r)) }
     ensures kept { handle.new.owner.value ≡ handle.old.owner.value }
 {
-    match handle.take(alloc) {
-        Some(machine) => {
-            let number = locate(&machine, guest, space, slot, place, told);
-            *handle = Handle::of(machine);
-            number
+    let Some(at) = at_of(space, slot, place) else {
+        return handle.refusal();
+    };
+    let answer = handle.ask(alloc, |machine| {
+        check_guest(machine, guest)?;
+        match machine.locate(guest, at) {
+            Ok(hit) => Ok(hit_for(hit)),
+            Err(why) => Err(u32::from(why.number())),
         }
-        None => NO_MACHINE,
-    }
+    });
+    leave(answer, told)
 }

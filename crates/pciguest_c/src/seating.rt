@@ -3,48 +3,13 @@ ghost use Rattle.std.specs.Prelude.{◌≡◌, ◌≢◌, ◌<◌, ◌≤◌, No
 ghost use Rattle.pciguest_c.specs.Told.{number_told};
 ghost use Rattle.pciguest_c.specs.SeatingsTold.{gift_reply, after_gift, taking_reply, after_taking};
 
-use crate::asking::has_guest;
+use crate::asking::check_guest;
 use crate::handle::Handle;
-use crate::numbers::{ARGUMENT, NO_MACHINE, number_of};
+use crate::numbers::number_of;
+use accesses::Reply;
 use board_file::path_text::path_of;
-use machine::Machine;
 use monitor::Withheld;
 use std::alloc::Global;
-
-/// Gives the function at a path, told as a text, to a guest.
-fn give(machine: &mut Machine, path: &[u8], guest: usize, slot: u64) -> u32
-    ensures guest { length machine.old.world.guests ≤ guest → (result ≡ 902) × (machine.new ≡ machine.old) }
-    ensures given { guest < length machine.old.world.guests →
-        (result ≡ number_told (gift_reply machine.old.world path.now guest slot))
-        × (machine.new ≡ after_gift machine.old path.now guest slot) }
-    ensures refused { result ≢ 0 → machine.new ≡ machine.old }
-{
-    if !has_guest(machine, guest) {
-        return ARGUMENT;
-    }
-    // No endpoint stands at a text that is no path.
-    let Some(path) = path_of(path) else {
-        return u32::from(Withheld::NoEndpoint.number());
-    };
-    match machine.give(&path, guest, slot) {
-        Ok(()) => 0,
-        Err(why) => u32::from(why.number()),
-    }
-}
-
-/// Takes the function in a slot from its guest.
-fn take(machine: &mut Machine, guest: usize, slot: u64) -> u32
-    ensures guest { length machine.old.world.guests ≤ guest → (result ≡ 902) × (machine.new ≡ machine.old) }
-    ensures taken { guest < length machine.old.world.guests →
-        (result ≡ number_told (taking_reply machine.old.world guest slot))
-        × (machine.new ≡ after_taking machine.old guest slot) }
-    ensures refused { result ≢ 0 → machine.new ≡ machine.old }
-{
-    if !has_guest(machine, guest) {
-        return ARGUMENT;
-    }
-    number_of(machine.take(guest, slot))
-}
 
 /// Gives the function at a path, which no guest has, to a guest, into an empty slot: there and on the board it is
 /// at reset.
@@ -64,14 +29,18 @@ pub extern "C" fn pciguest_raw_give(
         × (handle.new.owner.value ≡ Some (after_gift m path.now guest slot))) }
     ensures refused { result ≢ 0 → handle.new.owner.value ≡ handle.old.owner.value }
 {
-    match handle.take(alloc) {
-        Some(mut machine) => {
-            let number = give(&mut machine, path, guest, slot);
-            *handle = Handle::of(machine);
-            number
+    let answer = handle.ask(alloc, |machine| {
+        check_guest(machine, guest)?;
+        // No endpoint stands at a text that is no path.
+        let Some(path) = path_of(path) else {
+            return Err(u32::from(Withheld::NoEndpoint.number()));
+        };
+        match machine.give(&path, guest, slot) {
+            Ok(()) => Ok(Reply::Done),
+            Err(why) => Err(u32::from(why.number())),
         }
-        None => NO_MACHINE,
-    }
+    });
+    number_of(answer)
 }
 
 /// Takes the function in a slot from its guest: the slot is then empty, and on the board the function is at reset.
@@ -90,12 +59,8 @@ pub extern "C" fn pciguest_raw_take(
         × (handle.new.owner.value ≡ Some (after_taking m guest slot))) }
     ensures refused { result ≢ 0 → handle.new.owner.value ≡ handle.old.owner.value }
 {
-    match handle.take(alloc) {
-        Some(mut machine) => {
-            let number = take(&mut machine, guest, slot);
-            *handle = Handle::of(machine);
-            number
-        }
-        None => NO_MACHINE,
-    }
+    number_of(handle.ask(alloc, |machine| {
+        check_guest(machine, guest)?;
+        Ok(machine.take(guest, slot))
+    }))
 }

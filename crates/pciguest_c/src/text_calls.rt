@@ -1,5 +1,5 @@
 //! What C asks and is answered as text.
-ghost use Rattle.std.specs.Prelude.{◌≡◌, ◌≢◌, ◌<◌, ◌≤◌, ◌++◌, ◌⊎◌, ◌↔◌, ℕ, IsTrue, None, Some, IfNone, IfSome, drop, length};
+ghost use Rattle.std.specs.Prelude.{◌≡◌, ◌≢◌, ◌<◌, ◌≤◌, ◌++◌, ◌⊎◌, ◌↔◌, ℕ, IsTrue, None, Some, IfNone, IfSome, IfOk, IfErr, drop, length};
 ghost use Rattle.std.specs.Bool.{OnTrue, OnFalse};
 ghost use Rattle.model_registers.specs.DeclarationRules.{first_broken};
 ghost use Rattle.model_set_up.specs.SetUpWrites.{set_up_rules};
@@ -14,8 +14,9 @@ ghost use Rattle.pciguest_c.specs.NumberWords.{words_of_number};
 
 use crate::handle::Handle;
 use crate::number_words::words_of;
-use crate::numbers::{ARGUMENT, NO_MACHINE};
+use crate::numbers::ARGUMENT;
 use crate::text::{check_of, report_of};
+use lines::LineText;
 use std::alloc::Global;
 
 /// The bytes of the longest line that answers a line.
@@ -44,6 +45,23 @@ pub fn tell(text: &[u8], out: &mut [u8], needed: &mut usize) -> bool
     true
 }
 
+/// Puts what a line writes at the front of a buffer that has room for it, and tells how long it is.
+pub fn leave_line(answer: Result<LineText, u32>, out: &mut [u8], written: &mut usize) -> u32
+    requires { IfOk answer (λ _. 48 ≤ length out.old) }
+    ensures told { IfOk answer (λ t. (result ≡ 0) × (out.new ≡ t.items ++ drop (length t.items) out.old)
+        × (written.new ≡ length t.items)) }
+    ensures refused { IfErr answer (λ n. (result ≡ n) × (out.new ≡ out.old) × (written.new ≡ written.old)) }
+{
+    match answer {
+        Ok(text) => {
+            put(out, text.as_slice());
+            *written = text.len();
+            0
+        }
+        Err(number) => number,
+    }
+}
+
 /// Runs one line of a script, which is given without its line feed. What it writes, nothing or one line
 /// with a line feed, is put at the front of `out`, which needs room for 48 bytes, and its length is told.
 #[unsafe(no_mangle)]
@@ -64,23 +82,15 @@ pub extern "C" fn pciguest_raw_run_line(
     ensures refused { result ≢ 0 → handle.new.owner.value ≡ handle.old.owner.value }
     ensures unwritten { result ≢ 0 → (out.new ≡ out.old) × (written.new ≡ written.old) }
 {
-    if out.len() < LONGEST_REPLY {
-        return if handle.is_live() {
-            ARGUMENT
+    let has_room = LONGEST_REPLY <= out.len();
+    let answer = handle.ask(alloc, |machine| {
+        if has_room {
+            Ok(machine.run_line(line))
         } else {
-            NO_MACHINE
-        };
-    }
-    match handle.take(alloc) {
-        Some(mut machine) => {
-            let reply = machine.run_line(line);
-            *handle = Handle::of(machine);
-            put(out, reply.as_slice());
-            *written = reply.len();
-            0
+            Err(ARGUMENT)
         }
-        None => NO_MACHINE,
-    }
+    });
+    leave_line(answer, out, written)
 }
 
 /// Writes the report of a board file to the front of `out`, and tells how long it is, also where `out`

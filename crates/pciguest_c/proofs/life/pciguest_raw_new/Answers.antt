@@ -2,20 +2,8 @@ use Rattle.std.proofs.Common.{◌<◌, ℕ, sym, subst, ◌∙◌, arith}
 use Rattle.simulation.specs.Listing.{Refuses, Breaks}
 use Rattle.pciguest_c.proofs.FaultNumbers.{is_small, refused, broken}
 use Rattle.pciguest_c.proofs.Begun.{opened_apart}
-use Rattle.pciguest_c.proofs.Options.{none_there, where_none}
+use Rattle.pciguest_c.proofs.Options.{where_none}
 use Rattle.pciguest_c.proofs.life.pciguest_raw_new.Goals as goal
-
-pub returns-in-Ok-new-clause-in_use : goal.returns-in-Ok-new-clause-in_use
-returns-in-Ok-new-clause-in_use c = none_there _ c.args.handle.now.owner.value (sym c.is_live.ensures ∙ c.if-is_live.false)
-
-pub returns-in-Ok-new-clause-numbers : goal.returns-in-Ok-new-clause-numbers
-returns-in-Ok-new-clause-numbers c = where_none c.args.handle.now.owner.value (omega arith)
-
-pub returns-in-Ok-clause-in_use : goal.returns-in-Ok-clause-in_use
-returns-in-Ok-clause-in_use c = none_there _ c.args.handle.now.owner.value (sym c.is_live.ensures ∙ c.if-is_live.false)
-
-pub returns-in-Ok-clause-numbers : goal.returns-in-Ok-clause-numbers
-returns-in-Ok-clause-numbers c = where_none c.args.handle.now.owner.value (omega arith)
 
 pub returns-clause-file : goal.returns-clause-file
 returns-clause-file c = λ no.

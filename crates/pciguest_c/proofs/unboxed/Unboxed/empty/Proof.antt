@@ -9,7 +9,7 @@ use prog.Wp.{WpFn}
 use contract.Monad.{fact}
 use contract.Running.{tables}
 use contract.BorrowLft.{◌⊑◌}
-use types.Kit.{Item, ‵, raw, ◌⊛◌, some, given, prop, ◌$◌, ◌∵◌, !, qed, done, drop, move, keep, use1, use2, split, fsplit, join, fjoin, pick, learn, regoal, at_ret, suffices}
+use types.Kit.{Item, ‵, raw, ◌⊛◌, some, given, prop, ◌$◌, ◌∵◌, !, qed, done, move, keep, use1, use2, split, fsplit, join, fjoin, pick, learn, regoal, at_ret, suffices}
 use types.Part.{whole as whole_at, sub, agg}
 use types.Run.{enter, first as first_of, blocks, exec, look, load, of_opd, stop, fld, no_more, and_then, returns}
 use types.ByLocal.{alloc_all, pass_all, free_all, look_at, get, get_in, through, sets, sets_last, env}

@@ -24,7 +24,7 @@ use Rattle.std.proofs.raw_atomic.Walks.{proved_at}
 use Rattle.core.proofs.alloc.Calls.{Goes-blank}
 use Rattle.std_alloc.proofs.RawLayout.{as_written}
 use Rattle.std_alloc.proofs.OfVacant.{Vacant, vacant_val, vacant_typed, Vacant-had}
-use Rattle.std_alloc.proofs.BoxSteps.Form.{Bx, args, τ, own, R, word}
+use Rattle.std_alloc.proofs.BoxSteps.Form.{Bx, args, τ, R, word}
 use Rattle.std_alloc.proofs.BoxSteps.Steps.{el_in, el_tells}
 use Rattle.std_alloc.proofs.VecSteps.Shapes.{after}
 use Rattle.pciguest_c.proofs.Blocks.{Un, un_typed, unboxed_in}
