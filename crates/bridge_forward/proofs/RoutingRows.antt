@@ -1,6 +1,6 @@
 -- The regions of six registers, one after the other, and each within 64 bits.
-use Rattle.std.proofs.Common.{◌≡◌, ℕ, zero, suc, ◌+◌, ◌^◌, ◌<◌, ◌≤◌, List, [], ◌∷◌, ◌++◌, length, take, get_or, Option, Some, None, refl, sym, ap, ap₂, ◌∙◌, subst, arith}
-use Rattle.std.specs.Prelude.{map, slice_get, option_map}
+use Rattle.std.proofs.Common.{◌≡◌, ℕ, zero, suc, ◌+◌, ◌^◌, ◌<◌, ◌≤◌, List, [], ◌∷◌, ◌++◌, length, take, get_or, Option, Some, None, sym, ap, ap₂, ◌∙◌, subst, arith}
+use Rattle.std.specs.Prelude.{map, slice_get}
 use Rattle.std.specs.Option.{option_to_list}
 use Rattle.std.proofs.lemmas.List.{map-append, length-take, take_more}
 use Rattle.std.proofs.lemmas.Option.{slice_get_within, get_or_from_slice_get, slice_get-get_or}
@@ -8,7 +8,6 @@ use Rattle.lists.specs.Elements.{Each}
 use Rattle.model_registers.specs.EndpointTable.{BaseAddress, IsLawfulBase, base_width}
 use Rattle.model_registers.specs.Windows as model
 use Rattle.model_registers.proofs.Bases.{base_room}
-use Rattle.headers.specs.WindowPairs.{pair_of}
 use Rattle.bars.specs.declared.region.BasedRegion.{BasedRegion}
 use Rattle.bars.specs.Slots.{placed, bases_from}
 use Rattle.bars.proofs.Regions.{width_limit, size_positive}
@@ -62,7 +61,3 @@ has_room slots i r h e =
     record { some = size_positive r.decl.kind r.decl.size b.size_is_lawful; fits = omega (arith, room, limit) }
 
 -- ---- windows
-
-pub no_window : (w : Option model.Window) → None ≡ option_map pair_of w → None ≡ w
-no_window None e = refl
-no_window (Some w) e = cc

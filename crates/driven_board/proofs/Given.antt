@@ -6,7 +6,7 @@ use Rattle.model_registers.specs.Apertures.{Apertures}
 use Rattle.model_board.specs.Board.{Board}
 use Rattle.model_guests.specs.Text.{Text, lines}
 use Rattle.model_guests.specs.Guests.{guests_at_first}
-use Rattle.model_guests.specs.World.{Guest, World, HasLawfulNames, HasLawfulGuests, IsLawfulWorld}
+use Rattle.model_guests.specs.World.{Guest, World, HasLawfulNames, IsLawfulWorld}
 use Rattle.model_guests.specs.WorldNow.{WorldNow, world_over, world_at_first}
 use Rattle.model_guests.specs.Inputs.{Input, inputs, lone_output, after_inputs}
 use Rattle.model_guests.specs.Isolation.{IsDecidedBy, AgreeOn}
@@ -21,12 +21,9 @@ use Rattle.model_handoff.proofs.Served.{fault_decides}
 use Rattle.host_bridge.specs.HostState.{HostState}
 use Rattle.board_file.specs.Meaning.{world_in}
 use Rattle.monitor.specs.Beginnings.{world_on}
-use Rattle.sessions.specs.Takings.{IsFaultOf}
-use Rattle.sessions.specs.declared.taking.TakingFault.{TakingFault}
-use Rattle.sessions.specs.declared.taking.TakingFault.TheVariants.{NotInOrder, Closed, Memory}
 use Rattle.simulation.specs.Listing.{Declares}
 use Rattle.driven_board.specs.Boards.{IsBoardOf}
-use Rattle.driven_board.specs.Giving.{IsGiven, IsRefusalOf, of_taking}
+use Rattle.driven_board.specs.Giving.{IsGiven}
 use Rattle.driven_board.specs.Isolation.{AreAlike, GivenIsolated, GivenAlike, GivenAsSetUp, GivenStays}
 use Rattle.driven_board.proofs.Declared.{same_world}
 
@@ -41,15 +38,7 @@ module _ (file : Text) (h k : HostState) (ds : List Guest) (of : IsBoardOf file 
       ap₂ (λ (b : Board) (a : Apertures). let w : World = record { board = b; apertures = a; guests = ds } in w)
       (of.board ∙ sym (ap (λ (w : World). w.board) read_again)) (of.apertures ∙ sym (ap (λ (w : World). w.apertures) read_again))
 
-  pub refusal_here : (t : TakingFault) → IsFaultOf (world_on h ds) h t → IsRefusalOf file h (of_taking t)
-  refusal_here (NotInOrder p) is = (world_on h ds, subst (Declares file) (sym world_here) declared, is)
-  refusal_here (Closed r) is = (world_on h ds, subst (Declares file) (sym world_here) declared, is)
-  refusal_here Memory is = tt
-
   module _ (lawful : IsLawfulWorld (world_in k ds)) where
-    pub lawful_here : HasLawfulGuests (world_on h ds)
-    lawful_here = subst HasLawfulGuests (sym world_here) lawful.guests
-
     pub is_given : (m : WorldNow) → m ≡ world_over (world_on h ds) (taken_over (world_on h ds) h.state) → first_fault (world_on h ds) h.state ≡ None → IsGiven file h m
     is_given m made none = record {
       world = world_on h ds;

@@ -2,7 +2,6 @@
 use Rattle.std.proofs.Common.{◌≡◌, ℕ, ◌+◌, ◌*◌, ◌/◌, ◌%◌, Bool, true, false, not, ◌&&◌, cond, [], ◌∷◌, refl, sym, ap, ap₂, ◌∙◌}
 use Rattle.std.specs.Prelude.{bit_or}
 use Rattle.std.specs.Int.Bits.{or_zero_r, and_zero_r}
-use Rattle.model_registers.proofs.Files.{same_place}
 use Rattle.model_registers.specs.Cell.{Cell, no_cell, written}
 use Rattle.model_registers.specs.Registers.{Place, block, place_eq, after, PlacedCell, File, cell_at, changed, write}
 use Rattle.model_registers.specs.OwnCopies.{is_own, handed_on}
@@ -17,9 +16,6 @@ apart p q own other = cases (place_eq p q) refl where
   cases true e = let same = ap is_own (place_same p q e) in cc
 
 -- ---- one entry
-
-entry_place : (own : File) (e : PlacedCell) → (copied own e).place ≡ e.place
-entry_place own e = same_place (is_own e.place) e (cell_at own e.place)
 
 abbrev changed_entry : (Cell → Cell) → Place → PlacedCell → PlacedCell
 changed_entry f p e = cond (place_eq e.place p) (record e { cell = f e.cell }) e

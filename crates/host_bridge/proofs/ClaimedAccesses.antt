@@ -1,6 +1,5 @@
 -- An access at the claim of an address: the claimed region takes it in the word and the byte lanes in which its offset lies.
-use Rattle.std.proofs.Common.{◌≡◌, ℕ, ◌+◌, ◌*◌, ◌/◌, ◌%◌, ◌^◌, ◌≤◌, List, Some, None, sym, ap, ap₂, subst, ◌∙◌}
-use Rattle.std.specs.Prelude.{IsSome}
+use Rattle.std.proofs.Common.{◌≡◌, ℕ, ◌+◌, ◌*◌, ◌/◌, ◌%◌, ◌^◌, ◌≤◌, List, Some, sym, ap, ap₂, subst, ◌∙◌}
 use Rattle.model_registers.specs.Registers.{block, read, write, number, all_bytes}
 use Rattle.model_registers.specs.ByteEnables.{lanes, IsWidth, LiesInWord, enables_of, into_lanes}
 use Rattle.model_registers.specs.Decoding.{Space, Function}
@@ -10,7 +9,7 @@ use Rattle.model_board.specs.Claims.{Claim, first_claim}
 use Rattle.model_board.specs.Ports.{claim_reply, after_claim_write}
 use Rattle.bridge_forward.specs.Lending.{endpoint_at, with_endpoint}
 use Rattle.model_board.proofs.ClaimLanes.{claims_keep_lanes}
-use Rattle.host_bridge.proofs.Lent.{HasDistinctPaths, file_at-endpoint, changed_endpoint, claimed_endpoint}
+use Rattle.host_bridge.proofs.Lent.{HasDistinctPaths, file_at-endpoint, changed_endpoint}
 
 -- an address has this claim
 pub record IsClaimed (fs : List BoardFunction) (space : Space) (a : ℕ) (c : Claim) : Type 0 where
@@ -19,9 +18,6 @@ pub record IsClaimed (fs : List BoardFunction) (space : Space) (a : ℕ) (c : Cl
 module _ (fs : List BoardFunction) (space : Space) (a w : ℕ) (c : Claim) (is : IsClaimed fs space a c) where
   pub lies_in_word : IsWidth w → a % w ≡ 0 → LiesInWord c.offset w
   lies_in_word width aligned = subst (λ l. l + w ≤ 4) (sym (claims_keep_lanes fs space a c is.first)) (aligned_lies_in_word a w width aligned)
-
-  pub some_endpoint : HasDistinctPaths fs → endpoint_at fs c.path ≡ None → ⊥
-  some_endpoint distinct none = let some : IsSome (endpoint_at fs c.path) = claimed_endpoint fs space a c distinct is.first in cc
 
   pub number_read : (e : Function) (enables word out : ℕ) → LiesInWord c.offset w → endpoint_at fs c.path ≡ Some e → enables ≡ enables_of c.offset w
       → word ≡ read e.file (block c.index (c.offset / 4 * 4)) (lanes enables) → out ≡ word / 256 ^ (c.offset % 4) → out ≡ claim_reply fs w (first_claim fs space a)

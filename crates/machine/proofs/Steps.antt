@@ -1,9 +1,8 @@
 -- A call of a machine: its guests keep their names, and their counts are those that are defined.
 --     grew, both_grew, stayed      a call that changes a guest by its index, two guests, or none
-use Rattle.std.proofs.Common.{◌≡◌, ◌<◌, ℕ, Bool, true, ◌&&◌, ◌||◌, List, [], Some, Option, length, false, sym, ap, ap₂, ◌∙◌, subst, arith}
+use Rattle.std.proofs.Common.{◌≡◌, ◌<◌, ℕ, Bool, true, ◌&&◌, ◌||◌, List, [], Some, Option, length, false, sym, ap, ap₂, ◌∙◌, subst}
 use Rattle.std.specs.Prelude.{slice_get, unwrap_or}
 use Rattle.std.specs.Str.{bytes_eq}
-use Rattle.std.proofs.lemmas.List.{length-map}
 use Rattle.lists.proofs.Indices.{at_below, map_at}
 use Rattle.lists.proofs.Tests.{and_true}
 use Rattle.model_guests.specs.Text.{Text}
@@ -29,20 +28,11 @@ named_nth w i inside =
     map_at (λ (g : GuestNow). g.name) w.guests i at.0 at.1
     ∙ ap (λ (o : Option GuestNow). let none : GuestNow = record { name = []; paths = []; lone = reset_guest [] } in Some (unwrap_or o none).name) (sym at.1)
 
-few_there : (w : WorldNow) (i : ℕ) → HaveNamesApart (names_now w) → i < length w.guests → i < 32
-few_there w i h inside =
-    let few_names = h.few in
-    let same = length-map w.guests (λ (g : GuestNow). g.name) in
-    omega arith
-
 -- ---- by a machine that is opened
 
 module _ (now : MachineNow) (w : WorldNow) (ns : List ℕ) (view : machine w ns ≡ now) where
   inside_too : (i : ℕ) → i < length now.world.guests → i < length w.guests
   inside_too i inside = subst (λ (m : MachineNow). i < length m.world.guests) (sym view) inside
-
-  pub few : (i : ℕ) → HaveNamesApart (names_now w) → i < length now.world.guests → i < 32
-  few i h inside = few_there w i h (inside_too i inside)
 
   -- a call, by the world of the machine
   counted : (new : WorldNow) (later : List ℕ) (a : WorldNow → Action) → new ≡ after_action w (a w)

@@ -13,7 +13,6 @@ use Rattle.model_guests.specs.Slots.{Slots, reset_function}
 use Rattle.model_guests.specs.World.{Guest as Declared, World, declared, HasLawfulGuests}
 use Rattle.model_guests.specs.Guests.{GuestNow, GuestsNow, guest_at_first}
 use Rattle.lists.proofs.EachLemmas.{each_parts}
-use Rattle.lists.proofs.Indices.{each_at}
 use Rattle.host_bridge.specs.HostState.{HostState}
 use Rattle.window_packing.specs.Readies.{board_below}
 use Rattle.window_packing.proofs.BarLists.{take_at}
@@ -92,9 +91,6 @@ of_guest P (k ∷ gs) zero g all at = let same : k ≡ g = cc in subst (λ (x : 
 of_guest P (k ∷ gs) (suc i) g all at = of_guest P gs i g (each_parts P k.slots (flat_map (λ (g : Declared). g.slots) gs) all).1 at
 
 module _ (w : World) where
-  pub few_slots : HasLawfulGuests w → (i : ℕ) (g : Declared) → slice_get w.guests i ≡ Some g → length g.slots ≤ 32
-  few_slots lawful i g at = each_at (λ (g : Declared). length g.slots ≤ 32) w.guests i g lawful.few_slots at
-
   pub slots_declared : HasLawfulGuests w → (i : ℕ) (g : Declared) → slice_get w.guests i ≡ Some g → Each (λ p. IsSome (declared w.board p)) g.slots
   slots_declared lawful i g at = of_guest (λ p. IsSome (declared w.board p)) w.guests i g lawful.endpoints at
 
