@@ -1,6 +1,6 @@
 #!/usr/bin/env bash
 # Checks what the documents say of files: the index of definitions is complete, each link leads somewhere, and each file
-# that is named is there. It needs no program. The last line is 'N passed, M failed'.
+# that is named is there, and each edit of the tests can be made. It needs no program. The last line is 'N passed, M failed'.
 set -u
 cd "$(dirname "$0")/.."
 passed=0
@@ -103,6 +103,20 @@ lacking_calls() {
 }
 holds 'numbers that the manual lacks' lacking_numbers
 holds 'calls that the manual lacks' lacking_calls
+
+# ---- edits that the gate doesn't try: each text that one replaces stands once in its file
+lost_edits() {
+  local edit file line
+  for edit in tests/edits/*/*.edit; do
+    while IFS= read -r line; do
+      case $line in
+        'file: '*) file=crates/$(basename "$(dirname "$edit")")/${line#file: } ;;
+        'old: '*) [ "$(grep -oF -- "${line#old: }" "$file" | wc -l)" = 1 ] || echo "$edit: ${line#old: }" ;;
+      esac
+    done < "$edit"
+  done
+}
+holds 'edits whose text is not there once' lost_edits
 
 echo "$passed passed, $failed failed"
 [ "$failed" = 0 ]
