@@ -12,7 +12,7 @@ use std::alloc::{AllocError, Global};
 
 /// Addresses that an agent answers: the agent's index, a number of its bus and space, and the first
 /// and last address.
-#[derive(Clone, Copy, Debug)]
+#[derive(Clone, Copy)]
 pub(crate) struct Span {
     pub(crate) agent: usize,
     pub(crate) group: u64,

@@ -14,7 +14,7 @@ ghost use Rattle.bus_scan.specs.Sights.{seen_of};
 use host_bridge::{Bdf, Host};
 
 /// The layout of a function's header, with an endpoint's interrupt pin.
-#[derive(Clone, Copy, Debug)]
+#[derive(Clone, Copy)]
 pub(crate) enum Layout {
     Endpoint { pin: u8 },
     Bridge,
@@ -22,7 +22,7 @@ pub(crate) enum Layout {
 
 /// What a function shows: Vendor ID and Device ID, whether its device holds other functions, and its
 /// header.
-#[derive(Clone, Copy, Debug)]
+#[derive(Clone, Copy)]
 pub(crate) struct Seen {
     pub(crate) vendor: u16,
     pub(crate) device: u16,

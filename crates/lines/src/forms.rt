@@ -14,7 +14,7 @@ use crate::words::first_words;
 use accesses::{Access, At, Bdf, HostAccess, HostAt, Op, Place};
 
 /// What a guest's line asks.
-#[derive(Clone, Copy, Debug, PartialEq, Eq)]
+#[derive(Clone, Copy, PartialEq, Eq)]
 pub(crate) enum Asked {
     Access(Access),
     /// A slot, a place in the function there, a byte offset and the bits that are set there.

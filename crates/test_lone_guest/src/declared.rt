@@ -5,7 +5,7 @@ use std::alloc::Global;
 
 /// A region: the index of its first base address register, its kind, its size and the bytes at its
 /// beginning.
-#[derive(Debug, Drop)]
+#[derive(Drop)]
 pub struct LoneRegion {
     pub index: u8,
     pub kind: Kind,
@@ -14,14 +14,14 @@ pub struct LoneRegion {
 }
 
 /// Registers of the device in configuration space, from an offset on.
-#[derive(Debug, Drop)]
+#[derive(Drop)]
 pub struct LoneBlock {
     pub off: u8,
     pub block: Vec<Register>,
 }
 
 /// An endpoint.
-#[derive(Debug, Drop)]
+#[derive(Drop)]
 pub struct LoneEndpoint {
     pub vendor: u16,
     pub device: u16,

@@ -2,7 +2,7 @@
 
 /// A byte: its value at reset and now, the bits that a write sets, and the bits that writing a one
 /// clears and that the device sets.
-#[derive(Clone, Copy, Debug)]
+#[derive(Clone, Copy)]
 pub struct Register {
     at_reset: u8,
     value: u8,

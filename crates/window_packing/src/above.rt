@@ -12,7 +12,7 @@ use std::alloc::{AllocError, Global};
 /// The index of the bus that a function stands on, where 0 is bus 0 and 1 + n the bus behind the
 /// function of row n; and whether all bridges above have an I/O window, a prefetchable window, and one
 /// of 64 bits.
-#[derive(Clone, Copy, Debug)]
+#[derive(Clone, Copy)]
 pub(crate) struct Above {
     pub(crate) bus: usize,
     pub(crate) io: bool,
