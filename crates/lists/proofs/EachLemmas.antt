@@ -1,5 +1,5 @@
 -- What holds of each element, or of each pair: lists end to end, maps, filters, tests and permutations.
-use Rattle.std.proofs.Common.{◌≡◌, zero, suc, Bool, true, cond, List, [], ◌∷◌, ◌++◌, refl, arith}
+use Rattle.std.proofs.Common.{◌≡◌, zero, suc, Bool, true, List, [], ◌∷◌, ◌++◌, refl, arith}
 use Rattle.std.specs.Prelude.{IsTrue, map, filter}
 use Rattle.std.specs.List.{All, list_all}
 use Rattle.std.specs.List.Sorted.{IsPermutation}
@@ -61,19 +61,13 @@ pub each_of_map : {A B : Type 0} (P : B → Type 0) (f : A → B) (xs : List A) 
 each_of_map P f [] h = tt
 each_of_map P f (x ∷ xs) h = (h.0, each_of_map P f xs h.1)
 
-each_cases : {A : Type 0} (P : A → Type 0) (x : A) (ys : List A) (b : Bool) → P x → Each P ys → Each P (cond b (x ∷ ys) ys)
-each_cases P x ys b h k = grind arith
-
 pub each_filter : {A : Type 0} (P : A → Type 0) (p : A → Bool) (xs : List A) → Each P xs → Each P (filter p xs)
 each_filter P p [] h = tt
-each_filter P p (x ∷ xs) h = each_cases P x (filter p xs) (p x) h.0 (each_filter P p xs h.1)
-
-filter_passes_cases : {A : Type 0} (p : A → Bool) (x : A) (ys : List A) (b : Bool) → p x ≡ b → Each (λ y. p y ≡ true) ys → Each (λ y. p y ≡ true) (cond b (x ∷ ys) ys)
-filter_passes_cases p x ys b e h = grind arith
+each_filter P p (x ∷ xs) h = grind (arith, each_filter P p xs)
 
 pub filter_passes : {A : Type 0} (p : A → Bool) (xs : List A) → Each (λ x. p x ≡ true) (filter p xs)
 filter_passes p [] = tt
-filter_passes p (x ∷ xs) = filter_passes_cases p x (filter p xs) (p x) refl (filter_passes p xs)
+filter_passes p (x ∷ xs) = grind (arith, filter_passes p xs)
 
 -- ---- pairs
 
@@ -89,12 +83,9 @@ pair_parts R (x ∷ xs) ys h =
     let here = each_parts (R x) xs ys h.0 in
     record { first = (here.0, more.first); across = (here.1, more.across); second = more.second }
 
-pair_cases : {A : Type 0} (R : A → A → Type 0) (x : A) (ys : List A) (b : Bool) → Each (R x) ys → EachPair R ys → EachPair R (cond b (x ∷ ys) ys)
-pair_cases R x ys b h k = grind arith
-
 pub pairs_filter : {A : Type 0} (R : A → A → Type 0) (p : A → Bool) (xs : List A) → EachPair R xs → EachPair R (filter p xs)
 pairs_filter R p [] h = tt
-pairs_filter R p (x ∷ xs) h = pair_cases R x (filter p xs) (p x) (each_filter (R x) p xs h.0) (pairs_filter R p xs h.1)
+pairs_filter R p (x ∷ xs) h = grind (arith, each_filter, pairs_filter R p xs)
 
 pub pairs_after : {A : Type 0} (R : A → A → Type 0) (xs : List A) (x : A) (ys : List A) → EachPair R (xs ++ x ∷ ys) → Each (R x) ys
 pairs_after R [] x ys h = h.0

@@ -1,9 +1,10 @@
 -- Lists by index: what a test of all, a search or a map says of the element at an index.
 use Rattle.std.proofs.Common.{◌≡◌, ℕ, ◌<◌, Bool, true, false, ◌||◌, cond, inl, inr, Some, None, List, [], ◌∷◌, map, length, zero, suc, refl, ap, sym, ◌∙◌, arith, get_or, subst}
-use Rattle.std.specs.Prelude.{find}
+use Rattle.std.specs.Prelude.{find, option_map}
 use Rattle.std.specs.List.{slice_get, slice_set, list_any, list_all}
 use Rattle.std.proofs.lemmas.Bool.{and_left, and_right}
-use Rattle.std.proofs.lemmas.Option.{slice_get_read}
+use Rattle.std.proofs.lemmas.List.{map-set, set-get_or}
+use Rattle.std.proofs.lemmas.Option.{slice_get_read, slice_get-map, get_or_from_slice_get}
 use Rattle.lists.specs.Elements.{IsIn, Each, EachPair}
 
 -- what indexing gives
@@ -57,9 +58,7 @@ index_in (y ∷ ys) (suc i) x e = inr (index_in ys i x e)
 -- ---- maps
 
 pub map_at : {A B : Type 0} (f : A → B) (xs : List A) (i : ℕ) (x : A) → slice_get xs i ≡ Some x → slice_get (map f xs) i ≡ Some (f x)
-map_at f [] i x e = absurd (cc)
-map_at f (y ∷ ys) zero x e = let same : y ≡ x = cc in ap (λ z. Some (f z)) same
-map_at f (y ∷ ys) (suc i) x e = map_at f ys i x e
+map_at f xs i x e = slice_get-map f xs i ∙ ap (option_map f) e
 
 pub at_map : {A B : Type 0} (f : A → B) (xs : List A) (i : ℕ) (y : B) → slice_get (map f xs) i ≡ Some y → (x : A) × (slice_get xs i ≡ Some x) × (y ≡ f x)
 at_map f [] i y e = absurd (cc)
@@ -67,14 +66,21 @@ at_map f (x ∷ xs) zero y e = (x, refl, let same : y ≡ f x = cc in same)
 at_map f (x ∷ xs) (suc i) y e = at_map f xs i y e
 
 pub map_set : {A B : Type 0} (f : A → B) (xs : List A) (i : ℕ) (x : A) → map f (slice_set xs i x) ≡ slice_set (map f xs) i (f x)
-map_set f [] i x = refl
-map_set f (y ∷ ys) zero x = refl
-map_set f (y ∷ ys) (suc i) x = ap (λ zs. f y ∷ zs) (map_set f ys i x)
+map_set f xs i x = map-set f xs i x
 
 pub set_same : {A : Type 0} (xs : List A) (i : ℕ) (x : A) → slice_get xs i ≡ Some x → slice_set xs i x ≡ xs
-set_same [] i x h = refl
-set_same (y ∷ ys) zero x h = let e : x ≡ y = cc in ap (λ z. z ∷ ys) e
-set_same (y ∷ ys) (suc i) x h = ap (λ z. y ∷ z) (set_same ys i x h)
+set_same xs i x h = ap (slice_set xs i) (sym (get_or_from_slice_get xs i x x h)) ∙ set-get_or xs i x
+
+pub get_set : {A : Type 0} (xs : List A) (i : ℕ) (x y : A) → slice_get xs i ≡ Some x → slice_get (slice_set xs i y) i ≡ Some y
+get_set [] i x y h = cc
+get_set (z ∷ zs) zero x y h = refl
+get_set (z ∷ zs) (suc i) x y h = get_set zs i x y h
+
+pub get_other : {A : Type 0} (xs : List A) (i j : ℕ) (y : A) → (i ≡ j → ⊥) → slice_get (slice_set xs i y) j ≡ slice_get xs j
+get_other [] i j y h = refl
+get_other (z ∷ zs) zero j y h = grind arith
+get_other (z ∷ zs) (suc i) zero y h = refl
+get_other (z ∷ zs) (suc i) (suc j) y h = get_other zs i j y (λ e. h (ap suc e))
 
 -- ---- find
 

@@ -1,17 +1,17 @@
 -- Membership, and facts on pairs of elements, through filters, maps and lists end to end.
-use Rattle.std.proofs.Common.{◌≡◌, ◌⊎◌, inl, inr, Bool, true, false, ◌||◌, cond, List, [], ◌∷◌, ◌++◌, refl, sym, ap, ap₂, subst, ◌∙◌, arith}
+use Rattle.std.proofs.Common.{◌≡◌, ◌⊎◌, inl, inr, Bool, true, false, cond, List, [], ◌∷◌, ◌++◌, refl, sym, ap₂, subst, arith}
 use Rattle.std.specs.Prelude.{map, filter, flat_map}
 use Rattle.std.specs.List.{list_any, list_all}
 use Rattle.std.proofs.lemmas.Bool.{or_right}
 use Rattle.lists.specs.Elements.{IsIn, Each, EachPair}
+use Rattle.lists.proofs.Indices.{any_at, index_in}
 use Rattle.lists.proofs.Tests.{left_true, right_true}
 
 -- ---- what holds of each element
 
 pub each_in : {A : Type 0} (P : A → Type 0) (x : A) (xs : List A) → Each P xs → IsIn x xs → P x
 each_in P x [] h m = absurd m
-each_in P x (y ∷ ys) h (inl e) = subst P (sym e) h.0
-each_in P x (y ∷ ys) h (inr m) = each_in P x ys h.1 m
+each_in P x (y ∷ ys) h m = grind (arith, each_in P x ys)
 
 pub each_from : {A : Type 0} (P : A → Type 0) (xs : List A) → ((x : A) → IsIn x xs → P x) → Each P xs
 each_from P [] f = tt
@@ -21,8 +21,7 @@ each_from P (x ∷ xs) f = (f x (inl refl), each_from P xs (λ y m. f y (inr m))
 
 pub in_front : {A : Type 0} (x : A) (xs ys : List A) → IsIn x xs → IsIn x (xs ++ ys)
 in_front x [] ys m = absurd m
-in_front x (y ∷ xs) ys (inl e) = inl e
-in_front x (y ∷ xs) ys (inr m) = inr (in_front x xs ys m)
+in_front x (y ∷ xs) ys m = grind (arith, in_front x xs ys)
 
 pub in_back : {A : Type 0} (x : A) (xs ys : List A) → IsIn x ys → IsIn x (xs ++ ys)
 in_back x [] ys m = m
@@ -30,17 +29,11 @@ in_back x (y ∷ xs) ys m = inr (in_back x xs ys m)
 
 pub front_or_back : {A : Type 0} (x : A) (xs ys : List A) → IsIn x (xs ++ ys) → IsIn x xs ⊎ IsIn x ys
 front_or_back x [] ys m = inr m
-front_or_back x (y ∷ xs) ys (inl e) = inl (inl e)
-front_or_back x (y ∷ xs) ys (inr m) = later (front_or_back x xs ys m)
-  where
-    later : IsIn x xs ⊎ IsIn x ys → IsIn x (y ∷ xs) ⊎ IsIn x ys
-    later (inl h) = inl (inr h)
-    later (inr h) = inr h
+front_or_back x (y ∷ xs) ys m = grind (arith, front_or_back x xs ys)
 
 pub in_flat_map : {A B : Type 0} (f : A → List B) (x : A) (y : B) (xs : List A) → IsIn x xs → IsIn y (f x) → IsIn y (flat_map f xs)
 in_flat_map f x y [] m k = absurd m
-in_flat_map f x y (z ∷ xs) (inl e) k = in_front y (f z) (flat_map f xs) (subst (λ w. IsIn y (f w)) e k)
-in_flat_map f x y (z ∷ xs) (inr m) k = in_back y (f z) (flat_map f xs) (in_flat_map f x y xs m k)
+in_flat_map f x y (z ∷ xs) m k = grind (arith, in_front, in_back, in_flat_map f x y xs)
 
 -- an element of the whole comes from one of the parts
 pub from_flat_map : {A B : Type 0} (f : A → List B) (y : B) (xs : List A) → IsIn y (flat_map f xs) → (x : A) × IsIn x xs × IsIn y (f x)
@@ -58,56 +51,33 @@ from_flat_map {A} f y (z ∷ xs) m = by_part (front_or_back y (f z) (flat_map f 
 
 pub in_map : {A B : Type 0} (f : A → B) (x : A) (xs : List A) → IsIn x xs → IsIn (f x) (map f xs)
 in_map f x [] m = m
-in_map f x (y ∷ xs) (inl e) = inl (ap f e)
-in_map f x (y ∷ xs) (inr m) = inr (in_map f x xs m)
+in_map f x (y ∷ xs) m = grind (arith, in_map f x xs)
 
 pub from_map : {A B : Type 0} (f : A → B) (y : B) (xs : List A) → IsIn y (map f xs) → (x : A) × IsIn x xs × (y ≡ f x)
 from_map f y [] m = absurd m
 from_map f y (x ∷ xs) (inl e) = (x, inl refl, e)
-from_map {A} f y (x ∷ xs) (inr m) = later (from_map f y xs m)
-  where
-    later : (z : A) × IsIn z xs × (y ≡ f z) → (z : A) × IsIn z (x ∷ xs) × (y ≡ f z)
-    later (z, k, e) = (z, inr k, e)
+from_map {A} f y (x ∷ xs) (inr m) = grind (arith, from_map f y xs m)
 
 pub in_filter : {A : Type 0} (p : A → Bool) (x : A) (xs : List A) → IsIn x xs → p x ≡ true → IsIn x (filter p xs)
 in_filter p x [] m h = m
-in_filter p x (y ∷ xs) m h = by_test (p y) refl m (λ k. in_filter p x xs k h)
-  where
-    by_test : (t : Bool) → p y ≡ t → IsIn x (y ∷ xs) → (IsIn x xs → IsIn x (filter p xs)) → IsIn x (cond t (y ∷ filter p xs) (filter p xs))
-    by_test t e k more = grind arith
+in_filter p x (y ∷ xs) m h = grind (arith, in_filter p x xs)
 
 pub from_filter : {A : Type 0} (p : A → Bool) (x : A) (xs : List A) → IsIn x (filter p xs) → IsIn x xs × (p x ≡ true)
 from_filter p x [] m = absurd m
-from_filter p x (y ∷ xs) m = by_test (p y) refl m (from_filter p x xs)
-  where
-    later : IsIn x xs × (p x ≡ true) → IsIn x (y ∷ xs) × (p x ≡ true)
-    later (k, h) = (inr k, h)
-
-    by_test : (t : Bool) → p y ≡ t → IsIn x (cond t (y ∷ filter p xs) (filter p xs)) → (IsIn x (filter p xs) → IsIn x xs × (p x ≡ true)) → IsIn x (y ∷ xs) × (p x ≡ true)
-    by_test t e k more = grind (arith, later)
+from_filter p x (y ∷ xs) m = grind (arith, from_filter p x xs)
 
 -- what one element passes, some element passes, and the other way round
 pub any_in : {A : Type 0} (p : A → Bool) (x : A) (xs : List A) → IsIn x xs → p x ≡ true → list_any p xs ≡ true
 any_in p x [] m h = absurd m
-any_in p x (y ∷ xs) (inl e) h = let here : p y ≡ true = sym (ap p e) ∙ h in rw here
-any_in p x (y ∷ xs) (inr m) h = or_right (p y) (list_any p xs) (any_in p x xs m h)
+any_in p x (y ∷ xs) m h = grind (arith, or_right, any_in p x xs)
 
 pub from_any : {A : Type 0} (p : A → Bool) (xs : List A) → list_any p xs ≡ true → (x : A) × IsIn x xs × (p x ≡ true)
-from_any p [] h = cc
-from_any {A} p (y ∷ xs) h = by_test (p y) refl h (from_any p xs)
-  where
-    later : (x : A) × IsIn x xs × (p x ≡ true) → (x : A) × IsIn x (y ∷ xs) × (p x ≡ true)
-    later (x, m, k) = (x, inr m, k)
-
-    by_test : (t : Bool) → p y ≡ t → (t || list_any p xs) ≡ true → (list_any p xs ≡ true → (x : A) × IsIn x xs × (p x ≡ true)) → (x : A) × IsIn x (y ∷ xs) × (p x ≡ true)
-    by_test true e k more = (y, inl refl, e)
-    by_test false e k more = later (more k)
+from_any p xs h = let f = any_at p xs h in (f.1.0, index_in xs f.0 f.1.0 f.1.1, f.1.2)
 
 -- a test of all holds where each element passes it, and the other way round
 pub all_in : {A : Type 0} (p : A → Bool) (x : A) (xs : List A) → list_all p xs ≡ true → IsIn x xs → p x ≡ true
 all_in p x [] h m = absurd m
-all_in p x (y ∷ xs) h (inl e) = ap p e ∙ left_true (p y) (list_all p xs) h
-all_in p x (y ∷ xs) h (inr m) = all_in p x xs (right_true (p y) (list_all p xs) h) m
+all_in p x (y ∷ xs) h m = grind (arith, left_true, all_in p x xs, right_true)
 
 pub all_from : {A : Type 0} (p : A → Bool) (xs : List A) → ((x : A) → IsIn x xs → p x ≡ true) → list_all p xs ≡ true
 all_from p [] h = refl
@@ -117,14 +87,15 @@ pub filter_same : {A : Type 0} (p q : A → Bool) (xs : List A) → ((x : A) →
 filter_same p q [] h = refl
 filter_same p q (x ∷ xs) h = ap₂ (λ t ys. cond t (x ∷ ys) ys) (h x (inl refl)) (filter_same p q xs (λ y m. h y (inr m)))
 
+pub flat_map_same : {A B : Type 0} (f g : A → List B) (xs : List A) → ((x : A) → IsIn x xs → f x ≡ g x) → flat_map f xs ≡ flat_map g xs
+flat_map_same f g [] h = refl
+flat_map_same f g (x ∷ xs) h = ap₂ ◌++◌ (h x (inl refl)) (flat_map_same f g xs (λ y m. h y (inr m)))
+
 -- ---- pairs
 
 pub pairs_weaker : {A : Type 0} (R S : A → A → Type 0) (xs : List A) → EachPair R xs → ((x y : A) → IsIn x xs → IsIn y xs → R x y → S x y) → EachPair S xs
 pairs_weaker R S [] h f = tt
-pairs_weaker R S (x ∷ xs) h f = (
-  each_from (S x) xs (λ y m. f x y (inl refl) (inr m) (each_in (R x) y xs h.0 m)),
-  pairs_weaker R S xs h.1 (λ y z m k. f y z (inr m) (inr k)),
-)
+pairs_weaker R S (x ∷ xs) h f = grind (arith, each_from, each_in, pairs_weaker R S xs)
 
 pub pairs_append : {A : Type 0} (R : A → A → Type 0) (xs ys : List A) → EachPair R xs → EachPair R ys → ((x y : A) → IsIn x xs → IsIn y ys → R x y) → EachPair R (xs ++ ys)
 pairs_append R [] ys h k f = k
@@ -162,7 +133,4 @@ none_pass p (x ∷ xs) h = let no : p x ≡ false = h x (inl refl) in rw no (non
 pub one_passes : {A : Type 0} (p : A → Bool) (R : A → A → Type 0) (x : A) (xs : List A) → EachPair R xs → ((y : A) → R x y → p y ≡ false) → ((y : A) → R y x → p y ≡ false)
     → p x ≡ true → IsIn x xs → filter p xs ≡ x ∷ []
 one_passes p R x [] h after before here m = absurd m
-one_passes p R x (y ∷ xs) h after before here (inl e) = grind (arith, none_pass, each_in)
-one_passes p R x (y ∷ xs) h after before here (inr m) =
-    let fails : p y ≡ false = before y (each_in (R y) x xs h.0 m) in
-    rw fails (one_passes p R x xs h.1 after before here m)
+one_passes p R x (y ∷ xs) h after before here m = grind (arith, none_pass, each_in, one_passes p R x xs)
