@@ -6,7 +6,7 @@ use Rattle.std.proofs.lemmas.Nat.{and_mask, and_block, or_block, or_lt, and_le_l
 use Rattle.std.proofs.lemmas.Bool.{cases_lt, cases_eq, cond-true, cond-false, eq-eqb, ne_eqb, and_from, and_left, and_right}
 use Rattle.std.proofs.Math.Nat.{mod-eq_of_lt, add-zero, mul-le-mul_right, mul_assoc}
 use Rattle.std.proofs.lemmas.Nat.Bits.{and_high}
-use Rattle.model_registers.specs.Registers.{config, File, read, write, field}
+use Rattle.model_registers.specs.Registers.{config, File, read, write}
 use Rattle.lists.specs.Elements.{Each}
 use Rattle.model_registers.specs.ByteEnables.{is_enabled, enabled_bits}
 use Rattle.model_registers.specs.Declarations.{Kind, registers_of, IsLawfulSize}
@@ -118,9 +118,7 @@ rebased_lawful b lawful x e =
     let p : Parts b = parts b lawful in
     let aligned : b.base % 2 ^ p.k ≡ 0 = subst (λ n. b.base % n ≡ 0) p.size lawful.aligned in
     let fits : b.base < 2 ^ (p.j + p.k) = subst (λ w. b.base < 2 ^ w) p.width lawful.fits in
-    let bare : rebased b x e ≡ high_part p.j p.k b.base x e * 2 ^ p.k + 0 =
-    ap₂ (λ w size. overwritten w b.base x (bit_and (2 ^ w - size) e)) p.width p.size ∙ ap (λ n. overwritten (p.j + p.k) n x (bit_and (2 ^ (p.j + p.k) - 2 ^ p.k) e)) (sym (add-zero b.base))
-    ∙ merged_types p.j p.k b.base x e 0 aligned (pow_pos p.k) in
+    let bare : rebased b x e ≡ high_part p.j p.k b.base x e * 2 ^ p.k + 0 = grind (arith, add-zero, merged_types, pow_pos) in
     grind (arith, shr_below, and_le_l, mod_below, pow_pos, and_le_r, or_lt, mod_low, shl_below)
 
 -- ---- the registers
@@ -221,9 +219,7 @@ write_bases (b ∷ bs) lawful p q r s x reg =
 -- ---- reading
 
 read_whole : (b : BaseAddress) (rest : File) (ons : List Bool) → length ons ≡ 4 * registers_of b.kind → read (register_cells b ++ rest) (base_register b.index) ons ≡ bit_and (shown b) (enabled_bits ons)
-read_whole b rest ons len =
-    subst (λ w. read (field (base_register b.index) w (shown b) (2 ^ base_width b.kind - b.size) 0 ++ rest) (base_register b.index) ons ≡ bit_and (shown b) (enabled_bits ons)) len
-    (read_field ons (0x10 + 4 * b.index) (shown b) (2 ^ base_width b.kind - b.size) 0 rest)
+read_whole b rest ons len = grind (arith, read_field)
 
 pub read_low : (b : BaseAddress) (rest : File) (p q r s : Bool) → read (register_cells b ++ rest) (base_register b.index) (four p q r s) ≡ bit_and (shown b) (enabled_bits (four p q r s))
 read_low b rest p q r s = elim (one_or_two b.kind) [
@@ -247,9 +243,7 @@ pub word_low : (reg : ℕ) (b : BaseAddress) (bs : List BaseAddress) → reg ≡
 word_low reg b bs e = cond-true (eqb reg b.index) _ _ (eq-eqb reg b.index e)
 
 pub word_high : (reg : ℕ) (b : BaseAddress) (bs : List BaseAddress) → reg ≡ b.index + 1 → registers_of b.kind ≡ 2 → word_at reg (b ∷ bs) ≡ shown b / 2 ^ 32
-word_high reg b bs e two =
-    cond-false (eqb reg b.index) _ _ (ne_eqb reg b.index (λ same. omega arith))
-    ∙ cond-true (eqb (registers_of b.kind) 2 && eqb reg (b.index + 1)) _ _ (and_from _ _ (eq-eqb (registers_of b.kind) 2 two) (eq-eqb reg (b.index + 1) e))
+word_high reg b bs e two = grind (arith, cond-false, ne_eqb, cond-true, and_from, eq-eqb)
 
 pub word_apart : (reg : ℕ) (b : BaseAddress) (bs : List BaseAddress) → (reg ≡ b.index → ⊥) → (registers_of b.kind ≡ 2 → reg ≡ b.index + 1 → ⊥) → word_at reg (b ∷ bs) ≡ word_at reg bs
 word_apart reg b bs n m = cond-false (eqb reg b.index) _ _ (ne_eqb reg b.index n) ∙ cond-false (eqb (registers_of b.kind) 2 && eqb reg (b.index + 1)) _ _ (not_wide reg b m)

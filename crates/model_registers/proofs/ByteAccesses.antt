@@ -1,10 +1,10 @@
 -- A number of 1, 2 or 4 bytes is the enabled bytes of the word in which it lies.
-use Rattle.std.proofs.Common.{◌≡◌, ℕ, zero, suc, ◌+◌, ◌-◌, ◌*◌, ◌/◌, ◌%◌, ◌^◌, ◌<◌, ◌≤◌, Bool, true, false, cond, List, [], ◌∷◌, ◌++◌, replicate, refl, sym, ap, ap₂, ◌∙◌, arith}
+use Rattle.std.proofs.Common.{◌≡◌, ℕ, zero, suc, ◌+◌, ◌-◌, ◌*◌, ◌/◌, ◌%◌, ◌^◌, ◌<◌, ◌≤◌, Bool, true, false, cond, List, [], ◌∷◌, ◌++◌, replicate, refl, sym, ap, ◌∙◌, arith}
 use Rattle.std.proofs.Math.Nat.{pow-suc, one-le-pow, div-div-eq-div-mul, mul-div_cancel, mod-one, mul_comm}
 use Rattle.model_registers.proofs.RegisterFiles.{low_byte}
 use Rattle.std.specs.Prelude.{⊤}
 use Rattle.model_registers.specs.Cell.{written}
-use Rattle.model_registers.specs.Registers.{Place, config, block, place_eq, after, offset_of, File, cell_at, changed, read, write, number, all_bytes, all_ones}
+use Rattle.model_registers.specs.Registers.{Place, config, block, after, offset_of, File, cell_at, changed, read, write, number, all_bytes, all_ones}
 use Rattle.model_registers.specs.ByteEnables.{lanes, enabled_bytes, into_lanes, word_of}
 use Rattle.model_registers.specs.AccessLaws.{AlignedLiesInWord, NumberByLanes, LanesFit, NumberFromWord, AllOnesByLanes, WriteByLanes, DisabledRead, DisabledStay, HoldsBytes, NumberFits, ReadsEnabled}
 
@@ -104,12 +104,7 @@ number_by_lanes file p w within =
 -- a write of w bytes takes those of the number alone
 write_same : (w x y : ℕ) (p : Place) (file : File) → x % 256 ^ w ≡ y % 256 ^ w → write (all_bytes w) x p file ≡ write (all_bytes w) y p file
 write_same zero x y p file h = refl
-write_same (suc w) x y p file h =
-    let parts : x % 256 + 256 * (x / 256 % 256 ^ w) ≡ y % 256 + 256 * (y / 256 % 256 ^ w) = low_byte w x ∙ h ∙ sym (low_byte w y) in
-    let first : x % 256 ≡ y % 256 = omega arith in
-    let rest : x / 256 % 256 ^ w ≡ y / 256 % 256 ^ w = omega arith in
-    ap (λ b. write (all_bytes w) (x / 256) (after p) (changed (written b) p file)) first
-    ∙ write_same w (x / 256) (y / 256) (after p) (changed (written (y % 256)) p file) rest
+write_same (suc w) x y p file h = grind (arith, low_byte, write_same w (x / 256) (y / 256) (after p) (changed (written (y % 256)) p file))
 
 lane_table : (l w v : ℕ) → l + w ≤ 4 → v * 256 ^ l % 2 ^ 32 / 256 ^ l % 256 ^ w ≡ v % 256 ^ w
 lane_table zero zero v h = omega arith
@@ -195,19 +190,11 @@ all_ones_by_lanes off w within = ones_table (off % 4) w within
 
 value_fits : (file : File) → HoldsBytes file → (p : Place) → (cell_at file p).value < 256
 value_fits [] h p = omega arith
-value_fits (e ∷ es) h p = fits_at (place_eq e.place p) (value_fits es h.1 p) where
-  fits_at : (t : Bool) → (cell_at es p).value < 256 → (cond t e.cell (cell_at es p)).value < 256
-  fits_at true rest = h.0
-  fits_at false rest = rest
+value_fits (e ∷ es) h p = grind (arith, value_fits es)
 
 pub number_fits : NumberFits
 number_fits file h p zero = omega arith
-number_fits file h p (suc w) =
-    let rest : number file (after p) w < 256 ^ w = number_fits file h (after p) w in
-    grind (arith, pow-suc 256 w, value_fits)
-
-enabled_more : (ons : List Bool) (x rest : ℕ) → x < 256 → rest ≡ enabled_bytes ons rest → enabled_bytes ons ((x + 256 * rest) / 256) ≡ rest
-enabled_more ons x rest h is = ap (enabled_bytes ons) (let high : (x + 256 * rest) / 256 ≡ rest = omega arith in high) ∙ sym is
+number_fits file h p (suc w) = grind (arith, number_fits file h (after p) w, pow-suc, value_fits)
 
 -- each byte that a read takes is a byte
 abbrev pub TakesBytes : File → Place → List Bool → Type 0
@@ -216,25 +203,11 @@ TakesBytes file p (on ∷ ons) = (cond on (cell_at file p).value 0 < 256) × Tak
 
 pub read_takes_bytes : (file : File) (p : Place) (ons : List Bool) → TakesBytes file p ons → read file p ons ≡ enabled_bytes ons (read file p ons)
 read_takes_bytes file p [] h = refl
-read_takes_bytes file p (on ∷ ons) h = enabled_at on h.0 (read_takes_bytes file (after p) ons h.1) where
-  x : ℕ
-  x = (cell_at file p).value
-
-  rest : ℕ
-  rest = read file (after p) ons
-
-  enabled_at : (t : Bool) → cond t x 0 < 256 → rest ≡ enabled_bytes ons rest → cond t x 0 + 256 * rest ≡ cond t ((cond t x 0 + 256 * rest) % 256) 0 + 256 * enabled_bytes ons ((cond t x 0 + 256 * rest) / 256)
-  enabled_at true small is =
-      let low : x ≡ (x + 256 * rest) % 256 = omega arith in
-      ap₂ (λ a b. a + 256 * b) low (sym (enabled_more ons x rest small is))
-  enabled_at false small is = ap (λ b. 0 + 256 * b) (sym (enabled_more ons 0 rest (omega arith) is))
+read_takes_bytes file p (on ∷ ons) h = grind (arith, read_takes_bytes file (after p) ons)
 
 takes_bytes : (file : File) → HoldsBytes file → (p : Place) (ons : List Bool) → TakesBytes file p ons
 takes_bytes file h p [] = tt
-takes_bytes file h p (on ∷ ons) = (takes_at on (value_fits file h p), takes_bytes file h (after p) ons) where
-  takes_at : (t : Bool) → (cell_at file p).value < 256 → cond t (cell_at file p).value 0 < 256
-  takes_at true small = small
-  takes_at false small = omega arith
+takes_bytes file h p (on ∷ ons) = grind (arith, value_fits, takes_bytes file h (after p) ons)
 
 pub reads_enabled : ReadsEnabled
 reads_enabled file h p ons = read_takes_bytes file p ons (takes_bytes file h p ons)

@@ -1,5 +1,5 @@
 -- A device's own bytes: none of them is a guest's copy, and a change of one cell leaves all others.
-use Rattle.std.proofs.Common.{◌≡◌, ℕ, ◌<◌, ◌≤◌, ◌⊎◌, Bool, true, false, ◌||◌, cond, [], ◌∷◌, refl, arith}
+use Rattle.std.proofs.Common.{◌≡◌, ℕ, ◌<◌, ◌≤◌, ◌⊎◌, true, false, [], ◌∷◌, refl, arith}
 use Rattle.std.proofs.lemmas.Bool.Decides.{nat_tests}
 use Rattle.model_registers.specs.Cell.{Cell}
 use Rattle.model_registers.specs.Registers.{Place, config, place_eq, File, cell_at, changed}
@@ -18,18 +18,9 @@ device_away off h = grind (arith, nat_tests)
 -- a change of a cell leaves every other one
 pub change_beside : (f : Cell → Cell) (file : File) (p q : Place) → place_eq p q ≡ false → cell_at (changed f p file) q ≡ cell_at file q
 change_beside f [] p q apart = refl
-change_beside f (e ∷ es) p q apart = here (place_eq e.place p) refl (change_beside f es p q apart)
-  where
-    here : (t : Bool) → place_eq e.place p ≡ t → cell_at (changed f p es) q ≡ cell_at es q
-        → cell_at (cond t (record e { cell = f e.cell }) e ∷ changed f p es) q ≡ cell_at (e ∷ es) q
-    here t same more = grind (arith, place_same)
+change_beside f (e ∷ es) p q apart = grind (arith, change_beside f es p q apart, place_same)
 
 -- where a cell stands it becomes another one
 pub change_there : (f : Cell → Cell) (file : File) (p : Place) → has_place file p ≡ true → cell_at (changed f p file) p ≡ f (cell_at file p)
 change_there f [] p there = cc
-change_there f (e ∷ es) p there = here (place_eq e.place p) refl there (change_there f es p)
-  where
-    here : (t : Bool) → place_eq e.place p ≡ t → (t || has_place es p) ≡ true → (has_place es p ≡ true → cell_at (changed f p es) p ≡ f (cell_at es p))
-        → cell_at (cond t (record e { cell = f e.cell }) e ∷ changed f p es) p ≡ f (cond t e.cell (cell_at es p))
-    here true same h more = rw same refl
-    here false other h more = rw other (more h)
+change_there f (e ∷ es) p there = grind (arith, change_there f es p)

@@ -1,11 +1,11 @@
 -- A register of several bytes, read and written where the byte enables say so.
-use Rattle.std.proofs.Common.{◌≡◌, ℕ, suc, ◌+◌, ◌-◌, ◌*◌, ◌/◌, ◌%◌, ◌^◌, ◌<◌, Bool, true, false, cond, List, [], ◌∷◌, ◌++◌, length, refl, sym, ap, ap₂, ◌∙◌, arith, eqb}
+use Rattle.std.proofs.Common.{◌≡◌, ℕ, suc, ◌+◌, ◌-◌, ◌*◌, ◌/◌, ◌%◌, ◌^◌, ◌<◌, Bool, true, false, cond, List, [], ◌∷◌, ◌++◌, length, refl, sym, ap, ap₂, ◌∙◌, arith}
 use Rattle.std.specs.Prelude.{bit_and, bit_or}
 use Rattle.std.specs.Int.Bits.{or_zero_r, and_zero_r}
 use Rattle.std.proofs.lemmas.Nat.{and_mod, and_mask, and_shr, and_block, and_le_l}
 use Rattle.std.proofs.Math.Nat.{pow-suc}
 use Rattle.model_registers.specs.Cell.{Cell, written}
-use Rattle.model_registers.specs.Registers.{config, File, changed, read, write, field}
+use Rattle.model_registers.specs.Registers.{config, File, read, write, field}
 use Rattle.model_registers.specs.ByteEnables.{enabled_bits}
 use Rattle.model_registers.specs.RegisterLaws.{merged}
 use Rattle.model_registers.proofs.RegisterFiles.{self, below, read_here, merged_low, merged_high, kept}
@@ -14,18 +14,12 @@ use Rattle.model_registers.proofs.Parts.{change_outside}
 -- an access above an entry passes it by
 pub read_past : (ons : List Bool) (a b : ℕ) (c : Cell) (file : File) → b < a → read (record { place = config b; cell = c } ∷ file) (config a) ons ≡ read file (config a) ons
 read_past [] a b c file h = refl
-read_past (on ∷ ons) a b c file h =
-    let e : eqb b a ≡ false = below a b h in
-    ap₂ (λ x y. x + 256 * y) (rw e) (read_past ons (a + 1) b c file (omega arith))
+read_past (on ∷ ons) a b c file h = grind (arith, below, read_past ons (a + 1) b c file)
 
 pub write_past : (ons : List Bool) (x a b : ℕ) (c : Cell) (file : File) → b < a → write ons x (config a) (record { place = config b; cell = c } ∷ file) ≡ record { place = config b; cell = c } ∷ write ons x (config a) file
 write_past [] x a b c file h = refl
 write_past (false ∷ ons) x a b c file h = write_past ons (x / 256) (a + 1) b c file (omega arith)
-write_past (true ∷ ons) x a b c file h =
-    let e : eqb b a ≡ false = below a b h in
-    let next : File = changed (written (x % 256)) (config a) file in
-    ap (λ (t : Bool). write ons (x / 256) (config (a + 1)) (cond t (record { place = config b; cell = written (x % 256) c }) (record { place = config b; cell = c }) ∷ next)) e
-    ∙ write_past ons (x / 256) (a + 1) b c next (omega arith)
+write_past (true ∷ ons) x a b c file h = grind (arith, below, write_past ons (x / 256) (a + 1) b c)
 
 -- the bits of one byte, where it is enabled
 abbrev byte_bits : Bool → ℕ
@@ -54,12 +48,7 @@ byte_read false v = sym (and_zero_r (v % 256))
 
 pub read_field : (ons : List Bool) (a v rw c : ℕ) (rest : File) → read (field (config a) (length ons) v rw c ++ rest) (config a) ons ≡ bit_and v (enabled_bits ons)
 read_field [] a v m c rest = sym (and_zero_r v)
-read_field (on ∷ ons) a v m c rest =
-    let cell : Cell = record { value = v % 256; writable = m % 256; clearable = c % 256 } in
-    let more : File = field (config (a + 1)) (length ons) (v / 256) (m / 256) (c / 256) ++ rest in
-    ap₂ (λ x y. x + 256 * y) (ap (λ (k : Cell). cond on k.value 0) (read_here a cell more) ∙ byte_read on v)
-    (read_past ons (a + 1) a cell more (omega arith) ∙ read_field ons (a + 1) (v / 256) (m / 256) (c / 256) rest)
-    ∙ sym (and_split v (enabled_bits ons) (byte_bits on) (byte_bits_fit on))
+read_field (on ∷ ons) a v m c rest = grind (arith, read_here, byte_read, read_past, read_field ons (a + 1) (v / 256) (m / 256) (c / 256) rest, and_split, byte_bits_fit)
 
 -- ---- writing
 
@@ -100,18 +89,7 @@ rest_write on ons v m x h =
     ap (merged (length ons) (v / 256) (x / 256)) (sym (mask_high on ons m))
     ∙ merged_high (length ons) v x mask (omega (arith, and_le_l m (enabled_bits (on ∷ ons))))
 
--- a write of the lowest byte changes the first cell alone
-first_write : (on : Bool) (ons : List Bool) (a v m x : ℕ) → write (on ∷ ons) x (config a) (field (config a) (suc (length ons)) v m 0)
-    ≡ record { place = config a; cell = record { value = cond on (low_value v x (m % 256)) (v % 256); writable = m % 256; clearable = 0 } }
-    ∷ write ons (x / 256) (config (a + 1)) (field (config (a + 1)) (length ons) (v / 256) (m / 256) 0)
-first_write on ons a v m x = grind (arith, self, change_outside, write_past)
-
 pub write_field : (ons : List Bool) (a v rw x : ℕ) → rw < 256 ^ length ons
     → write ons x (config a) (field (config a) (length ons) v rw 0) ≡ field (config a) (length ons) (merged (length ons) v x (bit_and rw (enabled_bits ons))) rw 0
 write_field [] a v m x h = refl
-write_field (on ∷ ons) a v m x h =
-    first_write on ons a v m x
-    ∙ ap₂ (λ (n : ℕ) (es : File). record { place = config a; cell = record { value = n; writable = m % 256; clearable = 0 } } ∷ es)
-    (byte_write on ons v m x h)
-    (write_field ons (a + 1) (v / 256) (m / 256) (x / 256) (omega (arith, pow-suc 256 (length ons), h))
-    ∙ ap (λ n. field (config (a + 1)) (length ons) n (m / 256) 0) (rest_write on ons v m x h))
+write_field (on ∷ ons) a v m x h = grind (arith, byte_write, write_field ons (a + 1) (v / 256) (m / 256) (x / 256), pow-suc, rest_write, self, change_outside, write_past)

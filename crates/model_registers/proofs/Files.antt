@@ -1,5 +1,5 @@
 -- Joined files, and the cells of a block as those of a region.
-use Rattle.std.proofs.Common.{◌≡◌, ◌≢◌, ℕ, ◌+◌, ◌*◌, ◌/◌, ◌%◌, Bool, true, false, ◌||◌, ◌&&◌, cond, eqb, [], ◌∷◌, ◌++◌, refl, sym, ap, ap₂, ◌∙◌, subst, arith}
+use Rattle.std.proofs.Common.{◌≡◌, ◌≢◌, ℕ, ◌+◌, ◌*◌, ◌/◌, ◌%◌, Bool, true, false, ◌||◌, ◌&&◌, cond, eqb, [], ◌∷◌, refl, sym, ap, ap₂, ◌∙◌, subst, arith}
 use Rattle.std.proofs.lemmas.Bool.{ne_eqb, eq-eqb, or_parts}
 use Rattle.model_registers.specs.Cell.{Cell, no_cell, written}
 use Rattle.model_registers.specs.Registers.{Place, config, block, place_eq, after, offset_of, PlacedCell, File, cell_at, changed, write, in_region}
@@ -9,11 +9,7 @@ use Rattle.model_registers.specs.FileLaws.{has_place, IsConfig, IsConfigFile, Jo
 
 pub joined_cell : JoinedCell
 joined_cell [] ys p = refl
-joined_cell (e ∷ es) ys p = here (place_eq e.place p) (joined_cell es ys p) where
-  here : (t : Bool) → cell_at (es ++ ys) p ≡ cond (has_place es p) (cell_at es p) (cell_at ys p)
-      → cond t e.cell (cell_at (es ++ ys) p) ≡ cond (t || has_place es p) (cond t e.cell (cell_at es p)) (cell_at ys p)
-  here true rest = refl
-  here false rest = rest
+joined_cell (e ∷ es) ys p = grind (arith, joined_cell es ys p)
 
 pub joined_change : JoinedChange
 joined_change f p [] ys = refl
@@ -21,23 +17,17 @@ joined_change f p (e ∷ es) ys = ap (λ (file : File). cond (place_eq e.place p
 
 pub joined_write : JoinedWrite
 joined_write [] v p xs ys = refl
-joined_write (true ∷ ons) v p xs ys =
-    ap (write ons (v / 256) (after p)) (joined_change (written (v % 256)) p xs ys)
-    ∙ joined_write ons (v / 256) (after p) (changed (written (v % 256)) p xs) (changed (written (v % 256)) p ys)
+joined_write (true ∷ ons) v p xs ys = grind (arith, joined_write ons (v / 256) (after p) (changed (written (v % 256)) p xs) (changed (written (v % 256)) p ys), joined_change)
 joined_write (false ∷ ons) v p xs ys = joined_write ons (v / 256) (after p) xs ys
 
 -- a place without a cell
 pub cell_none : (file : File) (p : Place) → has_place file p ≡ false → cell_at file p ≡ no_cell
 cell_none [] p h = refl
-cell_none (e ∷ es) p h =
-    let parts = or_parts (place_eq e.place p) (has_place es p) h in
-    let past : place_eq e.place p ≡ false = parts.0 in rw past (cell_none es p parts.1)
+cell_none (e ∷ es) p h = grind (arith, or_parts, cell_none es p)
 
 pub change_none : (f : Cell → Cell) (file : File) (p : Place) → has_place file p ≡ false → changed f p file ≡ file
 change_none f [] p h = refl
-change_none f (e ∷ es) p h =
-    let parts = or_parts (place_eq e.place p) (has_place es p) h in
-    ap₂ (λ (t : Bool) (file : File). cond t (record e { cell = f e.cell }) e ∷ file) parts.0 (change_none f es p parts.1)
+change_none f (e ∷ es) p h = grind (arith, or_parts, change_none f es p)
 
 pub read_none : ReadNone
 read_none [] p file h = refl
@@ -53,17 +43,12 @@ write_none (false ∷ ons) v p file h = write_none ons (v / 256) (after p) file 
 
 pub read_second : ReadSecond
 read_second [] p xs ys h = refl
-read_second (true ∷ ons) p xs ys h =
-    let past : has_place xs p ≡ false = h.0 refl in
-    ap₂ (λ (c : Cell) n. c.value + 256 * n) (joined_cell xs ys p ∙ ap (λ (t : Bool). cond t (cell_at xs p) (cell_at ys p)) past) (read_second ons (after p) xs ys h.1)
+read_second (true ∷ ons) p xs ys h = grind (arith, joined_cell, read_second ons (after p) xs ys)
 read_second (false ∷ ons) p xs ys h = ap (λ n. 0 + 256 * n) (read_second ons (after p) xs ys h.1)
-
-first_cell : (xs ys : File) (p : Place) → has_place ys p ≡ false → cell_at (xs ++ ys) p ≡ cell_at xs p
-first_cell xs ys p none = grind (arith, joined_cell, cell_none)
 
 pub read_first : ReadFirst
 read_first [] p xs ys h = refl
-read_first (true ∷ ons) p xs ys h = ap₂ (λ (c : Cell) n. c.value + 256 * n) (first_cell xs ys p (h.0 refl)) (read_first ons (after p) xs ys h.1)
+read_first (true ∷ ons) p xs ys h = grind (arith, read_first ons (after p) xs ys, joined_cell, cell_none)
 read_first (false ∷ ons) p xs ys h = ap (λ n. 0 + 256 * n) (read_first ons (after p) xs ys h.1)
 
 pub same_place : (t : Bool) (e : PlacedCell) (c : Cell) → (cond t (record e { cell = c }) e).place ≡ e.place
@@ -90,12 +75,9 @@ config_stays [] v p file h = h
 config_stays (true ∷ ons) v p file h = config_stays ons (v / 256) (after p) (changed (written (v % 256)) p file) (changed_config (written (v % 256)) p file h)
 config_stays (false ∷ ons) v p file h = config_stays ons (v / 256) (after p) file h
 
-config_is_no_block : (q : Place) (n a : ℕ) → IsConfig q → place_eq q (block n a) ≡ false
-config_is_no_block q n a h = grind arith
-
 pub config_without_block : (file : File) (n a : ℕ) → IsConfigFile file → has_place file (block n a) ≡ false
 config_without_block [] n a h = refl
-config_without_block (e ∷ es) n a h = ap₂ (λ (s t : Bool). s || t) (config_is_no_block e.place n a h.0) (config_without_block es n a h.1)
+config_without_block (e ∷ es) n a h = grind (arith, config_without_block es n a)
 
 pub config_has_no_block : ConfigHasNoBlock
 config_has_no_block [] n a file h = tt
@@ -137,23 +119,11 @@ region_read [] n a file h = refl
 region_read (true ∷ ons) n a file h = ap₂ (λ (c : Cell) k. c.value + 256 * k) (region_cell n a file h) (region_read ons n (a + 1) file h)
 region_read (false ∷ ons) n a file h = ap (λ k. 0 + 256 * k) (region_read ons n (a + 1) file h)
 
-changed_entry : (n : ℕ) (t : Bool) (e : PlacedCell) (c : Cell)
-    → let moved : PlacedCell = record e { place = block n (offset_of e.place) } in
-    let one : PlacedCell = cond t (record e { cell = c }) e in
-    cond t (record moved { cell = c }) moved ≡ record one { place = block n (offset_of one.place) }
-changed_entry n t e c = grind arith
-
 pub region_change : RegionChange
 region_change f n a [] h = refl
-region_change f n a (e ∷ es) h =
-    let moved : PlacedCell = record e { place = block n (offset_of e.place) } in
-    ap₂ (λ (d : PlacedCell) (file : File). d ∷ file)
-    (ap (λ (t : Bool). cond t (record moved { cell = f e.cell }) moved) (at_offset e.place n a h.0) ∙ changed_entry n (place_eq e.place (config a)) e (f e.cell))
-    (region_change f n a es h.1)
+region_change f n a (e ∷ es) h = grind (arith, at_offset, region_change f n a es)
 
 pub region_write : RegionWrite
 region_write [] v n a file h = refl
-region_write (true ∷ ons) v n a file h =
-    ap (write ons (v / 256) (block n (a + 1))) (region_change (written (v % 256)) n a file h)
-    ∙ region_write ons (v / 256) n (a + 1) (changed (written (v % 256)) (config a) file) (changed_config (written (v % 256)) (config a) file h)
+region_write (true ∷ ons) v n a file h = grind (arith, region_write ons (v / 256) n (a + 1) (changed (written (v % 256)) (config a) file), region_change, changed_config)
 region_write (false ∷ ons) v n a file h = region_write ons (v / 256) n (a + 1) file h

@@ -106,10 +106,5 @@ sizes_test : (rs : List Region) → Each IsLawfulRegion rs → list_all (λ r. l
 sizes_test rs h =
     test_each (λ r. leb (length r.cells) r.size) rs (each_map IsLawfulRegion (λ r. IsTrue (leb (length r.cells) r.size)) rs (λ r l. le-leb _ _ l.block_fits) h)
 
-none_broken : (a b c e : Bool) → a ≡ true → b ≡ true → c ≡ true → e ≡ true → first_broken ((104, a) ∷ (106, b) ∷ (107, c) ∷ (112, e) ∷ []) ≡ None
-none_broken a b c e h k l m = rw (h, k, l, m)
-
 pub lawful_breaks_none : (d : Endpoint) → IsLawfulEndpoint d → first_broken (endpoint_rules d) ≡ None
-lawful_breaks_none d h =
-    none_broken (has_lawful_numbers d) (has_own_registers d.regions) (list_all (λ r. leb (length r.cells) r.size) d.regions) (all_pairs blocks_apart d.blocks) (numbers_test d h)
-    (lawful_have_own_registers d.regions h.regions) (sizes_test d.regions h.regions.each) (test_pairs blocks_apart d.blocks h.blocks_apart)
+lawful_breaks_none d h = grind (arith, numbers_test, lawful_have_own_registers, sizes_test, test_pairs)

@@ -1,14 +1,14 @@
 -- A function's file, parted into a guest's own copies and all other cells.
-use Rattle.std.proofs.Common.{◌≡◌, ℕ, zero, suc, ◌+◌, ◌*◌, ◌/◌, ◌%◌, ◌<◌, ◌≤◌, ◌⊎◌, inl, inr, Bool, true, false, not, ◌&&◌, ◌||◌, cond, List, [], ◌∷◌, ◌++◌, length, map, refl, sym, ap, ap₂, ◌∙◌, subst, arith, eqb, leb, ltb, append_assoc, ◌-◌, ◌^◌}
+use Rattle.std.proofs.Common.{◌≡◌, ℕ, zero, suc, ◌+◌, ◌*◌, ◌/◌, ◌%◌, ◌<◌, ◌≤◌, ◌⊎◌, inl, Bool, true, false, not, ◌&&◌, ◌||◌, cond, List, [], ◌∷◌, ◌++◌, length, map, refl, sym, ap, ap₂, ◌∙◌, subst, arith, eqb, leb, ltb, append_assoc, ◌-◌, ◌^◌}
 use Rattle.std.specs.Prelude.{bit_and, bit_or, flat_map}
 use Rattle.std.specs.Int.Bits.{or_zero_r, and_zero_r}
 use Rattle.std.proofs.lemmas.Bool.{cases_lt, cases_Bool, or_parts, and_cases, eqb-false, leb-false, ltb-false, or_right, and_from, le-leb, lt-ltb, or_cases, and_parts, eqb-true, leb-true, ltb-true, ne_eqb, and_right}
-use Rattle.lists.specs.Elements.{Each, first_some}
+use Rattle.lists.specs.Elements.{Each}
 use Rattle.model_registers.specs.Cell.{Cell, no_cell, written, raised}
-use Rattle.model_registers.specs.Registers.{Place, config, block, place_eq, after, File, cell_at, changed, read, write, all_bytes, number, field, cells_from}
+use Rattle.model_registers.specs.Registers.{Place, config, block, place_eq, after, File, cell_at, changed, read, write, all_bytes, field, cells_from}
 use Rattle.model_registers.specs.Declarations.{Endpoint, ConfigBlock, Kind, io_kind, mem32, mem64, Region, registers_of, IsLawfulRegion}
-use Rattle.model_registers.specs.EndpointTable.{BaseAddress, base_width, type_bits, register_cells, base_file, command_cells, opened, closed, region_cells, block_cells, header_cells, endpoint_reset}
-use Rattle.model_registers.specs.Decoding.{base, base_address, hit_at}
+use Rattle.model_registers.specs.EndpointTable.{BaseAddress, base_width, type_bits, base_file, command_cells, opened, closed, region_cells, block_cells, header_cells}
+use Rattle.model_registers.specs.Decoding.{base, base_address}
 use Rattle.model_registers.specs.OwnCopies.{is_own, OwnCopies, own_file, HoldsOwn, handed_on, IsLawfulOwn, OwnReads, OwnWrites, OwnStay, bare, OwnHits, ResetHoldsOwn}
 use Rattle.model_registers.proofs.RegisterFiles.{place_same, change_at_place, above}
 use Rattle.model_registers.proofs.Hits.{hits_by_bases}
@@ -31,25 +31,13 @@ cell_after (true ∷ ons) x p q file =
     cell_after ons (x / 256) (after p) q (changed (written (x % 256)) p file) ∙ ap (after_write ons (x / 256) (after p) q) (change_at_place (written (x % 256)) (no_cell_stays (x % 256)) file p q)
 cell_after (false ∷ ons) x p q file = cell_after ons (x / 256) (after p) q file
 
--- a cell that is no own copy takes what is handed on, and no more
-not_owned : (p q : Place) → is_own q ≡ false → (on : Bool) → (on && place_eq p q) ≡ (on && not (is_own p) && place_eq p q)
-not_owned p q other on = grind (arith, cases_Bool, place_same, and_right)
-
 other_after : (ons : List Bool) (x : ℕ) (p q : Place) (c : Cell) → is_own q ≡ false → after_write ons x p q c ≡ after_write (handed_on p ons) x p q c
 unfolding after_write
 other_after [] x p q c other = refl
-other_after (on ∷ ons) x p q c other =
-    other_after ons (x / 256) (after p) q (cond (on && place_eq p q) (written (x % 256) c) c) other
-    ∙ ap (λ (t : Bool). after_write (handed_on (after p) ons) (x / 256) (after p) q (cond t (written (x % 256) c) c)) (not_owned p q other on)
-
-own_or_other : (own : Bool) (a b c : Cell) → (own ≡ true → a ≡ b) → (own ≡ false → a ≡ c) → a ≡ cond own b c
-own_or_other own a b c mine other = grind arith
+other_after (on ∷ ons) x p q c other = grind (arith, other_after ons (x / 256) (after p) q (cond (on && place_eq p q) (written (x % 256) c) c) other, after_write, cases_Bool, place_same, and_right)
 
 pub own_writes : OwnWrites
-own_writes own file holds p q ons x =
-    own_or_other (is_own q) (cell_at (write ons x p file) q) (cell_at (write ons x p (own_file own)) q) (cell_at (write (handed_on p ons) x p file) q)
-    (λ mine. cell_after ons x p q file ∙ ap (after_write ons x p q) (holds q mine) ∙ sym (cell_after ons x p q (own_file own)))
-    (λ other. cell_after ons x p q file ∙ other_after ons x p q (cell_at file q) other ∙ sym (cell_after (handed_on p ons) x p q file))
+own_writes own file holds p q ons x = grind (arith, cell_after, after_write, other_after)
 
 -- ---- reads
 
@@ -62,9 +50,7 @@ base_outside b q within low = grind arith
 
 pub no_base : (bs : List BaseAddress) → Each IsLawfulRegion (map opened bs) → (q : ℕ) → (q < 0x10) ⊎ (0x28 ≤ q) → cell_at (base_file bs) (config q) ≡ no_cell
 no_base [] lawful q h = refl
-no_base (b ∷ bs) lawful q h =
-    cell_outside (4 * registers_of b.kind) (0x10 + 4 * b.index) q (b.base + type_bits b.kind) (2 ^ base_width b.kind - b.size) 0 (base_file bs) (base_outside b q lawful.0.registers h)
-    ∙ no_base bs lawful.1 q h
+no_base (b ∷ bs) lawful q h = grind (arith, no_base bs, cell_outside, base_outside)
 
 no_block : (bs : List BaseAddress) (n q : ℕ) → cell_at (base_file bs) (block n q) ≡ no_cell
 no_block [] n q = refl
@@ -75,12 +61,9 @@ pub none_else : (own : OwnCopies) → IsLawfulOwn own → (p : Place) → is_own
 none_else own lawful (block n q) other = block_outside 2 4 own.command 0x0547 0 n q (base_file own.bases) ∙ no_block own.bases n q
 none_else own lawful (config q) other = grind (arith, cell_outside, no_base, or_parts, cases_lt, above, eqb-false, and_cases, leb-false, ltb-false)
 
-lane_split : (on own : Bool) (v o : ℕ) → (own ≡ true → v ≡ o) → (own ≡ false → o ≡ 0) → cond on v 0 ≡ cond on o 0 + cond (on && not own) v 0
-lane_split on own v o mine other = grind arith
-
 pub own_reads : OwnReads
 own_reads own lawful file holds p [] = refl
-own_reads own lawful file holds p (on ∷ ons) = grind (arith, own_reads own lawful file holds (after p) ons, lane_split, none_else)
+own_reads own lawful file holds p (on ∷ ons) = grind (arith, own_reads own lawful file holds (after p) ons, none_else)
 
 -- ---- raises
 
@@ -92,15 +75,10 @@ still_unraised : (m : ℕ) (c : Cell) → IsStill c → raised m c ≡ c
 unfolding IsStill
 still_unraised m c h = ap (λ n. record c { value = n }) (ap (λ t. bit_or c.value (bit_and m t)) h ∙ ap (bit_or c.value) (and_zero_r m) ∙ or_zero_r c.value)
 
-still_either : (t : Bool) (c d : Cell) → IsStill c → IsStill d → IsStill (cond t c d)
-still_either t c d hc hd = grind arith
-
 still_field : (w a v m : ℕ) (rest : File) (p : Place) → IsStill (cell_at rest p) → IsStill (cell_at (field (config a) w v m 0 ++ rest) p)
 unfolding IsStill
 still_field zero a v m rest p h = h
-still_field (suc w) a v m rest p h =
-    still_either (place_eq (config a) p) (record { value = v % 256; writable = m % 256; clearable = 0 }) (cell_at (field (config (a + 1)) w (v / 256) (m / 256) 0 ++ rest) p)
-    refl (still_field w (a + 1) (v / 256) (m / 256) rest p h)
+still_field (suc w) a v m rest p h = grind (arith, still_field w (a + 1) (v / 256) (m / 256) rest p h)
 
 still_bases : (bs : List BaseAddress) (p : Place) → IsStill (cell_at (base_file bs) p)
 unfolding IsStill
@@ -137,9 +115,6 @@ same_base own file holds io_kind n h = ap (λ m. m / 4 * 4) (same_number own fil
 same_base own file holds (mem32 pref) n h = ap (λ m. m / 16 * 16) (same_number own file holds (all_bytes 4) (0x10 + 4 * n) (omega arith) (omega arith))
 same_base own file holds (mem64 pref) n h = ap (λ m. m / 16 * 16) (same_number own file holds (all_bytes 8) (0x10 + 4 * n) (omega arith) (omega arith))
 
-same_command : (own : OwnCopies) (file : File) → HoldsOwn file own → number file (config 4) 2 ≡ number (own_file own) (config 4) 2
-same_command own file holds = ap₂ (λ (a b : Cell). a.value + 256 * (b.value + 256 * 0)) (holds (config 4) refl) (holds (config 5) refl)
-
 same_standing : (own : OwnCopies) (file : File) → HoldsOwn file own → (bs : List BaseAddress) → Each IsLawfulRegion (map opened bs) → map (base_address file) (map opened bs) ≡ map (base_address (own_file own)) (map opened bs)
 same_standing own file holds [] lawful = refl
 same_standing own file holds (b ∷ bs) lawful =
@@ -150,11 +125,7 @@ standing_bare file [] = refl
 standing_bare file (r ∷ rs) = ap (λ (more : List BaseAddress). base_address file r ∷ more) (standing_bare file rs)
 
 pub own_hits : OwnHits
-own_hits own lawful file holds rs same space a =
-    hits_by_bases file rs space a
-    ∙ ap₂ (λ c (bs : List BaseAddress). first_some (hit_at c space a) bs) (same_command own file holds)
-    (standing_bare file rs ∙ ap (map (base_address file)) same ∙ same_standing own file holds own.bases lawful.each)
-    ∙ sym (hits_by_bases (own_file own) (map opened own.bases) space a)
+own_hits own lawful file holds rs same space a = grind (arith, hits_by_bases, standing_bare, same_standing)
 
 -- ---- at reset
 
@@ -165,9 +136,7 @@ behind (e ∷ es) one two p h = ap (cond (place_eq e.place p) e.cell) (behind es
 
 pub cells_above : (cs : List Cell) (a q : ℕ) (rest : File) → q < a → cell_at (cells_from (config a) cs ++ rest) (config q) ≡ cell_at rest (config q)
 cells_above [] a q rest h = refl
-cells_above (c ∷ cs) a q rest h =
-    let apart : eqb a q ≡ false = above a q h in
-    ap (λ (t : Bool). cond t c (cell_at (cells_from (config (a + 1)) cs ++ rest) (config q))) apart ∙ cells_above cs (a + 1) q rest (omega arith)
+cells_above (c ∷ cs) a q rest h = grind (arith, above, cells_above cs (a + 1) q rest)
 
 pub cells_elsewhere : (cs : List Cell) (n a q : ℕ) (rest : File) → cell_at (cells_from (block n a) cs ++ rest) (config q) ≡ cell_at rest (config q)
 cells_elsewhere [] n a q rest = refl
@@ -175,17 +144,11 @@ cells_elsewhere (c ∷ cs) n a q rest = cells_elsewhere cs n (a + 1) q rest
 
 blocks_above : (bs : List ConfigBlock) → Each (λ (b : ConfigBlock). 0x40 ≤ b.offset) bs → (q : ℕ) → q < 0x40 → (rest : File) → cell_at (flat_map block_cells bs ++ rest) (config q) ≡ cell_at rest (config q)
 blocks_above [] h q low rest = refl
-blocks_above (b ∷ bs) h q low rest =
-    ap (λ (f : File). cell_at f (config q)) (append_assoc (block_cells b) (flat_map block_cells bs) rest)
-    ∙ cells_above b.cells b.offset q (flat_map block_cells bs ++ rest) (omega (arith, h.0)) ∙ blocks_above bs h.1 q low rest
+blocks_above (b ∷ bs) h q low rest = grind (arith, blocks_above bs, append_assoc, cells_above)
 
 bases_of_regions : (rs : List Region) (q : ℕ) → cell_at (flat_map (region_cells (λ r. 0)) rs) (config q) ≡ cell_at (base_file (map closed rs)) (config q)
 bases_of_regions [] q = refl
-bases_of_regions (r ∷ rs) q =
-    let more : File = flat_map (region_cells (λ r. 0)) rs in
-    ap (λ (f : File). cell_at f (config q)) (append_assoc (register_cells (closed r)) (cells_from (block r.index 0) r.cells) more)
-    ∙ behind (register_cells (closed r)) (cells_from (block r.index 0) r.cells ++ more) (base_file (map closed rs)) (config q)
-    (cells_elsewhere r.cells r.index 0 q more ∙ bases_of_regions rs q)
+bases_of_regions (r ∷ rs) q = grind (arith, append_assoc, behind, cells_elsewhere, bases_of_regions rs q)
 
 -- no cell of the file stands at a base address register
 is_outside : Place → Bool
@@ -203,9 +166,7 @@ outside_apart p q h low high = grind (arith, or_cases, ne_eqb, ltb-true, above, 
 passed_by : (file : File) (q : ℕ) (rest : File) → lies_outside file ≡ true → 0x10 ≤ q → q < 0x28 → cell_at (file ++ rest) (config q) ≡ cell_at rest (config q)
 unfolding lies_outside
 passed_by [] q rest h low high = refl
-passed_by (e ∷ es) q rest h low high =
-    let parts : (is_outside e.place ≡ true) × (lies_outside es ≡ true) = and_parts (is_outside e.place) (lies_outside es) h in
-    ap (λ (t : Bool). cond t e.cell (cell_at (es ++ rest) (config q))) (outside_apart e.place q parts.0 low high) ∙ passed_by es q rest parts.1 low high
+passed_by (e ∷ es) q rest h low high = grind (arith, and_parts, outside_apart, passed_by es q rest)
 
 header_outside : (d : Endpoint) (command : ℕ) → lies_outside (header_cells d false command) ≡ true
 unfolding lies_outside is_outside
@@ -226,18 +187,6 @@ data OwnOffset (q : ℕ) : Type 0 where
   of_header_type : q ≡ 0x0e → OwnOffset q
   of_bases : 0x10 ≤ q → q < 0x28 → OwnOffset q
 
-reset_at : (d : Endpoint) → Each (λ (b : ConfigBlock). 0x40 ≤ b.offset) d.blocks → (q : ℕ) → OwnOffset q
-    → cell_at (endpoint_reset d false) (config q) ≡ cell_at (own_file (record { command = 0; bases = map closed d.regions })) (config q)
-reset_at d blocks q (of_command (inl e)) = subst (λ n. cell_at (endpoint_reset d false) (config n) ≡ cell_at (own_file (record { command = 0; bases = map closed d.regions })) (config n)) (sym e) refl
-reset_at d blocks q (of_command (inr e)) = subst (λ n. cell_at (endpoint_reset d false) (config n) ≡ cell_at (own_file (record { command = 0; bases = map closed d.regions })) (config n)) (sym e) refl
-reset_at d blocks q (of_header_type e) = grind (arith, low_base)
-reset_at d blocks q (of_bases low high) =
-    let rest : File = flat_map (region_cells (λ r. 0)) d.regions in
-    ap (λ (f : File). cell_at f (config q)) (append_assoc (header_cells d false 0) (flat_map block_cells d.blocks) rest)
-    ∙ passed_by (header_cells d false 0) q (flat_map block_cells d.blocks ++ rest) (header_outside d 0) low high
-    ∙ blocks_above d.blocks blocks q (omega arith) rest ∙ bases_of_regions d.regions q
-    ∙ sym (passed_by (command_cells 0) q (base_file (map closed d.regions)) (command_outside 0) low high)
-
 pub reset_holds_own : ResetHoldsOwn
 reset_holds_own d blocks (block n q) mine = cc
-reset_holds_own d blocks (config q) mine = grind (arith, reset_at, or_cases, leb-true, and_parts, ltb-true, eqb-true)
+reset_holds_own d blocks (config q) mine = grind (arith, or_cases, leb-true, and_parts, ltb-true, eqb-true, low_base, append_assoc, passed_by, header_outside, blocks_above, bases_of_regions, command_outside)

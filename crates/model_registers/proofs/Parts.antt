@@ -11,9 +11,7 @@ changed_append f p (x ∷ xs) ys = ap (λ (es : File). cond (place_eq x.place p)
 
 pub write_append : (ons : List Bool) (x : ℕ) (p : Place) (xs ys : File) → write ons x p (xs ++ ys) ≡ write ons x p xs ++ write ons x p ys
 write_append [] x p xs ys = refl
-write_append (true ∷ ons) x p xs ys =
-    ap (write ons (x / 256) (after p)) (changed_append (written (x % 256)) p xs ys)
-    ∙ write_append ons (x / 256) (after p) (changed (written (x % 256)) p xs) (changed (written (x % 256)) p ys)
+write_append (true ∷ ons) x p xs ys = grind (arith, write_append ons (x / 256) (after p) (changed (written (x % 256)) p xs) (changed (written (x % 256)) p ys), changed_append)
 write_append (false ∷ ons) x p xs ys = write_append ons (x / 256) (after p) xs ys
 
 -- a place outside a register
@@ -28,17 +26,11 @@ outside_rest q a w h = grind arith
 
 pub change_outside : (f : Cell → Cell) (w a q v m c : ℕ) → IsOutside q a w → changed f (config q) (field (config a) w v m c) ≡ field (config a) w v m c
 change_outside f zero a q v m c h = refl
-change_outside f (suc w) a q v m c h =
-    let cell : Cell = record { value = v % 256; writable = m % 256; clearable = c % 256 } in
-    ap₂ (λ (t : Bool) (es : File). cond t (record { place = config a; cell = f cell }) (record { place = config a; cell = cell }) ∷ es)
-    (outside_first q a w h) (change_outside f w (a + 1) q (v / 256) (m / 256) (c / 256) (outside_rest q a w h))
+change_outside f (suc w) a q v m c h = grind (arith, outside_first, change_outside f w (a + 1) q (v / 256) (m / 256) (c / 256), outside_rest)
 
 pub cell_outside : (w a q v m c : ℕ) (rest : File) → IsOutside q a w → cell_at (field (config a) w v m c ++ rest) (config q) ≡ cell_at rest (config q)
 cell_outside zero a q v m c rest h = refl
-cell_outside (suc w) a q v m c rest h =
-    let cell : Cell = record { value = v % 256; writable = m % 256; clearable = c % 256 } in
-    ap (λ (t : Bool). cond t cell (cell_at (field (config (a + 1)) w (v / 256) (m / 256) (c / 256) ++ rest) (config q))) (outside_first q a w h)
-    ∙ cell_outside w (a + 1) q (v / 256) (m / 256) (c / 256) rest (outside_rest q a w h)
+cell_outside (suc w) a q v m c rest h = grind (arith, outside_first, cell_outside w (a + 1) q (v / 256) (m / 256) (c / 256) rest, outside_rest)
 
 -- an access of n bytes at q that meets no byte of a register
 abbrev pub IsApart : ℕ → ℕ → ℕ → ℕ → Type 0
@@ -52,16 +44,12 @@ apart_rest n q a w h = grind arith
 
 pub write_apart : (ons : List Bool) (x q w a v m c : ℕ) → IsApart (length ons) q a w → write ons x (config q) (field (config a) w v m c) ≡ field (config a) w v m c
 write_apart [] x q w a v m c h = refl
-write_apart (true ∷ ons) x q w a v m c h =
-    ap (write ons (x / 256) (config (q + 1))) (change_outside (written (x % 256)) w a q v m c (apart_first (length ons) q a w h))
-    ∙ write_apart ons (x / 256) (q + 1) w a v m c (apart_rest (length ons) q a w h)
+write_apart (true ∷ ons) x q w a v m c h = grind (arith, write_apart ons (x / 256) (q + 1) w a v m c, change_outside, apart_first, apart_rest)
 write_apart (false ∷ ons) x q w a v m c h = write_apart ons (x / 256) (q + 1) w a v m c (apart_rest (length ons) q a w h)
 
 pub read_apart : (ons : List Bool) (q w a v m c : ℕ) (rest : File) → IsApart (length ons) q a w → read (field (config a) w v m c ++ rest) (config q) ons ≡ read rest (config q) ons
 read_apart [] q w a v m c rest h = refl
-read_apart (on ∷ ons) q w a v m c rest h =
-    ap₂ (λ (x : Cell) (n : ℕ). cond on x.value 0 + 256 * n) (cell_outside w a q v m c rest (apart_first (length ons) q a w h))
-    (read_apart ons (q + 1) w a v m c rest (apart_rest (length ons) q a w h))
+read_apart (on ∷ ons) q w a v m c rest h = grind (arith, read_apart ons (q + 1) w a v m c rest, cell_outside, apart_first, apart_rest)
 
 pub write_none : (ons : List Bool) (x : ℕ) (p : Place) → write ons x p [] ≡ []
 write_none [] x p = refl

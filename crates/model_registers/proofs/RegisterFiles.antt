@@ -1,5 +1,5 @@
 -- Laws of register files.
-use Rattle.std.proofs.Common.{◌≡◌, ℕ, zero, suc, ◌+◌, ◌-◌, ◌*◌, ◌/◌, ◌%◌, ◌^◌, ◌<◌, Bool, true, false, cond, [], ◌∷◌, ◌++◌, refl, sym, ap, ap₂, ◌∙◌, arith, eqb}
+use Rattle.std.proofs.Common.{◌≡◌, ℕ, zero, suc, ◌+◌, ◌-◌, ◌*◌, ◌/◌, ◌%◌, ◌^◌, ◌<◌, true, false, [], ◌∷◌, refl, sym, ap, ap₂, ◌∙◌, arith, eqb}
 use Rattle.std.specs.Prelude.{bit_and, bit_or}
 use Rattle.std.specs.Int.Bits.{or_zero_r, and_zero_r, and_le_l}
 use Rattle.std.proofs.lemmas.Bool.Decides.{nat_tests}
@@ -7,8 +7,8 @@ use Rattle.std.proofs.lemmas.Bool.{eqb-true}
 use Rattle.std.proofs.lemmas.Nat.{or_mod, and_mod, and_mask, or_shr, and_shr}
 use Rattle.std.proofs.Math.Arith.{mod-mul}
 use Rattle.std.proofs.Math.Nat.{pow-suc, one-le-pow, mod-one, mod-eq_of_lt}
-use Rattle.model_registers.specs.Cell.{Cell, written}
-use Rattle.model_registers.specs.Registers.{Place, config, place_eq, PlacedCell, File, cell_at, changed, field, number, write, all_bytes}
+use Rattle.model_registers.specs.Cell.{Cell}
+use Rattle.model_registers.specs.Registers.{Place, config, place_eq, File, cell_at, changed, field, number, write, all_bytes}
 use Rattle.model_registers.specs.RegisterLaws.{ChangeAtPlace, FieldReads, FieldWrites, merged}
 use Rattle.lists.proofs.Tests.{left_true, right_true}
 
@@ -18,14 +18,9 @@ place_same p q h = grind (arith, eqb-true, left_true, right_true)
 pub place_turned : (p q : Place) → place_eq p q ≡ place_eq q p
 place_turned p q = grind (arith, nat_tests)
 
-change_cases : (f : Cell → Cell) (e : PlacedCell) (es : File) (p q : Place) (t u : Bool) → place_eq e.place p ≡ t → place_eq p q ≡ u
-    → cell_at (changed f p es) q ≡ cond u (f (cell_at es q)) (cell_at es q)
-    → cell_at (cond t (record e { cell = f e.cell }) e ∷ changed f p es) q ≡ cond u (f (cell_at (e ∷ es) q)) (cell_at (e ∷ es) q)
-change_cases f e es p q t u ep pq more = grind (arith, place_same)
-
 pub change_at_place : ChangeAtPlace
 change_at_place f h [] p q = grind arith
-change_at_place f h (e ∷ es) p q = change_cases f e es p q (place_eq e.place p) (place_eq p q) refl refl (change_at_place f h es p q)
+change_at_place f h (e ∷ es) p q = grind (arith, change_at_place f h es p q, place_same)
 
 -- ---- registers of several bytes
 
@@ -41,9 +36,7 @@ below a b h = grind (arith, nat_tests)
 -- reading above an entry passes it by
 read_past : (w a b : ℕ) (c : Cell) (file : File) → b < a → number (record { place = config b; cell = c } ∷ file) (config a) w ≡ number file (config a) w
 read_past zero a b c file h = refl
-read_past (suc w) a b c file h =
-    let e : eqb b a ≡ false = below a b h in
-    ap₂ (λ x y. x + 256 * y) (rw e) (read_past w (a + 1) b c file (omega arith))
+read_past (suc w) a b c file h = grind (arith, below, read_past w (a + 1) b c file)
 
 pub read_here : (a : ℕ) (c : Cell) (file : File) → cell_at (record { place = config a; cell = c } ∷ file) (config a) ≡ c
 read_here a c file = let e : eqb a a ≡ true = self a in rw e
@@ -53,29 +46,16 @@ low_byte w v = grind (arith, one-le-pow, mod-mul, pow-suc)
 
 pub field_reads : FieldReads
 field_reads zero a v m w1c rest = sym (mod-one v)
-field_reads (suc w) a v m w1c rest =
-    let c : Cell = record { value = v % 256; writable = m % 256; clearable = w1c % 256 } in
-    let file : File = field (config (a + 1)) w (v / 256) (m / 256) (w1c / 256) ++ rest in
-    ap₂ (λ x y. x + 256 * y) (ap (λ (k : Cell). k.value) (read_here a c file))
-    (read_past w (a + 1) a c file (omega arith) ∙ field_reads w (a + 1) (v / 256) (m / 256) (w1c / 256) rest)
-    ∙ low_byte w v
+field_reads (suc w) a v m w1c rest = grind (arith, read_here, read_past, field_reads w (a + 1) (v / 256) (m / 256) (w1c / 256) rest, low_byte)
 
 -- a change below a register leaves it
 change_below : (f : Cell → Cell) (w a b v m c : ℕ) → b < a → changed f (config b) (field (config a) w v m c) ≡ field (config a) w v m c
 change_below f zero a b v m c h = refl
-change_below f (suc w) a b v m c h =
-    let e : eqb a b ≡ false = above a b h in
-    let cell : Cell = record { value = v % 256; writable = m % 256; clearable = c % 256 } in
-    ap₂ (λ (t : Bool) (file : File). cond t (record { place = config a; cell = f cell }) (record { place = config a; cell = cell }) ∷ file) e
-    (change_below f w (a + 1) b (v / 256) (m / 256) (c / 256) (omega arith))
+change_below f (suc w) a b v m c h = grind (arith, above, change_below f w (a + 1) b (v / 256) (m / 256) (c / 256))
 
 write_past : (w a b x : ℕ) (c : Cell) (file : File) → b < a → write (all_bytes w) x (config a) (record { place = config b; cell = c } ∷ file) ≡ record { place = config b; cell = c } ∷ write (all_bytes w) x (config a) file
 write_past zero a b x c file h = refl
-write_past (suc w) a b x c file h =
-    let e : eqb b a ≡ false = below a b h in
-    let next : File = changed (written (x % 256)) (config a) file in
-    ap (λ (t : Bool). write (all_bytes w) (x / 256) (config (a + 1)) (cond t (record { place = config b; cell = written (x % 256) c }) (record { place = config b; cell = c }) ∷ next)) e
-    ∙ write_past w (a + 1) b (x / 256) c next (omega arith)
+write_past (suc w) a b x c file h = grind (arith, below, write_past w (a + 1) b (x / 256) c)
 
 pub kept : (v m : ℕ) → bit_and (bit_and (v % 256) (255 - m)) 255 ≡ bit_and (v % 256) (255 - m)
 kept v m =
@@ -109,13 +89,4 @@ merged_high w v x m h =
 
 pub field_writes : FieldWrites
 field_writes zero a v m x h = refl
-field_writes (suc w) a v m x h =
-    let e : eqb a a ≡ true = self a in
-    let small : m / 256 < 256 ^ w = omega (arith, pow-suc 256 w, h) in
-    let cell : Cell = record { value = v % 256; writable = m % 256; clearable = 0 } in
-    let file : File = field (config (a + 1)) w (v / 256) (m / 256) 0 in
-    ap₂ (λ (t : Bool) (rest : File). write (all_bytes w) (x / 256) (config (a + 1)) (cond t (record { place = config a; cell = written (x % 256) cell }) (record { place = config a; cell = cell }) ∷ rest)) e
-    (change_below (written (x % 256)) w (a + 1) a (v / 256) (m / 256) 0 (omega arith))
-    ∙ write_past w (a + 1) a (x / 256) (written (x % 256) cell) file (omega arith)
-    ∙ ap₂ (λ (n : ℕ) (rest : File). record { place = config a; cell = record { value = n; writable = m % 256; clearable = 0 } } ∷ rest) (merged_low w v x m h)
-    (field_writes w (a + 1) (v / 256) (m / 256) (x / 256) small ∙ ap (λ n. field (config (a + 1)) w n (m / 256) 0) (merged_high w v x m h))
+field_writes (suc w) a v m x h = grind (arith, self, pow-suc, change_below, write_past, merged_low, field_writes w (a + 1) (v / 256) (m / 256) (x / 256), merged_high)

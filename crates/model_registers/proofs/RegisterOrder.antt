@@ -24,33 +24,19 @@ abbrev from_register : ℕ → ℕ → List Region → List Region
 from_register a zero rs = []
 from_register a (suc k) rs = filter (stands_at a) rs ++ from_register (a + 1) k rs
 
-differs : (a b : ℕ) → a < b → eqb b a ≡ false
-differs a b h = grind (arith, nat_tests)
-
 none_there : (a : ℕ) (rs : List Region) → Each (λ (r : Region). a < r.index) rs → filter (stands_at a) rs ≡ []
 none_there a [] h = refl
-none_there a (r ∷ rs) h = let e : eqb r.index a ≡ false = differs a r.index h.0 in rw e (none_there a rs h.1)
+none_there a (r ∷ rs) h = grind (arith, none_there a rs, nat_tests)
 
 past_first : (k a : ℕ) (r : Region) (rs : List Region) → r.index < a → from_register a k (r ∷ rs) ≡ from_register a k rs
 past_first zero a r rs h = refl
-past_first (suc k) a r rs h =
-    let e : eqb r.index a ≡ false = grind (arith, nat_tests) in
-    ap₂ (λ (x y : List Region). x ++ y) (rw e) (past_first k (a + 1) r rs (omega arith))
-
-split_cases : (k a : ℕ)
-    → ((rs : List Region) → IsAscending rs → Each (λ (r : Region). a < r.index) rs → Each (λ (r : Region). r.index < a + suc k) rs → rs ≡ from_register (a + 1) k rs)
-    → (r : Region) (rs : List Region) → IsAscending (r ∷ rs) → a ≤ r.index → Each (λ (r : Region). r.index < a + suc k) (r ∷ rs)
-    → (t : Bool) → eqb r.index a ≡ t → rs ≡ filter (stands_at a) rs ++ from_register (a + 1) k rs
-    → r ∷ rs ≡ filter (stands_at a) (r ∷ rs) ++ from_register (a + 1) k (r ∷ rs)
-split_cases k a others r rs up low high true e tail = grind (arith, nat_tests, past_first)
-split_cases k a others r rs up low high false e tail = grind (arith, nat_tests, none_there, each_map)
+past_first (suc k) a r rs h = grind (arith, nat_tests, past_first k (a + 1) r rs)
 
 splits : (k a : ℕ)
     → ((rs : List Region) → IsAscending rs → Each (λ (r : Region). a < r.index) rs → Each (λ (r : Region). r.index < a + suc k) rs → rs ≡ from_register (a + 1) k rs)
     → (rs : List Region) → IsAscending rs → Each (λ (r : Region). a ≤ r.index) rs → Each (λ (r : Region). r.index < a + suc k) rs → rs ≡ filter (stands_at a) rs ++ from_register (a + 1) k rs
 splits k a others [] up low high = grind arith
-splits k a others (r ∷ rs) up low high =
-    split_cases k a others r rs up low.0 high (eqb r.index a) refl (splits k a others rs up.1 low.1 high.1)
+splits k a others (r ∷ rs) up low high = grind (arith, splits k a others rs, nat_tests, past_first, none_there, each_map)
 
 in_order_from : (k a : ℕ) (rs : List Region) → IsAscending rs → Each (λ (r : Region). a ≤ r.index) rs → Each (λ (r : Region). r.index < a + k) rs → rs ≡ from_register a k rs
 in_order_from zero a [] up low high = refl
@@ -94,13 +80,9 @@ only : (p : Region → Bool) (r : Region) (xs : List Region) → filter p xs ≡
 only p r [] h = tt
 only p r (x ∷ xs) h = only_cases p r x xs (p x) refl h (only p r xs)
 
-found_cases : (p : Region → Bool) (r y : Region) (ys : List Region) (t : Bool) → p y ≡ t → (p y ≡ true → y ≡ r) → count_by p (y ∷ ys) ≡ 1
-    → (count_by p ys ≡ 1 → filter p ys ≡ r ∷ []) → cond t (y ∷ filter p ys) (filter p ys) ≡ r ∷ []
-found_cases p r y ys t e same h more = grind (arith, empty_filter, none_found, others_none, sum_by-cons)
-
 found : (p : Region → Bool) (r : Region) (ys : List Region) → Each (λ (y : Region). p y ≡ true → y ≡ r) ys → count_by p ys ≡ 1 → filter p ys ≡ r ∷ []
 found p r [] all h = cc
-found p r (y ∷ ys) all h = found_cases p r y ys (p y) refl all.0 h (found p r ys all.1)
+found p r (y ∷ ys) all h = grind (arith, found p r ys, empty_filter, none_found, others_none, sum_by-cons)
 
 same_filter_cases : (p : Region → Bool) (xs ys : List Region) → IsPermutation xs ys → (zs : List Region) → filter p xs ≡ zs → length zs ≤ 1 → filter p ys ≡ zs
 same_filter_cases p xs ys perm [] e short =
