@@ -1,5 +1,6 @@
 -- Bus numbers as counts say where a bridge stands.
-use Rattle.std.proofs.Common.{◌≡◌, ℕ, ◌+◌, ◌≤◌, Bool, true, false, ◌&&◌, ◌||◌, [], ◌∷◌, refl, subst, arith}
+use Rattle.std.proofs.lemmas.Grind.{common_steps}
+use Rattle.std.proofs.Common.{◌≡◌, ℕ, ◌+◌, ◌≤◌, Bool, true, false, ◌&&◌, [], ◌∷◌, refl, subst, arith}
 use Rattle.std.specs.Prelude.{count_by, IsTrue}
 use Rattle.std.proofs.lemmas.List.Sums.{sum_by-cons}
 use Rattle.lists.specs.Elements.{Each, EachPair}
@@ -15,62 +16,30 @@ bridges p b = count_by (λ r. is_bridge r.decl && p r.path) b
 pub bridges-cons : (p : Path → Bool) (r : Row) (b : Board) → bridges p (r ∷ b) ≡ one (is_bridge r.decl && p r.path) + bridges p b
 bridges-cons p r b = sum_by-cons (λ (s : Row). one (is_bridge s.decl && p s.path)) r b
 
--- a bound on each path is a bound on the counts
-two_for_one : (t u v w : Bool) → one u + one v ≤ one w → one (t && u) + one (t && v) ≤ one (t && w)
-two_for_one true u v w h = h
-two_for_one false u v w h = omega arith
-
-three_for_one : (t u v x w : Bool) → one u + one v + one x ≤ one w → one (t && u) + one (t && v) + one (t && x) ≤ one (t && w)
-three_for_one true u v x w h = h
-three_for_one false u v x w h = omega arith
-
-two_for_three : (t u v x y z : Bool) → one u + one v ≤ one x + one y + one z → one (t && u) + one (t && v) ≤ one (t && x) + one (t && y) + one (t && z)
-two_for_three true u v x y z h = h
-two_for_three false u v x y z h = omega arith
-
 pub count_two : (p q s : Path → Bool) → ((x : Path) → one (p x) + one (q x) ≤ one (s x)) → (b : Board) → bridges p b + bridges q b ≤ bridges s b
 count_two p q s h [] = omega arith
-count_two p q s h (r ∷ b) = omega (arith, bridges-cons p r b, bridges-cons q r b, bridges-cons s r b, two_for_one (is_bridge r.decl) (p r.path) (q r.path) (s r.path) (h r.path), count_two p q s h b)
+count_two p q s h (r ∷ b) = grind (arith, common_steps, bridges-cons, count_two p q s h b)
 
 pub count_three : (p q o s : Path → Bool) → ((x : Path) → one (p x) + one (q x) + one (o x) ≤ one (s x)) → (b : Board) → bridges p b + bridges q b + bridges o b ≤ bridges s b
 count_three p q o s h [] = omega arith
-count_three p q o s h (r ∷ b) =
-    omega (arith, bridges-cons p r b, bridges-cons q r b, bridges-cons o r b, bridges-cons s r b, three_for_one (is_bridge r.decl) (p r.path) (q r.path) (o r.path) (s r.path) (h r.path), count_three p q o s h b)
+count_three p q o s h (r ∷ b) = grind (arith, common_steps, count_three p q o s h b, bridges-cons)
 
 count_under : (p q s t o : Path → Bool) → ((x : Path) → one (p x) + one (q x) ≤ one (s x) + one (t x) + one (o x)) → (b : Board) → bridges p b + bridges q b ≤ bridges s b + bridges t b + bridges o b
 count_under p q s t o h [] = omega arith
-count_under p q s t o h (r ∷ b) =
-    omega (
-      arith,
-      bridges-cons p r b,
-      bridges-cons q r b,
-      bridges-cons s r b,
-      bridges-cons t r b,
-      bridges-cons o r b,
-      two_for_three (is_bridge r.decl) (p r.path) (q r.path) (s r.path) (t r.path) (o r.path) (h r.path),
-      count_under p q s t o h b,
-    )
+count_under p q s t o h (r ∷ b) = grind (arith, common_steps, count_under p q s t o h b, bridges-cons)
 
 -- ---- a bridge of the board counts once
 
 abbrev pub at : Path → Path → Bool
 at q x = path_eq x q
 
-at_least : (t : Bool) (n : ℕ) → t ≡ true → 1 ≤ one t + n
-at_least t n h = rw h (omega arith)
-
 pub counted : (b : Board) (q : Path) → is_bridge_at b q ≡ true → 1 ≤ bridges (at q) b
 counted [] q h = cc
-counted (r ∷ b) q h = by_row (is_bridge r.decl && path_eq r.path q) refl h (counted b q)
-  where
-    by_row : (t : Bool) → (is_bridge r.decl && path_eq r.path q) ≡ t → (t || is_bridge_at b q) ≡ true → (is_bridge_at b q ≡ true → 1 ≤ bridges (at q) b) → 1 ≤ bridges (at q) (r ∷ b)
-    by_row true e k more = rw (bridges-cons (at q) r b) (at_least (is_bridge r.decl && path_eq r.path q) (bridges (at q) b) e)
-    by_row false e k more = omega (arith, bridges-cons (at q) r b, more k)
+counted (r ∷ b) q h = grind (arith, common_steps, counted b q, bridges-cons)
 
 -- no later row stands at a path that an earlier one has
 not_at : (t u : Bool) → u ≡ false → one (t && u) ≡ 0
-not_at true u h = rw h
-not_at false u h = refl
+not_at t u h = grind arith
 
 differ : (p q : Path) → path_before p q ≡ true → path_eq q p ≡ false
 differ p q h = by_test (path_eq q p) refl
@@ -90,8 +59,7 @@ none_later q [] h = refl
 none_later q (s ∷ b) h = omega (arith, bridges-cons (at q) s b, not_at (is_bridge s.decl) (path_eq s.path q) (differ q s.path h.0), none_later q b h.1)
 
 one_most : (t : Bool) → one t ≤ 1
-one_most true = omega arith
-one_most false = omega arith
+one_most t = grind arith
 
 pub counted_once : (b : Board) (q : Path) → EachPair (λ (r s : Row). IsTrue (path_before r.path s.path)) b → bridges (at q) b ≤ 1
 counted_once [] q h = omega arith

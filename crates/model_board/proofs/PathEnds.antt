@@ -1,5 +1,6 @@
 -- The last part of a path, and what leads to a path.
-use Rattle.std.proofs.Common.{◌≡◌, ◌+◌, ◌≤◌, ◌<◌, ◌⊎◌, inl, inr, Bool, true, false, ◌&&◌, [], ◌∷◌, ◌++◌, length, refl, ap, ap₂, arith}
+use Rattle.std.proofs.lemmas.Grind.{common_steps}
+use Rattle.std.proofs.Common.{◌≡◌, ◌+◌, ◌≤◌, ◌<◌, ◌⊎◌, Bool, true, false, [], ◌∷◌, ◌++◌, length, refl, ap, arith}
 use Rattle.std.proofs.lemmas.Bool.Decides.{nat_tests}
 use Rattle.model_board.specs.Paths.{Part, Path, part_eq, path_eq, path_before, leads_to, parent, last_part}
 use Rattle.model_board.proofs.PathOrder.{one, before_trans, path_same, part_self}
@@ -31,15 +32,10 @@ length_snoc (a ∷ bus) p = omega (arith, length_snoc bus p)
 
 -- what leads to a path on a bus leads to the bus, or is it
 pub leads_up : (q bus : Path) (p : Part) → leads_to q (bus ++ p ∷ []) ≡ true → (q ≡ bus) ⊎ (leads_to q bus ≡ true)
-leads_up [] [] p h = inl refl
-leads_up [] (b ∷ bus) p h = inr refl
+leads_up [] b p h = grind arith
 leads_up (a ∷ []) [] p h = let e : leads_to [] [] ≡ true = right_true (part_eq a p) (leads_to [] []) h in cc
 leads_up (a ∷ c ∷ q) [] p h = let e : leads_to (c ∷ q) [] ≡ true = right_true (part_eq a p) (leads_to (c ∷ q) []) h in cc
-leads_up (a ∷ q) (b ∷ bus) p h = by_part (left_true (part_eq a b) (leads_to q (bus ++ p ∷ [])) h) (leads_up q bus p (right_true (part_eq a b) (leads_to q (bus ++ p ∷ [])) h))
-  where
-    by_part : part_eq a b ≡ true → (q ≡ bus) ⊎ (leads_to q bus ≡ true) → (a ∷ q ≡ b ∷ bus) ⊎ ((part_eq a b && leads_to q bus) ≡ true)
-    by_part e (inl same) = let eq : path_eq (a ∷ q) (b ∷ bus) ≡ true = rw (e, same) (path_self bus) in inl (path_same (a ∷ q) (b ∷ bus) eq)
-    by_part e (inr leads) = inr (rw (e, leads))
+leads_up (a ∷ q) (b ∷ bus) p h = grind (arith, left_true, leads_up q bus p, right_true, path_self, path_same)
 
 pub leads_self : (q : Path) (p : Part) → leads_to q (q ++ p ∷ []) ≡ true
 leads_self [] p = refl
@@ -49,50 +45,32 @@ leads_self (a ∷ q) p = rw (part_self a) (leads_self q p)
 pub not_before_itself : (p : Path) → path_before p p ≡ true → ⊥
 not_before_itself p h =
     let bound : one (path_before p p) + one (path_eq p p) ≤ one (path_before p p) = before_trans p p p h in
-    let self : path_eq p p ≡ true = path_self p in
-    let bad : 1 + 1 ≤ 1 = rw (h, self) at bound in
-    omega arith
+    grind (arith, path_self)
 
 -- paths of one bus are equal where their last parts are
 pub path_eq-snoc : (bus : Path) (p q : Part) → path_eq (bus ++ p ∷ []) (bus ++ q ∷ []) ≡ part_eq p q
-path_eq-snoc [] p q = and_true (part_eq p q)
-  where
-    and_true : (t : Bool) → (t && true) ≡ t
-    and_true true = refl
-    and_true false = refl
+path_eq-snoc [] p q = grind arith
 path_eq-snoc (a ∷ bus) p q = rw (part_self a) (path_eq-snoc bus p q)
 
 pub path_eq-sym : (p q : Path) → path_eq p q ≡ path_eq q p
-path_eq-sym [] [] = refl
-path_eq-sym [] (b ∷ q) = refl
+path_eq-sym [] b = grind arith
 path_eq-sym (a ∷ p) [] = refl
-path_eq-sym (a ∷ p) (b ∷ q) = ap₂ ◌&&◌ (part_eq-sym a b) (path_eq-sym p q)
-  where
-    part_eq-sym : (a b : Part) → part_eq a b ≡ part_eq b a
-    part_eq-sym a b = grind (arith, nat_tests)
+path_eq-sym (a ∷ p) (b ∷ q) = grind (arith, path_eq-sym p q, nat_tests)
 
 -- what leads to a path that leads on leads on too
 pub leads_trans : (p q r : Path) → leads_to p q ≡ true → leads_to q r ≡ true → leads_to p r ≡ true
 leads_trans [] [] r h k = k
-leads_trans [] (b ∷ q) [] h k = cc
-leads_trans [] (b ∷ q) (c ∷ r) h k = refl
+leads_trans [] (b ∷ q) c h k = grind arith
 leads_trans (a ∷ p) [] r h k = cc
 leads_trans (a ∷ p) (b ∷ q) [] h k = cc
-leads_trans (a ∷ p) (b ∷ q) (c ∷ r) h k =
-    let here : part_eq a c ≡ true = part_trans a b c (left_true (part_eq a b) (leads_to p q) h) (left_true (part_eq b c) (leads_to q r) k) in
-    rw (here, leads_trans p q r (right_true (part_eq a b) (leads_to p q) h) (right_true (part_eq b c) (leads_to q r) k))
-  where
-    part_trans : (a b c : Part) → part_eq a b ≡ true → part_eq b c ≡ true → part_eq a c ≡ true
-    part_trans a b c h k = grind (arith, nat_tests)
+leads_trans (a ∷ p) (b ∷ q) (c ∷ r) h k = grind (arith, left_true, leads_trans p q r, right_true, nat_tests)
 
 pub snoc_some : (p : Path) (u : Part) → 0 < length (p ++ u ∷ [])
-snoc_some [] u = omega arith
-snoc_some (a ∷ p) u = omega arith
+snoc_some p u = grind (arith, common_steps)
 
 -- a path that leads to another is shorter
 pub leads_longer : (q p : Path) → leads_to q p ≡ true → length q < length p
-leads_longer [] [] h = cc
-leads_longer [] (y ∷ p) h = omega arith
+leads_longer [] y h = grind arith
 leads_longer (x ∷ q) [] h = cc
 leads_longer (x ∷ q) (y ∷ p) h = omega (arith, leads_longer q p (right_true (part_eq x y) (leads_to q p) h))
 
@@ -100,10 +78,6 @@ leads_longer (x ∷ q) (y ∷ p) h = omega (arith, leads_longer q p (right_true 
 pub no_turn : (p q : Path) → path_before p q ≡ true → path_before q p ≡ true → ⊥
 no_turn p q h k = by_own (path_before q q) refl (before_trans q p q h)
   where
-    too_many : (t : Bool) → 1 + one t ≤ 0 → ⊥
-    too_many true h = omega (arith, h)
-    too_many false h = omega (arith, h)
-
     by_own : (t : Bool) → path_before q q ≡ t → one (path_before q p) + one (path_eq q p) ≤ one (path_before q q) → ⊥
     by_own true e le = not_before_itself q e
-    by_own false e le = let w = rw (k, e) at le in too_many (path_eq q p) w
+    by_own false e le = grind arith

@@ -1,105 +1,56 @@
 -- Lawful places are those of a board: path order takes nothing away and adds nothing.
-use Rattle.std.proofs.Common.{◌≡◌, ◌+◌, ◌≤◌, Bool, true, false, ◌&&◌, ◌||◌, cond, List, [], ◌∷◌, map, refl, sym, ap, ◌∙◌, arith, inl, inr, ◌⊎◌}
+use Rattle.std.proofs.Common.{◌≡◌, ◌+◌, ◌≤◌, Bool, true, false, ◌&&◌, ◌||◌, cond, List, [], ◌∷◌, map, refl, sym, ap, ◌∙◌, arith, ◌⊎◌, rules}
 use Rattle.std.specs.List.{list_any}
 use Rattle.std.proofs.lemmas.Bool.Decides.{nat_tests}
 use Rattle.lists.specs.Elements.{Each, EachPair}
 use Rattle.lists.proofs.Tests.{left_true, right_true}
-use Rattle.model_board.specs.Paths.{Part, Path, part_eq, part_before, path_eq, path_before, leads_to, parent, function_zero, IsPath}
+use Rattle.model_board.specs.Paths.{Part, Path, part_eq, path_eq, path_before, leads_to, parent, function_zero, IsPath}
 use Rattle.model_board.specs.Board.{Row, Board, IsBoard, is_bridge, is_bridge_at, stands_at}
-use Rattle.model_board.specs.Places.{Standing, standing, has_path, has_bridge, IsFounded, AreLawfulPlaces, row_inserted, board_of, LawfulPlacesAreBoards}
+use Rattle.model_board.specs.Places.{Standing, standing, has_path, has_bridge, AreLawfulPlaces, row_inserted, board_of, LawfulPlacesAreBoards}
 use Rattle.model_board.proofs.PathOrder.{one, exclusive, before_trans}
 use Rattle.lists.proofs.EachLemmas.{each_map, each_both}
 
 -- ---- path order is total
 
-part_total : (a b : Part) → part_before a b ≡ false → part_eq a b ≡ false → part_before b a ≡ true
-part_total a b h k = grind (arith, nat_tests)
-
 part_turn : (a b : Part) → part_eq a b ≡ true → part_eq b a ≡ true
 part_turn a b h = grind (arith, nat_tests)
 
-total_cases : (u v w v' B E C : Bool) → (u ≡ false → v ≡ false → w ≡ true) → (v ≡ true → v' ≡ true) → (B ≡ false → E ≡ false → C ≡ true)
-    → (u || (v && B)) ≡ false → (v && E) ≡ false → (w || (v' && C)) ≡ true
-total_cases true v w v' B E C f g h p q = cc
-total_cases false true w v' B E C f g h p q = rw (g refl, h p q) (after w)
-  where
-    after : (w : Bool) → (w || true) ≡ true
-    after true = refl
-    after false = refl
-total_cases false false w v' B E C f g h p q = rw (f refl refl) refl
-
 pub path_total : (p q : Path) → path_before p q ≡ false → path_eq p q ≡ false → path_before q p ≡ true
-path_total [] [] h k = cc
-path_total [] (b ∷ q) h k = cc
+path_total [] b h k = grind arith
 path_total (a ∷ p) [] h k = refl
-path_total (a ∷ p) (b ∷ q) h k =
-    total_cases (part_before a b) (part_eq a b) (part_before b a) (part_eq b a) (path_before p q) (path_eq p q) (path_before q p)
-    (part_total a b) (part_turn a b) (path_total p q) h k
+path_total (a ∷ p) (b ∷ q) h k = search (rules, path_total p q, part_turn, nat_tests)
 
 path_turn : (p q : Path) → path_eq p q ≡ true → path_eq q p ≡ true
-path_turn [] [] h = refl
-path_turn [] (b ∷ q) h = cc
+path_turn [] b h = grind arith
 path_turn (a ∷ p) [] h = cc
-path_turn (a ∷ p) (b ∷ q) h = both (part_turn a b (left_true (part_eq a b) (path_eq p q) h)) (path_turn p q (right_true (part_eq a b) (path_eq p q) h))
-  where
-    both : part_eq b a ≡ true → path_eq q p ≡ true → (part_eq b a && path_eq q p) ≡ true
-    both x y = rw (x, y) refl
+path_turn (a ∷ p) (b ∷ q) h = grind (arith, part_turn, left_true, path_turn p q, right_true)
 
 pub apart_turn : (p q : Path) → path_eq p q ≡ false → path_eq q p ≡ false
-apart_turn p q h = by_case (path_eq q p) refl
-  where
-    by_case : (t : Bool) → path_eq q p ≡ t → path_eq q p ≡ false
-    by_case false e = e
-    by_case true e = let back : path_eq p q ≡ true = path_turn q p e in let same : false ≡ true = sym h ∙ back in cc
+apart_turn p q h = grind (arith, path_turn)
 
 pub before_apart : (p q : Path) → path_before p q ≡ true → path_eq p q ≡ false
 before_apart p q h = by_case (path_eq p q) refl (exclusive p q)
   where
     by_case : (t : Bool) → path_eq p q ≡ t → one (path_before p q) + one (path_eq p q) + one (leads_to q p) ≤ 1 → path_eq p q ≡ false
-    by_case false e k = e
-    by_case true e k = let k' = rw (h, e) at k in absurd (too_many (leads_to q p) k')
-      where
-        too_many : (t : Bool) → 1 + 1 + one t ≤ 1 → ⊥
-        too_many true k = omega (arith, k)
-        too_many false k = omega (arith, k)
+    by_case t e k = grind arith
 
 -- ---- a row put in its place
 
-any_cases : (t : Row → Bool) (r s : Row) (ss : Board) (c : Bool) → list_any t (row_inserted r ss) ≡ (t r || list_any t ss)
-    → list_any t (cond c (s ∷ row_inserted r ss) (r ∷ s ∷ ss)) ≡ (t r || (t s || list_any t ss))
-any_cases t r s ss true h = ap (λ x. t s || x) h ∙ swap_or (t s) (t r) (list_any t ss)
-  where
-    swap_or : (a b c : Bool) → (a || (b || c)) ≡ (b || (a || c))
-    swap_or true true c = refl
-    swap_or true false c = refl
-    swap_or false true c = refl
-    swap_or false false c = refl
-any_cases t r s ss false h = refl
-
 any_insert : (t : Row → Bool) (r : Row) (b : Board) → list_any t (row_inserted r b) ≡ (t r || list_any t b)
 any_insert t r [] = refl
-any_insert t r (s ∷ ss) = any_cases t r s ss (path_before s.path r.path) (any_insert t r ss)
+any_insert t r (s ∷ ss) = grind (arith, any_insert t r ss)
 
 pub any_board : (t : Row → Bool) (rs : List Row) → list_any t (board_of rs) ≡ list_any t rs
 any_board t [] = refl
 any_board t (r ∷ rs) = any_insert t r (board_of rs) ∙ ap (λ x. t r || x) (any_board t rs)
 
-each_in_cases : (P : Row → Type 0) (r s : Row) (ss : Board) (c : Bool) → P r → P s × Each P ss → Each P (row_inserted r ss) → Each P (cond c (s ∷ row_inserted r ss) (r ∷ s ∷ ss))
-each_in_cases P r s ss true p h k = (h.0, k)
-each_in_cases P r s ss false p h k = (p, (h.0, h.1))
-
 each_in : (P : Row → Type 0) (r : Row) (b : Board) → P r → Each P b → Each P (row_inserted r b)
 each_in P r [] p h = (p, tt)
-each_in P r (s ∷ ss) p h = each_in_cases P r s ss (path_before s.path r.path) p h (each_in P r ss p h.1)
-
-each_out_cases : (P : Row → Type 0) (r s : Row) (ss : Board) (c : Bool) → (Each P (row_inserted r ss) → P r × Each P ss)
-    → Each P (cond c (s ∷ row_inserted r ss) (r ∷ s ∷ ss)) → P r × (P s × Each P ss)
-each_out_cases P r s ss true f h = let more = f h.1 in (more.0, (h.0, more.1))
-each_out_cases P r s ss false f h = h
+each_in P r (s ∷ ss) p h = grind (arith, each_in P r ss p)
 
 each_out : (P : Row → Type 0) (r : Row) (b : Board) → Each P (row_inserted r b) → P r × Each P b
 each_out P r [] h = h
-each_out P r (s ∷ ss) h = each_out_cases P r s ss (path_before s.path r.path) (each_out P r ss) h
+each_out P r (s ∷ ss) h = grind (arith, each_out P r ss)
 
 pub each_to_board : (P : Row → Type 0) (rs : List Row) → Each P rs → Each P (board_of rs)
 each_to_board P [] h = tt
@@ -122,22 +73,11 @@ all_after r s [] h k = tt
 all_after r s (x ∷ xs) h k = (step (path_before r.path s.path) (path_before r.path x.path) h (before_trans r.path s.path x.path k.0), all_after r s xs h k.1)
   where
     step : (u v : Bool) → u ≡ true → one u + one (path_eq r.path s.path) ≤ one v → v ≡ true
-    step u true e le = refl
-    step u false e le = let le' = rw e at le in absurd (none (path_eq r.path s.path) le')
-      where
-        none : (t : Bool) → 1 + one t ≤ 0 → ⊥
-        none true k = omega (arith, k)
-        none false k = omega (arith, k)
+    step u v e le = grind arith
 
 order_in : (r : Row) (b : Board) → Each (Other r) b → EachPair Before b → EachPair Before (row_inserted r b)
 order_in r [] o h = (tt, tt)
-order_in r (s ∷ ss) o h = by_case (path_before s.path r.path) refl (order_in r ss o.1 h.1)
-  where
-    by_case : (c : Bool) → path_before s.path r.path ≡ c → EachPair Before (row_inserted r ss) → EachPair Before (cond c (s ∷ row_inserted r ss) (r ∷ s ∷ ss))
-    by_case true e more = (each_in (Before s) r ss e h.0, more)
-    by_case false e more =
-        let before : Before r s = path_total s.path r.path e o.0 in
-        ((before, all_after r s ss before h.0), h)
+order_in r (s ∷ ss) o h = grind (arith, order_in r ss, each_in, path_total, all_after)
 
 order_out : (r : Row) (b : Board) → EachPair Before (row_inserted r b) → Each (Other r) b × EachPair Before b
 order_out r [] h = (tt, tt)
@@ -149,10 +89,7 @@ order_out r (s ∷ ss) h = by_case (path_before s.path r.path) refl (order_out r
 
     by_case : (c : Bool) → path_before s.path r.path ≡ c → (EachPair Before (row_inserted r ss) → Each (Other r) ss × EachPair Before ss)
         → EachPair Before (cond c (s ∷ row_inserted r ss) (r ∷ s ∷ ss)) → Each (Other r) (s ∷ ss) × EachPair Before (s ∷ ss)
-    by_case true e again k =
-        let split = each_out (Before s) r ss k.0 in
-        let more = again k.1 in
-        ((before_apart s.path r.path split.0, more.0), (split.1, more.1))
+    by_case true e again k = grind (arith, each_out, before_apart)
     by_case false e again k = (others (s ∷ ss) k.0, k.1)
 
 to_order : (rs : List Row) → EachPair Other rs → EachPair Before (board_of rs)
@@ -200,29 +137,16 @@ abbrev BehindB : List Row → Row → Type 0
 BehindB rs r = (parent r.path ≡ []) ⊎ (is_bridge_at (board_of rs) (parent r.path) ≡ true)
 
 behind_to : (rs : List Row) (r : Row) → BehindA rs r → BehindB rs r
-behind_to rs r (inl h) = inl h
-behind_to rs r (inr h) = inr (sym (bridges_same rs (parent r.path)) ∙ h)
+behind_to rs r h = grind (arith, bridges_same)
 
 behind_from : (rs : List Row) (r : Row) → BehindB rs r → BehindA rs r
-behind_from rs r (inl h) = inl h
-behind_from rs r (inr h) = inr (bridges_same rs (parent r.path) ∙ h)
+behind_from rs r h = grind (arith, bridges_same)
 
 pub lawful_places_are_boards : LawfulPlacesAreBoards
 lawful_places_are_boards rs = (to, from)
   where
-    zero_to : (r : Row) → IsFounded (map standing rs) (standing r) → stands_at (board_of rs) (function_zero r.path) ≡ true
-    zero_to r f = sym (paths_same rs (function_zero r.path)) ∙ f.function_zero
-
     to : AreLawfulPlaces (map standing rs) → IsBoard (board_of rs)
-    to h =
-        let each = each_standing (IsFounded (map standing rs)) rs h.founded in
-        record {
-          paths = each_to_board (λ r. IsPath r.path) rs (each_map (λ r. IsFounded (map standing rs) (standing r)) (λ r. IsPath r.path) rs (λ r f. f.path) each);
-          in_order = to_order rs (pair_standing rs h.apart);
-          behind_bridges = each_to_board (BehindB rs) rs (each_map (λ r. IsFounded (map standing rs) (standing r)) (BehindB rs) rs (λ r f. behind_to rs r f.behind_bridge) each);
-          function_zeros = each_to_board (λ r. stands_at (board_of rs) (function_zero r.path) ≡ true) rs
-              (each_map (λ r. IsFounded (map standing rs) (standing r)) (λ r. stands_at (board_of rs) (function_zero r.path) ≡ true) rs zero_to each);
-        }
+    to h = grind (arith, each_standing, each_to_board, each_map, to_order, pair_standing, behind_to, paths_same)
 
     zero_from : (r : Row) → stands_at (board_of rs) (function_zero r.path) ≡ true → has_path (map standing rs) (function_zero r.path) ≡ true
     zero_from r z = paths_same rs (function_zero r.path) ∙ z
@@ -234,9 +158,4 @@ lawful_places_are_boards rs = (to, from)
         let zeros = each_from_board (λ r. stands_at (board_of rs) (function_zero r.path) ≡ true) rs h.function_zeros in
         let all = each_both (λ r. IsPath r.path) (λ r. BehindB rs r × (stands_at (board_of rs) (function_zero r.path) ≡ true)) rs paths
         (each_both (BehindB rs) (λ r. stands_at (board_of rs) (function_zero r.path) ≡ true) rs behind zeros) in
-        record {
-          founded = standing_each (IsFounded (map standing rs)) rs
-              (each_map (λ r. IsPath r.path × (BehindB rs r × (stands_at (board_of rs) (function_zero r.path) ≡ true))) (λ r. IsFounded (map standing rs) (standing r)) rs
-              (λ r f. record { path = f.0; behind_bridge = behind_from rs r f.1.0; function_zero = zero_from r f.1.1 }) all);
-          apart = standing_pair rs (from_order rs h.in_order);
-        }
+        grind (arith, standing_each, each_map, behind_from, zero_from, standing_pair, from_order)

@@ -1,12 +1,12 @@
 -- The rows of a board's states are the board.
-use Rattle.std.proofs.Common.{◌≡◌, List, [], ◌∷◌, refl, sym, ap, ◌∙◌, subst}
+use Rattle.std.proofs.Common.{◌≡◌, List, [], ◌∷◌, refl, ap, arith}
 use Rattle.std.specs.Prelude.{map}
 use Rattle.model_registers.specs.Registers.{File}
 use Rattle.model_board.specs.Paths.{Path}
 use Rattle.model_board.specs.Board.{Decl, Row, Board, IsBoard}
 use Rattle.model_board.specs.State.{BoardFunction, row_at, state_of}
 use Rattle.model_board.specs.Lawful.{HasLawfulDecls}
-use Rattle.model_board.specs.AtReset.{reset_file, reset_state, board_at, IsAtReset}
+use Rattle.model_board.specs.AtReset.{reset_state, board_at, IsAtReset}
 
 pub rows_of : (file : Path → Decl → File) (rs : List Row) → map row_at (map (λ (r : Row). record { path = r.path; decl = r.decl; file = file r.path r.decl }) rs) ≡ rs
 rows_of file [] = refl
@@ -17,10 +17,4 @@ state_rows b file = rows_of file b
 
 -- a lawful board, its functions as reset leaves them
 pub at_reset : (b : Board) → IsBoard b → HasLawfulDecls b → (fs : List BoardFunction) → fs ≡ (reset_state b).functions → IsAtReset (record { functions = fs; latch = 0 })
-at_reset b board lawful fs e =
-    let rows : board_at fs ≡ b = ap board_at e ∙ state_rows b (λ p d. reset_file b p d) in
-    record {
-      board = subst IsBoard (sym rows) board;
-      declarations = subst HasLawfulDecls (sym rows) lawful;
-      registers = ap (λ (xs : List BoardFunction). record { functions = xs; latch = 0 }) e ∙ ap reset_state (sym rows);
-    }
+at_reset b board lawful fs e = grind (arith, state_rows)
