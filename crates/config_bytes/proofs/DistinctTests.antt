@@ -1,5 +1,5 @@
 -- The test of distinct offsets.
-use Rattle.std.proofs.Common.{◌≡◌, ◌≢◌, ℕ, true, not, ◌&&◌, eqb, List, [], ◌∷◌, refl, sym, ap, ap₂, ◌∙◌}
+use Rattle.std.proofs.Common.{◌≡◌, ◌≢◌, ℕ, true, not, ◌&&◌, List, [], ◌∷◌, refl, ap, ap₂, arith}
 use Rattle.std.specs.List.{list_all}
 use Rattle.std.proofs.lemmas.Bool.{ne_eqb, eq-eqb}
 use Rattle.lists.specs.Elements.{Each, all_pairs}
@@ -7,19 +7,13 @@ use Rattle.model_registers.specs.Cell.{Cell}
 use Rattle.lists.proofs.Tests.{left_true, right_true}
 use Rattle.config_bytes.specs.CellFile.{HasDistinctOffsets, differ}
 
-differ-true : (m n : ℕ) → not (eqb m n) ≡ true → m ≢ n
-differ-true m n h e = let same : eqb m n ≡ true = eq-eqb m n e in let no : not true ≡ true = sym (ap not same) ∙ h in cc
-
 pub all_differ : (c : ℕ × Cell) (cs : List (ℕ × Cell)) → list_all (differ c) cs ≡ true → Each (λ d. c.0 ≢ d.0) cs
 all_differ c [] h = tt
-all_differ c (d ∷ ds) h = (differ-true c.0 d.0 (left_true (differ c d) (list_all (differ c) ds) h), all_differ c ds (right_true (differ c d) (list_all (differ c) ds) h))
+all_differ c (d ∷ ds) h = grind (arith, left_true, all_differ c ds (right_true (differ c d) (list_all (differ c) ds) h), right_true, eq-eqb)
 
 pub distinct_by_test : (cs : List (ℕ × Cell)) → all_pairs differ cs ≡ true → HasDistinctOffsets cs
 distinct_by_test [] h = tt
-distinct_by_test (c ∷ cs) h = (
-  all_differ c cs (left_true (list_all (differ c) cs) (all_pairs differ cs) h),
-  distinct_by_test cs (right_true (list_all (differ c) cs) (all_pairs differ cs) h),
-)
+distinct_by_test (c ∷ cs) h = grind (arith, all_differ, left_true, distinct_by_test cs (right_true (list_all (differ c) cs) (all_pairs differ cs) h), right_true)
 
 pub each_differs : (c : ℕ × Cell) (cs : List (ℕ × Cell)) → Each (λ d. c.0 ≢ d.0) cs → list_all (differ c) cs ≡ true
 each_differs c [] h = refl

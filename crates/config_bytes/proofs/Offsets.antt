@@ -1,9 +1,9 @@
 -- Lists of offsets with cells: that no two stand at one offset, and the files that they are.
-use Rattle.std.proofs.Common.{◌≢◌, ℕ, ◌+◌, ◌<◌, ◌≤◌, List, [], ◌∷◌, ◌++◌, length, refl, ap, arith}
+use Rattle.std.proofs.Common.{◌≢◌, ℕ, ◌+◌, ◌<◌, ◌≤◌, List, [], ◌∷◌, ◌++◌, refl, ap, arith}
 use Rattle.lists.specs.Elements.{Each}
 use Rattle.model_registers.specs.Cell.{Cell}
 use Rattle.model_registers.specs.Registers.{config, File}
-use Rattle.config_bytes.specs.CellFile.{HasDistinctOffsets, offsets_from}
+use Rattle.config_bytes.specs.CellFile.{HasDistinctOffsets}
 use Rattle.config_bytes.specs.OffsetLaws.{FileOfAppend, FileOfOffsets, WithinWider, WithinAppend, WithinOffsets, DistinctAppend, DistinctPush, DistinctOffsets}
 
 pub file_of-append : FileOfAppend
@@ -30,8 +30,7 @@ IsWithin-append a b xs ys = each_append (λ e. (a ≤ e.0) × (e.0 < b)) xs ys
 
 pub IsWithin-offsets_from : WithinOffsets
 IsWithin-offsets_from a [] = tt
-IsWithin-offsets_from a (c ∷ cs) =
-    ((omega arith, omega arith), IsWithin-wider (a + 1) (a + 1 + length cs) a (a + length (c ∷ cs)) (offsets_from (a + 1) cs) (omega arith) (omega arith) (IsWithin-offsets_from (a + 1) cs))
+IsWithin-offsets_from a (c ∷ cs) = grind (arith, IsWithin-offsets_from (a + 1) cs, IsWithin-wider)
 
 -- ---- distinct offsets
 
@@ -40,14 +39,7 @@ distinct-join [] ys across p q = q
 distinct-join (c ∷ cs) ys across p q = (each_append (λ d. c.0 ≢ d.0) cs ys p.0 across.0, distinct-join cs ys across.1 p.1 q)
 
 pub HasDistinctOffsets-append : DistinctAppend
-HasDistinctOffsets-append a b c d xs ys parted below above p q =
-    let one : (e : ℕ × Cell) → (a ≤ e.0) × (e.0 < b) → Each (λ f. e.0 ≢ f.0) ys =
-    λ e h. each_weaker (λ f. (c ≤ f.0) × (f.0 < d)) (λ f. e.0 ≢ f.0) (λ f k same. absurd (omega (arith, h.1, k.0))) ys above in
-    let other : (e : ℕ × Cell) → (c ≤ e.0) × (e.0 < d) → Each (λ f. e.0 ≢ f.0) xs =
-    λ e h. each_weaker (λ f. (a ≤ f.0) × (f.0 < b)) (λ f. e.0 ≢ f.0) (λ f k same. absurd (omega (arith, h.0, k.1))) xs below in (
-      distinct-join xs ys (each_weaker (λ e. (a ≤ e.0) × (e.0 < b)) (λ e. Each (λ f. e.0 ≢ f.0) ys) one xs below) p q,
-      distinct-join ys xs (each_weaker (λ e. (c ≤ e.0) × (e.0 < d)) (λ e. Each (λ f. e.0 ≢ f.0) xs) other ys above) q p,
-    )
+HasDistinctOffsets-append a b c d xs ys parted below above p q = grind (arith, each_weaker, distinct-join)
 
 -- one more offset, which none of them is
 pub HasDistinctOffsets-push : DistinctPush
@@ -55,7 +47,4 @@ HasDistinctOffsets-push cs c new p = distinct-join cs (c ∷ []) (each_weaker (�
 
 pub HasDistinctOffsets-offsets_from : DistinctOffsets
 HasDistinctOffsets-offsets_from a [] = tt
-HasDistinctOffsets-offsets_from a (c ∷ cs) = (
-  each_weaker (λ d. (a + 1 ≤ d.0) × (d.0 < a + 1 + length cs)) (λ d. a ≢ d.0) (λ d h e. absurd (omega (arith, h.0))) (offsets_from (a + 1) cs) (IsWithin-offsets_from (a + 1) cs),
-  HasDistinctOffsets-offsets_from (a + 1) cs,
-)
+HasDistinctOffsets-offsets_from a (c ∷ cs) = grind (arith, each_weaker, IsWithin-offsets_from, HasDistinctOffsets-offsets_from (a + 1) cs)

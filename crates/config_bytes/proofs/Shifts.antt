@@ -1,5 +1,6 @@
 -- Shifts by whole bytes, and masks of whole bytes.
-use Rattle.std.proofs.Common.{◌≡◌, ℕ, zero, suc, ◌+◌, ◌-◌, ◌*◌, ◌/◌, ◌%◌, ◌^◌, ◌≤◌, refl, sym, ap, ap₂, ◌∙◌, arith}
+use Rattle.std.proofs.lemmas.Grind.{common_steps}
+use Rattle.std.proofs.Common.{◌≡◌, ℕ, zero, suc, ◌+◌, ◌-◌, ◌*◌, ◌/◌, ◌%◌, ◌^◌, ◌≤◌, refl, sym, ap, ◌∙◌, arith}
 use Rattle.std.specs.Prelude.{bit_and}
 use Rattle.std.proofs.Math.Nat.{pow-suc, one-le-pow}
 use Rattle.std.proofs.Math.Pow.{shl_exact, pow-add}
@@ -23,8 +24,4 @@ pub shifted_value : (off v : ℕ) → v * 2 ^ (8 * (off % 4)) % 4294967296 ≡ i
 shifted_value off v = ap (λ n. v * n % 4294967296) (byte_power (off % 4))
 
 pub masked_value : (off w word : ℕ) → LiesInWord off w → bit_and (word / 2 ^ (8 * (off % 4))) (1 * 2 ^ (8 * w) % 18446744073709551616 - 1) ≡ from_lanes off w word
-masked_value off w word h =
-    let part : ℕ = word / 2 ^ (8 * (off % 4)) in
-    ap (λ n. bit_and part (n - 1)) (one_shifted (8 * w) 64 (omega arith))
-    ∙ and_mask part (8 * w)
-    ∙ ap₂ (λ m n. word / m % n) (byte_power (off % 4)) (byte_power w)
+masked_value off w word h = grind (arith, common_steps, one_shifted, and_mask, byte_power)

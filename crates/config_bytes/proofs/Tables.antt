@@ -1,11 +1,12 @@
 -- Tables of cells by offset, and the files that they show.
-use Rattle.std.proofs.Common.{◌≡◌, ◌≢◌, ℕ, zero, suc, ◌<◌, ◌≤◌, Bool, true, false, cond, eqb, List, [], ◌∷◌, length, take, drop, replicate, get_or, ◌++◌, refl, sym, ap, ap₂, ◌∙◌, subst, arith}
+use Rattle.std.proofs.lemmas.Grind.{common_steps}
+use Rattle.std.proofs.Common.{◌≡◌, ◌≢◌, ℕ, suc, ◌<◌, ◌≤◌, Bool, true, false, cond, eqb, List, [], ◌∷◌, length, take, drop, replicate, get_or, ◌++◌, refl, sym, ap, ap₂, ◌∙◌, subst, arith, rules}
 use Rattle.std.proofs.Math.ListN.{set}
 use Rattle.std.proofs.lemmas.Bool.{eqb-true, eqb-false, eq-eqb, ne_eqb}
 use Rattle.std.proofs.lemmas.List.{length-set, get_or-set_same, get_or-set_other, get_or_past, get_or_default, take_at}
 use Rattle.lists.specs.Elements.{Each}
 use Rattle.model_registers.specs.Cell.{Cell, no_cell}
-use Rattle.model_registers.specs.Registers.{Place, config, PlacedCell, File, cell_at, changed}
+use Rattle.model_registers.specs.Registers.{Place, config, File, cell_at, changed}
 use Rattle.model_registers.specs.FileLaws.{IsConfigFile}
 use Rattle.config_bytes.specs.OffsetLaws.{FileOfConfig}
 use Rattle.model_registers.proofs.RegisterFiles.{change_at_place}
@@ -18,35 +19,17 @@ abbrev pub ChangesAt : (Cell → Cell) → ℕ → List Cell → List Cell → T
 ChangesAt f off table new = (q : ℕ) → table_at new q ≡ cond (eqb off q) (f (table_at table q)) (table_at table q)
 
 turned : (a b : ℕ) → eqb a b ≡ eqb b a
-turned a b = turned_at (eqb a b) refl where
-  turned_at : (t : Bool) → eqb a b ≡ t → t ≡ eqb b a
-  turned_at true h = sym (eq-eqb b a (sym (eqb-true a b h)))
-  turned_at false h = sym (ne_eqb b a (λ e. eqb-false a b h (sym e)))
+turned a b = grind (arith, eq-eqb, eqb-true, ne_eqb, eqb-false)
 
 pub set_changes : (f : Cell → Cell) (off : ℕ) (table : List Cell) (c : Cell) → off < length table → c ≡ f (table_at table off) → ChangesAt f off table (set table off c)
-set_changes f off table c within is q = set_at (eqb off q) refl where
-  set_at : (t : Bool) → eqb off q ≡ t → table_at (set table off c) q ≡ cond t (f (table_at table q)) (table_at table q)
-  set_at true h = subst (λ n. table_at (set table off c) n ≡ f (table_at table n)) (eqb-true off q h) (get_or-set_same table off c no_cell within ∙ is)
-  set_at false h = get_or-set_other table off q c no_cell (λ e. eqb-false off q h (sym e))
+set_changes f off table c within is q = grind (arith, eqb-true, get_or-set_same, get_or-set_other, eqb-false)
 
 pub nothing_changes : (f : Cell → Cell) (off : ℕ) (table : List Cell) → f no_cell ≡ no_cell → length table ≤ off → ChangesAt f off table table
-nothing_changes f off table none past q = past_at (eqb off q) refl where
-  past_at : (t : Bool) → eqb off q ≡ t → table_at table q ≡ cond t (f (table_at table q)) (table_at table q)
-  past_at true h = subst (λ n. table_at table n ≡ f (table_at table n)) (eqb-true off q h)
-      (let gap : table_at table off ≡ no_cell = get_or_past table off no_cell past in rw gap (sym none))
-  past_at false h = refl
-
-entry_changes : (f : Cell → Cell) (p : ℕ) (t : Bool) (c : Cell)
-    → let old : PlacedCell = record { place = config p; cell = c } in let new : PlacedCell = record { place = config p; cell = cond t (f c) c } in new ≡ cond t (record old { cell = f c }) old
-entry_changes f p true c = refl
-entry_changes f p false c = refl
+nothing_changes f off table none past q = grind (arith, eqb-true, get_or_past)
 
 pub file_from-changed : (f : Cell → Cell) (off : ℕ) (table new : List Cell) → ChangesAt f off table new → (cs : List (ℕ × Cell)) → file_from new cs ≡ changed f (config off) (file_from table cs)
 file_from-changed f off table new h [] = refl
-file_from-changed f off table new h (c ∷ cs) =
-    let here : table_at new c.0 ≡ cond (eqb c.0 off) (f (table_at table c.0)) (table_at table c.0) = rw (turned c.0 off) (h c.0) in
-    ap₂ (λ (e : PlacedCell) (es : File). e ∷ es) (ap (λ (x : Cell). let e : PlacedCell = record { place = config c.0; cell = x } in e) here ∙ entry_changes f c.0 (eqb c.0 off) (table_at table c.0))
-    (file_from-changed f off table new h cs)
+file_from-changed f off table new h (c ∷ cs) = grind (arith, turned, file_from-changed f off table new h cs)
 
 pub IsTable-changed : (f : Cell → Cell) (off : ℕ) (table new : List Cell) (cs : List (ℕ × Cell)) → f no_cell ≡ no_cell → length new ≡ length table → ChangesAt f off table new → IsTable table cs → IsTable new cs
 IsTable-changed f off table new cs none same h t = record {
@@ -112,8 +95,7 @@ file_from-placed [] table d room = refl
 file_from-placed (c ∷ cs) table d room =
     let next : List Cell = set table c.0 c.1 in
     let below : Each (λ (e : ℕ × Cell). e.0 < length next) cs = room_after cs table c.0 c.1 room.1 in
-    let here : table_at (placed cs next) c.0 ≡ c.1 =
-    placed_at cs next c.0 d.1 below ∙ cell_or-absent cs c.0 (table_at next c.0) d.0 ∙ get_or-set_same table c.0 c.1 no_cell room.0 in
+    let here : table_at (placed cs next) c.0 ≡ c.1 = grind (arith, placed_at, cell_or-absent, get_or-set_same) in
     ap₂ (λ (x : Cell) (es : File). record { place = config c.0; cell = x } ∷ es) here (file_from-placed cs next d.1 below)
 
 -- a table that shows no cell outside the list
@@ -124,31 +106,18 @@ cell_or-none : (cs : List (ℕ × Cell)) (q : ℕ) → cell_or cs q no_cell ≡ 
 cell_or-none [] q = refl
 cell_or-none (c ∷ cs) q = ap (cond (eqb c.0 q) c.1) (cell_or-none cs q)
 
-empty_at : (n q : ℕ) → table_at (replicate n no_cell) q ≡ no_cell
-empty_at zero q = refl
-empty_at (suc n) zero = refl
-empty_at (suc n) (suc q) = empty_at n q
-
 pub HasGaps-empty : (n : ℕ) (cs : List (ℕ × Cell)) → HasGaps (replicate n no_cell) cs
-HasGaps-empty n cs q = let none : table_at (replicate n no_cell) q ≡ no_cell = empty_at n q in rw none (cell_or-none cs q)
+HasGaps-empty n cs q = grind (arith, common_steps, cell_or-none)
 
 cell_or-shown : (table : List Cell) (cs : List (ℕ × Cell)) (q : ℕ) → cell_or cs q (cell_at (file_from table cs) (config q)) ≡ cell_at (file_of cs) (config q)
 cell_or-shown table [] q = refl
-cell_or-shown table (c ∷ cs) q = shown_at (eqb c.0 q) (cell_or-shown table cs q) where
-  shown_at : (t : Bool) → cell_or cs q (cell_at (file_from table cs) (config q)) ≡ cell_at (file_of cs) (config q)
-      → cond t c.1 (cell_or cs q (cond t (table_at table c.0) (cell_at (file_from table cs) (config q)))) ≡ cond t c.1 (cell_at (file_of cs) (config q))
-  shown_at true h = refl
-  shown_at false h = h
+cell_or-shown table (c ∷ cs) q = grind (arith, cell_or-shown table cs q)
 
 pub HasGaps-table : (table : List Cell) (cs : List (ℕ × Cell)) → IsTable table cs → HasGaps table cs
 HasGaps-table table cs t q = ap (cell_or cs q) (t.shows q) ∙ cell_or-shown table cs q
 
 pub IsTable-placed : (cs : List (ℕ × Cell)) (table : List Cell) → HasDistinctOffsets cs → Each (λ c. c.0 < length table) cs → HasGaps table cs → IsTable (placed cs table) cs
-IsTable-placed cs table d room gaps = record {
-  distinct = d;
-  room = subst (λ n. Each (λ (c : ℕ × Cell). c.0 < n) cs) (sym (length-placed cs table)) room;
-  shows = λ q. placed_at cs table q d room ∙ gaps q ∙ sym (ap (λ (file : File). cell_at file (config q)) (file_from-placed cs table d room));
-}
+IsTable-placed cs table d room gaps = search (rules, length-placed, placed_at, file_from-placed)
 
 -- ---- loops
 
@@ -161,30 +130,21 @@ each_from P (c ∷ cs) h = (h 0 c (omega arith), each_from P cs (λ i d within. 
 -- the cell x, which is f of the one read at an index, is put back there
 pub put_changes : (f : Cell → Cell) (table : List Cell) (n at off : ℕ) (x old : Cell) → n ≡ length table → at ≡ off → at < n → old ≡ get_or table at old → x ≡ f old
     → ChangesAt f off table (set table at x)
-put_changes f table n at off x old size is within read becomes =
-    let inside : at < length table = omega arith in
-    let P : ℕ → Type 0 = λ m. ChangesAt f m table (set table at x) in
-    subst P is (set_changes f at table x inside (becomes ∙ ap f (read ∙ get_or_default table at old no_cell inside)))
+put_changes f table n at off x old size is within read becomes = grind (arith, set_changes, get_or_default)
 
 pub view_changes : (f : Cell → Cell) (table new : List Cell) (cs : List (ℕ × Cell)) (off : ℕ) (old : CellFile) → ChangesAt f off table new
     → let before : CellFile = record { now = file_from table cs; initial = file_of cs } in before ≡ old
     → let left : CellFile = record { now = file_from new cs; initial = file_of cs } in left ≡ record old { now = changed f (config off) old.now }
-view_changes f table new cs off old h is =
-    let before : CellFile = record { now = file_from table cs; initial = file_of cs } in
-    let left : CellFile = record { now = file_from new cs; initial = file_of cs } in
-    let P : CellFile → Type 0 = λ v. left ≡ record v { now = changed f (config off) v.now } in
-    subst P is (ap (λ (file : File). let v : CellFile = record { now = file; initial = file_of cs } in v) (file_from-changed f off table new h cs))
+view_changes f table new cs off old h is = grind (arith, file_from-changed)
 
 -- a change past the table is none
 pub view_past : (f : Cell → Cell) (table : List Cell) (cs : List (ℕ × Cell)) (n at off : ℕ) (old : CellFile) → f no_cell ≡ no_cell → n ≡ length table → at ≡ off → n ≤ at
     → let before : CellFile = record { now = file_from table cs; initial = file_of cs } in before ≡ old → old ≡ record old { now = changed f (config off) old.now }
-view_past f table cs n at off old none size is past shown =
-    sym shown ∙ view_changes f table table cs off old (nothing_changes f off table none (omega arith)) shown
+view_past f table cs n at off old none size is past shown = grind (arith, view_changes, nothing_changes)
 
 -- a change that is not enabled is none either
 pub view_past_if : (t : Bool) (f : Cell → Cell) (off : ℕ) (old : CellFile) → old ≡ record old { now = changed f (config off) old.now } → old ≡ record old { now = cond t (changed f (config off) old.now) old.now }
-view_past_if true f off old h = h
-view_past_if false f off old h = refl
+view_past_if t f off old h = grind arith
 
 -- what a vector holds after a whole list is put into it as a slice
 pub refilled : (n : ℕ) (table new : List Cell) (cs : List (ℕ × Cell)) → new ≡ placed cs table → n ≡ length table → take n (new ++ drop (length new) table) ≡ placed cs table
@@ -192,12 +152,9 @@ refilled n table new cs is size = take_at new (drop (length new) table) n (ap le
 
 pub IsTable-refilled : (n : ℕ) (table new : List Cell) (cs : List (ℕ × Cell)) → new ≡ placed cs table → n ≡ length table
     → HasDistinctOffsets cs → Each (λ c. c.0 < length table) cs → HasGaps table cs → IsTable (take n (new ++ drop (length new) table)) cs
-IsTable-refilled n table new cs is size d room gaps =
-    let P : List Cell → Type 0 = λ t. IsTable t cs in subst P (sym (refilled n table new cs is size)) (IsTable-placed cs table d room gaps)
+IsTable-refilled n table new cs is size d room gaps = grind (arith, refilled, IsTable-placed)
 
 pub view_refilled : (n : ℕ) (table new : List Cell) (cs : List (ℕ × Cell)) → new ≡ placed cs table → n ≡ length table
     → HasDistinctOffsets cs → Each (λ c. c.0 < length table) cs
     → let left : CellFile = record { now = file_from (take n (new ++ drop (length new) table)) cs; initial = file_of cs } in left ≡ record { now = file_of cs; initial = file_of cs }
-view_refilled n table new cs is size d room =
-    ap (λ (t : List Cell). let v : CellFile = record { now = file_from t cs; initial = file_of cs } in v) (refilled n table new cs is size)
-    ∙ ap (λ (file : File). let v : CellFile = record { now = file; initial = file_of cs } in v) (file_from-placed cs table d room)
+view_refilled n table new cs is size d room = grind (arith, refilled, file_from-placed)

@@ -1,5 +1,5 @@
 -- A value that is put into a cell of a table, where one stands.
-use Rattle.std.proofs.Common.{◌≡◌, ℕ, ◌<◌, ◌%◌, Bool, true, false, not, ◌&&◌, ◌||◌, cond, eqb, List, [], ◌∷◌, length, get_or, refl, sym, ap, ◌∙◌, subst, arith}
+use Rattle.std.proofs.Common.{◌≡◌, ℕ, ◌<◌, ◌%◌, Bool, true, false, not, cond, eqb, List, [], ◌∷◌, length, get_or, refl, sym, ap, ◌∙◌, subst, arith}
 use Rattle.std.specs.List.{list_all}
 use Rattle.std.proofs.Math.ListN.{set}
 use Rattle.std.proofs.lemmas.List.{length-set}
@@ -22,31 +22,15 @@ free off cs = list_all (λ c. not (eqb off c.0)) cs
 -- as a test of the file
 stands-is : (off : ℕ) (table : List Cell) (cs : List (ℕ × Cell)) → has_place (file_from table cs) (config off) ≡ not (free off cs)
 stands-is off table [] = refl
-stands-is off table (c ∷ cs) =
-    let turned : eqb c.0 off ≡ eqb off c.0 = place_turned (config c.0) (config off) in
-    ap (λ (t : Bool). t || has_place (file_from table cs) (config off)) turned ∙ ap (λ (t : Bool). eqb off c.0 || t) (stands-is off table cs) ∙ joined (eqb off c.0) (free off cs)
-  where
-    joined : (t u : Bool) → (t || not u) ≡ not (not t && u)
-    joined true u = refl
-    joined false u = refl
+stands-is off table (c ∷ cs) = grind (arith, place_turned, stands-is off table cs)
 
 within : (off n : ℕ) (cs : List (ℕ × Cell)) → Each (λ c. c.0 < n) cs → free off cs ≡ false → off < n
 within off n [] room h = cc
-within off n (c ∷ cs) room h = cases (eqb off c.0) refl h (within off n cs room.1)
-  where
-    cases : (t : Bool) → eqb off c.0 ≡ t → (not t && free off cs) ≡ false → (free off cs ≡ false → off < n) → off < n
-    cases true e h more = let same : off ≡ c.0 = eqb-true off c.0 e in let P : ℕ → Type 0 = λ m. m < n in subst P (sym same) room.0
-    cases false e h more = more h
+within off n (c ∷ cs) room h = grind (arith, within off n cs, eqb-true)
 
 -- a cell that stands changes at its place alone
 change_at : (f : Cell → Cell) (file : File) (a b : ℕ) → has_place file (config a) ≡ true → cell_at (changed f (config a) file) (config b) ≡ cond (eqb a b) (f (cell_at file (config b))) (cell_at file (config b))
-change_at f file a b stands = cases (eqb a b) refl
-  where
-    cases : (t : Bool) → eqb a b ≡ t → cell_at (changed f (config a) file) (config b) ≡ cond t (f (cell_at file (config b))) (cell_at file (config b))
-    cases true e =
-        let P : ℕ → Type 0 = λ n. cell_at (changed f (config a) file) (config n) ≡ f (cell_at file (config n)) in
-        subst P (eqb-true a b e) (change_there f file (config a) stands)
-    cases false e = change_beside f file (config a) (config b) e
+change_at f file a b stands = grind (arith, eqb-true, change_there, change_beside)
 
 module _ (table : List Cell) (cs : List (ℕ × Cell)) (is : IsTable table cs) (off v : ℕ) (byte : v < 256) where
   abbrev before : CellFile
@@ -57,11 +41,7 @@ module _ (table : List Cell) (cs : List (ℕ × Cell)) (is : IsTable table cs) (
 
   -- nothing stands there
   pub none_set : free off cs ≡ true → (old : CellFile) → before ≡ old → old ≡ record old { now = set_value v (config off) old.now }
-  none_set none old shown =
-      let P : CellFile → Type 0 = λ x. x ≡ record x { now = set_value v (config off) x.now } in
-      subst P shown
-      (ap (λ (file : File). let x : CellFile = record { now = file; initial = file_of cs } in x)
-      (sym (change_none (with_value (v % 256)) (file_from table cs) (config off) (stands-is off table cs ∙ ap not none))))
+  none_set none old shown = grind (arith, change_none, stands-is)
 
   module _ (taken : free off cs ≡ false) where
     pub inside : off < length table

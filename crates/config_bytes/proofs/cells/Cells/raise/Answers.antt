@@ -1,4 +1,4 @@
-use Rattle.std.proofs.Common.{◌∙◌}
+use Rattle.std.proofs.Common.{◌∙◌, arith}
 use Rattle.std.proofs.Math.ListN.{set}
 use Rattle.std.proofs.lemmas.List.{length-set}
 use Rattle.model_registers.proofs.Owned.{raised_none}
@@ -17,9 +17,7 @@ invariant_of-self c =
     c.self.inside.initial.items (raised_none c.args.mask) (length-set c.self.inside.table.items c.from-at.result c.raised.result) (changes c) c.self.invariant
 
 pub returns-then-at-len-clause-cells : goal.returns-then-at-len-clause-cells
-returns-then-at-len-clause-cells c =
-    view_changes (raised c.args.mask) c.self.inside.table.items (set c.self.inside.table.items c.from-at.result c.raised.result)
-    c.self.inside.initial.items c.args.off c.args.self.now (changes c) c.self.view_is
+returns-then-at-len-clause-cells c = grind (arith, view_changes, changes)
 
 pub returns-else-at-len-clause-cells : goal.returns-else-at-len-clause-cells
 returns-else-at-len-clause-cells c =
@@ -27,15 +25,13 @@ returns-else-at-len-clause-cells c =
     (raised_none c.args.mask) (c.len.ensures ∙ c.self.inside.table.ok.0) c.from-at.ensures c.if-at-len.false c.self.view_is
 
 pub returns-then-at-len-clause-places : goal.returns-then-at-len-clause-places
-returns-then-at-len-clause-places c =
-    IsConfigFile-from (set c.self.inside.table.items c.from-at.result c.raised.result) c.self.inside.initial.items
+returns-then-at-len-clause-places c = grind (arith, IsConfigFile-from)
 
 pub returns-else-at-len-clause-places : goal.returns-else-at-len-clause-places
 returns-else-at-len-clause-places c = IsConfigFile-view c.self.inside.table.items c.self.inside.initial.items c.args.self.now c.self.view_is
 
 pub returns-then-at-len-clause-kept : goal.returns-then-at-len-clause-kept
-returns-then-at-len-clause-kept c =
-    KeepsPlaces-from (set c.self.inside.table.items c.from-at.result c.raised.result) c.self.inside.initial.items
+returns-then-at-len-clause-kept c = grind (arith, KeepsPlaces-from)
 
 pub returns-else-at-len-clause-kept : goal.returns-else-at-len-clause-kept
 returns-else-at-len-clause-kept c = KeepsPlaces-view c.self.inside.table.items c.self.inside.initial.items c.args.self.now c.self.view_is

@@ -1,4 +1,4 @@
-use Rattle.std.proofs.Common.{◌≡◌, ◌++◌, length, take, drop, ◌∙◌, ap, ap₂}
+use Rattle.std.proofs.Common.{◌≡◌, ◌∙◌, ap, ap₂, arith, rules}
 use Rattle.config_bytes.specs.CellFile.{CellFile, placed}
 use Rattle.config_bytes.proofs.Tables.{HasGaps-table, IsConfigFile-from, KeepsPlaces-from, IsTable-refilled, view_refilled}
 use Rattle.config_bytes.proofs.cells.Cells.reset.Goals as goal
@@ -7,9 +7,7 @@ put : (c : goal.After-self-1) → c.place.new.table ≡ placed c.self.inside.ini
 put c = c.place.ensures ∙ ap₂ placed c.as_slice.ensures.value c.as_mut_slice.ensures.value
 
 pub invariant_of-self : goal.invariant_of-self
-invariant_of-self c =
-    IsTable-refilled c.self.inside.table.len c.self.inside.table.items c.place.new.table c.self.inside.initial.items (put c) c.self.inside.table.ok.0
-    c.self.invariant.distinct c.self.invariant.room (HasGaps-table c.self.inside.table.items c.self.inside.initial.items c.self.invariant)
+invariant_of-self c = search (rules, IsTable-refilled, put, HasGaps-table)
 
 pub returns-clause-cells : goal.returns-clause-cells
 returns-clause-cells c =
@@ -18,9 +16,7 @@ returns-clause-cells c =
     ∙ ap (λ (v : CellFile). let w : CellFile = record v { now = v.initial } in w) c.self.view_is
 
 pub returns-clause-places : goal.returns-clause-places
-returns-clause-places c =
-    IsConfigFile-from (take c.self.inside.table.len (c.place.new.table ++ drop (length c.place.new.table) c.self.inside.table.items)) c.self.inside.initial.items
+returns-clause-places c = grind (arith, IsConfigFile-from)
 
 pub returns-clause-kept : goal.returns-clause-kept
-returns-clause-kept c =
-    KeepsPlaces-from (take c.self.inside.table.len (c.place.new.table ++ drop (length c.place.new.table) c.self.inside.table.items)) c.self.inside.initial.items
+returns-clause-kept c = grind (arith, KeepsPlaces-from)

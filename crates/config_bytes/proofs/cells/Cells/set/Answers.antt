@@ -1,4 +1,4 @@
-use Rattle.std.proofs.Common.{◌∙◌, false, true, sym, ap, arith}
+use Rattle.std.proofs.Common.{◌∙◌, sym, ap, arith}
 use Rattle.std.proofs.Math.ListN.{set}
 use Rattle.config_bytes.proofs.Tables.{IsConfigFile-from, KeepsPlaces-from, IsConfigFile-view, KeepsPlaces-view}
 use Rattle.config_bytes.proofs.Values.{free, none_set, inside, table_set, view_set}

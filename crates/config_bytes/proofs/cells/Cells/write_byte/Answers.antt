@@ -1,4 +1,4 @@
-use Rattle.std.proofs.Common.{◌≡◌, true, false, ◌∙◌, refl}
+use Rattle.std.proofs.Common.{◌≡◌, false, ◌∙◌, refl, arith}
 use Rattle.std.proofs.Math.ListN.{set}
 use Rattle.std.proofs.lemmas.List.{length-set}
 use Rattle.model_registers.proofs.Owned.{no_cell_stays}
@@ -18,10 +18,7 @@ invariant_of-self c =
     c.self.inside.initial.items (no_cell_stays c.args.byte) (length-set c.self.inside.table.items c.from-at.result c.written.result) (changes c) c.self.invariant
 
 pub returns-then-enabled-clause-cells : goal.returns-then-enabled-clause-cells
-returns-then-enabled-clause-cells c =
-    let on : c.args.enabled ≡ true = c.if-enabled.true in
-    rw on (view_changes (written c.args.byte) c.self.inside.table.items (set c.self.inside.table.items c.from-at.result c.written.result)
-    c.self.inside.initial.items c.args.off c.args.self.now (changes c) c.self.view_is)
+returns-then-enabled-clause-cells c = grind (arith, view_changes, changes)
 
 pub returns-else-at-len-clause-cells : goal.returns-else-at-len-clause-cells
 returns-else-at-len-clause-cells c =
@@ -33,15 +30,13 @@ returns-else-at-len-clause-cells c =
     ]
 
 pub returns-then-enabled-clause-places : goal.returns-then-enabled-clause-places
-returns-then-enabled-clause-places c =
-    IsConfigFile-from (set c.self.inside.table.items c.from-at.result c.written.result) c.self.inside.initial.items
+returns-then-enabled-clause-places c = grind (arith, IsConfigFile-from)
 
 pub returns-else-at-len-clause-places : goal.returns-else-at-len-clause-places
 returns-else-at-len-clause-places c = IsConfigFile-view c.self.inside.table.items c.self.inside.initial.items c.args.self.now c.self.view_is
 
 pub returns-then-enabled-clause-kept : goal.returns-then-enabled-clause-kept
-returns-then-enabled-clause-kept c =
-    KeepsPlaces-from (set c.self.inside.table.items c.from-at.result c.written.result) c.self.inside.initial.items
+returns-then-enabled-clause-kept c = grind (arith, KeepsPlaces-from)
 
 pub returns-else-at-len-clause-kept : goal.returns-else-at-len-clause-kept
 returns-else-at-len-clause-kept c = KeepsPlaces-view c.self.inside.table.items c.self.inside.initial.items c.args.self.now c.self.view_is
