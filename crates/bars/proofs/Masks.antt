@@ -1,5 +1,5 @@
 -- What a region's registers show after all ones are written, and the size that it tells.
-use Rattle.std.proofs.Common.{◌≡◌, ℕ, ◌+◌, ◌-◌, ◌*◌, ◌/◌, ◌%◌, ◌^◌, ◌<◌, ◌≤◌, inl, inr, true, false, cond, eqb, refl, sym, subst, ap, ap₂, ◌∙◌, arith}
+use Rattle.std.proofs.Common.{◌≡◌, ℕ, ◌+◌, ◌-◌, ◌*◌, ◌/◌, ◌%◌, ◌^◌, ◌<◌, ◌≤◌, inl, inr, true, false, cond, eqb, sym, subst, ap, ap₂, ◌∙◌, arith}
 use Rattle.std.specs.Prelude.{Some}
 use Rattle.std.proofs.lemmas.Nat.{pow_below, pow-add}
 use Rattle.std.proofs.lemmas.Bool.{cases_lt}
@@ -15,26 +15,16 @@ abbrev pub joined : Kind → ℕ → ℕ → ℕ
 joined kind low high = cond (eqb (registers_of kind) 2) (high * 2 ^ 32 + low) low
 
 pub joined_below : (kind : Kind) (low high : ℕ) → low < 2 ^ 32 → high < 2 ^ 32 → joined kind low high < 2 ^ base_width kind
-joined_below io_kind low high hl hh = hl
-joined_below (mem32 pref) low high hl hh = hl
-joined_below (mem64 pref) low high hl hh = omega arith
+joined_below kind low high hl hh = grind arith
 
 joined_low : (kind : Kind) (low high : ℕ) → low < 2 ^ 32 → joined kind low high % 2 ^ 32 ≡ low
-joined_low io_kind low high h = omega arith
-joined_low (mem32 pref) low high h = omega arith
-joined_low (mem64 pref) low high h = omega arith
+joined_low kind low high h = grind arith
 
 joined_high : (kind : Kind) (low high : ℕ) → low < 2 ^ 32 → registers_of kind ≡ 2 → joined kind low high / 2 ^ 32 ≡ high
-joined_high io_kind low high h two = absurd (omega arith)
-joined_high (mem32 pref) low high h two = absurd (omega arith)
-joined_high (mem64 pref) low high h two = omega arith
+joined_high kind low high h two = grind arith
 
 pub types_within : (kind : Kind) (low high : ℕ) → low % least_size kind ≡ type_bits kind → type_bits kind ≤ joined kind low high
-types_within io_kind low high h = omega arith
-types_within (mem32 true) low high h = omega arith
-types_within (mem32 false) low high h = omega arith
-types_within (mem64 true) low high h = omega arith
-types_within (mem64 false) low high h = omega arith
+types_within kind low high h = grind arith
 
 -- a size that the mask tells shows the mask
 pub size_shows : (kind : Kind) (low high size : ℕ) → low < 2 ^ 32 → high < 2 ^ 32 → low % least_size kind ≡ type_bits kind → IsLawfulSize kind size
@@ -68,9 +58,7 @@ pub shown_types : (b : Bar) (low high : ℕ) → IsLawfulSize b.kind b.size → 
 shown_types b low high lawful shows = ap (λ n. n % least_size b.kind) (sym shows.lower ∙ sized_low 0 b lawful) ∙ types_shown b.kind b.size lawful
 
 joined_parts : (kind : Kind) (mask low high : ℕ) → mask < 2 ^ base_width kind → low ≡ mask % 2 ^ 32 → (registers_of kind ≡ 2 → high ≡ mask / 2 ^ 32) → joined kind low high ≡ mask
-joined_parts io_kind mask low high h l u = omega arith
-joined_parts (mem32 pref) mask low high h l u = omega arith
-joined_parts (mem64 pref) mask low high h l u = omega (arith, u refl)
+joined_parts kind mask low high h l u = grind arith
 
 pub shown_mask : (b : Bar) (low high : ℕ) → IsLawfulSize b.kind b.size → ShowsSize b low high → joined b.kind low high ≡ mask_of b
 shown_mask b low high lawful shows =
@@ -79,9 +67,7 @@ shown_mask b low high lawful shows =
 
 -- what the mask tells of its region: the size
 pub shown_size : (b : Bar) (low high : ℕ) → IsLawfulSize b.kind b.size → ShowsSize b low high → 2 ^ base_width b.kind - (joined b.kind low high - type_bits b.kind) ≡ b.size
-shown_size b low high lawful shows =
-    let limits : (b.size < 2 ^ base_width b.kind) × (type_bits b.kind < b.size) = size_limits b.kind b.size lawful in
-    omega (arith, shown_mask b low high lawful shows)
+shown_size b low high lawful shows = grind (arith, size_limits, shown_mask)
 
 -- ---- the size in 64 bits, as the program finds it
 
@@ -90,10 +76,7 @@ size_told kind low high = (2 ^ base_width kind - 1 - (joined kind low high - typ
 
 pub told_lawful : (kind : Kind) (low high : ℕ) → low < 2 ^ 32 → high < 2 ^ 32 → low % least_size kind ≡ type_bits kind → IsLawfulSize kind (size_told kind low high)
     → size_told kind low high ≡ 2 ^ base_width kind - (joined kind low high - type_bits kind)
-told_lawful kind low high hl hh types lawful =
-    let within : joined kind low high < 2 ^ base_width kind = joined_below kind low high hl hh in
-    let some : 0 < size_told kind low high = size_positive kind (size_told kind low high) lawful in
-    omega (arith, width_limit kind)
+told_lawful kind low high hl hh types lawful = grind (arith, joined_below, size_positive, width_limit)
 
 pub told_shows : (kind : Kind) (low high size : ℕ) → size ≡ size_told kind low high → low < 2 ^ 32 → high < 2 ^ 32 → low % least_size kind ≡ type_bits kind → IsLawfulSize kind size
     → ShowsSize (record { kind = kind; size = size }) low high
@@ -101,10 +84,7 @@ told_shows kind low high size e hl hh types lawful =
     size_shows kind low high size hl hh types lawful (e ∙ told_lawful kind low high hl hh types (subst (IsLawfulSize kind) e lawful))
 
 pub told_found : (b : Bar) (low high : ℕ) → low < 2 ^ 32 → high < 2 ^ 32 → IsLawfulSize b.kind b.size → ShowsSize b low high → size_told b.kind low high ≡ b.size
-told_found b low high hl hh lawful shows =
-    let within : joined b.kind low high < 2 ^ base_width b.kind = joined_below b.kind low high hl hh in
-    let limits : (b.size < 2 ^ base_width b.kind) × (type_bits b.kind < b.size) = size_limits b.kind b.size lawful in
-    omega (arith, shown_size b low high lawful shows, width_limit b.kind)
+told_found b low high hl hh lawful shows = omega (arith, shown_size b low high lawful shows, width_limit b.kind, size_limits, joined_below)
 
 pub size_is : (kind : Kind) (low high a j t : ℕ) → a ≡ 2 ^ base_width kind - 1 → j ≡ joined kind low high → t ≡ type_bits kind → (a - (j - t) + 1) % 2 ^ 64 ≡ size_told kind low high
 size_is kind low high a j t ea ej et = ap (λ n. (n - (j - t) + 1) % 2 ^ 64) ea ∙ ap₂ (λ m n. (2 ^ base_width kind - 1 - (m - n) + 1) % 2 ^ 64) ej et
@@ -115,7 +95,4 @@ bar kind size = record { kind = kind; size = size }
 -- a region that shows the mask is the one that the program finds
 pub same_bar : (kind : Kind) (size low high : ℕ) → size ≡ size_told kind low high → (b : Bar) → Some kind ≡ Some b.kind → low < 2 ^ 32 → high < 2 ^ 32 → IsLawfulSize b.kind b.size → ShowsSize b low high
     → record { kind = kind; size = size } ≡ b
-same_bar kind size low high e b same hl hh lawful shows =
-    let kinds : kind ≡ b.kind = cc in
-    let sizes : size ≡ b.size = e ∙ ap (λ k. size_told k low high) kinds ∙ told_found b low high hl hh lawful shows in
-    ap₂ (λ k s. bar k s) kinds sizes
+same_bar kind size low high e b same hl hh lawful shows = grind (arith, told_found)

@@ -1,19 +1,15 @@
 -- Registers that are passed, as no region there holds the address.
-use Rattle.std.proofs.Common.{◌≡◌, ℕ, zero, suc, ◌+◌, ◌<◌, List, [], ◌∷◌, length, drop, get_or, refl, ap, ◌∙◌, arith}
-use Rattle.std.specs.Prelude.{Option, Some, None, option_map}
-use Rattle.lists.specs.Elements.{first_of_two}
+use Rattle.std.proofs.Common.{◌≡◌, ℕ, zero, suc, ◌+◌, ◌<◌, List, [], ◌∷◌, length, drop, get_or, ap, ◌∙◌, arith}
+use Rattle.std.specs.Prelude.{Option, Some, None}
 use Rattle.model_registers.specs.Decoding.{Space}
 use Rattle.bars.specs.declared.region.BasedRegion.{BasedRegion}
-use Rattle.bars.specs.Hits.{offset_in, hit_in, hit_from}
+use Rattle.bars.specs.Hits.{offset_in, hit_from}
 
 passed : (space : Space) (a n k : ℕ) (slots : List (Option BasedRegion)) (d : Option BasedRegion) → k < length slots → ((r : BasedRegion) → get_or slots k d ≡ Some r → offset_in space a r ≡ None)
     → hit_from space a n (drop k slots) ≡ hit_from space a (n + 1) (drop (k + 1) slots)
 passed space a n k [] d within none = absurd (omega arith)
-passed space a n zero (None ∷ slots) d within none = refl
-passed space a n zero (Some r ∷ slots) d within none = ap (λ (o : Option ℕ). first_of_two (option_map (hit_in n) o) (hit_from space a (n + 1) slots)) (none r refl)
-passed space a n (suc k) (s ∷ slots) d within none =
-    let one : suc (k + 1) ≡ suc k + 1 = omega arith in
-    passed space a n k slots d (omega arith) none ∙ ap (λ (m : ℕ). hit_from space a (n + 1) (drop m (s ∷ slots))) one
+passed space a n zero r d within none = grind arith
+passed space a n (suc k) (s ∷ slots) d within none = grind (arith, passed space a n k slots d)
 
 -- a register at which no region begins
 pub passed_unused : (space : Space) (a n : ℕ) (slots : List (Option BasedRegion)) (d : Option BasedRegion) → n < length slots → ((r : BasedRegion) → get_or slots n d ≡ Some r → ⊥)

@@ -1,10 +1,10 @@
 -- One region: its base in 64 bits, and at reset.
-use Rattle.std.proofs.Common.{◌≡◌, ℕ, ◌+◌, ◌-◌, ◌^◌, ◌<◌, ◌≤◌, List, [], ◌∷◌, map, refl, sym, subst, ap, ap₂, ◌∙◌, arith, lit≤}
+use Rattle.std.proofs.Common.{◌≡◌, ℕ, ◌+◌, ◌-◌, ◌^◌, ◌<◌, ◌≤◌, List, [], ◌∷◌, map, refl, sym, subst, ap, ap₂, ◌∙◌, arith, rules}
 use Rattle.std.proofs.Math.Nat.{mod-eq_of_lt}
-use Rattle.std.specs.Prelude.{Option, Some, None, bit_and, bit_or}
+use Rattle.std.specs.Prelude.{Option, Some, None, bit_and}
 use Rattle.std.proofs.lemmas.Nat.{and_block, pow_pos}
 use Rattle.lists.specs.Elements.{Each}
-use Rattle.model_registers.specs.Declarations.{Kind, io_kind, mem32, mem64, Bar, Region, IsLawfulSize, IsLawfulRegion, HasLawfulRegions}
+use Rattle.model_registers.specs.Declarations.{Kind, Bar, Region, IsLawfulSize, IsLawfulRegion, HasLawfulRegions}
 use Rattle.model_registers.specs.EndpointTable.{base_width, BaseAddress, opened, IsLawfulBase, HasLawfulBases}
 use Rattle.model_registers.specs.BaseLaws.{overwritten}
 use Rattle.bars.specs.declared.region.BasedRegion.{BasedRegion}
@@ -16,25 +16,16 @@ pub and_narrow : (v m : ℕ) → v < 2 ^ 32 → m < 2 ^ 32 → bit_and v (2 ^ 64
 and_narrow v m hv hm =
     ap₂ bit_and (omega arith) (omega arith) ∙ and_block 32 0 (2 ^ 32 - 1) v (2 ^ 32 - 1 - m) hv (omega arith) ∙ omega arith
 
-narrow : (v x m : ℕ) → v < 2 ^ 32 → m < 2 ^ 32 → overwritten 64 v x m ≡ overwritten 32 v x m
-narrow v x m hv hm = ap (λ n. bit_or n (bit_and x m)) (and_narrow v m hv hm)
-
 pub written_in_64 : (kind : Kind) (v x m : ℕ) → v < 2 ^ base_width kind → m < 2 ^ base_width kind → overwritten 64 v x m ≡ overwritten (base_width kind) v x m
-written_in_64 io_kind v x m hv hm = narrow v x m hv hm
-written_in_64 (mem32 pref) v x m hv hm = narrow v x m hv hm
-written_in_64 (mem64 pref) v x m hv hm = refl
+written_in_64 kind v x m hv hm = search (rules, and_narrow)
 
 pub width_limit : (kind : Kind) → 2 ^ base_width kind ≤ 2 ^ 64
-width_limit io_kind = lit≤ tt
-width_limit (mem32 pref) = lit≤ tt
-width_limit (mem64 pref) = lit≤ tt
+width_limit kind = grind arith
 
 -- ---- at reset
 
 pub size_positive : (kind : Kind) (size : ℕ) → IsLawfulSize kind size → 0 < size
-size_positive io_kind size h = omega arith
-size_positive (mem32 pref) size h = omega arith
-size_positive (mem64 pref) size h = omega arith
+size_positive kind size h = grind arith
 
 reset_each : (n : ℕ) (bars : List (Option Bar)) → Each IsLawfulRegion (map opened (reset_from n bars)) → Each IsLawfulBase (reset_from n bars)
 reset_each n [] h = tt
@@ -50,8 +41,7 @@ no_base_opened (b ∷ bs) = ap (λ (rs : List Region). opened b ∷ rs) (no_base
 
 no_base_each : (bs : List BaseAddress) → Each IsLawfulBase bs → Each IsLawfulBase (map with_no_base bs)
 no_base_each [] h = tt
-no_base_each (b ∷ bs) h =
-    (record { size_is_lawful = h.0.size_is_lawful; aligned = mod-eq_of_lt (size_positive b.kind b.size h.0.size_is_lawful); fits = pow_pos (base_width b.kind) }, no_base_each bs h.1)
+no_base_each (b ∷ bs) h = grind (arith, mod-eq_of_lt, size_positive, pow_pos, no_base_each bs)
 
 pub no_base_lawful : (bs : List BaseAddress) → HasLawfulBases bs → HasLawfulBases (map with_no_base bs)
 no_base_lawful bs h = record { regions = subst HasLawfulRegions (sym (no_base_opened bs)) h.regions; each = no_base_each bs h.each }

@@ -1,5 +1,5 @@
 -- A slot of a function's registers, and the base address registers before and after it.
-use Rattle.std.proofs.Common.{◌≡◌, ℕ, zero, suc, ◌+◌, ◌*◌, ◌/◌, ◌%◌, ◌^◌, ◌<◌, ◌≤◌, ◌⊎◌, inl, inr, Bool, List, [], ◌∷◌, ◌++◌, map, refl, sym, ap, ap₂, ◌∙◌, subst, arith, lit≤}
+use Rattle.std.proofs.Common.{◌≡◌, ℕ, zero, suc, ◌+◌, ◌*◌, ◌/◌, ◌%◌, ◌^◌, ◌<◌, ◌≤◌, ◌⊎◌, Bool, List, [], ◌∷◌, ◌++◌, map, refl, sym, ap, ap₂, ◌∙◌, subst, arith, rules}
 use Rattle.std.proofs.lemmas.Nat.{shl_whole}
 use Rattle.std.proofs.Math.Nat.{add-zero, zero-add}
 use Rattle.std.specs.Prelude.{Option, Some, None, slice_set}
@@ -33,15 +33,7 @@ split (Some q ∷ slots) n zero r h =
       whole = ap₂ (λ m (x : BasedRegion). placed m x ∷ post) (sym (add-zero n)) same;
       put = λ s. ap (λ m. placed m s ∷ post) (sym (add-zero n));
     }
-split (None ∷ slots) n (suc i) r h =
-    let rest : Split (n + 1) slots i r = split slots (n + 1) i r h in
-    let at : n + 1 + i ≡ n + suc i = omega arith in
-    record {
-      pre = rest.pre;
-      post = rest.post;
-      whole = rest.whole ∙ ap (λ m. rest.pre ++ (placed m r ∷ rest.post)) at;
-      put = λ s. rest.put s ∙ ap (λ m. rest.pre ++ (placed m s ∷ rest.post)) at;
-    }
+split (None ∷ slots) n (suc i) r h = grind (arith, split slots (n + 1) i r h)
 split (Some q ∷ slots) n (suc i) r h =
     let rest : Split (n + 1) slots i r = split slots (n + 1) i r h in
     let at : n + 1 + i ≡ n + suc i = omega arith in
@@ -100,25 +92,16 @@ rewritten_past reg ons x (q ∷ bs) h = ap₂ (λ (b : BaseAddress) (more : List
 rewritten_middle : (reg : ℕ) (ons : List Bool) (x : ℕ) (pre post : List BaseAddress) (b c : BaseAddress) → Each (IsApartFrom reg) pre → Each (IsApartFrom reg) post → rewritten reg ons x b ≡ c
     → map (rewritten reg ons x) (pre ++ (b ∷ post)) ≡ pre ++ (c ∷ post)
 rewritten_middle reg ons x [] post b c before after e = ap₂ (λ (b : BaseAddress) (more : List BaseAddress). b ∷ more) e (rewritten_past reg ons x post after)
-rewritten_middle reg ons x (q ∷ pre) post b c before after e =
-    ap₂ (λ (b : BaseAddress) (more : List BaseAddress). b ∷ more) (rewritten_apart reg ons x q before.0.0 before.0.1) (rewritten_middle reg ons x pre post b c before.1 after e)
+rewritten_middle reg ons x (q ∷ pre) post b c before after e = grind (arith, rewritten_middle reg ons x pre post, rewritten_apart)
 
 -- ---- a part of a region
 
 -- the register of a part lies in its region
 part_of : (reg : ℕ) (p : Part) → IsLowerPart reg p ⊎ IsUpperPart reg p → IsOf reg (placed p.slot p.region)
-part_of reg p (inl low) = let some : 0 < registers_of p.region.decl.kind = registers_positive p.region.decl.kind in (omega arith, omega arith)
-part_of reg p (inr high) = (omega arith, omega arith)
-
-no_shift_right : (v k : ℕ) → k ≡ 0 → v ≡ v / 2 ^ k
-no_shift_right v k e = let one : v ≡ v / 1 = omega arith in one ∙ ap (λ n. v / 2 ^ n) (sym e)
-
-no_shift_left : (v k : ℕ) → k ≡ 0 → v ≡ v * 2 ^ k
-no_shift_left v k e = let one : v ≡ v * 1 = omega arith in one ∙ ap (λ n. v * 2 ^ n) (sym e)
+part_of reg p low = grind (arith, registers_positive)
 
 part_word : (reg : ℕ) (p : Part) (bs : List BaseAddress) → IsLowerPart reg p ⊎ IsUpperPart reg p → word_at reg (placed p.slot p.region ∷ bs) ≡ shown (placed 0 p.region) / 2 ^ p.shift
-part_word reg p bs (inl low) = word_low reg (placed p.slot p.region) bs (sym low.0) ∙ no_shift_right (shown (placed 0 p.region)) p.shift low.1
-part_word reg p bs (inr high) = word_high reg (placed p.slot p.region) bs (sym high.0) high.2 ∙ ap (λ n. shown (placed 0 p.region) / 2 ^ n) (sym high.1)
+part_word reg p bs low = search (rules, word_low, word_high)
 
 -- the region of a part, with another base
 with_base : Part → ℕ → BaseAddress
@@ -130,12 +113,7 @@ region_with p n = record { decl = p.region.decl; base = n }
 part_written : (reg : ℕ) (ons : List Bool) (x : ℕ) (p : Part) → IsLowerPart reg p ⊎ IsUpperPart reg p
     → rewritten reg ons x (placed p.slot p.region) ≡ placed p.slot (record p.region { base = rebased (placed 0 p.region) (x * 2 ^ p.shift) (enabled_bits ons * 2 ^ p.shift) })
 unfolding with_base
-part_written reg ons x p (inl low) =
-    rewritten_low reg ons x (placed p.slot p.region) (sym low.0)
-    ∙ ap₂ (λ y e. with_base p (rebased (placed 0 p.region) y e)) (no_shift_left x p.shift low.1) (no_shift_left (enabled_bits ons) p.shift low.1)
-part_written reg ons x p (inr high) =
-    rewritten_high reg ons x (placed p.slot p.region) (sym high.0) high.2
-    ∙ ap (λ n. with_base p (rebased (placed 0 p.region) (x * 2 ^ n) (enabled_bits ons * 2 ^ n))) (sym high.1)
+part_written reg ons x p low = search (rules, rewritten_low, with_base, rewritten_high)
 
 part_split : (slots : List (Option BasedRegion)) (reg : ℕ) (p : Part) → IsPartAt slots reg p → Split 0 slots p.slot p.region
 part_split slots reg p at = split slots 0 p.slot p.region at.region
@@ -165,8 +143,7 @@ write_part slots lawful reg ons x p at =
     ∙ ap (map (rewritten reg ons x)) (sym whole)
 
 shift_fits : (reg : ℕ) (p : Part) → IsLowerPart reg p ⊎ IsUpperPart reg p → (x : ℕ) → x < 2 ^ 32 → x * 2 ^ p.shift % 2 ^ 64 ≡ x * 2 ^ p.shift
-shift_fits reg p (inl low) x h = subst (λ s. x * 2 ^ s % 2 ^ 64 ≡ x * 2 ^ s) (sym low.1) (shl_whole x 32 0 64 h (lit≤ tt))
-shift_fits reg p (inr high) x h = subst (λ s. x * 2 ^ s % 2 ^ 64 ≡ x * 2 ^ s) (sym high.1) (shl_whole x 32 32 64 h (lit≤ tt))
+shift_fits reg p low x h = grind (arith, shl_whole)
 
 -- the same in 64 bits, as the program shifts
 pub stored_part : (slots : List (Option BasedRegion)) → HasLawfulBases (bases_from 0 slots) → (reg : ℕ) (ons : List Bool) (x : ℕ) (p : Part) → IsPartAt slots reg p
@@ -174,8 +151,7 @@ pub stored_part : (slots : List (Option BasedRegion)) → HasLawfulBases (bases_
     → r ≡ record p.region { base = rebased (placed 0 p.region) (x * 2 ^ p.shift % 2 ^ 64) (enabled_bits ons * 2 ^ p.shift % 2 ^ 64) }
     → bases_from 0 (slice_set slots p.slot (Some r)) ≡ map (rewritten reg ons x) (bases_from 0 slots)
 stored_part slots lawful reg ons x p at hx he r e =
-    let exact : r ≡ record p.region { base = rebased (placed 0 p.region) (x * 2 ^ p.shift) (enabled_bits ons * 2 ^ p.shift) } =
-    e ∙ ap₂ (λ y m. region_with p (rebased (placed 0 p.region) y m)) (shift_fits reg p at.half x hx) (shift_fits reg p at.half (enabled_bits ons) he) in
+    let exact : r ≡ record p.region { base = rebased (placed 0 p.region) (x * 2 ^ p.shift) (enabled_bits ons * 2 ^ p.shift) } = grind (arith, shift_fits) in
     ap (λ (q : BasedRegion). bases_from 0 (slice_set slots p.slot (Some q))) exact ∙ write_part slots lawful reg ons x p at
 
 pub lawful_part : (slots : List (Option BasedRegion)) → HasLawfulBases (bases_from 0 slots) → (reg : ℕ) (p : Part) → IsPartAt slots reg p → IsLawfulBase (placed 0 p.region)
