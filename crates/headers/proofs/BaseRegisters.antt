@@ -1,5 +1,6 @@
 -- Declared base address registers, put at their indices.
-use Rattle.std.proofs.Common.{◌≡◌, ℕ, zero, suc, ◌+◌, ◌≤◌, ◌<◌, List, [], ◌∷◌, ◌++◌, Option, Some, None, length, map, get_or, set, take, drop, refl, sym, ap, ap₂, subst, ◌∙◌, arith, add-one, drop-cons}
+use Rattle.std.proofs.lemmas.Grind.{common_steps}
+use Rattle.std.proofs.Common.{◌≡◌, ℕ, zero, suc, ◌+◌, ◌≤◌, ◌<◌, List, [], ◌∷◌, ◌++◌, Option, Some, None, length, map, get_or, set, take, drop, refl, sym, ap, subst, ◌∙◌, arith, add-one, drop-cons}
 use Rattle.std.proofs.lemmas.List.{get_or-set_other, take_more, map-append}
 use Rattle.lists.specs.Elements.{Each, EachPair}
 use Rattle.model_registers.proofs.Bases.{registers_positive}
@@ -48,8 +49,7 @@ later (q ∷ qs) (suc i) r pairs h is = later qs i r pairs.1 (omega arith) is
 
 still_free : (bars : List (Option Bar)) (k : ℕ) (r : Region) (o : Option Bar) (rs : List Region) → k ≡ r.index → Each (Follows r) rs → Each (λ s. IsFree bars s.index) rs → Each (λ s. IsFree (set bars k o) s.index) rs
 still_free bars k r o [] at follows free = tt
-still_free bars k r o (s ∷ ss) at follows free =
-    ((λ i h. get_or-set_other bars k i o None (λ e. absurd (omega (arith, follows.0, registers_positive r.kind))) ∙ free.0 i h), still_free bars k r o ss at follows.1 free.1)
+still_free bars k r o (s ∷ ss) at follows free = grind (arith, still_free bars k r o ss, get_or-set_other, registers_positive)
 
 pub record HasRegisters (bars : List (Option Bar)) (rs : List Region) (i : ℕ) : Type 0 where
   pub made : at_reset bars ≡ map closed (take i rs)
@@ -63,10 +63,7 @@ next_register bars rs i k r b order h is at within made_of so_far =
     let free_here : IsFree bars k = subst (IsFree bars) (sym at) free.0 in
     let last : Bar → ℕ → List BaseAddress = λ c n. record { index = n; kind = c.kind; size = c.size; base = 0 } ∷ [] in
     record {
-      made =
-          put_last 0 k bars b within free_here ∙ ap (λ (bs : List BaseAddress). bs ++ last b (0 + k)) so_far.made
-          ∙ ap₂ (λ (c : Bar) n. map closed (take i rs) ++ last c n) made_of (let n : 0 + k ≡ r.index = omega arith in n)
-          ∙ sym (ap (map closed) (take_more rs i r h ∙ ap (λ (x : Region). take i rs ++ x ∷ []) (sym is)) ∙ map-append closed (take i rs) (r ∷ []));
+      made = grind (arith, common_steps, put_last, take_more, map-append);
       free = subst (λ n. Each (λ s. IsFree (set bars k (Some b)) s.index) (drop n rs)) (sym (add-one i)) (still_free bars k r (Some b) (drop (suc i) rs) at (later rs i r order h is) free.1);
     }
 

@@ -1,5 +1,5 @@
 -- Lists of cells with offsets, as files.
-use Rattle.std.proofs.Common.{◌≡◌, ℕ, suc, ◌+◌, ◌-◌, ◌/◌, ◌%◌, ◌<◌, List, [], ◌∷◌, ◌++◌, refl, sym, ap, ap₂, ◌∙◌, append_assoc, arith}
+use Rattle.std.proofs.Common.{◌≡◌, ℕ, suc, ◌+◌, ◌-◌, ◌/◌, ◌%◌, ◌<◌, List, [], ◌∷◌, ◌++◌, refl, sym, ap, ◌∙◌, append_assoc, arith}
 use Rattle.model_registers.specs.Cell.{Cell}
 use Rattle.model_registers.specs.Registers.{config, File, field, cells_from}
 use Rattle.config_bytes.specs.CellFile.{file_of}
@@ -13,23 +13,14 @@ push_byte : (xs : List (ℕ × Cell)) (a i w v rw w1c : ℕ) → i < w
     → file_of (xs ++ (a + i, record { value = v % 256; writable = rw % 256; clearable = w1c % 256 }) ∷ []) ++ field (config (a + (i + 1))) (w - (i + 1)) (v / 256) (rw / 256) (w1c / 256)
     ≡ file_of xs ++ field (config (a + i)) (w - i) v rw w1c
 push_byte xs a i w v rw w1c h =
-    let cell : Cell = record { value = v % 256; writable = rw % 256; clearable = w1c % 256 } in
     let left : w - i ≡ suc (w - (i + 1)) = omega arith in
-    let next : a + (i + 1) ≡ a + i + 1 = omega arith in
-    ap (λ (es : File). es ++ field (config (a + (i + 1))) (w - (i + 1)) (v / 256) (rw / 256) (w1c / 256)) (file_of-append xs ((a + i, cell) ∷ []))
-    ∙ append_assoc (file_of xs) (record { place = config (a + i); cell = cell } ∷ []) (field (config (a + (i + 1))) (w - (i + 1)) (v / 256) (rw / 256) (w1c / 256))
-    ∙ ap (λ (b : ℕ). file_of xs ++ record { place = config (a + i); cell = cell } ∷ field (config b) (w - (i + 1)) (v / 256) (rw / 256) (w1c / 256)) next
-    ∙ ap (λ (k : ℕ). file_of xs ++ field (config (a + i)) k v rw w1c) (sym left)
+    grind (arith, file_of-append, append_assoc)
 
 -- a loop's step, where what is known of the new values is equations
 pub pushed_byte : (old new : List (ℕ × Cell)) (a i w v rw w1c next_rw next_w1c : ℕ) (cell : Cell) (all : File) → i < w
     → cell ≡ record { value = v % 256; writable = rw % 256; clearable = w1c % 256 } → new ≡ old ++ (a + i, cell) ∷ [] → next_rw ≡ rw / 256 → next_w1c ≡ w1c / 256
     → file_of old ++ field (config (a + i)) (w - i) v rw w1c ≡ all → file_of new ++ field (config (a + (i + 1))) (w - (i + 1)) (v / 256) next_rw next_w1c ≡ all
-pushed_byte old new a i w v rw w1c next_rw next_w1c cell all h is grown r c before =
-    let byte : Cell = record { value = v % 256; writable = rw % 256; clearable = w1c % 256 } in
-    ap (λ (xs : List (ℕ × Cell)). file_of xs ++ field (config (a + (i + 1))) (w - (i + 1)) (v / 256) next_rw next_w1c) (grown ∙ ap (λ (x : Cell). old ++ (a + i, x) ∷ []) is)
-    ∙ ap₂ (λ m k. file_of (old ++ (a + i, byte) ∷ []) ++ field (config (a + (i + 1))) (w - (i + 1)) (v / 256) m k) r c
-    ∙ push_byte old a i w v rw w1c h ∙ before
+pushed_byte old new a i w v rw w1c next_rw next_w1c cell all h is grown r c before = grind (arith, push_byte)
 
 pub pushed_cell : (old new : List (ℕ × Cell)) (at : ℕ) (cell : Cell) (left rest : List Cell) (all : File) → left ≡ cell ∷ rest → new ≡ old ++ (at, cell) ∷ []
     → file_of old ++ cells_from (config at) left ≡ all → file_of new ++ cells_from (config (at + 1)) rest ≡ all
@@ -44,9 +35,4 @@ pushed_cell old new at cell left rest all is grown before =
 pub appended : (none first second third all : List (ℕ × Cell)) (h m i p : File) → none ≡ []
     → file_of first ≡ file_of none ++ h → file_of second ≡ file_of first ++ m → file_of third ≡ file_of second ++ i → file_of all ≡ file_of third ++ p
     → file_of all ≡ h ++ (m ++ i ++ p)
-appended none first second third all h m i p empty a b c d =
-    let start : file_of first ≡ h = a ∙ ap (λ (xs : List (ℕ × Cell)). file_of xs ++ h) empty in
-    d
-    ∙ ap (λ (x : File). x ++ p) (c ∙ ap (λ (x : File). x ++ i) (b ∙ ap (λ (x : File). x ++ m) start))
-    ∙ ap (λ (x : File). x ++ p) (append_assoc h m i)
-    ∙ append_assoc h (m ++ i) p
+appended none first second third all h m i p empty a b c d = grind (arith, append_assoc)

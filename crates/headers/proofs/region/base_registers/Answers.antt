@@ -1,8 +1,7 @@
-use Rattle.std.proofs.Common.{◌≡◌, List, map, take, sym, ap, subst, ◌∙◌, arith}
+use Rattle.std.proofs.Common.{◌≡◌, sym, ap, subst, ◌∙◌, arith}
 use Rattle.std.proofs.lemmas.List.{take_all}
 use Rattle.model_registers.proofs.Bases.{registers_positive}
-use Rattle.model_registers.specs.Declarations.{Bar, Region, IsLawfulRegion, HasLawfulRegions}
-use Rattle.model_registers.specs.EndpointTable.{BaseAddress, opened, closed}
+use Rattle.model_registers.specs.Declarations.{Bar, Region, IsLawfulRegion}
 use Rattle.headers.proofs.BaseRegisters.{each_at, next_register, opened_lawful}
 use Rattle.headers.proofs.region.base_registers.Goals as goal
 
@@ -18,7 +17,4 @@ loop-region-preserved c =
     (ap (λ (q : Region). let b : Bar = record { kind = q.kind; size = q.size } in b) c.region.view_is) c.loop-region.invariant
 
 pub returns-clause-lawful : goal.returns-clause-lawful
-returns-clause-lawful c =
-    let rs = c.args.regions.now in
-    let all : take c.loop-region.region-index rs ≡ rs = take_all c.loop-region.region-index rs (omega arith) in
-    subst (λ (bs : List BaseAddress). HasLawfulRegions (map opened bs)) (sym (c.loop-region.invariant.made ∙ ap (map closed) all)) (opened_lawful rs c.requires)
+returns-clause-lawful c = grind (arith, take_all, opened_lawful)

@@ -1,8 +1,8 @@
 -- A word read by the enables of a number holds that number in its lanes.
-use Rattle.std.proofs.Common.{◌≡◌, ◌*◌, ◌/◌, ◌^◌, ◌<◌, arith}
+use Rattle.std.proofs.Common.{◌≡◌, ◌*◌, ◌/◌, arith}
 use Rattle.std.proofs.Math.Nat.{one-le-pow}
 use Rattle.model_registers.specs.Registers.{config, read}
-use Rattle.model_registers.specs.ByteEnables.{lanes, enables_of, enabled_bytes, from_lanes}
+use Rattle.model_registers.specs.ByteEnables.{lanes, enables_of, enabled_bytes}
 use Rattle.model_registers.proofs.ByteAccesses.{number_from_word}
 use Rattle.headers.proofs.words.number.Goals as goal
 
@@ -12,14 +12,10 @@ returns-clause-value c =
     let off = c.args.off in
     let width = c.args.width in
     let word = c.read-word.result in
-    let enables : c.enables_of.result ≡ enables_of off width = cc in
     let shown : word ≡ read file (config (off / 4 * 4)) (lanes (enables_of off width)) = cc in
     let alone : word ≡ enabled_bytes (lanes (enables_of off width)) word = cc in
     let law = number_from_word file (config off) width word c.requires shown alone in
-    cc
+    grind arith
 
 pub returns-clause-fits : goal.returns-clause-fits
-returns-clause-fits c =
-    let some : 0 < 256 ^ c.args.width = one-le-pow c.args.width 256 (omega arith) in
-    let shown : c.from_lanes.result ≡ from_lanes c.args.off c.args.width c.read-word.result = cc in
-    rw shown (omega arith)
+returns-clause-fits c = grind (arith, one-le-pow)

@@ -4,6 +4,4 @@ use Rattle.headers.proofs.Units.{ends_unit}
 use Rattle.headers.proofs.apertures.Aperture.is_of_units.Goals as goal
 
 pub returns-then-self-unit-eq0 : goal.returns-then-self-unit-eq0
-returns-then-self-unit-eq0 c =
-    let ends = ends_unit c.self.inside.last c.args.unit c.requires in
-    grind (arith, common_steps)
+returns-then-self-unit-eq0 c = grind (arith, ends_unit, common_steps)

@@ -1,5 +1,5 @@
 -- The sort puts the regions into register order, and leaves a lawful declaration.
-use Rattle.std.proofs.Common.{◌≡◌, List, None, Some, Ok, sym, ap, ◌∙◌, subst, rules}
+use Rattle.std.proofs.Common.{◌≡◌, List, None, Ok, sym, ap, ◌∙◌, subst, rules, arith}
 use Rattle.std.specs.List.Sorted.{IsNonDecreasingBy}
 use Rattle.std.proofs.lemmas.List.Sorted.{IsNonDecreasingBy-from_sort_by_key}
 use Rattle.lists.specs.Elements.{Each}
@@ -7,7 +7,6 @@ use Rattle.model_registers.specs.Declarations.{Region, Endpoint, IsLawfulSize}
 use Rattle.model_registers.specs.DeclarationRules.{first_broken, endpoint_rules, with_ordered_regions, IsLawfulEndpoint}
 use Rattle.model_registers.proofs.LawfulDeclarations.{own_registers, sorted_is_lawful, lawful_breaks_none}
 use Rattle.model_registers.proofs.RegisterOrder.{sorted_is_in_register_order, lawful_are_in_register_order}
-use Rattle.headers.specs.Faults.{number_of}
 use Rattle.headers.specs.Values.{endpoint_of}
 use Rattle.headers.proofs.endpoint_decl.EndpointDecl.new.Goals as goal
 
@@ -48,10 +47,7 @@ returns-clause-complete c h =
     ap Ok (declared c ∙ ap (λ (rs : List Region). record v { regions = rs }) (lawful_are_in_register_order v.regions h.regions))
 
 pub returns-in-Some-clause-complete : goal.returns-in-Some-clause-complete
-returns-in-Some-clause-complete c h =
-    let none : first_broken (endpoint_rules c.args.values) ≡ None = lawful_breaks_none c.args.values h in
-    let some : Some (number_of c.in-Some.fault) ≡ first_broken (endpoint_rules c.args.values) = c.in-Some.ensures.first in
-    cc
+returns-in-Some-clause-complete c h = grind (arith, lawful_breaks_none)
 
 pub returns-clause-declared : goal.returns-clause-declared
 returns-clause-declared c = declared c
