@@ -1,5 +1,5 @@
 -- The own copies in numbers: what a word of them reads, and what a write leaves.
-use Rattle.std.proofs.Common.{◌≡◌, ℕ, ◌+◌, ◌-◌, ◌*◌, ◌/◌, ◌^◌, ◌<◌, ◌≤◌, ◌⊎◌, inl, inr, Bool, true, false, List, [], ◌∷◌, ◌++◌, length, map, sym, subst, ap, ap₂, ◌∙◌, arith, lit<, lit≤, zero-add}
+use Rattle.std.proofs.Common.{◌≡◌, ℕ, ◌+◌, ◌-◌, ◌*◌, ◌/◌, ◌^◌, ◌<◌, ◌≤◌, ◌⊎◌, inl, inr, Bool, List, [], ◌∷◌, ◌++◌, length, map, sym, ap, ap₂, ◌∙◌, arith, lit<, lit≤, zero-add}
 use Rattle.std.specs.Prelude.{bit_and, bit_or}
 use Rattle.std.proofs.lemmas.Nat.{and_block, and_le_l, and_le_r, or_lt}
 use Rattle.lists.specs.Elements.{Each}
@@ -7,11 +7,11 @@ use Rattle.model_registers.specs.Registers.{config, File, read, write}
 use Rattle.model_registers.specs.ByteEnables.{is_enabled, lanes, enabled_bits}
 use Rattle.model_registers.specs.RegisterLaws.{merged}
 use Rattle.model_registers.specs.Declarations.{registers_of, IsLawfulRegion}
-use Rattle.model_registers.specs.EndpointTable.{base_register, base_width, type_bits, BaseAddress, register_cells, base_file, command_cells, opened}
+use Rattle.model_registers.specs.EndpointTable.{base_register, BaseAddress, base_file, command_cells, opened}
 use Rattle.model_registers.specs.OwnCopies.{OwnCopies, own_file, IsLawfulOwn}
 use Rattle.guest_functions.specs.declared.word.Word.{Word}
 use Rattle.guest_functions.specs.declared.word.Word.TheVariants.{HeaderType, Other}
-use Rattle.guest_functions.specs.Words.{IsAt, IsOther}
+use Rattle.guest_functions.specs.Words.{IsAt}
 use Rattle.model_registers.proofs.Bases.{four}
 use Rattle.model_registers.proofs.EnabledBytes.{read_field, write_field}
 use Rattle.model_registers.proofs.Parts.{IsApart, read_apart, write_apart, write_append, write_none, read_none, read_above, field_below}
@@ -19,22 +19,15 @@ use Rattle.model_registers.proofs.Parts.{IsApart, read_apart, write_apart, write
 -- ---- words without base address registers
 
 base_apart : (b : BaseAddress) (n off : ℕ) → b.index + registers_of b.kind ≤ 6 → (off + n ≤ 0x10) ⊎ (0x28 ≤ off) → IsApart n off (0x10 + 4 * b.index) (4 * registers_of b.kind)
-base_apart b n off within (inl low) = inl (omega arith)
-base_apart b n off within (inr high) = inr (omega arith)
+base_apart b n off within low = grind arith
 
 bases_unread : (bs : List BaseAddress) → Each IsLawfulRegion (map opened bs) → (ons : List Bool) (off : ℕ) → (off + length ons ≤ 0x10) ⊎ (0x28 ≤ off) → read (base_file bs) (config off) ons ≡ 0
 bases_unread [] lawful ons off h = read_none ons (config off)
-bases_unread (b ∷ bs) lawful ons off h =
-    read_apart ons off (4 * registers_of b.kind) (0x10 + 4 * b.index) (b.base + type_bits b.kind) (2 ^ base_width b.kind - b.size) 0 (base_file bs) (base_apart b (length ons) off lawful.0.registers h)
-    ∙ bases_unread bs lawful.1 ons off h
+bases_unread (b ∷ bs) lawful ons off h = grind (arith, bases_unread bs, read_apart, base_apart)
 
 bases_unwritten : (bs : List BaseAddress) → Each IsLawfulRegion (map opened bs) → (ons : List Bool) (x off : ℕ) → (off + length ons ≤ 0x10) ⊎ (0x28 ≤ off) → write ons x (config off) (base_file bs) ≡ base_file bs
 bases_unwritten [] lawful ons x off h = write_none ons x (config off)
-bases_unwritten (b ∷ bs) lawful ons x off h =
-    write_append ons x (config off) (register_cells b) (base_file bs)
-    ∙ ap₂ (λ (one more : File). one ++ more)
-    (write_apart ons x off (4 * registers_of b.kind) (0x10 + 4 * b.index) (b.base + type_bits b.kind) (2 ^ base_width b.kind - b.size) 0 (base_apart b (length ons) off lawful.0.registers h))
-    (bases_unwritten bs lawful.1 ons x off h)
+bases_unwritten (b ∷ bs) lawful ons x off h = grind (arith, bases_unwritten bs, write_append, write_apart, base_apart)
 
 -- ---- a word of no own copies with cells
 
@@ -43,8 +36,7 @@ pub record IsAway (off : ℕ) : Type 0 where
   pub bases : (off + 4 ≤ 0x10) ⊎ (0x28 ≤ off)
 
 apart_from_command : (off : ℕ) → (off + 4 ≤ 4) ⊎ (6 ≤ off) → IsApart 4 off 4 2
-apart_from_command off (inl low) = inl low
-apart_from_command off (inr high) = inr high
+apart_from_command off low = grind arith
 
 pub away_read : (own : OwnCopies) → IsLawfulOwn own → (p q r s : Bool) (off : ℕ) → IsAway off → read (own_file own) (config off) (four p q r s) ≡ 0
 away_read own lawful p q r s off h =
@@ -71,10 +63,7 @@ base_write own p q r s x reg =
 
 -- the enabled bits of a word, by its halves
 low_bits : (p q : Bool) → enabled_bits (p ∷ q ∷ []) < 2 ^ 16
-low_bits true true = lit< tt
-low_bits true false = lit< tt
-low_bits false true = lit< tt
-low_bits false false = lit< tt
+low_bits p q = grind arith
 
 halves : (p q r s : Bool) → enabled_bits (four p q r s) ≡ enabled_bits (r ∷ s ∷ []) * 2 ^ 16 + enabled_bits (p ∷ q ∷ [])
 halves p q r s = omega arith
@@ -117,21 +106,11 @@ command_fits c x m hc hm = or_lt 16 (bit_and c (2 ^ 32 - 1 - m)) (bit_and x m) (
 
 -- ---- by the word at an offset
 
-away_of_header_type : (off : ℕ) → off ≡ 0x0c → IsAway off
-away_of_header_type off e = record { command = inr (omega arith); bases = inl (omega arith) }
-
-away_of_other : (off : ℕ) → IsOther off → IsAway off
-away_of_other off (inl e) = record { command = inl (omega arith); bases = inl (omega arith) }
-away_of_other off (inr (inl e)) = record { command = inr (omega arith); bases = inl (omega arith) }
-away_of_other off (inr (inr h)) = record { command = inr (omega arith); bases = inr h }
-
 pub is_away : (off : ℕ) (w : Word) → IsAt off w → (w ≡ HeaderType) ⊎ (w ≡ Other) → IsAway off
-is_away off w at (inl e) = away_of_header_type off (subst (IsAt off) e at)
-is_away off w at (inr e) = away_of_other off (subst (IsAt off) e at)
+is_away off w at e = grind arith
 
 pub at_command : (own : OwnCopies) → IsLawfulOwn own → own.command < 2 ^ 16 → (enables off : ℕ) → off ≡ 4 → bit_and own.command (enabled_bits (lanes enables)) ≡ read (own_file own) (config off) (lanes enables)
-at_command own lawful small enables off e =
-    sym (command_read own lawful small (is_enabled enables 0) (is_enabled enables 1) (is_enabled enables 2) (is_enabled enables 3)) ∙ ap (λ a. read (own_file own) (config a) (lanes enables)) (sym e)
+at_command own lawful small enables off e = grind (arith, command_read)
 
 pub at_base : (own : OwnCopies) (enables off reg : ℕ) → off ≡ 0x10 + 4 * reg → read (base_file own.bases) (base_register reg) (lanes enables) ≡ read (own_file own) (config off) (lanes enables)
 at_base own enables off reg e = sym (base_read own (lanes enables) reg) ∙ ap (λ a. read (own_file own) (config a) (lanes enables)) (sym e)
@@ -146,9 +125,7 @@ store_command own lawful enables x off e =
 
 pub store_base : (own : OwnCopies) (bases : List BaseAddress) (enables x off reg : ℕ) → off ≡ 0x10 + 4 * reg → base_file bases ≡ write (lanes enables) x (base_register reg) (base_file own.bases)
     → own_file (record own { bases = bases }) ≡ write (lanes enables) x (config off) (own_file own)
-store_base own bases enables x off reg e stored =
-    ap (λ (f : File). command_cells own.command ++ f) stored
-    ∙ sym (base_write own (is_enabled enables 0) (is_enabled enables 1) (is_enabled enables 2) (is_enabled enables 3) x reg) ∙ ap (λ a. write (lanes enables) x (config a) (own_file own)) (sym e)
+store_base own bases enables x off reg e stored = grind (arith, base_write)
 
 pub store_away : (own : OwnCopies) → IsLawfulOwn own → (enables x off : ℕ) → IsAway off → own_file own ≡ write (lanes enables) x (config off) (own_file own)
 store_away own lawful enables x off away = sym (away_write own lawful (is_enabled enables 0) (is_enabled enables 1) (is_enabled enables 2) (is_enabled enables 3) x off away)

@@ -1,5 +1,5 @@
 -- The byte enables that are handed on.
-use Rattle.std.proofs.Common.{◌≡◌, ℕ, ◌+◌, ◌-◌, ◌<◌, ◌≤◌, inl, inr, Bool, false, not, ◌&&◌, ◌||◌, min, List, [], ◌∷◌, refl, sym, subst, ap, ap₂, ◌∙◌, arith, eqb, leb, ltb}
+use Rattle.std.proofs.Common.{◌≡◌, ℕ, ◌+◌, ◌-◌, Bool, not, ◌&&◌, List, [], ◌∷◌, refl, ap, ap₂, ◌∙◌, arith}
 use Rattle.std.specs.Prelude.{bit_and}
 use Rattle.std.specs.Int.{bit_at}
 use Rattle.std.proofs.lemmas.Nat.Bits.{bit_at_and, bit_at-lt}
@@ -10,23 +10,11 @@ use Rattle.model_registers.specs.ByteEnables.{is_enabled, lanes}
 use Rattle.model_registers.specs.OwnCopies.{is_own, handed_on}
 use Rattle.model_registers.proofs.Owned.{base_is_own}
 use Rattle.guest_functions.specs.declared.word.Word.{Word}
-use Rattle.guest_functions.specs.declared.word.Word.TheVariants.{Command, HeaderType, Base, Other}
 use Rattle.guest_functions.specs.Words.{IsAt, own_lanes}
-
-both_bits : (b c : ℕ) → b < 2 → c < 2 → eqb (min (min b 1) c) 1 ≡ (eqb b 1 && eqb c 1)
-both_bits b c hb hc = grind (arith, nat_tests)
 
 -- a lane of four that is enabled, and not masked
 kept_lane : (enables m i : ℕ) → bit_at 15 i ≡ 1 → is_enabled (bit_and (bit_and enables 15) m) i ≡ (is_enabled enables i && is_enabled m i)
-kept_lane enables m i four =
-    ap (λ n. eqb n 1) (bit_at_and (bit_and enables 15) m i ∙ ap (λ n. min n (bit_at m i)) (bit_at_and enables 15 i ∙ ap (min (bit_at enables i)) four))
-    ∙ both_bits (bit_at enables i) (bit_at m i) (bit_at-lt enables i) (bit_at-lt m i)
-
-above_not_own : (q : ℕ) → 0x28 ≤ q → is_own (config q) ≡ false
-above_not_own q h =
-    or_from (eqb q 4 || eqb q 5 || eqb q 0x0e) (leb 0x10 q && ltb q 0x28)
-    (or_from (eqb q 4 || eqb q 5) (eqb q 0x0e) (or_from (eqb q 4) (eqb q 5) (ne_eqb q 4 (λ e. omega arith)) (ne_eqb q 5 (λ e. omega arith))) (ne_eqb q 0x0e (λ e. omega arith)))
-    (and_right (leb 0x10 q) (ltb q 0x28) (le-ltb q 0x28 h))
+kept_lane enables m i four = grind (arith, bit_at_and, bit_at-lt, nat_tests)
 
 -- the lanes of a word that are no own copies
 record IsRest (off m : ℕ) : Type 0 where
@@ -36,22 +24,7 @@ record IsRest (off m : ℕ) : Type 0 where
   fourth : is_enabled m 3 ≡ not (is_own (config (off + 1 + 1 + 1)))
 
 rest_of : (off : ℕ) (w : Word) → IsAt off w → IsRest off (255 - own_lanes w)
-rest_of off Command e = subst (λ n. IsRest n 252) (sym e) (record { first = refl; second = refl; third = refl; fourth = refl })
-rest_of off HeaderType e = subst (λ n. IsRest n 251) (sym e) (record { first = refl; second = refl; third = refl; fourth = refl })
-rest_of off (Base reg) (e, within) = record {
-  first = ap not (sym (base_is_own off (omega arith) (omega arith)));
-  second = ap not (sym (base_is_own (off + 1) (omega arith) (omega arith)));
-  third = ap not (sym (base_is_own (off + 1 + 1) (omega arith) (omega arith)));
-  fourth = ap not (sym (base_is_own (off + 1 + 1 + 1) (omega arith) (omega arith)));
-}
-rest_of off Other (inl e) = subst (λ n. IsRest n 255) (sym e) (record { first = refl; second = refl; third = refl; fourth = refl })
-rest_of off Other (inr (inl e)) = subst (λ n. IsRest n 255) (sym e) (record { first = refl; second = refl; third = refl; fourth = refl })
-rest_of off Other (inr (inr h)) = record {
-  first = ap not (sym (above_not_own off h));
-  second = ap not (sym (above_not_own (off + 1) (omega arith)));
-  third = ap not (sym (above_not_own (off + 1 + 1) (omega arith)));
-  fourth = ap not (sym (above_not_own (off + 1 + 1 + 1) (omega arith)));
-}
+rest_of off w e = grind (arith, base_is_own, or_from, ne_eqb, and_right, le-ltb)
 
 pub handed : (off enables own : ℕ) (w : Word) → own ≡ own_lanes w → IsAt off w → lanes (bit_and (bit_and enables 15) (255 - own)) ≡ handed_on (config off) (lanes enables)
 handed off enables own w e at =
