@@ -1,8 +1,11 @@
 -- A board as it was found: each row keeps its path, whether it is a bridge, its regions but for their cells, and its decodes.
-use Rattle.std.proofs.Common.{◌≡◌, ℕ, ◌+◌, ◌≤◌, Bool, ◌&&◌, ◌||◌, cond, List, [], ◌∷◌, ◌++◌, length, Option, Some, refl, sym, ap, ap₂, ◌∙◌, subst, ◌⊎◌, arith, rules, zero, suc, not}
+use Rattle.std.proofs.Common.{◌≡◌, ℕ, ◌+◌, ◌≤◌, Bool, ◌&&◌, ◌||◌, cond, List, [], ◌∷◌, ◌++◌, length, Some, refl, sym, ap, ap₂, ◌∙◌, subst, ◌⊎◌, arith, rules, zero, suc}
 use Rattle.std.specs.Prelude.{map, filter, flat_map, IsTrue, count_by}
 use Rattle.std.specs.List.{list_all, list_any}
 use Rattle.std.proofs.lemmas.List.{map-append}
+use Rattle.std.proofs.lemmas.List.Folds.{list_all-map, flat_map-map}
+use Rattle.lists.proofs.EachLemmas.{each_map, each_of_map}
+use Rattle.lists.proofs.Members.{pairs_of_map}
 use Rattle.std.proofs.lemmas.List.Sums.{sum_by-cons}
 use Rattle.lists.specs.Elements.{Each, EachPair}
 use Rattle.model_registers.specs.Declarations.{Kind, Region, IsLawfulRegion, registers_of, Endpoint, Bridge}
@@ -10,9 +13,9 @@ use Rattle.model_registers.specs.OwnCopies.{bare}
 use Rattle.model_board.specs.Paths.{Path, path_eq, path_before, leads_to, parent, IsPath, function_zero, last_part}
 use Rattle.model_board.specs.Board.{Decl, endpoint, bridge, is_bridge, Row, Board, stands_at, is_bridge_at, IsBoard, rows_on}
 use Rattle.model_board.specs.BusNumbers.{secondary, subordinate, bus_behind, bus_of, Enumerates}
-use Rattle.model_board.specs.Lawful.{IsLawfulDecl, HasLawfulDecls}
-use Rattle.model_registers.specs.Apertures.{Aperture, Apertures}
-use Rattle.model_set_up.specs.Pools.{bridge_of, bridges_above, pref_or_mem, pool_of, Pool, io_pool, mem_pool, pref_pool, unit_of, same_pool, has_io, is_io, opens_io, has_io_paths}
+use Rattle.model_board.specs.Lawful.{HasLawfulDecls}
+use Rattle.model_registers.specs.Apertures.{Apertures}
+use Rattle.model_set_up.specs.Pools.{bridge_of, bridges_above, pool_of, Pool, io_pool, mem_pool, pref_pool, unit_of, same_pool, has_io, is_io, opens_io, has_io_paths}
 use Rattle.model_set_up.specs.FunctionTable.{met_endpoint, met_bridge, found_decl, range_behind, table_row, sized_table, board_in, PlacedAsFound}
 use Rattle.model_board.proofs.BusNumbers.{bridges, bridges-cons}
 use Rattle.model_board.proofs.PathOrder.{one}
@@ -22,7 +25,6 @@ use Rattle.model_set_up.specs.Placement.{Item, a_region, a_window, region_item, 
 use Rattle.model_set_up.specs.Layout.{row_of, bus_rows, buses, pool_rows, layout}
 use Rattle.model_set_up.specs.SetUp.{first_of, command_of, window_of, set_up_window}
 use Rattle.model_set_up.specs.SetUpWrites.{placed_base, windows_of, writes_of, planned, placement_rules}
-use Rattle.model_set_up.specs.Reach.{address_of}
 
 abbrev pub found_endpoint : Endpoint → Endpoint
 found_endpoint d = record (met_endpoint d) { regions = map bare d.regions }
@@ -56,31 +58,19 @@ bare_twice (r ∷ rs) = ap (λ (ss : List Region). bare r ∷ ss) (bare_twice rs
 pub found_twice : (d : Decl) → found_decl (found_decl d) ≡ found_decl d
 found_twice d = grind (arith, bare_twice)
 
-bare_region : (r : Region) → IsLawfulRegion r → IsLawfulRegion (bare r)
-bare_region r h = record { registers = h.registers; size_is_lawful = h.size_is_lawful; block_fits = omega arith }
-
 bare_each : (rs : List Region) → Each IsLawfulRegion rs → Each IsLawfulRegion (map bare rs)
-bare_each [] h = tt
-bare_each (r ∷ rs) h = (bare_region r h.0, bare_each rs h.1)
-
-bare_after : (n : ℕ) (rs : List Region) → Each (λ r. n ≤ r.index) rs → Each (λ r. n ≤ r.index) (map bare rs)
-bare_after n [] h = tt
-bare_after n (r ∷ rs) h = (h.0, bare_after n rs h.1)
+bare_each rs h = grind (arith, each_of_map, each_map)
 
 bare_order : (rs : List Region) → EachPair (λ r s. r.index + registers_of r.kind ≤ s.index) rs → EachPair (λ r s. r.index + registers_of r.kind ≤ s.index) (map bare rs)
-bare_order [] h = tt
-bare_order (r ∷ rs) h = (bare_after (r.index + registers_of r.kind) rs h.0, bare_order rs h.1)
+bare_order rs h = pairs_of_map (λ r s. r.index + registers_of r.kind ≤ s.index) bare rs h
 
 bare_blocks : (rs : List Region) → Each (λ r. length r.cells ≤ 4096) (map bare rs)
 bare_blocks [] = tt
 bare_blocks (r ∷ rs) = (omega arith, bare_blocks rs)
 
-found_lawful : (d : Decl) → IsLawfulDecl d → IsLawfulDecl (found_decl d)
-found_lawful d h = grind (arith, bare_each, bare_order, bare_blocks)
-
 pub found_decls : (b : Board) → HasLawfulDecls b → HasLawfulDecls (found_board b)
 found_decls [] h = tt
-found_decls (r ∷ b) h = (found_lawful r.decl h.0, found_decls b h.1)
+found_decls (r ∷ b) h = grind (arith, found_decls b, bare_each, bare_order, bare_blocks)
 
 -- ---- places
 
@@ -92,24 +82,15 @@ found_stands : (b : Board) (p : Path) → stands_at (found_board b) p ≡ stands
 found_stands [] p = refl
 found_stands (r ∷ b) p = ap (λ t. path_eq r.path p || t) (found_stands b p)
 
--- what holds of the paths
-each_path : (P : Path → Type 0) (b : Board) → Each (λ r. P r.path) b → Each (λ r. P r.path) (found_board b)
-each_path P [] h = tt
-each_path P (r ∷ b) h = (h.0, each_path P b h.1)
-
-found_order : (b : Board) → EachPair (λ r s. IsTrue (path_before r.path s.path)) b → EachPair (λ r s. IsTrue (path_before r.path s.path)) (found_board b)
-found_order [] h = tt
-found_order (r ∷ b) h = (each_path (λ p. IsTrue (path_before r.path p)) b h.0, found_order b h.1)
-
 pub found_places : (b : Board) → IsBoard b → IsBoard (found_board b)
 found_places b h = record {
-  paths = each_path IsPath b h.paths;
-  in_order = found_order b h.in_order;
+  paths = each_of_map (λ (r : Row). IsPath r.path) found_row b h.paths;
+  in_order = pairs_of_map (λ (r s : Row). IsTrue (path_before r.path s.path)) found_row b h.in_order;
   behind_bridges =
-      each_path (λ p. (parent p ≡ []) ⊎ IsTrue (is_bridge_at (found_board b) (parent p))) b
+      each_of_map (λ (r : Row). (parent r.path ≡ []) ⊎ IsTrue (is_bridge_at (found_board b) (parent r.path))) found_row b
       (subst (λ (f : Path → Bool). Each (λ (r : Row). (parent r.path ≡ []) ⊎ IsTrue (f (parent r.path))) b) (λ i p. sym (found_bridge_at b p) i) h.behind_bridges);
   function_zeros =
-      each_path (λ p. IsTrue (stands_at (found_board b) (function_zero p))) b
+      each_of_map (λ (r : Row). IsTrue (stands_at (found_board b) (function_zero r.path))) found_row b
       (subst (λ (f : Path → Bool). Each (λ (r : Row). IsTrue (f (function_zero r.path))) b) (λ i p. sym (found_stands b p) i) h.function_zeros);
 }
 
@@ -146,8 +127,7 @@ map_found f g h [] = refl
 map_found f g h (r ∷ b) = ap₂ ◌∷◌ (h r) (map_found f g h b)
 
 pub flat_map_found : {A : Type 0} (f g : Row → List A) → ((r : Row) → f (found_row r) ≡ g r) → (b : Board) → flat_map f (found_board b) ≡ flat_map g b
-flat_map_found f g h [] = refl
-flat_map_found f g h (r ∷ b) = ap₂ ◌++◌ (h r) (flat_map_found f g h b)
+flat_map_found f g h b = flat_map-map f found_row b ∙ (λ i. flat_map (λ (r : Row). h r i) b)
 
 pub filter_found : (p q : Row → Bool) → ((r : Row) → p (found_row r) ≡ q r) → (b : Board) → filter p (found_board b) ≡ found_board (filter q b)
 filter_found p q h [] = refl
@@ -155,25 +135,18 @@ filter_found p q h (r ∷ b) = search (rules, filter_found p q h b)
 
 -- ---- the bridges above
 
-found_bridge_of : (p : Path) (d : Decl) → bridge_of (record { path = p; decl = found_decl d }) ≡ map found_bridge (bridge_of (record { path = p; decl = d }))
-found_bridge_of p d = grind arith
-
 found_bridges : (b : Board) → flat_map bridge_of (found_board b) ≡ map found_bridge (flat_map bridge_of b)
 found_bridges [] = refl
-found_bridges (r ∷ b) = ap₂ ◌++◌ (found_bridge_of r.path r.decl) (found_bridges b) ∙ sym (map-append found_bridge (bridge_of r) (flat_map bridge_of b))
+found_bridges (r ∷ b) = grind (arith, found_bridges b, map-append)
 
 pub found_above : (b : Board) (p : Path) → bridges_above (found_board b) p ≡ map found_bridge (bridges_above b p)
 found_above b p = ap (flat_map bridge_of) (filter_found (λ r. leads_to r.path p) (λ r. leads_to r.path p) (λ r. refl) b) ∙ found_bridges (filter (λ r. leads_to r.path p) b)
 
 pub all_found : (t : Bridge → Bool) → ((d : Bridge) → t (found_bridge d) ≡ t d) → (ds : List Bridge) → list_all t (map found_bridge ds) ≡ list_all t ds
-all_found t h [] = refl
-all_found t h (d ∷ ds) = ap₂ ◌&&◌ (h d) (all_found t h ds)
-
-pref_found : (m : Option Aperture) (ds : List Bridge) (wide : Bool) → pref_or_mem m (map found_bridge ds) wide ≡ pref_or_mem m ds wide
-pref_found m ds wide = grind (arith, all_found)
+all_found t h ds = list_all-map t found_bridge ds ∙ (λ i. list_all (λ (d : Bridge). h d i) ds)
 
 pub found_pool : (b : Board) (a : Apertures) (p : Path) (k : Kind) → pool_of a (bridges_above (found_board b) p) k ≡ pool_of a (bridges_above b p) k
-found_pool b a p k = grind (arith, found_above, pref_found)
+found_pool b a p k = grind (arith, found_above, all_found)
 
 -- ---- a board as it was found is placed as the board is: placement looks at paths, kinds, sizes and decodes alone
 
@@ -202,9 +175,7 @@ items_found b a pool (suc n) bus =
 module _ (b c : Board) (a : Apertures) (pool : Pool) (same : (bus : Path) → items_on c a pool bus ≡ items_on b a pool bus) where
   first_below_same : (n : ℕ) (above : Path) (ps : Path) → first_below c a pool n above ps ≡ first_below b a pool n above ps
   first_below_same n above [] = refl
-  first_below_same n above (p ∷ ps) =
-      first_below_same (n + offset_on c a pool above p a_window) (above ++ p ∷ []) ps
-      ∙ ap (λ (is : List Item). first_below b a pool (n + offset_in (spots is) p a_window) (above ++ p ∷ []) ps) (same above)
+  first_below_same n above (p ∷ ps) = grind (arith, first_below_same (n + offset_on c a pool above p a_window) (above ++ p ∷ []) ps)
 
   pub bus_first_same : (bus : Path) → bus_first c a pool bus ≡ bus_first b a pool bus
   bus_first_same bus =
@@ -269,11 +240,8 @@ module _ (b : Board) (a : Apertures) where
   writes_found : (p : Path) (d : Decl) → writes_of (found_board b) a p (found_decl d) ≡ writes_of b a p d
   writes_found p d = grind (arith, command_found, bases_found, windows_found)
 
-  address_found : (p : Path) → address_of (found_board b) p ≡ address_of b p
-  address_found p = λ i. record { bus = found_bus b p i; part = last_part p }
-
   pub planned_found : planned (found_board b) a ≡ planned b a
-  planned_found = grind (arith, layout_found, map_found, address_found, writes_found)
+  planned_found = grind (arith, layout_found, map_found, writes_found, found_bus)
 
   -- ---- what is refused
 
@@ -284,14 +252,8 @@ module _ (b : Board) (a : Apertures) where
   io_test : (p : Path) → list_all (λ d. has_io d.io) (bridges_above (found_board b) p) ≡ list_all (λ d. has_io d.io) (bridges_above b p)
   io_test p = ap (list_all (λ d. has_io d.io)) (found_above b p) ∙ all_found (λ d. has_io d.io) (λ d. refl) (bridges_above b p)
 
-  all_rows : (t u : Row → Bool) → ((r : Row) → t (found_row r) ≡ u r) → (c : Board) → list_all t (found_board c) ≡ list_all u c
-  all_rows t u h [] = refl
-  all_rows t u h (r ∷ c) = ap₂ ◌&&◌ (h r) (all_rows t u h c)
-
   io_paths_found : has_io_paths (found_board b) ≡ has_io_paths b
-  io_paths_found =
-      all_rows (λ r. not (opens_io r.decl) || list_all (λ d. has_io d.io) (bridges_above (found_board b) r.path)) (λ r. not (opens_io r.decl) || list_all (λ d. has_io d.io) (bridges_above b r.path))
-      (λ r. ap₂ (λ t u. not t || u) (opens_found r.decl) (io_test r.path)) b
+  io_paths_found = grind (arith, opens_found, io_test, list_all-map)
 
   pub rules_found : placement_rules (found_board b) a ≡ placement_rules b a
   rules_found = λ i. (202, io_paths_found i) ∷ (203, fits_same b (found_board b) a io_pool (on_bus io_pool) i) ∷ (204, fits_same b (found_board b) a mem_pool (on_bus mem_pool) i) ∷ (205, fits_same b (found_board b) a pref_pool (on_bus pref_pool) i) ∷ []

@@ -1,5 +1,5 @@
 -- Regions that share no address: one at most holds an address, so their order doesn't count.
-use Rattle.std.proofs.Common.{◌≡◌, ℕ, ◌+◌, ◌≤◌, ◌<◌, inl, inr, Bool, true, false, List, [], ◌∷◌, None, refl, sym, ap, ◌∙◌, rules, arith}
+use Rattle.std.proofs.Common.{◌≡◌, ℕ, ◌+◌, ◌≤◌, ◌<◌, inl, inr, Bool, true, false, List, [], ◌∷◌, None, refl, sym, ◌∙◌, rules, arith}
 use Rattle.std.specs.Prelude.{flat_map}
 use Rattle.std.specs.List.{list_any}
 use Rattle.std.specs.Option.{option_to_list}
@@ -44,14 +44,7 @@ one_at_most space n (q ∷ qs) apart = search (rules, none_held, holds_is, one_a
 -- the holder is the first
 pub holder_first : (space : Space) (n : ℕ) (q : PlacedRegion) (qs : List PlacedRegion) → EachPair ShareNone qs → IsIn q qs → Holds space n q → first_some (claim_in space n) qs ≡ claim_in space n q
 holder_first space n q [] apart m h = absurd m
-holder_first space n q (t ∷ qs) apart (inl e) h = let here : holds space n t ≡ true = ap (holds space n) (sym e) ∙ is_held space n q h in rw here (sym (ap (claim_in space n) e ∙ rw here))
-holder_first space n q (t ∷ qs) apart (inr m) h = by_test (holds space n t) refl (holder_first space n q qs apart.1 m h)
-  where
-    by_test : (u : Bool) → holds space n t ≡ u → first_some (claim_in space n) qs ≡ claim_in space n q → first_some (claim_in space n) (t ∷ qs) ≡ claim_in space n q
-    by_test true e more =
-        let no : holds space n q ≡ false = not_held space n t q (holds_is space n t e) (each_in (ShareNone t) q qs apart.0 m) in
-        let bad : true ≡ false = sym (is_held space n q h) ∙ no in cc
-    by_test false e more = rw e more
+holder_first space n q (t ∷ qs) apart m h = grind (arith, is_held, holder_first space n q qs, not_held, holds_is, each_in)
 
 pub self_space : (space : Space) → same_space space space ≡ true
 self_space space = grind arith
@@ -65,10 +58,7 @@ one_holder space n q t qs apart m k h l = search (rules, pair_in, is_held, not_h
 -- a list whose holders are all q, and that has q, has q's claim first
 first_is : (space : Space) (n : ℕ) (q : PlacedRegion) (ts : List PlacedRegion) → Holds space n q → ((t : PlacedRegion) → IsIn t ts → Holds space n t → t ≡ q) → IsIn q ts → first_some (claim_in space n) ts ≡ claim_in space n q
 first_is space n q [] h one m = absurd m
-first_is space n q (t ∷ ts) h one m = by_test (holds space n t) refl m (λ k. first_is space n q ts h (λ u l. one u (inr l)) k)
-  where
-    by_test : (u : Bool) → holds space n t ≡ u → IsIn q (t ∷ ts) → (IsIn q ts → first_some (claim_in space n) ts ≡ claim_in space n q) → first_some (claim_in space n) (t ∷ ts) ≡ claim_in space n q
-    by_test u e k more = grind (arith, holds_is, is_held)
+first_is space n q (t ∷ ts) h one m = grind (arith, first_is space n q ts h, holds_is, is_held)
 
 none_first : (space : Space) (n : ℕ) (ts : List PlacedRegion) → ((t : PlacedRegion) → IsIn t ts → holds space n t ≡ false) → first_some (claim_in space n) ts ≡ None
 none_first space n [] h = refl

@@ -1,11 +1,10 @@
 -- Items in order are a sorted permutation, and on a bus the only one.
-use Rattle.std.proofs.Common.{◌≡◌, ℕ, zero, suc, ◌<◌, ◌⊎◌, inl, inr, Bool, true, false, ◌&&◌, cond, List, [], ◌∷◌, length, refl, sym, ap₂, ◌∙◌, subst, arith, eqb, All, IsPermutation, get_or, add-one}
+use Rattle.std.proofs.Common.{◌≡◌, ℕ, zero, suc, ◌<◌, ◌⊎◌, inl, inr, Bool, true, false, ◌&&◌, cond, List, [], ◌∷◌, length, refl, sym, ap₂, ◌∙◌, subst, arith, eqb, IsPermutation, get_or, add-one}
 use Rattle.std.specs.List.{IsDistinct}
 use Rattle.std.proofs.lemmas.Bool.Decides.{nat_tests}
-use Rattle.std.proofs.lemmas.List.Sorted.{IsPermutation-refl, IsPermutation-cons, IsPermutation-swap, IsPermutation-trans, IsPermutation-sym, All-permutation}
-use Rattle.std.proofs.lemmas.List.Elements.{All-cons, All-head, All-tail}
+use Rattle.std.proofs.lemmas.List.Sorted.{IsPermutation-refl, IsPermutation-cons, IsPermutation-swap, IsPermutation-trans, IsPermutation-sym}
 use Rattle.std.proofs.lemmas.Map.Keys.{IsDistinct-IsPermutation}
-use Rattle.lists.specs.Elements.{Each, EachPair, IsIn}
+use Rattle.lists.specs.Elements.{EachPair, IsIn}
 use Rattle.model_registers.specs.Declarations.{Region}
 use Rattle.model_board.specs.Paths.{Part, Path, part_eq}
 use Rattle.model_board.specs.Board.{Board, IsBoard}
@@ -16,18 +15,9 @@ use Rattle.model_set_up.specs.Placement.{Item, register_of, region_item, stands_
 use Rattle.model_set_up.specs.OrderLaws.{IsInOrder, OrderIsSorted, OneOrder}
 use Rattle.lists.proofs.Members.{each_in, each_from}
 use Rattle.model_board.proofs.PathOrder.{part_self}
-use Rattle.model_set_up.proofs.Items.{from_inserted, pairs_in_order, items_pairs}
-
--- ---- the order
-
-abbrev NotBefore : Item → Item → Type 0
-NotBefore i j = stands_before j i ≡ false
-
-not_before_trans : (i j k : Item) → NotBefore i j → NotBefore j k → NotBefore i k
-not_before_trans i j k h l = grind (arith, nat_tests)
-
-pub one_way : (i j : Item) → stands_before i j ≡ true → stands_before j i ≡ false
-one_way i j h = grind (arith, nat_tests)
+use Rattle.lists.proofs.EachLemmas.{each_permutation}
+use Rattle.model_set_up.proofs.InOrder.{NotBefore, not_before_trans, one_way, order_pairs}
+use Rattle.model_set_up.proofs.Items.{pairs_in_order, items_pairs}
 
 -- of one function and register
 abbrev is_same : Item → Item → Bool
@@ -61,22 +51,6 @@ order_moves (i ∷ is) = IsPermutation-trans (i ∷ is) (i ∷ in_order is) (ins
 
 -- ---- sorted
 
-inserted_sorted : (i : Item) (js : List Item) → EachPair NotBefore js → EachPair NotBefore (inserted i js)
-inserted_sorted i [] h = (tt, tt)
-inserted_sorted i (j ∷ js) h = by_test (stands_before j i) refl (inserted_sorted i js h.1)
-  where
-    after : stands_before j i ≡ true → (x : Item) → (x ≡ i) ⊎ IsIn x js → NotBefore j x
-    after e x (inl same) = subst (NotBefore j) (sym same) (one_way j i e)
-    after e x (inr m) = each_in (NotBefore j) x js h.0 m
-
-    by_test : (t : Bool) → stands_before j i ≡ t → EachPair NotBefore (inserted i js) → EachPair NotBefore (cond t (j ∷ inserted i js) (i ∷ j ∷ js))
-    by_test true e more = (each_from (NotBefore j) (inserted i js) (λ x m. after e x (from_inserted x i js m)), more)
-    by_test false e more = ((e, each_from (NotBefore i) js (λ x m. not_before_trans i j x e (each_in (NotBefore j) x js h.0 m))), h)
-
-order_pairs : (is : List Item) → EachPair NotBefore (in_order is)
-order_pairs [] = tt
-order_pairs (i ∷ is) = inserted_sorted i (in_order is) (order_pairs is)
-
 -- by neighbours, and by all pairs
 neighbours : (is : List Item) → EachPair NotBefore is → (k : ℕ) (d : Item) → suc k < length is → stands_before (get_or is (suc k) d) (get_or is k d) ≡ false
 neighbours [] h k d l = absurd (omega arith)
@@ -103,16 +77,8 @@ order_is_sorted is = record { same = order_moves is; sorted = sorted_from (in_or
 
 -- ---- the only one
 
-all_of : (P : Item → Type 0) (is : List Item) → Each P is → All P is
-all_of P [] h = λ k d l. absurd (omega arith)
-all_of P (i ∷ is) h = All-cons P i is h.0 (all_of P is h.1)
-
-each_of : (P : Item → Type 0) (is : List Item) → All P is → Each P is
-each_of P [] h = tt
-each_of P (i ∷ is) h = (All-head P i is h, each_of P is (All-tail P i is h))
-
 moved : (is js : List Item) → IsPermutation is js → (x : Item) → IsIn x js → IsIn x is
-moved is js perm x m = each_in (λ y. IsIn y is) x js (each_of (λ y. IsIn y is) js (All-permutation (λ y. IsIn y is) is js perm (all_of (λ y. IsIn y is) is (each_from (λ y. IsIn y is) is (λ y k. k))))) m
+moved is js perm x m = each_in (λ y. IsIn y is) x js (each_permutation (λ y. IsIn y is) is js perm (each_from (λ y. IsIn y is) is (λ y k. k))) m
 
 abbrev Ranked : Item → Item → Type 0
 Ranked i j = is_same i j ≡ false
@@ -157,17 +123,18 @@ same_list (x ∷ xs) (y ∷ ys) h k to from =
 regions_ranked : (p : Part) (r s : Region) → r.index < s.index → Ranked (region_item p r) (region_item p s)
 regions_ranked p r s l = let other : eqb r.index s.index ≡ false = grind (arith, nat_tests) in rw (part_self p, other)
 
+ranked : (b : Board) (a : Apertures) (pool : Pool) (bus : Path) → IsBoard b → HasLawfulDecls b → EachPair Ranked (items_on b a pool bus)
+ranked b a pool bus board lawful = items_pairs b a pool board Ranked (λ i j e. rw e) regions_ranked lawful bus
+
 -- the items of a bus stand in strict order
 pub items_strict : (b : Board) (a : Apertures) (pool : Pool) (bus : Path) → IsBoard b → HasLawfulDecls b → EachPair Strictly (in_order (items_on b a pool bus))
 items_strict b a pool bus board lawful =
     let is : List Item = items_on b a pool bus in
-    let ranked : EachPair Ranked is = items_pairs b a pool board Ranked (λ i j e. rw e) regions_ranked lawful bus in
-    strict_pairs (in_order is) (order_pairs is) (pairs_in_order Ranked (λ i j e. is_same-sym j i ∙ e) is ranked)
+    strict_pairs (in_order is) (order_pairs is) (pairs_in_order Ranked (λ i j e. is_same-sym j i ∙ e) is (ranked b a pool bus board lawful))
 
 pub one_order : OneOrder
 one_order b a pool bus board lawful js h =
     let is : List Item = items_on b a pool bus in
-    let ranked : EachPair Ranked is = items_pairs b a pool board Ranked (λ i j e. rw e) regions_ranked lawful bus in
-    let theirs : EachPair Strictly js = strict_pairs js (pairs_from js h.sorted) (pairs_of js (IsDistinct-IsPermutation is_same is_same-sym is js h.same (distinct_from is ranked))) in
+    let theirs : EachPair Strictly js = strict_pairs js (pairs_from js h.sorted) (pairs_of js (IsDistinct-IsPermutation is_same is_same-sym is js h.same (distinct_from is (ranked b a pool bus board lawful)))) in
     let to : IsPermutation js (in_order is) = IsPermutation-trans js is (in_order is) (IsPermutation-sym is js h.same) (order_moves is) in
     same_list js (in_order is) theirs (items_strict b a pool bus board lawful) (moved (in_order is) js (IsPermutation-sym js (in_order is) to)) (moved js (in_order is) to)

@@ -8,7 +8,7 @@ use Rattle.model_registers.specs.Declarations.{Endpoint, Region, IsLawfulRegion}
 use Rattle.model_board.specs.Board.{Board, Row, Decl, endpoint, bridge, rows_on, IsBoard}
 use Rattle.model_board.specs.Paths.{Part, Path, part_eq, path_eq, parent, last_part, IsPath}
 use Rattle.model_registers.specs.Apertures.{Apertures}
-use Rattle.model_set_up.specs.Pools.{Pool, io_pool, mem_pool, pref_pool, unit_of, same_pool, pool_of, bridges_above}
+use Rattle.model_set_up.specs.Pools.{Pool, io_pool, unit_of, same_pool, pool_of, bridges_above}
 use Rattle.model_set_up.specs.Placement.{Placed, a_region, a_window, same_placed, Item, is_item, inserted, stands_before, in_order, end_from, round_up, need, alignment, Spot, spots_from, spots, offset_in, region_item, region_items, window_items, items_of, items_within, items_on}
 use Rattle.model_set_up.specs.Packing.{IsPowerOfTwo, IsRun}
 use Rattle.model_board.specs.Lawful.{IsLawfulDecl, HasLawfulDecls}
@@ -17,26 +17,10 @@ use Rattle.lists.proofs.EachLemmas.{pairs_filter}
 use Rattle.model_board.proofs.PathOrder.{part_same, path_same, part_eq-sym, part_self}
 use Rattle.model_board.proofs.PathEnds.{snoc, path_self, not_before_itself}
 use Rattle.model_set_up.proofs.Packing.{power_positive, round_up_not_before, round_up_is_multiple, run_in_order}
+use Rattle.model_set_up.proofs.InOrder.{from_inserted, in_in_order, from_in_order}
 use Rattle.model_set_up.proofs.Levels.{items_by_bus}
 
 -- ---- items in order, and their spots
-
-in_inserted : (x i : Item) (js : List Item) → (x ≡ i) ⊎ IsIn x js → IsIn x (inserted i js)
-in_inserted x i [] m = m
-in_inserted x i (j ∷ js) m = grind (arith, in_inserted x i js)
-
-pub from_inserted : (x i : Item) (js : List Item) → IsIn x (inserted i js) → (x ≡ i) ⊎ IsIn x js
-from_inserted x i [] m = m
-from_inserted x i (j ∷ js) m = grind (arith, from_inserted x i js)
-
-in_in_order : (x : Item) (is : List Item) → IsIn x is → IsIn x (in_order is)
-in_in_order x [] m = m
-in_in_order x (i ∷ is) (inl e) = in_inserted x i (in_order is) (inl e)
-in_in_order x (i ∷ is) (inr m) = in_inserted x i (in_order is) (inr (in_in_order x is m))
-
-from_in_order : (x : Item) (is : List Item) → IsIn x (in_order is) → IsIn x is
-from_in_order x [] m = m
-from_in_order x (i ∷ is) m = grind (arith, from_inserted, from_in_order x is)
 
 abbrev SpotOf : Item → List Spot → Type 0
 SpotOf i ss = (s : Spot) × IsIn s ss × (s.item ≡ i)
@@ -52,8 +36,7 @@ spot_of i is m = spot_from 0 i (in_order is) (in_in_order i is m)
 
 item_from : (n : ℕ) (s : Spot) (is : List Item) → IsIn s (spots_from n is) → IsIn s.item is
 item_from n s [] m = m
-item_from n s (i ∷ is) (inl e) = inl (ap (λ (t : Spot). t.item) e)
-item_from n s (i ∷ is) (inr m) = inr (item_from (round_up i.align n + i.size) s is m)
+item_from n s (i ∷ is) m = grind (arith, item_from (round_up i.align n + i.size) s is)
 
 -- and each spot is an item's
 pub item_of : (s : Spot) (is : List Item) → IsIn s (spots is) → IsIn s.item is
@@ -106,10 +89,7 @@ spots_differ is h = differ_from 0 (in_order is) (pairs_in_order Differ differ_sy
 -- where no two are of the same region or window, the look-up of a spot's item finds the spot
 pub offset_of_spot : (s : Spot) (ss : List Spot) → EachPair SpotsDiffer ss → IsIn s ss → offset_in ss s.item.part s.item.what ≡ s.first
 offset_of_spot s [] h m = absurd m
-offset_of_spot s (t ∷ ss) h (inl e) = grind (arith, item_self)
-offset_of_spot s (t ∷ ss) h (inr m) =
-    let other : is_item s.item.part s.item.what t.item ≡ false = each_in (SpotsDiffer t) s ss h.0 m in
-    rw other (offset_of_spot s ss h.1 m)
+offset_of_spot s (t ∷ ss) h m = grind (arith, item_self, each_in, offset_of_spot s ss)
 
 -- ---- alignments
 
@@ -130,13 +110,11 @@ unit_below unit (i ∷ is) = omega (arith, unit_below unit is)
 
 pub align_below : (unit : ℕ) (i : Item) (is : List Item) → IsIn i is → i.align ≤ alignment unit is
 align_below unit i [] m = absurd m
-align_below unit i (j ∷ is) (inl e) = let same : i.align ≡ j.align = ap (λ (k : Item). k.align) e in omega arith
-align_below unit i (j ∷ is) (inr m) = omega (arith, align_below unit i is m)
+align_below unit i (j ∷ is) m = grind (arith, align_below unit i is)
 
 pub unit_power : (pool : Pool) → IsPowerOfTwo (unit_of pool)
 unit_power io_pool = (12, refl)
-unit_power mem_pool = (20, refl)
-unit_power pref_pool = (20, refl)
+unit_power o = (20, refl)
 
 -- ---- every item can be placed
 
@@ -150,7 +128,7 @@ pub record IsPlaceable (unit : ℕ) (i : Item) : Type 0 where
   pub some : 0 < i.size
   pub aligns : AlignsAs unit i i.what
 
-powers : (unit : ℕ) (is : List Item) → Each (IsPlaceable unit) is → Each (λ i. IsPowerOfTwo i.align) is
+pub powers : (unit : ℕ) (is : List Item) → Each (IsPlaceable unit) is → Each (λ i. IsPowerOfTwo i.align) is
 powers unit is h = each_from (λ i. IsPowerOfTwo i.align) is (λ i m. (each_in (IsPlaceable unit) i is h m).power)
 
 -- the spots of items that can be placed, before the bus's last end

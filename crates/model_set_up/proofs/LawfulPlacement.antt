@@ -20,6 +20,7 @@ use Rattle.lists.proofs.Members.{each_in, each_from, in_flat_map, from_flat_map,
 use Rattle.lists.proofs.EachLemmas.{pairs_filter}
 use Rattle.model_set_up.proofs.PlacedApart.{pool_is}
 use Rattle.model_board.proofs.PathOrder.{path_same}
+use Rattle.model_board.proofs.PlacesLaw.{before_apart}
 use Rattle.model_board.proofs.PathEnds.{snoc, path_self, parent_snoc, leads_up, not_before_itself}
 use Rattle.model_set_up.proofs.Packing.{Divides, divides_chain, powers_divide, unit_positive, round_up_not_before}
 use Rattle.model_set_up.proofs.Items.{item_of, unit_power, unit_below, AlignsAs, IsPlaceable, some_end, end_below_need, items_placeable}
@@ -32,7 +33,7 @@ buses_differ b board = (
   each_from (λ y. path_eq [] y ≡ false) (map (λ r. r.path) (filter (λ r. is_bridge r.decl) b)) (λ y m. not_root y (from_map (λ (r : Row). r.path) y (filter (λ r. is_bridge r.decl) b) m)),
   pairs_of_map (λ x y. path_eq x y ≡ false) (λ (r : Row). r.path) (filter (λ r. is_bridge r.decl) b)
       (pairs_weaker (λ (r s : Row). IsTrue (path_before r.path s.path)) (λ r s. path_eq r.path s.path ≡ false) (filter (λ r. is_bridge r.decl) b)
-      (pairs_filter (λ (r s : Row). IsTrue (path_before r.path s.path)) (λ r. is_bridge r.decl) b board.in_order) (λ r s m k before. by_test r.path s.path before (path_eq r.path s.path) refl)),
+      (pairs_filter (λ (r s : Row). IsTrue (path_before r.path s.path)) (λ r. is_bridge r.decl) b board.in_order) (λ r s m k before. before_apart r.path s.path before)),
 )
   where
     nonempty : (p : Path) → 0 < length p → path_eq [] p ≡ false
@@ -41,10 +42,6 @@ buses_differ b board = (
 
     not_root : (y : Path) → (r : Row) × IsIn r (filter (λ r. is_bridge r.decl) b) × (y ≡ r.path) → path_eq [] y ≡ false
     not_root y (r, m, e) = subst (λ (x : Path). path_eq [] x ≡ false) (sym e) (nonempty r.path (each_in (λ (s : Row). IsPath s.path) r b board.paths (from_filter (λ (s : Row). is_bridge s.decl) r b m).0).some)
-
-    by_test : (p q : Path) → path_before p q ≡ true → (t : Bool) → path_eq p q ≡ t → t ≡ false
-    by_test p q before false e = refl
-    by_test p q before true e = absurd (not_before_itself q (subst (λ (x : Path). path_before x q ≡ true) (path_same p q e) before))
 
 pub pool_self : (pool : Pool) → same_pool pool pool ≡ true
 pool_self pool = grind arith

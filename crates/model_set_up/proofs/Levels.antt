@@ -1,5 +1,5 @@
 -- Sixteen levels are enough for every lawful board.
-use Rattle.std.proofs.Common.{◌≡◌, ℕ, zero, suc, ◌+◌, ◌≤◌, ◌<◌, true, List, [], ◌∷◌, ◌++◌, length, refl, sym, ap, ap₂, arith, rules}
+use Rattle.std.proofs.Common.{◌≡◌, ℕ, zero, suc, ◌+◌, ◌≤◌, ◌<◌, true, List, [], ◌∷◌, length, refl, sym, ap, arith, rules}
 use Rattle.std.specs.Prelude.{flat_map}
 use Rattle.lists.specs.Elements.{Each}
 use Rattle.model_board.specs.Board.{Board, Row, Decl, rows_on}
@@ -8,13 +8,12 @@ use Rattle.model_registers.specs.Apertures.{Apertures}
 use Rattle.model_set_up.specs.Pools.{Pool}
 use Rattle.model_set_up.specs.Placement.{Item, items_of, items_within}
 use Rattle.model_set_up.specs.Levels.{ItemsByBus}
-use Rattle.lists.proofs.EachLemmas.{each_filter, each_both, each_map, filter_passes}
+use Rattle.lists.proofs.Members.{each_in, from_filter, flat_map_same}
 use Rattle.lists.proofs.Tests.{right_true}
 
 -- equal paths are as long
 path_eq-length : (p q : Path) → path_eq p q ≡ true → length p ≡ length q
-path_eq-length [] [] h = refl
-path_eq-length [] (y ∷ q) h = cc
+path_eq-length [] y h = grind arith
 path_eq-length (x ∷ p) [] h = cc
 path_eq-length (x ∷ p) (y ∷ q) h = ap suc (path_eq-length p q (right_true (part_eq x y) (path_eq p q) h))
 
@@ -22,11 +21,6 @@ parent-shorter : (p : Path) → 0 < length p → length p ≡ suc (length (paren
 parent-shorter [] h = absurd (omega arith)
 parent-shorter (p ∷ []) h = refl
 parent-shorter (p ∷ q ∷ ps) h = ap suc (parent-shorter (q ∷ ps) (omega arith))
-
--- a function that agrees on each element gives the same
-flat_map_same : {A B : Type 0} (f g : A → List B) (xs : List A) → Each (λ x. f x ≡ g x) xs → flat_map f xs ≡ flat_map g xs
-flat_map_same f g [] h = refl
-flat_map_same f g (x ∷ xs) h = ap₂ ◌++◌ h.0 (flat_map_same f g xs h.1)
 
 items_of_same : (b : Board) (a : Apertures) (pool : Pool) (f g : Path → List Item) (p : Path) (d : Decl) → f p ≡ g p
     → items_of b a pool f (record { path = p; decl = d }) ≡ items_of b a pool g (record { path = p; decl = d })
@@ -42,12 +36,9 @@ one_more : (b : Board) (a : Apertures) (pool : Pool) → Each (λ r. IsPath r.pa
 one_more b a pool paths zero bus deep = sym (ap (flat_map (items_of b a pool (items_within b a pool zero))) (no_rows b bus paths (omega arith)))
 one_more b a pool paths (suc n) bus deep =
     flat_map_same (items_of b a pool (items_within b a pool n)) (items_of b a pool (items_within b a pool (suc n))) (rows_on b bus)
-    (each_map (λ (r : Row). (path_eq (parent r.path) bus ≡ true) × IsPath r.path) (λ r. items_of b a pool (items_within b a pool n) r ≡ items_of b a pool (items_within b a pool (suc n)) r) (rows_on b bus)
-    (λ r h. items_of_same b a pool (items_within b a pool n) (items_within b a pool (suc n)) r.path r.decl
-    (one_more b a pool paths n r.path (omega (arith, path_eq-length (parent r.path) bus h.0, parent-shorter r.path h.1.some))))
-    (each_both (λ (r : Row). path_eq (parent r.path) bus ≡ true) (λ r. IsPath r.path) (rows_on b bus)
-    (filter_passes (λ (r : Row). path_eq (parent r.path) bus) b)
-    (each_filter (λ (r : Row). IsPath r.path) (λ r. path_eq (parent r.path) bus) b paths)))
+    (λ r m. let k = from_filter (λ (s : Row). path_eq (parent s.path) bus) r b m in
+    items_of_same b a pool (items_within b a pool n) (items_within b a pool (suc n)) r.path r.decl
+    (one_more b a pool paths n r.path (omega (arith, path_eq-length (parent r.path) bus k.1, parent-shorter r.path (each_in (λ (s : Row). IsPath s.path) r b paths k.0).some))))
 
 pub items_by_bus : ItemsByBus
 items_by_bus b lawful a pool bus = one_more b a pool lawful.paths 16 bus (omega arith)

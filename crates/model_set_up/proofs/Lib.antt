@@ -1,5 +1,6 @@
 pub mod Partings
 pub mod Levels
+pub mod InOrder
 pub mod Packing
 pub mod Items
 pub mod Nesting

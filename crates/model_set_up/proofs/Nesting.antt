@@ -15,7 +15,7 @@ use Rattle.lists.proofs.Members.{each_in, from_any}
 use Rattle.model_board.proofs.PathOrder.{path_same}
 use Rattle.model_board.proofs.PathEnds.{snoc, parent_snoc, length_snoc, leads_up}
 use Rattle.model_set_up.proofs.Packing.{Divides, divides_add, divides_chain, powers_divide, unit_positive}
-use Rattle.model_set_up.proofs.Items.{spot_of, item_of, spots_differ, offset_of_spot, alignment_power, align_below, unit_power, IsPlaceable, run_of, end_below_need, items_placeable, items_for, region_of_item, Origin, origin, on_own_bus, items_differ}
+use Rattle.model_set_up.proofs.Items.{spot_of, item_of, spots_differ, offset_of_spot, alignment_power, align_below, unit_power, IsPlaceable, powers, run_of, end_below_need, items_placeable, items_for, region_of_item, Origin, origin, on_own_bus, items_differ}
 
 -- ---- the first address of a bus, by that of the bus above
 
@@ -160,11 +160,7 @@ module _ (b : Board) (a : Apertures) (pool : Pool) (board : IsBoard b) (lawful :
   bus_run bus = run_of (unit_of pool) (items_on b a pool bus) (placeable bus)
 
   pub bus_power : (bus : Path) → IsPowerOfTwo (alignment (unit_of pool) (items_on b a pool bus))
-  bus_power bus = alignment_power (unit_of pool) (items_on b a pool bus) (unit_power pool) (powers (items_on b a pool bus) (placeable bus))
-    where
-      powers : (is : List Item) → Each (IsPlaceable (unit_of pool)) is → Each (λ i. IsPowerOfTwo i.align) is
-      powers [] h = tt
-      powers (i ∷ is) h = (h.0.power, powers is h.1)
+  bus_power bus = alignment_power (unit_of pool) (items_on b a pool bus) (unit_power pool) (powers (unit_of pool) (items_on b a pool bus) (placeable bus))
 
   -- a spot's alignment divides its address, if that of its bus divides the bus's
   pub spot_aligned : (bus : Path) → Divides (alignment (unit_of pool) (items_on b a pool bus)) (bus_first b a pool bus) → (s : Spot) → IsIn s (spots (items_on b a pool bus)) → Divides s.item.align (bus_first b a pool bus + s.first)

@@ -9,23 +9,22 @@ use Rattle.std.proofs.lemmas.List.Sums.{sum_by-cons, sum-map}
 use Rattle.std.proofs.lemmas.Bool.{leb-true, leb-false}
 use Rattle.std.proofs.Math.Pow.{pow-lt, pow_pos}
 use Rattle.lists.specs.Elements.{Each, EachPair}
-use Rattle.lists.proofs.EachLemmas.{each_append, each_of_map, pairs_filter, each_filter, each_map, each_both, filter_passes}
+use Rattle.lists.proofs.EachLemmas.{each_append, each_of_map, pairs_filter, each_filter, each_map, each_both, filter_passes, pairs_map}
+use Rattle.lists.proofs.Members.{each_from}
 use Rattle.model_board.specs.Board.{Board, Row, Decl, endpoint, bridge, is_bridge, rows_on}
 use Rattle.model_board.specs.Paths.{Path, path_eq, parent}
 use Rattle.model_registers.specs.Apertures.{Apertures}
 use Rattle.model_set_up.specs.Pools.{Pool, unit_of}
 use Rattle.model_set_up.specs.Placement.{items_of, items_within, items_on, Item, stands_before, inserted, in_order, round_up, end_from, spots_from, spots}
 use Rattle.model_set_up.specs.Extents.{IsInside, AreApart}
+use Rattle.model_set_up.proofs.InOrder.{each_in_order, order_pairs}
 use Rattle.model_set_up.specs.Packing.{IsPowerOfTwo, Interval, FlatNeed, HasPowerSizes, FlatNeedOnBus, IsRun, CompactIsRun}
 
 -- ---- lists
 
-length_cases : {A : Type 0} (x : A) (ys : List A) (n : ℕ) (b : Bool) → length ys ≤ n → length (cond b (x ∷ ys) ys) ≤ suc n
-length_cases x ys n b h = grind arith
-
 length_filter : {A : Type 0} (p : A → Bool) (xs : List A) → length (filter p xs) ≤ length xs
 length_filter p [] = omega arith
-length_filter p (x ∷ xs) = length_cases x (filter p xs) (length xs) (p x) (length_filter p xs)
+length_filter p (x ∷ xs) = grind (arith, length_filter p xs)
 
 -- ---- spots that are apart
 
@@ -95,29 +94,6 @@ total_in_order (i ∷ is) = total_inserted i (in_order is) ∙ ap (λ n. i.size 
 abbrev Descends : List Item → Type 0
 Descends is = EachPair (λ i j. j.align ≤ i.align) is
 
-each_inserted_cases : (P : Item → Type 0) (i j : Item) (js : List Item) (b : Bool) → P i → P j → Each P js → Each P (inserted i js) → Each P (cond b (j ∷ inserted i js) (i ∷ j ∷ js))
-each_inserted_cases P i j js b hi hj h k = grind arith
-
-each_inserted : (P : Item → Type 0) (i : Item) (js : List Item) → P i → Each P js → Each P (inserted i js)
-each_inserted P i [] hi h = (hi, tt)
-each_inserted P i (j ∷ js) hi h = each_inserted_cases P i j js (stands_before j i) hi h.0 h.1 (each_inserted P i js hi h.1)
-
-each_in_order : (P : Item → Type 0) (is : List Item) → Each P is → Each P (in_order is)
-each_in_order P [] h = tt
-each_in_order P (i ∷ is) h = each_inserted P i (in_order is) h.0 (each_in_order P is h.1)
-
-descends_cases : (i j : Item) (js : List Item) (b : Bool) → stands_before j i ≡ b → Descends (j ∷ js) → Descends (inserted i js) → Descends (cond b (j ∷ inserted i js) (i ∷ j ∷ js))
-descends_cases i j js true e h k = grind (arith, each_inserted, nat_tests)
-descends_cases i j js false e h k = grind (arith, each_map, nat_tests)
-
-descends_inserted : (i : Item) (js : List Item) → Descends js → Descends (inserted i js)
-descends_inserted i [] h = (tt, tt)
-descends_inserted i (j ∷ js) h = descends_cases i j js (stands_before j i) refl h (descends_inserted i js h.1)
-
-descends_in_order : (is : List Item) → Descends (in_order is)
-descends_in_order [] = tt
-descends_in_order (i ∷ is) = descends_inserted i (in_order is) (descends_in_order is)
-
 -- ---- powers of two
 
 abbrev pub Divides : ℕ → ℕ → Type 0
@@ -168,14 +144,8 @@ end_flat (j ∷ js) n regions down divides =
     (each_both (λ i. i.align ≤ j.align) (λ i. IsRegion i × Divides i.size n) js down.0 (each_both IsRegion (λ i. Divides i.size n) js regions.1 divides.1)) in
     ap (λ x. end_from (x + j.size) js) at ∙ end_flat js (n + j.size) regions.1 down.1 tail ∙ omega (arith, total-cons j js)
 
-each_true : (P : Item → Type 0) → ((i : Item) → P i) → (is : List Item) → Each P is
-each_true P f [] = tt
-each_true P f (i ∷ is) = (f i, each_true P f is)
-
 end_in_order : (is : List Item) → Each IsRegion is → end_from 0 (in_order is) ≡ total is
-end_in_order is regions =
-    end_flat (in_order is) 0 (each_in_order IsRegion is regions) (descends_in_order is) (each_true (λ i. Divides i.size 0) (λ i. (0, omega arith)) (in_order is))
-    ∙ ap (λ n. 0 + n) (total_in_order is) ∙ zero-add (total is)
+end_in_order is regions = grind (arith, end_flat, each_in_order, each_from, total_in_order, zero-add, pairs_map, nat_tests, order_pairs)
 
 round_up_least : (unit n units : ℕ) → 0 < unit → n ≤ units * unit → round_up unit n ≤ units * unit
 round_up_least unit n units h k = grind (arith, suc-mul, div-lt_iff_lt-mul, mul-le-mul_right)

@@ -20,8 +20,7 @@ pub data Meeting (p q : Path) : Type 0 where
   Parting : (bus : Path) (x y : Part) (ps qs : Path) → p ≡ bus ++ x ∷ ps → q ≡ bus ++ y ∷ qs → part_eq x y ≡ false → Meeting p q
 
 pub meet : (p q : Path) → Meeting p q
-meet [] [] = Same refl
-meet [] (y ∷ q) = Above refl
+meet [] y = grind arith
 meet (x ∷ p) [] = Below refl
 meet (x ∷ p) (y ∷ q) = step (part_eq x y) refl (meet p q)
   where
@@ -40,10 +39,8 @@ leads_down (b ∷ bus) x z zs = and_from (part_eq b b) (leads_to (bus ++ x ∷ [
 
 pub pair_in : {A : Type 0} (R : A → A → Type 0) (x y : A) (xs : List A) → EachPair R xs → IsIn x xs → IsIn y xs → (x ≡ y) ⊎ (R x y ⊎ R y x)
 pair_in R x y [] h m k = absurd m
-pair_in R x y (z ∷ zs) h (inl e) (inl f) = inl (e ∙ sym f)
-pair_in R x y (z ∷ zs) h (inl e) (inr k) = inr (inl (subst (λ w. R w y) (sym e) (each_in (R z) y zs h.0 k)))
-pair_in R x y (z ∷ zs) h (inr m) (inl f) = inr (inr (subst (λ w. R w x) (sym f) (each_in (R z) x zs h.0 m)))
-pair_in R x y (z ∷ zs) h (inr m) (inr k) = pair_in R x y zs h.1 m k
+pair_in R x y (z ∷ zs) h (inl e) k = grind (arith, each_in)
+pair_in R x y (z ∷ zs) h (inr m) k = grind (arith, each_in, pair_in R x y zs)
 
 module _ (b : Board) (lawful : IsBoard b) where
   -- one function stands at a path
@@ -67,15 +64,12 @@ module _ (b : Board) (lawful : IsBoard b) where
       split : r.path ≡ parent r.path ++ last_part r.path ∷ []
       split = snoc r.path (omega (arith, leads_longer q r.path h))
 
-      shorter : length r.path ≡ length (parent r.path) + 1
-      shorter = ap length split ∙ length_snoc (parent r.path) (last_part r.path)
-
       up : (q ≡ parent r.path) ⊎ (leads_to q (parent r.path) ≡ true)
       up = leads_up q (parent r.path) (last_part r.path) (subst (λ (p : Path). leads_to q p ≡ true) split h)
 
       by_parent : (parent r.path ≡ []) ⊎ IsTrue (is_bridge_at b (parent r.path)) → ((d : Row) → (length d.path ≤ n) × IsIn d b → leads_to q d.path ≡ true → BridgeAt q) → BridgeAt q
       by_parent (inl none) more = grind (arith, up, leads_longer)
-      by_parent (inr there) more = grind (arith, bridge_at, up, shorter)
+      by_parent (inr there) more = grind (arith, bridge_at, up, split, length_snoc)
 
   pub bridge_above : (r : Row) (q : Path) → IsIn r b → leads_to q r.path ≡ true → 0 < length q → BridgeAt q
   bridge_above r q m h some = above_within (length r.path) r q (omega arith) m h some

@@ -63,15 +63,7 @@ module _ (b : Board) (a : Apertures) (board : IsBoard b) (rows : List LayoutRow)
       let under : IsUnderWindows b rows r = each_in (IsUnderWindows b rows) r rows lawful.under_windows m in
       let f = from_any (λ (w : LayoutRow). is_window_over r w && path_eq w.path d.path) rows (each_in (λ (e : Row). IsTrue (leads_to e.path r.path) → IsTrue (list_any (λ w. is_window_over r w && path_eq w.path e.path) rows)) d b under.there k h) in
       let over : is_window_over r f.0 ≡ true = left_true (is_window_over r f.0) (path_eq f.0.path d.path) f.2 in
-      let parts = over_parts r f.0.path f.0.what f.0.pool f.0.first f.0.size over in
-      record {
-        row = f.0;
-        there = f.1;
-        what_is = parts.0;
-        pool_is = pool_is f.0.pool r.pool parts.1;
-        path_is = path_same f.0.path d.path (right_true (is_window_over r f.0) (path_eq f.0.path d.path) f.2);
-        inside = each_in (λ (w : LayoutRow). IsTrue (is_window_over r w) → IsInside w.first (w.first + w.size) r.first r.size) f.0 rows under.inside f.1 over;
-      }
+      grind (arith, over_parts, pool_is, path_same, right_true, each_in)
 
   -- on each bus of its path a row of its pool holds its addresses
   record Holder (r : LayoutRow) (q : Path) : Type 0 where
@@ -138,8 +130,7 @@ module _ (b : Board) (a : Apertures) (board : IsBoard b) (rows : List LayoutRow)
   -- two regions of one space are one row, or apart
   pub spaces_apart : IsLawfulApertures a → (p q : Pool) (r s : LayoutRow) → OfEndpoint r → OfEndpoint s → r.pool ≡ p → s.pool ≡ q → same_space (pool_space p) (pool_space q) ≡ true → (r ≡ s) ⊎ AreApart r.first r.size s.first s.size
   spaces_apart apertures io_pool io_pool r s f g e h same = regions_apart r s f g (e ∙ sym h)
-  spaces_apart apertures io_pool mem_pool r s f g e h same = cc
-  spaces_apart apertures io_pool pref_pool r s f g e h same = cc
+  spaces_apart apertures io_pool o r s f g e h same = cc
   spaces_apart apertures mem_pool io_pool r s f g e h same = cc
   spaces_apart apertures mem_pool mem_pool r s f g e h same = regions_apart r s f g (e ∙ sym h)
   spaces_apart apertures mem_pool pref_pool r s f g e h same = inr (pools_apart a.pref r s apertures.pref (in_aperture r f.there mem_pool e) (in_aperture s g.there pref_pool h))

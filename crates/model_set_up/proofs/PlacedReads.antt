@@ -1,11 +1,11 @@
 -- After set-up an endpoint decodes the addresses of its placed regions, and every bridge above forwards them.
-use Rattle.std.proofs.Common.{◌≡◌, ℕ, ◌+◌, ◌*◌, ◌%◌, ◌^◌, ◌<◌, true, false, List, Option, refl, ap, ◌∙◌, subst, arith, rules}
+use Rattle.std.proofs.Common.{◌≡◌, ℕ, ◌+◌, ◌*◌, ◌%◌, ◌^◌, ◌<◌, List, Option, refl, ap, ◌∙◌, subst, arith}
 use Rattle.std.specs.Prelude.{MatchOption}
 use Rattle.std.proofs.lemmas.Bool.{ltb-true}
 use Rattle.std.proofs.Math.Nat.{mul-mod_left}
-use Rattle.model_registers.specs.Declarations.{Kind, io_kind, mem32, mem64, Region, registers_of, least_size, IsLawfulRegion, Bridge}
+use Rattle.model_registers.specs.Declarations.{Kind, io_kind, Region, registers_of, least_size, IsLawfulRegion, Bridge}
 use Rattle.model_registers.specs.Apertures.{IsLawfulApertures, Aperture, Apertures}
-use Rattle.model_set_up.specs.Pools.{Pool, pref_reaches, pool_of, aperture_of}
+use Rattle.model_set_up.specs.Pools.{Pool, pool_of, aperture_of}
 use Rattle.model_set_up.specs.Layout.{LayoutRow}
 use Rattle.model_set_up.specs.Extents.{IsInside}
 use Rattle.model_set_up.specs.Packing.{IsPowerOfTwo}
@@ -18,18 +18,13 @@ use Rattle.model_set_up.proofs.SetUpRegisters.{FitsRegister}
 abbrev pub InAperture : Apertures → Pool → LayoutRow → Type 0
 InAperture a pool r = MatchOption (aperture_of a pool) ⊥ (λ ap. IsInside ap.first (ap.last + 1) r.first r.size)
 
--- a 32-bit region goes to a prefetchable aperture below 4 GB alone
-reaches_low : (o : Aperture) (above : List Bridge) → pref_reaches o above false ≡ true → o.last < 2 ^ 32
-reaches_low o above h = search (rules, ltb-true)
-
 limit_by : (i m : Aperture) (o : Option Aperture) (above : List Bridge) (k : Kind) (r : LayoutRow) → IsLawfulApertures (record { io = i; mem = m; pref = o })
     → InAperture (record { io = i; mem = m; pref = o }) (pool_of (record { io = i; mem = m; pref = o }) above k) r → 0 < r.size → r.first < 256 ^ (4 * registers_of k)
-limit_by i m o above k r lawful h some = grind (arith, reaches_low)
+limit_by i m o above k r lawful h some = grind (arith, ltb-true)
 
 least_power : (k : Kind) → IsPowerOfTwo (least_size k)
 least_power io_kind = (2, refl)
-least_power (mem32 pref) = (4, refl)
-least_power (mem64 pref) = (4, refl)
+least_power pref = (4, refl)
 
 remainder : (m n : ℕ) → Divides m n → n % m ≡ 0
 remainder m n h = ap (λ x. x % m) h.1 ∙ mul-mod_left h.0 m

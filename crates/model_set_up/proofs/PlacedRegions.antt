@@ -1,5 +1,5 @@
 -- The placed regions of a board: each has its row in the layout, and no two of one space share an address.
-use Rattle.std.proofs.Common.{◌≡◌, ℕ, ◌+◌, ◌≤◌, ◌⊎◌, inl, inr, true, ◌&&◌, [], ◌∷◌, refl, sym, ap, subst, arith, ◌%◌, ◌^◌, Option, Some, None}
+use Rattle.std.proofs.Common.{◌≡◌, ℕ, ◌+◌, ◌≤◌, ◌⊎◌, inl, inr, true, ◌&&◌, [], ◌∷◌, refl, sym, ap, subst, arith, ◌%◌, ◌^◌, Option}
 use Rattle.std.specs.Prelude.{IsTrue}
 use Rattle.lists.specs.Elements.{EachPair, IsIn}
 use Rattle.model_registers.specs.Declarations.{Kind, Region, registers_of, HasLawfulRegions, Endpoint, least_size, IsLawfulRegion}
@@ -161,8 +161,7 @@ ends_by : (i m : Aperture) (o : Option Aperture) → IsLawfulApertures (record {
     → InAperture (record { io = i; mem = m; pref = o }) pool l → Ends (pool_space pool) l
 ends_by i m o lawful io_pool l h = grind arith
 ends_by i m o lawful mem_pool l h = of_memory l (omega (arith, h.1, lawful.mem.ends))
-ends_by i m None lawful pref_pool l h = absurd h
-ends_by i m (Some p) lawful pref_pool l h = of_memory l (omega (arith, h.1, lawful.pref.ends))
+ends_by i m p lawful pref_pool l h = grind (arith, of_memory)
 
 -- ---- multiples of 4
 

@@ -10,6 +10,7 @@ use Rattle.std.proofs.lemmas.Bool.{leb-true, and_from, le-leb, eqb-true}
 use Rattle.lists.specs.Elements.{Each, IsIn}
 use Rattle.lists.proofs.Tests.{left_true, right_true, same_test}
 use Rattle.lists.proofs.EachLemmas.{each_map}
+use Rattle.lists.proofs.FirstFound.{found_passes, each_found}
 use Rattle.model_board.specs.Board.{Board, Row, is_bridge, is_bridge_at, IsBoard}
 use Rattle.model_board.specs.Paths.{Part, Path, part_eq, path_eq, path_before, leads_to, parent, last_part, IsPath}
 use Rattle.model_board.specs.BusNumbers.{secondary, subordinate, bus_behind, bus_of}
@@ -269,16 +270,6 @@ reached_by_numbers b lawful fs has p h =
 
 -- ---- with the board's numbers a cycle reaches no function but the one that its numbers name
 
--- ---- what a search finds
-
-found_cases : {A : Type 0} (P : A → Type 0) (t : A → Bool) (x y : A) (xs : List A) (b : Bool) → t x ≡ b → P x → Each P xs
-    → (find t xs ≡ Some y → (t y ≡ true) × P y) → cond b (Some x) (find t xs) ≡ Some y → (t y ≡ true) × P y
-found_cases P t x y xs b e p ps more h = grind arith
-
-finds : {A : Type 0} (P : A → Type 0) (t : A → Bool) (xs : List A) (y : A) → Each P xs → find t xs ≡ Some y → (t y ≡ true) × P y
-finds P t [] y h e = cc
-finds P t (x ∷ xs) y h e = found_cases P t x y xs (t x) refl h.0 h.1 (finds P t xs y h.1) e
-
 pub ends_is_last : (p : Path) (t : Part) → ends_in p t ≡ true → last_part p ≡ t
 ends_is_last [] t h = cc
 ends_is_last (p ∷ []) t h = part_same p t h
@@ -302,12 +293,11 @@ module _ (b : Board) (fs : List BoardFunction) (has : HasNumbers b fs) (n : ℕ)
           → option_map_or (λ (f : BoardFunction). path_eq f.path (above ++ p ∷ []) && cond (eqb (secondary_register f.file) n) true (not true)) o false ≡ true → secondary b (above ++ p ∷ []) ≡ n
       by_case None e k = cc
       by_case (Some f) e k =
-          let got = finds Numbered (λ g. path_eq (parent g.path) above && covers n g) fs f has.numbers e in
-          let is : covers n f ≡ true = right_true (path_eq (parent f.path) above) (covers n f) got.0 in
+          let is : covers n f ≡ true = right_true (path_eq (parent f.path) above) (covers n f) (found_passes (λ g. path_eq (parent g.path) above && covers n g) fs f e) in
           let at : f.path ≡ above ++ p ∷ [] = path_same f.path (above ++ p ∷ []) (left_true (path_eq f.path (above ++ p ∷ [])) (cond (eqb (secondary_register f.file) n) true (not true)) k) in
           let here : secondary_register f.file ≡ n = eqb-true (secondary_register f.file) n (last_flag (eqb (secondary_register f.file) n)
           (right_true (path_eq f.path (above ++ p ∷ [])) (cond (eqb (secondary_register f.file) n) true (not true)) k)) in
-          let numbers = got.1 (covers_bridge n f is) in
+          let numbers = each_found Numbered (λ g. path_eq (parent g.path) above && covers n g) fs f has.numbers e (covers_bridge n f is) in
           ap (secondary b) (sym at) ∙ sym numbers.0 ∙ here
 
   -- a way that leads to bus n ends behind the bridge whose number is n
@@ -325,15 +315,10 @@ module _ (b : Board) (fs : List BoardFunction) (has : HasNumbers b fs) (n : ℕ)
   on_bus : (p : Path) → is_route fs n [] p ≡ true → bus_of b p ≡ n
   on_bus p h = let ends = way_ends [] p h in behind_bridge (parent p) ends.1.0 ends.1.1 ends.1.2 ends.0
 
-trivial : (fs : List BoardFunction) → Each (λ f. Unit {0}) fs
-trivial [] = tt
-trivial (f ∷ fs) = (tt, trivial fs)
-
 only_by_type0 : (b : Board) (fs : List BoardFunction) (t : Part) (f : BoardFunction) → reached_type0 fs t ≡ Some f → (bus_of b f.path ≡ 0) × (last_part f.path ≡ t)
 only_by_type0 b fs t f e =
-    let got = finds (λ g. Unit {0}) (λ g. path_eq g.path (t ∷ [])) fs f (trivial fs) e in
-    let at : f.path ≡ t ∷ [] = path_same f.path (t ∷ []) got.0 in
+    let at : f.path ≡ t ∷ [] = path_same f.path (t ∷ []) (found_passes (λ g. path_eq g.path (t ∷ [])) fs f e) in
     (ap (bus_of b) at, ap last_part at)
 
 pub only_named : OnlyNamed
-only_named b lawful fs has at f e = grind (arith, eqb-true, only_by_type0, finds, trivial, on_bus, right_true, ends_is_last, left_true)
+only_named b lawful fs has at f e = grind (arith, eqb-true, only_by_type0, found_passes, on_bus, right_true, ends_is_last, left_true)

@@ -23,8 +23,7 @@ either : (u v a b c : Bool) → a ≡ (b || c) → (u || (v && a)) ≡ ((u || (v
 either u v a b c e = grind arith
 
 pub before_first : (x p : Path) → path_before x (on p 0) ≡ (path_before x p || path_eq x p)
-before_first [] [] = refl
-before_first [] (a ∷ p) = refl
+before_first [] a = grind arith
 before_first (u ∷ x) [] = nothing (part_before u (nth_part 0)) (part_eq u (nth_part 0)) (path_before x []) (no_part_before u) (none x)
   where
     none : (x : Path) → path_before x [] ≡ false
@@ -37,8 +36,7 @@ before_first (u ∷ x) [] = nothing (part_before u (nth_part 0)) (part_eq u (nth
 before_first (u ∷ x) (a ∷ p) = either (part_before u a) (part_eq u a) (path_before x (on p 0)) (path_before x p) (path_eq x p) (before_first x p)
 
 pub leads_place : (x p : Path) (q : Part) → leads_to x (p ++ q ∷ []) ≡ (leads_to x p || path_eq x p)
-leads_place [] [] q = refl
-leads_place [] (a ∷ p) q = refl
+leads_place [] a q = grind arith
 leads_place (u ∷ x) [] q = nothing (part_eq u q) (leads_to x []) (none x)
   where
     none : (x : Path) → leads_to x [] ≡ false
@@ -52,16 +50,10 @@ leads_place (u ∷ x) (a ∷ p) q = either false (part_eq u a) (leads_to x (p ++
 
 -- ---- past the last part of a bus
 
-three : (u v a b c d : Bool) → a ≡ (b || c || d) → (u || (v && a)) ≡ ((u || (v && b)) || (v && c) || (v && d))
-three u v a b c d e = grind arith
-
 pub before_last : (x p : Path) → Each IsPart x → path_before x (on p 128) ≡ (path_before x p || path_eq x p || leads_to p x)
-before_last [] [] h = refl
-before_last [] (a ∷ p) h = refl
+before_last [] a h = grind arith
 before_last (u ∷ x) [] h = grind (arith, nat_tests)
-before_last (u ∷ x) (a ∷ p) h =
-    subst (λ t. path_before (u ∷ x) (on (a ∷ p) 128) ≡ (path_before (u ∷ x) (a ∷ p) || path_eq (u ∷ x) (a ∷ p) || (t && leads_to p x))) (part_eq-sym u a)
-    (three (part_before u a) (part_eq u a) (path_before x (on p 128)) (path_before x p) (path_eq x p) (leads_to p x) (before_last x p h.1))
+before_last (u ∷ x) (a ∷ p) h = grind (arith, before_last x p, part_eq-sym)
 
 -- ---- from one part of a bus to a later one
 
@@ -99,11 +91,7 @@ before_later (u ∷ x) (a ∷ p) m n h parts = either (part_before u a) (part_eq
 -- ---- the functions of a board
 
 split_within : (p : Path) (m n : ℕ) (x : Path) → is_between p m n x ≡ true → (u : Part) × (rest : Path) × (x ≡ p ++ u ∷ rest) × (m ≤ index u) × (index u < n)
-split_within [] m n [] h = cc
-split_within [] m n (u ∷ x) h = (u, x, refl, le_of m (index u) (left_true (nat_le m (index u)) (nat_lt (index u) n) h), ltb-true (index u) n (right_true (nat_le m (index u)) (nat_lt (index u) n) h))
-  where
-    le_of : (m n : ℕ) → nat_le m n ≡ true → m ≤ n
-    le_of m n h = grind (arith, nat_tests)
+split_within [] m n u h = grind (arith, left_true, ltb-true, right_true, nat_tests)
 split_within (a ∷ p) m n [] h = cc
 split_within (a ∷ p) m n (u ∷ x) h = search (rules, part_same, left_true, right_true, split_within p m n x (right_true (part_eq u a) (is_between p m n x) h))
 

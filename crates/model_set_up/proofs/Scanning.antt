@@ -7,7 +7,7 @@ use Rattle.model_registers.specs.BridgeTable.{bridge_file}
 use Rattle.model_board.specs.Paths.{Path, path_eq, path_before, leads_to, parent, last_part}
 use Rattle.model_board.specs.Board.{Board, Row, Decl, endpoint, bridge, is_bridge, is_bridge_at, is_multifunction, IsBoard}
 use Rattle.model_board.specs.BusNumbers.{secondary, subordinate, bus_behind, bus_of}
-use Rattle.model_board.specs.State.{BoardFunction, row_at}
+use Rattle.model_board.specs.State.{BoardFunction}
 use Rattle.model_board.specs.Numbering.{NumbersLead}
 use Rattle.model_set_up.specs.Scanning.{BusNumbers, board_numbers, open_numbers, no_numbers, numbers_in, scan_numbers, with_numbers, numbered_file, ReachedWhileScanning, NumbersOfScanState}
 use Rattle.lists.proofs.Members.{each_in, each_from, any_in}
@@ -15,6 +15,7 @@ use Rattle.model_board.proofs.PathOrder.{one, before_trans, behind_trans, leads_
 use Rattle.model_board.proofs.PathEnds.{path_self, snoc, leads_self, not_before_itself}
 use Rattle.model_board.proofs.BusNumbers.{numbering, bridges, at, count_two, count_three, counted}
 use Rattle.model_board.proofs.PlacesLaw.{path_total}
+use Rattle.model_board.proofs.StateRows.{rows_of}
 use Rattle.model_set_up.proofs.Routes.{Names, names_of, covers_between, between_covers, bridge_of, reached_by_names}
 
 -- ---- path order
@@ -114,10 +115,6 @@ module _ (b : Board) (here : Path) (few : secondary b here ≤ 256) where
       (omega (arith, bus_not_more b p), omega arith, omega (arith, counted b p h))
   numbers_fit p h false false l e = (lit< tt, lit< tt, lit< tt)
 
-  rows_of : (rs : List Row) → map row_at (map (λ (r : Row). record { path = r.path; decl = r.decl; file = numbered_file b (scan_numbers b here) r.path r.decl }) rs) ≡ rs
-  rows_of [] = refl
-  rows_of (r ∷ rs) = ap (λ ss. r ∷ ss) (rows_of rs)
-
   numbers_from : (rs : List Row) → ((r : Row) → IsIn r rs → IsIn r b) → Each (λ (f : BoardFunction). IsTrue (is_bridge f.decl) → numbers_in f.file ≡ scan_numbers b here f.path) (map (λ (r : Row). record { path = r.path; decl = r.decl; file = numbered_file b (scan_numbers b here) r.path r.decl }) rs)
   numbers_from [] h = tt
   numbers_from (r ∷ rs) h = (by_decl r.decl refl, numbers_from rs (λ s m. h s (inr m)))
@@ -130,4 +127,4 @@ module _ (b : Board) (here : Path) (few : secondary b here ≤ 256) where
           (numbers_fit r.path (any_in (λ (s : Row). is_bridge s.decl && path_eq s.path r.path) r b (h r (inl refl)) (rw bridge_is (path_self r.path))) (leads_to r.path here) (path_before r.path here) refl refl)
 
 pub numbers_of_scan_state : NumbersOfScanState
-numbers_of_scan_state b here few = record { rows = rows_of b here few b; numbers = numbers_from b here few b (λ r m. m) }
+numbers_of_scan_state b here few = record { rows = rows_of (numbered_file b (scan_numbers b here)) b; numbers = numbers_from b here few b (λ r m. m) }

@@ -5,11 +5,11 @@ use Rattle.std.proofs.lemmas.Bool.Decides.{nat_tests}
 use Rattle.lists.specs.Elements.{Each, EachPair}
 use Rattle.model_registers.proofs.Owned.{cells_above, cells_elsewhere}
 use Rattle.model_registers.specs.Cell.{Cell}
-use Rattle.model_registers.specs.Registers.{config, block, File, cell_at, number, field, cells_from}
-use Rattle.model_registers.specs.Declarations.{Kind, io_kind, mem32, mem64, Region, registers_of, least_size, ConfigBlock, Endpoint, Bridge, IoDecode, no_io, io16, io32, PrefDecode, no_pref, pref32, pref64}
+use Rattle.model_registers.specs.Registers.{config, block, File, cell_at, number, cells_from}
+use Rattle.model_registers.specs.Declarations.{Kind, io_kind, mem32, mem64, Region, registers_of, least_size, ConfigBlock, Endpoint, Bridge, IoDecode, no_io, PrefDecode, no_pref, pref32, pref64}
 use Rattle.model_registers.specs.EndpointTable.{base_register, base_cells, region_cells, block_cells, header_cells, endpoint_file}
 use Rattle.model_registers.specs.BridgeTable.{BridgeValues, bridge_file, address_bits}
-use Rattle.model_registers.specs.Decoding.{Space, io, memory, base, is_open}
+use Rattle.model_registers.specs.Decoding.{Space, io, base, is_open}
 use Rattle.model_registers.proofs.RegisterFiles.{field_reads}
 use Rattle.model_set_up.specs.SetUp.{opens, command_of}
 use Rattle.model_board.proofs.Routing.{same_number}
@@ -20,10 +20,6 @@ use Rattle.model_set_up.specs.Pools.{has_io, has_pref, has_pref64}
 
 other : (a b : ℕ) → a < b → eqb a b ≡ false
 other a b h = grind (arith, nat_tests)
-
-past_field : (w b k v m c : ℕ) (rest : File) → b + w ≤ k → cell_at (field (config b) w v m c ++ rest) (config k) ≡ cell_at rest (config k)
-past_field zero b k v m c rest h = refl
-past_field (suc w) b k v m c rest h = let e : eqb b k ≡ false = other b k (omega arith) in rw e (past_field w (b + 1) k (v / 256) (m / 256) (c / 256) rest (omega arith))
 
 past_blocks : (bs : List ConfigBlock) (k : ℕ) (rest : File) → Each (λ b. 0x40 ≤ b.offset) bs → k < 0x40 → cell_at (flat_map block_cells bs ++ rest) (config k) ≡ cell_at rest (config k)
 past_blocks [] k rest h l = refl
@@ -44,14 +40,11 @@ base_here : (kind : Kind) (n size b : ℕ) (rest : File) → number (base_cells 
 base_here kind n size b rest = grind (arith, field_reads)
 
 past_base : (kind : Kind) (n size b k : ℕ) (rest : File) → 16 + 4 * (n + registers_of kind) ≤ k → cell_at (base_cells n kind size b ++ rest) (config k) ≡ cell_at rest (config k)
-past_base kind n size b k rest h = grind (arith, past_field)
+past_base kind n size b k rest h = grind (arith, other)
 
 module _ (bases : Region → ℕ) where
   split : (r : Region) (rest : File) → region_cells bases r ++ rest ≡ base_cells r.index r.kind r.size (bases r) ++ (cells_from (block r.index 0) r.cells ++ rest)
   split r rest = append_assoc (base_cells r.index r.kind r.size (bases r)) (cells_from (block r.index 0) r.cells) rest
-
-  past_region : (r : Region) (k : ℕ) (rest : File) → 16 + 4 * (r.index + registers_of r.kind) ≤ k → cell_at (region_cells bases r ++ rest) (config k) ≡ cell_at rest (config k)
-  past_region r k rest h = grind (arith, split, past_base, cells_elsewhere)
 
   -- the register of a region reads its base with the type bits
   abbrev Reads : File → Region → Type 0
@@ -59,7 +52,7 @@ module _ (bases : Region → ℕ) where
 
   later : (r : Region) (rest : File) (rs : List Region) → Each (λ s. r.index + registers_of r.kind ≤ s.index) rs → Each (Reads rest) rs → Each (Reads (region_cells bases r ++ rest)) rs
   later r rest [] h k = tt
-  later r rest (s ∷ rs) h k = grind (arith, same_cells, past_region, later r rest rs h.1 k.1)
+  later r rest (s ∷ rs) h k = grind (arith, same_cells, later r rest rs, split, past_base, cells_elsewhere)
 
   regions_read : (rs : List Region) → EachPair (λ r s. r.index + registers_of r.kind ≤ s.index) rs → Each (Reads (flat_map (region_cells bases) rs)) rs
   regions_read [] h = tt
@@ -85,8 +78,7 @@ past_header_8 d multifunction command (suc (suc (suc (suc (suc n))))) rest h = a
 
 past_header : (kind : Kind) (d : Endpoint) (multifunction : Bool) (command n : ℕ) (rest : File) → n + registers_of kind ≤ 6 → number (header_cells d multifunction command ++ rest) (base_register n) (4 * registers_of kind) ≡ number rest (base_register n) (4 * registers_of kind)
 past_header io_kind d multifunction command n rest h = past_header_4 d multifunction command n rest (omega arith)
-past_header (mem32 pref) d multifunction command n rest h = past_header_4 d multifunction command n rest (omega arith)
-past_header (mem64 pref) d multifunction command n rest h = past_header_8 d multifunction command n rest (omega arith)
+past_header kind d multifunction command n rest h = grind (arith, past_header_4, past_header_8)
 
 -- an address that a base address register can hold
 pub record FitsRegister (kind : Kind) (b : ℕ) : Type 0 where
@@ -94,9 +86,7 @@ pub record FitsRegister (kind : Kind) (b : ℕ) : Type 0 where
   pub small : b < 256 ^ (4 * registers_of kind)
 
 without_type : (kind : Kind) (b : ℕ) (file : File) (n : ℕ) → FitsRegister kind b → number file (base_register n) (4 * registers_of kind) ≡ with_type kind b % 256 ^ (4 * registers_of kind) → base file n kind ≡ b
-without_type io_kind b file n fits e = grind arith
-without_type (mem32 pref) b file n fits e = grind arith
-without_type (mem64 pref) b file n fits e = grind arith
+without_type kind b file n fits e = grind arith
 
 -- each base address register of an endpoint's file holds its base
 module _ (d : Endpoint) (multifunction : Bool) (command : ℕ) (bases : Region → ℕ) where
@@ -111,12 +101,9 @@ module _ (d : Endpoint) (multifunction : Bool) (command : ℕ) (bases : Region �
 
 -- ---- Command
 
-command_opens : (u v : Bool) (d : Endpoint) (multifunction : Bool) (bases : Region → ℕ) → (is_open (endpoint_file d multifunction (cond u 1 0 + cond v 2 0) bases) io ≡ u) × (is_open (endpoint_file d multifunction (cond u 1 0 + cond v 2 0) bases) memory ≡ v)
-command_opens u v d multifunction bases = grind arith
-
 -- an endpoint decodes in the spaces of its regions
 pub endpoint_opens : (d : Endpoint) (multifunction : Bool) (bases : Region → ℕ) (space : Space) → is_open (endpoint_file d multifunction (command_of d) bases) space ≡ opens d space
-endpoint_opens d multifunction bases space = grind (arith, command_opens)
+endpoint_opens d multifunction bases space = grind arith
 
 -- a bridge forwards in both spaces
 pub bridge_opens : (d : Bridge) (multifunction : Bool) (r : BridgeValues) (space : Space) → r.command ≡ 3 → is_open (bridge_file d multifunction r) space ≡ true
@@ -170,8 +157,7 @@ module _ (vendor device revision : ℕ) (multifunction : Bool) (r : BridgeValues
   low_by : (k : IoDecode) (m : PrefDecode) → has_pref m ≡ true → r.pref.first < 2 ^ 32 → r.pref.last < 2 ^ 32 → pref_window m (bridge_file (bridge_of k m) multifunction r) ≡ whole (2 ^ 20) r.pref
   low_by k no_pref has f l = cc
   low_by no_io pref32 has f l = ap₂ (λ x y. window x (y + 0xfffff)) (mem_bits r.pref.first 0 (omega arith) f) (mem_bits r.pref.last 0 (omega arith) l)
-  low_by io16 pref32 has f l = ap₂ (λ x y. window x (y + 0xfffff)) (mem_bits r.pref.first 0 (omega arith) f) (mem_bits r.pref.last 0 (omega arith) l)
-  low_by io32 pref32 has f l = ap₂ (λ x y. window x (y + 0xfffff)) (mem_bits r.pref.first 0 (omega arith) f) (mem_bits r.pref.last 0 (omega arith) l)
+  low_by k pref32 has f l = grind (arith, mem_bits)
   low_by k pref64 has f l = high_by k pref64 refl (omega arith) (omega arith)
 
 module _ (d : Bridge) (multifunction : Bool) (r : BridgeValues) where

@@ -1,5 +1,5 @@
 -- After set-up the claims of an address are those of the placed regions that hold it: one at most.
-use Rattle.std.proofs.Common.{◌≡◌, ℕ, ◌+◌, ◌-◌, ◌≤◌, ◌<◌, inl, inr, Bool, true, false, ◌&&◌, ◌||◌, cond, List, [], ◌∷◌, ◌++◌, Option, Some, None, refl, sym, ap, ap₂, ◌∙◌, subst, arith, leb, ltb}
+use Rattle.std.proofs.Common.{◌≡◌, ℕ, ◌+◌, ◌-◌, ◌≤◌, ◌<◌, Bool, true, false, ◌&&◌, ◌||◌, cond, List, [], ◌∷◌, ◌++◌, Option, Some, None, refl, sym, ap, ap₂, ◌∙◌, subst, arith, leb, ltb}
 use Rattle.std.specs.Prelude.{not, map, flat_map, slice_get}
 use Rattle.std.specs.Option.{option_to_list}
 use Rattle.std.proofs.lemmas.List.{map-append}
@@ -28,7 +28,7 @@ use Rattle.model_set_up.specs.PlacementLaws.{region_row, window_row, HasRows}
 use Rattle.model_set_up.specs.PlacedRegions.{pool_space, PlacedRegion, placed, placed_at, placed_regions, holds, claim_in, placed_claim}
 use Rattle.model_set_up.specs.UniqueClaimant.{CanBePlaced, IsClaimed, ShareNone, HasUniqueClaims, UniqueClaimant, ClaimOfRegion, ClaimInAnyOrder, RowsArePlaced}
 use Rattle.model_set_up.specs.WindowLaws.{HasPlacedWindows}
-use Rattle.lists.proofs.Members.{each_in, each_from, any_in, in_map, in_flat_map, all_from}
+use Rattle.lists.proofs.Members.{each_in, each_from, any_in, in_map, in_flat_map, all_from, flat_map_same}
 use Rattle.model_set_up.proofs.Holders.{Holds, holds_is, is_held, self_space, claims_in, one_at_most, holder_first, same_members}
 use Rattle.model_board.proofs.Routing.{flat_map_map, first_listed, first_of_claims, forwarded_by_routing, claims_by_routing}
 use Rattle.model_set_up.proofs.SetUpRegisters.{FitsRegister, bases_read, endpoint_opens, bridge_opens}
@@ -45,10 +45,8 @@ use Rattle.model_set_up.proofs.PlacedReads.{InAperture, fits_register}
 -- where each region's hit, if it is forwarded, is a claim, the claims of a function are those of its regions
 by_region : (t : Bool) (p : Path) (hit : Region → Option Hit) (claim : Region → Option Claim) (gs : List Region) → Each (λ g. cond t (map (claim_at p) (option_to_list (hit g))) [] ≡ option_to_list (claim g)) gs
     → cond t (map (claim_at p) (flat_map (λ g. option_to_list (hit g)) gs)) [] ≡ flat_map (λ g. option_to_list (claim g)) gs
-by_region true p hit claim [] h = refl
-by_region false p hit claim [] h = refl
-by_region true p hit claim (g ∷ gs) h = map-append (claim_at p) (option_to_list (hit g)) (flat_map (λ k. option_to_list (hit k)) gs) ∙ ap₂ ◌++◌ h.0 (by_region true p hit claim gs h.1)
-by_region false p hit claim (g ∷ gs) h = ap₂ ◌++◌ h.0 (by_region false p hit claim gs h.1)
+by_region t p hit claim [] h = grind arith
+by_region t p hit claim (g ∷ gs) h = grind (arith, map-append, by_region true p hit claim gs, by_region false p hit claim gs)
 
 -- a function with the cells that set-up leaves
 abbrev left : Board → Apertures → Row → BoardFunction
@@ -56,10 +54,6 @@ left b a r = record { path = r.path; decl = r.decl; file = set_up_file b a r.pat
 
 no_claims : (t : Bool) → cond {A = List Claim} t [] [] ≡ []
 no_claims t = grind arith
-
-flat_map_same : {A B : Type 0} (f g : A → List B) (xs : List A) → ((x : A) → IsIn x xs → f x ≡ g x) → flat_map f xs ≡ flat_map g xs
-flat_map_same f g [] h = refl
-flat_map_same f g (x ∷ xs) h = ap₂ ◌++◌ (h x (inl refl)) (flat_map_same f g xs (λ y m. h y (inr m)))
 
 flat_map_flat : {A B C : Type 0} (f : B → List C) (g : A → List B) (xs : List A) → flat_map f (flat_map g xs) ≡ flat_map (λ x. flat_map f (g x)) xs
 flat_map_flat f g [] = refl
@@ -116,9 +110,7 @@ module _ (b : Board) (a : Apertures) (can : CanBePlaced b a) (lawful : IsLawful 
     by_row s n m low high t h = grind (arith, each_in, bridge_above, one_row, by_decl)
 
     forwarded : (n : ℕ) → row.first ≤ n → n < row.first + row.size → is_forwarded (set_up_state b a).functions r.path (space_of g.kind) n ≡ true
-    forwarded n low high =
-        list_all-map (λ (f : BoardFunction). not (leads_to f.path r.path) || forwards (space_of g.kind) n f) (left b a) b
-        ∙ all_from (λ (s : Row). not (leads_to s.path r.path) || forwards (space_of g.kind) n (left b a s)) b (λ s m. by_row s n m low high (leads_to s.path r.path) refl)
+    forwarded n low high = grind (arith, list_all-map, all_from, by_row)
 
   -- ---- an endpoint decodes where its regions are placed
 
@@ -148,10 +140,7 @@ module _ (b : Board) (a : Apertures) (can : CanBePlaced b a) (lawful : IsLawful 
 
       by_test : (u : Bool) → holds space n (placed b a r.path g) ≡ u
           → cond t (map (claim_at r.path) (option_to_list (cond u (Some (record { index = g.index; offset = n - first_of b a r.path g })) None))) [] ≡ option_to_list (cond u (Some (record { path = r.path; index = g.index; offset = n - first_of b a r.path g })) None)
-      by_test true h =
-          let held : Holds space n (placed b a r.path g) = holds_is space n (placed b a r.path g) h in
-          let way : t ≡ true = subst (λ (x : Space). is_forwarded (set_up_state b a).functions r.path x n ≡ true) (space_same (space_of g.kind) space held.space_is) (forwarded r e g m decl_is k n held.from held.below) in rw way
-      by_test false h = no_claims t
+      by_test u h = grind (arith, holds_is, space_same, forwarded, no_claims)
 
   -- ---- all claims are those of placed regions
 

@@ -1,5 +1,5 @@
 -- After set-up the window registers of each bridge name what placement put behind it.
-use Rattle.std.proofs.Common.{◌≡◌, ℕ, ◌+◌, ◌-◌, ◌*◌, ◌/◌, ◌%◌, ◌^◌, ◌≤◌, ◌<◌, Bool, true, Option, Some, None, refl, sym, ap₂, ◌∙◌, subst, arith, div-add-mod', lit<}
+use Rattle.std.proofs.Common.{◌≡◌, ℕ, ◌+◌, ◌-◌, ◌*◌, ◌/◌, ◌%◌, ◌^◌, ◌≤◌, ◌<◌, Bool, true, Option, Some, None, refl, sym, ◌∙◌, subst, arith, div-add-mod', lit<}
 use Rattle.std.specs.Prelude.{nat_le}
 use Rattle.std.proofs.lemmas.Bool.{le-leb}
 use Rattle.model_registers.specs.Declarations.{IoDecode, io32, PrefDecode, no_pref, pref32, pref64, Bridge}
@@ -29,12 +29,9 @@ memory_named s reach h = grind (arith, whole_first, in_order)
 
 -- ---- the registers of I/O with 32 address bits, above 64 KB too
 
-io_wide : (n : ℕ) → n < 2 ^ 32 → (n / 2 ^ 16 % 256 + 256 * (n / 2 ^ 16 / 256 % 256 + 256 * 0)) * 2 ^ 16 + ((n / 2 ^ 12 % 2 ^ 12 * 16 + 1) % 256 + 256 * 0) / 16 * 2 ^ 12 ≡ n / 2 ^ 12 * 2 ^ 12
-io_wide n h = grind arith
-
 io_reads_wide : (vendor device revision : ℕ) (pref : PrefDecode) (multifunction : Bool) (r : BridgeValues) → r.io.first < 2 ^ 32 → r.io.last < 2 ^ 32
     → io_window io32 (bridge_file (record { vendor = vendor; device = device; revision = revision; io = io32; pref = pref }) multifunction r) ≡ named_by (2 ^ 12) r.io
-io_reads_wide vendor device revision pref multifunction r f l = ap₂ (λ x y. window x (y + 0xfff)) (io_wide r.io.first f) (io_wide r.io.last l)
+io_reads_wide vendor device revision pref multifunction r f l = grind arith
 
 -- a closed window lies within the reach of each decode, and its registers name no window
 record IsShut (unit reach : ℕ) (s : Window) : Type 0 where

@@ -11,7 +11,7 @@ use Rattle.model_board.specs.Paths.{Part, part_eq}
 use Rattle.model_set_up.specs.Placement.{Placed, same_placed, register_of, Item, Spot, stands_before, is_item, offset_in}
 use Rattle.model_board.proofs.PathOrder.{part_same}
 use Rattle.lists.proofs.Indices.{at_below, each_at, pair_at}
-use Rattle.model_set_up.proofs.ItemOrder.{one_way}
+use Rattle.model_set_up.proofs.InOrder.{one_way}
 use Rattle.window_packing.specs.Searching.{IsFirstFrom}
 
 chain : (i j k : Item) → stands_before i j ≡ false → stands_before j k ≡ false → stands_before i k ≡ false
