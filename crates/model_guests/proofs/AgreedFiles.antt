@@ -1,9 +1,10 @@
 -- The file that agrees with a guest's file: what it holds, that it is the only one, and how it changes.
-use Rattle.std.proofs.Common.{◌≡◌, ℕ, ◌+◌, ◌*◌, ◌/◌, ◌%◌, Bool, true, false, not, ◌&&◌, ◌||◌, cond, List, [], ◌∷◌, refl, sym, ap, ap₂, ◌∙◌, subst, arith}
+use Rattle.std.proofs.Common.{◌≡◌, ◌/◌, ◌%◌, Bool, true, false, not, ◌&&◌, ◌||◌, cond, List, [], ◌∷◌, refl, sym, ap, ap₂, ◌∙◌, subst, arith}
 use Rattle.std.specs.Prelude.{IsFalse}
 use Rattle.std.specs.List.{list_any}
 use Rattle.std.proofs.lemmas.Bool.Decides.{nat_tests}
 use Rattle.lists.specs.Elements.{Each, EachPair}
+use Rattle.lists.proofs.Members.{each_from}
 use Rattle.model_registers.specs.Cell.{Cell, no_cell, written}
 use Rattle.model_registers.specs.Registers.{Place, place_eq, after, PlacedCell, File, cell_at, changed, write}
 use Rattle.model_registers.proofs.RegisterFiles.{change_at_place, place_same, place_turned}
@@ -24,33 +25,21 @@ place_self p = grind (arith, nat_tests)
 abbrev agreed_entry : File → PlacedCell → PlacedCell
 agreed_entry own e = cond (is_own e.place) e (record e { cell = cell_at own e.place })
 
-entry_place : (own : File) (e : PlacedCell) (t : Bool) → is_own e.place ≡ t → (agreed_entry own e).place ≡ e.place
-entry_place own e t h = grind arith
-
 pub agreed_places : (left own : File) → places_of (agreed_file left own) ≡ places_of left
 agreed_places [] own = refl
-agreed_places (e ∷ es) own = ap₂ (λ (p : Place) (ps : List Place). p ∷ ps) (entry_place own e (is_own e.place) refl) (agreed_places es own)
+agreed_places (e ∷ es) own = grind (arith, agreed_places es own)
 
 -- a place of the guest's copies
 pub agreed_kept : (left own : File) (p : Place) → is_own p ≡ true → cell_at (agreed_file left own) p ≡ cell_at left p
 agreed_kept [] own p h = refl
-agreed_kept (e ∷ es) own p h = cases (is_own e.place) refl (place_eq e.place p) refl (agreed_kept es own p h)
-  where
-    cases : (t : Bool) → is_own e.place ≡ t → (u : Bool) → place_eq e.place p ≡ u → cell_at (agreed_file es own) p ≡ cell_at es p
-        → cell_at (agreed_file (e ∷ es) own) p ≡ cell_at (e ∷ es) p
-    cases t i u k more = grind (arith, place_same)
+agreed_kept (e ∷ es) own p h = grind (arith, agreed_kept es own p h, place_same)
 
 abbrev pub stands : Place → List Place → Bool
 stands p ps = list_any (λ q. place_eq q p) ps
 
 pub absent : (file : File) (p : Place) → stands p (places_of file) ≡ false → cell_at file p ≡ no_cell
 absent [] p h = refl
-absent (e ∷ es) p h = cases (place_eq e.place p) refl h (absent es p)
-  where
-    cases : (t : Bool) → place_eq e.place p ≡ t → (t || stands p (places_of es)) ≡ false → (stands p (places_of es) ≡ false → cell_at es p ≡ no_cell)
-        → cond t e.cell (cell_at es p) ≡ no_cell
-    cases true k h more = cc
-    cases false k h more = more h
+absent (e ∷ es) p h = grind (arith, absent es p)
 
 -- every other place
 pub agreed_where : (left own : File) (p : Place) → is_own p ≡ false → cell_at (agreed_file left own) p ≡ cond (stands p (places_of left)) (cell_at own p) no_cell
@@ -73,20 +62,14 @@ agreed_holds left own same = grind (arith, agreed_places, agreed_kept, agreed_co
 -- a guest reads there what it holds
 pub shows_file : ShowsFile
 shows_file left own same p [] = refl
-shows_file left own same p (on ∷ ons) = ap₂ (λ (x y : ℕ). x + 256 * y) (cases on (is_own p) refl) (shows_file left own same (after p) ons)
-  where
-    cases : (on t : Bool) → is_own p ≡ t → cond (on && not t) (cell_at (agreed_file left own) p).value 0 ≡ cond (on && not t) (cell_at own p).value 0
-    cases on t h = grind (arith, agreed_common)
+shows_file left own same p (on ∷ ons) = grind (arith, shows_file left own same (after p) ons, agreed_common)
 
 -- ---- no other file holds that
 
 tail_cells : (e d : PlacedCell) (es ds : File) → e.place ≡ d.place → (ps : List Place) → Each (λ p. IsFalse (place_eq e.place p)) ps
     → Each (λ p. cell_at (e ∷ es) p ≡ cell_at (d ∷ ds) p) ps → Each (λ p. cell_at es p ≡ cell_at ds p) ps
 tail_cells e d es ds same [] apart cells = tt
-tail_cells e d es ds same (p ∷ ps) apart cells =
-    let first : place_eq e.place p ≡ false = apart.0 in
-    let second : place_eq d.place p ≡ false = ap (λ (q : Place). place_eq q p) (sym same) ∙ first in
-    (rw second at (rw first at cells.0), tail_cells e d es ds same ps apart.1 cells.1)
+tail_cells e d es ds same (p ∷ ps) apart cells = grind (arith, tail_cells e d es ds same ps)
 
 -- files with the same places, none twice, and with the same cells there
 pub same_files : (f g : File) → places_of f ≡ places_of g → HasDistinctPlaces f → Each (λ p. cell_at f p ≡ cell_at g p) (places_of f) → f ≡ g
@@ -102,42 +85,27 @@ same_files (e ∷ es) (d ∷ ds) same distinct cells =
     ap₂ (λ (x : PlacedCell) (xs : File). x ∷ xs) (λ i. record { place = place i; cell = cell i })
     (same_files es ds places distinct.1 (tail_cells e d es ds place (places_of es) distinct.0 cells.1))
 
-pub each_of : (P : Place → Type 0) → ((p : Place) → P p) → (ps : List Place) → Each P ps
-each_of P h [] = tt
-each_of P h (p ∷ ps) = (h p, each_of P h ps)
-
 pub only_file : (left own now : File) → HasDistinctPlaces left → HoldsFile left own now → now ≡ agreed_file left own
 only_file left own now distinct holds =
     same_files now (agreed_file left own) (holds.places ∙ sym (agreed_places left own))
     (subst (λ (ps : List Place). EachPair (λ p q. IsFalse (place_eq p q)) ps) (sym holds.places) distinct)
-    (each_of (λ p. cell_at now p ≡ cell_at (agreed_file left own) p) (λ p. cases p (is_own p) refl (stands p (places_of left)) refl) (places_of now))
+    (each_from (λ p. cell_at now p ≡ cell_at (agreed_file left own) p) (places_of now) (λ p m. cases p (is_own p) refl (stands p (places_of left)) refl))
   where
     cases : (p : Place) (t : Bool) → is_own p ≡ t → (u : Bool) → stands p (places_of left) ≡ u → cell_at now p ≡ cell_at (agreed_file left own) p
     cases p t h u k = grind (arith, agreed_kept, agreed_where, absent)
 
 -- ---- changes
 
--- a guest's copy is nothing of the board's
-own_entry : (f : Cell → Cell) → f no_cell ≡ no_cell → (p : Place) → is_own p ≡ true → (own : File) (e : PlacedCell) (t : Bool) → is_own e.place ≡ t
-    → agreed_entry (changed f p own) e ≡ agreed_entry own e
-own_entry f none p h own e true i = rw i
-own_entry f none p h own e false i = grind (arith, change_at_place, place_same)
-
 pub own_change : (f : Cell → Cell) → f no_cell ≡ no_cell → (p : Place) → is_own p ≡ true → (left own : File) → agreed_file left (changed f p own) ≡ agreed_file left own
 own_change f none p h [] own = refl
-own_change f none p h (e ∷ es) own = ap₂ (λ (x : PlacedCell) (xs : File). x ∷ xs) (own_entry f none p h own e (is_own e.place) refl) (own_change f none p h es own)
+own_change f none p h (e ∷ es) own = grind (arith, own_change f none p h es own, change_at_place, place_same)
 
 abbrev changed_entry : (Cell → Cell) → Place → PlacedCell → PlacedCell
 changed_entry f p e = cond (place_eq e.place p) (record e { cell = f e.cell }) e
 
-board_entry : (f : Cell → Cell) → f no_cell ≡ no_cell → (p : Place) → is_own p ≡ false → (own : File) (e : PlacedCell) (t : Bool) → is_own e.place ≡ t → (u : Bool) → place_eq e.place p ≡ u
-    → agreed_entry (changed f p own) e ≡ changed_entry f p (agreed_entry own e)
-board_entry f none p h own e t i u k = grind (arith, place_same, place_turned, change_at_place)
-
 pub board_change : (f : Cell → Cell) → f no_cell ≡ no_cell → (p : Place) → is_own p ≡ false → (left own : File) → agreed_file left (changed f p own) ≡ changed f p (agreed_file left own)
 board_change f none p h [] own = refl
-board_change f none p h (e ∷ es) own =
-    ap₂ (λ (x : PlacedCell) (xs : File). x ∷ xs) (board_entry f none p h own e (is_own e.place) refl (place_eq e.place p) refl) (board_change f none p h es own)
+board_change f none p h (e ∷ es) own = grind (arith, board_change f none p h es own, place_same, place_turned, change_at_place)
 
 pub writes_alike : WritesAlike
 writes_alike [] v p left own = refl

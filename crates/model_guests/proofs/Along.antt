@@ -1,12 +1,11 @@
 -- Along a script guests stay seated and keep their names, and the handoff stays.
-use Rattle.std.proofs.Common.{◌≡◌, ℕ, zero, suc, false, cond, List, [], ◌∷◌, Some, refl, ap, ap₂, ◌∙◌, subst, arith}
-use Rattle.std.specs.Prelude.{map, slice_set, IsFalse}
-use Rattle.std.specs.Str.{bytes_eq}
+use Rattle.std.proofs.Common.{◌≡◌, ℕ, zero, suc, cond, List, [], ◌∷◌, Some, refl, ap, ap₂, ◌∙◌, subst, arith}
+use Rattle.std.specs.Prelude.{map, slice_set}
 use Rattle.model_board.specs.Board.{Board}
 use Rattle.model_guests.specs.Text.{Text}
 use Rattle.model_guests.specs.World.{Guest, World, names}
-use Rattle.model_guests.specs.Guests.{GuestNow, GuestsNow, guest_after, guest_at_first, guests_at_first, guest_named, with_guest}
-use Rattle.model_guests.specs.Lines.{Meaning, nothing, guest_event, host_read, host_move, bad, meaning}
+use Rattle.model_guests.specs.Guests.{GuestNow, GuestsNow, guest_at_first, guests_at_first, guest_named, with_guest}
+use Rattle.model_guests.specs.Lines.{Meaning, meaning}
 use Rattle.model_guests.specs.WorldNow.{WorldNow, world_over, names_of, names_now, guests_after, after_line, after_lines}
 use Rattle.model_guests.specs.Seated.{AreSeated, ByIndex, SeatedAlong}
 use Rattle.model_guests.specs.WorldLaws.{NamesStay, NamesAlong, HandoffStays}
@@ -36,11 +35,7 @@ names_with f keeps n [] = refl
 names_with f keeps n (g ∷ gs) = ap₂ (λ (x : Text) (xs : List Text). x ∷ xs) (one_name f keeps n g) (names_with f keeps n gs)
 
 pub names_meaning : (gs : GuestsNow) (m : Meaning) → names_of (guests_after gs m) ≡ names_of gs
-names_meaning gs nothing = refl
-names_meaning gs (guest_event name e) = names_with (guest_after e) (λ g. refl) name gs
-names_meaning gs (host_read r) = refl
-names_meaning gs (host_move m) = grind (arith, names_with)
-names_meaning gs (bad who n) = refl
+names_meaning gs m = grind (arith, names_with)
 
 pub names_stay : NamesStay
 names_stay w l = names_meaning w.guests (meaning (names_now w) l)
@@ -72,9 +67,4 @@ by_index (h ∷ hs) apart zero g at =
       ap (λ v. cond v (Some h) (guest_named hs h.name)) (same_text h.name),
       λ f. ap₂ (λ (x : GuestNow) (xs : GuestsNow). x ∷ xs) (ap (λ v. cond v (f h) h) (same_text h.name)) (others_stay f h.name hs apart.0),
     )
-by_index (h ∷ hs) apart (suc i) g at =
-    let other : bytes_eq h.name g.name ≡ false = each_at (λ (v : GuestNow). IsFalse (bytes_eq h.name v.name)) hs i g apart.0 at in
-    let more = by_index hs apart.1 i g at in (
-      ap (λ v. cond v (Some h) (guest_named hs g.name)) other ∙ more.0,
-      λ f. ap₂ (λ (x : GuestNow) (xs : GuestsNow). x ∷ xs) (ap (λ v. cond v (f h) h) (other_name h.name g.name other)) (more.1 f),
-    )
+by_index (h ∷ hs) apart (suc i) g at = grind (arith, each_at, by_index hs apart.1 i g, other_name)

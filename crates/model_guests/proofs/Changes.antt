@@ -1,8 +1,6 @@
 -- A change of one guest's function changes the board there, and nowhere else.
-use Rattle.std.proofs.Common.{◌≡◌, ℕ, Bool, true, false, cond, List, [], ◌∷◌, Some, Option, refl, sym, ap, ap₂, ◌∙◌, arith}
+use Rattle.std.proofs.Common.{◌≡◌, ℕ, false, cond, List, [], ◌∷◌, Some, Option, refl, sym, ap, ap₂, ◌∙◌, arith}
 use Rattle.std.specs.Prelude.{map, IsFalse}
-use Rattle.std.specs.Str.{bytes_eq}
-use Rattle.lists.specs.Elements.{first_of_two}
 use Rattle.model_board.proofs.PlacesLaw.{apart_turn}
 use Rattle.model_registers.specs.Registers.{PlacedCell, File, cell_at}
 use Rattle.model_registers.specs.OwnCopies.{is_own}
@@ -14,7 +12,7 @@ use Rattle.model_board.specs.AtReset.{board_at}
 use Rattle.model_board.specs.State.{BoardFunction, State}
 use Rattle.model_board.proofs.PathOrder.{path_same}
 use Rattle.model_guests.specs.Text.{Text}
-use Rattle.model_guests.specs.Guests.{GuestsNow, file_in, file_of, function_in, guest_named, path_in, with_guest}
+use Rattle.model_guests.specs.Guests.{GuestsNow, file_of, function_in, guest_named, path_in, with_guest}
 use Rattle.model_registers.specs.CopiedFiles.{agreed_file}
 use Rattle.model_guests.specs.AgreedBoard.{agreed_function, state_over, with_change_at, with_files}
 use Rattle.model_guests.specs.Seated.{AreSeated, IsSeat}
@@ -31,12 +29,9 @@ use Rattle.model_guests.proofs.FoundFiles.{file_beside, file_found, file_stays, 
 
 module _ (own_change board_change : File → File) (own : File) (alike : (left : File) → agreed_file left (own_change own) ≡ board_change (agreed_file left own)) (old new : Path → Option File) (p : Path)
     (before : old p ≡ Some own) (after : new p ≡ Some (own_change own)) (others : (q : Path) → IsFalse (path_eq p q) → new q ≡ old q) where
-  function_changes : (f : BoardFunction) → agreed_function new f ≡ changed_function board_change p (agreed_function old f)
-  function_changes f = grind (arith, path_same, changed_here, apart_turn, unchanged)
-
   functions_change : (fs : List BoardFunction) → map (agreed_function new) fs ≡ map (changed_function board_change p) (map (agreed_function old) fs)
   functions_change [] = refl
-  functions_change (f ∷ fs) = ap₂ (λ (x : BoardFunction) (xs : List BoardFunction). x ∷ xs) (function_changes f) (functions_change fs)
+  functions_change (f ∷ fs) = grind (arith, functions_change fs, path_same, changed_here, apart_turn, unchanged)
 
 -- where the changes are alike for this file of the guest
 pub one_file_of : (own_change board_change : File → File) (own : File) → ((left : File) → agreed_file left (own_change own) ≡ board_change (agreed_file left own)) → (old new : Path → Option File) (p : Path)
@@ -107,11 +102,7 @@ same_files_over s old new same = ap (λ (fs : List BoardFunction). record s { fu
 
 latch_files : (name : Text) (latch : ℕ) (q : Path) (gs : GuestsNow) → file_of (with_guest (with_latch latch) name gs) q ≡ file_of gs q
 latch_files name latch q [] = refl
-latch_files name latch q (t ∷ ts) = ap₂ first_of_two (cases (bytes_eq name t.name)) (latch_files name latch q ts)
-  where
-    cases : (v : Bool) → file_in (cond v (with_latch latch t) t).paths (cond v (with_latch latch t) t).lone.slots q ≡ file_in t.paths t.lone.slots q
-    cases true = refl
-    cases false = refl
+latch_files name latch q (t ∷ ts) = grind (arith, latch_files name latch q ts)
 
 pub latch_keeps_board : LatchKeepsBoard
 latch_keeps_board s gs name latch = same_files_over s gs (with_guest (with_latch latch) name gs) (λ q. latch_files name latch q gs)
@@ -121,12 +112,9 @@ latch_keeps_board s gs name latch = same_files_over s gs (with_guest (with_latch
 abbrev agreed_entry : File → PlacedCell → PlacedCell
 agreed_entry file e = cond (is_own e.place) e (record e { cell = cell_at file e.place })
 
-entry_twice : (own file : File) (e : PlacedCell) (t : Bool) → is_own e.place ≡ t → agreed_entry file e ≡ agreed_entry file (agreed_entry own e)
-entry_twice own file e t h = grind arith
-
 pub agreed_twice : (left own file : File) → agreed_file left file ≡ agreed_file (agreed_file left own) file
 agreed_twice [] own file = refl
-agreed_twice (e ∷ es) own file = ap₂ (λ (x : PlacedCell) (xs : File). x ∷ xs) (entry_twice own file e (is_own e.place) refl) (agreed_twice es own file)
+agreed_twice (e ∷ es) own file = grind (arith, agreed_twice es own file)
 
 pub resets_alike : ResetsAlike
 resets_alike d left own = agreed_twice left own (endpoint_reset d false)

@@ -1,22 +1,21 @@
 -- A guest's copies have no bits that a device raises, at reset.
-use Rattle.std.proofs.Common.{◌≡◌, ℕ, zero, suc, ◌+◌, ◌/◌, ◌≤◌, Bool, true, false, not, ◌||◌, cond, List, [], ◌∷◌, Some, None, refl, ap, ap₂, ◌∙◌, arith, eqb}
-use Rattle.std.specs.Prelude.{flat_map, find, ⊤, MatchOption, bit_and, bit_or}
-use Rattle.std.specs.Option.{option_map_or}
+use Rattle.std.proofs.Common.{◌≡◌, ℕ, zero, suc, ◌+◌, ◌/◌, ◌≤◌, Bool, true, false, not, ◌||◌, List, [], ◌∷◌, refl, ap, ◌∙◌, arith, eqb}
+use Rattle.std.specs.Prelude.{flat_map, ⊤, MatchOption, bit_and, bit_or}
 use Rattle.std.specs.Int.Bits.{or_zero_r, and_zero_r}
 use Rattle.std.proofs.lemmas.Bool.{eqb-true}
 use Rattle.std.proofs.lemmas.Bool.Decides.{nat_tests}
 use Rattle.model_registers.specs.Cell.{Cell, raised}
 use Rattle.lists.specs.Elements.{Each}
-use Rattle.model_registers.specs.Registers.{Place, config, block, place_eq, PlacedCell, File, raise, field, cells_from}
-use Rattle.model_registers.specs.Declarations.{Kind, Region, ConfigBlock, Endpoint}
+use Rattle.model_registers.specs.Registers.{Place, config, block, PlacedCell, File, raise, field, cells_from}
+use Rattle.model_registers.specs.Declarations.{Region, ConfigBlock, Endpoint}
 use Rattle.model_registers.specs.DeclarationRules.{IsLawfulEndpoint}
-use Rattle.model_registers.specs.EndpointTable.{base_cells, region_cells, block_cells, header_cells, config_cells, endpoint_reset}
+use Rattle.model_registers.specs.EndpointTable.{region_cells, block_cells, endpoint_reset}
 use Rattle.lists.proofs.Tests.{left_true, right_true}
-use Rattle.model_board.specs.Paths.{Path, path_eq}
+use Rattle.model_board.specs.Paths.{Path}
 use Rattle.model_board.specs.Board.{Board}
 use Rattle.model_board.specs.Lawful.{IsLawfulDecl}
 use Rattle.model_registers.specs.OwnCopies.{is_own}
-use Rattle.model_guests.specs.World.{endpoint_of, declared}
+use Rattle.model_guests.specs.World.{declared}
 use Rattle.model_guests.proofs.DistinctPlaces.{own_blocks}
 use Rattle.lists.proofs.EachLemmas.{each_append}
 use Rattle.model_registers.proofs.RegisterFiles.{place_same}
@@ -38,37 +37,21 @@ low_cell m e own low =
 
 pub not_raised : (m : ℕ) (p : Place) → is_own p ≡ true → (file : File) → StaysLow file → raise m p file ≡ file
 not_raised m p own [] low = refl
-not_raised m p own (e ∷ es) low = ap₂ (λ (x : PlacedCell) (xs : File). x ∷ xs) (here (place_eq e.place p) refl) (not_raised m p own es low.1)
-  where
-    here : (t : Bool) → place_eq e.place p ≡ t → cond t (record e { cell = raised m e.cell }) e ≡ e
-    here true same = low_cell m e (ap is_own (place_same e.place p same) ∙ own) low.0
-    here false same = refl
+not_raised m p own (e ∷ es) low = grind (arith, not_raised m p own es, low_cell, place_same)
 
 -- ---- files at reset
 
-header_low : (d : Endpoint) → StaysLow (header_cells d false 0)
-header_low d = grind (arith, left_true, right_true)
-
-not_own : (a : ℕ) → 0x40 ≤ a → is_own (config a) ≡ false
-not_own a h = grind (arith, nat_tests)
-
 cells_low : (a : ℕ) (cs : List Cell) → 0x40 ≤ a → StaysLow (cells_from (config a) cs)
 cells_low a [] h = tt
-cells_low a (c ∷ cs) h = let other : is_own (config a) ≡ false = not_own a h in (rw other, cells_low (a + 1) cs (omega arith))
+cells_low a (c ∷ cs) h = grind (arith, cells_low (a + 1) cs, nat_tests)
 
 blocks_low : (bs : List ConfigBlock) → Each (λ b. 0x40 ≤ b.offset) bs → StaysLow (flat_map block_cells bs)
 blocks_low [] h = tt
 blocks_low (b ∷ bs) h = each_append (λ e. stays_low e ≡ true) (block_cells b) (flat_map block_cells bs) (cells_low b.offset b.cells h.0) (blocks_low bs h.1)
 
-either : (t : Bool) → (t || true) ≡ true
-either t = grind arith
-
 registers_low : (w a v m : ℕ) → StaysLow (field (config a) w v m 0)
 registers_low zero a v m = tt
-registers_low (suc w) a v m = (either (not (is_own (config a))), registers_low w (a + 1) (v / 256) (m / 256))
-
-bases_low : (n : ℕ) (kind : Kind) (size : ℕ) → StaysLow (base_cells n kind size 0)
-bases_low n kind size = grind (arith, registers_low)
+registers_low (suc w) a v m = grind (arith, registers_low w (a + 1) (v / 256) (m / 256))
 
 region_block_low : (n a : ℕ) (cs : List Cell) → StaysLow (cells_from (block n a) cs)
 region_block_low n a [] = tt
@@ -76,21 +59,13 @@ region_block_low n a (c ∷ cs) = (refl, region_block_low n (a + 1) cs)
 
 regions_low : (rs : List Region) → StaysLow (flat_map (region_cells (λ r. 0)) rs)
 regions_low [] = tt
-regions_low (r ∷ rs) =
-    each_append (λ e. stays_low e ≡ true) (region_cells (λ r. 0) r) (flat_map (region_cells (λ r. 0)) rs)
-    (each_append (λ e. stays_low e ≡ true) (base_cells r.index r.kind r.size 0) (cells_from (block r.index 0) r.cells) (bases_low r.index r.kind r.size) (region_block_low r.index 0 r.cells)) (regions_low rs)
+regions_low (r ∷ rs) = grind (arith, regions_low rs, each_append, region_block_low, registers_low)
 
 pub reset_low : (d : Endpoint) → IsLawfulEndpoint d → StaysLow (endpoint_reset d false)
-reset_low d lawful =
-    each_append (λ e. stays_low e ≡ true) (config_cells d false 0) (flat_map (region_cells (λ r. 0)) d.regions)
-    (each_append (λ e. stays_low e ≡ true) (header_cells d false 0) (flat_map block_cells d.blocks) (header_low d) (blocks_low d.blocks (own_blocks d lawful))) (regions_low d.regions)
+reset_low d lawful = grind (arith, each_append, blocks_low, own_blocks, regions_low, left_true, right_true)
 
 -- ---- declarations of a lawful board
 
 pub declared_lawful : (b : Board) → Each (λ r. IsLawfulDecl r.decl) b → (p : Path) → MatchOption (declared b p) ⊤ IsLawfulEndpoint
 declared_lawful [] lawful p = tt
-declared_lawful (r ∷ rs) lawful p = cases (path_eq r.path p) (declared_lawful rs lawful.1 p)
-  where
-    cases : (t : Bool) → MatchOption (declared rs p) ⊤ IsLawfulEndpoint → MatchOption (option_map_or endpoint_of (cond t (Some r) (find (λ s. path_eq s.path p) rs)) None) ⊤ IsLawfulEndpoint
-    cases true more = grind arith
-    cases false more = more
+declared_lawful (r ∷ rs) lawful p = grind (arith, declared_lawful rs)

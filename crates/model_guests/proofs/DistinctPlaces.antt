@@ -1,14 +1,14 @@
 -- No place of an endpoint's file stands twice: registers and blocks are runs of places, and no two runs meet.
-use Rattle.std.proofs.Common.{◌≡◌, ℕ, zero, suc, ◌+◌, ◌*◌, ◌≤◌, ◌<◌, ◌⊎◌, inl, inr, Bool, false, List, [], ◌∷◌, ◌++◌, length, refl, sym, ap, ap₂, ◌∙◌, subst, arith, eqb}
+use Rattle.std.proofs.Common.{◌≡◌, ℕ, zero, suc, ◌+◌, ◌*◌, ◌≤◌, ◌<◌, ◌⊎◌, inl, inr, Bool, false, List, [], ◌∷◌, ◌++◌, length, refl, sym, ap, ap₂, ◌∙◌, subst, arith}
 use Rattle.std.specs.Prelude.{flat_map, IsFalse}
 use Rattle.std.proofs.lemmas.Bool.{leb-true}
 use Rattle.std.proofs.lemmas.Bool.Decides.{nat_tests}
 use Rattle.model_registers.specs.Cell.{Cell}
 use Rattle.lists.specs.Elements.{Each, EachPair}
 use Rattle.model_registers.specs.Registers.{Place, config, block, place_eq, after, File, cells_from}
-use Rattle.model_registers.specs.Declarations.{Kind, registers_of, Region, ConfigBlock, Endpoint, IsLawfulRegion, HasLawfulRegions}
+use Rattle.model_registers.specs.Declarations.{registers_of, Region, ConfigBlock, Endpoint, IsLawfulRegion, HasLawfulRegions}
 use Rattle.model_registers.specs.DeclarationRules.{IsConfigBlock, IsLawfulEndpoint}
-use Rattle.model_registers.specs.EndpointTable.{base_register, base_cells, region_cells, block_cells, header_cells, config_cells, endpoint_file}
+use Rattle.model_registers.specs.EndpointTable.{base_register, region_cells, block_cells, endpoint_file}
 use Rattle.lists.proofs.EachLemmas.{each_map, pairs_map, each_append}
 use Rattle.model_registers.proofs.Bases.{registers_positive}
 use Rattle.model_registers.specs.CopiedFiles.{places_of}
@@ -50,17 +50,11 @@ HasDistinctPlaces file = EachPair Apart (places_of file)
 
 config_from : (a b n : ℕ) → a < b → Each (Apart (config a)) (run (config b) n)
 config_from a b zero h = tt
-config_from a b (suc n) h = (not_same a b h, config_from a (b + 1) n (omega arith))
-  where
-    not_same : (a b : ℕ) → a < b → eqb a b ≡ false
-    not_same a b h = grind (arith, nat_tests)
+config_from a b (suc n) h = grind (arith, config_from a (b + 1) n, nat_tests)
 
 config_before : (a b n : ℕ) → b + n ≤ a → Each (Apart (config a)) (run (config b) n)
 config_before a b zero h = tt
-config_before a b (suc n) h = (not_same a b (omega arith), config_before a (b + 1) n (omega arith))
-  where
-    not_same : (a b : ℕ) → b < a → eqb a b ≡ false
-    not_same a b h = grind (arith, nat_tests)
+config_before a b (suc n) h = grind (arith, config_before a (b + 1) n, nat_tests)
 
 configs_apart : (a m b n : ℕ) → (a + m ≤ b) ⊎ (b + n ≤ a) → AllApart (run (config a) m) (run (config b) n)
 configs_apart a zero b n h = tt
@@ -154,38 +148,22 @@ base_run_of r = run (base_register r.index) (4 * registers_of r.kind)
 abbrev region_run_of : Region → List Place
 region_run_of r = base_run_of r ++ run (block r.index 0) (length r.cells)
 
-header_places : (d : Endpoint) (multifunction : Bool) (command : ℕ) → places_of (header_cells d multifunction command) ≡ header_run
-header_places d multifunction command = refl
-
-base_places : (n : ℕ) (kind : Kind) (size base : ℕ) → places_of (base_cells n kind size base) ≡ run (base_register n) (4 * registers_of kind)
-base_places n kind size base = grind arith
-
 blocks_places : (bs : List ConfigBlock) → places_of (flat_map block_cells bs) ≡ flat_map block_run_of bs
 blocks_places [] = refl
 blocks_places (b ∷ bs) = places_append (block_cells b) (flat_map block_cells bs) ∙ ap₂ (λ (ps qs : List Place). ps ++ qs) (cells_run (config b.offset) b.cells) (blocks_places bs)
 
 regions_places : (bases : Region → ℕ) (rs : List Region) → places_of (flat_map (region_cells bases) rs) ≡ flat_map region_run_of rs
 regions_places bases [] = refl
-regions_places bases (r ∷ rs) =
-    places_append (region_cells bases r) (flat_map (region_cells bases) rs)
-    ∙ ap₂ (λ (ps qs : List Place). ps ++ qs)
-    (places_append (base_cells r.index r.kind r.size (bases r)) (cells_from (block r.index 0) r.cells)
-    ∙ ap₂ (λ (ps qs : List Place). ps ++ qs) (base_places r.index r.kind r.size (bases r)) (cells_run (block r.index 0) r.cells)) (regions_places bases rs)
+regions_places bases (r ∷ rs) = grind (arith, regions_places bases rs, places_append, cells_run)
 
 endpoint_places : (d : Endpoint) (multifunction : Bool) (command : ℕ) (bases : Region → ℕ)
     → places_of (endpoint_file d multifunction command bases) ≡ (header_run ++ flat_map block_run_of d.blocks) ++ flat_map region_run_of d.regions
-endpoint_places d multifunction command bases =
-    places_append (config_cells d multifunction command) (flat_map (region_cells bases) d.regions)
-    ∙ ap₂ (λ (ps qs : List Place). ps ++ qs)
-    (places_append (header_cells d multifunction command) (flat_map block_cells d.blocks) ∙ ap₂ (λ (ps qs : List Place). ps ++ qs) (header_places d multifunction command) (blocks_places d.blocks)) (regions_places bases d.regions)
+endpoint_places d multifunction command bases = grind (arith, places_append, blocks_places, regions_places)
 
 -- ---- no two of them meet
 
 header_distinct : EachPair Apart header_run
-header_distinct =
-    pairs_append (run (config 0) 15 ++ run (config 0x2c) 4) (run (config 0x3c) 4)
-    (pairs_append (run (config 0) 15) (run (config 0x2c) 4) (config_run 0 15) (config_run 0x2c 4) (configs_apart 0 15 0x2c 4 (inl (omega arith)))) (config_run 0x3c 4)
-    (both_apart (run (config 0) 15) (run (config 0x2c) 4) (run (config 0x3c) 4) (configs_apart 0 15 0x3c 4 (inl (omega arith))) (configs_apart 0x2c 4 0x3c 4 (inl (omega arith))))
+header_distinct = grind (arith, pairs_append, config_run, configs_apart, both_apart)
 
 -- what each part of the header is apart from
 header_apart : (ps : List Place) → AllApart (run (config 0) 15) ps → AllApart (run (config 0x2c) 4) ps → AllApart (run (config 0x3c) 4) ps → AllApart header_run ps
@@ -246,10 +224,7 @@ regions_distinct (r ∷ rs) apart =
 
 blocks_and_regions : (bs : List ConfigBlock) (rs : List Region) → Each (λ b. 0x40 ≤ b.offset) bs → Each IsLawfulRegion rs → AllApart (flat_map block_run_of bs) (flat_map region_run_of rs)
 blocks_and_regions [] rs h k = tt
-blocks_and_regions (b ∷ bs) rs h k =
-    both_apart (block_run_of b) (flat_map block_run_of bs) (flat_map region_run_of rs)
-    (apart_from_all region_run_of (block_run_of b) rs (each_map IsLawfulRegion (λ r. AllApart (block_run_of b) (region_run_of r)) rs (λ r l. block_and_region b r h.0 l) k))
-    (blocks_and_regions bs rs h.1 k)
+blocks_and_regions (b ∷ bs) rs h k = grind (arith, blocks_and_regions bs rs, both_apart, apart_from_all, each_map, block_and_region)
 
 distinct : (d : Endpoint) → HasLawfulPlaces d → (multifunction : Bool) (command : ℕ) (bases : Region → ℕ) → HasDistinctPlaces (endpoint_file d multifunction command bases)
 distinct d lawful multifunction command bases = subst (EachPair Apart) (sym (endpoint_places d multifunction command bases)) all

@@ -8,14 +8,14 @@ use Rattle.model_board.specs.Paths.{Path}
 use Rattle.model_board.specs.Board.{Board}
 use Rattle.model_board.specs.AtReset.{board_at}
 use Rattle.model_board.specs.State.{State}
-use Rattle.model_guests.specs.Accesses.{Event, Op, access, raises}
+use Rattle.model_guests.specs.Accesses.{Event, access, raises}
 use Rattle.model_guests.specs.Slots.{Landing, Slots, slot_at, with_file}
-use Rattle.model_guests.specs.Lone.{Destination, LoneGuest, after_access_at, after_event, reset_guest}
+use Rattle.model_guests.specs.Lone.{LoneGuest, after_event, reset_guest}
 use Rattle.model_guests.specs.Text.{Text}
 use Rattle.model_guests.specs.Guests.{GuestNow, GuestsNow, file_in, function_in, guest_after, guest_named, lone_of, path_in, with_guest}
 use Rattle.model_guests.specs.AgreedBoard.{state_over, with_change_at}
 use Rattle.model_guests.specs.Seated.{AreSeated, IsSeat}
-use Rattle.model_guests.specs.ChangeLaws.{ChangesAlike, EventReachesBoard, board_after, board_effect, landing_at, lands, own_effect, own_write, with_slot_changed}
+use Rattle.model_guests.specs.ChangeLaws.{ChangesAlike, EventReachesBoard, board_after, board_effect, lands, own_effect, with_slot_changed}
 use Rattle.model_guests.proofs.AgreedFiles.{writes_alike, raises_alike}
 use Rattle.model_guests.proofs.SeatedMoves.{seat_in}
 use Rattle.model_guests.proofs.FoundFiles.{file_stays, file_alike}
@@ -30,11 +30,8 @@ part_alike (raises r) p left own = raises_alike r.mask p left own
 abbrev after_landing : Event → Slots → Option Landing → Slots
 after_landing e slots o = option_map_or (λ (l : Landing). with_file (own_effect e l.place) l.slot slots) o slots
 
-target_slots : (g : LoneGuest) (op : Op) (w : ℕ) (d : Destination) → (after_access_at g op w d).slots ≡ option_map_or (λ (l : Landing). with_file (own_write op w l.place) l.slot g.slots) (landing_at g op d) g.slots
-target_slots g op w d = grind arith
-
 event_slots : (g : LoneGuest) (e : Event) → (after_event g e).slots ≡ after_landing e g.slots (lands g e)
-event_slots g e = grind (arith, target_slots)
+event_slots g e = grind arith
 
 -- ---- the board after it
 

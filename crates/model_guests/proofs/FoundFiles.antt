@@ -2,6 +2,8 @@
 use Rattle.std.proofs.Common.{◌≡◌, ℕ, zero, suc, Bool, true, false, cond, List, [], ◌∷◌, Some, None, Option, refl, sym, ap, ap₂, ◌∙◌, subst, arith}
 use Rattle.std.specs.Prelude.{slice_set, option_map, IsFalse}
 use Rattle.std.specs.Str.{bytes_eq}
+use Rattle.std.proofs.lemmas.List.{set-get_or}
+use Rattle.std.proofs.lemmas.Option.{unwrap_or-slice_get}
 use Rattle.lists.specs.Elements.{Each, EachPair, first_of_two}
 use Rattle.model_board.proofs.PathEnds.{path_self}
 use Rattle.model_registers.specs.Registers.{Place, File}
@@ -34,23 +36,22 @@ same_places f g same = sym (shape_places f) ∙ ap places_of same ∙ shape_plac
 skip : (o : Option Path) (f : Option Function) (qs : List (Option Path)) (fs : Slots) (q : Path) → ((r : Path) → o ≡ Some r → path_eq r q ≡ false) → file_in (o ∷ qs) (f ∷ fs) q ≡ file_in qs fs q
 skip o f qs fs q h = grind arith
 
+-- a path that is put where it stands
+put_back : (qs : List (Option Path)) (n : ℕ) → slice_set qs n (path_at qs n) ≡ qs
+put_back qs n = ap (slice_set qs n) (unwrap_or-slice_get qs n None) ∙ set-get_or qs n None
+
 -- another slot, set anew
 pub file_past : (qs : List (Option Path)) (fs : Slots) (n : ℕ) (x : Option Path) (f : Option Function) (q : Path)
     → ((r : Path) → path_at qs n ≡ Some r → path_eq r q ≡ false) → ((r : Path) → x ≡ Some r → path_eq r q ≡ false) → file_in (slice_set qs n x) (slice_set fs n f) q ≡ file_in qs fs q
 file_past [] fs n x f q h k = refl
-file_past (o ∷ os) [] zero x f q h k = grind arith
-file_past (o ∷ os) [] (suc n) x f q h k = refl
+file_past (o ∷ os) [] n x f q h k = grind arith
 file_past (o ∷ os) (g ∷ gs) zero x f q h k = skip x f os gs q k ∙ sym (skip o g os gs q h)
 file_past (None ∷ os) (g ∷ gs) (suc n) x f q h k = file_past os gs n x f q h k
 file_past (Some r ∷ os) (g ∷ gs) (suc n) x f q h k = ap (cond (path_eq r q) (option_map (λ (y : Function). y.file) g)) (file_past os gs n x f q h k)
 
 -- the same, where the path stays
 pub file_beside : (qs : List (Option Path)) (fs : Slots) (n : ℕ) (f : Option Function) (q : Path) → ((r : Path) → path_at qs n ≡ Some r → path_eq r q ≡ false) → file_in qs (slice_set fs n f) q ≡ file_in qs fs q
-file_beside [] fs n f q h = refl
-file_beside (o ∷ os) [] n f q h = refl
-file_beside (o ∷ os) (g ∷ gs) zero f q h = skip o f os gs q h ∙ sym (skip o g os gs q h)
-file_beside (None ∷ os) (g ∷ gs) (suc n) f q h = file_beside os gs n f q h
-file_beside (Some r ∷ os) (g ∷ gs) (suc n) f q h = ap (cond (path_eq r q) (option_map (λ (y : Function). y.file) g)) (file_beside os gs n f q h)
+file_beside qs fs n f q h = sym (ap (λ (ps : List (Option Path)). file_in ps (slice_set fs n f) q) (put_back qs n)) ∙ file_past qs fs n (path_at qs n) f q h h
 
 no_such : (o : Option Path) (p : Path) → (o ≡ Some p → ⊥) → (r : Path) → o ≡ Some r → path_eq r p ≡ false
 no_such o p h r e = cases (path_eq r p) refl
@@ -62,15 +63,13 @@ no_such o p h r e = cases (path_eq r p) refl
 file_own : (qs : List (Option Path)) (fs : Slots) (n : ℕ) (p : Path) (f : Function) → ((m : ℕ) → path_at qs m ≡ Some p → n ≡ m) → path_at qs n ≡ Some p → slot_at fs n ≡ Some f → file_in qs fs p ≡ Some f.file
 file_own [] fs n p f once at there = cc
 file_own (o ∷ os) [] n p f once at there = cc
-file_own (o ∷ os) (g ∷ gs) zero p f once at there =
-    ap (λ (x : Option Path). file_in (x ∷ os) (g ∷ gs) p) at ∙ ap (λ t. cond t (option_map (λ (y : Function). y.file) g) (file_in os gs p)) (path_self p) ∙ ap (option_map (λ (y : Function). y.file)) there
+file_own (o ∷ os) (g ∷ gs) zero p f once at there = grind (arith, path_self)
 file_own (o ∷ os) (g ∷ gs) (suc n) p f once at there =
     skip o g os gs p (no_such o p (λ e. let no : suc n ≡ 0 = once 0 e in omega arith)) ∙ file_own os gs n p f (λ m e. let same : suc n ≡ suc m = once (suc m) e in omega arith) at there
 
 file_none : (qs : List (Option Path)) (fs : Slots) (p : Path) → ((m : ℕ) → path_at qs m ≡ Some p → ⊥) → file_in qs fs p ≡ None
 file_none [] fs p none = refl
-file_none (None ∷ os) [] p none = refl
-file_none (Some r ∷ os) [] p none = refl
+file_none r [] p none = refl
 file_none (o ∷ os) (g ∷ gs) p none = skip o g os gs p (no_such o p (none 0)) ∙ file_none os gs p (λ m. none (suc m))
 
 seat_file : (b : Board) (qs : List (Option Path)) (fs : Slots) (p : Path) (file : File) → AreSeats b qs fs → file_in qs fs p ≡ Some file → IsFileOf places_of b p file
@@ -97,11 +96,7 @@ PathsApart s = (a c : Text) (n m : ℕ) (p : Path) → path_in s a n ≡ Some p 
 -- what a path finds is declared there
 pub seated_file : (b : Board) (s : GuestsNow) (p : Path) (file : File) → Each (IsSeatedGuest b) s → file_of s p ≡ Some file → IsFileOf places_of b p file
 seated_file b [] p file all e = cc
-seated_file b (t ∷ ts) p file all e = cases (file_in t.paths t.lone.slots p) refl e (seated_file b ts p file all.1)
-  where
-    cases : (o : Option File) → file_in t.paths t.lone.slots p ≡ o → first_of_two o (file_of ts p) ≡ Some file → (file_of ts p ≡ Some file → IsFileOf places_of b p file) → IsFileOf places_of b p file
-    cases None i e more = more e
-    cases (Some own) i e more = let same : own ≡ file = cc in subst (IsFileOf places_of b p) same (seat_file b t.paths t.lone.slots p own all.0.seats i)
+seated_file b (t ∷ ts) p file all e = grind (arith, seated_file b ts p file, seat_file)
 
 in_rest : (t : GuestNow) (ts : GuestsNow) (a : Text) (n : ℕ) (p : Path) → Each (λ (v : GuestNow). IsFalse (bytes_eq t.name v.name)) ts → path_in ts a n ≡ Some p → path_in (t ∷ ts) a n ≡ Some p
 in_rest t ts a n p apart h = grind (arith, past_first)
@@ -137,23 +132,6 @@ pub others_stay : (g : GuestNow → GuestNow) (name : Text) (s : GuestsNow) → 
 others_stay g name [] h = refl
 others_stay g name (t ∷ ts) h = let here : bytes_eq name t.name ≡ false = h.0 in ap₂ (λ (x : GuestNow) (xs : GuestsNow). x ∷ xs) (ap (λ v. cond v (g t) t) here) (others_stay g name ts h.1)
 
--- a path that the change of a guest leaves
-pub file_stays : (g : GuestNow → GuestNow) (name : Text) (q : Path) (s : GuestsNow) → NamesApart s
-    → ((t : GuestNow) → guest_named s name ≡ Some t → file_in (g t).paths (g t).lone.slots q ≡ file_in t.paths t.lone.slots q) → file_of (with_guest g name s) q ≡ file_of s q
-file_stays g name q [] names same = refl
-file_stays g name q (t ∷ ts) names same = cases (bytes_eq name t.name) refl (file_stays g name q ts names.1)
-  where
-    cases : (v : Bool) → bytes_eq name t.name ≡ v
-        → (((u : GuestNow) → guest_named ts name ≡ Some u → file_in (g u).paths (g u).lone.slots q ≡ file_in u.paths u.lone.slots q) → file_of (with_guest g name ts) q ≡ file_of ts q)
-        → file_of (with_guest g name (t ∷ ts)) q ≡ file_of (t ∷ ts) q
-    cases true e more =
-        let is : name ≡ t.name = equal_texts name t.name e in
-        let there : bytes_eq t.name name ≡ true = ap (bytes_eq t.name) is ∙ same_text t.name in
-        let rest : with_guest g name ts ≡ ts = others_stay g name ts (subst (λ (x : Text). Each (λ (v : GuestNow). IsFalse (bytes_eq x v.name)) ts) (sym is) names.0) in
-        ap (λ v. first_of_two (file_in (cond v (g t) t).paths (cond v (g t) t).lone.slots q) (file_of (with_guest g name ts) q)) e
-        ∙ ap₂ first_of_two (same t (ap (λ v. cond v (Some t) (guest_named ts name)) there)) (ap (λ (us : GuestsNow). file_of us q) rest)
-    cases false e more = grind (arith, other_name)
-
 -- two changes of a guest that leave the same file there
 pub file_alike : (g h : GuestNow → GuestNow) (name : Text) (q : Path) (s : GuestsNow) → NamesApart s
     → ((t : GuestNow) → guest_named s name ≡ Some t → file_in (g t).paths (g t).lone.slots q ≡ file_in (h t).paths (h t).lone.slots q) → file_of (with_guest g name s) q ≡ file_of (with_guest h name s) q
@@ -170,3 +148,12 @@ file_alike g h name q (t ∷ ts) names same = cases (bytes_eq name t.name) refl 
         let apart = subst (λ (x : Text). Each (λ (v : GuestNow). IsFalse (bytes_eq x v.name)) ts) (sym is) names.0 in
         ap₂ first_of_two (same t (ap (λ v. cond v (Some t) (guest_named ts name)) there)) (ap (λ (us : GuestsNow). file_of us q) (others_stay g name ts apart ∙ sym (others_stay h name ts apart)))
     cases false e more = grind (arith, other_name)
+
+same_guests : (name : Text) (s : GuestsNow) → with_guest (λ t. t) name s ≡ s
+same_guests name [] = refl
+same_guests name (t ∷ ts) = grind (arith, same_guests name ts)
+
+-- a path that the change of a guest leaves
+pub file_stays : (g : GuestNow → GuestNow) (name : Text) (q : Path) (s : GuestsNow) → NamesApart s
+    → ((t : GuestNow) → guest_named s name ≡ Some t → file_in (g t).paths (g t).lone.slots q ≡ file_in t.paths t.lone.slots q) → file_of (with_guest g name s) q ≡ file_of s q
+file_stays g name q s names same = file_alike g (λ t. t) name q s names same ∙ ap (λ (us : GuestsNow). file_of us q) (same_guests name s)

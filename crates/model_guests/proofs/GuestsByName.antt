@@ -1,5 +1,5 @@
 -- A guest by its name, after a change of one guest.
-use Rattle.std.proofs.Common.{◌≡◌, ℕ, zero, suc, Bool, true, false, cond, List, [], ◌∷◌, ◌++◌, Some, None, Option, refl, ap, ◌∙◌, subst, arith}
+use Rattle.std.proofs.Common.{◌≡◌, ℕ, zero, suc, Bool, true, false, cond, List, [], ◌∷◌, ◌++◌, Some, None, Option, refl, ap, ◌∙◌, arith}
 use Rattle.std.specs.Prelude.{map, replicate, slice_get, unwrap_or, option_map, option_and_then, IsFalse}
 use Rattle.std.specs.Option.{option_map_or}
 use Rattle.std.specs.Str.{bytes_eq}
@@ -41,11 +41,7 @@ pub record Found (P : GuestNow → Type 0) (name : Text) (t : GuestNow) : Type 0
 
 pub found : (P : GuestNow → Type 0) (s : GuestsNow) (name : Text) (t : GuestNow) → Each P s → guest_named s name ≡ Some t → Found P name t
 found P [] name t all at = cc
-found P (u ∷ us) name t all at = cases (bytes_eq u.name name) refl at (found P us name t all.1)
-  where
-    cases : (v : Bool) → bytes_eq u.name name ≡ v → cond v (Some u) (guest_named us name) ≡ Some t → (guest_named us name ≡ Some t → Found P name t) → Found P name t
-    cases true e at more = let same : u ≡ t = cc in subst (Found P name) same (record { name_is = equal_texts u.name name e; has = all.0 })
-    cases false e at more = more at
+found P (u ∷ us) name t all at = grind (arith, found P us name t, equal_texts)
 
 -- no function is anywhere in a guest that is not there
 none_at : (k n : ℕ) → slot_at (map reset_function (replicate k None)) n ≡ None

@@ -1,14 +1,12 @@
 -- Each guest's reply lines, and what it holds, are those of its inputs.
-use Rattle.std.proofs.Common.{◌≡◌, Bool, true, false, ◌||◌, cond, List, [], ◌∷◌, ◌++◌, Some, None, Option, refl, sym, ap, ◌∙◌, subst, eqb, arith}
+use Rattle.std.proofs.Common.{◌≡◌, Bool, true, false, cond, List, [], ◌∷◌, ◌++◌, Some, None, Option, refl, sym, ap, ◌∙◌, subst, eqb, arith}
 use Rattle.std.specs.Prelude.{codes, IsTrue, drop, filter, map, find}
-use Rattle.std.specs.List.{starts_with, list_any}
+use Rattle.std.specs.List.{starts_with}
 use Rattle.std.specs.Option.{option_map_or}
 use Rattle.std.specs.Str.{bytes_eq}
-use Rattle.std.proofs.lemmas.Slice.Eq.{bytes_eq-Decides}
 use Rattle.std.proofs.lemmas.List.Elements.{filter-append}
 use Rattle.std.proofs.lemmas.Bool.{not-true}
 use Rattle.lists.specs.Elements.{Each}
-use Rattle.model_registers.specs.Declarations.{Endpoint}
 use Rattle.model_registers.specs.Decoding.{Function}
 use Rattle.lists.proofs.Tests.{left_true, right_true}
 use Rattle.model_board.specs.Paths.{Path}
@@ -17,64 +15,38 @@ use Rattle.model_guests.specs.Accesses.{Event, refused}
 use Rattle.model_guests.specs.Lone.{LoneGuest, after_event, answer, emptied, filled, reset_guest}
 use Rattle.model_guests.specs.Text.{Text, lines}
 use Rattle.model_guests.specs.Grammar.{HostRead, event_of, guest, has_first_word, has_name, host, host_read_of, is_comment, is_own_line, nobody}
-use Rattle.model_guests.specs.World.{Guest, World, declarations, declared, is_name, names}
-use Rattle.model_guests.specs.Guests.{GuestNow, GuestsNow, Move, guest_after, guest_at_first, guests_at_first, handed_over, lone_of, with_guest, with_slot_emptied, with_slot_filled}
+use Rattle.model_guests.specs.World.{Guest, World, declared, is_name, names}
+use Rattle.model_guests.specs.Guests.{GuestNow, GuestsNow, Move, guest_after, guest_at_first, handed_over, lone_of, with_guest, with_slot_emptied, with_slot_filled}
 use Rattle.model_guests.specs.Lines.{Meaning, bad, event_or_bad, guest_event, host_move, host_read, meaning, meaning_of_words, move_of, nothing, read_or_move}
 use Rattle.model_guests.specs.Replies.{line_text, reply_text}
-use Rattle.model_guests.specs.WorldNow.{WorldNow, world_over, names_now, host_reply, move_reply, written_by, after_meaning, after_line, after_lines}
-use Rattle.model_guests.specs.Inputs.{Input, after_input, after_inputs, after_own, gets, inputs, inputs_of_line, inputs_of_meaning, inputs_of_move, lone_event, lone_output, lone_reply, loses, own_line}
+use Rattle.model_guests.specs.WorldNow.{WorldNow, world_over, names_of, names_now, host_reply, move_reply, written_by, after_meaning, after_line, after_lines}
+use Rattle.model_guests.specs.Inputs.{Input, after_input, after_inputs, after_own, gets, inputs, inputs_of_meaning, inputs_of_move, lone_event, lone_output, lone_reply, loses, own_line}
 use Rattle.model_guests.specs.Isolation.{Isolated, IsolatedOver, TwoWorlds, TwoHandoffs}
 use Rattle.model_guests.proofs.Names.{lacks, NameFacts, named_facts, begins, equal_texts, same_text}
-use Rattle.model_guests.proofs.Along.{names_stay, names_at_first}
+use Rattle.model_guests.proofs.GuestFiles.{other_name}
+use Rattle.model_guests.proofs.GuestsByName.{Keeps}
+use Rattle.model_guests.proofs.Along.{names_with, names_stay, names_at_first}
 use Rattle.model_guests.proofs.WrittenLines.{written_along, lines_written}
 
 -- ---- one guest among all
 
 abbrev has : GuestsNow → Text → Bool
-has s name = list_any (λ (t : GuestNow). bytes_eq t.name name) s
-
-abbrev Keeps : (GuestNow → GuestNow) → Type 0
-Keeps g = (t : GuestNow) → (g t).name ≡ t.name
+has s name = has_name (names_of s) name
 
 abbrev Does : (GuestNow → GuestNow) → (LoneGuest → LoneGuest) → Type 0
 Does g k = (t : GuestNow) → (g t).lone ≡ k t.lone
 
-abbrev one : (GuestNow → GuestNow) → Text → GuestNow → GuestNow
-one g n t = cond (bytes_eq n t.name) (g t) t
-
-one_name : (g : GuestNow → GuestNow) → Keeps g → (n : Text) (t : GuestNow) (u : Bool) → bytes_eq n t.name ≡ u → (one g n t).name ≡ t.name
-one_name g keeps n t u e = grind arith
-
 lone_with : (g : GuestNow → GuestNow) (k : LoneGuest → LoneGuest) → Keeps g → Does g k → (n name : Text) (s : GuestsNow) → has s name ≡ true
     → lone_of (with_guest g n s) name ≡ cond (bytes_eq n name) (k (lone_of s name)) (lone_of s name)
 lone_with g k keeps does n name [] h = cc
-lone_with g k keeps does n name (t ∷ ts) h = cases (bytes_eq t.name name) refl (bytes_eq n t.name) refl h (λ more. lone_with g k keeps does n name ts more)
-  where
-    cases : (v : Bool) → bytes_eq t.name name ≡ v → (u : Bool) → bytes_eq n t.name ≡ u → (bytes_eq t.name name || has ts name) ≡ true
-        → (has ts name ≡ true → lone_of (with_guest g n ts) name ≡ cond (bytes_eq n name) (k (lone_of ts name)) (lone_of ts name))
-        → lone_of (with_guest g n (t ∷ ts)) name ≡ cond (bytes_eq n name) (k (lone_of (t ∷ ts) name)) (lone_of (t ∷ ts) name)
-    cases v w u x h rest = grind (arith, equal_texts)
-
-has_with : (g : GuestNow → GuestNow) → Keeps g → (n name : Text) (s : GuestsNow) → has (with_guest g n s) name ≡ has s name
-has_with g keeps n name [] = refl
-has_with g keeps n name (t ∷ ts) =
-    ap (λ (x : Text). bytes_eq x name || has (with_guest g n ts) name) (one_name g keeps n t (bytes_eq n t.name) refl)
-    ∙ ap (λ b. bytes_eq t.name name || b) (has_with g keeps n name ts)
-
-has_first : (gs : List Guest) (w : World) (name : Text) → has (map (guest_at_first w) gs) name ≡ has_name (map (λ (g : Guest). g.name) gs) name
-has_first [] w name = refl
-has_first (g ∷ gs) w name = ap (λ b. bytes_eq g.name name || b) (has_first gs w name)
+lone_with g k keeps does n name (t ∷ ts) h = grind (arith, lone_with g k keeps does n name ts, equal_texts)
 
 abbrev slots_named : List Guest → Text → List Path
 slots_named gs name = option_map_or (λ (g : Guest). g.slots) (find (λ (g : Guest). bytes_eq g.name name) gs) []
 
 first_lone : (w : World) (gs : List Guest) (name : Text) → lone_of (map (guest_at_first w) gs) name ≡ reset_guest (map (declared w.board) (slots_named gs name))
 first_lone w [] name = refl
-first_lone w (g ∷ gs) name = cases (bytes_eq g.name name) refl (first_lone w gs name)
-  where
-    cases : (v : Bool) → bytes_eq g.name name ≡ v → lone_of (map (guest_at_first w) gs) name ≡ reset_guest (map (declared w.board) (slots_named gs name)) → lone_of (map (guest_at_first w) (g ∷ gs)) name ≡ reset_guest (map (declared w.board) (slots_named (g ∷ gs) name))
-    cases true v rest = rw v refl
-    cases false v rest = rw v rest
+first_lone w (g ∷ gs) name = grind (arith, first_lone w gs name)
 
 -- ---- moves
 
@@ -83,7 +55,7 @@ touched : (name : Text) (m : Move) (p : Option Path) (o : Option Function) (s : 
 touched name m p None s h = refl
 touched name m p (Some f) s h =
     let mid : GuestsNow = with_guest (with_slot_emptied m.slot) m.from s in
-    let there : has mid name ≡ true = has_with (with_slot_emptied m.slot) (λ t. refl) m.from name s ∙ h in
+    let there : has mid name ≡ true = ap (λ (ns : List Text). has_name ns name) (names_with (with_slot_emptied m.slot) (λ t. refl) m.from s) ∙ h in
     lone_with (with_slot_filled m.target p f.decl) (filled m.target f.decl) (λ t. refl) (λ t. refl) m.to name mid there
     ∙ ap (λ (g : LoneGuest). cond (bytes_eq m.to name) (filled m.target f.decl g) g) (lone_with (with_slot_emptied m.slot) (emptied m.slot) (λ t. refl) (λ t. refl) m.from name s h)
     ∙ cases (bytes_eq m.from name) (bytes_eq m.to name)
@@ -110,12 +82,9 @@ own_meaning : (ns : List Text) (name l : Text) → NameFacts name → has_name n
     → meaning ns l ≡ event_or_bad name (lone_event l)
 own_meaning ns name l facts h own = grind (arith, not-true, left_true, own_words, right_true)
 
-begins_own : (name r : Text) → lacks 58 name ≡ true → starts_with eqb ((name ++ codes ": ") ++ r) (name ++ codes ": ") ≡ true
-begins_own name r h = begins name name r h h ∙ same_text name
-
 own_written : (w : WorldNow) (name : Text) (o : Option Event) → NameFacts name
     → replies_in name (written_by w (event_or_bad name o)) ≡ line_text (guest name) (lone_reply (lone_of w.guests name) o) ∷ []
-own_written w name o facts = grind (arith, begins_own)
+own_written w name o facts = grind (arith, begins, same_text)
 
 own_after : (w : WorldNow) (name : Text) (o : Option Event) → has w.guests name ≡ true → lone_of (after_meaning w (event_or_bad name o)).guests name ≡ after_own (lone_of w.guests name) o
 own_after w name None h = refl
@@ -136,19 +105,13 @@ Foreign name (bad nobody k) = Unit {0}
 
 foreign_cases : (name n : Text) (e : Option Event) (r : Option HostRead) (m : Option Move) (c h g : Bool) → bytes_eq name n ≡ false → (g ≡ true → lacks 58 n ≡ true)
     → Foreign name (cond c nothing (cond h (read_or_move r m) (cond g (event_or_bad n e) (bad nobody 402))))
-foreign_cases name n e r m true h g d k = tt
-foreign_cases name n e r m false true g d k = grind arith
-foreign_cases name n e r m false false true d k = grind arith
-foreign_cases name n e r m false false false d k = tt
-
-other_way : (a b : Text) → bytes_eq a b ≡ false → bytes_eq b a ≡ false
-other_way a b h = grind (arith, equal_texts, bytes_eq-Decides)
+foreign_cases name n e r m c h g d k = grind arith
 
 foreign_words : (ns : List Text) (name : Text) (ws : List Text) → Each (λ m. IsTrue (is_name m)) ns → has_first_word name ws ≡ false
     → Foreign name (meaning_of_words ns ws)
 foreign_words ns name [] all first = tt
 foreign_words ns name (w ∷ ws) all first =
-    foreign_cases name w (event_of ws) (host_read_of ws) (move_of ns ws) (is_comment w) (bytes_eq w (codes "host")) (has_name ns w) (other_way w name first) (λ h. (named_facts ns w all h).no_colon)
+    foreign_cases name w (event_of ws) (host_read_of ws) (move_of ns ws) (is_comment w) (bytes_eq w (codes "host")) (has_name ns w) (other_name w name first) (λ h. (named_facts ns w all h).no_colon)
 
 foreign_line : (ns : List Text) (name l : Text) → Each (λ m. IsTrue (is_name m)) ns → is_own_line name l ≡ false → Foreign name (meaning ns l)
 foreign_line ns name l all own = grind (arith, foreign_words)
@@ -169,26 +132,14 @@ other_after : (w : WorldNow) (name : Text) (m : Meaning) → has w.guests name �
     → lone_of (after_meaning w m).guests name ≡ after_inputs (lone_of w.guests name) (inputs_of_meaning name w.guests m)
 other_after w name nothing h f = refl
 other_after w name (guest_event n e) h f =
-    let other : bytes_eq n name ≡ false = other_way name n f.0 in
+    let other : bytes_eq n name ≡ false = other_name name n f.0 in
     lone_with (guest_after e) (λ g. after_event g e) (λ t. refl) (λ t. refl) n name w.guests h ∙ rw other refl
 other_after w name (host_read r) h f = refl
-other_after w name (host_move m) h f = grind (arith, touched)
-other_after w name (bad who n) h f = refl
+other_after w name who h f = grind (arith, touched)
 
 other_is_silent : (gs : GuestsNow) (name : Text) (m : Meaning) (g : LoneGuest) (more : List Input)
     → lone_output name g (inputs_of_meaning name gs m ++ more) ≡ lone_output name (after_inputs g (inputs_of_meaning name gs m)) more
-other_is_silent gs name nothing g more = refl
-other_is_silent gs name (guest_event n e) g more = refl
-other_is_silent gs name (host_read r) g more = refl
-other_is_silent gs name (host_move m) g more = grind arith
-other_is_silent gs name (bad who n) g more = refl
-
-keeps_meaning : (w : WorldNow) (m : Meaning) (name : Text) → has (after_meaning w m).guests name ≡ has w.guests name
-keeps_meaning w nothing name = refl
-keeps_meaning w (guest_event n e) name = has_with (guest_after e) (λ t. refl) n name w.guests
-keeps_meaning w (host_read r) name = refl
-keeps_meaning w (host_move m) name = grind (arith, has_with)
-keeps_meaning w (bad who n) name = refl
+other_is_silent gs name m g more = grind arith
 
 -- ---- all lines
 
@@ -202,7 +153,7 @@ module _ (ns : List Text) (name : Text) (lawful : Each (λ n. IsTrue (is_name n)
   Stands w = (names_now w ≡ ns) × (has w.guests name ≡ true)
 
   stands_after : (w : WorldNow) (l : Text) → Stands w → Stands (after_line w l)
-  stands_after w l h = (names_stay w l ∙ h.0, keeps_meaning w (meaning (names_now w) l) name ∙ h.1)
+  stands_after w l h = (names_stay w l ∙ h.0, ap (λ (xs : List Text). has_name xs name) (names_stay w l) ∙ h.1)
 
   own_means : (w : WorldNow) → Stands w → (l : Text) → is_own_line name l ≡ true → meaning (names_now w) l ≡ event_or_bad name (lone_event l)
   own_means w h l e = ap (λ (x : List Text). meaning x l) h.0 ∙ own_meaning ns name l facts k e
@@ -236,10 +187,7 @@ module _ (ns : List Text) (name : Text) (lawful : Each (λ n. IsTrue (is_name n)
 
   holds_from : (ls : List Text) (w : WorldNow) → Stands w → lone_of (after_lines w ls).guests name ≡ after_inputs (lone_of w.guests name) (inputs w.guests name ls)
   holds_from [] w h = refl
-  holds_from (l ∷ ls) w h =
-      holds_from ls (after_line w l) (stands_after w l h)
-      ∙ ap (λ (g : LoneGuest). after_inputs g (inputs (after_line w l).guests name ls)) (after_inputs_of w h l (is_own_line name l) refl)
-      ∙ sym (after_inputs-append (inputs_of_line w.guests name l) (inputs (after_line w l).guests name ls) (lone_of w.guests name))
+  holds_from (l ∷ ls) w h = grind (arith, holds_from ls (after_line w l), stands_after, after_inputs_of, after_inputs-append)
 
 -- ---- the whole script
 
@@ -247,23 +195,18 @@ pub isolated_over : IsolatedOver
 isolated_over w lawful s name script h =
     let now : WorldNow = world_over w s in
     let facts : NameFacts name = named_facts (names w) name lawful h in
-    let there : has now.guests name ≡ true = has_first w.guests w name ∙ h in
     let same : names_now now ≡ names w = names_at_first w in
+    let there : has now.guests name ≡ true = ap (λ (ns : List Text). has_name ns name) same ∙ h in
     let first = first_lone w w.guests name in
     record {
       replies = ap (replies_in name) (lines_written now (names w) lawful same (lines script))
           ∙ replies_from (names w) name lawful facts h (lines script) now (same, there)
           ∙ ap (λ (g : LoneGuest). lone_output name g (inputs now.guests name (lines script))) first;
-      holds = holds_from (names w) name lawful facts h (lines script) now (same, there)
-          ∙ ap (λ (g : LoneGuest). after_inputs g (inputs now.guests name (lines script))) first;
+      holds = grind (arith, holds_from);
     }
 
 pub two_handoffs : TwoHandoffs
-two_handoffs name v w one other lawful_v lawful_w agree s t =
-    (isolated_over v lawful_v s name one agree.in_first).replies
-    ∙ ap (λ (ds : List (Option Endpoint)). lone_output name (reset_guest ds) (inputs (guests_at_first v) name (lines one))) agree.declarations
-    ∙ ap (λ (is : List Input). lone_output name (reset_guest (declarations w name)) is) agree.inputs
-    ∙ sym (isolated_over w lawful_w t name other agree.in_second).replies
+two_handoffs name v w one other lawful_v lawful_w agree s t = grind (arith, isolated_over)
 
 -- ---- after set-up
 
@@ -271,5 +214,4 @@ pub isolated : Isolated
 isolated w lawful name script h = isolated_over w lawful (set_up_state w.board w.apertures) name script h
 
 pub two_worlds_lem : TwoWorlds
-two_worlds_lem name v w s t lawful_v lawful_w agree =
-    two_handoffs name v w s t lawful_v lawful_w agree (set_up_state v.board v.apertures) (set_up_state w.board w.apertures)
+two_worlds_lem name v w s t lawful_v lawful_w agree = grind (arith, two_handoffs)

@@ -1,13 +1,14 @@
 -- What a move does to the guests, by their indices, and to the slots.
-use Rattle.std.proofs.Common.{◌≡◌, ℕ, zero, suc, Bool, true, false, cond, List, [], ◌∷◌, Some, None, Option, refl, sym, ap, ap₂, ◌∙◌, subst, arith}
-use Rattle.std.specs.Prelude.{slice_get, slice_set, is_some, IsFalse, IsSome}
+use Rattle.std.proofs.Common.{◌≡◌, ℕ, Some, None, Option, refl, sym, ap, ◌∙◌, subst, arith}
+use Rattle.std.specs.Prelude.{slice_get, slice_set, IsFalse, IsSome}
 use Rattle.std.specs.Str.{bytes_eq}
 use Rattle.lists.specs.Elements.{EachPair}
+use Rattle.lists.proofs.Indices.{get_set, get_other}
+use Rattle.std.proofs.lemmas.List.{set-set}
 use Rattle.model_registers.specs.Decoding.{Function}
 use Rattle.model_board.specs.Paths.{Path}
 use Rattle.model_board.specs.Board.{Board}
-use Rattle.model_guests.specs.Text.{Text}
-use Rattle.model_guests.specs.Guests.{GuestNow, GuestsNow, guest_named, path_in, function_in, with_guest, Move, move_fault, with_slot_emptied, with_slot_filled, handed_over, after_move}
+use Rattle.model_guests.specs.Guests.{GuestNow, GuestsNow, guest_named, path_in, function_in, with_guest, Move, move_fault, with_slot_emptied, with_slot_filled, after_move}
 use Rattle.model_guests.specs.Seated.{AreSeated, IsSeat}
 use Rattle.model_guests.specs.MoveLaws.{IsDone, MoveWithin, MoveBetween, InputsWithin, IsMoved, MovedFunction}
 use Rattle.model_guests.proofs.Along.{by_index}
@@ -17,29 +18,10 @@ use Rattle.model_guests.proofs.Seats.{names_stay}
 use Rattle.model_guests.proofs.SeatedMoves.{seat_in, Placed, put_there, was_there, placed, place_left}
 use Rattle.model_guests.proofs.MovedFunctions.{NoFault, no_fault, moved, moved_seated, takes}
 
-get_set : {A : Type 0} (xs : List A) (i : ℕ) (x y : A) → slice_get xs i ≡ Some x → slice_get (slice_set xs i y) i ≡ Some y
-get_set [] i x y h = cc
-get_set (z ∷ zs) zero x y h = refl
-get_set (z ∷ zs) (suc i) x y h = get_set zs i x y h
-
-set_set : {A : Type 0} (xs : List A) (i : ℕ) (x y : A) → slice_set (slice_set xs i x) i y ≡ slice_set xs i y
-set_set [] i x y = refl
-set_set (z ∷ zs) zero x y = refl
-set_set (z ∷ zs) (suc i) x y = ap (λ ws. z ∷ ws) (set_set zs i x y)
-
-get_other : {A : Type 0} (xs : List A) (i j : ℕ) (y : A) → (i ≡ j → ⊥) → slice_get (slice_set xs i y) j ≡ slice_get xs j
-get_other [] i j y h = refl
-get_other (z ∷ zs) zero zero y h = absurd (h refl)
-get_other (z ∷ zs) zero (suc j) y h = refl
-get_other (z ∷ zs) (suc i) zero y h = refl
-get_other (z ∷ zs) (suc i) (suc j) y h = get_other zs i j y (λ e. h (ap suc e))
-
 -- a move that is not refused hands the function over
 done_move : (gs : GuestsNow) (m : Move) (p : Path) (f : Function) → move_fault gs m ≡ None → path_in gs m.from m.slot ≡ Some p → function_in gs m.from m.slot ≡ Some f
     → after_move gs m ≡ with_guest (with_slot_filled m.target (Some p) f.decl) m.to (with_guest (with_slot_emptied m.slot) m.from gs)
-done_move gs m p f fault at is =
-    ap (λ (t : Bool). cond t gs (handed_over m (path_in gs m.from m.slot) (function_in gs m.from m.slot) gs)) (ap is_some fault)
-    ∙ ap₂ (λ (x : Option Path) (o : Option Function). handed_over m x o gs) at is
+done_move gs m p f fault at is = grind arith
 
 module _ (gs : GuestsNow) (m : Move) (p : Path) (f : Function) (i : ℕ) (g : GuestNow) (is : IsDone gs m p f i g) where
   abbrev emptied : GuestNow
@@ -62,7 +44,7 @@ module _ (gs : GuestsNow) (m : Move) (p : Path) (f : Function) (i : ℕ) (g : Gu
 pub move_within : MoveWithin
 move_within gs m p f i g is to =
     moves gs m p f i g is i (with_slot_emptied m.slot g) (get_set gs i g (with_slot_emptied m.slot g) is.at) to
-    ∙ set_set gs i (with_slot_emptied m.slot g) (with_slot_filled m.target (Some p) f.decl (with_slot_emptied m.slot g))
+    ∙ set-set gs i (with_slot_emptied m.slot g) (with_slot_filled m.target (Some p) f.decl (with_slot_emptied m.slot g))
 
 pub move_between : MoveBetween
 move_between gs m p f i g is j h at to apart = grind (arith, moves, get_other, same_text)
@@ -79,9 +61,7 @@ module _ (b : Board) (gs : GuestsNow) (seated : AreSeated b gs) (m : Move) (f : 
 
   -- the target was empty, and the source was not
   apart : m.from ≡ m.to → m.slot ≡ m.target → ⊥
-  apart h k =
-      let some : is_some (function_in gs m.to m.target) ≡ true = ap₂ (λ (x : Text) (n : ℕ). is_some (function_in gs x n)) (sym h) (sym k) ∙ ap is_some is in
-      let none : is_some (function_in gs m.to m.target) ≡ false = can.is_empty in cc
+  apart h k = grind arith
 
   no_path : (q : Path) → path_in after m.from m.slot ≡ Some q → ⊥
   no_path q h =
@@ -117,7 +97,5 @@ module _ (b : Board) (gs : GuestsNow) (seated : AreSeated b gs) (m : Move) (f : 
 pub moved_function : MovedFunction
 moved_function b gs seated m to_there fault p f at is =
     let can : NoFault gs m = no_fault gs m fault in
-    let same : after_move gs m ≡ moved b gs seated m f is p at to_there can =
-    ap (λ (t : Bool). cond t gs (handed_over m (path_in gs m.from m.slot) (function_in gs m.from m.slot) gs)) (ap is_some fault)
-    ∙ ap (λ (o : Option Function). handed_over m (path_in gs m.from m.slot) o gs) is in
+    let same : after_move gs m ≡ moved b gs seated m f is p at to_there can = grind arith in
     subst (λ (x : GuestsNow). IsMoved x m p f) (sym same) (is_moved b gs seated m f is p at to_there can)

@@ -1,7 +1,9 @@
 -- A move resets one function of the board, but for what guests have copies of.
-use Rattle.std.proofs.Common.{◌≡◌, ℕ, zero, suc, ◌<◌, true, false, cond, List, [], ◌∷◌, length, Some, None, Option, refl, sym, ap, ◌∙◌, subst, arith}
-use Rattle.std.specs.Prelude.{slice_set, is_some, option_map, IsFalse, IsSome}
+use Rattle.std.proofs.Common.{◌≡◌, ℕ, ◌<◌, true, false, cond, List, length, Some, None, Option, refl, sym, ap, ◌∙◌, subst, arith}
+use Rattle.std.specs.Prelude.{slice_get, slice_set, unwrap_or, is_some, option_map, IsFalse, IsSome}
 use Rattle.std.proofs.lemmas.Bool.Decides.{nat_tests}
+use Rattle.std.proofs.lemmas.List.{get_or-set_same}
+use Rattle.std.proofs.lemmas.Option.{unwrap_or-slice_get}
 use Rattle.model_registers.specs.Decoding.{Function}
 use Rattle.model_registers.specs.EndpointTable.{endpoint_reset}
 use Rattle.model_board.specs.Paths.{Path, path_eq}
@@ -14,7 +16,8 @@ use Rattle.model_guests.specs.AgreedBoard.{state_over}
 use Rattle.model_guests.specs.Seated.{AreSeated, AreSeats, IsSeat}
 use Rattle.model_guests.specs.ChangeLaws.{MoveResetsOneFunction}
 use Rattle.model_guests.proofs.Names.{same_text}
-use Rattle.model_guests.proofs.GuestsByName.{path_at, one, named_with, found, path_of, function_of, function_named}
+use Rattle.model_guests.proofs.Seats.{as_many}
+use Rattle.model_guests.proofs.GuestsByName.{one, named_with, found, path_of, function_of, function_named}
 use Rattle.model_guests.proofs.SeatedMoves.{seat_in, Placed, put_there, was_there, place_left, left_names, left_guests, seated_handed}
 use Rattle.model_guests.proofs.FoundFiles.{file_past, file_found, file_stays}
 use Rattle.model_guests.proofs.Changes.{one_file, resets_alike}
@@ -26,16 +29,11 @@ pub record NoFault (s : GuestsNow) (m : Move) : Type 0 where
 pub no_fault : (s : GuestsNow) (m : Move) → move_fault s m ≡ None → NoFault s m
 no_fault s m h = grind (arith, nat_tests)
 
-path_put : (qs : List (Option Path)) (n : ℕ) (x : Option Path) → n < length qs → path_at (slice_set qs n x) n ≡ x
-path_put [] n x h = absurd (omega arith)
-path_put (q ∷ qs) zero x h = refl
-path_put (q ∷ qs) (suc n) x h = path_put qs n x (omega arith)
+pub put_at : {A : Type 0} (xs : List (Option A)) (n : ℕ) (x : Option A) → n < length xs → unwrap_or (slice_get (slice_set xs n x) n) None ≡ x
+put_at xs n x h = unwrap_or-slice_get (slice_set xs n x) n None ∙ get_or-set_same xs n x None h
 
 slot_put : (b : Board) (qs : List (Option Path)) (fs : Slots) (n : ℕ) (f : Option Function) → AreSeats b qs fs → n < length qs → slot_at (slice_set fs n f) n ≡ f
-slot_put b [] fs n f h k = absurd (omega arith)
-slot_put b (q ∷ qs) [] n f h k = absurd h
-slot_put b (q ∷ qs) (g ∷ gs) zero f h k = refl
-slot_put b (q ∷ qs) (g ∷ gs) (suc n) f h k = slot_put b qs gs n f h.1 (omega arith)
+slot_put b qs fs n f h k = put_at fs n f (subst (λ (l : ℕ). n < l) (sym (as_many b qs fs h)) k)
 
 -- an empty slot has no path
 no_seat : (b : Board) (q : Option Path) (o : Option Function) (r : Path) → IsSeat b q o → is_some o ≡ false → q ≡ Some r → ⊥
@@ -74,7 +72,7 @@ module _ (b : Board) (s : GuestsNow) (seated : AreSeated b s) (m : Move) (f : Fu
 
       cases : (o : Option GuestNow) → guest_named left m.to ≡ o → is_some o ≡ true → Takes (option_map (one filled m.to) o)
       cases None e h = cc
-      cases (Some t) e h = grind (arith, found, left_guests, same_text, path_put, slot_put)
+      cases (Some t) e h = grind (arith, found, left_guests, same_text, put_at, slot_put)
 
   pub moved_seated : AreSeated b moved
   moved_seated = seated_handed b s seated m f is

@@ -1,5 +1,5 @@
 -- What a lawful name is not: no name of another, no comment, and without colon or line feed.
-use Rattle.std.proofs.Common.{◌≡◌, ℕ, Bool, true, false, not, ◌&&◌, ◌||◌, List, [], ◌∷◌, ◌++◌, refl, ap, subst, arith, eqb}
+use Rattle.std.proofs.Common.{◌≡◌, ℕ, Bool, true, false, not, ◌||◌, List, [], ◌∷◌, ◌++◌, refl, subst, arith, eqb}
 use Rattle.std.specs.Prelude.{codes, IsTrue}
 use Rattle.std.specs.List.{list_all, starts_with}
 use Rattle.std.specs.Str.{bytes_eq}
@@ -23,8 +23,7 @@ differs b c h k = grind (arith, eqb-true)
 
 bytes_lack : (b : ℕ) (cs : Text) → is_name_byte b ≡ false → list_all is_name_byte cs ≡ true → lacks b cs ≡ true
 bytes_lack b [] h k = refl
-bytes_lack b (c ∷ cs) h k =
-    and_from (not (eqb c b)) (lacks b cs) (ap not (differs b c h (left_true (is_name_byte c) (list_all is_name_byte cs) k))) (bytes_lack b cs h (right_true (is_name_byte c) (list_all is_name_byte cs) k))
+bytes_lack b (c ∷ cs) h k = grind (arith, bytes_lack b cs h, and_from, differs, left_true, right_true)
 
 pub record NameFacts (n : Text) : Type 0 where
   pub no_colon : lacks 58 n ≡ true
@@ -34,8 +33,7 @@ pub record NameFacts (n : Text) : Type 0 where
   pub not_comment : is_comment n ≡ false
 
 pub name_facts : (n : Text) → is_name n ≡ true → NameFacts n
-name_facts [] h = cc
-name_facts (c ∷ cs) h = grind (arith, left_true, and_from, right_true, differs, bytes_lack, not-true)
+name_facts n h = grind (arith, left_true, and_from, right_true, differs, bytes_lack, not-true)
 
 pub equal_texts : (a b : Text) → bytes_eq a b ≡ true → a ≡ b
 equal_texts a b h = (bytes_eq-Decides a b).0 h
@@ -59,5 +57,4 @@ pub begins : (x y r : Text) → lacks 58 x ≡ true → lacks 58 y ≡ true → 
 begins [] [] r h k = refl
 begins [] (c ∷ cs) r h k = grind (arith, not-true, left_true)
 begins (d ∷ ds) [] r h k = grind (arith, not-true, left_true, nat_tests)
-begins (d ∷ ds) (c ∷ cs) r h k =
-    ap (λ b. eqb c d && b) (begins ds cs r (right_true (not (eqb d 58)) (lacks 58 ds) h) (right_true (not (eqb c 58)) (lacks 58 cs) k))
+begins (d ∷ ds) (c ∷ cs) r h k = grind (arith, begins ds cs r, right_true)

@@ -1,31 +1,27 @@
 -- Cut into lines, a text of lines that were put together is these lines again: no reply holds a line feed.
-use Rattle.std.proofs.Common.{◌≡◌, ℕ, zero, suc, Bool, true, false, not, cond, List, [], ◌∷◌, ◌++◌, ◌/◌, ◌%◌, refl, ap, ◌∙◌, arith, eqb}
-use Rattle.std.specs.Prelude.{codes, decimal}
+use Rattle.std.proofs.Common.{◌≡◌, ℕ, zero, suc, Bool, true, false, not, cond, List, [], ◌∷◌, ◌++◌, ◌/◌, ◌%◌, refl, ap, arith, eqb}
+use Rattle.std.specs.Prelude.{decimal}
 use Rattle.std.specs.Fmt.{digits, digit_glyph}
 use Rattle.std.proofs.lemmas.Bool.Decides.{nat_tests}
 use Rattle.std.proofs.lemmas.Bool.{and_from, not-true}
 use Rattle.lists.specs.Elements.{Each}
 use Rattle.lists.proofs.Tests.{left_true, right_true}
 use Rattle.model_guests.specs.Accesses.{Reply}
-use Rattle.model_guests.specs.Text.{Text, lines, onto, text_of_lines}
-use Rattle.model_guests.specs.Replies.{hex_digits, refusal_words, who_text, line_text}
+use Rattle.model_guests.specs.Text.{Text, lines, text_of_lines}
+use Rattle.model_guests.specs.Replies.{hex_digits, who_text, line_text}
 use Rattle.model_guests.specs.Grammar.{Who}
 use Rattle.model_guests.proofs.Names.{lacks}
 
 lacks_append : (b : ℕ) (s t : Text) → lacks b s ≡ true → lacks b t ≡ true → lacks b (s ++ t) ≡ true
 lacks_append b [] t h k = k
-lacks_append b (c ∷ cs) t h k =
-    and_from (not (eqb c b)) (lacks b (cs ++ t)) (left_true (not (eqb c b)) (lacks b cs) h) (lacks_append b cs t (right_true (not (eqb c b)) (lacks b cs) h) k)
+lacks_append b (c ∷ cs) t h k = grind (arith, lacks_append b cs t, and_from, left_true, right_true)
 
 -- ---- cutting what was put together
 
 -- a line before an LF is the first piece
 pub first_line : (l rest : Text) → lacks 10 l ≡ true → lines (l ++ 10 ∷ rest) ≡ l ∷ lines rest
 first_line [] rest h = refl
-first_line (c ∷ cs) rest h =
-    let e : eqb c 10 ≡ false = not-true (eqb c 10) (left_true (not (eqb c 10)) (lacks 10 cs) h) in
-    ap (λ t. cond t ([] ∷ lines (cs ++ 10 ∷ rest)) (onto c (lines (cs ++ 10 ∷ rest)))) e
-    ∙ ap (onto c) (first_line cs rest (right_true (not (eqb c 10)) (lacks 10 cs) h))
+first_line (c ∷ cs) rest h = grind (arith, not-true, left_true, first_line cs rest, right_true)
 
 pub one_more : (l rest : Text) → (l ++ 10 ∷ []) ++ rest ≡ l ++ 10 ∷ rest
 one_more [] rest = refl
@@ -33,8 +29,7 @@ one_more (c ∷ cs) rest = ap (λ t. c ∷ t) (one_more cs rest)
 
 pub lines_again : (ls : List Text) → Each (λ l. lacks 10 l ≡ true) ls → lines (text_of_lines ls) ≡ ls
 lines_again [] all = refl
-lines_again (l ∷ ls) all =
-    ap lines (one_more l (text_of_lines ls)) ∙ first_line l (text_of_lines ls) all.0 ∙ ap (λ more. l ∷ more) (lines_again ls all.1)
+lines_again (l ∷ ls) all = grind (arith, lines_again ls, one_more, first_line)
 
 -- ---- replies
 
@@ -52,13 +47,7 @@ decimal_one_line : (n : ℕ) → lacks 10 (decimal n) ≡ true
 unfolding digits
 decimal_one_line n = grind (arith, and_from, glyph, either)
 
-words_one_line : (n : ℕ) → lacks 10 (refusal_words n) ≡ true
-words_one_line n =
-    either (eqb n 301) (codes "misaligned") _ refl (either (eqb n 302) (codes "width") _ refl (either (eqb n 303) (codes "range") _ refl
-    (either (eqb n 401) (codes "bad line") _ refl (either (eqb n 402) (codes "unknown guest") _ refl (either (eqb n 403) (codes "long line") _ refl
-    (either (eqb n 601) (codes "empty slot") _ refl (either (eqb n 602) (codes "slot taken") [] refl refl)))))))
-
 -- ---- lines
 
 pub line_one_line : (who : Who) (r : Reply) → lacks 10 (who_text who) ≡ true → lacks 10 (line_text who r) ≡ true
-line_one_line who r h = grind (arith, lacks_append, hex_one_line, decimal_one_line, words_one_line)
+line_one_line who r h = grind (arith, lacks_append, hex_one_line, decimal_one_line, either)

@@ -10,14 +10,14 @@ use Rattle.model_board.specs.Board.{Board}
 use Rattle.model_guests.specs.Slots.{reset_function}
 use Rattle.model_guests.specs.Text.{Text}
 use Rattle.model_guests.specs.World.{Guest, World, declared}
-use Rattle.model_guests.specs.Guests.{GuestNow, guest_at_first, guest_named, path_in}
-use Rattle.model_guests.specs.Seated.{AreSeats, IsSeat, IsSeatedGuest, SeatedAtFirst}
+use Rattle.model_guests.specs.Guests.{GuestNow, guest_at_first, path_in}
+use Rattle.model_guests.specs.Seated.{AreSeats, IsSeatedGuest, SeatedAtFirst}
 use Rattle.lists.proofs.Indices.{each_at}
 use Rattle.lists.proofs.EachLemmas.{each_parts, PairParts, pair_parts}
 use Rattle.model_board.proofs.PathEnds.{path_self}
 use Rattle.model_guests.proofs.Names.{equal_texts}
 use Rattle.model_guests.proofs.GuestFiles.{slots_among, NamesApart, PathsApart, of_slot}
-use Rattle.model_guests.proofs.GuestsByName.{path_at, path_of}
+use Rattle.model_guests.proofs.GuestsByName.{path_at}
 
 -- ---- one guest
 
@@ -25,12 +25,9 @@ empty_seats : (b : Board) (k : ℕ) → AreSeats b (replicate k None) (map reset
 empty_seats b zero = tt
 empty_seats b (suc k) = (tt, empty_seats b k)
 
-one_seat : (b : Board) (p : Path) → IsSome (declared b p) → IsSeat b (Some p) (reset_function (declared b p))
-one_seat b p some = grind arith
-
 first_seats : (b : Board) (ps : List Path) (k : ℕ) → Each (λ p. IsSome (declared b p)) ps → AreSeats b (map Some ps ++ replicate k None) (map reset_function (map (declared b) ps ++ replicate k None))
 first_seats b [] k all = empty_seats b k
-first_seats b (p ∷ ps) k all = (one_seat b p all.0, first_seats b ps k all.1)
+first_seats b (p ∷ ps) k all = grind (arith, first_seats b ps k)
 
 first_guest : (w : World) (g : Guest) → length g.slots ≤ 32 → Each (λ p. IsSome (declared w.board p)) g.slots → IsSeatedGuest w.board (guest_at_first w g)
 first_guest w g few all = grind (arith, length-append, length-map, length-replicate, first_seats)
@@ -64,13 +61,7 @@ path_first (p ∷ ps) k (suc n) = path_first ps k n
 
 path_among : (w : World) (gs : List Guest) (a : Text) (n : ℕ) → path_in (map (guest_at_first w) gs) a n ≡ slice_get (slots_among gs a) n
 path_among w [] a n = refl
-path_among w (g ∷ gs) a n = cases (bytes_eq g.name a) (path_among w gs a n)
-  where
-    cases : (t : Bool) → path_in (map (guest_at_first w) gs) a n ≡ slice_get (slots_among gs a) n
-        → path_of (cond t (Some (guest_at_first w g)) (guest_named (map (guest_at_first w) gs) a)) n
-        ≡ slice_get (option_map_or (λ (h : Guest). h.slots) (cond t (Some g) (find (λ h. bytes_eq h.name a) gs)) []) n
-    cases true more = path_first g.slots (32 - length g.slots) n
-    cases false more = more
+path_among w (g ∷ gs) a n = grind (arith, path_among w gs a n, path_first)
 
 clash : {A : Type 0} (p : Path) → path_eq p p ≡ false → A
 clash p h = cc (path_self p)

@@ -26,14 +26,9 @@ data Where (qs : List (Option Path)) (n k : ℕ) (x : Option Path) (q : Path) : 
 
 where_set : (qs : List (Option Path)) (n k : ℕ) (x : Option Path) (q : Path) → path_at (slice_set qs n x) k ≡ Some q → Where qs n k x q
 where_set [] n k x q h = cc
-where_set (p ∷ ps) zero zero x q h = put refl h
-where_set (p ∷ ps) zero (suc k) x q h = stays h (λ e. omega arith)
+where_set (p ∷ ps) zero k x q h = grind arith
 where_set (p ∷ ps) (suc n) zero x q h = stays h (λ e. omega arith)
-where_set (p ∷ ps) (suc n) (suc k) x q h = later (where_set ps n k x q h)
-  where
-    later : Where ps n k x q → Where (p ∷ ps) (suc n) (suc k) x q
-    later (put e f) = put (ap suc e) f
-    later (stays e f) = stays e (λ h. f (omega arith))
+where_set (p ∷ ps) (suc n) (suc k) x q h = grind (arith, where_set ps n k x q)
 
 -- ---- a path in a slot of some guest, after one guest's slot is set
 
@@ -96,11 +91,6 @@ module _ (b : Board) (s : GuestsNow) (seated : AreSeated b s) (m : Move) (f : Fu
   gone a k q (put_there c d e) h = cc
   gone a k q (was_there c d) h = let same = seated.paths_apart a m.from k m.slot q c h in d same.0 same.1
 
-  old_apart : (a c : Text) (k l : ℕ) (q : Path) → Placed s m.from a m.slot k None q → Placed s m.from c m.slot l None q → (a ≡ c) × (k ≡ l)
-  old_apart a c k l q (put_there x y z) v = cc
-  old_apart a c k l q (was_there x y) (put_there u v w) = cc
-  old_apart a c k l q (was_there x y) (was_there u v) = seated.paths_apart a c k l q x u
-
   pub left_names : EachPair (λ (t u : GuestNow). IsFalse (bytes_eq t.name u.name)) left
   left_names = names_stay (with_slot_emptied m.slot) (λ t. refl) m.from s seated.names_apart
 
@@ -110,7 +100,7 @@ module _ (b : Board) (s : GuestsNow) (seated : AreSeated b s) (m : Move) (f : Fu
       (λ t h. record { count = same_count t.paths m.slot None h.count; seats = seats_set b t.paths t.lone.slots m.slot None None h.seats tt }) m.from s seated.guests
 
   pub seated_handed : AreSeated b (with_guest filled m.to left)
-  seated_handed = grind (arith, names_stay, left_names, guests_stay, same_count, seats_set, at_reset_there, seat, left_guests, place, gone, place_left, old_apart)
+  seated_handed = grind (arith, names_stay, left_names, guests_stay, same_count, seats_set, at_reset_there, seat, left_guests, place, gone, place_left)
 
 pub seated_after_moves : SeatedAfterMoves
 seated_after_moves b s seated m = cases (is_some (move_fault s m)) (function_in s m.from m.slot) refl

@@ -1,16 +1,16 @@
 -- Guests stay seated.
-use Rattle.std.proofs.Common.{◌≡◌, ℕ, zero, suc, ◌/◌, ◌%◌, Bool, true, false, cond, List, [], ◌∷◌, Some, Option, refl, ap, ap₂, ◌∙◌, arith}
+use Rattle.std.proofs.Common.{◌≡◌, ℕ, zero, suc, ◌/◌, ◌%◌, Bool, cond, List, [], ◌∷◌, length, Some, Option, refl, ap, ap₂, ◌∙◌, arith}
 use Rattle.std.specs.Prelude.{slice_set, IsFalse}
 use Rattle.std.specs.Str.{bytes_eq}
 use Rattle.lists.specs.Elements.{Each, EachPair}
 use Rattle.model_registers.specs.Cell.{Cell, written}
-use Rattle.model_registers.specs.Registers.{Place, place_eq, after, PlacedCell, File, changed, write}
+use Rattle.model_registers.specs.Registers.{Place, after, File, changed, write}
 use Rattle.model_registers.specs.Decoding.{Function}
 use Rattle.model_board.specs.Paths.{Path}
 use Rattle.model_board.specs.Board.{Board}
-use Rattle.model_guests.specs.Accesses.{Event, Op, reads, writes}
+use Rattle.model_guests.specs.Accesses.{Event}
 use Rattle.model_guests.specs.Slots.{Slots, slot_at, with_file}
-use Rattle.model_guests.specs.Lone.{Destination, LoneGuest, after_access_at, at_target, changed_by, no_function, own_latch}
+use Rattle.model_guests.specs.Lone.{LoneGuest, changed_by}
 use Rattle.model_guests.specs.Text.{Text}
 use Rattle.model_guests.specs.Guests.{GuestNow, GuestsNow, path_in, with_guest}
 use Rattle.model_registers.specs.CopiedFiles.{shape_of}
@@ -24,40 +24,35 @@ bare c = record c { value = 0 }
 
 pub changed_shape : (f : Cell → Cell) → ((c : Cell) → bare (f c) ≡ bare c) → (p : Place) (file : File) → shape_of (changed f p file) ≡ shape_of file
 changed_shape f keeps p [] = refl
-changed_shape f keeps p (e ∷ es) = ap₂ (λ (x : PlacedCell) (xs : File). x ∷ xs) (here (place_eq e.place p)) (changed_shape f keeps p es)
-  where
-    here : (t : Bool) → record (cond t (record e { cell = f e.cell }) e) { cell = bare (cond t (record e { cell = f e.cell }) e).cell } ≡ record e { cell = bare e.cell }
-    here true = ap (λ (c : Cell). record e { cell = c }) (keeps e.cell)
-    here false = refl
+changed_shape f keeps p (e ∷ es) = grind (arith, changed_shape f keeps p es)
 
 written_shape : (ons : List Bool) (v : ℕ) (p : Place) (file : File) → shape_of (write ons v p file) ≡ shape_of file
 written_shape [] v p file = refl
-written_shape (on ∷ ons) v p file = written_shape ons (v / 256) (after p) (cond on (changed (written (v % 256)) p file) file) ∙ here on
-  where
-    here : (t : Bool) → shape_of (cond t (changed (written (v % 256)) p file) file) ≡ shape_of file
-    here true = changed_shape (written (v % 256)) (λ c. refl) p file
-    here false = refl
+written_shape (on ∷ ons) v p file = grind (arith, written_shape ons (v / 256) (after p) (cond on (changed (written (v % 256)) p file) file), changed_shape)
 
 -- ---- one guest's slots
 
 pub seats_at : (b : Board) (qs : List (Option Path)) (fs : Slots) (n : ℕ) → AreSeats b qs fs → IsSeat b (path_at qs n) (slot_at fs n)
-seats_at b [] [] n h = tt
-seats_at b [] (f ∷ fs) n h = absurd h
+seats_at b [] f n h = grind arith
 seats_at b (q ∷ qs) [] n h = absurd h
 seats_at b (q ∷ qs) (f ∷ fs) zero h = h.0
 seats_at b (q ∷ qs) (f ∷ fs) (suc n) h = seats_at b qs fs n h.1
 
+-- as many slots as paths
+pub as_many : (b : Board) (qs : List (Option Path)) (fs : Slots) → AreSeats b qs fs → length fs ≡ length qs
+as_many b [] f h = grind arith
+as_many b (q ∷ qs) [] h = absurd h
+as_many b (q ∷ qs) (f ∷ fs) h = ap suc (as_many b qs fs h.1)
+
 pub seats_set : (b : Board) (qs : List (Option Path)) (fs : Slots) (n : ℕ) (q : Option Path) (f : Option Function) → AreSeats b qs fs → IsSeat b q f → AreSeats b (slice_set qs n q) (slice_set fs n f)
-seats_set b [] [] n q f h k = tt
-seats_set b [] (g ∷ gs) n q f h k = absurd h
+seats_set b [] g n q f h k = grind arith
 seats_set b (p ∷ ps) [] n q f h k = absurd h
 seats_set b (p ∷ ps) (g ∷ gs) zero q f h k = (k, h.1)
 seats_set b (p ∷ ps) (g ∷ gs) (suc n) q f h k = (h.0, seats_set b ps gs n q f h.1 k)
 
 seats_put : (b : Board) (qs : List (Option Path)) (fs : Slots) (n : ℕ) (f : Function) (file : File) → shape_of file ≡ shape_of f.file → slot_at fs n ≡ Some f → AreSeats b qs fs
     → AreSeats b qs (slice_set fs n (Some (record f { file = file })))
-seats_put b [] [] n f file same at h = tt
-seats_put b [] (g ∷ gs) n f file same at h = absurd h
+seats_put b [] g n f file same at h = grind arith
 seats_put b (q ∷ qs) [] n f file same at h = absurd h
 seats_put b (q ∷ qs) (g ∷ gs) zero f file same at h = grind arith
 seats_put b (q ∷ qs) (g ∷ gs) (suc n) f file same at h = (h.0, seats_put b qs gs n f file same at h.1)
@@ -66,14 +61,8 @@ pub with_file_seats : (b : Board) (qs : List (Option Path)) (change : File → F
     → AreSeats b qs slots → AreSeats b qs (with_file change n slots)
 with_file_seats b qs change stay n slots h = grind (arith, seats_put)
 
-course_seats : (b : Board) (qs : List (Option Path)) (g : LoneGuest) (op : Op) (w : ℕ) (c : Destination) → AreSeats b qs g.slots → AreSeats b qs (after_access_at g op w c).slots
-course_seats b qs g reads w c h = h
-course_seats b qs g (writes v) w own_latch h = h
-course_seats b qs g (writes v) w no_function h = h
-course_seats b qs g (writes v) w (at_target t) h = grind (arith, with_file_seats, written_shape)
-
 changed_seats : (b : Board) (qs : List (Option Path)) (g : LoneGuest) (e : Event) → AreSeats b qs g.slots → AreSeats b qs (changed_by g e).slots
-changed_seats b qs g e h = grind (arith, course_seats, with_file_seats, changed_shape)
+changed_seats b qs g e h = grind (arith, with_file_seats, changed_shape, written_shape)
 
 -- ---- all guests, after a change of one
 
@@ -88,11 +77,7 @@ names_stay g keeps n (t ∷ ts) h = (later ts h.0, names_stay g keeps n ts h.1)
 
 pub guests_stay : (P : GuestNow → Type 0) (g : GuestNow → GuestNow) → ((t : GuestNow) → P t → P (g t)) → (n : Text) (s : GuestsNow) → Each P s → Each P (with_guest g n s)
 guests_stay P g stays n [] h = tt
-guests_stay P g stays n (t ∷ ts) h = (cases (bytes_eq n t.name), guests_stay P g stays n ts h.1)
-  where
-    cases : (u : Bool) → P (cond u (g t) t)
-    cases true = stays t h.0
-    cases false = h.0
+guests_stay P g stays n (t ∷ ts) h = grind (arith, guests_stay P g stays n ts)
 
 -- paths stay where the change leaves them
 pub paths_stay : (g : GuestNow → GuestNow) → Keeps g → ((t : GuestNow) → (g t).paths ≡ t.paths) → (n a : Text) (k : ℕ) (s : GuestsNow) → path_in (with_guest g n s) a k ≡ path_in s a k

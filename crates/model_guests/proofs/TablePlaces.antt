@@ -1,12 +1,12 @@
 -- The table of an endpoint after set-up and at reset: the same places, and the same cells but for those of which a guest has copies.
-use Rattle.std.proofs.Common.{◌≡◌, ℕ, zero, suc, ◌+◌, ◌/◌, ◌≤◌, Bool, true, false, cond, List, [], ◌∷◌, ◌++◌, refl, ap₂, arith}
+use Rattle.std.proofs.Common.{◌≡◌, ℕ, ◌+◌, ◌≤◌, Bool, true, false, List, [], ◌∷◌, ◌++◌, refl, ap₂, arith}
 use Rattle.std.specs.Prelude.{flat_map, ⊤, IsFalse}
 use Rattle.lists.specs.Elements.{Each}
 use Rattle.model_registers.proofs.Owned.{base_is_own}
 use Rattle.model_registers.specs.Cell.{Cell}
-use Rattle.model_registers.specs.Registers.{Place, config, place_eq, PlacedCell, File, cell_at, field}
+use Rattle.model_registers.specs.Registers.{Place, config, place_eq, PlacedCell, File, cell_at}
 use Rattle.model_registers.specs.Declarations.{Kind, registers_of, Region, Endpoint, IsLawfulRegion}
-use Rattle.model_registers.specs.EndpointTable.{base_cells, region_cells, block_cells, header_cells, config_cells, endpoint_file, endpoint_reset}
+use Rattle.model_registers.specs.EndpointTable.{base_cells, region_cells, endpoint_file, endpoint_reset}
 use Rattle.model_registers.specs.OwnCopies.{is_own}
 use Rattle.model_registers.specs.CopiedFiles.{agreed_file, places_of}
 use Rattle.model_guests.proofs.DistinctPlaces.{HasDistinctPlaces}
@@ -24,8 +24,7 @@ Alike (o ∷ os) [] = ⊥
 Alike (o ∷ os) (l ∷ ls) = AlikeEntries o l × Alike os ls
 
 alike_append : (a b c d : File) → Alike a b → Alike c d → Alike (a ++ c) (b ++ d)
-alike_append [] [] c d h k = k
-alike_append [] (l ∷ ls) c d h k = absurd h
+alike_append [] l c d h k = grind arith
 alike_append (o ∷ os) [] c d h k = absurd h
 alike_append (o ∷ os) (l ∷ ls) c d h k = (h.0, alike_append os ls c d h.1 k)
 
@@ -34,44 +33,23 @@ alike_self [] = tt
 alike_self (e ∷ es) = (record { place = refl; cell = λ h. refl }, alike_self es)
 
 pub alike_places : (a b : File) → Alike a b → places_of a ≡ places_of b
-alike_places [] [] h = refl
-alike_places [] (l ∷ ls) h = absurd h
+alike_places [] l h = grind arith
 alike_places (o ∷ os) [] h = absurd h
 alike_places (o ∷ os) (l ∷ ls) h = ap₂ (λ (p : Place) (ps : List Place). p ∷ ps) h.0.place (alike_places os ls h.1)
 
--- a register of which the guest has a copy, with two values
-alike_registers : (w a v u m c : ℕ) → 0x10 ≤ a → a + w ≤ 0x28 → Alike (field (config a) w v m c) (field (config a) w u m c)
-alike_registers zero a v u m c h k = tt
-alike_registers (suc w) a v u m c h k =
-    let own : is_own (config a) ≡ true = base_is_own a h (omega arith) in
-    (record { place = refl; cell = λ e. absurd_own own e }, alike_registers w (a + 1) (v / 256) (u / 256) (m / 256) (c / 256) (omega arith) (omega arith))
-  where
-    absurd_own : {A : Type 0} → is_own (config a) ≡ true → is_own (config a) ≡ false → A
-    absurd_own h k = cc
-
 alike_bases : (n : ℕ) (kind : Kind) (size b c : ℕ) → n + registers_of kind ≤ 6 → Alike (base_cells n kind size b) (base_cells n kind size c)
-alike_bases n kind size b c h = grind (arith, alike_registers)
+alike_bases n kind size b c h = grind (arith, base_is_own)
 
 alike_regions : (bases : Region → ℕ) (rs : List Region) → Each IsLawfulRegion rs → Alike (flat_map (region_cells (λ r. 0)) rs) (flat_map (region_cells bases) rs)
 alike_regions bases [] all = tt
-alike_regions bases (r ∷ rs) all =
-    alike_append (region_cells (λ r. 0) r) (region_cells bases r) _ _
-    (alike_append (base_cells r.index r.kind r.size 0) (base_cells r.index r.kind r.size (bases r)) _ _ (alike_bases r.index r.kind r.size 0 (bases r) all.0.registers) (alike_self _))
-    (alike_regions bases rs all.1)
+alike_regions bases (r ∷ rs) all = grind (arith, alike_regions bases rs, alike_append, alike_bases, alike_self)
 
 own_entry : {a : ℕ} {c d : Cell} → is_own (config a) ≡ true → AlikeEntries (record { place = config a; cell = c }) (record { place = config a; cell = d })
 own_entry own = record { place = refl; cell = λ h. cc }
 
--- Command at 04h and 05h, and the header type at 0Eh
-alike_headers : (d : Endpoint) (multifunction : Bool) (command : ℕ) → Alike (header_cells d false 0) (header_cells d multifunction command)
-alike_headers d multifunction command = grind (arith, own_entry)
-
 pub alike_tables : (d : Endpoint) (multifunction : Bool) (command : ℕ) (bases : Region → ℕ) → Each IsLawfulRegion d.regions
     → Alike (endpoint_reset d false) (endpoint_file d multifunction command bases)
-alike_tables d multifunction command bases registers =
-    alike_append (config_cells d false 0) (config_cells d multifunction command) _ _
-    (alike_append (header_cells d false 0) (header_cells d multifunction command) _ _ (alike_headers d multifunction command) (alike_self (flat_map block_cells d.blocks)))
-    (alike_regions bases d.regions registers)
+alike_tables d multifunction command bases registers = grind (arith, alike_append, alike_self, alike_regions, own_entry)
 
 -- ---- a file at reset, put into the table that set-up left
 
@@ -85,13 +63,9 @@ found_entries (e ∷ es) distinct = (rw (place_self e.place), later es distinct.
     later (d ∷ ds) apart found = let other : place_eq e.place d.place ≡ false = apart.0 in (rw other found.0, later ds apart.1 found.1)
 
 agreed_entries : (full own left : File) → Alike own left → Each (λ e. cell_at full e.place ≡ e.cell) own → agreed_file left full ≡ left
-agreed_entries full [] [] alike found = refl
-agreed_entries full [] (l ∷ ls) alike found = absurd alike
+agreed_entries full [] l alike found = grind arith
 agreed_entries full (o ∷ os) [] alike found = absurd alike
-agreed_entries full (o ∷ os) (l ∷ ls) alike found = ap₂ (λ (e : PlacedCell) (es : File). e ∷ es) (here (is_own l.place) refl) (agreed_entries full os ls alike.1 found.1)
-  where
-    here : (t : Bool) → is_own l.place ≡ t → cond t l (record l { cell = cell_at full l.place }) ≡ l
-    here t h = grind arith
+agreed_entries full (o ∷ os) (l ∷ ls) alike found = grind (arith, agreed_entries full os ls)
 
 pub agreed_at_reset : (own left : File) → HasDistinctPlaces own → Alike own left → agreed_file left own ≡ left
 agreed_at_reset own left distinct alike = agreed_entries own own left alike (found_entries own distinct)

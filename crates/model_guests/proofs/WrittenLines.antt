@@ -1,15 +1,15 @@
 -- Every line that is written is one line: cut into lines, the output is these lines again.
 --     written_along      the lines that lines of a script write
-use Rattle.std.proofs.Common.{◌≡◌, Bool, true, false, cond, List, [], ◌∷◌, ◌++◌, Option, refl, sym, ap, ◌∙◌, subst, append_assoc, arith}
+use Rattle.std.proofs.Common.{◌≡◌, Bool, true, cond, List, [], ◌∷◌, ◌++◌, Option, refl, sym, ap, ◌∙◌, append_assoc, arith}
 use Rattle.std.specs.Prelude.{IsTrue}
 use Rattle.lists.specs.Elements.{Each}
 use Rattle.model_guests.specs.Accesses.{Event, refused}
 use Rattle.model_guests.specs.Lone.{answer}
-use Rattle.model_guests.specs.Text.{Text, lines, words, text_of_lines}
-use Rattle.model_guests.specs.Grammar.{HostRead, guest, host, is_long, nobody}
+use Rattle.model_guests.specs.Text.{Text, lines, text_of_lines}
+use Rattle.model_guests.specs.Grammar.{HostRead, guest, host, nobody}
 use Rattle.model_guests.specs.World.{is_name}
 use Rattle.model_guests.specs.Guests.{Move, lone_of}
-use Rattle.model_guests.specs.Lines.{Meaning, bad, event_or_bad, guest_event, host_move, host_read, meaning, meaning_of_words, nothing, read_or_move}
+use Rattle.model_guests.specs.Lines.{Meaning, bad, event_or_bad, guest_event, host_move, host_read, meaning, nothing, read_or_move}
 use Rattle.model_guests.specs.Replies.{who_text}
 use Rattle.model_guests.specs.WorldNow.{WorldNow, names_now, host_reply, move_reply, written_by, after_line, output}
 use Rattle.model_guests.proofs.Along.{names_stay}
@@ -27,9 +27,7 @@ ended-append (x ∷ xs) ys = ap (λ (t : Text). (x ++ 10 ∷ []) ++ t) (ended-ap
 
 pub output_along : (ls : List Text) (w : WorldNow) → output w ls ≡ text_of_lines (written_along w ls)
 output_along [] w = refl
-output_along (l ∷ ls) w =
-    ap (λ (t : Text). text_of_lines (written_by w (meaning (names_now w) l)) ++ t) (output_along ls (after_line w l))
-    ∙ sym (ended-append (written_by w (meaning (names_now w) l)) (written_along (after_line w l) ls))
+output_along (l ∷ ls) w = grind (arith, output_along ls (after_line w l), ended-append)
 
 abbrev TellsOneLine : Meaning → Type 0
 TellsOneLine nothing = Unit {0}
@@ -40,14 +38,7 @@ TellsOneLine (bad who n) = lacks 10 (who_text who) ≡ true
 
 tells_cases : (name : Text) (e : Option Event) (r : Option HostRead) (m : Option Move) (c h g : Bool) → (g ≡ true → lacks 10 name ≡ true)
     → TellsOneLine (cond c nothing (cond h (read_or_move r m) (cond g (event_or_bad name e) (bad nobody 402))))
-tells_cases name e r m true h g k = tt
-tells_cases name e r m false true g k = grind arith
-tells_cases name e r m false false true k = grind arith
-tells_cases name e r m false false false k = refl
-
-tells_line : (ns : List Text) → Each (λ n. IsTrue (is_name n)) ns → (ws : List Text) (long : Bool) → TellsOneLine (cond long (bad nobody 403) (meaning_of_words ns ws))
-tells_line ns lawful ws true = refl
-tells_line ns lawful ws false = grind (arith, tells_cases, named_facts)
+tells_cases name e r m c h g k = grind arith
 
 written_one_line : (w : WorldNow) (m : Meaning) → TellsOneLine m → Each (λ l. lacks 10 l ≡ true) (written_by w m)
 written_one_line w nothing h = tt
@@ -58,10 +49,7 @@ written_one_line w (bad who n) h = (line_one_line who (refused n) h, tt)
 
 along_one_line : (ns : List Text) → Each (λ n. IsTrue (is_name n)) ns → (ls : List Text) (w : WorldNow) → names_now w ≡ ns → Each (λ l. lacks 10 l ≡ true) (written_along w ls)
 along_one_line ns lawful [] w same = tt
-along_one_line ns lawful (l ∷ ls) w same =
-    each_append (λ (t : Text). lacks 10 t ≡ true) (written_by w (meaning (names_now w) l)) (written_along (after_line w l) ls)
-    (written_one_line w (meaning (names_now w) l) (subst (λ (x : List Text). TellsOneLine (meaning x l)) (sym same) (tells_line ns lawful (words l) (is_long l))))
-    (along_one_line ns lawful ls (after_line w l) (names_stay w l ∙ same))
+along_one_line ns lawful (l ∷ ls) w same = grind (arith, along_one_line ns lawful ls (after_line w l), each_append, written_one_line, names_stay, tells_cases, named_facts)
 
 pub lines_written : (w : WorldNow) (ns : List Text) → Each (λ n. IsTrue (is_name n)) ns → names_now w ≡ ns → (ls : List Text) → lines (output w ls) ≡ written_along w ls
 lines_written w ns lawful same ls = ap lines (output_along ls w) ∙ lines_again (written_along w ls) (along_one_line ns lawful ls w same)
