@@ -2,6 +2,7 @@
 use Rattle.std.proofs.Common.{◌≡◌, ℕ, zero, suc, ◌<◌, List, [], ◌∷◌, length, Some, Option, slice_get, slice_set, refl, sym, ap, ◌∙◌, subst, arith, ◌≤◌, rules}
 use Rattle.std.proofs.lemmas.List.{length-set, set-set}
 use Rattle.std.proofs.lemmas.Option.{slice_get_within}
+use Rattle.lists.proofs.Indices.{get_set}
 use Rattle.model_guests.specs.Text.{Text}
 use Rattle.model_guests.specs.WorldNow.{WorldNow}
 use Rattle.host_bridge.specs.HostState.{HostState}
@@ -12,11 +13,6 @@ use Rattle.monitor.specs.Configs.{HoldsAt}
 use Rattle.monitor.specs.Moves.{HasSlot, HandsOver, IsExchanged}
 use Rattle.monitor.proofs.Steps.{GuestAt, SlotAt, slots_count}
 use Rattle.monitor.proofs.Reached.{seated}
-
-get_set : {A : Type 0} (xs : List A) (i : ℕ) (x y : A) → slice_get xs i ≡ Some x → slice_get (slice_set xs i y) i ≡ Some y
-get_set [] i x y at = cc
-get_set (z ∷ zs) zero x y at = refl
-get_set (z ∷ zs) (suc i) x y at = get_set zs i x y at
 
 -- one slot twice
 pub exchanged_twice : {gs left new : List Guest} {i n : ℕ} {was o empty p : Option Held} → IsExchanged gs i n was o left → IsExchanged left i n empty p new → IsExchanged gs i n was p new
