@@ -2,13 +2,13 @@
 use Rattle.std.proofs.Common.{◌≡◌, ℕ, Bool, true, false, ◌||◌, Option, Some, None, refl, arith}
 use Rattle.std.specs.List.{list_any}
 use Rattle.std.proofs.lemmas.Bool.Decides.{nat_tests}
-use Rattle.model_registers.specs.Decoding.{Space, io, memory, same_space}
+use Rattle.model_registers.specs.Decoding.{Space, same_space}
 use Rattle.model_board.specs.Paths.{Path}
-use Rattle.model_board.specs.Windows.{Window, is_in, in_windows}
+use Rattle.model_board.specs.Windows.{Window, is_in}
 use Rattle.model_board.specs.Routing.{Ranges, regions, windows, RoutingRow, row_forwards}
 use Rattle.model_set_up.specs.PlacedRegions.{PlacedRegion, holds}
 use Rattle.model_set_up.proofs.Holders.{self_space}
-use Rattle.model_audit.specs.Agents.{extent_holds, window_extent, window_extents, forwarded_extents, region_agent, bridge_agent, answers}
+use Rattle.model_audit.specs.Agents.{extent_holds, window_extent, forwarded_extents, region_agent, bridge_agent, answers}
 
 or_false : (a : Bool) → (a || false) ≡ a
 or_false a = grind arith
@@ -17,15 +17,11 @@ window_held : (n : ℕ) (w : Option Window) → list_any (extent_holds n) (windo
 window_held n None = refl
 window_held n (Some w) = grind (arith, or_false, nat_tests)
 
-windows_held : (wio wmem wpref : Option Window) (space : Space) (n : ℕ) → list_any (extent_holds n) (window_extents wio wmem wpref space) ≡ in_windows wio wmem wpref space n
-windows_held wio wmem wpref io n = window_held n wio
-windows_held wio wmem wpref memory n = grind (arith, window_held)
-
 -- what a bridge forwards is what its extents hold
 pub forwards_extents : (space : Space) (n : ℕ) (p : Path) (command : ℕ) (rs : Ranges)
     → list_any (extent_holds n) (forwarded_extents space (record { path = p; command = command; ranges = rs })) ≡ row_forwards space n (record { path = p; command = command; ranges = rs })
 forwards_extents space n p command (regions bs) = refl
-forwards_extents space n p command (windows wio wmem wpref) = grind (arith, windows_held)
+forwards_extents space n p command (windows wio wmem wpref) = grind (arith, window_held)
 
 pub bridge_answers : (space : Space) (n : ℕ) (r : RoutingRow) → answers space n (bridge_agent r space) ≡ row_forwards space n r
 bridge_answers space n r = let e : same_space space space ≡ true = self_space space in rw e (forwards_extents space n r.path r.command r.ranges)

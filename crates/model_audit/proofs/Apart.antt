@@ -4,7 +4,7 @@ use Rattle.std.proofs.Common.{◌≡◌, ℕ, ◌+◌, ◌≤◌, ◌<◌, ◌�
 use Rattle.std.proofs.lemmas.Bool.Decides.{nat_tests}
 use Rattle.std.proofs.lemmas.Bool.{leb-true}
 use Rattle.std.specs.Prelude.{map, IsTrue}
-use Rattle.lists.proofs.Members.{pairs_of_map, each_in, in_map, from_map, from_filter, in_flat_map, pairs_weaker, pairs_flat_map}
+use Rattle.lists.proofs.Members.{pairs_of_map, each_in, in_map, from_map, from_filter, in_flat_map, pairs_weaker, pairs_flat_map, all_in}
 use Rattle.lists.specs.Elements.{EachPair, IsIn}
 use Rattle.model_board.proofs.PathOrder.{part_self}
 use Rattle.model_registers.specs.Declarations.{Kind, Region, least_size, Endpoint}
@@ -12,7 +12,7 @@ use Rattle.model_registers.specs.Decoding.{Space, same_space, base_address}
 use Rattle.model_registers.specs.Registers.{File}
 use Rattle.model_registers.proofs.HitRegions.{space_same}
 use Rattle.model_set_up.specs.Extents.{AreApart}
-use Rattle.model_board.specs.Paths.{Part, Path, part_eq, path_eq, path_before, leads_to, parent, last_part, IsPath}
+use Rattle.model_board.specs.Paths.{Part, Path, part_eq, path_before, leads_to, parent, last_part, IsPath}
 use Rattle.model_board.specs.Board.{Board, Row, Decl, endpoint, is_bridge}
 use Rattle.model_board.specs.State.{row_at, BoardFunction}
 use Rattle.model_board.specs.Routing.{RoutingRow, row_of, routing, row_forwards, is_routed}
@@ -22,9 +22,9 @@ use Rattle.model_board.proofs.PathEnds.{path_self, parent_snoc, last_snoc, lengt
 use Rattle.model_set_up.proofs.Partings.{Meeting, Same, Above, Below, Parting, meet, leads_down, pair_in, one_row, BridgeAt, bridge_above}
 use Rattle.model_set_up.proofs.Holders.{is_held, self_space}
 use Rattle.model_audit.specs.OpenRegions.{region_now, open_of, open_regions}
-use Rattle.model_audit.specs.Agents.{Agent, region_agent, bridge_agent, agents_of, agents, answers, on_one_bus}
+use Rattle.model_audit.specs.Agents.{Agent, region_agent, bridge_agent, agents_of, agents, answers}
 use Rattle.model_audit.specs.Orderly.{IsForwarded, AreAlone, IsOrderly, IsStateOfBoard}
-use Rattle.model_audit.proofs.Pairs.{each_of_map, pairs_from_map, pairs_of_part, all_in}
+use Rattle.model_audit.proofs.Pairs.{each_of_map, pairs_from_map, pairs_of_part}
 use Rattle.model_audit.proofs.Answering.{bridge_answers, region_answers}
 
 -- ---- where an open region comes from
@@ -113,10 +113,7 @@ module _ (fs : List BoardFunction) (state : IsStateOfBoard fs) (orderly : IsOrde
 
   -- two agents that answer an address stand on different buses, unless they are one
   clash : (x y : Agent) (space : Space) (n : ℕ) → AreAlone x y → parent x.path ≡ parent y.path → answers space n x ≡ true → answers space n y ≡ true → ⊥
-  clash x y space n alone bus h k =
-      let one : on_one_bus x y ≡ true = ap (path_eq (parent x.path)) (sym bus) ∙ path_self (parent x.path) in
-      let no : answers space n y ≡ false = alone one space n h in
-      let bad : true ≡ false = sym k ∙ no in cc
+  clash x y space n alone bus h k = grind (arith, path_self)
 
   -- an endpoint leads nowhere
   not_above : (f g : BoardFunction) (q : PlacedRegion) → IsIn f fs → IsIn g fs → OpenOf f q → leads_to f.path g.path ≡ true → ⊥
@@ -187,6 +184,4 @@ module _ (fs : List BoardFunction) (state : IsStateOfBoard fs) (orderly : IsOrde
       one r (f, m, e) = subst (λ (x : RoutingRow). EachPair ShareNone (open_of x)) (sym e) (one_function f m f.path f.decl f.file refl)
 
       two : (r s : RoutingRow) → IsTrue (path_before r.path s.path) → (q t : PlacedRegion) → IsIn q (open_of r) → IsIn t (open_of s) → (f : BoardFunction) × IsIn f fs × (r ≡ row_of f) → (g : BoardFunction) × IsIn g fs × (s ≡ row_of g) → ShareNone q t
-      two r s before q t l o (f, m, e) (g, k, h) =
-          two_functions f g m k (subst (λ (x : RoutingRow). path_before x.path g.path ≡ true) e (subst (λ (x : RoutingRow). path_before r.path x.path ≡ true) h before)) q t
-          (subst (λ (x : RoutingRow). IsIn q (open_of x)) e l) (subst (λ (x : RoutingRow). IsIn t (open_of x)) h o)
+      two r s before q t l o (f, m, e) (g, k, h) = grind (arith, two_functions)

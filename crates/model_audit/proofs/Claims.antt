@@ -1,11 +1,11 @@
 -- In an orderly state the claims of an address are those of the open regions that hold it: one at most.
-use Rattle.std.proofs.Common.{◌≡◌, ℕ, ◌+◌, ◌-◌, ◌<◌, inl, inr, Bool, true, ◌&&◌, cond, List, [], ◌∷◌, ◌++◌, refl, sym, ap, ap₂, ◌∙◌, subst, arith, leb, ltb}
+use Rattle.std.proofs.Common.{◌≡◌, ℕ, ◌+◌, ◌-◌, ◌<◌, inl, inr, Bool, true, ◌&&◌, cond, List, [], ◌∷◌, ◌++◌, refl, sym, ap, ap₂, ◌∙◌, subst, arith}
 use Rattle.std.specs.Prelude.{map, filter, flat_map, slice_get}
 use Rattle.std.specs.Option.{option_to_list}
 use Rattle.std.proofs.lemmas.Grind.{flat_map-append}
 use Rattle.lists.specs.Elements.{Each, EachPair, IsIn}
 use Rattle.model_registers.specs.EndpointTable.{BaseAddress}
-use Rattle.model_registers.specs.Decoding.{Space, space_of, same_space, opens_space, decodes, Hit, hit_at}
+use Rattle.model_registers.specs.Decoding.{Space, space_of, opens_space, hit_at}
 use Rattle.model_registers.proofs.HitRegions.{space_same}
 use Rattle.model_board.specs.Paths.{Path}
 use Rattle.model_board.specs.Claims.{Claim, claim_at, claims, first_claim}
@@ -27,29 +27,12 @@ no_claims t = grind arith
 tests : (o p s u v : Bool) → (s ≡ true → o ≡ p) → (((o && s) && u) && v) ≡ (p && ((s && u) && v))
 tests o p s u v h = grind arith
 
--- a register decodes an address where its region is open and holds it
-decodes_is : (command : ℕ) (space : Space) (n : ℕ) (p : Path) (b : BaseAddress) → decodes command space n b ≡ (opens_space command (space_of b.kind) && holds space n (region_now p b))
-decodes_is command space n p b =
-    tests (opens_space command space) (opens_space command (space_of b.kind)) (same_space (space_of b.kind) space) (leb b.base n) (ltb n (b.base + b.size))
-    (λ h. ap (opens_space command) (sym (space_same (space_of b.kind) space h)))
-
 -- where each open region that holds the address is routed to, the claims of an endpoint are those of its open regions
 of_regions : (t : Bool) (p : Path) (command : ℕ) (space : Space) (n : ℕ) (bs : List BaseAddress)
     → ((b : BaseAddress) → IsIn b bs → opens_space command (space_of b.kind) ≡ true → holds space n (region_now p b) ≡ true → t ≡ true)
     → cond t (map (claim_at p) (flat_map (λ b. option_to_list (hit_at command space n b)) bs)) [] ≡ claims_in space n (filter (λ q. opens_space command q.space) (map (region_now p) bs))
 of_regions t p command space n [] h = no_claims t
-of_regions t p command space n (b ∷ bs) h = by_tests t (opens_space command (space_of b.kind)) (holds space n (region_now p b)) refl refl (h b (inl refl)) (of_regions t p command space n bs (λ c m. h c (inr m)))
-  where
-    rest : List Hit
-    rest = flat_map (λ c. option_to_list (hit_at command space n c)) bs
-
-    kept : List PlacedRegion
-    kept = filter (λ q. opens_space command q.space) (map (region_now p) bs)
-
-    by_tests : (t o u : Bool) → opens_space command (space_of b.kind) ≡ o → holds space n (region_now p b) ≡ u → (o ≡ true → u ≡ true → t ≡ true)
-        → cond t (map (claim_at p) rest) [] ≡ claims_in space n kept
-        → cond t (map (claim_at p) (option_to_list (hit_at command space n b) ++ rest)) [] ≡ claims_in space n (cond (opens_space command (space_of b.kind)) (region_now p b ∷ kept) kept)
-    by_tests t o u e f way more = grind (arith, decodes_is)
+of_regions t p command space n (b ∷ bs) h = grind (arith, of_regions t p command space n bs, tests, space_same)
 
 module _ (rows : List RoutingRow) (orderly : Each (IsForwarded rows) (open_regions rows)) where
   -- an open region's bytes are routed to it

@@ -1,9 +1,9 @@
 -- Where no function is told as not found, a state is numbered: each function is reached by its address alone. A board
 -- that holds its own numbers is numbered.
-use Rattle.std.proofs.Common.{◌≡◌, ℕ, ◌<◌, ◌⊎◌, inl, inr, Bool, true, false, ◌&&◌, cond, not, List, [], ◌∷◌, ◌++◌, length, Option, Some, None, refl, sym, ap, ◌∙◌, subst, arith, append_assoc}
+use Rattle.std.proofs.Common.{◌≡◌, ℕ, ◌<◌, ◌⊎◌, inl, inr, Bool, true, false, ◌&&◌, not, List, [], ◌∷◌, ◌++◌, length, Option, Some, None, refl, sym, ap, ◌∙◌, subst, arith, append_assoc}
 use Rattle.std.specs.Prelude.{find, IsTrue}
 use Rattle.std.specs.Option.{option_map, option_map_or}
-use Rattle.std.proofs.lemmas.Bool.{eqb-true}
+use Rattle.std.proofs.lemmas.Bool.{eqb-true, and_from}
 use Rattle.lists.proofs.Tests.{left_true, right_true}
 use Rattle.lists.specs.Elements.{IsIn}
 use Rattle.model_board.specs.Paths.{Part, Path, path_eq, parent, last_part}
@@ -13,17 +13,19 @@ use Rattle.model_board.specs.BusNumbers.{secondary, subordinate, bus_behind}
 use Rattle.model_board.specs.State.{BoardFunction, row_at}
 use Rattle.model_board.specs.Cycles.{secondary_register, subordinate_register, takes, is_route, ends_in, reached_type0, reached_type1, BusAddress, reached}
 use Rattle.model_set_up.specs.Reach.{HasNumbers, address_of}
+use Rattle.lists.proofs.Indices.{found_at, index_in}
 use Rattle.lists.proofs.Members.{each_in, each_from, in_map, from_map, any_in}
-use Rattle.model_board.proofs.PathEnds.{path_self, not_before_itself}
-use Rattle.model_board.proofs.PathOrder.{part_same, path_same}
+use Rattle.model_board.proofs.PathEnds.{path_self, not_before_itself, snoc_some}
+use Rattle.model_board.proofs.PathOrder.{path_same}
 use Rattle.model_set_up.proofs.Partings.{BridgeAt, bridge_at, pair_in}
-use Rattle.model_set_up.proofs.Routes.{found, reached_by_numbers}
+use Rattle.model_set_up.proofs.Routes.{found, reached_by_numbers, ends_is_last, last_flag}
 use Rattle.model_audit.specs.Orderly.{IsStateOfBoard}
 use Rattle.model_audit.specs.Found.{is_bridge_at, bus_now, address_now, path_reached, FoundOnce, NumbersOfBoard}
 use Rattle.model_audit.specs.Problems.{Problem, not_found, numbering_problem}
 use Rattle.model_audit.specs.Witnesses.{IsNotFound, NumberingDecides}
-use Rattle.model_audit.proofs.Pairs.{both, pairs_from_map}
-use Rattle.model_audit.proofs.Problems.{none_each, each_none, each_weaker}
+use Rattle.model_audit.proofs.Pairs.{pairs_from_map}
+use Rattle.model_audit.proofs.Problems.{none_each, each_none}
+use Rattle.lists.proofs.EachLemmas.{each_map}
 
 -- ---- what is told of one function
 
@@ -51,22 +53,12 @@ module _ (fs : List BoardFunction) (f : BoardFunction) where
 -- ---- all functions
 
 pub numbering_decides : NumberingDecides
-numbering_decides fs = grind (arith, each_weaker, reached_if_none, none_each, each_none, none_if_reached)
+numbering_decides fs = grind (arith, each_map, reached_if_none, none_each, each_none, none_if_reached)
 
 -- ---- the one address of a function
 
 pub found_in : {A : Type 0} (t : A → Bool) (xs : List A) (y : A) → find t xs ≡ Some y → IsIn y xs × (t y ≡ true)
-found_in t [] y e = cc
-found_in t (x ∷ xs) y e = by (t x) refl e (found_in t xs y)
-  where
-    by : (b : Bool) → t x ≡ b → cond b (Some x) (find t xs) ≡ Some y → (find t xs ≡ Some y → IsIn y xs × (t y ≡ true)) → IsIn y (x ∷ xs) × (t y ≡ true)
-    by true k h more = let same : y ≡ x = cc in (inl same, ap t same ∙ k)
-    by false k h more = let m = more h in (inr m.0, m.1)
-
-ends_is_last : (p : Path) (t : Part) → ends_in p t ≡ true → last_part p ≡ t
-ends_is_last [] t h = cc
-ends_is_last (p ∷ []) t h = part_same p t h
-ends_is_last (p ∷ q ∷ ps) t h = ends_is_last (q ∷ ps) t h
+found_in t xs y e = let f = found_at t xs y e in (index_in xs f.1.0 y f.1.1, f.0)
 
 module _ (fs : List BoardFunction) (state : IsStateOfBoard fs) where
   -- one function stands at a path
@@ -75,35 +67,24 @@ module _ (fs : List BoardFunction) (state : IsStateOfBoard fs) where
 
   -- so a search for the bridge at its path finds it
   pub is_found_at : (f : BoardFunction) → IsIn f fs → is_bridge f.decl ≡ true → find (is_bridge_at f.path) fs ≡ Some f
-  is_found_at f m is = of (found (is_bridge_at f.path) fs (any_in (is_bridge_at f.path) f fs m (both (is_bridge f.decl) (path_eq f.path f.path) is (path_self f.path))))
+  is_found_at f m is = of (found (is_bridge_at f.path) fs (any_in (is_bridge_at f.path) f fs m (and_from (is_bridge f.decl) (path_eq f.path f.path) is (path_self f.path))))
     where
       of : (g : BoardFunction) × (find (is_bridge_at f.path) fs ≡ Some g) × IsIn g fs × (is_bridge_at f.path g ≡ true) → find (is_bridge_at f.path) fs ≡ Some f
       of (g, e, k, at) = e ∙ ap Some (one_function g f k m (path_same g.path f.path (right_true (is_bridge g.decl) (path_eq g.path f.path) at)))
 
   number_of : (f : BoardFunction) → IsIn f fs → is_bridge f.decl ≡ true → (bus : Path) (p : Part) → f.path ≡ bus ++ p ∷ [] → bus_now fs (bus ++ p ∷ []) ≡ secondary_register f.file
-  number_of f m is bus p e = at (bus ++ p ∷ []) e (some bus)
+  number_of f m is bus p e = at (bus ++ p ∷ []) e (snoc_some bus p)
     where
-      some : (bus : Path) → 0 < length (bus ++ p ∷ [])
-      some [] = omega arith
-      some (b ∷ bs) = omega arith
-
       at : (q : Path) → f.path ≡ q → 0 < length q → bus_now fs q ≡ secondary_register f.file
       at [] k h = absurd (omega arith)
       at (q ∷ qs) k h = ap (λ o. option_map_or (λ (x : BoardFunction). secondary_register x.file) o 0) (ap (λ (y : Path). find (is_bridge_at y) fs) (sym k) ∙ is_found_at f m is)
 
   module _ (n : ℕ) where
-    last_flag : (c : Bool) → cond c true (not true) ≡ true → c ≡ true
-    last_flag c h = grind arith
-
-    -- the bridge that leads to bus n itself stands at this path, and n is its number
-    last_bridge : (above : Path) (p : Part) → takes fs above n p true ≡ true → bus_now fs (above ++ p ∷ []) ≡ n
-    last_bridge above p h = grind (arith, found_in, path_same, left_true, right_true, number_of, eqb-true, last_flag)
-
     -- a way that leads to bus n ends behind the bridge whose number is n
     way_ends : (above p : Path) → is_route fs n above p ≡ true → bus_now fs (above ++ parent p) ≡ n
     way_ends above [] h = cc
     way_ends above (p ∷ []) h = cc
-    way_ends above (p ∷ q ∷ []) h = last_bridge above p h
+    way_ends above (p ∷ q ∷ []) h = grind (arith, found_in, path_same, left_true, right_true, number_of, eqb-true, last_flag)
     way_ends above (p ∷ q ∷ r ∷ ps) h =
         ap (bus_now fs) (sym (append_assoc above (p ∷ []) (parent (q ∷ r ∷ ps)))) ∙ way_ends (above ++ p ∷ []) (q ∷ r ∷ ps) (right_true (takes fs above n p false) (is_route fs n (above ++ p ∷ []) (q ∷ r ∷ ps)) h)
 
@@ -173,7 +154,7 @@ module _ (b : Board) (lawful : IsBoard b) (fs : List BoardFunction) (has : HasNu
           of (g, k, e) =
               let g_path : g.path ≡ p ∷ ps = ap (λ (x : Row). x.path) (sym e) ∙ path in
               by_found (found (is_bridge_at (p ∷ ps)) fs (any_in (is_bridge_at (p ∷ ps)) g fs k
-              (both (is_bridge g.decl) (path_eq g.path (p ∷ ps)) (ap (λ (x : Row). is_bridge x.decl) (sym e) ∙ is) (ap (λ x. path_eq x (p ∷ ps)) g_path ∙ path_self (p ∷ ps)))))
+              (and_from (is_bridge g.decl) (path_eq g.path (p ∷ ps)) (ap (λ (x : Row). is_bridge x.decl) (sym e) ∙ is) (ap (λ x. path_eq x (p ∷ ps)) g_path ∙ path_self (p ∷ ps)))))
 
   named : (f : BoardFunction) → IsIn f fs → address_now fs f.path ≡ address_of b f.path
   named f m = grind (arith, behind, each_in, there)

@@ -1,26 +1,26 @@
 -- A state without problems is orderly, and what a problem says is so.
 use Rattle.std.proofs.Common.{◌≡◌, ℕ, zero, suc, ◌+◌, ◌≤◌, ◌<◌, ◌⊎◌, inl, inr, Bool, true, false, ◌&&◌, ◌||◌, cond, List, [], ◌∷◌, ◌++◌, Option, Some, None, refl, sym, ap, ap₂, ◌∙◌, subst, arith, leb, ltb}
-use Rattle.std.specs.Prelude.{not, min, map, filter, flat_map, IsTrue}
+use Rattle.std.specs.Prelude.{not, map, filter, flat_map, IsTrue}
 use Rattle.std.specs.List.{list_all, list_any}
-use Rattle.std.specs.Option.{option_map, option_map_or, option_to_list}
+use Rattle.std.specs.Option.{option_map, option_to_list}
 use Rattle.std.proofs.Math.Nat.{min-le_left, min-le_right}
 use Rattle.std.proofs.lemmas.Bool.Decides.{nat_tests}
-use Rattle.std.proofs.lemmas.Bool.{leb-true, ltb-true}
+use Rattle.std.proofs.lemmas.Bool.{leb-true, ltb-true, le-leb, lt-ltb, and_from}
 use Rattle.lists.specs.Elements.{Each, EachPair, first_of_two, first_some, IsIn}
 use Rattle.model_registers.specs.Decoding.{Space, same_space}
 use Rattle.model_registers.proofs.HitRegions.{space_same}
 use Rattle.lists.proofs.Tests.{left_true, right_true}
+use Rattle.lists.proofs.EachLemmas.{each_map}
 use Rattle.model_board.specs.Paths.{leads_to}
 use Rattle.model_board.specs.Routing.{RoutingRow, row_forwards, is_routed}
 use Rattle.model_set_up.specs.PlacedRegions.{PlacedRegion, holds}
-use Rattle.lists.proofs.Members.{each_in, each_from, in_map, in_filter, from_filter, in_front, in_back, front_or_back, from_flat_map, any_in, from_any}
+use Rattle.lists.proofs.Members.{each_in, each_from, in_map, in_filter, from_filter, in_front, in_back, front_or_back, from_flat_map, any_in, from_any, all_from}
 use Rattle.model_set_up.proofs.Holders.{Holds, holds_is, is_held, self_space}
 use Rattle.model_audit.specs.OpenRegions.{open_regions}
 use Rattle.model_audit.specs.Agents.{Extent, extent_holds, forwarded_extents, Agent, agents, answers, on_one_bus}
 use Rattle.model_audit.specs.Orderly.{IsForwarded, AreAlone, IsOrderly}
 use Rattle.model_audit.specs.Problems.{least, unforwarded, shared, Problem, not_forwarded, contended, not_found, blame, forwarding_problem, contention, contentions, routing_problems}
 use Rattle.model_audit.specs.Witnesses.{ForwardsAll, IsNotForwarded, IsBefore, IsContended, RoutingDecides}
-use Rattle.model_audit.proofs.Pairs.{both}
 use Rattle.model_audit.proofs.Answering.{forwards_extents}
 
 -- ---- lists without elements
@@ -41,22 +41,11 @@ pub each_none : {A B : Type 0} (f : A → List B) (xs : List A) → Each (λ x. 
 each_none f [] h = refl
 each_none f (x ∷ xs) h = ap₂ ◌++◌ h.0 (each_none f xs h.1)
 
-pub each_weaker : {A : Type 0} (P Q : A → Type 0) (xs : List A) → ((x : A) → P x → Q x) → Each P xs → Each Q xs
-each_weaker P Q [] f h = tt
-each_weaker P Q (x ∷ xs) f h = (f x h.0, each_weaker P Q xs f h.1)
-
-no_elements : {A : Type 0} (xs : List A) → ((x : A) → IsIn x xs → ⊥) → xs ≡ []
+pub no_elements : {A : Type 0} (xs : List A) → ((x : A) → IsIn x xs → ⊥) → xs ≡ []
 no_elements [] h = refl
 no_elements (x ∷ xs) h = absurd (h x (inl refl))
 
 -- ---- the least of some numbers
-
-min_is : (x y : ℕ) → (min x y ≡ x) ⊎ (min x y ≡ y)
-min_is x y = by (leb x y) refl
-  where
-    by : (t : Bool) → leb x y ≡ t → (min x y ≡ x) ⊎ (min x y ≡ y)
-    by true e = let h : x ≤ y = leb-true x y e in inl (omega arith)
-    by false e = let h : y < x = grind (arith, nat_tests) in inr (omega arith)
 
 -- it is one of them, and no greater than any of them
 pub record IsLeast (n : ℕ) (xs : List ℕ) : Type 0 where
@@ -69,23 +58,7 @@ Least (Some n) xs = IsLeast n xs
 
 pub least_is : (xs : List ℕ) → Least (least xs) xs
 least_is [] = refl
-least_is (x ∷ xs) = by (least xs) (least_is xs)
-  where
-    by : (o : Option ℕ) → Least o xs → IsLeast (option_map_or (min x) o x) (x ∷ xs)
-    by None e = record { there = inl refl; below = first }
-      where
-        first : (m : ℕ) → IsIn m (x ∷ xs) → x ≤ m
-        first m (inl f) = omega arith
-        first m (inr k) = absurd (subst (IsIn m) e k)
-    by (Some n) h = record { there = here (min_is x n); below = first }
-      where
-        here : (min x n ≡ x) ⊎ (min x n ≡ n) → IsIn (min x n) (x ∷ xs)
-        here (inl e) = inl e
-        here (inr e) = inr (subst (λ z. IsIn z xs) (sym e) h.there)
-
-        first : (m : ℕ) → IsIn m (x ∷ xs) → min x n ≤ m
-        first m (inl f) = omega (arith, min-le_left x n)
-        first m (inr k) = omega (arith, min-le_right x n, h.below m k)
+least_is (x ∷ xs) = grind (arith, least_is xs, min-le_left, min-le_right, leb-true, nat_tests)
 
 -- what is found is the least that passes
 pub found_least : (t : ℕ → Bool) (xs : List ℕ) (n : ℕ) → least (filter t xs) ≡ Some n → IsLeast n (filter t xs)
@@ -108,14 +81,8 @@ pub record Within (n : ℕ) (e : Extent) : Type 0 where
 within_is : (n : ℕ) (e : Extent) → extent_holds n e ≡ true → Within n e
 within_is n e h = record { from = leb-true e.first n (left_true (leb e.first n) (ltb n e.end) h); below = ltb-true n e.end (right_true (leb e.first n) (ltb n e.end) h) }
 
-le_test : (x y : ℕ) → x ≤ y → leb x y ≡ true
-le_test x y k = grind (arith, nat_tests)
-
-lt_test : (x y : ℕ) → x < y → ltb x y ≡ true
-lt_test x y k = grind (arith, nat_tests)
-
 is_within : (n : ℕ) (e : Extent) → Within n e → extent_holds n e ≡ true
-is_within n e h = both (leb e.first n) (ltb n e.end) (le_test e.first n h.from) (lt_test n e.end h.below)
+is_within n e h = and_from (leb e.first n) (ltb n e.end) (le-leb e.first n h.from) (lt-ltb n e.end h.below)
 
 lt_from : (x y : ℕ) → leb x y ≡ false → y < x
 lt_from x y h = grind (arith, nat_tests)
@@ -147,7 +114,7 @@ module _ (r : RoutingRow) (q : PlacedRegion) (n : ℕ) (h : holds q.space n q �
       m_held = is_held q.space m q (record { space_is = self_space q.space; from = from; below = omega (arith, (holds_is q.space n q h).below) })
 
       by : (t : Bool) → row_forwards q.space m r ≡ t → LostStart r q n ⊎ ((x : ℕ) × IsIn x (starts r q) × (m < x) × (x ≤ n))
-      by false e = inl (m, in_filter (lost r q) m (starts r q) there (both (holds q.space m q) (not (row_forwards q.space m r)) m_held (is_not (row_forwards q.space m r) e)), below)
+      by false e = inl (m, in_filter (lost r q) m (starts r q) there (and_from (holds q.space m q) (not (row_forwards q.space m r)) m_held (is_not (row_forwards q.space m r) e)), below)
       by true e = on (from_any (extent_holds m) (forwarded_extents q.space r) (forwards_extents q.space m r.path r.command r.ranges ∙ e))
         where
           on : (x : Extent) × IsIn x (forwarded_extents q.space r) × (extent_holds m x ≡ true) → LostStart r q n ⊎ ((x : ℕ) × IsIn x (starts r q) × (m < x) × (x ≤ n))
@@ -209,35 +176,19 @@ first_from {A} {B} f (x ∷ xs) y h = by (f x) refl h (first_from f xs y)
 
 first_there : {A B : Type 0} (f : A → Option B) (x : A) (xs : List A) (y : B) → IsIn x xs → f x ≡ Some y → first_some f xs ≡ None → ⊥
 first_there f x [] y m h none = m
-first_there {A} {B} f x (z ∷ xs) y m h none = by (f z) refl none m (λ k e. first_there f x xs y k h e)
-  where
-    by : (o : Option B) → f z ≡ o → first_of_two o (first_some f xs) ≡ None → IsIn x (z ∷ xs) → (IsIn x xs → first_some f xs ≡ None → ⊥) → ⊥
-    by (Some w) e g k more = let bad : Some w ≡ None = g in cc
-    by None e g (inl k) more = let bad : Some y ≡ None = sym h ∙ ap f k ∙ e in cc
-    by None e g (inr k) more = more k g
+first_there {A} {B} f x (z ∷ xs) y m h none = grind (arith, first_there f x xs y)
 
 -- ---- what is told of forwarding
 
 all_false : {A : Type 0} (t : A → Bool) (x : A) (xs : List A) → IsIn x xs → t x ≡ false → list_all t xs ≡ false
 all_false t x [] m h = absurd m
-all_false t x (y ∷ xs) (inl e) h = let no : t y ≡ false = ap t (sym e) ∙ h in rw no
-all_false t x (y ∷ xs) (inr m) h = and_false (t y) (list_all t xs) (all_false t x xs m h)
-  where
-    and_false : (a b : Bool) → b ≡ false → (a && b) ≡ false
-    and_false true b h = h
-    and_false false b h = refl
-
-all_of : {A : Type 0} (t : A → Bool) (xs : List A) → ((x : A) → IsIn x xs → t x ≡ true) → list_all t xs ≡ true
-all_of t [] h = refl
-all_of t (x ∷ xs) h = let e : t x ≡ true = h x (inl refl) in let f : list_all t xs ≡ true = all_of t xs (λ y m. h y (inr m)) in rw (e, f)
+all_false t x (y ∷ xs) m h = grind (arith, all_false t x xs)
 
 blamed : (q : PlacedRegion) (r : RoutingRow) (p : Problem) → blame q r ≡ Some p → (leads_to r.path q.path ≡ true) × (n : ℕ) × (unforwarded r q ≡ Some n) × (p ≡ not_forwarded q r.path n)
 blamed q r p h = by (leads_to r.path q.path) (unforwarded r q) refl refl h
   where
     by : (t : Bool) (o : Option ℕ) → leads_to r.path q.path ≡ t → unforwarded r q ≡ o → cond t (option_map (not_forwarded q r.path) o) None ≡ Some p → (leads_to r.path q.path ≡ true) × (n : ℕ) × (unforwarded r q ≡ Some n) × (p ≡ not_forwarded q r.path n)
-    by true (Some n) e f g = let same : p ≡ not_forwarded q r.path n = cc in (e, n, f, same)
-    by true None e f g = cc
-    by false o e f g = cc
+    by t o h k g = grind arith
 
 -- what a problem of the first two kinds says
 abbrev pub IsRouted : List RoutingRow → Problem → Type 0
@@ -247,14 +198,7 @@ IsRouted rows (not_found p at instead) = ⊥
 
 -- a bridge with no lost byte to tell forwards all
 forwards_rest : (q : PlacedRegion) (r : RoutingRow) → blame q r ≡ None → IsTrue (leads_to r.path q.path) → ForwardsAll q r
-forwards_rest q r none over n h = by (row_forwards q.space n r) refl
-  where
-    told : (c : ℕ) → unforwarded r q ≡ Some c → blame q r ≡ Some (not_forwarded q r.path c)
-    told c f = ap₂ (λ (t : Bool) (o : Option ℕ). cond t (option_map (not_forwarded q r.path) o) None) over f
-
-    by : (t : Bool) → row_forwards q.space n r ≡ t → t ≡ true
-    by true e = refl
-    by false e = let g = unforwarded_finds r q n h e in let bad : Some (not_forwarded q r.path g.0) ≡ None = sym (told g.0 g.1) ∙ none in cc
+forwards_rest q r none over n h = grind (arith, unforwarded_finds)
 
 lost_byte : (q : PlacedRegion) (r : RoutingRow) (n : ℕ) → unforwarded r q ≡ Some n → (holds q.space n q ≡ true) × (row_forwards q.space n r ≡ false)
 lost_byte q r n found =
@@ -274,16 +218,14 @@ lost_is rows before after q r n m split none over found =
       rows_are = split;
       bridge_is = refl;
       above = over;
-      first = each_weaker (λ s. blame q s ≡ None) (λ s. IsTrue (leads_to s.path q.path) → ForwardsAll q s) before (forwards_rest q) none;
+      first = each_map (λ s. blame q s ≡ None) (λ s. IsTrue (leads_to s.path q.path) → ForwardsAll q s) before (forwards_rest q) none;
       byte = (lost_byte q r n found).0;
       lost = (lost_byte q r n found).1;
       least = λ k h gone. let s = lost_start r q k h gone k q.first (inl refl) (omega arith) (holds_is q.space k q h).from (omega arith) in omega (arith, l.below s.0 s.1, s.2);
     }
 
 from_option : {A : Type 0} (o : Option A) (x : A) → IsIn x (option_to_list o) → o ≡ Some x
-from_option None x m = absurd m
-from_option (Some y) x (inl e) = ap Some (sym e)
-from_option (Some y) x (inr m) = absurd m
+from_option o x m = grind arith
 
 forwarding_real : (rows : List RoutingRow) (p : Problem) → IsIn p (flat_map (forwarding_problem rows) (open_regions rows)) → IsRouted rows p
 forwarding_real rows p m = of_region (from_flat_map (forwarding_problem rows) p (open_regions rows) m)
@@ -296,7 +238,7 @@ forwarding_real rows p m = of_region (from_flat_map (forwarding_problem rows) p 
             subst (IsRouted rows) (sym g.3) (lost_is rows f.before f.after q f.element g.1 k f.list_is f.none g.0 g.2)
 
 none_lost : (rows : List RoutingRow) (q : PlacedRegion) → forwarding_problem rows q ≡ [] → IsForwarded rows q
-none_lost rows q none n h = all_of (λ s. not (leads_to s.path q.path) || row_forwards q.space n s) rows (λ r m. by r m (leads_to r.path q.path) (row_forwards q.space n r) refl refl)
+none_lost rows q none n h = all_from (λ s. not (leads_to s.path q.path) || row_forwards q.space n s) rows (λ r m. by r m (leads_to r.path q.path) (row_forwards q.space n r) refl refl)
   where
     empty : (o : Option Problem) → option_to_list o ≡ [] → o ≡ None
     empty None e = refl
@@ -326,7 +268,7 @@ pub by_extent : (space : Space) (n : ℕ) (a : Agent) → answers space n a ≡ 
 by_extent space n a h = grind (arith, from_any, right_true, left_true, within_is)
 
 answered : (space : Space) (n : ℕ) (a : Agent) (e : Extent) → same_space a.space space ≡ true → IsIn e a.extents → Within n e → answers space n a ≡ true
-answered space n a e h m w = both (same_space a.space space) (list_any (extent_holds n) a.extents) h (any_in (extent_holds n) e a.extents m (is_within n e w))
+answered space n a e h m w = and_from (same_space a.space space) (list_any (extent_holds n) a.extents) h (any_in (extent_holds n) e a.extents m (is_within n e w))
 
 -- where both answer an address, both answer one that is no later and at which one of them begins
 shared_start : (a b : Agent) (m : ℕ) → answers a.space m a ≡ true → answers a.space m b ≡ true → (c : ℕ) × IsIn c (filter (answer_both a b) (begins a b)) × (c ≤ m)
@@ -351,7 +293,7 @@ shared_start a b m h k = by (leb e.first f.first) refl
     w = y.3
 
     start : (c : ℕ) → IsIn c (begins a b) → Within c x.1 → Within c y.1 → IsIn c (filter (answer_both a b) (begins a b))
-    start c j o u = in_filter (answer_both a b) c (begins a b) j (both (answers a.space c a) (answers a.space c b) (answered a.space c a x.1 x.0 x.2 o) (answered a.space c b y.1 y.0 y.2 u))
+    start c j o u = in_filter (answer_both a b) c (begins a b) j (and_from (answers a.space c a) (answers a.space c b) (answered a.space c a x.1 x.0 x.2 o) (answered a.space c b y.1 y.0 y.2 u))
 
     by : (t : Bool) → leb x.1.first y.1.first ≡ t → (c : ℕ) × IsIn c (filter (answer_both a b) (begins a b)) × (c ≤ m)
     by true g =
@@ -363,15 +305,6 @@ shared_start a b m h k = by (leb e.first f.first) refl
       where
         later : (i j : ℕ) → leb i j ≡ false → j < i
         later i j h = grind (arith, nat_tests)
-
-contention_is : (a b : Agent) (p : Problem) → IsIn p (contention a b) → (on_one_bus a b ≡ true) × (n : ℕ) × (shared a b ≡ Some n) × (p ≡ contended a b n)
-contention_is a b p m = by (on_one_bus a b) (shared a b) refl refl m
-  where
-    by : (t : Bool) (o : Option ℕ) → on_one_bus a b ≡ t → shared a b ≡ o → IsIn p (cond t (option_to_list (option_map (contended a b) o)) []) → (on_one_bus a b ≡ true) × (n : ℕ) × (shared a b ≡ Some n) × (p ≡ contended a b n)
-    by true (Some n) e f (inl g) = (e, n, f, g)
-    by true (Some n) e f (inr g) = absurd g
-    by true None e f g = absurd g
-    by false o e f g = absurd g
 
 -- what both answer at the address that is told
 pub record AtShared (a b : Agent) (n : ℕ) : Type 0 where
@@ -390,7 +323,7 @@ shared_is a b n e =
     }
 
 contention_real : (rows : List RoutingRow) (a b : Agent) (p : Problem) → IsBefore a b (agents rows) → IsIn p (contention a b) → IsRouted rows p
-contention_real rows a b p two m = grind (arith, contention_is, shared_is)
+contention_real rows a b p two m = grind (arith, shared_is)
 
 contentions_real : (rows : List RoutingRow) (xs : List Agent) → ((a b : Agent) → IsBefore a b xs → IsBefore a b (agents rows)) → (p : Problem) → IsIn p (contentions xs) → IsRouted rows p
 contentions_real rows [] two p m = absurd m
@@ -401,18 +334,7 @@ contentions_real rows (a ∷ bs) two p m = by (front_or_back p (flat_map (conten
     by (inr k) more = more k
 
 alone_is : (a b : Agent) → contention a b ≡ [] → AreAlone a b
-alone_is a b none bus space n h = by (answers space n b) refl
-  where
-    empty : (o : Option ℕ) → on_one_bus a b ≡ true → shared a b ≡ o → contention a b ≡ option_to_list (option_map (contended a b) o)
-    empty o e f = ap₂ (λ (t : Bool) (u : Option ℕ). cond t (option_to_list (option_map (contended a b) u)) []) e f
-
-    by : (t : Bool) → answers space n b ≡ t → t ≡ false
-    by false e = refl
-    by true e =
-        let same : a.space ≡ space = space_same a.space space (by_extent space n a h).0 in
-        let s = shared_start a b n (subst (λ (z : Space). answers z n a ≡ true) (sym same) h) (subst (λ (z : Space). answers z n b ≡ true) (sym same) e) in
-        let f = finds (answer_both a b) (begins a b) s.0 s.1 in
-        let bad : contended a b f.0 ∷ [] ≡ [] = sym (empty (Some f.0) bus f.1) ∙ none in cc
+alone_is a b none bus space n h = grind (arith, space_same, by_extent, shared_start, finds)
 
 no_contention : (a b : Agent) → AreAlone a b → contention a b ≡ []
 no_contention a b alone = by (on_one_bus a b) (shared a b) refl refl
@@ -427,13 +349,13 @@ no_contention a b alone = by (on_one_bus a b) (shared a b) refl refl
 all_alone : (xs : List Agent) → contentions xs ≡ [] → EachPair AreAlone xs
 all_alone [] h = tt
 all_alone (a ∷ bs) h = (
-  each_weaker (λ b. contention a b ≡ []) (AreAlone a) bs (alone_is a) (none_each (contention a) bs (none_front (flat_map (contention a) bs) (contentions bs) h)),
+  each_map (λ b. contention a b ≡ []) (AreAlone a) bs (alone_is a) (none_each (contention a) bs (none_front (flat_map (contention a) bs) (contentions bs) h)),
   all_alone bs (none_back (flat_map (contention a) bs) (contentions bs) h),
 )
 
 pub no_contentions : (xs : List Agent) → EachPair AreAlone xs → contentions xs ≡ []
 no_contentions [] h = refl
-no_contentions (a ∷ bs) h = ap₂ ◌++◌ (each_none (contention a) bs (each_weaker (AreAlone a) (λ b. contention a b ≡ []) bs (no_contention a) h.0)) (no_contentions bs h.1)
+no_contentions (a ∷ bs) h = ap₂ ◌++◌ (each_none (contention a) bs (each_map (AreAlone a) (λ b. contention a b ≡ []) bs (no_contention a) h.0)) (no_contentions bs h.1)
 
 -- ---- the laws
 
@@ -446,7 +368,7 @@ routing_is_real rows p m = by (front_or_back p (flat_map (forwarding_problem row
 
 orderly_is : (rows : List RoutingRow) → routing_problems rows ≡ [] → IsOrderly rows
 orderly_is rows h = record {
-  forwarded = each_weaker (λ q. forwarding_problem rows q ≡ []) (IsForwarded rows) (open_regions rows) (none_lost rows) (none_each (forwarding_problem rows) (open_regions rows) (none_front (flat_map (forwarding_problem rows) (open_regions rows)) (contentions (agents rows)) h));
+  forwarded = each_map (λ q. forwarding_problem rows q ≡ []) (IsForwarded rows) (open_regions rows) (none_lost rows) (none_each (forwarding_problem rows) (open_regions rows) (none_front (flat_map (forwarding_problem rows) (open_regions rows)) (contentions (agents rows)) h));
   alone = all_alone (agents rows) (none_back (flat_map (forwarding_problem rows) (open_regions rows)) (contentions (agents rows)) h);
 }
 
