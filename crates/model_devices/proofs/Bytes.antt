@@ -1,10 +1,9 @@
 -- What a device reads and writes of its function's registers: the checks, the guest afterwards, and the board.
-use Rattle.std.proofs.Common.{◌≡◌, ℕ, Bool, true, false, not, cond, [], ◌∷◌, Some, None, Option, refl, sym, ap, ap₂, ◌∙◌, arith}
+use Rattle.std.proofs.Common.{◌≡◌, ℕ, Bool, true, false, not, cond, [], ◌∷◌, Some, None, Option, refl, sym, ap, ◌∙◌, arith}
 use Rattle.std.specs.Prelude.{is_some, nat_le}
 use Rattle.std.specs.Option.{option_map_or}
-use Rattle.std.specs.Str.{bytes_eq}
 use Rattle.model_registers.specs.Cell.{Cell}
-use Rattle.model_registers.specs.Registers.{Place, place_eq, PlacedCell, File, cell_at, changed}
+use Rattle.model_registers.specs.Registers.{Place, File, cell_at, changed}
 use Rattle.model_registers.specs.FileLaws.{has_place}
 use Rattle.model_registers.specs.OwnCopies.{is_own}
 use Rattle.model_registers.specs.DeviceBytes.{is_device_byte, set_value}
@@ -18,7 +17,7 @@ use Rattle.model_board.specs.Board.{Board}
 use Rattle.model_board.specs.AtReset.{board_at}
 use Rattle.model_board.specs.State.{State}
 use Rattle.model_guests.specs.Accesses.{answered, done, refused}
-use Rattle.model_guests.specs.Slots.{Slots, slot_at, file_at, with_file, raise_place}
+use Rattle.model_guests.specs.Slots.{Slots, slot_at, with_file, raise_place}
 use Rattle.model_guests.specs.Text.{Text}
 use Rattle.model_guests.specs.Lone.{LoneGuest}
 use Rattle.model_guests.specs.Guests.{GuestNow, GuestsNow, guest_named, path_in, function_in, file_of, lone_of, with_guest}
@@ -59,9 +58,7 @@ module _ (slots : Slots) (d : DeviceByte) (low : nat_le 32 d.slot ≡ false) (f 
     lands = ap (λ (o : Option Function). byte_landing o d) there ∙ at
 
     pub byte_there : byte_in slots d ≡ (cell_at f.file p).value
-    byte_there =
-        ap (λ (o : Option Place). option_map_or (λ (q : Place). (cell_at (file_at slots d.slot) q).value) o 0) lands
-        ∙ ap (λ (o : Option Function). (cell_at (option_map_or (λ (g : Function). g.file) o []) p).value) there
+    byte_there = grind (arith, lands)
 
     pub with_byte_there : (v : ℕ) → with_byte d v slots ≡ with_file (set_value v p) d.slot slots
     with_byte_there v = ap (λ (o : Option Place). option_map_or (λ (q : Place). with_file (set_value v q) d.slot slots) o slots) lands
@@ -70,9 +67,7 @@ module _ (slots : Slots) (d : DeviceByte) (low : nat_le 32 d.slot ≡ false) (f 
 
 module _ (g : LoneGuest) (d : DeviceByte) (low : nat_le 32 d.slot ≡ false) (f : Function) (there : slot_at g.slots d.slot ≡ Some f) (p : Place) (at : device_place f d.part d.offset ≡ Some p) where
   pub read_there : device_answer g (device_reads d) ≡ answered (cell_at f.file p).value 1
-  read_there =
-      ap (λ (o : Option ℕ). option_map_or refused o (answered (byte_in g.slots d) 1)) (passes g.slots d low f there p at)
-      ∙ ap (λ (n : ℕ). answered n 1) (byte_there g.slots d low f there p at)
+  read_there = grind (arith, passes, byte_there)
 
   pub write_answered : (v : ℕ) → device_answer g (device_writes d v) ≡ done
   write_answered v = ap (λ (o : Option ℕ). option_map_or refused o done) (passes g.slots d low f there p at)
@@ -85,11 +80,7 @@ read_leaves g d = grind arith
 
 pub reads_leave_guests : ReadsLeaveGuests
 reads_leave_guests name d [] = refl
-reads_leave_guests name d (t ∷ ts) = ap₂ (λ (x : GuestNow) (xs : GuestsNow). x ∷ xs) (cases (bytes_eq name t.name)) (reads_leave_guests name d ts)
-  where
-    cases : (v : Bool) → cond v (device_after (device_reads d) t) t ≡ t
-    cases true = ap (λ (l : LoneGuest). let x : GuestNow = record t { lone = l } in x) (read_leaves t.lone d)
-    cases false = refl
+reads_leave_guests name d (t ∷ ts) = grind (arith, reads_leave_guests name d ts, read_leaves)
 
 pub reads_written : ReadsWritten
 reads_written g d v fault f p there at stands = grind (arith, low_slot, with_file_there, slot_set, written_there, read_there, change_there)
@@ -99,14 +90,7 @@ reads_written g d v fault f p there at stands = grind (arith, low_slot, with_fil
 -- one byte of the agreed file, where the guest's has a cell there
 board_byte : (f : Cell → Cell) (p : Place) → is_own p ≡ false → (left own : File) → has_place own p ≡ true → agreed_file left (changed f p own) ≡ changed f p (agreed_file left own)
 board_byte f p other [] own stands = refl
-board_byte f p other (e ∷ es) own stands = ap₂ (λ (x : PlacedCell) (xs : File). x ∷ xs) (entry (is_own e.place) refl (place_eq e.place p) refl) (board_byte f p other es own stands)
-  where
-    agreed_entry : File → PlacedCell
-    agreed_entry file = cond (is_own e.place) e (record e { cell = cell_at file e.place })
-
-    entry : (t : Bool) → is_own e.place ≡ t → (u : Bool) → place_eq e.place p ≡ u
-        → agreed_entry (changed f p own) ≡ cond (place_eq (agreed_entry own).place p) (record (agreed_entry own) { cell = f (agreed_entry own).cell }) (agreed_entry own)
-    entry t i u k = grind (arith, place_same, change_there, change_beside, place_turned)
+board_byte f p other (e ∷ es) own stands = grind (arith, board_byte f p other es own stands, place_same, change_there, change_beside, place_turned)
 
 pub bytes_alike : (v : ℕ) (p : Place) → is_device_byte p ≡ true → (own left : File) → agreed_file left (set_value v p own) ≡ byte_change own v p (agreed_file left own)
 bytes_alike v p reaches own left = grind (arith, board_byte, device_not_own, change_none)

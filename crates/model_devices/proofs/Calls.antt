@@ -49,9 +49,6 @@ touched name m p (Some f) gs there =
         ≡ after_own_calls (lone_of gs name) (all_moved (cond u (loses m.slot ∷ []) [] ++ cond v (gets m.target f.decl ∷ []) []))
     cases u v = grind arith
 
-still_moved : (name : Text) (m : Move) (p : Option Path) (o : Option Function) (gs : GuestsNow) → IsSome (guest_named gs name) → IsSome (guest_named (handed_over m p o gs) name)
-still_moved name m p o gs there = grind (arith, still)
-
 -- ---- one call
 
 pub holds_after : (w : WorldNow) (name : Text) → IsSome (guest_named w.guests name) → (c : Call)
@@ -74,7 +71,7 @@ holds_after w name there (at_device n e) = lone_by (device_after e) (λ t. refl)
     cases false = refl
 
 pub there_after : (w : WorldNow) (name : Text) → IsSome (guest_named w.guests name) → (c : Call) → IsSome (guest_named (after_call w c).guests name)
-there_after w name there c = grind (arith, still, still_moved)
+there_after w name there c = grind (arith, still)
 
 -- what the guest is told, before what comes of later inputs
 abbrev pub Tells : WorldNow → Text → Call → Type 0
@@ -110,17 +107,11 @@ joined (i ∷ is) more g = joined is more (after_own_call g i)
 
 all_hold : (cs : List Call) (w : WorldNow) (name : Text) → IsSome (guest_named w.guests name) → lone_of (after_calls w cs).guests name ≡ after_own_calls (lone_of w.guests name) (call_inputs name w cs)
 all_hold [] w name there = refl
-all_hold (c ∷ cs) w name there =
-    all_hold cs (after_call w c) name (there_after w name there c)
-    ∙ ap (λ (g : LoneGuest). after_own_calls g (call_inputs name (after_call w c) cs)) (holds_after w name there c)
-    ∙ sym (joined (inputs_of_call name w.guests c) (call_inputs name (after_call w c) cs) (lone_of w.guests name))
+all_hold (c ∷ cs) w name there = grind (arith, all_hold cs (after_call w c) name, there_after, holds_after, joined)
 
 all_tell : (cs : List Call) (w : WorldNow) (name : Text) → IsSome (guest_named w.guests name) → all_told name w cs ≡ all_alone_told (lone_of w.guests name) (call_inputs name w cs)
 all_tell [] w name there = refl
-all_tell (c ∷ cs) w name there =
-    ap (λ (rs : List Reply). told name w c ++ rs)
-    (all_tell cs (after_call w c) name (there_after w name there c) ∙ ap (λ (g : LoneGuest). all_alone_told g (call_inputs name (after_call w c) cs)) (holds_after w name there c))
-    ∙ sym (tells w name c (call_inputs name (after_call w c) cs))
+all_tell (c ∷ cs) w name there = grind (arith, all_tell cs (after_call w c) name, there_after, holds_after, tells)
 
 pub isolated_by_calls : IsolatedByCalls
 isolated_by_calls w name there cs = record { replies = all_tell cs w name there; holds = all_hold cs w name there }

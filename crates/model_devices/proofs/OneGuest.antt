@@ -1,41 +1,30 @@
 -- One guest among all, by its name: where it stands, and what changes of it come to.
-use Rattle.std.proofs.Common.{◌≡◌, ℕ, zero, suc, Bool, true, false, cond, [], ◌∷◌, Some, Option, refl, sym, ap, ap₂, ◌∙◌, arith}
+use Rattle.std.proofs.Common.{◌≡◌, ℕ, false, [], ◌∷◌, Some, Option, refl, sym, ap, ◌∙◌, arith}
 use Rattle.std.specs.Prelude.{slice_get, slice_set, IsFalse, IsSome}
 use Rattle.std.specs.Option.{option_map_or}
 use Rattle.std.specs.Str.{bytes_eq}
-use Rattle.lists.specs.Elements.{Each, EachPair}
-use Rattle.lists.proofs.Indices.{set_same}
+use Rattle.lists.specs.Elements.{EachPair}
+use Rattle.lists.proofs.FirstFound.{found_passes}
+use Rattle.lists.proofs.Indices.{set_same, found_at}
 use Rattle.model_guests.specs.Text.{Text}
 use Rattle.model_guests.specs.Lone.{LoneGuest, reset_guest}
 use Rattle.model_guests.specs.Guests.{GuestNow, GuestsNow, guest_named, lone_of, with_guest}
-use Rattle.model_guests.proofs.Names.{same_text}
+use Rattle.model_guests.proofs.Names.{equal_texts, same_text}
 use Rattle.model_guests.proofs.Along.{by_index}
-use Rattle.model_guests.proofs.GuestsByName.{Keeps, one, one_name, named_with, found}
+use Rattle.model_guests.proofs.GuestsByName.{Keeps, one, one_name, named_with}
 
 abbrev pub AreApart : GuestsNow → Type 0
 AreApart gs = EachPair (λ (g h : GuestNow). IsFalse (bytes_eq g.name h.name)) gs
 
-index_of : (gs : GuestsNow) (name : Text) (x : GuestNow) → guest_named gs name ≡ Some x → (i : ℕ) × (slice_get gs i ≡ Some x)
-index_of [] name x at = cc
-index_of (t ∷ ts) name x at = cases (bytes_eq t.name name) at (index_of ts name x)
-  where
-    cases : (v : Bool) → cond v (Some t) (guest_named ts name) ≡ Some x → (guest_named ts name ≡ Some x → (i : ℕ) × (slice_get ts i ≡ Some x)) → (i : ℕ) × (slice_get (t ∷ ts) i ≡ Some x)
-    cases true e more = (zero, e)
-    cases false e more = (suc (more e).0, (more e).1)
-
-each_unit : (us : GuestsNow) → Each (λ (u : GuestNow). Unit {0}) us
-each_unit [] = tt
-each_unit (u ∷ us) = (tt, each_unit us)
-
 pub name_found : (gs : GuestsNow) (name : Text) (x : GuestNow) → guest_named gs name ≡ Some x → x.name ≡ name
-name_found gs name x at = (found (λ (u : GuestNow). Unit {0}) gs name x (each_unit gs) at).name_is
+name_found gs name x at = equal_texts x.name name (found_passes (λ (u : GuestNow). bytes_eq u.name name) gs x at)
 
 pub lone_found : (gs : GuestsNow) (name : Text) (x : GuestNow) → guest_named gs name ≡ Some x → lone_of gs name ≡ x.lone
 lone_found gs name x at = ap (λ (o : Option GuestNow). option_map_or (λ (g : GuestNow). g.lone) o (reset_guest [])) at
 
 module _ (gs : GuestsNow) (apart : AreApart gs) (name : Text) (x : GuestNow) (at : guest_named gs name ≡ Some x) where
   place : (i : ℕ) × (slice_get gs i ≡ Some x)
-  place = index_of gs name x at
+  place = (found_at (λ (u : GuestNow). bytes_eq u.name name) gs x at).1
 
   with_there : (f : GuestNow → GuestNow) → with_guest f name gs ≡ slice_set gs place.0 (f x)
   with_there f = ap (λ (t : Text). with_guest f t gs) (sym (name_found gs name x at)) ∙ (by_index gs apart place.0 x place.1).1 f
@@ -51,10 +40,7 @@ module _ (gs : GuestsNow) (apart : AreApart gs) (name : Text) (x : GuestNow) (at
 -- two changes of one guest, one after the other
 pub with_twice : (f g : GuestNow → GuestNow) → Keeps g → (name : Text) (gs : GuestsNow) → with_guest f name (with_guest g name gs) ≡ with_guest (λ t. f (g t)) name gs
 with_twice f g keeps name [] = refl
-with_twice f g keeps name (t ∷ ts) = ap₂ (λ (x : GuestNow) (xs : GuestsNow). x ∷ xs) (head (bytes_eq name t.name) refl) (with_twice f g keeps name ts)
-  where
-    head : (v : Bool) → bytes_eq name t.name ≡ v → one f name (one g name t) ≡ one (λ u. f (g u)) name t
-    head v e = grind (arith, one_name)
+with_twice f g keeps name (t ∷ ts) = grind (arith, with_twice f g keeps name ts, one_name)
 
 -- ---- what guests hold after a change of one
 

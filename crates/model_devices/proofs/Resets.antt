@@ -1,7 +1,9 @@
 -- A reset of a function is a move to an empty slot and back, and resets the function on the board.
-use Rattle.std.proofs.Common.{◌≡◌, ℕ, zero, suc, true, false, cond, List, [], ◌∷◌, Some, None, Option, refl, sym, ap, ap₂, ◌∙◌, subst, arith}
+use Rattle.std.proofs.Common.{◌≡◌, ℕ, true, false, List, Some, None, Option, refl, sym, ap, ◌∙◌, subst, arith}
 use Rattle.std.specs.Prelude.{slice_get, slice_set, unwrap_or, is_some, nat_le, option_map, IsSome}
 use Rattle.std.specs.Option.{option_map_or}
+use Rattle.std.proofs.lemmas.List.{set-set, set-get_or}
+use Rattle.std.proofs.lemmas.Option.{unwrap_or-slice_get}
 use Rattle.model_registers.specs.Registers.{File}
 use Rattle.model_registers.specs.Decoding.{Function}
 use Rattle.model_registers.specs.EndpointTable.{endpoint_reset}
@@ -13,7 +15,7 @@ use Rattle.model_guests.specs.Accesses.{done, refused}
 use Rattle.model_guests.specs.Slots.{Slots, slot_at}
 use Rattle.model_guests.specs.Text.{Text}
 use Rattle.model_guests.specs.Lone.{LoneGuest, filled}
-use Rattle.model_guests.specs.Guests.{GuestNow, GuestsNow, guest_named, lone_of, path_in, function_in, with_guest, Move, move_fault, after_move, handed_over, with_slot_emptied, with_slot_filled}
+use Rattle.model_guests.specs.Guests.{GuestNow, GuestsNow, guest_named, lone_of, path_in, function_in, with_guest, Move, move_fault, after_move, with_slot_emptied, with_slot_filled}
 use Rattle.model_guests.specs.AgreedBoard.{state_over}
 use Rattle.model_guests.specs.ChangeLaws.{with_slot_changed}
 use Rattle.model_guests.specs.Seated.{AreSeated, IsSeat}
@@ -23,23 +25,16 @@ use Rattle.model_guests.proofs.GuestFiles.{with_file_there}
 use Rattle.model_guests.proofs.SeatedMoves.{seat_in, Placed, put_there, was_there, place_left, left_names, left_guests}
 use Rattle.model_guests.proofs.MoveIndices.{moved_function}
 use Rattle.model_guests.proofs.Changes.{changes_one_function, resets_alike}
-use Rattle.model_devices.specs.DeviceEvents.{resets, slot_fault, reset_in, after_device_event, device_answer, device_after, after_guest_device}
+use Rattle.model_devices.specs.DeviceEvents.{resets, slot_fault, after_device_event, device_answer, device_after, after_guest_device}
 use Rattle.model_devices.specs.DeviceLaws.{between, IsMoveAndBack, ResetByMoves, ResetReachesBoard}
 use Rattle.model_devices.proofs.OneGuest.{lone_found, with_alike, with_none, with_twice}
 use Rattle.model_devices.proofs.Seats.{set_own}
 
 -- ---- lists
 
-set_twice : {A : Type 0} (xs : List A) (n : ℕ) (x y : A) → slice_set (slice_set xs n x) n y ≡ slice_set xs n y
-set_twice [] n x y = refl
-set_twice (z ∷ zs) zero x y = refl
-set_twice (z ∷ zs) (suc n) x y = ap (λ ws. z ∷ ws) (set_twice zs n x y)
-
 -- an empty place is left as it was
-set_back : {A : Type 0} (xs : List (Option A)) (n : ℕ) (x : Option A) → unwrap_or (slice_get xs n) None ≡ None → slice_set (slice_set xs n x) n None ≡ xs
-set_back [] n x h = refl
-set_back (z ∷ zs) zero x h = ap (λ w. w ∷ zs) (sym h)
-set_back (z ∷ zs) (suc n) x h = ap (λ ws. z ∷ ws) (set_back zs n x h)
+pub set_back : {A : Type 0} (xs : List (Option A)) (n : ℕ) (x : Option A) → unwrap_or (slice_get xs n) None ≡ None → slice_set (slice_set xs n x) n None ≡ xs
+set_back xs n x h = set-set xs n x None ∙ ap (slice_set xs n) (sym h ∙ unwrap_or-slice_get xs n None) ∙ set-get_or xs n None
 
 -- ---- the checks
 
@@ -52,9 +47,7 @@ taken_passes slots n f low at = grind arith
 -- ---- one guest
 
 pub reset_there : (g : LoneGuest) (n : ℕ) (f : Function) → nat_le 32 n ≡ false → slot_at g.slots n ≡ Some f → after_device_event g (resets n) ≡ filled n f.decl g
-reset_there g n f low at =
-    ap (λ (o : Option ℕ). cond (is_some o) g (reset_in n g)) (taken_passes g.slots n f low at)
-    ∙ ap (λ (o : Option Function). option_map_or (λ (h : Function). filled n h.decl g) o g) at
+reset_there g n f low at = grind (arith, taken_passes)
 
 pub answer_there : (g : LoneGuest) (n : ℕ) (f : Function) → nat_le 32 n ≡ false → slot_at g.slots n ≡ Some f → device_answer g (resets n) ≡ done
 answer_there g n f low at = ap (λ (o : Option ℕ). option_map_or refused o done) (taken_passes g.slots n f low at)
@@ -62,10 +55,7 @@ answer_there g n f low at = ap (λ (o : Option ℕ). option_map_or refused o don
 -- out of a slot and in again
 in_again : (x : GuestNow) (n : ℕ) (p : Path) (f : Function) → nat_le 32 n ≡ false → path_at x.paths n ≡ Some p → slot_at x.lone.slots n ≡ Some f
     → with_slot_filled n (Some p) f.decl (with_slot_emptied n x) ≡ device_after (resets n) x
-in_again x n p f low path at =
-    let paths : slice_set (slice_set x.paths n None) n (Some p) ≡ x.paths =
-    set_twice x.paths n None (Some p) ∙ ap (slice_set x.paths n) (sym path) ∙ set_own x.paths n in
-    grind (arith, set_twice, reset_there)
+in_again x n p f low path at = grind (arith, set-set, set_own, reset_there)
 
 -- into an empty slot and out again
 out_again : (y : GuestNow) (m : ℕ) (p : Option Path) (f : Function) → path_at y.paths m ≡ None → slot_at y.lone.slots m ≡ None
@@ -89,9 +79,7 @@ no_fault gs m low_slot low_target f function free = grind arith
 -- a move that is done, as two changes
 moved_as : (gs : GuestsNow) (m : Move) → move_fault gs m ≡ None → (p : Option Path) (f : Function) → path_in gs m.from m.slot ≡ p → function_in gs m.from m.slot ≡ Some f
     → after_move gs m ≡ with_guest (with_slot_filled m.target p f.decl) m.to (with_guest (with_slot_emptied m.slot) m.from gs)
-moved_as gs m fault p f path function =
-    ap (λ (o : Option ℕ). cond (is_some o) gs (handed_over m (path_in gs m.from m.slot) (function_in gs m.from m.slot) gs)) fault
-    ∙ ap₂ (λ (q : Option Path) (o : Option Function). handed_over m q o gs) path function
+moved_as gs m fault p f path function = grind arith
 
 no_function : (b : Board) (q : Option Path) (o : Option Function) → IsSeat b q o → q ≡ None → o ≡ None
 no_function b q o h e = grind arith
@@ -102,7 +90,7 @@ no_path b q o h e = grind arith
 path_seated : (b : Board) (q : Option Path) (f : Function) → IsSeat b q (Some f) → (p : Path) × (q ≡ Some p)
 path_seated b q f h = grind arith
 
-none_is_some : {A : Type 0} (x : A) → None ≡ Some x → ⊥
+pub none_is_some : {A : Type 0} (x : A) → None ≡ Some x → ⊥
 none_is_some x h = cc
 
 none_of : {A : Type 0} (o : Option A) → ((x : A) → o ≡ Some x → ⊥) → o ≡ None
@@ -127,17 +115,11 @@ module _ (b : Board) (gs : GuestsNow) (seated : AreSeated b gs) (name : Text) (n
   abbrev x : GuestNow
   x = one_there.0
 
-  path_here : path_at x.paths n ≡ Some p
-  path_here = sym (ap (λ (o : Option GuestNow). path_of o n) one_there.1) ∙ path
-
   function_here : slot_at x.lone.slots n ≡ Some f
   function_here = sym (ap (λ (o : Option GuestNow). function_of o n) one_there.1) ∙ sym (function_named gs name n) ∙ is
 
   pub again : nat_le 32 n ≡ false → with_guest (with_slot_filled n (Some p) f.decl) name (with_guest (with_slot_emptied n) name gs) ≡ after_guest_device name (resets n) gs
-  again low =
-      with_twice (with_slot_filled n (Some p) f.decl) (with_slot_emptied n) (λ t. refl) name gs
-      ∙ with_alike gs seated.names_apart name x one_there.1 (λ t. with_slot_filled n (Some p) f.decl (with_slot_emptied n t)) (device_after (resets n))
-      (in_again x n p f low path_here function_here)
+  again low = grind (arith, with_twice, with_alike, in_again, function_here)
 
   pub answered_here : nat_le 32 n ≡ false → device_answer (lone_of gs name) (resets n) ≡ done
   answered_here low = ap (λ (g : LoneGuest). device_answer g (resets n)) (lone_found gs name x one_there.1) ∙ answer_there x.lone n f low function_here

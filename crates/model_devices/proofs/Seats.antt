@@ -13,7 +13,7 @@ use Rattle.model_guests.specs.WorldNow.{names_of}
 use Rattle.model_guests.specs.Seated.{AreSeats, IsSeat}
 use Rattle.model_guests.proofs.GuestsByName.{path_at, Keeps, one_name}
 use Rattle.model_guests.proofs.Seats.{seats_at, seats_set, changed_shape, with_file_seats, names_stay, guests_stay, paths_stay}
-use Rattle.model_devices.specs.DeviceEvents.{DeviceEvent, resets, device_reads, device_writes, device_changed, reset_in, after_device_event, device_after}
+use Rattle.model_devices.specs.DeviceEvents.{DeviceEvent, device_changed, reset_in, after_device_event, device_after}
 use Rattle.model_devices.specs.DeviceLaws.{NamesAfterDevices, OthersAfterDevice, OwnAfterDevice, SeatedAfterDevices}
 use Rattle.model_devices.proofs.OneGuest.{lone_own, lone_other}
 
@@ -38,9 +38,7 @@ reset_seats b qs n g h = cases (slot_at g.slots n) refl
         (seats_set b qs g.slots n (path_at qs n) (reset_function (Some f.decl)) h (at_reset b (path_at qs n) f seat))
 
 changed_seats : (b : Board) (qs : List (Option Path)) (g : LoneGuest) (e : DeviceEvent) → AreSeats b qs g.slots → AreSeats b qs (device_changed g e).slots
-changed_seats b qs g (resets n) h = reset_seats b qs n g h
-changed_seats b qs g (device_reads d) h = h
-changed_seats b qs g (device_writes d v) h = grind (arith, with_file_seats, changed_shape)
+changed_seats b qs g e h = grind (arith, reset_seats, with_file_seats, changed_shape)
 
 -- ---- all guests
 
