@@ -1,5 +1,5 @@
 -- A hit lies in a region that is told there, and each address of an open region hits something.
-use Rattle.std.proofs.Common.{◌≡◌, ◌≤◌, ◌<◌, inl, inr, ℕ, zero, suc, ◌+◌, ◌-◌, Bool, true, false, cond, eqb, List, [], ◌∷◌, Some, None, Option, Ok, refl, sym, ap, ◌∙◌, subst, arith}
+use Rattle.std.proofs.Common.{◌≡◌, ◌≤◌, ◌<◌, inl, inr, ℕ, zero, suc, ◌+◌, ◌-◌, true, eqb, List, [], ◌∷◌, Some, None, Option, Ok, refl, sym, ap, ◌∙◌, subst, arith}
 use Rattle.std.specs.Prelude.{find, option_map, is_some}
 use Rattle.std.proofs.lemmas.Bool.Decides.{nat_tests}
 use Rattle.lists.specs.Elements.{IsIn, EachPair, first_of_two}
@@ -8,7 +8,7 @@ use Rattle.lists.proofs.Members.{each_in}
 use Rattle.lists.proofs.Indices.{found_at, index_in}
 use Rattle.lists.proofs.FirstFound.{first_some_of}
 use Rattle.model_registers.specs.Registers.{block, File}
-use Rattle.model_registers.specs.Declarations.{Kind, Region, registers_of}
+use Rattle.model_registers.specs.Declarations.{Region, registers_of}
 use Rattle.model_registers.specs.Decoding.{Space, space_of, base, is_open, Hit, hit_of, Function, lone_claim, first_hit}
 use Rattle.model_registers.proofs.HitRegions.{space_same}
 use Rattle.model_guests.specs.Slots.{Slots, slot_at, Landing, landing_in, landing_from}
@@ -28,19 +28,12 @@ record Decodes (file : File) (space : Space) (a : ℕ) (r : Region) (h : Hit) : 
 decodes_there : (file : File) (space : Space) (a : ℕ) (r : Region) (h : Hit) → hit_of file space a r ≡ Some h → Decodes file space a r h
 decodes_there file space a r h = grind (arith, left_true, space_same, right_true, nat_tests)
 
-some_registers : (k : Kind) → 1 ≤ registers_of k
-some_registers k = grind arith
-
 -- where no two regions begin at one register, each is found by its own
 found_by_register : (rs : List Region) → EachPair (λ (r s : Region). r.index + registers_of r.kind ≤ s.index) rs → (r : Region) → IsIn r rs
     → find (λ (s : Region). eqb s.index r.index) rs ≡ Some r
 found_by_register [] order r there = absurd there
 found_by_register (s ∷ rs) order r (inl here) = grind (arith, nat_tests)
-found_by_register (s ∷ rs) order r (inr later) =
-    let after : s.index + registers_of s.kind ≤ r.index = each_in _ r rs order.0 later in
-    let some : 1 ≤ registers_of s.kind = some_registers s.kind in
-    let other : eqb s.index r.index ≡ false = grind (arith, nat_tests) in
-    ap (λ (t : Bool). cond t (Some s) (find (λ (s : Region). eqb s.index r.index) rs)) other ∙ found_by_register rs order.1 r later
+found_by_register (s ∷ rs) order r (inr later) = grind (arith, each_in, nat_tests, found_by_register rs)
 
 -- ---- a hit in the slots
 
@@ -125,8 +118,7 @@ some_first_hit file space a r (x ∷ rs) (inr later) h = some_second (hit_of fil
 
 some_landing : (space : Space) (a k : ℕ) (fs : Slots) (n : ℕ) (f : Function) → slot_at fs n ≡ Some f → is_some (lone_claim f space a) ≡ true → is_some (landing_from k space a fs) ≡ true
 some_landing space a k [] n f there h = cc
-some_landing space a k (None ∷ fs) zero f there h = cc
-some_landing space a k (Some x ∷ fs) zero f there h = grind (arith, some_first)
+some_landing space a k x zero f there h = grind (arith, some_first)
 some_landing space a k (x ∷ fs) (suc n) f there h = some_second (landing_in k space a x) (landing_from (k + 1) space a fs) (some_landing space a (k + 1) fs n f there h)
 
 pub inside_is_hit : InsideIsHit

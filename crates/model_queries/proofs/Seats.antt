@@ -33,12 +33,7 @@ first_at {A} t n (x ∷ xs) i e = by (t x) refl e (first_at t (n + 1) xs i)
 
 none_at : {A : Type 0} (t : A → Bool) (n : ℕ) (xs : List A) → position_from t n xs ≡ None → (k : ℕ) (x : A) → slice_get xs k ≡ Some x → t x ≡ false
 none_at t n [] e k x there = cc
-none_at {A} t n (y ∷ ys) e k x there = by (t y) refl e (λ f j h. none_at t (n + 1) ys f j x h) k there
-  where
-    by : (b : Bool) → t y ≡ b → cond b (Some n) (position_from t (n + 1) ys) ≡ None
-        → (position_from t (n + 1) ys ≡ None → (j : ℕ) → slice_get ys j ≡ Some x → t x ≡ false)
-        → (k : ℕ) → slice_get (y ∷ ys) k ≡ Some x → t x ≡ false
-    by b h f more k there = grind arith
+none_at {A} t n (y ∷ ys) e k x there = grind (arith, none_at t (n + 1) ys)
 
 -- ---- one guest
 

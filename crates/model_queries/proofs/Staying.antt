@@ -1,5 +1,5 @@
 -- Where a region stands changes by nothing else than writes of its registers, moves and resets of its function.
-use Rattle.std.proofs.Common.{◌≡◌, ◌≤◌, ◌<◌, ℕ, zero, suc, ◌+◌, ◌*◌, ◌/◌, ◌%◌, Bool, true, false, ◌&&◌, ◌||◌, cond, eqb, List, [], ◌∷◌, length, Some, None, Option, Err, Result, refl, sym, ap, ap₂, ◌∙◌, subst, arith}
+use Rattle.std.proofs.Common.{◌≡◌, ◌≤◌, ℕ, zero, suc, ◌+◌, ◌*◌, ◌/◌, ◌%◌, Bool, true, false, ◌&&◌, ◌||◌, cond, eqb, List, [], ◌∷◌, length, Some, None, Option, Err, Result, refl, sym, ap, ◌∙◌, subst, arith}
 use Rattle.std.specs.Prelude.{nat_le, slice_set, IsSome, ⊤, MatchOption}
 use Rattle.std.specs.Option.{option_map_or}
 use Rattle.std.specs.Str.{bytes_eq}
@@ -7,18 +7,18 @@ use Rattle.std.proofs.lemmas.Bool.{or_parts, eqb-true}
 use Rattle.std.proofs.lemmas.Bool.Decides.{nat_tests}
 use Rattle.lists.specs.Elements.{Each}
 use Rattle.lists.proofs.Indices.{found_at, each_at}
-use Rattle.model_registers.specs.Cell.{Cell, written}
+use Rattle.model_registers.specs.Cell.{written}
 use Rattle.model_registers.specs.Registers.{Place, config, block, place_eq, after, File, cell_at, changed, read, write, raise, all_bytes}
 use Rattle.model_registers.specs.Declarations.{Kind, io_kind, mem32, mem64, Endpoint, registers_of, IsLawfulRegion}
 use Rattle.model_registers.specs.DeclarationRules.{IsLawfulEndpoint}
-use Rattle.model_registers.specs.Decoding.{Function, base, command_word}
+use Rattle.model_registers.specs.Decoding.{Function, base}
 use Rattle.model_registers.specs.OwnCopies.{is_own}
 use Rattle.model_registers.proofs.RegisterFiles.{place_same, change_at_place}
 use Rattle.model_registers.proofs.Owned.{no_cell_stays, raised_none}
 use Rattle.model_board.specs.Paths.{Path}
 use Rattle.model_board.specs.Board.{Board}
 use Rattle.model_board.specs.Lawful.{HasLawfulDecls}
-use Rattle.model_guests.specs.Accesses.{Event, access, raises, Access, Raise, Target, Op, writes}
+use Rattle.model_guests.specs.Accesses.{Event, access, raises, Access, Raise, Op, writes}
 use Rattle.model_guests.specs.Slots.{Slots, slot_at, with_file, Landing, effect, raise_place, raise_landing, affected}
 use Rattle.model_guests.specs.Text.{Text}
 use Rattle.model_guests.specs.Lone.{LoneGuest, own_latch, destination, after_access_at, after_event, filled, emptied}
@@ -37,8 +37,7 @@ use Rattle.model_registers.proofs.DeviceBytes.{device_not_own, change_beside}
 use Rattle.model_devices.proofs.Bytes.{reached, read_leaves}
 use Rattle.model_devices.proofs.Calls.{lone_by, still}
 use Rattle.model_queries.specs.Regions.{RegionNow, region_of, region_answer}
-use Rattle.model_queries.specs.Located.{located}
-use Rattle.model_queries.specs.StayLaws.{tells_regions, any_tells, is_write, rewrites, RegionsStay}
+use Rattle.model_queries.specs.StayLaws.{tells_regions, any_tells, rewrites, RegionsStay}
 use Rattle.model_queries.proofs.Landings.{same_destination, byte_goes, changed_there}
 
 -- ---- files that tell the same of regions
@@ -46,26 +45,19 @@ use Rattle.model_queries.proofs.Landings.{same_destination, byte_goes, changed_t
 abbrev Alike : File → File → Type 0
 Alike f g = (q : Place) → tells_regions q ≡ true → cell_at f q ≡ cell_at g q
 
-base_tells : (q : ℕ) → 0x10 ≤ q → q < 0x28 → tells_regions (config q) ≡ true
-base_tells q low high = grind (arith, nat_tests)
-
 same_number : (f g : File) → Alike f g → (ons : List Bool) (q : ℕ) → 0x10 ≤ q → q + length ons ≤ 0x28 → read f (config q) ons ≡ read g (config q) ons
 same_number f g alike [] q low high = refl
-same_number f g alike (on ∷ ons) q low high =
-    ap₂ (λ (c : Cell) (n : ℕ). cond on c.value 0 + 256 * n) (alike (config q) (base_tells q low (omega arith))) (same_number f g alike ons (q + 1) (omega arith) (omega arith))
+same_number f g alike (on ∷ ons) q low high = grind (arith, same_number f g alike ons (q + 1), nat_tests)
 
 same_base : (f g : File) → Alike f g → (kind : Kind) (n : ℕ) → n + registers_of kind ≤ 6 → base f n kind ≡ base g n kind
 same_base f g alike io_kind n h = ap (λ m. m / 4 * 4) (same_number f g alike (all_bytes 4) (0x10 + 4 * n) (omega arith) (omega arith))
 same_base f g alike (mem32 pref) n h = ap (λ m. m / 16 * 16) (same_number f g alike (all_bytes 4) (0x10 + 4 * n) (omega arith) (omega arith))
 same_base f g alike (mem64 pref) n h = ap (λ m. m / 16 * 16) (same_number f g alike (all_bytes 8) (0x10 + 4 * n) (omega arith) (omega arith))
 
-same_command : (f g : File) → Alike f g → command_word f ≡ command_word g
-same_command f g alike = ap₂ (λ (a b : Cell). a.value + 256 * (b.value + 256 * 0)) (alike (config 4) refl) (alike (config 5) refl)
-
 -- ---- a function whose file is changed
 
 same_of : (f : Function) → Each IsLawfulRegion f.decl.regions → (file : File) → Alike file f.file → (n : ℕ) → region_of (record f { file = file }) n ≡ region_of f n
-same_of f lawful file alike n = grind (arith, found_at, each_at, same_base, same_command)
+same_of f lawful file alike n = grind (arith, found_at, each_at, same_base)
 
 -- ---- slots
 
@@ -74,8 +66,7 @@ answer_of slot n o = cond (nat_le 32 slot) (Err 303) (option_map_or (λ (f : Fun
 
 slot_beside : (slots : Slots) (k n : ℕ) (x : Option Function) → eqb k n ≡ false → slot_at (slice_set slots k x) n ≡ slot_at slots n
 slot_beside [] k n x apart = refl
-slot_beside (s ∷ ss) zero zero x apart = cc
-slot_beside (s ∷ ss) zero (suc n) x apart = refl
+slot_beside (s ∷ ss) zero n x apart = grind arith
 slot_beside (s ∷ ss) (suc k) zero x apart = refl
 slot_beside (s ∷ ss) (suc k) (suc n) x apart = slot_beside ss k n x (grind (arith, nat_tests))
 
@@ -83,29 +74,13 @@ slot_beside (s ∷ ss) (suc k) (suc n) x apart = slot_beside ss k n x (grind (ar
 changed_answer : (change : File → File) (k slot n : ℕ) (slots : Slots)
     → (eqb k slot ≡ true → (f : Function) → slot_at slots slot ≡ Some f → region_of (record f { file = change f.file }) n ≡ region_of f n)
     → answer_of slot n (slot_at (with_file change k slots) slot) ≡ answer_of slot n (slot_at slots slot)
-changed_answer change k slot n slots same = cases (slot_at slots k) refl (eqb k slot) refl
-  where
-    cases : (o : Option Function) → slot_at slots k ≡ o → (t : Bool) → eqb k slot ≡ t
-        → answer_of slot n (slot_at (option_map_or (λ (f : Function). slice_set slots k (Some (record f { file = change f.file }))) o slots) slot) ≡ answer_of slot n (slot_at slots slot)
-    cases None e t h = refl
-    cases (Some f) e false h = ap (answer_of slot n) (slot_beside slots k slot (Some (record f { file = change f.file })) h)
-    cases (Some f) e true h =
-        let is : k ≡ slot = eqb-true k slot h in
-        let there : slot_at slots slot ≡ Some f = ap (slot_at slots) (sym is) ∙ e in
-        grind (arith, slot_set, there)
+changed_answer change k slot n slots same = grind (arith, slot_beside, eqb-true, slot_set)
 
 -- ---- cells after a write and after a raise
 
-not_there : (p q : Place) → tells_regions p ≡ false → tells_regions q ≡ true → place_eq p q ≡ false
-not_there p q other tells = grind (arith, place_same)
-
 kept_by_write : (w x : ℕ) (p q : Place) (file : File) → any_tells w p ≡ false → tells_regions q ≡ true → cell_at (write (all_bytes w) x p file) q ≡ cell_at file q
 kept_by_write zero x p q file none tells = refl
-kept_by_write (suc w) x p q file none tells =
-    let parts = or_parts (tells_regions p) (any_tells w (after p)) none in
-    kept_by_write w (x / 256) (after p) q (changed (written (x % 256)) p file) parts.1 tells
-    ∙ change_at_place (written (x % 256)) (no_cell_stays (x % 256)) file p q
-    ∙ ap (λ (t : Bool). cond t (written (x % 256) (cell_at file q)) (cell_at file q)) (not_there p q parts.0 tells)
+kept_by_write (suc w) x p q file none tells = grind (arith, or_parts, kept_by_write w (x / 256) (after p) q (changed (written (x % 256)) p file), change_at_place, no_cell_stays, place_same)
 
 pub tells_own : (q : Place) → tells_regions q ≡ true → is_own q ≡ true
 tells_own (config off) h = grind arith
@@ -138,15 +113,11 @@ module _ (b : Board) (decls : HasLawfulDecls b) (gs : GuestsNow) (seated : AreSe
       let other : any_tells w l.place ≡ false = ap (λ (t : Bool). t && any_tells w l.place) (sym here) ∙ none in
       same_of f (lawful_regions slot f there) (write (all_bytes w) v l.place f.file) (λ q tells. kept_by_write w v l.place q f.file other tells) n)
 
-  by_op : (op : Op) (w : ℕ) (t : Target) → (is_write op && option_map_or (λ (l : Landing). eqb l.slot slot && any_tells w l.place) (located g t) false) ≡ false
-      → answer_of slot n (slot_at (effect op w g.slots (located g t)) slot) ≡ answer_of slot n (slot_at g.slots slot)
-  by_op op w t none = grind (arith, by_write)
-
   at_latch : (op : Op) (w : ℕ) → Stays (after_access_at g op w own_latch)
   at_latch op w = grind arith
 
   by_access : (a : Access) → rewrites slot g (access a) ≡ false → Stays (after_access_at g a.op a.width (destination g.latch a.width a.target))
-  by_access a none = grind (arith, at_latch, same_destination, changed_there, byte_goes, by_op)
+  by_access a none = grind (arith, at_latch, same_destination, changed_there, byte_goes, by_write)
 
   own_elsewhere : (p q : Place) → is_own p ≡ false → tells_regions q ≡ true → place_eq p q ≡ false
   own_elsewhere p q other tells = grind (arith, place_same, tells_own)
