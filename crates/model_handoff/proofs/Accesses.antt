@@ -1,5 +1,5 @@
 -- Reads and writes of the board over a handoff, where a guest has a function.
-use Rattle.std.proofs.Common.{◌≡◌, ℕ, ◌+◌, Bool, true, false, ◌&&◌, not, cond, List, [], ◌∷◌, Some, None, Option, refl, sym, ap, ap₂, ◌∙◌, subst, eqb, arith}
+use Rattle.std.proofs.Common.{◌≡◌, ℕ, ◌+◌, Bool, true, false, ◌&&◌, cond, List, [], ◌∷◌, Some, None, Option, refl, sym, ap, ◌∙◌, subst, eqb, arith}
 use Rattle.std.specs.Prelude.{find, option_map}
 use Rattle.std.specs.Option.{option_map_or}
 use Rattle.lists.specs.Elements.{Each, IsIn}
@@ -41,11 +41,7 @@ use Rattle.model_handoff.proofs.Regions.{hit_reaches_over, region_is_claimed, se
 -- in a region there are no copies
 all_handed : (n a : ℕ) (ons : List Bool) → handed_on (block n a) ons ≡ ons
 all_handed n a [] = refl
-all_handed n a (on ∷ ons) = ap₂ (λ (x : Bool) (xs : List Bool). x ∷ xs) (and_true on) (all_handed n (a + 1) ons)
-  where
-    and_true : (t : Bool) → (t && not false) ≡ t
-    and_true true = refl
-    and_true false = refl
+all_handed n a (on ∷ ons) = grind (arith, all_handed n (a + 1) ons)
 
 region_alike : (w v n a : ℕ) → ChangesAlike (write (all_bytes w) v (block n a)) (write (all_bytes w) v (block n a))
 region_alike w v n a = subst (λ ons. ChangesAlike (write (all_bytes w) v (block n a)) (write ons v (block n a))) (all_handed n a (all_bytes w)) (writes_alike (all_bytes w) v (block n a))

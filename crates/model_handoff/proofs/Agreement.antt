@@ -39,12 +39,9 @@ module _ (b : Board) (gs : GuestsNow) (all : Each (IsSeatedGuest b) gs) where
   pub places_in : (f : BoardFunction) → Facts b f → HasDeclaredPlaces f → (own : File) → file_of gs f.path ≡ Some own → HasPlaces f.file own
   places_in f facts places own e = has_places b f f.decl refl facts.found facts.lawful places own (file_is b gs all f own e)
 
-  function_agrees : (f : BoardFunction) → Facts b f → HasDeclaredPlaces f → (own : Option File) → file_of gs f.path ≡ own → AgreesAt f own (agreed_by own f)
-  function_agrees f h places own e = grind (arith, agreed_holds, places_in)
-
   functions_agree : (fs : List BoardFunction) → Each (Facts b) fs → Each HasDeclaredPlaces fs → AgreesAtEach (file_of gs) fs (map (agreed_function (file_of gs)) fs)
   functions_agree [] facts places = tt
-  functions_agree (f ∷ fs) facts places = (function_agrees f facts.0 places.0 (file_of gs f.path) refl, functions_agree fs facts.1 places.1)
+  functions_agree (f ∷ fs) facts places = grind (arith, functions_agree fs, agreed_holds, places_in)
 
   function_is_only : (f : BoardFunction) → Facts b f → HasDeclaredPlaces f → (own : Option File) → file_of gs f.path ≡ own → (now : BoardFunction) → AgreesAt f own now → now ≡ agreed_by own f
   function_is_only f facts places None e now agrees = λ i. record { path = agrees.path i; decl = agrees.decl i; file = agrees.cells i }
@@ -53,8 +50,7 @@ module _ (b : Board) (gs : GuestsNow) (all : Each (IsSeatedGuest b) gs) where
       λ i. record { path = agrees.path i; decl = agrees.decl i; file = same i }
 
   functions_are_only : (fs : List BoardFunction) → Each (Facts b) fs → Each HasDeclaredPlaces fs → (ns : List BoardFunction) → AgreesAtEach (file_of gs) fs ns → ns ≡ map (agreed_function (file_of gs)) fs
-  functions_are_only [] facts places [] agrees = refl
-  functions_are_only [] facts places (n ∷ ns) agrees = absurd agrees
+  functions_are_only [] facts places n agrees = grind arith
   functions_are_only (f ∷ fs) facts places [] agrees = absurd agrees
   functions_are_only (f ∷ fs) facts places (n ∷ ns) agrees =
       ap₂ (λ (x : BoardFunction) (xs : List BoardFunction). x ∷ xs) (function_is_only f facts.0 places.0 (file_of gs f.path) refl n agrees.0) (functions_are_only fs facts.1 places.1 ns agrees.1)

@@ -15,7 +15,6 @@ use Rattle.model_board.specs.Ports.{file_at}
 use Rattle.model_board.specs.Routing.{RoutingRow, routing}
 use Rattle.model_board.specs.State.{BoardFunction, State}
 use Rattle.model_set_up.specs.PlacedRegions.{PlacedRegion}
-use Rattle.model_audit.specs.Found.{address_now}
 use Rattle.model_audit.specs.OpenRegions.{closed_regions}
 use Rattle.model_audit.specs.Witnesses.{IsInOrder}
 use Rattle.model_guests.specs.World.{World, HasLawfulGuests}
@@ -23,7 +22,6 @@ use Rattle.model_guests.specs.Guests.{GuestsNow, guests_at_first}
 use Rattle.model_guests.specs.AgreedBoard.{agreed_function, state_over}
 use Rattle.model_guests.specs.Seated.{AreSeated}
 use Rattle.model_guests.specs.WorldNow.{world_over}
-use Rattle.model_guests.proofs.AgreedChanges.{agreed_by}
 use Rattle.model_guests.proofs.AgreedFiles.{agreed_places, agreed_kept}
 use Rattle.model_guests.proofs.SeatedFirst.{seated_at_first}
 use Rattle.model_handoff.specs.Handoffs.{IsHandoff, HasDeclaredPlaces, is_given, taken_over}
@@ -32,20 +30,16 @@ use Rattle.model_handoff.specs.Regions.{opens_region, CanBeGiven}
 use Rattle.model_handoff.specs.ViewLaws.{with_seated_reset}
 use Rattle.model_handoff.proofs.First.{first_is_reset}
 use Rattle.model_handoff.proofs.Functions.{path_stays, decl_stays}
-use Rattle.model_handoff.proofs.Keeping.{find_path, keeps_board, keeps_routing, keeps_addresses, stays_in_order}
+use Rattle.model_handoff.proofs.Keeping.{find_path, keeps_board, keeps_routing, stays_in_order}
 use Rattle.model_handoff.proofs.Kept.{lawful_at_first}
 use Rattle.model_handoff.proofs.Regions.{state_stays}
 use Rattle.model_handoff.proofs.Views.{over_reset, reset_at_first}
 
 -- ---- cells stand where they stood
 
-places_of_one : (o : Option File) (f : BoardFunction) → HasDeclaredPlaces f → HasDeclaredPlaces (agreed_by o f)
-places_of_one None f h = h
-places_of_one (Some own) f h = grind (arith, agreed_places)
-
 places_stay : (files : Path → Option File) (fs : List BoardFunction) → Each HasDeclaredPlaces fs → Each HasDeclaredPlaces (map (agreed_function files) fs)
 places_stay files [] h = tt
-places_stay files (f ∷ fs) h = (places_of_one (files f.path) f h.0, places_stay files fs h.1)
+places_stay files (f ∷ fs) h = grind (arith, places_stay files fs, agreed_places)
 
 -- ---- Command stays, as guests have copies of it
 
@@ -71,12 +65,11 @@ pub record IsAlike (s t : State) : Type 0 where
   pub handoff : IsHandoff t
   pub board : board_at t.functions ≡ board_at s.functions
   pub routing_is : routing t.functions ≡ routing s.functions
-  pub addresses : (q : Path) → address_now t.functions q ≡ address_now s.functions q
   pub order : IsInOrder s.functions → IsInOrder t.functions
   pub opens : (q : Path) (r : Region) → opens_region t q r ≡ opens_region s q r
 
 pub alike_over : (s : State) → IsHandoff s → (gs : GuestsNow) → AreSeated (board_at s.functions) gs → IsAlike s (state_over s gs)
-alike_over s handoff gs seated = grind (arith, state_stays, places_stay, keeps_board, keeps_routing, keeps_addresses, stays_in_order, command_at)
+alike_over s handoff gs seated = grind (arith, state_stays, places_stay, keeps_board, keeps_routing, stays_in_order, command_at)
 
 -- whatever the address latch holds
 with_latch_clear : (s t : State) → IsAlike s t → IsAlike s (record t { latch = 0 })

@@ -1,12 +1,12 @@
 -- Before any event each given function is at reset.
-use Rattle.std.proofs.Common.{◌≡◌, ℕ, zero, suc, Bool, true, false, ◌||◌, cond, ◌-◌, List, [], ◌∷◌, ◌++◌, length, Some, None, Option, refl, sym, ap, ap₂, ◌∙◌, arith}
+use Rattle.std.proofs.Common.{◌≡◌, ℕ, zero, suc, Bool, true, false, ◌||◌, cond, ◌-◌, List, [], ◌∷◌, ◌++◌, Some, None, Option, refl, ap, ap₂, ◌∙◌, arith}
 use Rattle.std.specs.Prelude.{map, flat_map, replicate, option_map, IsTrue}
 use Rattle.std.specs.List.{list_any}
 use Rattle.std.specs.Option.{option_map_or}
-use Rattle.lists.specs.Elements.{Each, first_of_two}
+use Rattle.std.proofs.lemmas.List.Folds.{list_any-append}
+use Rattle.lists.specs.Elements.{Each}
 use Rattle.model_registers.specs.Registers.{File}
 use Rattle.model_registers.specs.Declarations.{Endpoint}
-use Rattle.model_registers.specs.Decoding.{Function}
 use Rattle.model_registers.specs.CopiedFiles.{after_reset}
 use Rattle.model_board.specs.Paths.{Path, path_eq}
 use Rattle.model_board.specs.Board.{Decl, Board}
@@ -28,12 +28,7 @@ use Rattle.model_handoff.proofs.Functions.{Facts, facts}
 use Rattle.model_handoff.proofs.Agreement.{distinct_left}
 
 pub any_append : {A : Type 0} (t : A → Bool) (xs ys : List A) → list_any t (xs ++ ys) ≡ (list_any t xs || list_any t ys)
-any_append t [] ys = refl
-any_append t (x ∷ xs) ys = by (t x) (any_append t xs ys)
-  where
-    by : (v : Bool) → list_any t (xs ++ ys) ≡ (list_any t xs || list_any t ys) → (v || list_any t (xs ++ ys)) ≡ ((v || list_any t xs) || list_any t ys)
-    by true more = refl
-    by false more = more
+any_append t xs ys = list_any-append t xs ys
 
 module _ (w : World) (p : Path) where
   abbrev reset_here : Option File
@@ -47,28 +42,13 @@ module _ (w : World) (p : Path) where
   none (suc k) zero = refl
   none (suc k) (suc j) = none k j
 
-  one_file : (q : Path) → q ≡ p → option_map (λ (f : Function). f.file) (reset_function (declared w.board q)) ≡ reset_here
-  one_file q e = grind arith
-
   in_slots : (qs : List Path) (k j : ℕ) → file_in (map Some qs ++ replicate k None) (map reset_function (map (declared w.board) qs ++ replicate j None)) p ≡ cond (among qs) reset_here None
   in_slots [] k j = none k j
-  in_slots (q ∷ qs) k j = by (path_eq q p) refl (in_slots qs k j)
-    where
-      by : (t : Bool) → path_eq q p ≡ t → file_in (map Some qs ++ replicate k None) (map reset_function (map (declared w.board) qs ++ replicate j None)) p ≡ cond (among qs) reset_here None
-          → cond t (option_map (λ (f : Function). f.file) (reset_function (declared w.board q))) (file_in (map Some qs ++ replicate k None) (map reset_function (map (declared w.board) qs ++ replicate j None)) p)
-          ≡ cond (t || among qs) reset_here None
-      by true e more = one_file q (path_same q p e)
-      by false e more = more
-
-  joined : (u v : Bool) (o : Option File) → first_of_two (cond u o None) (cond v o None) ≡ cond (u || v) o None
-  joined u v o = grind arith
+  in_slots (q ∷ qs) k j = grind (arith, in_slots qs k j, path_same)
 
   in_guests : (gs : List Guest) → file_of (map (guest_at_first w) gs) p ≡ cond (among (flat_map (λ (g : Guest). g.slots) gs)) reset_here None
   in_guests [] = refl
-  in_guests (g ∷ gs) =
-      ap₂ first_of_two (in_slots g.slots (32 - length g.slots) (32 - length (map (declared w.board) g.slots))) (in_guests gs)
-      ∙ joined (among g.slots) (among (flat_map (λ (h : Guest). h.slots) gs)) reset_here
-      ∙ ap (λ t. cond t reset_here None) (sym (any_append (λ q. path_eq q p) g.slots (flat_map (λ (h : Guest). h.slots) gs)))
+  in_guests (g ∷ gs) = grind (arith, in_guests gs, in_slots, any_append)
 
 pub first_is_reset : FirstIsReset
 first_is_reset w s =
@@ -105,8 +85,7 @@ module _ (b : Board) (p : Path) where
 
   pub one_given : (o : Option Endpoint) → declared b p ≡ o → (fs : List BoardFunction)
       → map (agreed_function (files_given b (p ∷ []))) fs ≡ option_map_or (λ (d : Endpoint). with_file (after_reset d) p fs) o fs
-  one_given None e [] = refl
-  one_given (Some d) e [] = refl
+  one_given d e [] = grind arith
   one_given None e (f ∷ fs) =
       ap₂ (λ (x : BoardFunction) (xs : List BoardFunction). x ∷ xs)
       (ap (λ (o : Option File). agreed_by o f) (given_here f ∙ ap (λ (o : Option Endpoint). file_here o (path_eq f.path p)) e) ∙ one_by None f (path_eq f.path p) ∙ same (path_eq f.path p))
@@ -115,7 +94,4 @@ module _ (b : Board) (p : Path) where
       same : (t : Bool) → cond t f f ≡ f
       same true = refl
       same false = refl
-  one_given (Some d) e (f ∷ fs) =
-      ap₂ (λ (x : BoardFunction) (xs : List BoardFunction). x ∷ xs)
-      (ap (λ (o : Option File). agreed_by o f) (given_here f ∙ ap (λ (o : Option Endpoint). file_here o (path_eq f.path p)) e) ∙ one_by (Some d) f (path_eq f.path p))
-      (one_given (Some d) e fs)
+  one_given (Some d) e (f ∷ fs) = grind (arith, one_given (Some d) e fs, given_here, one_by)

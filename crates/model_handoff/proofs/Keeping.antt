@@ -1,7 +1,7 @@
 -- What guests can't change of a handoff: its board, its routing registers, what configuration cycles reach, and what an
 -- audit tells.
 use Rattle.std.proofs.Common.{◌≡◌, ℕ, Bool, true, false, ◌&&◌, cond, List, [], ◌∷◌, ◌++◌, Some, None, Option, refl, sym, ap, ap₂, ◌∙◌, subst, eqb, arith}
-use Rattle.std.specs.Prelude.{map, find, not}
+use Rattle.std.specs.Prelude.{map, find}
 use Rattle.std.specs.Option.{option_map, option_map_or}
 use Rattle.lists.specs.Elements.{Each}
 use Rattle.lists.proofs.EachLemmas.{each_both, each_map, each_of_map}
@@ -15,14 +15,14 @@ use Rattle.model_board.specs.Paths.{Part, Path, path_eq}
 use Rattle.model_board.specs.Board.{Decl, endpoint, bridge, Row, Board, is_bridge}
 use Rattle.model_board.specs.AtReset.{board_at}
 use Rattle.model_board.specs.BusNumbers.{secondary, subordinate}
-use Rattle.model_board.specs.Cycles.{secondary_register, subordinate_register, taker, takes, is_route, ends_in, reached_type0, reached_type1, BusAddress, reached}
+use Rattle.model_board.specs.Cycles.{secondary_register, subordinate_register, takes, is_route, ends_in, reached_type0, reached_type1, BusAddress, reached}
 use Rattle.model_board.specs.Lawful.{IsLawfulDecl}
 use Rattle.model_board.specs.Routing.{routing}
 use Rattle.model_board.specs.RoutingLaws.{is_routing_register, HasSameRouting}
 use Rattle.model_board.specs.State.{BoardFunction, State, row_at}
 use Rattle.model_board.proofs.Routing.{flat_map_map, routing_of_change}
 use Rattle.model_audit.specs.Found.{address_now, path_reached}
-use Rattle.model_audit.specs.Problems.{Problem, not_found, routing_problems, numbering_problem, numbering_problems}
+use Rattle.model_audit.specs.Problems.{Problem, not_found, numbering_problems}
 use Rattle.model_audit.proofs.Witnesses.{problems_decide}
 use Rattle.model_guests.specs.Guests.{GuestsNow, file_of}
 use Rattle.model_guests.specs.AgreedBoard.{agreed_function, state_over}
@@ -82,30 +82,19 @@ module _ (g : BoardFunction → BoardFunction) (paths : (f : BoardFunction) → 
   -- a search for a bridge
   find_bridge : (t : BoardFunction → Bool) → ((f : BoardFunction) → is_bridge f.decl ≡ false → t f ≡ false) → (fs : List BoardFunction) → Each Stays fs → find t (map g fs) ≡ find t fs
   find_bridge t only [] stays = refl
-  find_bridge t only (f ∷ fs) stays = by (is_bridge f.decl) refl (find_bridge t only fs stays.1)
-    where
-      by : (v : Bool) → is_bridge f.decl ≡ v → find t (map g fs) ≡ find t fs → find t (g f ∷ map g fs) ≡ find t (f ∷ fs)
-      by v e more = grind arith
+  find_bridge t only (f ∷ fs) stays = grind (arith, find_bridge t only fs)
 
   -- a search that looks at paths
   pub find_path : (t u : BoardFunction → Bool) → ((f : BoardFunction) → t (g f) ≡ u f) → (fs : List BoardFunction) → find t (map g fs) ≡ option_map g (find u fs)
   find_path t u same [] = refl
-  find_path t u same (f ∷ fs) = ap₂ (λ (v : Bool) (o : Option BoardFunction). cond v (Some (g f)) o) (same f) (find_path t u same fs) ∙ by (u f)
-    where
-      by : (v : Bool) → cond v (Some (g f)) (option_map g (find u fs)) ≡ option_map g (cond v (Some f) (find u fs))
-      by true = refl
-      by false = refl
+  find_path t u same (f ∷ fs) = grind (arith, find_path t u same fs)
 
   module _ (fs : List BoardFunction) (stays : Each Stays fs) where
     abbrev now : List BoardFunction
     now = map g fs
 
-    taker_stays : (bus : Path) (n : ℕ) → taker now bus n ≡ taker fs bus n
-    taker_stays bus n = grind (arith, find_bridge, and_false)
-
     takes_stays : (bus : Path) (n : ℕ) (p : Part) (ends : Bool) → takes now bus n p ends ≡ takes fs bus n p ends
-    takes_stays bus n p ends =
-        ap (λ (o : Option BoardFunction). option_map_or (λ (f : BoardFunction). path_eq f.path (bus ++ p ∷ []) && cond (eqb (secondary_register f.file) n) ends (not ends)) o false) (taker_stays bus n)
+    takes_stays bus n p ends = grind (arith, find_bridge, and_false)
 
     route_stays : (n : ℕ) (above p : Path) → is_route now n above p ≡ is_route fs n above p
     route_stays n above [] = refl
@@ -140,13 +129,8 @@ module _ (g : BoardFunction → BoardFunction) (paths : (f : BoardFunction) → 
     abbrev told : Path → BusAddress → Option Path → List Problem
     told p at o = cond (option_map_or (λ q. path_eq q p) o false) [] (not_found p at o ∷ [])
 
-    one_told : (f : BoardFunction) → numbering_problem now (g f) ≡ numbering_problem fs f
-    one_told f =
-        ap (λ (p : Path). told p (address_now now p) (path_reached now p)) (paths f)
-        ∙ ap₂ (λ (at : BusAddress) (o : Option Path). told f.path at o) (address_stays f.path) (found_path_stays f.path)
-
     pub numbering_stays : numbering_problems now ≡ numbering_problems fs
-    numbering_stays = grind (arith, flat_map_map, one_told)
+    numbering_stays = grind (arith, flat_map_map, address_stays, found_path_stays)
 
 module _ (s : State) (gs : GuestsNow) where
   now_path : (f : BoardFunction) → (agreed_function (file_of gs) f).path ≡ f.path
@@ -188,9 +172,7 @@ keeps_addresses s board gs seated =
     address_stays (agreed_function (file_of gs)) (now_path s gs) (now_decl s gs) s.functions (keeps_bridges s board gs seated)
 
 pub keeps_problems : KeepsProblems
-keeps_problems s board gs seated =
-    ap₂ (λ (x y : List Problem). x ++ y) (ap routing_problems (keeps_routing s board gs seated))
-    (numbering_stays (agreed_function (file_of gs)) (now_path s gs) (now_decl s gs) s.functions (keeps_bridges s board gs seated))
+keeps_problems s board gs seated = grind (arith, keeps_routing, numbering_stays, now_path, now_decl, keeps_bridges)
 
 pub stays_in_order : StaysInOrder
 stays_in_order s board gs seated order =

@@ -1,10 +1,7 @@
 -- Along a script guests stay seated and served.
-use Rattle.std.proofs.Common.{[], ◌∷◌, sym, subst}
-use Rattle.model_board.specs.Board.{Board}
+use Rattle.std.proofs.Common.{[], ◌∷◌, arith}
 use Rattle.model_board.specs.AtReset.{board_at}
-use Rattle.model_guests.specs.Guests.{guests_at_first}
 use Rattle.model_guests.specs.Lines.{Meaning, nothing, guest_event, host_read, host_move, bad, meaning}
-use Rattle.model_guests.specs.Seated.{AreSeated}
 use Rattle.model_guests.proofs.SeatedFirst.{seated_at_first}
 use Rattle.model_guests.specs.WorldNow.{WorldNow, names_now, guests_after, after_meaning, after_line}
 use Rattle.model_guests.proofs.Along.{seated_meaning}
@@ -13,12 +10,7 @@ use Rattle.model_handoff.specs.Kept.{IsLawfulOver, LawfulAtFirst, LawfulAfter, L
 use Rattle.model_handoff.proofs.Served.{served_at_first, served_after_events, served_after_moves}
 
 pub lawful_at_first : LawfulAtFirst
-lawful_at_first w s handoff same guests can = record {
-  handoff = handoff;
-  order = can.order;
-  seated = subst (λ (b : Board). AreSeated b (guests_at_first w)) (sym same) (seated_at_first w guests);
-  served = served_at_first w s handoff.board can.none_closed;
-}
+lawful_at_first w s handoff same guests can = grind (arith, seated_at_first, served_at_first)
 
 pub lawful_after_meaning : (w : WorldNow) (m : Meaning) → IsLawfulOver w → IsLawfulOver (after_meaning w m)
 lawful_after_meaning w m h = record {

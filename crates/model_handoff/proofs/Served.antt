@@ -1,7 +1,6 @@
 -- Given functions are served, whatever guests do.
-use Rattle.std.proofs.Common.{◌≡◌, ℕ, zero, suc, Bool, true, false, not, cond, ◌-◌, List, [], ◌∷◌, ◌++◌, length, inl, inr, Some, None, Option, refl, sym, ap, ◌∙◌, arith}
+use Rattle.std.proofs.Common.{◌≡◌, ℕ, zero, suc, Bool, true, false, not, cond, ◌-◌, List, [], ◌∷◌, ◌++◌, inl, inr, Some, None, Option, refl, sym, ap, ◌∙◌, arith}
 use Rattle.std.specs.Prelude.{map, flat_map, replicate, is_some, IsTrue}
-use Rattle.std.specs.Str.{bytes_eq}
 use Rattle.lists.specs.Elements.{IsIn}
 use Rattle.lists.proofs.Members.{each_from, any_in, in_front, in_back, in_map, in_filter, in_flat_map}
 use Rattle.model_registers.specs.Registers.{File}
@@ -18,8 +17,8 @@ use Rattle.model_audit.specs.OpenRegions.{region_now, closed_of, closed_regions}
 use Rattle.model_audit.proofs.Witnesses.{problems_decide}
 use Rattle.model_guests.specs.Text.{Text}
 use Rattle.model_guests.specs.World.{Guest, World, given_paths}
-use Rattle.model_guests.specs.Guests.{GuestNow, GuestsNow, guest_at_first, guest_after, guest_named, handed_over, move_fault, path_in, function_in, with_guest, with_slot_emptied, with_slot_filled}
-use Rattle.model_guests.proofs.GuestsByName.{Keeps, path_at, path_of}
+use Rattle.model_guests.specs.Guests.{GuestNow, GuestsNow, guest_at_first, guest_after, handed_over, move_fault, path_in, function_in, with_guest, with_slot_emptied, with_slot_filled}
+use Rattle.model_guests.proofs.GuestsByName.{Keeps, path_at}
 use Rattle.model_guests.proofs.DeclaredRows.{declared_row}
 use Rattle.model_guests.proofs.SeatedMoves.{Placed, placed, put_there, was_there}
 use Rattle.model_guests.proofs.Seats.{paths_stay}
@@ -39,12 +38,7 @@ in_slots (q ∷ qs) k (suc n) p h = inr (in_slots qs k n p h)
 
 among : (w : World) (gs : List Guest) (name : Text) (n : ℕ) (p : Path) → path_in (map (guest_at_first w) gs) name n ≡ Some p → IsIn p (flat_map (λ (g : Guest). g.slots) gs)
 among w [] name n p h = cc
-among w (g ∷ gs) name n p h = by (bytes_eq g.name name) h (among w gs name n p)
-  where
-    by : (t : Bool) → path_of (cond t (Some (guest_at_first w g)) (guest_named (map (guest_at_first w) gs) name)) n ≡ Some p
-        → (path_in (map (guest_at_first w) gs) name n ≡ Some p → IsIn p (flat_map (λ (x : Guest). x.slots) gs)) → IsIn p (flat_map (λ (x : Guest). x.slots) (g ∷ gs))
-    by true i more = in_front p g.slots (flat_map (λ (x : Guest). x.slots) gs) (in_slots g.slots (32 - length g.slots) n p i)
-    by false i more = in_back p g.slots (flat_map (λ (x : Guest). x.slots) gs) (more i)
+among w (g ∷ gs) name n p h = grind (arith, among w gs name n p, in_front, in_slots, in_back)
 
 no_member : {A : Type 0} (x : A) (xs : List A) → xs ≡ [] → IsIn x xs → ⊥
 no_member x xs e m = grind arith

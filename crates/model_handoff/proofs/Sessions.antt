@@ -1,14 +1,13 @@
 -- Whatever firmware does to a board at reset, it hands over a handoff.
-use Rattle.std.proofs.Common.{◌≡◌, ℕ, ◌/◌, ◌%◌, Bool, true, false, cond, List, [], ◌∷◌, Some, None, Option, refl, ap₂, ◌∙◌, arith}
+use Rattle.std.proofs.Common.{◌≡◌, ℕ, ◌/◌, ◌%◌, Bool, true, false, cond, List, [], ◌∷◌, Some, None, Option, refl, ◌∙◌, arith}
 use Rattle.std.specs.Prelude.{map, is_some}
 use Rattle.std.specs.Option.{option_map_or}
 use Rattle.lists.specs.Elements.{Each}
 use Rattle.lists.proofs.EachLemmas.{each_of_map, each_map}
 use Rattle.model_registers.specs.Cell.{Cell, written}
-use Rattle.model_registers.specs.Registers.{Place, config, block, place_eq, after, File, changed, write, all_bytes}
+use Rattle.model_registers.specs.Registers.{Place, config, block, after, File, changed, write, all_bytes}
 use Rattle.model_registers.specs.CopiedFiles.{places_of}
 use Rattle.model_board.specs.Paths.{Path, path_eq}
-use Rattle.model_board.specs.Board.{Row, Board}
 use Rattle.model_board.specs.Claims.{Claim, first_claim}
 use Rattle.model_board.specs.Cycles.{reached}
 use Rattle.model_board.specs.Ports.{PortTarget, config_address, config_data, ordinary, port_target, after_claim_write, after_target_write}
@@ -32,19 +31,11 @@ reset_is_handoff s h = grind (arith, each_of_map, each_map, alike_places, alike_
 
 changed_places : (f : Cell → Cell) (p : Place) (file : File) → places_of (changed f p file) ≡ places_of file
 changed_places f p [] = refl
-changed_places f p (e ∷ es) = ap₂ (λ (x : Place) (xs : List Place). x ∷ xs) (by (place_eq e.place p)) (changed_places f p es)
-  where
-    by : (t : Bool) → (cond t (record e { cell = f e.cell }) e).place ≡ e.place
-    by true = refl
-    by false = refl
+changed_places f p (e ∷ es) = grind (arith, changed_places f p es)
 
 written_places : (ons : List Bool) (v : ℕ) (p : Place) (file : File) → places_of (write ons v p file) ≡ places_of file
 written_places [] v p file = refl
-written_places (on ∷ ons) v p file = written_places ons (v / 256) (after p) (cond on (changed (written (v % 256)) p file) file) ∙ by on
-  where
-    by : (t : Bool) → places_of (cond t (changed (written (v % 256)) p file) file) ≡ places_of file
-    by true = changed_places (written (v % 256)) p file
-    by false = refl
+written_places (on ∷ ons) v p file = grind (arith, written_places ons (v / 256) (after p) (cond on (changed (written (v % 256)) p file) file), changed_places)
 
 -- the same functions, with their cells at the same places
 record Alike (fs gs : List BoardFunction) : Type 0 where
@@ -58,19 +49,13 @@ module _ (g : File → File) (stays : (file : File) → places_of (g file) ≡ p
   abbrev one : BoardFunction → BoardFunction
   one f = cond (path_eq f.path p) (record f { file = g f.file }) f
 
-  one_row : (f : BoardFunction) → row_at (one f) ≡ row_at f
-  one_row f = grind arith
-
-  one_places : (f : BoardFunction) → HasDeclaredPlaces f → HasDeclaredPlaces (one f)
-  one_places f h = grind arith
-
   all_rows : (fs : List BoardFunction) → map row_at (with_file g p fs) ≡ map row_at fs
   all_rows [] = refl
-  all_rows (f ∷ fs) = ap₂ (λ (x : Row) (xs : Board). x ∷ xs) (one_row f) (all_rows fs)
+  all_rows (f ∷ fs) = grind (arith, all_rows fs)
 
   all_places : (fs : List BoardFunction) → Each HasDeclaredPlaces fs → Each HasDeclaredPlaces (with_file g p fs)
   all_places [] h = tt
-  all_places (f ∷ fs) h = (one_places f h.0, all_places fs h.1)
+  all_places (f ∷ fs) h = grind (arith, all_places fs)
 
   with_file_alike : (fs : List BoardFunction) → Alike fs (with_file g p fs)
   with_file_alike fs = record { rows = all_rows fs; places = all_places fs }

@@ -1,5 +1,5 @@
 -- What set-up leaves is one handoff.
-use Rattle.std.proofs.Common.{◌≡◌, true, false, not, List, [], ◌∷◌, inl, inr, Option, refl, sym, ap, ◌∙◌, arith}
+use Rattle.std.proofs.Common.{◌≡◌, true, false, not, List, [], ◌∷◌, Option, sym, ap, ◌∙◌, arith}
 use Rattle.std.specs.Prelude.{map}
 use Rattle.std.specs.Option.{option_map_or}
 use Rattle.lists.specs.Elements.{IsIn}
@@ -8,7 +8,7 @@ use Rattle.lists.proofs.Members.{any_in, in_map, from_map, from_filter, from_fla
 use Rattle.model_registers.specs.Registers.{File}
 use Rattle.model_registers.specs.EndpointTable.{BaseAddress, endpoint_reset}
 use Rattle.model_registers.specs.Declarations.{Region, Endpoint}
-use Rattle.model_registers.specs.Decoding.{space_of, same_space, base, base_address, opens_space, command_word, is_open}
+use Rattle.model_registers.specs.Decoding.{space_of, base, base_address, opens_space, command_word, is_open}
 use Rattle.model_registers.specs.Apertures.{Apertures}
 use Rattle.model_board.specs.Paths.{Path}
 use Rattle.model_board.specs.Board.{Decl, endpoint, bridge, Board, IsBoard, is_multifunction}
@@ -31,6 +31,7 @@ use Rattle.model_audit.proofs.Witnesses.{problems_decide}
 use Rattle.model_set_up_audit.proofs.Placing.{left, regions_placed}
 use Rattle.model_set_up_audit.proofs.SetUpPasses.{set_up_passes}
 use Rattle.model_guests.proofs.TablePlaces.{Alike, alike_places, alike_tables}
+use Rattle.model_audit.proofs.Problems.{no_elements}
 use Rattle.model_handoff.specs.Handoffs.{HasPlacesOf, is_given}
 use Rattle.model_handoff.specs.Regions.{closed_given}
 use Rattle.model_handoff.specs.SetUpCase.{SetUpIsHandoff, SetUpIsInOrder, SetUpCanBeGiven, SetUpPlaces, SetUpAddresses}
@@ -60,13 +61,10 @@ set_up_addresses b a board few = (numbers_of_board b board (set_up_state b a).fu
 
 maps_at : {A B C : Type 0} (f : B → C) (h : A → B) (g : A → C) (xs : List A) → map f (map h xs) ≡ map g xs → (x : A) → IsIn x xs → f (h x) ≡ g x
 maps_at f h g [] e x m = absurd m
-maps_at f h g (y ∷ ys) e x (inl same) = let here : f (h y) ≡ g y = cc in ap (λ z. f (h z)) same ∙ here ∙ ap g (sym same)
-maps_at f h g (y ∷ ys) e x (inr m) = let rest : map f (map h ys) ≡ map g ys = cc in maps_at f h g ys rest x m
+maps_at f h g (y ∷ ys) e x m = grind (arith, maps_at f h g ys)
 
 opens_own : (b : Board) (a : Apertures) (p : Path) (d : Endpoint) (r : Region) → IsIn r d.regions → is_open (set_up_file b a p (endpoint d)) (space_of r.kind) ≡ true
-opens_own b a p d r m =
-    endpoint_opens d (is_multifunction b p) (first_of b a p) (space_of r.kind)
-    ∙ any_in (λ (x : Region). same_space (space_of x.kind) (space_of r.kind)) r d.regions m (self_space (space_of r.kind))
+opens_own b a p d r m = grind (arith, endpoint_opens, any_in, self_space)
 
 pub set_up_places : SetUpPlaces
 set_up_places b a can p d row r m =
@@ -80,10 +78,6 @@ set_up_places b a can p d row r m =
       ap (λ (x : File). base x r.index r.kind) is ∙ ap (λ (q : PlacedRegion). q.first) placed_there,
       ap (λ (x : File). is_open x (space_of r.kind)) is ∙ opens_own b a p d r m,
     )
-
-none_in : {A : Type 0} (xs : List A) → ((x : A) → IsIn x xs → ⊥) → xs ≡ []
-none_in [] h = refl
-none_in (x ∷ xs) h = absurd (h x (inl refl))
 
 module _ (b : Board) (a : Apertures) where
   none_closed : (p : Path) (d : Decl) (q : PlacedRegion) → IsIn q (closed_of (row_of (left b a (record { path = p; decl = d })))) → ⊥
@@ -111,6 +105,6 @@ module _ (b : Board) (a : Apertures) where
 pub set_up_can_be_given : SetUpCanBeGiven
 set_up_can_be_given w few can = record {
   order = set_up_is_in_order w.board w.apertures few can;
-  none_closed = none_in (closed_given w (set_up_state w.board w.apertures))
+  none_closed = no_elements (closed_given w (set_up_state w.board w.apertures))
       (λ q m. nothing_closed w.board w.apertures q (from_filter (λ (x : PlacedRegion). is_given w x.path) q (closed_regions (routing (set_up_state w.board w.apertures).functions)) m).0);
 }

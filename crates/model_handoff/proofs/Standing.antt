@@ -1,5 +1,5 @@
 -- Where a function stands among those of a board, and what guests change of it.
-use Rattle.std.proofs.Common.{◌≡◌, Bool, false, cond, List, [], ◌∷◌, inl, inr, Some, ap, ◌∙◌, arith}
+use Rattle.std.proofs.Common.{◌≡◌, Bool, List, [], ◌∷◌, Some, arith}
 use Rattle.std.specs.Prelude.{find, IsTrue}
 use Rattle.lists.specs.Elements.{EachPair, IsIn}
 use Rattle.lists.proofs.Members.{each_in, from_map}
@@ -23,10 +23,7 @@ endpoint_at p d file = record { path = p; decl = endpoint d; file = file }
 
 found_among : (fs : List BoardFunction) → EachPair (λ (f g : BoardFunction). IsTrue (path_before f.path g.path)) fs → (g : BoardFunction) → IsIn g fs → find (at_path g.path) fs ≡ Some g
 found_among [] ordered g m = absurd m
-found_among (f ∷ fs) ordered g (inl same) = grind (arith, path_self)
-found_among (f ∷ fs) ordered g (inr m) =
-    let other : path_eq f.path g.path ≡ false = before_apart f.path g.path (each_in (λ (h : BoardFunction). IsTrue (path_before f.path h.path)) g fs ordered.0 m) in
-    ap (λ t. cond t (Some f) (find (at_path g.path) fs)) other ∙ found_among fs ordered.1 g m
+found_among (f ∷ fs) ordered g m = grind (arith, path_self, before_apart, each_in, found_among fs)
 
 pub found : (fs : List BoardFunction) → IsStateOfBoard fs → (g : BoardFunction) → IsIn g fs → find (at_path g.path) fs ≡ Some g
 found fs state g m = found_among fs (pairs_from_map (λ (r s : Row). IsTrue (path_before r.path s.path)) row_at fs state.places.in_order) g m

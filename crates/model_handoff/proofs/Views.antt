@@ -2,8 +2,7 @@
 use Rattle.std.proofs.Common.{◌≡◌, ℕ, zero, suc, ◌-◌, Bool, true, false, ◌||◌, cond, List, [], ◌∷◌, ◌++◌, length, Some, None, Option, refl, sym, ap, ap₂, ◌∙◌, subst, arith}
 use Rattle.std.specs.Prelude.{map, flat_map, replicate, is_some, option_map, IsSome}
 use Rattle.std.specs.List.{list_any}
-use Rattle.std.specs.Str.{bytes_eq}
-use Rattle.lists.specs.Elements.{Each, first_of_two}
+use Rattle.lists.specs.Elements.{Each}
 use Rattle.model_registers.specs.Registers.{File}
 use Rattle.model_registers.specs.Decoding.{Function}
 use Rattle.model_registers.specs.Declarations.{Endpoint}
@@ -46,24 +45,15 @@ functions_twice one other more (f ∷ fs) =
 
 -- a path in a slot finds a file, and no other path does
 sits_in : (b : Board) (qs : List (Option Path)) (fs : Slots) (p : Path) → AreSeats b qs fs → is_some (file_in qs fs p) ≡ list_any (is_at p) qs
-sits_in b [] [] p h = refl
-sits_in b [] (f ∷ fs) p h = absurd h
+sits_in b [] f p h = grind arith
 sits_in b (q ∷ qs) [] p h = absurd h
 sits_in b (None ∷ qs) (f ∷ fs) p h = sits_in b qs fs p h.1
 sits_in b (Some r ∷ qs) (None ∷ fs) p h = absurd h.0
-sits_in b (Some r ∷ qs) (Some f ∷ fs) p h = by (path_eq r p) (sits_in b qs fs p h.1)
-  where
-    by : (t : Bool) → is_some (file_in qs fs p) ≡ list_any (is_at p) qs → is_some (cond t (Some f.file) (file_in qs fs p)) ≡ (t || list_any (is_at p) qs)
-    by true more = refl
-    by false more = more
+sits_in b (Some r ∷ qs) (Some f ∷ fs) p h = grind (arith, sits_in b qs fs p)
 
 pub sits_is : (b : Board) (gs : GuestsNow) → Each (IsSeatedGuest b) gs → (p : Path) → is_some (file_of gs p) ≡ sits gs p
 sits_is b [] all p = refl
-sits_is b (g ∷ gs) all p = first (file_in g.paths g.lone.slots p) (file_of gs p) ∙ ap₂ ◌||◌ (sits_in b g.paths g.lone.slots p all.0.seats) (sits_is b gs all.1 p)
-  where
-    first : (x y : Option File) → is_some (first_of_two x y) ≡ (is_some x || is_some y)
-    first None y = refl
-    first (Some f) y = refl
+sits_is b (g ∷ gs) all p = grind (arith, sits_in, sits_is b gs)
 
 module _ (s : State) (gs : GuestsNow) (seated : AreSeated (board_at s.functions) gs) where
   abbrev b : Board
@@ -114,11 +104,7 @@ reset_at_first w s same =
 
 sits_with : (change : GuestNow → GuestNow) → ((g : GuestNow) → (change g).paths ≡ g.paths) → (name : List ℕ) (gs : GuestsNow) (p : Path) → sits (with_guest change name gs) p ≡ sits gs p
 sits_with change same name [] p = refl
-sits_with change same name (g ∷ gs) p = ap₂ ◌||◌ (by (bytes_eq name g.name)) (sits_with change same name gs p)
-  where
-    by : (t : Bool) → list_any (is_at p) (cond t (change g) g).paths ≡ list_any (is_at p) g.paths
-    by true = ap (list_any (is_at p)) (same g)
-    by false = refl
+sits_with change same name (g ∷ gs) p = grind (arith, sits_with change same name gs p)
 
 abbrev seated_in : State → Path → Bool → Option File
 seated_in s p t = cond t (option_map file_at_reset (declared (board_at s.functions) p)) None
