@@ -1,17 +1,16 @@
 -- What a guest is told by actions, and holds after them, is that of its own.
-use Rattle.std.proofs.Common.{◌≡◌, Bool, true, false, cond, List, [], ◌∷◌, ◌++◌, Some, None, Option, refl, sym, ap, ap₂, ◌∙◌, append_assoc, append-nil, arith}
+use Rattle.std.proofs.Common.{◌≡◌, Bool, true, false, cond, List, [], ◌∷◌, Some, None, Option, refl, sym, ap, ◌∙◌, append_assoc, append-nil, arith}
 use Rattle.std.specs.Prelude.{is_some, IsSome}
 use Rattle.std.specs.Str.{bytes_eq}
 use Rattle.model_registers.specs.Declarations.{Endpoint}
 use Rattle.model_board.specs.AtReset.{board_at}
-use Rattle.model_guests.specs.Accesses.{Reply}
 use Rattle.model_guests.specs.Text.{Text}
 use Rattle.model_guests.specs.World.{declared}
 use Rattle.model_guests.specs.WorldNow.{WorldNow}
-use Rattle.model_guests.specs.Lone.{LoneGuest, emptied, filled}
+use Rattle.model_guests.specs.Lone.{emptied, filled}
 use Rattle.model_guests.specs.Inputs.{loses, gets}
 use Rattle.model_guests.specs.Guests.{guest_named, lone_of, with_slot_emptied, with_slot_filled}
-use Rattle.model_devices.specs.Calls.{told, CallInput, moved, inputs_of_call, alone_told, after_own_call, all_alone_told, after_own_calls}
+use Rattle.model_devices.specs.Calls.{told, moved, inputs_of_call, all_alone_told, after_own_calls}
 use Rattle.model_devices.proofs.Calls.{lone_by, still}
 use Rattle.model_devices.proofs.Calls as device_calls
 use Rattle.model_giving.specs.Giving.{give_fault, take_fault, given, taken}
@@ -21,8 +20,7 @@ use Rattle.model_giving.specs.Actions.{Action, calls, gives, takes, after_action
 
 pub there_after : (w : WorldNow) (name : Text) → IsSome (guest_named w.guests name) → (a : Action) → IsSome (guest_named (after_action w a).guests name)
 there_after w name there (calls c) = device_calls.there_after w name there c
-there_after w name there (gives g) = grind (arith, still)
-there_after w name there (takes n k) = grind (arith, still)
+there_after w name there n = grind (arith, still)
 
 -- ---- one action
 
@@ -52,30 +50,17 @@ holds_after w name there (takes n k) = cases (is_some (take_fault w n k))
 told_alone : (w : WorldNow) (name : Text) → IsSome (guest_named w.guests name) → (a : Action) → told_by name w a ≡ all_alone_told (lone_of w.guests name) (inputs_of_action name w a)
 told_alone w name there (calls c) =
     sym (append-nil (told name w c)) ∙ sym (device_calls.tells w name c []) ∙ ap (all_alone_told (lone_of w.guests name)) (append-nil (inputs_of_call name w.guests c))
-told_alone w name there (gives g) = grind arith
-told_alone w name there (takes n k) = grind arith
+told_alone w name there n = grind arith
 
 -- ---- actions
 
-told_joined : (is more : List CallInput) (g : LoneGuest) → all_alone_told g (is ++ more) ≡ all_alone_told g is ++ all_alone_told (after_own_calls g is) more
-told_joined [] more g = refl
-told_joined (i ∷ is) more g =
-    ap (λ (rs : List Reply). alone_told g i ++ rs) (told_joined is more (after_own_call g i))
-    ∙ sym (append_assoc (alone_told g i) (all_alone_told (after_own_call g i) is) (all_alone_told (after_own_calls (after_own_call g i) is) more))
-
 all_hold : (rest : List Action) (w : WorldNow) (name : Text) → IsSome (guest_named w.guests name) → lone_of (after_actions w rest).guests name ≡ after_own_calls (lone_of w.guests name) (action_inputs name w rest)
 all_hold [] w name there = refl
-all_hold (a ∷ rest) w name there =
-    all_hold rest (after_action w a) name (there_after w name there a)
-    ∙ ap (λ (g : LoneGuest). after_own_calls g (action_inputs name (after_action w a) rest)) (holds_after w name there a)
-    ∙ sym (device_calls.joined (inputs_of_action name w a) (action_inputs name (after_action w a) rest) (lone_of w.guests name))
+all_hold (a ∷ rest) w name there = grind (arith, all_hold rest (after_action w a) name, there_after, holds_after)
 
 all_tell : (rest : List Action) (w : WorldNow) (name : Text) → IsSome (guest_named w.guests name) → all_told_by name w rest ≡ all_alone_told (lone_of w.guests name) (action_inputs name w rest)
 all_tell [] w name there = refl
-all_tell (a ∷ rest) w name there =
-    ap₂ (λ (rs ss : List Reply). rs ++ ss) (told_alone w name there a)
-    (all_tell rest (after_action w a) name (there_after w name there a) ∙ ap (λ (g : LoneGuest). all_alone_told g (action_inputs name (after_action w a) rest)) (holds_after w name there a))
-    ∙ sym (told_joined (inputs_of_action name w a) (action_inputs name (after_action w a) rest) (lone_of w.guests name))
+all_tell (a ∷ rest) w name there = grind (arith, all_tell rest (after_action w a) name, told_alone, there_after, holds_after, append_assoc)
 
 pub isolated_by_actions : IsolatedByActions
 isolated_by_actions w name there rest = record { replies = all_tell rest w name there; holds = all_hold rest w name there }

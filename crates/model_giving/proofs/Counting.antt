@@ -4,6 +4,7 @@ use Rattle.std.specs.Prelude.{is_some, IsSome, slice_get}
 use Rattle.std.specs.Option.{option_map_or}
 use Rattle.std.specs.Str.{bytes_eq}
 use Rattle.std.proofs.lemmas.Bool.Decides.{nat_tests}
+use Rattle.std.proofs.lemmas.Bool.{and_parts}
 use Rattle.model_board.specs.AtReset.{board_at}
 use Rattle.model_guests.specs.Accesses.{Event, access, raises, Access}
 use Rattle.model_guests.specs.Slots.{Landing, fault_of}
@@ -88,10 +89,7 @@ module _ (w : WorldNow) (h : IsLawfulOver w) (name : Text) (there : IsSome (gues
       untouched (asks (host_move m)) (λ slot. less (not (is_some (move_fault w.guests m))) (bytes_eq m.from name) (eqb m.slot slot) (bytes_eq m.to name) (eqb m.target slot) none)
     where
       less : (t a b c d : Bool) → (t && (a || c)) ≡ false → (t && ((a && b) || (c && d))) ≡ false
-      less false a b c d e = refl
-      less true false b false d e = refl
-      less true false b true d e = cc
-      less true true b c d e = cc
+      less t a b c d e = grind arith
   stay_by_call (asks (bad who k)) none = untouched (asks (bad who k)) (λ slot. refl)
   stay_by_call (at_device who (resets k)) none = cases (bytes_eq who name) refl none
     where
@@ -139,9 +137,6 @@ regions_stay_along w h name there (a ∷ more) none slot n =
 eqb_same : (n : ℕ) → eqb n n ≡ true
 eqb_same n = grind (arith, nat_tests)
 
-both : (a b : Bool) → (a && b) ≡ true → (a ≡ true) × (b ≡ true)
-both a b e = grind arith
-
 touched_write : (name who : Text) (w : WorldNow) (a : Access) → bytes_eq who name ≡ true → moves_own (lone_of w.guests name) (access a) ≡ true
     → (slot : ℕ) × (moves_regions name slot w.guests (asks (guest_event who (access a))) ≡ true)
 touched_write name who w a same moves = by (is_write a.op) (not (is_some (fault_of a))) (located (lone_of w.guests name) a.target) refl refl moves
@@ -162,9 +157,9 @@ touched_write name who w a same moves = by (is_write a.op) (not (is_some (fault_
 pub changes_touch_slots : ChangesTouchSlots
 changes_touch_slots name w (asks nothing) moves = cc
 changes_touch_slots name w (asks (guest_event who (access a))) moves =
-    let parts = both (bytes_eq who name) (moves_own (lone_of w.guests who) (access a)) moves in
+    let parts = and_parts (bytes_eq who name) (moves_own (lone_of w.guests who) (access a)) moves in
     touched_write name who w a parts.0 (ap (λ (n : Text). moves_own (lone_of w.guests n) (access a)) (sym (equal_texts who name parts.0)) ∙ parts.1)
-changes_touch_slots name w (asks (guest_event who (raises r))) moves = let parts = both (bytes_eq who name) false moves in cc (parts.1)
+changes_touch_slots name w (asks (guest_event who (raises r))) moves = let parts = and_parts (bytes_eq who name) false moves in cc (parts.1)
 changes_touch_slots name w (asks (host_read r)) moves = cc
 changes_touch_slots name w (asks (host_move m)) moves = by (not (is_some (move_fault w.guests m))) (bytes_eq m.from name) (bytes_eq m.to name) refl refl refl moves
   where
@@ -184,19 +179,15 @@ changes_touch_slots name w (asks (host_move m)) moves = by (not (is_some (move_f
     )
 changes_touch_slots name w (asks (bad who k)) moves = cc
 changes_touch_slots name w (at_device who (resets k)) moves =
-    let parts = both (bytes_eq who name) (not (is_some (slot_fault (lone_of w.guests who).slots k))) moves in
+    let parts = and_parts (bytes_eq who name) (not (is_some (slot_fault (lone_of w.guests who).slots k))) moves in
     (k, ap₂ (λ (t u : Bool). t && u) parts.0 (eqb_same k))
-changes_touch_slots name w (at_device who (device_reads d)) moves = cc
-changes_touch_slots name w (at_device who (device_writes d v)) moves = cc
+changes_touch_slots name w who moves = cc
 
 -- ---- counts
 
-names_after_call : (w : WorldNow) (c : Call) → names_now (after_call w c) ≡ names_now w
-names_after_call w c = grind (arith, names_meaning, names_with)
-
 -- no action changes a name
 pub names_after : (w : WorldNow) (a : Action) → names_now (after_action w a) ≡ names_now w
-names_after w a = grind (arith, names_after_call, names_with)
+names_after w a = grind (arith, names_with, names_meaning)
 
 count_where : (test : Text → Bool) (ts : List Text) (ns : List ℕ) (i : ℕ) (name : Text) (n : ℕ) → slice_get ts i ≡ Some name → slice_get ns i ≡ Some n
     → slice_get (counts_where test ts ns) i ≡ Some (after_change (test name) n)
@@ -221,9 +212,7 @@ grown t n k fits = grind (arith, zero-add)
 
 pub counts_grow : CountsGrow
 counts_grow m i name n is [] = subst (IsCounted m i name) (let whole : n ≡ (n + 0) % 2 ^ 64 = let fits = is.fits in omega arith in whole) is
-counts_grow m i name n is (a ∷ more) =
-    subst (IsCounted (after_all_on_machine m (a ∷ more)) i name) (grown (changes name m.world a) n (changes_along name (after_action m.world a) more) is.fits)
-    (counts_grow (after_on_machine m a) i name (after_change (changes name m.world a) n) (counted_after m i name n is a) more)
+counts_grow m i name n is (a ∷ more) = grind (arith, counts_grow (after_on_machine m a) i name (after_change (changes name m.world a) n) (counted_after m i name n is a) more, grown, counted_after)
 
 -- ---- answers
 
@@ -237,11 +226,7 @@ none_counted n k fits few same = omega arith
 there_by_index : (gs : GuestsNow) (i : ℕ) (name : Text) → slice_get (names_of gs) i ≡ Some name → IsSome (guest_named gs name)
 there_by_index [] i name named = cc
 there_by_index (g ∷ gs) zero name named = let is : g.name ≡ name = cc in ap (λ (t : Bool). is_some (cond t (Some g) (guest_named gs name))) (ap (λ (n : Text). bytes_eq n name) is ∙ same_text name)
-there_by_index (g ∷ gs) (suc i) name named = cases (bytes_eq g.name name) (there_by_index gs i name named)
-  where
-    cases : (t : Bool) → IsSome (guest_named gs name) → IsSome (cond t (Some g) (guest_named gs name))
-    cases true there = refl
-    cases false there = there
+there_by_index (g ∷ gs) (suc i) name named = grind (arith, there_by_index gs i name named)
 
 pub answers_stay : AnswersStay
 answers_stay m h i name n is actions few later =

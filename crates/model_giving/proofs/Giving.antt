@@ -1,6 +1,6 @@
 -- What is given and taken: the world after it.
-use Rattle.std.proofs.Common.{◌≡◌, ℕ, zero, suc, Bool, true, false, not, ◌||◌, cond, List, [], ◌∷◌, inl, inr, ◌⊎◌, Some, None, Option, refl, sym, ap, ap₂, ◌∙◌, subst, arith}
-use Rattle.std.specs.Prelude.{map, option_map, slice_get, slice_set, unwrap_or, is_some, nat_le, IsTrue, IsSome}
+use Rattle.std.proofs.Common.{◌≡◌, ℕ, Bool, true, false, not, cond, List, [], ◌∷◌, inl, inr, ◌⊎◌, Some, None, Option, refl, sym, ap, ap₂, ◌∙◌, subst, arith}
+use Rattle.std.specs.Prelude.{map, option_map, is_some, nat_le, IsTrue, IsSome}
 use Rattle.std.specs.List.{list_any}
 use Rattle.std.specs.Option.{option_map_or}
 use Rattle.lists.specs.Elements.{Each}
@@ -34,6 +34,7 @@ use Rattle.model_guests.specs.WorldNow.{WorldNow, board_state}
 use Rattle.model_handoff.proofs.Functions.{path_stays}
 use Rattle.model_handoff.proofs.Keeping.{keeps_board, rows_stay}
 use Rattle.model_handoff.proofs.Views.{sits_is}
+use Rattle.model_devices.proofs.Resets.{set_back}
 use Rattle.model_giving.specs.Giving.{Gift, with_reset_at, has_closed_region, give_fault, take_fault, given, taken, after_give, after_take}
 use Rattle.model_giving.specs.GivingLaws.{BoardAfterGift, BoardAfterTaking, LawfulAfterGift, LawfulAfterTaking, ShownAfterGift, ShownAfterTaking, GivenFunction, GivenBack, OthersAfterGift, OthersAfterTaking}
 use Rattle.model_giving.proofs.OneReset.{alike, reset_is}
@@ -104,9 +105,7 @@ module _ (s : State) (handoff : IsHandoff s) (p : Path) (d : Endpoint) (declares
   reset_as x same = sym (ap (λ (o : Option Endpoint). option_map_or (λ (e : Endpoint). with_change_at (after_reset e) p x) o x) (ap (λ (c : Board). declared c p) same ∙ declares))
 
   pub board_over : state_over t now ≡ with_reset_at p (state_over s gs)
-  board_over =
-      ap (λ (x : State). state_over x now) (reset_is s handoff p d declares) ∙ files_over d p (file_of gs) (file_of now) here others s
-      ∙ reset_as (state_over s gs) (keeps_board s gs)
+  board_over = grind (arith, reset_is, files_over, reset_as, keeps_board)
 
   sits_others : (q : Path) → path_eq p q ≡ false → sits now q ≡ sits gs q
   sits_others q other = sym (sits_is b now seated_now.guests q) ∙ ap is_some (others q other) ∙ sits_is b gs seated.guests q
@@ -114,18 +113,11 @@ module _ (s : State) (handoff : IsHandoff s) (p : Path) (d : Endpoint) (declares
   abbrev file_by : Board → Path → Bool → Option File
   file_by c q v = cond v (option_map file_at_reset (declared c q)) None
 
-  fresh_here : (v : Bool) → IsFresh d (file_by (board_at t.functions) p v)
-  fresh_here v = grind (arith, same_board)
-
   rows_seated : board_at (with_seated_reset s gs).functions ≡ b
   rows_seated = rows_stay (seated_files s gs) s.functions
 
   pub shown_over : with_seated_reset t now ≡ with_reset_at p (with_seated_reset s gs)
-  shown_over =
-      ap (λ (x : State). with_files (seated_files t now) x) (reset_is s handoff p d declares)
-      ∙ files_over d p (seated_files s gs) (seated_files t now) (fresh_here (sits now p))
-      (λ q other. ap₂ (λ (c : Board) (v : Bool). file_by c q v) same_board (sits_others q other)) s
-      ∙ reset_as (with_seated_reset s gs) rows_seated
+  shown_over = grind (arith, reset_is, files_over, same_board, sits_others, reset_as, rows_seated)
 
 -- a function in a slot is at reset there already
 pub shown_reset : (s : State) (gs : GuestsNow) (p : Path) (d : Endpoint) → declared (board_at s.functions) p ≡ Some d → sits gs p ≡ true
@@ -148,9 +140,7 @@ can_give w g h = grind arith
 
 pub given_is : (w : WorldNow) (g : Gift) (d : Endpoint) → give_fault w g ≡ None → declared (board_at w.handoff.functions) g.path ≡ Some d
     → after_give w g ≡ record { handoff = with_reset_at g.path w.handoff; guests = with_guest (with_slot_filled g.slot (Some g.path) d) g.to w.guests }
-given_is w g d fault declares =
-    ap (λ (o : Option ℕ). cond (is_some o) w (given g (declared (board_at w.handoff.functions) g.path) w)) fault
-    ∙ ap (λ (o : Option Endpoint). given g o w) declares
+given_is w g d fault declares = grind arith
 
 pub taken_is : (w : WorldNow) (name : Text) (n : ℕ) → take_fault w name n ≡ None → (p : Path) → path_in w.guests name n ≡ Some p
     → after_take w name n ≡ record { handoff = with_reset_at p w.handoff; guests = with_guest (with_slot_emptied n) name w.guests }
@@ -160,13 +150,7 @@ taken_is w name n fault p at = grind arith
 
 each_open : (s : State) (p : Path) (rs : List Region) → list_any (λ (r : Region). not (opens_region s p r)) rs ≡ false → Each (λ (r : Region). IsTrue (opens_region s p r)) rs
 each_open s p [] h = tt
-each_open s p (r ∷ rs) h = by (opens_region s p r) refl h (each_open s p rs)
-  where
-    by : (v : Bool) → opens_region s p r ≡ v → (not v || list_any (λ (x : Region). not (opens_region s p x)) rs) ≡ false
-        → (list_any (λ (x : Region). not (opens_region s p x)) rs ≡ false → Each (λ (x : Region). IsTrue (opens_region s p x)) rs)
-        → Each (λ (x : Region). IsTrue (opens_region s p x)) (r ∷ rs)
-    by true e k more = (e, more k)
-    by false e k more = cc
+each_open s p (r ∷ rs) h = grind (arith, each_open s p rs)
 
 each_alike : (s t : State) → ((q : Path) (r : Region) → opens_region t q r ≡ opens_region s q r) → (p : Path) (rs : List Region)
     → Each (λ (r : Region). IsTrue (opens_region s p r)) rs → Each (λ (r : Region). IsTrue (opens_region t p r)) rs
@@ -318,11 +302,6 @@ others_after_taking w name n other apart = grind (arith, lone_other)
 
 -- ---- given and taken again
 
-set_back : {A : Type 0} (xs : List (Option A)) (n : ℕ) (x : Option A) → unwrap_or (slice_get xs n) None ≡ None → slice_set (slice_set xs n x) n None ≡ xs
-set_back [] n x h = refl
-set_back (z ∷ zs) zero x h = ap (λ w. w ∷ zs) (sym h)
-set_back (z ∷ zs) (suc n) x h = ap (λ ws. z ∷ ws) (set_back zs n x h)
-
 out_again : (y : GuestNow) (m : ℕ) (p : Option Path) (d : Endpoint) → path_at y.paths m ≡ None → slot_at y.lone.slots m ≡ None → with_slot_emptied m (with_slot_filled m p d y) ≡ y
 out_again y m p d path at = grind (arith, set_back)
 
@@ -336,8 +315,6 @@ given_back w h g there fault =
     let v : WorldNow = record { handoff = with_reset_at g.path w.handoff; guests = with_guest (with_slot_filled g.slot (Some g.path) d) g.to w.guests } in
     let is : after_give w g ≡ v = given_is w g d fault can.1.declares in
     let path : path_in v.guests g.to g.slot ≡ Some g.path = path_now w h g d can.1 there in
-    let passes : take_fault v g.to g.slot ≡ None =
-    ap₂ (λ (u : Bool) (o : Option Function). cond {A = Option ℕ} u (Some 303) (cond (not (is_some o)) (Some 601) None)) can.1.low (function_now w h g d can.1 there) in
     let x = guest_there (guest_named w.guests g.to) there in
     let was : path_in w.guests g.to g.slot ≡ None = no_path (board_at w.handoff.functions) (path_in w.guests g.to g.slot) (function_in w.guests g.to g.slot) (seat_in (board_at w.handoff.functions) w.guests h.seated.guests g.to g.slot) can.1.empty in
-    grind (arith, taken_is, with_twice, with_none, out_again, function_named)
+    grind (arith, taken_is, with_twice, with_none, out_again, function_named, function_now)

@@ -1,7 +1,7 @@
 -- Guests of whom one gets a function that nobody has, or loses one: all stay seated, and every other path finds the file
 -- that it found.
 use Rattle.std.proofs.Common.{◌≡◌, ℕ, zero, suc, ◌<◌, Bool, true, false, ◌||◌, cond, List, [], ◌∷◌, length, Some, None, Option, refl, sym, ap, ap₂, ◌∙◌, subst, arith}
-use Rattle.std.specs.Prelude.{slice_get, slice_set, unwrap_or, is_some, nat_le, IsFalse, IsSome}
+use Rattle.std.specs.Prelude.{slice_set, is_some, nat_le, IsFalse, IsSome}
 use Rattle.std.specs.List.{list_any}
 use Rattle.std.specs.Str.{bytes_eq}
 use Rattle.std.proofs.lemmas.Bool.Decides.{nat_tests}
@@ -14,37 +14,25 @@ use Rattle.model_registers.specs.Decoding.{Function}
 use Rattle.model_board.specs.Paths.{Path, path_eq}
 use Rattle.model_board.specs.Board.{Board}
 use Rattle.model_board.proofs.PathOrder.{path_same}
-use Rattle.model_guests.specs.Slots.{Slots}
 use Rattle.model_guests.specs.Text.{Text}
 use Rattle.model_guests.specs.World.{declared}
 use Rattle.model_guests.specs.Guests.{GuestNow, GuestsNow, file_of, function_in, guest_named, path_in, with_guest, with_slot_emptied, with_slot_filled}
-use Rattle.model_guests.specs.Seated.{AreSeated, AreSeats, IsSeat, IsSeatedGuest}
+use Rattle.model_guests.specs.Seated.{AreSeated, IsSeat, IsSeatedGuest}
 use Rattle.model_guests.proofs.FoundFiles.{file_found, file_past, file_stays}
 use Rattle.model_guests.proofs.GuestsByName.{found, function_named, function_of, named_with, past_first, path_at, path_of}
 use Rattle.model_guests.proofs.Names.{same_text}
 use Rattle.model_guests.proofs.SeatedMoves.{Placed, placed, put_there, was_there, seat_in}
-use Rattle.model_guests.proofs.Seats.{guests_stay, names_stay, seats_set}
+use Rattle.model_guests.proofs.MovedFunctions.{put_at}
+use Rattle.model_guests.proofs.Seats.{as_many, guests_stay, names_stay, seats_set}
+use Rattle.model_devices.proofs.Resets.{none_is_some}
 use Rattle.model_handoff.specs.ViewLaws.{is_at, sits}
 use Rattle.model_handoff.proofs.Views.{sits_is}
 
 abbrev pub fresh : Endpoint → Function
 fresh d = record { decl = d; file = endpoint_reset d false }
 
--- ---- lists
-
-put_at : {A : Type 0} (xs : List (Option A)) (n : ℕ) (x : Option A) → n < length xs → unwrap_or (slice_get (slice_set xs n x) n) None ≡ x
-put_at [] n x h = absurd (omega arith)
-put_at (y ∷ ys) zero x h = refl
-put_at (y ∷ ys) (suc n) x h = put_at ys n x (omega arith)
-
 set_count : {A : Type 0} (xs : List A) (n : ℕ) (x : A) → length xs ≡ 32 → length (slice_set xs n x) ≡ 32
 set_count xs n x h = simp length-set h
-
-as_many : (b : Board) (qs : List (Option Path)) (fs : Slots) → AreSeats b qs fs → length fs ≡ length qs
-as_many b [] [] h = refl
-as_many b [] (f ∷ fs) h = absurd h
-as_many b (q ∷ qs) [] h = absurd h
-as_many b (q ∷ qs) (f ∷ fs) h = ap suc (as_many b qs fs h.1)
 
 pub below : (n : ℕ) → nat_le 32 n ≡ false → n < 32
 below n h = grind (arith, nat_tests)
@@ -86,9 +74,6 @@ nobody (t ∷ ts) p names free =
 none_found : (o : Option File) → is_some o ≡ false → o ≡ None
 none_found o h = grind arith
 
-none_is_some : {A : Type 0} (x : A) → None ≡ Some x → ⊥
-none_is_some x h = cc
-
 pub no_file : (b : Board) (gs : GuestsNow) → Each (IsSeatedGuest b) gs → (p : Path) → sits gs p ≡ false → file_of gs p ≡ None
 no_file b gs all p h = none_found (file_of gs p) (sits_is b gs all p ∙ h)
 
@@ -115,11 +100,8 @@ module _ (b : Board) (gs : GuestsNow) (seated : AreSeated b gs) (name : Text) (n
   at_place a k q h = placed (with_slot_filled n (Some p) d) n (Some p) (λ t. refl) (λ t. refl) gs name a k q h
 
   module _ (free : (a : Text) (m : ℕ) → path_in gs a m ≡ Some p → ⊥) where
-    was_free : (a : Text) (k : ℕ) (q : Path) → path_in gs a k ≡ Some q → Some p ≡ Some q → ⊥
-    was_free a k q h e = free a k (h ∙ sym e)
-
     pub came_seated : AreSeated b came
-    came_seated = grind (arith, names_stay, guests_stay, set_count, seats_set, at_place, put_there, was_there, was_free)
+    came_seated = grind (arith, names_stay, guests_stay, set_count, seats_set, at_place, put_there, was_there)
 
     module _ (there : IsSome (guest_named gs name)) (low : nat_le 32 n ≡ false) where
       pub record Takes (o : Option GuestNow) : Type 0 where
@@ -168,8 +150,4 @@ module _ (b : Board) (gs : GuestsNow) (seated : AreSeated b gs) (name : Text) (n
     left_file = no_file b left left_seated.guests p (nobody left p left_seated.names_apart gone)
 
     pub left_others : (q : Path) → path_eq p q ≡ false → file_of left q ≡ file_of gs q
-    left_others q other =
-        file_stays (with_slot_emptied n) name q gs seated.names_apart
-        (λ t e. file_past t.paths t.lone.slots n None None q
-        (other_path p q other (path_at t.paths n) (sym (ap (λ (o : Option GuestNow). path_of o n) e) ∙ at))
-        (none_such q None refl))
+    left_others q other = grind (arith, file_stays, file_past, other_path, none_such)
