@@ -1,12 +1,11 @@
 -- Where a session hands its board over, and what guests are told then.
-use Rattle.std.proofs.Common.{◌≡◌, Bool, true, false, List, [], ◌∷◌, Option, None, Some, refl, sym, ap, ◌∙◌}
+use Rattle.std.proofs.Common.{◌≡◌, Bool, true, false, List, [], ◌∷◌, Option, None, Some, refl, sym, ap, ◌∙◌, arith}
 use Rattle.std.specs.Prelude.{IsTrue}
 use Rattle.model_board.specs.State.{State}
 use Rattle.model_guests.specs.Text.{Text, lines}
-use Rattle.model_guests.specs.Guests.{guests_at_first, lone_of}
+use Rattle.model_guests.specs.Guests.{guests_at_first}
 use Rattle.model_guests.specs.Inputs.{inputs}
-use Rattle.model_guests.specs.LineRuns.{output, after_lines}
-use Rattle.model_guests.specs.Replies.{reply_lines}
+use Rattle.model_guests.specs.LineRuns.{after_lines}
 use Rattle.model_guests.specs.World.{World}
 use Rattle.model_guests.specs.WorldNow.{WorldNow, world_over}
 use Rattle.model_guests.specs.WorldNow as now
@@ -83,9 +82,4 @@ isolated_sessions w lawful t line name script handed there =
     let alone : IsDecidedBy (inputs (guests_at_first w) name (lines script)) w n name script =
     isolated_over w lawful (taken_over w t) name script there in
     let told = given_is_script n (lines script) in
-    record {
-      replies = ap (reply_lines name) (ap (λ (y : SessionNow). output session_protocol y (lines script)) same ∙ told.0) ∙ alone.replies;
-      holds = λ m is.
-          ap (λ (o : WorldNow). lone_of o.guests name) (same_given m (now.after_lines n (lines script))
-          (sym is ∙ ap (λ (y : SessionNow). after_lines session_protocol y (lines script)) same ∙ told.1)) ∙ alone.holds;
-    }
+    grind (arith, same_given)
