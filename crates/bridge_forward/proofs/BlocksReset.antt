@@ -1,5 +1,5 @@
 -- The blocks of an endpoint that go back to reset, one after the other.
-use Rattle.std.proofs.Common.{◌≡◌, ℕ, zero, suc, ◌+◌, ◌≤◌, Some, List, [], ◌∷◌, length, refl, ap, ap₂, sym, ◌∙◌, arith, add-one}
+use Rattle.std.proofs.Common.{◌≡◌, ℕ, zero, suc, ◌+◌, ◌≤◌, Some, List, [], ◌∷◌, length, refl, ap, sym, arith, add-one}
 use Rattle.std.specs.List.{slice_get, slice_set}
 use Rattle.config_bytes.specs.CellFile.{CellFile}
 use Rattle.bridge_forward.specs.EndpointParts.{blocks_after}
@@ -22,9 +22,7 @@ set_next zero (x ∷ xs) f e = let same : x ≡ f = cc in ap (λ (y : CellFile).
 set_next (suc n) (x ∷ xs) f e = ap (λ (ys : List CellFile). record x { now = x.initial } ∷ ys) (set_next n xs f e)
 
 pub first_next : (n : ℕ) (fs gs : List CellFile) (f k : CellFile) → gs ≡ first_after n fs → slice_get gs n ≡ Some f → k ≡ record f { now = f.initial } → slice_set gs n k ≡ first_after (n + 1) fs
-first_next n fs gs f k are at is =
-    let there : slice_get fs n ≡ Some f = sym (next_is n fs) ∙ ap (λ (xs : List CellFile). slice_get xs n) (sym are) ∙ at in
-    ap₂ (λ (xs : List CellFile) (y : CellFile). slice_set xs n y) are is ∙ set_next n fs f there ∙ ap (λ m. first_after m fs) (sym (add-one n))
+first_next n fs gs f k are at is = grind (arith, next_is, set_next, add-one)
 
 pub first_all : (n : ℕ) (fs : List CellFile) → length fs ≤ n → first_after n fs ≡ blocks_after fs
 first_all zero [] l = refl

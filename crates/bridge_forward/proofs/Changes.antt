@@ -1,5 +1,5 @@
 -- One node changed: the layout stays, and so do all other functions.
-use Rattle.std.proofs.Common.{◌≡◌, ℕ, ◌<◌, Bool, true, false, cond, Option, Some, None, List, [], ◌∷◌, map, zero, suc, refl, ap, ap₂, sym, ◌∙◌, arith, inl, inr, ◌⊎◌, subst, get_or, rules}
+use Rattle.std.proofs.Common.{◌≡◌, ℕ, ◌<◌, Bool, true, false, cond, Option, Some, None, List, [], ◌∷◌, map, zero, suc, refl, ap, ap₂, sym, ◌∙◌, arith, subst, get_or, rules}
 use Rattle.std.specs.Prelude.{find, IsSome}
 use Rattle.std.specs.List.{slice_get, slice_set}
 use Rattle.std.specs.Option.{option_map_or}
@@ -57,21 +57,11 @@ none_back p fs none = sym (ap (λ o. option_map_or (λ (e : decoding.Function). 
 module _ (nodes : List Node) (laid : IsLaidOut nodes) (i : ℕ) (n : Node) (e : slice_get nodes i ≡ Some n) where
   -- no other function has the path
   others : (j : ℕ) (f : BoardFunction) → (j ≡ i → ⊥) → slice_get (functions_of nodes) j ≡ Some f → path_eq f.path n.path ≡ false
-  others j f d ef = by_test (path_eq f.path n.path) refl
-    where
-      sides : (x y : ℕ) → (x < y) ⊎ ((x ≡ y) ⊎ (y < x))
-      sides x y = grind arith
-
-      by_side : (m : Node) → slice_get nodes j ≡ Some m → m.path ≡ n.path → (j < i) ⊎ ((j ≡ i) ⊎ (i < j)) → ⊥
-      by_side m em p (inl l) = not_before_itself n.path (subst (λ (q : Path). path_before q n.path ≡ true) p (ordered nodes laid j i m n l em e))
-      by_side m em p (inr (inl q)) = d q
-      by_side m em p (inr (inr l)) = not_before_itself n.path (subst (λ (q : Path). path_before n.path q ≡ true) p (ordered nodes laid i j n m l e em))
-
-      by_test : (b : Bool) → path_eq f.path n.path ≡ b → path_eq f.path n.path ≡ false
-      by_test false t = t
-      by_test true t =
-          let m = at_map function_of nodes j f ef in
-          absurd (by_side m.0 m.1 (ap (λ (z : BoardFunction). z.path) (sym m.2) ∙ path_same f.path n.path t) (sides j i))
+  others j f d ef =
+      let m = at_map function_of nodes j f ef in
+      let before = λ (l : j < i). ordered nodes laid j i m.0 n l m.1 e in
+      let after = λ (l : i < j). ordered nodes laid i j n m.0 l e m.1 in
+      grind (arith, m.2, path_same f.path n.path, not_before_itself n.path, before, after)
 
   changed_one : (g : BoardFunction → BoardFunction) → map (λ (f : BoardFunction). cond (path_eq f.path n.path) (g f) f) (functions_of nodes) ≡ slice_set (functions_of nodes) i (g (function_of n))
   changed_one g = map_one (λ (f : BoardFunction). path_eq f.path n.path) g (functions_of nodes) i (function_of n) (map_at function_of nodes i n e) (path_self n.path) others
@@ -110,18 +100,14 @@ module _ (nodes : List Node) (laid : IsLaidOut nodes) (i : ℕ) (n : Node) (e : 
 
 -- the node that a search answered, where it is read
 pub found_there : (nodes ms : List Node) (i : ℕ) (n : Node) (a : List BoardFunction → Option BoardFunction) → ms ≡ nodes → IsAt ms i (a (functions_of ms)) → slice_get nodes i ≡ Some n → a (functions_of nodes) ≡ Some (function_of n)
-found_there nodes ms i n a q h e =
-    let at : IsAt nodes i (a (functions_of nodes)) = subst (λ (xs : List Node). IsAt xs i (a (functions_of xs))) q h in
-    at.found ∙ ap (λ (z : Node). Some (function_of z)) (same_at nodes i at.node n at.there e)
+found_there nodes ms i n a q h e = grind (arith, same_at)
 
 pub same_order : {fs gs : List BoardFunction} → fs ≡ gs → EachPair (λ (f g : BoardFunction). path_before f.path g.path ≡ true) fs → EachPair (λ (f g : BoardFunction). path_before f.path g.path ≡ true) gs
 same_order e h = subst (λ (xs : List BoardFunction). EachPair (λ (f g : BoardFunction). path_before f.path g.path ≡ true) xs) e h
 
 -- the node that was read at the index of an answer
 pub node_there : (nodes ms : List Node) (i : ℕ) (n : Node) (a : List BoardFunction → Option BoardFunction) → ms ≡ nodes → IsAt ms i (a (functions_of ms)) → n ≡ get_or nodes i n → slice_get nodes i ≡ Some n
-node_there nodes ms i n a q h e =
-    let at : IsAt nodes i (a (functions_of nodes)) = subst (λ (xs : List Node). IsAt xs i (a (functions_of xs))) q h in
-    read_at nodes i n (slice_get_within nodes i at.node at.there) e
+node_there nodes ms i n a q h e = grind (arith, read_at, slice_get_within)
 
 -- two ways to write what a lender ends as
 pub same_read : {D E : Type 0} (n : Opt GName) (f g : E → D) (d e : D) → ((w : E) → f w ≡ g w) → d ≡ e → read_of n f d ≡ read_of n g e
@@ -136,11 +122,7 @@ module _ (nodes : List Node) (i : ℕ) (n : Node) (e : slice_get nodes i ≡ Som
       ∙ sym (ap (λ (o : Option BoardFunction). option_map_or (λ (f : BoardFunction). slice_set (functions_of nodes) i (record { path = f.path; decl = endpoint w.decl; file = w.file })) o (functions_of nodes)) (map_at function_of nodes i n e))
 
   pub nth_there : endpoint_in n.function ≡ endpoint_nth (functions_of nodes) i
-  nth_there = same n.function ∙ sym (ap (λ o. option_map_or as_endpoint o None) (map_at function_of nodes i n e))
-    where
-      same : (f : Function) → endpoint_in f ≡ as_endpoint (function_of (record n { function = f }))
-      same (Endpoint w) = refl
-      same (Bridge b) = refl
+  nth_there = grind (arith, map_at)
 
   -- an endpoint that stands there is the one at the index
   pub nth_is : (w : decoding.Function) → n.function ≡ Endpoint w → IsSome (endpoint_nth (functions_of nodes) i)

@@ -23,8 +23,8 @@ use Rattle.bridge_forward.proofs.Nodes.{inside, leads_within, within_of_leads, n
 
 first_at : {A B : Type 0} (f : A → Option B) (xs : List A) (i : ℕ) (x : A) (b : B) → slice_get xs i ≡ Some x → f x ≡ Some b → ((j : ℕ) (y : A) → j < i → slice_get xs j ≡ Some y → f y ≡ None) → first_some f xs ≡ Some b
 first_at f [] i x b e h k = cc
-first_at f (y ∷ ys) zero x b e h k = let same : y ≡ x = cc in ap (λ o. first_of_two o (first_some f ys)) (ap f same ∙ h)
-first_at f (y ∷ ys) (suc i) x b e h k = ap (λ o. first_of_two o (first_some f ys)) (k 0 y (omega arith) refl) ∙ first_at f ys i x b e h (λ j z l g. k (suc j) z (omega arith) g)
+first_at f (y ∷ ys) zero x b e h k = let same : y ≡ x = cc in rw (same, h)
+first_at f (y ∷ ys) (suc i) x b e h k = rw (k 0 y (omega arith) refl) (first_at f ys i x b e h (λ j z l g. k (suc j) z (omega arith) g))
 
 first_none : {A B : Type 0} (f : A → Option B) (xs : List A) → ((j : ℕ) (y : A) → slice_get xs j ≡ Some y → f y ≡ None) → first_some f xs ≡ None
 first_none f [] h = refl
@@ -35,8 +35,7 @@ all_at p [] h = refl
 all_at p (x ∷ xs) h = rw (h 0 x refl) (all_at p xs (λ j y e. h (suc j) y e))
 
 or_right : (b c : Bool) → (b ≡ true → c ≡ true) → (not b || c) ≡ true
-or_right true c h = h refl
-or_right false c h = refl
+or_right b c h = grind arith
 
 sides : (j i : ℕ) → (j < i) ⊎ ((j ≡ i) ⊎ (i < j))
 sides j i = grind arith

@@ -1,21 +1,23 @@
 -- Accesses of an endpoint's file, by the part that they reach.
 use Rattle.std.proofs.Common.{◌≡◌, ◌≢◌, ℕ, zero, suc, ◌+◌, ◌/◌, ◌%◌, ◌<◌, ◌≤◌, ◌⊎◌, inl, inr, Bool, true, false, cond, Some, get_or, List, [], ◌∷◌, ◌++◌, map, length, refl, ap, ap₂, sym, ◌∙◌, subst, arith, rules}
 use Rattle.std.specs.Int.Bits.{or_zero_r, and_zero_r}
-use Rattle.std.specs.Prelude.{bit_and, bit_or, ◌==◌}
+use Rattle.std.specs.Prelude.{◌==◌}
 use Rattle.std.specs.Option.{option_map_or}
 use Rattle.std.specs.List.{slice_get, slice_set}
-use Rattle.std.proofs.lemmas.Option.{slice_get_past}
+use Rattle.std.proofs.lemmas.Option.{slice_get_past, slice_get_within}
+use Rattle.std.proofs.lemmas.List.{length-set}
 use Rattle.std.proofs.lemmas.Bool.{cases_eq}
 use Rattle.std.proofs.lemmas.Bool.Decides.{nat_tests}
 use Rattle.lists.specs.Elements.{Each, EachPair}
 use Rattle.model_registers.specs.Cell.{Cell, written, raised}
 use Rattle.model_registers.specs.Registers.{Place, config, block, after, PlacedCell, File, cell_at, read, changed, write, raise, field, in_region}
-use Rattle.model_registers.specs.FileLaws.{has_place, HasNone, IsConfigFile}
+use Rattle.model_registers.specs.FileLaws.{has_place, HasNone, IsConfig, IsConfigFile}
 use Rattle.model_registers.specs.Declarations.{Region, Endpoint, HasLawfulRegions, IsLawfulRegion}
 use Rattle.model_registers.specs.EndpointTable.{BaseAddress, register_cells, base_file, opened}
 use Rattle.model_registers.proofs.Files.{joined_write, joined_change, read_none, write_none, change_none, region_has_no_config, region_has_no_other, config_has_no_block, region_write, region_change, config_without_block, config_stays, places_stay, change_keeps_places, changed_config, cell_none}
 use Rattle.model_registers.proofs.Parts.{write_apart, change_outside}
 use Rattle.config_bytes.specs.CellFile.{CellFile, places_of}
+use Rattle.lists.proofs.EachLemmas.{each_append}
 use Rattle.lists.proofs.Indices.{read_at}
 use Rattle.model_registers.proofs.BareRegions.{bare_lawful, Follows}
 use Rattle.model_registers.proofs.Owned.{no_base, base_outside}
@@ -26,18 +28,13 @@ use Rattle.model_registers.specs.DeviceBytes.{is_device_byte, with_value, set_va
 use Rattle.model_registers.proofs.RegisterFiles.{place_same}
 use Rattle.model_registers.proofs.DeviceBytes.{device_away}
 
-pub config_joined : (xs ys : File) → IsConfigFile xs → IsConfigFile ys → IsConfigFile (xs ++ ys)
-config_joined [] ys h k = k
-config_joined (x ∷ xs) ys h k = (h.0, config_joined xs ys h.1 k)
-
 config_bases : (bs : List BaseAddress) → IsConfigFile (base_file bs)
 config_bases [] = tt
-config_bases (b ∷ bs) = config_joined (register_cells b) (base_file bs) (config_register b) (config_bases bs)
+config_bases (b ∷ bs) = each_append (λ (e : PlacedCell). IsConfig e.place) (register_cells b) (base_file bs) (config_register b) (config_bases bs)
 
 -- a word that begins outside the base address registers lies outside them
 pub word_away : (off : ℕ) → off % 4 ≡ 0 → (off < 0x10) ⊎ (0x28 ≤ off) → (off + 4 ≤ 0x10) ⊎ (0x28 ≤ off)
-word_away off word (inl low) = inl (omega arith)
-word_away off word (inr high) = inr high
+word_away off word h = grind arith
 
 -- ---- blocks by register
 
@@ -48,17 +45,21 @@ block_there blocks n f l e = ap (λ o. option_map_or (λ (x : CellFile). x.now) 
 pub no_block : (blocks : List CellFile) (n : ℕ) → length blocks ≤ n → block_at blocks n ≡ []
 no_block blocks n l = ap (λ o. option_map_or (λ (x : CellFile). x.now) o []) (slice_get_past blocks n l)
 
-pub get_set : (blocks : List CellFile) (n : ℕ) (f : CellFile) → n < length blocks → slice_get (slice_set blocks n f) n ≡ Some f
-get_set [] n f l = absurd (omega (arith, l))
-get_set (b ∷ bs) zero f l = refl
-get_set (b ∷ bs) (suc n) f l = get_set bs n f (omega (arith, l))
+pub get_set : {A : Type 0} (xs : List A) (n : ℕ) (x : A) → n < length xs → slice_get (slice_set xs n x) n ≡ Some x
+get_set [] n x l = absurd (omega (arith, l))
+get_set (y ∷ ys) zero x l = refl
+get_set (y ∷ ys) (suc n) x l = get_set ys n x (omega (arith, l))
 
-pub get_other : (blocks : List CellFile) (n m : ℕ) (f : CellFile) → m ≢ n → slice_get (slice_set blocks n f) m ≡ slice_get blocks m
-get_other [] n m f d = refl
-get_other (b ∷ bs) zero zero f d = absurd (d refl)
-get_other (b ∷ bs) zero (suc m) f d = refl
-get_other (b ∷ bs) (suc n) zero f d = refl
-get_other (b ∷ bs) (suc n) (suc m) f d = get_other bs n m f (λ e. d (omega (arith, e)))
+pub get_other : {A : Type 0} (xs : List A) (n m : ℕ) (x : A) → m ≢ n → slice_get (slice_set xs n x) m ≡ slice_get xs m
+get_other [] n m x d = refl
+get_other (y ∷ ys) zero zero x d = absurd (d refl)
+get_other (y ∷ ys) zero (suc m) x d = refl
+get_other (y ∷ ys) (suc n) zero x d = refl
+get_other (y ∷ ys) (suc n) (suc m) x d = get_other ys n m x (λ e. d (omega (arith, e)))
+
+-- an element of a list in which one was set
+pub set_cases : {A : Type 0} (xs : List A) (i j : ℕ) (x y : A) → slice_get (slice_set xs i x) j ≡ Some y → ((j ≡ i) × (y ≡ x)) ⊎ ((j ≢ i) × (slice_get xs j ≡ Some y))
+set_cases xs i j x y e = grind (arith, cases_eq, get_other, length-set, slice_get_within, get_set)
 
 pub block_set : (blocks : List CellFile) (n : ℕ) (f : CellFile) → n < length blocks → block_at (slice_set blocks n f) n ≡ f.now
 block_set blocks n f l = ap (λ o. option_map_or (λ (x : CellFile). x.now) o []) (get_set blocks n f l)
@@ -137,8 +138,7 @@ change_past f xs short off l = change_none f xs (config off) (short off l)
 
 -- a raise finds no clearable bit in a base register
 unraised : (t : Bool) (mask : ℕ) (e : PlacedCell) → e.cell.clearable ≡ 0 → cond t (record e { cell = raised mask e.cell }) e ≡ e
-unraised true mask e h = ap (λ n. record e { cell = record e.cell { value = n } }) (ap (λ n. bit_or e.cell.value (bit_and mask n)) h ∙ ap (bit_or e.cell.value) (and_zero_r mask) ∙ or_zero_r e.cell.value)
-unraised false mask e h = refl
+unraised t mask e h = grind (arith, and_zero_r, or_zero_r)
 
 raise_field : (mask q w a v m : ℕ) → raise mask (config q) (field (config a) w v m 0) ≡ field (config a) w v m 0
 raise_field mask q zero a v m = refl
@@ -191,9 +191,7 @@ module _ (d : Endpoint) (cells : File) (bars : List BaseAddress) (g : ℕ → Fi
       (parts_changed change c.change_is bars bars g h refl (sym (c.config_stays (base_file bars) (config_bases bars))) (λ m. by_index m (cases_eq m n)))
     where
       by_index : (m : ℕ) → (m ≡ n) ⊎ (m ≢ n) → change (in_region m (g m)) ≡ in_region m (h m)
-      by_index m (inl e) =
-          ap (λ k. change (in_region k (g k))) e ∙ c.here (g n) (parts.block_places n) ∙ sym (ap (in_region n) here) ∙ ap (λ k. in_region k (h k)) (sym e)
-      by_index m (inr e) = c.other m (g m) e ∙ sym (ap (in_region m) (other m e))
+      by_index m e = grind arith
 
   pub block_kept : (n : ℕ) (h : ℕ → File) → IsConfigFile (h n) → ((q : ℕ) → has_place (h n) (config q) ≡ has_place (g n) (config q)) → (g n ≡ [] → h n ≡ []) → ((m : ℕ) → m ≢ n → h m ≡ g m) → AreParts d cells bars h
   block_kept n h places same none other = search (rules, cases_eq)

@@ -1,27 +1,29 @@
 -- Cells listed by their offsets.
-use Rattle.std.proofs.Common.{◌≡◌, ◌≢◌, ℕ, zero, suc, ◌+◌, ◌/◌, ◌<◌, ◌≤◌, ◌⊎◌, inl, inr, Bool, true, false, ◌||◌, cond, Option, Some, None, List, [], ◌∷◌, ◌++◌, map, length, refl, ap, ap₂, sym, ◌∙◌, subst, arith, rules, take, add-one}
-use Rattle.std.specs.Prelude.{◌==◌, flat_map, option_map}
+use Rattle.std.proofs.Common.{◌≡◌, ◌≢◌, ℕ, zero, suc, ◌+◌, ◌/◌, ◌<◌, ◌≤◌, ◌⊎◌, inr, Bool, false, Option, Some, None, List, [], ◌∷◌, ◌++◌, map, length, refl, ap, ap₂, sym, ◌∙◌, subst, arith, rules, take, add-one}
+use Rattle.std.specs.Prelude.{◌==◌, flat_map}
 use Rattle.std.proofs.lemmas.Bool.{ne_eqb, eq-eqb}
+use Rattle.std.proofs.lemmas.Bool.Decides.{nat_tests}
 use Rattle.std.specs.List.{slice_get}
 use Rattle.std.specs.Option.{option_map_or}
 use Rattle.lists.specs.Elements.{Each, EachPair}
 use Rattle.model_registers.specs.Cell.{Cell}
-use Rattle.model_registers.specs.Registers.{Place, config, place_eq, File, field, cells_from, in_region}
-use Rattle.model_registers.specs.FileLaws.{has_place, IsConfigFile}
+use Rattle.model_registers.specs.Registers.{Place, config, PlacedCell, File, field, cells_from, in_region}
+use Rattle.model_registers.specs.FileLaws.{has_place, IsConfig, IsConfigFile}
 use Rattle.model_registers.specs.Declarations.{Bar, Region, registers_of, IsLawfulRegion, HasLawfulRegions, ConfigBlock, Endpoint}
 use Rattle.model_registers.specs.DeclarationRules.{IsConfigBlock, IsLawfulEndpoint}
 use Rattle.model_registers.specs.EndpointTable.{BaseAddress, register_cells, opened, closed, region_cells, block_cells, header_cells, config_reset, endpoint_reset}
-use Rattle.model_registers.specs.OwnCopies.{bare}
 use Rattle.model_registers.proofs.Files.{region_cells as cells_in_region}
 use Rattle.model_registers.proofs.Parts.{IsOutside}
 use Rattle.config_bytes.specs.CellFile.{CellFile, offsets_from}
 use Rattle.bars.specs.Resets.{reset_from, at_reset}
 use Rattle.bridge_forward.specs.EndpointParts.{block_at, region_parts, IsElsewhere, AreParts, region_at, declared_bar, declared_block, as_made}
+use Rattle.lists.proofs.EachLemmas.{each_append, each_map, pairs_map}
+use Rattle.std.proofs.lemmas.Simd.{map-map}
 use Rattle.lists.proofs.Indices.{each_at, pair_at, find_at, each_by_index, found_at}
 use Rattle.model_registers.proofs.BareRegions.{bare_lawful}
 use Rattle.model_registers.proofs.Bases.{registers_positive}
 use Rattle.bridge_forward.proofs.RegionParts.{config_field}
-use Rattle.bridge_forward.proofs.EndpointAccess.{config_joined, no_block}
+use Rattle.bridge_forward.proofs.EndpointAccess.{no_block}
 
 next : (xs : List Cell) (a i : ℕ) (x : Cell) → slice_get xs i ≡ Some x → offsets_from a (take (suc i) xs) ≡ offsets_from a (take i xs) ++ (a + i, x) ∷ []
 next [] a i x e = absurd (cc)
@@ -40,42 +42,17 @@ found_each P rs n r h e = let at = found_at (λ (s : Region). s.index == n) rs r
 
 -- ---- where the header and the device's own registers stand
 
-not_here : (q a : ℕ) → (q < a) ⊎ (a + 1 ≤ q) → (a == q) ≡ false
-not_here q a (inl h) = ne_eqb a q (λ e. omega (arith, h, e))
-not_here q a (inr h) = ne_eqb a q (λ e. omega (arith, h, e))
-
 pub none_field : (q w a v m c : ℕ) → IsOutside q a w → has_place (field (config a) w v m c) (config q) ≡ false
 none_field q zero a v m c h = refl
-none_field q (suc w) a v m c h =
-    ap₂ (λ s t. s || t) (not_here q a (first h)) (none_field q w (a + 1) (v / 256) (m / 256) (c / 256) (rest h))
-  where
-    first : IsOutside q a (suc w) → (q < a) ⊎ (a + 1 ≤ q)
-    first (inl h) = inl h
-    first (inr h) = inr (omega arith)
-
-    rest : IsOutside q a (suc w) → IsOutside q (a + 1) w
-    rest (inl h) = inl (omega arith)
-    rest (inr h) = inr (omega arith)
+none_field q (suc w) a v m c h = grind (arith, nat_tests, none_field q w (a + 1) (v / 256) (m / 256) (c / 256))
 
 pub none_cells : (q a : ℕ) (cs : List Cell) → IsOutside q a (length cs) → has_place (cells_from (config a) cs) (config q) ≡ false
 none_cells q a [] h = refl
-none_cells q a (c ∷ cs) h = ap₂ (λ s t. s || t) (not_here q a (first h)) (none_cells q (a + 1) cs (rest h))
-  where
-    first : IsOutside q a (suc (length cs)) → (q < a) ⊎ (a + 1 ≤ q)
-    first (inl h) = inl h
-    first (inr h) = inr (omega arith)
-
-    rest : IsOutside q a (suc (length cs)) → IsOutside q (a + 1) (length cs)
-    rest (inl h) = inl (omega arith)
-    rest (inr h) = inr (omega arith)
+none_cells q a (c ∷ cs) h = grind (arith, nat_tests, none_cells q (a + 1) cs)
 
 pub none_joined : (p : Place) (xs ys : File) → has_place xs p ≡ false → has_place ys p ≡ false → has_place (xs ++ ys) p ≡ false
 none_joined p [] ys h k = k
-none_joined p (x ∷ xs) ys h k = by_first (place_eq x.place p) h (λ e. none_joined p xs ys e k)
-  where
-    by_first : (t : Bool) → (t || has_place xs p) ≡ false → (has_place xs p ≡ false → has_place (xs ++ ys) p ≡ false) → (t || has_place (xs ++ ys) p) ≡ false
-    by_first true h more = h
-    by_first false h more = more h
+none_joined p (x ∷ xs) ys h k = grind (arith, none_joined p xs ys)
 
 config_cells_from : (a : ℕ) (cs : List Cell) → IsConfigFile (cells_from (config a) cs)
 config_cells_from a [] = tt
@@ -83,11 +60,10 @@ config_cells_from a (c ∷ cs) = (tt, config_cells_from (a + 1) cs)
 
 config_blocks : (bs : List ConfigBlock) → IsConfigFile (flat_map block_cells bs)
 config_blocks [] = tt
-config_blocks (b ∷ bs) = config_joined (block_cells b) (flat_map block_cells bs) (config_cells_from b.offset b.cells) (config_blocks bs)
+config_blocks (b ∷ bs) = each_append (λ (e : PlacedCell). IsConfig e.place) (block_cells b) (flat_map block_cells bs) (config_cells_from b.offset b.cells) (config_blocks bs)
 
 block_outside : (q a w : ℕ) → IsElsewhere q → 0x40 ≤ a → a + w ≤ 0x100 → IsOutside q a w
-block_outside q a w (inl h) low high = inl (omega (arith, h.1))
-block_outside q a w (inr h) low high = inr (omega arith)
+block_outside q a w h low high = grind arith
 
 none_blocks : (q : ℕ) (bs : List ConfigBlock) → Each IsConfigBlock bs → IsElsewhere q → has_place (flat_map block_cells bs) (config q) ≡ false
 none_blocks q [] l h = refl
@@ -101,7 +77,7 @@ pub record IsAway (xs : File) : Type 0 where
   pub none : (q : ℕ) → IsElsewhere q → has_place xs (config q) ≡ false
 
 join : {xs ys : File} → IsAway xs → IsAway ys → IsAway (xs ++ ys)
-join {xs} {ys} a b = record { places = config_joined xs ys a.places b.places; none = λ q h. none_joined (config q) xs ys (a.none q h) (b.none q h) }
+join {xs} {ys} a b = record { places = each_append (λ (e : PlacedCell). IsConfig e.place) xs ys a.places b.places; none = λ q h. none_joined (config q) xs ys (a.none q h) (b.none q h) }
 
 low : (a w v m c : ℕ) → a + w ≤ 0x10 → IsAway (field (config a) w v m c)
 low a w v m c l = search (rules, config_field, none_field)
@@ -123,13 +99,8 @@ bar_of r = record { kind = r.kind; size = r.size }
 abbrev Rising : Region → Region → Type 0
 Rising r s = r.index < s.index
 
-rising_each : (r : Region) (rs : List Region) → Each (λ s. r.index + registers_of r.kind ≤ s.index) rs → Each (Rising r) rs
-rising_each r [] h = tt
-rising_each r (s ∷ rs) h = (let some = registers_positive r.kind in omega (arith, h.0, some), rising_each r rs h.1)
-
 rising : (rs : List Region) → EachPair (λ r s. r.index + registers_of r.kind ≤ s.index) rs → EachPair Rising rs
-rising [] h = tt
-rising (r ∷ rs) h = (rising_each r rs h.0, rising rs h.1)
+rising rs h = pairs_map (λ r s. r.index + registers_of r.kind ≤ s.index) Rising rs (λ r s l. let some = registers_positive r.kind in omega arith) h
 
 -- k values from n on
 abbrev values_from : {A : Type 0} → ℕ → ℕ → (ℕ → A) → List A
@@ -145,11 +116,10 @@ same_values f g n (suc k) h = ap₂ (λ x xs. x ∷ xs) (h n (omega arith)) (sam
 
 not_at : (n : ℕ) (rs : List Region) → Each (λ r. n < r.index) rs → region_at rs n ≡ None
 not_at n [] h = refl
-not_at n (r ∷ rs) h = ap (λ t. cond t (Some r) (region_at rs n)) (ne_eqb r.index n (λ e. omega (arith, h.0, e))) ∙ not_at n rs h.1
+not_at n (r ∷ rs) h = grind (arith, nat_tests, not_at n rs h.1)
 
 above_head : (r : Region) (rs : List Region) (n : ℕ) → n ≤ r.index → Each (Rising r) rs → Each (λ s. n < s.index) rs
-above_head r [] n l h = tt
-above_head r (s ∷ rs) n l h = (omega (arith, h.0), above_head r rs n l h.1)
+above_head r rs n l h = each_map (Rising r) (λ s. n < s.index) rs (λ s k. omega arith) h
 
 narrowed : (n k : ℕ) (rs : List Region) → Each (λ r. n < r.index) rs → Each (Between n (suc k)) rs → Each (Between (n + 1) k) rs
 narrowed n k [] a b = tt
@@ -160,28 +130,14 @@ bars_from : (k n : ℕ) (rs : List Region) → Each (Between n k) rs → EachPai
 bars_from zero n [] b o = refl
 bars_from zero n (r ∷ rs) b o = absurd (omega (arith, b.0.0, b.0.1))
 bars_from (suc k) n [] b o = bars_from k (n + 1) [] tt tt
-bars_from (suc k) n (r ∷ rs) b o = by_head (at_or_above r.index n b.0.0) (bars_from k (n + 1) rs) (λ c. bars_from k (n + 1) (r ∷ rs) c o)
+bars_from (suc k) n (r ∷ rs) b o = by_head (grind (arith, b.0.0)) (bars_from k (n + 1) rs) (λ c. bars_from k (n + 1) (r ∷ rs) c o)
   where
-    at_or_above : (x y : ℕ) → y ≤ x → (x ≡ y) ⊎ (y < x)
-    at_or_above x y h = grind arith
-
     by_head : (r.index ≡ n) ⊎ (n < r.index) → (Each (Between (n + 1) k) rs → EachPair Rising rs → reset_from (n + 1) (values_from (n + 1) k (declared_bar rs)) ≡ map closed rs)
         → (Each (Between (n + 1) k) (r ∷ rs) → reset_from (n + 1) (values_from (n + 1) k (declared_bar (r ∷ rs))) ≡ map closed (r ∷ rs)) → reset_from n (values_from n (suc k) (declared_bar (r ∷ rs))) ≡ map closed (r ∷ rs)
-    by_head (inl e) tail whole =
-        let here : declared_bar (r ∷ rs) n ≡ Some (record { kind = r.kind; size = r.size }) = ap (λ t. option_map bar_of (cond t (Some r) (region_at rs n))) (eq-eqb r.index n e) in
-        let others : values_from (n + 1) k (declared_bar (r ∷ rs)) ≡ values_from (n + 1) k (declared_bar rs) =
-        same_values (declared_bar (r ∷ rs)) (declared_bar rs) (n + 1) k (λ m l. ap (λ t. option_map bar_of (cond t (Some r) (region_at rs m))) (ne_eqb r.index m (λ z. omega (arith, z, e, l)))) in
-        let narrow = narrowed n k rs (above_head r rs n (omega (arith, e)) o.0) b.1 in
-        ap₂ (λ h vs. reset_from n (h ∷ vs)) here others
-        ∙ ap₂ (λ i (bs : List BaseAddress). record { index = i; kind = r.kind; size = r.size; base = 0 } ∷ bs) (sym e) (tail narrow o.1)
-    by_head (inr l) tail whole =
-        let above : Each (λ s. n < s.index) (r ∷ rs) = (l, above_head r rs n (omega (arith, l)) o.0) in
-        let none : declared_bar (r ∷ rs) n ≡ None = ap (option_map bar_of) (not_at n (r ∷ rs) above) in
-        ap (λ h. reset_from n (h ∷ values_from (n + 1) k (declared_bar (r ∷ rs)))) none ∙ whole (narrowed n k (r ∷ rs) above b)
+    by_head e tail whole = grind (arith, eq-eqb, same_values, ne_eqb, narrowed, above_head, not_at)
 
 between_six : (rs : List Region) → Each IsLawfulRegion rs → Each (Between 0 6) rs
-between_six [] h = tt
-between_six (r ∷ rs) h = (let some = registers_positive r.kind in let within = h.0.registers in (omega arith, omega (arith, some, within)), between_six rs h.1)
+between_six rs h = each_map IsLawfulRegion (Between 0 6) rs (λ r l. let some = registers_positive r.kind in let within = l.registers in (omega arith, omega arith)) h
 
 bars_at_reset : (rs : List Region) → HasLawfulRegions rs → at_reset (map (declared_bar rs) (0 ∷ 1 ∷ 2 ∷ 3 ∷ 4 ∷ 5 ∷ [])) ≡ map closed rs
 bars_at_reset rs h = bars_from 6 0 rs (between_six rs h.each) (rising rs h.in_order)
@@ -191,54 +147,39 @@ pub bars_declared : (d : Endpoint) → IsLawfulEndpoint d → (rs : List Region)
 bars_declared d lawful rs same bars is =
     ap at_reset (is ∙ ap (λ xs. map (declared_bar xs) (0 ∷ 1 ∷ 2 ∷ 3 ∷ 4 ∷ 5 ∷ [])) same) ∙ bars_at_reset d.regions lawful.regions
 
-opened_closed : (rs : List Region) → map opened (map closed rs) ≡ map bare rs
-opened_closed [] = refl
-opened_closed (r ∷ rs) = ap (λ (xs : List Region). bare r ∷ xs) (opened_closed rs)
-
 pub opens_lawful : (d : Endpoint) → IsLawfulEndpoint d → (bars : List BaseAddress) → bars ≡ map closed d.regions → HasLawfulRegions (map opened bars)
-opens_lawful d lawful bars is = subst HasLawfulRegions (sym (ap (map opened) is ∙ opened_closed d.regions)) (bare_lawful d.regions lawful.regions)
+opens_lawful d lawful bars is = subst HasLawfulRegions (sym (ap (map opened) is ∙ map-map opened closed d.regions)) (bare_lawful d.regions lawful.regions)
 
 -- ---- blocks by register
 
 -- each region is the one at its register
 own_region : (rs : List Region) → EachPair Rising rs → (i : ℕ) (r : Region) → slice_get rs i ≡ Some r → region_at rs r.index ≡ Some r
-own_region rs o i r e = find_at (λ (s : Region). s.index == r.index) rs i r e (eq-eqb r.index r.index refl)
-    (λ j s l f. ne_eqb s.index r.index (λ z. let w = pair_at Rising rs j i s r o l f e in omega (arith, w, z)))
+own_region rs o i r e = grind (arith, find_at, eq-eqb, ne_eqb, pair_at)
 
 parts_of : (rs : List Region) (g : ℕ → File) → Each (λ r. g r.index ≡ cells_from (config 0) r.cells) rs → region_parts (map closed rs) g ≡ flat_map (region_cells (λ r. 0)) rs
 parts_of [] g h = refl
 parts_of (r ∷ rs) g h =
     ap₂ (λ (xs ys : File). (register_cells (closed r) ++ xs) ++ ys) (ap (in_region r.index) h.0 ∙ cells_in_region r.index 0 r.cells) (parts_of rs g h.1)
 
-module _ (d : Endpoint) (lawful : IsLawfulEndpoint d) (blocks : List CellFile) (six : length blocks ≡ 6) (filled : (n : ℕ) → n < 6 → block_at blocks n ≡ declared_block d.regions n) where
-  abbrev cells_of : Option Region → File
-  cells_of o = option_map_or (λ (r : Region). cells_from (config 0) r.cells) o []
+none_at : (rs : List Region) (n : ℕ) → Each (λ (b : BaseAddress). b.index ≢ n) (map closed rs) → region_at rs n ≡ None
+none_at [] n h = refl
+none_at (r ∷ rs) n h = grind (arith, nat_tests, none_at rs n h.1)
 
+module _ (d : Endpoint) (lawful : IsLawfulEndpoint d) (blocks : List CellFile) (six : length blocks ≡ 6) (filled : (n : ℕ) → n < 6 → block_at blocks n ≡ declared_block d.regions n) where
   -- each block is none, or the cells that a region declares
   block_is : (P : File → Type 0) → P [] → ((r : Region) → length r.cells ≤ 4096 → P (cells_from (config 0) r.cells)) → (n : ℕ) → P (block_at blocks n)
   block_is P none some n = search (rules, found_each, no_block)
 
   -- no block stands where no region begins
   unused : (n : ℕ) → Each (λ (b : BaseAddress). b.index ≢ n) (map closed d.regions) → block_at blocks n ≡ []
-  unused n u = by_size (sides n 6)
-    where
-      sides : (x y : ℕ) → (x < y) ⊎ (y ≤ x)
-      sides x y = grind arith
-
-      not_declared : (rs : List Region) → Each (λ (b : BaseAddress). b.index ≢ n) (map closed rs) → region_at rs n ≡ None
-      not_declared [] h = refl
-      not_declared (r ∷ rs) h = ap (λ t. cond t (Some r) (region_at rs n)) (ne_eqb r.index n h.0) ∙ not_declared rs h.1
-
-      by_size : (n < 6) ⊎ (6 ≤ n) → block_at blocks n ≡ []
-      by_size (inl l) = filled n l ∙ ap cells_of (not_declared d.regions u)
-      by_size (inr l) = no_block blocks n (omega (arith, six, l))
+  unused n u = grind (arith, filled n, no_block blocks n, none_at d.regions n u)
 
   parts_at_reset : (multifunction : Bool) → AreParts d (config_reset d multifunction) (map closed d.regions) (block_at blocks)
   parts_at_reset multifunction =
       let away = reset_away d multifunction lawful.config_blocks in
       record {
         lawful = lawful.regions;
-        registers = opened_closed d.regions;
+        registers = map-map opened closed d.regions;
         config_places = away.places;
         config_within = away.none;
         block_places = λ n. block_is IsConfigFile tt (λ r l. config_cells_from 0 r.cells) n;

@@ -1,18 +1,18 @@
 -- The bridges that are known to lead to buses, where one function or one entry changes.
-use Rattle.std.proofs.Common.{◌≡◌, ℕ, zero, suc, Bool, true, false, ◌&&◌, cond, Option, Some, None, List, [], ◌∷◌, ◌++◌, replicate, refl, ap, ap₂, sym, ◌∙◌, subst, get_or, eqb, rules}
+use Rattle.std.proofs.Common.{arith, ◌≡◌, ℕ, zero, suc, Bool, true, false, ◌&&◌, cond, Option, Some, None, List, [], ◌∷◌, ◌++◌, replicate, refl, ap, ap₂, sym, ◌∙◌, subst, get_or, eqb, rules}
 use Rattle.std.specs.Prelude.{IfSome, find, not}
 use Rattle.std.specs.Option.{option_map_or}
 use Rattle.std.specs.List.{slice_get, slice_set}
-use Rattle.std.proofs.lemmas.Option.{slice_get_within}
+use Rattle.std.proofs.lemmas.Grind.{common_steps}
+use Rattle.std.proofs.lemmas.Option.{slice_get_within, get_or_from_slice_get}
 use Rattle.model_board.specs.Paths.{Part, Path, path_eq}
 use Rattle.model_board.specs.Board.{is_bridge}
 use Rattle.model_board.specs.State.{BoardFunction}
-use Rattle.model_board.specs.Cycles.{secondary_register, taker, takes, is_route, ends_in}
+use Rattle.model_board.specs.Cycles.{secondary_register, taker, takes, is_route}
 use Rattle.bridge_forward.specs.declared.bus.Node.{Node}
 use Rattle.bridge_forward.specs.declared.function.Function.{Function}
 use Rattle.bridge_forward.specs.declared.function.Function.TheVariants.{Endpoint, Bridge}
 use Rattle.config_bytes.specs.declared.op.Op.{Op}
-use Rattle.config_bytes.specs.declared.op.Op.TheVariants.{Read, Write}
 use Rattle.config_bytes.specs.Ops.{is_write}
 use Rattle.bridge_forward.specs.Cycled.{after_access}
 use Rattle.bridge_forward.specs.Functions.{decl_of, file_of, with_cells, endpoint_in}
@@ -21,7 +21,8 @@ use Rattle.bridge_forward.specs.Layout.{function_of, functions_of, paths_of}
 use Rattle.bridge_forward.specs.Leading.{LeadsTo, AreUnknown, AreRoutes, IsBus}
 use Rattle.lists.proofs.Indices.{at_map, read_at, same_at, map_at, map_set, set_same}
 use Rattle.bridge_forward.proofs.Reached.{taking}
-use Rattle.bridge_forward.proofs.Skipping.{covers_none, same_kind, set_cases, tree_set}
+use Rattle.bridge_forward.proofs.Skipping.{covers_none, same_kind, tree_set}
+use Rattle.bridge_forward.proofs.EndpointAccess.{set_cases}
 use Rattle.bridge_forward.proofs.Changes.{laid_set}
 
 -- a search that passes what was there and what is there now finds the same
@@ -60,15 +61,7 @@ module _ (nodes : List Node) (i : ℕ) (n : Node) (f : Function) (e : slice_get 
   leads_set : (b k : ℕ) → LeadsTo nodes b k → LeadsTo changed b k
   leads_set b k led =
       let there : slice_get (paths_of changed) k ≡ Some led.bridge.path = ap (λ (ps : List Path). slice_get ps k) same_paths ∙ map_at (λ (m : Node). m.path) nodes k led.bridge led.there in
-      let x = at_map (λ (m : Node). m.path) changed k led.bridge.path there in
-      record {
-        bridge = x.0;
-        there = x.1;
-        routes = λ p t.
-            ap (λ r. ends_in p t && r) (route_same (functions_of changed) (functions_of nodes) b (λ bus. taker_set bus b) [] p)
-            ∙ led.routes p t
-            ∙ ap (λ (q : Path). path_eq p (q ++ t ∷ [])) x.2;
-      }
+      grind (arith, at_map, route_same, taker_set)
 
   -- a function that is no bridge may change
   pub routes_set : (known : List (Option ℕ)) → AreRoutes nodes known → AreRoutes changed known
@@ -81,24 +74,11 @@ pub bus_same : (nodes : List Node) (i : ℕ) (n : Node) (known : List (Option �
 bus_same nodes i n known e is = subst (λ (ms : List Node). IsBus ms known) (sym (set_same nodes i n e)) is
 
 -- where nothing is known
-pub routes_none : (nodes : List Node) (count : ℕ) (known : List (Option ℕ)) → known ≡ replicate count None → AreRoutes nodes known
-routes_none nodes count known is n i e = absurd (nothing count n (subst (λ (ks : List (Option ℕ)). slice_get ks n ≡ Some (Some i)) is e))
-  where
-    nothing : (count n : ℕ) → slice_get (replicate count None) n ≡ Some (Some i) → ⊥
-    nothing zero n e = cc
-    nothing (suc count) zero e = cc
-    nothing (suc count) (suc n) e = nothing count n e
-
--- the entry at an index
-at_get : (ks : List (Option ℕ)) (n : ℕ) (x : Option ℕ) → slice_get ks n ≡ Some x → get_or ks n None ≡ x
-at_get [] n x e = absurd (cc)
-at_get (k ∷ ks) zero x e = let same : k ≡ x = cc in same
-at_get (k ∷ ks) (suc n) x e = at_get ks n x e
-
 pub routes_unknown : (nodes : List Node) (known : List (Option ℕ)) → AreUnknown known → AreRoutes nodes known
-routes_unknown nodes known none n i e =
-    let empty : None ≡ Some i = sym (none n (slice_get_within known n (Some i) e)) ∙ at_get known n (Some i) e in
-    absurd (cc)
+routes_unknown nodes known none n i e = grind (arith, slice_get_within, get_or_from_slice_get)
+
+pub routes_none : (nodes : List Node) (count : ℕ) (known : List (Option ℕ)) → known ≡ replicate count None → AreRoutes nodes known
+routes_none nodes count known is = routes_unknown nodes known (λ n l. grind (arith, common_steps))
 
 -- one more bridge, or one less
 pub routes_more : (nodes : List Node) (known : List (Option ℕ)) (n : ℕ) (o : Option ℕ) → AreRoutes nodes known → ((i : ℕ) → o ≡ Some i → LeadsTo nodes n i) → AreRoutes nodes (slice_set known n o)
@@ -108,16 +88,12 @@ routes_more nodes known n o are led m i e = search (rules, set_cases)
 pub routes_after : (nodes : List Node) (i : ℕ) (n : Node) (op : Op) (off enables : ℕ) (g : Function) (known : List (Option ℕ)) → slice_get nodes i ≡ Some n
     → g ≡ with_cells n.function (after_access op off enables (file_of n.function)) → (is_write op && is_bridge (decl_of g)) ≡ false
     → AreRoutes nodes known → AreRoutes (slice_set nodes i (record n { function = g })) known
-routes_after nodes i n Read off enables g known e is test are = search (rules, set_same)
-routes_after nodes i n (Write w) off enables g known e is test are =
-    routes_set nodes i n g e (sym (same_kind n.function (after_access (Write w) off enables (file_of n.function))) ∙ ap (λ (f : Function). is_bridge (decl_of f)) (sym is) ∙ test) test known are
+routes_after nodes i n op off enables g known e is test are = grind (arith, set_same, routes_set, same_kind)
 
 pub routes_cycled : (nodes : List Node) (i : ℕ) (n : Node) (op : Op) (off enables : ℕ) (g : Function) (known left : List (Option ℕ)) (count : ℕ) (changed : Bool) → slice_get nodes i ≡ Some n
     → g ≡ with_cells n.function (after_access op off enables (file_of n.function)) → (is_write op && is_bridge (decl_of g)) ≡ changed → left ≡ cond changed (replicate count None) known
     → AreRoutes nodes known → AreRoutes (slice_set nodes i (record n { function = g })) left
-routes_cycled nodes i n op off enables g known left count true e is test forgot are = routes_none (slice_set nodes i (record n { function = g })) count left forgot
-routes_cycled nodes i n op off enables g known left count false e is test forgot are =
-    subst (λ (ks : List (Option ℕ)). AreRoutes (slice_set nodes i (record n { function = g })) ks) (sym forgot) (routes_after nodes i n op off enables g known e is test are)
+routes_cycled nodes i n op off enables g known left count changed e is test forgot are = grind (arith, routes_none, routes_after)
 
 -- after an endpoint was reset
 pub bus_reset : (nodes : List Node) (i : ℕ) (n : Node) (g : Function) (known : List (Option ℕ)) → slice_get nodes i ≡ Some n → g ≡ with_cells n.function (after_leaf_reset (decl_of n.function) (file_of n.function))
@@ -134,8 +110,7 @@ bus_reset nodes i n g known e is bus = by_kind n.function refl
 
 -- a bridge lends no endpoint
 pub none_lent : (f : Function) → is_bridge (decl_of f) ≡ true → None ≡ endpoint_in f
-none_lent (Endpoint w) h = absurd (cc)
-none_lent (Bridge b) h = refl
+none_lent f h = grind arith
 
 -- what is known is an entry
 pub known_at : (known : List (Option ℕ)) (n i : ℕ) → get_or known n None ≡ Some i → slice_get known n ≡ Some (Some i)
@@ -144,8 +119,7 @@ known_at (k ∷ ks) zero i e = ap (λ o. Some o) e
 known_at (k ∷ ks) (suc n) i e = known_at ks n i e
 
 pub found_some : (P : ℕ → Type 0) (o : Option ℕ) → IfSome o P → (i : ℕ) → o ≡ Some i → P i
-found_some P None h i e = absurd (cc)
-found_some P (Some k) h i e = let same : k ≡ i = cc in subst P same h
+found_some P o h i e = grind arith
 
 -- what was read twice at one place
 pub same_read_at : (nodes : List Node) (i : ℕ) (n m : Node) → slice_get nodes i ≡ Some n → m ≡ get_or nodes i m → n ≡ m

@@ -1,13 +1,12 @@
 -- A tree as one list: what its extents say of paths.
-use Rattle.std.proofs.Common.{◌≡◌, ℕ, ◌+◌, ◌<◌, ◌≤◌, Bool, true, false, ◌&&◌, Some, List, [], ◌∷◌, length, refl, ap, sym, ◌∙◌, arith, inl, inr, ◌⊎◌, subst, rules}
-use Rattle.std.specs.Prelude.{nat_lt, nat_le}
+use Rattle.std.proofs.Common.{◌≡◌, ℕ, ◌+◌, ◌<◌, ◌≤◌, true, false, ◌&&◌, Some, List, [], ◌∷◌, length, refl, sym, arith, inl, inr, ◌⊎◌, subst, rules}
+use Rattle.std.specs.Prelude.{nat_lt}
 use Rattle.std.specs.List.{slice_get}
-use Rattle.std.proofs.lemmas.Bool.{ltb-true, lt-ltb, leb-true, le-leb, and_from}
+use Rattle.std.proofs.lemmas.Bool.Decides.{nat_tests}
 use Rattle.std.proofs.lemmas.Option.{slice_get_within}
 use Rattle.std.proofs.lemmas.List.{length-map}
 use Rattle.lists.specs.Elements.{Each, EachPair}
 use Rattle.model_board.specs.State.{BoardFunction}
-use Rattle.lists.proofs.Tests.{left_true, right_true}
 use Rattle.model_board.specs.Paths.{Path, path_eq, path_before, leads_to, parent, last_part, IsPath}
 use Rattle.model_board.proofs.PathOrder.{path_same}
 use Rattle.model_board.proofs.PathEnds.{snoc, leads_up, leads_self, leads_trans, leads_longer}
@@ -45,29 +44,23 @@ module _ (nodes : List Node) (laid : IsLaidOut nodes) where
 
   -- what stands within the extent of i is behind i, and nothing else
   pub leads_within : (i j : ℕ) (m n : Node) → slice_get nodes i ≡ Some m → slice_get nodes j ≡ Some n → i < j → j < m.end → leads_to m.path n.path ≡ true
-  leads_within i j m n em en l k = leads i j m n em en ∙ and_from _ _ (lt-ltb i j l) (lt-ltb j m.end k)
+  leads_within i j m n em en l k = grind (arith, nat_tests, leads i j m n em en)
 
   pub within_of_leads : (i j : ℕ) (m n : Node) → slice_get nodes i ≡ Some m → slice_get nodes j ≡ Some n → leads_to m.path n.path ≡ true → (i < j) × (j < m.end)
-  within_of_leads i j m n em en a =
-      let t : (nat_lt i j && nat_lt j m.end) ≡ true = sym (leads i j m n em en) ∙ a in
-      (ltb-true i j (left_true _ _ t), ltb-true j m.end (right_true _ _ t))
+  within_of_leads i j m n em en a = grind (arith, nat_tests, leads i j m n em en)
 
   -- extents nest
   pub nested : (i k : ℕ) (m n : Node) → slice_get nodes i ≡ Some m → slice_get nodes k ≡ Some n → i < k → k < m.end → n.end ≤ m.end
-  nested i k m n em en l h = by_order (within m.end n.end)
+  nested i k m n em en l h = grind (arith, past)
     where
-      within : (x y : ℕ) → (y ≤ x) ⊎ (x < y)
-      within x y = grind arith
-
-      by_order : (n.end ≤ m.end) ⊎ (m.end < n.end) → n.end ≤ m.end
-      by_order (inl o) = o
-      by_order (inr o) =
+      past : m.end < n.end → ⊥
+      past o =
           let w = inside k n en in
           let j = at_below nodes m.end (omega (arith, w.1)) in
           let a = leads_within i k m n em en l h in
           let b = leads_within k m.end n j.0 en j.1 h o in
           let v = within_of_leads i m.end m j.0 em j.1 (leads_trans m.path n.path j.0.path a b) in
-          absurd (omega (arith, v.1))
+          omega (arith, v.1)
 
   -- the bridge above a path stands in the list
   pub bridge_above : (i : ℕ) (n : Node) → slice_get nodes i ≡ Some n → 0 < length (parent n.path) → (k : ℕ) × ((m : Node) × (slice_get nodes k ≡ Some m) × (m.path ≡ parent n.path))
@@ -79,9 +72,7 @@ module _ (nodes : List Node) (laid : IsLaidOut nodes) where
   pub side_root : IsSide nodes [] 0 (length nodes)
   side_root = record {
     within = omega arith;
-    behind = λ j n e.
-        let l = slice_get_within nodes j n e in
-        leads_some n.path (path_of j n e).some ∙ sym (and_from (nat_le 0 j) (nat_lt j (length nodes)) (le-leb 0 j (omega arith)) (lt-ltb j (length nodes) l));
+    behind = λ j n e. grind (arith, nat_tests, slice_get_within nodes j n e, leads_some n.path (path_of j n e).some);
   }
     where
       leads_some : (p : Path) → 0 < length p → leads_to [] p ≡ true
@@ -92,20 +83,15 @@ module _ (nodes : List Node) (laid : IsLaidOut nodes) where
   pub side_behind : (i : ℕ) (n : Node) → slice_get nodes i ≡ Some n → IsSide nodes n.path (i + 1) n.end
   side_behind i n e = record {
     within = let w = inside i n e in omega (arith, w.1);
-    behind = λ j m em. leads i j n m e em ∙ ap (λ b. b && nat_lt j n.end) (same_test i j);
+    behind = λ j m em. grind (arith, nat_tests, leads i j n m e em);
   }
-    where
-      same_test : (i j : ℕ) → nat_lt i j ≡ nat_le (i + 1) j
-      same_test i j = grind arith
 
   module _ (bus : Path) (from to : ℕ) (side : IsSide nodes bus from to) where
     pub behind_bus : (j : ℕ) (n : Node) → slice_get nodes j ≡ Some n → from ≤ j → j < to → leads_to bus n.path ≡ true
-    behind_bus j n e l h = side.behind j n e ∙ and_from _ _ (le-leb from j l) (lt-ltb j to h)
+    behind_bus j n e l h = grind (arith, nat_tests, side.behind j n e)
 
     pub in_side : (j : ℕ) (n : Node) → slice_get nodes j ≡ Some n → leads_to bus n.path ≡ true → (from ≤ j) × (j < to)
-    in_side j n e h =
-        let t : (nat_le from j && nat_lt j to) ≡ true = sym (side.behind j n e) ∙ h in
-        (leb-true from j (left_true _ _ t), ltb-true j to (right_true _ _ t))
+    in_side j n e h = grind (arith, nat_tests, side.behind j n e)
 
     -- all that was met before index i ends before it
     abbrev pub Ended : ℕ → Type 0
@@ -120,12 +106,10 @@ module _ (nodes : List Node) (laid : IsLaidOut nodes) where
         by_place (inr p) =
             let long = leads_longer bus (parent n.path) p in
             let above = bridge_above i n e (omega (arith, long)) in
-            let k = above.0 in
             let m = above.1.0 in
-            let there = in_side k m above.1.1 (subst (λ q. leads_to bus q ≡ true) (sym above.1.2) p) in
-            let over = within_of_leads k i m n above.1.1 e (subst (λ q. leads_to q n.path ≡ true) (sym above.1.2) (parent_leads n.path (path_of i n e).some)) in
-            let done = ended k m there.0 over.0 above.1.1 in
-            absurd (omega (arith, done, over.1))
+            let there = in_side above.0 m above.1.1 in
+            let over = within_of_leads above.0 i m n above.1.1 e in
+            grind (arith, above.1.2, there, over, parent_leads n.path (path_of i n e).some, ended above.0 m)
 
     -- the step past a node and all that stands behind it
     pub ended_next : (i : ℕ) (n : Node) → Ended i → slice_get nodes i ≡ Some n → Ended n.end
@@ -133,19 +117,13 @@ module _ (nodes : List Node) (laid : IsLaidOut nodes) where
 
     -- what is passed by that step stands on no bus of its own parent
     pub passed_by : (i j : ℕ) (n m : Node) → Ended i → slice_get nodes i ≡ Some n → slice_get nodes j ≡ Some m → from ≤ i → i < to → i < j → j < n.end → path_eq (parent m.path) bus ≡ false
-    passed_by i j n m ended e em l h b g = not_same (path_eq (parent m.path) bus) refl
-      where
-        not_same : (t : Bool) → path_eq (parent m.path) bus ≡ t → path_eq (parent m.path) bus ≡ false
-        not_same false t = t
-        not_same true t =
-            let same = path_same (parent m.path) bus t in
-            let here = met_on_bus i n ended e l h in
-            let longer = leads_longer n.path m.path (leads_within i j n m e em b g) in
-            let a = length-parent m.path in
-            let c = length-parent n.path in
-            let some = (path_of i n e).some in
-            let eq : length (parent m.path) ≡ length (parent n.path) = ap length (same ∙ sym here) in
-            absurd (omega (arith, longer, a, c, some, eq))
+    passed_by i j n m ended e em l h b g =
+        let here = met_on_bus i n ended e l h in
+        let longer = leads_longer n.path m.path (leads_within i j n m e em b g) in
+        let a = length-parent m.path in
+        let c = length-parent n.path in
+        let some = (path_of i n e).some in
+        grind (arith, path_same (parent m.path) bus)
 
   -- ---- the functions of the tree
 

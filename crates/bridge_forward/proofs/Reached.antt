@@ -1,8 +1,7 @@
 -- What a search along the buses says of the function that a cycle reaches.
-use Rattle.std.proofs.Common.{◌≡◌, ℕ, true, false, ◌&&◌, Option, Some, None, List, ap, sym, ◌∙◌, eqb, rules, ◌<◌, ◌≤◌, Bool, refl, arith, inl, inr, ◌⊎◌, subst}
+use Rattle.std.proofs.Common.{◌≡◌, ℕ, true, false, ◌&&◌, Option, Some, None, List, ap, sym, ◌∙◌, eqb, rules, ◌<◌, ◌≤◌, Bool, refl, arith, ◌⊎◌, subst}
 use Rattle.std.specs.Prelude.{IfSome, IfNone, find}
 use Rattle.std.specs.List.{slice_get}
-use Rattle.std.proofs.lemmas.Bool.{and_right}
 use Rattle.lists.proofs.Tests.{left_true, right_true}
 use Rattle.model_board.specs.Paths.{Path, Part, path_eq, parent}
 use Rattle.model_board.specs.Board.{is_bridge}
@@ -17,17 +16,6 @@ use Rattle.bridge_forward.proofs.Reaching.{Passing, find_same, passing_next, rou
 use Rattle.model_board.proofs.PathOrder.{path_same}
 use Rattle.model_board.proofs.PathEnds.{path_self}
 use Rattle.bridge_forward.proofs.Nodes.{path_of, parent_leads, in_side, Ended, met_on_bus, ended_next, passed_by}
-
-pub if_some : {A : Type 0} (P Q : A → Type 0) (r : Option A) → ((x : A) → P x → Q x) → IfSome r P → IfSome r Q
-if_some P Q None f h = tt
-if_some P Q (Some x) f h = f x h
-
-pub if_none : {A : Type 0} (P Q : Type 0) (r : Option A) → (P → Q) → IfNone r P → IfNone r Q
-if_none P Q None f h = f h
-if_none P Q (Some x) f h = tt
-
-at_same : (nodes : List Node) (a b : Option BoardFunction) → a ≡ b → (i : ℕ) → IsAt nodes i a → IsAt nodes i b
-at_same nodes a b e i h = record { node = h.node; there = h.there; found = sym e ∙ h.found }
 
 abbrev part_of : ℕ → ℕ → Part
 part_of device function = record { device = device; function = function }
@@ -68,10 +56,10 @@ module _ (nodes : List Node) (device function n i : ℕ) (m : Node) (led : Leads
   behind = search (rules, find_same, same_at)
 
   pub type1_found : (r : Option ℕ) → IfSome r (λ j. IsAt nodes j (find (is_named m.path device function) (functions_of nodes))) → IfSome r (λ j. IsAt nodes j (reached_type1 (functions_of nodes) n (part_of device function)))
-  type1_found r h = if_some _ _ r (λ j f. at_same nodes _ _ (sym behind) j f) h
+  type1_found r h = simp behind h
 
   pub type1_missed : (r : Option ℕ) → IfNone r (find (is_named m.path device function) (functions_of nodes) ≡ None) → IfNone r (reached_type1 (functions_of nodes) n (part_of device function) ≡ None)
-  type1_missed r h = if_none _ _ r (λ f. behind ∙ f) h
+  type1_missed r h = simp behind h
 
 -- ---- the search for a bridge along one bus
 
@@ -87,14 +75,7 @@ pub record Passed (nodes : List Node) (laid : IsLaidOut nodes) (bus : Path) (num
 module _ (nodes : List Node) (laid : IsLaidOut nodes) (bus : Path) (number : ℕ) (from to : ℕ) (side : IsSide nodes bus from to) where
   -- what is outside the side stands on another bus
   outside : (j : ℕ) (m : Node) → slice_get nodes j ≡ Some m → (j < from) ⊎ (to ≤ j) → taking bus number (function_of m) ≡ false
-  outside j m e o = by_bus (path_eq (parent m.path) bus) refl
-    where
-      by_bus : (t : Bool) → path_eq (parent m.path) bus ≡ t → (t && covers number (function_of m)) ≡ false
-      by_bus false p = refl
-      by_bus true p =
-          let same = path_same (parent m.path) bus p in
-          let w = in_side nodes laid bus from to side j m e (subst (λ q. Rattle.model_board.specs.Paths.leads_to q m.path ≡ true) same (parent_leads m.path (path_of nodes laid j m e).some)) in
-          absurd (elim o [ inl l ↦ omega (arith, w.0, l) | inr g ↦ omega (arith, w.1, g) ])
+  outside j m e o = grind (arith, path_same (parent m.path) bus, parent_leads m.path (path_of nodes laid j m e).some, in_side nodes laid bus from to side j m e)
 
   pub passed_none : Passed nodes laid bus number from to side from
   passed_none = search (rules, outside)
@@ -103,16 +84,8 @@ module _ (nodes : List Node) (laid : IsLaidOut nodes) (bus : Path) (number : ℕ
       → Passed nodes laid bus number from to side n.end
   passed_next i n p e l h not = record {
     ended = ended_next nodes laid bus from to side i n p.ended e;
-    none = λ j m g em. by_side j m g em (sides j i);
+    none = λ j m g em. grind (arith, p.none j m, same_at nodes j m n, passed_by nodes laid bus from to side i j n m p.ended e em l h);
   }
-    where
-      sides : (x y : ℕ) → (x < y) ⊎ ((x ≡ y) ⊎ (y < x))
-      sides x y = grind arith
-
-      by_side : (j : ℕ) (m : Node) → j < n.end → slice_get nodes j ≡ Some m → (j < i) ⊎ ((j ≡ i) ⊎ (i < j)) → taking bus number (function_of m) ≡ false
-      by_side j m g em (inl b) = p.none j m b em
-      by_side j m g em (inr (inl q)) = let same : m ≡ n = cc in and_right _ _ (ap (λ (z : Node). covers number (function_of z)) same ∙ not)
-      by_side j m g em (inr (inr b)) = ap (λ t. t && covers number (function_of m)) (passed_by nodes laid bus from to side i j n m p.ended e em l h b g)
 
   pub first_here : (i : ℕ) (n : Node) → Passed nodes laid bus number from to side i → slice_get nodes i ≡ Some n → from ≤ i → i < to → covers number (function_of n) ≡ true
       → IsAt nodes i (taker (functions_of nodes) bus number)

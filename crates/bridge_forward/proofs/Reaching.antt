@@ -1,7 +1,6 @@
 -- The way of a configuration cycle.
-use Rattle.std.proofs.Common.{◌≡◌, ℕ, ◌<◌, Bool, true, false, not, ◌&&◌, cond, Some, None, List, [], ◌∷◌, ◌++◌, length, refl, ap, ap₂, suc, sym, ◌∙◌, subst, eqb, append_assoc, rules}
+use Rattle.std.proofs.Common.{arith, ◌≡◌, ℕ, ◌<◌, Bool, true, false, not, ◌&&◌, cond, Some, None, List, [], ◌∷◌, ◌++◌, length, refl, ap₂, suc, sym, subst, eqb, append_assoc, rules}
 use Rattle.std.specs.Prelude.{find}
-use Rattle.std.specs.Option.{option_map_or}
 use Rattle.std.specs.List.{slice_get}
 use Rattle.lists.proofs.Tests.{left_true, right_true, same_test, and_false}
 use Rattle.model_board.specs.Paths.{Part, Path, part_eq, path_eq, parent, last_part}
@@ -49,17 +48,14 @@ module _ (nodes : List Node) (laid : IsLaidOut nodes) where
       taken_on : f.path ≡ bus ++ last_part f.path ∷ []
       taken_on =
           let t = found_at (λ g. path_eq (parent g.path) bus && Rattle.model_board.specs.Cycles.covers n g) fs f e in
-          let on : parent f.path ≡ bus = path_same (parent f.path) bus (left_true (path_eq (parent f.path) bus) (Rattle.model_board.specs.Cycles.covers n f) t.0) in
-          snoc f.path (some_path t.1.0 f t.1.1) ∙ ap (λ (b : Path). b ++ last_part f.path ∷ []) on
+          grind (arith, t.0, path_same (parent f.path) bus, snoc f.path (some_path t.1.0 f t.1.1))
 
       -- a step of a route is that bridge, and ends there exactly where the bridge leads to the bus
       step_is : (x : Part) (ends : Bool) → takes fs bus n x ends ≡ true → (f.path ≡ bus ++ x ∷ []) × (cond (eqb (secondary_register f.file) n) ends (not ends) ≡ true)
       step_is x ends h = search (rules, path_same, left_true, right_true)
 
       is_step : (x : Part) (ends : Bool) → f.path ≡ bus ++ x ∷ [] → cond (eqb (secondary_register f.file) n) ends (not ends) ≡ true → takes fs bus n x ends ≡ true
-      is_step x ends p c =
-          let same : path_eq f.path (bus ++ x ∷ []) ≡ true = subst (λ (q : Path). path_eq f.path q ≡ true) p (path_self f.path) in
-          subst (λ o. option_map_or (λ (g : BoardFunction). path_eq g.path (bus ++ x ∷ []) && cond (eqb (secondary_register g.file) n) ends (not ends)) o false ≡ true) (sym e) (rw (same, c) refl)
+      is_step x ends p c = grind (arith, e, path_self f.path)
 
       moved : (x : Part) (q : Path) → bus ++ x ∷ q ≡ (bus ++ x ∷ []) ++ q
       moved x q = sym (append_assoc bus (x ∷ []) q)
@@ -74,25 +70,17 @@ module _ (nodes : List Node) (laid : IsLaidOut nodes) where
           go_on : (r q : Path) → r ≡ bus ++ q → is_route fs n bus q ≡ true → (s : Path) × ((r ≡ f.path ++ s) × (is_route fs n f.path s ≡ true))
           go_on r [] e h = absurd (cc)
           go_on r (x ∷ []) e h = absurd (cc)
-          go_on r (x ∷ y ∷ []) e h = let s = step_is x true h in let w = rw differs at s.1 in absurd (cc)
+          go_on r (x ∷ y ∷ []) e h = let s = step_is x true h in grind (arith, s.1)
           go_on r (x ∷ y ∷ z ∷ qs) e h =
-              let s = step_is x false (left_true (takes fs bus n x false) (is_route fs n (bus ++ x ∷ []) (y ∷ z ∷ qs)) h) in (
-                y ∷ z ∷ qs,
-                (
-                  e ∙ moved x (y ∷ z ∷ qs) ∙ ap (λ (b : Path). b ++ y ∷ z ∷ qs) (sym s.0),
-                  subst (λ (b : Path). is_route fs n b (y ∷ z ∷ qs) ≡ true) (sym s.0) (right_true (takes fs bus n x false) (is_route fs n (bus ++ x ∷ []) (y ∷ z ∷ qs)) h),
-                ),
-              )
+              let s = step_is x false (left_true (takes fs bus n x false) (is_route fs n (bus ++ x ∷ []) (y ∷ z ∷ qs)) h) in
+              (y ∷ z ∷ qs, (grind (arith, s.0, moved x (y ∷ z ∷ qs)), grind (arith, s.0)))
 
           come_back : (q : Path) → is_route fs n f.path q ≡ true → is_route fs n [] (f.path ++ q) ≡ true
           come_back [] h = absurd (cc)
           come_back (x ∷ []) h = absurd (cc)
           come_back (x ∷ y ∷ qs) h =
               let a : Part = last_part f.path in
-              let step : takes fs bus n a false ≡ true = is_step a false taken_on (rw differs refl) in
-              let rest : is_route fs n (bus ++ a ∷ []) (x ∷ y ∷ qs) ≡ true = subst (λ (b : Path). is_route fs n b (x ∷ y ∷ qs) ≡ true) taken_on h in
-              let whole : is_route fs n bus (a ∷ x ∷ y ∷ qs) ≡ true = rw (step, rest) refl in
-              subst (λ (r : Path). is_route fs n [] r ≡ true) (moved a (x ∷ y ∷ qs) ∙ ap (λ (b : Path). b ++ x ∷ y ∷ qs) (sym taken_on)) (p.out (a ∷ x ∷ y ∷ qs) whole)
+              grind (arith, is_step a false taken_on, p.out (a ∷ x ∷ y ∷ qs), moved a (x ∷ y ∷ qs), taken_on)
 
       ends_snoc : (p : Path) (y t : Part) → ends_in (p ++ y ∷ []) t ≡ part_eq y t
       ends_snoc [] y t = refl
@@ -111,18 +99,12 @@ module _ (nodes : List Node) (laid : IsLaidOut nodes) where
           to_path r (x ∷ []) e h k = absurd (cc)
           to_path r (x ∷ y ∷ []) e h k =
               let s = step_is x true h in
-              let at : r ≡ f.path ++ y ∷ [] = e ∙ moved x (y ∷ []) ∙ ap (λ (b : Path). b ++ y ∷ []) (sym s.0) in
-              let last : part_eq y t ≡ true = sym (ends_snoc f.path y t) ∙ subst (λ (z : Path). ends_in z t ≡ true) at k in
-              let whole : r ≡ f.path ++ t ∷ [] = at ∙ ap (λ (z : Part). f.path ++ z ∷ []) (part_same y t last) in
-              subst (λ (z : Path). path_eq r z ≡ true) whole (path_self r)
+              grind (arith, s.0, moved x (y ∷ []), ends_snoc f.path y t, part_same y t, path_self r)
           to_path r (x ∷ y ∷ z ∷ qs) e h k =
               let s = step_is x false (left_true (takes fs bus n x false) (is_route fs n (bus ++ x ∷ []) (y ∷ z ∷ qs)) h) in
-              let w = rw leads at s.1 in absurd (cc)
+              grind (arith, s.1)
 
           from_path : (r : Path) → r ≡ f.path ++ t ∷ [] → (ends_in r t && is_route fs n [] r) ≡ true
           from_path r e =
               let a : Part = last_part f.path in
-              let ends : ends_in r t ≡ true = ap (λ (z : Path). ends_in z t) e ∙ ends_snoc f.path t t ∙ part_self t in
-              let whole : bus ++ a ∷ t ∷ [] ≡ r = moved a (t ∷ []) ∙ ap (λ (b : Path). b ++ t ∷ []) (sym taken_on) ∙ sym e in
-              let route : is_route fs n [] r ≡ true = subst (λ (z : Path). is_route fs n [] z ≡ true) whole (p.out (a ∷ t ∷ []) (is_step a true taken_on (rw leads refl))) in
-              rw (ends, route) refl
+              grind (arith, ends_snoc f.path t t, part_self t, moved a (t ∷ []), taken_on, p.out (a ∷ t ∷ []), is_step a true taken_on)

@@ -1,5 +1,5 @@
 -- An endpoint's cells, part by part: what a read finds, and what a change leaves.
-use Rattle.std.proofs.Common.{◌≡◌, ◌≢◌, ℕ, zero, suc, ◌+◌, ◌*◌, ◌/◌, ◌%◌, ◌-◌, ◌^◌, ◌<◌, ◌≤◌, ◌⊎◌, inl, inr, Bool, true, false, cond, List, [], ◌∷◌, ◌++◌, map, length, refl, ap, ap₂, sym, ◌∙◌, arith, append_assoc}
+use Rattle.std.proofs.Common.{◌≡◌, ◌≢◌, ℕ, zero, suc, ◌+◌, ◌*◌, ◌/◌, ◌%◌, ◌-◌, ◌^◌, ◌<◌, ◌≤◌, ◌⊎◌, Bool, true, false, cond, List, [], ◌∷◌, ◌++◌, map, length, refl, ap, ap₂, sym, ◌∙◌, arith, append_assoc}
 use Rattle.std.proofs.lemmas.Bool.{cases_eq}
 use Rattle.std.proofs.lemmas.List.{nil_from_length}
 use Rattle.lists.specs.Elements.{Each, EachPair}
@@ -22,14 +22,10 @@ read_same xs ys p q s t (on ∷ ons) k h =
 
 -- a file without the place is passed by, on either side
 pub cell_second : (xs ys : File) (p : Place) → has_place xs p ≡ false → cell_at (xs ++ ys) p ≡ cell_at ys p
-cell_second xs ys p h = joined_cell xs ys p ∙ ap (λ t. cond t (cell_at xs p) (cell_at ys p)) h
+cell_second xs ys p h = grind (arith, joined_cell xs ys p)
 
 pub cell_first : (xs ys : File) (p : Place) → cell_at ys p ≡ no_cell → cell_at (xs ++ ys) p ≡ cell_at xs p
-cell_first xs ys p h = joined_cell xs ys p ∙ by_place (has_place xs p) refl
-  where
-    by_place : (t : Bool) → has_place xs p ≡ t → cond t (cell_at xs p) (cell_at ys p) ≡ cell_at xs p
-    by_place true e = refl
-    by_place false e = h ∙ sym (cell_none xs p e)
+cell_first xs ys p h = grind (arith, joined_cell xs ys p, cell_none xs p)
 
 -- ---- base registers
 
@@ -86,13 +82,7 @@ block_cell (b ∷ bs) g n q d c u =
     others (x ∷ cs) e h = (λ z. h.0 (e ∙ sym z), others cs e h.1)
 
     by_index : (b.index ≡ n) ⊎ (b.index ≢ n) → (b.index ≢ n → cell_at (region_parts bs g) (block n q) ≡ cell_at (g n) (config q)) → cell_at (in_region b.index (g b.index) ++ region_parts bs g) (block n q) ≡ cell_at (g n) (config q)
-    by_index (inl e) more =
-        ap (λ m. cell_at (in_region m (g m) ++ region_parts bs g) (block n q)) e
-        ∙ cell_first (in_region n (g n)) (region_parts bs g) (block n q) (no_block_cell bs g n q (others bs e d.0))
-        ∙ region_cell n q (g n) c
-    by_index (inr e) more =
-        cell_second (in_region b.index (g b.index)) (region_parts bs g) (block n q) (no_other_in b.index n q (g b.index) e)
-        ∙ more e
+    by_index e more = grind (arith, cell_first, no_block_cell, others, region_cell, cell_second, no_other_in)
 
 -- ---- changes
 
@@ -106,11 +96,7 @@ fronts : {A : Type 0} (xs ys zs ws : List A) → length xs ≡ length zs → xs 
 fronts [] ys [] ws l e = (refl, e)
 fronts [] ys (z ∷ zs) ws l e = absurd (omega (arith, l))
 fronts (x ∷ xs) ys [] ws l e = absurd (omega (arith, l))
-fronts (x ∷ xs) ys (z ∷ zs) ws l e =
-    let head : x ≡ z = cc in
-    let tail : xs ++ ys ≡ zs ++ ws = cc in
-    let rest = fronts xs ys zs ws (omega arith) tail in
-    (ap₂ (λ y ys. y ∷ ys) head rest.0, rest.1)
+fronts (x ∷ xs) ys (z ∷ zs) ws l e = grind (arith, fronts xs ys zs ws)
 
 length-field : (p : Place) (w v m c : ℕ) → length (field p w v m c) ≡ w
 length-field p zero v m c = refl

@@ -1,20 +1,21 @@
 -- One endpoint that is reset alone: its cells, part by part.
-use Rattle.std.proofs.Common.{◌≡◌, ◌≢◌, ℕ, zero, suc, ◌+◌, ◌*◌, ◌-◌, ◌/◌, ◌^◌, ◌<◌, ◌≤◌, ◌⊎◌, inl, inr, Bool, true, false, ◌&&◌, ◌||◌, cond, Some, None, List, [], ◌∷◌, ◌++◌, map, length, refl, ap, ap₂, sym, ◌∙◌, subst, arith, rules}
-use Rattle.std.specs.Prelude.{nat_le, nat_lt, ◌==◌, Option}
+use Rattle.std.proofs.Common.{◌≡◌, ℕ, zero, suc, ◌+◌, ◌*◌, ◌-◌, ◌/◌, ◌^◌, ◌<◌, ◌≤◌, ◌⊎◌, inl, inr, Bool, false, ◌||◌, cond, Some, List, [], ◌∷◌, ◌++◌, map, length, refl, ap, ap₂, sym, ◌∙◌, subst, arith, rules}
+use Rattle.std.specs.Prelude.{Option}
 use Rattle.std.proofs.lemmas.Bool.Decides.{nat_tests}
 use Rattle.std.proofs.lemmas.List.{length-map}
+use Rattle.std.proofs.lemmas.Option.{slice_get-map}
 use Rattle.std.specs.List.{slice_get}
 use Rattle.std.specs.Option.{option_map_or}
-use Rattle.std.proofs.lemmas.Bool.{ne_eqb, eq-eqb, eqb-true, false_from_ne_true, cases_lt, cases_eq}
+use Rattle.std.proofs.lemmas.Bool.{ne_eqb, eq-eqb, eqb-true, cases_lt}
 use Rattle.lists.specs.Elements.{Each}
 use Rattle.model_registers.proofs.Owned.{base_is_own}
 use Rattle.model_registers.specs.Cell.{Cell}
 use Rattle.model_registers.specs.Registers.{Place, config, block, offset_of, place_eq, PlacedCell, File, cell_at, field, cells_from, in_region}
 use Rattle.model_registers.specs.FileLaws.{has_place, IsConfig, IsConfigFile}
 use Rattle.model_registers.specs.Declarations.{Region, registers_of, IsLawfulRegion, Endpoint}
-use Rattle.model_registers.specs.EndpointTable.{type_bits, base_width, BaseAddress, register_cells, opened, closed, config_reset, endpoint_reset}
+use Rattle.model_registers.specs.EndpointTable.{type_bits, base_width, BaseAddress, opened, closed, config_reset, endpoint_reset}
 use Rattle.model_registers.specs.OwnCopies.{is_own}
-use Rattle.config_bytes.specs.CellFile.{CellFile, is_between, reset_entry, reset_outside, places_of}
+use Rattle.config_bytes.specs.CellFile.{CellFile, reset_entry, reset_outside, places_of}
 use Rattle.bridge_forward.specs.EndpointParts.{block_at, block_at_reset, region_parts, AreParts, region_at, declared_block, IsHeaderKept, KnowReset, blocks_after}
 use Rattle.model_registers.specs.CopiedFiles.{after_reset}
 use Rattle.bridge_forward.proofs.EndpointAccess.{cell_of_block, cell_of_config, lawful_bars, no_block}
@@ -59,28 +60,12 @@ refilled d a (c ∷ cs) n (x ∷ xs) e h =
     (refilled d (a + 1) cs n xs rest (λ k y g. ap (λ j. cell_at (endpoint_reset d false) (block n j)) (there k) ∙ h (suc k) y g))
 
 after_at : (blocks : List CellFile) (n : ℕ) → block_at (blocks_after blocks) n ≡ block_at_reset blocks n
-after_at [] n = refl
-after_at (f ∷ fs) zero = refl
-after_at (f ∷ fs) (suc n) = after_at fs n
+after_at blocks n = grind (arith, slice_get-map)
 
 again_at : (blocks : List CellFile) (n : ℕ) → block_at_reset (blocks_after blocks) n ≡ block_at_reset blocks n
-again_at [] n = refl
-again_at (f ∷ fs) zero = refl
-again_at (f ∷ fs) (suc n) = again_at fs n
+again_at blocks n = grind (arith, slice_get-map)
 
 -- ---- configuration cells
-
-none_between : (q : ℕ) → (q < 0x10) ⊎ (0x28 ≤ q) → (nat_le 0x10 q && nat_lt q 0x28) ≡ false
-none_between q h = false_from_ne_true _ (λ t. elim h [ inl a ↦ grind (arith, nat_tests) | inr a ↦ grind (arith, nat_tests) ])
-
-not_command : (q : ℕ) → q ≢ 4 → q ≢ 5 → (nat_le 4 q && nat_le q 5) ≡ false
-not_command q h k = false_from_ne_true _ (λ t. grind (arith, nat_tests))
-
-not_own : (q : ℕ) → q ≢ 4 → q ≢ 5 → q ≢ 0x0e → (q < 0x10) ⊎ (0x28 ≤ q) → is_own (config q) ≡ false
-not_own q a b c h = rw (ne_eqb q 4 a, ne_eqb q 5 b, ne_eqb q 0x0e c) (none_between q h)
-
-base_or_other : (q : ℕ) → ((0x10 ≤ q) × (q < 0x28)) ⊎ ((q < 0x10) ⊎ (0x28 ≤ q))
-base_or_other q = grind arith
 
 no_entries : (xs : File) → places_of xs ≡ [] → xs ≡ []
 no_entries [] h = refl
@@ -113,98 +98,40 @@ module _ (d : Endpoint) (cells : CellFile) (bars : List BaseAddress) (blocks : L
   abbrev cells_declared : Option Region → List Cell
   cells_declared o = option_map_or (λ (r : Region). r.cells) o []
 
-  in_order : (o : Option Region) → option_map_or (λ (r : Region). cells_from (config 0) r.cells) o [] ≡ cells_from (config 0) (cells_declared o)
-  in_order None = refl
-  in_order (Some r) = refl
-
   block_back : (n : ℕ) → after_reset d (in_region n (block_at blocks n)) ≡ in_region n (block_at later n)
   block_back n = by_size (cases_lt n 6)
     where
       declared : n < 6 → block_at later n ≡ cells_from (config 0) (cells_declared (region_at d.regions n))
-      declared l = filled n l ∙ in_order (region_at d.regions n)
+      declared l = grind (arith, filled n l)
 
       by_size : (n < 6) ⊎ (6 ≤ n) → after_reset d (in_region n (block_at blocks n)) ≡ in_region n (block_at later n)
       by_size (inl l) =
           refilled d 0 (cells_declared (region_at d.regions n)) n (block_at blocks n) (know.block_places n ∙ ap places_of (sym (after_at blocks n) ∙ declared l))
           (λ k c e. at_block n (0 + k) ∙ ap (λ (xs : File). cell_at xs (config (0 + k))) (declared l) ∙ cell_from 0 k (cells_declared (region_at d.regions n)) c e)
           ∙ ap (in_region n) (sym (declared l))
-      by_size (inr l) =
-          let none : block_at blocks n ≡ [] = no_block blocks n (let s = know.six in omega (arith, s, l)) in
-          let none_later : block_at later n ≡ [] = no_block later n (let s = six in omega (arith, s, l)) in
-          ap (λ (xs : File). after_reset d (in_region n xs)) none ∙ sym (ap (in_region n) none_later)
+      by_size (inr l) = grind (arith, no_block blocks n, no_block later n, know.six, six)
 
   bases_back : (bs : List BaseAddress) → Each IsLawfulRegion (map opened bs) → after_reset d (region_parts bs (block_at blocks)) ≡ region_parts bs (block_at later)
   bases_back [] l = refl
   bases_back (b ∷ bs) l =
       let within = l.0.registers in
-      after_joined d (register_cells b ++ in_region b.index (block_at blocks b.index)) (region_parts bs (block_at blocks))
-      ∙ ap₂ (λ (xs ys : File). xs ++ ys)
-      (after_joined d (register_cells b) (in_region b.index (block_at blocks b.index))
-      ∙ ap₂ (λ (xs ys : File). xs ++ ys)
-      (base_stays d (4 * registers_of b.kind) (0x10 + 4 * b.index) (b.base + type_bits b.kind) (2 ^ base_width b.kind - b.size) 0 (omega arith) (omega (arith, within)))
-      (block_back b.index))
-      (bases_back bs l.1)
+      let stays = base_stays d (4 * registers_of b.kind) (0x10 + 4 * b.index) (b.base + type_bits b.kind) (2 ^ base_width b.kind - b.size) 0 (omega arith) (omega (arith, within)) in
+      simp (after_joined, stays, block_back, bases_back bs l.1)
 
   -- ---- configuration cells
-
-  abbrev entry : ℕ → Cell → PlacedCell
-  entry q c = record { place = config q; cell = c }
 
   entry_back : (p : Place) (c : Cell) → IsConfig p → ((q : ℕ) → (0x10 ≤ q) × (q < 0x28) → place_eq p (config q) ≡ false) → IsHeaderKept cells.initial (record { place = p; cell = c })
       → reset_entry 4 5 cells.initial (record { place = p; cell = c }) ≡ entry_after d (record { place = p; cell = c })
   entry_back (block n q) c h none header = absurd (h)
-  entry_back (config q) c h none header = by_base (base_or_other q)
-    where
-      kept : is_between 4 5 (config q) ≡ true → is_own (config q) ≡ true → reset_entry 4 5 cells.initial (entry q c) ≡ entry_after d (entry q c)
-      kept a b =
-          ap (λ (t : Bool). cond t (entry q c) (record (entry q c) { cell = cell_at cells.initial (config q) })) a
-          ∙ sym (ap (λ (t : Bool). cond t (entry q c) (record (entry q c) { cell = cell_at (endpoint_reset d false) (config q) })) b)
-
-      header_back : q ≡ 0x0e → reset_entry 4 5 cells.initial (entry q c) ≡ entry_after d (entry q c)
-      header_back at =
-          let same = header (ap (λ k. k == 0x0e) at) in
-          ap (λ (t : Bool). cond t (entry q c) (record (entry q c) { cell = cell_at cells.initial (config q) })) (ap (λ k. nat_le 4 k && nat_le k 5) at)
-          ∙ ap (λ (x : Cell). record { place = config q; cell = x }) (ap (λ k. cell_at cells.initial (config k)) at ∙ sym same.0)
-          ∙ sym (ap (λ (t : Bool). cond t (entry q c) (record (entry q c) { cell = cell_at (endpoint_reset d false) (config q) })) (ap (λ k. is_own (config k)) at))
-
-      all_others : q ≢ 4 → q ≢ 5 → q ≢ 0x0e → (q < 0x10) ⊎ (0x28 ≤ q) → reset_entry 4 5 cells.initial (entry q c) ≡ entry_after d (entry q c)
-      all_others a b h away =
-          let own = not_own q a b h away in
-          ap (λ (t : Bool). cond t (entry q c) (record (entry q c) { cell = cell_at cells.initial (config q) })) (not_command q a b)
-          ∙ ap (λ (x : Cell). record { place = config q; cell = x }) (know.declared (config q) own ∙ sym (at_config q away))
-          ∙ sym (ap (λ (t : Bool). cond t (entry q c) (record (entry q c) { cell = cell_at (endpoint_reset d false) (config q) })) own)
-
-      by_header : q ≢ 4 → q ≢ 5 → (q < 0x10) ⊎ (0x28 ≤ q) → (q ≡ 0x0e) ⊎ (q ≢ 0x0e) → reset_entry 4 5 cells.initial (entry q c) ≡ entry_after d (entry q c)
-      by_header a b away (inl at) = header_back at
-      by_header a b away (inr h) = all_others a b h away
-
-      by_upper : q ≢ 4 → (q < 0x10) ⊎ (0x28 ≤ q) → (q ≡ 5) ⊎ (q ≢ 5) → reset_entry 4 5 cells.initial (entry q c) ≡ entry_after d (entry q c)
-      by_upper a away (inl at) = kept (ap (λ k. nat_le 4 k && nat_le k 5) at) (ap (λ k. is_own (config k)) at)
-      by_upper a away (inr b) = by_header a b away (cases_eq q 0x0e)
-
-      by_lower : (q < 0x10) ⊎ (0x28 ≤ q) → (q ≡ 4) ⊎ (q ≢ 4) → reset_entry 4 5 cells.initial (entry q c) ≡ entry_after d (entry q c)
-      by_lower away (inl at) = kept (ap (λ k. nat_le 4 k && nat_le k 5) at) (ap (λ k. is_own (config k)) at)
-      by_lower away (inr a) = by_upper a away (cases_eq q 5)
-
-      by_base : ((0x10 ≤ q) × (q < 0x28)) ⊎ ((q < 0x10) ⊎ (0x28 ≤ q)) → reset_entry 4 5 cells.initial (entry q c) ≡ entry_after d (entry q c)
-      by_base (inl base) = let other : (q == q) ≡ false = none q base in let same = eq-eqb q q refl in absurd (cc)
-      by_base (inr away) = by_lower away (cases_eq q 4)
+  entry_back (config q) c h none header = grind (arith, nat_tests, know.declared (config q), at_config q, header, none q)
 
   config_back : (xs : File) → IsConfigFile xs → ((q : ℕ) → (0x10 ≤ q) × (q < 0x28) → has_place xs (config q) ≡ false) → Each (IsHeaderKept cells.initial) xs
       → reset_outside 4 5 cells.initial xs ≡ after_reset d xs
   config_back [] h none header = refl
   config_back (x ∷ xs) h none header =
       ap₂ (λ (y : PlacedCell) (ys : File). y ∷ ys)
-      (entry_back x.place x.cell h.0 (λ q l. first (place_eq x.place (config q)) (has_place xs (config q)) (none q l)) header.0)
-      (config_back xs h.1 (λ q l. second (place_eq x.place (config q)) (has_place xs (config q)) (none q l)) header.1)
-    where
-      first : (s t : Bool) → (s || t) ≡ false → s ≡ false
-      first true t h = h
-      first false t h = refl
-
-      second : (s t : Bool) → (s || t) ≡ false → t ≡ false
-      second true t h = absurd (cc)
-      second false t h = h
+      (entry_back x.place x.cell h.0 (λ q l. let n = none q l in grind arith) header.0)
+      (config_back xs h.1 (λ q l. let n = none q l in grind arith) header.1)
 
   -- the file of an endpoint that was reset
   pub file_back : (xs : File) → xs ≡ reset_outside 4 5 cells.initial cells.now → (bs : List CellFile) → bs ≡ blocks_after blocks

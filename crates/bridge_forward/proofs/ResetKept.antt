@@ -1,22 +1,23 @@
 -- What an endpoint knows of its cells at reset: at the beginning, and after each change.
-use Rattle.std.proofs.Common.{◌≡◌, ◌≢◌, ℕ, ◌+◌, ◌-◌, ◌/◌, ◌%◌, ◌<◌, ◌≤◌, ◌⊎◌, inl, inr, Bool, true, false, Some, None, List, [], ◌∷◌, ◌++◌, length, refl, ap, ap₂, sym, ◌∙◌, subst, arith, get_or, rules, ltb}
-use Rattle.std.specs.Prelude.{flat_map, bit_and, bit_or}
+use Rattle.std.proofs.Common.{◌≡◌, ℕ, ◌+◌, ◌/◌, ◌%◌, ◌<◌, ◌≤◌, inl, inr, Bool, true, false, Some, List, [], ◌∷◌, ◌++◌, length, refl, ap, sym, ◌∙◌, subst, arith, get_or, rules, ltb}
+use Rattle.std.specs.Prelude.{flat_map}
 use Rattle.std.specs.Int.Bits.{and_zero_l, and_zero_r, or_zero_r}
 use Rattle.std.specs.List.{slice_get, slice_set}
 use Rattle.std.specs.Option.{option_map_or}
 use Rattle.std.proofs.lemmas.Bool.{ne_eqb, ltb-true, ltb-false}
+use Rattle.std.proofs.lemmas.Bool.Decides.{nat_tests}
 use Rattle.std.proofs.lemmas.List.{length-set}
 use Rattle.std.proofs.lemmas.Option.{slice_get_past}
 use Rattle.lists.specs.Elements.{Each}
 use Rattle.model_registers.specs.Cell.{Cell, written, raised}
-use Rattle.model_registers.specs.Registers.{Place, config, block, after, File, cell_at, changed, write, field, number}
+use Rattle.model_registers.specs.Registers.{Place, config, after, File, cell_at, changed, write, field, number}
 use Rattle.model_registers.specs.FileLaws.{has_place, IsConfigFile}
 use Rattle.model_registers.specs.Declarations.{ConfigBlock, Endpoint}
 use Rattle.model_registers.specs.DeclarationRules.{IsConfigBlock, IsLawfulEndpoint}
 use Rattle.model_registers.specs.EndpointTable.{block_cells, header_type, header_cells, config_reset, BaseAddress}
 use Rattle.model_registers.specs.OwnCopies.{is_own}
 use Rattle.config_bytes.specs.CellFile.{CellFile, places_of}
-use Rattle.bridge_forward.specs.EndpointParts.{block_at, block_at_reset, declared_block, IsConstant, IsHeaderKept, KnowReset, as_made, region_parts, IsShort, IsEndpointFn}
+use Rattle.bridge_forward.specs.EndpointParts.{block_at, declared_block, IsConstant, IsHeaderKept, KnowReset, as_made, region_parts, IsShort, IsEndpointFn}
 use Rattle.lists.proofs.Indices.{read_at}
 use Rattle.lists.proofs.EachLemmas.{each_append}
 use Rattle.bridge_forward.proofs.EndpointAccess.{get_set, get_other, block_there, block_set, other_blocks, IsBlockChange, no_block, block_short, config_kept, table_changed, table_kept, nothing_there}
@@ -27,16 +28,10 @@ use Rattle.model_registers.proofs.Files.{changed_config, change_keeps_places}
 -- ---- the header type stays
 
 constant_written : (b : ℕ) (c : Cell) → IsConstant c → written b c ≡ c
-constant_written b c h =
-    let kept : bit_and (bit_and c.value (255 - c.writable)) (255 - c.clearable) ≡ c.value =
-    ap₂ (λ w k. bit_and (bit_and c.value (255 - w)) (255 - k)) h.1 h.2 ∙ ap (λ n. bit_and n 255) h.0 ∙ h.0 in
-    let taken : bit_and b c.writable ≡ 0 = ap (bit_and b) h.1 ∙ and_zero_r b in
-    let fallen : bit_and (bit_and c.value c.clearable) (255 - b) ≡ 0 =
-    ap (λ k. bit_and (bit_and c.value k) (255 - b)) h.2 ∙ ap (λ n. bit_and n (255 - b)) (and_zero_r c.value) ∙ and_zero_l (255 - b) in
-    ap (λ n. record c { value = n }) (ap₂ bit_or (ap₂ bit_or kept taken) fallen ∙ or_zero_r (bit_or c.value 0) ∙ or_zero_r c.value)
+constant_written b c h = grind (arith, and_zero_l, and_zero_r, or_zero_r)
 
 pub constant_raised : (m : ℕ) (c : Cell) → IsConstant c → raised m c ≡ c
-constant_raised m c h = ap (λ n. record c { value = n }) (ap (λ k. bit_or c.value (bit_and m k)) h.2 ∙ ap (bit_or c.value) (and_zero_r m) ∙ or_zero_r c.value)
+constant_raised m c h = grind (arith, and_zero_r, or_zero_r)
 
 pub header_changed : (f : Cell → Cell) → ((c : Cell) → IsConstant c → f c ≡ c) → (initial : File) (p : Place) (xs : File) → Each (IsHeaderKept initial) xs → Each (IsHeaderKept initial) (changed f p xs)
 header_changed f stays initial p [] h = tt
@@ -54,13 +49,10 @@ header_written initial (false ∷ ons) v p xs h = header_written initial ons (v 
 pub know_config : (d : Endpoint) (cells later : CellFile) (blocks : List CellFile) → KnowReset d cells blocks → later.initial ≡ cells.initial → Each (IsHeaderKept cells.initial) later.now → KnowReset d later blocks
 know_config d cells later blocks know same header = search rules
 
-reset_there : (blocks : List CellFile) (n : ℕ) (f : CellFile) → n < length blocks → f ≡ get_or blocks n f → block_at_reset blocks n ≡ f.initial
-reset_there blocks n f l e = ap (λ o. option_map_or (λ (x : CellFile). x.initial) o []) (read_at blocks n f l e)
-
 -- another block, of the same cells at reset and at the same places
 pub know_block : (d : Endpoint) (cells : CellFile) (blocks : List CellFile) → KnowReset d cells blocks → (n : ℕ) (f : CellFile) → n < length blocks → f ≡ get_or blocks n f
     → (k : CellFile) → k.initial ≡ f.initial → places_of k.now ≡ places_of f.now → KnowReset d cells (slice_set blocks n k)
-know_block d cells blocks know n f l there k same places = search (rules, length-set, get_set, reset_there, get_other, block_set, block_there, other_blocks)
+know_block d cells blocks know n f l there k same places = grind (arith, length-set, get_set, get_other, block_set, block_there, other_blocks, read_at)
 
 -- ---- at the beginning
 
@@ -91,25 +83,11 @@ header_new : (d : Endpoint) (multifunction : Bool) → Each IsConfigBlock d.bloc
 header_new d multifunction lawful = (join fields (record { each = kept_blocks (config_reset d multifunction) d.blocks lawful })).each
   where
     fields : IsKept (config_reset d multifunction) (header_cells d multifunction 0)
-    fields =
-        let at = config_reset d multifunction in
-        join (join (join (join (join (join (join (join (join (join (join (join (join
-        (below at 0x00 2 d.vendor 0 0 (omega arith)) (below at 0x02 2 d.device 0 0 (omega arith)))
-        (below at 0x04 2 0 0x0547 0 (omega arith))) (below at 0x06 2 d.status 0 0xf900 (omega arith)))
-        (below at 0x08 1 d.revision 0 0 (omega arith))) (below at 0x09 3 d.class 0 0 (omega arith)))
-        (below at 0x0c 2 0 0xffff 0 (omega arith))) (own_header d multifunction))
-        (above at 0x2c 2 d.subvendor 0 0 (omega arith))) (above at 0x2e 2 d.subsystem 0 0 (omega arith)))
-        (above at 0x3c 1 0 0xff 0 (omega arith))) (above at 0x3d 1 d.pin 0 0 (omega arith)))
-        (above at 0x3e 1 d.min_gnt 0 0 (omega arith))) (above at 0x3f 1 d.max_lat 0 0 (omega arith))
+    fields = search (rules, join, below, above, own_header)
 
 -- the header type alone tells whether the device holds other functions
 same_cells : (d : Endpoint) (multifunction : Bool) (p : Place) → is_own p ≡ false → cell_at (config_reset d multifunction) p ≡ cell_at (config_reset d false) p
-same_cells d false p h = refl
-same_cells d true (block n q) h = refl
-same_cells d true (config q) h = rw (ne_eqb 0x0e q other) refl
-  where
-    other : 0x0e ≢ q
-    other e = let own : is_own (config q) ≡ true = ap (λ k. is_own (config k)) (sym e) in absurd (cc)
+same_cells d multifunction p h = grind (arith, ne_eqb, nat_tests)
 
 pub know_new : (d : Endpoint) → IsLawfulEndpoint d → (multifunction : Bool) (cells : CellFile) → cells ≡ as_made (config_reset d multifunction)
     → (blocks : List CellFile) → length blocks ≡ 6 → ((n : ℕ) → n < 6 → slice_get blocks n ≡ Some (as_made (declared_block d.regions n))) → KnowReset d cells blocks
@@ -119,20 +97,8 @@ know_new d lawful multifunction cells made blocks six filled = subst (λ (f : Ce
   declared = same_cells d multifunction;
   six = six;
   block_cells = λ n l. ap (λ o. option_map_or (λ (x : CellFile). x.initial) o []) (filled n l);
-  block_places = λ n. places n (sides n);
+  block_places = λ n. grind (arith, filled n, slice_get_past blocks n);
 })
-  where
-    sides : (n : ℕ) → (n < 6) ⊎ (6 ≤ n)
-    sides n = grind arith
-
-    past : (n : ℕ) → 6 ≤ n → slice_get blocks n ≡ None
-    past n l = slice_get_past blocks n (omega (arith, six, l))
-
-    places : (n : ℕ) → (n < 6) ⊎ (6 ≤ n) → places_of (block_at blocks n) ≡ places_of (block_at_reset blocks n)
-    places n (inl l) =
-        ap (λ o. places_of (option_map_or (λ (x : CellFile). x.now) o [])) (filled n l) ∙ sym (ap (λ o. places_of (option_map_or (λ (x : CellFile). x.initial) o [])) (filled n l))
-    places n (inr l) =
-        ap (λ o. places_of (option_map_or (λ (x : CellFile). x.now) o [])) (past n l) ∙ sym (ap (λ o. places_of (option_map_or (λ (x : CellFile). x.initial) o [])) (past n l))
 
 -- ---- an endpoint after a change of cells: of its own configuration cells, or of one block's
 
@@ -146,21 +112,12 @@ module _ {d : Endpoint} {cells : CellFile} {command : ℕ} {bars : List BaseAddr
   -- its configuration cells, of the same header type and at the same places
   pub config_invariant : (later : CellFile) (now : ℕ) → later.initial ≡ cells.initial → now ≡ number later.now (config 0x04) 2 → IsConfigFile later.now → ((q : ℕ) → has_place later.now (config q) ≡ has_place cells.now (config q))
       → Each (IsHeaderKept cells.initial) later.now → IsEndpointFn d later now bars blocks
-  config_invariant later now same command_is places stay header = record {
-    parts = config_kept d cells.now bars (block_at blocks) h.parts later.now bars refl places stay;
-    command_is = command_is;
-    reset = know_config d cells later blocks h.reset same header;
-  }
+  config_invariant later now same command_is places stay header = grind (arith, config_kept, know_config)
 
   -- one cell of these
   pub cell_invariant : (f : Cell → Cell) (off : ℕ) (later : CellFile) (now : ℕ) → later ≡ record cells { now = changed f (config off) cells.now } → now ≡ number later.now (config 0x04) 2
       → Each (IsHeaderKept cells.initial) (changed f (config off) cells.now) → IsEndpointFn d later now bars blocks
-  cell_invariant f off later now is command_is header =
-      let cells_are = ap (λ (x : CellFile). x.now) is in
-      config_invariant later now (ap (λ (x : CellFile). x.initial) is) command_is
-      (subst IsConfigFile (sym cells_are) (changed_config f (config off) cells.now h.parts.config_places))
-      (λ q. ap (λ (xs : File). has_place xs (config q)) cells_are ∙ change_keeps_places f (config off) (config q) cells.now)
-      (subst (λ (xs : File). Each (IsHeaderKept cells.initial) xs) (sym cells_are) header)
+  cell_invariant f off later now is command_is header = grind (arith, config_invariant, changed_config, change_keeps_places)
 
   module _ {n : ℕ} {change inner : File → File} (c : IsBlockChange n change inner) where
     -- no block stands at the register

@@ -6,7 +6,6 @@ use Rattle.std.proofs.lemmas.List.{map-append, length-take, take_more}
 use Rattle.std.proofs.lemmas.Option.{slice_get_within, get_or_from_slice_get, slice_get-get_or}
 use Rattle.lists.specs.Elements.{Each}
 use Rattle.model_registers.specs.EndpointTable.{BaseAddress, IsLawfulBase, base_width}
-use Rattle.model_registers.specs.Windows as model
 use Rattle.model_registers.proofs.Bases.{base_room}
 use Rattle.bars.specs.declared.region.BasedRegion.{BasedRegion}
 use Rattle.bars.specs.Slots.{placed, bases_from}

@@ -175,6 +175,7 @@ impl Bus {
 
     /// The routing registers of all functions as they stand, in path order. It is for an audit: no access
     /// needs them.
+    #[tactic(auto, using(crate::proofs::Changes::same_order, crate::proofs::Nodes::functions_in_order))]
     pub fn routing(&self, alloc: Global) -> Result<Vec<RoutingRow>, AllocError>
         ensures rows { IfOk result (λ v. v.items ≡ routing self.now) }
         ensures in_order { EachPair (λ f g. IsTrue (path_before f.path g.path)) self.now }

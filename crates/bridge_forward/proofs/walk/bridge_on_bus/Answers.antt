@@ -22,12 +22,7 @@ returns-then-at-to-clause-none c = λ bus side.
     c.loop-i-test.true c.if-at-to.true) (omega arith)
 
 pub returns-then-covers-clause-within : goal.returns-then-covers-clause-within
-returns-then-covers-clause-within c =
-    let nodes = c.args.nodes.now in
-    let n = c.index-nodes-i.result in
-    let e = read_at nodes c.loop-i.i n (omega (arith, c.loop-i-test.true, c.requires.range)) c.index-nodes-i.is in
-    let ahead = (c.requires.tree.skips c.loop-i.i n e).ahead in
-    (omega (arith, ahead, c.loop-i.invariant.begun), c.if-at-to.false)
+returns-then-covers-clause-within c = grind (arith, read_at)
 
 pub returns-then-covers-clause-found : goal.returns-then-covers-clause-found
 returns-then-covers-clause-found c = λ bus side.
@@ -44,15 +39,7 @@ returns-then-covers-clause-found c = λ bus side.
     there (omega (arith, ahead, c.loop-i.invariant.begun)) c.if-at-to.false (sym c.covers.ensures ∙ c.if-covers.true)
 
 pub loop-i-smaller : goal.loop-i-smaller
-loop-i-smaller c =
-    let nodes = c.args.nodes.now in
-    let n = c.index-nodes-i.result in
-    let at = n.bridge in
-    let e = read_at nodes c.loop-i.i n (omega (arith, c.loop-i-test.true, c.requires.range)) c.index-nodes-i.is in
-    let ahead = (c.requires.tree.skips c.loop-i.i n e).ahead in
-    let there = read_at nodes at c.index-nodes-at.result (omega (arith, c.if-at-to.false, c.requires.range)) c.index-nodes-at.is in
-    let w = inside nodes c.requires.tree.laid at c.index-nodes-at.result there in
-    omega (arith, w.0, ahead, c.loop-i-test.true)
+loop-i-smaller c = grind (arith, read_at, inside)
 
 pub loop-i-preserved : goal.loop-i-preserved
 loop-i-preserved c =

@@ -1,5 +1,4 @@
-use Rattle.std.proofs.Common.{◌∙◌, sym, Option, ℕ, List, subst}
-use Rattle.bridge_forward.specs.Leading.{LeadsTo, AreRoutes}
+use Rattle.std.proofs.Common.{◌∙◌, sym, arith}
 use Rattle.bridge_forward.proofs.KnownRoutes.{found_some, known_at, routes_more}
 use Rattle.bridge_forward.proofs.walk.bridge_to.Goals as goal
 
@@ -8,8 +7,4 @@ returns-in-Some-clause-found c =
     c.requires.routes c.args.bus c.in-Some.at (known_at c.args.known.now c.args.bus c.in-Some.at (sym c.bridge.ensures ∙ c.in-Some.is))
 
 pub returns-clause-routes : goal.returns-clause-routes
-returns-clause-routes c =
-    let nodes = c.args.nodes.now in
-    let found = c.search_bridge-found.result in
-    subst (λ (ks : List (Option ℕ)). AreRoutes nodes ks) (sym c.keep.ensures)
-    (routes_more nodes c.args.known.now c.args.bus found c.requires.routes (found_some (LeadsTo nodes c.args.bus) found c.search_bridge-found.ensures.found))
+returns-clause-routes c = grind (arith, routes_more, found_some)

@@ -1,4 +1,4 @@
-use Rattle.std.proofs.Common.{◌≡◌, Some, None, arith, sym, ap, ◌∙◌}
+use Rattle.std.proofs.Common.{◌≡◌, Some, arith, sym, ap, ◌∙◌}
 use Rattle.std.specs.Prelude.{option_map}
 use Rattle.model_registers.specs.Decoding.{Hit}
 use Rattle.model_board.specs.State.{BoardFunction}
@@ -24,57 +24,22 @@ returns-in-Some-clause-claim c =
     ∙ sym (claim_here nodes c.requires.laid space c.args.addr c.loop-i.i n h (c.loop-i.invariant c.requires.laid) e hit)
 
 pub returns-in-Some-clause-there : goal.returns-in-Some-clause-there
-returns-in-Some-clause-there c =
-    let nodes = c.args.nodes.now in
-    let n = c.index-nodes-i.result in
-    let e = read_at nodes c.loop-i.i n c.loop-i-test.true c.index-nodes-i.is in
-    nth_is nodes c.loop-i.i n e c.in-Endpoint.endpoint c.in-Endpoint.is
+returns-in-Some-clause-there c = grind (arith, read_at, nth_is)
 
 pub loop-i-smaller-in_default : goal.loop-i-smaller-in_default
-loop-i-smaller-in_default c =
-    let nodes = c.args.nodes.now in
-    let e = read_at nodes c.loop-i.i c.index-nodes-i.result c.loop-i-test.true c.index-nodes-i.is in
-    let w = inside nodes c.requires.laid c.loop-i.i c.index-nodes-i.result e in
-    omega (arith, w.0, w.1, c.loop-i-test.true)
+loop-i-smaller-in_default c = grind (arith, read_at, inside)
 
 pub loop-i-preserved-in_default : goal.loop-i-preserved-in_default
-loop-i-preserved-in_default c = λ laid.
-    let nodes = c.args.nodes.now in
-    let n = c.index-nodes-i.result in
-    let space = named_space c.args.space in
-    let e = read_at nodes c.loop-i.i n c.loop-i-test.true c.index-nodes-i.is in
-    let none : endpoint_hit (function_of n) space c.args.addr ≡ None = hit_of_endpoint nodes laid space c.args.addr n c.in-Endpoint.endpoint c.in-Endpoint.is ∙ sym c.in_default.ensures in
-    passed_over nodes laid space c.args.addr c.loop-i.i n (c.loop-i.invariant laid) e none (endpoint_forwards_nothing nodes laid space c.args.addr n c.in-Endpoint.endpoint c.in-Endpoint.is)
+loop-i-preserved-in_default c = λ laid. grind (arith, read_at, passed_over, hit_of_endpoint, endpoint_forwards_nothing, c.loop-i.invariant laid)
 
 pub loop-i-preserved-then-forwards : goal.loop-i-preserved-then-forwards
-loop-i-preserved-then-forwards c = λ laid.
-    let nodes = c.args.nodes.now in
-    let n = c.index-nodes-i.result in
-    let space = named_space c.args.space in
-    let e = read_at nodes c.loop-i.i n c.loop-i-test.true c.index-nodes-i.is in
-    passed_into nodes laid space c.args.addr c.loop-i.i n (c.loop-i.invariant laid) e
-    (bridge_claims_nothing nodes laid space c.args.addr n c.in-Bridge.bridge c.in-Bridge.is)
-    (bridge_forwards nodes laid space c.args.addr n c.in-Bridge.bridge c.in-Bridge.is ∙ sym c.forwards.ensures ∙ c.if-forwards.true)
+loop-i-preserved-then-forwards c = λ laid. grind (arith, read_at, passed_into, bridge_claims_nothing, bridge_forwards, c.loop-i.invariant laid)
 
 pub loop-i-smaller : goal.loop-i-smaller
-loop-i-smaller c =
-    let nodes = c.args.nodes.now in
-    let e = read_at nodes c.loop-i.i c.index-nodes-i.result c.loop-i-test.true c.index-nodes-i.is in
-    let w = inside nodes c.requires.laid c.loop-i.i c.index-nodes-i.result e in
-    omega (arith, w.0, w.1, c.loop-i-test.true)
+loop-i-smaller c = grind (arith, read_at, inside)
 
 pub loop-i-preserved : goal.loop-i-preserved
-loop-i-preserved c = λ laid.
-    let nodes = c.args.nodes.now in
-    let n = c.index-nodes-i.result in
-    let space = named_space c.args.space in
-    let e = read_at nodes c.loop-i.i n c.loop-i-test.true c.index-nodes-i.is in
-    passed_over nodes laid space c.args.addr c.loop-i.i n (c.loop-i.invariant laid) e
-    (bridge_claims_nothing nodes laid space c.args.addr n c.in-Bridge.bridge c.in-Bridge.is)
-    (bridge_forwards nodes laid space c.args.addr n c.in-Bridge.bridge c.in-Bridge.is ∙ sym c.forwards.ensures ∙ c.if-forwards.false)
+loop-i-preserved c = λ laid. grind (arith, read_at, passed_over, bridge_claims_nothing, bridge_forwards, c.loop-i.invariant laid)
 
 pub returns-clause-claim : goal.returns-clause-claim
-returns-clause-claim c =
-    let nodes = c.args.nodes.now in
-    let space = named_space c.args.space in
-    sym (claim_nowhere nodes c.requires.laid space c.args.addr c.loop-i.i (c.loop-i.invariant c.requires.laid) c.loop-i-test.false)
+returns-clause-claim c = grind (arith, claim_nowhere, c.loop-i.invariant c.requires.laid)

@@ -1,9 +1,8 @@
-use Rattle.std.proofs.Common.{◌≡◌, Ordering, Less, Equal, Greater, ◌+◌, ◌-◌, ◌/◌, arith, ap, sym, ◌∙◌}
+use Rattle.std.proofs.Common.{◌≡◌, Ordering, Less, Equal, Greater, arith, ap, sym, ◌∙◌}
 use Rattle.std.specs.Ordering.{is_eq, is_lt}
 use Rattle.model_board.specs.Paths.{Path, path_eq, path_before}
 use Rattle.paths.specs.PathOrders.{path_cmp}
 use Rattle.paths.specs.PathLaws.{paths_tied, paths_before}
-use Rattle.lists.proofs.Indices.{read_at}
 use Rattle.bridge_forward.proofs.Halving.{here, below_here, above_here, nowhere}
 use Rattle.bridge_forward.proofs.walk.position.Goals as goal
 
@@ -16,30 +15,18 @@ before_by p q r e = sym (paths_before p q) ∙ sym (ap is_lt e)
 
 pub returns-in-Equal-clause-found : goal.returns-in-Equal-clause-found
 returns-in-Equal-clause-found c =
-    let i = c.loop-low.low + (c.loop-low.high - c.loop-low.low) / 2 in
-    let e = read_at c.args.nodes.now i c.index-nodes-middle.result (omega (arith, c.loop-low-test.true, c.loop-low.invariant.within)) c.index-nodes-middle.is in
-    here c.args.nodes.now c.requires.laid c.args.path.now i c.index-nodes-middle.result e (equal_by c.index-nodes-middle.result.path c.args.path.now Equal c.in-Equal.ensures)
+    here c.args.nodes.now c.requires.laid c.args.path.now _ c.index-nodes-middle.result (omega (arith, c.loop-low-test.true, c.loop-low.invariant.within)) c.index-nodes-middle.is
+    (equal_by c.index-nodes-middle.result.path c.args.path.now Equal c.in-Equal.ensures)
 
 pub loop-low-preserved-in-Less : goal.loop-low-preserved-in-Less
 loop-low-preserved-in-Less c =
-    let i = c.loop-low.low + (c.loop-low.high - c.loop-low.low) / 2 in
-    let e = read_at c.args.nodes.now i c.index-nodes-middle.result (omega (arith, c.loop-low-test.true, c.loop-low.invariant.within)) c.index-nodes-middle.is in
-    record {
-      within = c.loop-low.invariant.within;
-      halved = below_here c.args.nodes.now c.requires.laid c.args.path.now i c.index-nodes-middle.result e c.loop-low.low c.loop-low.high c.loop-low.invariant.halved
-          (equal_by c.index-nodes-middle.result.path c.args.path.now Less c.in-Less.ensures) (before_by c.index-nodes-middle.result.path c.args.path.now Less c.in-Less.ensures);
-    }
+    let p = c.index-nodes-middle.result.path in
+    grind (arith, below_here, equal_by p c.args.path.now Less c.in-Less.ensures, before_by p c.args.path.now Less c.in-Less.ensures)
 
 pub loop-low-preserved : goal.loop-low-preserved
 loop-low-preserved c =
-    let i = c.loop-low.low + (c.loop-low.high - c.loop-low.low) / 2 in
-    let e = read_at c.args.nodes.now i c.index-nodes-middle.result (omega (arith, c.loop-low-test.true, c.loop-low.invariant.within)) c.index-nodes-middle.is in
-    record {
-      within = omega (arith, c.loop-low-test.true, c.loop-low.invariant.within);
-      halved = above_here c.args.nodes.now c.requires.laid c.args.path.now i c.index-nodes-middle.result e c.loop-low.low c.loop-low.high c.loop-low.invariant.halved
-          (equal_by c.index-nodes-middle.result.path c.args.path.now Greater c.in-Greater.ensures) (before_by c.index-nodes-middle.result.path c.args.path.now Greater c.in-Greater.ensures);
-    }
+    let p = c.index-nodes-middle.result.path in
+    grind (arith, above_here, equal_by p c.args.path.now Greater c.in-Greater.ensures, before_by p c.args.path.now Greater c.in-Greater.ensures)
 
 pub returns-clause-none : goal.returns-clause-none
-returns-clause-none c =
-    nowhere c.args.nodes.now c.requires.laid c.args.path.now c.loop-low.low c.loop-low.high c.loop-low.invariant.halved (omega (arith, c.loop-low-test.false))
+returns-clause-none c = grind (arith, nowhere)

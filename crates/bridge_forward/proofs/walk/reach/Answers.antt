@@ -1,9 +1,9 @@
-use Rattle.std.proofs.Common.{◌≡◌, ◌+◌, None, sym, subst}
+use Rattle.std.proofs.Common.{subst, arith}
 use Rattle.std.proofs.lemmas.Option.{slice_get_within}
-use Rattle.std.specs.Prelude.{IfSome, IfNone, find}
+use Rattle.std.specs.Prelude.{IfSome, find}
 use Rattle.model_board.specs.Paths.{Path}
 use Rattle.bridge_forward.specs.Layout.{functions_of}
-use Rattle.bridge_forward.specs.Search.{is_named, IsSide, IsAt}
+use Rattle.bridge_forward.specs.Search.{is_named, IsAt}
 use Rattle.lists.proofs.Indices.{read_at}
 use Rattle.bridge_forward.proofs.Nodes.{side_root, side_behind}
 use Rattle.bridge_forward.proofs.Reached.{type1_found, type1_missed}
@@ -19,12 +19,7 @@ pub returns-in_default-clause-none : goal.returns-in_default-clause-none
 returns-in_default-clause-none c = rw c.in_default.is c.part_on_bus.ensures.none
 
 pub part_on_bus-requires-2-clause-side : goal.part_on_bus-requires-2-clause-side
-part_on_bus-requires-2-clause-side c =
-    let nodes = c.args.nodes.now in
-    let n = c.index-nodes-at.result in
-    let led = c.in_ok-at.ensures.found in
-    let e = read_at nodes c.in_ok-at.at n (slice_get_within nodes c.in_ok-at.at led.bridge led.there) c.index-nodes-at.is in
-    subst (λ (b : Path). IsSide nodes b (c.in_ok-at.at + 1) n.end) (sym c.parts.ensures.value) (side_behind nodes c.requires.tree.laid c.in_ok-at.at n e)
+part_on_bus-requires-2-clause-side c = grind (arith, read_at, slice_get_within, side_behind)
 
 pub returns-clause-found : goal.returns-clause-found
 returns-clause-found c =
@@ -39,13 +34,4 @@ returns-clause-found c =
     (subst (λ (b : Path). IfSome r (λ j. IsAt nodes j (find (is_named b y.device y.function) (functions_of nodes)))) c.parts.ensures.value c.part_on_bus-2.ensures.found))
 
 pub returns-clause-none : goal.returns-clause-none
-returns-clause-none c =
-    let nodes = c.args.nodes.now in
-    let y = c.args.cycle.now in
-    let n = c.index-nodes-at.result in
-    let r = c.part_on_bus-2.result in
-    let led = c.in_ok-at.ensures.found in
-    let e = read_at nodes c.in_ok-at.at n (slice_get_within nodes c.in_ok-at.at led.bridge led.there) c.index-nodes-at.is in
-    rw c.in-Type1.is
-    (type1_missed nodes y.device y.function c.in-Type1.bus c.in_ok-at.at n led e r
-    (subst (λ (b : Path). IfNone r (find (is_named b y.device y.function) (functions_of nodes) ≡ None)) c.parts.ensures.value c.part_on_bus-2.ensures.none))
+returns-clause-none c = grind (arith, read_at, slice_get_within, type1_missed)

@@ -1,4 +1,4 @@
-use Rattle.std.proofs.Common.{[], arith, sym, ◌∙◌}
+use Rattle.std.proofs.Common.{arith, sym, ◌∙◌}
 use Rattle.lists.proofs.Tests.{right_true}
 use Rattle.lists.proofs.Indices.{read_at}
 use Rattle.bridge_forward.proofs.Nodes.{side_root, side_behind}
@@ -7,11 +7,7 @@ use Rattle.bridge_forward.proofs.Reached.{no_taker, next, leads_elsewhere, leads
 use Rattle.bridge_forward.proofs.walk.search_bridge.Goals as goal
 
 pub loop-at-init : goal.loop-at-init
-loop-at-init c = record {
-  above = [];
-  side = side_root c.args.nodes.now c.requires.laid;
-  passing = λ laid. passing_root c.args.nodes.now laid c.args.bus;
-}
+loop-at-init c = grind (arith, side_root, passing_root)
 
 pub returns-in_err-at-clause-none : goal.returns-in_err-at-clause-none
 returns-in_err-at-clause-none c =

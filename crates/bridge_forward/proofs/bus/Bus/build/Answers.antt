@@ -1,10 +1,9 @@
-use Rattle.std.proofs.Common.{◌≡◌, ap, subst, sym, ◌∙◌, ◌++◌, take, drop, length, arith}
+use Rattle.std.proofs.Common.{◌≡◌, ap, ◌∙◌, ◌++◌, take, drop, length, arith}
 use Rattle.std.proofs.lemmas.Grind.{common_steps}
 use Rattle.model_board.specs.AtReset.{reset_state}
 use Rattle.model_board.specs.Places.{board_of}
 use Rattle.model_board.proofs.StateRows.{at_reset}
 use Rattle.bridge_forward.specs.Layout.{functions_of}
-use Rattle.bridge_forward.specs.Skips.{IsTree}
 use Rattle.bridge_forward.proofs.KnownRoutes.{routes_unknown}
 use Rattle.bridge_forward.proofs.BoardOrder.{nodes_in_order}
 use Rattle.bridge_forward.proofs.bus.Bus.build.Goals as goal
@@ -20,10 +19,4 @@ returns-clause-at_reset c =
     at_reset (board_of c.args.decls.items) c.requires c.in_ok-nodes.ensures.lawful (functions_of nodes) same
 
 pub invariant_of-result : goal.invariant_of-result
-invariant_of-result c =
-    let nodes = take c.in_ok-nodes.nodes.len (c.lay_out.new.nodes ++ drop (length c.lay_out.new.nodes) c.in_ok-nodes.nodes.items) in
-    let same : nodes ≡ c.lay_out.new.nodes = grind (arith, common_steps) in
-    record {
-      tree = subst IsTree (sym same) c.lay_out.ensures.tree;
-      routes = routes_unknown nodes c.in_ok-known.known c.in_ok-known.ensures;
-    }
+invariant_of-result c = grind (arith, common_steps, routes_unknown)

@@ -1,11 +1,5 @@
-use Rattle.std.proofs.Common.{Some, List, sym, ap, subst, ◌∙◌}
-use Rattle.std.specs.Prelude.{option_map}
-use Rattle.std.specs.Option.{option_map_or}
-use Rattle.std.specs.List.{slice_set}
-use Rattle.model_board.specs.State.{BoardFunction, with_file}
-use Rattle.bridge_forward.specs.declared.function.Function.{Function}
-use Rattle.bridge_forward.specs.Cycled.{reached_by, reply_to, after_access, cycle_reply, after_cycle}
-use Rattle.bridge_forward.specs.Layout.{functions_of}
+use Rattle.std.proofs.Common.{List, sym, subst, arith}
+use Rattle.bridge_forward.specs.Cycled.{reached_by}
 use Rattle.bridge_forward.proofs.Changes.{laid_set, cells_set, found_there, node_there}
 use Rattle.bridge_forward.specs.declared.bus.Node.{Node}
 use Rattle.bridge_forward.specs.Leading.{AreRoutes}
@@ -14,11 +8,7 @@ use Rattle.bridge_forward.proofs.Skipping.{cells_leaf, tree_set}
 use Rattle.bridge_forward.proofs.bus.Bus.cycle.Goals as goal
 
 pub invariant_of-self : goal.invariant_of-self
-invariant_of-self c =
-    record {
-      tree = c.self.invariant.tree;
-      routes = subst (λ (ms : List Node). AreRoutes ms c.reach.new.known) c.deref.ensures.value c.in_err-at.ensures.routes;
-    }
+invariant_of-self c = grind arith
 
 pub invariant_of-self-2 : goal.invariant_of-self-2
 invariant_of-self-2 c =
@@ -40,10 +30,7 @@ returns-clause-reply c =
     let n = c.index_mut-node.result.now in
     let y = c.args.cycle in
     let e = node_there nodes c.deref.result.now c.in_ok-at.at n (λ fs. reached_by fs y) c.deref.ensures.value c.in_ok-at.ensures.found c.index_mut-node.ensures.value in
-    let at = found_there nodes c.deref.result.now c.in_ok-at.at n (λ fs. reached_by fs y) c.deref.ensures.value c.in_ok-at.ensures.found e in
-    ap (λ r. Some r) c.access-reply.ensures.reply
-    ∙ sym (ap (option_map (λ (f : BoardFunction). reply_to y.op y.offset y.enables f.file)) at)
-    ∙ ap (λ fs. cycle_reply fs y) c.self.view_is
+    grind (arith, found_there)
 
 pub returns-clause-after : goal.returns-clause-after
 returns-clause-after c =
@@ -52,7 +39,4 @@ returns-clause-after c =
     let y = c.args.cycle in
     let e = node_there nodes c.deref.result.now c.in_ok-at.at n (λ fs. reached_by fs y) c.deref.ensures.value c.in_ok-at.ensures.found c.index_mut-node.ensures.value in
     let at = found_there nodes c.deref.result.now c.in_ok-at.at n (λ fs. reached_by fs y) c.deref.ensures.value c.in_ok-at.ensures.found e in
-    ap (λ (f : Function). functions_of (slice_set nodes c.in_ok-at.at (record n { function = f }))) c.access-reply.ensures.after
-    ∙ cells_set nodes c.self.invariant.tree.laid c.in_ok-at.at n e (after_access y.op y.offset y.enables)
-    ∙ sym (ap (λ o. option_map_or (λ (f : BoardFunction). with_file (after_access y.op y.offset y.enables) f.path (functions_of nodes)) o (functions_of nodes)) at)
-    ∙ ap (λ fs. after_cycle fs y) c.self.view_is
+    grind (arith, cells_set)

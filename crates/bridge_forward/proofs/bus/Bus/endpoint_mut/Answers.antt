@@ -1,11 +1,9 @@
-use Rattle.std.proofs.Common.{refl, ◌≡◌, false, List, None, ap, arith, inr, ◌∙◌, sym}
+use Rattle.std.proofs.Common.{refl, ◌≡◌, false, ap, arith, inr, ◌∙◌, sym}
 use Rattle.std.proofs.lemmas.Option.{slice_get_within}
-use Rattle.std.specs.Option.{option_map_or}
 use Rattle.std.specs.Prelude.{find}
 use Rattle.model_board.specs.Paths.{path_eq}
 use Rattle.bridge_forward.specs.declared.bus.Node.{Node}
-use Rattle.bridge_forward.specs.Layout.{functions_of}
-use Rattle.bridge_forward.specs.Lending.{as_endpoint, endpoint_at, with_endpoint}
+use Rattle.bridge_forward.specs.Lending.{endpoint_at, with_endpoint}
 use Rattle.bridge_forward.proofs.Nodes.{functions_in_order}
 use Rattle.bridge_forward.proofs.Changes.{endpoint_set, endpoint_there, found_there, kept, node_there, same_read, same_order}
 use Rattle.model_board.specs.Board.{is_bridge}
@@ -15,23 +13,10 @@ use Rattle.bridge_forward.specs.declared.function.Function.TheVariants.{Endpoint
 use Rattle.bridge_forward.proofs.bus.Bus.endpoint_mut.Goals as goal
 
 pub returns-in_err-at : goal.returns-in_err-at
-returns-in_err-at c =
-    let nodes = c.self.inside.nodes.items in
-    let none = ap (λ (ns : List Node). find (λ f. path_eq f.path c.args.path.now) (functions_of ns)) (sym c.deref.ensures.value) ∙ c.in_err-at.ensures.none in
-    rw c.from_residual.ensures (
-      ap (λ fs. inr fs) c.self.view_is,
-      record {
-        lends = tt;
-        value = sym (ap (λ o. option_map_or as_endpoint o None) none) ∙ ap (λ fs. endpoint_at fs c.args.path.now) c.self.view_is;
-        in_order = same_order c.self.view_is (functions_in_order nodes c.self.invariant.tree.laid);
-      },
-    )
+returns-in_err-at c = grind (arith, same_order, functions_in_order)
 
 pub index_mut-node-requires : goal.index_mut-node-requires
-index_mut-node-requires c =
-    let at = c.in_ok-at.ensures.found in
-    let within = slice_get_within c.deref.result.now c.in_ok-at.at at.node at.there in
-    omega (arith, within, c.deref.ensures.len)
+index_mut-node-requires c = grind (arith, slice_get_within)
 
 pub invariant_of-self-lent : goal.invariant_of-self-lent
 invariant_of-self-lent c =

@@ -1,11 +1,7 @@
-use Rattle.std.proofs.Common.{refl, ◌≡◌, false, None, Option, ap, arith, inr, ◌∙◌, sym}
-use Rattle.std.specs.List.{slice_get}
-use Rattle.std.specs.Option.{option_map_or}
+use Rattle.std.proofs.Common.{refl, ◌≡◌, false, ap, arith, inr, ◌∙◌, sym}
 use Rattle.std.proofs.lemmas.List.{length-map}
 use Rattle.std.proofs.lemmas.Option.{slice_get_past}
-use Rattle.model_board.specs.State.{BoardFunction}
-use Rattle.bridge_forward.specs.Layout.{function_of, functions_of}
-use Rattle.bridge_forward.specs.Lending.{as_endpoint, endpoint_nth, with_endpoint_nth}
+use Rattle.bridge_forward.specs.Lending.{endpoint_nth}
 use Rattle.lists.proofs.Indices.{read_at}
 use Rattle.bridge_forward.proofs.Nodes.{functions_in_order}
 use Rattle.bridge_forward.proofs.Changes.{kept, same_read, same_order, nth_set, nth_there}
@@ -17,17 +13,7 @@ use Rattle.bridge_forward.specs.declared.function.Function.TheVariants.{Endpoint
 use Rattle.bridge_forward.proofs.bus.Bus.endpoint_nth.Goals as goal
 
 pub returns-then-index-len : goal.returns-then-index-len
-returns-then-index-len c =
-    let nodes = c.self.inside.nodes.items in
-    let none : slice_get (functions_of nodes) c.args.index ≡ None =
-    slice_get_past (functions_of nodes) c.args.index (rw (length-map nodes function_of) (omega (arith, c.if-index-len.true, c.len.ensures))) in (
-      ap (λ fs. inr fs) c.self.view_is,
-      record {
-        lends = tt;
-        value = sym (ap (λ (o : Option BoardFunction). option_map_or as_endpoint o None) none) ∙ ap (λ fs. endpoint_nth fs c.args.index) c.self.view_is;
-        in_order = same_order c.self.view_is (functions_in_order nodes c.self.invariant.tree.laid);
-      },
-    )
+returns-then-index-len c = grind (arith, slice_get_past, length-map, same_order, functions_in_order)
 
 pub invariant_of-self-lent : goal.invariant_of-self-lent
 invariant_of-self-lent c =
@@ -53,17 +39,4 @@ returns-then-is_bridge c =
     )
 
 pub returns : goal.returns
-returns c =
-    let nodes = c.self.inside.nodes.items in
-    let n = c.index_mut-node.result.now in
-    let i = c.args.index in
-    let e = read_at nodes i n (omega (arith, c.if-index-len.false, c.len.ensures)) c.index_mut-node.ensures.value in (
-      same_read _ _ _ _ _
-          (λ w. nth_set nodes i n e w ∙ ap (with_endpoint_nth i w) c.self.view_is)
-          (kept nodes c.self.invariant.tree.laid i n e ∙ c.self.view_is),
-      record {
-        lends = tt;
-        value = c.endpoint_mut.ensures.value ∙ nth_there nodes i n e ∙ ap (λ fs. endpoint_nth fs i) c.self.view_is;
-        in_order = same_order c.self.view_is (functions_in_order nodes c.self.invariant.tree.laid);
-      },
-    )
+returns c = grind (arith, read_at, same_read, nth_set, kept, nth_there, same_order, functions_in_order)

@@ -1,4 +1,4 @@
-use Rattle.std.proofs.Common.{ap, ◌∙◌}
+use Rattle.std.proofs.Common.{ap, ◌∙◌, arith}
 use Rattle.model_registers.specs.Registers.{File}
 use Rattle.model_registers.specs.Declarations.{Endpoint}
 use Rattle.config_bytes.specs.CellFile.{CellFile}
@@ -7,11 +7,7 @@ use Rattle.bridge_forward.proofs.ResetKept.{know_new}
 use Rattle.bridge_forward.proofs.endpoint.EndpointFn.new.Goals as goal
 
 pub new-bars-requires : goal.new-bars-requires
-new-bars-requires c =
-    let d = c.args.decl in
-    let lawful = c.values.ensures.lawful in
-    let same = c.deref.ensures.value ∙ ap (λ (x : Endpoint). x.regions) (c.behind-decl.view_is ∙ c.values.ensures.values) in
-    opens_lawful d lawful _ (bars_declared d lawful c.deref.result.now same c.bar_decls.result c.bar_decls.ensures)
+new-bars-requires c = grind (arith, opens_lawful, bars_declared)
 
 pub invariant_of-result : goal.invariant_of-result
 invariant_of-result c =

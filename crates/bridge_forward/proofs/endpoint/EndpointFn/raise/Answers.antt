@@ -1,10 +1,8 @@
-use Rattle.std.proofs.Common.{◌++◌, ap, sym, ◌∙◌}
+use Rattle.std.proofs.Common.{ap, sym, ◌∙◌, arith}
 use Rattle.model_registers.specs.Cell.{raised}
-use Rattle.model_registers.specs.Registers.{Place, File, config, block, raise}
+use Rattle.model_registers.specs.Registers.{Place, config, block, raise}
 use Rattle.model_registers.specs.Decoding.{Function}
-use Rattle.config_bytes.specs.CellFile.{CellFile}
 use Rattle.headers.specs.Places.{place_of}
-use Rattle.bridge_forward.specs.EndpointParts.{region_parts, block_at}
 use Rattle.bridge_forward.proofs.EndpointAccess.{change_in_block, raise_config}
 use Rattle.bridge_forward.proofs.ResetKept.{header_changed, constant_raised, cell_invariant, short_there, block_invariant, block_shown, nothing_shown}
 use Rattle.bridge_forward.proofs.endpoint.EndpointFn.raise.Goals as goal
@@ -15,12 +13,7 @@ invariant_of-self c =
     (header_changed (raised c.args.mask) (constant_raised c.args.mask) c.self.inside.config.initial (config c.args.off) c.self.inside.config.now c.self.invariant.reset.header)
 
 pub returns-in-Cfg : goal.returns-in-Cfg
-returns-in-Cfg c =
-    let e = c.self.inside in
-    ap (λ (xs : File). record { decl = e.decl; file = xs ++ region_parts e.bars (block_at e.blocks.items) }) (ap (λ (f : CellFile). f.now) c.raise.ensures)
-    ∙ sym (ap (λ (xs : File). record { decl = e.decl; file = xs }) (raise_config e.decl e.config.now e.bars (block_at e.blocks.items) c.self.invariant.parts c.args.off c.args.mask))
-    ∙ ap (λ (f : Function). record f { file = raise c.args.mask (config c.args.off) f.file }) c.self.view_is
-    ∙ ap (λ p. record c.args.self.now { file = raise c.args.mask (place_of p c.args.off) c.args.self.now.file }) (sym c.in-Cfg.is)
+returns-in-Cfg c = grind (arith, raise_config)
 
 pub raise-requires-in-Some : goal.raise-requires-in-Some
 raise-requires-in-Some c = short_there c.self.invariant c.from.result c.in-Some.block.now c.in-Some.ensures.item.0 c.in-Some.ensures.item.1

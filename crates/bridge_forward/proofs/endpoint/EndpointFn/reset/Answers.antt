@@ -9,9 +9,7 @@ use Rattle.bridge_forward.proofs.ResetCells.{file_back, parts_back, know_back}
 use Rattle.bridge_forward.proofs.endpoint.EndpointFn.reset.Goals as goal
 
 went_back : (c : goal.After-self-2-1) → take c.self.inside.blocks.len (c.reset_all.new.blocks ++ drop (length c.reset_all.new.blocks) c.self.inside.blocks.items) ≡ blocks_after c.self.inside.blocks.items
-went_back c =
-    let whole : take c.self.inside.blocks.len (c.reset_all.new.blocks ++ drop (length c.reset_all.new.blocks) c.self.inside.blocks.items) ≡ c.reset_all.new.blocks = grind (arith, common_steps) in
-    whole ∙ c.reset_all.ensures ∙ ap blocks_after c.deref_mut.ensures.value
+went_back c = grind (arith, common_steps)
 
 pub invariant_of-self : goal.invariant_of-self
 invariant_of-self c =

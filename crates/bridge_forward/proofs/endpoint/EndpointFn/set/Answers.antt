@@ -1,10 +1,8 @@
-use Rattle.std.proofs.Common.{◌≡◌, true, ◌%◌, ◌++◌, ap, sym, ◌∙◌, subst}
+use Rattle.std.proofs.Common.{◌≡◌, true, ◌%◌, ap, sym, ◌∙◌, subst, arith}
 use Rattle.model_registers.specs.DeviceBytes.{is_device_byte, with_value, set_value}
-use Rattle.model_registers.specs.Registers.{Place, File, config, block}
+use Rattle.model_registers.specs.Registers.{Place, block}
 use Rattle.model_registers.specs.Decoding.{Function}
-use Rattle.config_bytes.specs.CellFile.{CellFile}
 use Rattle.headers.specs.Places.{place_of}
-use Rattle.bridge_forward.specs.EndpointParts.{region_parts, block_at}
 use Rattle.bridge_forward.proofs.EndpointAccess.{change_in_block, set_config, header_set}
 use Rattle.bridge_forward.proofs.ResetKept.{cell_invariant, short_there, block_invariant, block_shown, nothing_shown}
 use Rattle.bridge_forward.proofs.endpoint.EndpointFn.set.Goals as goal
@@ -15,12 +13,7 @@ invariant_of-self c =
     (header_set (with_value (c.args.value % 256)) c.self.inside.config.initial c.args.off (subst (λ p. is_device_byte (place_of p c.args.off) ≡ true) c.in-Cfg.is c.requires) c.self.inside.config.now c.self.invariant.reset.header)
 
 pub returns-in-Cfg : goal.returns-in-Cfg
-returns-in-Cfg c =
-    let e = c.self.inside in
-    ap (λ (xs : File). record { decl = e.decl; file = xs ++ region_parts e.bars (block_at e.blocks.items) }) (ap (λ (f : CellFile). f.now) c.set.ensures)
-    ∙ sym (ap (λ (xs : File). record { decl = e.decl; file = xs }) (set_config e.decl e.config.now e.bars (block_at e.blocks.items) c.self.invariant.parts c.args.off c.args.value (subst (λ p. is_device_byte (place_of p c.args.off) ≡ true) c.in-Cfg.is c.requires)))
-    ∙ ap (λ (f : Function). record f { file = set_value c.args.value (config c.args.off) f.file }) c.self.view_is
-    ∙ ap (λ p. record c.args.self.now { file = set_value c.args.value (place_of p c.args.off) c.args.self.now.file }) (sym c.in-Cfg.is)
+returns-in-Cfg c = grind (arith, set_config)
 
 pub set-requires-in-Some : goal.set-requires-in-Some
 set-requires-in-Some c = short_there c.self.invariant c.from.result c.in-Some.block.now c.in-Some.ensures.item.0 c.in-Some.ensures.item.1
