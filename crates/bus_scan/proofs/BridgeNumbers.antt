@@ -1,13 +1,13 @@
 -- Bus numbers are written into a bridge's registers.
-use Rattle.std.proofs.Common.{◌≡◌, ℕ, ◌+◌, ◌-◌, ◌*◌, ◌/◌, ◌%◌, ◌<◌, Bool, ◌++◌, refl, ap, ap₂, ◌∙◌, arith}
+use Rattle.std.proofs.Common.{◌≡◌, ℕ, ◌+◌, ◌-◌, ◌*◌, ◌%◌, ◌<◌, Bool, ◌++◌, ap, ap₂, ◌∙◌, arith}
 use Rattle.std.specs.Prelude.{bit_and, bit_or}
 use Rattle.std.specs.Int.Bits.{and_zero_r, and_zero_l, or_zero_l, or_zero_r}
 use Rattle.std.proofs.lemmas.Nat.{and_mask}
 use Rattle.model_registers.specs.Cell.{Cell, written}
 use Rattle.model_registers.specs.Registers.{config, File, write}
 use Rattle.model_registers.specs.ByteEnables.{lanes}
-use Rattle.model_registers.specs.Declarations.{IoDecode, no_io, io16, io32, PrefDecode, no_pref, pref32, pref64, Bridge}
-use Rattle.model_registers.specs.BridgeTable.{no_window, bridge_header, io_cells, mem_cells, pref_cells, bridge_file}
+use Rattle.model_registers.specs.Declarations.{IoDecode, PrefDecode, Bridge}
+use Rattle.model_registers.specs.BridgeTable.{no_window, io_cells, mem_cells, pref_cells, bridge_file}
 use Rattle.model_registers.proofs.Files.{joined_write}
 use Rattle.model_set_up.specs.Scanning.{BusNumbers, with_numbers}
 
@@ -35,19 +35,11 @@ pub record FitBytes (n : BusNumbers) : Type 0 where
   pub secondary : n.secondary < 256
   pub subordinate : n.subordinate < 256
 
-header_written : (d : Bridge) (multifunction : Bool) (n : BusNumbers) (v : ℕ) (m : BusNumbers) → v % 256 ≡ m.primary % 256 → v / 256 % 256 ≡ m.secondary % 256 → v / 256 / 256 % 256 ≡ m.subordinate % 256
-    → write (lanes 7) v (config 0x18) (bridge_header d multifunction (with_numbers n)) ≡ bridge_header d multifunction (with_numbers m)
-header_written d multifunction n v m e f g = grind (arith, byte_set)
-
 io_stays : (io : IoDecode) (v : ℕ) → write (lanes 7) v (config 0x18) (io_cells io no_window) ≡ io_cells io no_window
-io_stays no_io v = refl
-io_stays io16 v = refl
-io_stays io32 v = refl
+io_stays io v = grind arith
 
 pref_stays : (pref : PrefDecode) (v : ℕ) → write (lanes 7) v (config 0x18) (pref_cells pref no_window) ≡ pref_cells pref no_window
-pref_stays no_pref v = refl
-pref_stays pref32 v = refl
-pref_stays pref64 v = refl
+pref_stays pref v = grind arith
 
 windows_stay : (d : Bridge) (v : ℕ) → write (lanes 7) v (config 0x18) (mem_cells no_window ++ io_cells d.io no_window ++ pref_cells d.pref no_window) ≡ mem_cells no_window ++ io_cells d.io no_window ++ pref_cells d.pref no_window
 windows_stay d v =
@@ -56,10 +48,4 @@ windows_stay d v =
 
 pub bridge_written : (d : Bridge) (multifunction : Bool) (n m : BusNumbers) → FitBytes m
     → write (lanes 7) (numbers_word m) (config 0x18) (bridge_file d multifunction (with_numbers n)) ≡ bridge_file d multifunction (with_numbers m)
-bridge_written d multifunction n m fits =
-    let v = numbers_word m in
-    let l = fits.primary in
-    let k = fits.secondary in
-    let j = fits.subordinate in
-    joined_write (lanes 7) v (config 0x18) (bridge_header d multifunction (with_numbers n)) (mem_cells no_window ++ io_cells d.io no_window ++ pref_cells d.pref no_window)
-    ∙ ap₂ ◌++◌ (header_written d multifunction n v m (omega arith) (omega arith) (omega arith)) (windows_stay d v)
+bridge_written d multifunction n m fits = grind (arith, joined_write, windows_stay, byte_set)

@@ -19,12 +19,7 @@ same_board b s (numbers, e) = ap (λ (t : State). board_at t.functions) e ∙ st
 pub numbered_board : (b : Board) (s : State) → IsBoard b → HasLawfulDecls b → Enumerates b → s ≡ numbered_state b → IsNumbered s
 numbered_board b s board lawful few e =
     let same : board_at s.functions ≡ b = same_board b s (board_numbers b, e) in
-    record {
-      board = subst IsBoard (sym same) board;
-      declarations = subst HasLawfulDecls (sym same) lawful;
-      few = subst Enumerates (sym same) few;
-      registers = e ∙ ap numbered_state (sym same);
-    }
+    grind arith
 
 -- the table of a numbered board
 pub table_of : (s : State) → IsNumbered s → (t : List TableRow) → t ≡ sized_table (board_at s.functions) → IsTableOf (board_at s.functions) t

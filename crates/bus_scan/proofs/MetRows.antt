@@ -1,4 +1,5 @@
 -- The rows of the functions that a scan has met.
+use Rattle.model_board.proofs.PlacesLaw.{before_apart}
 use Rattle.std.proofs.Common.{◌≡◌, ℕ, ◌+◌, inr, Bool, true, false, cond, List, [], ◌∷◌, ◌++◌, length, map, refl, sym, ap, ap₂, ◌∙◌, subst, arith}
 use Rattle.std.specs.Prelude.{IsTrue, count_by}
 use Rattle.std.proofs.lemmas.List.{map-append, length-map}
@@ -7,35 +8,27 @@ use Rattle.std.proofs.Math.ListN.{set}
 use Rattle.std.proofs.Math.Seq.{set-append_seam}
 use Rattle.lists.specs.Elements.{Each, EachPair, IsIn}
 use Rattle.model_board.specs.Paths.{Path, path_eq, path_before}
-use Rattle.model_board.specs.Board.{Decl, endpoint, bridge, Board, Row, is_bridge, is_bridge_at, IsBoard}
-use Rattle.model_board.specs.BusNumbers.{bus_of}
-use Rattle.model_set_up.specs.FunctionTable.{TableRow, met_decl}
+use Rattle.model_board.specs.Board.{Board, Row, is_bridge, is_bridge_at, IsBoard}
+use Rattle.model_set_up.specs.FunctionTable.{TableRow}
 use Rattle.model_set_up.specs.ScanOrder.{met}
 use Rattle.lists.proofs.Members.{each_in, from_filter, none_pass, in_back}
 use Rattle.lists.proofs.EachLemmas.{pairs_filter, pairs_after}
-use Rattle.model_board.proofs.PathOrder.{one, path_same}
-use Rattle.model_board.proofs.PathEnds.{not_before_itself, path_eq-sym}
+use Rattle.model_board.proofs.PathOrder.{one}
+use Rattle.model_board.proofs.PathEnds.{path_eq-sym}
 use Rattle.model_set_up.proofs.Scanning.{goes_before}
-use Rattle.bus_scan.specs.Scans.{met_row, range_of_numbers, StandsAt}
+use Rattle.bus_scan.specs.Scans.{met_row, StandsAt}
 use Rattle.bus_scan.proofs.States.{Numbers, map_same, bridge_there}
 
 -- ---- counts
 
 pub count_more : (p : Row → Bool) (xs : Board) (x : Row) → count_by p (xs ++ x ∷ []) ≡ count_by p xs + one (p x)
-count_more p [] x = sum_by-cons (λ (s : Row). one (p s)) x [] ∙ swapped (one (p x))
-  where
-    swapped : (n : ℕ) → n + 0 ≡ 0 + n
-    swapped n = omega arith
+count_more p [] x = omega (arith, sum_by-cons (λ (s : Row). one (p s)) x [])
 count_more p (y ∷ xs) x = omega (arith, sum_by-cons (λ (s : Row). one (p s)) y (xs ++ x ∷ []), sum_by-cons (λ (s : Row). one (p s)) y xs, count_more p xs x)
 
 -- ---- rows
 
 pub row_same : (b : Board) (n m : Numbers) (r : Row) → (is_bridge r.decl ≡ true → n r.path ≡ m r.path) → met_row b n r ≡ met_row b m r
-row_same b n m r h = by_decl r.decl refl
-  where
-    by_decl : (d : Decl) → r.decl ≡ d → met_row b n (record r { decl = d }) ≡ met_row b m (record r { decl = d })
-    by_decl (endpoint d) e = refl
-    by_decl (bridge d) e = ap (λ x. let row : TableRow = record { path = r.path; bus = bus_of b r.path; behind = range_of_numbers x (bridge d); decl = met_decl (bridge d) } in row) (h (ap is_bridge e))
+row_same b n m r h = grind arith
 
 -- only the numbers of bridges that were met count
 pub rows_same : (b : Board) (here : Path) (n m : Numbers) → ((r : Row) → IsIn r b → path_before r.path here ≡ true → is_bridge r.decl ≡ true → n r.path ≡ m r.path) → map (met_row b n) (met b here) ≡ map (met_row b m) (met b here)
@@ -58,18 +51,11 @@ module _ (b : Board) where
   grows_from [] h here there before = ([], refl)
   grows_from (r ∷ bs) h here there before = by_test (path_before r.path here) refl (grows_from bs h.1 here there before)
     where
-      longer : (rest : Board) × (met bs there ≡ met bs here ++ rest) → (rest : Board) × (r ∷ met bs there ≡ r ∷ met bs here ++ rest)
-      longer (rest, e) = (rest, ap (λ (xs : Board). r ∷ xs) e)
-
       none_later : path_before r.path here ≡ false → met bs here ≡ []
-      none_later e = none_pass (λ (s : Row). path_before s.path here) bs (λ s k. by_before s k (path_before s.path here) refl)
-        where
-          by_before : (s : Row) → IsIn s bs → (t : Bool) → path_before s.path here ≡ t → t ≡ false
-          by_before s k false f = refl
-          by_before s k true f = let bad : true ≡ false = sym (goes_before r.path s.path here (each_in (λ (s : Row). IsTrue (path_before r.path s.path)) s bs h.0 k) f) ∙ e in cc
+      none_later e = grind (arith, none_pass, goes_before, each_in)
 
       by_test : (t : Bool) → path_before r.path here ≡ t → (rest : Board) × (met bs there ≡ met bs here ++ rest) → (rest : Board) × (met (r ∷ bs) there ≡ cond t (r ∷ met bs here) (met bs here) ++ rest)
-      by_test true e more = let after : path_before r.path there ≡ true = goes_before r.path here there e before in let l = longer more in (l.0, rw after l.1)
+      by_test true e more = grind (arith, goes_before)
       by_test false e more = let none : met bs here ≡ [] = none_later e in (met (r ∷ bs) there, rw none refl)
 
 pub met_grows : (b : Board) → IsBoard b → (here there : Path) → path_before here there ≡ true → (rest : Board) × (met b there ≡ met b here ++ rest)
@@ -81,27 +67,18 @@ pub row_filled : (b : Board) → IsBoard b → (p there : Path) (r : Row) → St
 row_filled b lawful p there r is rest splits n m h =
     ap₂ (λ (xs : List TableRow) (i : ℕ). set xs i (met_row b m r)) (ap (map (met_row b n)) splits ∙ map-append (met_row b n) (met b p) (r ∷ rest)) (sym (length-map (met b p) (met_row b n)))
     ∙ set-append_seam (map (met_row b n) (met b p)) (met_row b n r) (map (met_row b n) rest) (met_row b m r)
-    ∙ ap₂ (λ (xs ys : List TableRow). xs ++ met_row b m r ∷ ys) (rows_same b p n m (λ s k before is. h s.path (not_before s before) (bridge_there b s k is))) later_same
+    ∙ ap₂ (λ (xs ys : List TableRow). xs ++ met_row b m r ∷ ys) (rows_same b p n m (λ s k before is. h s.path (before_apart s.path p before) (bridge_there b s k is))) later_same
     ∙ sym (map-append (met_row b m) (met b p) (r ∷ rest))
     ∙ sym (ap (map (met_row b m)) splits)
   where
     in_there : (s : Row) → IsIn s rest → IsIn s b
     in_there s k = (from_filter (λ (s : Row). path_before s.path there) s b (subst (λ (xs : Board). IsIn s xs) (sym splits) (in_back s (met b p) (r ∷ rest) (inr k)))).0
 
-    not_same : (x y : Path) → path_before x y ≡ true → (t : Bool) → path_eq x y ≡ t → t ≡ false
-    not_same x y before false e = refl
-    not_same x y before true e = absurd (not_before_itself x (ap (path_before x) (path_same x y e) ∙ before))
-
-    not_before : (s : Row) → path_before s.path p ≡ true → path_eq s.path p ≡ false
-    not_before s before = not_same s.path p before (path_eq s.path p) refl
-
     later : Each (λ (s : Row). IsTrue (path_before r.path s.path)) rest
     later = pairs_after (λ (x y : Row). IsTrue (path_before x.path y.path)) (met b p) r rest (subst (λ (xs : Board). EachPair (λ (x y : Row). IsTrue (path_before x.path y.path)) xs) splits (pairs_filter (λ (x y : Row). IsTrue (path_before x.path y.path)) (λ (s : Row). path_before s.path there) b lawful.in_order))
 
     not_after : (s : Row) → IsIn s rest → path_eq s.path p ≡ false
-    not_after s k =
-        let before : path_before p s.path ≡ true = subst (λ (x : Path). path_before x s.path ≡ true) is.path (each_in (λ (s : Row). IsTrue (path_before r.path s.path)) s rest later k) in
-        path_eq-sym s.path p ∙ not_same p s.path before (path_eq p s.path) refl
+    not_after s k = grind (arith, each_in, later, path_eq-sym, before_apart)
 
     later_same : map (met_row b n) rest ≡ map (met_row b m) rest
     later_same = map_same (met_row b n) (met_row b m) rest (λ s k. row_same b n m s (λ is. h s.path (not_after s k) (bridge_there b s (in_there s k) is)))

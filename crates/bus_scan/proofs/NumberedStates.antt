@@ -1,10 +1,10 @@
 -- A numbered board: each function holds what its declaration says, and the bridges hold the board's numbers.
-use Rattle.std.proofs.Common.{◌≡◌, ◌+◌, ◌<◌, ◌≤◌, inl, inr, Bool, true, false, ◌&&◌, List, [], ◌∷◌, map, Some, refl, sym, ap, ◌∙◌, subst, arith}
+use Rattle.std.proofs.Common.{◌≡◌, ◌+◌, ◌<◌, ◌≤◌, inl, inr, Bool, true, ◌&&◌, List, [], ◌∷◌, map, Some, refl, sym, ap, ◌∙◌, subst, arith}
 use Rattle.std.specs.Prelude.{count_by, IsTrue}
 use Rattle.std.proofs.lemmas.List.Sums.{sum_by-cons}
 use Rattle.lists.specs.Elements.{Each, EachPair, IsIn}
 use Rattle.model_board.specs.Paths.{Path, path_eq, path_before, leads_to}
-use Rattle.model_board.specs.Board.{Board, Row, Decl, endpoint, bridge, is_bridge, is_bridge_at, IsBoard}
+use Rattle.model_board.specs.Board.{Board, Row, Decl, is_bridge, is_bridge_at, IsBoard}
 use Rattle.model_board.specs.BusNumbers.{secondary, subordinate, bus_of}
 use Rattle.model_board.specs.State.{BoardFunction, State, row_at}
 use Rattle.model_board.specs.Cycles.{BusAddress, reached, secondary_register, subordinate_register}
@@ -22,8 +22,7 @@ use Rattle.model_set_up.proofs.Scanning.{numbers_read, bus_not_more}
 -- ---- numbers of a board fit
 
 whole_one : (t : Bool) → one (t && true) ≡ one t
-whole_one true = refl
-whole_one false = refl
+whole_one t = grind arith
 
 all_bridges : (b : Board) → bridges (λ x. true) b ≡ count_by (λ r. is_bridge r.decl) b
 all_bridges [] = refl
@@ -53,8 +52,7 @@ module _ (s : State) (h : IsNumbered s) where
   holds = subst (λ fs. Each HoldsNumbered fs) (sym (ap (λ (s : State). s.functions) h.registers)) (each_holds board)
 
   number_of : (f : BoardFunction) → IsIn f s.functions → (d : Decl) → f.decl ≡ d → is_bridge d ≡ true → numbers_in f.file ≡ board_numbers board f.path
-  number_of f m (endpoint d) e k = cc
-  number_of f m (bridge d) e k = grind (arith, bridge_of, each_in, holds, numbers_read, numbers_fit)
+  number_of f m d e k = grind (arith, bridge_of, each_in, holds, numbers_read, numbers_fit)
 
   pub has_numbers : HasNumbers (board_at s.functions) s.functions
   has_numbers = record {

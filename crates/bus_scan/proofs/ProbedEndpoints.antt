@@ -1,8 +1,9 @@
 -- What the base address registers of an endpoint at reset read after all ones.
 --     mask_at      what the register at an index reads
-use Rattle.std.proofs.Common.{◌≡◌, ℕ, ◌+◌, ◌-◌, ◌*◌, ◌/◌, ◌%◌, ◌^◌, ◌<◌, ◌≤◌, ◌⊎◌, inl, inr, Bool, false, ◌&&◌, cond, List, [], ◌∷◌, refl, sym, ◌∙◌, subst, arith, eqb}
+use Rattle.std.proofs.lemmas.Bool.Decides.{nat_tests}
+use Rattle.std.proofs.Common.{◌≡◌, ℕ, ◌+◌, ◌-◌, ◌*◌, ◌/◌, ◌%◌, ◌^◌, ◌<◌, ◌≤◌, ◌⊎◌, inl, Bool, false, ◌&&◌, cond, List, [], ◌∷◌, refl, sym, subst, arith, eqb}
 use Rattle.std.specs.Prelude.{flat_map}
-use Rattle.std.proofs.lemmas.Bool.{cases_eq, cases_lt, ne_eqb, cond-true, cond-false, eq-eqb, and_from, and_left, and_right}
+use Rattle.std.proofs.lemmas.Bool.{cases_eq}
 use Rattle.lists.specs.Elements.{Each, EachPair}
 use Rattle.model_registers.specs.Cell.{Cell}
 use Rattle.model_registers.specs.Registers.{config, block, cells_from}
@@ -39,30 +40,19 @@ pub data Side (n : ℕ) (r : Region) : Type 0 where
   elsewhere : (n ≡ r.index → ⊥) → (registers_of r.kind ≡ 2 → n ≡ r.index + 1 → ⊥) → Side n r
 
 pub side : (n : ℕ) (r : Region) → Side n r
-side n r = elim (cases_eq n r.index) [
-  | inl e ↦ at_low e
-  | inr other ↦ elim (one_or_two r.kind) [
-    | inl one ↦ elsewhere other (λ two. absurd (omega arith))
-    | inr two ↦ elim (cases_eq n (r.index + 1)) [ inl e ↦ at_high e two | inr m ↦ elsewhere other (λ t. m) ]
-  ]
-]
+side n r = grind (arith, cases_eq, one_or_two)
 
 pub mask_low : (n : ℕ) (r : Region) (rs : List Region) → n ≡ r.index → mask_at n (r ∷ rs) ≡ mask_of (bar_of r) % 2 ^ 32
-mask_low n r rs e = cond-true (eqb n r.index) _ _ (eq-eqb n r.index e)
+mask_low n r rs e = grind (arith, nat_tests)
 
 pub mask_high : (n : ℕ) (r : Region) (rs : List Region) → n ≡ r.index + 1 → registers_of r.kind ≡ 2 → mask_at n (r ∷ rs) ≡ mask_of (bar_of r) / 2 ^ 32
-mask_high n r rs e two =
-    cond-false (eqb n r.index) _ _ (ne_eqb n r.index (λ same. omega arith))
-    ∙ cond-true (eqb (registers_of r.kind) 2 && eqb n (r.index + 1)) _ _ (and_from _ _ (eq-eqb (registers_of r.kind) 2 two) (eq-eqb n (r.index + 1) e))
+mask_high n r rs e two = grind (arith, nat_tests)
 
 pub not_wide : (n : ℕ) (r : Region) → (registers_of r.kind ≡ 2 → n ≡ r.index + 1 → ⊥) → (eqb (registers_of r.kind) 2 && eqb n (r.index + 1)) ≡ false
-not_wide n r m = elim (one_or_two r.kind) [
-  | inl one ↦ and_left _ _ (ne_eqb (registers_of r.kind) 2 (λ two. omega arith))
-  | inr two ↦ and_right _ _ (ne_eqb n (r.index + 1) (m two))
-]
+not_wide n r m = grind (arith, nat_tests)
 
 pub mask_apart : (n : ℕ) (r : Region) (rs : List Region) → (n ≡ r.index → ⊥) → (registers_of r.kind ≡ 2 → n ≡ r.index + 1 → ⊥) → mask_at n (r ∷ rs) ≡ mask_at n rs
-mask_apart n r rs other m = cond-false (eqb n r.index) _ _ (ne_eqb n r.index other) ∙ cond-false (eqb (registers_of r.kind) 2 && eqb n (r.index + 1)) _ _ (not_wide n r m)
+mask_apart n r rs other m = grind (arith, nat_tests)
 
 abbrev no_bases : Region → ℕ
 no_bases r = 0
@@ -77,10 +67,7 @@ later_lack n [] h q k = refl
 later_lack n (r ∷ rs) h q k = none_joined (config q) (region_cells no_bases r) (flat_map (region_cells no_bases) rs) (region_lacks r q (inl (omega (arith, h.0)))) (later_lack n rs h.1 q k)
 
 apart_lacks : (n : ℕ) (r : Region) → (n ≡ r.index → ⊥) → (registers_of r.kind ≡ 2 → n ≡ r.index + 1 → ⊥) → (q : ℕ) → 0x10 + 4 * n ≤ q → q < 0x10 + 4 * n + 4 → has_place (region_cells no_bases r) (config q) ≡ false
-apart_lacks n r other m q from to = region_lacks r q (elim (one_or_two r.kind) [
-  | inl one ↦ elim (cases_lt n r.index) [ inl below ↦ inl (omega arith) | inr above ↦ inr (omega (arith, other)) ]
-  | inr two ↦ elim (cases_lt n r.index) [ inl below ↦ inl (omega arith) | inr above ↦ inr (omega (arith, other, m two)) ]
-])
+apart_lacks n r other m q from to = region_lacks r q (grind (arith, one_or_two r.kind))
 
 -- the first region has the register
 own_register : (n : ℕ) (r : Region) (rs : List Region) (mask : ℕ) → Each (λ s. n < s.index) rs → Probed all_four (base_register n) (base_cells r.index r.kind r.size 0) mask

@@ -1,6 +1,6 @@
 -- What the registers of a file read after all ones, and that they take back what they held.
 --     Probed      an access of these bytes reads the mask after all ones, and a write of what was read before leaves the file as it was
-use Rattle.std.proofs.Common.{◌≡◌, ℕ, ◌+◌, ◌-◌, ◌*◌, ◌/◌, ◌%◌, ◌^◌, ◌<◌, ◌≤◌, inl, inr, Bool, true, false, List, [], ◌∷◌, ◌++◌, refl, sym, ap, ap₂, ◌∙◌, subst, arith, append-nil, lit<}
+use Rattle.std.proofs.Common.{◌≡◌, ℕ, ◌+◌, ◌-◌, ◌*◌, ◌/◌, ◌%◌, ◌^◌, ◌<◌, ◌≤◌, inl, inr, Bool, true, false, List, [], ◌∷◌, ◌++◌, refl, sym, ap, ap₂, ◌∙◌, subst, arith, append-nil}
 use Rattle.std.specs.Prelude.{bit_and, bit_or}
 use Rattle.std.specs.Int.Bits.{or_zero_l, and_zero_l}
 use Rattle.std.proofs.lemmas.Nat.{and_mask, and_comm, pow-add, pow_below, pow_pos}
@@ -8,7 +8,7 @@ use Rattle.std.proofs.lemmas.Bool.{cases_lt}
 use Rattle.std.proofs.Math.Nat.{mod-eq_of_lt}
 use Rattle.model_registers.specs.Registers.{Place, config, File, read, write, field}
 use Rattle.model_registers.specs.FileLaws.{HasNone}
-use Rattle.model_registers.specs.Declarations.{Kind, io_kind, mem32, mem64, registers_of, least_size, IsLawfulSize, Bar, IoDecode, no_io, io16, io32, PrefDecode, no_pref, pref32, pref64, Bridge}
+use Rattle.model_registers.specs.Declarations.{Kind, registers_of, least_size, IsLawfulSize, Bar, IoDecode, no_io, io16, io32, PrefDecode, no_pref, pref32, pref64, Bridge}
 use Rattle.model_registers.specs.EndpointTable.{base_register, type_bits, base_width, BaseAddress, register_cells, IsLawfulBase}
 use Rattle.model_registers.specs.BaseLaws.{shown, rebased}
 use Rattle.model_registers.specs.Sizing.{mask_of}
@@ -61,9 +61,7 @@ write_upper x a file = ap₂ (λ y q. write all_four y (config q) file) (omega a
 
 read_upper : (a : ℕ) (file : File) → read file (config a) upper_eight ≡ read file (config (a + 4)) all_four * 2 ^ 32
 unfolding upper_eight
-read_upper a file =
-    let next : read file (config (a + 1 + 1 + 1 + 1)) all_four ≡ read file (config (a + 4)) all_four = ap (λ q. read file (config q) all_four) (omega arith) in
-    omega (arith, next)
+read_upper a file = grind arith
 
 back_eight : (x a v w : ℕ) → write upper_eight (read (field (config a) 8 v w 0) (config a) upper_eight) (config a) (write upper_eight x (config a) (field (config a) 8 v w 0)) ≡ field (config a) 8 v w 0
 unfolding upper_eight
@@ -130,8 +128,7 @@ sixteens kind size h least =
     omega (arith, is, split)
 
 zero_lawful : (n : ℕ) (b : Bar) → IsLawfulSize b.kind b.size → IsLawfulBase (at_index n b 0)
-zero_lawful n b lawful =
-    record { size_is_lawful = lawful; aligned = mod-eq_of_lt (omega (arith, (size_limits b.kind b.size lawful).1)); fits = pow_pos (base_width b.kind) }
+zero_lawful n b lawful = grind (arith, mod-eq_of_lt, size_limits, pow_pos)
 
 low_shown : (n : ℕ) (b : Bar) → IsLawfulSize b.kind b.size
     → read (write all_four ones (base_register n) (register_cells (at_index n b 0))) (base_register n) all_four ≡ mask_of b % 2 ^ 32
@@ -162,10 +159,7 @@ high_shown n b lawful two =
     ∙ read_high then two [] true true true true ∙ and_mask (shown then / 2 ^ 32) 32 ∙ omega arith
   where
     wide : (kind : Kind) → registers_of kind ≡ 2 → (size : ℕ) → least_size kind ≤ size → (16 ≤ size) × (type_bits kind < 16)
-    wide io_kind two size h = absurd (omega arith)
-    wide (mem32 pref) two size h = absurd (omega arith)
-    wide (mem64 true) two size h = (h, lit< tt)
-    wide (mem64 false) two size h = (h, lit< tt)
+    wide kind two size h = grind arith
 
 pub probed_low : (n : ℕ) (b : Bar) → IsLawfulSize b.kind b.size → Probed all_four (base_register n) (register_cells (at_index n b 0)) (mask_of b % 2 ^ 32)
 probed_low n b lawful = record { shown = low_shown n b lawful; back = back_low (at_index n b 0) }

@@ -1,20 +1,20 @@
 -- A register of one function of a numbered board, by configuration cycles: all ones, and what was there before.
 --     IsAll p file fs      whatever stands at the path holds these cells
-use Rattle.std.proofs.Common.{◌≡◌, ℕ, ◌+◌, ◌*◌, ◌/◌, ◌%◌, ◌≤◌, Bool, true, false, cond, List, [], ◌∷◌, map, Some, refl, sym, ap, ap₂, ◌∙◌, subst, arith, suc, inl, inr, length}
+use Rattle.std.proofs.Common.{◌≡◌, ℕ, ◌+◌, ◌/◌, ◌%◌, ◌≤◌, Bool, true, false, cond, List, [], ◌∷◌, map, Some, refl, ap, ap₂, ◌∙◌, subst, arith, suc, length}
 use Rattle.std.specs.Prelude.{IsTrue}
 use Rattle.std.specs.Option.{option_map_or}
 use Rattle.std.proofs.lemmas.Bool.{ne_eqb}
 use Rattle.model_registers.proofs.DeviceBytes.{change_beside}
 use Rattle.model_registers.proofs.Parts.{IsOutside}
 use Rattle.lists.specs.Elements.{Each, IsIn}
-use Rattle.model_registers.specs.Cell.{Cell, written}
+use Rattle.model_registers.specs.Cell.{written}
 use Rattle.model_registers.specs.Registers.{config, File, cell_at, changed, write}
 use Rattle.model_board.specs.Paths.{Path, path_eq}
 use Rattle.model_board.specs.Board.{Board, Row, is_bridge, stands_at}
 use Rattle.model_board.specs.BusNumbers.{secondary, subordinate}
 use Rattle.model_board.specs.State.{BoardFunction, State, with_file, row_at}
 use Rattle.model_board.specs.Cycles.{BusAddress, reached, secondary_register, subordinate_register}
-use Rattle.model_set_up.specs.Reach.{HasNumbers, address_of}
+use Rattle.model_set_up.specs.Reach.{address_of}
 use Rattle.model_board.specs.AtReset.{board_at}
 use Rattle.model_set_up.specs.Scanning.{IsNumbered}
 use Rattle.lists.proofs.Members.{each_in, each_from, in_map, any_in}
@@ -27,12 +27,10 @@ use Rattle.bus_scan.proofs.NumberedStates.{has_numbers, no_latch, each_reached, 
 -- ---- a write leaves what stands elsewhere
 
 further : (n a q : ℕ) → IsOutside q a (suc n) → IsOutside q (a + 1) n
-further n a q (inl l) = inl (omega arith)
-further n a q (inr l) = inr (omega arith)
+further n a q l = grind arith
 
 apart : (n a q : ℕ) → IsOutside q a (suc n) → a ≡ q → ⊥
-apart n a q (inl l) same = omega arith
-apart n a q (inr l) same = omega arith
+apart n a q l same = grind arith
 
 pub write_elsewhere : (ons : List Bool) (x a q : ℕ) (file : File) → IsOutside q a (length ons) → cell_at (write ons x (config a) file) (config q) ≡ cell_at file (config q)
 write_elsewhere [] x a q file h = refl
@@ -43,10 +41,7 @@ write_elsewhere (false ∷ ons) x a q file h = write_elsewhere ons (x / 256) (a 
 
 numbers_below : (ons : List Bool) (x a : ℕ) (file : File) → 0x1b ≤ a
     → (secondary_register (write ons x (config a) file) ≡ secondary_register file) × (subordinate_register (write ons x (config a) file) ≡ subordinate_register file)
-numbers_below ons x a file h = (
-  ap (λ (c : Cell). c.value + 256 * 0) (write_elsewhere ons x a 0x19 file (inl (omega arith))),
-  ap (λ (c : Cell). c.value + 256 * 0) (write_elsewhere ons x a 0x1a file (inl (omega arith))),
-)
+numbers_below ons x a file h = grind (arith, write_elsewhere)
 
 -- ---- one function with other cells
 
@@ -57,8 +52,7 @@ abbrev changed_one : (File → File) → Bool → BoardFunction → BoardFunctio
 changed_one g t f = cond t (record f { file = g f.file }) f
 
 same_row : (g : File → File) (t : Bool) (f : BoardFunction) → row_at (changed_one g t f) ≡ row_at f
-same_row g true f = refl
-same_row g false f = refl
+same_row g t f = grind arith
 
 all_changed : (g : File → File) (p : Path) (file : File) (fs : List BoardFunction) → IsAll p file fs → IsAll p (g file) (with_file g p fs)
 all_changed g p file [] h = tt
@@ -115,25 +109,17 @@ module _ (s : State) (h : IsNumbered s) (to : BusAddress) (f : BoardFunction) (f
     keeps = each_from (λ g. path_eq g.path f.path ≡ true → KeepsNumbers ones_written g) s.functions
         (λ g m e k. numbers_below ons ones off g.file (high (subst (λ (g : BoardFunction). IsTrue (is_bridge g.decl)) (each_in (λ g. path_eq g.path f.path ≡ true → g ≡ f) g s.functions only m e) k)))
 
-    has_after : HasNumbers (board_at s.functions) after
-    has_after = grind (arith, rows_changed, numbers_changed, keeps, has_numbers)
-
     there : (g : BoardFunction) × (reached after (address_of (board_at s.functions) f.path) ≡ Some g) × (g.path ≡ f.path)
-    there = reached_by_numbers (board_at s.functions) h.board after has_after f.path stands
+    there = grind (arith, reached_by_numbers, stands, rows_changed, numbers_changed, keeps, has_numbers)
 
     reached_after : reached after to ≡ Some there.0
     reached_after = ap (reached after) named ∙ there.1
-
-    file_after : there.0.file ≡ ones_written f.file
-    file_after =
-        each_reached (λ g. path_eq g.path f.path ≡ true → g.file ≡ ones_written f.file) after to there.0 (all_changed ones_written f.path f.file s.functions all) reached_after
-        (subst (λ (p : Path). path_eq p f.path ≡ true) (sym there.2) (path_self f.path))
 
     ones_there : with_ones s.functions to off ons ≡ after
     ones_there = ap (λ r. option_map_or (λ (f : BoardFunction). with_file (write ons ones (config off)) f.path s.functions) r s.functions) found
 
     pub shows : (mask : ℕ) → Probed ons (config off) f.file mask → mask_shown s.functions to off ons ≡ mask
-    shows mask p = grind (arith, ones_there, reached_after, file_after)
+    shows mask p = grind (arith, ones_there, reached_after, each_reached, all_changed, all, path_self)
 
     pub takes_back : (mask : ℕ) → Probed ons (config off) f.file mask → TakesBack s to off ons
     takes_back mask p = grind (arith, no_latch, ones_there, reached_after, changed_back, all)

@@ -56,28 +56,19 @@ pub after_look : (b : Board) (here : Path) (s : State) (rows : List TableRow) (l
 after_look b here s rows last at new is = grind arith
 
 pub none_seen : (b : Board) (bus : Path) (number n : ℕ) (o : Option Seen) → Sight b bus number n o → o ≡ None → stands_at b (on bus n) ≡ false
-none_seen b bus number n o (Nothing none e) h = none
-none_seen b bus number n o (Function r seen e found) h = cc
+none_seen b bus number n o none h = grind arith
 
 pub record Finds (b : Board) (bus : Path) (number n : ℕ) (seen : Seen) : Type 0 where
   pub row : Row
   pub found : IsFound b bus number n row seen
   pub next : (m : ℕ) → m ≡ cond (eqb (n % 8) 0 && not seen.is_multifunction) (n + 8) (n + 1) → m ≡ next_part b bus n
 
-shares : (multifunction : Bool) (d : Decl) → (seen_of multifunction d).is_multifunction ≡ multifunction
-shares multifunction (endpoint d) = refl
-shares multifunction (bridge d) = refl
-
 pub finds : (b : Board) (bus : Path) (number n : ℕ) (o : Option Seen) → Sight b bus number n o → (seen : Seen) → o ≡ Some seen → Finds b bus number n seen
 finds b bus number n o (Nothing none e) seen h = cc
-finds b bus number n o (Function r known e found) seen h = grind (arith, next_is, stands_true, shares)
-
-layout_bridge : (multifunction : Bool) (d : Decl) → (seen_of multifunction d).layout ≡ BridgeLayout → is_bridge d ≡ true
-layout_bridge multifunction (endpoint d) h = cc
-layout_bridge multifunction (bridge d) h = refl
+finds b bus number n o (Function r known e found) seen h = grind (arith, next_is, stands_true)
 
 pub bridge_seen : (b : Board) (bus : Path) (number n : ℕ) (r : Row) (seen : Seen) → IsFound b bus number n r seen → seen.layout ≡ BridgeLayout → is_bridge r.decl ≡ true
-bridge_seen b bus number n r seen found h = layout_bridge (is_multifunction b (on bus n)) r.decl (ap (λ (x : Seen). x.layout) (sym found.shows) ∙ h)
+bridge_seen b bus number n r seen found h = grind arith
 
 -- the row of an endpoint that was met
 abbrev pub endpoint_row : Path → ℕ → ℕ → Seen → TableRow

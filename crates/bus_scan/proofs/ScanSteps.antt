@@ -1,12 +1,13 @@
 -- A scan from one part to the next.
-use Rattle.std.proofs.Common.{◌≡◌, ℕ, ◌+◌, ◌%◌, ◌≤◌, ◌<◌, Bool, true, false, not, cond, ◌&&◌, ◌||◌, List, [], ◌∷◌, ◌++◌, length, append_assoc, map, Some, refl, sym, ap, ap₂, ◌∙◌, subst, arith, eqb, get_or}
+use Rattle.model_board.proofs.PlacesLaw.{before_apart}
+use Rattle.std.proofs.Common.{◌≡◌, ℕ, ◌+◌, ◌%◌, ◌≤◌, ◌<◌, Bool, true, false, not, cond, ◌&&◌, List, [], ◌∷◌, ◌++◌, length, append_assoc, map, Some, refl, sym, ap, ap₂, ◌∙◌, subst, arith, eqb, get_or}
 use Rattle.std.specs.Prelude.{find, count_by}
 use Rattle.std.proofs.Math.ListN.{set}
 use Rattle.std.proofs.Math.Seq.{get_or-append_seam}
 use Rattle.std.proofs.lemmas.List.{map-append, length-map}
 use Rattle.model_registers.specs.Declarations.{no_io, no_pref}
 use Rattle.lists.specs.Elements.{IsIn}
-use Rattle.model_board.specs.Paths.{Part, Path, path_eq, path_before, leads_to, IsPath}
+use Rattle.model_board.specs.Paths.{Part, Path, path_eq, path_before, IsPath}
 use Rattle.model_board.specs.Board.{Decl, endpoint, bridge, Board, Row, is_bridge, is_bridge_at, stands_at, is_multifunction, IsBoard}
 use Rattle.model_board.specs.BusNumbers.{secondary, subordinate, bus_behind, bus_of, Enumerates}
 use Rattle.model_set_up.specs.FunctionTable.{TableRow, met_decl, scanned_table, table_row}
@@ -17,7 +18,7 @@ use Rattle.model_set_up.specs.Scanning.{BusNumbers, no_numbers, board_numbers, o
 use Rattle.model_set_up.specs.ScanOrder.{nth_part, on, next_part, met, GivesNumbersInPathOrder}
 use Rattle.lists.proofs.Members.{any_in, from_filter, filter_same}
 use Rattle.model_board.proofs.PathOrder.{one, path_same, leads_before, part_self}
-use Rattle.model_board.proofs.PathEnds.{path_self, leads_self, parent_snoc, not_before_itself, leads_longer}
+use Rattle.model_board.proofs.PathEnds.{path_self, leads_self, parent_snoc, leads_longer}
 use Rattle.model_set_up.proofs.Partings.{bridge_at}
 use Rattle.model_set_up.proofs.Scanning.{goes_before, met_before, reached_while_scanning, numbers_of_scan_state}
 use Rattle.model_set_up.proofs.ScanParts.{before_first, before_last, leads_place, row_path}
@@ -95,14 +96,9 @@ past_endpoint b lawful bus n m r is none s rows last next at row shown =
 
 -- ---- bridges
 
-apart : (x p : Path) → path_before x p ≡ true → (t : Bool) → path_eq x p ≡ t → t ≡ false
-apart x p before false e = refl
-apart x p before true e = absurd (not_before_itself x (ap (path_before x) (path_same x p e) ∙ before))
-
 -- numbers given to one bridge by its path
-given_by : (f : Path → BusNumbers) (numbers : Numbers) (p x : Path) (t : Bool) → path_eq x p ≡ t → cond t (f p) (numbers x) ≡ cond t (f x) (numbers x)
-given_by f numbers p x true e = ap f (sym (path_same x p e))
-given_by f numbers p x false e = refl
+given_by : (f : Path → BusNumbers) (numbers : Numbers) (p x : Path) → cond (path_eq x p) (f p) (numbers x) ≡ cond (path_eq x p) (f x) (numbers x)
+given_by f numbers p x = grind (arith, path_same x p)
 
 more_behind : (b : Board) → IsBoard b → (p : Path) (r : Row) → StandsAt b p r → met b (on p 0) ≡ met b p ++ r ∷ []
 more_behind b lawful p r is = subst (λ (x : Path). met b (on x 0) ≡ met b x ++ r ∷ []) is.path ((scan_meets b lawful).behind r is.member)
@@ -112,10 +108,10 @@ pub opened : (b : Board) → IsBoard b → (p : Path) (r : Row) → StandsAt b p
     → (new : State) → new ≡ state_of b (numbered_file b (given p (open_numbers b p) (scan_numbers b p))) → (row : TableRow) → row ≡ met_row b (scan_numbers b (on p 0)) r → IsAt b (on p 0) new (rows ++ row ∷ []) (last + 1)
 opened b lawful p r is bridge_is s rows last room at new written row shown = record {
   state = written ∙ same_state b (given p (open_numbers b p) (scan_numbers b p)) (scan_numbers b (on p 0))
-      (λ x k. given_by (open_numbers b) (scan_numbers b p) p x (path_eq x p) refl ∙ sym (laws.behind p x));
+      (λ x k. given_by (open_numbers b) (scan_numbers b p) p x ∙ sym (laws.behind p x));
   rows_met = ap (λ (x : TableRow). rows ++ x ∷ []) shown
       ∙ rows_more b p (on p 0) (scan_numbers b p) (scan_numbers b (on p 0)) r (more_behind b lawful p r is)
-      (λ x k before i. sym (laws.behind p x.path ∙ ap (λ t. cond t (open_numbers b x.path) (scan_numbers b p x.path)) (apart x.path p before (path_eq x.path p) refl))) rows at.rows_met;
+      (λ x k before i. sym (laws.behind p x.path ∙ ap (λ t. cond t (open_numbers b x.path) (scan_numbers b p x.path)) (before_apart x.path p before))) rows at.rows_met;
   last_given = omega (arith, laws.next_number (on p 0), ap (λ (rs : Board). count_by (λ x. is_bridge x.decl) rs) (more_behind b lawful p r is), count_more (λ x. is_bridge x.decl) (met b p) r, ap one bridge_is, laws.next_number p, at.last_given);
   last_fits = room;
 }
@@ -130,21 +126,18 @@ deepest b lawful p long s rows last at =
     (λ x there. let r = bridge_at b lawful x there in
     ap₂ (λ t u. cond t (open_numbers b x) (cond u (board_numbers b x) no_numbers)) (leads_place x p (nth_part 128) ∙ sym (leads_place x p (nth_part 0))) (same_before x (subst IsPath r.3 (row_path b lawful r.0 r.1)))) s rows last at
   where
-    none_behind : (x : Path) → IsPath x → (t : Bool) → leads_to p x ≡ t → t ≡ false
-    none_behind x path false e = refl
-    none_behind x path true e = absurd (omega (arith, leads_longer p x e, path.few))
-
-    or_none : (t u v : Bool) → v ≡ false → (t || u || v) ≡ (t || u)
-    or_none true u v e = refl
-    or_none false true v e = refl
-    or_none false false v e = e
-
     same_before : (x : Path) → IsPath x → path_before x (on p 128) ≡ path_before x (on p 0)
-    same_before x path = before_last x p path.parts ∙ or_none (path_before x p) (path_eq x p) (leads_to p x) (none_behind x path (leads_to p x) refl) ∙ sym (before_first x p)
+    same_before x path = grind (arith, before_last x p path.parts, before_first x p, leads_longer p x, path.few)
 
 first_before_last : (p : Path) → path_before (on p 0) (on p 128) ≡ true
 first_before_last [] = refl
 first_before_last (a ∷ p) = grind (arith, part_self, first_before_last p)
+
+-- the side of a bridge comes right after it
+grown_from : (b : Board) → IsBoard b → (p : Path) (r : Row) → StandsAt b p r → (rest : Board) × (met b (on p 128) ≡ met b p ++ r ∷ rest)
+grown_from b lawful p r is =
+    let grown = met_grows b lawful (on p 0) (on p 128) (first_before_last p) in
+    (grown.0, grown.1 ∙ ap (λ (xs : Board). xs ++ grown.0) (more_behind b lawful p r is) ∙ append_assoc (met b p) (r ∷ []) grown.0)
 
 -- out of the side of a bridge
 closed_at : (b : Board) → IsBoard b → (p to : Path) (r : Row) → StandsAt b p r → is_bridge r.decl ≡ true → met b to ≡ met b (on p 128)
@@ -153,10 +146,10 @@ closed_at : (b : Board) → IsBoard b → (p to : Path) (r : Row) → StandsAt b
     → (i : ℕ) → i ≡ length (met b p) → (row : TableRow) → row ≡ met_row b (board_numbers b) r → IsAt b to new (set rows i row) last
 closed_at b lawful p to r is bridge_is same back s rows last at new written i index row shown = record {
   state = written ∙ same_state b (given p (board_numbers b p) (scan_numbers b (on p 128))) (scan_numbers b to)
-      (λ x k. given_by (board_numbers b) (scan_numbers b (on p 128)) p x (path_eq x p) refl ∙ sym (back x k));
+      (λ x k. given_by (board_numbers b) (scan_numbers b (on p 128)) p x ∙ sym (back x k));
   rows_met = ap₂ (λ (xs : List TableRow) (k : ℕ). set xs k row) at.rows_met index
       ∙ ap (λ (x : TableRow). set (map (met_row b (scan_numbers b (on p 128))) (met b (on p 128))) (length (met b p)) x) (shown ∙ row_same b (board_numbers b) (scan_numbers b to) r own)
-      ∙ row_filled b lawful p (on p 128) r is grown.0 splits (scan_numbers b (on p 128)) (scan_numbers b to) (λ q e k. sym (back q k ∙ ap (λ t. cond t (board_numbers b q) (scan_numbers b (on p 128) q)) e))
+      ∙ row_filled b lawful p (on p 128) r is grown.0 grown.1 (scan_numbers b (on p 128)) (scan_numbers b to) (λ q e k. sym (back q k ∙ ap (λ t. cond t (board_numbers b q) (scan_numbers b (on p 128) q)) e))
       ∙ ap (map (met_row b (scan_numbers b to))) (sym same);
   last_given = laws.next_number to ∙ ap (λ (rs : Board). 1 + count_by (λ r. is_bridge r.decl) rs) same ∙ sym (laws.next_number (on p 128)) ∙ at.last_given;
   last_fits = at.last_fits;
@@ -168,11 +161,8 @@ closed_at b lawful p to r is bridge_is same back s rows last at new written i in
     own : is_bridge r.decl ≡ true → board_numbers b r.path ≡ scan_numbers b to r.path
     own k = sym (back r.path (bridge_there b r is.member k) ∙ ap (λ t. cond t (board_numbers b r.path) (scan_numbers b (on p 128) r.path)) (ap (λ (x : Path). path_eq x p) is.path ∙ path_self p))
 
-    grown : (rest : Board) × (met b (on p 128) ≡ met b (on p 0) ++ rest)
-    grown = met_grows b lawful (on p 0) (on p 128) (first_before_last p)
-
-    splits : met b (on p 128) ≡ met b p ++ r ∷ grown.0
-    splits = grown.1 ∙ ap (λ (xs : Board). xs ++ grown.0) (more_behind b lawful p r is) ∙ append_assoc (met b p) (r ∷ []) grown.0
+    grown : (rest : Board) × (met b (on p 128) ≡ met b p ++ r ∷ rest)
+    grown = grown_from b lawful p r is
 
 pub closed : (b : Board) → IsBoard b → (bus : Path) (n : ℕ) (r : Row) → StandsAt b (on bus n) r → is_bridge r.decl ≡ true → (s : State) (rows : List TableRow) (last : ℕ)
     → IsAt b (on (on bus n) 128) s rows last → (new : State) → new ≡ state_of b (numbered_file b (given (on bus n) (board_numbers b (on bus n)) (scan_numbers b (on (on bus n) 128))))
@@ -284,11 +274,6 @@ bridge_opened b bus number n r seen found bridge_is path path_is s rows last her
 -- the last number is put into the row and the registers of a bridge
 pub rows_length : (b : Board) (here : Path) (s : State) (rows : List TableRow) (last : ℕ) → IsAt b here s rows last → length rows ≡ length (met b here)
 rows_length b here s rows last at = ap length at.rows_met ∙ length-map (met b here) (met_row b (scan_numbers b here))
-
-grown_from : (b : Board) → IsBoard b → (p : Path) (r : Row) → StandsAt b p r → (rest : Board) × (met b (on p 128) ≡ met b p ++ r ∷ rest)
-grown_from b lawful p r is =
-    let grown = met_grows b lawful (on p 0) (on p 128) (first_before_last p) in
-    (grown.0, grown.1 ∙ ap (λ (xs : Board). xs ++ grown.0) (more_behind b lawful p r is) ∙ append_assoc (met b p) (r ∷ []) grown.0)
 
 item_there : (b : Board) (p : Path) (r : Row) → IsBoard b → StandsAt b p r → (s : State) (rows : List TableRow) (last : ℕ) → IsAt b (on p 128) s rows last → (i : ℕ) → i ≡ length (met b p) → (d : TableRow) → get_or rows i d ≡ met_row b (scan_numbers b (on p 128)) r
 item_there b p r lawful is s rows last at i index d =

@@ -1,7 +1,9 @@
 -- What begins at a register of an endpoint, by what the register and the next one read after all ones.
 --     Begins      what the register and the next one read, by what begins there
 --     BarsBelow      the host is as it was, and the slots below a register are told
-use Rattle.std.proofs.Common.{◌≡◌, ℕ, ◌+◌, ◌/◌, ◌%◌, ◌^◌, ◌<◌, ◌≤◌, ◌⊎◌, inl, inr, true, false, ◌&&◌, List, [], ◌∷◌, Option, Some, None, refl, sym, ap, ◌∙◌, arith, eqb, ◌≢◌, zero, suc, Bool, ◌||◌, map, length, get_or, ap₂, subst, below_more}
+use Rattle.std.proofs.lemmas.Bool.Decides.{nat_tests}
+use Rattle.lists.proofs.Tests.{and_true}
+use Rattle.std.proofs.Common.{◌≡◌, ℕ, ◌+◌, ◌/◌, ◌%◌, ◌^◌, ◌<◌, ◌≤◌, ◌⊎◌, inl, inr, true, false, ◌&&◌, List, [], ◌∷◌, Option, Some, None, refl, sym, ap, ◌∙◌, arith, eqb, zero, suc, Bool, ◌||◌, map, length, get_or, ap₂, below_more}
 use Rattle.std.specs.Prelude.{bit_and, IfSome, slice_set}
 use Rattle.std.proofs.lemmas.Nat.{and_mask}
 use Rattle.std.proofs.lemmas.Bool.{cases_lt, ne_eqb, cond-true, cond-false, eq-eqb, and_from, or_parts, cases_eq, and_right}
@@ -109,18 +111,9 @@ pub record BarsBelow (first now : HostState) (at : BusAddress) (bars : List (Opt
 
 -- ---- the loop's step and its end
 
-set_told : (rs : List Region) (bars : List (Option Bar)) (n : ℕ) (bar : Option Bar) → n < length bars → ((k : ℕ) → k < n → get_or bars k None ≡ bar_at k rs) → bar ≡ bar_at n rs
-    → (k : ℕ) → k < n + 1 → get_or (slice_set bars n bar) k None ≡ bar_at k rs
-set_told rs bars n bar within told e =
-    below_more (λ k. get_or (slice_set bars n bar) k None ≡ bar_at k rs) n
-    (λ k h. let other : k ≢ n = omega arith in get_or-set_other bars n k bar None other ∙ told k h)
-    (get_or-set_same bars n bar None within ∙ e)
-
 pub next_slot : (first now after : HostState) (at : BusAddress) (bars : List (Option Bar)) (n i : ℕ) (bar : Option Bar) → BarsBelow first now at bars n → i ≡ n → n < 6
     → after ≡ first → bar ≡ bar_at n (regions_reached first.state.functions at) → BarsBelow first after at (slice_set bars i bar) (n + 1)
-next_slot first now after at bars n i bar below is within host e =
-    subst (λ i. BarsBelow first after at (slice_set bars i bar) (n + 1)) (sym is)
-    (record { host = host; six = length-set bars n bar ∙ below.six; told = set_told (regions_reached first.state.functions at) bars n bar (omega (arith, below.six)) below.told e })
+next_slot first now after at bars n i bar below is within host e = grind (arith, length-set, below_more, get_or-set_other, get_or-set_same)
 
 -- six slots by their elements
 six_slots : (bars : List (Option Bar)) → length bars ≡ 6 → bars ≡ get_or bars 0 None ∷ get_or bars 1 None ∷ get_or bars 2 None ∷ get_or bars 3 None ∷ get_or bars 4 None ∷ get_or bars 5 None ∷ []
@@ -148,7 +141,7 @@ later n r rs h order = each_map (InOrder r) (λ s. n < s.index) rs (λ s k. omeg
 
 later_not_upper : (n : ℕ) (rs : List Region) → Each (λ s. n ≤ s.index) rs → is_upper_half n rs ≡ false
 later_not_upper n [] h = refl
-later_not_upper n (r ∷ rs) h = ap₂ (λ (s t : Bool). s || t) (and_right (eqb (registers_of r.kind) 2) (eqb n (r.index + 1)) (ne_eqb n (r.index + 1) (λ e. omega (arith, h.0)))) (later_not_upper n rs h.1)
+later_not_upper n (r ∷ rs) h = grind (arith, nat_tests, later_not_upper n rs h.1)
 
 -- nothing begins at an upper half
 pub none_at_upper : (n : ℕ) (rs : List Region) → EachPair InOrder rs → is_upper_half n rs ≡ true → bar_at n rs ≡ None
@@ -169,8 +162,7 @@ is_wide : Option Bar → Bool
 is_wide o = option_map_or (λ (b : Bar). eqb (registers_of b.kind) 2) o false
 
 or_none : (t : Bool) → (t || false) ≡ t
-or_none true = refl
-or_none false = refl
+or_none t = grind arith
 
 upper_after : (n : ℕ) (rs : List Region) → EachPair InOrder rs → is_upper_half (n + 1) rs ≡ is_wide (bar_at n rs)
 unfolding is_wide
@@ -185,10 +177,6 @@ upper_after n (r ∷ rs) order = elim (cases_eq n r.index) [
       let past : (eqb (registers_of r.kind) 2 && eqb (n + 1) (r.index + 1)) ≡ false = and_right (eqb (registers_of r.kind) 2) (eqb (n + 1) (r.index + 1)) (ne_eqb (n + 1) (r.index + 1) (λ e. other (omega arith))) in
       ap (λ (t : Bool). t || is_upper_half (n + 1) rs) past ∙ upper_after n rs order.1 ∙ ap is_wide (sym (bar_other n r rs other))
 ]
-  where
-    and_true : (t : Bool) → (t && true) ≡ t
-    and_true true = refl
-    and_true false = refl
 
 pub upper_by_slots : (n : ℕ) (rs : List Region) (bars : List (Option Bar)) → EachPair InOrder rs → ((k : ℕ) → k < n → get_or bars k None ≡ bar_at k rs) → is_upper_half n rs ≡ is_after_wide bars n
 unfolding is_wide

@@ -1,6 +1,6 @@
 -- What sizing finds of the function that a number of a numbered board reaches.
-use Rattle.std.proofs.Common.{◌≡◌, ℕ, ◌+◌, ◌*◌, ◌<◌, List, [], Option, Some, None, refl, sym, ap, ◌∙◌, subst, arith, true, map}
-use Rattle.std.specs.Prelude.{bit_and, IsTrue, option_map}
+use Rattle.std.proofs.Common.{◌≡◌, ℕ, ◌+◌, ◌*◌, ◌<◌, List, [], Option, Some, sym, ap, ◌∙◌, subst, arith, true, map}
+use Rattle.std.specs.Prelude.{bit_and, IsTrue}
 use Rattle.std.specs.Option.{option_map_or}
 use Rattle.model_registers.specs.Registers.{config}
 use Rattle.model_registers.specs.ByteEnables.{lanes}
@@ -109,15 +109,11 @@ module _ (s : State) (h : IsNumbered s) (at : BusAddress) where
 
 pub io_told : (io : IoDecode) (mask : ℕ) → mask ≡ io_mask io
     → (mask ≡ 0 → no_io ≡ io) × ((mask ≡ 0 → ⊥) → bit_and mask 15 ≡ 0 → io16 ≡ io) × ((mask ≡ 0 → ⊥) → (bit_and mask 15 ≡ 0 → ⊥) → io32 ≡ io)
-io_told no_io mask e = (λ _. refl, λ some _. absurd (some e), λ some _. absurd (some e))
-io_told io16 mask e = (λ k. absurd (omega (arith, k)), λ _ _. refl, λ some k. absurd (k (ap (λ n. bit_and n 15) e)))
-io_told io32 mask e = (λ k. absurd (omega (arith, k)), λ some k. absurd (omega (arith, k, ap (λ n. bit_and n 15) e)), λ _ _. refl)
+io_told io mask e = grind arith
 
 pub pref_told : (pref : PrefDecode) (mask : ℕ) → mask ≡ pref_mask pref
     → (mask ≡ 0 → no_pref ≡ pref) × ((mask ≡ 0 → ⊥) → bit_and mask 15 ≡ 0 → pref32 ≡ pref) × ((mask ≡ 0 → ⊥) → (bit_and mask 15 ≡ 0 → ⊥) → pref64 ≡ pref)
-pref_told no_pref mask e = (λ _. refl, λ some _. absurd (some e), λ some _. absurd (some e))
-pref_told pref32 mask e = (λ k. absurd (omega (arith, k)), λ _ _. refl, λ some k. absurd (k (ap (λ n. bit_and n 15) e)))
-pref_told pref64 mask e = (λ k. absurd (omega (arith, k)), λ some k. absurd (omega (arith, k, ap (λ n. bit_and n 15) e)), λ _ _. refl)
+pref_told pref mask e = grind arith
 
 -- ---- rows of the table: the function that a row's number reaches, and a row before and after sizing
 
@@ -130,45 +126,28 @@ module _ (s : State) (h : IsNumbered s) where
       let stands : stands_at (board_at s.functions) r.path ≡ true = any_in (λ (q : Row). path_eq q.path r.path) r (board_at s.functions) m (path_self r.path) in
       let g = reached_by_numbers (board_at s.functions) h.board s.functions (has_numbers s h) r.path stands in
       let inside : IsIn g.0 s.functions = each_reached (λ x. IsIn x s.functions) s.functions (address_of (board_at s.functions) r.path) g.0 (in_itself s.functions) g.1 in
-      let path : g.0.path ≡ f.0.path = g.2 ∙ ap (λ (r : Row). r.path) f.2 in
-      let same : g.0 ≡ f.0 =
-      each_in (λ x. path_eq x.path f.0.path ≡ true → x ≡ f.0) g.0 s.functions (only_there s.functions h.board f.0 f.1) inside (subst (λ (p : Path). path_eq p f.0.path ≡ true) (sym path) (path_self f.0.path)) in
-      ap (λ o. option_map (λ (f : BoardFunction). f.decl) o) g.1 ∙ ap (λ (x : BoardFunction). Some x.decl) same ∙ ap (λ (r : Row). Some r.decl) (sym f.2)
+      grind (arith, each_in, only_there, path_self)
 
   pub found_reached : (at : BusAddress) (row : TableRow) → at ≡ record { bus = row.bus; part = last_part row.path } → (r : Row) → IsIn r (board_at s.functions) → row ≡ table_row (board_at s.functions) met_decl r
       → decl_reached s.functions at ≡ Some r.decl
   found_reached at row number r m e = ap (decl_reached s.functions) (number ∙ ap (λ (t : TableRow). record { bus = t.bus; part = last_part t.path }) e) ∙ row_reached r m
 
   met_as_endpoint : (d : Decl) (e : Endpoint) → endpoint e ≡ met_decl d → (x : Endpoint) × (d ≡ endpoint x)
-  met_as_endpoint (endpoint d) e h = (d, refl)
-  met_as_endpoint (bridge d) e h = cc
+  met_as_endpoint d e h = grind arith
 
   met_as_bridge : (d : Decl) (e : Bridge) → bridge e ≡ met_decl d → (x : Bridge) × (d ≡ bridge x)
-  met_as_bridge (endpoint d) e h = cc
-  met_as_bridge (bridge d) e h = (d, refl)
+  met_as_bridge d e h = grind arith
 
   pub endpoint_reached : (at : BusAddress) (row : TableRow) → at ≡ record { bus = row.bus; part = last_part row.path } → IsScannedRow (board_at s.functions) row → (e : Endpoint) → row.decl ≡ endpoint e → IsEndpointReached s.functions at
-  endpoint_reached at row number is e decl =
-      let x = met_as_endpoint is.0.decl e (sym decl ∙ ap (λ (t : TableRow). t.decl) is.2) in
-      (x.0, found_reached at row number is.0 is.1 is.2 ∙ ap Some x.1)
+  endpoint_reached at row number is e decl = grind (arith, met_as_endpoint, found_reached)
 
   pub bridge_reached : (at : BusAddress) (row : TableRow) → at ≡ record { bus = row.bus; part = last_part row.path } → IsScannedRow (board_at s.functions) row → (e : Bridge) → row.decl ≡ bridge e → IsBridgeReached s.functions at
-  bridge_reached at row number is e decl =
-      let x = met_as_bridge is.0.decl e (sym decl ∙ ap (λ (t : TableRow). t.decl) is.2) in
-      (x.0, found_reached at row number is.0 is.1 is.2 ∙ ap Some x.1)
+  bridge_reached at row number is e decl = grind (arith, met_as_bridge, found_reached)
 
 -- ---- a row before and after
 
 abbrev pub row_of : Path → ℕ → ℕ → ℕ → Found → TableRow
 row_of path bus vendor device found = record { path = path; bus = bus; behind = range_of found; decl = decl_of vendor device found }
-
-endpoint_in : Decl → Endpoint → Endpoint
-endpoint_in (endpoint d) e = d
-endpoint_in (bridge d) e = e
-
-bridge_in : Decl → Bridge → Bridge
-bridge_in (endpoint d) e = e
-bridge_in (bridge d) e = d
 
 row_at_path : Path → Decl → Row
 row_at_path p d = record { path = p; decl = d }
@@ -176,48 +155,14 @@ row_at_path p d = record { path = p; decl = d }
 sized_endpoint_at : (b : Board) (path : Path) (bus vendor device pin : ℕ) (old bars : List (Option Bar)) (p : Path) (d : Decl)
     → row_of path bus vendor device (FoundEndpoint pin old) ≡ table_row b met_decl (row_at_path p d) → regions_of bars ≡ map bare (regions_in d)
     → row_of path bus vendor device (FoundEndpoint pin bars) ≡ table_row b found_decl (row_at_path p d)
-unfolding endpoint_in row_at_path
-sized_endpoint_at b path bus vendor device pin old bars p (bridge d) e regions = let no : decl_of vendor device (FoundEndpoint pin old) ≡ met_decl (bridge d) = ap (λ (t : TableRow). t.decl) e in cc
-sized_endpoint_at b path bus vendor device pin old bars p (endpoint d) e regions =
-    λ i. record {
-      path = ap (λ (t : TableRow). t.path) e i;
-      bus = ap (λ (t : TableRow). t.bus) e i;
-      behind = None;
-      decl = endpoint (record {
-        vendor = ap (λ (t : TableRow). (endpoint_in t.decl d).vendor) e i;
-        device = ap (λ (t : TableRow). (endpoint_in t.decl d).device) e i;
-        revision = 0;
-        class = 0;
-        subvendor = 0;
-        subsystem = 0;
-        pin = ap (λ (t : TableRow). (endpoint_in t.decl d).pin) e i;
-        min_gnt = 0;
-        max_lat = 0;
-        status = 0;
-        regions = regions i;
-        blocks = [];
-      });
-    }
+unfolding row_at_path
+sized_endpoint_at b path bus vendor device pin old bars p d e h = grind arith
 
 sized_bridge_at : (b : Board) (path : Path) (bus vendor device secondary subordinate : ℕ) (io jo : ShownIo) (pref qref : ShownPref) (p : Path) (d : Decl)
     → row_of path bus vendor device (FoundBridge secondary subordinate io pref) ≡ table_row b met_decl (row_at_path p d) → io_decode_of jo ≡ io_in d → pref_decode_of qref ≡ pref_in d
     → row_of path bus vendor device (FoundBridge secondary subordinate jo qref) ≡ table_row b found_decl (row_at_path p d)
-unfolding bridge_in row_at_path
-sized_bridge_at b path bus vendor device secondary subordinate io jo pref qref p (endpoint d) e ios prefs =
-    let no : decl_of vendor device (FoundBridge secondary subordinate io pref) ≡ met_decl (endpoint d) = ap (λ (t : TableRow). t.decl) e in cc
-sized_bridge_at b path bus vendor device secondary subordinate io jo pref qref p (bridge d) e ios prefs =
-    λ i. record {
-      path = ap (λ (t : TableRow). t.path) e i;
-      bus = ap (λ (t : TableRow). t.bus) e i;
-      behind = ap (λ (t : TableRow). t.behind) e i;
-      decl = bridge (record {
-        vendor = ap (λ (t : TableRow). (bridge_in t.decl d).vendor) e i;
-        device = ap (λ (t : TableRow). (bridge_in t.decl d).device) e i;
-        revision = 0;
-        io = ios i;
-        pref = prefs i;
-      });
-    }
+unfolding row_at_path
+sized_bridge_at b path bus vendor device secondary subordinate io jo pref qref p d e ios prefs = grind arith
 
 module _ (s : State) (h : IsNumbered s) (at : BusAddress) (row : TableRow) (number : at ≡ record { bus = row.bus; part = last_part row.path }) (r : Row) (m : IsIn r (board_at s.functions)) (met : row ≡ table_row (board_at s.functions) met_decl r) where
   pub sized_endpoint : IsEndpointReached s.functions at → (path : Path) (bus vendor device pin : ℕ) (old bars : List (Option Bar)) → row_of path bus vendor device (FoundEndpoint pin old) ≡ row

@@ -32,15 +32,12 @@ numbered b numbers r = record { path = r.path; decl = r.decl; file = numbered_fi
 pub bridge_there : (b : Board) (r : Row) → IsIn r b → is_bridge r.decl ≡ true → is_bridge_at b r.path ≡ true
 bridge_there b r m is = any_in (λ (s : Row). is_bridge s.decl && path_eq s.path r.path) r b m (rw is (path_self r.path))
 
-same_function : (b : Board) (n m : Numbers) → ((q : Path) → is_bridge_at b q ≡ true → n q ≡ m q) → (r : Row) → IsIn r b → numbered b n r ≡ numbered b m r
-same_function b n m h r k = grind (arith, bridge_there)
-
 pub map_same : {A B : Type 0} (f g : A → B) (xs : List A) → ((x : A) → IsIn x xs → f x ≡ g x) → map f xs ≡ map g xs
 map_same f g [] h = refl
 map_same f g (x ∷ xs) h = ap₂ ◌∷◌ (h x (inl refl)) (map_same f g xs (λ y m. h y (inr m)))
 
 pub same_state : (b : Board) (n m : Numbers) → ((q : Path) → is_bridge_at b q ≡ true → n q ≡ m q) → state_of b (numbered_file b n) ≡ state_of b (numbered_file b m)
-same_state b n m h = ap (λ (fs : List BoardFunction). let s : State = record { functions = fs; latch = 0 } in s) (map_same (numbered b n) (numbered b m) b (same_function b n m h))
+same_state b n m h = grind (arith, map_same, bridge_there)
 
 -- ---- the function at a path
 
@@ -72,27 +69,19 @@ module _ (b : Board) (lawful : IsBoard b) (numbers : Numbers) (p : Path) (there 
   abbrev put : BoardFunction → BoardFunction
   put f = record f { file = write (lanes 7) (numbers_word n) (config 0x18) f.file }
 
-  other_stays : (r : Row) (t : Bool) → path_eq r.path p ≡ t → t ≡ false → numbered b numbers r ≡ numbered b (given p n numbers) r
-  other_stays r t e h = grind arith
-
   here_changes : (r : Row) → IsIn r b → path_eq r.path p ≡ true → put (numbered b numbers r) ≡ numbered b (given p n numbers) r
   here_changes r m e = by_decl r.decl refl
     where
       by_decl : (d : Decl) → r.decl ≡ d → put (numbered b numbers (record r { decl = d })) ≡ numbered b (given p n numbers) (record r { decl = d })
-      by_decl (endpoint d) k =
-          let s = bridge_at b lawful p there in
-          let same : s.0 ≡ r = one_row b lawful s.0 r s.1 m (s.3 ∙ sym (path_same r.path p e)) in
-          let bad : true ≡ false = sym s.2 ∙ ap (λ (t : Row). is_bridge t.decl) same ∙ ap is_bridge k in
-          cc
+      by_decl (endpoint d) k = grind (arith, bridge_at, one_row, path_same)
       by_decl (bridge d) k = rw e (ap (λ (file : File). let f : BoardFunction = record { path = r.path; decl = bridge d; file = file } in f) (bridge_written d (is_multifunction b r.path) (numbers r.path) n fits))
 
-  each_written : (r : Row) → IsIn r b → (t : Bool) → path_eq r.path p ≡ t → cond t (put (numbered b numbers r)) (numbered b numbers r) ≡ numbered b (given p n numbers) r
-  each_written r m true e = here_changes r m e
-  each_written r m false e = other_stays r false e refl
+  each_written : (r : Row) → IsIn r b → cond (path_eq r.path p) (put (numbered b numbers r)) (numbered b numbers r) ≡ numbered b (given p n numbers) r
+  each_written r m = grind (arith, here_changes r m)
 
   rows_written : (rs : Board) → ((r : Row) → IsIn r rs → IsIn r b) → with_file (write (lanes 7) (numbers_word n) (config 0x18)) p (map (numbered b numbers) rs) ≡ map (numbered b (given p n numbers)) rs
   rows_written [] h = refl
-  rows_written (r ∷ rs) h = ap₂ ◌∷◌ (each_written r (h r (inl refl)) (path_eq r.path p) refl) (rows_written rs (λ s k. h s (inr k)))
+  rows_written (r ∷ rs) h = ap₂ ◌∷◌ (each_written r (h r (inl refl))) (rows_written rs (λ s k. h s (inr k)))
 
   -- the state after the write to what a cycle reaches
   pub numbers_written : (s : State) → s ≡ state_of b (numbered_file b numbers) → (at : BusAddress) → reached s.functions at ≡ find (λ f. path_eq f.path p) s.functions

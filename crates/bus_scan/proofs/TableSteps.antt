@@ -58,14 +58,7 @@ module _ (first now : HostState) (rows : List TableRow) (n : ℕ) (below : RowsB
   next_sized h after e d x sizes =
       let b = board_at first.state.functions in
       let t : Turn b n b = turn b n b h in
-      let sizes_first : SizesRow b (get_or rows n d) x = subst (λ (k : HostState). SizesRow (board_at k.state.functions) (get_or rows n d) x) below.host sizes in
-      record {
-        host = e ∙ below.host;
-        rows_are =
-            ap (λ (xs : List TableRow). slice_set xs n x) below.rows_are
-            ∙ t.then x (sizes_first t.row t.inside (ap (λ (xs : List TableRow). get_or xs n d) below.rows_are ∙ t.before d))
-            ∙ ap (λ m. half_sized b m b) (let more : suc n ≡ n + 1 = omega arith in more);
-      }
+      grind arith
 
   pub whole_sized : length (board_at first.state.functions) ≤ n → rows ≡ sized_table (board_at first.state.functions)
   whole_sized h = below.rows_are ∙ all_sized (board_at first.state.functions) n (board_at first.state.functions) h

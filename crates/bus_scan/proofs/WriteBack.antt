@@ -1,5 +1,5 @@
 -- A register of writable and fixed bits takes back what it held, whatever was written to it in between.
-use Rattle.std.proofs.Common.{◌≡◌, ℕ, zero, suc, ◌+◌, ◌-◌, ◌*◌, ◌/◌, ◌%◌, ◌<◌, Bool, true, false, ◌||◌, cond, List, [], ◌∷◌, length, refl, ap, ap₂, ◌∙◌, arith, w8, min, max}
+use Rattle.std.proofs.Common.{◌≡◌, ℕ, zero, suc, ◌+◌, ◌-◌, ◌*◌, ◌/◌, ◌%◌, ◌<◌, Bool, false, ◌||◌, cond, List, [], ◌∷◌, length, refl, ap, ap₂, ◌∙◌, arith, w8, min, max}
 use Rattle.std.specs.Prelude.{bit_and, bit_or}
 use Rattle.std.specs.Int.{bit_at}
 use Rattle.std.specs.Int.Bits.{or_zero_r, and_zero_r}
@@ -64,18 +64,13 @@ field_lacks_below (suc n) a q v w c h = ap₂ (λ (s t : Bool). s || t) (above a
 -- a write of the lowest byte changes the first cell alone
 first_written : (on : Bool) (ons : List Bool) (x a : ℕ) (c : Cell) (es : File) → has_place es (config a) ≡ false
     → write (on ∷ ons) x (config a) (record { place = config a; cell = c } ∷ es) ≡ record { place = config a; cell = cond on (written (x % 256) c) c } ∷ write ons (x / 256) (config (a + 1)) es
-first_written true ons x a c es none = grind (arith, self, change_none, write_past)
-first_written false ons x a c es none = write_past ons (x / 256) (a + 1) a c es (omega arith)
+first_written on ons x a c es none = grind (arith, self, change_none, write_past)
 
 low_of : (on : Bool) (v r : ℕ) → v < 256 → (cond on v 0 + 256 * r) / 256 ≡ r
-low_of true v r h = omega arith
-low_of false v r h = omega arith
+low_of on v r h = grind arith
 
 byte_back : (on : Bool) (v w x r : ℕ) → v < 256 → w < 256 → cond on (written ((cond on v 0 + 256 * r) % 256) (cond on (written x (cell_of v w)) (cell_of v w))) (cond on (written x (cell_of v w)) (cell_of v w)) ≡ cell_of v w
-byte_back false v w x r h k = refl
-byte_back true v w x r h k =
-    let byte : (v + 256 * r) % 256 ≡ v = omega arith in
-    ap (λ n. written n (written x (cell_of v w))) byte ∙ written_back v w x h k
+byte_back on v w x r h k = grind (arith, written_back)
 
 pub field_back : (ons : List Bool) (x a v w : ℕ)
     → write ons (read (field (config a) (length ons) v w 0) (config a) ons) (config a) (write ons x (config a) (field (config a) (length ons) v w 0)) ≡ field (config a) (length ons) v w 0

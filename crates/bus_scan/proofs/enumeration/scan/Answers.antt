@@ -1,4 +1,4 @@
-use Rattle.std.proofs.Common.{◌≡◌, List, [], sym, ap, subst, refl, inl, ◌∙◌}
+use Rattle.std.proofs.Common.{◌≡◌, List, [], sym, ap, subst, refl, inl, ◌∙◌, arith}
 use Rattle.std.proofs.lemmas.Result.{err_from_is_err_and}
 use Rattle.model_set_up.specs.FunctionTable.{TableRow, scanned_table}
 use Rattle.model_set_up.specs.ScanOrder.{on}
@@ -17,11 +17,7 @@ begun : (s : State) (rows : List TableRow) → IsAtReset s → rows ≡ [] → I
 begun s rows at none = subst (λ (rows : List TableRow). IsAt (board_at s.functions) (on [] 0) s rows 0) (sym none) (started (board_at s.functions) at.board s at.registers)
 
 pub returns-in_err-scan_bus-clause-refused : goal.returns-in_err-scan_bus-clause-refused
-returns-in_err-scan_bus-clause-refused c =
-    let b = board_at c.args.host.now.state.functions in
-    let p = err_from_is_err_and c.from_residual.result c.from_residual.ensures.1 in
-    let refused = c.in_err-scan_bus.ensures.scanned b (whole c.args.host.now.state c.requires) (begun c.args.host.now.state c.new.result.items c.requires c.new.ensures.items) in
-    rw (p.1, p.2) refused.cause
+returns-in_err-scan_bus-clause-refused c = grind (arith, err_from_is_err_and, whole, begun)
 
 pub returns-in_err-scan_bus-clause-board : goal.returns-in_err-scan_bus-clause-board
 returns-in_err-scan_bus-clause-board c =
@@ -29,9 +25,7 @@ returns-in_err-scan_bus-clause-board c =
     same_board b c.scan_bus.new.host.state (c.in_err-scan_bus.ensures.scanned b (whole c.args.host.now.state c.requires) (begun c.args.host.now.state c.new.result.items c.requires c.new.ensures.items)).registers
 
 pub returns-in_err-scan_bus-clause-own : goal.returns-in_err-scan_bus-clause-own
-returns-in_err-scan_bus-clause-own c =
-    let b = board_at c.args.host.now.state.functions in
-    (c.in_err-scan_bus.ensures.scanned b (whole c.args.host.now.state c.requires) (begun c.args.host.now.state c.new.result.items c.requires c.new.ensures.items)).registers
+returns-in_err-scan_bus-clause-own c = grind (arith, whole, begun)
 
 pub returns-clause-board : goal.returns-clause-board
 returns-clause-board c =
@@ -62,8 +56,4 @@ returns-clause-numbered c =
     λ i. record { state = scanned.state i; apertures = c.scan_bus.ensures.kept i }
 
 pub returns-clause-own : goal.returns-clause-own
-returns-clause-own c =
-    let b = board_at c.args.host.now.state.functions in
-    let at = c.in_ok-scan_bus.ensures.scanned b (whole c.args.host.now.state c.requires) (begun c.args.host.now.state c.new.result.items c.requires c.new.ensures.items) in
-    let scanned = ended b c.requires.board c.scan_bus.new.host.state c.scan_bus.new.self.rows.items c.scan_bus.new.self.last at in
-    (board_numbers b, scanned.state)
+returns-clause-own c = grind (arith, whole, begun, ended)

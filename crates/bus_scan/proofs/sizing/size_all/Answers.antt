@@ -1,4 +1,4 @@
-use Rattle.std.proofs.Common.{◌≡◌, ◌++◌, drop, take, length, sym, ap, ◌∙◌, arith}
+use Rattle.std.proofs.Common.{◌≡◌, ◌++◌, drop, take, length, ap, ◌∙◌, arith}
 use Rattle.std.proofs.lemmas.List.{length-map}
 use Rattle.model_board.specs.AtReset.{board_at}
 use Rattle.model_set_up.specs.FunctionTable.{table_row, met_decl, sized_table}
@@ -24,12 +24,7 @@ loop-row-preserved c =
 
 -- the rows when the loop ends
 sized : (c : goal.After-table-1) → take c.table.inside.rows.len (c.loop-row.row-items ++ drop (length c.loop-row.row-items) c.table.inside.rows.items) ≡ sized_table (board_at c.args.host.now.state.functions)
-sized c =
-    let b = board_at c.args.host.now.state.functions in
-    let count = ap length (c.deref_mut-row-items.ensures.value ∙ c.table.view_is ∙ c.requires.scanned) ∙ length-map b (table_row b met_decl) in
-    came_back c.table.inside.rows.len c.loop-row.row-items c.table.inside.rows.items (c.loop-row.auto.row-items ∙ ap length c.deref_mut-row-items.ensures.value)
-    (sym c.deref_mut-row-items.ensures.len ∙ ap length c.deref_mut-row-items.ensures.value)
-    ∙ whole_sized c.args.host.now c.loop-row.host c.loop-row.row-items c.loop-row.row-index c.loop-row.invariant (omega (arith, count))
+sized c = grind (arith, length-map, came_back, whole_sized)
 
 pub returns-clause-sized : goal.returns-clause-sized
 returns-clause-sized c = sized c
