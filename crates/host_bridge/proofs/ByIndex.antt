@@ -1,11 +1,11 @@
 -- One function of a board, lent by its index: it is the one at its path.
 --     IsLentAt fs i e      the function at an index is the endpoint that is lent
 --     IsLocated fs space a l      the first claim of an address is in the function at an index
-use Rattle.std.proofs.Common.{◌≡◌, ℕ, ◌<◌, zero, suc, Bool, true, false, cond, List, [], ◌∷◌, length, Option, Some, None, refl, sym, ap, ap₂, subst, ◌∙◌, rules}
+use Rattle.std.proofs.Common.{◌≡◌, ℕ, ◌<◌, zero, suc, cond, List, [], ◌∷◌, length, Option, Some, None, refl, sym, ap, subst, ◌∙◌, rules, arith}
 use Rattle.std.specs.Prelude.{find, map, IsFalse, IsSome}
 use Rattle.std.specs.List.{slice_get, slice_set}
-use Rattle.std.specs.Option.{option_map, option_map_or}
-use Rattle.lists.specs.Elements.{Each, first_of_two, first_some}
+use Rattle.std.specs.Option.{option_map_or}
+use Rattle.lists.specs.Elements.{Each, first_some}
 use Rattle.model_registers.specs.Registers.{File}
 use Rattle.model_registers.specs.Decoding.{Space, Function}
 use Rattle.model_registers.specs.CopiedFiles.{after_reset}
@@ -15,51 +15,33 @@ use Rattle.model_board.specs.Claims.{Claim, claim_at, claim_of, first_claim}
 use Rattle.model_board.proofs.PathEnds.{path_self, path_eq-sym}
 use Rattle.model_board.proofs.PathOrder.{path_same}
 use Rattle.lists.proofs.FirstFound.{found_passes}
-use Rattle.lists.proofs.Indices.{at_below}
+use Rattle.lists.proofs.Indices.{at_below, each_at, find_at, pair_at}
 use Rattle.bridge_forward.specs.declared.bus.Located.{Located}
 use Rattle.bridge_forward.specs.Lending.{as_endpoint, endpoint_at, with_endpoint, endpoint_nth, with_endpoint_nth}
 use Rattle.bridge_forward.specs.Locating.{located_claim}
 use Rattle.host_bridge.specs.ByIndex.{file_nth, with_file_nth, with_reset_nth}
 use Rattle.host_bridge.specs.HostState.{HostState}
-use Rattle.host_bridge.proofs.Lent.{HasDistinctPaths, shown, changed_endpoint, kept_endpoint, claimed_by, claimed_endpoint}
+use Rattle.host_bridge.proofs.Lent.{HasDistinctPaths, changed_endpoint, kept_endpoint, claimed_by, claimed_endpoint}
 use Rattle.host_bridge.proofs.ClaimedAccesses.{IsClaimed}
 
 -- ---- the function at an index is the one at its path
 
-there_at : (f : BoardFunction) (fs : List BoardFunction) (i : ℕ) (P : BoardFunction → Type 0) → Each P fs → slice_get fs i ≡ Some f → P f
-there_at f [] i P each e = cc
-there_at f (g ∷ gs) zero P each e = let same : g ≡ f = cc in subst P same each.0
-there_at f (g ∷ gs) (suc i) P each e = there_at f gs i P each.1 e
+abbrev Differ : BoardFunction → BoardFunction → Type 0
+Differ f g = IsFalse (path_eq f.path g.path)
 
 module _ (f : BoardFunction) where
   pub found_at : (fs : List BoardFunction) (i : ℕ) → HasDistinctPaths fs → slice_get fs i ≡ Some f → find (λ g. path_eq g.path f.path) fs ≡ Some f
-  found_at [] i distinct e = cc
-  found_at (g ∷ gs) zero distinct e =
-      let same : g ≡ f = cc in
-      let here : path_eq g.path f.path ≡ true = ap (λ (h : BoardFunction). path_eq h.path f.path) same ∙ path_self f.path in
-      rw here (ap Some same)
-  found_at (g ∷ gs) (suc i) distinct e =
-      let other : path_eq g.path f.path ≡ false = there_at f gs i (λ h. IsFalse (path_eq g.path h.path)) distinct.0 e in
-      rw other (found_at gs i distinct.1 e)
+  found_at fs i distinct e = find_at (λ g. path_eq g.path f.path) fs i f e (path_self f.path) (λ j y l g. pair_at Differ fs j i y f distinct l g e)
 
   -- none of the others stands at the path
   others : (x : BoardFunction) (fs : List BoardFunction) → Each (λ g. IsFalse (path_eq f.path g.path)) fs → map (λ (g : BoardFunction). cond (path_eq g.path f.path) x g) fs ≡ fs
   others x [] h = refl
-  others x (g ∷ gs) h = let other : path_eq g.path f.path ≡ false = flipped g h.0 in rw other (ap (λ gs. g ∷ gs) (others x gs h.1))
-    where
-      flipped : (g : BoardFunction) → path_eq f.path g.path ≡ false → path_eq g.path f.path ≡ false
-      flipped g h = path_eq-sym g.path f.path ∙ h
+  others x (g ∷ gs) h = grind (arith, path_eq-sym g.path f.path, others x gs h.1)
 
   pub set_at : (x : BoardFunction) (fs : List BoardFunction) (i : ℕ) → HasDistinctPaths fs → slice_get fs i ≡ Some f → slice_set fs i x ≡ map (λ (g : BoardFunction). cond (path_eq g.path f.path) x g) fs
   set_at x [] i distinct e = cc
-  set_at x (g ∷ gs) zero distinct e =
-      let same : g ≡ f = cc in
-      let here : path_eq g.path f.path ≡ true = ap (λ (h : BoardFunction). path_eq h.path f.path) same ∙ path_self f.path in
-      let apart : Each (λ h. IsFalse (path_eq f.path h.path)) gs = subst (λ (k : BoardFunction). Each (λ h. IsFalse (path_eq k.path h.path)) gs) same distinct.0 in
-      rw here (ap (λ hs. x ∷ hs) (sym (others x gs apart)))
-  set_at x (g ∷ gs) (suc i) distinct e =
-      let other : path_eq g.path f.path ≡ false = there_at f gs i (λ h. IsFalse (path_eq g.path h.path)) distinct.0 e in
-      rw other (ap (λ hs. g ∷ hs) (set_at x gs i distinct.1 e))
+  set_at x (g ∷ gs) zero distinct e = grind (arith, path_self f.path, others x gs)
+  set_at x (g ∷ gs) (suc i) distinct e = grind (arith, each_at (Differ g) gs i f distinct.0 e, set_at x gs i distinct.1 e)
 
   pub nth_at : (fs : List BoardFunction) (i : ℕ) → HasDistinctPaths fs → slice_get fs i ≡ Some f → endpoint_nth fs i ≡ endpoint_at fs f.path
   nth_at fs i distinct e = ap (λ o. option_map_or as_endpoint o None) (e ∙ sym (found_at fs i distinct e))
@@ -76,19 +58,11 @@ pub record IsLentAt (fs : List BoardFunction) (i : ℕ) (e : Function) : Type 0 
 
 module _ (fs : List BoardFunction) (i : ℕ) (e : Function) (is : endpoint_nth fs i ≡ Some e) where
   pub file_lent : e.file ≡ file_nth fs i
-  file_lent = by (slice_get fs i) is
-    where
-      by : (o : Option BoardFunction) → option_map_or as_endpoint o None ≡ Some e → e.file ≡ option_map_or (λ (f : BoardFunction). f.file) o []
-      by None h = cc
-      by (Some f) h = sym (shown f.path f.decl f.file e h).file
+  file_lent = grind arith
 
   module _ (distinct : HasDistinctPaths fs) where
     lent_at : IsLentAt fs i e
-    lent_at = by (slice_get fs i) refl is
-      where
-        by : (o : Option BoardFunction) → slice_get fs i ≡ o → option_map_or as_endpoint o None ≡ Some e → IsLentAt fs i e
-        by None at h = cc
-        by (Some f) at h = record { function = f; there = at; lent = sym (nth_at f fs i distinct at) ∙ is }
+    lent_at = grind (arith, nth_at)
 
     pub kept_nth : with_endpoint_nth i e fs ≡ fs
     kept_nth = with_nth lent_at.function e fs i distinct lent_at.there ∙ kept_endpoint lent_at.function.path e fs distinct lent_at.lent
@@ -121,11 +95,7 @@ pub located : (h now : HostState) (space : Space) (a : ℕ) (l : Located) → h 
 located h now space a l is claim within = subst (λ (k : HostState). IsLocated k.state.functions space a l) (sym is) (by_nth (at_below now.state.functions l.index within))
   where
     by_nth : (f : BoardFunction) × (slice_get now.state.functions l.index ≡ Some f) → IsLocated now.state.functions space a l
-    by_nth w = record {
-      function = w.0;
-      there = w.1;
-      claimed = record { first = sym claim ∙ ap (λ o. option_map (λ (f : BoardFunction). claim_at f.path (record { index = l.region; offset = l.offset })) o) w.1 };
-    }
+    by_nth w = grind arith
 
 -- an endpoint stands there
 pub some_nth : (fs : List BoardFunction) (space : Space) (a : ℕ) (l : Located) → IsLocated fs space a l → HasDistinctPaths fs → endpoint_nth fs l.index ≡ None → ⊥
@@ -140,30 +110,13 @@ endpoint_there_nth fs space a l e h distinct is = sym (nth_at h.function fs l.in
 
 none_found : (all : List BoardFunction) (space : Space) (a : ℕ) (p : Path) (fs : List BoardFunction) → find (λ f. path_eq f.path p) fs ≡ None → (c : Claim) → first_some (claim_of all space a) fs ≡ Some c → c.path ≡ p → ⊥
 none_found all space a p [] none c h is = cc
-none_found all space a p (f ∷ fs) none c h is = by_test (path_eq f.path p) refl none (claim_of all space a f) refl h (λ n k. none_found all space a p fs n c k is)
-  where
-    by_test : (t : Bool) → path_eq f.path p ≡ t → cond t (Some f) (find (λ f. path_eq f.path p) fs) ≡ None → (o : Option Claim) → claim_of all space a f ≡ o
-        → first_of_two o (first_some (claim_of all space a) fs) ≡ Some c → (find (λ f. path_eq f.path p) fs ≡ None → first_some (claim_of all space a) fs ≡ Some c → ⊥) → ⊥
-    by_test true e n o g k more = cc
-    by_test false e n None g k more = more n k
-    by_test false e n (Some d) g k more =
-        let by = claimed_by all space a f c (g ∙ k) in
-        let here : path_eq f.path p ≡ true = subst (λ q. path_eq f.path q ≡ true) (by.0 ∙ is) (path_self f.path) in cc
+none_found all space a p (f ∷ fs) none c h is = grind (arith, none_found all space a p fs, claimed_by all space a f c, path_self f.path)
 
 -- the function that is found by the path of the first claim tells it by its index
 pub claim_by_path : (fs : List BoardFunction) (space : Space) (a : ℕ) (c : Claim) (l : Located) → first_claim fs space a ≡ Some c → slice_get fs l.index ≡ find (λ f. path_eq f.path c.path) fs → c.index ≡ l.region → c.offset ≡ l.offset
     → located_claim fs (Some l) ≡ first_claim fs space a
-claim_by_path fs space a c l first found region offset = by_case (slice_get fs l.index) refl
-  where
-    by_case : (o : Option BoardFunction) → slice_get fs l.index ≡ o → option_map (λ (f : BoardFunction). claim_at f.path (record { index = l.region; offset = l.offset })) o ≡ first_claim fs space a
-    by_case None e = absurd (none_found fs space a c.path fs (sym found ∙ e) c first refl)
-    by_case (Some f) e =
-        let here : path_eq f.path c.path ≡ true = found_passes (λ (g : BoardFunction). path_eq g.path c.path) fs f (sym found ∙ e) in
-        let path : f.path ≡ c.path = path_same f.path c.path here in
-        let is : claim_at f.path (record { index = l.region; offset = l.offset }) ≡ c =
-        ap (λ (p : Path). claim_at p (record { index = l.region; offset = l.offset })) path
-        ∙ ap₂ (λ (n m : ℕ). claim_at c.path (record { index = n; offset = m })) (sym region) (sym offset) in
-        ap Some is ∙ sym first
+claim_by_path fs space a c l first found region offset =
+    grind (arith, none_found fs space a c.path fs, found_passes (λ (g : BoardFunction). path_eq g.path c.path) fs, path_same)
 
 -- the path of a claim is that of a function
 pub claim_stands : (fs : List BoardFunction) (space : Space) (a : ℕ) (c : Claim) → first_claim fs space a ≡ Some c → find (λ f. path_eq f.path c.path) fs ≡ None → ⊥

@@ -1,16 +1,17 @@
 -- One function of a board, lent by its path.
 --     HasDistinctPaths fs      no two functions stand at one path
 --     IsEndpointAt fs p      the function at the path is an endpoint
-use Rattle.std.proofs.Common.{◌≡◌, ℕ, Bool, true, false, cond, List, [], ◌∷◌, Option, Some, None, refl, sym, ap, ap₂, subst, ◌∙◌}
+use Rattle.lists.proofs.EachLemmas.{pairs_map}
+use Rattle.std.proofs.Common.{◌≡◌, ℕ, Bool, true, false, cond, List, [], ◌∷◌, Option, Some, None, refl, sym, ap, ap₂, subst, ◌∙◌, arith}
 use Rattle.std.specs.Prelude.{find, IsTrue, IsFalse, IsSome}
 use Rattle.std.specs.Option.{option_map_or}
 use Rattle.lists.specs.Elements.{Each, EachPair, first_of_two, first_some}
 use Rattle.model_registers.specs.Registers.{File}
-use Rattle.model_registers.specs.Decoding.{Space, Function, Hit}
+use Rattle.model_registers.specs.Decoding.{Space, Function}
 use Rattle.model_board.specs.Paths.{Path, path_eq, path_before}
-use Rattle.model_board.specs.Board.{Decl, endpoint, bridge}
+use Rattle.model_board.specs.Board.{Decl, endpoint}
 use Rattle.model_board.specs.State.{BoardFunction, with_file}
-use Rattle.model_board.specs.Claims.{Claim, claim_at, is_forwarded, endpoint_hit, claim_of, first_claim}
+use Rattle.model_board.specs.Claims.{Claim, claim_of, first_claim}
 use Rattle.model_board.specs.Ports.{file_at}
 use Rattle.model_board.proofs.PathOrder.{path_same}
 use Rattle.model_board.proofs.PathEnds.{path_self, path_eq-sym}
@@ -24,13 +25,8 @@ use Rattle.model_board.proofs.PlacesLaw.{before_apart}
 abbrev pub HasDistinctPaths : List BoardFunction → Type 0
 HasDistinctPaths fs = EachPair (λ f g. IsFalse (path_eq f.path g.path)) fs
 
-apart_from : (f : BoardFunction) (fs : List BoardFunction) → Each (λ g. IsTrue (path_before f.path g.path)) fs → Each (λ g. IsFalse (path_eq f.path g.path)) fs
-apart_from f [] h = tt
-apart_from f (g ∷ gs) h = (before_apart f.path g.path h.0, apart_from f gs h.1)
-
 pub distinct_paths : (fs : List BoardFunction) → EachPair (λ f g. IsTrue (path_before f.path g.path)) fs → HasDistinctPaths fs
-distinct_paths [] h = tt
-distinct_paths (f ∷ fs) h = (apart_from f fs h.0, distinct_paths fs h.1)
+distinct_paths fs h = pairs_map (λ f g. IsTrue (path_before f.path g.path)) (λ f g. IsFalse (path_eq f.path g.path)) fs (λ f g k. before_apart f.path g.path k) h
 
 -- ---- the endpoint at a path
 
@@ -40,10 +36,7 @@ pub record IsFunctionOf (f : BoardFunction) (e : Function) : Type 0 where
   pub file : f.file ≡ e.file
 
 pub shown : (p : Path) (d : Decl) (file : File) (e : Function) → as_endpoint (record { path = p; decl = d; file = file }) ≡ Some e → IsFunctionOf (record { path = p; decl = d; file = file }) e
-shown p (bridge d) file e h = cc
-shown p (endpoint d) file e h =
-    let is : record { decl = d; file = file } ≡ e = cc in
-    record { decl = ap (λ (e : Function). endpoint e.decl) is; file = ap (λ (e : Function). e.file) is }
+shown p d file e h = grind arith
 
 pub record IsEndpointAt (fs : List BoardFunction) (p : Path) (e : Function) : Type 0 where
   pub function : BoardFunction
@@ -51,11 +44,7 @@ pub record IsEndpointAt (fs : List BoardFunction) (p : Path) (e : Function) : Ty
   pub is : IsFunctionOf function e
 
 pub endpoint_there : (fs : List BoardFunction) (p : Path) (e : Function) → endpoint_at fs p ≡ Some e → IsEndpointAt fs p e
-endpoint_there fs p e = by_case (find (λ f. path_eq f.path p) fs) refl
-  where
-    by_case : (o : Option BoardFunction) → find (λ f. path_eq f.path p) fs ≡ o → option_map_or as_endpoint o None ≡ Some e → IsEndpointAt fs p e
-    by_case None found h = cc
-    by_case (Some f) found h = record { function = f; found = found; is = shown f.path f.decl f.file e h }
+endpoint_there fs p e = grind (arith, shown)
 
 pub file_at-endpoint : (fs : List BoardFunction) (p : Path) (e : Function) → endpoint_at fs p ≡ Some e → file_at fs p ≡ e.file
 file_at-endpoint fs p e h = let t = endpoint_there fs p e h in ap (λ o. option_map_or (λ (f : BoardFunction). f.file) o []) t.found ∙ t.is.file
@@ -66,9 +55,7 @@ NoneAt p fs = Each (λ g. path_eq g.path p ≡ false) fs
 
 none_at : (x : BoardFunction) (p : Path) (fs : List BoardFunction) → path_eq x.path p ≡ true → Each (λ g. IsFalse (path_eq x.path g.path)) fs → NoneAt p fs
 none_at x p [] here h = tt
-none_at x p (g ∷ gs) here h =
-    let other : path_eq g.path p ≡ false = path_eq-sym g.path p ∙ ap (λ q. path_eq q g.path) (sym (path_same x.path p here)) ∙ h.0 in
-    (other, none_at x p gs here h.1)
+none_at x p (g ∷ gs) here h = (grind (arith, path_eq-sym g.path p, path_same x.path p here), none_at x p gs here h.1)
 
 with_endpoint-none : (p : Path) (e : Function) (fs : List BoardFunction) → NoneAt p fs → with_endpoint p e fs ≡ fs
 with_endpoint-none p e [] h = refl
@@ -90,10 +77,7 @@ left_behind g p e (x ∷ xs) f distinct found decl file = by_case (path_eq x.pat
     by_case true here k more =
         let is : x ≡ f = cc in
         let path : x.path ≡ p = path_same x.path p here in
-        let none : NoneAt p xs = none_at x p xs here distinct.0 in
-        let first : record { path = p; decl = endpoint e.decl; file = e.file } ≡ record x { file = g x.file } = cc in
-        let rest : with_endpoint p e xs ≡ with_file g p xs = with_endpoint-none p e xs none ∙ sym (with_file-none g p xs none) in
-        rw here (ap₂ (λ (y : BoardFunction) ys. y ∷ ys) first rest)
+        grind (arith, none_at, with_endpoint-none, with_file-none)
 
 pub changed_endpoint : (g : File → File) (p : Path) (e : Function) (fs : List BoardFunction) → HasDistinctPaths fs → endpoint_at fs p ≡ Some e
     → with_endpoint p (record e { file = g e.file }) fs ≡ with_file g p fs
@@ -104,19 +88,9 @@ kept_endpoint p e fs distinct h = changed_endpoint (λ file. file) p e fs distin
 
 -- ---- the endpoint of a claim
 
-claimed_by_endpoint : (fs : List BoardFunction) (space : Space) (a : ℕ) (p : Path) (d : Decl) (file : File) (h : Hit)
-    → endpoint_hit (record { path = p; decl = d; file = file }) space a ≡ Some h → IsSome (as_endpoint (record { path = p; decl = d; file = file }))
-claimed_by_endpoint fs space a p (endpoint d) file h e = refl
-claimed_by_endpoint fs space a p (bridge d) file h e = cc
-
 -- the function of a claim is an endpoint, and stands at the path of the claim
 pub claimed_by : (fs : List BoardFunction) (space : Space) (a : ℕ) (f : BoardFunction) (c : Claim) → claim_of fs space a f ≡ Some c → (f.path ≡ c.path) × IsSome (as_endpoint f)
-claimed_by fs space a f c = by_case (is_forwarded fs f.path space a) (endpoint_hit f space a) refl
-  where
-    by_case : (t : Bool) (o : Option Hit) → endpoint_hit f space a ≡ o → cond t (option_map_or (λ (h : Hit). Some (claim_at f.path h)) o None) None ≡ Some c → (f.path ≡ c.path) × IsSome (as_endpoint f)
-    by_case false o hit e = cc
-    by_case true None hit e = cc
-    by_case true (Some h) hit e = let is : claim_at f.path h ≡ c = cc in (ap (λ (c : Claim). c.path) is, claimed_by_endpoint fs space a f.path f.decl f.file h hit)
+claimed_by fs space a f c e = grind arith
 
 abbrev IsClaimedAt : Path → List BoardFunction → BoardFunction → Type 0
 IsClaimedAt p fs f = (find (λ f. path_eq f.path p) fs ≡ Some f) × IsSome (as_endpoint f)
@@ -127,10 +101,7 @@ claim_among all space a [] c distinct = λ e. cc
 claim_among all space a (x ∷ xs) c distinct = by_case (claim_of all space a x) refl (claim_among all space a xs c distinct.1)
   where
     here : claim_of all space a x ≡ Some c → (f : BoardFunction) × IsClaimedAt c.path (x ∷ xs) f
-    here e =
-        let by = claimed_by all space a x c e in
-        let same : path_eq x.path c.path ≡ true = rw by.0 (path_self c.path) in
-        (x, (rw same refl, by.1))
+    here e = grind (arith, claimed_by, path_self)
 
     later : (f : BoardFunction) × IsClaimedAt c.path xs f → (f : BoardFunction) × IsClaimedAt c.path (x ∷ xs) f
     later w =

@@ -1,11 +1,10 @@
 -- An access at CONFIG_DATA: the selected word takes it in the byte lanes in which the port lies.
-use Rattle.std.proofs.Common.{◌≡◌, ℕ, ◌+◌, ◌-◌, ◌*◌, ◌/◌, ◌%◌, ◌^◌, ◌≤◌, inl, inr, Bool, true, false, ◌&&◌, cond, refl, sym, ap, ap₂, subst, ◌∙◌, arith}
-use Rattle.std.specs.Prelude.{nat_le, ◌==◌}
+use Rattle.std.proofs.Common.{◌≡◌, ℕ, ◌+◌, ◌-◌, ◌*◌, ◌/◌, ◌%◌, ◌^◌, ◌≤◌, sym, ap, ap₂, subst, ◌∙◌, arith}
 use Rattle.std.proofs.lemmas.Bool.Decides.{nat_tests}
 use Rattle.lists.proofs.Tests.{left_true, right_true}
 use Rattle.model_registers.specs.ByteEnables.{IsWidth, lanes, enables_of, into_lanes}
 use Rattle.model_board.specs.State.{State}
-use Rattle.model_board.specs.Ports.{is_enabled, selected, selected_register, config_reply, after_config_write, config_address, config_data, ordinary, port_target, target_reply, port_reply, after_target_write, after_port_write}
+use Rattle.model_board.specs.Ports.{selected, selected_register, config_reply, after_config_write, config_data, port_target, target_reply, port_reply, after_target_write, after_port_write}
 use Rattle.model_board.proofs.ConfigAccesses.{config_read_by_lanes, config_write_by_lanes}
 
 -- the latch selects a function and a word, and the port a byte of it
@@ -17,15 +16,7 @@ record IsDataPort (port : ℕ) : Type 0 where
   to : port ≤ 0xcff
 
 data_port : (latch port w : ℕ) → IsDataTarget latch port w → IsDataPort port
-data_port latch port w = by_case (port == 0xcf8 && w == 4) (is_enabled latch && (nat_le 0xcfc port && nat_le port 0xcff)) refl
-  where
-    by_case : (s t : Bool) → (is_enabled latch && (nat_le 0xcfc port && nat_le port 0xcff)) ≡ t
-        → config_data (selected latch) (selected_register latch + (port - 0xcfc)) ≡ cond s config_address (cond t (config_data (selected latch) (selected_register latch + (port - 0xcfc))) ordinary) → IsDataPort port
-    by_case true t e k = cc
-    by_case false false e k = cc
-    by_case false true e k =
-        let both : (nat_le 0xcfc port && nat_le port 0xcff) ≡ true = right_true (is_enabled latch) (nat_le 0xcfc port && nat_le port 0xcff) e in
-        record { from = grind (arith, nat_tests, left_true (nat_le 0xcfc port) (nat_le port 0xcff) both); to = grind (arith, nat_tests, right_true (nat_le 0xcfc port) (nat_le port 0xcff) both) }
+data_port latch port w = grind (arith, right_true, nat_tests, left_true)
 
 -- a byte of the word at `reg`, by a port
 record IsByteOf (reg port off : ℕ) : Type 0 where
@@ -37,9 +28,7 @@ byte_of : (latch port : ℕ) → IsDataPort port → IsByteOf (selected_register
 byte_of latch port h = record { word = omega (arith, h.from, h.to); lane = omega (arith, h.from, h.to); halves = λ k. omega (arith, h.from, h.to) }
 
 aligned_byte : (reg port off w : ℕ) → IsByteOf reg port off → IsWidth w → port % w ≡ 0 → off % w ≡ 0
-aligned_byte reg port off w h (inl e) k = let P : ℕ → Type 0 = λ w. off % w ≡ 0 in subst P (sym e) (omega arith)
-aligned_byte reg port off w h (inr (inl e)) k = let P : ℕ → Type 0 = λ w. off % w ≡ 0 in let even : port % 2 ≡ 0 = subst (λ w. port % w ≡ 0) e k in subst P (sym e) (h.halves even)
-aligned_byte reg port off w h (inr (inr e)) k = let P : ℕ → Type 0 = λ w. off % w ≡ 0 in let whole : port % 4 ≡ 0 = subst (λ w. port % w ≡ 0) e k in subst P (sym e) (h.lane ∙ whole)
+aligned_byte reg port off w h e k = grind arith
 
 -- an access at CONFIG_DATA in code: the latch and the address are known by equations
 module _ (s : State) (latch port a w : ℕ) (width : IsWidth w) (aligned : port % w ≡ 0) (latch_is : latch ≡ s.latch) (a_is : a ≡ port) (target : IsDataTarget latch port w) where
