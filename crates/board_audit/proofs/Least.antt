@@ -1,10 +1,12 @@
 -- The least of addresses that may be there.
-use Rattle.std.proofs.Common.{◌≡◌, ℕ, Bool, true, false, ◌&&◌, cond, List, [], ◌∷◌, ◌++◌, Option, Some, None, refl, sym, ap, ap₂, ◌∙◌, append_assoc}
-use Rattle.std.specs.Prelude.{not, min, map, filter}
+use Rattle.lists.proofs.Tests.{and_false}
+use Rattle.std.proofs.lemmas.List.Elements.{filter-append}
+use Rattle.std.proofs.Common.{◌≡◌, ℕ, Bool, false, ◌&&◌, cond, List, [], ◌∷◌, ◌++◌, Option, None, refl, sym, ap, ap₂, ◌∙◌, arith}
+use Rattle.std.specs.Prelude.{not, map, filter}
 use Rattle.std.specs.List.{list_any}
-use Rattle.std.specs.Option.{option_map_or, option_to_list}
+use Rattle.std.specs.Option.{option_to_list}
 use Rattle.std.proofs.lemmas.List.{map-append}
-use Rattle.model_registers.specs.Decoding.{Space, io, memory, same_space}
+use Rattle.model_registers.specs.Decoding.{same_space}
 use Rattle.model_board.specs.Routing.{RoutingRow, row_forwards}
 use Rattle.model_set_up.specs.PlacedRegions.{PlacedRegion, holds}
 use Rattle.lists.proofs.Members.{none_pass}
@@ -13,36 +15,16 @@ use Rattle.model_audit.specs.Problems.{least, unforwarded, shared}
 use Rattle.model_audit.proofs.Answering.{forwards_extents}
 use Rattle.board_audit.specs.Extents.{least_of}
 
-least_front : (o : Option ℕ) (ys : List ℕ) → least (option_to_list o ++ ys) ≡ least_of o (least ys)
-least_front None ys = refl
-least_front (Some x) ys = by (least ys)
-  where
-    by : (o : Option ℕ) → Some (option_map_or (min x) o x) ≡ least_of (Some x) o
-    by None = refl
-    by (Some y) = refl
-
-least_one : (o : Option ℕ) → least (option_to_list o) ≡ o
-least_one None = refl
-least_one (Some x) = refl
-
-filter_append : (t : ℕ → Bool) (xs ys : List ℕ) → filter t (xs ++ ys) ≡ filter t xs ++ filter t ys
-filter_append t [] ys = refl
-filter_append t (x ∷ xs) ys = by (t x) (filter_append t xs ys)
-  where
-    by : (u : Bool) → filter t (xs ++ ys) ≡ filter t xs ++ filter t ys → cond u (x ∷ filter t (xs ++ ys)) (filter t (xs ++ ys)) ≡ cond u (x ∷ filter t xs) (filter t xs) ++ filter t ys
-    by true h = ap (λ zs. x ∷ zs) h
-    by false h = h
-
 filter_same : (t u : ℕ → Bool) (xs : List ℕ) → ((n : ℕ) → t n ≡ u n) → filter t xs ≡ filter u xs
 filter_same t u [] h = refl
 filter_same t u (x ∷ xs) h = ap₂ (λ (b : Bool) (ys : List ℕ). cond b (x ∷ ys) ys) (h x) (filter_same t u xs h)
 
 -- the least of those that pass, piece by piece
 least_piece : (t : ℕ → Bool) (o : Option ℕ) (xs ys : List ℕ) → option_to_list o ≡ filter t xs → least (filter t (xs ++ ys)) ≡ least_of o (least (filter t ys))
-least_piece t o xs ys e = ap least (filter_append t xs ys ∙ ap (λ zs. zs ++ filter t ys) (sym e)) ∙ least_front o (filter t ys)
+least_piece t o xs ys e = grind (arith, filter-append)
 
 least_last : (t : ℕ → Bool) (o : Option ℕ) (xs : List ℕ) → option_to_list o ≡ filter t xs → least (filter t xs) ≡ o
-least_last t o xs e = ap least (sym e) ∙ least_one o
+least_last t o xs e = grind arith
 
 abbrev pub lost_among : PlacedRegion → List Extent → ℕ → Bool
 lost_among q es n = holds q.space n q && not (list_any (extent_holds n) es)
@@ -67,18 +49,5 @@ least_lost r q xs ys es a b c f g h =
 abbrev both_answer : Agent → Agent → ℕ → Bool
 both_answer x y n = answers x.space n x && answers x.space n y
 
-space_flip : (x y : Space) → same_space x y ≡ same_space y x
-space_flip io io = refl
-space_flip io memory = refl
-space_flip memory io = refl
-space_flip memory memory = refl
-
 pub none_shared : (x y : Agent) → same_space x.space y.space ≡ false → None ≡ shared x y
-none_shared x y h = ap least (sym (none_pass (both_answer x y) (map (λ e. e.first) (x.extents ++ y.extents)) (λ n m. fails n)))
-  where
-    fails : (n : ℕ) → both_answer x y n ≡ false
-    fails n = let e : same_space y.space x.space ≡ false = space_flip y.space x.space ∙ h in rw e (and_false (answers x.space n x))
-      where
-        and_false : (b : Bool) → (b && false) ≡ false
-        and_false true = refl
-        and_false false = refl
+none_shared x y h = grind (arith, none_pass, and_false)

@@ -1,9 +1,9 @@
 -- Where spans in order end before the next begin, agents are alone; so those of other buses and spaces needn't be compared.
-use Rattle.std.proofs.Common.{◌≡◌, ℕ, zero, suc, ◌+◌, ◌-◌, ◌*◌, ◌<◌, ◌≤◌, ◌⊎◌, inl, inr, Bool, true, false, cond, List, [], ◌∷◌, ◌++◌, length, take, get_or, refl, sym, ap, ap₂, ◌∙◌, subst, arith, append_assoc}
+use Rattle.std.proofs.Common.{◌≡◌, ℕ, zero, suc, ◌+◌, ◌-◌, ◌*◌, ◌<◌, ◌≤◌, ◌⊎◌, inl, inr, Bool, true, false, cond, List, [], ◌∷◌, ◌++◌, length, take, get_or, refl, sym, ap, ap₂, ◌∙◌, subst, arith, append_assoc, append-nil}
 use Rattle.std.specs.Prelude.{filter, flat_map}
 use Rattle.std.specs.List.{Contains}
 use Rattle.std.specs.List.Sorted.{IsNonDecreasingBy, IsPermutation}
-use Rattle.std.proofs.lemmas.List.{length-take}
+use Rattle.std.proofs.lemmas.List.{length-take, take_more}
 use Rattle.std.proofs.lemmas.List.Sorted.{Contains-permutation}
 use Rattle.std.proofs.Math.Nat.{min-le_left, min-le_right}
 use Rattle.lists.specs.Elements.{IsIn}
@@ -39,13 +39,7 @@ module _ (spans : List Span) (rising : IsNonDecreasingBy key_of spans) (groups :
       let low = rising i (i + 1) d (omega arith) (omega arith) in
       let high = rising (i + 1) j d (omega arith) within in
       let one = get_or spans i d in
-      let next = get_or spans (i + 1) d in
-      let other = get_or spans j d in
-      let b = between (get_or spans i d).group (get_or spans (i + 1) d).group (place_of one) (place_of next) (place_of other) 0 0 0 (small one) (small next) (small other) low
-      (subst (λ g. key_of next ≤ g * 0x10000000000000000 + place_of other) (sym same) high) in
-      let ends : (get_or spans i d).last < place_of next = apart i d (omega arith) (ap (crowds groups) (sym b.0 ∙ same) ∙ quiet) b.0 in
-      let first : place_of other ≤ (get_or spans j d).first = min-le_left (get_or spans j d).first 0xffffffffffffffff in
-      omega (arith, ends, b.1, first)
+      grind (arith, between, small, min-le_left)
 
   -- two spans of two agents
   pub two_spans : (s t : Span) → Contains spans s → Contains spans t → (s.agent ≡ t.agent → ⊥) → s.group ≡ t.group → crowds groups t.group ≡ false → (s.last < t.first) ⊎ (t.last < s.first)
@@ -83,11 +77,7 @@ one_pair a b h =
 -- what gives nothing may be left out
 left_out : {A B : Type 0} (f : A → List B) (p : A → Bool) (xs : List A) → ((x : A) → IsIn x xs → p x ≡ false → f x ≡ []) → flat_map f (filter p xs) ≡ flat_map f xs
 left_out f p [] none = refl
-left_out f p (x ∷ xs) none = by (p x) refl (left_out f p xs (λ y m. none y (inr m)))
-  where
-    by : (t : Bool) → p x ≡ t → flat_map f (filter p xs) ≡ flat_map f xs → flat_map f (cond t (x ∷ filter p xs) (filter p xs)) ≡ f x ++ flat_map f xs
-    by true e rest = ap (λ ys. f x ++ ys) rest
-    by false e rest = rest ∙ sym (ap (λ ys. ys ++ flat_map f xs) (none x (inl refl) e))
+left_out f p (x ∷ xs) none = let rest = left_out f p xs (λ y m. none y (inr m)) in grind (arith, rest, none x (inl refl))
 
 module _ (all spans : List Span) (moved : IsPermutation all spans) (rising : IsNonDecreasingBy key_of spans) (groups : List ℕ) (apart : AreApartBut groups spans) where
   alone : (m n : ℕ) (a b : Agent) → m < n → ((x : Span) → IsIn x (agent_spans m a) → IsIn x all) → ((x : Span) → IsIn x (agent_spans n b) → IsIn x all) → (is_crowded groups a ≡ false) ⊎ (is_crowded groups b ≡ false) → AreAlone a b
@@ -132,28 +122,17 @@ few_contended agents spans groups moved rising apart = pruned (spans_from 0 agen
 -- ---- the spans of agents, one after the other
 
 pub spans_push : (n : ℕ) (xs : List Agent) (a : Agent) → spans_from n (xs ++ a ∷ []) ≡ spans_from n xs ++ agent_spans (n + length xs) a
-spans_push n [] a = let z : n ≡ n + 0 = omega arith in append_nil (agent_spans n a) ∙ ap (λ k. agent_spans k a) z
-  where
-    append_nil : (ys : List Span) → ys ++ [] ≡ ys
-    append_nil [] = refl
-    append_nil (y ∷ ys) = ap (λ zs. y ∷ zs) (append_nil ys)
+spans_push n [] a = let z : n ≡ n + 0 = omega arith in append-nil (agent_spans n a) ∙ ap (λ k. agent_spans k a) z
 spans_push n (x ∷ xs) a =
     let z : n + 1 + length xs ≡ n + suc (length xs) = omega arith in
     ap (λ ys. agent_spans n x ++ ys) (spans_push (n + 1) xs a ∙ ap (λ k. spans_from (n + 1) xs ++ agent_spans k a) z)
     ∙ sym (append_assoc (agent_spans n x) (spans_from (n + 1) xs) (agent_spans (n + suc (length xs)) a))
 
-take_more : (xs : List Agent) (i : ℕ) (a d : Agent) → a ≡ get_or xs i d → i < length xs → take (i + 1) xs ≡ take i xs ++ a ∷ []
-take_more xs i a d e h = let one : suc i ≡ i + 1 = omega arith in subst (λ n. take n xs ≡ take i xs ++ a ∷ []) one (by_suc xs i e h)
-  where
-    by_suc : (xs : List Agent) (i : ℕ) → a ≡ get_or xs i d → i < length xs → take (suc i) xs ≡ take i xs ++ a ∷ []
-    by_suc [] i e h = absurd (omega arith)
-    by_suc (x ∷ xs) zero e h = ap (λ z. z ∷ []) (sym e)
-    by_suc (x ∷ xs) (suc i) e h = ap (λ zs. x ∷ zs) (by_suc xs i e (omega arith))
-
 pub spans_more : (xs : List Agent) (i : ℕ) (a d : Agent) → a ≡ get_or xs i d → i < length xs → spans_from 0 (take i xs) ++ agent_spans i a ≡ spans_from 0 (take (i + 1) xs)
 spans_more xs i a d e h =
     let size : 0 + length (take i xs) ≡ i = taken xs i h in
-    sym (ap (spans_from 0) (take_more xs i a d e h) ∙ spans_push 0 (take i xs) a ∙ ap (λ k. spans_from 0 (take i xs) ++ agent_spans k a) size)
+    let next_taken : take (i + 1) xs ≡ take i xs ++ a ∷ [] = rw e (take_more xs i d h) in
+    sym (ap (spans_from 0) next_taken ∙ spans_push 0 (take i xs) a ∙ ap (λ k. spans_from 0 (take i xs) ++ agent_spans k a) size)
   where
     taken : (xs : List Agent) (k : ℕ) → k < length xs → 0 + length (take k xs) ≡ k
     taken xs k l = simp length-take (omega (arith, l))
