@@ -1,5 +1,5 @@
 -- What stands above all functions of a board, one row after the other.
-use Rattle.std.proofs.Common.{◌≡◌, ℕ, zero, suc, ◌+◌, ◌-◌, ◌≤◌, ◌<◌, ◌⊎◌, inl, inr, Bool, true, false, ◌&&◌, List, [], ◌∷◌, ◌++◌, map, length, Some, refl, sym, ap, ap₂, ◌∙◌, subst, arith, get_or, ◌≢◌, length-append, get_or-set_other, get_or-set_same}
+use Rattle.std.proofs.Common.{◌≡◌, ℕ, zero, suc, ◌+◌, ◌-◌, ◌≤◌, ◌<◌, ◌⊎◌, inl, inr, true, ◌&&◌, List, [], ◌∷◌, ◌++◌, map, length, Some, refl, sym, ap, ap₂, ◌∙◌, subst, arith, get_or, ◌≢◌, length-append, get_or-set_other, get_or-set_same}
 use Rattle.std.specs.Prelude.{IsTrue}
 use Rattle.std.specs.List.{list_all, slice_get, slice_set}
 use Rattle.std.proofs.lemmas.Option.{slice_get_within}
@@ -9,8 +9,9 @@ use Rattle.model_board.specs.Paths.{Path, path_eq, path_before, leads_to, parent
 use Rattle.model_board.specs.Board.{is_bridge, is_bridge_at, Row, Board, IsBoard}
 use Rattle.model_set_up.specs.Pools.{bridges_above, has_io, has_pref, has_pref64}
 use Rattle.model_set_up.specs.FunctionTable.{TableRow, board_in}
-use Rattle.model_board.proofs.PathOrder.{one, path_same, behind_trans, leads_before}
+use Rattle.model_board.proofs.PathOrder.{path_same, leads_before}
 use Rattle.model_board.proofs.PathEnds.{snoc, length_snoc, leads_self, not_before_itself, no_turn, leads_longer}
+use Rattle.bridge_forward.proofs.Extents.{between}
 use Rattle.lists.proofs.Indices.{same_at, at_below, each_at, pair_at, any_at, map_at, at_map, each_by_index}
 use Rattle.window_packing.specs.declared.above.Above.{Above}
 use Rattle.window_packing.specs.Buses.{bus_path, nothing_above, behind, AreAbove}
@@ -50,21 +51,6 @@ all_told b xs buses f = record {
 abbrev pub StandsOn : Board → Row → ℕ → ℕ → Type 0
 StandsOn b r i bus = ((bus ≡ 0) × (parent r.path ≡ [])) ⊎ ((k : ℕ) × (q : Row) × (bus ≡ suc k) × (k < i) × (slice_get b k ≡ Some q) × (parent r.path ≡ q.path))
 
--- what stands between a bridge and a function behind it stands behind it
-between : (p q r : Path) → path_before p q ≡ true → path_before q r ≡ true → leads_to p r ≡ true → leads_to p q ≡ true
-between p q r before after leads = by_test (leads_to p q) refl
-  where
-    some : (s t u : Bool) → one s + one t + one true ≤ one u → u ≡ true
-    some s t true h = refl
-    some s t false h = absurd (omega (arith, h))
-
-    by_test : (t : Bool) → leads_to p q ≡ t → leads_to p q ≡ true
-    by_test true e = e
-    by_test false e =
-        let le = behind_trans r p q before e in
-        let w : one (path_before r p) + one (path_eq r p) + one true ≤ one (path_before r q) = subst (λ v. one (path_before r p) + one (path_eq r p) + one v ≤ one (path_before r q)) leads le in
-        absurd (no_turn q r after (some (path_before r p) (path_eq r p) (path_before r q) w))
-
 module _ (b : Board) (board : IsBoard b) where
   ordered : (i j : ℕ) (r s : Row) → i < j → slice_get b i ≡ Some r → slice_get b j ≡ Some s → path_before r.path s.path ≡ true
   ordered i j r s l e f = pair_at (λ (x y : Row). IsTrue (path_before x.path y.path)) b i j r s board.in_order l e f
@@ -103,7 +89,7 @@ module _ (b : Board) (board : IsBoard b) where
           depth = omega (arith, shorter, ap length same)
 
           at : get_or buses (length r.path - 1) 0 ≡ suc k
-          at = ap (λ n. get_or buses n 0) depth ∙ f.last k q below g (λ j s l m n. leads_longer q.path s.path (between q.path s.path r.path (ordered k j q s l g n) (ordered j i s r m n e) leads))
+          at = ap (λ n. get_or buses n 0) depth ∙ f.last k q below g (λ j s l m n. leads_longer q.path s.path (between q.path s.path r.path leads (ordered k j q s l g n) (ordered j i s r m n e)))
 
       by_parent : (parent r.path ≡ []) ⊎ IsTrue (is_bridge_at b (parent r.path)) → StandsOn b r i (get_or buses (length r.path - 1) 0)
       by_parent (inl up) =

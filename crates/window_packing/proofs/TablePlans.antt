@@ -1,5 +1,5 @@
 -- A plan that was made for what a table tells is the plan of every board with that table.
-use Rattle.std.proofs.Common.{◌≡◌, List, [], None, map, sym, ap, ◌∙◌, subst, arith, rules}
+use Rattle.std.proofs.Common.{◌≡◌, List, [], None, map, sym, ap, ◌∙◌, subst, arith}
 use Rattle.model_registers.specs.DeclarationRules.{first_broken}
 use Rattle.model_registers.specs.Apertures.{IsLawfulApertures, Apertures}
 use Rattle.model_board.specs.Paths.{Path}

@@ -1,4 +1,4 @@
-use Rattle.std.proofs.Common.{◌-◌, arith}
+use Rattle.std.proofs.Common.{arith}
 use Rattle.lists.proofs.Indices.{read_at}
 use Rattle.window_packing.proofs.LayoutRows.{bus_of_path}
 use Rattle.window_packing.proofs.rows.path_on.Goals as goal
