@@ -1,9 +1,8 @@
 -- The bridge above a bus is what stands at its path, if that is a bridge.
-use Rattle.std.proofs.Common.{◌≡◌, ℕ, ◌⊎◌, inl, inr, Bool, true, false, ◌&&◌, cond, List, [], ◌∷◌, Some, None, Option, refl, sym, ap, ◌∙◌, subst, eqb, length}
+use Rattle.std.proofs.Common.{◌≡◌, ℕ, ◌⊎◌, Bool, true, false, ◌&&◌, cond, List, [], ◌∷◌, Some, None, Option, refl, sym, ap, ◌∙◌, eqb, length, arith}
 use Rattle.std.specs.Prelude.{find, slice_get, unwrap_or, IsTrue}
-use Rattle.std.specs.Option.{option_map_or, option_and_then}
+use Rattle.std.specs.Option.{option_map_or}
 use Rattle.lists.specs.Elements.{IsIn}
-use Rattle.model_registers.specs.Registers.{File}
 use Rattle.model_board.specs.Paths.{Path, path_eq, path_before}
 use Rattle.model_board.proofs.PathOrder.{path_same}
 use Rattle.model_board.proofs.PathEnds.{not_before_itself}
@@ -25,17 +24,14 @@ abbrev held : Option BoardFunction → ℕ
 held o = option_map_or (λ (f : BoardFunction). secondary_register f.file) o 0
 
 parts : (a b : Bool) → (a && b) ≡ true → (a ≡ true) × (b ≡ true)
-parts true b h = (refl, h)
-parts false b h = cc
+parts a b h = grind arith
 
 none_at : (p : Path) (fs : List BoardFunction) → find (stands_at p) fs ≡ None → find (is_bridge_at p) fs ≡ None
 none_at p [] h = refl
 none_at p (f ∷ fs) h = by (is_bridge f.decl) (stands_at p f) h (none_at p fs)
   where
     by : (a b : Bool) → cond b (Some f) (find (stands_at p) fs) ≡ None → (find (stands_at p) fs ≡ None → find (is_bridge_at p) fs ≡ None) → cond (a && b) (Some f) (find (is_bridge_at p) fs) ≡ None
-    by a true h more = cc
-    by true false h more = more h
-    by false false h more = more h
+    by a b h more = grind arith
 
 module _ (fs : List BoardFunction) (state : IsStateOfBoard fs) (p : Path) where
   abbrev there : Option BoardFunction
@@ -47,9 +43,7 @@ module _ (fs : List BoardFunction) (state : IsStateOfBoard fs) (p : Path) where
       (pairs_from_map (λ (r s : Row). IsTrue (path_before r.path s.path)) row_at fs state.places.in_order) m k)
     where
       by : (f ≡ g) ⊎ (IsTrue (path_before f.path g.path) ⊎ IsTrue (path_before g.path f.path)) → f ≡ g
-      by (inl same) = same
-      by (inr (inl before)) = absurd (not_before_itself g.path (subst (λ (q : Path). path_before q g.path ≡ true) e before))
-      by (inr (inr before)) = absurd (not_before_itself g.path (subst (λ (q : Path). path_before g.path q ≡ true) e before))
+      by same = grind (arith, not_before_itself)
 
   no_bridge : (f : BoardFunction) → there ≡ Some f → is_bridge f.decl ≡ false → find (is_bridge_at p) fs ≡ None
   no_bridge f at other = by (find (is_bridge_at p) fs) refl
@@ -76,22 +70,10 @@ module _ (fs : List BoardFunction) (state : IsStateOfBoard fs) (p : Path) where
           sym (ap held (ap (λ (q : Path). find (is_bridge_at q) fs) (sym is) ∙ is_found_at fs state f k.0 (ap is_bridge e)))
 
   some_bus : eqb (length p) 0 ≡ false → bus_now fs p ≡ held (find (is_bridge_at p) fs)
-  some_bus some = by p some
-    where
-      by : (q : Path) → eqb (length q) 0 ≡ false → bus_now fs q ≡ held (find (is_bridge_at q) fs)
-      by [] h = cc
-      by (a ∷ q) h = refl
+  some_bus some = grind arith
 
   pub number_by_index : eqb (length p) 0 ≡ false → (i : ℕ) → slice_get fs i ≡ there → unwrap_or (secondary_nth fs i) 0 ≡ bus_now fs p
-  number_by_index some i is = by there refl is ∙ sym (some_bus some)
-    where
-      by : (o : Option BoardFunction) → there ≡ o → slice_get fs i ≡ o → unwrap_or (secondary_nth fs i) 0 ≡ held (find (is_bridge_at p) fs)
-      by None at e =
-          ap (λ (x : Option BoardFunction). unwrap_or (option_map_or (λ (f : BoardFunction). secondary_of f.decl f.file) x None) 0) e
-          ∙ sym (ap held (none_at p fs at))
-      by (Some f) at e =
-          ap (λ (x : Option BoardFunction). unwrap_or (option_map_or (λ (f : BoardFunction). secondary_of f.decl f.file) x None) 0) e
-          ∙ its_number f at
+  number_by_index some i is = grind (arith, some_bus, none_at, its_number)
 
   pub number_of_none : eqb (length p) 0 ≡ false → None ≡ there → 0 ≡ bus_now fs p
   number_of_none some e = sym (some_bus some ∙ ap held (none_at p fs (sym e)))

@@ -1,4 +1,4 @@
-use Rattle.std.proofs.Common.{◌≡◌, Option, ap, sym, ◌∙◌}
+use Rattle.std.proofs.Common.{ap, sym, ◌∙◌}
 use Rattle.std.specs.Prelude.{find, unwrap_or}
 use Rattle.model_board.specs.Paths.{Path, path_eq}
 use Rattle.model_board.specs.State.{BoardFunction}
