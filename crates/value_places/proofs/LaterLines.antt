@@ -1,6 +1,6 @@
 -- The line of an offset, by that of an offset before it.
 use Rattle.std.proofs.Common.{◌≡◌, ◌≤◌, ◌<◌, ℕ, ◌+◌, ◌-◌, List, [], ◌∷◌, ◌++◌, length, map, get_or, drop, take, ap, ap₂, sym, ◌∙◌, arith}
-use Rattle.std.specs.Prelude.{cond, count_by}
+use Rattle.std.specs.Prelude.{count_by}
 use Rattle.std.proofs.lemmas.List.{take_more, map_push}
 use Rattle.std.proofs.lemmas.List.Sums.{sum_by-append}
 use Rattle.std.proofs.Math.Seq.{take-add}
@@ -10,10 +10,7 @@ use Rattle.value_places.specs.LineNumbers.{is_line_feed, line_of, first_line}
 pub later_line : (text : List ℕ) (from to : ℕ) → from ≤ to → line_of from text + count_by is_line_feed (take (to - from) (drop from text)) ≡ line_of to text
 later_line text from to before =
     let there : from + (to - from) ≡ to = omega arith in
-    let parts : count_by is_line_feed (take to text) ≡ count_by is_line_feed (take from text) + count_by is_line_feed (take (to - from) (drop from text)) =
-    ap (λ (n : ℕ). count_by is_line_feed (take n text)) (sym there) ∙ ap (count_by is_line_feed) (take-add from (to - from) text)
-    ∙ sum_by-append (λ b. cond (is_line_feed b) 1 0) (take from text) (take (to - from) (drop from text)) in
-    omega arith
+    grind (arith, take-add, sum_by-append)
 
 -- the lines of one place more
 pub one_more_line : (text : List ℕ) (places : List Extent) (lines pushed : List ℕ) (i line : ℕ) (d : Extent) → i < length places
