@@ -1,5 +1,5 @@
 //! A line with its number, and a mark below a part of it.
-ghost use Rattle.std.specs.Prelude.{◌≡◌, ◌++◌, ◌-◌, OnOk, codes, decimal, map, string_bytes};
+ghost use Rattle.std.specs.Prelude.{◌≡◌, ◌++◌, ◌-◌, OnOk, decimal, map, string_bytes};
 ghost use Rattle.excerpts.specs.Characters.{blank};
 ghost use Rattle.excerpts.specs.Excerpts.{cut_front, marked_part, line_row, mark_row, excerpt};
 
