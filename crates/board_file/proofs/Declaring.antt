@@ -1,5 +1,5 @@
 -- A judged endpoint breaks no rule of declarations but that of blocks that overlap.
-use Rattle.std.proofs.Common.{◌≡◌, ℕ, ◌+◌, ◌<◌, ◌≤◌, ◌^◌, ◌==◌, ℤ, pos, negsuc, nat_abs, Bool, true, false, ◌&&◌, cond, List, map, length, nat_le, bit_and, Option, Some, None, refl, ◌∙◌, arith, leb-true, le-leb, lt-ltb}
+use Rattle.std.proofs.Common.{◌≡◌, ℕ, ◌+◌, ◌<◌, ◌≤◌, ◌^◌, ◌==◌, ℤ, pos, nat_abs, Bool, true, false, ◌&&◌, cond, List, map, length, nat_le, bit_and, Option, Some, None, refl, ◌∙◌, arith, leb-true, le-leb, lt-ltb}
 use Rattle.std.specs.Prelude.{int_le, ◌+ℤ◌}
 use Rattle.std.specs.List.{list_all}
 use Rattle.std.proofs.lemmas.Bool.{and_parts, and_from}
@@ -21,12 +21,10 @@ use Rattle.board_file.proofs.Tests.{all-both}
 -- ---- numbers
 
 pub within_le : (first last : ℕ) (n : ℤ) → is_between first last n ≡ true → nat_abs n ≤ last
-within_le first last (pos n) h = leb-true n last (and_parts (nat_le first n) (nat_le n last) h).1
-within_le first last (negsuc n) h = cc
+within_le first last n h = grind (arith, leb-true, and_parts)
 
 within_ge : (first last : ℕ) (n : ℤ) → is_between first last n ≡ true → first ≤ nat_abs n
-within_ge first last (pos n) h = leb-true first n (and_parts (nat_le first n) (nat_le n last) h).0
-within_ge first last (negsuc n) h = cc
+within_ge first last n h = grind (arith, leb-true, and_parts)
 
 below : (last : ℕ) (n : ℤ) → is_between 0 last n ≡ true → nat_abs n < last + 1
 below last n h = let le = within_le 0 last n h in omega (arith, le)
@@ -36,9 +34,7 @@ three_parts : (a b c : Bool) → (a && b && c) ≡ true → (a ≡ true) × (b �
 three_parts a b c h = (search left_true, search (left_true, right_true), right_true (a && b) c h)
 
 pub identity_parts : (vendor device revision : ℤ) → is_identity vendor device revision ≡ true → (nat_abs vendor < 0xffff) × (nat_abs device < 2 ^ 16) × (nat_abs revision < 2 ^ 8)
-identity_parts vendor device revision h =
-    let is = three_parts (is_between 0 0xfffe vendor) (is_between 0 0xffff device) (is_between 0 0xff revision) h in
-    (below 0xfffe vendor is.0, below 0xffff device is.1, below 0xff revision is.2)
+identity_parts vendor device revision h = grind (arith, three_parts, below)
 
 module _ (e : Endpoint) (h : is_declarable e ≡ true) where
   abbrev short_blocks : Bool
@@ -63,22 +59,7 @@ module _ (e : Endpoint) (h : is_declarable e ≡ true) where
   status_of = and_parts (is_between 0 0xffff e.status) (bit_and (nat_abs e.status) 0xf900 == nat_abs e.status) values_of.2
 
   pub small : HasSmallNumbers e
-  small =
-      let ids = identity_parts e.vendor e.device e.revision numbers_of.0 in
-      let described = three_parts (is_between 0 0xffffff e.class) (is_between 0 0xffff e.subvendor) (is_between 0 0xffff e.subsystem) values_of.0 in
-      let needs = three_parts (is_between 0 4 e.pin) (is_between 0 0xff e.min_gnt) (is_between 0 0xff e.max_lat) values_of.1 in
-      record {
-        vendor = ids.0;
-        device = ids.1;
-        revision = ids.2;
-        class = below 0xffffff e.class described.0;
-        subvendor = below 0xffff e.subvendor described.1;
-        subsystem = below 0xffff e.subsystem described.2;
-        pin = within_le 0 4 e.pin needs.0;
-        min_gnt = below 0xff e.min_gnt needs.1;
-        max_lat = below 0xff e.max_lat needs.2;
-        status = below 0xffff e.status status_of.0;
-      }
+  small = grind (arith, identity_parts, three_parts, below, within_le)
 
 -- ---- regions and own registers
 
@@ -100,9 +81,7 @@ pub configs_of : (e : Endpoint) → is_declarable e ≡ true → list_all is_con
 configs_of e h = (blocks_of e h).1
 
 pub region_parts : (b : Bar) → is_region b ≡ true → (nat_abs b.block ≤ 4096) × (nat_abs b.index ≤ 5) × (is_size b.kind b.size ≡ true)
-region_parts b h =
-    let is = three_parts (is_between 0 4096 b.block) (is_between 0 5 b.index) (is_size b.kind b.size) h in
-    (within_le 0 4096 b.block is.0, within_le 0 5 b.index is.1, is.2)
+region_parts b h = grind (arith, three_parts, within_le)
 
 config_parts : (c : Config) → is_config_block c ≡ true → (is_between 0x40 0xff c.off ≡ true) × (is_between 1 192 c.block ≡ true) × (int_le (c.off +ℤ c.block) (pos 256) ≡ true)
 config_parts c h = three_parts (is_between 0x40 0xff c.off) (is_between 1 192 c.block) (int_le (c.off +ℤ c.block) (pos 256)) h
@@ -118,29 +97,11 @@ length_cells n p = simp length-map-range_with_len
 short : (b : Bar) → is_between 0 4096 b.block ≡ true → nat_le (length (region b).cells) 4096 ≡ true
 short b h = rw (length_cells (nat_abs b.block) b.patterns) (le-leb (nat_abs b.block) 4096 (within_le 0 4096 b.block h))
 
-le_nat : (m n : ℤ) → int_le (pos 0) m ≡ true → int_le m n ≡ true → nat_le (nat_abs m) (nat_abs n) ≡ true
-le_nat (pos m) (pos n) h k = k
-le_nat (pos m) (negsuc n) h k = cc
-le_nat (negsuc m) n h k = cc
-
 fits : (b : Bar) → (is_between 0 4096 b.block && sized b) ≡ true → nat_le (length (region b).cells) (region b).size ≡ true
-fits b h =
-    let (within, size) = and_parts (is_between 0 4096 b.block) (sized b) h in
-    rw (length_cells (nat_abs b.block) b.patterns)
-    (le_nat b.block b.size (left_true (int_le (pos 0) b.block) (int_le b.block (pos 4096)) within) (right_true (is_size b.kind b.size) (int_le b.block b.size) size))
-
-ends : (off block : ℤ) → is_between 0x40 0xff off ≡ true → is_between 1 192 block ≡ true → int_le (off +ℤ block) (pos 256) ≡ true → nat_abs off + nat_abs block ≤ 256
-ends (pos m) (pos n) h k l = leb-true (m + n) 256 l
-ends (pos m) (negsuc n) h k l = cc
-ends (negsuc m) n h k l = cc
+fits b h = grind (arith, and_parts, length_cells, nat_abs, left_true, right_true)
 
 lawful_config : (c : Config) → is_config_block c ≡ true → rules.is_config_block (config_block c) ≡ true
-lawful_config c h =
-    let (off, block, sum) = config_parts c h in
-    let begins = le-leb 0x40 (nat_abs c.off) (within_ge 0x40 0xff c.off off) in
-    let some = lt-ltb 0 (nat_abs c.block) (within_ge 1 192 c.block block) in
-    let ends = le-leb (nat_abs c.off + nat_abs c.block) 0x100 (ends c.off c.block off block sum) in
-    rw (length_cells (nat_abs c.block) c.patterns, begins, some, ends) refl
+lawful_config c h = grind (arith, config_parts, le-leb, nat_abs, within_ge, lt-ltb, length_cells, leb-true)
 
 lawful_numbers : (e : Endpoint) → is_declarable e ≡ true → rules.has_lawful_numbers (endpoint_values e) ≡ true
 lawful_numbers e h =

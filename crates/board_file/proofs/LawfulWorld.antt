@@ -1,5 +1,6 @@
+use Rattle.std.proofs.lemmas.Grind.{common_steps}
 -- The world of a judged file is lawful.
-use Rattle.std.proofs.Common.{◌≡◌, ℕ, ◌+◌, ◌≤◌, Bool, true, false, ◌&&◌, ◌||◌, not, cond, List, [], ◌∷◌, ◌++◌, map, length, nat_le, Option, Some, None, refl, sym, ap, ◌∙◌, subst, arith, leb-true, IsTrue, IsFalse, IsSome}
+use Rattle.std.proofs.Common.{◌≡◌, ℕ, ◌≤◌, Bool, true, false, ◌&&◌, ◌||◌, not, cond, List, [], ◌∷◌, ◌++◌, map, length, nat_le, Option, Some, None, refl, sym, ap, ◌∙◌, subst, arith, leb-true, IsTrue, IsFalse, IsSome}
 use Rattle.std.specs.Prelude.{find, flat_map}
 use Rattle.std.specs.List.{list_all, list_any}
 use Rattle.std.specs.Option.{option_map_or}
@@ -11,7 +12,7 @@ use Rattle.lists.specs.Elements.{Each, EachPair, all_pairs}
 use Rattle.lists.proofs.EachLemmas.{each_map, each_of_map, each_test}
 use Rattle.lists.proofs.Tests.{left_true, right_true}
 use Rattle.model_board.specs.Paths.{Path, path_eq}
-use Rattle.model_board.specs.Board.{Decl, endpoint, bridge, Row, Board, IsBoard, is_bridge, stands_at, is_bridge_at}
+use Rattle.model_board.specs.Board.{Decl, Row, Board, IsBoard, is_bridge, stands_at, is_bridge_at}
 use Rattle.model_board.specs.Places.{standing, has_path, has_bridge, board_of, AreLawfulPlaces}
 use Rattle.model_board.specs.Lawful.{HasLawfulDecls, IsLawfulDecl}
 use Rattle.model_board.proofs.PlacesLaw.{any_board, each_to_board, lawful_places_are_boards}
@@ -23,7 +24,7 @@ use Rattle.model_guests.specs.World.{is_name, declared, HasLawfulGuests, IsLawfu
 use Rattle.board_file.specs.Entries.{Guest, File}
 use Rattle.board_file.specs.Functions.{rows, standings, guest}
 use Rattle.board_file.specs.PathTexts.{is_path_text, path_at}
-use Rattle.board_file.specs.Rules.{have_few_slashes, have_paths, are_places, names, slots, is_endpoint, names_endpoint}
+use Rattle.board_file.specs.Rules.{have_paths, are_places, names, slots, is_endpoint, names_endpoint}
 use Rattle.board_file.specs.Judged.{IsJudged, IsShortGuest}
 use Rattle.board_file.specs.Meaning.{world_of}
 use Rattle.board_file.proofs.ListTests.{pairs_of_test, lawful_places}
@@ -60,10 +61,7 @@ finds (r ∷ b) p h k = by_case r.decl (path_eq r.path p) h k (finds b p)
     by_case : (d : Decl) (t : Bool) → (t || stands_at b p) ≡ true → ((is_bridge d && t) || is_bridge_at b p) ≡ false
         → (stands_at b p ≡ true → is_bridge_at b p ≡ false → IsSome (declared b p))
         → IsSome (option_map_or world.endpoint_of (cond {A = Option Row} t (Some (record { path = r.path; decl = d })) (find (λ r. path_eq r.path p) b)) None)
-    by_case (endpoint d) true h k more = refl
-    by_case (bridge d) true h k more = cc
-    by_case (endpoint d) false h k more = more h k
-    by_case (bridge d) false h k more = more h k
+    by_case d t h k more = grind arith
 
 names_slot : (f : File) (t : List ℕ) → names_endpoint (standings f) t ≡ true → IsSome (declared (board_of (rows f)) (path_at t))
 names_slot f t h =
@@ -98,10 +96,7 @@ few_slots : (f : File) → IsJudged f → list_all (λ g. nat_le (length g.slots
 few_slots f j = right_true _ (list_all (λ (g : Guest). nat_le (length g.slots) 32) f.guests) j.counts
 
 few_guests : (f : File) → IsJudged f → length (map guest f.guests) ≤ 32
-few_guests f j =
-    let functions = have_few_slashes f && nat_le (length f.endpoints + length f.bridges) 1024 in
-    let front = left_true (functions && nat_le (length f.guests) 32) (list_all (λ (g : Guest). nat_le (length g.slots) 32) f.guests) j.counts in
-    rw (length-map f.guests guest) (leb-true (length f.guests) 32 (right_true functions (nat_le (length f.guests) 32) front))
+few_guests f j = grind (arith, left_true, length-map, leb-true, right_true)
 
 short_name : (n : List ℕ) → is_name n ≡ true → length n ≤ 16
 short_name [] h = omega arith
@@ -131,11 +126,7 @@ lawful_guests f j =
     }
 
 pub lawful_world : (f : File) → IsJudged f → HasLawfulDecls (rows f) → IsLawfulWorld (world_of f)
-lawful_world f j h = record {
-  board = is_board f j;
-  functions = each_to_board (λ r. IsLawfulDecl r.decl) (rows f) h;
-  guests = lawful_guests f j;
-}
+lawful_world f j h = grind (arith, common_steps, is_board, each_to_board, lawful_guests)
 
 -- ---- the state at reset
 
@@ -147,13 +138,7 @@ pub board_at_reset : (b : Board) → board_at (reset_state b).functions ≡ b
 board_at_reset b = rows_at_reset b (reset_file b)
 
 pub is_at_reset : (b : Board) (s : State) → IsBoard b → HasLawfulDecls b → s ≡ reset_state b → IsAtReset s
-is_at_reset b s board lawful e =
-    let same : board_at s.functions ≡ b = ap (λ (t : State). board_at t.functions) e ∙ board_at_reset b in
-    record {
-      board = subst IsBoard (sym same) board;
-      declarations = subst HasLawfulDecls (sym same) lawful;
-      registers = e ∙ sym (ap reset_state same);
-    }
+is_at_reset b s board lawful e = grind (arith, board_at_reset)
 
 pub lawful_rows : (f : File) → HasLawfulDecls (rows f) → HasLawfulDecls (board_of (rows f))
 lawful_rows f h = each_to_board (λ r. IsLawfulDecl r.decl) (rows f) h

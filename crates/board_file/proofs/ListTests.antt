@@ -1,15 +1,14 @@
 -- Tests of lists, of sizes and of where functions stand, as facts.
-use Rattle.std.proofs.Common.{◌≡◌, ℕ, ℤ, pos, negsuc, nat_abs, Bool, true, ◌&&◌, ◌||◌, not, List, [], ◌∷◌, nat_le, le-leb, leb-true, refl, inl, inr, IsTrue, IsFalse}
+use Rattle.std.proofs.Common.{◌≡◌, ℕ, ℤ, pos, nat_abs, Bool, true, not, List, [], le-leb, leb-true, IsTrue, IsFalse, arith}
 use Rattle.std.specs.Prelude.{int_le}
 use Rattle.std.specs.List.{list_all}
-use Rattle.std.specs.Int.{is_power_of_two}
 use Rattle.std.proofs.lemmas.Bool.{and_parts, not-true, or_cases}
 use Rattle.lists.specs.Elements.{Each, EachPair, all_pairs}
 use Rattle.lists.proofs.EachLemmas.{each_both, each_map, each_test, pairs_map, pairs_test}
 use Rattle.lists.proofs.Tests.{same_test}
-use Rattle.model_registers.specs.Declarations.{Kind, least_size, greatest_size, IsLawfulSize}
-use Rattle.model_board.specs.Paths.{Path, path_eq, parent, function_zero, IsPath}
-use Rattle.model_board.specs.Places.{Standing, has_path, has_bridge, IsFounded, AreLawfulPlaces}
+use Rattle.model_registers.specs.Declarations.{Kind, IsLawfulSize}
+use Rattle.model_board.specs.Paths.{Path, path_eq, IsPath}
+use Rattle.model_board.specs.Places.{Standing, IsFounded, AreLawfulPlaces}
 use Rattle.bars.proofs.Powers.{power_of_test, test_of_power}
 use Rattle.board_file.specs.Rules.{is_size, is_root, is_founded, are_places}
 
@@ -22,38 +21,22 @@ pairs_of_test r xs h =
 -- ---- sizes
 
 pub lawful_size : (kind : Kind) (n : ℤ) → is_size kind n ≡ true → IsLawfulSize kind (nat_abs n)
-lawful_size kind (pos n) h =
-    let (limits, power) = and_parts (int_le (pos (least_size kind)) (pos n) && int_le (pos n) (pos (greatest_size kind))) (is_power_of_two n) h in
-    let (least, greatest) = and_parts (nat_le (least_size kind) n) (nat_le n (greatest_size kind)) limits in
-    record { power = power_of_test n power; not_less = leb-true (least_size kind) n least; not_more = leb-true n (greatest_size kind) greatest }
-lawful_size kind (negsuc n) h = cc
+lawful_size kind n h = grind (arith, and_parts, power_of_test, leb-true)
 
 size_of_lawful : (kind : Kind) (n : ℕ) → IsLawfulSize kind n → is_size kind (pos n) ≡ true
-size_of_lawful kind n h =
-    let power : is_power_of_two n ≡ true = test_of_power n h.power in
-    let least : nat_le (least_size kind) n ≡ true = le-leb (least_size kind) n h.not_less in
-    let greatest : nat_le n (greatest_size kind) ≡ true = le-leb n (greatest_size kind) h.not_more in
-    rw (power, least, greatest) refl
+size_of_lawful kind n h = grind (arith, test_of_power, le-leb)
 
 pub size_test : (kind : Kind) (n : ℤ) (t : Bool) → int_le (pos 0) n ≡ true → (t ≡ true → IsLawfulSize kind (nat_abs n)) → (IsLawfulSize kind (nat_abs n) → t ≡ true) → t ≡ is_size kind n
-size_test kind (pos n) t h f g = same_test t (is_size kind (pos n)) (λ k. size_of_lawful kind n (f k)) (λ k. g (lawful_size kind (pos n) k))
-size_test kind (negsuc n) t h f g = cc
+size_test kind n t h f g = grind (arith, same_test, size_of_lawful, lawful_size)
 
 -- ---- where functions stand
 
 root_of_test : (p : Path) → is_root p ≡ true → p ≡ []
-root_of_test [] h = refl
-root_of_test (x ∷ p) h = cc
+root_of_test p h = grind arith
 
 module _ (ss : List Standing) where
   founded : (s : Standing) → IsPath s.path → is_founded ss s ≡ true → IsFounded ss s
-  founded s path h =
-      let (behind, at_zero) = and_parts (is_root (parent s.path) || has_bridge ss (parent s.path)) (has_path ss (function_zero s.path)) h in
-      record {
-        path = path;
-        behind_bridge = elim (or_cases (is_root (parent s.path)) (has_bridge ss (parent s.path)) behind) [ inl root ↦ inl (root_of_test (parent s.path) root) | inr bridge ↦ inr bridge ];
-        function_zero = at_zero;
-      }
+  founded s path h = grind (arith, and_parts, or_cases, root_of_test)
 
   all_founded : (ts : List Standing) → Each (λ t. IsPath t.path) ts → list_all (is_founded ss) ts ≡ true → Each (IsFounded ss) ts
   all_founded ts paths h =

@@ -1,5 +1,5 @@
 -- A check of what a file says holds exactly where no entry breaks a rule of its fault.
-use Rattle.std.proofs.Common.{◌≡◌, ℕ, Bool, true, false, ◌&&◌, ◌||◌, not, List, map, take, refl, sym, ap, ap₂, ◌∙◌}
+use Rattle.std.proofs.Common.{◌≡◌, ℕ, Bool, true, ◌&&◌, ◌||◌, not, List, map, take, sym, ap, ap₂, ◌∙◌, arith}
 use Rattle.std.specs.Prelude.{option_map}
 use Rattle.std.specs.List.{list_all}
 use Rattle.std.proofs.Math.Bool.{and-true, and_assoc}
@@ -27,17 +27,12 @@ use Rattle.board_file.proofs.Tests.{any_order, under, all-both, all-where, all-f
 
 -- what is only asked where another test holds, which is asked too
 shown : (a b : Bool) → ((not a || b) && a) ≡ (a && b)
-shown true b = and-true b
-shown false b = refl
+shown a b = grind (arith, and-true)
 
 six : (natural_io io natural_mem mem natural_pref pref : Bool)
     → ((natural_io && io) && ((natural_mem && mem) && (natural_pref && (not mem || pref))))
     ≡ (((natural_io && natural_mem) && natural_pref) && ((io && mem) && pref))
-six false io natural_mem mem natural_pref pref = refl
-six true false natural_mem mem natural_pref pref = sym (and_right (natural_mem && natural_pref) false refl)
-six true true false mem natural_pref pref = refl
-six true true true false natural_pref pref = sym (and_right natural_pref false refl)
-six true true true true natural_pref pref = refl
+six natural_io io natural_mem mem natural_pref pref = grind (arith, and_right)
 
 -- ---- places
 

@@ -1,7 +1,7 @@
 -- What a text is read as is a path.
-use Rattle.std.proofs.Common.{◌≡◌, ℕ, zero, suc, ◌+◌, ◌-◌, ◌≤◌, ◌==◌, Bool, true, false, ◌&&◌, cond, List, [], ◌∷◌, map, length, Option, Some, None, option_map, unwrap_or, refl, arith, leb-true}
+use Rattle.std.proofs.Common.{◌≡◌, ℕ, zero, suc, ◌+◌, ◌-◌, ◌≤◌, ◌==◌, Bool, true, false, ◌&&◌, cond, List, [], ◌∷◌, map, length, Option, Some, None, option_map, unwrap_or, arith, leb-true}
 use Rattle.std.specs.Prelude.{option_and_then}
-use Rattle.lists.specs.Elements.{Each, first_of_two}
+use Rattle.lists.specs.Elements.{Each}
 use Rattle.lists.proofs.EachLemmas.{each_append, each_of_map}
 use Rattle.lists.proofs.Members.{each_from}
 use Rattle.lists.proofs.Tests.{left_true, right_true}
@@ -9,7 +9,7 @@ use Rattle.model_board.specs.Paths.{Part, Path, IsPart, IsPath}
 use Rattle.model_board.specs.Places.{Standing}
 use Rattle.board_file.specs.Entries.{File}
 use Rattle.board_file.specs.Functions.{endpoint_standing, bridge_standing, standings}
-use Rattle.board_file.specs.PathTexts.{is_byte_between, short_part, long_part, part_at_front, parts_after, path_at}
+use Rattle.board_file.specs.PathTexts.{is_byte_between, short_part, part_at_front, parts_after, path_at}
 
 ruleset byte_tests = (left_true, right_true, leb-true)
 
@@ -23,44 +23,22 @@ Within n (Some ps) = (length ps ≤ n) × Each IsPart ps
 
 -- a part is given where a test of its bytes holds
 front_of : (t : Bool) (p : Part) (rest : List ℕ) → (t ≡ true → IsPart p) → Front (cond t (Some (p, rest)) None)
-front_of true p rest h = h refl
-front_of false p rest h = tt
-
-short_fits : (d dot f : ℕ) → (is_byte_between 48 57 d && (dot == 46) && is_byte_between 48 55 f) ≡ true → IsPart (record { device = d - 48; function = f - 48 })
-short_fits d dot f h = record { device_fits = search (byte_tests, arith); function_fits = search (byte_tests, arith) }
+front_of t p rest h = grind arith
 
 short_front : (text : List ℕ) → Front (short_part text)
-short_front (d ∷ dot ∷ f ∷ rest) = front_of (is_byte_between 48 57 d && (dot == 46) && is_byte_between 48 55 f) _ rest (short_fits d dot f)
+short_front (d ∷ dot ∷ f ∷ rest) = grind (arith, front_of, byte_tests)
 short_front _ = tt
 
 long_fits : (one d dot f : ℕ) → ((one == 49) && is_byte_between 48 53 d && (dot == 46) && is_byte_between 48 55 f) ≡ true
     → IsPart (record { device = 10 + (d - 48); function = f - 48 })
 long_fits one d dot f h = record { device_fits = search (byte_tests, arith) depth 6; function_fits = search (byte_tests, arith) depth 6 }
 
-long_front : (text : List ℕ) → Front (long_part text)
-long_front (one ∷ d ∷ dot ∷ f ∷ rest) =
-    front_of ((one == 49) && is_byte_between 48 53 d && (dot == 46) && is_byte_between 48 55 f) _ rest (long_fits one d dot f)
-long_front _ = tt
-
 front : (text : List ℕ) → Front (part_at_front text)
-front text = both (short_part text) (long_part text) (short_front text) (long_front text)
-  where
-    both : (o p : Option (Part × List ℕ)) → Front o → Front p → Front (first_of_two o p)
-    both None p h k = k
-    both (Some f) p h k = h
-
-join : (n : ℕ) (o : Option (Part × List ℕ)) → Front o → (f : List ℕ → Option Path) → ((text : List ℕ) → Within n (f text))
-    → Within (suc n) (option_and_then (λ found. option_map (λ ps. found.0 ∷ ps) (f found.1)) o)
-join n None h f k = tt
-join n (Some found) h f k = more (f found.1) (k found.1)
-  where
-    more : (o : Option Path) → Within n o → Within (suc n) (option_map (λ ps. found.0 ∷ ps) o)
-    more None w = tt
-    more (Some ps) w = (omega (arith, w.0), (h, w.1))
+front text = grind (arith, short_front, front_of, long_fits)
 
 after_slash : (room : ℕ) (bs : List ℕ) (t : Bool) → ((text : List ℕ) → Within room (parts_after room text))
     → Within (suc room) (cond t (option_and_then (λ found. option_map (λ ps. found.0 ∷ ps) (parts_after room found.1)) (part_at_front bs)) None)
-after_slash room bs true k = join room (part_at_front bs) (front bs) (parts_after room) k
+after_slash room bs true k = grind (arith, front, option_map)
 after_slash room bs false k = tt
 
 within : (room : ℕ) (text : List ℕ) → Within room (parts_after room text)
@@ -75,8 +53,7 @@ zero_is_path : IsPath zero_path
 zero_is_path = record { some = omega arith; few = omega arith; parts = (record { device_fits = omega arith; function_fits = omega arith }, tt) }
 
 longer : (part : Part) → IsPart part → (o : Option Path) → Within 15 o → IsPath (unwrap_or (option_map (λ ps. part ∷ ps) o) zero_path)
-longer part h None w = zero_is_path
-longer part h (Some ps) w = record { some = omega arith; few = omega (arith, w.0); parts = (h, w.1) }
+longer part h o w = grind (arith, zero_is_path)
 
 some_parts : (o : Option (Part × List ℕ)) → Front o → IsPath (unwrap_or (option_and_then (λ found. option_map (λ ps. found.0 ∷ ps) (parts_after 15 found.1)) o) zero_path)
 some_parts None h = zero_is_path

@@ -1,3 +1,4 @@
+use Rattle.std.proofs.lemmas.Grind.{common_steps}
 -- Tests of all elements of a list, with their indices, and of all pairs; lists that have none.
 use Rattle.std.proofs.Common.{◌≡◌, ℕ, ◌+◌, ◌==◌, length, arith, Bool, true, false, ◌&&◌, cond, List, [], ◌∷◌, ◌++◌, map, take, refl, sym, ap, ap₂, ◌∙◌, add-one}
 use Rattle.std.specs.List.{list_all, flat_map, enumerate_from}
@@ -16,8 +17,7 @@ pub ruleset any_order = (and-true, and_assoc, and_comm, and_left_comm)
 
 -- what is only asked where another test holds
 pub under : (a b c : Bool) → (a ≡ true → b ≡ c) → (a && b) ≡ (a && c)
-under true b c h = h refl
-under false b c h = refl
+under a b c h = grind arith
 
 -- ---- all elements
 
@@ -117,20 +117,17 @@ none [] = true
 none (x ∷ xs) = false
 
 pub none-append : {A : Type 0} (xs ys : List A) → none (xs ++ ys) ≡ (none xs && none ys)
-none-append [] ys = refl
-none-append (x ∷ xs) ys = refl
+none-append xs ys = grind arith
 
 pub none-flat : {A B : Type 0} (g : A → List B) (xs : List A) → none (flat_map g xs) ≡ list_all (λ x. none (g x)) xs
 none-flat g [] = refl
 none-flat g (x ∷ xs) = rw (none-append (g x) (flat_map g xs), none-flat g xs) refl
 
 pub none-unless : {A : Type 0} (t : Bool) (x : A) → none (cond t [] (x ∷ [])) ≡ t
-none-unless true x = refl
-none-unless false x = refl
+none-unless t x = grind arith
 
 -- where elements are listed unless a test holds of each
 pub ruleset nothing_listed = (none-append, none-flat, none-unless, all-true, numbered, and-true)
 
 pub is_empty-map : {A B : Type 0} (f : A → B) (xs : List A) → (length xs == 0) ≡ none (map f xs)
-is_empty-map f [] = refl
-is_empty-map f (x ∷ xs) = ne_eqb (length (x ∷ xs)) 0 (λ e. omega (arith, e))
+is_empty-map f xs = grind (arith, common_steps, ne_eqb)

@@ -1,15 +1,12 @@
-use Rattle.std.proofs.Common.{◌≡◌, suc, ◌-◌, ◌∙◌, sym, ap, is_some, Some, drop, arith}
+use Rattle.std.proofs.lemmas.Grind.{common_steps}
+use Rattle.std.proofs.Common.{◌≡◌, suc, ◌-◌, sym, is_some, Some, drop, arith}
 use Rattle.std.proofs.lemmas.List.{take_rest}
 use Rattle.board_file.specs.PathTexts.{part_at_front}
 use Rattle.board_file.proofs.PathSteps.{one_more, some_map, pushed_after}
 use Rattle.board_file.proofs.path_text.+push_parts.Goals as goal
 
 pub returns-in-Some-clause-all : goal.returns-in-Some-clause-all
-returns-in-Some-clause-all t c =
-    let room : c.args.room ≡ suc (c.args.room - 1) = omega arith in
-    let found : part_at_front (drop 1 c.args.text.now) ≡ Some (c.in-Some.found.0, c.in-Some.found.1.now) = rw (take_rest c.args.text.now 1) at (sym c.in-Some.ensures) in
-    let e = one_more c.args.room (c.args.room - 1) c.args.text.now (c.in-Some.found.0, c.in-Some.found.1.now) (omega arith) room c.if-slash-ne47.false found in
-    c.push_parts.ensures.all ∙ sym (ap is_some e ∙ some_map _ _)
+returns-in-Some-clause-all t c = grind (arith, common_steps, take_rest, one_more, is_some, some_map)
 
 pub returns-in-Some-clause-pushed : goal.returns-in-Some-clause-pushed
 returns-in-Some-clause-pushed t c =
