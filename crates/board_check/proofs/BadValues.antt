@@ -1,5 +1,5 @@
 -- Where a check of keys or forms fails in a table, the value that fails it, and how deep it lies.
-use Rattle.std.proofs.Common.{◌≡◌, ℕ, zero, suc, Bool, true, false, ◌&&◌, List, Option, Some, None, is_some, refl, sym, ap, ◌∙◌, inl, inr, ◌⊎◌}
+use Rattle.std.proofs.Common.{◌≡◌, ℕ, zero, suc, Bool, true, false, ◌&&◌, List, Option, Some, None, is_some, refl, sym, ap, ◌∙◌, inl, inr, ◌⊎◌, arith}
 use Rattle.std.specs.Prelude.{slice_get}
 use Rattle.std.specs.List.{list_all, filter_map}
 use Rattle.std.proofs.lemmas.Bool.{and_cases, and_parts}
@@ -13,7 +13,7 @@ use Rattle.board_file.specs.declared.schema.Check.TheVariants.{Types, Keys}
 use Rattle.board_check.proofs.SortedKeys.{IsMember}
 
 pub either_of : {R : Type 0} (a b : Bool) → (a && b) ≡ false → (a ≡ false → R) → (b ≡ false → R) → R
-either_of a b h f g = elim (and_cases a b h) [ inl k ↦ f k | inr k ↦ g k ]
+either_of a b h f g = grind arith
 
 -- what is known when a check is made: forms hold when keys are judged
 abbrev pub Before : Check → Bool → Type 0

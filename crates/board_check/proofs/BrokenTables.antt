@@ -1,11 +1,10 @@
 -- Where a check of keys or forms fails in a document, the entry that breaks a rule of keys.
-use Rattle.std.proofs.Common.{◌≡◌, ℕ, Bool, true, false, ◌&&◌, ◌||◌, not, map, flat_map, List, [], ◌∷◌, Option, Some, None, is_some, refl, sym, ap, ap₂, ◌∙◌, subst, inl, inr, ◌⊎◌}
+use Rattle.std.proofs.Common.{◌≡◌, ℕ, Bool, true, false, ◌||◌, not, map, List, [], ◌∷◌, Option, Some, None, is_some, refl, sym, ap, ap₂, ◌∙◌, subst, inl, inr, arith}
 use Rattle.std.specs.Prelude.{filter}
 use Rattle.std.specs.Option.{option_map_or}
-use Rattle.std.proofs.lemmas.Bool.{cond_both, and_cases, or_left, or_right}
+use Rattle.std.proofs.lemmas.Bool.{cond_both}
 use Rattle.std.proofs.lemmas.Slice.Eq.{bytes_eq-Decides}
 use Rattle.lists.proofs.Members.{in_front, in_back, in_flat_map, in_filter}
-use Rattle.lists.proofs.Tests.{asked_parts}
 use Rattle.toml.specs.Data.{Data, array, table, Items, Members, no_members, member, get_member, at, is_sorted, members_are_sorted}
 use Rattle.lists.specs.Elements.{IsIn}
 use Rattle.board_file.specs.Texts.{same_text}
@@ -21,7 +20,7 @@ use Rattle.board_file.specs.declared.rule.Rule.{Rule}
 use Rattle.board_file.specs.declared.rule.Rule.TheVariants as rule
 use Rattle.board_check.specs.Keys.{table_at, level_of, needs, is_needed, form_holds, table_keeps, key_keeps}
 use Rattle.board_file.specs.Problems.{Found}
-use Rattle.board_check.specs.Problems.{entries_of, keys_in, of_field, of_fields, of_member, of_members, asked}
+use Rattle.board_check.specs.Problems.{entries_of, keys_in, of_field, of_member, asked}
 use Rattle.board_check.proofs.Blames.{found, Blame}
 use Rattle.board_check.proofs.SortedKeys.{IsMember, finds, sorted_inside}
 use Rattle.board_check.proofs.BadValues.{either_of, Before, BadMember, bad_member, before_member, BadValue, at_value, in_table as in_table_at, in_tables, bad_value, BadItem, bad_item}
@@ -79,44 +78,28 @@ record MissingField (fs : List Field) (t : Members) : Type 0 where
 
 missing_field : (fs : List Field) (t : Members) → has_needed fs t ≡ false → MissingField fs t
 missing_field [] t h = cc
-missing_field (f ∷ fs) t h = by_case (missing_field fs t) (and_cases (not f.is_needed || is_some (get_member f.key t)) (has_needed fs t) h)
-  where
-    by_case : (has_needed fs t ≡ false → MissingField fs t) → ((not f.is_needed || is_some (get_member f.key t)) ≡ false) ⊎ (has_needed fs t ≡ false) → MissingField (f ∷ fs) t
-    by_case rest (inl k) =
-        let (needed, missing) = asked_parts f.is_needed (is_some (get_member f.key t)) k in
-        record { field = f; there = inl refl; needed = needed; missing = missing }
-    by_case rest (inr k) = let x = rest k in record { field = x.field; there = inr x.there; needed = x.needed; missing = x.missing }
+missing_field (f ∷ fs) t h = grind (arith, missing_field fs t)
 
 needs_field : (f : Field) (fs : List Field) → IsIn f fs → f.is_needed ≡ true → needs f.key fs ≡ true
 needs_field f [] h k = absurd h
-needs_field f (g ∷ fs) (inl h) k =
-    or_left (g.is_needed && same_text g.key f.key) (needs f.key fs)
-    (ap₂ (λ (a b : Bool). a && b) (sym (ap (λ (x : Field). x.is_needed) h) ∙ k) (sym (ap (λ (x : Field). same_text x.key f.key) h) ∙ text_itself f.key))
-needs_field f (g ∷ fs) (inr h) k = or_right (g.is_needed && same_text g.key f.key) (needs f.key fs) (needs_field f fs h k)
+needs_field f (g ∷ fs) (inl h) k = grind (arith, text_itself)
+needs_field f (g ∷ fs) (inr h) k = grind (arith, needs_field f fs)
 
 in_members : (e : Entry) (t : Members) (k : List ℕ) (d : Data) → IsMember k d t → IsIn (found e rule.Known k) (map (of_member e) (keys_in t))
 in_members e no_members k d h = absurd h
-in_members e (member j x t) k d (inl h) = inl (ap (found e rule.Known) h.0)
-in_members e (member j x t) k d (inr h) = inr (in_members e t k d h)
+in_members e (member j x t) k d h = grind (arith, in_members e t k d)
 
 module _ (ms : Members) (e : Entry) (l : Level) (t : Members) (of : TableOf ms e l t) where
   keeps_there : (r : Rule) (k : List ℕ) → key_keeps ms e r k ≡ table_keeps r l k t
-  keeps_there r k =
-      ap (λ (o : Option Level). option_map_or (λ x. option_map_or (table_keeps r x k) (table_at ms e) true) o true) of.is_level
-      ∙ ap (λ (o : Option Members). option_map_or (table_keeps r l k) o true) of.is_table
+  keeps_there r k = grind arith
 
   asked_there : (x : Found) (f : Field) → IsIn f (fields l) → IsIn x (of_field e f) → IsIn x (asked ms e)
   unfolding asked
-  asked_there x f h k =
-      in_front x (of_fields e) (of_members ms e)
-      (subst (λ (o : Option Level). IsIn x (option_map_or (λ m. flat_map (of_field e) (fields m)) o [])) (sym of.is_level) (in_flat_map (of_field e) f x (fields l) h k))
+  asked_there x f h k = grind (arith, in_front, in_flat_map)
 
   known_there : (k : List ℕ) (d : Data) → IsMember k d t → IsIn (found e rule.Known k) (asked ms e)
   unfolding asked
-  known_there k d m =
-      let x = found e rule.Known k in
-      in_back x (of_fields e) (of_members ms e)
-      (subst (λ (o : Option Members). IsIn x (map (of_member e) (option_map_or keys_in o []))) (sym of.is_table) (in_members e t k d m))
+  known_there k d m = grind (arith, in_back, in_members)
 
   by_needed : has_needed (fields l) t ≡ false → Blame ms 102
   by_needed h =

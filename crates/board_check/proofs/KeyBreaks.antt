@@ -1,15 +1,14 @@
 -- An entry that breaks a rule of keys breaks the document's check of the rule's fault.
-use Rattle.std.proofs.Common.{◌≡◌, ℕ, zero, suc, Ordering, Less, Equal, Greater, nat_cmp, is_eq, Bool, true, false, ◌&&◌, ◌||◌, not, codes, List, [], ◌∷◌, Option, Some, None, is_some, refl, sym, ap, ap₂, ◌∙◌, inl, inr, ◌⊎◌}
+use Rattle.std.proofs.Common.{◌≡◌, ℕ, zero, suc, Ordering, Less, Equal, Greater, nat_cmp, is_eq, Bool, true, false, ◌&&◌, codes, List, [], ◌∷◌, Option, Some, None, is_some, refl, sym, ap, ◌∙◌, arith}
 use Rattle.std.specs.Prelude.{option_and_then}
 use Rattle.std.specs.Option.{option_map_or}
 use Rattle.std.specs.Ordering.{match_ordering}
 use Rattle.std.specs.Cmp.Lexicographic.{slice_cmp}
-use Rattle.std.proofs.lemmas.Bool.{and_parts, and_left, and_right, or_cases}
+use Rattle.std.proofs.lemmas.Bool.{and_left, and_right}
 use Rattle.std.proofs.lemmas.Map.Text.{is_eq-slice_cmp}
 use Rattle.std.proofs.lemmas.Slice.Eq.{bytes_eq-Decides}
 use Rattle.lists.proofs.Tests.{asked_parts}
-use Rattle.toml.specs.Data.{Data, array, table, Items, no_items, item, Members, no_members, member, get_member, get_item, at, as_table}
-use Rattle.board_file.specs.Texts.{same_text}
+use Rattle.toml.specs.Data.{Data, table, Items, no_items, item, Members, no_members, member, get_member, get_item, at, as_table}
 use Rattle.board_file.specs.Schema.{Field, fields, form_at, has_needed, value_test, table_test, value_passes, items_pass, members_pass, table_passes}
 use Rattle.board_file.specs.declared.schema.Level.{Level}
 use Rattle.board_file.specs.declared.schema.Level.TheVariants as level
@@ -31,8 +30,7 @@ record Failing {A : Type 0} (p : A → Bool) (o : Option A) : Type 0 where
   fails : p value ≡ false
 
 failing : {A : Type 0} (p : A → Bool) (o : Option A) → option_map_or p o true ≡ false → Failing p o
-failing p None h = cc
-failing p (Some x) h = record { value = x; is = refl; fails = h }
+failing p o h = grind arith
 
 record Through {A B : Type 0} (f : A → Option B) (o : Option A) (y : B) : Type 0 where
   value : A
@@ -40,19 +38,15 @@ record Through {A B : Type 0} (f : A → Option B) (o : Option A) (y : B) : Type
   gives : f value ≡ Some y
 
 through : {A B : Type 0} (f : A → Option B) (o : Option A) (y : B) → option_and_then f o ≡ Some y → Through f o y
-through f None y h = cc
-through f (Some x) y h = record { value = x; is = refl; gives = h }
+through f o y h = grind arith
 
 table_of : (d : Data) (u : Members) → as_table d ≡ Some u → d ≡ table u
-table_of (table t) u h = let same : t ≡ u = cc in ap table same
-table_of d u h = cc
+table_of d u h = grind arith
 
 -- ---- checks
 
 test_fails : (c : Check) (form : Option Form) (d : Data) → value_test c form d ≡ false → value_passes c form d ≡ false
-test_fails c form (array ds) h = and_left (value_test c form (array ds)) _ h
-test_fails c form (table ms) h = and_left (value_test c form (table ms)) _ h
-test_fails c form _ h = h
+test_fails c form d h = grind arith
 
 member_fails : (c : Check) (l : Level) (t : Members) (k : List ℕ) (d : Data) → get_member k t ≡ Some d → value_passes c (form_at k (fields l)) d ≡ false → members_pass c l t ≡ false
 member_fails c l no_members k d at h = cc
@@ -89,8 +83,7 @@ items_fail c m (item d ds) zero u at h =
 items_fail c m (item d ds) (suc i) u at h = and_right (value_passes c (Some (Table m)) d) (items_pass c m ds) (items_fail c m ds i u at h)
 
 array_fails : (c : Check) (m : Level) (d : Data) (i : ℕ) (u : Members) → option_and_then as_table (at i d) ≡ Some u → table_passes c m u ≡ false → value_passes c (Some (Tables m)) d ≡ false
-array_fails c m (array ds) i u at h = and_right (value_test c (Some (Tables m)) (array ds)) (items_pass c m ds) (items_fail c m ds i u at h)
-array_fails c m d i u at h = cc
+array_fails c m d i u at h = grind (arith, items_fail)
 
 listed_fails : (c : Check) (l m : Level) (k : List ℕ) (i : ℕ) (t u : Members) → form_at k (fields l) ≡ Some (Tables m) → table_in k i t ≡ Some u → table_passes c m u ≡ false → table_passes c l t ≡ false
 listed_fails c l m k i t u form there h = by_case (get_member k t) refl there
@@ -108,25 +101,13 @@ check_of _ = Keys
 
 needed_fails : (fs : List Field) (k : List ℕ) (t : Members) → needs k fs ≡ true → is_some (get_member k t) ≡ false → has_needed fs t ≡ false
 needed_fails [] k t h none = cc
-needed_fails (f ∷ fs) k t h none = by_case (needed_fails fs k t) (or_cases (f.is_needed && same_text f.key k) (needs k fs) h)
-  where
-    by_case : (needs k fs ≡ true → is_some (get_member k t) ≡ false → has_needed fs t ≡ false)
-        → ((f.is_needed && same_text f.key k) ≡ true) ⊎ (needs k fs ≡ true)
-        → ((not f.is_needed || is_some (get_member f.key t)) && has_needed fs t) ≡ false
-    by_case rest (inl here) =
-        let (needed, same) = and_parts f.is_needed (same_text f.key k) here in
-        let is : f.key ≡ k = (bytes_eq-Decides f.key k).0 same in
-        and_left (not f.is_needed || is_some (get_member f.key t)) (has_needed fs t)
-        (ap₂ (λ (a b : Bool). not a || b) needed (ap (λ (x : List ℕ). is_some (get_member x t)) is ∙ none))
-    by_case rest (inr more) = and_right (not f.is_needed || is_some (get_member f.key t)) (has_needed fs t) (rest more none)
+needed_fails (f ∷ fs) k t h none = grind (arith, needed_fails fs k t, bytes_eq-Decides f.key k)
 
 same_test : (o : Option Form) (d : Data) → form_holds o d ≡ false → value_test Types o d ≡ false
-same_test None d h = h
-same_test (Some form) d h = h
+same_test o d h = grind arith
 
 some_value : (o : Option Data) → is_some o ≡ true → (d : Data) × (o ≡ Some d)
-some_value None h = cc
-some_value (Some d) h = (d, refl)
+some_value o h = grind arith
 
 fails_here : (r : Rule) (l : Level) (k : List ℕ) (t : Members) → table_keeps r l k t ≡ false → table_passes (check_of r) l t ≡ false
 fails_here rule.Needed l k t h =

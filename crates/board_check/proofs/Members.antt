@@ -1,5 +1,5 @@
 -- What is in the lists of a file's entries and of what is asked of an entry.
-use Rattle.std.proofs.Common.{◌≡◌, ℕ, Bool, true, List, [], ◌++◌, map, length, get_or, Some, refl, sym, ap₂, ◌∙◌, subst, inl, inr, zero-add}
+use Rattle.std.proofs.Common.{◌≡◌, ℕ, Bool, true, List, [], map, length, get_or, Some, refl, sym, ap₂, ◌∙◌, subst, inl, inr, zero-add, arith}
 use Rattle.std.specs.Prelude.{slice_get, filter}
 use Rattle.std.specs.List.{flat_map, enumerate_from}
 use Rattle.std.proofs.lemmas.List.FromFn.{length-range_with_len, get_or-range_with_len, length-enumerate_from, get_or-enumerate_from}
@@ -43,17 +43,14 @@ module _ (f : File) where
   abbrev of_endpoints : List Entry
   of_endpoints = flat_map with_endpoint (enumerate_from 0 f.endpoints)
 
-  abbrev of_bridges : List Entry
-  of_bridges = map entry.Bridge (indices f.bridges)
-
   abbrev of_guests : List Entry
   of_guests = flat_map with_guest (enumerate_from 0 f.guests)
 
   among_endpoints : (x : Entry) → IsIn x of_endpoints → IsIn x (entries_of f)
-  among_endpoints x h = inr (inr (in_front x (of_endpoints ++ of_bridges) of_guests (in_front x of_endpoints of_bridges h)))
+  among_endpoints x h = grind (arith, in_front)
 
   among_guests : (x : Entry) → IsIn x of_guests → IsIn x (entries_of f)
-  among_guests x h = inr (inr (in_back x (of_endpoints ++ of_bridges) of_guests h))
+  among_guests x h = grind (arith, in_back)
 
   module _ (i : ℕ) (e : Endpoint) (at : slice_get f.endpoints i ≡ Some e) where
     with_it : (x : Entry) → IsIn x (with_endpoint (i, e)) → IsIn x (entries_of f)
@@ -73,8 +70,7 @@ module _ (f : File) where
         (inr (in_back (entry.Config i j) (map (entry.Bar i) (indices e.bars)) (map (entry.Config i) (indices e.configs)) (in_map (entry.Config i) j (indices e.configs) (in_indices e.configs j c h))))
 
   pub bridge_in : (i : ℕ) (b : Bridge) → slice_get f.bridges i ≡ Some b → IsIn (entry.Bridge i) (entries_of f)
-  bridge_in i b h =
-      inr (inr (in_front (entry.Bridge i) (of_endpoints ++ of_bridges) of_guests (in_back (entry.Bridge i) of_endpoints of_bridges (in_map entry.Bridge i (indices f.bridges) (in_indices f.bridges i b h)))))
+  bridge_in i b h = grind (arith, in_front, in_back, in_map, in_indices)
 
   module _ (i : ℕ) (g : Guest) (at : slice_get f.guests i ≡ Some g) where
     with_guest_here : (x : Entry) → IsIn x (with_guest (i, g)) → IsIn x (entries_of f)

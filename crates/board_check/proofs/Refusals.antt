@@ -1,10 +1,9 @@
 -- A file that is refused has a problem of the fault for which it is, and one with a problem of a fault fails its check.
-use Rattle.std.proofs.Common.{◌≡◌, ◌≢◌, ℕ, Bool, true, false, ◌&&◌, ◌||◌, ◌==◌, not, List, [], ◌∷◌, Option, Some, None, Err, refl, sym, ap, subst, ◌∙◌, arith}
+use Rattle.std.proofs.Common.{◌≡◌, ◌≢◌, ℕ, Bool, true, false, ◌&&◌, ◌||◌, ◌==◌, not, List, [], ◌∷◌, Option, Some, Err, refl, sym, ap, subst, ◌∙◌, arith}
 use Rattle.std.specs.Prelude.{filter, slice_get}
 use Rattle.std.specs.List.{flat_map}
 use Rattle.std.specs.Option.{option_map_or}
-use Rattle.std.proofs.Math.Bool.{and-true}
-use Rattle.std.proofs.lemmas.Bool.{cond_both, and_parts, and_left, and_right, not-true, eqb-true, eq-eqb}
+use Rattle.std.proofs.lemmas.Bool.{and_parts, not-true, eqb-true, eq-eqb}
 use Rattle.lists.proofs.Indices.{index_in}
 use Rattle.toml.specs.Data.{Members}
 use Rattle.lists.specs.Elements.{IsIn}
@@ -42,13 +41,10 @@ at_number n ((m, b) ∷ more) = (not (m == n) || b) && at_number n more
 
 pub broken_at : (n : ℕ) (cs : List (ℕ × Bool)) → first_broken cs ≡ Some n → at_number n cs ≡ false
 broken_at n [] h = cc
-broken_at n ((m, true) ∷ more) h = and_right (not (m == n) || true) (at_number n more) (broken_at n more h)
-broken_at n ((m, false) ∷ more) h =
-    let same : m ≡ n = cc in
-    and_left (not (m == n) || false) (at_number n more) (ap (λ (b : Bool). not b || false) (eq-eqb m n same))
+broken_at n ((m, b) ∷ more) h = grind (arith, eq-eqb, broken_at n more)
 
 pub alone : (b : Bool) → (b && true) ≡ false → b ≡ false
-alone b h = sym (and-true b) ∙ h
+alone b h = grind arith
 
 -- ---- what a file says
 
@@ -65,13 +61,9 @@ module _ (f : File) where
 
 -- ---- refusals have problems
 
-first_number : (n m : ℕ) (more : List (ℕ × Bool)) → first_broken ((n, false) ∷ more) ≡ Some m → n ≡ m
-first_number n m more h = cc
-
 -- of two checks, the first of which holds where the second is the first that fails
 first_holds : (b c : Bool) (more : List (ℕ × Bool)) → first_broken ((102, b) ∷ (103, c) ∷ more) ≡ Some 103 → b ≡ true
-first_holds true c more h = refl
-first_holds false c more h = absurd (omega (arith, first_number 102 103 ((103, c) ∷ more) h))
+first_holds b c more h = grind arith
 
 pub refusals_have_problems : RefusalsHaveProblems
 refusals_have_problems ms sorted told h = by_fault told h (broken_at (number_of told) (checks ms) h)
@@ -86,8 +78,7 @@ refusals_have_problems ms sorted told h = by_fault told h (broken_at (number_of 
     by_fault f h broken = some_problem_in (file ms) f (alone (holds f (file ms)) broken)
 
 broken_of : {A : Type 0} (o : Option ℕ) (x : A) (n : ℕ) → unless o x ≡ Err n → o ≡ Some n
-broken_of None x n h = cc
-broken_of (Some m) x n h = let same : m ≡ n = cc in ap Some same
+broken_of o x n h = grind arith
 
 pub refused_documents_have_problems : RefusedDocumentsHaveProblems
 refused_documents_have_problems bytes ms read fault h =
@@ -102,14 +93,11 @@ record Passing {A : Type 0} (p : A → Bool) : Type 0 where
 
 passing : {A : Type 0} (p : A → Bool) (xs : List A) → filter p xs ≢ [] → Passing p
 passing p [] h = absurd (h refl)
-passing p (x ∷ xs) h =
-    cond_both (p x) (x ∷ filter p xs) (filter p xs) (λ ys. ys ≢ [] → Passing p) (λ is k. record { value = x; passes = is }) (λ other k. passing p xs k) h
+passing p (x ∷ xs) h = grind (arith, passing p xs)
 
 -- tables are asked no other rules
 not_asked : (o : Option Level) (t : Option Members) → option_map_or (λ (l : Level). option_map_or (λ (u : Members). true) t true) o true ≡ true
-not_asked None t = refl
-not_asked (Some l) None = refl
-not_asked (Some l) (Some u) = refl
+not_asked o t = grind arith
 
 module _ (ms : Members) where
   check_at : (place n : ℕ) (b : Bool) → slice_get (checks ms) place ≡ Some (n, b) → b ≡ false → IsIn (n, false) (checks ms)
@@ -133,7 +121,7 @@ module _ (ms : Members) where
   by_check place fault at some = check_at place (number_of fault) (holds fault (file ms)) at (broken_by (file ms) fault some)
 
   always : (fault : BoardFault) → holds fault (file ms) ≡ true → problems_in (file ms) fault ≢ [] → IsIn (number_of fault, false) (checks ms)
-  always fault h some = absurd (let wrong : true ≡ false = sym h ∙ broken_by (file ms) fault some in cc)
+  always fault h some = grind (arith, broken_by)
 
 pub problems_break_checks : ProblemsBreakChecks
 problems_break_checks ms fault.NotToml h = always ms fault.NotToml refl h

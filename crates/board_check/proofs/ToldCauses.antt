@@ -1,12 +1,11 @@
 -- Of each problem of registers and of cell masks something is said beyond the words of its rule.
-use Rattle.std.proofs.Common.{◌≡◌, ◌≢◌, ◌⊎◌, inl, inr, ℕ, suc, ◌+◌, Bool, true, false, ◌||◌, ◌==◌, not, List, [], ◌∷◌, ◌++◌, length, take, map, Option, Some, None, option_map, refl, sym, ap, subst, ◌∙◌, arith}
-use Rattle.std.specs.Prelude.{codes, filter, slice_get, nat_abs, option_and_then}
+use Rattle.std.proofs.Common.{◌≡◌, ◌≢◌, ◌⊎◌, inl, inr, ℕ, suc, ◌+◌, Bool, true, false, ◌||◌, not, List, [], ◌∷◌, ◌++◌, take, map, Option, Some, None, option_map, refl, sym, ap, subst, ◌∙◌, arith}
+use Rattle.std.specs.Prelude.{filter, slice_get, nat_abs, option_and_then}
 use Rattle.std.specs.List.{flat_map, list_all, position, enumerate_from}
 use Rattle.std.specs.Option.{option_map_or}
-use Rattle.std.proofs.lemmas.Bool.{cond_both, and_parts, both_ways, eqb-true}
+use Rattle.std.proofs.lemmas.Bool.{both_ways, eqb-true}
 use Rattle.lists.specs.Elements.{IsIn}
 use Rattle.lists.proofs.Members.{front_or_back, from_flat_map, from_filter, all_in}
-use Rattle.lists.proofs.Tests.{asked_parts}
 use Rattle.toml.specs.Data.{Members}
 use Rattle.model_registers.specs.DeclarationRules.{has_own_registers}
 use Rattle.board_file.specs.Entries.{Patterns, Bar, Config, Endpoint, Bridge, Guest, File, file}
@@ -24,16 +23,15 @@ use Rattle.board_file.specs.declared.entry.Entry.{Entry}
 use Rattle.board_file.specs.declared.entry.Entry.TheVariants as entry
 use Rattle.board_check.specs.declared.lines.Other.{Other}
 use Rattle.board_check.specs.declared.lines.Told.{Told}
-use Rattle.board_check.specs.Keys.{key_keeps}
-use Rattle.board_check.specs.Problems.{is_wrong, problems_of, key_problems, asked, entries_of}
+use Rattle.board_check.specs.Problems.{is_wrong, problems_of, key_problems}
 use Rattle.board_check.specs.Spoiling.{is_clear}
 use Rattle.board_check.specs.AllProblems.{with_check, all_from, later_checks}
-use Rattle.board_check.specs.PatternCauses.{pattern_words, keyed_text, masks_text, bar_masks_text, config_masks_text}
-use Rattle.board_check.specs.RegisterCauses.{first_taker, taker_of}
+use Rattle.board_check.specs.PatternCauses.{keyed_text, masks_text, bar_masks_text, config_masks_text}
+use Rattle.board_check.specs.RegisterCauses.{taker_of}
 use Rattle.board_check.specs.Others.{block_before, other_of}
 use Rattle.board_check.specs.Said.{bar_of, config_of}
-use Rattle.board_check.specs.Causes.{own_text, named_text, met_text, beside_text, cause_text}
-use Rattle.board_check.specs.Telling.{entry_of, found_in, IsTold}
+use Rattle.board_check.specs.Causes.{own_text, beside_text, cause_text}
+use Rattle.board_check.specs.Telling.{found_in, IsTold}
 use Rattle.board_check.specs.CauseLaws.{needs_cause, CausesAreTold}
 use Rattle.board_check.proofs.Takers.{no_position, no_takers}
 
@@ -48,20 +46,13 @@ both_empty (x ∷ xs) ys e = absurd (not_empty x (xs ++ ys) e)
 
 -- where nothing is said of another entry there is none
 none_beside : (t o : Option Other) → beside_text t o ≡ [] → (t ≡ None) × (o ≡ None)
-none_beside None None e = (refl, refl)
-none_beside None (Some o) e = absurd (not_empty 58 (32 ∷ named_text o) e)
-none_beside (Some t) o e = absurd (not_empty 58 (32 ∷ (named_text t ++ met_text o)) e)
+none_beside t o e = grind arith
 
 keyed : (key words : List ℕ) → keyed_text key words ≢ []
 keyed key words e = not_empty 58 (32 ∷ (key ++ words)) e
 
 masks_said : (n : ℕ) (p : Patterns) → masks_text n p ≢ []
-masks_said n p =
-    let some = λ (text : List ℕ). text ≢ [] in
-    let says = λ (o : Option (List ℕ)). not (length (pattern_words n o) == 0) in
-    cond_both (says p.reset) _ _ some (λ _. keyed (codes "reset") (pattern_words n p.reset))
-    (λ _. cond_both (says p.writable) _ _ some (λ _. keyed (codes "rw") (pattern_words n p.writable))
-    (λ _. cond_both (says p.clearable) _ _ some (λ _. keyed (codes "w1c") (pattern_words n p.clearable)) (λ _. not_empty 58 (codes " a bit is in both rw and w1c"))))
+masks_said n p = grind (arith, keyed)
 
 -- ---- why something is said
 
@@ -72,14 +63,7 @@ data Reason (f : File) (e : Entry) (r : Rule) : Type 0 where
   by_earlier : other_of f e r ≢ None → Reason f e r
 
 is_said : (text : List ℕ) (ms : Members) (t : Told) → Reason (file ms) t.problem.entry t.problem.rule → IsTold text ms (file ms) t → cause_text (file ms) t ≢ []
-is_said text ms t (by_itself h) told e =
-    h t.problem.key.now (both_empty (own_text (file ms) t.problem.entry t.problem.rule t.problem.key.now) (beside_text t.taker t.other) e).0
-is_said text ms t (by_region h) told e =
-    let beside = (both_empty (own_text (file ms) t.problem.entry t.problem.rule t.problem.key.now) (beside_text t.taker t.other) e).1 in
-    h (sym told.taker ∙ ap (option_map entry_of) (none_beside t.taker t.other beside).0)
-is_said text ms t (by_earlier h) told e =
-    let beside = (both_empty (own_text (file ms) t.problem.entry t.problem.rule t.problem.key.now) (beside_text t.taker t.other) e).1 in
-    h (sym told.other ∙ ap (option_map entry_of) (none_beside t.taker t.other beside).1)
+is_said text ms t r told e = grind (arith, both_empty, none_beside)
 
 abbrev Caused : File → Found → Type 0
 Caused f x = needs_cause x.rule ≡ true → Reason f x.entry x.rule
@@ -108,55 +92,37 @@ from_broken x e rules m = let found = from_flat_map (unless_kept e) x rules m in
 
 -- each rule that is broken has a reason
 each_rule : (f : File) (e : Entry) (rules : List (Rule × Bool)) → ((r : Rule) → IsIn {A = Rule × Bool} (r, false) rules → Reason f e r) → AllCaused f (broken e rules)
-each_rule f e rules reasons x m need =
-    let (r, there, is) = from_broken x e rules m in subst (λ (y : Found). Reason f y.entry y.rule) (sym is) (reasons r there)
+each_rule f e rules reasons x m need = grind (arith, from_broken)
 
 -- rules whose words say all
 abbrev says_all : Rule × Bool → Bool
 says_all rule = not (needs_cause rule.0)
 
 no_cause : (f : File) (e : Entry) (rules : List (Rule × Bool)) → list_all says_all rules ≡ true → AllCaused f (broken e rules)
-no_cause f e rules h x m need =
-    let (r, there, is) = from_broken x e rules m in
-    let asked : needs_cause r ≡ true = ap (λ (y : Found). needs_cause y.rule) (sym is) ∙ need in
-    let said : not (needs_cause r) ≡ true = all_in says_all (r, false) rules h there in
-    let wrong : false ≡ true = sym (ap not asked) ∙ said in absurd (cc)
+no_cause f e rules h x m need = grind (arith, from_broken, all_in)
 
 -- the rule of a list of one, where it is broken
 alone : (r s : Rule) (kept : Bool) → IsIn {A = Rule × Bool} (r, false) ((s, kept) ∷ []) → (r ≡ s) × (kept ≡ false)
-alone r s kept (inl e) = (ap (λ (p : Rule × Bool). p.0) e, sym (ap (λ (p : Rule × Bool). p.1) e))
-alone r s kept (inr wrong) = absurd wrong
+alone r s kept m = grind arith
 
 -- an entry of a list by its number
 numbered : {A : Type 0} (i : ℕ) (x : A) (from : ℕ) (xs : List A) → IsIn (i, x) (enumerate_from from xs) → (k : ℕ) × (i ≡ from + k) × (slice_get xs k ≡ Some x)
 numbered i x from [] m = absurd m
-numbered {A} i x from (y ∷ ys) (inl e) =
-    let at : i ≡ from = ap (λ (p : ℕ × A). p.0) e in let is : x ≡ y = ap (λ (p : ℕ × A). p.1) e in (0, omega arith, ap Some (sym is))
-numbered {A} i x from (y ∷ ys) (inr m) = later (numbered i x (from + 1) ys m)
-  where
-    later : (k : ℕ) × (i ≡ (from + 1) + k) × (slice_get ys k ≡ Some x) → (k : ℕ) × (i ≡ from + k) × (slice_get (y ∷ ys) k ≡ Some x)
-    later (k, at, is) = (suc k, omega arith, is)
+numbered i x from (y ∷ ys) (inl e) = (0, grind arith, grind arith)
+numbered i x from (y ∷ ys) (inr m) = let (k, at, is) = numbered i x (from + 1) ys m in (suc k, omega arith, is)
 
 at_number : {A : Type 0} (i : ℕ) (x : A) (xs : List A) → IsIn (i, x) (enumerate_from 0 xs) → slice_get xs i ≡ Some x
-at_number {A} i x xs m = by_index (numbered i x 0 xs m)
-  where
-    by_index : (k : ℕ) × (i ≡ 0 + k) × (slice_get xs k ≡ Some x) → slice_get xs i ≡ Some x
-    by_index (k, at, is) = let same : i ≡ k = omega arith in subst (λ (n : ℕ). slice_get xs n ≡ Some x) (sym same) is
+at_number i x xs m = let at = numbered i x 0 xs m in grind arith
 
 none_mapped : {A B : Type 0} (g : A → B) (o : Option A) → option_map g o ≡ None → o ≡ None
-none_mapped g None h = refl
-none_mapped g (Some x) h = absurd (cc)
+none_mapped g o h = grind arith
 
 -- ---- entry by entry
 
 module _ (f : File) (i : ℕ) (e : Endpoint) (at : slice_get f.endpoints i ≡ Some e) where
   -- some region has no registers of its own
   a_taker : (not (has_indices e) || has_own_registers (map region e.bars)) ≡ false → taker_of f (entry.Endpoint i) rule.OwnRegisters ≢ None
-  a_taker broken none =
-      let here : option_map (entry.Bar i) (first_taker e.bars) ≡ None =
-      sym (ap (option_and_then (λ (d : Endpoint). option_map (entry.Bar i) (first_taker d.bars))) at) ∙ none in
-      both_ways (has_own_registers (map region e.bars)) (asked_parts (has_indices e) (has_own_registers (map region e.bars)) broken).1
-      (no_takers e.bars (none_mapped (entry.Bar i) (first_taker e.bars) here))
+  a_taker broken none = grind (arith, no_takers)
 
   endpoint_caused : (fault : BoardFault) → AllCaused f (broken (entry.Endpoint i) (endpoint_rules fault f i e))
   endpoint_caused fault.Register =
@@ -281,10 +247,7 @@ not_of_keys _ n h e = refl
 
 keys_caused : (ms : Members) (fault : BoardFault) (x : Found) → (number_of fault ≡ 102) ⊎ (number_of fault ≡ 103) → IsIn x (key_problems ms fault) → Caused (file ms) x
 unfolding is_wrong
-keys_caused ms fault x keys m need =
-    let wrong = (from_filter (is_wrong ms fault) x (flat_map (asked ms) (entries_of (file ms))) m).1 in
-    let same = eqb-true (number_of (fault_of x.rule)) (number_of fault) (and_parts (number_of (fault_of x.rule) == number_of fault) (not (key_keeps ms x.entry x.rule x.key)) wrong).0 in
-    absurd (both_ways (needs_cause x.rule) (not_of_keys x.rule (number_of fault) keys same) need)
+keys_caused ms fault x keys m need = grind (arith, from_filter, eqb-true, not_of_keys)
 
 problem_caused : (ms : Members) (fault : BoardFault) (x : Found) → IsIn x (problems_of ms fault) → Caused (file ms) x
 problem_caused ms fault.Key x m = keys_caused ms fault.Key x (inl refl) m
