@@ -1,11 +1,12 @@
 -- Regions by size, one after the other.
 use Rattle.std.proofs.Common.{◌≡◌, ◌<◌, ◌≤◌, ◌+◌, ℕ, zero, suc, Bool, true, false, not, cond, List, [], ◌∷◌, length, get_or, take, Some, None, refl, sym, ap, ◌∙◌, arith}
-use Rattle.std.specs.Prelude.{insert, nat_lt}
+use Rattle.std.specs.Prelude.{insert}
 use Rattle.std.specs.List.{position, position_or_len}
 use Rattle.std.proofs.lemmas.Bool.{ltb-false}
 use Rattle.std.proofs.lemmas.List.Sums.{fold_more, prefix_len-le-length}
 use Rattle.board_fit.specs.declared.pool_region.PoolRegion.{PoolRegion}
 use Rattle.board_fit.specs.PoolRegions.{is_smaller, inserted, by_size}
+use Rattle.std.proofs.lemmas.Grind.{common_steps}
 
 -- the first n of a list in which a region was put, by the first n of the list
 pub take_inserted : (n : ℕ) (r : PoolRegion) (rs : List PoolRegion) → take n (inserted r (take n rs)) ≡ take n (inserted r rs)
@@ -14,17 +15,11 @@ take_inserted (suc n) r [] = refl
 take_inserted (suc n) r (s ∷ ss) = by_test (is_smaller r s) n (take_inserted n r ss)
   where
     shorter : (m : ℕ) (qs : List PoolRegion) → take m (take (suc m) qs) ≡ take m qs
-    shorter zero qs = refl
-    shorter (suc m) [] = refl
-    shorter (suc m) (q ∷ qs) = ap (λ (ps : List PoolRegion). q ∷ ps) (shorter m qs)
-
-    once : (m : ℕ) (qs : List PoolRegion) → take m (s ∷ take m qs) ≡ take m (s ∷ qs)
-    once zero qs = refl
-    once (suc m) qs = ap (λ (ps : List PoolRegion). s ∷ ps) (shorter m qs)
+    shorter m qs = grind (arith, common_steps)
 
     by_test : (t : Bool) (m : ℕ) → take m (inserted r (take m ss)) ≡ take m (inserted r ss)
         → take (suc m) (cond t (r ∷ s ∷ take m ss) (s ∷ inserted r (take m ss))) ≡ take (suc m) (cond t (r ∷ s ∷ ss) (s ∷ inserted r ss))
-    by_test true m more = ap (λ (ps : List PoolRegion). r ∷ ps) (once m ss)
+    by_test true m more = grind (arith, shorter)
     by_test false m more = ap (λ (ps : List PoolRegion). s ∷ ps) more
 
 pub one_more : (rs : List PoolRegion) (i : ℕ) (r d : PoolRegion) (top : List PoolRegion) → i < length rs → r ≡ get_or rs i d → top ≡ take 5 (by_size (take i rs)) → take 5 (inserted r top) ≡ take 5 (by_size (take (i + 1) rs))
@@ -48,21 +43,11 @@ inserted_at r (s ∷ ss) = by_test (is_smaller r s) (inserted_at r ss)
 
 -- ---- the place of the first that passes
 
-some_is : (t : Bool) (n i : ℕ) → cond t (Some n) None ≡ Some i → i ≡ n
-some_is true n i h = cc
-some_is false n i h = absurd (cc)
-
-none_is : (t : Bool) (n : ℕ) → cond t (Some n) None ≡ None → t ≡ false
-none_is true n h = absurd (cc)
-none_is false n h = refl
-
 pub at_some : (p : PoolRegion → Bool) (rs : List PoolRegion) (i : ℕ) → Some i ≡ position p rs → i ≡ position_or_len p rs
-at_some p rs i h = some_is (nat_lt (position_or_len p rs) (length rs)) (position_or_len p rs) i (sym h)
+at_some p rs i h = grind arith
 
 pub place_within : (p : PoolRegion → Bool) (rs : List PoolRegion) → position_or_len p rs ≤ length rs
 place_within p rs = prefix_len-le-length (λ (r : PoolRegion). not (p r)) rs
 
 pub at_none : (p : PoolRegion → Bool) (rs : List PoolRegion) → None ≡ position p rs → length rs ≡ position_or_len p rs
-at_none p rs h =
-    let past = ltb-false (position_or_len p rs) (length rs) (none_is (nat_lt (position_or_len p rs) (length rs)) (position_or_len p rs) (sym h)) in
-    let within = place_within p rs in omega arith
+at_none p rs h = grind (arith, ltb-false, place_within)

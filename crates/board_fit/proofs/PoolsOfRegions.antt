@@ -1,14 +1,14 @@
 -- The regions of a pool by the bridges of a file, and by those of its board.
-use Rattle.std.proofs.Common.{◌≡◌, ℕ, Bool, true, false, ◌&&◌, ◌||◌, not, cond, List, [], ◌∷◌, ◌++◌, map, Option, Some, None, refl, sym, ap, ap₂, ◌∙◌}
-use Rattle.std.specs.Prelude.{filter, flat_map, nat_lt, ◌^◌, if◌then◌else◌}
+use Rattle.std.proofs.Common.{◌≡◌, ℕ, Bool, true, false, ◌&&◌, ◌||◌, not, cond, List, [], ◌∷◌, ◌++◌, map, refl, sym, ap, ◌∙◌, arith}
+use Rattle.std.specs.Prelude.{flat_map}
 use Rattle.std.specs.List.{list_all, enumerate_from}
-use Rattle.model_registers.specs.Apertures.{Aperture, Apertures}
-use Rattle.model_registers.specs.Declarations.{Kind, io_kind, mem32, mem64}
+use Rattle.model_registers.specs.Apertures.{Apertures}
+use Rattle.model_registers.specs.Declarations.{Kind}
 use Rattle.model_registers.specs.Declarations as declared
 use Rattle.model_board.specs.Paths.{Path, path_before, leads_to}
 use Rattle.model_board.specs.Board.{Decl, endpoint, bridge, Row, Board}
 use Rattle.model_board.specs.Places.{row_inserted, board_of}
-use Rattle.model_set_up.specs.Pools.{same_pool, has_pref, has_pref64, bridge_of, bridges_above, pref_or_mem, pool_of}
+use Rattle.model_set_up.specs.Pools.{same_pool, has_pref, has_pref64, bridges_above, pool_of}
 use Rattle.board_file.specs.Entries.{Bridge, Endpoint, File}
 use Rattle.board_file.specs.Functions.{endpoint_row, bridge_row, rows}
 use Rattle.board_file.specs.PathTexts.{path_at}
@@ -16,7 +16,7 @@ use Rattle.std.proofs.Math.Bool.{and_assoc, and_comm}
 use Rattle.window_packing.specs.declared.pool.Pool.{Pool}
 use Rattle.window_packing.specs.Plans.{named_pool}
 use Rattle.board_fit.specs.PoolRegions.{region_at, region_in, regions_in, pool_regions}
-use Rattle.board_fit.specs.Reaches.{has_pref_entry, has_pref64_entry, all_above, reaches_of, pref_by, pool_by, region_by, endpoint_by}
+use Rattle.board_fit.specs.Reaches.{has_pref_entry, has_pref64_entry, all_above, reaches_of, pool_by, region_by, endpoint_by}
 
 -- ---- a test of all bridges above a path
 
@@ -29,49 +29,29 @@ module _ (q : declared.Bridge → Bool) (p : Path) where
   row_passes at (endpoint d) = true
   row_passes at (bridge d) = not (leads_to at p) || q d
 
-  abbrev said : Bool → Decl → Bool
-  said t (endpoint e) = true
-  said t (bridge e) = not t || q e
-
-  by_test : (t : Bool) (at : Path) (d : Decl) (b : Board) → list_all q (flat_map bridge_of (cond t (record { path = at; decl = d } ∷ filter (λ r. leads_to r.path p) b) (filter (λ r. leads_to r.path p) b))) ≡ (said t d && passes b)
-  by_test true at (endpoint e) b = refl
-  by_test true at (bridge e) b = refl
-  by_test false at (endpoint e) b = refl
-  by_test false at (bridge e) b = refl
-
   more : (at : Path) (d : Decl) (b : Board) → passes (record { path = at; decl = d } ∷ b) ≡ (row_passes at d && passes b)
-  more at (endpoint d) b = by_test (leads_to at p) at (endpoint d) b
-  more at (bridge d) b = by_test (leads_to at p) at (bridge d) b
+  more at d b = grind arith
 
   -- in whatever order the rows stand
   inserted_passes : (r : Row) (b : Board) → passes (row_inserted r b) ≡ passes (r ∷ b)
   inserted_passes r [] = refl
   inserted_passes r (s ∷ b) = in_place (path_before s.path r.path) (inserted_passes r b)
     where
-      swapped : passes (s ∷ r ∷ b) ≡ passes (r ∷ s ∷ b)
-      swapped =
-          let x = row_passes s.path s.decl in let y = row_passes r.path r.decl in
-          more s.path s.decl (r ∷ b) ∙ ap (λ (t : Bool). x && t) (more r.path r.decl b) ∙ sym (and_assoc x y (passes b))
-          ∙ ap (λ (t : Bool). t && passes b) (and_comm x y) ∙ and_assoc y x (passes b)
-          ∙ ap (λ (t : Bool). y && t) (sym (more s.path s.decl b)) ∙ sym (more r.path r.decl (s ∷ b))
-
       in_place : (t : Bool) → passes (row_inserted r b) ≡ passes (r ∷ b) → passes (cond t (s ∷ row_inserted r b) (r ∷ s ∷ b)) ≡ passes (r ∷ s ∷ b)
-      in_place true again = more s.path s.decl (row_inserted r b) ∙ ap (λ (t : Bool). row_passes s.path s.decl && t) again ∙ sym (more s.path s.decl (r ∷ b)) ∙ swapped
+      in_place true again = grind (arith, more, and_assoc, and_comm)
       in_place false again = refl
 
   in_any_order : (rs : List Row) → passes (board_of rs) ≡ passes rs
   in_any_order [] = refl
-  in_any_order (r ∷ rs) =
-      inserted_passes r (board_of rs) ∙ more r.path r.decl (board_of rs)
-      ∙ ap (λ (t : Bool). row_passes r.path r.decl && t) (in_any_order rs) ∙ sym (more r.path r.decl rs)
+  in_any_order (r ∷ rs) = grind (arith, inserted_passes, more, in_any_order rs)
 
   of_bridges : (t : Bridge → Bool) → ((b : Bridge) → row_passes (bridge_row b).path (bridge_row b).decl ≡ (not (leads_to (path_at b.at) p) || t b)) → (bs : List Bridge) → passes (map bridge_row bs) ≡ all_above t bs p
   of_bridges t h [] = refl
-  of_bridges t h (b ∷ bs) = more (bridge_row b).path (bridge_row b).decl (map bridge_row bs) ∙ ap₂ (λ (u v : Bool). u && v) (h b) (of_bridges t h bs)
+  of_bridges t h (b ∷ bs) = grind (arith, more, of_bridges t h bs)
 
   of_rows : (es : List Endpoint) (b : Board) → passes (map endpoint_row es ++ b) ≡ passes b
   of_rows [] b = refl
-  of_rows (e ∷ es) b = more (endpoint_row e).path (endpoint_row e).decl (map endpoint_row es ++ b) ∙ of_rows es b
+  of_rows (e ∷ es) b = grind (arith, more, of_rows es b)
 
   -- by the bridges of a file
   pub by_file : (t : Bridge → Bool) → ((b : Bridge) → row_passes (bridge_row b).path (bridge_row b).decl ≡ (not (leads_to (path_at b.at) p) || t b)) → (f : File) → passes (board_of (rows f)) ≡ all_above t f.bridges p
@@ -89,20 +69,12 @@ module _ (f : File) (p : Path) where
   wide_above : list_all (λ d. has_pref64 d.pref) above ≡ all_above has_pref64_entry f.bridges p
   wide_above = by_file (λ (d : declared.Bridge). has_pref64 d.pref) p has_pref64_entry (λ b. refl) f
 
-  pref_pool_by : (o : Option Aperture) (wide : Bool) → pref_or_mem o above wide ≡ pref_by (reaches_of o f.bridges p wide)
-  pref_pool_by None wide = refl
-  pref_pool_by (Some a) wide = ap₂ (λ (s t : Bool). pref_by (if nat_lt a.last (2 ^ 32) then s else (wide && t))) narrow_above wide_above
-
   pool_of_file : (a : Apertures) (k : Kind) → pool_of a above k ≡ pool_by (reaches_of a.pref f.bridges p false) (reaches_of a.pref f.bridges p true) k
-  pool_of_file a io_kind = refl
-  pool_of_file a (mem32 true) = pref_pool_by a.pref false
-  pool_of_file a (mem64 true) = pref_pool_by a.pref true
-  pool_of_file a (mem32 false) = refl
-  pool_of_file a (mem64 false) = refl
+  pool_of_file a k = grind (arith, narrow_above, wide_above)
 
 pub flat_map_alike : {A B : Type 0} (f g : A → List B) (xs : List A) → ((x : A) → f x ≡ g x) → flat_map f xs ≡ flat_map g xs
 flat_map_alike f g [] h = refl
-flat_map_alike f g (x ∷ xs) h = ap₂ ◌++◌ (h x) (flat_map_alike f g xs h)
+flat_map_alike f g (x ∷ xs) h = grind (arith, flat_map_alike f g xs)
 
 -- those of an endpoint
 of_endpoint : (f : File) (a : Apertures) (pool : Pool) (x : ℕ × Endpoint) → endpoint_by f a (named_pool pool) x ≡ regions_in f a pool x

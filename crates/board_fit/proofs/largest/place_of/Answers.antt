@@ -7,9 +7,7 @@ pub returns-in-Some-clause-place : goal.returns-in-Some-clause-place
 returns-in-Some-clause-place c = at_some (is_smaller c.args.region) c.args.top.now c.in-Some.place c.in-Some.ensures
 
 pub returns-in-Some-clause-within : goal.returns-in-Some-clause-within
-returns-in-Some-clause-within c =
-    let at = at_some (is_smaller c.args.region) c.args.top.now c.in-Some.place c.in-Some.ensures in
-    let within = place_within (is_smaller c.args.region) c.args.top.now in omega arith
+returns-in-Some-clause-within c = grind (arith, at_some, place_within)
 
 pub returns-in-None-clause-place : goal.returns-in-None-clause-place
 returns-in-None-clause-place c = at_none (is_smaller c.args.region) c.args.top.now c.in-None.ensures

@@ -1,17 +1,6 @@
-use Rattle.std.proofs.Common.{List, subst, ap, ◌∙◌, string_bytes}
-use Rattle.toml.specs.View.{table_view}
-use Rattle.board_file.specs.Entries.{File}
-use Rattle.board_fit.specs.declared.remark.Remark.{Remark}
-use Rattle.board_fit.specs.Misfits.{reasons}
-use Rattle.board_fit.specs.Telling.{AreTold}
+use Rattle.std.proofs.Common.{arith}
 use Rattle.std.proofs.lemmas.Result.{IfOk-weaker}
 use Rattle.board_fit.proofs.telling.document_reasons.Goals as goal
 
 pub returns : goal.returns
-returns c =
-    let t = c.args.telling.now in
-    IfOk-weaker c.told_text.result _ _
-    (λ text told.
-    subst (λ (rs : List Remark). AreTold t.style t.name.now t.bytes.now (table_view c.args.document.now) rs (string_bytes text))
-    (c.deref.ensures.value ∙ c.in_ok-reasons.ensures ∙ ap (λ (f : File). reasons f c.args.fault) c.in_ok-file.ensures) told)
-    c.told_text.ensures
+returns c = grind (arith, IfOk-weaker)
