@@ -1,8 +1,8 @@
 -- Texts that are appended one after the other.
-use Rattle.std.proofs.Common.{◌≡◌, ◌++◌, [], ◌∷◌, List, ℕ, map, length, sym, ap, ◌∙◌, append_assoc, append-nil}
+use Rattle.std.proofs.Common.{◌≡◌, ◌++◌, List, ℕ, map, length, ap, ◌∙◌, append_assoc, append-nil, arith}
 use Rattle.std.proofs.lemmas.List.{length-map}
 use Rattle.model_guests.specs.Text.{Text}
-use Rattle.model_audit.specs.AuditText.{problem_text, audit_line, total_text, audit_text}
+use Rattle.model_audit.specs.AuditText.{audit_line, total_text, audit_text}
 use Rattle.report.specs.Found.{ended}
 use Rattle.report.proofs.LineTexts.{text_of_lines-append}
 use Rattle.board_audit.specs.Told.{problem_of}
@@ -21,9 +21,4 @@ last n = audit_line (total_text n)
 -- the lines of problems with the last line
 pub whole_text : (ps : List Problem) (start text : Text) (n : ℕ) → start ≡ problem_lines ps → n ≡ length ps
     → text ≡ start ++ ended (last n) → text ≡ audit_text (map problem_of ps)
-whole_text ps start text n s count e =
-    let told = map problem_of ps in
-    let number : n ≡ length told = count ∙ sym (length-map ps problem_of) in
-    e ∙ ap (λ t. t ++ ended (last n)) s ∙ ap (λ k. problem_lines ps ++ ended (last k)) number
-    ∙ ap (λ t. problem_lines ps ++ t) (sym (append-nil (ended (last (length told)))))
-    ∙ sym (text_of_lines-append (map (λ p. audit_line (problem_text p)) told) (last (length told) ∷ []))
+whole_text ps start text n s count e = grind (arith, length-map, append-nil, text_of_lines-append)

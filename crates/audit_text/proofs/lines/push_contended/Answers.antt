@@ -1,4 +1,4 @@
-use Rattle.std.proofs.Common.{◌++◌, string_bytes, codes}
+use Rattle.std.proofs.Common.{string_bytes, codes}
 use Rattle.std.proofs.lemmas.Result.{IfOk-equal}
 use Rattle.model_guests.specs.Report.{hexadecimal}
 use Rattle.model_audit.specs.AuditText.{agent_text, space_text}

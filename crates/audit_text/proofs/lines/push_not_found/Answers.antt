@@ -1,4 +1,4 @@
-use Rattle.std.proofs.Common.{◌++◌, string_bytes, codes}
+use Rattle.std.proofs.Common.{string_bytes, codes}
 use Rattle.std.specs.Option.{option_map_or}
 use Rattle.std.proofs.lemmas.Result.{IfOk-equal}
 use Rattle.model_guests.specs.Report.{path_text}
