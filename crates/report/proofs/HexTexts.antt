@@ -1,5 +1,5 @@
 -- Hexadecimal digits as the program writes them.
-use Rattle.std.proofs.Common.{◌≡◌, ℕ, ◌-◌, ◌/◌, ◌%◌, ◌^◌, ◌<◌, ◌≤◌, false, List, [], ◌∷◌, refl, sym, ap, ◌∙◌, ⊎_elim, cond, eqb, true, Bool, suc, arith, eq-eqb, ne_eqb}
+use Rattle.std.proofs.Common.{◌≡◌, ℕ, ◌-◌, ◌/◌, ◌%◌, ◌^◌, ◌<◌, ◌≤◌, false, List, [], ◌∷◌, refl, sym, ap, ◌∙◌, cond, eqb, true, Bool, suc, arith, eq-eqb, ne_eqb}
 use Rattle.std.specs.Fmt.{digits, digits_onto, digit_glyph, padded_integral, format_spec, char_count}
 use Rattle.std.proofs.lemmas.Fmt.{hex_one_digit, hex_two_digits, hex_byte}
 use Rattle.std.proofs.lemmas.Bool.{cases_lt}
@@ -41,24 +41,9 @@ hex_four_digits n large small =
 
 -- what `{:02x}` writes of a byte
 pub hex_pair : (n : ℕ) → n < 256 → padded_integral (format_spec 32 0 4 2 (2 ^ 64 - 1)) false [] (digits 16 false n) ≡ hex_digits 2 n
-hex_pair n small =
-    let same : n / 16 ≡ n / 16 % 16 = omega arith in
-    hex_byte false n small ∙ ap (λ d. glyph d ∷ glyph (n % 16) ∷ []) same
+hex_pair n small = grind (arith, hex_byte)
 
 -- what `{:04x}` writes of two bytes
 pub hex_word : (n : ℕ) → n < 65536 → padded_integral (format_spec 32 0 4 4 (2 ^ 64 - 1)) false [] (digits 16 false n) ≡ hex_digits 4 n
 unfolding padded_integral char_count
-hex_word n small = ⊎_elim
-    (λ one. let d3 : n / 16 / 16 / 16 ≡ 0 = omega arith in let d2 : n / 16 / 16 ≡ 0 = omega arith in let d1 : n / 16 ≡ 0 = omega arith in let d0 : n % 16 ≡ n = omega arith in
-    rw (hex_one_digit false n one, d1, d0) refl)
-    (λ more. ⊎_elim
-    (λ two. let d2 : n / 16 / 16 ≡ 0 = omega arith in let d1 : n / 16 % 16 ≡ n / 16 = omega arith in
-    rw (hex_two_digits false n more two, d2, d1) refl)
-    (λ many. ⊎_elim
-    (λ three. let d3 : n / 16 / 16 / 16 ≡ 0 = omega arith in let d2 : n / 16 / 16 % 16 ≡ n / 16 / 16 = omega arith in
-    rw (hex_three_digits n many three, d3, d2) refl)
-    (λ four. let d3 : n / 16 / 16 / 16 % 16 ≡ n / 16 / 16 / 16 = omega arith in
-    rw (hex_four_digits n four small, d3) refl)
-    (cases_lt n 4096))
-    (cases_lt n 256))
-    (cases_lt n 16)
+hex_word n small = grind (arith, hex_one_digit, hex_two_digits, hex_three_digits, hex_four_digits, cases_lt)

@@ -1,5 +1,5 @@
 -- The rows of functions are used up where the shorter of two lists ends.
-use Rattle.std.proofs.Common.{◌≡◌, ℕ, List, [], ◌∷◌, length, drop, min, refl, ap, ◌∙◌, ⊎_elim, arith}
+use Rattle.std.proofs.Common.{◌≡◌, ℕ, List, [], ◌∷◌, length, drop, min, refl, arith}
 use Rattle.std.proofs.lemmas.List.{drop_all}
 use Rattle.std.proofs.lemmas.Bool.{cases_lt}
 use Rattle.model_set_up.specs.FunctionTable.{TableRow}
@@ -11,7 +11,4 @@ rows_text_nil [] = refl
 rows_text_nil (r ∷ rs) = refl
 
 pub rows_text_end : (rs : List TableRow) (ss : List Setting) (n : ℕ) → n ≡ min (length rs) (length ss) → rows_text (drop n rs) (drop n ss) ≡ []
-rows_text_end rs ss n e = ⊎_elim
-    (λ h. ap (λ x. rows_text x (drop n ss)) (drop_all n rs (omega arith)))
-    (λ h. ap (λ x. rows_text (drop n rs) x) (drop_all n ss (omega arith)) ∙ rows_text_nil (drop n rs))
-    (cases_lt (length rs) (length ss))
+rows_text_end rs ss n e = grind (arith, drop_all, rows_text_nil, cases_lt)

@@ -1,5 +1,6 @@
+use Rattle.std.proofs.lemmas.Grind.{common_steps}
 -- The report that is read off set-up is the report of the board.
-use Rattle.std.proofs.Common.{◌≡◌, ℕ, zero, suc, ◌+◌, ◌-◌, ◌*◌, ◌<◌, ◌≤◌, Bool, List, [], ◌∷◌, ◌++◌, map, flat_map, not, cond, codes, decimal, refl, sym, ap, ap₂, ◌∙◌, append_assoc, ne_eqb, le-ltb, lt-ltb, lit<, inl, arith}
+use Rattle.std.proofs.Common.{◌≡◌, ℕ, ◌+◌, ◌-◌, ◌*◌, ◌<◌, ◌≤◌, List, [], ◌∷◌, ◌++◌, map, flat_map, not, codes, decimal, refl, sym, ap, ap₂, ◌∙◌, append_assoc, ne_eqb, le-ltb, lt-ltb, lit<, inl, arith}
 use Rattle.std.specs.Prelude.{count_by}
 use Rattle.std.proofs.lemmas.List.Sums.{sum_by-cons}
 use Rattle.lists.specs.Elements.{Each}
@@ -40,8 +41,7 @@ window_is_named name pool closed first (i ∷ is) some h =
 -- ---- interrupts
 
 pin_is_known : (p : Path) (pin : ℕ) → pin ≤ 4 → known_pin_lines p pin ≡ pin_lines p pin
-pin_is_known p zero h = refl
-pin_is_known p (suc n) h = rw (ne_eqb (suc n) 0 (λ e. omega arith), le-ltb 4 (suc n) h) refl
+pin_is_known p pin h = grind (arith, ne_eqb, le-ltb)
 
 -- ---- one function
 
@@ -58,12 +58,7 @@ after_buses h b0 p s0 s s1 u end x = simp append_assoc
 module _ (b : Board) (a : Apertures) (lawful : HasLawfulDecls b) where
   function_is : (p : Path) (d : Decl) → IsLawfulDecl d
       → found_text (table_row b found_decl (record { path = p; decl = d })) (writes_of b a p d) ≡ text_of_lines (function_lines b a p d)
-  function_is p (endpoint d) h =
-      let head = head_text (bus_of b p) p (codes " endpoint ") (hex_digits 4 d.vendor ++ codes ":" ++ hex_digits 4 d.device) in
-      let regions = map (region_line b a p) d.regions in
-      ap₂ (λ bases pins. head ++ (codes "\n" ++ text_of_lines bases ++ text_of_lines pins)) (bases_are_regions b a p d.regions) (pin_is_known p d.pin h.pin)
-      ∙ after_line head (codes "\n") (text_of_lines regions) (text_of_lines (pin_lines p d.pin))
-      ∙ ap (λ t. (head ++ codes "\n") ++ t) (sym (text_of_lines-append regions (pin_lines p d.pin)))
+  function_is p (endpoint d) h = grind (arith, common_steps, bases_are_regions, pin_is_known, after_line, text_of_lines-append)
   function_is p (bridge d) h =
       let head = head_text (bus_of b p) p (codes " bridge ") (hex_digits 4 d.vendor ++ codes ":" ++ hex_digits 4 d.device) in
       let window_is : (name : Text) (pool : Pool) (closed : ℕ) → 0 < closed * unit_of pool → named_window_lines name (set_up_window b a pool closed p) ≡ window_lines b a p name pool =
@@ -92,18 +87,10 @@ guests_are (g ∷ gs) =
     ∙ sym (text_of_lines-append (slot_lines g.name 0 g.slots) (flat_map (λ (h : Guest). slot_lines h.name 0 h.slots) gs))
 
 found_is_bridge : (d : Decl) → is_bridge (found_decl d) ≡ is_bridge d
-found_is_bridge (endpoint d) = refl
-found_is_bridge (bridge d) = refl
-
-counted : (b : Board) (test : Bool → Bool) (rs : List Row) → count_by (λ (r : TableRow). test (is_bridge r.decl)) (map (table_row b found_decl) rs) ≡ count_by (λ (r : Row). test (is_bridge r.decl)) rs
-counted b test [] = refl
-counted b test (r ∷ rs) =
-    sum_by-cons (λ (s : TableRow). cond (test (is_bridge s.decl)) 1 0) (table_row b found_decl r) (map (table_row b found_decl) rs)
-    ∙ ap₂ (λ t n. cond (test t) 1 0 + n) (found_is_bridge r.decl) (counted b test rs)
-    ∙ sym (sum_by-cons (λ (s : Row). cond (test (is_bridge s.decl)) 1 0) r rs)
+found_is_bridge d = grind arith
 
 count_line_is : (b : Board) → count_line (sized_table b) ≡ codes "endpoints " ++ decimal (count_by (λ r. not (is_bridge r.decl)) b) ++ codes " bridges " ++ decimal (count_by (λ r. is_bridge r.decl) b)
-count_line_is b = ap₂ (λ m n. codes "endpoints " ++ decimal m ++ codes " bridges " ++ decimal n) (counted b not b) (counted b (λ t. t) b)
+count_line_is b = grind (arith, common_steps, sum_by-cons, found_is_bridge)
 
 -- ---- the whole
 
