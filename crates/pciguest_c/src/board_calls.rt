@@ -9,8 +9,8 @@ ghost use Rattle.pciguest_c.specs.Told.{at_bus, number_told, value_told, host_ta
 
 use crate::board_handle::BoardHandle;
 use crate::host_calls::host_at;
-use crate::numbers::{ARGUMENT, leave_read, number_of};
-use crate::text_calls::{LONGEST_REPLY, leave_line};
+use crate::numbers::{ARGUMENT, number_of, put_value};
+use crate::text_calls::{LONGEST_REPLY, put_line};
 use driven_board::HostAccess;
 use std::alloc::Global;
 
@@ -46,7 +46,7 @@ pub extern "C" fn pciguest_raw_board_read(
         let width = u64::from(width);
         Ok(board.read(HostAccess { at, width }))
     });
-    leave_read(answer, value)
+    put_value(answer, value)
 }
 
 /// Writes the low 1, 2 or 4 bytes of a value as firmware does.
@@ -108,5 +108,5 @@ pub extern "C" fn pciguest_raw_board_run_line(
             Err(ARGUMENT)
         }
     });
-    leave_line(answer, out, written)
+    put_line(answer, out, written)
 }

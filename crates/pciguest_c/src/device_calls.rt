@@ -7,7 +7,7 @@ ghost use Rattle.pciguest_c.specs.DevicesTold.{reply_at_device, after_at_device}
 
 use crate::asking::{check_guest, place_of};
 use crate::handle::Handle;
-use crate::numbers::{leave_read, number_of};
+use crate::numbers::{number_of, put_value};
 use std::alloc::Global;
 
 /// Reads a byte of a guest's function as its device: of a region by the index of its base address
@@ -41,7 +41,7 @@ pub extern "C" fn pciguest_raw_device_read(
         check_guest(machine, guest)?;
         Ok(machine.device_read(guest, slot, place, offset))
     });
-    leave_read(answer, value)
+    put_value(answer, value)
 }
 
 /// Writes a byte of a guest's function as its device, whatever a guest may change of it.

@@ -9,7 +9,7 @@ ghost use Rattle.pciguest_c.specs.FunctionsTold.{function_number, found_left, ro
 use crate::asking::check_guest;
 use crate::function_row::{FunctionRow, function_row};
 use crate::handle::Handle;
-use crate::numbers::{ARGUMENT, NO_MACHINE, leave};
+use crate::numbers::{ARGUMENT, NO_MACHINE, put_result};
 use machine::Machine;
 use std::alloc::Global;
 
@@ -40,7 +40,7 @@ pub extern "C" fn pciguest_raw_count(alloc: Global, handle: &mut Handle, count: 
         (result ≡ 0) × (count.new ≡ length (board_state m.world).functions)) }
     ensures kept { handle.new.owner.value ≡ handle.old.owner.value }
 {
-    leave(handle.ask(alloc, |machine| Ok(machine.count())), count)
+    put_result(handle.ask(alloc, |machine| Ok(machine.count())), count)
 }
 
 /// What is told of the function at an index, in path order.
@@ -60,7 +60,7 @@ pub extern "C" fn pciguest_raw_function(
         Some(function) => Ok(function_row(&function)),
         None => Err(ARGUMENT),
     });
-    leave(answer, told)
+    put_result(answer, told)
 }
 
 /// The same of the function in a slot of a guest.

@@ -8,7 +8,7 @@ ghost use Rattle.pciguest_c.specs.Told.{index_told, number_told, value_told, tar
 
 use crate::asking::{at_of, check_guest, index_named, place_of};
 use crate::handle::Handle;
-use crate::numbers::{ARGUMENT, leave_read, number_of};
+use crate::numbers::{ARGUMENT, number_of, put_value};
 use accesses::{Access, At, Op, Reply};
 use machine::Machine;
 use std::alloc::Global;
@@ -54,7 +54,7 @@ pub extern "C" fn pciguest_raw_read(
         check_guest(machine, guest)?;
         Ok(read(machine, guest, at, u64::from(width)))
     });
-    leave_read(answer, value)
+    put_value(answer, value)
 }
 
 /// Writes the low 1, 2 or 4 bytes of a value as a guest.

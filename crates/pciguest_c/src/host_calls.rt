@@ -12,7 +12,7 @@ ghost use Rattle.pciguest_c.specs.Told.{at_bus, number_told, value_told, host_ta
 
 use crate::asking::check_guest;
 use crate::handle::Handle;
-use crate::numbers::{ARGUMENT, NO_MACHINE, leave_read, number_of};
+use crate::numbers::{ARGUMENT, NO_MACHINE, number_of, put_value};
 use accesses::{Bdf, HostAccess, HostAt};
 use machine::Machine;
 use std::alloc::Global;
@@ -60,7 +60,7 @@ fn host_read(
     let Some(at) = host_at(space, bus, device, function, place) else {
         return ARGUMENT;
     };
-    leave_read(Ok(machine.host_read(HostAccess { at, width })), value)
+    put_value(Ok(machine.host_read(HostAccess { at, width })), value)
 }
 
 /// Reads 1, 2 or 4 bytes as the host does: what the board shows at physical numbers. Bus, device and

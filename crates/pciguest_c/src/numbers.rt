@@ -37,8 +37,8 @@ pub fn number_of(answer: Result<Reply, u32>) -> u32
     }
 }
 
-/// The same, and leaves what was read where a value goes.
-pub fn leave_read(answer: Result<Reply, u32>, value: &mut u32) -> u32
+/// The same, and puts what was read where the value goes.
+pub fn put_value(answer: Result<Reply, u32>, value: &mut u32) -> u32
     ensures told { IfOk answer (λ r.
         (result ≡ number_told (reply_of r)) × (value.new ≡ value_told value.old (reply_of r))) }
     ensures refused { IfOk answer (λ r. result ≢ 0 → IsRefusal r) }
@@ -50,8 +50,8 @@ pub fn leave_read(answer: Result<Reply, u32>, value: &mut u32) -> u32
     number_of(answer)
 }
 
-/// Leaves what is told where it goes: 0, or the number of a refusal.
-pub fn leave<T: Drop>(answer: Result<T, u32>, told: &mut T) -> u32
+/// Puts what is told where it goes: 0, or the number of a refusal.
+pub fn put_result<T: Drop>(answer: Result<T, u32>, told: &mut T) -> u32
     ensures told { IfOk answer (λ v. (result ≡ 0) × (told.new ≡ v)) }
     ensures refused { IfErr answer (λ n. (result ≡ n) × (told.new ≡ told.old)) }
 {

@@ -8,7 +8,7 @@ ghost use Rattle.pciguest_c.specs.QueriesTold.{number_answered, region_asked, hi
 
 use crate::asking::{at_of, check_guest};
 use crate::handle::Handle;
-use crate::numbers::leave;
+use crate::numbers::put_result;
 use accesses::Place;
 use monitor::{Hit, RegionNow, Space};
 use std::alloc::Global;
@@ -98,7 +98,7 @@ pub extern "C" fn pciguest_raw_region(
             Err(why) => Err(u32::from(why.number())),
         }
     });
-    leave(answer, told)
+    put_result(answer, told)
 }
 
 /// The count of a guest, which grows where an answer of `pciguest_raw_region` for this guest may have changed.
@@ -120,7 +120,7 @@ pub extern "C" fn pciguest_raw_changed(
         check_guest(machine, guest)?;
         Ok(machine.changed(guest))
     });
-    leave(answer, count)
+    put_result(answer, count)
 }
 
 /// What an access of a guest at a place hits: a byte of a function in one of its slots, or nothing.
@@ -154,5 +154,5 @@ pub extern "C" fn pciguest_raw_locate(
             Err(why) => Err(u32::from(why.number())),
         }
     });
-    leave(answer, told)
+    put_result(answer, told)
 }

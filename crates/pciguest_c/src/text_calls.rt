@@ -46,7 +46,7 @@ pub fn tell(text: &[u8], out: &mut [u8], needed: &mut usize) -> bool
 }
 
 /// Puts what a line writes at the front of a buffer that has room for it, and tells how long it is.
-pub fn leave_line(answer: Result<LineText, u32>, out: &mut [u8], written: &mut usize) -> u32
+pub fn put_line(answer: Result<LineText, u32>, out: &mut [u8], written: &mut usize) -> u32
     requires { IfOk answer (λ _. 48 ≤ length out.old) }
     ensures told { IfOk answer (λ t. (result ≡ 0) × (out.new ≡ t.items ++ drop (length t.items) out.old)
         × (written.new ≡ length t.items)) }
@@ -90,7 +90,7 @@ pub extern "C" fn pciguest_raw_run_line(
             Err(ARGUMENT)
         }
     });
-    leave_line(answer, out, written)
+    put_line(answer, out, written)
 }
 
 /// Writes the report of a board file to the front of `out`, and tells how long it is, also where `out`
