@@ -1,6 +1,6 @@
 -- Worlds of lawful guests, before any line: no two guests have one name.
 use Rattle.std.proofs.Common.{◌≡◌, ◌≤◌, ℕ, List, length, sym, ap, ◌∙◌, subst}
-use Rattle.std.specs.Prelude.{IsFalse, replicate}
+use Rattle.std.specs.Prelude.{IsFalse}
 use Rattle.std.specs.Str.{bytes_eq}
 use Rattle.std.proofs.lemmas.List.{length-map}
 use Rattle.lists.specs.Elements.{EachPair}
@@ -8,12 +8,10 @@ use Rattle.model_guests.specs.Text.{Text}
 use Rattle.model_guests.specs.World.{Guest, World, names, HasLawfulGuests}
 use Rattle.model_guests.proofs.Along.{names_at_first}
 use Rattle.model_guests.specs.WorldNow.{WorldNow, names_now}
-use Rattle.model_giving.specs.Changes.{MachineNow}
 use Rattle.host_bridge.specs.HostState.{HostState}
 use Rattle.simulation.specs.Running.{IsOpened}
 use Rattle.driven_board.specs.Giving.{IsGiven}
 use Rattle.machine.specs.Counts.{HaveNamesApart}
-use Rattle.pciguest_c.specs.Machines.{BeginsIn}
 
 of_guests : (ns : List Text) (w : World) → ns ≡ names w → HasLawfulGuests w → HaveNamesApart ns
 of_guests ns w is lawful = record {
@@ -26,10 +24,3 @@ opened_apart board m is = of_guests (names_now m) is.world (ap names_now is.begi
 
 pub given_apart : (file : Text) (h : HostState) (m : WorldNow) → IsGiven file h m → HaveNamesApart (names_now m)
 given_apart file h m is = of_guests (names_now m) is.world (ap names_now is.begins ∙ names_at_first is.world) is.lawful.guests
-
--- a machine of such a world
-pub begins : (P : WorldNow → Type 0) (w : WorldNow) (m : MachineNow) → m ≡ record { world = w; counts = replicate 32 0 } → P w → BeginsIn P m
-begins P w m is p = record {
-  world = subst (λ (n : MachineNow). P n.world) (sym is) p;
-  counts = ap (λ (n : MachineNow). n.counts) is;
-}
