@@ -71,8 +71,8 @@ module _ {w : WorldNow} {h : HostState} {names : List Text} {gs : List Guest} (k
       by None at e = cc
       by (Some f) at e =
           let path : f.path ≡ p = cc e in
-          let row : slice_get (board_at w.handoff.functions) i ≡ Some (row_at f) = ap (λ (b : Board). slice_get b i) (sym (board_is w h names gs kept p)) ∙ map_at row_at h.state.functions i f at in
-          seats_shown w.handoff kept.lawful.handoff.board.places i (row_at f) row 0 names w.guests gs kept.guests ∙ ap (seat_of w.guests) path
+          let stands : slice_get (board_at w.handoff.functions) i ≡ Some (row_at f) = ap (λ (b : Board). slice_get b i) (sym (board_is w h names gs kept p)) ∙ map_at row_at h.state.functions i f at in
+          seats_shown w.handoff kept.lawful.handoff.board.places i (row_at f) stands 0 names w.guests gs kept.guests ∙ ap (seat_of w.guests) path
 
   -- what is told over the host's registers is told over the board
   pub nth_told : (i : ℕ) {o : Option FunctionNow} → o ≡ function_nth h.state w.guests i → o ≡ function_nth (board_state w) w.guests i
