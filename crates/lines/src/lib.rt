@@ -12,6 +12,6 @@ mod words;
 
 pub use firmware_line::{FirmwareWhat, firmware_meaning};
 pub use host_line::host_word;
-pub use line::{Line, What, Who, line_meaning, parse_line};
-pub use replies::{LineText, line_text, push_line, push_named};
+pub use line::{LONGEST_LINE, Line, What, Who, line_meaning, parse_line};
+pub use replies::{LONGEST_REPLY, LineText, line_text, push_line, push_named};
 pub use words::line_feed_in;

@@ -15,7 +15,7 @@ use accesses::{Access, HostAccess, Names, Place, Refusal};
 use arrayvec::ArrayVec;
 
 /// The bytes of the longest line that is read, without its line feed.
-pub(crate) const LONGEST_LINE: usize = 200;
+pub const LONGEST_LINE: usize = 200;
 
 /// Under whose name a line is answered.
 #[derive(Clone, Copy, Debug, PartialEq, Eq)]

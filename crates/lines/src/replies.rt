@@ -9,9 +9,12 @@ use crate::line::Who;
 use accesses::{Names, Reply};
 use arrayvec::ArrayVec;
 
+/// The bytes of the longest line that answers a line, with its line feed.
+pub const LONGEST_REPLY: usize = 48;
+
 /// An output line with its line feed: a name of at most 16 bytes, a colon and a space, and at most
 /// `refused 402 unknown guest`.
-pub type LineText = ArrayVec<u8, 48>;
+pub type LineText = ArrayVec<u8, LONGEST_REPLY>;
 
 /// The two hexadecimal digits of each byte. A look at the table is faster than a shift, a mask and a look for
 /// each digit.
