@@ -7,11 +7,9 @@ ghost use Rattle.model_guests.specs.Text.{Text};
 ghost use Rattle.model_guests.specs.LineRuns.{HasNoEnd};
 ghost use Rattle.line_runs.specs.Pieces.{IsBefore, rest_of};
 
+use lines::LONGEST_LINE;
 use std::marker::Model;
 use streams::{Failed, Reader};
-
-/// The bytes of the longest line that is run, without its line feed.
-const LONGEST_LINE: usize = 200;
 
 /// The bytes that are read at once.
 const SIZE: usize = 65536;
