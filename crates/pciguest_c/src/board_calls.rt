@@ -10,8 +10,9 @@ ghost use Rattle.pciguest_c.specs.Told.{at_bus, number_told, value_told, host_ta
 use crate::board_handle::BoardHandle;
 use crate::host_calls::host_at;
 use crate::numbers::{ARGUMENT, number_of, put_value};
-use crate::text_calls::{LONGEST_REPLY, put_line};
+use crate::text_calls::put_line;
 use driven_board::HostAccess;
+use lines::LONGEST_REPLY;
 use std::alloc::Global;
 
 /// Reads 1, 2 or 4 bytes as firmware does, in any state of the registers. Bus, device and function are

@@ -16,11 +16,8 @@ use crate::handle::Handle;
 use crate::number_words::words_of;
 use crate::numbers::ARGUMENT;
 use crate::text::{check_of, report_of};
-use lines::LineText;
+use lines::{LONGEST_REPLY, LineText};
 use std::alloc::Global;
-
-/// The bytes of the longest line that answers a line.
-pub const LONGEST_REPLY: usize = 48;
 
 /// Puts a text at the front of a buffer that has room for it.
 pub fn put(out: &mut [u8], text: &[u8])
