@@ -8,7 +8,7 @@ use Rattle.lists.specs.Elements.{Each}
 use Rattle.model_guests.specs.Text.{Text, lines, text_of_lines}
 use Rattle.model_guests.specs.LineRuns.{Protocol, output, after_lines, HasNoEnd, IsStopped, IsCut, first_output}
 use Rattle.model_guests.proofs.RunLines.{output_along, after_along, lines_of_pieces}
-use Rattle.line_runs.specs.Pieces.{Reaches, StopsWithin, IsStoppedIn, LacksWithin, IsLackingIn}
+use Rattle.line_runs.specs.Pieces.{IsBefore, Reaches, StopsWithin, IsStoppedIn, LacksWithin, IsLackingIn}
 use Rattle.line_runs.proofs.LineEnds.{no_end_along, some_line}
 use Rattle.line_runs.proofs.Reaching.{text_along, text_of_one}
 
@@ -21,9 +21,9 @@ pub whole_script : (a b : Option Text) (xs script : Text) → Consumes a b xs �
 whole_script a b xs script taken end e = grind (arith, consumed, append-nil)
 
 -- a failed read
-pub cut_of : {S : Type 0} (p : Protocol S) (w : S) (old_rest new_rest : Option Text) (text rest : Text) (long : Bool) (old new : Option Text) (end : S)
+pub cut_of : {S : Type 0} {p : Protocol S} {w : S} {old_rest new_rest : Option Text} {text rest : Text} {long : Bool} {old new : Option Text} {end : S}
     → Consumes old_rest new_rest text → Reaches p w text rest long old new end → HasNoEnd rest → IsCut p w old_rest new_rest old new end
-cut_of {S} p w old_rest new_rest text rest long old new end taken r clean = grind (arith, no_end_along)
+cut_of taken r clean = grind (arith, no_end_along)
 
 -- the lines of a text of which whole lines are read
 lines_read : (text line after more : Text) (whole : List Text) → Each HasNoEnd whole → HasNoEnd line → text ≡ text_of_lines whole ++ (line ++ 10 ∷ after)
@@ -35,15 +35,16 @@ lines_read text line after more whole each clean e =
     ap lines order ∙ lines_of_pieces whole each (text_of_lines (line ∷ []) ++ (after ++ more))
     ∙ ap (λ (ls : List Text). whole ++ ls) (lines_of_pieces (line ∷ []) (clean, tt) (after ++ more))
 
+-- and how the text begins
+text_read : (text line after : Text) (whole : List Text) → text ≡ text_of_lines whole ++ (line ++ 10 ∷ after) → StartsWith text (text_of_lines (whole ++ line ∷ []))
+text_read text line after whole e =
+    starts_with_of_append text (text_of_lines (whole ++ line ∷ [])) after (grind (arith, text_of_one, append_assoc, text_along))
+
 -- a failed write or flush at a line that LF ends
-pub stopped_of : {S : Type 0} (p : Protocol S) (w : S) (old_rest new_rest : Option Text) (text script : Text) (old new : Option Text) (end : S)
+pub stopped_of : {S : Type 0} {p : Protocol S} {w : S} {old_rest new_rest : Option Text} {text script : Text} {old new : Option Text} {end : S}
     → Consumes old_rest new_rest text → StopsWithin p w text old new end → old_rest ≡ Some script → IsStoppedIn p w script old_rest new_rest old new end
-stopped_of {S} p w old_rest new_rest text script old new end taken s known =
+stopped_of {p = p} {w = w} {old_rest} {new_rest} {text} {script} taken s known =
     let left = consumed old_rest new_rest text script taken known in
-    let ran : List Text = s.whole ++ s.line ∷ [] in
-    let order : text ≡ text_of_lines ran ++ s.after =
-    s.in_order ∙ ap (λ (t : Text). text_of_lines s.whole ++ t) (sym (text_of_one s.line s.after))
-    ∙ sym (append_assoc (text_of_lines s.whole) (text_of_lines (s.line ∷ [])) s.after) ∙ ap (λ (t : Text). t ++ s.after) (sym (text_along s.whole (s.line ∷ []))) in
     record {
       read = text;
       consumed = taken;
@@ -56,18 +57,14 @@ stopped_of {S} p w old_rest new_rest text script old new end taken s known =
         written = s.written;
         events = s.events ∙ sym (after_along p w s.whole (s.line ∷ []));
       };
-      in_time = inl (starts_with_of_append text (text_of_lines ran) s.after order);
+      in_time = inl (text_read text s.line s.after s.whole s.in_order);
     }
 
 -- memory is out for a line that LF ends
-pub lacking_of : {S : Type 0} (p : Protocol S) (w : S) (old_rest new_rest : Option Text) (text script : Text) (old new : Option Text) (end : S)
+pub lacking_of : {S : Type 0} {p : Protocol S} {w : S} {old_rest new_rest : Option Text} {text script : Text} {old new : Option Text} {end : S}
     → Consumes old_rest new_rest text → LacksWithin p w text old new end → old_rest ≡ Some script → IsLackingIn p w script old_rest new_rest old new end
-lacking_of {S} p w old_rest new_rest text script old new end taken s known =
+lacking_of {old_rest = old_rest} {new_rest} {text} {script} taken s known =
     let left = consumed old_rest new_rest text script taken known in
-    let ran : List Text = s.whole ++ s.line ∷ [] in
-    let order : text ≡ text_of_lines ran ++ s.after =
-    s.in_order ∙ ap (λ (t : Text). text_of_lines s.whole ++ t) (sym (text_of_one s.line s.after))
-    ∙ sym (append_assoc (text_of_lines s.whole) (text_of_lines (s.line ∷ [])) s.after) ∙ ap (λ (t : Text). t ++ s.after) (sym (text_along s.whole (s.line ∷ []))) in
     record {
       read = text;
       consumed = taken;
@@ -75,40 +72,48 @@ lacking_of {S} p w old_rest new_rest text script old new end taken s known =
       line = s.line;
       rest = lines (s.after ++ left.0);
       in_order = ap lines left.1 ∙ lines_read text s.line s.after left.0 s.whole s.each_line s.last_line s.in_order;
-      in_time = inl (starts_with_of_append text (text_of_lines ran) s.after order);
+      in_time = inl (text_read text s.line s.after s.whole s.in_order);
       written = s.written;
       events = s.events;
     }
 
 -- ---- what is left at the end is the last line
 
-last_lines : {S : Type 0} (p : Protocol S) (w : S) (text rest : Text) (long : Bool) (old mid : Option Text) (end : S)
+last_lines : {S : Type 0} {p : Protocol S} {w : S} {text rest : Text} {long : Bool} {old mid : Option Text} {end : S}
     → (r : Reaches p w text rest long old mid end) → lines text ≡ r.whole ++ lines (r.before ++ rest)
-last_lines {S} p w text rest long old mid end r = ap lines r.in_order ∙ lines_of_pieces r.whole r.each_line (r.before ++ rest)
+last_lines {rest = rest} r = ap lines r.in_order ∙ lines_of_pieces r.whole r.each_line (r.before ++ rest)
 
-pub output_on : {S : Type 0} (p : Protocol S) (w : S) (text rest : Text) (long : Bool) (old mid new : Option Text) (end : S)
-    → (r : Reaches p w text rest long old mid end) → Appends mid new (output p end (lines (r.before ++ rest))) → Appends old new (output p w (lines text))
-output_on {S} p w text rest long old mid new end r written =
-    subst (Appends old new) (ap (λ (e : S). output p w r.whole ++ output p e (lines (r.before ++ rest))) r.events
-    ∙ sym (output_along p w r.whole (lines (r.before ++ rest))) ∙ sym (ap (output p w) (last_lines p w text rest long old mid end r)))
-    (Appends-trans old mid new (output p w r.whole) (output p end (lines (r.before ++ rest))) r.written written)
+-- where the last line's answer is known of whatever was passed over of it
+pub output_on : {S : Type 0} {p : Protocol S} {w : S} (old_rest new_rest : Option Text) {text rest script : Text} {long : Bool} {old mid : Option Text} (new : Option Text) {end : S}
+    → Consumes old_rest new_rest text → IsAtEnd new_rest → Reaches p w text rest long old mid end → HasNoEnd rest
+    → ((before : Text) → IsBefore long before → HasNoEnd (before ++ rest) → Appends mid new (output p end (lines (before ++ rest))))
+    → old_rest ≡ Some script → Appends old new (output p w (lines script))
+output_on {p = p} {w = w} old_rest new_rest {text} {rest} {script} {old = old} {mid = mid} new {end} taken done r clean written known =
+    let along = Appends-trans old mid new (output p w r.whole) (output p end (lines (r.before ++ rest))) r.written (written r.before r.passed (no_end_along r.before rest r.clean clean)) in
+    subst (Appends old new)
+    (ap (λ e. output p w r.whole ++ output p e (lines (r.before ++ rest))) r.events ∙ sym (output_along p w r.whole (lines (r.before ++ rest)))
+    ∙ ap (output p w) (sym (last_lines r) ∙ ap lines (whole_script old_rest new_rest text script taken done known)))
+    along
 
-pub after_on : {S : Type 0} (p : Protocol S) (w : S) (text rest : Text) (long : Bool) (old mid : Option Text) (end last : S)
-    → (r : Reaches p w text rest long old mid end) → last ≡ after_lines p end (lines (r.before ++ rest)) → last ≡ after_lines p w (lines text)
-after_on {S} p w text rest long old mid end last r events =
-    events ∙ ap (λ (e : S). after_lines p e (lines (r.before ++ rest))) r.events
-    ∙ sym (after_along p w r.whole (lines (r.before ++ rest))) ∙ sym (ap (after_lines p w) (last_lines p w text rest long old mid end r))
+pub after_on : {S : Type 0} {p : Protocol S} {w : S} (old_rest new_rest : Option Text) {text rest script : Text} {long : Bool} {old mid : Option Text} {end last : S}
+    → Consumes old_rest new_rest text → IsAtEnd new_rest → Reaches p w text rest long old mid end → HasNoEnd rest
+    → ((before : Text) → IsBefore long before → HasNoEnd (before ++ rest) → last ≡ after_lines p end (lines (before ++ rest)))
+    → old_rest ≡ Some script → last ≡ after_lines p w (lines script)
+after_on {p = p} {w = w} old_rest new_rest {text} {rest} {script} taken done r clean events known =
+    events r.before r.passed (no_end_along r.before rest r.clean clean) ∙ ap (λ e. after_lines p e (lines (r.before ++ rest))) r.events
+    ∙ sym (after_along p w r.whole (lines (r.before ++ rest)))
+    ∙ ap (after_lines p w) (sym (last_lines r) ∙ ap lines (whole_script old_rest new_rest text script taken done known))
 
-pub stopped_on : {S : Type 0} (p : Protocol S) (w : S) (text rest : Text) (long : Bool) (old mid new : Option Text) (end last : S)
+stopped_on : {S : Type 0} {p : Protocol S} {w : S} {text rest : Text} {long : Bool} {old mid new : Option Text} {end last : S}
     → (r : Reaches p w text rest long old mid end) → IsStopped p end (lines (r.before ++ rest)) mid new last → IsStopped p w (lines text) old new last
-stopped_on {S} p w text rest long old mid new end last r s =
+stopped_on {S} {p = p} {w = w} {old = old} {mid = mid} {new = new} {end = end} r s =
     let world : after_lines p end s.whole ≡ after_lines p w (r.whole ++ s.whole) =
     ap (λ (e : S). after_lines p e s.whole) r.events ∙ sym (after_along p w r.whole s.whole) in
     record {
       whole = r.whole ++ s.whole;
       rest = s.rest;
       part = s.part;
-      in_order = last_lines p w text rest long old mid end r ∙ ap (λ (ls : List Text). r.whole ++ ls) s.in_order ∙ sym (append_assoc r.whole s.whole s.rest);
+      in_order = last_lines r ∙ ap (λ (ls : List Text). r.whole ++ ls) s.in_order ∙ sym (append_assoc r.whole s.whole s.rest);
       begins = subst (λ (e : S). StartsWith (first_output p e s.rest) s.part) world s.begins;
       written = subst (Appends old new) (sym (append_assoc (output p w r.whole) (output p end s.whole) s.part)
           ∙ ap (λ (t : Text). t ++ s.part) (ap (λ (e : S). output p w r.whole ++ output p e s.whole) r.events ∙ sym (output_along p w r.whole s.whole)))
@@ -118,14 +123,15 @@ stopped_on {S} p w text rest long old mid new end last r s =
     }
 
 -- a failed write or flush at the end of the script
-pub stopped_last : {S : Type 0} (p : Protocol S) (w : S) (old_rest new_rest : Option Text) (text rest script : Text) (long : Bool) (old mid new : Option Text) (end last : S)
-    → Consumes old_rest new_rest text → IsAtEnd new_rest → (r : Reaches p w text rest long old mid end)
-    → IsStopped p end (lines (r.before ++ rest)) mid new last → old_rest ≡ Some script → IsStoppedIn p w script old_rest new_rest old new last
-stopped_last {S} p w old_rest new_rest text rest script long old mid new end last taken done r s known = record {
+pub stopped_last : {S : Type 0} {p : Protocol S} {w : S} {old_rest new_rest : Option Text} {text rest script : Text} {long : Bool} {old mid new : Option Text} {end last : S}
+    → Consumes old_rest new_rest text → IsAtEnd new_rest → Reaches p w text rest long old mid end → HasNoEnd rest
+    → ((before : Text) → IsBefore long before → HasNoEnd (before ++ rest) → IsStopped p end (lines (before ++ rest)) mid new last)
+    → old_rest ≡ Some script → IsStoppedIn p w script old_rest new_rest old new last
+stopped_last {p = p} {w = w} {old_rest} {new_rest} {text} {rest} {script} {old = old} {new = new} {last = last} taken done r clean s known = record {
   read = text;
   consumed = taken;
   stop = subst (λ (t : Text). IsStopped p w (lines t) old new last) (whole_script old_rest new_rest text script taken done known)
-      (stopped_on p w text rest long old mid new end last r s);
+      (stopped_on r (s r.before r.passed (no_end_along r.before rest r.clean clean)));
   in_time = inr done;
 }
 
@@ -169,17 +175,17 @@ last_stopped {S} p w line part old new end clean some begins written events =
     subst (λ (ls : List Text). IsStopped p w ls old new end) (sym (some_line line clean some)) (stopped_one p w line part old new end begins written events)
 
 -- memory is out for the last line
-pub lacking_last : {S : Type 0} (p : Protocol S) (w : S) (old_rest new_rest : Option Text) (text rest script : Text) (long : Bool) (old mid : Option Text) (end : S)
-    → Consumes old_rest new_rest text → IsAtEnd new_rest → (r : Reaches p w text rest long old mid end) → HasNoEnd (r.before ++ rest) → 0 < length (r.before ++ rest)
-    → old_rest ≡ Some script → IsLackingIn p w script old_rest new_rest old mid end
-lacking_last {S} p w old_rest new_rest text rest script long old mid end taken done r clean some known = record {
+pub lacking_last : {S : Type 0} {p : Protocol S} {w : S} {old_rest new_rest : Option Text} {text rest script : Text} {long : Bool} {old mid : Option Text} {end : S}
+    → Consumes old_rest new_rest text → IsAtEnd new_rest → Reaches p w text rest long old mid end → HasNoEnd rest
+    → ((before : Text) → IsBefore long before → 0 < length (before ++ rest)) → old_rest ≡ Some script → IsLackingIn p w script old_rest new_rest old mid end
+lacking_last {old_rest = old_rest} {new_rest} {text} {rest} {script} taken done r clean some known = record {
   read = text;
   consumed = taken;
   whole = r.whole;
   line = r.before ++ rest;
   rest = [];
-  in_order = ap lines (sym (whole_script old_rest new_rest text script taken done known)) ∙ last_lines p w text rest long old mid end r
-      ∙ ap (λ (ls : List Text). r.whole ++ ls) (some_line (r.before ++ rest) clean some);
+  in_order = ap lines (sym (whole_script old_rest new_rest text script taken done known)) ∙ last_lines r
+      ∙ ap (λ (ls : List Text). r.whole ++ ls) (some_line (r.before ++ rest) (no_end_along r.before rest r.clean clean) (some r.before r.passed));
   in_time = inr done;
   written = r.written;
   events = r.events;

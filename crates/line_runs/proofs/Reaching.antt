@@ -4,16 +4,12 @@ use Rattle.std.specs.Io.{StartsWith}
 use Rattle.std.specs.Io.KnownBytes.{Appends, Keeps}
 use Rattle.std.proofs.KnownBytes.{Appends-trans, Appends-nil, Appends-kept}
 use Rattle.std.proofs.Transfers.{starts_with_of_eq}
-use Rattle.lists.specs.Elements.{Each}
+use Rattle.lists.proofs.EachLemmas.{each_append, each_parts}
 use Rattle.model_guests.specs.Text.{Text, text_of_lines}
 use Rattle.model_guests.specs.LineRuns.{Protocol, output, after_lines, HasNoEnd}
 use Rattle.model_guests.proofs.RunLines.{output_along, after_along}
 use Rattle.line_runs.specs.Pieces.{IsBefore, Reaches, StopsWithin, LacksWithin}
 use Rattle.line_runs.proofs.LineEnds.{no_end_along, no_end_first}
-
-each_along : (P : Text → Type 0) (a b : List Text) → Each P a → Each P b → Each P (a ++ b)
-each_along P [] b p q = q
-each_along P (x ∷ xs) b p q = (p.0, each_along P xs b p.1 q)
 
 pub text_along : (a b : List Text) → text_of_lines (a ++ b) ≡ text_of_lines a ++ text_of_lines b
 text_along [] b = refl
@@ -51,34 +47,34 @@ reaches_first {S} p w before text long old clean passed = record {
 }
 
 -- more bytes came
-pub reaches_more : {S : Type 0} (p : Protocol S) (w : S) (text rest more : Text) (long : Bool) (old new : Option Text) (end : S)
+pub reaches_more : {S : Type 0} {p : Protocol S} {w : S} {text rest : Text} (more : Text) {long : Bool} {old new : Option Text} {end : S}
     → Reaches p w text rest long old new end → Reaches p w (text ++ more) (rest ++ more) long old new end
-reaches_more {S} p w text rest more long old new end r = grind (arith, append_assoc)
+reaches_more more r = grind (arith, append_assoc)
 
 -- the next lines ran
-pub reaches_on : {S : Type 0} (p : Protocol S) (w : S) (text piece rest : Text) (long next : Bool) (old mid new : Option Text) (end last : S)
+pub reaches_on : {S : Type 0} {p : Protocol S} {w : S} {text piece rest : Text} {long next : Bool} {old mid new : Option Text} {end last : S}
     → (r : Reaches p w text piece long old mid end) → Reaches p end (r.before ++ piece) rest next mid new last → Reaches p w text rest next old new last
-reaches_on {S} p w text piece rest long next old mid new end last r s = grind (arith, each_along, append_assoc, text_along, output_along, after_along)
+reaches_on {p = p} r s = grind (arith, each_append, append_assoc, text_along, output_along, after_along)
 
 -- memory is out in the next lines
-pub lacks_on : {S : Type 0} (p : Protocol S) (w : S) (text piece : Text) (long : Bool) (old mid new : Option Text) (end last : S)
+pub lacks_on : {S : Type 0} {p : Protocol S} {w : S} {text piece : Text} {long : Bool} {old mid new : Option Text} {end last : S}
     → (r : Reaches p w text piece long old mid end) → LacksWithin p end (r.before ++ piece) mid new last → LacksWithin p w text old new last
-lacks_on {S} p w text piece long old mid new end last r s = grind (arith, each_along, append_assoc, text_along, output_along, after_along)
+lacks_on {p = p} r s = grind (arith, each_append, append_assoc, text_along, output_along, after_along)
 
 -- a failure in the next lines
-pub stops_on : {S : Type 0} (p : Protocol S) (w : S) (text piece : Text) (long : Bool) (old mid new : Option Text) (end last : S)
+pub stops_on : {S : Type 0} {p : Protocol S} {w : S} {text piece : Text} {long : Bool} {old mid new : Option Text} {end last : S}
     → (r : Reaches p w text piece long old mid end) → StopsWithin p end (r.before ++ piece) mid new last → StopsWithin p w text old new last
-stops_on {S} p w text piece long old mid new end last r s =
+stops_on {S} {p = p} {w = w} {end = end} r s =
     let world : after_lines p end s.whole ≡ after_lines p w (r.whole ++ s.whole) =
     ap (λ (e : S). after_lines p e s.whole) r.events ∙ sym (after_along p w r.whole s.whole) in
-    grind (arith, each_along, append_assoc, text_along, output_along)
+    grind (arith, each_append, append_assoc, text_along, output_along)
 
 -- one more line ran
-pub reaches_line : {S : Type 0} (p : Protocol S) (w : S) (text piece line after : Text) (long : Bool) (old mid new : Option Text) (end last : S)
+pub reaches_line : {S : Type 0} {p : Protocol S} {w : S} {text piece after : Text} (line : Text) {long : Bool} {old mid new : Option Text} {end last : S} {P : Type 0}
     → piece ≡ line ++ 10 ∷ after → (r : Reaches p w text piece long old mid end) → HasNoEnd line
     → Appends mid new (p.writes end (r.before ++ line)) → last ≡ p.next end (r.before ++ line)
-    → (s : Reaches p w text after false old new last) × (0 < length s.whole)
-reaches_line {S} p w text piece line after long old mid new end last cut r clean written events =
+    → (s : Reaches p w text after false old new last) × (P → 0 < length s.whole)
+reaches_line {S} {p = p} {w = w} {text = text} {after = after} line {old = old} {mid = mid} {new = new} {end = end} cut r clean written events =
     let one : List Text = (r.before ++ line) ∷ [] in
     let wrote : output p w r.whole ++ p.writes end (r.before ++ line) ≡ output p w (r.whole ++ one) =
     ap (λ (e : S). output p w r.whole ++ p.writes e (r.before ++ line)) r.events
@@ -91,27 +87,27 @@ reaches_line {S} p w text piece line after long old mid new end last cut r clean
       record {
         whole = r.whole ++ one;
         before = [];
-        each_line = each_along HasNoEnd r.whole one r.each_line (no_end_along r.before line r.clean clean, tt);
+        each_line = each_append HasNoEnd r.whole one r.each_line (no_end_along r.before line r.clean clean, tt);
         clean = refl;
         passed = refl;
         in_order = order;
         written = subst (Appends old new) wrote (Appends-trans old mid new (output p w r.whole) (p.writes end (r.before ++ line)) r.written written);
         events = events ∙ ap (λ (e : S). p.next e (r.before ++ line)) r.events ∙ sym (after_along p w r.whole one);
       },
-      some,
+      λ wrote. some,
     )
 
 -- the answer to the next line was not written whole
-pub stops_at : {S : Type 0} (p : Protocol S) (w : S) (text piece line after part : Text) (long : Bool) (old mid new : Option Text) (end last : S)
+pub stops_at : {S : Type 0} {p : Protocol S} {w : S} {text piece : Text} (line after part : Text) {long : Bool} {old mid new : Option Text} {end last : S}
     → piece ≡ line ++ 10 ∷ after → (r : Reaches p w text piece long old mid end) → HasNoEnd line
     → StartsWith (p.writes end (r.before ++ line)) part → Appends mid new part → last ≡ p.next end (r.before ++ line)
     → StopsWithin p w text old new last
-stops_at {S} p w text piece line after part long old mid new end last cut r clean begins written events = grind (arith, no_end_along, append_assoc)
+stops_at line after part cut r clean begins written events = grind (arith, no_end_along, append_assoc)
 
 -- memory is out for the next line
-pub lacks_at : {S : Type 0} (p : Protocol S) (w : S) (text piece line after : Text) (long : Bool) (old mid new : Option Text) (end : S)
+pub lacks_at : {S : Type 0} {p : Protocol S} {w : S} {text piece : Text} (line after : Text) {long : Bool} {old mid new : Option Text} {end : S}
     → piece ≡ line ++ 10 ∷ after → (r : Reaches p w text piece long old mid end) → HasNoEnd line → Keeps mid new → LacksWithin p w text old new end
-lacks_at {S} p w text piece line after long old mid new end cut r clean kept = record {
+lacks_at {p = p} {w = w} line after {old = old} {mid = mid} {new = new} cut r clean kept = record {
   whole = r.whole;
   line = r.before ++ line;
   after = after;
@@ -130,35 +126,28 @@ last_of (l ∷ m ∷ ms) h =
     let v = last_of (m ∷ ms) more in
     (l ∷ v.0, v.1, ap (λ (ls : List Text). l ∷ ls) v.2)
 
-each_first : (P : Text → Type 0) (a b : List Text) → Each P (a ++ b) → Each P a
-each_first P [] b h = tt
-each_first P (x ∷ xs) b h = (h.0, each_first P xs b h.1)
-
-each_last : (P : Text → Type 0) (a b : List Text) → Each P (a ++ b) → Each P b
-each_last P [] b h = h
-each_last P (x ∷ xs) b h = each_last P xs b h.1
-
 -- lines ran, and what they wrote was not flushed
-pub stops_flush : {S : Type 0} (p : Protocol S) (w : S) (text rest : Text) (long : Bool) (old new : Option Text) (end : S)
+pub stops_flush : {S : Type 0} {p : Protocol S} {w : S} {text rest : Text} {long : Bool} {old new : Option Text} {end : S}
     → (r : Reaches p w text rest long old new end) → 0 < length r.whole → StopsWithin p w text old new end
-stops_flush {S} p w text rest long old new end r some =
+stops_flush r some =
     let v = last_of r.whole some in
-    grind (arith, each_first, each_last, text_along, append_assoc, text_of_one, starts_with_of_eq, output_along, append-nil, after_along)
+    let clean = each_parts HasNoEnd v.0 (v.1 ∷ []) (rw v.2 at r.each_line) in
+    grind (arith, text_along, append_assoc, text_of_one, starts_with_of_eq, output_along, append-nil, after_along)
 
 -- a flush that wrote nothing
-pub reaches_kept : {S : Type 0} (p : Protocol S) (w : S) (text rest : Text) (long : Bool) (old mid new : Option Text) (end : S)
+pub reaches_kept : {S : Type 0} {p : Protocol S} {w : S} {text rest : Text} {long : Bool} {old mid new : Option Text} {end : S}
     → Reaches p w text rest long old mid end → Keeps mid new → Reaches p w text rest long old new end
-reaches_kept {S} p w text rest long old mid new end r kept = grind arith
+reaches_kept r kept = grind arith
 
-pub stops_kept : {S : Type 0} (p : Protocol S) (w : S) (text : Text) (old mid new : Option Text) (end : S)
+pub stops_kept : {S : Type 0} {p : Protocol S} {w : S} {text : Text} {old mid new : Option Text} {end : S}
     → StopsWithin p w text old mid end → Keeps mid new → StopsWithin p w text old new end
-stops_kept {S} p w text old mid new end s kept = grind arith
+stops_kept s kept = grind arith
 
 -- what is left of the text may be pending in another way
-pub reaches_held : {S : Type 0} (p : Protocol S) (w : S) (text rest kept : Text) (long next : Bool) (old new : Option Text) (end : S)
+pub reaches_held : {S : Type 0} {p : Protocol S} {w : S} {text rest kept : Text} {long next : Bool} {old new : Option Text} {end : S}
     → (r : Reaches p w text rest long old new end) → HasNoEnd rest → (before : Text) → IsBefore next before → before ++ kept ≡ r.before ++ rest
     → Reaches p w text kept next old new end
-reaches_held {S} p w text rest kept long next old new end r clean before passed same = record {
+reaches_held {rest = rest} {kept = kept} r clean before passed same = record {
   whole = r.whole;
   before = before;
   each_line = r.each_line;

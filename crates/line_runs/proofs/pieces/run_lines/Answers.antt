@@ -1,9 +1,6 @@
-use Rattle.std.proofs.Common.{◌≡◌, ◌++◌, ◌∷◌, ◌<◌, ◌∙◌, true, false, [], Err, sym, ap, subst, append_assoc, length, arith}
-use Rattle.std.specs.Prelude.{IsTrue}
-use Rattle.std.specs.Io.KnownBytes.{Keeps}
+use Rattle.std.proofs.Common.{◌≡◌, ◌++◌, ◌∷◌, ◌∙◌, true, false, [], Err, sym, ap, append_assoc, arith}
 use Rattle.model_guests.specs.Text.{Text}
 use Rattle.line_runs.specs.declared.pieces.Stop.TheVariants.{Failed, Memory}
-use Rattle.line_runs.specs.Pieces.{Reaches, StopsWithin, LacksWithin}
 use Rattle.line_runs.proofs.Buffers.{rest_is_last}
 use Rattle.line_runs.proofs.Reaching.{reaches_first, reaches_line, stops_at, stops_flush, stops_kept, lacks_at}
 use Rattle.line_runs.proofs.Results.{by_flag}
@@ -20,40 +17,25 @@ loop-line-init g c = grind (arith, reaches_first)
 pub returns-in-Err-Failed-clause-stops : goal.returns-in-Err-Failed-clause-stops
 returns-in-Err-Failed-clause-stops g c = λ is before clean passed.
     let run = (c.loop-line.invariant.runs before clean passed).0 in
-    let failed = c.in-Err-Failed.ensures.failed (ap Err (let same : c.in-Err-Failed.field-0 ≡ Failed = cc in same)) run.before run.passed in
-    stops_at g.S.Answers.protocol c.args.server.now (before ++ c.args.text.now) c.loop-line.rest.now c.in-Some.line.now c.in-Some.after.now failed.0 c.loop-line.long (g.W.Writer.written c.args.writer.now)
-    (g.W.Writer.written c.loop-line.writer) (g.W.Writer.written c.answer_line.new.writer) c.loop-line.server c.answer_line.new.server
-    c.in-Some.ensures.line.1 run c.in-Some.ensures.line.0 failed.1 failed.2 (c.in-Err-Failed.ensures.failed_after (ap Err (let same : c.in-Err-Failed.field-0 ≡ Failed = cc in same)) run.before run.passed)
+    let same : c.in-Err-Failed.field-0 ≡ Failed = cc in
+    let failed = c.in-Err-Failed.ensures.failed (ap Err same) run.before run.passed in
+    stops_at c.in-Some.line.now c.in-Some.after.now failed.0 c.in-Some.ensures.line.1 run c.in-Some.ensures.line.0 failed.1 failed.2
+    (c.in-Err-Failed.ensures.failed_after (ap Err same) run.before run.passed)
 
 pub returns-in-Err-Memory-clause-stops : goal.returns-in-Err-Memory-clause-stops
 returns-in-Err-Memory-clause-stops g c = λ is before clean passed.
-    let p = g.S.Answers.protocol in
-    let text = before ++ c.args.text.now in
-    let rest = c.loop-line.rest.now in
-    let old = g.W.Writer.written c.args.writer.now in
-    let mid = g.W.Writer.written c.loop-line.writer in
-    let new = g.W.Writer.written c.flushed.new.writer in
-    let lacking = c.in-Err-Memory.ensures.lacking (ap Err (let same : c.in-Err-Memory.field-0 ≡ Memory = cc in same)) in
+    let same : c.in-Err-Memory.field-0 ≡ Memory = cc in
+    let lacking = c.in-Err-Memory.ensures.lacking (ap Err same) in
     let run = c.loop-line.invariant.runs before clean passed in
     let wrote : c.flushed.result ≡ Failed = cc in
-    let kept = subst (λ (x : g.row.W.Denot). Keeps (g.W.Writer.written x) new) lacking.1 c.flushed.ensures.bytes in
-    subst (λ (x : g.row.S.Denot). StopsWithin p c.args.server.now text old new x) (sym lacking.0)
-    (stops_kept p c.args.server.now text old mid new c.loop-line.server
-    (stops_flush p c.args.server.now text rest c.loop-line.long old mid c.loop-line.server run.0 (run.1 (c.flushed.ensures.wrote wrote))) kept)
+    rw lacking.0 (stops_kept (stops_flush run.0 (run.1 (c.flushed.ensures.wrote wrote))) (rw lacking.1 at c.flushed.ensures.bytes))
 
 pub returns-in-Err-Memory-clause-lacks : goal.returns-in-Err-Memory-clause-lacks
 returns-in-Err-Memory-clause-lacks g c = λ is before clean passed.
-    let p = g.S.Answers.protocol in
-    let text = before ++ c.args.text.now in
-    let old = g.W.Writer.written c.args.writer.now in
-    let mid = g.W.Writer.written c.loop-line.writer in
-    let new = g.W.Writer.written c.flushed.new.writer in
-    let lacking = c.in-Err-Memory.ensures.lacking (ap Err (let same : c.in-Err-Memory.field-0 ≡ Memory = cc in same)) in
-    let run = c.loop-line.invariant.runs before clean passed in
-    let kept = subst (λ (x : g.row.W.Denot). Keeps (g.W.Writer.written x) new) lacking.1 c.flushed.ensures.bytes in
-    subst (λ (x : g.row.S.Denot). LacksWithin p c.args.server.now text old new x) (sym lacking.0)
-    (lacks_at p c.args.server.now text c.loop-line.rest.now c.in-Some.line.now c.in-Some.after.now c.loop-line.long old mid new c.loop-line.server
-    c.in-Some.ensures.line.1 run.0 c.in-Some.ensures.line.0 kept)
+    let same : c.in-Err-Memory.field-0 ≡ Memory = cc in
+    let lacking = c.in-Err-Memory.ensures.lacking (ap Err same) in
+    let run = (c.loop-line.invariant.runs before clean passed).0 in
+    rw lacking.0 (lacks_at c.in-Some.line.now c.in-Some.after.now c.in-Some.ensures.line.1 run c.in-Some.ensures.line.0 (rw lacking.1 at c.flushed.ensures.bytes))
 
 pub returns-in-Err-Memory-clause-flushed : goal.returns-in-Err-Memory-clause-flushed
 returns-in-Err-Memory-clause-flushed g c = grind (arith, by_flag)
@@ -66,12 +48,7 @@ loop-line-preserved-then-wrote g c =
       taken = (taken.0 ++ (line ++ 10 ∷ []), taken_more c.args.text.now taken.0 c.loop-line.rest.now line c.in-Some.after.now taken.1 c.in-Some.ensures.line.1);
       runs = λ before clean passed.
           let run = (c.loop-line.invariant.runs before clean passed).0 in
-          let more = reaches_line g.S.Answers.protocol c.args.server.now (before ++ c.args.text.now) c.loop-line.rest.now line c.in-Some.after.now c.loop-line.long
-          (g.W.Writer.written c.args.writer.now) (g.W.Writer.written c.loop-line.writer) (g.W.Writer.written c.answer_line.new.writer) c.loop-line.server c.answer_line.new.server
-          c.in-Some.ensures.line.1 run c.in-Some.ensures.line.0
-          (c.in-Ok.ensures.output run.before run.passed)
-          (c.in-Ok.ensures.after run.before run.passed) in
-          (more.0, λ wrote. more.1);
+          reaches_line line c.in-Some.ensures.line.1 run c.in-Some.ensures.line.0 (c.in-Ok.ensures.output run.before run.passed) (c.in-Ok.ensures.after run.before run.passed);
       silent = λ untold. absurd (let wrong : true ≡ false = sym c.if-wrote.true ∙ untold in cc);
       failures = omega (arith, c.in-Ok.ensures.failures, c.loop-line.invariant.failures);
     }
@@ -84,18 +61,10 @@ loop-line-preserved g c =
       taken = (taken.0 ++ (line ++ 10 ∷ []), taken_more c.args.text.now taken.0 c.loop-line.rest.now line c.in-Some.after.now taken.1 c.in-Some.ensures.line.1);
       runs = λ before clean passed.
           let run = (c.loop-line.invariant.runs before clean passed).0 in
-          let more = reaches_line g.S.Answers.protocol c.args.server.now (before ++ c.args.text.now) c.loop-line.rest.now line c.in-Some.after.now c.loop-line.long
-          (g.W.Writer.written c.args.writer.now) (g.W.Writer.written c.loop-line.writer) (g.W.Writer.written c.answer_line.new.writer) c.loop-line.server c.answer_line.new.server
-          c.in-Some.ensures.line.1 run c.in-Some.ensures.line.0
-          (c.in-Ok.ensures.output run.before run.passed)
-          (c.in-Ok.ensures.after run.before run.passed) in
-          (more.0, λ wrote. more.1);
+          reaches_line line c.in-Some.ensures.line.1 run c.in-Some.ensures.line.0 (c.in-Ok.ensures.output run.before run.passed) (c.in-Ok.ensures.after run.before run.passed);
       silent = λ untold. c.in-Ok.ensures.silent untold ∙ c.loop-line.invariant.silent c.if-wrote.false;
       failures = omega (arith, c.in-Ok.ensures.failures, c.loop-line.invariant.failures);
     }
 
 pub returns-clause-runs : goal.returns-clause-runs
-returns-clause-runs g c = λ before clean passed.
-    subst (λ (t : Text). (run : Reaches g.S.Answers.protocol c.args.server.now (before ++ c.args.text.now) t c.loop-line.long (g.W.Writer.written c.args.writer.now) (g.W.Writer.written c.loop-line.writer) c.loop-line.server) × (IsTrue c.loop-line.wrote → 0 < length run.whole))
-    (sym (rest_is_last c.args.text.now c.loop-line.invariant.taken.0 c.loop-line.rest.now c.loop-line.invariant.taken.1))
-    (c.loop-line.invariant.runs before clean passed)
+returns-clause-runs g c = rw (rest_is_last c.args.text.now c.loop-line.invariant.taken.0 c.loop-line.rest.now c.loop-line.invariant.taken.1) c.loop-line.invariant.runs
