@@ -1,7 +1,6 @@
 pub mod Counts
 pub mod Cursors
 pub mod Digits
-pub mod FirmwareMeanings
 pub mod GuestForms
 pub mod GuestNames
 mod HexDigits

@@ -1,5 +1,5 @@
 -- The guest of a name, and what a line means by its first word.
-use Rattle.std.proofs.Common.{◌≡◌, ℕ, ◌+◌, ◌||◌, Bool, true, false, cond, List, [], ◌∷◌, Option, Some, None, map, codes, length, refl, sym, ap, subst, ◌∙◌, ◌<◌, ◌≤◌, arith}
+use Rattle.std.proofs.Common.{◌≡◌, ℕ, ◌+◌, ◌||◌, Bool, true, false, cond, List, [], ◌∷◌, Option, Some, None, map, codes, length, refl, sym, ap, subst, ◌∙◌, ◌≤◌, arith}
 use Rattle.std.specs.List.{position, position_from}
 use Rattle.std.specs.Str.{bytes_eq}
 use Rattle.std.proofs.lemmas.Iterator.Adapters.{position_from-zero}
@@ -11,7 +11,7 @@ use Rattle.arrayvec.specs.ArrayString.{ArrayString}
 use Rattle.model_guests.specs.Text.{Text, words}
 use Rattle.model_guests.specs.Grammar.{nobody, is_comment, has_name, event_of}
 use Rattle.model_guests.specs.Guests.{Move}
-use Rattle.model_guests.specs.Lines.{Meaning, bad, event_or_bad, between_guests, meaning_of_words, meaning}
+use Rattle.model_guests.specs.Lines.{bad, event_or_bad, between_guests, meaning_of_words, meaning}
 use Rattle.lines.specs.Lines.{texts, name_of, GuestsAre, IsFirst}
 use Rattle.lines.specs.declared.line.What.{What}
 use Rattle.lines.specs.declared.line.What.TheVariants as what
@@ -24,13 +24,16 @@ place_of ns w = position (λ n. bytes_eq n w) ns
 abbrev place_from : ℕ → List Text → Text → Option ℕ
 place_from i ns w = position_from (λ n. bytes_eq n w) i ns
 
+-- among names as they are held
+abbrev pub place_among : ArrayVec ArrayString → Text → Option ℕ
+place_among names w = position (λ n. bytes_eq n.bytes w) names.items
+
 place_from_names : (w : Text) (i : ℕ) (ns : List ArrayString)
     → position_from (λ n. bytes_eq n.bytes w) i ns ≡ place_from i (map (λ n. n.bytes) ns) w
 place_from_names w i [] = refl
 place_from_names w i (n ∷ ns) = ap (cond (bytes_eq n.bytes w) (Some i)) (place_from_names w (i + 1) ns)
 
-pub place_of-names : (names : ArrayVec ArrayString) (w : Text)
-    → position (λ n. bytes_eq n.bytes w) names.items ≡ place_of (texts names) w
+pub place_of-names : (names : ArrayVec ArrayString) (w : Text) → place_among names w ≡ place_of (texts names) w
 place_of-names names w =
     position_from-zero (λ n. bytes_eq n.bytes w) names.items
     ∙ place_from_names w 0 names.items
@@ -54,47 +57,35 @@ any-None w i [] e = refl
 any-None w i (n ∷ ns) e =
     none_after (bytes_eq n w) i (place_from (i + 1) ns w) (has_name ns w) e (λ h. any-None w (i + 1) ns h)
 
-pub has_name-Some : (ns : List Text) (w : Text) (g : ℕ) → Some g ≡ place_of ns w → has_name ns w ≡ true
-has_name-Some ns w g e = any-Some w 0 g ns (e ∙ position_from-zero (λ n. bytes_eq n w) ns)
+-- the guest that was found
+pub record IsFound (ns : List Text) (w : Text) (g : ℕ) : Type 0 where
+  pub there : has_name ns w ≡ true
+  pub name : name_of ns g ≡ w
+  pub first : IsFirst ns g
 
-pub has_name-None : (ns : List Text) (w : Text) → None ≡ place_of ns w → has_name ns w ≡ false
-has_name-None ns w e = any-None w 0 ns (e ∙ position_from-zero (λ n. bytes_eq n w) ns)
+pub found : (names : ArrayVec ArrayString) (w : Text) (g : ℕ) → Some g ≡ place_among names w → IsFound (texts names) w g
+found names w g at =
+    let ns = texts names in
+    let e : Some g ≡ place_of ns w = at ∙ place_of-names names w in
+    let name = (bytes_eq-Decides (name_of ns g) w).0 ((position-Some (λ n. bytes_eq n w) ns g [] (sym e)).1) in
+    record {
+      there = any-Some w 0 g ns (e ∙ position_from-zero (λ n. bytes_eq n w) ns);
+      name = name;
+      first = ap (place_of ns) name ∙ sym e;
+    }
 
--- the name of the guest that was found
-pub name_of-found : (ns : List Text) (w : Text) (g : ℕ) → Some g ≡ place_of ns w → name_of ns g ≡ w
-name_of-found ns w g e =
-    (bytes_eq-Decides (name_of ns g) w).0 ((position-Some (λ n. bytes_eq n w) ns g [] (sym e)).1)
+pub missing : (names : ArrayVec ArrayString) (w : Text) → None ≡ place_among names w → has_name (texts names) w ≡ false
+missing names w at = any-None w 0 (texts names) (at ∙ place_of-names names w ∙ position_from-zero (λ n. bytes_eq n w) (texts names))
 
-pub IsFirst-found : (ns : List Text) (w : Text) (g : ℕ) → Some g ≡ place_of ns w → IsFirst ns g
-IsFirst-found ns w g e = ap (place_of ns) (name_of-found ns w g e) ∙ sym e
+-- ---- what a line means whose first word tells neither a comment nor the host
 
-by_first_word : (a b : Meaning) (comment host named : Bool) (guest unknown : Meaning)
-    → comment ≡ false → host ≡ false → named ≡ true
-    → guest ≡ cond comment a (cond host b (cond named guest unknown))
-by_first_word a b comment host named guest unknown c h n = simp (c, h, n) refl
+pub meaning_of_guest : (names : ArrayVec ArrayString) (w : Text) (ws : List Text) (g : ℕ) → Some g ≡ place_among names w → is_comment w ≡ false → bytes_eq w (codes "host") ≡ false
+    → event_or_bad (name_of (texts names) g) (event_of ws) ≡ meaning_of_words (texts names) (w ∷ ws)
+meaning_of_guest names w ws g at c h = let it = found names w g at in grind (arith, it)
 
-by_no_word : (a b : Meaning) (comment host named : Bool) (guest unknown : Meaning)
-    → comment ≡ false → host ≡ false → named ≡ false
-    → unknown ≡ cond comment a (cond host b (cond named guest unknown))
-by_no_word a b comment host named guest unknown c h n = simp (c, h, n) refl
-
--- neither a comment nor the host's
-abbrev pub IsOther : Text → Type 0
-IsOther w = (is_comment w ≡ false) × (bytes_eq w (codes "host") ≡ false)
-
-pub meaning_of_words-guest : (ns : List Text) (w : Text) (ws : List Text) → IsOther w → has_name ns w ≡ true
-    → event_or_bad w (event_of ws) ≡ meaning_of_words ns (w ∷ ws)
-meaning_of_words-guest ns w ws o n =
-    by_first_word _ _ (is_comment w) (bytes_eq w (codes "host")) (has_name ns w) (event_or_bad w (event_of ws)) _
-    o.0 o.1 n
-
-pub meaning_of_words-unknown : (ns : List Text) (w : Text) (ws : List Text) → IsOther w → has_name ns w ≡ false
-    → bad nobody 402 ≡ meaning_of_words ns (w ∷ ws)
-meaning_of_words-unknown ns w ws o n =
-    by_no_word _ _ (is_comment w) (bytes_eq w (codes "host")) (has_name ns w) _ (bad nobody 402) o.0 o.1 n
-
-pub meaning-long : (ns : List Text) (line : Text) → 200 < length line → bad nobody 403 ≡ meaning ns line
-meaning-long ns line h = grind (arith, nat_tests)
+pub meaning_of_unknown : (names : ArrayVec ArrayString) (w : Text) (ws : List Text) → None ≡ place_among names w → is_comment w ≡ false → bytes_eq w (codes "host") ≡ false
+    → bad nobody 402 ≡ meaning_of_words (texts names) (w ∷ ws)
+meaning_of_unknown names w ws at c h = grind (arith, missing)
 
 pub meaning-short : (ns : List Text) (line : Text) → length line ≤ 200
     → meaning_of_words ns (words line) ≡ meaning ns line
@@ -115,9 +106,6 @@ guests_are_this P g (what.Move from slot to target) e p = (one_is P from g e.0 p
 guests_are_this P g (what.Bad w n) e p = grind (arith, one_is)
 
 -- ---- moves between guests that are there
-
-abbrev pub moved : Text → ℕ → Text → ℕ → Move
-moved from slot to target = record { from = from; slot = slot; to = to; target = target }
 
 pub move_there : (ns : List Text) (m : Move) → has_name ns m.from ≡ true → has_name ns m.to ≡ true
     → between_guests ns m ≡ Some m

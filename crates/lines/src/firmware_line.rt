@@ -157,6 +157,7 @@ fn named_line(first: &[u8], text: &[u8]) -> FirmwareWhat
 
 /// What a line of firmware means, which is given without its line feed. No guest is there: of guests' names
 /// none is known.
+#[tactic(auto, using(std::proofs::lemmas::Bool::Decides::nat_tests))]
 pub fn firmware_meaning(line: &[u8]) -> FirmwareWhat
     ensures { firmware_meaning_of result ≡ meaning line.now }
 {

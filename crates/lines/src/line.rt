@@ -148,6 +148,7 @@ fn host_line(text: &[u8], names: &Names) -> What
 }
 
 /// What a line means, by its first word and the text after it.
+#[tactic(auto, using(crate::proofs::NameLemmas::meaning_of_guest, crate::proofs::NameLemmas::meaning_of_unknown))]
 fn named_line(first: &[u8], text: &[u8], names: &Names) -> What
     ensures meaning { let ws = first.now ∷ words text.now in
         meaning_of (texts names.now) result ≡ meaning_of_words (texts names.now) ws }
@@ -168,6 +169,7 @@ fn named_line(first: &[u8], text: &[u8], names: &Names) -> What
 /// What a line of any kind means. The words of the commonest lines are read one by one, which is faster
 /// than to cut the line into words first.
 #[inline(never)]
+#[tactic(auto, using(std::proofs::lemmas::Bool::Decides::nat_tests))]
 fn any_meaning(line: &[u8], names: &Names) -> What
     ensures meaning { meaning_of (texts names.now) result ≡ meaning (texts names.now) line.now }
     ensures guests { GuestsAre (λ g. g < length names.now.items) result }
