@@ -1,6 +1,11 @@
-use Rattle.std.proofs.Common.{◌∙◌}
-use Rattle.pciguest_c.proofs.Kept.{place_told}
+use Rattle.std.proofs.Common.{List, ap, ◌∙◌}
+use Rattle.std.specs.Prelude.{position}
+use Rattle.std.specs.Str.{bytes_eq}
+use Rattle.model_guests.specs.Text.{Text}
+use Rattle.lines.proofs.NameLemmas.{place_of-names}
 use Rattle.pciguest_c.proofs.asking.index_named.Goals as goal
 
 pub returns : goal.returns
-returns c = c.place_among.ensures ∙ place_told c.args.name.now c.names.result.now c.args.machine.now.world c.names.ensures
+returns c =
+    c.place_among.ensures ∙ place_of-names c.names.result.now c.args.name.now
+    ∙ ap (λ (ns : List Text). position (λ n. bytes_eq n c.args.name.now) ns) c.names.ensures

@@ -1,20 +1,15 @@
-use Rattle.std.proofs.Common.{◌<◌, ℕ, sym, subst, ◌∙◌, arith}
+use Rattle.std.proofs.Common.{arith}
 use Rattle.simulation.specs.Listing.{Refuses, Breaks}
 use Rattle.pciguest_c.proofs.FaultNumbers.{is_small, refused, broken}
 use Rattle.pciguest_c.proofs.text.report_of.Goals as goal
 
 pub returns-in-Err-clause-file : goal.returns-in-Err-clause-file
 returns-in-Err-clause-file c =
-    subst (λ (n : ℕ). n < 199 → Refuses c.args.board.now n) (sym (c.from.ensures ∙ c.number.ensures))
-    (refused (Refuses c.args.board.now) c.in-Err.fault c.in-Err.ensures.faults c.in-Err.ensures.file)
+    rw (c.from.ensures, c.number.ensures) (refused (Refuses c.args.board.now) c.in-Err.fault c.in-Err.ensures.faults c.in-Err.ensures.file)
 
 pub returns-in-Err-clause-placement : goal.returns-in-Err-clause-placement
 returns-in-Err-clause-placement c =
-    subst (λ (n : ℕ). 199 < n → n < 299 → Breaks c.args.board.now n) (sym (c.from.ensures ∙ c.number.ensures))
-    (broken (Breaks c.args.board.now) c.in-Err.fault c.in-Err.ensures.faults c.in-Err.ensures.placement)
+    rw (c.from.ensures, c.number.ensures) (broken (Breaks c.args.board.now) c.in-Err.fault c.in-Err.ensures.faults c.in-Err.ensures.placement)
 
 pub returns-in-Err-clause-numbers : goal.returns-in-Err-clause-numbers
-returns-in-Err-clause-numbers c =
-    let small = is_small c.in-Err.fault c.in-Err.ensures.faults in
-    let same = c.from.ensures ∙ c.number.ensures in
-    (λ zero. omega arith, omega arith)
+returns-in-Err-clause-numbers c = grind (arith, is_small)
