@@ -1,9 +1,13 @@
 -- What stands above all functions of a board, one row after the other.
 use Rattle.std.proofs.Common.{◌≡◌, ℕ, zero, suc, ◌+◌, ◌-◌, ◌≤◌, ◌<◌, ◌⊎◌, inl, inr, true, ◌&&◌, List, [], ◌∷◌, ◌++◌, map, length, Some, refl, sym, ap, ap₂, ◌∙◌, subst, arith, get_or, ◌≢◌, length-append, get_or-set_other, get_or-set_same}
+use Rattle.std.proofs.lemmas.List.{length-map}
+use Rattle.std.proofs.lemmas.Option.{slice_get_within}
+use Rattle.lists.proofs.Indices.{same_at, at_below, each_at, pair_at, any_at, map_at, at_map, each_by_index}
+use Rattle.window_packing.proofs.BusIndex.{row_in}
+use Rattle.window_packing.proofs.PoolSteps.{maps_at}
 use Rattle.std.specs.Prelude.{IsTrue}
 use Rattle.std.specs.List.{list_all, slice_get, slice_set}
-use Rattle.std.proofs.lemmas.Option.{slice_get_within}
-use Rattle.std.proofs.lemmas.Bool.{and_parts, cases_lt}
+use Rattle.std.proofs.lemmas.Bool.{and_parts, cases_eq, cases_lt}
 use Rattle.std.proofs.Math.ListN.{length-set}
 use Rattle.model_board.specs.Paths.{Path, path_eq, path_before, leads_to, parent, last_part, IsPath}
 use Rattle.model_board.specs.Board.{is_bridge, is_bridge_at, Row, Board, IsBoard}
@@ -12,7 +16,6 @@ use Rattle.model_set_up.specs.FunctionTable.{TableRow, board_in}
 use Rattle.model_board.proofs.PathOrder.{path_same, leads_before}
 use Rattle.model_board.proofs.PathEnds.{snoc, length_snoc, leads_self, not_before_itself, no_turn, leads_longer}
 use Rattle.bridge_forward.proofs.Extents.{between}
-use Rattle.lists.proofs.Indices.{same_at, at_below, each_at, pair_at, any_at, map_at, at_map, each_by_index}
 use Rattle.window_packing.specs.declared.above.Above.{Above}
 use Rattle.window_packing.specs.Buses.{bus_path, nothing_above, behind, AreAbove}
 use Rattle.window_packing.proofs.BridgesAbove.{Tells, tells_root, tells_behind}
@@ -119,11 +122,7 @@ module _ (b : Board) (board : IsBoard b) where
   push_at [] x y zero e = inr (refl, let s : y ≡ x = cc in s)
   push_at [] x y (suc k) e = absurd (cc)
   push_at (z ∷ xs) x y zero e = inl e
-  push_at (z ∷ xs) x y (suc k) e = later (push_at xs x y k e)
-    where
-      later : (slice_get xs k ≡ Some y) ⊎ ((k ≡ length xs) × (y ≡ x)) → (slice_get (z ∷ xs) (suc k) ≡ Some y) ⊎ ((suc k ≡ suc (length xs)) × (y ≡ x))
-      later (inl h) = inl h
-      later (inr (h, g)) = inr (ap suc h, g)
+  push_at (z ∷ xs) x y (suc k) e = grind (arith, push_at xs x y k e)
 
   pub followed_more : (i : ℕ) (xs : List Above) (buses : List ℕ) → Followed b i xs buses → (r : Row) → slice_get b i ≡ Some r → (x : Above) → Tells b r.path x → Followed b (i + 1) (xs ++ x ∷ []) (slice_set buses (length r.path) (i + 1))
   followed_more i xs buses f r e x told = record {
@@ -141,9 +140,6 @@ module _ (b : Board) (board : IsBoard b) where
 
       in_buses : length r.path < length buses
       in_buses = omega (arith, (path_at i r e).few, f.depths)
-
-      cases_eq : (m n : ℕ) → (m ≡ n) ⊎ (m ≢ n)
-      cases_eq m n = grind arith
 
       by_push : (k : ℕ) (s : Row) (y : Above) → slice_get b k ≡ Some s → (slice_get xs k ≡ Some y) ⊎ ((k ≡ length xs) × (y ≡ x)) → Tells b s.path y
       by_push k s y g (inl h) = f.tells k s y g h
@@ -166,9 +162,6 @@ module _ (b : Board) (board : IsBoard b) where
           let row : s ≡ r = same_at b i s r (subst (λ n. slice_get b n ≡ Some s) eq g) e in
           ap (λ (z : Row). get_or (slice_set buses (length r.path) (i + 1)) (length z.path) 0) row ∙ get_or-set_same buses (length r.path) (i + 1) 0 in_buses ∙ let m : i + 1 ≡ suc k = omega arith in m
 
-abbrev row_in : TableRow → Row
-row_in t = record { path = t.path; decl = t.decl }
-
 pub more_rows : (rows : List TableRow) → IsBoard (board_in rows) → (i : ℕ) (xs : List Above) (buses : List ℕ) → Followed (board_in rows) i xs buses → (t : TableRow) → slice_get rows i ≡ Some t → (parts : Path) → parts ≡ t.path → (bus : ℕ)
     → get_or buses (length parts - 1) 0 ≡ bus → (x : Above) → (bus ≡ 0 → x ≡ nothing_above)
     → ((k : ℕ) (q : TableRow) (up : Above) → bus ≡ suc k → slice_get rows k ≡ Some q → slice_get xs k ≡ Some up → x ≡ behind bus q.decl up) → Followed (board_in rows) (i + 1) (xs ++ x ∷ []) (slice_set buses (length parts) (i + 1))
@@ -186,18 +179,14 @@ more_rows rows board i xs buses f t e parts path bus is x root others =
     of_row k up n h (s, g, e) = others k s up (sym same ∙ n) g h ∙ ap₂ (λ m (r : Row). behind m r.decl up) (sym same) (sym e)
 
 pub length_board : (rows : List TableRow) → length (board_in rows) ≡ length rows
-length_board [] = refl
-length_board (r ∷ rows) = ap suc (length_board rows)
+length_board rows = length-map rows row_in
 
 -- what is told at an index
 pub tells_at : (b : Board) (xs : List Above) (i : ℕ) (r : Row) (x : Above) → AreAbove b xs → slice_get b i ≡ Some r → slice_get xs i ≡ Some x → Tells b r.path x
 tells_at b xs i r x h at there = record {
-  bus = same (λ (y : Above). bus_path b y.bus) (λ (s : Row). parent s.path) xs b i x r h.buses there at;
+  bus = maps_at (λ (y : Above). bus_path b y.bus) (λ (s : Row). parent s.path) xs b i x r h.buses there at;
   within = each_at (λ (y : Above). y.bus ≤ length b) xs i x h.within there;
-  io = same (λ (y : Above). y.io) (λ (s : Row). list_all (λ d. has_io d.io) (bridges_above b s.path)) xs b i x r h.io there at;
-  pref = same (λ (y : Above). y.pref) (λ (s : Row). list_all (λ d. has_pref d.pref) (bridges_above b s.path)) xs b i x r h.pref there at;
-  pref64 = same (λ (y : Above). y.pref64) (λ (s : Row). list_all (λ d. has_pref64 d.pref) (bridges_above b s.path)) xs b i x r h.pref64 there at;
+  io = maps_at (λ (y : Above). y.io) (λ (s : Row). list_all (λ d. has_io d.io) (bridges_above b s.path)) xs b i x r h.io there at;
+  pref = maps_at (λ (y : Above). y.pref) (λ (s : Row). list_all (λ d. has_pref d.pref) (bridges_above b s.path)) xs b i x r h.pref there at;
+  pref64 = maps_at (λ (y : Above). y.pref64) (λ (s : Row). list_all (λ d. has_pref64 d.pref) (bridges_above b s.path)) xs b i x r h.pref64 there at;
 }
-  where
-    same : {A B C : Type 0} (f : A → C) (g : B → C) (xs : List A) (ys : List B) (i : ℕ) (x : A) (y : B) → map f xs ≡ map g ys → slice_get xs i ≡ Some x → slice_get ys i ≡ Some y → f x ≡ g y
-    same {C = C} f g xs ys i x y e p q = same_at (map g ys) i (f x) (g y) (subst (λ (zs : List C). slice_get zs i ≡ Some (f x)) e (map_at f xs i x p)) (map_at g ys i y q)

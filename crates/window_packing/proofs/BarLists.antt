@@ -1,13 +1,13 @@
 -- The regions of base address registers, register by register.
-use Rattle.std.proofs.Common.{◌≡◌, ℕ, zero, suc, ◌+◌, ◌||◌, List, [], ◌∷◌, ◌++◌, length, map, take, Option, Some, None, refl, sym, ap, ◌∙◌, subst, arith, inr, ◌≤◌, ◌<◌, ap₂}
+use Rattle.std.proofs.Common.{◌≡◌, ℕ, zero, suc, ◌+◌, ◌||◌, List, [], ◌∷◌, ◌++◌, length, map, take, Option, Some, None, refl, sym, ap, ◌∙◌, subst, arith, inr, ◌<◌, ap₂}
+use Rattle.std.proofs.lemmas.Option.{get_or_from_slice_get, slice_get_within}
+use Rattle.std.proofs.lemmas.List.{take_more, length-take-le, take_more_set, map-append}
 use Rattle.std.specs.List.{list_any, slice_get, slice_set}
-use Rattle.std.proofs.lemmas.List.{take_more_set, map-append}
 use Rattle.model_registers.specs.Declarations.{Bar, Region}
 use Rattle.model_registers.specs.Decoding.{Space, same_space, space_of}
 use Rattle.lists.specs.Elements.{IsIn}
 use Rattle.model_set_up.specs.Pools.{is_io}
 use Rattle.model_registers.specs.EndpointTable.{BaseAddress}
-use Rattle.std.proofs.lemmas.Option.{slice_get_within}
 use Rattle.bars.specs.declared.region.BasedRegion.{BasedRegion}
 use Rattle.bars.specs.Slots.{bases_from}
 use Rattle.window_packing.specs.Packs.{regions_from}
@@ -46,21 +46,7 @@ region_among n (Some b ∷ bars) (suc k) o e r m = inr (region_among (n + 1) bar
 -- ---- one more
 
 pub take_at : {A : Type 0} (xs : List A) (i : ℕ) (x : A) → slice_get xs i ≡ Some x → take (i + 1) xs ≡ take i xs ++ x ∷ []
-take_at xs i x e = let one : suc i ≡ i + 1 = omega arith in subst (λ n. take n xs ≡ take i xs ++ x ∷ []) one (by_suc xs i x e)
-  where
-    by_suc : {A : Type 0} (xs : List A) (i : ℕ) (x : A) → slice_get xs i ≡ Some x → take (suc i) xs ≡ take i xs ++ x ∷ []
-    by_suc [] i x e = absurd (cc)
-    by_suc (y ∷ xs) zero x e = let same : y ≡ x = cc in ap (λ z. z ∷ []) same
-    by_suc (y ∷ xs) (suc i) x e = ap (λ zs. y ∷ zs) (by_suc xs i x e)
-
-pub take_whole : {A : Type 0} (xs : List A) → take (length xs) xs ≡ xs
-take_whole [] = refl
-take_whole (x ∷ xs) = ap (λ zs. x ∷ zs) (take_whole xs)
-
-take_length : {A : Type 0} (xs : List A) (i : ℕ) → i ≤ length xs → length (take i xs) ≡ i
-take_length xs zero l = refl
-take_length [] (suc i) l = absurd (omega arith)
-take_length (x ∷ xs) (suc i) l = ap suc (take_length xs i (omega arith))
+take_at xs i x e = take_more xs i x (slice_get_within xs i x e) ∙ ap (λ z. take i xs ++ z ∷ []) (get_or_from_slice_get xs i x x e)
 
 pub push_told : (f : Region → BaseAddress) (bars : List (Option Bar)) (bases : List (Option BasedRegion)) (i : ℕ) (y : Option BasedRegion) (o : Option Bar) → length bases ≡ length bars → slice_get bars i ≡ Some o
     → bases_from 0 (take i bases) ≡ map f (regions_from 0 (take i bars)) → bases_from i (y ∷ []) ≡ map f (regions_from i (o ∷ [])) → bases_from 0 (take (i + 1) (slice_set bases i y)) ≡ map f (regions_from 0 (take (i + 1) bars))
@@ -75,10 +61,10 @@ push_told f bars bases i y o count e told one =
     in_bases = omega (arith, in_bars, count)
 
     at_bases : 0 + length (take i bases) ≡ i
-    at_bases = omega (arith, take_length bases i (omega (arith, in_bases)))
+    at_bases = omega (arith, length-take-le i bases (omega (arith, in_bases)))
 
     at_bars : 0 + length (take i bars) ≡ i
-    at_bars = omega (arith, take_length bars i (omega (arith, in_bars)))
+    at_bars = omega (arith, length-take-le i bars (omega (arith, in_bars)))
 
     bars_are : regions_from 0 (take (i + 1) bars) ≡ regions_from 0 (take i bars) ++ regions_from i (o ∷ [])
     bars_are = ap (regions_from 0) (take_at bars i o e) ∙ regions_push 0 (take i bars) o ∙ ap (λ n. regions_from 0 (take i bars) ++ regions_from n (o ∷ [])) at_bars

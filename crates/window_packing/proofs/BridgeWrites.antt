@@ -7,7 +7,7 @@ use Rattle.std.proofs.Math.Nat.{mod-eq_of_lt, add-zero}
 use Rattle.model_registers.specs.Cell.{Cell, written}
 use Rattle.model_registers.specs.Registers.{config, PlacedCell, File}
 use Rattle.model_registers.specs.Declarations.{IoDecode, no_io, io16, io32, PrefDecode, no_pref, pref32, pref64, Bridge}
-use Rattle.model_registers.specs.BridgeTable.{no_window, BridgeValues, address_bits, io_cells, mem_cells, pref_cells, bridge_header, bridge_file}
+use Rattle.model_registers.specs.BridgeTable.{Window, no_window, BridgeValues, address_bits, io_cells, mem_cells, pref_cells, bridge_header, bridge_file}
 use Rattle.model_set_up.specs.Scanning.{BusNumbers, with_numbers}
 use Rattle.model_set_up.specs.SetUpWrites.{Windows}
 use Rattle.window_packing.specs.WordWrites.{bridge_words, window_word, io_word, io_upper_word}
@@ -44,21 +44,26 @@ nibble x d k n e h l is = ap (λ v. settable v 240) value
 abbrev at : ℕ → Cell → PlacedCell
 at a c = record { place = config a; cell = c }
 
+-- the two registers of a memory window
+window_part : (n d : ℕ) → d < 16 → (s : Window) → (let x : ℕ = window_word s in at n (written (x % 256) (settable d 240)) ∷ at (n + 1) (written (x / 256 % 256) (settable 0 255)) ∷ at (n + 2) (written (x / 256 / 256 % 256) (settable d 240))
+    ∷ at (n + 3) (written (x / 256 / 256 / 256 % 256) (settable 0 255)) ∷ [])
+    ≡ (let a : ℕ = address_bits (2 ^ 20) s.first d in let b : ℕ = address_bits (2 ^ 20) s.last d in at n (settable (a % 256) 240) ∷ at (n + 1) (settable (a / 256 % 256) 255) ∷ at (n + 2) (settable (b % 256) 240) ∷ at (n + 3) (settable (b / 256 % 256) 255) ∷ [])
+window_part n d l s =
+    let x = window_word s in
+    let a = address_bits (2 ^ 20) s.first d in
+    let b = address_bits (2 ^ 20) s.last d in
+    λ i.
+    at n (nibble (x % 256) d (s.first / 2 ^ 20 % 16) (a % 256) (omega arith) (omega arith) l (omega arith) i)
+    ∷ at (n + 1) (byte (x / 256 % 256) (a / 256 % 256) (omega arith) (omega arith) i)
+    ∷ at (n + 2) (nibble (x / 256 / 256 % 256) d (s.last / 2 ^ 20 % 16) (b % 256) (omega arith) (omega arith) l (omega arith) i)
+    ∷ at (n + 3) (byte (x / 256 / 256 / 256 % 256) (b / 256 % 256) (omega arith) (omega arith) i)
+    ∷ []
+
 -- ---- the parts of the file
 
 module _ (w : Windows) where
   mem_part : file_after (bridge_words w) (mem_cells no_window) ≡ mem_cells w.mem
-  mem_part =
-      let s = w.mem in
-      let x = window_word s in
-      let a = address_bits (2 ^ 20) s.first 0 in
-      let b = address_bits (2 ^ 20) s.last 0 in
-      λ i.
-      at 0x20 (nibble (x % 256) 0 (s.first / 2 ^ 20 % 16) (a % 256) (omega arith) (omega arith) (omega arith) (omega arith) i)
-      ∷ at 0x21 (byte (x / 256 % 256) (a / 256 % 256) (omega arith) (omega arith) i)
-      ∷ at 0x22 (nibble (x / 256 / 256 % 256) 0 (s.last / 2 ^ 20 % 16) (b % 256) (omega arith) (omega arith) (omega arith) (omega arith) i)
-      ∷ at 0x23 (byte (x / 256 / 256 / 256 % 256) (b / 256 % 256) (omega arith) (omega arith) i)
-      ∷ []
+  mem_part = window_part 0x20 0 (omega arith) w.mem
 
   io_part : (d : IoDecode) → file_after (bridge_words w) (io_cells d no_window) ≡ io_cells d w.io
   io_part no_io = refl
@@ -90,30 +95,13 @@ module _ (w : Windows) where
 
   pref_part : (d : PrefDecode) → file_after (bridge_words w) (pref_cells d no_window) ≡ pref_cells d w.pref
   pref_part no_pref = refl
-  pref_part pref32 =
-      let s = w.pref in
-      let x = window_word s in
-      let a = address_bits (2 ^ 20) s.first 0 in
-      let b = address_bits (2 ^ 20) s.last 0 in
-      λ i.
-      at 0x24 (nibble (x % 256) 0 (s.first / 2 ^ 20 % 16) (a % 256) (omega arith) (omega arith) (omega arith) (omega arith) i)
-      ∷ at 0x25 (byte (x / 256 % 256) (a / 256 % 256) (omega arith) (omega arith) i)
-      ∷ at 0x26 (nibble (x / 256 / 256 % 256) 0 (s.last / 2 ^ 20 % 16) (b % 256) (omega arith) (omega arith) (omega arith) (omega arith) i)
-      ∷ at 0x27 (byte (x / 256 / 256 / 256 % 256) (b / 256 % 256) (omega arith) (omega arith) i)
-      ∷ []
+  pref_part pref32 = window_part 0x24 0 (omega arith) w.pref
   pref_part pref64 =
-      let s = w.pref in
-      let x = window_word s in
-      let a = address_bits (2 ^ 20) s.first 1 in
-      let b = address_bits (2 ^ 20) s.last 1 in
-      let c = s.first / 2 ^ 32 in
-      let d = s.last / 2 ^ 32 in
+      let c = w.pref.first / 2 ^ 32 in
+      let d = w.pref.last / 2 ^ 32 in
       λ i.
-      at 0x24 (nibble (x % 256) 1 (s.first / 2 ^ 20 % 16) (a % 256) (omega arith) (omega arith) (omega arith) (omega arith) i)
-      ∷ at 0x25 (byte (x / 256 % 256) (a / 256 % 256) (omega arith) (omega arith) i)
-      ∷ at 0x26 (nibble (x / 256 / 256 % 256) 1 (s.last / 2 ^ 20 % 16) (b % 256) (omega arith) (omega arith) (omega arith) (omega arith) i)
-      ∷ at 0x27 (byte (x / 256 / 256 / 256 % 256) (b / 256 % 256) (omega arith) (omega arith) i)
-      ∷ at 0x28 (byte (c % 256) (c % 256) refl (omega arith) i)
+      window_part 0x24 1 (omega arith) w.pref i ++
+      at 0x28 (byte (c % 256) (c % 256) refl (omega arith) i)
       ∷ at 0x29 (byte (c / 256 % 256) (c / 256 % 256) refl (omega arith) i)
       ∷ at 0x2a (byte (c / 256 / 256 % 256) (c / 256 / 256 % 256) refl (omega arith) i)
       ∷ at 0x2b (byte (c / 256 / 256 / 256 % 256) (c / 256 / 256 / 256 % 256) refl (omega arith) i)

@@ -1,5 +1,6 @@
 -- What stands above each function of a board, row by row.
 use Rattle.std.proofs.Common.{◌≡◌, ℕ, suc, ◌≤◌, ◌<◌, ◌⊎◌, inl, inr, Bool, true, ◌&&◌, [], ◌∷◌, ◌++◌, length, Some, refl, sym, ap, ◌∙◌, subst, arith}
+use Rattle.lists.proofs.Tests.{and_true, same_test}
 use Rattle.std.specs.Prelude.{filter}
 use Rattle.std.specs.List.{list_all, slice_get}
 use Rattle.std.proofs.lemmas.Option.{slice_get_within}
@@ -11,7 +12,6 @@ use Rattle.model_board.specs.Board.{Decl, Row, Board, IsBoard}
 use Rattle.model_set_up.specs.Pools.{bridge_of, bridges_above, has_io, has_pref, has_pref64}
 use Rattle.model_board.proofs.PathEnds.{snoc, leads_up, leads_self, leads_trans, not_before_itself}
 use Rattle.lists.proofs.Members.{each_in, from_flat_map, in_flat_map, from_filter, in_filter, all_in, all_from}
-use Rattle.lists.proofs.Tests.{same_test}
 use Rattle.lists.proofs.Indices.{index_in}
 use Rattle.model_set_up.proofs.Partings.{pair_in}
 use Rattle.window_packing.specs.declared.above.Above.{Above}
@@ -49,10 +49,11 @@ over_in b p d r m h k = in_flat_map bridge_of r d (filter (λ (r : Row). leads_t
 pub same_row : (b : Board) → IsBoard b → (r s : Row) → IsIn r b → IsIn s b → r.path ≡ s.path → r ≡ s
 same_row b board r s m k e = grind (arith, pair_in, not_before_itself)
 
-module _ (b : Board) (board : IsBoard b) (t : Bridge → Bool) where
-  some_path : (r : Row) → IsIn r b → 0 < length r.path
-  some_path r m = (each_in (λ (x : Row). IsPath x.path) r b board.paths m).some
+-- a path of the board is some
+pub some_path : (b : Board) → IsBoard b → (r : Row) → IsIn r b → 0 < length r.path
+some_path b board r m = (each_in (λ (x : Row). IsPath x.path) r b board.paths m).some
 
+module _ (b : Board) (board : IsBoard b) (t : Bridge → Bool) where
   none_over_root : (p : Path) → 0 < length p → parent p ≡ [] → list_all t (bridges_above b p) ≡ true
   none_over_root p some up = all_from t (bridges_above b p) (λ d m. absurd (none d (over_from b p d m)))
     where
@@ -65,7 +66,7 @@ module _ (b : Board) (board : IsBoard b) (t : Bridge → Bool) where
       no_root (x ∷ q) h (inr e) = cc
 
       none : (d : Bridge) → IsOver b p d → ⊥
-      none d o = no_root o.row.path (some_path o.row o.there) (leads_up o.row.path [] (last_part p) (subst (λ (x : Path). leads_to o.row.path x ≡ true) split o.leads))
+      none d o = no_root o.row.path (some_path b board o.row o.there) (leads_up o.row.path [] (last_part p) (subst (λ (x : Path). leads_to o.row.path x ≡ true) split o.leads))
 
   all_behind : (r : Row) → IsIn r b → (p : Path) → 0 < length p → parent p ≡ r.path → list_all t (bridges_above b p) ≡ (list_all t (bridges_above b r.path) && list_all t (bridge_of r))
   all_behind r there p some up = same_test (list_all t (bridges_above b p)) (list_all t (bridges_above b r.path) && list_all t (bridge_of r)) down back
@@ -101,17 +102,11 @@ module _ (b : Board) (board : IsBoard b) (t : Bridge → Bool) where
 pub tells_root : (b : Board) → IsBoard b → (p : Path) → 0 < length p → parent p ≡ [] → Tells b p nothing_above
 tells_root b board p some up = grind (arith, none_over_root)
 
-and_true : (v : Bool) → v ≡ (v && true)
-and_true v = grind arith
-
 pub tells_behind : (b : Board) → IsBoard b → (n : ℕ) (r : Row) → slice_get b n ≡ Some r → (p : Path) → 0 < length p → parent p ≡ r.path → (up : Above) → Tells b r.path up → Tells b p (behind (suc n) r.decl up)
 tells_behind b board n r e p some at up tells = by_decl r.decl refl
   where
     there : IsIn r b
     there = index_in b n r e
-
-    on : bus_path b (suc n) ≡ parent p
-    on = rw e (sym at)
 
     below : suc n ≤ length b
     below = let w = slice_get_within b n r e in omega (arith, w)
@@ -120,4 +115,4 @@ tells_behind b board n r e p some at up tells = by_decl r.decl refl
     step t = all_behind b board t r there p some at
 
     by_decl : (d : Decl) → r.decl ≡ d → Tells b p (behind (suc n) d up)
-    by_decl d f = grind (arith, on, below, step, and_true)
+    by_decl d f = grind (arith, below, step, and_true)

@@ -1,5 +1,7 @@
 -- Buses by index.
-use Rattle.std.proofs.Common.{◌≡◌, ℕ, zero, suc, ◌≤◌, ◌<◌, [], ◌∷◌, map, length, Some, refl, ap, arith}
+use Rattle.std.proofs.Common.{◌≡◌, ℕ, zero, suc, ◌≤◌, map, length, Some, refl, ap, arith, sym, ◌∙◌}
+use Rattle.std.proofs.lemmas.List.{length-map}
+use Rattle.lists.proofs.Indices.{at_below, map_at}
 use Rattle.std.specs.List.{slice_get}
 use Rattle.model_board.specs.Paths.{Path}
 use Rattle.model_board.specs.Board.{Row, Board}
@@ -17,16 +19,9 @@ bus_behind b k r e = rw e
 -- a list by bus is read at a bus
 pub by_bus : {A : Type 0} (f : Path → A) (b : Board) (bus : ℕ) → bus ≤ length b → slice_get (map f (bus_paths b)) bus ≡ Some (f (bus_path b bus))
 by_bus f b zero h = refl
-by_bus f b (suc k) h = behind b k (omega arith)
-  where
-    behind : (b : Board) (k : ℕ) → k < length b → slice_get (map f (map (λ (r : Row). r.path) b)) k ≡ Some (f (bus_path b (suc k)))
-    behind [] k h = absurd (omega arith)
-    behind (r ∷ b) zero h = refl
-    behind (r ∷ b) (suc k) h = behind b k (omega arith)
+by_bus f b (suc k) h =
+    let r = at_below b k (omega arith) in
+    map_at f (map (λ (s : Row). s.path) b) k r.0.path (map_at (λ (s : Row). s.path) b k r.0 r.1) ∙ ap (λ p. Some (f p)) (sym (bus_behind b k r.0 r.1))
 
 pub count_buses : {A : Type 0} (f : Path → A) (b : Board) → length (map f (bus_paths b)) ≡ suc (length b)
-count_buses f b = ap suc (count b)
-  where
-    count : (b : Board) → length (map f (map (λ (r : Row). r.path) b)) ≡ length b
-    count [] = refl
-    count (r ∷ b) = ap suc (count b)
+count_buses f b = length-map (bus_paths b) f ∙ ap suc (length-map b (λ (r : Row). r.path))

@@ -1,5 +1,6 @@
 -- The buses of a board by index: the functions of a bus stand after its bridge, and no two buses are one.
 use Rattle.std.proofs.Common.{◌≡◌, ℕ, zero, suc, ◌+◌, ◌<◌, ◌≤◌, ◌⊎◌, inl, inr, Bool, true, false, Some, List, [], ◌∷◌, length, drop, refl, sym, ap, ◌∙◌, subst, arith}
+use Rattle.window_packing.proofs.BusIndex.{bus_behind}
 use Rattle.std.specs.Prelude.{filter, slice_get, IsTrue}
 use Rattle.std.proofs.lemmas.Bool.{cases_lt}
 use Rattle.model_board.specs.Paths.{Path, path_eq, path_before, leads_to, parent, IsPath}
@@ -47,10 +48,7 @@ module _ (b : Board) (board : IsBoard b) where
       by_test j s l there true e = absurd (omega (arith, stands_after i j r s at there (path_same (parent s.path) r.path e)))
 
   bus_row : (n : ℕ) → n < length b → (s : Row) × (slice_get b n ≡ Some s) × (bus_path b (suc n) ≡ s.path)
-  bus_row n l = by_row (at_below b n l)
-    where
-      by_row : (s : Row) × (slice_get b n ≡ Some s) → (s : Row) × (slice_get b n ≡ Some s) × (bus_path b (suc n) ≡ s.path)
-      by_row (s, e) = (s, e, rw e)
+  bus_row n l = let s = at_below b n l in (s.0, s.1, bus_behind b n s.0 s.1)
 
   -- the bus of a row stands behind an earlier row, or is bus 0
   pub bus_before : (i : ℕ) (r : Row) (k : ℕ) → slice_get b i ≡ Some r → bus_path b k ≡ parent r.path → k ≤ length b → k ≤ i

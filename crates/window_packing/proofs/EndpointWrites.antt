@@ -59,9 +59,6 @@ one_write v n file =
     next : 0x10 + 4 * (n + 1) ≡ 0x10 + 4 * n + 1 + 1 + 1 + 1
     next = omega arith
 
-    byte_1 : v % 2 ^ 32 / 256 % 256 ≡ v / 256 % 256
-    byte_1 = omega arith
-
     byte_2 : v % 2 ^ 32 / 256 / 256 % 256 ≡ v / 256 / 256 % 256
     byte_2 = omega arith
 
@@ -69,7 +66,7 @@ one_write v n file =
     byte_3 = omega arith
 
     low : write (four true true true true) (v % 2 ^ 32) (base_register n) file ≡ write (four true true true true) v (base_register n) file
-    low = grind (arith, byte_3, byte_2, byte_1)
+    low = grind (arith, byte_3, byte_2)
 
 -- a base over 0 leaves the base
 narrow_written : (b : BaseAddress) → IsLawfulBase b → base_width b.kind ≡ 32 → 4 ≡ 4 * registers_of b.kind
@@ -178,24 +175,21 @@ base_leaves_config d behind multifunction command index (mem64 pref) size base h
 abbrev pub based : (Region → ℕ) → Region → BaseAddress
 based bases r = base_of r.index r.kind r.size (bases r)
 
-all_leave_config : (d : Endpoint) → StandBehind d → (multifunction : Bool) (command : ℕ) (bases : Region → ℕ) (rs : List Region) → Each (λ r. r.index + registers_of r.kind ≤ 6) rs
-    → file_after (flat_map base_words (map (based bases) rs)) (config_cells d multifunction command) ≡ config_cells d multifunction command
-all_leave_config d behind multifunction command bases [] h = refl
-all_leave_config d behind multifunction command bases (r ∷ rs) h =
-    after_joined (base_words (based bases r)) (flat_map base_words (map (based bases) rs)) (config_cells d multifunction command)
-    ∙ ap (file_after (flat_map base_words (map (based bases) rs))) (base_leaves_config d behind multifunction command r.index r.kind r.size (bases r) h.0)
-    ∙ all_leave_config d behind multifunction command bases rs h.1
+-- what the words of each base leave the words of all leave
+all_leave : (file : File) (bases : Region → ℕ) (rs : List Region) → Each (λ r. file_after (base_words (based bases r)) file ≡ file) rs → file_after (flat_map base_words (map (based bases) rs)) file ≡ file
+all_leave file bases [] h = refl
+all_leave file bases (r ∷ rs) h =
+    after_joined (base_words (based bases r)) (flat_map base_words (map (based bases) rs)) file
+    ∙ ap (file_after (flat_map base_words (map (based bases) rs))) h.0
+    ∙ all_leave file bases rs h.1
 
 abbrev IsBehind : Region → Region → Type 0
 IsBehind r s = r.index + registers_of r.kind ≤ s.index
 
 -- the words of later regions leave a region, and its own leave them
 later_leave : (bases : Region → ℕ) (r : Region) (rs : List Region) → Each (IsBehind r) rs → file_after (flat_map base_words (map (based bases) rs)) (region_cells bases r) ≡ region_cells bases r
-later_leave bases r [] h = refl
-later_leave bases r (s ∷ rs) h =
-    after_joined (base_words (based bases s)) (flat_map base_words (map (based bases) rs)) (region_cells bases r)
-    ∙ ap (file_after (flat_map base_words (map (based bases) rs))) (words_leave bases r s.index s.kind s.size (bases s) (inr h.0))
-    ∙ later_leave bases r rs h.1
+later_leave bases r rs h = all_leave (region_cells bases r) bases rs
+    (each_map (IsBehind r) (λ s. file_after (base_words (based bases s)) (region_cells bases r) ≡ region_cells bases r) rs (λ s k. words_leave bases r s.index s.kind s.size (bases s) (inr k)) h)
 
 leaves_later : (bases : Region → ℕ) (b : BaseAddress) (rs : List Region) → Each (λ s. b.index + registers_of b.kind ≤ s.index) rs → file_after (base_words b) (flat_map (region_cells bases) rs) ≡ flat_map (region_cells bases) rs
 leaves_later bases b [] h = grind arith
@@ -236,7 +230,8 @@ bases_written : (d : Endpoint) → StandBehind d → HasLawfulRegions d.regions 
 bases_written d behind regions multifunction bases lawful =
     let words = flat_map base_words (map (based bases) d.regions) in
     joined_after words (config_cells d multifunction 0) (flat_map (region_cells no_base) d.regions)
-    ∙ ap₂ (λ (x y : File). x ++ y) (all_leave_config d behind multifunction 0 bases d.regions (each_map IsLawfulRegion (λ r. r.index + registers_of r.kind ≤ 6) d.regions (λ r h. h.registers) regions.each))
+    ∙ ap₂ (λ (x y : File). x ++ y) (all_leave (config_cells d multifunction 0) bases d.regions (each_map IsLawfulRegion (λ r. file_after (base_words (based bases r)) (config_cells d multifunction 0) ≡ config_cells d multifunction 0) d.regions
+    (λ r h. base_leaves_config d behind multifunction 0 r.index r.kind r.size (bases r) h.registers) regions.each))
     (regions_written bases d.regions regions.in_order lawful)
 
 -- ---- Command

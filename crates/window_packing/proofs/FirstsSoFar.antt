@@ -1,9 +1,10 @@
 -- The first addresses of buses, one after the other.
-use Rattle.std.proofs.Common.{◌≡◌, ℕ, suc, ◌+◌, ◌≤◌, ◌<◌, ◌⊎◌, inl, inr, List, [], ◌∷◌, ◌++◌, map, length, Some, refl, sym, ap, ap₂, ◌∙◌, subst, arith, length-append}
+use Rattle.std.proofs.Common.{◌≡◌, ℕ, suc, ◌+◌, ◌≤◌, ◌<◌, ◌⊎◌, inl, inr, List, [], ◌∷◌, ◌++◌, map, length, Some, refl, sym, ap, ◌∙◌, subst, arith, length-append}
+use Rattle.std.proofs.lemmas.Option.{get_or_from_slice_get, slice_get_within}
+use Rattle.std.proofs.lemmas.List.{same_lists}
 use Rattle.std.specs.Prelude.{IsTrue}
 use Rattle.std.specs.List.{slice_get}
 use Rattle.std.proofs.lemmas.Bool.{cases_lt}
-use Rattle.std.proofs.lemmas.Option.{slice_get_within}
 use Rattle.model_registers.specs.Apertures.{Apertures, IsLawfulApertures}
 use Rattle.lists.specs.Elements.{Each, IsIn}
 use Rattle.model_board.specs.Paths.{Part, parent, last_part}
@@ -52,13 +53,9 @@ module _ (b : Board) (a : Apertures) (pool : Pool) where
           subst (λ j. slice_get (xs ++ n ∷ []) j ≡ Some (bus_first b a pool (bus_path b k))) at (last_at xs n ∙ ap (λ j. Some j) (e ∙ ap (λ j. bus_first b a pool (bus_path b j)) same))
 
   pub all_firsts : (xs : List ℕ) → AreFirsts b a pool (length b) xs → xs ≡ map (bus_first b a pool) (bus_paths b)
-  all_firsts xs h = same xs (map (bus_first b a pool) (bus_paths b)) (h.count ∙ sym (count_buses (bus_first b a pool) b)) (λ k l. h.each k (omega (arith, l, h.count)) ∙ sym (by_bus (bus_first b a pool) b k (omega (arith, l, h.count))))
-    where
-      same : (xs ys : List ℕ) → length xs ≡ length ys → ((k : ℕ) → k < length xs → slice_get xs k ≡ slice_get ys k) → xs ≡ ys
-      same [] [] n h = refl
-      same [] (y ∷ ys) n h = absurd (omega arith)
-      same (x ∷ xs) [] n h = absurd (omega arith)
-      same (x ∷ xs) (y ∷ ys) n h = let head : Some x ≡ Some y = h 0 (omega arith) in let e : x ≡ y = cc in ap₂ (λ z zs. z ∷ zs) e (same xs ys (omega arith) (λ k l. h (suc k) (omega arith)))
+  all_firsts xs h = same_lists xs (map (bus_first b a pool) (bus_paths b)) (h.count ∙ sym (count_buses (bus_first b a pool) b)) (λ k d l.
+      let low : k ≤ length b = omega (arith, l, h.count) in
+      get_or_from_slice_get xs k (bus_first b a pool (bus_path b k)) d (h.each k low) ∙ sym (get_or_from_slice_get (map (bus_first b a pool) (bus_paths b)) k (bus_first b a pool (bus_path b k)) d (by_bus (bus_first b a pool) b k low)))
 
 -- ---- the bus of a row
 

@@ -1,8 +1,11 @@
 -- Buses packed from the last row to the first: what is gathered of the items of the buses that are left.
-use Rattle.std.proofs.Common.{◌≡◌, ℕ, zero, suc, ◌+◌, ◌<◌, ◌≤◌, ◌^◌, Bool, true, false, cond, Some, List, [], ◌∷◌, ◌++◌, length, drop, refl, sym, ap, ◌∙◌, subst, arith}
+use Rattle.std.proofs.Common.{◌≡◌, ℕ, suc, ◌+◌, ◌≤◌, ◌^◌, Bool, true, false, cond, Some, List, [], ◌∷◌, ◌++◌, length, drop, refl, sym, ap, ◌∙◌, subst, arith, length-append, get_or-set_other, get_or-set_same}
+use Rattle.std.proofs.lemmas.Option.{slice_get_within, get_or_from_slice_get}
+use Rattle.std.proofs.lemmas.List.{drop_more, get_or_append_left, drop_all, reverse-append}
+use Rattle.std.proofs.Math.ListN.{length-set}
+use Rattle.lists.proofs.Indices.{read_at}
 use Rattle.std.specs.Prelude.{map, flat_map, reverse, slice_get, slice_set, All}
 use Rattle.std.specs.List.Sorted.{IsPermutation}
-use Rattle.std.proofs.lemmas.List.{drop_all, reverse-append}
 use Rattle.std.proofs.lemmas.List.Sorted.{IsPermutation-refl, IsPermutation-trans, IsPermutation-append_comm, IsPermutation-append_left}
 use Rattle.std.proofs.lemmas.Bool.{cases_lt}
 use Rattle.lists.specs.Elements.{Each}
@@ -21,41 +24,26 @@ use Rattle.window_packing.proofs.BusIndices.{rows_behind, bus_index}
 -- ---- lists by index
 
 pub drop_at : {A : Type 0} (i : ℕ) (xs : List A) (x : A) → slice_get xs i ≡ Some x → drop i xs ≡ x ∷ drop (i + 1) xs
-drop_at zero [] x e = cc
-drop_at zero (y ∷ xs) x e = let same : y ≡ x = cc in ap (λ z. z ∷ xs) same
-drop_at (suc i) [] x e = cc
-drop_at (suc i) (y ∷ xs) x e = let next : suc i + 1 ≡ suc (i + 1) = omega arith in rw next (drop_at i xs x e)
+drop_at i xs x e = drop_more xs i x (slice_get_within xs i x e) ∙ ap (λ z. z ∷ drop (i + 1) xs) (get_or_from_slice_get xs i x x e)
 
 pub front_at : {A : Type 0} (xs ys : List A) (k : ℕ) (x : A) → slice_get xs k ≡ Some x → slice_get (xs ++ ys) k ≡ Some x
-front_at [] ys k x e = cc
-front_at (z ∷ xs) ys zero x e = e
-front_at (z ∷ xs) ys (suc k) x e = front_at xs ys k x e
+front_at xs ys k x e =
+    let l = slice_get_within xs k x e in
+    read_at (xs ++ ys) k x (omega (arith, l, length-append xs ys)) (sym (get_or_append_left xs ys x k l ∙ get_or_from_slice_get xs k x x e))
 
 pub last_at : {A : Type 0} (xs : List A) (x : A) → slice_get (xs ++ x ∷ []) (length xs) ≡ Some x
 last_at [] x = refl
 last_at (y ∷ xs) x = last_at xs x
 
 pub set_other : {A : Type 0} (xs : List A) (i k : ℕ) (x y : A) → (i ≡ k → ⊥) → slice_get (slice_set xs i x) k ≡ Some y → slice_get xs k ≡ Some y
-set_other [] i k x y ne e = e
-set_other (z ∷ xs) zero zero x y ne e = absurd (ne refl)
-set_other (z ∷ xs) zero (suc k) x y ne e = e
-set_other (z ∷ xs) (suc i) zero x y ne e = e
-set_other (z ∷ xs) (suc i) (suc k) x y ne e = set_other xs i k x y (λ s. ne (ap suc s)) e
+set_other xs i k x y ne e =
+    let l = slice_get_within (slice_set xs i x) k y e in
+    read_at xs k y (omega (arith, l, length-set xs i x)) (sym (get_or_from_slice_get (slice_set xs i x) k y y e) ∙ get_or-set_other xs i k x y (λ s. ne (sym s)))
 
 pub set_here : {A : Type 0} (xs : List A) (i : ℕ) (x y : A) → slice_get (slice_set xs i x) i ≡ Some y → y ≡ x
-set_here [] i x y e = cc
-set_here (z ∷ xs) zero x y e = cc
-set_here (z ∷ xs) (suc i) x y e = set_here xs i x y e
-
-pub length_set : {A : Type 0} (xs : List A) (i : ℕ) (x : A) → length (slice_set xs i x) ≡ length xs
-length_set [] i x = refl
-length_set (z ∷ xs) zero x = refl
-length_set (z ∷ xs) (suc i) x = ap suc (length_set xs i x)
-
-below_length : {A : Type 0} (xs : List A) (k : ℕ) (x : A) → slice_get xs k ≡ Some x → k < length xs
-below_length [] k x e = cc
-below_length (y ∷ xs) zero x e = omega arith
-below_length (y ∷ xs) (suc k) x e = omega (arith, below_length xs k x e)
+set_here xs i x y e =
+    let l = slice_get_within (slice_set xs i x) i y e in
+    sym (get_or_from_slice_get (slice_set xs i x) i y y e) ∙ get_or-set_same xs i x y (omega (arith, l, length-set xs i x))
 
 -- ---- what is gathered
 
@@ -77,32 +65,22 @@ module _ (b : Board) (a : Apertures) (pool : Pool) (board : IsBoard b) {V : Type
       let end : drop (length b) b ≡ [] = drop_all (length b) b (omega arith) in
       record {
         count = count;
-        own = λ k v at. let empty : contents v ≡ [] = each_none k v at in rw (end, empty) (IsPermutation-refl []);
+        own = λ k v at. let empty : contents v ≡ [] = subst (λ x. contents x ≡ []) (get_or_from_slice_get buses k v v at) (none k v (slice_get_within buses k v at)) in rw (end, empty) (IsPermutation-refl []);
         packed = rw end refl;
         ends = tt;
       }
-    where
-      at_none : (vs : List V) → All (λ v. contents v ≡ []) vs → (k : ℕ) (v : V) → slice_get vs k ≡ Some v → contents v ≡ []
-      at_none [] h k v e = cc
-      at_none (u ∷ vs) h zero v e = let same : u ≡ v = cc in subst (λ x. contents x ≡ []) same (h 0 u (omega arith))
-      at_none (u ∷ vs) h (suc k) v e = at_none vs (λ j d l. h (suc j) d (omega arith)) k v e
-
-      each_none : (k : ℕ) (v : V) → slice_get buses k ≡ Some v → contents v ≡ []
-      each_none k v at = at_none buses none k v at
 
   -- the last of the buses that are left has all its items
   pub last_gathered : (i : ℕ) (r : Row) (buses : List V) (v : V) (packs : List BusPack) → slice_get b i ≡ Some r → IsGathered b a pool contents (i + 1) (buses ++ v ∷ []) packs
       → length buses ≡ i + 1 → IsPermutation (items_on b a pool r.path) (contents v)
   last_gathered i r buses v packs at h count =
-      let whole : bus_path b (i + 1) ≡ r.path = path_at i at in
+      let one : i + 1 ≡ suc i = omega arith in
+      let whole : bus_path b (i + 1) ≡ r.path = rw (one, at) refl in
       let there : slice_get (buses ++ v ∷ []) (i + 1) ≡ Some v = subst (λ n. slice_get (buses ++ v ∷ []) n ≡ Some v) count (last_at buses v) in
       let gathered : IsPermutation (items_from b a pool (drop (i + 1) b) (bus_path b (i + 1))) (contents v) = h.own (i + 1) v there in
       let all : items_from b a pool (drop (i + 1) b) (bus_path b (i + 1)) ≡ items_on b a pool r.path =
       ap (items_from b a pool (drop (i + 1) b)) whole ∙ ap (flat_map (items_of b a pool (items_on b a pool))) (rows_behind b board i r at) ∙ sym (items_by_bus b board a pool r.path) in
       subst (λ (is : List Item). IsPermutation is (contents v)) all gathered
-    where
-      path_at : (i : ℕ) → slice_get b i ≡ Some r → bus_path b (i + 1) ≡ r.path
-      path_at i at = let one : i + 1 ≡ suc i = omega arith in rw (one, at) refl
 
   -- in the end bus 0 has
   pub root_gathered : (v : V) (packs : List BusPack) → IsGathered b a pool contents 0 (v ∷ []) packs → IsPermutation (items_on b a pool []) (contents v)
@@ -114,7 +92,7 @@ module _ (b : Board) (a : Apertures) (pool : Pool) (board : IsBoard b) {V : Type
       → bus_path b k ≡ parent r.path → k ≤ length b → slice_get buses k ≡ Some u → contents w ≡ contents u ++ items_of b a pool (items_on b a pool) r
       → IsGathered b a pool contents i (slice_set buses k w) (packs ++ pack ∷ [])
   more_gathered i r buses v packs pack k u w at h count is ends up within here added = record {
-    count = length_set buses k w ∙ count;
+    count = length-set buses k w ∙ count;
     own = own;
     packed = reverse-append packs (pack ∷ []) ∙ ap (λ (x : List BusPack). pack ∷ x) h.packed ∙ ap (λ (x : BusPack). x ∷ map (λ (s : Row). pack_of b a pool s.path) (drop (i + 1) b)) is ∙ ap (map (λ (s : Row). pack_of b a pool s.path)) (sym (drop_at i b r at));
     ends = rw (reverse-append packs (pack ∷ [])) (ends, h.ends);
@@ -161,7 +139,7 @@ module _ (b : Board) (a : Apertures) (pool : Pool) (board : IsBoard b) {V : Type
           not_there false same = refl
           not_there true same =
               let there : slice_get buses j ≡ Some x = set_other buses k j w x other e in
-              let few : j ≤ length b = omega (arith, below_length b i r at, below_length buses j x there, count) in
+              let few : j ≤ length b = omega (arith, slice_get_within b i r at, slice_get_within buses j x there, count) in
               absurd (other (bus_index b board k j within few (up ∙ path_same (parent r.path) (bus_path b j) same)))
 
       own : (j : ℕ) (x : V) → slice_get (slice_set buses k w) j ≡ Some x → IsPermutation (items_from b a pool (drop i b) (bus_path b j)) (contents x)

@@ -1,8 +1,11 @@
 -- The rows of a placement are those of the layout.
 use Rattle.std.proofs.Common.{◌≡◌, ℕ, zero, suc, ◌+◌, ◌-◌, ◌≤◌, ◌<◌, List, [], ◌∷◌, ◌++◌, length, map, take, Some, refl, sym, ap, ap₂, ◌∙◌, subst, arith, append-nil, append_assoc}
-use Rattle.std.specs.Prelude.{flat_map, unwrap_or}
+use Rattle.std.proofs.lemmas.Option.{slice_get-get_or, unwrap_or-slice_get, slice_get_within}
+use Rattle.std.proofs.lemmas.List.{length-map, map-id}
+use Rattle.std.proofs.lemmas.Simd.{map-map}
+use Rattle.window_packing.proofs.BusIndex.{row_in, by_bus}
+use Rattle.std.specs.Prelude.{flat_map}
 use Rattle.std.specs.List.{slice_get}
-use Rattle.std.proofs.lemmas.Option.{slice_get_within}
 use Rattle.lists.specs.Elements.{Each}
 use Rattle.model_registers.specs.Apertures.{Apertures}
 use Rattle.model_board.specs.Paths.{Path}
@@ -16,19 +19,13 @@ use Rattle.window_packing.specs.Buses.{bus_path}
 use Rattle.window_packing.specs.Packs.{BusPack, pack_of}
 use Rattle.window_packing.specs.Placed.{bus_paths, PlacedPool, IsPlaced, Placement, IsPlacement}
 use Rattle.window_packing.specs.LayoutRows.{bus_at, rows_along, rows_in, rows_of, IsListable, AreListable}
-use Rattle.window_packing.proofs.BusIndex.{by_bus}
 use Rattle.window_packing.proofs.PlacedBuses.{rows_by_bus}
 use Rattle.window_packing.proofs.PlacedFunctions.{count_pl, count_firsts, first_is, bus_depth, bus_room}
 
 -- ---- bus by bus
 
 pub path_at : (paths : List Path) (k : ℕ) → k ≤ length paths → slice_get ([] ∷ paths) k ≡ Some (bus_at paths k)
-path_at paths k h = got ([] ∷ paths) k (omega arith)
-  where
-    got : (ps : List Path) (k : ℕ) → k < length ps → slice_get ps k ≡ Some (unwrap_or (slice_get ps k) [])
-    got [] k h = absurd (omega arith)
-    got (p ∷ ps) zero h = refl
-    got (p ∷ ps) (suc k) h = got ps k (omega arith)
+path_at paths k h = slice_get-get_or ([] ∷ paths) k [] (omega arith) ∙ ap (λ (p : Path). Some p) (sym (unwrap_or-slice_get ([] ∷ paths) k []))
 
 pub bus_of_path : (paths : List Path) (bus : ℕ) (p : Path) → (bus ≡ 0 → ⊥) → slice_get paths (bus - 1) ≡ Some p → bus_at paths bus ≡ p
 bus_of_path paths bus p some e = grind arith
@@ -55,38 +52,21 @@ along_all b a pool [] = refl
 along_all b a pool (p ∷ bs) = ap (λ xs. bus_rows b a pool p ++ xs) (along_all b a pool bs)
 
 bus_same : (b : Board) (k : ℕ) → k ≤ length b → bus_path b k ≡ bus_at (map (λ (r : Row). r.path) b) k
-bus_same b k h = by_index k h
-  where
-    some_path : (x y : Path) → Some x ≡ Some y → x ≡ y
-    some_path x y e = cc
-
-    count : (b : Board) → length (map (λ (r : Row). r.path) b) ≡ length b
-    count [] = refl
-    count (r ∷ b) = ap suc (count b)
-
-    self : (ps : List Path) → map (λ (p : Path). p) ps ≡ ps
-    self [] = refl
-    self (p ∷ ps) = ap (λ (xs : List Path). p ∷ xs) (self ps)
-
-    by_index : (k : ℕ) → k ≤ length b → bus_path b k ≡ bus_at (map (λ (r : Row). r.path) b) k
-    by_index k h = some_path (bus_path b k) (bus_at (map (λ (r : Row). r.path) b) k)
-        (sym (by_bus (λ (p : Path). p) b k h) ∙ ap (λ (xs : List Path). slice_get xs k) (self (bus_paths b)) ∙ path_at (map (λ (r : Row). r.path) b) k (omega (arith, count b)))
+bus_same b k h =
+    let same : Some (bus_path b k) ≡ Some (bus_at (map (λ (r : Row). r.path) b) k) =
+    sym (by_bus (λ (p : Path). p) b k h) ∙ ap (λ (xs : List Path). slice_get xs k) (map-id (bus_paths b)) ∙ path_at (map (λ (r : Row). r.path) b) k (omega (arith, length-map b (λ (r : Row). r.path))) in cc
 
 module _ (b : Board) (a : Apertures) (board : IsBoard b) (lawful : HasLawfulDecls b) where
   abbrev paths : List Path
   paths = map (λ (r : Row). r.path) b
-
-  count_paths : (rs : Board) → length (map (λ (r : Row). r.path) rs) ≡ length rs
-  count_paths [] = refl
-  count_paths (r ∷ rs) = ap suc (count_paths rs)
 
   pool_rows_of : (pool : Pool) (pl : PlacedPool) → IsPlaced b a pool pl → rows_in pool paths pl ≡ pool_rows b a pool
   pool_rows_of pool pl h = ap₂ (λ (ns : List ℕ) (ps : List BusPack). rows_along pool (bus_paths b) ns ps) h.firsts h.packs ∙ along_all b a pool (bus_paths b) ∙ rows_by_bus b a pool board lawful
 
   listable : (pool : Pool) (pl : PlacedPool) → IsPlaced b a pool pl → IsListable paths pl
   listable pool pl h = record {
-    firsts = count_firsts b a board lawful pool pl h ∙ ap suc (sym (count_paths b));
-    packs = count_pl b a board lawful pool pl h ∙ ap suc (sym (count_paths b));
+    firsts = count_firsts b a board lawful pool pl h ∙ ap suc (sym (length-map b (λ (r : Row). r.path)));
+    packs = count_pl b a board lawful pool pl h ∙ ap suc (sym (length-map b (λ (r : Row). r.path)));
     deep = λ k p e. subst (λ (q : Path). Each (λ s. length q < 16) p.spots) (bus_same b k (inside k p e)) (bus_depth b a board lawful pool pl h k (inside k p e) p e);
     room = λ k n p f e. bus_room b a board lawful pool pl h k (inside k p e) p e n (first_is b a board lawful pool pl h k (inside k p e) n f);
   }
@@ -104,5 +84,4 @@ module _ (b : Board) (a : Apertures) (board : IsBoard b) (lawful : HasLawfulDecl
 
 -- the paths of a table
 pub table_paths : (rows : List TableRow) → map (λ (r : TableRow). r.path) rows ≡ map (λ (r : Row). r.path) (board_in rows)
-table_paths [] = refl
-table_paths (r ∷ rows) = ap (λ (xs : List Path). r.path ∷ xs) (table_paths rows)
+table_paths rows = sym (map-map (λ (r : Row). r.path) row_in rows)

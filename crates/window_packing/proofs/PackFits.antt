@@ -1,5 +1,5 @@
 -- Whether a pool fits, by the pack of bus 0.
-use Rattle.std.proofs.Common.{◌≡◌, inl, true, List, [], ◌∷◌, length, refl, ap, subst, arith}
+use Rattle.std.proofs.Common.{◌≡◌, inl, true, List, [], ◌∷◌, refl, ap, subst}
 use Rattle.lists.specs.Elements.{IsIn}
 use Rattle.model_set_up.specs.Pools.{Pool}
 use Rattle.model_registers.specs.Apertures.{Apertures}
@@ -13,7 +13,3 @@ no_items (i ∷ is) e = let s = spot_of i (i ∷ is) (inl refl) in absurd (subst
 
 pub fits_empty : (a : Apertures) (pool : Pool) (is : List Item) → spots is ≡ [] → fits_items a pool is ≡ true
 fits_empty a pool is e = ap (fits_items a pool) (no_items is e)
-
-pub empty_if : {A : Type 0} (xs : List A) → length xs ≡ 0 → xs ≡ []
-empty_if [] e = refl
-empty_if (x ∷ xs) e = absurd (omega arith)

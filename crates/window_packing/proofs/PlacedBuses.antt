@@ -25,7 +25,7 @@ use Rattle.model_set_up.proofs.ItemOrder.{Strictly, items_strict}
 use Rattle.model_set_up.proofs.Nesting.{HasItems, bus_first-snoc, window_of, bridge_of_bus}
 use Rattle.model_set_up.proofs.LawfulPlacement.{row_in, pool_lawful}
 use Rattle.model_set_up.proofs.DeclaredRows.{has_window_row}
-use Rattle.window_packing.proofs.BridgesAbove.{same_row}
+use Rattle.window_packing.proofs.BridgesAbove.{same_row, some_path}
 use Rattle.window_packing.proofs.BusItems.{items_align, alignment_bounds}
 use Rattle.window_packing.proofs.SpotSearch.{AreStrict}
 
@@ -73,12 +73,8 @@ module _ (b : Board) (a : Apertures) (pool : Pool) (board : IsBoard b) (lawful :
   pub spots_strict : (bus : Path) → AreStrict (spots (items_on b a pool bus))
   spots_strict bus = strict_from 0 (in_order (items_on b a pool bus)) (items_strict b a pool bus board lawful)
 
-  -- a path of the board is some
-  some_path : (r : Row) → IsIn r b → 0 < length r.path
-  some_path r m = (each_in (λ (x : Row). IsPath x.path) r b board.paths m).some
-
   split : (r : Row) → IsIn r b → r.path ≡ parent r.path ++ last_part r.path ∷ []
-  split r m = snoc r.path (some_path r m)
+  split r m = snoc r.path (some_path b board r m)
 
   -- ---- the alignment of what is looked for
 
@@ -150,7 +146,7 @@ module _ (b : Board) (a : Apertures) (pool : Pool) (board : IsBoard b) (lawful :
       by_items : (is : List Item) → items_on b a pool r.path ≡ is → is ≡ []
       by_items [] e = refl
       by_items (i ∷ is) e =
-          let f = bridge_of_bus b a pool board lawful r.path (i, subst (IsIn i) (sym e) (inl refl)) (some_path r m) in
+          let f = bridge_of_bus b a pool board lawful r.path (i, subst (IsIn i) (sym e) (inl refl)) (some_path b board r m) in
           let row : f.0 ≡ r = same_row b board f.0 r f.1 m f.2 in
           let clash : true ≡ false = sym f.3 ∙ ap (λ (x : Row). is_bridge x.decl) row ∙ plain in cc
 

@@ -1,5 +1,5 @@
 -- Where a pool fits, none of its buses ends above 2 ^ 63; where one does, bus 0 does.
-use Rattle.std.proofs.Common.{◌≡◌, ◌<◌, ◌≤◌, ◌^◌, ◌⊎◌, inl, true, List, [], ◌∷◌, refl, arith}
+use Rattle.std.proofs.Common.{ℕ, ◌≡◌, ◌<◌, ◌≤◌, ◌^◌, ◌⊎◌, inl, true, List, [], ◌∷◌, refl, arith}
 use Rattle.std.specs.Prelude.{IsFalse}
 use Rattle.std.proofs.lemmas.Bool.{leb-true}
 use Rattle.model_registers.specs.Apertures.{IsLawfulApertures, Apertures}
@@ -13,6 +13,11 @@ use Rattle.model_set_up.proofs.Nesting.{HasItems, nested, IsWithin, root_has}
 
 ends_below : (a : Apertures) → IsLawfulApertures a → (pool : Pool) → aperture_end a pool ≤ 2 ^ 63
 ends_below a h pool = grind arith
+
+-- a bus without items ends where it begins
+ends_within : (is : List Item) (limit : ℕ) → ((i : Item) × IsIn i is → end_from 0 (in_order is) ≤ limit) → end_from 0 (in_order is) ≤ limit
+ends_within [] limit f = omega arith
+ends_within (i ∷ is) limit f = f (i, inl refl)
 
 module _ (b : Board) (a : Apertures) (pool : Pool) (board : IsBoard b) (lawful : HasLawfulDecls b) (apertures : IsLawfulApertures a) where
   root_ends : (is : List Item) → ((i : Item) × IsIn i is) → fits_items a pool is ≡ true → end_from 0 (in_order is) ≤ 2 ^ 63
@@ -28,11 +33,7 @@ module _ (b : Board) (a : Apertures) (pool : Pool) (board : IsBoard b) (lawful :
       omega (arith, inside.begins, inside.ends, root)
 
   all_end : fits b a pool ≡ true → (bus : Path) → end_from 0 (in_order (items_on b a pool bus)) ≤ 2 ^ 63
-  all_end h bus = by_items (items_on b a pool bus) (bus_ends h bus)
-    where
-      by_items : (is : List Item) → ((i : Item) × IsIn i is → end_from 0 (in_order is) ≤ 2 ^ 63) → end_from 0 (in_order is) ≤ 2 ^ 63
-      by_items [] f = omega arith
-      by_items (i ∷ is) f = f (i, inl refl)
+  all_end h bus = ends_within (items_on b a pool bus) (2 ^ 63) (bus_ends h bus)
 
   -- so a pool with a bus that does doesn't fit
   pub no_fit : (bus : Path) → 2 ^ 63 < end_from 0 (in_order (items_on b a pool bus)) → IsFalse (fits b a pool)
@@ -40,11 +41,7 @@ module _ (b : Board) (a : Apertures) (pool : Pool) (board : IsBoard b) (lawful :
 
   -- bus 0 ends where the buses behind its bridges do, or above
   pub root_past : (bus : Path) → 2 ^ 63 < end_from 0 (in_order (items_on b a pool bus)) → 2 ^ 63 < end_from 0 (in_order (items_on b a pool []))
-  root_past bus h = by_items (items_on b a pool bus) below h
+  root_past bus h = omega (arith, h, ends_within (items_on b a pool bus) (end_from 0 (in_order (items_on b a pool []))) below)
     where
       below : HasItems b a pool bus → end_from 0 (in_order (items_on b a pool bus)) ≤ end_from 0 (in_order (items_on b a pool []))
       below has = let inside : IsWithin b a pool board lawful [] bus = nested b a pool board lawful bus has [] (from_root bus) in omega (arith, inside.begins, inside.ends)
-
-      by_items : (is : List Item) → ((i : Item) × IsIn i is → end_from 0 (in_order is) ≤ end_from 0 (in_order (items_on b a pool []))) → 2 ^ 63 < end_from 0 (in_order is) → 2 ^ 63 < end_from 0 (in_order (items_on b a pool []))
-      by_items [] f k = absurd (omega (arith, k))
-      by_items (i ∷ is) f k = omega (arith, f (i, inl refl), k)

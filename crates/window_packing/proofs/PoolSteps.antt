@@ -1,8 +1,9 @@
 -- The steps by which the buses of a pool are packed.
-use Rattle.std.proofs.Common.{◌≡◌, ℕ, zero, suc, ◌+◌, ◌-◌, ◌<◌, ◌≤◌, ◌^◌, Option, Some, List, [], ◌∷◌, ◌++◌, length, length-append, get_or, refl, sym, ap, ◌∙◌, subst, arith}
+use Rattle.std.proofs.Common.{◌≡◌, ℕ, zero, suc, ◌+◌, ◌-◌, ◌<◌, ◌≤◌, ◌^◌, Option, Some, List, [], ◌∷◌, ◌++◌, length, length-append, sym, ap, ◌∙◌, subst, arith}
+use Rattle.std.proofs.lemmas.List.{length-map, reverse-append}
+use Rattle.std.proofs.lemmas.Simd.{map-map}
 use Rattle.std.specs.Prelude.{map, reverse, slice_get, slice_set, option_to_list}
 use Rattle.std.specs.List.Sorted.{IsPermutation}
-use Rattle.std.proofs.lemmas.List.{reverse-append}
 use Rattle.lists.specs.Elements.{Each}
 use Rattle.lists.proofs.EachLemmas.{each_map, each_both}
 use Rattle.model_board.specs.Paths.{Path, parent}
@@ -21,22 +22,12 @@ use Rattle.window_packing.proofs.Gathering.{IsGathered, last_gathered, root_gath
 
 -- ---- what is said of the bridges above a row
 
-maps_at : {A B D : Type 0} (f : A → D) (g : B → D) (xs : List A) (ys : List B) (i : ℕ) (x : A) (y : B) → map f xs ≡ map g ys → slice_get xs i ≡ Some x → slice_get ys i ≡ Some y → f x ≡ g y
+pub maps_at : {A B D : Type 0} (f : A → D) (g : B → D) (xs : List A) (ys : List B) (i : ℕ) (x : A) (y : B) → map f xs ≡ map g ys → slice_get xs i ≡ Some x → slice_get ys i ≡ Some y → f x ≡ g y
 maps_at f g xs ys i x y e at there =
     let same : Some (f x) ≡ Some (g y) = sym (map_at f xs i x at) ∙ ap (λ zs. slice_get zs i) e ∙ map_at g ys i y there in cc
 
-pub length-mapped : {A B : Type 0} (f : A → B) (xs : List A) → length (map f xs) ≡ length xs
-length-mapped f [] = refl
-length-mapped f (x ∷ xs) = ap suc (length-mapped f xs)
-
--- what indexing gives
-pub got : {A : Type 0} (xs : List A) (i : ℕ) (d : A) → i < length xs → slice_get xs i ≡ Some (get_or xs i d)
-got [] i d l = absurd (omega arith)
-got (x ∷ xs) zero d l = refl
-got (x ∷ xs) (suc i) d l = got xs i d (omega arith)
-
 pub above_count : (b : Board) (xs : List Above) → AreAbove b xs → length xs ≡ length b
-above_count b xs h = sym (length-mapped (λ (x : Above). bus_path b x.bus) xs) ∙ ap length h.buses ∙ length-mapped (λ (r : Row). parent r.path) b
+above_count b xs h = sym (length-map xs (λ (x : Above). bus_path b x.bus)) ∙ ap length h.buses ∙ length-map b (λ (r : Row). parent r.path)
 
 pub record IsAboveRow (b : Board) (r : Row) (x : Above) : Type 0 where
   pub bus : bus_path b x.bus ≡ parent r.path
@@ -51,16 +42,13 @@ above_row b xs i r x h at there = grind (arith, maps_at, each_at)
 popped : {C : Type 0} (old new : List C) (o : Option C) (v : C) → old ≡ new ++ option_to_list o → o ≡ Some v → old ≡ new ++ v ∷ []
 popped {C = C} old new o v e some = e ∙ ap (λ (x : Option C). new ++ option_to_list x) some
 
-popped_count : {C : Type 0} (new : List C) (v : C) (n : ℕ) → length (new ++ v ∷ []) ≡ n + 1 → length new ≡ n
-popped_count new v n h = omega (arith, length-append new (v ∷ []))
-
 module _ (b : Board) (a : Apertures) (pool : Pool) (board : IsBoard b) {C : Type 0} (contents : C → List Item) where
   taken : (i : ℕ) (old new : List C) (o : Option C) (v : C) (packs : List BusPack) → 0 < i → IsGathered b a pool contents i old packs → old ≡ new ++ option_to_list o → o ≡ Some v
       → IsGathered b a pool contents (i - 1 + 1) (new ++ v ∷ []) packs × (length new ≡ i - 1 + 1)
   taken i old new o v packs some h e is =
       let back : i ≡ i - 1 + 1 = omega arith in
       let left : IsGathered b a pool contents i (new ++ v ∷ []) packs = subst (λ (x : List C). IsGathered b a pool contents i x packs) (popped old new o v e is) h in
-      (subst (λ n. IsGathered b a pool contents n (new ++ v ∷ []) packs) back left, popped_count new v i left.count ∙ back)
+      (subst (λ n. IsGathered b a pool contents n (new ++ v ∷ []) packs) back left, omega (arith, length-append new (v ∷ []), left.count))
 
   pub behind_is : (i : ℕ) (r : Row) (old new : List C) (o : Option C) (v : C) (packs : List BusPack) → 0 < i → slice_get b (i - 1) ≡ Some r → IsGathered b a pool contents i old packs
       → old ≡ new ++ option_to_list o → o ≡ Some v → IsPermutation (items_on b a pool r.path) (contents v)
@@ -96,13 +84,9 @@ module _ (b : Board) (a : Apertures) (pool : Pool) (board : IsBoard b) {C : Type
       by_new (x ∷ xs) k = absurd (omega (arith, k.count, length-append xs (v ∷ [])))
   root_is (suc i) old new o v packs none h e is = absurd (omega arith)
 
-  map_twice : (rows : Board) → map (λ (r : Row). pack_of b a pool r.path) rows ≡ map (pack_of b a pool) (map (λ (r : Row). r.path) rows)
-  map_twice [] = refl
-  map_twice (r ∷ rows) = ap (λ (x : List BusPack). pack_of b a pool r.path ∷ x) (map_twice rows)
-
   pub all_packed : (i : ℕ) (old : List C) (packs : List BusPack) (pack : BusPack) → i ≤ 0 → IsGathered b a pool contents i old packs → pack ≡ pack_of b a pool []
       → reverse (packs ++ pack ∷ []) ≡ map (pack_of b a pool) ([] ∷ map (λ (r : Row). r.path) b)
-  all_packed i old packs pack none h is = grind (arith, reverse-append, map_twice)
+  all_packed i old packs pack none h is = grind (arith, reverse-append, map-map)
 
   pub all_bounded : HasLawfulDecls b → (i : ℕ) (old : List C) (packs : List BusPack) (pack : BusPack) → i ≤ 0 → IsGathered b a pool contents i old packs → pack ≡ pack_of b a pool [] → pack.end ≤ 2 ^ 63
       → Each IsBounded (reverse (packs ++ pack ∷ []))

@@ -1,5 +1,5 @@
 -- All settings of a numbered board, written in path order, leave the state of set-up.
-use Rattle.std.proofs.Common.{◌≡◌, ℕ, ◌+◌, ◌<◌, ◌≤◌, ◌⊎◌, inl, inr, Bool, true, false, ◌&&◌, cond, List, [], ◌∷◌, ◌++◌, refl, sym, ap, ap₂, ◌∙◌, subst, arith, append_assoc, append-nil}
+use Rattle.std.proofs.Common.{◌≡◌, ◌+◌, ◌<◌, ◌≤◌, inl, inr, Bool, true, false, ◌&&◌, cond, List, [], ◌∷◌, ◌++◌, refl, sym, ap, ap₂, ◌∙◌, subst, arith, append_assoc, append-nil}
 use Rattle.std.specs.Prelude.{map, count_by}
 use Rattle.std.proofs.lemmas.List.{map-append}
 use Rattle.std.proofs.lemmas.Bool.{ne_eqb}
@@ -31,7 +31,7 @@ use Rattle.model_board.proofs.BusNumbers.{bridges, at, count_three, counted}
 use Rattle.model_set_up.proofs.PlacedRegions.{lawful_decl}
 use Rattle.model_board.specs.AtReset.{board_at}
 use Rattle.host_bridge.specs.HostState.{HostState, with_functions}
-use Rattle.window_packing.specs.WordWrites.{WordWrite, word, after_words, after_settings, words_of}
+use Rattle.window_packing.specs.WordWrites.{WordWrite, after_words, after_settings, words_of}
 use Rattle.window_packing.proofs.FileWrites.{file_after}
 use Rattle.window_packing.proofs.BridgeWrites.{bridge_written}
 use Rattle.window_packing.proofs.EndpointWrites.{endpoint_written}
@@ -50,34 +50,13 @@ change_elsewhere f p q (e ∷ es) h = by_place (place_eq e.place p) refl (change
 
 -- ---- bus numbers stay
 
-word_keeps : (d : Decl) (off enables value : ℕ) → (0x1a < off) ⊎ (off + 4 ≤ 0x19) → KeepsNumbers d (word off enables value)
-word_keeps d off enables value h k file = grind (arith, change_elsewhere, ne_eqb)
-
 all_keep : (e : Endpoint) (ws : List WordWrite) → Each (KeepsNumbers (endpoint e)) ws
 all_keep e [] = tt
 all_keep e (w ∷ ws) = ((λ k. cc), all_keep e ws)
 
 words_keep : (b : Board) (a : Apertures) (p : Path) (d : Decl) → Each (KeepsNumbers d) (words_of (writes_of b a p d))
 words_keep b a p (endpoint e) = all_keep e (words_of (writes_of b a p (endpoint e)))
-words_keep b a p (bridge e) = (
-  word_keeps (bridge e) 0x1c 3 _ (inl (omega arith)),
-  (
-    word_keeps (bridge e) 0x20 0xf _ (inl (omega arith)),
-    (
-      word_keeps (bridge e) 0x24 0xf _ (inl (omega arith)),
-      (
-        word_keeps (bridge e) 0x28 0xf _ (inl (omega arith)),
-        (
-          word_keeps (bridge e) 0x2c 0xf _ (inl (omega arith)),
-          (
-            word_keeps (bridge e) 0x30 0xf _ (inl (omega arith)),
-            (word_keeps (bridge e) 0x04 3 3 (inr (omega arith)), tt),
-          ),
-        ),
-      ),
-    ),
-  ),
-)
+words_keep b a p (bridge e) = grind (arith, change_elsewhere, ne_eqb)
 
 -- ---- bus numbers fit their registers
 

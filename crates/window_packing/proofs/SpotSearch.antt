@@ -1,11 +1,11 @@
 -- The search for an item among the spots of a bus, which stand in strict order.
 use Rattle.std.proofs.Common.{◌≡◌, ℕ, zero, suc, ◌≤◌, ◌<◌, ◌⊎◌, inl, inr, Bool, true, false, ◌&&◌, List, [], ◌∷◌, length, Some, refl, sym, ap, ◌∙◌, subst, arith, get_or}
+use Rattle.std.proofs.lemmas.Option.{get_or_from_slice_get, slice_get_within}
 use Rattle.std.specs.Prelude.{IsTrue, nat_lt, ◌==◌, ◌||◌}
 use Rattle.std.specs.List.{slice_get}
 use Rattle.std.specs.List.Sorted.{IsPartitionedBy, IsPartitionPoint}
 use Rattle.std.proofs.lemmas.Bool.{and_parts, cases_lt, false_from_ne_true}
 use Rattle.std.proofs.lemmas.Bool.Decides.{nat_tests}
-use Rattle.std.proofs.lemmas.Option.{slice_get_within}
 use Rattle.lists.specs.Elements.{Each, EachPair}
 use Rattle.model_board.specs.Paths.{Part, part_eq}
 use Rattle.model_set_up.specs.Placement.{Placed, same_placed, register_of, Item, Spot, stands_before, is_item, offset_in}
@@ -41,11 +41,6 @@ module _ (ss : List Spot) (key : Item) (strict : AreStrict ss) where
   sides : (x y : ℕ) → (x < y) ⊎ ((x ≡ y) ⊎ (y < x))
   sides x y = grind arith
 
-  got_at : (ts : List Spot) (k : ℕ) (d t : Spot) → slice_get ts k ≡ Some t → get_or ts k d ≡ t
-  got_at [] k d t e = absurd (cc)
-  got_at (u ∷ ts) zero d t e = let same : u ≡ t = cc in same
-  got_at (u ∷ ts) (suc k) d t e = got_at ts k d t e
-
   -- what stands before a spot that stands before the key stands before the key
   pub parted : IsPartitionedBy (λ (s : Spot). stands_before s.item key) ss
   parted i j d le within holds = by_side (cases_lt i j)
@@ -55,15 +50,15 @@ module _ (ss : List Spot) (key : Item) (strict : AreStrict ss) where
           let s = at_below ss i (omega arith) in
           let t = at_below ss j within in
           let first : stands_before s.0.item t.0.item ≡ true = pair_at (λ (x y : Spot). IsTrue (stands_before x.item y.item)) ss i j s.0 t.0 strict l s.1 t.1 in
-          let second : stands_before t.0.item key ≡ true = subst (λ (x : Spot). stands_before x.item key ≡ true) (got_at ss j d t.0 t.1) holds in
-          subst (λ (x : Spot). stands_before x.item key ≡ true) (sym (got_at ss i d s.0 s.1)) (before_trans s.0.item t.0.item key first second)
+          let second : stands_before t.0.item key ≡ true = subst (λ (x : Spot). stands_before x.item key ≡ true) (get_or_from_slice_get ss j t.0 d t.1) holds in
+          subst (λ (x : Spot). stands_before x.item key ≡ true) (sym (get_or_from_slice_get ss i s.0 d s.1)) (before_trans s.0.item t.0.item key first second)
       by_side (inr l) = let e : i ≡ j = omega arith in subst (λ n. stands_before (get_or ss n d).item key ≡ true) (sym e) holds
 
   pub first_of_point : (n : ℕ) → n ≤ length ss → IsPartitionPoint (λ (s : Spot). stands_before s.item key ≡ true) (λ (s : Spot). stands_before s.item key ≡ false) ss n → IsFirstFrom ss key n
   first_of_point n bound point = record {
     within = bound;
-    before = λ k s l e. subst (λ (x : Spot). stands_before x.item key ≡ true) (got_at ss k s s e) (point.0 k s (omega arith) l);
-    later = λ k s l e. subst (λ (x : Spot). stands_before x.item key ≡ false) (got_at ss k s s e) (point.1 k s l (let w = slice_get_within ss k s e in w));
+    before = λ k s l e. subst (λ (x : Spot). stands_before x.item key ≡ true) (get_or_from_slice_get ss k s s e) (point.0 k s (omega arith) l);
+    later = λ k s l e. subst (λ (x : Spot). stands_before x.item key ≡ false) (get_or_from_slice_get ss k s s e) (point.1 k s l (let w = slice_get_within ss k s e in w));
   }
 
   -- ---- what is found

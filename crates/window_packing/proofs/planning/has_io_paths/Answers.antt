@@ -1,4 +1,5 @@
 use Rattle.std.proofs.Common.{◌≡◌, ◌||◌, Bool, false, not, Some, get_or, ap, sym, ◌∙◌, arith}
+use Rattle.std.proofs.lemmas.Option.{slice_get-get_or}
 use Rattle.std.specs.List.{slice_get, list_all}
 use Rattle.model_registers.specs.Declarations.{Bridge}
 use Rattle.model_board.specs.Board.{Row}
@@ -8,7 +9,7 @@ use Rattle.lists.proofs.Indices.{read_at, map_at, fails_at}
 use Rattle.window_packing.specs.declared.above.Above.{Above}
 use Rattle.window_packing.proofs.AboveRows.{length_board, tells_at}
 use Rattle.window_packing.proofs.BusIndex.{row_in}
-use Rattle.window_packing.proofs.PoolSteps.{got, above_count}
+use Rattle.window_packing.proofs.PoolSteps.{above_count}
 use Rattle.window_packing.proofs.RowTests.{all_more, all_rows_pass}
 use Rattle.window_packing.proofs.planning.has_io_paths.Goals as goal
 
@@ -24,7 +25,7 @@ returns-then-not-has_io_path c =
     let t = c.index-rows-i.result in
     let x = get_or above i nothing in
     let at : slice_get b i ≡ Some (row_in t) = map_at row_in rows i t (read_at rows i t c.loop-i-test.true c.index-rows-i.is) in
-    let told : slice_get above i ≡ Some x = got above i nothing (omega (arith, above_count b above c.requires, length_board rows, c.loop-i-test.true)) in
+    let told : slice_get above i ≡ Some x = slice_get-get_or above i nothing (omega (arith, above_count b above c.requires, length_board rows, c.loop-i-test.true)) in
     let io : x.io ≡ list_all (λ (d : Bridge). has_io d.io) (bridges_above b t.path) = (tells_at b above i (row_in t) x c.requires at told).io in
     grind (arith, fails_at)
 
@@ -37,7 +38,7 @@ loop-i-preserved c =
     let t = c.index-rows-i.result in
     let x = get_or above i nothing in
     let at : slice_get b i ≡ Some (row_in t) = map_at row_in rows i t (read_at rows i t c.loop-i-test.true c.index-rows-i.is) in
-    let told : slice_get above i ≡ Some x = got above i nothing (omega (arith, above_count b above c.requires, length_board rows, c.loop-i-test.true)) in
+    let told : slice_get above i ≡ Some x = slice_get-get_or above i nothing (omega (arith, above_count b above c.requires, length_board rows, c.loop-i-test.true)) in
     let io : x.io ≡ list_all (λ (d : Bridge). has_io d.io) (bridges_above b t.path) = (tells_at b above i (row_in t) x c.requires at told).io in
     let test = c.has_io_path.ensures ∙ ap (λ (v : Bool). not (opens_io t.decl) || v) io in
     let passes : Row → Bool = λ r. not (opens_io r.decl) || list_all (λ (d : Bridge). has_io d.io) (bridges_above b r.path) in

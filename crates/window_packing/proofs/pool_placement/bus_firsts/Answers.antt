@@ -1,4 +1,5 @@
 use Rattle.std.proofs.Common.{◌≡◌, ◌+◌, false, Some, get_or, ap, ◌∙◌, arith}
+use Rattle.std.proofs.lemmas.Option.{slice_get-get_or}
 use Rattle.std.specs.List.{slice_get}
 use Rattle.model_board.specs.Paths.{last_part}
 use Rattle.model_set_up.specs.Placement.{bus_first}
@@ -9,7 +10,7 @@ use Rattle.window_packing.specs.Buses.{bus_path}
 use Rattle.window_packing.specs.Plans.{named_pool}
 use Rattle.window_packing.proofs.AboveRows.{length_board}
 use Rattle.window_packing.proofs.BusIndex.{row_in}
-use Rattle.window_packing.proofs.PoolSteps.{got, above_count}
+use Rattle.window_packing.proofs.PoolSteps.{above_count}
 use Rattle.window_packing.proofs.FirstsSoFar.{one_first, more_firsts, all_firsts, pack_is, count_packs, bus_low, own_strict, own_align, behind_first, behind_bound}
 use Rattle.window_packing.proofs.pool_placement.bus_firsts.Goals as goal
 
@@ -27,12 +28,12 @@ index-requires c =
     let pool = named_pool c.args.pool in
     let i = c.loop-i.i in
     let at = map_at row_in rows i c.index-rows-i.result (read_at rows i c.index-rows-i.result c.loop-i-test.true c.index-rows-i.is) in
-    let told = got c.args.above.now i none (omega (arith, above_count b c.args.above.now c.requires.above, length_board rows, c.loop-i-test.true)) in
+    let told = slice_get-get_or c.args.above.now i none (omega (arith, above_count b c.args.above.now c.requires.above, length_board rows, c.loop-i-test.true)) in
     let low = bus_low b a pool c.requires.board c.requires.declarations c.requires.apertures c.requires.fit c.args.above.now c.requires.above i (row_in c.index-rows-i.result) at (get_or c.args.above.now i none) told in
     omega (arith, low, c.loop-i.invariant.count, c.loop-i.firsts.ok)
 
-pub window_offset-offset-requires-clause-order : goal.window_offset-offset-requires-clause-order
-window_offset-offset-requires-clause-order c =
+pub window_offset-offset-requires : goal.window_offset-offset-requires
+window_offset-offset-requires c =
     let rows = c.args.rows.now in
     let b = board_in rows in
     let a = c.args.apertures.now in
@@ -41,27 +42,15 @@ window_offset-offset-requires-clause-order c =
     let packs = c.args.packs.now in
     let x = get_or c.args.above.now i none in
     let at = map_at row_in rows i c.index-rows-i.result (read_at rows i c.index-rows-i.result c.loop-i-test.true c.index-rows-i.is) in
-    let told = got c.args.above.now i none (omega (arith, above_count b c.args.above.now c.requires.above, length_board rows, c.loop-i-test.true)) in
-    let low = bus_low b a pool c.requires.board c.requires.declarations c.requires.apertures c.requires.fit c.args.above.now c.requires.above i (row_in c.index-rows-i.result) at x told in
-    let own : slice_get packs x.bus ≡ Some c.index-packs-bus.result = read_at packs x.bus c.index-packs-bus.result (omega (arith, low, count_packs b a pool packs c.requires.packs, length_board rows, c.loop-i-test.true)) c.index-packs-bus.is in
-    own_strict b a pool c.requires.board c.requires.declarations c.requires.apertures c.requires.fit c.args.above.now c.requires.above i (row_in c.index-rows-i.result) at x told packs c.requires.packs c.index-packs-bus.result own
-
-pub window_offset-offset-requires-clause-align : goal.window_offset-offset-requires-clause-align
-window_offset-offset-requires-clause-align c =
-    let rows = c.args.rows.now in
-    let b = board_in rows in
-    let a = c.args.apertures.now in
-    let pool = named_pool c.args.pool in
-    let i = c.loop-i.i in
-    let packs = c.args.packs.now in
-    let x = get_or c.args.above.now i none in
-    let at = map_at row_in rows i c.index-rows-i.result (read_at rows i c.index-rows-i.result c.loop-i-test.true c.index-rows-i.is) in
-    let told = got c.args.above.now i none (omega (arith, above_count b c.args.above.now c.requires.above, length_board rows, c.loop-i-test.true)) in
+    let told = slice_get-get_or c.args.above.now i none (omega (arith, above_count b c.args.above.now c.requires.above, length_board rows, c.loop-i-test.true)) in
     let low = bus_low b a pool c.requires.board c.requires.declarations c.requires.apertures c.requires.fit c.args.above.now c.requires.above i (row_in c.index-rows-i.result) at x told in
     let own : slice_get packs x.bus ≡ Some c.index-packs-bus.result = read_at packs x.bus c.index-packs-bus.result (omega (arith, low, count_packs b a pool packs c.requires.packs, length_board rows, c.loop-i-test.true)) c.index-packs-bus.is in
     let behind : slice_get packs (i + 1) ≡ Some c.index-packs-i.result = read_at packs (i + 1) c.index-packs-i.result (omega (arith, count_packs b a pool packs c.requires.packs, length_board rows, c.loop-i-test.true)) c.index-packs-i.is in
     let part : c.last.result ≡ last_part c.index-rows-i.result.path = c.last.ensures ∙ ap (λ (t : TableRow). last_part t.path) c.row.view_is in
-    own_align b a pool c.requires.board c.requires.declarations c.requires.apertures c.requires.fit c.args.above.now c.requires.above i (row_in c.index-rows-i.result) at x told packs c.requires.packs c.index-packs-bus.result own c.index-packs-i.result behind c.last.result part
+    record {
+      order = own_strict b a pool c.requires.board c.requires.declarations c.requires.apertures c.requires.fit c.args.above.now c.requires.above i (row_in c.index-rows-i.result) at x told packs c.requires.packs c.index-packs-bus.result own;
+      align = own_align b a pool c.requires.board c.requires.declarations c.requires.apertures c.requires.fit c.args.above.now c.requires.above i (row_in c.index-rows-i.result) at x told packs c.requires.packs c.index-packs-bus.result own c.index-packs-i.result behind c.last.result part;
+    }
 
 pub overflow_add-first : goal.overflow_add-first
 overflow_add-first c =
@@ -73,7 +62,7 @@ overflow_add-first c =
     let packs = c.args.packs.now in
     let x = get_or c.args.above.now i none in
     let at = map_at row_in rows i c.index-rows-i.result (read_at rows i c.index-rows-i.result c.loop-i-test.true c.index-rows-i.is) in
-    let told = got c.args.above.now i none (omega (arith, above_count b c.args.above.now c.requires.above, length_board rows, c.loop-i-test.true)) in
+    let told = slice_get-get_or c.args.above.now i none (omega (arith, above_count b c.args.above.now c.requires.above, length_board rows, c.loop-i-test.true)) in
     let low = bus_low b a pool c.requires.board c.requires.declarations c.requires.apertures c.requires.fit c.args.above.now c.requires.above i (row_in c.index-rows-i.result) at x told in
     let own : slice_get packs x.bus ≡ Some c.index-packs-bus.result = read_at packs x.bus c.index-packs-bus.result (omega (arith, low, count_packs b a pool packs c.requires.packs, length_board rows, c.loop-i-test.true)) c.index-packs-bus.is in
     let part : c.last.result ≡ last_part c.index-rows-i.result.path = c.last.ensures ∙ ap (λ (t : TableRow). last_part t.path) c.row.view_is in
@@ -91,7 +80,7 @@ loop-i-preserved c =
     let packs = c.args.packs.now in
     let x = get_or c.args.above.now i none in
     let at = map_at row_in rows i c.index-rows-i.result (read_at rows i c.index-rows-i.result c.loop-i-test.true c.index-rows-i.is) in
-    let told = got c.args.above.now i none (omega (arith, above_count b c.args.above.now c.requires.above, length_board rows, c.loop-i-test.true)) in
+    let told = slice_get-get_or c.args.above.now i none (omega (arith, above_count b c.args.above.now c.requires.above, length_board rows, c.loop-i-test.true)) in
     let low = bus_low b a pool c.requires.board c.requires.declarations c.requires.apertures c.requires.fit c.args.above.now c.requires.above i (row_in c.index-rows-i.result) at x told in
     let own : slice_get packs x.bus ≡ Some c.index-packs-bus.result = read_at packs x.bus c.index-packs-bus.result (omega (arith, low, count_packs b a pool packs c.requires.packs, length_board rows, c.loop-i-test.true)) c.index-packs-bus.is in
     let part : c.last.result ≡ last_part c.index-rows-i.result.path = c.last.ensures ∙ ap (λ (t : TableRow). last_part t.path) c.row.view_is in

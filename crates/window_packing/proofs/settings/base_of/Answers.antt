@@ -37,7 +37,6 @@ read rows a i x board lawful all are above pool pl own packs firsts shown t ther
     let b = board_in rows in
     let at : slice_get b i ≡ Some (row_in t) = map_at row_in rows i t there in
     let is_placed : IsPlaced b a pool pl = subst (IsPlaced b a pool) (sym own) (placed_in b a all are pool) in
-    let same_firsts : firsts ≡ pl.firsts = ap (λ (q : PlacedPool). q.firsts) shown in
     let same_packs : packs ≡ pl.packs = ap (λ (q : PlacedPool). q.packs) shown in
     let low_first = in_firsts b a board lawful pool pl is_placed i (row_in t) at x above in
     let low_pack = in_packs b a board lawful pool pl is_placed i (row_in t) at x above in
@@ -49,24 +48,19 @@ read_here c =
     (named_pool c.pool_of.result) c.pool-placed.result.now c.pool-placed.ensures c.placed.inside.packs.items c.placed.inside.firsts.items c.placed.view_is
     c.index-rows-i.result (read_at c.args.rows.now c.args.i c.index-rows-i.result c.requires.there c.index-rows-i.is) c.index-first.result.now c.index-first.ensures c.index-pack.result.now c.index-pack.ensures
 
-pub based-requires-clause-order : goal.based-requires-clause-order
-based-requires-clause-order c = grind (arith, read_here, region_strict)
-
-pub based-requires-clause-align : goal.based-requires-clause-align
-based-requires-clause-align c =
+pub based-requires : goal.based-requires
+based-requires c =
     let r = read_here c in
     let b = board_in c.args.rows.now in
     let k : Region = record { index = c.args.index; kind = c.in_ok-bar.bar.kind; size = c.in_ok-bar.bar.size; cells = [] } in
     let own : IsRegionAt b c.args.i k = (subst (λ (o : Option Bar). Each (IsRegionAt b c.args.i) (regions_from c.args.index (o ∷ []))) c.in_ok-bar.was c.requires.found).0 in
-    region_aligned (board_in c.args.rows.now) c.args.apertures.now c.requires.board c.requires.declarations (named_pool c.pool_of.result) c.pool-placed.result.now r.placed
-    c.args.i (row_in c.index-rows-i.result) r.at c.args.above.now c.requires.above c.index-pack.result.now r.pack c.last.result (c.last.ensures ∙ ap (λ (u : TableRow). last_part u.path) c.row.view_is) k own
-
-pub based-requires-clause-room : goal.based-requires-clause-room
-based-requires-clause-room c =
-    let r = read_here c in
-    region_room (board_in c.args.rows.now) c.args.apertures.now c.requires.board c.requires.declarations (named_pool c.pool_of.result) c.pool-placed.result.now r.placed
-    c.args.i (row_in c.index-rows-i.result) r.at c.args.above.now c.requires.above c.index-pack.result.now r.pack
-    c.index-first.result.now r.first c.last.result (c.last.ensures ∙ ap (λ (u : TableRow). last_part u.path) c.row.view_is) (a_region c.args.index)
+    let last = c.last.ensures ∙ ap (λ (u : TableRow). last_part u.path) c.row.view_is in
+    record {
+      order = region_strict b c.args.apertures.now c.requires.board c.requires.declarations (named_pool c.pool_of.result) c.pool-placed.result.now r.placed c.args.i (row_in c.index-rows-i.result) r.at c.args.above.now c.requires.above c.index-pack.result.now r.pack;
+      align = region_aligned b c.args.apertures.now c.requires.board c.requires.declarations (named_pool c.pool_of.result) c.pool-placed.result.now r.placed c.args.i (row_in c.index-rows-i.result) r.at c.args.above.now c.requires.above c.index-pack.result.now r.pack c.last.result last k own;
+      room = region_room b c.args.apertures.now c.requires.board c.requires.declarations (named_pool c.pool_of.result) c.pool-placed.result.now r.placed c.args.i (row_in c.index-rows-i.result) r.at c.args.above.now c.requires.above c.index-pack.result.now r.pack
+          c.index-first.result.now r.first c.last.result last (a_region c.args.index);
+    }
 
 pub returns : goal.returns
 returns c = λ r there.

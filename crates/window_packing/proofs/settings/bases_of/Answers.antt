@@ -8,7 +8,7 @@ use Rattle.bus_scan.specs.Rows.{regions_of}
 use Rattle.window_packing.specs.Packs.{regions_from}
 use Rattle.window_packing.specs.Placed.{IsRegionAt}
 use Rattle.window_packing.proofs.BarLists.{region_among, push_told}
-use Rattle.window_packing.proofs.PoolSteps.{got}
+use Rattle.std.proofs.lemmas.Option.{slice_get-get_or}
 use Rattle.window_packing.proofs.settings.bases_of.Goals as goal
 
 pub base_of-requires-clause-found : goal.base_of-requires-clause-found
@@ -17,9 +17,9 @@ base_of-requires-clause-found c =
     let bars = c.args.bars.now in
     let i = c.loop-index.index in
     let o = get_or bars c.from-at.result c.index-bars-at.result in
-    let e : slice_get bars i ≡ Some o = subst (λ (j : ℕ). slice_get bars j ≡ Some o) c.from-at.ensures (got bars c.from-at.result c.index-bars-at.result (omega arith)) in
+    let e : slice_get bars i ≡ Some o = subst (λ (j : ℕ). slice_get bars j ≡ Some o) c.from-at.ensures (slice_get-get_or bars c.from-at.result c.index-bars-at.result (omega arith)) in
     let z : i ≡ 0 + i = omega arith in
     each_from (IsRegionAt b c.args.i) (regions_from i (o ∷ [])) (λ k m. each_in (IsRegionAt b c.args.i) k (regions_of bars) c.requires.found (region_among 0 bars i o e k (subst (λ (j : ℕ). IsIn k (regions_from j (o ∷ []))) z m)))
 
 pub loop-index-preserved : goal.loop-index-preserved
-loop-index-preserved c = grind (arith, got, length-set, push_told)
+loop-index-preserved c = grind (arith, slice_get-get_or, length-set, push_told)

@@ -1,4 +1,4 @@
-use Rattle.std.proofs.Common.{◌≡◌, ◌+◌, ◌<◌, List, ℕ, get_or, length, Some, ap, ◌∙◌, arith}
+use Rattle.std.proofs.Common.{rules, ◌≡◌, ◌+◌, ◌<◌, List, ℕ, get_or, length, Some, ap, ◌∙◌, arith}
 use Rattle.std.specs.List.{slice_get}
 use Rattle.model_registers.specs.Apertures.{Apertures}
 use Rattle.model_board.specs.Board.{IsBoard}
@@ -25,21 +25,17 @@ read : (rows : List TableRow) (a : Apertures) → IsBoard (board_in rows) → Ha
     → (n : ℕ) → n ≡ get_or firsts (i + 1) n → (p : BusPack) → p ≡ get_or packs (i + 1) p → Read i pl n p
 read rows a board lawful pool pl placed i there packs firsts shown n n_is p p_is = grind (arith, count_firsts, count_pl, read_at, length_board)
 
-pub window_of-requires-clause-some : goal.window_of-requires-clause-some
-window_of-requires-clause-some c =
+pub window_of-requires : goal.window_of-requires
+window_of-requires c =
     let f =
     read c.args.rows.now c.args.apertures.now c.requires.board c.requires.declarations (named_pool c.args.pool) c.args.placed.now c.requires.placed c.args.i c.requires.there
     c.placed.inside.packs.items c.placed.inside.firsts.items c.placed.view_is c.index.result.now c.index.ensures c.index-2.result.now c.index-2.ensures in
     let r = at_below (board_in c.args.rows.now) c.args.i (omega (arith, length_board c.args.rows.now, c.requires.there)) in
-    window_some (board_in c.args.rows.now) c.args.apertures.now c.requires.board c.requires.declarations (named_pool c.args.pool) c.args.placed.now c.requires.placed c.args.i r.0 r.1 c.index-2.result.now f.pack
-
-pub window_of-requires-clause-room : goal.window_of-requires-clause-room
-window_of-requires-clause-room c =
-    let f =
-    read c.args.rows.now c.args.apertures.now c.requires.board c.requires.declarations (named_pool c.args.pool) c.args.placed.now c.requires.placed c.args.i c.requires.there
-    c.placed.inside.packs.items c.placed.inside.firsts.items c.placed.view_is c.index.result.now c.index.ensures c.index-2.result.now c.index-2.ensures in
-    let r = at_below (board_in c.args.rows.now) c.args.i (omega (arith, length_board c.args.rows.now, c.requires.there)) in
-    window_room (board_in c.args.rows.now) c.args.apertures.now c.requires.board c.requires.declarations (named_pool c.args.pool) c.args.placed.now c.requires.placed c.args.i r.0 r.1 c.index-2.result.now f.pack c.index.result.now f.first
+    record {
+      closed = search rules;
+      some = window_some (board_in c.args.rows.now) c.args.apertures.now c.requires.board c.requires.declarations (named_pool c.args.pool) c.args.placed.now c.requires.placed c.args.i r.0 r.1 c.index-2.result.now f.pack;
+      room = window_room (board_in c.args.rows.now) c.args.apertures.now c.requires.board c.requires.declarations (named_pool c.args.pool) c.args.placed.now c.requires.placed c.args.i r.0 r.1 c.index-2.result.now f.pack c.index.result.now f.first;
+    }
 
 pub returns : goal.returns
 returns c = λ r at.

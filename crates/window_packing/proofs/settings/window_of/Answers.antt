@@ -7,12 +7,12 @@ use Rattle.model_set_up.proofs.Packing.{round_up_not_before}
 use Rattle.window_packing.specs.Packs.{BusPack}
 use Rattle.window_packing.specs.Plans.{named_pool}
 use Rattle.window_packing.proofs.BusItems.{alignment_bounds}
-use Rattle.window_packing.proofs.PackFits.{empty_if}
+use Rattle.std.proofs.lemmas.List.{nil_from_length}
 use Rattle.window_packing.proofs.PlacedFunctions.{holds_of_some, span_none}
 use Rattle.window_packing.proofs.settings.window_of.Goals as goal
 
 pub returns-then-is_empty : goal.returns-then-is_empty
-returns-then-is_empty c = grind (arith, nat_tests, empty_if, span_none)
+returns-then-is_empty c = grind (arith, nat_tests, nil_from_length, span_none)
 
 -- the window of a bus with items has a size, and room
 record HasRoom (first unit end : ℕ) : Type 0 where
