@@ -1,8 +1,8 @@
 -- Where a check of keys or forms fails in a table, the value that fails it, and how deep it lies.
-use Rattle.std.proofs.Common.{◌≡◌, ℕ, zero, suc, Bool, true, false, ◌&&◌, List, Option, Some, None, is_some, refl, sym, ap, ◌∙◌, inl, inr, ◌⊎◌, arith}
+use Rattle.std.proofs.Common.{◌≡◌, ℕ, zero, suc, Bool, true, false, ◌&&◌, List, Option, Some, is_some, refl, sym, ap, ◌∙◌, inl, inr, arith}
 use Rattle.std.specs.Prelude.{slice_get}
 use Rattle.std.specs.List.{list_all, filter_map}
-use Rattle.std.proofs.lemmas.Bool.{and_cases, and_parts}
+use Rattle.std.proofs.lemmas.Bool.{and_parts}
 use Rattle.toml.specs.Data.{Data, array, table, Items, no_items, item, Members, no_members, member, get_item, as_table, items_are_sorted, members_are_sorted}
 use Rattle.board_file.specs.Schema.{fields, form_at, list_of, has_form, value_test, value_passes, items_pass, members_pass, table_passes}
 use Rattle.board_file.specs.declared.schema.Level.{Level}
@@ -30,11 +30,10 @@ pub record BadMember (c : Check) (l : Level) (ms : Members) : Type 0 where
 
 pub bad_member : (c : Check) (l : Level) (ms : Members) → members_pass c l ms ≡ false → BadMember c l ms
 bad_member c l no_members h = cc
-bad_member c l (member k d ms) h = by_case (bad_member c l ms) (and_cases (value_passes c (form_at k (fields l)) d) (members_pass c l ms) h)
-  where
-    by_case : (members_pass c l ms ≡ false → BadMember c l ms) → (value_passes c (form_at k (fields l)) d ≡ false) ⊎ (members_pass c l ms ≡ false) → BadMember c l (member k d ms)
-    by_case rest (inl here) = record { key = k; value = d; there = inl (refl, refl); fails = here }
-    by_case rest (inr more) = let b = rest more in record { key = b.key; value = b.value; there = inr b.there; fails = b.fails }
+bad_member c l (member k d ms) h =
+    either_of (value_passes c (form_at k (fields l)) d) (members_pass c l ms) h
+    (λ here. record { key = k; value = d; there = inl (refl, refl); fails = here })
+    (λ more. let b = bad_member c l ms more in record { key = b.key; value = b.value; there = inr b.there; fails = b.fails })
 
 good_member : (c : Check) (l : Level) (ms : Members) → members_pass c l ms ≡ true → (k : List ℕ) (d : Data) → IsMember k d ms → value_passes c (form_at k (fields l)) d ≡ true
 good_member c l no_members h k d m = absurd m
@@ -55,18 +54,15 @@ pub data BadValue (c : Check) (form : Option Form) (d : Data) : Type 0 where
   in_tables : (l : Level) (ds : Items) → form ≡ Some (Tables l) → d ≡ array ds → list_all (λ e. is_some (as_table e)) (list_of ds) ≡ true → Before c (items_pass Types l ds) → items_pass c l ds ≡ false → BadValue c form d
 
 bad_table : (c : Check) (form : Option Form) (ms : Members) → Before c (value_passes Types form (table ms)) → value_passes c form (table ms) ≡ false → BadValue c form (table ms)
-bad_table Types None ms b h = cc
 bad_table Types (Some (Table l)) ms b h = in_table l ms refl refl tt h
-bad_table Types _ ms b h = at_value refl
-bad_table Keys None ms b h = at_value refl
 bad_table Keys (Some (Table l)) ms b h = in_table l ms refl refl b h
-bad_table Keys _ ms b h = cc
+bad_table Keys (Some (Tables l)) ms b h = cc
+bad_table c form ms b h = at_value h
 
 abbrev all_tables : Items → Bool
 all_tables ds = list_all (λ e. is_some (as_table e)) (list_of ds)
 
 bad_array : (c : Check) (form : Option Form) (ds : Items) → Before c (value_passes Types form (array ds)) → value_passes c form (array ds) ≡ false → BadValue c form (array ds)
-bad_array Types None ds b h = cc
 bad_array Types (Some Pair) ds b h = either_of (has_form Pair (array ds)) true h (λ k. at_value k) (λ k. cc)
 bad_array Types (Some Texts) ds b h = either_of (has_form Texts (array ds)) true h (λ k. at_value k) (λ k. cc)
 bad_array Types (Some (Tables l)) ds b h = by_case (all_tables ds) refl
@@ -74,10 +70,9 @@ bad_array Types (Some (Tables l)) ds b h = by_case (all_tables ds) refl
     by_case : (t : Bool) → all_tables ds ≡ t → BadValue Types (Some (Tables l)) (array ds)
     by_case false k = at_value k
     by_case true k = in_tables l ds refl refl k tt (sym (ap (λ t. t && items_pass Types l ds) k) ∙ h)
-bad_array Types _ ds b h = at_value refl
-bad_array Keys None ds b h = at_value refl
 bad_array Keys (Some (Tables l)) ds b h = let (all, items) = and_parts (all_tables ds) (items_pass Types l ds) b in in_tables l ds refl refl all items h
-bad_array Keys _ ds b h = cc
+bad_array Keys (Some (Table l)) ds b h = cc
+bad_array c form ds b h = at_value h
 
 pub bad_value : (c : Check) (form : Option Form) (d : Data) → Before c (value_passes Types form d) → value_passes c form d ≡ false → BadValue c form d
 bad_value c form (array ds) b h = bad_array c form ds b h
@@ -112,19 +107,8 @@ pub bad_item : (c : Check) (l : Level) (ds : Items) → list_all (λ e. is_some 
 bad_item c l no_items all sorted b h = cc
 bad_item c l (item (table ms) ds) all sorted b h =
     let (here, more) = and_parts (members_are_sorted ms) (items_are_sorted ds) sorted in
-    by_case here (λ k. bad_item c l ds all more (before_rest c l ms ds b) k) (and_cases (value_passes c (Some (Table l)) (table ms)) (items_pass c l ds) h)
-  where
-    by_case : members_are_sorted ms ≡ true → (items_pass c l ds ≡ false → BadItem c l ds) → (value_passes c (Some (Table l)) (table ms) ≡ false) ⊎ (items_pass c l ds ≡ false) → BadItem c l (item (table ms) ds)
-    by_case here rest (inl k) = record {
-      index = zero;
-      inner = ms;
-      at = refl;
-      among_tables = refl;
-      sorted = here;
-      before = before_first c l ms ds b;
-      fails = sym (of_table c l ms) ∙ k;
-    }
-    by_case here rest (inr k) =
-        let x = rest k in
-        record { index = suc x.index; inner = x.inner; at = x.at; among_tables = x.among_tables; sorted = x.sorted; before = x.before; fails = x.fails }
+    either_of (value_passes c (Some (Table l)) (table ms)) (items_pass c l ds) h
+    (λ k. record { index = zero; inner = ms; at = refl; among_tables = refl; sorted = here; before = before_first c l ms ds b; fails = sym (of_table c l ms) ∙ k })
+    (λ k. let x = bad_item c l ds all more (before_rest c l ms ds b) k in
+    record { index = suc x.index; inner = x.inner; at = x.at; among_tables = x.among_tables; sorted = x.sorted; before = x.before; fails = x.fails })
 bad_item c l (item d ds) all sorted b h = cc

@@ -41,15 +41,6 @@ same_key x f h = sym x.key ∙ ap (λ (g : Field). g.key) h
 same_form : {fs : List Field} {k : List ℕ} {form : Form} (x : FieldAt fs k form) (f : Field) → x.field ≡ f → form ≡ f.form
 same_form x f h = sym x.is_form ∙ ap (λ (g : Field). g.form) h
 
-one_table : (l m : Level) → Table l ≡ Table m → l ≡ m
-one_table l m h = cc
-
-one_list : (l m : Level) → Tables l ≡ Tables m → l ≡ m
-one_list l m h = cc
-
-other_form : (l m : Level) → Table l ≡ Tables m → ⊥
-other_form l m h = cc
-
 module _ (ms : Members) (c : Check) where
   -- a list of tables in which there are no tables: that of these entries, at this key of a table
   by_leaves : (e : ℕ → Entry) (key : List ℕ) (l : Level) (t : Members) → ((i : ℕ) → level_of (e i) ≡ Some l) → filter is_deep (fields l) ≡ []
@@ -87,8 +78,8 @@ module _ (ms : Members) (c : Check) where
         on_table k m u form at_key sorted b h =
             let x = deep_at (fields level.Endpoint) k (Table m) refl form in
             elim x.there [
-              | inl e ↦ absurd (other_form m level.Bar (same_form x _ e))
-              | inr (inl e) ↦ absurd (other_form m level.Config (same_form x _ e))
+              | inl e ↦ cc (same_form x _ e)
+              | inr (inl e) ↦ cc (same_form x _ e)
               | inr (inr e) ↦ absurd e
             ]
 
@@ -96,8 +87,8 @@ module _ (ms : Members) (c : Check) where
         on_tables k m ds form at_key item =
             let x = deep_at (fields level.Endpoint) k (Tables m) refl form in
             elim x.there [
-              | inl e ↦ by_bar k m ds (same_key x _ e) (one_list m level.Bar (same_form x _ e)) at_key item
-              | inr (inl e) ↦ by_config k m ds (same_key x _ e) (one_list m level.Config (same_form x _ e)) at_key item
+              | inl e ↦ by_bar k m ds (same_key x _ e) (cc (same_form x _ e)) at_key item
+              | inr (inl e) ↦ by_config k m ds (same_key x _ e) (cc (same_form x _ e)) at_key item
               | inr (inr e) ↦ absurd e
             ]
 
@@ -147,10 +138,10 @@ module _ (ms : Members) (c : Check) where
         on_table k m u form at_key inner b h =
             let x = deep_at (fields level.Top) k (Table m) refl form in
             elim x.there [
-              | inl e ↦ by_host k m u (same_key x _ e) (one_table m level.Host (same_form x _ e)) at_key inner b h
-              | inr (inl e) ↦ absurd (other_form m level.Endpoint (same_form x _ e))
-              | inr (inr (inl e)) ↦ absurd (other_form m level.Bridge (same_form x _ e))
-              | inr (inr (inr (inl e))) ↦ absurd (other_form m level.Guest (same_form x _ e))
+              | inl e ↦ by_host k m u (same_key x _ e) (cc (same_form x _ e)) at_key inner b h
+              | inr (inl e) ↦ cc (same_form x _ e)
+              | inr (inr (inl e)) ↦ cc (same_form x _ e)
+              | inr (inr (inr (inl e))) ↦ cc (same_form x _ e)
               | inr (inr (inr (inr e))) ↦ absurd e
             ]
 
@@ -158,9 +149,9 @@ module _ (ms : Members) (c : Check) where
         on_tables k m ds form at_key item =
             let x = deep_at (fields level.Top) k (Tables m) refl form in
             elim x.there [
-              | inl e ↦ absurd (other_form level.Host m (sym (same_form x _ e)))
-              | inr (inl e) ↦ by_some_endpoint k m ds (same_key x _ e) (one_list m level.Endpoint (same_form x _ e)) at_key item
-              | inr (inr (inl e)) ↦ by_bridge k m ds (same_key x _ e) (one_list m level.Bridge (same_form x _ e)) at_key item
-              | inr (inr (inr (inl e))) ↦ by_guest k m ds (same_key x _ e) (one_list m level.Guest (same_form x _ e)) at_key item
+              | inl e ↦ cc (same_form x _ e)
+              | inr (inl e) ↦ by_some_endpoint k m ds (same_key x _ e) (cc (same_form x _ e)) at_key item
+              | inr (inr (inl e)) ↦ by_bridge k m ds (same_key x _ e) (cc (same_form x _ e)) at_key item
+              | inr (inr (inr (inl e))) ↦ by_guest k m ds (same_key x _ e) (cc (same_form x _ e)) at_key item
               | inr (inr (inr (inr e))) ↦ absurd e
             ]

@@ -1,5 +1,5 @@
 -- An entry that breaks a rule of keys breaks the document's check of the rule's fault.
-use Rattle.std.proofs.Common.{◌≡◌, ℕ, zero, suc, Ordering, Less, Equal, Greater, nat_cmp, is_eq, Bool, true, false, ◌&&◌, codes, List, [], ◌∷◌, Option, Some, None, is_some, refl, sym, ap, ◌∙◌, arith}
+use Rattle.std.proofs.Common.{◌≡◌, ℕ, zero, suc, Ordering, Equal, nat_cmp, is_eq, Bool, true, false, ◌&&◌, codes, List, [], ◌∷◌, Option, Some, None, is_some, refl, sym, ap, ◌∙◌, arith}
 use Rattle.std.specs.Prelude.{option_and_then}
 use Rattle.std.specs.Option.{option_map_or}
 use Rattle.std.specs.Ordering.{match_ordering}
@@ -58,12 +58,11 @@ member_fails c l (member j e ms) k d at h = by_case (member_fails c l ms k d) (s
     by_case : (get_member k ms ≡ Some d → value_passes c (form_at k (fields l)) d ≡ false → members_pass c l ms ≡ false)
         → (o : Ordering) → slice_cmp nat_cmp k j ≡ o → match_ordering o (get_member k ms) (Some e) (get_member k ms) ≡ Some d
         → (value_passes c (form_at j (fields l)) e && members_pass c l ms) ≡ false
-    by_case rest Less is at = and_right (value_passes c (form_at j (fields l)) e) (members_pass c l ms) (rest at h)
     by_case rest Equal is at =
         let same : e ≡ d = cc in
         and_left (value_passes c (form_at j (fields l)) e) (members_pass c l ms)
         (sym (ap (λ (x : List ℕ). value_passes c (form_at x (fields l)) e) (same_key is)) ∙ (ap (value_passes c (form_at k (fields l))) same ∙ h))
-    by_case rest Greater is at = and_right (value_passes c (form_at j (fields l)) e) (members_pass c l ms) (rest at h)
+    by_case rest o is at = and_right (value_passes c (form_at j (fields l)) e) (members_pass c l ms) (rest at h)
 
 value_fails : (c : Check) (l : Level) (t : Members) (k : List ℕ) (d : Data) → get_member k t ≡ Some d → value_passes c (form_at k (fields l)) d ≡ false → table_passes c l t ≡ false
 value_fails c l t k d at h = and_right (table_test c l t) (members_pass c l t) (member_fails c l t k d at h)
@@ -77,9 +76,7 @@ inner_fails c l m k t u form at h =
 
 items_fail : (c : Check) (m : Level) (ds : Items) (i : ℕ) (u : Members) → option_and_then as_table (get_item i ds) ≡ Some u → table_passes c m u ≡ false → items_pass c m ds ≡ false
 items_fail c m no_items i u at h = cc
-items_fail c m (item d ds) zero u at h =
-    and_left (value_passes c (Some (Table m)) d) (items_pass c m ds)
-    (ap (value_passes c (Some (Table m))) (table_of d u at) ∙ and_right (value_test c (Some (Table m)) (table u)) (table_passes c m u) h)
+items_fail c m (item d ds) zero u at h = grind (arith, table_of)
 items_fail c m (item d ds) (suc i) u at h = and_right (value_passes c (Some (Table m)) d) (items_pass c m ds) (items_fail c m ds i u at h)
 
 array_fails : (c : Check) (m : Level) (d : Data) (i : ℕ) (u : Members) → option_and_then as_table (at i d) ≡ Some u → table_passes c m u ≡ false → value_passes c (Some (Tables m)) d ≡ false

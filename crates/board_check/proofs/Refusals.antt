@@ -1,10 +1,9 @@
 -- A file that is refused has a problem of the fault for which it is, and one with a problem of a fault fails its check.
 use Rattle.std.proofs.Common.{◌≡◌, ◌≢◌, ℕ, Bool, true, false, ◌&&◌, ◌||◌, ◌==◌, not, List, [], ◌∷◌, Option, Some, Err, refl, sym, ap, subst, ◌∙◌, arith}
-use Rattle.std.specs.Prelude.{filter, slice_get}
+use Rattle.std.specs.Prelude.{filter}
 use Rattle.std.specs.List.{flat_map}
 use Rattle.std.specs.Option.{option_map_or}
 use Rattle.std.proofs.lemmas.Bool.{and_parts, not-true, eqb-true, eq-eqb}
-use Rattle.lists.proofs.Indices.{index_in}
 use Rattle.toml.specs.Data.{Members}
 use Rattle.lists.specs.Elements.{IsIn}
 use Rattle.model_registers.specs.DeclarationRules.{first_broken}
@@ -43,6 +42,10 @@ pub broken_at : (n : ℕ) (cs : List (ℕ × Bool)) → first_broken cs ≡ Some
 broken_at n [] h = cc
 broken_at n ((m, b) ∷ more) h = grind (arith, eq-eqb, broken_at n more)
 
+from_number : (n : ℕ) (cs : List (ℕ × Bool)) → at_number n cs ≡ false → IsIn (n, false) cs
+from_number n [] h = cc
+from_number n ((m, b) ∷ more) h = grind (arith, eqb-true, from_number n more)
+
 pub alone : (b : Bool) → (b && true) ≡ false → b ≡ false
 alone b h = grind arith
 
@@ -66,16 +69,12 @@ first_holds : (b c : Bool) (more : List (ℕ × Bool)) → first_broken ((102, b
 first_holds b c more h = grind arith
 
 pub refusals_have_problems : RefusalsHaveProblems
-refusals_have_problems ms sorted told h = by_fault told h (broken_at (number_of told) (checks ms) h)
-  where
-    by_fault : (f : BoardFault) → first_broken (checks ms) ≡ Some (number_of f) → at_number (number_of f) (checks ms) ≡ false → problems_of ms f ≢ []
-    by_fault fault.NotToml h broken = λ none. absurd (let wrong : true ≡ false = broken in cc)
-    by_fault fault.Key h broken = some_problem ms fault.Key (broken_tables ms Types sorted tt (alone (table_passes Types level.Top ms) broken))
-    by_fault fault.UnknownKey h broken =
-        some_problem ms fault.UnknownKey (broken_tables ms Keys sorted (first_holds (table_passes Types level.Top ms) (table_passes Keys level.Top ms) (rules (file ms)) h)
-        (alone (table_passes Keys level.Top ms) broken))
-    by_fault fault.Memory h broken = λ none. absurd (let wrong : true ≡ false = broken in cc)
-    by_fault f h broken = some_problem_in (file ms) f (alone (holds f (file ms)) broken)
+refusals_have_problems ms sorted fault.Key h =
+    some_problem ms fault.Key (broken_tables ms Types sorted tt (alone (table_passes Types level.Top ms) (broken_at 102 (checks ms) h)))
+refusals_have_problems ms sorted fault.UnknownKey h =
+    some_problem ms fault.UnknownKey (broken_tables ms Keys sorted (first_holds (table_passes Types level.Top ms) (table_passes Keys level.Top ms) (rules (file ms)) h)
+    (alone (table_passes Keys level.Top ms) (broken_at 103 (checks ms) h)))
+refusals_have_problems ms sorted told h = some_problem_in (file ms) told (alone (holds told (file ms)) (broken_at (number_of told) (checks ms) h))
 
 broken_of : {A : Type 0} (o : Option ℕ) (x : A) (n : ℕ) → unless o x ≡ Err n → o ≡ Some n
 broken_of o x n h = grind arith
@@ -100,40 +99,24 @@ not_asked : (o : Option Level) (t : Option Members) → option_map_or (λ (l : L
 not_asked o t = grind arith
 
 module _ (ms : Members) where
-  check_at : (place n : ℕ) (b : Bool) → slice_get (checks ms) place ≡ Some (n, b) → b ≡ false → IsIn (n, false) (checks ms)
-  check_at place n b at h = index_in (checks ms) place (n, false) (at ∙ ap (λ (x : Bool). Some (n, x)) h)
-
-  by_rule : (e : Entry) (r : Rule) (k : List ℕ) → key_keeps ms e r k ≡ false → IsIn (number_of (fault_of r), false) (checks ms)
-  by_rule e rule.Needed k h = check_at 0 102 (table_passes Types level.Top ms) refl (key_breaks ms rule.Needed k e h)
-  by_rule e rule.Form k h = check_at 0 102 (table_passes Types level.Top ms) refl (key_breaks ms rule.Form k e h)
-  by_rule e rule.Known k h = check_at 1 103 (table_passes Keys level.Top ms) refl (key_breaks ms rule.Known k e h)
+  by_rule : (e : Entry) (r : Rule) (k : List ℕ) → key_keeps ms e r k ≡ false → at_number (number_of (fault_of r)) (checks ms) ≡ false
+  by_rule e rule.Needed k h = ap (λ (kept : Bool). kept && true) (key_breaks ms rule.Needed k e h)
+  by_rule e rule.Form k h = ap (λ (kept : Bool). kept && true) (key_breaks ms rule.Form k e h)
+  by_rule e rule.Known k h = ap (λ (kept : Bool). kept && true) (key_breaks ms rule.Known k e h)
   by_rule e r k h = let wrong : true ≡ false = sym (not_asked (level_of e) (table_at ms e)) ∙ h in cc
 
-  by_keys : (fault : BoardFault) → key_problems ms fault ≢ [] → IsIn (number_of fault, false) (checks ms)
+  by_keys : (fault : BoardFault) → key_problems ms fault ≢ [] → at_number (number_of fault) (checks ms) ≡ false
   unfolding is_wrong
   by_keys fault h =
       let x = passing (is_wrong ms fault) (flat_map (asked ms) (entries_of (file ms))) h in
       let (number, broken) = and_parts (number_of (fault_of x.value.rule) == number_of fault) (not (key_keeps ms x.value.entry x.value.rule x.value.key)) x.passes in
-      subst (λ (n : ℕ). IsIn (n, false) (checks ms)) (eqb-true (number_of (fault_of x.value.rule)) (number_of fault) number)
+      subst (λ (n : ℕ). at_number n (checks ms) ≡ false) (eqb-true (number_of (fault_of x.value.rule)) (number_of fault) number)
       (by_rule x.value.entry x.value.rule x.value.key (not-true (key_keeps ms x.value.entry x.value.rule x.value.key) broken))
 
-  by_check : (place : ℕ) (fault : BoardFault) → slice_get (checks ms) place ≡ Some (number_of fault, holds fault (file ms)) → problems_in (file ms) fault ≢ [] → IsIn (number_of fault, false) (checks ms)
-  by_check place fault at some = check_at place (number_of fault) (holds fault (file ms)) at (broken_by (file ms) fault some)
-
-  always : (fault : BoardFault) → holds fault (file ms) ≡ true → problems_in (file ms) fault ≢ [] → IsIn (number_of fault, false) (checks ms)
-  always fault h some = grind (arith, broken_by)
+  by_check : (fault : BoardFault) → problems_of ms fault ≢ [] → at_number (number_of fault) (checks ms) ≡ false
+  by_check fault.Key h = by_keys fault.Key h
+  by_check fault.UnknownKey h = by_keys fault.UnknownKey h
+  by_check fault h = ap (λ (kept : Bool). kept && true) (broken_by (file ms) fault h)
 
 pub problems_break_checks : ProblemsBreakChecks
-problems_break_checks ms fault.NotToml h = always ms fault.NotToml refl h
-problems_break_checks ms fault.Key h = by_keys ms fault.Key h
-problems_break_checks ms fault.UnknownKey h = by_keys ms fault.UnknownKey h
-problems_break_checks ms fault.Number h = by_check ms 2 fault.Number refl h
-problems_break_checks ms fault.TooMany h = by_check ms 3 fault.TooMany refl h
-problems_break_checks ms fault.Place h = by_check ms 4 fault.Place refl h
-problems_break_checks ms fault.Register h = by_check ms 5 fault.Register refl h
-problems_break_checks ms fault.Size h = by_check ms 6 fault.Size refl h
-problems_break_checks ms fault.GuestName h = by_check ms 7 fault.GuestName refl h
-problems_break_checks ms fault.Slot h = by_check ms 8 fault.Slot refl h
-problems_break_checks ms fault.Aperture h = by_check ms 9 fault.Aperture refl h
-problems_break_checks ms fault.CellMasks h = by_check ms 10 fault.CellMasks refl h
-problems_break_checks ms fault.Memory h = always ms fault.Memory refl h
+problems_break_checks ms fault h = from_number (number_of fault) (checks ms) (by_check ms fault h)

@@ -1,9 +1,8 @@
 -- Of each problem of registers and of cell masks something is said beyond the words of its rule.
-use Rattle.std.proofs.Common.{◌≡◌, ◌≢◌, ◌⊎◌, inl, inr, ℕ, suc, ◌+◌, Bool, true, false, ◌||◌, not, List, [], ◌∷◌, ◌++◌, take, map, Option, Some, None, option_map, refl, sym, ap, subst, ◌∙◌, arith}
-use Rattle.std.specs.Prelude.{filter, slice_get, nat_abs, option_and_then}
-use Rattle.std.specs.List.{flat_map, list_all, position, enumerate_from}
-use Rattle.std.specs.Option.{option_map_or}
-use Rattle.std.proofs.lemmas.Bool.{both_ways, eqb-true}
+use Rattle.std.proofs.Common.{◌≡◌, ◌≢◌, ◌⊎◌, inl, inr, ℕ, suc, ◌+◌, Bool, true, false, ◌||◌, not, List, [], ◌∷◌, ◌++◌, take, map, Option, Some, None, option_map, refl, sym, ap, subst, arith}
+use Rattle.std.specs.Prelude.{filter, slice_get, nat_abs}
+use Rattle.std.specs.List.{flat_map, list_all, enumerate_from}
+use Rattle.std.proofs.lemmas.Bool.{eqb-true}
 use Rattle.lists.specs.Elements.{IsIn}
 use Rattle.lists.proofs.Members.{front_or_back, from_flat_map, from_filter, all_in}
 use Rattle.toml.specs.Data.{Members}
@@ -26,10 +25,9 @@ use Rattle.board_check.specs.declared.lines.Told.{Told}
 use Rattle.board_check.specs.Problems.{is_wrong, problems_of, key_problems}
 use Rattle.board_check.specs.Spoiling.{is_clear}
 use Rattle.board_check.specs.AllProblems.{with_check, all_from, later_checks}
-use Rattle.board_check.specs.PatternCauses.{keyed_text, masks_text, bar_masks_text, config_masks_text}
+use Rattle.board_check.specs.PatternCauses.{keyed_text, masks_text}
 use Rattle.board_check.specs.RegisterCauses.{taker_of}
-use Rattle.board_check.specs.Others.{block_before, other_of}
-use Rattle.board_check.specs.Said.{bar_of, config_of}
+use Rattle.board_check.specs.Others.{other_of}
 use Rattle.board_check.specs.Causes.{own_text, beside_text, cause_text}
 use Rattle.board_check.specs.Telling.{found_in, IsTold}
 use Rattle.board_check.specs.CauseLaws.{needs_cause, CausesAreTold}
@@ -129,10 +127,7 @@ module _ (f : File) (i : ℕ) (e : Endpoint) (at : slice_get f.endpoints i ≡ S
       each_rule f (entry.Endpoint i) (endpoint_rules fault.Register f i e)
       (λ r there. let it = alone r rule.OwnRegisters (not (has_indices e) || has_own_registers (map region e.bars)) there in
       subst (Reason f (entry.Endpoint i)) (sym it.0) (by_region (a_taker it.1)))
-  endpoint_caused fault.Number = no_cause f (entry.Endpoint i) (endpoint_rules fault.Number f i e) refl
-  endpoint_caused fault.TooMany = no_cause f (entry.Endpoint i) (endpoint_rules fault.TooMany f i e) refl
-  endpoint_caused fault.Place = no_cause f (entry.Endpoint i) (endpoint_rules fault.Place f i e) refl
-  endpoint_caused _ = λ x m. absurd m
+  endpoint_caused fault = no_cause f (entry.Endpoint i) (endpoint_rules fault f i e) refl
 
   bar_masks_caused : (j : ℕ) (b : Bar) → slice_get e.bars j ≡ Some b → AllCaused f (broken (entry.Bar i j) (bar_rules fault.CellMasks b))
   bar_masks_caused j b there =
@@ -140,33 +135,20 @@ module _ (f : File) (i : ℕ) (e : Endpoint) (at : slice_get f.endpoints i ≡ S
       (λ r m. subst (Reason f (entry.Bar i j)) (sym (alone r rule.BarMasks (is_block (nat_abs b.block) b.patterns) m).0) (by_itself patterns))
     where
       patterns : (k : List ℕ) → own_text f (entry.Bar i j) rule.BarMasks k ≢ []
-      patterns k h =
-          let bar : bar_of f (entry.Bar i j) ≡ Some b = ap (option_and_then (λ (d : Endpoint). slice_get d.bars j)) at ∙ there in
-          masks_said (nat_abs b.block) b.patterns
-          (sym (ap (λ (o : Option Bar). option_map_or bar_masks_text o (option_map_or config_masks_text (config_of f (entry.Bar i j)) [])) bar) ∙ h)
+      patterns k h = grind (arith, masks_said)
 
   bar_caused : (fault : BoardFault) (j : ℕ) (b : Bar) → slice_get e.bars j ≡ Some b → AllCaused f (broken (entry.Bar i j) (bar_rules fault b))
   bar_caused fault.CellMasks j b there = bar_masks_caused j b there
-  bar_caused fault.Number j b there = no_cause f (entry.Bar i j) (bar_rules fault.Number b) refl
-  bar_caused fault.Register j b there = no_cause f (entry.Bar i j) (bar_rules fault.Register b) refl
-  bar_caused fault.Size j b there = no_cause f (entry.Bar i j) (bar_rules fault.Size b) refl
-  bar_caused _ j b there = λ x m. absurd m
+  bar_caused fault j b there = no_cause f (entry.Bar i j) (bar_rules fault b) refl
 
   config_masks_caused : (j : ℕ) (c : Config) → slice_get e.configs j ≡ Some c → AllCaused f (broken (entry.Config i j) (config_rules fault.CellMasks e.configs j c))
   config_masks_caused j c there = each_rule f (entry.Config i j) (config_rules fault.CellMasks e.configs j c) reasons
     where
       patterns : (k : List ℕ) → own_text f (entry.Config i j) rule.ConfigMasks k ≢ []
-      patterns k h =
-          let block : config_of f (entry.Config i j) ≡ Some c = ap (option_and_then (λ (d : Endpoint). slice_get d.configs j)) at ∙ there in
-          masks_said (nat_abs c.block) c.patterns (sym (ap (λ (o : Option Config). option_map_or config_masks_text o []) block) ∙ h)
+      patterns k h = grind (arith, masks_said)
 
       an_earlier : list_all (λ d. are_apart d c) (take j e.configs) ≡ false → other_of f (entry.Config i j) rule.OwnOffsets ≢ None
-      an_earlier meets none =
-          let found : option_and_then (block_before i e.configs j) (slice_get e.configs j) ≡ None =
-          sym (ap (option_and_then (λ (d : Endpoint). option_and_then (block_before i d.configs j) (slice_get d.configs j))) at) ∙ none in
-          let here : option_map (entry.Config i) (position (λ d. not (are_apart d c)) (take j e.configs)) ≡ None = sym (ap (option_and_then (block_before i e.configs j)) there) ∙ found in
-          both_ways (list_all (λ d. are_apart d c) (take j e.configs)) meets
-          (no_position (λ (d : Config). are_apart d c) (take j e.configs) (none_mapped (entry.Config i) (position (λ d. not (are_apart d c)) (take j e.configs)) here))
+      an_earlier meets none = grind (arith, no_position, none_mapped)
 
       reasons : (r : Rule) → IsIn {A = Rule × Bool} (r, false) (config_rules fault.CellMasks e.configs j c) → Reason f (entry.Config i j) r
       reasons r (inl same) = subst (Reason f (entry.Config i j)) (sym (ap (λ (p : Rule × Bool). p.0) same)) (by_itself patterns)
@@ -176,8 +158,7 @@ module _ (f : File) (i : ℕ) (e : Endpoint) (at : slice_get f.endpoints i ≡ S
 
   config_caused : (fault : BoardFault) (j : ℕ) (c : Config) → slice_get e.configs j ≡ Some c → AllCaused f (broken (entry.Config i j) (config_rules fault e.configs j c))
   config_caused fault.CellMasks j c there = config_masks_caused j c there
-  config_caused fault.Number j c there = no_cause f (entry.Config i j) (config_rules fault.Number e.configs j c) refl
-  config_caused _ j c there = λ x m. absurd m
+  config_caused fault j c there = no_cause f (entry.Config i j) (config_rules fault e.configs j c) refl
 
 -- ---- all entries
 
@@ -192,13 +173,10 @@ module _ (f : File) where
 
   bridge_says : (fault : BoardFault) (i : ℕ) (b : Bridge) → list_all says_all (bridge_rules fault f i b) ≡ true
   bridge_says fault.Number i b = refl
-  bridge_says fault.TooMany i b = refl
-  bridge_says fault.Place i b = refl
   bridge_says _ i b = refl
 
   guest_says : (fault : BoardFault) (i : ℕ) (g : Guest) → list_all says_all (guest_rules fault f i g) ≡ true
   guest_says fault.TooMany i g = refl
-  guest_says fault.GuestName i g = refl
   guest_says _ i g = refl
 
   slot_says : (fault : BoardFault) (i : ℕ) (own : List (List ℕ)) (j : ℕ) (t : List ℕ) → list_all says_all (slot_rules fault f i own j t) ≡ true
