@@ -1,8 +1,7 @@
 -- A call of an engine: the world that is kept as it begins, and what the call leaves.
-use Rattle.std.proofs.Common.{List, ap, drop, get_or, length, refl, subst, sym, take, ℕ, ◌++◌, ◌<◌, ◌∙◌, ◌≡◌, rules}
+use Rattle.std.proofs.Common.{List, drop, get_or, length, refl, subst, sym, take, ℕ, ◌++◌, ◌<◌, ◌≡◌, rules, arith}
 use Rattle.std.proofs.lemmas.List.{take_at}
 use Rattle.std.proofs.lemmas.Option.{slice_get_read}
-use Rattle.model_board.specs.State.{State}
 use Rattle.model_board.specs.Routing.{routing}
 use Rattle.model_guests.specs.Text.{Text}
 use Rattle.model_guests.specs.WorldNow.{WorldNow}
@@ -35,11 +34,8 @@ pub record Leaves (v : WorldNow) (h new : HostState) (names : List Text) (gs : L
   pub routes : routing h.state.functions ≡ routing new.state.functions
   pub world : world_shown new names gs ≡ v
 
-routing_kept : {w : WorldNow} {h : HostState} {names : List Text} {gs : List Guest} → IsKept w h names gs → routing h.state.functions ≡ routing w.handoff.functions
-routing_kept {w} kept = ap (λ (s : State). routing s.functions) kept.agrees ∙ keeps_routing w.handoff kept.lawful.handoff.board w.guests kept.lawful.seated
-
 pub leaves : {w v : WorldNow} {h new : HostState} {names : List Text} {gs back : List Guest} → IsKept w h names gs → IsKept v new names back → routing w.handoff.functions ≡ routing v.handoff.functions → Leaves v h new names back
-leaves {w} {v} {h} {new} {names} {gs} {back} before after same = search (rules, is_shown, is_sound, routing_kept)
+leaves {w} {v} {h} {new} {names} {gs} {back} before after same = grind (arith, is_shown, is_sound, keeps_routing)
 
 -- the guests were lent
 pub back_in : {v : WorldNow} {h new : HostState} {names : List Text} {left : List Guest} (gs : List Guest) (n : ℕ) → length left ≡ n → Leaves v h new names left

@@ -1,5 +1,5 @@
 -- What is kept of guests over a handoff is kept over another with the same board and routing registers.
-use Rattle.std.proofs.Common.{◌≡◌, ℕ, List, [], ◌∷◌, Some, None, Option, sym, ap, ◌∙◌, subst, rules}
+use Rattle.std.proofs.Common.{◌≡◌, ℕ, List, [], ◌∷◌, Some, Option, sym, ap, ◌∙◌, subst, rules, arith}
 use Rattle.std.specs.Prelude.{find, map, slice_get}
 use Rattle.std.specs.Option.{option_map_or}
 use Rattle.lists.proofs.Indices.{at_map, index_in, map_at}
@@ -16,11 +16,11 @@ use Rattle.model_board.specs.State.{BoardFunction, State, row_at}
 use Rattle.model_audit.specs.Orderly.{IsStateOfBoard}
 use Rattle.model_guests.specs.Text.{Text}
 use Rattle.model_guests.specs.Slots.{Slots}
-use Rattle.model_guests.specs.Guests.{GuestNow, GuestsNow}
+use Rattle.model_guests.specs.Guests.{GuestsNow}
 use Rattle.model_handoff.proofs.Standing.{at_path, found}
 use Rattle.monitor.specs.declared.guest.Held.{Held}
 use Rattle.monitor.specs.declared.guest.Guest.{Guest}
-use Rattle.monitor.specs.Keeping.{IsHeld, IsSlot, AreSlots, IsGuest, AreGuests}
+use Rattle.monitor.specs.Keeping.{IsHeld, IsSlot, AreSlots, AreGuests}
 
 -- ---- the bases of an endpoint, by its routing row
 
@@ -51,19 +51,14 @@ module _ (s t : State) (on_s : IsStateOfBoard s.functions) (on_t : IsStateOfBoar
   held_carried p f h is = search (rules, bases_held)
 
   slot_carried : (q : Option Path) (f : Option Function) (o : Option Held) → IsSlot s q f o → IsSlot t q f o
-  slot_carried None None None is = tt
-  slot_carried (Some p) (Some f) (Some h) is = held_carried p f h is
-  slot_carried q f o is = absurd is
+  slot_carried q f o is = grind (arith, held_carried)
 
   slots_carried : (qs : List (Option Path)) (fs : Slots) (os : List (Option Held)) → AreSlots s qs fs os → AreSlots t qs fs os
   slots_carried [] [] [] are = tt
   slots_carried (q ∷ qs) (f ∷ fs) (o ∷ os) are = (slot_carried q f o are.0, slots_carried qs fs os are.1)
   slots_carried qs fs os are = absurd are
 
-  guest_carried : (name : Text) (w : GuestNow) (g : Guest) → IsGuest s name w g → IsGuest t name w g
-  guest_carried name w g is = record { name_is = is.name_is; latch = is.latch; slots = slots_carried w.paths w.lone.slots g.slots.items is.slots }
-
   pub guests_carried : (ts : List Text) (ws : GuestsNow) (gs : List Guest) → AreGuests s ts ws gs → AreGuests t ts ws gs
   guests_carried [] [] [] are = tt
-  guests_carried (name ∷ ts) (w ∷ ws) (g ∷ gs) are = (guest_carried name w g are.0, guests_carried ts ws gs are.1)
+  guests_carried (name ∷ ts) (w ∷ ws) (g ∷ gs) are = grind (arith, guests_carried ts ws gs, slots_carried)
   guests_carried ts ws gs are = absurd are

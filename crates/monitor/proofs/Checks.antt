@@ -8,9 +8,7 @@ abbrev pub slot_checked : Bool → Bool → Option ℕ → Option ℕ
 slot_checked past there o = cond past (Some 303) (cond (not there) (Some 601) o)
 
 pub refused_first : (past there : Bool) (o : Option ℕ) {number : ℕ} → slot_checked past there None ≡ Some number → slot_checked past there o ≡ Some number
-refused_first true there o e = e
-refused_first false true o e = cc
-refused_first false false o e = e
+refused_first past there o e = grind arith
 
 pub passes_slot : {past there : Bool} → past ≡ false → there ≡ true → (o : Option ℕ) → slot_checked past there o ≡ o
 passes_slot {past} {there} low is o = ap (λ (t : Bool). slot_checked t there o) low ∙ ap (λ (t : Bool). slot_checked false t o) is

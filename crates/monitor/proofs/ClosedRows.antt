@@ -1,5 +1,5 @@
 -- The first closed region of given functions, row by row.
-use Rattle.std.proofs.Common.{◌≡◌, ℕ, suc, ◌+◌, ◌<◌, add-one, Bool, true, false, ◌||◌, cond, not, List, [], ◌∷◌, ◌++◌, length, drop, get_or, Some, None, Result, Ok, Err, refl, sym, ap, ◌∙◌}
+use Rattle.std.proofs.Common.{◌≡◌, ℕ, suc, ◌+◌, ◌<◌, add-one, Bool, true, false, ◌||◌, cond, not, List, [], ◌∷◌, ◌++◌, length, drop, get_or, Some, None, Result, Ok, Err, refl, sym, ap, ◌∙◌, arith}
 use Rattle.std.proofs.Math.Seq.{drop-cons}
 use Rattle.std.proofs.lemmas.List.Elements.{filter-append}
 use Rattle.std.specs.Prelude.{map, flat_map, filter, slice_get, IfOk}
@@ -54,14 +54,9 @@ module _ (ps : List Path) where
       by p command (windows wio wmem wpref) = tt
 
   kept : (p : Path) (t : Bool) → given p ≡ t → (qs : List PlacedRegion) → Each (IsAt p) qs → filter (is_among ps) qs ≡ cond t qs []
-  kept p true e [] at = refl
-  kept p false e [] at = refl
-  kept p true e (q ∷ qs) at =
-      let here : is_among ps q ≡ true = ap given at.0 ∙ e in
-      ap (λ t. cond t (q ∷ filter (is_among ps) qs) (filter (is_among ps) qs)) here ∙ ap (λ (xs : List PlacedRegion). q ∷ xs) (kept p true e qs at.1)
-  kept p false e (q ∷ qs) at =
-      let here : is_among ps q ≡ false = ap given at.0 ∙ e in
-      ap (λ t. cond t (q ∷ filter (is_among ps) qs) (filter (is_among ps) qs)) here ∙ kept p false e qs at.1
+  kept p o e [] at = grind arith
+  kept p true e (q ∷ qs) at = grind (arith, kept p true e qs)
+  kept p false e (q ∷ qs) at = grind (arith, kept p false e qs)
 
   front : (xs ys : List PlacedRegion) → slice_get (xs ++ ys) 0 ≡ first_of_two (slice_get xs 0) (slice_get ys 0)
   front [] ys = refl
@@ -93,11 +88,7 @@ module _ (w : World) (s : State) (order : IsInOrder s.functions) where
   fault_is = ap (λ (ps : List Problem). first_of_two (first_problem ps) (first_closed (closed_given w s))) ((problems_decide s.functions).1 order)
 
   pub closed_first : (q : PlacedRegion) → slice_get (closed_given w s) 0 ≡ Some q → first_fault w s ≡ Some (closed_region q)
-  closed_first q e = fault_is ∙ by (closed_given w s) e
-    where
-      by : (qs : List PlacedRegion) → slice_get qs 0 ≡ Some q → first_closed qs ≡ Some (closed_region q)
-      by [] e = cc
-      by (x ∷ qs) e = let same : x ≡ q = cc in ap (λ (y : PlacedRegion). Some (closed_region y)) same
+  closed_first q e = grind (arith, fault_is)
 
   module _ (none : slice_get (closed_given w s) 0 ≡ None) where
     pub no_fault : first_fault w s ≡ None

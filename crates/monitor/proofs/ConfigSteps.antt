@@ -1,7 +1,6 @@
 -- A read and a write of the configuration space of the function in a slot.
-use Rattle.std.proofs.Common.{◌≡◌, ℕ, ◌*◌, ◌/◌, ◌%◌, Bool, cond, List, [], Some, None, Option, slice_get, slice_set, sym, ap, ap₂, ◌∙◌, subst, get_or, length, refl, rules}
+use Rattle.std.proofs.Common.{◌≡◌, ℕ, ◌*◌, ◌/◌, ◌%◌, Bool, cond, List, [], Some, None, Option, slice_get, slice_set, sym, ap, ap₂, ◌∙◌, subst, get_or, length, refl, arith}
 use Rattle.std.specs.Prelude.{is_some}
-use Rattle.std.specs.Option.{option_map_or}
 use Rattle.std.proofs.lemmas.Option.{slice_get_read, slice_get_within}
 use Rattle.model_registers.specs.Registers.{config, File, read, write, all_bytes, number}
 use Rattle.model_registers.specs.ByteEnables.{lanes, enables_of, into_lanes, IsWidth}
@@ -72,9 +71,7 @@ module _ {w : WorldNow} {h : HostState} {names : List Text} {gs : List Guest} {i
 
     pub config_reads : (off width : ℕ) {value : ℕ} → value ≡ number seen.file (config off) width → answered value width ≡ reply_at (lone_nth w i) reads width (at_target (configuration n off))
     unfolding seen
-    config_reads off width is =
-        ap (λ (x : ℕ). answered x width) (is ∙ ap (λ (o : Option Function). number (option_map_or (λ (f : Function). f.file) o []) (config off) width) (sym slot.function))
-        ∙ ap (perform reads width (lone_nth w i).slots) (sym (lands off))
+    config_reads off width is = grind (arith, lands)
 
     -- a write of the bytes of a word
     module _ (off width v : ℕ) (wide : IsWidth width) (aligned : off % width ≡ 0) {enables moved : ℕ} (enables_are : enables ≡ enables_of off width) (moved_is : moved ≡ into_lanes off v)
@@ -92,17 +89,13 @@ module _ {w : WorldNow} {h : HostState} {names : List Text} {gs : List Guest} {i
       abbrev board_change : File → File
       board_change = write (handed_on (config word) (lanes enables)) moved (config word)
 
-      same_change : word_change ≡ own_change
-      same_change = λ k file. (sym (write_by_lanes file (config off) width v (aligned_lies_in_word off width wide aligned)
-          ∙ (λ m. write (lanes (sym enables_are m)) (sym moved_is m) (config word) file))) k
-
       state : new.state ≡ with_change_at board_change slot.p h.state
       state =
           changed_held at slot board_change
           (is_new ∙ ap₂ (λ (k : ℕ) (ons : List Bool). with_functions (with_file_nth (write ons moved (config word)) k h.state.functions) h) written.slots.index written.slots.others)
 
       world : with_guest_at i (with_slot_changed word_change n (guest_nth w i)) w ≡ with_lone_nth i (after_access_at (lone_nth w i) (writes v) width (at_target (configuration n off))) w
-      world = search (rules, lands, same_change, with_guest_at)
+      world = grind (arith, lands, write_by_lanes, aligned_lies_in_word)
 
       pub config_written : Leaves (with_lone_nth i (after_access_at (lone_nth w i) (writes v) width (at_target (configuration n off))) w) h new names left
       config_written = leaves at.kept

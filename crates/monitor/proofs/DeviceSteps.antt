@@ -1,5 +1,5 @@
 -- A byte that a device reads or writes of a function in a slot: the checks in their order, and the world afterwards.
-use Rattle.std.proofs.Common.{◌≡◌, ℕ, ◌%◌, Bool, true, false, not, cond, List, [], ◌∷◌, ◌||◌, Some, None, Option, refl, sym, ap, ◌∙◌, subst, rules}
+use Rattle.std.proofs.Common.{◌≡◌, ℕ, Bool, true, false, not, cond, List, [], ◌∷◌, ◌||◌, Some, None, Option, refl, sym, ap, ◌∙◌, subst, rules, arith}
 use Rattle.std.specs.Prelude.{is_some, nat_le, IsSome}
 use Rattle.std.specs.Option.{option_map_or}
 use Rattle.lists.proofs.Indices.{set_same}
@@ -7,7 +7,7 @@ use Rattle.model_registers.specs.Cell.{Cell}
 use Rattle.model_registers.specs.Registers.{Place, place_eq, cell_at, File}
 use Rattle.model_registers.specs.FileLaws.{has_place}
 use Rattle.model_registers.specs.OwnCopies.{is_own}
-use Rattle.model_registers.specs.DeviceBytes.{is_device_byte, with_value, set_value}
+use Rattle.model_registers.specs.DeviceBytes.{set_value}
 use Rattle.model_registers.specs.Decoding.{Function}
 use Rattle.model_registers.specs.CopiedFiles.{agreed_file, places_of}
 use Rattle.model_registers.proofs.RegisterFiles.{place_same}
@@ -17,14 +17,14 @@ use Rattle.model_board.specs.Paths.{Path}
 use Rattle.model_board.specs.State.{BoardFunction, State}
 use Rattle.model_board.specs.AtReset.{board_at}
 use Rattle.model_guests.specs.Accesses.{answered, done}
-use Rattle.model_guests.specs.Slots.{Slots, slot_at, raise_place}
+use Rattle.model_guests.specs.Slots.{Slots, slot_at}
 use Rattle.model_guests.specs.Lone.{LoneGuest}
 use Rattle.model_guests.specs.Guests.{lone_of}
 use Rattle.model_guests.specs.AgreedBoard.{with_change_at}
 use Rattle.model_guests.proofs.AgreedFiles.{stands, agreed_places, agreed_common}
 use Rattle.model_guests.proofs.GuestFiles.{with_file_there}
 use Rattle.model_guests.specs.Text.{Text}
-use Rattle.model_devices.specs.DeviceEvents.{DeviceByte, device_reads, device_writes, if_device_byte, device_place, byte_fault, device_fault, device_answer, device_after, byte_landing}
+use Rattle.model_devices.specs.DeviceEvents.{DeviceByte, device_reads, device_writes, device_place, byte_fault, device_fault, device_answer, device_after, byte_landing}
 use Rattle.model_devices.specs.DeviceByteLaws.{byte_change}
 use Rattle.model_devices.proofs.Bytes.{passes, read_there, write_answered, written_there}
 use Rattle.model_devices.proofs.Seats.{seated_after}
@@ -53,18 +53,8 @@ use Rattle.monitor.proofs.Checks.{low_slot, passes_slot, refused_first}
 
 -- ---- the place
 
-named_byte : (o : Option Place) (q : Place) → (is_some o ≡ true → o ≡ Some q) → is_some (if_device_byte o) ≡ true → if_device_byte o ≡ Some q
-named_byte None q is_q h = cc
-named_byte (Some p) q is_q h =
-    let same : Some p ≡ Some q = is_q refl in
-    ap if_device_byte same ∙ found (is_device_byte q) (ap (λ (o : Option Place). is_some (if_device_byte o)) (sym same) ∙ h)
-  where
-    found : (t : Bool) → is_some (cond {A = Option Place} t (Some q) None) ≡ true → cond t (Some q) None ≡ Some q
-    found true e = refl
-    found false e = cc
-
 pub device_named_place : (f : Function) (place : headers.Place) (off : ℕ) → is_some (device_place f (part_of place) off) ≡ true → device_place f (part_of place) off ≡ Some (place_of place off)
-device_named_place f place off h = named_byte (raise_place f (part_of place) off) (place_of place off) (named_place f place off) h
+device_named_place f place off h = grind (arith, named_place)
 
 -- ---- the checks
 
@@ -89,13 +79,7 @@ stands_is q (e ∷ es) = ap (λ (t : Bool). place_eq e.place q || t) (stands_is 
 
 -- where guest and board have cells at the same places, a set value is one where the guest has a cell
 pub same_change : (left own : File) → places_of own ≡ places_of left → (v : ℕ) (q : Place) → set_value v q (agreed_file left own) ≡ byte_change own v q (agreed_file left own)
-same_change left own same v q = cases (has_place own q) refl
-  where
-    cases : (t : Bool) → has_place own q ≡ t → set_value v q (agreed_file left own) ≡ cond t (set_value v q (agreed_file left own)) (agreed_file left own)
-    cases true e = refl
-    cases false e =
-        change_none (with_value (v % 256)) (agreed_file left own) q
-        (stands_is q (agreed_file left own) ∙ ap (stands q) (agreed_places left own ∙ sym same) ∙ sym (stands_is q own) ∙ e)
+same_change left own same v q = grind (arith, change_none, stands_is, agreed_places)
 
 -- ---- a function in a slot of a world that is kept
 
@@ -151,11 +135,7 @@ module _ {w : WorldNow} {h : HostState} {names : List Text} {gs : List Guest} {i
       f = record slot.f { file = set_value v q slot.f.file }
 
       apart : (p : Place) → is_own p ≡ true → place_eq q p ≡ false
-      apart p mine = cases (place_eq q p) refl
-        where
-          cases : (t : Bool) → place_eq q p ≡ t → t ≡ false
-          cases false e = refl
-          cases true e = sym mine ∙ sym (ap is_own (place_same q p e)) ∙ device_not_own q reach.own
+      apart p mine = grind (arith, place_same, device_not_own)
 
       still_held : IsHeld w.handoff slot.p f reach.held
       still_held = search (rules, apart, change_beside)

@@ -1,5 +1,5 @@
 -- Slots and guests, one after the other, as they are before any of them did anything.
-use Rattle.std.proofs.Common.{◌≡◌, ◌≤◌, ◌+◌, ◌-◌, ℕ, zero, suc, List, [], ◌∷◌, ◌++◌, length, take, Option, Some, None, refl, sym, ap, ◌∙◌, subst, rules}
+use Rattle.std.proofs.Common.{◌≡◌, ◌≤◌, ◌+◌, ◌-◌, ℕ, zero, suc, List, [], ◌∷◌, ◌++◌, length, take, Option, Some, None, refl, sym, ap, ◌∙◌, subst, rules, arith}
 use Rattle.std.specs.Prelude.{map, flat_map, replicate, slice_get, IsSome}
 use Rattle.std.proofs.lemmas.List.{append-nil, append_assoc, map-append, length-map, take_all}
 use Rattle.lists.specs.Elements.{Each}
@@ -60,10 +60,7 @@ module _ (h : HostState) where
       let ds : List (Option Endpoint) = map (declared b) (take i ps) in
       let paths : (qs ++ []) ++ Some p ∷ [] ≡ map Some (take (i + 1) ps) ++ [] = ap (λ xs. xs ++ Some p ∷ []) (append-nil qs) ∙ sym (map_push Some ps i p at) ∙ sym (append-nil (map Some (take (i + 1) ps))) in
       let decls : (ds ++ []) ++ declared b p ∷ [] ≡ map (declared b) (take (i + 1) ps) ++ [] = ap (λ xs. xs ++ declared b p ∷ []) (append-nil ds) ∙ sym (map_push (declared b) ps i p at) ∙ sym (append-nil (map (declared b) (take (i + 1) ps))) in
-      let functions : map reset_function (ds ++ []) ++ reset_function (declared b p) ∷ [] ≡ map reset_function (map (declared b) (take (i + 1) ps) ++ []) = sym (map-append reset_function (ds ++ []) (declared b p ∷ [])) ∙ ap (map reset_function) decls in
-      subst (λ (xs : List (Option Path)). AreSlots h.state xs (map reset_function (map (declared b) (take (i + 1) ps) ++ [])) (os ++ Some o ∷ [])) paths
-      (subst (λ (fs : Slots). AreSlots h.state ((qs ++ []) ++ Some p ∷ []) fs (os ++ Some o ∷ [])) functions
-      (slots_push h.state (qs ++ []) (map reset_function (ds ++ [])) os (Some p) (reset_function (declared b p)) (Some o) are is))
+      grind (arith, map-append, slots_push)
 
   pub all_filled : (ps : List Path) (i : ℕ) (os : List (Option Held)) → length ps ≤ i → AreSlotsWith h (take i ps) 0 os → (k : ℕ) → k ≡ 0 → AreSlotsWith h ps k os
   all_filled ps i os past are k none =
@@ -75,10 +72,7 @@ module _ (h : HostState) where
       let ds : List (Option Endpoint) = map (declared b) ps in
       let paths : (qs ++ replicate k None) ++ None ∷ [] ≡ qs ++ replicate (suc k) None = append_assoc qs (replicate k None) (None ∷ []) ∙ ap (λ xs. qs ++ xs) (one_more k None) in
       let decls : (ds ++ replicate k None) ++ None ∷ [] ≡ ds ++ replicate (suc k) None = append_assoc ds (replicate k None) (None ∷ []) ∙ ap (λ xs. ds ++ xs) (one_more k None) in
-      let functions : map reset_function (ds ++ replicate k None) ++ None ∷ [] ≡ map reset_function (ds ++ replicate (suc k) None) = sym (map-append reset_function (ds ++ replicate k None) (None ∷ [])) ∙ ap (map reset_function) decls in
-      subst (λ (xs : List (Option Path)). AreSlots h.state xs (map reset_function (ds ++ replicate (suc k) None)) (os ++ None ∷ [])) paths
-      (subst (λ (fs : Slots). AreSlots h.state ((qs ++ replicate k None) ++ None ∷ []) fs (os ++ None ∷ [])) functions
-      (slots_push h.state (qs ++ replicate k None) (map reset_function (ds ++ replicate k None)) os None None None are tt))
+      grind (arith, map-append, slots_push)
 
   pub all_slots : (ps : List Path) (k : ℕ) (os : List (Option Held)) → k ≡ 32 - length ps → AreSlotsWith h ps k os → AreSlotsAtFirst h ps os
   all_slots ps k os all are = search (rules, length-map)

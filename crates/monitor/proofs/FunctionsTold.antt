@@ -44,12 +44,7 @@ seats_shown s board i r at k ts ws gs are = absurd are
 -- the seat is none of the first guest's
 pub seat_next : (i k : ℕ) (gs : List Guest) (g : Guest) (slots : List (Option Held)) (r : Option Seat) → 1 ≤ length gs → g ≡ get_or gs 0 g → slots ≡ g.slots.items
     → position (is_at i) slots ≡ None → r ≡ seat_kept i (k + 1) (take (length gs - 1) (drop 1 gs)) → r ≡ seat_kept i k gs
-seat_next i k [] g slots r some is same none more = absurd (omega arith)
-seat_next i k (x ∷ gs) g slots r some is same none more =
-    let missed : position (is_at i) x.slots.items ≡ None =
-    ap (λ (y : Guest). position (is_at i) y.slots.items) (sym is) ∙ ap (position (is_at i)) (sym same) ∙ none in
-    let rest : take (length (x ∷ gs) - 1) gs ≡ gs = take_all (length (x ∷ gs) - 1) gs (omega arith) in
-    more ∙ ap (seat_kept i (k + 1)) rest ∙ sym (ap (λ (o : Option ℕ). first_of_two (option_map (λ (n : ℕ). let y : Seat = record { guest = k; slot = n } in y) o) (seat_kept i (k + 1) gs)) missed)
+seat_next i k gs g slots r some is same none more = grind (arith, take_all)
 
 -- ---- a slot without a function has no path
 

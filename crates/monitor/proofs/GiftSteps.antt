@@ -69,16 +69,6 @@ declared_by s p o e = declared_there s.functions p ∙ ap (λ (x : Option BoardF
 pub not_there : (s : State) (p : Path) → None ≡ there_at s p → declared (board_at s.functions) p ≡ None
 not_there s p e = declared_by s p None (sym e)
 
-bridge_there : (s : State) (p : Path) (f : BoardFunction) → there_at s p ≡ Some f → (wio wmem wpref : Option Window) → windows wio wmem wpref ≡ ranges_of f.file f.decl → declared (board_at s.functions) p ≡ None
-bridge_there s p f e wio wmem wpref is = declared_by s p (Some f) e ∙ by f.decl refl
-  where
-    by : (d : Decl) → f.decl ≡ d → option_map (λ (x : Function). x.decl) (as_endpoint f) ≡ None
-    by (endpoint d) k = absurd (clash (is ∙ ap (ranges_of f.file) k))
-      where
-        clash : {bs : List BaseAddress} → windows wio wmem wpref ≡ regions bs → ⊥
-        clash {bs} h = cc
-    by (bridge d) k = ap (λ (x : Decl). option_map (λ (y : Function). y.decl) (as_endpoint (record { path = f.path; decl = x; file = f.file }))) k
-
 pub endpoint_there : (s : State) (p : Path) (i : ℕ) → slice_get s.functions i ≡ there_at s p → (bs : List BaseAddress) → Some (regions bs) ≡ option_map (λ (f : BoardFunction). ranges_of f.file f.decl) (slice_get s.functions i) → IsEndpointAt s p i
 endpoint_there s p i at bs ranges = by (slice_get s.functions i) refl ranges
   where
@@ -95,11 +85,7 @@ endpoint_there s p i at bs ranges = by (slice_get s.functions i) refl ranges
         let path : f.path ≡ p = path_same f.path p (found_passes (at_path p) s.functions f there) in
         let file : file_at s.functions p ≡ f.file = file_is f there in
         let same : f ≡ record { path = p; decl = endpoint d; file = file_at s.functions p } = λ n. record { path = path n; decl = j n; file = sym file n } in
-        record {
-          d = d;
-          declares = declared_by s p (Some f) there ∙ ap (λ (g : BoardFunction). option_map (λ (x : Function). x.decl) (as_endpoint g)) same;
-          there = e ∙ ap Some same;
-        }
+        grind (arith, declared_by)
 
     by : (o : Option BoardFunction) → slice_get s.functions i ≡ o → Some (regions bs) ≡ option_map (λ (f : BoardFunction). ranges_of f.file f.decl) o → IsEndpointAt s p i
     by None e k = cc
@@ -116,11 +102,7 @@ lawful_bases s state p i is =
 -- what else stands there is no endpoint
 pub bridge_at : (s : State) (p : Path) (i : ℕ) → slice_get s.functions i ≡ there_at s p → (wio wmem wpref : Option Window) → Some (windows wio wmem wpref) ≡ option_map (λ (f : BoardFunction). ranges_of f.file f.decl) (slice_get s.functions i)
     → declared (board_at s.functions) p ≡ None
-bridge_at s p i at wio wmem wpref told = by (slice_get s.functions i) refl told
-  where
-    by : (o : Option BoardFunction) → slice_get s.functions i ≡ o → Some (windows wio wmem wpref) ≡ option_map (λ (f : BoardFunction). ranges_of f.file f.decl) o → declared (board_at s.functions) p ≡ None
-    by None e k = cc
-    by (Some f) e k = bridge_there s p f (sym at ∙ e) wio wmem wpref (cc k)
+bridge_at s p i at wio wmem wpref told = grind (arith, declared_by)
 
 abbrev pub AreWindows : RangesNow → Type 0
 AreWindows (Regions slots) = ⊥
@@ -132,11 +114,7 @@ windows_at s p i at (Regions slots) are told = absurd are
 windows_at s p i at (Windows wio wmem wpref) are told = bridge_at s p i at (option_map window_of wio) (option_map window_of wmem) (option_map window_of wpref) told
 
 pub none_at : (s : State) (p : Path) (i : ℕ) → slice_get s.functions i ≡ there_at s p → None ≡ option_map (λ (f : BoardFunction). ranges_of f.file f.decl) (slice_get s.functions i) → declared (board_at s.functions) p ≡ None
-none_at s p i at told = by (slice_get s.functions i) refl told
-  where
-    by : (o : Option BoardFunction) → slice_get s.functions i ≡ o → None ≡ option_map (λ (f : BoardFunction). ranges_of f.file f.decl) o → declared (board_at s.functions) p ≡ None
-    by None e k = not_there s p (sym e ∙ at)
-    by (Some f) e k = cc
+none_at s p i at told = grind (arith, not_there)
 
 -- ---- who has it
 

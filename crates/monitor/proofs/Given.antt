@@ -6,11 +6,10 @@ use Rattle.model_board.specs.Paths.{Path}
 use Rattle.model_board.specs.Board.{endpoint, Board}
 use Rattle.model_board.specs.AtReset.{board_at}
 use Rattle.model_board.specs.Routing.{routing}
-use Rattle.model_board.specs.State.{BoardFunction, State}
+use Rattle.model_board.specs.State.{State}
 use Rattle.model_audit.specs.Orderly.{IsStateOfBoard}
 use Rattle.model_guests.specs.Slots.{reset_function}
 use Rattle.model_guests.specs.Text.{Text}
-use Rattle.model_guests.specs.World.{declared}
 use Rattle.model_guests.specs.Guests.{GuestNow, GuestsNow, guest_named, with_guest, with_slot_filled}
 use Rattle.model_handoff.specs.Kept.{IsLawfulOver}
 use Rattle.model_handoff.specs.ViewLaws.{with_seated_reset}
@@ -98,18 +97,11 @@ module _ {w : WorldNow} {h : HostState} {names : List Text} {gs : List Guest} {i
           (subst (λ (ws : GuestsNow). AreGuests (with_reset_at p w.handoff) names ws (slice_set gs i ex.guest)) (sym (with_named at (with_slot_filled n (Some p) d)))
           (guests_carried w.handoff (with_reset_at p w.handoff) at.kept.lawful.handoff.board alike.handoff.board alike.board alike.routing_is names (slice_set w.guests i filled) (slice_set gs i ex.guest) put))
 
-      -- the board has the endpoint that the handoff has
-      declares_now : declared (board_at h.state.functions) p ≡ Some d
-      declares_now = ap (λ (s : State). declared (board_at s.functions) p) at.kept.agrees ∙ ap (λ (b : Board). declared b p) (keeps_board w.handoff w.guests) ∙ can.1.declares
-
       row_now : slice_get (board_at h.state.functions) held.index ≡ Some (record { path = p; decl = endpoint d })
       row_now = ap (λ (s : State). slice_get (board_at s.functions) held.index) at.kept.agrees ∙ ap (λ (b : Board). slice_get b held.index) (keeps_board w.handoff w.guests) ∙ comes.row
 
       board_reset : new.state ≡ with_reset_at p (board_state w)
-      board_reset =
-          ap (λ (x : HostState). x.state) is_new
-          ∙ ap (λ (fs : List BoardFunction). let t : State = record h.state { functions = fs } in t) (reset_row h.state.functions held.index p d row_now)
-          ∙ sym (reset_by h.state p d declares_now) ∙ ap (with_reset_at p) at.kept.agrees
+      board_reset = grind (arith, reset_row, row_now, reset_by, keeps_board)
 
       kept_given : IsKept (after_give w the_gift) new names back
       kept_given = subst (λ (v : WorldNow). IsKept v new names back) (sym is) (record {

@@ -1,12 +1,12 @@
 -- A function by its index is the one at its path: each slot has the one just where it has the other.
-use Rattle.std.proofs.Common.{◌≡◌, ◌<◌, ◌⊎◌, ℕ, Bool, true, false, inl, inr, eqb, cond, ◌||◌, ◌+◌, List, [], ◌∷◌, Some, None, Option, slice_get, refl, sym, ap, ap₂, ◌∙◌, arith}
-use Rattle.std.specs.Prelude.{IsTrue, position}
+use Rattle.std.proofs.Common.{◌≡◌, ◌<◌, ◌⊎◌, ℕ, Bool, false, eqb, cond, ◌||◌, ◌+◌, List, [], ◌∷◌, Some, None, Option, slice_get, refl, sym, ap₂, ◌∙◌, arith}
+use Rattle.std.specs.Prelude.{position}
 use Rattle.std.specs.List.{list_any, position_from}
 use Rattle.std.proofs.lemmas.Bool.Decides.{nat_tests}
 use Rattle.std.proofs.lemmas.Iterator.Adapters.{position_from-zero}
 use Rattle.lists.proofs.Indices.{pair_at, same_at}
 use Rattle.model_registers.specs.Decoding.{Function}
-use Rattle.model_board.specs.Paths.{Path, path_eq, path_before}
+use Rattle.model_board.specs.Paths.{Path, path_eq}
 use Rattle.model_board.specs.Board.{Row, Board, IsBoard}
 use Rattle.model_board.specs.AtReset.{board_at}
 use Rattle.model_board.specs.State.{State}
@@ -24,22 +24,8 @@ sides : (i j : ℕ) → eqb j i ≡ false → (i < j) ⊎ (j < i)
 sides i j e = grind (arith, nat_tests)
 
 module _ (b : Board) (board : IsBoard b) where
-  apart : (i j : ℕ) (r t : Row) → i < j → slice_get b i ≡ Some r → slice_get b j ≡ Some t → path_eq r.path t.path ≡ false
-  apart i j r t h at by = before_apart r.path t.path (pair_at (λ (r s : Row). IsTrue (path_before r.path s.path)) b i j r t board.in_order h at by)
-
   same_index : (i j : ℕ) (r t : Row) → slice_get b i ≡ Some r → slice_get b j ≡ Some t → eqb j i ≡ path_eq t.path r.path
-  same_index i j r t at by = cases (eqb j i) refl
-    where
-      cases : (c : Bool) → eqb j i ≡ c → c ≡ path_eq t.path r.path
-      cases true e =
-          let here : j ≡ i = grind (arith, nat_tests) in
-          let one : t ≡ r = same_at b i t r (ap (slice_get b) (sym here) ∙ by) at in
-          sym (ap (λ (x : Row). path_eq x.path r.path) one ∙ path_self r.path)
-      cases false e = of (sides i j e)
-        where
-          of : (i < j) ⊎ (j < i) → false ≡ path_eq t.path r.path
-          of (inl h) = sym (path_eq-sym t.path r.path ∙ apart i j r t h at by)
-          of (inr h) = sym (apart j i t r h by at)
+  same_index i j r t at by = grind (arith, nat_tests, same_at, slice_get, path_self, sides, path_eq-sym, before_apart, pair_at)
 
 -- ---- slot by slot
 

@@ -1,10 +1,10 @@
 -- Where an address of a guest lands: slot after slot, by the guest's own copies.
-use Rattle.std.proofs.Common.{◌≡◌, ℕ, zero, suc, ◌+◌, ◌<◌, ◌≤◌, List, [], ◌∷◌, length, Some, None, Option, drop, slice_get, refl, sym, ap, ◌∙◌, arith, rules}
+use Rattle.std.proofs.Common.{◌≡◌, ℕ, zero, suc, ◌+◌, ◌<◌, ◌≤◌, List, [], ◌∷◌, length, Some, None, Option, drop, slice_get, refl, ap, arith, rules}
 use Rattle.std.specs.Prelude.{option_map, unwrap_or}
 use Rattle.std.proofs.lemmas.List.{drop_all}
 use Rattle.lists.specs.Elements.{first_of_two}
 use Rattle.model_registers.specs.Registers.{block}
-use Rattle.model_registers.specs.Decoding.{Space, Function, Hit}
+use Rattle.model_registers.specs.Decoding.{Space, Hit}
 use Rattle.model_board.specs.Paths.{Path}
 use Rattle.model_board.specs.State.{State}
 use Rattle.model_guests.specs.Slots.{Slots, slot_at, Landing, landing_in, landing_from}
@@ -23,9 +23,7 @@ module _ (space : Space) (addr : ℕ) where
       → landing_from k space addr (drop n fs) ≡ first_of_two (landing_in k space addr (slot_at fs n)) (landing_from (k + 1) space addr (drop (n + 1) fs))
   next [] n k h = absurd (omega arith)
   next (f ∷ fs) zero k h = refl
-  next (f ∷ fs) (suc n) k h =
-      let one : suc (n + 1) ≡ suc n + 1 = omega arith in
-      next fs n k (omega arith) ∙ ap (λ (m : ℕ). first_of_two (landing_in k space addr (slot_at fs n)) (landing_from (k + 1) space addr (drop m (f ∷ fs)))) one
+  next (f ∷ fs) (suc n) k h = grind (arith, next fs n k)
 
   module _ (s : State) (qs : List (Option Path)) (fs : Slots) (os : List (Option Held)) (are : AreSlots s qs fs os) (n : ℕ) (within : n < length os) where
     inside : n < length fs
@@ -40,10 +38,7 @@ module _ (space : Space) (addr : ℕ) where
         ≡ first_of_two (option_map (λ (k : Hit). let l : Landing = record { slot = n; place = block k.index k.offset } in l) o) (landing_from (n + 1) space addr (drop (n + 1) fs))
     decoded h at o decodes =
         let slot = slot_there s qs fs os n h are at in
-        next fs n n inside
-        ∙ ap (λ (s : Option Function). first_of_two (landing_in n space addr s) (landing_from (n + 1) space addr (drop (n + 1) fs))) slot.function
-        ∙ ap (λ (c : Option Hit). first_of_two (option_map (λ (k : Hit). let l : Landing = record { slot = n; place = block k.index k.offset } in l) c) (landing_from (n + 1) space addr (drop (n + 1) fs)))
-        (sym (decodes slot.f slot.held.own slot.held.regions))
+        grind (arith, next, inside)
 
     pub passed : (h : Held) → slice_get os n ≡ Some (Some h) → Decodes h.own space addr None → landing_from n space addr (drop n fs) ≡ landing_from (n + 1) space addr (drop (n + 1) fs)
     passed h at decodes = decoded h at None decodes

@@ -1,5 +1,5 @@
 -- A move of a function in a world that is kept: the slot that it leaves, and the slot that it comes to.
-use Rattle.std.proofs.Common.{◌≡◌, ℕ, zero, suc, false, ◌||◌, not, cond, List, [], ◌∷◌, Some, None, Option, slice_get, slice_set, refl, sym, ap, ap₂, ◌∙◌, subst, Bool, arith, true, ◌<◌, rules}
+use Rattle.std.proofs.Common.{◌≡◌, ℕ, zero, suc, ◌||◌, not, cond, List, [], ◌∷◌, Some, None, Option, slice_get, slice_set, refl, sym, ap, ap₂, ◌∙◌, subst, arith, true, ◌<◌, rules}
 use Rattle.std.specs.Prelude.{is_some, nat_le, unwrap_or, IsSome}
 use Rattle.std.specs.Option.{option_map_or}
 use Rattle.std.proofs.lemmas.Bool.Decides.{nat_tests}
@@ -59,28 +59,14 @@ record Passes (os : List (Option Held)) (n m : ℕ) : Type 0 where
   in_range : m < 32
 
 passes : (os ps : List (Option Held)) (n m : ℕ) → None ≡ fault_between os n ps m → Passes os n m
-passes os ps n m h =
-    let parts = cases (nat_le 32 n || nat_le 32 m) (is_taken os n) (is_taken ps m) h in
-    record { taken = parts.1; in_range = below n m parts.0 }
-  where
-    cases : (a b c : Bool) → None ≡ cond {A = Option ℕ} a (Some 303) (cond (not b) (Some 601) (cond c (Some 602) None)) → (a ≡ false) × (b ≡ true)
-    cases true b c h = cc
-    cases false false c h = cc
-    cases false true c h = (refl, refl)
-
-    below : (x y : ℕ) → (nat_le 32 x || nat_le 32 y) ≡ false → y < 32
-    below x y h = grind (arith, nat_tests)
+passes os ps n m h = grind (arith, nat_tests)
 
 -- ---- guests
 
 -- the name at an index, where one guest is changed and keeps its name
 name_stays : (ws : GuestsNow) (i j : ℕ) (x y z d : GuestNow) → slice_get ws i ≡ Some x → y.name ≡ x.name → slice_get (slice_set ws i y) j ≡ Some z → (unwrap_or (slice_get ws j) d).name ≡ z.name
 name_stays [] i j x y z d at same is = cc
-name_stays (g ∷ ws) zero zero x y z d at same is =
-    let one : g ≡ x = cc in
-    let two : y ≡ z = cc in
-    ap (λ (t : GuestNow). t.name) one ∙ sym same ∙ ap (λ (t : GuestNow). t.name) two
-name_stays (g ∷ ws) zero (suc j) x y z d at same is = ap (λ (o : Option GuestNow). (unwrap_or o d).name) is
+name_stays (g ∷ ws) zero j x y z d at same is = grind arith
 name_stays (g ∷ ws) (suc i) zero x y z d at same is = let one : g ≡ z = cc in ap (λ (t : GuestNow). t.name) one
 name_stays (g ∷ ws) (suc i) (suc j) x y z d at same is = name_stays ws i j x y z d at same is
 

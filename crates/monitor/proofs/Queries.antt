@@ -1,11 +1,11 @@
 -- What is kept of a guest shows what its regions are, and what its accesses hit.
-use Rattle.std.proofs.Common.{◌≡◌, ◌≤◌, ◌<◌, ℕ, zero, suc, ◌+◌, ◌*◌, ◌/◌, Bool, true, false, cond, eqb, List, [], ◌∷◌, Some, None, Option, Err, slice_get, refl, sym, ap, ap₂, ◌∙◌, subst, arith, rules}
-use Rattle.std.specs.Prelude.{find, map, nat_le, option_map, Result, is_some}
+use Rattle.std.proofs.Common.{◌≡◌, ◌≤◌, ◌<◌, ℕ, zero, suc, ◌+◌, ◌*◌, ◌/◌, Bool, false, cond, eqb, List, [], ◌∷◌, Some, None, Option, Err, slice_get, refl, sym, ap, ap₂, ◌∙◌, subst, arith, rules}
+use Rattle.std.specs.Prelude.{find, map, option_map, Result}
 use Rattle.std.specs.Option.{option_map_or, ok_or}
 use Rattle.std.proofs.lemmas.Bool.Decides.{nat_tests}
 use Rattle.lists.proofs.Indices.{found_at, index_in}
 use Rattle.lists.proofs.Members.{each_in, in_map}
-use Rattle.model_registers.specs.Registers.{config, File, cell_at, read, number, all_bytes}
+use Rattle.model_registers.specs.Registers.{config, File, read, number, all_bytes}
 use Rattle.model_registers.specs.ByteEnables.{lanes}
 use Rattle.model_registers.specs.Declarations.{Kind, mem64, Region, registers_of, IsLawfulRegion, HasLawfulRegions}
 use Rattle.model_registers.specs.EndpointTable.{BaseAddress}
@@ -29,22 +29,12 @@ use Rattle.monitor.specs.Queries.{IsGuestNth}
 use Rattle.monitor.specs.InSlots.{IsInSlot, IsSlotFault}
 use Rattle.monitor.proofs.Steps.{slot_there, GuestAt, lone_named, slot_nth}
 use Rattle.monitor.proofs.ConfigSteps.{seen}
-use Rattle.monitor.proofs.Checks.{low_slot, slot_checked}
+use Rattle.monitor.proofs.Checks.{low_slot}
 
 -- ---- a base of 64 bits
 
 pub read_eight : (file : File) (a : ℕ) → number file (config a) 8 ≡ number file (config a) 4 + 0x100000000 * number file (config (a + 4)) 4
-read_eight file a =
-    let up : a + 1 + 1 + 1 + 1 ≡ a + 4 = omega arith in
-    let v0 : ℕ = (cell_at file (config a)).value in
-    let v1 : ℕ = (cell_at file (config (a + 1))).value in
-    let v2 : ℕ = (cell_at file (config (a + 1 + 1))).value in
-    let v3 : ℕ = (cell_at file (config (a + 1 + 1 + 1))).value in
-    ap (λ (m : ℕ). v0 + 256 * (v1 + 256 * (v2 + 256 * (v3 + 256 * number file (config m) 4)))) up
-    ∙ joined v0 v1 v2 v3 (number file (config (a + 4)) 4)
-  where
-    joined : (v0 v1 v2 v3 high : ℕ) → v0 + 256 * (v1 + 256 * (v2 + 256 * (v3 + 256 * high))) ≡ v0 + 256 * (v1 + 256 * (v2 + 256 * (v3 + 256 * 0))) + 0x100000000 * high
-    joined v0 v1 v2 v3 high = omega arith
+read_eight file a = grind arith
 
 -- a register is an own copy, each of its bytes
 own_register : (n : ℕ) → n < 6 → handed_on (config (0x10 + 4 * n)) (all_bytes 4) ≡ false ∷ false ∷ false ∷ false ∷ []
@@ -82,38 +72,18 @@ wide_base own file holds n low high others more first second k pref is room =
 none_from : (n k : ℕ) (slots : List (Option BasedRegion)) → n < k → find (λ (x : BaseAddress). eqb x.index n) (bars.bases_from k slots) ≡ None
 none_from n k [] h = refl
 none_from n k (None ∷ slots) h = none_from n (k + 1) slots (omega arith)
-none_from n k (Some r ∷ slots) h =
-    let other : eqb k n ≡ false = grind (arith, nat_tests) in
-    ap (λ (t : Bool). cond t (Some (bars.placed k r)) (find (λ (x : BaseAddress). eqb x.index n) (bars.bases_from (k + 1) slots))) other
-    ∙ none_from n (k + 1) slots (omega arith)
+none_from n k (Some r ∷ slots) h = grind (arith, nat_tests, none_from n (k + 1) slots)
 
 pub kept_at : (n k : ℕ) (slots : List (Option BasedRegion)) → find (λ (x : BaseAddress). eqb x.index (k + n)) (bars.bases_from k slots) ≡ option_map (bars.placed (k + n)) (bars.slot_at slots n)
 kept_at n k [] = refl
 kept_at zero k (None ∷ slots) = none_from (k + 0) (k + 1) slots (omega arith)
-kept_at zero k (Some r ∷ slots) =
-    let same : eqb k (k + 0) ≡ true = grind (arith, nat_tests) in
-    let stays : k ≡ k + 0 = omega arith in
-    ap (λ (t : Bool). cond t (Some (bars.placed k r)) (find (λ (x : BaseAddress). eqb x.index (k + 0)) (bars.bases_from (k + 1) slots))) same
-    ∙ ap (λ (m : ℕ). Some (bars.placed m r)) stays
-kept_at (suc n) k (None ∷ slots) =
-    let next : k + suc n ≡ k + 1 + n = omega arith in
-    ap (λ (m : ℕ). find (λ (x : BaseAddress). eqb x.index m) (bars.bases_from (k + 1) slots)) next ∙ kept_at n (k + 1) slots
-    ∙ ap (λ (m : ℕ). option_map (bars.placed m) (bars.slot_at slots n)) (sym next)
-kept_at (suc n) k (Some r ∷ slots) =
-    let next : k + suc n ≡ k + 1 + n = omega arith in
-    let other : eqb k (k + suc n) ≡ false = grind (arith, nat_tests) in
-    ap (λ (t : Bool). cond t (Some (bars.placed k r)) (find (λ (x : BaseAddress). eqb x.index (k + suc n)) (bars.bases_from (k + 1) slots))) other
-    ∙ ap (λ (m : ℕ). find (λ (x : BaseAddress). eqb x.index m) (bars.bases_from (k + 1) slots)) next ∙ kept_at n (k + 1) slots
-    ∙ ap (λ (m : ℕ). option_map (bars.placed m) (bars.slot_at slots n)) (sym next)
+kept_at zero k (Some r ∷ slots) = grind (arith, nat_tests)
+kept_at (suc n) k (None ∷ slots) = grind (arith, kept_at n (k + 1) slots)
+kept_at (suc n) k (Some r ∷ slots) = grind (arith, nat_tests, kept_at n (k + 1) slots)
 
 placed_at : (s : State) (p : Path) (n : ℕ) (rs : List Region) → find (λ (x : BaseAddress). eqb x.index n) (map (base_address (file_at s.functions p)) rs) ≡ option_map (base_address (file_at s.functions p)) (find (λ (r : Region). eqb r.index n) rs)
 placed_at s p n [] = refl
-placed_at s p n (r ∷ rs) = by_test (eqb r.index n) (placed_at s p n rs)
-  where
-    by_test : (t : Bool) → find (λ (x : BaseAddress). eqb x.index n) (map (base_address (file_at s.functions p)) rs) ≡ option_map (base_address (file_at s.functions p)) (find (λ (r : Region). eqb r.index n) rs)
-        → cond t (Some (base_address (file_at s.functions p) r)) (find (λ (x : BaseAddress). eqb x.index n) (map (base_address (file_at s.functions p)) rs)) ≡ option_map (base_address (file_at s.functions p)) (cond t (Some r) (find (λ (r : Region). eqb r.index n) rs))
-    by_test true more = refl
-    by_test false more = more
+placed_at s p n (r ∷ rs) = grind (arith, placed_at s p n rs)
 
 same_place : (s : State) (p : Path) (f : Function) (h : Held) (n : ℕ) → IsHeld s p f h → option_map (bars.placed n) (bars.slot_at h.placed n) ≡ option_map (base_address (file_at s.functions p)) (region_at f n)
 same_place s p f h n held =
@@ -149,21 +119,11 @@ a_region s p f h n x held lawful some = by_region (region_at f n) refl (ap (opti
         let regions : HasLawfulRegions (map bare f.decl.regions) = subst HasLawfulRegions (sym held.regions) lawful in
         let found = found_at (λ (y : Region). eqb y.index n) f.decl.regions r at in
         let room : r.index + registers_of r.kind ≤ 6 = (each_in IsLawfulRegion (bare r) (map bare f.decl.regions) regions.each (in_map bare r f.decl.regions (index_in f.decl.regions found.1.0 r found.1.1))).registers in
-        record {
-          region = r;
-          there = at;
-          index = index;
-          kind = ap (λ (y : BaseAddress). y.kind) (sym same);
-          size = ap (λ (y : BaseAddress). y.size) (sym same);
-          room = omega (arith, room, index);
-        }
-
-same_region : (x y : RegionNow) → x.space ≡ y.space → x.first ≡ y.first → x.size ≡ y.size → x.prefetchable ≡ y.prefetchable → x.is_open ≡ y.is_open → x ≡ y
-same_region x y e1 e2 e3 e4 e5 = search rules
+        grind arith
 
 pub region_told : (f : Function) (n : ℕ) (x : BasedRegion) → IsRegionAt f n x → (k : Kind) → k ≡ x.decl.kind → (v : RegionNow) → v.space ≡ space_of k → (n + registers_of k ≤ 6 → v.first ≡ base f.file n k)
     → v.size ≡ x.decl.size → v.prefetchable ≡ is_prefetchable k → v.is_open ≡ is_open f.file (space_of k) → Some v ≡ option_map (region_now f.file) (region_at f n)
-region_told f n x is k kind v space first size pref opened = search (rules, same_region)
+region_told f n x is k kind v space first size pref opened = grind arith
 
 -- ---- a guest by its index
 
@@ -185,12 +145,7 @@ module _ {w : WorldNow} {i : ℕ} {g : Guest} (is : IsGuestNth w i g) {slots : L
   answer_by past o = cond past (Err 303) (option_map_or (λ (f : Function). region_of f m) o (Err 601))
 
   pub answer_refused : {number : ℕ} → IsSlotFault slots n number → Err number ≡ region_answer (lone_nth w i) n m
-  answer_refused {number} fault = of (nat_le 32 n) (slot_at (lone_nth w i).slots n) (fault w.handoff (guest_nth w i).paths (lone_nth w i).slots lent)
-    where
-      of : (past : Bool) (o : Option Function) → slot_checked past (is_some o) None ≡ Some number → Err number ≡ answer_by past o
-      of true o e = cc
-      of false None e = cc
-      of false (Some f) e = cc
+  answer_refused {number} fault = grind (arith, lent)
 
   pub answer_there : {held : Held} → IsInSlot slots n held → {o : Option RegionNow}
       → ((s : State) (p : Path) (f : Function) → IsHeld s p f held → IsLawfulOwn held.own → o ≡ option_map (region_now f.file) (region_at f m))

@@ -1,5 +1,5 @@
 -- The place that a raise names, by the regions that are kept at the indices of their registers.
-use Rattle.std.proofs.Common.{◌≡◌, ℕ, zero, suc, ◌+◌, ◌<◌, ◌&&◌, ◌||◌, Bool, true, false, cond, eqb, List, [], ◌∷◌, Some, None, Option, refl, sym, ap, ap₂, ◌∙◌, arith}
+use Rattle.std.proofs.Common.{◌≡◌, ℕ, zero, suc, ◌+◌, ◌<◌, ◌&&◌, ◌||◌, Bool, true, false, cond, eqb, List, [], ◌∷◌, Some, None, Option, refl, sym, ap, ◌∙◌, arith}
 use Rattle.std.specs.Prelude.{map, is_some, nat_lt, slice_get}
 use Rattle.std.specs.List.{list_any}
 use Rattle.std.specs.Option.{option_map_or}
@@ -34,28 +34,13 @@ kept_size off o = option_map_or (λ (r : BasedRegion). nat_lt off r.decl.size) o
 none_below : (n k off : ℕ) (slots : List (Option BasedRegion)) → n < k → list_any (reaches n off) (bases_from k slots) ≡ false
 none_below n k off [] h = refl
 none_below n k off (None ∷ slots) h = none_below n (k + 1) off slots (omega arith)
-none_below n k off (Some r ∷ slots) h =
-    let other : eqb k n ≡ false = grind (arith, nat_tests) in
-    ap₂ (λ (t u : Bool). (t && nat_lt off r.decl.size) || u) other (none_below n (k + 1) off slots (omega arith))
+none_below n k off (Some r ∷ slots) h = grind (arith, nat_tests, none_below n (k + 1) off slots)
 
 any_kept : (n k off : ℕ) (slots : List (Option BasedRegion)) → list_any (reaches (k + n) off) (bases_from k slots) ≡ kept_size off (slot_at slots n)
 any_kept n k off [] = refl
-any_kept zero k off (None ∷ slots) = none_below (k + 0) (k + 1) off slots (omega arith)
-any_kept zero k off (Some r ∷ slots) =
-    let same : eqb k (k + 0) ≡ true = grind (arith, nat_tests) in
-    ap₂ (λ (t u : Bool). (t && nat_lt off r.decl.size) || u) same (none_below (k + 0) (k + 1) off slots (omega arith)) ∙ or_false (nat_lt off r.decl.size)
-  where
-    or_false : (t : Bool) → (t || false) ≡ t
-    or_false true = refl
-    or_false false = refl
-any_kept (suc n) k off (None ∷ slots) =
-    let next : k + suc n ≡ k + 1 + n = omega arith in
-    ap (λ (m : ℕ). list_any (reaches m off) (bases_from (k + 1) slots)) next ∙ any_kept n (k + 1) off slots
-any_kept (suc n) k off (Some r ∷ slots) =
-    let next : k + suc n ≡ k + 1 + n = omega arith in
-    let other : eqb k (k + suc n) ≡ false = grind (arith, nat_tests) in
-    ap (λ (t : Bool). (t && nat_lt off r.decl.size) || list_any (reaches (k + suc n) off) (bases_from (k + 1) slots)) other
-    ∙ ap (λ (m : ℕ). list_any (reaches m off) (bases_from (k + 1) slots)) next ∙ any_kept n (k + 1) off slots
+any_kept zero k off r = grind (arith, none_below, nat_tests)
+any_kept (suc n) k off (None ∷ slots) = grind (arith, any_kept n (k + 1) off slots)
+any_kept (suc n) k off (Some r ∷ slots) = grind (arith, nat_tests, any_kept n (k + 1) off slots)
 
 -- ---- a region of the declaration
 

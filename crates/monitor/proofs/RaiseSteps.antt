@@ -1,11 +1,10 @@
 -- A raise of bits of a function in a slot: the checks in their order, and the world after it.
-use Rattle.std.proofs.Common.{◌≡◌, ◌≤◌, ℕ, Bool, true, false, cond, List, Some, None, Option, refl, sym, ap, ◌∙◌, subst, rules}
-use Rattle.std.specs.Prelude.{is_some, not, nat_lt, if◌then◌else◌}
-use Rattle.std.specs.List.{list_any}
+use Rattle.std.proofs.Common.{◌≡◌, ◌≤◌, ℕ, Bool, true, false, cond, List, Some, None, Option, refl, sym, ap, ◌∙◌, subst, rules, arith}
+use Rattle.std.specs.Prelude.{is_some, not, if◌then◌else◌}
 use Rattle.std.specs.Option.{option_map_or}
 use Rattle.lists.proofs.Indices.{set_same}
 use Rattle.model_registers.specs.Cell.{raised}
-use Rattle.model_registers.specs.Registers.{Place, config, block, File, raise}
+use Rattle.model_registers.specs.Registers.{File, raise}
 use Rattle.model_registers.specs.Decoding.{Function}
 use Rattle.model_board.specs.Paths.{Path}
 use Rattle.model_board.specs.State.{State}
@@ -18,7 +17,6 @@ use Rattle.model_guests.proofs.AgreedFiles.{raises_alike}
 use Rattle.model_guests.specs.Text.{Text}
 use Rattle.guest_functions.proofs.HeldCopies.{raised_held}
 use Rattle.headers.specs.declared.place.Place as headers
-use Rattle.headers.specs.declared.place.Place.TheVariants.{Cfg, Bar}
 use Rattle.headers.specs.Places.{place_of}
 use Rattle.host_bridge.specs.ByIndex.{with_file_nth}
 use Rattle.host_bridge.specs.HostState.{HostState, with_functions}
@@ -44,15 +42,7 @@ HasPlace held place off has = (s : State) (p : Path) (f : Function) → IsHeld s
 
 -- the place of a raise that is not refused
 pub named_place : (f : Function) (place : headers.Place) (off : ℕ) → is_some (raise_place f (part_of place) off) ≡ true → raise_place f (part_of place) off ≡ Some (place_of place off)
-named_place f place off h = of place h
-  where
-    kept : (t : Bool) (q : Place) → is_some (cond t (Some q) None) ≡ true → cond t (Some q) None ≡ Some q
-    kept true q h = refl
-    kept false q h = cc
-
-    of : (x : headers.Place) → is_some (raise_place f (part_of x) off) ≡ true → raise_place f (part_of x) off ≡ Some (place_of x off)
-    of Cfg h = kept (nat_lt off 256) (config off) h
-    of (Bar n) h = kept (list_any _ f.decl.regions) (block n off) h
+named_place f place off h = grind arith
 
 -- ---- a function in a slot of a world that is kept
 
@@ -80,9 +70,6 @@ module _ {w : WorldNow} {h : HostState} {names : List Text} {gs : List Guest} {i
     no_place has = checked ∙ ap (λ (t : Bool). cond {A = Option ℕ} (not t) (Some 303) None) (sym (has w.handoff slot.p slot.f slot.held))
 
     module _ (has : HasPlace held place off true) where
-      raised_at : raise_place slot.f (part_of place) off ≡ Some (place_of place off)
-      raised_at = named_place slot.f place off (sym (has w.handoff slot.p slot.f slot.held))
-
       passes : raise_fault (lone_nth w i).slots r ≡ None
       passes = checked ∙ ap (λ (t : Bool). cond {A = Option ℕ} (not t) (Some 303) None) (sym (has w.handoff slot.p slot.f slot.held))
 
@@ -93,7 +80,7 @@ module _ {w : WorldNow} {h : HostState} {names : List Text} {gs : List Guest} {i
       own_change = raise mask (place_of place off)
 
       world : with_lone_nth i (after_event (lone_nth w i) (raises r)) w ≡ with_guest_at i (with_slot_changed own_change n (guest_nth w i)) w
-      world = search (rules, passes, raised_at)
+      world = grind (arith, passes, named_place)
 
       pub raise_written : {new : HostState} → new ≡ with_functions (with_file_nth (raised_beside_copies mask (place_of place off)) held.index h.state.functions) h
           → Leaves (with_lone_nth i (after_event (lone_nth w i) (raises r)) w) h new names gs

@@ -1,5 +1,5 @@
 -- A guest's address on the board: where it lands, the claim there, and what is read and written.
-use Rattle.std.proofs.Common.{◌≡◌, ℕ, ◌+◌, ◌%◌, Bool, inl, inr, List, [], ◌∷◌, Some, Option, slice_get, refl, sym, ap, ap₂, ◌∙◌, subst, arith, None, rules}
+use Rattle.std.proofs.Common.{◌≡◌, ℕ, ◌+◌, ◌%◌, Bool, List, [], ◌∷◌, Some, Option, slice_get, refl, sym, ap, ap₂, ◌∙◌, subst, arith, None, rules}
 use Rattle.std.specs.Prelude.{find, map, IsTrue, option_map, IsSome}
 use Rattle.std.specs.Option.{option_map_or}
 use Rattle.std.proofs.lemmas.Option.{slice_get_within}
@@ -15,7 +15,6 @@ use Rattle.model_board.specs.Paths.{Path, path_eq, path_before}
 use Rattle.model_board.specs.Board.{endpoint, Row, Board, IsBoard}
 use Rattle.model_board.specs.State.{BoardFunction, row_at, State}
 use Rattle.model_board.specs.Claims.{claim_at}
-use Rattle.model_board.specs.Cycles.{reached}
 use Rattle.model_board.specs.AtReset.{board_at}
 use Rattle.model_board.specs.Ports.{claim_reply, file_at}
 use Rattle.model_registers.specs.CopiedFiles.{after_reset, agreed_file, places_of}
@@ -64,13 +63,7 @@ all_handed n a (on ∷ ons) = ap₂ (λ (x : Bool) (xs : List Bool). x ∷ xs) (
 -- ---- alignment
 
 same_lanes : (a c w : ℕ) → IsWidth w → c % 4 ≡ a % 4 → a % w ≡ 0 → c % w ≡ 0
-same_lanes a c w (inl e) h k = let P : ℕ → Type 0 = λ n. c % n ≡ 0 in subst P (sym e) (omega arith)
-same_lanes a c w (inr (inl e)) h k =
-    let P : ℕ → Type 0 = λ n. a % n ≡ 0 → c % n ≡ 0 in
-    let two : a % 2 ≡ 0 → c % 2 ≡ 0 = λ even. omega arith in subst P (sym e) two k
-same_lanes a c w (inr (inr e)) h k =
-    let P : ℕ → Type 0 = λ n. a % n ≡ 0 → c % n ≡ 0 in
-    let four : a % 4 ≡ 0 → c % 4 ≡ 0 = λ all. h ∙ all in subst P (sym e) four k
+same_lanes a c w e h k = grind arith
 
 -- ---- a guest's slot of a world that is kept
 
@@ -120,10 +113,7 @@ module _ {w : WorldNow} {h : HostState} {names : List Text} {gs : List Guest} {i
     pub reached_held : IsReached h.state.functions held.index
     reached_held = record {
       at = address_now w.handoff.functions slot.p;
-      reaches =
-          ap (λ (s : State). reached s.functions (address_now w.handoff.functions slot.p)) at.kept.agrees
-          ∙ reached_is w.handoff at.kept.lawful.handoff.board w.guests at.kept.lawful.seated (name_nth w i) n slot.p slot.f named_slot at.kept.lawful.order.numbers
-          ∙ sym held_row;
+      reaches = grind (arith, reached_is, named_slot, held_row);
     }
 
     pub file_held : file_nth h.state.functions held.index ≡ on_board.file

@@ -1,11 +1,11 @@
 -- A read and a write of the region where a guest's address lands.
-use Rattle.std.proofs.Common.{◌≡◌, ℕ, ◌/◌, ◌%◌, Bool, true, false, cond, List, [], ◌∷◌, Some, None, Option, refl, sym, ap, ap₂, ◌∙◌, subst}
+use Rattle.std.proofs.Common.{◌≡◌, ℕ, ◌/◌, ◌%◌, Bool, cond, List, [], ◌∷◌, Some, None, Option, refl, sym, ap, ◌∙◌, subst, arith}
 use Rattle.std.specs.Option.{option_map_or}
 use Rattle.std.specs.Prelude.{option_map}
 use Rattle.lists.proofs.Indices.{set_same}
 use Rattle.model_registers.specs.ByteEnables.{IsWidth}
 use Rattle.model_registers.specs.Cell.{Cell, written}
-use Rattle.model_registers.specs.Registers.{Place, place_eq, block, after, PlacedCell, File, changed, write, all_bytes, number}
+use Rattle.model_registers.specs.Registers.{Place, block, after, File, changed, write, all_bytes, number}
 use Rattle.model_registers.specs.Decoding.{Space, io, memory, Function}
 use Rattle.model_board.specs.State.{State}
 use Rattle.model_board.specs.Claims.{Claim}
@@ -42,19 +42,11 @@ bare_cell c = record c { value = 0 }
 
 pub changed_shape : (f : Cell → Cell) → ((c : Cell) → bare_cell (f c) ≡ bare_cell c) → (p : Place) (file : File) → shape_of (changed f p file) ≡ shape_of file
 changed_shape f keeps p [] = refl
-changed_shape f keeps p (e ∷ es) = ap₂ (λ (x : PlacedCell) (xs : File). x ∷ xs) (one (place_eq e.place p)) (changed_shape f keeps p es)
-  where
-    one : (t : Bool) → record (cond t (record e { cell = f e.cell }) e) { cell = bare_cell (cond t (record e { cell = f e.cell }) e).cell } ≡ record e { cell = bare_cell e.cell }
-    one true = ap (λ (c : Cell). record e { cell = c }) (keeps e.cell)
-    one false = refl
+changed_shape f keeps p (e ∷ es) = grind (arith, changed_shape f keeps p es)
 
 pub written_shape : (ons : List Bool) (v : ℕ) (p : Place) (file : File) → shape_of (write ons v p file) ≡ shape_of file
 written_shape [] v p file = refl
-written_shape (on ∷ ons) v p file = written_shape ons (v / 256) (after p) (cond on (changed (written (v % 256)) p file) file) ∙ one on
-  where
-    one : (t : Bool) → shape_of (cond t (changed (written (v % 256)) p file) file) ≡ shape_of file
-    one true = changed_shape (written (v % 256)) (λ c. refl) p file
-    one false = refl
+written_shape (on ∷ ons) v p file = grind (arith, written_shape ons (v / 256) (after p) (cond on (changed (written (v % 256)) p file) file), changed_shape)
 
 landing_in_space : (space : Space) (addr : ℕ) (slots : Slots) → landing slots (target_in space addr) ≡ landing_from 0 space addr slots
 landing_in_space io addr slots = refl
@@ -75,11 +67,7 @@ module _ {w : WorldNow} {h : HostState} {names : List Text} {gs : List Guest} {i
 
   module _ (lands : Lands slots space addr None) where
     pub reply_nowhere : (op : Op) (width : ℕ) → perform op width [] None ≡ reply_at (lone_nth w i) op width target
-    reply_nowhere op width = of op ∙ ap (perform op width (lone_nth w i).slots) (sym (lands_as None lands))
-      where
-        of : (op : Op) → perform op width [] None ≡ perform op width (lone_nth w i).slots None
-        of reads = refl
-        of (writes v) = refl
+    reply_nowhere op width = grind (arith, lands_as, lands)
 
     pub after_nowhere : (op : Op) (width : ℕ) → w ≡ with_lone_nth i (after_access_at (lone_nth w i) op width target) w
     after_nowhere reads width = sym (with_same at)

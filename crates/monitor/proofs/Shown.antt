@@ -1,6 +1,6 @@
 -- Of a world that is kept, what the host and the guests show is that world.
-use Rattle.std.proofs.Common.{◌≡◌, ℕ, zero, suc, false, List, [], ◌∷◌, Some, None, Option, slice_get, refl, sym, ap, ap₂, ◌∙◌, subst, rules}
-use Rattle.std.specs.Prelude.{find, map, option_map, MatchOption, ⊤}
+use Rattle.std.proofs.Common.{◌≡◌, ℕ, zero, suc, false, List, [], ◌∷◌, Some, None, Option, slice_get, refl, sym, ap, ap₂, ◌∙◌, subst, rules, arith}
+use Rattle.std.specs.Prelude.{map, option_map, MatchOption, ⊤}
 use Rattle.std.specs.Option.{option_map_or}
 use Rattle.lists.proofs.Indices.{at_map, each_at, index_in, map_at}
 use Rattle.lists.proofs.Members.{each_in}
@@ -10,12 +10,12 @@ use Rattle.model_registers.specs.DeclarationRules.{IsLawfulEndpoint}
 use Rattle.model_registers.specs.EndpointTable.{endpoint_reset}
 use Rattle.model_registers.specs.Decoding.{Function}
 use Rattle.model_registers.specs.CopiedFiles.{agreed_file, places_of}
-use Rattle.model_board.specs.Paths.{Path, path_eq}
+use Rattle.model_board.specs.Paths.{Path}
 use Rattle.model_board.specs.Board.{endpoint, Board}
 use Rattle.model_board.specs.AtReset.{board_at}
 use Rattle.model_board.specs.Lawful.{HasLawfulDecls}
 use Rattle.model_board.specs.Ports.{file_at}
-use Rattle.model_board.specs.State.{BoardFunction, State, row_at}
+use Rattle.model_board.specs.State.{BoardFunction, State}
 use Rattle.model_guests.specs.Accesses.{answered}
 use Rattle.model_guests.specs.Grammar.{HostRead}
 use Rattle.model_guests.specs.HostReads.{host_fault, shown}
@@ -69,14 +69,7 @@ module _ (s : State) (handoff : IsHandoff s) (gs : GuestsNow) (p : Path) (f : Fu
   on_board = endpoint_at p f.decl (agreed_file left_file f.file)
 
   left_there : (i : ℕ) → slice_get (board_at s.functions) i ≡ Some (record { path = p; decl = endpoint f.decl }) → slice_get s.functions i ≡ Some left
-  left_there i row = of (at_map row_at s.functions i (record { path = p; decl = endpoint f.decl }) row)
-    where
-      of : (g : BoardFunction) × (slice_get s.functions i ≡ Some g) × (record { path = p; decl = endpoint f.decl } ≡ row_at g) → slice_get s.functions i ≡ Some left
-      of (g, at, e) =
-          let path : g.path ≡ p = ap (λ r. r.path) (sym e) in
-          let again : Some g ≡ Some (endpoint_at p f.decl (file_at s.functions p)) =
-          sym (found s.functions handoff.board g (index_in s.functions i g at)) ∙ ap (λ (q : Path). find (λ (h : BoardFunction). path_eq h.path q) s.functions) path ∙ there.found_is in
-          at ∙ again
+  left_there i row = grind (arith, at_map, slice_get, found, index_in)
 
   pub board_there : (i : ℕ) → slice_get (board_at s.functions) i ≡ Some (record { path = p; decl = endpoint f.decl }) → file_of gs p ≡ Some f.file → slice_get (state_over s gs).functions i ≡ Some on_board
   board_there i row file =

@@ -1,5 +1,5 @@
 -- One guest of a world that is kept, one of its slots, and the world after a change of that slot.
-use Rattle.std.proofs.Common.{◌≡◌, ℕ, zero, suc, List, [], ◌∷◌, length, Some, None, Option, slice_get, slice_set, refl, sym, ap, ◌∙◌, subst, rules}
+use Rattle.std.proofs.Common.{◌≡◌, ℕ, zero, suc, List, [], ◌∷◌, length, Some, None, Option, slice_get, slice_set, refl, sym, ap, ◌∙◌, subst, rules, arith}
 use Rattle.std.specs.Prelude.{map, unwrap_or}
 use Rattle.std.specs.Option.{option_map_or}
 use Rattle.lists.proofs.Indices.{set_same}
@@ -49,20 +49,15 @@ module _ (s : State) where
   pub slot_there : (qs : List (Option Path)) (fs : Slots) (os : List (Option Held)) (n : ℕ) (h : Held) → AreSlots s qs fs os → slice_get os n ≡ Some (Some h) → SlotOf s qs fs n h
   slot_there [] [] [] n h are at = cc
   slot_there (None ∷ qs) (None ∷ fs) (None ∷ os) zero h are at = cc
-  slot_there (Some p ∷ qs) (Some f ∷ fs) (Some k ∷ os) zero h are at =
-      let same : k ≡ h = cc in
-      record { p = p; f = f; path = refl; function = refl; held = subst (IsHeld s p f) same are.0 }
-  slot_there (q ∷ qs) (f ∷ fs) (o ∷ os) (suc n) h are at =
-      let more = slot_there qs fs os n h are.1 at in
-      record { p = more.p; f = more.f; path = more.path; function = more.function; held = more.held }
+  slot_there (Some p ∷ qs) (Some f ∷ fs) (Some k ∷ os) zero h are at = grind arith
+  slot_there (q ∷ qs) (f ∷ fs) (o ∷ os) (suc n) h are at = grind (arith, slot_there qs fs os n h)
   slot_there (q ∷ qs) (f ∷ fs) (o ∷ os) zero h are at = absurd are.0
   slot_there qs fs os n h are at = absurd are
 
   -- no function is in a slot without one, nor past the last
   pub slot_empty : (qs : List (Option Path)) (fs : Slots) (os : List (Option Held)) (n : ℕ) → AreSlots s qs fs os → unwrap_or (slice_get os n) None ≡ None → slot_at fs n ≡ None
   slot_empty [] [] [] n are at = refl
-  slot_empty (None ∷ qs) (None ∷ fs) (o ∷ os) zero are at = refl
-  slot_empty (Some p ∷ qs) (None ∷ fs) (o ∷ os) zero are at = refl
+  slot_empty p (None ∷ fs) (o ∷ os) zero are at = refl
   slot_empty (Some p ∷ qs) (Some f ∷ fs) (Some h ∷ os) zero are at = cc
   slot_empty (q ∷ qs) (f ∷ fs) (o ∷ os) (suc n) are at = slot_empty qs fs os n are.1 at
   slot_empty (q ∷ qs) (f ∷ fs) (o ∷ os) zero are at = absurd are.0
@@ -98,9 +93,7 @@ module _ (s : State) where
   pub guest_there : (ts : List Text) (ws : GuestsNow) (gs : List Guest) (i : ℕ) (g : Guest) → AreGuests s ts ws gs → slice_get gs i ≡ Some g → GuestOf s ws i g
   guest_there [] [] [] i g are at = cc
   guest_there (t ∷ ts) (w ∷ ws) (k ∷ gs) zero g are at = let same : k ≡ g = cc in record { x = w; name = t; there = refl; is = subst (IsGuest s t w) same are.0 }
-  guest_there (t ∷ ts) (w ∷ ws) (k ∷ gs) (suc i) g are at =
-      let more = guest_there ts ws gs i g are.1 at in
-      record { x = more.x; name = more.name; there = more.there; is = more.is }
+  guest_there (t ∷ ts) (w ∷ ws) (k ∷ gs) (suc i) g are at = grind (arith, guest_there ts ws gs i g)
   guest_there ts ws gs i g are at = absurd are
 
   -- as many guests as the world has
@@ -244,12 +237,7 @@ module _ {w : WorldNow} {h : HostState} {names : List Text} {gs : List Guest} {i
         → (after : HostState) → after.state ≡ with_change_at board_change slot.p h.state
         → IsKept (with_guest_at i (with_slot_changed own_change n (guest_nth w i)) w) after names (slice_set gs i k)
     kept_slot own_change board_change alike keeps own holds regions k latch items after state =
-        let held_now : IsHeld w.handoff slot.p (record slot.f { file = own_change slot.f.file }) (record held { own = own }) = record {
-          row = slot.held.row;
-          placed = slot.held.placed;
-          regions = slot.held.regions ∙ sym regions;
-          own = holds;
-        } in
+        let held_now : IsHeld w.handoff slot.p (record slot.f { file = own_change slot.f.file }) (record held { own = own }) = grind arith in
         kept_put (with_slot_changed own_change n) (λ t. refl) (λ t. refl)
         (seated_with (board_at w.handoff.functions) w.guests (with_slot_changed own_change n) (name_nth w i) (λ t. refl) (λ t. refl)
         (λ t s. record { count = s.count; seats = with_file_seats (board_at w.handoff.functions) t.paths own_change keeps n t.lone.slots s.seats }) at.kept.lawful.seated)

@@ -1,5 +1,5 @@
 -- A board that a monitor takes over: given functions at reset, one after the other.
-use Rattle.std.proofs.Common.{◌≡◌, ℕ, ◌+◌, Bool, true, false, ◌||◌, cond, List, [], ◌∷◌, ◌++◌, take, Option, Some, None, refl, sym, ap, ap₂, ◌∙◌, rules}
+use Rattle.std.proofs.Common.{◌≡◌, ℕ, ◌+◌, Bool, List, [], ◌∷◌, ◌++◌, take, Option, Some, None, refl, sym, ap, ◌∙◌, rules, arith}
 use Rattle.std.specs.Prelude.{map, flat_map, find, option_map, slice_get}
 use Rattle.std.specs.List.{list_any}
 use Rattle.std.specs.Option.{option_map_or}
@@ -7,20 +7,18 @@ use Rattle.std.proofs.lemmas.List.{append-nil}
 use Rattle.std.proofs.lemmas.List.Concat.{flat_map-append}
 use Rattle.lists.proofs.FirstFound.{found_passes}
 use Rattle.lists.proofs.Indices.{at_map}
-use Rattle.model_registers.specs.Registers.{File}
 use Rattle.model_registers.specs.Declarations.{Endpoint}
 use Rattle.model_registers.specs.Decoding.{Function}
 use Rattle.model_registers.specs.CopiedFiles.{after_reset}
 use Rattle.model_board.specs.Paths.{Path, path_eq}
-use Rattle.model_board.specs.Board.{Decl, endpoint, bridge, Row, Board}
+use Rattle.model_board.specs.Board.{endpoint, Board}
 use Rattle.model_board.specs.AtReset.{board_at}
-use Rattle.model_board.specs.State.{BoardFunction, row_at, with_file}
+use Rattle.model_board.specs.State.{BoardFunction, with_file}
 use Rattle.model_board.proofs.PathOrder.{path_same}
-use Rattle.model_guests.specs.World.{Guest, declared, endpoint_of}
+use Rattle.model_guests.specs.World.{Guest, declared}
 use Rattle.model_guests.specs.AgreedBoard.{agreed_function}
-use Rattle.model_guests.proofs.AgreedChanges.{agreed_by}
 use Rattle.model_guests.proofs.Changes.{agreed_twice}
-use Rattle.model_handoff.specs.Handoffs.{file_at_reset, files_given}
+use Rattle.model_handoff.specs.Handoffs.{files_given}
 use Rattle.model_handoff.proofs.First.{any_append, one_given}
 use Rattle.model_handoff.proofs.Functions.{path_stays}
 use Rattle.model_handoff.proofs.Keeping.{rows_stay}
@@ -32,24 +30,12 @@ use Rattle.window_packing.proofs.BarLists.{take_at}
 
 -- ---- some paths, and then others
 
-either : (o : Option File) (u v : Bool) (f : BoardFunction) → agreed_by (cond v o None) (agreed_by (cond u o None) f) ≡ agreed_by (cond (u || v) o None) f
-either o true false f = refl
-either o false false f = refl
-either o false true f = refl
-either None true true f = refl
-either (Some own) true true f = ap (λ (file : File). record f { file = file }) (sym (agreed_twice f.file own own))
-
 abbrev among : List Path → Path → Bool
 among ps p = list_any (λ q. path_eq q p) ps
 
 pub files_joined : (b : Board) (ps qs : List Path) (fs : List BoardFunction) → map (agreed_function (files_given b qs)) (map (agreed_function (files_given b ps)) fs) ≡ map (agreed_function (files_given b (ps ++ qs))) fs
 files_joined b ps qs [] = refl
-files_joined b ps qs (f ∷ fs) =
-    ap₂ (λ (x : BoardFunction) (xs : List BoardFunction). x ∷ xs)
-    (ap (λ (p : Path). agreed_by (files_given b qs p) (agreed_by (files_given b ps f.path) f)) (path_stays (files_given b ps f.path) f)
-    ∙ either (option_map file_at_reset (declared b f.path)) (among ps f.path) (among qs f.path) f
-    ∙ ap (λ t. agreed_by (cond t (option_map file_at_reset (declared b f.path)) None) f) (sym (any_append (λ q. path_eq q f.path) ps qs)))
-    (files_joined b ps qs fs)
+files_joined b ps qs (f ∷ fs) = grind (arith, files_joined b ps qs fs, path_stays, any_append, agreed_twice)
 
 pub no_files : (b : Board) (fs : List BoardFunction) → map (agreed_function (files_given b [])) fs ≡ fs
 no_files b [] = refl
@@ -57,27 +43,12 @@ no_files b (f ∷ fs) = ap (λ (xs : List BoardFunction). f ∷ xs) (no_files b 
 
 -- ---- one path
 
-of_decl : (p : Path) (d : Decl) (file : File) → endpoint_of (record { path = p; decl = d }) ≡ option_map (λ (e : Function). e.decl) (as_endpoint (record { path = p; decl = d; file = file }))
-of_decl p (endpoint d) file = refl
-of_decl p (bridge d) file = refl
-
 pub declared_there : (fs : List BoardFunction) (p : Path) → declared (board_at fs) p ≡ option_map (λ (e : Function). e.decl) (endpoint_at fs p)
 declared_there [] p = refl
-declared_there (f ∷ fs) p = by (path_eq f.path p) (declared_there fs p)
-  where
-    by : (t : Bool) → declared (board_at fs) p ≡ option_map (λ (e : Function). e.decl) (endpoint_at fs p)
-        → option_map_or endpoint_of (cond t (Some (row_at f)) (find (λ (r : Row). path_eq r.path p) (board_at fs))) None
-        ≡ option_map (λ (e : Function). e.decl) (option_map_or as_endpoint (cond t (Some f) (find (λ (g : BoardFunction). path_eq g.path p) fs)) None)
-    by true more = of_decl f.path f.decl f.file
-    by false more = more
+declared_there (f ∷ fs) p = grind (arith, declared_there fs p)
 
 pub one_reset : (fs : List BoardFunction) (p : Path) → with_endpoint_reset p fs ≡ map (agreed_function (files_given (board_at fs) (p ∷ []))) fs
-one_reset fs p = by (endpoint_at fs p) (declared_there fs p)
-  where
-    by : (o : Option Function) → declared (board_at fs) p ≡ option_map (λ (e : Function). e.decl) o
-        → option_map_or (λ (e : Function). with_file (after_reset e.decl) p fs) o fs ≡ map (agreed_function (files_given (board_at fs) (p ∷ []))) fs
-    by None e = sym (one_given (board_at fs) p None e fs)
-    by (Some f) e = sym (one_given (board_at fs) p (Some f.decl) e fs)
+one_reset fs p = grind (arith, declared_there, one_given)
 
 -- the function that stands at the path
 pub reset_found : (fs : List BoardFunction) (p : Path) (i : ℕ) → slice_get fs i ≡ find (λ (f : BoardFunction). path_eq f.path p) fs → with_reset_nth i fs ≡ with_endpoint_reset p fs
@@ -94,12 +65,7 @@ reset_found fs p i told = ap by_index told ∙ by (find (λ (f : BoardFunction).
 
 -- an endpoint by the row of the board
 pub reset_row : (fs : List BoardFunction) (i : ℕ) (p : Path) (d : Endpoint) → slice_get (board_at fs) i ≡ Some (record { path = p; decl = endpoint d }) → with_reset_nth i fs ≡ with_file (after_reset d) p fs
-reset_row fs i p d row = of (at_map row_at fs i (record { path = p; decl = endpoint d }) row)
-  where
-    of : (g : BoardFunction) × (slice_get fs i ≡ Some g) × (record { path = p; decl = endpoint d } ≡ row_at g) → with_reset_nth i fs ≡ with_file (after_reset d) p fs
-    of (g, there, e) =
-        ap (λ (o : Option BoardFunction). option_map_or (λ (x : Function). option_map_or (λ (f : BoardFunction). with_file (after_reset x.decl) f.path fs) o fs) (option_map_or as_endpoint o None) fs) there
-        ∙ ap (λ (r : Row). option_map_or (λ (x : Function). with_file (after_reset x.decl) r.path fs) (as_endpoint (record { path = r.path; decl = r.decl; file = g.file })) fs) (sym e)
+reset_row fs i p d row = grind (arith, at_map)
 
 -- ---- one more
 

@@ -1,10 +1,9 @@
 -- The own copies of a word and its other bytes add up within 32 bits.
-use Rattle.std.proofs.Common.{◌≡◌, ℕ, ◌+◌, ◌*◌, ◌/◌, ◌%◌, ◌<◌, ◌≤◌, ◌^◌, ◌⊎◌, Bool, true, false, cond, inl, inr, List, [], ◌∷◌, refl, sym, ap₂, ◌∙◌, subst, arith, lit≤, rules}
-use Rattle.std.specs.Prelude.{not}
+use Rattle.std.proofs.Common.{◌≡◌, ℕ, ◌+◌, ◌*◌, ◌/◌, ◌%◌, ◌<◌, ◌≤◌, ◌^◌, ◌⊎◌, Bool, true, false, cond, inl, inr, List, [], ◌∷◌, refl, sym, ap₂, ◌∙◌, subst, arith, lit≤}
 use Rattle.std.proofs.lemmas.Bool.Decides.{nat_tests}
 use Rattle.lists.proofs.Tests.{and_false}
 use Rattle.model_registers.specs.Registers.{config, File, cell_at, read}
-use Rattle.model_registers.specs.OwnCopies.{OwnCopies, own_file, IsLawfulOwn, is_own, handed_on}
+use Rattle.model_registers.specs.OwnCopies.{OwnCopies, own_file, IsLawfulOwn, handed_on}
 use Rattle.model_registers.specs.ByteEnables.{enabled_bytes}
 use Rattle.guest_functions.proofs.Copies.{IsAway, away_read}
 use Rattle.guest_functions.proofs.HeldCopies.{sum_of_bytes, enabled_bytes-fits}
@@ -12,12 +11,9 @@ use Rattle.guest_functions.proofs.HeldCopies.{sum_of_bytes, enabled_bytes-fits}
 abbrev four : Bool → Bool → Bool → Bool → List Bool
 four p q r s = p ∷ q ∷ r ∷ s ∷ []
 
-base_is_own : (off : ℕ) → 0x10 ≤ off → off < 0x28 → is_own (config off) ≡ true
-base_is_own off h k = grind (arith, nat_tests)
-
 -- none of the bytes is handed on
 none : (F : File) (off : ℕ) (p q r s : Bool) → 0x10 ≤ off → off + 4 ≤ 0x28 → read F (config off) (handed_on (config off) (four p q r s)) ≡ 0
-none F off p q r s h k = search (rules, and_false, base_is_own)
+none F off p q r s h k = grind (arith, and_false, nat_tests)
 
 byte : (t : Bool) (n : ℕ) → cond t (n % 256) 0 < 256
 byte true n = omega arith
@@ -43,32 +39,14 @@ status own lawful F p q r s small =
     scaled n = omega arith
 
 away : (off : ℕ) → off % 4 ≡ 0 → ((off ≡ 4) ⊎ ((0x10 ≤ off) × (off + 4 ≤ 0x28))) ⊎ IsAway off
-away off h = cases (Rattle.std.specs.Prelude.nat_le 8 off) refl (Rattle.std.specs.Prelude.nat_le 0x10 off) refl (Rattle.std.specs.Prelude.nat_le 0x28 off) refl (Rattle.std.specs.Prelude.nat_le 4 off) refl
-  where
-    cases : (t : Bool) → Rattle.std.specs.Prelude.nat_le 8 off ≡ t → (u : Bool) → Rattle.std.specs.Prelude.nat_le 0x10 off ≡ u → (v : Bool) → Rattle.std.specs.Prelude.nat_le 0x28 off ≡ v
-        → (x : Bool) → Rattle.std.specs.Prelude.nat_le 4 off ≡ x → ((off ≡ 4) ⊎ ((0x10 ≤ off) × (off + 4 ≤ 0x28))) ⊎ IsAway off
-    cases t a u b true d x e = let k : 0x28 ≤ off = grind (arith, nat_tests, d) in inr (record { command = inr (omega arith); bases = inr k })
-    cases t a true b false d x e =
-        let k : 0x10 ≤ off = grind (arith, nat_tests, b) in
-        let m : off < 0x28 = grind (arith, nat_tests, d) in inl (inr (k, omega arith))
-    cases true a false b false d x e =
-        let k : 8 ≤ off = grind (arith, nat_tests, a) in
-        let m : off < 0x10 = grind (arith, nat_tests, b) in inr (record { command = inr (omega arith); bases = inl (omega arith) })
-    cases false a false b false d true e =
-        let k : off < 8 = grind (arith, nat_tests, a) in
-        let m : 4 ≤ off = grind (arith, nat_tests, e) in inl (inl (omega arith))
-    cases false a false b false d false e =
-        let m : off < 4 = grind (arith, nat_tests, e) in inr (record { command = inl (omega arith); bases = inl (omega arith) })
+away off h = grind (arith, nat_tests)
 
 own_fits : (own : OwnCopies) → IsLawfulOwn own → (off : ℕ) (p q r s : Bool) → read (own_file own) (config off) (four p q r s) < 2 ^ 32
 own_fits own lawful off p q r s =
     let n : ℕ = read (own_file own) (config off) (four p q r s) in
     let more : ℕ = enabled_bytes (handed_on (config off) (four p q r s)) 0 in
     let sum : n + more ≡ enabled_bytes (four p q r s) (n + more) = sum_of_bytes own lawful (four p q r s) (config off) 0 in
-    let fits : enabled_bytes (four p q r s) (n + more) < 256 ^ 4 = enabled_bytes-fits (four p q r s) (n + more) in
-    let P : ℕ → Type 0 = λ x. x < 256 ^ 4 in
-    let small : n + more < 2 ^ 32 = subst P (sym sum) fits in
-    omega arith
+    grind (arith, enabled_bytes-fits)
 
 pub sum_fits : (own : OwnCopies) → IsLawfulOwn own → (F : File) (off : ℕ) (p q r s : Bool) → off % 4 ≡ 0
     → read F (config off) (handed_on (config off) (four p q r s)) < 2 ^ 32
@@ -80,7 +58,5 @@ sum_fits own lawful F off p q r s whole theirs = by_word (away off whole)
     by_word (inl (inl e)) =
         let P : ℕ → Type 0 = λ n. read F (config n) (handed_on (config n) (four p q r s)) < 2 ^ 32 → read (own_file own) (config n) (four p q r s) + read F (config n) (handed_on (config n) (four p q r s)) < 2 ^ 32 in
         subst P (sym e) (status own lawful F p q r s) theirs
-    by_word (inl (inr e)) =
-        let zero_rest = none F off p q r s e.0 e.1 in
-        let mine : read (own_file own) (config off) (four p q r s) < 2 ^ 32 = own_fits own lawful off p q r s in omega arith
+    by_word (inl (inr e)) = grind (arith, none, own_fits)
     by_word (inr h) = let zero_own = away_read own lawful p q r s off h in omega arith

@@ -18,12 +18,7 @@ returns-then-has_guest c = λ w names kept.
     had_withheld w c.args.host.now names c.args.guests.now kept c.args.path.now c.args.guest c.args.slot c.if-slot-gt31.false c.in-Some.index c.in-Some.ensures.there (sym c.has_guest.ensures ∙ c.if-has_guest.true)
 
 pub returns-then-is_taken : goal.returns-then-is_taken
-returns-then-is_taken c = λ w names kept.
-    let g : Guest = c.index-guests-guest.result in
-    let there : slice_get c.args.guests.now c.args.guest ≡ Some g = read_at c.args.guests.now c.args.guest g c.requires.inside c.index-guests-guest.is in
-    let items : c.deref.result.now ≡ g.slots.items = c.deref.ensures.value ∙ ap (λ (x : Guest). x.slots.items) (sym c.index-guests-guest.is) in
-    full_withheld w c.args.host.now names c.args.guests.now kept c.args.path.now c.args.guest c.args.slot c.if-slot-gt31.false c.in-Some.index c.in-Some.ensures.there (sym c.has_guest.ensures ∙ c.if-has_guest.false)
-    g there (ap (λ os. is_taken os c.args.slot) (sym items) ∙ sym c.is_taken.ensures ∙ c.if-is_taken.true)
+returns-then-is_taken c = grind (arith, read_at, full_withheld)
 
 pub returns-then-has_closed : goal.returns-then-has_closed
 returns-then-has_closed c = λ w names kept.

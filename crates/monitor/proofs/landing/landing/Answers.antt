@@ -3,7 +3,6 @@ use Rattle.bars.specs.Kinds.{named_space}
 use Rattle.bars.specs.Hits.{hit_in}
 use Rattle.monitor.proofs.Landed.{passed_empty, passed, landed, nowhere}
 use Rattle.monitor.proofs.landing.landing.Goals as goal
-use Rattle.monitor.proofs.landing.landing.Goals.{in-Some+in_default-decode, in_default}
 
 pub returns-in-Some-decode-clause-landing : goal.returns-in-Some-decode-clause-landing
 returns-in-Some-decode-clause-landing c = λ s qs fs are.
@@ -17,15 +16,7 @@ pub returns-in-Some-decode-clause-there : goal.returns-in-Some-decode-clause-the
 returns-in-Some-decode-clause-there c = record { held = c.in-Some.held.now; there = c.in-Some.ensures.there; decodes = c.in-Some-decode.ensures }
 
 pub loop-slot-preserved : goal.loop-slot-preserved
-loop-slot-preserved c = λ s qs fs are.
-    let slots = c.args.slots.now in
-    let n = c.loop-slot.slot in
-    let within : n < length slots = omega (arith, c.loop-slot-test.true) in
-    c.loop-slot.invariant s qs fs are
-    ∙ elim c.match-held_in.branch [
-      | in-Some+in_default-decode w ↦ passed (named_space c.args.space) c.args.addr s qs fs slots are n within w.in-Some.held.now w.in-Some.ensures.there w.in_default-decode.ensures
-      | in_default w ↦ passed_empty (named_space c.args.space) c.args.addr s qs fs slots are n within w.in_default.ensures.empty
-    ]
+loop-slot-preserved c = grind (arith, passed, passed_empty)
 
 pub returns-clause-landing : goal.returns-clause-landing
 returns-clause-landing c = λ s qs fs are. sym (c.loop-slot.invariant s qs fs are ∙ nowhere (named_space c.args.space) c.args.addr s qs fs c.args.slots.now are c.loop-slot.slot (omega arith))

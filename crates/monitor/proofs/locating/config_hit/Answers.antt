@@ -1,4 +1,4 @@
-use Rattle.std.proofs.Common.{Option, Some, None, cond, ap, sym}
+use Rattle.std.proofs.Common.{Option, Some, None, cond, ap, sym, arith}
 use Rattle.std.specs.Prelude.{is_some}
 use Rattle.model_registers.specs.Registers.{config}
 use Rattle.model_registers.specs.Decoding.{Function}
@@ -12,6 +12,4 @@ returns-in-Some c = λ s qs fs are.
     sym (ap (λ (o : Option Function). cond (is_some o) (Some (let l : Landing = record { slot = c.args.slot; place = config c.args.offset } in l)) None) slot.function)
 
 pub returns-in-None : goal.returns-in-None
-returns-in-None c = λ s qs fs are.
-    sym (ap (λ (o : Option Function). cond (is_some o) (Some (let l : Landing = record { slot = c.args.slot; place = config c.args.offset } in l)) None)
-    (slot_empty s qs fs c.args.slots.now c.args.slot are c.in-None.ensures.empty))
+returns-in-None c = grind (arith, slot_empty)

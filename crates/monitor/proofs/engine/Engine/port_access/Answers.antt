@@ -1,6 +1,6 @@
-use Rattle.std.proofs.Common.{◌≡◌, ◌∙◌, ℕ, ap, sym, arith}
-use Rattle.model_guests.specs.Accesses.{port, configuration}
-use Rattle.model_guests.specs.Lone.{Destination, LoneGuest, at_target, by_select, destination, reply_at, after_access_at}
+use Rattle.std.proofs.Common.{◌≡◌, ◌∙◌, ap, sym, arith}
+use Rattle.model_guests.specs.Accesses.{port}
+use Rattle.model_guests.specs.Lone.{Destination, LoneGuest, by_select, destination, after_access_at}
 use Rattle.accesses.specs.Accesses.{op_of}
 use Rattle.guest_functions.specs.declared.latch.Select.TheVariants as select
 use Rattle.monitor.specs.ByIndex.{lone_nth, with_lone_nth}
@@ -15,26 +15,17 @@ index-requires g c = omega (arith, inside_guests c.self.invariant.1 c.self.view_
 pub returns-in-Ordinary-clause-reply : goal.returns-in-Ordinary-clause-reply
 returns-in-Ordinary-clause-reply g c =
     let at = guest_in c.self.invariant.1 c.self.view_is c.args.guest c.requires.there c.index.ensures in
-    let lone = lone_nth c.args.self.now c.args.guest in
-    let goes : by_select (port c.args.at) (named_select (select.Ordinary)) ≡ destination lone.latch c.args.width (port c.args.at) =
-    destination_is c.args.at c.args.width (sym at.is.latch) (sym c.is_address_port.ensures ∙ c.if-is_address_port.false) c.in-Ordinary.ensures.select in
-    c.region_access.ensures.reply ∙ ap (reply_at lone (op_of c.args.op) c.args.width) goes
+    grind (arith, destination_is)
 
 pub returns-in-Ordinary-clause-after : goal.returns-in-Ordinary-clause-after
 returns-in-Ordinary-clause-after g c =
     let at = guest_in c.self.invariant.1 c.self.view_is c.args.guest c.requires.there c.index.ensures in
-    let lone = lone_nth c.args.self.now c.args.guest in
-    let goes : by_select (port c.args.at) (named_select (select.Ordinary)) ≡ destination lone.latch c.args.width (port c.args.at) =
-    destination_is c.args.at c.args.width (sym at.is.latch) (sym c.is_address_port.ensures ∙ c.if-is_address_port.false) c.in-Ordinary.ensures.select in
-    c.region_access.ensures.after ∙ ap (λ (d : Destination). with_lone_nth c.args.guest (after_access_at lone (op_of c.args.op) c.args.width d) c.args.self.now) goes
+    grind (arith, destination_is)
 
 pub returns-in-Nowhere-clause-reply : goal.returns-in-Nowhere-clause-reply
 returns-in-Nowhere-clause-reply g c =
     let at = guest_in c.self.invariant.1 c.self.view_is c.args.guest c.requires.there c.index.ensures in
-    let lone = lone_nth c.args.self.now c.args.guest in
-    let goes : by_select (port c.args.at) (named_select (select.Nowhere)) ≡ destination lone.latch c.args.width (port c.args.at) =
-    destination_is c.args.at c.args.width (sym at.is.latch) (sym c.is_address_port.ensures ∙ c.if-is_address_port.false) c.in-Nowhere.ensures.select in
-    c.nothing.ensures.reply ∙ nothing_at lone (op_of c.args.op) c.args.width ∙ ap (reply_at lone (op_of c.args.op) c.args.width) goes
+    grind (arith, destination_is, nothing_at)
 
 pub returns-in-Nowhere-clause-after : goal.returns-in-Nowhere-clause-after
 returns-in-Nowhere-clause-after g c =
@@ -47,15 +38,9 @@ returns-in-Nowhere-clause-after g c =
 pub returns-in-Slot-clause-reply : goal.returns-in-Slot-clause-reply
 returns-in-Slot-clause-reply g c =
     let at = guest_in c.self.invariant.1 c.self.view_is c.args.guest c.requires.there c.index.ensures in
-    let lone = lone_nth c.args.self.now c.args.guest in
-    let goes : by_select (port c.args.at) (named_select (select.Slot c.in-Slot.slot c.in-Slot.off)) ≡ destination lone.latch c.args.width (port c.args.at) =
-    destination_is c.args.at c.args.width (sym at.is.latch) (sym c.is_address_port.ensures ∙ c.if-is_address_port.false) c.in-Slot.ensures.select in
-    c.config_access.ensures.reply ∙ ap (λ (n : ℕ). reply_at lone (op_of c.args.op) c.args.width (at_target (configuration n c.in-Slot.off))) c.from.ensures ∙ ap (reply_at lone (op_of c.args.op) c.args.width) goes
+    grind (arith, destination_is)
 
 pub returns-in-Slot-clause-after : goal.returns-in-Slot-clause-after
 returns-in-Slot-clause-after g c =
     let at = guest_in c.self.invariant.1 c.self.view_is c.args.guest c.requires.there c.index.ensures in
-    let lone = lone_nth c.args.self.now c.args.guest in
-    let goes : by_select (port c.args.at) (named_select (select.Slot c.in-Slot.slot c.in-Slot.off)) ≡ destination lone.latch c.args.width (port c.args.at) =
-    destination_is c.args.at c.args.width (sym at.is.latch) (sym c.is_address_port.ensures ∙ c.if-is_address_port.false) c.in-Slot.ensures.select in
-    c.config_access.ensures.after ∙ ap (λ (n : ℕ). with_lone_nth c.args.guest (after_access_at lone (op_of c.args.op) c.args.width (at_target (configuration n c.in-Slot.off))) c.args.self.now) c.from.ensures ∙ ap (λ (d : Destination). with_lone_nth c.args.guest (after_access_at lone (op_of c.args.op) c.args.width d) c.args.self.now) goes
+    grind (arith, destination_is)
