@@ -14,9 +14,9 @@ happens guest e w = calls (at_device (name_nth w guest) e)
 pub invariant_of-self : goal.invariant_of-self
 invariant_of-self c =
     let e = device_writes (device_byte c.args.slot c.args.place c.args.off) c.args.value in
-    keeps_names c.self.inside.monitor c.device_write.new.self (happens c.args.guest e c.self.inside.monitor) c.device_write.ensures.after c.self.invariant
+    keeps_names c.self.inside.monitor (happens c.args.guest e) c.device_write.ensures.after c.self.invariant
 
 pub returns-clause-after : goal.returns-clause-after
 returns-clause-after c =
     let e = device_writes (device_byte c.args.slot c.args.place c.args.off) c.args.value in
-    stayed c.args.self.now c.self.inside.monitor c.self.inside.counts c.self.view_is c.device_write.new.self (happens c.args.guest e) c.device_write.ensures.after (λ x. refl)
+    stayed c.self.view_is (happens c.args.guest e) c.device_write.ensures.after (λ x. refl)

@@ -1,5 +1,4 @@
-use Rattle.std.proofs.Common.{ℕ, Bool, ◌&&◌, ◌||◌, not, refl, sym, ap, ◌∙◌}
-use Rattle.std.specs.Prelude.{is_some}
+use Rattle.std.proofs.Common.{ℕ, Bool, ◌&&◌, ◌||◌, refl, sym, ap, ◌∙◌}
 use Rattle.std.specs.Str.{bytes_eq}
 use Rattle.model_guests.specs.Guests.{move_fault}
 use Rattle.model_guests.specs.Lines.{host_move}
@@ -15,21 +14,18 @@ abbrev asked : ℕ → ℕ → ℕ → ℕ → WorldNow → Action
 asked from slot to target w = calls (asks (host_move (move_nth w from slot to target)))
 
 pub invariant_of-self : goal.invariant_of-self
-invariant_of-self c =
-    keeps_names c.self.inside.monitor c.move_function-reply.new.self (asked c.args.from c.args.slot c.args.to c.args.target c.self.inside.monitor)
-    c.move_function-reply.ensures.after c.self.invariant
+invariant_of-self c = keeps_names c.self.inside.monitor (asked c.args.from c.args.slot c.args.to c.args.target) c.move_function-reply.ensures.after c.self.invariant
 
 pub returns-then-is_done-clause-after : goal.returns-then-is_done-clause-after
 returns-then-is_done-clause-after c =
     let w = c.self.inside.monitor in
     let fault = move_fault w.guests (move_nth w c.args.from c.args.slot c.args.to c.args.target) in
-    both_grew c.args.self.now w c.self.inside.counts c.self.view_is c.move_function-reply.new.self c.count_both.new.counts (asked c.args.from c.args.slot c.args.to c.args.target)
-    c.move_function-reply.ensures.after c.self.invariant c.args.from c.args.to c.requires.from c.requires.to (not (is_some fault)) (λ x. refl)
-    (sym (c.is_done.ensures fault c.move_function-reply.ensures.reply) ∙ c.if-is_done.true) c.count_both.ensures
+    both_grew c.self.view_is (asked c.args.from c.args.slot c.args.to c.args.target) c.move_function-reply.ensures.after c.self.invariant c.args.from c.args.to c.requires.from c.requires.to
+    (sym (c.is_done.ensures fault c.move_function-reply.ensures.reply) ∙ c.if-is_done.true) (λ x. refl) c.count_both.ensures
 
 pub returns-else-is_done-clause-after : goal.returns-else-is_done-clause-after
 returns-else-is_done-clause-after c =
     let w = c.self.inside.monitor in
     let fault = move_fault w.guests (move_nth w c.args.from c.args.slot c.args.to c.args.target) in
-    stayed c.args.self.now w c.self.inside.counts c.self.view_is c.move_function-reply.new.self (asked c.args.from c.args.slot c.args.to c.args.target) c.move_function-reply.ensures.after
+    stayed c.self.view_is (asked c.args.from c.args.slot c.args.to c.args.target) c.move_function-reply.ensures.after
     (λ x. ap (λ (t : Bool). t && (bytes_eq (name_nth w c.args.from) x || bytes_eq (name_nth w c.args.to) x)) (sym (c.is_done.ensures fault c.move_function-reply.ensures.reply) ∙ c.if-is_done.false))

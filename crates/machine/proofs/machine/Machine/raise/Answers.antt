@@ -17,10 +17,9 @@ asked guest r w = calls (asks (guest_event (name_nth w guest) (raises r)))
 pub invariant_of-self : goal.invariant_of-self
 invariant_of-self c =
     let r : Raise = record { slot = c.args.slot; part = part_of c.args.place; offset = c.args.off; mask = c.args.mask } in
-    keeps_names c.self.inside.monitor c.raise.new.self (asked c.args.guest r c.self.inside.monitor) c.raise.ensures.after c.self.invariant
+    keeps_names c.self.inside.monitor (asked c.args.guest r) c.raise.ensures.after c.self.invariant
 
 pub returns-clause-after : goal.returns-clause-after
 returns-clause-after c =
     let r : Raise = record { slot = c.args.slot; part = part_of c.args.place; offset = c.args.off; mask = c.args.mask } in
-    stayed c.args.self.now c.self.inside.monitor c.self.inside.counts c.self.view_is c.raise.new.self (asked c.args.guest r) c.raise.ensures.after
-    (λ x. and_false (bytes_eq (name_nth c.self.inside.monitor c.args.guest) x))
+    stayed c.self.view_is (asked c.args.guest r) c.raise.ensures.after (λ x. and_false (bytes_eq (name_nth c.self.inside.monitor c.args.guest) x))
