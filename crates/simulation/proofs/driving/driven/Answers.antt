@@ -1,9 +1,6 @@
-use Rattle.std.proofs.Common.{◌≡◌, Err, List, ap, subst}
+use Rattle.std.proofs.Common.{◌≡◌, Err, [], ap}
 use Rattle.model_board.specs.AtReset.{IsAtReset}
 use Rattle.model_board.specs.State.{State}
-use Rattle.model_guests.specs.Text.{lines}
-use Rattle.model_guests.specs.World.{Guest}
-use Rattle.model_guests.specs.LineRuns.{after_lines}
 use Rattle.host_bridge.specs.HostState.{HostState}
 use Rattle.board_file.specs.Meaning.{world_in}
 use Rattle.firmware.specs.Hosts.{host_protocol}
@@ -14,8 +11,8 @@ use Rattle.line_runs.specs.declared.running.RunFault.TheVariants as run
 use Rattle.simulation.proofs.Ran.{failed_by, read_again, written_again}
 use Rattle.simulation.proofs.driving.driven.Goals as goal
 
-begins : (h : HostState) (gs : List Guest) → IsAtReset h.state → h ≡ host_at_reset (world_in h gs)
-begins h gs reset = ap (λ (s : State). let host : HostState = record { state = s; apertures = h.apertures } in host) reset.registers
+begins : (h : HostState) → IsAtReset h.state → h ≡ host_at_reset (world_in h [])
+begins h reset = ap (λ (s : State). let host : HostState = record { state = s; apertures = h.apertures } in host) reset.registers
 
 pub returns-in_err-host-clause-file : goal.returns-in_err-host-clause-file
 returns-in_err-host-clause-file g c =
@@ -29,18 +26,18 @@ returns-in_err-run-clause-writes g c = written_again c.from_residual-in_err-run.
 
 pub returns-in_err-run-clause-cut : goal.returns-in_err-run-clause-cut
 returns-in_err-run-clause-cut g c is =
-    cut_over host_protocol host_at_reset (declares c.in_ok-host.ensures.world) (begins c.in_ok-host.host c.in_ok-host._guests.items c.in_ok-host.ensures.reset)
+    cut_over host_protocol host_at_reset (declares c.in_ok-host.ensures.world) (begins c.in_ok-host.host c.in_ok-host.ensures.reset)
     (c.in_err-run.ensures.cut (ap Err (failed_by run.Read c.from_residual-in_err-run.result _ c.from_residual-in_err-run.ensures.1 is)))
 
 pub returns-in_err-run-clause-stopped : goal.returns-in_err-run-clause-stopped
 returns-in_err-run-clause-stopped g c is =
-    stopped_over host_protocol host_at_reset (declares c.in_ok-host.ensures.world) (begins c.in_ok-host.host c.in_ok-host._guests.items c.in_ok-host.ensures.reset)
+    stopped_over host_protocol host_at_reset (declares c.in_ok-host.ensures.world) (begins c.in_ok-host.host c.in_ok-host.ensures.reset)
     (c.in_err-run.ensures.stopped (ap Err (failed_by run.Write c.from_residual-in_err-run.result _ c.from_residual-in_err-run.ensures.1 is)))
 
 pub returns-clause-output : goal.returns-clause-output
 returns-clause-output g c =
-    let reset = begins c.in_ok-host.host c.in_ok-host._guests.items c.in_ok-host.ensures.reset in
+    let reset = begins c.in_ok-host.host c.in_ok-host.ensures.reset in
     record {
       output = written_over host_protocol host_at_reset (declares c.in_ok-host.ensures.world) reset c.in_ok-run.ensures.output;
-      events = λ s known. subst (λ (k : HostState). c.run.new.host ≡ after_lines host_protocol k (lines s)) reset (c.in_ok-run.ensures.after s known);
+      events = λ s known. rw reset at (c.in_ok-run.ensures.after s known);
     }

@@ -1,10 +1,5 @@
-use Rattle.std.proofs.Common.{Err, ap, subst}
-use Rattle.std.specs.Io.KnownBytes.{Appends}
-use Rattle.model_guests.specs.Text.{lines}
-use Rattle.model_guests.specs.WorldNow.{WorldNow, world_protocol, output}
-use Rattle.model_guests.specs.LineRuns.{IsCut}
+use Rattle.std.proofs.Common.{Err, ap}
 use Rattle.model_guests.proofs.Isolation.{isolated}
-use Rattle.line_runs.specs.Pieces.{IsStoppedIn}
 use Rattle.line_runs.specs.declared.running.RunFault.TheVariants as run
 use Rattle.simulation.proofs.Ran.{failed_by, read_again, written_again}
 use Rattle.simulation.proofs.running.whole.Goals as goal
@@ -23,8 +18,7 @@ returns-in_err-run-clause-cut g c is =
       world = opened.world;
       set_up = opened.set_up;
       end = c.run.new.monitor;
-      cut = subst (λ (m : WorldNow). IsCut world_protocol m (g.R.Reader.rest c.args.reader.now) (g.R.Reader.rest c.run.new.reader) (g.W.Writer.written c.args.writer.now) (g.W.Writer.written c.run.new.writer) c.run.new.monitor) opened.begins
-          (c.in_err-run.ensures.cut (ap Err fault));
+      cut = rw opened.begins at (c.in_err-run.ensures.cut (ap Err fault));
     }
 
 pub returns-in_err-run-clause-stopped : goal.returns-in_err-run-clause-stopped
@@ -35,8 +29,7 @@ returns-in_err-run-clause-stopped g c is =
       world = opened.world;
       set_up = opened.set_up;
       end = c.run.new.monitor;
-      stopped = λ s known. subst (λ (m : WorldNow). IsStoppedIn world_protocol m s (g.R.Reader.rest c.args.reader.now) (g.R.Reader.rest c.run.new.reader) (g.W.Writer.written c.args.writer.now) (g.W.Writer.written c.run.new.writer) c.run.new.monitor) opened.begins
-          (c.in_err-run.ensures.stopped (ap Err fault) s known);
+      stopped = λ s known. rw opened.begins at (c.in_err-run.ensures.stopped (ap Err fault) s known);
     }
 
 pub returns-clause-output : goal.returns-clause-output
@@ -45,7 +38,6 @@ returns-clause-output g c =
     record {
       world = opened.world;
       set_up = opened.set_up;
-      written = λ s known.
-          subst (λ (m : WorldNow). Appends (g.W.Writer.written c.args.writer.now) (g.W.Writer.written c.run.new.writer) (output m (lines s))) opened.begins (c.in_ok-run.ensures.output s known);
+      written = λ s known. rw opened.begins at (c.in_ok-run.ensures.output s known);
       isolated = isolated opened.world opened.lawful.guests.lawful_names;
     }

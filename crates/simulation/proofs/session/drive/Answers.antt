@@ -1,11 +1,10 @@
-use Rattle.std.proofs.Common.{◌≡◌, List, Err, ap, ◌∙◌, subst}
-use Rattle.model_board.specs.AtReset.{IsAtReset}
-use Rattle.model_guests.specs.World.{Guest}
+use Rattle.std.proofs.Common.{◌≡◌, Err, ap, ◌∙◌}
+use Rattle.model_board.specs.AtReset.{reset_state}
+use Rattle.model_board.specs.State.{State}
+use Rattle.model_guests.specs.World.{World}
 use Rattle.model_handoff.proofs.Sessions.{reset_is_handoff}
 use Rattle.model_sessions.specs.Sessions.{SessionNow, driven, session_protocol}
 use Rattle.model_sessions.proofs.HandoverLines.{isolated_sessions}
-use Rattle.host_bridge.specs.HostState.{HostState}
-use Rattle.line_runs.specs.Pieces.{IsLackingIn}
 use Rattle.board_file.specs.Meaning.{world_in}
 use Rattle.simulation.specs.Sessions.{at_first}
 use Rattle.simulation.proofs.Begun.{declares, written_over, cut_over, stopped_over}
@@ -14,8 +13,8 @@ use Rattle.line_runs.specs.declared.running.RunFault.TheVariants as run
 use Rattle.simulation.proofs.Ran.{failed_by, read_again, written_again}
 use Rattle.simulation.proofs.session.drive.Goals as goal
 
-began : (h : HostState) (gs : List Guest) (x : SessionNow) → x ≡ driven (world_in h gs) h.state → IsAtReset h.state → x ≡ at_first (world_in h gs)
-began h gs x made reset = made ∙ ap (driven (world_in h gs)) reset.registers
+began : {w : World} {s : State} {x : SessionNow} → x ≡ driven w s → s ≡ reset_state w.board → x ≡ at_first w
+began {w} made reset = made ∙ ap (driven w) reset
 
 pub new-session-requires-clause-handoff : goal.new-session-requires-clause-handoff
 new-session-requires-clause-handoff g c = reset_is_handoff c.in_ok-host.host.state c.in_ok-host.ensures.reset
@@ -32,27 +31,23 @@ returns-in_err-run-clause-writes g c = written_again c.from_residual-in_err-run.
 
 pub returns-in_err-run-clause-cut : goal.returns-in_err-run-clause-cut
 returns-in_err-run-clause-cut g c is =
-    let begins = began c.in_ok-host.host c.in_ok-host.guests.items c.new-session.result c.new-session.ensures c.in_ok-host.ensures.reset in
-    cut_over session_protocol at_first (declares c.in_ok-host.ensures.world) begins
+    cut_over session_protocol at_first (declares c.in_ok-host.ensures.world) (began c.new-session.ensures c.in_ok-host.ensures.reset.registers)
     (c.in_err-run.ensures.cut (ap Err (failed_by run.Read c.from_residual-in_err-run.result _ c.from_residual-in_err-run.ensures.1 is)))
 
 pub returns-in_err-run-clause-stopped : goal.returns-in_err-run-clause-stopped
 returns-in_err-run-clause-stopped g c is =
-    let begins = began c.in_ok-host.host c.in_ok-host.guests.items c.new-session.result c.new-session.ensures c.in_ok-host.ensures.reset in
-    stopped_over session_protocol at_first (declares c.in_ok-host.ensures.world) begins
+    stopped_over session_protocol at_first (declares c.in_ok-host.ensures.world) (began c.new-session.ensures c.in_ok-host.ensures.reset.registers)
     (c.in_err-run.ensures.stopped (ap Err (failed_by run.Write c.from_residual-in_err-run.result _ c.from_residual-in_err-run.ensures.1 is)))
 
 pub returns-in_err-run-clause-lacking : goal.returns-in_err-run-clause-lacking
 returns-in_err-run-clause-lacking g c is =
     let w = world_in c.in_ok-host.host c.in_ok-host.guests.items in
     let fault = failed_by run.Memory c.from_residual-in_err-run.result _ c.from_residual-in_err-run.ensures.1 is in
-    let begins = began c.in_ok-host.host c.in_ok-host.guests.items c.new-session.result c.new-session.ensures c.in_ok-host.ensures.reset in
     record {
       world = w;
       declared = declares c.in_ok-host.ensures.world;
       end = c.run.new.session;
-      lacking = λ s known. subst (λ (x : SessionNow). IsLackingIn session_protocol x s (g.R.Reader.rest c.args.reader.now) (g.R.Reader.rest c.run.new.reader) (g.W.Writer.written c.args.writer.now) (g.W.Writer.written c.run.new.writer) c.run.new.session) begins
-          (c.in_err-run.ensures.lacking (ap Err fault) s known);
+      lacking = λ s known. rw (began c.new-session.ensures c.in_ok-host.ensures.reset.registers) at (c.in_err-run.ensures.lacking (ap Err fault) s known);
     }
 
 pub returns-in_err-run-clause-lacking_flushed : goal.returns-in_err-run-clause-lacking_flushed
@@ -62,8 +57,7 @@ returns-in_err-run-clause-lacking_flushed g c is =
 pub returns-clause-output : goal.returns-clause-output
 returns-clause-output g c =
     let w = world_in c.in_ok-host.host c.in_ok-host.guests.items in
-    let begins = began c.in_ok-host.host c.in_ok-host.guests.items c.new-session.result c.new-session.ensures c.in_ok-host.ensures.reset in
     record {
-      output = written_over session_protocol at_first (declares c.in_ok-host.ensures.world) begins c.in_ok-run.ensures.output;
+      output = written_over session_protocol at_first (declares c.in_ok-host.ensures.world) (began c.new-session.ensures c.in_ok-host.ensures.reset.registers) c.in_ok-run.ensures.output;
       isolated = isolated_sessions w c.in_ok-host.ensures.lawful.guests.lawful_names;
     }
