@@ -43,7 +43,8 @@ pub(crate) enum Stop {
     Memory,
 }
 
-/// Writes what a line writes.
+/// Writes what a line writes. It is compiled into the loop over lines, which takes a call away from each.
+#[inline(always)]
 fn write_answer<W: Writer>(writer: &mut W, text: &[u8], more: &Option<String>) -> Result<(), Failed>
     requires { W.failures writer.old < 2 ^ 64 - 1 }
     ensures ok { OnOk result (Appends (W.written writer.old) (W.written writer.new)
