@@ -1,112 +1,158 @@
--- The regions of one space, gathered function by function.
-use Rattle.std.proofs.Common.{◌≡◌, ℕ, suc, ◌+◌, ◌≤◌, ◌<◌, Bool, true, false, cond, List, [], ◌∷◌, ◌++◌, length, take, get_or, Option, Some, refl, sym, ap, ap₂, ◌∙◌, arith, append_assoc}
-use Rattle.std.specs.Prelude.{map, filter, flat_map, slice_get, option_map, unwrap_or}
-use Rattle.std.proofs.lemmas.List.{map-append, append-nil, length-take}
-use Rattle.std.specs.Option.{option_to_list}
+-- The table of a board in order: its regions are the open ones, and its claims are those of the board.
+use Rattle.std.proofs.Common.{◌≡◌, ℕ, Option, suc, ◌+◌, ◌≤◌, ◌<◌, Bool, true, false, cond, List, [], ◌∷◌, ◌++◌, length, Some, refl, sym, ap, ap₂, ◌∙◌, subst, arith}
+use Rattle.std.specs.Prelude.{map, filter, slice_get, option_map, unwrap_or}
+use Rattle.std.proofs.lemmas.List.{map-append, length-map}
+use Rattle.std.proofs.lemmas.Simd.{map-map}
 use Rattle.std.proofs.lemmas.List.Elements.{filter-append}
-use Rattle.std.proofs.lemmas.Option.{slice_get-map, slice_get_within, slice_get-get_or}
-use Rattle.bars.specs.declared.region.BasedRegion.{BasedRegion}
-use Rattle.bars.specs.Slots.{bases_from}
-use Rattle.window_packing.proofs.BarLists.{bases_push, take_at}
+use Rattle.std.proofs.lemmas.Option.{slice_get-map}
 use Rattle.lists.specs.Elements.{Each}
-use Rattle.lists.proofs.EachLemmas.{each_append, each_of_map}
+use Rattle.lists.proofs.EachLemmas.{each_append, each_map, each_of_map, each_filter}
 use Rattle.lists.proofs.Members.{each_from}
-use Rattle.model_registers.proofs.HitRegions.{space_same}
-use Rattle.model_registers.specs.Declarations.{Region}
+use Rattle.model_registers.specs.Registers.{File}
+use Rattle.model_registers.specs.Declarations.{Kind, io_kind, mem32, mem64, least_size, Region, IsLawfulRegion}
 use Rattle.model_registers.specs.EndpointTable.{BaseAddress}
-use Rattle.model_registers.specs.Decoding.{Space, space_of, same_space}
+use Rattle.model_registers.specs.Decoding.{Space, io, memory, space_of, same_space, opens_space, base_address, command_word}
+use Rattle.model_registers.proofs.HitRegions.{space_same}
 use Rattle.model_board.specs.Paths.{Path}
-use Rattle.model_board.specs.Board.{Decl, endpoint, bridge, Row, Board}
-use Rattle.model_registers.specs.Apertures.{Apertures}
-use Rattle.model_set_up.specs.PlacedRegions.{PlacedRegion, placed, placed_at}
-use Rattle.model_set_up.specs.Reach.{address_of}
-use Rattle.model_set_up.specs.SetUpWrites.{placed_base, Setting, writes_of}
+use Rattle.model_board.specs.Board.{Decl, endpoint, bridge}
+use Rattle.model_board.specs.Lawful.{IsLawfulDecl, HasLawfulDecls}
+use Rattle.model_board.specs.State.{BoardFunction, row_at}
+use Rattle.model_board.specs.Routing.{Ranges, regions, windows, RoutingRow, row_of, routing}
+use Rattle.model_set_up.specs.PlacedRegions.{PlacedRegion}
+use Rattle.model_audit.specs.OpenRegions.{region_now, open_of, open_regions}
+use Rattle.model_audit.specs.Orderly.{IsStateOfBoard, IsOrderly, HasClaimsOfRegions}
+use Rattle.model_audit.proofs.Claims.{orderly_claims}
+use Rattle.host_bridge.specs.HostState.{HostState}
 use Rattle.claim_table.specs.declared.region_entry.RegionEntry.{RegionEntry}
-use Rattle.claim_table.specs.Entries.{entry_for, bases_in, of_space, entries_at, entries_from, path_nth, table_entry}
-
--- ---- one more function
-
-pub entries_push : (space : Space) (i : ℕ) (ss : List Setting) (s : Setting) → entries_from space i (ss ++ s ∷ []) ≡ entries_from space i ss ++ entries_at space (i + length ss) s
-entries_push space i [] s = let z : i ≡ i + 0 = omega arith in append-nil (entries_at space i s) ∙ ap (λ k. entries_at space k s) z
-entries_push space i (t ∷ ss) s =
-    let z : i + 1 + length ss ≡ i + suc (length ss) = omega arith in
-    ap (λ es. entries_at space i t ++ es) (entries_push space (i + 1) ss s ∙ ap (λ k. entries_from space (i + 1) ss ++ entries_at space k s) z)
-    ∙ sym (append_assoc (entries_at space i t) (entries_from space (i + 1) ss) (entries_at space (i + suc (length ss)) s))
-
--- ---- the regions of a board
-
-abbrev pub region_of : List Path → Space → RegionEntry → PlacedRegion
-region_of ps space e = (table_entry ps space e).region
-
-abbrev pub is_of : Space → PlacedRegion → Bool
-is_of space q = same_space q.space space
-
-module _ (b : Board) (a : Apertures) (ps : List Path) (space : Space) where
-  of_regions : (i : ℕ) (p : Path) (gs : List Region) → path_nth ps i ≡ p → map (region_of ps space) (map (entry_for i) (of_space space (map (placed_base b a p) gs))) ≡ filter (is_of space) (map (placed b a p) gs)
-  of_regions i p [] path = refl
-  of_regions i p (g ∷ gs) path = by_test (same_space (space_of g.kind) space) refl (of_regions i p gs path)
-    where
-      by_test : (t : Bool) → same_space (space_of g.kind) space ≡ t → map (region_of ps space) (map (entry_for i) (of_space space (map (placed_base b a p) gs))) ≡ filter (is_of space) (map (placed b a p) gs)
-          → map (region_of ps space) (map (entry_for i) (cond t (placed_base b a p g ∷ of_space space (map (placed_base b a p) gs)) (of_space space (map (placed_base b a p) gs)))) ≡ cond t (placed b a p g ∷ filter (is_of space) (map (placed b a p) gs)) (filter (is_of space) (map (placed b a p) gs))
-      by_test false e more = more
-      by_test true e more =
-          let here : region_of ps space (entry_for i (placed_base b a p g)) ≡ placed b a p g =
-          ap₂ (λ (q : Path) (s : Space). record { path = q; index = g.index; space = s; first = (placed b a p g).first; size = g.size }) path (sym (space_same (space_of g.kind) space e)) in
-          ap₂ (λ q qs. q ∷ qs) here more
-
-  of_function : (i : ℕ) (p : Path) (d : Decl) → path_nth ps i ≡ p → map (region_of ps space) (entries_at space i (record { at = address_of b p; writes = writes_of b a p d })) ≡ filter (is_of space) (placed_at b a (record { path = p; decl = d }))
-  of_function i p (endpoint d) path = of_regions i p d.regions path
-  of_function i p (bridge d) path = refl
-
-  abbrev setting_of : Row → Setting
-  setting_of r = record { at = address_of b r.path; writes = writes_of b a r.path r.decl }
-
-  pub of_board : (i : ℕ) (rows : Board) → ((j : ℕ) (r : Row) → slice_get rows j ≡ Some r → path_nth ps (i + j) ≡ r.path) → map (region_of ps space) (entries_from space i (map setting_of rows)) ≡ filter (is_of space) (flat_map (placed_at b a) rows)
-  of_board i [] at = refl
-  of_board i (r ∷ rows) at =
-      let z : i ≡ i + 0 = omega arith in
-      let here : path_nth ps i ≡ r.path = ap (path_nth ps) z ∙ at 0 r refl in
-      map-append (region_of ps space) (entries_at space i (setting_of r)) (entries_from space (i + 1) (map setting_of rows))
-      ∙ ap₂ ◌++◌ (of_function i r.path r.decl here) (of_board (i + 1) rows (λ j s e. let y : i + 1 + j ≡ i + suc j = omega arith in ap (path_nth ps) y ∙ at (suc j) s e))
-      ∙ sym (filter-append (is_of space) (placed_at b a r) (flat_map (placed_at b a) rows))
+use Rattle.claim_table.specs.Tables.{table_claim, FitsTable, IsOfFunction}
+use Rattle.claim_table.specs.Entries.{entry_for, of_space, open_at, open_entries, AreEntries, path_nth, table_entry, table_of}
+use Rattle.claim_table.specs.Fitting.{paths, fits_by_routing}
+use Rattle.claim_table.proofs.Listing.{region_of, is_of, IsSortedOf, AreGathered, entries_are, claims_listed}
+use Rattle.claim_table.proofs.Answering.{of_functions}
 
 pub paths_read : {A : Type 0} (path : A → Path) (rows : List A) (j : ℕ) (r : A) → slice_get rows j ≡ Some r → path_nth (map path rows) j ≡ path r
 paths_read path rows j r e = ap (λ (o : Option Path). unwrap_or o []) (slice_get-map path rows j ∙ ap (option_map path) e)
 
--- ---- each entry is of a function of the board
+-- ---- the entries of a function are its open regions
 
-pub known : (space : Space) (i : ℕ) (ss : List Setting) (n : ℕ) → i + length ss ≤ n → Each (λ (e : RegionEntry). e.function < n) (entries_from space i ss)
+module _ (ps : List Path) (space : Space) (i : ℕ) (p : Path) (path : path_nth ps i ≡ p) (command : ℕ) where
+  abbrev told : List BaseAddress → List PlacedRegion
+  told bs = map (region_of ps space) (map (entry_for i) (of_space space bs))
+
+  abbrev kept : List BaseAddress → List PlacedRegion
+  kept bs = filter (is_of space) (filter (λ (q : PlacedRegion). opens_space command q.space) (map (region_now p) bs))
+
+  entry_is : (b : BaseAddress) → same_space (space_of b.kind) space ≡ true → region_of ps space (entry_for i b) ≡ region_now p b
+  entry_is b same = grind (arith, space_same)
+
+  open_kept : ((k : Space) → same_space k space ≡ true → opens_space command k ≡ true) → (bs : List BaseAddress) → told bs ≡ kept bs
+  open_kept opens [] = refl
+  open_kept opens (b ∷ bs) = by_tests (same_space (space_of b.kind) space) (opens_space command (space_of b.kind)) refl refl (open_kept opens bs)
+    where
+      by_tests : (s o : Bool) → same_space (space_of b.kind) space ≡ s → opens_space command (space_of b.kind) ≡ o → told bs ≡ kept bs
+          → map (region_of ps space) (map (entry_for i) (cond s (b ∷ of_space space bs) (of_space space bs)))
+          ≡ filter (is_of space) (cond o (region_now p b ∷ filter (λ (q : PlacedRegion). opens_space command q.space) (map (region_now p) bs)) (filter (λ (q : PlacedRegion). opens_space command q.space) (map (region_now p) bs)))
+      by_tests s o e f more = grind (arith, entry_is)
+
+  closed_kept : ((k : Space) → same_space k space ≡ true → opens_space command k ≡ false) → (bs : List BaseAddress) → [] ≡ kept bs
+  closed_kept opens [] = refl
+  closed_kept opens (b ∷ bs) = by_tests (same_space (space_of b.kind) space) (opens_space command (space_of b.kind)) refl refl (closed_kept opens bs)
+    where
+      by_tests : (s o : Bool) → same_space (space_of b.kind) space ≡ s → opens_space command (space_of b.kind) ≡ o → [] ≡ kept bs
+          → [] ≡ filter (is_of space) (cond o (region_now p b ∷ filter (λ (q : PlacedRegion). opens_space command q.space) (map (region_now p) bs)) (filter (λ (q : PlacedRegion). opens_space command q.space) (map (region_now p) bs)))
+      by_tests s o e f more = grind arith
+
+  of_row : (rs : Ranges) → map (region_of ps space) (open_at space i (record { path = p; command = command; ranges = rs })) ≡ filter (is_of space) (open_of (record { path = p; command = command; ranges = rs }))
+  of_row (windows wio wmem wpref) = refl
+  of_row (regions bs) = by_test (opens_space command space) refl
+    where
+      by_test : (u : Bool) → opens_space command space ≡ u → map (region_of ps space) (map (entry_for i) (cond u (of_space space bs) [])) ≡ kept bs
+      by_test true e = open_kept (λ k same. ap (opens_space command) (space_same k space same) ∙ e) bs
+      by_test false e = closed_kept (λ k same. ap (opens_space command) (space_same k space same) ∙ e) bs
+
+module _ (ps : List Path) (space : Space) where
+  pub of_rows : (i : ℕ) (rows : List RoutingRow) → ((j : ℕ) (r : RoutingRow) → slice_get rows j ≡ Some r → path_nth ps (i + j) ≡ r.path)
+      → map (region_of ps space) (open_entries space i rows) ≡ filter (is_of space) (open_regions rows)
+  of_rows i [] at = refl
+  of_rows i (r ∷ rows) at =
+      let z : i ≡ i + 0 = omega arith in
+      let here : path_nth ps i ≡ r.path = ap (path_nth ps) z ∙ at 0 r refl in
+      map-append (region_of ps space) (open_at space i r) (open_entries space (i + 1) rows)
+      ∙ ap₂ ◌++◌ (of_row ps space i r.path here r.command r.ranges) (of_rows (i + 1) rows (λ j s e. let y : i + 1 + j ≡ i + suc j = omega arith in ap (path_nth ps) y ∙ at (suc j) s e))
+      ∙ sym (filter-append (is_of space) (open_of r) (open_regions rows))
+
+known : (space : Space) (i : ℕ) (rows : List RoutingRow) (n : ℕ) → i + length rows ≤ n → Each (λ (e : RegionEntry). e.function < n) (open_entries space i rows)
 known space i [] n h = tt
-known space i (s ∷ ss) n h =
-    each_append (λ (e : RegionEntry). e.function < n) (entries_at space i s) (entries_from space (i + 1) ss)
-    (each_of_map (λ (e : RegionEntry). e.function < n) (entry_for i) (of_space space (bases_in s.writes)) (each_from (λ b. i < n) _ (λ b _. omega (arith, h))))
-    (known space (i + 1) ss n (omega arith))
+known space i (r ∷ rows) n h =
+    each_append (λ (e : RegionEntry). e.function < n) (open_at space i r) (open_entries space (i + 1) rows)
+    (each_of_map (λ (e : RegionEntry). e.function < n) (entry_for i) _ (each_from (λ b. i < n) _ (λ b _. omega (arith, h)))) (known space (i + 1) rows n (omega arith))
 
--- ---- one more register, and one more function
+-- ---- each open region has a byte
 
-pub slot_there : (slots : List (Option BasedRegion)) (i j : ℕ) (o d : Option BasedRegion) → o ≡ get_or slots j d → j ≡ i → i < length slots → slice_get slots i ≡ Some o
-slot_there slots i j o d e same within = slice_get-get_or slots i d within ∙ ap Some (sym (e ∙ ap (λ k. get_or slots k d) same))
+pub some_bytes : (kind : Kind) (n : ℕ) → least_size kind ≤ n → 0 < n
+some_bytes io_kind n h = omega (arith, h)
+some_bytes (mem32 pref) n h = omega (arith, h)
+some_bytes (mem64 pref) n h = omega (arith, h)
 
-pub register_push : (space : Space) (f : ℕ) (slots : List (Option BasedRegion)) (i : ℕ) (o : Option BasedRegion) (old es : List RegionEntry) (found : Option RegionEntry) → slice_get slots i ≡ Some o
-    → option_to_list found ≡ map (entry_for f) (of_space space (bases_from i (o ∷ []))) → es ≡ old ++ map (entry_for f) (of_space space (bases_from 0 (take i slots)))
-    → es ++ option_to_list found ≡ old ++ map (entry_for f) (of_space space (bases_from 0 (take (i + 1) slots)))
-register_push space f slots i o old es found at is so_far =
-    let g : List BaseAddress → List RegionEntry = λ (bases : List BaseAddress). map (entry_for f) (of_space space bases) in
-    let size : 0 + length (take i slots) ≡ i = taken slots i o at in
-    let more : bases_from 0 (take (i + 1) slots) ≡ bases_from 0 (take i slots) ++ bases_from i (o ∷ []) =
-    ap (bases_from 0) (take_at slots i o at) ∙ bases_push 0 (take i slots) o ∙ ap (λ k. bases_from 0 (take i slots) ++ bases_from k (o ∷ [])) size in
-    let split : g (bases_from 0 (take (i + 1) slots)) ≡ g (bases_from 0 (take i slots)) ++ g (bases_from i (o ∷ [])) =
-    ap g more ∙ ap (map (entry_for f)) (filter-append (λ (x : BaseAddress). same_space (space_of x.kind) space) (bases_from 0 (take i slots)) (bases_from i (o ∷ [])))
-    ∙ map-append (entry_for f) (of_space space (bases_from 0 (take i slots))) (of_space space (bases_from i (o ∷ []))) in
-    ap₂ ◌++◌ so_far is ∙ append_assoc old (g (bases_from 0 (take i slots))) (g (bases_from i (o ∷ []))) ∙ ap (λ es. old ++ es) (sym split)
-  where
-    taken : (xs : List (Option BasedRegion)) (k : ℕ) (x : Option BasedRegion) → slice_get xs k ≡ Some x → 0 + length (take k xs) ≡ k
-    taken xs k x e = let l : k < length xs = slice_get_within xs k x e in simp length-take (omega (arith, l))
+of_decl : (p : Path) (file : File) (d : Decl) → IsLawfulDecl d → Each (λ (q : PlacedRegion). 0 < q.size) (open_of (row_of (record { path = p; decl = d; file = file })))
+of_decl p file (bridge d) lawful = tt
+of_decl p file (endpoint d) lawful =
+    each_filter (λ (q : PlacedRegion). 0 < q.size) (λ (q : PlacedRegion). opens_space (command_word file) q.space) (map (region_now p) (map (base_address file) d.regions))
+    (each_of_map (λ (q : PlacedRegion). 0 < q.size) (region_now p) (map (base_address file) d.regions)
+    (each_of_map (λ (b : BaseAddress). 0 < b.size) (base_address file) d.regions
+    (each_map IsLawfulRegion (λ (r : Region). 0 < r.size) d.regions (λ r h. some_bytes r.kind r.size h.size_is_lawful.not_less) lawful.regions.each)))
 
-pub function_push : (space : Space) (ss : List Setting) (i : ℕ) (s d : Setting) (es new : List RegionEntry) → s ≡ get_or ss i d → i < length ss → es ≡ entries_from space 0 (take i ss) → new ≡ es ++ entries_at space i s
-    → new ≡ entries_from space 0 (take (i + 1) ss)
-function_push space ss i s d es new is within so_far more =
-    let at : slice_get ss i ≡ Some s = slice_get-get_or ss i d within ∙ ap Some (sym is) in
-    let size : 0 + length (take i ss) ≡ i = simp length-take (omega (arith, within)) in
-    more ∙ ap (λ xs. xs ++ entries_at space i s) so_far
-    ∙ sym (ap (entries_from space 0) (take_at ss i s at) ∙ entries_push space 0 (take i ss) s ∙ ap (λ k. entries_from space 0 (take i ss) ++ entries_at space k s) size)
+sized : (fs : List BoardFunction) → HasLawfulDecls (map row_at fs) → Each (λ (q : PlacedRegion). 0 < q.size) (open_regions (routing fs))
+sized [] h = tt
+sized (f ∷ fs) h = each_append (λ (q : PlacedRegion). 0 < q.size) (open_of (row_of f)) (open_regions (routing fs)) (of_decl f.path f.file f.decl h.0) (sized fs h.1)
+
+-- ---- a board in order
+
+module _ (h : HostState) (board : IsStateOfBoard h.state.functions) (order : IsOrderly (routing h.state.functions)) where
+  abbrev fs : List BoardFunction
+  fs = h.state.functions
+
+  abbrev ps : List Path
+  ps = map (λ (r : RoutingRow). r.path) (routing fs)
+
+  claims : HasClaimsOfRegions fs
+  claims = orderly_claims fs board order
+
+  abbrev all_of : Space → List RegionEntry
+  all_of space = open_entries space 0 (routing fs)
+
+  gathered : AreGathered ps (open_regions (routing fs)) all_of
+  gathered = record {
+    regions = λ space. of_rows ps space 0 (routing fs) (λ j r e. let z : 0 + j ≡ j = omega arith in ap (path_nth ps) z ∙ paths_read (λ (x : RoutingRow). x.path) (routing fs) j r e);
+    apart = claims.apart;
+    sized = sized fs board.declarations;
+    known = λ space. known space 0 (routing fs) (length ps) (let n : length ps ≡ length (routing fs) = length-map (routing fs) (λ (r : RoutingRow). r.path) in omega (arith, n));
+  }
+
+  module _ (qs : List Path) (rows : List RoutingRow) (rows_are : rows ≡ routing fs) (paths_are : qs ≡ map (λ (r : RoutingRow). r.path) rows) where
+    own_paths : qs ≡ ps
+    own_paths = paths_are ∙ ap (map (λ (r : RoutingRow). r.path)) rows_are
+
+    sorted_of : (space : Space) (es : List RegionEntry) → IsSortedOf (open_entries space 0 rows) es → IsSortedOf (all_of space) es
+    sorted_of space es s = subst (λ (rs : List RoutingRow). IsSortedOf (open_entries space 0 rs) es) rows_are s
+
+    pub open_are : (space : Space) (es : List RegionEntry) → IsSortedOf (open_entries space 0 rows) es → AreEntries qs es
+    open_are space es s = subst (λ (xs : List Path). AreEntries xs es) (sym own_paths) (entries_are ps (open_regions (routing fs)) all_of gathered space es (sorted_of space es s))
+
+    module _ (ports mems : List RegionEntry) (hp : IsSortedOf (open_entries io 0 rows) ports) (hm : IsSortedOf (open_entries memory 0 rows) mems) where
+      host_paths : paths fs ≡ qs
+      host_paths = sym (own_paths ∙ map-map (λ (r : RoutingRow). r.path) row_of fs)
+
+      fits_own : FitsTable (table_of qs ports mems) h
+      fits_own = record {
+        claims = λ space n.
+            ap (λ (xs : List Path). table_claim (table_of xs ports mems) space n) own_paths
+            ∙ claims_listed ps (open_regions (routing fs)) all_of gathered ports mems (sorted_of io ports hp) (sorted_of memory mems hm) space n
+            ∙ sym (claims.first space n);
+        functions =
+            each_append (IsOfFunction fs) (map (table_entry qs io) ports) (map (table_entry qs memory) mems)
+            (of_functions fs qs io ports host_paths (open_are io ports hp).known) (of_functions fs qs memory mems host_paths (open_are memory mems hm).known);
+      }
+
+      pub fits_open : (k : HostState) → routing k.state.functions ≡ routing fs → FitsTable (table_of qs ports mems) k
+      fits_open k same = fits_by_routing (table_of qs ports mems) h k (sym same) fits_own

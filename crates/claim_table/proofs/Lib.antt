@@ -1,6 +1,6 @@
 pub mod Searching
-pub mod Gathering
 pub mod Sorting
 pub mod Listing
-pub mod Building
-pub mod OpenListing
+pub mod Answering
+pub mod Gathering
+pub mod Readies

@@ -1,6 +1,7 @@
 -- Some regions that share no address, as a table lists them: its entries stand apart, and its claims are theirs.
+--     region_of, is_of      the region of an entry; whether a region lies in a space
 --     IsSortedOf es fs      fs has the entries es, by first address
-use Rattle.std.proofs.Common.{◌≡◌, ℕ, ◌<◌, ◌⊎◌, inl, inr, true, List, [], ◌∷◌, ◌++◌, length, sym, ap, ap₂, ◌∙◌, subst, arith}
+use Rattle.std.proofs.Common.{◌≡◌, ℕ, ◌<◌, ◌⊎◌, inl, inr, Bool, true, List, [], ◌∷◌, ◌++◌, length, sym, ap, ap₂, ◌∙◌, subst, arith}
 use Rattle.std.specs.Prelude.{map, filter, ◌↔◌}
 use Rattle.std.specs.List.Sorted.{IsPermutation, IsNonDecreasingBy}
 use Rattle.std.proofs.lemmas.List.{map-append}
@@ -16,8 +17,13 @@ use Rattle.model_set_up.proofs.Holders.{self_space, same_members}
 use Rattle.claim_table.specs.declared.region_entry.RegionEntry.{RegionEntry}
 use Rattle.claim_table.specs.Tables.{TableEntry, table_claim}
 use Rattle.claim_table.specs.Entries.{AreEntries, table_entry, table_of}
-use Rattle.claim_table.proofs.Gathering.{region_of, is_of}
 use Rattle.claim_table.proofs.Sorting.{moved, moved_back, Disjoint, sorted_apart}
+
+abbrev pub region_of : List Path → Space → RegionEntry → PlacedRegion
+region_of ps space e = (table_entry ps space e).region
+
+abbrev pub is_of : Space → PlacedRegion → Bool
+is_of space q = same_space q.space space
 
 pub record IsSortedOf (es fs : List RegionEntry) : Type 0 where
   pub all : IsPermutation es fs

@@ -1,34 +1,37 @@
--- The regions of one space, as the program keeps them.
---     entries_from space i settings      of the functions from index i on, in path order
+-- The open regions of one space, as the program keeps them: PCI Local Bus 3.0, chapter 6.2.5.
+--     open_bases space r      those of a function
+--     open_entries space i rows      those of the functions from index i on, in path order
 --     lies_in n e      an address lies in a region
 --     AreApart es      by address, each region ends before the next begins
 --     by_space      the list of a space
 --     table_entry, table_of      entries with their space and the paths of their functions
-use Rattle.std.specs.Prelude.{List, [], ◌∷◌, ◌++◌, ℕ, ◌+◌, ◌<◌, ◌≤◌, Bool, ◌&&◌, nat_le, nat_lt, map, filter, length, unwrap_or, slice_get}
+use Rattle.std.specs.Prelude.{List, [], ◌∷◌, ◌++◌, ℕ, ◌+◌, ◌<◌, ◌≤◌, Bool, ◌&&◌, nat_le, nat_lt, if◌then◌else◌, map, filter, length, unwrap_or, slice_get}
 use Rattle.lists.specs.Elements.{Each, EachPair}
-use Rattle.model_registers.specs.Decoding.{Space, io, memory, space_of, same_space}
+use Rattle.model_registers.specs.Decoding.{Space, io, memory, space_of, same_space, opens_space}
 use Rattle.model_registers.specs.EndpointTable.{BaseAddress}
 use Rattle.model_board.specs.Paths.{Path}
-use Rattle.model_set_up.specs.SetUpWrites.{Writes, to_endpoint, to_bridge, Setting}
+use Rattle.model_board.specs.Routing.{RoutingRow, regions, windows}
 use Rattle.claim_table.specs.declared.region_entry.RegionEntry.{RegionEntry}
 use Rattle.claim_table.specs.Tables.{TableEntry}
 
 abbrev pub entry_for : ℕ → BaseAddress → RegionEntry
 entry_for i x = record { first = x.base; size = x.size; function = i; region = x.index }
 
-abbrev pub bases_in : Writes → List BaseAddress
-bases_in (to_endpoint command bases) = bases
-bases_in (to_bridge windows) = []
-
 abbrev pub of_space : Space → List BaseAddress → List BaseAddress
 of_space space bases = filter (λ (x : BaseAddress). same_space (space_of x.kind) space) bases
 
-abbrev pub entries_at : Space → ℕ → Setting → List RegionEntry
-entries_at space i s = map (entry_for i) (of_space space (bases_in s.writes))
+abbrev pub open_bases : Space → RoutingRow → List BaseAddress
+open_bases space r = elim r.ranges [
+  | regions bs ↦ if opens_space r.command space then of_space space bs else []
+  | windows wio wmem wpref ↦ []
+]
 
-abbrev pub entries_from : Space → ℕ → List Setting → List RegionEntry
-entries_from space i [] = []
-entries_from space i (s ∷ settings) = entries_at space i s ++ entries_from space (i + 1) settings
+abbrev pub open_at : Space → ℕ → RoutingRow → List RegionEntry
+open_at space i r = map (entry_for i) (open_bases space r)
+
+abbrev pub open_entries : Space → ℕ → List RoutingRow → List RegionEntry
+open_entries space i [] = []
+open_entries space i (r ∷ rows) = open_at space i r ++ open_entries space (i + 1) rows
 
 abbrev pub lies_in : ℕ → RegionEntry → Bool
 lies_in n e = nat_le e.first n && nat_lt n (e.first + e.size)

@@ -1,4 +1,3 @@
 pub mod Tables
 pub mod Entries
 pub mod Fitting
-pub mod OpenEntries

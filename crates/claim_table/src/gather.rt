@@ -1,92 +1,93 @@
-//! The regions of a board in one space, in the order of their addresses.
-ghost use Rattle.std.specs.Prelude.{◌≡◌, [], ◌∷◌, ◌++◌, map, IfOk, OnOk};
-ghost use Rattle.std.specs.Option.{option_to_list};
+//! The open regions of a board in one space, in the order of their addresses.
+ghost use Rattle.std.specs.Prelude.{◌≡◌, ◌++◌, map, IfOk, OnOk};
 ghost use Rattle.std.specs.List.Sorted.{IsPermutation, IsNonDecreasingBy};
 ghost use Rattle.bars.specs.Kinds.{named_space};
-ghost use Rattle.bars.specs.Slots.{bases_from};
+ghost use Rattle.model_registers.specs.Decoding.{opens_space};
+ghost use Rattle.bridge_forward.specs.RoutingRows.{base_of};
 ghost use Rattle.claim_table.specs.declared.region_entry.RegionEntry.{RegionEntry as EntryValue};
-ghost use Rattle.claim_table.specs.Entries.{entry_for, of_space, entries_from};
+ghost use Rattle.claim_table.specs.Entries.{entry_for, of_space, open_at, open_entries};
 
 use crate::region_entry::RegionEntry;
-use bars::{BasedRegion, Space};
+use bars::Space;
+use bridge_forward::{Ranges, RoutingRegion, RoutingRow};
 use std::alloc::{AllocError, Global};
-use window_packing::{Setting, Writes};
 
-/// The region of a register, if it lies in a space.
-fn entry_of(
-    placed: Option<BasedRegion>,
-    space: Space,
-    function: usize,
-    region: u8,
-) -> Option<RegionEntry>
-    ensures { option_to_list result
-        ≡ map (entry_for function) (of_space (named_space space) (bases_from region (placed ∷ []))) }
+/// Whether the word of the Command register opens a space.
+fn opens(command: u16, space: Space) -> bool
+    ensures { result ≡ opens_space command (named_space space) }
 {
-    let placed = placed?;
-    if placed.decl.kind().space() != space {
-        return None;
-    }
-    Some(RegionEntry {
-        first: placed.base,
-        size: placed.decl.size(),
-        function,
-        region,
-    })
+    command & space.command_bit() != 0
 }
 
-/// Adds the regions of one space of a function.
+/// Adds those regions of a function that lie in a space.
 fn add_regions(
     entries: &mut Vec<RegionEntry>,
     space: Space,
     function: usize,
-    bases: &[Option<BasedRegion>; 6],
+    regions: &[RoutingRegion],
 ) -> Result<(), AllocError>
     ensures { OnOk result (entries.new.items
-        ≡ entries.old.items ++ map (entry_for function) (of_space (named_space space) (bases_from 0 bases.now))) }
+        ≡ entries.old.items ++ map (entry_for function) (of_space (named_space space) (map base_of regions.now))) }
 {
-    for region in 0..6u8 {
-        let placed = bases[usize::from(region)];
-        if let Some(entry) = entry_of(placed, space, function, region) {
-            entries.push(entry)?;
+    for region in regions {
+        if region.kind.space() == space {
+            entries.push(RegionEntry {
+                first: region.base,
+                size: region.size,
+                function,
+                region: region.index,
+            })?;
         }
     }
     Ok(())
 }
 
-/// The regions of one space of all functions, in path order.
-fn all_regions(
+/// Adds the open regions of one space of a function.
+fn add_open(
+    entries: &mut Vec<RegionEntry>,
+    space: Space,
+    function: usize,
+    row: &RoutingRow,
+) -> Result<(), AllocError>
+    ensures { OnOk result (entries.new.items ≡ entries.old.items ++ open_at (named_space space) function row.now) }
+{
+    match &row.ranges {
+        Ranges::Regions(regions) => {
+            if opens(row.command, space) {
+                add_regions(entries, space, function, regions)
+            } else {
+                Ok(())
+            }
+        }
+        Ranges::Windows { .. } => Ok(()),
+    }
+}
+
+/// The open regions of one space of all functions, in path order.
+fn all_open(
     alloc: Global,
     space: Space,
-    settings: &[Setting],
+    rows: &[RoutingRow],
 ) -> Result<Vec<RegionEntry>, AllocError>
-    ensures { IfOk result (λ v. v.items ≡ entries_from (named_space space) 0 settings.now) }
+    ensures { IfOk result (λ v. v.items ≡ open_entries (named_space space) 0 rows.now) }
 {
     let mut entries = Vec::new(alloc);
-    for (function, setting) in settings.iter().enumerate() {
-        match &setting.writes {
-            Writes::Endpoint { command: _, bases } => {
-                add_regions(&mut entries, space, function, bases)?;
-            }
-            Writes::Bridge {
-                io: _,
-                mem: _,
-                pref: _,
-            } => {}
-        }
+    for (function, row) in rows.iter().enumerate() {
+        add_open(&mut entries, space, function, row)?;
     }
     Ok(entries)
 }
 
-/// The regions of one space of all functions, by address.
-pub(crate) fn by_address(
+/// The open regions of one space of all functions, by address.
+pub(crate) fn open_by_address(
     alloc: Global,
     space: Space,
-    settings: &[Setting],
+    rows: &[RoutingRow],
 ) -> Result<Vec<RegionEntry>, AllocError>
-    ensures all { IfOk result (λ v. IsPermutation (entries_from (named_space space) 0 settings.now) v.items) }
+    ensures all { IfOk result (λ v. IsPermutation (open_entries (named_space space) 0 rows.now) v.items) }
     ensures rising { IfOk result (λ v. IsNonDecreasingBy (λ (e : EntryValue). e.first) v.items) }
 {
-    let mut entries = all_regions(alloc, space, settings)?;
+    let mut entries = all_open(alloc, space, rows)?;
     entries.sort_unstable_by_key(|entry| entry.first);
     Ok(entries)
 }

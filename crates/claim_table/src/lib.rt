@@ -3,7 +3,6 @@
 #![tactic(auto)]
 
 mod gather;
-mod gather_open;
 mod region_entry;
 mod search;
 mod table;

@@ -1,21 +1,18 @@
 //! The table.
 ghost use Rattle.std.specs.Prelude.{◌≡◌, IfOk, map};
-ghost use Rattle.model_set_up.specs.FunctionTable.{TableRow};
 ghost use Rattle.model_board.specs.Routing.{RoutingRow as RowValue};
 
-use crate::gather::by_address;
-use crate::gather_open::open_by_address;
+use crate::gather::open_by_address;
 use crate::region_entry::RegionEntry;
 use crate::search::{entry_at, of_space};
 use bridge_forward::RoutingRow;
-use bus_scan::FunctionRow;
 use host_bridge::{Claim, Host, Located, Path, Route, Space};
 use std::alloc::{AllocError, Global};
 use std::marker::Model;
 use window_packing::Ready;
 
-/// The regions of a board that is set up, or the open ones of a board in order, by space and first address, each with the index of its
-/// function in the list of the board's functions. An address is looked up by halving.
+/// The open regions of a board in order, by space and first address, each with the index of its function in
+/// the list of the board's functions. An address is looked up by halving.
 #[derive(Drop)]
 pub struct Table {
     paths: Vec<Path>,
@@ -35,13 +32,6 @@ impl Model for Table {
     ghost invariant = { λ t. AreEntries t.paths.items t.ports.items × AreEntries t.paths.items t.memory.items };
 }
 
-/// The paths of all functions.
-fn paths_of(alloc: Global, rows: &[FunctionRow]) -> Result<Vec<Path>, AllocError>
-    ensures { IfOk result (λ v. v.items ≡ map (λ (r : TableRow). r.path) rows.now) }
-{
-    rows.iter().map(|row| row.path.copied()).collect(alloc)
-}
-
 /// The paths of all rows.
 fn paths_in(alloc: Global, rows: &[RoutingRow]) -> Result<Vec<Path>, AllocError>
     ensures { IfOk result (λ v. v.items ≡ map (λ (r : RowValue). r.path) rows.now) }
@@ -54,20 +44,6 @@ impl Table {
     ghost use Rattle.model_audit.specs.Orderly.{IsOrderly, IsStateOfBoard};
     ghost use Rattle.host_bridge.specs.HostState.{HostState};
     ghost use Rattle.claim_table.specs.Tables.{FitsTable};
-
-    /// The table of a board that is set up. It fits every host with the same routing registers. Nothing
-    /// else refuses than that memory is out.
-    pub fn build(alloc: Global, ready: &Ready) -> Result<Table, AllocError>
-        ensures { IfOk result (λ t.
-            (h : HostState) → routing h.state.functions ≡ routing ready.now.host.state.functions → FitsTable t h) }
-    {
-        let settings = ready.plan().settings();
-        Ok(Table {
-            paths: paths_of(alloc, ready.table().rows())?,
-            ports: by_address(alloc, Space::Io, settings)?,
-            memory: by_address(alloc, Space::Mem, settings)?,
-        })
-    }
 
     /// The table of the open regions of a board in order, whoever set it up. It fits every host with the
     /// same routing registers. Nothing else refuses than that memory is out.
@@ -83,6 +59,16 @@ impl Table {
             ports: open_by_address(alloc, Space::Io, &rows)?,
             memory: open_by_address(alloc, Space::Mem, &rows)?,
         })
+    }
+
+    /// The table of a board that is set up: it is in order, and all its regions are open. It fits every
+    /// host with the same routing registers. Nothing else refuses than that memory is out.
+    #[tactic(auto, using(crate::proofs::Readies::ready_state))]
+    pub fn build(alloc: Global, ready: &Ready) -> Result<Table, AllocError>
+        ensures { IfOk result (λ t.
+            (h : HostState) → routing h.state.functions ≡ routing ready.now.host.state.functions → FitsTable t h) }
+    {
+        Table::of_open_regions(alloc, ready.host())
     }
 }
 

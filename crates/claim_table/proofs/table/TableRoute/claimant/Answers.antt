@@ -6,7 +6,7 @@ use Rattle.model_board.specs.Claims.{Claim}
 use Rattle.lists.proofs.FirstFound.{each_found}
 use Rattle.claim_table.specs.declared.region_entry.RegionEntry.{RegionEntry}
 use Rattle.claim_table.specs.Entries.{lies_in, by_space}
-use Rattle.claim_table.proofs.Building.{known_in, none_claimed, from, claimed, path_at}
+use Rattle.claim_table.proofs.Answering.{known_in, none_claimed, from, claimed, path_at}
 use Rattle.claim_table.proofs.table.TableRoute.claimant.Goals as goal
 
 pub returns-in_err-entry : goal.returns-in_err-entry

@@ -1,82 +1,28 @@
--- The table of a board that is set up: its regions stand apart, and its claims are those of the board.
-use Rattle.std.proofs.Common.{◌≡◌, ℕ, ◌+◌, ◌-◌, ◌≤◌, ◌<◌, Bool, true, false, cond, List, [], ◌∷◌, ◌++◌, length, get_or, Option, Some, None, refl, sym, ap, ap₂, ◌∙◌, subst, arith, leb, ltb}
-use Rattle.std.specs.Prelude.{map, filter, find, slice_get}
+-- What a table answers, where its claims are those of the board.
+use Rattle.std.proofs.Common.{◌≡◌, ℕ, ◌+◌, ◌-◌, ◌≤◌, ◌<◌, Bool, true, false, cond, List, [], ◌∷◌, ◌++◌, length, get_or, Option, Some, None, refl, sym, ap, ap₂, ◌∙◌, subst, leb, ltb}
+use Rattle.std.specs.Prelude.{map, find, slice_get}
 use Rattle.std.specs.Option.{option_map}
-use Rattle.std.proofs.lemmas.List.{map-append, length-map}
+use Rattle.std.proofs.lemmas.List.{map-append}
 use Rattle.std.proofs.lemmas.Simd.{map-map}
-use Rattle.lists.specs.Elements.{Each, first_of_two, first_some, IsIn}
-use Rattle.lists.proofs.EachLemmas.{each_append, each_parts}
-use Rattle.model_registers.specs.Declarations.{Kind, io_kind, mem32, mem64, least_size, IsLawfulRegion}
+use Rattle.lists.specs.Elements.{Each, first_of_two, first_some}
+use Rattle.lists.proofs.EachLemmas.{each_parts}
 use Rattle.model_registers.specs.Decoding.{Space, io, memory}
 use Rattle.model_board.specs.Paths.{Path}
-use Rattle.model_board.specs.Board.{Row, Board}
 use Rattle.model_board.specs.State.{BoardFunction}
 use Rattle.model_board.specs.Claims.{Claim, claim_at, first_claim}
 use Rattle.bridge_forward.specs.Locating.{located_claim}
 use Rattle.std.proofs.lemmas.Bool.{leb-true}
 use Rattle.lists.proofs.Tests.{left_true}
 use Rattle.std.proofs.lemmas.Option.{slice_get_within, slice_get-get_or, unwrap_or-slice_get}
-use Rattle.model_registers.specs.Apertures.{Apertures}
-use Rattle.model_set_up.specs.FunctionTable.{TableRow}
-use Rattle.model_board.specs.Routing.{routing}
-use Rattle.model_set_up.specs.SetUp.{set_up_state}
-use Rattle.model_set_up.specs.SetUpWrites.{settings, Setting}
-use Rattle.model_set_up.specs.PlacedRegions.{PlacedRegion, placed_regions, claim_in, placed_claim}
-use Rattle.model_set_up.specs.UniqueClaimant.{CanBePlaced, HasUniqueClaims}
-use Rattle.lists.proofs.Members.{each_in, each_from}
+use Rattle.model_set_up.specs.PlacedRegions.{claim_in}
 use Rattle.lists.proofs.FirstFound.{found_passes, each_found}
-use Rattle.model_set_up.proofs.PlacedRegions.{Source, source, lawful_regions}
-use Rattle.model_set_up.proofs.UniqueClaimant.{unique_claimant}
 use Rattle.host_bridge.specs.HostState.{HostState}
-use Rattle.window_packing.specs.Readies.{ReadyBoard, board_below, IsReady}
 use Rattle.claim_table.specs.declared.region_entry.RegionEntry.{RegionEntry}
 use Rattle.claim_table.specs.Tables.{TableEntry, table_claim, IsOfFunction, FitsTable}
-use Rattle.claim_table.specs.Entries.{entries_from, lies_in, by_space, AreEntries, path_nth, table_entry, table_of}
-use Rattle.claim_table.specs.Fitting.{paths, nth_path, fits_by_routing}
-use Rattle.claim_table.proofs.Gathering.{region_of, is_of, of_board, paths_read, known}
-use Rattle.claim_table.proofs.Listing.{IsSortedOf, each_unmap, AreGathered, entries_are, claims_listed}
-
-pub some_bytes : (kind : Kind) (n : ℕ) → least_size kind ≤ n → 0 < n
-some_bytes io_kind n h = omega (arith, h)
-some_bytes (mem32 pref) n h = omega (arith, h)
-some_bytes (mem64 pref) n h = omega (arith, h)
-
-module _ (b : Board) (a : Apertures) (can : CanBePlaced b a) where
-  abbrev ps : List Path
-  ps = map (λ (r : Row). r.path) b
-
-  abbrev all_of : Space → List RegionEntry
-  all_of space = entries_from space 0 (settings b a)
-
-  regions_are : (space : Space) → map (region_of ps space) (all_of space) ≡ filter (is_of space) (placed_regions b a)
-  regions_are space = of_board b a ps space 0 b (λ j r e. let z : 0 + j ≡ j = omega arith in ap (path_nth ps) z ∙ paths_read (λ (r : Row). r.path) b j r e)
-
-  unique : HasUniqueClaims b a (set_up_state b a).functions
-  unique = unique_claimant b a can (set_up_state b a).functions refl
-
-  positive : (q : PlacedRegion) → IsIn q (placed_regions b a) → 0 < q.size
-  positive q m = by_source (source b a q m)
-    where
-      by_source : Source b a q → 0 < q.size
-      by_source s =
-          let lawful : IsLawfulRegion s.region = each_in IsLawfulRegion s.region s.decl.regions (lawful_regions b can.declarations s.row s.decl s.there s.decl_is).each s.declared in
-          let some : 0 < s.region.size = some_bytes s.region.kind s.region.size lawful.size_is_lawful.not_less in
-          let same : q.size ≡ s.region.size = ap (λ (x : PlacedRegion). x.size) s.is in omega (arith, some, same)
-
-  gathered : AreGathered ps (placed_regions b a) all_of
-  gathered = record {
-    regions = regions_are;
-    apart = unique.apart;
-    sized = each_from (λ (q : PlacedRegion). 0 < q.size) (placed_regions b a) positive;
-    known = λ space. known space 0 (settings b a) (length ps) (let n : length (settings b a) ≡ length b = length-map b _ in let m : length ps ≡ length b = length-map b (λ (r : Row). r.path) in omega (arith, n, m));
-  }
-
-  pub entries : (space : Space) (fs : List RegionEntry) → IsSortedOf (all_of space) fs → AreEntries ps fs
-  entries space fs h = entries_are ps (placed_regions b a) all_of gathered space fs h
-
-  module _ (ports mems : List RegionEntry) (hp : IsSortedOf (all_of io) ports) (hm : IsSortedOf (all_of memory) mems) where
-    pub claims_placed : (space : Space) (n : ℕ) → table_claim (table_of ps ports mems) space n ≡ placed_claim b a space n
-    claims_placed space n = claims_listed ps (placed_regions b a) all_of gathered ports mems hp hm space n
+use Rattle.claim_table.specs.Entries.{lies_in, by_space, AreEntries, path_nth, table_entry, table_of}
+use Rattle.claim_table.specs.Fitting.{paths, nth_path}
+use Rattle.claim_table.proofs.Listing.{region_of}
+use Rattle.claim_table.proofs.Listing.{each_unmap}
 
 -- ---- the functions
 
@@ -87,45 +33,6 @@ pub of_functions : (fs : List BoardFunction) (qs : List Path) (space : Space) (e
 of_functions fs qs space [] is h = tt
 of_functions fs qs space (e ∷ es) is h =
     (nth_path fs e.function ∙ ap (λ (xs : List Path). slice_get xs e.function) is ∙ path_there qs e.function h.0, of_functions fs qs space es is h.1)
-
--- ---- a board that is set up
-
-module _ (r : ReadyBoard) (ready : IsReady r) (qs : List Path) (paths_are : qs ≡ map (λ (t : TableRow). t.path) r.table) where
-  abbrev board : Board
-  board = board_below r.host
-
-  board_paths : qs ≡ map (λ (x : Row). x.path) board
-  board_paths = paths_are ∙ ap (map (λ (t : TableRow). t.path)) ready.table ∙ map-map (λ (t : TableRow). t.path) _ board
-
-  sorted_of : (space : Space) (fs : List RegionEntry) → IsSortedOf (entries_from space 0 r.plan.settings) fs → IsSortedOf (entries_from space 0 (settings board r.host.apertures)) fs
-  sorted_of space fs h = subst (λ (ss : List Setting). IsSortedOf (entries_from space 0 ss) fs) (ap (λ (p : Rattle.model_set_up.specs.SetUpWrites.Plan). p.settings) ready.plan) h
-
-  pub ready_entries : (space : Space) (fs : List RegionEntry) → IsSortedOf (entries_from space 0 r.plan.settings) fs → AreEntries qs fs
-  ready_entries space fs h = subst (λ (xs : List Path). AreEntries xs fs) (sym board_paths) (entries board r.host.apertures ready.placeable space fs (sorted_of space fs h))
-
-  module _ (ports mems : List RegionEntry) (hp : IsSortedOf (entries_from io 0 r.plan.settings) ports) (hm : IsSortedOf (entries_from memory 0 r.plan.settings) mems) where
-    abbrev fs : List BoardFunction
-    fs = r.host.state.functions
-
-    set_up_routing : routing fs ≡ routing (set_up_state board r.host.apertures).functions
-    set_up_routing = ap (λ (s : Rattle.model_board.specs.State.State). routing s.functions) ready.registers
-
-    host_paths : paths fs ≡ qs
-    host_paths = sym (board_paths ∙ map-map (λ (x : Row). x.path) _ fs)
-
-    fits_own : FitsTable (table_of qs ports mems) r.host
-    fits_own = record {
-      claims = λ space n.
-          subst (λ (xs : List Path). table_claim (table_of xs ports mems) space n ≡ placed_claim board r.host.apertures space n) (sym board_paths)
-          (claims_placed board r.host.apertures ready.placeable ports mems (sorted_of io ports hp) (sorted_of memory mems hm) space n)
-          ∙ sym ((unique_claimant board r.host.apertures ready.placeable fs set_up_routing).first space n);
-      functions =
-          each_append (IsOfFunction fs) (map (table_entry qs io) ports) (map (table_entry qs memory) mems)
-          (of_functions fs qs io ports host_paths (ready_entries io ports hp).known) (of_functions fs qs memory mems host_paths (ready_entries memory mems hm).known);
-    }
-
-    pub fits_ready : (h : HostState) → routing h.state.functions ≡ routing fs → FitsTable (table_of qs ports mems) h
-    fits_ready h same = fits_by_routing (table_of qs ports mems) r.host h (sym same) fits_own
 
 -- ---- the entry that is found gives the claim
 
