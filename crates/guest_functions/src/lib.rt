@@ -3,11 +3,10 @@
 
 ghost use Rattle.guest_functions.specs.CopyLaws.{OtherCell, HandedRead, BlockRead, CopiedWrite, BlockWrite, CopiedRaise, HiddenRaise, CopiesStay, SameCopies, CopiesHeld, RaisedHeld, WrittenHeld, BlockWrittenHeld, LawfulCopies, SumOfBytes, EnabledBytesFit};
 
-mod latch;
 mod virtual_function;
 mod word;
 
-pub use latch::{Select, selection};
+pub use paths::{Latch, Select};
 pub use virtual_function::VirtualFunction;
 
 /// The board's file with a guest's own copies put in: what it reads is the copies with the bytes that

@@ -3,3 +3,4 @@ pub mod Lent
 pub mod ClaimedAccesses
 pub mod ByIndex
 pub mod PortAccesses
+pub mod ByPath

@@ -19,12 +19,11 @@ ghost use Rattle.host_bridge.specs.Landings.{IsLanding};
 
 use crate::latch::{Target, cycle_of, target_of};
 use crate::route::Route;
-use address_latch::Latch;
 use bars::{BasedRegion, Space, enabled_bits};
 use bridge_forward::{Bus, Claim, Located, Path, RoutingRow};
 use config_bytes::{Op, all_ones, enables_of, into_lanes, lowered};
 use headers::Apertures;
-use paths::Bdf;
+use paths::{Bdf, Latch};
 use std::alloc::{AllocError, Global};
 use std::marker::Model;
 
@@ -58,7 +57,7 @@ impl Host {
     {
         Host {
             root,
-            latch: Latch::clear(),
+            latch: Latch::new(),
             apertures,
         }
     }
@@ -104,7 +103,7 @@ impl Host {
     {
         self.latch = Latch::selecting(at, off);
         let word = self.read_data(enables);
-        self.latch = Latch::clear();
+        self.latch = Latch::new();
         word
     }
 
@@ -119,14 +118,14 @@ impl Host {
     {
         self.latch = Latch::selecting(at, off);
         self.write_data(enables, data);
-        self.latch = Latch::clear();
+        self.latch = Latch::new();
     }
 
     /// Clears the address latch: it is 0 afterwards, and enables no CONFIG_DATA.
     pub fn clear_latch(&mut self)
         ensures { self.new ≡ with_latch 0 self.old }
     {
-        self.latch = Latch::clear();
+        self.latch = Latch::new();
     }
 
     /// The first claim of an address in path order, then by register: a region that decodes it, where
@@ -300,7 +299,7 @@ impl Host {
     {
         let addr = u64::from(port);
         match target_of(self.latch, port, width) {
-            Target::ConfigAddress => self.latch = Latch::written(value),
+            Target::ConfigAddress => self.latch.write(value),
             Target::ConfigData => {
                 self.write_data(enables_of(addr, width), into_lanes(addr, value));
             }

@@ -6,10 +6,9 @@ ghost use Rattle.model_board.specs.Ports.{selected, selected_register, port_targ
 ghost use Rattle.bridge_forward.specs.Cycled.{reached_by};
 ghost use Rattle.host_bridge.specs.Targets.{named_target};
 
-use address_latch::{Latch, is_address_port};
 use bridge_forward::{Cycle, CycleType};
 use config_bytes::Op;
-use paths::Bdf;
+use paths::{Bdf, Latch, is_address_port};
 
 /// Where an access at a port goes: to the latch, by a configuration cycle to what the latch selects,
 /// or to whatever claims the port.

@@ -19,6 +19,7 @@
 #![tactic(auto)]
 
 mod by_index;
+mod by_path;
 mod host;
 mod latch;
 mod route;

@@ -1,3 +1,4 @@
 pub mod PathOrders
 pub mod PathLaws
 pub mod BusAddresses
+pub mod Latches

@@ -39,14 +39,14 @@ fn bridge() -> Result<BridgeDecl, Fail> {
     Ok(decl)
 }
 
-fn on_root(device: u8) -> Path
+pub(crate) fn on_root(device: u8) -> Path
     requires { device < 16 }
     ensures { length result < 16 }
 {
     Path::on_root(Part::new(device, 0))
 }
 
-fn behind_bridge(device: u8) -> Path
+pub(crate) fn behind_bridge(device: u8) -> Path
     requires { device < 16 }
 {
     let mut path = on_root(2);
@@ -55,7 +55,7 @@ fn behind_bridge(device: u8) -> Path
 }
 
 /// Two endpoints behind a bridge, and one beside it.
-fn host(rt: &impl Abort, alloc: Global) -> Result<Host, Fail> {
+pub(crate) fn bus(rt: &impl Abort, alloc: Global) -> Result<Bus, Fail> {
     let memory = Kind::Mem32 { pref: false };
     let none = Vec::new(alloc);
     let block = vec![in alloc; Cell::settable(0, 0xff); 64]?;
@@ -90,6 +90,11 @@ fn host(rt: &impl Abort, alloc: Global) -> Result<Host, Fail> {
         },
     ]?;
     assert!(rt; lawful_places(&decls));
+    Ok(Bus::build(alloc, decls)?)
+}
+
+/// Their host.
+pub(crate) fn host(rt: &impl Abort, alloc: Global) -> Result<Host, Fail> {
     let io = Aperture {
         first: 0x1000,
         last: 0xffff,
@@ -103,7 +108,7 @@ fn host(rt: &impl Abort, alloc: Global) -> Result<Host, Fail> {
         last: 0x4_ffff_ffff,
     };
     let apertures = Apertures::new(io, mem, Some(pref))?;
-    Ok(Host::new(Bus::build(alloc, decls)?, apertures))
+    Ok(Host::new(bus(rt, alloc)?, apertures))
 }
 
 /// A call, and what it has to answer. Configuration words are those of function 0 of a device.

@@ -8,6 +8,8 @@ mod base_registers;
 #[cfg(test)]
 mod boards;
 #[cfg(test)]
+mod by_path;
+#[cfg(test)]
 mod cells;
 #[cfg(test)]
 mod claims;

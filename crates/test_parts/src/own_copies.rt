@@ -1,6 +1,5 @@
-use address_latch::Latch;
 use bars::{BarDecl, Kind, Space};
-use guest_functions::{Select, VirtualFunction, selection};
+use guest_functions::{Latch, Select, VirtualFunction};
 
 /// Command, its read-only bits, the bytes that are handed on, and what is decoded.
 #[test]
@@ -28,16 +27,16 @@ fn own_copies(rt: HostRuntime) {
 /// CONFIG_ADDRESS keeps its bits alone, and CONFIG_DATA leads to a slot by device and register.
 #[test]
 fn latch(rt: HostRuntime) {
-    let mut latch = Latch::clear();
-    assert!(rt; selection(latch, 0xcfc) == Select::Ordinary);
-    latch = Latch::written(0xffff_ffff);
+    let mut latch = Latch::new();
+    assert!(rt; latch.select(0xcfc) == Select::Ordinary);
+    latch.write(0xffff_ffff);
     assert_eq!(rt; latch.value(), 0x80ff_fffc);
-    assert!(rt; selection(latch, 0xcfc) == Select::Nowhere);
-    latch = Latch::written(0x8000_0800);
-    assert!(rt; selection(latch, 0xcfe) == Select::Slot(1, 2));
-    assert!(rt; selection(latch, 0xcf8) == Select::Ordinary);
-    latch = Latch::written(0x8000_2804);
-    assert!(rt; selection(latch, 0xcff) == Select::Slot(5, 7));
-    latch = Latch::written(0x8000_0100);
-    assert!(rt; selection(latch, 0xcfc) == Select::Nowhere);
+    assert!(rt; latch.select(0xcfc) == Select::Nowhere);
+    latch.write(0x8000_0800);
+    assert!(rt; latch.select(0xcfe) == Select::Slot(1, 2));
+    assert!(rt; latch.select(0xcf8) == Select::Ordinary);
+    latch.write(0x8000_2804);
+    assert!(rt; latch.select(0xcff) == Select::Slot(5, 7));
+    latch.write(0x8000_0100);
+    assert!(rt; latch.select(0xcfc) == Select::Nowhere);
 }

@@ -1,10 +1,12 @@
-//! The bits of the latch, and its ports.
+//! The address latch behind the ports CONFIG_ADDRESS and CONFIG_DATA (PCI Local Bus 3.0, chapter 3.2.2.3.2): that of
+//! the host bridge, and those that guests have.
 ghost use Rattle.std.specs.Prelude.{◌≡◌, ◌%◌, ◌&&◌};
 ghost use Rattle.model_registers.specs.ConfigAddress.{latched, is_enabled, selected_register, is_address_port, is_data_port};
 ghost use Rattle.model_board.specs.Ports.{selected};
 ghost use Rattle.paths.specs.BusAddresses.{bus_address_of};
+ghost use Rattle.paths.specs.Latches.{select_at, IsSelectAt};
 
-use paths::Bdf;
+use crate::bdf::Bdf;
 use std::marker::Model;
 
 /// Whether an access of `width` bytes at a port is one of CONFIG_ADDRESS: 4 bytes at CF8h.
@@ -21,6 +23,15 @@ pub struct Latch {
     bits: u32,
 }
 
+/// Where an access at a port goes by a guest's latch: to the guest's regions as any other, to no
+/// function, or to a slot at an offset of its configuration space.
+#[derive(Clone, Copy, Debug, PartialEq, Eq)]
+pub enum Select {
+    Ordinary,
+    Nowhere,
+    Slot(u8, u8),
+}
+
 impl Model for Latch {
     ghost use Rattle.std.specs.Prelude.{ℕ};
 
@@ -33,19 +44,17 @@ impl Model for Latch {
 
 impl Latch {
     /// The latch at the beginning, which selects nothing.
-    pub fn clear() -> Latch
+    pub fn new() -> Latch
         ensures { result ≡ 0 }
     {
         Latch { bits: 0 }
     }
 
-    /// What a write of four bytes to CONFIG_ADDRESS leaves. The bits that are not used stay 0.
-    pub fn written(value: u32) -> Latch
-        ensures { result ≡ latched value }
+    /// Writes four bytes to CONFIG_ADDRESS. The bits that are not used stay 0.
+    pub fn write(&mut self, value: u32)
+        ensures { self.new ≡ latched value }
     {
-        Latch {
-            bits: value & 0x80ff_fffc,
-        }
+        self.bits = value & 0x80ff_fffc;
     }
 
     /// Enables CONFIG_DATA, and selects the word at `off`, a multiple of 4, of a function.
@@ -96,5 +105,21 @@ impl Latch {
         ensures { result ≡ selected_register self }
     {
         (self.bits >> 2 & 0x3f) as u8 * 4
+    }
+
+    /// Where an access of a guest at a port goes: at CONFIG_DATA to the byte of the selected word that the
+    /// port names. The guest's slots are the devices of bus 0, and each has function 0 alone.
+    pub fn select(self, port: u64) -> Select
+        ensures select { result ≡ select_at self port }
+        ensures slot { IsSelectAt port result }
+    {
+        if !self.shows_data(port) {
+            return Select::Ordinary;
+        }
+        let at = self.function();
+        if at.bus != 0 || at.function != 0 {
+            return Select::Nowhere;
+        }
+        Select::Slot(at.device, self.register() + (port - 0xcfc) as u8)
     }
 }

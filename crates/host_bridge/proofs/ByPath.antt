@@ -1,0 +1,35 @@
+-- One function of a board by its path: it is the one at the index that is found for the path.
+use Rattle.std.proofs.Common.{◌≡◌, ℕ, List, Option, Some, None, refl, ap, ◌∙◌}
+use Rattle.std.specs.Prelude.{find, IsSome}
+use Rattle.std.specs.List.{slice_get}
+use Rattle.std.specs.Option.{option_map_or}
+use Rattle.model_registers.specs.Registers.{File}
+use Rattle.model_registers.specs.Decoding.{Function}
+use Rattle.model_registers.specs.CopiedFiles.{after_reset}
+use Rattle.model_board.specs.Paths.{Path, path_eq}
+use Rattle.model_board.specs.State.{BoardFunction, with_file}
+use Rattle.model_board.proofs.PathOrder.{path_same}
+use Rattle.lists.proofs.FirstFound.{found_passes}
+use Rattle.bridge_forward.specs.Lending.{as_endpoint, endpoint_at, endpoint_nth, with_endpoint_reset}
+use Rattle.host_bridge.specs.ByIndex.{with_file_nth, with_reset_nth}
+
+module _ (fs : List BoardFunction) (p : Path) (i : ℕ) (at : slice_get fs i ≡ find (λ f. path_eq f.path p) fs) where
+  pub endpoint_same : endpoint_nth fs i ≡ endpoint_at fs p
+  endpoint_same = ap (λ o. option_map_or as_endpoint o None) at
+
+  pub change_same : (g : File → File) → IsSome (endpoint_at fs p) → with_file_nth g i fs ≡ with_file g p fs
+  change_same g = by (find (λ f. path_eq f.path p) fs) refl
+    where
+      by : (o : Option BoardFunction) → find (λ f. path_eq f.path p) fs ≡ o → IsSome (option_map_or as_endpoint o None) → with_file_nth g i fs ≡ with_file g p fs
+      by None found h = cc
+      by (Some f) found h =
+          ap (λ o. option_map_or (λ (f : BoardFunction). with_file g f.path fs) o fs) (at ∙ found)
+          ∙ ap (λ q. with_file g q fs) (path_same f.path p (found_passes (λ (f : BoardFunction). path_eq f.path p) fs f found))
+
+  pub reset_same : with_reset_nth i fs ≡ with_endpoint_reset p fs
+  reset_same = rw endpoint_same (by (endpoint_at fs p) refl)
+    where
+      by : (o : Option Function) → endpoint_at fs p ≡ o
+          → option_map_or (λ (e : Function). with_file_nth (after_reset e.decl) i fs) o fs ≡ option_map_or (λ (e : Function). with_file (after_reset e.decl) p fs) o fs
+      by None h = refl
+      by (Some e) h = change_same (after_reset e.decl) (rw h refl)

@@ -1,0 +1,40 @@
+//! An endpoint by its path, as it is changed. No call takes memory.
+ghost use Rattle.std.specs.Prelude.{◌≡◌, IsSome};
+ghost use Rattle.model_registers.specs.Registers.{raise};
+ghost use Rattle.model_board.specs.State.{with_file};
+ghost use Rattle.headers.specs.Places.{place_of};
+ghost use Rattle.bridge_forward.specs.Lending.{endpoint_at, with_endpoint_reset};
+ghost use Rattle.host_bridge.specs.HostState.{with_functions};
+
+use crate::host::Host;
+use bridge_forward::Path;
+use headers::Place;
+
+impl Host {
+    /// Raises the bits of `mask` that writing a one clears, in one cell of the endpoint at a path (PCI Local
+    /// Bus 3.0, chapter 6.2.3). All other cells stay.
+    pub fn raise(&mut self, path: &Path, place: Place, off: u64, mask: u8)
+        requires { IsSome (endpoint_at self.old.state.functions path.now) }
+        ensures { let fs = self.old.state.functions in
+            let raised = with_file (raise mask (place_of place off)) path.now fs in
+            self.new ≡ with_functions raised self.old }
+    {
+        match self.index_of(path) {
+            Some(index) => self.raise_nth(index, place, off, mask),
+            None => unreachable!(),
+        }
+    }
+
+    /// Resets every cell of the endpoint at a path but Command and the base address registers. All other
+    /// functions stay, and so do the address latch and the apertures. Where no endpoint stands there,
+    /// nothing changes.
+    pub fn reset_endpoint(&mut self, path: &Path)
+        ensures { let fs = self.old.state.functions in
+            self.new ≡ with_functions (with_endpoint_reset path.now fs) self.old }
+    {
+        match self.index_of(path) {
+            Some(index) => self.reset_nth(index),
+            None => {}
+        }
+    }
+}
