@@ -4,12 +4,12 @@ use Rattle.model_registers.specs.ConfigAddress.{is_address_port, latched}
 use Rattle.model_guests.specs.Accesses.{port, Op, reads, writes}
 use Rattle.model_guests.specs.Slots.{perform}
 use Rattle.model_guests.specs.Lone.{own_latch, no_function, reply_at, after_access_at, destination, by_select, ordinary, nowhere, in_slot}
-use Rattle.guest_functions.specs.Latches as program
+use Rattle.paths.specs.Latches as program
 use Rattle.model_guests.specs.Lone as lone
 use Rattle.model_guests.specs.Text.{Text}
 use Rattle.model_guests.specs.WorldNow.{WorldNow}
-use Rattle.guest_functions.specs.declared.latch.Select.{Select}
-use Rattle.guest_functions.specs.declared.latch.Select.TheVariants as select
+use Rattle.paths.specs.declared.latch.Select.{Select}
+use Rattle.paths.specs.declared.latch.Select.TheVariants as select
 use Rattle.host_bridge.specs.HostState.{HostState}
 use Rattle.monitor.specs.declared.guest.Guest.{Guest}
 use Rattle.monitor.specs.Keeping.{IsKept}

@@ -18,9 +18,8 @@ ghost use Rattle.monitor.specs.Beginnings.{world_on, declared_in, IsStanding, Ar
 
 use crate::guest::{Guest, Held};
 use accesses::{GuestDecl, Names};
-use address_latch::Latch;
 use bars::{BarDecl, BasedRegion};
-use guest_functions::VirtualFunction;
+use guest_functions::{Latch, VirtualFunction};
 use host_bridge::Host;
 use paths::Path;
 use std::alloc::{AllocError, Global};
@@ -106,7 +105,7 @@ pub(crate) fn guests_of(
     let mut guests = Vec::with_capacity(alloc, decls.len())?;
     for decl in decls {
         guests.push(Guest {
-            latch: Latch::clear(),
+            latch: Latch::new(),
             slots: slots_of(alloc, host, decl.slots.as_slice())?,
         })?;
     }

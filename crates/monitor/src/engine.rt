@@ -26,11 +26,11 @@ use crate::latch::write_latch;
 use crate::moving::{hand_over, move_fault};
 use crate::raising::{has_place, raise_on_board};
 use accesses::{Access, At, HostAccess, HostAt, Names, Op, Place, Refusal, Reply, nothing};
-use address_latch::is_address_port;
 use bars::Space;
 use config_bytes::{enables_of, into_lanes, lowered};
-use guest_functions::{Select, selection};
+use guest_functions::Select;
 use host_bridge::{Bdf, Host, Route};
+use paths::is_address_port;
 use std::marker::Model;
 
 /// The monitor over any route: a host, a route that fits it, and the guests with the names that they have.
@@ -216,7 +216,7 @@ impl<R: Route> Engine<R> {
         if is_address_port(at, width) {
             return self.latch_access(guest, op);
         }
-        match selection(self.guests[guest].latch, at) {
+        match self.guests[guest].latch.select(at) {
             Select::Ordinary => self.region_access(guest, Space::Io, at, width, op),
             Select::Nowhere => nothing(op, width),
             Select::Slot(slot, off) => self.config_access(guest, usize::from(slot), off, width, op),

@@ -1,7 +1,6 @@
 //! What the monitor keeps of each guest.
-use address_latch::Latch;
 use bars::BasedRegion;
-use guest_functions::VirtualFunction;
+use guest_functions::{Latch, VirtualFunction};
 
 /// A function in a guest's slot: the guest's own copies, and where the function and its regions stand
 /// on the board.

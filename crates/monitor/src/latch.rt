@@ -4,7 +4,6 @@ ghost use Rattle.model_registers.specs.ConfigAddress.{latched};
 ghost use Rattle.monitor.specs.declared.guest.Guest.{Guest};
 
 use crate::guest::Guest;
-use address_latch::Latch;
 
 /// Writes four bytes to a guest's address latch.
 pub(crate) fn write_latch(guests: &mut [Guest], guest: usize, value: u32)
@@ -13,5 +12,5 @@ pub(crate) fn write_latch(guests: &mut [Guest], guest: usize, value: u32)
         → guests.new ≡ slice_set guests.old guest (record g { latch = latched value }) }
 {
     let guest = &mut guests[guest];
-    guest.latch = Latch::written(value);
+    guest.latch.write(value);
 }

@@ -21,7 +21,7 @@ use crate::guest::{Guest, Held};
 use crate::landing::landing;
 use accesses::{Access, At, Op, Place, Refusal};
 use bars::Space;
-use guest_functions::{Select, selection};
+use guest_functions::Select;
 use host_bridge::Route;
 
 /// A byte of a function in a guest's slot: an offset in its configuration space, or in the region that
@@ -68,7 +68,7 @@ fn hit_in(guest: &Guest, at: At) -> Option<Hit>
 {
     match at {
         At::Config { slot, off } => config_hit(&guest.slots, slot as usize, off),
-        At::Io { port } => match selection(guest.latch, port) {
+        At::Io { port } => match guest.latch.select(port) {
             Select::Ordinary => region_hit(&guest.slots, Space::Io, port),
             Select::Nowhere => None,
             Select::Slot(slot, off) => {

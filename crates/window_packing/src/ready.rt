@@ -37,6 +37,14 @@ impl Model for Ready {
 impl Ready {
     ghost use Rattle.window_packing.specs.Readies.{IsReady, OwnClaims};
 
+    /// The host, with all regions and windows at their places and open.
+    pub fn host(&self) -> &Host
+        ensures value { result.now ≡ self.now.host }
+        ensures ready { IsReady self.now }
+    {
+        &self.host
+    }
+
     /// The functions that were found.
     pub fn table(&self) -> &FunctionTable
         ensures value { result.now ≡ self.now.table }

@@ -2,7 +2,7 @@ use Rattle.std.proofs.Common.{◌≡◌, ◌∙◌, ap, sym, arith}
 use Rattle.model_guests.specs.Accesses.{port}
 use Rattle.model_guests.specs.Lone.{Destination, LoneGuest, by_select, destination, after_access_at}
 use Rattle.accesses.specs.Accesses.{op_of}
-use Rattle.guest_functions.specs.declared.latch.Select.TheVariants as select
+use Rattle.paths.specs.declared.latch.Select.TheVariants as select
 use Rattle.monitor.specs.ByIndex.{lone_nth, with_lone_nth}
 use Rattle.monitor.proofs.PortSteps.{destination_is, named_select, nothing_after, nothing_at}
 use Rattle.monitor.proofs.Calls.{guest_in, inside_guests}
