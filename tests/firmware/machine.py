@@ -1,4 +1,5 @@
 """QEMU's machine `pc` over a tree of its devices, as a board of the same four calls, with a console."""
+import json
 import os
 import socket
 import subprocess
@@ -13,14 +14,17 @@ class MachineError(Exception):
     """QEMU ended, or its firmware isn't done in time."""
 
 
+PLAIN = ["-machine", "pc,accel=tcg,acpi=off", "-m", "128"]
+
+
 class Machine:
     """`firmware` runs at once; without one the machine stands at reset. `told` is what the console has had."""
 
-    def __init__(self, devices, firmware=None):
+    def __init__(self, devices, firmware=None, kind=PLAIN):
         self.told, self.room = "", tempfile.TemporaryDirectory()
-        path = os.path.join(self.room.name, "console")
-        words = ["qemu-system-x86_64", "-machine", "pc,accel=tcg,acpi=off", "-m", "128", "-nodefaults",
-                 "-display", "none", "-monitor", "none", "-qtest", "stdio", "-qtest-log", "/dev/null",
+        path, self.monitor = os.path.join(self.room.name, "console"), os.path.join(self.room.name, "monitor")
+        words = ["qemu-system-x86_64", *kind, "-nodefaults", "-display", "none", "-monitor", "none",
+                 "-qtest", "stdio", "-qtest-log", "/dev/null", "-qmp", f"unix:{self.monitor},server=on,wait=off",
                  "-chardev", f"socket,id=console,path={path},server=on,wait=on"]
         if firmware:
             words += ["-bios", firmware.rom, "-serial", "chardev:console"]
@@ -43,20 +47,31 @@ class Machine:
                     raise MachineError(f"QEMU doesn't start: {self.process.stderr.read().strip()}") from None
                 time.sleep(0.01)
 
-    def wait(self, firmware):
+    def wait(self, firmware, patience=PATIENCE):
         """Until the console has told the firmware's last words; what it asks for is typed."""
-        prompts, deadline = dict(firmware.prompts), time.monotonic() + PATIENCE
+        prompts, deadline = dict(firmware.prompts), time.monotonic() + patience
         while not self.told.endswith(firmware.ending):
             self.console.settimeout(max(0.01, deadline - time.monotonic()))
             try:
                 byte = self.console.recv(1)
             except TimeoutError:
-                raise MachineError(f"in QEMU: not done after {PATIENCE} seconds") from None
+                raise MachineError(f"in QEMU: not done after {patience} seconds; its last words are {self.told[-60:]!r}") from None
             if not byte:
                 raise MachineError("QEMU ended")
             self.told += byte.decode("latin-1")
             for prompt in [prompt for prompt in prompts if self.told.endswith(prompt)]:
                 self.console.sendall(prompts.pop(prompt).encode())
+
+    def stop(self):
+        """Stops the processor, so that nothing but the caller uses the registers."""
+        with socket.socket(socket.AF_UNIX) as monitor:
+            monitor.connect(self.monitor)
+            replies = monitor.makefile()
+            replies.readline()
+            for command in ("qmp_capabilities", "stop"):
+                monitor.sendall(json.dumps({"execute": command}).encode() + b"\n")
+                while "return" not in json.loads(replies.readline() or '{"return": 0}'):
+                    pass
 
     def ask(self, line):
         self.process.stdin.write(line + "\n")

@@ -22,6 +22,14 @@ class BootError(Exception):
     """The firmware stopped before it was done."""
 
 
+class NotDone(BootError):
+    """The firmware's time is over."""
+
+
+class Halted(BootError):
+    """The processor waits for nothing."""
+
+
 def guarded(call):
     """A call by the engine, which must not see errors: one of the board is kept, and ends the run."""
     def guard(pc, engine, *words):
@@ -134,23 +142,23 @@ class PC:
         if self.interrupt is not None:
             self.enter_interrupt(self.interrupt)
         elif not self.engine.reg_read(x86.UC_X86_REG_EFLAGS) & 0x200:
-            raise BootError(f"halted with interrupts off at {self.place()}")
+            raise Halted(f"halted with interrupts off at {self.place()}")
         else:
             vector = self.chipset.next_tick()
             if vector is not None:
                 self.enter_interrupt(vector)
 
-    def boot(self, *endings):
+    def boot(self, *endings, patience=PATIENCE):
         """Runs from reset until the console has told one of the endings."""
         self.endings = endings
-        engine, deadline = self.engine, time.monotonic() + PATIENCE
+        engine, deadline = self.engine, time.monotonic() + patience
         engine.reg_write(x86.UC_X86_REG_CS, 0xF000)
         engine.reg_write(x86.UC_X86_REG_EFLAGS, 2)
         start = 0xFFFF0
         while True:
             self.interrupt, left = None, deadline - time.monotonic()
             if left <= 0:
-                raise BootError(f"not done after {PATIENCE} seconds, at {self.place()}")
+                raise NotDone(f"not done after {patience:g} seconds, at {self.place()}")
             try:
                 engine.emu_start(start, (1 << 64) - 1, timeout=int(left * 1e6))
             except UcError as error:

@@ -47,7 +47,8 @@ def names(rule, theirs, ours, reset):
 class Comparison:
     """Counts over many boots: functions, bytes, bytes that differ by each rule, and differences that none names."""
 
-    def __init__(self):
+    def __init__(self, rules=RULES):
+        self.rules = rules
         self.functions, self.bytes, self.by_rule, self.unnamed = 0, 0, Counter(), []
 
     def add(self, reset, theirs, ours):
@@ -66,7 +67,7 @@ class Comparison:
         for offset, pair in enumerate(zip(theirs, ours)):
             if pair[0] == pair[1]:
                 continue
-            rule = next((rule for rule in RULES if header in rule.headers and offset in rule.offsets
+            rule = next((rule for rule in self.rules if header in rule.headers and offset in rule.offsets
                          and names(rule, *pair, reset[offset])), None)
             if rule:
                 self.by_rule[rule.name] += 1
@@ -74,5 +75,5 @@ class Comparison:
                 self.unnamed.append(f"{number(at)} offset {offset:02x}h: QEMU {pair[0]:02x}h, board {pair[1]:02x}h")
 
     def tell(self):
-        for rule in RULES:
+        for rule in self.rules:
             print(f"  {self.by_rule[rule.name]:6} bytes: {rule.name}")

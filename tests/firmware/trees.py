@@ -17,8 +17,9 @@ DEEPEST, MOST_BRIDGES = 4, 8
 class Tree:
     """The devices of a random tree as words for QEMU."""
 
-    def __init__(self, seed):
+    def __init__(self, seed, endpoints=ENDPOINTS):
         self.random, self.words, self.count, self.bridges = random.Random(seed), [], 0, 0
+        self.endpoints = endpoints
         self.words += ["-audiodev", "none,id=none", "-object", "can-bus,id=can"]
         self.fill("pci.0", 2, 0)
 
@@ -32,7 +33,7 @@ class Tree:
                 functions = self.random.choice([1, 1, 1, 1, 2, 3])
                 for function in range(functions):
                     many = ",multifunction=on" if functions > 1 else ""
-                    self.add(self.random.choice(ENDPOINTS) + many, bus, f"{device:x}.{function}")
+                    self.add(self.random.choice(self.endpoints) + many, bus, f"{device:x}.{function}")
 
     def add(self, kind, bus, place):
         """Adds a device; its name, which is also that of the bus behind it."""

@@ -2,7 +2,8 @@
 
 A machine is a board that is set up from a board file, with its guests; a `Board` is one that firmware of one's own
 drives, from reset on. An access is written [place:width], where the width is 1, 2 or 4 bytes; reading it gives a
-number, and assigning to it writes one.
+number, and assigning to it writes one. A `Device` acts when its driver touches its registers, and `python3 -m pciguest
+board.toml` is a prompt over a machine.
 
 >>> from pciguest import Machine, Refusal
 >>> board = '''
@@ -37,37 +38,45 @@ number, and assigning to it writes one.
 301 misaligned
 
 It stands over the shared library libpciguest.so.0, by ctypes: that of the folder PCIGUEST_LIBRARY_DIR, or the one that
-`make library` leaves two folders above this one, or else the one that is installed. docs/FORMATS.md explains board
+`make library` leaves two folders above this one, or that of the tarball, or else the one that is installed. docs/FORMATS.md explains board
 files, lines and numbers, and docs/LIBRARY.md what is proved of the library. This module itself is tested.
 """
 
 from ._board import Audit, Board
+from ._declared import Register
+from ._devices import Device
 from ._functions import Bar, Function, Window, Windows
 from ._machine import Guest, Host, Machine
-from ._refusal import Refusal, words
+from ._refusal import BoardRefusal, Problem, Refusal, words
 from ._regions import Hit, Region
-from ._spaces import Functions, ReadableSpace, Space
+from ._spaces import Functions, ReadableSpace, ReadableWide, Space, Wide
 from ._texts import Check, check, report
 
 __all__ = [
     "Audit",
     "Bar",
     "Board",
+    "BoardRefusal",
     "Check",
+    "Device",
     "Function",
     "Functions",
     "Guest",
     "Hit",
     "Host",
     "Machine",
+    "Problem",
     "ReadableSpace",
+    "ReadableWide",
     "Refusal",
     "Region",
+    "Register",
     "Space",
+    "Wide",
     "Window",
     "Windows",
     "check",
     "report",
     "words",
 ]
-__version__ = "0.3.0"
+__version__ = "0.4.0"

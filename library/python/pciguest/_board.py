@@ -2,7 +2,9 @@
 
 from __future__ import annotations
 
+import os
 from ctypes import byref, c_size_t, c_uint32
+from pathlib import Path
 from typing import NamedTuple, Optional, Union
 
 from ._calls import CALLS, CONFIG, IO, MEMORY, BoardHandle, told
@@ -10,6 +12,7 @@ from ._held import Held, as_bytes
 from ._machine import Machine
 from ._refusal import answered
 from ._spaces import Functions, Space
+from ._texts import NAME, explained
 
 
 class Audit(NamedTuple):
@@ -25,8 +28,9 @@ class Board(Held):
     """A board that firmware of one's own drives, from reset on: it gives out the numbers of buses and the addresses of
     regions.
 
-    `Board(open("board.toml").read())` is the board of a board file, at reset. It is refused by the first check that the
-    file fails, or by 199 where memory is out. The guests of the file are checked, and no function is given to them.
+    `Board.load("board.toml")` is the board of a board file, at reset, and `Board(text)` that of a file's text. It is
+    refused by the first check that the file fails, as a `BoardRefusal`, or by 199 where memory is out. The guests of the
+    file are checked, and no function is given to them.
 
     `config[bus, device, function][offset:width]`, `io[port:width]` and `memory[address:width]` are its accesses, in
     whatever state the registers are: a read gives all ones where nothing answers, and a write that nothing takes is
@@ -47,9 +51,17 @@ class Board(Held):
     '0x5678'
     """
 
-    def __init__(self, file: Union[str, bytes]) -> None:
-        text = as_bytes(file)
-        super().__init__(BoardHandle(), "board_free", lambda handle: CALLS["board_new"](handle, text, len(text)))
+    def __init__(self, file: Union[str, bytes], name: str = NAME) -> None:
+        self._file, self._name = as_bytes(file), name
+        with explained(self._file, name):
+            super().__init__(
+                BoardHandle(), "board_free", lambda handle: CALLS["board_new"](handle, self._file, len(self._file))
+            )
+
+    @classmethod
+    def load(cls, path: Union[str, os.PathLike[str]]) -> Board:
+        """The board of the file at a path. What a refusal tells names the file so."""
+        return cls(Path(path).read_bytes(), os.fspath(path))
 
     @property
     def config(self) -> Functions[Space]:
@@ -68,7 +80,8 @@ class Board(Held):
         return self._space(MEMORY, 0, 0, 0)
 
     def run_line(self, line: Union[str, bytes]) -> Optional[str]:
-        """Runs one line of firmware, as `pciguest firmware` does. Line and reply are as those of `Machine.run_line`.
+        """Runs one line of firmware, as `pciguest firmware` does, but for `host audit` and `host guests`, which are bad
+        lines here: `audit` and `into_guests` do the same. Line and reply are as those of `Machine.run_line`.
 
         >>> Board(BOARD).run_line("host cr 00:01.0 0 4")
         'host: 0x00011234'
@@ -93,7 +106,7 @@ class Board(Held):
         """The machine that `Machine` makes of the same file: our own set-up, in place of firmware of one's own. The board
         has to be at reset, and stays as it is. It is refused by 904 where a write was done since reset, and else as a
         machine is by its board."""
-        with self._lock:
+        with self._lock, explained(self._file, self._name):
             return Machine._made_by(lambda machine: CALLS["set_up"](byref(self._handle), machine))
 
     def into_guests(self) -> Machine:
@@ -120,4 +133,4 @@ class Board(Held):
         def write(place: int, width: int, value: int) -> None:
             self._call("board_write", space, bus, device, function, place, width, value)
 
-        return Space(read, write)
+        return Space(space, read, write)

@@ -137,12 +137,14 @@ PARAMETERS: Dict[str, Tuple[Any, ...]] = {
 
 
 def _place() -> str:
-    """Where the shared library is: a path, or its name alone for one that is installed."""
+    """Where the shared library is: a path, or its name alone for one that the system finds."""
     folder = os.environ.get("PCIGUEST_LIBRARY_DIR")
     if folder:
         return str(Path(folder).resolve() / NAME)
-    left = Path(__file__).resolve().parents[2] / NAME
-    return str(left) if left.exists() else NAME
+    here = Path(__file__).resolve()
+    # in the repository it stands above this module, and in a tarball, or where that was installed, in lib
+    usual = (here.parents[2] / NAME, here.parents[min(4, len(here.parents) - 1)] / "lib" / NAME)
+    return next((str(place) for place in usual if place.exists()), NAME)
 
 
 def _load() -> Dict[str, Callable[..., Any]]:
@@ -163,7 +165,15 @@ def _load() -> Dict[str, Callable[..., Any]]:
     return calls
 
 
-CALLS = _load()
+class _Calls(Dict[str, Callable[..., Any]]):
+    """The calls by their names. The library is loaded when the first of them is asked for."""
+
+    def __missing__(self, name: str) -> Callable[..., Any]:
+        self.update(_load())
+        return self[name]
+
+
+CALLS = _Calls()
 
 
 def number(name: str, value: SupportsIndex, bits: int) -> int:

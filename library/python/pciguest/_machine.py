@@ -2,34 +2,51 @@
 
 from __future__ import annotations
 
+import os
 from ctypes import byref, c_size_t, c_uint32, c_uint64
-from typing import Any, Callable, Iterator, Optional, Tuple, Union
+from pathlib import Path
+from typing import Any, Callable, Dict, Iterator, Optional, Tuple, Union
 
 from ._calls import CALLS, CONFIG, IO, MEMORY, RAISE_CONFIG, FunctionTold, Handle, HitTold, RegionTold, number
+from ._devices import Device, Touch
 from ._functions import Function, function_of
 from ._held import Held, as_bytes
+from ._lines import Access, access_of
+from ._refusal import Refusal
 from ._regions import Hit, Region
 from ._spaces import Functions, ReadableSpace, Space
+from ._texts import NAME, explained
 
 
 class Machine(Held):
     """A board that is set up, with its guests.
 
-    `Machine(open("board.toml").read())` sets up the board of a board file, and gives its functions to the guests of the
-    file. It is refused by the first check that the file or its board fails, or by 199 or 299 where memory is out.
+    `Machine.load("board.toml")` sets up the board of a board file, and gives its functions to the guests of the file;
+    `Machine(text)` does so with a file's text. It is refused by the first check that the file or its board fails, as a
+    `BoardRefusal`, which tells all that `check` says, or by 199 or 299 where memory is out.
 
     What it holds is freed by `close`, at the end of `with`, or when nothing refers to the machine. Then each call is
     refused by 901. Several threads may use one machine: one call is made at a time.
     """
 
-    def __init__(self, board: Union[str, bytes]) -> None:
-        text = as_bytes(board)
-        super().__init__(Handle(), "free", lambda handle: CALLS["new"](handle, text, len(text)))
+    # the devices that are attached, by the path of their function
+    _devices: Dict[str, Device]
+
+    def __init__(self, board: Union[str, bytes], name: str = NAME) -> None:
+        text, self._devices = as_bytes(board), {}
+        with explained(text, name):
+            super().__init__(Handle(), "free", lambda handle: CALLS["new"](handle, text, len(text)))
+
+    @classmethod
+    def load(cls, path: Union[str, os.PathLike[str]]) -> Machine:
+        """The machine of the board file at a path. What a refusal tells names the file so."""
+        return cls(Path(path).read_bytes(), os.fspath(path))
 
     @classmethod
     def _made_by(cls, make: Callable[[Any], int]) -> Machine:
         """The machine that a call leaves in a struct that holds none."""
         machine = cls.__new__(cls)
+        machine._devices = {}
         Held.__init__(machine, Handle(), "free", make)
         return machine
 
@@ -78,6 +95,54 @@ class Machine(Held):
             raise ValueError("a guest of another machine")
         self._call("take", guest.index, number("slot", slot, 64))
 
+    def attach(self, guest: Guest, slot: int, device: Device) -> None:
+        """Lets a device act behind the function in a slot of a guest, from here on and wherever the function goes: each
+        access of a guest, by its spaces or by a line, tells the device which registers it touches. The function has to be
+        as the class of the device declares it, else it is a ValueError, and so it is where the function has a device.
+
+        303: the slot is above 31. 601: the slot is empty.
+        """
+        if guest.machine is not self:
+            raise ValueError("a guest of another machine")
+        with self._lock:
+            path = guest.function(slot).path
+            if path in self._devices:
+                raise ValueError(f"{path} has a device already")
+            index = next(at for at, each in enumerate(self.functions()) if each.path == path)
+            device._attached(self, index)
+            self._devices[path] = device
+
+    def _touch(self, access: Access) -> Optional[Touch]:
+        """What an access touches of a device, if it touches one."""
+        if not self._devices or (access.space, access.place, access.width) == (IO, 0xCF8, 4):
+            return None
+        guest = Guest(self, "", access.guest)
+        try:
+            if access.space == CONFIG:
+                hit: Optional[Hit] = Hit(access.slot, None, access.place)
+            else:
+                hit = guest.locate("io" if access.space == IO else "memory", access.place)
+            device = None if hit is None else self._devices.get(guest.function(hit.slot).path)
+        except (Refusal, ValueError):
+            return None
+        return None if hit is None or device is None else Touch(device, hit.region, hit.offset, access.width)
+
+    def _read(self, access: Access, read: Callable[[], int]) -> int:
+        """A read of a guest: the device that it touches is told before, once it is known not to be refused."""
+        if not self._devices:
+            return read()
+        with self._lock:
+            value, touch = read(), self._touch(access)
+            return read() if touch is not None and touch.before_read() else value
+
+    def _write(self, access: Access, value: int, write: Callable[[], None]) -> None:
+        """A write of a guest: the device that it touches is told after it."""
+        with self._lock:
+            touch = self._touch(access)
+            write()
+            if touch is not None:
+                touch.written(value)
+
     def count(self) -> int:
         """How many functions the board has, endpoints and bridges."""
         count = c_size_t(0)
@@ -102,7 +167,25 @@ class Machine(Held):
         """Runs one line of a script, with its line feed or without; a line feed elsewhere makes it a bad line. The
         reply stands without its line feed, and a blank line or a comment has none. A line that is refused is answered
         by its reply: 'a: refused 301 misaligned'."""
-        return self._reply("run_line", line)
+        with self._lock:
+            found = access_of(as_bytes(line), self._index_of) if self._devices else None
+            touch = None if found is None else self._touch(found.access)
+            reply = self._reply("run_line", line)
+            if found is None or touch is None or reply is None or " refused " in reply:
+                return reply
+            if found.value is None:
+                return self._reply("run_line", line) if touch.before_read() else reply
+            touch.written(found.value)
+            return reply
+
+    def _index_of(self, name: bytes) -> Optional[int]:
+        """The index of the guest of a name, if there is one."""
+        index = c_size_t(0)
+        try:
+            self._call("guest", name, len(name), byref(index))
+        except Refusal:
+            return None
+        return index.value
 
 
 class _Slots:
@@ -237,15 +320,21 @@ class Guest:
         return Hit(told.slot, None if told.part == RAISE_CONFIG else told.part, told.offset)
 
     def _space(self, space: int, slot: int) -> Space:
+        machine, guest = self.machine, self.index
+
         def read(place: int, width: int) -> int:
-            value = c_uint32(0)
-            self.machine._call("read", self.index, space, slot, place, width, byref(value))
-            return value.value
+            def ask() -> int:
+                value = c_uint32(0)
+                machine._call("read", guest, space, slot, place, width, byref(value))
+                return value.value
+
+            return machine._read(Access(guest, space, slot, place, width), ask)
 
         def write(place: int, width: int, value: int) -> None:
-            self.machine._call("write", self.index, space, slot, place, width, value)
+            access = Access(guest, space, slot, place, width)
+            machine._write(access, value, lambda: machine._call("write", guest, space, slot, place, width, value))
 
-        return Space(read, write)
+        return Space(space, read, write)
 
 
 class Host:
@@ -279,4 +368,4 @@ class Host:
             self.machine._call("host_read", space, bus, device, function, place, width, byref(value))
             return value.value
 
-        return ReadableSpace(read)
+        return ReadableSpace(space, read)

@@ -2,7 +2,7 @@
 
 from __future__ import annotations
 
-from typing import Callable
+from typing import Callable, NamedTuple, Optional, Tuple
 
 from ._calls import CALLS, WORDS, number, told
 
@@ -23,6 +23,34 @@ class Refusal(Exception):
 
     def __str__(self) -> str:
         return f"{self.number} {self.words}"
+
+
+class Problem(NamedTuple):
+    """One thing that a check says of a board file."""
+
+    #: the line of the file, or None where that is not known
+    line: Optional[int]
+    #: what is said
+    text: str
+
+
+class BoardRefusal(Refusal):
+    """Why a board file, or its board, is refused: the number of the first check that fails, and what `check` says, which
+    names each entry that breaks it, with its line.
+
+    `text` is all of that, as `pciguest check board.toml` writes it, and `problems` are its lines.
+    """
+
+    text: str
+    problems: Tuple[Problem, ...]
+
+    def __init__(self, number: int, text: str, problems: Tuple[Problem, ...]) -> None:
+        super().__init__(number)
+        self.text = text
+        self.problems = problems
+
+    def __str__(self) -> str:
+        return f"{super().__str__()}\n{self.text.rstrip()}"
 
 
 def words(refusal: int) -> str:

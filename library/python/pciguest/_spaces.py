@@ -2,9 +2,13 @@
 
 from __future__ import annotations
 
-from typing import Callable, Generic, Tuple, TypeVar
+from typing import Callable, Generic, Iterator, Tuple, TypeVar
 
-from ._calls import number
+from ._calls import CONFIG, IO, MEMORY, number
+from ._refusal import Refusal
+
+# the last place of each space that an access of several pieces may touch
+LAST = {CONFIG: 0xFF, IO: 0xFFFF, MEMORY: (1 << 64) - 1}
 
 
 def place_and_width(key: slice) -> Tuple[int, int]:
@@ -14,31 +18,84 @@ def place_and_width(key: slice) -> Tuple[int, int]:
     return number("place", key.start, 64), number("width", key.stop, 32)
 
 
+def pieces(place: int, width: int, last: int) -> Iterator[Tuple[int, int]]:
+    """How far on each lawful access begins into which one of 1 to 8 bytes is split, as a bridge does, and how wide it is:
+    each is the largest of 4, 2 or 1 bytes that stands at a multiple of its size."""
+    if not 1 <= width <= 8:
+        raise Refusal(302)
+    if place > last or width - 1 > last - place:
+        raise Refusal(303)
+    done = 0
+    while done < width:
+        size = next(size for size in (4, 2, 1) if (place + done) % size == 0 and width - done >= size)
+        yield done, size
+        done += size
+
+
 class ReadableSpace:
     """What can be read: configuration space of a function by byte offset, I/O space by port, or memory by address.
 
     `space[place:width]` reads 1, 2 or 4 bytes. It is refused by 302 where the width is none of these, by 301 where the
-    place is no multiple of it, and by 303 where a slot, an offset or a port is out of range.
+    place is no multiple of it, and by 303 where a slot, an offset or a port is out of range. `space.wide[place:width]`
+    reads what a processor may ask at once.
     """
 
-    def __init__(self, read: Callable[[int, int], int]) -> None:
+    def __init__(self, space: int, read: Callable[[int, int], int]) -> None:
+        self._space = space
         self._read = read
 
     def __getitem__(self, key: slice) -> int:
         return self._read(*place_and_width(key))
+
+    @property
+    def wide(self) -> ReadableWide:
+        """The same space for accesses of a processor, of 1 to 8 bytes at any place."""
+        return ReadableWide(self)
 
 
 class Space(ReadableSpace):
     """What can be written too: `space[place:width] = value` writes the low bytes of a value of 32 bits. It is refused
     as a read is."""
 
-    def __init__(self, read: Callable[[int, int], int], write: Callable[[int, int, int], None]) -> None:
-        super().__init__(read)
+    def __init__(self, space: int, read: Callable[[int, int], int], write: Callable[[int, int, int], None]) -> None:
+        super().__init__(space, read)
         self._write = write
 
     def __setitem__(self, key: slice, value: int) -> None:
         place, width = place_and_width(key)
         self._write(place, width, number("value", value, 32))
+
+    @property
+    def wide(self) -> Wide:
+        """The same space for accesses of a processor, of 1 to 8 bytes at any place."""
+        return Wide(self)
+
+
+class ReadableWide:
+    """Reads what a processor may ask at once and a cycle of the bus can't: 1 to 8 bytes, at any place, as
+    `memory.wide[0x80000006:8]`. It is split as a bridge does, into lawful accesses in the order of addresses, and the
+    byte at the lowest address is the lowest of the value. 302: the width is not 1 to 8. 303: the access ends past its
+    space, or the slot is out of range."""
+
+    def __init__(self, space: ReadableSpace) -> None:
+        self._of = space
+
+    def __getitem__(self, key: slice) -> int:
+        place, width = place_and_width(key)
+        split = pieces(place, width, LAST[self._of._space])
+        return sum(self._of._read(place + done, size) << 8 * done for done, size in split)
+
+
+class Wide(ReadableWide):
+    """Writes so too: the low bytes of a value of 64 bits, as many as it is wide."""
+
+    _of: Space
+
+    def __setitem__(self, key: slice, value: int) -> None:
+        place, width = place_and_width(key)
+        bits = number("value", value, 64)
+        for done, size in pieces(place, width, LAST[self._of._space]):
+            self._of._write(place + done, size, bits >> 8 * done & (1 << 8 * size) - 1)
 
 
 AnySpace = TypeVar("AnySpace", bound=ReadableSpace)

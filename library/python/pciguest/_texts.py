@@ -2,11 +2,16 @@
 
 from __future__ import annotations
 
-from typing import Callable, NamedTuple, Optional, Union
+import re
+from contextlib import contextmanager
+from typing import Callable, Iterator, NamedTuple, Optional, Tuple, Union
 
 from ._calls import CALLS, told
 from ._held import as_bytes
-from ._refusal import Refusal, answered
+from ._refusal import BoardRefusal, Problem, Refusal, answered
+
+# how the library calls the file in what a check says
+NAME = "board.toml"
 
 
 class Check(NamedTuple):
@@ -16,30 +21,53 @@ class Check(NamedTuple):
     text: str
     #: what the file or its board is refused by, or None
     refusal: Optional[Refusal]
+    #: what is wrong, or may be a mistake, line by line
+    problems: Tuple[Problem, ...] = ()
 
 
-def report(board: Union[str, bytes]) -> str:
+def report(board: Union[str, bytes], name: str = NAME) -> str:
     """The report of a board file, as `pciguest list` writes it. It is refused as `Machine` is."""
     text = as_bytes(board)
     call: Callable[..., int] = CALLS["report"]
-    answer, lines = told(4096, lambda *rest: call(text, len(text), *rest))
-    answered(answer)
+    with explained(text, name):
+        answer, lines = told(4096, lambda *rest: call(text, len(text), *rest))
+        answered(answer)
     return lines
 
 
-def check(board: Union[str, bytes]) -> Check:
+def check(board: Union[str, bytes], name: str = NAME) -> Check:
     """What is wrong with a board file, or that its board fits. A refusal is part of what is told, and only one by 199
-    or 299, out of memory, is raised.
+    or 299, out of memory, is raised. Each line begins with the name.
 
     >>> told = check("[host]\\nio = [0x1000, 0xffff]\\nmem = 7\\n")
     >>> told.refusal.number, told.refusal.words
     (102, 'key')
     >>> print(told.text.splitlines()[0])
     board.toml:3: host.mem = 7: is not what its key asks: write two integers in brackets, as [0x1000, 0xffff] (102 key)
+    >>> told.problems[0].line
+    3
     """
     text = as_bytes(board)
     call: Callable[..., int] = CALLS["check"]
     answer, lines = told(4096, lambda *rest: call(text, len(text), *rest))
     if answer in (199, 299):
         raise Refusal(answer)
-    return Check(lines, None if answer == 0 else Refusal(answer))
+    problems = tuple(_problems(lines))
+    lines = re.sub(rf"^{re.escape(NAME)}(?=:)", lambda _: name, lines, flags=re.MULTILINE)
+    return Check(lines, BoardRefusal(answer, lines, problems) if answer else None, problems)
+
+
+@contextmanager
+def explained(board: bytes, name: str) -> Iterator[None]:
+    """Lets the refusal of a board file, or of its board, tell what a check says of it."""
+    try:
+        yield
+    except Refusal as refusal:
+        if not (101 <= refusal.number <= 112 or 201 <= refusal.number <= 205):
+            raise
+        raise check(board, name).refusal or refusal from None
+
+
+def _problems(text: str) -> Iterator[Problem]:
+    for line in re.finditer(rf"^{re.escape(NAME)}(?::([0-9]+))?: (.*)$", text, re.MULTILINE):
+        yield Problem(int(line[1]) if line[1] else None, line[2])

@@ -79,6 +79,12 @@ class Header(unittest.TestCase):
     def test_version(self):
         version = re.search(r'^#define PCIGUEST_VERSION "(.*)"', HEADER, re.MULTILINE).group(1)
         self.assertEqual(pciguest.__version__, version)
+        for file in ("python/pyproject.toml", "rust/Cargo.toml"):
+            told = re.search(r'^version = "(.*)"', (TOP / "library" / file).read_text(), re.MULTILINE).group(1)
+            self.assertEqual(told, version, file)
+        number = re.search(r"^#define PCIGUEST_VERSION_NUMBER (\d+)", HEADER, re.MULTILINE).group(1)
+        major, minor, patch = map(int, version.split("."))
+        self.assertEqual(int(number), 10000 * major + 100 * minor + patch)
 
 
 if __name__ == "__main__":

@@ -211,7 +211,7 @@ class Refusals(Case):
         self.refused(902, self.machine.guest, "")
 
     def test_boards(self):
-        self.assertEqual(str(self.refused(101, Machine, "x")), "101 not TOML")
+        self.assertTrue(str(self.refused(101, Machine, "x")).startswith("101 not TOML\nboard.toml:1: refused"))
         self.refused(101, Machine, b"\xff")
         self.refused(102, Machine, "")
         self.assertEqual(self.refused(203, Machine, (DATA / "io_pool.toml").read_text()).words, "I/O pool")

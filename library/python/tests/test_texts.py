@@ -4,12 +4,13 @@ import doctest
 import unittest
 
 from boards import DATA, MAIN
-from pciguest import Machine, Refusal, check, report, words
+from pciguest import Machine, Refusal, Register, check, report, words
 
 
 def load_tests(loader, tests, pattern):
-    for name in ("", "._board", "._held", "._machine", "._refusal", "._spaces", "._texts"):
-        tests.addTests(doctest.DocTestSuite("pciguest" + name, extraglobs={"BOARD": MAIN}))
+    extra = {"BOARD": MAIN, "Machine": Machine, "Register": Register}
+    for name in ("", "._board", "._devices", "._explain", "._held", "._machine", "._refusal", "._spaces", "._texts"):
+        tests.addTests(doctest.DocTestSuite("pciguest" + name, extraglobs=extra))
     return tests
 
 

@@ -1,0 +1,174 @@
+/* The accesses of firmware that is to be tested: each is a line on standard output, and its reply a line on standard
+ * input. `pciguest firmware BOARD` answers such lines, and `python3 -m pciguest.firmware_test -- ./my_firmware` tests the
+ * firmware on many boards. There is no library behind this header. Firmware writes nothing else to standard output;
+ * messages go to standard error. An access that is refused, or that has no reply, ends the firmware with status 3.
+ *
+ * A width is 1, 2 or 4 bytes, and an offset, a port or an address is a multiple of it. */
+#ifndef PCIGUEST_OPS_H
+#define PCIGUEST_OPS_H
+
+#include <inttypes.h>
+#include <stddef.h>
+#include <stdint.h>
+#include <stdio.h>
+#include <stdlib.h>
+#include <string.h>
+
+/* a function's number: its bus, its device and its function */
+#define PG_BDF(bus, device, function) ((uint32_t)(bus) << 8 | (uint32_t)(device) << 3 | (uint32_t)(function))
+
+/* writes a line, and gives the number that is replied: 0 for `ok` */
+static inline uint32_t pg_ask(const char *line)
+{
+    char reply[64];
+
+    if (printf("%s\n", line) < 0 || fflush(stdout) != 0 || fgets(reply, sizeof reply, stdin) == NULL) {
+        fprintf(stderr, "no reply to: %s\n", line);
+        exit(3);
+    }
+    if (strcmp(reply, "host: ok\n") == 0)
+        return 0;
+    if (strncmp(reply, "host: 0x", 8) == 0)
+        return (uint32_t)strtoul(reply + 8, NULL, 16);
+    fprintf(stderr, "%s: %s", line, reply);
+    exit(3);
+}
+
+/* ---- accesses */
+
+static inline uint32_t pg_config_read(uint32_t bdf, uint32_t offset, int width)
+{
+    char line[64];
+
+    snprintf(line, sizeof line, "host cr %02" PRIx32 ":%02" PRIx32 ".%" PRIu32 " 0x%" PRIx32 " %d", bdf >> 8,
+             bdf >> 3 & 31, bdf & 7, offset, width);
+    return pg_ask(line);
+}
+
+static inline void pg_config_write(uint32_t bdf, uint32_t offset, int width, uint32_t value)
+{
+    char line[64];
+
+    snprintf(line, sizeof line, "host cw %02" PRIx32 ":%02" PRIx32 ".%" PRIu32 " 0x%" PRIx32 " %d 0x%" PRIx32, bdf >> 8,
+             bdf >> 3 & 31, bdf & 7, offset, width, value);
+    (void)pg_ask(line);
+}
+
+static inline uint32_t pg_in(uint32_t port, int width)
+{
+    char line[64];
+
+    snprintf(line, sizeof line, "host ir 0x%" PRIx32 " %d", port, width);
+    return pg_ask(line);
+}
+
+static inline void pg_out(uint32_t port, int width, uint32_t value)
+{
+    char line[64];
+
+    snprintf(line, sizeof line, "host iw 0x%" PRIx32 " %d 0x%" PRIx32, port, width, value);
+    (void)pg_ask(line);
+}
+
+static inline uint32_t pg_load(uint64_t address, int width)
+{
+    char line[64];
+
+    snprintf(line, sizeof line, "host mr 0x%" PRIx64 " %d", address, width);
+    return pg_ask(line);
+}
+
+static inline void pg_store(uint64_t address, int width, uint32_t value)
+{
+    char line[64];
+
+    snprintf(line, sizeof line, "host mw 0x%" PRIx64 " %d 0x%" PRIx32, address, width, value);
+    (void)pg_ask(line);
+}
+
+/* The addresses that firmware may give out, which the test tells it: "io", "mem" or "pref". 0 where the board has none. */
+static inline int pg_aperture(const char *name, uint64_t *first, uint64_t *last)
+{
+    const char *variable = name[0] == 'i' ? "PCIGUEST_IO" : name[0] == 'm' ? "PCIGUEST_MEM" : "PCIGUEST_PREF";
+    const char *range = getenv(variable);
+
+    return range != NULL && sscanf(range, "%" SCNi64 " %" SCNi64, (int64_t *)first, (int64_t *)last) == 2;
+}
+
+/* ---- configuration by the ports CF8h and CFCh */
+
+static inline uint32_t pg_port_config_read(uint32_t bdf, uint32_t offset, int width)
+{
+    pg_out(0xCF8, 4, UINT32_C(0x80000000) | bdf << 8 | (offset & 0xFC));
+    return pg_in(0xCFC + (offset & 3), width);
+}
+
+static inline void pg_port_config_write(uint32_t bdf, uint32_t offset, int width, uint32_t value)
+{
+    pg_out(0xCF8, 4, UINT32_C(0x80000000) | bdf << 8 | (offset & 0xFC));
+    pg_out(0xCFC + (offset & 3), width, value);
+}
+
+/* ---- the same in the form of U-Boot's dm_pci_ops: a pci_dev_t has the bus from bit 16 on, and a size is 0, 1 or 2 */
+
+static inline int pg_uboot_read_config(const void *bus, int bdf, unsigned offset, unsigned long *value, int size)
+{
+    (void)bus;
+    *value = pg_port_config_read((uint32_t)bdf >> 8, offset, 1 << size);
+    return 0;
+}
+
+static inline int pg_uboot_write_config(const void *bus, int bdf, unsigned offset, unsigned long value, int size)
+{
+    (void)bus;
+    pg_port_config_write((uint32_t)bdf >> 8, offset, 1 << size, (uint32_t)value);
+    return 0;
+}
+
+/* ---- in the form of libpayload's pci_read_config8 and its like: a pcidev_t has the bus from bit 16 on, and bit 31 */
+
+#define PG_LIBPAYLOAD(bits)                                                                                            \
+    static inline uint##bits##_t pg_read_config##bits(uint32_t device, uint16_t reg)                                   \
+    {                                                                                                                  \
+        return (uint##bits##_t)pg_port_config_read(device >> 8 & 0xFFFF, reg, bits / 8);                               \
+    }                                                                                                                  \
+    static inline void pg_write_config##bits(uint32_t device, uint16_t reg, uint##bits##_t value)                      \
+    {                                                                                                                  \
+        pg_port_config_write(device >> 8 & 0xFFFF, reg, bits / 8, value);                                              \
+    }
+PG_LIBPAYLOAD(8)
+PG_LIBPAYLOAD(16)
+PG_LIBPAYLOAD(32)
+
+/* ---- in the form of EDK2's EFI_PCI_IO_PROTOCOL, Pci.Read and Pci.Write: a width is 0, 1 or 2, and 0 is EFI_SUCCESS */
+
+struct pg_pci_io {
+    uint32_t bdf;
+};
+
+static inline size_t pg_pci_io_read(struct pg_pci_io *io, int width, uint32_t offset, size_t count, void *buffer)
+{
+    unsigned char *bytes = (unsigned char *)buffer;
+
+    for (size_t n = 0; n < count << width; n += (size_t)1 << width) {
+        uint32_t value = pg_port_config_read(io->bdf, offset + (uint32_t)n, 1 << width);
+        for (size_t byte = 0; byte < (size_t)1 << width; byte++)
+            bytes[n + byte] = (unsigned char)(value >> 8 * byte);
+    }
+    return 0;
+}
+
+static inline size_t pg_pci_io_write(struct pg_pci_io *io, int width, uint32_t offset, size_t count, const void *buffer)
+{
+    const unsigned char *bytes = (const unsigned char *)buffer;
+
+    for (size_t n = 0; n < count << width; n += (size_t)1 << width) {
+        uint32_t value = 0;
+        for (size_t byte = 0; byte < (size_t)1 << width; byte++)
+            value |= (uint32_t)bytes[n + byte] << 8 * byte;
+        pg_port_config_write(io->bdf, offset + (uint32_t)n, 1 << width, value);
+    }
+    return 0;
+}
+
+#endif

@@ -1,0 +1,80 @@
+"""A prompt over the machine of a board file: python3 -m pciguest board.toml"""
+
+from __future__ import annotations
+
+import os
+import sys
+from pathlib import Path
+from typing import Optional
+
+from . import BoardRefusal, Refusal
+from ._prompt import Prompt
+
+USAGE = "usage: python3 -m pciguest BOARD"
+
+
+def history() -> Path:
+    """Where lines are kept for the next time."""
+    state = os.environ.get("XDG_STATE_HOME") or Path.home() / ".local" / "state"
+    return Path(state) / "pciguest" / "history"
+
+
+def edit_lines(prompt: Prompt) -> None:
+    """Lets lines be edited, completed and remembered, where this Python can."""
+    try:
+        import atexit
+        import readline
+    except ImportError:
+        return
+
+    def complete(word: str, nth: int) -> Optional[str]:
+        found = prompt.words(readline.get_line_buffer()[: readline.get_begidx()], word)
+        return found[nth] if nth < len(found) else None
+
+    def keep() -> None:
+        try:
+            history().parent.mkdir(parents=True, exist_ok=True)
+            readline.write_history_file(str(history()))
+        except OSError:
+            pass
+
+    readline.set_completer(complete)
+    readline.set_completer_delims(" \t=")
+    readline.parse_and_bind("tab: complete")
+    try:
+        readline.read_history_file(str(history()))
+    except OSError:
+        pass
+    readline.set_history_length(1000)
+    atexit.register(keep)
+
+
+def main() -> int:
+    """Runs the prompt over standard input."""
+    words = sys.argv[1:]
+    if len(words) != 1 or words[0].startswith("-"):
+        print(USAGE, file=sys.stdout if words in (["-h"], ["--help"]) else sys.stderr)
+        return 0 if words in (["-h"], ["--help"]) else 2
+    try:
+        prompt = Prompt(Path(words[0]).read_bytes(), words[0], print)
+    except BoardRefusal as refusal:
+        print(refusal.text, end="", file=sys.stderr)
+        return 1
+    except (OSError, Refusal) as error:
+        print(f"pciguest: {error}", file=sys.stderr)
+        return 1
+    shown = "pciguest> " if sys.stdin.isatty() else ""
+    if shown:
+        print(f"{words[0]}: {prompt.machine.count()} functions, guests {' '.join(prompt.guests) or 'none'}. 'help' tells more.")
+        edit_lines(prompt)
+    try:
+        while prompt.run(input(shown)):
+            pass
+    except (EOFError, KeyboardInterrupt):
+        if shown:
+            print()
+    return 0
+
+
+if __name__ == "__main__":
+    sys.exit(main())

@@ -1,0 +1,99 @@
+"""Board files as documents: what `tomllib` makes of one, and the text of one. docs/FORMATS.md explains their keys."""
+
+from __future__ import annotations
+
+from typing import Any, Dict, Iterator, List, NamedTuple, Tuple
+
+#: a board file as dictionaries and lists
+Document = Dict[str, Any]
+#: device and function on each bus, from bus 0 down
+Path = Tuple[Tuple[int, int], ...]
+
+HEXADECIMAL = {"vendor", "device", "revision", "class", "subvendor", "subsystem", "status", "size", "off"}
+
+
+class Region(NamedTuple):
+    """A declared region of an endpoint."""
+
+    index: int
+    kind: str
+    size: int
+
+    @property
+    def is_io(self) -> bool:
+        return self.kind == "io"
+
+    @property
+    def is_64_bit(self) -> bool:
+        return self.kind.startswith("mem64")
+
+    @property
+    def is_prefetchable(self) -> bool:
+        return self.kind.endswith("p")
+
+
+class Function(NamedTuple):
+    """A declared endpoint or bridge: its table, and the path as a text and as numbers."""
+
+    at: str
+    path: Path
+    is_bridge: bool
+    table: Document
+
+    def regions(self) -> List[Region]:
+        """In the order of their registers."""
+        bars = self.table.get("bar", [])
+        return sorted(Region(bar["index"], bar["kind"], bar["size"]) for bar in bars)
+
+
+def path_of(text: str) -> Path:
+    """The numbers of a path as 2.0/1.0."""
+    parts = (part.split(".") for part in text.split("/"))
+    return tuple((int(device), int(function)) for device, function in parts)
+
+
+def path_text(path: Path) -> str:
+    return "/".join(f"{device}.{function}" for device, function in path)
+
+
+def functions(document: Document) -> List[Function]:
+    """All functions of a board, in path order: a bridge comes before what stands behind it."""
+    found = [
+        Function(table["at"], path_of(table["at"]), kind == "bridge", table)
+        for kind in ("endpoint", "bridge")
+        for table in document.get(kind, [])
+    ]
+    return sorted(found, key=lambda function: function.path)
+
+
+def bridges_above(every: List[Function]) -> Dict[str, List[Function]]:
+    """The bridges between bus 0 and each of these functions, from bus 0 on, by the path of the function."""
+    by_path = {function.path: function for function in every}
+    return {one.at: [by_path[one.path[:length]] for length in range(1, len(one.path))] for one in every}
+
+
+def _value(key: str, value: Any) -> str:
+    if isinstance(value, str):
+        return f'"{value}"'
+    if isinstance(value, dict):
+        return "{ " + ", ".join(f"{each} = {_value(each, inner)}" for each, inner in value.items()) + " }"
+    if isinstance(value, list):
+        if value and isinstance(value[0], dict):
+            return "[\n" + "".join(f"  {_value(key, each)},\n" for each in value) + "]"
+        return "[" + ", ".join(_value(key, each) for each in value) + "]"
+    return f"{value:#x}" if key in HEXADECIMAL or key in ("io", "mem", "pref") else str(value)
+
+
+def _table(table: Document) -> Iterator[str]:
+    for key, value in table.items():
+        yield f"{key} = {_value(key, value)}\n"
+
+
+def text_of(document: Document) -> str:
+    """The board file of a document, its functions in path order."""
+    lines = ["[host]\n", *_table(document["host"])]
+    for function in functions(document):
+        lines += ["\n[[bridge]]\n" if function.is_bridge else "\n[[endpoint]]\n", *_table(function.table)]
+    for guest in document.get("guest", []):
+        lines += ["\n[[guest]]\n", *_table(guest)]
+    return "".join(lines)

@@ -1,0 +1,128 @@
+"""What a class of a device declares, and the endpoint of a board file that says the same."""
+
+from __future__ import annotations
+
+from typing import TYPE_CHECKING, Any, Dict, Iterator, List, Optional, Tuple, Type
+
+from ._calls import number
+
+if TYPE_CHECKING:
+    from ._devices import Device
+
+#: of each kind of region: its space, whether it is prefetchable, and whether it has 64 bits
+KINDS: Dict[str, Tuple[str, bool, bool]] = {
+    "io": ("io", False, False),
+    "mem32": ("memory", False, False),
+    "mem32p": ("memory", True, False),
+    "mem64": ("memory", False, True),
+    "mem64p": ("memory", True, True),
+}
+
+# the patterns of a block in a board file
+PATTERNS = ("reset", "rw", "w1c")
+
+
+class Register:
+    """A register of a device: bytes at an offset of the region of a base address register, or, where `bar` is None, of
+    configuration space, from 40h on. `reset` is its value at reset, `rw` the bits that its driver's writes set, and `w1c`
+    those that it clears by writing ones."""
+
+    def __init__(
+        self, offset: int, width: int, *, bar: Optional[int] = 0, reset: int = 0, rw: int = 0, w1c: int = 0
+    ) -> None:
+        self.name = ""
+        self.bar = bar
+        self.offset, self.width = number("offset", offset, 16), number("width", width, 8)
+        self.reset, self.rw, self.w1c = (
+            number(name, value, 8 * width) for name, value in zip(PATTERNS, (reset, rw, w1c))
+        )
+        if not width or rw & w1c:
+            raise ValueError("a register has a byte, and no bit is both in rw and in w1c")
+
+    def __set_name__(self, owner: Type[Device], name: str) -> None:
+        self.name = name
+
+    def __repr__(self) -> str:
+        return f"<register {self.name}>"
+
+    def __get__(self, device: Optional[Device], owner: Type[Device]) -> Any:
+        return self if device is None else device._read(self)
+
+    def __set__(self, device: Device, value: int) -> None:
+        device._write(self, value)
+
+
+def declared(cls: Type[Device]) -> Tuple[Register, ...]:
+    """The registers that a class and those above it declare, in the order of their places. ValueError: one stands outside
+    its region, or two overlap."""
+    named: Dict[str, Any] = {}
+    for each in reversed(cls.__mro__):
+        named.update(vars(each))
+    found = sorted(_registers(named), key=lambda one: (-1 if one.bar is None else one.bar, one.offset))
+    for one in found:
+        first, last = (0x40, 0x100) if one.bar is None else (0, min(cls.bars.get(one.bar, ("", 0))[1], 4096))
+        if one.offset < first or one.offset + one.width > last:
+            raise ValueError(f"{one.name} stands outside {'40h to FFh' if one.bar is None else f'region {one.bar}'}")
+    for one, other in zip(found, found[1:]):
+        if one.bar == other.bar and one.offset + one.width > other.offset:
+            raise ValueError(f"{one.name} and {other.name} overlap")
+    return tuple(found)
+
+
+def _registers(named: Dict[str, Any]) -> List[Register]:
+    return [value for value in named.values() if isinstance(value, Register)]
+
+
+def endpoint(cls: Type[Device], at: str) -> str:
+    """The endpoint of a board file, at a path."""
+    lines = [
+        "[[endpoint]]",
+        f'at = "{at}"',
+        f"vendor = {cls.vendor_id:#06x}",
+        f"device = {cls.device_id:#06x}",
+        f"class = {cls.class_code:#08x}",
+        f"revision = {cls.revision_id:#04x}",
+        f"subvendor = {cls.subsystem_vendor_id:#06x}",
+        f"subsystem = {cls.subsystem_id:#06x}",
+        f"pin = {cls.interrupt_pin}",
+        "bar = [",
+        *(f"  {{ {_bar(cls, index)} }}," for index in sorted(cls.bars)),
+        "]",
+        f"config = [{_config(cls)}]",
+    ]
+    return "\n".join(lines) + "\n"
+
+
+def _bar(cls: Type[Device], index: int) -> str:
+    kind, size = cls.bars[index]
+    here = [each for each in cls.registers if each.bar == index]
+    return ", ".join([f'index = {index}, kind = "{kind}", size = {size:#x}', *_block(here, 0)])
+
+
+def _config(cls: Type[Device]) -> str:
+    here = [each for each in cls.registers if each.bar is None]
+    return f" {{ {', '.join([f'off = {here[0].offset:#x}', *_block(here, here[0].offset)])} }} " if here else ""
+
+
+def _block(registers: List[Register], first: int) -> Iterator[str]:
+    """The length of a block of cells from an offset on, and its patterns, where one has a bit."""
+    length = max((each.offset + each.width for each in registers), default=first) - first
+    if not length:
+        return
+    yield f"block = {length}"
+    for name in PATTERNS:
+        cells = bytearray(length)
+        for each in registers:
+            at = each.offset - first
+            cells[at : at + each.width] = getattr(each, name).to_bytes(each.width, "little")
+        if any(cells):
+            yield f'{name} = "{_period(bytes(cells)).hex()}"'
+
+
+def _period(cells: bytes) -> bytes:
+    """The shortest beginning that, repeated, makes the cells."""
+    return next(
+        cells[:length]
+        for length in range(1, len(cells) + 1)
+        if (cells[:length] * (len(cells) // length + 1))[: len(cells)] == cells
+    )

@@ -1,0 +1,160 @@
+"""Random boards, and lines for them. They are drawn from choices: those of Python's `random` for a run by a seed, or
+those of Hypothesis, which then shrinks them."""
+
+from __future__ import annotations
+
+import random
+from typing import Any, Dict, List, NamedTuple, Protocol, Sequence, Tuple, TypeVar
+
+from ._board_file import Document, Path, path_text
+
+Item = TypeVar("Item")
+
+
+class Choices(Protocol):
+    """What a drawing asks for. Hypothesis shrinks to the least number, to the first item and to the fewest."""
+
+    def number(self, least: int, greatest: int) -> int: ...
+    def one_of(self, items: Sequence[Item]) -> Item: ...
+    def some(self, items: Sequence[int], least: int, most: int) -> List[int]: ...
+
+
+class RandomChoices:
+    """Choices by a seed."""
+
+    def __init__(self, seed: object) -> None:
+        self.random = random.Random(str(seed))
+
+    def number(self, least: int, greatest: int) -> int:
+        return self.random.randint(least, greatest)
+
+    def one_of(self, items: Sequence[Item]) -> Item:
+        return self.random.choice(items)
+
+    def some(self, items: Sequence[int], least: int, most: int) -> List[int]:
+        """So many of the items, in order."""
+        return sorted(self.random.sample(items, min(len(items), self.random.randint(least, most))))
+
+
+class Apertures(NamedTuple):
+    """The addresses that firmware may give out: first and last of each space. Without `pref` a board has none."""
+
+    io: Tuple[int, int] = (0x1000, 0xFFFF)
+    mem: Tuple[int, int] = (0x80000000, 0xFEBFFFFF)
+    pref: Tuple[int, int] = (0, 0)
+
+    def table(self) -> Dict[str, List[int]]:
+        return {key: list(value) for key, value in self._asdict().items() if value[1]}
+
+
+PLAIN = Apertures()
+WIDE = Apertures(pref=(0x400000000, 0x7FFFFFFFFF))
+PARTED = Apertures(mem=(0x80000000, 0xBFFFFFFF), pref=(0xC0000000, 0xFEBFFFFF))
+
+KINDS = ["mem32", "io", "mem32p", "mem64", "mem64p"]
+SMALLEST = {"io": 4}
+PATTERNS = ["", "ff", "f0", "0f", "55aa"]
+
+
+class Above(NamedTuple):
+    """What all bridges above a bus have: an I/O window, and the least decode of their prefetchable windows."""
+
+    has_io: bool
+    pref: int  # bits: 64 on bus 0, 0 where a bridge has none
+
+
+class BoardDrawing:
+    """Draws a board that fits its apertures with much room left, however one places it."""
+
+    def __init__(self, choices: Choices, bridges: int, apertures: Sequence[Apertures]) -> None:
+        self.choices, self.bridges, self.most_functions = choices, bridges, 60
+        self.apertures = choices.one_of(apertures)
+        room = self.apertures.mem[1] - self.apertures.mem[0] + 1
+        self.memory, self.io_buses = room // 8, (self.apertures.io[1] - self.apertures.io[0] + 1) // 0x1000 - 4
+        self.endpoint_tables: List[Document] = []
+        self.bridge_tables: List[Document] = []
+
+    def percent(self, chance: int) -> bool:
+        return self.choices.number(0, 99) >= 100 - chance
+
+    def bus(self, above: Path, windows: Above) -> None:
+        """The functions of one bus, and all behind it."""
+        for device in self.choices.some(range(16), 0 if above else 1, 4):
+            others = self.choices.some(range(1, 8), 1, 2) if self.percent(25) else []
+            for function in [0, *others]:
+                self.function(above + ((device, function),), windows)
+
+    def function(self, path: Path, windows: Above) -> None:
+        if len(self.endpoint_tables) + len(self.bridge_tables) >= self.most_functions:
+            return
+        if self.bridges and len(path) < 8 and self.percent(35):
+            self.bridges -= 1
+            self.bridge(path, windows)
+        else:
+            self.endpoint(path, windows)
+
+    def identity(self, path: Path) -> Document:
+        return {"at": path_text(path), "vendor": 0x1234, "device": self.choices.number(0, 0xFFFF)}
+
+    def bridge(self, path: Path, windows: Above) -> None:
+        """A bridge. An I/O window is drawn while there is room for one more unit of ports."""
+        io = self.choices.one_of(["16", "none", "32"]) if windows.has_io and self.io_buses > 0 else "none"
+        self.io_buses -= io != "none"
+        pref = self.choices.one_of(["64", "none", "32"])
+        self.bridge_tables.append({**self.identity(path), "io": io, "pref": pref})
+        decode = min(windows.pref, 0 if pref == "none" else int(pref))
+        self.bus(path, Above(io != "none", decode))
+
+    def endpoint(self, path: Path, windows: Above) -> None:
+        table = {**self.identity(path), "class": self.choices.one_of([0xFF0000, 0x020000, 0x010802])}
+        table["pin"] = self.choices.number(0, 4)
+        bars, index = [], 0
+        while index < 6:
+            kind = self.choices.one_of([""] + KINDS)
+            if kind and (windows.has_io or kind != "io") and (index < 5 or "64" not in kind):
+                bars.append(self.region(index, kind, windows))
+            index += 2 if "64" in kind else 1
+        if bars:
+            table["bar"] = bars
+        if self.percent(20):
+            table["config"] = [{"off": 0x40, "block": 16, **self.patterns()}]
+        self.endpoint_tables.append(table)
+
+    def region(self, index: int, kind: str, windows: Above) -> Document:
+        """A region. Memory is small where it counts against an aperture below 4 GB that is nearly used up."""
+        if kind == "io":
+            size = 1 << self.choices.number(2, 8)
+        else:
+            is_high = kind == "mem64p" and windows.pref == 64 and self.apertures.pref[0] >= 1 << 32
+            most = 33 if is_high and self.percent(10) else 24 if self.percent(30) else 16
+            size = 1 << self.choices.number(4, most)
+            if not is_high and size > self.memory // 8:
+                size = 0x1000
+            self.memory -= 0 if is_high else size
+        return {"index": index, "kind": kind, "size": size, "block": min(size, 64), **self.patterns()}
+
+    def patterns(self) -> Document:
+        """Which bits of a block can be written, and what it holds at reset."""
+        found = {"rw": self.choices.one_of(PATTERNS), "reset": self.choices.one_of(PATTERNS)}
+        return {key: value for key, value in found.items() if value}
+
+    def guests(self) -> List[Document]:
+        """Guests for some of the endpoints."""
+        places = [table["at"] for table in self.endpoint_tables]
+        chosen = self.choices.some(range(len(places)), 0, 8)
+        parts = [(name, chosen[first::2]) for first, name in enumerate("ab")]
+        return [{"name": name, "slots": [places[place] for place in part]} for name, part in parts if part]
+
+
+def draw_board(
+    choices: Choices, bridges: int = 6, apertures: Sequence[Apertures] = (PLAIN, WIDE, PARTED), guests: bool = True
+) -> Document:
+    """A board with so many bridges at most. It can be set up, with room to spare."""
+    drawing = BoardDrawing(choices, bridges, apertures)
+    drawing.bus((), Above(True, 64))
+    document: Dict[str, Any] = {"host": drawing.apertures.table()}
+    for key, tables in [("endpoint", drawing.endpoint_tables), ("bridge", drawing.bridge_tables)]:
+        if tables:
+            document[key] = tables
+    given = drawing.guests() if guests else []
+    return {**document, "guest": given} if given else document

@@ -1,0 +1,117 @@
+"""Boards that firmware drives by lines: by the library, or by the program `pciguest firmware` through a pipe."""
+
+from __future__ import annotations
+
+import math
+import re
+import subprocess
+import sys
+import tempfile
+from pathlib import Path
+from typing import Optional, Protocol
+
+from . import _board, _texts
+from ._child import Child, Limits, Misbehaviour
+
+#: the last line of an audit's text
+LAST = re.compile(r"audit: (ok|\d+ problems?)\Z")
+
+
+class DrivenBoard(Protocol):
+    """A board that firmware drives by lines, from reset on."""
+
+    def run_line(self, line: str) -> Optional[str]: ...
+    def audit_text(self) -> str: ...
+    def close(self) -> None: ...
+
+
+class Maker(Protocol):
+    """Who makes such boards of board files, and says whether our own set-up finds room for all of a board."""
+
+    def board(self, text: str) -> DrivenBoard: ...
+    def can_be_set_up(self, text: str) -> bool: ...
+
+
+class LibraryBoard:
+    """The board of a file at reset, by calls of the library."""
+
+    def __init__(self, text: str) -> None:
+        self.board = _board.Board(text)
+
+    def run_line(self, line: str) -> Optional[str]:
+        return self.board.run_line(line)
+
+    def audit_text(self) -> str:
+        return self.board.audit().text
+
+    def close(self) -> None:
+        self.board.close()
+
+
+class Library:
+    """Boards by the library."""
+
+    def board(self, text: str) -> DrivenBoard:
+        return LibraryBoard(text)
+
+    def can_be_set_up(self, text: str) -> bool:
+        return _texts.check(text).refusal is None
+
+
+class ProgramFailed(Exception):
+    """The program pciguest ended in front of a line."""
+
+
+class ProgramBoard:
+    """The board of a file at reset, by the program. Each line is answered before the next is written."""
+
+    LIMITS = Limits(60, math.inf, sys.maxsize)
+
+    def __init__(self, program: str, text: str) -> None:
+        self.room = tempfile.TemporaryDirectory()
+        file = Path(self.room.name) / "board.toml"
+        file.write_text(text)
+        self.child = Child([program, "firmware", str(file)], self.LIMITS)
+        self.replies = self.child.lines()
+
+    def ask(self, line: str) -> str:
+        self.child.answer(line)
+        return self.reply()
+
+    def reply(self) -> str:
+        try:
+            return next(self.replies).decode()
+        except (Misbehaviour, StopIteration) as error:
+            raise ProgramFailed(f"the program pciguest ended: {error}; {self.child.last_words()}") from None
+
+    def run_line(self, line: str) -> Optional[str]:
+        words = line.split()
+        return None if not words or words[0].startswith("#") else self.ask(line)
+
+    def audit_text(self) -> str:
+        lines = [self.ask("host audit")]
+        while not LAST.match(lines[-1]):
+            lines.append(self.reply())
+        return "".join(f"{line}\n" for line in lines)
+
+    def close(self) -> None:
+        self.child.close()
+        self.room.cleanup()
+
+
+class Program:
+    """Boards by the program of a file."""
+
+    def __init__(self, program: str) -> None:
+        self.program = program
+
+    def board(self, text: str) -> DrivenBoard:
+        return ProgramBoard(self.program, text)
+
+    def can_be_set_up(self, text: str) -> bool:
+        with tempfile.TemporaryDirectory() as room:
+            file = Path(room) / "board.toml"
+            file.write_text(text)
+            asked = subprocess.run([self.program, "check", "--plain", str(file)], stdout=subprocess.PIPE,
+                                   stderr=subprocess.DEVNULL)
+            return asked.returncode == 0

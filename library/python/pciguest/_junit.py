@@ -1,0 +1,39 @@
+"""Results of boards as build servers read them: a file in the form of JUnit."""
+
+from __future__ import annotations
+
+from typing import List, NamedTuple, Optional
+from xml.etree import ElementTree
+
+
+class Result(NamedTuple):
+    """What came of one board: `wrong` is a line, and `told` all that is told of it, where it failed."""
+
+    name: str
+    seconds: float
+    wrong: Optional[str] = None
+    told: str = ""
+
+
+def printable(text: str) -> str:
+    """Without what XML can't hold."""
+    return "".join(each if each in "\n\t" or " " <= each < "\ud800" else "?" for each in text)
+
+
+def write(file: str, results: List[Result]) -> None:
+    suite = ElementTree.Element(
+        "testsuite",
+        name="pciguest.firmware_test",
+        tests=str(len(results)),
+        failures=str(sum(result.wrong is not None for result in results)),
+        errors="0",
+        time=f"{sum(result.seconds for result in results):.3f}",
+    )
+    for result in results:
+        case = ElementTree.SubElement(
+            suite, "testcase", classname="pciguest.firmware_test", name=result.name, time=f"{result.seconds:.3f}"
+        )
+        if result.wrong is not None:
+            failure = ElementTree.SubElement(case, "failure", message=printable(result.wrong))
+            failure.text = printable(result.told)
+    ElementTree.ElementTree(suite).write(file, encoding="utf-8", xml_declaration=True)

@@ -1,0 +1,244 @@
+"""Random lines for a board: scripts of its guests, and lines of firmware. They are drawn from choices, as boards are.
+Places and values are often those at which something begins or ends, so that accesses land."""
+
+from __future__ import annotations
+
+from typing import Callable, List, Optional, Sequence
+
+from ._board_file import Document, Function, Region, bridges_above, functions
+from ._drawing import Choices
+
+VALUES = [0, 1, 2, 3, 7, 0x80, 0xFF, 0x547, 0xFFFF, 0xF900F900, 0x80000000, 0xFFFFFFFF]
+REGISTERS = [*range(0, 0x40, 4)]
+INNER = [0, 1, 2, 4, 0xC, 0x3C, 0x40, 0xFC, 0x1000]
+BASES = [0x80000000, 0xC0000000, 0x1000, 0, 0x100, 0xCF8, 0xFFFFFFF0, 0xFFFFF000, 0x10000]
+#: lines that are refused, or that have no reply, with a guest's name or `host` as their first word
+ODD = ["", "# cr 0 0 4", "cr", "cr 0 0", "cr 0 0 4 5", "cr +0 0 4", "mr 0x10000000000000000 4", "ir 0x100000000 4",
+       "cw 0 4 2 0x100000000", "raise 0 cfg 7 0x100", "raise 0 bar6 0 1", "cr 0:1.0 0 4", "cr 00:20.0 0 4",
+       "cr 00:1f.8 0 4", "mw 0 4", "move a 0 nobody 0", f"cr 0 0 {4:0200}"]
+
+
+class Lines:
+    """What both kinds of lines draw."""
+
+    def __init__(self, choices: Choices, document: Document) -> None:
+        self.choices, self.document, self.functions = choices, document, functions(document)
+        self.recent = {True: [0x1000], False: [0x80000000]}  # bases that were written, of ports and of memory
+
+    def percent(self, chance: int) -> bool:
+        return self.choices.number(0, 99) >= 100 - chance
+
+    def pick(self, *weighed: object) -> Callable[[], str]:
+        """One of some calls, each with its weight."""
+        calls = [call for call, weight in zip(weighed[::2], weighed[1::2]) for _ in range(weight)]  # type: ignore
+        return self.choices.one_of(calls)  # type: ignore[arg-type]
+
+    def width(self) -> int:
+        return self.choices.one_of([4, 4, 4, 4, 2, 1, 2, 1]) if not self.percent(2) else self.choices.one_of([0, 3, 8])
+
+    def offset(self, width: int) -> int:
+        """Mostly of a register, and mostly a multiple of the width."""
+        some = [self.choices.one_of(REGISTERS) + self.choices.number(0, 3), self.choices.number(0, 0x107)]
+        return self.aligned(self.choices.one_of([some[0], some[0], some[1]]), width)
+
+    def aligned(self, place: int, width: int) -> int:
+        return place - place % width if width and not self.percent(3) else place
+
+    def value(self) -> int:
+        return self.choices.one_of([self.choices.one_of(VALUES), self.choices.number(0, 0xFFFFFFFF)])
+
+    def base(self, is_io: bool) -> int:
+        """A base to be written: one of those where something begins, or of another region."""
+        host = self.document["host"]
+        known = [*BASES, *self.recent[is_io], *(host[key][0] for key in host)]
+        base = self.choices.one_of(known) + self.choices.one_of([0, 0, 0x1000, 0x100000, 0x20])
+        self.recent[is_io] = [*self.recent[is_io][-5:], base]
+        return base
+
+    def place(self, is_io: bool, width: int) -> int:
+        """A port or an address near a base that was written not long ago, and else any."""
+        near = self.choices.one_of(self.recent[is_io]) + self.choices.one_of(INNER)
+        place = near if self.percent(85) else self.choices.one_of(BASES) + self.choices.one_of(INNER)
+        return self.aligned(max(0, place - 4) if self.percent(5) else place, width)
+
+    def access(self, name: str, is_io: bool) -> str:
+        """A read or a write of a port or of memory."""
+        width, letter = self.width(), "i" if is_io else "m"
+        place = self.place(is_io, width)
+        if self.percent(55):
+            return f"{name} {letter}r {place:#x} {width}"
+        return f"{name} {letter}w {place:#x} {width} {self.value():#x}"
+
+    def latch(self, name: str, places: Sequence[int]) -> str:
+        """A read of CONFIG_ADDRESS; or a write of it and, in a second line, an access of what it selects. A place is a
+        number from bit 8 on."""
+        kind, width = self.choices.number(0, 5), self.choices.one_of([4, 2, 1])
+        if kind == 0:
+            return f"{name} ir 0xcf8 {width}"
+        latch = self.choices.one_of([1, 1, 1, 1, 0]) << 31 | self.choices.one_of(places) << 8
+        port = 0xCFC + self.choices.one_of(range(0, 4, width))
+        access = f"{name} ir {port:#x} {width}" if kind < 5 else f"{name} iw {port:#x} {width} {self.value():#x}"
+        return f"{name} iw 0xcf8 4 {latch | self.choices.one_of(REGISTERS):#x}\n{access}"
+
+
+class ScriptLines(Lines):
+    """Lines of guests and of the host over a board that is set up."""
+
+    def __init__(self, choices: Choices, document: Document) -> None:
+        super().__init__(choices, document)
+        self.slots = {guest["name"]: guest["slots"] for guest in document.get("guest", [])}
+        self.names, self.by_path = list(self.slots), {one.at: one for one in self.functions}
+        self.numbers = ["00:00.0", "01:00.0", "02:00.0", *(f"00:{one.path[0][0]:02x}.{one.path[0][1]}"
+                                                          for one in self.functions if len(one.path) == 1)]
+
+    def line(self) -> str:
+        if not self.names:
+            return self.host()
+        self.name = self.choices.one_of(self.names)
+        return self.pick(self.config, 25, self.write_base, 14, self.write_command, 10, self.memory, 18, self.ports, 8,
+                         self.use_latch, 12, self.rise, 6, self.host, 4, self.move, 2, self.odd, 1)()
+
+    def slot(self) -> int:
+        """Mostly one with a function."""
+        filled = list(range(len(self.slots[self.name])))
+        return self.choices.one_of(filled * 8 + [len(filled), 1, 31, 32])
+
+    def region(self, slot: int) -> Optional[Region]:
+        """A region of the function that the board file has in a slot."""
+        slots = self.slots[self.name]
+        regions = self.by_path[slots[slot]].regions() if slot < len(slots) else []
+        return self.choices.one_of(regions) if regions else None
+
+    def config(self) -> str:
+        width = self.width()
+        words = f"{self.slot()} {self.offset(width):#x} {width}"
+        return f"{self.name} cr {words}" if self.percent(60) else f"{self.name} cw {words} {self.value():#x}"
+
+    def write_base(self) -> str:
+        slot = self.slot()
+        region = self.region(slot)
+        base = self.base(region is not None and region.is_io) & 0xFFFFFFFF
+        offset = 0x10 + 4 * (region.index if region else self.choices.number(0, 5))
+        offset += 4 * (region is not None and region.is_64_bit and self.percent(10))
+        return f"{self.name} cw {slot} {offset:#x} 4 {self.choices.one_of([base, base, base, 0xFFFFFFFF]):#x}"
+
+    def write_command(self) -> str:
+        return f"{self.name} cw {self.slot()} 4 {self.choices.one_of([2, 1, 4])} {self.choices.one_of([3, 3, 2, 1, 0, 7])}"
+
+    def memory(self) -> str:
+        return self.access(self.name, is_io=False)
+
+    def ports(self) -> str:
+        return self.access(self.name, is_io=True)
+
+    def use_latch(self) -> str:
+        return self.latch(self.name, [self.slot() % 32 << 3, self.slot() % 32 << 3, self.slot() % 32 << 3 | 1, 0x100])
+
+    def rise(self) -> str:
+        slot = self.slot()
+        region = self.region(slot)
+        part = self.choices.one_of(["cfg", f"bar{region.index if region else self.choices.number(0, 5)}"])
+        offset = self.choices.one_of([7, 6, 0x40, 0xFF, 0x100, *INNER])
+        return f"{self.name} raise {slot} {part} {offset:#x} {self.choices.one_of([0xFF, 0x80, 1, 0x55]):#x}"
+
+    def move(self) -> str:
+        return f"host move {self.name} {self.slot()} {self.choices.one_of(self.names)} {self.slot()}"
+
+    def host(self) -> str:
+        width, kind = self.width(), self.choices.number(0, 2)
+        if kind == 0:
+            return f"host cr {self.choices.one_of(self.numbers)} {self.offset(width):#x} {width}"
+        return f"host {'i' if kind == 1 else 'm'}r {self.place(kind == 1, width):#x} {width}"
+
+    def odd(self) -> str:
+        name = self.choices.one_of([*self.names, "host", "nobody"])
+        return f"{name} {self.choices.one_of(ODD)}"
+
+
+class FirmwareLines(Lines):
+    """Lines of firmware over a board at reset. It numbers the buses in path order, and then writes what it likes."""
+
+    def __init__(self, choices: Choices, document: Document) -> None:
+        super().__init__(choices, document)
+        above, self.bus = bridges_above(self.functions), {"": 0}
+        bridges = [one for one in self.functions if one.is_bridge]
+        for bridge in bridges:
+            self.bus[bridge.at] = len(self.bus)
+        self.above = {one.at: above[one.at][-1].at if above[one.at] else "" for one in self.functions}
+
+    def number(self, function: Function) -> str:
+        device, part = function.path[-1]
+        return f"{self.bus[self.above[function.at]]:02x}:{device:02x}.{part}"
+
+    def numbering(self) -> List[str]:
+        """The lines that give each bridge its numbers."""
+        found = []
+        for bridge in (one for one in self.functions if one.is_bridge):
+            last = max(number for at, number in self.bus.items() if f"{at}/".startswith(f"{bridge.at}/"))
+            numbers = last << 16 | self.bus[bridge.at] << 8 | self.bus[self.above[bridge.at]]
+            found.append(f"host cw {self.number(bridge)} 0x18 4 {numbers:#x}")
+        return found
+
+    def line(self) -> str:
+        if not self.functions:
+            return self.latch("host", [0, 8])
+        self.function = self.choices.one_of(self.functions)
+        return self.pick(self.config, 25, self.write_command, 12, self.write_base, 20, self.memory, 18, self.ports, 10,
+                         self.use_latch, 8, self.write_numbers, 1, self.odd, 1)()
+
+    def config(self) -> str:
+        width = self.width()
+        number = self.number(self.function) if self.percent(90) else self.choices.one_of(["00:1f.0", "05:00.0", "00:00.7"])
+        words = f"{number} {self.offset(width):#x} {width}"
+        return f"host cr {words}" if self.percent(65) else f"host cw {words} {self.value():#x}"
+
+    def write_command(self) -> str:
+        return f"host cw {self.number(self.function)} 4 2 {self.choices.one_of([3, 3, 3, 2, 1, 0, 0x547]):#x}"
+
+    def write_base(self) -> str:
+        """A base address register, or base and limit of a window: one or some units from the base on."""
+        if not self.function.is_bridge:
+            bars = self.function.regions()
+            region = self.choices.one_of(bars) if bars else None
+            offset = 0x10 + 4 * (region.index if region else self.choices.number(0, 5))
+            offset += 4 * (region is not None and region.is_64_bit and self.percent(15))
+            base = self.choices.one_of([self.base(region is not None and region.is_io), 0xFFFFFFFF])
+            return f"host cw {self.number(self.function)} {offset:#x} 4 {base & 0xFFFFFFFF:#x}"
+        window = self.choices.one_of([0x20, 0x20, 0x24, 0x1C, 0x28, 0x2C, 0x30])
+        base, units = self.base(window == 0x1C), self.choices.one_of([0, 1, 3, 15, -1])
+        if window == 0x1C:
+            limit = (base >> 8) + 0x10 * units & 0xFF
+            return f"host cw {self.number(self.function)} 0x1c 2 {base >> 8 & 0xF0 | limit << 8:#x}"
+        if window > 0x24:
+            return f"host cw {self.number(self.function)} {window:#x} 4 {self.choices.one_of([0, 0, 4, 0xFFFFFFFF]):#x}"
+        limit = (base >> 16) + 0x10 * units & 0xFFF0
+        return f"host cw {self.number(self.function)} {window:#x} 4 {base >> 16 & 0xFFF0 | limit << 16:#x}"
+
+    def write_numbers(self) -> str:
+        return f"host cw {self.number(self.function)} {self.choices.number(0x18, 0x1A):#x} 1 {self.choices.number(0, 5)}"
+
+    def memory(self) -> str:
+        return self.access("host", is_io=False)
+
+    def ports(self) -> str:
+        return self.access("host", is_io=True)
+
+    def use_latch(self) -> str:
+        number = self.number(self.function)
+        place = int(number[:2], 16) << 8 | int(number[3:5], 16) << 3 | int(number[6])
+        return self.latch("host", [place, place, 0x1F << 3, 0x500])
+
+    def odd(self) -> str:
+        return f"{self.choices.one_of(['host', 'a'])} {self.choices.one_of(ODD)}"
+
+
+def draw_script(choices: Choices, document: Document, most: int) -> List[str]:
+    """Lines of a script for a board."""
+    lines = ScriptLines(choices, document)
+    return [line for _ in range(choices.number(0, most)) for line in lines.line().split("\n")]
+
+
+def draw_firmware(choices: Choices, document: Document, most: int) -> List[str]:
+    """Lines of firmware for a board."""
+    lines = FirmwareLines(choices, document)
+    return lines.numbering() + [line for _ in range(choices.number(0, most)) for line in lines.line().split("\n")]

@@ -1,0 +1,55 @@
+"""The accesses of guests that lines of a script ask for. The library judges lines; what is read here of one counts only
+where its reply says that it was done."""
+
+from __future__ import annotations
+
+import re
+from typing import Callable, NamedTuple, Optional
+
+from ._calls import CONFIG, IO, MEMORY
+
+SPACES = {b"c": CONFIG, b"i": IO, b"m": MEMORY}
+
+
+class Access(NamedTuple):
+    """An access of a guest, as the library takes it."""
+
+    guest: int
+    space: int
+    slot: int
+    place: int
+    width: int
+
+
+class AskedFor(NamedTuple):
+    """What a line asks for: an access, and the value that a write has."""
+
+    access: Access
+    value: Optional[int]
+
+
+def number_of(word: bytes) -> Optional[int]:
+    """The number that a word of a line is, below 2**64, or None."""
+    if re.fullmatch(rb"[0-9]+", word):
+        value = int(word)
+    elif re.fullmatch(rb"0[xX][0-9a-fA-F]+", word):
+        value = int(word, 16)
+    else:
+        return None
+    return value if value < 1 << 64 else None
+
+
+def access_of(line: bytes, index_of: Callable[[bytes], Optional[int]]) -> Optional[AskedFor]:
+    """What a line asks for, if that is an access of a guest."""
+    name, verb, *rest = [*re.split(rb"[ \t\r\n]+", line.strip(b" \t\r\n")), b"", b""][:9]
+    words = [word for word in rest if word]
+    space, guest = SPACES.get(verb[:1]), index_of(name)
+    if space is None or guest is None or verb[1:] not in (b"r", b"w"):
+        return None
+    numbers = [number_of(word) for word in words]
+    wanted = 2 + (space == CONFIG) + (verb[1:] == b"w")
+    if len(numbers) != wanted or None in numbers:
+        return None
+    found = [each for each in numbers if each is not None]
+    slot = found.pop(0) if space == CONFIG else 0
+    return AskedFor(Access(guest, space, slot, found[0], found[1]), found[2] if len(found) > 2 else None)

@@ -1,0 +1,164 @@
+"""A prompt over a machine: lines of a script, and shorter words for what one asks most."""
+
+from __future__ import annotations
+
+import re
+from typing import Callable, Dict, Iterator, List, Sequence, Tuple
+
+from ._explain import GUEST, MEANING, why_bad
+from ._functions import Function
+from ._machine import Machine
+from ._names import BRIDGE, ENDPOINT
+from ._places import PATH, WrongPlace, function_at, is_place, line_of
+from ._refusal import Refusal
+
+HELP = """\
+A line of a script does what it does in a run: a cr 0 0 4, host move a 0 b 1.
+A place reads or writes, and shows its line: a.bar0[8:4], a.command = 2, a.1.bar0[0:2], a.cfg[0x40:1], a.io[0xcf8:4],
+a.mem[0x80000000:4] as a guest; 2.0.command, 2.0/1.0.bar0[0:4], host.mem[0xc0000000:4] as the board has it.
+  tree           all functions of the board, with their numbers and who has them
+  regs PATH      the registers of a function, as the board has them; regs a or regs a.1 as a guest is told of its slot
+  slots          what each guest has, and where its regions stand in its own view
+  undo           takes back the last line that may have changed something
+  quit           ends, as the end of input does"""
+
+
+class Prompt:
+    """A machine of a board file, and the lines that were run on it since."""
+
+    def __init__(self, board: bytes, name: str, write: Callable[[str], None]) -> None:
+        self._board, self._name, self._write = board, name, write
+        self.machine = Machine(board, name)
+        self.guests = _guests(board, self.machine)
+        self.done: List[str] = []
+        self._words: Dict[str, Callable[[List[str]], None]] = {
+            "help": lambda _: self._write(HELP),
+            "tree": lambda _: self._tell(self._tree()),
+            "slots": lambda _: self._tell(self._slots()),
+            "regs": self._registers,
+            "undo": lambda _: self._undo(),
+        }
+
+    def run(self, text: str) -> bool:
+        """Does what a line asks. False: it is the last one."""
+        words = text.split()
+        if words[:1] == ["quit"]:
+            return False
+        try:
+            if words and words[0] in self._words:
+                self._words[words[0]](words[1:])
+            elif is_place(text):
+                line = line_of(text, self.machine)
+                self._write(line.text)
+                self._run_line(line.text)
+                if line.note is not None:
+                    self._write(f"  {line.note}")
+            else:
+                self._run_line(text)
+        except (WrongPlace, Refusal) as wrong:
+            self._write(f"  {wrong}")
+        return True
+
+    def words(self, before: str, word: str) -> List[str]:
+        """The words that may stand after what stands before on a line, and begin so."""
+        return sorted(each for each in self._offers(before.split(), word) if each.startswith(word))
+
+    def _run_line(self, text: str) -> None:
+        reply = self.machine.run_line(text)
+        if reply is None:
+            return
+        self._write(reply)
+        refused = re.fullmatch(r"\S+: refused ([0-9]+) .*", reply)
+        if refused is None:
+            self.done.append(text)
+            return
+        why = why_bad(text, self.guests) or MEANING.get(int(refused[1]))
+        if why is not None:
+            self._write(f"  {why}")
+
+    def _undo(self) -> None:
+        """Makes the machine anew, and runs all lines but the last one that may have changed something, and those after."""
+        changing = [at for at, line in enumerate(self.done) if not re.match(r"\s*\S+\s+[cim]r\s", line)]
+        if not changing:
+            self._write("  nothing was changed")
+            return
+        self._write(f"  taken back: {self.done[changing[-1]].strip()}")
+        self.done = self.done[: changing[-1]]
+        self.machine.close()
+        self.machine = Machine(self._board, self._name)
+        for line in self.done:
+            self.machine.run_line(line)
+
+    def _tell(self, lines: Iterator[str]) -> None:
+        for line in lines:
+            self._write(line)
+
+    def _tree(self) -> Iterator[str]:
+        for one in self.machine.functions():
+            kind = f"bridge to bus {self._secondary(one):02x}" if one.is_bridge else f"endpoint class {one.class_code:06x}"
+            seat = "" if one.seat is None else f", {self.guests[one.seat[0]]} slot {one.seat[1]}"
+            number = f"{one.bus:02x}:{one.device:02x}.{one.function}"
+            identity = f"{one.vendor_id:04x}:{one.device_id:04x}"
+            yield f"{'  ' * one.path.count('/')}{number} {one.path} {identity} {kind}{seat}"
+
+    def _secondary(self, one: Function) -> int:
+        return self.machine.host.config[one.bus, one.device, one.function][0x19:1]
+
+    def _slots(self) -> Iterator[str]:
+        for name in self.guests:
+            guest = self.machine.guest(name)
+            for one in self.machine.functions():
+                if one.seat is None or one.seat[0] != guest.index:
+                    continue
+                yield f"{name} slot {one.seat[1]}: {one.path} {one.vendor_id:04x}:{one.device_id:04x}"
+                for index, bar in enumerate(one.regions):
+                    if bar is not None:
+                        at = guest.region(one.seat[1], index)
+                        how = "open" if at.is_open else "closed"
+                        yield f"  bar{index} {at.space} at {at.first:#x} size {at.size:#x} {how}"
+
+    def _registers(self, words: List[str]) -> None:
+        who = words[0] if len(words) == 1 else ""
+        if re.fullmatch(PATH, who):
+            one = function_at(who, self.machine)
+            space, names = self.machine.host.config[one.bus, one.device, one.function], BRIDGE if one.is_bridge else ENDPOINT
+        elif re.fullmatch(r"[a-z][a-z0-9]*(\.[0-9]+)?", who):
+            name, _, slot = who.partition(".")
+            space, names = self.machine.guest(name).config[int(slot or 0)], ENDPOINT
+        else:
+            raise WrongPlace("write the path of a function, or a guest, as regs 2.0 or regs a.1")
+        for name, (offset, width) in sorted(names.items(), key=lambda row: row[1]):
+            self._write(f"{offset:02x} {name:17} {space[offset:width]:#0{2 + 2 * width}x}")
+
+    def _offers(self, before: Sequence[str], word: str) -> List[str]:
+        paths = {one.path: BRIDGE if one.is_bridge else ENDPOINT for one in self.machine.functions()}
+        if before[:1] == ["regs"]:
+            return [*paths, *self.guests]
+        if before[:2] == ["host", "move"]:
+            return self.guests
+        if len(before) == 1:
+            return ["cr", "ir", "mr", "move"] if before[0] == "host" else [*GUEST] if before[0] in self.guests else []
+        if before:
+            return []
+        who, dot, _ = word.rpartition(".")
+        if dot and who in paths:
+            return [f"{who}.{name}" for name in ["cfg[", *(f"{each}[" for each in _bars()), *paths[who]]]
+        if dot and who.partition(".")[0] in self.guests:
+            return [f"{who}.{name}" for name in ["cfg[", "io[", "mem[", *(f"{each}[" for each in _bars()), *ENDPOINT]]
+        return [*self._words, "quit", "host", *self.guests, *paths]
+
+
+def _bars() -> Tuple[str, ...]:
+    return tuple(f"bar{index}" for index in range(6))
+
+
+def _guests(board: bytes, machine: Machine) -> List[str]:
+    """The guests of a board file in its order: of all texts in it, those that a guest is called by."""
+    found = {}
+    for text in re.findall(rb"[\"']([a-z][a-z0-9]{0,15})[\"']", board):
+        name = text.decode()
+        try:
+            found[name] = machine.guest(name).index
+        except Refusal:
+            continue
+    return sorted(found, key=lambda name: found[name])

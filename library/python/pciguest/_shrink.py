@@ -1,0 +1,146 @@
+"""Makes a board smaller while something still holds of it."""
+
+from __future__ import annotations
+
+import copy
+import json
+import time
+from typing import Callable, Iterator, Set
+
+from ._board_file import Document, Function, Path, functions, path_of, path_text
+
+#: keys without which a table may do
+OPTIONAL = ["config", "pin", "revision", "subvendor", "subsystem", "status", "min_gnt", "max_lat"]
+OPTIONAL_OF_REGION = ["block", "reset", "rw", "w1c"]
+LEAST = {"io": 4}
+PLAIN_VALUES = {"vendor": 0x1234, "device": 1, "class": 0xFF0000}
+
+
+def moved(document: Document, places: Callable[[Path], Path | None]) -> Document:
+    """The board with each function at another path, or without it where that is None. Guests are left out."""
+    tables = {}
+    for kind in ("endpoint", "bridge"):
+        kept = [(places(path_of(table["at"])), table) for table in document.get(kind, [])]
+        tables[kind] = [{**table, "at": path_text(path)} for path, table in kept if path]
+    return {"host": document["host"], **{kind: found for kind, found in tables.items() if found}}
+
+
+def without_guests(document: Document) -> Iterator[Document]:
+    if "guest" in document:
+        yield {key: value for key, value in document.items() if key != "guest"}
+
+
+def with_fewer_functions(document: Document) -> Iterator[Document]:
+    """Without all that stands behind a bridge or in a device; without a device; without one function."""
+    every = functions(document)
+    parents = [bridge.path for bridge in every if bridge.is_bridge]
+    devices = sorted({(one.path[:-1], one.path[-1][0]) for one in every}, key=lambda one: len(one[0]))
+    for above, device in devices:
+        yield moved(document, lambda path: None if path[: len(above)] == above and len(path) > len(above)
+                    and path[len(above)][0] == device else path)
+    for parent in parents:
+        yield moved(document, lambda path: None if len(path) > len(parent) and path[: len(parent)] == parent else path)
+    for one in every:
+        if one.path[-1][1]:
+            yield moved(document, lambda path: None if path[: len(one.path)] == one.path else path)
+
+
+def closer(document: Document) -> Iterator[Document]:
+    """What stands behind a bridge in the bridge's own place: one device of it, with what is behind that."""
+    every = functions(document)
+    for bridge in every:
+        depth = len(bridge.path)
+        behind = sorted({one.path[depth][0] for one in every if one.path[:depth] == bridge.path and len(one.path) > depth})
+        for device in behind:
+            yield moved(document, lambda path: lifted(path, bridge, device))
+
+
+def lifted(path: Path, bridge: Function, device: int) -> Path | None:
+    """Where a function comes to stand when a device behind a bridge takes the place of the bridge's device."""
+    depth, here = len(bridge.path), bridge.path[-1][0]
+    if path[:depth] == bridge.path and len(path) > depth and path[depth][0] == device:
+        return (*bridge.path[:-1], (here, path[depth][1]), *path[depth + 1 :])
+    is_of_device = path[: depth - 1] == bridge.path[:-1] and len(path) >= depth and path[depth - 1][0] == here
+    return None if is_of_device else path
+
+
+def at_lower_places(document: Document) -> Iterator[Document]:
+    """Devices and functions with the least numbers that are free on their bus: device 0, or 1 on bus 0."""
+    for one in functions(document):
+        depth, (device, function) = len(one.path), one.path[-1]
+        taken = {other.path[-1] for other in functions(document) if other.path[:-1] == one.path[:-1]}
+        free = next(each for each in range(depth == 1, 17) if each == device or (each, 0) not in taken)
+        if function == 0 and free < device:
+            yield moved(document, lambda path: path if path[: depth - 1] != one.path[:-1] or len(path) < depth
+                        or path[depth - 1][0] != device else (*path[: depth - 1], (free, path[depth - 1][1]), *path[depth:]))
+        if function and (device, function - 1) not in taken:
+            yield moved(document, lambda path: path if path[:depth] != one.path
+                        else (*path[: depth - 1], (device, function - 1), *path[depth:]))
+
+
+def with_simpler_tables(document: Document) -> Iterator[Document]:
+    """One table with less in it: no region, a smaller one or one at a lower register; a plain value; no key that it
+    needn't have. Or no prefetchable aperture."""
+    for kind in ("endpoint", "bridge"):
+        for place, table in enumerate(document.get(kind, [])):
+            for simpler in simpler_tables(table):
+                changed = copy.copy(document)
+                changed[kind] = [*document[kind][:place], simpler, *document[kind][place + 1 :]]
+                yield changed
+    if "pref" in document["host"]:
+        yield {**document, "host": {key: value for key, value in document["host"].items() if key != "pref"}}
+
+
+def simpler_tables(table: Document) -> Iterator[Document]:
+    for key in OPTIONAL:
+        if key in table:
+            yield {each: value for each, value in table.items() if each != key}
+    for key, value in PLAIN_VALUES.items():
+        if table.get(key, value) != value:
+            yield {**table, key: value}
+    for key in ("io", "pref"):
+        if table.get(key, "none") != "none":
+            yield {**table, key: "none"}
+    bars = table.get("bar", [])
+    for place, bar in enumerate(bars):
+        for simpler in [None, *simpler_regions(bar)]:
+            kept = [*bars[:place], *([simpler] if simpler else []), *bars[place + 1 :]]
+            yield {**{key: value for key, value in table.items() if key != "bar"}, **({"bar": kept} if kept else {})}
+
+
+def simpler_regions(bar: Document) -> Iterator[Document]:
+    bare = {key: value for key, value in bar.items() if key not in OPTIONAL_OF_REGION}
+    if bare != bar:
+        yield bare
+    for kind in ("mem32", "mem32p", "mem64"):
+        if bar["kind"] not in ("io", "mem32", kind):
+            yield {**bare, "kind": kind}
+    for size in (LEAST.get(bar["kind"], 16), 0x1000, 0x100000, 0x200000, bar["size"] // 2):
+        if LEAST.get(bar["kind"], 16) <= size < bar["size"]:
+            yield {**bare, "size": size}
+    for index in range(bar["index"]):
+        yield {**bare, "index": index}
+
+
+SIMPLER = [without_guests, with_fewer_functions, closer, with_simpler_tables, at_lower_places]
+
+
+def shrunk(document: Document, holds: Callable[[Document], bool], seconds: float) -> Document:
+    """The smallest board that is found in the time and of which the same holds. Each is asked once."""
+    deadline, asked = time.monotonic() + seconds, set()  # type: float, Set[str]
+
+    def simpler() -> Iterator[Document]:
+        for way in SIMPLER:
+            yield from way(document)
+
+    is_done = False
+    while not is_done:
+        is_done = True
+        for candidate in simpler():
+            key = json.dumps(candidate, sort_keys=True)
+            if time.monotonic() > deadline:
+                return document
+            if key not in asked and not asked.add(key) and holds(candidate):  # type: ignore[func-returns-value]
+                document, is_done = candidate, False
+                break
+    return document

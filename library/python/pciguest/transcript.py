@@ -1,0 +1,297 @@
+"""Transcripts: lines with their replies, recorded from the library or the program and replayed against anything that
+answers lines.
+
+    python3 -m pciguest.transcript record run|firmware BOARD [-- COMMAND..] < LINES
+    python3 -m pciguest.transcript replay FILE.. [--guest NAME] [-- COMMAND..]
+
+A transcript has sections. Each begins with `== run BOARD: TITLE` or `== firmware BOARD: TITLE`, where BOARD is a board
+file in the folder of the transcript, and has rows `LINE -> REPLY`. COMMAND is run for each section with the words `run` or
+`firmware` and the board file, and answers lines as the program `pciguest` does; without one the library answers. A back
+end in Python is a class with the calls of `BackEnd`, and `replay` compares it.
+
+Where a reply differs, the first difference of a section is told, with the rule that decides it and whether the standards
+or the profile alone ask for it (docs/own.toml)."""
+
+from __future__ import annotations
+
+import argparse
+import sys
+import tempfile
+from pathlib import Path
+from typing import Callable, Iterable, Iterator, List, NamedTuple, Optional, Protocol, Tuple, Union
+
+from ._board import Board
+from ._child import CannotStart, Child, Limits, Misbehaviour
+from ._machine import Machine
+from ._refusal import Refusal
+
+ARROW = " -> "
+
+
+class Section(NamedTuple):
+    """A run of lines over a board: `run` or `firmware`, the board file, and each line with its reply or None."""
+
+    mode: str
+    board: str
+    title: str
+    rows: List[Tuple[str, Optional[str]]]
+
+
+class BackEnd(Protocol):
+    """What answers lines. `begin` makes a board: its file is a text, and the mode `run` or `firmware`. An answer is a
+    reply, as `a: 0x00011234`, or None where the back end has none for such a line; that line isn't compared then."""
+
+    def begin(self, mode: str, board: str) -> None: ...
+    def answer(self, line: str) -> Optional[str]: ...
+    def close(self) -> None: ...
+
+
+class Library:
+    """The library as a back end."""
+
+    def begin(self, mode: str, board: str) -> None:
+        self.over: Union[Machine, Board] = Machine(board) if mode == "run" else Board(board)
+
+    def answer(self, line: str) -> Optional[str]:
+        return self.over.run_line(line)
+
+    def close(self) -> None:
+        self.over.close()
+
+
+class GuestBackEnd:
+    """A back end that has the functions of a guest, as a hypervisor gives them to a virtual machine. A class of one's own
+    makes them in `begin`, from the board file, and has `read` and `write`: an access of 1, 2 or 4 bytes at a multiple of
+    its width, in a slot's configuration space (`config`) by offset, or by port (`io`) or address (`memory`), where the
+    slot says nothing. Lines that are refused, raises, moves and what the host reads aren't answered."""
+
+    LETTERS = {"c": "config", "i": "io", "m": "memory"}
+    LAST = {"config": 0xFF, "io": 0xFFFFFFFF, "memory": (1 << 64) - 1}
+
+    def begin(self, mode: str, board: str) -> None:
+        raise NotImplementedError
+
+    def read(self, space: str, slot: int, place: int, width: int) -> int:
+        raise NotImplementedError
+
+    def write(self, space: str, slot: int, place: int, width: int, value: int) -> None:
+        raise NotImplementedError
+
+    def close(self) -> None:
+        pass
+
+    def answer(self, line: str) -> Optional[str]:
+        words = line.split()
+        kind = words[1] if len(words) > 1 and words[0] != "host" else ""
+        space = self.LETTERS.get(kind[:1])
+        if space is None or kind[1:] not in ("r", "w"):
+            return None
+        numbers = [number(word) for word in (words[2:] if space == "config" else ["0", *words[2:]])]
+        if None in numbers or len(numbers) != (3 if kind[1:] == "r" else 4):
+            return None
+        name, (slot, place, width, *value) = words[0], numbers
+        if width not in (1, 2, 4) or place % width or slot > 31 or place > self.LAST[space]:
+            return None
+        if not value:
+            return f"{name}: 0x{self.read(space, slot, place, width):0{2 * width}x}"
+        self.write(space, slot, place, width, value[0] & (1 << 8 * width) - 1)
+        return f"{name}: ok"
+
+
+def number(word: str) -> Optional[int]:
+    """A number of a line, or None."""
+    try:
+        return int(word, 16 if word[:2] in ("0x", "0X") else 10)
+    except ValueError:
+        return None
+
+
+class Process:
+    """A command as a back end: it gets the mode and a board file as its last words, and answers lines."""
+
+    def __init__(self, command: List[str], limits: Limits = Limits()) -> None:
+        self.command, self.limits = command, limits
+
+    def begin(self, mode: str, board: str) -> None:
+        self.room = tempfile.TemporaryDirectory()
+        file = Path(self.room.name) / "board.toml"
+        file.write_text(board)
+        self.child = Child([*self.command, mode, str(file)], self.limits)
+        self.replies = self.child.lines()
+
+    def answer(self, line: str) -> Optional[str]:
+        if not has_reply(line):
+            return None
+        self.child.answer(line)
+        reply = next(self.replies, None)
+        if reply is None:
+            raise Misbehaviour("dies", "ended before its last line")
+        return reply.decode("utf-8", "backslashreplace")
+
+    def close(self) -> None:
+        self.child.close()
+        self.room.cleanup()
+
+
+def has_reply(line: str) -> bool:
+    """Whether a line is neither blank nor a comment."""
+    words = line.split()
+    return bool(words) and not words[0].startswith("#")
+
+
+# ---- the text of transcripts
+
+
+def text_of(sections: Iterable[Section]) -> str:
+    lines: List[str] = []
+    for section in sections:
+        lines.append(f"== {section.mode} {section.board}: {section.title}")
+        lines += [line if reply is None else f"{line}{ARROW}{reply}" for line, reply in section.rows]
+    return "".join(f"{line}\n" for line in lines)
+
+
+def read(text: str) -> List[Section]:
+    """The sections of a transcript. Blanks before an arrow are no part of the line; # begins a comment."""
+    found: List[Section] = []
+    for count, line in enumerate(text.splitlines(), 1):
+        if line.startswith("== "):
+            head, _, title = line[3:].partition(": ")
+            mode, _, board = head.partition(" ")
+            if mode not in ("run", "firmware") or not board:
+                raise ValueError(f"line {count}: no section of a transcript: {line}")
+            found.append(Section(mode, board, title, []))
+        elif has_reply(line):
+            asked, arrow, reply = line.partition(ARROW)
+            if not arrow or not found:
+                raise ValueError(f"line {count}: no row of a transcript: {line}")
+            found[-1].rows.append((asked.rstrip(" "), reply))
+    return found
+
+
+def record(back_end: BackEnd, mode: str, board: str, name: str, title: str, lines: Iterable[str]) -> Section:
+    """A section with what a back end answers. A board is given as a text, and its name stands in the section."""
+    back_end.begin(mode, board)
+    try:
+        rows = ((line, back_end.answer(line)) for line in lines)
+        return Section(mode, name, title, [(line, reply) for line, reply in rows if reply is not None])
+    finally:
+        back_end.close()
+
+
+# ---- replays
+
+
+class Difference(NamedTuple):
+    """The first row of a section that is answered otherwise: its number, from 1 on, both replies, and the rule."""
+
+    section: Section
+    row: int
+    line: str
+    wanted: Optional[str]
+    came: Optional[str]
+    rule: str
+
+    def __str__(self) -> str:
+        return (f"{self.section.board}, {self.section.title}: row {self.row} of {len(self.section.rows)}: {self.line}\n"
+                f"  wanted {self.wanted}\n  came   {self.came}\n  {self.rule}")
+
+
+def rule_at(section: Section, board: str, row: int, came: Optional[str]) -> str:
+    """The rule that decides a row."""
+    from . import _rules
+
+    library = Library()
+    try:
+        library.begin(section.mode, board)
+    except ImportError:
+        return "the rule is looked up in the library, which is not here"
+    try:
+        for line, _ in section.rows[:row]:
+            library.answer(line)
+        line, wanted = section.rows[row]
+        return _rules.told(_rules.rule(library.over, line, wanted, came))
+    finally:
+        library.close()
+
+
+def rows_for(section: Section, guest: Optional[str]) -> Iterator[Tuple[int, str, Optional[str]]]:
+    """The rows with their places: all, or those of one guest, who is told the same whatever the others do."""
+    for place, (line, reply) in enumerate(section.rows):
+        if guest is None or line.split()[0] == guest:
+            yield place, line, reply
+
+
+def takes_part(section: Section, guest: str) -> bool:
+    """Whether a guest has rows in a section, and no move touches it."""
+    words = [line.split() for line, _ in section.rows]
+    return section.mode == "run" and any(line[0] == guest for line in words) and not any(
+        line[:2] == ["host", "move"] and guest in line for line in words)
+
+
+def replay(back_end: BackEnd, section: Section, board: str, guest: Optional[str] = None) -> Optional[Difference]:
+    """The first difference between a section and what a back end answers, or None."""
+    back_end.begin(section.mode, board)
+    try:
+        for place, line, wanted in rows_for(section, guest):
+            try:
+                came = back_end.answer(line)
+            except Misbehaviour as wrong:
+                return Difference(section, place + 1, line, wanted, f"nothing: the back end {wrong.told}", "")
+            if came is not None and came != wanted:
+                return Difference(section, place + 1, line, wanted, came, rule_at(section, board, place, came))
+    finally:
+        back_end.close()
+    return None
+
+
+def replay_files(files: Iterable[str], back_end: BackEnd, guest: Optional[str] = None,
+                 tell: Callable[[str], None] = print) -> Tuple[int, int]:
+    """Replays all sections of some transcripts, and tells what differs: how many sections agree, and how many don't."""
+    agree = differ = 0
+    for file in files:
+        for section in read(Path(file).read_text()):
+            if guest is not None and not takes_part(section, guest):
+                continue
+            board = (Path(file).parent / section.board).read_text()
+            difference = replay(back_end, section, board, guest)
+            agree, differ = agree + (difference is None), differ + (difference is not None)
+            if difference:
+                tell(f"{file}: {difference}")
+    return agree, differ
+
+
+def parser() -> argparse.ArgumentParser:
+    words = argparse.ArgumentParser(prog="python3 -m pciguest.transcript", description="Records lines with their replies, "
+                                    "and replays them. Status 1 says that a reply differs.")
+    kinds = words.add_subparsers(dest="kind", required=True)
+    recording = kinds.add_parser("record", help="writes a transcript of the lines of standard input")
+    recording.add_argument("mode", choices=["run", "firmware"])
+    recording.add_argument("board")
+    replaying = kinds.add_parser("replay", help="compares what is answered with transcripts")
+    replaying.add_argument("--guest", metavar="NAME", help="the lines of this guest alone")
+    replaying.add_argument("files", nargs="+", metavar="FILE")
+    return words
+
+
+def main(given: Optional[List[str]] = None) -> int:
+    given = sys.argv[1:] if given is None else given
+    at = given.index("--") if "--" in given else len(given)
+    options, command = parser().parse_args(given[:at]), given[at + 1 :]
+    back_end: BackEnd = Process(command) if command else Library()
+    try:
+        if options.kind == "record":
+            lines = (line.rstrip("\n") for line in sys.stdin)
+            name = Path(options.board).name
+            section = record(back_end, options.mode, Path(options.board).read_text(), name, "recorded", lines)
+            sys.stdout.write(text_of([section]))
+            return 0
+        agree, differ = replay_files(options.files, back_end, options.guest)
+    except (OSError, ValueError, ImportError, CannotStart, Misbehaviour, Refusal) as error:
+        print(error, file=sys.stderr)
+        return 2
+    print(f"{agree + differ} transcripts: {agree} agree, {differ} differ")
+    return 1 if differ else 0
+
+
+if __name__ == "__main__":
+    sys.exit(main())

@@ -1,0 +1,216 @@
+"""Devices that act when their driver touches their registers."""
+
+import unittest
+
+from pciguest import Device, Machine, Refusal, Register, check
+
+TOP = "host = { io = [0x1000, 0xffff], mem = [0xc0000000, 0xdfffffff], pref = [0x400000000, 0x4ffffffff] }\n"
+
+
+class Doorbell(Device):
+    """Counts the rings of its driver."""
+
+    vendor_id, device_id, class_code = 0x1234, 0x00D0, 0xFF0000
+    subsystem_vendor_id, subsystem_id, interrupt_pin = 0x1111, 0x2222, 1
+    bars = {0: ("mem32", 0x1000), 1: ("io", 32), 2: ("mem64p", 0x10000)}
+    status = Register(0x00, 1, w1c=0x01)
+    rings = Register(0x04, 4)
+    bell = Register(0x08, 4, rw=0xFFFFFFFF, reset=0x11223344)
+    port = Register(0x10, 2, bar=1, rw=0x0FF0)
+    far = Register(0xFF8, 4, bar=2, reset=0xA5A5A5A5)
+    own = Register(0x40, 4, bar=None, rw=0xFF)
+    more = Register(0x48, 1, bar=None, reset=0x7F)
+
+    def __init__(self):
+        self.told = []
+
+    def on_write(self, register, value):
+        self.told.append((register.name, value))
+        if register is Doorbell.bell:
+            self.rings += 1
+            self.status = 1
+
+    def before_read(self, register):
+        self.told.append((register.name, "read"))
+        if register is Doorbell.far:
+            self.far = 0x5A5A5A5A
+
+
+def board(*classes):
+    """A board with an endpoint of each class, all in slots of guest a, and a guest b without slots."""
+    paths = [f"{device}.0" for device in range(1, len(classes) + 1)]
+    parts = [each.endpoint(path) for each, path in zip(classes, paths)]
+    slots = ", ".join(f'"{path}"' for path in paths)
+    return TOP + "".join(parts) + f'[[guest]]\nname = "a"\nslots = [{slots}]\n[[guest]]\nname = "b"\nslots = []\n'
+
+
+class Case(unittest.TestCase):
+    def setUp(self):
+        self.machine = Machine(board(Doorbell, Doorbell))
+        self.addCleanup(self.machine.close)
+        self.a, self.b = self.machine.guest("a"), self.machine.guest("b")
+        self.device = Doorbell()
+        self.machine.attach(self.a, 0, self.device)
+        self.place(self.a, 0)
+
+    def place(self, guest, slot):
+        config = guest.config[slot]
+        for offset, value in ((0x10, 0xE0000000), (0x14, 0x2000), (0x18, 0x10000000), (0x1C, 8), (4, 3)):
+            config[offset:4] = value
+
+
+class Declared(Case):
+    def test_the_board_says_what_the_class_declares(self):
+        function = self.a.function(0)
+        self.assertIsNone(check(board(Doorbell)).refusal)
+        self.assertEqual((function.vendor_id, function.device_id, function.class_code), (0x1234, 0x00D0, 0xFF0000))
+        self.assertEqual((function.subsystem_vendor_id, function.subsystem_id), (0x1111, 0x2222))
+        self.assertEqual([bar and bar.size for bar in function.regions], [0x1000, 32, 0x10000, None, None, None])
+        self.assertEqual((self.a.memory[0xE0000008:4], self.a.memory[0x810000FF8:1]), (0x11223344, 0x5A))
+        self.assertEqual((self.a.config[0][0x40:4], self.a.config[0][0x48:4], self.a.config[0][0x3D:1]), (0, 0x7F, 1))
+
+    def test_what_a_driver_may_change(self):
+        config, memory = self.a.config[0], self.a.memory
+        config[0x40:4], config[0x48:1], memory[0xE0000004:4], self.a.io[0x2010:2] = 0xFFFF, 0, 9, 0xFFFF
+        self.assertEqual((config[0x40:4], config[0x48:1], memory[0xE0000004:4]), (0xFF, 0x7F, 0))
+        self.assertEqual(self.a.io[0x2010:2], 0x0FF0)
+
+    def test_registers_that_can_not_be(self):
+        for registers in (
+            {"one": Register(0x3C, 4, bar=None)},
+            {"one": Register(0xFE, 4, bar=None)},
+            {"one": Register(0, 4, bar=3)},
+            {"one": Register(0xFFE, 4)},
+            {"one": Register(0, 4), "other": Register(3, 1)},
+        ):
+            with self.assertRaises(ValueError):
+                type("Wrong", (Doorbell,), {name: None for name in ("status", "bell")} | registers)
+        for words in ({"rw": 256}, {"reset": -1}, {"rw": 1, "w1c": 1}):
+            with self.assertRaises(ValueError):
+                Register(0, 1, **words)
+        with self.assertRaises(ValueError):
+            Register(0, 0)
+
+    def test_a_class_with_registers_of_another(self):
+        class Louder(Doorbell):
+            volume = Register(0x0C, 2, rw=0xFFFF)
+
+        self.assertEqual(len(Louder.registers), len(Doorbell.registers) + 1)
+        with Machine(board(Louder)) as machine:
+            machine.attach(machine.guest("a"), 0, Louder())
+
+
+class Acting(Case):
+    def test_writes(self):
+        self.a.memory[0xE0000008:4] = 7
+        self.assertEqual(self.device.told, [("bell", 7)])
+        self.assertEqual((self.a.memory[0xE0000004:4], self.a.memory[0xE0000000:1], self.device.bell), (1, 1, 7))
+        self.a.memory[0xE0000000:1] = 1
+        self.assertEqual((self.device.status, self.device.rings), (0, 1))
+
+    def test_what_was_written(self):
+        del self.device.told[:]
+        self.a.memory[0xE0000009:1] = 0xAB
+        self.a.memory[0xE0000004:4] = 0xFFFFFFFF  # its driver only reads it
+        self.a.memory[0xE0000000:4] = 0x12345601  # the register has one byte
+        self.a.io[0x2010:4] = 0x5678ABCD
+        self.a.config[0][0x41:1] = 0x99
+        self.assertEqual(
+            self.device.told,
+            [("bell", 0x1122AB44), ("rings", 0xFFFFFFFF), ("status", 1), ("port", 0xABCD), ("own", 0x9900)],
+        )
+
+    def test_reads(self):
+        del self.device.told[:]
+        self.assertEqual(self.a.memory[0x810000FF8:4], 0x5A5A5A5A)
+        self.assertEqual(self.a.memory[0xE0000000:4], 0)
+        self.assertEqual(self.a.config[0][0x48:1], 0x7F)
+        self.assertEqual(self.device.told, [("far", "read"), ("status", "read"), ("more", "read")])
+
+    def test_wide_accesses_and_ports(self):
+        self.a.memory.wide[0xE0000004:8] = 0x0000000700000000
+        self.a.io[0xCF8:4] = 0x80000040
+        self.a.io[0xCFC:4] = 0xAA
+        self.assertEqual(self.device.told, [("rings", 0), ("bell", 7), ("own", 0xAA)])
+        self.assertEqual(self.device.own, 0xAA)
+
+    def test_lines(self):
+        run = self.machine.run_line
+        self.assertEqual(run("a mw 0xe0000008 4 0x07\n"), "a: ok")
+        self.assertEqual(run("a  mr\t0XE0000004 4"), "a: 0x00000001")
+        self.assertEqual(run("a mr 0x810000ff8 4"), "a: 0x5a5a5a5a")
+        self.assertEqual(run("a cw 0 0x40 1 255"), "a: ok")
+        self.assertEqual(run("a iw 0x2010 2 1"), "a: ok")
+        self.assertIsNone(run("# a mw 0xe0000008 4 7"))
+        told = [("bell", 7), ("rings", "read"), ("far", "read"), ("own", 0xFF), ("port", 1)]
+        self.assertEqual(self.device.told, told)
+
+    def test_what_tells_nothing(self):
+        quiet = ("a mw 0xe0000009 4 1", "a mr 0xe0000008 3", "a mw 0xe0000008 4", "a cw 32 0x40 1 1", "host ir 0x2010 2",
+                 "a mr 0xe0000800 4", "a raise 0 bar0 0 1", "b mr 0xe0000008 4", "a cr 1 0x40 4", "x mr 0xe0000008 4",
+                 "a ir 0x100000000 1", "a cw 0 0x40 1 0x100000000", "a", "")
+        for line in quiet:
+            self.machine.run_line(line)
+        for call in (lambda: self.a.memory[0xE0000009:4], lambda: self.a.config[0][0x40:3], lambda: self.a.io[1 << 32:1]):
+            with self.assertRaises(Refusal):
+                call()
+        self.a.io[0xCF8:4]
+        self.a.config[0][4:2] = 0
+        self.a.memory[0xE0000008:4] = 1  # memory is off: nobody answers
+        self.assertEqual(self.device.told, [])
+
+
+class Attaching(Case):
+    def test_a_device_goes_with_its_function(self):
+        self.machine.run_line("host move a 0 b 3")
+        self.place(self.b, 3)
+        self.b.memory[0xE0000008:4] = 1
+        self.assertEqual(self.b.memory[0xE0000004:4], 1)
+        self.machine.take(self.b, 3)
+        with self.assertRaises(ValueError):
+            self.device.rings
+        self.machine.give("1.0", self.a, 9)
+        self.assertEqual(self.device.rings, 0)
+
+    def test_what_is_not_declared_so(self):
+        class Other(Doorbell):
+            device_id = 0x00D1
+
+        class Smaller(Doorbell):
+            bars = {**Doorbell.bars, 1: ("io", 64)}
+
+        for device in (Other(), Smaller(), self.device):
+            with self.assertRaises(ValueError):
+                self.machine.attach(self.a, 1, device)
+        with self.assertRaises(ValueError):
+            self.machine.attach(self.a, 0, Doorbell())  # it has a device
+        with self.assertRaises(Refusal):
+            self.machine.attach(self.a, 2, Doorbell())
+        with self.assertRaises(ValueError):
+            Doorbell().rings
+        with self.assertRaises(ValueError):
+            self.device.rings = 1 << 32
+
+    def test_two_devices(self):
+        other = Doorbell()
+        self.machine.attach(self.a, 1, other)
+        self.a.config[1][0x10:4] = 0xF0000000
+        self.a.config[1][4:2] = 2
+        self.a.memory[0xF0000008:4] = 1
+        self.assertEqual((self.device.rings, other.rings), (0, 1))
+
+    def test_what_a_device_raises_comes_to_its_driver(self):
+        class Broken(Doorbell):
+            def on_write(self, register, value):
+                raise RuntimeError("broken")
+
+        with Machine(board(Broken)) as machine:
+            guest = machine.guest("a")
+            machine.attach(guest, 0, Broken())
+            with self.assertRaises(RuntimeError):
+                guest.config[0][0x40:1] = 1
+            self.assertEqual(guest.config[0][0x40:1], 1)
+
+
+if __name__ == "__main__":
+    unittest.main()

@@ -1,0 +1,72 @@
+"""What a refused board tells, and files at a path."""
+
+import tempfile
+import unittest
+from pathlib import Path
+
+from boards import DATA, MAIN
+from pciguest import Board, BoardRefusal, Machine, Refusal, check, report
+
+
+class Refused(unittest.TestCase):
+    def raised(self, call, *arguments):
+        with self.assertRaises(Refusal) as raised:
+            call(*arguments)
+        return raised.exception
+
+    def test_all_boards_tell_what_a_check_says(self):
+        refused = 0
+        for path in sorted(DATA.glob("*.toml")):
+            told = check(path.read_bytes())
+            if told.refusal is None:
+                continue
+            refused += 1
+            for call in (Machine, report):
+                error = self.raised(call, path.read_bytes())
+                self.assertIsInstance(error, BoardRefusal)
+                self.assertEqual((error.number, error.text), (told.refusal.number, told.text))
+                self.assertEqual(str(error), f"{error.number} {error.words}\n{told.text.rstrip()}")
+                self.assertGreater(len(error.problems), 0)
+        self.assertGreater(refused, 30)
+
+    def test_lines(self):
+        problems = self.raised(Machine, (DATA / "many_places.toml").read_bytes()).problems
+        self.assertEqual([problem.line for problem in problems], [13, 19, 25, 31])
+        self.assertTrue(problems[0].text.startswith('endpoint[1].at = "01.0": is no path'))
+        pool = self.raised(Machine, (DATA / "io_pool.toml").read_bytes())
+        self.assertEqual((pool.number, [problem.line for problem in pool.problems]), (203, [None, 14, 32, None, None]))
+
+    def test_a_board_of_firmware(self):
+        self.assertEqual(self.raised(Board, "x = 1").number, 102)
+        with Board((DATA / "io_pool.toml").read_bytes(), "mine.toml") as board:
+            error = self.raised(board.set_up)
+        self.assertEqual(error.number, 203)
+        self.assertTrue(error.text.startswith("mine.toml: the I/O pool needs "))
+
+    def test_warnings_are_no_refusal(self):
+        told = check((DATA / "warnings.toml").read_bytes())
+        self.assertIsNone(told.refusal)
+        self.assertTrue(all(problem.text.startswith("warning: ") for problem in told.problems))
+        self.assertEqual(len(told.problems), 4)
+
+
+class Loaded(unittest.TestCase):
+    def test_a_file(self):
+        with Machine.load(DATA / "main.toml") as machine, Board.load(str(DATA / "main.toml")) as board:
+            self.assertEqual(machine.run_line("a cr 0 0 4"), "a: 0x00011234")
+            self.assertEqual(board.run_line("host cr 00:02.0 0 4"), "host: 0x00021234")
+
+    def test_a_refused_file_is_named(self):
+        with tempfile.TemporaryDirectory() as folder:
+            path = Path(folder) / "my board.toml"
+            path.write_text(MAIN.replace("0x1234", '"x"', 1))
+            for load in (Machine.load, Board.load):
+                with self.assertRaises(BoardRefusal) as raised:
+                    load(path)
+                self.assertTrue(raised.exception.text.startswith(f"{path}:"))
+            with self.assertRaises(FileNotFoundError):
+                Machine.load(path.with_name("none.toml"))
+
+
+if __name__ == "__main__":
+    unittest.main()

@@ -1,0 +1,14 @@
+#!/usr/bin/env bash
+# The tests of the kit that tests firmware and hypervisors of others, as far as they need Python 3.11 alone: no program, no
+# library and no package. The last line is 'N passed, M failed'.
+set -u
+cd "$(dirname "$0")/kit"
+python3 -c 'import tomllib' 2> /dev/null ||
+  { echo 'no Python 3.11: the kit is not tried. On Debian: apt-get install python3'; echo '0 passed, 0 failed'; exit 0; }
+told=$(python3 -B -m unittest discover 2>&1)
+status=$?
+count=$(sed -n 's/^Ran \([0-9]*\) tests.*/\1/p' <<< "$told")
+[ $status = 0 ] || echo "$told"
+wrong=$(grep -cE '^(FAIL|ERROR): ' <<< "$told")
+echo "$((${count:-0} - wrong)) passed, $wrong failed"
+exit $status

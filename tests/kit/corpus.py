@@ -1,0 +1,133 @@
+#!/usr/bin/python3 -B
+"""Writes a corpus of transcripts that are drawn for coverage, as a folder of boards and transcripts.
+
+    corpus.py FOLDER [--transcripts N] [--seed S] [--program PROGRAM]
+
+A transcript is drawn for a random board and answered by the library, or by the program where one is named. It is kept
+where one of its rows is of a kind that no kept one has: a register with a width, a read or a write and the kind of reply;
+a refusal; a window's write; a latch; a move. Once few come with something new, the others are kept as they come. The last
+line counts the kinds; those that are never seen among the ones that are named here would be told, and status 1 says so."""
+import argparse
+import re
+import sys
+from collections import Counter
+from pathlib import Path
+
+import places  # noqa: F401
+from pciguest import transcript
+from pciguest._board_file import text_of
+from pciguest._drawing import RandomChoices, draw_board
+from pciguest._line_drawing import draw_firmware, draw_script
+
+BOARDS, MOST = 20, 60  # transcripts of a board file, and lines of a transcript
+REGISTERS = [(offset, width) for width in (1, 2, 4) for offset in range(0, 0x40, width)]
+
+
+def reply_kind(line, reply):
+    """What a reply says, without its number."""
+    words = reply.split()[1:]
+    if words[0] == "refused":
+        return f"refused {words[1]}"
+    if not words[0].startswith("0x"):
+        return words[0]
+    digits = set(words[0][2:])
+    return "zero" if digits == {"0"} else "ones" if digits == {"f"} else "value"
+
+
+def kinds(mode, line, reply):
+    """The kinds that a row is of."""
+    words, told = line.split(), reply_kind(line, reply)
+    who = "host" if words[0] == "host" else "guest"
+    if told.startswith("refused 4"):
+        yield mode, told
+    elif told.startswith("refused") or words[1] in ("move", "raise"):
+        part = re.sub(r"\d", "", words[3]) if words[1] == "raise" else ""
+        yield mode, who, words[1], part, told
+    elif words[1] in ("cr", "cw"):
+        offset, width = int(words[-2 - (words[1] == "cw")], 0), int(words[-1 - (words[1] == "cw")], 0)
+        yield mode, who, words[1], offset if offset < 0x40 else "own", width, told if words[1] == "cr" else ""
+    else:
+        place, width = int(words[2], 0), int(words[3], 0)
+        port = place if words[1][0] == "i" and 0xCF8 <= place < 0xD00 else ""
+        yield mode, who, words[1], port, width, told
+
+
+def named():
+    """Kinds that a corpus has to have."""
+    for offset, width in REGISTERS:
+        for mode, who in (("run", "guest"), ("firmware", "host")):
+            yield mode, who, "cw", offset, width, ""
+    yield from ((mode, f"refused {number}") for mode in ("run", "firmware") for number in (401, 402, 403))
+    for refusal in (301, 302, 303):
+        yield from ((mode, who, verb, "", f"refused {refusal}") for verb in ("cr", "mr", "ir")
+                    for mode, who in (("run", "guest"), ("firmware", "host")) if (verb, refusal) != ("mr", 303))
+    yield from (("run", "host", "move", "", told) for told in ("ok", "refused 303", "refused 601", "refused 602"))
+    yield from (("run", "guest", "raise", part, told) for part in ("cfg", "bar") for told in ("ok", "refused 303"))
+    yield from ((mode, who, "ir", 0xCFC + at, width, "value") for width in (1, 2, 4) for at in range(0, 4, width)
+                for mode, who in (("run", "guest"), ("firmware", "host")))
+
+
+class Corpus:
+    """Transcripts as they are drawn and kept."""
+
+    def __init__(self, folder, wanted, seed, back_end):
+        self.folder, self.wanted, self.seed, self.back_end = Path(folder), wanted, seed, back_end
+        self.seen, self.kept, self.rows, self.drawn = Counter(), 0, 0, 0
+
+    def draw(self, document, mode):
+        """One transcript for a board."""
+        self.drawn += 1
+        choices = RandomChoices((self.seed, self.drawn))
+        lines = (draw_script if mode == "run" else draw_firmware)(choices, document, MOST)
+        lines = [line for line in lines if transcript.has_reply(line)]
+        return transcript.record(self.back_end, mode, text_of(document), "", "", lines)
+
+    def is_kept(self, section):
+        """Whether it has something new, or else so many came without that it is kept as it comes."""
+        new = {kind for line, reply in section.rows for kind in kinds(section.mode, line, reply)}
+        is_new = bool(new - self.seen.keys())
+        if section.rows and (is_new or self.drawn % 3 == 0):
+            self.seen.update(new)
+            return True
+        return False
+
+    def board(self, place):
+        """A board with its transcripts, in two files."""
+        document = draw_board(RandomChoices((self.seed, "board", place)))
+        name, sections = f"board{place:03}", []
+        while len(sections) < BOARDS and self.kept < self.wanted:
+            mode = "firmware" if self.drawn % 5 > 2 or "guest" not in document else "run"
+            section = self.draw(document, mode)
+            if self.is_kept(section):
+                self.kept, self.rows = self.kept + 1, self.rows + len(section.rows)
+                sections.append(section._replace(board=f"{name}.toml", title=f"transcript {self.kept}"))
+        (self.folder / f"{name}.toml").write_text(text_of(document))
+        (self.folder / f"{name}.rows").write_text(transcript.text_of(sections))
+
+    def write(self):
+        self.folder.mkdir(parents=True, exist_ok=True)
+        place = 0
+        while self.kept < self.wanted:
+            place += 1
+            self.board(place)
+        missing = [kind for kind in named() if kind not in self.seen]
+        for kind in missing:
+            print("never seen:", *kind)
+        print(f"{self.kept} transcripts with {self.rows} rows over {place} boards, of {self.drawn} that were drawn; "
+              f"{len(self.seen)} kinds of rows")
+        return len(missing)
+
+
+def main():
+    parser = argparse.ArgumentParser(description=__doc__.split("\n\n")[0])
+    parser.add_argument("folder")
+    parser.add_argument("--transcripts", type=int, default=2000)
+    parser.add_argument("--seed", type=int, default=1)
+    parser.add_argument("--program")
+    options = parser.parse_args()
+    back_end = transcript.Process([options.program]) if options.program else transcript.Library()
+    sys.exit(Corpus(options.folder, options.transcripts, options.seed, back_end).write() > 0)
+
+
+if __name__ == "__main__":
+    main()

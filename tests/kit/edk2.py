@@ -1,0 +1,127 @@
+#!/usr/bin/python3 -B
+"""Boots EDK2, as Debian's ovmf has it, in QEMU on random trees of its devices, and asks what it leaves.
+
+    edk2.py [--trees N] [--seed S] [--program PROGRAM]
+
+The trees are those on which SeaBIOS and U-Boot boot (tests/firmware). Each register that EDK2 left is read by QEMU's qtest
+protocol, and written to a board with the same functions as a line of firmware; each byte of that board is then the same as
+QEMU's, or differs by a rule of tests/firmware/rules.py. The board is asked for all that is wrong there: problems of its
+audit, and what it lacks. Status 1 says that a boot went wrong, or that a byte differs by no rule; the last lines count."""
+import argparse
+import sys
+import tomllib
+from collections import Counter
+from contextlib import closing
+
+import places
+from pciguest._board_file import functions, text_of
+from pciguest._driven import Library, Program
+from pciguest._judge import findings, kind_of, registers
+from pciguest._lacks import memory_window, prefetchable_window
+
+board, boot, machine, rules, trees = places.modules("firmware", "board", "boot", "machine", "rules", "trees")
+KIND = ["-machine", "pc,accel=tcg", "-m", "256"]
+EDK2 = boot.Firmware("EDK2", "/usr/share/ovmf/OVMF.fd", "Shell> ", (), False)
+#: where EDK2 puts things in this machine
+HOST = {"io": [0x1000, 0xFFFF], "mem": [0x80000000, 0xFEBFFFFF], "pref": [0xE000000000, 0xFFFFFFFFFF]}
+PATIENCE = 400  # seconds of a boot
+BACK_TO_BACK = rules.Rule("Bridge Control: fast back-to-back enable", rules.BRIDGE, range(0x3E, 0x3F), 0x80, free="QEMU")
+RULES = [*rules.RULES, BACK_TO_BACK]
+# Command opens the function's spaces last, when all else stands
+ORDER = [*range(0x08, 0x100, 4), 0x04]
+
+
+def read_tree(seed):
+    """A tree as QEMU has it at reset: its words, and its board file."""
+    tree = trees.Tree(seed)
+    with closing(machine.Machine(tree.words, kind=KIND)) as at_reset:
+        return tree.words, trees.Reading(at_reset)
+
+
+def boot_tree(words):
+    """The configuration bytes of each function once EDK2 is done, by its number."""
+    with closing(machine.Machine(words, EDK2, KIND)) as booted:
+        booted.wait(EDK2, PATIENCE)
+        booted.stop()
+        return board.registers(booted)
+
+
+def lines_of(cells):
+    """Lines of firmware that write what stands in all functions: buses from the first on, so that each is reached."""
+    for at, bytes_of in sorted(cells.items(), key=lambda one: one[0]):
+        words = {offset: int.from_bytes(bytes_of[offset:offset + 4], "little") for offset in ORDER}
+        for offset in ORDER if not board.is_bridge(bytes_of) else [0x18, *(each for each in ORDER if each != 0x18)]:
+            yield f"host cw {board.number(at)} {offset:#x} 4 {words[offset]:#x}"
+
+
+class Count:
+    """What is counted over all trees."""
+
+    def __init__(self):
+        self.comparison, self.kinds, self.failed = rules.Comparison(RULES), Counter(), 0
+        self.windows, self.regions, self.ready, self.in_order = Counter(), 0, 0, 0
+
+    def fail(self, what):
+        self.failed += 1
+        print(f"FAILED: {what}", flush=True)
+
+    def tree(self, seed, maker):
+        words, reading = read_tree(seed)
+        document = {**tomllib.loads(reading.text), "host": HOST}
+        cells = boot_tree(words)
+        with closing(maker.board(text_of(document))) as driven:
+            for line in lines_of(cells):
+                reply = driven.run_line(line)
+                if reply != "host: ok":
+                    self.fail(f"tree {seed}: {line}: {reply}")
+            found = findings(driven, document)
+            ours = registers(driven, document)
+        self.compare(seed, reading.reset, cells, ours)
+        self.add_windows(document, ours)
+        kinds = Counter(kind_of(line) for line in found)
+        self.kinds += kinds
+        self.ready += not found
+        self.in_order += not any(line.startswith("audit") for line in found)
+        self.regions += sum(len(one.regions()) for one in functions(document))
+        told = ", ".join(f"{kind} {count}" for kind, count in sorted(kinds.items())) or "ready"
+        print(f"tree {seed}: functions {len(cells)}, bridges {len(document.get('bridge', []))}: {told}", flush=True)
+        print(*(f"  {line}" for line in found), sep="\n" if found else "", end="\n" if found else "", flush=True)
+
+    def add_windows(self, document, ours):
+        """How long the windows of bridges are."""
+        for bridge in (one for one in functions(document) if one.is_bridge):
+            windows = {"memory": memory_window(ours[bridge.at]),
+                       "prefetchable": prefetchable_window(ours[bridge.at], bridge.table["pref"])}
+            for name, (first, last) in windows.items():
+                self.windows[name, max(0, last + 1 - first) >> 20] += 1
+
+    def compare(self, seed, reset, cells, ours):
+        known, names = len(self.comparison.unnamed), boot.paths(cells)
+        self.comparison.add(reset, cells, {at: ours[names[at]] for at in cells if names[at] in ours})
+        for line in self.comparison.unnamed[known:]:
+            self.fail(f"tree {seed}: {line}")
+
+
+def main():
+    parser = argparse.ArgumentParser(description=__doc__.split("\n\n")[0])
+    parser.add_argument("--trees", type=int, default=30)
+    parser.add_argument("--seed", type=int, default=1)
+    parser.add_argument("--program")
+    options, count = parser.parse_args(), Count()
+    maker = Program(options.program) if options.program else Library()
+    for seed in range(options.seed, options.seed + options.trees):
+        try:
+            count.tree(seed, maker)
+        except machine.MachineError as error:
+            count.fail(f"tree {seed}: {error}")
+    count.comparison.tell()
+    print(f"functions {count.comparison.functions}, regions {count.regions}; bytes compared {count.comparison.bytes}, "
+          f"that differ by no rule {len(count.comparison.unnamed)}")
+    print("windows: " + ", ".join(f"{number} {name} of {size} MB" for (name, size), number in sorted(count.windows.items())))
+    print(f"trees {options.trees}: in order by their audit {count.in_order}, ready {count.ready}; "
+          + ", ".join(f"{kind} {number}" for kind, number in sorted(count.kinds.items())))
+    sys.exit(count.failed > 0)
+
+
+if __name__ == "__main__":
+    main()

@@ -1,0 +1,88 @@
+"""Boards by the second hand of tests/fuzz, with Python alone: those of documents, and one that firmware drives by lines,
+which has configuration space and no cells in its regions."""
+
+import re
+import tomllib
+
+import places
+from pciguest._board_file import functions
+
+audited, board, placement, rules = places.modules("fuzz", "audited", "board", "placement", "rules")
+
+ACCESS = re.compile(r"host c([rw]) (\w\w):(\w\w)\.(\d) (\w+) ([124])(?: (\w+))?")
+LATCH = re.compile(r"host i([rw]) 0xcf8 4(?: (\w+))?")
+DATA = re.compile(r"host i([rw]) (0xcf[cdef]) ([124])(?: (\w+))?")
+
+
+def patterns(table):
+    return {key: bytes.fromhex(table[key]) for key in ("reset", "rw", "w1c") if key in table}
+
+
+def board_of(document):
+    """The second hand's board of a document that is accepted."""
+    made = []
+    for one in functions(document):
+        if one.is_bridge:
+            made.append(board.Bridge(one.path, one.table, one.table["io"], one.table["pref"]))
+            continue
+        bars = [board.Bar(bar["index"], bar["kind"], bar["size"], bar.get("block", 0), patterns(bar))
+                for bar in sorted(one.table.get("bar", []), key=lambda bar: bar["index"])]
+        config = [(block["off"], block["block"], patterns(block)) for block in one.table.get("config", [])]
+        made.append(board.Endpoint(one.path, one.table, bars, config))
+    paths = {one.at: one.path for one in functions(document)}
+    guests = [(guest["name"], [paths[at] for at in guest["slots"]]) for guest in document.get("guest", [])]
+    return board.Board(document["host"], made, guests)
+
+
+class SecondHandBoard:
+    """The board of a document at reset."""
+
+    def __init__(self, document):
+        self.state, self.latch = audited.State(board_of(document)), 0
+
+    def run_line(self, line):
+        if not line.split() or line.startswith("#"):
+            return None
+        if found := ACCESS.fullmatch(line):
+            self.latch = 0
+            at = int(found[2], 16), int(found[3], 16), int(found[4])
+            return self.access(at, int(found[5], 0), int(found[6]), found[7])
+        if found := LATCH.fullmatch(line):
+            self.latch = self.latch if found[1] == "r" else int(found[2], 0) & 0x80FFFFFC
+            return f"host: {self.latch:#010x}" if found[1] == "r" else "host: ok"
+        if (found := DATA.fullmatch(line)) and self.latch >> 31:
+            at = self.latch >> 16 & 0xFF, self.latch >> 11 & 31, self.latch >> 8 & 7
+            return self.access(at, (self.latch & 0xFC) + int(found[2], 16) % 4, int(found[3]), found[4])
+        return "?: refused 402 unknown guest" if not line.startswith("host ") else "host: refused 401 bad line"
+
+    def access(self, at, offset, width, value):
+        if offset % width:
+            return "host: refused 301 misaligned"
+        if value is not None:
+            self.state.write(at, offset, width, int(value, 0))
+            return "host: ok"
+        path = self.state.reached(at)
+        read = (1 << 8 * width) - 1 if path is None else self.state.read_bytes(path, offset, width)
+        return f"host: 0x{read:0{2 * width}x}"
+
+    def audit_text(self):
+        return "".join(f"{line}\n" for line in audited.audit(self.state))
+
+    def close(self):
+        pass
+
+
+class SecondHand:
+    """Who makes such boards."""
+
+    def board(self, text):
+        return SecondHandBoard(tomllib.loads(text))
+
+    def can_be_set_up(self, text):
+        if rules.all_faults(text)[0]:
+            return False
+        try:
+            placement.Layout(board_of(tomllib.loads(text)))
+        except placement.Refused:
+            return False
+        return True

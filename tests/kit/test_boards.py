@@ -1,0 +1,152 @@
+"""Board files as documents, random boards, smaller ones, and what a register state lacks."""
+
+import tomllib
+import unittest
+
+import places
+from pciguest._board_file import functions, text_of
+from pciguest._drawing import PLAIN, RandomChoices, draw_board
+from pciguest._firmware_run import findings
+from pciguest._judge import KINDS, Sizing, first_register, kind_of, registers, same_problem
+from pciguest._lacks import lacks
+from pciguest._shrink import shrunk
+from second_hand import SecondHand, SecondHandBoard
+
+DATA = places.TOP / "crates/examples/data"
+AUDITED = tomllib.loads((places.TOP / "examples/audit/board.toml").read_text())
+AUDITED["host"]["pref"] = [0x400000000, 0x4FFFFFFFF]
+SET_UP = (places.TOP / "examples/audit/set_up.script").read_text().splitlines()
+
+
+def after(*lines):
+    """The board of examples/audit after its set-up and some lines."""
+    board = SecondHandBoard(AUDITED)
+    for line in [*SET_UP, *lines]:
+        assert board.run_line(line) in ("host: ok", None)
+    return board
+
+
+def lacking(*lines):
+    return lacks(AUDITED, registers(after(*lines), AUDITED))
+
+
+class Documents(unittest.TestCase):
+    def test_examples_stay_the_same(self):
+        for name in ("main", "server", "kinds", "chain", "largest"):
+            document = tomllib.loads((DATA / f"{name}.toml").read_text())
+            again = tomllib.loads(text_of(document))
+            for key in document:
+                self.assertCountEqual(again[key], document[key], (name, key))
+
+
+class Drawing(unittest.TestCase):
+    def test_boards_can_be_set_up(self):
+        bridges, depth = 0, 0
+        for seed in range(100):
+            document = draw_board(RandomChoices(seed))
+            self.assertTrue(SecondHand().can_be_set_up(text_of(document)), seed)
+            bridges = max(bridges, len(document.get("bridge", [])))
+            depth = max([depth] + [len(function.path) for function in functions(document)])
+        self.assertEqual(bridges, 6)
+        self.assertGreater(depth, 3)
+
+    def test_a_seed_says_all(self):
+        self.assertEqual(draw_board(RandomChoices(7)), draw_board(RandomChoices(7)))
+        self.assertNotEqual(draw_board(RandomChoices(7)), draw_board(RandomChoices(8)))
+
+    def test_many_bridges_and_small_apertures(self):
+        small = PLAIN._replace(mem=(0xE0000000, 0xE7FFFFFF), io=(0x1000, 0x7FFF))
+        for seed in range(30):
+            self.assertTrue(SecondHand().can_be_set_up(text_of(draw_board(RandomChoices(seed), bridges=40))), seed)
+            self.assertTrue(SecondHand().can_be_set_up(text_of(draw_board(RandomChoices(seed), 6, [small]))), seed)
+
+
+class Shrinking(unittest.TestCase):
+    def shrunk(self, document, holds):
+        def asked(smaller):
+            return SecondHand().can_be_set_up(text_of(smaller)) and holds(smaller)
+        return shrunk(document, asked, 60)
+
+    def test_to_a_bridge_behind_a_bridge(self):
+        document = tomllib.loads((DATA / "server.toml").read_text())
+        found = self.shrunk(document, lambda smaller: any(one.is_bridge and len(one.path) > 1 for one in functions(smaller)))
+        self.assertEqual([one.at for one in functions(found)], ["1.0", "1.0/0.0"])
+        self.assertNotIn("guest", found)
+
+    def test_to_a_second_function(self):
+        document = tomllib.loads((DATA / "server.toml").read_text())
+        found = self.shrunk(document, lambda smaller: any(one.path[-1][1] and one.regions() for one in functions(smaller)))
+        self.assertEqual([one.at for one in functions(found)], ["1.0", "1.1"])
+        self.assertEqual([len(one.regions()) for one in functions(found)], [0, 1])
+
+    def test_to_a_kind_of_region(self):
+        document = tomllib.loads((DATA / "kinds.toml").read_text())
+        found = self.shrunk(document, lambda smaller: any("mem64p" == region.kind for one in functions(smaller)
+                                                          for region in one.regions()))
+        self.assertEqual([one.regions() for one in functions(found)], [[(0, "mem64p", 16)]])
+
+
+class Lacks(unittest.TestCase):
+    def test_set_up_is_ready(self):
+        self.assertEqual(lacking(), [])
+        self.assertEqual(findings(after(), AUDITED), [])
+
+    def test_closed(self):
+        self.assertEqual(lacking("host cw 00:01.0 4 2 1"), ["1.0 bar0 at 0xc0500000 size 0x1000 is closed"])
+
+    def test_outside(self):
+        self.assertEqual(lacking("host cw 00:01.0 0x10 4 0xe0000000"),
+                         ["1.0 bar0 at 0xe0000000 size 0x1000: 0xe0000000 is outside the apertures"])
+        self.assertEqual(lacking("host cw 00:01.0 0x10 4 0xdffff000"), [])  # up to the last byte
+        self.assertEqual(lacking("host cw 01:00.0 0x1c 4 5"),
+                         ["2.0/0.0 bar2 at 0x500000000 size 0x100000: 0x500000000 is outside the apertures"])
+        # one that begins inside and ends outside
+        self.assertEqual(lacks({**AUDITED, "host": {**AUDITED["host"], "mem": [0xC0000000, 0xC05003FF]}},
+                               registers(after(), AUDITED)),
+                         ["1.0 bar0 at 0xc0500000 size 0x1000: 0xc0500400 is outside the apertures"])
+
+    def test_prefetched(self):
+        line = "2.0/0.0 bar0 at 0xc0200000 size 0x200000: 2.0 prefetches 0xc0300000"
+        shorter = ["host cw 00:02.0 0x20 4 0xc020c000", "host cw 00:02.0 0x24 4 0xc030c030",
+                   "host cw 00:02.0 0x28 4 0", "host cw 00:02.0 0x2c 4 0"]
+        self.assertIn(line, lacking(*shorter))
+        # both windows forward it: nothing is prefetched that must not be
+        self.assertNotIn(line, lacking("host cw 00:02.0 0x20 4 0xc030c000", *shorter[1:]))
+
+    def test_primary(self):
+        self.assertEqual(lacking("host cw 01:02.0 0x18 1 0"), ["2.0/2.0: Primary is 00 on bus 01"])
+
+    def test_reading_registers_changes_nothing(self):
+        board = after("host cw 00:03.0 0x18 4 0x00010100", "host iw 0xcf8 4 0x80001234")
+        before = board.audit_text(), board.run_line("host ir 0xcf8 4")
+        cells = registers(board, AUDITED)
+        self.assertEqual((board.audit_text(), board.run_line("host ir 0xcf8 4")), before)
+        self.assertEqual(cells, registers(board, AUDITED))
+        self.assertEqual({at: value[0x18:0x1B].hex() for at, value in cells.items() if value[0x0E] & 0x7F},
+                         {"2.0": "000102", "2.0/2.0": "010202", "3.0": "000101"})
+
+    def test_sizing_of_each_register(self):
+        line, words = "host cw 01:00.0 {:#x} 4 {:#x}", "sizing: 01:00.0 bar{}: all ones are written while Command"
+        for offset, register in ((0x10, 0), (0x18, 2), (0x1C, 2)):
+            board = after(line.format(offset, 0xFFFFFFF0))
+            told = Sizing(board).seen(line.format(offset, 0xFFFFFFF0))
+            self.assertTrue(told.startswith(words.format(register)), told)
+        for one in (line.format(0x14, 0xFFFFFFFF), line.format(0x10, 0xC0000000), line.format(0x30, 0xFFFFFFFF),
+                    "host cw 00:02.0 0x10 4 0xffffffff", "host cw 05:00.0 0x10 4 0xffffffff", "host iw 0xcfc 4 0xffffffff"):
+            self.assertIsNone(Sizing(after()).seen(one), one)
+        # an upper half that looks like the type bits of a base
+        self.assertEqual([first_register([0xC, 4, 1, 0, 4, 4], register) for register in range(6)], [0, 0, 2, 3, 4, 4])
+
+    def test_each_finding_has_a_kind(self):
+        kinds = {kind_of(line) for line in findings(SecondHandBoard(AUDITED), AUDITED)}
+        self.assertEqual(kinds, {"unreached", "closed"})
+        self.assertLess(kinds, set(KINDS))
+
+    def test_the_same_problem(self):
+        one = "ready: 1.0 bar0 at 0x0 size 0x10 is closed"
+        self.assertEqual(same_problem(one), same_problem(one.replace("0x0 ", "0xc0000000 ")))
+        self.assertNotEqual(same_problem(one), same_problem(one.replace("bar0", "bar1")))
+
+
+if __name__ == "__main__":
+    unittest.main()

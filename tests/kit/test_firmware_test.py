@@ -1,0 +1,184 @@
+"""Firmware that does its work, and firmware that misbehaves, on boards of the second hand."""
+
+import contextlib
+import io
+import os
+import re
+import sys
+import tempfile
+import time
+import tomllib
+import unittest
+from pathlib import Path
+from unittest import mock
+from xml.etree import ElementTree
+
+import places  # noqa: F401
+from pciguest import firmware_test
+from pciguest._child import Limits
+from pciguest._firmware_run import Firmware
+from second_hand import SecondHand
+
+BOARD = """
+[host]
+io = [0x1000, 0xffff]
+mem = [0xc0000000, 0xdfffffff]
+[[endpoint]]
+at = "1.0"
+vendor = 0x1234
+device = 1
+class = 0xff0000
+bar = [ { index = 0, kind = "mem32", size = 4096 }, { index = 1, kind = "io", size = 32 } ]
+[[endpoint]]
+at = "2.0"
+vendor = 0x1234
+device = 2
+class = 0xff0000
+"""
+ASK = """
+import os, sys, time
+def ask(line):
+    print(line, flush=True)
+    return input()
+"""
+PLACE = "ask('host cw 00:01.0 0x10 4 0xc0000000'); ask('host cw 00:01.0 0x14 4 0x1000');"
+OPEN = "ask('host cw 00:01.0 4 2 3')"
+
+
+class FirmwareTest(unittest.TestCase):
+    def setUp(self):
+        self.folder = tempfile.TemporaryDirectory()
+        self.addCleanup(self.folder.cleanup)
+        self.board, self.junit = Path(self.folder.name) / "board.toml", Path(self.folder.name) / "junit.xml"
+        self.failed = Path(self.folder.name) / "failed.toml"
+        self.board.write_text(BOARD)
+
+    def run_command(self, command, *options):
+        """The status and all that is told of firmware."""
+        words = ["--board", str(self.board), "--save", str(self.failed), "--junit", str(self.junit), *options, "--", *command]
+        out, errors = io.StringIO(), io.StringIO()
+        with contextlib.redirect_stdout(out), contextlib.redirect_stderr(errors):
+            status = firmware_test.main(words, SecondHand())
+        return status, out.getvalue() + errors.getvalue()
+
+    def run_firmware(self, code, *options):
+        return self.run_command([sys.executable, "-c", ASK + code], *options)
+
+    def fails(self, code, pattern, *options):
+        """Firmware fails, and what is told of it has the pattern."""
+        status, told = self.run_firmware(code, *options)
+        self.assertEqual(status, 1, told)
+        self.assertTrue(re.search(pattern, told, re.DOTALL), told)
+        return told
+
+    def test_ready(self):
+        self.assertEqual(self.run_firmware(PLACE + OPEN), (0, "1 board: the firmware leaves each of them ready\n"))
+        suite = ElementTree.parse(self.junit).getroot()
+        self.assertEqual((suite.get("tests"), suite.get("failures"), len(suite)), ("1", "0", 1))
+
+    def test_comments_and_lines_without_end(self):
+        code = "print('# placing', flush=True);" + PLACE + "sys.stdout.write('host cw 00:01.0 4 2 3')"
+        self.assertEqual(self.run_firmware(code)[0], 0)
+
+    def test_answers_that_nobody_reads(self):
+        lines = "".join(f"host cw 00:01.0 {words}\n" for words in ["0x10 4 0xc0000000", "0x14 4 0x1000", "4 2 3"])
+        script = Path(self.folder.name) / "script"
+        script.write_text(lines + "host cr 00:01.0 0 4\n" * 20000)
+        self.assertEqual(self.run_command(["cat", str(script)])[0], 0)
+
+    def test_a_lack_since_reset(self):
+        told = self.fails("pass", "ready: 1.0 bar0 at 0x0 size 0x[14]0? is closed\n.*so since reset: none of the 0 lines")
+        self.assertIn('at = "1.0"', told)
+        self.assertNotIn("2.0", told.split("this board again")[0])
+        self.assertIn("size = 0x", self.failed.read_text())
+
+    def test_since_which_line(self):
+        told = self.fails(PLACE + OPEN + "; ask('host cr 00:01.0 0 4'); ask('host cw 00:01.0 0x10 4 0xe0000000')",
+                          "0xe0000000 is outside the apertures\n")
+        self.assertIn("so since line 5 of 5: host cw 00:01.0 0x10 4 0xe0000000\n", told)
+
+    def test_sizing(self):
+        sizing = "ask('host cw 00:01.0 4 2 2'); ask('host cw 00:01.0 0x10 4 0xffffffff');"
+        self.fails(sizing + PLACE + OPEN, "sizing: 00:01.0 bar0: all ones are written while Command 0x0002 opens memory")
+        ports = "ask('host iw 0xcf8 4 0x80000810'); ask('host iw 0xcfc 4 0xffffffff');"
+        self.fails("ask('host cw 00:01.0 4 2 2');" + ports + PLACE + OPEN, "sizing: 00:01.0 bar0: all ones")
+        self.assertEqual(self.run_firmware(ports + PLACE + OPEN)[0], 0)
+        self.assertEqual(self.run_firmware(sizing + PLACE + OPEN, "--allow", "sizing")[0], 0)
+
+    def test_hangs(self):
+        begun = time.monotonic()
+        status, told = self.run_command(["sh", "-c", "echo host cr 00:01.0 0 4; sleep 1000"], "--time", "2", "--shrink", "0")
+        self.assertEqual(status, 1)
+        self.assertIn("writes no line for 2 seconds, after 1 line; the last was: host cr 00:01.0 0 4", told)
+        self.assertLess(time.monotonic() - begun, 60)
+
+    def test_goes_on(self):
+        code = ASK + "while True: time.sleep(0.1); ask('host cr 00:01.0 0 4')"
+        run = Firmware([sys.executable, "-c", code], SecondHand(), Limits(60, 2)).run(tomllib.loads(BOARD))
+        self.assertIn("the firmware has not ended after 2 seconds", run.wrong[0])
+
+    def test_closes_its_output(self):
+        status, told = self.run_command(["sh", "-c", "exec >&-; sleep 1000"], "--time", "2", "--shrink", "0")
+        self.assertEqual(status, 1)
+        self.assertIn("has closed its output, and doesn't end for 2 seconds, and wrote no line before", told)
+
+    def test_dies(self):
+        told = self.fails("sys.exit('no memory')", "the firmware ended with status 1", "--shrink", "1")
+        self.assertIn("its standard error:\nno memory", told)
+        self.fails("os.kill(os.getpid(), 11)", "was ended by signal 11", "--shrink", "1")
+
+    def test_floods(self):
+        self.fails("while True: ask('host cr 00:01.0 0 4')", "writes more than 100 lines, after 100 lines",
+                   "--lines", "100", "--shrink", "0")
+        self.fails("while True: sys.stdout.write('x' * 1000)", "writes more than 4096 bytes without a line feed",
+                   "--shrink", "0")
+        status, told = self.run_command(["sh", "-c", "yes >&2"], "--time", "2", "--shrink", "0")
+        self.assertEqual((status, "no line for 2 seconds" in told, len(told) < 8000), (1, True, True))
+
+    def test_nonsense(self):
+        self.fails("ask('Hello')", r"a line that is no access \(\?: refused 402 unknown guest\): 'Hello'", "--shrink", "0")
+        self.fails("sys.stdout.buffer.write(b'\\xff\\n')", r"no access .*'\\\\xff'", "--shrink", "0")
+        self.fails("ask('host cr 00:01.0 1 4')", r"an access that no board takes \(host: refused 301 misaligned\)",
+                   "--shrink", "0")
+
+    def test_nothing_is_left_running(self):
+        mark = Path(self.folder.name) / "pid"
+        code = f"import subprocess; p = subprocess.Popen(['sleep', '1000']); open({str(mark)!r}, 'w').write(str(p.pid))"
+        self.assertEqual(self.run_firmware(code + ";" + PLACE + OPEN, "--time", "60")[0], 0)  # sleep holds the output open
+        with self.assertRaises(ProcessLookupError):
+            for _ in range(100):
+                os.kill(int(mark.read_text()), 0)
+                time.sleep(0.05)
+
+    def test_apertures(self):
+        code = "first = int(os.environ['PCIGUEST_MEM'].split()[0], 0); ask(f'host cw 00:01.0 0x10 4 {first:#x}');"
+        code += "ask('host cw 00:01.0 0x14 4 0x1000');" + OPEN
+        self.assertEqual(self.run_firmware(code)[0], 0)
+        self.assertEqual(self.run_firmware(code, "--mem", "0x80000000-0x8fffffff")[0], 0)
+        self.fails(PLACE + OPEN, "outside the apertures", "--mem", "0x80000000-0x8fffffff")
+
+    def test_random_boards(self):
+        self.board.unlink()
+        with mock.patch.object(firmware_test, "EXAMPLES", []):
+            words = ["--boards", "3", "--save", str(self.failed), "--", "true"]
+            with contextlib.redirect_stdout(io.StringIO()) as out:
+                self.assertEqual(firmware_test.main(words, SecondHand()), 1)
+        wanted = r"FAILED on random board \d \(\d+ functions\), and on this board \(\d functions?\)"
+        self.assertTrue(re.search(wanted, out.getvalue()), out.getvalue())
+
+    def test_junit_of_a_failure(self):
+        self.fails("pass", "is closed")
+        failure = ElementTree.parse(self.junit).getroot().find("testcase/failure")
+        self.assertEqual(failure.get("message"), "ready: 1.0 bar0 at 0x0 size 0x1000 is closed")
+        self.assertIn("this board again:", failure.text)
+
+    def test_words_that_cannot_be_used(self):
+        self.assertEqual(self.run_command(["./no such command"])[0], 2)
+        self.board.write_text("[host]\n")
+        self.assertEqual(self.run_firmware("pass")[0], 2)
+        self.board.unlink()
+        self.assertEqual(self.run_firmware("pass")[0], 2)
+
+
+if __name__ == "__main__":
+    unittest.main()
